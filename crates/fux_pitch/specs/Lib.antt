@@ -1,0 +1,4 @@
+pub mod Key
+pub mod Modes
+pub mod Pitch
+pub mod Size

@@ -1,0 +1,16 @@
+//! Keys, as MIDI counts them.
+
+ghost use Rattle.std.specs.Prelude.{◌≡◌, ◌≤◌, pos};
+ghost use Rattle.fux_pitch.specs.Pitch.{key_of};
+
+use crate::pitch::{Pitch, natural};
+
+/// The key of a pitch, as the MIDI standard numbers it: C4 is 60.
+pub fn semitone(p: Pitch) -> u8
+    ensures value { pos result ≡ key_of p }
+    ensures least { 24 ≤ result }
+    ensures most { result ≤ 96 }
+{
+    let key = natural(p.degree()) + i16::from(p.alter());
+    key as u8
+}

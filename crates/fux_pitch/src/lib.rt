@@ -1,0 +1,16 @@
+//! Pitches, intervals and modes.
+#![tactic(auto)]
+
+mod interval;
+mod key;
+mod list;
+mod memory;
+mod mode;
+mod pitch;
+
+pub use interval::{Interval, interval_of, is_consonant, is_imperfect, is_perfect, reduce};
+pub use key::semitone;
+pub use list::{Label, List};
+pub use memory::Memory;
+pub use mode::{Mode, final_letter, in_gamut, leading};
+pub use pitch::Pitch;

@@ -1,0 +1,71 @@
+//! A pitch is a degree and an alteration.
+
+ghost use Rattle.std.specs.Prelude.{◌≡◌, ◌↔◌, ◌≤◌, IsSome, IfSome, pos};
+ghost use Rattle.fux_pitch.specs.Key.{IsPitch, letter_key, natural_key};
+
+/// A pitch: a degree, counted from C0, and an alteration.
+#[derive(Clone, Copy, Debug, PartialEq, Eq)]
+pub struct Pitch {
+    degree: u8,
+    alter: i8,
+    pub ghost is_pitch: { IsPitch degree alter },
+}
+
+/// The semitones of a letter above C, where 0 is C and 6 is B.
+fn letter_semitones(letter: u8) -> u8
+    ensures value { result ≡ letter_key letter }
+    ensures bound { result ≤ 11 }
+{
+    match letter {
+        0 => 0,
+        1 => 2,
+        2 => 4,
+        3 => 5,
+        4 => 7,
+        5 => 9,
+        _ => 11,
+    }
+}
+
+/// The key of the natural on this degree.
+pub(crate) fn natural(degree: u8) -> i16
+    ensures value { result ≡ pos (natural_key degree) }
+    ensures bound { natural_key degree ≤ 500 }
+{
+    let octaves = 12 * i16::from(degree / 7);
+    12 + octaves + i16::from(letter_semitones(degree % 7))
+}
+
+impl Pitch {
+    ghost use Rattle.fux_pitch.specs.Pitch.{degree_of, alter_of, key_of};
+
+    /// The pitch of a degree and an alteration, where there is one.
+    pub fn new(degree: u8, alter: i8) -> Option<Pitch>
+        ensures known { IsSome result ↔ IsPitch degree alter }
+        ensures degree { IfSome result (λ p. degree_of p ≡ degree) }
+        ensures alter { IfSome result (λ p. alter_of p ≡ alter) }
+    {
+        if degree < 7 || alter < -1 || alter > 1 {
+            return None;
+        }
+        let key = natural(degree) + i16::from(alter);
+        if key < 24 || key > 96 {
+            return None;
+        }
+        Some(Pitch { degree, alter })
+    }
+
+    /// The steps from C0.
+    pub fn degree(self) -> u8
+        ensures { result ≡ degree_of self }
+    {
+        self.degree
+    }
+
+    /// The alteration: -1, 0 or 1.
+    pub fn alter(self) -> i8
+        ensures { result ≡ alter_of self }
+    {
+        self.alter
+    }
+}
