@@ -1,0 +1,36 @@
+-- Lists of columns.
+use Rattle.std.specs.Prelude.{ℕ, ◌+◌, List, [], ◌∷◌, Option, slice_index_or, reverse, take, map, IsTrue, ⊤}
+use Rattle.fux_pitch.specs.declared.pitch.Pitch.{Pitch}
+use Rattle.fux_grid.specs.declared.cell.Cell.{Cell}
+use Rattle.fux_grid.specs.declared.cell.Note.{Note}
+use Rattle.fux_grid.specs.Cells.{pitch_of, cell_in, cell_follows, notes_from, before_note, first_of}
+
+-- each cell may follow the one of its voice; an empty column stands before the first one
+abbrev pub ColumnFollows : List Cell → List Cell → Type 0
+ColumnFollows before next = (v : ℕ) → IsTrue (cell_follows (cell_in before v) (cell_in next v))
+
+-- the newest column, the empty one where there is none
+abbrev pub newest_column : List (List Cell) → List Cell
+newest_column [] = []
+newest_column (col ∷ cols) = col
+
+-- each column of a history, which goes from the newest to the oldest, follows the one before it
+abbrev pub HistoryFollows : List (List Cell) → Type 0
+HistoryFollows [] = ⊤
+HistoryFollows (col ∷ cols) = ColumnFollows (newest_column cols) col × HistoryFollows cols
+
+-- the first j columns of a list, from the newest to the oldest
+unfoldable pub earlier : List (List Cell) → ℕ → List (List Cell)
+earlier s j = reverse (take j s)
+
+-- the cells of a voice
+abbrev pub line : ℕ → List (List Cell) → List Cell
+line v = map (λ col. cell_in col v)
+
+-- the pitch that a voice sounds at a column of the list
+abbrev pub sound_at : List (List Cell) → ℕ → ℕ → Option Pitch
+sound_at s v i = pitch_of (cell_in (slice_index_or s i []) v)
+
+-- the latest note of a voice before the note at column i, or before i where it rests there
+abbrev pub note_before : List (List Cell) → ℕ → ℕ → Option Note
+note_before s v i = first_of (notes_from 0 (before_note (line v (earlier s (i + 1)))))
