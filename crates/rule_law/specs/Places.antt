@@ -1,0 +1,38 @@
+-- What a rule or a toll answers at the places of a list of columns, and how much of the list settles it.
+use Rattle.std.specs.Prelude.{◌≡◌, ℕ, ◌+◌, ◌<◌, Bool, true, ◌&&◌, nat_lt, List, [], ◌++◌, IsTrue, length, drop, slice_index_or}
+use Rattle.fux_grid.specs.declared.cell.Cell.{Cell}
+use Rattle.fux_grid.specs.declared.exercise.Exercise.{Exercise}
+use Rattle.fux_grid.specs.Columns.{earlier}
+use Rattle.fux_grid.specs.Exercises.{columns_in}
+
+-- an answer at each place of a list of columns: for rules whether they are broken, for tolls what they cost
+abbrev pub Reading : Type 0 → Type 0
+Reading R = List (List Cell) → ℕ → R
+
+-- an answer from a place, the columns before it from the newest to the oldest, its column, and the columns after it
+abbrev pub Row : Type 0 → Type 0
+Row R = ℕ → List (List Cell) → List Cell → List (List Cell) → R
+
+-- the row, read at each place of a list
+abbrev pub reading_of : {R : Type 0} → Row R → Reading R
+reading_of row s i = row i (earlier s i) (slice_index_or s i []) (drop (i + 1) s)
+
+-- settled where the list has the place, and enough columns with it and after it
+abbrev pub settled_by : Row Bool → Reading Bool
+settled_by enough s i = nat_lt i (length s) && reading_of enough s i
+
+-- what is settled at a place of a prefix stays so: every list that the prefix begins has the same answer there
+abbrev pub IsLocal : {R : Type 0} → Reading R → Reading Bool → Type 0
+IsLocal reads settles = (p t : List (List Cell)) (i : ℕ) → IsTrue (settles p i) → reads (p ++ t) i ≡ reads p i
+
+-- in a list of all columns everything is settled
+abbrev pub SettlesAtEnd : Exercise → Reading Bool → Type 0
+SettlesAtEnd ex settles = (s : List (List Cell)) (i : ℕ) → length s ≡ columns_in ex → i < length s → IsTrue (settles s i)
+
+-- where there is enough after the place, more columns change nothing
+abbrev pub IsUndisturbed : {R : Type 0} → Row R → Row Bool → Type 0
+IsUndisturbed row enough = (i : ℕ) (behind : List (List Cell)) (now : List Cell) (ahead t : List (List Cell)) → IsTrue (enough i behind now ahead) → row i behind now (ahead ++ t) ≡ row i behind now ahead
+
+-- settled at once
+abbrev pub at_once : Row Bool
+at_once i behind now ahead = true
