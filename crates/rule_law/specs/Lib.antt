@@ -1,4 +1,5 @@
 pub mod BothLaw
+pub mod Growth
 pub mod Law
 pub mod NearLaw
 pub mod Nearby
