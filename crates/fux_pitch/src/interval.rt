@@ -1,4 +1,5 @@
-//! Intervals and their classes.
+//! Intervals, their reduced sizes and the three classes of Fux's Gradus ad Parnassum (1725): perfect
+//! consonances, imperfect consonances and dissonances.
 
 ghost use Rattle.std.specs.Prelude.{◌≡◌, pos, negsuc, ◌≤ℤ◌};
 ghost use Rattle.fux_pitch.specs.Size.{interval_between, IsShort, upward, within_octave, reduced, has_size, is_perfect_size, is_imperfect_size, is_consonant_size};
@@ -6,14 +7,17 @@ ghost use Rattle.fux_pitch.specs.Size.{interval_between, IsShort, upward, within
 use crate::key::semitone;
 use crate::pitch::Pitch;
 
-/// The steps and the semitones from one pitch to another.
+/// The way from one pitch to another. A major third up has 2 degrees and 4 semitones, a minor second
+/// down -1 and -1.
 #[derive(Clone, Copy, Debug, PartialEq, Eq)]
 pub struct Interval {
+    /// Steps of the staff, positive upwards.
     pub degrees: i16,
+    /// Steps of the keyboard, positive upwards.
     pub semitones: i16,
 }
 
-/// From `a` to `b`.
+/// The interval from `a` to `b`.
 pub fn interval_of(a: Pitch, b: Pitch) -> Interval
     ensures value { result ≡ interval_between a b }
     ensures short { IsShort result }
@@ -42,7 +46,7 @@ fn turned_up(i: Interval) -> Interval
     i
 }
 
-/// The reduced size.
+/// The reduced size: the interval turned up, with its octaves taken off. A tenth is reduced to a third.
 pub fn reduce(i: Interval) -> Interval
     requires { IsShort i }
     ensures { result ≡ reduced i }
@@ -72,7 +76,7 @@ fn is_size(i: Interval, degrees: u8, semitones: u8) -> bool
     i.degrees == i16::from(degrees) && i.semitones == i16::from(semitones)
 }
 
-/// A unison, an octave or a fifth.
+/// A perfect consonance: a unison, an octave or a fifth, over any number of octaves.
 pub fn is_perfect(i: Interval) -> bool
     requires { IsShort i }
     ensures { result ≡ is_perfect_size i }
@@ -81,7 +85,7 @@ pub fn is_perfect(i: Interval) -> bool
     is_size(size, 0, 0) || is_size(size, 4, 7)
 }
 
-/// A third or a sixth.
+/// An imperfect consonance: a major or minor third or sixth, over any number of octaves.
 pub fn is_imperfect(i: Interval) -> bool
     requires { IsShort i }
     ensures { result ≡ is_imperfect_size i }
@@ -90,7 +94,8 @@ pub fn is_imperfect(i: Interval) -> bool
     is_size(size, 2, 3) || is_size(size, 2, 4) || is_size(size, 5, 8) || is_size(size, 5, 9)
 }
 
-/// Consonant, where one of the two voices is the lowest, or else where neither is.
+/// A consonance. Between two voices of which none is the lowest, the perfect and the augmented fourth
+/// and the diminished fifth are consonant too; against the lowest voice they are dissonant.
 pub fn is_consonant(i: Interval, lowest: bool) -> bool
     requires { IsShort i }
     ensures { result ≡ is_consonant_size i lowest }

@@ -5,7 +5,7 @@ ghost use Rattle.fux_pitch.specs.Pitch.{key_of};
 
 use crate::pitch::{Pitch, natural};
 
-/// The key of a pitch, as the MIDI standard numbers it: C4 is 60.
+/// The key of a pitch, as the MIDI standard numbers keys: C4 is 60.
 pub fn semitone(p: Pitch) -> u8
     ensures value { pos result ≡ key_of p }
     ensures least { 24 ≤ result }

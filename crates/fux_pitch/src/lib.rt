@@ -6,11 +6,18 @@ mod key;
 mod list;
 mod memory;
 mod mode;
+mod names;
 mod pitch;
+mod spelling;
 
 pub use interval::{Interval, interval_of, is_consonant, is_imperfect, is_perfect, reduce};
 pub use key::semitone;
 pub use list::{Label, List};
 pub use memory::Memory;
 pub use mode::{Mode, final_letter, in_gamut, leading};
+pub use names::{name, parse_pitch};
 pub use pitch::Pitch;
+pub use spelling::spell;
+
+#[cfg(test)]
+mod tests;

@@ -4,7 +4,7 @@ ghost use Rattle.std.specs.Prelude.{◌≡◌, string_bytes};
 
 use std::marker::Model;
 
-/// A list of items, whose length and place in memory no contract speaks of.
+/// A list of items. Contracts see it as the list itself, and not its room in memory.
 #[derive(Drop)]
 pub struct List<T> {
     items: Vec<T>,
@@ -34,7 +34,7 @@ impl<T> List<T> {
     }
 }
 
-/// A text in UTF-8.
+/// A text in UTF-8. Contracts see it as its bytes.
 #[derive(Drop)]
 pub struct Label {
     text: String,

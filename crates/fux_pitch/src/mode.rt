@@ -1,11 +1,11 @@
-//! The six modes.
+//! The six modes of Fux's Gradus ad Parnassum (1725), with their finals, leading notes and gamuts.
 
 ghost use Rattle.std.specs.Prelude.{◌≡◌, ◌≤◌};
 ghost use Rattle.fux_pitch.specs.Modes.{final_of, leading_of, raises, is_in_gamut};
 
 use crate::pitch::Pitch;
 
-/// A mode, by its final.
+/// A mode.
 #[derive(Clone, Copy, Debug, PartialEq, Eq)]
 pub enum Mode {
     Dorian,
@@ -30,7 +30,8 @@ pub fn final_letter(mode: Mode) -> u8
     }
 }
 
-/// The letter and the alteration of the mode's leading note.
+/// The letter and the alteration of the mode's leading note, one degree below the final. It is raised
+/// in the dorian, mixolydian and aeolian mode.
 pub fn leading(mode: Mode) -> (u8, i8)
     ensures { result ≡ leading_of mode }
 {
@@ -56,7 +57,8 @@ fn is_raised(mode: Mode, letter: u8) -> bool
     }
 }
 
-/// Whether the pitch is in the gamut of a bar, counted from 1, of an exercise of so many bars.
+/// Whether the pitch is in the gamut of a bar, counted from 1, of an exercise of so many bars: the
+/// naturals and B flat, and in the last two bars also the notes that the mode raises.
 pub fn in_gamut(mode: Mode, bar: u8, bars: u8, p: Pitch) -> bool
     requires first { 1 ≤ bar }
     requires last { bar ≤ bars }

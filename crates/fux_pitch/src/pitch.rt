@@ -1,9 +1,12 @@
-//! A pitch is a degree and an alteration.
+//! Pitches: degrees of the staff with their alterations.
 
 ghost use Rattle.std.specs.Prelude.{◌≡◌, ◌↔◌, ◌≤◌, IsSome, IfSome, pos};
 ghost use Rattle.fux_pitch.specs.Key.{IsPitch, letter_key, natural_key};
 
-/// A pitch: a degree, counted from C0, and an alteration.
+/// A pitch as the staff writes it: a degree, which counts the letters up from C0, and an alteration
+/// by a sharp, a flat or nothing. C4 has degree 28. `C#4` and `Db4` are two pitches of one key.
+///
+/// Every pitch has a degree of 7 or more and a key from 24 to 96.
 #[derive(Clone, Copy, Debug, PartialEq, Eq)]
 pub struct Pitch {
     degree: u8,
@@ -37,13 +40,14 @@ pub(crate) fn natural(degree: u8) -> i16
 }
 
 impl Pitch {
-    ghost use Rattle.fux_pitch.specs.Pitch.{degree_of, alter_of, key_of};
+    ghost use Rattle.fux_pitch.specs.Pitch.{degree_of, alter_of, pitch_at};
 
-    /// The pitch of a degree and an alteration, where there is one.
+    /// The pitch of a degree and an alteration, where there is one: 1 raises by a semitone, -1 lowers.
     pub fn new(degree: u8, alter: i8) -> Option<Pitch>
         ensures known { IsSome result ↔ IsPitch degree alter }
         ensures degree { IfSome result (λ p. degree_of p ≡ degree) }
         ensures alter { IfSome result (λ p. alter_of p ≡ alter) }
+        ensures value { result ≡ pitch_at degree alter }
     {
         if degree < 7 || alter < -1 || alter > 1 {
             return None;
@@ -55,7 +59,8 @@ impl Pitch {
         Some(Pitch { degree, alter })
     }
 
-    /// The steps from C0.
+    /// The letters from C0 up to this pitch, from 7 to 49. Divided by 7 it gives the octave, and as remainder the letter,
+    /// where 0 is C and 6 is B.
     pub fn degree(self) -> u8
         ensures { result ≡ degree_of self }
     {
