@@ -1,6 +1,6 @@
 -- The columns of a list up to a place, from the newest to the oldest.
 use Rattle.std.proofs.Common.{◌≡◌, ℕ, zero, suc, ◌+◌, ◌-◌, ◌<◌, ◌≤◌, List, [], ◌∷◌, ◌++◌, length, get_or, take, reverse, refl, ap, ◌∙◌, sym, arith, add-one, subst}
-use Rattle.std.proofs.lemmas.List.{length-map, map-append, take_all, length-reverse, length-take-le, take_more, take-append-le, reverse-append}
+use Rattle.std.proofs.lemmas.List.{length-map, map-append, take_all, length-reverse, length-take-le, take_more, take-append-le, reverse-append, get_or-reverse, get_or-take, get_or_past}
 use Rattle.fux_pitch.specs.declared.pitch.Pitch.{Pitch}
 use Rattle.fux_grid.specs.declared.cell.Cell.{Cell}
 use Rattle.fux_grid.specs.declared.cell.Cell.TheVariants.{Rest, Hold, Start}
@@ -90,6 +90,11 @@ pub newest-none : (s : List (List Cell)) → length s ≡ 0 → newest_column (r
 newest-none [] e = refl
 newest-none (c ∷ cs) e = absurd (omega arith)
 
+-- the first columns up to the length are all
+pub earlier-all : (s : List (List Cell)) (n : ℕ) → length s ≤ n → earlier s n ≡ reverse s
+unfolding earlier
+earlier-all s n h = ap reverse (take_all n s h)
+
 -- the newest of the first columns
 pub newest-earlier : (s : List (List Cell)) (j : ℕ) → 0 < j → j ≤ length s → newest_column (earlier s j) ≡ get_or s (j - 1) []
 newest-earlier s zero h k = absurd (omega arith)
@@ -97,3 +102,16 @@ newest-earlier s (suc n) h k =
     let e : suc n ≡ n + 1 = omega arith in
     let f : suc n - 1 ≡ n = omega arith in
     rw f (ap (λ m. newest_column (earlier s m)) e ∙ ap newest_column (earlier-more s n (omega arith)))
+
+-- of the first columns, the one that stands so many before the newest
+pub get_or-earlier : (s : List (List Cell)) (j k : ℕ) → k < j → j ≤ length s → get_or (earlier s j) k [] ≡ get_or s (j - 1 - k) []
+unfolding earlier
+get_or-earlier s j k h b =
+    let whole : length (take j s) ≡ j = length-take-le j s b in
+    get_or-reverse (take j s) k [] (omega arith)
+    ∙ ap (λ n. get_or (take j s) (n - 1 - k) []) whole
+    ∙ get_or-take j s (j - 1 - k) [] (omega arith)
+
+-- as many before it as there are columns, or more, there is none
+pub get_or-earlier_past : (s : List (List Cell)) (j k : ℕ) → j ≤ k → j ≤ length s → get_or (earlier s j) k [] ≡ []
+get_or-earlier_past s j k h b = get_or_past (earlier s j) k [] (omega (arith, length-earlier s j b))

@@ -5,12 +5,25 @@ use Rattle.fux_pitch.specs.Pitch.{same_pitch}
 use Rattle.fux_grid.specs.declared.cell.Cell.{Cell}
 use Rattle.fux_grid.specs.declared.cell.Cell.TheVariants.{Rest, Hold, Start}
 use Rattle.fux_grid.specs.declared.cell.Note.{Note}
+use Rattle.fux_grid.specs.declared.cell.Onset.{Onset}
 
 -- the pitch that sounds in a cell
 abbrev pub pitch_of : Cell → Option Pitch
 pitch_of Rest = None
 pitch_of (Hold p) = Some p
 pitch_of (Start p) = Some p
+
+-- a note starts in the cell
+abbrev pub is_start : Cell → Bool
+is_start Rest = false
+is_start (Hold p) = false
+is_start (Start p) = true
+
+-- a note that started before goes on in the cell
+abbrev pub is_hold : Cell → Bool
+is_hold Rest = false
+is_hold (Hold p) = true
+is_hold (Start p) = false
 
 -- the cell of a voice in a column, a rest where the column has none
 abbrev pub cell_in : List Cell → ℕ → Cell
@@ -43,7 +56,14 @@ notes_from held (Rest ∷ cs) = notes_from 0 cs
 notes_from held (Hold p ∷ cs) = notes_from (suc held) cs
 notes_from held (Start p ∷ cs) = record { start = length cs; len = suc held; pitch = p } ∷ notes_from 0 cs
 
+-- where notes start in a line that goes from the oldest cell to the newest, where so many columns stand before it
+abbrev pub onsets_from : ℕ → List Cell → List Onset
+onsets_from at [] = []
+onsets_from at (Rest ∷ cs) = onsets_from (suc at) cs
+onsets_from at (Hold p ∷ cs) = onsets_from (suc at) cs
+onsets_from at (Start p ∷ cs) = record { start = at; pitch = p } ∷ onsets_from (suc at) cs
+
 -- the first of a list
-abbrev pub first_of : List Note → Option Note
+abbrev pub first_of : {X : Type 0} → List X → Option X
 first_of [] = None
-first_of (n ∷ ns) = Some n
+first_of (x ∷ xs) = Some x

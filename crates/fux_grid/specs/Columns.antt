@@ -1,5 +1,7 @@
 -- Lists of columns.
-use Rattle.std.specs.Prelude.{ℕ, ◌+◌, List, [], ◌∷◌, Option, slice_index_or, reverse, take, map, IsTrue, ⊤}
+use Rattle.std.specs.Prelude.{ℕ, ◌+◌, List, [], ◌∷◌, Option, Some, None, slice_index_or, reverse, take, map, IsTrue, ⊤}
+use Rattle.std.specs.Borrow.{Bor}
+use Rattle.arrayvec.specs.ArrayVec.{ArrayVec}
 use Rattle.fux_pitch.specs.declared.pitch.Pitch.{Pitch}
 use Rattle.fux_grid.specs.declared.cell.Cell.{Cell}
 use Rattle.fux_grid.specs.declared.cell.Note.{Note}
@@ -8,6 +10,11 @@ use Rattle.fux_grid.specs.Cells.{pitch_of, cell_in, cell_follows, notes_from, be
 -- each cell may follow the one of its voice; an empty column stands before the first one
 abbrev pub ColumnFollows : List Cell → List Cell → Type 0
 ColumnFollows before next = (v : ℕ) → IsTrue (cell_follows (cell_in before v) (cell_in next v))
+
+-- the cells of a column that may be lacking
+abbrev pub cells_before : Option (Bor (ArrayVec Cell)) → List Cell
+cells_before None = []
+cells_before (Some col) = col.now.items
 
 -- the newest column, the empty one where there is none
 abbrev pub newest_column : List (List Cell) → List Cell
@@ -27,9 +34,13 @@ earlier s j = reverse (take j s)
 abbrev pub line : ℕ → List (List Cell) → List Cell
 line v = map (λ col. cell_in col v)
 
+-- the cell of a voice at a column of the list, a rest where there is none
+abbrev pub cell_at : List (List Cell) → ℕ → ℕ → Cell
+cell_at s v i = cell_in (slice_index_or s i []) v
+
 -- the pitch that a voice sounds at a column of the list
 abbrev pub sound_at : List (List Cell) → ℕ → ℕ → Option Pitch
-sound_at s v i = pitch_of (cell_in (slice_index_or s i []) v)
+sound_at s v i = pitch_of (cell_at s v i)
 
 -- the latest note of a voice before the note at column i, or before i where it rests there
 abbrev pub note_before : List (List Cell) → ℕ → ℕ → Option Note

@@ -61,9 +61,13 @@ pub record IsRelax (ex : Exercise) (line : Relax) : Type 0 where
 abbrev pub cantus_cell : ℕ → Pitch → Cell
 cantus_cell i p = if slot_of i == 0 then Start p else Hold p
 
--- a list of columns has the cantus: at each of its columns, the cell of the cantus voice is that of the bar's pitch
+-- at this column of a list, the cell of the cantus voice is that of the bar's pitch
+abbrev pub HasCantusAt : Exercise → List (List Cell) → ℕ → Type 0
+HasCantusAt ex s i = option_map (cantus_cell i) (slice_get ex.cantus (i / 8)) ≡ Some (cell_in (slice_index_or s i []) ex.cantus_voice)
+
+-- a list of columns has the cantus
 abbrev pub HasCantus : Exercise → List (List Cell) → Type 0
-HasCantus ex s = (i : ℕ) → i < length s → option_map (cantus_cell i) (slice_get ex.cantus (i / 8)) ≡ Some (cell_in (slice_index_or s i []) ex.cantus_voice)
+HasCantus ex s = (i : ℕ) → i < length s → HasCantusAt ex s i
 
 -- a score is complete: it has the exercise's voices and all columns
 pub record IsComplete (ex : Exercise) (score : Grid) : Type 0 where

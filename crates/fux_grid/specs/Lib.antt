@@ -1,7 +1,11 @@
 pub mod Cells
 pub mod Columns
 pub mod Exercises
+pub mod Faults
 pub mod Grid
+pub mod Letters
 pub mod Menus
+pub mod Notes
 pub mod Order
+pub mod Orderly
 pub mod Shapes

@@ -1,5 +1,6 @@
 -- Reading order, of cells, columns and settings.
 use Rattle.std.specs.Prelude.{◌≡◌, ◌⊎◌, List, [], ◌∷◌}
+use Rattle.std.specs.Cmp.Lexicographic.{slice_cmp}
 use Rattle.std.specs.Ordering.{ordering_then, nat_cmp, int_cmp}
 use Rattle.std.specs.declared.cmp.Ordering.{Ordering}
 use Rattle.std.specs.declared.cmp.Ordering.TheVariants.{Less, Equal, Greater}
@@ -26,10 +27,7 @@ cell_order (Start p) (Start q) = pitch_order p q
 
 -- columns of equal length go by the lowest voice in which they differ
 abbrev pub column_order : List Cell → List Cell → Ordering
-column_order [] [] = Equal
-column_order [] (d ∷ ds) = Less
-column_order (c ∷ cs) [] = Greater
-column_order (c ∷ cs) (d ∷ ds) = ordering_then (cell_order c d) (column_order cs ds)
+column_order = slice_cmp cell_order
 
 -- of two lists that differ at a column which both have, the one with the earlier column at the first such difference
 abbrev pub IsEarlier : List (List Cell) → List (List Cell) → Type 0

@@ -1,10 +1,13 @@
 //! What is to be set.
 
-ghost use Rattle.std.specs.Prelude.{◌≡◌};
-ghost use Rattle.fux_grid.specs.Exercises.{species_in};
+ghost use Rattle.std.specs.Prelude.{◌≡◌, ◌↔◌, ℕ, ◌<◌, ◌≤◌, ◌*◌, ◌/◌, ◌==◌, ◌&&◌, IsTrue, All, filter, length};
+ghost use Rattle.std.specs.List.{last_or};
+ghost use Rattle.fux_grid.specs.Exercises.{species_in, cantus_cell, AreBars, BeginsWithWhole, HasCantus, HasCantusAt, IsFree, IsGiven, IsRangeLine, IsRelax, IsValid, range_lines};
+ghost use Rattle.fux_grid.specs.Menus.{covers, range_of};
 
+use crate::cell::Cell;
 use crate::score::Score;
-use fux_pitch::{List, Mode, Pitch};
+use fux_pitch::{List, Mode, Pitch, semitone};
 
 /// A place of the grid: a bar, counted from 1, and a slot in it, from 0 to 7.
 #[derive(Clone, Copy, Debug, PartialEq, Eq)]
@@ -56,9 +59,222 @@ pub struct Exercise {
     pub setting: Option<Score>,
 }
 
+/// Whether bars, where they are given, cover a bar.
+fn covers_bar(bars: Option<(u8, u8)>, bar: u8) -> bool
+    ensures { result ≡ covers bars bar }
+{
+    match bars {
+        Some((from, to)) => from <= bar && bar <= to,
+        None => true,
+    }
+}
+
+/// The last range line of a voice that covers a bar.
+fn last_line(lines: &[RangeLine], v: u8, bar: u8) -> Option<RangeLine>
+    ensures { result ≡ last_or None (filter (λ line. (line.voice == v) && covers line.bars bar) lines.now) }
+{
+    let mut last = None;
+    for line in lines {
+        if line.voice == v && covers_bar(line.bars, bar) {
+            last = Some(*line);
+        }
+    }
+    last
+}
+
+/// The range of a free voice in a bar: the last line that covers the bar counts.
+pub fn range(ex: &Exercise, v: u8, bar: u8) -> (Pitch, Pitch)
+    requires valid { IsValid ex.now }
+    requires free { IsFree ex.now v }
+    ensures { range_of ex.now v bar ≡ Some result }
+{
+    let line = last_line(ex.ranges.as_slice(), v, bar).unwrap();
+    (line.low, line.high)
+}
+
 /// The species of a voice.
 pub fn species_of(ex: &Exercise, v: u8) -> u8
     ensures { result ≡ species_in ex.now v }
 {
     if v == ex.species_voice { ex.species } else { 1 }
+}
+
+impl Exercise {
+    /// Whether the exercise is within the limits, and its parts fit one another.
+    pub fn is_valid(&self) -> bool
+        ensures { IsTrue result ↔ IsValid self.now }
+    {
+        if self.voices < 2 || self.voices > 4 || self.bars < 3 || self.bars > 24 {
+            return false;
+        }
+        if self.species < 1 || self.species > 5 || self.species_voice >= self.voices {
+            return false;
+        }
+        if self.cantus_voice >= self.voices || self.species_voice == self.cantus_voice {
+            return false;
+        }
+        if self.cantus.as_slice().len() != self.bars as usize || self.relax.as_slice().len() > 64 {
+            return false;
+        }
+        if !range_lines_fit(self) || !each_has_range(self) || !relax_lines_fit(self) {
+            return false;
+        }
+        match &self.setting {
+            Some(score) => is_given(self, score),
+            None => true,
+        }
+    }
+}
+
+/// Whether the voice is there and isn't the cantus.
+pub fn is_free(ex: &Exercise, v: u8) -> bool
+    ensures { IsTrue result ↔ IsFree ex.now v }
+{
+    v < ex.voices && v != ex.cantus_voice
+}
+
+/// Whether these are bars of the exercise, from one to another.
+fn are_bars(ex: &Exercise, from: u8, to: u8) -> bool
+    ensures { IsTrue result ↔ AreBars ex.now from to }
+{
+    1 <= from && from <= to && to <= ex.bars
+}
+
+/// Whether a range line fits the exercise.
+fn is_range_line(ex: &Exercise, line: &RangeLine) -> bool
+    ensures { IsTrue result ↔ IsRangeLine ex.now line.now }
+{
+    if !is_free(ex, line.voice) || semitone(line.high) < semitone(line.low) {
+        return false;
+    }
+    match line.bars {
+        Some((from, to)) => are_bars(ex, from, to),
+        None => true,
+    }
+}
+
+/// Whether each range line fits the exercise.
+fn range_lines_fit(ex: &Exercise) -> bool
+    ensures { IsTrue result ↔ All (IsRangeLine ex.now) ex.now.ranges }
+{
+    ex.ranges
+        .as_slice()
+        .iter()
+        .all(|line| is_range_line(ex, line))
+}
+
+/// Whether a voice has first a line for all bars, and then lines for some bars alone.
+fn begins_with_whole(lines: &[RangeLine], v: u8) -> bool
+    ensures { IsTrue result ↔ BeginsWithWhole (filter (λ line. line.voice == v) lines.now) }
+{
+    let mut has_whole = false;
+    for line in lines {
+        if line.voice == v {
+            if line.bars.is_some() != has_whole {
+                return false;
+            }
+            has_whole = true;
+        }
+    }
+    has_whole
+}
+
+/// Whether the voice has its range, or needs none.
+fn has_range(ex: &Exercise, v: u8) -> bool
+    ensures { IsTrue result ↔ (IsFree ex.now v → BeginsWithWhole (range_lines ex.now v)) }
+{
+    !is_free(ex, v) || begins_with_whole(ex.ranges.as_slice(), v)
+}
+
+/// Whether each free voice has its range.
+fn each_has_range(ex: &Exercise) -> bool
+    ensures { IsTrue result ↔ ((v : ℕ) → IsFree ex.now v → BeginsWithWhole (range_lines ex.now v)) }
+{
+    for v in 0..ex.voices {
+        if !has_range(ex, v) {
+            return false;
+        }
+    }
+    true
+}
+
+/// Whether a relax line fits the exercise.
+fn is_relax(ex: &Exercise, line: &Relax) -> bool
+    requires { ex.now.voices ≤ 4 }
+    ensures { IsTrue result ↔ IsRelax ex.now line.now }
+{
+    if line.rule < 4 || line.rule > 26 || line.price > 10_000 {
+        return false;
+    }
+    if !are_bars(ex, line.from, line.to) {
+        return false;
+    }
+    match line.voices {
+        Some(set) => 1 <= set.bits && set.bits < 1 << ex.voices,
+        None => true,
+    }
+}
+
+/// Whether each relax line fits the exercise.
+fn relax_lines_fit(ex: &Exercise) -> bool
+    requires { ex.now.voices ≤ 4 }
+    ensures { IsTrue result ↔ All (IsRelax ex.now) ex.now.relax }
+{
+    ex.relax.as_slice().iter().all(|line| is_relax(ex, line))
+}
+
+/// The cell of the cantus at a column, where this is its pitch.
+pub(crate) fn cantus_cell_of(i: usize, pitch: Pitch) -> Cell
+    ensures { result ≡ cantus_cell i pitch }
+{
+    if i % 8 == 0 {
+        Cell::Start(pitch)
+    } else {
+        Cell::Hold(pitch)
+    }
+}
+
+/// Whether this is the cell of the cantus at a column, where this is its pitch.
+fn is_cantus_cell(cell: Cell, i: usize, pitch: Pitch) -> bool
+    ensures { IsTrue result ↔ (cell ≡ cantus_cell i pitch) }
+{
+    match cell {
+        Cell::Rest => false,
+        Cell::Hold(p) => i % 8 != 0 && p == pitch,
+        Cell::Start(p) => i % 8 == 0 && p == pitch,
+    }
+}
+
+/// Whether a score has the cantus at a column.
+fn has_cantus_at(ex: &Exercise, score: &Score, i: usize) -> bool
+    requires place { i < length score.now.columns }
+    requires bar { i / 8 < length ex.now.cantus }
+    ensures { IsTrue result ↔ HasCantusAt ex.now score.now.columns i }
+{
+    let pitch = ex.cantus.as_slice()[i / 8];
+    is_cantus_cell(score.cell(ex.cantus_voice as usize, i), i, pitch)
+}
+
+/// Whether a score has the cantus.
+fn has_cantus(ex: &Exercise, score: &Score) -> bool
+    requires { length score.now.columns ≤ 8 * length ex.now.cantus }
+    ensures { IsTrue result ↔ HasCantus ex.now score.now.columns }
+{
+    for i in 0..score.len() {
+        if !has_cantus_at(ex, score, i) {
+            return false;
+        }
+    }
+    true
+}
+
+/// Whether a score is complete and has the cantus.
+fn is_given(ex: &Exercise, score: &Score) -> bool
+    requires { length ex.now.cantus ≡ ex.now.bars }
+    ensures { IsTrue result ↔ IsGiven ex.now score.now }
+{
+    if score.voices() != ex.voices || score.len() != 8 * ex.bars as usize {
+        return false;
+    }
+    has_cantus(ex, score)
 }

@@ -3,8 +3,20 @@
 
 mod cell;
 mod exercise;
+mod letters;
+mod menus;
+mod notes;
+mod reading_order;
 mod score;
+mod shapes;
+#[cfg(test)]
+mod tests;
 
-pub use cell::{Cell, Column, Note};
-pub use exercise::{Exercise, Place, RangeLine, Relax, VoiceSet, species_of};
-pub use score::{GridFault, Score, cell_of, follows, note_behind, prev_note, sounding};
+pub use cell::{Cell, Column, Note, Onset};
+pub use exercise::{Exercise, Place, RangeLine, Relax, VoiceSet, is_free, range, species_of};
+pub use letters::{letters_from, shape};
+pub use menus::{MenuFault, VoiceCells, WIDEST, can_start, menu, voice_cells, width};
+pub use notes::{next_note, note_at, note_behind, onset_ahead, prev_note, sounding};
+pub use reading_order::order;
+pub use score::{GridFault, Score, cell_of, cells_follow, follows};
+pub use shapes::{HOLD, REST, START, allows, shapes_of};

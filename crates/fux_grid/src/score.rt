@@ -1,20 +1,32 @@
 //! A list of columns.
 
-ghost use Rattle.std.specs.Prelude.{◌≡◌, ◌+◌, ◌<◌, ◌≤◌, ◌↔◌, [], ◌∷◌, ◌++◌, length, IfOk, OnOk, OnErr, IfSome, slice_index_or, IsTrue, IsOk, ◌≢◌, reverse, drop};
-ghost use Rattle.fux_grid.specs.Cells.{cell_in, before_note, notes_from, first_of};
-ghost use Rattle.fux_grid.specs.Columns.{ColumnFollows, sound_at, newest_column, earlier, note_before, line};
+ghost use Rattle.std.specs.Prelude.{◌≡◌, ◌+◌, ◌==◌, ◌<◌, ◌≤◌, ◌↔◌, [], ◌∷◌, ◌++◌, length, All, IfOk, OnOk, OnErr, slice_index_or, IsTrue, IsOk, reverse, drop};
+ghost use Rattle.std.specs.Result.{result_err};
+ghost use Rattle.fux_grid.specs.Cells.{cell_in};
+ghost use Rattle.fux_grid.specs.Faults.{hold_fault, lowest_misfit, push_fault};
+ghost use Rattle.fux_grid.specs.Columns.{ColumnFollows, HistoryFollows, cells_before, newest_column, earlier};
 
-use crate::cell::{Cell, Column, Note};
-use fux_pitch::{Memory, Pitch};
+use crate::cell::{Cell, Column};
+use fux_pitch::Memory;
 use std::alloc::Global;
 use std::marker::Model;
 
-/// Why a column was not taken.
+/// Room for 24 bars of eight columns.
+const MOST_COLUMNS: usize = 192;
+
+/// Why a column was not taken. A voice is the lowest one at fault.
 #[derive(Clone, Copy, Debug, PartialEq, Eq)]
 pub enum GridFault {
+    /// The score has 192 columns.
     Full,
+    /// The column doesn't have one cell for each voice.
     Voices,
-    Hold,
+    /// The first column of a score holds a pitch that nothing started.
+    HoldAtStart { voice: u8 },
+    /// The voice holds a pitch where it rested before.
+    HoldAfterRest { voice: u8 },
+    /// The voice holds another pitch than the one that it sounded before.
+    HoldMoved { voice: u8 },
 }
 
 /// Columns that follow one another.
@@ -34,8 +46,18 @@ impl Model for Score {
     ghost invariant = { λ s. IsScore s.voices s.columns };
 }
 
-/// Whether each cell of `next` may follow the one of `prev`; with no `prev`, whether `next` may come first.
-pub fn follows(prev: &[Cell], next: &[Cell]) -> bool
+/// Whether each cell of `next` may follow the one of its voice in `prev`; with no `prev`, whether `next` may come first.
+pub fn follows(prev: Option<&Column>, next: &Column) -> bool
+    ensures { IsTrue result ↔ ColumnFollows (cells_before prev.entry) next.now.items }
+{
+    match prev {
+        Some(column) => cells_follow(column, next),
+        None => cells_follow(&[], next),
+    }
+}
+
+/// Whether each cell may follow the one of its voice; a voice that `prev` lacks rests there.
+pub fn cells_follow(prev: &[Cell], next: &[Cell]) -> bool
     ensures { IsTrue result ↔ ColumnFollows prev.now next.now }
 {
     for v in 0..next.len() {
@@ -64,7 +86,7 @@ impl Score {
         requires most { voices ≤ 4 }
         ensures { IfOk result (λ s. s ≡ record { voices = voices; columns = [] }) }
     {
-        let columns = Vec::with_capacity(alloc, 192)?;
+        let columns = Vec::with_capacity(alloc, MOST_COLUMNS)?;
         Ok(Score { voices, columns })
     }
 
@@ -93,35 +115,79 @@ impl Score {
         &self.columns[i]
     }
 
-    /// Whether the column may come next.
-    fn admits(&self, col: &Column) -> bool
-        ensures { IsTrue result ↔ ColumnFollows (newest_column (reverse self.now.columns)) col.now.items }
+    /// Whether there is no column.
+    pub fn is_empty(&self) -> bool
+        ensures { result ≡ (length self.now.columns == 0) }
     {
-        let n = self.len();
-        if n == 0 {
-            return follows(&[], col.as_slice());
-        }
-        follows(self.column(n - 1).as_slice(), col.as_slice())
+        self.len() == 0
     }
 
-    /// Appends a column.
+    /// What each score keeps. It does nothing; callers that prove something about a score learn this from it.
+    pub fn kept(&self)
+        ensures fewest { 2 ≤ self.now.voices }
+        ensures most { self.now.voices ≤ 4 }
+        ensures few { length self.now.columns ≤ 192 }
+        ensures full { All (λ col. length col ≡ self.now.voices) self.now.columns }
+        ensures follows { HistoryFollows (reverse self.now.columns) }
+    {
+        let _ = &self.columns;
+    }
+
+    /// The cells of the newest column; none where there is no column.
+    pub fn newest(&self) -> &[Cell]
+        ensures { result.now ≡ newest_column (reverse self.now.columns) }
+    {
+        self.before(self.len())
+    }
+
+    /// The lowest voice whose cell may not come next.
+    fn misfit(&self, col: &Column) -> Option<u8>
+        ensures value { result ≡ lowest_misfit (newest_column (reverse self.now.columns)) col.now.items }
+        ensures fits { length col.now.items ≤ 4 → result ≡ None →
+            ColumnFollows (newest_column (reverse self.now.columns)) col.now.items }
+    {
+        let newest = self.newest();
+        for v in 0..4u8 {
+            if !cell_of(col, v as usize).follows(cell_of(newest, v as usize)) {
+                return Some(v);
+            }
+        }
+        None
+    }
+
+    /// Why a hold of this voice may not come next.
+    fn hold_fault(&self, voice: u8) -> GridFault
+        ensures { result ≡ hold_fault (reverse self.now.columns) voice }
+    {
+        if self.is_empty() {
+            return GridFault::HoldAtStart { voice };
+        }
+        match cell_of(self.newest(), voice as usize) {
+            Cell::Rest => GridFault::HoldAfterRest { voice },
+            _ => GridFault::HoldMoved { voice },
+        }
+    }
+
+    /// Appends a column. It takes no memory.
     pub fn push(&mut self, col: Column) -> Result<(), GridFault>
         ensures ok { OnOk result (self.new ≡ record self.old { columns = self.old.columns ++ col.items ∷ [] }) }
         ensures err { OnErr result (self.new ≡ self.old) }
-        ensures full { (result ≡ Err GridFault.Full) ↔ (length self.old.columns ≡ 192) }
-        ensures voices { result ≡ Err GridFault.Voices → length col.items ≢ self.old.voices }
+        ensures fault { result_err result ≡ push_fault self.old col.items }
+
+        // What a taken column has, and that such a column is taken where there is room.
         ensures width { IsOk result → length col.items ≡ self.old.voices }
         ensures follows { IsOk result → ColumnFollows (newest_column (reverse self.old.columns)) col.items }
-        ensures hold { result ≡ Err GridFault.Hold → ColumnFollows (newest_column (reverse self.old.columns)) col.items → ⊥ }
+        ensures taken { length self.old.columns < 192 → length col.items ≡ self.old.voices →
+            ColumnFollows (newest_column (reverse self.old.columns)) col.items → IsOk result }
     {
-        if self.len() == 192 {
+        if self.len() == MOST_COLUMNS {
             return Err(GridFault::Full);
         }
         if col.len() != self.voices as usize {
             return Err(GridFault::Voices);
         }
-        if !self.admits(&col) {
-            return Err(GridFault::Hold);
+        if let Some(voice) = self.misfit(&col) {
+            return Err(self.hold_fault(voice));
         }
         self.columns.push_reserved(col);
         Ok(())
@@ -129,7 +195,7 @@ impl Score {
 
     /// The cells of the column before a place; none at the first place.
     pub fn before(&self, i: usize) -> &[Cell]
-        requires { i < length self.now.columns }
+        requires { i ≤ length self.now.columns }
         ensures { result.now ≡ newest_column (earlier self.now.columns i) }
     {
         if i == 0 {
@@ -150,6 +216,17 @@ impl Score {
         self.column(i + 1 + k).as_slice()
     }
 
+    /// The cells of the column that stands k columns before the one before a place; none where there is no such column.
+    pub fn behind(&self, i: usize, k: usize) -> &[Cell]
+        requires { i ≤ length self.now.columns }
+        ensures { result.now ≡ slice_index_or (earlier self.now.columns i) k [] }
+    {
+        if k >= i {
+            return &[];
+        }
+        self.column(i - 1 - k).as_slice()
+    }
+
     /// The cell of a voice at a place, a rest where there is no such voice.
     pub fn cell(&self, v: usize, i: usize) -> Cell
         requires { i < length self.now.columns }
@@ -159,62 +236,42 @@ impl Score {
     }
 }
 
-/// The pitch that a voice sounds at a column.
-pub fn sounding(score: &Score, v: u8, i: usize) -> Option<Pitch>
-    requires voice { v < score.now.voices }
-    requires place { i < length score.now.columns }
-    ensures { result ≡ sound_at score.now.columns v i }
-{
-    score.cell(v as usize, i).pitch()
-}
+#[cfg(test)]
+mod tests {
+    use super::*;
+    use fux_pitch::Pitch;
+    use std::test::Fail;
 
-/// Where the note at a column begins; the column itself where the voice rests.
-fn note_start(score: &Score, v: u8, i: usize) -> usize
-    requires { i < length score.now.columns }
-    ensures bound { result ≤ i }
-    ensures before { before_note (line v (earlier score.now.columns (i + 1))) ≡ line v (earlier score.now.columns result) }
-{
-    let mut j = i;
-    while j > 0 {
-        match score.cell(v as usize, j) {
-            Cell::Hold(_) => j -= 1,
-            Cell::Rest => return j,
-            Cell::Start(_) => return j,
-        }
+    fn pair(low: Cell, high: Cell) -> Column {
+        let mut column = Column::new();
+        column.push(low);
+        column.push(high);
+        column
     }
-    0
-}
 
-/// The latest note of a voice that starts in the first columns.
-pub fn note_behind(score: &Score, v: u8, n: usize) -> Option<Note>
-    requires { n ≤ length score.now.columns }
-    ensures value { result ≡ first_of (notes_from 0 (line v (earlier score.now.columns n))) }
-    ensures start { IfSome result (λ note. note.start < n) }
-    ensures rest { IfSome result (λ note. notes_from 0 (line v (earlier score.now.columns n)) ≡ note ∷ notes_from 0 (line v (earlier score.now.columns note.start))) }
-{
-    let mut j = n;
-    let mut held = 0;
-    while j > 0 {
-        j -= 1;
-        match score.cell(v as usize, j) {
-            Cell::Rest => held = 0,
-            Cell::Hold(_) => held += 1,
-            Cell::Start(pitch) => {
-                return Some(Note {
-                    start: j,
-                    len: held + 1,
-                    pitch,
-                });
-            }
+    fn is_shared<T: Send + Sync>(_: &T) {}
+
+    #[test]
+    fn names_the_lowest_voice_at_fault(rt: HostRuntime) -> Result<(), Fail> {
+        let c = Pitch::new(28, 0).ok_or("no C4")?;
+        let d = Pitch::new(29, 0).ok_or("no D4")?;
+        let mut score = Score::new(rt.alloc(), 2)?;
+        let held_at_start = score.push(pair(Cell::Rest, Cell::Hold(c)));
+        assert_eq!(rt; held_at_start, Err(GridFault::HoldAtStart { voice: 1 }));
+        score.push(pair(Cell::default(), Cell::Start(c)))?;
+        let both_at_fault = score.push(pair(Cell::Hold(c), Cell::Hold(d)));
+        assert_eq!(rt; both_at_fault, Err(GridFault::HoldAfterRest { voice: 0 }));
+        let moved = score.push(pair(Cell::Start(d), Cell::Hold(d)));
+        assert_eq!(rt; moved, Err(GridFault::HoldMoved { voice: 1 }));
+        assert_eq!(rt; score.push(Column::new()), Err(GridFault::Voices));
+        for _ in 1..192 {
+            score.push(pair(Cell::Rest, Cell::Hold(c)))?;
         }
+        assert_eq!(rt; score.push(Column::new()), Err(GridFault::Full));
+        assert_eq!(rt; score.len(), 192);
+        is_shared(&score);
+        is_shared(&c);
+        is_shared(&Cell::Rest);
+        Ok(())
     }
-    None
-}
-
-/// The latest note of a voice before the note at a column, or before the column where the voice rests.
-pub fn prev_note(score: &Score, v: u8, i: usize) -> Option<Note>
-    requires { i < length score.now.columns }
-    ensures { result ≡ note_before score.now.columns v i }
-{
-    note_behind(score, v, note_start(score, v, i))
 }

@@ -1,0 +1,84 @@
+//! Reading order.
+
+ghost use Rattle.std.specs.Prelude.{◌≡◌, length};
+ghost use Rattle.fux_grid.specs.Order.{pitch_order, cell_order, column_order};
+
+use crate::cell::{Cell, Column};
+use fux_pitch::{Pitch, semitone};
+use std::cmp::Ordering;
+
+/// Pitches go by key, then by degree.
+fn pitch_order(p: Pitch, q: Pitch) -> Ordering
+    ensures { result ≡ pitch_order p q }
+{
+    semitone(p)
+        .cmp(&semitone(q))
+        .then(p.degree().cmp(&q.degree()))
+}
+
+/// A rest comes before a hold, and a hold before a start.
+fn cell_order(c: Cell, d: Cell) -> Ordering
+    ensures { result ≡ cell_order c d }
+{
+    match (c, d) {
+        (Cell::Rest, Cell::Rest) => Ordering::Equal,
+        (Cell::Rest, _) => Ordering::Less,
+        (_, Cell::Rest) => Ordering::Greater,
+        (Cell::Hold(p), Cell::Hold(q)) => pitch_order(p, q),
+        (Cell::Hold(_), Cell::Start(_)) => Ordering::Less,
+        (Cell::Start(_), Cell::Hold(_)) => Ordering::Greater,
+        (Cell::Start(p), Cell::Start(q)) => pitch_order(p, q),
+    }
+}
+
+/// Columns go by the lowest voice in which they differ.
+pub fn order(a: &Column, b: &Column) -> Ordering
+    requires { length a.now.items ≡ length b.now.items }
+    ensures { result ≡ column_order a.now.items b.now.items }
+{
+    for v in 0..a.len() {
+        match cell_order(a[v], b[v]) {
+            Ordering::Equal => {}
+            differs => return differs,
+        }
+    }
+    Ordering::Equal
+}
+
+#[cfg(test)]
+mod tests {
+    use super::*;
+    use std::test::Fail;
+
+    fn pair(low: Cell, high: Cell) -> Column
+        ensures { length result.items ≡ 2 }
+    {
+        let mut column = Column::new();
+        column.push(low);
+        column.push(high);
+        column
+    }
+
+    #[test]
+    fn compares_the_lowest_voice_first(rt: HostRuntime) -> Result<(), Fail> {
+        let c_sharp = Pitch::new(28, 1).ok_or("no C#4")?;
+        let d_flat = Pitch::new(29, -1).ok_or("no Db4")?;
+        let d = Pitch::new(29, 0).ok_or("no D4")?;
+        // In reading order: by the lowest voice, its kind of cell, its key, its degree, and then by the voice above.
+        let ascending = [
+            (Cell::Rest, Cell::Start(d)),
+            (Cell::Hold(c_sharp), Cell::Rest),
+            (Cell::Hold(c_sharp), Cell::Hold(d)),
+            (Cell::Hold(d_flat), Cell::Rest),
+            (Cell::Hold(d), Cell::Rest),
+            (Cell::Start(c_sharp), Cell::Rest),
+        ];
+        for (i, (low, high)) in ascending.into_iter().enumerate() {
+            for (j, (other_low, other_high)) in ascending.into_iter().enumerate() {
+                let found = order(&pair(low, high), &pair(other_low, other_high));
+                assert_eq!(rt; found, i.cmp(&j), "{i} and {j}");
+            }
+        }
+        Ok(())
+    }
+}
