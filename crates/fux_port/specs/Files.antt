@@ -1,0 +1,15 @@
+-- What is told of a shelf's files: nothing, or for each name the bytes of its file or that there is none.
+use Rattle.std.specs.Prelude.{◌≡◌, ℕ, List, Option, Some, None}
+
+-- what is told of one name: nothing, or the bytes of its file or that there is none
+abbrev pub file_of : Option (List ℕ → Option (List ℕ)) → List ℕ → Option (Option (List ℕ))
+file_of None name = None
+file_of (Some file_at) name = Some (file_at name)
+
+-- the files are told, and this name has these bytes
+abbrev pub HasFile : Option (List ℕ → Option (List ℕ)) → List ℕ → List ℕ → Type 0
+HasFile files name file = file_of files name ≡ Some (Some file)
+
+-- the files are told, and none has this name
+abbrev pub IsMissing : Option (List ℕ → Option (List ℕ)) → List ℕ → Type 0
+IsMissing files name = file_of files name ≡ Some None

@@ -1,0 +1,5 @@
+pub mod Counts
+pub mod Files
+pub mod MemShelf
+pub mod MemSink
+pub mod Written

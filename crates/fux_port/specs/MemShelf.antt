@@ -1,0 +1,39 @@
+-- What contracts see of a shelf in memory.
+use Rattle.std.specs.Prelude.{◌≡◌, ◌≢◌, ℕ, Bool, ◌&&◌, List, String, Option, Some, is_some, if◌then◌else◌, map, string_bytes}
+use Rattle.std.specs.Map.{lookup}
+use Rattle.std.specs.Str.{bytes_eq}
+use Rattle.fux_port.specs.Counts.{next_count, is_next_in}
+
+-- the files by name, the numbers of the reads that fail, and how many reads and faults there were
+pub record ShelfState : Type 0 where
+  pub files : List (List ℕ × List ℕ)
+  pub fail_at : List ℕ
+  pub calls : ℕ
+  pub faults : ℕ
+
+-- files by their names, where the names are texts
+abbrev pub named_files : {Y : Type 0} → List (String Y × List ℕ) → List (List ℕ × List ℕ)
+named_files files = map (λ file. (string_bytes file.0, file.1)) files
+
+-- the bytes of the file of this name, if there is one
+abbrev pub file_at : List (List ℕ × List ℕ) → List ℕ → Option (List ℕ)
+file_at files name = lookup (bytes_eq name) files
+
+-- the name has these bytes, and all else is as it was
+pub record PutsFile (old new : ShelfState) (name file : List ℕ) : Type 0 where
+  pub named : file_at new.files name ≡ Some file
+  pub others : (other : List ℕ) → other ≢ name → file_at new.files other ≡ file_at old.files other
+  pub same_fail_at : new.fail_at ≡ old.fail_at
+  pub same_calls : new.calls ≡ old.calls
+  pub same_faults : new.faults ≡ old.faults
+
+-- the next read fails although its file is there
+abbrev pub is_faulty : ShelfState → List ℕ → Bool
+is_faulty shelf name = is_some (file_at shelf.files name) && is_next_in shelf.fail_at shelf.calls
+
+-- the shelf after a read: the call is counted, and a fault is
+abbrev pub after_read : ShelfState → List ℕ → ShelfState
+after_read shelf name = record shelf {
+  calls = next_count shelf.calls;
+  faults = if is_faulty shelf name then next_count shelf.faults else shelf.faults;
+}

@@ -1,0 +1,121 @@
+//! A shelf in memory, whose reads fail where its maker wants.
+
+ghost use Rattle.std.specs.Prelude.{◌≡◌, ◌<◌, ◌≤◌, ◌^◌, ◌-◌, ◌++◌, ◌⊎◌, ◌↔◌, [], Some, None, length, min, take, drop, IsTrue, IsErr, IfOk, IfSome, OnOk, OnErr};
+ghost use Rattle.std.specs.Option.{option_copied};
+ghost use Rattle.fux_port.specs.Counts.{is_next_in};
+ghost use Rattle.fux_port.specs.MemShelf.{PutsFile, named_files, file_at, after_read};
+
+use crate::{Failed, Shelf};
+use fux_pitch::{List as Bytes, Memory};
+use std::alloc::Global;
+use std::collections::BTreeMap;
+use std::marker::Model;
+
+/// Files in memory. It tells them all.
+#[derive(Drop)]
+pub struct MemShelf {
+    alloc: Global,
+    files: BTreeMap<String, Bytes<u8>>,
+    fail_at: Vec<u64>,
+    calls: u64,
+    faults: u64,
+}
+
+impl Model for MemShelf {
+    ghost use Rattle.std.specs.Prelude.{ℕ, ◌^◌, ◌<◌};
+    ghost use Rattle.fux_port.specs.MemShelf.{ShelfState, named_files};
+
+    ghost Value = { ShelfState };
+
+    ghost view = { λ s. record {
+      files = named_files s.files.entries;
+      fail_at = s.fail_at.items;
+      calls = s.calls;
+      faults = s.faults;
+    } };
+
+    ghost invariant = { λ s. s.faults < 2 ^ 64 };
+}
+
+impl MemShelf {
+    /// A shelf without files, whose reads of these numbers fail. They are counted from 1.
+    pub fn new(alloc: Global, fail_at: &[u64]) -> Result<MemShelf, Memory>
+        ensures { IfOk result (λ s. s ≡ record {
+          files = [];
+          fail_at = fail_at.now;
+          calls = 0;
+          faults = 0;
+        }) }
+    {
+        let fail_at = fail_at.to_vec(alloc)?;
+        Ok(MemShelf {
+            alloc,
+            files: BTreeMap::new(alloc),
+            fail_at,
+            calls: 0,
+            faults: 0,
+        })
+    }
+
+    /// Gives the name these bytes in place of any that it had.
+    pub fn put(&mut self, name: &str, bytes: &[u8]) -> Result<(), Memory>
+        ensures ok { OnOk result (PutsFile self.old self.new name.now bytes.now) }
+        ensures err { OnErr result (self.new ≡ self.old) }
+    {
+        let key = String::from_str(self.alloc, name)?;
+        let file = Bytes::new(bytes.to_vec(self.alloc)?);
+        self.files.insert(key, file)?;
+        Ok(())
+    }
+}
+
+impl Shelf for MemShelf {
+    ghost files = { λ s. Some (file_at s.files) };
+
+    ghost faults = { λ s. s.faults };
+
+    fn read_at(&mut self, name: &str, offset: u64, buf: &mut [u8]) -> Result<usize, Failed>
+        ensures fails { IsErr result ↔ (file_at self.old.files name.now ≡ None
+            ⊎ IsTrue (is_next_in self.old.fail_at self.old.calls)) }
+        ensures count { IfOk result (λ count. IfSome (file_at self.old.files name.now) (λ file.
+            count ≡ min (length buf.old) (length file - offset))) }
+        ensures placed { IfOk result (λ count. IfSome (file_at self.old.files name.now) (λ file.
+            buf.new ≡ take count (drop offset file) ++ drop count buf.old)) }
+        ensures err { OnErr result (buf.new ≡ buf.old) }
+        ensures after { self.new ≡ after_read self.old name.now }
+        ensures faults { self.old.faults ≤ self.new.faults }
+        ensures faults_fit { self.new.faults < 2 ^ 64 }
+    {
+        self.calls = self.calls.saturating_add(1);
+        let Some(file) = find_file(&self.files, name) else {
+            return Err(Failed);
+        };
+        if self.fail_at.contains(&self.calls) {
+            self.faults = self.faults.saturating_add(1);
+            return Err(Failed);
+        }
+        Ok(copy_from(file, offset, buf))
+    }
+}
+
+/// The bytes of the file of this name, if there is one.
+fn find_file<'a>(files: &'a BTreeMap<String, Bytes<u8>>, name: &str) -> Option<&'a [u8]>
+    ensures { option_copied result ≡ file_at (named_files files.now.entries) name.now }
+{
+    let file = files.get(name)?;
+    Some(file.as_slice())
+}
+
+/// Copies as much of the file from this offset on as the buffer has room for, and answers how many bytes.
+fn copy_from(file: &[u8], offset: u64, buf: &mut [u8]) -> usize
+    ensures count { result ≡ min (length buf.old) (length file.now - offset) }
+    ensures placed { buf.new ≡ take result (drop offset file.now) ++ drop result buf.old }
+{
+    if offset >= file.len() as u64 {
+        return 0;
+    }
+    let rest = &file[offset as usize..];
+    let count = rest.len().min(buf.len());
+    buf[..count].copy_from_slice(&rest[..count]);
+    count
+}

@@ -1,0 +1,41 @@
+//! What gives the bytes of named files.
+
+ghost use Rattle.std.specs.Prelude.{◌≡◌, ℕ, ◌<◌, ◌≤◌, ◌^◌, ◌⊎◌, List, Option, length, take, drop, IsErr, IfOk, OnErr};
+ghost use Rattle.std.specs.Io.{StartsWith};
+ghost use Rattle.fux_port.specs.Counts.{Rose};
+ghost use Rattle.fux_port.specs.Files.{HasFile, IsMissing};
+
+use crate::Failed;
+
+/// Named files that are read in pieces.
+pub trait Shelf {
+    /// What the shelf tells of its files: nothing, or for each name the bytes of its file or that there is
+    /// none.
+    ghost files: { Self → Option (List ℕ → Option (List ℕ)) };
+
+    /// How many reads failed by a fault of the shelf. At its last value the count stands still.
+    ghost faults: { Self → ℕ };
+
+    /// Reads bytes of the file from this offset on into the front of the buffer, and answers how many.
+    fn read_at(&mut self, name: &str, offset: u64, buf: &mut [u8]) -> Result<usize, Failed>
+        ensures fits { IfOk result (λ count. count ≤ length buf.old) }
+        ensures placed { IfOk result (λ count. (file : List ℕ) → HasFile (files self.old) name.now file
+            → StartsWith (drop offset file) (take count buf.new)) }
+        ensures rest { IfOk result (λ count. drop count buf.new ≡ drop count buf.old) }
+
+        // Nothing is read into a buffer with room only at the end of the file.
+        ensures end { IfOk result (λ count. count ≡ 0 → 0 < length buf.old
+            → (file : List ℕ) → HasFile (files self.old) name.now file → length file ≤ offset) }
+
+        // A failed read is the shelf's fault, or the name is missing, which is nobody's fault.
+        ensures cause { OnErr result (Rose (faults self.old) (faults self.new)
+            ⊎ IsMissing (files self.old) name.now) }
+        ensures missing { IsMissing (files self.old) name.now → IsErr result }
+        ensures no_fault { IsMissing (files self.old) name.now
+            → faults self.new ≡ faults self.old }
+        ensures err { OnErr result (buf.new ≡ buf.old) }
+
+        ensures files { files self.new ≡ files self.old }
+        ensures faults { faults self.old ≤ faults self.new }
+        ensures faults_fit { faults self.new < 2 ^ 64 };
+}
