@@ -1,0 +1,4 @@
+pub mod Order
+pub mod Floors
+pub mod Counts
+pub mod Opened

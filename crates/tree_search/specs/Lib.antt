@@ -1,0 +1,4 @@
+pub mod Space
+pub mod Answer
+pub mod Outcomes
+pub mod Walks

@@ -1,0 +1,32 @@
+-- What a search may take for granted of a tree.
+use Rattle.std.specs.Prelude.{◌≡◌, ℕ, ◌<◌, ◌≤◌, ◌++◌, ◌∷◌, [], List, Option, Some, None, length}
+
+-- the node is at a path to no leaf
+pub record IsInner (is_at : List ℕ → Type 0) (height : ℕ) : Type 0 where
+  pub path : List ℕ
+  pub at : is_at path
+  pub above : length path < height
+
+-- the node is at a path to no leaf, and has a child of this number
+pub record HasChild (is_at : List ℕ → Type 0) (height : ℕ) (width : List ℕ → ℕ) (child : ℕ) : Type 0 where
+  pub path : List ℕ
+  pub at : is_at path
+  pub above : length path < height
+  pub within : child < width path
+
+-- each child from one number up to another is dead
+abbrev pub AreDead : (List ℕ → Option ℕ) → List ℕ → ℕ → ℕ → Type 0
+AreDead live path from to = (child : ℕ) → from ≤ child → child < to → live (path ++ child ∷ []) ≡ None
+
+-- the path leads to a live node with this child, that is no leaf, and whose floor is at most this one
+pub record IsParent (live : List ℕ → Option ℕ) (width : List ℕ → ℕ) (height : ℕ) (path : List ℕ) (child floor : ℕ) : Type 0 where
+  pub own_floor : ℕ
+  pub is_live : live path ≡ Some own_floor
+  pub no_higher : own_floor ≤ floor
+  pub within : child < width path
+  pub above : length path < height
+
+-- from parent to live child, floors do not fall
+abbrev pub FloorsGrow : (List ℕ → Option ℕ) → (List ℕ → ℕ) → ℕ → Type 0
+FloorsGrow live width height =
+    (path : List ℕ) (child floor : ℕ) → live (path ++ child ∷ []) ≡ Some floor → IsParent live width height path child floor

@@ -1,0 +1,154 @@
+//! Depth first: the children of a node in their order, and nothing that cannot be better.
+ghost use Rattle.std.specs.Prelude.{◌≡◌, ℕ, ◌<◌, ◌≤◌, ◌+◌, ◌^◌, ◌++◌, ◌∷◌, ◌↔◌, [], take, length, IfOk, IsSomeAnd};
+ghost use Rattle.std.specs.Bool.{OnTrue, OnFalse};
+ghost use Rattle.tree_search.specs.Answer.{IsFirstLeast, HasNoLeaf, BoundsLeaves, Many, AtMost, IsLiveBelowRoot, IsOpened};
+ghost use Rattle.tree_search.specs.Outcomes.{IfFound, OnNothing, IfSpent, IsSpent};
+ghost use Rattle.tree_search.specs.Walks.{IsOpenedFrom, IsOpenedBelow, IsBestBefore, HasOpened, HaveLength};
+
+use crate::outcome::Outcome;
+use crate::space::Space;
+use fux_pitch::{List, Memory};
+use std::alloc::Global;
+
+/// The walk so far.
+#[derive(Drop)]
+struct Walk {
+    /// The child numbers down to the node, and then some that mean nothing.
+    path: Vec<u16>,
+    /// The path to the best leaf, where there is one.
+    best_path: Vec<u16>,
+    /// The value of the best leaf.
+    best: Option<u64>,
+    /// How many more nodes may be opened.
+    left: u32,
+}
+
+/// Whether no leaf below a node of this floor is better than the best.
+#[inline]
+fn is_no_better(floor: u64, best: Option<u64>) -> bool
+    ensures worse { OnTrue result (IsSomeAnd best (λ value. value ≤ floor)) }
+    ensures better { OnFalse result ((value : ℕ) → best ≡ Some value → floor < value) }
+{
+    match best {
+        None => false,
+        Some(value) => value <= floor,
+    }
+}
+
+/// Goes through what is below a node. It answers whether the budget was enough.
+#[cycle(walk)]
+fn descend<S: Space>(space: &S, node: &S::Node, level: usize, walk: &mut Walk) -> bool
+    requires node { S.is_at space.now node.now (take level walk.old.path.items) }
+    requires above { level < S.height space.now }
+    requires lengths { HaveLength (S.height space.now) walk.old.path.items walk.old.best_path.items }
+    requires best { IsBestBefore (S.live space.now) (S.height space.now) (take level walk.old.path.items) walk.old.best walk.old.best_path.items }
+    ensures path { take level walk.new.path.items ≡ take level walk.old.path.items }
+    ensures lengths { HaveLength (S.height space.now) walk.new.path.items walk.new.best_path.items }
+    ensures best { let path = take level walk.old.path.items in OnTrue result
+        (IsBestBefore (S.live space.now) (S.height space.now) (path ++ S.width space.now path ∷ []) walk.new.best walk.new.best_path.items) }
+    ensures opened { let path = take level walk.old.path.items in OnTrue result
+        (HasOpened (IsOpenedBelow (S.live space.now) (S.height space.now) path (S.width space.now path)) walk.old.left walk.new.left) }
+    ensures spent { let path = take level walk.old.path.items in OnFalse result
+        (Many (IsOpenedBelow (S.live space.now) (S.height space.now) path (S.width space.now path)) (walk.old.left + 1)) }
+{
+    let count = space.count(node);
+    let mut from = 0;
+    while from < count {
+        let k = space.next_child(node, from);
+        if k >= count {
+            return true;
+        }
+        if !enter(space, node, level, k, walk) {
+            return false;
+        }
+        from = k + 1;
+    }
+    true
+}
+
+/// Goes through a child and what is below it. It answers whether the budget was enough.
+#[cycle(walk)]
+#[inline]
+fn enter<S: Space>(space: &S, node: &S::Node, level: usize, k: usize, walk: &mut Walk) -> bool
+    requires node { S.is_at space.now node.now (take level walk.old.path.items) }
+    requires above { level < S.height space.now }
+    requires within { k < S.width space.now (take level walk.old.path.items) }
+    requires small { k < 2 ^ 16 }
+    requires lengths { HaveLength (S.height space.now) walk.old.path.items walk.old.best_path.items }
+    requires best { IsBestBefore (S.live space.now) (S.height space.now) (take level walk.old.path.items ++ k ∷ []) walk.old.best walk.old.best_path.items }
+    ensures path { take level walk.new.path.items ≡ take level walk.old.path.items }
+    ensures lengths { HaveLength (S.height space.now) walk.new.path.items walk.new.best_path.items }
+    ensures best { OnTrue result
+        (IsBestBefore (S.live space.now) (S.height space.now) (take level walk.old.path.items ++ (k + 1) ∷ []) walk.new.best walk.new.best_path.items) }
+    ensures opened { OnTrue result
+        (HasOpened (IsOpenedFrom (S.live space.now) (S.height space.now) (take level walk.old.path.items ++ k ∷ [])) walk.old.left walk.new.left) }
+    ensures spent { OnFalse result
+        (Many (IsOpenedFrom (S.live space.now) (S.height space.now) (take level walk.old.path.items ++ k ∷ [])) (walk.old.left + 1)) }
+{
+    let Some((child, floor)) = space.child(node, k) else {
+        return true;
+    };
+    if is_no_better(floor, walk.best) {
+        return true;
+    }
+    if walk.left == 0 {
+        return false;
+    }
+    walk.left -= 1;
+    walk.path[level] = k as u16;
+    if level + 1 < walk.path.len() {
+        return descend(space, &child, level + 1, walk);
+    }
+    walk.best_path.copy_from_slice(&walk.path);
+    walk.best = Some(floor);
+    true
+}
+
+/// The first leaf of least value, if a budget is enough for the nodes that have to be opened. A live node below the
+/// root is opened, and takes one unit of the budget, unless a leaf before it in the order of paths has no higher value
+/// than its floor. All memory is taken before the walk begins.
+pub fn search_depth<S: Space>(alloc: Global, space: &S, budget: u32) -> Result<Outcome, Memory>
+    ensures found { IfOk result (λ outcome. IfFound outcome (IsFirstLeast (S.live space.now) (S.height space.now))) }
+    ensures nothing { IfOk result (λ outcome. OnNothing outcome (HasNoLeaf (S.live space.now) (S.height space.now))) }
+    ensures spent { IfOk result (λ outcome. IfSpent outcome (λ _. Many (IsLiveBelowRoot (S.live space.now)) (budget + 1))) }
+    ensures bound { IfOk result (λ outcome. IfSpent outcome (BoundsLeaves (S.live space.now) (S.height space.now))) }
+    ensures enough { AtMost (IsLiveBelowRoot (S.live space.now)) budget → IfOk result (λ outcome. ¬ IsSpent outcome) }
+
+    // The budget is spent exactly where more nodes than that are to be opened.
+    ensures opened { IfOk result (λ outcome. IsSpent outcome ↔ Many (IsOpened (S.live space.now) (S.height space.now)) (budget + 1)) }
+{
+    let depth = space.depth();
+    let path = vec![in alloc; 0u16; depth]?;
+    let best_path = vec![in alloc; 0u16; depth]?;
+    let Some((root, floor)) = space.root() else {
+        return Ok(Outcome::Nothing);
+    };
+    if depth == 0 {
+        return Ok(Outcome::Found {
+            path: List::new(best_path),
+            value: floor,
+        });
+    }
+    let mut walk = Walk {
+        path,
+        best_path,
+        best: None,
+        left: budget,
+    };
+    if !descend(space, &root, 0, &mut walk) {
+        return Ok(Outcome::Spent { bound: floor });
+    }
+    let Walk {
+        path: _,
+        best_path,
+        best,
+        left: _,
+    } = walk;
+    match best {
+        None => Ok(Outcome::Nothing),
+        Some(value) => Ok(Outcome::Found {
+            path: List::new(best_path),
+            value,
+        }),
+    }
+}

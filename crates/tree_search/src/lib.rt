@@ -1,0 +1,10 @@
+//! Search of any tree for its first leaf of least value, under a budget of nodes.
+#![tactic(auto)]
+
+mod depth;
+mod outcome;
+mod space;
+
+pub use depth::search_depth;
+pub use outcome::Outcome;
+pub use space::Space;

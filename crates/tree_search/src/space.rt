@@ -1,0 +1,60 @@
+//! Trees that are made as they are searched.
+ghost use Rattle.std.specs.Prelude.{◌≡◌, ℕ, ◌<◌, ◌≤◌, ◌++◌, ◌∷◌, [], List, Option, None, Some, MatchOption, length};
+ghost use Rattle.tree_search.specs.Space.{IsInner, HasChild, AreDead, FloorsGrow};
+
+/// A tree of bounded depth, whose live nodes have floors. A node is named by its path, the child numbers from the root
+/// to it. A node at `depth` is a leaf, and its floor is its value.
+pub trait Space {
+    /// What stands for a path while the search is there.
+    type Node: Copy;
+
+    /// The floor of the node at a path, or none where no live node is.
+    ghost live: { Self → List ℕ → Option ℕ };
+
+    /// How many children the node at a path has, dead ones too.
+    ghost width: { Self → List ℕ → ℕ };
+
+    /// How long the path to a leaf is.
+    ghost height: { Self → ℕ };
+
+    /// The node stands for the path.
+    ghost is_at: { Self → Self.Node → List ℕ → Type 0 };
+
+    /// How long the path to a leaf is.
+    fn depth(&self) -> usize
+        ensures value { result ≡ height self.now }
+        ensures bounded { result ≤ 192 };
+
+    /// The root with its floor, if it is live.
+    fn root(&self) -> Option<(Self::Node, u64)>
+        ensures { MatchOption result
+            (live self.now [] ≡ None)
+            (λ entry. is_at self.now entry.0 [] × (live self.now [] ≡ Some entry.1)) };
+
+    /// How many children a node has, dead ones too.
+    fn count(&self, node: &Self::Node) -> usize
+        requires { IsInner (is_at self.now node.now) (height self.now) }
+        ensures value { (path : List ℕ) → is_at self.now node.now path → result ≡ width self.now path }
+        ensures bounded { result ≤ 8192 };
+
+    /// A child with its floor, if it is live.
+    fn child(&self, node: &Self::Node, k: usize) -> Option<(Self::Node, u64)>
+        requires { HasChild (is_at self.now node.now) (height self.now) (width self.now) k }
+        ensures { (path : List ℕ) → is_at self.now node.now path → MatchOption result
+            (live self.now (path ++ k ∷ []) ≡ None)
+            (λ entry. is_at self.now entry.0 (path ++ k ∷ []) × (live self.now (path ++ k ∷ []) ≡ Some entry.1)) };
+
+    /// The least number, from this one on, of a child that may be live, or a number that no child has where none of the
+    /// rest may be. A search tries only such children, so a space that can tell without trying each one says so here.
+    #[inline]
+    fn next_child(&self, node: &Self::Node, from: usize) -> usize
+        requires { HasChild (is_at self.now node.now) (height self.now) (width self.now) from }
+        ensures onward { from ≤ result }
+        ensures dead { (path : List ℕ) → is_at self.now node.now path → AreDead (live self.now) path from result }
+    {
+        from
+    }
+
+    /// A live node's parent is live, has that child, is no leaf, and its floor is no higher.
+    ghost floors_grow: { (space : Self) → FloorsGrow (live space) (width space) (height space) };
+}
