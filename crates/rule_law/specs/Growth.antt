@@ -1,12 +1,13 @@
 -- What the places of a list have together, and how it grows by a column.
-use Rattle.std.specs.Prelude.{◌≡◌, ℕ, zero, suc, ◌+◌, ◌*◌, ◌<◌, ◌≤◌, Bool, true, false, not, ◌&&◌, ◌||◌, nat_lt, List, [], ◌∷◌, ◌++◌, IsTrue, length, if◌then◌else◌, refl}
+use Rattle.std.specs.Prelude.{◌≡◌, ℕ, zero, suc, ◌+◌, ◌*◌, ◌<◌, ◌≤◌, Bool, true, false, not, ◌&&◌, ◌||◌, nat_lt, List, [], ◌∷◌, ◌++◌, IsTrue, length, drop, slice_index_or, if◌then◌else◌, refl}
 use Rattle.std.specs.List.{list_any, sum_by}
 use Rattle.std.proofs.Common.{ap, sym, ◌∙◌, subst, arith}
 use Rattle.std.proofs.lemmas.List.Sums.{sum_by-cons}
 use Rattle.std.proofs.lemmas.List.{length-append}
 use Rattle.fux_grid.specs.declared.cell.Cell.{Cell}
-use Rattle.rule_law.specs.Places.{Reading, IsLocal}
-use Rattle.rule_law.specs.Law.{below_from_test}
+use Rattle.fux_grid.specs.Columns.{earlier}
+use Rattle.rule_law.specs.Places.{Reading, Row, IsLocal, reading_of, settled_by}
+use Rattle.rule_law.specs.Law.{first_true, second_true, both_true, below_from_test, test_from_below, reading-append}
 
 -- some number below n passes the test
 abbrev pub any_below : (ℕ → Bool) → ℕ → Bool
@@ -29,6 +30,20 @@ NeedsPlace settles = (p : List (List Cell)) (i : ℕ) → IsTrue (settles p i) �
 -- settled by the last column, and by none before
 abbrev pub newly : Reading Bool → List (List Cell) → List Cell → ℕ → Bool
 newly settles p col i = settles (p ++ col ∷ []) i && not (settles p i)
+
+-- enough stays enough when more columns come
+abbrev pub EnoughStays : Row Bool → Type 0
+EnoughStays enough = (i : ℕ) (behind : List (List Cell)) (now : List Cell) (ahead t : List (List Cell)) → IsTrue (enough i behind now ahead) → IsTrue (enough i behind now (ahead ++ t))
+
+pub stays_from_enough : (enough : Row Bool) → EnoughStays enough → Stays (settled_by enough)
+stays_from_enough enough more p t i h =
+    let here : i < length p = below_from_test i (length p) (first_true (nat_lt i (length p)) (reading_of enough p i) h) in
+    let P : Bool → Type 0 = λ b. IsTrue b in
+    both_true (nat_lt i (length (p ++ t))) (reading_of enough (p ++ t) i) (test_from_below i (length (p ++ t)) (omega (arith, length-append p t)))
+    (subst P (sym (reading-append enough p t i here)) (more i (earlier p i) (slice_index_or p i []) (drop (i + 1) p) t (second_true (nat_lt i (length p)) (reading_of enough p i) h)))
+
+pub needs_place : (enough : Row Bool) → NeedsPlace (settled_by enough)
+needs_place enough p i h = below_from_test i (length p) (first_true (nat_lt i (length p)) (reading_of enough p i) h)
 
 pub any_below-same : (f g : ℕ → Bool) (n : ℕ) → ((i : ℕ) → i < n → f i ≡ g i) → any_below f n ≡ any_below g n
 any_below-same f g zero e = refl

@@ -1,8 +1,11 @@
+pub mod Bars
 pub mod BothLaw
 pub mod Growth
 pub mod Law
 pub mod NearLaw
 pub mod Nearby
+pub mod OrderlyLaw
+pub mod Pairs
 pub mod Places
 pub mod Terms
 pub mod Voices

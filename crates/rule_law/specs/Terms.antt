@@ -1,5 +1,5 @@
 -- The words of the rules, over the cells of a column and over the line of a voice.
-use Rattle.std.specs.Prelude.{ℕ, ◌==◌, Bool, true, false, not, ◌&&◌, ◌||◌, List, Option, Some, None, is_some, pos, unsigned_abs}
+use Rattle.std.specs.Prelude.{ℕ, ◌==◌, Bool, true, false, not, ◌&&◌, ◌||◌, nat_le, int_lt, List, Option, Some, None, is_some, pos, unsigned_abs}
 use Rattle.std.specs.List.{position}
 use Rattle.std.specs.Ordering.{int_eq}
 use Rattle.fux_pitch.specs.declared.pitch.Pitch.{Pitch}
@@ -114,3 +114,26 @@ semitones_without_sign i = unsigned_abs i.semitones
 -- two voices sound the same key in a column
 abbrev pub is_same_key : Interval → Bool
 is_same_key i = int_eq i.semitones (pos 0)
+
+-- a step: one degree up or down
+abbrev pub is_step : Interval → Bool
+is_step i = degrees_without_sign i == 1
+
+-- a leap: two degrees or more, up or down
+abbrev pub is_leap : Interval → Bool
+is_leap i = nat_le 2 (degrees_without_sign i)
+
+-- a move rises or falls by its semitones; without semitones it does neither
+abbrev pub rises : Interval → Bool
+rises i = int_lt (pos 0) i.semitones
+
+abbrev pub falls : Interval → Bool
+falls i = int_lt i.semitones (pos 0)
+
+-- two moves go the same way: both rise or both fall
+abbrev pub same_way : Interval → Interval → Bool
+same_way i j = (rises i && rises j) || (falls i && falls j)
+
+-- two moves go opposite ways: one rises and the other falls
+abbrev pub opposite_ways : Interval → Interval → Bool
+opposite_ways i j = (rises i && falls j) || (falls i && rises j)

@@ -1,5 +1,5 @@
 -- Sets of voices and of rules, as bits.
-use Rattle.std.specs.Prelude.{ℕ, ◌==◌, ◌/◌, ◌%◌, ◌^◌, Bool, false, not, ◌&&◌, nat_lt, List, [], ◌∷◌, Option, Some, None, if◌then◌else◌}
+use Rattle.std.specs.Prelude.{ℕ, ◌==◌, ◌/◌, ◌%◌, ◌^◌, Bool, false, not, ◌&&◌, nat_lt, count_by, List, [], ◌∷◌, Option, Some, None, if◌then◌else◌}
 use Rattle.fux_grid.specs.declared.exercise.Exercise.{Exercise}
 
 -- the one voice of a set of bits
@@ -44,3 +44,7 @@ on_pair ex test voices = holds_of_pair ex test (pair_of voices)
 -- the bit of a rule is set
 abbrev pub has_rule : ℕ → ℕ → Bool
 has_rule bits rule = (bits / 2 ^ rule) % 2 == 1
+
+-- how many free voices pass the test, of four at most
+abbrev pub count_free : Exercise → (ℕ → Bool) → ℕ
+count_free ex test = count_by (λ v. is_free ex v && test v) (0 ∷ 1 ∷ 2 ∷ 3 ∷ [])

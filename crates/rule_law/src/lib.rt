@@ -1,21 +1,28 @@
 //! What a rule is, and what a toll is: their readings, their laws, and the words that they share.
 #![tactic(auto)]
 
+mod bars;
 mod both;
 mod latest;
 mod near;
+mod pairs;
 mod rule;
 mod sets;
 mod terms;
 mod toll;
 
+pub use bars::{begins_bar, begins_inner_bar};
 pub use both::Both;
 pub use latest::{Latest, latest_before, latest_of_column};
-pub use near::Near;
+pub use near::{Near, cells_of};
+pub use pairs::{
+    both_move, move_alike, move_into_perfect, one_starts, sound_perfect, sound_same_key,
+};
 pub use rule::Rule;
 pub use sets::{RuleSet, is_free, pair_of, voice_of};
 pub use terms::{
-    equal_perfects, interval_of_cells, is_clash, is_clean, is_repetition, is_sounding, lowest,
-    move_from, moves, previous_pitch, starts,
+    equal_perfects, falls, interval_in, interval_of_cells, is_clash, is_clean, is_leap,
+    is_reduced_to, is_repetition, is_sounding, is_step, lowest, move_from, moves, opposite_ways,
+    previous_pitch, rises, same_way, starts,
 };
 pub use toll::Toll;

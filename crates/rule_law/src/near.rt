@@ -11,7 +11,7 @@ ghost use Rattle.rule_law.specs.NearLaw.{IsNear};
 
 use crate::rule::Rule;
 use crate::sets::RuleSet;
-use fux_grid::{Column, Exercise, VoiceSet};
+use fux_grid::{Cell, Column, Exercise, VoiceSet};
 
 /// The rules and tolls that are read from a column and the one before it. The previous note of a voice is then the one that
 /// it sounds in the column before, and there is none where it rests there.
@@ -75,4 +75,15 @@ pub trait Near: Rule {
 
     /// The same of a toll.
     ghost tolls_agree: { (it : Self) (toll : ℕ) (ex : Exercise) → IsTrue (has_rule (near_tolls it) toll) → IsNear ex (charged it toll ex) (toll_row it toll ex) };
+}
+
+/// The cells of a column, where it is given.
+#[inline]
+pub fn cells_of(prev: Option<&Column>) -> &[Cell]
+    ensures { result.now ≡ cells_before prev.entry }
+{
+    match prev {
+        Some(column) => column.as_slice(),
+        None => &[],
+    }
 }

@@ -123,3 +123,70 @@ pub fn is_sounding(cell: Cell) -> bool
 {
     cell.pitch().is_some()
 }
+
+/// Whether a move is a step.
+#[inline]
+pub fn is_step(i: Interval) -> bool
+    ensures { result ≡ terms.is_step i }
+{
+    i.degrees.unsigned_abs() == 1
+}
+
+/// Whether a move is a leap.
+#[inline]
+pub fn is_leap(i: Interval) -> bool
+    ensures { result ≡ terms.is_leap i }
+{
+    i.degrees.unsigned_abs() >= 2
+}
+
+/// Whether a move rises.
+#[inline]
+pub fn rises(i: Interval) -> bool
+    ensures { result ≡ terms.rises i }
+{
+    i.semitones > 0
+}
+
+/// Whether a move falls.
+#[inline]
+pub fn falls(i: Interval) -> bool
+    ensures { result ≡ terms.falls i }
+{
+    i.semitones < 0
+}
+
+/// Whether two moves both rise or both fall.
+#[inline]
+pub fn same_way(i: Interval, j: Interval) -> bool
+    ensures { result ≡ terms.same_way i j }
+{
+    rises(i) && rises(j) || falls(i) && falls(j)
+}
+
+/// Whether one of two moves rises and the other falls.
+#[inline]
+pub fn opposite_ways(i: Interval, j: Interval) -> bool
+    ensures { result ≡ terms.opposite_ways i j }
+{
+    rises(i) && falls(j) || falls(i) && rises(j)
+}
+
+/// The interval between two voices that sound in a column.
+#[inline]
+pub fn interval_in(column: &[Cell], v: usize, w: usize) -> Option<Interval>
+    ensures value { result ≡ terms.interval_in column.now v w }
+    ensures short { IfSome result IsShort }
+{
+    interval_of_cells(cell_of(column, v), cell_of(column, w))
+}
+
+/// Whether the reduced size of the interval is this one.
+#[inline]
+pub fn is_reduced_to(i: Interval, degrees: u8, semitones: u8) -> bool
+    requires { IsShort i }
+    ensures { result ≡ terms.is_reduced_to degrees semitones i }
+{
+    let size = reduce(i);
+    size.degrees == i16::from(degrees) && size.semitones == i16::from(semitones)
+}
