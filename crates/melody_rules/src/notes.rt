@@ -1,0 +1,136 @@
+//! What a search keeps of the notes of a voice.
+
+ghost use Rattle.std.specs.Prelude.{◌≡◌, ◌≤◌, [], ◌∷◌, List, length, pos, if◌then◌else◌};
+ghost use Rattle.std.specs.Int.{int_max, int_min};
+ghost use Rattle.fux_grid.specs.declared.cell.Cell.{Cell};
+ghost use Rattle.fux_grid.specs.declared.cell.Cell.TheVariants.{Start};
+ghost use Rattle.fux_grid.specs.Columns.{line, earlier};
+ghost use Rattle.melody_rules.specs.Notes.{IsNotesOf};
+ghost use Rattle.melody_rules.specs.Rows as rows;
+
+use crate::windows::{
+    goes_on_after_leap, is_wide, leaves_leap_open, outlines_badly, turns, turns_at_tritone,
+};
+use fux_grid::{Cell, Score};
+use fux_pitch::{Pitch, semitone};
+
+/// What later notes of a voice are judged by: the pitches of its latest note, of the one before it and of its latest
+/// turning note, and the greatest and the least key of its notes (0 and 127 without notes).
+#[derive(Clone, Copy, Debug, PartialEq, Eq)]
+pub struct VoiceNotes {
+    pub last: Option<Pitch>,
+    pub before: Option<Pitch>,
+    pub turning: Option<Pitch>,
+    pub greatest: u8,
+    pub least: u8,
+}
+
+/// No notes.
+pub fn silent() -> VoiceNotes
+    ensures { IsNotesOf [] result }
+{
+    VoiceNotes {
+        last: None,
+        before: None,
+        turning: None,
+        greatest: 0,
+        least: 127,
+    }
+}
+
+/// The greater key.
+#[inline]
+fn higher(key: u8, other: u8) -> u8
+    ensures { pos result ≡ int_max (pos key) (pos other) }
+{
+    if key > other { key } else { other }
+}
+
+/// The lesser key.
+#[inline]
+fn lower(key: u8, other: u8) -> u8
+    ensures { pos result ≡ int_min (pos key) (pos other) }
+{
+    if key < other { key } else { other }
+}
+
+/// The notes with one that starts.
+fn with_note(notes: &VoiceNotes, pitch: Pitch) -> VoiceNotes
+    ensures { (cells : List Cell) → IsNotesOf cells notes.now → IsNotesOf (Start pitch ∷ cells) result }
+{
+    let key = semitone(pitch);
+    VoiceNotes {
+        last: Some(pitch),
+        before: notes.last,
+        turning: turning_after(notes, pitch),
+        greatest: higher(key, notes.greatest),
+        least: lower(key, notes.least),
+    }
+}
+
+/// The latest turning note, once a further note starts.
+fn turning_after(notes: &VoiceNotes, pitch: Pitch) -> Option<Pitch>
+    ensures { result ≡ (if rows.turns notes.now.before notes.now.last (Start pitch) then notes.now.last else notes.now.turning) }
+{
+    if turns(notes.before, notes.last, Cell::Start(pitch)) {
+        notes.last
+    } else {
+        notes.turning
+    }
+}
+
+/// The notes of a voice after one more cell.
+pub fn noted(notes: &VoiceNotes, cell: Cell) -> VoiceNotes
+    ensures { (cells : List Cell) → IsNotesOf cells notes.now → IsNotesOf (cell ∷ cells) result }
+{
+    match cell {
+        Cell::Start(pitch) => with_note(notes, pitch),
+        Cell::Hold(_) => *notes,
+        Cell::Rest => *notes,
+    }
+}
+
+/// The notes of a voice that start in the first `n` columns of a score.
+pub fn notes_before(score: &Score, v: u8, n: usize) -> VoiceNotes
+    requires { n ≤ length score.now.columns }
+    ensures { IsNotesOf (line v (earlier score.now.columns n)) result }
+{
+    let mut notes = silent();
+    for j in 0..n {
+        notes = noted(&notes, score.cell(v as usize, j));
+    }
+    notes
+}
+
+/// S9: a note starts with which the notes span more than a tenth, as they didn't before.
+fn widens(notes: &VoiceNotes, now: Cell) -> bool
+    ensures { (cells : List Cell) → IsNotesOf cells notes.now → result ≡ rows.widens (rows.pitches cells) now }
+{
+    match now {
+        Cell::Start(pitch) => {
+            let key = semitone(pitch);
+            is_wide(higher(key, notes.greatest), lower(key, notes.least))
+                && !is_wide(notes.greatest, notes.least)
+        }
+        _ => false,
+    }
+}
+
+/// Whether S6, S7, S8 or S9 is broken by a cell of a voice with these notes.
+pub fn breaks_after(rule: u8, notes: &VoiceNotes, now: Cell) -> bool
+    ensures { (cells : List Cell) → IsNotesOf cells notes.now → result ≡ rows.window_rule rule (rows.pitches cells) now }
+{
+    match rule {
+        6 => outlines_badly(notes.before, notes.last, now),
+        7 => goes_on_after_leap(notes.before, notes.last, now),
+        8 => turns_at_tritone(notes.turning, notes.before, notes.last, now),
+        _ => widens(notes, now),
+    }
+}
+
+/// Whether Q13 stands for a cell of a voice with these notes.
+pub fn leap_open_after(notes: &VoiceNotes, now: Cell) -> bool
+    ensures { (cells : List Cell) → IsNotesOf cells notes.now → result ≡ rows.leaves_leap_open (rows.before_last (rows.pitches cells)) (rows.last_of (rows.pitches cells)) now }
+{
+    leaves_leap_open(notes.before, notes.last, now)
+}

@@ -1,0 +1,219 @@
+//! Tolls on the moves of free voices: Q7 to Q10 and Q13.
+
+ghost use Rattle.std.specs.Prelude.{◌≡◌, ◌<◌, ◌≤◌, ◌&&◌, if◌then◌else◌, length};
+ghost use Rattle.fux_grid.specs.Cells.{cell_in};
+ghost use Rattle.rule_law.specs.Terms as terms;
+ghost use Rattle.rule_law.specs.Terms.{holds_of};
+ghost use Rattle.rule_law.specs.Voices as voices_words;
+ghost use Rattle.rule_law.specs.Places.{reading_of, settled_by};
+ghost use Rattle.rule_law.specs.Nearby.{pitch_at, whole_of};
+ghost use Rattle.melody_rules.specs.Locality as law;
+ghost use Rattle.melody_rules.specs.Rows as rows;
+
+use crate::voices::{all_notes_before, open_leaps};
+use fux_grid::{Cell, Exercise, Score, cell_of};
+use fux_pitch::Interval;
+use rule_law::{Latest, Toll, is_free, is_repetition, latest_before, move_from};
+
+/// Whether a toll stands for a move.
+#[inline]
+fn costs(toll: u8, i: Interval) -> bool
+    ensures { result ≡ rows.costs toll i }
+{
+    let degrees = i.degrees.unsigned_abs();
+    match toll {
+        7 => is_repetition(i),
+        8 => degrees == 2,
+        9 => degrees == 3 || degrees == 4,
+        _ => degrees >= 5,
+    }
+}
+
+/// 1 where a toll stands for a free voice, else 0.
+#[inline]
+fn cost_of_voice(toll: u8, ex: &Exercise, latest: &Latest, now: &[Cell], v: u8) -> u32
+    ensures value { result ≡ (if voices_words.is_free ex.now v && holds_of (rows.costs toll) (terms.move_from (pitch_at latest.now.pitches v) (cell_in now.now v)) then 1 else 0) }
+    ensures bound { result ≤ 1 }
+{
+    if !is_free(ex, v) {
+        return 0;
+    }
+    match move_from(latest.of(v as usize), cell_of(now, v as usize)) {
+        Some(step) => u32::from(costs(toll, step)),
+        None => 0,
+    }
+}
+
+/// In how many free voices Q7, Q8, Q9 or Q10 stands in a column, from the pitch of each voice's latest note before it.
+#[tactic(auto, unfolding(crate::specs::Rows::toll_rows))]
+pub fn cost(
+    toll: u8,
+    ex: &Exercise,
+    i: usize,
+    before: &[Cell],
+    latest: &Latest,
+    now: &[Cell],
+) -> u32
+    ensures value { result ≡ rows.toll_rows toll ex.now i before.now latest.now.pitches now.now }
+    ensures bound { result ≤ 4 }
+{
+    cost_of_voice(toll, ex, latest, now, 0)
+        + cost_of_voice(toll, ex, latest, now, 1)
+        + cost_of_voice(toll, ex, latest, now, 2)
+        + cost_of_voice(toll, ex, latest, now, 3)
+}
+
+/// A toll at a place of a score.
+fn cost_in_score(toll: u8, ex: &Exercise, score: &Score, i: usize) -> u32
+    requires { i < length score.now.columns }
+    ensures { result ≡ reading_of (whole_of (rows.toll_rows toll ex.now)) score.now.columns i }
+{
+    cost(
+        toll,
+        ex,
+        i,
+        score.before(i),
+        &latest_before(score, i),
+        score.column(i).as_slice(),
+    )
+}
+
+/// Repetitions.
+#[derive(Clone, Copy, Debug, PartialEq, Eq)]
+pub struct Q7;
+
+impl Toll for Q7 {
+    ghost numbered = { λ _. 7 };
+
+    ghost charges = { λ _ ex. reading_of (rows.cost_in 7 ex) };
+
+    ghost settles = { λ _ ex. settled_by (rows.cost_enough 7 ex) };
+
+    ghost local = { λ _. law.melody_tolls_are_local 7 };
+
+    ghost ends = { λ _. law.melody_tolls_settle_at_end 7 };
+
+    fn number(&self) -> u8 {
+        7
+    }
+
+    fn cost(&self, ex: &Exercise, score: &Score, i: usize) -> u32 {
+        cost_in_score(7, ex, score, i)
+    }
+
+    fn settled(&self, _ex: &Exercise, _prefix: &Score, _i: usize) -> bool {
+        true
+    }
+}
+
+/// Moves by a third.
+#[derive(Clone, Copy, Debug, PartialEq, Eq)]
+pub struct Q8;
+
+impl Toll for Q8 {
+    ghost numbered = { λ _. 8 };
+
+    ghost charges = { λ _ ex. reading_of (rows.cost_in 8 ex) };
+
+    ghost settles = { λ _ ex. settled_by (rows.cost_enough 8 ex) };
+
+    ghost local = { λ _. law.melody_tolls_are_local 8 };
+
+    ghost ends = { λ _. law.melody_tolls_settle_at_end 8 };
+
+    fn number(&self) -> u8 {
+        8
+    }
+
+    fn cost(&self, ex: &Exercise, score: &Score, i: usize) -> u32 {
+        cost_in_score(8, ex, score, i)
+    }
+
+    fn settled(&self, _ex: &Exercise, _prefix: &Score, _i: usize) -> bool {
+        true
+    }
+}
+
+/// Moves by a fourth or a fifth.
+#[derive(Clone, Copy, Debug, PartialEq, Eq)]
+pub struct Q9;
+
+impl Toll for Q9 {
+    ghost numbered = { λ _. 9 };
+
+    ghost charges = { λ _ ex. reading_of (rows.cost_in 9 ex) };
+
+    ghost settles = { λ _ ex. settled_by (rows.cost_enough 9 ex) };
+
+    ghost local = { λ _. law.melody_tolls_are_local 9 };
+
+    ghost ends = { λ _. law.melody_tolls_settle_at_end 9 };
+
+    fn number(&self) -> u8 {
+        9
+    }
+
+    fn cost(&self, ex: &Exercise, score: &Score, i: usize) -> u32 {
+        cost_in_score(9, ex, score, i)
+    }
+
+    fn settled(&self, _ex: &Exercise, _prefix: &Score, _i: usize) -> bool {
+        true
+    }
+}
+
+/// Moves by a sixth or more.
+#[derive(Clone, Copy, Debug, PartialEq, Eq)]
+pub struct Q10;
+
+impl Toll for Q10 {
+    ghost numbered = { λ _. 10 };
+
+    ghost charges = { λ _ ex. reading_of (rows.cost_in 10 ex) };
+
+    ghost settles = { λ _ ex. settled_by (rows.cost_enough 10 ex) };
+
+    ghost local = { λ _. law.melody_tolls_are_local 10 };
+
+    ghost ends = { λ _. law.melody_tolls_settle_at_end 10 };
+
+    fn number(&self) -> u8 {
+        10
+    }
+
+    fn cost(&self, ex: &Exercise, score: &Score, i: usize) -> u32 {
+        cost_in_score(10, ex, score, i)
+    }
+
+    fn settled(&self, _ex: &Exercise, _prefix: &Score, _i: usize) -> bool {
+        true
+    }
+}
+
+/// Leaps of a fourth or more that no step the other way follows.
+#[derive(Clone, Copy, Debug, PartialEq, Eq)]
+pub struct Q13;
+
+impl Toll for Q13 {
+    ghost numbered = { λ _. 13 };
+
+    ghost charges = { λ _ ex. reading_of (rows.cost_in 13 ex) };
+
+    ghost settles = { λ _ ex. settled_by (rows.cost_enough 13 ex) };
+
+    ghost local = { λ _. law.melody_tolls_are_local 13 };
+
+    ghost ends = { λ _. law.melody_tolls_settle_at_end 13 };
+
+    fn number(&self) -> u8 {
+        13
+    }
+
+    fn cost(&self, ex: &Exercise, score: &Score, i: usize) -> u32 {
+        open_leaps(ex, &all_notes_before(score, i), score.column(i).as_slice())
+    }
+
+    fn settled(&self, _ex: &Exercise, _prefix: &Score, _i: usize) -> bool {
+        true
+    }
+}
