@@ -1,0 +1,3 @@
+pub mod BarLines
+pub mod Locality
+pub mod Rows

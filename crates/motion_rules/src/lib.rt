@@ -1,0 +1,14 @@
+//! Rules and tolls of motion: S10, S16, S17, Q11 and Q14.
+#![tactic(auto)]
+
+mod bar_lines;
+mod motion;
+mod rows;
+#[cfg(test)]
+mod tests;
+mod tolls;
+
+pub use bar_lines::{BarLines, imperfect_runs_after, no_bar_lines, noted};
+pub use motion::Motion;
+pub use rows::{breaks, cost};
+pub use tolls::{Q11, Q14};

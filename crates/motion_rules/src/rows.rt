@@ -1,0 +1,135 @@
+//! Each rule and toll over the columns that it reads.
+
+ghost use Rattle.std.specs.Prelude.{◌≡◌, ◌≤◌, ◌∷◌, []};
+ghost use Rattle.fux_pitch.specs.Size.{IsShort};
+ghost use Rattle.motion_rules.specs.Rows as rows;
+
+use fux_grid::{Cell, Exercise, VoiceSet, cell_of};
+use fux_pitch::{Interval, is_imperfect, reduce, semitone};
+use rule_law::{
+    Latest, both_move, equal_perfects, interval_of_cells, move_alike, move_into_perfect,
+    one_starts, pair_of,
+};
+
+/// S10.
+#[inline]
+fn cross(now: &[Cell], v: usize, w: usize) -> bool
+    ensures { result ≡ rows.cross now.now v w }
+{
+    if !one_starts(now, v, w) {
+        return false;
+    }
+    match (cell_of(now, v).pitch(), cell_of(now, w).pitch()) {
+        (Some(p), Some(q)) => semitone(p) > semitone(q),
+        _ => false,
+    }
+}
+
+/// S16.
+#[inline]
+fn move_in_parallel(before: &[Cell], now: &[Cell], v: usize, w: usize) -> bool
+    ensures { result ≡ rows.move_in_parallel before.now now.now v w }
+{
+    if !both_move(before, now, v, w) {
+        return false;
+    }
+    match (
+        interval_of_cells(cell_of(before, v), cell_of(before, w)),
+        interval_of_cells(cell_of(now, v), cell_of(now, w)),
+    ) {
+        (Some(i), Some(j)) => equal_perfects(i, j),
+        _ => false,
+    }
+}
+
+/// Whether the two are the lowest and the highest voice of the exercise.
+#[inline]
+fn are_outer(ex: &Exercise, v: u8, w: u8) -> bool
+    ensures { result ≡ rows.are_outer ex.now v w }
+{
+    v == 0 && u16::from(w) + 1 == u16::from(ex.voices)
+}
+
+/// S17.
+#[inline]
+fn outer_move_into_perfect(ex: &Exercise, before: &[Cell], now: &[Cell], v: u8, w: u8) -> bool
+    ensures { result ≡ rows.outer_move_into_perfect ex.now before.now now.now v w }
+{
+    are_outer(ex, v, w) && move_into_perfect(before, now, v as usize, w as usize)
+}
+
+/// Q11.
+#[inline]
+fn pairs_alike(before: &[Cell], now: &[Cell]) -> u32
+    ensures value { result ≡ rows.pairs_alike before.now now.now }
+    ensures bound { result ≤ 6 }
+{
+    u32::from(move_alike(before, now, 0, 1))
+        + u32::from(move_alike(before, now, 0, 2))
+        + u32::from(move_alike(before, now, 0, 3))
+        + u32::from(move_alike(before, now, 1, 2))
+        + u32::from(move_alike(before, now, 1, 3))
+        + u32::from(move_alike(before, now, 2, 3))
+}
+
+/// Whether the interval is imperfect and has so many degrees without its octaves: a third has 2, a sixth has 5.
+#[inline]
+fn is_imperfect_of(interval: Interval, degrees: u8) -> bool
+    requires { IsShort interval }
+    ensures { result ≡ rows.is_imperfect_of degrees interval }
+{
+    is_imperfect(interval) && reduce(interval).degrees == i16::from(degrees)
+}
+
+/// Whether two voices sound such an interval.
+#[inline]
+pub(crate) fn sound_imperfect(column: &[Cell], degrees: u8, v: usize, w: usize) -> bool
+    ensures { result ≡ rows.sound_imperfect degrees column.now v w }
+{
+    match interval_of_cells(cell_of(column, v), cell_of(column, w)) {
+        Some(interval) => is_imperfect_of(interval, degrees),
+        None => false,
+    }
+}
+
+/// Whether a rule is broken at a column, whose cells are `now`, after the column whose cells are `before`.
+#[inline]
+pub fn breaks(
+    rule: u8,
+    ex: &Exercise,
+    voices: VoiceSet,
+    i: usize,
+    before: &[Cell],
+    latest: &Latest,
+    now: &[Cell],
+) -> bool
+    ensures { result ≡ rows.near_rows rule ex.now voices.bits i before.now latest.now.pitches now.now }
+{
+    let Some((v, w)) = pair_of(voices) else {
+        return false;
+    };
+    if w >= ex.voices {
+        return false;
+    }
+    match rule {
+        10 => cross(now, v as usize, w as usize),
+        16 => move_in_parallel(before, now, v as usize, w as usize),
+        _ => outer_move_into_perfect(ex, before, now, v, w),
+    }
+}
+
+/// For how many pairs Q11 stands at a column, whose cells are `now`, after the column whose cells are `before`.
+#[inline]
+pub fn cost(
+    toll: u8,
+    ex: &Exercise,
+    i: usize,
+    before: &[Cell],
+    latest: &Latest,
+    now: &[Cell],
+) -> u32
+    ensures value { result ≡ rows.toll_rows toll ex.now i before.now latest.now.pitches now.now }
+    ensures bound { result ≤ 6 }
+{
+    pairs_alike(before, now)
+}
