@@ -1,0 +1,113 @@
+//! The rules as one `Rule`, and what two neighboring columns decide of them.
+
+ghost use Rattle.rule_law.specs.Places.{reading_of};
+ghost use Rattle.dissonance_rules.specs.Locality.{cost_is_near, dissonance_breaks, dissonance_is_local, dissonance_is_near, dissonance_settles, dissonance_settles_at_end, rule_bits, toll_bits};
+ghost use Rattle.dissonance_rules.specs.Rows.{cost_in, near_rows, toll_rows};
+
+use crate::rows::{breaks, cost};
+use fux_grid::{Column, Exercise, Score, VoiceSet};
+use rule_law::{Latest, Near, Rule, RuleSet, cells_of};
+
+/// The rules S11 and S14. Neither looks at earlier columns or notes.
+#[derive(Clone, Copy, Debug, PartialEq, Eq)]
+pub struct Dissonance;
+
+impl Rule for Dissonance {
+    ghost covered = { λ _. rule_bits };
+
+    ghost breaks = { λ _. dissonance_breaks };
+
+    ghost settles = { λ _. dissonance_settles };
+
+    ghost local = { λ _. dissonance_is_local };
+
+    ghost ends = { λ _. dissonance_settles_at_end };
+
+    fn covers(&self) -> RuleSet {
+        RuleSet {
+            bits: 1 << 11 | 1 << 14,
+        }
+    }
+
+    fn broken(&self, rule: u8, ex: &Exercise, score: &Score, i: usize, voices: VoiceSet) -> bool {
+        breaks(
+            rule,
+            ex,
+            voices,
+            i,
+            score.before(i),
+            &Latest::NONE,
+            score.column(i).as_slice(),
+        )
+    }
+
+    fn settled(
+        &self,
+        _rule: u8,
+        _ex: &Exercise,
+        _prefix: &Score,
+        _i: usize,
+        _voices: VoiceSet,
+    ) -> bool {
+        true
+    }
+}
+
+impl Near for Dissonance {
+    ghost near_rules = { λ _. rule_bits };
+
+    ghost near_tolls = { λ _. toll_bits };
+
+    ghost row = { λ _. near_rows };
+
+    ghost charged = { λ _. λ toll ex. reading_of (cost_in toll ex) };
+
+    ghost toll_row = { λ _. toll_rows };
+
+    ghost rules_agree = { λ _ rule ex voices h. dissonance_is_near rule ex voices };
+
+    ghost tolls_agree = { λ _ toll ex h. cost_is_near toll ex };
+
+    fn rules(&self) -> RuleSet {
+        RuleSet {
+            bits: 1 << 11 | 1 << 14,
+        }
+    }
+
+    fn tolls(&self) -> RuleSet {
+        RuleSet {
+            bits: 1 << 1 | 1 << 2,
+        }
+    }
+
+    fn broken_near(
+        &self,
+        rule: u8,
+        ex: &Exercise,
+        i: usize,
+        prev: Option<&Column>,
+        next: &Column,
+        voices: VoiceSet,
+    ) -> bool {
+        breaks(
+            rule,
+            ex,
+            voices,
+            i,
+            cells_of(prev),
+            &Latest::NONE,
+            next.as_slice(),
+        )
+    }
+
+    fn cost_near(
+        &self,
+        toll: u8,
+        ex: &Exercise,
+        i: usize,
+        prev: Option<&Column>,
+        next: &Column,
+    ) -> u32 {
+        cost(toll, ex, i, cells_of(prev), &Latest::NONE, next.as_slice())
+    }
+}

@@ -1,0 +1,12 @@
+//! Rules and tolls of dissonance and of unisons: S11, S14, Q1 and Q2.
+#![tactic(auto)]
+
+mod dissonance;
+mod rows;
+#[cfg(test)]
+mod tests;
+mod tolls;
+
+pub use dissonance::Dissonance;
+pub use rows::{breaks, cost};
+pub use tolls::{Q1, Q2};
