@@ -1,0 +1,5 @@
+pub mod BarReadings
+pub mod NewestBars
+pub mod OrderlyReadings
+pub mod PartLemmas
+pub mod ShapeSets

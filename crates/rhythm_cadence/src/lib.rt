@@ -1,0 +1,16 @@
+//! Rules of ranges, bar shapes, beginnings and endings.
+#![tactic(auto)]
+
+mod letter_sets;
+mod part;
+mod rhythm;
+mod rows;
+#[cfg(test)]
+mod tests;
+
+pub use letter_sets::{LetterSets, fitting_shapes};
+pub use part::{BarShapes, breaks_shape, noted, unbegun};
+pub use rhythm::{Rhythm, breaks};
+pub use rows::{
+    begins_last_bar, ends_badly, is_final, lacks_final, leaves_gamut, leaves_range, opens_badly,
+};

@@ -1,0 +1,79 @@
+//! The part of a state that reads bar shapes.
+
+ghost use Rattle.std.specs.Prelude.{◌≡◌, ◌==◌, ◌&&◌, ◌^◌, ◌<◌, ◌∷◌, ◌++◌, [], ℕ, List, length, nat_lt};
+ghost use Rattle.fux_grid.specs.declared.cell.Cell.{Cell};
+ghost use Rattle.fux_grid.specs.declared.exercise.Exercise.{Exercise};
+ghost use Rattle.fux_grid.specs.Cells.{cell_in};
+ghost use Rattle.fux_grid.specs.Exercises.{IsValid, columns_in};
+ghost use Rattle.rule_law.specs.Places.{reading_of};
+ghost use Rattle.rule_law.specs.Voices as voices_words;
+ghost use Rattle.rhythm_cadence.specs.Parts.{IsShapesOf, newest_start, shapes_after};
+ghost use Rattle.rhythm_cadence.specs.Rows.{broken_in};
+
+use crate::letter_sets::fitting_shapes;
+use fux_grid::{Cell, Exercise, cell_of, species_of};
+use rule_law::{begins_bar, is_free};
+
+/// For each of four voices the shapes that it may still have in the bar of the newest column: bit k of a voice's set is
+/// shape k of its species and bar. Nothing is meant of the cantus, nor before the first column.
+#[derive(Clone, Copy, Debug, PartialEq, Eq)]
+pub struct BarShapes {
+    pub possible: [u16; 4],
+}
+
+/// The part before the first column.
+pub fn unbegun() -> BarShapes
+    ensures { (ex : Exercise) → IsShapesOf ex [] result }
+{
+    BarShapes { possible: [0; 4] }
+}
+
+/// The shapes that a voice may still have with one more cell.
+#[inline]
+fn kept(possible: u16, ex: &Exercise, i: usize, cell: Cell, v: u8) -> u16
+    requires valid { IsValid ex.now }
+    requires place { i < columns_in ex.now }
+    ensures { result ≡ shapes_after ex.now v i possible cell }
+{
+    let fitting = fitting_shapes(species_of(ex, v), (i / 8 + 1) as u8, ex.bars, i % 8, cell);
+    if begins_bar(i) {
+        fitting
+    } else {
+        possible & fitting
+    }
+}
+
+/// The part with one more column, which stands at place i.
+pub fn noted(part: &BarShapes, ex: &Exercise, i: usize, col: &[Cell]) -> BarShapes
+    requires valid { IsValid ex.now }
+    requires place { i < columns_in ex.now }
+    ensures { (p : List (List Cell)) → length p ≡ i → IsShapesOf ex.now p part.now → IsShapesOf ex.now (p ++ col.now ∷ []) result }
+{
+    let [first, second, third, fourth] = part.possible;
+    BarShapes {
+        possible: [
+            kept(first, ex, i, cell_of(col, 0), 0),
+            kept(second, ex, i, cell_of(col, 1), 1),
+            kept(third, ex, i, cell_of(col, 2), 2),
+            kept(fourth, ex, i, cell_of(col, 3), 3),
+        ],
+    }
+}
+
+/// Whether a free voice of the exercise has no shape left.
+#[inline]
+fn has_none_left(possible: u16, ex: &Exercise, v: u8) -> bool
+    ensures { result ≡ (nat_lt v ex.now.voices && (voices_words.is_free ex.now v && possible == 0)) }
+{
+    v < ex.voices && is_free(ex, v) && possible == 0
+}
+
+/// S3 of one voice: whether it has left the shapes of the newest bar.
+pub fn breaks_shape(part: &BarShapes, ex: &Exercise, v: u8) -> bool
+    requires { v < 4 }
+    ensures { (p : List (List Cell)) → 0 < length p → IsShapesOf ex.now p part.now →
+        result ≡ reading_of (broken_in 3 ex.now (2 ^ v)) p (newest_start p) }
+{
+    let possible = part.possible;
+    has_none_left(possible[v as usize], ex, v)
+}

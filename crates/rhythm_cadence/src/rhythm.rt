@@ -1,0 +1,249 @@
+//! The rules as one.
+
+ghost use Rattle.std.specs.Prelude.{◌≡◌, ◌+◌, ◌<◌, ◌≤◌, ℕ, Bool, IfSome, nat_lt, length, slice_index_or, drop, []};
+ghost use Rattle.fux_grid.specs.Exercises.{IsValid, IsFree, columns_in};
+ghost use Rattle.fux_grid.specs.Orderly.{voice_shapes};
+ghost use Rattle.fux_grid.specs.Shapes.{begins_shape};
+ghost use Rattle.rule_law.specs.Places.{reading_of};
+ghost use Rattle.rule_law.specs.Voices.{on_free_voice};
+ghost use Rattle.rhythm_cadence.specs.Locality as law;
+ghost use Rattle.rhythm_cadence.specs.Rows as rows;
+ghost use Rattle.rhythm_cadence.specs.Rows.{holds_of_some};
+
+use crate::rows::{ends_badly, lacks_final, leaves_gamut, leaves_range, opens_badly};
+use fux_grid::{
+    Cell, Column, Exercise, Score, VoiceSet, cell_of, letters_from, shapes_of, species_of,
+};
+use fux_pitch::Pitch;
+use rule_law::{
+    Latest, Near, Rule, RuleSet, begins_bar, cells_of, is_free, latest_before, latest_of_column,
+    pair_of, voice_of,
+};
+
+/// S1, S2 or S12.
+#[inline]
+fn breaks_in_voice(
+    rule: u8,
+    ex: &Exercise,
+    v: u8,
+    i: usize,
+    previous: Option<Pitch>,
+    now: &[Cell],
+) -> bool
+    requires valid { IsValid ex.now }
+    requires free { IsFree ex.now v }
+    requires place { i < columns_in ex.now }
+    ensures { result ≡ rows.voice_rule rule ex.now v i previous now.now }
+{
+    match rule {
+        1 => leaves_range(ex, v, i, cell_of(now, v as usize)),
+        2 => leaves_gamut(ex, i, cell_of(now, v as usize)),
+        _ => opens_badly(ex, previous, now, v),
+    }
+}
+
+/// Whether S1, S2, S12, S13 or S24 is broken in a column, from the pitch of each voice's latest note before it.
+pub fn breaks(
+    rule: u8,
+    ex: &Exercise,
+    voices: VoiceSet,
+    i: usize,
+    before: &[Cell],
+    latest: &Latest,
+    now: &[Cell],
+) -> bool
+    requires valid { IsValid ex.now }
+    requires place { i < columns_in ex.now }
+    ensures { result ≡ rows.near_rows rule ex.now voices.bits i before.now latest.now.pitches now.now }
+{
+    match rule {
+        13 => match pair_of(voices) {
+            Some((v, w)) => w < ex.voices && v == 0 && ends_badly(ex, i, now, w),
+            None => false,
+        },
+        24 => match voice_of(voices) {
+            Some(v) => v < ex.voices && v == 0 && lacks_final(ex, i, now),
+            None => false,
+        },
+        _ => match voice_of(voices) {
+            Some(v) => {
+                if v >= ex.voices || !is_free(ex, v) {
+                    return false;
+                }
+                breaks_in_voice(rule, ex, v, i, latest.of(v as usize), now)
+            }
+            None => false,
+        },
+    }
+}
+
+/// Whether letters begin a shape that a voice may have in a bar.
+fn begins_some_shape(ex: &Exercise, v: u8, bar: u8, letters: &[u8]) -> bool
+    ensures { result ≡ begins_shape (voice_shapes ex.now v bar) letters.now }
+{
+    shapes_of(species_of(ex, v), bar, ex.bars)
+        .iter()
+        .any(|shape| shape.starts_with(letters))
+}
+
+/// Whether the bar that begins at a place, as far as the score has it, may go on to a shape of the voice.
+fn may_go_on(ex: &Exercise, score: &Score, v: u8, i: usize) -> bool
+    requires valid { IsValid ex.now }
+    requires few { length score.now.columns ≤ columns_in ex.now }
+    requires place { i < length score.now.columns }
+    ensures { result ≡ rows.may_go_on ex.now v i (slice_index_or score.now.columns i []) (drop (i + 1) score.now.columns) }
+{
+    let letters = letters_from(score, v, i);
+    begins_some_shape(ex, v, (i / 8 + 1) as u8, letters.as_slice())
+}
+
+/// The one free voice of a set, where the exercise has it.
+#[inline]
+fn free_voice(ex: &Exercise, voices: VoiceSet) -> Option<u8>
+    ensures free { IfSome result (IsFree ex.now) }
+    ensures test { (test : ℕ → Bool) → on_free_voice ex.now test voices.bits ≡ holds_of_some test result }
+{
+    match voice_of(voices) {
+        Some(v) => {
+            if v < ex.voices && is_free(ex, v) {
+                return Some(v);
+            }
+            None
+        }
+        None => None,
+    }
+}
+
+/// S3: whether the bar that begins at a place leaves the shapes of the set's voice.
+fn leaves_shapes(ex: &Exercise, score: &Score, i: usize, voices: VoiceSet) -> bool
+    requires valid { IsValid ex.now }
+    requires few { length score.now.columns ≤ columns_in ex.now }
+    requires place { i < length score.now.columns }
+    ensures { result ≡ reading_of (rows.shape_row ex.now voices.bits) score.now.columns i }
+{
+    match free_voice(ex, voices) {
+        Some(v) => begins_bar(i) && !may_go_on(ex, score, v, i),
+        None => false,
+    }
+}
+
+/// Whether the score has fewer than seven columns after this one, so that a bar that begins at it isn't whole.
+#[inline]
+fn is_part(score: &Score, i: usize) -> bool
+    requires { i < length score.now.columns }
+    ensures { result ≡ nat_lt (length (drop (i + 1) score.now.columns)) 7 }
+{
+    score.len() - i < 8
+}
+
+/// Whether the bar that begins at a place is a part that may still go on to a shape of the set's voice.
+fn is_open(ex: &Exercise, score: &Score, i: usize, voices: VoiceSet) -> bool
+    requires valid { IsValid ex.now }
+    requires few { length score.now.columns ≤ columns_in ex.now }
+    requires place { i < length score.now.columns }
+    ensures { result ≡ reading_of (rows.open_row ex.now voices.bits) score.now.columns i }
+{
+    match free_voice(ex, voices) {
+        Some(v) => begins_bar(i) && is_part(score, i) && may_go_on(ex, score, v, i),
+        None => false,
+    }
+}
+
+/// The rules S1, S2, S3, S12, S13 and S24.
+#[derive(Clone, Copy, Debug, PartialEq, Eq)]
+pub struct Rhythm;
+
+impl Rule for Rhythm {
+    ghost covered = { λ _. law.covered_bits };
+
+    ghost breaks = { λ _. law.rhythm_breaks };
+
+    ghost settles = { λ _. law.rhythm_settles };
+
+    ghost local = { λ _. law.rhythm_is_local };
+
+    ghost ends = { λ _. law.rhythm_settles_at_end };
+
+    fn covers(&self) -> RuleSet {
+        RuleSet {
+            bits: 1 << 1 | 1 << 2 | 1 << 3 | 1 << 12 | 1 << 13 | 1 << 24,
+        }
+    }
+
+    fn broken(&self, rule: u8, ex: &Exercise, score: &Score, i: usize, voices: VoiceSet) -> bool {
+        if rule == 3 {
+            return leaves_shapes(ex, score, i, voices);
+        }
+        breaks(
+            rule,
+            ex,
+            voices,
+            i,
+            score.before(i),
+            &latest_before(score, i),
+            score.column(i).as_slice(),
+        )
+    }
+
+    fn settled(&self, rule: u8, ex: &Exercise, prefix: &Score, i: usize, voices: VoiceSet) -> bool {
+        rule != 3 || !is_open(ex, prefix, i, voices)
+    }
+}
+
+impl Near for Rhythm {
+    ghost near_rules = { λ _. law.near_bits };
+
+    ghost near_tolls = { λ _. 0 };
+
+    ghost row = { λ _. rows.near_rows };
+
+    ghost charged = { λ _ toll ex. reading_of (rows.cost_in toll ex) };
+
+    ghost toll_row = { λ _. rows.toll_rows };
+
+    ghost rules_agree = { λ _. law.rhythm_is_near };
+
+    ghost tolls_agree = { λ _ toll ex h. law.rhythm_tolls_are_near toll ex };
+
+    fn rules(&self) -> RuleSet {
+        RuleSet {
+            bits: 1 << 12 | 1 << 13 | 1 << 24,
+        }
+    }
+
+    fn tolls(&self) -> RuleSet {
+        RuleSet::EMPTY
+    }
+
+    fn broken_near(
+        &self,
+        rule: u8,
+        ex: &Exercise,
+        i: usize,
+        prev: Option<&Column>,
+        next: &Column,
+        voices: VoiceSet,
+    ) -> bool {
+        let before = cells_of(prev);
+        breaks(
+            rule,
+            ex,
+            voices,
+            i,
+            before,
+            &latest_of_column(before),
+            next.as_slice(),
+        )
+    }
+
+    fn cost_near(
+        &self,
+        _toll: u8,
+        _ex: &Exercise,
+        _i: usize,
+        _prev: Option<&Column>,
+        _next: &Column,
+    ) -> u32 {
+        0
+    }
+}
