@@ -1,0 +1,11 @@
+-- The weights of the tolls.
+use Rattle.std.specs.Prelude.{ℕ, ◌-◌, List, [], ◌∷◌, slice_index}
+use Rattle.penalty_sheet.specs.declared.sheet.Sheet.{Sheet}
+
+-- the weight of a toll, 1 to 20
+abbrev pub weight_of : Sheet → ℕ → ℕ
+weight_of sheet toll = slice_index sheet.weights (toll - 1)
+
+-- the weights of Q1 to Q20 where none is given
+abbrev pub default_weights : List ℕ
+default_weights = 2 ∷ 3 ∷ 4 ∷ 2 ∷ 2 ∷ 1 ∷ 3 ∷ 1 ∷ 2 ∷ 5 ∷ 2 ∷ 4 ∷ 3 ∷ 4 ∷ 4 ∷ 5 ∷ 4 ∷ 3 ∷ 2 ∷ 3 ∷ []

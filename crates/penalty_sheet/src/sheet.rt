@@ -1,0 +1,29 @@
+//! The weights of the tolls.
+
+ghost use Rattle.std.specs.Prelude.{◌≡◌, ◌≤◌};
+ghost use Rattle.penalty_sheet.specs.Weights.{default_weights, weight_of};
+
+/// The weights of the tolls Q1 to Q20, in this order, from 0 to 10,000 each.
+#[derive(Clone, Copy, Debug, PartialEq, Eq)]
+pub struct Sheet {
+    pub weights: [u16; 20],
+}
+
+/// The sheet to use where none is given.
+pub fn default_sheet() -> Sheet
+    ensures { result.weights ≡ default_weights }
+{
+    Sheet {
+        weights: [2, 3, 4, 2, 2, 1, 3, 1, 2, 5, 2, 4, 3, 4, 4, 5, 4, 3, 2, 3],
+    }
+}
+
+/// The weight of a toll.
+#[inline]
+pub fn weight(sheet: &Sheet, toll: u8) -> u16
+    requires first { 1 ≤ toll }
+    requires last { toll ≤ 20 }
+    ensures { result ≡ weight_of sheet.now toll }
+{
+    sheet.weights[toll as usize - 1]
+}
