@@ -193,7 +193,7 @@ impl Rule for Rhythm {
 impl Near for Rhythm {
     ghost near_rules = { λ _. law.near_bits };
 
-    ghost near_tolls = { λ _. 0 };
+    ghost near_tolls = { λ _. 1 };
 
     ghost row = { λ _. rows.near_rows };
 
@@ -211,8 +211,9 @@ impl Near for Rhythm {
         }
     }
 
+    /// Only the number 0, which no toll has: it costs nothing.
     fn tolls(&self) -> RuleSet {
-        RuleSet::EMPTY
+        RuleSet { bits: 1 }
     }
 
     fn broken_near(
