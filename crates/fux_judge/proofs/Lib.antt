@@ -1,0 +1,4 @@
+pub mod MomentLemmas
+pub mod SetLemmas
+pub mod StepLemmas
+pub mod SumLemmas

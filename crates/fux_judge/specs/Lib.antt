@@ -1,0 +1,10 @@
+pub mod Ends
+pub mod Facts
+pub mod Grows
+pub mod Lawful
+pub mod Moments
+pub mod Penalties
+pub mod Rules
+pub mod Shapes
+pub mod States
+pub mod Steps

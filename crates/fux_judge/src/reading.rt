@@ -1,0 +1,205 @@
+//! Rules and tolls, read at a moment.
+
+ghost use Rattle.std.specs.Prelude.{◌≡◌, ◌≢◌, ◌&&◌, if◌then◌else◌, ◌<◌, ◌≤◌, ◌*◌, ◌+◌, ◌^◌, List, [], IsTrue, length};
+ghost use Rattle.fux_grid.specs.declared.cell.Cell.{Cell as ACell};
+ghost use Rattle.melody_rules.specs.Rows as melody;
+ghost use Rattle.fux_grid.specs.Exercises.{bar_of};
+ghost use Rattle.fux_judge.specs.Rules as rules;
+ghost use Rattle.fux_judge.specs.Rules.{all_sets};
+ghost use Rattle.fux_judge.specs.Penalties.{is_strict_at, price_at as price_at_place};
+ghost use Rattle.fux_judge.specs.Moments.{IsReadable, IsAfter, is_broken_then, is_strictly_broken_then, prices_then, pair_sets_of, sets_of, voice_sets_of, with_column};
+
+use crate::moment::Moment;
+use fux_grid::VoiceSet;
+use melody_rules::breaks_looking_back;
+use penalty_sheet::price_at;
+
+/// The sets of one voice.
+const SINGLE_VOICES: [u8; 4] = [1, 2, 4, 8];
+
+const SINGLE_OF_TWO: [u8; 2] = [1, 2];
+
+/// The sets of two voices.
+const PAIRS: [u8; 6] = [3, 5, 6, 9, 10, 12];
+
+const PAIR_OF_TWO: [u8; 1] = [3];
+
+/// The sets of one voice, of so many voices.
+#[inline]
+fn single_voices(voices: u8) -> &'static [u8]
+    ensures { result.now ≡ voice_sets_of voices }
+{
+    if voices == 2 {
+        &SINGLE_OF_TWO
+    } else {
+        &SINGLE_VOICES
+    }
+}
+
+/// The sets of two voices.
+#[inline]
+fn pairs(voices: u8) -> &'static [u8]
+    ensures { result.now ≡ pair_sets_of voices }
+{
+    if voices == 2 { &PAIR_OF_TWO } else { &PAIRS }
+}
+
+/// Whether a rule is of melody.
+#[inline]
+fn is_melodic(rule: u8) -> bool
+    ensures { result ≡ rules.is_melodic rule }
+{
+    rule == 4 || rule == 5 || rule == 6 || rule == 7 || rule == 8 || rule == 9 || rule == 26
+}
+
+/// Whether a rule of melody looks back over several notes.
+#[inline]
+fn looks_back(rule: u8) -> bool
+    ensures { result ≡ melody.looks_back rule }
+{
+    rule == 6 || rule == 7 || rule == 8 || rule == 9
+}
+
+/// Whether a rule is of motion.
+#[inline]
+fn is_of_motion(rule: u8) -> bool
+    ensures { result ≡ rules.is_of_motion rule }
+{
+    rule == 10 || rule == 16 || rule == 17
+}
+
+/// Whether a rule is of dissonance.
+#[inline]
+fn is_of_dissonance(rule: u8) -> bool
+    ensures { result ≡ rules.is_of_dissonance rule }
+{
+    rule == 11 || rule == 14
+}
+
+/// The sets of voices that a rule speaks of, of so many voices.
+fn sets_of_rule(rule: u8, voices: u8) -> &'static [u8]
+    ensures { result.now ≡ sets_of rule voices }
+{
+    if is_melodic(rule) {
+        return single_voices(voices);
+    }
+    if is_of_motion(rule) {
+        return pairs(voices);
+    }
+    if is_of_dissonance(rule) {
+        return pairs(voices);
+    }
+    if rule == 13 {
+        pairs(voices)
+    } else {
+        single_voices(voices)
+    }
+}
+
+/// Whether a rule, other than S3, is broken for a set of voices.
+fn is_broken(rule: u8, voices: VoiceSet, m: &Moment<'_>) -> bool
+    requires rule { rule ≢ 3 }
+    requires readable { IsReadable m.now }
+    ensures { (p : List (List ACell)) → IsAfter p m.now → result ≡ is_broken_then rule voices.bits p m.now }
+{
+    let (ex, i, before, now) = (m.exercise, m.place, m.before, m.column);
+    if is_melodic(rule) {
+        if looks_back(rule) {
+            return breaks_looking_back(rule, ex, voices, m.notes, now);
+        }
+        return melody_rules::breaks(rule, ex, voices, i, before, &m.latest, now);
+    }
+    if is_of_motion(rule) {
+        return motion_rules::breaks(rule, ex, voices, i, before, &m.latest, now);
+    }
+    if is_of_dissonance(rule) {
+        return dissonance_rules::breaks(rule, ex, voices, i, before, &m.latest, now);
+    }
+    rhythm_cadence::breaks(rule, ex, voices, i, before, &m.latest, now)
+}
+
+/// The bar of a moment, counted from 1.
+#[inline]
+fn bar_at(m: &Moment<'_>) -> u8
+    requires { IsReadable m.now }
+    ensures { result ≡ bar_of m.now.place }
+{
+    (m.place / 8 + 1) as u8
+}
+
+/// Whether a rule, other than S3, is strictly broken for a set of voices.
+fn is_strictly_broken(rule: u8, voices: VoiceSet, m: &Moment<'_>) -> bool
+    requires rule { rule ≢ 3 }
+    requires readable { IsReadable m.now }
+    ensures { (p : List (List ACell)) → IsAfter p m.now → result ≡ (is_broken_then rule voices.bits p m.now && is_strict_at rule m.now.exercise.now voices.bits (length p)) }
+{
+    if !is_broken(rule, voices, m) {
+        return false;
+    }
+    price_at(m.exercise, rule, voices, bar_at(m)).is_strict()
+}
+
+/// The price of a relaxed break of a rule, other than S3, for a set of voices; nothing where there is none.
+fn price_of(rule: u8, voices: VoiceSet, m: &Moment<'_>) -> u64
+    requires rule { rule ≢ 3 }
+    requires readable { IsReadable m.now }
+    ensures value { (p : List (List ACell)) → IsAfter p m.now → result ≡ (if is_broken_then rule voices.bits p m.now then price_at_place rule m.now.exercise.now voices.bits (length p) else 0) }
+    ensures bound { result ≤ 10000 }
+{
+    if !is_broken(rule, voices, m) {
+        return 0;
+    }
+    u64::from(price_at(m.exercise, rule, voices, bar_at(m)).amount())
+}
+
+/// Whether a rule, other than S3, is strictly broken for one of these sets of voices.
+fn is_strictly_broken_for(sets: &[u8], rule: u8, m: &Moment<'_>) -> bool
+    requires rule { rule ≢ 3 }
+    requires readable { IsReadable m.now }
+    ensures { (p : List (List ACell)) → IsAfter p m.now → result ≡ is_strictly_broken_then sets.now rule p m.now }
+{
+    for bits in sets {
+        if is_strictly_broken(rule, VoiceSet { bits: *bits }, m) {
+            return true;
+        }
+    }
+    false
+}
+
+/// The prices of the relaxed breaks of a rule, other than S3, for these sets of voices.
+fn prices_for(sets: &[u8], rule: u8, m: &Moment<'_>) -> u64
+    requires rule { rule ≢ 3 }
+    requires readable { IsReadable m.now }
+    requires few { length sets.now ≤ 6 }
+    ensures value { (p : List (List ACell)) → IsAfter p m.now → result ≡ prices_then sets.now rule p m.now }
+    ensures bound { result ≤ 60000 }
+{
+    let mut sum = 0u64;
+    for bits in sets {
+        let price = price_of(rule, VoiceSet { bits: *bits }, m);
+        sum += price;
+    }
+    sum
+}
+
+/// Whether a rule, other than S3, is strictly broken.
+pub(crate) fn is_strictly_broken_now(rule: u8, m: &Moment<'_>) -> bool
+    requires rule { rule ≢ 3 }
+    requires readable { IsReadable m.now }
+    ensures { (p : List (List ACell)) → IsAfter p m.now → result ≡ is_strictly_broken_then all_sets rule p m.now }
+{
+    is_strictly_broken_for(sets_of_rule(rule, m.exercise.voices), rule, m)
+}
+
+/// The prices of the relaxed breaks of a rule, other than S3.
+pub(crate) fn prices_now(rule: u8, m: &Moment<'_>) -> u64
+    requires rule { rule ≢ 3 }
+    requires readable { IsReadable m.now }
+    ensures value { (p : List (List ACell)) → IsAfter p m.now → result ≡ prices_then all_sets rule p m.now }
+    ensures bound { result ≤ 60000 }
+{
+    if m.exercise.relax.as_slice().is_empty() {
+        return 0;
+    }
+    prices_for(sets_of_rule(rule, m.exercise.voices), rule, m)
+}

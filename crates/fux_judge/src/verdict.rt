@@ -1,0 +1,169 @@
+//! One column more.
+
+ghost use Rattle.std.specs.Prelude.{◌≡◌, ◌≤◌, ◌<◌, ◌+◌, ◌*◌, ◌&&◌, ◌||◌, ◌==◌, not, nat_lt, ◌∷◌, ◌++◌, [], ℕ, Bool, List, IsTrue, length, reverse};
+ghost use Rattle.std.specs.List.{list_any, list_all, sum_by};
+ghost use Rattle.fux_grid.specs.declared.cell.Cell.{Cell as ACell};
+ghost use Rattle.fux_grid.specs.Exercises.{IsValid, columns_in};
+ghost use Rattle.fux_grid.specs.Orderly.{IsOrderly};
+ghost use Rattle.rule_law.specs.Voices.{has_rule};
+ghost use Rattle.fux_judge.specs.Rules.{all_sets, rules_read, is_read};
+ghost use Rattle.fux_judge.specs.Penalties.{paid};
+ghost use Rattle.fux_judge.specs.Grows.{newly_broken, newly_paid};
+ghost use Rattle.fux_judge.specs.Moments.{IsReadable, IsAfter, is_strictly_broken_then, prices_then, rules_at_once};
+ghost use Rattle.fux_judge.specs.Shapes.{is_out_of_shape_now};
+ghost use Rattle.fux_judge.specs.States.{IsStateOf};
+
+use crate::moment::Moment;
+use crate::reading::{is_strictly_broken_now, prices_now};
+use crate::state::{ColumnCells, State};
+use crate::tolls::charges;
+use fux_grid::{Column, Exercise};
+use melody_rules::{all_noted, latest_of_notes};
+use penalty_sheet::Sheet;
+use rhythm_cadence::breaks_shape;
+use rule_law::RuleSet;
+
+/// What a column brings after a prefix.
+#[derive(Clone, Copy, Debug, PartialEq, Eq)]
+pub struct Verdict {
+    /// The state of the longer prefix.
+    pub state: State,
+    /// The rules of which the column settles a strict break.
+    pub broken: RuleSet,
+    /// The tolls, by their weights, and the prices that the column settles.
+    pub paid: u64,
+    /// What the gauges will cost at least. None is read so far, so it is 0.
+    pub least: u64,
+}
+
+/// The rules that are settled at once: all but S3.
+const RULES_AT_ONCE: [u8; 17] = [1, 2, 4, 5, 6, 7, 8, 9, 10, 11, 12, 13, 14, 16, 17, 24, 26];
+
+/// All rules that are read.
+const RULES: [u8; 18] = [
+    1, 2, 3, 4, 5, 6, 7, 8, 9, 10, 11, 12, 13, 14, 16, 17, 24, 26,
+];
+
+impl Verdict {
+    /// Whether the column settles a strict break of some rule.
+    #[inline]
+    pub fn breaks(&self) -> bool
+        ensures { result ≡ list_any (has_rule self.now.broken.bits) rules_read }
+    {
+        any_of(&RULES, self.broken)
+    }
+}
+
+/// Whether one of these rules is in a set.
+#[inline]
+fn any_of(rules: &[u8], set: RuleSet) -> bool
+    ensures { result ≡ list_any (has_rule set.bits) rules.now }
+{
+    rules.iter().any(|rule| set.has(*rule))
+}
+
+/// Those of the rules that are strictly broken.
+fn broken_of(rules: &[u8], m: &Moment<'_>) -> RuleSet
+    requires numbers { IsTrue (list_all (λ rule. nat_lt rule 32 && not (rule == 3)) rules.now) }
+    requires readable { IsReadable m.now }
+    ensures { (p : List (List ACell)) → IsAfter p m.now → (r : ℕ) → has_rule result.bits r ≡ list_any (λ rule. is_strictly_broken_then all_sets rule p m.now && r == rule) rules.now }
+{
+    let mut set = RuleSet::EMPTY;
+    for rule in rules {
+        let on = is_strictly_broken_now(*rule, m);
+        set = set.with(*rule, on);
+    }
+    set
+}
+
+/// The prices of the relaxed breaks of these rules.
+fn prices_of(rules: &[u8], m: &Moment<'_>) -> u64
+    requires numbers { IsTrue (list_all (λ rule. nat_lt rule 32 && not (rule == 3)) rules.now) }
+    requires readable { IsReadable m.now }
+    requires few { length rules.now ≤ 32 }
+    ensures value { (p : List (List ACell)) → IsAfter p m.now → result ≡ sum_by (λ rule. prices_then all_sets rule p m.now) rules.now }
+    ensures bound { result ≤ 1920000 }
+{
+    let mut sum = 0u64;
+    for rule in rules {
+        let price = prices_now(*rule, m);
+        sum += price;
+    }
+    sum
+}
+
+/// The state after a column.
+fn next_state(ex: &Exercise, state: &State, col: &Column) -> State
+    requires valid { IsValid ex.now }
+    requires room { state.now.len < columns_in ex.now }
+    requires full { length col.now.items ≡ ex.now.voices }
+    ensures { (p : List (List ACell)) → IsStateOf ex.now p state.now → IsStateOf ex.now (p ++ col.now.items ∷ []) result }
+{
+    let cells = col.as_slice();
+    State {
+        len: state.len + 1,
+        last: ColumnCells::of(cells),
+        melody: all_noted(&state.melody, cells),
+        rhythm: rhythm_cadence::noted(&state.rhythm, ex, state.len, cells),
+        motion: motion_rules::noted(&state.motion, state.len, cells),
+    }
+}
+
+/// Whether the bar that a state is in has no shape for some free voice.
+fn is_out_of_shape(ex: &Exercise, state: &State) -> bool
+    ensures { (p : List (List ACell)) → 0 < length p → IsStateOf ex.now p state.now → result ≡ is_out_of_shape_now ex.now p }
+{
+    if breaks_shape(&state.rhythm, ex, 0) {
+        return true;
+    }
+    if breaks_shape(&state.rhythm, ex, 1) {
+        return true;
+    }
+    if breaks_shape(&state.rhythm, ex, 2) {
+        return true;
+    }
+    breaks_shape(&state.rhythm, ex, 3)
+}
+
+/// The moment at which a column comes after a state's prefix.
+fn moment_of<'a>(ex: &'a Exercise, state: &'a State, col: &'a Column) -> Moment<'a>
+    requires { ex.now.voices ≤ 4 }
+    ensures after { (p : List (List ACell)) → IsStateOf ex.entry.now p state.entry.now → IsAfter p result }
+    ensures exercise { result.exercise.now ≡ ex.entry.now }
+    ensures column { result.column.now ≡ col.entry.now.items }
+    ensures place { result.place ≡ state.entry.now.len }
+{
+    Moment {
+        exercise: ex,
+        place: state.len,
+        before: state.before(ex),
+        latest: latest_of_notes(&state.melody),
+        notes: &state.melody,
+        bar_lines: &state.motion,
+        column: col.as_slice(),
+    }
+}
+
+/// Judges a column that comes after a prefix: which rules it breaks strictly, what it costs, and the state of the longer prefix. It takes no memory.
+pub fn step(ex: &Exercise, sheet: &Sheet, state: &State, col: &Column) -> Verdict
+    requires valid { IsValid ex.now }
+    requires room { state.now.len < columns_in ex.now }
+    requires full { length col.now.items ≡ ex.now.voices }
+    ensures state { (p : List (List ACell)) → IsStateOf ex.now p state.now → IsStateOf ex.now (p ++ col.now.items ∷ []) result.state }
+
+    // After an orderly prefix, the rules of which this column, and none before it, settles a strict break.
+    ensures broken { (p : List (List ACell)) → IsStateOf ex.now p state.now → IsOrderly ex.now p → (r : ℕ) → has_rule result.broken.bits r ≡ (is_read r && newly_broken ex.now p col.now.items r) }
+    ensures paid { (p : List (List ACell)) → IsStateOf ex.now p state.now → paid ex.now sheet.now (p ++ col.now.items ∷ []) ≡ paid ex.now sheet.now p + result.paid }
+    ensures bound { result.paid ≤ 16777216 }
+    ensures least { result.least ≡ 0 }
+{
+    let moment = moment_of(ex, state, col);
+    let next = next_state(ex, state, col);
+    let at_once = broken_of(&RULES_AT_ONCE, &moment);
+    Verdict {
+        state: next,
+        broken: at_once.with(3, is_out_of_shape(ex, &next)),
+        paid: charges(sheet, &moment) + prices_of(&RULES_AT_ONCE, &moment),
+        least: 0,
+    }
+}
