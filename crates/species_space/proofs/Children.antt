@@ -1,0 +1,65 @@
+-- Which children of a live path are live.
+use Rattle.std.proofs.Common.{◌≡◌, ℕ, ◌<◌, Bool, true, false, not, ◌&&◌, nat_lt, nat_le, List, [], ◌∷◌, ◌++◌, None, length, reverse, refl, ◌∙◌, arith}
+use Rattle.std.specs.List.{list_any}
+use Rattle.std.proofs.lemmas.Bool.Decides.{nat_tests}
+use Rattle.fux_grid.specs.declared.cell.Cell.{Cell}
+use Rattle.fux_grid.specs.declared.exercise.Exercise.{Exercise}
+use Rattle.fux_grid.specs.Columns.{newest_column, ColumnFollows}
+use Rattle.fux_grid.specs.Exercises.{columns_in}
+use Rattle.rule_law.specs.Law.{test_from_below}
+use Rattle.penalty_sheet.specs.declared.sheet.Sheet.{Sheet}
+use Rattle.fux_judge.specs.Rules.{rules_read}
+use Rattle.fux_judge.specs.Grows.{newly_broken}
+use Rattle.species_space.specs.declared.node.Node.{Node}
+use Rattle.species_space.specs.Grows.{live_none}
+use Rattle.species_space.specs.Leaves.{follows_from_test, test_from_follows}
+use Rattle.species_space.specs.Nodes.{IsNodeOf}
+use Rattle.species_space.specs.Paths.{prefix_at, column_at, width_at, column_follows, is_live_path, live_at, live_goes_on, live_from_parts, length-columns_on}
+
+third_false : (a b c d : Bool) → c ≡ false → (a && b && c && d) ≡ false
+third_false true true c d e = rw e refl
+third_false true false c d e = refl
+third_false false b c d e = refl
+
+last_false : (a b c d : Bool) → d ≡ true → (a && b && c && not d) ≡ false
+last_false true true true d e = rw e refl
+last_false true true false d e = refl
+last_false true false c d e = refl
+last_false false b c d e = refl
+
+all_four : (a b c d : Bool) → a ≡ true → b ≡ true → c ≡ true → d ≡ false → (a && b && c && not d) ≡ true
+all_four a b c d e f g h = rw (e, f, g, h) refl
+
+-- a node knows how long its path is
+pub as_long : (ex : Exercise) (sheet : Sheet) (node : Node) (path : List ℕ) → IsNodeOf ex sheet node path → node.state.len ≡ length path
+as_long ex sheet node path at = at.state.len ∙ length-columns_on ex 0 path
+
+module _ (ex : Exercise) (path : List ℕ) (k : ℕ) (live : is_live_path ex path ≡ true) where
+  abbrev before : List Cell
+  before = newest_column (reverse (prefix_at ex path))
+
+  -- one whose column doesn't follow is dead
+  pub strays : (sheet : Sheet) → (ColumnFollows before (column_at ex path k) → ⊥) → live_at ex sheet (path ++ k ∷ []) ≡ None
+  strays sheet h = live_none ex sheet (path ++ k ∷ []) (live_goes_on ex path k live ∙ third_false (nat_lt (length path) (columns_in ex)) (nat_lt k (width_at ex path)) (column_follows before (column_at ex path k)) _ (at (column_follows before (column_at ex path k)) refl))
+    where
+      at : (b : Bool) → column_follows before (column_at ex path k) ≡ b → b ≡ false
+      at true e = absurd (h (follows_from_test before (column_at ex path k) e))
+      at false e = refl
+
+  -- one that settles a strict break is dead
+  pub breaks : (sheet : Sheet) → list_any (newly_broken ex (prefix_at ex path) (column_at ex path k)) rules_read ≡ true → live_at ex sheet (path ++ k ∷ []) ≡ None
+  breaks sheet h = live_none ex sheet (path ++ k ∷ []) (live_goes_on ex path k live ∙ last_false (nat_lt (length path) (columns_in ex)) (nat_lt k (width_at ex path)) (column_follows before (column_at ex path k)) _ h)
+
+  -- every other one is live
+  pub goes : length path < columns_in ex → k < width_at ex path → ColumnFollows before (column_at ex path k) → list_any (newly_broken ex (prefix_at ex path) (column_at ex path k)) rules_read ≡ false → is_live_path ex (path ++ k ∷ []) ≡ true
+  goes room within follows unbroken =
+      live_goes_on ex path k live
+      ∙ all_four (nat_lt (length path) (columns_in ex)) (nat_lt k (width_at ex path)) (column_follows before (column_at ex path k)) _
+      (test_from_below (length path) (columns_in ex) room) (test_from_below k (width_at ex path) within) (test_from_follows before (column_at ex path k) follows) unbroken
+
+-- the empty path is live
+pub begun_live : (ex : Exercise) → is_live_path ex [] ≡ true
+begun_live ex = live_from_parts ex [] record { room = least (columns_in ex); menus = refl; follows = refl; alive = refl }
+  where
+    least : (n : ℕ) → nat_le 0 n ≡ true
+    least n = grind (arith, nat_tests)

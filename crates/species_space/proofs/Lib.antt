@@ -1,0 +1,4 @@
+pub mod Alive
+pub mod Children
+pub mod Passed
+pub mod PathSteps

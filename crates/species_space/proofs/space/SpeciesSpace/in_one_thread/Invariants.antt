@@ -1,0 +1,11 @@
+-- What the making of menus keeps.
+use Rattle.std.proofs.Common.{◌≡◌, length}
+use Rattle.species_space.specs.Task.{AreMenus}
+use Rattle.species_space.proofs.space.SpeciesSpace.in_one_thread.Given as goal
+
+-- a menu for each column so far
+abbrev pub invariant-loop-i : goal.invariant-loop-i
+invariant-loop-i l = record {
+  counted : length l.menus.items ≡ l.i;
+  kept : AreMenus l.exercise l.menus.items;
+}

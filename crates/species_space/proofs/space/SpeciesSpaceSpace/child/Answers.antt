@@ -1,0 +1,14 @@
+use Rattle.std.proofs.Common.{◌<◌, length, sym, ◌∙◌, subst, arith}
+use Rattle.fux_grid.specs.Menus.{menu_of}
+use Rattle.species_space.specs.Paths.{prefix_at, length-columns_on}
+use Rattle.species_space.proofs.space.SpeciesSpaceSpace.child.Goals as goal
+
+pub column-column-requires-clause-at : goal.column-column-requires-clause-at
+column-column-requires-clause-at c =
+    let ex = c.args.self.now.exercise in
+    omega (arith, c.len.ensures ex (prefix_at ex c.requires.path) c.requires.at.state, length-columns_on ex 0 c.requires.path, c.requires.above)
+
+pub column-column-requires-clause-within : goal.column-column-requires-clause-within
+column-column-requires-clause-within c =
+    let ex = c.args.self.now.exercise in
+    subst (λ n. c.args.k < length (menu_of ex n)) (sym (c.len.ensures ex (prefix_at ex c.requires.path) c.requires.at.state ∙ length-columns_on ex 0 c.requires.path)) c.requires.within

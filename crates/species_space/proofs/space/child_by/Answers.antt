@@ -1,0 +1,93 @@
+use Rattle.std.proofs.Common.{◌≡◌, ℕ, ◌+◌, ◌<◌, List, [], ◌∷◌, ◌++◌, Some, length, slice_index_or, true≢false, ap, sym, ◌∙◌, subst, arith}
+use Rattle.std.specs.List.{list_any}
+use Rattle.std.proofs.lemmas.List.{length-append}
+use Rattle.fux_grid.specs.declared.cell.Cell.{Cell}
+use Rattle.fux_grid.specs.declared.exercise.Exercise.{Exercise}
+use Rattle.fux_grid.specs.Columns.{ColumnFollows}
+use Rattle.fux_grid.specs.Exercises.{columns_in}
+use Rattle.fux_grid.specs.Menus.{menu_of}
+use Rattle.fux_grid.proofs.MenuLemmas.{menu_of-full}
+use Rattle.rule_law.specs.Voices.{has_rule}
+use Rattle.fux_judge.specs.Rules.{rules_read}
+use Rattle.fux_judge.specs.Grows.{newly_broken}
+use Rattle.fux_judge.specs.Penalties.{paid}
+use Rattle.fux_judge.specs.States.{IsStateOf}
+use Rattle.species_space.specs.Grows.{live_some}
+use Rattle.species_space.specs.Paths.{prefix_at, column_at, width_at, live_parts, prefix_at-append}
+use Rattle.species_space.proofs.Alive.{alive_orderly, any_read}
+use Rattle.species_space.proofs.Children.{as_long, strays, breaks, goes}
+use Rattle.species_space.proofs.space.child_by.Goals as goal
+
+-- the column is the one that the number chooses after the path
+abbrev chosen : (ex : Exercise) (path : List ℕ) (k n : ℕ) (items : List Cell) → n ≡ length path → items ≡ slice_index_or (menu_of ex n) k [] → items ≡ column_at ex path k
+chosen ex path k n items e f = f ∙ ap (λ i. slice_index_or (menu_of ex i) k []) e
+
+pub returns-then-not-cells_follow : goal.returns-then-not-cells_follow
+returns-then-not-cells_follow c = λ path at.
+    let ex = c.args.exercise.now in
+    let k = c.args.k in
+    let same = c.as_slice.ensures.value ∙ chosen ex path k c.args.node.now.state.len c.args.column.now.items (as_long ex c.args.sheet.now c.args.node.now path at) c.requires.column in
+    strays ex path k at.is_live c.args.sheet.now
+    (λ follows.
+    let P : List Cell → List Cell → Type 0 = λ b n. ColumnFollows b n in
+    let there : ColumnFollows c.before-before.result.now c.as_slice.result.now = subst (P c.before-before.result.now) (sym same) (subst (λ b. P b (column_at ex path k)) (sym (c.before-before.ensures (prefix_at ex path) at.state)) follows) in
+    true≢false (sym (c.cells_follow.ensures.1 there) ∙ c.if-not-cells_follow.true))
+
+pub step-verdict-requires-clause-room : goal.step-verdict-requires-clause-room
+step-verdict-requires-clause-room c =
+    let child = c.requires.child in
+    omega (arith, as_long c.args.exercise.now c.args.sheet.now c.args.node.now child.path child.at, child.above)
+
+pub step-verdict-requires-clause-full : goal.step-verdict-requires-clause-full
+step-verdict-requires-clause-full c =
+    let ex = c.args.exercise.now in
+    let child = c.requires.child in
+    let same = chosen ex child.path c.args.k c.args.node.now.state.len c.args.column.now.items (as_long ex c.args.sheet.now c.args.node.now child.path child.at) c.requires.column in
+    ap length same ∙ menu_of-full ex (length child.path) c.args.k [] child.within
+
+pub returns-then-breaks : goal.returns-then-breaks
+returns-then-breaks c = λ path at.
+    let ex = c.args.exercise.now in
+    let k = c.args.k in
+    let p = prefix_at ex path in
+    let same = chosen ex path k c.args.node.now.state.len c.args.column.now.items (as_long ex c.args.sheet.now c.args.node.now path at) c.requires.column in
+    let broken = c.step-verdict.result.broken.bits in
+    let orderly = alive_orderly ex p c.requires.valid.most_voices (live_parts ex path at.is_live).alive in
+    breaks ex path k at.is_live c.args.sheet.now
+    (ap (λ col. list_any (newly_broken ex p col) rules_read) (sym same)
+    ∙ sym (any_read (has_rule broken) (newly_broken ex p c.args.column.now.items) (c.step-verdict.ensures.broken p at.state orderly))
+    ∙ sym c.breaks.ensures ∙ c.if-breaks.true)
+
+pub returns : goal.returns
+returns c = λ path at.
+    let ex = c.args.exercise.now in
+    let sheet = c.args.sheet.now in
+    let k = c.args.k in
+    let p = prefix_at ex path in
+    let child = c.requires.child in
+    let long = as_long ex sheet c.args.node.now path at in
+    let longer = as_long ex sheet c.args.node.now child.path child.at in
+    let room : length path < columns_in ex = omega (arith, long, longer, child.above) in
+    let same_length : length child.path ≡ length path = sym longer ∙ long in
+    let within : k < width_at ex path = subst (λ n. k < length (menu_of ex n)) same_length child.within in
+    let same = chosen ex path k c.args.node.now.state.len c.args.column.now.items long c.requires.column in
+    let broken = c.step-verdict.result.broken.bits in
+    let orderly = alive_orderly ex p c.requires.valid.most_voices (live_parts ex path at.is_live).alive in
+    let unbroken =
+    ap (λ col. list_any (newly_broken ex p col) rules_read) (sym same)
+    ∙ sym (any_read (has_rule broken) (newly_broken ex p c.args.column.now.items) (c.step-verdict.ensures.broken p at.state orderly))
+    ∙ sym c.breaks.ensures ∙ c.if-breaks.false in
+    let before = c.before-before.ensures p at.state in
+    let there = subst (λ b. ColumnFollows b (column_at ex path k)) before (subst (ColumnFollows c.before-before.result.now) (c.as_slice.ensures.value ∙ same) (c.cells_follow.ensures.0 c.if-not-cells_follow.false)) in
+    let live = goes ex path k at.is_live room within there unbroken in
+    let next : p ++ c.args.column.now.items ∷ [] ≡ prefix_at ex (path ++ k ∷ []) = ap (λ col. p ++ col ∷ []) same ∙ sym (prefix_at-append ex path k) in
+    let cost : c.args.node.now.paid + c.step-verdict.result.paid ≡ paid ex sheet (prefix_at ex (path ++ k ∷ [])) =
+    ap (λ n. n + c.step-verdict.result.paid) at.paid ∙ sym (c.step-verdict.ensures.paid p at.state) ∙ ap (paid ex sheet) next in (
+      record {
+        state = subst (λ q. IsStateOf ex q c.step-verdict.result.state) next (c.step-verdict.ensures.state p at.state);
+        is_live = live;
+        paid = cost;
+        small = omega (arith, at.small, c.step-verdict.ensures.bound, length-append path (k ∷ []));
+      },
+      live_some ex sheet (path ++ k ∷ []) live ∙ ap Some (sym cost),
+    )

@@ -1,0 +1,7 @@
+pub mod Best
+pub mod Exact
+pub mod Grows
+pub mod Leaves
+pub mod Nodes
+pub mod Paths
+pub mod Task

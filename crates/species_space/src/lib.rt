@@ -1,0 +1,10 @@
+//! Counterpoint as a tree: its live paths are the live prefixes of an exercise, and its leaves the lawful settings.
+#![tactic(auto)]
+
+mod node;
+mod score;
+mod space;
+
+pub use node::Node;
+pub use score::score_of;
+pub use space::{SpeciesSpace, TableFault};

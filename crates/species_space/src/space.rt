@@ -1,0 +1,221 @@
+//! The tree of the settings of an exercise.
+
+ghost use Rattle.std.specs.Prelude.{◌≡◌, ◌<◌, ◌≤◌, ℕ, List, [], ◌∷◌, ◌++◌, OnOk, IfOk, IfErr, MatchOption, length, slice_index_or};
+ghost use Rattle.fux_grid.specs.Exercises.{IsValid, columns_in, bar_of, slot_of};
+ghost use Rattle.fux_grid.specs.Columns.{ColumnFollows};
+ghost use Rattle.fux_grid.specs.Grid.{items_of};
+ghost use Rattle.fux_grid.specs.Menus.{menu_of};
+ghost use Rattle.species_space.specs.Grows.{paths_grow};
+ghost use Rattle.species_space.specs.Nodes.{IsNodeOf};
+ghost use Rattle.species_space.specs.Paths.{live_at, width_at};
+ghost use Rattle.species_space.specs.Task.{TellsWidth};
+ghost use Rattle.tree_search.specs.Space.{HasChild};
+
+use crate::node::Node;
+use fux_grid::{Cell, Column, Exercise, MenuFault, Place, cells_follow, menu};
+use fux_judge::{State, step};
+use fux_pitch::Memory;
+use penalty_sheet::Sheet;
+use std::alloc::{AllocFailed, Global};
+use std::marker::Model;
+use std::thread::Threads;
+use tree_search::Space;
+
+/// Why there are no tables for an exercise.
+#[derive(Clone, Copy, Debug, PartialEq, Eq)]
+pub enum TableFault {
+    /// A menu has more than 8,192 columns: the first such place, and how many it has.
+    TooWide { place: Place, count: u64 },
+    Memory,
+}
+
+/// The settings of an exercise as a tree: a child adds the column of its number, counted from 0, in the menu of the next column. A child is dead where
+/// its column doesn't follow, or where a strict break is settled by it.
+#[derive(Drop)]
+pub struct SpeciesSpace<'a> {
+    exercise: &'a Exercise,
+    sheet: &'a Sheet,
+    menus: Vec<Vec<Column>>,
+}
+
+impl<'a> Model for SpeciesSpace<'a> {
+    ghost use Rattle.species_space.specs.Task.{Task, IsReady};
+
+    ghost Value = { Task };
+
+    ghost view = { λ s. record { exercise = s.exercise.now; sheet = s.sheet.now } };
+
+    ghost invariant = { λ s. IsReady s.exercise.now s.menus.items };
+}
+
+/// The place of a column.
+fn place_of(i: usize) -> Place
+    requires { i < 192 }
+    ensures bar { result.bar ≡ bar_of i }
+    ensures slot { result.slot ≡ slot_of i }
+{
+    Place {
+        bar: (i / 8 + 1) as u8,
+        slot: (i % 8) as u8,
+    }
+}
+
+impl<'a> SpeciesSpace<'a> {
+    /// The space of an exercise by a sheet. It keeps the menus, so that nothing after it takes memory.
+    pub fn new<R: Threads + Sync>(
+        _rt: &R,
+        alloc: Global,
+        exercise: &'a Exercise,
+        sheet: &'a Sheet,
+    ) -> Result<SpeciesSpace<'a>, TableFault>
+        requires { IsValid exercise.now }
+        ensures made { IfOk result (λ space. space ≡ record { exercise = exercise.entry.now; sheet = sheet.entry.now }) }
+        ensures narrow { OnOk result ((i : ℕ) → i < columns_in exercise.entry.now → length (menu_of exercise.entry.now i) ≤ 8192) }
+        ensures wide { IfErr result (TellsWidth exercise.entry.now) }
+    {
+        SpeciesSpace::in_one_thread(alloc, exercise, sheet)
+    }
+
+    /// The same, made in one thread.
+    pub fn in_one_thread(
+        alloc: Global,
+        exercise: &'a Exercise,
+        sheet: &'a Sheet,
+    ) -> Result<SpeciesSpace<'a>, TableFault>
+        requires { IsValid exercise.now }
+        ensures made { IfOk result (λ space. space ≡ record { exercise = exercise.entry.now; sheet = sheet.entry.now }) }
+        ensures narrow { OnOk result ((i : ℕ) → i < columns_in exercise.entry.now → length (menu_of exercise.entry.now i) ≤ 8192) }
+        ensures wide { IfErr result (TellsWidth exercise.entry.now) }
+    {
+        let columns = 8 * exercise.bars as usize;
+        let mut menus = Vec::with_capacity(alloc, columns).map_err(|_| TableFault::Memory)?;
+        for i in 0..columns {
+            match menu(alloc, exercise, i) {
+                Ok(choices) => menus.push(choices).map_err(|_| TableFault::Memory)?,
+                Err(MenuFault::TooWide { count }) => {
+                    return Err(TableFault::TooWide {
+                        place: place_of(i),
+                        count,
+                    });
+                }
+                Err(MenuFault::Memory) => return Err(TableFault::Memory),
+            }
+        }
+        Ok(SpeciesSpace {
+            exercise,
+            sheet,
+            menus,
+        })
+    }
+
+    /// How many voices there are.
+    pub(crate) fn voices(&self) -> u8
+        ensures value { result ≡ self.now.exercise.voices }
+        ensures fewest { 2 ≤ result }
+        ensures most { result ≤ 4 }
+    {
+        self.exercise.voices
+    }
+
+    /// The column of a number in the menu of column i.
+    pub(crate) fn column(&self, i: usize, k: usize) -> &Column
+        requires at { i < columns_in self.now.exercise }
+        requires within { k < length (menu_of self.now.exercise i) }
+        ensures { result.now.items ≡ slice_index_or (menu_of self.now.exercise i) k [] }
+    {
+        &self.menus[i][k]
+    }
+
+    /// The menu of column i.
+    fn menu(&self, i: usize) -> &[Column]
+        requires { i < columns_in self.now.exercise }
+        ensures value { items_of result.now ≡ menu_of self.now.exercise i }
+        ensures narrow { length result.now ≤ 8192 }
+    {
+        self.menus[i].as_slice()
+    }
+}
+
+impl<'a> Space for SpeciesSpace<'a> {
+    type Node = Node;
+
+    ghost live = { λ space. live_at space.exercise space.sheet };
+
+    ghost width = { λ space. width_at space.exercise };
+
+    ghost height = { λ space. columns_in space.exercise };
+
+    ghost is_at = { λ space. IsNodeOf space.exercise space.sheet };
+
+    ghost floors_grow = { λ space. paths_grow space.exercise space.sheet };
+
+    fn depth(&self) -> usize {
+        8 * self.exercise.bars as usize
+    }
+
+    fn root(&self) -> Option<(Node, u64)> {
+        let state = State::start(self.exercise);
+        Some((Node { state, paid: 0 }, 0))
+    }
+
+    fn count(&self, node: &Node) -> usize {
+        self.menu(node.state.len()).len()
+    }
+
+    fn child(&self, node: &Node, k: usize) -> Option<(Node, u64)> {
+        let column = self.column(node.state.len(), k);
+        child_by(self.exercise, self.sheet, node, k, column)
+    }
+
+    fn next_child(&self, node: &Node, from: usize) -> usize {
+        let before = node.state.before(self.exercise);
+        next_that_follows(self.menu(node.state.len()), before, from)
+    }
+}
+
+/// The child of this number and column, with its floor, where it is live.
+fn child_by(
+    exercise: &Exercise,
+    sheet: &Sheet,
+    node: &Node,
+    k: usize,
+    column: &Column,
+) -> Option<(Node, u64)>
+    requires valid { IsValid exercise.now }
+    requires child { HasChild (IsNodeOf exercise.now sheet.now node.now) (columns_in exercise.now) (width_at exercise.now) k }
+    requires column { column.now.items ≡ slice_index_or (menu_of exercise.now node.now.state.len) k [] }
+    ensures { (path : List ℕ) → IsNodeOf exercise.now sheet.now node.now path → MatchOption result
+        (live_at exercise.now sheet.now (path ++ k ∷ []) ≡ None)
+        (λ entry. IsNodeOf exercise.now sheet.now entry.0 (path ++ k ∷ []) × (live_at exercise.now sheet.now (path ++ k ∷ []) ≡ Some entry.1)) }
+{
+    let before = node.state.before(exercise);
+    if !cells_follow(before, column.as_slice()) {
+        return None;
+    }
+    let verdict = step(exercise, sheet, &node.state, column);
+    if verdict.breaks() {
+        return None;
+    }
+    let paid = node.paid + verdict.paid;
+    let child = Node {
+        state: verdict.state,
+        paid,
+    };
+    Some((child, paid))
+}
+
+/// The first column of a menu, from this number on, that may follow; the menu's length where there is none.
+fn next_that_follows(menu: &[Column], before: &[Cell], from: usize) -> usize
+    ensures onward { from ≤ result }
+    ensures passed { (k : ℕ) → from ≤ k → k < result → k < length menu.now → ColumnFollows before.now (slice_index_or (items_of menu.now) k []) → ⊥ }
+    ensures within { from ≤ length menu.now → result ≤ length menu.now }
+{
+    let mut k = from;
+    while k < menu.len() {
+        if cells_follow(before, menu[k].as_slice()) {
+            return k;
+        }
+        k += 1;
+    }
+    k
+}
