@@ -1,0 +1,4 @@
+pub mod Cantus
+pub mod Lists
+pub mod Marks
+pub mod Setting
