@@ -1,0 +1,4 @@
+pub mod CountSteps
+pub mod ItemLemmas
+pub mod TextParts
+pub mod WordLemmas

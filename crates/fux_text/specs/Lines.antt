@@ -1,0 +1,104 @@
+-- The lines of the canonical note text.
+use Rattle.std.specs.Prelude.{ℕ, ◌/◌, ◌%◌, ◌^◌, ◌==◌, List, [], ◌∷◌, ◌++◌, Bool, not, Option, Some, None, codes, filter, map, length}
+use Rattle.std.specs.List.{flat_map, join_with_byte, range_with_len}
+use Rattle.std.specs.Fmt.{decimal}
+use Rattle.fux_pitch.specs.declared.mode.Mode.{Mode}
+use Rattle.fux_pitch.specs.declared.mode.Mode.TheVariants.{Dorian, Phrygian, Lydian, Mixolydian, Aeolian, Ionian}
+use Rattle.fux_pitch.specs.Names.{name_of}
+use Rattle.fux_grid.specs.declared.cell.Cell.{Cell}
+use Rattle.fux_grid.specs.declared.exercise.Exercise.{Exercise}
+use Rattle.fux_grid.specs.declared.exercise.RangeLine.{RangeLine}
+use Rattle.fux_grid.specs.declared.exercise.Relax.{Relax}
+use Rattle.fux_grid.specs.declared.exercise.VoiceSet.{VoiceSet}
+use Rattle.fux_grid.specs.Columns.{line}
+use Rattle.fux_grid.specs.Grid.{Grid}
+use Rattle.fux_grid.specs.Letters.{bar_columns}
+use Rattle.fux_text.specs.Items.{items_of_cells, item_word}
+use Rattle.fux_text.specs.Words.{text_line, text_of}
+
+-- the name of a mode
+abbrev pub mode_name : Mode → List ℕ
+mode_name Dorian = codes "dorian"
+mode_name Phrygian = codes "phrygian"
+mode_name Lydian = codes "lydian"
+mode_name Mixolydian = codes "mixolydian"
+mode_name Aeolian = codes "aeolian"
+mode_name Ionian = codes "ionian"
+
+-- the lines before the cantus
+abbrev pub head_lines : Exercise → List (List (List ℕ))
+head_lines ex =
+    (codes "fux" ∷ codes "1" ∷ [])
+    ∷ (codes "mode" ∷ mode_name ex.mode ∷ [])
+    ∷ (codes "voices" ∷ decimal ex.voices ∷ [])
+    ∷ (codes "bars" ∷ decimal ex.bars ∷ [])
+    ∷ (codes "species" ∷ decimal ex.species ∷ codes "voice" ∷ decimal ex.species_voice ∷ [])
+    ∷ []
+
+-- the words of the cantus: its voice, and a pitch for each bar
+abbrev pub cantus_words : Exercise → List (List ℕ)
+cantus_words ex = codes "cantus" ∷ decimal ex.cantus_voice ∷ map name_of ex.cantus
+
+-- the bars of a line, where it is of some bars alone
+abbrev pub bars_words : Option (ℕ × ℕ) → List (List ℕ)
+bars_words None = []
+bars_words (Some bars) = decimal bars.0 ∷ decimal bars.1 ∷ []
+
+-- the words of a range line
+abbrev pub range_words : RangeLine → List (List ℕ)
+range_words line = codes "range" ∷ decimal line.voice ∷ name_of line.low ∷ name_of line.high ∷ bars_words line.bars
+
+-- a voice is in the set of these bits
+abbrev pub has_voice : ℕ → ℕ → Bool
+has_voice bits v = (bits / 2 ^ v) % 2 == 1
+
+-- the voices of a relax line: all, or their numbers with commas between them
+abbrev pub voices_word : Option VoiceSet → List ℕ
+voices_word None = codes "all"
+voices_word (Some set) = join_with_byte 44 (map decimal (filter (has_voice set.bits) (range_with_len 0 4)))
+
+-- the words of a relax line
+abbrev pub relax_words : Relax → List (List ℕ)
+relax_words line = codes "relax" ∷ (codes "S" ++ decimal line.rule) ∷ voices_word line.voices ∷ decimal line.from ∷ decimal line.to ∷ decimal line.price ∷ []
+
+-- the lines of an exercise, without a setting
+abbrev pub exercise_lines : Exercise → List (List (List ℕ))
+exercise_lines ex = head_lines ex ++ cantus_words ex ∷ map range_words ex.ranges ++ map relax_words ex.relax
+
+-- the bars of a list of columns
+abbrev pub bars_of : List (List Cell) → List (List (List Cell))
+bars_of columns = map (bar_columns columns) (range_with_len 1 (length columns / 8))
+
+-- the words of a voice in a bar
+abbrev pub bar_words : ℕ → List (List Cell) → List (List ℕ)
+bar_words v bar = map item_word (items_of_cells (line v bar))
+
+-- the words of bars, with the word `|` between each two
+abbrev pub between_bar_lines : List (List (List ℕ)) → List (List ℕ)
+between_bar_lines [] = []
+between_bar_lines (bar ∷ bars) = bar ++ flat_map (λ other. codes "|" ∷ other) bars
+
+-- the words of a voice in a setting
+abbrev pub sing_words : ℕ → List (List Cell) → List (List ℕ)
+sing_words v columns = codes "sing" ∷ decimal v ∷ between_bar_lines (map (bar_words v) (bars_of columns))
+
+-- the free voices, from the lowest
+abbrev pub free_voices : Exercise → List ℕ
+free_voices ex = filter (λ v. not (v == ex.cantus_voice)) (range_with_len 0 ex.voices)
+
+-- the `sing` line of a voice
+unfoldable pub sing_text : ℕ → List (List Cell) → List ℕ
+sing_text v columns = text_line (sing_words v columns)
+
+-- the text of an exercise, without a setting
+unfoldable pub exercise_text : Exercise → List ℕ
+exercise_text ex = text_of (exercise_lines ex)
+
+-- the text of an exercise with a setting
+unfoldable pub setting_text : Exercise → List (List Cell) → List ℕ
+setting_text ex columns = exercise_text ex ++ flat_map (λ v. sing_text v columns) (free_voices ex)
+
+-- the text of an exercise, with a setting or without
+abbrev pub note_text : Exercise → Option Grid → List ℕ
+note_text ex None = exercise_text ex
+note_text ex (Some score) = setting_text ex score.columns
