@@ -4,6 +4,8 @@
 mod node;
 mod score;
 mod space;
+#[cfg(test)]
+mod tests;
 
 pub use node::Node;
 pub use score::score_of;
