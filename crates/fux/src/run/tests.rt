@@ -15,6 +15,10 @@ const EXERCISE: &str =
 const COMPOSED: &str =
     "fux 1\nmode dorian\nvoices 2\nbars 3\nspecies 1 voice 1\ncantus 0 D4 E4 D4\nrange 1 A4 D5\nsing 1 D5:8 | C5:8 | D5:8\n; penalty 0\n";
 
+/// The same exercise with a range in which the last bar has no octave.
+const NARROW: &str =
+    "fux 1\nmode dorian\nvoices 2\nbars 3\nspecies 1 voice 1\ncantus 0 D4 E4 D4\nrange 1 A4 B4\n";
+
 /// A cantus firmus with two leaps that are no melodic moves, and no step at its end.
 const LEAPING: &str =
     "fux 1\nmode dorian\nvoices 2\nbars 3\nspecies 1 voice 1\ncantus 0 D4 B4 D4\nrange 1 A4 D5\n";
@@ -104,6 +108,7 @@ fn a_run_says_why_it_stops(rt: HostRuntime) -> Result<(), Fail> {
 fn a_run_writes_what_it_finds(rt: HostRuntime) -> Result<(), Fail> {
     let cases = [
         ("compose", EXERCISE, 0, COMPOSED),
+        ("compose", NARROW, 1, "none\n"),
         ("mark", SETTING, 0, "marks 0\n"),
         ("mark", FIFTHS, 1, FIFTHS_MARKS),
         ("cantus", EXERCISE, 0, "marks 0\n"),
@@ -119,6 +124,37 @@ fn a_run_writes_what_it_finds(rt: HostRuntime) -> Result<(), Fail> {
         assert_eq!(rt; out.bytes(), output.as_bytes(), "{command} {text}");
         assert_eq!(rt; got, status, "{command} {text}");
         assert_eq!(rt; err.bytes(), b"".as_slice(), "{command} {text}");
+    }
+    Ok(())
+}
+
+/// Texts that are none, for one reason each.
+const BROKEN: [&[u8]; 11] = [
+    b"",
+    b"\xff\xfe",
+    b"fux 1\nmode dorian\nvoices 2\nbars 3\nspecies 1 voice 1\ncantus 0 D4 E4 D4\nrange 1 A4 D5",
+    b"fux 1\r\nmode dorian\nvoices 2\nbars 3\nspecies 1 voice 1\ncantus 0 D4 E4 D4\nrange 1 A4 D5\n",
+    b"fux 1\nmode dorian\nvoices 2\nbars 3\nspecies 1 voice 1\ncantus 0 D4 E4 D4\nrange 1 A4 D5\n\0",
+    b"fux 1\nmode dorian\nvoices 2\nbars 3\nspecies 1 voice 1\ncantus 0 D4 E4 D4\nrange 1 D5 A4\n",
+    b"fux 1\nmode dorian\nvoices 2\nbars 2\nspecies 1 voice 1\ncantus 0 D4 D4\nrange 1 A4 D5\n",
+    b"fux 1\nmode dorian\nvoices 2\nbars 25\nspecies 1 voice 1\ncantus 0 D4 E4 D4\nrange 1 A4 D5\n",
+    b"fux 1\nmode dorian\nvoices 2\nbars 3\nspecies 1 voice 1\ncantus 0 D4 D4\nrange 1 A4 D5\n",
+    b"fux 1\nmode dorian\nvoices 2\nbars 3\nspecies 1 voice 1\ncantus 0 D4 E4 E4 D4\nrange 1 A4 D5\n",
+    b"fux 1\nmode dorian\nvoices 2\nbars 3\nspecies 1 voice 1\ncantus 0 D4 E9 D4\nrange 1 A4 D5\n",
+];
+
+#[test]
+fn a_run_refuses_broken_texts(rt: HostRuntime) -> Result<(), Fail> {
+    let words = to_words(rt.alloc(), &["compose", "A"])?;
+    for text in BROKEN {
+        let mut shelf = MemShelf::new(rt.alloc(), &[])?;
+        shelf.put("A", text)?;
+        let mut out = MemSink::new(rt.alloc(), 1000, 1000, &[])?;
+        let mut err = MemSink::new(rt.alloc(), 1000, 1000, &[])?;
+        let got = run(&rt, rt.alloc(), &words, &mut shelf, &mut out, &mut err);
+        assert_eq!(rt; got, 3, "{text:?}");
+        assert_eq!(rt; out.bytes(), b"".as_slice(), "{text:?}");
+        assert_eq!(rt; err.bytes(), b"fux: A: form\n".as_slice(), "{text:?}");
     }
     Ok(())
 }
