@@ -1,0 +1,279 @@
+//! Settings that are judged column by column, beside a plain reading of every rule and toll over the whole score.
+
+ghost use Rattle.fux_grid.specs.Exercises.{IsValid};
+
+use crate::{breaks_of, charges};
+use arrayvec::ArrayVec;
+use fux_grid::{Cell, Exercise, RangeLine, Relax, Score, VoiceSet};
+use fux_judge::{State, penalty, step};
+use fux_pitch::{List, Mode, Pitch, parse_pitch};
+use penalty_sheet::{Sheet, default_sheet};
+use std::alloc::Global;
+use std::process::Abort;
+use std::test::Fail;
+
+/// A relax line for all bars: its rule, the bits of its voices or 0 for all, and its price.
+type Line = (u8, u8, u16);
+
+/// A setting: its species, the voice of its cantus, the cantus, the relax lines, the lines of the voices, the lowest
+/// first, and its penalty by the default sheet where that is known.
+type Setting = (
+    u8,
+    u8,
+    &'static str,
+    &'static [Line],
+    &'static [&'static str],
+    Option<u64>,
+);
+
+fn pitch(name: &str) -> Result<Pitch, Fail> {
+    Ok(parse_pitch(name.as_bytes()).ok_or("no pitch")?)
+}
+
+fn exercise(
+    alloc: Global,
+    voices: u8,
+    species: u8,
+    cantus_voice: u8,
+    cantus: &str,
+    lines: &[Line],
+) -> Result<Exercise, Fail> {
+    let mut pitches = Vec::new(alloc);
+    for name in cantus.split(' ') {
+        pitches.push(pitch(name)?)?;
+    }
+    let bars = u8::try_from(pitches.len())?;
+    let (low, high) = (pitch("C3")?, pitch("D6")?);
+    let mut ranges = Vec::new(alloc);
+    for voice in 0..voices {
+        if voice != cantus_voice {
+            ranges.push(RangeLine {
+                voice,
+                low,
+                high,
+                bars: None,
+            })?;
+        }
+    }
+    let mut relax = Vec::new(alloc);
+    for &(rule, bits, price) in lines {
+        relax.push(Relax {
+            rule,
+            voices: if bits == 0 {
+                None
+            } else {
+                Some(VoiceSet { bits })
+            },
+            from: 1,
+            to: bars,
+            price,
+        })?;
+    }
+    Ok(Exercise {
+        mode: Mode::Dorian,
+        voices,
+        bars,
+        species,
+        species_voice: 1,
+        cantus_voice,
+        cantus: List::new(pitches),
+        ranges: List::new(ranges),
+        relax: List::new(relax),
+        setting: None,
+    })
+}
+
+/// The cells of notes and rests, each with its number of columns, as in `D4:8 r:4 E4:4`.
+fn cells(alloc: Global, line: &str) -> Result<Vec<Cell>, Fail> {
+    let mut cells = Vec::new(alloc);
+    for word in line.split(' ') {
+        let (name, slots) = word.split_once(':').ok_or("no length")?;
+        for k in 0..slots.parse::<u8>()? {
+            cells.push(if name == "r" {
+                Cell::Rest
+            } else if k == 0 {
+                Cell::Start(pitch(name)?)
+            } else {
+                Cell::Hold(pitch(name)?)
+            })?;
+        }
+    }
+    Ok(cells)
+}
+
+fn score(alloc: Global, lines: &[&str]) -> Result<Score, Fail> {
+    let mut voices = Vec::new(alloc);
+    for line in lines {
+        voices.push(cells(alloc, line)?)?;
+    }
+    let count = u8::try_from(lines.len())?;
+    if count < 2 || count > 4 {
+        return Err("so many voices".into());
+    }
+    let mut score = Score::new(alloc, count)?;
+    let columns = voices.first().map_or(0, |line| line.len());
+    for i in 0..columns {
+        let mut column = ArrayVec::new();
+        for line in &voices {
+            column.try_push(line.get(i).copied().unwrap_or_default())?;
+        }
+        score.push(column)?;
+    }
+    Ok(score)
+}
+
+/// Judges a score column by column, each as the plain reading does, and answers what is paid of it. Of S3 a break is
+/// settled before its bar is whole, so it is left out.
+fn walk(rt: &impl Abort, ex: &Exercise, sheet: &Sheet, score: &Score) -> u64
+    requires valid { IsValid ex.now }
+{
+    assert!(rt; score.voices() == ex.voices && score.len() == 8 * usize::from(ex.bars));
+    let mut state = State::start(ex);
+    let mut sum = 0u64;
+    for i in 0..score.len() {
+        assert!(rt; state.len() == i && i < 8 * usize::from(ex.bars));
+        let verdict = step(ex, sheet, &state, score.column(i));
+        let mut wanted = charges(ex, sheet, score, i);
+        for rule in 0..32u8 {
+            if rule != 3 {
+                let (strict, prices) = breaks_of(rule, ex, score, i);
+                assert_eq!(rt; verdict.broken.has(rule), strict, "S{rule} at {i}");
+                wanted = wanted.saturating_add(prices);
+            }
+        }
+        assert_eq!(rt; verdict.paid, wanted, "column {i}");
+        state = verdict.state;
+        sum = sum.saturating_add(verdict.paid);
+    }
+    sum
+}
+
+const CANTUS: &str = "D4 E4 D4";
+
+const LINE: &str = "D4:8 E4:8 D4:8";
+
+const LONG_CANTUS: &str = "D4 F4 E4 D4 G4 F4 A4 G4 F4 E4 D4";
+
+const LONG_LINE: &str = "D4:8 F4:8 E4:8 D4:8 G4:8 F4:8 A4:8 G4:8 F4:8 E4:8 D4:8";
+
+const SHORT_CANTUS: &str = "D4 F4 E4 D4";
+
+const SHORT_LINE: &str = "D4:8 F4:8 E4:8 D4:8";
+
+#[test]
+fn columns_are_judged_as_the_whole_score(rt: HostRuntime) -> Result<(), Fail> {
+    let table: [Setting; 12] = [
+        (1, 0, CANTUS, &[], &[LINE, "D5:8 C5:8 D5:8"], Some(0)),
+        (1, 0, CANTUS, &[], &[LINE, "D5:8 C#5:8 D5:8"], Some(0)),
+        // a leap of a third, and one direct motion
+        (1, 0, CANTUS, &[], &[LINE, "A4:8 C#5:8 D5:8"], Some(3)),
+        (
+            1,
+            0,
+            LONG_CANTUS,
+            &[],
+            &[
+                LONG_LINE,
+                "A4:8 A4:8 G4:8 A4:8 B4:8 C5:8 C5:8 B4:8 D5:8 C#5:8 D5:8",
+            ],
+            Some(19),
+        ),
+        // fifths from bar 4 to bar 6, strict by S17 and relaxed by S16
+        (
+            1,
+            0,
+            LONG_CANTUS,
+            &[(16, 0, 50), (16, 3, 9)],
+            &[
+                LONG_LINE,
+                "A4:8 A4:8 G4:8 A4:8 D5:8 C5:8 C5:8 B4:8 D5:8 C#5:8 D5:8",
+            ],
+            None,
+        ),
+        (
+            2,
+            0,
+            "D4 A4 G4 F4 D4 E4 D4",
+            &[(10, 3, 7)],
+            &[
+                "D4:8 A4:8 G4:8 F4:8 D4:8 E4:8 D4:8",
+                "D5:4 B4:4 C5:4 A4:4 D5:4 B4:4 C5:4 A4:4 B4:4 D5:4 B4:4 C#5:4 D5:8",
+            ],
+            None,
+        ),
+        // a repetition, bad moves and a wide span within the bars
+        (
+            3,
+            0,
+            CANTUS,
+            &[(4, 0, 12), (9, 2, 10_000), (14, 3, 1)],
+            &[LINE, "D5:2 D5:2 F5:2 B5:2 B4:2 C5:2 E4:2 C#5:2 D5:8"],
+            None,
+        ),
+        (
+            4,
+            0,
+            SHORT_CANTUS,
+            &[(14, 0, 3)],
+            &[SHORT_LINE, "r:4 A4:8 D5:8 C#5:4 D5:8"],
+            None,
+        ),
+        (
+            5,
+            0,
+            SHORT_CANTUS,
+            &[(8, 2, 6), (14, 0, 3)],
+            &[SHORT_LINE, "r:4 A4:8 C5:2 D5:2 B4:2 A4:1 B4:1 C#5:4 D5:8"],
+            None,
+        ),
+        // no cantus to be heard
+        (
+            1,
+            0,
+            CANTUS,
+            &[(12, 4, 5), (24, 0, 8)],
+            &["r:24", "A4:8 B4:8 D5:8", "D5:8 D5:8 D5:8"],
+            None,
+        ),
+        // parallel octaves of the voices 1 and 3
+        (
+            1,
+            2,
+            CANTUS,
+            &[(16, 10, 30)],
+            &["D3:8 A3:8 D3:8", "A3:8 C#4:8 D4:8", LINE, "D5:8 C#5:8 D5:8"],
+            None,
+        ),
+        // four voices on one key
+        (
+            1,
+            0,
+            "D5 D5 D5",
+            &[(11, 12, 4), (5, 4, 2)],
+            &[
+                "D5:8 D5:8 D5:8",
+                "D5:8 D5:8 D5:8",
+                "D5:8 D5:8 D5:8",
+                "D5:8 D5:8 D5:8",
+            ],
+            None,
+        ),
+    ];
+    let sheet = default_sheet();
+    for (species, cantus_voice, cantus, relax, lines, wanted) in table {
+        let score = score(rt.alloc(), lines)?;
+        let ex = exercise(
+            rt.alloc(),
+            score.voices(),
+            species,
+            cantus_voice,
+            cantus,
+            relax,
+        )?;
+        assert!(rt; ex.is_valid());
+        let paid = walk(&rt, &ex, &sheet, &score);
+        assert_eq!(rt; penalty(&ex, &sheet, &score), Some(paid), "{lines:?}");
+        assert_eq!(rt; wanted.unwrap_or(paid), paid, "{lines:?}");
+    }
+    Ok(())
+}
