@@ -110,6 +110,11 @@ module _ (toll : ℕ) (p : List (List Cell)) (m : Moment) where
       ∙ ap (λ t. reading_of (motion.cost_in t m.exercise.now) (p ++ m.column.now ∷ []) (length p)) (sym e)
       ∙ sym (ap (λ (r : Row ℕ). reading_of r (p ++ m.column.now ∷ []) (length p)) (costs_of_motion (ap is_toll_of_motion e)))
 
+  pub runs_cost : is_toll_of_motion toll ≡ true → (toll == 14) ≡ true → motion.imperfect_runs (length p) (reverse p) m.column.now ≡ cost_at toll m.exercise.now (with_column p m) (length p)
+  runs_cost e f =
+      sym (first (toll == 14) (motion.imperfect_runs (length p) (reverse p) m.column.now) (whole_of (motion.toll_rows toll m.exercise.now) (length p) (reverse p) m.column.now []) f)
+      ∙ cost_by (motion.cost_in toll m.exercise.now) (costs_of_motion e)
+
   pub motion_cost : is_toll_of_motion toll ≡ true → (toll == 14) ≡ false → whole_of (motion.toll_rows toll m.exercise.now) (length p) (reverse p) m.column.now [] ≡ cost_at toll m.exercise.now (with_column p m) (length p)
   motion_cost e f =
       sym (second (toll == 14) (motion.imperfect_runs (length p) (reverse p) m.column.now) (whole_of (motion.toll_rows toll m.exercise.now) (length p) (reverse p) m.column.now []) f)
@@ -118,10 +123,13 @@ module _ (toll : ℕ) (p : List (List Cell)) (m : Moment) where
   pub dissonance_cost : is_toll_of_motion toll ≡ false → is_toll_of_dissonance toll ≡ true → whole_of (dissonance.toll_rows toll m.exercise.now) (length p) (reverse p) m.column.now [] ≡ cost_at toll m.exercise.now (with_column p m) (length p)
   dissonance_cost e f = cost_by (dissonance.cost_in toll m.exercise.now) (costs_of_dissonance e f)
 
-  pub open_leaps_cost : is_toll_of_motion toll ≡ false → is_toll_of_dissonance toll ≡ false → toll ≡ 13 → melody.open_leaps m.exercise.now (length p) (reverse p) m.column.now [] ≡ cost_at toll m.exercise.now (with_column p m) (length p)
-  open_leaps_cost e f g =
+  pub leaps_cost : is_toll_of_motion toll ≡ false → is_toll_of_dissonance toll ≡ false → (toll == 13) ≡ true → melody.open_leaps m.exercise.now (length p) (reverse p) m.column.now [] ≡ cost_at toll m.exercise.now (with_column p m) (length p)
+  leaps_cost e f g =
       cost_by (melody.open_leaps m.exercise.now)
-      (costs_of_melody e f ∙ first (toll == 13) (melody.open_leaps m.exercise.now) (whole_of (melody.toll_rows toll m.exercise.now)) (eq-eqb toll 13 g))
+      (costs_of_melody e f ∙ first (toll == 13) (melody.open_leaps m.exercise.now) (whole_of (melody.toll_rows toll m.exercise.now)) g)
+
+  pub open_leaps_cost : is_toll_of_motion toll ≡ false → is_toll_of_dissonance toll ≡ false → toll ≡ 13 → melody.open_leaps m.exercise.now (length p) (reverse p) m.column.now [] ≡ cost_at toll m.exercise.now (with_column p m) (length p)
+  open_leaps_cost e f g = leaps_cost e f (eq-eqb toll 13 g)
 
   pub melody_cost : is_toll_of_motion toll ≡ false → is_toll_of_dissonance toll ≡ false → (toll == 13) ≡ false → whole_of (melody.toll_rows toll m.exercise.now) (length p) (reverse p) m.column.now [] ≡ cost_at toll m.exercise.now (with_column p m) (length p)
   melody_cost e f g =

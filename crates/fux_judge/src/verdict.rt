@@ -6,10 +6,10 @@ ghost use Rattle.fux_grid.specs.declared.cell.Cell.{Cell as ACell};
 ghost use Rattle.fux_grid.specs.Exercises.{IsValid, columns_in};
 ghost use Rattle.fux_grid.specs.Orderly.{IsOrderly};
 ghost use Rattle.rule_law.specs.Voices.{has_rule};
-ghost use Rattle.fux_judge.specs.Rules.{all_sets, rules_read, is_read};
+ghost use Rattle.fux_judge.specs.Rules.{all_sets, rules_read, tolls_read, is_read};
 ghost use Rattle.fux_judge.specs.Penalties.{paid};
 ghost use Rattle.fux_judge.specs.Grows.{newly_broken, newly_paid};
-ghost use Rattle.fux_judge.specs.Moments.{IsReadable, IsAfter, is_strictly_broken_then, prices_then, rules_at_once};
+ghost use Rattle.fux_judge.specs.Moments.{IsReadable, IsAfter, is_strictly_broken_then, prices_then, rules_at_once, toll_then};
 ghost use Rattle.fux_judge.specs.Shapes.{is_out_of_shape_now};
 ghost use Rattle.fux_judge.specs.States.{IsStateOf};
 
@@ -21,7 +21,7 @@ use fux_grid::{Column, Exercise};
 use melody_rules::{all_noted, latest_of_notes};
 use penalty_sheet::Sheet;
 use rhythm_cadence::breaks_shape;
-use rule_law::RuleSet;
+use rule_law::{RuleSet, is_quiet};
 
 /// What a column brings after a prefix.
 #[derive(Clone, Copy, Debug, PartialEq, Eq)]
@@ -144,6 +144,20 @@ fn moment_of<'a>(ex: &'a Exercise, state: &'a State, col: &'a Column) -> Moment<
     }
 }
 
+/// The rules that the column breaks strictly, but for S3, and what it costs. Where nothing begins, nothing is read.
+fn readings(sheet: &Sheet, m: &Moment<'_>) -> (RuleSet, u64)
+    requires { IsReadable m.now }
+    ensures broken { (p : List (List ACell)) → IsAfter p m.now → (r : ℕ) → has_rule result.0.bits r ≡ list_any (λ rule. is_strictly_broken_then all_sets rule p m.now && r == rule) rules_at_once }
+    ensures paid { (p : List (List ACell)) → IsAfter p m.now → result.1 ≡ sum_by (toll_then sheet.now p m.now) tolls_read + sum_by (λ rule. prices_then all_sets rule p m.now) rules_at_once }
+    ensures bound { result.1 ≤ 16777216 }
+{
+    if is_quiet(m.place, m.column) {
+        return (RuleSet::EMPTY, 0);
+    }
+    let paid = charges(sheet, m) + prices_of(&RULES_AT_ONCE, m);
+    (broken_of(&RULES_AT_ONCE, m), paid)
+}
+
 /// Judges a column that comes after a prefix: which rules it breaks strictly, what it costs, and the state of the longer prefix. It takes no memory.
 pub fn step(ex: &Exercise, sheet: &Sheet, state: &State, col: &Column) -> Verdict
     requires valid { IsValid ex.now }
@@ -159,11 +173,11 @@ pub fn step(ex: &Exercise, sheet: &Sheet, state: &State, col: &Column) -> Verdic
 {
     let moment = moment_of(ex, state, col);
     let next = next_state(ex, state, col);
-    let at_once = broken_of(&RULES_AT_ONCE, &moment);
+    let (at_once, paid) = readings(sheet, &moment);
     Verdict {
         state: next,
         broken: at_once.with(3, is_out_of_shape(ex, &next)),
-        paid: charges(sheet, &moment) + prices_of(&RULES_AT_ONCE, &moment),
+        paid,
         least: 0,
     }
 }

@@ -1,3 +1,4 @@
 pub mod Locality
 pub mod Notes
+pub mod Quiet
 pub mod Rows

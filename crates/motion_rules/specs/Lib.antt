@@ -1,3 +1,4 @@
 pub mod BarLines
 pub mod Locality
+pub mod Quiet
 pub mod Rows

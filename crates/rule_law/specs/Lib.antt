@@ -7,5 +7,6 @@ pub mod Nearby
 pub mod OrderlyLaw
 pub mod Pairs
 pub mod Places
+pub mod Quiet
 pub mod Terms
 pub mod Voices

@@ -11,7 +11,7 @@ mod sets;
 mod terms;
 mod toll;
 
-pub use bars::{begins_bar, begins_inner_bar};
+pub use bars::{begins_bar, begins_inner_bar, is_quiet};
 pub use both::Both;
 pub use latest::{Latest, latest_before, latest_of_column};
 pub use near::{Near, cells_of};
