@@ -1,5 +1,5 @@
 -- Two rules as one.
-use Rattle.std.specs.Prelude.{◌≡◌, ℕ, Bool, true, false, ◌++◌, IsTrue, if◌then◌else◌}
+use Rattle.std.specs.Prelude.{◌≡◌, ℕ, Bool, true, false, ◌||◌, ◌++◌, IsTrue, if◌then◌else◌}
 use Rattle.fux_grid.specs.declared.exercise.Exercise.{Exercise}
 use Rattle.rule_law.specs.Places.{Reading, IsLocal, SettlesAtEnd}
 use Rattle.rule_law.specs.Voices.{has_rule}
@@ -11,6 +11,18 @@ RuleReading = ℕ → Exercise → ℕ → Reading Bool
 -- the first reading at the rules of its bits, else the second
 abbrev pub either_reading : ℕ → RuleReading → RuleReading → RuleReading
 either_reading bits first second rule ex voices s i = if has_rule bits rule then first rule ex voices s i else second rule ex voices s i
+
+-- no rule is in both sets of bits
+abbrev pub AreApart : ℕ → ℕ → Type 0
+AreApart first second = (rule : ℕ) → IsTrue (has_rule first rule) → has_rule second rule ≡ false
+
+-- the bits have the rules of two sets, and no others
+abbrev pub IsUnion : ℕ → ℕ → ℕ → Type 0
+IsUnion both first second = (rule : ℕ) → has_rule both rule ≡ (has_rule first rule || has_rule second rule)
+
+-- each rule of the bits is read as in another reading
+abbrev pub ReadsAs : ℕ → RuleReading → RuleReading → Type 0
+ReadsAs bits reads other = (rule : ℕ) → IsTrue (has_rule bits rule) → reads rule ≡ other rule
 
 -- each rule's reading is local
 abbrev pub AreLocal : RuleReading → RuleReading → Type 0

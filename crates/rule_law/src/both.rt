@@ -3,21 +3,31 @@
 ghost use Rattle.std.specs.Prelude.{◌≡◌, ◌<◌, ◌≤◌, ℕ, length, IsTrue, bit_or};
 ghost use Rattle.fux_grid.specs.Exercises.{IsValid, columns_in};
 ghost use Rattle.rule_law.specs.Voices.{has_rule};
-ghost use Rattle.rule_law.specs.BothLaw.{either_reading, either_is_local, either_settles};
+ghost use Rattle.rule_law.specs.BothLaw.{AreApart, IsUnion, ReadsAs, either_reading, either_is_local, either_settles};
 
 use crate::rule::Rule;
 use crate::sets::RuleSet;
 use fux_grid::{Exercise, Score, VoiceSet};
 
-/// The rules of both, which read different ones.
+/// The rules of both, which read different ones: each is read as the one that has it reads it.
 #[derive(Clone, Copy, Debug, PartialEq, Eq)]
 pub struct Both<A, B> {
     a: A,
     b: B,
 }
 
-impl<A, B> Both<A, B> {
-    pub fn new(a: A, b: B) -> Both<A, B> {
+impl<A: Rule, B: Rule> Both<A, B> {
+    /// The rule for the union of two sets of rules.
+    pub fn new(a: A, b: B) -> Both<A, B>
+        requires apart { AreApart (A.covered a) (B.covered b) }
+        ensures first { result.a ≡ a }
+        ensures second { result.b ≡ b }
+        ensures covers { IsUnion (⟦<Both<A, B> as Rule>⟧.covered result) (A.covered a) (B.covered b) }
+        ensures breaks_first { ReadsAs (A.covered a) (⟦<Both<A, B> as Rule>⟧.breaks result) (A.breaks a) }
+        ensures settles_first { ReadsAs (A.covered a) (⟦<Both<A, B> as Rule>⟧.settles result) (A.settles a) }
+        ensures breaks_second { ReadsAs (B.covered b) (⟦<Both<A, B> as Rule>⟧.breaks result) (B.breaks b) }
+        ensures settles_second { ReadsAs (B.covered b) (⟦<Both<A, B> as Rule>⟧.settles result) (B.settles b) }
+    {
         Both { a, b }
     }
 }
