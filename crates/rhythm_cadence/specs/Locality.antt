@@ -164,8 +164,8 @@ second_choice true x y e = cc
 second_choice false x y e = refl
 
 pub rhythm_is_near : (rule : ℕ) (ex : Exercise) (voices : ℕ) → IsTrue (has_rule near_bits rule) → IsNear ex (rhythm_breaks rule ex voices) (near_rows rule ex voices)
-rhythm_is_near rule ex voices h p next follows rests =
-    second_choice (rule == 3) _ _ (not_3 rule h) ∙ near_from_whole ex (near_rows rule ex voices) p next follows rests
+rhythm_is_near rule ex voices h p next prefix =
+    second_choice (rule == 3) _ _ (not_3 rule h) ∙ near_from_whole ex (near_rows rule ex voices) p next prefix
 
 pub rhythm_tolls_are_near : (toll : ℕ) (ex : Exercise) → IsNear ex (reading_of (cost_in toll ex)) (toll_rows toll ex)
 rhythm_tolls_are_near toll ex = near_from_whole ex (toll_rows toll ex)
