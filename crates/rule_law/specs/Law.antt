@@ -2,13 +2,13 @@
 use Rattle.std.specs.Prelude.{◌≡◌, ℕ, ◌+◌, ◌<◌, Bool, true, false, ◌&&◌, List, [], ◌∷◌, ◌++◌, IsTrue, nat_lt, length, drop, reverse, slice_index_or, refl}
 use Rattle.std.proofs.Common.{ap, ◌∙◌, arith}
 use Rattle.std.proofs.Math.ListN.{get_or-append}
-use Rattle.std.proofs.Math.Seq.{get_or-append_seam, take-length}
+use Rattle.std.proofs.Math.Seq.{get_or-append_seam}
 use Rattle.std.proofs.lemmas.List.{drop-append-le, drop_all, length-append}
 use Rattle.std.proofs.lemmas.Bool.Decides.{nat_tests}
 use Rattle.fux_grid.specs.declared.cell.Cell.{Cell}
 use Rattle.fux_grid.specs.declared.exercise.Exercise.{Exercise}
 use Rattle.fux_grid.specs.Columns.{earlier}
-use Rattle.fux_grid.proofs.Histories.{earlier-append}
+use Rattle.fux_grid.proofs.Histories.{earlier-all, earlier-append}
 use Rattle.rule_law.specs.Places.{Row, IsLocal, IsUndisturbed, SettlesAtEnd, reading_of, settled_by, at_once}
 
 pub first_true : (a b : Bool) → IsTrue (a && b) → IsTrue a
@@ -46,17 +46,12 @@ local_from_row row enough u p t i settled =
 pub at_once_settles : (ex : Exercise) → SettlesAtEnd ex (settled_by at_once)
 at_once_settles ex s i whole here = both_true (nat_lt i (length s)) true (test_from_below i (length s) here) refl
 
--- all columns of a list, from the newest to the oldest
-pub earlier-all : (p : List (List Cell)) → earlier p (length p) ≡ reverse p
-unfolding earlier
-earlier-all p = ap reverse (take-length p)
-
 drop-at_end : (p : List (List Cell)) (next : List Cell) → drop (length p + 1) (p ++ next ∷ []) ≡ []
 drop-at_end p next = drop_all (length p + 1) (p ++ next ∷ []) (omega (arith, length-append p (next ∷ [])))
 
 -- at its last place a list has all the columns before it behind, and none ahead
 pub reading-at_end : {R : Type 0} (row : Row R) (p : List (List Cell)) (next : List Cell) → reading_of row (p ++ next ∷ []) (length p) ≡ row (length p) (reverse p) next []
 reading-at_end row p next =
-    ap (λ b. row (length p) b (slice_index_or (p ++ next ∷ []) (length p) []) (drop (length p + 1) (p ++ next ∷ []))) (earlier-append p (next ∷ []) (length p) (omega arith) ∙ earlier-all p)
+    ap (λ b. row (length p) b (slice_index_or (p ++ next ∷ []) (length p) []) (drop (length p + 1) (p ++ next ∷ []))) (earlier-append p (next ∷ []) (length p) (omega arith) ∙ earlier-all p (length p) (omega arith))
     ∙ ap (λ c. row (length p) (reverse p) c (drop (length p + 1) (p ++ next ∷ []))) (get_or-append_seam p next [] [])
     ∙ ap (λ a. row (length p) (reverse p) next a) (drop-at_end p next)
