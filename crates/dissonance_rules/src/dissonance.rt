@@ -108,6 +108,9 @@ impl Near for Dissonance {
         prev: Option<&Column>,
         next: &Column,
     ) -> u32 {
+        if !self.tolls().has(toll) {
+            return 0;
+        }
         cost(toll, ex, i, cells_of(prev), &Latest::NONE, next.as_slice())
     }
 }

@@ -124,7 +124,6 @@ fn cost<T: Toll>(it: &T, ex: &Exercise, score: &Score, i: usize) -> u32
 }
 
 fn cost_near<N: Near>(it: &N, toll: u8, ex: &Exercise, score: &Score, i: usize) -> u32
-    requires toll { IsTrue (has_rule (N.near_tolls it.now) toll) }
     requires valid { IsValid ex.now }
     requires voices { score.now.voices ≡ ex.now.voices }
     requires few { length score.now.columns ≤ columns_in ex.now }

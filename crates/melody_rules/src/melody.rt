@@ -1,7 +1,6 @@
 //! The rules of melody as one.
 
 ghost use Rattle.std.specs.Prelude.{◌≡◌, ◌<◌, length};
-ghost use Rattle.rule_law.specs.Nearby.{cells_before};
 ghost use Rattle.rule_law.specs.Places.{reading_of};
 ghost use Rattle.melody_rules.specs.Locality as law;
 ghost use Rattle.melody_rules.specs.Rows as rows;
@@ -12,7 +11,8 @@ use crate::tolls::cost;
 use fux_grid::{Cell, Column, Exercise, Score, VoiceSet, cell_of, species_of};
 use fux_pitch::Pitch;
 use rule_law::{
-    Latest, Near, Rule, RuleSet, is_free, latest_before, latest_of_column, starts, voice_of,
+    Latest, Near, Rule, RuleSet, cells_of, is_free, latest_before, latest_of_column, starts,
+    voice_of,
 };
 
 /// A rule of neighbors for one voice.
@@ -131,16 +131,6 @@ impl Rule for Melody {
     }
 }
 
-/// The cells of a column, where it is given.
-fn cells_of(prev: Option<&Column>) -> &[Cell]
-    ensures { result.now ≡ cells_before prev.entry }
-{
-    match prev {
-        Some(column) => column.as_slice(),
-        None => &[],
-    }
-}
-
 impl Near for Melody {
     ghost near_rules = { λ _. law.near_bits };
 
@@ -197,6 +187,9 @@ impl Near for Melody {
         prev: Option<&Column>,
         next: &Column,
     ) -> u32 {
+        if !self.tolls().has(toll) {
+            return 0;
+        }
         let before = cells_of(prev);
         cost(
             toll,

@@ -106,6 +106,9 @@ impl Near for Motion {
         prev: Option<&Column>,
         next: &Column,
     ) -> u32 {
+        if !self.tolls().has(toll) {
+            return 0;
+        }
         cost(toll, ex, i, cells_of(prev), &Latest::NONE, next.as_slice())
     }
 }

@@ -11,13 +11,13 @@ use Rattle.fux_grid.specs.Letters.{letters_of}
 use Rattle.fux_grid.specs.Orderly.{voice_shapes}
 use Rattle.fux_grid.proofs.ShapeBeginnings.{begins_shape-fewer, letters_of-append, take-append}
 use Rattle.rule_law.specs.Bars.{begins_bar}
-use Rattle.rule_law.specs.Places.{IsLocal, Row, IsUndisturbed, SettlesAtEnd, reading_of, settled_by}
-use Rattle.rule_law.specs.Law.{local_from_row, at_once_settles, both_true, test_from_below}
+use Rattle.rule_law.specs.Places.{Row, IsUndisturbed, reading_of, settled_by}
+use Rattle.rule_law.specs.Law.{local_from_row, both_true, test_from_below}
 use Rattle.rule_law.specs.BothLaw.{RuleReading, AreLocal, SettleAtEnd}
 use Rattle.rule_law.specs.NearLaw.{IsNear, near_from_whole}
 use Rattle.rule_law.specs.Nearby.{whole_of}
 use Rattle.rule_law.specs.Voices.{has_rule, is_free, voice_of, holds_of_voice, on_free_voice}
-use Rattle.rhythm_cadence.specs.Rows.{broken_in, near_rows, enough_after, toll_rows, cost_in, cost_enough, leaves_shapes, may_go_on, is_open}
+use Rattle.rhythm_cadence.specs.Rows.{broken_in, near_rows, enough_after, leaves_shapes, may_go_on, is_open}
 
 -- the bits of the rules
 abbrev pub covered_bits : ℕ
@@ -166,15 +166,3 @@ second_choice false x y e = refl
 pub rhythm_is_near : (rule : ℕ) (ex : Exercise) (voices : ℕ) → IsTrue (has_rule near_bits rule) → IsNear ex (rhythm_breaks rule ex voices) (near_rows rule ex voices)
 rhythm_is_near rule ex voices h p next prefix =
     second_choice (rule == 3) _ _ (not_3 rule h) ∙ near_from_whole ex (near_rows rule ex voices) p next prefix
-
-pub rhythm_tolls_are_near : (toll : ℕ) (ex : Exercise) → IsNear ex (reading_of (cost_in toll ex)) (toll_rows toll ex)
-rhythm_tolls_are_near toll ex = near_from_whole ex (toll_rows toll ex)
-
-pub rhythm_tolls_are_local : (toll : ℕ) (ex : Exercise) → IsLocal (reading_of (cost_in toll ex)) (settled_by (cost_enough toll ex))
-rhythm_tolls_are_local toll ex p t i h = refl
-
-pub rhythm_tolls_settle_at_end : (toll : ℕ) (ex : Exercise) → SettlesAtEnd ex (settled_by (cost_enough toll ex))
-rhythm_tolls_settle_at_end toll ex = at_once_settles ex
-
-pub rhythm_tolls_stay : (toll : ℕ) (ex : Exercise) → EnoughStays (cost_enough toll ex)
-rhythm_tolls_stay toll ex i behind now ahead t h = refl

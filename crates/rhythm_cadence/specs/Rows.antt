@@ -16,7 +16,7 @@ use Rattle.fux_grid.specs.Shapes.{begins_shape}
 use Rattle.fux_grid.specs.Letters.{letters_of}
 use Rattle.fux_grid.specs.Orderly.{voice_shapes}
 use Rattle.rule_law.specs.Bars.{begins_bar}
-use Rattle.rule_law.specs.Places.{Row, at_once}
+use Rattle.rule_law.specs.Places.{Row}
 use Rattle.rule_law.specs.Nearby.{NearRow, pitch_at, whole_of}
 use Rattle.rule_law.specs.Terms.{starts, holds_of, interval_in, is_reduced_to, lowest_voice}
 use Rattle.rule_law.specs.Voices.{on_voice, on_free_voice, on_pair}
@@ -116,13 +116,3 @@ open_row ex voices i behind now ahead = on_free_voice ex (λ v. is_open ex v i n
 
 abbrev pub enough_after : ℕ → Exercise → ℕ → Row Bool
 enough_after rule ex voices i behind now ahead = not ((rule == 3) && open_row ex voices i behind now ahead)
-
--- no tolls so far: each costs nothing, at once
-abbrev pub toll_rows : ℕ → Exercise → NearRow ℕ
-toll_rows toll ex i before previous now = 0
-
-abbrev pub cost_in : ℕ → Exercise → Row ℕ
-cost_in toll ex = whole_of (toll_rows toll ex)
-
-abbrev pub cost_enough : ℕ → Exercise → Row Bool
-cost_enough toll ex = at_once

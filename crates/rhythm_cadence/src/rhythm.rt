@@ -1,6 +1,6 @@
 //! The rules as one.
 
-ghost use Rattle.std.specs.Prelude.{◌≡◌, ◌+◌, ◌<◌, ◌≤◌, ℕ, Bool, IfSome, nat_lt, length, slice_index_or, drop, []};
+ghost use Rattle.std.specs.Prelude.{◌≡◌, ◌+◌, ◌<◌, ◌≤◌, ℕ, Bool, IfSome, nat_lt, length, slice_index_or, drop, [], refl};
 ghost use Rattle.fux_grid.specs.Exercises.{IsValid, IsFree, columns_in};
 ghost use Rattle.fux_grid.specs.Orderly.{voice_shapes};
 ghost use Rattle.fux_grid.specs.Shapes.{begins_shape};
@@ -193,17 +193,17 @@ impl Rule for Rhythm {
 impl Near for Rhythm {
     ghost near_rules = { λ _. law.near_bits };
 
-    ghost near_tolls = { λ _. 1 };
+    ghost near_tolls = { λ _. 0 };
 
     ghost row = { λ _. rows.near_rows };
 
-    ghost charged = { λ _ toll ex. reading_of (rows.cost_in toll ex) };
+    ghost charged = { λ _ toll ex p i. 0 };
 
-    ghost toll_row = { λ _. rows.toll_rows };
+    ghost toll_row = { λ _ toll ex i before previous now. 0 };
 
     ghost rules_agree = { λ _. law.rhythm_is_near };
 
-    ghost tolls_agree = { λ _ toll ex h. law.rhythm_tolls_are_near toll ex };
+    ghost tolls_agree = { λ _ toll ex h p next prefix. refl };
 
     fn rules(&self) -> RuleSet {
         RuleSet {
@@ -211,9 +211,8 @@ impl Near for Rhythm {
         }
     }
 
-    /// Only the number 0, which no toll has: it costs nothing.
     fn tolls(&self) -> RuleSet {
-        RuleSet { bits: 1 }
+        RuleSet::EMPTY
     }
 
     fn broken_near(

@@ -1,6 +1,6 @@
 //! Rules and tolls that two neighboring columns decide.
 
-ghost use Rattle.std.specs.Prelude.{◌≡◌, ◌<◌, ◌∷◌, ◌++◌, [], ℕ, List, Bool, IsTrue, length, reverse};
+ghost use Rattle.std.specs.Prelude.{◌≡◌, ◌<◌, ◌∷◌, ◌++◌, [], ℕ, List, Bool, false, IsTrue, length, reverse};
 ghost use Rattle.fux_grid.specs.declared.cell.Cell.{Cell};
 ghost use Rattle.fux_grid.specs.declared.exercise.Exercise.{Exercise};
 ghost use Rattle.fux_grid.specs.Exercises.{IsValid, columns_in};
@@ -35,7 +35,7 @@ pub trait Near: Rule {
     fn rules(&self) -> RuleSet
         ensures { result.bits ≡ near_rules self.now };
 
-    /// The tolls that it reads from neighbors: bit q stands for toll q.
+    /// The tolls that it reads from neighbors, if any: bit q stands for toll q.
     fn tolls(&self) -> RuleSet
         ensures { result.bits ≡ near_tolls self.now };
 
@@ -55,7 +55,7 @@ pub trait Near: Rule {
         requires full { length next.now.items ≡ ex.now.voices }
         ensures { result ≡ near_of (row self.now rule ex.now voices.bits) i (cells_before prev.entry) next.now.items };
 
-    /// What a toll costs at column `i`, without its weight.
+    /// What a toll costs at column `i`, without its weight; nothing for a toll that it doesn't read from neighbors.
     fn cost_near(
         &self,
         toll: u8,
@@ -64,11 +64,11 @@ pub trait Near: Rule {
         prev: Option<&Column>,
         next: &Column,
     ) -> u32
-        requires toll { IsTrue (has_rule (near_tolls self.now) toll) }
         requires valid { IsValid ex.now }
         requires place { i < columns_in ex.now }
         requires full { length next.now.items ≡ ex.now.voices }
-        ensures { result ≡ near_of (toll_row self.now toll ex.now) i (cells_before prev.entry) next.now.items };
+        ensures read { IsTrue (has_rule (near_tolls self.now) toll) → result ≡ near_of (toll_row self.now toll ex.now) i (cells_before prev.entry) next.now.items }
+        ensures other { has_rule (near_tolls self.now) toll ≡ false → result ≡ 0 };
 
     /// After an orderly prefix a rule's reading of neighbors is its reading of the whole list.
     ghost rules_agree: { (it : Self) (rule : ℕ) (ex : Exercise) (voices : ℕ) → IsTrue (has_rule (near_rules it) rule) → IsNear ex (Self.breaks it rule ex voices) (row it rule ex voices) };
