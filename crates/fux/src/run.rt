@@ -116,6 +116,8 @@ fn deliver<K: Sink, E: Sink>(
 }
 
 #[cfg(test)]
+mod long_files;
+#[cfg(test)]
 mod tests;
 #[cfg(test)]
 mod vectors;
