@@ -1,9 +1,7 @@
 //! What no clause says: that a run goes on to its work, and that the clauses mean what they should.
 
-use super::{deliver, run};
+use super::run;
 use crate::command::{Command, parse};
-use crate::work::{Output, Verdict};
-use fux_pitch::Label;
 use fux_port::{MemShelf, MemSink};
 use std::alloc::{AllocError, Global};
 use std::test::Fail;
@@ -82,8 +80,16 @@ fn words_ask_for_a_command(rt: HostRuntime) -> Result<(), Fail> {
 #[test]
 fn a_run_says_why_it_stops(rt: HostRuntime) -> Result<(), Fail> {
     let long = vec![in rt.alloc(); b'f'; 65_537]?;
-    let cases: [(&[&str], &[u64], u8, &str); 5] = [
+    let cases: [(&[&str], &[u64], u8, &str); 8] = [
         (&[], &[], 2, "fux: usage\n"),
+        (&["compose"], &[], 2, "fux: usage\n"),
+        (&["compose", "A", "--budget", "0"], &[], 2, "fux: usage\n"),
+        (
+            &["compose", "A", "--budget", "4000001"],
+            &[],
+            2,
+            "fux: usage\n",
+        ),
         (&["compose", "long"], &[], 3, "fux: long: form\n"),
         (&["compose", "A"], &[1], 4, "fux: cannot read A\n"),
         (&["compose", "B"], &[], 4, "fux: cannot read B\n"),
@@ -106,30 +112,37 @@ fn a_run_says_why_it_stops(rt: HostRuntime) -> Result<(), Fail> {
 
 #[test]
 fn a_run_writes_what_it_finds(rt: HostRuntime) -> Result<(), Fail> {
-    let cases = [
-        ("compose", EXERCISE, 0, COMPOSED),
-        ("compose", NARROW, 1, "none\n"),
-        ("mark", SETTING, 0, "marks 0\n"),
-        ("mark", FIFTHS, 1, FIFTHS_MARKS),
-        ("cantus", EXERCISE, 0, "marks 0\n"),
-        ("cantus", LEAPING, 1, LEAPING_MARKS),
+    let cases: [(&[&str], &str, u8, &str); 8] = [
+        (&["compose", "A"], EXERCISE, 0, COMPOSED),
+        (&["compose", "A", "--budget", "112"], EXERCISE, 0, COMPOSED),
+        (
+            &["compose", "A", "--budget", "1"],
+            EXERCISE,
+            6,
+            "spent, at least 0\n",
+        ),
+        (&["compose", "A"], NARROW, 1, "none\n"),
+        (&["mark", "A"], SETTING, 0, "marks 0\n"),
+        (&["mark", "A"], FIFTHS, 1, FIFTHS_MARKS),
+        (&["cantus", "A"], EXERCISE, 0, "marks 0\n"),
+        (&["cantus", "A"], LEAPING, 1, LEAPING_MARKS),
     ];
-    for (command, text, status, output) in cases {
-        let words = to_words(rt.alloc(), &[command, "A"])?;
+    for (texts, text, status, output) in cases {
+        let words = to_words(rt.alloc(), texts)?;
         let mut shelf = MemShelf::new(rt.alloc(), &[])?;
         shelf.put("A", text.as_bytes())?;
         let mut out = MemSink::new(rt.alloc(), 1000, 1000, &[])?;
         let mut err = MemSink::new(rt.alloc(), 1000, 1000, &[])?;
         let got = run(&rt, rt.alloc(), &words, &mut shelf, &mut out, &mut err);
-        assert_eq!(rt; out.bytes(), output.as_bytes(), "{command} {text}");
-        assert_eq!(rt; got, status, "{command} {text}");
-        assert_eq!(rt; err.bytes(), b"".as_slice(), "{command} {text}");
+        assert_eq!(rt; out.bytes(), output.as_bytes(), "{texts:?} {text}");
+        assert_eq!(rt; got, status, "{texts:?} {text}");
+        assert_eq!(rt; err.bytes(), b"".as_slice(), "{texts:?} {text}");
     }
     Ok(())
 }
 
 /// Texts that are none, for one reason each.
-const BROKEN: [&[u8]; 11] = [
+const BROKEN: [&[u8]; 15] = [
     b"",
     b"\xff\xfe",
     b"fux 1\nmode dorian\nvoices 2\nbars 3\nspecies 1 voice 1\ncantus 0 D4 E4 D4\nrange 1 A4 D5",
@@ -137,24 +150,34 @@ const BROKEN: [&[u8]; 11] = [
     b"fux 1\nmode dorian\nvoices 2\nbars 3\nspecies 1 voice 1\ncantus 0 D4 E4 D4\nrange 1 A4 D5\n\0",
     b"fux 1\nmode dorian\nvoices 2\nbars 3\nspecies 1 voice 1\ncantus 0 D4 E4 D4\nrange 1 D5 A4\n",
     b"fux 1\nmode dorian\nvoices 2\nbars 2\nspecies 1 voice 1\ncantus 0 D4 D4\nrange 1 A4 D5\n",
-    b"fux 1\nmode dorian\nvoices 2\nbars 25\nspecies 1 voice 1\ncantus 0 D4 E4 D4\nrange 1 A4 D5\n",
+    b"fux 1\nmode dorian\nvoices 2\nbars 25\nspecies 1 voice 1\ncantus 0 D4 D4 D4 D4 D4 D4 D4 D4 D4 D4 D4 D4 D4 D4 D4 D4 D4 D4 D4 D4 D4 D4 D4 D4 D4\nrange 1 A4 D5\n",
     b"fux 1\nmode dorian\nvoices 2\nbars 3\nspecies 1 voice 1\ncantus 0 D4 D4\nrange 1 A4 D5\n",
     b"fux 1\nmode dorian\nvoices 2\nbars 3\nspecies 1 voice 1\ncantus 0 D4 E4 E4 D4\nrange 1 A4 D5\n",
     b"fux 1\nmode dorian\nvoices 2\nbars 3\nspecies 1 voice 1\ncantus 0 D4 E9 D4\nrange 1 A4 D5\n",
+    b"fux 1\nmode dorian\nvoices 2\nbars 3\nspecies 1 voice 1\ncantus 0 D4 Cb1 D4\nrange 1 A4 D5\n",
+    b"fux 1\nmode dorian\nvoices 2\nbars 3\nspecies 1 voice 1\ncantus 0 D4 E4 D4\nrange 1 A4 C#7\n",
+    b"fux 1\r\nmode dorian\r\nvoices 2\r\nbars 3\r\nspecies 1 voice 1\r\ncantus 0 D4 E4 D4\r\nrange 1 A4 D5\r\n",
+    b"fux 1\nmode dorian\nvoices 2\nbars 3\nspecies 1 voice 1\ncantus 0 D4 E4 D4\nrange 1 A4 D5\xc3\n",
 ];
 
 #[test]
 fn a_run_refuses_broken_texts(rt: HostRuntime) -> Result<(), Fail> {
-    let words = to_words(rt.alloc(), &["compose", "A"])?;
-    for text in BROKEN {
-        let mut shelf = MemShelf::new(rt.alloc(), &[])?;
-        shelf.put("A", text)?;
-        let mut out = MemSink::new(rt.alloc(), 1000, 1000, &[])?;
-        let mut err = MemSink::new(rt.alloc(), 1000, 1000, &[])?;
-        let got = run(&rt, rt.alloc(), &words, &mut shelf, &mut out, &mut err);
-        assert_eq!(rt; got, 3, "{text:?}");
-        assert_eq!(rt; out.bytes(), b"".as_slice(), "{text:?}");
-        assert_eq!(rt; err.bytes(), b"fux: A: form\n".as_slice(), "{text:?}");
+    for command in ["compose", "mark", "cantus"] {
+        let words = to_words(rt.alloc(), &[command, "A"])?;
+        for text in BROKEN {
+            let mut shelf = MemShelf::new(rt.alloc(), &[])?;
+            shelf.put("A", text)?;
+            let mut out = MemSink::new(rt.alloc(), 1000, 1000, &[])?;
+            let mut err = MemSink::new(rt.alloc(), 1000, 1000, &[])?;
+            let got = run(&rt, rt.alloc(), &words, &mut shelf, &mut out, &mut err);
+            assert_eq!(rt; got, 3, "{command} {text:?}");
+            assert_eq!(rt; out.bytes(), b"".as_slice(), "{command} {text:?}");
+            assert_eq!(rt;
+                err.bytes(),
+                b"fux: A: form\n".as_slice(),
+                "{command} {text:?}"
+            );
+        }
     }
     Ok(())
 }
@@ -162,14 +185,12 @@ fn a_run_refuses_broken_texts(rt: HostRuntime) -> Result<(), Fail> {
 #[test]
 fn a_failed_write_shows_in_the_status_or_not(rt: HostRuntime) -> Result<(), Fail> {
     let mut shelf = MemShelf::new(rt.alloc(), &[])?;
+    shelf.put("A", EXERCISE.as_bytes())?;
+    let words = to_words(rt.alloc(), &["compose", "A"])?;
     let mut out = MemSink::new(rt.alloc(), 1000, 16, &[2])?;
     let mut err = MemSink::new(rt.alloc(), 1000, 1000, &[])?;
-    let output = Output {
-        verdict: Verdict::Favorable,
-        text: Label::new(String::from_str(rt.alloc(), EXERCISE)?),
-    };
-    let status = deliver(Ok(output), &mut out, &mut err);
-    assert_eq!(rt; status.code(), 5);
+    let status = run(&rt, rt.alloc(), &words, &mut shelf, &mut out, &mut err);
+    assert_eq!(rt; status, 5);
     assert_eq!(rt; out.bytes(), b"fux 1\nmode doria".as_slice());
     assert_eq!(rt; err.bytes(), b"fux: cannot write\n".as_slice());
 
