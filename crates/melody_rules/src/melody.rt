@@ -168,15 +168,8 @@ impl Near for Melody {
         voices: VoiceSet,
     ) -> bool {
         let before = cells_of(prev);
-        breaks(
-            rule,
-            ex,
-            voices,
-            i,
-            before,
-            &latest_of_column(before),
-            next.as_slice(),
-        )
+        let latest = latest_of_column(before);
+        breaks(rule, ex, voices, i, before, &latest, next.as_slice())
     }
 
     fn cost_near(
@@ -191,13 +184,7 @@ impl Near for Melody {
             return 0;
         }
         let before = cells_of(prev);
-        cost(
-            toll,
-            ex,
-            i,
-            before,
-            &latest_of_column(before),
-            next.as_slice(),
-        )
+        let latest = latest_of_column(before);
+        cost(toll, ex, i, before, &latest, next.as_slice())
     }
 }
