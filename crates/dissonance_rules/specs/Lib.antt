@@ -1,3 +1,4 @@
 pub mod Locality
+pub mod LowerVoices
 pub mod Quiet
 pub mod Rows

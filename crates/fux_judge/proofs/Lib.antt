@@ -1,4 +1,5 @@
 pub mod MomentLemmas
+pub mod PruningLemmas
 pub mod QuietLemmas
 pub mod SetLemmas
 pub mod StepLemmas

@@ -13,7 +13,7 @@ pub sum_by_more : {X : Type 0} (f : X → ℕ) (xs : List X) (i : ℕ) (d : X) �
 sum_by_more f xs i d h = ap (sum_by f) (take_more xs i d h) ∙ sum_by_push f (take i xs) (get_or xs i d)
 
 -- what each item of a list passes, one of them passes
-passes : (test : ℕ → Bool) (xs : List ℕ) (i : ℕ) → list_all test xs ≡ true → i < length xs → test (get_or xs i 0) ≡ true
+pub passes : (test : ℕ → Bool) (xs : List ℕ) (i : ℕ) → list_all test xs ≡ true → i < length xs → test (get_or xs i 0) ≡ true
 passes test [] i h k = absurd (omega arith)
 passes test (x ∷ xs) zero h k = first_true (test x) (list_all test xs) h
 passes test (x ∷ xs) (suc i) h k = passes test xs i (second_true (test x) (list_all test xs) h) (omega arith)

@@ -4,6 +4,7 @@ pub mod Grows
 pub mod Lawful
 pub mod Moments
 pub mod Penalties
+pub mod Pruning
 pub mod Rules
 pub mod Shapes
 pub mod States

@@ -2,12 +2,16 @@
 #![tactic(auto)]
 
 mod moment;
+mod pruning;
 mod reading;
 mod state;
+#[cfg(test)]
+mod tests;
 mod tolls;
 mod total;
 mod verdict;
 
+pub use pruning::dead_within;
 pub use state::State;
 pub use total::penalty;
 pub use verdict::{Verdict, step};

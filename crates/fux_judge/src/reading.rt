@@ -128,7 +128,7 @@ fn bar_at(m: &Moment<'_>) -> u8
 }
 
 /// Whether a rule, other than S3, is strictly broken for a set of voices.
-fn is_strictly_broken(rule: u8, voices: VoiceSet, m: &Moment<'_>) -> bool
+pub(crate) fn is_strictly_broken(rule: u8, voices: VoiceSet, m: &Moment<'_>) -> bool
     requires rule { rule ≢ 3 }
     requires readable { IsReadable m.now }
     ensures { (p : List (List ACell)) → IsAfter p m.now → result ≡ (is_broken_then rule voices.bits p m.now && is_strict_at rule m.now.exercise.now voices.bits (length p)) }

@@ -1,4 +1,5 @@
 pub mod Locality
+pub mod LowerVoices
 pub mod Parts
 pub mod Quiet
 pub mod Rows

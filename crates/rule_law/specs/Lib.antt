@@ -2,6 +2,7 @@ pub mod Bars
 pub mod BothLaw
 pub mod Growth
 pub mod Law
+pub mod LowerVoices
 pub mod NearLaw
 pub mod Nearby
 pub mod OrderlyLaw

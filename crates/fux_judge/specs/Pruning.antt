@@ -1,0 +1,37 @@
+-- How a few voices make a column dead, whatever cells the others have.
+use Rattle.std.specs.Prelude.{◌≡◌, ℕ, ◌==◌, Bool, true, ◌&&◌, List, [], ◌∷◌, IsTrue, take}
+use Rattle.std.specs.List.{list_any}
+use Rattle.fux_grid.specs.declared.cell.Cell.{Cell}
+use Rattle.fux_grid.specs.declared.exercise.Exercise.{Exercise}
+use Rattle.rule_law.specs.LowerVoices.{is_below}
+use Rattle.fux_judge.specs.declared.moment.Moment.{Moment}
+use Rattle.fux_judge.specs.Rules.{rules_read}
+use Rattle.fux_judge.specs.Grows.{newly_broken}
+use Rattle.fux_judge.specs.Moments.{IsAfter}
+
+-- the rules that read the cells of their own voices, and whether a lower one sounds: all but S1 to S3, and S12, which reads the cantus
+abbrev pub rules_below : List ℕ
+rules_below = 4 ∷ 5 ∷ 6 ∷ 7 ∷ 8 ∷ 9 ∷ 10 ∷ 11 ∷ 13 ∷ 14 ∷ 16 ∷ 17 ∷ 24 ∷ 26 ∷ []
+
+abbrev pub reads_below : ℕ → Bool
+reads_below rule = list_any (λ other. rule == other) rules_below
+
+-- the sets of one voice or two
+abbrev pub sets_below : List ℕ
+sets_below = 1 ∷ 2 ∷ 4 ∷ 8 ∷ 3 ∷ 5 ∷ 6 ∷ 9 ∷ 10 ∷ 12 ∷ []
+
+-- the set is one of these, and its voices are among the first ones
+abbrev pub is_set_below : ℕ → ℕ → Bool
+is_set_below n voices = list_any (λ other. voices == other) sets_below && is_below n voices
+
+-- after the prefix each column with the same cells in the first voices settles a strict break
+abbrev pub AllBreak : ℕ → Exercise → List (List Cell) → List Cell → Type 0
+AllBreak n ex p col = (other : List Cell) → take n other ≡ take n col → list_any (newly_broken ex p other) rules_read ≡ true
+
+-- at the moment, after each prefix that it may come after
+abbrev pub IsDeadWithin : ℕ → Moment → Type 0
+IsDeadWithin n m = (p : List (List Cell)) → IsAfter p m → AllBreak n m.exercise.now p m.column.now
+
+-- and by a set of voices, among however many first ones it is
+abbrev pub IsDeadBy : ℕ → Moment → Type 0
+IsDeadBy voices m = (n : ℕ) → IsTrue (is_set_below n voices) → IsDeadWithin n m
