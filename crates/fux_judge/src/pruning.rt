@@ -1,12 +1,10 @@
 //! Columns that are dead by the cells of a few voices.
 
-ghost use Rattle.std.specs.Prelude.{◌≡◌, ◌≤◌, ◌<◌, ◌+◌, ◌&&◌, not, true, List, IsTrue, IfSome, length, take};
+ghost use Rattle.std.specs.Prelude.{◌≡◌, ◌≤◌, ◌<◌, ◌+◌, true, List, IsTrue, IfSome, length, take};
 ghost use Rattle.std.specs.Bool.{OnTrue};
 ghost use Rattle.std.specs.List.{list_all, list_any};
 ghost use Rattle.fux_grid.specs.declared.cell.Cell.{Cell as ACell};
 ghost use Rattle.fux_grid.specs.Exercises.{IsValid, columns_in};
-ghost use Rattle.rule_law.specs.Bars as bars;
-ghost use Rattle.rule_law.specs.Terms as terms;
 ghost use Rattle.fux_judge.specs.Rules.{rules_read};
 ghost use Rattle.fux_judge.specs.Grows.{newly_broken};
 ghost use Rattle.fux_judge.specs.Moments.{IsReadable};
@@ -17,8 +15,8 @@ use crate::moment::Moment;
 use crate::reading::is_strictly_broken;
 use crate::state::State;
 use crate::verdict::moment_of;
-use fux_grid::{Cell, Column, Exercise, VoiceSet, cell_of};
-use rule_law::{begins_bar, pair_of, starts, voice_of};
+use fux_grid::{Column, Exercise, VoiceSet, cell_of};
+use rule_law::{begins_bar, is_quiet, pair_of, starts, voice_of};
 
 /// The rules of one voice that starts a note.
 const WHERE_IT_STARTS: [u8; 7] = [4, 5, 26, 6, 7, 8, 9];
@@ -43,22 +41,6 @@ const WITH_SECOND: [u8; 2] = [2, 3];
 const WITH_THIRD: [u8; 3] = [4, 5, 6];
 
 const WITH_FOURTH: [u8; 4] = [8, 9, 10, 12];
-
-/// Whether a note starts in one of these cells.
-#[inline]
-fn any_starts(cells: &[Cell]) -> bool
-    ensures { result ≡ list_any terms.starts cells.now }
-{
-    cells.iter().any(|cell| starts(*cell))
-}
-
-/// Whether neither a bar nor a note begins. Then no rule but S3 can be broken.
-#[inline]
-fn is_quiet(i: usize, cells: &[Cell]) -> bool
-    ensures { result ≡ (not (bars.begins_bar i) && not (list_any terms.starts cells.now)) }
-{
-    !begins_bar(i) && !any_starts(cells)
-}
 
 /// The sets of a voice alone, and with each lower one.
 #[inline]
