@@ -1,4 +1,5 @@
 pub mod Alive
 pub mod Children
-pub mod Passed
+pub mod MenuSteps
+pub mod Passing
 pub mod PathSteps

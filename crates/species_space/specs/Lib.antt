@@ -1,4 +1,5 @@
 pub mod Best
+pub mod Blocks
 pub mod Exact
 pub mod Grows
 pub mod Leaves

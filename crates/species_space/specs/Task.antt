@@ -1,14 +1,12 @@
 -- What a space is of, and what it keeps.
 use Rattle.std.specs.Prelude.{◌≡◌, ℕ, ◌<◌, ◌≤◌, List, length, slice_index_or, ⊤}
-use Rattle.std.specs.declared.vec.Vec.{Vec}
-use Rattle.std.specs.declared.alloc.Global.{Global}
-use Rattle.arrayvec.specs.ArrayVec.{ArrayVec}
-use Rattle.fux_grid.specs.declared.cell.Cell.{Cell}
 use Rattle.fux_grid.specs.declared.exercise.Exercise.{Exercise}
 use Rattle.fux_grid.specs.declared.exercise.Place.{Place}
 use Rattle.fux_grid.specs.Exercises.{IsValid, columns_in, bar_of, slot_of}
 use Rattle.fux_grid.specs.Grid.{items_of}
 use Rattle.fux_grid.specs.Menus.{menu_of}
+use Rattle.species_space.specs.Blocks.{IsBlockMenu}
+use Rattle.species_space.specs.declared.blocks.BlockMenu.{BlockMenu}
 use Rattle.species_space.specs.declared.space.TableFault.{TableFault}
 use Rattle.species_space.specs.declared.space.TableFault.TheVariants.{TooWide, Memory}
 use Rattle.penalty_sheet.specs.declared.sheet.Sheet.{Sheet}
@@ -18,13 +16,14 @@ pub record Task : Type 0 where
   pub exercise : Exercise
   pub sheet : Sheet
 
--- the menus of the first columns, none of them too wide
-pub record AreMenus (ex : Exercise) (menus : List (Vec (ArrayVec Cell) Global)) : Type 0 where
-  pub exact : (i : ℕ) (d : Vec (ArrayVec Cell) Global) → i < length menus → items_of (slice_index_or menus i d).items ≡ menu_of ex i
+-- the menus of the first columns in blocks, none of them too wide
+pub record AreMenus (ex : Exercise) (menus : List BlockMenu) : Type 0 where
+  pub exact : (i : ℕ) (d : BlockMenu) → i < length menus → items_of (slice_index_or menus i d).columns.items ≡ menu_of ex i
+  pub blocks : (i : ℕ) (d : BlockMenu) → i < length menus → IsBlockMenu (slice_index_or menus i d)
   pub narrow : (i : ℕ) → i < length menus → length (menu_of ex i) ≤ 8192
 
 -- a valid exercise with the menus of all its columns
-pub record IsReady (ex : Exercise) (menus : List (Vec (ArrayVec Cell) Global)) : Type 0 where
+pub record IsReady (ex : Exercise) (menus : List BlockMenu) : Type 0 where
   pub valid : IsValid ex
   pub counted : length menus ≡ columns_in ex
   pub kept : AreMenus ex menus

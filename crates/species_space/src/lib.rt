@@ -1,6 +1,7 @@
 //! Counterpoint as a tree: its live paths are the live prefixes of an exercise, and its leaves the lawful settings.
 #![tactic(auto)]
 
+mod blocks;
 mod node;
 mod score;
 mod space;

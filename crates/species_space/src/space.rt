@@ -2,17 +2,18 @@
 
 ghost use Rattle.std.specs.Prelude.{◌≡◌, ◌<◌, ◌≤◌, ℕ, List, [], ◌∷◌, ◌++◌, OnOk, IfOk, IfErr, MatchOption, length, slice_index_or};
 ghost use Rattle.fux_grid.specs.Exercises.{IsValid, columns_in, bar_of, slot_of};
-ghost use Rattle.fux_grid.specs.Columns.{ColumnFollows};
 ghost use Rattle.fux_grid.specs.Grid.{items_of};
 ghost use Rattle.fux_grid.specs.Menus.{menu_of};
+ghost use Rattle.species_space.specs.Blocks.{IsBlockMenu};
 ghost use Rattle.species_space.specs.Grows.{paths_grow};
 ghost use Rattle.species_space.specs.Nodes.{IsNodeOf};
 ghost use Rattle.species_space.specs.Paths.{live_at, width_at};
 ghost use Rattle.species_space.specs.Task.{TellsWidth};
 ghost use Rattle.tree_search.specs.Space.{HasChild};
 
+use crate::blocks::BlockMenu;
 use crate::node::Node;
-use fux_grid::{Cell, Column, Exercise, MenuFault, Place, cells_follow, menu};
+use fux_grid::{Column, Exercise, MenuFault, Place, cells_follow, menu};
 use fux_judge::{State, step};
 use fux_pitch::Memory;
 use penalty_sheet::Sheet;
@@ -35,7 +36,7 @@ pub enum TableFault {
 pub struct SpeciesSpace<'a> {
     exercise: &'a Exercise,
     sheet: &'a Sheet,
-    menus: Vec<Vec<Column>>,
+    menus: Vec<BlockMenu>,
 }
 
 impl<'a> Model for SpeciesSpace<'a> {
@@ -91,7 +92,7 @@ impl<'a> SpeciesSpace<'a> {
         let mut menus = Vec::with_capacity(alloc, columns).map_err(|_| TableFault::Memory)?;
         for i in 0..columns {
             match menu(alloc, exercise, i) {
-                Ok(choices) => menus.push(choices).map_err(|_| TableFault::Memory)?,
+                Ok(choices) => menus.push_reserved(BlockMenu::new(choices)),
                 Err(MenuFault::TooWide { count }) => {
                     return Err(TableFault::TooWide {
                         place: place_of(i),
@@ -123,16 +124,16 @@ impl<'a> SpeciesSpace<'a> {
         requires within { k < length (menu_of self.now.exercise i) }
         ensures { result.now.items ≡ slice_index_or (menu_of self.now.exercise i) k [] }
     {
-        &self.menus[i][k]
+        &self.menus[i].columns[k]
     }
 
     /// The menu of column i.
-    fn menu(&self, i: usize) -> &[Column]
+    pub(crate) fn menu(&self, i: usize) -> &BlockMenu
         requires { i < columns_in self.now.exercise }
-        ensures value { items_of result.now ≡ menu_of self.now.exercise i }
-        ensures narrow { length result.now ≤ 8192 }
+        ensures value { items_of result.now.columns.items ≡ menu_of self.now.exercise i }
+        ensures cut { IsBlockMenu result.now }
     {
-        self.menus[i].as_slice()
+        &self.menus[i]
     }
 }
 
@@ -155,11 +156,16 @@ impl<'a> Space for SpeciesSpace<'a> {
 
     fn root(&self) -> Option<(Node, u64)> {
         let state = State::start(self.exercise);
-        Some((Node { state, paid: 0 }, 0))
+        let root = Node {
+            state,
+            paid: 0,
+            hint: 0,
+        };
+        Some((root, 0))
     }
 
     fn count(&self, node: &Node) -> usize {
-        self.menu(node.state.len()).len()
+        self.menu(node.state.len()).columns.len()
     }
 
     fn child(&self, node: &Node, k: usize) -> Option<(Node, u64)> {
@@ -169,7 +175,8 @@ impl<'a> Space for SpeciesSpace<'a> {
 
     fn next_child(&self, node: &Node, from: usize) -> usize {
         let before = node.state.before(self.exercise);
-        next_that_follows(self.menu(node.state.len()), before, from)
+        self.menu(node.state.len())
+            .next_that_follows(before, from, node.hint)
     }
 }
 
@@ -200,22 +207,7 @@ fn child_by(
     let child = Node {
         state: verdict.state,
         paid,
+        hint: k,
     };
     Some((child, paid))
-}
-
-/// The first column of a menu, from this number on, that may follow; the menu's length where there is none.
-fn next_that_follows(menu: &[Column], before: &[Cell], from: usize) -> usize
-    ensures onward { from ≤ result }
-    ensures passed { (k : ℕ) → from ≤ k → k < result → k < length menu.now → ColumnFollows before.now (slice_index_or (items_of menu.now) k []) → ⊥ }
-    ensures within { from ≤ length menu.now → result ≤ length menu.now }
-{
-    let mut k = from;
-    while k < menu.len() {
-        if cells_follow(before, menu[k].as_slice()) {
-            return k;
-        }
-        k += 1;
-    }
-    k
 }

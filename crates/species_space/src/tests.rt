@@ -1,11 +1,14 @@
-//! Exercises of two voices in first species whose best settings were worked out elsewhere, by fewer rules and tolls.
+//! Exercises of two voices in first species whose best settings were worked out elsewhere, by fewer rules and tolls, and which columns of four voices follow.
 
+ghost use Rattle.std.specs.Prelude.{◌≡◌, IfOk};
 ghost use Rattle.fux_grid.specs.Exercises.{IsValid, columns_in};
+ghost use Rattle.species_space.specs.Blocks.{IsBlockMenu};
 ghost use Rattle.species_space.specs.Paths.{live_at};
 ghost use Rattle.tree_search.specs.Answer.{IsFirstLeast};
 
+use crate::blocks::BlockMenu;
 use crate::{SpeciesSpace, score_of};
-use fux_grid::{Cell, Exercise, RangeLine, Relax};
+use fux_grid::{Cell, Column, Exercise, RangeLine, Relax, cells_follow};
 use fux_pitch::{List, Mode, Pitch, parse_pitch};
 use penalty_sheet::Sheet;
 use std::alloc::Global;
@@ -288,6 +291,118 @@ fn a_small_budget_is_spent(rt: HostRuntime) -> Result<(), Fail> {
     for (budget, wanted) in [(1, "spent"), (112, wanted)] {
         let found = answer(rt.alloc(), &exercise, &FIRST_SHEET, budget)?;
         assert_eq!(rt; found.as_str(), wanted, "{budget}");
+    }
+    Ok(())
+}
+
+/// For the columns of the first bar of four voices, one with the cantus and each other one with four pitches: the species of the highest voice, and for each slot
+/// how many columns its menu has and how many of them follow the last column of the menu before. A free voice of species 1 starts one of four pitches at slot 0 and
+/// holds it after that. The highest voice may in species 5 rest up to slot 3, start at all slots but 1 and 5, and hold at all but 0.
+const FOLLOWERS: [(u8, [(usize, usize); 8]); 2] = [
+    (
+        1,
+        [
+            (64, 64),
+            (64, 1),
+            (64, 1),
+            (64, 1),
+            (64, 1),
+            (64, 1),
+            (64, 1),
+            (64, 1),
+        ],
+    ),
+    (
+        5,
+        [
+            (80, 80),
+            (80, 2),
+            (144, 6),
+            (144, 6),
+            (128, 5),
+            (64, 1),
+            (128, 5),
+            (128, 5),
+        ],
+    ),
+];
+
+/// Four voices above D4 E4 D4.
+fn four_voices(alloc: Global, species: u8) -> Result<Exercise, Fail> {
+    let mut ranges = Vec::new(alloc);
+    for (voice, low, high) in [(1, "D4", "G4"), (2, "F4", "Bb4"), (3, "C5", "F5")] {
+        ranges.push(RangeLine {
+            voice,
+            low: parse_pitch(low.as_bytes()).ok_or("no lowest pitch")?,
+            high: parse_pitch(high.as_bytes()).ok_or("no highest pitch")?,
+            bars: None,
+        })?;
+    }
+    Ok(Exercise {
+        mode: Mode::Dorian,
+        voices: 4,
+        bars: 3,
+        species,
+        species_voice: 3,
+        cantus_voice: 0,
+        cantus: List::new(pitches(alloc, "D4 E4 D4")?),
+        ranges: List::new(ranges),
+        relax: List::new(Vec::new(alloc)),
+        setting: None,
+    })
+}
+
+/// The first column from a number on that follows, as each one is tried.
+fn next_tried(columns: &[Column], before: &[Cell], from: usize) -> usize {
+    for k in from..columns.len() {
+        if cells_follow(before, columns[k].as_slice()) {
+            return k;
+        }
+    }
+    columns.len()
+}
+
+/// How many columns follow.
+fn count_following(columns: &[Column], before: &[Cell]) -> usize {
+    columns
+        .iter()
+        .filter(|column| cells_follow(before, column.as_slice()))
+        .count()
+}
+
+/// The first number from which a menu passes over a column that follows, or stops at one that doesn't.
+fn first_wrong(menu: &BlockMenu, before: &[Cell], hint: usize) -> Option<usize>
+    requires { IsBlockMenu menu.now }
+{
+    for from in 0..menu.columns.len() + 1 {
+        let found = menu.next_that_follows(before, from, hint);
+        if found != next_tried(menu.columns.as_slice(), before, from) {
+            return Some(from);
+        }
+    }
+    None
+}
+
+#[test]
+fn finds_each_column_that_follows(rt: HostRuntime) -> Result<(), Fail> {
+    for (species, rows) in FOLLOWERS {
+        let exercise = four_voices(rt.alloc(), species)?;
+        assert!(rt; exercise.is_valid());
+        let Ok(space) = SpeciesSpace::in_one_thread(rt.alloc(), &exercise, &FIRST_SHEET) else {
+            return Err("no tables".into());
+        };
+        let mut before = Column::new();
+        for (slot, (width, following)) in rows.into_iter().enumerate() {
+            let menu = space.menu(slot);
+            assert_eq!(rt; menu.columns.len(), width, "{species} {slot}");
+            let count = count_following(menu.columns.as_slice(), before.as_slice());
+            assert_eq!(rt; count, following, "{species} {slot}");
+            for hint in [0, width / 2, width.saturating_sub(1), width] {
+                let wrong = first_wrong(menu, before.as_slice(), hint);
+                assert_eq!(rt; wrong, None, "{species} {slot} {hint}");
+            }
+            before = menu.columns.last().ok_or("an empty menu")?.clone()?;
+        }
     }
     Ok(())
 }

@@ -1,5 +1,11 @@
-use Rattle.std.proofs.Common.{ap, sym, ◌∙◌, subst, arith, Err}
-use Rattle.species_space.specs.Task.{IsTooWide}
+use Rattle.std.proofs.Common.{◌≡◌, [], ◌∷◌, Err, ap, length, sym, ◌∙◌, subst, arith}
+use Rattle.std.proofs.lemmas.List.{length-append, length-map}
+use Rattle.fux_grid.specs.Grid.{items_of}
+use Rattle.fux_grid.specs.Menus.{menu_of}
+use Rattle.fux_grid.proofs.MenuLemmas.{menu_of-full}
+use Rattle.species_space.specs.Blocks.{HasOneWidth}
+use Rattle.species_space.specs.Task.{AreMenus, IsTooWide}
+use Rattle.species_space.proofs.MenuSteps.{menus_more}
 use Rattle.species_space.proofs.space.SpeciesSpace.in_one_thread.Goals as goal
 
 pub returns-in-Err-TooWide-clause-wide : goal.returns-in-Err-TooWide-clause-wide
@@ -16,3 +22,23 @@ returns-in-Err-TooWide-clause-wide c =
       first = λ earlier lt. c.loop-i.invariant.kept.narrow earlier (omega (arith, lt, c.loop-i.invariant.counted));
     } in
     subst (IsTooWide ex c.place_of.result) (sym c.in-Err-TooWide.count-is) here
+
+pub new-requires-clause-full : goal.new-requires-clause-full
+new-requires-clause-full c =
+    let ex = c.args.exercise.now in
+    subst HasOneWidth (sym c.in-Ok.ensures.value) (ex.voices, menu_of-full ex c.loop-i.i)
+
+pub loop-i-preserved : goal.loop-i-preserved
+loop-i-preserved c =
+    let ex = c.args.exercise.now in
+    let menus = c.loop-i.menus.items in
+    let choices = c.in-Ok.choices in
+    let pushed = c.push_reserved.ensures.items in
+    let here = sym c.loop-i.invariant.counted in
+    let value : items_of c.new.result.columns.items ≡ menu_of ex (length menus) = ap (λ columns. items_of columns.items) c.new.ensures.columns ∙ c.in-Ok.ensures.value ∙ ap (menu_of ex) here in
+    let wide : length (menu_of ex (length menus)) ≡ length choices.items = sym (ap length (c.in-Ok.ensures.value ∙ ap (menu_of ex) here)) ∙ length-map choices.items (λ col. col.items) in
+    record {
+      room = c.push_reserved.ensures.capacity ∙ c.loop-i.invariant.room;
+      counted = omega (arith, ap length pushed, length-append menus (c.new.result ∷ []), here);
+      kept = subst (AreMenus ex) (sym pushed) (menus_more ex menus c.new.result c.loop-i.invariant.kept value c.new.ensures.cut (omega (arith, wide, choices.ok.0, c.in-Ok.ensures.most)));
+    }

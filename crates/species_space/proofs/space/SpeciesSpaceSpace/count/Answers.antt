@@ -13,6 +13,6 @@ menu-requires c =
 pub returns-clause-value : goal.returns-clause-value
 returns-clause-value c = λ path at.
     let ex = c.args.self.now.exercise in
-    sym (length-map c.menu.result.now (λ col. col.items))
+    c.len-2.ensures ∙ c.menu.result.now.columns.ok.0 ∙ sym (length-map c.menu.result.now.columns.items (λ col. col.items))
     ∙ ap length c.menu.ensures.value
     ∙ ap (λ i. length (menu_of ex i)) (c.len.ensures ex (prefix_at ex path) at.state ∙ length-columns_on ex 0 path)

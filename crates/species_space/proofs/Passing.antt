@@ -1,0 +1,164 @@
+-- Which columns blocks and holds pass over.
+use Rattle.std.proofs.Common.{◌≡◌, nat_lt, ℕ, zero, suc, ◌+◌, ◌*◌, ◌/◌, ◌<◌, ◌≤◌, Bool, true, false, List, [], ◌∷◌, IsTrue, length, slice_index_or, refl, ap, sym, ◌∙◌, subst, arith, true≢false}
+use Rattle.std.specs.declared.cmp.Ordering.{Ordering}
+use Rattle.std.specs.declared.cmp.Ordering.TheVariants.{Less, Equal}
+use Rattle.std.proofs.Math.Nat.{div-lt_iff_lt-mul, div-mul-le_self, div-one, le-div_iff_mul-le, lt-div-mul-add}
+use Rattle.std.proofs.lemmas.List.{length-map, same_lists, get_or_default}
+use Rattle.std.proofs.lemmas.Bool.Decides.{nat_tests}
+use Rattle.arrayvec.specs.ArrayVec.{ArrayVec}
+use Rattle.fux_pitch.proofs.PitchLemmas.{equal_from_test}
+use Rattle.fux_grid.specs.declared.cell.Cell.{Cell}
+use Rattle.fux_grid.specs.declared.cell.Cell.TheVariants.{Rest, Hold, Start}
+use Rattle.fux_grid.specs.Cells.{cell_in, cell_follows, is_hold}
+use Rattle.fux_grid.specs.Columns.{ColumnFollows}
+use Rattle.fux_grid.specs.Grid.{items_of}
+use Rattle.fux_grid.specs.Menus.{IsAscending}
+use Rattle.fux_grid.proofs.Combinations.{AllPairs-place, IsColumnBefore}
+use Rattle.fux_grid.proofs.OrderLemmas.{column_order-itself}
+use Rattle.rule_law.specs.Law.{below_from_test}
+use Rattle.species_space.specs.Blocks.{AreOnlyHolds, HasOneWidth, IsBlockEnd, IsNext, KeepsCell, same_cell}
+
+-- ---- blocks
+
+pub same_from_test : (c d : Cell) → same_cell c d ≡ true → c ≡ d
+same_from_test Rest Rest h = refl
+same_from_test (Hold p) (Hold q) h = ap Hold (equal_from_test p q h)
+same_from_test (Start p) (Start q) h = ap Start (equal_from_test p q h)
+same_from_test Rest (Hold q) h = cc
+same_from_test Rest (Start q) h = cc
+same_from_test (Hold p) Rest h = cc
+same_from_test (Hold p) (Start q) h = cc
+same_from_test (Start p) Rest h = cc
+same_from_test (Start p) (Hold q) h = cc
+
+-- the end of a block
+pub block_ends : (k size : ℕ) → 1 ≤ size → IsBlockEnd k size (k / size * size + size)
+block_ends k size some = record {
+  onward = lt-div-mul-add some;
+  one_block = λ j le lt.
+      let below : j < (k / size + 1) * size = omega (arith, ends, lt) in
+      let high : j / size < k / size + 1 = (div-lt_iff_lt-mul some).1 below in
+      let low : k / size ≤ j / size = (le-div_iff_mul-le some).1 (omega (arith, div-mul-le_self k size, le)) in
+      omega (arith, high, low);
+}
+  where
+    ends : (k / size + 1) * size ≡ k / size * size + size
+    ends = more (k / size)
+      where
+        more : (q : ℕ) → (q + 1) * size ≡ q * size + size
+        more q = omega arith
+
+-- each column is a block of its own
+pub one_column_blocks : (menu : List (List Cell)) (v : ℕ) → KeepsCell menu v 1
+one_column_blocks menu v k lt =
+    let e : k ≡ k / 1 * 1 = omega (arith, div-one k) in
+    ap (λ n. cell_in (slice_index_or menu n []) v) e
+
+-- within a block a voice has one cell
+pub one_cell : (menu : List (List Cell)) (v size j k : ℕ) → KeepsCell menu v size → j < length menu → k < length menu → j / size ≡ k / size → cell_in (slice_index_or menu j []) v ≡ cell_in (slice_index_or menu k []) v
+one_cell menu v size j k kept a b e =
+    kept j a ∙ ap (λ n. cell_in (slice_index_or menu (n * size) []) v) e ∙ sym (kept k b)
+
+-- so that a column in which it doesn't follow tells it of its block
+pub strays_in_block : (menu : List (List Cell)) (before : List Cell) (v size j k : ℕ) → KeepsCell menu v size → j < length menu → k < length menu → j / size ≡ k / size → cell_follows (cell_in before v) (cell_in (slice_index_or menu k []) v) ≡ false → ColumnFollows before (slice_index_or menu j []) → ⊥
+strays_in_block menu before v size j k kept a b e stray follows =
+    let same = one_cell menu v size j k kept a b e in
+    let P : Cell → Type 0 = λ c. IsTrue (cell_follows (cell_in before v) c) in
+    true≢false (sym (subst P same (follows v)) ∙ stray)
+
+-- ---- columns of holds
+
+holds_alike : (b c d : Cell) → IsTrue (cell_follows b c) → IsTrue (cell_follows b d) → IsTrue (is_hold c) → IsTrue (is_hold d) → c ≡ d
+holds_alike b Rest d h k e f = cc
+holds_alike b (Start p) d h k e f = cc
+holds_alike b (Hold p) Rest h k e f = cc
+holds_alike b (Hold p) (Start q) h k e f = cc
+holds_alike Rest (Hold p) (Hold q) h k e f = cc
+holds_alike (Hold r) (Hold p) (Hold q) h k e f = ap Hold (sym (equal_from_test r p h) ∙ equal_from_test r q k)
+holds_alike (Start r) (Hold p) (Hold q) h k e f = ap Hold (sym (equal_from_test r p h) ∙ equal_from_test r q k)
+
+-- two columns of holds that follow are one
+columns_alike : (before c d : List Cell) → length c ≡ length d → ((v : ℕ) → v < length c → IsTrue (is_hold (cell_in c v))) → ((v : ℕ) → v < length d → IsTrue (is_hold (cell_in d v))) → ColumnFollows before c → ColumnFollows before d → c ≡ d
+columns_alike before c d long holds its_holds follows its =
+    same_lists c d long
+    (λ v x lt.
+    let there : v < length d = omega (arith, long, lt) in
+    get_or_default c v x Rest lt
+    ∙ holds_alike (cell_in before v) (cell_in c v) (cell_in d v) (follows v) (its v) (holds v lt) (its_holds v there)
+    ∙ sym (get_or_default d v x Rest there))
+
+-- a column of holds, cell by cell
+held_at : (columns : List (ArrayVec Cell)) → AreOnlyHolds columns → (k : ℕ) → k < length (items_of columns) → (v : ℕ) → v < length (slice_index_or (items_of columns) k []) → IsTrue (is_hold (cell_in (slice_index_or (items_of columns) k []) v))
+held_at columns held k lt = at columns held k (omega (arith, lt, length-map columns (λ col. col.items)))
+  where
+    at : (columns : List (ArrayVec Cell)) → AreOnlyHolds columns → (k : ℕ) → k < length columns → (v : ℕ) → v < length (slice_index_or (items_of columns) k []) → IsTrue (is_hold (cell_in (slice_index_or (items_of columns) k []) v))
+    at [] held k lt v few = absurd (omega arith)
+    at (col ∷ columns) held zero lt v few = held 0 col (omega arith) v Rest few
+    at (col ∷ columns) held (suc k) lt v few = at columns (λ j d b. held (suc j) d (omega (arith, b))) k (omega (arith, lt)) v few
+
+-- at a menu of holds only one column follows
+pub only_one_follows : (columns : List (ArrayVec Cell)) (before : List Cell) (j k : ℕ) → AreOnlyHolds columns → IsAscending (items_of columns) → HasOneWidth (items_of columns) → j < length (items_of columns) → k < length (items_of columns) → ColumnFollows before (slice_index_or (items_of columns) j []) → ColumnFollows before (slice_index_or (items_of columns) k []) → j ≡ k
+only_one_follows columns before j k held order full a b follows its =
+    AllPairs-place IsColumnBefore (items_of columns) order (λ c h. apart (column_order-itself c) h) j k [] a b
+    (columns_alike before (slice_index_or (items_of columns) j []) (slice_index_or (items_of columns) k []) (full.1 j [] a ∙ sym (full.1 k [] b)) (held_at columns held j a) (held_at columns held k b) follows its)
+  where
+    apart : {o : Ordering} → o ≡ Equal → o ≡ Less → ⊥
+    apart e h = let f : Equal ≡ Less = sym e ∙ h in absurd (cc)
+
+-- ---- a walk by blocks
+
+-- what holds up to a place, and from it on up to another, holds up to that one
+pub passed_on : (P : ℕ → Type 0) (from k end : ℕ) → ((j : ℕ) → from ≤ j → j < k → P j) → ((j : ℕ) → k ≤ j → j < end → P j) → (j : ℕ) → from ≤ j → j < end → P j
+passed_on P from k end before block j le lt = go (nat_lt j k) refl
+  where
+    beyond : nat_lt j k ≡ false → k ≤ j
+    beyond e = grind (arith, nat_tests)
+
+    go : (b : Bool) → nat_lt j k ≡ b → P j
+    go true e = before j le (below_from_test j k e)
+    go false e = block j (beyond e) lt
+
+-- so where a column is known that follows, it is the first one that does, from any number up to it
+pub hint_is_next : (columns : List (ArrayVec Cell)) (before : List Cell) (from hint : ℕ) → AreOnlyHolds columns → IsAscending (items_of columns) → HasOneWidth (items_of columns) → hint < length columns → ColumnFollows before (slice_index_or (items_of columns) hint []) → from ≤ hint → IsNext (items_of columns) before from hint
+hint_is_next columns before from hint held order full there follows le =
+    let long = length-map columns (λ col. col.items) in
+    record {
+      onward = le;
+      within = omega (arith, long, there);
+      follows = λ b. follows;
+      passed = λ k a b its.
+          let same : k ≡ hint = only_one_follows columns before k hint held order full (omega (arith, long, there, b)) (omega (arith, long, there)) its follows in
+          absurd (omega (arith, same, b));
+    }
+
+-- and beyond it there is none
+pub none_is_next : (columns : List (ArrayVec Cell)) (before : List Cell) (from hint end : ℕ) → AreOnlyHolds columns → IsAscending (items_of columns) → HasOneWidth (items_of columns) → hint < length columns → ColumnFollows before (slice_index_or (items_of columns) hint []) → hint < from → from ≤ length columns → end ≡ length columns → IsNext (items_of columns) before from end
+none_is_next columns before from hint end held order full there follows lt le last =
+    let long = length-map columns (λ col. col.items) in
+    record {
+      onward = omega (arith, le, last);
+      within = omega (arith, long, last);
+      follows = λ b. absurd (omega (arith, long, last, b));
+      passed = λ k a b its.
+          let same : k ≡ hint = only_one_follows columns before k hint held order full (omega (arith, long, last, b)) (omega (arith, long, there)) its follows in
+          absurd (omega (arith, same, a, lt));
+    }
+
+-- what holds below a number and at it holds below the next
+pub one_more : (P : ℕ → Type 0) (k : ℕ) → ((j : ℕ) → j < k → P j) → P k → (j : ℕ) → j < k + 1 → P j
+one_more P k below here j lt = go (nat_lt j k) refl
+  where
+    at_end : nat_lt j k ≡ false → k ≡ j
+    at_end e = grind (arith, nat_tests)
+
+    go : (b : Bool) → nat_lt j k ≡ b → P j
+    go true e = below j (below_from_test j k e)
+    go false e = subst P (at_end e) here
+
+-- what holds of each of four numbers and its place
+pub four : (P : ℕ → ℕ → Type 0) (a b c d : ℕ) → P 0 a → P 1 b → P 2 c → P 3 d → (v : ℕ) → v < 4 → P v (slice_index_or (a ∷ b ∷ c ∷ d ∷ []) v 0)
+four P a b c d w x y z zero lt = w
+four P a b c d w x y z (suc zero) lt = x
+four P a b c d w x y z (suc (suc zero)) lt = y
+four P a b c d w x y z (suc (suc (suc zero))) lt = z
+four P a b c d w x y z (suc (suc (suc (suc v)))) lt = absurd (omega arith)

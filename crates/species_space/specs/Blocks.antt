@@ -1,0 +1,56 @@
+-- Menus in blocks, over which voices keep their cells.
+use Rattle.std.specs.Prelude.{◌≡◌, ℕ, ◌*◌, ◌/◌, ◌<◌, ◌≤◌, Bool, true, false, List, [], All, IsTrue, length, slice_index_or}
+use Rattle.arrayvec.specs.ArrayVec.{ArrayVec}
+use Rattle.fux_pitch.specs.Pitch.{same_pitch}
+use Rattle.fux_grid.specs.declared.cell.Cell.{Cell}
+use Rattle.fux_grid.specs.declared.cell.Cell.TheVariants.{Rest, Hold, Start}
+use Rattle.fux_grid.specs.Cells.{cell_in, is_hold}
+use Rattle.fux_grid.specs.Columns.{ColumnFollows}
+use Rattle.fux_grid.specs.Grid.{items_of}
+use Rattle.fux_grid.specs.Menus.{IsAscending}
+use Rattle.species_space.specs.declared.blocks.BlockMenu.{BlockMenu}
+
+-- the cells are of one kind and pitch
+abbrev pub same_cell : Cell → Cell → Bool
+same_cell Rest Rest = true
+same_cell Rest (Hold q) = false
+same_cell Rest (Start q) = false
+same_cell (Hold p) Rest = false
+same_cell (Hold p) (Hold q) = same_pitch p q
+same_cell (Hold p) (Start q) = false
+same_cell (Start p) Rest = false
+same_cell (Start p) (Hold q) = false
+same_cell (Start p) (Start q) = same_pitch p q
+
+-- in each column a voice has the cell that it has in the first column of the column's block; blocks have this length
+abbrev pub KeepsCell : List (List Cell) → ℕ → ℕ → Type 0
+KeepsCell menu v size = (k : ℕ) → k < length menu → cell_in (slice_index_or menu k []) v ≡ cell_in (slice_index_or menu (k / size * size) []) v
+
+-- each cell of each column is a hold
+abbrev pub AreOnlyHolds : List (ArrayVec Cell) → Type 0
+AreOnlyHolds columns = All (λ col. All (λ c. IsTrue (is_hold c)) col.items) columns
+
+-- all columns have as many cells
+abbrev pub HasOneWidth : List (List Cell) → Type 0
+HasOneWidth menu = (voices : ℕ) × All (λ col. length col ≡ voices) menu
+
+-- what a menu in blocks keeps
+pub record IsBlockMenu (menu : BlockMenu) : Type 0 where
+  pub few : length menu.columns.items ≤ 8192
+  pub order : IsAscending (items_of menu.columns.items)
+  pub full : HasOneWidth (items_of menu.columns.items)
+  pub some : (v : ℕ) → v < 4 → 1 ≤ slice_index_or menu.lengths v 0
+  pub kept : (v : ℕ) → v < 4 → KeepsCell (items_of menu.columns.items) v (slice_index_or menu.lengths v 0)
+  pub holds : IsTrue menu.only_holds → AreOnlyHolds menu.columns.items
+
+-- from a number on up to this end all numbers are of one block
+pub record IsBlockEnd (k size end : ℕ) : Type 0 where
+  pub onward : k < end
+  pub one_block : (j : ℕ) → k ≤ j → j < end → j / size ≡ k / size
+
+-- the first column of a menu, from a number on, that may follow; the menu's length where there is none
+pub record IsNext (menu : List (List Cell)) (before : List Cell) (from next : ℕ) : Type 0 where
+  pub onward : from ≤ next
+  pub within : next ≤ length menu
+  pub follows : next < length menu → ColumnFollows before (slice_index_or menu next [])
+  pub passed : (k : ℕ) → from ≤ k → k < next → ColumnFollows before (slice_index_or menu k []) → ⊥
