@@ -12,7 +12,7 @@ use fux_pitch::{Label, Memory};
 use fux_text::write;
 use penalty_sheet::default_sheet;
 use plain_text::{PlainFault, read_plain};
-use species_space::{SpeciesSpace, score_of};
+use species_space::{SpeciesSpace, TableFault, score_of};
 use std::alloc::Global;
 use std::fmt::Write;
 use tree_search::{Outcome, search_depth};
@@ -28,14 +28,17 @@ pub fn compose(alloc: Global, bytes: &[u8], budget: u32) -> Result<Work, Memory>
     }
 }
 
-/// Searches the settings of an exercise. No menu of a plain exercise is too wide, since one voice of two has the cantus.
+/// Searches the settings of an exercise. No menu of two voices is too wide, since one of them has the cantus.
 fn search(alloc: Global, exercise: &Exercise, budget: u32) -> Result<Output, Memory>
-    requires { IsValid exercise.now }
+    requires valid { IsValid exercise.now }
+    requires pair { exercise.now.voices ≡ 2 }
     ensures { IfOk result (λ output. Tells exercise.now budget output.verdict output.text) }
 {
     let sheet = default_sheet();
-    let Ok(space) = SpeciesSpace::in_one_thread(alloc, exercise, &sheet) else {
-        return Err(Memory);
+    let space = match SpeciesSpace::in_one_thread(alloc, exercise, &sheet) {
+        Ok(space) => space,
+        Err(TableFault::Memory) => return Err(Memory),
+        Err(TableFault::TooWide { .. }) => unreachable!(),
     };
     match search_depth(alloc, &space, budget)? {
         Outcome::Found { path, value } => Ok(Output {

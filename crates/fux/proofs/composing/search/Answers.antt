@@ -7,7 +7,13 @@ use Rattle.tree_search.specs.Answer.{HasNoLeaf, BoundsLeaves, Many, IsLiveBelowR
 use Rattle.tree_search.specs.Outcomes.{OnNothing, IfSpent}
 use Rattle.fux.specs.Composed.{usual_sheet}
 use Rattle.fux.proofs.BestLemmas.{not_so_many}
+use Rattle.fux.proofs.WidthLemmas.{two_tell_none}
 use Rattle.fux.proofs.composing.search.Goals as goal
+
+pub unreachable-requires : goal.unreachable-requires
+unreachable-requires c =
+    let fault = c.in-Err-TooWide in
+    two_tell_none c.args.exercise.now c.requires.valid c.requires.pair fault.field-0 fault.field-0-0 fault.field-0-1 fault.field-0-is fault.ensures.wide
 
 pub returns-in-Nothing : goal.returns-in-Nothing
 returns-in-Nothing c =
