@@ -16,7 +16,8 @@ use crate::reading::is_strictly_broken;
 use crate::state::State;
 use crate::verdict::moment_of;
 use fux_grid::{Column, Exercise, VoiceSet, cell_of};
-use rule_law::{begins_bar, is_quiet, pair_of, starts, voice_of};
+use fux_pitch::is_imperfect;
+use rule_law::{begins_bar, interval_in, is_quiet, pair_of, starts, voice_of};
 
 /// The rules of one voice that starts a note.
 const WHERE_IT_STARTS: [u8; 7] = [4, 5, 26, 6, 7, 8, 9];
@@ -84,11 +85,24 @@ fn breaks_alone(voice: u8, voices: VoiceSet, m: &Moment<'_>) -> bool
     false
 }
 
+/// Whether two voices sound an imperfect consonance and the upper one is above, before the last bar. Then they break no rule together.
+fn is_sweet(lower: usize, upper: usize, m: &Moment<'_>) -> bool {
+    match interval_in(m.column, lower, upper) {
+        Some(size) => {
+            size.semitones > 0 && is_imperfect(size) && m.place / 8 + 1 < m.exercise.bars as usize
+        }
+        None => false,
+    }
+}
+
 /// Whether two voices together break a rule strictly.
 fn breaks_together(lower: u8, upper: u8, voices: VoiceSet, m: &Moment<'_>) -> bool
     requires readable { IsReadable m.now }
     ensures { OnTrue result (IsDeadBy voices.bits m.now) }
 {
+    if is_sweet(lower as usize, upper as usize, m) {
+        return false;
+    }
     let lower_starts = starts(cell_of(m.column, lower as usize));
     let upper_starts = starts(cell_of(m.column, upper as usize));
     if (lower_starts || upper_starts) && breaks_one(&WHERE_ONE_STARTS, voices, m) {
@@ -132,8 +146,9 @@ fn breaks_with(voice: usize, m: &Moment<'_>) -> bool
 }
 
 /// How many voices, counted from the lowest, make a column dead by their cells alone: then every column with the same cells in these
-/// voices settles a strict break. None where no such break was found; a column may be dead all the same. It takes no memory.
-pub fn dead_within(ex: &Exercise, state: &State, col: &Column) -> Option<usize>
+/// voices settles a strict break. None where no such break was found; a column may be dead all the same. The lowest voices of which it
+/// is known that they don't are not tried again: so many. It takes no memory.
+pub fn dead_within(ex: &Exercise, state: &State, col: &Column, tried: usize) -> Option<usize>
     requires valid { IsValid ex.now }
     requires room { state.now.len < columns_in ex.now }
     requires full { length col.now.items ≡ ex.now.voices }
@@ -145,7 +160,7 @@ pub fn dead_within(ex: &Exercise, state: &State, col: &Column) -> Option<usize>
         return None;
     }
     let moment = moment_of(ex, state, col);
-    for voice in 0..ex.voices as usize {
+    for voice in tried..ex.voices as usize {
         if breaks_with(voice, &moment) {
             return Some(voice + 1);
         }

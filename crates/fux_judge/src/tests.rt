@@ -93,7 +93,7 @@ fn judged(rt: &impl Abort, ex: &Exercise, state: &State, col: &Column) -> (Optio
 {
     assert!(rt; ex.voices == 4 && ex.bars == 3 && state.len < 24 && col.len() == 4);
     (
-        dead_within(ex, state, col),
+        dead_within(ex, state, col, 0),
         step(ex, &default_sheet(), state, col),
     )
 }

@@ -1,5 +1,5 @@
 -- Which children of a live path are live.
-use Rattle.std.proofs.Common.{◌≡◌, ℕ, ◌<◌, Bool, true, false, not, ◌&&◌, nat_lt, nat_le, List, [], ◌∷◌, ◌++◌, None, length, reverse, refl, ◌∙◌, arith}
+use Rattle.std.proofs.Common.{◌≡◌, ℕ, ◌<◌, Bool, true, false, not, ◌&&◌, nat_lt, nat_le, List, [], ◌∷◌, ◌++◌, None, length, reverse, refl, sym, ◌∙◌, true≢false, arith}
 use Rattle.std.specs.List.{list_any}
 use Rattle.std.proofs.lemmas.Bool.Decides.{nat_tests}
 use Rattle.fux_grid.specs.declared.cell.Cell.{Cell}
@@ -14,7 +14,7 @@ use Rattle.species_space.specs.declared.node.Node.{Node}
 use Rattle.species_space.specs.Grows.{live_none}
 use Rattle.species_space.specs.Leaves.{follows_from_test, test_from_follows}
 use Rattle.species_space.specs.Nodes.{IsNodeOf}
-use Rattle.species_space.specs.Paths.{prefix_at, column_at, width_at, column_follows, is_live_path, live_at, live_goes_on, live_from_parts, length-columns_on}
+use Rattle.species_space.specs.Paths.{IsDeadAfter, prefix_at, column_at, width_at, column_follows, is_live_path, live_at, live_goes_on, live_from_parts, length-columns_on}
 
 third_false : (a b c d : Bool) → c ≡ false → (a && b && c && d) ≡ false
 third_false true true c d e = rw e refl
@@ -49,6 +49,14 @@ module _ (ex : Exercise) (path : List ℕ) (k : ℕ) (live : is_live_path ex pat
   -- one that settles a strict break is dead
   pub breaks : (sheet : Sheet) → list_any (newly_broken ex (prefix_at ex path) (column_at ex path k)) rules_read ≡ true → live_at ex sheet (path ++ k ∷ []) ≡ None
   breaks sheet h = live_none ex sheet (path ++ k ∷ []) (live_goes_on ex path k live ∙ last_false (nat_lt (length path) (columns_in ex)) (nat_lt k (width_at ex path)) (column_follows before (column_at ex path k)) _ h)
+
+  -- one of which either is known is dead
+  pub dead : (sheet : Sheet) → IsDeadAfter ex (prefix_at ex path) (column_at ex path k) → live_at ex sheet (path ++ k ∷ []) ≡ None
+  dead sheet h = at (column_follows before (column_at ex path k)) refl
+    where
+      at : (b : Bool) → column_follows before (column_at ex path k) ≡ b → live_at ex sheet (path ++ k ∷ []) ≡ None
+      at true e = breaks sheet (h (follows_from_test before (column_at ex path k) e))
+      at false e = strays sheet (λ follows. true≢false (sym (test_from_follows before (column_at ex path k) follows) ∙ e))
 
   -- every other one is live
   pub goes : length path < columns_in ex → k < width_at ex path → ColumnFollows before (column_at ex path k) → list_any (newly_broken ex (prefix_at ex path) (column_at ex path k)) rules_read ≡ false → is_live_path ex (path ++ k ∷ []) ≡ true

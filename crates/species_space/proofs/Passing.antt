@@ -1,5 +1,5 @@
 -- Which columns blocks and holds pass over.
-use Rattle.std.proofs.Common.{◌≡◌, nat_lt, ℕ, zero, suc, ◌+◌, ◌*◌, ◌/◌, ◌<◌, ◌≤◌, Bool, true, false, List, [], ◌∷◌, IsTrue, length, slice_index_or, refl, ap, sym, ◌∙◌, subst, arith, true≢false}
+use Rattle.std.proofs.Common.{◌≡◌, nat_lt, ℕ, zero, suc, ◌+◌, ◌*◌, ◌/◌, ◌<◌, ◌≤◌, Bool, true, false, List, [], ◌∷◌, IsTrue, length, slice_index_or, take, refl, ap, sym, ◌∙◌, subst, arith, true≢false}
 use Rattle.std.specs.declared.cmp.Ordering.{Ordering}
 use Rattle.std.specs.declared.cmp.Ordering.TheVariants.{Less, Equal}
 use Rattle.std.proofs.Math.Nat.{div-lt_iff_lt-mul, div-mul-le_self, div-one, le-div_iff_mul-le, lt-div-mul-add}
@@ -162,3 +162,20 @@ four P a b c d w x y z (suc zero) lt = x
 four P a b c d w x y z (suc (suc zero)) lt = y
 four P a b c d w x y z (suc (suc (suc zero))) lt = z
 four P a b c d w x y z (suc (suc (suc (suc v)))) lt = absurd (omega arith)
+
+-- columns that agree in their lowest cells have the same beginning
+pub same_takes : (n : ℕ) (c d : List Cell) → length c ≡ length d → ((v : ℕ) → v < n → cell_in c v ≡ cell_in d v) → take n c ≡ take n d
+same_takes zero c d long same = refl
+same_takes (suc n) [] [] long same = refl
+same_takes (suc n) [] (y ∷ d) long same = absurd (omega (arith, long))
+same_takes (suc n) (x ∷ c) [] long same = absurd (omega (arith, long))
+same_takes (suc n) (x ∷ c) (y ∷ d) long same =
+    ap (λ cell. cell ∷ take n c) (same 0 (omega arith))
+    ∙ ap (λ cells. y ∷ cells) (same_takes n c d (omega (arith, long)) (λ v lt. same (suc v) (omega (arith, lt))))
+
+-- one voice more keeps its cell, as far as its block goes
+pub agree_more : (menu : List (List Cell)) (v size k old block end : ℕ) → KeepsCell menu v size → IsBlockEnd k size block → end ≤ old → end ≤ block → k < end → end ≤ length menu → ((u : ℕ) → u < v → (j : ℕ) → k ≤ j → j < old → cell_in (slice_index_or menu j []) u ≡ cell_in (slice_index_or menu k []) u) → (u : ℕ) → u < v + 1 → (j : ℕ) → k ≤ j → j < end → cell_in (slice_index_or menu j []) u ≡ cell_in (slice_index_or menu k []) u
+agree_more menu v size k old block end kept ends fewer in_block onward within before =
+    one_more (λ u. (j : ℕ) → k ≤ j → j < end → cell_in (slice_index_or menu j []) u ≡ cell_in (slice_index_or menu k []) u) v
+    (λ u lt j le b. before u lt j le (omega (arith, b, fewer)))
+    (λ j le b. one_cell menu v size j k kept (omega (arith, b, within)) (omega (arith, onward, within)) (ends.one_block j le (omega (arith, b, in_block))))

@@ -1,5 +1,5 @@
 -- Menus in blocks, over which voices keep their cells.
-use Rattle.std.specs.Prelude.{◌≡◌, ℕ, ◌*◌, ◌/◌, ◌<◌, ◌≤◌, Bool, true, false, List, [], All, IsTrue, length, slice_index_or}
+use Rattle.std.specs.Prelude.{◌≡◌, ℕ, ◌*◌, ◌/◌, ◌<◌, ◌≤◌, Bool, true, false, List, [], All, IsTrue, length, slice_index_or, take}
 use Rattle.arrayvec.specs.ArrayVec.{ArrayVec}
 use Rattle.fux_pitch.specs.Pitch.{same_pitch}
 use Rattle.fux_grid.specs.declared.cell.Cell.{Cell}
@@ -54,3 +54,9 @@ pub record IsNext (menu : List (List Cell)) (before : List Cell) (from next : �
   pub within : next ≤ length menu
   pub follows : next < length menu → ColumnFollows before (slice_index_or menu next [])
   pub passed : (k : ℕ) → from ≤ k → k < next → ColumnFollows before (slice_index_or menu k []) → ⊥
+
+-- from a number on up to this end, the columns have the same cells in so many of the lowest voices
+pub record Agree (menu : List (List Cell)) (voices k end : ℕ) : Type 0 where
+  pub onward : k < end
+  pub within : end ≤ length menu
+  pub cells : (j : ℕ) → k ≤ j → j < end → take voices (slice_index_or menu j []) ≡ take voices (slice_index_or menu k [])

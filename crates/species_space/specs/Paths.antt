@@ -7,7 +7,7 @@ use Rattle.std.proofs.lemmas.Bool.Decides.{nat_tests}
 use Rattle.fux_grid.specs.declared.cell.Cell.{Cell}
 use Rattle.fux_grid.specs.declared.exercise.Exercise.{Exercise}
 use Rattle.fux_grid.specs.Cells.{cell_in, cell_follows}
-use Rattle.fux_grid.specs.Columns.{newest_column}
+use Rattle.fux_grid.specs.Columns.{newest_column, ColumnFollows}
 use Rattle.fux_grid.specs.Exercises.{columns_in}
 use Rattle.fux_grid.specs.Menus.{menu_of}
 use Rattle.fux_grid.proofs.Histories.{reverse-push}
@@ -92,6 +92,10 @@ is_in_menus-append ex i (l ∷ path) k =
     let e : suc i + length path ≡ i + suc (length path) = omega arith in
     ap (λ b. nat_lt l (length (menu_of ex i)) && b) (is_in_menus-append ex (suc i) path k ∙ ap (λ j. is_in_menus ex (suc i) path && nat_lt k (length (menu_of ex j))) e)
     ∙ sym (and_right (nat_lt l (length (menu_of ex i))) (is_in_menus ex (suc i) path) (nat_lt k (length (menu_of ex (i + suc (length path))))))
+
+-- a column that may not follow a prefix, or settles a strict break after it
+abbrev pub IsDeadAfter : Exercise → List (List Cell) → List Cell → Type 0
+IsDeadAfter ex p col = ColumnFollows (newest_column (reverse p)) col → list_any (newly_broken ex p col) rules_read ≡ true
 
 -- a path that is longer by a number leads to a live prefix where the path does, it has room, the number is in the menu, and its
 -- column follows and settles no strict break

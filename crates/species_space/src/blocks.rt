@@ -5,7 +5,7 @@ ghost use Rattle.fux_grid.specs.Cells.{cell_follows, cell_in, is_hold};
 ghost use Rattle.fux_grid.specs.Columns.{ColumnFollows};
 ghost use Rattle.fux_grid.specs.Grid.{items_of};
 ghost use Rattle.fux_grid.specs.Menus.{IsAscending};
-ghost use Rattle.species_space.specs.Blocks.{AreOnlyHolds, HasOneWidth, IsBlockEnd, IsBlockMenu, IsNext, KeepsCell, same_cell};
+ghost use Rattle.species_space.specs.Blocks.{Agree, AreOnlyHolds, HasOneWidth, IsBlockEnd, IsBlockMenu, IsNext, KeepsCell, same_cell};
 
 use fux_grid::{Cell, Column, cell_of, cells_follow};
 
@@ -56,6 +56,45 @@ impl BlockMenu {
             return end;
         }
         hint
+    }
+
+    /// The column of a number.
+    #[inline]
+    pub(crate) fn column(&self, k: usize) -> &Column
+        requires { k < length self.now.columns.items }
+        ensures { result.now.items ≡ slice_index_or (items_of self.now.columns.items) k [] }
+    {
+        &self.columns[k]
+    }
+
+    /// How far the columns from this number on are known to have its cells in so many of the lowest voices: the first number behind them.
+    pub(crate) fn end_of_agreement(&self, k: usize, voices: usize) -> usize
+        requires cut { IsBlockMenu self.now }
+        requires within { k < length self.now.columns.items }
+        requires voices { voices ≤ 4 }
+        ensures { Agree (items_of self.now.columns.items) voices k result }
+    {
+        let mut end = self.columns.len();
+        for v in 0..voices {
+            let block = block_end(k, self.lengths[v]);
+            if block < end {
+                end = block;
+            }
+        }
+        end
+    }
+
+    /// In how many of the lowest voices two columns are known to have the same cells.
+    pub(crate) fn lowest_alike(&self, j: usize, k: usize) -> usize {
+        if j >= self.columns.len() || k >= self.columns.len() {
+            return 0;
+        }
+        for v in 0..4 {
+            if !same_cell(cell_at(&self.columns, j, v), cell_at(&self.columns, k, v)) {
+                return v;
+            }
+        }
+        4
     }
 
     /// Whether this column, in a menu of holds, may follow.

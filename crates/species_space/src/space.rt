@@ -1,20 +1,22 @@
 //! The tree of the settings of an exercise.
 
 ghost use Rattle.std.specs.Prelude.{◌≡◌, ◌<◌, ◌≤◌, ℕ, List, [], ◌∷◌, ◌++◌, OnOk, IfOk, IfErr, MatchOption, length, slice_index_or};
+ghost use Rattle.fux_grid.specs.declared.cell.Cell.{Cell};
 ghost use Rattle.fux_grid.specs.Exercises.{IsValid, columns_in, bar_of, slot_of};
 ghost use Rattle.fux_grid.specs.Grid.{items_of};
 ghost use Rattle.fux_grid.specs.Menus.{menu_of};
 ghost use Rattle.species_space.specs.Blocks.{IsBlockMenu};
+ghost use Rattle.fux_judge.specs.States.{IsStateOf};
 ghost use Rattle.species_space.specs.Grows.{paths_grow};
 ghost use Rattle.species_space.specs.Nodes.{IsNodeOf};
-ghost use Rattle.species_space.specs.Paths.{live_at, width_at};
+ghost use Rattle.species_space.specs.Paths.{IsDeadAfter, live_at, width_at};
 ghost use Rattle.species_space.specs.Task.{TellsWidth};
 ghost use Rattle.tree_search.specs.Space.{HasChild};
 
 use crate::blocks::BlockMenu;
 use crate::node::Node;
 use fux_grid::{Column, Exercise, MenuFault, Place, cells_follow, menu};
-use fux_judge::{State, step};
+use fux_judge::{State, dead_within, step};
 use fux_pitch::Memory;
 use penalty_sheet::Sheet;
 use std::alloc::{AllocFailed, Global};
@@ -174,9 +176,7 @@ impl<'a> Space for SpeciesSpace<'a> {
     }
 
     fn next_child(&self, node: &Node, from: usize) -> usize {
-        let before = node.state.before(self.exercise);
-        self.menu(node.state.len())
-            .next_that_follows(before, from, node.hint)
+        next_undead(self.exercise, node, self.menu(node.state.len()), from)
     }
 }
 
@@ -210,4 +210,32 @@ fn child_by(
         hint: k,
     };
     Some((child, paid))
+}
+
+/// The first number, from this one on, of a column that may follow and isn't dead by the cells of its lowest voices; the menu's length where there is none.
+fn next_undead(exercise: &Exercise, node: &Node, menu: &BlockMenu, from: usize) -> usize
+    requires valid { IsValid exercise.now }
+    requires room { node.now.state.len < columns_in exercise.now }
+    requires menu { items_of menu.now.columns.items ≡ menu_of exercise.now node.now.state.len }
+    requires cut { IsBlockMenu menu.now }
+    requires within { from ≤ length menu.now.columns.items }
+    ensures onward { from ≤ result }
+    ensures within { result ≤ length menu.now.columns.items }
+    ensures passed { (p : List (List Cell)) → IsStateOf exercise.now p node.now.state → (k : ℕ) → from ≤ k → k < result → IsDeadAfter exercise.now p (slice_index_or (items_of menu.now.columns.items) k []) }
+{
+    let before = node.state.before(exercise);
+    let mut k = menu.next_that_follows(before, from, node.hint);
+    let mut tried = menu.lowest_alike(from.saturating_sub(1), k);
+    if from == 0 {
+        tried = 0;
+    }
+    while k < menu.columns.len() {
+        let Some(voices) = dead_within(exercise, &node.state, menu.column(k), tried) else {
+            return k;
+        };
+        let dead = k;
+        k = menu.next_that_follows(before, menu.end_of_agreement(k, voices), node.hint);
+        tried = menu.lowest_alike(dead, k).min(voices - 1);
+    }
+    k
 }
