@@ -2,12 +2,13 @@
 
 ghost use Rattle.fux_grid.specs.Exercises.{IsValid};
 
-use crate::{breaks_of, charges};
+use crate::{newly_broken, newly_paid, settled_breaks, settled_charges};
 use arrayvec::ArrayVec;
-use fux_grid::{Cell, Exercise, RangeLine, Relax, Score, VoiceSet};
-use fux_judge::{State, penalty, step};
+use fux_grid::{Cell, Column, Exercise, RangeLine, Relax, Score, VoiceSet};
+use fux_judge::{State, Verdict, penalty, step};
 use fux_pitch::{List, Mode, Pitch, parse_pitch};
 use penalty_sheet::{Sheet, default_sheet};
+use rule_law::RuleSet;
 use std::alloc::Global;
 use std::process::Abort;
 use std::test::Fail;
@@ -122,30 +123,104 @@ fn score(alloc: Global, lines: &[&str]) -> Result<Score, Fail> {
     Ok(score)
 }
 
-/// Judges a score column by column, each as the plain reading does, and answers what is paid of it. Of S3 a break is
-/// settled before its bar is whole, so it is left out.
-fn walk(rt: &impl Abort, ex: &Exercise, sheet: &Sheet, score: &Score) -> u64
+/// The cells of a column, as a column of its own.
+fn copied(column: &Column) -> Result<Column, Fail> {
+    let mut cells = ArrayVec::new();
+    for cell in column.as_slice() {
+        cells.try_push(*cell)?;
+    }
+    Ok(cells)
+}
+
+/// Compares the judge's verdict of a longer score's last column with the plain reading, and answers the rules that are
+/// newly broken. Where a break of S3 is settled before it, the judge promises nothing of S3, so it isn't asked.
+fn compare(
+    rt: &impl Abort,
+    ex: &Exercise,
+    sheet: &Sheet,
+    verdict: &Verdict,
+    prefix: &Score,
+    longer: &Score,
+    orderly: bool,
+) -> RuleSet
+    requires valid { IsValid ex.now }
+{
+    let columns = 8 * usize::from(ex.bars);
+    assert!(rt; prefix.voices() == ex.voices && prefix.len() <= columns);
+    assert!(rt; longer.voices() == ex.voices && longer.len() <= columns);
+    assert!(rt; longer.len() == prefix.len() + 1);
+    let broken = newly_broken(ex, prefix, longer);
+    let paid = newly_paid(ex, sheet, prefix, longer);
+    assert_eq!(rt; verdict.paid, paid, "column {}", prefix.len());
+    for rule in 0..32u8 {
+        if rule != 3 || orderly {
+            let (found, wanted) = (verdict.broken.has(rule), broken.has(rule));
+            assert_eq!(rt; found, wanted, "S{rule} at {}", prefix.len());
+        }
+    }
+    broken
+}
+
+/// Compares what the judge found and charged of a score, column by column, with the plain reading of all of it.
+fn compare_sums(
+    rt: &impl Abort,
+    ex: &Exercise,
+    sheet: &Sheet,
+    score: &Score,
+    broken: RuleSet,
+    paid: u64,
+)
+    requires valid { IsValid ex.now }
+{
+    assert!(rt; score.voices() == ex.voices && score.len() <= 8 * usize::from(ex.bars));
+    assert_eq!(rt;
+        settled_breaks(ex, score),
+        broken,
+        "{} columns",
+        score.len()
+    );
+    assert_eq!(rt;
+        settled_charges(ex, sheet, score),
+        paid,
+        "{} columns",
+        score.len()
+    );
+}
+
+/// Judges a score column by column, each as the plain reading of the scores without it and with it does, and answers what
+/// is paid of it.
+fn walk(
+    rt: &impl Abort,
+    alloc: Global,
+    ex: &Exercise,
+    sheet: &Sheet,
+    score: &Score,
+) -> Result<u64, Fail>
     requires valid { IsValid ex.now }
 {
     assert!(rt; score.voices() == ex.voices && score.len() == 8 * usize::from(ex.bars));
     let mut state = State::start(ex);
+    let mut prefix = Score::new(alloc, ex.voices)?;
+    let mut longer = Score::new(alloc, ex.voices)?;
+    let mut broken = RuleSet::EMPTY;
     let mut sum = 0u64;
     for i in 0..score.len() {
         assert!(rt; state.len() == i && i < 8 * usize::from(ex.bars));
         let verdict = step(ex, sheet, &state, score.column(i));
-        let mut wanted = charges(ex, sheet, score, i);
-        for rule in 0..32u8 {
-            if rule != 3 {
-                let (strict, prices) = breaks_of(rule, ex, score, i);
-                assert_eq!(rt; verdict.broken.has(rule), strict, "S{rule} at {i}");
-                wanted = wanted.saturating_add(prices);
-            }
-        }
-        assert_eq!(rt; verdict.paid, wanted, "column {i}");
-        state = verdict.state;
+        longer.push(copied(score.column(i))?)?;
+        let orderly = !broken.has(3);
+        let new = compare(rt, ex, sheet, &verdict, &prefix, &longer, orderly);
+        prefix.push(copied(score.column(i))?)?;
+        broken = RuleSet {
+            bits: broken.bits | new.bits,
+        };
         sum = sum.saturating_add(verdict.paid);
+        if i % 8 == 7 {
+            compare_sums(rt, ex, sheet, &longer, broken, sum);
+        }
+        state = verdict.state;
     }
-    sum
+    Ok(sum)
 }
 
 const CANTUS: &str = "D4 E4 D4";
@@ -162,7 +237,7 @@ const SHORT_LINE: &str = "D4:8 F4:8 E4:8 D4:8";
 
 #[test]
 fn columns_are_judged_as_the_whole_score(rt: HostRuntime) -> Result<(), Fail> {
-    let table: [Setting; 12] = [
+    let table: [Setting; 14] = [
         (1, 0, CANTUS, &[], &[LINE, "D5:8 C5:8 D5:8"], Some(0)),
         (1, 0, CANTUS, &[], &[LINE, "D5:8 C#5:8 D5:8"], Some(0)),
         // a leap of a third, and one direct motion
@@ -226,6 +301,17 @@ fn columns_are_judged_as_the_whole_score(rt: HostRuntime) -> Result<(), Fail> {
             &[SHORT_LINE, "r:4 A4:8 C5:2 D5:2 B4:2 A4:1 B4:1 C#5:4 D5:8"],
             None,
         ),
+        // no shape from the second half of the first bar on, and a bar of rests
+        (1, 0, CANTUS, &[], &[LINE, "r:4 A4:4 r:8 D5:4 r:4"], None),
+        // a note too many in the second bar, which shows before the bar is whole
+        (
+            2,
+            0,
+            SHORT_CANTUS,
+            &[(14, 0, 2)],
+            &[SHORT_LINE, "A4:4 D5:4 A4:2 F4:2 A4:4 B4:4 C#5:4 D5:8"],
+            None,
+        ),
         // no cantus to be heard
         (
             1,
@@ -271,7 +357,7 @@ fn columns_are_judged_as_the_whole_score(rt: HostRuntime) -> Result<(), Fail> {
             relax,
         )?;
         assert!(rt; ex.is_valid());
-        let paid = walk(&rt, &ex, &sheet, &score);
+        let paid = walk(&rt, rt.alloc(), &ex, &sheet, &score)?;
         assert_eq!(rt; penalty(&ex, &sheet, &score), Some(paid), "{lines:?}");
         assert_eq!(rt; wanted.unwrap_or(paid), paid, "{lines:?}");
     }

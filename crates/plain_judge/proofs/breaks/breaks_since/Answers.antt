@@ -1,0 +1,19 @@
+use Rattle.std.proofs.Common.{rules, ◌==◌, ◌&&◌, ℕ, Bool, ap, ◌∙◌, arith}
+use Rattle.std.specs.List.{list_any}
+use Rattle.std.specs.Option.{option_copied}
+use Rattle.std.proofs.lemmas.List.{take_all}
+use Rattle.fux_judge.specs.Rules.{rules_read}
+use Rattle.plain_judge.specs.Between.{columns_of, some_broken_since}
+use Rattle.plain_judge.proofs.ListLemmas.{this_one}
+use Rattle.plain_judge.proofs.RuleLemmas.{is_small}
+use Rattle.plain_judge.proofs.breaks.breaks_since.Goals as goal
+
+pub with-set-requires : goal.with-set-requires
+with-set-requires c = is_small _ (search rules)
+
+pub returns : goal.returns
+returns c = λ r.
+    let broken : ℕ → Bool = some_broken_since c.args.ex.now (columns_of (option_copied c.args.before)) c.args.score.now.columns in
+    let test : ℕ → Bool = λ rule. broken rule && r == rule in
+    c.loop-rule.invariant r ∙ ap (list_any test) (take_all c.loop-rule.rule-index c.every_rule-rule-items.result.now (omega arith))
+    ∙ ap (list_any test) c.every_rule-rule-items.ensures.value ∙ this_one broken r rules_read

@@ -1,0 +1,164 @@
+//! One rule at one place for one set of voices.
+
+ghost use Rattle.std.specs.Prelude.{◌≡◌, ◌<◌, ◌≤◌, Contains, length};
+ghost use Rattle.std.specs.Option.{ForSome, option_copied};
+ghost use Rattle.fux_grid.specs.Exercises as exercises;
+ghost use Rattle.fux_grid.specs.Exercises.{IsValid};
+ghost use Rattle.penalty_sheet.specs.Prices.{price_in, amount_of};
+ghost use Rattle.fux_judge.specs.Penalties as penalties;
+ghost use Rattle.fux_judge.specs.Rules as rules;
+ghost use Rattle.fux_judge.specs.Rules.{all_sets, rules_read};
+ghost use Rattle.plain_judge.specs.Between.{IsPart, columns_of, settled_since};
+
+use dissonance_rules::Dissonance;
+use fux_grid::{Exercise, Score, VoiceSet};
+use melody_rules::Melody;
+use motion_rules::Motion;
+use penalty_sheet::{Price, price_at};
+use rhythm_cadence::Rhythm;
+use rule_law::Rule;
+
+/// The rules that are read, by their numbers.
+const RULES: [u8; 18] = [
+    1, 2, 3, 4, 5, 6, 7, 8, 9, 10, 11, 12, 13, 14, 16, 17, 24, 26,
+];
+
+/// Every set of voices, of four at most, by its bits.
+const VOICE_SETS: [u8; 15] = [1, 2, 3, 4, 5, 6, 7, 8, 9, 10, 11, 12, 13, 14, 15];
+
+pub(crate) fn every_rule() -> &'static [u8]
+    ensures value { result.now ≡ rules_read }
+    ensures count { length result.now ≡ 18 }
+{
+    &RULES
+}
+
+pub(crate) fn every_set() -> &'static [u8]
+    ensures value { result.now ≡ all_sets }
+    ensures count { length result.now ≡ 15 }
+{
+    &VOICE_SETS
+}
+
+/// Whether a rule is broken: the crate that has the rule is asked.
+pub(crate) fn is_broken(rule: u8, ex: &Exercise, score: &Score, i: usize, voices: VoiceSet) -> bool
+    requires rule { Contains rules_read rule }
+    requires valid { IsValid ex.now }
+    requires part { IsPart ex.now score.now }
+    requires place { i < length score.now.columns }
+    ensures { result ≡ rules.is_broken rule ex.now voices.bits score.now.columns i }
+{
+    if Melody.covers().has(rule) {
+        return Melody.broken(rule, ex, score, i, voices);
+    }
+    if Motion.covers().has(rule) {
+        return Motion.broken(rule, ex, score, i, voices);
+    }
+    if Dissonance.covers().has(rule) {
+        return Dissonance.broken(rule, ex, score, i, voices);
+    }
+    Rhythm.broken(rule, ex, score, i, voices)
+}
+
+/// Whether that is settled at a place that the score has.
+fn is_settled_here(rule: u8, ex: &Exercise, score: &Score, i: usize, voices: VoiceSet) -> bool
+    requires rule { Contains rules_read rule }
+    requires valid { IsValid ex.now }
+    requires part { IsPart ex.now score.now }
+    requires place { i < length score.now.columns }
+    ensures { result ≡ rules.is_settled rule ex.now voices.bits score.now.columns i }
+{
+    if Melody.covers().has(rule) {
+        return Melody.settled(rule, ex, score, i, voices);
+    }
+    if Motion.covers().has(rule) {
+        return Motion.settled(rule, ex, score, i, voices);
+    }
+    if Dissonance.covers().has(rule) {
+        return Dissonance.settled(rule, ex, score, i, voices);
+    }
+    Rhythm.settled(rule, ex, score, i, voices)
+}
+
+/// Whether that is settled in an earlier score. Nothing is where there is none, nor at a place that it doesn't have.
+fn is_settled_before(
+    rule: u8,
+    ex: &Exercise,
+    before: Option<&Score>,
+    i: usize,
+    voices: VoiceSet,
+) -> bool
+    requires rule { Contains rules_read rule }
+    requires valid { IsValid ex.now }
+    requires earlier { ForSome before (λ score. IsPart ex.now score.now) }
+    ensures { result ≡ rules.is_settled rule ex.now voices.bits (columns_of (option_copied before.entry)) i }
+{
+    match before {
+        Some(score) => {
+            if i >= score.len() {
+                return false;
+            }
+            is_settled_here(rule, ex, score, i, voices)
+        }
+        None => false,
+    }
+}
+
+/// Whether that is settled in a score, and not in the earlier one.
+pub(crate) fn is_settled_since(
+    rule: u8,
+    ex: &Exercise,
+    before: Option<&Score>,
+    score: &Score,
+    i: usize,
+    voices: VoiceSet,
+) -> bool
+    requires rule { Contains rules_read rule }
+    requires valid { IsValid ex.now }
+    requires earlier { ForSome before (λ score. IsPart ex.now score.now) }
+    requires part { IsPart ex.now score.now }
+    requires place { i < length score.now.columns }
+    ensures { result ≡ settled_since (rules.is_settled rule ex.now voices.bits) (columns_of (option_copied before.entry)) score.now.columns i }
+{
+    if is_settled_before(rule, ex, before, i, voices) {
+        return false;
+    }
+    is_settled_here(rule, ex, score, i, voices)
+}
+
+/// The bar of a column, counted from 1.
+fn bar_of(i: usize) -> u8
+    requires { i < 192 }
+    ensures { result ≡ exercises.bar_of i }
+{
+    (i / 8 + 1) as u8
+}
+
+/// What a break there costs.
+fn price(rule: u8, ex: &Exercise, i: usize, voices: VoiceSet) -> Price
+    requires valid { IsValid ex.now }
+    requires place { i < 192 }
+    ensures value { result ≡ price_in ex.now rule voices.bits (exercises.bar_of i) }
+    ensures bound { amount_of result ≤ 10000 }
+{
+    price_at(ex, rule, voices, bar_of(i))
+}
+
+/// Whether a break there isn't allowed.
+pub(crate) fn is_strict(rule: u8, ex: &Exercise, i: usize, voices: VoiceSet) -> bool
+    requires valid { IsValid ex.now }
+    requires place { i < 192 }
+    ensures { result ≡ penalties.is_strict_at rule ex.now voices.bits i }
+{
+    price(rule, ex, i, voices).is_strict()
+}
+
+/// What a break there costs where it is allowed.
+pub(crate) fn amount(rule: u8, ex: &Exercise, i: usize, voices: VoiceSet) -> u64
+    requires valid { IsValid ex.now }
+    requires place { i < 192 }
+    ensures value { result ≡ penalties.price_at rule ex.now voices.bits i }
+    ensures bound { result ≤ 10000 }
+{
+    u64::from(price(rule, ex, i, voices).amount())
+}
