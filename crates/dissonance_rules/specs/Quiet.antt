@@ -1,16 +1,16 @@
 -- At a quiet column no rule of dissonance is broken, and no toll of dissonance costs anything.
-use Rattle.std.specs.Prelude.{◌≡◌, ℕ, ◌-◌, ◌==◌, Bool, true, false, ◌&&◌, List, if◌then◌else◌, refl}
+use Rattle.std.specs.Prelude.{◌≡◌, ℕ, ◌-◌, ◌==◌, true, false, ◌&&◌, List, refl}
 use Rattle.std.specs.Int.{from_bool}
-use Rattle.std.proofs.Common.{ap, ◌∙◌}
+use Rattle.std.proofs.Common.{ap}
 use Rattle.fux_grid.specs.declared.cell.Cell.{Cell}
 use Rattle.fux_grid.specs.declared.exercise.Exercise.{Exercise}
 use Rattle.fux_grid.specs.Cells.{cell_in}
-use Rattle.rule_law.specs.Bars.{begins_bar, begins_inner_bar}
+use Rattle.rule_law.specs.Bars.{begins_bar}
 use Rattle.rule_law.specs.Nearby.{Pitches}
-use Rattle.rule_law.specs.Pairs.{one_starts, sound_perfect, sound_same_key}
+use Rattle.rule_law.specs.Pairs.{sound_perfect, sound_same_key}
 use Rattle.rule_law.specs.Quiet.{is_quiet, quiet_inner, quiet_pair, quiet_slot, count_pairs-none, either_none, on_pair-none}
 use Rattle.rule_law.specs.Terms.{clash, starts}
-use Rattle.dissonance_rules.specs.Rows.{is_outer_perfect, near_rows, struck_unisons, toll_rows}
+use Rattle.dissonance_rules.specs.Rows.{near_rows, toll_rows}
 
 module _ (ex : Exercise) (i : ℕ) (now : List Cell) (quiet : is_quiet i now ≡ true) where
   pub quiet_rows : (rule voices : ℕ) (before : List Cell) (previous : Pitches) → near_rows rule ex voices i before previous now ≡ false

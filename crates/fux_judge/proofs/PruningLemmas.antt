@@ -1,12 +1,12 @@
 -- A strict break of the first voices is one in each column that has their cells.
-use Rattle.std.proofs.Common.{◌≡◌, ◌≢◌, ℕ, ◌==◌, ◌&&◌, ◌||◌, Bool, true, false, List, [], ◌∷◌, ◌++◌, length, reverse, take, refl, ap, sym, ◌∙◌, subst, eq-eqb}
+use Rattle.std.proofs.Common.{◌≡◌, ◌≢◌, ℕ, ◌==◌, ◌&&◌, ◌||◌, Bool, true, false, List, [], ◌∷◌, ◌++◌, length, reverse, refl, ap, sym, ◌∙◌, eq-eqb}
 use Rattle.std.specs.Prelude.{if◌then◌else◌, not}
 use Rattle.std.specs.List.{list_any, list_all}
 use Rattle.std.proofs.lemmas.Bool.{eqb-true}
 use Rattle.fux_grid.specs.declared.cell.Cell.{Cell}
 use Rattle.fux_grid.specs.declared.exercise.Exercise.{Exercise}
 use Rattle.fux_grid.specs.Columns.{newest_column}
-use Rattle.rule_law.specs.Law.{first_true, second_true, both_true, reading-at_end}
+use Rattle.rule_law.specs.Law.{first_true, second_true, reading-at_end}
 use Rattle.rule_law.specs.LowerVoices.{IsSameBelow, is_below, same_below}
 use Rattle.rule_law.specs.Nearby.{previous_pitches, whole_of}
 use Rattle.rule_law.specs.Places.{Row}
@@ -21,7 +21,7 @@ use Rattle.rhythm_cadence.specs.LowerVoices as rhythm_below
 use Rattle.fux_judge.specs.Rules.{rules_read, all_sets, is_melodic, is_of_motion, is_of_dissonance, is_read, breaks, is_broken}
 use Rattle.fux_judge.specs.Penalties.{is_strict_at}
 use Rattle.fux_judge.specs.Grows.{newly_broken}
-use Rattle.fux_judge.specs.Steps.{is_strictly_broken_at_end, newly_broken-at_once}
+use Rattle.fux_judge.specs.Steps.{newly_broken-at_once}
 use Rattle.fux_judge.specs.Pruning.{AllBreak, is_set_below, reads_below, rules_below, sets_below}
 
 -- what each of a list passes, one of them passes

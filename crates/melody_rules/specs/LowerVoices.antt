@@ -1,5 +1,5 @@
 -- What the rules of melody say of a voice among the first ones, they read in its own cell.
-use Rattle.std.specs.Prelude.{◌≡◌, ℕ, Bool, true, false, List, refl}
+use Rattle.std.specs.Prelude.{◌≡◌, ℕ, true, List}
 use Rattle.std.proofs.Common.{ap}
 use Rattle.fux_grid.specs.declared.cell.Cell.{Cell}
 use Rattle.fux_grid.specs.declared.exercise.Exercise.{Exercise}
@@ -7,9 +7,8 @@ use Rattle.fux_grid.specs.Cells.{cell_in}
 use Rattle.fux_grid.specs.Columns.{line}
 use Rattle.fux_grid.specs.Exercises.{species_in}
 use Rattle.rule_law.specs.LowerVoices.{IsSameBelow, is_below, on_free_voice-same}
-use Rattle.rule_law.specs.Nearby.{Pitches, pitch_at, whole_of}
-use Rattle.rule_law.specs.Places.{Row}
-use Rattle.melody_rules.specs.Rows.{pitches, looks_back, window_rule, window_rows, voice_rule, near_rows, broken_in}
+use Rattle.rule_law.specs.Nearby.{Pitches, pitch_at}
+use Rattle.melody_rules.specs.Rows.{pitches, window_rule, window_rows, voice_rule, near_rows}
 
 module _ (n : ℕ) (a b : List Cell) (same : IsSameBelow n a b) (rule : ℕ) (ex : Exercise) (voices i : ℕ) (within : is_below n voices ≡ true) where
   pub near_rows-same : (before : List Cell) (previous : Pitches) → near_rows rule ex voices i before previous a ≡ near_rows rule ex voices i before previous b

@@ -1,11 +1,10 @@
 -- At a quiet column no rule of motion is broken, and no toll of motion costs anything.
-use Rattle.std.specs.Prelude.{◌≡◌, ℕ, ◌==◌, Bool, true, false, ◌&&◌, List, nat_le, if◌then◌else◌}
-use Rattle.std.proofs.Common.{ap, ◌∙◌}
+use Rattle.std.specs.Prelude.{◌≡◌, ℕ, ◌==◌, true, false, ◌&&◌, List, nat_le, if◌then◌else◌}
+use Rattle.std.proofs.Common.{ap}
 use Rattle.fux_grid.specs.declared.cell.Cell.{Cell}
 use Rattle.fux_grid.specs.declared.exercise.Exercise.{Exercise}
 use Rattle.fux_grid.specs.Cells.{cell_in, pitch_of}
 use Rattle.fux_grid.specs.Exercises.{bar_of}
-use Rattle.rule_law.specs.Bars.{begins_bar}
 use Rattle.rule_law.specs.Nearby.{Pitches}
 use Rattle.rule_law.specs.Pairs.{count_pairs, move_alike, sound_perfect}
 use Rattle.rule_law.specs.Quiet.{is_quiet, quiet_alike, quiet_moves, quiet_pair, quiet_slot, and_none, count_pairs-none, either_none, on_pair-none}

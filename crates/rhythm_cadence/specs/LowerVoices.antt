@@ -4,7 +4,7 @@ use Rattle.std.proofs.Common.{ap, arith}
 use Rattle.std.proofs.lemmas.Bool.Decides.{nat_tests}
 use Rattle.fux_grid.specs.declared.cell.Cell.{Cell}
 use Rattle.fux_grid.specs.declared.exercise.Exercise.{Exercise}
-use Rattle.fux_grid.specs.Cells.{cell_in, pitch_of}
+use Rattle.fux_grid.specs.Cells.{pitch_of}
 use Rattle.rule_law.specs.LowerVoices.{IsSameBelow, is_below, on_voice-same, on_pair-same, interval-same}
 use Rattle.rule_law.specs.Nearby.{Pitches}
 use Rattle.rule_law.specs.Terms.{holds_of}

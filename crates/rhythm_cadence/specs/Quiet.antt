@@ -1,6 +1,6 @@
 -- At a quiet column no rule of rhythm and cadence but S3 is broken.
-use Rattle.std.specs.Prelude.{◌≡◌, ℕ, ◌==◌, Bool, true, false, not, ◌&&◌, List, Option, Some, None, is_none, if◌then◌else◌, refl}
-use Rattle.std.proofs.Common.{ap, ◌∙◌}
+use Rattle.std.specs.Prelude.{◌≡◌, ℕ, ◌==◌, true, false, not, ◌&&◌, List, Option, Some, None, is_none, if◌then◌else◌, refl}
+use Rattle.std.proofs.Common.{ap}
 use Rattle.fux_pitch.specs.declared.pitch.Pitch.{Pitch}
 use Rattle.fux_grid.specs.declared.cell.Cell.{Cell}
 use Rattle.fux_grid.specs.declared.cell.Cell.TheVariants.{Rest, Hold, Start}
@@ -11,7 +11,7 @@ use Rattle.rule_law.specs.Bars.{begins_bar}
 use Rattle.rule_law.specs.Nearby.{Pitches, pitch_at}
 use Rattle.rule_law.specs.Quiet.{is_quiet, quiet_cell, quiet_slot, and_none, either_none, on_free_voice-none, on_pair-none, on_voice-none}
 use Rattle.rule_law.specs.Terms.{starts, holds_of, interval_in, lowest_voice}
-use Rattle.rhythm_cadence.specs.Rows.{fits_ending, fits_opening, holds_of_pitch, is_final, near_rows, opens_badly, pitch_brought, voice_rule}
+use Rattle.rhythm_cadence.specs.Rows.{fits_ending, fits_opening, holds_of_pitch, is_final, near_rows, pitch_brought, voice_rule}
 
 -- a voice that neither starts a note nor is at the beginning of a bar brings no pitch
 brings_none : (i : ℕ) (c : Cell) → begins_bar i ≡ false → starts c ≡ false → pitch_brought i c ≡ None

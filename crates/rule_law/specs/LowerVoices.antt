@@ -7,7 +7,7 @@ use Rattle.std.proofs.lemmas.Bool.Decides.{nat_tests}
 use Rattle.fux_grid.specs.declared.cell.Cell.{Cell}
 use Rattle.fux_grid.specs.declared.cell.Cell.TheVariants.{Rest}
 use Rattle.fux_grid.specs.declared.exercise.Exercise.{Exercise}
-use Rattle.fux_grid.specs.Cells.{cell_in, pitch_of}
+use Rattle.fux_grid.specs.Cells.{cell_in}
 use Rattle.rule_law.specs.Law.{first_true, second_true, below_from_test, test_from_below}
 use Rattle.rule_law.specs.Pairs.{one_starts, sound_same_key, sound_perfect, both_move, move_alike, move_into_perfect, go_same_way}
 use Rattle.rule_law.specs.Terms.{starts, moves, sounds, is_this, is_lowest, clash, holds_of, interval_in, interval_of_cells, is_same_key}

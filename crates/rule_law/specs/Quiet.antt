@@ -1,8 +1,7 @@
 -- Columns at which nothing begins: no bar and no note.
-use Rattle.std.specs.Prelude.{◌≡◌, ℕ, zero, suc, Bool, true, false, not, ◌&&◌, ◌||◌, cond, nat_le, nat_lt, List, [], ◌∷◌, Option, Some, None, count_by, if◌then◌else◌, refl}
-use Rattle.std.specs.Int.{from_bool}
+use Rattle.std.specs.Prelude.{◌≡◌, ℕ, zero, suc, Bool, true, false, not, ◌&&◌, ◌||◌, cond, nat_le, nat_lt, List, [], ◌∷◌, Option, Some, None, if◌then◌else◌, refl}
 use Rattle.std.specs.List.{list_any}
-use Rattle.std.proofs.Common.{ap, ◌∙◌}
+use Rattle.std.proofs.Common.{ap}
 use Rattle.std.proofs.lemmas.Bool.{and_parts}
 use Rattle.fux_grid.specs.declared.cell.Cell.{Cell}
 use Rattle.fux_grid.specs.declared.exercise.Exercise.{Exercise}
@@ -11,7 +10,7 @@ use Rattle.fux_grid.specs.Exercises.{bar_of}
 use Rattle.rule_law.specs.Bars.{begins_bar, begins_inner_bar}
 use Rattle.rule_law.specs.Growth.{sum_by-none}
 use Rattle.rule_law.specs.Pairs.{both_move, count_pairs, go_same_way, move_alike, one_starts}
-use Rattle.rule_law.specs.Terms.{starts, moves, interval_of_cells}
+use Rattle.rule_law.specs.Terms.{starts, interval_of_cells}
 use Rattle.rule_law.specs.Voices.{count_free, holds_of_pair, holds_of_voice, is_free, on_free_voice, on_pair, on_voice, pair_of, voice_of}
 
 -- no bar begins at the column, and no note starts in it

@@ -1,4 +1,4 @@
-use Rattle.std.proofs.Common.{[], length, slice_index_or, sym, ◌∙◌, arith}
+use Rattle.std.proofs.Common.{[], slice_index_or, sym, ◌∙◌, arith}
 use Rattle.std.proofs.lemmas.List.{length-map}
 use Rattle.fux_grid.specs.Grid.{items_of}
 use Rattle.species_space.proofs.Passing.{agree_more, same_takes}
