@@ -1,3 +1,4 @@
+pub mod AlwaysLemmas
 pub mod MomentLemmas
 pub mod PruningLemmas
 pub mod QuietLemmas

@@ -1,3 +1,4 @@
+pub mod Always
 pub mod Ends
 pub mod Facts
 pub mod Grows

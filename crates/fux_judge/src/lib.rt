@@ -1,6 +1,7 @@
 //! Settled breaks and penalties, column by column: one small state stands for a prefix of any length.
 #![tactic(auto)]
 
+mod always;
 mod moment;
 mod pruning;
 mod reading;
@@ -11,6 +12,7 @@ mod tolls;
 mod total;
 mod verdict;
 
+pub use always::is_always_dead;
 pub use pruning::dead_within;
 pub use state::State;
 pub use total::penalty;

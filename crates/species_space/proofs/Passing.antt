@@ -1,14 +1,15 @@
 -- Which columns blocks and holds pass over.
-use Rattle.std.proofs.Common.{◌≡◌, nat_lt, ℕ, zero, suc, ◌+◌, ◌*◌, ◌/◌, ◌<◌, ◌≤◌, Bool, true, false, List, [], ◌∷◌, IsTrue, length, slice_index_or, take, refl, ap, sym, ◌∙◌, subst, arith, true≢false}
+use Rattle.std.proofs.Common.{◌≡◌, nat_lt, ℕ, zero, suc, ◌+◌, ◌*◌, ◌/◌, ◌<◌, ◌≤◌, Bool, true, false, List, [], ◌∷◌, ◌++◌, replicate, IsTrue, length, slice_index_or, take, refl, ap, sym, ◌∙◌, subst, arith, true≢false}
 use Rattle.std.specs.declared.cmp.Ordering.{Ordering}
 use Rattle.std.specs.declared.cmp.Ordering.TheVariants.{Less, Equal}
 use Rattle.std.proofs.Math.Nat.{div-lt_iff_lt-mul, div-mul-le_self, div-one, le-div_iff_mul-le, lt-div-mul-add}
-use Rattle.std.proofs.lemmas.List.{length-map, same_lists, get_or_default}
+use Rattle.std.proofs.lemmas.List.{length-map, length-replicate, same_lists, get_or_default, get_or-replicate}
 use Rattle.std.proofs.lemmas.Bool.Decides.{nat_tests}
 use Rattle.arrayvec.specs.ArrayVec.{ArrayVec}
 use Rattle.fux_pitch.proofs.PitchLemmas.{equal_from_test}
 use Rattle.fux_grid.specs.declared.cell.Cell.{Cell}
 use Rattle.fux_grid.specs.declared.cell.Cell.TheVariants.{Rest, Hold, Start}
+use Rattle.fux_grid.specs.declared.exercise.Exercise.{Exercise}
 use Rattle.fux_grid.specs.Cells.{cell_in, cell_follows, is_hold}
 use Rattle.fux_grid.specs.Columns.{ColumnFollows}
 use Rattle.fux_grid.specs.Grid.{items_of}
@@ -16,7 +17,7 @@ use Rattle.fux_grid.specs.Menus.{IsAscending}
 use Rattle.fux_grid.proofs.Combinations.{AllPairs-place, IsColumnBefore}
 use Rattle.fux_grid.proofs.OrderLemmas.{column_order-itself}
 use Rattle.rule_law.specs.Law.{below_from_test}
-use Rattle.species_space.specs.Blocks.{AreOnlyHolds, HasOneWidth, IsBlockEnd, IsNext, KeepsCell, same_cell}
+use Rattle.species_space.specs.Blocks.{AreAlwaysDead, AreOnlyHolds, HasOneWidth, IsBlockEnd, IsNext, KeepsCell, SkipDead, same_cell}
 
 -- ---- blocks
 
@@ -179,3 +180,18 @@ agree_more menu v size k old block end kept ends fewer in_block onward within be
     one_more (λ u. (j : ℕ) → k ≤ j → j < end → cell_in (slice_index_or menu j []) u ≡ cell_in (slice_index_or menu k []) u) v
     (λ u lt j le b. before u lt j le (omega (arith, b, fewer)))
     (λ j le b. one_cell menu v size j k kept (omega (arith, b, within)) (omega (arith, onward, within)) (ends.one_block j le (omega (arith, b, in_block))))
+
+-- ---- columns that are dead after every prefix
+
+-- what holds of the numbers of a list, and of one number at each later place, holds of all once that number is put behind them
+filled : (P : ℕ → ℕ → Type 0) (numbers : List ℕ) (count number : ℕ) → ((k : ℕ) → k < length numbers → P k (slice_index_or numbers k 0)) → ((k : ℕ) → length numbers ≤ k → P k number) → (k : ℕ) → k < length (numbers ++ replicate count number) → P k (slice_index_or (numbers ++ replicate count number) k 0)
+filled P [] count number old new k lt = subst (P k) (sym (get_or-replicate count k number 0 (omega (arith, lt, length-replicate count number)))) (new k (omega arith))
+filled P (x ∷ numbers) count number old new zero lt = old 0 (omega arith)
+filled P (x ∷ numbers) count number old new (suc k) lt =
+    filled (λ j. P (suc j)) numbers count number (λ j b. old (suc j) (omega (arith, b))) (λ j b. new (suc j) (omega (arith, b))) k (omega (arith, lt))
+
+pub skip_more : (ex : Exercise) (i : ℕ) (menu : List (List Cell)) (numbers : List ℕ) (count number : ℕ) → SkipDead ex i menu numbers → number ≤ length menu → AreAlwaysDead ex i menu (length numbers) number → SkipDead ex i menu (numbers ++ replicate count number)
+skip_more ex i menu numbers count number skip small dead = record {
+  within = filled (λ k to. to ≤ length menu) numbers count number skip.within (λ k le. small);
+  dead = filled (λ k to. AreAlwaysDead ex i menu k to) numbers count number skip.dead (λ k le j from lt. dead j (omega (arith, le, from)) lt);
+}

@@ -4,10 +4,12 @@ use Rattle.arrayvec.specs.ArrayVec.{ArrayVec}
 use Rattle.fux_pitch.specs.Pitch.{same_pitch}
 use Rattle.fux_grid.specs.declared.cell.Cell.{Cell}
 use Rattle.fux_grid.specs.declared.cell.Cell.TheVariants.{Rest, Hold, Start}
+use Rattle.fux_grid.specs.declared.exercise.Exercise.{Exercise}
 use Rattle.fux_grid.specs.Cells.{cell_in, is_hold}
 use Rattle.fux_grid.specs.Columns.{ColumnFollows}
 use Rattle.fux_grid.specs.Grid.{items_of}
 use Rattle.fux_grid.specs.Menus.{IsAscending}
+use Rattle.fux_judge.specs.Always.{IsAlwaysDead}
 use Rattle.species_space.specs.declared.blocks.BlockMenu.{BlockMenu}
 
 -- the cells are of one kind and pitch
@@ -60,3 +62,16 @@ pub record Agree (menu : List (List Cell)) (voices k end : ℕ) : Type 0 where
   pub onward : k < end
   pub within : end ≤ length menu
   pub cells : (j : ℕ) → k ≤ j → j < end → take voices (slice_index_or menu j []) ≡ take voices (slice_index_or menu k [])
+
+-- from one number up to another all columns of a menu are dead after every prefix
+abbrev pub AreAlwaysDead : Exercise → ℕ → List (List Cell) → ℕ → ℕ → Type 0
+AreAlwaysDead ex i menu from to = (j : ℕ) → from ≤ j → j < to → IsAlwaysDead ex i (slice_index_or menu j [])
+
+-- for each number of a menu one from it on, before which all columns are dead so
+pub record SkipDead (ex : Exercise) (i : ℕ) (menu : List (List Cell)) (numbers : List ℕ) : Type 0 where
+  pub within : (k : ℕ) → k < length numbers → slice_index_or numbers k 0 ≤ length menu
+  pub dead : (k : ℕ) → k < length numbers → AreAlwaysDead ex i menu k (slice_index_or numbers k 0)
+
+-- a column that doesn't follow, or is dead after every prefix
+abbrev pub StraysOrDies : Exercise → ℕ → List Cell → List Cell → Type 0
+StraysOrDies ex i before col = ColumnFollows before col → IsAlwaysDead ex i col

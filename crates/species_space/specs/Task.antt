@@ -5,7 +5,7 @@ use Rattle.fux_grid.specs.declared.exercise.Place.{Place}
 use Rattle.fux_grid.specs.Exercises.{IsValid, columns_in, bar_of, slot_of}
 use Rattle.fux_grid.specs.Grid.{items_of}
 use Rattle.fux_grid.specs.Menus.{menu_of}
-use Rattle.species_space.specs.Blocks.{IsBlockMenu}
+use Rattle.species_space.specs.Blocks.{IsBlockMenu, SkipDead}
 use Rattle.species_space.specs.declared.blocks.BlockMenu.{BlockMenu}
 use Rattle.species_space.specs.declared.space.TableFault.{TableFault}
 use Rattle.species_space.specs.declared.space.TableFault.TheVariants.{TooWide, Memory}
@@ -16,10 +16,16 @@ pub record Task : Type 0 where
   pub exercise : Exercise
   pub sheet : Sheet
 
+-- a menu knows for each of its columns how many are dead after every prefix from it on
+pub record SkipsDead (ex : Exercise) (i : ℕ) (menu : BlockMenu) : Type 0 where
+  pub counted : length menu.undead.items ≡ length menu.columns.items
+  pub skip : SkipDead ex i (items_of menu.columns.items) menu.undead.items
+
 -- the menus of the first columns in blocks, none of them too wide
 pub record AreMenus (ex : Exercise) (menus : List BlockMenu) : Type 0 where
   pub exact : (i : ℕ) (d : BlockMenu) → i < length menus → items_of (slice_index_or menus i d).columns.items ≡ menu_of ex i
   pub blocks : (i : ℕ) (d : BlockMenu) → i < length menus → IsBlockMenu (slice_index_or menus i d)
+  pub skips : (i : ℕ) (d : BlockMenu) → i < length menus → SkipsDead ex i (slice_index_or menus i d)
   pub narrow : (i : ℕ) → i < length menus → length (menu_of ex i) ≤ 8192
 
 -- a valid exercise with the menus of all its columns

@@ -17,15 +17,18 @@ pub(crate) struct BlockMenu {
     lengths: [u16; 4],
     /// Whether each cell of each column is a hold.
     only_holds: bool,
+    /// For each column the number of the first one, from it on, that isn't dead after every prefix.
+    undead: Vec<u16>,
 }
 
 impl BlockMenu {
     /// A menu with its blocks, as they are found in one pass for each voice.
-    pub(crate) fn new(columns: Vec<Column>) -> BlockMenu
+    pub(crate) fn new(columns: Vec<Column>, undead: Vec<u16>) -> BlockMenu
         requires few { length columns.items ≤ 8192 }
         requires order { IsAscending (items_of columns.items) }
         requires full { HasOneWidth (items_of columns.items) }
         ensures columns { result.columns ≡ columns }
+        ensures undead { result.undead ≡ undead }
         ensures cut { IsBlockMenu result }
     {
         let lengths = [
@@ -39,6 +42,7 @@ impl BlockMenu {
             columns,
             lengths,
             only_holds,
+            undead,
         }
     }
 
@@ -56,6 +60,15 @@ impl BlockMenu {
             return end;
         }
         hint
+    }
+
+    /// The number of the first column, from this one on, that isn't dead after every prefix.
+    #[inline]
+    pub(crate) fn undead_from(&self, k: usize) -> usize
+        requires { k < length self.now.undead.items }
+        ensures { result ≡ slice_index_or self.now.undead.items k 0 }
+    {
+        self.undead[k] as usize
     }
 
     /// The column of a number.
@@ -126,7 +139,7 @@ impl BlockMenu {
 
 /// The column of a number.
 #[inline]
-fn column_at(columns: &[Column], k: usize) -> &Column
+pub(crate) fn column_at(columns: &[Column], k: usize) -> &Column
     requires { k < length columns.now }
     ensures { result.now.items ≡ slice_index_or (items_of columns.now) k [] }
 {

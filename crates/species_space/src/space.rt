@@ -1,22 +1,23 @@
 //! The tree of the settings of an exercise.
 
 ghost use Rattle.std.specs.Prelude.{◌≡◌, ◌<◌, ◌≤◌, ℕ, List, [], ◌∷◌, ◌++◌, OnOk, IfOk, IfErr, MatchOption, length, slice_index_or};
-ghost use Rattle.fux_grid.specs.declared.cell.Cell.{Cell};
+ghost use Rattle.fux_grid.specs.declared.cell.Cell.{Cell as ACell};
+ghost use Rattle.fux_grid.specs.declared.exercise.Exercise.{Exercise as AnExercise};
 ghost use Rattle.fux_grid.specs.Exercises.{IsValid, columns_in, bar_of, slot_of};
 ghost use Rattle.fux_grid.specs.Grid.{items_of};
 ghost use Rattle.fux_grid.specs.Menus.{menu_of};
-ghost use Rattle.species_space.specs.Blocks.{IsBlockMenu};
+ghost use Rattle.species_space.specs.Blocks.{IsBlockMenu, SkipDead, StraysOrDies};
 ghost use Rattle.fux_judge.specs.States.{IsStateOf};
 ghost use Rattle.species_space.specs.Grows.{paths_grow};
 ghost use Rattle.species_space.specs.Nodes.{IsNodeOf};
 ghost use Rattle.species_space.specs.Paths.{IsDeadAfter, live_at, width_at};
-ghost use Rattle.species_space.specs.Task.{TellsWidth};
+ghost use Rattle.species_space.specs.Task.{SkipsDead, TellsWidth};
 ghost use Rattle.tree_search.specs.Space.{HasChild};
 
-use crate::blocks::BlockMenu;
+use crate::blocks::{BlockMenu, column_at};
 use crate::node::Node;
-use fux_grid::{Column, Exercise, MenuFault, Place, cells_follow, menu};
-use fux_judge::{State, dead_within, step};
+use fux_grid::{Cell, Column, Exercise, MenuFault, Place, cells_follow, menu};
+use fux_judge::{State, dead_within, is_always_dead, step};
 use fux_pitch::Memory;
 use penalty_sheet::Sheet;
 use std::alloc::{AllocFailed, Global};
@@ -94,7 +95,12 @@ impl<'a> SpeciesSpace<'a> {
         let mut menus = Vec::with_capacity(alloc, columns).map_err(|_| TableFault::Memory)?;
         for i in 0..columns {
             match menu(alloc, exercise, i) {
-                Ok(choices) => menus.push_reserved(BlockMenu::new(choices)),
+                Ok(choices) => {
+                    let Ok(undead) = undead_numbers(alloc, exercise, i, &choices) else {
+                        return Err(TableFault::Memory);
+                    };
+                    menus.push_reserved(BlockMenu::new(choices, undead));
+                }
                 Err(MenuFault::TooWide { count }) => {
                     return Err(TableFault::TooWide {
                         place: place_of(i),
@@ -134,6 +140,7 @@ impl<'a> SpeciesSpace<'a> {
         requires { i < columns_in self.now.exercise }
         ensures value { items_of result.now.columns.items ≡ menu_of self.now.exercise i }
         ensures cut { IsBlockMenu result.now }
+        ensures skips { SkipsDead self.now.exercise i result.now }
     {
         &self.menus[i]
     }
@@ -212,19 +219,64 @@ fn child_by(
     Some((child, paid))
 }
 
+/// For each column of a menu the number of the first one, from it on, that isn't dead after every prefix; the menu's length where there is none.
+fn undead_numbers(
+    alloc: Global,
+    exercise: &Exercise,
+    i: usize,
+    columns: &[Column],
+) -> Result<Vec<u16>, Memory>
+    requires valid { IsValid exercise.now }
+    requires place { i < columns_in exercise.now }
+    requires few { length columns.now ≤ 8192 }
+    ensures counted { IfOk result (λ numbers. length numbers.items ≡ length columns.now) }
+    ensures skip { IfOk result (λ numbers. SkipDead exercise.now i (items_of columns.now) numbers.items) }
+{
+    let mut numbers = Vec::with_capacity(alloc, columns.len())?;
+    for k in 0..columns.len() {
+        if !is_always_dead(exercise, i, column_at(columns, k)) {
+            numbers.resize(k + 1, k as u16)?;
+        }
+    }
+    numbers.resize(columns.len(), columns.len() as u16)?;
+    Ok(numbers)
+}
+
+/// The first number, from this one on, of a column that may follow and isn't dead after every prefix; the menu's length where there is none.
+fn next_choice(menu: &BlockMenu, before: &[Cell], from: usize, hint: usize) -> usize
+    requires cut { IsBlockMenu menu.now }
+    requires counted { length menu.now.undead.items ≡ length menu.now.columns.items }
+    requires bounded { (k : ℕ) → k < length menu.now.undead.items → slice_index_or menu.now.undead.items k 0 ≤ length (items_of menu.now.columns.items) }
+    requires within { from ≤ length menu.now.columns.items }
+    ensures onward { from ≤ result }
+    ensures within { result ≤ length menu.now.columns.items }
+    ensures passed { (exercise : AnExercise) (i : ℕ) → SkipDead exercise i (items_of menu.now.columns.items) menu.now.undead.items → (k : ℕ) → from ≤ k → k < result → StraysOrDies exercise i before.now (slice_index_or (items_of menu.now.columns.items) k []) }
+{
+    let mut k = menu.next_that_follows(before, from, hint);
+    while k < menu.columns.len() {
+        let undead = menu.undead_from(k);
+        if undead <= k {
+            return k;
+        }
+        k = menu.next_that_follows(before, undead, hint);
+    }
+    k
+}
+
 /// The first number, from this one on, of a column that may follow and isn't dead by the cells of its lowest voices; the menu's length where there is none.
 fn next_undead(exercise: &Exercise, node: &Node, menu: &BlockMenu, from: usize) -> usize
     requires valid { IsValid exercise.now }
     requires room { node.now.state.len < columns_in exercise.now }
     requires menu { items_of menu.now.columns.items ≡ menu_of exercise.now node.now.state.len }
     requires cut { IsBlockMenu menu.now }
+    requires skips { SkipsDead exercise.now node.now.state.len menu.now }
     requires within { from ≤ length menu.now.columns.items }
     ensures onward { from ≤ result }
     ensures within { result ≤ length menu.now.columns.items }
-    ensures passed { (p : List (List Cell)) → IsStateOf exercise.now p node.now.state → (k : ℕ) → from ≤ k → k < result → IsDeadAfter exercise.now p (slice_index_or (items_of menu.now.columns.items) k []) }
+    ensures passed { (p : List (List ACell)) → IsStateOf exercise.now p node.now.state → (k : ℕ) → from ≤ k → k < result → IsDeadAfter exercise.now p (slice_index_or (items_of menu.now.columns.items) k []) }
 {
     let before = node.state.before(exercise);
-    let mut k = menu.next_that_follows(before, from, node.hint);
+    let mut k = next_choice(menu, before, from, node.hint);
     let mut tried = menu.lowest_alike(from.saturating_sub(1), k);
     if from == 0 {
         tried = 0;
@@ -234,7 +286,7 @@ fn next_undead(exercise: &Exercise, node: &Node, menu: &BlockMenu, from: usize) 
             return k;
         };
         let dead = k;
-        k = menu.next_that_follows(before, menu.end_of_agreement(k, voices), node.hint);
+        k = next_choice(menu, before, menu.end_of_agreement(k, voices), node.hint);
         tried = menu.lowest_alike(dead, k).min(voices - 1);
     }
     k

@@ -11,12 +11,13 @@ use Rattle.species_space.proofs.space.next_undead.Goals as goal
 pub loop-k-init : goal.loop-k-init
 loop-k-init c =
     let columns = c.args.menu.now.columns.items in
-    let next = c.next_that_follows-k.ensures in
+    let next = c.next_choice-k.ensures in
     record {
       onward = next.onward;
-      within = omega (arith, next.within, length-map columns (λ col. col.items));
+      within = next.within;
       passed = λ p st j le lt follows.
-          absurd (next.passed j le lt (subst (λ b. ColumnFollows b (slice_index_or (items_of columns) j [])) (sym (c.before-before.ensures p st)) follows));
+          next.passed c.args.exercise.now c.args.node.now.state.len c.requires.skips.skip j le lt
+          (subst (λ b. ColumnFollows b (slice_index_or (items_of columns) j [])) (sym (c.before-before.ensures p st)) follows) p (sym st.len);
     }
 
 pub dead_within-requires-clause-full : goal.dead_within-requires-clause-full
@@ -35,7 +36,7 @@ returns-in_default-clause-passed c = c.loop-k.invariant.passed
 
 pub loop-k-smaller : goal.loop-k-smaller
 loop-k-smaller c =
-    omega (arith, c.loop-k-test.true, c.len.ensures, c.args.menu.now.columns.ok.0, c.end_of_agreement.ensures.onward, c.next_that_follows-k-in-loop-k.ensures.onward)
+    omega (arith, c.loop-k-test.true, c.len.ensures, c.args.menu.now.columns.ok.0, c.end_of_agreement.ensures.onward, c.next_choice-k-in-loop-k.ensures.onward)
 
 pub loop-k-preserved : goal.loop-k-preserved
 loop-k-preserved c =
@@ -45,20 +46,22 @@ loop-k-preserved c =
     let k = c.loop-k.k in
     let block = c.end_of_agreement.ensures in
     let end = c.end_of_agreement.result in
-    let next = c.next_that_follows-k-in-loop-k.ensures in
-    let to = c.next_that_follows-k-in-loop-k.result in
+    let next = c.next_choice-k-in-loop-k.ensures in
+    let to = c.next_choice-k-in-loop-k.result in
     let long = length-map columns (λ col. col.items) in
     let full : (j : ℕ) → j < length menu → length (slice_index_or menu j []) ≡ ex.voices = λ j lt.
     ap (λ cols. length (slice_index_or cols j [])) c.requires.menu ∙ menu_of-full ex c.args.node.now.state.len j [] (subst (λ cols. j < length cols) c.requires.menu lt) in
     record {
       onward = omega (arith, c.loop-k.invariant.onward, block.onward, next.onward);
-      within = omega (arith, next.within, long);
+      within = next.within;
       passed = λ p st.
           let P : ℕ → Type 0 = λ j. IsDeadAfter ex p (slice_index_or menu j []) in
           passed_on P c.args.from k to (c.loop-k.invariant.passed p st)
           (passed_on P k end to
           (λ j le lt follows. c.in-Some.ensures.dead p st (slice_index_or menu j []) (full j (omega (arith, lt, block.within))) (block.cells j le lt ∙ ap (take c.in-Some.voices) (sym c.column.ensures)))
-          (λ j le lt follows. absurd (next.passed j le lt (subst (λ b. ColumnFollows b (slice_index_or menu j [])) (sym (c.before-before.ensures p st)) follows))));
+          (λ j le lt follows.
+          next.passed ex c.args.node.now.state.len c.requires.skips.skip j le lt
+          (subst (λ b. ColumnFollows b (slice_index_or menu j [])) (sym (c.before-before.ensures p st)) follows) p (sym st.len)));
     }
 
 pub returns-clause-onward : goal.returns-clause-onward
