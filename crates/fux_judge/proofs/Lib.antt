@@ -1,4 +1,5 @@
 pub mod AlwaysLemmas
+pub mod KeptLemmas
 pub mod MomentLemmas
 pub mod PruningLemmas
 pub mod QuietLemmas

@@ -24,7 +24,7 @@ use Rattle.fux_judge.specs.Penalties.{is_strict_at, price_at}
 use Rattle.fux_judge.specs.Moments.{is_broken_then, is_strictly_broken_then, prices_then, toll_then, with_column}
 use Rattle.fux_judge.proofs.MomentLemmas.{window_then, melodic_then, motion_then, dissonance_then, rhythm_then, runs_cost, motion_cost, dissonance_cost, leaps_cost, melody_cost}
 
-none_passes : {X : Type 0} (test : X → Bool) (xs : List X) → ((x : X) → test x ≡ false) → list_any test xs ≡ false
+pub none_passes : {X : Type 0} (test : X → Bool) (xs : List X) → ((x : X) → test x ≡ false) → list_any test xs ≡ false
 none_passes test [] none = refl
 none_passes test (x ∷ xs) none = rw (none x) (none_passes test xs none)
 

@@ -2,6 +2,7 @@
 #![tactic(auto)]
 
 mod always;
+mod kept;
 mod moment;
 mod pruning;
 mod reading;

@@ -15,8 +15,9 @@ use crate::moment::Moment;
 use crate::reading::is_strictly_broken;
 use crate::state::State;
 use crate::verdict::moment_of;
-use fux_grid::{Column, Exercise, VoiceSet, cell_of};
+use fux_grid::{Column, Exercise, VoiceSet, cell_of, species_of};
 use fux_pitch::is_imperfect;
+use melody_rules::is_smooth;
 use rule_law::{begins_bar, interval_in, is_quiet, pair_of, starts, voice_of};
 
 /// The rules of one voice that starts a note.
@@ -71,12 +72,23 @@ fn breaks_one(rules: &[u8], voices: VoiceSet, m: &Moment<'_>) -> bool
     false
 }
 
+/// Whether a voice breaks no rule of melody.
+#[inline]
+fn is_smooth_in(voice: u8, m: &Moment<'_>) -> bool {
+    let all = m.notes;
+    let cell = cell_of(m.column, voice as usize);
+    match all[..].get(voice as usize) {
+        Some(notes) => is_smooth(species_of(m.exercise, voice), notes, cell),
+        None => false,
+    }
+}
+
 /// Whether a voice alone breaks a rule strictly.
 fn breaks_alone(voice: u8, voices: VoiceSet, m: &Moment<'_>) -> bool
     requires readable { IsReadable m.now }
     ensures { OnTrue result (IsDeadBy voices.bits m.now) }
 {
-    if starts(cell_of(m.column, voice as usize)) && breaks_one(&WHERE_IT_STARTS, voices, m) {
+    if !is_smooth_in(voice, m) && breaks_one(&WHERE_IT_STARTS, voices, m) {
         return true;
     }
     if voice == 0 && begins_bar(m.place) && breaks_one(&ON_THE_FINAL, voices, m) {

@@ -13,6 +13,7 @@ ghost use Rattle.fux_judge.specs.Moments.{IsReadable, IsAfter, is_strictly_broke
 ghost use Rattle.fux_judge.specs.Shapes.{is_out_of_shape_now};
 ghost use Rattle.fux_judge.specs.States.{IsStateOf};
 
+use crate::kept::{RULES_AT_ONCE, rules_left};
 use crate::moment::Moment;
 use crate::reading::{is_strictly_broken_now, prices_now};
 use crate::state::{ColumnCells, State};
@@ -35,9 +36,6 @@ pub struct Verdict {
     /// What the gauges will cost at least. None is read so far, so it is 0.
     pub least: u64,
 }
-
-/// The rules that are settled at once: all but S3.
-const RULES_AT_ONCE: [u8; 17] = [1, 2, 4, 5, 6, 7, 8, 9, 10, 11, 12, 13, 14, 16, 17, 24, 26];
 
 /// All rules that are read.
 const RULES: [u8; 18] = [
@@ -155,7 +153,7 @@ fn readings(sheet: &Sheet, m: &Moment<'_>) -> (RuleSet, u64)
         return (RuleSet::EMPTY, 0);
     }
     let paid = charges(sheet, m) + prices_of(&RULES_AT_ONCE, m);
-    (broken_of(&RULES_AT_ONCE, m), paid)
+    (broken_of(rules_left(m), m), paid)
 }
 
 /// Judges a column that comes after a prefix: which rules it breaks strictly, what it costs, and the state of the longer prefix. It takes no memory.

@@ -3,3 +3,4 @@ pub mod LowerVoices
 pub mod Notes
 pub mod Quiet
 pub mod Rows
+pub mod Smooth

@@ -103,7 +103,8 @@ pub fn notes_before(score: &Score, v: u8, n: usize) -> VoiceNotes
 }
 
 /// S9: a note starts with which the notes span more than a tenth, as they didn't before.
-fn widens(notes: &VoiceNotes, now: Cell) -> bool
+#[inline]
+pub(crate) fn widens(notes: &VoiceNotes, now: Cell) -> bool
     ensures { (cells : List Cell) → IsNotesOf cells notes.now → result ≡ rows.widens (rows.pitches cells) now }
 {
     match now {

@@ -19,3 +19,6 @@ returns-then-is_quiet-clause-paid c = λ p after.
   where
     none_together : (a b : ℕ) → a ≡ 0 → b ≡ 0 → 0 ≡ a + b
     none_together a b e f = omega arith
+
+pub returns-clause-broken : goal.returns-clause-broken
+returns-clause-broken c = λ p after r. c.broken_of.ensures p after r ∙ c.rules_left.ensures.kept p after r

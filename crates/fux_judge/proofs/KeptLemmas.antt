@@ -1,0 +1,102 @@
+-- Rules that a column keeps need not be read.
+use Rattle.std.proofs.Common.{◌≡◌, ◌≢◌, ℕ, ◌==◌, ◌&&◌, ◌||◌, Bool, true, false, not, List, [], ◌∷◌, length, reverse, refl, ap, sym, ◌∙◌, subst, eq-eqb}
+use Rattle.std.specs.Prelude.{nat_le, nat_lt}
+use Rattle.std.specs.List.{filter, list_any}
+use Rattle.std.proofs.lemmas.Bool.{eqb-true}
+use Rattle.std.proofs.lemmas.Map.Views.{any-filter_same}
+use Rattle.fux_grid.specs.declared.cell.Cell.{Cell}
+use Rattle.fux_grid.specs.Cells.{cell_in, pitch_of}
+use Rattle.fux_grid.specs.Columns.{newest_column}
+use Rattle.fux_grid.specs.Exercises.{bar_of}
+use Rattle.rule_law.specs.Bars.{begins_bar}
+use Rattle.rule_law.specs.Pairs.{sound_same_key}
+use Rattle.rule_law.specs.Quiet.{and_none, on_pair-none, on_voice-none}
+use Rattle.rule_law.specs.Terms.{clash, holds_of, interval_in, starts}
+use Rattle.melody_rules.specs.Rows as melody
+use Rattle.melody_rules.specs.Smooth.{some_rough, smooth_near_rows, smooth_window_rows}
+use Rattle.rhythm_cadence.specs.Rows.{begins_last_bar, fits_ending, holds_of_pitch, is_final}
+use Rattle.fux_judge.specs.declared.moment.Moment.{Moment}
+use Rattle.fux_judge.specs.Rules.{all_sets, is_melodic, is_of_dissonance}
+use Rattle.fux_judge.specs.Penalties.{is_strict_at}
+use Rattle.fux_judge.specs.Moments.{is_broken_then, is_strictly_broken_then, rules_at_once}
+use Rattle.fux_judge.proofs.MomentLemmas.{window_then, melodic_then, dissonance_then, rhythm_then}
+use Rattle.fux_judge.proofs.QuietLemmas.{none_passes}
+
+-- the rules of the last bar alone
+abbrev pub is_of_ending : ℕ → Bool
+is_of_ending rule = (rule == 13) || (rule == 24)
+
+-- what holds of two numbers holds of one that is one of them
+of_two : (P : ℕ → Type 0) (a b rule : ℕ) → P a → P b → ((rule == a) || (rule == b)) ≡ true → P rule
+of_two P a b rule pa pb = at (rule == a) refl
+  where
+    at : (t : Bool) → (rule == a) ≡ t → (t || (rule == b)) ≡ true → P rule
+    at true e h = subst P (sym (eqb-true rule a e)) pa
+    at false e h = subst P (sym (eqb-true rule b h)) pb
+
+-- rules that are never found broken may be left out
+left_out : (broken out : ℕ → Bool) (rules : List ℕ) (r : ℕ) → ((rule : ℕ) → out rule ≡ true → broken rule ≡ false) → list_any (λ rule. broken rule && r == rule) (filter (λ rule. not (out rule)) rules) ≡ list_any (λ rule. broken rule && r == rule) rules
+left_out broken out rules r kept = any-filter_same (λ rule. broken rule && r == rule) (λ rule. not (out rule)) true (λ rule found. at (out rule) (broken rule) (r == rule) found (kept rule)) rules
+  where
+    at : (leaves breaks this : Bool) → (breaks && this) ≡ true → (leaves ≡ true → breaks ≡ false) → not leaves ≡ true
+    at true true this h k = let e : true ≡ false = k refl in cc
+    at true false this h k = cc
+    at false breaks this h k = refl
+
+-- what a test of the opposite says
+pub not_rough : (rough : Bool) → true ≡ not rough → rough ≡ false
+not_rough true h = cc
+not_rough false h = refl
+
+pub not_last : (begins last : Bool) → last ≡ false → (begins && last) ≡ false
+not_last begins last h = and_none begins last h
+
+no_shape : (rule : ℕ) → (rule == 3) ≡ false → rule ≢ 3
+no_shape rule h e = let f : (rule == 3) ≡ true = eq-eqb rule 3 e in cc
+
+module _ (p : List (List Cell)) (m : Moment) where
+  kept_by_all : (rule : ℕ) → ((voices : ℕ) → is_broken_then rule voices p m ≡ false) → is_strictly_broken_then all_sets rule p m ≡ false
+  kept_by_all rule kept =
+      none_passes (λ voices. is_broken_then rule voices p m && is_strict_at rule m.exercise.now voices (length p)) all_sets
+      (λ voices. ap (λ b. b && is_strict_at rule m.exercise.now voices (length p)) (kept voices))
+
+  -- a smooth column keeps the rules of melody
+  melody_kept : some_rough m.exercise.now (reverse p) m.column.now ≡ false → (rule : ℕ) → is_melodic rule ≡ true → is_strictly_broken_then all_sets rule p m ≡ false
+  melody_kept smooth rule melodic = kept_by_all rule (λ voices. at voices (melody.looks_back rule) refl)
+    where
+      at : (voices : ℕ) (b : Bool) → melody.looks_back rule ≡ b → is_broken_then rule voices p m ≡ false
+      at voices true e = sym (window_then rule voices p m melodic e) ∙ smooth_window_rows m.exercise.now (reverse p) m.column.now smooth rule voices (length p) []
+      at voices false e = sym (melodic_then rule voices p m melodic e) ∙ smooth_near_rows m.exercise.now (reverse p) m.column.now smooth rule voices (length p) (newest_column (reverse p))
+
+  -- away from the beginning of the last bar there is no ending
+  endings_kept : begins_last_bar m.exercise.now (length p) ≡ false → (rule : ℕ) → is_of_ending rule ≡ true → is_strictly_broken_then all_sets rule p m ≡ false
+  endings_kept before rule = of_two (λ rule. is_strictly_broken_then all_sets rule p m ≡ false) 13 24 rule
+      (kept_by_all 13 (λ voices. sym (rhythm_then 13 voices p m (no_shape 13 refl) refl refl refl)
+      ∙ on_pair-none m.exercise.now _ voices (λ v w. and_none (v == 0) _ (ap (λ b. b && not (holds_of (fits_ending m.exercise.now) (interval_in m.column.now 0 w))) before))))
+      (kept_by_all 24 (λ voices. sym (rhythm_then 24 voices p m (no_shape 24 refl) refl refl refl)
+      ∙ on_voice-none m.exercise.now _ voices (λ v. and_none (v == 0) _ (ap (λ b. b && not (holds_of_pitch (is_final m.exercise.now) (pitch_of (cell_in m.column.now 0)))) before))))
+
+  -- within a bar no rule of dissonance is broken
+  dissonance_kept : begins_bar (length p) ≡ false → (rule : ℕ) → is_of_dissonance rule ≡ true → is_strictly_broken_then all_sets rule p m ≡ false
+  dissonance_kept within rule = of_two (λ rule. is_strictly_broken_then all_sets rule p m ≡ false) 11 14 rule
+      (kept_by_all 11 (λ voices. sym (dissonance_then 11 voices p m refl refl refl)
+      ∙ on_pair-none m.exercise.now _ voices (λ v w. ap (λ b. (b && nat_le 2 (bar_of (length p)) && nat_lt (bar_of (length p)) m.exercise.now.bars) && sound_same_key m.column.now v w) within)))
+      (kept_by_all 14 (λ voices. sym (dissonance_then 14 voices p m refl refl refl)
+      ∙ on_pair-none m.exercise.now _ voices (λ v w. ap (λ b. b && starts (cell_in m.column.now v) && starts (cell_in m.column.now w) && clash m.column.now v w) within)))
+
+  module _ (smooth : some_rough m.exercise.now (reverse p) m.column.now ≡ false) (r : ℕ) where
+    abbrev pub found_in : List ℕ → Bool
+    found_in = list_any (λ rule. is_strictly_broken_then all_sets rule p m && r == rule)
+
+    pub beside_melody : found_in (1 ∷ 2 ∷ 10 ∷ 11 ∷ 12 ∷ 13 ∷ 14 ∷ 16 ∷ 17 ∷ 24 ∷ []) ≡ found_in rules_at_once
+    beside_melody = left_out (λ rule. is_strictly_broken_then all_sets rule p m) is_melodic rules_at_once r (melody_kept smooth)
+
+    pub before_the_end : begins_last_bar m.exercise.now (length p) ≡ false → found_in (1 ∷ 2 ∷ 10 ∷ 11 ∷ 12 ∷ 14 ∷ 16 ∷ 17 ∷ []) ≡ found_in rules_at_once
+    before_the_end before =
+        left_out (λ rule. is_strictly_broken_then all_sets rule p m) is_of_ending (1 ∷ 2 ∷ 10 ∷ 11 ∷ 12 ∷ 13 ∷ 14 ∷ 16 ∷ 17 ∷ 24 ∷ []) r (endings_kept before)
+        ∙ beside_melody
+
+    pub within_a_bar : begins_bar (length p) ≡ false → found_in (1 ∷ 2 ∷ 10 ∷ 12 ∷ 16 ∷ 17 ∷ []) ≡ found_in rules_at_once
+    within_a_bar within =
+        left_out (λ rule. is_strictly_broken_then all_sets rule p m) is_of_dissonance (1 ∷ 2 ∷ 10 ∷ 11 ∷ 12 ∷ 14 ∷ 16 ∷ 17 ∷ []) r (dissonance_kept within)
+        ∙ before_the_end (ap (λ b. b && (bar_of (length p) == m.exercise.now.bars)) within)
