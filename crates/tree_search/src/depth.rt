@@ -112,6 +112,7 @@ pub fn search_depth<S: Space>(alloc: Global, space: &S, budget: u32) -> Result<O
     ensures nothing { IfOk result (λ outcome. OnNothing outcome (HasNoLeaf (S.live space.now) (S.height space.now))) }
     ensures spent { IfOk result (λ outcome. IfSpent outcome (λ _. Many (IsLiveBelowRoot (S.live space.now)) (budget + 1))) }
     ensures bound { IfOk result (λ outcome. IfSpent outcome (BoundsLeaves (S.live space.now) (S.height space.now))) }
+    ensures floor { IfOk result (λ outcome. IfSpent outcome (λ bound. (floor : ℕ) → S.live space.now [] ≡ Some floor → floor ≤ bound)) }
     ensures enough { AtMost (IsLiveBelowRoot (S.live space.now)) budget → IfOk result (λ outcome. ¬ IsSpent outcome) }
 
     // The budget is spent exactly where more nodes than that are to be opened.

@@ -1,4 +1,4 @@
-use Rattle.std.proofs.Common.{◌≡◌, ◌<◌, [], refl, arith}
+use Rattle.std.proofs.Common.{◌≡◌, ℕ, ◌<◌, ◌≤◌, [], Some, refl, sym, ◌∙◌, arith}
 use Rattle.tree_search.proofs.Floors.{none_from, floor_from, all_seen_none, all_seen_some}
 use Rattle.tree_search.proofs.Counts.{AtMost-from, no_more}
 use Rattle.tree_search.proofs.Opened.{many_live, many_opened, exactly_opened, none_opened_dead, none_opened_leaf}
@@ -23,6 +23,12 @@ returns-then-not-descend-clause-spent g c = many_live _ _ _ _ c.if-not-descend.e
 
 pub returns-then-not-descend-clause-bound : goal.returns-then-not-descend-clause-bound
 returns-then-not-descend-clause-bound g c = λ path value leaf. floor_from (g.met.S.Space.floors_grow c.args.space.now) [] path _ value c.in-Some.ensures.1 leaf.1 (path, refl)
+
+pub returns-then-not-descend-clause-floor : goal.returns-then-not-descend-clause-floor
+returns-then-not-descend-clause-floor g c = λ floor live. no_lower _ floor (sym c.in-Some.ensures.1 ∙ live)
+  where
+    no_lower : (a b : ℕ) → Some a ≡ Some b → b ≤ a
+    no_lower a b e = let same : a ≡ b = cc in omega (arith, same)
 
 pub returns-then-not-descend-clause-enough : goal.returns-then-not-descend-clause-enough
 returns-then-not-descend-clause-enough g c = λ enough _. no_more _ c.args.budget _ (omega arith) enough (many_live _ _ _ _ c.if-not-descend.ensures.spent)
