@@ -1,1 +1,2 @@
 pub mod BarLineLemmas
+pub mod ClearLemmas

@@ -2,6 +2,7 @@
 #![tactic(auto)]
 
 mod bar_lines;
+mod clear;
 mod motion;
 mod rows;
 #[cfg(test)]
@@ -9,6 +10,7 @@ mod tests;
 mod tolls;
 
 pub use bar_lines::{BarLines, imperfect_runs_after, no_bar_lines, noted};
+pub use clear::are_clear;
 pub use motion::Motion;
 pub use rows::{breaks, cost};
 pub use tolls::{Q11, Q14};

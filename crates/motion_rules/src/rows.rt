@@ -13,7 +13,7 @@ use rule_law::{
 
 /// S10.
 #[inline]
-fn cross(now: &[Cell], v: usize, w: usize) -> bool
+pub(crate) fn cross(now: &[Cell], v: usize, w: usize) -> bool
     ensures { result ≡ rows.cross now.now v w }
 {
     if !one_starts(now, v, w) {
@@ -27,7 +27,7 @@ fn cross(now: &[Cell], v: usize, w: usize) -> bool
 
 /// S16.
 #[inline]
-fn move_in_parallel(before: &[Cell], now: &[Cell], v: usize, w: usize) -> bool
+pub(crate) fn move_in_parallel(before: &[Cell], now: &[Cell], v: usize, w: usize) -> bool
     ensures { result ≡ rows.move_in_parallel before.now now.now v w }
 {
     if !both_move(before, now, v, w) {
@@ -52,7 +52,13 @@ fn are_outer(ex: &Exercise, v: u8, w: u8) -> bool
 
 /// S17.
 #[inline]
-fn outer_move_into_perfect(ex: &Exercise, before: &[Cell], now: &[Cell], v: u8, w: u8) -> bool
+pub(crate) fn outer_move_into_perfect(
+    ex: &Exercise,
+    before: &[Cell],
+    now: &[Cell],
+    v: u8,
+    w: u8,
+) -> bool
     ensures { result ≡ rows.outer_move_into_perfect ex.now before.now now.now v w }
 {
     are_outer(ex, v, w) && move_into_perfect(before, now, v as usize, w as usize)
