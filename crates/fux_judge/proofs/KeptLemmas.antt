@@ -9,17 +9,19 @@ use Rattle.fux_grid.specs.Cells.{cell_in, pitch_of}
 use Rattle.fux_grid.specs.Columns.{newest_column}
 use Rattle.fux_grid.specs.Exercises.{bar_of}
 use Rattle.rule_law.specs.Bars.{begins_bar}
+use Rattle.rule_law.specs.Nearby.{previous_pitches}
 use Rattle.rule_law.specs.Pairs.{sound_same_key}
 use Rattle.rule_law.specs.Quiet.{and_none, on_pair-none, on_voice-none}
 use Rattle.rule_law.specs.Terms.{clash, holds_of, interval_in, starts}
 use Rattle.melody_rules.specs.Rows as melody
 use Rattle.melody_rules.specs.Smooth.{some_rough, smooth_near_rows, smooth_window_rows}
+use Rattle.motion_rules.specs.Clear.{some_move_badly, clear_rows}
 use Rattle.rhythm_cadence.specs.Rows.{begins_last_bar, fits_ending, holds_of_pitch, is_final}
 use Rattle.fux_judge.specs.declared.moment.Moment.{Moment}
-use Rattle.fux_judge.specs.Rules.{all_sets, is_melodic, is_of_dissonance}
+use Rattle.fux_judge.specs.Rules.{all_sets, is_melodic, is_of_motion, is_of_dissonance}
 use Rattle.fux_judge.specs.Penalties.{is_strict_at}
 use Rattle.fux_judge.specs.Moments.{is_broken_then, is_strictly_broken_then, rules_at_once}
-use Rattle.fux_judge.proofs.MomentLemmas.{window_then, melodic_then, dissonance_then, rhythm_then}
+use Rattle.fux_judge.proofs.MomentLemmas.{window_then, melodic_then, motion_then, dissonance_then, rhythm_then}
 use Rattle.fux_judge.proofs.QuietLemmas.{none_passes}
 
 -- the rules of the last bar alone
@@ -48,11 +50,19 @@ pub not_rough : (rough : Bool) → true ≡ not rough → rough ≡ false
 not_rough true h = cc
 not_rough false h = refl
 
-pub not_last : (begins last : Bool) → last ≡ false → (begins && last) ≡ false
-not_last begins last h = and_none begins last h
-
 no_shape : (rule : ℕ) → (rule == 3) ≡ false → rule ≢ 3
 no_shape rule h e = let f : (rule == 3) ≡ true = eq-eqb rule 3 e in cc
+
+-- no rule is of melody and of motion
+not_both : (rule : ℕ) → is_melodic rule ≡ true → is_of_motion rule ≡ true → ⊥
+not_both rule e motion = let P : ℕ → Type 0 = λ r. is_melodic r ≡ true → ⊥ in of_three P 10 16 17 rule (λ h. cc) (λ h. cc) (λ h. cc) motion e
+  where
+    of_three : (P : ℕ → Type 0) (a b c rule : ℕ) → P a → P b → P c → (((rule == a) || (rule == b)) || (rule == c)) ≡ true → P rule
+    of_three P a b c rule pa pb pc = at ((rule == a) || (rule == b)) refl
+      where
+        at : (t : Bool) → ((rule == a) || (rule == b)) ≡ t → (t || (rule == c)) ≡ true → P rule
+        at true e h = of_two P a b rule pa pb e
+        at false e h = subst P (sym (eqb-true rule c h)) pc
 
 module _ (p : List (List Cell)) (m : Moment) where
   kept_by_all : (rule : ℕ) → ((voices : ℕ) → is_broken_then rule voices p m ≡ false) → is_strictly_broken_then all_sets rule p m ≡ false
@@ -67,6 +77,14 @@ module _ (p : List (List Cell)) (m : Moment) where
       at : (voices : ℕ) (b : Bool) → melody.looks_back rule ≡ b → is_broken_then rule voices p m ≡ false
       at voices true e = sym (window_then rule voices p m melodic e) ∙ smooth_window_rows m.exercise.now (reverse p) m.column.now smooth rule voices (length p) []
       at voices false e = sym (melodic_then rule voices p m melodic e) ∙ smooth_near_rows m.exercise.now (reverse p) m.column.now smooth rule voices (length p) (newest_column (reverse p))
+
+  -- a column in which no two voices move badly keeps the rules of motion
+  motion_kept : some_move_badly m.exercise.now (newest_column (reverse p)) m.column.now ≡ false → (rule : ℕ) → is_of_motion rule ≡ true → is_strictly_broken_then all_sets rule p m ≡ false
+  motion_kept clear rule motion = kept_by_all rule (λ voices. at voices (is_melodic rule) refl)
+    where
+      at : (voices : ℕ) (b : Bool) → is_melodic rule ≡ b → is_broken_then rule voices p m ≡ false
+      at voices true e = absurd (not_both rule e motion)
+      at voices false e = sym (motion_then rule voices p m e motion) ∙ clear_rows m.exercise.now (newest_column (reverse p)) m.column.now clear rule voices (length p) (previous_pitches (reverse p))
 
   -- away from the beginning of the last bar there is no ending
   endings_kept : begins_last_bar m.exercise.now (length p) ≡ false → (rule : ℕ) → is_of_ending rule ≡ true → is_strictly_broken_then all_sets rule p m ≡ false
@@ -84,19 +102,21 @@ module _ (p : List (List Cell)) (m : Moment) where
       (kept_by_all 14 (λ voices. sym (dissonance_then 14 voices p m refl refl refl)
       ∙ on_pair-none m.exercise.now _ voices (λ v w. ap (λ b. b && starts (cell_in m.column.now v) && starts (cell_in m.column.now w) && clash m.column.now v w) within)))
 
-  module _ (smooth : some_rough m.exercise.now (reverse p) m.column.now ≡ false) (r : ℕ) where
+  module _ (smooth : some_rough m.exercise.now (reverse p) m.column.now ≡ false) (clear : some_move_badly m.exercise.now (newest_column (reverse p)) m.column.now ≡ false) (r : ℕ) where
     abbrev pub found_in : List ℕ → Bool
     found_in = list_any (λ rule. is_strictly_broken_then all_sets rule p m && r == rule)
 
-    pub beside_melody : found_in (1 ∷ 2 ∷ 10 ∷ 11 ∷ 12 ∷ 13 ∷ 14 ∷ 16 ∷ 17 ∷ 24 ∷ []) ≡ found_in rules_at_once
-    beside_melody = left_out (λ rule. is_strictly_broken_then all_sets rule p m) is_melodic rules_at_once r (melody_kept smooth)
+    pub at_the_end : found_in (1 ∷ 2 ∷ 11 ∷ 12 ∷ 13 ∷ 14 ∷ 24 ∷ []) ≡ found_in rules_at_once
+    at_the_end =
+        left_out (λ rule. is_strictly_broken_then all_sets rule p m) is_of_motion (1 ∷ 2 ∷ 10 ∷ 11 ∷ 12 ∷ 13 ∷ 14 ∷ 16 ∷ 17 ∷ 24 ∷ []) r (motion_kept clear)
+        ∙ left_out (λ rule. is_strictly_broken_then all_sets rule p m) is_melodic rules_at_once r (melody_kept smooth)
 
-    pub before_the_end : begins_last_bar m.exercise.now (length p) ≡ false → found_in (1 ∷ 2 ∷ 10 ∷ 11 ∷ 12 ∷ 14 ∷ 16 ∷ 17 ∷ []) ≡ found_in rules_at_once
+    pub before_the_end : begins_last_bar m.exercise.now (length p) ≡ false → found_in (1 ∷ 2 ∷ 11 ∷ 12 ∷ 14 ∷ []) ≡ found_in rules_at_once
     before_the_end before =
-        left_out (λ rule. is_strictly_broken_then all_sets rule p m) is_of_ending (1 ∷ 2 ∷ 10 ∷ 11 ∷ 12 ∷ 13 ∷ 14 ∷ 16 ∷ 17 ∷ 24 ∷ []) r (endings_kept before)
-        ∙ beside_melody
+        left_out (λ rule. is_strictly_broken_then all_sets rule p m) is_of_ending (1 ∷ 2 ∷ 11 ∷ 12 ∷ 13 ∷ 14 ∷ 24 ∷ []) r (endings_kept before)
+        ∙ at_the_end
 
-    pub within_a_bar : begins_bar (length p) ≡ false → found_in (1 ∷ 2 ∷ 10 ∷ 12 ∷ 16 ∷ 17 ∷ []) ≡ found_in rules_at_once
+    pub within_a_bar : begins_bar (length p) ≡ false → found_in (1 ∷ 2 ∷ 12 ∷ []) ≡ found_in rules_at_once
     within_a_bar within =
-        left_out (λ rule. is_strictly_broken_then all_sets rule p m) is_of_dissonance (1 ∷ 2 ∷ 10 ∷ 11 ∷ 12 ∷ 14 ∷ 16 ∷ 17 ∷ []) r (dissonance_kept within)
+        left_out (λ rule. is_strictly_broken_then all_sets rule p m) is_of_dissonance (1 ∷ 2 ∷ 11 ∷ 12 ∷ 14 ∷ []) r (dissonance_kept within)
         ∙ before_the_end (ap (λ b. b && (bar_of (length p) == m.exercise.now.bars)) within)

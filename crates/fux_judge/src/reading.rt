@@ -120,7 +120,7 @@ fn is_broken(rule: u8, voices: VoiceSet, m: &Moment<'_>) -> bool
 
 /// The bar of a moment, counted from 1.
 #[inline]
-pub(crate) fn bar_at(m: &Moment<'_>) -> u8
+fn bar_at(m: &Moment<'_>) -> u8
     requires { IsReadable m.now }
     ensures { result ≡ bar_of m.now.place }
 {
