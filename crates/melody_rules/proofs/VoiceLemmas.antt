@@ -1,5 +1,5 @@
 -- The notes of four voices.
-use Rattle.std.proofs.Common.{◌≡◌, ℕ, zero, suc, ◌+◌, ◌<◌, Bool, true, false, not, ◌&&◌, ◌||◌, nat_lt, List, [], ◌∷◌, map, Some, length, get_or, refl, ap, sym, subst, ◌∙◌, arith}
+use Rattle.std.proofs.Common.{◌≡◌, ℕ, zero, suc, ◌+◌, ◌<◌, Bool, true, ◌&&◌, nat_lt, List, [], ◌∷◌, map, Some, length, get_or, refl, ap, sym, subst, ◌∙◌, arith}
 use Rattle.std.specs.Prelude.{slice_get}
 use Rattle.std.proofs.lemmas.Option.{slice_get-get_or}
 use Rattle.fux_grid.specs.declared.cell.Cell.{Cell}
@@ -46,16 +46,3 @@ pub on_free_voice-test : (ex : Exercise) (test : ℕ → Bool) (bits v : ℕ) �
 on_free_voice-test ex test bits v one there free =
     ap (holds_of_voice ex (λ w. is_free ex w && test w)) (sym one)
     ∙ both (nat_lt v ex.voices) (is_free ex v) (test v) (test_from_below v ex.voices there) free
-
--- the first of some voices that is rough, or a later one, or the last
-pub rough_here : (rough later : Bool) → false ≡ not rough → false ≡ not (rough || later)
-rough_here true later h = refl
-rough_here false later h = cc
-
-pub rough_later : (rough later result : Bool) → true ≡ not rough → result ≡ not later → result ≡ not (rough || later)
-rough_later true later result h k = cc
-rough_later false later result h k = k
-
-pub rough_last : (rough result : Bool) → result ≡ not rough → result ≡ not (rough || false)
-rough_last true result h = h
-rough_last false result h = h

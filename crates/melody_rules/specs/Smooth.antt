@@ -1,5 +1,5 @@
 -- All rules of melody at once.
-use Rattle.std.specs.Prelude.{◌≡◌, ℕ, ◌==◌, Bool, true, false, ◌&&◌, ◌||◌, nat_lt, List, [], ◌∷◌, map, Option, Some, None, if◌then◌else◌, refl}
+use Rattle.std.specs.Prelude.{◌≡◌, ℕ, ◌==◌, Bool, false, ◌&&◌, ◌||◌, nat_lt, List, [], ◌∷◌, map, Option, refl}
 use Rattle.std.specs.List.{list_any}
 use Rattle.std.proofs.Common.{ap, ◌∙◌}
 use Rattle.fux_pitch.specs.declared.pitch.Pitch.{Pitch}
@@ -10,9 +10,9 @@ use Rattle.fux_grid.specs.Cells.{cell_in, first_of, notes_from}
 use Rattle.fux_grid.specs.Columns.{line}
 use Rattle.fux_grid.specs.Exercises.{species_in}
 use Rattle.rule_law.specs.Nearby.{previous_pitches, pitch_at}
-use Rattle.rule_law.specs.Quiet.{either_none}
+use Rattle.rule_law.specs.Quiet.{either_none, neither, on_free_voice-kept}
 use Rattle.rule_law.specs.Terms.{note_pitch}
-use Rattle.rule_law.specs.Voices.{holds_of_voice, is_free, on_free_voice}
+use Rattle.rule_law.specs.Voices.{is_free}
 use Rattle.melody_rules.specs.Rows.{before_last, goes_on_after_leap, last_of, latest_turning, leaves_sharp, moves_unmelodically, near_rows, outlines_badly, pitches, repeats, turns_at_tritone, voice_rule, widens, window_rows, window_rule}
 
 -- S4, S5 or S26 is broken
@@ -41,10 +41,6 @@ is_rough_at ex behind now v =
 abbrev pub some_rough : Exercise → List (List Cell) → List Cell → Bool
 some_rough ex behind now = list_any (is_rough_at ex behind now) (0 ∷ 1 ∷ 2 ∷ 3 ∷ [])
 
-neither : (a b : Bool) → (a || b) ≡ false → (a ≡ false) × (b ≡ false)
-neither true b h = cc
-neither false b h = (refl, h)
-
 -- then each rule of melody is kept
 near_kept : (rule species : ℕ) (previous : Option Pitch) (c : Cell) → is_rough_move species previous c ≡ false → voice_rule rule species previous c ≡ false
 near_kept rule species previous c h =
@@ -67,32 +63,10 @@ first_pitch : (ns : List Note) → note_pitch (first_of ns) ≡ last_of (map (λ
 first_pitch [] = refl
 first_pitch (n ∷ ns) = refl
 
--- a test of the voice of a set, where it fails for each of four
-four_kept : (ex : Exercise) (rough test : ℕ → Bool) (voices : ℕ) → list_any (λ v. nat_lt v ex.voices && (is_free ex v && rough v)) (0 ∷ 1 ∷ 2 ∷ 3 ∷ []) ≡ false → (rough 0 ≡ false → test 0 ≡ false) → (rough 1 ≡ false → test 1 ≡ false) → (rough 2 ≡ false → test 2 ≡ false) → (rough 3 ≡ false → test 3 ≡ false) → on_free_voice ex test voices ≡ false
-four_kept ex rough test voices h k0 k1 k2 k3 =
-    let here : ℕ → Bool = λ v. nat_lt v ex.voices && (is_free ex v && rough v) in
-    let a = neither (here 0) (here 1 || (here 2 || (here 3 || false))) h in
-    let b = neither (here 1) (here 2 || (here 3 || false)) a.1 in
-    let d = neither (here 2) (here 3 || false) b.1 in
-    let e = neither (here 3) false d.1 in
-    chosen (voices == 1) (Some 0) _ (one (nat_lt 0 ex.voices) (is_free ex 0) (rough 0) (test 0) a.0 k0)
-    (chosen (voices == 2) (Some 1) _ (one (nat_lt 1 ex.voices) (is_free ex 1) (rough 1) (test 1) b.0 k1)
-    (chosen (voices == 4) (Some 2) _ (one (nat_lt 2 ex.voices) (is_free ex 2) (rough 2) (test 2) d.0 k2)
-    (chosen (voices == 8) (Some 3) None (one (nat_lt 3 ex.voices) (is_free ex 3) (rough 3) (test 3) e.0 k3) refl)))
-  where
-    one : (there free bad fails : Bool) → (there && (free && bad)) ≡ false → (bad ≡ false → fails ≡ false) → (there && (free && fails)) ≡ false
-    one true true bad fails h k = k h
-    one true false bad fails h k = refl
-    one false free bad fails h k = refl
-
-    chosen : (b : Bool) (x y : Option ℕ) → holds_of_voice ex (λ w. is_free ex w && test w) x ≡ false → holds_of_voice ex (λ w. is_free ex w && test w) y ≡ false → holds_of_voice ex (λ w. is_free ex w && test w) (if b then x else y) ≡ false
-    chosen true x y h k = h
-    chosen false x y h k = k
-
 module _ (ex : Exercise) (behind : List (List Cell)) (now : List Cell) (kept : some_rough ex behind now ≡ false) where
   pub smooth_near_rows : (rule voices i : ℕ) (before : List Cell) → near_rows rule ex voices i before (previous_pitches behind) now ≡ false
   smooth_near_rows rule voices i before =
-      four_kept ex (λ v. is_rough (species_in ex v) (pitches (line v behind)) (cell_in now v)) (λ v. voice_rule rule (species_in ex v) (pitch_at (previous_pitches behind) v) (cell_in now v)) voices kept
+      on_free_voice-kept ex (λ v. is_rough (species_in ex v) (pitches (line v behind)) (cell_in now v)) (λ v. voice_rule rule (species_in ex v) (pitch_at (previous_pitches behind) v) (cell_in now v)) voices kept
       (moved 0) (moved 1) (moved 2) (moved 3)
     where
       moved : (v : ℕ) → is_rough (species_in ex v) (pitches (line v behind)) (cell_in now v) ≡ false → voice_rule rule (species_in ex v) (note_pitch (first_of (notes_from 0 (line v behind)))) (cell_in now v) ≡ false
@@ -103,7 +77,7 @@ module _ (ex : Exercise) (behind : List (List Cell)) (now : List Cell) (kept : s
 
   pub smooth_window_rows : (rule voices i : ℕ) (ahead : List (List Cell)) → window_rows rule ex voices i behind now ahead ≡ false
   smooth_window_rows rule voices i ahead =
-      four_kept ex (λ v. is_rough (species_in ex v) (pitches (line v behind)) (cell_in now v)) (λ v. window_rule rule (pitches (line v behind)) (cell_in now v)) voices kept
+      on_free_voice-kept ex (λ v. is_rough (species_in ex v) (pitches (line v behind)) (cell_in now v)) (λ v. window_rule rule (pitches (line v behind)) (cell_in now v)) voices kept
       (moved 0) (moved 1) (moved 2) (moved 3)
     where
       moved : (v : ℕ) → is_rough (species_in ex v) (pitches (line v behind)) (cell_in now v) ≡ false → window_rule rule (pitches (line v behind)) (cell_in now v) ≡ false

@@ -1,2 +1,1 @@
 pub mod BarLineLemmas
-pub mod ClearLemmas

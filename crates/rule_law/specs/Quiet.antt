@@ -1,5 +1,5 @@
 -- Columns at which nothing begins: no bar and no note.
-use Rattle.std.specs.Prelude.{◌≡◌, ℕ, zero, suc, Bool, true, false, not, ◌&&◌, ◌||◌, cond, nat_le, nat_lt, List, [], ◌∷◌, Option, Some, None, if◌then◌else◌, refl}
+use Rattle.std.specs.Prelude.{◌≡◌, ℕ, zero, suc, ◌==◌, Bool, true, false, not, ◌&&◌, ◌||◌, cond, nat_le, nat_lt, List, [], ◌∷◌, Option, Some, None, if◌then◌else◌, refl}
 use Rattle.std.specs.List.{list_any}
 use Rattle.std.proofs.Common.{ap}
 use Rattle.std.proofs.lemmas.Bool.{and_parts}
@@ -21,7 +21,7 @@ not_from : (b : Bool) → not b ≡ true → b ≡ false
 not_from true h = cc
 not_from false h = refl
 
-neither : (a b : Bool) → (a || b) ≡ false → (a ≡ false) × (b ≡ false)
+pub neither : (a b : Bool) → (a || b) ≡ false → (a ≡ false) × (b ≡ false)
 neither true b h = cc
 neither false b h = (refl, h)
 
@@ -83,3 +83,43 @@ count_free-none ex test none =
 pub either_none : {X : Type 0} (chosen : Bool) (x y n : X) → x ≡ n → y ≡ n → (if chosen then x else y) ≡ n
 either_none true x y n h k = h
 either_none false x y n h k = k
+
+-- a test of the voice of a set, where it fails for each of four
+pub on_free_voice-kept : (ex : Exercise) (rough test : ℕ → Bool) (voices : ℕ) → list_any (λ v. nat_lt v ex.voices && (is_free ex v && rough v)) (0 ∷ 1 ∷ 2 ∷ 3 ∷ []) ≡ false → (rough 0 ≡ false → test 0 ≡ false) → (rough 1 ≡ false → test 1 ≡ false) → (rough 2 ≡ false → test 2 ≡ false) → (rough 3 ≡ false → test 3 ≡ false) → on_free_voice ex test voices ≡ false
+on_free_voice-kept ex rough test voices h k0 k1 k2 k3 =
+    let here : ℕ → Bool = λ v. nat_lt v ex.voices && (is_free ex v && rough v) in
+    let a = neither (here 0) (here 1 || (here 2 || (here 3 || false))) h in
+    let b = neither (here 1) (here 2 || (here 3 || false)) a.1 in
+    let d = neither (here 2) (here 3 || false) b.1 in
+    let e = neither (here 3) false d.1 in
+    chosen (voices == 1) (Some 0) _ (one (nat_lt 0 ex.voices) (is_free ex 0) (rough 0) (test 0) a.0 k0)
+    (chosen (voices == 2) (Some 1) _ (one (nat_lt 1 ex.voices) (is_free ex 1) (rough 1) (test 1) b.0 k1)
+    (chosen (voices == 4) (Some 2) _ (one (nat_lt 2 ex.voices) (is_free ex 2) (rough 2) (test 2) d.0 k2)
+    (chosen (voices == 8) (Some 3) None (one (nat_lt 3 ex.voices) (is_free ex 3) (rough 3) (test 3) e.0 k3) refl)))
+  where
+    one : (there free bad fails : Bool) → (there && (free && bad)) ≡ false → (bad ≡ false → fails ≡ false) → (there && (free && fails)) ≡ false
+    one true true bad fails h k = k h
+    one true false bad fails h k = refl
+    one false free bad fails h k = refl
+
+    chosen : (b : Bool) (x y : Option ℕ) → holds_of_voice ex (λ w. is_free ex w && test w) x ≡ false → holds_of_voice ex (λ w. is_free ex w && test w) y ≡ false → holds_of_voice ex (λ w. is_free ex w && test w) (if b then x else y) ≡ false
+    chosen true x y h k = h
+    chosen false x y h k = k
+
+-- a test of the two voices of a set, where it fails for each two of four
+pub on_pair-kept : (ex : Exercise) (bad test : ℕ → ℕ → Bool) (voices : ℕ) → ((v w : ℕ) → bad v w ≡ false → test v w ≡ false) → (nat_lt 1 ex.voices && bad 0 1) ≡ false → (nat_lt 2 ex.voices && bad 0 2) ≡ false → (nat_lt 3 ex.voices && bad 0 3) ≡ false → (nat_lt 2 ex.voices && bad 1 2) ≡ false → (nat_lt 3 ex.voices && bad 1 3) ≡ false → (nat_lt 3 ex.voices && bad 2 3) ≡ false → on_pair ex test voices ≡ false
+on_pair-kept ex bad test voices kept h01 h02 h03 h12 h13 h23 =
+    chosen (voices == 3) (Some (0, 1)) _ (one (nat_lt 1 ex.voices) (bad 0 1) (test 0 1) h01 (kept 0 1))
+    (chosen (voices == 5) (Some (0, 2)) _ (one (nat_lt 2 ex.voices) (bad 0 2) (test 0 2) h02 (kept 0 2))
+    (chosen (voices == 9) (Some (0, 3)) _ (one (nat_lt 3 ex.voices) (bad 0 3) (test 0 3) h03 (kept 0 3))
+    (chosen (voices == 6) (Some (1, 2)) _ (one (nat_lt 2 ex.voices) (bad 1 2) (test 1 2) h12 (kept 1 2))
+    (chosen (voices == 10) (Some (1, 3)) _ (one (nat_lt 3 ex.voices) (bad 1 3) (test 1 3) h13 (kept 1 3))
+    (chosen (voices == 12) (Some (2, 3)) None (one (nat_lt 3 ex.voices) (bad 2 3) (test 2 3) h23 (kept 2 3)) refl)))))
+  where
+    one : (there breaks fails : Bool) → (there && breaks) ≡ false → (breaks ≡ false → fails ≡ false) → (there && fails) ≡ false
+    one true breaks fails h k = k h
+    one false breaks fails h k = refl
+
+    chosen : (b : Bool) (x y : Option (ℕ × ℕ)) → holds_of_pair ex test x ≡ false → holds_of_pair ex test y ≡ false → holds_of_pair ex test (if b then x else y) ≡ false
+    chosen true x y h k = h
+    chosen false x y h k = k
