@@ -1,6 +1,7 @@
 //! Rules of ranges, bar shapes, beginnings and endings.
 #![tactic(auto)]
 
+mod in_place;
 mod letter_sets;
 mod part;
 mod rhythm;
@@ -8,6 +9,7 @@ mod rows;
 #[cfg(test)]
 mod tests;
 
+pub use in_place::are_in_place;
 pub use letter_sets::{LetterSets, fitting_shapes};
 pub use part::{BarShapes, breaks_shape, noted, unbegun};
 pub use rhythm::{Rhythm, breaks};
