@@ -16,17 +16,22 @@ use Rattle.rule_law.specs.Terms.{clash, holds_of, interval_in, starts}
 use Rattle.melody_rules.specs.Rows as melody
 use Rattle.melody_rules.specs.Smooth.{some_rough, smooth_near_rows, smooth_window_rows}
 use Rattle.motion_rules.specs.Clear.{some_move_badly, clear_rows}
+use Rattle.rhythm_cadence.specs.InPlace.{in_place_rows, some_out_of_place}
 use Rattle.rhythm_cadence.specs.Rows.{begins_last_bar, fits_ending, holds_of_pitch, is_final}
 use Rattle.fux_judge.specs.declared.moment.Moment.{Moment}
 use Rattle.fux_judge.specs.Rules.{all_sets, is_melodic, is_of_motion, is_of_dissonance}
 use Rattle.fux_judge.specs.Penalties.{is_strict_at}
-use Rattle.fux_judge.specs.Moments.{is_broken_then, is_strictly_broken_then, rules_at_once}
+use Rattle.fux_judge.specs.Moments.{IsAfter, is_broken_then, is_strictly_broken_then, rules_at_once}
 use Rattle.fux_judge.proofs.MomentLemmas.{window_then, melodic_then, motion_then, dissonance_then, rhythm_then}
 use Rattle.fux_judge.proofs.QuietLemmas.{none_passes}
 
 -- the rules of the last bar alone
 abbrev pub is_of_ending : ℕ → Bool
 is_of_ending rule = (rule == 13) || (rule == 24)
+
+-- the rules of one free voice that isn't of melody
+abbrev pub is_of_place : ℕ → Bool
+is_of_place rule = ((rule == 1) || (rule == 2)) || (rule == 12)
 
 -- what holds of two numbers holds of one that is one of them
 of_two : (P : ℕ → Type 0) (a b rule : ℕ) → P a → P b → ((rule == a) || (rule == b)) ≡ true → P rule
@@ -53,16 +58,13 @@ not_rough false h = refl
 no_shape : (rule : ℕ) → (rule == 3) ≡ false → rule ≢ 3
 no_shape rule h e = let f : (rule == 3) ≡ true = eq-eqb rule 3 e in cc
 
--- no rule is of melody and of motion
-not_both : (rule : ℕ) → is_melodic rule ≡ true → is_of_motion rule ≡ true → ⊥
-not_both rule e motion = let P : ℕ → Type 0 = λ r. is_melodic r ≡ true → ⊥ in of_three P 10 16 17 rule (λ h. cc) (λ h. cc) (λ h. cc) motion e
+-- likewise of three
+of_three : (P : ℕ → Type 0) (a b c rule : ℕ) → P a → P b → P c → (((rule == a) || (rule == b)) || (rule == c)) ≡ true → P rule
+of_three P a b c rule pa pb pc = at ((rule == a) || (rule == b)) refl
   where
-    of_three : (P : ℕ → Type 0) (a b c rule : ℕ) → P a → P b → P c → (((rule == a) || (rule == b)) || (rule == c)) ≡ true → P rule
-    of_three P a b c rule pa pb pc = at ((rule == a) || (rule == b)) refl
-      where
-        at : (t : Bool) → ((rule == a) || (rule == b)) ≡ t → (t || (rule == c)) ≡ true → P rule
-        at true e h = of_two P a b rule pa pb e
-        at false e h = subst P (sym (eqb-true rule c h)) pc
+    at : (t : Bool) → ((rule == a) || (rule == b)) ≡ t → (t || (rule == c)) ≡ true → P rule
+    at true e h = of_two P a b rule pa pb e
+    at false e h = subst P (sym (eqb-true rule c h)) pc
 
 module _ (p : List (List Cell)) (m : Moment) where
   kept_by_all : (rule : ℕ) → ((voices : ℕ) → is_broken_then rule voices p m ≡ false) → is_strictly_broken_then all_sets rule p m ≡ false
@@ -80,11 +82,17 @@ module _ (p : List (List Cell)) (m : Moment) where
 
   -- a column in which no two voices move badly keeps the rules of motion
   motion_kept : some_move_badly m.exercise.now (newest_column (reverse p)) m.column.now ≡ false → (rule : ℕ) → is_of_motion rule ≡ true → is_strictly_broken_then all_sets rule p m ≡ false
-  motion_kept clear rule motion = kept_by_all rule (λ voices. at voices (is_melodic rule) refl)
+  motion_kept clear rule = of_three (λ rule. is_strictly_broken_then all_sets rule p m ≡ false) 10 16 17 rule (one 10 refl refl) (one 16 refl refl) (one 17 refl refl)
     where
-      at : (voices : ℕ) (b : Bool) → is_melodic rule ≡ b → is_broken_then rule voices p m ≡ false
-      at voices true e = absurd (not_both rule e motion)
-      at voices false e = sym (motion_then rule voices p m e motion) ∙ clear_rows m.exercise.now (newest_column (reverse p)) m.column.now clear rule voices (length p) (previous_pitches (reverse p))
+      one : (rule : ℕ) → is_melodic rule ≡ false → is_of_motion rule ≡ true → is_strictly_broken_then all_sets rule p m ≡ false
+      one rule e motion = kept_by_all rule (λ voices. sym (motion_then rule voices p m e motion) ∙ clear_rows m.exercise.now (newest_column (reverse p)) m.column.now clear rule voices (length p) (previous_pitches (reverse p)))
+
+  -- a column in which every voice is in place keeps those of one voice
+  place_kept : some_out_of_place m.exercise.now (length p) (previous_pitches (reverse p)) m.column.now ≡ false → (rule : ℕ) → is_of_place rule ≡ true → is_strictly_broken_then all_sets rule p m ≡ false
+  place_kept within rule = of_three (λ rule. is_strictly_broken_then all_sets rule p m ≡ false) 1 2 12 rule
+      (kept_by_all 1 (λ voices. sym (rhythm_then 1 voices p m (no_shape 1 refl) refl refl refl) ∙ in_place_rows m.exercise.now (length p) (previous_pitches (reverse p)) m.column.now within 1 voices))
+      (kept_by_all 2 (λ voices. sym (rhythm_then 2 voices p m (no_shape 2 refl) refl refl refl) ∙ in_place_rows m.exercise.now (length p) (previous_pitches (reverse p)) m.column.now within 2 voices))
+      (kept_by_all 12 (λ voices. sym (rhythm_then 12 voices p m (no_shape 12 refl) refl refl refl) ∙ in_place_rows m.exercise.now (length p) (previous_pitches (reverse p)) m.column.now within 12 voices))
 
   -- away from the beginning of the last bar there is no ending
   endings_kept : begins_last_bar m.exercise.now (length p) ≡ false → (rule : ℕ) → is_of_ending rule ≡ true → is_strictly_broken_then all_sets rule p m ≡ false
@@ -102,21 +110,39 @@ module _ (p : List (List Cell)) (m : Moment) where
       (kept_by_all 14 (λ voices. sym (dissonance_then 14 voices p m refl refl refl)
       ∙ on_pair-none m.exercise.now _ voices (λ v w. ap (λ b. b && starts (cell_in m.column.now v) && starts (cell_in m.column.now w) && clash m.column.now v w) within)))
 
-  module _ (smooth : some_rough m.exercise.now (reverse p) m.column.now ≡ false) (clear : some_move_badly m.exercise.now (newest_column (reverse p)) m.column.now ≡ false) (r : ℕ) where
+  -- what a column keeps whose voices are smooth, clear of one another and in place
+  pub record IsFair : Type 0 where
+    pub smooth : some_rough m.exercise.now (reverse p) m.column.now ≡ false
+    pub clear : some_move_badly m.exercise.now (newest_column (reverse p)) m.column.now ≡ false
+    pub placed : some_out_of_place m.exercise.now (length p) (previous_pitches (reverse p)) m.column.now ≡ false
+
+  module _ (fair : IsFair) (r : ℕ) where
     abbrev pub found_in : List ℕ → Bool
     found_in = list_any (λ rule. is_strictly_broken_then all_sets rule p m && r == rule)
 
-    pub at_the_end : found_in (1 ∷ 2 ∷ 11 ∷ 12 ∷ 13 ∷ 14 ∷ 24 ∷ []) ≡ found_in rules_at_once
+    pub at_the_end : found_in (11 ∷ 13 ∷ 14 ∷ 24 ∷ []) ≡ found_in rules_at_once
     at_the_end =
-        left_out (λ rule. is_strictly_broken_then all_sets rule p m) is_of_motion (1 ∷ 2 ∷ 10 ∷ 11 ∷ 12 ∷ 13 ∷ 14 ∷ 16 ∷ 17 ∷ 24 ∷ []) r (motion_kept clear)
-        ∙ left_out (λ rule. is_strictly_broken_then all_sets rule p m) is_melodic rules_at_once r (melody_kept smooth)
+        left_out (λ rule. is_strictly_broken_then all_sets rule p m) is_of_place (1 ∷ 2 ∷ 11 ∷ 12 ∷ 13 ∷ 14 ∷ 24 ∷ []) r (place_kept fair.placed)
+        ∙ left_out (λ rule. is_strictly_broken_then all_sets rule p m) is_of_motion (1 ∷ 2 ∷ 10 ∷ 11 ∷ 12 ∷ 13 ∷ 14 ∷ 16 ∷ 17 ∷ 24 ∷ []) r (motion_kept fair.clear)
+        ∙ left_out (λ rule. is_strictly_broken_then all_sets rule p m) is_melodic rules_at_once r (melody_kept fair.smooth)
 
-    pub before_the_end : begins_last_bar m.exercise.now (length p) ≡ false → found_in (1 ∷ 2 ∷ 11 ∷ 12 ∷ 14 ∷ []) ≡ found_in rules_at_once
-    before_the_end before =
-        left_out (λ rule. is_strictly_broken_then all_sets rule p m) is_of_ending (1 ∷ 2 ∷ 11 ∷ 12 ∷ 13 ∷ 14 ∷ 24 ∷ []) r (endings_kept before)
+    pub at_a_bar : begins_last_bar m.exercise.now (length p) ≡ false → found_in (11 ∷ 14 ∷ []) ≡ found_in rules_at_once
+    at_a_bar before =
+        left_out (λ rule. is_strictly_broken_then all_sets rule p m) is_of_ending (11 ∷ 13 ∷ 14 ∷ 24 ∷ []) r (endings_kept before)
         ∙ at_the_end
 
-    pub within_a_bar : begins_bar (length p) ≡ false → found_in (1 ∷ 2 ∷ 12 ∷ []) ≡ found_in rules_at_once
+    pub within_a_bar : begins_bar (length p) ≡ false → found_in [] ≡ found_in rules_at_once
     within_a_bar within =
-        left_out (λ rule. is_strictly_broken_then all_sets rule p m) is_of_dissonance (1 ∷ 2 ∷ 11 ∷ 12 ∷ 14 ∷ []) r (dissonance_kept within)
-        ∙ before_the_end (ap (λ b. b && (bar_of (length p) == m.exercise.now.bars)) within)
+        left_out (λ rule. is_strictly_broken_then all_sets rule p m) is_of_dissonance (11 ∷ 14 ∷ []) r (dissonance_kept within)
+        ∙ at_a_bar (ap (λ b. b && (bar_of (length p) == m.exercise.now.bars)) within)
+
+-- by the answers of the three tests
+pub fair_by_tests : (p : List (List Cell)) (m : Moment) → IsAfter p m → true ≡ not (some_rough m.exercise.now (reverse p) m.column.now) → true ≡ not (some_move_badly m.exercise.now m.before.now m.column.now) → true ≡ not (some_out_of_place m.exercise.now m.place m.latest.pitches m.column.now) → IsFair p m
+fair_by_tests p m after smooth clear placed = record {
+  smooth = not_rough (some_rough m.exercise.now (reverse p) m.column.now) smooth;
+  clear = ap (λ b. some_move_badly m.exercise.now b m.column.now) (sym after.before) ∙ not_rough (some_move_badly m.exercise.now m.before.now m.column.now) clear;
+  placed =
+      ap (λ i. some_out_of_place m.exercise.now i (previous_pitches (reverse p)) m.column.now) (sym after.place)
+      ∙ ap (λ l. some_out_of_place m.exercise.now m.place l m.column.now) (sym after.latest)
+      ∙ not_rough (some_out_of_place m.exercise.now m.place m.latest.pitches m.column.now) placed;
+}

@@ -4,12 +4,12 @@ ghost use Rattle.std.specs.Prelude.{◌≡◌, ◌&&◌, ◌==◌, not, nat_lt, 
 ghost use Rattle.std.specs.List.{list_all, list_any};
 ghost use Rattle.fux_grid.specs.declared.cell.Cell.{Cell as ACell};
 ghost use Rattle.fux_judge.specs.Rules.{all_sets};
-ghost use Rattle.fux_judge.specs.Moments.{IsAfter, is_strictly_broken_then, rules_at_once};
+ghost use Rattle.fux_judge.specs.Moments.{IsReadable, IsAfter, is_strictly_broken_then, rules_at_once};
 
 use crate::moment::Moment;
 use melody_rules::are_smooth;
 use motion_rules::are_clear;
-use rhythm_cadence::begins_last_bar;
+use rhythm_cadence::{are_in_place, begins_last_bar};
 use rule_law::begins_bar;
 
 /// The rules that are settled at once: all but S3.
@@ -17,17 +17,18 @@ pub(crate) const RULES_AT_ONCE: [u8; 17] = [
     1, 2, 4, 5, 6, 7, 8, 9, 10, 11, 12, 13, 14, 16, 17, 24, 26,
 ];
 
-/// Those of them that are neither of melody nor of motion.
-const AT_THE_END: [u8; 7] = [1, 2, 11, 12, 13, 14, 24];
+/// Those of them that are read at the beginning of the last bar alone, or of any bar.
+const AT_THE_END: [u8; 4] = [11, 13, 14, 24];
 
-/// Those of these that aren't of the last bar alone.
-const BEFORE_THE_END: [u8; 5] = [1, 2, 11, 12, 14];
+/// Those that are read at the beginning of any bar.
+const AT_A_BAR: [u8; 2] = [11, 14];
 
-/// Those of these that aren't of the beginning of a bar alone.
-const WITHIN_A_BAR: [u8; 3] = [1, 2, 12];
+/// Within a bar all others are settled.
+const WITHIN_A_BAR: [u8; 0] = [];
 
 /// The rules that are left to read: the column keeps all others.
 pub(crate) fn rules_left(m: &Moment<'_>) -> &'static [u8]
+    requires { IsReadable m.now }
     ensures numbers { IsTrue (list_all (λ rule. nat_lt rule 32 && not (rule == 3)) result.now) }
     ensures kept { (p : List (List ACell)) → IsAfter p m.now → (r : ℕ) → list_any (λ rule. is_strictly_broken_then all_sets rule p m.now && r == rule) result.now ≡ list_any (λ rule. is_strictly_broken_then all_sets rule p m.now && r == rule) rules_at_once }
 {
@@ -37,11 +38,14 @@ pub(crate) fn rules_left(m: &Moment<'_>) -> &'static [u8]
     if !are_clear(m.exercise, m.before, m.column) {
         return &RULES_AT_ONCE;
     }
+    if !are_in_place(m.exercise, m.place, &m.latest, m.column) {
+        return &RULES_AT_ONCE;
+    }
     if !begins_bar(m.place) {
         return &WITHIN_A_BAR;
     }
     if begins_last_bar(m.exercise, m.place) {
         return &AT_THE_END;
     }
-    &BEFORE_THE_END
+    &AT_A_BAR
 }
