@@ -17,16 +17,16 @@ pub(crate) const RULES_AT_ONCE: [u8; 17] = [
     1, 2, 4, 5, 6, 7, 8, 9, 10, 11, 12, 13, 14, 16, 17, 24, 26,
 ];
 
-/// Those of them that are read at the beginning of the last bar alone, or of any bar.
+/// Those of them that the three tests don't speak of: they are of the last bar's beginning, or of any bar's.
 const AT_THE_END: [u8; 4] = [11, 13, 14, 24];
 
-/// Those that are read at the beginning of any bar.
+/// Those of these that are of any bar's beginning.
 const AT_A_BAR: [u8; 2] = [11, 14];
 
-/// Within a bar all others are settled.
+/// Within a bar there is none of these.
 const WITHIN_A_BAR: [u8; 0] = [];
 
-/// The rules that are left to read: the column keeps all others.
+/// The rules that are left to read: the column keeps all others. It mostly passes the three tests, and then few are left, or none.
 pub(crate) fn rules_left(m: &Moment<'_>) -> &'static [u8]
     requires { IsReadable m.now }
     ensures numbers { IsTrue (list_all (λ rule. nat_lt rule 32 && not (rule == 3)) result.now) }
