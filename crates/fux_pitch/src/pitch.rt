@@ -1,7 +1,7 @@
 //! Pitches: degrees of the staff with their alterations.
 
 ghost use Rattle.std.specs.Prelude.{◌≡◌, ◌↔◌, ◌≤◌, IsSome, IfSome, pos};
-ghost use Rattle.fux_pitch.specs.Key.{IsPitch, letter_key, natural_key};
+ghost use Rattle.fux_pitch.specs.Key.{IsPitch, natural_key};
 
 /// A pitch as the staff writes it: a degree, which counts the letters up from C0, and an alteration
 /// by a sharp, a flat or nothing. C4 has degree 28. `C#4` and `Db4` are two pitches of one key.
@@ -14,29 +14,15 @@ pub struct Pitch {
     pub ghost is_pitch: { IsPitch degree alter },
 }
 
-/// The semitones of a letter above C, where 0 is C and 6 is B.
-fn letter_semitones(letter: u8) -> u8
-    ensures value { result ≡ letter_key letter }
-    ensures bound { result ≤ 11 }
-{
-    match letter {
-        0 => 0,
-        1 => 2,
-        2 => 4,
-        3 => 5,
-        4 => 7,
-        5 => 9,
-        _ => 11,
-    }
-}
-
-/// The key of the natural on this degree.
+/// The key of the natural on this degree: seven letters share the twelve keys of an octave as evenly as can be, so that one division
+/// tells where each of them is.
+#[inline]
 pub(crate) fn natural(degree: u8) -> i16
     ensures value { result ≡ pos (natural_key degree) }
     ensures bound { natural_key degree ≤ 500 }
 {
-    let octaves = 12 * i16::from(degree / 7);
-    12 + octaves + i16::from(letter_semitones(degree % 7))
+    let above = (12 * u16::from(degree) + 5) / 7;
+    12 + above as i16
 }
 
 impl Pitch {
