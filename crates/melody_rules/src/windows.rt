@@ -100,8 +100,11 @@ pub(crate) fn leaves_leap_open(before: Option<Pitch>, last: Option<Pitch>, now: 
     match (before, last, now) {
         (Some(a), Some(b), Cell::Start(c)) => {
             let first = interval_of(a, b);
+            if first.degrees.unsigned_abs() < 3 {
+                return false;
+            }
             let second = interval_of(b, c);
-            first.degrees.unsigned_abs() >= 3 && !(is_step(second) && opposite_ways(first, second))
+            !(is_step(second) && opposite_ways(first, second))
         }
         _ => false,
     }
