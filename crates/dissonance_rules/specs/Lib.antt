@@ -1,3 +1,4 @@
+pub mod Apart
 pub mod Locality
 pub mod LowerVoices
 pub mod Quiet

@@ -16,6 +16,7 @@ use Rattle.rule_law.specs.Terms.{clash, holds_of, interval_in, starts}
 use Rattle.melody_rules.specs.Rows as melody
 use Rattle.melody_rules.specs.Smooth.{some_rough, smooth_near_rows, smooth_window_rows}
 use Rattle.motion_rules.specs.Clear.{some_move_badly, clear_rows}
+use Rattle.dissonance_rules.specs.Apart.{apart_rows, some_come_close}
 use Rattle.rhythm_cadence.specs.InPlace.{in_place_rows, some_out_of_place}
 use Rattle.rhythm_cadence.specs.Rows.{begins_last_bar, fits_ending, holds_of_pitch, is_final}
 use Rattle.fux_judge.specs.declared.moment.Moment.{Moment}
@@ -110,6 +111,12 @@ module _ (p : List (List Cell)) (m : Moment) where
       (kept_by_all 14 (λ voices. sym (dissonance_then 14 voices p m refl refl refl)
       ∙ on_pair-none m.exercise.now _ voices (λ v w. ap (λ b. b && starts (cell_in m.column.now v) && starts (cell_in m.column.now w) && clash m.column.now v w) within)))
 
+  -- nor where no two voices come close
+  closeness_kept : some_come_close m.exercise.now m.column.now ≡ false → (rule : ℕ) → is_of_dissonance rule ≡ true → is_strictly_broken_then all_sets rule p m ≡ false
+  closeness_kept apart rule = of_two (λ rule. is_strictly_broken_then all_sets rule p m ≡ false) 11 14 rule
+      (kept_by_all 11 (λ voices. sym (dissonance_then 11 voices p m refl refl refl) ∙ apart_rows m.exercise.now m.column.now apart 11 voices (length p) (newest_column (reverse p)) (previous_pitches (reverse p))))
+      (kept_by_all 14 (λ voices. sym (dissonance_then 14 voices p m refl refl refl) ∙ apart_rows m.exercise.now m.column.now apart 14 voices (length p) (newest_column (reverse p)) (previous_pitches (reverse p))))
+
   -- what a column keeps whose voices are smooth, clear of one another and in place
   pub record IsFair : Type 0 where
     pub smooth : some_rough m.exercise.now (reverse p) m.column.now ≡ false
@@ -135,6 +142,11 @@ module _ (p : List (List Cell)) (m : Moment) where
     within_a_bar within =
         left_out (λ rule. is_strictly_broken_then all_sets rule p m) is_of_dissonance (11 ∷ 14 ∷ []) r (dissonance_kept within)
         ∙ at_a_bar (ap (λ b. b && (bar_of (length p) == m.exercise.now.bars)) within)
+
+    pub where_apart : begins_last_bar m.exercise.now (length p) ≡ false → some_come_close m.exercise.now m.column.now ≡ false → found_in [] ≡ found_in rules_at_once
+    where_apart before apart =
+        left_out (λ rule. is_strictly_broken_then all_sets rule p m) is_of_dissonance (11 ∷ 14 ∷ []) r (closeness_kept apart)
+        ∙ at_a_bar before
 
 -- by the answers of the three tests
 pub fair_by_tests : (p : List (List Cell)) (m : Moment) → IsAfter p m → true ≡ not (some_rough m.exercise.now (reverse p) m.column.now) → true ≡ not (some_move_badly m.exercise.now m.before.now m.column.now) → true ≡ not (some_out_of_place m.exercise.now m.place m.latest.pitches m.column.now) → IsFair p m

@@ -7,6 +7,7 @@ ghost use Rattle.fux_judge.specs.Rules.{all_sets};
 ghost use Rattle.fux_judge.specs.Moments.{IsReadable, IsAfter, is_strictly_broken_then, rules_at_once};
 
 use crate::moment::Moment;
+use dissonance_rules::are_apart;
 use melody_rules::are_smooth;
 use motion_rules::are_clear;
 use rhythm_cadence::{are_in_place, begins_last_bar};
@@ -17,16 +18,16 @@ pub(crate) const RULES_AT_ONCE: [u8; 17] = [
     1, 2, 4, 5, 6, 7, 8, 9, 10, 11, 12, 13, 14, 16, 17, 24, 26,
 ];
 
-/// Those of them that the three tests don't speak of: they are of the last bar's beginning, or of any bar's.
+/// Those of them that the first three tests don't speak of: they are of the last bar's beginning, or of any bar's.
 const AT_THE_END: [u8; 4] = [11, 13, 14, 24];
 
 /// Those of these that are of any bar's beginning.
 const AT_A_BAR: [u8; 2] = [11, 14];
 
-/// Within a bar there is none of these.
-const WITHIN_A_BAR: [u8; 0] = [];
+/// Within a bar there is none of these, nor where no two voices sound the same key or clash.
+const NONE: [u8; 0] = [];
 
-/// The rules that are left to read: the column keeps all others. It mostly passes the three tests, and then few are left, or none.
+/// The rules that are left to read: the column keeps all others. It mostly passes the tests, and then few are left, or none.
 pub(crate) fn rules_left(m: &Moment<'_>) -> &'static [u8]
     requires { IsReadable m.now }
     ensures numbers { IsTrue (list_all (λ rule. nat_lt rule 32 && not (rule == 3)) result.now) }
@@ -42,10 +43,13 @@ pub(crate) fn rules_left(m: &Moment<'_>) -> &'static [u8]
         return &RULES_AT_ONCE;
     }
     if !begins_bar(m.place) {
-        return &WITHIN_A_BAR;
+        return &NONE;
     }
     if begins_last_bar(m.exercise, m.place) {
         return &AT_THE_END;
+    }
+    if are_apart(m.exercise, m.column) {
+        return &NONE;
     }
     &AT_A_BAR
 }
