@@ -1,7 +1,7 @@
 -- What the law of floors gives, and how the best leaf so far is kept.
 use Rattle.std.proofs.Common.{◌≡◌, ℕ, ◌+◌, ◌<◌, ◌≤◌, ⊎_elim, List, [], ◌∷◌, ◌++◌, length, Option, Some, None, IsSomeAnd, refl, sym, ap, subst, ◌∙◌, arith, append_assoc, append-nil, length-append}
 use Rattle.tree_search.specs.Answer.{IsLeaf, IsBefore, HasNoLeaf, IsFirstLeast}
-use Rattle.tree_search.specs.Space.{AreDead, FloorsGrow}
+use Rattle.tree_search.specs.Space.{AreNoBetter, FloorsGrow}
 use Rattle.tree_search.specs.Walks.{BeginsWith, IsBest, IsBestBefore}
 use Rattle.tree_search.proofs.Order.{IsBefore-later, IsBefore-next, IsBefore-from, IsBefore-below, IsBefore-first, IsBefore-on, IsBefore-up}
 
@@ -26,17 +26,21 @@ module _ {live : List ℕ → Option ℕ} {width : List ℕ → ℕ} {height : �
       let below = live_above rest (start ++ k ∷ []) floor (ap live (append_assoc start (k ∷ []) rest) ∙ h) in
       omega (arith, (grows start k below.0 below.1).above)
 
+  -- a path from which a live one goes on is live, and its floor no higher
+  pub start_live : (start other : List ℕ) (floor : ℕ) → live other ≡ Some floor → BeginsWith start other → (own : ℕ) × (live start ≡ Some own) × (own ≤ floor)
+  start_live start other floor its from = live_above from.0 start floor (ap live (sym from.1) ∙ its)
+
   -- what is from a path has no lower floor
   pub floor_from : (start other : List ℕ) (floor its_floor : ℕ) → live start ≡ Some floor → live other ≡ Some its_floor → BeginsWith start other → floor ≤ its_floor
   floor_from start other floor its_floor own its from =
-      let above = live_above from.0 start its_floor (ap live (sym from.1) ∙ its) in
+      let above = start_live start other its_floor its from in
       let same : floor ≡ above.0 = let e = sym own ∙ above.1 in cc in
       omega (arith, above.2)
 
   -- nothing is from a dead path
   pub none_from : (start other : List ℕ) (value : ℕ) → live start ≡ None → live other ≡ Some value → BeginsWith start other → ⊥
   none_from start other value dead its from =
-      let above = live_above from.0 start value (ap live (sym from.1) ∙ its) in
+      let above = start_live start other value its from in
       let e = sym dead ∙ above.1 in cc
 
   -- the same leaves are before
@@ -60,13 +64,20 @@ module _ {live : List ℕ → Option ℕ} {width : List ℕ → ℕ} {height : �
       (λ other value leaf before. ⊎_elim (λ h. h) (λ short. absurd (omega (arith, leaf.0))) (IsBefore-first start other before))
       (λ other before. IsBefore-below start (0 ∷ []) other before)
 
-  -- past dead children
-  pub best_dead : (start : List ℕ) (from to : ℕ) (best : Option ℕ) (path : List ℕ) → from ≤ to → AreDead live start from to →
+  -- past children that are dead or no better
+  pub best_passed : (start : List ℕ) (from to : ℕ) (best : Option ℕ) (path : List ℕ) → from ≤ to → AreNoBetter live start best from to →
       IsBestBefore live height (start ++ from ∷ []) best path → IsBestBefore live height (start ++ to ∷ []) best path
-  best_dead start from to best path le dead =
-      best_moves (start ++ from ∷ []) (start ++ to ∷ []) best path
-      (λ other value leaf before. ⊎_elim (λ h. h) (λ by. absurd (none_from (start ++ by.0 ∷ []) other value (dead by.0 by.1 by.2) leaf.1 by.3)) (IsBefore-later start other from to before))
-      (λ other before. IsBefore-on start other from to le before)
+  best_passed start from to None path le passed h = λ other value leaf before. ⊎_elim (h other value leaf)
+      (λ by. let child = start_live (start ++ by.0 ∷ []) other value leaf.1 by.3 in passed by.0 child.0 by.1 by.2 child.1)
+      (IsBefore-later start other from to before)
+  best_passed start from to (Some v) path le passed h = record {
+    leaf = h.leaf;
+    before = IsBefore-on start path from to le h.before;
+    least = λ other value leaf before. ⊎_elim (h.least other value leaf)
+        (λ by. let child = start_live (start ++ by.0 ∷ []) other value leaf.1 by.3 in omega (arith, passed by.0 child.0 by.1 by.2 child.1, child.2))
+        (IsBefore-later start other from to before);
+    first = h.first;
+  }
 
   -- a leaf below is before the end of the children
   pub leaf_seen : (start other : List ℕ) (value : ℕ) → length start < height → IsLeaf live height other value → BeginsWith start other → IsBefore other (start ++ width start ∷ [])
@@ -95,16 +106,22 @@ module _ {live : List ℕ → Option ℕ} {width : List ℕ → ℕ} {height : �
       (λ other value leaf before. ⊎_elim (λ h. IsBefore-below child (width child ∷ []) other h) (λ from. leaf_seen child other value above leaf from) (IsBefore-next start other k before))
       (λ other before. IsBefore-up start (width child ∷ []) other k before)
 
-  -- past a child that is no better
+  -- past one such child
+  best_one : (start : List ℕ) (k : ℕ) (best : Option ℕ) (path : List ℕ) → ((floor : ℕ) → live (start ++ k ∷ []) ≡ Some floor → IsSomeAnd best (λ v. v ≤ floor)) →
+      IsBestBefore live height (start ++ k ∷ []) best path → IsBestBefore live height (start ++ (k + 1) ∷ []) best path
+  best_one start k best path passed =
+      best_passed start k (k + 1) best path (omega arith)
+      (λ child floor low high own. let same : child ≡ k = omega (arith, low, high) in passed floor (ap (λ (j : ℕ). live (start ++ j ∷ [])) (sym same) ∙ own))
+
+  pub best_dead : (start : List ℕ) (k : ℕ) (best : Option ℕ) (path : List ℕ) → live (start ++ k ∷ []) ≡ None →
+      IsBestBefore live height (start ++ k ∷ []) best path → IsBestBefore live height (start ++ (k + 1) ∷ []) best path
+  best_dead start k best path dead = best_one start k best path (λ floor own. let e = sym dead ∙ own in cc)
+
   pub best_pruned : (start : List ℕ) (k floor : ℕ) (best : Option ℕ) (path : List ℕ) → live (start ++ k ∷ []) ≡ Some floor → IsSomeAnd best (λ v. v ≤ floor) →
       IsBestBefore live height (start ++ k ∷ []) best path → IsBestBefore live height (start ++ (k + 1) ∷ []) best path
-  best_pruned start k floor None path own no_better h = absurd no_better
-  best_pruned start k floor (Some v) path own no_better h = record {
-    leaf = h.leaf;
-    before = IsBefore-on start path k (k + 1) (omega arith) h.before;
-    least = λ other value leaf before. ⊎_elim (h.least other value leaf) (λ from. omega (arith, no_better, floor_from (start ++ k ∷ []) other floor value own leaf.1 from)) (IsBefore-next start other k before);
-    first = h.first;
-  }
+  best_pruned start k floor best path own no_better =
+      best_one start k best path
+      (λ its_floor its. let same : floor ≡ its_floor = let e = sym own ∙ its in cc in subst (λ (f : ℕ). IsSomeAnd best (λ v. v ≤ f)) same no_better)
 
   -- a leaf's value is below those before it
   pub better : (bound : List ℕ) (best : Option ℕ) (path : List ℕ) (floor : ℕ) → ((v : ℕ) → best ≡ Some v → floor < v) →

@@ -2,11 +2,11 @@
 use Rattle.std.proofs.Common.{◌≡◌, ◌≢◌, ℕ, ◌+◌, ◌<◌, ◌≤◌, ◌⊎◌, inl, inr, ⊎_elim, List, [], ◌∷◌, ◌++◌, length, Option, Some, None, IsSomeAnd, is_some, refl, sym, ap, subst, ◌∙◌, arith, append_assoc, append-nil, length-append}
 use Rattle.std.proofs.lemmas.List.{append_cancel_left}
 use Rattle.std.proofs.lemmas.Bool.{cases_lt}
-use Rattle.tree_search.specs.Answer.{IsBefore, Many, IsLiveBelowRoot, IsOpened}
-use Rattle.tree_search.specs.Space.{AreDead, FloorsGrow}
+use Rattle.tree_search.specs.Answer.{IsLeaf, IsBefore, Many, IsLiveBelowRoot, IsOpened}
+use Rattle.tree_search.specs.Space.{AreNoBetter, FloorsGrow}
 use Rattle.tree_search.specs.Walks.{BeginsWith, IsOpenedFrom, IsOpenedBelow, IsBestBefore, Exactly}
-use Rattle.tree_search.proofs.Order.{IsBefore-below}
-use Rattle.tree_search.proofs.Floors.{child_within, nothing_past, floor_from, none_from, better}
+use Rattle.tree_search.proofs.Order.{IsBefore-below, IsBefore-on}
+use Rattle.tree_search.proofs.Floors.{child_within, nothing_past, start_live, floor_from, none_from, better}
 use Rattle.tree_search.proofs.Counts.{Many-one, Many-by, Many-add, Exactly-none, Exactly-one, Exactly-by, Exactly-add}
 
 -- paths by two children differ
@@ -93,18 +93,18 @@ module _ {live : List ℕ → Option ℕ} {width : List ℕ → ℕ} {height : �
   none_dead start n zero dead =
       Exactly-none (IsOpenedFrom live height start) n zero (λ x it. none_from grows start x it.0.floor dead it.0.is_live it.1)
 
-  -- nor from one that is no better
-  not_pruned : (start : List ℕ) (floor : ℕ) (best : Option ℕ) (path : List ℕ) → live start ≡ Some floor → IsSomeAnd best (λ v. v ≤ floor) →
-      IsBestBefore live height start best path → (x : List ℕ) → IsOpenedFrom live height start x → ⊥
-  not_pruned start floor None path own no_better h x it = absurd no_better
-  not_pruned start floor (Some v) path own no_better h x it =
-      let before = subst (λ (y : List ℕ). IsBefore path y) (sym it.1.1) (IsBefore-below start it.1.0 path h.before) in
-      omega (arith, it.0.lower path v h.leaf before, no_better, floor_from grows start x floor it.0.floor own it.0.is_live it.1)
+  -- nor from one that is no better than a leaf before it
+  not_pruned : (start : List ℕ) (floor v : ℕ) (path : List ℕ) → live start ≡ Some floor → v ≤ floor → IsLeaf live height path v → IsBefore path start →
+      (x : List ℕ) → IsOpenedFrom live height start x → ⊥
+  not_pruned start floor v path own no_better leaf before x it =
+      let earlier = subst (λ (y : List ℕ). IsBefore path y) (sym it.1.1) (IsBefore-below start it.1.0 path before) in
+      omega (arith, it.0.lower path v leaf earlier, no_better, floor_from grows start x floor it.0.floor own it.0.is_live it.1)
 
   pub none_pruned : (start : List ℕ) (floor n : ℕ) (best : Option ℕ) (path : List ℕ) → n ≡ 0 → live start ≡ Some floor → IsSomeAnd best (λ v. v ≤ floor) →
       IsBestBefore live height start best path → Exactly (IsOpenedFrom live height start) n
-  none_pruned start floor n best path zero own no_better h =
-      Exactly-none (IsOpenedFrom live height start) n zero (not_pruned start floor best path own no_better h)
+  none_pruned start floor n None path zero own no_better h = absurd no_better
+  none_pruned start floor n (Some v) path zero own no_better h =
+      Exactly-none (IsOpenedFrom live height start) n zero (not_pruned start floor v path own no_better h.leaf h.before)
 
   -- nor below a leaf
   leaf_alone : (start rest : List ℕ) (floor : ℕ) → length start ≡ height → live (start ++ rest) ≡ Some floor → start ++ rest ≡ start
@@ -116,15 +116,23 @@ module _ {live : List ℕ → Option ℕ} {width : List ℕ → ℕ} {height : �
       Exactly-one (IsOpenedFrom live height start) start n one (is, ([], sym (append-nil start)))
       (λ x it. it.1.1 ∙ leaf_alone start it.1.0 it.0.floor long (ap live (sym it.1.1) ∙ it.0.is_live))
 
-  -- past dead children
-  pub exactly_dead : (start : List ℕ) (from to n m : ℕ) → from ≤ to → n ≡ m → AreDead live start from to →
-      Exactly (IsOpenedBelow live height start from) n → Exactly (IsOpenedBelow live height start to) m
-  exactly_dead start from to n m le same dead =
+  -- nor from children that are dead or no better
+  not_passed : (start : List ℕ) (from to : ℕ) (best : Option ℕ) (path : List ℕ) → AreNoBetter live start best from to → IsBestBefore live height (start ++ from ∷ []) best path →
+      (child : ℕ) → from ≤ child → child < to → (x : List ℕ) → IsOpenedFrom live height (start ++ child ∷ []) x → ⊥
+  not_passed start from to None path passed h child low high x it =
+      let own = start_live grows (start ++ child ∷ []) x it.0.floor it.0.is_live it.1 in passed child own.0 low high own.1
+  not_passed start from to (Some v) path passed h child low high x it =
+      let own = start_live grows (start ++ child ∷ []) x it.0.floor it.0.is_live it.1 in
+      not_pruned (start ++ child ∷ []) own.0 v path own.1 (passed child own.0 low high own.1) h.leaf (IsBefore-on start path from child low h.before) x it
+
+  pub exactly_passed : (start : List ℕ) (from to n m : ℕ) (best : Option ℕ) (path : List ℕ) → from ≤ to → n ≡ m → AreNoBetter live start best from to →
+      IsBestBefore live height (start ++ from ∷ []) best path → Exactly (IsOpenedBelow live height start from) n → Exactly (IsOpenedBelow live height start to) m
+  exactly_passed start from to n m best path le same passed h =
       Exactly-by (IsOpenedBelow live height start from) (IsOpenedBelow live height start to)
       (λ x it. (it.0, (it.1.0, omega (arith, it.1.1, le), it.1.2)))
       (λ x it. ⊎_elim
       (λ less. (it.0, (it.1.0, less, it.1.2)))
-      (λ more. absurd (none_from grows (start ++ it.1.0 ∷ []) x it.0.floor (dead it.1.0 more it.1.1) it.0.is_live it.1.2))
+      (λ more. absurd (not_passed start from to best path passed h it.1.0 more it.1.1 x (it.0, it.1.2)))
       (cases_lt it.1.0 from))
       n m same
 

@@ -1,5 +1,5 @@
 -- What a search may take for granted of a tree.
-use Rattle.std.specs.Prelude.{◌≡◌, ℕ, ◌<◌, ◌≤◌, ◌++◌, ◌∷◌, [], List, Option, Some, None, length}
+use Rattle.std.specs.Prelude.{◌≡◌, ℕ, ◌<◌, ◌≤◌, ◌++◌, ◌∷◌, [], List, Option, Some, IsSomeAnd, length}
 
 -- the node is at a path to no leaf
 pub record IsInner (is_at : List ℕ → Type 0) (height : ℕ) : Type 0 where
@@ -14,9 +14,10 @@ pub record HasChild (is_at : List ℕ → Type 0) (height : ℕ) (width : List �
   pub above : length path < height
   pub within : child < width path
 
--- each child from one number up to another is dead
-abbrev pub AreDead : (List ℕ → Option ℕ) → List ℕ → ℕ → ℕ → Type 0
-AreDead live path from to = (child : ℕ) → from ≤ child → child < to → live (path ++ child ∷ []) ≡ None
+-- each child from one number up to another is dead or no better than the best leaf so far: its floor is no lower than that leaf's value
+abbrev pub AreNoBetter : (List ℕ → Option ℕ) → List ℕ → Option ℕ → ℕ → ℕ → Type 0
+AreNoBetter live path best from to =
+    (child floor : ℕ) → from ≤ child → child < to → live (path ++ child ∷ []) ≡ Some floor → IsSomeAnd best (λ value. value ≤ floor)
 
 -- the path leads to a live node with this child, that is no leaf, and whose floor is at most this one
 pub record IsParent (live : List ℕ → Option ℕ) (width : List ℕ → ℕ) (height : ℕ) (path : List ℕ) (child floor : ℕ) : Type 0 where

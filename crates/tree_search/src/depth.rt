@@ -54,7 +54,7 @@ fn descend<S: Space>(space: &S, node: &S::Node, level: usize, walk: &mut Walk) -
     let count = space.count(node);
     let mut from = 0;
     while from < count {
-        let k = space.next_child(node, from);
+        let k = space.next_child(node, from, walk.best);
         if k >= count {
             return true;
         }

@@ -1,6 +1,6 @@
 //! Trees that are made as they are searched.
 ghost use Rattle.std.specs.Prelude.{◌≡◌, ℕ, ◌<◌, ◌≤◌, ◌++◌, ◌∷◌, [], List, Option, None, Some, MatchOption, length};
-ghost use Rattle.tree_search.specs.Space.{IsInner, HasChild, AreDead, FloorsGrow};
+ghost use Rattle.tree_search.specs.Space.{IsInner, HasChild, AreNoBetter, FloorsGrow};
 
 /// A tree of bounded depth, whose live nodes have floors. A node is named by its path, the child numbers from the root
 /// to it. A node at `depth` is a leaf, and its floor is its value.
@@ -44,14 +44,16 @@ pub trait Space {
             (live self.now (path ++ k ∷ []) ≡ None)
             (λ entry. is_at self.now entry.0 (path ++ k ∷ []) × (live self.now (path ++ k ∷ []) ≡ Some entry.1)) };
 
-    /// The least number, from this one on, of a child that may be live, or a number that no child has where none of the
-    /// rest may be. A search tries only such children, so a space that can tell without trying each one says so here.
+    /// The least number, from this one on, of a child that may be live and better than the best leaf so far, or a number
+    /// that no child has where none of the rest may be. A search tries only such children, so a space that can tell
+    /// without trying each one says so here.
     #[inline]
-    fn next_child(&self, node: &Self::Node, from: usize) -> usize
+    fn next_child(&self, node: &Self::Node, from: usize, best: Option<u64>) -> usize
         requires { HasChild (is_at self.now node.now) (height self.now) (width self.now) from }
         ensures onward { from ≤ result }
-        ensures dead { (path : List ℕ) → is_at self.now node.now path → AreDead (live self.now) path from result }
+        ensures passed { (path : List ℕ) → is_at self.now node.now path → AreNoBetter (live self.now) path best from result }
     {
+        let _ = best;
         from
     }
 

@@ -3,9 +3,9 @@ use Rattle.std.proofs.lemmas.Bool.{OnTrue_at, OnTrue_from, OnFalse_at, OnFalse_f
 use Rattle.std.proofs.lemmas.List.{take_more_set, take_at, take-take, take_all, length-take-le, length-set}
 use Rattle.tree_search.specs.Answer.{Many}
 use Rattle.tree_search.specs.Walks.{IsOpenedBelow, HasOpened}
-use Rattle.tree_search.proofs.Floors.{best_first, best_dead, best_up, best_pruned, best_leaf_at}
+use Rattle.tree_search.proofs.Floors.{best_first, best_passed, best_dead, best_up, best_pruned, best_leaf_at}
 use Rattle.tree_search.proofs.Counts.{Exactly-none}
-use Rattle.tree_search.proofs.Opened.{many_more, many_wider, many_itself, many_from, opened_child, none_dead, none_pruned, exactly_more, exactly_leaf, exactly_dead, exactly_from}
+use Rattle.tree_search.proofs.Opened.{many_more, many_wider, many_itself, many_from, opened_child, none_dead, none_pruned, exactly_more, exactly_leaf, exactly_passed, exactly_from}
 use Rattle.tree_search.proofs.depth.+walk.Goals as goal
 
 pub descend-loop-from-init : goal.descend-loop-from-init
@@ -25,25 +25,27 @@ descend-loop-from-init g t c =
 pub descend-returns-then-k-count-clause-best : goal.descend-returns-then-k-count-clause-best
 descend-returns-then-k-count-clause-best g t c =
     let width = c.count-count.ensures.value _ c.requires.node in
-    let skipped = c.next_child-k.ensures.dead _ c.requires.node in
-    best_dead (g.met.S.Space.floors_grow c.args.space.now) _ c.loop-from.from _ _ _ (omega (arith, width, c.loop-from.invariant.within))
-    (λ child low high. skipped child low (omega (arith, high, width, c.if-k-count.true))) c.loop-from.invariant.best
+    let skipped = c.next_child-k.ensures.passed _ c.requires.node in
+    best_passed (g.met.S.Space.floors_grow c.args.space.now) _ c.loop-from.from _ _ _ (omega (arith, width, c.loop-from.invariant.within))
+    (λ child floor low high. skipped child floor low (omega (arith, high, width, c.if-k-count.true))) c.loop-from.invariant.best
 
 pub descend-returns-then-k-count-clause-opened : goal.descend-returns-then-k-count-clause-opened
 descend-returns-then-k-count-clause-opened g t c =
     let width = c.count-count.ensures.value _ c.requires.node in
-    let skipped = c.next_child-k.ensures.dead _ c.requires.node in (
+    let skipped = c.next_child-k.ensures.passed _ c.requires.node in (
       c.loop-from.invariant.opened.0,
-      exactly_dead (g.met.S.Space.floors_grow c.args.space.now) _ c.loop-from.from _ _ _ (omega (arith, width, c.loop-from.invariant.within)) refl
-          (λ child low high. skipped child low (omega (arith, high, width, c.if-k-count.true))) c.loop-from.invariant.opened.1,
+      exactly_passed (g.met.S.Space.floors_grow c.args.space.now) _ c.loop-from.from _ _ _ _ _ (omega (arith, width, c.loop-from.invariant.within)) refl
+          (λ child floor low high. skipped child floor low (omega (arith, high, width, c.if-k-count.true))) c.loop-from.invariant.best c.loop-from.invariant.opened.1,
     )
 
 pub descend-enter-requires : goal.descend-enter-requires
 descend-enter-requires g t c =
     let same = c.loop-from.invariant.same_path in
     let here = rw (← same) at c.requires.node in
-    let skipped = c.next_child-k.ensures.dead _ c.requires.node in
-    let best = rw (← same) at (best_dead (g.met.S.Space.floors_grow c.args.space.now) _ _ _ _ _ c.next_child-k.ensures.onward skipped c.loop-from.invariant.best) in
+    let skipped = c.next_child-k.ensures.passed _ c.requires.node in
+    let walk = c.loop-from.walk in
+    let past = best_passed (g.met.S.Space.floors_grow c.args.space.now) (take c.args.level c.args.walk.now.path.items) _ _ walk.best walk.best_path.items c.next_child-k.ensures.onward skipped c.loop-from.invariant.best in
+    let best = rw (← same) at past in
     let lengths = c.loop-from.invariant.lengths in
     let width = c.count-count.ensures.value _ here in
     let within : c.next_child-k.result < g.S.Space.width c.args.space.now (take c.args.level c.loop-from.walk.path.items) = omega (arith, width) in
@@ -56,8 +58,8 @@ descend-returns-then-not-enter-clause-spent g t c =
     let live = g.S.Space.live c.args.space.now in
     let height = g.S.Space.height c.args.space.now in
     let path = take c.args.level c.args.walk.now.path.items in
-    let skipped = c.next_child-k.ensures.dead _ c.requires.node in
-    let before = exactly_dead (g.met.S.Space.floors_grow c.args.space.now) path _ _ _ _ c.next_child-k.ensures.onward refl skipped kept.opened.1 in
+    let skipped = c.next_child-k.ensures.passed _ c.requires.node in
+    let before = exactly_passed (g.met.S.Space.floors_grow c.args.space.now) path _ _ _ _ _ _ c.next_child-k.ensures.onward refl skipped kept.best kept.opened.1 in
     let more = rw kept.same_path at c.if-not-enter.ensures.spent in
     let width = c.count-count.ensures.value _ c.requires.node in
     many_wider live height path (c.next_child-k.result + 1) _ (c.args.walk.now.left + 1) _ (omega (arith, width, c.if-k-count.false)) refl
@@ -67,8 +69,8 @@ pub descend-loop-from-preserved : goal.descend-loop-from-preserved
 descend-loop-from-preserved g t c =
     let kept = c.loop-from.invariant in
     let path = take c.args.level c.args.walk.now.path.items in
-    let skipped = c.next_child-k.ensures.dead _ c.requires.node in
-    let before = exactly_dead (g.met.S.Space.floors_grow c.args.space.now) path _ _ _ _ c.next_child-k.ensures.onward refl skipped kept.opened.1 in
+    let skipped = c.next_child-k.ensures.passed _ c.requires.node in
+    let before = exactly_passed (g.met.S.Space.floors_grow c.args.space.now) path _ _ _ _ _ _ c.next_child-k.ensures.onward refl skipped kept.best kept.opened.1 in
     let more = rw kept.same_path at c.if-not-enter.ensures.opened.1 in
     record {
       within = omega (arith, c.if-k-count.false);
@@ -91,9 +93,8 @@ descend-returns-clause-opened g t c =
 
 pub enter-returns-in_default-clause-best : goal.enter-returns-in_default-clause-best
 enter-returns-in_default-clause-best g t c =
-    let dead = c.in_default.ensures _ c.requires.node in
-    best_dead (g.met.S.Space.floors_grow c.args.space.now) (take c.args.level c.args.walk.now.path.items) c.args.k _ _ _ (omega arith)
-    (λ child low high. let same : child ≡ c.args.k = omega arith in rw same dead) c.requires.best
+    best_dead (g.met.S.Space.floors_grow c.args.space.now) (take c.args.level c.args.walk.now.path.items) c.args.k _ _
+    (c.in_default.ensures _ c.requires.node) c.requires.best
 
 pub enter-returns-in_default-clause-opened : goal.enter-returns-in_default-clause-opened
 enter-returns-in_default-clause-opened g t c =
