@@ -68,12 +68,12 @@ impl Space for Grid {
         }
     }
 
-    /// The columns that a path may enter lie side by side.
-    fn next_child(&self, node: &Spot, from: usize) -> usize {
-        if from > node.high {
-            COLUMNS
-        } else {
-            from.max(node.low)
+    /// The columns that a path may enter lie side by side, and no step makes a path cheaper.
+    fn next_child(&self, node: &Spot, from: usize, best: Option<u64>) -> usize {
+        match best {
+            Some(value) if value <= node.cost => COLUMNS,
+            _ if from > node.high => COLUMNS,
+            _ => from.max(node.low),
         }
     }
 }
