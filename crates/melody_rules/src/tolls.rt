@@ -1,9 +1,9 @@
 //! Tolls on the moves of free voices: Q7 to Q10 and Q13.
 
-ghost use Rattle.std.specs.Prelude.{◌≡◌, ◌<◌, ◌≤◌, ◌&&◌, if◌then◌else◌, length};
+ghost use Rattle.std.specs.Prelude.{◌≡◌, ◌<◌, ◌≤◌, ◌&&◌, ℕ, IfSome, if◌then◌else◌, length};
 ghost use Rattle.fux_grid.specs.Cells.{cell_in};
 ghost use Rattle.rule_law.specs.Terms as terms;
-ghost use Rattle.rule_law.specs.Terms.{holds_of};
+ghost use Rattle.rule_law.specs.Terms.{holds_of, is_this};
 ghost use Rattle.rule_law.specs.Voices as voices_words;
 ghost use Rattle.rule_law.specs.Places.{reading_of, settled_by};
 ghost use Rattle.rule_law.specs.Nearby.{pitch_at, whole_of};
@@ -12,7 +12,7 @@ ghost use Rattle.melody_rules.specs.Rows as rows;
 
 use crate::voices::{all_notes_before, open_leaps};
 use fux_grid::{Cell, Exercise, Score, cell_of};
-use fux_pitch::Interval;
+use fux_pitch::{Interval, Pitch};
 use rule_law::{Latest, Toll, is_free, is_repetition, latest_before, move_from};
 
 /// Whether a toll stands for a move.
@@ -26,6 +26,35 @@ fn costs(toll: u8, i: Interval) -> bool
         8 => degrees == 2,
         9 => degrees == 3 || degrees == 4,
         _ => degrees >= 5,
+    }
+}
+
+/// Which of Q7 to Q10 stands for a move.
+#[inline]
+fn toll_of_interval(i: Interval) -> Option<u8>
+    ensures first { IfSome result (λ toll. 7 ≤ toll) }
+    ensures last { IfSome result (λ toll. toll ≤ 10) }
+    ensures stands { (toll : ℕ) → 7 ≤ toll → toll ≤ 10 → rows.costs toll i ≡ is_this toll result }
+{
+    match i.degrees.unsigned_abs() {
+        0 if i.semitones == 0 => Some(7),
+        0 | 1 => None,
+        2 => Some(8),
+        3 | 4 => Some(9),
+        _ => Some(10),
+    }
+}
+
+/// Which of Q7 to Q10 a move to a cell pays. By the size of the move there is one at most.
+#[inline]
+pub fn toll_of_move(previous: Option<Pitch>, now: Cell) -> Option<u8>
+    ensures first { IfSome result (λ toll. 7 ≤ toll) }
+    ensures last { IfSome result (λ toll. toll ≤ 10) }
+    ensures stands { (toll : ℕ) → 7 ≤ toll → toll ≤ 10 → holds_of (rows.costs toll) (terms.move_from previous now) ≡ is_this toll result }
+{
+    match move_from(previous, now) {
+        Some(step) => toll_of_interval(step),
+        None => None,
     }
 }
 
