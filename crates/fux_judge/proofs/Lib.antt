@@ -1,4 +1,5 @@
 pub mod AlwaysLemmas
+pub mod ChargeLemmas
 pub mod KeptLemmas
 pub mod MomentLemmas
 pub mod PruningLemmas

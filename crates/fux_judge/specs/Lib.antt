@@ -1,4 +1,5 @@
 pub mod Always
+pub mod Charges
 pub mod Ends
 pub mod Facts
 pub mod Grows

@@ -1,12 +1,13 @@
 -- How a few voices make a column dead, whatever cells the others have.
-use Rattle.std.specs.Prelude.{◌≡◌, ℕ, ◌==◌, Bool, true, ◌&&◌, List, [], ◌∷◌, IsTrue, take}
+use Rattle.std.specs.Prelude.{◌≡◌, ◌≤◌, ◌⊎◌, ℕ, ◌==◌, Bool, true, ◌&&◌, List, [], ◌∷◌, IsSomeAnd, IsTrue, Option, take}
 use Rattle.std.specs.List.{list_any}
 use Rattle.fux_grid.specs.declared.cell.Cell.{Cell}
 use Rattle.fux_grid.specs.declared.exercise.Exercise.{Exercise}
 use Rattle.rule_law.specs.LowerVoices.{is_below}
+use Rattle.penalty_sheet.specs.declared.sheet.Sheet.{Sheet}
 use Rattle.fux_judge.specs.declared.moment.Moment.{Moment}
 use Rattle.fux_judge.specs.Rules.{rules_read}
-use Rattle.fux_judge.specs.Grows.{newly_broken}
+use Rattle.fux_judge.specs.Grows.{newly_broken, newly_paid}
 use Rattle.fux_judge.specs.Moments.{IsAfter}
 
 -- the rules that read the cells of their own voices, and whether a lower one sounds: all but S1 to S3, and S12, which reads the cantus
@@ -35,3 +36,7 @@ IsDeadWithin n m = (p : List (List Cell)) → IsAfter p m → AllBreak n m.exerc
 -- and by a set of voices, among however many first ones it is
 abbrev pub IsDeadBy : ℕ → Moment → Type 0
 IsDeadBy voices m = (n : ℕ) → IsTrue (is_set_below n voices) → IsDeadWithin n m
+
+-- after the prefix the column settles a strict break, or costs no less than a limit, where there is one
+abbrev pub IsPruned : Exercise → Sheet → List (List Cell) → Option ℕ → List Cell → Type 0
+IsPruned ex sheet p limit col = (list_any (newly_broken ex p col) rules_read ≡ true) ⊎ IsSomeAnd limit (λ cost. cost ≤ newly_paid ex sheet p col)

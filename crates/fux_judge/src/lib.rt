@@ -14,7 +14,7 @@ mod total;
 mod verdict;
 
 pub use always::is_always_dead;
-pub use pruning::dead_within;
+pub use pruning::pruned_within;
 pub use state::State;
 pub use total::penalty;
 pub use verdict::{Verdict, step};

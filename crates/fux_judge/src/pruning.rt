@@ -1,41 +1,32 @@
 //! Columns that are dead by the cells of a few voices.
 
-ghost use Rattle.std.specs.Prelude.{◌≡◌, ◌≤◌, ◌<◌, ◌+◌, true, List, IsTrue, IfSome, length, take};
+ghost use Rattle.std.specs.Prelude.{◌≡◌, ◌≤◌, ◌<◌, ◌+◌, List, IsSomeAnd, IsTrue, IfSome, length, take};
 ghost use Rattle.std.specs.Bool.{OnTrue};
-ghost use Rattle.std.specs.List.{list_all, list_any};
+ghost use Rattle.std.specs.List.{list_all, sum_by};
 ghost use Rattle.fux_grid.specs.declared.cell.Cell.{Cell as ACell};
 ghost use Rattle.fux_grid.specs.Exercises.{IsValid, columns_in};
-ghost use Rattle.fux_judge.specs.Rules.{rules_read};
-ghost use Rattle.fux_judge.specs.Grows.{newly_broken};
-ghost use Rattle.fux_judge.specs.Moments.{IsReadable};
-ghost use Rattle.fux_judge.specs.Pruning.{IsDeadBy, IsDeadWithin, is_set_below, reads_below};
+ghost use Rattle.fux_judge.specs.Charges.{tolls_of_pairs, voice_charge};
+ghost use Rattle.fux_judge.specs.Moments.{IsAfter, IsReadable, toll_then};
+ghost use Rattle.fux_judge.specs.Pruning.{IsDeadBy, IsDeadWithin, IsPruned, is_set_below, reads_below};
 ghost use Rattle.fux_judge.specs.States.{IsStateOf};
 
 use crate::moment::Moment;
 use crate::reading::is_strictly_broken;
 use crate::state::State;
+use crate::tolls::{charge_of_voice, charges_of_pairs};
 use crate::verdict::moment_of;
 use fux_grid::{Column, Exercise, VoiceSet, cell_of, species_of};
-use fux_pitch::is_imperfect;
 use melody_rules::is_smooth;
-use rule_law::{begins_bar, interval_in, is_quiet, pair_of, starts, voice_of};
+use penalty_sheet::Sheet;
+use rule_law::{is_quiet, pair_of, sound_perfect, starts, voice_of};
 
 /// The rules of one voice that starts a note.
 const WHERE_IT_STARTS: [u8; 7] = [4, 5, 26, 6, 7, 8, 9];
 
-/// The rule of the lowest voice alone, where a bar begins.
-const ON_THE_FINAL: [u8; 1] = [24];
-
-/// The rules of two voices of which one starts a note, or both.
-const WHERE_ONE_STARTS: [u8; 1] = [10];
-
-/// Those of two voices that both do.
+/// The rules of two voices that both start a note.
 const WHERE_BOTH_START: [u8; 2] = [16, 17];
 
-/// Those of two voices where a bar begins.
-const WHERE_A_BAR_BEGINS: [u8; 3] = [14, 11, 13];
-
-/// The sets of a voice alone, and with each lower one.
+/// The sets of a voice alone, and with each lower one, for each voice.
 const WITH_FIRST: [u8; 1] = [1];
 
 const WITH_SECOND: [u8; 2] = [2, 3];
@@ -83,50 +74,24 @@ fn is_smooth_in(voice: u8, m: &Moment<'_>) -> bool {
     }
 }
 
-/// Whether a voice alone breaks a rule strictly.
+/// Whether a voice alone breaks a rule strictly. That the lowest ends off the final isn't asked again.
 fn breaks_alone(voice: u8, voices: VoiceSet, m: &Moment<'_>) -> bool
     requires readable { IsReadable m.now }
     ensures { OnTrue result (IsDeadBy voices.bits m.now) }
 {
-    if !is_smooth_in(voice, m) && breaks_one(&WHERE_IT_STARTS, voices, m) {
-        return true;
-    }
-    if voice == 0 && begins_bar(m.place) && breaks_one(&ON_THE_FINAL, voices, m) {
-        return true;
-    }
-    false
+    !is_smooth_in(voice, m) && breaks_one(&WHERE_IT_STARTS, voices, m)
 }
 
-/// Whether two voices sound an imperfect consonance and the upper one is above, before the last bar. Then they break no rule together.
-fn is_sweet(lower: usize, upper: usize, m: &Moment<'_>) -> bool {
-    match interval_in(m.column, lower, upper) {
-        Some(size) => {
-            size.semitones > 0 && is_imperfect(size) && m.place / 8 + 1 < m.exercise.bars as usize
-        }
-        None => false,
-    }
-}
-
-/// Whether two voices together break a rule strictly.
+/// Whether two voices together break a rule strictly, which takes a perfect interval in which both start. What they sound alone isn't asked again.
 fn breaks_together(lower: u8, upper: u8, voices: VoiceSet, m: &Moment<'_>) -> bool
     requires readable { IsReadable m.now }
     ensures { OnTrue result (IsDeadBy voices.bits m.now) }
 {
-    if is_sweet(lower as usize, upper as usize, m) {
-        return false;
-    }
-    let lower_starts = starts(cell_of(m.column, lower as usize));
-    let upper_starts = starts(cell_of(m.column, upper as usize));
-    if (lower_starts || upper_starts) && breaks_one(&WHERE_ONE_STARTS, voices, m) {
-        return true;
-    }
-    if begins_bar(m.place) && breaks_one(&WHERE_A_BAR_BEGINS, voices, m) {
-        return true;
-    }
-    if lower_starts && upper_starts && breaks_one(&WHERE_BOTH_START, voices, m) {
-        return true;
-    }
-    false
+    let (lower, upper) = (lower as usize, upper as usize);
+    starts(cell_of(m.column, lower))
+        && starts(cell_of(m.column, upper))
+        && sound_perfect(m.column, lower, upper)
+        && breaks_one(&WHERE_BOTH_START, voices, m)
 }
 
 /// Whether a set of one voice or two breaks a rule strictly.
@@ -157,25 +122,76 @@ fn breaks_with(voice: usize, m: &Moment<'_>) -> bool
     false
 }
 
-/// How many voices, counted from the lowest, make a column dead by their cells alone: then every column with the same cells in these
-/// voices settles a strict break. None where no such break was found; a column may be dead all the same. The lowest voices of which it
-/// is known that they don't are not tried again: so many. It takes no memory.
-pub fn dead_within(ex: &Exercise, state: &State, col: &Column, tried: usize) -> Option<usize>
+/// Whether a cost reaches the limit, where there is one.
+#[inline]
+fn reaches(cost: u64, limit: Option<u64>) -> bool
+    ensures { OnTrue result (IsSomeAnd limit (λ most. most ≤ cost)) }
+{
+    match limit {
+        Some(most) => cost >= most,
+        None => false,
+    }
+}
+
+/// What a voice's move costs by the tolls of melody; nothing where no limit asks it.
+#[inline]
+fn charge_for(limit: Option<u64>, sheet: &Sheet, m: &Moment<'_>, voice: usize) -> u64
+    requires { voice < 4 }
+    ensures value { (p : List (List ACell)) → IsAfter p m.now → result ≤ voice_charge m.now.exercise.now sheet.now p m.now.column.now voice }
+    ensures bound { result ≤ 131070 }
+{
+    if limit.is_none() {
+        return 0;
+    }
+    charge_of_voice(sheet, m, voice)
+}
+
+/// Whether what all voices cost and what they cost together reach the limit, where there is one.
+fn costs_too_much(limit: Option<u64>, least: u64, sheet: &Sheet, m: &Moment<'_>) -> bool
+    requires { least ≤ 524280 }
+    ensures { OnTrue result (IsSomeAnd limit (λ most. (p : List (List ACell)) → IsAfter p m.now → most ≤ least + sum_by (toll_then sheet.now p m.now) tolls_of_pairs)) }
+{
+    match limit {
+        Some(most) => least + charges_of_pairs(sheet, m) >= most,
+        None => false,
+    }
+}
+
+/// How many voices, counted from the lowest, prune a column by their cells alone: then every column with the same cells in these
+/// voices settles a strict break, or costs the limit or more. None where no such reason was found; there may be one all the same.
+/// So many of the lowest voices as have been tried are known to break no rule, and are only asked what they cost. It takes no memory.
+pub fn pruned_within(
+    ex: &Exercise,
+    sheet: &Sheet,
+    state: &State,
+    col: &Column,
+    tried: usize,
+    limit: Option<u64>,
+) -> Option<usize>
     requires valid { IsValid ex.now }
     requires room { state.now.len < columns_in ex.now }
     requires full { length col.now.items ≡ ex.now.voices }
     ensures some { IfSome result (λ n. 1 ≤ n) }
     ensures few { IfSome result (λ n. n ≤ ex.now.voices) }
-    ensures dead { IfSome result (λ n. (p : List (List ACell)) → IsStateOf ex.now p state.now → (other : List ACell) → length other ≡ ex.now.voices → take n other ≡ take n col.now.items → list_any (newly_broken ex.now p other) rules_read ≡ true) }
+    ensures pruned { IfSome result (λ n. (p : List (List ACell)) → IsStateOf ex.now p state.now → (other : List ACell) → length other ≡ ex.now.voices → take n other ≡ take n col.now.items → IsPruned ex.now sheet.now p limit other) }
 {
     if is_quiet(state.len, col.as_slice()) {
         return None;
     }
     let moment = moment_of(ex, state, col);
-    for voice in tried..ex.voices as usize {
-        if breaks_with(voice, &moment) {
+    let mut least = 0u64;
+    for voice in 0..ex.voices as usize {
+        let charge = charge_for(limit, sheet, &moment, voice);
+        least += charge;
+        if reaches(least, limit) {
             return Some(voice + 1);
         }
+        if voice >= tried && breaks_with(voice, &moment) {
+            return Some(voice + 1);
+        }
+    }
+    if costs_too_much(limit, least, sheet, &moment) {
+        return Some(ex.voices as usize);
     }
     None
 }

@@ -1,19 +1,28 @@
 //! Tolls, read at a moment.
 
-ghost use Rattle.std.specs.Prelude.{◌≡◌, ◌≤◌, ◌<◌, ◌&&◌, List, IsTrue, length, nat_le};
+ghost use Rattle.std.specs.Prelude.{◌≡◌, ◌≤◌, ◌<◌, ◌*◌, ◌+◌, ◌&&◌, List, IsTrue, if◌then◌else◌, length, nat_le, reverse};
 ghost use Rattle.std.specs.List.{list_all, sum_by};
 ghost use Rattle.fux_grid.specs.declared.cell.Cell.{Cell as ACell};
+ghost use Rattle.fux_grid.specs.Columns.{line};
+ghost use Rattle.rule_law.specs.Terms.{holds_of, move_from};
+ghost use Rattle.melody_rules.specs.Notes.{AreNotesOf};
+ghost use Rattle.melody_rules.specs.Rows as melody;
+ghost use Rattle.penalty_sheet.specs.Weights.{weight_of};
+ghost use Rattle.fux_judge.specs.Charges.{tolls_of_pairs, voice_charge};
 ghost use Rattle.fux_judge.specs.Rules as rules;
 ghost use Rattle.fux_judge.specs.Rules.{cost_at, tolls_read};
 ghost use Rattle.fux_judge.specs.Moments.{IsAfter, toll_then, with_column};
 
 use crate::moment::Moment;
-use melody_rules::open_leaps;
+use fux_grid::{Cell, cell_of};
+use fux_pitch::Pitch;
+use melody_rules::{VoiceNotes, leap_open_after, open_leaps, toll_of_move};
 use motion_rules::imperfect_runs_after;
 use penalty_sheet::{Sheet, weight};
+use rule_law::{is_free, starts};
 
-/// The tolls that are read.
-const TOLLS: [u8; 9] = [1, 2, 7, 8, 9, 10, 11, 13, 14];
+/// The tolls that are read and not of melody.
+const TOLLS_OF_PAIRS: [u8; 4] = [1, 2, 11, 14];
 
 /// Whether a toll is of motion.
 #[inline]
@@ -67,7 +76,7 @@ fn charges_of(tolls: &[u8], sheet: &Sheet, m: &Moment<'_>) -> u64
     requires numbers { IsTrue (list_all (λ toll. nat_le 1 toll && nat_le toll 20) tolls.now) }
     requires few { length tolls.now ≤ 20 }
     ensures value { (p : List (List ACell)) → IsAfter p m.now → result ≡ sum_by (toll_then sheet.now p m.now) tolls.now }
-    ensures bound { result ≤ 7864200 }
+    ensures bound { result ≤ 393210 * length tolls.now }
 {
     let mut sum = 0u64;
     for toll in tolls {
@@ -77,10 +86,62 @@ fn charges_of(tolls: &[u8], sheet: &Sheet, m: &Moment<'_>) -> u64
     sum
 }
 
+/// What the tolls cost that aren't of melody.
+pub(crate) fn charges_of_pairs(sheet: &Sheet, m: &Moment<'_>) -> u64
+    ensures value { (p : List (List ACell)) → IsAfter p m.now → result ≡ sum_by (toll_then sheet.now p m.now) tolls_of_pairs }
+    ensures bound { result ≤ 1572840 }
+{
+    charges_of(&TOLLS_OF_PAIRS, sheet, m)
+}
+
+/// The weight of the toll that a move to a cell pays by its size: Q7, Q8, Q9 or Q10.
+fn charge_of_move(sheet: &Sheet, previous: Option<Pitch>, now: Cell) -> u64
+    ensures value { result ≡ (if holds_of (melody.costs 7) (move_from previous now) then weight_of sheet.now 7 else 0) + (if holds_of (melody.costs 8) (move_from previous now) then weight_of sheet.now 8 else 0) + (if holds_of (melody.costs 9) (move_from previous now) then weight_of sheet.now 9 else 0) + (if holds_of (melody.costs 10) (move_from previous now) then weight_of sheet.now 10 else 0) }
+    ensures bound { result ≤ 65535 }
+{
+    match toll_of_move(previous, now) {
+        Some(toll) => u64::from(weight(sheet, toll)),
+        None => 0,
+    }
+}
+
+/// The weight of Q13, where it stands for a cell of a voice that comes after these notes.
+fn charge_of_leap(sheet: &Sheet, voices: &[VoiceNotes; 4], voice: usize, now: Cell) -> u64
+    requires { voice < 4 }
+    ensures value { (behind : List (List ACell)) → AreNotesOf behind voices.now → result ≡ (if melody.leaves_leap_open (melody.before_last (melody.pitches (line voice behind))) (melody.last_of (melody.pitches (line voice behind))) now then weight_of sheet.now 13 else 0) }
+    ensures bound { result ≤ 65535 }
+{
+    if leap_open_after(&voices[voice], now) {
+        u64::from(weight(sheet, 13))
+    } else {
+        0
+    }
+}
+
+/// What a voice's move costs by the tolls of melody: Q7 to Q10 and Q13. The cantus pays nothing, and nor does a voice that starts no note.
+pub(crate) fn charge_of_voice(sheet: &Sheet, m: &Moment<'_>, voice: usize) -> u64
+    requires { voice < 4 }
+    ensures value { (p : List (List ACell)) → IsAfter p m.now → result ≡ voice_charge m.now.exercise.now sheet.now p m.now.column.now voice }
+    ensures bound { result ≤ 131070 }
+{
+    let cell = cell_of(m.column, voice);
+    if !starts(cell) {
+        return 0;
+    }
+    if !is_free(m.exercise, voice as u8) {
+        return 0;
+    }
+    charge_of_move(sheet, m.latest.of(voice), cell) + charge_of_leap(sheet, m.notes, voice, cell)
+}
+
 /// What all tolls cost together.
 pub(crate) fn charges(sheet: &Sheet, m: &Moment<'_>) -> u64
     ensures value { (p : List (List ACell)) → IsAfter p m.now → result ≡ sum_by (toll_then sheet.now p m.now) tolls_read }
     ensures bound { result ≤ 7864200 }
 {
-    charges_of(&TOLLS, sheet, m)
+    charge_of_voice(sheet, m, 0)
+        + charge_of_voice(sheet, m, 1)
+        + charge_of_voice(sheet, m, 2)
+        + charge_of_voice(sheet, m, 3)
+        + charges_of_pairs(sheet, m)
 }
