@@ -1,5 +1,5 @@
 -- What is read at a moment is what the rows say at the end of the longer prefix.
-use Rattle.std.proofs.Common.{◌≡◌, ◌≢◌, ℕ, ◌==◌, Bool, true, false, List, [], ◌∷◌, ◌++◌, length, reverse, refl, ap, sym, ◌∙◌, eq-eqb}
+use Rattle.std.proofs.Common.{◌≡◌, ◌≢◌, ℕ, ◌==◌, Bool, true, false, List, [], ◌∷◌, ◌++◌, length, reverse, refl, ap, sym, ◌∙◌}
 use Rattle.std.specs.Prelude.{if◌then◌else◌}
 use Rattle.std.proofs.lemmas.Bool.{eqb-true}
 use Rattle.fux_grid.specs.declared.cell.Cell.{Cell}
@@ -127,9 +127,6 @@ module _ (toll : ℕ) (p : List (List Cell)) (m : Moment) where
   leaps_cost e f g =
       cost_by (melody.open_leaps m.exercise.now)
       (costs_of_melody e f ∙ first (toll == 13) (melody.open_leaps m.exercise.now) (whole_of (melody.toll_rows toll m.exercise.now)) g)
-
-  pub open_leaps_cost : is_toll_of_motion toll ≡ false → is_toll_of_dissonance toll ≡ false → toll ≡ 13 → melody.open_leaps m.exercise.now (length p) (reverse p) m.column.now [] ≡ cost_at toll m.exercise.now (with_column p m) (length p)
-  open_leaps_cost e f g = leaps_cost e f (eq-eqb toll 13 g)
 
   pub melody_cost : is_toll_of_motion toll ≡ false → is_toll_of_dissonance toll ≡ false → (toll == 13) ≡ false → whole_of (melody.toll_rows toll m.exercise.now) (length p) (reverse p) m.column.now [] ≡ cost_at toll m.exercise.now (with_column p m) (length p)
   melody_cost e f g =

@@ -1,6 +1,6 @@
 -- A sum over a list, item by item.
-use Rattle.std.proofs.Common.{◌≡◌, ◌≢◌, ℕ, zero, suc, ◌+◌, ◌<◌, ◌≤◌, ◌==◌, ◌&&◌, Bool, true, IsTrue, List, [], ◌∷◌, length, take, get_or, ap, ◌∙◌, arith, eq-eqb}
-use Rattle.std.specs.Prelude.{nat_le, nat_lt, not}
+use Rattle.std.proofs.Common.{◌≡◌, ◌≢◌, ℕ, zero, suc, ◌+◌, ◌<◌, ◌==◌, ◌&&◌, Bool, true, IsTrue, List, [], ◌∷◌, length, take, get_or, ap, ◌∙◌, arith, eq-eqb}
+use Rattle.std.specs.Prelude.{nat_lt, not}
 use Rattle.std.specs.List.{list_all}
 use Rattle.std.proofs.lemmas.Bool.Decides.{nat_tests}
 use Rattle.rule_law.specs.Law.{first_true, second_true}
@@ -17,18 +17,6 @@ pub passes : (test : ℕ → Bool) (xs : List ℕ) (i : ℕ) → list_all test x
 passes test [] i h k = absurd (omega arith)
 passes test (x ∷ xs) zero h k = first_true (test x) (list_all test xs) h
 passes test (x ∷ xs) (suc i) h k = passes test xs i (second_true (test x) (list_all test xs) h) (omega arith)
-
-pub toll_in_range : (tolls : List ℕ) (i : ℕ) → IsTrue (list_all (λ toll. nat_le 1 toll && nat_le toll 20) tolls) → i < length tolls → (1 ≤ get_or tolls i 0) × (get_or tolls i 0 ≤ 20)
-toll_in_range tolls i h k = both (get_or tolls i 0) (passes (λ toll. nat_le 1 toll && nat_le toll 20) tolls i h k)
-  where
-    both : (toll : ℕ) → (nat_le 1 toll && nat_le toll 20) ≡ true → (1 ≤ toll) × (toll ≤ 20)
-    both toll e = (at_least toll (first_true (nat_le 1 toll) (nat_le toll 20) e), at_most toll (second_true (nat_le 1 toll) (nat_le toll 20) e))
-      where
-        at_least : (toll : ℕ) → nat_le 1 toll ≡ true → 1 ≤ toll
-        at_least toll e = grind (arith, nat_tests)
-
-        at_most : (toll : ℕ) → nat_le toll 20 ≡ true → toll ≤ 20
-        at_most toll e = grind (arith, nat_tests)
 
 pub rule_in_range : (rules : List ℕ) (i : ℕ) → IsTrue (list_all (λ rule. nat_lt rule 32 && not (rule == 3)) rules) → i < length rules → (get_or rules i 0 < 32) × (get_or rules i 0 ≢ 3)
 rule_in_range rules i h k = both (get_or rules i 0) (passes (λ rule. nat_lt rule 32 && not (rule == 3)) rules i h k)

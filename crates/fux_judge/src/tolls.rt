@@ -1,7 +1,7 @@
 //! Tolls, read at a moment.
 
-ghost use Rattle.std.specs.Prelude.{◌≡◌, ◌≤◌, ◌<◌, ◌*◌, ◌+◌, ◌&&◌, List, IsTrue, if◌then◌else◌, length, nat_le, reverse};
-ghost use Rattle.std.specs.List.{list_all, sum_by};
+ghost use Rattle.std.specs.Prelude.{◌≡◌, ◌≤◌, ◌<◌, ◌+◌, ◌||◌, List, IsTrue, if◌then◌else◌, length};
+ghost use Rattle.std.specs.List.{sum_by};
 ghost use Rattle.fux_grid.specs.declared.cell.Cell.{Cell as ACell};
 ghost use Rattle.fux_grid.specs.Columns.{line};
 ghost use Rattle.rule_law.specs.Terms.{holds_of, move_from};
@@ -16,13 +16,10 @@ ghost use Rattle.fux_judge.specs.Moments.{IsAfter, toll_then, with_column};
 use crate::moment::Moment;
 use fux_grid::{Cell, cell_of};
 use fux_pitch::Pitch;
-use melody_rules::{VoiceNotes, leap_open_after, open_leaps, toll_of_move};
+use melody_rules::{VoiceNotes, leap_open_after, toll_of_move};
 use motion_rules::imperfect_runs_after;
 use penalty_sheet::{Sheet, weight};
 use rule_law::{is_free, starts};
-
-/// The tolls that are read and not of melody.
-const TOLLS_OF_PAIRS: [u8; 4] = [1, 2, 11, 14];
 
 /// Whether a toll is of motion.
 #[inline]
@@ -32,66 +29,39 @@ fn is_of_motion(toll: u8) -> bool
     toll == 11 || toll == 14
 }
 
-/// Whether a toll is of dissonance.
-#[inline]
-fn is_of_dissonance(toll: u8) -> bool
-    ensures { result ≡ rules.is_toll_of_dissonance toll }
-{
-    toll == 1 || toll == 2
-}
-
-/// What a toll costs, without its weight.
+/// What a toll of motion or dissonance costs, without its weight.
 fn cost(toll: u8, m: &Moment<'_>) -> u32
+    requires { IsTrue (rules.is_toll_of_motion toll || rules.is_toll_of_dissonance toll) }
     ensures value { (p : List (List ACell)) → IsAfter p m.now → result ≡ cost_at toll m.now.exercise.now (with_column p m.now) (length p) }
     ensures bound { result ≤ 6 }
 {
     let (ex, i, before, now) = (m.exercise, m.place, m.before, m.column);
-    if is_of_motion(toll) {
-        if toll == 14 {
-            return imperfect_runs_after(m.bar_lines, i, now);
-        }
-        return motion_rules::cost(toll, ex, i, before, &m.latest, now);
-    }
-    if is_of_dissonance(toll) {
+    if !is_of_motion(toll) {
         return dissonance_rules::cost(toll, ex, i, before, &m.latest, now);
     }
-    if toll == 13 {
-        return open_leaps(ex, m.notes, now);
+    if toll == 14 {
+        return imperfect_runs_after(m.bar_lines, i, now);
     }
-    melody_rules::cost(toll, ex, i, before, &m.latest, now)
+    motion_rules::cost(toll, ex, i, before, &m.latest, now)
 }
 
-/// What a toll costs, by its weight.
+/// What a toll of motion or dissonance costs, by its weight.
 fn charge(toll: u8, sheet: &Sheet, m: &Moment<'_>) -> u64
     requires first { 1 ≤ toll }
     requires last { toll ≤ 20 }
+    requires pairs { IsTrue (rules.is_toll_of_motion toll || rules.is_toll_of_dissonance toll) }
     ensures value { (p : List (List ACell)) → IsAfter p m.now → result ≡ toll_then sheet.now p m.now toll }
     ensures bound { result ≤ 393210 }
 {
     u64::from(cost(toll, m)) * u64::from(weight(sheet, toll))
 }
 
-/// What these tolls cost together.
-fn charges_of(tolls: &[u8], sheet: &Sheet, m: &Moment<'_>) -> u64
-    requires numbers { IsTrue (list_all (λ toll. nat_le 1 toll && nat_le toll 20) tolls.now) }
-    requires few { length tolls.now ≤ 20 }
-    ensures value { (p : List (List ACell)) → IsAfter p m.now → result ≡ sum_by (toll_then sheet.now p m.now) tolls.now }
-    ensures bound { result ≤ 393210 * length tolls.now }
-{
-    let mut sum = 0u64;
-    for toll in tolls {
-        let amount = charge(*toll, sheet, m);
-        sum += amount;
-    }
-    sum
-}
-
-/// What the tolls cost that aren't of melody.
+/// What the tolls of motion and dissonance cost together: those that several voices make.
 pub(crate) fn charges_of_pairs(sheet: &Sheet, m: &Moment<'_>) -> u64
     ensures value { (p : List (List ACell)) → IsAfter p m.now → result ≡ sum_by (toll_then sheet.now p m.now) tolls_of_pairs }
     ensures bound { result ≤ 1572840 }
 {
-    charges_of(&TOLLS_OF_PAIRS, sheet, m)
+    charge(1, sheet, m) + charge(2, sheet, m) + charge(11, sheet, m) + charge(14, sheet, m)
 }
 
 /// The weight of the toll that a move to a cell pays by its size: Q7, Q8, Q9 or Q10.
