@@ -1,8 +1,8 @@
-//! Columns in four voices that the lowest of them make dead, worked by hand.
+//! Columns in four voices that the lowest of them prune, worked by hand.
 
 ghost use Rattle.fux_grid.specs.Exercises.{IsValid};
 
-use crate::{State, Verdict, dead_within, step};
+use crate::{State, Verdict, is_always_dead, pruned_within, step};
 use arrayvec::ArrayVec;
 use fux_grid::{Cell, Column, Exercise, RangeLine, Relax};
 use fux_pitch::{List, Mode, Pitch, parse_pitch};
@@ -11,13 +11,24 @@ use std::alloc::Global;
 use std::process::Abort;
 use std::test::Fail;
 
-/// The voice of the cantus, the cantus, a rule that is relaxed, the notes of the bars before, those of the column, and how many voices make it dead.
+/// The voice of the cantus, the cantus, a rule that is relaxed, the notes of the bars before, those of the column, how many voices
+/// break a rule by their moves, and whether the column does by what it sounds.
 type Row = (
     u8,
     &'static str,
     Option<u8>,
     &'static [&'static str],
     &'static str,
+    Option<usize>,
+    bool,
+);
+
+/// The cantus, which is the lowest voice, the notes of the bars before, those of the column, the limit, and how many voices cost it.
+type Price = (
+    &'static str,
+    &'static [&'static str],
+    &'static str,
+    Option<u64>,
     Option<usize>,
 );
 
@@ -87,27 +98,47 @@ fn column(notes: &str, held: bool) -> Result<Column, Fail> {
     Ok(column)
 }
 
-/// How many voices make a column dead, and what a step says of it.
-fn judged(rt: &impl Abort, ex: &Exercise, state: &State, col: &Column) -> (Option<usize>, Verdict)
+/// What is found of a column: how many voices break a rule, whether its sound alone does, how many voices cost the limit, and what a step says.
+#[derive(Clone, Copy)]
+struct Findings {
+    broken_within: Option<usize>,
+    is_always_dead: bool,
+    costly_within: Option<usize>,
+    verdict: Verdict,
+}
+
+fn judged(
+    rt: &impl Abort,
+    ex: &Exercise,
+    state: &State,
+    col: &Column,
+    limit: Option<u64>,
+) -> Findings
     requires valid { IsValid ex.now }
 {
     assert!(rt; ex.voices == 4 && ex.bars == 3 && state.len < 24 && col.len() == 4);
-    (
-        dead_within(ex, state, col, 0),
-        step(ex, &default_sheet(), state, col),
-    )
+    let sheet = default_sheet();
+    Findings {
+        broken_within: pruned_within(ex, &sheet, state, col, 0, None),
+        is_always_dead: is_always_dead(ex, state.len, col),
+        costly_within: pruned_within(ex, &sheet, state, col, 4, limit),
+        verdict: step(ex, &sheet, state, col),
+    }
 }
 
-/// The state after bars in which these notes start and are held. What is held makes no column dead.
+/// The state after bars in which these notes start and are held. What is held prunes no column, whatever the limit.
 fn after(rt: &impl Abort, ex: &Exercise, bars: &[&str]) -> Result<State, Fail>
     requires valid { IsValid ex.now }
 {
     let mut state = State::start(ex);
     for bar in bars {
         for slot in 0..8 {
-            let (dead, verdict) = judged(rt, ex, &state, &column(bar, slot > 0)?);
-            assert!(rt; slot == 0 || dead.is_none(), "{bar}");
-            state = verdict.state;
+            let found = judged(rt, ex, &state, &column(bar, slot > 0)?, Some(0));
+            assert!(rt;
+                slot == 0 || found.broken_within.is_none() && found.costly_within.is_none(),
+                "{bar}"
+            );
+            state = found.verdict.state;
         }
     }
     Ok(state)
@@ -121,36 +152,86 @@ const FIRST: &str = "D3 A3 D4 A4";
 
 const SECOND: &str = "E3 G3 E4 B4";
 
+/// A fifth up in voice 1, a fourth up in voice 2.
+const LEAPING: &str = "E3 E4 G4 B4";
+
 #[test]
 fn the_lowest_voices_make_a_column_dead(rt: HostRuntime) -> Result<(), Fail> {
-    let table: [Row; 13] = [
-        (0, BELOW, None, &[], FIRST, None),
+    let table: [Row; 14] = [
+        (0, BELOW, None, &[], FIRST, None, false),
         // voice 1 starts above voice 2
-        (0, BELOW, None, &[], "D3 D4 A3 A4", Some(3)),
-        (0, BELOW, Some(10), &[], "D3 D4 A3 A4", None),
+        (0, BELOW, None, &[], "D3 D4 A3 A4", None, true),
+        (0, BELOW, Some(10), &[], "D3 D4 A3 A4", None, false),
         // seconds and a ninth
-        (0, BELOW, None, &[], "D3 E3 A3 D4", Some(2)),
-        (0, BELOW, None, &[], "D3 A3 D4 E4", Some(4)),
+        (0, BELOW, None, &[], "D3 E3 A3 D4", None, true),
+        (0, BELOW, None, &[], "D3 A3 D4 E4", None, true),
         // a fourth above the lowest voice that sounds
-        (3, ABOVE, None, &[], "r A3 D4 A4", Some(3)),
-        // parallel fifths, a unison and a seventh upward
-        (0, BELOW, None, &[FIRST], "E3 B3 E4 B4", Some(2)),
-        (0, BELOW, None, &[FIRST], "E3 G3 G3 B4", Some(3)),
-        (0, BELOW, None, &[FIRST], "E3 G4 B4 D5", Some(2)),
+        (3, ABOVE, None, &[], "r A3 D4 A4", None, true),
+        // parallel fifths of voices 0 and 1
+        (0, BELOW, None, &[FIRST], "E3 B3 E4 B4", Some(2), false),
+        // a unison, and parallel fifths of the outer voices
+        (0, BELOW, None, &[FIRST], "E3 G3 G3 B4", Some(4), true),
+        // a seventh upward in voice 1
+        (0, BELOW, None, &[FIRST], "E3 G4 B4 E5", Some(2), false),
+        // and in voice 2
+        (0, BELOW, None, &[FIRST], "E3 C4 C5 E5", Some(3), false),
         // a major sixth upward in the lowest voice
-        (3, ABOVE, None, &[FIRST], "B3 D4 G4 B4", Some(1)),
-        // an end that isn't on the final, and one with a sixth
-        (3, ABOVE, None, &[FIRST, SECOND], "F3 A3 C4 A4", Some(1)),
-        (0, BELOW, None, &[FIRST, SECOND], "D3 B3 D4 F4", Some(2)),
-        (0, BELOW, None, &[FIRST, SECOND], "D3 A3 A4 D5", None),
+        (3, ABOVE, None, &[FIRST], "B3 D4 G4 B4", Some(1), false),
+        // an end that isn't on the final
+        (3, ABOVE, None, &[FIRST, SECOND], "F3 A3 C4 A4", None, true),
+        // one with a sixth, and parallel octaves of voices 0 and 2
+        (
+            0,
+            BELOW,
+            None,
+            &[FIRST, SECOND],
+            "D3 B3 D4 F4",
+            Some(3),
+            true,
+        ),
+        (0, BELOW, None, &[FIRST, SECOND], "D3 A3 A4 D5", None, false),
     ];
-    for (cantus_voice, cantus, relaxed, bars, notes, wanted) in table {
+    for (cantus_voice, cantus, relaxed, bars, notes, wanted, always) in table {
         let ex = exercise(rt.alloc(), cantus_voice, cantus, relaxed)?;
         assert!(rt; ex.is_valid());
         let state = after(&rt, &ex, bars)?;
-        let (dead, verdict) = judged(&rt, &ex, &state, &column(notes, false)?);
-        assert_eq!(rt; dead, wanted, "{notes}");
-        assert_eq!(rt; verdict.breaks(), wanted.is_some(), "{notes}");
+        let found = judged(&rt, &ex, &state, &column(notes, false)?, None);
+        assert_eq!(rt; found.broken_within, wanted, "{notes}");
+        assert_eq!(rt; found.is_always_dead, always, "{notes}");
+        assert_eq!(rt;
+            found.verdict.breaks(),
+            wanted.is_some() || always,
+            "{notes}"
+        );
+    }
+    Ok(())
+}
+
+#[test]
+fn the_lowest_voices_cost_the_limit(rt: HostRuntime) -> Result<(), Fail> {
+    let table: [Price; 11] = [
+        // the cantus is free; a step, a fourth for 2 and a third for 1; three pairs of voices that rise for 2 each
+        (BELOW, &[FIRST, SECOND], "D3 A3 A4 D5", Some(0), Some(1)),
+        (BELOW, &[FIRST, SECOND], "D3 A3 A4 D5", Some(2), Some(3)),
+        (BELOW, &[FIRST, SECOND], "D3 A3 A4 D5", Some(3), Some(4)),
+        (BELOW, &[FIRST, SECOND], "D3 A3 A4 D5", Some(9), Some(4)),
+        (BELOW, &[FIRST, SECOND], "D3 A3 A4 D5", Some(10), None),
+        (BELOW, &[FIRST, SECOND], "D3 A3 A4 D5", None, None),
+        // a third for 1, then a seventh for 5
+        (BELOW, &[FIRST], "E3 C4 C5 E5", Some(1), Some(2)),
+        (BELOW, &[FIRST], "E3 C4 C5 E5", Some(2), Some(3)),
+        // after the leap to it, a fourth on in voice 1 for 2 and 3, and a fifth on in voice 2 for as much
+        (BELOW, &[FIRST, LEAPING], "D3 A4 D5 D5", Some(5), Some(2)),
+        (BELOW, &[FIRST, LEAPING], "D3 A4 D5 D5", Some(6), Some(3)),
+        // a fifth in the cantus is free, a third in voice 1 is not
+        ("D3 A3 D3", &[FIRST], "A3 C4 E4 A4", Some(1), Some(2)),
+    ];
+    for (cantus, bars, notes, limit, wanted) in table {
+        let ex = exercise(rt.alloc(), 0, cantus, None)?;
+        assert!(rt; ex.is_valid());
+        let state = after(&rt, &ex, bars)?;
+        let found = judged(&rt, &ex, &state, &column(notes, false)?, limit);
+        assert_eq!(rt; found.costly_within, wanted, "{notes}");
     }
     Ok(())
 }
