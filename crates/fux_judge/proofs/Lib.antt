@@ -4,6 +4,7 @@ pub mod KeptLemmas
 pub mod MomentLemmas
 pub mod PruningLemmas
 pub mod QuietLemmas
+pub mod RoughLemmas
 pub mod SetLemmas
 pub mod StepLemmas
 pub mod SumLemmas

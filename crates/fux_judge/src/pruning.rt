@@ -1,10 +1,11 @@
 //! Columns that are dead by the cells of a few voices.
 
-ghost use Rattle.std.specs.Prelude.{◌≡◌, ◌≤◌, ◌<◌, ◌+◌, List, IsSomeAnd, IsTrue, IfSome, length, take};
+ghost use Rattle.std.specs.Prelude.{◌≡◌, ◌≤◌, ◌<◌, ◌+◌, List, Some, IsSomeAnd, IsTrue, IfSome, length, take};
 ghost use Rattle.std.specs.Bool.{OnTrue};
 ghost use Rattle.std.specs.List.{list_all, sum_by};
 ghost use Rattle.fux_grid.specs.declared.cell.Cell.{Cell as ACell};
 ghost use Rattle.fux_grid.specs.Exercises.{IsValid, columns_in};
+ghost use Rattle.rule_law.specs.Voices.{voice_of as one_voice};
 ghost use Rattle.fux_judge.specs.Charges.{tolls_of_pairs, voice_charge};
 ghost use Rattle.fux_judge.specs.Moments.{IsAfter, IsReadable, toll_then};
 ghost use Rattle.fux_judge.specs.Pruning.{IsDeadBy, IsDeadWithin, IsPruned, is_set_below, reads_below};
@@ -15,8 +16,8 @@ use crate::reading::is_strictly_broken;
 use crate::state::State;
 use crate::tolls::{charge_of_voice, charges_of_pairs};
 use crate::verdict::moment_of;
-use fux_grid::{Column, Exercise, VoiceSet, cell_of, species_of};
-use melody_rules::is_smooth;
+use fux_grid::{Column, Exercise, VoiceSet, cell_of};
+use melody_rules::is_smooth_in;
 use penalty_sheet::Sheet;
 use rule_law::{is_quiet, pair_of, sound_perfect, starts, voice_of};
 
@@ -63,23 +64,20 @@ fn breaks_one(rules: &[u8], voices: VoiceSet, m: &Moment<'_>) -> bool
     false
 }
 
-/// Whether a voice breaks no rule of melody.
-#[inline]
-fn is_smooth_in(voice: u8, m: &Moment<'_>) -> bool {
-    let all = m.notes;
-    let cell = cell_of(m.column, voice as usize);
-    match all[..].get(voice as usize) {
-        Some(notes) => is_smooth(species_of(m.exercise, voice), notes, cell),
-        None => false,
-    }
-}
-
-/// Whether a voice alone breaks a rule strictly. That the lowest ends off the final isn't asked again.
+/// Whether a voice alone breaks a rule strictly: one of melody. That the lowest ends off the final isn't asked again.
 fn breaks_alone(voice: u8, voices: VoiceSet, m: &Moment<'_>) -> bool
+    requires low { voice < 4 }
+    requires alone { one_voice voices.bits ≡ Some voice }
     requires readable { IsReadable m.now }
     ensures { OnTrue result (IsDeadBy voices.bits m.now) }
 {
-    !is_smooth_in(voice, m) && breaks_one(&WHERE_IT_STARTS, voices, m)
+    if is_smooth_in(m.exercise, m.notes, m.column, voice) {
+        return false;
+    }
+    if m.exercise.relax.as_slice().is_empty() {
+        return true;
+    }
+    breaks_one(&WHERE_IT_STARTS, voices, m)
 }
 
 /// Whether two voices together break a rule strictly, which takes a perfect interval in which both start. What they sound alone isn't asked again.

@@ -26,7 +26,8 @@ each_of_four P a b c d pa pb pc pd (suc (suc zero)) notes e = let same : c ≡ n
 each_of_four P a b c d pa pb pc pd (suc (suc (suc zero))) notes e = let same : d ≡ notes = cc in subst (P 3) same pd
 each_of_four P a b c d pa pb pc pd (suc (suc (suc (suc v)))) notes e = cc
 
-first_pitch : (ns : List Note) → last_of (map (λ n. n.pitch) ns) ≡ note_pitch (first_of ns)
+-- the pitch of the latest note
+pub first_pitch : (ns : List Note) → last_of (map (λ n. n.pitch) ns) ≡ note_pitch (first_of ns)
 first_pitch [] = refl
 first_pitch (n ∷ ns) = refl
 

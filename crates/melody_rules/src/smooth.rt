@@ -1,6 +1,6 @@
 //! All rules of melody at once: a note mostly breaks none of them.
 
-ghost use Rattle.std.specs.Prelude.{◌≡◌, ◌&&◌, ◌||◌, not, nat_lt, List};
+ghost use Rattle.std.specs.Prelude.{◌≡◌, ◌<◌, ◌&&◌, ◌||◌, not, nat_lt, List};
 ghost use Rattle.fux_grid.specs.declared.cell.Cell.{Cell};
 ghost use Rattle.fux_grid.specs.Cells.{cell_in};
 ghost use Rattle.fux_grid.specs.Exercises.{species_in};
@@ -39,7 +39,7 @@ fn is_rough_line(notes: &VoiceNotes, now: Cell) -> bool
 
 /// Whether a cell of a voice with these notes breaks no rule of melody: none of S4 to S9 and S26.
 #[inline]
-pub fn is_smooth(species: u8, notes: &VoiceNotes, now: Cell) -> bool
+fn is_smooth(species: u8, notes: &VoiceNotes, now: Cell) -> bool
     ensures { (cells : List Cell) → IsNotesOf cells notes.now → result ≡ not (smooth.is_rough species (rows.pitches cells) now) }
 {
     if !starts(now) {
@@ -57,6 +57,15 @@ fn is_smooth_at(ex: &Exercise, notes: &VoiceNotes, now: &[Cell], v: u8) -> bool
         return true;
     }
     is_smooth(species_of(ex, v), notes, cell_of(now, v as usize))
+}
+
+/// Whether a voice of a column that comes after these notes breaks no rule of melody, or is the cantus or isn't there.
+#[inline]
+pub fn is_smooth_in(ex: &Exercise, voices: &[VoiceNotes; 4], now: &[Cell], v: u8) -> bool
+    requires { v < 4 }
+    ensures { (behind : List (List Cell)) → AreNotesOf behind voices.now → result ≡ not (smooth.is_rough_at ex.now behind now.now v) }
+{
+    is_smooth_at(ex, &voices[v as usize], now, v)
 }
 
 /// Whether a column that comes after these notes breaks no rule of melody in any voice.
