@@ -1,4 +1,4 @@
--- How a few voices make a column dead, whatever cells the others have.
+-- How a few voices make a column dead, or cost too much, whatever cells the others have.
 use Rattle.std.specs.Prelude.{◌≡◌, ◌≤◌, ◌⊎◌, ℕ, ◌==◌, Bool, true, ◌&&◌, List, [], ◌∷◌, IsSomeAnd, IsTrue, Option, take}
 use Rattle.std.specs.List.{list_any}
 use Rattle.fux_grid.specs.declared.cell.Cell.{Cell}

@@ -1,4 +1,4 @@
-//! Columns that are dead by the cells of a few voices.
+//! Columns that are dead, or cost too much, by the cells of a few voices.
 
 ghost use Rattle.std.specs.Prelude.{◌≡◌, ◌≤◌, ◌<◌, ◌+◌, List, Some, IsSomeAnd, IsTrue, IfSome, length, take};
 ghost use Rattle.std.specs.Bool.{OnTrue};
@@ -64,7 +64,7 @@ fn breaks_one(rules: &[u8], voices: VoiceSet, m: &Moment<'_>) -> bool
     false
 }
 
-/// Whether a voice alone breaks a rule strictly: one of melody. That the lowest ends off the final isn't asked again.
+/// Whether a voice alone breaks a rule strictly: one of melody. Where nothing is relaxed, it doesn't matter which.
 fn breaks_alone(voice: u8, voices: VoiceSet, m: &Moment<'_>) -> bool
     requires low { voice < 4 }
     requires alone { one_voice voices.bits ≡ Some voice }
@@ -80,7 +80,7 @@ fn breaks_alone(voice: u8, voices: VoiceSet, m: &Moment<'_>) -> bool
     breaks_one(&WHERE_IT_STARTS, voices, m)
 }
 
-/// Whether two voices together break a rule strictly, which takes a perfect interval in which both start. What they sound alone isn't asked again.
+/// Whether two voices break a rule strictly by moving together, which takes a perfect interval in which both start.
 fn breaks_together(lower: u8, upper: u8, voices: VoiceSet, m: &Moment<'_>) -> bool
     requires readable { IsReadable m.now }
     ensures { OnTrue result (IsDeadBy voices.bits m.now) }
@@ -112,6 +112,9 @@ fn breaks_with(voice: usize, m: &Moment<'_>) -> bool
     requires readable { IsReadable m.now }
     ensures { OnTrue result (IsDeadWithin (voice + 1) m.now) }
 {
+    if !starts(cell_of(m.column, voice)) {
+        return false;
+    }
     for bits in sets_with(voice) {
         if breaks_by(VoiceSet { bits: *bits }, m) {
             return true;
@@ -156,8 +159,9 @@ fn costs_too_much(limit: Option<u64>, least: u64, sheet: &Sheet, m: &Moment<'_>)
 }
 
 /// How many voices, counted from the lowest, prune a column by their cells alone: then every column with the same cells in these
-/// voices settles a strict break, or costs the limit or more. None where no such reason was found; there may be one all the same.
-/// So many of the lowest voices as have been tried are known to break no rule, and are only asked what they cost. It takes no memory.
+/// voices settles a strict break, or costs the limit or more. None where no such reason was found; there may be one all the same:
+/// what a column sounds isn't asked again, since `is_always_dead` tells of it. So many of the lowest voices as have been tried are
+/// known to break no rule, and are only asked what they cost. It takes no memory.
 pub fn pruned_within(
     ex: &Exercise,
     sheet: &Sheet,
