@@ -1,5 +1,5 @@
 -- Paths of child numbers, and the prefixes that they lead to.
-use Rattle.std.specs.Prelude.{◌≡◌, ℕ, suc, ◌+◌, Bool, true, false, not, ◌&&◌, ◌||◌, nat_lt, nat_le, List, [], ◌∷◌, ◌++◌, Option, Some, None, IsTrue, length, reverse, slice_index_or, if◌then◌else◌, refl}
+use Rattle.std.specs.Prelude.{◌≡◌, ◌≤◌, ◌⊎◌, ℕ, suc, ◌+◌, Bool, true, false, not, ◌&&◌, ◌||◌, nat_lt, nat_le, List, [], ◌∷◌, ◌++◌, Option, Some, None, IsSomeAnd, IsTrue, length, reverse, slice_index_or, if◌then◌else◌, refl}
 use Rattle.std.specs.List.{list_any}
 use Rattle.std.proofs.Common.{ap, sym, ◌∙◌, arith}
 use Rattle.std.proofs.lemmas.List.{length-append}
@@ -16,7 +16,7 @@ use Rattle.rule_law.specs.Law.{first_true, second_true}
 use Rattle.penalty_sheet.specs.declared.sheet.Sheet.{Sheet}
 use Rattle.fux_judge.specs.Rules.{rules_read}
 use Rattle.fux_judge.specs.Penalties.{has_strict_break, paid}
-use Rattle.fux_judge.specs.Grows.{newly_broken, strict_break_grows}
+use Rattle.fux_judge.specs.Grows.{newly_broken, newly_paid, strict_break_grows}
 
 -- the columns on a path from column i on: each number chooses one of the column's menu
 abbrev pub columns_on : Exercise → ℕ → List ℕ → List (List Cell)
@@ -93,9 +93,11 @@ is_in_menus-append ex i (l ∷ path) k =
     ap (λ b. nat_lt l (length (menu_of ex i)) && b) (is_in_menus-append ex (suc i) path k ∙ ap (λ j. is_in_menus ex (suc i) path && nat_lt k (length (menu_of ex j))) e)
     ∙ sym (and_right (nat_lt l (length (menu_of ex i))) (is_in_menus ex (suc i) path) (nat_lt k (length (menu_of ex (i + suc (length path))))))
 
--- a column that may not follow a prefix, or settles a strict break after it
-abbrev pub IsDeadAfter : Exercise → List (List Cell) → List Cell → Type 0
-IsDeadAfter ex p col = ColumnFollows (newest_column (reverse p)) col → list_any (newly_broken ex p col) rules_read ≡ true
+-- a column that may not follow a prefix, settles a strict break after it, or makes it no better than the best leaf, if there is one
+abbrev pub IsPassedAfter : Exercise → Sheet → List (List Cell) → Option ℕ → List Cell → Type 0
+IsPassedAfter ex sheet p best col =
+    ColumnFollows (newest_column (reverse p)) col
+    → (list_any (newly_broken ex p col) rules_read ≡ true) ⊎ IsSomeAnd best (λ value. value ≤ paid ex sheet p + newly_paid ex sheet p col)
 
 -- a path that is longer by a number leads to a live prefix where the path does, it has room, the number is in the menu, and its
 -- column follows and settles no strict break

@@ -1,23 +1,24 @@
 //! The tree of the settings of an exercise.
 
-ghost use Rattle.std.specs.Prelude.{◌≡◌, ◌<◌, ◌≤◌, ℕ, List, [], ◌∷◌, ◌++◌, OnOk, IfOk, IfErr, MatchOption, length, slice_index_or};
+ghost use Rattle.std.specs.Prelude.{◌≡◌, ◌<◌, ◌≤◌, ◌+◌, ℕ, List, [], ◌∷◌, ◌++◌, OnOk, IfOk, IfErr, IsSomeAnd, MatchOption, length, slice_index_or};
 ghost use Rattle.fux_grid.specs.declared.cell.Cell.{Cell as ACell};
 ghost use Rattle.fux_grid.specs.declared.exercise.Exercise.{Exercise as AnExercise};
 ghost use Rattle.fux_grid.specs.Exercises.{IsValid, columns_in, bar_of, slot_of};
 ghost use Rattle.fux_grid.specs.Grid.{items_of};
 ghost use Rattle.fux_grid.specs.Menus.{menu_of};
 ghost use Rattle.species_space.specs.Blocks.{IsBlockMenu, SkipDead, StraysOrDies};
+ghost use Rattle.fux_judge.specs.Penalties.{paid};
 ghost use Rattle.fux_judge.specs.States.{IsStateOf};
 ghost use Rattle.species_space.specs.Grows.{paths_grow};
 ghost use Rattle.species_space.specs.Nodes.{IsNodeOf};
-ghost use Rattle.species_space.specs.Paths.{IsDeadAfter, live_at, width_at};
+ghost use Rattle.species_space.specs.Paths.{IsPassedAfter, live_at, width_at};
 ghost use Rattle.species_space.specs.Task.{SkipsDead, TellsWidth};
 ghost use Rattle.tree_search.specs.Space.{HasChild};
 
 use crate::blocks::{BlockMenu, column_at};
 use crate::node::Node;
 use fux_grid::{Cell, Column, Exercise, MenuFault, Place, cells_follow, menu};
-use fux_judge::{State, dead_within, is_always_dead, step};
+use fux_judge::{State, is_always_dead, pruned_within, step};
 use fux_pitch::Memory;
 use penalty_sheet::Sheet;
 use std::alloc::{AllocFailed, Global};
@@ -182,8 +183,9 @@ impl<'a> Space for SpeciesSpace<'a> {
         child_by(self.exercise, self.sheet, node, k, column)
     }
 
-    fn next_child(&self, node: &Node, from: usize) -> usize {
-        next_undead(self.exercise, node, self.menu(node.state.len()), from)
+    fn next_child(&self, node: &Node, from: usize, best: Option<u64>) -> usize {
+        let menu = self.menu(node.state.len());
+        next_unpruned(self.exercise, self.sheet, node, menu, from, best)
     }
 }
 
@@ -263,8 +265,27 @@ fn next_choice(menu: &BlockMenu, before: &[Cell], from: usize, hint: usize) -> u
     k
 }
 
-/// The first number, from this one on, of a column that may follow and isn't dead by the cells of its lowest voices; the menu's length where there is none.
-fn next_undead(exercise: &Exercise, node: &Node, menu: &BlockMenu, from: usize) -> usize
+/// What a child must cost to be no better than the best leaf, where there is one: so much or more.
+#[inline]
+fn limit_of(best: Option<u64>, paid: u64) -> Option<u64>
+    ensures { (cost : ℕ) → IsSomeAnd result (λ limit. limit ≤ cost) → IsSomeAnd best (λ value. value ≤ paid + cost) }
+{
+    match best {
+        Some(value) => Some(value.saturating_sub(paid)),
+        None => None,
+    }
+}
+
+/// The first number, from this one on, of a column that may follow and isn't pruned by the cells of its lowest voices: they settle no strict
+/// break and don't cost too much to be better than the best. The menu's length where there is none.
+fn next_unpruned(
+    exercise: &Exercise,
+    sheet: &Sheet,
+    node: &Node,
+    menu: &BlockMenu,
+    from: usize,
+    best: Option<u64>,
+) -> usize
     requires valid { IsValid exercise.now }
     requires room { node.now.state.len < columns_in exercise.now }
     requires menu { items_of menu.now.columns.items ≡ menu_of exercise.now node.now.state.len }
@@ -273,21 +294,23 @@ fn next_undead(exercise: &Exercise, node: &Node, menu: &BlockMenu, from: usize) 
     requires within { from ≤ length menu.now.columns.items }
     ensures onward { from ≤ result }
     ensures within { result ≤ length menu.now.columns.items }
-    ensures passed { (p : List (List ACell)) → IsStateOf exercise.now p node.now.state → (k : ℕ) → from ≤ k → k < result → IsDeadAfter exercise.now p (slice_index_or (items_of menu.now.columns.items) k []) }
+    ensures passed { (p : List (List ACell)) → IsStateOf exercise.now p node.now.state → node.now.paid ≡ paid exercise.now sheet.now p → (k : ℕ) → from ≤ k → k < result → IsPassedAfter exercise.now sheet.now p best (slice_index_or (items_of menu.now.columns.items) k []) }
 {
     let before = node.state.before(exercise);
+    let limit = limit_of(best, node.paid);
     let mut k = next_choice(menu, before, from, node.hint);
     let mut tried = menu.lowest_alike(from.saturating_sub(1), k);
     if from == 0 {
         tried = 0;
     }
     while k < menu.columns.len() {
-        let Some(voices) = dead_within(exercise, &node.state, menu.column(k), tried) else {
+        let column = menu.column(k);
+        let Some(voices) = pruned_within(exercise, sheet, &node.state, column, tried, limit) else {
             return k;
         };
-        let dead = k;
+        let pruned = k;
         k = next_choice(menu, before, menu.end_of_agreement(k, voices), node.hint);
-        tried = menu.lowest_alike(dead, k).min(voices - 1);
+        tried = menu.lowest_alike(pruned, k).min(voices - 1);
     }
     k
 }

@@ -1,12 +1,19 @@
-use Rattle.std.proofs.Common.{◌≡◌, ◌<◌, ℕ, [], length, slice_index_or, take, ap, sym, ◌∙◌, subst, arith}
+use Rattle.std.proofs.Common.{◌≡◌, ◌<◌, ◌≤◌, ◌+◌, ◌⊎◌, inl, inr, ℕ, [], length, slice_index_or, take, ap, sym, ◌∙◌, subst, arith}
 use Rattle.std.proofs.lemmas.List.{length-map}
 use Rattle.fux_grid.specs.Columns.{ColumnFollows}
 use Rattle.fux_grid.specs.Grid.{items_of}
 use Rattle.fux_grid.specs.Menus.{menu_of}
 use Rattle.fux_grid.proofs.MenuLemmas.{menu_of-full}
-use Rattle.species_space.specs.Paths.{IsDeadAfter}
+use Rattle.std.specs.Prelude.{IsSomeAnd}
+use Rattle.fux_judge.specs.Grows.{newly_paid}
+use Rattle.fux_judge.specs.Pruning.{IsPruned}
+use Rattle.species_space.specs.Paths.{IsPassedAfter}
 use Rattle.species_space.proofs.Passing.{passed_on}
-use Rattle.species_space.proofs.space.next_undead.Goals as goal
+use Rattle.species_space.proofs.space.next_unpruned.Goals as goal
+
+dead_or_costly : (A B C : Type 0) → (B → C) → A ⊎ B → A ⊎ C
+dead_or_costly A B C f (inl a) = inl a
+dead_or_costly A B C f (inr b) = inr (f b)
 
 pub loop-k-init : goal.loop-k-init
 loop-k-init c =
@@ -15,17 +22,17 @@ loop-k-init c =
     record {
       onward = next.onward;
       within = next.within;
-      passed = λ p st j le lt follows.
-          next.passed c.args.exercise.now c.args.node.now.state.len c.requires.skips.skip j le lt
-          (subst (λ b. ColumnFollows b (slice_index_or (items_of columns) j [])) (sym (c.before-before.ensures p st)) follows) p (sym st.len);
+      passed = λ p st own j le lt follows.
+          inl (next.passed c.args.exercise.now c.args.node.now.state.len c.requires.skips.skip j le lt
+          (subst (λ b. ColumnFollows b (slice_index_or (items_of columns) j [])) (sym (c.before-before.ensures p st)) follows) p (sym st.len));
     }
 
-pub dead_within-requires-clause-full : goal.dead_within-requires-clause-full
-dead_within-requires-clause-full c =
+pub pruned_within-requires-clause-full : goal.pruned_within-requires-clause-full
+pruned_within-requires-clause-full c =
     let columns = c.args.menu.now.columns.items in
     let k = c.loop-k.k in
     let wide : length columns ≡ length (menu_of c.args.exercise.now c.args.node.now.state.len) = sym (length-map columns (λ col. col.items)) ∙ ap length c.requires.menu in
-    ap length c.column.ensures ∙ ap (λ cols. length (slice_index_or cols k [])) c.requires.menu
+    ap length c.column-column.ensures ∙ ap (λ cols. length (slice_index_or cols k [])) c.requires.menu
     ∙ menu_of-full c.args.exercise.now c.args.node.now.state.len k [] (omega (arith, wide, c.loop-k-test.true, c.len.ensures, c.args.menu.now.columns.ok.0))
 
 pub returns-in_default-clause-onward : goal.returns-in_default-clause-onward
@@ -54,14 +61,17 @@ loop-k-preserved c =
     record {
       onward = omega (arith, c.loop-k.invariant.onward, block.onward, next.onward);
       within = next.within;
-      passed = λ p st.
-          let P : ℕ → Type 0 = λ j. IsDeadAfter ex p (slice_index_or menu j []) in
-          passed_on P c.args.from k to (c.loop-k.invariant.passed p st)
+      passed = λ p st own.
+          let sheet = c.args.sheet.now in
+          let P : ℕ → Type 0 = λ j. IsPassedAfter ex sheet p c.args.best (slice_index_or menu j []) in
+          let costly : (j : ℕ) → IsPruned ex sheet p c.limit_of-limit.result (slice_index_or menu j []) → P j = λ j pruned follows.
+          dead_or_costly _ _ _ (λ costs. subst (λ n. IsSomeAnd c.args.best (λ value. value ≤ n + newly_paid ex sheet p (slice_index_or menu j []))) own (c.limit_of-limit.ensures (newly_paid ex sheet p (slice_index_or menu j [])) costs)) pruned in
+          passed_on P c.args.from k to (c.loop-k.invariant.passed p st own)
           (passed_on P k end to
-          (λ j le lt follows. c.in-Some.ensures.dead p st (slice_index_or menu j []) (full j (omega (arith, lt, block.within))) (block.cells j le lt ∙ ap (take c.in-Some.voices) (sym c.column.ensures)))
+          (λ j le lt. costly j (c.in-Some.ensures.pruned p st (slice_index_or menu j []) (full j (omega (arith, lt, block.within))) (block.cells j le lt ∙ ap (take c.in-Some.voices) (sym c.column-column.ensures))))
           (λ j le lt follows.
-          next.passed ex c.args.node.now.state.len c.requires.skips.skip j le lt
-          (subst (λ b. ColumnFollows b (slice_index_or menu j [])) (sym (c.before-before.ensures p st)) follows) p (sym st.len)));
+          inl (next.passed ex c.args.node.now.state.len c.requires.skips.skip j le lt
+          (subst (λ b. ColumnFollows b (slice_index_or menu j [])) (sym (c.before-before.ensures p st)) follows) p (sym st.len))));
     }
 
 pub returns-clause-onward : goal.returns-clause-onward
