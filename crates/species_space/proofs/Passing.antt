@@ -1,5 +1,5 @@
 -- Which columns blocks and holds pass over.
-use Rattle.std.proofs.Common.{◌≡◌, nat_lt, ℕ, zero, suc, ◌+◌, ◌*◌, ◌/◌, ◌<◌, ◌≤◌, Bool, true, false, List, [], ◌∷◌, ◌++◌, replicate, IsTrue, length, slice_index_or, take, refl, ap, sym, ◌∙◌, subst, arith, true≢false}
+use Rattle.std.proofs.Common.{◌≡◌, nat_lt, ℕ, zero, suc, ◌+◌, ◌*◌, ◌/◌, ◌<◌, ◌≤◌, Bool, true, false, not, All, List, [], ◌∷◌, ◌++◌, replicate, IsTrue, length, slice_index_or, take, refl, ap, sym, ◌∙◌, subst, arith, true≢false}
 use Rattle.std.specs.declared.cmp.Ordering.{Ordering}
 use Rattle.std.specs.declared.cmp.Ordering.TheVariants.{Less, Equal}
 use Rattle.std.proofs.Math.Nat.{div-lt_iff_lt-mul, div-mul-le_self, div-one, le-div_iff_mul-le, lt-div-mul-add}
@@ -17,7 +17,7 @@ use Rattle.fux_grid.specs.Menus.{IsAscending}
 use Rattle.fux_grid.proofs.Combinations.{AllPairs-place, IsColumnBefore}
 use Rattle.fux_grid.proofs.OrderLemmas.{column_order-itself}
 use Rattle.rule_law.specs.Law.{below_from_test}
-use Rattle.species_space.specs.Blocks.{AreAlwaysDead, AreOnlyHolds, HasOneWidth, IsBlockEnd, IsNext, KeepsCell, SkipDead, same_cell}
+use Rattle.species_space.specs.Blocks.{AreAlwaysDead, AreOnlyHolds, AreWithoutHolds, HasOneWidth, IsBlockEnd, IsNext, KeepsCell, SkipDead, same_cell}
 
 -- ---- blocks
 
@@ -105,6 +105,32 @@ only_one_follows columns before j k held order full a b follows its =
   where
     apart : {o : Ordering} → o ≡ Equal → o ≡ Less → ⊥
     apart e h = let f : Equal ≡ Less = sym e ∙ h in absurd (cc)
+
+-- ---- columns without holds
+
+free_cells : (before : ℕ → Cell) (cs : List Cell) → All (λ c. IsTrue (not (is_hold c))) cs → (v : ℕ) → IsTrue (cell_follows (before v) (cell_in cs v))
+free_cells before [] free v = refl
+free_cells before (c ∷ cs) free zero = free_cell c (free 0 c (omega arith))
+  where
+    free_cell : (c : Cell) → IsTrue (not (is_hold c)) → IsTrue (cell_follows (before 0) c)
+    free_cell Rest h = refl
+    free_cell (Start p) h = refl
+    free_cell (Hold p) h = cc
+free_cells before (c ∷ cs) free (suc v) = free_cells (λ w. before (suc w)) cs (λ j d lt. free (suc j) d (omega (arith, lt))) v
+
+-- at a menu without holds every column follows
+pub all_are_next : (columns : List (ArrayVec Cell)) (before : List Cell) (from : ℕ) → AreWithoutHolds columns → from ≤ length columns → IsNext (items_of columns) before from from
+all_are_next columns before from free le = record {
+  onward = omega arith;
+  within = omega (arith, le, length-map columns (λ col. col.items));
+  follows = λ lt. at columns from free (omega (arith, lt, length-map columns (λ col. col.items)));
+  passed = λ k a b follows. absurd (omega (arith, a, b));
+}
+  where
+    at : (columns : List (ArrayVec Cell)) (k : ℕ) → AreWithoutHolds columns → k < length columns → ColumnFollows before (slice_index_or (items_of columns) k [])
+    at [] k free lt = absurd (omega arith)
+    at (col ∷ columns) zero free lt = free_cells (cell_in before) col.items (free 0 col (omega arith))
+    at (col ∷ columns) (suc k) free lt = at columns k (λ j d b. free (suc j) d (omega (arith, b))) (omega (arith, lt))
 
 -- ---- a walk by blocks
 

@@ -1,5 +1,5 @@
 -- Menus in blocks, over which voices keep their cells.
-use Rattle.std.specs.Prelude.{◌≡◌, ℕ, ◌*◌, ◌/◌, ◌<◌, ◌≤◌, Bool, true, false, List, [], All, IsTrue, length, slice_index_or, take}
+use Rattle.std.specs.Prelude.{◌≡◌, ℕ, ◌*◌, ◌/◌, ◌<◌, ◌≤◌, Bool, true, false, not, List, [], All, IsTrue, length, slice_index_or, take}
 use Rattle.arrayvec.specs.ArrayVec.{ArrayVec}
 use Rattle.fux_pitch.specs.Pitch.{same_pitch}
 use Rattle.fux_grid.specs.declared.cell.Cell.{Cell}
@@ -32,6 +32,10 @@ KeepsCell menu v size = (k : ℕ) → k < length menu → cell_in (slice_index_o
 abbrev pub AreOnlyHolds : List (ArrayVec Cell) → Type 0
 AreOnlyHolds columns = All (λ col. All (λ c. IsTrue (is_hold c)) col.items) columns
 
+-- no cell of any column is a hold
+abbrev pub AreWithoutHolds : List (ArrayVec Cell) → Type 0
+AreWithoutHolds columns = All (λ col. All (λ c. IsTrue (not (is_hold c))) col.items) columns
+
 -- all columns have as many cells
 abbrev pub HasOneWidth : List (List Cell) → Type 0
 HasOneWidth menu = (voices : ℕ) × All (λ col. length col ≡ voices) menu
@@ -44,6 +48,7 @@ pub record IsBlockMenu (menu : BlockMenu) : Type 0 where
   pub some : (v : ℕ) → v < 4 → 1 ≤ slice_index_or menu.lengths v 0
   pub kept : (v : ℕ) → v < 4 → KeepsCell (items_of menu.columns.items) v (slice_index_or menu.lengths v 0)
   pub holds : IsTrue menu.only_holds → AreOnlyHolds menu.columns.items
+  pub no_holds : IsTrue menu.without_holds → AreWithoutHolds menu.columns.items
 
 -- from a number on up to this end all numbers are of one block
 pub record IsBlockEnd (k size end : ℕ) : Type 0 where

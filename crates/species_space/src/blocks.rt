@@ -1,11 +1,11 @@
 //! Menus in blocks, over which voices keep their cells, so that a search passes over many columns at once.
 
-ghost use Rattle.std.specs.Prelude.{◌≡◌, ◌<◌, ◌≤◌, ◌↔◌, ℕ, [], All, IfNone, IfSome, IsTrue, false, length, slice_index_or};
+ghost use Rattle.std.specs.Prelude.{◌≡◌, ◌<◌, ◌≤◌, ◌↔◌, ℕ, [], All, IfNone, IfSome, IsTrue, false, length, not, slice_index_or};
 ghost use Rattle.fux_grid.specs.Cells.{cell_follows, cell_in, is_hold};
 ghost use Rattle.fux_grid.specs.Columns.{ColumnFollows};
 ghost use Rattle.fux_grid.specs.Grid.{items_of};
 ghost use Rattle.fux_grid.specs.Menus.{IsAscending};
-ghost use Rattle.species_space.specs.Blocks.{Agree, AreOnlyHolds, HasOneWidth, IsBlockEnd, IsBlockMenu, IsNext, KeepsCell, same_cell};
+ghost use Rattle.species_space.specs.Blocks.{Agree, AreOnlyHolds, AreWithoutHolds, HasOneWidth, IsBlockEnd, IsBlockMenu, IsNext, KeepsCell, same_cell};
 
 use fux_grid::{Cell, Column, cell_of, cells_follow};
 
@@ -17,6 +17,8 @@ pub(crate) struct BlockMenu {
     lengths: [u16; 4],
     /// Whether each cell of each column is a hold.
     only_holds: bool,
+    /// Whether no cell of any column is a hold.
+    without_holds: bool,
     /// For each column the number of the first one, from it on, that isn't dead after every prefix.
     undead: Vec<u16>,
 }
@@ -38,20 +40,26 @@ impl BlockMenu {
             block_length(&columns, 3),
         ];
         let only_holds = are_holds(&columns);
+        let without_holds = are_without_holds(&columns);
         BlockMenu {
             columns,
             lengths,
             only_holds,
+            without_holds,
             undead,
         }
     }
 
-    /// The first column, from this number on, that may follow; the menu's length where there is none. At a column of holds at most one may follow, and the hint is tried first.
+    /// The first column, from this number on, that may follow; the menu's length where there is none. Where nothing is held all may follow. At a
+    /// column of holds at most one may follow, and the hint is tried first.
     pub(crate) fn next_that_follows(&self, before: &[Cell], from: usize, hint: usize) -> usize
         requires cut { IsBlockMenu self.now }
         requires within { from ≤ length self.now.columns.items }
         ensures { IsNext (items_of self.now.columns.items) before.now from result }
     {
+        if self.without_holds {
+            return from;
+        }
         if !self.is_held(before, hint) {
             return self.next_in_blocks(before, from);
         }
@@ -249,4 +257,20 @@ fn are_holds(columns: &[Column]) -> bool
     columns
         .iter()
         .all(|column| is_held_column(column.as_slice()))
+}
+
+/// Whether no cell of a column is a hold.
+fn is_without_holds(column: &[Cell]) -> bool
+    ensures { IsTrue result ↔ All (λ c. IsTrue (not (is_hold c))) column.now }
+{
+    column.iter().all(|cell| !cell.is_hold())
+}
+
+/// Whether no cell of any column is a hold.
+fn are_without_holds(columns: &[Column]) -> bool
+    ensures { IsTrue result ↔ AreWithoutHolds columns.now }
+{
+    columns
+        .iter()
+        .all(|column| is_without_holds(column.as_slice()))
 }

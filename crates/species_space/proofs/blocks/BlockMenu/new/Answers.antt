@@ -2,7 +2,7 @@ use Rattle.std.proofs.Common.{ℕ, ◌≤◌, List, subst}
 use Rattle.arrayvec.specs.ArrayVec.{ArrayVec}
 use Rattle.fux_grid.specs.declared.cell.Cell.{Cell}
 use Rattle.fux_grid.specs.Grid.{items_of}
-use Rattle.species_space.specs.Blocks.{AreOnlyHolds, KeepsCell}
+use Rattle.species_space.specs.Blocks.{AreOnlyHolds, AreWithoutHolds, KeepsCell}
 use Rattle.species_space.proofs.Passing.{four}
 use Rattle.species_space.proofs.blocks.BlockMenu.new.Goals as goal
 
@@ -25,4 +25,5 @@ returns-clause-cut c =
           (subst (P 2 d) c.deref-3.ensures.value c.block_length-3.ensures.kept)
           (subst (P 3 e) c.deref-4.ensures.value c.block_length-4.ensures.kept);
       holds = λ h. subst AreOnlyHolds c.deref-5.ensures.value (c.are_holds-only_holds.ensures.0 h);
+      no_holds = λ h. subst AreWithoutHolds c.deref-6.ensures.value (c.are_without_holds-without_holds.ensures.0 h);
     }
