@@ -1,5 +1,6 @@
 pub mod Alive
 pub mod Children
 pub mod MenuSteps
+pub mod SameMenus
 pub mod Passing
 pub mod PathSteps

@@ -1,5 +1,5 @@
 -- What a space is of, and what it keeps.
-use Rattle.std.specs.Prelude.{◌≡◌, ℕ, ◌<◌, ◌≤◌, List, length, slice_index_or, ⊤}
+use Rattle.std.specs.Prelude.{◌≡◌, ℕ, ◌<◌, ◌≤◌, List, All, length, slice_index_or, ⊤}
 use Rattle.fux_grid.specs.declared.exercise.Exercise.{Exercise}
 use Rattle.fux_grid.specs.declared.exercise.Place.{Place}
 use Rattle.fux_grid.specs.Exercises.{IsValid, columns_in, bar_of, slot_of}
@@ -21,18 +21,19 @@ pub record SkipsDead (ex : Exercise) (i : ℕ) (menu : BlockMenu) : Type 0 where
   pub counted : length menu.undead.items ≡ length menu.columns.items
   pub skip : SkipDead ex i (items_of menu.columns.items) menu.undead.items
 
--- the menus of the first columns in blocks, none of them too wide
-pub record AreMenus (ex : Exercise) (menus : List BlockMenu) : Type 0 where
-  pub exact : (i : ℕ) (d : BlockMenu) → i < length menus → items_of (slice_index_or menus i d).columns.items ≡ menu_of ex i
-  pub blocks : (i : ℕ) (d : BlockMenu) → i < length menus → IsBlockMenu (slice_index_or menus i d)
-  pub skips : (i : ℕ) (d : BlockMenu) → i < length menus → SkipsDead ex i (slice_index_or menus i d)
-  pub narrow : (i : ℕ) → i < length menus → length (menu_of ex i) ≤ 8192
+-- for each of the first columns the number of its menu among some in blocks, none of them too wide
+pub record AreMenus (ex : Exercise) (menus : List BlockMenu) (numbers : List ℕ) : Type 0 where
+  pub named : (i : ℕ) → i < length numbers → slice_index_or numbers i 0 < length menus
+  pub exact : (i : ℕ) (d : BlockMenu) → i < length numbers → items_of (slice_index_or menus (slice_index_or numbers i 0) d).columns.items ≡ menu_of ex i
+  pub blocks : All IsBlockMenu menus
+  pub skips : (i : ℕ) (d : BlockMenu) → i < length numbers → SkipsDead ex i (slice_index_or menus (slice_index_or numbers i 0) d)
+  pub narrow : (i : ℕ) → i < length numbers → length (menu_of ex i) ≤ 8192
 
 -- a valid exercise with the menus of all its columns
-pub record IsReady (ex : Exercise) (menus : List BlockMenu) : Type 0 where
+pub record IsReady (ex : Exercise) (menus : List BlockMenu) (numbers : List ℕ) : Type 0 where
   pub valid : IsValid ex
-  pub counted : length menus ≡ columns_in ex
-  pub kept : AreMenus ex menus
+  pub counted : length numbers ≡ columns_in ex
+  pub kept : AreMenus ex menus numbers
 
 -- the place of the first column whose menu is too wide, and how many columns that menu has
 pub record IsTooWide (ex : Exercise) (place : Place) (count : ℕ) : Type 0 where

@@ -50,6 +50,13 @@ impl BlockMenu {
         }
     }
 
+    /// Whether a menu has these columns and these numbers.
+    pub(crate) fn is_of(&self, columns: &[Column], undead: &[u16]) -> bool
+        ensures { IsTrue result ↔ (self.now.columns.items ≡ columns.now) × (self.now.undead.items ≡ undead.now) }
+    {
+        self.undead.as_slice() == undead && self.columns.as_slice() == columns
+    }
+
     /// The first column, from this number on, that may follow; the menu's length where there is none. Where nothing is held all may follow. At a
     /// column of holds at most one may follow, and the hint is tried first.
     pub(crate) fn next_that_follows(&self, before: &[Cell], from: usize, hint: usize) -> usize

@@ -1,13 +1,14 @@
 //! The tree of the settings of an exercise.
 
-ghost use Rattle.std.specs.Prelude.{◌≡◌, ◌<◌, ◌≤◌, ◌+◌, ℕ, List, [], ◌∷◌, ◌++◌, OnOk, IfOk, IfErr, IsSomeAnd, MatchOption, length, slice_index_or};
+ghost use Rattle.std.specs.Prelude.{◌≡◌, ◌<◌, ◌≤◌, ◌+◌, ℕ, List, [], ◌∷◌, ◌++◌, OnOk, IfOk, IfErr, IsSomeAnd, MatchOption, length, slice_index_or, All, vec_capacity};
 ghost use Rattle.fux_grid.specs.declared.cell.Cell.{Cell as ACell};
 ghost use Rattle.fux_grid.specs.declared.exercise.Exercise.{Exercise as AnExercise};
 ghost use Rattle.fux_grid.specs.Exercises.{IsValid, columns_in, bar_of, slot_of};
 ghost use Rattle.fux_grid.specs.Grid.{items_of};
-ghost use Rattle.fux_grid.specs.Menus.{menu_of};
-ghost use Rattle.species_space.specs.Blocks.{IsBlockMenu, SkipDead, StraysOrDies};
+ghost use Rattle.fux_grid.specs.Menus.{menu_of, IsAscending};
+ghost use Rattle.species_space.specs.Blocks.{IsBlockMenu, SkipDead, StraysOrDies, HasOneWidth};
 ghost use Rattle.fux_judge.specs.Penalties.{paid};
+ghost use Rattle.species_space.specs.declared.blocks.BlockMenu.{BlockMenu as ABlockMenu};
 ghost use Rattle.fux_judge.specs.States.{IsStateOf};
 ghost use Rattle.species_space.specs.Grows.{paths_grow};
 ghost use Rattle.species_space.specs.Nodes.{IsNodeOf};
@@ -40,7 +41,10 @@ pub enum TableFault {
 pub struct SpeciesSpace<'a> {
     exercise: &'a Exercise,
     sheet: &'a Sheet,
+    /// Where the menus of one column after the other are equal, one stands for them all.
     menus: Vec<BlockMenu>,
+    /// For each column the number of its menu.
+    menu_of_column: Vec<u8>,
 }
 
 impl<'a> Model for SpeciesSpace<'a> {
@@ -50,7 +54,7 @@ impl<'a> Model for SpeciesSpace<'a> {
 
     ghost view = { λ s. record { exercise = s.exercise.now; sheet = s.sheet.now } };
 
-    ghost invariant = { λ s. IsReady s.exercise.now s.menus.items };
+    ghost invariant = { λ s. IsReady s.exercise.now s.menus.items s.menu_of_column.items };
 }
 
 /// The place of a column.
@@ -94,27 +98,16 @@ impl<'a> SpeciesSpace<'a> {
     {
         let columns = 8 * exercise.bars as usize;
         let mut menus = Vec::with_capacity(alloc, columns).map_err(|_| TableFault::Memory)?;
+        let mut numbers = Vec::with_capacity(alloc, columns).map_err(|_| TableFault::Memory)?;
         for i in 0..columns {
-            match menu(alloc, exercise, i) {
-                Ok(choices) => {
-                    let Ok(undead) = undead_numbers(alloc, exercise, i, &choices) else {
-                        return Err(TableFault::Memory);
-                    };
-                    menus.push_reserved(BlockMenu::new(choices, undead));
-                }
-                Err(MenuFault::TooWide { count }) => {
-                    return Err(TableFault::TooWide {
-                        place: place_of(i),
-                        count,
-                    });
-                }
-                Err(MenuFault::Memory) => return Err(TableFault::Memory),
-            }
+            let (choices, undead) = choices_at(alloc, exercise, i)?;
+            numbers.push_reserved(number_of(&mut menus, choices, undead));
         }
         Ok(SpeciesSpace {
             exercise,
             sheet,
             menus,
+            menu_of_column: numbers,
         })
     }
 
@@ -133,7 +126,7 @@ impl<'a> SpeciesSpace<'a> {
         requires within { k < length (menu_of self.now.exercise i) }
         ensures { result.now.items ≡ slice_index_or (menu_of self.now.exercise i) k [] }
     {
-        &self.menus[i].columns[k]
+        self.menu(i).column(k)
     }
 
     /// The menu of column i.
@@ -143,7 +136,7 @@ impl<'a> SpeciesSpace<'a> {
         ensures cut { IsBlockMenu result.now }
         ensures skips { SkipsDead self.now.exercise i result.now }
     {
-        &self.menus[i]
+        &self.menus[self.menu_of_column[i] as usize]
     }
 }
 
@@ -187,6 +180,61 @@ impl<'a> Space for SpeciesSpace<'a> {
         let menu = self.menu(node.state.len());
         next_unpruned(self.exercise, self.sheet, node, menu, from, best)
     }
+}
+
+/// The menu of column i, and for each of its columns the number of the first one, from it on, that isn't dead after every prefix.
+fn choices_at(
+    alloc: Global,
+    exercise: &Exercise,
+    i: usize,
+) -> Result<(Vec<Column>, Vec<u16>), TableFault>
+    requires valid { IsValid exercise.now }
+    requires place { i < columns_in exercise.now }
+    requires first { (earlier : ℕ) → earlier < i → length (menu_of exercise.now earlier) ≤ 8192 }
+    ensures value { IfOk result (λ found. items_of found.0.items ≡ menu_of exercise.now i) }
+    ensures narrow { IfOk result (λ found. length found.0.items ≤ 8192) }
+    ensures order { IfOk result (λ found. IsAscending (items_of found.0.items)) }
+    ensures counted { IfOk result (λ found. length found.1.items ≡ length found.0.items) }
+    ensures skip { IfOk result (λ found. SkipDead exercise.now i (items_of found.0.items) found.1.items) }
+    ensures wide { IfErr result (TellsWidth exercise.now) }
+{
+    match menu(alloc, exercise, i) {
+        Ok(choices) => {
+            let Ok(undead) = undead_numbers(alloc, exercise, i, &choices) else {
+                return Err(TableFault::Memory);
+            };
+            Ok((choices, undead))
+        }
+        Err(MenuFault::TooWide { count }) => Err(TableFault::TooWide {
+            place: place_of(i),
+            count,
+        }),
+        Err(MenuFault::Memory) => Err(TableFault::Memory),
+    }
+}
+
+/// The number of the menu of these columns, which is put behind the others unless it is the last one over again.
+fn number_of(menus: &mut Vec<BlockMenu>, columns: Vec<Column>, undead: Vec<u16>) -> u8
+    requires few { length columns.items ≤ 8192 }
+    requires order { IsAscending (items_of columns.items) }
+    requires full { HasOneWidth (items_of columns.items) }
+    requires room { length menus.old.items < vec_capacity menus.old }
+    requires small { length menus.old.items < 192 }
+    requires cut { All IsBlockMenu menus.old.items }
+    ensures room { vec_capacity menus.new ≡ vec_capacity menus.old }
+    ensures within { result < length menus.new.items }
+    ensures columns { (d : ABlockMenu) → (slice_index_or menus.new.items result d).columns.items ≡ columns.items }
+    ensures undead { (d : ABlockMenu) → (slice_index_or menus.new.items result d).undead.items ≡ undead.items }
+    ensures cut { All IsBlockMenu menus.new.items }
+    ensures kept { (k : ℕ) (d : ABlockMenu) → k < length menus.old.items → slice_index_or menus.new.items k d ≡ slice_index_or menus.old.items k d }
+    ensures more { (length menus.old.items ≤ length menus.new.items) × (length menus.new.items ≤ length menus.old.items + 1) }
+{
+    let count = menus.len();
+    if count > 0 && menus[count - 1].is_of(&columns, &undead) {
+        return (count - 1) as u8;
+    }
+    menus.push_reserved(BlockMenu::new(columns, undead));
+    count as u8
 }
 
 /// The child of this number and column, with its floor, where it is live.
