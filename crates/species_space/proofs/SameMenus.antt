@@ -1,11 +1,9 @@
 -- What a test for equal menus tells.
-use Rattle.std.proofs.Common.{◌≡◌, ℕ, Bool, true, ◌==◌, ◌↔◌, Decides, IsTrue, List, refl, ap, sym, ◌∙◌}
+use Rattle.std.proofs.Common.{◌≡◌, ℕ, Bool, true, ◌==◌, Decides, List, refl, ap, sym, ◌∙◌}
 use Rattle.std.specs.Cmp.Lexicographic.{pointwise}
 use Rattle.std.proofs.lemmas.Bool.Decides.{Decides-eqb}
 use Rattle.std.proofs.lemmas.Slice.Eq.{slice_eq-Decides}
 use Rattle.arrayvec.specs.ArrayVec.{ArrayVec}
-use Rattle.fux_pitch.specs.declared.pitch.Pitch.{Pitch}
-use Rattle.fux_pitch.specs.Pitch.{same_pitch}
 use Rattle.fux_grid.specs.declared.cell.Cell.{Cell}
 use Rattle.fux_grid.specs.declared.cell.Cell.TheVariants.{Rest, Hold, Start}
 use Rattle.fux_grid.specs.contracts.cell.CellPartialEq.TheImpl.{ghosts}

@@ -42,9 +42,9 @@ pub struct SpeciesSpace<'a> {
     exercise: &'a Exercise,
     sheet: &'a Sheet,
     /// Where the menus of one column after the other are equal, one stands for them all.
-    menus: Vec<BlockMenu>,
+    pub(crate) menus: Vec<BlockMenu>,
     /// For each column the number of its menu.
-    menu_of_column: Vec<u8>,
+    pub(crate) menu_of_column: Vec<u8>,
 }
 
 impl<'a> Model for SpeciesSpace<'a> {

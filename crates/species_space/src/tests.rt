@@ -406,3 +406,22 @@ fn finds_each_column_that_follows(rt: HostRuntime) -> Result<(), Fail> {
     }
     Ok(())
 }
+
+/// For the columns of a bar of the voices of `FOLLOWERS` the numbers of their menus. In species 1 all slots but slot 0 have the same cells; in species 5 slots 2 and 3 have, and slots 6 and 7.
+const NUMBERS: [(u8, [u8; 8]); 2] = [(1, [0, 1, 1, 1, 1, 1, 1, 1]), (5, [0, 1, 2, 2, 3, 4, 5, 5])];
+
+#[test]
+fn keeps_equal_menus_once(rt: HostRuntime) -> Result<(), Fail> {
+    for (species, numbers) in NUMBERS {
+        let exercise = four_voices(rt.alloc(), species)?;
+        assert!(rt; exercise.is_valid());
+        let Ok(space) = SpeciesSpace::in_one_thread(rt.alloc(), &exercise, &FIRST_SHEET) else {
+            return Err("no tables".into());
+        };
+        assert_eq!(rt; &space.menu_of_column[..8], numbers.as_slice(), "{species}");
+        if species == 1 {
+            assert_eq!(rt; space.menus.len(), 6);
+        }
+    }
+    Ok(())
+}

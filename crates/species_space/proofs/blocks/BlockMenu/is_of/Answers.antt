@@ -1,4 +1,4 @@
-use Rattle.std.proofs.Common.{◌≡◌, IsTrue, ap, sym, ◌∙◌}
+use Rattle.std.proofs.Common.{sym, ◌∙◌}
 use Rattle.species_space.proofs.SameMenus.{menus-Decides, numbers-Decides}
 use Rattle.species_space.proofs.blocks.BlockMenu.is_of.Goals as goal
 
