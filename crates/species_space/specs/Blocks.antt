@@ -50,6 +50,11 @@ pub record IsBlockMenu (menu : BlockMenu) : Type 0 where
   pub holds : IsTrue menu.only_holds → AreOnlyHolds menu.columns.items
   pub no_holds : IsTrue menu.without_holds → AreWithoutHolds menu.columns.items
 
+-- a menu has these columns, and these numbers for them
+pub record IsMadeOf (menu : BlockMenu) (cols : List (ArrayVec Cell)) (numbers : List ℕ) : Type 0 where
+  pub columns : menu.columns.items ≡ cols
+  pub undead : menu.undead.items ≡ numbers
+
 -- from a number on up to this end all numbers are of one block
 pub record IsBlockEnd (k size end : ℕ) : Type 0 where
   pub onward : k < end

@@ -5,7 +5,7 @@ ghost use Rattle.fux_grid.specs.Cells.{cell_follows, cell_in, is_hold};
 ghost use Rattle.fux_grid.specs.Columns.{ColumnFollows};
 ghost use Rattle.fux_grid.specs.Grid.{items_of};
 ghost use Rattle.fux_grid.specs.Menus.{IsAscending};
-ghost use Rattle.species_space.specs.Blocks.{Agree, AreOnlyHolds, AreWithoutHolds, HasOneWidth, IsBlockEnd, IsBlockMenu, IsNext, KeepsCell, same_cell};
+ghost use Rattle.species_space.specs.Blocks.{Agree, AreOnlyHolds, AreWithoutHolds, HasOneWidth, IsBlockEnd, IsBlockMenu, IsNext, KeepsCell, same_cell, IsMadeOf};
 
 use fux_grid::{Cell, Column, cell_of, cells_follow};
 
@@ -50,9 +50,9 @@ impl BlockMenu {
         }
     }
 
-    /// Whether a menu has these columns and these numbers.
-    pub(crate) fn is_of(&self, columns: &[Column], undead: &[u16]) -> bool
-        ensures { IsTrue result ↔ (self.now.columns.items ≡ columns.now) × (self.now.undead.items ≡ undead.now) }
+    /// Whether a menu is made of these columns and these numbers.
+    pub(crate) fn is_made_of(&self, columns: &[Column], undead: &[u16]) -> bool
+        ensures { IsTrue result ↔ IsMadeOf self.now columns.now undead.now }
     {
         self.undead.as_slice() == undead && self.columns.as_slice() == columns
     }

@@ -1,12 +1,12 @@
 //! The tree of the settings of an exercise.
 
-ghost use Rattle.std.specs.Prelude.{◌≡◌, ◌<◌, ◌≤◌, ◌+◌, ℕ, List, [], ◌∷◌, ◌++◌, OnOk, IfOk, IfErr, IsSomeAnd, MatchOption, length, slice_index_or, All, vec_capacity};
+ghost use Rattle.std.specs.Prelude.{◌≡◌, ◌<◌, ◌≤◌, ◌+◌, ℕ, List, [], ◌∷◌, ◌++◌, OnOk, IfOk, IfErr, IsSomeAnd, MatchOption, length, slice_index_or, All, vec_capacity, ◌-◌};
 ghost use Rattle.fux_grid.specs.declared.cell.Cell.{Cell as ACell};
 ghost use Rattle.fux_grid.specs.declared.exercise.Exercise.{Exercise as AnExercise};
 ghost use Rattle.fux_grid.specs.Exercises.{IsValid, columns_in, bar_of, slot_of};
 ghost use Rattle.fux_grid.specs.Grid.{items_of};
 ghost use Rattle.fux_grid.specs.Menus.{menu_of, IsAscending};
-ghost use Rattle.species_space.specs.Blocks.{IsBlockMenu, SkipDead, StraysOrDies, HasOneWidth};
+ghost use Rattle.species_space.specs.Blocks.{IsBlockMenu, SkipDead, StraysOrDies, HasOneWidth, IsMadeOf};
 ghost use Rattle.fux_judge.specs.Penalties.{paid};
 ghost use Rattle.species_space.specs.declared.blocks.BlockMenu.{BlockMenu as ABlockMenu};
 ghost use Rattle.fux_judge.specs.States.{IsStateOf};
@@ -223,14 +223,14 @@ fn number_of(menus: &mut Vec<BlockMenu>, columns: Vec<Column>, undead: Vec<u16>)
     requires cut { All IsBlockMenu menus.old.items }
     ensures room { vec_capacity menus.new ≡ vec_capacity menus.old }
     ensures within { result < length menus.new.items }
-    ensures columns { (d : ABlockMenu) → (slice_index_or menus.new.items result d).columns.items ≡ columns.items }
-    ensures undead { (d : ABlockMenu) → (slice_index_or menus.new.items result d).undead.items ≡ undead.items }
+    ensures made { (d : ABlockMenu) → IsMadeOf (slice_index_or menus.new.items result d) columns.items undead.items }
     ensures cut { All IsBlockMenu menus.new.items }
     ensures kept { (k : ℕ) (d : ABlockMenu) → k < length menus.old.items → slice_index_or menus.new.items k d ≡ slice_index_or menus.old.items k d }
     ensures more { (length menus.old.items ≤ length menus.new.items) × (length menus.new.items ≤ length menus.old.items + 1) }
+    ensures once { (d : ABlockMenu) → 0 < length menus.old.items → IsMadeOf (slice_index_or menus.old.items (length menus.old.items - 1) d) columns.items undead.items → menus.new.items ≡ menus.old.items }
 {
     let count = menus.len();
-    if count > 0 && menus[count - 1].is_of(&columns, &undead) {
+    if count > 0 && menus[count - 1].is_made_of(&columns, &undead) {
         return (count - 1) as u8;
     }
     menus.push_reserved(BlockMenu::new(columns, undead));

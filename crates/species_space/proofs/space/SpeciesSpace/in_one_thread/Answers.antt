@@ -27,13 +27,13 @@ loop-i-preserved c =
     let named = c.number_of.ensures in
     let pushed = c.push_reserved.ensures.items in
     let here : i ≡ length numbers = sym old.counted in
-    let value : (d : BlockMenu) → items_of (slice_index_or more number d).columns.items ≡ menu_of ex (length numbers) = λ d. ap items_of (named.columns d) ∙ found.value ∙ ap (menu_of ex) here in
+    let value : (d : BlockMenu) → items_of (slice_index_or more number d).columns.items ≡ menu_of ex (length numbers) = λ d. ap items_of (named.made d).columns ∙ found.value ∙ ap (menu_of ex) here in
     let wide : length choices ≡ length (menu_of ex (length numbers)) = sym (length-map choices (λ col. col.items)) ∙ ap length (found.value ∙ ap (menu_of ex) here) in
     let skips : (d : BlockMenu) → SkipsDead ex (length numbers) (slice_index_or more number d) = λ d. record {
-      counted = ap length (named.undead d) ∙ found.counted ∙ sym (ap length (named.columns d));
+      counted = ap length (named.made d).undead ∙ found.counted ∙ sym (ap length (named.made d).columns);
       skip = subst (λ n. SkipDead ex n (items_of (slice_index_or more number d).columns.items) (slice_index_or more number d).undead.items) here
-          (subst (λ columns. SkipDead ex i (items_of columns) (slice_index_or more number d).undead.items) (sym (named.columns d))
-          (subst (SkipDead ex i (items_of choices)) (sym (named.undead d)) found.skip));
+          (subst (λ columns. SkipDead ex i (items_of columns) (slice_index_or more number d).undead.items) (sym (named.made d).columns)
+          (subst (SkipDead ex i (items_of choices)) (sym (named.made d).undead) found.skip));
     } in
     record {
       room = named.room ∙ old.room;
