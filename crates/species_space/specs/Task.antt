@@ -21,7 +21,7 @@ pub record SkipsDead (ex : Exercise) (i : ℕ) (menu : BlockMenu) : Type 0 where
   pub counted : length menu.undead.items ≡ length menu.columns.items
   pub skip : SkipDead ex i (items_of menu.columns.items) menu.undead.items
 
--- for each of the first columns the number of its menu among some in blocks, none of them too wide
+-- menus in blocks, and for each of the first columns the number of its own, none of them too wide
 pub record AreMenus (ex : Exercise) (menus : List BlockMenu) (numbers : List ℕ) : Type 0 where
   pub named : (i : ℕ) → i < length numbers → slice_index_or numbers i 0 < length menus
   pub exact : (i : ℕ) (d : BlockMenu) → i < length numbers → items_of (slice_index_or menus (slice_index_or numbers i 0) d).columns.items ≡ menu_of ex i
