@@ -2,7 +2,7 @@
 
 ghost use Rattle.std.specs.Prelude.{pos, negsuc, ◌≤ℤ◌};
 
-use crate::{
+use fux_pitch::{
     Interval, Label, List, Memory, Mode, Pitch, final_letter, in_gamut, interval_of, is_consonant,
     is_imperfect, is_perfect, leading, name, parse_pitch, reduce, semitone, spell,
 };
