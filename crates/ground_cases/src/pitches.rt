@@ -33,7 +33,7 @@ fn pitches_have_keys(rt: HostRuntime) {
     ];
     for (degree, alter, key) in rows {
         assert_eq!(rt;
-            Pitch::new(degree, alter).map(semitone),
+            Pitch::new(degree, alter).map(|pitch| semitone(pitch)),
             key,
             "degree {degree}, alteration {alter}"
         );
