@@ -1,5 +1,5 @@
 -- What a search may take for granted of a tree.
-use Rattle.std.specs.Prelude.{◌≡◌, ℕ, ◌<◌, ◌≤◌, ◌++◌, ◌∷◌, [], List, Option, Some, IsSomeAnd, length}
+use Rattle.std.specs.Prelude.{◌≡◌, ℕ, ◌<◌, ◌≤◌, ◌++◌, ◌∷◌, [], List, Option, Some, IsSome, IsSomeAnd, length}
 
 -- the node is at a path to no leaf
 pub record IsInner (is_at : List ℕ → Type 0) (height : ℕ) : Type 0 where
@@ -13,6 +13,12 @@ pub record HasChild (is_at : List ℕ → Type 0) (height : ℕ) (width : List �
   pub at : is_at path
   pub above : length path < height
   pub within : child < width path
+
+-- the node is at a path with a live child of this number
+pub record HasLiveChild (is_at : List ℕ → Type 0) (live : List ℕ → Option ℕ) (child : ℕ) : Type 0 where
+  pub path : List ℕ
+  pub at : is_at path
+  pub is_live : IsSome (live (path ++ child ∷ []))
 
 -- each child from one number up to another is dead or no better than the best leaf so far: its floor is no lower than that leaf's value
 abbrev pub AreNoBetter : (List ℕ → Option ℕ) → List ℕ → Option ℕ → ℕ → ℕ → Type 0

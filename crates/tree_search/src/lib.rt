@@ -2,6 +2,8 @@
 #![tactic(auto)]
 
 mod depth;
+mod links;
+mod trail;
 mod outcome;
 mod space;
 
