@@ -4,3 +4,8 @@ pub mod Counts
 pub mod Opened
 pub mod Arena
 pub mod Trails
+pub mod Waits
+pub mod Frontier
+pub mod Loads
+pub mod Entered
+pub mod Searches

@@ -5,3 +5,4 @@ pub mod Walks
 pub mod Links
 pub mod Entries
 pub mod Trails
+pub mod Fronts

@@ -2,11 +2,13 @@
 #![tactic(auto)]
 
 mod depth;
+mod front;
 mod links;
 mod trail;
 mod outcome;
 mod space;
 
 pub use depth::search_depth;
+pub use front::search_front;
 pub use outcome::Outcome;
 pub use space::Space;
