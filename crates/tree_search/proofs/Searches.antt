@@ -51,7 +51,7 @@ best_met live height f best best' best_path best_path' path own is one leaf =
         (subst (λ (p : List ℕ). IsLeaf live height p f) (sym e) (subst (λ (w : ℕ). IsLeaf live height best_path w) (sym own.1) own.0), refl)
 
 module _ {live : List ℕ → Option ℕ} {width : List ℕ → ℕ} {height : ℕ} (grows : FloorsGrow live width height)
-    (links : List Link) (waiting : List Entry) (best : Option ℕ) (best_path : List ℕ) (c k : ℕ)
+    {links : List Link} {waiting : List Entry} {best : Option ℕ} {best_path : List ℕ} {c k : ℕ}
     (search : IsSearch live height links waiting best best_path (λ i. i ≡ c) (floor_in live links c))
     (opening : IsOpening live (length links + 1) (path_in links) (λ i. times i (numbers waiting)) c k) where
   -- past children that are dead
@@ -85,10 +85,7 @@ module _ {live : List ℕ → Option ℕ} {width : List ℕ → ℕ} {height : �
     floors = search.floors;
   }
 
-  module _ (waiting' : List Entry) (f : ℕ) (added : IsPermutation ((record { 0 = f }, length links + 1) ∷ waiting) waiting') where
-    link : Link
-    link = record { parent = c; child = k }
-
+  module _ {waiting' : List Entry} {f : ℕ} (added : IsPermutation ((record { 0 = f }, length links + 1) ∷ waiting) waiting') where
     earlier : (i : ℕ) → i < length links + 1 → path_in (links ++ record { parent = c; child = k } ∷ []) i ≡ path_in links i
     earlier i within = path_in-earlier links (record { parent = c; child = k }) i (omega (arith, within))
 
@@ -165,7 +162,7 @@ times_empty [] e i some = omega (arith, some)
 times_empty (x ∷ xs) e i some = cc
 
 module _ {live : List ℕ → Option ℕ} {width : List ℕ → ℕ} {height : ℕ} (grows : FloorsGrow live width height)
-    (links : List Link) (waiting : List Entry) (best : Option ℕ) (best_path : List ℕ) (reached : ℕ)
+    {links : List Link} {waiting : List Entry} {best : Option ℕ} {best_path : List ℕ} {reached : ℕ}
     (search : IsSearch live height links waiting best best_path (λ _. ⊥) reached) where
   first_below : (v : ℕ) → best ≡ Some v → ((i : ℕ) → 0 < times i (numbers waiting) → v < floor_in live links i) → IsFirstLeast live height best_path v
   first_below v is higher =
@@ -213,7 +210,7 @@ module _ {live : List ℕ → Option ℕ} {width : List ℕ → ℕ} {height : �
         omega (arith, room, at_most_live grows search.front (λ i within open_yet. ⊎_elim (times_empty waiting empty i) (λ never. never) open_yet) paths differ kind)
 
   -- an entry of least floor is taken
-  module _ (waiting' : List Entry) (f c : ℕ) (taken : IsPermutation waiting ((record { 0 = f }, c) ∷ waiting')) (least : All (λ other. f ≤ other.0.0) waiting') where
+  module _ {waiting' : List Entry} {f c : ℕ} (taken : IsPermutation waiting ((record { 0 = f }, c) ∷ waiting')) (least : All (λ other. f ≤ other.0.0) waiting') where
     moved : IsPermutation (numbers waiting) (c ∷ numbers waiting')
     moved = numbers-permutation waiting ((record { 0 = f }, c) ∷ waiting') taken
 
@@ -306,7 +303,7 @@ module _ {live : List ℕ → Option ℕ} {width : List ℕ → ℕ} {height : �
       IsOpen-first heap = (IsSearch-pop heap, IsOpening-pop grows search.front (λ i. times i (numbers waiting')) c waits none)
 
 -- the root alone
-pub IsClosed-root : (live : List ℕ → Option ℕ) (height f : ℕ) (waiting : List Entry) (best_path : List ℕ) → live [] ≡ Some f → length best_path ≡ height →
+IsClosed-root : (live : List ℕ → Option ℕ) (height f : ℕ) (waiting : List Entry) (best_path : List ℕ) → live [] ≡ Some f → length best_path ≡ height →
     IsHeap entry_cmp waiting → IsPermutation ((record { 0 = f }, 0) ∷ []) waiting → IsSearch live height [] waiting None best_path (λ _. ⊥) f
 IsClosed-root live height f waiting best_path is long heap added =
     let moved = numbers-permutation ((record { 0 = f }, 0) ∷ []) waiting added in
@@ -336,3 +333,9 @@ IsClosed-root live height f waiting best_path is long heap added =
       heap = heap;
       floors = HaveFloors-add live [] [] f 0 [] waiting is (λ i within. refl) (λ k d inside. absurd (omega (arith, inside))) (λ k d inside. absurd (omega (arith, inside))) added;
     }
+
+pub starts : (live : List ℕ → Option ℕ) (height f : ℕ) (links : List Link) (waiting : List Entry) (best : Option ℕ) (best_path : List ℕ) →
+    live [] ≡ Some f → links ≡ [] → best ≡ None → length best_path ≡ height → IsHeap entry_cmp waiting → IsPermutation ((record { 0 = f }, 0) ∷ []) waiting →
+    (reached : ℕ) × IsSearch live height links waiting best best_path (λ _. ⊥) reached
+starts live height f links waiting best best_path is a b long heap added =
+    (f, rw (a, b) (IsClosed-root live height f waiting best_path is long heap added))

@@ -1,7 +1,6 @@
 use Rattle.std.proofs.Common.{◌+◌, ℕ, List, Vec, Global, length, refl, ap, ◌∙◌, arith}
 use Rattle.std.proofs.lemmas.List.{length_push}
 use Rattle.std.proofs.lemmas.List.Sorted.{length_permutation}
-use Rattle.std.specs.BinaryHeap.{heap_items}
 use Rattle.tree_search.specs.declared.links.Link.{Link}
 use Rattle.tree_search.proofs.Loads.{many_loaded}
 use Rattle.tree_search.proofs.Searches.{IsOpen-add, path_stays}
@@ -14,17 +13,15 @@ returns-then-len-budget-clause-spent g c =
 
 pub returns-clause-open : goal.returns-clause-open
 returns-clause-open g c =
-    let old = c.args.front.now in
     let more = c.add.ensures in
-    IsOpen-add (g.met.S.Space.floors_grow c.args.space.now) old.links.items (heap_items old.waiting) old.best old.best_path.items c.args.entry c.args.k c.requires.open.0 c.requires.open.1
-    (heap_items c.add.new.front.waiting) _ more.waiting _ _ _ more.links more.best (ap (λ (v : Vec ℕ Global). v.items) more.best_path)
+    IsOpen-add (g.met.S.Space.floors_grow c.args.space.now) c.requires.open.0 c.requires.open.1
+    more.waiting _ _ _ more.links more.best (ap (λ (v : Vec ℕ Global). v.items) more.best_path)
     (c.in-Some.ensures _ c.requires.node).1 more.heap
 
 pub returns-clause-path : goal.returns-clause-path
 returns-clause-path g c =
-    let old = c.args.front.now in
-    path_stays (g.met.S.Space.floors_grow c.args.space.now) old.links.items (heap_items old.waiting) old.best old.best_path.items c.args.entry c.args.k c.requires.open.0 c.requires.open.1
-    (heap_items c.add.new.front.waiting) _ c.add.ensures.waiting _ c.add.ensures.links
+    path_stays (g.met.S.Space.floors_grow c.args.space.now) c.requires.open.0 c.requires.open.1
+    c.add.ensures.waiting _ c.add.ensures.links
 
 pub returns-clause-taken : goal.returns-clause-taken
 returns-clause-taken g c =
