@@ -9,3 +9,4 @@ pub mod Frontier
 pub mod Loads
 pub mod Entered
 pub mod Searches
+pub mod Agreement

@@ -1,14 +1,14 @@
 -- Steps of a search of the front: an entry is taken (`IsOpen-first`), its children are met (`IsOpen-add`), and it is done
 -- (`IsClosed-opened`, `IsClosed-leaf`). What is known where nothing waits, and where the least floor is above the best leaf.
-use Rattle.std.proofs.Common.{◌≡◌, ◌≢◌, ℕ, ◌+◌, ◌<◌, ◌≤◌, ◌⊎◌, inl, inr, ⊎_elim, List, [], ◌∷◌, ◌++◌, length, get_or, zero, suc, Option, Some, None, IsSome, All, IsPermutation, le_refl, refl, sym, ap, subst, ◌∙◌, arith}
+use Rattle.std.proofs.Common.{◌≡◌, ◌≢◌, ℕ, ◌+◌, ◌<◌, ◌≤◌, ◌⊎◌, inl, inr, ⊎_elim, List, [], ◌∷◌, ◌++◌, length, zero, suc, Option, Some, None, IsSome, All, IsPermutation, refl, sym, ap, subst, ◌∙◌, arith}
 use Rattle.std.proofs.lemmas.List.{get_or_append_left, get_or_push, length_push, length-append}
 use Rattle.std.proofs.lemmas.Bool.{cases_lt, cases_eq}
 use Rattle.std.specs.BinaryHeap.{IsHeap}
 use Rattle.tree_search.specs.Answer.{IsBefore, IsLeaf, IsFirstLeast, HasNoLeaf, BoundsLeaves, AtMost, IsLoaded, IsLiveBelowRoot}
 use Rattle.tree_search.specs.Space.{FloorsGrow}
 use Rattle.tree_search.specs.declared.links.Link.{Link}
-use Rattle.tree_search.specs.Links.{path_in, IsLinked}
-use Rattle.tree_search.specs.Entries.{Entry, entry_cmp, numbers, HaveFloors}
+use Rattle.tree_search.specs.Links.{path_in}
+use Rattle.tree_search.specs.Entries.{Entry, entry_cmp, numbers}
 use Rattle.tree_search.specs.Fronts.{times, Covers, IsFront, IsOpening, IsSearch, IsBestLeaf, floor_of, floor_in}
 use Rattle.tree_search.proofs.Order.{IsBefore-trans}
 use Rattle.tree_search.proofs.Arena.{path_in-earlier, path_in-last}
@@ -309,7 +309,7 @@ IsClosed-root live height f waiting best_path is long heap added =
     let moved = numbers-permutation ((record { 0 = f }, 0) ∷ []) waiting added in
     let own : floor_in live [] 0 ≡ f = ap floor_of is in
     let at_root : (i : ℕ) → 0 < times i (numbers waiting) → i ≡ 0 = λ i some. ⊎_elim (λ e. e)
-        (λ ne. absurd (omega (arith, some, times-permutation i (0 ∷ []) (numbers waiting) moved, times-other i 0 [] (λ e. ne (sym e))))) (cases_eq i 0) in
+    (λ ne. absurd (omega (arith, some, times-permutation i (0 ∷ []) (numbers waiting) moved, times-other i 0 [] (λ e. ne (sym e))))) (cases_eq i 0) in
     record {
       front = record {
         root = refl;

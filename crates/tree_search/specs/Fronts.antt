@@ -83,7 +83,7 @@ IsClosed live height front reached =
 abbrev pub IsOpen : (List ℕ → Option ℕ) → ℕ → Front → ℕ → ℕ → Type 0
 IsOpen live height front entry k =
     IsSearch live height front.links.items (heap_items front.waiting) front.best front.best_path.items
-        (λ i. i ≡ entry) (floor_in live front.links.items entry)
+    (λ i. i ≡ entry) (floor_in live front.links.items entry)
     × IsOpening live (length front.links.items + 1) (path_in front.links.items) (λ i. times i (numbers (heap_items front.waiting))) entry k
 
 -- the entries are within the budget, and there is room for the rest of it

@@ -4,9 +4,9 @@
 mod depth;
 mod front;
 mod links;
-mod trail;
 mod outcome;
 mod space;
+mod trail;
 
 pub use depth::search_depth;
 pub use front::search_front;

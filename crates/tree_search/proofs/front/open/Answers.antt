@@ -1,4 +1,4 @@
-use Rattle.std.proofs.Common.{◌≡◌, ◌≤◌, ◌<◌, ◌++◌, ◌∷◌, [], ℕ, List, Option, Some, length, subst, sym, ap, ◌∙◌, arith}
+use Rattle.std.proofs.Common.{◌≡◌, ◌≤◌, ◌<◌, ◌++◌, ◌∷◌, [], ℕ, List, Some, length, subst, sym, ap, ◌∙◌, arith}
 use Rattle.tree_search.specs.Fronts.{IsClosed, floor_of}
 use Rattle.tree_search.proofs.Searches.{IsOpen-passed, IsClosed-opened}
 use Rattle.tree_search.specs.Links.{path_in}
@@ -14,7 +14,7 @@ returns-then-k-count-clause-closed g c =
     let count = c.count-count.ensures.value _ c.requires.node in
     let path = path_in now.links.items c.args.entry in
     let dead : (j floor : ℕ) → c.loop-from.from ≤ j → j < c.next_child-k.result → g.S.Space.live space (path ++ j ∷ []) ≡ Some floor → ⊥ =
-        λ j floor low high is. c.next_child-k.ensures.passed _ c.requires.node j floor low high (ap (λ (p : List ℕ). g.S.Space.live space (p ++ j ∷ [])) (sym kept.same_path) ∙ is) in
+    λ j floor low high is. c.next_child-k.ensures.passed _ c.requires.node j floor low high (ap (λ (p : List ℕ). g.S.Space.live space (p ++ j ∷ [])) (sym kept.same_path) ∙ is) in
     let last = IsOpen-passed grows kept.opening.0 kept.opening.1 c.next_child-k.result c.next_child-k.ensures.onward dead in
     subst (λ (r : ℕ). IsClosed (g.S.Space.live space) (g.S.Space.height space) now r) (ap (λ (p : List ℕ). floor_of (g.S.Space.live space p)) kept.same_path)
     (IsClosed-opened grows last.0 last.1

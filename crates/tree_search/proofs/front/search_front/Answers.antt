@@ -1,4 +1,4 @@
-use Rattle.std.proofs.Common.{◌≡◌, ◌+◌, ◌≤◌, ◌<◌, ◌++◌, [], ℕ, List, Vec, Global, Some, None, IsSome, length, drop, vec_capacity, refl, sym, ap, subst, ◌∙◌, arith}
+use Rattle.std.proofs.Common.{◌≡◌, ◌+◌, [], ℕ, List, Vec, Global, length, drop, vec_capacity, refl, ap, subst, ◌∙◌, arith}
 use Rattle.std.proofs.lemmas.List.{take_at}
 use Rattle.std.proofs.lemmas.List.Sorted.{length_permutation}
 use Rattle.std.specs.BinaryHeap.{heap_items, heap_capacity}
@@ -10,7 +10,7 @@ use Rattle.tree_search.specs.Entries.{Entry}
 use Rattle.tree_search.specs.Fronts.{floor_in}
 use Rattle.tree_search.proofs.Floors.{none_from}
 use Rattle.tree_search.proofs.Loads.{over_budget, enough_found, enough_none}
-use Rattle.tree_search.proofs.Searches.{few_from_dead, starts, IsClosed-leaf, IsOpen-first, first_settled, few_below, first_last, few_last, no_leaf, few_live, floor_is, floor_live, taken_within, no_longer, best_level, bounds}
+use Rattle.tree_search.proofs.Searches.{few_from_dead, starts, IsClosed-leaf, IsOpen-first, first_settled, few_below, first_last, few_last, no_leaf, few_live, floor_is, taken_within, no_longer, best_level, bounds}
 use Rattle.tree_search.proofs.front.search_front.Goals as goal
 
 pub returns-in_default-clause-nothing : goal.returns-in_default-clause-nothing
@@ -22,9 +22,11 @@ returns-in_default-clause-nothing_load g c = few_from_dead (g.met.S.Space.floors
 
 pub returns-in_default-clause-over : goal.returns-in_default-clause-over
 returns-in_default-clause-over g c =
-    let grows = g.met.S.Space.floors_grow c.args.space.now in
-    (λ h. absurd h, enough_none _ _ c.args.budget (λ path value leaf. none_from grows [] path value c.in_default.ensures leaf.1 (path, refl))
-    (few_from_dead grows c.args.budget c.in_default.ensures))
+    let grows = g.met.S.Space.floors_grow c.args.space.now in (
+      λ h. absurd h,
+      enough_none _ _ c.args.budget (λ path value leaf. none_from grows [] path value c.in_default.ensures leaf.1 (path, refl))
+          (few_from_dead grows c.args.budget c.in_default.ensures),
+    )
 
 pub pops-init : goal.pops-init
 pops-init g c =
@@ -57,9 +59,11 @@ returns-in-Some-settled-clause-over g c =
     let grows = g.met.S.Space.floors_grow c.args.space.now in
     let closed = c.pops.invariant.closed.1 in
     let popped = c.in-Some-pop_least.ensures in
-    let settled = c.in-Some-settled.ensures.settled in
-    (λ h. absurd h, enough_found _ _ c.args.budget _ c.in-Some-settled.value (first_settled grows closed popped.taken popped.least _ settled.0 settled.1)
-    (few_below grows closed popped.taken popped.least c.in-Some-settled.value c.args.budget settled.1 c.pops.invariant.room.0))
+    let settled = c.in-Some-settled.ensures.settled in (
+      λ h. absurd h,
+      enough_found _ _ c.args.budget _ c.in-Some-settled.value (first_settled grows closed popped.taken popped.least _ settled.0 settled.1)
+          (few_below grows closed popped.taken popped.least c.in-Some-settled.value c.args.budget settled.1 c.pops.invariant.room.0),
+    )
 
 pub write_path-start-requires-clause-within : goal.write_path-start-requires-clause-within
 write_path-start-requires-clause-within g c =
@@ -93,19 +97,22 @@ pops-preserved-then-start-eq0 g c =
     let popped = c.in-Some-pop_least.ensures in
     let same = c.meet.ensures in
     let written : c.write_path-start.new.path ≡ path_in now.links.items entry =
-        subst (λ (n : ℕ). drop n c.write_path-start.new.path ≡ path_in c.deref.result.now entry) c.if-start-eq0.true c.write_path-start.ensures.path
-        ∙ ap (λ (ls : List Link). path_in ls entry) c.deref.ensures.value in
+    subst (λ (n : ℕ). drop n c.write_path-start.new.path ≡ path_in c.deref.result.now entry) c.if-start-eq0.true c.write_path-start.ensures.path
+    ∙ ap (λ (ls : List Link). path_in ls entry) c.deref.ensures.value in
     let size : length c.write_path-start.new.path ≡ c.pops.path.len = omega (arith, c.write_path-start.auto.path, c.deref_mut.ensures.len) in
     let long : length (path_in now.links.items entry) ≡ g.S.Space.height c.args.space.now =
-        omega (arith, ap (λ (p : List ℕ). length p) written, size, kept.long, c.pops.path.ok.0) in
+    omega (arith, ap (λ (p : List ℕ). length p) written, size, kept.long, c.pops.path.ok.0) in
     let whole = take_at c.write_path-start.new.path (drop (length c.write_path-start.new.path) c.pops.path.items) c.pops.path.len size in
     let path = c.deref-then-start-eq0.ensures.value ∙ whole ∙ written in
     let opened = IsOpen-first grows closed popped.taken popped.least c.in_default-settled.ensures.unsettled popped.heap in
     let links = ap (λ (v : Vec Link Global). v.items) same.links in
     let waiting = ap (λ (v : BinaryHeap Entry Global). heap_items v) same.waiting in
     record {
-      closed = (floor_in (g.S.Space.live c.args.space.now) now.links.items entry, rw (links, waiting) (IsClosed-leaf grows opened.0 opened.1 _ _ c.in-Some-pop_least.floor (floor_is grows closed popped.taken popped.least) long
-          (same.long ∙ closed.best_long) same.best (rw path at same.one) (rw path at same.covers) same.keeps));
+      closed = (
+        floor_in (g.S.Space.live c.args.space.now) now.links.items entry,
+        rw (links, waiting) (IsClosed-leaf grows opened.0 opened.1 _ _ c.in-Some-pop_least.floor (floor_is grows closed popped.taken popped.least) long
+            (same.long ∙ closed.best_long) same.best (rw path at same.one) (rw path at same.covers) same.keeps),
+      );
       trail = kept.trail;
       room = (
         omega (arith, kept.room.0, ap (λ (ls : List Link). length ls) links),
@@ -134,10 +141,11 @@ returns-then-not-visit-clause-over g c =
     let closed = c.pops.invariant.closed.1 in
     let popped = c.in-Some-pop_least.ensures in
     let floor = floor_is grows closed popped.taken popped.least in
-    let spent = subst (λ (f : ℕ). Many (IsLoaded live f) (c.args.budget + 1)) floor c.if-not-visit.ensures.spent in
-    (λ _. over_budget live (g.S.Space.height c.args.space.now) c.args.budget c.in-Some-pop_least.floor
-        (bounds grows closed popped.taken popped.least c.in_default-settled.ensures.unsettled) spent,
-    λ _. tt)
+    let spent = subst (λ (f : ℕ). Many (IsLoaded live f) (c.args.budget + 1)) floor c.if-not-visit.ensures.spent in (
+      λ _. over_budget live (g.S.Space.height c.args.space.now) c.args.budget c.in-Some-pop_least.floor
+          (bounds grows closed popped.taken popped.least c.in_default-settled.ensures.unsettled) spent,
+      λ _. tt,
+    )
 
 pub returns-then-not-visit-clause-spent : goal.returns-then-not-visit-clause-spent
 returns-then-not-visit-clause-spent g c =
@@ -182,9 +190,11 @@ pub returns-in-Some-best-clause-over : goal.returns-in-Some-best-clause-over
 returns-in-Some-best-clause-over g c =
     let grows = g.met.S.Space.floors_grow c.args.space.now in
     let closed = c.pops.invariant.closed.1 in
-    let empty = c.in_default-pop_least.ensures.none in
-    (λ h. absurd h, enough_found _ _ c.args.budget _ c.in-Some-best.value (first_last grows closed empty _ c.in-Some-best.is)
-    (few_last grows closed empty c.in-Some-best.value c.args.budget c.pops.invariant.room.0))
+    let empty = c.in_default-pop_least.ensures.none in (
+      λ h. absurd h,
+      enough_found _ _ c.args.budget _ c.in-Some-best.value (first_last grows closed empty _ c.in-Some-best.is)
+          (few_last grows closed empty c.in-Some-best.value c.args.budget c.pops.invariant.room.0),
+    )
 
 pub returns-in-Some-best-clause-found_load : goal.returns-in-Some-best-clause-found_load
 returns-in-Some-best-clause-found_load g c =

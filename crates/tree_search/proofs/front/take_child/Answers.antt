@@ -1,4 +1,4 @@
-use Rattle.std.proofs.Common.{◌+◌, ℕ, List, Vec, Global, length, refl, ap, ◌∙◌, arith}
+use Rattle.std.proofs.Common.{ℕ, List, Vec, Global, length, refl, ap, ◌∙◌, arith}
 use Rattle.std.proofs.lemmas.List.{length_push}
 use Rattle.std.proofs.lemmas.List.Sorted.{length_permutation}
 use Rattle.tree_search.specs.declared.links.Link.{Link}

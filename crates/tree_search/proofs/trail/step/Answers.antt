@@ -1,4 +1,4 @@
-use Rattle.std.proofs.Common.{◌<◌, arith}
+use Rattle.std.proofs.Common.{arith}
 use Rattle.std.proofs.lemmas.List.{take_more_set}
 use Rattle.tree_search.proofs.Trails.{above_child, node_at, IsTrail-step}
 use Rattle.tree_search.proofs.trail.step.Goals as goal
