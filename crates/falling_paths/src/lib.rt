@@ -106,9 +106,9 @@ impl Grid {
 #[cfg(test)]
 mod tests {
     use super::*;
-    use std::test::Fail;
     use fux_pitch::Memory;
     use std::alloc::Global;
+    use std::test::Fail;
     use tree_search::{Outcome, search_depth, search_front};
 
     /// The same grid, each column of which is tried.
@@ -158,12 +158,7 @@ mod tests {
         Front,
     }
 
-    fn search<S: Space>(
-        alloc: Global,
-        space: &S,
-        by: By,
-        budget: u32,
-    ) -> Result<Outcome, Memory> {
+    fn search<S: Space>(alloc: Global, space: &S, by: By, budget: u32) -> Result<Outcome, Memory> {
         match by {
             By::Depth => search_depth(alloc, space, budget),
             By::Front => search_front(alloc, space, budget),

@@ -18,25 +18,31 @@ All_numbers P xs h = λ k d within.
     subst P (sym (get_or-map number xs k none d inside)) (h k none inside)
 
 All_entries : (P : ℕ → Type 0) (xs : List Entry) → All P (numbers xs) → All (λ entry. P entry.1) xs
-All_entries P xs h = λ k d within. subst P (get_or-map number xs k d d.1 within) (h k d.1 (omega (arith, within, length-map xs number)))
+All_entries P xs h = λ k d within. subst P (get_or-map number xs k d d.1 within)
+    (h k d.1 (omega (arith, within, length-map xs number)))
 
 pub numbers-permutation : (xs ys : List Entry) → IsPermutation xs ys → IsPermutation (numbers xs) (numbers ys)
 numbers-permutation xs ys moved = IsPermutation-map number xs ys moved
 
 -- one entry more
-pub HaveFloors-add : (live : List ℕ → Option ℕ) (links links' : List Link) (f n : ℕ) (xs ys : List Entry) → live (path_in links' n) ≡ Some f →
-    ((i : ℕ) → i < n → path_in links' i ≡ path_in links i) → All (λ i. i < n) (numbers xs) → HaveFloors live links xs →
+pub HaveFloors-add : (live : List ℕ → Option ℕ) (links links' : List Link) (f n : ℕ) (xs ys : List Entry)
+    → live (path_in links' n) ≡ Some f →
+    ((i : ℕ) → i < n → path_in links' i ≡ path_in links i) → All (λ i. i < n) (numbers xs)
+    → HaveFloors live links xs →
     IsPermutation ((record { 0 = f }, n) ∷ xs) ys → HaveFloors live links' ys
 HaveFloors-add live links links' f n xs ys is earlier within h added =
     let P : Entry → Type 0 = λ entry. live (path_in links' entry.1) ≡ Some entry.0.0 in
     All-permutation P ((record { 0 = f }, n) ∷ xs) ys added
     (All-cons P (record { 0 = f }, n) xs is
-    (λ k d inside. ap live (earlier (get_or xs k d).1 (All_entries (λ i. i < n) xs within k d inside)) ∙ h k d inside))
+    (λ k d inside. ap live (earlier (get_or xs k d).1 (All_entries (λ i. i < n) xs within k d inside))
+    ∙ h k d inside))
 
-module _ (live : List ℕ → Option ℕ) (links : List Link) (f c : ℕ) (xs ys : List Entry) (h : HaveFloors live links xs)
+module _ (live : List ℕ → Option ℕ) (links : List Link) (f c : ℕ) (xs ys : List Entry)
+    (h : HaveFloors live links xs)
     (taken : IsPermutation xs ((record { 0 = f }, c) ∷ ys)) where
   all : HaveFloors live links ((record { 0 = f }, c) ∷ ys)
-  all = All-permutation (λ entry. live (path_in links entry.1) ≡ Some entry.0.0) xs ((record { 0 = f }, c) ∷ ys) taken h
+  all = All-permutation (λ entry. live (path_in links entry.1) ≡ Some entry.0.0) xs
+      ((record { 0 = f }, c) ∷ ys) taken h
 
   -- the floor of the one taken out
   pub taken_floor : live (path_in links c) ≡ Some f

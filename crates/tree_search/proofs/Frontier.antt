@@ -19,8 +19,10 @@ pub record IsPending (n : ℕ) (F waits : ℕ → ℕ) (Spared : ℕ → Type 0)
   pub open_yet : (0 < waits entry) ⊎ Spared entry
   pub low : F entry ≤ floor
 
-pending_higher : (n : ℕ) (F waits : ℕ → ℕ) (Spared : ℕ → Type 0) (a b : ℕ) → a ≤ b → IsPending n F waits Spared a → IsPending n F waits Spared b
-pending_higher n F waits Spared a b le h = record { entry = h.entry; within = h.within; open_yet = h.open_yet; low = omega (arith, le, h.low) }
+pending_higher : (n : ℕ) (F waits : ℕ → ℕ) (Spared : ℕ → Type 0) (a b : ℕ) → a ≤ b
+    → IsPending n F waits Spared a → IsPending n F waits Spared b
+pending_higher n F waits Spared a b le h =
+    record { entry = h.entry; within = h.within; open_yet = h.open_yet; low = omega (arith, le, h.low) }
 
 pub child_inj : (p q : List ℕ) (j k : ℕ) → p ++ j ∷ [] ≡ q ++ k ∷ [] → (p ≡ q) × (j ≡ k)
 child_inj p q j k e = same_from_push p q j k e
@@ -33,7 +35,8 @@ module _ {live : List ℕ → Option ℕ} {width : List ℕ → ℕ} {height : �
     {n : ℕ} {P : ℕ → List ℕ} {F waits : ℕ → ℕ} {Spared : ℕ → Type 0} {Covered : List ℕ → ℕ → Type 0} {reached : ℕ}
     (front : IsFront live height n P F waits Spared Covered reached) where
   -- from an entry on, a live path is of an entry, or goes through one that is not done
-  reach : (rest start : List ℕ) (w i : ℕ) → i < n → P i ≡ start → live (start ++ rest) ≡ Some w → InArena n P (start ++ rest) ⊎ IsPending n F waits Spared w
+  reach : (rest start : List ℕ) (w i : ℕ) → i < n → P i ≡ start → live (start ++ rest) ≡ Some w
+      → InArena n P (start ++ rest) ⊎ IsPending n F waits Spared w
   reach [] start w i within at is = inl (i, within, at ∙ sym (append-nil start))
   reach (k ∷ rest) start w i within at is =
       let above = live_above grows (k ∷ rest) start w is in
@@ -66,8 +69,11 @@ module _ {live : List ℕ → Option ℕ} {width : List ℕ → ℕ} {height : �
       ⊎_elim
       (λ wait. inr (record { entry = found.0; within = found.1; open_yet = inl wait; low = omega (arith, own) }))
       (λ other. ⊎_elim
-      (λ spared. inr (record { entry = found.0; within = found.1; open_yet = inr spared; low = omega (arith, own) }))
-      (λ done. inl (subst (λ (p : List ℕ). Covered p w) found.2 (subst (λ (v : ℕ). Covered (P found.0) v) own (done.leaf (ap length found.2 ∙ leaf.0)))))
+      (λ spared. inr
+      (record { entry = found.0; within = found.1; open_yet = inr spared; low = omega (arith, own) }))
+      (λ done. inl
+      (subst (λ (p : List ℕ). Covered p w) found.2
+      (subst (λ (v : ℕ). Covered (P found.0) v) own (done.leaf (ap length found.2 ∙ leaf.0)))))
       other)
       (front.done found.0 found.1))
       (λ pending. inr pending)
@@ -78,13 +84,24 @@ module _ {live : List ℕ → Option ℕ} {width : List ℕ → ℕ} {height : �
   loaded_met x path loaded =
       ⊎_elim
       (λ found.
-      let own : F found.0 ≡ loaded.own_floor = let e = sym (front.floors found.0 found.1) ∙ ap live found.2 ∙ loaded.parent_live in cc in
+      let own : F found.0 ≡ loaded.own_floor = let e = sym (front.floors found.0 found.1) ∙ ap live found.2
+      ∙ loaded.parent_live in cc in
       ⊎_elim
-      (λ wait. inr (record { entry = found.0; within = found.1; open_yet = inl wait; low = omega (arith, own, loaded.low) }))
+      (λ wait. inr
+      (record { entry = found.0; within = found.1; open_yet = inl wait; low = omega (arith, own, loaded.low) }))
       (λ other. ⊎_elim
-      (λ spared. inr (record { entry = found.0; within = found.1; open_yet = inr spared; low = omega (arith, own, loaded.low) }))
+      (λ spared. inr
+      (record {
+        entry = found.0;
+        within = found.1;
+        open_yet = inr spared;
+        low =
+            omega (arith, own, loaded.low);
+      }))
       (λ done.
-      let m = done.children loaded.child (ap (λ (p : List ℕ). is_some (live (p ++ loaded.child ∷ []))) found.2 ∙ ap (λ (p : List ℕ). is_some (live p)) (sym loaded.is) ∙ loaded.is_live) in
+      let m = done.children loaded.child
+      (ap (λ (p : List ℕ). is_some (live (p ++ loaded.child ∷ []))) found.2
+      ∙ ap (λ (p : List ℕ). is_some (live p)) (sym loaded.is) ∙ loaded.is_live) in
       inl (m.0, m.1, m.2 ∙ ap (λ (p : List ℕ). p ++ loaded.child ∷ []) found.2 ∙ sym loaded.is))
       other)
       (front.done found.0 found.1))
@@ -92,7 +109,8 @@ module _ {live : List ℕ → Option ℕ} {width : List ℕ → ℕ} {height : �
       (met loaded.parent loaded.own_floor loaded.parent_live)
 
   -- a live child joins the arena and waits
-  pub IsFront-add : (P' : ℕ → List ℕ) (F' waits' : ℕ → ℕ) (c k f : ℕ) → IsOpening live n P waits c k → F c ≡ reached → live (P c ++ k ∷ []) ≡ Some f →
+  pub IsFront-add : (P' : ℕ → List ℕ) (F' waits' : ℕ → ℕ) (c k f : ℕ) → IsOpening live n P waits c k
+      → F c ≡ reached → live (P c ++ k ∷ []) ≡ Some f →
       ((i : ℕ) → i < n → P' i ≡ P i) → P' n ≡ P c ++ k ∷ [] → ((i : ℕ) → i < n → F' i ≡ F i) → F' n ≡ f →
       ((i : ℕ) → i ≢ n → waits' i ≡ waits i) → waits' n ≡ 1 →
       IsFront live height (n + 1) P' F' waits' Spared Covered reached
@@ -101,12 +119,14 @@ module _ {live : List ℕ → Option ℕ} {width : List ℕ → ℕ} {height : �
     some = omega arith;
     floors = λ i within. ⊎_elim
         (λ less. ap live (old_P i less) ∙ front.floors i less ∙ ap Some (sym (old_F i less)))
-        (λ more. let e : i ≡ n = omega (arith, within, more) in subst (λ (j : ℕ). live (P' j) ≡ Some (F' j)) (sym e) (ap live new_P ∙ is ∙ ap Some (sym new_F)))
+        (λ more. let e : i ≡ n = omega (arith, within, more) in
+        subst (λ (j : ℕ). live (P' j) ≡ Some (F' j)) (sym e) (ap live new_P ∙ is ∙ ap Some (sym new_F)))
         (cases_lt i n);
     differ = λ i j wi wj e. ⊎_elim
         (λ li. ⊎_elim
         (λ lj. front.differ i j li lj (sym (old_P i li) ∙ e ∙ old_P j lj))
-        (λ mj. let ej : j ≡ n = omega (arith, wj, mj) in absurd (unmet i li (sym (old_P i li) ∙ e ∙ ap P' ej ∙ new_P)))
+        (λ mj. let ej : j ≡ n = omega (arith, wj, mj) in
+        absurd (unmet i li (sym (old_P i li) ∙ e ∙ ap P' ej ∙ new_P)))
         (cases_lt j n))
         (λ mi. let ei : i ≡ n = omega (arith, wi, mi) in ⊎_elim
         (λ lj. absurd (unmet j lj (sym (old_P j lj) ∙ sym e ∙ ap P' ei ∙ new_P)))
@@ -133,8 +153,10 @@ module _ {live : List ℕ → Option ℕ} {width : List ℕ → ℕ} {height : �
           low = omega (arith, old_F c opening.here, level);
         })
         (cases_lt m n);
-    once = λ i. ⊎_elim (λ e. subst (λ (j : ℕ). waits' j ≤ 1) (sym e) (omega (arith, new_waits))) (λ ne. omega (arith, old_waits i ne, front.once i)) (cases_eq i n);
-    within = λ i some. ⊎_elim (λ e. omega (arith, e)) (λ ne. omega (arith, front.within i (omega (arith, some, old_waits i ne)))) (cases_eq i n);
+    once = λ i. ⊎_elim (λ e. subst (λ (j : ℕ). waits' j ≤ 1) (sym e) (omega (arith, new_waits)))
+        (λ ne. omega (arith, old_waits i ne, front.once i)) (cases_eq i n);
+    within = λ i some. ⊎_elim (λ e. omega (arith, e))
+        (λ ne. omega (arith, front.within i (omega (arith, some, old_waits i ne)))) (cases_eq i n);
     high = λ i some. ⊎_elim
         (λ e.
         let above = live_above grows (k ∷ []) (P c) f is in
@@ -158,7 +180,9 @@ module _ {live : List ℕ → Option ℕ} {width : List ℕ → ℕ} {height : �
         (λ lm. front.fresh i m j waiting lm (sym (old_P m lm) ∙ e ∙ ap (λ (p : List ℕ). p ++ j ∷ []) (old_P i li)))
         (λ mm.
         let em : m ≡ n = omega (arith, within, mm) in
-        let same = child_inj (P c) (P i) k j (sym new_P ∙ ap P' (sym em) ∙ e ∙ ap (λ (p : List ℕ). p ++ j ∷ []) (old_P i li)) in
+        let same =
+        child_inj (P c) (P i) k j
+        (sym new_P ∙ ap P' (sym em) ∙ e ∙ ap (λ (p : List ℕ). p ++ j ∷ []) (old_P i li)) in
         let ec : c ≡ i = front.differ c i opening.here li same.0 in
         let none : waits i ≡ 0 = subst (λ (x : ℕ). waits x ≡ 0) ec opening.taken in
         omega (arith, waiting, none))
@@ -172,15 +196,22 @@ module _ {live : List ℕ → Option ℕ} {width : List ℕ → ℕ} {height : �
         (λ h. inr (inr (record {
           low = omega (arith, old_F i less, h.low);
           children = λ j lives.
-              let m = h.children j (ap (λ (p : List ℕ). is_some (live (p ++ j ∷ []))) (sym (old_P i less)) ∙ lives) in
-              (m.0, omega (arith, m.1), old_P m.0 m.1 ∙ m.2 ∙ ap (λ (p : List ℕ). p ++ j ∷ []) (sym (old_P i less)));
+              let m = h.children j
+              (ap (λ (p : List ℕ). is_some (live (p ++ j ∷ []))) (sym (old_P i less)) ∙ lives) in (
+                m.0,
+                omega (arith, m.1),
+                old_P m.0 m.1 ∙ m.2
+                    ∙ ap (λ (p : List ℕ). p ++ j ∷ []) (sym (old_P i less)),
+              );
           leaf = λ long.
               subst (λ (p : List ℕ). Covered p (F' i)) (sym (old_P i less))
-              (subst (λ (v : ℕ). Covered (P i) v) (sym (old_F i less)) (h.leaf (sym (ap length (old_P i less)) ∙ long)));
+              (subst (λ (v : ℕ). Covered (P i) v) (sym (old_F i less))
+              (h.leaf (sym (ap length (old_P i less)) ∙ long)));
         })))
         other)
         (front.done i less))
-        (λ more. let e : i ≡ n = omega (arith, within, more) in inl (subst (λ (j : ℕ). 0 < waits' j) (sym e) (omega (arith, new_waits))))
+        (λ more. let e : i ≡ n = omega (arith, within, more) in
+        inl (subst (λ (j : ℕ). 0 < waits' j) (sym e) (omega (arith, new_waits))))
         (cases_lt i n);
   }
     where
@@ -198,23 +229,38 @@ module _ {live : List ℕ → Option ℕ} {width : List ℕ → ℕ} {height : �
       longer p j e = omega (arith, ap length e, length-append p (j ∷ []))
 
   pub IsOpening-add : (P' : ℕ → List ℕ) (waits' : ℕ → ℕ) (c k : ℕ) → IsOpening live n P waits c k →
-      ((i : ℕ) → i < n → P' i ≡ P i) → P' n ≡ P c ++ k ∷ [] → ((i : ℕ) → i ≢ n → waits' i ≡ waits i) → IsOpening live (n + 1) P' waits' c (k + 1)
+      ((i : ℕ) → i < n → P' i ≡ P i) → P' n ≡ P c ++ k ∷ [] → ((i : ℕ) → i ≢ n → waits' i ≡ waits i)
+      → IsOpening live (n + 1) P' waits' c (k + 1)
   IsOpening-add P' waits' c k opening old_P new_P old_waits = record {
     here = omega (arith, opening.here);
     taken = let ne : c ≢ n = omega (arith, opening.here) in old_waits c ne ∙ opening.taken;
     mine = λ j less lives. ⊎_elim
         (λ before.
-        let m = opening.mine j before (ap (λ (p : List ℕ). is_some (live (p ++ j ∷ []))) (sym (old_P c opening.here)) ∙ lives) in
-        (m.0, omega (arith, m.1), old_P m.0 m.1 ∙ m.2 ∙ ap (λ (p : List ℕ). p ++ j ∷ []) (sym (old_P c opening.here))))
+        let m = opening.mine j before
+        (ap (λ (p : List ℕ). is_some (live (p ++ j ∷ []))) (sym (old_P c opening.here)) ∙ lives) in (
+          m.0,
+          omega (arith, m.1),
+          old_P m.0 m.1 ∙ m.2
+              ∙ ap (λ (p : List ℕ). p ++ j ∷ []) (sym (old_P c opening.here)),
+        ))
         (λ after.
-        let e : k ≡ j = omega (arith, less, after) in
-        (n, omega arith, new_P ∙ ap (λ (x : ℕ). P c ++ x ∷ []) e ∙ ap (λ (p : List ℕ). p ++ j ∷ []) (sym (old_P c opening.here))))
+        let e : k ≡ j = omega (arith, less, after) in (
+          n,
+          omega arith,
+          new_P ∙ ap (λ (x : ℕ). P c ++ x ∷ []) e
+              ∙ ap (λ (p : List ℕ). p ++ j ∷ []) (sym (old_P c opening.here)),
+        ))
         (cases_lt j k);
     yet = λ m j within e. ⊎_elim
-        (λ less. let before = opening.yet m j less (sym (old_P m less) ∙ e ∙ ap (λ (p : List ℕ). p ++ j ∷ []) (old_P c opening.here)) in omega (arith, before))
+        (λ less. let before =
+        opening.yet m j less
+        (sym (old_P m less) ∙ e ∙ ap (λ (p : List ℕ). p ++ j ∷ []) (old_P c opening.here)) in
+        omega (arith, before))
         (λ more.
         let em : m ≡ n = omega (arith, within, more) in
-        let same = child_inj (P c) (P c) k j (sym new_P ∙ ap P' (sym em) ∙ e ∙ ap (λ (p : List ℕ). p ++ j ∷ []) (old_P c opening.here)) in
+        let same =
+        child_inj (P c) (P c) k j
+        (sym new_P ∙ ap P' (sym em) ∙ e ∙ ap (λ (p : List ℕ). p ++ j ∷ []) (old_P c opening.here)) in
         omega (arith, same.1))
         (cases_lt m n);
   }
@@ -229,8 +275,10 @@ module _ {live : List ℕ → Option ℕ} {width : List ℕ → ℕ} {height : �
   }
 
 -- past children that are dead
-pub IsOpening-passed : {live : List ℕ → Option ℕ} {n : ℕ} {P : ℕ → List ℕ} {waits : ℕ → ℕ} {c from : ℕ} (to : ℕ) → from ≤ to →
-    ((k floor : ℕ) → from ≤ k → k < to → live (P c ++ k ∷ []) ≡ Some floor → ⊥) → IsOpening live n P waits c from → IsOpening live n P waits c to
+pub IsOpening-passed : {live : List ℕ → Option ℕ} {n : ℕ} {P : ℕ → List ℕ} {waits : ℕ → ℕ} {c from : ℕ}
+    (to : ℕ) → from ≤ to →
+    ((k floor : ℕ) → from ≤ k → k < to → live (P c ++ k ∷ []) ≡ Some floor → ⊥)
+    → IsOpening live n P waits c from → IsOpening live n P waits c to
 IsOpening-passed {live} {P} {c} {from} to le dead opening = record {
   here = opening.here;
   taken = opening.taken;
@@ -244,7 +292,8 @@ IsOpening-passed {live} {P} {c} {from} to le dead opening = record {
 module _ {live : List ℕ → Option ℕ} {width : List ℕ → ℕ} {height : ℕ} (grows : FloorsGrow live width height)
     {n : ℕ} {P : ℕ → List ℕ} {F waits : ℕ → ℕ} {Covered : List ℕ → ℕ → Type 0} {reached : ℕ} where
   -- the first that waits is taken out
-  pub IsFront-pop : (waits' : ℕ → ℕ) (c : ℕ) → IsFront live height n P F waits (λ _. ⊥) Covered reached → 0 < waits c → waits' c ≡ 0 → ((i : ℕ) → i ≢ c → waits' i ≡ waits i) →
+  pub IsFront-pop : (waits' : ℕ → ℕ) (c : ℕ) → IsFront live height n P F waits (λ _. ⊥) Covered reached
+      → 0 < waits c → waits' c ≡ 0 → ((i : ℕ) → i ≢ c → waits' i ≡ waits i) →
       ((j : ℕ) → 0 < waits' j → F c ≤ F j) → IsFront live height n P F waits' (λ i. i ≡ c) Covered (F c)
   IsFront-pop waits' c front waiting none others least =
       let up : reached ≤ F c = front.high c waiting in
@@ -254,8 +303,17 @@ module _ {live : List ℕ → Option ℕ} {width : List ℕ → ℕ} {height : �
         some = front.some;
         floors = front.floors;
         differ = front.differ;
-        parents = λ m some within. let h = front.parents m some within in record { parent = h.parent; within = h.within; child = h.child; is = h.is; low = omega (arith, h.low, up) };
-        once = λ i. ⊎_elim (λ e. subst (λ (j : ℕ). waits' j ≤ 1) (sym e) (omega (arith, none))) (λ ne. omega (arith, others i ne, front.once i)) (cases_eq i c);
+        parents = λ m some within. let h = front.parents m some within in
+            record {
+              parent = h.parent;
+              within = h.within;
+              child = h.child;
+              is = h.is;
+              low =
+                  omega (arith, h.low, up);
+            };
+        once = λ i. ⊎_elim (λ e. subst (λ (j : ℕ). waits' j ≤ 1) (sym e) (omega (arith, none)))
+            (λ ne. omega (arith, others i ne, front.once i)) (cases_eq i c);
         within = λ i some. front.within i (before i some);
         high = least;
         fresh = λ i m k some within e. front.fresh i m k (before i some) within e;
@@ -263,16 +321,23 @@ module _ {live : List ℕ → Option ℕ} {width : List ℕ → ℕ} {height : �
             (λ e. inr (inl e))
             (λ ne. ⊎_elim
             (λ wait. inl (omega (arith, wait, others i ne)))
-            (λ other. ⊎_elim (λ no. absurd no) (λ h. inr (inr (record { low = omega (arith, h.low, up); children = h.children; leaf = h.leaf }))) other)
+            (λ other. ⊎_elim (λ no. absurd no)
+            (λ h. inr
+            (inr (record { low = omega (arith, h.low, up); children = h.children; leaf = h.leaf }))) other)
             (front.done i within))
             (cases_eq i c);
       }
     where
       kept : (i : ℕ) → 0 < waits' i → 0 < waits i
-      kept i some = ⊎_elim (λ e. absurd (let zero_here = subst (λ (j : ℕ). waits' j ≡ 0) (sym e) none in omega (arith, some, zero_here))) (λ ne. omega (arith, some, others i ne)) (cases_eq i c)
+      kept i some =
+          ⊎_elim (λ e. absurd
+          (let zero_here = subst (λ (j : ℕ). waits' j ≡ 0) (sym e) none in omega (arith, some, zero_here)))
+          (λ ne. omega (arith, some, others i ne)) (cases_eq i c)
 
   -- the entry taken out is done, with what is known of it
-  close : (c : ℕ) (Covered' : List ℕ → ℕ → Type 0) → IsFront live height n P F waits (λ i. i ≡ c) Covered reached → ((path : List ℕ) (value : ℕ) → Covered path value → Covered' path value) →
+  close : (c : ℕ) (Covered' : List ℕ → ℕ → Type 0)
+      → IsFront live height n P F waits (λ i. i ≡ c) Covered reached
+      → ((path : List ℕ) (value : ℕ) → Covered path value → Covered' path value) →
       IsDone live height n P F Covered' reached c → IsFront live height n P F waits (λ _. ⊥) Covered' reached
   close c Covered' front on done_c = record {
     root = front.root;
@@ -288,25 +353,32 @@ module _ {live : List ℕ → Option ℕ} {width : List ℕ → ℕ} {height : �
         (λ wait. inl wait)
         (λ other. ⊎_elim
         (λ e. inr (inr (subst (λ (j : ℕ). IsDone live height n P F Covered' reached j) (sym e) done_c)))
-        (λ h. inr (inr (record { low = h.low; children = h.children; leaf = λ long. on (P i) (F i) (h.leaf long) })))
+        (λ h. inr
+        (inr (record { low = h.low; children = h.children; leaf = λ long. on (P i) (F i) (h.leaf long) })))
         other)
         (front.done i within);
   }
 
   -- all its children stand in the arena
-  pub IsFront-opened : (c k : ℕ) → IsFront live height n P F waits (λ i. i ≡ c) Covered reached → IsOpening live n P waits c k → width (P c) ≤ k → length (P c) < height → F c ≡ reached →
+  pub IsFront-opened : (c k : ℕ) → IsFront live height n P F waits (λ i. i ≡ c) Covered reached
+      → IsOpening live n P waits c k → width (P c) ≤ k → length (P c) < height → F c ≡ reached →
       IsFront live height n P F waits (λ _. ⊥) Covered reached
   IsFront-opened c k front opening all above level = close c Covered front (λ path value h. h) (record {
     low = omega (arith, level);
-    children = λ j lives. let x = some_of (live (P c ++ j ∷ [])) lives in opening.mine j (omega (arith, all, child_within grows (P c) [] j x.0 x.1)) lives;
+    children = λ j lives. let x = some_of (live (P c ++ j ∷ [])) lives in
+        opening.mine j (omega (arith, all, child_within grows (P c) [] j x.0 x.1)) lives;
     leaf = λ long. absurd (omega (arith, long, above));
   })
 
   -- it is a leaf, and covered now
-  pub IsFront-leaf : (c : ℕ) (Covered' : List ℕ → ℕ → Type 0) → IsFront live height n P F waits (λ i. i ≡ c) Covered reached → ((path : List ℕ) (value : ℕ) → Covered path value → Covered' path value) →
-      length (P c) ≡ height → F c ≡ reached → Covered' (P c) (F c) → IsFront live height n P F waits (λ _. ⊥) Covered' reached
+  pub IsFront-leaf : (c : ℕ) (Covered' : List ℕ → ℕ → Type 0)
+      → IsFront live height n P F waits (λ i. i ≡ c) Covered reached
+      → ((path : List ℕ) (value : ℕ) → Covered path value → Covered' path value) →
+      length (P c) ≡ height → F c ≡ reached → Covered' (P c) (F c)
+      → IsFront live height n P F waits (λ _. ⊥) Covered' reached
   IsFront-leaf c Covered' front on long level covered = close c Covered' front on (record {
     low = omega (arith, level);
-    children = λ j lives. let x = some_of (live (P c ++ j ∷ [])) lives in absurd (omega (arith, long, (grows (P c) j x.0 x.1).above));
+    children = λ j lives. let x = some_of (live (P c ++ j ∷ [])) lives in
+        absurd (omega (arith, long, (grows (P c) j x.0 x.1).above));
     leaf = λ _. covered;
   })

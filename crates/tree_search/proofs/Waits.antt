@@ -12,7 +12,8 @@ times_is : (i : ℕ) (xs : List ℕ) → times i xs ≡ count_by (λ x. eqb x i)
 times_is i xs = is_count_by (times i) (λ x. eqb x i) refl (λ _ _. refl) xs
 
 pub times-permutation : (i : ℕ) (xs ys : List ℕ) → IsPermutation xs ys → times i ys ≡ times i xs
-times-permutation i xs ys moved = times_is i ys ∙ sum_by-IsPermutation (λ x. cond (eqb x i) 1 0) xs ys moved ∙ sym (times_is i xs)
+times-permutation i xs ys moved = times_is i ys ∙ sum_by-IsPermutation (λ x. cond (eqb x i) 1 0) xs ys moved
+    ∙ sym (times_is i xs)
 
 pub times-same : (i : ℕ) (xs : List ℕ) → times i (i ∷ xs) ≡ 1 + times i xs
 times-same i xs = grind (arith, nat_tests)
@@ -38,9 +39,11 @@ stands [] k within = absurd (omega (arith, within))
 stands (x ∷ xs) zero within = omega (arith, times-same x xs)
 stands (x ∷ xs) (suc k) within = by_test (stands xs k (omega (arith, within))) (eqb x (get_or xs k 0))
   where
-    by_test : 0 < times (get_or xs k 0) xs → (b : Bool) → 0 < cond b (1 + times (get_or xs k 0) xs) (times (get_or xs k 0) xs)
+    by_test : 0 < times (get_or xs k 0) xs → (b : Bool)
+        → 0 < cond b (1 + times (get_or xs k 0) xs) (times (get_or xs k 0) xs)
     by_test h true = omega arith
     by_test h false = h
 
 pub All_from : (P : ℕ → Type 0) (xs : List ℕ) → ((i : ℕ) → 0 < times i xs → P i) → All P xs
-All_from P xs each = λ k d within. subst P (get_or_default xs k 0 d within) (each (get_or xs k 0) (stands xs k within))
+All_from P xs each = λ k d within. subst P (get_or_default xs k 0 d within)
+    (each (get_or xs k 0) (stands xs k within))

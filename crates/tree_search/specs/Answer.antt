@@ -53,7 +53,8 @@ pub record IsOpened (live : List ℕ → Option ℕ) (height : ℕ) (path : List
   pub is_live : live path ≡ Some floor
   pub lower : (other : List ℕ) (value : ℕ) → IsLeaf live height other value → IsBefore other path → floor < value
 
--- a live path below the root, whose parent's floor is at most this one: how many there are is the load of that floor
+-- a live path below the root, whose parent's floor is at most this one: how many there are is the load of
+-- that floor
 pub record IsLoaded (live : List ℕ → Option ℕ) (floor : ℕ) (path : List ℕ) : Type 0 where
   pub is_live : IsSome (live path)
   pub parent : List ℕ

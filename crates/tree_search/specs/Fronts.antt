@@ -23,7 +23,8 @@ IsBestLeaf live height reached None best_path = Unit {0}
 IsBestLeaf live height reached (Some best) best_path = IsLeaf live height best_path best × (reached ≡ best)
 
 -- an entry whose live children are entries too, and if it is a leaf is covered
-pub record IsDone (live : List ℕ → Option ℕ) (height n : ℕ) (P : ℕ → List ℕ) (F : ℕ → ℕ) (Covered : List ℕ → ℕ → Type 0) (reached i : ℕ) : Type 0 where
+pub record IsDone (live : List ℕ → Option ℕ) (height n : ℕ) (P : ℕ → List ℕ) (F : ℕ → ℕ)
+    (Covered : List ℕ → ℕ → Type 0) (reached i : ℕ) : Type 0 where
   pub low : F i ≤ reached
   pub children : (k : ℕ) → IsSome (live (P i ++ k ∷ [])) → (m : ℕ) × (m < n) × (P m ≡ P i ++ k ∷ [])
   pub leaf : length (P i) ≡ height → Covered (P i) (F i)
@@ -37,7 +38,8 @@ pub record HasParent (n : ℕ) (P : ℕ → List ℕ) (F : ℕ → ℕ) (reached
   pub low : F parent ≤ reached
 
 -- each entry waits, is spared or is done; what waits is no lower than reached
-pub record IsFront (live : List ℕ → Option ℕ) (height n : ℕ) (P : ℕ → List ℕ) (F : ℕ → ℕ) (waits : ℕ → ℕ) (Spared : ℕ → Type 0) (Covered : List ℕ → ℕ → Type 0) (reached : ℕ) : Type 0 where
+pub record IsFront (live : List ℕ → Option ℕ) (height n : ℕ) (P : ℕ → List ℕ) (F : ℕ → ℕ) (waits : ℕ → ℕ)
+    (Spared : ℕ → Type 0) (Covered : List ℕ → ℕ → Type 0) (reached : ℕ) : Type 0 where
   pub root : P 0 ≡ []
   pub some : 0 < n
   pub floors : (i : ℕ) → i < n → live (P i) ≡ Some (F i)
@@ -66,8 +68,10 @@ abbrev pub floor_in : (List ℕ → Option ℕ) → List Link → ℕ → ℕ
 floor_in live links entry = floor_of (live (path_in links entry))
 
 -- links, what waits and the best leaf make a front
-pub record IsSearch (live : List ℕ → Option ℕ) (height : ℕ) (links : List Link) (waiting : List Entry) (best : Option ℕ) (best_path : List ℕ) (Spared : ℕ → Type 0) (reached : ℕ) : Type 0 where
-  pub front : IsFront live height (length links + 1) (path_in links) (floor_in live links) (λ i. times i (numbers waiting)) Spared (Covers best best_path) reached
+pub record IsSearch (live : List ℕ → Option ℕ) (height : ℕ) (links : List Link) (waiting : List Entry)
+    (best : Option ℕ) (best_path : List ℕ) (Spared : ℕ → Type 0) (reached : ℕ) : Type 0 where
+  pub front : IsFront live height (length links + 1) (path_in links) (floor_in live links)
+      (λ i. times i (numbers waiting)) Spared (Covers best best_path) reached
   pub best_leaf : IsBestLeaf live height reached best best_path
   pub best_long : length best_path ≡ height
   pub linked : IsLinked links
@@ -77,14 +81,16 @@ pub record IsSearch (live : List ℕ → Option ℕ) (height : ℕ) (links : Lis
 -- a front, of which each entry waits or is done
 abbrev pub IsClosed : (List ℕ → Option ℕ) → ℕ → Front → ℕ → Type 0
 IsClosed live height front reached =
-    IsSearch live height front.links.items (heap_items front.waiting) front.best front.best_path.items (λ _. ⊥) reached
+    IsSearch live height front.links.items (heap_items front.waiting) front.best front.best_path.items
+    (λ _. ⊥) reached
 
 -- a front, one entry of which is open: its children before k are entries
 abbrev pub IsOpen : (List ℕ → Option ℕ) → ℕ → Front → ℕ → ℕ → Type 0
 IsOpen live height front entry k =
     IsSearch live height front.links.items (heap_items front.waiting) front.best front.best_path.items
     (λ i. i ≡ entry) (floor_in live front.links.items entry)
-    × IsOpening live (length front.links.items + 1) (path_in front.links.items) (λ i. times i (numbers (heap_items front.waiting))) entry k
+    × IsOpening live (length front.links.items + 1) (path_in front.links.items)
+    (λ i. times i (numbers (heap_items front.waiting))) entry k
 
 -- the entries are within the budget, and there is room for the rest of it
 abbrev pub HasRoom : ℕ → Front → Type 0
@@ -95,4 +101,5 @@ HasRoom budget front =
 -- as many entries as before no longer wait
 abbrev pub SameTaken : Front → Front → Type 0
 SameTaken old new =
-    length (heap_items new.waiting) + length old.links.items ≡ length (heap_items old.waiting) + length new.links.items
+    length (heap_items new.waiting) + length old.links.items
+    ≡ length (heap_items old.waiting) + length new.links.items

@@ -2,7 +2,8 @@
 use Rattle.std.specs.Prelude.{◌≡◌, ℕ, ◌+◌, ◌≤◌, List, length, take, slice_index_or}
 
 -- as far as the level, each node stands for the path that leads to it
-pub record IsTrail {N : Type 0} (is_at : N → List ℕ → Type 0) (height : ℕ) (path : List ℕ) (nodes : List N) (level : ℕ) : Type 0 where
+pub record IsTrail {N : Type 0} (is_at : N → List ℕ → Type 0) (height : ℕ) (path : List ℕ) (nodes : List N)
+    (level : ℕ) : Type 0 where
   pub path_long : length path ≡ height
   pub nodes_long : length nodes ≡ height + 1
   pub within : level ≤ height

@@ -15,16 +15,19 @@ use Rattle.tree_search.proofs.front.search_front.Goals as goal
 
 pub returns-in_default-clause-nothing : goal.returns-in_default-clause-nothing
 returns-in_default-clause-nothing g c =
-    λ path value leaf. none_from (g.met.S.Space.floors_grow c.args.space.now) [] path value c.in_default.ensures leaf.1 (path, refl)
+    λ path value leaf. none_from (g.met.S.Space.floors_grow c.args.space.now) [] path value
+    c.in_default.ensures leaf.1 (path, refl)
 
 pub returns-in_default-clause-nothing_load : goal.returns-in_default-clause-nothing_load
-returns-in_default-clause-nothing_load g c = few_from_dead (g.met.S.Space.floors_grow c.args.space.now) c.args.budget c.in_default.ensures
+returns-in_default-clause-nothing_load g c = few_from_dead (g.met.S.Space.floors_grow c.args.space.now)
+    c.args.budget c.in_default.ensures
 
 pub returns-in_default-clause-over : goal.returns-in_default-clause-over
 returns-in_default-clause-over g c =
     let grows = g.met.S.Space.floors_grow c.args.space.now in (
       λ h. absurd h,
-      enough_none _ _ c.args.budget (λ path value leaf. none_from grows [] path value c.in_default.ensures leaf.1 (path, refl))
+      enough_none _ _ c.args.budget
+          (λ path value leaf. none_from grows [] path value c.in_default.ensures leaf.1 (path, refl))
           (few_from_dead grows c.args.budget c.in_default.ensures),
     )
 
@@ -35,7 +38,8 @@ pops-init g c =
     let live = g.S.Space.live c.args.space.now in
     let height = g.S.Space.height c.args.space.now in
     record {
-      closed = starts live height _ _ (heap_items front.waiting) _ front.best_path.items c.in-Some.ensures.1 made.links made.best
+      closed = starts live height _ _ (heap_items front.waiting) _ front.best_path.items c.in-Some.ensures.1
+          made.links made.best
           (made.long ∙ c.depth-depth.ensures.value) made.heap made.waiting;
       trail = c.in_ok-trail.ensures;
       room = made.room;
@@ -46,12 +50,15 @@ pub returns-in-Some-settled-clause-found : goal.returns-in-Some-settled-clause-f
 returns-in-Some-settled-clause-found g c =
     let popped = c.in-Some-pop_least.ensures in
     let settled = c.in-Some-settled.ensures.settled in
-    rw c.new.ensures (first_settled (g.met.S.Space.floors_grow c.args.space.now) c.pops.invariant.closed.1 popped.taken popped.least _ settled.0 settled.1)
+    rw c.new.ensures
+    (first_settled (g.met.S.Space.floors_grow c.args.space.now) c.pops.invariant.closed.1 popped.taken
+    popped.least _ settled.0 settled.1)
 
 pub returns-in-Some-settled-clause-found_load : goal.returns-in-Some-settled-clause-found_load
 returns-in-Some-settled-clause-found_load g c =
     let popped = c.in-Some-pop_least.ensures in
-    few_below (g.met.S.Space.floors_grow c.args.space.now) c.pops.invariant.closed.1 popped.taken popped.least c.in-Some-settled.value c.args.budget
+    few_below (g.met.S.Space.floors_grow c.args.space.now) c.pops.invariant.closed.1 popped.taken popped.least
+    c.in-Some-settled.value c.args.budget
     c.in-Some-settled.ensures.settled.1 c.pops.invariant.room.0
 
 pub returns-in-Some-settled-clause-over : goal.returns-in-Some-settled-clause-over
@@ -61,25 +68,31 @@ returns-in-Some-settled-clause-over g c =
     let popped = c.in-Some-pop_least.ensures in
     let settled = c.in-Some-settled.ensures.settled in (
       λ h. absurd h,
-      enough_found _ _ c.args.budget _ c.in-Some-settled.value (first_settled grows closed popped.taken popped.least _ settled.0 settled.1)
-          (few_below grows closed popped.taken popped.least c.in-Some-settled.value c.args.budget settled.1 c.pops.invariant.room.0),
+      enough_found _ _ c.args.budget _ c.in-Some-settled.value
+          (first_settled grows closed popped.taken popped.least _ settled.0 settled.1)
+          (few_below grows closed popped.taken popped.least c.in-Some-settled.value c.args.budget settled.1
+          c.pops.invariant.room.0),
     )
 
 pub write_path-start-requires-clause-within : goal.write_path-start-requires-clause-within
 write_path-start-requires-clause-within g c =
     let popped = c.in-Some-pop_least.ensures in
-    rw c.deref.ensures.value (taken_within (g.met.S.Space.floors_grow c.args.space.now) c.pops.invariant.closed.1 popped.taken popped.least)
+    rw c.deref.ensures.value
+    (taken_within (g.met.S.Space.floors_grow c.args.space.now) c.pops.invariant.closed.1 popped.taken
+    popped.least)
 
 pub write_path-start-requires-clause-fits : goal.write_path-start-requires-clause-fits
 write_path-start-requires-clause-fits g c =
     let popped = c.in-Some-pop_least.ensures in
-    let fits = no_longer (g.met.S.Space.floors_grow c.args.space.now) c.pops.invariant.closed.1 popped.taken popped.least in
+    let fits = no_longer (g.met.S.Space.floors_grow c.args.space.now) c.pops.invariant.closed.1 popped.taken
+    popped.least in
     rw (c.deref.ensures.value, c.deref_mut.ensures.value) (omega (arith, fits, c.pops.invariant.long))
 
 pub meet-requires-clause-level : goal.meet-requires-clause-level
 meet-requires-clause-level g c =
     let popped = c.in-Some-pop_least.ensures in
-    best_level (g.met.S.Space.floors_grow c.args.space.now) c.pops.invariant.closed.1 popped.taken popped.least c.in_default-settled.ensures.unsettled
+    best_level (g.met.S.Space.floors_grow c.args.space.now) c.pops.invariant.closed.1 popped.taken
+    popped.least c.in_default-settled.ensures.unsettled
 
 pub pops-smaller-then-start-eq0 : goal.pops-smaller-then-start-eq0
 pops-smaller-then-start-eq0 g c =
@@ -97,28 +110,47 @@ pops-preserved-then-start-eq0 g c =
     let popped = c.in-Some-pop_least.ensures in
     let same = c.meet.ensures in
     let written : c.write_path-start.new.path ≡ path_in now.links.items entry =
-    subst (λ (n : ℕ). drop n c.write_path-start.new.path ≡ path_in c.deref.result.now entry) c.if-start-eq0.true c.write_path-start.ensures.path
+    subst (λ (n : ℕ). drop n c.write_path-start.new.path ≡ path_in c.deref.result.now entry)
+    c.if-start-eq0.true c.write_path-start.ensures.path
     ∙ ap (λ (ls : List Link). path_in ls entry) c.deref.ensures.value in
-    let size : length c.write_path-start.new.path ≡ c.pops.path.len = omega (arith, c.write_path-start.auto.path, c.deref_mut.ensures.len) in
+    let size : length c.write_path-start.new.path ≡ c.pops.path.len =
+    omega (arith, c.write_path-start.auto.path, c.deref_mut.ensures.len) in
     let long : length (path_in now.links.items entry) ≡ g.S.Space.height c.args.space.now =
     omega (arith, ap (λ (p : List ℕ). length p) written, size, kept.long, c.pops.path.ok.0) in
-    let whole = take_at c.write_path-start.new.path (drop (length c.write_path-start.new.path) c.pops.path.items) c.pops.path.len size in
+    let whole = take_at c.write_path-start.new.path
+    (drop (length c.write_path-start.new.path) c.pops.path.items) c.pops.path.len size in
     let path = c.deref-then-start-eq0.ensures.value ∙ whole ∙ written in
-    let opened = IsOpen-first grows closed popped.taken popped.least c.in_default-settled.ensures.unsettled popped.heap in
+    let opened = IsOpen-first grows closed popped.taken popped.least c.in_default-settled.ensures.unsettled
+    popped.heap in
     let links = ap (λ (v : Vec Link Global). v.items) same.links in
     let waiting = ap (λ (v : BinaryHeap Entry Global). heap_items v) same.waiting in
     record {
       closed = (
         floor_in (g.S.Space.live c.args.space.now) now.links.items entry,
-        rw (links, waiting) (IsClosed-leaf grows opened.0 opened.1 _ _ c.in-Some-pop_least.floor (floor_is grows closed popped.taken popped.least) long
+        rw (links, waiting)
+            (IsClosed-leaf grows opened.0 opened.1 _ _ c.in-Some-pop_least.floor
+            (floor_is grows closed popped.taken popped.least) long
             (same.long ∙ closed.best_long) same.best (rw path at same.one) (rw path at same.covers) same.keeps),
       );
       trail = kept.trail;
       room = (
         omega (arith, kept.room.0, ap (λ (ls : List Link). length ls) links),
-        omega (arith, kept.room.1, length_permutation _ _ popped.taken, ap (λ (ls : List Link). length ls) links, ap (λ (es : List Entry). length es) waiting),
+        omega (
+          arith,
+          kept.room.1,
+          length_permutation _ _ popped.taken,
+          ap (λ (ls : List Link). length ls)
+              links,
+          ap (λ (es : List Entry). length es) waiting,
+        ),
         omega (arith, kept.room.2, ap (λ (v : Vec Link Global). vec_capacity v) same.links),
-        omega (arith, kept.room.3, popped.capacity, ap (λ (v : BinaryHeap Entry Global). heap_capacity v) same.waiting),
+        omega (
+          arith,
+          kept.room.3,
+          popped.capacity,
+          ap (λ (v : BinaryHeap Entry Global). heap_capacity v)
+              same.waiting,
+        ),
       );
       long = omega (arith, ap (λ (p : List ℕ). length p) whole, size, kept.long, c.pops.path.ok.0);
     }
@@ -126,13 +158,19 @@ pops-preserved-then-start-eq0 g c =
 pub visit-requires-clause-open : goal.visit-requires-clause-open
 visit-requires-clause-open g c =
     let popped = c.in-Some-pop_least.ensures in
-    IsOpen-first (g.met.S.Space.floors_grow c.args.space.now) c.pops.invariant.closed.1 popped.taken popped.least c.in_default-settled.ensures.unsettled popped.heap
+    IsOpen-first (g.met.S.Space.floors_grow c.args.space.now) c.pops.invariant.closed.1 popped.taken
+    popped.least c.in_default-settled.ensures.unsettled popped.heap
 
 pub visit-requires-clause-room : goal.visit-requires-clause-room
 visit-requires-clause-room g c =
     let room = c.pops.invariant.room in
-    let popped = c.in-Some-pop_least.ensures in
-    (room.0, omega (arith, room.1, length_permutation _ _ popped.taken), room.2, omega (arith, room.3, popped.capacity))
+    let popped = c.in-Some-pop_least.ensures in (
+      room.0,
+      omega (arith, room.1, length_permutation _ _ popped.taken),
+      room.2,
+      omega
+          (arith, room.3, popped.capacity),
+    )
 
 pub returns-then-not-visit-clause-over : goal.returns-then-not-visit-clause-over
 returns-then-not-visit-clause-over g c =
@@ -141,7 +179,8 @@ returns-then-not-visit-clause-over g c =
     let closed = c.pops.invariant.closed.1 in
     let popped = c.in-Some-pop_least.ensures in
     let floor = floor_is grows closed popped.taken popped.least in
-    let spent = subst (λ (f : ℕ). Many (IsLoaded live f) (c.args.budget + 1)) floor c.if-not-visit.ensures.spent in (
+    let spent = subst (λ (f : ℕ). Many (IsLoaded live f) (c.args.budget + 1)) floor
+    c.if-not-visit.ensures.spent in (
       λ _. over_budget live (g.S.Space.height c.args.space.now) c.args.budget c.in-Some-pop_least.floor
           (bounds grows closed popped.taken popped.least c.in_default-settled.ensures.unsettled) spent,
       λ _. tt,
@@ -151,40 +190,56 @@ pub returns-then-not-visit-clause-spent : goal.returns-then-not-visit-clause-spe
 returns-then-not-visit-clause-spent g c =
     let popped = c.in-Some-pop_least.ensures in
     subst (λ (f : ℕ). Many (IsLoaded (g.S.Space.live c.args.space.now) f) (c.args.budget + 1))
-    (floor_is (g.met.S.Space.floors_grow c.args.space.now) c.pops.invariant.closed.1 popped.taken popped.least) c.if-not-visit.ensures.spent
+    (floor_is (g.met.S.Space.floors_grow c.args.space.now) c.pops.invariant.closed.1 popped.taken
+    popped.least) c.if-not-visit.ensures.spent
 
 pub returns-then-not-visit-clause-least : goal.returns-then-not-visit-clause-least
 returns-then-not-visit-clause-least g c =
     let popped = c.in-Some-pop_least.ensures in
-    λ floor less. few_below (g.met.S.Space.floors_grow c.args.space.now) c.pops.invariant.closed.1 popped.taken popped.least floor c.args.budget less c.pops.invariant.room.0
+    λ floor less. few_below (g.met.S.Space.floors_grow c.args.space.now) c.pops.invariant.closed.1
+    popped.taken popped.least floor c.args.budget less c.pops.invariant.room.0
 
 pub returns-then-not-visit-clause-bound : goal.returns-then-not-visit-clause-bound
 returns-then-not-visit-clause-bound g c =
     let popped = c.in-Some-pop_least.ensures in
-    bounds (g.met.S.Space.floors_grow c.args.space.now) c.pops.invariant.closed.1 popped.taken popped.least c.in_default-settled.ensures.unsettled
+    bounds (g.met.S.Space.floors_grow c.args.space.now) c.pops.invariant.closed.1 popped.taken popped.least
+    c.in_default-settled.ensures.unsettled
 
 pub pops-smaller : goal.pops-smaller
 pops-smaller g c =
-    omega (arith, length_permutation _ _ c.in-Some-pop_least.ensures.taken, c.if-not-visit.ensures.taken, c.if-not-visit.ensures.room.0, c.pops.invariant.room.0)
+    omega (
+      arith,
+      length_permutation _ _ c.in-Some-pop_least.ensures.taken,
+      c.if-not-visit.ensures.taken,
+      c.if-not-visit.ensures.room.0,
+      c.pops.invariant.room.0,
+    )
 
 pub returns-in-None-clause-nothing : goal.returns-in-None-clause-nothing
 returns-in-None-clause-nothing g c =
-    no_leaf (g.met.S.Space.floors_grow c.args.space.now) c.pops.invariant.closed.1 c.in_default-pop_least.ensures.none c.in-None.is
+    no_leaf (g.met.S.Space.floors_grow c.args.space.now) c.pops.invariant.closed.1
+    c.in_default-pop_least.ensures.none c.in-None.is
 
 pub returns-in-None-clause-over : goal.returns-in-None-clause-over
 returns-in-None-clause-over g c =
     let grows = g.met.S.Space.floors_grow c.args.space.now in
     let closed = c.pops.invariant.closed.1 in
-    let empty = c.in_default-pop_least.ensures.none in
-    (λ h. absurd h, enough_none _ _ c.args.budget (no_leaf grows closed empty c.in-None.is) (few_live grows closed empty c.args.budget c.pops.invariant.room.0))
+    let empty = c.in_default-pop_least.ensures.none in (
+      λ h. absurd h,
+      enough_none _ _ c.args.budget (no_leaf grows closed empty c.in-None.is)
+          (few_live grows closed empty c.args.budget c.pops.invariant.room.0),
+    )
 
 pub returns-in-None-clause-nothing_load : goal.returns-in-None-clause-nothing_load
 returns-in-None-clause-nothing_load g c =
-    few_live (g.met.S.Space.floors_grow c.args.space.now) c.pops.invariant.closed.1 c.in_default-pop_least.ensures.none c.args.budget c.pops.invariant.room.0
+    few_live (g.met.S.Space.floors_grow c.args.space.now) c.pops.invariant.closed.1
+    c.in_default-pop_least.ensures.none c.args.budget c.pops.invariant.room.0
 
 pub returns-in-Some-best-clause-found : goal.returns-in-Some-best-clause-found
 returns-in-Some-best-clause-found g c =
-    rw c.new-in-Some-best.ensures (first_last (g.met.S.Space.floors_grow c.args.space.now) c.pops.invariant.closed.1 c.in_default-pop_least.ensures.none _ c.in-Some-best.is)
+    rw c.new-in-Some-best.ensures
+    (first_last (g.met.S.Space.floors_grow c.args.space.now) c.pops.invariant.closed.1
+    c.in_default-pop_least.ensures.none _ c.in-Some-best.is)
 
 pub returns-in-Some-best-clause-over : goal.returns-in-Some-best-clause-over
 returns-in-Some-best-clause-over g c =
@@ -198,4 +253,5 @@ returns-in-Some-best-clause-over g c =
 
 pub returns-in-Some-best-clause-found_load : goal.returns-in-Some-best-clause-found_load
 returns-in-Some-best-clause-found_load g c =
-    few_last (g.met.S.Space.floors_grow c.args.space.now) c.pops.invariant.closed.1 c.in_default-pop_least.ensures.none c.in-Some-best.value c.args.budget c.pops.invariant.room.0
+    few_last (g.met.S.Space.floors_grow c.args.space.now) c.pops.invariant.closed.1
+    c.in_default-pop_least.ensures.none c.in-Some-best.value c.args.budget c.pops.invariant.room.0

@@ -9,7 +9,8 @@ invariant-pops g l =
     let space = g.S.Space in
     record {
       closed : (reached : ℕ) × IsClosed (space.live l.space) (space.height l.space) l.front reached;
-      trail : IsTrail (space.is_at l.space) (space.height l.space) l.trail.path.items l.trail.nodes.items l.trail.level;
+      trail : IsTrail (space.is_at l.space) (space.height l.space) l.trail.path.items l.trail.nodes.items
+          l.trail.level;
       room : HasRoom l.budget l.front;
       long : length l.path.items ≡ space.height l.space;
     }

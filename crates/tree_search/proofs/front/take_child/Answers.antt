@@ -8,8 +8,10 @@ use Rattle.tree_search.proofs.front.take_child.Goals as goal
 
 pub returns-then-len-budget-clause-spent : goal.returns-then-len-budget-clause-spent
 returns-then-len-budget-clause-spent g c =
-    many_loaded (g.met.S.Space.floors_grow c.args.space.now) c.requires.open.0.front c.args.entry c.args.k _ c.args.budget c.requires.open.1 refl
-    (c.in-Some.ensures _ c.requires.node).1 (omega (arith, c.len.ensures, c.if-len-budget.true, c.args.front.now.links.ok.0))
+    many_loaded (g.met.S.Space.floors_grow c.args.space.now) c.requires.open.0.front c.args.entry c.args.k _
+    c.args.budget c.requires.open.1 refl
+    (c.in-Some.ensures _ c.requires.node).1
+    (omega (arith, c.len.ensures, c.if-len-budget.true, c.args.front.now.links.ok.0))
 
 pub returns-clause-open : goal.returns-clause-open
 returns-clause-open g c =
@@ -25,5 +27,6 @@ returns-clause-path g c =
 
 pub returns-clause-taken : goal.returns-clause-taken
 returns-clause-taken g c =
-    let links = ap (λ (xs : List Link). length xs) c.add.ensures.links ∙ length_push c.args.front.now.links.items _ in
+    let links = ap (λ (xs : List Link). length xs) c.add.ensures.links
+    ∙ length_push c.args.front.now.links.items _ in
     omega (arith, links, length_permutation _ _ c.add.ensures.waiting)

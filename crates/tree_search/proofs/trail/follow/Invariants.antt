@@ -6,7 +6,8 @@ abbrev pub invariant-loop-trail : goal.invariant-loop-trail
 invariant-loop-trail g l =
     let space = g.S.Space in
     record {
-      trail : IsTrail (space.is_at l.space) (space.height l.space) l.trail.path.items l.trail.nodes.items l.trail.level;
+      trail : IsTrail (space.is_at l.space) (space.height l.space) l.trail.path.items l.trail.nodes.items
+          l.trail.level;
       within : l.trail.level ≤ length l.path;
       same : take l.trail.level l.trail.path.items ≡ take l.trail.level l.path;
     }

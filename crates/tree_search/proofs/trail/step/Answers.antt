@@ -5,12 +5,14 @@ use Rattle.tree_search.proofs.trail.step.Goals as goal
 
 pub index_mut-requires : goal.index_mut-requires
 index_mut-requires g c =
-    let above = above_child (g.met.S.Space.floors_grow c.args.space.now) c.requires.trail c.args.k c.requires.live in
+    let above = above_child (g.met.S.Space.floors_grow c.args.space.now) c.requires.trail c.args.k
+    c.requires.live in
     omega (arith, above, c.requires.trail.path_long, c.args.trail.now.path.ok.0)
 
 pub index_mut-requires-2 : goal.index_mut-requires-2
 index_mut-requires-2 g c =
-    let above = above_child (g.met.S.Space.floors_grow c.args.space.now) c.requires.trail c.args.k c.requires.live in
+    let above = above_child (g.met.S.Space.floors_grow c.args.space.now) c.requires.trail c.args.k
+    c.requires.live in
     omega (arith, above, c.requires.trail.nodes_long, c.args.trail.now.nodes.ok.0)
 
 pub returns-clause-trail : goal.returns-clause-trail
@@ -22,5 +24,7 @@ returns-clause-trail g c =
 
 pub returns-clause-path : goal.returns-clause-path
 returns-clause-path g c =
-    let above = above_child (g.met.S.Space.floors_grow c.args.space.now) c.requires.trail c.args.k c.requires.live in
-    take_more_set c.args.trail.now.path.items c.args.trail.now.level c.args.k (omega (arith, above, c.requires.trail.path_long))
+    let above = above_child (g.met.S.Space.floors_grow c.args.space.now) c.requires.trail c.args.k
+    c.requires.live in
+    take_more_set c.args.trail.now.path.items c.args.trail.now.level c.args.k
+    (omega (arith, above, c.requires.trail.path_long))
