@@ -6,13 +6,13 @@ ghost use Rattle.tree_search.specs.Answer.{IsBefore, IsFirstLeast, HasNoLeaf, Bo
 ghost use Rattle.tree_search.specs.Outcomes.{IfFound, OnNothing, IfSpent, IsSpent};
 ghost use Rattle.tree_search.specs.Links.{path_in, IsLinked};
 ghost use Rattle.tree_search.specs.Entries.{entry_cmp};
-ghost use Rattle.tree_search.specs.Trails.{IsTrail};
+ghost use Rattle.tree_search.specs.Trails.{IsTrail, IsTrailTo};
 ghost use Rattle.tree_search.specs.Fronts.{Covers, floor_in, IsClosed, IsOpen, HasRoom, SameTaken};
 
-use crate::links::{Link, write_path};
+use crate::links::Link;
 use crate::outcome::Outcome;
 use crate::space::Space;
-use crate::trail::{Trail, follow, start_trail};
+use crate::trail::{Trail, go_to, place, start_trail};
 use fux_pitch::{List, Memory};
 use std::alloc::Global;
 use std::cmp::Reverse;
@@ -137,29 +137,38 @@ fn meet(front: &mut Front, path: &[u16], value: u64)
     }
 }
 
-/// Meets one child of the open entry. It answers whether the budget was enough.
+/// Meets one child of the open entry, to which the trail leads as far as the level, and goes on to the child if it is
+/// live. It answers whether the budget was enough.
 fn take_child<S: Space>(
     space: &S,
     front: &mut Front,
-    node: &S::Node,
+    trail: &mut Trail<S::Node>,
+    level: usize,
     entry: u32,
     k: usize,
     budget: u32,
 ) -> bool
     requires open { IsOpen (S.live space.now) (S.height space.now) front.old entry k }
-    requires node { S.is_at space.now node.now (path_in front.old.links.items entry) }
-    requires above { length (path_in front.old.links.items entry) < S.height space.now }
+    requires parent { IsTrailTo (S.is_at space.now) (S.height space.now) front.old.links.items
+        trail.old.path.items trail.old.nodes.items level entry }
+    requires trail { IsTrailTo (S.is_at space.now) (S.height space.now) front.old.links.items
+        trail.old.path.items trail.old.nodes.items trail.old.level trail.old.entry }
+    requires above { level < S.height space.now }
     requires within { k < S.width space.now (path_in front.old.links.items entry) }
     requires small { k < 2 ^ 16 }
     requires room { HasRoom budget front.old }
     ensures open { OnTrue result (IsOpen (S.live space.now) (S.height space.now) front.new entry (k + 1)) }
     ensures path { path_in front.new.links.items entry ≡ path_in front.old.links.items entry }
+    ensures parent { IsTrailTo (S.is_at space.now) (S.height space.now) front.new.links.items
+        trail.new.path.items trail.new.nodes.items level entry }
+    ensures trail { IsTrailTo (S.is_at space.now) (S.height space.now) front.new.links.items
+        trail.new.path.items trail.new.nodes.items trail.new.level trail.new.entry }
     ensures room { HasRoom budget front.new }
     ensures taken { SameTaken front.old front.new }
     ensures spent { OnFalse result
         (Many (IsLoaded (S.live space.now) (floor_in (S.live space.now) front.old.links.items entry)) (budget + 1)) }
 {
-    let Some((_, floor)) = space.child(node, k) else {
+    let Some((child, floor)) = space.child(&trail.nodes[level], k) else {
         return true;
     };
     if front.links.len() == budget as usize {
@@ -170,63 +179,44 @@ fn take_child<S: Space>(
         child: k as u16,
     };
     add(front, floor, link, budget);
+    place(trail, level, k as u16, child);
+    trail.entry = front.links.len() as u32;
     true
 }
 
-/// Opens an entry: meets each of its live children. It answers whether the budget was enough.
-fn open<S: Space>(space: &S, front: &mut Front, node: &S::Node, entry: u32, budget: u32) -> bool
-    requires open { IsOpen (S.live space.now) (S.height space.now) front.old entry 0 }
-    requires node { S.is_at space.now node.now (path_in front.old.links.items entry) }
-    requires above { length (path_in front.old.links.items entry) < S.height space.now }
+/// Opens the entry to which the trail leads: meets each of its live children. The trail then leads to the last of them,
+/// which is the next entry of its floor. It answers whether the budget was enough.
+fn open<S: Space>(space: &S, front: &mut Front, trail: &mut Trail<S::Node>, budget: u32) -> bool
+    requires open { IsOpen (S.live space.now) (S.height space.now) front.old trail.old.entry 0 }
+    requires trail { IsTrailTo (S.is_at space.now) (S.height space.now) front.old.links.items
+        trail.old.path.items trail.old.nodes.items trail.old.level trail.old.entry }
+    requires above { trail.old.level < S.height space.now }
     requires room { HasRoom budget front.old }
     ensures closed { OnTrue result (IsClosed (S.live space.now) (S.height space.now) front.new
-        (floor_in (S.live space.now) front.old.links.items entry)) }
+        (floor_in (S.live space.now) front.old.links.items trail.old.entry)) }
+    ensures trail { IsTrailTo (S.is_at space.now) (S.height space.now) front.new.links.items
+        trail.new.path.items trail.new.nodes.items trail.new.level trail.new.entry }
     ensures room { HasRoom budget front.new }
     ensures taken { SameTaken front.old front.new }
-    ensures spent { OnFalse result
-        (Many (IsLoaded (S.live space.now) (floor_in (S.live space.now) front.old.links.items entry)) (budget + 1)) }
+    ensures spent { OnFalse result (Many
+        (IsLoaded (S.live space.now) (floor_in (S.live space.now) front.old.links.items trail.old.entry))
+        (budget + 1)) }
 {
-    let count = space.count(node);
+    let level = trail.level;
+    let entry = trail.entry;
+    let count = space.count(&trail.nodes[level]);
     let mut from = 0;
     while from < count {
-        let k = space.next_child(node, from, None);
+        let k = space.next_child(&trail.nodes[level], from, None);
         if k >= count {
             return true;
         }
-        if !take_child(space, front, node, entry, k, budget) {
+        if !take_child(space, front, trail, level, entry, k, budget) {
             return false;
         }
         from = k + 1;
     }
     true
-}
-
-/// Makes the node of an entry again, by its path, and opens it. It answers whether the budget was enough.
-fn visit<S: Space>(
-    space: &S,
-    front: &mut Front,
-    trail: &mut Trail<S::Node>,
-    entry: u32,
-    path: &[u16],
-    budget: u32,
-) -> bool
-    requires open { IsOpen (S.live space.now) (S.height space.now) front.old entry 0 }
-    requires trail { IsTrail (S.is_at space.now) (S.height space.now)
-        trail.old.path.items trail.old.nodes.items trail.old.level }
-    requires path { path.now ≡ path_in front.old.links.items entry }
-    requires above { length path.now < S.height space.now }
-    requires room { HasRoom budget front.old }
-    ensures closed { OnTrue result (IsClosed (S.live space.now) (S.height space.now) front.new
-        (floor_in (S.live space.now) front.old.links.items entry)) }
-    ensures trail { IsTrail (S.is_at space.now) (S.height space.now)
-        trail.new.path.items trail.new.nodes.items trail.new.level }
-    ensures room { HasRoom budget front.new }
-    ensures taken { SameTaken front.old front.new }
-    ensures spent { OnFalse result
-        (Many (IsLoaded (S.live space.now) (floor_in (S.live space.now) front.old.links.items entry)) (budget + 1)) }
-{
-    follow(space, trail, path);
-    open(space, front, &trail.nodes[trail.level], entry, budget)
 }
 
 /// The value of the best leaf, if it is below a floor.
@@ -267,7 +257,7 @@ pub fn search_front<S: Space>(alloc: Global, space: &S, budget: u32) -> Result<O
     };
     let mut front = start_front(alloc, floor, depth, budget)?;
     let mut trail = start_trail(space, alloc, root)?;
-    let mut path = vec![in alloc; 0u16; depth]?;
+    let mut list = vec![in alloc; 0u16; depth]?;
     'pops: while let Some((floor, entry)) = pop_least(&mut front.waiting) {
         if let Some(value) = settled(front.best, floor) {
             return Ok(Outcome::Found {
@@ -275,10 +265,10 @@ pub fn search_front<S: Space>(alloc: Global, space: &S, budget: u32) -> Result<O
                 value,
             });
         }
-        let start = write_path(&front.links, entry, &mut path);
-        if start == 0 {
-            meet(&mut front, &path, floor);
-        } else if !visit(space, &mut front, &mut trail, entry, &path[start..], budget) {
+        go_to(space, &front.links, &mut trail, entry, &mut list);
+        if trail.level == depth {
+            meet(&mut front, &trail.path, floor);
+        } else if !open(space, &mut front, &mut trail, budget) {
             return Ok(Outcome::Spent { bound: floor });
         }
     }

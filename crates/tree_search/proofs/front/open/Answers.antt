@@ -1,7 +1,7 @@
-use Rattle.std.proofs.Common.{◌≡◌, ◌≤◌, ◌<◌, ◌++◌, ◌∷◌, [], ℕ, List, Some, length, subst, sym, ap, ◌∙◌, arith}
+use Rattle.std.proofs.Common.{ℕ, List, subst, ap, arith}
 use Rattle.tree_search.specs.Fronts.{IsClosed, floor_of}
+use Rattle.tree_search.proofs.Trails.{node_of, level_is}
 use Rattle.tree_search.proofs.Searches.{IsOpen-passed, IsClosed-opened}
-use Rattle.tree_search.specs.Links.{path_in}
 use Rattle.tree_search.proofs.front.open.Goals as goal
 
 pub returns-then-k-count-clause-closed : goal.returns-then-k-count-clause-closed
@@ -11,19 +11,15 @@ returns-then-k-count-clause-closed g c =
     let now = c.loop-from.front in
     let grows = g.met.S.Space.floors_grow space in
     let width = ap (g.S.Space.width space) kept.same_path in
-    let count = c.count-count.ensures.value _ c.requires.node in
-    let path = path_in now.links.items c.args.entry in
-    let dead : (j floor : ℕ) → c.loop-from.from ≤ j → j < c.next_child-k.result
-    → g.S.Space.live space (path ++ j ∷ []) ≡ Some floor → ⊥ =
-    λ j floor low high is. c.next_child-k.ensures.passed _ c.requires.node j floor low high
-    (ap (λ (p : List ℕ). g.S.Space.live space (p ++ j ∷ [])) (sym kept.same_path) ∙ is) in
+    let count = c.count-count.ensures.value _ (node_of c.requires.trail c.index.result.now c.index.ensures) in
+    let node = node_of kept.parent c.index-in-loop-from.result.now c.index-in-loop-from.ensures in
     let last = IsOpen-passed grows kept.opening.0 kept.opening.1 c.next_child-k.result
-    c.next_child-k.ensures.onward dead in
+    c.next_child-k.ensures.onward (c.next_child-k.ensures.passed _ node) in
     subst (λ (r : ℕ). IsClosed (g.S.Space.live space) (g.S.Space.height space) now r)
     (ap (λ (p : List ℕ). floor_of (g.S.Space.live space p)) kept.same_path)
     (IsClosed-opened grows last.0 last.1
     (omega (arith, width, count, c.if-k-count.true))
-    (omega (arith, ap (λ (p : List ℕ). length p) kept.same_path, c.requires.above)))
+    (omega (arith, level_is kept.parent, c.requires.above)))
 
 pub returns-clause-closed : goal.returns-clause-closed
 returns-clause-closed g c =
@@ -31,9 +27,9 @@ returns-clause-closed g c =
     let space = c.args.space.now in
     let now = c.loop-from.front in
     let width = ap (g.S.Space.width space) kept.same_path in
-    let count = c.count-count.ensures.value _ c.requires.node in
+    let count = c.count-count.ensures.value _ (node_of c.requires.trail c.index.result.now c.index.ensures) in
     subst (λ (r : ℕ). IsClosed (g.S.Space.live space) (g.S.Space.height space) now r)
     (ap (λ (p : List ℕ). floor_of (g.S.Space.live space p)) kept.same_path)
     (IsClosed-opened (g.met.S.Space.floors_grow space) kept.opening.0 kept.opening.1
     (omega (arith, width, count, c.loop-from-test.false))
-    (omega (arith, ap (λ (p : List ℕ). length p) kept.same_path, c.requires.above)))
+    (omega (arith, level_is kept.parent, c.requires.above)))

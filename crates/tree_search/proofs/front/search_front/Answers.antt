@@ -1,4 +1,5 @@
-use Rattle.std.proofs.Common.{◌≡◌, ◌+◌, [], ℕ, List, Vec, Global, length, drop, vec_capacity, refl, ap, subst, ◌∙◌, arith}
+use Rattle.std.proofs.Math.Seq.{take-length}
+use Rattle.std.proofs.Common.{is_some, sym, take, ◌≡◌, ◌+◌, [], ℕ, List, Vec, Global, length, drop, vec_capacity, refl, ap, subst, ◌∙◌, arith}
 use Rattle.std.proofs.lemmas.List.{take_at}
 use Rattle.std.proofs.lemmas.List.Sorted.{length_permutation}
 use Rattle.std.specs.BinaryHeap.{heap_items, heap_capacity}
@@ -10,7 +11,8 @@ use Rattle.tree_search.specs.Entries.{Entry}
 use Rattle.tree_search.specs.Fronts.{floor_in}
 use Rattle.tree_search.proofs.Floors.{none_from}
 use Rattle.tree_search.proofs.Loads.{over_budget, enough_found, enough_none}
-use Rattle.tree_search.proofs.Searches.{few_from_dead, starts, IsClosed-leaf, IsOpen-first, first_settled, few_below, first_last, few_last, no_leaf, few_live, floor_is, taken_within, no_longer, best_level, bounds}
+use Rattle.tree_search.proofs.Trails.{level_is}
+use Rattle.tree_search.proofs.Searches.{few_from_dead, starts, IsClosed-leaf, IsOpen-first, first_settled, few_below, first_last, few_last, no_leaf, few_live, floor_is, floor_live, taken_within, no_longer, best_level, bounds}
 use Rattle.tree_search.proofs.front.search_front.Goals as goal
 
 pub returns-in_default-clause-nothing : goal.returns-in_default-clause-nothing
@@ -41,9 +43,9 @@ pops-init g c =
       closed = starts live height _ _ (heap_items front.waiting) _ front.best_path.items c.in-Some.ensures.1
           made.links made.best
           (made.long ∙ c.depth-depth.ensures.value) made.heap made.waiting;
-      trail = c.in_ok-trail.ensures;
+      trail = rw made.links c.in_ok-trail.ensures;
       room = made.room;
-      long = omega (arith, c.in_ok-path.ensures.len, c.in_ok-path.path.ok.0, c.depth-depth.ensures.value);
+      long = omega (arith, c.in_ok-list.ensures.len, c.in_ok-list.list.ok.0, c.depth-depth.ensures.value);
     }
 
 pub returns-in-Some-settled-clause-found : goal.returns-in-Some-settled-clause-found
@@ -74,15 +76,14 @@ returns-in-Some-settled-clause-over g c =
           c.pops.invariant.room.0),
     )
 
-pub write_path-start-requires-clause-within : goal.write_path-start-requires-clause-within
-write_path-start-requires-clause-within g c =
+pub go_to-requires-clause-within : goal.go_to-requires-clause-within
+go_to-requires-clause-within g c =
     let popped = c.in-Some-pop_least.ensures in
     rw c.deref.ensures.value
-    (taken_within (g.met.S.Space.floors_grow c.args.space.now) c.pops.invariant.closed.1 popped.taken
-    popped.least)
+    (taken_within (g.met.S.Space.floors_grow c.args.space.now) c.pops.invariant.closed.1 popped.taken popped.least)
 
-pub write_path-start-requires-clause-fits : goal.write_path-start-requires-clause-fits
-write_path-start-requires-clause-fits g c =
+pub go_to-requires-clause-fits : goal.go_to-requires-clause-fits
+go_to-requires-clause-fits g c =
     let popped = c.in-Some-pop_least.ensures in
     let fits = no_longer (g.met.S.Space.floors_grow c.args.space.now) c.pops.invariant.closed.1 popped.taken
     popped.least in
@@ -94,14 +95,14 @@ meet-requires-clause-level g c =
     best_level (g.met.S.Space.floors_grow c.args.space.now) c.pops.invariant.closed.1 popped.taken
     popped.least c.in_default-settled.ensures.unsettled
 
-pub pops-smaller-then-start-eq0 : goal.pops-smaller-then-start-eq0
-pops-smaller-then-start-eq0 g c =
+pub pops-smaller-then-trail-depth : goal.pops-smaller-then-trail-depth
+pops-smaller-then-trail-depth g c =
     let links = ap (λ (v : Vec Link Global). length v.items) c.meet.ensures.links in
     let waiting = ap (λ (v : BinaryHeap Entry Global). length (heap_items v)) c.meet.ensures.waiting in
     omega (arith, links, waiting, length_permutation _ _ c.in-Some-pop_least.ensures.taken, c.pops.invariant.room.0)
 
-pub pops-preserved-then-start-eq0 : goal.pops-preserved-then-start-eq0
-pops-preserved-then-start-eq0 g c =
+pub pops-preserved-then-trail-depth : goal.pops-preserved-then-trail-depth
+pops-preserved-then-trail-depth g c =
     let grows = g.met.S.Space.floors_grow c.args.space.now in
     let now = c.pops.front in
     let kept = c.pops.invariant in
@@ -109,17 +110,19 @@ pops-preserved-then-start-eq0 g c =
     let entry = c.in-Some-pop_least.entry in
     let popped = c.in-Some-pop_least.ensures in
     let same = c.meet.ensures in
-    let written : c.write_path-start.new.path ≡ path_in now.links.items entry =
-    subst (λ (n : ℕ). drop n c.write_path-start.new.path ≡ path_in c.deref.result.now entry)
-    c.if-start-eq0.true c.write_path-start.ensures.path
-    ∙ ap (λ (ls : List Link). path_in ls entry) c.deref.ensures.value in
-    let size : length c.write_path-start.new.path ≡ c.pops.path.len =
-    omega (arith, c.write_path-start.auto.path, c.deref_mut.ensures.len) in
-    let long : length (path_in now.links.items entry) ≡ g.S.Space.height c.args.space.now =
-    omega (arith, ap (λ (p : List ℕ). length p) written, size, kept.long, c.pops.path.ok.0) in
-    let whole = take_at c.write_path-start.new.path
-    (drop (length c.write_path-start.new.path) c.pops.path.items) c.pops.path.len size in
-    let path = c.deref-then-start-eq0.ensures.value ∙ whole ∙ written in
+    let trail = rw (c.deref.ensures.value, c.go_to.ensures.entry) at c.go_to.ensures.trail in
+    let deep : c.go_to.new.trail.level ≡ g.S.Space.height c.args.space.now =
+    c.if-trail-depth.true ∙ c.depth-depth.ensures.value in
+    let long : length (path_in now.links.items entry) ≡ g.S.Space.height c.args.space.now = level_is trail ∙ deep in
+    let whole_level : c.go_to.new.trail.level ≡ length c.go_to.new.trail.path.items =
+    deep ∙ sym trail.trail.path_long in
+    let path = c.deref-then-trail-depth.ensures.value
+    ∙ sym (ap (λ (n : ℕ). take n c.go_to.new.trail.path.items) whole_level
+    ∙ take-length c.go_to.new.trail.path.items)
+    ∙ trail.leads in
+    let size : length c.go_to.new.list ≡ c.pops.list.len =
+    omega (arith, c.go_to.auto.list, c.deref_mut.ensures.len) in
+    let whole = take_at c.go_to.new.list (drop (length c.go_to.new.list) c.pops.list.items) c.pops.list.len size in
     let opened = IsOpen-first grows closed popped.taken popped.least c.in_default-settled.ensures.unsettled
     popped.heap in
     let links = ap (λ (v : Vec Link Global). v.items) same.links in
@@ -129,18 +132,17 @@ pops-preserved-then-start-eq0 g c =
         floor_in (g.S.Space.live c.args.space.now) now.links.items entry,
         rw (links, waiting)
             (IsClosed-leaf grows opened.0 opened.1 _ _ c.in-Some-pop_least.floor
-            (floor_is grows closed popped.taken popped.least) long
-            (same.long ∙ closed.best_long) same.best (rw path at same.one) (rw path at same.covers) same.keeps),
+            (floor_is grows closed popped.taken popped.least) long (same.long ∙ closed.best_long) same.best
+            (rw path at same.one) (rw path at same.covers) same.keeps),
       );
-      trail = kept.trail;
+      trail = rw (links, c.go_to.ensures.entry) trail;
       room = (
         omega (arith, kept.room.0, ap (λ (ls : List Link). length ls) links),
         omega (
           arith,
           kept.room.1,
           length_permutation _ _ popped.taken,
-          ap (λ (ls : List Link). length ls)
-              links,
+          ap (λ (ls : List Link). length ls) links,
           ap (λ (es : List Entry). length es) waiting,
         ),
         omega (arith, kept.room.2, ap (λ (v : Vec Link Global). vec_capacity v) same.links),
@@ -152,17 +154,24 @@ pops-preserved-then-start-eq0 g c =
               same.waiting,
         ),
       );
-      long = omega (arith, ap (λ (p : List ℕ). length p) whole, size, kept.long, c.pops.path.ok.0);
+      long = omega (arith, ap (λ (p : List ℕ). length p) whole, size, kept.long, c.pops.list.ok.0);
     }
 
-pub visit-requires-clause-open : goal.visit-requires-clause-open
-visit-requires-clause-open g c =
+pub go_to-requires-clause-live : goal.go_to-requires-clause-live
+go_to-requires-clause-live g c =
     let popped = c.in-Some-pop_least.ensures in
-    IsOpen-first (g.met.S.Space.floors_grow c.args.space.now) c.pops.invariant.closed.1 popped.taken
-    popped.least c.in_default-settled.ensures.unsettled popped.heap
+    rw c.deref.ensures.value (ap is_some
+    (floor_live (g.met.S.Space.floors_grow c.args.space.now) c.pops.invariant.closed.1 popped.taken popped.least))
 
-pub visit-requires-clause-room : goal.visit-requires-clause-room
-visit-requires-clause-room g c =
+pub open-requires-clause-open : goal.open-requires-clause-open
+open-requires-clause-open g c =
+    let popped = c.in-Some-pop_least.ensures in
+    rw c.go_to.ensures.entry
+    (IsOpen-first (g.met.S.Space.floors_grow c.args.space.now) c.pops.invariant.closed.1 popped.taken
+    popped.least c.in_default-settled.ensures.unsettled popped.heap)
+
+pub open-requires-clause-room : goal.open-requires-clause-room
+open-requires-clause-room g c =
     let room = c.pops.invariant.room in
     let popped = c.in-Some-pop_least.ensures in (
       room.0,
@@ -172,35 +181,35 @@ visit-requires-clause-room g c =
           (arith, room.3, popped.capacity),
     )
 
-pub returns-then-not-visit-clause-over : goal.returns-then-not-visit-clause-over
-returns-then-not-visit-clause-over g c =
+pub returns-then-not-open-clause-over : goal.returns-then-not-open-clause-over
+returns-then-not-open-clause-over g c =
     let live = g.S.Space.live c.args.space.now in
     let grows = g.met.S.Space.floors_grow c.args.space.now in
     let closed = c.pops.invariant.closed.1 in
     let popped = c.in-Some-pop_least.ensures in
     let floor = floor_is grows closed popped.taken popped.least in
     let spent = subst (λ (f : ℕ). Many (IsLoaded live f) (c.args.budget + 1)) floor
-    c.if-not-visit.ensures.spent in (
+    (rw c.go_to.ensures.entry at c.if-not-open.ensures.spent) in (
       λ _. over_budget live (g.S.Space.height c.args.space.now) c.args.budget c.in-Some-pop_least.floor
           (bounds grows closed popped.taken popped.least c.in_default-settled.ensures.unsettled) spent,
       λ _. tt,
     )
 
-pub returns-then-not-visit-clause-spent : goal.returns-then-not-visit-clause-spent
-returns-then-not-visit-clause-spent g c =
+pub returns-then-not-open-clause-spent : goal.returns-then-not-open-clause-spent
+returns-then-not-open-clause-spent g c =
     let popped = c.in-Some-pop_least.ensures in
     subst (λ (f : ℕ). Many (IsLoaded (g.S.Space.live c.args.space.now) f) (c.args.budget + 1))
     (floor_is (g.met.S.Space.floors_grow c.args.space.now) c.pops.invariant.closed.1 popped.taken
-    popped.least) c.if-not-visit.ensures.spent
+    popped.least) (rw c.go_to.ensures.entry at c.if-not-open.ensures.spent)
 
-pub returns-then-not-visit-clause-least : goal.returns-then-not-visit-clause-least
-returns-then-not-visit-clause-least g c =
+pub returns-then-not-open-clause-least : goal.returns-then-not-open-clause-least
+returns-then-not-open-clause-least g c =
     let popped = c.in-Some-pop_least.ensures in
     λ floor less. few_below (g.met.S.Space.floors_grow c.args.space.now) c.pops.invariant.closed.1
     popped.taken popped.least floor c.args.budget less c.pops.invariant.room.0
 
-pub returns-then-not-visit-clause-bound : goal.returns-then-not-visit-clause-bound
-returns-then-not-visit-clause-bound g c =
+pub returns-then-not-open-clause-bound : goal.returns-then-not-open-clause-bound
+returns-then-not-open-clause-bound g c =
     let popped = c.in-Some-pop_least.ensures in
     bounds (g.met.S.Space.floors_grow c.args.space.now) c.pops.invariant.closed.1 popped.taken popped.least
     c.in_default-settled.ensures.unsettled
@@ -210,8 +219,8 @@ pops-smaller g c =
     omega (
       arith,
       length_permutation _ _ c.in-Some-pop_least.ensures.taken,
-      c.if-not-visit.ensures.taken,
-      c.if-not-visit.ensures.room.0,
+      c.if-not-open.ensures.taken,
+      c.if-not-open.ensures.room.0,
       c.pops.invariant.room.0,
     )
 
