@@ -86,7 +86,7 @@ undisturbed rule ex voices i behind now ahead t enough =
     enough
 
 pub rhythm_is_local : AreLocal rhythm_breaks rhythm_settles
-rhythm_is_local rule ex voices = local_from_row (broken_in rule ex voices) (enough_after rule ex voices) (undisturbed rule ex voices)
+rhythm_is_local rule ex voices = local_from_row ex (broken_in rule ex voices) (enough_after rule ex voices) (undisturbed rule ex voices)
 
 -- a bar that isn't open is closed for good
 closed_stays : (slot part goes part' goes' : Bool) → (part ≡ false → part' ≡ false) → (goes ≡ false → goes' ≡ false) → (slot && part && goes) ≡ false → (slot && part' && goes') ≡ false

@@ -8,6 +8,7 @@ pub mod Nearby
 pub mod OrderlyLaw
 pub mod Pairs
 pub mod Places
+pub mod Prefixes
 pub mod Quiet
 pub mod Terms
 pub mod Voices
