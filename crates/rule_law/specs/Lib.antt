@@ -1,5 +1,6 @@
 pub mod Bars
 pub mod BothLaw
+pub mod Forms
 pub mod Growth
 pub mod Law
 pub mod LowerVoices
@@ -10,5 +11,6 @@ pub mod Pairs
 pub mod Places
 pub mod Prefixes
 pub mod Quiet
+pub mod Rulebooks
 pub mod Terms
 pub mod Voices
