@@ -1,16 +1,16 @@
 -- The rules and tolls of dissonance as a crate's book.
-use Rattle.std.specs.Prelude.{ℕ, ◌==◌, true, false, List, [], ◌∷◌}
+use Rattle.std.specs.Prelude.{ℕ, Bool, ◌==◌, ◌||◌, true, false}
 use Rattle.rule_law.specs.declared.table.Form.TheVariants.{TwoVoices}
 use Rattle.rule_law.specs.declared.table.Kind.TheVariants.{Column}
 use Rattle.rule_law.specs.declared.table.Stands.TheVariants.{AtBars}
 use Rattle.rule_law.specs.Rulebooks.{RuleRow, Rulebook, TollRow}
 use Rattle.dissonance_rules.specs.Rows.{broken_in, cost_enough, cost_in, enough_after}
 
-abbrev pub rule_numbers : List ℕ
-rule_numbers = 11 ∷ 14 ∷ []
+abbrev pub has_rule : ℕ → Bool
+has_rule n = (n == 11) || (n == 14)
 
-abbrev pub toll_numbers : List ℕ
-toll_numbers = 1 ∷ 2 ∷ []
+abbrev pub has_toll : ℕ → Bool
+has_toll n = (n == 1) || (n == 2)
 
 abbrev pub rule_row : ℕ → RuleRow
 rule_row n = record {
@@ -35,4 +35,4 @@ toll_row n = record {
 }
 
 abbrev pub book : Rulebook
-book = record { rules = rule_numbers; rule = rule_row; tolls = toll_numbers; toll = toll_row }
+book = record { has_rule = has_rule; rule = rule_row; has_toll = has_toll; toll = toll_row }

@@ -1,5 +1,5 @@
 -- The rules and tolls of melody as a crate's book.
-use Rattle.std.specs.Prelude.{ℕ, ◌==◌, true, false, List, [], ◌∷◌, if◌then◌else◌}
+use Rattle.std.specs.Prelude.{ℕ, Bool, ◌==◌, ◌||◌, true, false, if◌then◌else◌}
 use Rattle.rule_law.specs.declared.table.Form.TheVariants.{OneVoice}
 use Rattle.rule_law.specs.declared.table.Kind.{Kind}
 use Rattle.rule_law.specs.declared.table.Kind.TheVariants.{Pair, Window}
@@ -7,11 +7,11 @@ use Rattle.rule_law.specs.declared.table.Stands.TheVariants.{Anywhere}
 use Rattle.rule_law.specs.Rulebooks.{RuleRow, Rulebook, TollRow}
 use Rattle.melody_rules.specs.Rows.{broken_in, cost_enough, cost_in, enough_after, looks_back}
 
-abbrev pub rule_numbers : List ℕ
-rule_numbers = 4 ∷ 5 ∷ 6 ∷ 7 ∷ 8 ∷ 9 ∷ 26 ∷ []
+abbrev pub has_rule : ℕ → Bool
+has_rule n = (n == 4) || (n == 5) || (n == 6) || (n == 7) || (n == 8) || (n == 9) || (n == 26)
 
-abbrev pub toll_numbers : List ℕ
-toll_numbers = 7 ∷ 8 ∷ 9 ∷ 10 ∷ 13 ∷ []
+abbrev pub has_toll : ℕ → Bool
+has_toll n = (n == 7) || (n == 8) || (n == 9) || (n == 10) || (n == 13)
 
 abbrev pub rule_row : ℕ → RuleRow
 rule_row n = record {
@@ -36,4 +36,4 @@ toll_row n = record {
 }
 
 abbrev pub book : Rulebook
-book = record { rules = rule_numbers; rule = rule_row; tolls = toll_numbers; toll = toll_row }
+book = record { has_rule = has_rule; rule = rule_row; has_toll = has_toll; toll = toll_row }

@@ -1,16 +1,16 @@
 -- The rules and tolls of motion as a crate's book.
-use Rattle.std.specs.Prelude.{ℕ, ◌==◌, true, false, List, [], ◌∷◌, if◌then◌else◌}
+use Rattle.std.specs.Prelude.{ℕ, Bool, ◌==◌, ◌||◌, true, false, if◌then◌else◌}
 use Rattle.rule_law.specs.declared.table.Form.TheVariants.{TwoVoices}
 use Rattle.rule_law.specs.declared.table.Kind.TheVariants.{Column, Pair, Window}
 use Rattle.rule_law.specs.declared.table.Stands.TheVariants.{Anywhere}
 use Rattle.rule_law.specs.Rulebooks.{RuleRow, Rulebook, TollRow}
 use Rattle.motion_rules.specs.Rows.{broken_in, cost_enough, cost_in, enough_after}
 
-abbrev pub rule_numbers : List ℕ
-rule_numbers = 10 ∷ 16 ∷ 17 ∷ []
+abbrev pub has_rule : ℕ → Bool
+has_rule n = (n == 10) || (n == 16) || (n == 17)
 
-abbrev pub toll_numbers : List ℕ
-toll_numbers = 11 ∷ 14 ∷ []
+abbrev pub has_toll : ℕ → Bool
+has_toll n = (n == 11) || (n == 14)
 
 abbrev pub rule_row : ℕ → RuleRow
 rule_row n = record {
@@ -35,4 +35,4 @@ toll_row n = record {
 }
 
 abbrev pub book : Rulebook
-book = record { rules = rule_numbers; rule = rule_row; tolls = toll_numbers; toll = toll_row }
+book = record { has_rule = has_rule; rule = rule_row; has_toll = has_toll; toll = toll_row }

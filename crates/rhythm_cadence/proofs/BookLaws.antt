@@ -1,7 +1,8 @@
 -- The rules of rhythm and cadence keep the laws of a crate's book.
 use Rattle.std.specs.Prelude.{◌≡◌, ℕ, ◌+◌, ◌-◌, ◌*◌, ◌/◌, ◌<◌, ◌≤◌, ◌==◌, ◌&&◌, ◌||◌, Bool, true, false, not, List, [], ◌∷◌, ◌++◌, length, if◌then◌else◌, refl}
 use Rattle.std.proofs.Common.{ap, sym, ◌∙◌, subst, arith}
-use Rattle.std.proofs.lemmas.Bool.{eqb-true, and_parts}
+use Rattle.std.proofs.lemmas.Bool.{eqb-true, eq-eqb, and_parts}
+use Rattle.std.proofs.lemmas.List.{length-append}
 use Rattle.fux_grid.specs.declared.cell.Cell.{Cell}
 use Rattle.fux_grid.specs.declared.exercise.Exercise.{Exercise}
 use Rattle.fux_grid.specs.Cells.{cell_in, pitch_of}
@@ -96,6 +97,30 @@ module _ (n : ℕ) (ex : Exercise) where
       at : (b : Bool) → (if b then 8 * (i / 8) else i) + 1 ≤ i + 1
       at true = omega arith
       at false = omega arith
+
+-- what a column settles of S3 at its place is the reading at the beginning of its bar
+pub late_reading : (rule : ℕ) (ex : Exercise) (voices : ℕ) (p : List (List Cell)) (col : List Cell) (place : ℕ) → (rule == 3) ≡ true → GoesOn ex p (col ∷ []) → IsAmong ((rule_row rule).first ex (length p)) ((rule_row rule).count ex (length p)) place → newly_breaks (rule_row rule) ex voices p col place ≡ rhythm_breaks 3 ex voices (p ++ col ∷ []) (newest_start (p ++ col ∷ []))
+late_reading rule ex voices p col place e on among =
+    let three : rule ≡ 3 = eqb-true rule 3 e in
+    let A : ℕ → Type 0 = λ k. IsAmong ((rule_row k).first ex (length p)) 1 place in
+    let a : IsAmong (8 * (length p / 8)) 1 place = subst A three among in
+    let at : place ≡ newest_start (p ++ col ∷ []) = here (newest_bar-more p col) a.from a.to in
+    ap (λ k. newly_breaks (rule_row k) ex voices p col place) three
+    ∙ newly_broken ex p col on.orderly voices place
+    ∙ ap (λ b. b && rhythm_breaks 3 ex voices (p ++ col ∷ []) place) (eq-eqb place (newest_start (p ++ col ∷ [])) at)
+    ∙ ap (rhythm_breaks 3 ex voices (p ++ col ∷ [])) at
+  where
+    here : {b : ℕ} → b ≡ length p / 8 + 1 → 8 * (length p / 8) ≤ place → place < 8 * (length p / 8) + 1 → place ≡ 8 * (b - 1)
+    here h from to = omega (arith, h)
+
+-- so the reading for one voice is what is settled for its set
+pub late_for_voice : (rule : ℕ) (ex : Exercise) (voices : ℕ) (p : List (List Cell)) (col : List Cell) (place set : ℕ) {read : Bool} → voices ≡ set → read ≡ rhythm_breaks 3 ex set (p ++ col ∷ []) (newest_start (p ++ col ∷ [])) → (rule == 3) ≡ true → GoesOn ex p (col ∷ []) → IsAmong ((rule_row rule).first ex (length p)) ((rule_row rule).count ex (length p)) place → read ≡ newly_breaks (rule_row rule) ex voices p col place
+late_for_voice rule ex voices p col place set its h e on among =
+    h ∙ ap (λ b. rhythm_breaks 3 ex b (p ++ col ∷ []) (newest_start (p ++ col ∷ []))) (sym its)
+    ∙ sym (late_reading rule ex voices p col place e on among)
+
+pub longer : (p : List (List Cell)) (col : List Cell) → 0 < length (p ++ col ∷ [])
+longer p col = omega (arith, length-append p (col ∷ []))
 
 pub rules_keep : (n : ℕ) → KeepsRuleLaws (rule_row n)
 rules_keep n = record {

@@ -1,13 +1,13 @@
 -- The rules of rhythm and cadence as a crate's book.
-use Rattle.std.specs.Prelude.{ℕ, ◌*◌, ◌/◌, ◌==◌, ◌||◌, true, false, List, [], ◌∷◌, if◌then◌else◌}
+use Rattle.std.specs.Prelude.{ℕ, Bool, ◌*◌, ◌/◌, ◌==◌, ◌||◌, true, false, if◌then◌else◌}
 use Rattle.rule_law.specs.declared.table.Form.TheVariants.{OneVoice, TwoVoices}
 use Rattle.rule_law.specs.declared.table.Kind.TheVariants.{Column, Pair, Window}
 use Rattle.rule_law.specs.declared.table.Stands.TheVariants.{Anywhere, AtBars, AtTheEnd}
 use Rattle.rule_law.specs.Rulebooks.{RuleRow, Rulebook, TollRow, no_toll}
 use Rattle.rhythm_cadence.specs.Rows.{broken_in, enough_after}
 
-abbrev pub rule_numbers : List ℕ
-rule_numbers = 1 ∷ 2 ∷ 3 ∷ 12 ∷ 13 ∷ 24 ∷ []
+abbrev pub has_rule : ℕ → Bool
+has_rule n = (n == 1) || (n == 2) || (n == 3) || (n == 12) || (n == 13) || (n == 24)
 
 -- S3 is late: a column may settle a break at the beginning of its bar. S13 and S24 are of the last bar
 abbrev pub rule_row : ℕ → RuleRow
@@ -23,4 +23,4 @@ rule_row n = record {
 }
 
 abbrev pub book : Rulebook
-book = record { rules = rule_numbers; rule = rule_row; tolls = []; toll = λ n. no_toll }
+book = record { has_rule = has_rule; rule = rule_row; has_toll = λ n. false; toll = λ n. no_toll }

@@ -1,5 +1,5 @@
 -- What a crate of rules gives to those above it and owes them, and how two crates are read as one.
-use Rattle.std.specs.Prelude.{◌≡◌, ℕ, ◌+◌, ◌<◌, ◌≤◌, ◌==◌, Bool, true, false, ◌&&◌, List, [], ◌∷◌, ◌++◌, length, if◌then◌else◌, refl}
+use Rattle.std.specs.Prelude.{◌≡◌, ℕ, ◌+◌, ◌<◌, ◌≤◌, Bool, true, false, ◌&&◌, ◌||◌, List, [], ◌∷◌, ◌++◌, length, if◌then◌else◌, refl}
 use Rattle.std.specs.List.{list_any, sum_by}
 use Rattle.std.proofs.Common.{sym, ◌∙◌, arith}
 use Rattle.fux_grid.specs.declared.cell.Cell.{Cell}
@@ -87,21 +87,17 @@ pub record KeepsTollLaws (it : TollRow) : Type 0 where
   pub quiet : it.late ≡ false → (ex : Exercise) (i : ℕ) (behind : List (List Cell)) (now : List Cell)
       → is_quiet i now ≡ true → it.cost ex i behind now [] ≡ 0
 
--- what a crate has: the numbers of its rules and tolls, and each by its number
+-- what a crate has: which numbers are those of its rules and tolls, and each by its number
 pub record Rulebook : Type 0 where
-  pub rules : List ℕ
+  pub has_rule : ℕ → Bool
   pub rule : ℕ → RuleRow
-  pub tolls : List ℕ
+  pub has_toll : ℕ → Bool
   pub toll : ℕ → TollRow
-
--- a number is in a list
-abbrev pub is_in : List ℕ → ℕ → Bool
-is_in numbers n = list_any (λ other. n == other) numbers
 
 -- the crate keeps the laws, for each number that it has
 pub record KeepsLaws (book : Rulebook) : Type 0 where
-  pub rules : (n : ℕ) → is_in book.rules n ≡ true → KeepsRuleLaws (book.rule n)
-  pub tolls : (n : ℕ) → is_in book.tolls n ≡ true → KeepsTollLaws (book.toll n)
+  pub rules : (n : ℕ) → book.has_rule n ≡ true → KeepsRuleLaws (book.rule n)
+  pub tolls : (n : ℕ) → book.has_toll n ≡ true → KeepsTollLaws (book.toll n)
 
 -- and for every number
 pub record KeepsAllLaws (book : Rulebook) : Type 0 where
@@ -111,10 +107,10 @@ pub record KeepsAllLaws (book : Rulebook) : Type 0 where
 -- two crates as one: a number is read as the first one that has it reads it
 abbrev pub joined : Rulebook → Rulebook → Rulebook
 joined a b = record {
-  rules = a.rules ++ b.rules;
-  rule = λ n. if is_in a.rules n then a.rule n else b.rule n;
-  tolls = a.tolls ++ b.tolls;
-  toll = λ n. if is_in a.tolls n then a.toll n else b.toll n;
+  has_rule = λ n. a.has_rule n || b.has_rule n;
+  rule = λ n. if a.has_rule n then a.rule n else b.rule n;
+  has_toll = λ n. a.has_toll n || b.has_toll n;
+  toll = λ n. if a.has_toll n then a.toll n else b.toll n;
 }
 
 -- a rule that is never broken, and a toll that costs nothing: such is each number that no crate has
@@ -141,7 +137,7 @@ no_toll = record {
 }
 
 abbrev pub nothing : Rulebook
-nothing = record { rules = []; rule = λ n. no_rule; tolls = []; toll = λ n. no_toll }
+nothing = record { has_rule = λ n. false; rule = λ n. no_rule; has_toll = λ n. false; toll = λ n. no_toll }
 
 -- ---- what holds of them
 
@@ -184,6 +180,6 @@ chosen P false x y h k = k
 
 pub joined_keeps : (a b : Rulebook) → KeepsLaws a → KeepsAllLaws b → KeepsAllLaws (joined a b)
 joined_keeps a b h k = record {
-  rules = λ n. chosen KeepsRuleLaws (is_in a.rules n) (a.rule n) (b.rule n) (h.rules n) (k.rules n);
-  tolls = λ n. chosen KeepsTollLaws (is_in a.tolls n) (a.toll n) (b.toll n) (h.tolls n) (k.tolls n);
+  rules = λ n. chosen KeepsRuleLaws (a.has_rule n) (a.rule n) (b.rule n) (h.rules n) (k.rules n);
+  tolls = λ n. chosen KeepsTollLaws (a.has_toll n) (a.toll n) (b.toll n) (h.tolls n) (k.tolls n);
 }

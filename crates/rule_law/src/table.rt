@@ -35,6 +35,13 @@ pub enum Stands {
     AtTheEnd,
 }
 
+/// The places at which a column may settle breaks of a late rule, in a row: the first, and how many.
+#[derive(Clone, Copy, Debug, PartialEq, Eq)]
+pub struct LatePlaces {
+    pub first: usize,
+    pub count: usize,
+}
+
 /// The sets of one voice.
 const SINGLE_VOICES: [u8; 4] = [1, 2, 4, 8];
 
