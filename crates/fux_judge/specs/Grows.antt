@@ -9,6 +9,7 @@ use Rattle.std.proofs.Math.Seq.{get_or-append_seam}
 use Rattle.std.proofs.lemmas.List.{length-append, take-append-le, take_all}
 use Rattle.fux_grid.specs.declared.cell.Cell.{Cell}
 use Rattle.fux_grid.specs.declared.exercise.Exercise.{Exercise}
+use Rattle.rule_law.specs.Forms as forms
 use Rattle.rule_law.specs.Places.{IsLocal}
 use Rattle.rule_law.specs.Prefixes.{GoesOn, IsPrefix}
 use Rattle.rule_law.specs.Growth.{any_below, sum_below, newly, any_below-same, any_below-or, any_below-list_any, sum_below-same, sum_below-plus, list_any-same, list_any-or, sum_by-same, sum_by-plus, sum_by-none, test_grows, charge_grows, unsettled_at_end}
@@ -69,7 +70,7 @@ module _ (ex : Exercise) (p : List (List Cell)) (col : List Cell) where
       ∙ list_any-or (λ rule. list_any (λ voices. is_strictly_broken rule ex voices p i) all_sets) (λ rule. list_any (λ voices. newly_broken_at rule ex voices p col i) all_sets) rules_read
 
   none_at_end : list_any (λ rule. list_any (λ voices. is_strictly_broken rule ex voices p (length p)) all_sets) rules_read ≡ false
-  unfolding all_sets rules_read
+  unfolding forms.all_sets rules_read
   none_at_end =
       list_any-same (λ rule. list_any (λ voices. is_strictly_broken rule ex voices p (length p)) all_sets) (λ rule. false) rules_read
       (λ rule. list_any-same (λ voices. is_strictly_broken rule ex voices p (length p)) (λ voices. false) all_sets
