@@ -20,4 +20,4 @@ pub use pruning::pruned_within;
 pub use state::State;
 pub use total::penalty;
 pub use verdict::{Verdict, every_rule, step};
-pub use whole::{cost_in, every_toll, is_broken_in, is_settled_in};
+pub use whole::{cost_in, every_toll, is_broken_in, is_cost_settled_in, is_settled_in};

