@@ -14,9 +14,7 @@ use rhythm_cadence::{are_in_place, begins_last_bar};
 use rule_law::begins_bar;
 
 /// The rules that are settled at once.
-const RULES_AT_ONCE: [u8; 17] = [
-    1, 2, 4, 5, 6, 7, 8, 9, 10, 11, 12, 13, 14, 16, 17, 24, 26,
-];
+const RULES_AT_ONCE: [u8; 17] = [1, 2, 4, 5, 6, 7, 8, 9, 10, 11, 12, 13, 14, 16, 17, 24, 26];
 
 /// Those of them that the first three tests don't speak of: they are of the last bar's beginning, or of any bar's.
 const AT_THE_END: [u8; 4] = [11, 13, 14, 24];

@@ -8,8 +8,6 @@ mod moment;
 mod pruning;
 mod reading;
 mod state;
-#[cfg(test)]
-mod tests;
 mod tolls;
 mod total;
 mod verdict;

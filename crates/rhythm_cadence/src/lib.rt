@@ -6,8 +6,6 @@ mod letter_sets;
 mod part;
 mod rhythm;
 mod rows;
-#[cfg(test)]
-mod tests;
 
 pub use in_place::are_in_place;
 pub use letter_sets::{LetterSets, fitting_shapes};
