@@ -1,4 +1,5 @@
 pub mod Apart
+pub mod Book
 pub mod Locality
 pub mod LowerVoices
 pub mod Quiet

@@ -4,8 +4,6 @@
 mod apart;
 mod dissonance;
 mod rows;
-#[cfg(test)]
-mod tests;
 mod tolls;
 
 pub use apart::are_apart;

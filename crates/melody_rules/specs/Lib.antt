@@ -1,3 +1,4 @@
+pub mod Book
 pub mod Locality
 pub mod LowerVoices
 pub mod Notes

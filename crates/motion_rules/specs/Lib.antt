@@ -1,4 +1,5 @@
 pub mod BarLines
+pub mod Book
 pub mod Clear
 pub mod Locality
 pub mod LowerVoices

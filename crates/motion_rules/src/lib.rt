@@ -5,8 +5,6 @@ mod bar_lines;
 mod clear;
 mod motion;
 mod rows;
-#[cfg(test)]
-mod tests;
 mod tolls;
 
 pub use bar_lines::{BarLines, imperfect_runs_after, no_bar_lines, noted};

@@ -1,3 +1,4 @@
+pub mod Book
 pub mod InPlace
 pub mod Locality
 pub mod LowerVoices

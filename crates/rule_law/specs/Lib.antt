@@ -1,5 +1,6 @@
 pub mod Bars
 pub mod BothLaw
+pub mod Forms
 pub mod Growth
 pub mod Law
 pub mod LowerVoices
@@ -8,6 +9,8 @@ pub mod Nearby
 pub mod OrderlyLaw
 pub mod Pairs
 pub mod Places
+pub mod Prefixes
 pub mod Quiet
+pub mod Rulebooks
 pub mod Terms
 pub mod Voices
