@@ -4,3 +4,4 @@ pub mod MarkLemmas
 pub mod RuleLemmas
 pub mod SettingLemmas
 pub mod UniqueLemmas
+pub mod VoiceText

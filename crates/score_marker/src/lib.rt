@@ -3,10 +3,12 @@
 
 mod cantus;
 mod mark;
+mod mark_lines;
 mod setting;
 #[cfg(test)]
 mod tests;
 
 pub use cantus::cantus_marks;
 pub use mark::Mark;
+pub use mark_lines::marks_text;
 pub use setting::marks;
