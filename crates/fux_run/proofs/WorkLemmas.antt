@@ -1,6 +1,5 @@
 -- Work on files: another fact of it (`works_so`), and that no file was missing (`none_missing`).
-use Rattle.std.proofs.Common.{◌≡◌, ℕ, List, [], ◌∷◌, Contains, Result, Ok, Err, inl, inr, arith}
-use Rattle.std.proofs.lemmas.List.Kept.{Contains-cons_cases}
+use Rattle.std.proofs.Common.{◌≡◌, ℕ, zero, suc, ◌<◌, length, get_or, List, [], ◌∷◌, Contains, Result, Ok, Err, inl, inr, arith}
 use Rattle.fux_port.specs.Files.{IsMissing}
 use Rattle.fux_run.specs.Commands.{Task, names_in}
 use Rattle.fux_run.specs.Texts.{Work}
@@ -21,16 +20,20 @@ not_missing : (files : Files) (name bytes : List ℕ) → MayHave files name byt
 not_missing files name bytes (inl untold) missing = cc (untold, missing)
 not_missing files name bytes (inr has) missing = cc (has, missing)
 
+-- a name that is neither the first nor among the others is none of them
+in_neither : (first name : List ℕ) (names : List (List ℕ)) → (first ≡ name → ⊥) → (Contains names name → ⊥)
+    → (k : ℕ) → k < length (first ∷ names) → get_or (first ∷ names) k name ≡ name → ⊥
+in_neither first name names head tail zero within is = head is
+in_neither first name names head tail (suc k) within is = tail (k, omega arith, is)
+
 all_there : (files : Files) (names bytes : List (List ℕ)) (name : List ℕ) → AllMayHave files names bytes → Contains names name
     → IsMissing files name → ⊥
 all_there files [] [] name had one missing = omega (arith, one.1)
 all_there files [] (text ∷ more) name had one missing = absurd had
 all_there files (first ∷ names) [] name had one missing = absurd had
 all_there files (first ∷ names) (text ∷ more) name had one missing =
-    elim Contains-cons_cases first name names one.0 one.1 one.2 [
-      | inl same ↦ not_missing files first text had.0 (rw same missing)
-      | inr later ↦ all_there files names more name had.1 later missing
-    ]
+    in_neither first name names (λ is. not_missing files first text had.0 (rw is missing))
+    (λ later. all_there files names more name had.1 later missing) one.0 one.1 one.2
 
 -- no file that a command worked on was missing
 pub none_missing : (task : Task) (files : Files) (Holds : Work → Type 0) (name : List ℕ) → Works task files Holds

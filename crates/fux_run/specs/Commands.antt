@@ -1,11 +1,10 @@
 -- What the words on the command line ask for. A word is its bytes.
-use Rattle.std.specs.Prelude.{ℕ, ◌≤◌, nat_le, ◌&&◌, List, [], ◌∷◌, String, Option, Some, None, map, string_bytes, codes, if◌then◌else◌, option_and_then, option_map}
+use Rattle.std.specs.Prelude.{ℕ, ◌≤◌, nat_le, ◌&&◌, List, [], ◌∷◌, String, Option, Some, None, true, map, string_bytes, codes, if◌then◌else◌, option_and_then, option_map}
 use Rattle.std.specs.Fmt.{decimal}
 use Rattle.std.specs.Str.{bytes_eq}
 use Rattle.std.specs.Str.Parse.{digits_value}
 use Rattle.clap.specs.Simple.{on_top}
-use Rattle.clap.specs.Walk.{is_empty}
-use Rattle.clap.specs.Words.{App, Row, Rule, Text, fault_of, first_of, matches_of, new_app, new_rule, with_rule}
+use Rattle.clap.specs.Words.{App, Kinds, Row, Rule, Text, fault_of, first_of, matches_of, new_app, new_rule, with_rule}
 use Rattle.fux_run.specs.declared.command.Command.{Command}
 use Rattle.fux_run.specs.declared.command.Command.TheVariants.{Compose, Mark, Cantus}
 
@@ -43,9 +42,14 @@ mark_words name = with_rule (words_of name) exercise_word
 abbrev pub compose_words : Text → App
 compose_words name = with_rule (mark_words name) (option_word (codes "budget"))
 
+-- a value where there is no fault
+abbrev pub if_faultless : {X : Type 0} → Kinds → X → Option X
+if_faultless [] x = Some x
+if_faultless (fault ∷ faults) x = None
+
 -- the values that `clap` finds in words that it takes
 abbrev pub found_in : App → List Text → Option (List Row)
-found_in app words = if is_empty (fault_of app words) then Some (matches_of app words) else None
+found_in app words = if_faultless (fault_of app words) (matches_of app words)
 
 -- a number from one to another, in digits without a sign or a leading zero
 abbrev pub number_in : ℕ → ℕ → Text → Option ℕ

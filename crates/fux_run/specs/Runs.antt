@@ -1,5 +1,5 @@
 -- How a run ends.
-use Rattle.std.specs.Prelude.{◌≡◌, ℕ, ◌⊎◌, List, [], ◌∷◌, Contains, Option, None, Some, Result, Ok, Err, codes}
+use Rattle.std.specs.Prelude.{◌≡◌, ℕ, ◌⊎◌, List, [], ◌++◌, Contains, Option, None, Some, Result, Ok, Err, codes}
 use Rattle.fux_port.specs.Written.{appended, StopsShort}
 use Rattle.fux_run.specs.declared.complaint.Complaint.{Complaint}
 use Rattle.fux_run.specs.declared.complaint.Complaint.TheVariants as complaint
@@ -56,10 +56,10 @@ abbrev pub IsStopped : ℕ → Type 0
 IsStopped code = (code ≡ code_of Usage) ⊎ ((code ≡ code_of Refused) ⊎ ((code ≡ code_of Unreadable) ⊎ (code ≡ code_of OutOfMemory)))
 
 -- work whose output was written
-pub record IsWritten (old new : Option (List ℕ)) (verdict : Verdict) (work : Work) : Type 0 where
+pub record IsWritten (old new : Option (List ℕ)) (said : Verdict) (work : Work) : Type 0 where
   pub output : Output
   pub is : work ≡ Ok output
-  pub verdict : output.verdict ≡ verdict
+  pub verdict : output.verdict ≡ said
   pub written : new ≡ appended old output.text
 
 -- work that refuses a file of this name, as the text says

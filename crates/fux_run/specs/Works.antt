@@ -69,10 +69,10 @@ IsContent limit (Whole read) bytes = read.items ≡ bytes
 IsContent limit TooLong bytes = limit < length bytes
 
 -- the content of the file of a name
-pub record IsRead (limit : ℕ) (files : Files) (name : List ℕ) (content : Content) : Type 0 where
+pub record IsRead (limit : ℕ) (files : Files) (name : List ℕ) (read : Content) : Type 0 where
   pub bytes : List ℕ
   pub had : MayHave files name bytes
-  pub content : IsContent limit content bytes
+  pub content : IsContent limit read bytes
 
 -- the answers of a read, each with its cause
 abbrev pub Reads : ℕ → Files → Type 0 → List ℕ → Result Content Complaint → Type 0

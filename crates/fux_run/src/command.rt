@@ -108,7 +108,7 @@ fn exercise_command<'a>(alloc: Global, name: &'a str) -> Result<clap::Command<'a
 }
 
 /// The command of `clap` for `compose`.
-fn compose_command(alloc: Global) -> Result<clap::Command<'static>, AllocError>
+fn compose_command<'a>(alloc: Global) -> Result<clap::Command<'a>, AllocError>
     ensures { IfOk result (λ command. app_of command ≡ compose_words (codes "compose")) }
 {
     let budget = Arg::new(alloc, "budget").long("budget");
@@ -135,7 +135,7 @@ fn taken<'a>(
 
 /// The budget that a word gives, or the usual one where there is none.
 fn budget_of(word: Option<&str>) -> Option<u32>
-    ensures { result ≡ budget_in (option_map (λ text. text.now) word) }
+    ensures { result ≡ budget_in (option_map (λ text. text.now) word.entry) }
 {
     match word {
         Some(word) => parse_budget(word),

@@ -29,8 +29,8 @@ impl<'a> Complaint<'a> {
         ensures status { result ≡ complaint_status self.now }
         ensures line { Gets E.written E.faults err.old err.new (fux_line (complaint_text self.now)) }
     {
-        let (before, data) = self.pieces();
-        let _ = write_pieces(err, before, data);
+        let (before, detail) = self.pieces();
+        let _ = write_pieces(err, before, detail);
         self.status()
     }
 
@@ -61,11 +61,11 @@ impl<'a> Complaint<'a> {
 }
 
 /// Writes two texts as one line of the program.
-fn write_pieces<E: Sink>(err: &mut E, before: &str, data: &str) -> Result<(), Failed>
-    ensures { Gets E.written E.faults err.old err.new (fux_line (before.now ++ data.now)) }
+fn write_pieces<E: Sink>(err: &mut E, before: &str, detail: &str) -> Result<(), Failed>
+    ensures { Gets E.written E.faults err.old err.new (fux_line (before.now ++ detail.now)) }
 {
     write_all(err, b"fux: ")?;
     write_all(err, before.as_bytes())?;
-    write_all(err, data.as_bytes())?;
+    write_all(err, detail.as_bytes())?;
     write_all(err, b"\n")
 }

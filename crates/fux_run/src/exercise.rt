@@ -1,6 +1,7 @@
 //! The exercise of a text.
 
-ghost use Rattle.std.specs.Prelude.{ℕ, List};
+ghost use Rattle.std.specs.Prelude.{ℕ, IfOk, List};
+ghost use Rattle.fux_grid.specs.Exercises.{IsValid};
 ghost use Rattle.fux_run.specs.Works.{IsContent};
 ghost use Rattle.fux_run.specs.Texts.{ReadsText};
 
@@ -16,7 +17,8 @@ pub const LONGEST_TEXT: usize = 65_536;
 
 /// The exercise whose text this is.
 pub fn exercise_of(alloc: Global, text: &Content) -> Result<Exercise, Stop>
-    ensures { (bytes : List ℕ) → IsContent 65536 text.now bytes → ReadsText bytes result }
+    ensures reads { (bytes : List ℕ) → IsContent 65536 text.now bytes → ReadsText bytes result }
+    ensures valid { IfOk result IsValid }
 {
     let Content::Whole(bytes) = text else {
         return Err(Stop::Refused(Refusal::Form));

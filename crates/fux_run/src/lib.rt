@@ -9,12 +9,11 @@ mod exercise;
 mod marking;
 mod perform;
 mod refusal;
-mod run;
 mod status;
+mod top_call;
 mod work;
 
 pub use command::{Command, parse};
 pub use complaint::Complaint;
-pub use refusal::Refusal;
-pub use run::run;
 pub use status::Status;
+pub use top_call::run;

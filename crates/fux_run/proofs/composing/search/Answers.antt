@@ -9,8 +9,8 @@ use Rattle.fux_run.specs.Composed.{usual_sheet}
 use Rattle.fux_run.proofs.BestLemmas.{not_so_many}
 use Rattle.fux_run.proofs.composing.search.Goals as goal
 
-pub returns-in-Nothing : goal.returns-in-Nothing
-returns-in-Nothing c =
+pub returns-in_ok-none_text-in-Nothing : goal.returns-in_ok-none_text-in-Nothing
+returns-in_ok-none_text-in-Nothing c =
     let ex = c.args.exercise.now in
     let task = c.requires.space in
     let none = subst (λ outcome. OnNothing outcome (HasNoLeaf (live_at c.args.space.now.exercise c.args.space.now.sheet) (columns_in c.args.space.now.exercise))) c.in-Nothing.is c.in_ok-path.ensures.nothing in
@@ -19,8 +19,8 @@ returns-in-Nothing c =
       spelled = c.in_ok-none_text-in-Nothing.ensures;
     }
 
-pub returns : goal.returns
-returns c =
+pub returns-in_ok-bound_text-in-Spent : goal.returns-in_ok-bound_text-in-Spent
+returns-in_ok-bound_text-in-Spent c =
     let ex = c.args.exercise.now in
     let task = c.requires.space in
     let low = subst (λ outcome. IfSpent outcome (BoundsLeaves (live_at c.args.space.now.exercise c.args.space.now.sheet) (columns_in c.args.space.now.exercise))) c.in-Spent.is c.in_ok-path.ensures.bound in

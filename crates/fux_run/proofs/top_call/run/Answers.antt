@@ -4,15 +4,16 @@ use Rattle.fux_run.specs.Commands.{asked, texts}
 use Rattle.fux_run.specs.Sinks.{Gets}
 use Rattle.fux_run.proofs.RunLemmas.{RanAs, of_task, ran_complete, ran_missing, ran_unreadable, ran_works, run_form, run_known, run_memory_line, run_silent, run_unwritable, run_unwritten, run_usage, run_usage_line}
 use Rattle.fux_run.proofs.SinkLemmas.{gets_none}
-use Rattle.fux_run.proofs.run.run.Goals as goal
+use Rattle.fux_run.proofs.top_call.run.Goals as goal
+use Rattle.fux_run.proofs.top_call.run.Goals.{Joined-ended}
 
 -- the run on these words
-ran : (g : _) (c : goal.After-code g)
+ran : (g : _) (c : Joined-ended g)
     → RanAs (asked (texts c.args.words.now)) (g.F.Shelf.files c.args.shelf.now) (Rose (g.F.Shelf.faults c.args.shelf.now) (g.F.Shelf.faults c.outcome-ended.new.shelf))
     (Rose (g.K.Sink.faults c.args.out.now) (g.K.Sink.faults c.outcome-ended.new.out))
     (g.K.Sink.written c.args.out.now) (g.K.Sink.written c.outcome-ended.new.out) c.outcome-ended.result c.code.result
     (Gets g.E.Sink.written g.E.Sink.faults c.args.err.now c.conclude.new.err)
-ran g c = record { ended = c.outcome-ended.ensures.ended; code = rw c.conclude.ensures.status at c.code.ensures; told = c.conclude.ensures.line }
+ran g c = record { ended = c.outcome-ended.ensures.ended; status = rw c.conclude.ensures.status at c.code.ensures; told = c.conclude.ensures.line }
 
 pub returns-clause-known : goal.returns-clause-known
 returns-clause-known g c = run_known _ _ _ _ _ _ _ _ _ (ran g c)
