@@ -1,5 +1,5 @@
 -- What a command's end is, from what was read (`ends_unread`) and from what was made of it (`works_on`).
-use Rattle.std.proofs.Common.{◌≡◌, ◌⊎◌, ℕ, List, [], ◌∷◌, Contains, Option, Result, Ok, Err, inl, inr, refl, sym, ap, ◌∙◌, arith}
+use Rattle.std.proofs.Common.{◌≡◌, ◌⊎◌, ℕ, List, [], ◌∷◌, Option, Err, inl, inr, refl, sym, ap, ◌∙◌, arith}
 use Rattle.fux_port.specs.Files.{IsMissing}
 use Rattle.fux_run.specs.declared.complaint.Complaint.{Complaint}
 use Rattle.fux_run.specs.declared.complaint.Complaint.TheVariants.{Usage, Refused, Unreadable, Unwritable, OutOfMemory}
@@ -41,9 +41,11 @@ pub ends_refused : (task : Task) (files : Files) (rose cut : Type 0) (old : Opti
     (complaint : Complaint) → name ≡ name_in task → IsRead 65536 files name content
     → ((bytes : List ℕ) → IsContent 65536 content bytes → MakesOfText task bytes (Err refusal))
     → SaysRefusal (refusal_text name refusal) complaint → Ended task files rose cut old old (Err complaint)
-ends_refused task files rose cut old name content refusal (Refused text) same read made said =
-    (refl, works_on task files name content (Err refusal) (IsRefused (name_in task) text) same read made
-    record { refusal = refusal; is = refl; told = said ∙ ap (λ n. refusal_text n refusal) same })
+ends_refused task files rose cut old name content refusal (Refused text) same read made said = (
+  refl,
+  works_on task files name content (Err refusal) (IsRefused (name_in task) text) same read made
+      record { refusal = refusal; is = refl; told = said ∙ ap (λ n. refusal_text n refusal) same },
+)
 ends_refused task files rose cut old name content refusal OutOfMemory same read made said = refl
 ends_refused task files rose cut old name content refusal Usage same read made said = absurd said
 ends_refused task files rose cut old name content refusal (Unreadable file) same read made said = absurd said

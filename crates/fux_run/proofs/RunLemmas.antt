@@ -13,7 +13,6 @@ use Rattle.fux_run.specs.declared.status.Status.{Status}
 use Rattle.fux_run.specs.declared.status.Status.TheVariants as status
 use Rattle.fux_run.specs.Runs.{Ended, EndedAs, EndsAs, EndsUnread, IsDone, IsStopped, IsWritten, IsRefused, work_output, result_status, result_line}
 use Rattle.fux_run.specs.Statuses.{code_of, verdict_status}
-use Rattle.fux_run.specs.Texts.{Work}
 use Rattle.fux_run.specs.Works.{Files, Works}
 use Rattle.fux_run.proofs.SinkLemmas.{appended-none}
 use Rattle.fux_run.proofs.WorkLemmas.{works_so, none_missing, first_is_missing}

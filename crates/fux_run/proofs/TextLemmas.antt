@@ -1,5 +1,5 @@
 -- What a command answers to a text, from what it answers to the exercise (`answers_text`) or from the refusal (`refuses_text`).
-use Rattle.std.proofs.Common.{◌≡◌, ℕ, List, Result, Ok, Err, inl, inr, refl}
+use Rattle.std.proofs.Common.{ℕ, List, Result, Ok, Err, inl, inr, refl}
 use Rattle.fux_grid.specs.declared.exercise.Exercise.{Exercise}
 use Rattle.fux_run.specs.declared.work.Output.{Output}
 use Rattle.fux_run.specs.declared.work.Stop.{Stop}

@@ -1,5 +1,5 @@
 -- Work on files: another fact of it (`works_so`), and that no file was missing (`none_missing`).
-use Rattle.std.proofs.Common.{◌≡◌, ℕ, zero, suc, ◌<◌, length, get_or, List, [], ◌∷◌, Contains, Result, Ok, Err, inl, inr, arith}
+use Rattle.std.proofs.Common.{◌≡◌, ℕ, zero, suc, ◌<◌, length, get_or, List, [], ◌∷◌, Contains, inl, inr, arith}
 use Rattle.fux_port.specs.Files.{IsMissing}
 use Rattle.fux_run.specs.Commands.{Task, names_in}
 use Rattle.fux_run.specs.Texts.{Work}

@@ -33,8 +33,10 @@ pub fn compose<R: Threads + Sync>(
     let space = match SpeciesSpace::new(rt, alloc, exercise, &sheet) {
         Ok(space) => space,
         Err(TableFault::Memory) => return Err(Stop::Memory),
-        Err(TableFault::TooWide { place, count }) =>
-            return Err(Stop::Refused(Refusal::TooWide { place, count })),
+        Err(TableFault::TooWide { place, count }) => return Err(Stop::Refused(Refusal::TooWide {
+            place,
+            count,
+        })),
     };
     Ok(search(alloc, exercise, &space, budget)?)
 }

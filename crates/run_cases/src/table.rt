@@ -11,7 +11,8 @@ const EXERCISE: &str =
     "fux 1\nmode dorian\nvoices 2\nbars 3\nspecies 1 voice 1\ncantus 0 D4 E4 D4\nrange 1 A4 D5\n";
 
 /// The beginning of a longer one, which `&` stands for, with the range and the first bars of a setting.
-const SETTING: &str = "fux 1\nmode dorian\nvoices 2\nbars 11\nspecies 1 voice 1\ncantus 0 D4 F4 E4 D4 G4 F4 A4 G4 F4 E4 D4\nrange 1 G4 D5\nsing 1 A4:8 | A4:8 | G4:8 | A4:8 | ";
+const SETTING: &str =
+    "fux 1\nmode dorian\nvoices 2\nbars 11\nspecies 1 voice 1\ncantus 0 D4 F4 E4 D4 G4 F4 A4 G4 F4 E4 D4\nrange 1 G4 D5\nsing 1 A4:8 | A4:8 | G4:8 | A4:8 | ";
 
 /// A line for each run: the words, the file `A`, the status, and what is written to standard output and to standard error. In these `/`
 /// is a line feed and `!` is `|`.
@@ -21,6 +22,9 @@ compose A|@|0|@sing 1 D5:8 ! C5:8 ! D5:8/; penalty 0/|
 compose A --budget 112|@|0|@sing 1 D5:8 ! C5:8 ! D5:8/; penalty 0/|
 compose A --budget 4000000|@|0|@sing 1 D5:8 ! C5:8 ! D5:8/; penalty 0/|
 compose A --budget 1|@|6|spent, at least 0/|
+compose --budget=1 A|@|6|spent, at least 0/|
+compose -- A|@|0|@sing 1 D5:8 ! C5:8 ! D5:8/; penalty 0/|
+compose A --|@|0|@sing 1 D5:8 ! C5:8 ! D5:8/; penalty 0/|
 compose A|fux 1/mode dorian/voices 2/bars 3/species 1 voice 1/cantus 0 D4 E4 D4/range 1 A4 B4/|1|none/|
 mark A|&B4:8 ! C5:8 ! C5:8 ! B4:8 ! D5:8 ! C#5:8 ! D5:8/|0|marks 0/|
 mark A|&D5:8 ! C5:8 ! C5:8 ! B4:8 ! D5:8 ! C#5:8 ! D5:8/|1|bar 5 slot 0 S16 voices 0 1/bar 5 slot 0 S17 voices 0 1/bar 6 slot 0 S16 voices 0 1/bar 6 slot 0 S17 voices 0 1/marks 4/|
@@ -35,6 +39,12 @@ mark A B|@|2||fux: usage/
 mark A --budget 7|@|2||fux: usage/
 compose A --budget|@|2||fux: usage/
 compose A 7 --budget|@|2||fux: usage/
+compose A --budget 7 --budget 7|@|2||fux: usage/
+compose -h|@|2||fux: usage/
+compose A --help|@|2||fux: usage/
+mark -V|@|2||fux: usage/
+mark --version|@|2||fux: usage/
+mark --budget|@|2||fux: usage/
 compose A --budget 0|@|2||fux: usage/
 compose A --budget 4000001|@|2||fux: usage/
 compose A --budget 07|@|2||fux: usage/
@@ -42,6 +52,7 @@ compose A --budget -1|@|2||fux: usage/
 compose A --budget +7|@|2||fux: usage/
 compose A --budget |@|2||fux: usage/
 compose B|@|4||fux: cannot read B/
+mark -|@|4||fux: cannot read -/
 compose A||3||fux: A: form/
 mark A||3||fux: A: form/
 cantus A||3||fux: A: form/

@@ -45,7 +45,7 @@ column_fits ex path h i within =
     let size : length s ≡ length path = length-columns_on ex 0 path in
     let e : 0 + i ≡ i = omega arith in
     let col : slice_index_or s i [] ≡ chosen_column ex path i =
-        columns_on-at ex 0 path i within ∙ ap (λ n. slice_index_or (menu_of ex n) (slice_index_or path i 0) []) e in
+    columns_on-at ex 0 path i within ∙ ap (λ n. slice_index_or (menu_of ex n) (slice_index_or path i 0) []) e in
     let before : take i s ≡ prefix_at ex (take i path) = sym (columns_on-take ex 0 i path) in
     let all : take (length s) s ≡ s = take_all (length s) s (omega arith) in
     let follows = follows-at s (length s) (omega arith) (rw all live.prefix.follows) i (omega (arith, size, within)) in

@@ -8,5 +8,4 @@ use crate::space::SpeciesSpace;
 /// the lawful settings, with their penalties by its sheet as values. It does nothing, and tells what is proved of the space.
 pub fn is_counterpoint(_space: &SpeciesSpace<'_>)
     ensures { IsCounterpoint _space.now.exercise _space.now.sheet }
-{
-}
+{}

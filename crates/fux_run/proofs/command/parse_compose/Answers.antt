@@ -1,5 +1,5 @@
-use Rattle.std.proofs.Common.{None, Some, codes, option_map, refl, ap, ◌∙◌}
-use Rattle.clap.specs.Words.{Text, app_of, found_of, is_simple_and_free, rows_of}
+use Rattle.std.proofs.Common.{None, Some, codes, refl, ap, ◌∙◌}
+use Rattle.clap.specs.Words.{app_of, found_of, is_simple_and_free, rows_of}
 use Rattle.fux_run.specs.Commands.{compose, compose_asked, texts}
 use Rattle.fux_run.proofs.Forms.{compose_is_simple}
 use Rattle.fux_run.proofs.Taken.{asked_so, first_word}

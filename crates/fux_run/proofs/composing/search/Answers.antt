@@ -1,4 +1,4 @@
-use Rattle.std.proofs.Common.{◌+◌, ap, ◌∙◌, subst}
+use Rattle.std.proofs.Common.{◌+◌, subst}
 use Rattle.fux_grid.specs.Exercises.{columns_in}
 use Rattle.species_space.specs.Best.{no_leaf_no_lawful, bound_of_lawful, many_live}
 use Rattle.species_space.specs.Exact.{menus_are_exact}

@@ -1,6 +1,6 @@
 use Rattle.fux_run.specs.Composed.{Composes}
 use Rattle.fux_run.specs.Marked.{CantusMarks, Marks}
-use Rattle.fux_run.proofs.TextLemmas.{answers_text, refuses_text}
+use Rattle.fux_run.proofs.TextLemmas.{answers_text}
 use Rattle.fux_run.proofs.perform.answer.Goals as goal
 
 pub compose-requires-after_bounds : goal.compose-requires-after_bounds

@@ -16,9 +16,9 @@ pub returns-in-Ok-clause-ended : goal.returns-in-Ok-clause-ended
 returns-in-Ok-clause-ended g c = (
   c.in-Err.ensures.cause,
   works_on (task_of c.args.command) (g.F.Shelf.files c.args.shelf.now) c.name-name.result.now c.in_ok-text.text (Ok c.in-Ok.output)
-  (λ work. StopsShort (g.K.Sink.written c.args.out.now) (g.K.Sink.written c.write_all.new.sink) (work_output work))
-  c.name-name.ensures c.in_ok-text.ensures.reads c.in-Ok.ensures
-  (rw (c.as_bytes.ensures.value, c.as_str.ensures) at c.in-Err.ensures.err),
+      (λ work. StopsShort (g.K.Sink.written c.args.out.now) (g.K.Sink.written c.write_all.new.sink) (work_output work))
+      c.name-name.ensures c.in_ok-text.ensures.reads c.in-Ok.ensures
+      (rw (c.as_bytes.ensures.value, c.as_str.ensures) at c.in-Err.ensures.err),
 )
 
 pub returns-in-Err-Refused-clause-ended : goal.returns-in-Err-Refused-clause-ended

@@ -1,4 +1,3 @@
-use Rattle.std.proofs.Common.{Contains}
 use Rattle.fux_port.specs.Counts.{Rose}
 use Rattle.fux_run.specs.Commands.{asked, texts}
 use Rattle.fux_run.specs.Sinks.{Gets}
