@@ -2,7 +2,7 @@
 
 ghost use Rattle.std.specs.Prelude.{pos, negsuc, ◌≤ℤ◌};
 
-use crate::{
+use fux_pitch::{
     Interval, Label, List, Memory, Mode, Pitch, final_letter, in_gamut, interval_of, is_consonant,
     is_imperfect, is_perfect, leading, name, parse_pitch, reduce, semitone, spell,
 };
@@ -33,7 +33,7 @@ fn pitches_have_keys(rt: HostRuntime) {
     ];
     for (degree, alter, key) in rows {
         assert_eq!(rt;
-            Pitch::new(degree, alter).map(semitone),
+            Pitch::new(degree, alter).map(|pitch| semitone(pitch)),
             key,
             "degree {degree}, alteration {alter}"
         );

@@ -2,7 +2,7 @@
 
 ghost use Rattle.std.specs.Prelude.{ℕ, None, ◌^◌, ◌<◌};
 
-use crate::{
+use fux_port::{
     DiskShelf, Failed, MemShelf, MemSink, Shelf, Sink, StdSink, WholeFault, read_whole, write_all,
 };
 use std::test::Fail;
@@ -78,6 +78,10 @@ fn whole_files_within_the_limit_are_read(rt: HostRuntime) -> Result<(), Fail> {
             "{name} within {limit}"
         );
     }
+    let mut slow = MemShelf::with_piece(rt.alloc(), 7, &[])?;
+    slow.put("long", &long)?;
+    let read = read_whole(rt.alloc(), &mut slow, "long", 40_000);
+    assert_eq!(rt; read.map(|bytes| bytes.len()), Ok(40_000));
     let mut failing = MemShelf::new(rt.alloc(), &[2])?;
     failing.put("long", &long)?;
     let read = read_whole(rt.alloc(), &mut failing, "long", 40_000);
