@@ -3,18 +3,8 @@
 
 ghost use Rattle.std.specs.Prelude.{◌≡◌, ◌≢◌};
 
-mod answer;
-mod command;
-mod complaint;
-mod composing;
-mod marking;
-mod run;
-mod status;
-mod work;
-
-use complaint::Complaint;
 use fux_port::{DiskShelf, StdSink};
-use run::run;
+use fux_run::{Complaint, run};
 use std::io::ErrorKind;
 use std::process::ExitCode;
 use std::rt::Env;

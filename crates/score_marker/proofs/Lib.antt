@@ -3,3 +3,4 @@ pub mod ListLemmas
 pub mod MarkLemmas
 pub mod SettingLemmas
 pub mod UniqueLemmas
+pub mod VoiceText

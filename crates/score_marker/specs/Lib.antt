@@ -1,4 +1,5 @@
 pub mod Cantus
 pub mod Lists
+pub mod MarkLines
 pub mod Marks
 pub mod Setting

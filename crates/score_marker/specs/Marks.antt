@@ -1,5 +1,5 @@
 -- The marks of a setting: which breaks they are, and in which order they stand.
-use Rattle.std.specs.Prelude.{◌≡◌, ◌↔◌, ℕ, ◌<◌, ◌/◌, ◌%◌, ◌^◌, ◌==◌, List, [], ◌∷◌, IsTrue, AllPairs, Contains, filter, length}
+use Rattle.std.specs.Prelude.{◌≡◌, ◌↔◌, ℕ, Bool, ◌<◌, ◌/◌, ◌%◌, ◌^◌, ◌==◌, List, [], ◌∷◌, IsTrue, AllPairs, Contains, filter, length}
 use Rattle.std.specs.Cmp.Lexicographic.{slice_cmp}
 use Rattle.std.specs.Ordering.{nat_cmp}
 use Rattle.std.specs.declared.cmp.Ordering.TheVariants.{Less}
@@ -13,9 +13,13 @@ use Rattle.score_marker.specs.declared.mark.Mark.{Mark}
 abbrev pub mark_at : ℕ → ℕ → ℕ → Mark
 mark_at i rule voices = record { bar = bar_of i; slot = slot_of i; rule = rule; voices = record { bits = voices } }
 
+-- a voice is in the set of these bits
+abbrev pub has_voice : ℕ → ℕ → Bool
+has_voice bits v = (bits / 2 ^ v) % 2 == 1
+
 -- the voices of a set, the lowest first
 abbrev pub voices_in : ℕ → List ℕ
-voices_in bits = filter (λ v. (bits / 2 ^ v) % 2 == 1) (0 ∷ 1 ∷ 2 ∷ 3 ∷ [])
+voices_in bits = filter (has_voice bits) (0 ∷ 1 ∷ 2 ∷ 3 ∷ [])
 
 -- what marks go by: their bar, their slot, their rule, and then their voices
 abbrev pub mark_key : Mark → List ℕ

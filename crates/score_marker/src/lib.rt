@@ -3,8 +3,10 @@
 
 mod cantus;
 mod mark;
+mod mark_lines;
 mod setting;
 
 pub use cantus::cantus_marks;
 pub use mark::Mark;
+pub use mark_lines::marks_text;
 pub use setting::marks;

@@ -1,6 +1,7 @@
 pub mod Alive
 pub mod Children
 pub mod MenuSteps
-pub mod SameMenus
 pub mod Passing
 pub mod PathSteps
+pub mod SameMenus
+pub mod ScoreSteps

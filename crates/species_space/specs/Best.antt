@@ -124,7 +124,7 @@ module _ (ex : Exercise) (exact : (i : ℕ) → IsExactMenu ex i) where
     pub bound_of_lawful : (bound : ℕ) → tree.BoundsLeaves (live_at ex sheet) (columns_in ex) bound → BoundsLawful ex sheet bound
     bound_of_lawful bound below s lawful = let way = lawful_is_leaf s lawful in below way.0 (penalty_of ex sheet s) way.2
 
-    path_is_live : (path : List ℕ) → IsSome (live_at ex sheet path) → is_live_path ex path ≡ true
+    pub path_is_live : (path : List ℕ) → IsSome (live_at ex sheet path) → is_live_path ex path ≡ true
     path_is_live path h = at (live_at ex sheet path) refl h
       where
         at : (o : Option ℕ) → live_at ex sheet path ≡ o → IsSome o → is_live_path ex path ≡ true

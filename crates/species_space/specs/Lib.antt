@@ -6,3 +6,4 @@ pub mod Leaves
 pub mod Nodes
 pub mod Paths
 pub mod Task
+pub mod Trees

@@ -2,12 +2,14 @@
 #![tactic(auto)]
 
 mod blocks;
+mod law;
 mod node;
 mod score;
 mod space;
 #[cfg(test)]
 mod tests;
 
+pub use law::is_counterpoint;
 pub use node::Node;
 pub use score::score_of;
 pub use space::{SpeciesSpace, TableFault};

@@ -16,10 +16,9 @@ pub fn score_of(alloc: Global, space: &SpeciesSpace<'_>, path: &[u16]) -> Result
     let mut score = Score::new(alloc, space.voices())?;
     for (i, number) in path.iter().enumerate() {
         let column = space.column(i, *number as usize);
-        match score.push(column.clone()?) {
-            Ok(()) => {}
-            Err(_) => return Err(Memory),
-        }
+        let Ok(()) = score.push(column.clone()?) else {
+            unreachable!()
+        };
     }
     Ok(score)
 }

@@ -116,6 +116,7 @@ impl<'a> SpeciesSpace<'a> {
         ensures value { result ≡ self.now.exercise.voices }
         ensures fewest { 2 ≤ result }
         ensures most { result ≤ 4 }
+        ensures short { columns_in self.now.exercise ≤ 192 }
     {
         self.exercise.voices
     }

@@ -1,0 +1,10 @@
+pub mod BestLemmas
+pub mod Budgets
+pub mod ContentLemmas
+pub mod Forms
+pub mod PerformLemmas
+pub mod RunLemmas
+pub mod SinkLemmas
+pub mod Taken
+pub mod TextLemmas
+pub mod WorkLemmas

@@ -1,0 +1,9 @@
+pub mod Commands
+pub mod Complaints
+pub mod Composed
+pub mod Marked
+pub mod Runs
+pub mod Sinks
+pub mod Statuses
+pub mod Texts
+pub mod Works

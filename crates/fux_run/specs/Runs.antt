@@ -1,0 +1,105 @@
+-- How a run ends.
+use Rattle.std.specs.Prelude.{◌≡◌, ℕ, ◌⊎◌, List, [], ◌++◌, Contains, Option, None, Some, Result, Ok, Err, codes}
+use Rattle.fux_port.specs.Written.{appended, StopsShort}
+use Rattle.fux_run.specs.declared.complaint.Complaint.{Complaint}
+use Rattle.fux_run.specs.declared.complaint.Complaint.TheVariants as complaint
+use Rattle.fux_run.specs.declared.status.Status.{Status}
+use Rattle.fux_run.specs.declared.status.Status.TheVariants.{Favorable, Unfavorable, Usage, Refused, Unreadable, Unwritable, Spent, OutOfMemory}
+use Rattle.fux_run.specs.declared.refusal.Refusal.{Refusal}
+use Rattle.fux_run.specs.declared.work.Output.{Output}
+use Rattle.fux_run.specs.declared.work.Verdict.{Verdict}
+use Rattle.fux_run.specs.Commands.{Task, name_in, names_in}
+use Rattle.fux_run.specs.Complaints.{complaint_status, complaint_text, fux_line, refusal_text}
+use Rattle.fux_run.specs.Statuses.{code_of, verdict_status}
+use Rattle.fux_run.specs.Texts.{Work}
+use Rattle.fux_run.specs.Works.{Works, Files, IsFirstMissing}
+
+-- the status of work
+abbrev pub work_status : Work → Status
+work_status (Ok output) = verdict_status output.verdict
+work_status (Err refusal) = Refused
+
+-- the bytes that it writes to standard output
+abbrev pub work_output : Work → List ℕ
+work_output (Ok output) = output.text
+work_output (Err refusal) = []
+
+-- the bytes that it writes to standard error, where the exercise has this name: an output has none
+abbrev pub work_line : List ℕ → Work → List ℕ
+work_line name (Ok output) = []
+work_line name (Err refusal) = fux_line (refusal_text name refusal)
+
+-- a run ends with the status of this work, having written its output and its line; or it could not write the output, wrote a front of it
+-- that is shorter, and says so
+abbrev pub EndsAs : List ℕ → ℕ → Option (List ℕ) → Option (List ℕ) → (List ℕ → Type 0) → Work → Type 0
+EndsAs name code old new Complains work =
+    ((code ≡ code_of (work_status work)) × (new ≡ appended old (work_output work)) × Complains (work_line name work))
+    ⊎ ((code ≡ code_of Unwritable) × StopsShort old new (work_output work) × Complains (fux_line (codes "cannot write")))
+
+-- one of these names cannot be read: a read failed by the shelf's fault, or it is the first that is missing
+pub record IsUnread (files : Files) (rose : Type 0) (names : List (List ℕ)) (name : List ℕ) : Type 0 where
+  pub asked : Contains names name
+  pub cause : rose ⊎ IsFirstMissing files names name
+
+-- a run ends as one whose file cannot be read
+pub record EndsUnread (files : Files) (rose : Type 0) (names : List (List ℕ)) (Complains : List ℕ → Type 0) : Type 0 where
+  pub name : List ℕ
+  pub unread : IsUnread files rose names name
+  pub told : Complains (fux_line (codes "cannot read " ++ name))
+
+-- the statuses of a run that wrote its output
+abbrev pub IsDone : ℕ → Type 0
+IsDone code = (code ≡ code_of Favorable) ⊎ ((code ≡ code_of Unfavorable) ⊎ (code ≡ code_of Spent))
+
+-- the statuses of a run that wrote nothing to standard output
+abbrev pub IsStopped : ℕ → Type 0
+IsStopped code = (code ≡ code_of Usage) ⊎ ((code ≡ code_of Refused) ⊎ ((code ≡ code_of Unreadable) ⊎ (code ≡ code_of OutOfMemory)))
+
+-- work whose output was written
+pub record IsWritten (old new : Option (List ℕ)) (said : Verdict) (work : Work) : Type 0 where
+  pub output : Output
+  pub is : work ≡ Ok output
+  pub verdict : output.verdict ≡ said
+  pub written : new ≡ appended old output.text
+
+-- work that refuses a file of this name, as the text says
+pub record IsRefused (name text : List ℕ) (work : Work) : Type 0 where
+  pub refusal : Refusal
+  pub is : work ≡ Err refusal
+  pub told : text ≡ refusal_text name refusal
+
+-- how a command's work on its files ended, with the cause: what was written to standard output, and what is to be said
+abbrev pub Ended : Task → Files → Type 0 → Type 0 → Option (List ℕ) → Option (List ℕ) → Result Verdict Complaint → Type 0
+Ended task files rose cut old new (Ok verdict) = Works task files (IsWritten old new verdict)
+Ended task files rose cut old new (Err (complaint.Refused text)) = (new ≡ old) × Works task files (IsRefused (name_in task) text)
+Ended task files rose cut old new (Err (complaint.Unreadable name)) = (new ≡ old) × IsUnread files rose (names_in task) name.now
+Ended task files rose cut old new (Err complaint.Unwritable) = cut × Works task files (λ work. StopsShort old new (work_output work))
+Ended task files rose cut old new (Err complaint.OutOfMemory) = new ≡ old
+Ended task files rose cut old new (Err complaint.Usage) = ⊥
+
+-- a run that came to no command: the words are of no form, or memory was wanting for them
+abbrev pub IsNoTask : Result Verdict Complaint → Type 0
+IsNoTask (Err complaint.Usage) = Unit {0}
+IsNoTask (Err complaint.OutOfMemory) = Unit {0}
+IsNoTask _ = ⊥
+
+-- how a run on words that ask for this, or for nothing, ended
+abbrev pub EndedAs : Option Task → Files → Type 0 → Type 0 → Option (List ℕ) → Option (List ℕ) → Result Verdict Complaint → Type 0
+EndedAs None files rose cut old new result = (new ≡ old) × IsNoTask result
+EndedAs (Some task) files rose cut old new result = Ended task files rose cut old new result
+
+-- a complaint that says this of a refused file, where memory isn't wanting
+abbrev pub SaysRefusal : List ℕ → Complaint → Type 0
+SaysRefusal said (complaint.Refused text) = text ≡ said
+SaysRefusal said complaint.OutOfMemory = Unit {0}
+SaysRefusal said _ = ⊥
+
+-- the status that a run ends with
+abbrev pub result_status : Result Verdict Complaint → Status
+result_status (Ok verdict) = verdict_status verdict
+result_status (Err complaint) = complaint_status complaint
+
+-- the bytes that it writes to standard error: none where the output was written
+abbrev pub result_line : Result Verdict Complaint → List ℕ
+result_line (Ok verdict) = []
+result_line (Err complaint) = fux_line (complaint_text complaint)

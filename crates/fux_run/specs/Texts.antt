@@ -1,0 +1,45 @@
+-- The text of an exercise, and work on it.
+use Rattle.std.specs.Prelude.{◌≡◌, ℕ, ◌⊎◌, List, Result, Ok, Err}
+use Rattle.fux_grid.specs.declared.exercise.Exercise.{Exercise}
+use Rattle.plain_text.specs.Plain.{IsPlainText}
+use Rattle.fux_run.specs.declared.refusal.Refusal.{Refusal}
+use Rattle.fux_run.specs.declared.refusal.Refusal.TheVariants.{Form}
+use Rattle.fux_run.specs.declared.work.Output.{Output}
+use Rattle.fux_run.specs.declared.work.Stop.{Stop}
+use Rattle.fux_run.specs.declared.work.Stop.TheVariants.{Refused, Memory}
+
+-- what a command makes: an output, or a refusal
+abbrev pub Work : Type 0
+Work = Result Output Refusal
+
+-- these bytes are the text of an exercise, and of no other
+pub record IsTheText (bytes : List ℕ) (ex : Exercise) : Type 0 where
+  pub text : IsPlainText bytes ex
+  pub only : (other : Exercise) → IsPlainText bytes other → ex ≡ other
+
+-- a refusal of bytes that are the text of no exercise
+abbrev pub RefusesText : List ℕ → Refusal → Type 0
+RefusesText bytes Form = (ex : Exercise) → IsPlainText bytes ex → ⊥
+RefusesText bytes _ = ⊥
+
+-- the exercise of a text, or a refusal of it, or memory is wanting
+abbrev pub ReadsText : List ℕ → Result Exercise Stop → Type 0
+ReadsText bytes (Ok ex) = IsTheText bytes ex
+ReadsText bytes (Err (Refused refusal)) = RefusesText bytes refusal
+ReadsText bytes (Err Memory) = Unit {0}
+
+-- work on the exercise whose text these bytes are
+pub record OnExercise (Made : Exercise → Work → Type 0) (bytes : List ℕ) (work : Work) : Type 0 where
+  pub exercise : Exercise
+  pub text : IsTheText bytes exercise
+  pub made : Made exercise work
+
+-- work that refuses these bytes
+pub record OnNoText (bytes : List ℕ) (work : Work) : Type 0 where
+  pub refusal : Refusal
+  pub is : work ≡ Err refusal
+  pub cause : RefusesText bytes refusal
+
+-- work on the exercise of a text, where these bytes are one
+abbrev pub OnText : (Exercise → Work → Type 0) → List ℕ → Work → Type 0
+OnText Made bytes work = OnExercise Made bytes work ⊎ OnNoText bytes work

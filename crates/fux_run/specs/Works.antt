@@ -1,0 +1,82 @@
+-- What the commands make of their files.
+use Rattle.std.specs.Prelude.{◌≡◌, ℕ, ◌<◌, ◌⊎◌, List, [], ◌∷◌, Option, None, Result, Ok, Err, length}
+use Rattle.fux_grid.specs.declared.exercise.Exercise.{Exercise}
+use Rattle.fux_port.specs.Files.{file_of, HasFile, IsMissing}
+use Rattle.fux_run.specs.declared.complaint.Complaint.{Complaint}
+use Rattle.fux_run.specs.declared.complaint.Complaint.TheVariants as complaint
+use Rattle.fux_run.specs.declared.content.Content.{Content}
+use Rattle.fux_run.specs.declared.content.Content.TheVariants.{Whole, TooLong}
+use Rattle.fux_run.specs.declared.work.Output.{Output}
+use Rattle.fux_run.specs.declared.work.Stop.{Stop}
+use Rattle.fux_run.specs.declared.work.Stop.TheVariants.{Refused, Memory}
+use Rattle.fux_run.specs.Commands.{Task, compose, mark, cantus, names_in}
+use Rattle.fux_run.specs.Composed.{Composes}
+use Rattle.fux_run.specs.Marked.{Marks, CantusMarks}
+use Rattle.fux_run.specs.Texts.{Work, OnText}
+
+-- a command makes this of an exercise
+abbrev pub MakesOf : Task → Exercise → Work → Type 0
+MakesOf (compose name budget) ex = Composes budget ex
+MakesOf (mark name) ex = Marks ex
+MakesOf (cantus name) ex = CantusMarks ex
+
+-- a command makes this of the text of an exercise
+abbrev pub MakesOfText : Task → List ℕ → Work → Type 0
+MakesOfText task text = OnText (MakesOf task) text
+
+-- a command makes this of files with these bytes, in the order of reading
+abbrev pub Makes : Task → List (List ℕ) → Work → Type 0
+Makes task (text ∷ []) work = MakesOfText task text work
+Makes task _ work = ⊥
+
+-- an answer is of such work, or memory is wanting
+abbrev pub Answers : (Work → Type 0) → Result Output Stop → Type 0
+Answers Made (Ok output) = Made (Ok output)
+Answers Made (Err (Refused refusal)) = Made (Err refusal)
+Answers Made (Err Memory) = Unit {0}
+
+-- the files that a shelf tells, if it does
+abbrev pub Files : Type 0
+Files = Option (List ℕ → Option (List ℕ))
+
+-- the file of a name has these bytes, where the shelf tells its files
+abbrev pub MayHave : Files → List ℕ → List ℕ → Type 0
+MayHave files name bytes = (file_of files name ≡ None) ⊎ HasFile files name bytes
+
+-- so have the files of these names, one after the other
+abbrev pub AllMayHave : Files → List (List ℕ) → List (List ℕ) → Type 0
+AllMayHave files [] [] = Unit {0}
+AllMayHave files (name ∷ names) (bytes ∷ more) = MayHave files name bytes × AllMayHave files names more
+AllMayHave files _ _ = ⊥
+
+-- the work of a command on its files, of which a fact holds
+pub record Works (task : Task) (files : Files) (Holds : Work → Type 0) : Type 0 where
+  pub bytes : List (List ℕ)
+  pub had : AllMayHave files (names_in task) bytes
+  pub work : Work
+  pub made : Makes task bytes work
+  pub holds : Holds work
+
+-- a name is the first of these that is missing
+abbrev pub IsFirstMissing : Files → List (List ℕ) → List ℕ → Type 0
+IsFirstMissing files [] name = ⊥
+IsFirstMissing files (first ∷ names) name =
+    ((first ≡ name) × IsMissing files first) ⊎ ((IsMissing files first → ⊥) × IsFirstMissing files names name)
+
+-- the content of a file with these bytes, of which no more than so many are read
+abbrev pub IsContent : ℕ → Content → List ℕ → Type 0
+IsContent limit (Whole read) bytes = read.items ≡ bytes
+IsContent limit TooLong bytes = limit < length bytes
+
+-- the content of the file of a name
+pub record IsRead (limit : ℕ) (files : Files) (name : List ℕ) (read : Content) : Type 0 where
+  pub bytes : List ℕ
+  pub had : MayHave files name bytes
+  pub content : IsContent limit read bytes
+
+-- the answers of a read, each with its cause
+abbrev pub Reads : ℕ → Files → Type 0 → List ℕ → Result Content Complaint → Type 0
+Reads limit files rose name (Ok content) = IsRead limit files name content
+Reads limit files rose name (Err (complaint.Unreadable file)) = (file.now ≡ name) × (rose ⊎ IsMissing files name)
+Reads limit files rose name (Err complaint.OutOfMemory) = Unit {0}
+Reads limit files rose name (Err _) = ⊥

@@ -1,0 +1,113 @@
+//! The top call.
+
+ghost use Rattle.std.specs.Prelude.{◌≡◌, ◌≢◌, ℕ, ◌<◌, ◌⊎◌, All, Contains, List, None, Some, codes};
+ghost use Rattle.fux_port.specs.Counts.{Rose};
+ghost use Rattle.fux_port.specs.Files.{HasFile, IsMissing};
+ghost use Rattle.fux_run.specs.Commands.{Task, asked, name_in, names_in, texts};
+ghost use Rattle.fux_run.specs.Complaints.{fux_line};
+ghost use Rattle.fux_run.specs.Runs.{EndedAs, EndsAs, EndsUnread, IsDone, IsStopped, result_line, result_status};
+ghost use Rattle.fux_run.specs.Sinks.{Gets};
+ghost use Rattle.fux_run.specs.Statuses.{code_of};
+ghost use Rattle.fux_run.specs.Works.{Works};
+
+use crate::command::parse;
+use crate::complaint::Complaint;
+use crate::perform::perform;
+use crate::status::Status;
+use crate::work::Verdict;
+use fux_pitch::Memory;
+use fux_port::{Shelf, Sink};
+use std::alloc::Global;
+use std::thread::Threads;
+
+/// Runs the command that the words after the program's name ask for, and answers the status that the
+/// process ends with.
+pub fn run<F: Shelf, K: Sink, E: Sink, R: Threads + Sync>(
+    rt: &R,
+    alloc: Global,
+    words: &[String],
+    shelf: &mut F,
+    out: &mut K,
+    err: &mut E,
+) -> u8
+    ensures known { result < 8 }
+
+    // The words are of no command's form.
+    ensures usage { result ≡ code_of Status.Usage → asked (texts words.now) ≡ None }
+    ensures form { asked (texts words.now) ≡ None → result ≢ code_of Status.OutOfMemory
+        → result ≡ code_of Status.Usage }
+
+    // A read failed by the shelf's fault, or a file is missing; the line names it.
+    ensures unreadable { (task : Task) → asked (texts words.now) ≡ Some task
+        → result ≡ code_of Status.Unreadable
+        → EndsUnread (F.files shelf.old) (Rose (F.faults shelf.old) (F.faults shelf.new))
+        (names_in task) (Gets E.written E.faults err.old err.new) }
+    ensures missing { (task : Task) → asked (texts words.now) ≡ Some task
+        → (name : List ℕ) → Contains (names_in task) name → IsMissing (F.files shelf.old) name
+        → result ≢ code_of Status.OutOfMemory → result ≡ code_of Status.Unreadable }
+
+    // A write to standard output failed. What was written is a front of the output.
+    ensures unwritable { result ≡ code_of Status.Unwritable
+        → Rose (K.faults out.old) (K.faults out.new) }
+
+    // Otherwise, unless memory is wanting, the command does its work on its files.
+    ensures works { (task : Task) → asked (texts words.now) ≡ Some task
+        → result ≢ code_of Status.Unreadable → result ≢ code_of Status.OutOfMemory
+        → Works task (F.files shelf.old) (EndsAs (name_in task) result
+        (K.written out.old) (K.written out.new) (Gets E.written E.faults err.old err.new)) }
+
+    // Where nothing fails, the work is done or a file refused.
+    ensures complete { (task : Task) → asked (texts words.now) ≡ Some task
+        → All (λ name. (file : List ℕ) × HasFile (F.files shelf.old) name file) (names_in task)
+        → (Rose (F.faults shelf.old) (F.faults shelf.new) → ⊥)
+        → (Rose (K.faults out.old) (K.faults out.new) → ⊥)
+        → IsDone result ⊎ ((result ≡ code_of Status.Refused) ⊎ (result ≡ code_of Status.OutOfMemory)) }
+
+    // Nothing is written to standard output where the run stops before.
+    ensures unwritten { IsStopped result → K.written out.new ≡ K.written out.old }
+
+    // Standard error gets the line of the status, or a front of it where it fails.
+    ensures silent { IsDone result → E.written err.new ≡ E.written err.old }
+    ensures usage_line { result ≡ code_of Status.Usage
+        → Gets E.written E.faults err.old err.new (fux_line (codes "usage")) }
+    ensures unwritable_line { result ≡ code_of Status.Unwritable
+        → Gets E.written E.faults err.old err.new (fux_line (codes "cannot write")) }
+    ensures memory_line { result ≡ code_of Status.OutOfMemory
+        → Gets E.written E.faults err.old err.new (fux_line (codes "out of memory")) }
+
+    ensures files { F.files shelf.new ≡ F.files shelf.old }
+{
+    let ended = outcome(rt, alloc, words, shelf, out);
+    conclude(&ended, err).code()
+}
+
+/// Does what the words ask for.
+fn outcome<'a, F: Shelf, K: Sink, R: Threads + Sync>(
+    rt: &R,
+    alloc: Global,
+    words: &'a [String],
+    shelf: &mut F,
+    out: &mut K,
+) -> Result<Verdict, Complaint<'a>>
+    ensures ended { EndedAs (asked (texts words.entry.now)) (F.files shelf.old)
+        (Rose (F.faults shelf.old) (F.faults shelf.new)) (Rose (K.faults out.old) (K.faults out.new))
+        (K.written out.old) (K.written out.new) result }
+    ensures files { F.files shelf.new ≡ F.files shelf.old }
+{
+    match parse(alloc, words) {
+        Ok(Some(command)) => perform(rt, alloc, command, shelf, out),
+        Ok(None) => Err(Complaint::Usage),
+        Err(Memory) => Err(Complaint::OutOfMemory),
+    }
+}
+
+/// Writes the line of a complaint, if there is one.
+fn conclude<E: Sink>(ended: &Result<Verdict, Complaint<'_>>, err: &mut E) -> Status
+    ensures status { result ≡ result_status ended.now }
+    ensures line { Gets E.written E.faults err.old err.new (result_line ended.now) }
+{
+    match ended {
+        Ok(verdict) => Status::from(*verdict),
+        Err(complaint) => complaint.report(err),
+    }
+}

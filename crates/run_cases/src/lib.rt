@@ -1,0 +1,13 @@
+//! Cases of whole runs: what no clause of `run` says, that a run goes on to its work, and that the clauses mean what they should.
+#![tactic(auto)]
+
+#[cfg(test)]
+mod devices;
+#[cfg(test)]
+mod long_files;
+#[cfg(test)]
+mod table;
+#[cfg(test)]
+mod vectors;
+#[cfg(test)]
+mod words;

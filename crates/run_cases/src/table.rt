@@ -1,0 +1,100 @@
+//! Runs over one file.
+
+use crate::words::words_of;
+use fux_port::{MemShelf, MemSink};
+use fux_run::run;
+use std::alloc::{AllocError, Global};
+use std::test::Fail;
+
+/// The text that `@` stands for.
+const EXERCISE: &str =
+    "fux 1\nmode dorian\nvoices 2\nbars 3\nspecies 1 voice 1\ncantus 0 D4 E4 D4\nrange 1 A4 D5\n";
+
+/// The beginning of a longer one, which `&` stands for, with the range and the first bars of a setting.
+const SETTING: &str =
+    "fux 1\nmode dorian\nvoices 2\nbars 11\nspecies 1 voice 1\ncantus 0 D4 F4 E4 D4 G4 F4 A4 G4 F4 E4 D4\nrange 1 G4 D5\nsing 1 A4:8 | A4:8 | G4:8 | A4:8 | ";
+
+/// A line for each run: the words, the file `A`, the status, and what is written to standard output and to standard error. In these `/`
+/// is a line feed and `!` is `|`.
+fn cases() -> &'static str {
+    "\
+compose A|@|0|@sing 1 D5:8 ! C5:8 ! D5:8/; penalty 0/|
+compose A --budget 112|@|0|@sing 1 D5:8 ! C5:8 ! D5:8/; penalty 0/|
+compose A --budget 4000000|@|0|@sing 1 D5:8 ! C5:8 ! D5:8/; penalty 0/|
+compose A --budget 1|@|6|spent, at least 0/|
+compose --budget=1 A|@|6|spent, at least 0/|
+compose -- A|@|0|@sing 1 D5:8 ! C5:8 ! D5:8/; penalty 0/|
+compose A --|@|0|@sing 1 D5:8 ! C5:8 ! D5:8/; penalty 0/|
+compose A|fux 1/mode dorian/voices 2/bars 3/species 1 voice 1/cantus 0 D4 E4 D4/range 1 A4 B4/|1|none/|
+mark A|&B4:8 ! C5:8 ! C5:8 ! B4:8 ! D5:8 ! C#5:8 ! D5:8/|0|marks 0/|
+mark A|&D5:8 ! C5:8 ! C5:8 ! B4:8 ! D5:8 ! C#5:8 ! D5:8/|1|bar 5 slot 0 S16 voices 0 1/bar 5 slot 0 S17 voices 0 1/bar 6 slot 0 S16 voices 0 1/bar 6 slot 0 S17 voices 0 1/marks 4/|
+mark A|@|3||fux: no setting/
+cantus A|@|0|marks 0/|
+cantus A|fux 1/mode dorian/voices 2/bars 3/species 1 voice 1/cantus 0 D4 B4 D4/range 1 A4 D5/|1|bar 2 slot 0 S4 voices 0/bar 3 slot 0 S4 voices 0/bar 3 slot 0 K3 voices 0/marks 3/|
+|@|2||fux: usage/
+compose|@|2||fux: usage/
+Compose A|@|2||fux: usage/
+print A|@|2||fux: usage/
+mark A B|@|2||fux: usage/
+mark A --budget 7|@|2||fux: usage/
+compose A --budget|@|2||fux: usage/
+compose A 7 --budget|@|2||fux: usage/
+compose A --budget 7 --budget 7|@|2||fux: usage/
+compose -h|@|2||fux: usage/
+compose A --help|@|2||fux: usage/
+mark -V|@|2||fux: usage/
+mark --version|@|2||fux: usage/
+mark --budget|@|2||fux: usage/
+compose A --budget 0|@|2||fux: usage/
+compose A --budget 4000001|@|2||fux: usage/
+compose A --budget 07|@|2||fux: usage/
+compose A --budget -1|@|2||fux: usage/
+compose A --budget +7|@|2||fux: usage/
+compose A --budget |@|2||fux: usage/
+compose B|@|4||fux: cannot read B/
+mark -|@|4||fux: cannot read -/
+compose A||3||fux: A: form/
+mark A||3||fux: A: form/
+cantus A||3||fux: A: form/
+compose A|fux 1/mode dorian/voices 2/bars 3/species 1 voice 1/cantus 0 D4 E4 D4/range 1 D5 A4/|3||fux: A: form/
+compose A|fux 1/mode dorian/voices 2/bars 2/species 1 voice 1/cantus 0 D4 D4/range 1 A4 D5/|3||fux: A: form/
+compose A|fux 1/mode dorian/voices 2/bars 3/species 1 voice 1/cantus 0 D4 D4/range 1 A4 D5/|3||fux: A: form/
+compose A|fux 1/mode dorian/voices 2/bars 3/species 1 voice 1/cantus 0 D4 E9 D4/range 1 A4 D5/|3||fux: A: form/"
+}
+
+/// A field with what its signs stand for.
+fn text_of(alloc: Global, field: &str) -> Result<String, AllocError> {
+    let mut text = String::new(alloc);
+    for sign in field.chars() {
+        match sign {
+            '@' => text.push_str(EXERCISE)?,
+            '&' => text.push_str(SETTING)?,
+            '/' => text.push('\n')?,
+            '!' => text.push('|')?,
+            _ => text.push(sign)?,
+        }
+    }
+    Ok(text)
+}
+
+#[test]
+fn a_run_answers_as_the_table_says(rt: HostRuntime) -> Result<(), Fail> {
+    let alloc = rt.alloc();
+    for line in cases().lines() {
+        let mut fields = line.split('|');
+        let words = words_of(alloc, fields.next().ok_or("no words")?)?;
+        let file = text_of(alloc, fields.next().ok_or("no file")?)?;
+        let status: u8 = fields.next().ok_or("no status")?.parse()?;
+        let output = text_of(alloc, fields.next().ok_or("no output")?)?;
+        let complaint = text_of(alloc, fields.next().ok_or("no complaint")?)?;
+        let mut shelf = MemShelf::new(alloc, &[])?;
+        shelf.put("A", file.as_bytes())?;
+        let mut out = MemSink::new(alloc, 1000, 1000, &[])?;
+        let mut err = MemSink::new(alloc, 1000, 1000, &[])?;
+        let got = run(&rt, alloc, &words, &mut shelf, &mut out, &mut err);
+        assert_eq!(rt; err.bytes(), complaint.as_bytes(), "{line}");
+        assert_eq!(rt; out.bytes(), output.as_bytes(), "{line}");
+        assert_eq!(rt; got, status, "{line}");
+    }
+    Ok(())
+}
