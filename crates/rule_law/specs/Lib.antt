@@ -1,5 +1,7 @@
+pub mod After
 pub mod Bars
 pub mod BothLaw
+pub mod Degrees
 pub mod Growth
 pub mod Law
 pub mod LowerVoices
@@ -11,3 +13,4 @@ pub mod Places
 pub mod Quiet
 pub mod Terms
 pub mod Voices
+pub mod Ways

@@ -1,8 +1,10 @@
 //! What a rule is, and what a toll is: their readings, their laws, and the words that they share.
 #![tactic(auto)]
 
+mod after;
 mod bars;
 mod both;
+mod degrees;
 mod latest;
 mod near;
 mod pairs;
@@ -11,8 +13,10 @@ mod sets;
 mod terms;
 mod toll;
 
+pub use after::{next_onset, onset_pitch, second_next_onset};
 pub use bars::{begins_bar, begins_inner_bar, is_quiet};
 pub use both::Both;
+pub use degrees::lies_above;
 pub use latest::{Latest, latest_before, latest_of_column};
 pub use near::{Near, cells_of};
 pub use pairs::{
