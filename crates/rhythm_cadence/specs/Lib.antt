@@ -1,6 +1,9 @@
+pub mod Cadence
 pub mod InPlace
 pub mod Locality
 pub mod LowerVoices
 pub mod Parts
+pub mod Patterns
+pub mod Quavers
 pub mod Quiet
 pub mod Rows

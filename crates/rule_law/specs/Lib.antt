@@ -4,6 +4,7 @@ pub mod BothLaw
 pub mod Degrees
 pub mod Growth
 pub mod Law
+pub mod Leading
 pub mod LowerVoices
 pub mod NearLaw
 pub mod Nearby

@@ -6,6 +6,7 @@ mod bars;
 mod both;
 mod degrees;
 mod latest;
+mod leading;
 mod near;
 mod pairs;
 mod rule;
@@ -18,6 +19,7 @@ pub use bars::{begins_bar, begins_inner_bar, is_quiet};
 pub use both::Both;
 pub use degrees::lies_above;
 pub use latest::{Latest, latest_before, latest_of_column};
+pub use leading::is_leading;
 pub use near::{Near, cells_of};
 pub use pairs::{
     both_move, move_alike, move_into_perfect, one_starts, sound_perfect, sound_same_key,
