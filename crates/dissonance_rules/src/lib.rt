@@ -2,13 +2,19 @@
 #![tactic(auto)]
 
 mod apart;
+mod clashes;
 mod dissonance;
+mod ligatures;
+mod passing;
 mod rows;
 #[cfg(test)]
 mod tests;
 mod tolls;
 
 pub use apart::are_apart;
+pub use clashes::{breaks_clash, is_clash_settled};
 pub use dissonance::Dissonance;
+pub use ligatures::{is_bad_suspension, resolves};
+pub use passing::{is_cambiata, is_neighbor, is_passing};
 pub use rows::{breaks, cost};
 pub use tolls::{Q1, Q2};
