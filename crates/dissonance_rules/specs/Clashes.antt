@@ -1,9 +1,9 @@
 -- The rules of a free voice that clashes with another one: S15, S19, S20 and S21.
-use Rattle.std.specs.Prelude.{ℕ, ◌+◌, ◌==◌, Bool, not, ◌||◌, nat_le, List, length, if◌then◌else◌}
+use Rattle.std.specs.Prelude.{ℕ, ◌==◌, Bool, not, ◌||◌, nat_le, List, length, if◌then◌else◌}
 use Rattle.fux_grid.specs.declared.cell.Cell.{Cell}
 use Rattle.fux_grid.specs.declared.exercise.Exercise.{Exercise}
-use Rattle.fux_grid.specs.Exercises.{columns_in}
 use Rattle.rule_law.specs.Places.{Row, at_once}
+use Rattle.rule_law.specs.Whole.{is_whole}
 use Rattle.rule_law.specs.Ways.{on_some_way}
 use Rattle.dissonance_rules.specs.Ligatures.{is_bad_suspension, lacks_preparation, lacks_resolution}
 use Rattle.dissonance_rules.specs.Passing.{clashes_badly, is_open_clash}
@@ -26,7 +26,7 @@ passing_enough ex voices i behind now ahead = not (on_some_way ex (is_open_clash
 
 -- S20 is settled at the fourth column from the place, and in a list of all columns
 abbrev pub resolution_enough : Exercise → Row Bool
-resolution_enough ex i behind now ahead = nat_le 4 (length ahead) || (i + 1 + length ahead == columns_in ex)
+resolution_enough ex i behind now ahead = nat_le 4 (length ahead) || is_whole ex i ahead
 
 -- where the rules are settled; S19 and S21 are at once
 abbrev pub clash_enough : ℕ → Exercise → ℕ → Row Bool

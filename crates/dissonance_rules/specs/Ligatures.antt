@@ -1,9 +1,7 @@
 -- S19, S20 and S21: a voice that holds a note over a bar line and clashes there. Its note has to be prepared, resolved and of a good size.
-use Rattle.std.specs.Prelude.{ℕ, ◌%◌, ◌==◌, Bool, not, ◌&&◌, ◌||◌, nat_le, List, [], ◌∷◌, slice_index_or, if◌then◌else◌, false}
-use Rattle.std.specs.List.{list_any}
+use Rattle.std.specs.Prelude.{ℕ, ◌%◌, ◌==◌, Bool, not, ◌&&◌, ◌||◌, nat_le, List, [], slice_index_or}
 use Rattle.fux_grid.specs.declared.cell.Cell.{Cell}
 use Rattle.fux_grid.specs.Cells.{cell_in, is_hold, pitch_of}
-use Rattle.fux_grid.specs.Columns.{newest_column}
 use Rattle.rule_law.specs.Bars.{begins_bar}
 use Rattle.rule_law.specs.Degrees.{lies_above}
 use Rattle.rule_law.specs.Terms.{clash, degrees_without_sign, holds_of, interval_in, is_clean, is_lowest, starts}
@@ -12,15 +10,16 @@ use Rattle.rule_law.specs.Terms.{clash, degrees_without_sign, holds_of, interval
 abbrev pub is_suspended : ℕ → List Cell → ℕ → ℕ → Bool
 is_suspended i now v w = begins_bar i && is_hold (cell_in now v) && clash now v w
 
--- a voice started a note in one of the three columns before
-abbrev pub started_lately : List (List Cell) → ℕ → Bool
-started_lately behind v =
-    list_any (λ k. starts (cell_in (slice_index_or behind k []) v)) (0 ∷ 1 ∷ 2 ∷ [])
+-- a voice is unprepared after three columns, the newest first: it started a note in one of them, or it isn't clean in the newest
+abbrev pub is_unprepared : List Cell → List Cell → List Cell → ℕ → Bool
+is_unprepared newest second third v =
+    starts (cell_in newest v) || starts (cell_in second v) || starts (cell_in third v) || not (is_clean newest v)
 
--- S19: its note started in one of the three columns before, or it wasn't clean in the last of them
+-- S19: so is a suspended voice: its note began in one of the three columns before, or it wasn't clean in the last of them
 abbrev pub lacks_preparation : ℕ → List (List Cell) → List Cell → ℕ → ℕ → Bool
 lacks_preparation i behind now v w =
-    is_suspended i now v w && (started_lately behind v || not (is_clean (newest_column behind) v))
+    is_suspended i now v w
+    && is_unprepared (slice_index_or behind 0 []) (slice_index_or behind 1 []) (slice_index_or behind 2 []) v
 
 -- it resolves: it is held in the next column, and in the fourth from here a note starts, one degree below, where the voice is clean
 abbrev pub resolves : List Cell → List Cell → List Cell → ℕ → Bool
@@ -30,7 +29,7 @@ resolves now next fourth v =
     && lies_above 1 (pitch_of (cell_in now v)) (pitch_of (cell_in fourth v))
     && is_clean fourth v
 
--- S20: it doesn't
+-- S20: a suspended voice doesn't resolve
 abbrev pub lacks_resolution : ℕ → List Cell → List (List Cell) → ℕ → ℕ → Bool
 lacks_resolution i now ahead v w =
     is_suspended i now v w && not (resolves now (slice_index_or ahead 0 []) (slice_index_or ahead 3 []) v)

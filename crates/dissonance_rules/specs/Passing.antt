@@ -51,6 +51,13 @@ is_cambiata previous here next clean after =
 abbrev pub has_ornaments : ℕ → Bool
 has_ornaments species = (species == 3) || (species == 5)
 
+-- a note is good: a passing note, or in species 3 and 5 a neighbor or a cambiata
+abbrev pub is_good : ℕ → Option Pitch → Option Pitch → Option Pitch → Bool → Option Pitch → Bool
+is_good species previous here next clean after =
+    is_passing previous here next
+    || (has_ornaments species
+    && (is_neighbor previous here next || is_cambiata previous here next clean after))
+
 -- a voice is clean at this start of a note after column i, where there is one
 abbrev pub starts_clean : ℕ → List (List Cell) → ℕ → Option Onset → Bool
 starts_clean i ahead v None = false
@@ -60,14 +67,12 @@ starts_clean i ahead v (Some onset) = is_clean (slice_index_or ahead (onset.star
 abbrev pub next_is_clean : ℕ → List (List Cell) → ℕ → Bool
 next_is_clean i ahead v = starts_clean i ahead v (next_onset i v ahead)
 
--- the note of a voice at column i is one of these
-abbrev pub is_good : ℕ → ℕ → List (List Cell) → List Cell → List (List Cell) → ℕ → Bool
-is_good species i behind now ahead v =
-    is_passing (previous_pitch (line v behind)) (pitch_of (cell_in now v)) (onset_pitch (next_onset i v ahead))
-    || (has_ornaments species
-    && (is_neighbor (previous_pitch (line v behind)) (pitch_of (cell_in now v)) (onset_pitch (next_onset i v ahead))
-    || is_cambiata (previous_pitch (line v behind)) (pitch_of (cell_in now v)) (onset_pitch (next_onset i v ahead))
-    (next_is_clean i ahead v) (onset_pitch (second_next_onset i v ahead))))
+-- the note of a voice at column i, among the notes of its line, is good
+abbrev pub is_good_note : ℕ → ℕ → List (List Cell) → List Cell → List (List Cell) → ℕ → Bool
+is_good_note species i behind now ahead v =
+    is_good species
+    (previous_pitch (line v behind)) (pitch_of (cell_in now v)) (onset_pitch (next_onset i v ahead))
+    (next_is_clean i ahead v) (onset_pitch (second_next_onset i v ahead))
 
 -- a note of v starts, and it clashes with w
 abbrev pub starts_in_clash : List Cell → ℕ → ℕ → Bool
@@ -76,7 +81,7 @@ starts_in_clash now v w = starts (cell_in now v) && clash now v w
 -- S15, for one way to name the voices: a note of v starts within a bar and clashes with w, and isn't good
 abbrev pub clashes_badly : Exercise → ℕ → List (List Cell) → List Cell → List (List Cell) → ℕ → ℕ → Bool
 clashes_badly ex i behind now ahead v w =
-    not (begins_bar i) && starts_in_clash now v w && not (is_good (species_in ex v) i behind now ahead v)
+    not (begins_bar i) && starts_in_clash now v w && not (is_good_note (species_in ex v) i behind now ahead v)
 
 -- the list has a column of the last bar
 abbrev pub reaches_last_bar : Exercise → ℕ → List (List Cell) → Bool

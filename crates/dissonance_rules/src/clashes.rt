@@ -65,7 +65,7 @@ fn is_resolution_settled(ex: &Exercise, score: &Score, i: usize) -> bool
 {
     score.kept();
     let bars = usize::from(ex.bars);
-    i + 4 < score.len() || score.len() == 8 * bars
+    i + 4 < score.len() || score.len() >= 8 * bars
 }
 
 /// Whether no column that follows can change what `breaks_clash` answers.

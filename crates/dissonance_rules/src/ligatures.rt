@@ -9,20 +9,20 @@ use fux_grid::{Cell, Score, cell_of};
 use rule_law::{begins_bar, interval_in, is_clash, is_clean, lies_above, lowest, starts};
 
 /// Whether at the beginning of a bar `v` holds a note, and clashes with `w`.
-fn is_suspended(i: usize, now: &[Cell], v: usize, w: usize) -> bool
+pub fn is_suspended(i: usize, now: &[Cell], v: usize, w: usize) -> bool
     ensures { result ≡ words.is_suspended i now.now v w }
 {
     begins_bar(i) && cell_of(now, v).is_hold() && is_clash(now, v, w)
 }
 
-/// Whether a voice started a note in one of the three columns before `i`.
-fn started_lately(score: &Score, i: usize, v: usize) -> bool
-    requires { i < length score.now.columns }
-    ensures { result ≡ words.started_lately (earlier score.now.columns i) v }
+/// Whether a voice is unprepared after three columns, the newest first: it started a note in one of them, or it isn't clean in the newest.
+pub fn is_unprepared(newest: &[Cell], second: &[Cell], third: &[Cell], v: usize) -> bool
+    ensures { result ≡ words.is_unprepared newest.now second.now third.now v }
 {
-    starts(cell_of(score.behind(i, 0), v))
-        || starts(cell_of(score.behind(i, 1), v))
-        || starts(cell_of(score.behind(i, 2), v))
+    if starts(cell_of(newest, v)) || starts(cell_of(second, v)) || starts(cell_of(third, v)) {
+        return true;
+    }
+    !is_clean(newest, v)
 }
 
 /// S19, for one way to name the voices: whether `v` is suspended over `w`, and its note started in one of the three columns before, or
@@ -35,7 +35,12 @@ pub(crate) fn lacks_preparation(score: &Score, i: usize, v: u8, w: u8) -> bool
     if !is_suspended(i, score.column(i).as_slice(), v as usize, w as usize) {
         return false;
     }
-    started_lately(score, i, v as usize) || !is_clean(score.before(i), v as usize)
+    is_unprepared(
+        score.behind(i, 0),
+        score.behind(i, 1),
+        score.behind(i, 2),
+        v as usize,
+    )
 }
 
 /// Whether a suspended voice resolves: it is held in the next column, and in the fourth a note starts, one degree below, where it is clean.

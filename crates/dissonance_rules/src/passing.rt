@@ -74,8 +74,26 @@ fn has_ornaments(species: u8) -> bool
     species == 3 || species == 5
 }
 
+/// Whether a note is good: a passing note, or in species 3 and 5 a neighbor or a cambiata.
+pub fn is_good(
+    species: u8,
+    previous: Option<Pitch>,
+    here: Option<Pitch>,
+    next: Option<Pitch>,
+    clean: bool,
+    after: Option<Pitch>,
+) -> bool
+    ensures { result ≡ words.is_good species previous here next clean after }
+{
+    if is_passing(previous, here, next) {
+        return true;
+    }
+    has_ornaments(species)
+        && (is_neighbor(previous, here, next) || is_cambiata(previous, here, next, clean, after))
+}
+
 /// Whether a voice is clean where its next note after column `i` starts.
-fn starts_clean(score: &Score, i: usize, v: u8) -> bool
+fn next_is_clean(score: &Score, i: usize, v: u8) -> bool
     requires { i < length score.now.columns }
     ensures { result ≡ words.next_is_clean i (drop (i + 1) score.now.columns) v }
 {
@@ -85,31 +103,24 @@ fn starts_clean(score: &Score, i: usize, v: u8) -> bool
     }
 }
 
-/// Whether the note of a voice that starts at column `i` is a passing note, or in species 3 and 5 a neighbor or a cambiata.
-fn is_good(score: &Score, species: u8, i: usize, v: u8) -> bool
+/// Whether the note of a voice that starts at column `i` is good.
+fn is_good_note(score: &Score, species: u8, i: usize, v: u8) -> bool
     requires { i < length score.now.columns }
-    ensures { result ≡ words.is_good species i (earlier score.now.columns i)
+    ensures { result ≡ words.is_good_note species i (earlier score.now.columns i)
         (slice_index_or score.now.columns i []) (drop (i + 1) score.now.columns) v }
 {
-    let previous = previous_pitch(score, v, i);
-    let here = score.cell(v as usize, i).pitch();
-    let next = onset_pitch(next_onset(score, v, i));
-    if is_passing(previous, here, next) {
-        return true;
-    }
-    if !has_ornaments(species) {
-        return false;
-    }
-    if is_neighbor(previous, here, next) {
-        return true;
-    }
-    let clean = starts_clean(score, i, v);
-    let after = onset_pitch(second_next_onset(score, v, i));
-    is_cambiata(previous, here, next, clean, after)
+    is_good(
+        species,
+        previous_pitch(score, v, i),
+        score.cell(v as usize, i).pitch(),
+        onset_pitch(next_onset(score, v, i)),
+        next_is_clean(score, i, v),
+        onset_pitch(second_next_onset(score, v, i)),
+    )
 }
 
 /// Whether a note of `v` starts, and it clashes with `w`.
-fn starts_in_clash(now: &[Cell], v: usize, w: usize) -> bool
+pub fn starts_in_clash(now: &[Cell], v: usize, w: usize) -> bool
     ensures { result ≡ words.starts_in_clash now.now v w }
 {
     starts(cell_of(now, v)) && is_clash(now, v, w)
@@ -124,7 +135,7 @@ pub(crate) fn clashes_badly(ex: &Exercise, score: &Score, i: usize, v: u8, w: u8
     if begins_bar(i) || !starts_in_clash(score.column(i).as_slice(), v as usize, w as usize) {
         return false;
     }
-    !is_good(score, species_of(ex, v), i, v)
+    !is_good_note(score, species_of(ex, v), i, v)
 }
 
 /// Whether the score has a column of the last bar.

@@ -1,14 +1,14 @@
 -- S25: notes of one slot.
-use Rattle.std.specs.Prelude.{ℕ, ◌+◌, ◌==◌, Bool, not, ◌&&◌, ◌||◌, nat_lt, List, length, Option}
+use Rattle.std.specs.Prelude.{ℕ, Bool, not, ◌&&◌, ◌||◌, nat_lt, List, length, Option}
 use Rattle.fux_pitch.specs.declared.pitch.Pitch.{Pitch}
 use Rattle.fux_grid.specs.declared.cell.Cell.{Cell}
 use Rattle.fux_grid.specs.declared.exercise.Exercise.{Exercise}
 use Rattle.fux_grid.specs.Cells.{cell_in, is_hold, pitch_of}
 use Rattle.fux_grid.specs.Columns.{line, newest_column}
-use Rattle.fux_grid.specs.Exercises.{columns_in}
 use Rattle.rule_law.specs.After.{next_onset, onset_pitch}
 use Rattle.rule_law.specs.Places.{Row}
 use Rattle.rule_law.specs.Terms.{holds_of, interval_of_pitches, is_step, previous_pitch, starts}
+use Rattle.rule_law.specs.Whole.{is_whole}
 use Rattle.rule_law.specs.Voices.{on_free_voice}
 
 -- a note of exactly one slot starts: the column after it, where there is one, doesn't hold it
@@ -32,4 +32,4 @@ quaver_row ex voices i behind now ahead =
 
 -- it is settled by the column after it, and at the last column of a setting at once
 abbrev pub quaver_enough : Exercise → ℕ → Row Bool
-quaver_enough ex voices i behind now ahead = nat_lt 0 (length ahead) || (i + 1 == columns_in ex)
+quaver_enough ex voices i behind now ahead = nat_lt 0 (length ahead) || is_whole ex i ahead

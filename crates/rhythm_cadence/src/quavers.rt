@@ -65,5 +65,5 @@ pub fn is_quaver_settled(ex: &Exercise, score: &Score, i: usize, voices: VoiceSe
 {
     score.kept();
     let bars = usize::from(ex.bars);
-    i + 1 < score.len() || i + 1 == 8 * bars
+    i + 1 < score.len() || score.len() >= 8 * bars
 }

@@ -15,3 +15,4 @@ pub mod Quiet
 pub mod Terms
 pub mod Voices
 pub mod Ways
+pub mod Whole
