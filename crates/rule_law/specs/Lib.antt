@@ -2,6 +2,7 @@ pub mod After
 pub mod Bars
 pub mod BothLaw
 pub mod Degrees
+pub mod Gauges
 pub mod Growth
 pub mod Law
 pub mod Leading
