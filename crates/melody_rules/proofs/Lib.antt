@@ -1,2 +1,3 @@
+pub mod GaugeLemmas
 pub mod LineLemmas
 pub mod VoiceLemmas

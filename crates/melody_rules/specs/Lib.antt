@@ -1,3 +1,7 @@
+pub mod GaugeLaws
+pub mod GaugeParts
+pub mod Gauges
+pub mod Held
 pub mod Locality
 pub mod LowerVoices
 pub mod Notes

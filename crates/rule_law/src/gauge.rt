@@ -63,7 +63,7 @@ pub trait Gauge {
 }
 
 /// Whether some column of the menu at a place has a start of the voice.
-fn menu_starts(ex: &Exercise, v: u8, i: usize) -> bool
+pub fn menu_starts(ex: &Exercise, v: u8, i: usize) -> bool
     requires valid { IsValid ex.now }
     requires voice { v < ex.now.voices }
     requires place { i < columns_in ex.now }

@@ -19,7 +19,7 @@ pub use after::{next_onset, onset_pitch, second_next_onset};
 pub use bars::{begins_bar, begins_inner_bar, is_quiet};
 pub use both::Both;
 pub use degrees::lies_above;
-pub use gauge::{Gauge, starts_ahead};
+pub use gauge::{Gauge, menu_starts, starts_ahead};
 pub use latest::{Latest, latest_before, latest_of_column};
 pub use leading::is_leading;
 pub use near::{Near, cells_of};
