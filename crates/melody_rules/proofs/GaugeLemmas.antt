@@ -45,7 +45,7 @@ under_second a b c h = omega (arith, ints, clamps, h)
 unequal : (a c : ℤ) → a <ℤ c → int_eq a c ≡ false
 unequal a c h = grind (arith, ints, Decides-int_eq)
 
-equal : (a : ℤ) → int_eq a a ≡ true
+pub equal : (a : ℤ) → int_eq a a ≡ true
 equal a = grind (arith, ints, Decides-int_eq)
 
 zero_first : (n : ℕ) → 0 + n ≡ n

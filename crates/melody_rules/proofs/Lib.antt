@@ -1,3 +1,4 @@
 pub mod GaugeLemmas
 pub mod LineLemmas
+pub mod StrikeLemmas
 pub mod VoiceLemmas

@@ -3,7 +3,9 @@
 mod climax;
 mod compass;
 mod leaps;
+mod strikes;
 
 pub use climax::{Climax, Q17};
 pub use compass::{Compass, Q18};
 pub use leaps::{Leaps, Q19};
+pub use strikes::{Q20, Strikes};

@@ -12,7 +12,7 @@ mod tolls;
 mod voices;
 mod windows;
 
-pub use gauges::{Climax, Compass, Leaps, Q17, Q18, Q19};
+pub use gauges::{Climax, Compass, Leaps, Q17, Q18, Q19, Q20, Strikes};
 pub use melody::{Melody, breaks};
 pub use moves::{leaves_sharp, moves_unmelodically, repeats};
 pub use notes::{VoiceNotes, breaks_after, leap_open_after, noted, notes_before, silent};
