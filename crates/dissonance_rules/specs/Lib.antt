@@ -1,4 +1,5 @@
 pub mod Apart
+pub mod Book
 pub mod Clashes
 pub mod Ligatures
 pub mod Locality

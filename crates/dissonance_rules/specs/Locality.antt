@@ -23,7 +23,7 @@ abbrev pub dissonance_settles : RuleReading
 dissonance_settles rule ex voices = settled_by (enough_after rule ex voices)
 
 pub dissonance_is_local : AreLocal dissonance_breaks dissonance_settles
-dissonance_is_local rule ex voices = local_from_row (broken_in rule ex voices) (enough_after rule ex voices) (λ i behind now ahead t h. refl)
+dissonance_is_local rule ex voices = local_from_row ex (broken_in rule ex voices) (enough_after rule ex voices) (λ i behind now ahead t h. refl)
 
 pub dissonance_settles_at_end : SettleAtEnd dissonance_settles
 dissonance_settles_at_end rule ex voices = at_once_settles ex
@@ -32,8 +32,8 @@ pub dissonance_is_near : (rule : ℕ) (ex : Exercise) (voices : ℕ) → IsNear 
 dissonance_is_near rule ex voices = near_from_whole ex (near_rows rule ex voices)
 
 -- the same of a toll
-pub cost_is_local : (toll : ℕ) (ex : Exercise) → IsLocal (reading_of (cost_in toll ex)) (settled_by (cost_enough toll ex))
-cost_is_local toll ex = local_from_row (cost_in toll ex) (cost_enough toll ex) (λ i behind now ahead t h. refl)
+pub cost_is_local : (toll : ℕ) (ex : Exercise) → IsLocal ex (reading_of (cost_in toll ex)) (settled_by (cost_enough toll ex))
+cost_is_local toll ex = local_from_row ex (cost_in toll ex) (cost_enough toll ex) (λ i behind now ahead t h. refl)
 
 pub cost_settles_at_end : (toll : ℕ) (ex : Exercise) → SettlesAtEnd ex (settled_by (cost_enough toll ex))
 cost_settles_at_end toll ex = at_once_settles ex

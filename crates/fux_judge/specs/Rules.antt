@@ -1,12 +1,25 @@
 -- All rules and tolls by their numbers: their rows stand in the rule crates.
-use Rattle.std.specs.Prelude.{ℕ, ◌==◌, ◌||◌, Bool, List, [], ◌∷◌, if◌then◌else◌}
-use Rattle.std.specs.List.{list_any}
+use Rattle.std.specs.Prelude.{ℕ, ◌==◌, not, Bool, List, [], ◌∷◌}
+use Rattle.std.specs.List.{filter, list_any, range_with_len}
 use Rattle.fux_grid.specs.declared.exercise.Exercise.{Exercise}
+use Rattle.rule_law.specs.Forms as forms
 use Rattle.rule_law.specs.Places.{Row, Reading, reading_of, settled_by}
-use Rattle.melody_rules.specs.Rows as melody
-use Rattle.motion_rules.specs.Rows as motion
-use Rattle.dissonance_rules.specs.Rows as dissonance
-use Rattle.rhythm_cadence.specs.Rows as rhythm
+use Rattle.rule_law.specs.Rulebooks.{RuleRow, Rulebook, TollRow, joined, nothing}
+use Rattle.melody_rules.specs.Book as melody
+use Rattle.motion_rules.specs.Book as motion
+use Rattle.dissonance_rules.specs.Book as dissonance
+use Rattle.rhythm_cadence.specs.Book as rhythm
+
+-- the crates' books as one
+abbrev pub all_rules : Rulebook
+all_rules = joined melody.book (joined motion.book (joined dissonance.book (joined rhythm.book nothing)))
+
+-- the rule of a number, and the toll; a number that no crate has is never broken, and costs nothing
+unfoldable pub rule_at : ℕ → RuleRow
+rule_at = all_rules.rule
+
+unfoldable pub toll_at : ℕ → TollRow
+toll_at = all_rules.toll
 
 -- the rules that are read; no other is ever broken
 unfoldable pub rules_read : List ℕ
@@ -17,50 +30,44 @@ unfoldable pub tolls_read : List ℕ
 tolls_read = 1 ∷ 2 ∷ 7 ∷ 8 ∷ 9 ∷ 10 ∷ 11 ∷ 13 ∷ 14 ∷ []
 
 -- every set of voices, of four at most, by its bits
-unfoldable pub all_sets : List ℕ
-all_sets = 1 ∷ 2 ∷ 3 ∷ 4 ∷ 5 ∷ 6 ∷ 7 ∷ 8 ∷ 9 ∷ 10 ∷ 11 ∷ 12 ∷ 13 ∷ 14 ∷ 15 ∷ []
+abbrev pub all_sets : List ℕ
+all_sets = forms.all_sets
 
--- the rules of melody, of motion and of dissonance; the others are those of rhythm and cadence
+-- which crate has a rule, or a toll
 abbrev pub is_melodic : ℕ → Bool
-is_melodic rule = (rule == 4) || (rule == 5) || (rule == 6) || (rule == 7) || (rule == 8) || (rule == 9) || (rule == 26)
+is_melodic = melody.has_rule
 
 abbrev pub is_of_motion : ℕ → Bool
-is_of_motion rule = (rule == 10) || (rule == 16) || (rule == 17)
+is_of_motion = motion.has_rule
 
 abbrev pub is_of_dissonance : ℕ → Bool
-is_of_dissonance rule = (rule == 11) || (rule == 14)
+is_of_dissonance = dissonance.has_rule
 
--- the choice among the four crates by a rule's number
-abbrev pub by_rule : {A : Type 0} → ℕ → A → A → A → A → A
-by_rule rule in_melody in_motion in_dissonance in_rhythm =
-    if is_melodic rule then in_melody else (if is_of_motion rule then in_motion else (if is_of_dissonance rule then in_dissonance else in_rhythm))
+abbrev pub is_of_rhythm : ℕ → Bool
+is_of_rhythm = rhythm.has_rule
 
--- whether a rule is broken for a set of voices
-unfoldable pub breaks : ℕ → Exercise → ℕ → Row Bool
-breaks rule ex voices = by_rule rule (melody.broken_in rule ex voices) (motion.broken_in rule ex voices) (dissonance.broken_in rule ex voices) (rhythm.broken_in rule ex voices)
-
--- whether that is settled
-unfoldable pub enough : ℕ → Exercise → ℕ → Row Bool
-enough rule ex voices = by_rule rule (melody.enough_after rule ex voices) (motion.enough_after rule ex voices) (dissonance.enough_after rule ex voices) (rhythm.enough_after rule ex voices)
-
--- the tolls of motion and of dissonance; the others are those of melody
 abbrev pub is_toll_of_motion : ℕ → Bool
-is_toll_of_motion toll = (toll == 11) || (toll == 14)
+is_toll_of_motion = motion.has_toll
 
 abbrev pub is_toll_of_dissonance : ℕ → Bool
-is_toll_of_dissonance toll = (toll == 1) || (toll == 2)
+is_toll_of_dissonance = dissonance.has_toll
 
--- the choice among the three crates by a toll's number
-abbrev pub by_toll : {A : Type 0} → ℕ → A → A → A → A
-by_toll toll in_motion in_dissonance in_melody = if is_toll_of_motion toll then in_motion else (if is_toll_of_dissonance toll then in_dissonance else in_melody)
+abbrev pub is_toll_of_melody : ℕ → Bool
+is_toll_of_melody = melody.has_toll
 
--- what a toll costs, without its weight
-unfoldable pub costs : ℕ → Exercise → Row ℕ
-costs toll ex = by_toll toll (motion.cost_in toll ex) (dissonance.cost_in toll ex) (melody.cost_in toll ex)
+-- whether a rule is broken for a set of voices, and whether that is settled
+abbrev pub breaks : ℕ → Exercise → ℕ → Row Bool
+breaks rule = (rule_at rule).broken
 
--- whether that is settled
-unfoldable pub cost_enough : ℕ → Exercise → Row Bool
-cost_enough toll ex = by_toll toll (motion.cost_enough toll ex) (dissonance.cost_enough toll ex) (melody.cost_enough toll ex)
+abbrev pub enough : ℕ → Exercise → ℕ → Row Bool
+enough rule = (rule_at rule).enough
+
+-- what a toll costs, without its weight, and whether that is settled
+abbrev pub costs : ℕ → Exercise → Row ℕ
+costs toll = (toll_at toll).cost
+
+abbrev pub cost_enough : ℕ → Exercise → Row Bool
+cost_enough toll = (toll_at toll).enough
 
 -- the readings at the places of a list of columns
 abbrev pub is_broken : ℕ → Exercise → ℕ → Reading Bool
@@ -78,3 +85,14 @@ is_cost_settled toll ex = settled_by (cost_enough toll ex)
 -- the rule is one of those that are read
 abbrev pub is_read : ℕ → Bool
 is_read rule = list_any (λ read. rule == read) rules_read
+
+-- a rule may be settled later than at its own column
+abbrev pub is_late : ℕ → Bool
+is_late rule = (rule_at rule).late
+
+-- the rules that are settled at once, and the others
+unfoldable pub rules_at_once : List ℕ
+rules_at_once = 1 ∷ 2 ∷ 4 ∷ 5 ∷ 6 ∷ 7 ∷ 8 ∷ 9 ∷ 10 ∷ 11 ∷ 12 ∷ 13 ∷ 14 ∷ 16 ∷ 17 ∷ 24 ∷ 26 ∷ []
+
+unfoldable pub late_rules : List ℕ
+late_rules = 3 ∷ []

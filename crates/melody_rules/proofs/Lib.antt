@@ -1,3 +1,4 @@
+pub mod BookLaws
 pub mod GaugeLemmas
 pub mod LineLemmas
 pub mod StrikeLemmas

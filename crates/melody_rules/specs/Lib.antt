@@ -1,3 +1,4 @@
+pub mod Book
 pub mod GaugeLaws
 pub mod GaugeParts
 pub mod Gauges

@@ -35,7 +35,7 @@ looks_at_nothing_ahead false x y f g = g
 
 pub melody_is_local : AreLocal melody_breaks melody_settles
 melody_is_local rule ex voices =
-    local_from_row (broken_in rule ex voices) at_once
+    local_from_row ex (broken_in rule ex voices) at_once
     (looks_at_nothing_ahead (looks_back rule) (window_rows rule ex voices) (whole_of (near_rows rule ex voices)) (λ i behind now ahead t h. refl) (λ i behind now ahead t h. refl))
 
 pub melody_settles_at_end : SettleAtEnd melody_settles
@@ -68,9 +68,9 @@ unfolding open_leaps
 open_leaps_undisturbed ex i behind now ahead t h = refl
 
 -- the same of the tolls
-pub melody_tolls_are_local : (toll : ℕ) (ex : Exercise) → IsLocal (reading_of (cost_in toll ex)) (settled_by (cost_enough toll ex))
+pub melody_tolls_are_local : (toll : ℕ) (ex : Exercise) → IsLocal ex (reading_of (cost_in toll ex)) (settled_by (cost_enough toll ex))
 melody_tolls_are_local toll ex =
-    local_from_row (cost_in toll ex) at_once
+    local_from_row ex (cost_in toll ex) at_once
     (looks_at_nothing_ahead (toll == 13) (open_leaps ex) (whole_of (toll_rows toll ex)) (open_leaps_undisturbed ex) (λ i behind now ahead t h. refl))
 
 pub melody_tolls_settle_at_end : (toll : ℕ) (ex : Exercise) → SettlesAtEnd ex (settled_by (cost_enough toll ex))

@@ -1,5 +1,6 @@
 pub mod Afterbeats
 pub mod BarLines
+pub mod Book
 pub mod Clear
 pub mod InnerVoices
 pub mod Locality

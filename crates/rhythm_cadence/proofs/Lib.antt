@@ -1,4 +1,5 @@
 pub mod BarReadings
+pub mod BookLaws
 pub mod NewestBars
 pub mod OrderlyReadings
 pub mod PartLemmas

@@ -16,7 +16,7 @@ use Rattle.rule_law.specs.Law.{below_from_test, first_true}
 use Rattle.rule_law.specs.Growth.{newly}
 use Rattle.rule_law.specs.Voices.{is_free, voice_of, holds_of_voice}
 use Rattle.rhythm_cadence.specs.Rows.{broken_in, enough_after}
-use Rattle.rhythm_cadence.specs.Locality.{rhythm_breaks, rhythm_settles, rhythm_is_local}
+use Rattle.rhythm_cadence.specs.Locality.{rhythm_breaks, rhythm_settles, rhythm_reads_on}
 use Rattle.rhythm_cadence.specs.Parts.{newest_bar, newest_start}
 use Rattle.rhythm_cadence.proofs.BarReadings.{keeps_shapes, reading-bar, reading-within_bar, break_is_settled, whole_bar-stays}
 use Rattle.rhythm_cadence.proofs.NewestBars.{newest_bar-more}
@@ -85,7 +85,7 @@ not_settled_before ex p col orderly voices i broken =
     false_from_ne_true (rhythm_settles 3 ex voices p i) (λ s.
     both_ways (rhythm_breaks 3 ex voices p i)
     (orderly-unbroken ex p orderly voices i (below_from_test i (length p) (first_true (nat_lt i (length p)) (reading_of (enough_after 3 ex voices) p i) s)))
-    (sym (rhythm_is_local 3 ex voices p (col ∷ []) i s) ∙ broken))
+    (sym (rhythm_reads_on 3 ex voices p (col ∷ []) i s) ∙ broken))
 
 -- S3 isn't broken at an earlier bar, once the list was orderly
 unbroken_before : (ex : Exercise) (p : List (List Cell)) (col : List Cell) → IsOrderly ex p → (voices i : ℕ) → i < length (p ++ col ∷ []) → begins_bar i ≡ true → (i ≡ newest_start (p ++ col ∷ []) → ⊥) → rhythm_breaks 3 ex voices (p ++ col ∷ []) i ≡ false

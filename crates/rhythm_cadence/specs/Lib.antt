@@ -1,3 +1,4 @@
+pub mod Book
 pub mod Cadence
 pub mod InPlace
 pub mod Locality

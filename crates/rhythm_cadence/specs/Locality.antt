@@ -12,7 +12,8 @@ use Rattle.fux_grid.specs.Orderly.{voice_shapes}
 use Rattle.fux_grid.proofs.ShapeBeginnings.{begins_shape-fewer, letters_of-append, take-append}
 use Rattle.rule_law.specs.Bars.{begins_bar}
 use Rattle.rule_law.specs.Places.{Row, IsUndisturbed, reading_of, settled_by}
-use Rattle.rule_law.specs.Law.{local_from_row, both_true, test_from_below}
+use Rattle.rule_law.specs.Growth.{EnoughStays}
+use Rattle.rule_law.specs.Law.{local_from_row, reads_on, both_true, test_from_below}
 use Rattle.rule_law.specs.BothLaw.{RuleReading, AreLocal, SettleAtEnd}
 use Rattle.rule_law.specs.NearLaw.{IsNear, near_from_whole}
 use Rattle.rule_law.specs.Nearby.{whole_of}
@@ -85,8 +86,12 @@ undisturbed rule ex voices i behind now ahead t enough =
     (λ v. undisturbed_voice ex v i now ahead t))
     enough
 
+-- so what is settled of them stays in every list
+pub rhythm_reads_on : (rule : ℕ) (ex : Exercise) (voices : ℕ) (p t : List (List Cell)) (i : ℕ) → IsTrue (rhythm_settles rule ex voices p i) → rhythm_breaks rule ex voices (p ++ t) i ≡ rhythm_breaks rule ex voices p i
+rhythm_reads_on rule ex voices = reads_on (broken_in rule ex voices) (enough_after rule ex voices) (undisturbed rule ex voices)
+
 pub rhythm_is_local : AreLocal rhythm_breaks rhythm_settles
-rhythm_is_local rule ex voices = local_from_row (broken_in rule ex voices) (enough_after rule ex voices) (undisturbed rule ex voices)
+rhythm_is_local rule ex voices = local_from_row ex (broken_in rule ex voices) (enough_after rule ex voices) (undisturbed rule ex voices)
 
 -- a bar that isn't open is closed for good
 closed_stays : (slot part goes part' goes' : Bool) → (part ≡ false → part' ≡ false) → (goes ≡ false → goes' ≡ false) → (slot && part && goes) ≡ false → (slot && part' && goes') ≡ false
@@ -114,9 +119,6 @@ rule_stays true false o' f h = ap not (f refl)
 rule_stays false o o' f h = refl
 
 -- what is enough stays enough when more columns come
-abbrev pub EnoughStays : Row Bool → Type 0
-EnoughStays enough = (i : ℕ) (behind : List (List Cell)) (now : List Cell) (ahead t : List (List Cell)) → IsTrue (enough i behind now ahead) → IsTrue (enough i behind now (ahead ++ t))
-
 pub rhythm_stays : (rule : ℕ) (ex : Exercise) (voices : ℕ) → EnoughStays (enough_after rule ex voices)
 rhythm_stays rule ex voices i behind now ahead t h =
     rule_stays (rule == 3) (on_free_voice ex (λ v. is_open ex v i now ahead) voices) (on_free_voice ex (λ v. is_open ex v i now (ahead ++ t)) voices)

@@ -26,7 +26,7 @@ ReadsAs bits reads other = (rule : ℕ) → IsTrue (has_rule bits rule) → read
 
 -- each rule's reading is local
 abbrev pub AreLocal : RuleReading → RuleReading → Type 0
-AreLocal breaks settles = (rule : ℕ) (ex : Exercise) (voices : ℕ) → IsLocal (breaks rule ex voices) (settles rule ex voices)
+AreLocal breaks settles = (rule : ℕ) (ex : Exercise) (voices : ℕ) → IsLocal ex (breaks rule ex voices) (settles rule ex voices)
 
 -- each rule is settled everywhere in a list of all columns
 abbrev pub SettleAtEnd : RuleReading → Type 0
@@ -37,8 +37,8 @@ choose true s1 s2 x1 x2 y1 y2 h f g = f h
 choose false s1 s2 x1 x2 y1 y2 h f g = g h
 
 pub either_is_local : (bits : ℕ) (b1 b2 s1 s2 : RuleReading) → AreLocal b1 s1 → AreLocal b2 s2 → AreLocal (either_reading bits b1 b2) (either_reading bits s1 s2)
-either_is_local bits b1 b2 s1 s2 f g rule ex voices p t i h =
-    choose (has_rule bits rule) (s1 rule ex voices p i) (s2 rule ex voices p i) (b1 rule ex voices (p ++ t) i) (b2 rule ex voices (p ++ t) i) (b1 rule ex voices p i) (b2 rule ex voices p i) h (f rule ex voices p t i) (g rule ex voices p t i)
+either_is_local bits b1 b2 s1 s2 f g rule ex voices p t i on h =
+    choose (has_rule bits rule) (s1 rule ex voices p i) (s2 rule ex voices p i) (b1 rule ex voices (p ++ t) i) (b2 rule ex voices (p ++ t) i) (b1 rule ex voices p i) (b2 rule ex voices p i) h (f rule ex voices p t i on) (g rule ex voices p t i on)
 
 pick : (b x y : Bool) → IsTrue x → IsTrue y → IsTrue (if b then x else y)
 pick true x y h k = h

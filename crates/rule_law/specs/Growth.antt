@@ -5,7 +5,9 @@ use Rattle.std.proofs.Common.{ap, sym, ◌∙◌, subst, arith}
 use Rattle.std.proofs.lemmas.List.Sums.{sum_by-cons}
 use Rattle.std.proofs.lemmas.List.{length-append}
 use Rattle.fux_grid.specs.declared.cell.Cell.{Cell}
+use Rattle.fux_grid.specs.declared.exercise.Exercise.{Exercise}
 use Rattle.fux_grid.specs.Columns.{earlier}
+use Rattle.rule_law.specs.Prefixes.{GoesOn}
 use Rattle.rule_law.specs.Places.{Reading, Row, IsLocal, reading_of, settled_by}
 use Rattle.rule_law.specs.Law.{first_true, second_true, both_true, below_from_test, test_from_below, reading-append}
 
@@ -124,12 +126,12 @@ module _ (settles : Reading Bool) (stays : Stays settles) (needs : NeedsPlace se
       from false f = refl
 
   -- a settled test of a longer list is one of the list, or one that its last column settles
-  pub test_grows : (breaks : Reading Bool) (also : ℕ → Bool) → IsLocal breaks settles → (i : ℕ) → (settles (p ++ col ∷ []) i && breaks (p ++ col ∷ []) i && also i) ≡ ((settles p i && breaks p i && also i) || (newly settles p col i && breaks (p ++ col ∷ []) i && also i))
-  test_grows breaks also local i = split (settles (p ++ col ∷ []) i) (settles p i) (breaks p i) (breaks (p ++ col ∷ []) i) (also i) (stays p (col ∷ []) i) (local p (col ∷ []) i)
+  pub test_grows : (ex : Exercise) (breaks : Reading Bool) (also : ℕ → Bool) → IsLocal ex breaks settles → GoesOn ex p (col ∷ []) → (i : ℕ) → (settles (p ++ col ∷ []) i && breaks (p ++ col ∷ []) i && also i) ≡ ((settles p i && breaks p i && also i) || (newly settles p col i && breaks (p ++ col ∷ []) i && also i))
+  test_grows ex breaks also local on i = split (settles (p ++ col ∷ []) i) (settles p i) (breaks p i) (breaks (p ++ col ∷ []) i) (also i) (stays p (col ∷ []) i) (local p (col ∷ []) i on)
 
   -- what is settled of a longer list is what is of the list, and what its last column settles
-  pub charge_grows : (cost : Reading ℕ) → IsLocal cost settles → (i : ℕ) → (if settles (p ++ col ∷ []) i then cost (p ++ col ∷ []) i else 0) ≡ (if settles p i then cost p i else 0) + (if newly settles p col i then cost (p ++ col ∷ []) i else 0)
-  charge_grows cost local i = sum_split (settles (p ++ col ∷ []) i) (settles p i) (cost p i) (cost (p ++ col ∷ []) i) (stays p (col ∷ []) i) (local p (col ∷ []) i)
+  pub charge_grows : (ex : Exercise) (cost : Reading ℕ) → IsLocal ex cost settles → GoesOn ex p (col ∷ []) → (i : ℕ) → (if settles (p ++ col ∷ []) i then cost (p ++ col ∷ []) i else 0) ≡ (if settles p i then cost p i else 0) + (if newly settles p col i then cost (p ++ col ∷ []) i else 0)
+  charge_grows ex cost local on i = sum_split (settles (p ++ col ∷ []) i) (settles p i) (cost p i) (cost (p ++ col ∷ []) i) (stays p (col ∷ []) i) (local p (col ∷ []) i on)
 
   pub unsettled_at_end : settles p (length p) ≡ false
   unsettled_at_end = unsettled (length p) (omega arith)

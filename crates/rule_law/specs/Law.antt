@@ -36,11 +36,15 @@ reading-append row p t i h =
     ∙ ap (λ c. row i (earlier p i) c (drop (i + 1) (p ++ t))) (get_or-append p t [] i h)
     ∙ ap (λ a. row i (earlier p i) (slice_index_or p i []) a) (drop-append-le (i + 1) p t (omega arith))
 
-pub local_from_row : {R : Type 0} (row : Row R) (enough : Row Bool) → IsUndisturbed row enough → IsLocal (reading_of row) (settled_by enough)
-local_from_row row enough u p t i settled =
+-- where nothing later disturbs a row, its settled readings stay in every list
+pub reads_on : {R : Type 0} (row : Row R) (enough : Row Bool) → IsUndisturbed row enough → (p t : List (List Cell)) (i : ℕ) → IsTrue (settled_by enough p i) → reading_of row (p ++ t) i ≡ reading_of row p i
+reads_on row enough u p t i settled =
     let here : i < length p = below_from_test i (length p) (first_true (nat_lt i (length p)) (reading_of enough p i) settled) in
     reading-append row p t i here
     ∙ u i (earlier p i) (slice_index_or p i []) (drop (i + 1) p) t (second_true (nat_lt i (length p)) (reading_of enough p i) settled)
+
+pub local_from_row : {R : Type 0} (ex : Exercise) (row : Row R) (enough : Row Bool) → IsUndisturbed row enough → IsLocal ex (reading_of row) (settled_by enough)
+local_from_row ex row enough u p t i on settled = reads_on row enough u p t i settled
 
 -- what is settled at once is settled in every list that has the place
 pub at_once_settles : (ex : Exercise) → SettlesAtEnd ex (settled_by at_once)

@@ -2,6 +2,7 @@ pub mod After
 pub mod Bars
 pub mod BothLaw
 pub mod Degrees
+pub mod Forms
 pub mod Gauges
 pub mod Growth
 pub mod Law
@@ -12,7 +13,9 @@ pub mod Nearby
 pub mod OrderlyLaw
 pub mod Pairs
 pub mod Places
+pub mod Prefixes
 pub mod Quiet
+pub mod Rulebooks
 pub mod Terms
 pub mod Voices
 pub mod Ways

@@ -4,6 +4,7 @@ use Rattle.fux_grid.specs.declared.cell.Cell.{Cell}
 use Rattle.fux_grid.specs.declared.exercise.Exercise.{Exercise}
 use Rattle.fux_grid.specs.Columns.{earlier}
 use Rattle.fux_grid.specs.Exercises.{columns_in}
+use Rattle.rule_law.specs.Prefixes.{GoesOn}
 
 -- an answer at each place of a list of columns: for rules whether they are broken, for tolls what they cost
 abbrev pub Reading : Type 0 → Type 0
@@ -21,15 +22,16 @@ reading_of row s i = row i (earlier s i) (slice_index_or s i []) (drop (i + 1) s
 abbrev pub settled_by : Row Bool → Reading Bool
 settled_by enough s i = nat_lt i (length s) && reading_of enough s i
 
--- what is settled at a place of a prefix stays so: every list that the prefix begins has the same answer there
-abbrev pub IsLocal : {R : Type 0} → Reading R → Reading Bool → Type 0
-IsLocal reads settles = (p t : List (List Cell)) (i : ℕ) → IsTrue (settles p i) → reads (p ++ t) i ≡ reads p i
+-- what is settled at a place of an orderly prefix stays so: every prefix that it begins has the same answer there, and so has every setting
+abbrev pub IsLocal : {R : Type 0} → Exercise → Reading R → Reading Bool → Type 0
+IsLocal ex reads settles =
+    (p t : List (List Cell)) (i : ℕ) → GoesOn ex p t → IsTrue (settles p i) → reads (p ++ t) i ≡ reads p i
 
 -- in a list of all columns everything is settled
 abbrev pub SettlesAtEnd : Exercise → Reading Bool → Type 0
 SettlesAtEnd ex settles = (s : List (List Cell)) (i : ℕ) → length s ≡ columns_in ex → i < length s → IsTrue (settles s i)
 
--- where there is enough after the place, more columns change nothing
+-- where there is enough after the place, more columns change nothing, in whatever list
 abbrev pub IsUndisturbed : {R : Type 0} → Row R → Row Bool → Type 0
 IsUndisturbed row enough = (i : ℕ) (behind : List (List Cell)) (now : List Cell) (ahead t : List (List Cell)) → IsTrue (enough i behind now ahead) → row i behind now (ahead ++ t) ≡ row i behind now ahead
 

@@ -12,6 +12,7 @@ mod near;
 mod pairs;
 mod rule;
 mod sets;
+mod table;
 mod terms;
 mod toll;
 
@@ -28,6 +29,7 @@ pub use pairs::{
 };
 pub use rule::Rule;
 pub use sets::{RuleSet, is_free, pair_of, voice_of};
+pub use table::{Form, Kind, LatePlaces, Stands, sets_of};
 pub use terms::{
     equal_perfects, falls, interval_in, interval_of_cells, is_clash, is_clean, is_leap,
     is_reduced_to, is_repetition, is_sounding, is_step, lowest, move_from, moves, opposite_ways,

@@ -41,7 +41,7 @@ pub trait Rule {
         requires place { i < length prefix.now.columns }
         ensures { result ≡ settles self.now rule ex.now voices.bits prefix.now.columns i };
 
-    /// Where a rule is settled in a prefix, its reading there is that of every list that the prefix begins.
+    /// Where a rule is settled in an orderly prefix, its reading there is that of every prefix and setting that it begins.
     ghost local: { (it : Self) → AreLocal (breaks it) (settles it) };
 
     /// In a list of all columns every rule is settled.

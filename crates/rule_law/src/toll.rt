@@ -38,8 +38,8 @@ pub trait Toll {
         requires place { i < length prefix.now.columns }
         ensures { result ≡ settles self.now ex.now prefix.now.columns i };
 
-    /// Where a toll is settled in a prefix, its cost there is that of every list that the prefix begins.
-    ghost local: { (it : Self) (ex : Exercise) → IsLocal (charges it ex) (settles it ex) };
+    /// Where a toll is settled in an orderly prefix, its cost there is that of every prefix and setting that it begins.
+    ghost local: { (it : Self) (ex : Exercise) → IsLocal ex (charges it ex) (settles it ex) };
 
     /// In a list of all columns every toll is settled.
     ghost ends: { (it : Self) (ex : Exercise) → SettlesAtEnd ex (settles it ex) };

@@ -1,0 +1,60 @@
+-- The rules and tolls of melody keep the laws of a crate's book.
+use Rattle.std.specs.Prelude.{◌≡◌, ℕ, ◌==◌, Bool, true, false, List, [], ◌∷◌, if◌then◌else◌, refl}
+use Rattle.std.proofs.Common.{arith}
+use Rattle.fux_grid.specs.declared.cell.Cell.{Cell}
+use Rattle.fux_grid.specs.declared.exercise.Exercise.{Exercise}
+use Rattle.fux_grid.specs.Columns.{newest_column}
+use Rattle.rule_law.specs.Forms.{IsOf, choose_form, voice_form, voice_sets_of}
+use Rattle.rule_law.specs.Nearby.{previous_pitches, whole_of}
+use Rattle.rule_law.specs.Quiet.{is_quiet, quiet_cell, either_none}
+use Rattle.rule_law.specs.Rulebooks.{KeepsLaws, KeepsRuleLaws, KeepsTollLaws}
+use Rattle.melody_rules.specs.Locality.{melody_is_local, melody_settles_at_end, melody_tolls_are_local, melody_tolls_settle_at_end}
+use Rattle.melody_rules.specs.Quiet.{still_leaps, still_near_rows, still_tolls, still_window_rows}
+use Rattle.melody_rules.specs.Rows.{broken_in, cost_enough, cost_in, enough_after, looks_back, near_rows, open_leaps, toll_rows, window_rows}
+use Rattle.melody_rules.specs.Book.{book, rule_row, toll_row}
+
+rule_form : (n : ℕ) (ex : Exercise) (i : ℕ) (behind : List (List Cell)) (now : List Cell) (ahead : List (List Cell)) → IsOf (voice_sets_of ex.voices) (λ voices. broken_in n ex voices i behind now ahead)
+rule_form n ex i behind now ahead = at (looks_back n)
+  where
+    at : (b : Bool) → IsOf (voice_sets_of ex.voices) (λ voices. (if b then window_rows n ex voices else whole_of (near_rows n ex voices)) i behind now ahead)
+    at true = voice_form ex _
+    at false = voice_form ex _
+
+rule_quiet : (n : ℕ) (ex : Exercise) (voices i : ℕ) (behind : List (List Cell)) (now : List Cell) → is_quiet i now ≡ true → broken_in n ex voices i behind now [] ≡ false
+rule_quiet n ex voices i behind now h = at (looks_back n)
+  where
+    at : (b : Bool) → (if b then window_rows n ex voices else whole_of (near_rows n ex voices)) i behind now [] ≡ false
+    at true = still_window_rows ex now (quiet_cell i now h) n voices i behind []
+    at false = still_near_rows ex now (quiet_cell i now h) n voices i (newest_column behind) (previous_pitches behind)
+
+toll_quiet : (n : ℕ) (ex : Exercise) (i : ℕ) (behind : List (List Cell)) (now : List Cell) → is_quiet i now ≡ true → cost_in n ex i behind now [] ≡ 0
+toll_quiet n ex i behind now h = at (n == 13)
+  where
+    at : (b : Bool) → (if b then open_leaps ex else whole_of (toll_rows n ex)) i behind now [] ≡ 0
+    at true = still_leaps ex now (quiet_cell i now h) i behind []
+    at false = still_tolls ex now (quiet_cell i now h) n i (newest_column behind) (previous_pitches behind)
+
+pub rules_keep : (n : ℕ) → KeepsRuleLaws (rule_row n)
+rules_keep n = record {
+  local = melody_is_local n;
+  stays = λ ex voices i behind now ahead t h. refl;
+  ends = melody_settles_at_end n;
+  form = rule_form n;
+  stands = λ ex voices i behind now e. cc;
+  at_once = λ e ex voices i behind now ahead. refl;
+  quiet = λ e. rule_quiet n;
+  places = λ e. cc;
+  within = λ ex i. omega arith;
+}
+
+pub tolls_keep : (n : ℕ) → KeepsTollLaws (toll_row n)
+tolls_keep n = record {
+  local = melody_tolls_are_local n;
+  stays = λ ex i behind now ahead t h. refl;
+  ends = melody_tolls_settle_at_end n;
+  at_once = λ e ex i behind now ahead. refl;
+  quiet = λ e. toll_quiet n;
+}
+
+pub keeps_laws : KeepsLaws book
+keeps_laws = record { rules = λ n h. rules_keep n; tolls = λ n h. tolls_keep n }

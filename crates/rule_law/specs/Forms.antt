@@ -1,0 +1,67 @@
+-- The sets of voices that a rule speaks of, and where in a setting it may stand.
+use Rattle.std.specs.Prelude.{◌≡◌, ℕ, ◌==◌, Bool, true, false, ◌&&◌, List, [], ◌∷◌, Option, Some, if◌then◌else◌, refl}
+use Rattle.std.specs.List.{list_any, sum_by}
+use Rattle.std.proofs.Common.{arith}
+use Rattle.std.proofs.lemmas.Bool.{eqb-true}
+use Rattle.fux_grid.specs.declared.exercise.Exercise.{Exercise}
+use Rattle.fux_grid.specs.Exercises.{bar_of}
+use Rattle.rule_law.specs.declared.table.Form.{Form}
+use Rattle.rule_law.specs.declared.table.Form.TheVariants.{OneVoice, TwoVoices, AllVoices}
+use Rattle.rule_law.specs.declared.table.Stands.{Stands}
+use Rattle.rule_law.specs.declared.table.Stands.TheVariants.{Anywhere, AtBars, AtTheEnd}
+use Rattle.rule_law.specs.Bars.{begins_bar}
+use Rattle.rule_law.specs.Voices.{voice_sets, pair_sets, on_voice, on_pair}
+
+-- every set of voices, of four at most, by its bits
+unfoldable pub all_sets : List ℕ
+all_sets = 1 ∷ 2 ∷ 3 ∷ 4 ∷ 5 ∷ 6 ∷ 7 ∷ 8 ∷ 9 ∷ 10 ∷ 11 ∷ 12 ∷ 13 ∷ 14 ∷ 15 ∷ []
+
+-- the sets of one voice of so many voices
+abbrev pub voice_sets_of : ℕ → List ℕ
+voice_sets_of voices = if voices == 2 then 1 ∷ 2 ∷ [] else voice_sets
+
+-- the sets of two voices
+abbrev pub pair_sets_of : ℕ → List ℕ
+pair_sets_of voices = if voices == 2 then 3 ∷ [] else pair_sets
+
+-- the set of all voices
+abbrev pub all_sets_of : ℕ → List ℕ
+all_sets_of voices = if voices == 2 then 3 ∷ [] else (if voices == 3 then 7 ∷ [] else 15 ∷ [])
+
+-- the sets of a form
+abbrev pub sets_of : Form → ℕ → List ℕ
+sets_of OneVoice = voice_sets_of
+sets_of TwoVoices = pair_sets_of
+sets_of AllVoices = all_sets_of
+
+-- the column is one where the rule may stand
+abbrev pub may_stand : Stands → Exercise → ℕ → Bool
+may_stand Anywhere ex i = true
+may_stand AtBars ex i = begins_bar i
+may_stand AtTheEnd ex i = begins_bar i && (bar_of i == ex.bars)
+
+-- of all sets of voices, a test passes for these alone
+pub record IsOf (sets : List ℕ) (test : ℕ → Bool) : Type 0 where
+  pub any : (also : ℕ → Bool) → list_any (λ voices. test voices && also voices) all_sets ≡ list_any (λ voices. test voices && also voices) sets
+  pub sum : (price : ℕ → ℕ) → sum_by (λ voices. if test voices then price voices else 0) all_sets ≡ sum_by (λ voices. if test voices then price voices else 0) sets
+
+pub voice_form : (ex : Exercise) (test : ℕ → Bool) → IsOf (voice_sets_of ex.voices) (on_voice ex test)
+unfolding all_sets
+voice_form ex test = at (ex.voices == 2) refl
+  where
+    at : (b : Bool) → (ex.voices == 2) ≡ b → IsOf (voice_sets_of ex.voices) (on_voice ex test)
+    at true e = record { any = λ also. rw (eqb-true ex.voices 2 e) refl; sum = λ price. rw (eqb-true ex.voices 2 e) (omega arith) }
+    at false e = record { any = λ also. rw e refl; sum = λ price. rw e (omega arith) }
+
+pub pair_form : (ex : Exercise) (test : ℕ → ℕ → Bool) → IsOf (pair_sets_of ex.voices) (on_pair ex test)
+unfolding all_sets
+pair_form ex test = at (ex.voices == 2) refl
+  where
+    at : (b : Bool) → (ex.voices == 2) ≡ b → IsOf (pair_sets_of ex.voices) (on_pair ex test)
+    at true e = record { any = λ also. rw (eqb-true ex.voices 2 e) refl; sum = λ price. rw (eqb-true ex.voices 2 e) (omega arith) }
+    at false e = record { any = λ also. rw e refl; sum = λ price. rw e (omega arith) }
+
+-- of two tests of one form a choice is of it
+pub choose_form : (b : Bool) (sets : List ℕ) (x y : ℕ → Bool) → IsOf sets x → IsOf sets y → IsOf sets (λ voices. if b then x voices else y voices)
+choose_form true sets x y h k = h
+choose_form false sets x y h k = k
