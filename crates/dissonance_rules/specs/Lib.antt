@@ -1,5 +1,6 @@
 pub mod Apart
 pub mod Book
+pub mod ClashLaws
 pub mod Clashes
 pub mod Ligatures
 pub mod Locality

@@ -1,6 +1,7 @@
 pub mod Book
 pub mod Cadence
 pub mod InPlace
+pub mod LateLaws
 pub mod Locality
 pub mod LowerVoices
 pub mod Parts

@@ -5,6 +5,7 @@ pub mod Degrees
 pub mod Forms
 pub mod Gauges
 pub mod Growth
+pub mod LateLaw
 pub mod Law
 pub mod Leading
 pub mod LowerVoices
