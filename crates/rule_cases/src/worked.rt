@@ -282,7 +282,7 @@ fn compare(rt: &impl Abort, alloc: Global, case: &str) -> Result<(), Fail> {
     let ex = exercise(alloc, count, bars, numbers, &lines)?;
     let asked = read_asked(heads.first().ok_or("nothing asked")?)?;
     assert!(rt; ex.is_valid(), "{case}");
-    assert!(rt; score.len() == 8 * bars as usize, "{case}");
+    assert!(rt; score.len() <= 8 * ex.bars as usize);
     assert_eq!(rt; found(alloc, asked, &ex, &score)?, wanted, "{case}");
     Ok(())
 }
