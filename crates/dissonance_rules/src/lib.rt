@@ -7,8 +7,6 @@ mod dissonance;
 mod ligatures;
 mod passing;
 mod rows;
-#[cfg(test)]
-mod tests;
 mod tolls;
 
 pub use apart::are_apart;

@@ -5,7 +5,8 @@ use Rattle.fux_grid.specs.declared.exercise.Exercise.{Exercise}
 use Rattle.fux_grid.specs.Exercises.{HasCantus, columns_in}
 use Rattle.fux_grid.proofs.MenuLemmas.{menu_of-contains, menu_of-cantus}
 use Rattle.penalty_sheet.specs.declared.sheet.Sheet.{Sheet}
-use Rattle.fux_judge.specs.Lawful.{IsPrefix, HasLive, HasLiveAtMost}
+use Rattle.rule_law.specs.Prefixes.{IsPrefix}
+use Rattle.fux_judge.specs.Lawful.{HasLive, HasLiveAtMost}
 use Rattle.species_space.specs.Grows.{live_value}
 use Rattle.species_space.specs.Paths.{prefix_at, is_live_path, live_at, length-columns_on}
 use Rattle.tree_search.specs.Answer.{IsFirstLeast}

@@ -8,7 +8,7 @@ use Rattle.motion_rules.specs.Rows as motion
 use Rattle.dissonance_rules.specs.Rows as dissonance
 use Rattle.rhythm_cadence.specs.Rows as rhythm
 use Rattle.fux_judge.specs.Always.{IsAlwaysDead}
-use Rattle.fux_judge.specs.Rules.{breaks, is_broken}
+use Rattle.fux_judge.specs.Rules.{breaks, is_broken, rule_at}
 use Rattle.fux_judge.specs.Penalties.{is_strict_at}
 use Rattle.fux_judge.specs.Pruning.{is_set_below, reads_below}
 use Rattle.fux_judge.proofs.PruningLemmas.{breaks_in_all}
@@ -27,21 +27,21 @@ module _ (ex : Exercise) (voices i : ℕ) (col : List Cell) where
 
   module _ (before : List Cell) (previous : Pitches) where
     pub always_cross : is_set_below 4 voices ≡ true → motion.near_rows 10 ex voices i before previous col ≡ true → is_strict_at 10 ex voices i ≡ true → IsAlwaysDead ex i col
-    unfolding breaks
+    unfolding rule_at
     always_cross set h = always 10 refl set (λ behind. h)
 
     pub always_meet : is_set_below 4 voices ≡ true → dissonance.near_rows 11 ex voices i before previous col ≡ true → is_strict_at 11 ex voices i ≡ true → IsAlwaysDead ex i col
-    unfolding breaks
+    unfolding rule_at
     always_meet set h = always 11 refl set (λ behind. h)
 
     pub always_clash : is_set_below 4 voices ≡ true → dissonance.near_rows 14 ex voices i before previous col ≡ true → is_strict_at 14 ex voices i ≡ true → IsAlwaysDead ex i col
-    unfolding breaks
+    unfolding rule_at
     always_clash set h = always 14 refl set (λ behind. h)
 
     pub always_end_apart : is_set_below 4 voices ≡ true → rhythm.near_rows 13 ex voices i before previous col ≡ true → is_strict_at 13 ex voices i ≡ true → IsAlwaysDead ex i col
-    unfolding breaks
+    unfolding rule_at
     always_end_apart set h = always 13 refl set (λ behind. h)
 
     pub always_off_final : is_set_below 4 voices ≡ true → rhythm.near_rows 24 ex voices i before previous col ≡ true → is_strict_at 24 ex voices i ≡ true → IsAlwaysDead ex i col
-    unfolding breaks
+    unfolding rule_at
     always_off_final set h = always 24 refl set (λ behind. h)

@@ -16,9 +16,9 @@ use Rattle.melody_rules.specs.Rows as melody
 use Rattle.penalty_sheet.specs.declared.sheet.Sheet.{Sheet}
 use Rattle.penalty_sheet.specs.Weights.{weight_of}
 use Rattle.fux_judge.specs.Charges.{stands, tolls_of_melody, tolls_of_pairs, voice_charge, voice_charges, voice_toll}
-use Rattle.fux_judge.specs.Grows.{newly_paid}
-use Rattle.fux_judge.specs.Rules.{costs, cost_at, tolls_read}
-use Rattle.fux_judge.specs.Steps.{newly_paid-at_end, tolls_at_end}
+use Rattle.fux_judge.specs.Penalties.{newly_paid}
+use Rattle.fux_judge.specs.Rules.{costs, cost_at, toll_at, tolls_read}
+use Rattle.fux_judge.specs.Steps.{tolls_at_end, tolls_within}
 
 -- so many of four, by a weight, is the weight for each of them
 weighed : (a b c d : Bool) (w : ℕ) → (0 + (if a then 1 else 0) + (if b then 1 else 0) + (if c then 1 else 0) + (if d then 1 else 0)) * w ≡ (if a then w else 0) + (if b then w else 0) + (if c then w else 0) + (if d then w else 0)
@@ -42,23 +42,23 @@ weighed false false false false w = omega arith
 module _ (ex : Exercise) (sheet : Sheet) (p : List (List Cell)) (col : List Cell) where
   -- each toll of melody at the column is what it costs the four voices
   seven : cost_at 7 ex (p ++ col ∷ []) (length p) * weight_of sheet 7 ≡ voice_toll ex sheet p col 0 7 + voice_toll ex sheet p col 1 7 + voice_toll ex sheet p col 2 7 + voice_toll ex sheet p col 3 7
-  unfolding costs melody.toll_rows
+  unfolding toll_at melody.toll_rows
   seven = ap (λ n. n * weight_of sheet 7) (reading-at_end (costs 7 ex) p col) ∙ weighed _ _ _ _ (weight_of sheet 7)
 
   eight : cost_at 8 ex (p ++ col ∷ []) (length p) * weight_of sheet 8 ≡ voice_toll ex sheet p col 0 8 + voice_toll ex sheet p col 1 8 + voice_toll ex sheet p col 2 8 + voice_toll ex sheet p col 3 8
-  unfolding costs melody.toll_rows
+  unfolding toll_at melody.toll_rows
   eight = ap (λ n. n * weight_of sheet 8) (reading-at_end (costs 8 ex) p col) ∙ weighed _ _ _ _ (weight_of sheet 8)
 
   nine : cost_at 9 ex (p ++ col ∷ []) (length p) * weight_of sheet 9 ≡ voice_toll ex sheet p col 0 9 + voice_toll ex sheet p col 1 9 + voice_toll ex sheet p col 2 9 + voice_toll ex sheet p col 3 9
-  unfolding costs melody.toll_rows
+  unfolding toll_at melody.toll_rows
   nine = ap (λ n. n * weight_of sheet 9) (reading-at_end (costs 9 ex) p col) ∙ weighed _ _ _ _ (weight_of sheet 9)
 
   ten : cost_at 10 ex (p ++ col ∷ []) (length p) * weight_of sheet 10 ≡ voice_toll ex sheet p col 0 10 + voice_toll ex sheet p col 1 10 + voice_toll ex sheet p col 2 10 + voice_toll ex sheet p col 3 10
-  unfolding costs melody.toll_rows
+  unfolding toll_at melody.toll_rows
   ten = ap (λ n. n * weight_of sheet 10) (reading-at_end (costs 10 ex) p col) ∙ weighed _ _ _ _ (weight_of sheet 10)
 
   thirteen : cost_at 13 ex (p ++ col ∷ []) (length p) * weight_of sheet 13 ≡ voice_toll ex sheet p col 0 13 + voice_toll ex sheet p col 1 13 + voice_toll ex sheet p col 2 13 + voice_toll ex sheet p col 3 13
-  unfolding costs melody.open_leaps
+  unfolding toll_at melody.open_leaps
   thirteen = ap (λ n. n * weight_of sheet 13) (reading-at_end (costs 13 ex) p col) ∙ weighed _ _ _ _ (weight_of sheet 13)
 
   -- so all tolls at the column are what each voice pays, and the others
@@ -76,10 +76,10 @@ module _ (ex : Exercise) (sheet : Sheet) (p : List (List Cell)) (col : List Cell
 
   -- a column settles no less than its first voices pay, with what they cost together
   pub settles_all : (n : ℕ) → n ≤ 4 → voice_charges n ex sheet p col + sum_by (λ toll. cost_at toll ex (p ++ col ∷ []) (length p) * weight_of sheet toll) tolls_of_pairs ≤ newly_paid ex sheet p col
-  settles_all n h = at_most _ _ _ _ _ _ (no_more n h) tolls_by_voices (newly_paid-at_end ex p col sheet)
+  settles_all n h = at_most _ _ _ _ _ (no_more n h) tolls_by_voices (tolls_within ex p col sheet)
     where
-      at_most : (few four together tolls prices settled : ℕ) → few ≤ four → tolls ≡ four + together → settled ≡ tolls + prices → few + together ≤ settled
-      at_most few four together tolls prices settled a b c = omega arith
+      at_most : (few four together tolls settled : ℕ) → few ≤ four → tolls ≡ four + together → tolls ≤ settled → few + together ≤ settled
+      at_most few four together tolls settled a b c = omega arith
 
 -- and no less than the first voices pay of any column that has their cells
 pub settles_first : (ex : Exercise) (sheet : Sheet) (p : List (List Cell)) (col other : List Cell) (n : ℕ) → n ≤ 4 → take n other ≡ take n col → voice_charges n ex sheet p col ≤ newly_paid ex sheet p other

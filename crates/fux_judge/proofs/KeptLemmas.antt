@@ -1,7 +1,7 @@
 -- Rules that a column keeps need not be read.
 use Rattle.std.proofs.Common.{◌≡◌, ◌≢◌, ℕ, ◌==◌, ◌&&◌, ◌||◌, Bool, true, false, not, List, [], ◌∷◌, length, reverse, refl, ap, sym, ◌∙◌, subst, eq-eqb}
 use Rattle.std.specs.Prelude.{nat_le, nat_lt}
-use Rattle.std.specs.List.{filter, list_any}
+use Rattle.std.specs.List.{filter, list_all, list_any}
 use Rattle.std.proofs.lemmas.Bool.{eqb-true}
 use Rattle.std.proofs.lemmas.Map.Views.{any-filter_same}
 use Rattle.fux_grid.specs.declared.cell.Cell.{Cell}
@@ -20,10 +20,11 @@ use Rattle.dissonance_rules.specs.Apart.{apart_rows, some_come_close}
 use Rattle.rhythm_cadence.specs.InPlace.{in_place_rows, some_out_of_place}
 use Rattle.rhythm_cadence.specs.Rows.{begins_last_bar, fits_ending, holds_of_pitch, is_final}
 use Rattle.fux_judge.specs.declared.moment.Moment.{Moment}
-use Rattle.fux_judge.specs.Rules.{all_sets, is_melodic, is_of_motion, is_of_dissonance}
+use Rattle.fux_judge.specs.Rules.{all_sets, is_late, is_melodic, is_of_motion, is_of_dissonance, rule_at, rules_at_once}
 use Rattle.fux_judge.specs.Penalties.{is_strict_at}
-use Rattle.fux_judge.specs.Moments.{IsAfter, is_broken_then, is_strictly_broken_then, rules_at_once}
+use Rattle.fux_judge.specs.Moments.{IsAfter, is_broken_then, is_strictly_broken_then}
 use Rattle.fux_judge.proofs.MomentLemmas.{window_then, melodic_then, motion_then, dissonance_then, rhythm_then}
+use Rattle.fux_judge.proofs.PruningLemmas.{one_of}
 use Rattle.fux_judge.proofs.QuietLemmas.{none_passes}
 
 -- the rules of the last bar alone
@@ -56,8 +57,12 @@ pub not_rough : (rough : Bool) → true ≡ not rough → rough ≡ false
 not_rough true h = cc
 not_rough false h = refl
 
-no_shape : (rule : ℕ) → (rule == 3) ≡ false → rule ≢ 3
-no_shape rule h e = let f : (rule == 3) ≡ true = eq-eqb rule 3 e in cc
+all_of_them : list_all (λ r. not (is_late r)) (1 ∷ 2 ∷ 12 ∷ 13 ∷ 24 ∷ []) ≡ true
+unfolding rule_at
+all_of_them = refl
+
+at_once : (rule : ℕ) → list_any (λ other. rule == other) (1 ∷ 2 ∷ 12 ∷ 13 ∷ 24 ∷ []) ≡ true → is_late rule ≡ false
+at_once rule h = not_rough (is_late rule) (sym (one_of (λ r. not (is_late r)) rule (1 ∷ 2 ∷ 12 ∷ 13 ∷ 24 ∷ []) all_of_them h))
 
 -- likewise of three
 of_three : (P : ℕ → Type 0) (a b c rule : ℕ) → P a → P b → P c → (((rule == a) || (rule == b)) || (rule == c)) ≡ true → P rule
@@ -91,16 +96,16 @@ module _ (p : List (List Cell)) (m : Moment) where
   -- a column in which every voice is in place keeps those of one voice
   place_kept : some_out_of_place m.exercise.now (length p) (previous_pitches (reverse p)) m.column.now ≡ false → (rule : ℕ) → is_of_place rule ≡ true → is_strictly_broken_then all_sets rule p m ≡ false
   place_kept within rule = of_three (λ rule. is_strictly_broken_then all_sets rule p m ≡ false) 1 2 12 rule
-      (kept_by_all 1 (λ voices. sym (rhythm_then 1 voices p m (no_shape 1 refl) refl refl refl) ∙ in_place_rows m.exercise.now (length p) (previous_pitches (reverse p)) m.column.now within 1 voices))
-      (kept_by_all 2 (λ voices. sym (rhythm_then 2 voices p m (no_shape 2 refl) refl refl refl) ∙ in_place_rows m.exercise.now (length p) (previous_pitches (reverse p)) m.column.now within 2 voices))
-      (kept_by_all 12 (λ voices. sym (rhythm_then 12 voices p m (no_shape 12 refl) refl refl refl) ∙ in_place_rows m.exercise.now (length p) (previous_pitches (reverse p)) m.column.now within 12 voices))
+      (kept_by_all 1 (λ voices. sym (rhythm_then 1 voices p m (at_once 1 refl) refl refl refl refl) ∙ in_place_rows m.exercise.now (length p) (previous_pitches (reverse p)) m.column.now within 1 voices))
+      (kept_by_all 2 (λ voices. sym (rhythm_then 2 voices p m (at_once 2 refl) refl refl refl refl) ∙ in_place_rows m.exercise.now (length p) (previous_pitches (reverse p)) m.column.now within 2 voices))
+      (kept_by_all 12 (λ voices. sym (rhythm_then 12 voices p m (at_once 12 refl) refl refl refl refl) ∙ in_place_rows m.exercise.now (length p) (previous_pitches (reverse p)) m.column.now within 12 voices))
 
   -- away from the beginning of the last bar there is no ending
   endings_kept : begins_last_bar m.exercise.now (length p) ≡ false → (rule : ℕ) → is_of_ending rule ≡ true → is_strictly_broken_then all_sets rule p m ≡ false
   endings_kept before rule = of_two (λ rule. is_strictly_broken_then all_sets rule p m ≡ false) 13 24 rule
-      (kept_by_all 13 (λ voices. sym (rhythm_then 13 voices p m (no_shape 13 refl) refl refl refl)
+      (kept_by_all 13 (λ voices. sym (rhythm_then 13 voices p m (at_once 13 refl) refl refl refl refl)
       ∙ on_pair-none m.exercise.now _ voices (λ v w. and_none (v == 0) _ (ap (λ b. b && not (holds_of (fits_ending m.exercise.now) (interval_in m.column.now 0 w))) before))))
-      (kept_by_all 24 (λ voices. sym (rhythm_then 24 voices p m (no_shape 24 refl) refl refl refl)
+      (kept_by_all 24 (λ voices. sym (rhythm_then 24 voices p m (at_once 24 refl) refl refl refl refl)
       ∙ on_voice-none m.exercise.now _ voices (λ v. and_none (v == 0) _ (ap (λ b. b && not (holds_of_pitch (is_final m.exercise.now) (pitch_of (cell_in m.column.now 0)))) before))))
 
   -- within a bar no rule of dissonance is broken
@@ -128,6 +133,7 @@ module _ (p : List (List Cell)) (m : Moment) where
     found_in = list_any (λ rule. is_strictly_broken_then all_sets rule p m && r == rule)
 
     pub at_the_end : found_in (11 ∷ 13 ∷ 14 ∷ 24 ∷ []) ≡ found_in rules_at_once
+    unfolding rules_at_once
     at_the_end =
         left_out (λ rule. is_strictly_broken_then all_sets rule p m) is_of_place (1 ∷ 2 ∷ 11 ∷ 12 ∷ 13 ∷ 14 ∷ 24 ∷ []) r (place_kept fair.placed)
         ∙ left_out (λ rule. is_strictly_broken_then all_sets rule p m) is_of_motion (1 ∷ 2 ∷ 10 ∷ 11 ∷ 12 ∷ 13 ∷ 14 ∷ 16 ∷ 17 ∷ 24 ∷ []) r (motion_kept fair.clear)

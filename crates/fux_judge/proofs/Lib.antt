@@ -1,3 +1,4 @@
+mod LateLemmas
 pub mod AlwaysLemmas
 pub mod ChargeLemmas
 pub mod KeptLemmas

@@ -18,14 +18,16 @@ use Rattle.melody_rules.specs.LowerVoices as melody_below
 use Rattle.motion_rules.specs.LowerVoices as motion_below
 use Rattle.dissonance_rules.specs.LowerVoices as dissonance_below
 use Rattle.rhythm_cadence.specs.LowerVoices as rhythm_below
-use Rattle.fux_judge.specs.Rules.{rules_read, all_sets, is_melodic, is_of_motion, is_of_dissonance, is_read, breaks, is_broken}
-use Rattle.fux_judge.specs.Penalties.{is_strict_at}
-use Rattle.fux_judge.specs.Grows.{newly_broken}
+use Rattle.rule_law.specs.Forms as forms
+use Rattle.rule_law.specs.Rulebooks.{RuleRow, no_rule}
+use Rattle.fux_judge.specs.Rules.{rules_read, all_sets, is_late, is_melodic, is_of_motion, is_of_dissonance, is_of_rhythm, is_read, rule_at, breaks, is_broken}
+use Rattle.fux_judge.proofs.MomentLemmas.{at_rhythm, breaks_melodic, breaks_of_dissonance, breaks_of_motion, breaks_of_none, breaks_of_rhythm}
+use Rattle.fux_judge.specs.Penalties.{is_strict_at, newly_broken}
 use Rattle.fux_judge.specs.Steps.{newly_broken-at_once}
 use Rattle.fux_judge.specs.Pruning.{AllBreak, is_set_below, reads_below, rules_below, sets_below}
 
 -- what each of a list passes, one of them passes
-one_of : (test : ℕ → Bool) (x : ℕ) (xs : List ℕ) → list_all test xs ≡ true → list_any (λ y. x == y) xs ≡ true → test x ≡ true
+pub one_of : (test : ℕ → Bool) (x : ℕ) (xs : List ℕ) → list_all test xs ≡ true → list_any (λ y. x == y) xs ≡ true → test x ≡ true
 one_of test x [] h k = cc
 one_of test x (y ∷ ys) h k = at (x == y) refl k (one_of test x ys (second_true (test y) (list_all test ys) h))
   where
@@ -51,8 +53,16 @@ reads_some : (rule : ℕ) → reads_below rule ≡ true → is_read rule ≡ tru
 unfolding rules_read
 reads_some rule h = one_of is_read rule rules_below refl h
 
-pub not_third : (rule : ℕ) → reads_below rule ≡ true → rule ≢ 3
-not_third rule h q = let e : (rule == 3) ≡ true = eq-eqb rule 3 q in let f : not (rule == 3) ≡ true = one_of (λ r. not (r == 3)) rule rules_below refl h in cc
+all_settled_at_once : list_all (λ r. not (is_late r)) rules_below ≡ true
+unfolding rule_at
+all_settled_at_once = refl
+
+pub settled_at_once : (rule : ℕ) → reads_below rule ≡ true → is_late rule ≡ false
+settled_at_once rule h = not_from (is_late rule) (one_of (λ r. not (is_late r)) rule rules_below all_settled_at_once h)
+  where
+    not_from : (b : Bool) → not b ≡ true → b ≡ false
+    not_from true h = cc
+    not_from false h = refl
 
 in_some_crate : ℕ → Bool
 in_some_crate rule = is_melodic rule || (is_of_motion rule || (is_of_dissonance rule || rhythm_below.is_of_ending rule))
@@ -62,7 +72,7 @@ unfolding in_some_crate
 of_some_crate rule h = one_of in_some_crate rule rules_below refl h
 
 set_there : (voices : ℕ) → list_any (λ other. voices == other) sets_below ≡ true → list_any (λ other. voices == other) all_sets ≡ true
-unfolding all_sets
+unfolding forms.all_sets
 set_there voices h = one_of (λ set. list_any (λ other. set == other) all_sets) voices sets_below refl h
 
 module _ (n : ℕ) (a b : List Cell) (same : IsSameBelow n a b) (i : ℕ) (behind : List (List Cell)) where
@@ -95,19 +105,21 @@ module _ (n : ℕ) (a b : List Cell) (same : IsSameBelow n a b) (i : ℕ) (behin
 
     -- a rule that reads below is broken in both columns, or in none
     breaks_same : reads_below rule ≡ true → breaks rule ex voices i behind a [] ≡ breaks rule ex voices i behind b []
-    unfolding breaks in_some_crate
-    breaks_same reads =
-        let after_motion : Row Bool = if is_of_dissonance rule then dissonance.broken_in rule ex voices else rhythm.broken_in rule ex voices in
-        let three : (t : Bool) → (rule == 3) ≡ t → t ≡ false = λ t e. not_three t e in
-        choose_same (is_melodic rule) (melody.broken_in rule ex voices) (if is_of_motion rule then motion.broken_in rule ex voices else after_motion) (λ _. melody_same)
-        (λ e. choose_same (is_of_motion rule) (motion.broken_in rule ex voices) after_motion (λ _. motion_same)
-        (λ f. choose_same (is_of_dissonance rule) (dissonance.broken_in rule ex voices) (rhythm.broken_in rule ex voices) (λ _. dissonance_same)
-        (λ g. rhythm_same (three (rule == 3) refl)
-        (after (is_of_dissonance rule) (rhythm_below.is_of_ending rule) (after (is_of_motion rule) (is_of_dissonance rule || rhythm_below.is_of_ending rule) (after (is_melodic rule) (is_of_motion rule || (is_of_dissonance rule || rhythm_below.is_of_ending rule)) (of_some_crate rule reads) e) f) g))))
+    unfolding in_some_crate
+    breaks_same reads = at (is_melodic rule) (is_of_motion rule) (is_of_dissonance rule) (is_of_rhythm rule) refl refl refl refl
       where
-        not_three : (t : Bool) → (rule == 3) ≡ t → t ≡ false
-        not_three true e = absurd (not_third rule reads (eqb-true rule 3 e))
-        not_three false e = refl
+        by : (row : Row Bool) → breaks rule ex voices ≡ row → row i behind a [] ≡ row i behind b [] → breaks rule ex voices i behind a [] ≡ breaks rule ex voices i behind b []
+        by row e h = ap (λ (r : Row Bool). r i behind a []) e ∙ h ∙ sym (ap (λ (r : Row Bool). r i behind b []) e)
+
+        at : (x y z w : Bool) → is_melodic rule ≡ x → is_of_motion rule ≡ y → is_of_dissonance rule ≡ z → is_of_rhythm rule ≡ w → breaks rule ex voices i behind a [] ≡ breaks rule ex voices i behind b []
+        at true y z w e f g h = by (melody.broken_in rule ex voices) (breaks_melodic rule ex voices e) melody_same
+        at false true z w e f g h = by (motion.broken_in rule ex voices) (breaks_of_motion rule ex voices e f) motion_same
+        at false false true w e f g h = by (dissonance.broken_in rule ex voices) (breaks_of_dissonance rule ex voices e f g) dissonance_same
+        at false false false true e f g h =
+            by (rhythm.broken_in rule ex voices) (breaks_of_rhythm rule ex voices e f g h)
+            (rhythm_same (sym (ap (λ (it : RuleRow). it.late) (at_rhythm rule e f g h)) ∙ settled_at_once rule reads)
+            (after (is_of_dissonance rule) (rhythm_below.is_of_ending rule) (after (is_of_motion rule) (is_of_dissonance rule || rhythm_below.is_of_ending rule) (after (is_melodic rule) (is_of_motion rule || (is_of_dissonance rule || rhythm_below.is_of_ending rule)) (of_some_crate rule reads) e) f) g))
+        at false false false false e f g h = by (no_rule.broken ex voices) (breaks_of_none rule ex voices e f g h) refl
 
 module _ (rule voices n : ℕ) (ex : Exercise) (p : List (List Cell)) (col : List Cell) where
   -- so a strict break in one is one in the other
@@ -120,5 +132,5 @@ module _ (rule voices n : ℕ) (ex : Exercise) (p : List (List Cell)) (col : Lis
       ∙ breaks_same n other col (same_below n other col same) (length p) (reverse p) rule ex voices (second_true (list_any (λ o. voices == o) sets_below) (is_below n voices) below) reads
       ∙ sym (reading-at_end (breaks rule ex voices) p col) in
       some_of (newly_broken ex p other) rule rules_read (reads_some rule reads)
-      (newly_broken-at_once ex p other rule (not_third rule reads)
+      (newly_broken-at_once ex p other rule (settled_at_once rule reads)
       ∙ some_of test voices all_sets (set_there voices known) (ap (λ b. b && is_strict_at rule ex voices (length p)) moved ∙ strict))

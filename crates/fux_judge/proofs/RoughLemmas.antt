@@ -14,7 +14,7 @@ use Rattle.melody_rules.specs.Smooth.{is_rough, is_rough_at, is_rough_line, is_r
 use Rattle.melody_rules.proofs.VoiceLemmas.{first_pitch, on_free_voice-test}
 use Rattle.fux_judge.specs.Penalties.{is_strict_at}
 use Rattle.fux_judge.specs.Pruning.{AllBreak, is_set_below, reads_below}
-use Rattle.fux_judge.specs.Rules.{breaks, is_broken}
+use Rattle.fux_judge.specs.Rules.{breaks, is_broken, rule_at}
 use Rattle.fux_judge.proofs.ChargeLemmas.{latest_of_line}
 use Rattle.fux_judge.proofs.PruningLemmas.{breaks_in_all}
 
@@ -44,40 +44,40 @@ module _ (ex : Exercise) (voices v n : ℕ) (p : List (List Cell)) (col : List C
   latest = latest_of_line (reverse p) v low ∙ sym (first_pitch (notes_from 0 (line v (reverse p))))
 
   moved_unmelodically : melody.moves_unmelodically (melody.last_of (melody.pitches (line v (reverse p)))) (cell_in col v) ≡ true → AllBreak n ex p col
-  unfolding breaks
+  unfolding rule_at
   moved_unmelodically h =
       strictly 4 refl
       (tested (λ w. melody.voice_rule 4 (species_in ex w) (pitch_at (previous_pitches (reverse p)) w) (cell_in col w))
       ∙ ap (λ q. melody.moves_unmelodically q (cell_in col v)) latest ∙ h)
 
   repeated : melody.repeats (species_in ex v) (melody.last_of (melody.pitches (line v (reverse p)))) (cell_in col v) ≡ true → AllBreak n ex p col
-  unfolding breaks
+  unfolding rule_at
   repeated h =
       strictly 5 refl
       (tested (λ w. melody.voice_rule 5 (species_in ex w) (pitch_at (previous_pitches (reverse p)) w) (cell_in col w))
       ∙ ap (λ q. melody.repeats (species_in ex v) q (cell_in col v)) latest ∙ h)
 
   left_sharp : melody.leaves_sharp (melody.last_of (melody.pitches (line v (reverse p)))) (cell_in col v) ≡ true → AllBreak n ex p col
-  unfolding breaks
+  unfolding rule_at
   left_sharp h =
       strictly 26 refl
       (tested (λ w. melody.voice_rule 26 (species_in ex w) (pitch_at (previous_pitches (reverse p)) w) (cell_in col w))
       ∙ ap (λ q. melody.leaves_sharp q (cell_in col v)) latest ∙ h)
 
   outlined_badly : melody.window_rule 6 (melody.pitches (line v (reverse p))) (cell_in col v) ≡ true → AllBreak n ex p col
-  unfolding breaks
+  unfolding rule_at
   outlined_badly h = strictly 6 refl (tested (λ w. melody.window_rule 6 (melody.pitches (line w (reverse p))) (cell_in col w)) ∙ h)
 
   went_on : melody.window_rule 7 (melody.pitches (line v (reverse p))) (cell_in col v) ≡ true → AllBreak n ex p col
-  unfolding breaks
+  unfolding rule_at
   went_on h = strictly 7 refl (tested (λ w. melody.window_rule 7 (melody.pitches (line w (reverse p))) (cell_in col w)) ∙ h)
 
   turned_at_tritone : melody.window_rule 8 (melody.pitches (line v (reverse p))) (cell_in col v) ≡ true → AllBreak n ex p col
-  unfolding breaks
+  unfolding rule_at
   turned_at_tritone h = strictly 8 refl (tested (λ w. melody.window_rule 8 (melody.pitches (line w (reverse p))) (cell_in col w)) ∙ h)
 
   widened : melody.window_rule 9 (melody.pitches (line v (reverse p))) (cell_in col v) ≡ true → AllBreak n ex p col
-  unfolding breaks
+  unfolding rule_at
   widened h = strictly 9 refl (tested (λ w. melody.window_rule 9 (melody.pitches (line w (reverse p))) (cell_in col w)) ∙ h)
 
   rough_breaks : is_rough (species_in ex v) (melody.pitches (line v (reverse p))) (cell_in col v) ≡ true → AllBreak n ex p col

@@ -1,9 +1,10 @@
 -- A sum over a list, item by item.
-use Rattle.std.proofs.Common.{◌≡◌, ◌≢◌, ℕ, zero, suc, ◌+◌, ◌<◌, ◌==◌, ◌&&◌, Bool, true, IsTrue, List, [], ◌∷◌, length, take, get_or, ap, ◌∙◌, arith, eq-eqb}
+use Rattle.std.proofs.Common.{◌≡◌, ◌≢◌, ℕ, zero, suc, ◌+◌, ◌<◌, ◌==◌, ◌&&◌, Bool, true, IsTrue, List, [], ◌∷◌, length, take, get_or, ap, ◌∙◌, arith, eq-eqb, false, refl}
 use Rattle.std.specs.Prelude.{nat_lt, not}
 use Rattle.std.specs.List.{list_all}
 use Rattle.std.proofs.lemmas.Bool.Decides.{nat_tests}
 use Rattle.rule_law.specs.Law.{first_true, second_true}
+use Rattle.fux_judge.specs.Rules.{is_late}
 use Rattle.std.specs.List.{sum_by}
 use Rattle.std.proofs.lemmas.List.Sums.{sum_by_push}
 use Rattle.std.proofs.lemmas.List.{take_more}
@@ -18,14 +19,28 @@ passes test [] i h k = absurd (omega arith)
 passes test (x ∷ xs) zero h k = first_true (test x) (list_all test xs) h
 passes test (x ∷ xs) (suc i) h k = passes test xs i (second_true (test x) (list_all test xs) h) (omega arith)
 
-pub rule_in_range : (rules : List ℕ) (i : ℕ) → IsTrue (list_all (λ rule. nat_lt rule 32 && not (rule == 3)) rules) → i < length rules → (get_or rules i 0 < 32) × (get_or rules i 0 ≢ 3)
-rule_in_range rules i h k = both (get_or rules i 0) (passes (λ rule. nat_lt rule 32 && not (rule == 3)) rules i h k)
+pub rule_in_range : (rules : List ℕ) (i : ℕ) → IsTrue (list_all (λ rule. nat_lt rule 32 && not (is_late rule)) rules) → i < length rules → (get_or rules i 0 < 32) × (is_late (get_or rules i 0) ≡ false)
+rule_in_range rules i h k = both (get_or rules i 0) (passes (λ rule. nat_lt rule 32 && not (is_late rule)) rules i h k)
   where
-    both : (rule : ℕ) → (nat_lt rule 32 && not (rule == 3)) ≡ true → (rule < 32) × (rule ≢ 3)
-    both rule e = (below rule (first_true (nat_lt rule 32) (not (rule == 3)) e), other rule (second_true (nat_lt rule 32) (not (rule == 3)) e))
+    both : (rule : ℕ) → (nat_lt rule 32 && not (is_late rule)) ≡ true → (rule < 32) × (is_late rule ≡ false)
+    both rule e = (below rule (first_true (nat_lt rule 32) (not (is_late rule)) e), other rule (second_true (nat_lt rule 32) (not (is_late rule)) e))
       where
         below : (rule : ℕ) → nat_lt rule 32 ≡ true → rule < 32
         below rule e = grind (arith, nat_tests)
 
-        other : (rule : ℕ) → not (rule == 3) ≡ true → rule ≢ 3
-        other rule e f = let g : (rule == 3) ≡ true = eq-eqb rule 3 f in cc
+        other : (rule : ℕ) → not (is_late rule) ≡ true → is_late rule ≡ false
+        other rule e = not_from (is_late rule) e
+          where
+            not_from : (b : Bool) → not b ≡ true → b ≡ false
+            not_from true h = cc
+            not_from false h = refl
+
+-- and of late ones
+pub late_in_range : (rules : List ℕ) (i : ℕ) → IsTrue (list_all (λ rule. nat_lt rule 32 && is_late rule) rules) → i < length rules → (get_or rules i 0 < 32) × (is_late (get_or rules i 0) ≡ true)
+late_in_range rules i h k = both (get_or rules i 0) (passes (λ rule. nat_lt rule 32 && is_late rule) rules i h k)
+  where
+    both : (rule : ℕ) → (nat_lt rule 32 && is_late rule) ≡ true → (rule < 32) × (is_late rule ≡ true)
+    both rule e = (below rule (first_true (nat_lt rule 32) (is_late rule) e), second_true (nat_lt rule 32) (is_late rule) e)
+      where
+        below : (rule : ℕ) → nat_lt rule 32 ≡ true → rule < 32
+        below rule e = grind (arith, nat_tests)

@@ -3,7 +3,7 @@ use Rattle.std.specs.Prelude.{◌≡◌, ℕ, true, List, length}
 use Rattle.std.specs.List.{list_any}
 use Rattle.fux_grid.specs.declared.cell.Cell.{Cell}
 use Rattle.fux_grid.specs.declared.exercise.Exercise.{Exercise}
-use Rattle.fux_judge.specs.Grows.{newly_broken}
+use Rattle.fux_judge.specs.Penalties.{newly_broken}
 use Rattle.fux_judge.specs.Rules.{rules_read}
 
 -- after every prefix of so many columns the column settles a strict break

@@ -1,4 +1,4 @@
--- In a list of all columns everything is settled.
+-- In a list of all columns everything is settled in the list itself.
 use Rattle.std.specs.Prelude.{◌≡◌, ℕ, zero, suc, ◌+◌, ◌*◌, ◌<◌, Bool, true, false, ◌&&◌, ◌||◌, List, ◌==◌, length, if◌then◌else◌, refl}
 use Rattle.std.specs.List.{list_any, sum_by}
 use Rattle.std.proofs.Common.{ap, sym, ◌∙◌, arith}
@@ -11,7 +11,7 @@ use Rattle.rule_law.specs.Growth.{any_below, sum_below-same, list_any-same, sum_
 use Rattle.penalty_sheet.specs.declared.sheet.Sheet.{Sheet}
 use Rattle.penalty_sheet.specs.Weights.{weight_of}
 use Rattle.fux_judge.specs.Rules.{rules_read, tolls_read, all_sets, is_broken, is_settled, cost_at, is_cost_settled}
-use Rattle.fux_judge.specs.Penalties.{is_strict_at, price_at, is_strictly_broken, has_strict_break, settled_tolls, settled_prices, paid, tolls_at, prices_at, penalty_of}
+use Rattle.fux_judge.specs.Penalties.{is_strict_at, price_at, is_strictly_broken, has_break_settled_in, settled_tolls, settled_prices, charges_settled_in, tolls_at, prices_at, penalty_of}
 use Rattle.fux_judge.specs.Lawful.{breaks_strictly}
 use Rattle.fux_judge.specs.Facts.{rule_settles_at_end, toll_settles_at_end}
 
@@ -45,17 +45,17 @@ module _ (ex : Exercise) (s : List (List Cell)) (whole : length s ≡ columns_in
       (λ voices. ap (λ b. b && is_broken rule ex voices s i && is_strict_at rule ex voices i) (rule_settles_at_end rule ex voices s i whole h)))
 
   -- a list of all columns in which no strict break is settled has none
-  pub unbroken_if_alive : has_strict_break ex s ≡ false → (i : ℕ) → i < length s → breaks_strictly ex s i ≡ false
-  unbroken_if_alive h i k =
+  pub unbroken_if_none_settled : has_break_settled_in ex s ≡ false → (i : ℕ) → i < length s → breaks_strictly ex s i ≡ false
+  unbroken_if_none_settled h i k =
       sym (settled_break i k) ∙ none_below (λ i. list_any (λ rule. list_any (λ voices. is_strictly_broken rule ex voices s i) all_sets) rules_read) (length s) h i k
 
-  pub alive_if_unbroken : ((i : ℕ) → i < length s → breaks_strictly ex s i ≡ false) → has_strict_break ex s ≡ false
-  alive_if_unbroken h =
+  pub none_settled_if_unbroken : ((i : ℕ) → i < length s → breaks_strictly ex s i ≡ false) → has_break_settled_in ex s ≡ false
+  none_settled_if_unbroken h =
       from_none_below (λ i. list_any (λ rule. list_any (λ voices. is_strictly_broken rule ex voices s i) all_sets) rules_read) (length s) (λ i k. settled_break i k ∙ h i k)
 
-  -- what is paid of a list of all columns is its penalty
-  pub paid_at_end : (sheet : Sheet) → paid ex sheet s ≡ penalty_of ex sheet s
-  paid_at_end sheet =
+  -- the charges settled in a list of all columns are its penalty
+  pub settled_at_end : (sheet : Sheet) → charges_settled_in ex sheet s ≡ penalty_of ex sheet s
+  settled_at_end sheet =
       sum_below-same (λ i. settled_tolls ex sheet s i + settled_prices ex s i) (λ i. tolls_at ex sheet s i + prices_at ex s i) (length s)
       (λ i h.
       ap (λ n. n + settled_prices ex s i)

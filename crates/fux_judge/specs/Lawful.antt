@@ -8,20 +8,10 @@ use Rattle.fux_grid.specs.Exercises.{columns_in}
 use Rattle.fux_grid.specs.Menus.{IsInMenu}
 use Rattle.fux_grid.specs.Order.{IsEarlier}
 use Rattle.rule_law.specs.Places.{Reading}
+use Rattle.rule_law.specs.Prefixes.{IsPrefix, IsSetting}
 use Rattle.penalty_sheet.specs.declared.sheet.Sheet.{Sheet}
 use Rattle.fux_judge.specs.Rules.{rules_read, all_sets, is_broken}
 use Rattle.fux_judge.specs.Penalties.{is_strict_at, has_strict_break, penalty_of}
-
--- a prefix: no more columns than the exercise has, each in its menu and following the one before it
-pub record IsPrefix (ex : Exercise) (p : List (List Cell)) : Type 0 where
-  pub few : length p ≤ columns_in ex
-  pub menus : (i : ℕ) → i < length p → IsInMenu ex i (slice_index_or p i [])
-  pub follows : HistoryFollows (reverse p)
-
--- a setting: a prefix that has all columns
-pub record IsSetting (ex : Exercise) (s : List (List Cell)) : Type 0 where
-  pub prefix : IsPrefix ex s
-  pub whole : length s ≡ columns_in ex
 
 -- some rule is strictly broken at a place, for some set of voices
 abbrev pub breaks_strictly : Exercise → Reading Bool

@@ -1,3 +1,4 @@
+pub mod Alive
 pub mod Always
 pub mod Charges
 pub mod Ends
@@ -8,6 +9,5 @@ pub mod Moments
 pub mod Penalties
 pub mod Pruning
 pub mod Rules
-pub mod Shapes
 pub mod States
 pub mod Steps

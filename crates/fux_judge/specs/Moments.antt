@@ -5,13 +5,12 @@ use Rattle.fux_grid.specs.declared.cell.Cell.{Cell}
 use Rattle.fux_grid.specs.Columns.{newest_column}
 use Rattle.fux_grid.specs.Exercises.{IsValid, columns_in}
 use Rattle.rule_law.specs.Nearby.{previous_pitches}
-use Rattle.rule_law.specs.Voices.{voice_sets, pair_sets}
 use Rattle.melody_rules.specs.Notes.{AreNotesOf}
 use Rattle.motion_rules.specs.BarLines.{IsBarLinesOf}
 use Rattle.penalty_sheet.specs.declared.sheet.Sheet.{Sheet}
 use Rattle.penalty_sheet.specs.Weights.{weight_of}
 use Rattle.fux_judge.specs.declared.moment.Moment.{Moment}
-use Rattle.fux_judge.specs.Rules.{by_rule, is_broken, cost_at}
+use Rattle.fux_judge.specs.Rules.{is_broken, cost_at}
 use Rattle.fux_judge.specs.Penalties.{is_strict_at, price_at}
 
 -- the moment can be read: its exercise is valid, and its column is one of a setting
@@ -46,19 +45,3 @@ prices_then sets rule p m = sum_by (λ voices. if is_broken_then rule voices p m
 -- what a toll costs there, by its weight
 abbrev pub toll_then : Sheet → List (List Cell) → Moment → ℕ → ℕ
 toll_then sheet p m toll = cost_at toll m.exercise.now (with_column p m) (length p) * weight_of sheet toll
-
--- the sets of one voice of so many voices
-abbrev pub voice_sets_of : ℕ → List ℕ
-voice_sets_of voices = if voices == 2 then 1 ∷ 2 ∷ [] else voice_sets
-
--- the sets of two voices
-abbrev pub pair_sets_of : ℕ → List ℕ
-pair_sets_of voices = if voices == 2 then 3 ∷ [] else pair_sets
-
--- the sets of voices of a rule's form: single voices, or pairs
-abbrev pub sets_of : ℕ → ℕ → List ℕ
-sets_of rule voices = by_rule rule (voice_sets_of voices) (pair_sets_of voices) (pair_sets_of voices) (if rule == 13 then pair_sets_of voices else voice_sets_of voices)
-
--- the rules that are settled at once: all but S3
-abbrev pub rules_at_once : List ℕ
-rules_at_once = 1 ∷ 2 ∷ 4 ∷ 5 ∷ 6 ∷ 7 ∷ 8 ∷ 9 ∷ 10 ∷ 11 ∷ 12 ∷ 13 ∷ 14 ∷ 16 ∷ 17 ∷ 24 ∷ 26 ∷ []

@@ -7,7 +7,7 @@ use Rattle.rule_law.specs.LowerVoices.{is_below}
 use Rattle.penalty_sheet.specs.declared.sheet.Sheet.{Sheet}
 use Rattle.fux_judge.specs.declared.moment.Moment.{Moment}
 use Rattle.fux_judge.specs.Rules.{rules_read}
-use Rattle.fux_judge.specs.Grows.{newly_broken, newly_paid}
+use Rattle.fux_judge.specs.Penalties.{newly_broken, newly_paid}
 use Rattle.fux_judge.specs.Moments.{IsAfter}
 
 -- the rules that read the cells of their own voices, and whether a lower one sounds: all but S1 to S3, and S12, which reads the cantus

@@ -1,8 +1,9 @@
 -- What a state knows of its prefix.
-use Rattle.std.specs.Prelude.{◌≡◌, ◌<◌, List, length, take, reverse}
+use Rattle.std.specs.Prelude.{◌≡◌, ◌<◌, List, [], ◌∷◌, ◌++◌, length, take, reverse}
 use Rattle.fux_grid.specs.declared.cell.Cell.{Cell}
 use Rattle.fux_grid.specs.declared.exercise.Exercise.{Exercise}
 use Rattle.fux_grid.specs.Columns.{newest_column}
+use Rattle.rule_law.specs.Prefixes.{GoesOn}
 use Rattle.melody_rules.specs.Notes.{AreNotesOf}
 use Rattle.motion_rules.specs.BarLines.{IsBarLinesOf}
 use Rattle.rhythm_cadence.specs.Parts.{IsShapesOf}
@@ -15,3 +16,8 @@ pub record IsStateOf (ex : Exercise) (p : List (List Cell)) (state : State) : Ty
   pub melody : AreNotesOf (reverse p) state.melody
   pub rhythm : IsShapesOf ex p state.rhythm
   pub motion : IsBarLinesOf p state.motion
+
+-- the state is of a prefix with one column more, which was orderly before it
+pub record HasCome (ex : Exercise) (state : State) (p : List (List Cell)) (col : List Cell) : Type 0 where
+  pub reached : IsStateOf ex (p ++ col ∷ []) state
+  pub on : GoesOn ex p (col ∷ [])

@@ -1,21 +1,27 @@
--- What one column settles, read at its own place.
-use Rattle.std.specs.Prelude.{◌≡◌, ◌≢◌, ℕ, zero, suc, ◌+◌, ◌*◌, ◌<◌, ◌≤◌, ◌==◌, Bool, true, false, not, ◌&&◌, ◌||◌, nat_lt, List, [], ◌∷◌, ◌++◌, length, if◌then◌else◌, refl}
-use Rattle.std.specs.List.{list_any, sum_by}
-use Rattle.std.proofs.Common.{ap, sym, ◌∙◌, subst, arith, add-one, eq-eqb}
-use Rattle.std.proofs.lemmas.Bool.{eqb-true}
+-- What one column settles: of rules and tolls that are settled at once what is read at its own place, of late rules what is newly
+-- settled at their places.
+use Rattle.std.specs.Prelude.{◌≡◌, ℕ, zero, suc, ◌+◌, ◌-◌, ◌*◌, ◌<◌, ◌≤◌, ◌==◌, Bool, true, false, not, ◌&&◌, ◌||◌, nat_lt, List, [], ◌∷◌, ◌++◌, length, if◌then◌else◌, refl}
+use Rattle.std.specs.List.{list_all, list_any, sum_by}
+use Rattle.std.proofs.Common.{ap, sym, ◌∙◌, subst, arith, add-one}
+use Rattle.std.proofs.lemmas.Bool.{false_from_ne_true}
 use Rattle.std.proofs.lemmas.Bool.Decides.{nat_tests}
 use Rattle.std.proofs.lemmas.List.{length-append}
+use Rattle.std.proofs.lemmas.List.Sums.{sum_by-cons}
 use Rattle.fux_grid.specs.declared.cell.Cell.{Cell}
 use Rattle.fux_grid.specs.declared.exercise.Exercise.{Exercise}
+use Rattle.fux_grid.specs.Columns.{earlier}
+use Rattle.rule_law.specs.Forms.{IsOf, sets_of}
+use Rattle.rule_law.specs.Growth.{any_below, any_below-same, any_below-list_any, sum_below, sum_below-same, sum_below-plus, sum_below-sum_by, newly, list_any-same, sum_by-same, sum_by-none}
+use Rattle.rule_law.specs.Law.{first_true, second_true, test_from_below}
 use Rattle.rule_law.specs.Places.{Row, reading_of, settled_by}
-use Rattle.rule_law.specs.Growth.{any_below, sum_below, newly, list_any-same, sum_by-same, sum_by-none}
-use Rattle.rule_law.specs.Law.{test_from_below}
+use Rattle.rule_law.specs.Prefixes.{GoesOn}
+use Rattle.rule_law.specs.Rulebooks.{IsAmong, newly_breaks}
 use Rattle.penalty_sheet.specs.declared.sheet.Sheet.{Sheet}
 use Rattle.penalty_sheet.specs.Weights.{weight_of}
-use Rattle.fux_judge.specs.Rules.{rules_read, tolls_read, all_sets, is_melodic, is_of_motion, is_of_dissonance, is_toll_of_motion, is_toll_of_dissonance, enough, cost_enough, is_broken, is_settled, cost_at, is_cost_settled}
-use Rattle.fux_judge.specs.Penalties.{is_strict_at, price_at}
+use Rattle.fux_judge.specs.Rules.{rules_read, tolls_read, all_sets, rule_at, enough, cost_enough, is_broken, is_settled, cost_at, is_cost_settled, is_late, rules_at_once, late_rules}
+use Rattle.fux_judge.specs.Facts.{rule_keeps, toll_keeps, tolls_at_once}
+use Rattle.fux_judge.specs.Penalties.{is_strict_at, price_at, newly_broken_at, newly_broken, new_toll, new_price, new_tolls, new_prices, newly_paid}
 use Rattle.fux_judge.specs.Ends.{from_none_below}
-use Rattle.fux_judge.specs.Grows.{newly_broken_at, newly_broken, new_tolls, new_prices, newly_paid}
 
 -- a rule is strictly broken at the column that comes after a prefix
 abbrev pub is_strictly_broken_at_end : Exercise → List (List Cell) → List Cell → ℕ → Bool
@@ -29,37 +35,29 @@ prices_at_end ex p col rule = sum_by (λ voices. if is_broken rule ex voices (p 
 abbrev pub tolls_at_end : Exercise → Sheet → List (List Cell) → List Cell → ℕ
 tolls_at_end ex sheet p col = sum_by (λ toll. cost_at toll ex (p ++ col ∷ []) (length p) * weight_of sheet toll) tolls_read
 
-choose_enough : (P : Bool → Type 0) (b x y : Bool) → (b ≡ true → P x) → (b ≡ false → P y) → P (if b then x else y)
-choose_enough P true x y f g = f refl
-choose_enough P false x y f g = g refl
+-- some of so many places passes, from the first one on; the sum over them
+abbrev pub any_among : ℕ → ℕ → (ℕ → Bool) → Bool
+any_among first count test = any_below (λ k. test (first + k)) count
 
-not_three : (rule : ℕ) → rule ≢ 3 → (rule == 3) ≡ false
-not_three rule n = at (rule == 3) refl
-  where
-    at : (b : Bool) → (rule == 3) ≡ b → b ≡ false
-    at true e = absurd (n (eqb-true rule 3 e))
-    at false e = refl
+abbrev pub sum_among : ℕ → ℕ → (ℕ → ℕ) → ℕ
+sum_among first count f = sum_below (λ k. f (first + k)) count
 
--- all rules but S3 are settled at once
-pub enough_at_once : (rule : ℕ) (ex : Exercise) (voices i : ℕ) (behind : List (List Cell)) (now : List Cell) (ahead : List (List Cell)) → rule ≢ 3 → enough rule ex voices i behind now ahead ≡ true
-unfolding enough
-enough_at_once rule ex voices i behind now ahead n = at (is_melodic rule) (is_of_motion rule) (is_of_dissonance rule) refl refl refl
-  where
-    at : (a b c : Bool) → is_melodic rule ≡ a → is_of_motion rule ≡ b → is_of_dissonance rule ≡ c → enough rule ex voices i behind now ahead ≡ true
-    at true b c e f g = rw e refl
-    at false true c e f g = rw (e, f) refl
-    at false false true e f g = rw (e, f, g) refl
-    at false false false e f g = rw (e, f, g, not_three rule n) refl
+-- the sets of voices of a rule's form
+abbrev pub sets_of_rule : ℕ → Exercise → List ℕ
+sets_of_rule rule ex = sets_of (rule_at rule).form ex.voices
 
--- all tolls are
-pub cost_enough_at_once : (toll : ℕ) (ex : Exercise) (i : ℕ) (behind : List (List Cell)) (now : List Cell) (ahead : List (List Cell)) → cost_enough toll ex i behind now ahead ≡ true
-unfolding cost_enough
-cost_enough_at_once toll ex i behind now ahead = at (is_toll_of_motion toll) (is_toll_of_dissonance toll) refl refl
-  where
-    at : (a b : Bool) → is_toll_of_motion toll ≡ a → is_toll_of_dissonance toll ≡ b → cost_enough toll ex i behind now ahead ≡ true
-    at true b e f = rw e refl
-    at false true e f = rw (e, f) refl
-    at false false e f = rw (e, f) refl
+-- the column settles a strict break of a late rule at one of its places, and what it settles of prices there
+abbrev pub breaks_late : Exercise → List (List Cell) → List Cell → ℕ → Bool
+breaks_late ex p col rule =
+    any_among ((rule_at rule).first ex (length p)) ((rule_at rule).count ex (length p))
+    (λ i. list_any (λ voices. newly_broken_at rule ex voices p col i) (sets_of_rule rule ex))
+
+abbrev pub prices_late : Exercise → List (List Cell) → List Cell → ℕ → ℕ
+prices_late ex p col rule =
+    sum_among ((rule_at rule).first ex (length p)) ((rule_at rule).count ex (length p))
+    (λ i. sum_by (new_price ex p col i rule) (sets_of_rule rule ex))
+
+-- ---- what holds of them
 
 below_false : (i n : ℕ) → n ≤ i → nat_lt i n ≡ false
 below_false i n h = grind (arith, nat_tests)
@@ -85,93 +83,241 @@ or_last : (a b : Bool) → a ≡ false → (a || b) ≡ b
 or_last true b h = cc
 or_last false b h = refl
 
+pub zero_below : (f : ℕ → ℕ) (n : ℕ) → ((i : ℕ) → i < n → f i ≡ 0) → sum_below f n ≡ 0
+zero_below f zero h = refl
+zero_below f (suc n) h = add_zeros (sum_below f n) (f n) (zero_below f n (λ i k. h i (omega arith))) (h n (omega arith))
+  where
+    add_zeros : (a b : ℕ) → a ≡ 0 → b ≡ 0 → a + b ≡ 0
+    add_zeros a b e f = omega arith
+
+-- what is there at the last of some numbers alone
+last_alone : (f : ℕ → ℕ) (n : ℕ) → ((i : ℕ) → i < n → f i ≡ 0) → sum_below f (n + 1) ≡ f n
+last_alone f n h = ap (sum_below f) (add-one n) ∙ ap (λ k. k + f n) (zero_below f n h) ∙ none_before (f n)
+  where
+    none_before : (n : ℕ) → 0 + n ≡ n
+    none_before n = omega arith
+
+-- what is there at some places in a row alone
+or_assoc : (a b c : Bool) → (a || (b || c)) ≡ ((a || b) || c)
+or_assoc true b c = refl
+or_assoc false b c = refl
+
+any_below-plus : (f : ℕ → Bool) (a b : ℕ) → any_below f (a + b) ≡ (any_below f a || any_below (λ k. f (a + k)) b)
+any_below-plus f a zero = let e : a + 0 ≡ a = omega arith in ap (any_below f) e ∙ or_none (any_below f a)
+  where
+    or_none : (b : Bool) → b ≡ (b || false)
+    or_none true = refl
+    or_none false = refl
+any_below-plus f a (suc b) =
+    let e : a + suc b ≡ suc (a + b) = omega arith in
+    ap (any_below f) e ∙ ap (λ x. x || f (a + b)) (any_below-plus f a b)
+    ∙ sym (or_assoc (any_below f a) (any_below (λ k. f (a + k)) b) (f (a + b)))
+
+sum_below-more : (f : ℕ → ℕ) (a b : ℕ) → sum_below f (a + b) ≡ sum_below f a + sum_below (λ k. f (a + k)) b
+sum_below-more f a zero = let e : a + 0 ≡ a = omega arith in ap (sum_below f) e ∙ and_none (sum_below f a)
+  where
+    and_none : (n : ℕ) → n ≡ n + 0
+    and_none n = omega arith
+sum_below-more f a (suc b) =
+    let e : a + suc b ≡ suc (a + b) = omega arith in
+    ap (sum_below f) e ∙ ap (λ x. x + f (a + b)) (sum_below-more f a b) ∙ regroup (sum_below f a) (sum_below (λ k. f (a + k)) b) (f (a + b))
+  where
+    regroup : (x y z : ℕ) → x + y + z ≡ x + (y + z)
+    regroup x y z = omega arith
+
+or_right : (a b : Bool) → b ≡ false → (a || b) ≡ a
+or_right true b h = refl
+or_right false b h = h
+
+any_among-alone : (f : ℕ → Bool) (first count n : ℕ) → first + count ≤ n → ((i : ℕ) → f i ≡ true → IsAmong first count i) → any_below f n ≡ any_among first count f
+any_among-alone f first count n within only =
+    let size : n ≡ first + (count + (n - (first + count))) = omega arith in
+    ap (any_below f) size
+    ∙ any_below-plus f first (count + (n - (first + count)))
+    ∙ or_last (any_below f first) (any_below (λ k. f (first + k)) (count + (n - (first + count)))) (from_none_below f first (λ i h. false_from_ne_true (f i) (λ e. before (only i e) h)))
+    ∙ any_below-plus (λ k. f (first + k)) count (n - (first + count))
+    ∙ or_right (any_among first count f) (any_below (λ k. f (first + (count + k))) (n - (first + count)))
+    (from_none_below (λ k. f (first + (count + k))) (n - (first + count)) (λ k h. false_from_ne_true (f (first + (count + k))) (λ e. behind k (only (first + (count + k)) e))))
+  where
+    before : {i : ℕ} → IsAmong first count i → i < first → ⊥
+    before among h = omega (arith, among.from)
+
+    behind : (k : ℕ) → IsAmong first count (first + (count + k)) → ⊥
+    behind k among = omega (arith, among.to)
+
+sum_among-alone : (f : ℕ → ℕ) (first count n : ℕ) → first + count ≤ n → ((i : ℕ) → i < first → f i ≡ 0) → ((i : ℕ) → first + count ≤ i → f i ≡ 0) → sum_below f n ≡ sum_among first count f
+sum_among-alone f first count n within before behind =
+    let size : n ≡ first + (count + (n - (first + count))) = omega arith in
+    ap (sum_below f) size
+    ∙ sum_below-more f first (count + (n - (first + count)))
+    ∙ nothing_first (sum_below f first) _ (zero_below f first before)
+    ∙ sum_below-more (λ k. f (first + k)) count (n - (first + count))
+    ∙ nothing_last (sum_among first count f) _ (zero_below (λ k. f (first + (count + k))) (n - (first + count)) (λ k h. behind (first + (count + k)) (omega arith)))
+  where
+    nothing_first : (a b : ℕ) → a ≡ 0 → a + b ≡ b
+    nothing_first a b e = omega arith
+
+    nothing_last : (a b : ℕ) → b ≡ 0 → a + b ≡ a
+    nothing_last a b e = omega arith
+
+-- the same tests in another order
+turned : (n b s : Bool) → (n && b && s) ≡ (b && (n && s))
+turned true true s = refl
+turned true false s = refl
+turned false true s = refl
+turned false false s = refl
+
+turned_price : (n b : Bool) (x : ℕ) → (if n then (if b then x else 0) else 0) ≡ (if b then (if n then x else 0) else 0)
+turned_price true b x = refl
+turned_price false true x = refl
+turned_price false false x = refl
+
 module _ (ex : Exercise) (p : List (List Cell)) (col : List Cell) where
-  pub newly_broken-at_once : (rule : ℕ) → rule ≢ 3 → newly_broken ex p col rule ≡ is_strictly_broken_at_end ex p col rule
+  enough_at_once : (rule : ℕ) → is_late rule ≡ false → (voices i : ℕ) (behind : List (List Cell)) (now : List Cell) (ahead : List (List Cell)) → enough rule ex voices i behind now ahead ≡ true
+  enough_at_once rule n = (rule_keeps rule).at_once n ex
+
+  pub newly_broken-at_once : (rule : ℕ) → is_late rule ≡ false → newly_broken ex p col rule ≡ is_strictly_broken_at_end ex p col rule
   newly_broken-at_once rule n =
       list_any-same (λ voices. any_below (newly_broken_at rule ex voices p col) (length p + 1)) (λ voices. is_broken rule ex voices (p ++ col ∷ []) (length p) && is_strict_at rule ex voices (length p)) all_sets
       (λ voices.
       let fresh : ℕ → Bool = newly_broken_at rule ex voices p col in
       ap (any_below fresh) (add-one (length p))
-      ∙ or_last (any_below fresh (length p)) (fresh (length p)) (from_none_below fresh (length p) (λ i h. ap (λ b. b && is_broken rule ex voices (p ++ col ∷ []) i && is_strict_at rule ex voices i) (newly_before (enough rule ex voices) (λ i b now a. enough_at_once rule ex voices i b now a n) p col i h)))
-      ∙ ap (λ b. b && is_broken rule ex voices (p ++ col ∷ []) (length p) && is_strict_at rule ex voices (length p)) (newly_at_end (enough rule ex voices) (λ i b now a. enough_at_once rule ex voices i b now a n) p col))
-
-  no_price_three : (voices i : ℕ) → price_at 3 ex voices i ≡ 0
-  no_price_three voices i = refl
-
-  free : (b c : Bool) {n : ℕ} → n ≡ 0 → (if b then (if c then n else 0) else 0) ≡ 0
-  free true true h = h
-  free true false h = refl
-  free false c h = refl
+      ∙ or_last (any_below fresh (length p)) (fresh (length p)) (from_none_below fresh (length p) (λ i h. ap (λ b. b && is_broken rule ex voices (p ++ col ∷ []) i && is_strict_at rule ex voices i) (newly_before (enough rule ex voices) (enough_at_once rule n voices) p col i h)))
+      ∙ ap (λ b. b && is_broken rule ex voices (p ++ col ∷ []) (length p) && is_strict_at rule ex voices (length p)) (newly_at_end (enough rule ex voices) (enough_at_once rule n voices) p col))
 
   -- the prices that the column settles, of one rule at one place
-  prices_of_rule : ℕ → ℕ → ℕ
-  prices_of_rule rule i = sum_by (λ voices. if newly (is_settled rule ex voices) p col i then (if is_broken rule ex voices (p ++ col ∷ []) i then price_at rule ex voices i else 0) else 0) all_sets
+  abbrev pub prices_of_rule : ℕ → ℕ → ℕ
+  prices_of_rule rule i = sum_by (new_price ex p col i rule) all_sets
 
-  prices_before : (rule i : ℕ) → i < length p → sum_by (λ voices. if newly (is_settled rule ex voices) p col i then (if is_broken rule ex voices (p ++ col ∷ []) i then price_at rule ex voices i else 0) else 0) all_sets ≡ 0
-  prices_before rule i h =
-      sum_by-none (λ voices. if newly (is_settled rule ex voices) p col i then (if is_broken rule ex voices (p ++ col ∷ []) i then price_at rule ex voices i else 0) else 0) all_sets
-      (λ voices. at (rule == 3) refl voices)
-    where
-      at : (b : Bool) → (rule == 3) ≡ b → (voices : ℕ) → (if newly (is_settled rule ex voices) p col i then (if is_broken rule ex voices (p ++ col ∷ []) i then price_at rule ex voices i else 0) else 0) ≡ 0
-      at true e voices =
-          let P : ℕ → Type 0 = λ r. (if newly (is_settled r ex voices) p col i then (if is_broken r ex voices (p ++ col ∷ []) i then price_at r ex voices i else 0) else 0) ≡ 0 in
-          subst P (sym (eqb-true rule 3 e)) (free (newly (is_settled 3 ex voices) p col i) (is_broken 3 ex voices (p ++ col ∷ []) i) refl)
-      at false e voices =
-          ap (λ b. if b then (if is_broken rule ex voices (p ++ col ∷ []) i then price_at rule ex voices i else 0) else 0)
-          (newly_before (enough rule ex voices) (λ j b now a. enough_at_once rule ex voices j b now a (other e)) p col i h)
-        where
-          other : (rule == 3) ≡ false → rule ≢ 3
-          other e q = let f : (rule == 3) ≡ true = eq-eqb rule 3 q in cc
+  prices-at_once : (rule : ℕ) → is_late rule ≡ false → sum_below (prices_of_rule rule) (length p + 1) ≡ prices_at_end ex p col rule
+  prices-at_once rule n =
+      last_alone (prices_of_rule rule) (length p)
+      (λ i h. sum_by-none (new_price ex p col i rule) all_sets
+      (λ voices. ap (λ b. if b then (if is_broken rule ex voices (p ++ col ∷ []) i then price_at rule ex voices i else 0) else 0) (newly_before (enough rule ex voices) (enough_at_once rule n voices) p col i h)))
+      ∙ sum_by-same (new_price ex p col (length p) rule) (λ voices. if is_broken rule ex voices (p ++ col ∷ []) (length p) then price_at rule ex voices (length p) else 0) all_sets
+      (λ voices. ap (λ b. if b then (if is_broken rule ex voices (p ++ col ∷ []) (length p) then price_at rule ex voices (length p) else 0) else 0) (newly_at_end (enough rule ex voices) (enough_at_once rule n voices) p col))
 
-  prices_last : (rule : ℕ) → sum_by (λ voices. if newly (is_settled rule ex voices) p col (length p) then (if is_broken rule ex voices (p ++ col ∷ []) (length p) then price_at rule ex voices (length p) else 0) else 0) all_sets ≡ (if rule == 3 then 0 else prices_at_end ex p col rule)
-  prices_last rule = at (rule == 3) refl
-    where
-      at : (b : Bool) → (rule == 3) ≡ b → sum_by (λ voices. if newly (is_settled rule ex voices) p col (length p) then (if is_broken rule ex voices (p ++ col ∷ []) (length p) then price_at rule ex voices (length p) else 0) else 0) all_sets ≡ (if b then 0 else prices_at_end ex p col rule)
-      at true e =
-          sum_by-none (λ voices. if newly (is_settled rule ex voices) p col (length p) then (if is_broken rule ex voices (p ++ col ∷ []) (length p) then price_at rule ex voices (length p) else 0) else 0) all_sets
-          (λ voices.
-          let P : ℕ → Type 0 = λ r. (if newly (is_settled r ex voices) p col (length p) then (if is_broken r ex voices (p ++ col ∷ []) (length p) then price_at r ex voices (length p) else 0) else 0) ≡ 0 in
-          subst P (sym (eqb-true rule 3 e)) (free (newly (is_settled 3 ex voices) p col (length p)) (is_broken 3 ex voices (p ++ col ∷ []) (length p)) refl))
-      at false e =
-          sum_by-same (λ voices. if newly (is_settled rule ex voices) p col (length p) then (if is_broken rule ex voices (p ++ col ∷ []) (length p) then price_at rule ex voices (length p) else 0) else 0) (λ voices. if is_broken rule ex voices (p ++ col ∷ []) (length p) then price_at rule ex voices (length p) else 0) all_sets
-          (λ voices.
-          ap (λ b. if b then (if is_broken rule ex voices (p ++ col ∷ []) (length p) then price_at rule ex voices (length p) else 0) else 0)
-          (newly_at_end (enough rule ex voices) (λ j b now a. enough_at_once rule ex voices j b now a (other e)) p col))
-        where
-          other : (rule == 3) ≡ false → rule ≢ 3
-          other e q = let f : (rule == 3) ≡ true = eq-eqb rule 3 q in cc
+  -- for no sets but those of its form is a rule newly broken
+  module _ (rule i : ℕ) where
+    of_form : IsOf (sets_of_rule rule ex) (λ voices. is_broken rule ex voices (p ++ col ∷ []) i)
+    of_form = (rule_keeps rule).form ex i _ _ _
+
+    breaks_of_form : list_any (λ voices. newly_broken_at rule ex voices p col i) all_sets ≡ list_any (λ voices. newly_broken_at rule ex voices p col i) (sets_of_rule rule ex)
+    breaks_of_form =
+        let also : ℕ → Bool = λ voices. newly (is_settled rule ex voices) p col i && is_strict_at rule ex voices i in
+        let turn : (sets : List ℕ) → list_any (λ voices. newly_broken_at rule ex voices p col i) sets ≡ list_any (λ voices. is_broken rule ex voices (p ++ col ∷ []) i && also voices) sets =
+        λ sets. list_any-same (λ voices. newly_broken_at rule ex voices p col i) (λ voices. is_broken rule ex voices (p ++ col ∷ []) i && also voices) sets
+        (λ voices. turned (newly (is_settled rule ex voices) p col i) (is_broken rule ex voices (p ++ col ∷ []) i) (is_strict_at rule ex voices i)) in
+        turn all_sets ∙ of_form.any also ∙ sym (turn (sets_of_rule rule ex))
+
+    prices_of_form : sum_by (new_price ex p col i rule) all_sets ≡ sum_by (new_price ex p col i rule) (sets_of_rule rule ex)
+    prices_of_form =
+        let price : ℕ → ℕ = λ voices. if newly (is_settled rule ex voices) p col i then price_at rule ex voices i else 0 in
+        let turn : (sets : List ℕ) → sum_by (new_price ex p col i rule) sets ≡ sum_by (λ voices. if is_broken rule ex voices (p ++ col ∷ []) i then price voices else 0) sets =
+        λ sets. sum_by-same (new_price ex p col i rule) (λ voices. if is_broken rule ex voices (p ++ col ∷ []) i then price voices else 0) sets
+        (λ voices. turned_price (newly (is_settled rule ex voices) p col i) (is_broken rule ex voices (p ++ col ∷ []) i) (price_at rule ex voices i)) in
+        turn all_sets ∙ of_form.sum price ∙ sym (turn (sets_of_rule rule ex))
+
+  -- of a late rule, after an orderly prefix, all is at its places
+  module _ (rule : ℕ) (late : is_late rule ≡ true) (on : GoesOn ex p (col ∷ [])) where
+    among : (voices i : ℕ) → newly_breaks (rule_at rule) ex voices p col i ≡ true → IsAmong ((rule_at rule).first ex (length p)) ((rule_at rule).count ex (length p)) i
+    among voices i h = (rule_keeps rule).places late ex voices p col i on h
+
+    some_among : (sets : List ℕ) (i : ℕ) → list_any (λ voices. newly_broken_at rule ex voices p col i) sets ≡ true → IsAmong ((rule_at rule).first ex (length p)) ((rule_at rule).count ex (length p)) i
+    some_among [] i h = cc
+    some_among (voices ∷ sets) i h = at (newly_broken_at rule ex voices p col i) refl h (some_among sets i)
+      where
+        at : (b : Bool) → newly_broken_at rule ex voices p col i ≡ b → (b || list_any (λ voices. newly_broken_at rule ex voices p col i) sets) ≡ true → (list_any (λ voices. newly_broken_at rule ex voices p col i) sets ≡ true → IsAmong ((rule_at rule).first ex (length p)) ((rule_at rule).count ex (length p)) i) → IsAmong ((rule_at rule).first ex (length p)) ((rule_at rule).count ex (length p)) i
+        at true e k later = among voices i (first_true (newly_breaks (rule_at rule) ex voices p col i) (is_strict_at rule ex voices i) e)
+        at false e k later = later k
+
+    pub newly_broken-late : newly_broken ex p col rule ≡ breaks_late ex p col rule
+    newly_broken-late =
+        sym (any_below-list_any (λ voices. newly_broken_at rule ex voices p col) all_sets (length p + 1))
+        ∙ any_below-same (λ i. list_any (λ voices. newly_broken_at rule ex voices p col i) all_sets) (λ i. list_any (λ voices. newly_broken_at rule ex voices p col i) (sets_of_rule rule ex)) (length p + 1) (λ i h. breaks_of_form rule i)
+        ∙ any_among-alone (λ i. list_any (λ voices. newly_broken_at rule ex voices p col i) (sets_of_rule rule ex)) ((rule_at rule).first ex (length p)) ((rule_at rule).count ex (length p)) (length p + 1)
+        ((rule_keeps rule).within ex (length p)) (some_among (sets_of_rule rule ex))
+
+    free : (voices i : ℕ) → (IsAmong ((rule_at rule).first ex (length p)) ((rule_at rule).count ex (length p)) i → ⊥) → new_price ex p col i rule voices ≡ 0
+    free voices i out = at (newly (is_settled rule ex voices) p col i) (is_broken rule ex voices (p ++ col ∷ []) i) (λ h. out (among voices i h))
+      where
+        at : (n b : Bool) → ((n && b) ≡ true → ⊥) → (if n then (if b then price_at rule ex voices i else 0) else 0) ≡ 0
+        at true true h = absurd (h refl)
+        at true false h = refl
+        at false b h = refl
+
+    prices-late : sum_below (prices_of_rule rule) (length p + 1) ≡ prices_late ex p col rule
+    prices-late =
+        sum_below-same (prices_of_rule rule) (λ i. sum_by (new_price ex p col i rule) (sets_of_rule rule ex)) (length p + 1) (λ i h. prices_of_form rule i)
+        ∙ sum_among-alone (λ i. sum_by (new_price ex p col i rule) (sets_of_rule rule ex)) ((rule_at rule).first ex (length p)) ((rule_at rule).count ex (length p)) (length p + 1)
+        ((rule_keeps rule).within ex (length p))
+        (λ i h. sum_by-none (new_price ex p col i rule) (sets_of_rule rule ex) (λ voices. free voices i (λ among. not_before i among h)))
+        (λ i h. sum_by-none (new_price ex p col i rule) (sets_of_rule rule ex) (λ voices. free voices i (λ among. not_behind i among h)))
+      where
+        not_before : (i : ℕ) {f c : ℕ} → IsAmong f c i → i < f → ⊥
+        not_before i among h = omega (arith, among.from)
+
+        not_behind : (i : ℕ) {f c : ℕ} → IsAmong f c i → f + c ≤ i → ⊥
+        not_behind i among h = omega (arith, among.to)
+
+  -- the rules that are read are those that are settled at once, and the late ones
+  split_rules : (f : ℕ → ℕ) → sum_by f rules_read ≡ sum_by f rules_at_once + sum_by f late_rules
+  unfolding rules_read rules_at_once late_rules
+  split_rules f = omega arith
+
+  sum_where : (test : ℕ → Bool) (f g : ℕ → ℕ) (xs : List ℕ) → list_all test xs ≡ true → ((x : ℕ) → test x ≡ true → f x ≡ g x) → sum_by f xs ≡ sum_by g xs
+  sum_where test f g [] h e = refl
+  sum_where test f g (x ∷ xs) h e =
+      sum_by-cons f x xs ∙ ap (λ n. n + sum_by f xs) (e x (first_true (test x) (list_all test xs) h))
+      ∙ ap (λ n. g x + n) (sum_where test f g xs (second_true (test x) (list_all test xs) h) e) ∙ sym (sum_by-cons g x xs)
+
+  not_false : (b : Bool) → not b ≡ true → b ≡ false
+  not_false true h = cc
+  not_false false h = refl
+
+  pub all_at_once : list_all (λ rule. not (is_late rule)) rules_at_once ≡ true
+  unfolding rules_at_once rule_at
+  all_at_once = refl
+
+  pub all_late : list_all is_late late_rules ≡ true
+  unfolding late_rules rule_at
+  all_late = refl
+
+  pub prices_by_rules : sum_below (new_prices ex p col) (length p + 1) ≡ sum_by (λ rule. sum_below (prices_of_rule rule) (length p + 1)) rules_read
+  prices_by_rules = sum_below-sum_by (λ rule i. sum_by (new_price ex p col i rule) all_sets) rules_read (length p + 1)
+
+  -- what the column settles of prices, read at its own place and at the places of late rules
+  pub prices_settled : GoesOn ex p (col ∷ []) → sum_below (new_prices ex p col) (length p + 1) ≡ sum_by (prices_at_end ex p col) rules_at_once + sum_by (prices_late ex p col) late_rules
+  prices_settled on =
+      let of : ℕ → ℕ = λ rule. sum_below (prices_of_rule rule) (length p + 1) in
+      prices_by_rules ∙ split_rules of
+      ∙ ap (λ n. n + sum_by of late_rules) (sum_where (λ rule. not (is_late rule)) of (prices_at_end ex p col) rules_at_once all_at_once (λ rule h. prices-at_once rule (not_false (is_late rule) h)))
+      ∙ ap (λ n. sum_by (prices_at_end ex p col) rules_at_once + n) (sum_where is_late of (prices_late ex p col) late_rules all_late (λ rule h. prices-late rule h on))
 
   module _ (sheet : Sheet) where
-    tolls_before : (i : ℕ) → i < length p → new_tolls ex sheet p col i ≡ 0
-    tolls_before i h =
-        sum_by-none (λ toll. if newly (is_cost_settled toll ex) p col i then cost_at toll ex (p ++ col ∷ []) i * weight_of sheet toll else 0) tolls_read
-        (λ toll. ap (λ b. if b then cost_at toll ex (p ++ col ∷ []) i * weight_of sheet toll else 0) (newly_before (cost_enough toll ex) (cost_enough_at_once toll ex) p col i h))
+    cost_at_once : (toll i : ℕ) (behind : List (List Cell)) (now : List Cell) (ahead : List (List Cell)) → cost_enough toll ex i behind now ahead ≡ true
+    cost_at_once toll = (toll_keeps toll).at_once (tolls_at_once toll) ex
 
-    tolls_last : new_tolls ex sheet p col (length p) ≡ tolls_at_end ex sheet p col
-    tolls_last =
-        sum_by-same (λ toll. if newly (is_cost_settled toll ex) p col (length p) then cost_at toll ex (p ++ col ∷ []) (length p) * weight_of sheet toll else 0) (λ toll. cost_at toll ex (p ++ col ∷ []) (length p) * weight_of sheet toll) tolls_read
-        (λ toll. ap (λ b. if b then cost_at toll ex (p ++ col ∷ []) (length p) * weight_of sheet toll else 0) (newly_at_end (cost_enough toll ex) (cost_enough_at_once toll ex) p col))
+    tolls_settled : sum_below (new_tolls ex sheet p col) (length p + 1) ≡ tolls_at_end ex sheet p col
+    tolls_settled =
+        last_alone (new_tolls ex sheet p col) (length p)
+        (λ i h. sum_by-none (new_toll ex sheet p col i) tolls_read
+        (λ toll. ap (λ b. if b then cost_at toll ex (p ++ col ∷ []) i * weight_of sheet toll else 0) (newly_before (cost_enough toll ex) (cost_at_once toll) p col i h)))
+        ∙ sum_by-same (new_toll ex sheet p col (length p)) (λ toll. cost_at toll ex (p ++ col ∷ []) (length p) * weight_of sheet toll) tolls_read
+        (λ toll. ap (λ b. if b then cost_at toll ex (p ++ col ∷ []) (length p) * weight_of sheet toll else 0) (newly_at_end (cost_enough toll ex) (cost_at_once toll) p col))
 
-    zero_below : (f : ℕ → ℕ) (n : ℕ) → ((i : ℕ) → i < n → f i ≡ 0) → sum_below f n ≡ 0
-    zero_below f zero h = refl
-    zero_below f (suc n) h = add_zeros (sum_below f n) (f n) (zero_below f n (λ i k. h i (omega arith))) (h n (omega arith))
+    parts : newly_paid ex sheet p col ≡ tolls_at_end ex sheet p col + sum_below (new_prices ex p col) (length p + 1)
+    parts =
+        sum_below-plus (new_tolls ex sheet p col) (new_prices ex p col) (length p + 1)
+        ∙ ap (λ n. n + sum_below (new_prices ex p col) (length p + 1)) tolls_settled
+
+    -- the column settles no less than the tolls at its own place
+    pub tolls_within : tolls_at_end ex sheet p col ≤ newly_paid ex sheet p col
+    tolls_within = no_less _ _ _ parts
       where
-        add_zeros : (a b : ℕ) → a ≡ 0 → b ≡ 0 → a + b ≡ 0
-        add_zeros a b e f = omega arith
+        no_less : (a b c : ℕ) → c ≡ a + b → a ≤ c
+        no_less a b c e = omega arith
 
-    -- what the column settles is what the tolls cost at its own place, and what relaxed breaks cost there
-    pub newly_paid-at_end : newly_paid ex sheet p col ≡ tolls_at_end ex sheet p col + sum_by (λ rule. if rule == 3 then 0 else prices_at_end ex p col rule) rules_read
-    newly_paid-at_end =
-        let fresh : ℕ → ℕ = λ i. new_tolls ex sheet p col i + new_prices ex p col i in
-        let none : sum_below fresh (length p) ≡ 0 = zero_below fresh (length p) (λ i h. zeros i (tolls_before i h) (sum_by-none (λ rule. sum_by (λ voices. if newly (is_settled rule ex voices) p col i then (if is_broken rule ex voices (p ++ col ∷ []) i then price_at rule ex voices i else 0) else 0) all_sets) rules_read (λ rule. prices_before rule i h))) in
-        ap (sum_below fresh) (add-one (length p))
-        ∙ ap (λ n. n + fresh (length p)) none
-        ∙ none_before (fresh (length p))
-        ∙ ap (λ n. n + new_prices ex p col (length p)) tolls_last
-        ∙ ap (λ n. tolls_at_end ex sheet p col + n) (sum_by-same (λ rule. sum_by (λ voices. if newly (is_settled rule ex voices) p col (length p) then (if is_broken rule ex voices (p ++ col ∷ []) (length p) then price_at rule ex voices (length p) else 0) else 0) all_sets) (λ rule. if rule == 3 then 0 else prices_at_end ex p col rule) rules_read prices_last)
-      where
-        zeros : (i : ℕ) → new_tolls ex sheet p col i ≡ 0 → new_prices ex p col i ≡ 0 → new_tolls ex sheet p col i + new_prices ex p col i ≡ 0
-        zeros i e f = omega arith
-
-        none_before : (n : ℕ) → 0 + n ≡ n
-        none_before n = omega arith
+    -- what it settles is what the tolls cost at its own place, and what relaxed breaks cost there and at the places of late rules
+    pub newly_paid-parts : GoesOn ex p (col ∷ []) → newly_paid ex sheet p col ≡ tolls_at_end ex sheet p col + (sum_by (prices_at_end ex p col) rules_at_once + sum_by (prices_late ex p col) late_rules)
+    newly_paid-parts on = parts ∙ ap (λ n. tolls_at_end ex sheet p col + n) (prices_settled on)

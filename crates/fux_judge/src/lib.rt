@@ -3,18 +3,19 @@
 
 mod always;
 mod kept;
+mod late;
 mod moment;
 mod pruning;
 mod reading;
 mod state;
-#[cfg(test)]
-mod tests;
 mod tolls;
 mod total;
 mod verdict;
+mod whole;
 
 pub use always::is_always_dead;
 pub use pruning::pruned_within;
 pub use state::State;
 pub use total::penalty;
-pub use verdict::{Verdict, step};
+pub use verdict::{Verdict, every_rule, step};
+pub use whole::{cost_in, every_toll, is_broken_in, is_cost_settled_in, is_settled_in};

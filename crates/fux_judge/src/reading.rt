@@ -1,52 +1,23 @@
 //! Rules and tolls, read at a moment.
 
-ghost use Rattle.std.specs.Prelude.{◌≡◌, ◌≢◌, ◌&&◌, if◌then◌else◌, ◌<◌, ◌≤◌, ◌*◌, ◌+◌, ◌^◌, List, [], IsTrue, length};
+ghost use Rattle.std.specs.Prelude.{◌≡◌, false, ◌&&◌, if◌then◌else◌, ◌<◌, ◌≤◌, ◌*◌, ◌+◌, ◌^◌, List, [], IsTrue, length};
 ghost use Rattle.fux_grid.specs.declared.cell.Cell.{Cell as ACell};
 ghost use Rattle.melody_rules.specs.Rows as melody;
 ghost use Rattle.fux_grid.specs.Exercises.{bar_of};
 ghost use Rattle.fux_judge.specs.Rules as rules;
-ghost use Rattle.fux_judge.specs.Rules.{all_sets};
+ghost use Rattle.fux_judge.specs.Rules.{all_sets, is_late, rule_at};
 ghost use Rattle.fux_judge.specs.Penalties.{is_strict_at, price_at as price_at_place};
-ghost use Rattle.fux_judge.specs.Moments.{IsReadable, IsAfter, is_broken_then, is_strictly_broken_then, prices_then, pair_sets_of, sets_of, voice_sets_of, with_column};
+ghost use Rattle.fux_judge.specs.Moments.{IsReadable, IsAfter, is_broken_then, is_strictly_broken_then, prices_then, with_column};
 
 use crate::moment::Moment;
 use fux_grid::VoiceSet;
 use melody_rules::breaks_looking_back;
 use penalty_sheet::price_at;
-
-/// The sets of one voice.
-const SINGLE_VOICES: [u8; 4] = [1, 2, 4, 8];
-
-const SINGLE_OF_TWO: [u8; 2] = [1, 2];
-
-/// The sets of two voices.
-const PAIRS: [u8; 6] = [3, 5, 6, 9, 10, 12];
-
-const PAIR_OF_TWO: [u8; 1] = [3];
-
-/// The sets of one voice, of so many voices.
-#[inline]
-fn single_voices(voices: u8) -> &'static [u8]
-    ensures { result.now ≡ voice_sets_of voices }
-{
-    if voices == 2 {
-        &SINGLE_OF_TWO
-    } else {
-        &SINGLE_VOICES
-    }
-}
-
-/// The sets of two voices.
-#[inline]
-fn pairs(voices: u8) -> &'static [u8]
-    ensures { result.now ≡ pair_sets_of voices }
-{
-    if voices == 2 { &PAIR_OF_TWO } else { &PAIRS }
-}
+use rule_law::{Form, sets_of};
 
 /// Whether a rule is of melody.
 #[inline]
-fn is_melodic(rule: u8) -> bool
+pub(crate) fn is_melodic(rule: u8) -> bool
     ensures { result ≡ rules.is_melodic rule }
 {
     rule == 4 || rule == 5 || rule == 6 || rule == 7 || rule == 8 || rule == 9 || rule == 26
@@ -62,7 +33,7 @@ fn looks_back(rule: u8) -> bool
 
 /// Whether a rule is of motion.
 #[inline]
-fn is_of_motion(rule: u8) -> bool
+pub(crate) fn is_of_motion(rule: u8) -> bool
     ensures { result ≡ rules.is_of_motion rule }
 {
     rule == 10 || rule == 16 || rule == 17
@@ -70,35 +41,44 @@ fn is_of_motion(rule: u8) -> bool
 
 /// Whether a rule is of dissonance.
 #[inline]
-fn is_of_dissonance(rule: u8) -> bool
+pub(crate) fn is_of_dissonance(rule: u8) -> bool
     ensures { result ≡ rules.is_of_dissonance rule }
 {
     rule == 11 || rule == 14
 }
 
-/// The sets of voices that a rule speaks of, of so many voices.
-fn sets_of_rule(rule: u8, voices: u8) -> &'static [u8]
-    ensures { result.now ≡ sets_of rule voices }
+/// Whether a rule is of rhythm and cadence.
+#[inline]
+pub(crate) fn is_of_rhythm(rule: u8) -> bool
+    ensures { result ≡ rules.is_of_rhythm rule }
 {
-    if is_melodic(rule) {
-        return single_voices(voices);
-    }
-    if is_of_motion(rule) {
-        return pairs(voices);
-    }
-    if is_of_dissonance(rule) {
-        return pairs(voices);
-    }
-    if rule == 13 {
-        pairs(voices)
-    } else {
-        single_voices(voices)
-    }
+    rule == 1 || rule == 2 || rule == 3 || rule == 12 || rule == 13 || rule == 24
 }
 
-/// Whether a rule, other than S3, is broken for a set of voices.
+/// Which sets of voices a rule speaks of.
+#[inline]
+#[tactic(auto, unfolding(crate::specs::Rules::rule_at))]
+pub(crate) fn form_of(rule: u8) -> Form
+    ensures { result ≡ (rule_at rule).form }
+{
+    if is_melodic(rule) {
+        return Form::OneVoice;
+    }
+    if is_of_motion(rule) {
+        return Form::TwoVoices;
+    }
+    if is_of_dissonance(rule) {
+        return Form::TwoVoices;
+    }
+    if is_of_rhythm(rule) && rule == 13 {
+        return Form::TwoVoices;
+    }
+    Form::OneVoice
+}
+
+/// Whether a rule that is settled at once is broken for a set of voices.
 fn is_broken(rule: u8, voices: VoiceSet, m: &Moment<'_>) -> bool
-    requires rule { rule ≢ 3 }
+    requires rule { is_late rule ≡ false }
     requires readable { IsReadable m.now }
     ensures { (p : List (List ACell)) → IsAfter p m.now → result ≡ is_broken_then rule voices.bits p m.now }
 {
@@ -115,7 +95,10 @@ fn is_broken(rule: u8, voices: VoiceSet, m: &Moment<'_>) -> bool
     if is_of_dissonance(rule) {
         return dissonance_rules::breaks(rule, ex, voices, i, before, &m.latest, now);
     }
-    rhythm_cadence::breaks(rule, ex, voices, i, before, &m.latest, now)
+    if is_of_rhythm(rule) {
+        return rhythm_cadence::breaks(rule, ex, voices, i, before, &m.latest, now);
+    }
+    false
 }
 
 /// The bar of a moment, counted from 1.
@@ -127,9 +110,9 @@ fn bar_at(m: &Moment<'_>) -> u8
     (m.place / 8 + 1) as u8
 }
 
-/// Whether a rule, other than S3, is strictly broken for a set of voices.
+/// Whether a rule that is settled at once is strictly broken for a set of voices.
 pub(crate) fn is_strictly_broken(rule: u8, voices: VoiceSet, m: &Moment<'_>) -> bool
-    requires rule { rule ≢ 3 }
+    requires rule { is_late rule ≡ false }
     requires readable { IsReadable m.now }
     ensures { (p : List (List ACell)) → IsAfter p m.now → result ≡ (is_broken_then rule voices.bits p m.now && is_strict_at rule m.now.exercise.now voices.bits (length p)) }
 {
@@ -139,9 +122,9 @@ pub(crate) fn is_strictly_broken(rule: u8, voices: VoiceSet, m: &Moment<'_>) -> 
     price_at(m.exercise, rule, voices, bar_at(m)).is_strict()
 }
 
-/// The price of a relaxed break of a rule, other than S3, for a set of voices; nothing where there is none.
+/// The price of a relaxed break of a rule that is settled at once for a set of voices; nothing where there is none.
 fn price_of(rule: u8, voices: VoiceSet, m: &Moment<'_>) -> u64
-    requires rule { rule ≢ 3 }
+    requires rule { is_late rule ≡ false }
     requires readable { IsReadable m.now }
     ensures value { (p : List (List ACell)) → IsAfter p m.now → result ≡ (if is_broken_then rule voices.bits p m.now then price_at_place rule m.now.exercise.now voices.bits (length p) else 0) }
     ensures bound { result ≤ 10000 }
@@ -152,9 +135,9 @@ fn price_of(rule: u8, voices: VoiceSet, m: &Moment<'_>) -> u64
     u64::from(price_at(m.exercise, rule, voices, bar_at(m)).amount())
 }
 
-/// Whether a rule, other than S3, is strictly broken for one of these sets of voices.
+/// Whether a rule that is settled at once is strictly broken for one of these sets of voices.
 fn is_strictly_broken_for(sets: &[u8], rule: u8, m: &Moment<'_>) -> bool
-    requires rule { rule ≢ 3 }
+    requires rule { is_late rule ≡ false }
     requires readable { IsReadable m.now }
     ensures { (p : List (List ACell)) → IsAfter p m.now → result ≡ is_strictly_broken_then sets.now rule p m.now }
 {
@@ -166,9 +149,9 @@ fn is_strictly_broken_for(sets: &[u8], rule: u8, m: &Moment<'_>) -> bool
     false
 }
 
-/// The prices of the relaxed breaks of a rule, other than S3, for these sets of voices.
+/// The prices of the relaxed breaks of a rule that is settled at once for these sets of voices.
 fn prices_for(sets: &[u8], rule: u8, m: &Moment<'_>) -> u64
-    requires rule { rule ≢ 3 }
+    requires rule { is_late rule ≡ false }
     requires readable { IsReadable m.now }
     requires few { length sets.now ≤ 6 }
     ensures value { (p : List (List ACell)) → IsAfter p m.now → result ≡ prices_then sets.now rule p m.now }
@@ -182,18 +165,18 @@ fn prices_for(sets: &[u8], rule: u8, m: &Moment<'_>) -> u64
     sum
 }
 
-/// Whether a rule, other than S3, is strictly broken.
+/// Whether a rule that is settled at once is strictly broken.
 pub(crate) fn is_strictly_broken_now(rule: u8, m: &Moment<'_>) -> bool
-    requires rule { rule ≢ 3 }
+    requires rule { is_late rule ≡ false }
     requires readable { IsReadable m.now }
     ensures { (p : List (List ACell)) → IsAfter p m.now → result ≡ is_strictly_broken_then all_sets rule p m.now }
 {
-    is_strictly_broken_for(sets_of_rule(rule, m.exercise.voices), rule, m)
+    is_strictly_broken_for(sets_of(form_of(rule), m.exercise.voices), rule, m)
 }
 
 /// The prices of the relaxed breaks of a rule, other than S3.
 pub(crate) fn prices_now(rule: u8, m: &Moment<'_>) -> u64
-    requires rule { rule ≢ 3 }
+    requires rule { is_late rule ≡ false }
     requires readable { IsReadable m.now }
     ensures value { (p : List (List ACell)) → IsAfter p m.now → result ≡ prices_then all_sets rule p m.now }
     ensures bound { result ≤ 60000 }
@@ -201,5 +184,5 @@ pub(crate) fn prices_now(rule: u8, m: &Moment<'_>) -> u64
     if m.exercise.relax.as_slice().is_empty() {
         return 0;
     }
-    prices_for(sets_of_rule(rule, m.exercise.voices), rule, m)
+    prices_for(sets_of(form_of(rule), m.exercise.voices), rule, m)
 }

@@ -47,7 +47,8 @@ impl ColumnCells {
 /// a part for each crate of rules that looks further back. It has a fixed size and takes no memory.
 #[derive(Clone, Copy, Debug, PartialEq, Eq)]
 pub struct State {
-    pub(crate) len: usize,
+    /// How many columns the prefix has.
+    pub len: usize,
     pub(crate) last: ColumnCells,
     pub(crate) melody: [VoiceNotes; 4],
     pub(crate) rhythm: BarShapes,

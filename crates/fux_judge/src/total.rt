@@ -1,13 +1,81 @@
 //! The penalty of a whole score.
 
-ghost use Rattle.std.specs.Prelude.{◌≡◌, ◌↔◌, IfSome, IsSome};
-ghost use Rattle.fux_grid.specs.Exercises.{IsComplete, IsValid};
-ghost use Rattle.fux_judge.specs.Penalties.{penalty_of};
+ghost use Rattle.std.specs.Prelude.{◌≡◌, ◌↔◌, ◌≤◌, ◌<◌, ◌*◌, ◌+◌, IfSome, IsSome, length, if◌then◌else◌};
+ghost use Rattle.std.specs.List.{sum_by};
+ghost use Rattle.fux_grid.specs.Exercises.{IsComplete, IsValid, columns_in};
+ghost use Rattle.penalty_sheet.specs.Weights.{weight_of};
+ghost use Rattle.fux_judge.specs.Penalties as penalties;
+ghost use Rattle.fux_judge.specs.Penalties.{penalty_of, prices_at, tolls_at};
+ghost use Rattle.fux_judge.specs.Rules.{all_sets, cost_at, is_broken};
 
-use crate::state::State;
-use crate::verdict::step;
-use fux_grid::{Exercise, Score};
-use penalty_sheet::Sheet;
+use crate::reading::form_of;
+use crate::verdict::every_rule;
+use crate::whole::{cost_in, every_toll, is_broken_in};
+use fux_grid::{Exercise, Score, VoiceSet};
+use penalty_sheet::{Sheet, price_at, weight};
+use rule_law::sets_of;
+
+/// What the tolls cost at a place, each by its weight.
+fn tolls_of(ex: &Exercise, sheet: &Sheet, score: &Score, i: usize) -> u64
+    requires valid { IsValid ex.now }
+    requires complete { IsComplete ex.now score.now }
+    requires place { i < length score.now.columns }
+    ensures value { result ≡ tolls_at ex.now sheet.now score.now.columns i }
+    ensures bound { result ≤ 5629413633556500 }
+{
+    let mut sum = 0u64;
+    for toll in every_toll() {
+        let charge = u64::from(cost_in(*toll, ex, score, i)) * u64::from(weight(sheet, *toll));
+        sum += charge;
+    }
+    sum
+}
+
+/// The price of a relaxed break of a rule at a place for a set of voices; nothing where there is none.
+fn price_of(rule: u8, ex: &Exercise, score: &Score, i: usize, voices: VoiceSet) -> u64
+    requires valid { IsValid ex.now }
+    requires complete { IsComplete ex.now score.now }
+    requires place { i < length score.now.columns }
+    ensures value { result ≡ (if is_broken rule ex.now voices.bits score.now.columns i then penalties.price_at rule ex.now voices.bits i else 0) }
+    ensures bound { result ≤ 10000 }
+{
+    if !is_broken_in(rule, ex, score, i, voices) {
+        return 0;
+    }
+    u64::from(price_at(ex, rule, voices, (i / 8 + 1) as u8).amount())
+}
+
+/// What a rule's prices come to at a place.
+fn prices_of_rule(rule: u8, ex: &Exercise, score: &Score, i: usize) -> u64
+    requires valid { IsValid ex.now }
+    requires complete { IsComplete ex.now score.now }
+    requires place { i < length score.now.columns }
+    ensures value { result ≡ sum_by (λ voices. if is_broken rule ex.now voices score.now.columns i then penalties.price_at rule ex.now voices i else 0) all_sets }
+    ensures bound { result ≤ 60000 }
+{
+    let mut sum = 0u64;
+    for bits in sets_of(form_of(rule), ex.voices) {
+        let price = price_of(rule, ex, score, i, VoiceSet { bits: *bits });
+        sum += price;
+    }
+    sum
+}
+
+/// What all prices come to at a place.
+fn prices_of(ex: &Exercise, score: &Score, i: usize) -> u64
+    requires valid { IsValid ex.now }
+    requires complete { IsComplete ex.now score.now }
+    requires place { i < length score.now.columns }
+    ensures value { result ≡ prices_at ex.now score.now.columns i }
+    ensures bound { result ≤ 1920000 }
+{
+    let mut sum = 0u64;
+    for rule in every_rule() {
+        let prices = prices_of_rule(*rule, ex, score, i);
+        sum += prices;
+    }
+    sum
+}
 
 /// The penalty of a score: all tolls by their weights, and the prices of relaxed breaks. There is none where the score isn't complete. It takes no memory.
 pub fn penalty(ex: &Exercise, sheet: &Sheet, score: &Score) -> Option<u64>
@@ -20,12 +88,10 @@ pub fn penalty(ex: &Exercise, sheet: &Sheet, score: &Score) -> Option<u64>
     if score.voices() != ex.voices || score.len() != columns {
         return None;
     }
-    let mut state = State::start(ex);
     let mut sum = 0u64;
     for i in 0..columns {
-        let verdict = step(ex, sheet, &state, score.column(i));
-        state = verdict.state;
-        sum += verdict.paid;
+        let charge = tolls_of(ex, sheet, score, i) + prices_of(ex, score, i);
+        sum += charge;
     }
     Some(sum)
 }

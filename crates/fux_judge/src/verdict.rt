@@ -1,19 +1,18 @@
 //! One column more.
 
 ghost use Rattle.std.specs.Prelude.{◌≡◌, ◌≤◌, ◌<◌, ◌+◌, ◌*◌, ◌&&◌, ◌||◌, ◌==◌, not, nat_lt, ◌∷◌, ◌++◌, [], ℕ, Bool, List, IsTrue, length, reverse};
-ghost use Rattle.std.specs.List.{list_any, list_all, sum_by};
+ghost use Rattle.std.specs.List.{filter, list_any, list_all, range_with_len, sum_by};
 ghost use Rattle.fux_grid.specs.declared.cell.Cell.{Cell as ACell};
 ghost use Rattle.fux_grid.specs.Exercises.{IsValid, columns_in};
-ghost use Rattle.fux_grid.specs.Orderly.{IsOrderly};
+ghost use Rattle.rule_law.specs.Prefixes.{GoesOn};
 ghost use Rattle.rule_law.specs.Voices.{has_rule};
-ghost use Rattle.fux_judge.specs.Rules.{all_sets, rules_read, tolls_read, is_read};
-ghost use Rattle.fux_judge.specs.Penalties.{paid};
-ghost use Rattle.fux_judge.specs.Grows.{newly_broken, newly_paid};
-ghost use Rattle.fux_judge.specs.Moments.{IsReadable, IsAfter, is_strictly_broken_then, prices_then, rules_at_once, toll_then};
-ghost use Rattle.fux_judge.specs.Shapes.{is_out_of_shape_now};
+ghost use Rattle.fux_judge.specs.Rules.{all_rules, all_sets, is_late, rules_at_once, rules_read, tolls_read, is_read};
+ghost use Rattle.fux_judge.specs.Penalties.{newly_broken, newly_paid, paid};
+ghost use Rattle.fux_judge.specs.Moments.{IsReadable, IsAfter, is_strictly_broken_then, prices_then, toll_then};
 ghost use Rattle.fux_judge.specs.States.{IsStateOf};
 
-use crate::kept::{RULES_AT_ONCE, rules_left};
+use crate::kept::{all_at_once, rules_left};
+use crate::late::{late_prices, with_late};
 use crate::moment::Moment;
 use crate::reading::{is_strictly_broken_now, prices_now};
 use crate::state::{ColumnCells, State};
@@ -21,7 +20,6 @@ use crate::tolls::charges;
 use fux_grid::{Column, Exercise};
 use melody_rules::{all_noted, latest_of_notes};
 use penalty_sheet::Sheet;
-use rhythm_cadence::breaks_shape;
 use rule_law::{RuleSet, is_quiet};
 
 /// What a column brings after a prefix.
@@ -48,8 +46,18 @@ impl Verdict {
     pub fn breaks(&self) -> bool
         ensures { result ≡ list_any (has_rule self.now.broken.bits) rules_read }
     {
-        any_of(&RULES, self.broken)
+        any_of(every_rule(), self.broken)
     }
+}
+
+/// All rules that are read, by ascending numbers: those of all crates.
+#[tactic(auto, unfolding(crate::specs::Rules::rules_read))]
+pub fn every_rule() -> &'static [u8]
+    ensures value { result.now ≡ rules_read }
+    ensures table { result.now ≡ filter all_rules.has_rule (range_with_len 1 26) }
+    ensures count { length result.now ≡ 18 }
+{
+    &RULES
 }
 
 /// Whether one of these rules is in a set.
@@ -62,7 +70,7 @@ fn any_of(rules: &[u8], set: RuleSet) -> bool
 
 /// Those of the rules that are strictly broken.
 fn broken_of(rules: &[u8], m: &Moment<'_>) -> RuleSet
-    requires numbers { IsTrue (list_all (λ rule. nat_lt rule 32 && not (rule == 3)) rules.now) }
+    requires numbers { IsTrue (list_all (λ rule. nat_lt rule 32 && not (is_late rule)) rules.now) }
     requires readable { IsReadable m.now }
     ensures { (p : List (List ACell)) → IsAfter p m.now → (r : ℕ) → has_rule result.bits r ≡ list_any (λ rule. is_strictly_broken_then all_sets rule p m.now && r == rule) rules.now }
 {
@@ -76,7 +84,7 @@ fn broken_of(rules: &[u8], m: &Moment<'_>) -> RuleSet
 
 /// The prices of the relaxed breaks of these rules.
 fn prices_of(rules: &[u8], m: &Moment<'_>) -> u64
-    requires numbers { IsTrue (list_all (λ rule. nat_lt rule 32 && not (rule == 3)) rules.now) }
+    requires numbers { IsTrue (list_all (λ rule. nat_lt rule 32 && not (is_late rule)) rules.now) }
     requires readable { IsReadable m.now }
     requires few { length rules.now ≤ 32 }
     ensures value { (p : List (List ACell)) → IsAfter p m.now → result ≡ sum_by (λ rule. prices_then all_sets rule p m.now) rules.now }
@@ -95,7 +103,8 @@ fn next_state(ex: &Exercise, state: &State, col: &Column) -> State
     requires valid { IsValid ex.now }
     requires room { state.now.len < columns_in ex.now }
     requires full { length col.now.items ≡ ex.now.voices }
-    ensures { (p : List (List ACell)) → IsStateOf ex.now p state.now → IsStateOf ex.now (p ++ col.now.items ∷ []) result }
+    ensures state { (p : List (List ACell)) → IsStateOf ex.now p state.now → IsStateOf ex.now (p ++ col.now.items ∷ []) result }
+    ensures length { result.len ≡ state.now.len + 1 }
 {
     let cells = col.as_slice();
     State {
@@ -105,22 +114,6 @@ fn next_state(ex: &Exercise, state: &State, col: &Column) -> State
         rhythm: rhythm_cadence::noted(&state.rhythm, ex, state.len, cells),
         motion: motion_rules::noted(&state.motion, state.len, cells),
     }
-}
-
-/// Whether the bar that a state is in has no shape for some free voice.
-fn is_out_of_shape(ex: &Exercise, state: &State) -> bool
-    ensures { (p : List (List ACell)) → 0 < length p → IsStateOf ex.now p state.now → result ≡ is_out_of_shape_now ex.now p }
-{
-    if breaks_shape(&state.rhythm, ex, 0) {
-        return true;
-    }
-    if breaks_shape(&state.rhythm, ex, 1) {
-        return true;
-    }
-    if breaks_shape(&state.rhythm, ex, 2) {
-        return true;
-    }
-    breaks_shape(&state.rhythm, ex, 3)
 }
 
 /// The moment at which a column comes after a state's prefix.
@@ -142,17 +135,18 @@ pub(crate) fn moment_of<'a>(ex: &'a Exercise, state: &'a State, col: &'a Column)
     }
 }
 
-/// The rules that the column breaks strictly, but for S3, and what it costs. Where nothing begins, nothing is read.
+/// The rules settled at once that the column breaks strictly, and what it costs of them and of tolls. Where nothing begins,
+/// nothing is read.
 fn readings(sheet: &Sheet, m: &Moment<'_>) -> (RuleSet, u64)
     requires { IsReadable m.now }
     ensures broken { (p : List (List ACell)) → IsAfter p m.now → (r : ℕ) → has_rule result.0.bits r ≡ list_any (λ rule. is_strictly_broken_then all_sets rule p m.now && r == rule) rules_at_once }
     ensures paid { (p : List (List ACell)) → IsAfter p m.now → result.1 ≡ sum_by (toll_then sheet.now p m.now) tolls_read + sum_by (λ rule. prices_then all_sets rule p m.now) rules_at_once }
-    ensures bound { result.1 ≤ 16777216 }
+    ensures bound { result.1 ≤ 9784200 }
 {
     if is_quiet(m.place, m.column) {
         return (RuleSet::EMPTY, 0);
     }
-    let paid = charges(sheet, m) + prices_of(&RULES_AT_ONCE, m);
+    let paid = charges(sheet, m) + prices_of(all_at_once(), m);
     (broken_of(rules_left(m), m), paid)
 }
 
@@ -163,18 +157,22 @@ pub fn step(ex: &Exercise, sheet: &Sheet, state: &State, col: &Column) -> Verdic
     requires full { length col.now.items ≡ ex.now.voices }
     ensures state { (p : List (List ACell)) → IsStateOf ex.now p state.now → IsStateOf ex.now (p ++ col.now.items ∷ []) result.state }
 
-    // After an orderly prefix, the rules of which this column, and none before it, settles a strict break.
-    ensures broken { (p : List (List ACell)) → IsStateOf ex.now p state.now → IsOrderly ex.now p → (r : ℕ) → has_rule result.broken.bits r ≡ (is_read r && newly_broken ex.now p col.now.items r) }
-    ensures paid { (p : List (List ACell)) → IsStateOf ex.now p state.now → paid ex.now sheet.now (p ++ col.now.items ∷ []) ≡ paid ex.now sheet.now p + result.paid }
+    // After an orderly prefix, the rules of which this column, and none before it, settles a strict break, and what it settles
+    // of tolls and prices.
+    ensures broken { (p : List (List ACell)) → IsStateOf ex.now p state.now → GoesOn ex.now p (col.now.items ∷ []) → (r : ℕ) → has_rule result.broken.bits r ≡ (is_read r && newly_broken ex.now p col.now.items r) }
+    ensures settled { (p : List (List ACell)) → IsStateOf ex.now p state.now → GoesOn ex.now p (col.now.items ∷ []) → result.paid ≡ newly_paid ex.now sheet.now p col.now.items }
+    ensures paid { (p : List (List ACell)) → IsStateOf ex.now p state.now → GoesOn ex.now p (col.now.items ∷ []) → paid ex.now sheet.now (p ++ col.now.items ∷ []) ≡ paid ex.now sheet.now p + result.paid }
     ensures bound { result.paid ≤ 16777216 }
     ensures least { result.least ≡ 0 }
 {
     let moment = moment_of(ex, state, col);
     let next = next_state(ex, state, col);
     let (at_once, paid) = readings(sheet, &moment);
+    let broken = with_late(at_once, ex, &next);
+    let paid = paid + late_prices(ex, &next);
     Verdict {
         state: next,
-        broken: at_once.with(3, is_out_of_shape(ex, &next)),
+        broken,
         paid,
         least: 0,
     }

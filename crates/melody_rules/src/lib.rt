@@ -6,8 +6,6 @@ mod melody;
 mod moves;
 mod notes;
 mod smooth;
-#[cfg(test)]
-mod tests;
 mod tolls;
 mod voices;
 mod windows;

@@ -7,8 +7,6 @@ mod clear;
 mod inner_voices;
 mod motion;
 mod rows;
-#[cfg(test)]
-mod tests;
 mod tolls;
 
 pub use afterbeats::breaks_afterbeat;

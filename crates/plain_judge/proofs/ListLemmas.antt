@@ -1,10 +1,12 @@
 -- Tests of numbers below a bound and of lists of numbers, and sums.
-use Rattle.std.proofs.Common.{◌≡◌, ℕ, ◌+◌, ◌<◌, ◌==◌, ◌&&◌, ◌||◌, Bool, true, false, List, [], ◌∷◌, refl, ap, sym, ◌∙◌, arith, add-one}
-use Rattle.std.specs.List.{list_any, sum_by}
+use Rattle.std.proofs.Common.{◌≡◌, ℕ, zero, suc, get_or, ◌+◌, ◌<◌, ◌==◌, ◌&&◌, ◌||◌, Bool, true, false, List, [], ◌∷◌, refl, ap, sym, ◌∙◌, arith, add-one}
+use Rattle.std.specs.Prelude.{length, nat_lt}
+use Rattle.std.specs.List.{list_all, list_any}
 use Rattle.std.proofs.lemmas.Bool.{eqb-true}
 use Rattle.rule_law.specs.Growth.{any_below}
+use Rattle.rule_law.specs.Law.{below_from_test, first_true, second_true}
+use Rattle.fux_judge.specs.Rules.{rules_read}
 use Rattle.fux_judge.specs.Ends.{none_below}
-use Rattle.fux_judge.specs.Rules.{tolls_read}
 
 -- one number that passes
 pub some_below : (f : ℕ → Bool) (n i : ℕ) → i < n → f i ≡ true → true ≡ any_below f n
@@ -42,7 +44,12 @@ this_one f r (x ∷ xs) = at (r == x) refl (this_one f r xs)
         ap (λ t. (f x && t) || list_any (λ x. f x && r == x) xs) e ∙ none (f x) (list_any (λ x. f x && r == x) xs)
         ∙ others ∙ ap (λ t. (t || list_any (λ x. r == x) xs) && f r) (sym e)
 
--- what nine tolls come to
-pub nine_tolls : (f : ℕ → ℕ) {a b c d e g h i j : ℕ} → a ≡ f 1 → b ≡ f 2 → c ≡ f 7 → d ≡ f 8 → e ≡ f 9 → g ≡ f 10 → h ≡ f 11 → i ≡ f 13 → j ≡ f 14 → a + b + c + d + e + g + h + i + j ≡ sum_by f tolls_read
-unfolding tolls_read
-nine_tolls f p q r s t u v w x = omega (arith, p, q, r, s, t, u, v, w, x)
+-- the numbers of rules that are read are small
+pub small : (xs : List ℕ) (i : ℕ) → list_all (λ n. nat_lt n 32) xs ≡ true → i < length xs → get_or xs i 0 < 32
+small [] i h k = absurd (omega arith)
+small (x ∷ xs) zero h k = below_from_test x 32 (first_true (nat_lt x 32) (list_all (λ n. nat_lt n 32) xs) h)
+small (x ∷ xs) (suc i) h k = small xs i (second_true (nat_lt x 32) (list_all (λ n. nat_lt n 32) xs) h) (omega arith)
+
+pub rules_are_small : list_all (λ n. nat_lt n 32) rules_read ≡ true
+unfolding rules_read
+rules_are_small = refl

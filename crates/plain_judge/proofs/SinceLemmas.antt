@@ -10,8 +10,8 @@ use Rattle.rule_law.specs.Growth.{any_below, any_below-same, any_below-list_any,
 use Rattle.penalty_sheet.specs.declared.sheet.Sheet.{Sheet}
 use Rattle.penalty_sheet.specs.Weights.{weight_of}
 use Rattle.fux_judge.specs.Rules.{all_sets, rules_read, tolls_read, enough, cost_enough, is_broken, is_settled, cost_at, is_cost_settled}
-use Rattle.fux_judge.specs.Penalties.{is_strict_at, is_strictly_broken, price_at, paid, settled_tolls, settled_prices}
-use Rattle.fux_judge.specs.Grows.{newly_broken, newly_broken_at, newly_paid, new_tolls, new_prices, one_more}
+use Rattle.fux_judge.specs.Penalties.{is_strict_at, is_strictly_broken, price_at, charges_settled_in, newly_broken, newly_broken_at, newly_paid, new_tolls, new_prices, settled_tolls, settled_prices}
+use Rattle.fux_judge.specs.Grows.{one_more}
 use Rattle.plain_judge.specs.Between.{broken_since, charges_since, paid_since, price_since, prices_since, settled_since, some_broken_since, toll_since}
 
 none_below_zero : (i : ℕ) → nat_lt i 0 ≡ false
@@ -45,7 +45,7 @@ module _ (ex : Exercise) (s : List (List Cell)) where
         (λ rule. sum_by-same (price_since ex [] s i rule) (λ voices. if is_settled rule ex voices s i then (if is_broken rule ex voices s i then price_at rule ex voices i else 0) else 0) all_sets
         (λ voices. ap (λ b. if b then (if is_broken rule ex voices s i then price_at rule ex voices i else 0) else 0) (since_nothing (enough rule ex voices) s i)))
 
-    pub paid_since_nothing : paid_since ex sheet [] s ≡ paid ex sheet s
+    pub paid_since_nothing : paid_since ex sheet [] s ≡ charges_settled_in ex sheet s
     paid_since_nothing =
         sum_below-same (charges_since ex sheet [] s) (λ i. settled_tolls ex sheet s i + settled_prices ex s i) (length s)
         (λ i h. ap (λ n. n + prices_since ex [] s i) (tolls_since_nothing i) ∙ ap (λ n. settled_tolls ex sheet s i + n) (prices_since_nothing i))

@@ -1,19 +1,20 @@
 //! The rules of which a strict break is settled.
 
-ghost use Rattle.std.specs.Prelude.{◌≡◌, ◌<◌, ◌≤◌, ◌&&◌, ◌∷◌, ◌++◌, [], ℕ, List, Contains, length};
+ghost use Rattle.std.specs.Prelude.{◌≡◌, ◌<◌, ◌≤◌, ◌&&◌, ◌∷◌, ◌++◌, [], ℕ, List, length};
 ghost use Rattle.std.specs.List.{list_any};
 ghost use Rattle.std.specs.Option.{ForSome, option_copied};
 ghost use Rattle.fux_grid.specs.declared.cell.Cell.{Cell as ACell};
 ghost use Rattle.fux_grid.specs.Exercises.{IsValid};
 ghost use Rattle.rule_law.specs.Growth.{any_below};
 ghost use Rattle.rule_law.specs.Voices.{has_rule};
-ghost use Rattle.fux_judge.specs.Grows as grows;
+ghost use Rattle.fux_judge.specs.Penalties as grows;
 ghost use Rattle.fux_judge.specs.Penalties.{is_strictly_broken};
-ghost use Rattle.fux_judge.specs.Rules.{all_sets, is_read, rules_read};
+ghost use Rattle.fux_judge.specs.Rules.{all_sets, is_read};
 ghost use Rattle.plain_judge.specs.Between.{IsPart, broken_since, columns_of, some_broken_since};
 
-use crate::place::{every_rule, every_set, is_broken, is_settled_since, is_strict};
+use crate::place::{every_set, is_settled_since, is_strict};
 use fux_grid::{Exercise, Score, VoiceSet};
+use fux_judge::{every_rule, is_broken_in};
 use rule_law::RuleSet;
 
 /// Whether a strict break of a rule at a place for a set of voices is settled in a score, and not in the earlier one.
@@ -25,7 +26,6 @@ fn is_broken_at(
     i: usize,
     voices: VoiceSet,
 ) -> bool
-    requires rule { Contains rules_read rule }
     requires valid { IsValid ex.now }
     requires earlier { ForSome before (λ score. IsPart ex.now score.now) }
     requires part { IsPart ex.now score.now }
@@ -35,7 +35,7 @@ fn is_broken_at(
     if !is_settled_since(rule, ex, before, score, i, voices) {
         return false;
     }
-    if !is_broken(rule, ex, score, i, voices) {
+    if !is_broken_in(rule, ex, score, i, voices) {
         return false;
     }
     is_strict(rule, ex, i, voices)
@@ -49,7 +49,6 @@ fn is_broken_somewhere(
     score: &Score,
     voices: VoiceSet,
 ) -> bool
-    requires rule { Contains rules_read rule }
     requires valid { IsValid ex.now }
     requires earlier { ForSome before (λ score. IsPart ex.now score.now) }
     requires part { IsPart ex.now score.now }
@@ -65,7 +64,6 @@ fn is_broken_somewhere(
 
 /// Whether one is at some place for some set of voices.
 fn is_broken_for_some(rule: u8, ex: &Exercise, before: Option<&Score>, score: &Score) -> bool
-    requires rule { Contains rules_read rule }
     requires valid { IsValid ex.now }
     requires earlier { ForSome before (λ score. IsPart ex.now score.now) }
     requires part { IsPart ex.now score.now }

@@ -1,90 +1,77 @@
 //! What is paid of a score so far: its settled tolls, by their weights, and the prices of its settled relaxed breaks.
 
-ghost use Rattle.std.specs.Prelude.{◌≡◌, ◌<◌, ◌≤◌, ◌*◌, ◌+◌, ◌∷◌, ◌++◌, [], ℕ, List, Contains, if◌then◌else◌, length};
+ghost use Rattle.std.specs.Prelude.{◌≡◌, ◌<◌, ◌≤◌, ◌*◌, ◌+◌, ◌∷◌, ◌++◌, [], ℕ, List, if◌then◌else◌, length};
 ghost use Rattle.std.specs.List.{sum_by};
 ghost use Rattle.std.specs.Option.{ForSome, option_copied};
 ghost use Rattle.fux_grid.specs.declared.cell.Cell.{Cell as ACell};
 ghost use Rattle.fux_grid.specs.Exercises.{IsValid, columns_in};
-ghost use Rattle.rule_law.specs.Growth.{NeedsPlace};
 ghost use Rattle.penalty_sheet.specs.Weights.{weight_of};
-ghost use Rattle.fux_judge.specs.Grows as grows;
-ghost use Rattle.fux_judge.specs.Penalties.{paid, penalty_of};
-ghost use Rattle.fux_judge.specs.Rules.{all_sets, rules_read, tolls_read};
-ghost use Rattle.plain_judge.specs.Between.{IsPart, charges_since, columns_of, paid_since, price_since, prices_since, settled_since, toll_since};
+ghost use Rattle.fux_judge.specs.Penalties as grows;
+ghost use Rattle.fux_judge.specs.Penalties.{charges_settled_in, penalty_of};
+ghost use Rattle.fux_judge.specs.Rules.{all_sets, is_cost_settled, tolls_read};
+ghost use Rattle.plain_judge.specs.Between.{IsPart, charges_since, columns_of, paid_since, price_since, prices_since, toll_since};
 
-use crate::place::{amount, every_rule, every_set, is_broken, is_settled_since};
-use dissonance_rules::{Q1, Q2};
+use crate::place::{amount, every_set, is_settled_since};
 use fux_grid::{Exercise, Score, VoiceSet};
-use melody_rules::{Q7, Q8, Q9, Q10, Q13};
-use motion_rules::{Q11, Q14};
+use fux_judge::{cost_in, every_rule, every_toll, is_broken_in, is_cost_settled_in};
 use penalty_sheet::{Sheet, weight};
-use rule_law::Toll;
 
 /// Whether what a toll costs at a place is settled in an earlier score. It isn't where there is none, nor at a place that
 /// the score doesn't have.
-fn is_settled_before<T: Toll>(it: &T, ex: &Exercise, before: Option<&Score>, i: usize) -> bool
-    requires needs_place { NeedsPlace (T.settles it.now ex.now) }
-    requires valid { IsValid ex.now }
-    requires earlier { ForSome before (λ score. IsPart ex.now score.now) }
-    ensures { result ≡ T.settles it.now ex.now (columns_of (option_copied before.entry)) i }
+fn is_settled_before(toll: u8, ex: &Exercise, before: Option<&Score>, i: usize) -> bool
+    ensures { result ≡ is_cost_settled toll ex.now (columns_of (option_copied before.entry)) i }
 {
     match before {
         Some(score) => {
             if i >= score.len() {
                 return false;
             }
-            it.settled(ex, score, i)
+            is_cost_settled_in(toll, ex, score, i)
         }
         None => false,
     }
 }
 
 /// What a toll costs at a place, by its weight, where that is settled in a score, and not in the earlier one.
-fn charge<T: Toll>(
-    it: &T,
+fn charge(
+    toll: u8,
     ex: &Exercise,
     sheet: &Sheet,
     before: Option<&Score>,
     score: &Score,
     i: usize,
 ) -> u64
-    requires first { 1 ≤ T.numbered it.now }
-    requires last { T.numbered it.now ≤ 20 }
-    requires needs_place { NeedsPlace (T.settles it.now ex.now) }
+    requires first { 1 ≤ toll }
+    requires last { toll ≤ 20 }
     requires valid { IsValid ex.now }
-    requires earlier { ForSome before (λ score. IsPart ex.now score.now) }
     requires part { IsPart ex.now score.now }
     requires place { i < length score.now.columns }
-    ensures value { result ≡ (if settled_since (T.settles it.now ex.now) (columns_of (option_copied before.entry)) score.now.columns i then T.charges it.now ex.now score.now.columns i * weight_of sheet.now (T.numbered it.now) else 0) }
+    ensures value { result ≡ toll_since ex.now sheet.now (columns_of (option_copied before.entry)) score.now.columns i toll }
     ensures bound { result ≤ 281470681677825 }
 {
-    if !it.settled(ex, score, i) {
+    if is_settled_before(toll, ex, before, i) {
         return 0;
     }
-    if is_settled_before(it, ex, before, i) {
+    if !is_cost_settled_in(toll, ex, score, i) {
         return 0;
     }
-    u64::from(it.cost(ex, score, i)) * u64::from(weight(sheet, it.number()))
+    u64::from(cost_in(toll, ex, score, i)) * u64::from(weight(sheet, toll))
 }
 
 /// What the tolls come to at a place.
 fn tolls_at(ex: &Exercise, sheet: &Sheet, before: Option<&Score>, score: &Score, i: usize) -> u64
     requires valid { IsValid ex.now }
-    requires earlier { ForSome before (λ score. IsPart ex.now score.now) }
     requires part { IsPart ex.now score.now }
     requires place { i < length score.now.columns }
     ensures value { result ≡ sum_by (toll_since ex.now sheet.now (columns_of (option_copied before.entry)) score.now.columns i) tolls_read }
-    ensures bound { result ≤ 2533236135100425 }
+    ensures bound { result ≤ 5629413633556500 }
 {
-    charge(&Q1, ex, sheet, before, score, i)
-        + charge(&Q2, ex, sheet, before, score, i)
-        + charge(&Q7, ex, sheet, before, score, i)
-        + charge(&Q8, ex, sheet, before, score, i)
-        + charge(&Q9, ex, sheet, before, score, i)
-        + charge(&Q10, ex, sheet, before, score, i)
-        + charge(&Q11, ex, sheet, before, score, i)
-        + charge(&Q13, ex, sheet, before, score, i)
-        + charge(&Q14, ex, sheet, before, score, i)
+    let mut sum = 0u64;
+    for toll in every_toll() {
+        let charge = charge(*toll, ex, sheet, before, score, i);
+        sum += charge;
+    }
+    sum
 }
 
 /// The price of a relaxed break of a rule at a place for a set of voices, where it is settled in a score, and not in the
@@ -97,7 +84,6 @@ fn price_for(
     i: usize,
     voices: VoiceSet,
 ) -> u64
-    requires rule { Contains rules_read rule }
     requires valid { IsValid ex.now }
     requires earlier { ForSome before (λ score. IsPart ex.now score.now) }
     requires part { IsPart ex.now score.now }
@@ -108,7 +94,7 @@ fn price_for(
     if !is_settled_since(rule, ex, before, score, i, voices) {
         return 0;
     }
-    if !is_broken(rule, ex, score, i, voices) {
+    if !is_broken_in(rule, ex, score, i, voices) {
         return 0;
     }
     amount(rule, ex, i, voices)
@@ -116,7 +102,6 @@ fn price_for(
 
 /// What a rule's prices come to at a place, for all sets of voices.
 fn prices_of(rule: u8, ex: &Exercise, before: Option<&Score>, score: &Score, i: usize) -> u64
-    requires rule { Contains rules_read rule }
     requires valid { IsValid ex.now }
     requires earlier { ForSome before (λ score. IsPart ex.now score.now) }
     requires part { IsPart ex.now score.now }
@@ -156,7 +141,7 @@ fn charges_at(ex: &Exercise, sheet: &Sheet, before: Option<&Score>, score: &Scor
     requires part { IsPart ex.now score.now }
     requires place { i < length score.now.columns }
     ensures value { result ≡ charges_since ex.now sheet.now (columns_of (option_copied before.entry)) score.now.columns i }
-    ensures bound { result ≤ 2533236137800425 }
+    ensures bound { result ≤ 5629413636256500 }
 {
     tolls_at(ex, sheet, before, score, i) + prices_at(ex, before, score, i)
 }
@@ -181,7 +166,7 @@ fn charges_of(ex: &Exercise, sheet: &Sheet, before: Option<&Score>, score: &Scor
 pub fn settled_charges(ex: &Exercise, sheet: &Sheet, score: &Score) -> u64
     requires valid { IsValid ex.now }
     requires part { IsPart ex.now score.now }
-    ensures value { result ≡ paid ex.now sheet.now score.now.columns }
+    ensures value { result ≡ charges_settled_in ex.now sheet.now score.now.columns }
     ensures whole { length score.now.columns ≡ columns_in ex.now → result ≡ penalty_of ex.now sheet.now score.now.columns }
 {
     charges_of(ex, sheet, None, score)

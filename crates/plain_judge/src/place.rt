@@ -1,37 +1,21 @@
 //! One rule at one place for one set of voices.
 
-ghost use Rattle.std.specs.Prelude.{◌≡◌, ◌<◌, ◌≤◌, Contains, length};
+ghost use Rattle.std.specs.Prelude.{◌≡◌, ◌<◌, ◌≤◌, length};
 ghost use Rattle.std.specs.Option.{ForSome, option_copied};
 ghost use Rattle.fux_grid.specs.Exercises as exercises;
 ghost use Rattle.fux_grid.specs.Exercises.{IsValid};
 ghost use Rattle.penalty_sheet.specs.Prices.{price_in, amount_of};
 ghost use Rattle.fux_judge.specs.Penalties as penalties;
 ghost use Rattle.fux_judge.specs.Rules as rules;
-ghost use Rattle.fux_judge.specs.Rules.{all_sets, rules_read};
+ghost use Rattle.fux_judge.specs.Rules.{all_sets};
 ghost use Rattle.plain_judge.specs.Between.{IsPart, columns_of, settled_since};
 
-use dissonance_rules::Dissonance;
 use fux_grid::{Exercise, Score, VoiceSet};
-use melody_rules::Melody;
-use motion_rules::Motion;
+use fux_judge::is_settled_in;
 use penalty_sheet::{Price, price_at};
-use rhythm_cadence::Rhythm;
-use rule_law::Rule;
-
-/// The rules that are read, by their numbers.
-const RULES: [u8; 18] = [
-    1, 2, 3, 4, 5, 6, 7, 8, 9, 10, 11, 12, 13, 14, 16, 17, 24, 26,
-];
 
 /// Every set of voices, of four at most, by its bits.
 const VOICE_SETS: [u8; 15] = [1, 2, 3, 4, 5, 6, 7, 8, 9, 10, 11, 12, 13, 14, 15];
-
-pub(crate) fn every_rule() -> &'static [u8]
-    ensures value { result.now ≡ rules_read }
-    ensures count { length result.now ≡ 18 }
-{
-    &RULES
-}
 
 pub(crate) fn every_set() -> &'static [u8]
     ensures value { result.now ≡ all_sets }
@@ -40,47 +24,7 @@ pub(crate) fn every_set() -> &'static [u8]
     &VOICE_SETS
 }
 
-/// Whether a rule is broken: the crate that has the rule is asked.
-pub(crate) fn is_broken(rule: u8, ex: &Exercise, score: &Score, i: usize, voices: VoiceSet) -> bool
-    requires rule { Contains rules_read rule }
-    requires valid { IsValid ex.now }
-    requires part { IsPart ex.now score.now }
-    requires place { i < length score.now.columns }
-    ensures { result ≡ rules.is_broken rule ex.now voices.bits score.now.columns i }
-{
-    if Melody.covers().has(rule) {
-        return Melody.broken(rule, ex, score, i, voices);
-    }
-    if Motion.covers().has(rule) {
-        return Motion.broken(rule, ex, score, i, voices);
-    }
-    if Dissonance.covers().has(rule) {
-        return Dissonance.broken(rule, ex, score, i, voices);
-    }
-    Rhythm.broken(rule, ex, score, i, voices)
-}
-
-/// Whether that is settled at a place that the score has.
-fn is_settled_here(rule: u8, ex: &Exercise, score: &Score, i: usize, voices: VoiceSet) -> bool
-    requires rule { Contains rules_read rule }
-    requires valid { IsValid ex.now }
-    requires part { IsPart ex.now score.now }
-    requires place { i < length score.now.columns }
-    ensures { result ≡ rules.is_settled rule ex.now voices.bits score.now.columns i }
-{
-    if Melody.covers().has(rule) {
-        return Melody.settled(rule, ex, score, i, voices);
-    }
-    if Motion.covers().has(rule) {
-        return Motion.settled(rule, ex, score, i, voices);
-    }
-    if Dissonance.covers().has(rule) {
-        return Dissonance.settled(rule, ex, score, i, voices);
-    }
-    Rhythm.settled(rule, ex, score, i, voices)
-}
-
-/// Whether that is settled in an earlier score. Nothing is where there is none, nor at a place that it doesn't have.
+/// Whether a rule is settled in an earlier score. Nothing is where there is none, nor at a place that it doesn't have.
 fn is_settled_before(
     rule: u8,
     ex: &Exercise,
@@ -88,7 +32,6 @@ fn is_settled_before(
     i: usize,
     voices: VoiceSet,
 ) -> bool
-    requires rule { Contains rules_read rule }
     requires valid { IsValid ex.now }
     requires earlier { ForSome before (λ score. IsPart ex.now score.now) }
     ensures { result ≡ rules.is_settled rule ex.now voices.bits (columns_of (option_copied before.entry)) i }
@@ -98,7 +41,7 @@ fn is_settled_before(
             if i >= score.len() {
                 return false;
             }
-            is_settled_here(rule, ex, score, i, voices)
+            is_settled_in(rule, ex, score, i, voices)
         }
         None => false,
     }
@@ -113,7 +56,6 @@ pub(crate) fn is_settled_since(
     i: usize,
     voices: VoiceSet,
 ) -> bool
-    requires rule { Contains rules_read rule }
     requires valid { IsValid ex.now }
     requires earlier { ForSome before (λ score. IsPart ex.now score.now) }
     requires part { IsPart ex.now score.now }
@@ -123,7 +65,7 @@ pub(crate) fn is_settled_since(
     if is_settled_before(rule, ex, before, i, voices) {
         return false;
     }
-    is_settled_here(rule, ex, score, i, voices)
+    is_settled_in(rule, ex, score, i, voices)
 }
 
 /// The bar of a column, counted from 1.

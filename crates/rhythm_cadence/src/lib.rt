@@ -9,8 +9,6 @@ mod patterns;
 mod quavers;
 mod rhythm;
 mod rows;
-#[cfg(test)]
-mod tests;
 
 pub use cadence::{breaks_cadence, shows_cadence};
 pub use in_place::are_in_place;

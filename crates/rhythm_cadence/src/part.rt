@@ -1,6 +1,6 @@
 //! The part of a state that reads bar shapes.
 
-ghost use Rattle.std.specs.Prelude.{◌≡◌, ◌==◌, ◌&&◌, ◌^◌, ◌<◌, ◌∷◌, ◌++◌, [], ℕ, List, IsTrue, length, nat_lt};
+ghost use Rattle.std.specs.Prelude.{◌≡◌, ◌==◌, ◌&&◌, ◌^◌, ◌<◌, ◌≤◌, ◌∷◌, ◌++◌, [], ℕ, List, IsTrue, length, nat_lt};
 ghost use Rattle.fux_grid.specs.declared.cell.Cell.{Cell};
 ghost use Rattle.fux_grid.specs.declared.exercise.Exercise.{Exercise};
 ghost use Rattle.fux_grid.specs.Cells.{cell_in};
@@ -85,6 +85,7 @@ fn breaks_shape(part: &BarShapes, ex: &Exercise, v: u8) -> bool
 pub fn places_settled(rule: u8, ex: &Exercise, i: usize) -> LatePlaces
     ensures first { result.first ≡ (rule_row rule).first ex.now i }
     ensures count { result.count ≡ (rule_row rule).count ex.now i }
+    ensures few { result.count ≤ 16 }
 {
     let _ = ex.voices;
     if rule == 3 {

@@ -26,7 +26,6 @@ pub record RuleRow : Type 0 where
   pub late : Bool
   pub broken : Exercise → ℕ → Row Bool
   pub enough : Exercise → ℕ → Row Bool
-
   -- the places at which column i may settle a break: the first, and how many
   pub first : Exercise → ℕ → ℕ
   pub count : Exercise → ℕ → ℕ
@@ -59,19 +58,16 @@ pub record KeepsRuleLaws (it : RuleRow) : Type 0 where
   pub local : (ex : Exercise) (voices : ℕ) → IsLocal ex (reading_of (it.broken ex voices)) (settled_by (it.enough ex voices))
   pub stays : (ex : Exercise) (voices : ℕ) → EnoughStays (it.enough ex voices)
   pub ends : (ex : Exercise) (voices : ℕ) → SettlesAtEnd ex (settled_by (it.enough ex voices))
-
   -- for no sets but those of its form is it broken, and at no place but where it may stand
   pub form : (ex : Exercise) (i : ℕ) (behind : List (List Cell)) (now : List Cell) (ahead : List (List Cell))
       → IsOf (sets_of it.form ex.voices) (λ voices. it.broken ex voices i behind now ahead)
   pub stands : (ex : Exercise) (voices i : ℕ) (behind : List (List Cell)) (now : List Cell)
       → may_stand it.stands ex i ≡ false → it.broken ex voices i behind now [] ≡ false
-
   -- one that isn't late is settled at once, and unbroken where neither a bar nor a note begins
   pub at_once : it.late ≡ false → (ex : Exercise) (voices i : ℕ) (behind : List (List Cell)) (now : List Cell) (ahead : List (List Cell))
       → it.enough ex voices i behind now ahead ≡ true
   pub quiet : it.late ≡ false → (ex : Exercise) (voices i : ℕ) (behind : List (List Cell)) (now : List Cell)
       → is_quiet i now ≡ true → it.broken ex voices i behind now [] ≡ false
-
   -- after an orderly prefix a column settles breaks at its places alone, none of them behind it
   pub places : it.late ≡ true → (ex : Exercise) (voices : ℕ) (p : List (List Cell)) (col : List Cell) (i : ℕ)
       → GoesOn ex p (col ∷ []) → newly_breaks it ex voices p col i ≡ true → IsAmong (it.first ex (length p)) (it.count ex (length p)) i

@@ -1,6 +1,5 @@
 pub mod CantusLemmas
 pub mod ListLemmas
 pub mod MarkLemmas
-pub mod RuleLemmas
 pub mod SettingLemmas
 pub mod UniqueLemmas

@@ -8,6 +8,7 @@ use Rattle.std.specs.declared.cmp.Ordering.{Ordering}
 use Rattle.std.specs.declared.cmp.Ordering.TheVariants.{Less, Equal, Greater}
 use Rattle.fux_grid.specs.declared.cell.Cell.{Cell}
 use Rattle.fux_grid.specs.declared.exercise.Exercise.{Exercise}
+use Rattle.rule_law.specs.Forms as forms
 use Rattle.rule_law.specs.Law.{below_from_test}
 use Rattle.fux_judge.specs.Rules.{all_sets, rules_read}
 use Rattle.score_marker.specs.declared.mark.Mark.{Mark}
@@ -32,11 +33,11 @@ rules_ascend i j d h k = below_from_test _ _ (AllPairs-by_test nat_lt rules_read
 
 -- the sets in order are all sets
 each_set : (voices : ℕ) → Contains all_sets voices → Contains sets_in_order voices
-unfolding sets_in_order all_sets
+unfolding sets_in_order forms.all_sets
 each_set = within_by_test all_sets sets_in_order refl
 
 only_sets : (voices : ℕ) → Contains sets_in_order voices → Contains all_sets voices
-unfolding sets_in_order all_sets
+unfolding sets_in_order forms.all_sets
 only_sets = within_by_test sets_in_order all_sets refl
 
 module _ (ex : Exercise) (s : List (List Cell)) where

@@ -4,8 +4,6 @@
 mod cantus;
 mod mark;
 mod setting;
-#[cfg(test)]
-mod tests;
 
 pub use cantus::cantus_marks;
 pub use mark::Mark;

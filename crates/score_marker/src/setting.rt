@@ -1,6 +1,6 @@
 //! The marks of a setting.
 
-ghost use Rattle.std.specs.Prelude.{◌≡◌, ◌<◌, ◌++◌, Contains, IfOk, OnOk, length};
+ghost use Rattle.std.specs.Prelude.{◌≡◌, ◌<◌, ◌++◌, IfOk, OnOk, length};
 ghost use Rattle.fux_grid.specs.Exercises.{IsComplete, IsValid};
 ghost use Rattle.fux_judge.specs.Rules.{rules_read};
 ghost use Rattle.score_marker.specs.Lists.{marks_of_rule, marks_of_place};
@@ -8,45 +8,18 @@ ghost use Rattle.score_marker.specs.Marks.{AreMarks};
 ghost use Rattle.score_marker.specs.Setting.{broken_in, sets_in_order};
 
 use crate::mark::{Mark, mark_if};
-use dissonance_rules::Dissonance;
 use fux_grid::{Exercise, Score, VoiceSet};
+use fux_judge::{every_rule, is_broken_in};
 use fux_pitch::Memory;
-use melody_rules::Melody;
-use motion_rules::Motion;
-use rhythm_cadence::Rhythm;
-use rule_law::{Both, Rule};
 use std::alloc::Global;
-
-/// The rules that are read, by their numbers.
-const RULES: [u8; 18] = [
-    1, 2, 3, 4, 5, 6, 7, 8, 9, 10, 11, 12, 13, 14, 16, 17, 24, 26,
-];
 
 /// Every set of voices, by the ascending lists of their voices: 0, 0 1, 0 1 2, 0 1 2 3, 0 1 3, 0 2, and so on.
 const VOICE_SETS: [u8; 15] = [1, 3, 7, 15, 11, 5, 13, 9, 2, 6, 14, 10, 4, 12, 8];
-
-fn rules() -> &'static [u8]
-    ensures { result.now ≡ rules_read }
-{
-    &RULES
-}
 
 fn voice_sets() -> &'static [u8]
     ensures { result.now ≡ sets_in_order }
 {
     &VOICE_SETS
-}
-
-/// Whether a rule is broken at column `i`.
-fn is_broken(rule: u8, ex: &Exercise, score: &Score, i: usize, voices: VoiceSet) -> bool
-    requires rule { Contains rules_read rule }
-    requires valid { IsValid ex.now }
-    requires complete { IsComplete ex.now score.now }
-    requires place { i < length score.now.columns }
-    ensures { result ≡ broken_in ex.now score.now.columns i rule voices.bits }
-{
-    let all = Both::new(Both::new(Melody, Motion), Both::new(Dissonance, Rhythm));
-    all.broken(rule, ex, score, i, voices)
 }
 
 /// Appends the marks of one rule at column `i`.
@@ -57,7 +30,6 @@ fn mark_rule(
     i: usize,
     rule: u8,
 ) -> Result<(), Memory>
-    requires rule { Contains rules_read rule }
     requires valid { IsValid ex.now }
     requires complete { IsComplete ex.now score.now }
     requires place { i < length score.now.columns }
@@ -67,7 +39,7 @@ fn mark_rule(
     for bits in voice_sets() {
         let voices = VoiceSet { bits: *bits };
         mark_if(
-            is_broken(rule, ex, score, i, voices),
+            is_broken_in(rule, ex, score, i, voices),
             marks,
             i,
             rule,
@@ -85,7 +57,7 @@ fn mark_place(marks: &mut Vec<Mark>, ex: &Exercise, score: &Score, i: usize) -> 
     ensures { OnOk result (marks.new.items
         ≡ marks.old.items ++ marks_of_place (broken_in ex.now score.now.columns) sets_in_order rules_read i) }
 {
-    for rule in rules() {
+    for rule in every_rule() {
         mark_rule(marks, ex, score, i, *rule)?;
     }
     Ok(())

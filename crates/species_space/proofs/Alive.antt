@@ -1,60 +1,57 @@
--- A prefix in which no strict break is settled is orderly, and what a step reads of it is exact.
-use Rattle.std.proofs.Common.{◌≡◌, ℕ, zero, suc, ◌-◌, ◌*◌, ◌^◌, ◌<◌, ◌≤◌, Bool, true, false, ◌&&◌, ◌||◌, List, [], ◌∷◌, length, slice_index_or, refl, ◌∙◌, arith}
+-- What a step reads of a column that comes after a live path is exact, since its prefix is orderly.
+use Rattle.std.proofs.Common.{◌≡◌, ℕ, ◌+◌, ◌<◌, ◌≤◌, Bool, true, ◌&&◌, List, [], ◌∷◌, ◌++◌, length, reverse, slice_index_or, refl, sym, ◌∙◌, subst, inl, inr, arith}
 use Rattle.std.specs.List.{list_any}
+use Rattle.std.proofs.Math.ListN.{get_or-append}
+use Rattle.std.proofs.Math.Seq.{get_or-append_seam}
+use Rattle.std.proofs.lemmas.Bool.{cases_lt}
+use Rattle.std.proofs.lemmas.List.{length-append}
+use Rattle.std.proofs.lemmas.List.Elements.{Contains-get_or}
 use Rattle.fux_grid.specs.declared.cell.Cell.{Cell}
 use Rattle.fux_grid.specs.declared.exercise.Exercise.{Exercise}
-use Rattle.fux_grid.specs.Orderly.{IsOrderly}
-use Rattle.rule_law.specs.Places.{reading_of}
+use Rattle.fux_grid.specs.Columns.{ColumnFollows, HistoryFollows, newest_column}
+use Rattle.fux_grid.specs.Exercises.{columns_in}
+use Rattle.fux_grid.specs.Menus.{IsInMenu, menu_of}
+use Rattle.fux_grid.proofs.Histories.{reverse-push}
 use Rattle.rule_law.specs.Growth.{list_any-same}
-use Rattle.rhythm_cadence.specs.Rows as rhythm
-use Rattle.rhythm_cadence.proofs.BarReadings.{break_is_settled}
-use Rattle.rhythm_cadence.proofs.OrderlyReadings.{unbroken-orderly}
-use Rattle.fux_judge.specs.Rules.{rules_read, all_sets, breaks, enough, is_broken, is_settled, is_read}
-use Rattle.fux_judge.specs.Penalties.{is_strict_at, is_strictly_broken, has_strict_break}
-use Rattle.fux_judge.specs.Ends.{none_below}
+use Rattle.rule_law.specs.Prefixes.{GoesOn, IsPrefix}
+use Rattle.fux_judge.specs.Alive.{alive_orderly}
+use Rattle.fux_judge.specs.Lawful.{IsLive}
+use Rattle.fux_judge.specs.Rules.{rules_read, is_read}
+use Rattle.species_space.specs.Exact.{menus_are_exact}
+use Rattle.species_space.specs.Leaves.{prefix_is_live}
+use Rattle.species_space.specs.Paths.{column_at, is_live_path, length-columns_on, prefix_at, width_at}
 
-or_false : (a b : Bool) → (a || b) ≡ false → (a ≡ false) × (b ≡ false)
-or_false true b h = cc
-or_false false b h = (refl, h)
+-- a prefix with a column more
+prefix_with : (ex : Exercise) (p : List (List Cell)) (col : List Cell) → IsPrefix ex p → length p < columns_in ex → IsInMenu ex (length p) col → ColumnFollows (newest_column (reverse p)) col → IsPrefix ex (p ++ col ∷ [])
+prefix_with ex p col prefix room menu follows =
+    let size : length (p ++ col ∷ []) ≡ length p + 1 = length-append p (col ∷ []) in
+    let H : List (List Cell) → Type 0 = λ h. HistoryFollows h in
+    record {
+      few = omega (arith, size);
+      menus = λ i h. elim (cases_lt i (length p)) [
+        | inl there ↦ let M : List Cell → Type 0 = λ c. IsInMenu ex i c in subst M (sym (get_or-append p (col ∷ []) [] i there)) (prefix.menus i there)
+        | inr beyond ↦
+            let last : length p ≡ i = omega (arith, size) in
+            let M : ℕ → Type 0 = λ n. IsInMenu ex n (slice_index_or (p ++ col ∷ []) n []) in
+            let C : List Cell → Type 0 = λ c. IsInMenu ex (length p) c in
+            subst M last (subst C (sym (get_or-append_seam p col [] [])) menu)
+      ];
+      follows = subst H (sym (reverse-push p col)) (follows, prefix.follows);
+    }
 
--- where no element of a list passes, the one at a place doesn't
-not_any : {X : Type 0} (f : X → Bool) (xs : List X) (d : X) → list_any f xs ≡ false → (k : ℕ) → k < length xs → f (slice_index_or xs k d) ≡ false
-not_any f [] d h k lt = absurd (omega arith)
-not_any f (x ∷ xs) d h zero lt = (or_false (f x) (list_any f xs) h).0
-not_any f (x ∷ xs) d h (suc k) lt = not_any f xs d (or_false (f x) (list_any f xs) h).1 k (omega arith)
-
--- the third rule that is read is that of shapes
-rule_three : (f : ℕ → Bool) → list_any f rules_read ≡ false → f 3 ≡ false
-unfolding rules_read
-rule_three f h = not_any f rules_read 0 h 2 (omega arith)
-
--- each voice alone is one of the sets
-one_voice : (f : ℕ → Bool) → list_any f all_sets ≡ false → (v : ℕ) → v < 4 → f (2 ^ v) ≡ false
-unfolding all_sets
-one_voice f h zero lt = not_any f all_sets 0 h 0 (omega arith)
-one_voice f h (suc zero) lt = not_any f all_sets 0 h 1 (omega arith)
-one_voice f h (suc (suc zero)) lt = not_any f all_sets 0 h 3 (omega arith)
-one_voice f h (suc (suc (suc zero))) lt = not_any f all_sets 0 h 7 (omega arith)
-one_voice f h (suc (suc (suc (suc v)))) lt = absurd (omega arith)
-
-unbroken_from : (s b t : Bool) → (s && b && t) ≡ false → t ≡ true → (b ≡ true → s ≡ true) → b ≡ false
-unbroken_from s false t h e f = refl
-unbroken_from true true true h e f = cc
-unbroken_from true true false h e f = cc
-unbroken_from false true t h e f = let g : false ≡ true = f refl in cc
-
-unbroken_three : (ex : Exercise) (voices : ℕ) (p : List (List Cell)) (i : ℕ) → i < length p → is_strictly_broken 3 ex voices p i ≡ false → reading_of (rhythm.broken_in 3 ex voices) p i ≡ false
-unfolding breaks enough
-unbroken_three ex voices p i lt h =
-    unbroken_from (is_settled 3 ex voices p i) (is_broken 3 ex voices p i) (is_strict_at 3 ex voices i) h refl (break_is_settled ex voices p i lt)
-
-pub alive_orderly : (ex : Exercise) (p : List (List Cell)) → ex.voices ≤ 4 → has_strict_break ex p ≡ false → IsOrderly ex p
-alive_orderly ex p few alive =
-    unbroken-orderly ex p few
-    (λ v bar four begun.
-    let i = 8 * (bar - 1) in
-    let here = none_below (λ i. list_any (λ rule. list_any (λ voices. is_strictly_broken rule ex voices p i) all_sets) rules_read) (length p) alive i begun.1 in
-    unbroken_three ex (2 ^ v) p i begun.1 (one_voice (λ voices. is_strictly_broken 3 ex voices p i) (rule_three (λ rule. list_any (λ voices. is_strictly_broken rule ex voices p i) all_sets) here) v four))
+-- a column of the menu that follows a live path's prefix goes on from an orderly one
+pub goes_on_from : (ex : Exercise) (path : List ℕ) (k : ℕ) → ex.voices ≤ 4 → is_live_path ex path ≡ true → length path < columns_in ex → k < width_at ex path → ColumnFollows (newest_column (reverse (prefix_at ex path))) (column_at ex path k) → GoesOn ex (prefix_at ex path) (column_at ex path k ∷ [])
+goes_on_from ex path k few live room within follows =
+    let alive = prefix_is_live ex (menus_are_exact ex) path live in
+    let size : length (prefix_at ex path) ≡ length path = length-columns_on ex 0 path in
+    let M : ℕ → Type 0 = λ n. IsInMenu ex n (column_at ex path k) in
+    record {
+      orderly = alive_orderly ex few (prefix_at ex path) alive.unbroken;
+      longer =
+          prefix_with ex (prefix_at ex path) (column_at ex path k) alive.prefix (omega (arith, size))
+          (subst M (sym size) ((menus_are_exact ex (length path)).only (column_at ex path k) (Contains-get_or (menu_of ex (length path)) k [] within)))
+          follows;
+    }
 
 read_only : (f : ℕ → Bool) → list_any (λ r. is_read r && f r) rules_read ≡ list_any f rules_read
 unfolding rules_read

@@ -10,8 +10,7 @@ use Rattle.fux_grid.specs.Exercises.{columns_in}
 use Rattle.rule_law.specs.Law.{test_from_below}
 use Rattle.penalty_sheet.specs.declared.sheet.Sheet.{Sheet}
 use Rattle.fux_judge.specs.Rules.{rules_read}
-use Rattle.fux_judge.specs.Grows.{newly_broken, newly_paid}
-use Rattle.fux_judge.specs.Penalties.{paid}
+use Rattle.fux_judge.specs.Penalties.{newly_broken, newly_paid, paid}
 use Rattle.species_space.specs.declared.node.Node.{Node}
 use Rattle.species_space.specs.Grows.{live_none, live_value, paid_on}
 use Rattle.species_space.specs.Leaves.{follows_from_test, test_from_follows}

@@ -1,5 +1,5 @@
 -- The first least leaf is the best setting, and live paths are as many as live prefixes.
-use Rattle.std.specs.Prelude.{◌≡◌, ◌≢◌, ℕ, suc, ◌<◌, ◌⊎◌, Bool, true, false, nat_lt, List, [], ◌∷◌, Option, Some, None, IsSome, length, map, slice_index_or, refl}
+use Rattle.std.specs.Prelude.{◌≡◌, ◌≢◌, ℕ, suc, ◌<◌, ◌≤◌, ◌⊎◌, Bool, true, false, nat_lt, List, [], ◌∷◌, Option, Some, None, IsSome, length, map, slice_index_or, refl}
 use Rattle.std.specs.List.{AllByRecursion}
 use Rattle.std.proofs.Common.{ap, sym, ◌∙◌, subst, arith, inl, inr}
 use Rattle.std.proofs.lemmas.List.{length-map}
@@ -11,9 +11,10 @@ use Rattle.fux_grid.specs.Menus.{menu_of}
 use Rattle.fux_grid.specs.Order.{IsEarlier}
 use Rattle.fux_grid.proofs.OrderLemmas.{earlier-itself}
 use Rattle.rule_law.specs.Law.{first_true, second_true, below_from_test}
+use Rattle.rule_law.specs.Prefixes.{IsSetting}
 use Rattle.penalty_sheet.specs.declared.sheet.Sheet.{Sheet}
 use Rattle.fux_judge.specs.Penalties.{paid, penalty_of}
-use Rattle.fux_judge.specs.Ends.{unbroken_if_alive, alive_if_unbroken, paid_at_end}
+use Rattle.fux_judge.specs.Alive.{unbroken_if_alive, alive_if_unbroken, paid_at_end}
 use Rattle.fux_judge.specs.Lawful.{IsLawful, IsBest, HasNoLawful, BoundsLawful, AllDiffer, IsLiveBegun, HasLive, HasLiveAtMost}
 use Rattle.tree_search.specs.Answer as tree
 use Rattle.species_space.specs.Paths.{columns_on, prefix_at, is_in_menus, is_live_path, live_at, live_parts, length-columns_on}
@@ -69,24 +70,26 @@ module _ (ex : Exercise) (exact : (i : ℕ) → IsExactMenu ex i) where
           let P : List (List Cell) → Type 0 = λ s. IsEarlier s (prefix_at ex path) in
           absurd (earlier-itself (prefix_at ex path) (subst P (sym e) (before_is_earlier 0 other path (sym size) (live_parts ex path live).menus h)))
 
-  module _ (sheet : Sheet) where
+  module _ (few : ex.voices ≤ 4) (sheet : Sheet) where
     -- a leaf leads to a lawful setting, and its value is the penalty
     pub leaf_is_lawful : (path : List ℕ) (value : ℕ) → tree.IsLeaf (live_at ex sheet) (columns_in ex) path value → IsLawful ex (prefix_at ex path) × (penalty_of ex sheet (prefix_at ex path) ≡ value)
     leaf_is_lawful path value leaf =
         let own = live_value ex sheet path value leaf.1 in
         let live = prefix_is_live ex exact path own.0 in
-        let whole : length (prefix_at ex path) ≡ columns_in ex = length-columns_on ex 0 path ∙ leaf.0 in (
-          record { setting = record { prefix = live.prefix; whole = whole }; unbroken = unbroken_if_alive ex (prefix_at ex path) whole live.unbroken },
-          sym (paid_at_end ex (prefix_at ex path) whole sheet) ∙ own.1,
+        let whole : length (prefix_at ex path) ≡ columns_in ex = length-columns_on ex 0 path ∙ leaf.0 in
+        let setting : IsSetting ex (prefix_at ex path) = record { prefix = live.prefix; whole = whole } in (
+          record { setting = setting; unbroken = unbroken_if_alive ex few (prefix_at ex path) setting live.unbroken },
+          sym (paid_at_end ex few (prefix_at ex path) setting live.unbroken sheet) ∙ own.1,
         )
 
     -- a lawful setting is at the end of a path to a leaf
     pub lawful_is_leaf : (s : List (List Cell)) → IsLawful ex s → (path : List ℕ) × (prefix_at ex path ≡ s) × tree.IsLeaf (live_at ex sheet) (columns_in ex) path (penalty_of ex sheet s)
     lawful_is_leaf s lawful =
         let whole = lawful.setting.whole in
-        let way = path_to_live ex exact s record { prefix = lawful.setting.prefix; unbroken = alive_if_unbroken ex s whole lawful.unbroken } in
+        let alive = alive_if_unbroken ex few s lawful.setting lawful.unbroken in
+        let way = path_to_live ex exact s record { prefix = lawful.setting.prefix; unbroken = alive } in
         let size : length way.path ≡ columns_in ex = sym (length-columns_on ex 0 way.path) ∙ ap length way.there ∙ whole in
-        (way.path, way.there, (size, live_some ex sheet way.path way.is_live ∙ ap Some (ap (paid ex sheet) way.there ∙ paid_at_end ex s whole sheet)))
+        (way.path, way.there, (size, live_some ex sheet way.path way.is_live ∙ ap Some (ap (paid ex sheet) way.there ∙ paid_at_end ex few s lawful.setting alive sheet)))
 
     pub first_least_is_best : (path : List ℕ) (value : ℕ) → tree.IsFirstLeast (live_at ex sheet) (columns_in ex) path value → IsBest ex sheet (prefix_at ex path) × (penalty_of ex sheet (prefix_at ex path) ≡ value)
     first_least_is_best path value found =

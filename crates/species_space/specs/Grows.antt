@@ -5,8 +5,8 @@ use Rattle.fux_grid.specs.declared.exercise.Exercise.{Exercise}
 use Rattle.fux_grid.specs.Exercises.{columns_in}
 use Rattle.rule_law.specs.Law.{below_from_test}
 use Rattle.penalty_sheet.specs.declared.sheet.Sheet.{Sheet}
-use Rattle.fux_judge.specs.Penalties.{paid}
-use Rattle.fux_judge.specs.Grows.{newly_paid, paid_grows}
+use Rattle.fux_judge.specs.Penalties.{newly_paid, paid}
+use Rattle.fux_judge.specs.Grows.{paid_grows}
 use Rattle.tree_search.specs.Space.{FloorsGrow}
 use Rattle.species_space.specs.Paths.{prefix_at, column_at, is_live_path, goes_on, live_at, width_at, live_goes_on, live_parent, prefix_at-append}
 
@@ -41,7 +41,7 @@ goes_on_parts ex path k h = five (nat_lt (length path) (columns_in ex)) (nat_lt 
     five false b c d h e f = cc
 
 pub paid_on : (ex : Exercise) (sheet : Sheet) (path : List ℕ) (k : ℕ) → paid ex sheet (prefix_at ex (path ++ k ∷ [])) ≡ paid ex sheet (prefix_at ex path) + newly_paid ex sheet (prefix_at ex path) (column_at ex path k)
-paid_on ex sheet path k = ap (paid ex sheet) (prefix_at-append ex path k) ∙ paid_grows ex sheet (prefix_at ex path) (column_at ex path k)
+paid_on ex sheet path k = ap (paid ex sheet) (prefix_at-append ex path k) ∙ paid_grows ex (prefix_at ex path) (column_at ex path k) sheet
 
 pub paths_grow : (ex : Exercise) (sheet : Sheet) → FloorsGrow (live_at ex sheet) (width_at ex) (columns_in ex)
 paths_grow ex sheet path k floor h =

@@ -15,8 +15,8 @@ use Rattle.rule_law.specs.Growth.{any_below}
 use Rattle.rule_law.specs.Law.{first_true, second_true}
 use Rattle.penalty_sheet.specs.declared.sheet.Sheet.{Sheet}
 use Rattle.fux_judge.specs.Rules.{rules_read}
-use Rattle.fux_judge.specs.Penalties.{has_strict_break, paid}
-use Rattle.fux_judge.specs.Grows.{newly_broken, newly_paid, strict_break_grows}
+use Rattle.fux_judge.specs.Penalties.{has_strict_break, newly_broken, newly_paid, paid}
+use Rattle.fux_judge.specs.Grows.{strict_break_grows}
 
 -- the columns on a path from column i on: each number chooses one of the column's menu
 abbrev pub columns_on : Exercise → ℕ → List ℕ → List (List Cell)

@@ -29,7 +29,7 @@ returns c =
     let ex = c.args.exercise.now in
     let path = c.args.path.now in
     let s = prefix_at ex path in
-    let best = first_least_is_best ex (menus_are_exact ex) usual_sheet path c.args.penalty c.requires.first in
+    let best = first_least_is_best ex (menus_are_exact ex) c.requires.valid.most_voices usual_sheet path c.args.penalty c.requires.first in
     record {
       setting = s;
       best = best.0;

@@ -21,7 +21,7 @@ returns-in-Nothing c =
     let task = c.in-Ok.ensures.made ∙ ap (λ weights. record { exercise = ex; sheet = record { weights = weights } }) c.default_sheet-sheet.ensures in
     let none = subst (λ outcome. OnNothing outcome (HasNoLeaf (live_at c.in-Ok.space.exercise c.in-Ok.space.sheet) (columns_in c.in-Ok.space.exercise))) c.in-Nothing.is c.in_ok-path.ensures.nothing in
     record {
-      lawless = no_leaf_no_lawful ex (menus_are_exact ex) usual_sheet (subst (λ t. HasNoLeaf (live_at t.exercise t.sheet) (columns_in t.exercise)) task none);
+      lawless = no_leaf_no_lawful ex (menus_are_exact ex) c.requires.valid.most_voices usual_sheet (subst (λ t. HasNoLeaf (live_at t.exercise t.sheet) (columns_in t.exercise)) task none);
       spelled = c.in_ok-none_text-in-Nothing.ensures;
     }
 
@@ -31,10 +31,10 @@ returns c =
     let task = c.in-Ok.ensures.made ∙ ap (λ weights. record { exercise = ex; sheet = record { weights = weights } }) c.default_sheet-sheet.ensures in
     let low = subst (λ outcome. IfSpent outcome (BoundsLeaves (live_at c.in-Ok.space.exercise c.in-Ok.space.sheet) (columns_in c.in-Ok.space.exercise))) c.in-Spent.is c.in_ok-path.ensures.bound in
     let many = subst (λ outcome. IfSpent outcome (λ _. Many (IsLiveBelowRoot (live_at c.in-Ok.space.exercise c.in-Ok.space.sheet)) (c.args.budget + 1))) c.in-Spent.is c.in_ok-path.ensures.spent in
-    let live = many_live ex (menus_are_exact ex) usual_sheet (c.args.budget + 1) (subst (λ t. Many (IsLiveBelowRoot (live_at t.exercise t.sheet)) (c.args.budget + 1)) task many) in
+    let live = many_live ex (menus_are_exact ex) c.requires.valid.most_voices usual_sheet (c.args.budget + 1) (subst (λ t. Many (IsLiveBelowRoot (live_at t.exercise t.sheet)) (c.args.budget + 1)) task many) in
     record {
       bound = c.in-Spent.bound;
-      reached = bound_of_lawful ex (menus_are_exact ex) usual_sheet c.in-Spent.bound (subst (λ t. BoundsLeaves (live_at t.exercise t.sheet) (columns_in t.exercise) c.in-Spent.bound) task low);
+      reached = bound_of_lawful ex (menus_are_exact ex) c.requires.valid.most_voices usual_sheet c.in-Spent.bound (subst (λ t. BoundsLeaves (live_at t.exercise t.sheet) (columns_in t.exercise) c.in-Spent.bound) task low);
       many = live;
       scarce = not_so_many ex c.args.budget live;
       spelled = c.in_ok-bound_text-in-Spent.ensures;

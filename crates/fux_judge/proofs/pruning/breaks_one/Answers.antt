@@ -1,11 +1,11 @@
 use Rattle.std.proofs.Common.{sym, ◌∙◌, arith}
 use Rattle.fux_judge.specs.Pruning.{reads_below}
-use Rattle.fux_judge.proofs.PruningLemmas.{not_third, breaks_in_all}
+use Rattle.fux_judge.proofs.PruningLemmas.{settled_at_once, breaks_in_all}
 use Rattle.fux_judge.proofs.SumLemmas.{passes}
 use Rattle.fux_judge.proofs.pruning.breaks_one.Goals as goal
 
 pub is_strictly_broken-requires-clause-rule : goal.is_strictly_broken-requires-clause-rule
-is_strictly_broken-requires-clause-rule c = not_third _ (passes reads_below c.args.rules.now c.loop-rule.rule-index c.requires.rules (omega arith))
+is_strictly_broken-requires-clause-rule c = settled_at_once _ (passes reads_below c.args.rules.now c.loop-rule.rule-index c.requires.rules (omega arith))
 
 pub returns-then-is_strictly_broken : goal.returns-then-is_strictly_broken
 returns-then-is_strictly_broken c = λ n below p after.

@@ -1,7 +1,7 @@
 use Rattle.std.proofs.Common.{◌≡◌, ◌+◌, ℕ, take, inr, ap, sym, ◌∙◌, arith}
 use Rattle.std.proofs.lemmas.Bool.{OnTrue_at}
 use Rattle.std.proofs.lemmas.List.{take_all}
-use Rattle.fux_judge.specs.Grows.{newly_paid}
+use Rattle.fux_judge.specs.Penalties.{newly_paid}
 use Rattle.fux_judge.proofs.ChargeLemmas.{one_voice_more, reached, settles_all, settles_first}
 use Rattle.fux_judge.proofs.pruning.pruned_within.Goals as goal
 

@@ -3,7 +3,7 @@ use Rattle.melody_rules.specs.Rows as melody
 use Rattle.motion_rules.specs.Rows as motion
 use Rattle.dissonance_rules.specs.Rows as dissonance
 use Rattle.rhythm_cadence.specs.Rows as rhythm
-use Rattle.fux_judge.proofs.MomentLemmas.{near_then, window_then, melodic_then, motion_then, dissonance_then, rhythm_then}
+use Rattle.fux_judge.proofs.MomentLemmas.{near_then, window_then, melodic_then, motion_then, dissonance_then, none_then, rhythm_then}
 use Rattle.fux_judge.proofs.reading.is_broken.Goals as goal
 
 pub returns-then-looks_back : goal.returns-then-looks_back
@@ -26,7 +26,11 @@ returns-then-is_of_dissonance c = λ p after.
     c.breaks-then-is_of_dissonance.ensures ∙ near_then (dissonance.near_rows c.args.rule c.args.m.now.exercise.now c.args.voices.bits) p c.args.m.now after
     ∙ dissonance_then c.args.rule c.args.voices.bits p c.args.m.now (sym c.if-is_melodic.ensures) (sym c.if-is_of_motion.ensures) (sym c.if-is_of_dissonance.ensures)
 
+pub returns-then-is_of_rhythm : goal.returns-then-is_of_rhythm
+returns-then-is_of_rhythm c = λ p after.
+    c.breaks-then-is_of_rhythm.ensures ∙ near_then (rhythm.near_rows c.args.rule c.args.m.now.exercise.now c.args.voices.bits) p c.args.m.now after
+    ∙ rhythm_then c.args.rule c.args.voices.bits p c.args.m.now c.requires.rule (sym c.if-is_melodic.ensures) (sym c.if-is_of_motion.ensures) (sym c.if-is_of_dissonance.ensures) (sym c.if-is_of_rhythm.ensures)
+
 pub returns : goal.returns
 returns c = λ p after.
-    c.breaks-2.ensures ∙ near_then (rhythm.near_rows c.args.rule c.args.m.now.exercise.now c.args.voices.bits) p c.args.m.now after
-    ∙ rhythm_then c.args.rule c.args.voices.bits p c.args.m.now c.requires.rule (sym c.if-is_melodic.ensures) (sym c.if-is_of_motion.ensures) (sym c.if-is_of_dissonance.ensures)
+    none_then c.args.rule c.args.voices.bits p c.args.m.now (sym c.if-is_melodic.ensures) (sym c.if-is_of_motion.ensures) (sym c.if-is_of_dissonance.ensures) (sym c.if-is_of_rhythm.ensures)

@@ -1,6 +1,7 @@
 use Rattle.std.proofs.Common.{ap, sym, ◌∙◌}
 use Rattle.std.proofs.lemmas.Bool.{eqb-true}
 use Rattle.std.proofs.lemmas.List.{nil_from_length}
+use Rattle.rule_law.specs.Forms.{sets_of}
 use Rattle.fux_judge.specs.Moments.{prices_then}
 use Rattle.fux_judge.proofs.SetLemmas.{prices_for_all, nothing_relaxed}
 use Rattle.fux_judge.proofs.reading.prices_now.Goals as goal
@@ -12,5 +13,5 @@ returns-then-is_empty-clause-value c = λ p after.
 
 pub returns-clause-value : goal.returns-clause-value
 returns-clause-value c = λ p after.
-    c.prices_for.ensures.value p after ∙ ap (λ sets. prices_then sets c.args.rule p c.args.m.now) c.sets_of_rule.ensures
+    c.prices_for.ensures.value p after ∙ ap (λ sets. prices_then sets c.args.rule p c.args.m.now) (c.sets_of.ensures.value ∙ ap (λ form. sets_of form c.args.m.now.exercise.now.voices) c.form_of.ensures)
     ∙ prices_for_all c.args.rule p c.args.m.now

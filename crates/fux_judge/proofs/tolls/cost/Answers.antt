@@ -12,7 +12,7 @@ other false y h e = h
 pub returns-then-not-is_of_motion-clause-value : goal.returns-then-not-is_of_motion-clause-value
 returns-then-not-is_of_motion-clause-value c = λ p after.
     c.cost.ensures.value ∙ near_then (dissonance.toll_rows c.args.toll c.args.m.now.exercise.now) p c.args.m.now after
-    ∙ dissonance_cost c.args.toll p c.args.m.now (sym c.if-not-is_of_motion.ensures) (other (is_toll_of_motion c.args.toll) (is_toll_of_dissonance c.args.toll) c.requires (sym c.if-not-is_of_motion.ensures))
+    ∙ dissonance_cost c.args.toll p c.args.m.now (other (is_toll_of_motion c.args.toll) (is_toll_of_dissonance c.args.toll) c.requires (sym c.if-not-is_of_motion.ensures))
 
 pub returns-then-toll-eq14-clause-value : goal.returns-then-toll-eq14-clause-value
 returns-then-toll-eq14-clause-value c = λ p after.

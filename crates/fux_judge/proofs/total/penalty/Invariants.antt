@@ -1,11 +1,10 @@
-use Rattle.std.proofs.Common.{◌≡◌, ◌*◌, ◌≤◌, take}
-use Rattle.fux_judge.specs.Penalties.{paid}
-use Rattle.fux_judge.specs.States.{IsStateOf}
+use Rattle.std.proofs.Common.{◌≡◌, ◌≤◌, ◌*◌, ◌+◌}
+use Rattle.rule_law.specs.Growth.{sum_below}
+use Rattle.fux_judge.specs.Penalties.{prices_at, tolls_at}
 use Rattle.fux_judge.proofs.total.penalty.Given as goal
 
 abbrev pub invariant-loop-i : goal.invariant-loop-i
 invariant-loop-i l = record {
-  state : IsStateOf l.ex (take l.i l.score.columns) l.state;
-  paid : l.sum ≡ paid l.ex l.sheet (take l.i l.score.columns);
-  small : l.sum ≤ 16777216 * l.i;
+  value : l.sum ≡ sum_below (λ i. tolls_at l.ex l.sheet l.score.columns i + prices_at l.ex l.score.columns i) l.i;
+  small : l.sum ≤ 5629413635476500 * l.i;
 }

@@ -8,8 +8,8 @@ use Rattle.motion_rules.specs.BarLines.{IsBarLinesOf}
 use Rattle.rhythm_cadence.specs.Parts.{IsShapesOf}
 use Rattle.fux_judge.proofs.verdict.next_state.Goals as goal
 
-pub returns : goal.returns
-returns c = λ p st.
+pub returns-clause-state : goal.returns-clause-state
+returns-clause-state c = λ p st.
     let col = c.args.col.now.items in
     let cells = c.as_slice-cells.result.now in
     let same : cells ≡ col = c.as_slice-cells.ensures.value in

@@ -1,15 +1,16 @@
-use Rattle.std.proofs.Common.{rules, ◌==◌, ◌&&◌, ℕ, Bool, ap, ◌∙◌, arith}
-use Rattle.std.specs.List.{list_any}
+use Rattle.std.proofs.Common.{◌==◌, ◌&&◌, ℕ, Bool, ap, ◌∙◌, arith}
+use Rattle.std.specs.Prelude.{nat_lt}
+use Rattle.std.specs.List.{list_all, list_any}
 use Rattle.std.specs.Option.{option_copied}
 use Rattle.std.proofs.lemmas.List.{take_all}
 use Rattle.fux_judge.specs.Rules.{rules_read}
 use Rattle.plain_judge.specs.Between.{columns_of, some_broken_since}
-use Rattle.plain_judge.proofs.ListLemmas.{this_one}
-use Rattle.plain_judge.proofs.RuleLemmas.{is_small}
+use Rattle.plain_judge.proofs.ListLemmas.{rules_are_small, small, this_one}
 use Rattle.plain_judge.proofs.breaks.breaks_since.Goals as goal
 
 pub with-set-requires : goal.with-set-requires
-with-set-requires c = is_small _ (search rules)
+with-set-requires c =
+    small c.every_rule-rule-items.result.now c.loop-rule.rule-index (ap (list_all (λ n. nat_lt n 32)) c.every_rule-rule-items.ensures.value ∙ rules_are_small) (omega arith)
 
 pub returns : goal.returns
 returns c = λ r.

@@ -1,5 +1,5 @@
 use Rattle.std.proofs.Common.{◌∙◌}
-use Rattle.fux_judge.specs.Ends.{paid_at_end}
+use Rattle.fux_judge.specs.Ends.{settled_at_end}
 use Rattle.plain_judge.proofs.SinceLemmas.{paid_since_nothing}
 use Rattle.plain_judge.proofs.charges.settled_charges.Goals as goal
 
@@ -9,4 +9,4 @@ returns-clause-value c = c.charges_of.ensures ∙ paid_since_nothing c.args.ex.n
 pub returns-clause-whole : goal.returns-clause-whole
 returns-clause-whole c = λ whole.
     c.charges_of.ensures ∙ paid_since_nothing c.args.ex.now c.args.score.now.columns c.args.sheet.now
-    ∙ paid_at_end c.args.ex.now c.args.score.now.columns whole c.args.sheet.now
+    ∙ settled_at_end c.args.ex.now c.args.score.now.columns whole c.args.sheet.now

@@ -9,12 +9,12 @@ use Rattle.fux_grid.specs.Menus.{menu_of}
 use Rattle.fux_grid.proofs.MenuLemmas.{menu_of-full}
 use Rattle.rule_law.specs.Voices.{has_rule}
 use Rattle.fux_judge.specs.Rules.{rules_read}
-use Rattle.fux_judge.specs.Grows.{newly_broken}
-use Rattle.fux_judge.specs.Penalties.{paid}
+use Rattle.fux_judge.specs.Penalties.{newly_broken, paid}
 use Rattle.fux_judge.specs.States.{IsStateOf}
 use Rattle.species_space.specs.Grows.{live_some}
-use Rattle.species_space.specs.Paths.{prefix_at, column_at, width_at, live_parts, prefix_at-append}
-use Rattle.species_space.proofs.Alive.{alive_orderly, any_read}
+use Rattle.species_space.specs.Paths.{prefix_at, column_at, width_at, prefix_at-append}
+use Rattle.rule_law.specs.Prefixes.{GoesOn}
+use Rattle.species_space.proofs.Alive.{goes_on_from, any_read}
 use Rattle.species_space.proofs.Children.{as_long, strays, breaks, goes}
 use Rattle.species_space.proofs.space.child_by.Goals as goal
 
@@ -52,10 +52,17 @@ returns-then-breaks c = λ path at.
     let p = prefix_at ex path in
     let same = chosen ex path k c.args.node.now.state.len c.args.column.now.items (as_long ex c.args.sheet.now c.args.node.now path at) c.requires.column in
     let broken = c.step-verdict.result.broken.bits in
-    let orderly = alive_orderly ex p c.requires.valid.most_voices (live_parts ex path at.is_live).alive in
+    let child = c.requires.child in
+    let long = as_long ex c.args.sheet.now c.args.node.now path at in
+    let longer = as_long ex c.args.sheet.now c.args.node.now child.path child.at in
+    let room : length path < columns_in ex = omega (arith, long, longer, child.above) in
+    let same_length : length child.path ≡ length path = sym longer ∙ long in
+    let within : k < width_at ex path = subst (λ n. k < length (menu_of ex n)) same_length child.within in
+    let there = subst (λ b. ColumnFollows b (column_at ex path k)) (c.before-before.ensures p at.state) (subst (ColumnFollows c.before-before.result.now) (c.as_slice.ensures.value ∙ same) (c.cells_follow.ensures.0 c.if-not-cells_follow.false)) in
+    let comes = subst (λ col. GoesOn ex p (col ∷ [])) (sym same) (goes_on_from ex path k c.requires.valid.most_voices at.is_live room within there) in
     breaks ex path k at.is_live c.args.sheet.now
     (ap (λ col. list_any (newly_broken ex p col) rules_read) (sym same)
-    ∙ sym (any_read (has_rule broken) (newly_broken ex p c.args.column.now.items) (c.step-verdict.ensures.broken p at.state orderly))
+    ∙ sym (any_read (has_rule broken) (newly_broken ex p c.args.column.now.items) (c.step-verdict.ensures.broken p at.state comes))
     ∙ sym c.breaks.ensures ∙ c.if-breaks.true)
 
 pub returns : goal.returns
@@ -72,17 +79,17 @@ returns c = λ path at.
     let within : k < width_at ex path = subst (λ n. k < length (menu_of ex n)) same_length child.within in
     let same = chosen ex path k c.args.node.now.state.len c.args.column.now.items long c.requires.column in
     let broken = c.step-verdict.result.broken.bits in
-    let orderly = alive_orderly ex p c.requires.valid.most_voices (live_parts ex path at.is_live).alive in
-    let unbroken =
-    ap (λ col. list_any (newly_broken ex p col) rules_read) (sym same)
-    ∙ sym (any_read (has_rule broken) (newly_broken ex p c.args.column.now.items) (c.step-verdict.ensures.broken p at.state orderly))
-    ∙ sym c.breaks.ensures ∙ c.if-breaks.false in
     let before = c.before-before.ensures p at.state in
     let there = subst (λ b. ColumnFollows b (column_at ex path k)) before (subst (ColumnFollows c.before-before.result.now) (c.as_slice.ensures.value ∙ same) (c.cells_follow.ensures.0 c.if-not-cells_follow.false)) in
+    let comes = subst (λ col. GoesOn ex p (col ∷ [])) (sym same) (goes_on_from ex path k c.requires.valid.most_voices at.is_live room within there) in
+    let unbroken =
+    ap (λ col. list_any (newly_broken ex p col) rules_read) (sym same)
+    ∙ sym (any_read (has_rule broken) (newly_broken ex p c.args.column.now.items) (c.step-verdict.ensures.broken p at.state comes))
+    ∙ sym c.breaks.ensures ∙ c.if-breaks.false in
     let live = goes ex path k at.is_live room within there unbroken in
     let next : p ++ c.args.column.now.items ∷ [] ≡ prefix_at ex (path ++ k ∷ []) = ap (λ col. p ++ col ∷ []) same ∙ sym (prefix_at-append ex path k) in
     let cost : c.args.node.now.paid + c.step-verdict.result.paid ≡ paid ex sheet (prefix_at ex (path ++ k ∷ [])) =
-    ap (λ n. n + c.step-verdict.result.paid) at.paid ∙ sym (c.step-verdict.ensures.paid p at.state) ∙ ap (paid ex sheet) next in (
+    ap (λ n. n + c.step-verdict.result.paid) at.paid ∙ sym (c.step-verdict.ensures.paid p at.state comes) ∙ ap (paid ex sheet) next in (
       record {
         state = subst (λ q. IsStateOf ex q c.step-verdict.result.state) next (c.step-verdict.ensures.state p at.state);
         is_live = live;

@@ -5,7 +5,7 @@ use Rattle.fux_grid.specs.Grid.{items_of}
 use Rattle.fux_grid.specs.Menus.{menu_of}
 use Rattle.fux_grid.proofs.MenuLemmas.{menu_of-full}
 use Rattle.std.specs.Prelude.{IsSomeAnd}
-use Rattle.fux_judge.specs.Grows.{newly_paid}
+use Rattle.fux_judge.specs.Penalties.{newly_paid}
 use Rattle.fux_judge.specs.Pruning.{IsPruned}
 use Rattle.species_space.specs.Paths.{IsPassedAfter}
 use Rattle.species_space.proofs.Passing.{passed_on}

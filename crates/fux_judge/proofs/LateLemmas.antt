@@ -1,0 +1,65 @@
+-- What is read at the places of a late rule.
+use Rattle.std.proofs.Common.{◌≡◌, ℕ, ◌+◌, ◌-◌, ◌<◌, ◌==◌, ◌&&◌, ◌||◌, zero, suc, Bool, true, false, List, [], ◌∷◌, ◌++◌, length, refl, ap, sym, ◌∙◌, arith}
+use Rattle.std.specs.Prelude.{if◌then◌else◌}
+use Rattle.std.specs.List.{list_any, sum_by}
+use Rattle.std.proofs.lemmas.List.{length-append}
+use Rattle.fux_grid.specs.declared.cell.Cell.{Cell}
+use Rattle.fux_grid.specs.declared.exercise.Exercise.{Exercise}
+use Rattle.std.proofs.lemmas.Bool.{eqb-true}
+use Rattle.std.proofs.lemmas.Bool.Decides.{nat_tests}
+use Rattle.rule_law.specs.Growth.{any_below, sum_by-none}
+use Rattle.rule_law.specs.Rulebooks.{IsAmong, newly_breaks}
+use Rattle.fux_judge.specs.declared.state.State.{State}
+use Rattle.fux_judge.specs.Penalties.{is_strict_at, newly_broken_at, new_price, price_at}
+use Rattle.fux_judge.specs.Rules.{is_broken, is_settled, late_rules, rule_at}
+use Rattle.fux_judge.specs.States.{HasCome}
+use Rattle.fux_judge.specs.Steps.{prices_late, sets_of_rule, zero_below}
+use Rattle.fux_judge.proofs.SetLemmas.{priceless}
+
+-- the place before the newest column is as far as the prefix goes
+pub as_far : (ex : Exercise) (next : State) (p : List (List Cell)) (col : List Cell) → HasCome ex next p col → next.len - 1 ≡ length p
+as_far ex next p col come = omega (arith, come.reached.len, length-append p (col ∷ []))
+
+module _ (rule : ℕ) (ex : Exercise) (next : State) (p : List (List Cell)) (col : List Cell) (come : HasCome ex next p col) (first count : ℕ) (f : first ≡ (rule_at rule).first ex (next.len - 1)) (c : count ≡ (rule_at rule).count ex (next.len - 1)) where
+  pub first_is : first ≡ (rule_at rule).first ex (length p)
+  first_is = f ∙ ap ((rule_at rule).first ex) (as_far ex next p col come)
+
+  pub count_is : count ≡ (rule_at rule).count ex (length p)
+  count_is = c ∙ ap ((rule_at rule).count ex) (as_far ex next p col come)
+
+  pub is_among : (k : ℕ) → k < count → IsAmong ((rule_at rule).first ex (length p)) ((rule_at rule).count ex (length p)) (first + k)
+  is_among k h = record { from = omega (arith, first_is); to = omega (arith, first_is, count_is) }
+
+-- what is found below a number is found
+pub any_below-found : (f : ℕ → Bool) (k n : ℕ) → k < n → f k ≡ true → any_below f n ≡ true
+any_below-found f k zero h e = absurd (omega arith)
+any_below-found f k (suc n) h e = at (k == n) refl (λ q. any_below-found f k n q e)
+  where
+    or_true : (b : Bool) → (b || true) ≡ true
+    or_true true = refl
+    or_true false = refl
+
+    below : (k == n) ≡ false → k < n
+    below q = grind (arith, nat_tests)
+
+    at : (t : Bool) → (k == n) ≡ t → (k < n → any_below f n ≡ true) → (any_below f n || f n) ≡ true
+    at true q later = ap (λ b. any_below f n || b) (sym (ap f (eqb-true k n q)) ∙ e) ∙ or_true (any_below f n)
+    at false q later = ap (λ b. b || f n) (later (below q))
+
+-- a price of what is newly broken, in other words
+pub price_where : (n b : Bool) (x : ℕ) → (if n && b then x else 0) ≡ (if n then (if b then x else 0) else 0)
+price_where true b x = refl
+price_where false b x = refl
+
+-- without relax lines no late rule has a price
+pub no_late_prices : (ex : Exercise) (p : List (List Cell)) (col : List Cell) → ex.relax ≡ [] → 0 ≡ sum_by (prices_late ex p col) late_rules
+no_late_prices ex p col e =
+    sym (sum_by-none (prices_late ex p col) late_rules
+    (λ rule. zero_below (λ k. sum_by (new_price ex p col ((rule_at rule).first ex (length p) + k) rule) (sets_of_rule rule ex)) ((rule_at rule).count ex (length p))
+    (λ k h. sum_by-none (new_price ex p col ((rule_at rule).first ex (length p) + k) rule) (sets_of_rule rule ex)
+    (λ voices. free _ _ (priceless rule ex voices ((rule_at rule).first ex (length p) + k) e)))))
+  where
+    free : (n b : Bool) {x : ℕ} → x ≡ 0 → (if n then (if b then x else 0) else 0) ≡ 0
+    free true true h = h
+    free true false h = refl
+    free false b h = refl

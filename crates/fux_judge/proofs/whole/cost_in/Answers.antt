@@ -1,0 +1,56 @@
+use Rattle.std.proofs.Common.{◌≡◌, ◌≢◌, ℕ, Bool, true, ◌||◌, ◌==◌, false, refl, ap, sym, ◌∙◌}
+use Rattle.std.proofs.lemmas.Bool.{ne_eqb}
+use Rattle.rule_law.specs.Places.{reading_of}
+use Rattle.rule_law.specs.Rulebooks.{TollRow}
+use Rattle.fux_judge.proofs.MomentLemmas.{costs_of_none}
+use Rattle.fux_judge.specs.Rules.{cost_at, toll_at}
+use Rattle.fux_judge.proofs.whole.cost_in.Goals as goal
+
+pub returns-then-toll-eq1 : goal.returns-then-toll-eq1
+unfolding toll_at
+returns-then-toll-eq1 c = c.cost.ensures ∙ sym (ap (λ toll. cost_at toll c.args.ex.now c.args.score.now.columns c.args.i) c.if-toll-eq1.true)
+
+pub returns-then-toll-eq2 : goal.returns-then-toll-eq2
+unfolding toll_at
+returns-then-toll-eq2 c = c.cost-then-toll-eq2.ensures ∙ sym (ap (λ toll. cost_at toll c.args.ex.now c.args.score.now.columns c.args.i) c.if-toll-eq2.true)
+
+pub returns-then-toll-eq7 : goal.returns-then-toll-eq7
+unfolding toll_at
+returns-then-toll-eq7 c = c.cost-then-toll-eq7.ensures ∙ sym (ap (λ toll. cost_at toll c.args.ex.now c.args.score.now.columns c.args.i) c.if-toll-eq7.true)
+
+pub returns-then-toll-eq8 : goal.returns-then-toll-eq8
+unfolding toll_at
+returns-then-toll-eq8 c = c.cost-then-toll-eq8.ensures ∙ sym (ap (λ toll. cost_at toll c.args.ex.now c.args.score.now.columns c.args.i) c.if-toll-eq8.true)
+
+pub returns-then-toll-eq9 : goal.returns-then-toll-eq9
+unfolding toll_at
+returns-then-toll-eq9 c = c.cost-then-toll-eq9.ensures ∙ sym (ap (λ toll. cost_at toll c.args.ex.now c.args.score.now.columns c.args.i) c.if-toll-eq9.true)
+
+pub returns-then-toll-eq10 : goal.returns-then-toll-eq10
+unfolding toll_at
+returns-then-toll-eq10 c = c.cost-then-toll-eq10.ensures ∙ sym (ap (λ toll. cost_at toll c.args.ex.now c.args.score.now.columns c.args.i) c.if-toll-eq10.true)
+
+pub returns-then-toll-eq11 : goal.returns-then-toll-eq11
+unfolding toll_at
+returns-then-toll-eq11 c = c.cost-then-toll-eq11.ensures ∙ sym (ap (λ toll. cost_at toll c.args.ex.now c.args.score.now.columns c.args.i) c.if-toll-eq11.true)
+
+pub returns-then-toll-eq13 : goal.returns-then-toll-eq13
+unfolding toll_at
+returns-then-toll-eq13 c = c.cost-then-toll-eq13.ensures ∙ sym (ap (λ toll. cost_at toll c.args.ex.now c.args.score.now.columns c.args.i) c.if-toll-eq13.true)
+
+pub returns-then-toll-eq14 : goal.returns-then-toll-eq14
+unfolding toll_at
+returns-then-toll-eq14 c = c.cost-then-toll-eq14.ensures ∙ sym (ap (λ toll. cost_at toll c.args.ex.now c.args.score.now.columns c.args.i) c.if-toll-eq14.true)
+
+or_both : (a b : Bool) → a ≡ false → b ≡ false → (a || b) ≡ false
+or_both true b h k = cc
+or_both false b h k = k
+
+pub returns : goal.returns
+returns c =
+    let is : (n : ℕ) → c.args.toll ≢ n → (c.args.toll == n) ≡ false = λ n h. ne_eqb c.args.toll n h in
+    sym (ap (λ (it : TollRow). reading_of (it.cost c.args.ex.now) c.args.score.now.columns c.args.i)
+    (costs_of_none c.args.toll
+    (or_both _ _ (or_both _ _ (or_both _ _ (or_both _ _ (is 7 c.if-toll-eq7.false) (is 8 c.if-toll-eq8.false)) (is 9 c.if-toll-eq9.false)) (is 10 c.if-toll-eq10.false)) (is 13 c.if-toll-eq13.false))
+    (or_both _ _ (is 11 c.if-toll-eq11.false) (is 14 c.if-toll-eq14.false))
+    (or_both _ _ (is 1 c.if-toll-eq1.false) (is 2 c.if-toll-eq2.false))))

@@ -1,0 +1,193 @@
+//! Breaks that a column settles at earlier places.
+
+ghost use Rattle.std.specs.Prelude.{◌≡◌, ◌≤◌, ◌<◌, ◌+◌, ◌-◌, ◌*◌, true, ◌&&◌, ◌||◌, ◌==◌, not, nat_lt, ◌∷◌, ◌++◌, [], ℕ, List, IsTrue, length};
+ghost use Rattle.std.specs.List.{filter, list_all, list_any, sum_by};
+ghost use Rattle.fux_grid.specs.declared.cell.Cell.{Cell as ACell};
+ghost use Rattle.fux_grid.specs.Exercises.{IsValid, columns_in};
+ghost use Rattle.rule_law.specs.Rulebooks.{IsAmong, newly_breaks};
+ghost use Rattle.rule_law.specs.Voices.{has_rule};
+ghost use Rattle.fux_judge.specs.Penalties.{is_strict_at, newly_broken_at, new_price};
+ghost use Rattle.fux_judge.specs.Rules.{is_late, late_rules, rule_at, rules_read};
+ghost use Rattle.fux_judge.specs.States.{HasCome};
+ghost use Rattle.fux_judge.specs.Steps as steps;
+
+use crate::reading::form_of;
+use crate::state::State;
+use fux_grid::{Exercise, VoiceSet};
+use penalty_sheet::price_at;
+use rule_law::{LatePlaces, RuleSet, sets_of};
+
+/// The rules that may be settled later than at their own column.
+const LATE_RULES: [u8; 1] = [3];
+
+#[tactic(auto, unfolding(crate::specs::Rules::late_rules, crate::specs::Rules::rules_read, crate::specs::Rules::rule_at))]
+fn every_late_rule() -> &'static [u8]
+    ensures value { result.now ≡ late_rules }
+    ensures table { result.now ≡ filter is_late rules_read }
+    ensures numbers { IsTrue (list_all (λ rule. nat_lt rule 32 && is_late rule) result.now) }
+    ensures few { length result.now ≤ 6 }
+{
+    &LATE_RULES
+}
+
+/// Where the newest column may settle a late rule.
+fn places_of(rule: u8, ex: &Exercise, next: &State) -> LatePlaces
+    requires late { is_late rule ≡ true }
+    requires begun { 0 < next.now.len }
+    ensures first { result.first ≡ (rule_at rule).first ex.now (next.now.len - 1) }
+    ensures count { result.count ≡ (rule_at rule).count ex.now (next.now.len - 1) }
+    ensures within { result.first + result.count ≤ next.now.len }
+    ensures few { result.count ≤ 16 }
+{
+    rhythm_cadence::places_settled(rule, ex, next.len - 1)
+}
+
+/// Whether the newest column settles a break of a late rule, at one of its places.
+#[inline]
+fn breaks_at(rule: u8, ex: &Exercise, next: &State, voices: VoiceSet, place: usize) -> bool
+    requires late { is_late rule ≡ true }
+    ensures { (p : List (List ACell)) (col : List ACell) → HasCome ex.now next.now p col
+        → IsAmong ((rule_at rule).first ex.now (length p)) ((rule_at rule).count ex.now (length p)) place
+        → result ≡ newly_breaks (rule_at rule) ex.now voices.bits p col place }
+{
+    rhythm_cadence::breaks_late(&next.rhythm, rule, ex, voices, place)
+}
+
+/// Whether that is a strict break.
+fn breaks_strictly_at(rule: u8, ex: &Exercise, next: &State, voices: VoiceSet, place: usize) -> bool
+    requires late { is_late rule ≡ true }
+    requires valid { IsValid ex.now }
+    requires place { place < columns_in ex.now }
+    ensures { (p : List (List ACell)) (col : List ACell) → HasCome ex.now next.now p col
+        → IsAmong ((rule_at rule).first ex.now (length p)) ((rule_at rule).count ex.now (length p)) place
+        → result ≡ newly_broken_at rule ex.now voices.bits p col place }
+{
+    if !breaks_at(rule, ex, next, voices, place) {
+        return false;
+    }
+    price_at(ex, rule, voices, (place / 8 + 1) as u8).is_strict()
+}
+
+/// The price of a relaxed break that the column settles there.
+fn price_settled(rule: u8, ex: &Exercise, next: &State, voices: VoiceSet, place: usize) -> u64
+    requires late { is_late rule ≡ true }
+    requires valid { IsValid ex.now }
+    requires place { place < columns_in ex.now }
+    ensures value { (p : List (List ACell)) (col : List ACell) → HasCome ex.now next.now p col
+        → IsAmong ((rule_at rule).first ex.now (length p)) ((rule_at rule).count ex.now (length p)) place
+        → result ≡ new_price ex.now p col place rule voices.bits }
+    ensures bound { result ≤ 10000 }
+{
+    if !breaks_at(rule, ex, next, voices, place) {
+        return 0;
+    }
+    u64::from(price_at(ex, rule, voices, (place / 8 + 1) as u8).amount())
+}
+
+/// Whether the newest column settles a strict break of a late rule at a place, for one of these sets of voices.
+fn breaks_for(rule: u8, ex: &Exercise, next: &State, place: usize, sets: &[u8]) -> bool
+    requires late { is_late rule ≡ true }
+    requires valid { IsValid ex.now }
+    requires place { place < columns_in ex.now }
+    ensures { (p : List (List ACell)) (col : List ACell) → HasCome ex.now next.now p col
+        → IsAmong ((rule_at rule).first ex.now (length p)) ((rule_at rule).count ex.now (length p)) place
+        → result ≡ list_any (λ voices. newly_broken_at rule ex.now voices p col place) sets.now }
+{
+    for bits in sets {
+        if breaks_strictly_at(rule, ex, next, VoiceSet { bits: *bits }, place) {
+            return true;
+        }
+    }
+    false
+}
+
+/// What it settles of prices there.
+fn prices_for(rule: u8, ex: &Exercise, next: &State, place: usize, sets: &[u8]) -> u64
+    requires late { is_late rule ≡ true }
+    requires valid { IsValid ex.now }
+    requires place { place < columns_in ex.now }
+    requires few { length sets.now ≤ 6 }
+    ensures value { (p : List (List ACell)) (col : List ACell) → HasCome ex.now next.now p col
+        → IsAmong ((rule_at rule).first ex.now (length p)) ((rule_at rule).count ex.now (length p)) place
+        → result ≡ sum_by (new_price ex.now p col place rule) sets.now }
+    ensures bound { result ≤ 60000 }
+{
+    let mut sum = 0u64;
+    for bits in sets {
+        let price = price_settled(rule, ex, next, VoiceSet { bits: *bits }, place);
+        sum += price;
+    }
+    sum
+}
+
+/// Whether the newest column settles a strict break of a late rule.
+fn is_broken_late(rule: u8, ex: &Exercise, next: &State) -> bool
+    requires late { is_late rule ≡ true }
+    requires valid { IsValid ex.now }
+    requires begun { 0 < next.now.len }
+    requires room { next.now.len ≤ columns_in ex.now }
+    ensures { (p : List (List ACell)) (col : List ACell) → HasCome ex.now next.now p col → result ≡ steps.breaks_late ex.now p col rule }
+{
+    let places = places_of(rule, ex, next);
+    let sets = sets_of(form_of(rule), ex.voices);
+    for k in 0..places.count {
+        if breaks_for(rule, ex, next, places.first + k, sets) {
+            return true;
+        }
+    }
+    false
+}
+
+/// What it settles of the prices of a late rule.
+fn prices_of_late(rule: u8, ex: &Exercise, next: &State) -> u64
+    requires late { is_late rule ≡ true }
+    requires valid { IsValid ex.now }
+    requires begun { 0 < next.now.len }
+    requires room { next.now.len ≤ columns_in ex.now }
+    ensures value { (p : List (List ACell)) (col : List ACell) → HasCome ex.now next.now p col → result ≡ steps.prices_late ex.now p col rule }
+    ensures bound { result ≤ 960000 }
+{
+    let places = places_of(rule, ex, next);
+    let sets = sets_of(form_of(rule), ex.voices);
+    let mut sum = 0u64;
+    for k in 0..places.count {
+        let prices = prices_for(rule, ex, next, places.first + k, sets);
+        sum += prices;
+    }
+    sum
+}
+
+/// A set with the late rules added of which the newest column settles a strict break.
+pub(crate) fn with_late(set: RuleSet, ex: &Exercise, next: &State) -> RuleSet
+    requires valid { IsValid ex.now }
+    requires begun { 0 < next.now.len }
+    requires room { next.now.len ≤ columns_in ex.now }
+    ensures { (p : List (List ACell)) (col : List ACell) → HasCome ex.now next.now p col → (r : ℕ)
+        → has_rule result.bits r ≡ (has_rule set.bits r || list_any (λ rule. steps.breaks_late ex.now p col rule && r == rule) late_rules) }
+{
+    let mut broken = set;
+    for rule in every_late_rule() {
+        let on = is_broken_late(*rule, ex, next);
+        broken = broken.with(*rule, on);
+    }
+    broken
+}
+
+/// What the newest column settles of the prices of all late rules.
+pub(crate) fn late_prices(ex: &Exercise, next: &State) -> u64
+    requires valid { IsValid ex.now }
+    requires begun { 0 < next.now.len }
+    requires room { next.now.len ≤ columns_in ex.now }
+    ensures value { (p : List (List ACell)) (col : List ACell) → HasCome ex.now next.now p col → result ≡ sum_by (steps.prices_late ex.now p col) late_rules }
+    ensures bound { result ≤ 5760000 }
+{
+    if ex.relax.as_slice().is_empty() {
+        return 0;
+    }
+    let mut sum = 0u64;
+    for rule in every_late_rule() {
+        let prices = prices_of_late(*rule, ex, next);
+        sum += prices;
+    }
+    sum
+}

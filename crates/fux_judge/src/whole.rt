@@ -1,0 +1,122 @@
+//! Rules and tolls, read in a whole list of columns: each in the crate that has it.
+
+ghost use Rattle.std.specs.Prelude.{◌≡◌, ◌≤◌, ◌<◌, ◌&&◌, ℕ, IsTrue, nat_le, length};
+ghost use Rattle.std.specs.List.{filter, list_all, range_with_len};
+ghost use Rattle.fux_grid.specs.Exercises.{IsValid, columns_in};
+ghost use Rattle.fux_judge.specs.Rules as rules;
+ghost use Rattle.fux_judge.specs.Rules.{all_rules, tolls_read};
+
+use crate::reading::{is_melodic, is_of_dissonance, is_of_motion, is_of_rhythm};
+use dissonance_rules::{Dissonance, Q1, Q2};
+use fux_grid::{Exercise, Score, VoiceSet};
+use melody_rules::{Melody, Q7, Q8, Q9, Q10, Q13};
+use motion_rules::{Motion, Q11, Q14};
+use rhythm_cadence::Rhythm;
+use rule_law::{Rule, Toll};
+
+/// Whether a rule is broken at column `i` for a set of voices. A number that no crate has is never broken.
+pub fn is_broken_in(rule: u8, ex: &Exercise, score: &Score, i: usize, voices: VoiceSet) -> bool
+    requires valid { IsValid ex.now }
+    requires voices { score.now.voices ≡ ex.now.voices }
+    requires few { length score.now.columns ≤ columns_in ex.now }
+    requires place { i < length score.now.columns }
+    ensures { result ≡ rules.is_broken rule ex.now voices.bits score.now.columns i }
+{
+    if is_melodic(rule) {
+        return Melody.broken(rule, ex, score, i, voices);
+    }
+    if is_of_motion(rule) {
+        return Motion.broken(rule, ex, score, i, voices);
+    }
+    if is_of_dissonance(rule) {
+        return Dissonance.broken(rule, ex, score, i, voices);
+    }
+    if is_of_rhythm(rule) {
+        return Rhythm.broken(rule, ex, score, i, voices);
+    }
+    false
+}
+
+/// Whether that is settled.
+pub fn is_settled_in(rule: u8, ex: &Exercise, prefix: &Score, i: usize, voices: VoiceSet) -> bool
+    requires valid { IsValid ex.now }
+    requires voices { prefix.now.voices ≡ ex.now.voices }
+    requires few { length prefix.now.columns ≤ columns_in ex.now }
+    requires place { i < length prefix.now.columns }
+    ensures { result ≡ rules.is_settled rule ex.now voices.bits prefix.now.columns i }
+{
+    if is_melodic(rule) {
+        return Melody.settled(rule, ex, prefix, i, voices);
+    }
+    if is_of_motion(rule) {
+        return Motion.settled(rule, ex, prefix, i, voices);
+    }
+    if is_of_dissonance(rule) {
+        return Dissonance.settled(rule, ex, prefix, i, voices);
+    }
+    if is_of_rhythm(rule) {
+        return Rhythm.settled(rule, ex, prefix, i, voices);
+    }
+    true
+}
+
+/// All tolls that are read.
+const TOLLS: [u8; 9] = [1, 2, 7, 8, 9, 10, 11, 13, 14];
+
+/// All tolls that are read, by ascending numbers: those of all crates.
+#[tactic(auto, unfolding(crate::specs::Rules::tolls_read))]
+pub fn every_toll() -> &'static [u8]
+    ensures value { result.now ≡ tolls_read }
+    ensures table { result.now ≡ filter all_rules.has_toll (range_with_len 1 20) }
+    ensures numbers { IsTrue (list_all (λ toll. nat_le 1 toll && nat_le toll 20) result.now) }
+    ensures few { length result.now ≤ 20 }
+{
+    &TOLLS
+}
+
+/// What a toll costs at column `i`, without its weight. A number that no crate has costs nothing.
+pub fn cost_in(toll: u8, ex: &Exercise, score: &Score, i: usize) -> u32
+    requires valid { IsValid ex.now }
+    requires voices { score.now.voices ≡ ex.now.voices }
+    requires few { length score.now.columns ≤ columns_in ex.now }
+    requires place { i < length score.now.columns }
+    ensures { result ≡ rules.cost_at toll ex.now score.now.columns i }
+{
+    if toll == 1 {
+        return Q1.cost(ex, score, i);
+    }
+    if toll == 2 {
+        return Q2.cost(ex, score, i);
+    }
+    if toll == 7 {
+        return Q7.cost(ex, score, i);
+    }
+    if toll == 8 {
+        return Q8.cost(ex, score, i);
+    }
+    if toll == 9 {
+        return Q9.cost(ex, score, i);
+    }
+    if toll == 10 {
+        return Q10.cost(ex, score, i);
+    }
+    if toll == 11 {
+        return Q11.cost(ex, score, i);
+    }
+    if toll == 13 {
+        return Q13.cost(ex, score, i);
+    }
+    if toll == 14 {
+        return Q14.cost(ex, score, i);
+    }
+    0
+}
+
+/// Whether that is settled: each toll is so far at its own column.
+pub fn is_cost_settled_in(toll: u8, ex: &Exercise, prefix: &Score, i: usize) -> bool
+    requires { i < length prefix.now.columns }
+    ensures { result ≡ rules.is_cost_settled toll ex.now prefix.now.columns i }
+{
+    let _ = (toll, ex.voices, prefix.len(), i);
+    true
+}
