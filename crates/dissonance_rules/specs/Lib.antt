@@ -1,6 +1,10 @@
 pub mod Apart
 pub mod Book
+pub mod ClashLaws
+pub mod Clashes
+pub mod Ligatures
 pub mod Locality
 pub mod LowerVoices
+pub mod Passing
 pub mod Quiet
 pub mod Rows

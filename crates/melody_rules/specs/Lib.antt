@@ -1,4 +1,8 @@
 pub mod Book
+pub mod GaugeLaws
+pub mod GaugeParts
+pub mod Gauges
+pub mod Held
 pub mod Locality
 pub mod LowerVoices
 pub mod Notes

@@ -1,6 +1,7 @@
 //! Rules and tolls of melody: how a voice moves from note to note.
 #![tactic(auto)]
 
+mod gauges;
 mod melody;
 mod moves;
 mod notes;
@@ -9,6 +10,7 @@ mod tolls;
 mod voices;
 mod windows;
 
+pub use gauges::{Climax, Compass, Leaps, Q17, Q18, Q19, Q20, Strikes};
 pub use melody::{Melody, breaks};
 pub use moves::{leaves_sharp, moves_unmelodically, repeats};
 pub use notes::{VoiceNotes, breaks_after, leap_open_after, noted, notes_before, silent};

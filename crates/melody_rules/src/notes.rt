@@ -40,7 +40,7 @@ pub fn silent() -> VoiceNotes
 
 /// The greater key.
 #[inline]
-fn higher(key: u8, other: u8) -> u8
+pub(crate) fn higher(key: u8, other: u8) -> u8
     ensures { pos result ≡ int_max (pos key) (pos other) }
 {
     if key > other { key } else { other }
@@ -48,7 +48,7 @@ fn higher(key: u8, other: u8) -> u8
 
 /// The lesser key.
 #[inline]
-fn lower(key: u8, other: u8) -> u8
+pub(crate) fn lower(key: u8, other: u8) -> u8
     ensures { pos result ≡ int_min (pos key) (pos other) }
 {
     if key < other { key } else { other }

@@ -1,6 +1,8 @@
+pub mod Afterbeats
 pub mod BarLines
 pub mod Book
 pub mod Clear
+pub mod InnerVoices
 pub mod Locality
 pub mod LowerVoices
 pub mod Quiet

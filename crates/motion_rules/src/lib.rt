@@ -1,14 +1,18 @@
 //! Rules and tolls of motion: S10, S16, S17, Q11 and Q14.
 #![tactic(auto)]
 
+mod afterbeats;
 mod bar_lines;
 mod clear;
+mod inner_voices;
 mod motion;
 mod rows;
 mod tolls;
 
+pub use afterbeats::breaks_afterbeat;
 pub use bar_lines::{BarLines, imperfect_runs_after, no_bar_lines, noted};
 pub use clear::are_clear;
+pub use inner_voices::inner_moves;
 pub use motion::Motion;
 pub use rows::{breaks, cost};
 pub use tolls::{Q11, Q14};

@@ -44,7 +44,7 @@ pub(crate) fn move_in_parallel(before: &[Cell], now: &[Cell], v: usize, w: usize
 
 /// Whether the two are the lowest and the highest voice of the exercise.
 #[inline]
-fn are_outer(ex: &Exercise, v: u8, w: u8) -> bool
+pub(crate) fn are_outer(ex: &Exercise, v: u8, w: u8) -> bool
     ensures { result ≡ rows.are_outer ex.now v w }
 {
     v == 0 && u16::from(w) + 1 == u16::from(ex.voices)

@@ -1,7 +1,11 @@
 pub mod Book
+pub mod Cadence
 pub mod InPlace
+pub mod LateLaws
 pub mod Locality
 pub mod LowerVoices
 pub mod Parts
+pub mod Patterns
+pub mod Quavers
 pub mod Quiet
 pub mod Rows

@@ -1,5 +1,5 @@
-//! Worked cases of the rules, tolls, marks and of the judge, with answers that were worked out by hand. They stand in a crate above
-//! those that they try, so that what carries the proofs is proved once.
+//! Worked cases of the rules, tolls, gauges, marks and of the judge, with answers that were worked out by hand. They stand in a crate
+//! above those that they try, so that what carries the proofs is proved once.
 #![tactic(auto)]
 
 #[cfg(test)]
@@ -14,3 +14,7 @@ mod melody;
 mod motion;
 #[cfg(test)]
 mod rhythm;
+#[cfg(test)]
+mod table;
+#[cfg(test)]
+mod worked;

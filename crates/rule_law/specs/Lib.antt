@@ -1,8 +1,13 @@
+pub mod After
 pub mod Bars
 pub mod BothLaw
+pub mod Degrees
 pub mod Forms
+pub mod Gauges
 pub mod Growth
+pub mod LateLaw
 pub mod Law
+pub mod Leading
 pub mod LowerVoices
 pub mod NearLaw
 pub mod Nearby
@@ -14,3 +19,5 @@ pub mod Quiet
 pub mod Rulebooks
 pub mod Terms
 pub mod Voices
+pub mod Ways
+pub mod Whole

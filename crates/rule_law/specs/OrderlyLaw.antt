@@ -80,7 +80,7 @@ one_more Rest cells f r = f refl
 one_more (Hold p) cells f r = r
 one_more (Start p) cells f r = r
 
-free_rests : (ex : Exercise) (v : ℕ) → IsFree ex v → (history : List (List Cell)) → IsOrderly ex (reverse history) → RestsFirst (line v history)
+pub free_rests : (ex : Exercise) (v : ℕ) → IsFree ex v → (history : List (List Cell)) → IsOrderly ex (reverse history) → RestsFirst (line v history)
 free_rests ex v free [] orderly = tt
 free_rests ex v free (col ∷ history) orderly =
     let P : List (List Cell) → Type 0 = λ p. IsOrderly ex p in

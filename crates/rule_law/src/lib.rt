@@ -1,9 +1,13 @@
 //! What a rule is, and what a toll is: their readings, their laws, and the words that they share.
 #![tactic(auto)]
 
+mod after;
 mod bars;
 mod both;
+mod degrees;
+mod gauge;
 mod latest;
+mod leading;
 mod near;
 mod pairs;
 mod rule;
@@ -12,9 +16,13 @@ mod table;
 mod terms;
 mod toll;
 
+pub use after::{next_onset, onset_pitch, second_next_onset};
 pub use bars::{begins_bar, begins_inner_bar, is_quiet};
 pub use both::Both;
+pub use degrees::lies_above;
+pub use gauge::{Gauge, menu_starts, starts_ahead};
 pub use latest::{Latest, latest_before, latest_of_column};
+pub use leading::is_leading;
 pub use near::{Near, cells_of};
 pub use pairs::{
     both_move, move_alike, move_into_perfect, one_starts, sound_perfect, sound_same_key,

@@ -1,0 +1,173 @@
+//! S15: notes that start within a bar and clash, and what makes them good: passing notes, neighbors and the cambiata.
+
+ghost use Rattle.std.specs.Prelude.{◌≡◌, ◌+◌, ◌<◌, [], length, drop, slice_index_or};
+ghost use Rattle.fux_grid.specs.Columns.{earlier};
+ghost use Rattle.fux_grid.specs.Exercises.{IsValid, columns_in};
+ghost use Rattle.dissonance_rules.specs.Passing as words;
+
+use fux_grid::{Cell, Exercise, Onset, Score, cell_of, species_of};
+use fux_pitch::{Pitch, interval_of};
+use rule_law::{
+    begins_bar, falls, is_clash, is_clean, is_step, lies_above, next_onset, onset_pitch,
+    previous_pitch, same_way, second_next_onset, starts,
+};
+
+/// A passing note: the move to it and the move from it are steps the same way.
+pub fn is_passing(previous: Option<Pitch>, here: Option<Pitch>, next: Option<Pitch>) -> bool
+    ensures { result ≡ words.is_passing previous here next }
+{
+    match (previous, here, next) {
+        (Some(p), Some(q), Some(r)) => {
+            let (to, from) = (interval_of(p, q), interval_of(q, r));
+            is_step(to) && is_step(from) && same_way(to, from)
+        }
+        _ => false,
+    }
+}
+
+/// A neighbor: both are steps, and the next note has the pitch of the previous one.
+pub fn is_neighbor(previous: Option<Pitch>, here: Option<Pitch>, next: Option<Pitch>) -> bool
+    ensures { result ≡ words.is_neighbor previous here next }
+{
+    match (previous, here, next) {
+        (Some(p), Some(q), Some(r)) => {
+            is_step(interval_of(p, q)) && is_step(interval_of(q, r)) && p == r
+        }
+        _ => false,
+    }
+}
+
+/// Whether there are both pitches, and the second is a step below the first.
+fn falls_by_step(p: Option<Pitch>, q: Option<Pitch>) -> bool
+    ensures { result ≡ words.falls_by_step p q }
+{
+    match (p, q) {
+        (Some(p), Some(q)) => {
+            let to = interval_of(p, q);
+            is_step(to) && falls(to)
+        }
+        _ => false,
+    }
+}
+
+/// A cambiata: the note falls by a step; the next note lies two degrees below it, and is clean at its start; the note after that lies
+/// one degree above the next.
+pub fn is_cambiata(
+    previous: Option<Pitch>,
+    here: Option<Pitch>,
+    next: Option<Pitch>,
+    clean: bool,
+    after: Option<Pitch>,
+) -> bool
+    ensures { result ≡ words.is_cambiata previous here next clean after }
+{
+    falls_by_step(previous, here)
+        && lies_above(2, here, next)
+        && clean
+        && lies_above(1, after, next)
+}
+
+/// Whether neighbors and cambiatas are good too.
+fn has_ornaments(species: u8) -> bool
+    ensures { result ≡ words.has_ornaments species }
+{
+    species == 3 || species == 5
+}
+
+/// Whether a note is good: a passing note, or in species 3 and 5 a neighbor or a cambiata.
+pub fn is_good(
+    species: u8,
+    previous: Option<Pitch>,
+    here: Option<Pitch>,
+    next: Option<Pitch>,
+    clean: bool,
+    after: Option<Pitch>,
+) -> bool
+    ensures { result ≡ words.is_good species previous here next clean after }
+{
+    if is_passing(previous, here, next) {
+        return true;
+    }
+    has_ornaments(species)
+        && (is_neighbor(previous, here, next) || is_cambiata(previous, here, next, clean, after))
+}
+
+/// Whether a voice is clean where its next note after column `i` starts.
+fn next_is_clean(score: &Score, i: usize, v: u8) -> bool
+    requires { i < length score.now.columns }
+    ensures { result ≡ words.next_is_clean i (drop (i + 1) score.now.columns) v }
+{
+    match next_onset(score, v, i) {
+        Some(onset) => is_clean(score.later(i, onset.start - i - 1), v as usize),
+        None => false,
+    }
+}
+
+/// Whether the note of a voice that starts at column `i` is good.
+fn is_good_note(score: &Score, species: u8, i: usize, v: u8) -> bool
+    requires { i < length score.now.columns }
+    ensures { result ≡ words.is_good_note species i (earlier score.now.columns i)
+        (slice_index_or score.now.columns i []) (drop (i + 1) score.now.columns) v }
+{
+    is_good(
+        species,
+        previous_pitch(score, v, i),
+        score.cell(v as usize, i).pitch(),
+        onset_pitch(next_onset(score, v, i)),
+        next_is_clean(score, i, v),
+        onset_pitch(second_next_onset(score, v, i)),
+    )
+}
+
+/// Whether a note of `v` starts, and it clashes with `w`.
+pub fn starts_in_clash(now: &[Cell], v: usize, w: usize) -> bool
+    ensures { result ≡ words.starts_in_clash now.now v w }
+{
+    starts(cell_of(now, v)) && is_clash(now, v, w)
+}
+
+/// S15, for one way to name the voices: whether a note of `v` starts within a bar and clashes with `w`, and isn't good.
+pub(crate) fn clashes_badly(ex: &Exercise, score: &Score, i: usize, v: u8, w: u8) -> bool
+    requires { i < length score.now.columns }
+    ensures { result ≡ words.clashes_badly ex.now i (earlier score.now.columns i)
+        (slice_index_or score.now.columns i []) (drop (i + 1) score.now.columns) v w }
+{
+    if begins_bar(i) || !starts_in_clash(score.column(i).as_slice(), v as usize, w as usize) {
+        return false;
+    }
+    !is_good_note(score, species_of(ex, v), i, v)
+}
+
+/// Whether the score has a column of the last bar.
+fn reaches_last_bar(ex: &Exercise, score: &Score, i: usize) -> bool
+    requires valid { IsValid ex.now }
+    requires place { i < length score.now.columns }
+    ensures { result ≡ words.reaches_last_bar ex.now i (drop (i + 1) score.now.columns) }
+{
+    let bars = usize::from(ex.bars);
+    score.len() > 8 * (bars - 1)
+}
+
+/// Whether the score has as many notes of `v` after column `i` as tell what the note there is.
+fn has_notes_after(score: &Score, species: u8, i: usize, v: u8) -> bool
+    requires { i < length score.now.columns }
+    ensures { result ≡ words.has_notes_after species i v (drop (i + 1) score.now.columns) }
+{
+    if has_ornaments(species) {
+        return second_next_onset(score, v, i).is_some();
+    }
+    next_onset(score, v, i).is_some()
+}
+
+/// Whether S15 is open for one way to name the voices.
+pub(crate) fn is_open_clash(ex: &Exercise, score: &Score, i: usize, v: u8, w: u8) -> bool
+    requires valid { IsValid ex.now }
+    requires place { i < length score.now.columns }
+    ensures { result ≡ words.is_open_clash ex.now i (slice_index_or score.now.columns i [])
+        (drop (i + 1) score.now.columns) v w }
+{
+    if !starts_in_clash(score.column(i).as_slice(), v as usize, w as usize) {
+        return false;
+    }
+    !(has_notes_after(score, species_of(ex, v), i, v) || reaches_last_bar(ex, score, i))
+}

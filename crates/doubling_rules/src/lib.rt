@@ -1,0 +1,9 @@
+//! What voices double, how far apart they lie, and where in its range each keeps: S23 and Q3 to Q6.
+#![tactic(auto)]
+
+mod rows;
+
+pub use rows::{
+    double_leading, doubles_third, doubling_breaks, doubling_cost, lacks_third, straying_notes,
+    wide_pairs,
+};

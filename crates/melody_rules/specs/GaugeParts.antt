@@ -1,0 +1,37 @@
+-- What the gauges keep of the notes of a line, given by their pitches, the latest first.
+use Rattle.std.specs.Prelude.{◌≡◌, ℕ, ◌+◌, ◌-◌, ◌*◌, ℤ, pos, negsuc, List, count_by, length, slice_index, if◌then◌else◌}
+use Rattle.std.specs.Ordering.{int_eq}
+use Rattle.fux_pitch.specs.declared.pitch.Pitch.{Pitch}
+use Rattle.fux_pitch.specs.Pitch.{alter_of, degree_of, same_pitch}
+use Rattle.melody_rules.specs.declared.gauges.climax.Climax.{Climax}
+use Rattle.melody_rules.specs.declared.gauges.compass.Compass.{Compass}
+use Rattle.melody_rules.specs.declared.gauges.leaps.Leaps.{Leaps}
+use Rattle.melody_rules.specs.declared.gauges.strikes.Strikes.{Strikes}
+use Rattle.melody_rules.specs.Gauges.{beyond_fourth, has_notes, leaps_in, notes_at}
+use Rattle.melody_rules.specs.Rows.{greatest_key, last_of, least_key}
+
+pub record IsClimaxOf (ps : List Pitch) (kept : Climax) : Type 0 where
+  pub greatest : pos kept.greatest ≡ greatest_key ps
+  pub count : kept.count ≡ notes_at (greatest_key ps) ps
+
+pub record IsCompassOf (ps : List Pitch) (kept : Compass) : Type 0 where
+  pub any : kept.any ≡ has_notes ps
+  pub greatest : pos kept.greatest ≡ greatest_key ps
+  pub least : pos kept.least ≡ least_key ps
+
+pub record IsLeapsOf (ps : List Pitch) (kept : Leaps) : Type 0 where
+  pub last : kept.last ≡ last_of ps
+  pub notes : kept.notes ≡ length ps
+  pub leaps : kept.leaps ≡ leaps_in ps
+
+-- the alterations in order: flat, natural, sharp
+abbrev pub alter_place : ℤ → ℕ
+alter_place a = if int_eq a (negsuc 0) then 0 else (if int_eq a (pos 0) then 1 else 2)
+
+-- each pitch has a place of its own among all of them
+abbrev pub place_in : Pitch → ℕ
+place_in p = 3 * (degree_of p - 7) + alter_place (alter_of p)
+
+pub record IsStrikesOf (ps : List Pitch) (kept : Strikes) : Type 0 where
+  pub counts : (p : Pitch) → slice_index kept.counts (place_in p) ≡ count_by (same_pitch p) ps
+  pub beyond : kept.beyond ≡ beyond_fourth ps

@@ -1,0 +1,91 @@
+//! Q18: a narrow compass.
+
+ghost use Rattle.std.specs.Prelude.{◌≡◌, ◌∷◌, List};
+ghost use Rattle.fux_pitch.specs.declared.pitch.Pitch.{Pitch as APitch};
+ghost use Rattle.melody_rules.specs.Gauges as words;
+ghost use Rattle.melody_rules.specs.GaugeLaws.{compass_ends, compass_grows};
+ghost use Rattle.melody_rules.specs.GaugeParts.{IsCompassOf};
+ghost use Rattle.melody_rules.specs.Rows.{pitches};
+
+use crate::notes::{higher, lower};
+use fux_grid::{Cell, Exercise};
+use fux_pitch::{Pitch, semitone};
+use rule_law::{Gauge, starts_ahead};
+
+/// Whether a line has notes, and their greatest and least key, 0 and 127 without notes.
+#[derive(Clone, Copy, Debug, PartialEq, Eq)]
+pub struct Compass {
+    pub any: bool,
+    pub greatest: u8,
+    pub least: u8,
+}
+
+/// A narrow compass: the greatest key less the least is below 7.
+#[derive(Clone, Copy, Debug, PartialEq, Eq)]
+pub struct Q18;
+
+/// With one note more.
+fn with_note(kept: Compass, pitch: Pitch) -> Compass
+    ensures { (ps : List APitch) → IsCompassOf ps kept → IsCompassOf (pitch ∷ ps) result }
+{
+    let key = semitone(pitch);
+    Compass {
+        any: true,
+        greatest: higher(key, kept.greatest),
+        least: lower(key, kept.least),
+    }
+}
+
+/// Whether the compass is narrow.
+fn is_narrow(kept: Compass) -> bool
+    ensures { (ps : List APitch) → IsCompassOf ps kept → result ≡ words.is_narrow ps }
+{
+    kept.any && i16::from(kept.greatest) - i16::from(kept.least) < 7
+}
+
+impl Gauge for Q18 {
+    type State = Compass;
+
+    ghost numbered = { λ _. 18 };
+
+    ghost is_of = { λ _ cells kept. IsCompassOf (pitches cells) kept };
+
+    ghost value = { λ _. words.compass_value };
+
+    ghost least_of = { λ _. words.compass_least };
+
+    ghost grows = { λ _. compass_grows };
+
+    ghost ends = { λ _. compass_ends };
+
+    fn number(&self) -> u8 {
+        18
+    }
+
+    fn start(&self) -> Compass {
+        Compass {
+            any: false,
+            greatest: 0,
+            least: 127,
+        }
+    }
+
+    fn step(&self, _ex: &Exercise, _v: u8, _i: usize, s: Compass, c: Cell) -> Compass {
+        match c {
+            Cell::Start(pitch) => with_note(s, pitch),
+            Cell::Hold(_) => s,
+            Cell::Rest => s,
+        }
+    }
+
+    fn least(&self, ex: &Exercise, v: u8, i: usize, s: Compass) -> u32 {
+        if starts_ahead(ex, v, i) != 0 {
+            return 0;
+        }
+        u32::from(is_narrow(s))
+    }
+
+    fn last(&self, _ex: &Exercise, _v: u8, s: Compass) -> u32 {
+        u32::from(is_narrow(s))
+    }
+}

@@ -1,0 +1,101 @@
+//! Q19: too many leaps.
+
+ghost use Rattle.std.specs.Prelude.{◌≡◌, ◌-◌, ◌*◌, ◌<◌, ◌∷◌, List, Some, length};
+ghost use Rattle.fux_pitch.specs.declared.pitch.Pitch.{Pitch as APitch};
+ghost use Rattle.rule_law.specs.Terms as terms;
+ghost use Rattle.melody_rules.specs.Gauges as words;
+ghost use Rattle.melody_rules.specs.GaugeLaws.{leaps_end, leaps_grow};
+ghost use Rattle.melody_rules.specs.GaugeParts.{IsLeapsOf};
+ghost use Rattle.melody_rules.specs.Rows.{pitches};
+
+use fux_grid::{Cell, Exercise};
+use fux_pitch::{Pitch, interval_of};
+use rule_law::{Gauge, is_leap, starts_ahead};
+
+/// The pitch of a line's latest note, how many notes it has, and how many of them are entered by a leap.
+#[derive(Clone, Copy, Debug, PartialEq, Eq)]
+pub struct Leaps {
+    pub last: Option<Pitch>,
+    pub notes: u8,
+    pub leaps: u8,
+}
+
+/// Too many leaps: three times the leaps, less the moves.
+#[derive(Clone, Copy, Debug, PartialEq, Eq)]
+pub struct Q19;
+
+/// Whether a note is entered by a leap.
+fn is_leap_to(last: Option<Pitch>, pitch: Pitch) -> bool
+    ensures { result ≡ terms.holds_of terms.is_leap (terms.interval_of_pitches last (Some pitch)) }
+{
+    match last {
+        Some(p) => is_leap(interval_of(p, pitch)),
+        None => false,
+    }
+}
+
+/// With one note more.
+fn with_note(kept: Leaps, pitch: Pitch) -> Leaps
+    ensures { (ps : List APitch) → length ps < 192 → IsLeapsOf ps kept →
+        IsLeapsOf (pitch ∷ ps) result }
+{
+    Leaps {
+        last: Some(pitch),
+        notes: kept.notes.saturating_add(1),
+        leaps: kept
+            .leaps
+            .saturating_add(u8::from(is_leap_to(kept.last, pitch))),
+    }
+}
+
+/// Three times the leaps, less the moves.
+fn excess(kept: Leaps) -> u32
+    ensures { (ps : List APitch) → IsLeapsOf ps kept →
+        result ≡ 3 * words.leaps_in ps - words.moves_in ps }
+{
+    (3 * u32::from(kept.leaps)).saturating_sub(u32::from(kept.notes).saturating_sub(1))
+}
+
+impl Gauge for Q19 {
+    type State = Leaps;
+
+    ghost numbered = { λ _. 19 };
+
+    ghost is_of = { λ _ cells kept. IsLeapsOf (pitches cells) kept };
+
+    ghost value = { λ _. words.leaps_value };
+
+    ghost least_of = { λ _. words.leaps_least };
+
+    ghost grows = { λ _. leaps_grow };
+
+    ghost ends = { λ _. leaps_end };
+
+    fn number(&self) -> u8 {
+        19
+    }
+
+    fn start(&self) -> Leaps {
+        Leaps {
+            last: None,
+            notes: 0,
+            leaps: 0,
+        }
+    }
+
+    fn step(&self, _ex: &Exercise, _v: u8, _i: usize, s: Leaps, c: Cell) -> Leaps {
+        match c {
+            Cell::Start(pitch) => with_note(s, pitch),
+            Cell::Hold(_) => s,
+            Cell::Rest => s,
+        }
+    }
+
+    fn least(&self, ex: &Exercise, v: u8, i: usize, s: Leaps) -> u32 {
+        excess(s).saturating_sub(starts_ahead(ex, v, i))
+    }
+
+    fn last(&self, _ex: &Exercise, _v: u8, s: Leaps) -> u32 {
+        excess(s)
+    }
+}

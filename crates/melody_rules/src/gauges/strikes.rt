@@ -1,0 +1,94 @@
+//! Q20: one pitch struck often.
+
+ghost use Rattle.std.specs.Prelude.{◌≡◌, ◌<◌, ◌∷◌, List, length};
+ghost use Rattle.fux_pitch.specs.declared.pitch.Pitch.{Pitch as APitch};
+ghost use Rattle.melody_rules.specs.Gauges as words;
+ghost use Rattle.melody_rules.specs.GaugeLaws.{strikes_end, strikes_grow};
+ghost use Rattle.melody_rules.specs.GaugeParts.{IsStrikesOf, place_in};
+ghost use Rattle.melody_rules.specs.Rows.{pitches};
+
+use fux_grid::{Cell, Exercise};
+use fux_pitch::Pitch;
+use rule_law::Gauge;
+
+/// How often each pitch was struck, by degree and alteration, and how many notes were beyond the fourth of their pitch.
+#[derive(Clone, Copy, Debug, PartialEq, Eq)]
+pub struct Strikes {
+    pub counts: [u8; 147],
+    pub beyond: u8,
+}
+
+/// One pitch struck often: the notes of a pitch beyond its fourth.
+#[derive(Clone, Copy, Debug, PartialEq, Eq)]
+pub struct Q20;
+
+/// The place of a pitch among all of them.
+fn place_of(p: Pitch) -> usize
+    ensures value { result ≡ place_in p }
+    ensures bound { result < 147 }
+{
+    let alter = match p.alter() {
+        -1 => 0,
+        0 => 1,
+        _ => 2,
+    };
+    3 * (usize::from(p.degree()) - 7) + alter
+}
+
+/// With one note more.
+fn with_note(kept: &Strikes, pitch: Pitch) -> Strikes
+    ensures { (ps : List APitch) → length ps < 192 → IsStrikesOf ps kept.now →
+        IsStrikesOf (pitch ∷ ps) result }
+{
+    let place = place_of(pitch);
+    let before = kept.counts[place];
+    let mut counts = kept.counts;
+    counts[place] = before.saturating_add(1);
+    Strikes {
+        counts,
+        beyond: kept.beyond.saturating_add(u8::from(before >= 4)),
+    }
+}
+
+impl Gauge for Q20 {
+    type State = Strikes;
+
+    ghost numbered = { λ _. 20 };
+
+    ghost is_of = { λ _ cells kept. IsStrikesOf (pitches cells) kept };
+
+    ghost value = { λ _. words.strikes_value };
+
+    ghost least_of = { λ _. words.strikes_least };
+
+    ghost grows = { λ _. strikes_grow };
+
+    ghost ends = { λ _. strikes_end };
+
+    fn number(&self) -> u8 {
+        20
+    }
+
+    fn start(&self) -> Strikes {
+        Strikes {
+            counts: [0; 147],
+            beyond: 0,
+        }
+    }
+
+    fn step(&self, _ex: &Exercise, _v: u8, _i: usize, s: Strikes, c: Cell) -> Strikes {
+        match c {
+            Cell::Start(pitch) => with_note(&s, pitch),
+            Cell::Hold(_) => s,
+            Cell::Rest => s,
+        }
+    }
+
+    fn least(&self, _ex: &Exercise, _v: u8, _i: usize, s: Strikes) -> u32 {
+        u32::from(s.beyond)
+    }
+
+    fn last(&self, _ex: &Exercise, _v: u8, s: Strikes) -> u32 {
+        u32::from(s.beyond)
+    }
+}

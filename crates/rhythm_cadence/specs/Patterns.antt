@@ -1,0 +1,58 @@
+-- The tolls Q15 and Q16: ligatures that are missing, and bars that repeat the bar before.
+use Rattle.std.specs.Prelude.{ℕ, ◌-◌, ◌==◌, Bool, true, false, not, ◌&&◌, ◌||◌, nat_le, List, [], ◌∷◌, length, slice_index_or}
+use Rattle.std.specs.Int.{from_bool}
+use Rattle.std.specs.List.{list_all}
+use Rattle.fux_pitch.specs.Pitch.{same_pitch}
+use Rattle.fux_grid.specs.declared.cell.Cell.{Cell}
+use Rattle.fux_grid.specs.declared.cell.Cell.TheVariants.{Rest, Hold, Start}
+use Rattle.fux_grid.specs.declared.exercise.Exercise.{Exercise}
+use Rattle.fux_grid.specs.Cells.{cell_in}
+use Rattle.rule_law.specs.Bars.{begins_bar, begins_inner_bar}
+use Rattle.rule_law.specs.Places.{Row, at_once}
+use Rattle.rule_law.specs.Nearby.{NearRow}
+use Rattle.rule_law.specs.Terms.{starts}
+
+-- Q15: in species 4, at the beginning of a bar that is neither the first nor the last, the species voice starts a note
+abbrev pub lacks_ligature : Exercise → ℕ → List Cell → Bool
+lacks_ligature ex i now =
+    (ex.species == 4) && begins_inner_bar ex i && starts (cell_in now ex.species_voice)
+
+abbrev pub ligature_toll : Exercise → NearRow ℕ
+ligature_toll ex i before previous now = from_bool (lacks_ligature ex i now)
+
+-- two cells are equal, in kind and in pitch
+abbrev pub same_cell : Cell → Cell → Bool
+same_cell Rest Rest = true
+same_cell Rest (Hold q) = false
+same_cell Rest (Start q) = false
+same_cell (Hold p) Rest = false
+same_cell (Hold p) (Hold q) = same_pitch p q
+same_cell (Hold p) (Start q) = false
+same_cell (Start p) Rest = false
+same_cell (Start p) (Hold q) = false
+same_cell (Start p) (Start q) = same_pitch p q
+
+-- at a slot of the bar that begins here a voice has the cell that it had at that slot of the bar before
+abbrev pub repeats_slot : ℕ → List (List Cell) → List Cell → List (List Cell) → ℕ → Bool
+repeats_slot v behind now ahead slot =
+    same_cell (cell_in (slice_index_or behind (7 - slot) []) v)
+    (cell_in (slice_index_or (now ∷ ahead) slot []) v)
+
+-- the bar that begins here is whole, and repeats the bar before in all its eight slots
+abbrev pub repeats_bar : ℕ → List (List Cell) → List Cell → List (List Cell) → Bool
+repeats_bar v behind now ahead =
+    nat_le 7 (length ahead)
+    && list_all (repeats_slot v behind now ahead) (0 ∷ 1 ∷ 2 ∷ 3 ∷ 4 ∷ 5 ∷ 6 ∷ 7 ∷ [])
+
+-- Q16: in species 2 to 5, at the beginning of a bar that isn't the first, the species voice repeats the bar before
+abbrev pub is_pattern : Exercise → ℕ → List (List Cell) → List Cell → List (List Cell) → Bool
+is_pattern ex i behind now ahead =
+    nat_le 2 ex.species && begins_bar i && nat_le 8 i
+    && repeats_bar ex.species_voice behind now ahead
+
+abbrev pub pattern_toll : Exercise → Row ℕ
+pattern_toll ex i behind now ahead = from_bool (is_pattern ex i behind now ahead)
+
+-- at the beginning of a bar it is settled once the bar is whole
+abbrev pub pattern_enough : Exercise → Row Bool
+pattern_enough ex i behind now ahead = not (begins_bar i) || nat_le 7 (length ahead)

@@ -1,0 +1,90 @@
+//! The tolls Q15 and Q16: ligatures that are missing, and bars that repeat the bar before.
+
+ghost use Rattle.std.specs.Prelude.{◌≡◌, ◌+◌, ◌<◌, ◌≤◌, [], length, drop, slice_index_or};
+ghost use Rattle.fux_grid.specs.Columns.{earlier};
+ghost use Rattle.rule_law.specs.Places.{reading_of, settled_by};
+ghost use Rattle.rhythm_cadence.specs.Patterns as words;
+ghost use Rattle.rhythm_cadence.specs.Patterns.{pattern_enough, pattern_toll};
+
+use fux_grid::{Cell, Exercise, Score, cell_of};
+use rule_law::{begins_bar, begins_inner_bar, starts};
+
+/// Q15: whether, in species 4, the species voice starts a note at the beginning of a bar that is neither the first nor the last.
+pub fn lacks_ligature(ex: &Exercise, i: usize, now: &[Cell]) -> bool
+    ensures { result ≡ words.lacks_ligature ex.now i now.now }
+{
+    ex.species == 4 && begins_inner_bar(ex, i) && starts(cell_of(now, ex.species_voice as usize))
+}
+
+/// Whether two cells are equal, in kind and in pitch.
+fn same_cell(c: Cell, d: Cell) -> bool
+    ensures { result ≡ words.same_cell c d }
+{
+    match (c, d) {
+        (Cell::Rest, Cell::Rest) => true,
+        (Cell::Hold(p), Cell::Hold(q)) => p == q,
+        (Cell::Start(p), Cell::Start(q)) => p == q,
+        _ => false,
+    }
+}
+
+/// Whether a voice has at the beginning of a bar the cell that it had at the beginning of the bar before.
+fn repeats_first_slot(score: &Score, i: usize, v: usize) -> bool
+    requires { i < length score.now.columns }
+    ensures { result ≡ words.repeats_slot v (earlier score.now.columns i)
+        (slice_index_or score.now.columns i []) (drop (i + 1) score.now.columns) 0 }
+{
+    same_cell(cell_of(score.behind(i, 7), v), score.cell(v, i))
+}
+
+/// The same of another slot.
+fn repeats_slot(score: &Score, i: usize, v: usize, slot: usize) -> bool
+    requires place { i < length score.now.columns }
+    requires first { 1 ≤ slot }
+    requires last { slot ≤ 7 }
+    ensures { result ≡ words.repeats_slot v (earlier score.now.columns i)
+        (slice_index_or score.now.columns i []) (drop (i + 1) score.now.columns) slot }
+{
+    same_cell(
+        cell_of(score.behind(i, 7 - slot), v),
+        cell_of(score.later(i, slot - 1), v),
+    )
+}
+
+/// Whether the bar that begins at column `i` is whole and repeats the bar before.
+fn repeats_bar(score: &Score, i: usize, v: usize) -> bool
+    requires { i < length score.now.columns }
+    ensures { result ≡ words.repeats_bar v (earlier score.now.columns i)
+        (slice_index_or score.now.columns i []) (drop (i + 1) score.now.columns) }
+{
+    score.kept();
+    i + 7 < score.len()
+        && repeats_first_slot(score, i, v)
+        && repeats_slot(score, i, v, 1)
+        && repeats_slot(score, i, v, 2)
+        && repeats_slot(score, i, v, 3)
+        && repeats_slot(score, i, v, 4)
+        && repeats_slot(score, i, v, 5)
+        && repeats_slot(score, i, v, 6)
+        && repeats_slot(score, i, v, 7)
+}
+
+/// Q16: 1 where, in species 2 to 5, a bar begins at column `i` that repeats the bar before in the species voice.
+pub fn pattern_cost(ex: &Exercise, score: &Score, i: usize) -> u32
+    requires { i < length score.now.columns }
+    ensures { result ≡ reading_of (pattern_toll ex.now) score.now.columns i }
+{
+    if ex.species < 2 || !begins_bar(i) || i < 8 {
+        return 0;
+    }
+    u32::from(repeats_bar(score, i, ex.species_voice as usize))
+}
+
+/// Whether no column that follows can change that: the bar is whole, or none begins here.
+pub fn is_pattern_settled(ex: &Exercise, score: &Score, i: usize) -> bool
+    requires { i < length score.now.columns }
+    ensures { result ≡ settled_by (pattern_enough ex.now) score.now.columns i }
+{
+    score.kept();
+    !begins_bar(i) || i + 7 < score.len()
+}

@@ -1,0 +1,89 @@
+//! Gauges, and the columns ahead in which a voice may start a note.
+
+ghost use Rattle.std.specs.Prelude.{◌≡◌, ◌<◌, ◌≤◌, ◌↔◌, ◌∷◌, [], ℕ, List, IsTrue, length};
+ghost use Rattle.fux_grid.specs.declared.cell.Cell.{Cell};
+ghost use Rattle.fux_grid.specs.Exercises.{IsFree, IsValid, columns_in};
+ghost use Rattle.rule_law.specs.Gauges as words;
+ghost use Rattle.rule_law.specs.Gauges.{EndsAtValue, LeastValue, LineValue, NeverFalls};
+
+use fux_grid::{Cell, Exercise, can_start};
+
+/// A value of the whole line of a free voice, which is known to be at least so much while the line goes on. A clause sees the cells of
+/// the line from the newest to the oldest.
+pub trait Gauge {
+    /// What is kept of the cells of a voice.
+    type State: Copy;
+
+    /// The gauge's number.
+    ghost numbered: { Self → ℕ };
+
+    /// The state is that of these cells.
+    ghost is_of: { Self → List Cell → Self.State → Type 0 };
+
+    /// The value of a line.
+    ghost value: { Self → LineValue };
+
+    /// What each line that begins with these cells has at least.
+    ghost least_of: { Self → LeastValue };
+
+    /// The gauge's number.
+    fn number(&self) -> u8
+        ensures { result ≡ numbered self.now };
+
+    /// Before the first column.
+    fn start(&self) -> Self::State
+        ensures { is_of self.now [] result };
+
+    /// After one more cell of voice `v`, that of column `i`.
+    fn step(&self, ex: &Exercise, v: u8, i: usize, s: Self::State, c: Cell) -> Self::State
+        requires valid { IsValid ex.now }
+        requires place { i < columns_in ex.now }
+        ensures { (cells : List Cell) → length cells ≡ i → is_of self.now cells s →
+            is_of self.now (c ∷ cells) result };
+
+    /// What each line of voice `v` that begins with these `i` cells has at least.
+    fn least(&self, ex: &Exercise, v: u8, i: usize, s: Self::State) -> u32
+        requires valid { IsValid ex.now }
+        requires free { IsFree ex.now v }
+        requires place { i ≤ columns_in ex.now }
+        ensures { (cells : List Cell) → length cells ≡ i → is_of self.now cells s →
+            result ≡ least_of self.now ex.now v cells };
+
+    /// The value of a line of all columns.
+    fn last(&self, ex: &Exercise, v: u8, s: Self::State) -> u32
+        requires valid { IsValid ex.now }
+        ensures { (cells : List Cell) → length cells ≡ columns_in ex.now → is_of self.now cells s →
+            result ≡ value self.now cells };
+
+    /// From a prefix of a setting to a longer one the least value never falls.
+    ghost grows: { (it : Self) → NeverFalls (least_of it) };
+
+    /// In a setting it is the value.
+    ghost ends: { (it : Self) → EndsAtValue (least_of it) (value it) };
+}
+
+/// Whether some column of the menu at a place has a start of the voice.
+pub fn menu_starts(ex: &Exercise, v: u8, i: usize) -> bool
+    requires valid { IsValid ex.now }
+    requires voice { v < ex.now.voices }
+    requires place { i < columns_in ex.now }
+    ensures { result ≡ words.menu_starts ex.now v i }
+{
+    can_start(ex, v, i)
+}
+
+/// In how many columns from column `i` on the voice may start a note.
+pub fn starts_ahead(ex: &Exercise, v: u8, i: usize) -> u32
+    requires valid { IsValid ex.now }
+    requires voice { v < ex.now.voices }
+    requires place { i ≤ columns_in ex.now }
+    ensures value { result ≡ words.starts_ahead ex.now v i }
+    ensures bound { result ≤ 192 }
+{
+    let bars = usize::from(ex.bars);
+    let mut count = 0;
+    for j in i..8 * bars {
+        count += u32::from(menu_starts(ex, v, j));
+    }
+    count
+}
