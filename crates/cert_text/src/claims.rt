@@ -11,6 +11,7 @@ use crate::claim::Claim;
 use std::marker::Model;
 
 /// Reads the lines of claims from pieces of any size.
+#[derive(Drop)]
 pub struct Claims {
     next: u64,
     used: u64,
