@@ -1,10 +1,10 @@
 -- What a text says of the weights: a sheet, or what is wrong with it. A document is what the crate `toml` says one is.
-use Rattle.std.specs.Prelude.{◌≡◌, ℕ, ◌+◌, ◌-◌, Bool, length, List, [], ◌∷◌, ◌++◌, ℤ, pos, negsuc, nat_le, nat_lt, if◌then◌else◌, map, codes, slice_index, slice_index_or, Option, Some, None, Result, Ok, Err}
+use Rattle.std.specs.Prelude.{◌≡◌, ℕ, ◌+◌, ◌-◌, Bool, true, ◌&&◌, length, List, [], ◌∷◌, ◌++◌, ℤ, pos, negsuc, nat_le, nat_lt, if◌then◌else◌, map, codes, slice_index, slice_index_or, Option, Some, None, Result, Ok, Err}
 use Rattle.std.specs.Option.{option_and_then}
 use Rattle.std.specs.Fmt.{signed_decimal}
 use Rattle.std.specs.List.{list_any, range_with_len}
 use Rattle.std.specs.Str.{bytes_eq, is_utf8}
-use Rattle.toml.specs.Data.{Data, string, integer, float, boolean, datetime, array, table, Members, no_members, member, get_member, as_integer}
+use Rattle.toml.specs.Data.{Data, string, integer, float, boolean, datetime, array, table, Members, no_members, member, get_member, as_integer, is_before}
 use Rattle.toml.specs.Parse.{parse_document}
 use Rattle.penalty_sheet.specs.declared.fault.SheetFault.{SheetFault}
 use Rattle.penalty_sheet.specs.declared.fault.SheetFault.TheVariants.{TooLong, NotToml, UnknownKey, NotWhole, Weight, Memory}
@@ -47,10 +47,33 @@ abbrev pub fault_or : Option SheetFault → Option SheetFault → Option SheetFa
 fault_or (Some fault) other = Some fault
 fault_or None other = other
 
--- with the first entry at fault. The entries stand in the order of their keys' bytes
+-- with the first entry at fault
 abbrev pub first_fault : (List ℕ → Data → Option SheetFault) → Members → Option SheetFault
 first_fault wrong no_members = None
 first_fault wrong (member key value rest) = fault_or (wrong key value) (first_fault wrong rest)
+
+-- ---- in which order
+
+-- the keys of entries stand in the order of their bytes: each comes before the next one
+abbrev pub keys_ascend : Members → Bool
+keys_ascend no_members = true
+keys_ascend (member key value rest) = is_before key rest && keys_ascend rest
+
+-- so do those of the table of weights, where there is one
+abbrev pub weights_ascend : Option Data → Bool
+weights_ascend None = true
+weights_ascend (Some (table entries)) = keys_ascend entries
+weights_ascend (Some (string text)) = true
+weights_ascend (Some (integer number)) = true
+weights_ascend (Some (float number)) = true
+weights_ascend (Some (boolean truth)) = true
+weights_ascend (Some (datetime date)) = true
+weights_ascend (Some (array items)) = true
+
+-- the keys of a document stand in the order of their bytes, and those of its weights
+pub record IsInOrder (top : Members) : Type 0 where
+  pub keys : keys_ascend top ≡ true
+  pub weights : first_fault top_fault top ≡ None → weights_ascend (get_member (codes "weights") top) ≡ true
 
 -- ---- what is said
 

@@ -1,10 +1,10 @@
 //! The entries of a sheet: what may be wrong with them, and what they say.
 
-ghost use Rattle.std.specs.Prelude.{◌≡◌, ◌≢◌, ◌≤◌, ◌≤ℤ◌, pos, None, Some, IfErr, IfOk, OnOk};
+ghost use Rattle.std.specs.Prelude.{◌≡◌, true, ◌≢◌, ◌≤◌, ◌≤ℤ◌, pos, None, Some, IfErr, IfOk, OnOk};
 ghost use Rattle.std.specs.Option.{option_and_then};
 ghost use Rattle.toml.specs.Data.{as_integer, get_member};
 ghost use Rattle.toml.specs.View.{view, table_view};
-ghost use Rattle.penalty_sheet.specs.Sheets.{entry_fault, first_fault, is_toll_key, sheet_in, toll_key, top_fault, weight_in};
+ghost use Rattle.penalty_sheet.specs.Sheets.{entry_fault, first_fault, is_toll_key, keys_ascend, sheet_in, toll_key, top_fault, weight_in};
 
 use crate::fault::SheetFault;
 use crate::sheet::{Sheet, default_sheet};
@@ -87,6 +87,7 @@ fn check_weight(alloc: Global, key: &str, value: &Value) -> Result<(), SheetFaul
 /// Refuses a table of weights for its first entry that is at fault.
 pub fn check_weights(alloc: Global, table: &Table) -> Result<(), SheetFault>
     ensures ok { OnOk result (first_fault entry_fault (table_view table.now) ≡ None) }
+    ensures ordered { keys_ascend (table_view table.now) ≡ true }
     ensures fault { IfErr result (λ fault. fault ≢ SheetFault.Memory → first_fault entry_fault (table_view table.now) ≡ Some fault) }
 {
     for (key, value) in table.iter() {
@@ -98,6 +99,7 @@ pub fn check_weights(alloc: Global, table: &Table) -> Result<(), SheetFault>
 /// Refuses a document for its first key that isn't `weights`.
 pub fn check_keys(alloc: Global, document: &Table) -> Result<(), SheetFault>
     ensures ok { OnOk result (first_fault top_fault (table_view document.now) ≡ None) }
+    ensures ordered { keys_ascend (table_view document.now) ≡ true }
     ensures fault { IfErr result (λ fault. fault ≢ SheetFault.Memory → first_fault top_fault (table_view document.now) ≡ Some fault) }
 {
     for (key, _value) in document.iter() {

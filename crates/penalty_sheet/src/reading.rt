@@ -1,9 +1,9 @@
 //! Reading a sheet of weights.
 
-ghost use Rattle.std.specs.Prelude.{◌≡◌, ◌≢◌, IfErr, IfOk, None, Some, Err, Ok, option_map};
-ghost use Rattle.toml.specs.Data.{get_member};
+ghost use Rattle.std.specs.Prelude.{◌≡◌, ◌≢◌, ◌≤◌, true, length, IfErr, IfOk, None, Some, Err, Ok, option_map};
+ghost use Rattle.toml.specs.Data.{Members, get_member};
 ghost use Rattle.toml.specs.View.{table_view, view};
-ghost use Rattle.penalty_sheet.specs.Sheets.{document_of, document_said, HasSheetFault, IsSheetOf, weights_said};
+ghost use Rattle.penalty_sheet.specs.Sheets.{document_of, document_said, HasSheetFault, IsInOrder, IsSheetOf, weights_ascend, weights_said};
 
 use crate::entries::{check_keys, check_weights, label, sheet_in};
 use crate::fault::SheetFault;
@@ -18,6 +18,7 @@ const MOST_BYTES: usize = 65_536;
 fn weights_sheet(alloc: Global, value: &Value) -> Result<Sheet, SheetFault>
     ensures ok { IfOk result (λ sheet. weights_said (Some (view value.now)) ≡ Ok sheet) }
     ensures fault { IfErr result (λ fault. fault ≢ SheetFault.Memory → weights_said (Some (view value.now)) ≡ Err fault) }
+    ensures ordered { result ≢ Err SheetFault.Memory → weights_ascend (Some (view value.now)) ≡ true }
 {
     let table = match value.as_table() {
         Some(table) => table,
@@ -41,6 +42,7 @@ fn value_at<'a>(table: &'a Table, key: &str) -> Option<&'a Value>
 fn document_sheet(alloc: Global, document: &Table) -> Result<Sheet, SheetFault>
     ensures ok { IfOk result (λ sheet. document_said (table_view document.now) ≡ Ok sheet) }
     ensures fault { IfErr result (λ fault. fault ≢ SheetFault.Memory → document_said (table_view document.now) ≡ Err fault) }
+    ensures ordered { result ≢ Err SheetFault.Memory → IsInOrder (table_view document.now) }
 {
     check_keys(alloc, document)?;
     match value_at(document, "weights") {
@@ -72,6 +74,9 @@ pub fn read_sheet(alloc: Global, bytes: &[u8]) -> Result<Sheet, SheetFault>
     ensures fault { IfErr result (λ fault. fault ≢ SheetFault.Memory → HasSheetFault bytes.now fault) }
     // A sheet is refused for want of memory only.
     ensures only { (sheet : Sheet) → IsSheetOf bytes.now sheet → IfErr result (λ fault. fault ≡ SheetFault.Memory) }
+    // The first entry at fault is the first in the order of the keys' bytes.
+    ensures by_bytes { (top : Members) → document_of bytes.now ≡ Some top → length bytes.now ≤ 65536 →
+        result ≢ Err SheetFault.Memory → IsInOrder top }
 {
     if bytes.len() > MOST_BYTES {
         return Err(SheetFault::TooLong);
