@@ -18,11 +18,13 @@ line_part-first byte bytes = at (byte == 10)
     at false = (line_part bytes, refl)
 
 -- the bytes so far, the next byte, and the rest of the part
-module _ (before now : Begun) (piece : List ℕ) (i : ℕ) (here : i < length piece) (read : begun_bytes now ≡ begun_bytes before ++ take i piece)
+module _ (before now : Begun) (piece : List ℕ) (i : ℕ) (here : i < length piece)
+    (read : begun_bytes now ≡ begun_bytes before ++ take i piece)
     (part : line_part piece ≡ take i piece ++ line_part (drop i piece)) where
   read_more : begun_bytes now ++ get_or piece i 0 ∷ [] ≡ begun_bytes before ++ take (i + 1) piece
   read_more =
-      ap (λ t. t ++ get_or piece i 0 ∷ []) read ∙ append_assoc (begun_bytes before) (take i piece) (get_or piece i 0 ∷ [])
+      ap (λ t. t ++ get_or piece i 0 ∷ []) read
+      ∙ append_assoc (begun_bytes before) (take i piece) (get_or piece i 0 ∷ [])
       ∙ ap (λ t. begun_bytes before ++ t) (sym (take_more piece i 0 here))
 
   part_next : line_part piece ≡ take i piece ++ line_part (get_or piece i 0 ∷ drop (i + 1) piece)
@@ -35,7 +37,8 @@ module _ (before now : Begun) (piece : List ℕ) (i : ℕ) (here : i < length pi
       ∙ ap (λ b. take i piece ++ b ∷ []) (sym lf)
       ∙ sym (take_more piece i 0 here)
 
-  part_begun : (BeginsClaim (begun_bytes now ++ get_or piece i 0 ∷ []) → ⊥) → BeginsClaim (begun_bytes before ++ line_part piece) → ⊥
+  part_begun : (BeginsClaim (begun_bytes now ++ get_or piece i 0 ∷ []) → ⊥)
+      → BeginsClaim (begun_bytes before ++ line_part piece) → ⊥
   part_begun wrong begins =
       let (more, first) = line_part-first (get_or piece i 0) (drop (i + 1) piece) in
       let whole : begun_bytes before ++ line_part piece ≡ (begun_bytes now ++ get_or piece i 0 ∷ []) ++ more =
@@ -45,7 +48,8 @@ module _ (before now : Begun) (piece : List ℕ) (i : ℕ) (here : i < length pi
       ∙ sym (append_assoc (begun_bytes now) (get_or piece i 0 ∷ []) more) in
       wrong (begins_front (begun_bytes now ++ get_or piece i 0 ∷ []) more (subst BeginsClaim whole begins))
 
-  pub stop_here : (step : Step) → ((longer : Begun) → step ≡ Goes longer → ⊥) → StepTells now (get_or piece i 0) step → StopStep before piece (i + 1) step
+  pub stop_here : (step : Step) → ((longer : Begun) → step ≡ Goes longer → ⊥)
+      → StepTells now (get_or piece i 0) step → StopStep before piece (i + 1) step
   stop_here (Goes longer) stops tells = absurd (stops longer refl)
   stop_here (Ends claim) stops (fits, line, lf) = (fits, line ∙ read_more, omega (arith, here), part_ends lf)
   stop_here Wrong stops wrong = part_begun wrong

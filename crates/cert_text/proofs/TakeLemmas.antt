@@ -15,8 +15,20 @@ use Rattle.cert_text.specs.Takes.{Takes}
 begun_begins : (begun : Begun) → IsBegun begun → BeginsClaim (begun_bytes begun)
 begun_begins Nothing fits = record { claim = Open; fits = fits; rest = codes "o" ++ 10 ∷ []; whole = refl }
 begun_begins (Word claim) fits = record { claim = claim; fits = fits; rest = 10 ∷ []; whole = refl }
-begun_begins Letter fits = record { claim = Broken 1; fits = (omega arith, omega arith); rest = 32 ∷ (decimal 1 ++ 10 ∷ []); whole = refl }
-begun_begins Blank fits = record { claim = Broken 1; fits = (omega arith, omega arith); rest = decimal 1 ++ 10 ∷ []; whole = refl }
+begun_begins Letter fits = record {
+  claim = Broken 1;
+  fits = (omega arith, omega arith);
+  rest = 32 ∷
+      (decimal 1 ++ 10 ∷ []);
+  whole = refl;
+}
+begun_begins Blank fits = record {
+  claim = Broken 1;
+  fits =
+      (omega arith, omega arith);
+  rest = decimal 1 ++ 10 ∷ [];
+  whole = refl;
+}
 
 -- the line that goes on
 pub record GoesOn (old new : Reading) (after : Begun) (used : ℕ) : Type 0 where

@@ -34,9 +34,11 @@ StepTells before byte Wrong = BeginsClaim (begun_bytes before ++ byte ∷ []) �
 -- what a piece makes of it
 abbrev pub StopStep : Begun → List ℕ → ℕ → Step → Type 0
 StopStep before piece used (Goes after) =
-    IsBegun after × (begun_bytes after ≡ begun_bytes before ++ piece) × (used ≡ length piece) × (line_part piece ≡ piece)
+    IsBegun after × (begun_bytes after ≡ begun_bytes before ++ piece) × (used ≡ length piece) ×
+    (line_part piece ≡ piece)
 StopStep before piece used (Ends claim) =
-    IsClaim claim × (claim_line claim ≡ begun_bytes before ++ take used piece) × (used ≤ length piece) × (line_part piece ≡ take used piece)
+    IsClaim claim × (claim_line claim ≡ begun_bytes before ++ take used piece) ×
+    (used ≤ length piece) × (line_part piece ≡ take used piece)
 StopStep before piece used Wrong = BeginsClaim (begun_bytes before ++ line_part piece) → ⊥
 
 abbrev pub StopTells : Begun → List ℕ → Stop → Type 0

@@ -3,7 +3,8 @@ use Rattle.std.specs.Prelude.{ℕ, ◌+◌, ◌-◌, ◌^◌, ◌≤◌, List, l
 use Rattle.cert_text.specs.declared.begun.Begun.{Begun}
 use Rattle.cert_text.specs.Begun.{begun_bytes, begun_rule}
 
--- the place of the next byte, the number of bytes that were used, the bytes of the line that was begun, and the place of the line
+-- the place of the next byte, the number of bytes that were used, the bytes of the line that was
+-- begun, and the place of the line
 -- that was refused
 pub record Reading : Type 0 where
   pub next : ℕ

@@ -1,4 +1,5 @@
--- What a reader of claims makes of a piece. The bytes of the line are those that were begun, and those of the piece through its
+-- What a reader of claims makes of a piece. The bytes of the line are those that were begun, and
+-- those of the piece through its
 -- first line feed.
 use Rattle.std.specs.Prelude.{◌≡◌, ℕ, ◌+◌, ◌≤◌, List, [], ◌++◌, length, take, Some, None, IfSome}
 use Rattle.cert_text.specs.declared.answers.CertFault.{CertFault}

@@ -76,7 +76,8 @@ fn after_blank(byte: u8) -> Step
 /// The rule whose number is that of another one and a digit behind it.
 fn with_digit(rule: u8, byte: u8) -> Option<u8>
     requires { 1 ≤ rule }
-    ensures some { IfSome result (λ longer. (10 ≤ longer) × (longer ≤ 26) × (longer + 48 ≡ 10 * rule + byte) × (48 ≤ byte) × (byte ≤ 57)) }
+    ensures some { IfSome result (λ longer. (10 ≤ longer) × (longer ≤ 26)
+        × (longer + 48 ≡ 10 * rule + byte) × (48 ≤ byte) × (byte ≤ 57)) }
     ensures none { result ≡ None → (digit : ℕ) → digit < 10 → byte ≡ 48 + digit → 26 < 10 * rule + digit }
 {
     if rule > 2 || byte < b'0' || byte > b'9' {

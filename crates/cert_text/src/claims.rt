@@ -25,7 +25,8 @@ impl Model for Claims {
 
     ghost Value = { Reading };
 
-    ghost view = { λ c. record { next = c.next; used = c.used; begun = begun_bytes c.begun; refused = c.refused } };
+    ghost view = { λ c.
+        record { next = c.next; used = c.used; begun = begun_bytes c.begun; refused = c.refused } };
 
     ghost invariant = { λ c. IsReading c.next c.used c.begun };
 }
@@ -54,12 +55,14 @@ impl Claims {
 
     /// Takes the next piece, up to the end of a line. The rest of it is the next piece.
     ///
-    /// A line that begins no claim's line is refused by its first byte as soon as its bytes so far do; every later call answers the
-    /// same.
+    /// A line is refused, by the place of its first byte, as soon as its bytes so far begin no claim's line; every later call
+    /// answers the same.
     pub fn take(&mut self, piece: &[u8]) -> Result<Taken, CertFault>
         requires { self.old.used + length piece.now ≤ 2 ^ 40 }
-        ensures taken { self.old.refused ≡ None → IfOk result (λ taken. Takes self.old piece.now taken self.new) }
-        ensures word { self.old.refused ≡ None → IfErr result (λ answer. Refuses self.old piece.now answer self.new) }
+        ensures taken { self.old.refused ≡ None →
+            IfOk result (λ taken. Takes self.old piece.now taken self.new) }
+        ensures word { self.old.refused ≡ None →
+            IfErr result (λ answer. Refuses self.old piece.now answer self.new) }
         ensures again { (at : ℕ) → self.old.refused ≡ Some at → result ≡ Err (CertFault.CertWord at) }
         ensures kept { (at : ℕ) → self.old.refused ≡ Some at → self.new ≡ self.old }
     {
@@ -92,7 +95,12 @@ impl Claims {
         requires begun { IsBegun begun }
         requires limit { self.old.used + used ≤ 2 ^ 40 }
         requires within { length (begun_bytes begun) ≤ self.old.used + used }
-        ensures { self.new ≡ record { next = self.old.next + used; used = self.old.used + used; begun = begun_bytes begun; refused = self.old.refused } }
+        ensures { self.new ≡ record {
+          next = self.old.next + used;
+          used = self.old.used + used;
+          begun = begun_bytes begun;
+          refused = self.old.refused;
+        } }
     {
         self.begun = begun;
         self.next += used as u64;
@@ -102,7 +110,8 @@ impl Claims {
     /// What the end of the bytes is, here: it is wrong within a line, and after a line that was refused.
     pub fn end(&self) -> Result<(), CertFault>
         ensures again { (at : ℕ) → self.now.refused ≡ Some at → result ≡ Err (CertFault.CertWord at) }
-        ensures end { self.now.refused ≡ None → self.now.begun ≢ [] → result ≡ Err (CertFault.CertEnd (line_start self.now)) }
+        ensures end { self.now.refused ≡ None → self.now.begun ≢ [] →
+            result ≡ Err (CertFault.CertEnd (line_start self.now)) }
         ensures ok { self.now.refused ≡ None → self.now.begun ≡ [] → IsOk result }
     {
         if let Some(at) = self.refused {

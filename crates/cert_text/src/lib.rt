@@ -1,4 +1,5 @@
-//! The text of certificates: claim lines read from pieces of any size, and written; and what is answered about certificates.
+//! The text of certificates: the lines of claims, read from pieces of any size and written, and what is answered about
+//! certificates.
 #![tactic(auto)]
 
 mod answers;

@@ -34,12 +34,15 @@ drill_of cantus low high = record {
 -- the range goes up
 rises : (low high : Pitch) → IsNatural 31 low → IsNatural 38 high → key_of low ≤ℤ key_of high
 rises low high l h =
-    let bottom : key_of low ≡ key_at 31 (pos 0) = ap (λ d. key_at d (alter_of low)) l.degree_is ∙ ap (key_at 31) l.alter_is in
-    let top : key_of high ≡ key_at 38 (pos 0) = ap (λ d. key_at d (alter_of high)) h.degree_is ∙ ap (key_at 38) h.alter_is in
+    let bottom : key_of low ≡ key_at 31 (pos 0) = ap (λ d. key_at d (alter_of low)) l.degree_is
+    ∙ ap (key_at 31) l.alter_is in
+    let top : key_of high ≡ key_at 38 (pos 0) = ap (λ d. key_at d (alter_of high)) h.degree_is
+    ∙ ap (key_at 38) h.alter_is in
     let up : key_at 31 (pos 0) ≤ℤ key_at 38 (pos 0) = search rules in
     subst (λ k. k ≤ℤ key_of high) (sym bottom) (subst (λ k. key_at 31 (pos 0) ≤ℤ k) (sym top) up)
 
-range_fits : (cantus : List Pitch) (low high : Pitch) → IsNatural 31 low → IsNatural 38 high → IsRangeLine (drill_of cantus low high) (drill_line low high)
+range_fits : (cantus : List Pitch) (low high : Pitch) → IsNatural 31 low → IsNatural 38 high
+    → IsRangeLine (drill_of cantus low high) (drill_line low high)
 range_fits cantus low high l h = record {
   free = record { there = omega arith; no_cantus = λ e. omega arith };
   rises = rises low high l h;
@@ -47,13 +50,15 @@ range_fits cantus low high l h = record {
 }
 
 -- the free voice has its range
-has_range : (cantus : List Pitch) (low high : Pitch) (v : ℕ) → IsFree (drill_of cantus low high) v → BeginsWithWhole (range_lines (drill_of cantus low high) v)
+has_range : (cantus : List Pitch) (low high : Pitch) (v : ℕ) → IsFree (drill_of cantus low high) v
+    → BeginsWithWhole (range_lines (drill_of cantus low high) v)
 has_range cantus low high v free =
     let one : 1 ≡ v = omega (arith, free.there, free.no_cantus) in
     let P : ℕ → Type 0 = λ w. BeginsWithWhole (range_lines (drill_of cantus low high) w) in
     subst P one (refl, All-nil _)
 
-valid : (n : ℕ) (cantus : List Pitch) (low high : Pitch) → map degree_of cantus ≡ drill_degrees n → IsNatural 31 low → IsNatural 38 high
+valid : (n : ℕ) (cantus : List Pitch) (low high : Pitch) → map degree_of cantus ≡ drill_degrees n
+    → IsNatural 31 low → IsNatural 38 high
     → IsValid (drill_of cantus low high)
 valid n cantus low high degrees l h = record {
   fewest_voices = omega arith;
@@ -66,14 +71,16 @@ valid n cantus low high degrees l h = record {
   cantus_there = omega arith;
   differ = λ e. omega arith;
   whole_cantus = sym (length-map cantus degree_of) ∙ ap length degrees ∙ length-drill_degrees n;
-  range_lines_fit = All-cons (IsRangeLine (drill_of cantus low high)) (drill_line low high) [] (range_fits cantus low high l h) (All-nil _);
+  range_lines_fit = All-cons (IsRangeLine (drill_of cantus low high)) (drill_line low high) []
+      (range_fits cantus low high l h) (All-nil _);
   each_has_range = has_range cantus low high;
   relax_fit = All-nil _;
   few_relax = omega arith;
   setting = tt;
 }
 
-pub is_drill : (n : ℕ) (cantus : List Pitch) (low high : Pitch) → map degree_of cantus ≡ drill_degrees n → AreNaturals cantus
+pub is_drill : (n : ℕ) (cantus : List Pitch) (low high : Pitch)
+    → map degree_of cantus ≡ drill_degrees n → AreNaturals cantus
     → IsNatural 31 low → IsNatural 38 high → IsDrill n (drill_of cantus low high)
 is_drill n cantus low high degrees naturals l h = record {
   valid = valid n cantus low high degrees l h;

@@ -19,7 +19,8 @@ pub record IsWeight (number : Option ℤ) : Type 0 where
   pub is : number ≡ Some (pos weight)
   pub small : weight ≤ 10000
 
-weight_tested : (key : List ℕ) (n : ℕ) (b : Bool) → nat_le n 10000 ≡ b → (if b then None else Some (Weight key (pos n))) ≡ None → IsWeight (Some (pos n))
+weight_tested : (key : List ℕ) (n : ℕ) (b : Bool) → nat_le n 10000 ≡ b
+    → (if b then None else Some (Weight key (pos n))) ≡ None → IsWeight (Some (pos n))
 weight_tested key n true test none = record { weight = n; is = refl; small = grind (arith, nat_tests) }
 weight_tested key n false test none = cc
 
@@ -28,7 +29,9 @@ number_weight key None none = cc
 number_weight key (Some (pos n)) none = weight_tested key n (nat_le n 10000) refl none
 number_weight key (Some (negsuc n)) none = cc
 
-key_tested : (key : List ℕ) (value : Data) (b : Bool) → (if b then number_fault key (as_integer value) else Some (UnknownKey key)) ≡ None → IsWeight (as_integer value)
+key_tested : (key : List ℕ) (value : Data) (b : Bool)
+    → (if b then number_fault key (as_integer value) else Some (UnknownKey key)) ≡ None
+    → IsWeight (as_integer value)
 key_tested key value true none = number_weight key (as_integer value) none
 key_tested key value false none = cc
 
@@ -40,7 +43,8 @@ both_right (Some fault) b none = cc
 -- a number is found here, or among the other entries
 found_here : (key other : List ℕ) (here value : Data) (rest : Members) (o : Ordering) → entry_fault other here ≡ None
     → (get_member key rest ≡ Some value → IsWeight (as_integer value))
-    → match_ordering o (get_member key rest) (Some here) (get_member key rest) ≡ Some value → IsWeight (as_integer value)
+    → match_ordering o (get_member key rest) (Some here) (get_member key rest) ≡ Some value
+    → IsWeight (as_integer value)
 found_here key other here value rest Less right others found = others found
 found_here key other here value rest Greater right others found = others found
 found_here key other here value rest Equal right others found =
@@ -58,12 +62,14 @@ pub number_found : (key : List ℕ) (entries : Members) (number : ℤ) → first
     → Some number ≡ option_and_then as_integer (get_member key entries) → IsWeight (Some number)
 number_found key entries number right found = at (get_member key entries) refl found
   where
-    at : (value : Option Data) → get_member key entries ≡ value → Some number ≡ option_and_then as_integer value → IsWeight (Some number)
+    at : (value : Option Data) → get_member key entries ≡ value
+        → Some number ≡ option_and_then as_integer value → IsWeight (Some number)
     at None is found = cc
     at (Some value) is found = subst IsWeight (sym found) (weight_found key entries value right is)
 
 -- a weight is within the limits, also as it is kept in 64 bits
-pub weight_fits : (number : ℤ) → IsWeight (Some number) → (pos 0 ≤ℤ to_z w64 (of_z w64 number)) × (to_z w64 (of_z w64 number) ≤ℤ pos 10000)
+pub weight_fits : (number : ℤ) → IsWeight (Some number)
+    → (pos 0 ≤ℤ to_z w64 (of_z w64 number)) × (to_z w64 (of_z w64 number) ≤ℤ pos 10000)
 weight_fits number w =
     let is : pos w.weight ≡ number = cc in
     let small = w.small in

@@ -7,7 +7,9 @@ use Rattle.toml.specs.View.{members_view}
 use Rattle.toml.proofs.Views.{Entry, is_before-sorted}
 use Rattle.penalty_sheet.specs.Sheets.{keys_ascend}
 
-pub keys_ascend-sorted : (entries : List Entry) → IsStrictlySortedBy string_cmp (keys_of entries) → keys_ascend (members_view entries) ≡ true
+pub keys_ascend-sorted : (entries : List Entry) → IsStrictlySortedBy string_cmp (keys_of entries)
+    → keys_ascend (members_view entries) ≡ true
 unfolding IsStrictlySortedBy
 keys_ascend-sorted [] sorted = refl
-keys_ascend-sorted (entry ∷ entries) sorted = rw (is_before-sorted entry.0 entries sorted.0, keys_ascend-sorted entries sorted.1) refl
+keys_ascend-sorted (entry ∷ entries) sorted = rw
+    (is_before-sorted entry.0 entries sorted.0, keys_ascend-sorted entries sorted.1) refl

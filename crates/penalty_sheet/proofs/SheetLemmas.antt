@@ -29,7 +29,8 @@ unfolding sheet_in
 default_sheet_in = refl
 
 -- bytes that are a sheet have no fault, so what is answered in its place is want of memory
-not_at_fault : (bytes : List ℕ) (sheet : Sheet) (fault : SheetFault) → (fault ≢ Memory → sheet_of bytes ≡ Err fault) → sheet_of bytes ≡ Ok sheet → fault ≡ Memory
+not_at_fault : (bytes : List ℕ) (sheet : Sheet) (fault : SheetFault) → (fault ≢ Memory
+    → sheet_of bytes ≡ Err fault) → sheet_of bytes ≡ Ok sheet → fault ≡ Memory
 not_at_fault bytes sheet Memory told is = refl
 not_at_fault bytes sheet TooLong told is = let h = told (λ e. cc) in cc
 not_at_fault bytes sheet NotToml told is = let h = told (λ e. cc) in cc
@@ -37,7 +38,8 @@ not_at_fault bytes sheet (UnknownKey key) told is = let h = told (λ e. cc) in c
 not_at_fault bytes sheet (NotWhole key) told is = let h = told (λ e. cc) in cc
 not_at_fault bytes sheet (Weight key value) told is = let h = told (λ e. cc) in cc
 
-pub only_memory : (bytes : List ℕ) (sheet : Sheet) (result : Result Sheet SheetFault) → IfErr result (λ fault. fault ≢ Memory → HasSheetFault bytes fault)
+pub only_memory : (bytes : List ℕ) (sheet : Sheet) (result : Result Sheet SheetFault)
+    → IfErr result (λ fault. fault ≢ Memory → HasSheetFault bytes fault)
     → IsSheetOf bytes sheet → IfErr result (λ fault. fault ≡ Memory)
 only_memory bytes sheet (Ok other) told is = tt
 only_memory bytes sheet (Err fault) told is = not_at_fault bytes sheet fault told is

@@ -65,7 +65,8 @@ pub fn label(alloc: Global, key: &str) -> Result<Label, SheetFault>
 /// Refuses an entry of the table of weights that is at fault.
 fn check_weight(alloc: Global, key: &str, value: &Value) -> Result<(), SheetFault>
     ensures ok { OnOk result (entry_fault key.now (view value.now) ≡ None) }
-    ensures fault { IfErr result (λ fault. fault ≢ SheetFault.Memory → entry_fault key.now (view value.now) ≡ Some fault) }
+    ensures fault { IfErr result (λ fault. fault ≢ SheetFault.Memory →
+        entry_fault key.now (view value.now) ≡ Some fault) }
 {
     if !is_toll_key(key) {
         let key = label(alloc, key)?;
@@ -88,7 +89,8 @@ fn check_weight(alloc: Global, key: &str, value: &Value) -> Result<(), SheetFaul
 pub fn check_weights(alloc: Global, table: &Table) -> Result<(), SheetFault>
     ensures ok { OnOk result (first_fault entry_fault (table_view table.now) ≡ None) }
     ensures ordered { keys_ascend (table_view table.now) ≡ true }
-    ensures fault { IfErr result (λ fault. fault ≢ SheetFault.Memory → first_fault entry_fault (table_view table.now) ≡ Some fault) }
+    ensures fault { IfErr result (λ fault. fault ≢ SheetFault.Memory →
+        first_fault entry_fault (table_view table.now) ≡ Some fault) }
 {
     for (key, value) in table.iter() {
         check_weight(alloc, key.as_str(), value)?;
@@ -100,7 +102,8 @@ pub fn check_weights(alloc: Global, table: &Table) -> Result<(), SheetFault>
 pub fn check_keys(alloc: Global, document: &Table) -> Result<(), SheetFault>
     ensures ok { OnOk result (first_fault top_fault (table_view document.now) ≡ None) }
     ensures ordered { keys_ascend (table_view document.now) ≡ true }
-    ensures fault { IfErr result (λ fault. fault ≢ SheetFault.Memory → first_fault top_fault (table_view document.now) ≡ Some fault) }
+    ensures fault { IfErr result (λ fault. fault ≢ SheetFault.Memory →
+        first_fault top_fault (table_view document.now) ≡ Some fault) }
 {
     for (key, _value) in document.iter() {
         if key.as_str() != "weights" {

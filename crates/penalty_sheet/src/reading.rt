@@ -17,7 +17,8 @@ const MOST_BYTES: usize = 65_536;
 /// The sheet that the value of `weights` is.
 fn weights_sheet(alloc: Global, value: &Value) -> Result<Sheet, SheetFault>
     ensures ok { IfOk result (λ sheet. weights_said (Some (view value.now)) ≡ Ok sheet) }
-    ensures fault { IfErr result (λ fault. fault ≢ SheetFault.Memory → weights_said (Some (view value.now)) ≡ Err fault) }
+    ensures fault { IfErr result (λ fault. fault ≢ SheetFault.Memory →
+        weights_said (Some (view value.now)) ≡ Err fault) }
     ensures ordered { result ≢ Err SheetFault.Memory → weights_ascend (Some (view value.now)) ≡ true }
 {
     let table = match value.as_table() {
@@ -41,7 +42,8 @@ fn value_at<'a>(table: &'a Table, key: &str) -> Option<&'a Value>
 /// The sheet that a document is.
 fn document_sheet(alloc: Global, document: &Table) -> Result<Sheet, SheetFault>
     ensures ok { IfOk result (λ sheet. document_said (table_view document.now) ≡ Ok sheet) }
-    ensures fault { IfErr result (λ fault. fault ≢ SheetFault.Memory → document_said (table_view document.now) ≡ Err fault) }
+    ensures fault { IfErr result (λ fault. fault ≢ SheetFault.Memory →
+        document_said (table_view document.now) ≡ Err fault) }
     ensures ordered { result ≢ Err SheetFault.Memory → IsInOrder (table_view document.now) }
 {
     check_keys(alloc, document)?;
@@ -54,7 +56,8 @@ fn document_sheet(alloc: Global, document: &Table) -> Result<Sheet, SheetFault>
 /// The document that bytes are.
 fn document(alloc: Global, bytes: &[u8]) -> Result<Table, SheetFault>
     ensures ok { IfOk result (λ table. document_of bytes.now ≡ Some (table_view table)) }
-    ensures fault { IfErr result (λ fault. fault ≢ SheetFault.Memory → (fault ≡ SheetFault.NotToml) × (document_of bytes.now ≡ None)) }
+    ensures fault { IfErr result (λ fault. fault ≢ SheetFault.Memory →
+        (fault ≡ SheetFault.NotToml) × (document_of bytes.now ≡ None)) }
 {
     let text = match str::from_utf8(bytes) {
         Ok(text) => text,
@@ -67,13 +70,14 @@ fn document(alloc: Global, bytes: &[u8]) -> Result<Table, SheetFault>
     }
 }
 
-/// Reads a sheet: a TOML document of at most 65,536 bytes whose one key is `weights`, a table with whole numbers from 0 to 10,000
-/// for some of `Q1` to `Q20`. A toll that the table leaves out has the weight that it has in the default sheet.
+/// Reads a sheet: a TOML document of at most 65,536 bytes whose one key is `weights`, a table with whole numbers from 0 to
+/// 10,000 for some of `Q1` to `Q20`. A toll that the table leaves out has the weight that it has in the default sheet.
 pub fn read_sheet(alloc: Global, bytes: &[u8]) -> Result<Sheet, SheetFault>
     ensures ok { IfOk result (IsSheetOf bytes.now) }
     ensures fault { IfErr result (λ fault. fault ≢ SheetFault.Memory → HasSheetFault bytes.now fault) }
     // A sheet is refused for want of memory only.
-    ensures only { (sheet : Sheet) → IsSheetOf bytes.now sheet → IfErr result (λ fault. fault ≡ SheetFault.Memory) }
+    ensures only { (sheet : Sheet) → IsSheetOf bytes.now sheet →
+        IfErr result (λ fault. fault ≡ SheetFault.Memory) }
     // The first entry at fault is the first in the order of the keys' bytes.
     ensures by_bytes { (top : Members) → document_of bytes.now ≡ Some top → length bytes.now ≤ 65536 →
         result ≢ Err SheetFault.Memory → IsInOrder top }

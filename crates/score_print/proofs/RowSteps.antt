@@ -8,7 +8,8 @@ use Rattle.fux_grid.specs.Letters.{bar_columns}
 use Rattle.score_print.specs.Printed.{bars_of, padded_cell, printed_bar, printed_cell, cell_width, printed_row}
 
 -- what was written for a part is left no more
-pub moved : (before after part rest whole : List ℕ) → after ≡ before ++ part → before ++ (part ++ rest) ≡ whole → after ++ rest ≡ whole
+pub moved : (before after part rest whole : List ℕ) → after ≡ before ++ part
+    → before ++ (part ++ rest) ≡ whole → after ++ rest ≡ whole
 moved before after part rest whole e so_far = ap (λ t. t ++ rest) e ∙ append_assoc before part rest ∙ so_far
 
 -- the first number of a range, and the range behind it
@@ -25,17 +26,20 @@ range-last a (suc n) =
     ap (λ t. a ∷ t) (range-last (a + 1) n) ∙ ap (λ k. a ∷ (range_with_len (a + 1) n ++ k ∷ [])) e
 
 -- the voices that are left, from the highest
-pub rows-next : (f : ℕ → List ℕ) (n : ℕ) → flat_map f (reverse (range_with_len 0 (suc n))) ≡ f n ++ flat_map f (reverse (range_with_len 0 n))
+pub rows-next : (f : ℕ → List ℕ) (n : ℕ)
+    → flat_map f (reverse (range_with_len 0 (suc n))) ≡ f n ++ flat_map f (reverse (range_with_len 0 n))
 rows-next f n =
     ap (λ t. flat_map f (reverse t)) (range-last 0 n ∙ ap (λ k. range_with_len 0 n ++ k ∷ []) (omega arith))
     ∙ ap (flat_map f) (reverse-append (range_with_len 0 n) (n ∷ []))
 
 -- the bars that are left
-pub bars-next : (f : ℕ → List ℕ) (a b : ℕ) → a < b → flat_map f (range_with_len a (b - a)) ≡ f a ++ flat_map f (range_with_len (a + 1) (b - (a + 1)))
+pub bars-next : (f : ℕ → List ℕ) (a b : ℕ) → a < b
+    → flat_map f (range_with_len a (b - a)) ≡ f a ++ flat_map f (range_with_len (a + 1) (b - (a + 1)))
 bars-next f a b h = ap (flat_map f) (range-next a b h)
 
 -- the columns of a bar that are left
-pub columns-next : (f : List Cell → List ℕ) (columns : List (List Cell)) (bar slot : ℕ) → 1 ≤ bar → slot < 8 → 8 * bar ≤ length columns
+pub columns-next : (f : List Cell → List ℕ) (columns : List (List Cell)) (bar slot : ℕ) → 1 ≤ bar
+    → slot < 8 → 8 * bar ≤ length columns
     → flat_map f (drop slot (bar_columns columns bar))
     ≡ f (get_or columns (8 * (bar - 1) + slot) []) ++ flat_map f (drop (slot + 1) (bar_columns columns bar))
 columns-next f columns bar slot first here whole =
@@ -46,16 +50,20 @@ columns-next f columns bar slot first here whole =
     (get_or-take 8 rest slot [] here ∙ get_or-drop start columns slot [])
 
 -- the bars of a row, by their numbers
-flat_map-map : (f : List (List Cell) → List ℕ) (g : ℕ → List (List Cell)) (xs : List ℕ) → flat_map f (map g xs) ≡ flat_map (λ x. f (g x)) xs
+flat_map-map : (f : List (List Cell) → List ℕ) (g : ℕ → List (List Cell)) (xs : List ℕ)
+    → flat_map f (map g xs) ≡ flat_map (λ x. f (g x)) xs
 flat_map-map f g [] = refl
 flat_map-map f g (x ∷ xs) = ap (λ t. f (g x) ++ t) (flat_map-map f g xs)
 
 -- a row: the voice and a space, the bars, and the last bar line
 pub printed_row-parts : (v bars : ℕ) (columns : List (List Cell)) → printed_row v (bars_of bars columns)
-    ≡ (decimal v ++ codes " ") ++ (flat_map (λ bar. printed_bar v (bar_columns columns bar)) (range_with_len 1 bars) ++ (codes "|" ++ 10 ∷ []))
+    ≡ (decimal v ++ codes " ") ++
+    (flat_map (λ bar. printed_bar v (bar_columns columns bar)) (range_with_len 1 bars) ++
+    (codes "|" ++ 10 ∷ []))
 unfolding printed_row
 printed_row-parts v bars columns =
-    ap (λ t. decimal v ++ codes " " ++ t ++ codes "|" ++ 10 ∷ []) (flat_map-map (printed_bar v) (bar_columns columns) (range_with_len 1 bars))
+    ap (λ t. decimal v ++ codes " " ++ t ++ codes "|" ++ 10 ∷ [])
+    (flat_map-map (printed_bar v) (bar_columns columns) (range_with_len 1 bars))
     ∙ append_assoc (head ++ written) (codes "|") (10 ∷ []) ∙ append_assoc head written (codes "|" ++ 10 ∷ [])
   where
     head : List ℕ
@@ -65,7 +73,8 @@ printed_row-parts v bars columns =
     written = flat_map (λ bar. printed_bar v (bar_columns columns bar)) (range_with_len 1 bars)
 
 -- a padded cell: the cell, the spaces that fill it, and one more
-pub padded_cell-parts : (width : ℕ) (cell : Cell) → padded_cell width cell ≡ printed_cell cell ++ (replicate (width - cell_width cell) 32 ++ codes " ")
+pub padded_cell-parts : (width : ℕ) (cell : Cell)
+    → padded_cell width cell ≡ printed_cell cell ++ (replicate (width - cell_width cell) 32 ++ codes " ")
 unfolding padded_cell
 padded_cell-parts width cell = append_assoc (printed_cell cell) (replicate (width - cell_width cell) 32) (codes " ")
 

@@ -7,4 +7,5 @@ pub returns-then-rule-lt10 : goal.returns-then-rule-lt10
 returns-then-rule-lt10 c = ap (λ ds. length (98 ∷ 32 ∷ ds)) (sym (decimal_digit c.args.rule c.if-rule-lt10.true))
 
 pub returns-else-rule-lt10 : goal.returns-else-rule-lt10
-returns-else-rule-lt10 c = ap (λ ds. length (98 ∷ 32 ∷ ds)) (sym (two_digits c.args.rule c.if-rule-lt10.false c.requires.1))
+returns-else-rule-lt10 c = ap (λ ds. length (98 ∷ 32 ∷ ds))
+    (sym (two_digits c.args.rule c.if-rule-lt10.false c.requires.1))

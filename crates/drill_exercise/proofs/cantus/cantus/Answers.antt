@@ -19,7 +19,8 @@ loop-preserved c =
     let (low, high, so_far, naturals) = c.loop.invariant in (
       c.moved-degree.ensures.low,
       c.moved-degree.ensures.high,
-      walked (map degree_of c.loop.line.items) (map degree_of c.put-in-loop.new.line.items) 23 c.loop.counter c.loop.x c.next_number-x.result c.loop.degree c.moved-degree.result
+      walked (map degree_of c.loop.line.items)
+          (map degree_of c.put-in-loop.new.line.items) 23 c.loop.counter c.loop.x c.next_number-x.result c.loop.degree c.moved-degree.result
           (29 ∷ walk 21 c.args.n 29) c.loop-test.true c.in_ok-put-2.ensures.degrees c.next_number-x.ensures.value c.moved-degree.ensures.value so_far,
       c.in_ok-put-2.ensures.naturals naturals,
     )
@@ -31,7 +32,8 @@ returns-clause-degrees c =
     let left : 23 - c.loop.counter ≡ 0 = omega arith in
     let line : map degree_of c.loop.line.items ≡ 29 ∷ walk 21 c.args.n 29 =
     sym (append-nil (map degree_of c.loop.line.items))
-    ∙ ap (λ t. map degree_of c.loop.line.items ++ t) (sym (walk-end (23 - c.loop.counter) c.loop.x c.loop.degree left)) ∙ so_far in
+    ∙ ap (λ t. map degree_of c.loop.line.items ++ t)
+    (sym (walk-end (23 - c.loop.counter) c.loop.x c.loop.degree left)) ∙ so_far in
     c.in_ok-put-4.ensures.degrees ∙ ap (λ t. t ++ 29 ∷ []) (c.in_ok-put-3.ensures.degrees ∙ ap (λ t. t ++ 30 ∷ []) line)
     ∙ append_assoc (29 ∷ walk 21 c.args.n 29) (30 ∷ []) (29 ∷ [])
 

@@ -9,4 +9,5 @@ use Rattle.penalty_sheet.proofs.entries.sheet_in.Given as goal
 abbrev pub invariant-loop-i : goal.invariant-loop-i
 invariant-loop-i l =
     (length l.weights ≡ 20)
-    × ((k : ℕ) → k < l.i → get_or l.weights k 0 ≡ weight_in (table_view l.table) (k + 1) (slice_index default_weights k))
+    × ((k : ℕ) → k < l.i
+    → get_or l.weights k 0 ≡ weight_in (table_view l.table) (k + 1) (slice_index default_weights k))

@@ -11,7 +11,8 @@ returns-in-Err-clause-fault c =
     λ other. (
       refl,
       ap (λ b. if b then parse_document c.args.bytes.now else None)
-          (false_from_ne_true (is_utf8 c.args.bytes.now) (λ h. c.in-Err.ensures.cases.0 (IsUtf8-from_is_utf8 c.args.bytes.now h))),
+          (false_from_ne_true (is_utf8 c.args.bytes.now)
+          (λ h. c.in-Err.ensures.cases.0 (IsUtf8-from_is_utf8 c.args.bytes.now h))),
     )
 
 pub returns-in-Ok-table_from_str-clause-ok : goal.returns-in-Ok-table_from_str-clause-ok

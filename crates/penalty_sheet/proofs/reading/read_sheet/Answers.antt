@@ -11,7 +11,8 @@ returns-then-bytes-gt-MOST_BYTES-clause-fault c = λ other. long_sheet c.args.by
 
 pub returns-in_err-document-clause-fault : goal.returns-in_err-document-clause-fault
 returns-in_err-document-clause-fault c =
-    let short : sheet_of c.args.bytes.now ≡ said_by (document_of c.args.bytes.now) = short_sheet c.args.bytes.now (omega arith) in
+    let short : sheet_of c.args.bytes.now ≡ said_by
+    (document_of c.args.bytes.now) = short_sheet c.args.bytes.now (omega arith) in
     grind (arith, common_steps)
 
 pub returns-clause-ok : goal.returns-clause-ok
@@ -24,7 +25,8 @@ pub returns-clause-fault : goal.returns-clause-fault
 returns-clause-fault c =
     let said : sheet_of c.args.bytes.now ≡ document_said (table_view c.in_ok-document.document) =
     short_sheet c.args.bytes.now (omega arith) ∙ ap said_by c.in_ok-document.ensures.ok in
-    subst (λ r. IfErr c.document_sheet.result (λ fault. fault ≢ Memory → r ≡ Err fault)) (sym said) c.document_sheet.ensures.fault
+    subst (λ r. IfErr c.document_sheet.result (λ fault. fault ≢ Memory
+    → r ≡ Err fault)) (sym said) c.document_sheet.ensures.fault
 
 pub returns-then-bytes-gt-MOST_BYTES-clause-only : goal.returns-then-bytes-gt-MOST_BYTES-clause-only
 returns-then-bytes-gt-MOST_BYTES-clause-only c =

@@ -22,8 +22,18 @@ loop-byte-preserved c =
     let bytes : List ℕ = c.as_bytes-byte-items.result.now in
     let f = λ (b : ℕ). encode_utf8 (printed_char b) in
     let here : ℕ = get_or bytes i 0 in (
-      omega (arith, ap length c.push.ensures.bytes, length-append c.loop-byte.printed.bytes (encode_utf8 c.printed_char.result), length-encode c.printed_char.result, len_utf8_bounds c.printed_char.result, c.loop-byte.invariant.0),
-      moved c.loop-byte.printed.bytes c.push.new.self.bytes (f here) (flat_map f (drop (i + 1) bytes)) (printed_name c.args.p)
+      omega (
+        arith,
+        ap length c.push.ensures.bytes,
+        length-append c.loop-byte.printed.bytes
+            (encode_utf8 c.printed_char.result),
+        length-encode c.printed_char.result,
+        len_utf8_bounds c.printed_char.result,
+        c.loop-byte.invariant.0,
+      ),
+      moved c.loop-byte.printed.bytes c.push.new.self.bytes (f here) (flat_map f (drop (i + 1) bytes))
+          (printed_name c.args.p)
           (c.push.ensures.bytes ∙ ap (λ k. c.loop-byte.printed.bytes ++ encode_utf8 k) c.printed_char.ensures)
-          (ap (λ t. c.loop-byte.printed.bytes ++ flat_map f t) (sym (drop_more bytes i 0 c.loop-byte-test.true)) ∙ c.loop-byte.invariant.1),
+          (ap (λ t. c.loop-byte.printed.bytes ++ flat_map f t)
+          (sym (drop_more bytes i 0 c.loop-byte-test.true)) ∙ c.loop-byte.invariant.1),
     )

@@ -8,4 +8,5 @@ use Rattle.score_print.proofs.cells.printed_name.Given as goal
 abbrev pub invariant-loop-byte : goal.invariant-loop-byte
 invariant-loop-byte l =
     (length l.printed.bytes ≤ 4 * l.byte-index)
-    × (l.printed.bytes ++ flat_map (λ c. encode_utf8 (printed_char c)) (drop l.byte-index l.byte-items) ≡ printed_name l.fn.p)
+    × (l.printed.bytes ++ flat_map (λ c. encode_utf8 (printed_char c))
+    (drop l.byte-index l.byte-items) ≡ printed_name l.fn.p)

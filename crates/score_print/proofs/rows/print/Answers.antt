@@ -14,4 +14,5 @@ loop-v-preserved c =
     moved out (string_bytes c.put_row.new.out) (f n) (flat_map f (reverse (range_with_len 0 n)))
     (printed_score c.args.ex.now.voices c.args.ex.now.bars c.args.score.now.columns)
     c.in_ok-put_row.ensures
-    (ap (λ t. out ++ t) (sym (ap (λ v. flat_map f (reverse (range_with_len 0 v))) next ∙ rows-next f n)) ∙ c.loop-v.invariant)
+    (ap (λ t. out ++ t) (sym (ap (λ v. flat_map f (reverse (range_with_len 0 v))) next
+    ∙ rows-next f n)) ∙ c.loop-v.invariant)

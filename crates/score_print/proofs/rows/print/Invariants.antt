@@ -6,5 +6,6 @@ use Rattle.score_print.proofs.rows.print.Given as goal
 -- what is written so far, and the lines of the voices that are left, are the printed score
 abbrev pub invariant-loop-v : goal.invariant-loop-v
 invariant-loop-v l =
-    string_bytes l.out ++ flat_map (λ v. printed_row v (bars_of l.ex.bars l.score.columns)) (reverse (range_with_len 0 l.v))
+    string_bytes l.out ++ flat_map (λ v. printed_row v (bars_of l.ex.bars l.score.columns))
+    (reverse (range_with_len 0 l.v))
     ≡ printed_score l.ex.voices l.ex.bars l.score.columns

@@ -17,7 +17,10 @@ loop-slot-preserved c =
     let columns = c.args.score.now.columns in
     let f = printed_column c.args.v in
     let out = string_bytes c.loop-slot.out in
-    moved out (string_bytes c.put_column.new.out) (f (get_or columns (8 * (bar - 1) + slot) [])) (flat_map f (drop (slot + 1) (bar_columns columns bar)))
+    moved out (string_bytes c.put_column.new.out) (f (get_or columns (8 * (bar - 1) + slot) []))
+    (flat_map f (drop (slot + 1) (bar_columns columns bar)))
     (string_bytes c.args.out.now ++ printed_bar c.args.v (bar_columns columns bar))
     c.in_ok-put_column.ensures
-    (ap (λ t. out ++ t) (sym (columns-next f columns bar slot c.requires.first c.loop-slot-test.true c.requires.whole)) ∙ c.loop-slot.invariant)
+    (ap (λ t. out ++ t) (sym
+    (columns-next f columns bar slot c.requires.first c.loop-slot-test.true c.requires.whole))
+    ∙ c.loop-slot.invariant)

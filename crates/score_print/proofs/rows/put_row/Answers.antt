@@ -15,7 +15,8 @@ loop-bar-init c =
     let old = string_bytes c.args.out.now in
     let end = codes "|" ++ 10 ∷ [] in
     let all : bars + 1 - 1 ≡ bars = omega arith in
-    moved old (string_bytes c.write.new.self) (decimal v ++ codes " ") (flat_map f (range_with_len 1 (bars + 1 - 1)) ++ end)
+    moved old (string_bytes c.write.new.self) (decimal v ++ codes " ")
+    (flat_map f (range_with_len 1 (bars + 1 - 1)) ++ end)
     (old ++ printed_row v (bars_of bars columns))
     c.in_ok-write.ensures.bytes
     (ap (λ n. old ++ (decimal v ++ codes " " ++ (flat_map f (range_with_len 1 n) ++ end))) all
@@ -31,7 +32,8 @@ loop-bar-preserved c =
     let rest = flat_map f (range_with_len (bar + 1) (bars + 1 - (bar + 1))) in
     let end = codes "|" ++ 10 ∷ [] in
     let out = string_bytes c.loop-bar.out in
-    moved out (string_bytes c.put_bar.new.out) (f bar) (rest ++ end) (string_bytes c.args.out.now ++ printed_row v (bars_of bars columns))
+    moved out (string_bytes c.put_bar.new.out) (f bar) (rest ++ end)
+    (string_bytes c.args.out.now ++ printed_row v (bars_of bars columns))
     c.in_ok-put_bar.ensures
     (ap (λ t. out ++ t) (sym (append_assoc (f bar) rest end))
     ∙ ap (λ t. out ++ (t ++ end)) (sym (bars-next f bar (bars + 1) c.loop-bar-test.true)) ∙ c.loop-bar.invariant)

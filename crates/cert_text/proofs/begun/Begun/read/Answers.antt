@@ -21,7 +21,8 @@ loop-i-preserved c =
     let (begun, read, part) = c.loop-i.invariant in
     let (fits, longer, other) = c.in-Goes.ensures in (
       fits,
-      longer ∙ ap (λ t. t ++ get_or piece i 0 ∷ []) read ∙ append_assoc (begun_bytes c.args.self) (take i piece) (get_or piece i 0 ∷ [])
+      longer ∙ ap (λ t. t ++ get_or piece i 0 ∷ []) read
+          ∙ append_assoc (begun_bytes c.args.self) (take i piece) (get_or piece i 0 ∷ [])
           ∙ ap (λ t. begun_bytes c.args.self ++ t) (sym (take_more piece i 0 c.loop-i-test.true)),
       part_more piece i (get_or piece i 0) c.loop-i-test.true refl other part,
     )
@@ -35,5 +36,6 @@ returns c =
       begun,
       read ∙ ap (λ t. begun_bytes c.args.self ++ t) whole,
       refl,
-      part ∙ ap (λ t. take c.loop-i.i piece ++ line_part t) (drop_all c.loop-i.i piece all) ∙ append-nil (take c.loop-i.i piece) ∙ whole,
+      part ∙ ap (λ t. take c.loop-i.i piece ++ line_part t) (drop_all c.loop-i.i piece all)
+          ∙ append-nil (take c.loop-i.i piece) ∙ whole,
     )

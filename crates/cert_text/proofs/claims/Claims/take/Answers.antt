@@ -14,4 +14,11 @@ returns-in-Goes-clause-taken c =
     λ unrefused. goes_takes c.args.self.now c.go_on.new.self before c.in-Goes.begun piece used
     (sym (ap (λ (r : Reading). r.begun) c.self.view_is))
     (subst P c.in-Goes.is c.read-used.ensures) unrefused
-    (record { next = ap (λ (r : Reading). r.next) c.go_on.ensures; count = ap (λ (r : Reading). r.used) c.go_on.ensures; begun = ap (λ (r : Reading). r.begun) c.go_on.ensures; refused = ap (λ (r : Reading). r.refused) c.go_on.ensures })
+    (record {
+      next = ap (λ (r : Reading). r.next) c.go_on.ensures;
+      count = ap
+          (λ (r : Reading). r.used) c.go_on.ensures;
+      begun = ap
+          (λ (r : Reading). r.begun) c.go_on.ensures;
+      refused = ap (λ (r : Reading). r.refused) c.go_on.ensures;
+    })
