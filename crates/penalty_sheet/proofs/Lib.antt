@@ -1,1 +1,4 @@
+pub mod EntryLemmas
 pub mod FoundLines
+pub mod OrderLemmas
+pub mod SheetLemmas

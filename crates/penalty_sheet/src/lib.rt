@@ -1,10 +1,13 @@
 //! What tolls weigh, and what breaks of rules cost.
 #![tactic(auto)]
 
+mod entries;
+mod fault;
 mod price;
+mod reading;
 mod sheet;
-#[cfg(test)]
-mod tests;
 
+pub use fault::SheetFault;
 pub use price::{Price, price_at};
+pub use reading::read_sheet;
 pub use sheet::{Sheet, default_sheet, weight};

@@ -1,0 +1,54 @@
+//! What is answered about a certificate.
+
+/// What is wrong with the text of a certificate, at a byte counted from 0.
+#[derive(Clone, Copy, Debug, PartialEq, Eq)]
+pub enum CertFault {
+    /// The first byte by which no head goes on, or the end of a text that ends within a head.
+    CertHead { at: u64 },
+    /// The first byte of a line that begins no claim's line.
+    CertWord { at: u64 },
+    /// The first byte of a claim's line that isn't ended.
+    CertEnd { at: u64 },
+    /// There was not enough memory.
+    Memory,
+}
+
+/// Why a certificate is not written.
+#[derive(Clone, Copy, Debug, PartialEq, Eq)]
+pub enum CertWrite {
+    /// It could not be written whole.
+    WriteFault,
+    /// It would have more than 1,073,741,824 bytes.
+    TooLong,
+    /// There was not enough memory.
+    Memory,
+}
+
+/// A claim that is refused, counted from 1, or the head as claim 0.
+#[derive(Clone, Copy, Debug, PartialEq, Eq)]
+pub struct Refused {
+    pub number: u64,
+    pub why: Why,
+}
+
+/// Why a claim is refused.
+#[derive(Clone, Copy, Debug, PartialEq, Eq)]
+pub enum Why {
+    /// The head's setting isn't lawful, or has another penalty.
+    Head,
+    /// The claim is false of its prefix.
+    False,
+    /// No claim is owed.
+    Over,
+    /// A claim is owed and there is none.
+    Short,
+}
+
+/// What a certificate that is accepted shows.
+#[derive(Clone, Copy, Debug, PartialEq, Eq)]
+pub enum Accepted {
+    /// The head's setting is the best one, with this penalty.
+    Best(u64),
+    /// No setting is lawful.
+    Nothing,
+}

@@ -1,0 +1,2 @@
+pub mod ExerciseLemmas
+pub mod WalkLemmas

@@ -1,0 +1,169 @@
+//! Sheets, and what is said of them.
+
+use penalty_sheet::{default_sheet, read_sheet, weight};
+use std::alloc::Global;
+use std::fmt::Write;
+use std::test::Fail;
+
+/// What a sheet is, and the words for its fault, or `read`.
+const SHEETS: [(&str, &str); 61] = [
+    (
+        "[weights] # c\r\n\"\u{e9}\"  =\t1979-00-01\r\nQ18 = 0",
+        "not toml",
+    ),
+    ("[weights]\nQ8 = 1._0", "not toml"),
+    ("[weights]\nQ8 = nope", "not toml"),
+    (
+        "[weights]\nQ8 = '''\\U00110000\\ud800\t,'''''''",
+        "not toml",
+    ),
+    (
+        "[t1]\nx.y = 1\n[t1.x.z]\nweights = {Q7 = { } ,\r\nQ6 = {\n\t},}\n",
+        "unknown key t1",
+    ),
+    ("[weights]\nQ8 = \",\\U00110000\"", "not toml"),
+    ("[weights]\nQ8 = '\\u12a'", "not whole Q8"),
+    ("[weights]\nQ8 = 0b2", "not toml"),
+    (
+        "[weights\r\nQ14 = 0\r\nQ16 = 0\r\nQ3 = 10000\r\nQ1 = 10000\r\nQ19 = 10000\r\n[a]\n[a.b]\n[a.b] ",
+        "not toml",
+    ),
+    ("[weights]\nQ8 = 0000-01-01", "not whole Q8"),
+    ("[weights]\nQ8 = '\\u12'", "not whole Q8"),
+    ("[weights]\nQ8 = 1.5e3", "not whole Q8"),
+    ("[weights]\nQ8 = 10001", "weight Q8 10001"),
+    (
+        "[a]\n#\u{e9}\nQ7 = 0\nQ18 = 10000\na.b = 1\n\n",
+        "unknown key a",
+    ),
+    ("[weights]\nQ8 = 1e-3", "not whole Q8"),
+    ("[weights]\nQ8 = +inf", "not whole Q8"),
+    ("[weights] # c\nQ18 = 1\n", "read"),
+    ("[weights]\nQ8 = +0", "read"),
+    ("[weights]\nQ8 = \"\\\"\\x41\"", "not whole Q8"),
+    ("[weights]\nQ8 = 0x00000000000000000000000000001", "read"),
+    ("weights = {}#", "read"),
+    (
+        "weights = { Q14 = 3\n,Q6 = 1.5e3,\n}\na = 1 ",
+        "unknown key a",
+    ),
+    ("[weights]\nQ8 = 0x1f", "read"),
+    ("[weights]\nQ8 = 1_0", "read"),
+    ("[weights]\nQ8 = -0", "read"),
+    ("weights = {\nQ18 = 0\n,Q12 = 0\n,Q2 = 0,} ", "read"),
+    (
+        "[[weights]]\r\nQ17 = 5\r\n[[a]]\n[a.b]\n[[a]]\n[a.b]\r\na = 1\r\n\r\n",
+        "unknown key a",
+    ),
+    (
+        "[\"weights\"]\r\nk = {a.b = 1, a.c = 2}\r\nQ7 = 1\r\nQ6 = 0\r\n#\t\r\nQ18 = 10000",
+        "unknown key k",
+    ),
+    (
+        "weights.Q8 = 3\r\nweights.Q3 = 3\r\nweights.Q6 = 0\r\n",
+        "read",
+    ),
+    ("[weights]\nQ8 = 0", "read"),
+    ("[weights] # c\r\nQ1 = 1\r\n\r\n", "read"),
+    (
+        "[weights]\nQ8 = -9223372036854775808",
+        "weight Q8 -9223372036854775808",
+    ),
+    (
+        "[ weights ]\r\nQ4 = 10000\r\nQ6 = 10000\r\nQ9 = 2\r\nQ16 = 10000\r\n",
+        "read",
+    ),
+    ("[weights]\nQ8 = -1", "weight Q8 -1"),
+    ("[weights.a]\n\n", "unknown key a"),
+    (
+        "[weights]\nQ8 = 9223372036854775807",
+        "weight Q8 9223372036854775807",
+    ),
+    ("[weights]\nQ8 = 0x1_f", "read"),
+    ("weights = { Q13 = 3,Q4 = 5,Q7 = 1 }#", "read"),
+    ("[weights]\nQ8 = 1", "read"),
+    (
+        "weights = {}\nQ11 = 1\nQ13 = 0\nQ7 = 2\nQ12 = 1 ",
+        "unknown key Q11",
+    ),
+    (
+        "[weights] # c\n[weights.Q1]\nQ7 = 1\nQ6 = 1979-05-27",
+        "not whole Q1",
+    ),
+    (
+        "[weights]\nQ8 = 0x7fffffffffffffff",
+        "weight Q8 9223372036854775807",
+    ),
+    ("[weights]\nQ8 = 0o17", "read"),
+    ("[weights]\nQ16 = 5\n", "read"),
+    ("[weights]\nQ8 = +1", "read"),
+    ("[weights]\nQ1 = 0\n", "read"),
+    (
+        "[weights]\nQ15 = 50\nQ17 = 50\nQ8 = 1\nQ6 = 7\nQ10 = 1\nQ11 = 0\nQ18 = 7\nQ16 = 1\n",
+        "read",
+    ),
+    ("", "read"),
+    ("[weights]\nQ21 = 1\n", "unknown key Q21"),
+    ("[weights]\nQ1 = 10001\n", "weight Q1 10001"),
+    ("[weights]\nQ1 = \"2\"\n", "not whole Q1"),
+    ("[weights]\nQ1 = true\n", "not whole Q1"),
+    ("[weights]\nQ1 = [1]\n", "not whole Q1"),
+    ("[weights]\nQ1 = {x = 1}\n", "not whole Q1"),
+    ("[weights]\nQ1.x = 1\n", "not whole Q1"),
+    ("[weights]\nQ1 = 2\nQ1 = 2\n", "not toml"),
+    ("[weights]\n\"Q1\" = 2\n", "read"),
+    ("\u{feff}[weights]\nQ1 = 2\n", "read"),
+    ("weights = 1\n", "not whole weights"),
+    ("[weights]\nQ2 = -1\nQ10 = -1\nQ01 = 0\n", "unknown key Q01"),
+    ("[weights]\nQ2 = -1\nQ10 = \"1\"\n", "not whole Q10"),
+];
+
+/// The words for a sheet's fault, or `read`.
+fn said(alloc: Global, bytes: &[u8]) -> Result<String, Fail> {
+    let mut said = String::new(alloc);
+    match read_sheet(alloc, bytes) {
+        Ok(_) => said.push_str("read")?,
+        Err(fault) => write!(said, "{fault}")?,
+    }
+    Ok(said)
+}
+
+#[test]
+fn sheets_are_read_or_refused(rt: HostRuntime) -> Result<(), Fail> {
+    for (sheet, expected) in &SHEETS {
+        let said = said(rt.alloc(), sheet.as_bytes())?;
+        assert_eq!(rt; said.as_str(), *expected);
+    }
+    Ok(())
+}
+
+#[test]
+fn the_longest_sheet_is_read(rt: HostRuntime) -> Result<(), Fail> {
+    let mut sheet = vec![in rt.alloc(); b'#'; 65_536]?;
+    let longest = said(rt.alloc(), &sheet)?;
+    assert_eq!(rt; longest.as_str(), "read");
+    sheet.push(b'#')?;
+    let longer = said(rt.alloc(), &sheet)?;
+    assert_eq!(rt; longer.as_str(), "too long");
+    let no_text = said(rt.alloc(), b"#\xff")?;
+    assert_eq!(rt; no_text.as_str(), "not toml");
+    Ok(())
+}
+
+fn is_shared<T: Send + Sync>(_: &T) {}
+
+#[test]
+fn weights_are_kept(rt: HostRuntime) -> Result<(), Fail> {
+    is_shared(&default_sheet());
+    let text = "weights = {Q2 = 7, Q10 = 10000}";
+    match read_sheet(rt.alloc(), text.as_bytes()) {
+        Ok(sheet) => {
+            assert_eq!(rt; weight(&sheet, 1), 2);
+            assert_eq!(rt; weight(&sheet, 2), 7);
+            assert_eq!(rt; weight(&sheet, 10), 10_000);
+            assert_eq!(rt; weight(&sheet, 20), 3);
+        }
+        Err(_) => return Err(Fail::from("refused")),
+    }
+    Ok(())
+}
