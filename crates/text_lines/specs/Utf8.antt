@@ -1,9 +1,11 @@
 -- Where bytes stop being UTF-8.
-use Rattle.std.specs.Prelude.{ℕ, ◌+◌, ◌==◌, List, [], ◌∷◌, Option, Some, None, drop, length, take, slice_index, if◌then◌else◌}
+use Rattle.std.specs.Prelude.{ℕ, ◌+◌, ◌==◌, List, [], ◌∷◌, Option, Some, None, Result, Ok, Err, drop, length, nat_lt, take, slice_index, if◌then◌else◌}
 use Rattle.std.specs.Int.{is_in_range}
+use Rattle.std.specs.Str.{is_utf8}
 use Rattle.std.specs.Str.Lossy.{utf8_valid_len, utf8_error_len}
-use Rattle.text_lines.specs.declared.fault.TextKind.TheVariants.{NotUtf8}
+use Rattle.text_lines.specs.declared.fault.TextKind.TheVariants.{NotUtf8, TooLong}
 use Rattle.text_lines.specs.Faults.{Fault}
+use Rattle.text_lines.specs.Lines.{TextLines, lines_in}
 
 -- of bytes that begin with no character, how many may begin one: none where the first may not, else all but the last
 -- of those at fault, or all where the bytes end too soon
@@ -34,3 +36,9 @@ fault_behind before = record {
 -- the fault of bytes that are no UTF-8
 unfoldable pub fault_of_utf8 : List ℕ → Fault
 fault_of_utf8 bytes = fault_behind (take (begun_text bytes) bytes)
+
+-- the lines of a text: it has at most 65,536 bytes, and they are UTF-8
+unfoldable pub text_in : List ℕ → Result TextLines Fault
+text_in bytes =
+    if nat_lt 65536 (length bytes) then Err (record { kind = TooLong; line = 1; column = 1 })
+    else (if is_utf8 bytes then Ok (lines_in bytes) else Err (fault_of_utf8 bytes))

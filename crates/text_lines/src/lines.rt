@@ -86,7 +86,7 @@ fn count_lines(text: &[u8]) -> u32
 
 impl<'a> Lines<'a> {
     /// The lines of a text.
-    pub fn new(text: &'a [u8]) -> Lines<'a>
+    pub(crate) fn new(text: &'a [u8]) -> Lines<'a>
         requires { length text.now ≤ 65536 }
         ensures { lines_of result ≡ lines_in text.now }
     {
