@@ -76,10 +76,10 @@ line_is name (Some found) = word_is name (first_word found.0)
 unfoldable pub begins : List ℕ → TextLines → Bool
 begins name text = line_is name (first_line text)
 
--- the words behind the first of the next line, which is this word
-unfoldable pub headed : List ℕ → TextLines → Result (LineWords × TextLines) Fault
-headed name text = do
-  line ← ok_or (first_line text) (fault_of_line Head text.after None)
+-- the words behind the first of the next line, which is this word; the kind is of the fault where no line is left
+unfoldable pub headed : TextKind → List ℕ → TextLines → Result (LineWords × TextLines) Fault
+headed kind name text = do
+  line ← ok_or (first_line text) (fault_of_line kind text.after None)
   words ← literal Head name line.0
   Ok (words, line.1)
 

@@ -11,3 +11,4 @@ mod words;
 pub use fault::{TextFault, TextKind};
 pub use numbers::{parse_number, parse_within};
 pub use places::{Lines, Word, Words};
+pub use words::is_same;

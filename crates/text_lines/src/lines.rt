@@ -140,13 +140,14 @@ impl<'a> Lines<'a> {
         }
     }
 
-    /// What is left of the next line behind its first word, which has to be this one.
+    /// What is left of the next line behind its first word, which has to be this one; where no line is left, the fault is of
+    /// this kind.
     #[tactic(auto, unfolding(crate::specs::Reading::headed))]
-    pub fn headed(self, name: &[u8]) -> Result<(Words<'a>, Lines<'a>), TextFault>
-        ensures { Gives (λ x. (words_of x.0, lines_of x.1)) result (headed name.now (lines_of self.entry)) }
+    pub fn headed(self, kind: TextKind, name: &[u8]) -> Result<(Words<'a>, Lines<'a>), TextFault>
+        ensures { Gives (λ x. (words_of x.0, lines_of x.1)) result (headed kind name.now (lines_of self.entry)) }
     {
         match self.first() {
-            None => Err(TextFault::At { kind: TextKind::Head, line: self.after, column: 1 }),
+            None => Err(TextFault::At { kind, line: self.after, column: 1 }),
             Some((line, lines)) => {
                 let words = line.literal(TextKind::Head, name)?;
                 Ok((words, lines))

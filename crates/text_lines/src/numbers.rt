@@ -1,6 +1,6 @@
 //! Numbers of up to seven digits.
 
-ghost use Rattle.std.specs.Prelude.{◌≡◌};
+ghost use Rattle.std.specs.Prelude.{◌≡◌, ◌≤◌, IfSome};
 ghost use Rattle.text_lines.specs.Numbers.{digits_after, if_within, is_digit, number_of, number_within};
 
 /// Whether a byte is a digit.
@@ -37,12 +37,14 @@ pub fn parse_number(text: &[u8]) -> Option<u32>
 }
 
 /// The number that a word writes, if it lies from `least` to `most`.
-pub fn parse_within(text: &[u8], least: u32, most: u32) -> Option<u32>
-    ensures { result ≡ number_within least most text.now }
+pub fn parse_within(text: &[u8], least: u16, most: u16) -> Option<u16>
+    ensures value { result ≡ number_within least most text.now }
+    ensures least { IfSome result (λ n. least ≤ n) }
+    ensures most { IfSome result (λ n. n ≤ most) }
 {
     let number = parse_number(text)?;
-    if least <= number && number <= most {
-        Some(number)
+    if u32::from(least) <= number && number <= u32::from(most) {
+        Some(number as u16)
     } else {
         None
     }

@@ -1,6 +1,6 @@
 //! The words of a line.
 
-ghost use Rattle.std.specs.Prelude.{◌≡◌, ◌<◌, ◌≤◌, ◌+◌, ◌==◌, IfSome, length, not, option_map};
+ghost use Rattle.std.specs.Prelude.{◌≡◌, ◌<◌, ◌≤◌, ◌+◌, ◌==◌, IfOk, IfSome, length, not, option_map};
 ghost use Rattle.std.specs.List.{position, position_or_len};
 ghost use Rattle.text_lines.specs.Faults.{Gives, told};
 ghost use Rattle.text_lines.specs.Reading.{done, fault_at, fault_beyond, fault_past, literal, next, number_in, same_text};
@@ -126,13 +126,25 @@ impl<'a> Words<'a> {
 
     /// The next word as a number from `least` to `most`.
     #[tactic(auto, unfolding(crate::specs::Reading::number_in))]
-    pub fn number(self, kind: TextKind, least: u32, most: u32) -> Result<(u32, Words<'a>), TextFault>
-        ensures { Gives (λ x. (x.0, words_of x.1)) result (number_in kind least most (words_of self.entry)) }
+    pub fn number(self, kind: TextKind, least: u16, most: u16) -> Result<(u16, Words<'a>), TextFault>
+        ensures value { Gives (λ x. (x.0, words_of x.1)) result (number_in kind least most (words_of self.entry)) }
+        ensures least { IfOk result (λ x. least ≤ x.0) }
+        ensures most { IfOk result (λ x. x.0 ≤ most) }
     {
         let (word, words) = self.next(kind)?;
         match parse_within(word.text, least, most) {
             Some(number) => Ok((number, words)),
             None => Err(word.fault(kind)),
         }
+    }
+
+    /// The next word as a number from `least` to `most`.
+    pub fn small_number(self, kind: TextKind, least: u8, most: u8) -> Result<(u8, Words<'a>), TextFault>
+        ensures value { Gives (λ x. (x.0, words_of x.1)) result (number_in kind least most (words_of self.entry)) }
+        ensures least { IfOk result (λ x. least ≤ x.0) }
+        ensures most { IfOk result (λ x. x.0 ≤ most) }
+    {
+        let (number, words) = self.number(kind, least.into(), most.into())?;
+        Ok((number as u8, words))
     }
 }
