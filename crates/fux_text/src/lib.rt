@@ -1,11 +1,13 @@
-//! The canonical note text of exercises and their settings.
+//! The note text of exercises and their settings, both ways.
 #![tactic(auto)]
 
 mod exercise_lines;
+mod head;
 mod items;
+mod names;
 mod note_text;
 mod sing_lines;
-#[cfg(test)]
-mod tests;
+mod waiting;
 
 pub use note_text::{sing_line, write};
+pub use text_lines::{TextFault, TextKind};
