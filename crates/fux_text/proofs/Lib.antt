@@ -2,3 +2,5 @@ pub mod CountSteps
 pub mod ItemLemmas
 pub mod TextParts
 pub mod WordLemmas
+pub mod Named
+pub mod HeadLoops

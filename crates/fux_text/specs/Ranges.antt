@@ -1,6 +1,6 @@
 -- Reading the range lines.
-use Rattle.std.specs.Prelude.{ℕ, zero, suc, ◌==◌, not, Bool, true, false, List, [], ◌∷◌, ◌++◌, Option, Some, None, Result, Ok, Err, codes, length, nat_lt, int_lt, if◌then◌else◌}
-use Rattle.std.specs.List.{list_all, list_any}
+use Rattle.std.specs.Prelude.{ℕ, ◌==◌, ◌||◌, not, Bool, true, false, List, [], ◌∷◌, ◌++◌, Option, Some, None, Result, Ok, Err, codes, int_lt, if◌then◌else◌}
+use Rattle.std.specs.List.{list_all, list_any, range_with_len}
 use Rattle.std.specs.Option.{ok_or}
 use Rattle.fux_pitch.specs.declared.pitch.Pitch.{Pitch}
 use Rattle.fux_pitch.specs.Pitch.{key_of}
@@ -10,19 +10,29 @@ use Rattle.text_lines.specs.declared.fault.TextKind.TheVariants as kinds
 use Rattle.text_lines.specs.Faults.{Fault, ◌>>=◌}
 use Rattle.text_lines.specs.Lines.{TextLines}
 use Rattle.text_lines.specs.Reading.{begins, done, fault_at, fault_here, headed, next, number_in}
-use Rattle.text_lines.specs.Words.{PlacedWord, LineWords}
+use Rattle.text_lines.specs.Words.{PlacedWord, LineWords, first_word}
 use Rattle.fux_text.specs.Head.{other_voice_in, pitch_in}
-use Rattle.fux_text.specs.Lines.{free_voices}
 use Rattle.fux_text.specs.Names.{pitch_named}
 
 -- the voice has a range line among these
 abbrev pub has_line : List RangeLine → ℕ → Bool
 has_line lines v = list_any (λ line. line.voice == v) lines
 
--- so many words can't follow the voice: more than two in its first line, or just two in a later one, which has bars
-abbrev pub misfits : Bool → ℕ → Bool
-misfits false count = nat_lt 2 count
-misfits true count = count == 2
+-- whether a line can't go on so behind LOW and HIGH: a voice's first line ends there, and each later one has bars
+abbrev pub misfits_behind : Bool → Option (PlacedWord × LineWords) → Bool
+misfits_behind later None = later
+misfits_behind later (Some from) = not later
+
+abbrev pub misfits_from_high : Bool → Option (PlacedWord × LineWords) → Bool
+misfits_from_high later None = false
+misfits_from_high later (Some high) = misfits_behind later (first_word high.1)
+
+abbrev pub misfits_from_low : Bool → Option (PlacedWord × LineWords) → Bool
+misfits_from_low later None = false
+misfits_from_low later (Some low) = misfits_from_high later (first_word low.1)
+
+unfoldable pub misfits : Bool → LineWords → Bool
+misfits later at = misfits_from_low later (first_word at)
 
 -- a fault unless something holds
 abbrev pub refused_if : Bool → Fault → Result (Unit {0}) Fault
@@ -54,16 +64,16 @@ bars_of_later true bars at = do
 unfoldable pub range_in : Exercise → List RangeLine → LineWords → Result RangeLine Fault
 range_in ex before at = do
   v ← other_voice_in kinds.Range ex.cantus_voice ex.voices at
-  fits ← refused_if (misfits (has_line before v.0) (length v.2.words)) (fault_at kinds.Range v.1)
+  fits ← refused_if (misfits (has_line before v.0) v.2) (fault_at kinds.Range v.1)
   low ← pitch_in kinds.Range v.2
   high ← high_in low.0 low.1
   bars ← bars_of_later (has_line before v.0) ex.bars high.1
   end ← done kinds.Word bars.1
   Ok (record { voice = v.0; low = low.0; high = high.0; bars = bars.0 })
 
--- each free voice has its range line
+-- each voice has its range line, but for the cantus
 unfoldable pub all_ranged : Exercise → List RangeLine → Bool
-all_ranged ex lines = list_all (has_line lines) (free_voices ex)
+all_ranged ex lines = list_all (λ v. (v == ex.cantus_voice) || has_line lines v) (range_with_len 0 ex.voices)
 
 -- a line that begins with `range`
 unfoldable pub range_line : Exercise → List RangeLine → TextLines → Result (RangeLine × TextLines) Fault
@@ -72,17 +82,18 @@ range_line ex before text = do
   range ← range_in ex before line.0
   Ok (range, line.1)
 
--- range lines, as long as lines begin with `range`; the count is of lines at most
-unfoldable pub ranges_in : ℕ → Exercise → List RangeLine → TextLines → Result (List RangeLine × TextLines) Fault
-ranges_in zero ex before text = Ok (before, text)
-ranges_in (suc n) ex before text = if begins (codes "range") text then (do
-    range ← range_line ex before text
-    ranges_in n ex (before ++ range.0 ∷ []) range.1)
-  else Ok (before, text)
+-- range lines behind those before, as long as lines begin with `range`
+unfoldable pub ranges_on : Exercise → List RangeLine → ℕ → List LineWords → Result (List RangeLine × TextLines) Fault
+ranges_on ex before after [] = Ok (before, record { after = after; lines = [] })
+ranges_on ex before after (line ∷ others) =
+    if begins (codes "range") (record { after = after; lines = line ∷ others }) then (do
+      range ← range_line ex before (record { after = after; lines = line ∷ others })
+      ranges_on ex (before ++ range.0 ∷ []) after others)
+    else Ok (before, record { after = after; lines = line ∷ others })
 
 -- the range lines, where each free voice has its own
-unfoldable pub all_ranges_in : Exercise → TextLines → Result (List RangeLine × TextLines) Fault
-all_ranges_in ex text = do
-  found ← ranges_in (length text.lines) ex [] text
+unfoldable pub ranges_in : Exercise → TextLines → Result (List RangeLine × TextLines) Fault
+ranges_in ex text = do
+  found ← ranges_on ex [] text.after text.lines
   whole ← refused_if (not (all_ranged ex found.0)) (fault_here kinds.Range found.1)
   Ok found

@@ -6,6 +6,7 @@ mod head;
 mod items;
 mod names;
 mod note_text;
+mod ranges;
 mod sing_lines;
 mod waiting;
 
