@@ -4,3 +4,5 @@ pub mod TextParts
 pub mod WordLemmas
 pub mod Named
 pub mod HeadLoops
+pub mod RangeLoops
+pub mod SungLoops

@@ -3,10 +3,12 @@
 
 mod exercise_lines;
 mod head;
+mod item_words;
 mod items;
 mod names;
 mod note_text;
 mod ranges;
+mod sing;
 mod sing_lines;
 mod waiting;
 

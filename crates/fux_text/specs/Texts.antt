@@ -1,0 +1,14 @@
+-- Which texts are note texts, and where a text is at fault.
+use Rattle.std.specs.Prelude.{◌≡◌, ℕ, List, Ok, Err}
+use Rattle.fux_grid.specs.declared.exercise.Exercise.{Exercise}
+use Rattle.text_lines.specs.declared.fault.TextKind.{TextKind}
+use Rattle.fux_text.specs.Reading.{exercise_in}
+
+-- the bytes are a note text of the exercise
+unfoldable pub IsTextOf : List ℕ → Exercise → Type 0
+IsTextOf bytes ex = exercise_in bytes ≡ Ok ex
+
+-- the bytes are no note text, and this is their first fault
+unfoldable pub HasFault : List ℕ → TextKind → ℕ → ℕ → Type 0
+HasFault bytes kind line column =
+    exercise_in bytes ≡ Err (record { kind = kind; line = line; column = column })
