@@ -1,12 +1,12 @@
 -- Reading the `sing` lines.
-use Rattle.std.specs.Prelude.{ℕ, ◌+◌, ◌-◌, ◌*◌, ◌==◌, not, Bool, true, false, List, [], ◌∷◌, ◌++◌, Option, Some, None, Result, Ok, Err, codes, length, map, option_map, replicate, if◌then◌else◌}
+use Rattle.std.specs.Prelude.{ℕ, ◌+◌, ◌-◌, ◌*◌, ◌==◌, not, IsTrue, ⊤, Bool, true, false, List, [], ◌∷◌, ◌++◌, Option, Some, None, Result, Ok, Err, codes, length, map, option_map, replicate, if◌then◌else◌}
 use Rattle.std.specs.List.{after_first, before_first, flat_map, range_with_len}
 use Rattle.std.specs.Option.{ok_or}
 use Rattle.fux_pitch.specs.declared.pitch.Pitch.{Pitch}
 use Rattle.fux_grid.specs.declared.cell.Cell.{Cell}
 use Rattle.fux_grid.specs.declared.cell.Cell.TheVariants.{Rest, Hold, Start}
 use Rattle.fux_grid.specs.declared.exercise.Exercise.{Exercise}
-use Rattle.fux_grid.specs.Cells.{cell_in, pitch_of}
+use Rattle.fux_grid.specs.Cells.{cell_follows, cell_in, pitch_of}
 use Rattle.fux_grid.specs.Grid.{Grid}
 use Rattle.text_lines.specs.declared.fault.TextKind.TheVariants as kinds
 use Rattle.text_lines.specs.Faults.{Fault, ◌>>=◌}
@@ -148,3 +148,8 @@ setting_in ex text = if begins (codes "sing") text then (do
   else (do
     end ← no_line text
     Ok None)
+
+-- each cell may follow the one before it
+abbrev pub FollowsFrom : Cell → List Cell → Type 0
+FollowsFrom before [] = ⊤
+FollowsFrom before (c ∷ cs) = IsTrue (cell_follows before c) × FollowsFrom c cs

@@ -8,9 +8,12 @@ mod items;
 mod names;
 mod note_text;
 mod ranges;
+mod reading;
+mod setting;
 mod sing;
 mod sing_lines;
 mod waiting;
 
 pub use note_text::{sing_line, write};
+pub use reading::{read, read_sing};
 pub use text_lines::{TextFault, TextKind};

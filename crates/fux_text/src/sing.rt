@@ -109,7 +109,7 @@ fn held(cell: Cell) -> Cell
 }
 
 /// Appends the cells of an item.
-fn push_item(cells: &mut Vec<Cell>, first: Cell, count: u8) -> Result<(), AllocError>
+pub fn push_item(cells: &mut Vec<Cell>, first: Cell, count: u8) -> Result<(), AllocError>
     requires { 1 ≤ count }
     ensures { OnOk result (cells.new.items ≡ cells.old.items ++ item_cells first count) }
 {
@@ -191,7 +191,7 @@ fn sung_in(alloc: Global, words: Words<'_>, bars: u8) -> Result<Vec<Cell>, TextF
 
 /// Reads the `sing` line of a voice: its cells.
 #[tactic(auto, unfolding(crate::specs::Sing::sing_line_in))]
-fn sing_line_in<'a>(
+pub fn sing_line_in<'a>(
     alloc: Global,
     text: Lines<'a>,
     bars: u8,

@@ -3,6 +3,7 @@
 ghost use Rattle.std.specs.Prelude.{◌≡◌, Some};
 ghost use Rattle.text_lines.specs.declared.fault.TextFault.TheVariants.{Memory};
 
+use fux_pitch::Memory as NoMemory;
 use std::alloc::{AllocError, AllocFailed};
 
 /// What is wrong with a note text.
@@ -45,6 +46,14 @@ pub enum TextFault {
     },
     /// There was not enough memory.
     Memory,
+}
+
+impl From<NoMemory> for TextFault {
+    ghost from_gives = { λ _ fault. fault ≡ Memory };
+
+    fn from(_: NoMemory) -> Self {
+        TextFault::Memory
+    }
 }
 
 impl From<AllocError> for TextFault {
