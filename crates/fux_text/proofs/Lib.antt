@@ -6,3 +6,6 @@ pub mod Named
 pub mod HeadLoops
 pub mod RangeLoops
 pub mod SungLoops
+pub mod VoiceLoops
+pub mod Following
+pub mod ScoreLoops

@@ -48,6 +48,7 @@ fn number_line<'a>(
     most: u8,
 ) -> Result<(u8, Lines<'a>), TextFault>
     ensures value { Gives (λ x. (x.0, lines_of x.1)) result (number_line name.now kind least most (lines_of text.entry)) }
+    ensures least { IfOk result (λ x. least ≤ x.0) }
     ensures most { IfOk result (λ x. x.0 ≤ most) }
 {
     let (words, text) = text.headed(TextKind::Head, name)?;
@@ -144,7 +145,11 @@ fn cantus_line(
 /// Reads the lines before the ranges.
 #[tactic(auto, unfolding(crate::specs::Head::head_in))]
 pub fn head_in(alloc: Global, text: Lines<'_>) -> Result<(Exercise, Lines<'_>), TextFault>
-    ensures { Gives (λ x. (x.0, lines_of x.1)) result (head_in (lines_of text.entry)) }
+    ensures value { Gives (λ x. (x.0, lines_of x.1)) result (head_in (lines_of text.entry)) }
+    ensures fewest_voices { IfOk result (λ x. 2 ≤ x.0.voices) }
+    ensures most_voices { IfOk result (λ x. x.0.voices ≤ 4) }
+    ensures fewest_bars { IfOk result (λ x. 3 ≤ x.0.bars) }
+    ensures most_bars { IfOk result (λ x. x.0.bars ≤ 24) }
 {
     let text = version_line(text)?;
     let (mode, text) = mode_line(text)?;

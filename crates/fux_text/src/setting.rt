@@ -86,9 +86,7 @@ fn score_of(alloc: Global, lines: &[List<Cell>], bars: u8) -> Result<Score, Text
 {
     let mut score = Score::new(alloc, lines.len() as u8)?;
     for i in 0..8 * usize::from(bars) {
-        let Ok(()) = score.push(column_of(lines, i)) else {
-            return Err(TextFault::Memory);
-        };
+        score.push(column_of(lines, i)).unwrap();
     }
     Ok(score)
 }
