@@ -9,3 +9,4 @@ pub mod SungLoops
 pub mod VoiceLoops
 pub mod Following
 pub mod ScoreLoops
+pub mod Answered

@@ -1,7 +1,9 @@
 -- Which texts are note texts, and where a text is at fault.
-use Rattle.std.specs.Prelude.{◌≡◌, ℕ, List, Ok, Err}
+use Rattle.std.specs.Prelude.{◌≡◌, ◌⊎◌, ℕ, List, Ok, Err}
 use Rattle.fux_grid.specs.declared.exercise.Exercise.{Exercise}
 use Rattle.text_lines.specs.declared.fault.TextKind.{TextKind}
+use Rattle.text_lines.specs.declared.fault.TextFault.{TextFault}
+use Rattle.text_lines.specs.declared.fault.TextFault.TheVariants as faults
 use Rattle.fux_text.specs.Reading.{exercise_in}
 
 -- the bytes are a note text of the exercise
@@ -12,3 +14,7 @@ IsTextOf bytes ex = exercise_in bytes ≡ Ok ex
 unfoldable pub HasFault : List ℕ → TextKind → ℕ → ℕ → Type 0
 HasFault bytes kind line column =
     exercise_in bytes ≡ Err (record { kind = kind; line = line; column = column })
+
+-- the answer is this one, or tells of want of memory
+abbrev pub IsEither : TextFault → TextFault → Type 0
+IsEither answer fault = (answer ≡ fault) ⊎ (answer ≡ faults.Memory)

@@ -6,6 +6,7 @@ ghost use Rattle.fux_grid.specs.declared.exercise.Exercise.{Exercise};
 ghost use Rattle.text_lines.specs.Faults.{Gives};
 ghost use Rattle.text_lines.specs.declared.fault.TextKind.{TextKind};
 ghost use Rattle.fux_text.specs.Reading.{exercise_in, setting_alone};
+ghost use Rattle.fux_text.specs.Texts.{HasFault, IsEither, IsTextOf};
 
 use crate::head::head_in;
 use crate::ranges::ranges_in;
@@ -29,9 +30,18 @@ fn exercise_in(alloc: Global, bytes: &[u8]) -> Result<Exercise, TextFault>
     Ok(ex)
 }
 
-/// The exercise of a note text.
+/// The exercise of a note text of at most 65,536 bytes, or the first fault of the text.
 pub fn read(alloc: Global, bytes: &[u8]) -> Result<Exercise, TextFault>
-    ensures { Gives (λ x. x) result (exercise_in bytes.now) }
+    // What is read has this text, and a fault is the text's first one.
+    ensures ok { IfOk result (λ ex. IsTextOf bytes.now ex) }
+    ensures fault { (kind : TextKind) (line column : ℕ) → result ≡ Err (TextFault.At kind line column)
+        → HasFault bytes.now kind line column }
+
+    // A note text is read, and a text with a fault is answered by that fault, unless memory runs out.
+    ensures only { (ex : Exercise) → IsTextOf bytes.now ex
+        → MatchResult result (λ found. found ≡ ex) (λ fault. fault ≡ TextFault.Memory) }
+    ensures first { (kind : TextKind) (line column : ℕ) → HasFault bytes.now kind line column
+        → MatchResult result (λ _. ⊥) (λ fault. IsEither fault (TextFault.At kind line column)) }
 {
     exercise_in(alloc, bytes)
 }

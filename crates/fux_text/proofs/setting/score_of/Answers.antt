@@ -1,4 +1,5 @@
-use Rattle.std.proofs.Common.{◌≡◌, ◌<◌, reverse, length, map, sym, ap, ◌∙◌, subst, arith}
+use Rattle.std.proofs.Common.{◌≡◌, ◌<◌, ◌++◌, ◌∷◌, [], Result, Ok, Err, reverse, length, map, sym, ap, ◌∙◌, subst, arith}
+use Rattle.std.specs.Prelude.{OnOk}
 use Rattle.std.specs.List.{range_with_len}
 use Rattle.std.proofs.lemmas.List.{length-map}
 use Rattle.std.proofs.lemmas.List.FromFn.{length-map-range_with_len}
@@ -8,8 +9,15 @@ use Rattle.fux_text.specs.Sing.{column_of}
 use Rattle.fux_text.proofs.ScoreLoops.{grown, next-follows}
 use Rattle.fux_text.proofs.setting.score_of.Goals as goal
 
+ok_part : {T E : Type 0} (r : Result T E) (x : T) (P : Type 0) → r ≡ Ok x → OnOk r P → P
+ok_part (Ok y) x P e h = h
+ok_part (Err f) x P e h = absurd (grind (arith, e))
+
 pub loop-i-preserved : goal.loop-i-preserved
-loop-i-preserved c = ?
+loop-i-preserved c =
+    let pushed : c.push.new.self ≡ record c.loop-i.score { columns = c.loop-i.score.columns ++ c.column_of.result.items ∷ [] } =
+        ok_part c.push.result c.unwrap.result _ c.unwrap.ensures c.push.ensures.ok in
+    pushed ∙ grown c.loop-i.score c.args.lines.now c.column_of.result.items c.loop-i.i c.loop-i.invariant c.column_of.ensures
 
 pub unwrap-requires : goal.unwrap-requires
 unwrap-requires c =
