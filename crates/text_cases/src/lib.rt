@@ -1,0 +1,7 @@
+//! Note texts with what reading answers of each.
+#![tactic(auto)]
+
+#[cfg(test)]
+mod cases;
+#[cfg(test)]
+mod tests;
