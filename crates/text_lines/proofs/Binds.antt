@@ -1,5 +1,5 @@
 -- What follows where a chain of steps gives a value.
-use Rattle.std.proofs.Common.{◌≡◌, Bool, true, false, Option, Some, None, Result, Ok, Err, refl, arith}
+use Rattle.std.proofs.Common.{◌≡◌, Option, Some, None, Result, Ok, Err, refl, arith}
 use Rattle.std.specs.Option.{ok_or}
 use Rattle.text_lines.specs.Faults.{Fault, ◌>>=◌}
 

@@ -1,13 +1,12 @@
 -- Bytes that are no UTF-8.
-use Rattle.std.proofs.Common.{◌≡◌, ℕ, ◌+◌, ◌≤◌, Bool, true, false, List, [], ◌∷◌, length, Option, Some, None, Result, Ok, Err, refl, sym, ap, ◌∙◌, subst, arith}
+use Rattle.std.proofs.Common.{◌≡◌, ℕ, ◌≤◌, Bool, true, false, List, [], ◌∷◌, length, Option, Some, None, Ok, Err, refl, sym, subst, arith}
 use Rattle.std.specs.Prelude.{◌==◌, nat_lt, if◌then◌else◌, slice_index, IfSome}
 use Rattle.std.specs.Int.{is_in_range}
 use Rattle.std.specs.Str.{IsUtf8, is_utf8}
 use Rattle.std.specs.Str.Lossy.{utf8_error_len, error_len_of_some, error_len_after_one, error_len_after_two, second_byte_min, second_byte_max}
 use Rattle.std.proofs.lemmas.Bool.{ltb-false, le-ltb}
 use Rattle.std.proofs.lemmas.Str.{IsUtf8-from_is_utf8, is_utf8-from_IsUtf8}
-use Rattle.text_lines.specs.Faults.{Fault}
-use Rattle.text_lines.specs.Lines.{TextLines, lines_in}
+use Rattle.text_lines.specs.Lines.{lines_in}
 use Rattle.text_lines.specs.Utf8.{begun, fault_of_utf8, text_in}
 
 abbrev Within : List ℕ → Option ℕ → Type 0
@@ -28,6 +27,7 @@ after_one bs = by (nat_lt (length bs) 2) refl (is_in_range (second_byte_min x) (
   where
     x : ℕ
     x = slice_index bs 0
+
     by : (a : Bool) → nat_lt (length bs) 2 ≡ a → (b : Bool)
         → Within bs (if a then None else (if b then error_len_after_two bs else Some 1))
     by true e b = tt

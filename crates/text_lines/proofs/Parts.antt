@@ -1,13 +1,13 @@
 -- The parts of a text between line feeds, and those of a line between blanks.
-use Rattle.std.proofs.Common.{◌≡◌, ℕ, zero, suc, ◌+◌, ◌-◌, ◌<◌, ◌≤◌, Bool, true, false, List, [], ◌∷◌, length, get_or, take, drop, Option, Some, None, inl, inr, drop-cons, refl, sym, ap, ◌∙◌, arith, subst}
-use Rattle.std.specs.Prelude.{nat_lt, ◌==◌, not, All, if◌then◌else◌, option_map, unwrap_or}
-use Rattle.std.specs.List.{slice_split, position, position_or_len, prefix_len, onto_first}
+use Rattle.std.proofs.Common.{◌≡◌, ℕ, zero, suc, ◌+◌, ◌-◌, ◌<◌, ◌≤◌, Bool, true, false, List, [], ◌∷◌, length, get_or, take, drop, Some, None, inl, inr, drop-cons, refl, sym, ap, ◌∙◌, arith, subst}
+use Rattle.std.specs.Prelude.{nat_lt, ◌==◌, not, if◌then◌else◌, unwrap_or}
+use Rattle.std.specs.List.{slice_split, position, position_or_len}
 use Rattle.std.specs.Str.Lines.{lines, lines_of_parts, strip_carriage_return}
 use Rattle.std.proofs.lemmas.Bool.{ltb-false, cases_lt}
 use Rattle.std.proofs.lemmas.List.{length-take-le, length-drop, take_all, drop_all, get_or-drop}
 use Rattle.std.proofs.lemmas.List.Quantifiers.{position-Some}
 use Rattle.std.proofs.lemmas.List.Sums.{fails_before_first, prefix_len-le-length, prefix_len_stops}
-use Rattle.std.proofs.lemmas.List.Splits.{slice_split_none, slice_split_first, slice_split-cons_yes, slice_split-cons_no, length-slice_split}
+use Rattle.std.proofs.lemmas.List.Splits.{slice_split_none, slice_split_first, slice_split-cons_yes, length-slice_split}
 use Rattle.text_lines.specs.Words.{PlacedWord, LineWords, first_word, is_blank, placed, with_piece, words_from}
 
 found : (n m : ℕ) (b : Bool) (i : ℕ) → nat_lt n m ≡ b → (if b then Some n else None) ≡ Some i → (n ≡ i) × (n < m)
@@ -41,7 +41,7 @@ pub lines-first : (xs : List ℕ) (i : ℕ) → position (λ b. b == 10) xs ≡ 
 lines-first xs i h =
     ap lines_of_parts (first_part (λ b. b == 10) xs i h)
     ∙ lines_of_parts-more (take i xs) (slice_split (λ b. b == 10) (drop (i + 1) xs))
-        (omega (arith, length-slice_split (λ b. b == 10) (drop (i + 1) xs)))
+    (omega (arith, length-slice_split (λ b. b == 10) (drop (i + 1) xs)))
 
 alone : (xs : List ℕ) → 0 < length xs → lines_of_parts (xs ∷ []) ≡ xs ∷ []
 alone [] some = absurd (omega arith)
@@ -51,7 +51,7 @@ alone (x ∷ xs) some = grind arith
 pub lines-one : (xs : List ℕ) → 0 < length xs → position (λ b. b == 10) xs ≡ None → lines xs ≡ xs ∷ []
 lines-one xs some h =
     ap lines_of_parts (one_part (λ b. b == 10) xs
-        (missing (position_or_len (λ b. b == 10) xs) (length xs) _ refl h))
+    (missing (position_or_len (λ b. b == 10) xs) (length xs) _ refl h))
     ∙ alone xs some
 
 -- bytes that aren't blank begin a word
@@ -101,20 +101,20 @@ not_false false e = grind arith
 -- a blank stands where the first part ends
 blank_next : (line column : ℕ) (xs : List ℕ) → position_or_len is_blank xs < length xs
     → words_from line column (drop (position_or_len is_blank xs) xs)
-        ≡ words_from line (column + 1) (drop (position_or_len is_blank xs + 1) xs)
+    ≡ words_from line (column + 1) (drop (position_or_len is_blank xs + 1) xs)
 blank_next line column xs lt =
     let k = position_or_len is_blank xs in
     let same : suc k ≡ k + 1 = omega arith in
     let split : drop k xs ≡ get_or xs k 0 ∷ drop (suc k) xs = drop-cons xs k 0 lt in
     ap (λ ys. words_from line column ys) split
     ∙ after_blank line column (get_or xs k 0) (drop (suc k) xs)
-        (not_false _ (prefix_len_stops (λ b. not (is_blank b)) xs 0 lt))
+    (not_false _ (prefix_len_stops (λ b. not (is_blank b)) xs 0 lt))
     ∙ ap (λ n. words_from line (column + 1) (drop n xs)) same
 
 first_piece : (line column : ℕ) (piece : List ℕ) (pieces : List (List ℕ)) (xs : List ℕ) → 0 < length piece
     → slice_split is_blank xs ≡ piece ∷ pieces
     → words_from line column xs
-        ≡ record { line = line; column = column; text = piece } ∷ placed line (column + length piece + 1) pieces
+    ≡ record { line = line; column = column; text = piece } ∷ placed line (column + length piece + 1) pieces
 unfolding words_from
 first_piece line column piece pieces xs some e =
     ap (λ ps. placed line column ps) e ∙ with_piece-some line column piece _ some
@@ -122,24 +122,27 @@ first_piece line column piece pieces xs some e =
 -- the word at the front ends before the first blank
 pub word_here : (line column : ℕ) (xs : List ℕ) → 0 < position_or_len is_blank xs
     → words_from line column xs ≡ record { line = line; column = column; text = take (position_or_len is_blank xs) xs }
-        ∷ words_from line (column + position_or_len is_blank xs) (drop (position_or_len is_blank xs) xs)
+    ∷ words_from line (column + position_or_len is_blank xs) (drop (position_or_len is_blank xs) xs)
 unfolding words_from
 word_here line column xs some = elim (cases_lt k (length xs)) [ inl lt ↦ inside lt | inr le ↦ whole le ]
   where
     k : ℕ
     k = position_or_len is_blank xs
+
     word : List ℕ → PlacedWord
     word text = record { line = line; column = column; text = text }
+
     inside : k < length xs → words_from line column xs ≡ word (take k xs) ∷ words_from line (column + k) (drop k xs)
     inside lt =
         let long : length (take k xs) ≡ k = length-take-le k xs (omega arith) in
         first_piece line column (take k xs) _ xs (omega arith) (slice_split_first is_blank xs 0 lt)
         ∙ ap (λ n. word (take k xs) ∷ placed line (column + n + 1) (slice_split is_blank (drop (k + 1) xs))) long
         ∙ ap (λ ws. word (take k xs) ∷ ws) (sym (blank_next line (column + k) xs lt))
+
     whole : length xs ≤ k → words_from line column xs ≡ word (take k xs) ∷ words_from line (column + k) (drop k xs)
     whole le =
         first_piece line column xs [] xs (omega (arith, prefix_len-le-length (λ b. not (is_blank b)) xs))
-            (one_part is_blank xs le)
+        (one_part is_blank xs le)
         ∙ ap (λ text. word text ∷ []) (sym (take_all k xs le))
         ∙ ap (λ rest. word (take k xs) ∷ words_from line (column + k) rest) (sym (drop_all k xs le))
 
@@ -167,7 +170,7 @@ at_first p xs i h =
 inked_end : (k : ℕ) (xs : List ℕ) → position_or_len is_blank xs ≡ k → 0 < length xs → is_inked (get_or xs 0 0) ≡ true → 0 < k
 inked_end zero xs e some inked =
     let blank : is_blank (get_or xs 0 0) ≡ true =
-        not_false _ (subst (λ n. not (is_blank (get_or xs n 0)) ≡ false) e (prefix_len_stops (λ b. not (is_blank b)) xs 0 (omega (arith, e)))) in
+    not_false _ (subst (λ n. not (is_blank (get_or xs n 0)) ≡ false) e (prefix_len_stops (λ b. not (is_blank b)) xs 0 (omega (arith, e)))) in
     absurd (grind (arith, blank, inked))
 inked_end (suc k) xs e some inked = omega arith
 
@@ -187,7 +190,7 @@ left line column rest = record { line = line; past = column; end = column + leng
 pub word_found : (line column start : ℕ) (rest tail : List ℕ) (k : ℕ) → position is_inked rest ≡ Some start → tail ≡ drop start rest
     → k ≡ position_or_len is_blank tail
     → Some (record { line = line; column = column + start; text = take k tail }, left line (column + start + k) (drop k tail))
-        ≡ first_word (left line column rest)
+    ≡ first_word (left line column rest)
 word_found line column start rest tail k at t e =
     let here = position-Some is_inked rest start 0 at in
     let first = at_first is_inked rest start at in
@@ -201,11 +204,11 @@ word_found line column start rest tail k at t e =
     let past : c ≡ column + start + length (take k tail) = omega (arith, length-take-le k tail within) in
     let end : c + length (drop k tail) ≡ column + length rest = omega (arith, length-drop k tail) in
     let words : words_from line column rest ≡ w ∷ ws =
-        skip line column start rest (omega arith)
-        ∙ ap (λ ys. words_from line (column + start) ys) (sym t)
-        ∙ word_here line (column + start) tail (omega arith)
-        ∙ ap (λ n. record { line = line; column = column + start; text = take n tail }
-            ∷ words_from line (column + start + n) (drop n tail)) (sym e) in
+    skip line column start rest (omega arith)
+    ∙ ap (λ ys. words_from line (column + start) ys) (sym t)
+    ∙ word_here line (column + start) tail (omega arith)
+    ∙ ap (λ n. record { line = line; column = column + start; text = take n tail }
+    ∷ words_from line (column + start + n) (drop n tail)) (sym e) in
     ap (λ p. Some (w, record { line = line; past = p; end = c + length (drop k tail); words = ws })) past
     ∙ ap (λ n. Some (w, record { line = line; past = w.column + length w.text; end = n; words = ws })) end
     ∙ sym (first-some (left line column rest) w ws words)

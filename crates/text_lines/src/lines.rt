@@ -90,7 +90,11 @@ impl<'a> Lines<'a> {
         requires { length text.now ≤ 65536 }
         ensures { lines_of result ≡ lines_in text.now }
     {
-        Lines { after: 1 + count_lines(text), number: 1, rest: text }
+        Lines {
+            after: 1 + count_lines(text),
+            number: 1,
+            rest: text,
+        }
     }
 
     /// The next line that has words and is no comment, and those behind it.
@@ -102,8 +106,16 @@ impl<'a> Lines<'a> {
         while !rest.is_empty() {
             let (line, behind) = split_line(rest);
             if !is_skipped(line) {
-                let words = Words { line: number, column: 1, rest: line };
-                let lines = Lines { after: self.after, number: number + 1, rest: behind };
+                let words = Words {
+                    line: number,
+                    column: 1,
+                    rest: line,
+                };
+                let lines = Lines {
+                    after: self.after,
+                    number: number + 1,
+                    rest: behind,
+                };
                 return Some((words, lines));
             }
             number += 1;
@@ -118,7 +130,11 @@ impl<'a> Lines<'a> {
         ensures { result ≡ told (fault_here kind (lines_of self.entry)) }
     {
         let Some((words, _)) = self.first() else {
-            return TextFault::At { kind, line: self.after, column: 1 };
+            return TextFault::At {
+                kind,
+                line: self.after,
+                column: 1,
+            };
         };
         match words.first() {
             Some((word, _)) => word.fault(kind),
@@ -147,7 +163,11 @@ impl<'a> Lines<'a> {
         ensures { Gives (λ x. (words_of x.0, lines_of x.1)) result (headed kind name.now (lines_of self.entry)) }
     {
         match self.first() {
-            None => Err(TextFault::At { kind, line: self.after, column: 1 }),
+            None => Err(TextFault::At {
+                kind,
+                line: self.after,
+                column: 1,
+            }),
             Some((line, lines)) => {
                 let words = line.literal(TextKind::Head, name)?;
                 Ok((words, lines))

@@ -25,7 +25,11 @@ fn fault_behind(before: &[u8]) -> TextFault
             column += 1;
         }
     }
-    TextFault::At { kind: TextKind::NotUtf8, line, column }
+    TextFault::At {
+        kind: TextKind::NotUtf8,
+        line,
+        column,
+    }
 }
 
 /// How many of these bytes may begin a character, where none stands at their front.
@@ -62,7 +66,11 @@ impl<'a> Lines<'a> {
         ensures { Gives lines_of result (text_in bytes.now) }
     {
         if bytes.len() > 65_536 {
-            return Err(TextFault::At { kind: TextKind::TooLong, line: 1, column: 1 });
+            return Err(TextFault::At {
+                kind: TextKind::TooLong,
+                line: 1,
+                column: 1,
+            });
         }
         match std::str::from_utf8(bytes) {
             Ok(_) => Ok(Lines::new(bytes)),

@@ -71,8 +71,16 @@ impl<'a> Words<'a> {
         let end = word_end(tail);
         let (text, rest) = tail.split_at(end);
         let column = self.column + start as u32;
-        let word = Word { line: self.line, column, text };
-        let words = Words { line: self.line, column: column + end as u32, rest };
+        let word = Word {
+            line: self.line,
+            column,
+            text,
+        };
+        let words = Words {
+            line: self.line,
+            column: column + end as u32,
+            rest,
+        };
         Some((word, words))
     }
 
@@ -80,14 +88,22 @@ impl<'a> Words<'a> {
     pub fn fault_past(self, kind: TextKind) -> TextFault
         ensures { result ≡ told (fault_past kind (words_of self.entry)) }
     {
-        TextFault::At { kind, line: self.line, column: self.column }
+        TextFault::At {
+            kind,
+            line: self.line,
+            column: self.column,
+        }
     }
 
     /// The fault of this kind at the line's end.
     pub fn fault_beyond(self, kind: TextKind) -> TextFault
         ensures { result ≡ told (fault_beyond kind (words_of self.entry)) }
     {
-        TextFault::At { kind, line: self.line, column: self.column + self.rest.len() as u32 }
+        TextFault::At {
+            kind,
+            line: self.line,
+            column: self.column + self.rest.len() as u32,
+        }
     }
 
     /// The next word, which has to be there.
@@ -126,7 +142,12 @@ impl<'a> Words<'a> {
 
     /// The next word as a number from `least` to `most`.
     #[tactic(auto, unfolding(crate::specs::Reading::number_in))]
-    pub fn number(self, kind: TextKind, least: u16, most: u16) -> Result<(u16, Words<'a>), TextFault>
+    pub fn number(
+        self,
+        kind: TextKind,
+        least: u16,
+        most: u16,
+    ) -> Result<(u16, Words<'a>), TextFault>
         ensures value { Gives (λ x. (x.0, words_of x.1)) result (number_in kind least most (words_of self.entry)) }
         ensures least { IfOk result (λ x. least ≤ x.0) }
         ensures most { IfOk result (λ x. x.0 ≤ most) }
@@ -139,7 +160,12 @@ impl<'a> Words<'a> {
     }
 
     /// The next word as a number from `least` to `most`.
-    pub fn small_number(self, kind: TextKind, least: u8, most: u8) -> Result<(u8, Words<'a>), TextFault>
+    pub fn small_number(
+        self,
+        kind: TextKind,
+        least: u8,
+        most: u8,
+    ) -> Result<(u8, Words<'a>), TextFault>
         ensures value { Gives (λ x. (x.0, words_of x.1)) result (number_in kind least most (words_of self.entry)) }
         ensures least { IfOk result (λ x. least ≤ x.0) }
         ensures most { IfOk result (λ x. x.0 ≤ most) }

@@ -6,7 +6,8 @@ use Rattle.text_lines.proofs.lines.count_lines.Given as goal
 abbrev pub invariant-loop-rest : goal.invariant-loop-rest
 invariant-loop-rest l = record {
   so_far : l.count + length (lines l.rest) ≡ length (lines l.text);
-  small : l.count + length l.rest ≤ length l.text }
+  small : l.count + length l.rest ≤ length l.text;
+}
 
 abbrev pub decreases-loop-rest : goal.decreases-loop-rest
 decreases-loop-rest l = length l.rest

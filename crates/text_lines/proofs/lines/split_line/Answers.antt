@@ -1,4 +1,4 @@
-use Rattle.std.proofs.Common.{◌≡◌, ◌+◌, sym}
+use Rattle.std.proofs.Common.{◌+◌, sym}
 use Rattle.std.proofs.lemmas.List.{take_rest}
 use Rattle.text_lines.proofs.Parts.{lines-one, lines-first}
 use Rattle.text_lines.proofs.lines.split_line.Goals as goal

@@ -6,4 +6,5 @@ use Rattle.text_lines.proofs.numbers.parse_digits.Given as goal
 abbrev pub invariant-loop-byte : goal.invariant-loop-byte
 invariant-loop-byte l = record {
   so_far : digits_after l.number (drop l.byte-index l.text) ≡ digits_after 0 l.text;
-  small : l.number ≤ 9999999 }
+  small : l.number ≤ 9999999;
+}

@@ -8,7 +8,8 @@ abbrev pub invariant-loop-rest : goal.invariant-loop-rest
 invariant-loop-rest l = record {
   so_far : numbered l.number (lines l.rest) ≡ numbered l.self.number (lines l.self.rest.now);
   counted : 1 ≤ l.number;
-  in_text : l.number + length l.rest ≤ 65537 }
+  in_text : l.number + length l.rest ≤ 65537;
+}
 
 abbrev pub decreases-loop-rest : goal.decreases-loop-rest
 decreases-loop-rest l = length l.rest

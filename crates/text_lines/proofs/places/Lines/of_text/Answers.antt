@@ -1,4 +1,4 @@
-use Rattle.std.proofs.Common.{◌≡◌, sym, ap, ◌∙◌, Ok}
+use Rattle.std.proofs.Common.{sym, ap, ◌∙◌, Ok}
 use Rattle.text_lines.proofs.Faulty.{text_in-ok, text_in-utf8}
 use Rattle.text_lines.proofs.places.Lines.of_text.Goals as goal
 
