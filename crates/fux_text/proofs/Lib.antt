@@ -10,3 +10,6 @@ pub mod VoiceLoops
 pub mod Following
 pub mod ScoreLoops
 pub mod Answered
+pub mod Bounds
+pub mod ValidHead
+pub mod ValidRanges
