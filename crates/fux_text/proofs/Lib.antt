@@ -13,3 +13,5 @@ pub mod Answered
 pub mod Bounds
 pub mod ValidHead
 pub mod ValidRanges
+pub mod ValidSetting
+pub mod ValidText

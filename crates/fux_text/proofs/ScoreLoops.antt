@@ -12,7 +12,7 @@ use Rattle.fux_grid.proofs.Histories.{newest-reverse}
 use Rattle.fux_text.specs.Sing.{FollowsFrom, column_of}
 use Rattle.fux_text.proofs.Following.{rest-follows}
 
-column-cell : (lines : List (List Cell)) (j v : ℕ) → cell_in (column_of lines j) v ≡ cell_in (get_or lines v []) j
+pub column-cell : (lines : List (List Cell)) (j v : ℕ) → cell_in (column_of lines j) v ≡ cell_in (get_or lines v []) j
 column-cell [] j v = refl
 column-cell (l ∷ ls) j zero = refl
 column-cell (l ∷ ls) j (suc v) = column-cell ls j v
