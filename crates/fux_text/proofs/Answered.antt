@@ -6,9 +6,10 @@ use Rattle.text_lines.specs.declared.fault.TextFault.{TextFault}
 use Rattle.text_lines.specs.declared.fault.TextFault.TheVariants as faults
 use Rattle.text_lines.specs.Faults.{Fault, Fails, Gives}
 
-pub given-ok : {A : Type 0} (r : Result A TextFault) (read : Result A Fault) → Gives (λ x. x) r read → IfOk r (λ x. read ≡ Ok x)
-given-ok (Ok x) read h = h
-given-ok (Err e) read h = tt
+pub given-both : {A : Type 0} (r : Result A TextFault) (read : Result A Fault) (P : A → Type 0) → Gives (λ x. x) r read
+    → ((x : A) → read ≡ Ok x → P x) → IfOk r (λ x. (read ≡ Ok x) × P x)
+given-both (Ok x) read P h f = (h, f x h)
+given-both (Err e) read P h f = tt
 
 pub given-fault : {A : Type 0} (r : Result A TextFault) (read : Result A Fault) (kind : TextKind) (line column : ℕ)
     → r ≡ Err (faults.At kind line column) → Gives (λ x. x) r read

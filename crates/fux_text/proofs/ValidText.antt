@@ -11,12 +11,12 @@ use Rattle.text_lines.specs.Utf8.{text_in}
 use Rattle.text_lines.proofs.Binds.{bind_ok}
 use Rattle.fux_text.specs.Head.{head_in}
 use Rattle.fux_text.specs.Ranges.{ranges_in}
-use Rattle.fux_text.specs.Reading.{exercise_in}
+use Rattle.fux_text.specs.Reading.{exercise_in, setting_alone}
 use Rattle.fux_text.specs.Sing.{setting_in}
 use Rattle.fux_text.proofs.Following.{value_is}
 use Rattle.fux_text.proofs.ValidHead.{IsHead, head-valid}
 use Rattle.fux_text.proofs.ValidRanges.{AreValidRanges, ranges-valid}
-use Rattle.fux_text.proofs.ValidSetting.{setting-valid}
+use Rattle.fux_text.proofs.ValidSetting.{setting-valid, sung-valid}
 
 no-relax : (ex : Exercise) (lines : List Relax) → lines ≡ [] → All (IsRelax ex) lines
 no-relax ex lines none = subst (All (IsRelax ex)) (sym none) (λ k d lt. absurd (omega arith))
@@ -66,3 +66,9 @@ exercise-valid bytes ex e =
     subst IsValid (value_is _ ex _ refl setting.2)
         (all-valid head.0.0 ranges.0.0 setting.0 h (ranges-valid head.0.0 head.0.1 ranges.0 h.voices.above ranges.1)
             (setting-valid head.0.0 ranges.0.1 setting.0 h.cantus_there h.whole setting.1))
+
+pub alone-valid : (ex : Exercise) (bytes : List ℕ) (score : Grid) → IsValid ex → setting_alone ex bytes ≡ Ok score → IsGiven ex score
+unfolding setting_alone
+alone-valid ex bytes score valid e =
+    let text = bind_ok (text_in bytes) _ score e in
+    sung-valid ex text.0 score valid.cantus_there valid.whole_cantus text.2

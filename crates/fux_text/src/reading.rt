@@ -1,12 +1,13 @@
 //! Reading the note text.
 
 ghost use Rattle.std.specs.Prelude.{◌≡◌, ◌≤◌, ℕ, IfOk, MatchResult};
-ghost use Rattle.fux_grid.specs.Exercises.{IsValid};
+ghost use Rattle.fux_grid.specs.Exercises.{IsGiven, IsValid};
+ghost use Rattle.fux_grid.specs.Grid.{Grid};
 ghost use Rattle.fux_grid.specs.declared.exercise.Exercise.{Exercise};
 ghost use Rattle.text_lines.specs.Faults.{Gives};
 ghost use Rattle.text_lines.specs.declared.fault.TextKind.{TextKind};
 ghost use Rattle.fux_text.specs.Reading.{exercise_in, setting_alone};
-ghost use Rattle.fux_text.specs.Texts.{HasFault, IsEither, IsTextOf};
+ghost use Rattle.fux_text.specs.Texts.{AreSingLinesOf, HasFault, HasSingFault, IsEither, IsTextOf};
 
 use crate::head::head_in;
 use crate::ranges::ranges_in;
@@ -32,8 +33,8 @@ fn exercise_in(alloc: Global, bytes: &[u8]) -> Result<Exercise, TextFault>
 
 /// The exercise of a note text of at most 65,536 bytes, or the first fault of the text.
 pub fn read(alloc: Global, bytes: &[u8]) -> Result<Exercise, TextFault>
-    // What is read has this text, and a fault is the text's first one.
-    ensures ok { IfOk result (λ ex. IsTextOf bytes.now ex) }
+    // What is read is a valid exercise and has this text, and a fault is the text's first one.
+    ensures ok { IfOk result (λ ex. IsTextOf bytes.now ex × IsValid ex) }
     ensures fault { (kind : TextKind) (line column : ℕ) → result ≡ Err (TextFault.At kind line column)
         → HasFault bytes.now kind line column }
 
@@ -48,10 +49,29 @@ pub fn read(alloc: Global, bytes: &[u8]) -> Result<Exercise, TextFault>
 
 /// The setting of an exercise in a text of its `sing` lines alone.
 #[tactic(auto, unfolding(crate::specs::Reading::setting_alone))]
-pub fn read_sing(alloc: Global, ex: &Exercise, lines: &[u8]) -> Result<Score, TextFault>
+fn setting_alone(alloc: Global, ex: &Exercise, lines: &[u8]) -> Result<Score, TextFault>
     requires { IsValid ex.now }
     ensures { Gives (λ x. x) result (setting_alone ex.now lines.now) }
 {
     let text = Lines::of_text(lines)?;
     sung_score(alloc, text, ex)
+}
+
+/// The setting of an exercise in a text of its `sing` lines alone, one for each free voice from the lowest, or the first
+/// fault of the text.
+pub fn read_sing(alloc: Global, ex: &Exercise, lines: &[u8]) -> Result<Score, TextFault>
+    requires { IsValid ex.now }
+
+    // What is read is a setting with the cantus and has these lines, and a fault is their first one.
+    ensures ok { IfOk result (λ score. AreSingLinesOf ex.now lines.now score × IsGiven ex.now score) }
+    ensures fault { (kind : TextKind) (line column : ℕ) → result ≡ Err (TextFault.At kind line column)
+        → HasSingFault ex.now lines.now kind line column }
+
+    // Lines of a setting are read, and lines with a fault are answered by that fault, unless memory runs out.
+    ensures only { (score : Grid) → AreSingLinesOf ex.now lines.now score
+        → MatchResult result (λ found. found ≡ score) (λ fault. fault ≡ TextFault.Memory) }
+    ensures first { (kind : TextKind) (line column : ℕ) → HasSingFault ex.now lines.now kind line column
+        → MatchResult result (λ _. ⊥) (λ fault. IsEither fault (TextFault.At kind line column)) }
+{
+    setting_alone(alloc, ex, lines)
 }

@@ -1,12 +1,14 @@
 use Rattle.std.proofs.Common.{◌≡◌}
+use Rattle.fux_grid.specs.Exercises.{IsValid}
 use Rattle.fux_text.specs.Reading.{exercise_in}
 use Rattle.fux_text.specs.Texts.{HasFault, IsTextOf}
-use Rattle.fux_text.proofs.Answered.{given-ok, given-fault, given-only, given-first}
+use Rattle.fux_text.proofs.Answered.{given-both, given-fault, given-only, given-first}
+use Rattle.fux_text.proofs.ValidText.{exercise-valid}
 use Rattle.fux_text.proofs.reading.read.Goals as goal
 
 pub returns-clause-ok : goal.returns-clause-ok
 unfolding IsTextOf
-returns-clause-ok c = given-ok c.exercise_in.result (exercise_in c.args.bytes.now) c.exercise_in.ensures
+returns-clause-ok c = given-both c.exercise_in.result (exercise_in c.args.bytes.now) IsValid c.exercise_in.ensures (λ ex. exercise-valid c.args.bytes.now ex)
 
 pub returns-clause-fault : goal.returns-clause-fault
 unfolding HasFault
