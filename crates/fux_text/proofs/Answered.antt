@@ -4,7 +4,7 @@ use Rattle.std.specs.Prelude.{IfOk, MatchResult}
 use Rattle.text_lines.specs.declared.fault.TextKind.{TextKind}
 use Rattle.text_lines.specs.declared.fault.TextFault.{TextFault}
 use Rattle.text_lines.specs.declared.fault.TextFault.TheVariants as faults
-use Rattle.text_lines.specs.Faults.{Fault, Fails, Gives}
+use Rattle.text_lines.specs.Faults.{Fault, Gives}
 
 pub given-both : {A : Type 0} (r : Result A TextFault) (read : Result A Fault) (P : A → Type 0) → Gives (λ x. x) r read
     → ((x : A) → read ≡ Ok x → P x) → IfOk r (λ x. (read ≡ Ok x) × P x)

@@ -1,9 +1,8 @@
 -- Numbers that are read lie within their bounds.
-use Rattle.std.proofs.Common.{◌≡◌, ◌≢◌, ℕ, ◌-◌, ◌<◌, ◌≤◌, Bool, true, false, Option, Some, None, Result, Ok, Err, refl, sym, ap, subst, ◌∙◌, arith}
+use Rattle.std.proofs.Common.{◌≡◌, ◌≢◌, ℕ, ◌-◌, ◌≤◌, Bool, true, false, Option, Some, None, Ok, refl, subst, arith}
 use Rattle.std.specs.Prelude.{◌==◌, ◌&&◌, nat_le, if◌then◌else◌}
 use Rattle.std.specs.Option.{ok_or, option_and_then}
 use Rattle.text_lines.specs.declared.fault.TextKind.{TextKind}
-use Rattle.text_lines.specs.Faults.{Fault, ◌>>=◌}
 use Rattle.text_lines.specs.Numbers.{if_within, number_of, number_within}
 use Rattle.text_lines.specs.Reading.{fault_at, next, number_in}
 use Rattle.text_lines.specs.Words.{LineWords, PlacedWord}
@@ -67,5 +66,5 @@ other-bounds kind other voices at x e =
     let v = bind_ok (ok_or (other_voice other voices w.0.0.text) (fault_at kind w.0.0)) _ x w.2 in
     let found = ok_or_ok (other_voice other voices w.0.0.text) (fault_at kind w.0.0) v.0 v.1 in
     subst (λ y. IsOther other voices y.0) (value_is (v.0, w.0.0, w.0.1) x _ refl v.2)
-        (other-voice other voices (number_within 0 (voices - 1) w.0.0.text) v.0 found
-            (λ n e. (within-bounds 0 (voices - 1) (number_of w.0.0.text) n e).below))
+    (other-voice other voices (number_within 0 (voices - 1) w.0.0.text) v.0 found
+    (λ n e. (within-bounds 0 (voices - 1) (number_of w.0.0.text) n e).below))

@@ -1,6 +1,6 @@
 -- What is read of a voice: each cell may follow the one before it (`voices-follow`), and there is a line for each
 -- voice (`voices-length`).
-use Rattle.std.proofs.Common.{◌≡◌, ℕ, zero, suc, ◌+◌, ◌-◌, ◌*◌, ◌<◌, ◌≤◌, Bool, true, false, List, [], ◌∷◌, ◌++◌, length, map, replicate, Option, Some, None, Result, Ok, Err, rules, length-append, refl, sym, ap, subst, ◌∙◌, arith}
+use Rattle.std.proofs.Common.{◌≡◌, ℕ, zero, suc, ◌+◌, ◌-◌, ◌*◌, Bool, true, false, List, [], ◌∷◌, ◌++◌, length, replicate, Option, Some, None, Result, Ok, rules, length-append, refl, ap, subst, arith}
 use Rattle.std.specs.Prelude.{◌==◌, not, IsTrue, codes, if◌then◌else◌, option_map}
 use Rattle.std.specs.List.{AllByRecursion, flat_map}
 use Rattle.std.specs.Option.{ok_or}
@@ -86,7 +86,7 @@ item_in-follows bar cells w item e =
     let cell = bind_ok (ok_or (first_cell (length cells == 8 * bar) (latest Rest cells) name.0) (fault_at kinds.Tie w)) _ item count.2 in
     let found = ok_or_ok (first_cell (length cells == 8 * bar) (latest Rest cells) name.0) (fault_at kinds.Tie w) cell.0 cell.1 in
     subst (λ x. IsTrue (cell_follows (latest Rest cells) x.0)) (value_is (cell.0, count.0) item _ refl cell.2)
-        (first-follows (length cells == 8 * bar) (latest Rest cells) cell.0 name.0 found)
+    (first-follows (length cells == 8 * bar) (latest Rest cells) cell.0 name.0 found)
 
 word-follows : (bars bar : ℕ) (cells : List Cell) (w : PlacedWord) (out : ℕ × List Cell) → FollowsFrom Rest cells
     → sung_word bars bar cells w ≡ Ok out → FollowsFrom Rest out.1
@@ -101,8 +101,8 @@ word-follows bars bar cells w out f e = by (same_text w.text (codes "|")) e
     by false e =
         let item = bind_ok (item_in bar cells w) _ out e in
         subst (λ x. FollowsFrom Rest x.1) (value_is (bar, cells ++ item_cells item.0.0 item.0.1) out _ refl item.2)
-            (follows-append Rest cells (item_cells item.0.0 item.0.1) f
-                (item-follows (latest Rest cells) item.0.0 item.0.1 (item_in-follows bar cells w item.0 item.1)))
+        (follows-append Rest cells (item_cells item.0.0 item.0.1) f
+        (item-follows (latest Rest cells) item.0.0 item.0.1 (item_in-follows bar cells w item.0 item.1)))
 
 end-same : (bars bar : ℕ) (cells : List Cell) (at : LineWords) (out : List Cell) → sung_end bars bar cells at ≡ Ok out → cells ≡ out
 unfolding sung_end
@@ -125,13 +125,13 @@ line-follows bars v text out e =
     let voice = bind_ok (number_in kinds.Sing v v line.0.0) _ out line.2 in
     let cells = bind_ok (sung_in bars voice.0.1) _ out voice.2 in
     subst (λ x. FollowsFrom Rest x.0) (value_is (cells.0, line.0.1) out _ refl cells.2)
-        (words-follow bars 0 [] voice.0.1 voice.0.1.words cells.0 tt cells.1)
+    (words-follow bars 0 [] voice.0.1 voice.0.1.words cells.0 tt cells.1)
 
 start-follows : (before : Cell) (cantus : List Pitch) → FollowsFrom before (flat_map (λ p. item_cells (Start p) 8) cantus)
 start-follows before [] = tt
 start-follows before (p ∷ ps) =
     follows-append before (item_cells (Start p) 8) (flat_map (λ q. item_cells (Start q) 8) ps)
-        (item-follows before (Start p) 8 (start-any before p)) (start-follows (latest before (item_cells (Start p) 8)) ps)
+    (item-follows before (Start p) 8 (start-any before p)) (start-follows (latest before (item_cells (Start p) 8)) ps)
 
 voice-follows : (ex : Exercise) (v : ℕ) (text : TextLines) (out : List Cell × TextLines) → voice_in ex v text ≡ Ok out → FollowsFrom Rest out.0
 unfolding voice_in cantus_cells
@@ -155,7 +155,7 @@ voices-follow ex [] before text out f e =
 voices-follow ex (v ∷ vs) before text out f e =
     let cells = bind_ok (voice_in ex v text) (λ found. voices_in ex vs (before ++ found.0 ∷ []) found.1) out e in
     voices-follow ex vs (before ++ cells.0.0 ∷ []) cells.0.1 out
-        (all-push before cells.0.0 f (voice-follows ex v text cells.0 cells.1)) cells.2
+    (all-push before cells.0.0 f (voice-follows ex v text cells.0 cells.1)) cells.2
 
 -- each voice has its cells
 pub voices-length : (ex : Exercise) (vs : List ℕ) (before : List (List Cell)) (text : TextLines) (out : List (List Cell) × TextLines)

@@ -1,6 +1,6 @@
 -- A word names one thing at most, and each thing is found by its name (`by_name`, `all_modes`, `all_pitches`).
 use Rattle.std.proofs.Common.{◌≡◌, ℕ, zero, suc, ◌+◌, ◌<◌, ◌≤◌, ℤ, pos, negsuc, ◌≤ℤ◌, ◌⊎◌, inl, inr, Bool, true, false, List, [], ◌∷◌, ◌++◌, Option, Some, None, refl, sym, ap, ◌∙◌, subst, arith}
-use Rattle.std.specs.Prelude.{◌≢◌, IfSome, if◌then◌else◌, nat_eq}
+use Rattle.std.specs.Prelude.{IfSome, if◌then◌else◌}
 use Rattle.std.specs.Cmp.Lexicographic as texts
 use Rattle.std.specs.List.{filter_map, flat_map, range_with_len, cons_option}
 use Rattle.std.proofs.lemmas.Int.{ints}
@@ -8,13 +8,10 @@ use Rattle.text_lines.specs.Reading.{same_text}
 use Rattle.fux_pitch.specs.declared.mode.Mode.{Mode}
 use Rattle.fux_pitch.specs.declared.mode.Mode.TheVariants.{Dorian, Phrygian, Lydian, Mixolydian, Aeolian, Ionian}
 use Rattle.fux_pitch.specs.declared.pitch.Pitch.{Pitch}
-use Rattle.fux_pitch.specs.Names.{name_of}
 use Rattle.fux_pitch.specs.Pitch.{pitch_at, degree_of, alter_of}
-use Rattle.fux_pitch.proofs.NameLemmas.{name_of-injective}
 use Rattle.fux_pitch.proofs.NameParts.{octave-range}
 use Rattle.fux_pitch.proofs.PitchLemmas.{pitch_at-own}
-use Rattle.fux_text.specs.Lines.{mode_name}
-use Rattle.fux_text.specs.Names.{mode_named, modes, named, pitch_named, pitches, pitches_on}
+use Rattle.fux_text.specs.Names.{modes, named, pitches, pitches_on}
 
 -- two texts are one where the test says so, and only there
 same_true : (xs ys : List ℕ) (b : Bool) → same_text xs ys ≡ b → b ≡ true → xs ≡ ys
@@ -129,6 +126,6 @@ pub all_pitches : (p : Pitch) → Has pitches p
 unfolding pitches
 all_pitches p =
     has-flat_map pitches_on (range_with_len 0 64) (degree_of p) p
-        (has-filter_map (pitch_at (degree_of p)) (negsuc 0 ∷ pos 0 ∷ pos 1 ∷ []) (alter_of p) p (pitch_at-own p)
-            (has_alter (alter_of p) p.is_pitch.flat p.is_pitch.sharp))
-        (has-range 64 0 (degree_of p) (omega arith) (omega (arith, octave-range p)))
+    (has-filter_map (pitch_at (degree_of p)) (negsuc 0 ∷ pos 0 ∷ pos 1 ∷ []) (alter_of p) p (pitch_at-own p)
+    (has_alter (alter_of p) p.is_pitch.flat p.is_pitch.sharp))
+    (has-range 64 0 (degree_of p) (omega arith) (omega (arith, octave-range p)))

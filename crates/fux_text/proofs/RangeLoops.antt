@@ -1,5 +1,5 @@
 -- Reading range lines one after the other, as a loop does.
-use Rattle.std.proofs.Common.{◌≡◌, ℕ, suc, ◌+◌, ◌<◌, Bool, true, false, List, [], ◌∷◌, ◌++◌, length, Result, Ok, Err, refl, sym, ap, subst, ◌∙◌, arith}
+use Rattle.std.proofs.Common.{◌≡◌, ℕ, ◌<◌, true, false, List, [], ◌∷◌, ◌++◌, length, Result, Ok, Err, refl, sym, subst, ◌∙◌, arith}
 use Rattle.std.specs.Prelude.{codes}
 use Rattle.fux_grid.specs.declared.exercise.Exercise.{Exercise}
 use Rattle.fux_grid.specs.declared.exercise.RangeLine.{RangeLine}
@@ -32,7 +32,7 @@ unfolding range_line
 range_line-rest ex before after line others r rest e =
     let text : TextLines = record { after = after; lines = line ∷ others } in
     let head = bind_ok (headed kinds.Head (codes "range") text)
-        (λ at. range_in ex before at.0 >>= λ range. Ok (range, at.1)) (r, rest) e in
+    (λ at. range_in ex before at.0 >>= λ range. Ok (range, at.1)) (r, rest) e in
     let body = bind_ok (range_in ex before head.0.0) (λ range. Ok (range, head.0.1)) (r, rest) head.2 in
     pair_rest body.0 head.0.1 (r, rest) _ refl body.2 ∙ headed-rest kinds.Head (codes "range") after line others head.0 head.1
 

@@ -1,5 +1,5 @@
 -- The columns of lines whose cells follow one another follow one another, too (`next-follows`).
-use Rattle.std.proofs.Common.{◌≡◌, ℕ, zero, suc, ◌+◌, ◌-◌, ◌<◌, List, [], ◌∷◌, ◌++◌, length, map, reverse, get_or, refl, sym, ap, ◌∙◌, arith}
+use Rattle.std.proofs.Common.{◌≡◌, ℕ, zero, suc, ◌+◌, ◌-◌, List, [], ◌∷◌, ◌++◌, length, map, reverse, get_or, refl, sym, ap, ◌∙◌, arith}
 use Rattle.std.specs.Prelude.{IsTrue}
 use Rattle.std.specs.List.{AllByRecursion, range_with_len}
 use Rattle.std.proofs.lemmas.List.FromFn.{map-range_with_len_more, length-map-range_with_len, get_or-map-range_with_len}
@@ -36,8 +36,8 @@ newest-cell lines (suc j) v =
     let long : length s ≡ suc j = length-map-range_with_len (column_of lines) 0 (suc j) in
     let before : suc j - 1 ≡ j = omega arith in
     ap (λ col. cell_in col v) (newest-reverse s (suc j) (sym long) (omega arith)
-        ∙ ap (λ k. get_or s k []) before
-        ∙ get_or-map-range_with_len (column_of lines) 0 (suc j) j j [] (omega arith) (omega arith))
+    ∙ ap (λ k. get_or s k []) before
+    ∙ get_or-map-range_with_len (column_of lines) 0 (suc j) j j [] (omega arith) (omega arith))
     ∙ column-cell lines j v
 
 -- the next column of lines may come behind those before
@@ -50,7 +50,7 @@ next-follows lines i f = λ v.
 pub grown : (score : Grid) (lines : List (List Cell)) (col : List Cell) (i : ℕ)
     → score ≡ record { voices = length lines; columns = map (column_of lines) (range_with_len 0 i) } → col ≡ column_of lines i
     → record score { columns = score.columns ++ col ∷ [] }
-        ≡ record { voices = length lines; columns = map (column_of lines) (range_with_len 0 (i + 1)) }
+    ≡ record { voices = length lines; columns = map (column_of lines) (range_with_len 0 (i + 1)) }
 grown score lines col i e same =
     ap (λ (s : Grid). record s { columns = s.columns ++ col ∷ [] }) e
     ∙ ap (λ x. record { voices = length lines; columns = map (column_of lines) (range_with_len 0 i) ++ x ∷ [] }) same

@@ -1,15 +1,14 @@
 -- The lines before the ranges give numbers within their limits, and a pitch for each bar (`head-valid`).
-use Rattle.std.proofs.Common.{◌≡◌, ◌≢◌, ℕ, zero, suc, ◌+◌, ◌-◌, ◌<◌, ◌≤◌, List, [], ◌∷◌, ◌++◌, length, length-append, Option, None, Result, Ok, Err, refl, sym, ap, subst, ◌∙◌, arith}
+use Rattle.std.proofs.Common.{◌≡◌, ◌≢◌, ℕ, zero, suc, ◌+◌, ◌-◌, ◌<◌, ◌≤◌, List, [], ◌∷◌, ◌++◌, length, length-append, Ok, refl, sym, ap, subst, arith}
 use Rattle.std.specs.Prelude.{codes}
 use Rattle.fux_pitch.specs.declared.pitch.Pitch.{Pitch}
 use Rattle.fux_grid.specs.declared.exercise.Exercise.{Exercise}
 use Rattle.text_lines.specs.declared.fault.TextKind.{TextKind}
 use Rattle.text_lines.specs.declared.fault.TextKind.TheVariants as kinds
-use Rattle.text_lines.specs.Faults.{Fault, ◌>>=◌}
 use Rattle.text_lines.specs.Lines.{TextLines}
 use Rattle.text_lines.specs.Reading.{done, headed, literal, number_in}
-use Rattle.text_lines.specs.Words.{LineWords, PlacedWord}
-use Rattle.text_lines.proofs.Binds.{bind_ok, ok_or_ok}
+use Rattle.text_lines.specs.Words.{LineWords}
+use Rattle.text_lines.proofs.Binds.{bind_ok}
 use Rattle.fux_text.specs.Head.{cantus_line, head_in, mode_line, number_line, other_voice_in, pitch_in, pitches_in, species_line, version_line}
 use Rattle.fux_text.specs.Waiting.{most_species, most_voices}
 use Rattle.fux_text.proofs.Bounds.{IsOther, IsWithin, number-bounds, other-bounds}
@@ -38,9 +37,10 @@ species-bounds voices text x e =
     let v = bind_ok (number_in kinds.Word 0 (voices - 1) rest.0) _ x rest.2 in
     let end = bind_ok (done kinds.Word v.0.1) _ x v.2 in
     subst (λ y. IsSpecies voices y.0 y.1) (value_is (n.0.0, v.0.0, line.0.1) x _ refl end.2)
-        (record {
-          species = number-bounds kinds.Word 1 most_species line.0.0 n.0 n.1;
-          voice = (number-bounds kinds.Word 0 (voices - 1) rest.0 v.0 v.1).below })
+    (record {
+      species = number-bounds kinds.Word 1 most_species line.0.0 n.0 n.1;
+      voice = (number-bounds kinds.Word 0 (voices - 1) rest.0 v.0 v.1).below;
+    })
 
 pitches-length : (n : ℕ) (before : List Pitch) (at : LineWords) (x : List Pitch × LineWords) → pitches_in n before at ≡ Ok x
     → length x.0 ≡ length before + n
@@ -67,7 +67,7 @@ cantus-bounds voices species_voice bars text x e =
     let end = bind_ok (done kinds.Cantus pitches.0.1) _ x pitches.2 in
     let long : length pitches.0.0 ≡ bars = omega (arith, pitches-length bars [] v.0.2 pitches.0 pitches.1) in
     subst (λ y. IsCantus voices species_voice bars y.0 y.1) (value_is (v.0.0, pitches.0.0, line.0.1) x _ refl end.2)
-        (record { voice = other-bounds kinds.Cantus species_voice voices line.0.0 v.0 v.1; whole = long })
+    (record { voice = other-bounds kinds.Cantus species_voice voices line.0.0 v.0 v.1; whole = long })
 
 -- an exercise without ranges and setting is within the limits
 pub record IsHead (ex : Exercise) : Type 0 where
@@ -93,12 +93,13 @@ head-valid text x e =
     let kind = species-bounds voices.0.0 bars.0.1 species.0 species.1 in
     let tune = cantus-bounds voices.0.0 species.0.1 bars.0.0 species.0.2 cantus.0 cantus.1 in
     subst (λ y. IsHead y.0) (value_is _ x _ refl cantus.2)
-        (record {
-          voices = some;
-          bars = number_line-bounds (codes "bars") kinds.Bars 3 24 voices.0.1 bars.0 bars.1;
-          species = kind.species;
-          species_there = omega (arith, kind.voice, some.above);
-          cantus_there = omega (arith, tune.voice.within, some.above);
-          differ = λ same. tune.voice.differs (sym same);
-          whole = tune.whole;
-          no_relax = refl })
+    (record {
+      voices = some;
+      bars = number_line-bounds (codes "bars") kinds.Bars 3 24 voices.0.1 bars.0 bars.1;
+      species = kind.species;
+      species_there = omega (arith, kind.voice, some.above);
+      cantus_there = omega (arith, tune.voice.within, some.above);
+      differ = λ same. tune.voice.differs (sym same);
+      whole = tune.whole;
+      no_relax = refl;
+    })

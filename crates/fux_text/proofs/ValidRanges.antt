@@ -1,7 +1,7 @@
 -- Range lines that are read fit the exercise, and each voice's first one is for all bars (`ranges-valid`).
-use Rattle.std.proofs.Common.{◌≡◌, ◌≢◌, ℕ, ◌-◌, ◌<◌, ◌≤◌, ℤ, ◌≤ℤ◌, Bool, true, false, List, [], ◌∷◌, ◌++◌, length, get_or, Option, Some, None, Result, Ok, Err, refl, sym, ap, subst, ◌∙◌, arith}
+use Rattle.std.proofs.Common.{◌≡◌, ℕ, ◌≤◌, ◌≤ℤ◌, Bool, true, false, List, [], ◌∷◌, ◌++◌, get_or, Option, Some, None, Ok, refl, sym, ap, subst, ◌∙◌, arith}
 use Rattle.std.specs.Prelude.{◌==◌, ◌||◌, not, All, filter, IfSome, IsSome, int_lt, codes, if◌then◌else◌, ⊤}
-use Rattle.std.specs.List.{list_all, list_any, range_with_len}
+use Rattle.std.specs.List.{range_with_len}
 use Rattle.std.specs.Option.{ok_or}
 use Rattle.std.proofs.lemmas.Int.{ints}
 use Rattle.std.proofs.lemmas.List.{append-nil}
@@ -12,17 +12,17 @@ use Rattle.fux_pitch.specs.declared.pitch.Pitch.{Pitch}
 use Rattle.fux_pitch.specs.Pitch.{key_of}
 use Rattle.fux_grid.specs.declared.exercise.Exercise.{Exercise}
 use Rattle.fux_grid.specs.declared.exercise.RangeLine.{RangeLine}
-use Rattle.fux_grid.specs.Exercises.{AreBars, BeginsWithWhole, IsFree, IsRangeLine}
+use Rattle.fux_grid.specs.Exercises.{BeginsWithWhole, IsFree, IsRangeLine}
 use Rattle.text_lines.specs.declared.fault.TextKind.TheVariants as kinds
 use Rattle.text_lines.specs.Faults.{Fault, ◌>>=◌}
 use Rattle.text_lines.specs.Lines.{TextLines}
 use Rattle.text_lines.specs.Reading.{begins, done, fault_at, fault_here, headed, next, number_in}
-use Rattle.text_lines.specs.Words.{LineWords, PlacedWord}
-use Rattle.text_lines.proofs.Binds.{bind_ok, ok_or_ok}
+use Rattle.text_lines.specs.Words.{LineWords}
+use Rattle.text_lines.proofs.Binds.{bind_ok}
 use Rattle.fux_text.specs.Head.{other_voice_in, pitch_in}
 use Rattle.fux_text.specs.Names.{pitch_named}
 use Rattle.fux_text.specs.Ranges.{all_ranged, bars_in, bars_of_later, has_line, high_in, misfits, range_in, range_line, ranges_in, ranges_on, refused_if}
-use Rattle.fux_text.proofs.Bounds.{IsOther, IsWithin, number-bounds, other-bounds}
+use Rattle.fux_text.proofs.Bounds.{IsOther, number-bounds, other-bounds}
 use Rattle.fux_text.proofs.Following.{value_is}
 
 -- where nothing was refused, the test failed
@@ -50,7 +50,7 @@ bars-within bars at x e =
     let a = number-bounds kinds.Range 1 bars at from.0 from.1 in
     let b = number-bounds kinds.Range from.0.0 bars from.0.1 to.0 to.1 in
     subst (λ y. (1 ≤ y.0.0) × (y.0.0 ≤ y.0.1) × (y.0.1 ≤ bars)) (value_is ((from.0.0, to.0.0), to.0.1) x _ refl to.2)
-        (a.above, b.above, b.below)
+    (a.above, b.above, b.below)
 
 -- a first line has no bars, and a later one has some
 abbrev AreBarsOf : Bool → ℕ → Option (ℕ × ℕ) → Type 0
@@ -65,7 +65,7 @@ later-bars false bars at x e =
 later-bars true bars at x e =
     let found = bind_ok (bars_in bars at) _ x e in
     subst (λ y. AreBarsOf true bars y.0) (value_is (Some found.0.0, found.0.1) x _ refl found.2)
-        ((λ h. absurd (grind (arith, h))), (λ _. refl), bars-within bars at found.0 found.1)
+    ((λ h. absurd (grind (arith, h))), (λ _. refl), bars-within bars at found.0 found.1)
 
 -- a range line of an exercise behind those before
 record IsNext (ex : Exercise) (before : List RangeLine) (line : RangeLine) : Type 0 where
@@ -84,10 +84,11 @@ range-next ex before at line e =
     let bars = bind_ok (bars_of_later (has_line before v.0.0) ex.bars high.0.1) _ line high.2 in
     let end = bind_ok (done kinds.Word bars.0.1) _ line bars.2 in
     subst (IsNext ex before) (value_is _ line _ refl end.2)
-        (record {
-          voice = other-bounds kinds.Range ex.cantus_voice ex.voices at v.0 v.1;
-          rises = high-rises low.0.0 low.0.1 high.0 high.1;
-          bars = later-bars (has_line before v.0.0) ex.bars high.0.1 bars.0 bars.1 })
+    (record {
+      voice = other-bounds kinds.Range ex.cantus_voice ex.voices at v.0 v.1;
+      rises = high-rises low.0.0 low.0.1 high.0 high.1;
+      bars = later-bars (has_line before v.0.0) ex.bars high.0.1 bars.0 bars.1;
+    })
 
 range_line-next : (ex : Exercise) (before : List RangeLine) (text : TextLines) (x : RangeLine × TextLines)
     → range_line ex before text ≡ Ok x → IsNext ex before x.0
@@ -145,8 +146,8 @@ begun-next ex before line v next begun =
     by true e =
         let same : line.voice ≡ v = grind (arith, e) in
         begun-push v (of_voice v before) line begun
-            (λ none. next.bars.0 (ap (has_line before) same ∙ any-none v before none))
-            (λ first others some. next.bars.1 (ap (has_line before) same ∙ any-some v before first others some))
+        (λ none. next.bars.0 (ap (has_line before) same ∙ any-none v before none))
+        (λ first others some. next.bars.1 (ap (has_line before) same ∙ any-some v before first others some))
     by false e = subst Begun (sym (append-nil (of_voice v before))) begun
 
 -- range lines that are read
@@ -158,16 +159,18 @@ next-fits : (ex : Exercise) (before : List RangeLine) (line : RangeLine) → 2 �
 next-fits ex before line some next = record {
   free = record { there = omega (arith, next.voice.within); no_cantus = next.voice.differs };
   rises = next.rises;
-  within = next.bars.2 }
+  within = next.bars.2;
+}
 
 ranges-push : (ex : Exercise) (before : List RangeLine) (line : RangeLine) → 2 ≤ ex.voices → IsNext ex before line
     → AreRanges ex before → AreRanges ex (before ++ line ∷ [])
 ranges-push ex before line some next so_far = record {
   fit = All-append (IsRangeLine ex) before (line ∷ []) so_far.fit
       (λ k d lt.
-        let first : 0 ≡ k = omega arith in
-        subst (λ n. IsRangeLine ex (get_or (line ∷ []) n d)) first (next-fits ex before line some next));
-  begun = λ v. begun-next ex before line v next (so_far.begun v) }
+      let first : 0 ≡ k = omega arith in
+      subst (λ n. IsRangeLine ex (get_or (line ∷ []) n d)) first (next-fits ex before line some next));
+  begun = λ v. begun-next ex before line v next (so_far.begun v);
+}
 
 ranges_on-valid : (ex : Exercise) (before : List RangeLine) (after : ℕ) (lines : List LineWords) (x : List RangeLine × TextLines)
     → 2 ≤ ex.voices → AreRanges ex before → ranges_on ex before after lines ≡ Ok x → AreRanges ex x.0
@@ -179,6 +182,7 @@ ranges_on-valid ex before after (line ∷ others) x some so_far e =
   where
     text : TextLines
     text = record { after = after; lines = line ∷ others }
+
     by : (b : Bool) → ((r : RangeLine) → AreRanges ex (before ++ r ∷ []) → ranges_on ex (before ++ r ∷ []) after others ≡ Ok x → AreRanges ex x.0)
         → (if b then (range_line ex before text >>= λ range. ranges_on ex (before ++ range.0 ∷ []) after others) else Ok (before, text)) ≡ Ok x
         → AreRanges ex x.0
@@ -205,21 +209,23 @@ ranges-valid ex text x some e =
     let whole = bind_ok (refused_if (not (all_ranged ex found.0.0)) (fault_here kinds.Range found.0.1)) _ x found.2 in
     let test = not_refused (not (all_ranged ex found.0.0)) (fault_here kinds.Range found.0.1) whole.0 whole.1 in
     let valid = ranges_on-valid ex [] text.after text.lines found.0 some
-        (record { fit = λ k d lt. absurd (omega arith); begun = λ v. tt }) found.1 in
+    (record { fit = λ k d lt. absurd (omega arith); begun = λ v. tt }) found.1 in
     subst (λ y. AreValidRanges ex y.0) (value_is found.0 x _ refl whole.2)
-        (record { fit = valid.fit; each = λ v free. whole-from v found.0.0 _ refl (has found.0.0 v free test) (valid.begun v) })
+    (record { fit = valid.fit; each = λ v free. whole-from v found.0.0 _ refl (has found.0.0 v free test) (valid.begun v) })
   where
     not_not : (b : Bool) → not b ≡ false → b ≡ true
     not_not true e = refl
     not_not false e = grind (arith, e)
+
     or-right : (a b : Bool) → (a || b) ≡ true → (a ≡ true → ⊥) → b ≡ true
     or-right true b e n = absurd (n refl)
     or-right false b e n = e
+
     has : (lines : List RangeLine) (v : ℕ) → IsFree ex v → not (all_ranged ex lines) ≡ false → has_line lines v ≡ true
     has lines v free test =
         let all = AllPass-from_list_all (λ w. (w == ex.cantus_voice) || has_line lines w) (range_with_len 0 ex.voices)
-            (not_not _ test) v 0 (omega (arith, length-range_with_len 0 ex.voices, free.there)) in
+        (not_not _ test) v 0 (omega (arith, length-range_with_len 0 ex.voices, free.there)) in
         let at : get_or (range_with_len 0 ex.voices) v 0 ≡ v = get_or-range_with_len 0 ex.voices v 0 free.there ∙ omega arith in
         or-right (v == ex.cantus_voice) (has_line lines v)
-            (subst (λ w. ((w == ex.cantus_voice) || has_line lines w) ≡ true) at all)
-            (λ same. free.no_cantus (grind (arith, same)))
+        (subst (λ w. ((w == ex.cantus_voice) || has_line lines w) ≡ true) at all)
+        (λ same. free.no_cantus (grind (arith, same)))

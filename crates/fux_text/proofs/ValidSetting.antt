@@ -1,20 +1,20 @@
 -- A setting that is read is complete and has the cantus (`setting-valid`).
-use Rattle.std.proofs.Common.{◌≡◌, ◌⊎◌, inl, inr, ℕ, zero, suc, ◌+◌, ◌-◌, ◌*◌, ◌/◌, ◌%◌, ◌<◌, ◌≤◌, Bool, true, false, List, [], ◌∷◌, ◌++◌, length, length-append, map, get_or, Option, Some, None, Result, Ok, Err, refl, sym, ap, subst, ◌∙◌, arith}
+use Rattle.std.proofs.Common.{◌≡◌, ◌⊎◌, inl, inr, ℕ, zero, suc, ◌+◌, ◌*◌, ◌/◌, ◌%◌, ◌<◌, ◌≤◌, Bool, true, false, List, [], ◌∷◌, ◌++◌, length, length-append, map, get_or, Option, Some, None, Ok, refl, sym, ap, subst, ◌∙◌, arith}
 use Rattle.std.specs.Prelude.{◌==◌, codes, if◌then◌else◌, option_map, slice_get, IfSome}
-use Rattle.std.specs.List.{flat_map, range_with_len}
+use Rattle.std.specs.List.{range_with_len}
 use Rattle.std.proofs.lemmas.List.FromFn.{get_or-map-range_with_len, length-map-range_with_len, length-range_with_len}
 use Rattle.fux_pitch.specs.declared.pitch.Pitch.{Pitch}
 use Rattle.fux_grid.specs.declared.cell.Cell.{Cell}
-use Rattle.fux_grid.specs.declared.cell.Cell.TheVariants.{Rest, Hold, Start}
+use Rattle.fux_grid.specs.declared.cell.Cell.TheVariants.{Hold, Start}
 use Rattle.fux_grid.specs.declared.exercise.Exercise.{Exercise}
 use Rattle.fux_grid.specs.Cells.{cell_in}
-use Rattle.fux_grid.specs.Exercises.{HasCantus, IsComplete, IsGiven, cantus_cell, columns_in}
+use Rattle.fux_grid.specs.Exercises.{IsGiven, cantus_cell}
 use Rattle.fux_grid.specs.Grid.{Grid}
-use Rattle.text_lines.specs.Faults.{Fault, ◌>>=◌}
+use Rattle.text_lines.specs.Faults.{◌>>=◌}
 use Rattle.text_lines.specs.Lines.{TextLines}
 use Rattle.text_lines.specs.Reading.{begins, no_line}
 use Rattle.text_lines.proofs.Binds.{bind_ok}
-use Rattle.fux_text.specs.Sing.{cantus_cells, column_of, item_cells, score_of, setting_in, sing_line_in, sung_score, voice_in, voices_in}
+use Rattle.fux_text.specs.Sing.{cantus_cells, column_of, score_of, setting_in, sing_line_in, sung_score, voice_in, voices_in}
 use Rattle.fux_text.proofs.Following.{value_is, voices-length}
 use Rattle.fux_text.proofs.ScoreLoops.{column-cell}
 
@@ -75,18 +75,21 @@ voices-keep ex zero a before text x long e =
     let same : before ≡ x.0 = ap (λ y. y.0) (value_is (before, text) x _ refl e) in
     record {
       kept = λ k lt. ap (λ lines. get_or lines k []) (sym same);
-      cantus = λ low high. absurd (omega (arith, low, high)) }
+      cantus = λ low high. absurd (omega (arith, low, high));
+    }
 voices-keep ex (suc n) a before text x long e =
     let cells = bind_ok (voice_in ex a text) (λ found. voices_in ex (range_with_len (a + 1) n) (before ++ found.0 ∷ []) found.1) x e in
     let more = before ++ cells.0.0 ∷ [] in
     let rest = voices-keep ex n (a + 1) more cells.0.1 x (omega (arith, long, length-append before (cells.0.0 ∷ []))) cells.2 in
     let last : get_or x.0 a [] ≡ cells.0.0 =
-        rest.kept a (omega arith) ∙ ap (λ k. get_or more k []) (sym long) ∙ get_or-end before cells.0.0 in
+    rest.kept a (omega arith) ∙ ap (λ k. get_or more k []) (sym long) ∙ get_or-end before cells.0.0 in
     record {
       kept = λ k lt. rest.kept k (omega (arith, lt)) ∙ get_or-left before cells.0.0 k (omega (arith, lt, long));
       cantus = λ low high. elim (eq_or_more a ex.cantus_voice low) [
-        inl same ↦ ap (λ v. get_or x.0 v []) (sym same) ∙ last ∙ voice-cantus ex a text cells.0 same cells.1
-        | inr lt ↦ rest.cantus (omega (arith, lt)) (omega (arith, high)) ] }
+        | inl same ↦ ap (λ v. get_or x.0 v []) (sym same) ∙ last ∙ voice-cantus ex a text cells.0 same cells.1
+        | inr lt ↦ rest.cantus (omega (arith, lt)) (omega (arith, high))
+      ];
+    }
   where
     eq_or_more : (a b : ℕ) → a ≤ b → (a ≡ b) ⊎ (a < b)
     eq_or_more a b h = grind (arith, h)
@@ -97,14 +100,15 @@ unfolding score_of
 score-given ex lines there whole long keeps = record {
   complete = record { voices = long; whole = length-map-range_with_len (column_of lines) 0 (8 * ex.bars) };
   cantus = λ i lt.
-    let low : i < 8 * ex.bars = omega (arith, lt, length-map-range_with_len (column_of lines) 0 (8 * ex.bars)) in
-    let col : get_or (map (column_of lines) (range_with_len 0 (8 * ex.bars))) i [] ≡ column_of lines i =
-        get_or-map-range_with_len (column_of lines) 0 (8 * ex.bars) i i [] low (omega arith) in
-    let cell : cell_in (column_of lines i) ex.cantus_voice ≡ cell_in (cantus_cells ex.cantus) i =
-        column-cell lines i ex.cantus_voice ∙ ap (λ cells. cell_in cells i) (keeps.cantus (omega arith) (omega (arith, there))) in
-    cantus_cells-at ex.cantus i (omega (arith, low, whole))
-    ∙ ap Some (sym cell)
-    ∙ ap (λ c. Some (cell_in c ex.cantus_voice)) (sym col) }
+      let low : i < 8 * ex.bars = omega (arith, lt, length-map-range_with_len (column_of lines) 0 (8 * ex.bars)) in
+      let col : get_or (map (column_of lines) (range_with_len 0 (8 * ex.bars))) i [] ≡ column_of lines i =
+      get_or-map-range_with_len (column_of lines) 0 (8 * ex.bars) i i [] low (omega arith) in
+      let cell : cell_in (column_of lines i) ex.cantus_voice ≡ cell_in (cantus_cells ex.cantus) i =
+      column-cell lines i ex.cantus_voice ∙ ap (λ cells. cell_in cells i) (keeps.cantus (omega arith) (omega (arith, there))) in
+      cantus_cells-at ex.cantus i (omega (arith, low, whole))
+      ∙ ap Some (sym cell)
+      ∙ ap (λ c. Some (cell_in c ex.cantus_voice)) (sym col);
+}
 
 pub sung-valid : (ex : Exercise) (text : TextLines) (score : Grid) → ex.cantus_voice < ex.voices → length ex.cantus ≡ ex.bars
     → sung_score ex text ≡ Ok score → IsGiven ex score
@@ -113,9 +117,9 @@ sung-valid ex text score there whole e =
     let lines = bind_ok (voices_in ex (range_with_len 0 ex.voices) [] text) _ score e in
     let end = bind_ok (no_line lines.0.1) _ score lines.2 in
     let long : length lines.0.0 ≡ ex.voices =
-        omega (arith, voices-length ex (range_with_len 0 ex.voices) [] text lines.0 lines.1, length-range_with_len 0 ex.voices) in
+    omega (arith, voices-length ex (range_with_len 0 ex.voices) [] text lines.0 lines.1, length-range_with_len 0 ex.voices) in
     subst (IsGiven ex) (value_is (score_of ex.bars lines.0.0) score _ refl end.2)
-        (score-given ex lines.0.0 there whole long (voices-keep ex ex.voices 0 [] text lines.0 refl lines.1))
+    (score-given ex lines.0.0 there whole long (voices-keep ex ex.voices 0 [] text lines.0 refl lines.1))
 
 pub setting-valid : (ex : Exercise) (text : TextLines) (o : Option Grid) → ex.cantus_voice < ex.voices → length ex.cantus ≡ ex.bars
     → setting_in ex text ≡ Ok o → IfSome o (IsGiven ex)

@@ -1,12 +1,11 @@
 -- What is read is a valid exercise (`exercise-valid`).
-use Rattle.std.proofs.Common.{◌≡◌, ◌<◌, ◌≤◌, ℕ, List, [], length, Option, Some, None, Result, Ok, Err, refl, sym, ap, subst, ◌∙◌, arith}
+use Rattle.std.proofs.Common.{◌≡◌, ℕ, List, [], length, Option, Some, None, Ok, refl, sym, ap, subst, arith}
 use Rattle.std.specs.Prelude.{All, IfSome}
 use Rattle.fux_grid.specs.declared.exercise.Exercise.{Exercise}
 use Rattle.fux_grid.specs.declared.exercise.RangeLine.{RangeLine}
 use Rattle.fux_grid.specs.declared.exercise.Relax.{Relax}
 use Rattle.fux_grid.specs.Exercises.{IsGiven, IsRangeLine, IsRelax, IsValid}
 use Rattle.fux_grid.specs.Grid.{Grid}
-use Rattle.text_lines.specs.Faults.{Fault, ◌>>=◌}
 use Rattle.text_lines.specs.Utf8.{text_in}
 use Rattle.text_lines.proofs.Binds.{bind_ok}
 use Rattle.fux_text.specs.Head.{head_in}
@@ -38,22 +37,27 @@ all-valid head ranges setting h r s = record {
   each_has_range = λ v free. r.each v (record { there = free.there; no_cantus = free.no_cantus });
   relax_fit = no-relax _ head.relax h.no_relax;
   few_relax = omega (arith, ap length h.no_relax);
-  setting = given setting s }
+  setting = given setting s;
+}
   where
     ex : Exercise
     ex = record head { ranges = ranges; setting = setting }
+
     fit : (lines : List RangeLine) → All (IsRangeLine head) lines → All (IsRangeLine ex) lines
     fit lines all = λ k d lt.
         let one = all k d lt in
         record {
           free = record { there = one.free.there; no_cantus = one.free.no_cantus };
           rises = one.rises;
-          within = one.within }
+          within = one.within;
+        }
+
     given : (o : Option Grid) → IfSome o (IsGiven head) → IfSome o (IsGiven ex)
     given None g = tt
     given (Some score) g = record {
       complete = record { voices = g.complete.voices; whole = g.complete.whole };
-      cantus = g.cantus }
+      cantus = g.cantus;
+    }
 
 pub exercise-valid : (bytes : List ℕ) (ex : Exercise) → exercise_in bytes ≡ Ok ex → IsValid ex
 unfolding exercise_in
@@ -64,8 +68,8 @@ exercise-valid bytes ex e =
     let setting = bind_ok (setting_in head.0.0 ranges.0.1) _ ex ranges.2 in
     let h = head-valid text.0 head.0 head.1 in
     subst IsValid (value_is _ ex _ refl setting.2)
-        (all-valid head.0.0 ranges.0.0 setting.0 h (ranges-valid head.0.0 head.0.1 ranges.0 h.voices.above ranges.1)
-            (setting-valid head.0.0 ranges.0.1 setting.0 h.cantus_there h.whole setting.1))
+    (all-valid head.0.0 ranges.0.0 setting.0 h (ranges-valid head.0.0 head.0.1 ranges.0 h.voices.above ranges.1)
+    (setting-valid head.0.0 ranges.0.1 setting.0 h.cantus_there h.whole setting.1))
 
 pub alone-valid : (ex : Exercise) (bytes : List ℕ) (score : Grid) → IsValid ex → setting_alone ex bytes ≡ Ok score → IsGiven ex score
 unfolding setting_alone

@@ -1,5 +1,5 @@
 -- Reading the voices one after the other, as a loop does.
-use Rattle.std.proofs.Common.{◌≡◌, ℕ, suc, ◌+◌, ◌-◌, ◌<◌, ◌≤◌, List, [], ◌∷◌, ◌++◌, Result, Ok, Err, refl, sym, ap, ◌∙◌, arith}
+use Rattle.std.proofs.Common.{◌≡◌, ℕ, ◌+◌, ◌-◌, ◌<◌, ◌≤◌, List, [], ◌∷◌, ◌++◌, Result, Ok, Err, refl, sym, ap, ◌∙◌, arith}
 use Rattle.std.specs.List.{range_with_len}
 use Rattle.fux_grid.specs.declared.cell.Cell.{Cell}
 use Rattle.fux_grid.specs.declared.exercise.Exercise.{Exercise}
@@ -18,7 +18,7 @@ pub voices-more : (ex : Exercise) (a b : ℕ) (before : List (List Cell)) (text 
 unfolding voices_in
 voices-more ex a b before text rest cells total lt h so_far =
     let one : voices_in ex (a ∷ range_with_len (a + 1) (b - (a + 1))) before text
-        ≡ voices_in ex (range_with_len (a + 1) (b - (a + 1))) (before ++ cells ∷ []) rest = rw h refl in
+    ≡ voices_in ex (range_with_len (a + 1) (b - (a + 1))) (before ++ cells ∷ []) rest = rw h refl in
     sym one ∙ ap (λ vs. voices_in ex vs before text) (sym (range-next a b lt)) ∙ so_far
 
 -- no voice more

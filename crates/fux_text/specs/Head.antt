@@ -1,5 +1,5 @@
 -- Reading the lines before the ranges.
-use Rattle.std.specs.Prelude.{ℕ, zero, suc, ◌-◌, ◌==◌, List, [], ◌∷◌, ◌++◌, Option, Some, None, Result, Ok, Err, codes, if◌then◌else◌}
+use Rattle.std.specs.Prelude.{ℕ, zero, suc, ◌-◌, ◌==◌, List, [], ◌∷◌, ◌++◌, Option, Some, None, Result, Ok, codes, if◌then◌else◌}
 use Rattle.std.specs.Option.{ok_or, option_and_then}
 use Rattle.fux_pitch.specs.declared.mode.Mode.{Mode}
 use Rattle.fux_pitch.specs.declared.pitch.Pitch.{Pitch}
@@ -95,15 +95,18 @@ head_in text = do
   bars ← number_line (codes "bars") kinds.Bars 3 24 voices.1
   species ← species_line voices.0 bars.1
   cantus ← cantus_line voices.0 species.1 bars.0 species.2
-  Ok (record {
-    mode = mode.0;
-    voices = voices.0;
-    bars = bars.0;
-    species = species.0;
-    species_voice = species.1;
-    cantus_voice = cantus.0;
-    cantus = cantus.1;
-    ranges = [];
-    relax = [];
-    setting = None;
-  }, cantus.2)
+  Ok (
+    record {
+      mode = mode.0;
+      voices = voices.0;
+      bars = bars.0;
+      species = species.0;
+      species_voice = species.1;
+      cantus_voice = cantus.0;
+      cantus = cantus.1;
+      ranges = [];
+      relax = [];
+      setting = None;
+    },
+    cantus.2,
+  )

@@ -1,5 +1,5 @@
 -- Which mode or pitch a word names.
-use Rattle.std.specs.Prelude.{ℕ, pos, negsuc, Bool, List, [], ◌∷◌, Option, find}
+use Rattle.std.specs.Prelude.{ℕ, pos, negsuc, List, [], ◌∷◌, Option, find}
 use Rattle.std.specs.List.{filter_map, flat_map, range_with_len}
 use Rattle.fux_pitch.specs.declared.mode.Mode.{Mode}
 use Rattle.fux_pitch.specs.declared.mode.Mode.TheVariants.{Dorian, Phrygian, Lydian, Mixolydian, Aeolian, Ionian}

@@ -1,5 +1,5 @@
 -- Reading a note text: its lines one after the other, and the first fault that is met.
-use Rattle.std.specs.Prelude.{ℕ, List, Result, Ok, Err}
+use Rattle.std.specs.Prelude.{ℕ, List, Result, Ok}
 use Rattle.fux_grid.specs.declared.exercise.Exercise.{Exercise}
 use Rattle.fux_grid.specs.Grid.{Grid}
 use Rattle.text_lines.specs.Faults.{Fault, ◌>>=◌}

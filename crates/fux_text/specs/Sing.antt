@@ -1,5 +1,5 @@
 -- Reading the `sing` lines.
-use Rattle.std.specs.Prelude.{ℕ, ◌+◌, ◌-◌, ◌*◌, ◌==◌, not, IsTrue, ⊤, Bool, true, false, List, [], ◌∷◌, ◌++◌, Option, Some, None, Result, Ok, Err, codes, length, map, option_map, replicate, if◌then◌else◌}
+use Rattle.std.specs.Prelude.{ℕ, ◌+◌, ◌-◌, ◌*◌, ◌==◌, not, IsTrue, ⊤, Bool, List, [], ◌∷◌, ◌++◌, Option, Some, None, Result, Ok, codes, length, map, option_map, replicate, if◌then◌else◌}
 use Rattle.std.specs.List.{after_first, before_first, flat_map, range_with_len}
 use Rattle.std.specs.Option.{ok_or}
 use Rattle.fux_pitch.specs.declared.pitch.Pitch.{Pitch}
@@ -76,11 +76,11 @@ bar_line_in bars bar cells w = do
 -- a word of a `sing` line: how many bars end by it, and the cells so far
 unfoldable pub sung_word : ℕ → ℕ → List Cell → PlacedWord → Result (ℕ × List Cell) Fault
 sung_word bars bar cells w = if same_text w.text (codes "|") then (do
-    next ← bar_line_in bars bar cells w
-    Ok (next, cells))
-  else (do
-    item ← item_in bar cells w
-    Ok (bar, cells ++ item_cells item.0 item.1))
+  next ← bar_line_in bars bar cells w
+  Ok (next, cells))
+    else (do
+      item ← item_in bar cells w
+      Ok (bar, cells ++ item_cells item.0 item.1))
 
 -- the end of a `sing` line
 unfoldable pub sung_end : ℕ → ℕ → List Cell → LineWords → Result (List Cell) Fault
@@ -143,11 +143,11 @@ sung_score ex text = do
 -- a setting, or none
 unfoldable pub setting_in : Exercise → TextLines → Result (Option Grid) Fault
 setting_in ex text = if begins (codes "sing") text then (do
-    score ← sung_score ex text
-    Ok (Some score))
-  else (do
-    end ← no_line text
-    Ok None)
+  score ← sung_score ex text
+  Ok (Some score))
+    else (do
+      end ← no_line text
+      Ok None)
 
 -- each cell may follow the one before it
 abbrev pub FollowsFrom : Cell → List Cell → Type 0

@@ -111,7 +111,11 @@ pub fn pitch_in(words: Words<'_>, kind: TextKind) -> Result<(Pitch, Words<'_>), 
 }
 
 /// Reads so many pitches.
-fn pitches_in(alloc: Global, words: Words<'_>, count: u8) -> Result<(Vec<Pitch>, Words<'_>), TextFault>
+fn pitches_in(
+    alloc: Global,
+    words: Words<'_>,
+    count: u8,
+) -> Result<(Vec<Pitch>, Words<'_>), TextFault>
     ensures { Gives (λ x. (x.0.items, words_of x.1)) result (pitches_in count [] (words_of words.entry)) }
 {
     let mut pitches = Vec::new(alloc);

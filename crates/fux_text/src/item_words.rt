@@ -1,7 +1,5 @@
 //! The items of a `sing` line, as they are read.
 
-
-
 use fux_pitch::Pitch;
 
 /// What an item is called.

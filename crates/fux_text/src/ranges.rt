@@ -93,7 +93,12 @@ fn range_in(words: Words<'_>, ex: &Exercise, before: &[RangeLine]) -> Result<Ran
     let (high, words) = high_in(words, low)?;
     let (bars, words) = bars_of_later(words, later, ex.bars)?;
     words.done(TextKind::Word)?;
-    Ok(RangeLine { voice, low, high, bars })
+    Ok(RangeLine {
+        voice,
+        low,
+        high,
+        bars,
+    })
 }
 
 /// Reads a range line.

@@ -5,3 +5,5 @@
 mod cases;
 #[cfg(test)]
 mod tests;
+#[cfg(test)]
+mod writing;

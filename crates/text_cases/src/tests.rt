@@ -1,5 +1,5 @@
 use crate::cases::CASES;
-use fux_text::{TextFault, TextKind, read, read_sing, write};
+use fux_text::{TextFault, TextKind, read};
 use std::alloc::Global;
 use std::fmt::Write;
 use std::test::Fail;
@@ -50,7 +50,8 @@ fn reads_each_case(rt: HostRuntime) -> Result<(), Fail> {
     Ok(())
 }
 
-const SHORT: &[u8] = b"fux 1\nmode dorian\nvoices 2\nbars 3\nspecies 1 voice 1\ncantus 0 D4 E4 D4\nrange 1 A4 D5\n;";
+const SHORT: &[u8] =
+    b"fux 1\nmode dorian\nvoices 2\nbars 3\nspecies 1 voice 1\ncantus 0 D4 E4 D4\nrange 1 A4 D5\n;";
 
 /// The short text with a comment that makes it so long.
 fn padded(alloc: Global, len: usize) -> Result<Vec<u8>, Fail> {

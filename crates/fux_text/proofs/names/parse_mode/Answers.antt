@@ -1,4 +1,3 @@
-use Rattle.std.proofs.Common.{◌≡◌}
 use Rattle.fux_text.specs.Lines.{mode_name}
 use Rattle.fux_text.specs.Names.{mode_named, modes}
 use Rattle.fux_text.proofs.Named.{by_name, all_modes}

@@ -1,4 +1,3 @@
-use Rattle.std.proofs.Common.{◌≡◌}
 use Rattle.fux_pitch.specs.Names.{name_of}
 use Rattle.fux_text.specs.Names.{pitch_named, pitches}
 use Rattle.fux_text.proofs.Named.{by_name, all_pitches}

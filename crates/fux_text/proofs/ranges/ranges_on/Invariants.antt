@@ -7,7 +7,7 @@ use Rattle.fux_text.proofs.ranges.ranges_on.Given as goal
 abbrev pub invariant-loop-rest : goal.invariant-loop-rest
 invariant-loop-rest l =
     ranges_on l.ex l.ranges.items (lines_of l.rest).after (lines_of l.rest).lines
-        ≡ ranges_on l.ex [] (lines_of l.text).after (lines_of l.text).lines
+    ≡ ranges_on l.ex [] (lines_of l.text).after (lines_of l.text).lines
 
 abbrev pub decreases-loop-rest : goal.decreases-loop-rest
 decreases-loop-rest l = length (lines_of l.rest).lines

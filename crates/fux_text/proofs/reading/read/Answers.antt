@@ -1,4 +1,3 @@
-use Rattle.std.proofs.Common.{◌≡◌}
 use Rattle.fux_grid.specs.Exercises.{IsValid}
 use Rattle.fux_text.specs.Reading.{exercise_in}
 use Rattle.fux_text.specs.Texts.{HasFault, IsTextOf}

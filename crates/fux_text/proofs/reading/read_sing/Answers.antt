@@ -1,4 +1,3 @@
-use Rattle.std.proofs.Common.{◌≡◌}
 use Rattle.fux_grid.specs.Exercises.{IsGiven}
 use Rattle.fux_text.specs.Reading.{setting_alone}
 use Rattle.fux_text.specs.Texts.{HasSingFault, AreSingLinesOf}
@@ -9,7 +8,7 @@ use Rattle.fux_text.proofs.reading.read_sing.Goals as goal
 pub returns-clause-ok : goal.returns-clause-ok
 unfolding AreSingLinesOf
 returns-clause-ok c = given-both c.setting_alone.result (setting_alone c.args.ex.now c.args.lines.now) (IsGiven c.args.ex.now) c.setting_alone.ensures
-        (λ score. alone-valid c.args.ex.now c.args.lines.now score c.requires)
+    (λ score. alone-valid c.args.ex.now c.args.lines.now score c.requires)
 
 pub returns-clause-fault : goal.returns-clause-fault
 unfolding HasSingFault

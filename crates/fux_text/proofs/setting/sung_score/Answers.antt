@@ -1,4 +1,4 @@
-use Rattle.std.proofs.Common.{◌≡◌, ◌≤◌, [], length, sym, ap, subst, ◌∙◌, arith}
+use Rattle.std.proofs.Common.{[], length, sym, ap, subst, arith}
 use Rattle.std.specs.List.{AllByRecursion, range_with_len}
 use Rattle.std.proofs.lemmas.List.FromFn.{length-range_with_len}
 use Rattle.fux_grid.specs.declared.cell.Cell.TheVariants.{Rest}
@@ -23,4 +23,4 @@ pub score_of-requires-clause-follow : goal.score_of-requires-clause-follow
 score_of-requires-clause-follow c =
     let ex = c.args.ex.now in
     subst (AllByRecursion (FollowsFrom Rest)) (sym c.deref.ensures.value)
-        (voices-follow ex (range_with_len 0 ex.voices) [] (lines_of c.args.text) _ tt c.in_ok-lines.ensures)
+    (voices-follow ex (range_with_len 0 ex.voices) [] (lines_of c.args.text) _ tt c.in_ok-lines.ensures)

@@ -1,4 +1,4 @@
-use Rattle.std.proofs.Common.{◌≡◌, []}
+use Rattle.std.proofs.Common.{[]}
 use Rattle.std.specs.List.{range_with_len}
 use Rattle.std.proofs.lemmas.Result.{err_from_is_err_and}
 use Rattle.text_lines.specs.Lines.{lines_of}
@@ -12,19 +12,19 @@ returns-in_err-cells c =
     let ex = c.args.ex.now in
     rw (p.1, p.2)
     (voices-fail c.in_err-cells.field-0.0 ex c.loop-v.v ex.voices c.loop-v.lines.items (lines_of c.loop-v.rest)
-        (voices_in ex (range_with_len 0 ex.voices) [] (lines_of c.args.text)) c.loop-v-test.true c.in_err-cells.ensures
-        c.loop-v.invariant)
+    (voices_in ex (range_with_len 0 ex.voices) [] (lines_of c.args.text)) c.loop-v-test.true c.in_err-cells.ensures
+    c.loop-v.invariant)
 
 pub loop-v-preserved : goal.loop-v-preserved
 loop-v-preserved c =
     let ex = c.args.ex.now in
     rw c.in_ok-push.ensures.items
     (voices-more ex c.loop-v.v ex.voices c.loop-v.lines.items (lines_of c.loop-v.rest) (lines_of c.in_ok-cells.behind)
-        c.in_ok-cells.cells (voices_in ex (range_with_len 0 ex.voices) [] (lines_of c.args.text)) c.loop-v-test.true
-        c.in_ok-cells.ensures c.loop-v.invariant)
+    c.in_ok-cells.cells (voices_in ex (range_with_len 0 ex.voices) [] (lines_of c.args.text)) c.loop-v-test.true
+    c.in_ok-cells.ensures c.loop-v.invariant)
 
 pub returns : goal.returns
 returns c =
     let ex = c.args.ex.now in
     voices-all ex c.loop-v.v ex.voices c.loop-v.lines.items (lines_of c.loop-v.rest)
-        (voices_in ex (range_with_len 0 ex.voices) [] (lines_of c.args.text)) c.loop-v-test.false c.loop-v.invariant
+    (voices_in ex (range_with_len 0 ex.voices) [] (lines_of c.args.text)) c.loop-v-test.false c.loop-v.invariant

@@ -8,4 +8,4 @@ use Rattle.fux_text.proofs.setting.voices_in.Given as goal
 abbrev pub invariant-loop-v : goal.invariant-loop-v
 invariant-loop-v l =
     voices_in l.ex (range_with_len l.v (l.ex.voices - l.v)) l.lines.items (lines_of l.rest)
-        ≡ voices_in l.ex (range_with_len 0 l.ex.voices) [] (lines_of l.text)
+    ≡ voices_in l.ex (range_with_len 0 l.ex.voices) [] (lines_of l.text)

@@ -1,4 +1,4 @@
-use Rattle.std.proofs.Common.{◌≡◌, sym}
+use Rattle.std.proofs.Common.{sym}
 use Rattle.fux_text.proofs.SungLoops.{colon-none}
 use Rattle.fux_text.proofs.sing.item_parts.Goals as goal
 

@@ -8,7 +8,8 @@ abbrev pub invariant-loop-word : goal.invariant-loop-word
 invariant-loop-word l = record {
   so_far : sung_words l.bars l.bar l.cells.items (words_of l.words) (words_of l.rest).words
       ≡ sung_words l.bars 0 [] (words_of l.words) (words_of l.words).words;
-  within : l.bar < l.bars }
+  within : l.bar < l.bars;
+}
 
 abbrev pub decreases-loop-word : goal.decreases-loop-word
 decreases-loop-word l = length (words_of l.rest).words
