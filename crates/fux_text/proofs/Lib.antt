@@ -2,3 +2,16 @@ pub mod CountSteps
 pub mod ItemLemmas
 pub mod TextParts
 pub mod WordLemmas
+pub mod Named
+pub mod HeadLoops
+pub mod RangeLoops
+pub mod SungLoops
+pub mod VoiceLoops
+pub mod Following
+pub mod ScoreLoops
+pub mod Answered
+pub mod Bounds
+pub mod ValidHead
+pub mod ValidRanges
+pub mod ValidSetting
+pub mod ValidText

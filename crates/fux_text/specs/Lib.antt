@@ -1,3 +1,10 @@
+pub mod Head
 pub mod Items
 pub mod Lines
+pub mod Names
+pub mod Ranges
+pub mod Reading
+pub mod Sing
+pub mod Texts
+pub mod Waiting
 pub mod Words

@@ -1,11 +1,19 @@
-//! The canonical note text of exercises and their settings.
+//! The note text of exercises and their settings, both ways.
 #![tactic(auto)]
 
 mod exercise_lines;
+mod head;
+mod item_words;
 mod items;
+mod names;
 mod note_text;
+mod ranges;
+mod reading;
+mod setting;
+mod sing;
 mod sing_lines;
-#[cfg(test)]
-mod tests;
+mod waiting;
 
 pub use note_text::{sing_line, write};
+pub use reading::{read, read_sing};
+pub use text_lines::{TextFault, TextKind};

@@ -1,0 +1,35 @@
+-- What a reader answers, from what reading gives.
+use Rattle.std.proofs.Common.{◌≡◌, ℕ, ◌⊎◌, inl, inr, Result, Ok, Err, refl, ap, subst, arith}
+use Rattle.std.specs.Prelude.{IfOk, MatchResult}
+use Rattle.text_lines.specs.declared.fault.TextKind.{TextKind}
+use Rattle.text_lines.specs.declared.fault.TextFault.{TextFault}
+use Rattle.text_lines.specs.declared.fault.TextFault.TheVariants as faults
+use Rattle.text_lines.specs.Faults.{Fault, Gives}
+
+pub given-both : {A : Type 0} (r : Result A TextFault) (read : Result A Fault) (P : A → Type 0) → Gives (λ x. x) r read
+    → ((x : A) → read ≡ Ok x → P x) → IfOk r (λ x. (read ≡ Ok x) × P x)
+given-both (Ok x) read P h f = (h, f x h)
+given-both (Err e) read P h f = tt
+
+pub given-fault : {A : Type 0} (r : Result A TextFault) (read : Result A Fault) (kind : TextKind) (line column : ℕ)
+    → r ≡ Err (faults.At kind line column) → Gives (λ x. x) r read
+    → read ≡ Err (record { kind = kind; line = line; column = column })
+given-fault {A = A} r read kind line column e h = subst (λ (s : Result A TextFault). Gives (λ x. x) s read) e h
+
+pub given-only : {A : Type 0} (r : Result A TextFault) (read : Result A Fault) (x : A) → read ≡ Ok x → Gives (λ y. y) r read
+    → MatchResult r (λ found. found ≡ x) (λ fault. fault ≡ faults.Memory)
+given-only (Ok y) read x e h = grind (arith, e, h)
+given-only (Err faults.Memory) read x e h = refl
+given-only (Err (faults.At kind line column)) read x e h = grind (arith, e, h)
+
+same_fault : {A : Type 0} (f g : Fault) (read : Result A Fault) → read ≡ Err f → read ≡ Err g → f ≡ g
+same_fault f g read d e = grind (arith, d, e)
+
+pub given-first : {A : Type 0} (r : Result A TextFault) (read : Result A Fault) (kind : TextKind) (line column : ℕ)
+    → read ≡ Err (record { kind = kind; line = line; column = column }) → Gives (λ y. y) r read
+    → MatchResult r (λ _. ⊥) (λ fault. (fault ≡ faults.At kind line column) ⊎ (fault ≡ faults.Memory))
+given-first (Ok y) read kind line column e h = absurd (grind (arith, e, h))
+given-first (Err faults.Memory) read kind line column e h = inr refl
+given-first (Err (faults.At k l c)) read kind line column e h =
+    let same = same_fault (record { kind = k; line = l; column = c }) (record { kind = kind; line = line; column = column }) read h e in
+    inl (ap (λ f. faults.At f.kind f.line f.column) same)

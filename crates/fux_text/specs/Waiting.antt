@@ -1,0 +1,10 @@
+-- What the note text can say and no rule judges yet: it is refused where it stands.
+use Rattle.std.specs.Prelude.{ℕ}
+
+-- more voices are `Word` at their number
+abbrev pub most_voices : ℕ
+most_voices = 2
+
+-- so is a greater species
+abbrev pub most_species : ℕ
+most_species = 1

@@ -1,0 +1,77 @@
+//! Reading the note text.
+
+ghost use Rattle.std.specs.Prelude.{◌≡◌, ◌≤◌, ℕ, IfOk, MatchResult};
+ghost use Rattle.fux_grid.specs.Exercises.{IsGiven, IsValid};
+ghost use Rattle.fux_grid.specs.Grid.{Grid};
+ghost use Rattle.fux_grid.specs.declared.exercise.Exercise.{Exercise};
+ghost use Rattle.text_lines.specs.Faults.{Gives};
+ghost use Rattle.text_lines.specs.declared.fault.TextKind.{TextKind};
+ghost use Rattle.fux_text.specs.Reading.{exercise_in, setting_alone};
+ghost use Rattle.fux_text.specs.Texts.{AreSingLinesOf, HasFault, HasSingFault, IsEither, IsTextOf};
+
+use crate::head::head_in;
+use crate::ranges::ranges_in;
+use crate::setting::{setting_in, sung_score};
+use fux_grid::{Exercise, Score};
+use fux_pitch::List;
+use std::alloc::Global;
+use text_lines::{Lines, TextFault, TextKind};
+
+/// The exercise of a note text.
+#[tactic(auto, unfolding(crate::specs::Reading::exercise_in))]
+fn exercise_in(alloc: Global, bytes: &[u8]) -> Result<Exercise, TextFault>
+    ensures { Gives (λ x. x) result (exercise_in bytes.now) }
+{
+    let text = Lines::of_text(bytes)?;
+    let (mut ex, text) = head_in(alloc, text)?;
+    let (ranges, text) = ranges_in(alloc, text, &ex)?;
+    let setting = setting_in(alloc, text, &ex)?;
+    ex.ranges = List::new(ranges);
+    ex.setting = setting;
+    Ok(ex)
+}
+
+/// The exercise of a note text of at most 65,536 bytes, or the first fault of the text.
+pub fn read(alloc: Global, bytes: &[u8]) -> Result<Exercise, TextFault>
+    // What is read is a valid exercise and has this text, and a fault is the text's first one.
+    ensures ok { IfOk result (λ ex. IsTextOf bytes.now ex × IsValid ex) }
+    ensures fault { (kind : TextKind) (line column : ℕ) → result ≡ Err (TextFault.At kind line column)
+        → HasFault bytes.now kind line column }
+
+    // A note text is read, and a text with a fault is answered by that fault, unless memory runs out.
+    ensures only { (ex : Exercise) → IsTextOf bytes.now ex
+        → MatchResult result (λ found. found ≡ ex) (λ fault. fault ≡ TextFault.Memory) }
+    ensures first { (kind : TextKind) (line column : ℕ) → HasFault bytes.now kind line column
+        → MatchResult result (λ _. ⊥) (λ fault. IsEither fault (TextFault.At kind line column)) }
+{
+    exercise_in(alloc, bytes)
+}
+
+/// The setting of an exercise in a text of its `sing` lines alone.
+#[tactic(auto, unfolding(crate::specs::Reading::setting_alone))]
+fn setting_alone(alloc: Global, ex: &Exercise, lines: &[u8]) -> Result<Score, TextFault>
+    requires { IsValid ex.now }
+    ensures { Gives (λ x. x) result (setting_alone ex.now lines.now) }
+{
+    let text = Lines::of_text(lines)?;
+    sung_score(alloc, text, ex)
+}
+
+/// The setting of an exercise in a text of its `sing` lines alone, one for each free voice from the lowest, or the first
+/// fault of the text.
+pub fn read_sing(alloc: Global, ex: &Exercise, lines: &[u8]) -> Result<Score, TextFault>
+    requires { IsValid ex.now }
+
+    // What is read is a setting with the cantus and has these lines, and a fault is their first one.
+    ensures ok { IfOk result (λ score. AreSingLinesOf ex.now lines.now score × IsGiven ex.now score) }
+    ensures fault { (kind : TextKind) (line column : ℕ) → result ≡ Err (TextFault.At kind line column)
+        → HasSingFault ex.now lines.now kind line column }
+
+    // Lines of a setting are read, and lines with a fault are answered by that fault, unless memory runs out.
+    ensures only { (score : Grid) → AreSingLinesOf ex.now lines.now score
+        → MatchResult result (λ found. found ≡ score) (λ fault. fault ≡ TextFault.Memory) }
+    ensures first { (kind : TextKind) (line column : ℕ) → HasSingFault ex.now lines.now kind line column
+        → MatchResult result (λ _. ⊥) (λ fault. IsEither fault (TextFault.At kind line column)) }
+{
+    setting_alone(alloc, ex, lines)
+}

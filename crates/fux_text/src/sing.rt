@@ -1,0 +1,207 @@
+//! The `sing` lines.
+
+ghost use Rattle.std.specs.Prelude.{◌≡◌, ◌≤◌, ◌<◌, ◌+◌, ◌*◌, ◌==◌, ◌++◌, [], IfOk, IfSome, OnOk, List, length, option_map};
+ghost use Rattle.std.specs.List.{after_first, before_first, position, range_with_len};
+ghost use Rattle.fux_grid.specs.declared.cell.Cell.TheVariants.{Rest};
+ghost use Rattle.text_lines.specs.Faults.{Gives};
+ghost use Rattle.text_lines.specs.Lines.{lines_of};
+ghost use Rattle.text_lines.specs.Words.{word_of, words_of};
+ghost use Rattle.fux_text.specs.Sing.{bar_line_in, cantus_cells, first_cell, held, is_colon, is_full, item_cells, item_in, item_named, item_parts, latest, sing_line_in, sung_end, sung_in, sung_word};
+
+use crate::item_words::ItemName;
+use crate::names::parse_pitch;
+use fux_grid::{Cell, Exercise};
+use fux_pitch::{List, Pitch};
+use std::alloc::{AllocError, Global};
+use text_lines::{Lines, TextFault, TextKind, Word, Words, is_same, parse_number};
+
+/// The place of the first colon.
+fn colon_in(text: &[u8]) -> Option<usize>
+    ensures first { result ≡ position is_colon text.now }
+    ensures within { IfSome result (λ place. place < length text.now) }
+{
+    text.iter().position(|byte| *byte == b':')
+}
+
+/// What stands before the colon of an item, and the number behind it.
+#[tactic(auto, unfolding(crate::specs::Sing::item_parts))]
+fn item_parts(text: &[u8]) -> Option<(&[u8], u32)>
+    ensures { option_map (λ x. (x.0.now, x.1)) result ≡ item_parts text.now }
+{
+    let Some(colon) = colon_in(text) else {
+        return None;
+    };
+    match parse_number(&text[colon + 1..]) {
+        Some(number) => Some((&text[..colon], number)),
+        None => None,
+    }
+}
+
+/// What an item is called.
+#[tactic(auto, unfolding(crate::specs::Sing::item_named))]
+fn item_named(name: &[u8]) -> Option<ItemName>
+    ensures { result ≡ item_named name.now }
+{
+    if is_same(name, b"r") {
+        return Some(ItemName::Silence);
+    }
+    if is_same(name, b"_") {
+        return Some(ItemName::Tie);
+    }
+    Some(ItemName::Note(parse_pitch(name)?))
+}
+
+/// The first cell of an item behind a cell, if it can stand there.
+fn first_cell(begins_bar: bool, before: Cell, name: ItemName) -> Option<Cell>
+    ensures { result ≡ first_cell begins_bar before name }
+{
+    match name {
+        ItemName::Silence => Some(Cell::Rest),
+        ItemName::Note(pitch) => Some(Cell::Start(pitch)),
+        ItemName::Tie => {
+            if !begins_bar {
+                return None;
+            }
+            Some(Cell::Hold(before.pitch()?))
+        }
+    }
+}
+
+/// The last of these cells, a rest where there is none.
+fn latest(cells: &[Cell]) -> Cell
+    ensures { result ≡ latest Rest cells.now }
+{
+    match cells {
+        [.., last] => *last,
+        [] => Cell::Rest,
+    }
+}
+
+/// Reads an item behind so many bars and these cells: its first cell, and how many it has.
+#[tactic(auto, unfolding(crate::specs::Sing::item_in))]
+fn item_in(cells: &[Cell], bar: u8, word: Word<'_>) -> Result<(Cell, u8), TextFault>
+    ensures value { Gives (λ x. x) result (item_in bar cells.now (word_of word.entry)) }
+    ensures least { IfOk result (λ x. 1 ≤ x.1) }
+{
+    let Some((name, count)) = item_parts(word.text) else {
+        return Err(word.fault(TextKind::Word));
+    };
+    let Some(name) = item_named(name) else {
+        return Err(word.fault(TextKind::Pitch));
+    };
+    if count < 1 || count > 8 {
+        return Err(word.fault(TextKind::Length));
+    }
+    match first_cell(cells.len() == 8 * usize::from(bar), latest(cells), name) {
+        Some(cell) => Ok((cell, count as u8)),
+        None => Err(word.fault(TextKind::Tie)),
+    }
+}
+
+/// What goes on with a cell.
+fn held(cell: Cell) -> Cell
+    ensures { result ≡ held cell }
+{
+    match cell.pitch() {
+        Some(pitch) => Cell::Hold(pitch),
+        None => Cell::Rest,
+    }
+}
+
+/// Appends the cells of an item.
+pub fn push_item(cells: &mut Vec<Cell>, first: Cell, count: u8) -> Result<(), AllocError>
+    requires { 1 ≤ count }
+    ensures { OnOk result (cells.new.items ≡ cells.old.items ++ item_cells first count) }
+{
+    cells.push(first)?;
+    for _ in 1..count {
+        cells.push(held(first))?;
+    }
+    Ok(())
+}
+
+/// Whether the bar behind so many is full.
+fn is_full(cells: &[Cell], bar: u8) -> bool
+    ensures { result ≡ is_full bar cells.now }
+{
+    cells.len() == 8 * usize::from(bar) + 8
+}
+
+/// Reads a bar line behind so many bars and these cells.
+#[tactic(auto, unfolding(crate::specs::Sing::bar_line_in))]
+fn bar_line_in(cells: &[Cell], bars: u8, bar: u8, word: Word<'_>) -> Result<u8, TextFault>
+    requires { bar < bars }
+    ensures value { Gives (λ x. x) result (bar_line_in bars bar cells.now (word_of word.entry)) }
+    ensures more { IfOk result (λ x. x < bars) }
+{
+    if !is_full(cells, bar) {
+        return Err(word.fault(TextKind::Length));
+    }
+    if bar + 1 == bars {
+        return Err(word.fault(TextKind::BarLine));
+    }
+    Ok(bar + 1)
+}
+
+/// Reads a word of a `sing` line behind so many bars: how many bars end by it. Its cells are appended.
+#[tactic(auto, unfolding(crate::specs::Sing::sung_word))]
+fn sung_word(cells: &mut Vec<Cell>, bars: u8, bar: u8, word: Word<'_>) -> Result<u8, TextFault>
+    requires { bar < bars }
+    ensures value { Gives (λ x. (x, cells.new.items)) result (sung_word bars bar cells.old.items (word_of word.entry)) }
+    ensures more { IfOk result (λ x. x < bars) }
+{
+    if is_same(word.text, b"|") {
+        return bar_line_in(cells, bars, bar, word);
+    }
+    let (first, count) = item_in(cells, bar, word)?;
+    push_item(cells, first, count)?;
+    Ok(bar)
+}
+
+/// Reads the end of a `sing` line.
+#[tactic(auto, unfolding(crate::specs::Sing::sung_end))]
+fn sung_end(cells: &[Cell], bars: u8, bar: u8, words: Words<'_>) -> Result<(), TextFault>
+    requires { bar < bars }
+    ensures { Gives (λ x. cells.now) result (sung_end bars bar cells.now (words_of words.entry)) }
+{
+    if !is_full(cells, bar) {
+        return Err(words.fault_beyond(TextKind::Length));
+    }
+    if bar + 1 != bars {
+        return Err(words.fault_beyond(TextKind::BarLine));
+    }
+    Ok(())
+}
+
+/// Reads the words of a `sing` line behind its voice: its cells.
+fn sung_in(alloc: Global, words: Words<'_>, bars: u8) -> Result<Vec<Cell>, TextFault>
+    requires { 1 ≤ bars }
+    ensures { Gives (λ x. x.items) result (sung_in bars (words_of words.entry)) }
+{
+    let mut cells = Vec::new(alloc);
+    let mut bar = 0;
+    let mut rest = words;
+    while let Some((word, behind)) = rest.first() {
+        bar = sung_word(&mut cells, bars, bar, word)?;
+        rest = behind;
+    }
+    sung_end(&cells, bars, bar, words)?;
+    Ok(cells)
+}
+
+/// Reads the `sing` line of a voice: its cells.
+#[tactic(auto, unfolding(crate::specs::Sing::sing_line_in))]
+pub fn sing_line_in<'a>(
+    alloc: Global,
+    text: Lines<'a>,
+    bars: u8,
+    v: u8,
+) -> Result<(List<Cell>, Lines<'a>), TextFault>
+    requires { 1 ≤ bars }
+    ensures { Gives (λ x. (x.0, lines_of x.1)) result (sing_line_in bars v (lines_of text.entry)) }
+{
+    let (words, text) = text.headed(TextKind::Sing, b"sing")?;
+    let (_, words) = words.small_number(TextKind::Sing, v, v)?;
+    let cells = sung_in(alloc, words, bars)?;
+    Ok((List::new(cells), text))
+}

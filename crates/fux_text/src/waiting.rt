@@ -1,0 +1,7 @@
+//! What the note text can say and no rule judges yet.
+
+/// More voices are refused at their number.
+pub const MOST_VOICES: u8 = 2;
+
+/// So is a greater species.
+pub const MOST_SPECIES: u8 = 1;

@@ -1,0 +1,9 @@
+//! Note texts with what reading answers of each.
+#![tactic(auto)]
+
+#[cfg(test)]
+mod cases;
+#[cfg(test)]
+mod tests;
+#[cfg(test)]
+mod writing;

@@ -1,0 +1,72 @@
+use crate::cases::CASES;
+use fux_text::{TextFault, TextKind, read};
+use std::alloc::Global;
+use std::fmt::Write;
+use std::test::Fail;
+
+/// A kind in the words of a refusal.
+fn kind_name(kind: TextKind) -> &'static str {
+    match kind {
+        TextKind::TooLong => "toolong",
+        TextKind::NotUtf8 => "notutf8",
+        TextKind::Head => "head",
+        TextKind::Word => "word",
+        TextKind::Pitch => "pitch",
+        TextKind::Length => "length",
+        TextKind::BarLine => "barline",
+        TextKind::Bars => "bars",
+        TextKind::Range => "range",
+        TextKind::Cantus => "cantus",
+        TextKind::Tie => "tie",
+        TextKind::Sing => "sing",
+    }
+}
+
+/// What reading answers, in the words of the cases.
+fn told(alloc: Global, text: &[u8]) -> Result<String, Fail> {
+    let mut told = String::new(alloc);
+    match read(alloc, text) {
+        Ok(_) => told.push_str("ok")?,
+        Err(TextFault::Memory) => told.push_str("out of memory")?,
+        Err(TextFault::At { kind, line, column }) => {
+            let name = kind_name(kind);
+            write!(told, "{name} {line} {column}")?;
+        }
+    }
+    Ok(told)
+}
+
+#[test]
+fn reads_each_case(rt: HostRuntime) -> Result<(), Fail> {
+    let mut count = 0;
+    for case in CASES.split(|byte| *byte == 0) {
+        let end = case.iter().position(|byte| *byte == 1).ok_or("no answer")?;
+        let (answer, text) = case.split_at(end);
+        let found = told(rt.alloc(), text.get(1..).ok_or("no text")?)?;
+        assert_eq!(rt; found.as_bytes(), answer);
+        count += 1;
+    }
+    assert_eq!(rt; count, 171);
+    Ok(())
+}
+
+const SHORT: &[u8] =
+    b"fux 1\nmode dorian\nvoices 2\nbars 3\nspecies 1 voice 1\ncantus 0 D4 E4 D4\nrange 1 A4 D5\n;";
+
+/// The short text with a comment that makes it so long.
+fn padded(alloc: Global, len: usize) -> Result<Vec<u8>, Fail> {
+    let mut text = Vec::from_slice(alloc, SHORT)?;
+    for _ in SHORT.len()..len {
+        text.push(b'x')?;
+    }
+    Ok(text)
+}
+
+#[test]
+fn reads_texts_up_to_the_limit(rt: HostRuntime) -> Result<(), Fail> {
+    let whole = padded(rt.alloc(), 65_536)?;
+    assert_eq!(rt; told(rt.alloc(), &whole)?.as_str(), "ok");
+    let longer = padded(rt.alloc(), 65_537)?;
+    assert_eq!(rt; told(rt.alloc(), &longer)?.as_str(), "toolong 1 1");
+    Ok(())
+}

@@ -1,0 +1,141 @@
+//! The canonical text of exercises of three voices, and settings that are read back.
+
+use fux_grid::{Cell, Column, Exercise, RangeLine, Relax, Score, VoiceSet};
+use fux_pitch::{List, Mode, Pitch};
+use fux_text::{read, read_sing, sing_line, write};
+use std::alloc::Global;
+use std::test::Fail;
+
+fn range(voice: u8, low: Pitch, high: Pitch, bars: Option<(u8, u8)>) -> RangeLine {
+    RangeLine {
+        voice,
+        low,
+        high,
+        bars,
+    }
+}
+
+/// Three voices, of which the middle one has the cantus.
+fn trio(alloc: Global) -> Result<Exercise, Fail> {
+    let a3 = Pitch::new(26, 0).ok_or("A3")?;
+    let d4 = Pitch::new(29, 0).ok_or("D4")?;
+    let e4 = Pitch::new(30, 0).ok_or("E4")?;
+    let d5 = Pitch::new(36, 0).ok_or("D5")?;
+    let e5 = Pitch::new(37, -1).ok_or("Eb5")?;
+    let ranges = [
+        range(0, a3, d4, None),
+        range(2, d4, d5, None),
+        range(2, d5, e5, Some((2, 3))),
+    ];
+    let relax = [
+        Relax {
+            rule: 16,
+            voices: Some(VoiceSet { bits: 5 }),
+            from: 1,
+            to: 2,
+            price: 0,
+        },
+        Relax {
+            rule: 7,
+            voices: None,
+            from: 3,
+            to: 3,
+            price: 10_000,
+        },
+    ];
+    Ok(Exercise {
+        mode: Mode::Dorian,
+        voices: 3,
+        bars: 3,
+        species: 4,
+        species_voice: 2,
+        cantus_voice: 1,
+        cantus: List::new(Vec::from_array(alloc, [d4, e4, d4])?),
+        ranges: List::new(Vec::from_array(alloc, ranges)?),
+        relax: List::new(Vec::from_array(alloc, relax)?),
+        setting: None,
+    })
+}
+
+/// A whole note in each bar for the lower voices; the upper one begins after a rest and ties its notes over the bar lines.
+fn ties(alloc: Global) -> Result<Score, Fail> {
+    let a3 = Pitch::new(26, 0).ok_or("A3")?;
+    let d5 = Pitch::new(36, 0).ok_or("D5")?;
+    let mut score = Score::new(alloc, 3)?;
+    for i in 0..24 {
+        let low = if i % 8 == 0 {
+            Cell::Start(a3)
+        } else {
+            Cell::Hold(a3)
+        };
+        let high = match i {
+            0..=3 => Cell::Rest,
+            4 | 12 => Cell::Start(d5),
+            _ => Cell::Hold(d5),
+        };
+        let mut column = Column::new();
+        column.push(low);
+        column.push(low);
+        column.push(high);
+        score.push(column)?;
+    }
+    Ok(score)
+}
+
+const EXERCISE: &str =
+    "fux 1\nmode dorian\nvoices 3\nbars 3\nspecies 4 voice 2\ncantus 1 D4 E4 D4\n\
+    range 0 A3 D4\nrange 2 D4 D5\nrange 2 D5 Eb5 2 3\nrelax S16 0,2 1 2 0\nrelax S7 all 3 3 10000\n";
+
+#[test]
+fn writes_each_kind_of_line(rt: HostRuntime) -> Result<(), Fail> {
+    let ex = trio(rt.alloc())?;
+    assert!(rt; ex.is_valid());
+    let text = write(rt.alloc(), &ex, None)?;
+    assert_eq!(rt; text.as_str(), EXERCISE);
+    Ok(())
+}
+
+#[test]
+fn writes_settings(rt: HostRuntime) -> Result<(), Fail> {
+    let ex = trio(rt.alloc())?;
+    let score = ties(rt.alloc())?;
+    assert!(rt; ex.is_valid());
+    assert!(rt; ex.voices == score.voices() && score.len() == 8 * ex.bars as usize);
+    let text = write(rt.alloc(), &ex, Some(&score))?;
+    let lines = text
+        .as_str()
+        .strip_prefix(EXERCISE)
+        .ok_or("another beginning")?;
+    assert_eq!(rt;
+        lines,
+        "sing 0 A3:8 | A3:8 | A3:8\nsing 2 r:4 D5:4 | _:4 D5:4 | _:8\n"
+    );
+    assert!(rt; score.len() == 24 && score.voices() == 3);
+    let line = sing_line(rt.alloc(), &score, 2)?;
+    assert_eq!(rt; line.as_str(), "sing 2 r:4 D5:4 | _:4 D5:4 | _:8\n");
+    Ok(())
+}
+
+#[test]
+fn reads_back_what_is_written(rt: HostRuntime) -> Result<(), Fail> {
+    let text =
+        "fux 1\nmode dorian\nvoices 2\nbars 3\nspecies 1 voice 0\ncantus 1 D4 E4 D4\nrange 0 A2 D4\nrange 0 A3 A3 2 3\n\
+        sing 0 r:4 D3:4 | _:4 Bb3:4 | _:8\n";
+    let Ok(ex) = read(rt.alloc(), text.as_bytes()) else {
+        return Err(Fail::from("not read"));
+    };
+    assert!(rt; ex.is_valid());
+    let Some(score) = &ex.setting else {
+        return Err(Fail::from("no setting"));
+    };
+    assert!(rt; ex.voices == score.voices() && score.len() == 8 * ex.bars as usize);
+    let again = write(rt.alloc(), &ex, Some(score))?;
+    assert_eq!(rt; again.as_str(), text);
+    assert!(rt; score.len() == 24 && score.voices() == 2);
+    let line = sing_line(rt.alloc(), score, 0)?;
+    let Ok(sung) = read_sing(rt.alloc(), &ex, line.as_bytes()) else {
+        return Err(Fail::from("not read"));
+    };
+    assert_eq!(rt; sung.len(), 24);
+    Ok(())
+}
