@@ -6,5 +6,6 @@ pub mod PerformLemmas
 pub mod RunLemmas
 pub mod SinkLemmas
 pub mod Taken
+pub mod TextFaults
 pub mod TextLemmas
 pub mod WorkLemmas

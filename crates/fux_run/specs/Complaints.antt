@@ -4,13 +4,31 @@ use Rattle.std.specs.Fmt.{decimal}
 use Rattle.fux_run.specs.declared.complaint.Complaint.{Complaint}
 use Rattle.fux_run.specs.declared.complaint.Complaint.TheVariants.{Usage, Refused, Unreadable, Unwritable, OutOfMemory}
 use Rattle.fux_run.specs.declared.refusal.Refusal.{Refusal}
-use Rattle.fux_run.specs.declared.refusal.Refusal.TheVariants.{Form, NoSetting, TooWide}
+use Rattle.fux_run.specs.declared.refusal.Refusal.TheVariants.{Text, NoSetting, TooWide}
 use Rattle.fux_run.specs.declared.status.Status.{Status}
+use Rattle.text_lines.specs.declared.fault.TextKind.{TextKind}
+use Rattle.text_lines.specs.declared.fault.TextKind.TheVariants as kinds
 use Rattle.fux_run.specs.declared.status.Status.TheVariants as status
+
+-- the word for a fault of a text
+abbrev pub kind_word : TextKind → List ℕ
+kind_word kinds.TooLong = codes "toolong"
+kind_word kinds.NotUtf8 = codes "notutf8"
+kind_word kinds.Head = codes "head"
+kind_word kinds.Word = codes "word"
+kind_word kinds.Pitch = codes "pitch"
+kind_word kinds.Length = codes "length"
+kind_word kinds.BarLine = codes "barline"
+kind_word kinds.Bars = codes "bars"
+kind_word kinds.Range = codes "range"
+kind_word kinds.Cantus = codes "cantus"
+kind_word kinds.Tie = codes "tie"
+kind_word kinds.Sing = codes "sing"
 
 -- what is said of a refused file of this name
 abbrev pub refusal_text : List ℕ → Refusal → List ℕ
-refusal_text name Form = name ++ codes ": form"
+refusal_text name (Text kind line column) =
+    name ++ codes ":" ++ decimal line ++ codes ":" ++ decimal column ++ codes ": " ++ kind_word kind
 refusal_text name NoSetting = codes "no setting"
 refusal_text name (TooWide place count) =
     codes "too wide: " ++ decimal count ++ codes " columns at bar " ++ decimal place.bar

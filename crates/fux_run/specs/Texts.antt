@@ -1,9 +1,9 @@
 -- The text of an exercise, and work on it.
 use Rattle.std.specs.Prelude.{◌≡◌, ℕ, ◌⊎◌, List, Result, Ok, Err}
 use Rattle.fux_grid.specs.declared.exercise.Exercise.{Exercise}
-use Rattle.plain_text.specs.Plain.{IsPlainText}
+use Rattle.fux_text.specs.Texts.{HasFault, IsTextOf}
 use Rattle.fux_run.specs.declared.refusal.Refusal.{Refusal}
-use Rattle.fux_run.specs.declared.refusal.Refusal.TheVariants.{Form}
+use Rattle.fux_run.specs.declared.refusal.Refusal.TheVariants as refusal
 use Rattle.fux_run.specs.declared.work.Output.{Output}
 use Rattle.fux_run.specs.declared.work.Stop.{Stop}
 use Rattle.fux_run.specs.declared.work.Stop.TheVariants.{Refused, Memory}
@@ -14,12 +14,12 @@ Work = Result Output Refusal
 
 -- these bytes are the text of an exercise, and of no other
 pub record IsTheText (bytes : List ℕ) (ex : Exercise) : Type 0 where
-  pub text : IsPlainText bytes ex
-  pub only : (other : Exercise) → IsPlainText bytes other → ex ≡ other
+  pub text : IsTextOf bytes ex
+  pub only : (other : Exercise) → IsTextOf bytes other → ex ≡ other
 
--- a refusal of bytes that are the text of no exercise
+-- a refusal of bytes that are the text of no exercise: it tells their first fault
 abbrev pub RefusesText : List ℕ → Refusal → Type 0
-RefusesText bytes Form = (ex : Exercise) → IsPlainText bytes ex → ⊥
+RefusesText bytes (refusal.Text kind line column) = HasFault bytes kind line column
 RefusesText bytes _ = ⊥
 
 -- the exercise of a text, or a refusal of it, or memory is wanting

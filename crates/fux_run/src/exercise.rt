@@ -9,11 +9,18 @@ use crate::content::Content;
 use crate::refusal::Refusal;
 use crate::work::Stop;
 use fux_grid::Exercise;
-use plain_text::{PlainFault, read_plain};
+use fux_text::{TextFault, TextKind, read};
 use std::alloc::Global;
 
 /// The greatest length of a text, in bytes.
 pub const LONGEST_TEXT: usize = 65_536;
+
+/// What is said of a longer one.
+const TOO_LONG: Refusal = Refusal::Text {
+    kind: TextKind::TooLong,
+    line: 1,
+    column: 1,
+};
 
 /// The exercise whose text this is.
 pub fn exercise_of(alloc: Global, text: &Content) -> Result<Exercise, Stop>
@@ -21,11 +28,15 @@ pub fn exercise_of(alloc: Global, text: &Content) -> Result<Exercise, Stop>
     ensures valid { IfOk result IsValid }
 {
     let Content::Whole(bytes) = text else {
-        return Err(Stop::Refused(Refusal::Form));
+        return Err(Stop::Refused(TOO_LONG));
     };
-    match read_plain(alloc, bytes) {
+    match read(alloc, bytes) {
         Ok(exercise) => Ok(exercise),
-        Err(PlainFault::Form) => Err(Stop::Refused(Refusal::Form)),
-        Err(PlainFault::Memory) => Err(Stop::Memory),
+        Err(TextFault::At { kind, line, column }) => Err(Stop::Refused(Refusal::Text {
+            kind,
+            line,
+            column,
+        })),
+        Err(TextFault::Memory) => Err(Stop::Memory),
     }
 }
