@@ -1,9 +1,0 @@
-pub mod CellLists
-pub mod CleanWords
-pub mod CutLemmas
-pub mod ItemWords
-pub mod NameLists
-pub mod PartLemmas
-pub mod TokenLists
-pub mod SettingLemmas
-pub mod SungLines

@@ -1,6 +1,0 @@
-use Rattle.std.proofs.Common.{◌≡◌, ◌-◌, ◌∷◌, ◌++◌, replicate}
-use Rattle.plain_text.specs.Cells.{held}
-use Rattle.plain_text.proofs.setting.push_item.Given as goal
-
-abbrev pub invariant-loop : goal.invariant-loop
-invariant-loop l = l.cells.items ≡ l.fn.cells.items ++ l.first ∷ replicate (l.counter - 1) (held l.first)

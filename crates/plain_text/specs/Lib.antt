@@ -1,4 +1,0 @@
-pub mod Cells
-pub mod Faults
-pub mod Plain
-pub mod Spelling
