@@ -22,7 +22,7 @@ fn a_failed_device_shows_in_the_status_or_not(rt: HostRuntime) -> Result<(), Fai
         (
             "mark bytes",
             3,
-            "fux: cannot write\nfux: cannot read Afux: bytes: form\n",
+            "fux: cannot write\nfux: cannot read Afux: bytes:1:1: notutf8\n",
         ),
     ] {
         let words = words_of(alloc, line)?;

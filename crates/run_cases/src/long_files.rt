@@ -38,7 +38,12 @@ fn a_file_of_any_length_is_given_up_past_the_limit(rt: HostRuntime) -> Result<()
         let status = run(&rt, rt.alloc(), &words, &mut shelf, &mut out, &mut err);
         assert_eq!(rt; status, 3, "{length}");
         assert_eq!(rt; out.bytes(), b"".as_slice(), "{length}");
-        assert_eq!(rt; err.bytes(), b"fux: zeros: form\n".as_slice(), "{length}");
+        let complaint = if length > 65_536 {
+            "fux: zeros:1:1: toolong\n"
+        } else {
+            "fux: zeros:1:1: head\n"
+        };
+        assert_eq!(rt; err.bytes(), complaint.as_bytes(), "{length}");
         assert_eq!(rt; shelf.given, length.min(65_537), "{length}");
     }
     Ok(())

@@ -53,13 +53,18 @@ compose A --budget +7|@|2||fux: usage/
 compose A --budget |@|2||fux: usage/
 compose B|@|4||fux: cannot read B/
 mark -|@|4||fux: cannot read -/
-compose A||3||fux: A: form/
-mark A||3||fux: A: form/
-cantus A||3||fux: A: form/
-compose A|fux 1/mode dorian/voices 2/bars 3/species 1 voice 1/cantus 0 D4 E4 D4/range 1 D5 A4/|3||fux: A: form/
-compose A|fux 1/mode dorian/voices 2/bars 2/species 1 voice 1/cantus 0 D4 D4/range 1 A4 D5/|3||fux: A: form/
-compose A|fux 1/mode dorian/voices 2/bars 3/species 1 voice 1/cantus 0 D4 D4/range 1 A4 D5/|3||fux: A: form/
-compose A|fux 1/mode dorian/voices 2/bars 3/species 1 voice 1/cantus 0 D4 E9 D4/range 1 A4 D5/|3||fux: A: form/"
+compose A||3||fux: A:1:1: head/
+mark A||3||fux: A:1:1: head/
+cantus A||3||fux: A:1:1: head/
+compose A|fux 1/mode dorian/voices 2/bars 3/species 1 voice 1/cantus 0 D4 E4 D4/range 1 D5 A4/|3||fux: A:7:12: range/
+compose A|fux 1/mode dorian/voices 2/bars 2/species 1 voice 1/cantus 0 D4 D4/range 1 A4 D5/|3||fux: A:4:6: bars/
+compose A|fux 1/mode dorian/voices 2/bars 3/species 1 voice 1/cantus 0 D4 D4/range 1 A4 D5/|3||fux: A:6:15: cantus/
+compose A|fux 1/mode dorian/voices 2/bars 3/species 1 voice 1/cantus 0 D4 E9 D4/range 1 A4 D5/|3||fux: A:6:13: pitch/
+compose A|@sing 1 D5:8 ! C#5:7 ! D5:8/|3||fux: A:8:21: length/
+compose A|@sing 1 D5:8 ! C#5:8 ! H5:8/|3||fux: A:8:23: pitch/
+compose A|fux 1/mode dorian/voices 2/bars 3/species 2 voice 1/cantus 0 D4 E4 D4/range 1 A4 D5/|3||fux: A:5:9: word/
+compose A|@range 1 A4 C5 2 2/|0|@range 1 A4 C5 2 2/sing 1 D5:8 ! C5:8 ! D5:8/; penalty 0/|
+compose A|fux 1/mode dorian/voices 2/bars 3/species 1 voice 0/cantus 1 D4 E4 D4/range 0 C4 D4/|0|fux 1/mode dorian/voices 2/bars 3/species 1 voice 0/cantus 1 D4 E4 D4/range 0 C4 D4/sing 0 D4:8 ! C4:8 ! D4:8/; penalty 0/|"
 }
 
 /// A field with what its signs stand for.

@@ -1,0 +1,123 @@
+//! Runs over any files: a text of cases, which one loop reads. A case is
+//!
+//! ```text
+//! case NUMBER KIND
+//! words "compose" "E"
+//! file "E" "fux 1\nmode .."
+//! status 0
+//! out ".."
+//! err ".."
+//! ```
+//!
+//! with a line for each file. Texts have the escapes of byte strings: `\n`, `\t`, `\r`, `\\`, `\"` and `\xNN`.
+
+use fux_port::{MemShelf, MemSink};
+use fux_run::run;
+use std::alloc::{AllocError, Global};
+use std::test::Fail;
+use std::thread::Threads;
+
+/// What the bytes of an escape so far ask for.
+#[derive(Clone, Copy)]
+enum Escape {
+    None,
+    Begun,
+    FirstDigit,
+    SecondDigit(u8),
+}
+
+/// The value of a hexadecimal digit, 0 for any other byte.
+fn digit(byte: u8) -> u8
+    ensures { result < 16 }
+{
+    match byte {
+        b'0'..=b'9' => byte - b'0',
+        b'a'..=b'f' => byte - b'a' + 10,
+        _ => 0,
+    }
+}
+
+/// The bytes that a text with escapes stands for.
+fn decoded(alloc: Global, text: &str) -> Result<Vec<u8>, AllocError> {
+    let mut bytes = Vec::new(alloc);
+    let mut escape = Escape::None;
+    for byte in text.bytes() {
+        escape = match (escape, byte) {
+            (Escape::None, b'\\') => Escape::Begun,
+            (Escape::None, _) => {
+                bytes.push(byte)?;
+                Escape::None
+            }
+            (Escape::Begun, b'x') => Escape::FirstDigit,
+            (Escape::Begun, _) => {
+                bytes.push(match byte {
+                    b'n' => b'\n',
+                    b't' => b'\t',
+                    b'r' => b'\r',
+                    _ => byte,
+                })?;
+                Escape::None
+            }
+            (Escape::FirstDigit, _) => Escape::SecondDigit(digit(byte)),
+            (Escape::SecondDigit(high), _) => {
+                bytes.push(high.wrapping_mul(16).wrapping_add(digit(byte)))?;
+                Escape::None
+            }
+        };
+    }
+    Ok(bytes)
+}
+
+/// The words of a line, each within quotes.
+fn words_in(alloc: Global, line: &str) -> Result<Vec<String>, Fail> {
+    let mut words = Vec::new(alloc);
+    for (place, piece) in line.split('"').enumerate() {
+        if place % 2 == 1 {
+            words.push(String::from_str(alloc, piece)?)?;
+        }
+    }
+    Ok(words)
+}
+
+/// The text within the quotes behind a line's first word.
+fn quoted<'a>(line: &'a str, name: &str) -> Option<&'a str> {
+    line.strip_prefix(name)?
+        .strip_prefix(" \"")?
+        .strip_suffix('"')
+}
+
+/// Runs each case, and compares what comes of it.
+pub fn try_cases<R: Threads + Sync>(rt: &R, alloc: Global, cases: &str) -> Result<(), Fail> {
+    let mut shelf = MemShelf::new(alloc, &[])?;
+    let mut title = "";
+    let mut words = Vec::new(alloc);
+    let mut status = "";
+    let mut output = Vec::new(alloc);
+    for line in cases.lines() {
+        if line.starts_with("case ") {
+            title = line;
+            shelf = MemShelf::new(alloc, &[])?;
+        } else if line.starts_with("words ") {
+            words = words_in(alloc, line)?;
+        } else if let Some(file) = quoted(line, "file") {
+            let (name, text) = file.split_once("\" \"").ok_or("no file")?;
+            shelf.put(name, &decoded(alloc, text)?)?;
+        } else if let Some(number) = line.strip_prefix("status ") {
+            status = number;
+        } else if let Some(text) = quoted(line, "out") {
+            output = decoded(alloc, text)?;
+        } else if let Some(text) = quoted(line, "err") {
+            let complaint = decoded(alloc, text)?;
+            let mut out = MemSink::new(alloc, 1_000_000, 1_000_000, &[])?;
+            let mut err = MemSink::new(alloc, 1_000, 1_000, &[])?;
+            let got = run(rt, alloc, &words, &mut shelf, &mut out, &mut err);
+            let same = err.bytes() == complaint.as_slice()
+                && out.bytes() == output.as_slice()
+                && status.parse::<u8>()? == got;
+            if !same {
+                return Err(Fail::from(title));
+            }
+        }
+    }
+    Ok(())
+}
