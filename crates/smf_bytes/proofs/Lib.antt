@@ -1,0 +1,4 @@
+pub mod Answers
+pub mod QuantityLemmas
+pub mod ShorterLemmas
+pub mod TrackLemmas

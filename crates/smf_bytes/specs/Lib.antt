@@ -1,0 +1,3 @@
+pub mod Chunks
+pub mod Messages
+pub mod Numbers
