@@ -1,12 +1,12 @@
 -- What is left behind a number, so many bytes, a quantity, an event or a chunk is shorter (`event_shorter`, `chunk_shorter`).
-use Rattle.std.proofs.Common.{◌≡◌, ℕ, zero, suc, ◌+◌, ◌-◌, ◌*◌, ◌/◌, ◌%◌, ◌<◌, ◌≤◌, Bool, true, false, List, [], ◌∷◌, length, take, drop, Option, Some, None, Result, Ok, Err, refl, sym, ◌∙◌, ap, arith, cond, ltb, eqb, length-drop}
+use Rattle.std.proofs.Common.{◌≡◌, ℕ, zero, suc, ◌+◌, ◌-◌, ◌*◌, ◌/◌, ◌%◌, ◌<◌, ◌≤◌, Bool, true, false, List, [], ◌∷◌, length, take, drop, Option, Some, None, Result, Ok, Err, ap, arith, cond, ltb, eqb, length-drop}
 use Rattle.std.specs.Prelude.{◌||◌}
 use Rattle.std.specs.Int.{Width, w32, byte_len, from_be_bytes}
 use Rattle.std.proofs.lemmas.Bool.{ltb-false}
 use Rattle.std.proofs.lemmas.List.{length-take}
 use Rattle.smf_bytes.specs.declared.fault.ByteFault.{ByteFault}
 use Rattle.smf_bytes.specs.declared.fault.ByteFault.TheVariants.{Truncated, Status}
-use Rattle.smf_bytes.specs.Numbers.{◌>>=◌, byte_in, bytes_in, number_in, digits_in, quantity_in}
+use Rattle.smf_bytes.specs.Numbers.{byte_in, bytes_in, number_in, digits_in, quantity_in}
 use Rattle.smf_bytes.specs.Messages.{Event, Other, data_in, second_in, message_in, meta_in, system_in, running_in, begun_by, event_in}
 use Rattle.smf_bytes.specs.Chunks.{Chunk, chunk_in}
 use Rattle.smf_bytes.proofs.Answers.{ok_is, bind_ok, guard_ok, pass_ok}
@@ -96,16 +96,25 @@ meta_shorter end bytes e h =
     let number = bind_ok (byte_in end bytes) _ e h in
     let count = bind_ok (quantity_in end number.0.1) _ e number.2 in
     let body = bind_ok (bytes_in end count.0.0 count.0.1) _ e count.2 in
-    omega (arith, byte_shorter end bytes number.0 number.1, quantity_shorter end number.0.1 count.0 count.1,
-      bytes_shorter end count.0.0 count.0.1 body.0 body.1, ap (λ (v : Event). length v.rest) (ok_is _ e body.2))
+    omega (
+      arith,
+      byte_shorter end bytes number.0 number.1,
+      quantity_shorter end number.0.1 count.0 count.1,
+      bytes_shorter end count.0.0 count.0.1 body.0 body.1,
+      ap (λ (v : Event). length v.rest) (ok_is _ e body.2),
+    )
 
 system_shorter : (end : ℕ) (bytes : List ℕ) → LeavesLess (length bytes) (system_in end bytes)
 unfolding system_in
 system_shorter end bytes e h =
     let count = bind_ok (quantity_in end bytes) _ e h in
     let body = bind_ok (bytes_in end count.0.0 count.0.1) _ e count.2 in
-    omega (arith, quantity_shorter end bytes count.0 count.1,
-      bytes_shorter end count.0.0 count.0.1 body.0 body.1, ap (λ (v : Event). length v.rest) (ok_is _ e body.2))
+    omega (
+      arith,
+      quantity_shorter end bytes count.0 count.1,
+      bytes_shorter end count.0.0 count.0.1 body.0 body.1,
+      ap (λ (v : Event). length v.rest) (ok_is _ e body.2),
+    )
 
 running_shorter : (running : Option ℕ) (end : ℕ) (bytes : List ℕ) → LeavesLess (length bytes) (running_in running end bytes)
 running_shorter (Some status) end bytes e h = message_shorter status end bytes e h
@@ -118,7 +127,7 @@ begun_shorter first running end bytes rest less e h =
   where
     by_meta : (a b c d : Bool)
         → cond a (meta_in end rest) (cond b (system_in end rest) (cond c (running_in running end bytes)
-          (cond d (message_in first end rest) (Err (Status (end - length bytes)))))) ≡ Ok e
+        (cond d (message_in first end rest) (Err (Status (end - length bytes)))))) ≡ Ok e
         → length e.rest < length bytes
     by_meta true b c d f = omega (arith, less, meta_shorter end rest e f)
     by_meta false true c d f = omega (arith, less, system_shorter end rest e f)
@@ -142,6 +151,12 @@ chunk_shorter size bytes chunk h =
     let count = bind_ok (number_in w32 size kind.0.1) _ chunk kind.2 in
     let body = bind_ok (bytes_in size count.0.0 count.0.1) _ chunk count.2 in
     let made : Chunk = record { kind = kind.0.0; bytes = body.0.0; rest = body.0.1 } in
-    omega (arith, number_shorter w32 size bytes kind.0 kind.1, number_shorter w32 size kind.0.1 count.0 count.1,
-      bytes_shorter size count.0.0 count.0.1 body.0 body.1, front_length size count.0.0 count.0.1 body.0 body.1,
-      ap (λ (v : Chunk). length v.rest) (ok_is made chunk body.2), ap (λ (v : Chunk). length v.bytes) (ok_is made chunk body.2))
+    omega (
+      arith,
+      number_shorter w32 size bytes kind.0 kind.1,
+      number_shorter w32 size kind.0.1 count.0 count.1,
+      bytes_shorter size count.0.0 count.0.1 body.0 body.1,
+      front_length size count.0.0 count.0.1 body.0 body.1,
+      ap (λ (v : Chunk). length v.rest) (ok_is made chunk body.2),
+      ap (λ (v : Chunk). length v.bytes) (ok_is made chunk body.2),
+    )

@@ -1,6 +1,6 @@
 -- The next track, chunk by chunk: a chunk of another type is passed over (`track_more`), a track is found
 -- (`track_found`), and a fault is the answer (`track_fault`, `track_none`).
-use Rattle.std.proofs.Common.{◌≡◌, ℕ, zero, suc, ◌<◌, ◌≤◌, Bool, true, false, List, [], ◌∷◌, length, Result, Ok, Err, refl, sym, ◌∙◌, ap, arith, cond, eqb}
+use Rattle.std.proofs.Common.{◌≡◌, ℕ, zero, suc, ◌≤◌, true, false, List, [], ◌∷◌, length, Result, Ok, Err, refl, ap, arith, cond, eqb}
 use Rattle.smf_bytes.specs.declared.fault.ByteFault.{ByteFault}
 use Rattle.smf_bytes.specs.declared.fault.ByteFault.TheVariants.{Truncated}
 use Rattle.smf_bytes.specs.declared.chunks.TheConstants.{TRACK}
@@ -22,7 +22,7 @@ track_enough (suc n) (suc m) size bytes few fewer =
     at : (r : Result Chunk ByteFault) → chunk_in size bytes ≡ r
         → ((c : Chunk) → length c.rest ≤ n → length c.rest ≤ m → track_in n size c.rest ≡ track_in m size c.rest)
         → (r >>= λ c. cond (eqb c.kind TRACK) (Ok c) (track_in n size c.rest))
-          ≡ (r >>= λ c. cond (eqb c.kind TRACK) (Ok c) (track_in m size c.rest))
+        ≡ (r >>= λ c. cond (eqb c.kind TRACK) (Ok c) (track_in m size c.rest))
     at (Ok c) e later =
         let less = chunk_shorter size bytes c e in
         ap (λ (t : Result Chunk ByteFault). cond (eqb c.kind TRACK) (Ok c) t) (later c (omega arith) (omega arith))

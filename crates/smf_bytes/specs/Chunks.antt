@@ -1,5 +1,5 @@
 -- The chunks of a file and its header, or the first fault. A file is given by its size and the bytes that are left.
-use Rattle.std.specs.Prelude.{◌≡◌, ℕ, zero, suc, ◌==◌, List, length, Result, Ok, Err, nat_lt, if◌then◌else◌}
+use Rattle.std.specs.Prelude.{ℕ, zero, suc, ◌==◌, List, length, Result, Ok, Err, nat_lt, if◌then◌else◌}
 use Rattle.std.specs.Int.{w16, w32}
 use Rattle.smf_bytes.specs.declared.fault.ByteFault.{ByteFault}
 use Rattle.smf_bytes.specs.declared.fault.ByteFault.TheVariants as faults
@@ -66,4 +66,4 @@ unfoldable pub header_in : ℕ → List ℕ → Result (Header × List ℕ) Byte
 header_in size bytes =
     if nat_lt (length bytes) 4 then Err (faults.Chunk 0)
     else (number_in w32 size bytes >>= λ kind.
-      if kind.0 == HEADER then header_behind size kind.1 else Err (faults.Chunk 0))
+    if kind.0 == HEADER then header_behind size kind.1 else Err (faults.Chunk 0))

@@ -1,5 +1,5 @@
 -- The events of a track, without their times: which event stands at the front of the bytes, or the first fault.
-use Rattle.std.specs.Prelude.{◌≡◌, ℕ, ◌-◌, ◌/◌, ◌%◌, ◌==◌, ◌||◌, List, length, Option, Some, None, Result, Ok, Err, nat_lt, if◌then◌else◌}
+use Rattle.std.specs.Prelude.{ℕ, ◌-◌, ◌/◌, ◌%◌, ◌==◌, ◌||◌, Bool, false, List, length, Option, Some, None, Result, Ok, Err, nat_lt, if◌then◌else◌}
 use Rattle.smf_bytes.specs.declared.fault.ByteFault.{ByteFault}
 use Rattle.smf_bytes.specs.declared.fault.ByteFault.TheVariants.{Status}
 use Rattle.smf_bytes.specs.declared.messages.Kind.{Kind}
@@ -22,6 +22,14 @@ seen_kind (kinds.On channel key velocity) = On channel key velocity
 seen_kind (kinds.Other channel) = Other channel
 seen_kind (kinds.Meta number bytes) = Meta number bytes.now
 seen_kind (kinds.System bytes) = System bytes.now
+
+-- meta event 2F ends its track
+abbrev pub ends_track : Message → Bool
+ends_track (Off channel key) = false
+ends_track (On channel key velocity) = false
+ends_track (Other channel) = false
+ends_track (Meta number bytes) = number == 0x2F
+ends_track (System bytes) = false
 
 -- an event, the status that holds after it, and the bytes behind it
 pub record Event : Type 0 where
@@ -55,8 +63,8 @@ unfoldable pub message_in : ℕ → ℕ → List ℕ → Result Event ByteFault
 message_in status end bytes = do
   first ← data_in end bytes
   if (status / 16 == 12) || (status / 16 == 13)
-    then Ok (record { message = Other (status % 16); running = Some status; rest = first.1 })
-    else second_in status first.0 end first.1
+      then Ok (record { message = Other (status % 16); running = Some status; rest = first.1 })
+      else second_in status first.0 end first.1
 
 -- a meta event has its number, a length and so many bytes; no status holds after it
 unfoldable pub meta_in : ℕ → List ℕ → Result Event ByteFault

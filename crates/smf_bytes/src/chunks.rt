@@ -32,7 +32,8 @@ pub(crate) struct Chunk<'a> {
 /// The chunk at the front.
 #[tactic(auto, unfolding(crate::specs::Chunks::chunk_in))]
 fn chunk_of(size: usize, bytes: &[u8]) -> Result<Chunk<'_>, ByteFault>
-    ensures { Gives chunk_seen result (chunk_in size bytes.now) }
+    ensures value { Gives chunk_seen result (chunk_in size bytes.now) }
+    ensures shorter { IfOk result (λ chunk. length chunk.bytes.now + length chunk.rest.now < length bytes.now) }
 {
     let (kind, rest) = u32_of(size, bytes)?;
     let (count, rest) = u32_of(size, rest)?;
@@ -42,7 +43,8 @@ fn chunk_of(size: usize, bytes: &[u8]) -> Result<Chunk<'_>, ByteFault>
 
 /// The chunk of the next track. Chunks of other types are passed over.
 pub(crate) fn track_of(size: usize, bytes: &[u8]) -> Result<Chunk<'_>, ByteFault>
-    ensures { Gives chunk_seen result (track_in (length bytes.now) size bytes.now) }
+    ensures value { Gives chunk_seen result (track_in (length bytes.now) size bytes.now) }
+    ensures shorter { IfOk result (λ chunk. length chunk.bytes.now + length chunk.rest.now ≤ length bytes.now) }
 {
     let mut rest = bytes;
     while !rest.is_empty() {
@@ -82,13 +84,18 @@ fn fields_of(size: usize, bytes: &[u8]) -> Result<Header, ByteFault>
     let (format, bytes) = u16_of(size, bytes)?;
     let (tracks, bytes) = u16_of(size, bytes)?;
     let (division, _) = u16_of(size, bytes)?;
-    checked_header(Header { format, tracks, division })
+    checked_header(Header {
+        format,
+        tracks,
+        division,
+    })
 }
 
 /// The header, behind its type, and what follows it.
 #[tactic(auto, unfolding(crate::specs::Chunks::header_behind))]
 fn header_behind_type(size: usize, bytes: &[u8]) -> Result<(Header, &[u8]), ByteFault>
-    ensures { Gives (λ x. (x.0, x.1.now)) result (header_behind size bytes.now) }
+    ensures value { Gives (λ x. (x.0, x.1.now)) result (header_behind size bytes.now) }
+    ensures shorter { IfOk result (λ x. length x.1.now < length bytes.now) }
 {
     let (count, bytes) = u32_of(size, bytes)?;
     if count < 6 {
@@ -101,7 +108,8 @@ fn header_behind_type(size: usize, bytes: &[u8]) -> Result<(Header, &[u8]), Byte
 /// The header of a file of so many bytes, and what follows it.
 #[tactic(auto, unfolding(crate::specs::Chunks::header_in))]
 pub(crate) fn header_of(size: usize, bytes: &[u8]) -> Result<(Header, &[u8]), ByteFault>
-    ensures { Gives (λ x. (x.0, x.1.now)) result (header_in size bytes.now) }
+    ensures value { Gives (λ x. (x.0, x.1.now)) result (header_in size bytes.now) }
+    ensures shorter { IfOk result (λ x. length x.1.now ≤ length bytes.now) }
 {
     if bytes.len() < 4 {
         return Err(ByteFault::Chunk { at: 0 });

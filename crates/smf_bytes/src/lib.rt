@@ -2,11 +2,13 @@
 #![tactic(auto)]
 
 mod chunks;
-// mod events;
+mod events;
 mod fault;
+mod file;
 mod messages;
 mod numbers;
 
-// pub use events::{Event, Events, open};
+pub use events::{Event, Events};
 pub use fault::ByteFault;
+pub use file::open;
 pub use messages::Kind;

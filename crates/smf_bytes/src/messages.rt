@@ -1,6 +1,6 @@
 //! The events of a track, without their times.
 
-ghost use Rattle.std.specs.Prelude.{◌≡◌, ◌≤◌, length};
+ghost use Rattle.std.specs.Prelude.{◌≡◌, ◌≤◌, ◌<◌, length, IfOk};
 ghost use Rattle.smf_bytes.specs.Numbers.{Gives};
 ghost use Rattle.smf_bytes.specs.Messages.{data_in, event_in, message_in, meta_in, seen, seen_kind, system_in, two_byte_message};
 
@@ -22,6 +22,17 @@ pub enum Kind<'a> {
     System { bytes: &'a [u8] },
 }
 
+impl Kind<'_> {
+    ghost use Rattle.smf_bytes.specs.Messages.{ends_track};
+
+    /// Whether this is the end of a track.
+    pub fn ends_track(self) -> bool
+        ensures { result ≡ ends_track (seen_kind self.entry) }
+    {
+        matches!(self, Kind::Meta { number: 0x2F, .. })
+    }
+}
+
 /// An event, the status that holds after it, and the bytes behind it.
 #[derive(Clone, Copy, Debug)]
 pub(crate) struct Taken<'a> {
@@ -33,11 +44,14 @@ pub(crate) struct Taken<'a> {
 /// A data byte of a message.
 fn data_of(end: usize, bytes: &[u8]) -> Result<(u8, &[u8]), ByteFault>
     requires { length bytes.now ≤ end }
-    ensures { Gives (λ x. (x.0, x.1.now)) result (data_in end bytes.now) }
+    ensures value { Gives (λ x. (x.0, x.1.now)) result (data_in end bytes.now) }
+    ensures shorter { IfOk result (λ x. length x.1.now < length bytes.now) }
 {
     let (byte, rest) = byte_of(end, bytes)?;
     if byte >= 128 {
-        return Err(ByteFault::Status { at: end - bytes.len() });
+        return Err(ByteFault::Status {
+            at: end - bytes.len(),
+        });
     }
     Ok((byte, rest))
 }
@@ -48,8 +62,15 @@ fn two_byte_kind(status: u8, first: u8, second: u8) -> Kind<'static>
 {
     let channel = status % 16;
     match status / 16 {
-        8 => Kind::Off { channel, key: first },
-        9 => Kind::On { channel, key: first, velocity: second },
+        8 => Kind::Off {
+            channel,
+            key: first,
+        },
+        9 => Kind::On {
+            channel,
+            key: first,
+            velocity: second,
+        },
         _ => Kind::Other { channel },
     }
 }
@@ -58,47 +79,73 @@ fn two_byte_kind(status: u8, first: u8, second: u8) -> Kind<'static>
 #[tactic(auto, unfolding(crate::specs::Messages::message_in))]
 fn message_of(status: u8, end: usize, bytes: &[u8]) -> Result<Taken<'_>, ByteFault>
     requires { length bytes.now ≤ end }
-    ensures { Gives seen result (message_in status end bytes.now) }
+    ensures value { Gives seen result (message_in status end bytes.now) }
+    ensures shorter { IfOk result (λ taken. length taken.rest.now < length bytes.now) }
 {
     let running = Some(status);
     let (first, rest) = data_of(end, bytes)?;
     if status / 16 == 12 || status / 16 == 13 {
-        let kind = Kind::Other { channel: status % 16 };
-        return Ok(Taken { kind, running, rest });
+        let kind = Kind::Other {
+            channel: status % 16,
+        };
+        return Ok(Taken {
+            kind,
+            running,
+            rest,
+        });
     }
     let (second, rest) = data_of(end, rest)?;
     let kind = two_byte_kind(status, first, second);
-    Ok(Taken { kind, running, rest })
+    Ok(Taken {
+        kind,
+        running,
+        rest,
+    })
 }
 
 /// A meta event, behind its status.
 #[tactic(auto, unfolding(crate::specs::Messages::meta_in))]
 fn meta_of(end: usize, bytes: &[u8]) -> Result<Taken<'_>, ByteFault>
     requires { length bytes.now ≤ end }
-    ensures { Gives seen result (meta_in end bytes.now) }
+    ensures value { Gives seen result (meta_in end bytes.now) }
+    ensures shorter { IfOk result (λ taken. length taken.rest.now < length bytes.now) }
 {
     let (number, rest) = byte_of(end, bytes)?;
     let (count, rest) = quantity_of(end, rest)?;
     let (bytes, rest) = bytes_of(end, count as usize, rest)?;
-    Ok(Taken { kind: Kind::Meta { number, bytes }, running: None, rest })
+    Ok(Taken {
+        kind: Kind::Meta { number, bytes },
+        running: None,
+        rest,
+    })
 }
 
 /// A system event, behind its status.
 #[tactic(auto, unfolding(crate::specs::Messages::system_in))]
 fn system_of(end: usize, bytes: &[u8]) -> Result<Taken<'_>, ByteFault>
     requires { length bytes.now ≤ end }
-    ensures { Gives seen result (system_in end bytes.now) }
+    ensures value { Gives seen result (system_in end bytes.now) }
+    ensures shorter { IfOk result (λ taken. length taken.rest.now < length bytes.now) }
 {
     let (count, rest) = quantity_of(end, bytes)?;
     let (bytes, rest) = bytes_of(end, count as usize, rest)?;
-    Ok(Taken { kind: Kind::System { bytes }, running: None, rest })
+    Ok(Taken {
+        kind: Kind::System { bytes },
+        running: None,
+        rest,
+    })
 }
 
 /// The event at the front of the bytes, behind its delta time; `running` is the status that holds before it.
 #[tactic(auto, unfolding(crate::specs::Messages::event_in))]
-pub(crate) fn event_of(running: Option<u8>, end: usize, bytes: &[u8]) -> Result<Taken<'_>, ByteFault>
+pub(crate) fn event_of(
+    running: Option<u8>,
+    end: usize,
+    bytes: &[u8],
+) -> Result<Taken<'_>, ByteFault>
     requires { length bytes.now ≤ end }
-    ensures { Gives seen result (event_in running end bytes.now) }
+    ensures value { Gives seen result (event_in running end bytes.now) }
+    ensures shorter { IfOk result (λ taken. length taken.rest.now < length bytes.now) }
 {
     let (status, rest) = byte_of(end, bytes)?;
     if status == 0xFF {
@@ -110,11 +157,15 @@ pub(crate) fn event_of(running: Option<u8>, end: usize, bytes: &[u8]) -> Result<
     if status < 0x80 {
         return match running {
             Some(before) => message_of(before, end, bytes),
-            None => Err(ByteFault::Status { at: end - bytes.len() }),
+            None => Err(ByteFault::Status {
+                at: end - bytes.len(),
+            }),
         };
     }
     if status < 0xF0 {
         return message_of(status, end, rest);
     }
-    Err(ByteFault::Status { at: end - bytes.len() })
+    Err(ByteFault::Status {
+        at: end - bytes.len(),
+    })
 }

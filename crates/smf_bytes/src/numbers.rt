@@ -8,7 +8,8 @@ use crate::fault::ByteFault;
 
 /// The first byte; `end` is the offset at which the bytes end.
 pub(crate) fn byte_of(end: usize, bytes: &[u8]) -> Result<(u8, &[u8]), ByteFault>
-    ensures { Gives (λ x. (x.0, x.1.now)) result (byte_in end bytes.now) }
+    ensures value { Gives (λ x. (x.0, x.1.now)) result (byte_in end bytes.now) }
+    ensures shorter { IfOk result (λ x. length x.1.now < length bytes.now) }
 {
     match bytes {
         [] => Err(ByteFault::Truncated { at: end }),
@@ -18,7 +19,8 @@ pub(crate) fn byte_of(end: usize, bytes: &[u8]) -> Result<(u8, &[u8]), ByteFault
 
 /// So many bytes.
 pub(crate) fn bytes_of(end: usize, count: usize, bytes: &[u8]) -> Result<(&[u8], &[u8]), ByteFault>
-    ensures { Gives (λ x. (x.0.now, x.1.now)) result (bytes_in end count bytes.now) }
+    ensures value { Gives (λ x. (x.0.now, x.1.now)) result (bytes_in end count bytes.now) }
+    ensures shorter { IfOk result (λ x. length x.0.now + length x.1.now ≡ length bytes.now) }
 {
     if bytes.len() < count {
         return Err(ByteFault::Truncated { at: end });
@@ -28,7 +30,8 @@ pub(crate) fn bytes_of(end: usize, count: usize, bytes: &[u8]) -> Result<(&[u8],
 
 /// Two bytes as a number, the greater first.
 pub(crate) fn u16_of(end: usize, bytes: &[u8]) -> Result<(u16, &[u8]), ByteFault>
-    ensures { Gives (λ x. (x.0, x.1.now)) result (number_in w16 end bytes.now) }
+    ensures value { Gives (λ x. (x.0, x.1.now)) result (number_in w16 end bytes.now) }
+    ensures shorter { IfOk result (λ x. length x.1.now < length bytes.now) }
 {
     if bytes.len() < 2 {
         return Err(ByteFault::Truncated { at: end });
@@ -39,13 +42,17 @@ pub(crate) fn u16_of(end: usize, bytes: &[u8]) -> Result<(u16, &[u8]), ByteFault
 
 /// Four bytes as a number, the greatest first.
 pub(crate) fn u32_of(end: usize, bytes: &[u8]) -> Result<(u32, &[u8]), ByteFault>
-    ensures { Gives (λ x. (x.0, x.1.now)) result (number_in w32 end bytes.now) }
+    ensures value { Gives (λ x. (x.0, x.1.now)) result (number_in w32 end bytes.now) }
+    ensures shorter { IfOk result (λ x. length x.1.now < length bytes.now) }
 {
     if bytes.len() < 4 {
         return Err(ByteFault::Truncated { at: end });
     }
     let (front, rest) = bytes.split_at(4);
-    Ok((u32::from_be_bytes([front[0], front[1], front[2], front[3]]), rest))
+    Ok((
+        u32::from_be_bytes([front[0], front[1], front[2], front[3]]),
+        rest,
+    ))
 }
 
 /// A quantity of one to four bytes, seven bits in each.
@@ -53,6 +60,7 @@ pub(crate) fn quantity_of(end: usize, bytes: &[u8]) -> Result<(u32, &[u8]), Byte
     requires { length bytes.now ≤ end }
     ensures value { Gives (λ x. (x.0, x.1.now)) result (quantity_in end bytes.now) }
     ensures bound { IfOk result (λ x. x.0 < 2 ^ 28) }
+    ensures shorter { IfOk result (λ x. length x.1.now < length bytes.now) }
 {
     let begin = end - bytes.len();
     let mut high = 0;
