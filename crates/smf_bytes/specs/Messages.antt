@@ -1,5 +1,5 @@
 -- The events of a track, without their times: which event stands at the front of the bytes, or the first fault.
-use Rattle.std.specs.Prelude.{ℕ, ◌-◌, ◌/◌, ◌%◌, ◌==◌, ◌||◌, Bool, false, List, length, Option, Some, None, Result, Ok, Err, nat_lt, if◌then◌else◌}
+use Rattle.std.specs.Prelude.{◌<◌, ⊤, ℕ, ◌-◌, ◌/◌, ◌%◌, ◌==◌, ◌||◌, Bool, false, List, length, Option, Some, None, Result, Ok, Err, nat_lt, if◌then◌else◌}
 use Rattle.smf_bytes.specs.declared.fault.ByteFault.{ByteFault}
 use Rattle.smf_bytes.specs.declared.fault.ByteFault.TheVariants.{Status}
 use Rattle.smf_bytes.specs.declared.messages.Kind.{Kind}
@@ -14,6 +14,14 @@ pub data Message : Type 0 where
   Other : (channel : ℕ) → Message
   Meta : (number : ℕ) (bytes : List ℕ) → Message
   System : (bytes : List ℕ) → Message
+
+-- channels are below 16, and data below 128
+abbrev pub IsInRange : Message → Type 0
+IsInRange (Off channel key) = (channel < 16) × (key < 128)
+IsInRange (On channel key velocity) = (channel < 16) × (key < 128) × (velocity < 128)
+IsInRange (Other channel) = channel < 16
+IsInRange (Meta number bytes) = number < 256
+IsInRange (System bytes) = ⊤
 
 -- the same of the code's events, whose bytes lie in the file
 abbrev pub seen_kind : Kind → Message

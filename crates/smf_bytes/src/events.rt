@@ -48,12 +48,14 @@ pub struct Events<'a> {
 impl<'a> Track<'a> {
     ghost use Rattle.std.specs.Option.{option_map};
     ghost use Rattle.smf_bytes.specs.Numbers.{Gives};
+    ghost use Rattle.smf_bytes.specs.Messages.{IsInRange, seen_kind};
     ghost use Rattle.smf_bytes.specs.Events.{left_seen, next_in, timed_seen};
 
     /// The next event, and what is left behind it.
     #[tactic(auto, unfolding(crate::specs::Events::next_in))]
     fn next(self) -> Result<(Event<'a>, Option<Track<'a>>), ByteFault>
-        ensures { Gives (λ x. (timed_seen x.0, option_map left_seen x.1)) result (next_in (left_seen self.entry)) }
+        ensures value { Gives (λ x. (timed_seen x.0, option_map left_seen x.1)) result (next_in (left_seen self.entry)) }
+        ensures range { IfOk result (λ x. IsInRange (seen_kind x.0.kind)) }
     {
         if self.rest.is_empty() {
             return Err(ByteFault::NoEnd { at: self.end });
@@ -82,6 +84,7 @@ impl<'a> Track<'a> {
 }
 
 impl<'a> Events<'a> {
+    ghost use Rattle.smf_bytes.specs.Messages.{IsInRange, seen_kind};
     ghost use Rattle.smf_bytes.specs.Events.{TakesFirst, answer_seen, events_left, file_seen, followed_by, later_tracks, left_seen, to_come, tracks_in};
 
     /// What comes behind the header of a file of so many bytes.
@@ -172,6 +175,7 @@ impl<'a> Events<'a> {
     fn step(&mut self, track: Track<'a>) -> Result<Event<'a>, ByteFault>
         ensures first { followed_by (events_left (Some (left_seen track.entry))) (later_tracks self.old)
             ≡ answer_seen result ∷ to_come self.new }
+        ensures range { IfOk result (λ event. IsInRange (seen_kind event.kind)) }
         ensures kept { self.new.header ≡ self.old.header }
     {
         match track.next() {
@@ -189,6 +193,7 @@ impl<'a> Events<'a> {
     /// The next event, or the fault that stands in its place. After the last event and after a fault there is none.
     pub fn next(&mut self) -> Option<Result<Event<'a>, ByteFault>>
         ensures first { TakesFirst (to_come self.old) result (to_come self.new) }
+        ensures range { IfSome result (λ answer. IfOk answer (λ event. IsInRange (seen_kind event.kind))) }
         ensures kept { (file_seen self.new).header ≡ (file_seen self.old).header }
     {
         match self.current()? {

@@ -2,7 +2,7 @@
 
 ghost use Rattle.std.specs.Prelude.{◌≡◌, ◌≤◌, ◌<◌, length, IfOk};
 ghost use Rattle.smf_bytes.specs.Numbers.{Gives};
-ghost use Rattle.smf_bytes.specs.Messages.{data_in, event_in, message_in, meta_in, seen, seen_kind, system_in, two_byte_message};
+ghost use Rattle.smf_bytes.specs.Messages.{IsInRange, data_in, event_in, message_in, meta_in, seen, seen_kind, system_in, two_byte_message};
 
 use crate::fault::ByteFault;
 use crate::numbers::{byte_of, bytes_of, quantity_of};
@@ -45,6 +45,7 @@ pub(crate) struct Taken<'a> {
 fn data_of(end: usize, bytes: &[u8]) -> Result<(u8, &[u8]), ByteFault>
     requires { length bytes.now ≤ end }
     ensures value { Gives (λ x. (x.0, x.1.now)) result (data_in end bytes.now) }
+    ensures bound { IfOk result (λ x. x.0 < 128) }
     ensures shorter { IfOk result (λ x. length x.1.now < length bytes.now) }
 {
     let (byte, rest) = byte_of(end, bytes)?;
@@ -58,7 +59,10 @@ fn data_of(end: usize, bytes: &[u8]) -> Result<(u8, &[u8]), ByteFault>
 
 /// A message of two data bytes.
 fn two_byte_kind(status: u8, first: u8, second: u8) -> Kind<'static>
-    ensures { seen_kind result ≡ two_byte_message status first second }
+    requires first { first < 128 }
+    requires second { second < 128 }
+    ensures value { seen_kind result ≡ two_byte_message status first second }
+    ensures range { IsInRange (seen_kind result) }
 {
     let channel = status % 16;
     match status / 16 {
@@ -80,6 +84,7 @@ fn two_byte_kind(status: u8, first: u8, second: u8) -> Kind<'static>
 fn message_of(status: u8, end: usize, bytes: &[u8]) -> Result<Taken<'_>, ByteFault>
     requires { length bytes.now ≤ end }
     ensures value { Gives seen result (message_in status end bytes.now) }
+    ensures range { IfOk result (λ taken. IsInRange (seen_kind taken.kind)) }
     ensures shorter { IfOk result (λ taken. length taken.rest.now < length bytes.now) }
 {
     let running = Some(status);
@@ -108,6 +113,7 @@ fn message_of(status: u8, end: usize, bytes: &[u8]) -> Result<Taken<'_>, ByteFau
 fn meta_of(end: usize, bytes: &[u8]) -> Result<Taken<'_>, ByteFault>
     requires { length bytes.now ≤ end }
     ensures value { Gives seen result (meta_in end bytes.now) }
+    ensures range { IfOk result (λ taken. IsInRange (seen_kind taken.kind)) }
     ensures shorter { IfOk result (λ taken. length taken.rest.now < length bytes.now) }
 {
     let (number, rest) = byte_of(end, bytes)?;
@@ -125,6 +131,7 @@ fn meta_of(end: usize, bytes: &[u8]) -> Result<Taken<'_>, ByteFault>
 fn system_of(end: usize, bytes: &[u8]) -> Result<Taken<'_>, ByteFault>
     requires { length bytes.now ≤ end }
     ensures value { Gives seen result (system_in end bytes.now) }
+    ensures range { IfOk result (λ taken. IsInRange (seen_kind taken.kind)) }
     ensures shorter { IfOk result (λ taken. length taken.rest.now < length bytes.now) }
 {
     let (count, rest) = quantity_of(end, bytes)?;
@@ -145,6 +152,7 @@ pub(crate) fn event_of(
 ) -> Result<Taken<'_>, ByteFault>
     requires { length bytes.now ≤ end }
     ensures value { Gives seen result (event_in running end bytes.now) }
+    ensures range { IfOk result (λ taken. IsInRange (seen_kind taken.kind)) }
     ensures shorter { IfOk result (λ taken. length taken.rest.now < length bytes.now) }
 {
     let (status, rest) = byte_of(end, bytes)?;
