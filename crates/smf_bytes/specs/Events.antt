@@ -1,5 +1,5 @@
 -- The events of a file: each with its track, its time and its place, up to the first fault.
-use Rattle.std.specs.Prelude.{◌≡◌, ℕ, zero, suc, ◌+◌, ◌-◌, ◌==◌, List, [], ◌∷◌, length, Option, Some, None, Result, Ok, Err, option_map, nat_lt, if◌then◌else◌}
+use Rattle.std.specs.Prelude.{◌≡◌, ◌<◌, ◌≤◌, ◌^◌, ℕ, zero, suc, ◌+◌, ◌-◌, ◌==◌, List, [], ◌∷◌, length, Option, Some, None, Result, Ok, Err, option_map, nat_lt, if◌then◌else◌}
 use Rattle.smf_bytes.specs.declared.fault.ByteFault.{ByteFault}
 use Rattle.smf_bytes.specs.declared.fault.ByteFault.TheVariants.{NoEnd, TooLong}
 use Rattle.smf_bytes.specs.declared.chunks.Header.{Header}
@@ -7,7 +7,7 @@ use Rattle.smf_bytes.specs.declared.events.Event as declared
 use Rattle.smf_bytes.specs.declared.events.Events.{Events}
 use Rattle.smf_bytes.specs.declared.events.Track.{Track}
 use Rattle.smf_bytes.specs.Numbers.{◌>>=◌, quantity_in}
-use Rattle.smf_bytes.specs.Messages.{Event, Message, ends_track, event_in, seen_kind}
+use Rattle.smf_bytes.specs.Messages.{IsInRange, Event, Message, ends_track, event_in, seen_kind}
 use Rattle.smf_bytes.specs.Chunks.{Chunk, header_in, track_in}
 
 -- an event of a file: its track, counted from 0, when it comes, and the offset of its delta time
@@ -20,6 +20,12 @@ pub record Timed : Type 0 where
 abbrev pub timed_seen : declared.Event → Timed
 timed_seen event =
     record { track = event.track; tick = event.tick; offset = event.offset; message = seen_kind event.kind }
+
+-- what the numbers of an event are below; a track is one of at most 65,535
+pub record IsWithinBounds (event : declared.Event) : Type 0 where
+  pub track : event.track + 1 < 2 ^ 16
+  pub tick : event.tick ≤ 2 ^ 48
+  pub message : IsInRange (seen_kind event.kind)
 
 -- what is left of a track: its number, the offset of its end, the time and the status that hold, and its bytes
 pub record Left : Type 0 where

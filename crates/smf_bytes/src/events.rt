@@ -26,6 +26,7 @@ struct Track<'a> {
     running: Option<u8>,
     rest: &'a [u8],
     ghost within: { length rest.now ≤ end },
+    ghost counted: { number + 1 < 2 ^ 16 },
     ghost early: { tick + length rest.now * 2 ^ 28 ≤ 2 ^ 48 },
 }
 
@@ -48,14 +49,13 @@ pub struct Events<'a> {
 impl<'a> Track<'a> {
     ghost use Rattle.std.specs.Option.{option_map};
     ghost use Rattle.smf_bytes.specs.Numbers.{Gives};
-    ghost use Rattle.smf_bytes.specs.Messages.{IsInRange, seen_kind};
-    ghost use Rattle.smf_bytes.specs.Events.{left_seen, next_in, timed_seen};
+    ghost use Rattle.smf_bytes.specs.Events.{IsWithinBounds, left_seen, next_in, timed_seen};
 
     /// The next event, and what is left behind it.
     #[tactic(auto, unfolding(crate::specs::Events::next_in))]
     fn next(self) -> Result<(Event<'a>, Option<Track<'a>>), ByteFault>
         ensures value { Gives (λ x. (timed_seen x.0, option_map left_seen x.1)) result (next_in (left_seen self.entry)) }
-        ensures range { IfOk result (λ x. IsInRange (seen_kind x.0.kind)) }
+        ensures bounds { IfOk result (λ x. IsWithinBounds x.0) }
     {
         if self.rest.is_empty() {
             return Err(ByteFault::NoEnd { at: self.end });
@@ -84,8 +84,7 @@ impl<'a> Track<'a> {
 }
 
 impl<'a> Events<'a> {
-    ghost use Rattle.smf_bytes.specs.Messages.{IsInRange, seen_kind};
-    ghost use Rattle.smf_bytes.specs.Events.{TakesFirst, answer_seen, events_left, file_seen, followed_by, later_tracks, left_seen, to_come, tracks_in};
+    ghost use Rattle.smf_bytes.specs.Events.{IsWithinBounds, TakesFirst, answer_seen, events_left, file_seen, followed_by, later_tracks, left_seen, to_come, tracks_in};
 
     /// What comes behind the header of a file of so many bytes.
     pub(crate) fn behind(header: Header, size: usize, rest: &'a [u8]) -> Events<'a>
@@ -175,7 +174,7 @@ impl<'a> Events<'a> {
     fn step(&mut self, track: Track<'a>) -> Result<Event<'a>, ByteFault>
         ensures first { followed_by (events_left (Some (left_seen track.entry))) (later_tracks self.old)
             ≡ answer_seen result ∷ to_come self.new }
-        ensures range { IfOk result (λ event. IsInRange (seen_kind event.kind)) }
+        ensures bounds { IfOk result IsWithinBounds }
         ensures kept { self.new.header ≡ self.old.header }
     {
         match track.next() {
@@ -193,7 +192,7 @@ impl<'a> Events<'a> {
     /// The next event, or the fault that stands in its place. After the last event and after a fault there is none.
     pub fn next(&mut self) -> Option<Result<Event<'a>, ByteFault>>
         ensures first { TakesFirst (to_come self.old) result (to_come self.new) }
-        ensures range { IfSome result (λ answer. IfOk answer (λ event. IsInRange (seen_kind event.kind))) }
+        ensures bounds { IfSome result (λ answer. IfOk answer IsWithinBounds) }
         ensures kept { (file_seen self.new).header ≡ (file_seen self.old).header }
     {
         match self.current()? {

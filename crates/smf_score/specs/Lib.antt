@@ -1,2 +1,4 @@
+pub mod Faults
 pub mod Lines
+pub mod Strokes
 pub mod Written

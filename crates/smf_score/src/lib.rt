@@ -1,6 +1,9 @@
 //! Standard MIDI Files of exercises and their settings.
 #![tactic(auto)]
 
+mod fault;
+mod strokes;
 mod written;
 
+pub use fault::SmfFault;
 pub use written::to_smf;
