@@ -1,5 +1,5 @@
 -- The events of a file: each with its track, its time and its place, up to the first fault.
-use Rattle.std.specs.Prelude.{◌≡◌, ◌<◌, ◌≤◌, ◌^◌, ℕ, zero, suc, ◌+◌, ◌-◌, ◌==◌, List, [], ◌∷◌, length, Option, Some, None, Result, Ok, Err, option_map, nat_lt, if◌then◌else◌}
+use Rattle.std.specs.Prelude.{◌≡◌, ◌<◌, ◌^◌, ℕ, zero, suc, ◌+◌, ◌-◌, ◌==◌, List, [], ◌∷◌, length, Option, Some, None, Result, Ok, Err, option_map, nat_lt, if◌then◌else◌}
 use Rattle.smf_bytes.specs.declared.fault.ByteFault.{ByteFault}
 use Rattle.smf_bytes.specs.declared.fault.ByteFault.TheVariants.{NoEnd, TooLong}
 use Rattle.smf_bytes.specs.declared.chunks.Header.{Header}
@@ -24,7 +24,7 @@ timed_seen event =
 -- what the numbers of an event are below; a track is one of at most 65,535
 pub record IsWithinBounds (event : declared.Event) : Type 0 where
   pub track : event.track + 1 < 2 ^ 16
-  pub tick : event.tick ≤ 2 ^ 48
+  pub tick : event.tick < 2 ^ 48
   pub message : IsInRange (seen_kind event.kind)
 
 -- what is left of a track: its number, the offset of its end, the time and the status that hold, and its bytes

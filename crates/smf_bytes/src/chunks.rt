@@ -44,7 +44,7 @@ fn chunk_of(size: usize, bytes: &[u8]) -> Result<Chunk<'_>, ByteFault>
 /// The chunk of the next track. Chunks of other types are passed over.
 pub(crate) fn track_of(size: usize, bytes: &[u8]) -> Result<Chunk<'_>, ByteFault>
     ensures value { Gives chunk_seen result (track_in (length bytes.now) size bytes.now) }
-    ensures shorter { IfOk result (λ chunk. length chunk.bytes.now + length chunk.rest.now ≤ length bytes.now) }
+    ensures shorter { IfOk result (λ chunk. length chunk.bytes.now + length chunk.rest.now < length bytes.now) }
 {
     let mut rest = bytes;
     while !rest.is_empty() {

@@ -27,7 +27,7 @@ struct Track<'a> {
     rest: &'a [u8],
     ghost within: { length rest.now ≤ end },
     ghost counted: { number + 1 < 2 ^ 16 },
-    ghost early: { tick + length rest.now * 2 ^ 28 ≤ 2 ^ 48 },
+    ghost early: { tick + length rest.now * 2 ^ 28 < 2 ^ 48 },
 }
 
 /// The events of a file from the first track to the last.

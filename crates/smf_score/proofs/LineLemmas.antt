@@ -1,5 +1,5 @@
 -- One cell more of a voice: its holds (`holds-hold`, `holds-none`), its notes as bytes (`start_bytes`, `other_bytes`), and one track more (`tracks_more`).
-use Rattle.std.proofs.Common.{◌≡◌, ℕ, suc, ◌+◌, ◌-◌, ◌*◌, ◌/◌, ◌%◌, ◌<◌, ◌≤◌, Bool, true, false, List, [], ◌∷◌, ◌++◌, length, drop, get_or, map, refl, sym, ◌∙◌, ap, arith, cond, ltb, append_assoc, length-append, add-one}
+use Rattle.std.proofs.Common.{◌≡◌, ℕ, suc, ◌+◌, ◌-◌, ◌<◌, ◌≤◌, true, false, List, [], ◌∷◌, ◌++◌, length, drop, get_or, map, refl, sym, ◌∙◌, ap, arith, append_assoc, add-one}
 use Rattle.std.proofs.lemmas.List.{drop-map}
 use Rattle.std.proofs.Math.Seq.{drop-cons}
 use Rattle.fux_pitch.specs.declared.pitch.Pitch.{Pitch}
@@ -8,7 +8,7 @@ use Rattle.fux_grid.specs.declared.cell.Cell.TheVariants.{Rest, Hold, Start}
 use Rattle.fux_grid.specs.Cells.{cell_in, is_hold}
 use Rattle.fux_grid.specs.Columns.{line}
 use Rattle.smf_score.specs.Lines.{holds_ahead, notes_of}
-use Rattle.smf_score.specs.Written.{midi_key, quantity, note_bytes, notes_bytes, track_bytes, tracks_bytes}
+use Rattle.smf_score.specs.Written.{midi_key, note_bytes, notes_bytes, track_bytes, tracks_bytes}
 
 -- the cell of a voice at a column, and those behind it
 pub line_cell : (v i : ℕ) (columns : List (List Cell)) → i < length columns

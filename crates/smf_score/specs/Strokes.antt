@@ -1,7 +1,6 @@
 -- What the events of a file do to its notes.
-use Rattle.std.specs.Prelude.{ℕ, zero, suc, ◌<◌, ◌≤◌, ◌+◌, ◌^◌, ◌==◌, ⊤, List, [], ◌∷◌, Result, Ok, Err, if◌then◌else◌}
-use Rattle.smf_bytes.specs.declared.fault.ByteFault.{ByteFault}
-use Rattle.smf_bytes.specs.Messages.{Message, Off, On, Other, Meta, System, ends_track}
+use Rattle.std.specs.Prelude.{zero, suc, ◌<◌, ◌+◌, ◌^◌, ◌==◌, ⊤, List, [], ◌∷◌, Result, Ok, Err, if◌then◌else◌}
+use Rattle.smf_bytes.specs.Messages.{Message, Off, On, Other, Meta, System}
 use Rattle.smf_bytes.specs.Events.{Timed, Answers}
 use Rattle.smf_score.specs.declared.fault.SmfFault.{SmfFault}
 use Rattle.smf_score.specs.declared.fault.SmfFault.TheVariants.{Bytes}
@@ -37,5 +36,5 @@ IsAct Nothing = ⊤
 
 pub record IsStroke (stroke : Stroke) : Type 0 where
   pub track : stroke.track + 1 < 2 ^ 16
-  pub tick : stroke.tick ≤ 2 ^ 48
+  pub tick : stroke.tick < 2 ^ 48
   pub act : IsAct stroke.act

@@ -2,6 +2,7 @@
 #![tactic(auto)]
 
 mod fault;
+mod played;
 mod strokes;
 mod written;
 
