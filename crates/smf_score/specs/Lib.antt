@@ -1,5 +1,7 @@
 pub mod Faults
 pub mod Lines
+pub mod Order
+pub mod Placed
 pub mod Played
 pub mod Strokes
 pub mod Written

@@ -2,6 +2,8 @@
 #![tactic(auto)]
 
 mod fault;
+mod order;
+mod placed;
 mod played;
 mod strokes;
 mod written;

@@ -8,6 +8,7 @@ pub loop-i-init : goal.loop-i-init
 loop-i-init c = record {
   read = rw (drop-length c.args.strokes.now) c.new-notes.ensures.items;
   ends = rw (drop-length c.args.strokes.now) c.requires.ends;
+  early = c.requires.early;
   bounds = search rules;
   within = omega arith;
 }
@@ -18,10 +19,11 @@ loop-i-preserved c =
     let i = c.loop-i.i in
     record {
       read = c.in_ok-push_some.ensures.ok
-          ∙ notes_before c.args.format s i _ c.note_of_stroke.result c.loop-i.notes.items c.loop-i-test.true c.loop-i.invariant.within
+          ∙ notes_before c.args.layout s i _ c.note_of_stroke.result c.loop-i.notes.items c.loop-i-test.true c.loop-i.invariant.within
           (c.note_of_stroke.ensures.value (drop i s) c.loop-i.invariant.ends) c.loop-i.invariant.read;
       ends = ends_before s i _ c.enter.new.ends c.loop-i-test.true c.loop-i.invariant.within
-          (c.enter.ensures (drop i s) c.loop-i.invariant.ends);
+          (c.enter.ensures.ends (drop i s) c.loop-i.invariant.ends);
+      early = c.enter.ensures.early c.loop-i.invariant.early;
       bounds = c.in_ok-push_some.ensures.bounds c.loop-i.invariant.bounds;
       within = omega arith;
     }
@@ -29,4 +31,4 @@ loop-i-preserved c =
 pub returns-clause-value : goal.returns-clause-value
 returns-clause-value c =
     let over : c.loop-i.i ≡ 0 = omega arith in
-    c.loop-i.invariant.read ∙ ap (λ n. reverse (notes_in c.args.format (drop n c.args.strokes.now))) over
+    c.loop-i.invariant.read ∙ ap (λ n. reverse (notes_in c.args.layout (drop n c.args.strokes.now))) over
