@@ -1,3 +1,5 @@
+pub mod FollowLemmas
+pub mod GridLemmas
 pub mod LineLemmas
 pub mod PlacedLemmas
 pub mod PlayedLemmas

@@ -1,5 +1,5 @@
 -- The notes of a file on the grid, or the first note that is at fault.
-use Rattle.std.specs.Prelude.{ℕ, ◌+◌, ◌-◌, ◌*◌, ◌/◌, ◌==◌, ◌&&◌, List, [], ◌∷◌, Option, Some, None, Result, Ok, Err, max, nat_lt, if◌then◌else◌}
+use Rattle.std.specs.Prelude.{ℕ, ◌+◌, ◌-◌, ◌*◌, ◌/◌, ◌==◌, ◌&&◌, List, [], ◌∷◌, Option, Some, None, Result, Ok, Err, max, nat_le, nat_lt, if◌then◌else◌}
 use Rattle.fux_pitch.specs.declared.pitch.Pitch.{Pitch}
 use Rattle.fux_pitch.specs.Spelling.{spelled}
 use Rattle.smf_score.specs.declared.fault.SmfFault.{SmfFault}
@@ -23,10 +23,10 @@ with_note progress rank =
     if nat_lt 0 progress.voices && (progress.rank == rank) then progress
     else record { voices = progress.voices + 1; rank = rank; ended = 0 }
 
--- a note of a pitch between two slots, and how far its voice has come
+-- a note of a pitch from one slot to a later one, and how far its voice has come
 abbrev pub place_between : Progress → Played → Pitch → ℕ → ℕ → Result (Placed × Progress) SmfFault
 place_between line note pitch start end =
-    if start == end then Err (ZeroNote note.track note.start)
+    if nat_le end start then Err (ZeroNote note.track note.start)
     else (if nat_lt start line.ended then Err (Overlap note.track note.start)
     else Ok (
       record { voice = line.voices - 1; start = start; end = end; pitch = pitch },

@@ -2,6 +2,7 @@
 #![tactic(auto)]
 
 mod fault;
+mod grid;
 mod order;
 mod placed;
 mod played;

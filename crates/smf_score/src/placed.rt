@@ -3,6 +3,7 @@
 ghost use Rattle.std.specs.Prelude.{◌≡◌, ◌+◌, ◌*◌, ◌<◌, ◌≤◌, ◌^◌, length, All, IfOk, MatchResult};
 ghost use Rattle.smf_score.specs.Faults.{Gives};
 ghost use Rattle.smf_score.specs.Played.{IsPlayed};
+ghost use Rattle.smf_score.specs.Sounding.{AreFollowing};
 ghost use Rattle.smf_score.specs.Placed.{first_line, place_in, places_in, slot_of, with_note};
 
 use crate::fault::SmfFault;
@@ -70,7 +71,7 @@ fn place(division: u16, progress: Progress, note: &Played) -> Result<(Placed, Pr
     let line = with_voice(progress, note.rank);
     let start = slot(division, note.start);
     let end = slot(division, note.end);
-    if start == end {
+    if end <= start {
         return Err(SmfFault::ZeroNote {
             track: note.track,
             tick: note.start,
@@ -106,7 +107,8 @@ pub(crate) fn places_of(
     requires division { 0 < division }
     requires notes { All IsPlayed notes.now }
     requires few { length notes.now < 2 ^ 40 }
-    ensures { Gives (λ x. (x.0.items, x.1)) result (places_in division first_line notes.now) }
+    ensures value { Gives (λ x. (x.0.items, x.1)) result (places_in division first_line notes.now) }
+    ensures follow { IfOk result (λ x. AreFollowing x.0.items) }
 {
     let mut places = Vec::new(alloc);
     let mut progress = Progress {
