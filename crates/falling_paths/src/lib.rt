@@ -106,8 +106,10 @@ impl Grid {
 #[cfg(test)]
 mod tests {
     use super::*;
+    use fux_pitch::Memory;
+    use std::alloc::Global;
     use std::test::Fail;
-    use tree_search::{Outcome, search_depth};
+    use tree_search::{Outcome, search_depth, search_front};
 
     /// The same grid, each column of which is tried.
     #[derive(Drop)]
@@ -151,10 +153,25 @@ mod tests {
     }
 
     #[derive(Clone, Copy)]
+    enum By {
+        Depth,
+        Front,
+    }
+
+    fn search<S: Space>(alloc: Global, space: &S, by: By, budget: u32) -> Result<Outcome, Memory> {
+        match by {
+            By::Depth => search_depth(alloc, space, budget),
+            By::Front => search_front(alloc, space, budget),
+        }
+    }
+
+    #[derive(Clone, Copy)]
     enum Want {
         Found(&'static [u16], u64),
         Nothing,
+        /// Spent, whatever the bound.
         Spent,
+        SpentAt(u64),
     }
 
     fn is_wanted(outcome: &Outcome, want: &Want) -> bool {
@@ -164,6 +181,7 @@ mod tests {
             }
             (Outcome::Nothing, Want::Nothing) => true,
             (Outcome::Spent { bound: _ }, Want::Spent) => true,
+            (Outcome::Spent { bound }, Want::SpentAt(floor)) => bound == floor,
             _ => false,
         }
     }
@@ -190,27 +208,42 @@ mod tests {
         ];
         let table = [
             // two paths cost 13; of the 27 nodes 13 are no dearer than a path before them
-            (known, 13, Want::Found(&[1, 1, 0], 13)),
-            (known, 12, Want::Spent),
+            (known, By::Depth, 13, Want::Found(&[1, 1, 0], 13)),
+            (known, By::Depth, 12, Want::Spent),
             // each path is cheaper than those before it, so all ten nodes are opened
-            (falling, 10, Want::Found(&[2, 2], 0)),
-            (falling, 9, Want::Spent),
-            (shut, 3, Want::Nothing),
-            (shut, 2, Want::Spent),
-            (dead_first, 2, Want::Found(&[1, 0], 3)),
-            (dead_end, 5, Want::Found(&[1, 2], 2)),
-            (&[], 0, Want::Found(&[], 0)),
+            (falling, By::Depth, 10, Want::Found(&[2, 2], 0)),
+            (falling, By::Depth, 9, Want::Spent),
+            (shut, By::Depth, 3, Want::Nothing),
+            (shut, By::Depth, 2, Want::Spent),
+            (dead_first, By::Depth, 2, Want::Found(&[1, 0], 3)),
+            (dead_end, By::Depth, 5, Want::Found(&[1, 2], 2)),
+            (&[], By::Depth, 0, Want::Found(&[], 0)),
+            // by the front: 27 nodes hang from one of at most 8, 22 from one of at most 7 and 3 from the root
+            (known, By::Front, 27, Want::Found(&[1, 1, 0], 13)),
+            (known, By::Front, 26, Want::SpentAt(8)),
+            (known, By::Front, 21, Want::SpentAt(7)),
+            (known, By::Front, 0, Want::SpentAt(0)),
+            // the other nodes hang from dearer ones
+            (falling, By::Front, 5, Want::Found(&[2, 2], 0)),
+            (falling, By::Front, 4, Want::SpentAt(0)),
+            (shut, By::Front, 3, Want::Nothing),
+            (shut, By::Front, 2, Want::SpentAt(0)),
+            (dead_first, By::Front, 5, Want::Found(&[1, 0], 3)),
+            (dead_first, By::Front, 4, Want::SpentAt(3)),
+            (dead_end, By::Front, 5, Want::Found(&[1, 2], 2)),
+            (dead_end, By::Front, 4, Want::SpentAt(1)),
+            (&[], By::Front, 0, Want::Found(&[], 0)),
         ];
-        for (costs, budget, want) in &table {
+        for (costs, by, budget, want) in &table {
             if costs.len() > 192 {
                 return Err("too many rows".into());
             }
             let grid = Grid {
                 costs: Vec::from_slice(rt.alloc(), costs)?,
             };
-            assert!(rt; is_wanted(&search_depth(rt.alloc(), &grid, *budget)?, want));
+            assert!(rt; is_wanted(&search(rt.alloc(), &grid, *by, *budget)?, want));
             let each = EachColumn { grid };
-            assert!(rt; is_wanted(&search_depth(rt.alloc(), &each, *budget)?, want));
+            assert!(rt; is_wanted(&search(rt.alloc(), &each, *by, *budget)?, want));
         }
         Ok(())
     }

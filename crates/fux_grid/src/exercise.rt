@@ -59,6 +59,18 @@ pub struct Exercise {
     pub setting: Option<Score>,
 }
 
+/// What a file of notes alone doesn't tell of an exercise.
+#[derive(Clone, Copy, Debug, PartialEq, Eq)]
+pub struct Head {
+    pub mode: Mode,
+    /// From 1 to 5.
+    pub species: u8,
+    pub species_voice: u8,
+    pub cantus_voice: u8,
+    /// Whether the file has the highest voice first.
+    pub top_first: bool,
+}
+
 /// Whether bars, where they are given, cover a bar.
 fn covers_bar(bars: Option<(u8, u8)>, bar: u8) -> bool
     ensures { result ≡ covers bars bar }

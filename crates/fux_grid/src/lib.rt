@@ -9,11 +9,9 @@ mod notes;
 mod reading_order;
 mod score;
 mod shapes;
-#[cfg(test)]
-mod tests;
 
 pub use cell::{Cell, Column, Note, Onset};
-pub use exercise::{Exercise, Place, RangeLine, Relax, VoiceSet, is_free, range, species_of};
+pub use exercise::{Exercise, Head, Place, RangeLine, Relax, VoiceSet, is_free, range, species_of};
 pub use letters::{letters_from, shape};
 pub use menus::{MenuFault, VoiceCells, WIDEST, can_start, menu, voice_cells, width};
 pub use notes::{next_note, note_at, note_behind, onset_ahead, prev_note, sounding};

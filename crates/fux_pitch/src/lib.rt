@@ -18,6 +18,3 @@ pub use mode::{Mode, final_letter, in_gamut, leading};
 pub use names::{name, parse_pitch};
 pub use pitch::Pitch;
 pub use spelling::spell;
-
-#[cfg(test)]
-mod tests;

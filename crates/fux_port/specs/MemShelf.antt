@@ -1,13 +1,15 @@
 -- What contracts see of a shelf in memory.
-use Rattle.std.specs.Prelude.{◌≡◌, ◌≢◌, ℕ, Bool, ◌&&◌, List, String, Option, Some, is_some, if◌then◌else◌, map, string_bytes}
+use Rattle.std.specs.Prelude.{◌≡◌, ◌≢◌, ℕ, Bool, ◌&&◌, List, String, Option, Some, None, is_some, min, if◌then◌else◌, map, string_bytes}
 use Rattle.std.specs.Map.{lookup}
 use Rattle.std.specs.Str.{bytes_eq}
 use Rattle.fux_port.specs.Counts.{next_count, is_next_in}
 
--- the files by name, the numbers of the reads that fail, and how many reads and faults there were
+-- the files by name, the numbers of the reads that fail, the most bytes that a read gives, if there is such a limit,
+-- and how many reads and faults there were
 pub record ShelfState : Type 0 where
   pub files : List (List ℕ × List ℕ)
   pub fail_at : List ℕ
+  pub piece : Option ℕ
   pub calls : ℕ
   pub faults : ℕ
 
@@ -19,11 +21,17 @@ named_files files = map (λ file. (string_bytes file.0, file.1)) files
 abbrev pub file_at : List (List ℕ × List ℕ) → List ℕ → Option (List ℕ)
 file_at files name = lookup (bytes_eq name) files
 
+-- a count, or the limit if there is a lesser one
+abbrev pub at_most : Option ℕ → ℕ → ℕ
+at_most None count = count
+at_most (Some most) count = min count most
+
 -- the name has these bytes, and all else is as it was
 pub record PutsFile (old new : ShelfState) (name file : List ℕ) : Type 0 where
   pub named : file_at new.files name ≡ Some file
   pub others : (other : List ℕ) → other ≢ name → file_at new.files other ≡ file_at old.files other
   pub same_fail_at : new.fail_at ≡ old.fail_at
+  pub same_piece : new.piece ≡ old.piece
   pub same_calls : new.calls ≡ old.calls
   pub same_faults : new.faults ≡ old.faults
 

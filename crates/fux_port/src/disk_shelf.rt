@@ -8,12 +8,22 @@ use std::io;
 use std::io::{Read, Seek, SeekFrom};
 use std::marker::Model;
 
-/// The files of the disk, by their paths. Nothing is told of what they hold. The file is opened at each
-/// read, and a path that cannot be read from a given place on, as a pipe's or a folder's, fails.
+/// The files of the disk, by their paths. Nothing is told of what they hold. The file of the last read
+/// stays open: reads that go on from one another are of one file, whatever is done to its name meanwhile,
+/// and need no seeking, so that a pipe can be read. A folder fails.
 #[derive(Drop)]
 pub struct DiskShelf<'a> {
     host: &'a HostRuntime,
+    open: Option<OpenFile>,
     faults: u64,
+}
+
+/// A file that is being read: its name, and the offset at which the last read ended.
+#[derive(Drop)]
+struct OpenFile {
+    name: String,
+    file: File,
+    at: u64,
 }
 
 impl<'a> Model for DiskShelf<'a> {
@@ -31,7 +41,11 @@ impl<'a> DiskShelf<'a> {
     pub fn new(host: &'a HostRuntime) -> DiskShelf<'a>
         ensures { result ≡ 0 }
     {
-        DiskShelf { host, faults: 0 }
+        DiskShelf {
+            host,
+            open: None,
+            faults: 0,
+        }
     }
 }
 
@@ -45,12 +59,19 @@ impl<'a> Shelf for DiskShelf<'a> {
     fn read_at(&mut self, name: &str, offset: u64, buf: &mut [u8]) -> Result<usize, Failed> {
         let mut chunk = [0u8; 16_384];
         let wanted = chunk.len().min(buf.len());
-        match read_file(self.host, name, offset, &mut chunk[..wanted]) {
+        match read_on(
+            self.host,
+            &mut self.open,
+            name,
+            offset,
+            &mut chunk[..wanted],
+        ) {
             Ok(count) => {
                 buf[..count].copy_from_slice(&chunk[..count]);
                 Ok(count)
             }
             Err(_) => {
+                self.open = None;
                 self.faults = self.faults.saturating_add(1);
                 Err(Failed)
             }
@@ -58,10 +79,29 @@ impl<'a> Shelf for DiskShelf<'a> {
     }
 }
 
-fn read_file(host: &HostRuntime, name: &str, offset: u64, buf: &mut [u8]) -> io::Result<usize>
+/// Reads from this offset on: of the open file, where it is the one of this name.
+fn read_on(
+    host: &HostRuntime,
+    open: &mut Option<OpenFile>,
+    name: &str,
+    offset: u64,
+    buf: &mut [u8],
+) -> io::Result<usize>
     ensures { IfOk result (λ count. count ≤ length buf.old) }
 {
-    let mut file = File::open(host, name)?;
-    file.seek(SeekFrom::Start(offset))?;
-    file.read(buf)
+    let mut reader = match open.take() {
+        Some(reader) if reader.name.as_str() == name => reader,
+        _ => OpenFile {
+            name: String::from_str(host.alloc(), name)?,
+            file: File::open(host, name)?,
+            at: 0,
+        },
+    };
+    if reader.at != offset {
+        reader.file.seek(SeekFrom::Start(offset))?;
+    }
+    let count = reader.file.read(buf)?;
+    reader.at = offset.saturating_add(count as u64);
+    *open = Some(reader);
+    Ok(count)
 }

@@ -8,8 +8,6 @@ mod mem_sink;
 mod shelf;
 mod sink;
 mod std_sink;
-#[cfg(test)]
-mod tests;
 mod whole;
 
 pub use disk_shelf::DiskShelf;

@@ -1,9 +1,11 @@
 //! A shelf in memory, whose reads fail where its maker wants.
 
-ghost use Rattle.std.specs.Prelude.{◌≡◌, ◌<◌, ◌≤◌, ◌^◌, ◌-◌, ◌++◌, ◌⊎◌, ◌↔◌, [], Some, None, length, min, take, drop, IsTrue, IsErr, IfOk, IfSome, OnOk, OnErr};
+ghost use Rattle.std.specs.Prelude.{◌≡◌, ℕ, List, ◌<◌, ◌≤◌, ◌^◌, ◌-◌, ◌++◌, ◌⊎◌, ◌↔◌, [], Some, None, length, min, take, drop, IsTrue, IsErr, IfOk, IfSome, OnOk, OnErr};
 ghost use Rattle.std.specs.Option.{option_copied};
+ghost use Rattle.std.specs.Io.{StartsWith};
 ghost use Rattle.fux_port.specs.Counts.{is_next_in};
-ghost use Rattle.fux_port.specs.MemShelf.{PutsFile, named_files, file_at, after_read};
+ghost use Rattle.fux_port.specs.Files.{HasFile};
+ghost use Rattle.fux_port.specs.MemShelf.{PutsFile, named_files, file_at, after_read, at_most};
 
 use crate::{Failed, Shelf};
 use fux_pitch::{List as Bytes, Memory};
@@ -17,12 +19,14 @@ pub struct MemShelf {
     alloc: Global,
     files: BTreeMap<String, Bytes<u8>>,
     fail_at: Vec<u64>,
+    /// The most bytes that a read gives, if there is such a limit.
+    piece: Option<usize>,
     calls: u64,
     faults: u64,
 }
 
 impl Model for MemShelf {
-    ghost use Rattle.std.specs.Prelude.{ℕ, ◌^◌, ◌<◌};
+    ghost use Rattle.std.specs.Prelude.{ℕ, ◌^◌, ◌<◌, IfSome};
     ghost use Rattle.fux_port.specs.MemShelf.{ShelfState, named_files};
 
     ghost Value = { ShelfState };
@@ -30,11 +34,12 @@ impl Model for MemShelf {
     ghost view = { λ s. record {
       files = named_files s.files.entries;
       fail_at = s.fail_at.items;
+      piece = s.piece;
       calls = s.calls;
       faults = s.faults;
     } };
 
-    ghost invariant = { λ s. s.faults < 2 ^ 64 };
+    ghost invariant = { λ s. (s.faults < 2 ^ 64) × IfSome s.piece (λ piece. 0 < piece) };
 }
 
 impl MemShelf {
@@ -43,6 +48,34 @@ impl MemShelf {
         ensures { IfOk result (λ s. s ≡ record {
           files = [];
           fail_at = fail_at.now;
+          piece = None;
+          calls = 0;
+          faults = 0;
+        }) }
+    {
+        MemShelf::made(alloc, None, fail_at)
+    }
+
+    /// The same, but a read gives no more than `piece` bytes, as a pipe may.
+    pub fn with_piece(alloc: Global, piece: usize, fail_at: &[u64]) -> Result<MemShelf, Memory>
+        requires { 1 ≤ piece }
+        ensures { IfOk result (λ s. s ≡ record {
+          files = [];
+          fail_at = fail_at.now;
+          piece = Some piece;
+          calls = 0;
+          faults = 0;
+        }) }
+    {
+        MemShelf::made(alloc, Some(piece), fail_at)
+    }
+
+    fn made(alloc: Global, piece: Option<usize>, fail_at: &[u64]) -> Result<MemShelf, Memory>
+        requires { IfSome piece (λ piece. 0 < piece) }
+        ensures { IfOk result (λ s. s ≡ record {
+          files = [];
+          fail_at = fail_at.now;
+          piece = piece;
           calls = 0;
           faults = 0;
         }) }
@@ -52,6 +85,7 @@ impl MemShelf {
             alloc,
             files: BTreeMap::new(alloc),
             fail_at,
+            piece,
             calls: 0,
             faults: 0,
         })
@@ -77,8 +111,15 @@ impl Shelf for MemShelf {
     fn read_at(&mut self, name: &str, offset: u64, buf: &mut [u8]) -> Result<usize, Failed>
         ensures fails { IsErr result ↔ (file_at self.old.files name.now ≡ None
             ⊎ IsTrue (is_next_in self.old.fail_at self.old.calls)) }
+        ensures fits { IfOk result (λ count. count ≤ length buf.old) }
+        ensures starts { IfOk result (λ count. (file : List ℕ)
+            → HasFile (Some (file_at self.old.files)) name.now file
+            → StartsWith (drop offset file) (take count buf.new)) }
+        ensures rest { IfOk result (λ count. drop count buf.new ≡ drop count buf.old) }
+        ensures end { IfOk result (λ count. count ≡ 0 → 0 < length buf.old → (file : List ℕ)
+            → HasFile (Some (file_at self.old.files)) name.now file → length file ≤ offset) }
         ensures count { IfOk result (λ count. IfSome (file_at self.old.files name.now) (λ file.
-            count ≡ min (length buf.old) (length file - offset))) }
+            count ≡ at_most self.old.piece (min (length buf.old) (length file - offset)))) }
         ensures placed { IfOk result (λ count. IfSome (file_at self.old.files name.now) (λ file.
             buf.new ≡ take count (drop offset file) ++ drop count buf.old)) }
         ensures err { OnErr result (buf.new ≡ buf.old) }
@@ -94,7 +135,7 @@ impl Shelf for MemShelf {
             self.faults = self.faults.saturating_add(1);
             return Err(Failed);
         }
-        Ok(copy_from(file, offset, buf))
+        Ok(copy_from(file, offset, self.piece, buf))
     }
 }
 
@@ -106,16 +147,34 @@ fn find_file<'a>(files: &'a BTreeMap<String, Bytes<u8>>, name: &str) -> Option<&
     Some(file.as_slice())
 }
 
-/// Copies as much of the file from this offset on as the buffer has room for, and answers how many bytes.
-fn copy_from(file: &[u8], offset: u64, buf: &mut [u8]) -> usize
-    ensures count { result ≡ min (length buf.old) (length file.now - offset) }
+/// Copies as much of the file from this offset on as the buffer has room for, and as one piece may have.
+/// It answers how many bytes.
+fn copy_from(file: &[u8], offset: u64, piece: Option<usize>, buf: &mut [u8]) -> usize
+    requires { IfSome piece (λ piece. 0 < piece) }
+    ensures count { result ≡ at_most piece (min (length buf.old) (length file.now - offset)) }
+    ensures fits { result ≤ length buf.old }
+    ensures starts { StartsWith (drop offset file.now) (take result buf.new) }
+    ensures rest { drop result buf.new ≡ drop result buf.old }
+    ensures end { result ≡ 0 → 0 < length buf.old → length file.now ≤ offset }
     ensures placed { buf.new ≡ take result (drop offset file.now) ++ drop result buf.old }
 {
     if offset >= file.len() as u64 {
         return 0;
     }
     let rest = &file[offset as usize..];
-    let count = rest.len().min(buf.len());
+    let count = within(piece, rest.len().min(buf.len()));
     buf[..count].copy_from_slice(&rest[..count]);
     count
+}
+
+/// A count, or the limit if that is less.
+fn within(limit: Option<usize>, count: usize) -> usize
+    ensures value { result ≡ at_most limit count }
+    ensures less { result ≤ count }
+    ensures some { IfSome limit (λ most. 0 < most) → 0 < count → 0 < result }
+{
+    match limit {
+        Some(most) => count.min(most),
+        None => count,
+    }
 }

@@ -1,3 +1,4 @@
+pub mod Cantus
 pub mod Faults
 pub mod Lines
 pub mod Order

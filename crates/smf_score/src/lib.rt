@@ -1,6 +1,7 @@
 //! Standard MIDI Files of exercises and their settings.
 #![tactic(auto)]
 
+mod cantus;
 mod fault;
 mod grid;
 mod order;

@@ -4,7 +4,7 @@ use Rattle.std.specs.List.{AllByRecursion}
 use Rattle.tree_search.specs.Answer.{AllDiffer, Many, AtMost}
 use Rattle.tree_search.specs.Walks.{IsAmong, Exactly}
 
-each_by : (P Q : List ℕ → Type 0) → ((x : List ℕ) → P x → Q x) → (xs : List (List ℕ)) → AllByRecursion P xs → AllByRecursion Q xs
+pub each_by : (P Q : List ℕ → Type 0) → ((x : List ℕ) → P x → Q x) → (xs : List (List ℕ)) → AllByRecursion P xs → AllByRecursion Q xs
 each_by P Q f [] h = tt
 each_by P Q f (x ∷ xs) h = (f x h.0, each_by P Q f xs h.1)
 

@@ -2,3 +2,11 @@ pub mod Order
 pub mod Floors
 pub mod Counts
 pub mod Opened
+pub mod Arena
+pub mod Trails
+pub mod Waits
+pub mod Frontier
+pub mod Loads
+pub mod Entered
+pub mod Searches
+pub mod Agreement

@@ -1,5 +1,5 @@
 -- The order of paths.
-use Rattle.std.proofs.Common.{◌≡◌, ℕ, ◌+◌, ◌<◌, ◌≤◌, ◌⊎◌, inl, inr, ⊎_elim, List, [], ◌∷◌, ◌++◌, length, refl, sym, ap₂, subst, arith}
+use Rattle.std.proofs.Common.{◌≡◌, ℕ, ◌+◌, ◌<◌, ◌≤◌, ◌⊎◌, inl, inr, ⊎_elim, List, [], ◌∷◌, ◌++◌, length, refl, sym, ap₂, subst, ◌∙◌, arith}
 use Rattle.std.proofs.lemmas.Bool.{cases_lt}
 use Rattle.tree_search.specs.Answer.{IsBefore}
 use Rattle.tree_search.specs.Walks.{BeginsWith}
@@ -67,3 +67,17 @@ IsBefore-up [] rest (x ∷ path) k (inr same) = inl (omega (arith, same.0))
 IsBefore-up (a ∷ start) rest [] k h = tt
 IsBefore-up (a ∷ start) rest (x ∷ path) k (inl less) = inl less
 IsBefore-up (a ∷ start) rest (x ∷ path) k (inr same) = inr (same.0, IsBefore-up start rest path k same.1)
+
+pub IsBefore-self : (path : List ℕ) → IsBefore path path → ⊥
+IsBefore-self [] h = h
+IsBefore-self (a ∷ path) (inl less) = omega (arith, less)
+IsBefore-self (a ∷ path) (inr same) = IsBefore-self path same.1
+
+pub IsBefore-trans : (p q r : List ℕ) → IsBefore p q → IsBefore q r → IsBefore p r
+IsBefore-trans p q [] h k = absurd k
+IsBefore-trans p [] (c ∷ r) h k = absurd h
+IsBefore-trans [] (b ∷ q) (c ∷ r) h k = tt
+IsBefore-trans (a ∷ p) (b ∷ q) (c ∷ r) (inl h) (inl k) = inl (omega (arith, h, k))
+IsBefore-trans (a ∷ p) (b ∷ q) (c ∷ r) (inl h) (inr k) = inl (omega (arith, h, k.0))
+IsBefore-trans (a ∷ p) (b ∷ q) (c ∷ r) (inr h) (inl k) = inl (omega (arith, h.0, k))
+IsBefore-trans (a ∷ p) (b ∷ q) (c ∷ r) (inr h) (inr k) = inr (h.0 ∙ k.0, IsBefore-trans p q r h.1 k.1)

@@ -1,5 +1,5 @@
 -- What a search finds in a tree, whose live paths have floors.
-use Rattle.std.specs.Prelude.{◌≡◌, ◌≢◌, ℕ, ◌<◌, ◌≤◌, ◌⊎◌, [], ◌∷◌, List, Option, Some, IsSome, length}
+use Rattle.std.specs.Prelude.{◌≡◌, ◌≢◌, ℕ, ◌+◌, ◌<◌, ◌≤◌, ◌⊎◌, ◌++◌, [], ◌∷◌, List, Option, Some, IsSome, length}
 use Rattle.std.specs.List.{AllByRecursion}
 
 -- the path leads to a leaf of this value
@@ -52,3 +52,20 @@ pub record IsOpened (live : List ℕ → Option ℕ) (height : ℕ) (path : List
   pub floor : ℕ
   pub is_live : live path ≡ Some floor
   pub lower : (other : List ℕ) (value : ℕ) → IsLeaf live height other value → IsBefore other path → floor < value
+
+-- a live path below the root, whose parent's floor is at most this one: how many there are is the load of
+-- that floor
+pub record IsLoaded (live : List ℕ → Option ℕ) (floor : ℕ) (path : List ℕ) : Type 0 where
+  pub is_live : IsSome (live path)
+  pub parent : List ℕ
+  pub child : ℕ
+  pub is : path ≡ parent ++ child ∷ []
+  pub own_floor : ℕ
+  pub parent_live : live parent ≡ Some own_floor
+  pub low : own_floor ≤ floor
+
+-- more than this many are in the load of the least value, or where there is no leaf, are live below the root
+pub record IsOverBudget (live : List ℕ → Option ℕ) (height budget : ℕ) : Type 0 where
+  pub load : (path : List ℕ) (value : ℕ)
+      → IsFirstLeast live height path value → Many (IsLoaded live value) (budget + 1)
+  pub whole : HasNoLeaf live height → Many (IsLiveBelowRoot live) (budget + 1)

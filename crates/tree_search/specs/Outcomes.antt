@@ -1,5 +1,6 @@
 -- A fact for each outcome of a search.
-use Rattle.std.specs.Prelude.{ℕ, List}
+use Rattle.std.specs.Prelude.{ℕ, List, Option}
+use Rattle.tree_search.specs.Answer.{IsFirstLeast, HasNoLeaf}
 use Rattle.tree_search.specs.declared.outcome.Outcome.{Outcome}
 use Rattle.tree_search.specs.declared.outcome.Outcome.TheVariants.{Found, Nothing, Spent}
 
@@ -26,3 +27,9 @@ abbrev pub IsSpent : Outcome → Type 0
 IsSpent (Found path value) = ⊥
 IsSpent Nothing = ⊥
 IsSpent (Spent bound) = Unit {0}
+
+-- what each search promises of an outcome that is not spent
+pub record IsAnswer (live : List ℕ → Option ℕ) (height : ℕ) (outcome : Outcome) : Type 0 where
+  pub found : IfFound outcome (IsFirstLeast live height)
+  pub nothing : OnNothing outcome (HasNoLeaf live height)
+  pub unspent : IsSpent outcome → ⊥

@@ -1,5 +1,5 @@
 -- What a search may take for granted of a tree.
-use Rattle.std.specs.Prelude.{◌≡◌, ℕ, ◌<◌, ◌≤◌, ◌++◌, ◌∷◌, [], List, Option, Some, IsSomeAnd, length}
+use Rattle.std.specs.Prelude.{◌≡◌, ℕ, ◌<◌, ◌≤◌, ◌++◌, ◌∷◌, [], List, Option, Some, IsSome, IsSomeAnd, length}
 
 -- the node is at a path to no leaf
 pub record IsInner (is_at : List ℕ → Type 0) (height : ℕ) : Type 0 where
@@ -14,13 +14,22 @@ pub record HasChild (is_at : List ℕ → Type 0) (height : ℕ) (width : List �
   pub above : length path < height
   pub within : child < width path
 
--- each child from one number up to another is dead or no better than the best leaf so far: its floor is no lower than that leaf's value
+-- the node is at a path with a live child of this number
+pub record HasLiveChild (is_at : List ℕ → Type 0) (live : List ℕ → Option ℕ) (child : ℕ) : Type 0 where
+  pub path : List ℕ
+  pub at : is_at path
+  pub is_live : IsSome (live (path ++ child ∷ []))
+
+-- each child from one number up to another is dead or no better than the best leaf so far: its floor is no
+-- lower than that leaf's value
 abbrev pub AreNoBetter : (List ℕ → Option ℕ) → List ℕ → Option ℕ → ℕ → ℕ → Type 0
 AreNoBetter live path best from to =
-    (child floor : ℕ) → from ≤ child → child < to → live (path ++ child ∷ []) ≡ Some floor → IsSomeAnd best (λ value. value ≤ floor)
+    (child floor : ℕ) → from ≤ child → child < to → live (path ++ child ∷ []) ≡ Some floor
+    → IsSomeAnd best (λ value. value ≤ floor)
 
 -- the path leads to a live node with this child, that is no leaf, and whose floor is at most this one
-pub record IsParent (live : List ℕ → Option ℕ) (width : List ℕ → ℕ) (height : ℕ) (path : List ℕ) (child floor : ℕ) : Type 0 where
+pub record IsParent (live : List ℕ → Option ℕ) (width : List ℕ → ℕ) (height : ℕ) (path : List ℕ)
+    (child floor : ℕ) : Type 0 where
   pub own_floor : ℕ
   pub is_live : live path ≡ Some own_floor
   pub no_higher : own_floor ≤ floor
@@ -30,4 +39,5 @@ pub record IsParent (live : List ℕ → Option ℕ) (width : List ℕ → ℕ) 
 -- from parent to live child, floors do not fall
 abbrev pub FloorsGrow : (List ℕ → Option ℕ) → (List ℕ → ℕ) → ℕ → Type 0
 FloorsGrow live width height =
-    (path : List ℕ) (child floor : ℕ) → live (path ++ child ∷ []) ≡ Some floor → IsParent live width height path child floor
+    (path : List ℕ) (child floor : ℕ) → live (path ++ child ∷ []) ≡ Some floor
+    → IsParent live width height path child floor

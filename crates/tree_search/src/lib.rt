@@ -2,9 +2,13 @@
 #![tactic(auto)]
 
 mod depth;
+mod front;
+mod links;
 mod outcome;
 mod space;
+mod trail;
 
 pub use depth::search_depth;
+pub use front::search_front;
 pub use outcome::Outcome;
 pub use space::Space;

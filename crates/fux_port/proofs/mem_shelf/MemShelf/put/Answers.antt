@@ -13,6 +13,7 @@ returns-clause-ok c =
       named = file_at-put_same old new _ _ updates;
       others = file_at-put_other old new _ _ updates;
       same_fail_at = refl;
+      same_piece = refl;
       same_calls = refl;
       same_faults = refl;
     })

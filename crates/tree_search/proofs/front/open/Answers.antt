@@ -1,0 +1,35 @@
+use Rattle.std.proofs.Common.{ℕ, List, subst, ap, arith}
+use Rattle.tree_search.specs.Fronts.{IsClosed, floor_of}
+use Rattle.tree_search.proofs.Trails.{node_of, level_is}
+use Rattle.tree_search.proofs.Searches.{IsOpen-passed, IsClosed-opened}
+use Rattle.tree_search.proofs.front.open.Goals as goal
+
+pub returns-then-k-count-clause-closed : goal.returns-then-k-count-clause-closed
+returns-then-k-count-clause-closed g c =
+    let kept = c.loop-from.invariant in
+    let space = c.args.space.now in
+    let now = c.loop-from.front in
+    let grows = g.met.S.Space.floors_grow space in
+    let width = ap (g.S.Space.width space) kept.same_path in
+    let count = c.count-count.ensures.value _ (node_of c.requires.trail c.index.result.now c.index.ensures) in
+    let node = node_of kept.parent c.index-in-loop-from.result.now c.index-in-loop-from.ensures in
+    let last = IsOpen-passed grows kept.opening.0 kept.opening.1 c.next_child-k.result
+    c.next_child-k.ensures.onward (c.next_child-k.ensures.passed _ node) in
+    subst (λ (r : ℕ). IsClosed (g.S.Space.live space) (g.S.Space.height space) now r)
+    (ap (λ (p : List ℕ). floor_of (g.S.Space.live space p)) kept.same_path)
+    (IsClosed-opened grows last.0 last.1
+    (omega (arith, width, count, c.if-k-count.true))
+    (omega (arith, level_is kept.parent, c.requires.above)))
+
+pub returns-clause-closed : goal.returns-clause-closed
+returns-clause-closed g c =
+    let kept = c.loop-from.invariant in
+    let space = c.args.space.now in
+    let now = c.loop-from.front in
+    let width = ap (g.S.Space.width space) kept.same_path in
+    let count = c.count-count.ensures.value _ (node_of c.requires.trail c.index.result.now c.index.ensures) in
+    subst (λ (r : ℕ). IsClosed (g.S.Space.live space) (g.S.Space.height space) now r)
+    (ap (λ (p : List ℕ). floor_of (g.S.Space.live space p)) kept.same_path)
+    (IsClosed-opened (g.met.S.Space.floors_grow space) kept.opening.0 kept.opening.1
+    (omega (arith, width, count, c.loop-from-test.false))
+    (omega (arith, level_is kept.parent, c.requires.above)))

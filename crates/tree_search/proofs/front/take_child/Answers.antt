@@ -1,0 +1,46 @@
+use Rattle.std.proofs.Common.{ℕ, List, Vec, Global, length, refl, ap, ◌∙◌, arith}
+use Rattle.std.proofs.lemmas.List.{length_push}
+use Rattle.std.proofs.lemmas.List.Sorted.{length_permutation}
+use Rattle.tree_search.specs.declared.links.Link.{Link}
+use Rattle.tree_search.proofs.Loads.{many_loaded}
+use Rattle.tree_search.proofs.Trails.{node_of, trail_parent, trail_child}
+use Rattle.tree_search.proofs.Searches.{IsOpen-add, path_stays}
+use Rattle.tree_search.proofs.front.take_child.Goals as goal
+
+pub returns-then-len-budget-clause-spent : goal.returns-then-len-budget-clause-spent
+returns-then-len-budget-clause-spent g c =
+    many_loaded (g.met.S.Space.floors_grow c.args.space.now) c.requires.open.0.front c.args.entry c.args.k _
+    c.args.budget c.requires.open.1 refl
+    (c.in-Some.ensures _ (node_of c.requires.parent c.index.result.now c.index.ensures)).1
+    (omega (arith, c.len.ensures, c.if-len-budget.true, c.args.front.now.links.ok.0))
+
+pub returns-clause-open : goal.returns-clause-open
+returns-clause-open g c =
+    let more = c.add.ensures in
+    IsOpen-add (g.met.S.Space.floors_grow c.args.space.now) c.requires.open.0 c.requires.open.1
+    more.waiting _ _ _ more.links more.best (ap (λ (v : Vec ℕ Global). v.items) more.best_path)
+    (c.in-Some.ensures _ (node_of c.requires.parent c.index.result.now c.index.ensures)).1 more.heap
+
+pub returns-clause-path : goal.returns-clause-path
+returns-clause-path g c =
+    path_stays (g.met.S.Space.floors_grow c.args.space.now) c.requires.open.0 c.requires.open.1
+    c.add.ensures.waiting _ c.add.ensures.links
+
+pub returns-clause-taken : goal.returns-clause-taken
+returns-clause-taken g c =
+    let links = ap (λ (xs : List Link). length xs) c.add.ensures.links
+    ∙ length_push c.args.front.now.links.items _ in
+    omega (arith, links, length_permutation _ _ c.add.ensures.waiting)
+
+pub returns-clause-parent : goal.returns-clause-parent
+returns-clause-parent g c =
+    let node = node_of c.requires.parent c.index.result.now c.index.ensures in
+    trail_parent c.requires.parent c.requires.above c.args.k _ (c.in-Some.ensures _ node).0
+    _ _ _ c.add.ensures.links c.place.ensures.path c.place.ensures.nodes
+
+pub returns-clause-trail : goal.returns-clause-trail
+returns-clause-trail g c =
+    let node = node_of c.requires.parent c.index.result.now c.index.ensures in
+    trail_child c.requires.parent c.requires.above c.args.k _ (c.in-Some.ensures _ node).0
+    _ _ _ c.add.ensures.links c.place.ensures.path c.place.ensures.nodes _ _ c.place.ensures.level
+    (omega (arith, c.len-2.ensures, c.add.new.front.links.ok.0))

@@ -1,0 +1,105 @@
+-- How far a search of the front has come. Lemmas see a front as n entries, of paths P and floors F.
+use Rattle.std.specs.Prelude.{◌≡◌, ℕ, ◌+◌, ◌<◌, ◌≤◌, ◌⊎◌, ◌++◌, [], ◌∷◌, List, Option, Some, None, IsSome, length, cond, ◌==◌, vec_capacity}
+use Rattle.std.specs.BinaryHeap.{heap_items, heap_capacity, IsHeap}
+use Rattle.tree_search.specs.Answer.{IsLeaf, IsBefore}
+use Rattle.tree_search.specs.Links.{path_in, IsLinked}
+use Rattle.tree_search.specs.Entries.{Entry, entry_cmp, numbers, HaveFloors}
+use Rattle.tree_search.specs.declared.links.Link.{Link}
+use Rattle.tree_search.specs.declared.front.Front.{Front}
+
+-- how often a number stands in a list
+abbrev pub times : ℕ → List ℕ → ℕ
+times i [] = 0
+times i (x ∷ xs) = cond (x == i) (1 + times i xs) (times i xs)
+
+-- there is a best leaf, that this one does not beat
+abbrev pub Covers : Option ℕ → List ℕ → List ℕ → ℕ → Type 0
+Covers None best_path path value = ⊥
+Covers (Some best) best_path path value = (best ≤ value) × (best ≡ value → IsBefore path best_path → ⊥)
+
+-- the best leaf is one, and its value the floor that is reached
+abbrev pub IsBestLeaf : (List ℕ → Option ℕ) → ℕ → ℕ → Option ℕ → List ℕ → Type 0
+IsBestLeaf live height reached None best_path = Unit {0}
+IsBestLeaf live height reached (Some best) best_path = IsLeaf live height best_path best × (reached ≡ best)
+
+-- an entry whose live children are entries too, and if it is a leaf is covered
+pub record IsDone (live : List ℕ → Option ℕ) (height n : ℕ) (P : ℕ → List ℕ) (F : ℕ → ℕ)
+    (Covered : List ℕ → ℕ → Type 0) (reached i : ℕ) : Type 0 where
+  pub low : F i ≤ reached
+  pub children : (k : ℕ) → IsSome (live (P i ++ k ∷ [])) → (m : ℕ) × (m < n) × (P m ≡ P i ++ k ∷ [])
+  pub leaf : length (P i) ≡ height → Covered (P i) (F i)
+
+-- an entry whose parent is an entry, of a floor no higher than reached
+pub record HasParent (n : ℕ) (P : ℕ → List ℕ) (F : ℕ → ℕ) (reached m : ℕ) : Type 0 where
+  pub parent : ℕ
+  pub within : parent < n
+  pub child : ℕ
+  pub is : P m ≡ P parent ++ child ∷ []
+  pub low : F parent ≤ reached
+
+-- each entry waits, is spared or is done; what waits is no lower than reached
+pub record IsFront (live : List ℕ → Option ℕ) (height n : ℕ) (P : ℕ → List ℕ) (F : ℕ → ℕ) (waits : ℕ → ℕ)
+    (Spared : ℕ → Type 0) (Covered : List ℕ → ℕ → Type 0) (reached : ℕ) : Type 0 where
+  pub root : P 0 ≡ []
+  pub some : 0 < n
+  pub floors : (i : ℕ) → i < n → live (P i) ≡ Some (F i)
+  pub differ : (i j : ℕ) → i < n → j < n → P i ≡ P j → i ≡ j
+  pub parents : (m : ℕ) → 0 < m → m < n → HasParent n P F reached m
+  pub once : (i : ℕ) → waits i ≤ 1
+  pub within : (i : ℕ) → 0 < waits i → i < n
+  pub high : (i : ℕ) → 0 < waits i → reached ≤ F i
+  pub fresh : (i m k : ℕ) → 0 < waits i → m < n → P m ≡ P i ++ k ∷ [] → ⊥
+  pub done : (i : ℕ) → i < n → (0 < waits i) ⊎ (Spared i ⊎ IsDone live height n P F Covered reached i)
+
+-- the entry c, whose children before k are entries, and no others
+pub record IsOpening (live : List ℕ → Option ℕ) (n : ℕ) (P : ℕ → List ℕ) (waits : ℕ → ℕ) (c k : ℕ) : Type 0 where
+  pub here : c < n
+  pub taken : waits c ≡ 0
+  pub mine : (j : ℕ) → j < k → IsSome (live (P c ++ j ∷ [])) → (m : ℕ) × (m < n) × (P m ≡ P c ++ j ∷ [])
+  pub yet : (m j : ℕ) → m < n → P m ≡ P c ++ j ∷ [] → j < k
+
+-- a floor, or 0 where there is none
+abbrev pub floor_of : Option ℕ → ℕ
+floor_of None = 0
+floor_of (Some floor) = floor
+
+-- the floor of an entry
+abbrev pub floor_in : (List ℕ → Option ℕ) → List Link → ℕ → ℕ
+floor_in live links entry = floor_of (live (path_in links entry))
+
+-- links, what waits and the best leaf make a front
+pub record IsSearch (live : List ℕ → Option ℕ) (height : ℕ) (links : List Link) (waiting : List Entry)
+    (best : Option ℕ) (best_path : List ℕ) (Spared : ℕ → Type 0) (reached : ℕ) : Type 0 where
+  pub front : IsFront live height (length links + 1) (path_in links) (floor_in live links)
+      (λ i. times i (numbers waiting)) Spared (Covers best best_path) reached
+  pub best_leaf : IsBestLeaf live height reached best best_path
+  pub best_long : length best_path ≡ height
+  pub linked : IsLinked links
+  pub heap : IsHeap entry_cmp waiting
+  pub floors : HaveFloors live links waiting
+
+-- a front, of which each entry waits or is done
+abbrev pub IsClosed : (List ℕ → Option ℕ) → ℕ → Front → ℕ → Type 0
+IsClosed live height front reached =
+    IsSearch live height front.links.items (heap_items front.waiting) front.best front.best_path.items
+    (λ _. ⊥) reached
+
+-- a front, one entry of which is open: its children before k are entries
+abbrev pub IsOpen : (List ℕ → Option ℕ) → ℕ → Front → ℕ → ℕ → Type 0
+IsOpen live height front entry k =
+    IsSearch live height front.links.items (heap_items front.waiting) front.best front.best_path.items
+    (λ i. i ≡ entry) (floor_in live front.links.items entry)
+    × IsOpening live (length front.links.items + 1) (path_in front.links.items)
+    (λ i. times i (numbers (heap_items front.waiting))) entry k
+
+-- the entries are within the budget, and there is room for the rest of it
+abbrev pub HasRoom : ℕ → Front → Type 0
+HasRoom budget front =
+    (length front.links.items ≤ budget) × (length (heap_items front.waiting) ≤ length front.links.items + 1)
+    × (budget ≤ vec_capacity front.links) × (budget + 1 ≤ heap_capacity front.waiting)
+
+-- as many entries as before no longer wait
+abbrev pub SameTaken : Front → Front → Type 0
+SameTaken old new =
+    length (heap_items new.waiting) + length old.links.items
+    ≡ length (heap_items old.waiting) + length new.links.items

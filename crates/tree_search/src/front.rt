@@ -1,0 +1,282 @@
+//! Best first: the node of least floor is opened next.
+ghost use Rattle.std.specs.Prelude.{◌≡◌, ℕ, ◌<◌, ◌≤◌, ◌+◌, ◌^◌, ◌++◌, ◌∷◌, ◌↔◌, ◌⊎◌, [], List, IsSome, Some, length, IfOk, IfSome, IfNone, All, IsPermutation, vec_capacity};
+ghost use Rattle.std.specs.BinaryHeap.{heap_items, heap_capacity, IsHeap};
+ghost use Rattle.std.specs.Bool.{OnTrue, OnFalse};
+ghost use Rattle.tree_search.specs.Answer.{IsBefore, IsFirstLeast, HasNoLeaf, BoundsLeaves, Many, AtMost, IsLoaded, IsLiveBelowRoot, IsOverBudget};
+ghost use Rattle.tree_search.specs.Outcomes.{IfFound, OnNothing, IfSpent, IsSpent};
+ghost use Rattle.tree_search.specs.Links.{path_in, IsLinked};
+ghost use Rattle.tree_search.specs.Entries.{entry_cmp};
+ghost use Rattle.tree_search.specs.Trails.{IsTrail, IsTrailTo};
+ghost use Rattle.tree_search.specs.Fronts.{Covers, floor_in, IsClosed, IsOpen, HasRoom, SameTaken};
+
+use crate::links::Link;
+use crate::outcome::Outcome;
+use crate::space::Space;
+use crate::trail::{Trail, go_to, place, start_trail};
+use fux_pitch::{List, Memory};
+use std::alloc::Global;
+use std::cmp::Reverse;
+use std::collections::BinaryHeap;
+
+/// Floors with the numbers of entries: the least floor comes first, and of equal floors the latest entry, so that the
+/// search goes down before it goes on.
+type Waiting = BinaryHeap<(Reverse<u64>, u32)>;
+
+/// The nodes met so far, as entries. A node is made again from its entry's links.
+#[derive(Drop)]
+pub struct Front {
+    /// How each entry but the root hangs from an earlier one.
+    links: Vec<Link>,
+    /// The entries that are not opened yet.
+    waiting: Waiting,
+    /// The value of the best leaf met.
+    best: Option<u64>,
+    /// The path to the best leaf, where there is one.
+    best_path: Vec<u16>,
+}
+
+/// Whether a path comes before another.
+fn is_before(path: &[u16], other: &[u16]) -> bool
+    ensures before { OnTrue result (IsBefore path.now other.now) }
+    ensures not_before { OnFalse result (IsBefore path.now other.now → ⊥) }
+{
+    let Some((b, others)) = other.split_first() else {
+        return false;
+    };
+    let Some((a, rest)) = path.split_first() else {
+        return true;
+    };
+    a < b || a == b && is_before(rest, others)
+}
+
+/// Whether a leaf of the best value beats the best leaf, if there is one.
+fn beats(path: &[u16], best: Option<u64>, best_path: &[u16]) -> bool
+    ensures beats { OnTrue result ((value : ℕ) → best ≡ Some value → IsBefore path.now best_path.now) }
+    ensures beats_not { OnFalse result (IsSome best × (IsBefore path.now best_path.now → ⊥)) }
+{
+    match best {
+        None => true,
+        Some(_) => is_before(path, best_path),
+    }
+}
+
+/// Takes out the entry of least floor.
+fn pop_least(waiting: &mut Waiting) -> Option<(u64, u32)>
+    requires { IsHeap entry_cmp (heap_items waiting.old) }
+    ensures taken { IfSome result (λ entry. IsPermutation (heap_items waiting.old)
+        ((record { 0 = entry.0 }, entry.1) ∷ heap_items waiting.new)) }
+    ensures least { IfSome result (λ entry. All (λ other. entry.0 ≤ other.0.0) (heap_items waiting.new)) }
+    ensures heap { IfSome result (λ _. IsHeap entry_cmp (heap_items waiting.new)) }
+    ensures capacity { heap_capacity waiting.new ≡ heap_capacity waiting.old }
+    ensures none { IfNone result (heap_items waiting.old ≡ []) }
+{
+    match waiting.pop() {
+        None => None,
+        Some((Reverse(floor), entry)) => Some((floor, entry)),
+    }
+}
+
+/// A front of the root alone, which waits. All its memory is taken here: 24 bytes for each unit of the budget.
+fn start_front(alloc: Global, floor: u64, depth: usize, budget: u32) -> Result<Front, Memory>
+    ensures links { IfOk result (λ front. front.links.items ≡ []) }
+    ensures waiting { IfOk result (λ front.
+        IsPermutation ((record { 0 = floor }, 0) ∷ []) (heap_items front.waiting)) }
+    ensures heap { IfOk result (λ front. IsHeap entry_cmp (heap_items front.waiting)) }
+    ensures best { IfOk result (λ front. front.best ≡ None) }
+    ensures long { IfOk result (λ front. length front.best_path.items ≡ depth) }
+    ensures room { IfOk result (HasRoom budget) }
+{
+    let most = budget as usize;
+    let mut front = Front {
+        links: Vec::with_capacity(alloc, most)?,
+        waiting: BinaryHeap::with_capacity(alloc, most + 1)?,
+        best: None,
+        best_path: vec![in alloc; 0u16; depth]?,
+    };
+    front.waiting.push((Reverse(floor), 0))?;
+    Ok(front)
+}
+
+/// Adds an entry, which waits. There is room for it.
+fn add(front: &mut Front, floor: u64, link: Link, budget: u32)
+    requires heap { IsHeap entry_cmp (heap_items front.old.waiting) }
+    requires room { HasRoom budget front.old }
+    requires left { length front.old.links.items < budget }
+    ensures links { front.new.links.items ≡ front.old.links.items ++ link ∷ [] }
+    ensures waiting { IsPermutation
+        ((record { 0 = floor }, length front.old.links.items + 1) ∷ heap_items front.old.waiting)
+        (heap_items front.new.waiting) }
+    ensures heap { IsHeap entry_cmp (heap_items front.new.waiting) }
+    ensures best { front.new.best ≡ front.old.best }
+    ensures best_path { front.new.best_path ≡ front.old.best_path }
+    ensures room { HasRoom budget front.new }
+{
+    let _ = front.links.push(link);
+    let entry = front.links.len() as u32;
+    let _ = front.waiting.push((Reverse(floor), entry));
+}
+
+/// Takes a leaf, if it beats the best.
+fn meet(front: &mut Front, path: &[u16], value: u64)
+    requires long { length path.now ≡ length front.old.best_path.items }
+    requires level { (best : ℕ) → front.old.best ≡ Some best → best ≡ value }
+    ensures links { front.new.links ≡ front.old.links }
+    ensures waiting { front.new.waiting ≡ front.old.waiting }
+    ensures long { length front.new.best_path.items ≡ length front.old.best_path.items }
+    ensures best { front.new.best ≡ Some value }
+    ensures one { (front.new.best_path.items ≡ path.now)
+        ⊎ (IsSome front.old.best × (front.new.best_path.items ≡ front.old.best_path.items)) }
+    ensures covers { Covers front.new.best front.new.best_path.items path.now value }
+    ensures keeps { (other : List ℕ) (its : ℕ)
+        → Covers front.old.best front.old.best_path.items other its
+        → Covers front.new.best front.new.best_path.items other its }
+{
+    if beats(path, front.best, &front.best_path) {
+        front.best = Some(value);
+        front.best_path.copy_from_slice(path);
+    }
+}
+
+/// Meets one child of the open entry, to which the trail leads as far as the level, and goes on to the child if it is
+/// live. It answers whether the budget was enough.
+fn take_child<S: Space>(
+    space: &S,
+    front: &mut Front,
+    trail: &mut Trail<S::Node>,
+    level: usize,
+    entry: u32,
+    k: usize,
+    budget: u32,
+) -> bool
+    requires open { IsOpen (S.live space.now) (S.height space.now) front.old entry k }
+    requires parent { IsTrailTo (S.is_at space.now) (S.height space.now) front.old.links.items
+        trail.old.path.items trail.old.nodes.items level entry }
+    requires trail { IsTrailTo (S.is_at space.now) (S.height space.now) front.old.links.items
+        trail.old.path.items trail.old.nodes.items trail.old.level trail.old.entry }
+    requires above { level < S.height space.now }
+    requires within { k < S.width space.now (path_in front.old.links.items entry) }
+    requires small { k < 2 ^ 16 }
+    requires room { HasRoom budget front.old }
+    ensures open { OnTrue result (IsOpen (S.live space.now) (S.height space.now) front.new entry (k + 1)) }
+    ensures path { path_in front.new.links.items entry ≡ path_in front.old.links.items entry }
+    ensures parent { IsTrailTo (S.is_at space.now) (S.height space.now) front.new.links.items
+        trail.new.path.items trail.new.nodes.items level entry }
+    ensures trail { IsTrailTo (S.is_at space.now) (S.height space.now) front.new.links.items
+        trail.new.path.items trail.new.nodes.items trail.new.level trail.new.entry }
+    ensures room { HasRoom budget front.new }
+    ensures taken { SameTaken front.old front.new }
+    ensures spent { OnFalse result
+        (Many (IsLoaded (S.live space.now) (floor_in (S.live space.now) front.old.links.items entry)) (budget + 1)) }
+{
+    let Some((child, floor)) = space.child(&trail.nodes[level], k) else {
+        return true;
+    };
+    if front.links.len() == budget as usize {
+        return false;
+    }
+    let link = Link {
+        parent: entry,
+        child: k as u16,
+    };
+    add(front, floor, link, budget);
+    place(trail, level, k as u16, child);
+    trail.entry = front.links.len() as u32;
+    true
+}
+
+/// Opens the entry to which the trail leads: meets each of its live children. The trail then leads to the last of them,
+/// which is the next entry of its floor. It answers whether the budget was enough.
+fn open<S: Space>(space: &S, front: &mut Front, trail: &mut Trail<S::Node>, budget: u32) -> bool
+    requires open { IsOpen (S.live space.now) (S.height space.now) front.old trail.old.entry 0 }
+    requires trail { IsTrailTo (S.is_at space.now) (S.height space.now) front.old.links.items
+        trail.old.path.items trail.old.nodes.items trail.old.level trail.old.entry }
+    requires above { trail.old.level < S.height space.now }
+    requires room { HasRoom budget front.old }
+    ensures closed { OnTrue result (IsClosed (S.live space.now) (S.height space.now) front.new
+        (floor_in (S.live space.now) front.old.links.items trail.old.entry)) }
+    ensures trail { IsTrailTo (S.is_at space.now) (S.height space.now) front.new.links.items
+        trail.new.path.items trail.new.nodes.items trail.new.level trail.new.entry }
+    ensures room { HasRoom budget front.new }
+    ensures taken { SameTaken front.old front.new }
+    ensures spent { OnFalse result (Many
+        (IsLoaded (S.live space.now) (floor_in (S.live space.now) front.old.links.items trail.old.entry))
+        (budget + 1)) }
+{
+    let level = trail.level;
+    let entry = trail.entry;
+    let count = space.count(&trail.nodes[level]);
+    let mut from = 0;
+    while from < count {
+        let k = space.next_child(&trail.nodes[level], from, None);
+        if k >= count {
+            return true;
+        }
+        if !take_child(space, front, trail, level, entry, k, budget) {
+            return false;
+        }
+        from = k + 1;
+    }
+    true
+}
+
+/// The value of the best leaf, if it is below a floor.
+fn settled(best: Option<u64>, floor: u64) -> Option<u64>
+    ensures settled { IfSome result (λ value. (best ≡ Some value) × (value < floor)) }
+    ensures unsettled { IfNone result ((value : ℕ) → best ≡ Some value → floor ≤ value) }
+{
+    match best {
+        Some(value) if value < floor => Some(value),
+        _ => None,
+    }
+}
+
+/// The first leaf of least value, if a budget is enough for its load: the live nodes below the root whose parent's floor
+/// is at most that value. Where there is no leaf the budget has to be enough for all live nodes below the root. Where it
+/// is not, the bound is the least floor whose load is above it. All memory is taken before the walk begins, 24 bytes for
+/// each unit of the budget.
+pub fn search_front<S: Space>(alloc: Global, space: &S, budget: u32) -> Result<Outcome, Memory>
+    ensures found { IfOk result (λ outcome. IfFound outcome (IsFirstLeast (S.live space.now) (S.height space.now))) }
+    ensures nothing { IfOk result (λ outcome. OnNothing outcome (HasNoLeaf (S.live space.now) (S.height space.now))) }
+
+    // The budget is spent exactly where the load of the least value, or of all where there is no leaf, is above it.
+    ensures over { IfOk result (λ outcome. IsSpent outcome ↔ IsOverBudget (S.live space.now) (S.height space.now) budget) }
+    ensures found_load { IfOk result (λ outcome. IfFound outcome (λ _ value.
+        AtMost (IsLoaded (S.live space.now) value) budget)) }
+    ensures nothing_load { IfOk result (λ outcome. OnNothing outcome (AtMost (IsLiveBelowRoot (S.live space.now)) budget)) }
+
+    // The bound is the least floor whose load is above the budget, and no leaf's value is lower.
+    ensures spent { IfOk result (λ outcome. IfSpent outcome (λ bound.
+        Many (IsLoaded (S.live space.now) bound) (budget + 1))) }
+    ensures least { IfOk result (λ outcome. IfSpent outcome (λ bound. (floor : ℕ) → floor < bound
+        → AtMost (IsLoaded (S.live space.now) floor) budget)) }
+    ensures bound { IfOk result (λ outcome. IfSpent outcome (BoundsLeaves (S.live space.now) (S.height space.now))) }
+{
+    let depth = space.depth();
+    let Some((root, floor)) = space.root() else {
+        return Ok(Outcome::Nothing);
+    };
+    let mut front = start_front(alloc, floor, depth, budget)?;
+    let mut trail = start_trail(space, alloc, root)?;
+    let mut list = vec![in alloc; 0u16; depth]?;
+    'pops: while let Some((floor, entry)) = pop_least(&mut front.waiting) {
+        if let Some(value) = settled(front.best, floor) {
+            return Ok(Outcome::Found {
+                path: List::new(front.best_path),
+                value,
+            });
+        }
+        go_to(space, &front.links, &mut trail, entry, &mut list);
+        if trail.level == depth {
+            meet(&mut front, &trail.path, floor);
+        } else if !open(space, &mut front, &mut trail, budget) {
+            return Ok(Outcome::Spent { bound: floor });
+        }
+    }
+    match front.best {
+        None => Ok(Outcome::Nothing),
+        Some(value) => Ok(Outcome::Found {
+            path: List::new(front.best_path),
+            value,
+        }),
+    }
+}
