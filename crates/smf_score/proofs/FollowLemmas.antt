@@ -1,5 +1,5 @@
 -- Notes that were placed without a fault sound one after the other (`placed_follow`).
-use Rattle.std.proofs.Common.{◌≡◌, ◌≢◌, ℕ, zero, suc, ◌+◌, ◌-◌, ◌<◌, ◌≤◌, ◌⊎◌, inl, inr, Bool, true, false, IsTrue, List, [], ◌∷◌, Option, Some, None, Result, Ok, Err, refl, sym, ◌∙◌, ap, subst, arith, cond, ltb, leb, eqb, max, ne_eqb}
+use Rattle.std.proofs.Common.{◌≡◌, ◌≢◌, ℕ, suc, ◌+◌, ◌-◌, ◌<◌, ◌≤◌, ◌⊎◌, inl, inr, Bool, true, false, IsTrue, List, [], ◌∷◌, Option, Some, None, Result, Ok, Err, refl, sym, ◌∙◌, ap, subst, arith, cond, ltb, leb, eqb, max, ne_eqb}
 use Rattle.std.specs.Prelude.{◌&&◌}
 use Rattle.std.proofs.lemmas.Bool.{ltb-false, ltb-true, leb-false, eqb-true, eq-eqb, le-ltb, lt-ltb, cases_lt}
 use Rattle.fux_pitch.specs.declared.pitch.Pitch.{Pitch}
@@ -9,7 +9,7 @@ use Rattle.fux_grid.specs.declared.cell.Cell.{Cell}
 use Rattle.fux_grid.specs.declared.cell.Cell.TheVariants.{Rest, Hold, Start}
 use Rattle.fux_grid.specs.Cells.{cell_follows}
 use Rattle.smf_score.specs.declared.fault.SmfFault.{SmfFault}
-use Rattle.smf_score.specs.declared.fault.SmfFault.TheVariants.{Key, ZeroNote, Overlap}
+use Rattle.smf_score.specs.declared.fault.SmfFault.TheVariants.{ZeroNote, Overlap}
 use Rattle.smf_score.specs.declared.placed.Placed.{Placed}
 use Rattle.smf_score.specs.declared.placed.Progress.{Progress}
 use Rattle.smf_score.specs.declared.played.Played.{Played}

@@ -1,3 +1,4 @@
+pub mod CantusLemmas
 pub mod FollowLemmas
 pub mod GridLemmas
 pub mod LineLemmas

@@ -2,7 +2,7 @@
 
 ghost use Rattle.std.specs.Prelude.{◌≡◌, ◌+◌, ◌*◌, ◌<◌, ◌≤◌, IfOk, length};
 ghost use Rattle.smf_score.specs.Faults.{Gives};
-ghost use Rattle.smf_score.specs.Cantus.{cantus_in, held_from, whole_at};
+ghost use Rattle.smf_score.specs.Cantus.{cantus_in, held_from, holds, whole_at};
 
 use crate::fault::SmfFault;
 use crate::grid::cell_of;
@@ -11,13 +11,23 @@ use fux_grid::Cell;
 use fux_pitch::Pitch;
 use std::alloc::Global;
 
+/// Whether a pitch is held in a cell.
+fn holds_pitch(cell: Cell, pitch: Pitch) -> bool
+    ensures { result ≡ holds pitch cell }
+{
+    match cell {
+        Cell::Hold(held) => held == pitch,
+        _ => false,
+    }
+}
+
 /// Whether a pitch is held in so many slots from one on.
 fn is_held(places: &[Placed], voice: u64, pitch: Pitch, slot: u64, count: u64) -> bool
     requires { slot + count < 1000 }
     ensures { result ≡ held_from places.now voice pitch slot count }
 {
     for k in 0..count {
-        if cell_of(places, voice, slot + k) != Cell::Hold(pitch) {
+        if !holds_pitch(cell_of(places, voice, slot + k), pitch) {
             return false;
         }
     }

@@ -1,5 +1,4 @@
-use Rattle.std.proofs.Common.{lit<, ◌≡◌, ◌<◌, ◌+◌, ◌∙◌, sym, arith, length, ap}
-use Rattle.smf_score.specs.Sounding.{column_on}
+use Rattle.std.proofs.Common.{lit<, sym, arith, length, ap}
 use Rattle.smf_score.proofs.GridLemmas.{column_more, length-column}
 use Rattle.smf_score.proofs.grid.column_of.Goals as goal
 

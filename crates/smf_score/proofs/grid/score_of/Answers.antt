@@ -1,8 +1,8 @@
-use Rattle.std.proofs.Common.{◌≡◌, ◌<◌, ◌+◌, ◌*◌, ◌∙◌, ◌∷◌, ◌++◌, [], List, sym, arith, length, ap, reverse}
+use Rattle.std.proofs.Common.{◌≡◌, ◌<◌, ◌∙◌, ◌∷◌, ◌++◌, [], List, sym, arith, length, ap, reverse}
 use Rattle.fux_grid.specs.declared.cell.Cell.{Cell}
 use Rattle.fux_grid.specs.Columns.{ColumnFollows, newest_column}
 use Rattle.fux_grid.specs.Grid.{Grid}
-use Rattle.smf_score.specs.Sounding.{column_on, columns_on}
+use Rattle.smf_score.specs.Sounding.{columns_on}
 use Rattle.smf_score.proofs.GridLemmas.{column_follows, columns_more, length-column, length-columns, on_ok}
 use Rattle.smf_score.proofs.grid.score_of.Goals as goal
 
