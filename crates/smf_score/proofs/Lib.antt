@@ -4,3 +4,4 @@ pub mod GridLemmas
 pub mod LineLemmas
 pub mod PlacedLemmas
 pub mod PlayedLemmas
+pub mod RangeLemmas

@@ -2,11 +2,13 @@
 #![tactic(auto)]
 
 mod cantus;
+mod exercise;
 mod fault;
 mod grid;
 mod order;
 mod placed;
 mod played;
+mod ranges;
 mod strokes;
 mod written;
 
