@@ -59,7 +59,8 @@ pub(crate) fn track_of(size: usize, bytes: &[u8]) -> Result<Chunk<'_>, ByteFault
 
 /// The header, where its format and its division are read.
 fn checked_header(header: Header) -> Result<Header, ByteFault>
-    ensures { result ≡ checked header }
+    ensures value { result ≡ checked header }
+    ensures ticks { IfOk result (λ h. 0 < h.division) }
 {
     if header.format > 2 {
         return Err(ByteFault::Chunk { at: 8 });
@@ -79,7 +80,8 @@ fn checked_header(header: Header) -> Result<Header, ByteFault>
 /// The header of its chunk's bytes.
 #[tactic(auto, unfolding(crate::specs::Chunks::fields_in))]
 fn fields_of(size: usize, bytes: &[u8]) -> Result<Header, ByteFault>
-    ensures { result ≡ fields_in size bytes.now }
+    ensures value { result ≡ fields_in size bytes.now }
+    ensures ticks { IfOk result (λ h. 0 < h.division) }
 {
     let (format, bytes) = u16_of(size, bytes)?;
     let (tracks, bytes) = u16_of(size, bytes)?;
@@ -95,6 +97,7 @@ fn fields_of(size: usize, bytes: &[u8]) -> Result<Header, ByteFault>
 #[tactic(auto, unfolding(crate::specs::Chunks::header_behind))]
 fn header_behind_type(size: usize, bytes: &[u8]) -> Result<(Header, &[u8]), ByteFault>
     ensures value { Gives (λ x. (x.0, x.1.now)) result (header_behind size bytes.now) }
+    ensures ticks { IfOk result (λ x. 0 < x.0.division) }
     ensures shorter { IfOk result (λ x. length x.1.now < length bytes.now) }
 {
     let (count, bytes) = u32_of(size, bytes)?;
@@ -109,6 +112,7 @@ fn header_behind_type(size: usize, bytes: &[u8]) -> Result<(Header, &[u8]), Byte
 #[tactic(auto, unfolding(crate::specs::Chunks::header_in))]
 pub(crate) fn header_of(size: usize, bytes: &[u8]) -> Result<(Header, &[u8]), ByteFault>
     ensures value { Gives (λ x. (x.0, x.1.now)) result (header_in size bytes.now) }
+    ensures ticks { IfOk result (λ x. 0 < x.0.division) }
     ensures shorter { IfOk result (λ x. length x.1.now ≤ length bytes.now) }
 {
     if bytes.len() < 4 {

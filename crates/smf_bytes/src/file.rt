@@ -1,5 +1,6 @@
 //! A file as events.
 
+ghost use Rattle.std.specs.Prelude.{◌<◌, IfOk};
 ghost use Rattle.smf_bytes.specs.Numbers.{Gives};
 ghost use Rattle.smf_bytes.specs.Events.{file_in, file_seen};
 
@@ -12,7 +13,8 @@ const MOST_BYTES: usize = 1_048_576;
 
 /// The events of a file. It reads the header; the events are read one after the other.
 pub fn open(bytes: &[u8]) -> Result<Events<'_>, ByteFault>
-    ensures { Gives file_seen result (file_in bytes.now) }
+    ensures value { Gives file_seen result (file_in bytes.now) }
+    ensures ticks { IfOk result (λ events. 0 < (file_seen events).header.division) }
 {
     let size = bytes.len();
     if size > MOST_BYTES {

@@ -9,8 +9,10 @@ mod order;
 mod placed;
 mod played;
 mod ranges;
+mod reading;
 mod strokes;
 mod written;
 
 pub use fault::SmfFault;
+pub use reading::from_smf;
 pub use written::to_smf;

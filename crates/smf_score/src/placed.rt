@@ -106,7 +106,7 @@ pub(crate) fn places_of(
 ) -> Result<(Vec<Placed>, Progress), SmfFault>
     requires division { 0 < division }
     requires notes { All IsPlayed notes.now }
-    requires few { length notes.now < 2 ^ 40 }
+    requires few { length notes.now < 2 ^ 63 }
     ensures value { Gives (λ x. (x.0.items, x.1)) result (places_in division first_line notes.now) }
     ensures follow { IfOk result (λ x. AreFollowing x.0.items) }
 {
