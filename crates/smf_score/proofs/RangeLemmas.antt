@@ -1,5 +1,5 @@
 -- The range of one voice more (`ranges_more`), and the end of them (`ranges_over`).
-use Rattle.std.proofs.Common.{◌≡◌, ℕ, suc, ◌+◌, ◌-◌, ◌<◌, ◌≤◌, List, [], ◌++◌, refl, sym, ◌∙◌, arith, append_assoc, add-one}
+use Rattle.std.proofs.Common.{◌≡◌, ℕ, suc, ◌+◌, ◌-◌, ◌<◌, ◌≤◌, List, ◌++◌, arith, append_assoc, add-one}
 use Rattle.std.proofs.lemmas.List.{append-nil}
 use Rattle.fux_grid.specs.declared.exercise.RangeLine.{RangeLine}
 use Rattle.smf_score.specs.declared.placed.Placed.{Placed}

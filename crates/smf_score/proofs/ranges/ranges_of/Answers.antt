@@ -1,4 +1,4 @@
-use Rattle.std.proofs.Common.{◌≡◌, ◌∙◌, sym}
+use Rattle.std.proofs.Common.{◌∙◌, sym}
 use Rattle.smf_score.proofs.RangeLemmas.{ranges_more, ranges_over}
 use Rattle.smf_score.proofs.ranges.ranges_of.Goals as goal
 
