@@ -1,0 +1,5 @@
+pub mod Answers
+pub mod EventLemmas
+pub mod QuantityLemmas
+pub mod ShorterLemmas
+pub mod TrackLemmas

@@ -1,0 +1,4 @@
+pub mod Chunks
+pub mod Events
+pub mod Messages
+pub mod Numbers

@@ -1,0 +1,14 @@
+use Rattle.std.proofs.Common.{◌∙◌, sym}
+use Rattle.smf_score.proofs.RangeLemmas.{ranges_more, ranges_over}
+use Rattle.smf_score.proofs.ranges.ranges_of.Goals as goal
+
+pub loop-v-preserved : goal.loop-v-preserved
+loop-v-preserved c =
+    rw c.in_ok-push_range.ensures.ok
+    (ranges_more c.args.places.now c.args.cantus_voice c.loop-v.v c.args.voices c.loop-v.lines.items c.loop-v-test.true
+    ∙ c.loop-v.invariant)
+
+pub returns : goal.returns
+returns c =
+    sym (ranges_over c.args.places.now c.args.cantus_voice c.loop-v.v c.args.voices c.loop-v.lines.items c.loop-v-test.false)
+    ∙ c.loop-v.invariant

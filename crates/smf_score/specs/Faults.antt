@@ -1,0 +1,26 @@
+-- Answers with the first fault.
+use Rattle.std.specs.Prelude.{◌≡◌, Result, Ok, Err}
+use Rattle.smf_score.specs.declared.fault.SmfFault.{SmfFault}
+use Rattle.smf_score.specs.declared.fault.SmfFault.TheVariants as faults
+
+-- the first fault is the answer
+infixl 10 ◌>>=◌
+abbrev pub ◌>>=◌ : {A B : Type 0} → Result A SmfFault → (A → Result B SmfFault) → Result B SmfFault
+(Ok x) >>= f = f x
+(Err e) >>= f = Err e
+
+-- a fault other than want of memory is the one that reading gives
+abbrev pub Fails : {Y : Type 0} → SmfFault → Result Y SmfFault → Type 0
+Fails faults.Memory read = Unit {0}
+Fails (faults.Bytes f) read = read ≡ Err (faults.Bytes f)
+Fails (faults.Key track tick) read = read ≡ Err (faults.Key track tick)
+Fails (faults.ZeroNote track tick) read = read ≡ Err (faults.ZeroNote track tick)
+Fails (faults.Overlap track tick) read = read ≡ Err (faults.Overlap track tick)
+Fails (faults.VoiceCount count) read = read ≡ Err (faults.VoiceCount count)
+Fails (faults.Bars count) read = read ≡ Err (faults.Bars count)
+Fails (faults.NotWhole bar) read = read ≡ Err (faults.NotWhole bar)
+
+-- what a function answered, seen by `view`, is what reading gives, unless memory ran out
+abbrev pub Gives : {X Y : Type 0} → (X → Y) → Result X SmfFault → Result Y SmfFault → Type 0
+Gives view (Ok x) read = read ≡ Ok (view x)
+Gives view (Err e) read = Fails e read

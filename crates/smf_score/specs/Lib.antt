@@ -1,0 +1,12 @@
+pub mod Cantus
+pub mod Exercise
+pub mod Faults
+pub mod Lines
+pub mod Order
+pub mod Placed
+pub mod Played
+pub mod Ranges
+pub mod Reading
+pub mod Sounding
+pub mod Strokes
+pub mod Written

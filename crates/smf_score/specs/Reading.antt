@@ -1,0 +1,64 @@
+-- What the bytes of a file are as an exercise, or its first fault.
+use Rattle.std.specs.Prelude.{◌≡◌, ◌≢◌, ℕ, ◌≤◌, ⊤, List, Result, Ok, Err}
+use Rattle.fux_grid.specs.declared.exercise.Exercise.{Exercise}
+use Rattle.fux_grid.specs.declared.exercise.Head.{Head}
+use Rattle.smf_bytes.specs.declared.fault.ByteFault.{ByteFault}
+use Rattle.smf_bytes.specs.Events.{File, file_in}
+use Rattle.smf_score.specs.declared.fault.SmfFault.{SmfFault}
+use Rattle.smf_score.specs.declared.fault.SmfFault.TheVariants as faults
+use Rattle.smf_score.specs.declared.played.Played.{Played}
+use Rattle.smf_score.specs.declared.strokes.Stroke.{Stroke}
+use Rattle.smf_score.specs.Exercise.{exercise_in}
+use Rattle.smf_score.specs.Faults.{◌>>=◌}
+use Rattle.smf_score.specs.Order.{IsInOrder}
+use Rattle.smf_score.specs.Placed.{first_line, places_in}
+use Rattle.smf_score.specs.Played.{notes_in}
+use Rattle.smf_score.specs.Strokes.{strokes_in}
+
+-- a head that an exercise may have
+pub record IsHead (head : Head) : Type 0 where
+  pub least_species : 1 ≤ head.species
+  pub most_species : head.species ≤ 5
+  pub differ : head.species_voice ≢ head.cantus_voice
+
+-- the exercise of notes in order, or the first fault
+unfoldable pub exercise_of_notes : Head → ℕ → List Played → Result Exercise SmfFault
+exercise_of_notes head division notes = do
+  placed ← places_in division first_line notes
+  exercise_in head placed.0 placed.1.voices
+
+-- the reading of what the events of a file do to its notes: that of its notes in order
+abbrev pub OfStrokes : Head → File → Result (List Stroke) SmfFault → Result Exercise SmfFault → Type 0
+OfStrokes head file (Err fault) read = read ≡ Err fault
+OfStrokes head file (Ok strokes) read =
+    (notes : List Played)
+    × IsInOrder (notes_in (record { format = file.header.format; top_first = head.top_first }) strokes) notes
+    × (read ≡ exercise_of_notes head file.header.division notes)
+
+-- the reading of the events of a file
+abbrev pub OfFile : Head → File → Result Exercise SmfFault → Type 0
+OfFile head file read = OfStrokes head file (strokes_in file.answers) read
+
+-- the reading of a file with this header
+abbrev pub OfHeader : Head → Result File ByteFault → Result Exercise SmfFault → Type 0
+OfHeader head (Err fault) read = read ≡ Err (faults.Bytes fault)
+OfHeader head (Ok file) read = OfFile head file read
+
+-- the reading of the bytes of a file
+abbrev pub IsReading : Head → List ℕ → Result Exercise SmfFault → Type 0
+IsReading head bytes read = OfHeader head (file_in bytes) read
+
+-- an answer other than want of memory is the reading
+abbrev pub FailsAs : SmfFault → (Result Exercise SmfFault → Type 0) → Type 0
+FailsAs faults.Memory IsRead = ⊤
+FailsAs (faults.Bytes f) IsRead = IsRead (Err (faults.Bytes f))
+FailsAs (faults.Key track tick) IsRead = IsRead (Err (faults.Key track tick))
+FailsAs (faults.ZeroNote track tick) IsRead = IsRead (Err (faults.ZeroNote track tick))
+FailsAs (faults.Overlap track tick) IsRead = IsRead (Err (faults.Overlap track tick))
+FailsAs (faults.VoiceCount count) IsRead = IsRead (Err (faults.VoiceCount count))
+FailsAs (faults.Bars count) IsRead = IsRead (Err (faults.Bars count))
+FailsAs (faults.NotWhole bar) IsRead = IsRead (Err (faults.NotWhole bar))
+
+abbrev pub ReadsAs : Result Exercise SmfFault → (Result Exercise SmfFault → Type 0) → Type 0
+ReadsAs (Ok ex) IsRead = IsRead (Ok ex)
+ReadsAs (Err fault) IsRead = FailsAs fault IsRead

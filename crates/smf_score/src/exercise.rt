@@ -1,0 +1,86 @@
+//! Placed notes as an exercise with its setting.
+
+ghost use Rattle.std.specs.Prelude.{◌≡◌, ◌+◌, ◌<◌, ◌≤◌, IfOk, length};
+ghost use Rattle.smf_score.specs.Faults.{Gives};
+ghost use Rattle.smf_score.specs.Sounding.{AreFollowing};
+ghost use Rattle.smf_score.specs.Exercise.{bars_in, exercise_in, last_slot, voices_in};
+
+use crate::cantus::cantus_of;
+use crate::fault::SmfFault;
+use crate::grid::score_of;
+use crate::placed::Placed;
+use crate::ranges::ranges_of;
+use fux_grid::{Exercise, Head};
+use fux_pitch::List;
+use std::alloc::Global;
+
+/// The slot at which the last note has ended.
+fn last_end(places: &[Placed]) -> u64
+    ensures { result ≡ last_slot places.now }
+{
+    let mut last = 0;
+    let mut i = places.len();
+    while i > 0 {
+        i -= 1;
+        last = last.max(places[i].end);
+    }
+    last
+}
+
+/// How many bars there are, the last one whole.
+fn bars_of(places: &[Placed]) -> Result<u8, SmfFault>
+    ensures value { result ≡ bars_in places.now }
+    ensures most { IfOk result (λ bars. bars ≤ 24) }
+{
+    let last = last_end(places);
+    let count = last / 8 + u64::from(last % 8 > 0);
+    if count < 3 || count > 24 {
+        return Err(SmfFault::Bars { count });
+    }
+    Ok(count as u8)
+}
+
+/// How many voices there are, with the cantus and the species voice among them.
+fn voices_of(head: &Head, voices: u64) -> Result<u8, SmfFault>
+    ensures value { result ≡ voices_in head.now voices }
+    ensures fewest { IfOk result (λ count. 2 ≤ count) }
+    ensures most { IfOk result (λ count. count ≤ 4) }
+{
+    let named = u64::from(head.cantus_voice) < voices && u64::from(head.species_voice) < voices;
+    if voices < 2 || voices > 4 || !named {
+        return Err(SmfFault::VoiceCount {
+            count: voices.min(65535) as u16,
+        });
+    }
+    Ok(voices as u8)
+}
+
+/// The exercise of notes of so many voices, with them as its setting.
+#[tactic(auto, unfolding(crate::specs::Exercise::exercise_in))]
+pub(crate) fn exercise_of(
+    alloc: Global,
+    head: &Head,
+    places: &[Placed],
+    voices: u64,
+) -> Result<Exercise, SmfFault>
+    requires { AreFollowing places.now }
+    ensures { Gives (λ ex. ex) result (exercise_in head.now places.now voices) }
+{
+    let count = voices_of(head, voices)?;
+    let bars = bars_of(places)?;
+    let cantus = cantus_of(alloc, places, u64::from(head.cantus_voice), bars)?;
+    let ranges = ranges_of(alloc, places, count, head.cantus_voice)?;
+    let setting = score_of(alloc, places, count, bars)?;
+    Ok(Exercise {
+        mode: head.mode,
+        voices: count,
+        bars,
+        species: head.species,
+        species_voice: head.species_voice,
+        cantus_voice: head.cantus_voice,
+        cantus: List::new(cantus),
+        ranges: List::new(ranges),
+        relax: List::new(Vec::new(alloc)),
+        setting: Some(setting),
+    })
+}

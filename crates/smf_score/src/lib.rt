@@ -1,0 +1,18 @@
+//! Standard MIDI Files of exercises and their settings.
+#![tactic(auto)]
+
+mod cantus;
+mod exercise;
+mod fault;
+mod grid;
+mod order;
+mod placed;
+mod played;
+mod ranges;
+mod reading;
+mod strokes;
+mod written;
+
+pub use fault::SmfFault;
+pub use reading::from_smf;
+pub use written::to_smf;

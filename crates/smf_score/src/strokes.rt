@@ -1,0 +1,74 @@
+//! What the events of a file do to its notes.
+
+ghost use Rattle.std.specs.Prelude.{◌≡◌, All, IfOk};
+ghost use Rattle.smf_bytes.specs.Events.{IsWithinBounds, timed_seen, to_come};
+ghost use Rattle.smf_score.specs.Faults.{Gives};
+ghost use Rattle.smf_score.specs.Strokes.{IsStroke, stroke_of, strokes_in};
+
+use crate::fault::SmfFault;
+use smf_bytes::{Event, Events, Kind};
+use std::alloc::Global;
+
+/// What an event does to the notes of its track.
+#[derive(Clone, Copy)]
+pub(crate) enum Act {
+    /// It strikes a key, and so ends the note before of this channel and key.
+    Strike { channel: u8, key: u8 },
+    /// It ends the note of this channel and key.
+    Release { channel: u8, key: u8 },
+    /// It ends all notes of its track.
+    End,
+    /// It leaves the notes alone.
+    Nothing,
+}
+
+/// An event as what it does, with its track and its time.
+#[derive(Clone, Copy)]
+pub(crate) struct Stroke {
+    pub(crate) track: u16,
+    pub(crate) tick: u64,
+    pub(crate) act: Act,
+}
+
+/// What an event does. A key that is struck with velocity 0 is let go.
+fn stroke_of_event(event: Event<'_>) -> Stroke
+    requires { IsWithinBounds event }
+    ensures value { result ≡ stroke_of (timed_seen event.entry) }
+    ensures bounds { IsStroke result }
+{
+    let act = match event.kind {
+        Kind::Off { channel, key } => Act::Release { channel, key },
+        Kind::On {
+            channel,
+            key,
+            velocity: 0,
+        } => Act::Release { channel, key },
+        Kind::On { channel, key, .. } => Act::Strike { channel, key },
+        Kind::Other { .. } => Act::Nothing,
+        Kind::Meta { number, .. } => {
+            if number == 0x2F {
+                Act::End
+            } else {
+                Act::Nothing
+            }
+        }
+        Kind::System { .. } => Act::Nothing,
+    };
+    Stroke {
+        track: event.track,
+        tick: event.tick,
+        act,
+    }
+}
+
+/// The events that are still to come as what they do.
+pub(crate) fn strokes_of(alloc: Global, events: &mut Events<'_>) -> Result<Vec<Stroke>, SmfFault>
+    ensures value { Gives (λ v. v.items) result (strokes_in (to_come events.old)) }
+    ensures bounds { IfOk result (λ v. All IsStroke v.items) }
+{
+    let mut strokes = Vec::new(alloc);
+    while let Some(answer) = events.next() {
+        strokes.push(stroke_of_event(answer?))?;
+    }
+    Ok(strokes)
+}
