@@ -17,18 +17,18 @@ use Rattle.smf_score.specs.Faults.{◌>>=◌}
 use Rattle.smf_score.specs.Placed.{slot_of, with_note, place_between, place_spelled, place_in, places_in}
 use Rattle.smf_score.specs.Sounding.{cell_on, AreFollowing}
 
-abbrev answer : {A : Type 0} → A → Result A SmfFault
+abbrev pub answer : {A : Type 0} → A → Result A SmfFault
 answer x = Ok x
 
-ok_is : {A : Type 0} (x y : A) → answer x ≡ answer y → x ≡ y
+pub ok_is : {A : Type 0} (x y : A) → answer x ≡ answer y → x ≡ y
 ok_is x y e = cc
 
-bind_ok : {A B : Type 0} (r : Result A SmfFault) (f : A → Result B SmfFault) (y : B) → (r >>= f) ≡ Ok y
+pub bind_ok : {A B : Type 0} (r : Result A SmfFault) (f : A → Result B SmfFault) (y : B) → (r >>= f) ≡ Ok y
     → (x : A) × (r ≡ Ok x) × (f x ≡ Ok y)
 bind_ok (Ok x) f y e = (x, refl, e)
 bind_ok (Err d) f y e = absurd cc
 
-guard_ok : {A : Type 0} (b : Bool) (d : SmfFault) (r : Result A SmfFault) (y : A) → cond b (Err d) r ≡ Ok y
+pub guard_ok : {A : Type 0} (b : Bool) (d : SmfFault) (r : Result A SmfFault) (y : A) → cond b (Err d) r ≡ Ok y
     → (b ≡ false) × (r ≡ Ok y)
 guard_ok true d r y e = absurd cc
 guard_ok false d r y e = (refl, e)
@@ -86,7 +86,7 @@ with_some before rank = at (ltb 0 before.voices) (eqb before.rank rank) refl
     at true false e = omega arith
     at false u e = omega arith
 
-place_puts : (division : ℕ) (before : Progress) (note : Played) (x : Placed × Progress)
+pub place_puts : (division : ℕ) (before : Progress) (note : Played) (x : Placed × Progress)
     → place_in division before note ≡ Ok x → Puts before x.1 x.0
 place_puts division before note x = at (spelled note.key)
   where
@@ -95,6 +95,37 @@ place_puts division before note x = at (spelled note.key)
     at (Some pitch) e = puts_progress before note.rank x
         (puts_between (with_note before note.rank) note pitch (slot_of division note.start) (slot_of division note.end) x
         (with_some before note.rank) e)
+
+-- a note begins one voice at most
+between_voices : (line : Progress) (note : Played) (pitch : Pitch) (start end : ℕ) (x : Placed × Progress)
+    → place_between line note pitch start end ≡ Ok x → x.1.voices ≡ line.voices
+between_voices line note pitch start end x e =
+    let longer = guard_ok (leb end start) (ZeroNote note.track note.start) _ x e in
+    let later = guard_ok (ltb start line.ended) (Overlap note.track note.start) _ x longer.1 in
+    let made : Placed × Progress = (
+      record { voice = line.voices - 1; start = start; end = end; pitch = pitch },
+      record { voices = line.voices; rank = line.rank; ended = max line.ended end },
+    ) in
+    ap (λ (y : Placed × Progress). y.1.voices) (sym (ok_is made x later.1))
+
+with_few : (before : Progress) (rank : ℕ) → (with_note before rank).voices ≤ before.voices + 1
+with_few before rank = at (ltb 0 before.voices && eqb before.rank rank)
+  where
+    at : (t : Bool) → (cond t before (record { voices = before.voices + 1; rank = rank; ended = 0 })).voices ≤ before.voices + 1
+    at true = omega arith
+    at false = omega arith
+
+pub place_slow : (division : ℕ) (before : Progress) (note : Played) (x : Placed × Progress)
+    → place_in division before note ≡ Ok x → x.1.voices ≤ before.voices + 1
+place_slow division before note x = at (spelled note.key)
+  where
+    at : (o : Option Pitch) → place_spelled division before note o ≡ Ok x → x.1.voices ≤ before.voices + 1
+    at None e = absurd cc
+    at (Some pitch) e = omega (
+      arith,
+      with_few before note.rank,
+      between_voices (with_note before note.rank) note pitch (slot_of division note.start) (slot_of division note.end) x e,
+    )
 
 -- a note that neither starts nor is held at a slot says nothing of it
 cell_behind : (p : Placed) (notes : List Placed) (v i : ℕ) → (p.voice ≡ v → i < p.start) → cell_on (p ∷ notes) v i ≡ cell_on notes v i

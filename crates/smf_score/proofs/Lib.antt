@@ -5,3 +5,4 @@ pub mod LineLemmas
 pub mod PlacedLemmas
 pub mod PlayedLemmas
 pub mod RangeLemmas
+pub mod ValidLemmas

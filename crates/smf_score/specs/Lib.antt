@@ -1,6 +1,7 @@
 pub mod Cantus
 pub mod Exercise
 pub mod Faults
+pub mod Heads
 pub mod Lines
 pub mod Order
 pub mod Placed

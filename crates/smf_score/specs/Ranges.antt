@@ -1,5 +1,5 @@
 -- The ranges of placed notes.
-use Rattle.std.specs.Prelude.{ℕ, zero, suc, ◌==◌, List, [], ◌∷◌, ◌++◌, Option, Some, None, nat_le, if◌then◌else◌}
+use Rattle.std.specs.Prelude.{IsSome, ◌<◌, ℕ, zero, suc, ◌==◌, List, [], ◌∷◌, ◌++◌, Option, Some, None, nat_le, if◌then◌else◌}
 use Rattle.std.specs.Option.{option_to_list}
 use Rattle.fux_pitch.specs.declared.pitch.Pitch.{Pitch}
 use Rattle.fux_grid.specs.declared.exercise.RangeLine.{RangeLine}
@@ -31,3 +31,7 @@ free_range notes cantus v = if v == cantus then [] else option_to_list (range_in
 unfoldable pub ranges_in : List Placed → ℕ → ℕ → ℕ → List RangeLine
 ranges_in notes cantus v zero = []
 ranges_in notes cantus v (suc more) = free_range notes cantus v ++ ranges_in notes cantus (suc v) more
+
+-- each of so many voices has a note
+abbrev pub HaveNotes : List Placed → ℕ → Type 0
+HaveNotes notes voices = (v : ℕ) → v < voices → IsSome (range_in v notes)

@@ -1,5 +1,5 @@
 -- What the bytes of a file are as an exercise, or its first fault.
-use Rattle.std.specs.Prelude.{◌≡◌, ◌≢◌, ℕ, ◌≤◌, ⊤, List, Result, Ok, Err}
+use Rattle.std.specs.Prelude.{◌≡◌, ℕ, ⊤, List, Result, Ok, Err}
 use Rattle.fux_grid.specs.declared.exercise.Exercise.{Exercise}
 use Rattle.fux_grid.specs.declared.exercise.Head.{Head}
 use Rattle.smf_bytes.specs.declared.fault.ByteFault.{ByteFault}
@@ -14,12 +14,6 @@ use Rattle.smf_score.specs.Order.{IsInOrder}
 use Rattle.smf_score.specs.Placed.{first_line, places_in}
 use Rattle.smf_score.specs.Played.{notes_in}
 use Rattle.smf_score.specs.Strokes.{strokes_in}
-
--- a head that an exercise may have
-pub record IsHead (head : Head) : Type 0 where
-  pub least_species : 1 ≤ head.species
-  pub most_species : head.species ≤ 5
-  pub differ : head.species_voice ≢ head.cantus_voice
 
 -- the exercise of notes in order, or the first fault
 unfoldable pub exercise_of_notes : Head → ℕ → List Played → Result Exercise SmfFault

@@ -2,6 +2,9 @@
 
 ghost use Rattle.std.specs.Prelude.{◌≡◌, ◌+◌, ◌<◌, ◌≤◌, IfOk, length};
 ghost use Rattle.smf_score.specs.Faults.{Gives};
+ghost use Rattle.fux_grid.specs.Exercises.{IsValid};
+ghost use Rattle.smf_score.specs.Ranges.{HaveNotes};
+ghost use Rattle.smf_score.specs.Heads.{IsHead};
 ghost use Rattle.smf_score.specs.Sounding.{AreFollowing};
 ghost use Rattle.smf_score.specs.Exercise.{bars_in, exercise_in, last_slot, voices_in};
 
@@ -63,8 +66,11 @@ pub(crate) fn exercise_of(
     places: &[Placed],
     voices: u64,
 ) -> Result<Exercise, SmfFault>
-    requires { AreFollowing places.now }
-    ensures { Gives (λ ex. ex) result (exercise_in head.now places.now voices) }
+    requires head { IsHead head.now }
+    requires follow { AreFollowing places.now }
+    requires notes { HaveNotes places.now voices }
+    ensures value { Gives (λ ex. ex) result (exercise_in head.now places.now voices) }
+    ensures valid { IfOk result IsValid }
 {
     let count = voices_of(head, voices)?;
     let bars = bars_of(places)?;

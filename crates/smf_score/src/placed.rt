@@ -4,6 +4,7 @@ ghost use Rattle.std.specs.Prelude.{◌≡◌, ◌+◌, ◌*◌, ◌<◌, ◌≤
 ghost use Rattle.smf_score.specs.Faults.{Gives};
 ghost use Rattle.smf_score.specs.Played.{IsPlayed};
 ghost use Rattle.smf_score.specs.Sounding.{AreFollowing};
+ghost use Rattle.smf_score.specs.Ranges.{HaveNotes};
 ghost use Rattle.smf_score.specs.Placed.{first_line, place_in, places_in, slot_of, with_note};
 
 use crate::fault::SmfFault;
@@ -109,6 +110,7 @@ pub(crate) fn places_of(
     requires few { length notes.now < 2 ^ 63 }
     ensures value { Gives (λ x. (x.0.items, x.1)) result (places_in division first_line notes.now) }
     ensures follow { IfOk result (λ x. AreFollowing x.0.items) }
+    ensures notes { IfOk result (λ x. HaveNotes x.0.items x.1.voices) }
 {
     let mut places = Vec::new(alloc);
     let mut progress = Progress {

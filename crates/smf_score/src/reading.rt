@@ -1,10 +1,12 @@
 //! A file as an exercise.
 
-ghost use Rattle.std.specs.Prelude.{◌<◌, ◌^◌, All, length};
+ghost use Rattle.std.specs.Prelude.{◌<◌, ◌^◌, All, IfOk, length};
+ghost use Rattle.fux_grid.specs.Exercises.{IsValid};
 ghost use Rattle.smf_bytes.specs.Events.{file_seen};
 ghost use Rattle.smf_score.specs.Faults.{Gives};
 ghost use Rattle.smf_score.specs.Played.{IsPlayed};
-ghost use Rattle.smf_score.specs.Reading.{IsHead, IsReading, OfFile, ReadsAs, exercise_of_notes};
+ghost use Rattle.smf_score.specs.Heads.{IsHead};
+ghost use Rattle.smf_score.specs.Reading.{IsReading, OfFile, ReadsAs, exercise_of_notes};
 
 use crate::exercise::exercise_of;
 use crate::fault::SmfFault;
@@ -24,10 +26,12 @@ fn read_notes(
     division: u16,
     notes: &[Played],
 ) -> Result<Exercise, SmfFault>
+    requires head { IsHead head.now }
     requires division { 0 < division }
     requires notes { All IsPlayed notes.now }
     requires few { length notes.now < 2 ^ 63 }
-    ensures { Gives (λ ex. ex) result (exercise_of_notes head.now division notes.now) }
+    ensures value { Gives (λ ex. ex) result (exercise_of_notes head.now division notes.now) }
+    ensures valid { IfOk result IsValid }
 {
     let (places, progress) = places_of(alloc, division, notes)?;
     exercise_of(alloc, head, &places, progress.voices)
@@ -35,8 +39,10 @@ fn read_notes(
 
 /// The exercise of the events of a file.
 fn read_events(alloc: Global, head: &Head, events: &mut Events<'_>) -> Result<Exercise, SmfFault>
-    requires { 0 < (file_seen events.old).header.division }
-    ensures { ReadsAs result (OfFile head.now (file_seen events.old)) }
+    requires head { IsHead head.now }
+    requires ticks { 0 < (file_seen events.old).header.division }
+    ensures value { ReadsAs result (OfFile head.now (file_seen events.old)) }
+    ensures valid { IfOk result IsValid }
 {
     let layout = Layout {
         format: events.format(),
@@ -53,7 +59,8 @@ fn read_events(alloc: Global, head: &Head, events: &mut Events<'_>) -> Result<Ex
 /// says that the first track, or channel, is the highest voice.
 pub fn from_smf(alloc: Global, bytes: &[u8], head: &Head) -> Result<Exercise, SmfFault>
     requires { IsHead head.now }
-    ensures { ReadsAs result (IsReading head.now bytes.now) }
+    ensures value { ReadsAs result (IsReading head.now bytes.now) }
+    ensures valid { IfOk result IsValid }
 {
     let mut events = open(bytes)?;
     read_events(alloc, head, &mut events)

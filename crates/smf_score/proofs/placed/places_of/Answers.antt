@@ -2,6 +2,7 @@ use Rattle.std.proofs.Common.{◌∙◌, sym, arith}
 use Rattle.std.proofs.lemmas.Result.{err_from_is_err_and}
 use Rattle.smf_score.specs.Placed.{first_line}
 use Rattle.smf_score.proofs.FollowLemmas.{placed_follow}
+use Rattle.smf_score.proofs.ValidLemmas.{each_has_note}
 use Rattle.smf_score.proofs.PlacedLemmas.{fails_from, places_more, places_fault, places_over}
 use Rattle.smf_score.proofs.placed.places_of.Goals as goal
 
@@ -32,3 +33,8 @@ pub returns-clause-follow : goal.returns-clause-follow
 returns-clause-follow c =
     placed_follow c.args.division first_line c.args.notes.now c.loop-note.places.items c.loop-note.progress
     (returns-clause-value c)
+
+pub returns-clause-notes : goal.returns-clause-notes
+returns-clause-notes c = λ v there.
+    each_has_note c.args.division first_line c.args.notes.now (c.loop-note.places.items, c.loop-note.progress) v
+    (returns-clause-value c) (omega arith) there

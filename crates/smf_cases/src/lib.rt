@@ -1,0 +1,5 @@
+//! Worked MIDI files. They stand above the crates that read and write them, so that what carries the proofs is proved once.
+#![tactic(auto)]
+
+#[cfg(test)]
+mod files;
