@@ -38,13 +38,13 @@ fn told(alloc: Global, text: &[u8]) -> Result<String, Fail> {
 
 #[test]
 fn reads_each_case(rt: HostRuntime) -> Result<(), Fail> {
-    let mut count = 0;
+    let mut count = 0u32;
     for case in CASES.split(|byte| *byte == 0) {
         let end = case.iter().position(|byte| *byte == 1).ok_or("no answer")?;
         let (answer, text) = case.split_at(end);
         let found = told(rt.alloc(), text.get(1..).ok_or("no text")?)?;
         assert_eq!(rt; found.as_bytes(), answer);
-        count += 1;
+        count = count.saturating_add(1);
     }
     assert_eq!(rt; count, 171);
     Ok(())
