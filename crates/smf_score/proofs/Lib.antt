@@ -2,7 +2,9 @@ pub mod CantusLemmas
 pub mod FollowLemmas
 pub mod GridLemmas
 pub mod LineLemmas
+pub mod OrderLemmas
 pub mod PlacedLemmas
 pub mod PlayedLemmas
 pub mod RangeLemmas
+pub mod ReadingLemmas
 pub mod ValidLemmas

@@ -14,5 +14,5 @@ mod strokes;
 mod written;
 
 pub use fault::SmfFault;
-pub use reading::from_smf;
+pub use reading::{from_smf, one_reading};
 pub use written::to_smf;

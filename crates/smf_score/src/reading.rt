@@ -1,6 +1,9 @@
 //! A file as an exercise.
 
-ghost use Rattle.std.specs.Prelude.{◌<◌, ◌^◌, All, IfOk, length};
+ghost use Rattle.fux_grid.specs.declared.exercise.Exercise.{Exercise as AnExercise};
+ghost use Rattle.fux_grid.specs.declared.exercise.Head.{Head as AHead};
+ghost use Rattle.smf_score.specs.declared.fault.SmfFault.{SmfFault as AFault};
+ghost use Rattle.std.specs.Prelude.{ℕ, List, ◌≡◌, Result, ◌<◌, ◌^◌, All, IfOk, length};
 ghost use Rattle.fux_grid.specs.Exercises.{IsValid};
 ghost use Rattle.smf_bytes.specs.Events.{file_seen};
 ghost use Rattle.smf_score.specs.Faults.{Gives};
@@ -65,3 +68,9 @@ pub fn from_smf(alloc: Global, bytes: &[u8], head: &Head) -> Result<Exercise, Sm
     let mut events = open(bytes)?;
     read_events(alloc, head, &mut events)
 }
+
+/// The bytes of a file have one reading.
+pub fn one_reading()
+    ensures { (head : AHead) (bytes : List ℕ) (a b : Result AnExercise AFault) →
+        IsReading head bytes a → IsReading head bytes b → a ≡ b }
+{}
