@@ -1,0 +1,8 @@
+use Rattle.std.proofs.Common.{subst}
+use Rattle.fux_run.specs.Works.{IsContent}
+use Rattle.fux_run.proofs.TextFaults.{too_long}
+use Rattle.fux_run.proofs.exercise.exercise_of.Goals as goal
+
+pub returns-in_default-clause-reads : goal.returns-in_default-clause-reads
+returns-in_default-clause-reads c = λ bytes content.
+    too_long bytes (subst (λ text. IsContent 65536 text bytes) c.in_default.is content)
