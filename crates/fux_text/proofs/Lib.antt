@@ -5,6 +5,7 @@ pub mod WordLemmas
 pub mod Named
 pub mod HeadLoops
 pub mod RangeLoops
+pub mod RelaxLoops
 pub mod SungLoops
 pub mod VoiceLoops
 pub mod Following
@@ -13,5 +14,6 @@ pub mod Answered
 pub mod Bounds
 pub mod ValidHead
 pub mod ValidRanges
+pub mod ValidRelax
 pub mod ValidSetting
 pub mod ValidText

@@ -9,6 +9,7 @@ mod names;
 mod note_text;
 mod ranges;
 mod reading;
+mod relaxing;
 mod setting;
 mod sing;
 mod sing_lines;
