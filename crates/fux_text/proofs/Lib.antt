@@ -3,6 +3,8 @@ pub mod ItemLemmas
 pub mod TextParts
 pub mod WordLemmas
 pub mod Named
+pub mod NumberWords
+pub mod OwnWords
 pub mod HeadLoops
 pub mod RangeLoops
 pub mod RelaxLoops
