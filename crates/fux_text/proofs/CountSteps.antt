@@ -1,6 +1,6 @@
 -- One more number of a range: what is written for it, and what is kept of it.
-use Rattle.std.proofs.Common.{◌≡◌, ℕ, ◌+◌, ◌-◌, ◌<◌, suc, Bool, true, false, List, [], ◌∷◌, ◌++◌, refl, sym, ap, ◌∙◌, append_assoc, arith}
-use Rattle.std.specs.Prelude.{filter}
+use Rattle.std.proofs.Common.{◌≡◌, ℕ, ◌+◌, ◌-◌, ◌<◌, suc, Bool, true, false, List, [], ◌∷◌, ◌++◌, Option, refl, sym, ap, ◌∙◌, append_assoc, arith}
+use Rattle.std.specs.Prelude.{filter, find}
 use Rattle.std.proofs.lemmas.List.{append-nil}
 use Rattle.std.specs.List.{flat_map, range_with_len}
 
@@ -52,3 +52,10 @@ left_out-next p before after whole a b h e t so_far = ap (λ kept. kept ++ filte
   where
     one : filter p (range_with_len a (b - a)) ≡ filter p (range_with_len (a + 1) (b - (a + 1)))
     one = rw (range-next a b h, t) refl
+
+-- the search of a range goes on behind its first number, where that isn't it
+pub find-next : (p : ℕ → Bool) (a b : ℕ) (whole : Option ℕ) → a < b → p a ≡ false → find p (range_with_len a (b - a)) ≡ whole
+    → find p (range_with_len (a + 1) (b - (a + 1))) ≡ whole
+find-next p a b whole h fails so_far =
+    let one : find p (range_with_len a (b - a)) ≡ find p (range_with_len (a + 1) (b - (a + 1))) = rw (range-next a b h, fails) refl in
+    sym one ∙ so_far

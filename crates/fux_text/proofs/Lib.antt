@@ -3,8 +3,11 @@ pub mod ItemLemmas
 pub mod TextParts
 pub mod WordLemmas
 pub mod Named
+pub mod NumberWords
+pub mod OwnWords
 pub mod HeadLoops
 pub mod RangeLoops
+pub mod RelaxLoops
 pub mod SungLoops
 pub mod VoiceLoops
 pub mod Following
@@ -13,5 +16,6 @@ pub mod Answered
 pub mod Bounds
 pub mod ValidHead
 pub mod ValidRanges
+pub mod ValidRelax
 pub mod ValidSetting
 pub mod ValidText

@@ -105,6 +105,15 @@ by_name {A = A} name xs text r all is every = by r (named name xs text) refl is 
     by None None e is every = refl
     by (Some x) None e is every = absurd (found_some name xs text x is (all x) e)
 
+-- a thing is found by its own name, where no other one has it
+pub named-own : {A : Type 0} (name : A → List ℕ) (xs : List A) (x : A) → Has xs x → ((y : A) → name y ≡ name x → y ≡ x)
+    → named name xs (name x) ≡ Some x
+named-own {A = A} name xs x has only = by (named name xs (name x)) refl
+  where
+    by : (found : Option A) → named name xs (name x) ≡ found → found ≡ Some x
+    by (Some y) e = ap Some (only y (found_name name xs (name x) y e))
+    by None e = absurd (found_some name xs (name x) x refl has e)
+
 pub all_modes : (m : Mode) → Has modes m
 unfolding Has
 all_modes Dorian = inl refl

@@ -14,7 +14,7 @@ use Rattle.text_lines.specs.Words.{LineWords}
 use Rattle.text_lines.proofs.Binds.{bind_ok}
 use Rattle.fux_text.specs.Ranges.{range_in, range_line, ranges_on}
 
-pair_rest : {A : Type 0} (a : A) (t : TextLines) (x : A × TextLines) (r : Result (A × TextLines) Fault) → Ok (a, t) ≡ r → r ≡ Ok x → x.1 ≡ t
+pub pair_rest : {A : Type 0} (a : A) (t : TextLines) (x : A × TextLines) (r : Result (A × TextLines) Fault) → Ok (a, t) ≡ r → r ≡ Ok x → x.1 ≡ t
 pair_rest a t x r d e = grind (arith, d, e)
 
 -- what is left behind a headed line

@@ -78,7 +78,6 @@ pub record IsHead (ex : Exercise) : Type 0 where
   pub cantus_there : ex.cantus_voice < ex.voices
   pub differ : ex.species_voice ≢ ex.cantus_voice
   pub whole : length ex.cantus ≡ ex.bars
-  pub no_relax : ex.relax ≡ []
 
 pub head-valid : (text : TextLines) (x : Exercise × TextLines) → head_in text ≡ Ok x → IsHead x.0
 unfolding head_in
@@ -101,5 +100,4 @@ head-valid text x e =
       cantus_there = omega (arith, tune.voice.within, some.above);
       differ = λ same. tune.voice.differs (sym same);
       whole = tune.whole;
-      no_relax = refl;
     })

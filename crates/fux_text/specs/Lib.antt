@@ -4,6 +4,7 @@ pub mod Lines
 pub mod Names
 pub mod Ranges
 pub mod Reading
+pub mod Relaxing
 pub mod Sing
 pub mod Texts
 pub mod Waiting

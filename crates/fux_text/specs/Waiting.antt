@@ -8,3 +8,7 @@ most_voices = 2
 -- so is a greater species
 abbrev pub most_species : ℕ
 most_species = 1
+
+-- a line more that begins with `relax` is `Head`
+abbrev pub most_relax : ℕ
+most_relax = 64

@@ -90,7 +90,7 @@ fn put_ranges(out: &mut String, lines: &[RangeLine]) -> Result<(), Memory>
 }
 
 /// Whether a voice is in a set.
-fn has_voice(set: VoiceSet, v: u8) -> bool
+pub fn has_voice(set: VoiceSet, v: u8) -> bool
     requires { v < 8 }
     ensures { result ≡ has_voice set.bits v }
 {

@@ -8,12 +8,15 @@ mod items;
 mod names;
 mod note_text;
 mod ranges;
+mod read_back;
 mod reading;
+mod relaxing;
 mod setting;
 mod sing;
 mod sing_lines;
 mod waiting;
 
 pub use note_text::{sing_line, write};
+pub use read_back::words_read_back;
 pub use reading::{read, read_sing};
 pub use text_lines::{TextFault, TextKind};

@@ -11,6 +11,7 @@ ghost use Rattle.fux_text.specs.Texts.{AreSingLinesOf, HasFault, HasSingFault, I
 
 use crate::head::head_in;
 use crate::ranges::ranges_in;
+use crate::relaxing::relaxes_in;
 use crate::setting::{setting_in, sung_score};
 use fux_grid::{Exercise, Score};
 use fux_pitch::List;
@@ -25,8 +26,10 @@ fn exercise_in(alloc: Global, bytes: &[u8]) -> Result<Exercise, TextFault>
     let text = Lines::of_text(bytes)?;
     let (mut ex, text) = head_in(alloc, text)?;
     let (ranges, text) = ranges_in(alloc, text, &ex)?;
+    let (relax, text) = relaxes_in(alloc, text, &ex)?;
     let setting = setting_in(alloc, text, &ex)?;
     ex.ranges = List::new(ranges);
+    ex.relax = List::new(relax);
     ex.setting = setting;
     Ok(ex)
 }

@@ -5,3 +5,6 @@ pub const MOST_VOICES: u8 = 2;
 
 /// So is a greater species.
 pub const MOST_SPECIES: u8 = 1;
+
+/// Relax lines, at most. One more is refused like any line in a wrong place.
+pub const MOST_RELAX: usize = 64;

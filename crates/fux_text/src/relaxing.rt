@@ -1,0 +1,170 @@
+//! The relax lines.
+
+ghost use Rattle.std.specs.Prelude.{◌≡◌, ◌≤◌, ◌-◌, ◌^◌, [], IfOk, Some, find};
+ghost use Rattle.std.specs.List.{range_with_len};
+ghost use Rattle.text_lines.specs.Faults.{Gives};
+ghost use Rattle.text_lines.specs.Lines.{lines_of};
+ghost use Rattle.text_lines.specs.Words.{words_of};
+ghost use Rattle.fux_text.specs.Lines.{voices_word};
+ghost use Rattle.fux_text.specs.Relaxing.{goes_on, is_set, relax_in, relax_line, relaxes_in, rule_in, rule_named, set_in, voices_named};
+
+use crate::exercise_lines::has_voice;
+use crate::waiting::MOST_RELAX;
+use fux_grid::{Exercise, Relax, VoiceSet};
+use std::alloc::Global;
+use text_lines::{Lines, TextFault, TextKind, Words, is_same, parse_within};
+
+/// The rule of a word: an `S` and its number.
+fn parse_rule(word: &[u8]) -> Option<u8>
+    ensures { result ≡ rule_named word.now }
+{
+    match word {
+        [b'S', number @ ..] => Some(parse_within(number, 4, 26)? as u8),
+        _ => None,
+    }
+}
+
+/// What the voices of a set are called.
+fn set_name(set: VoiceSet) -> &'static [u8]
+    ensures { result.now ≡ voices_word (Some set) }
+{
+    match (
+        has_voice(set, 0),
+        has_voice(set, 1),
+        has_voice(set, 2),
+        has_voice(set, 3),
+    ) {
+        (false, false, false, false) => b"",
+        (true, false, false, false) => b"0",
+        (false, true, false, false) => b"1",
+        (true, true, false, false) => b"0,1",
+        (false, false, true, false) => b"2",
+        (true, false, true, false) => b"0,2",
+        (false, true, true, false) => b"1,2",
+        (true, true, true, false) => b"0,1,2",
+        (false, false, false, true) => b"3",
+        (true, false, false, true) => b"0,3",
+        (false, true, false, true) => b"1,3",
+        (true, true, false, true) => b"0,1,3",
+        (false, false, true, true) => b"2,3",
+        (true, false, true, true) => b"0,2,3",
+        (false, true, true, true) => b"1,2,3",
+        (true, true, true, true) => b"0,1,2,3",
+    }
+}
+
+/// Whether the word is what these voices are called.
+fn is_set(word: &[u8], bits: u8) -> bool
+    ensures { result ≡ is_set word.now bits }
+{
+    is_same(set_name(VoiceSet { bits }), word)
+}
+
+/// The bits of the set of some of so many voices that is called by the word.
+fn find_set(word: &[u8], voices: u8) -> Option<u8>
+    requires { voices ≤ 4 }
+    ensures { result ≡ find (is_set word.now) (range_with_len 1 (2 ^ voices - 1)) }
+{
+    for bits in 1..1 << voices {
+        if is_set(word, bits) {
+            return Some(bits);
+        }
+    }
+    None
+}
+
+/// The voices of a word: all, or a set of some of so many.
+#[tactic(auto, unfolding(crate::specs::Relaxing::voices_named))]
+fn parse_voices(word: &[u8], voices: u8) -> Option<Option<VoiceSet>>
+    requires { voices ≤ 4 }
+    ensures { result ≡ voices_named voices word.now }
+{
+    if is_same(b"all", word) {
+        return Some(None);
+    }
+    let bits = find_set(word, voices)?;
+    Some(Some(VoiceSet { bits }))
+}
+
+/// Reads a rule.
+#[tactic(auto, unfolding(crate::specs::Relaxing::rule_in))]
+fn rule_in(words: Words<'_>) -> Result<(u8, Words<'_>), TextFault>
+    ensures { Gives (λ x. (x.0, words_of x.1)) result (rule_in (words_of words.entry)) }
+{
+    let (word, words) = words.next(TextKind::Word)?;
+    match parse_rule(word.text) {
+        Some(rule) => Ok((rule, words)),
+        None => Err(word.fault(TextKind::Word)),
+    }
+}
+
+/// Reads the voices, of so many.
+#[tactic(auto, unfolding(crate::specs::Relaxing::set_in))]
+fn set_in(words: Words<'_>, voices: u8) -> Result<(Option<VoiceSet>, Words<'_>), TextFault>
+    requires { voices ≤ 4 }
+    ensures { Gives (λ x. (x.0, words_of x.1)) result (set_in voices (words_of words.entry)) }
+{
+    let (word, words) = words.next(TextKind::Word)?;
+    match parse_voices(word.text, voices) {
+        Some(set) => Ok((set, words)),
+        None => Err(word.fault(TextKind::Word)),
+    }
+}
+
+/// Reads the words behind `relax`.
+#[tactic(auto, unfolding(crate::specs::Relaxing::relax_in))]
+fn relax_in(words: Words<'_>, ex: &Exercise) -> Result<Relax, TextFault>
+    requires { ex.now.voices ≤ 4 }
+    ensures { Gives (λ x. x) result (relax_in ex.now (words_of words.entry)) }
+{
+    let (rule, words) = rule_in(words)?;
+    let (voices, words) = set_in(words, ex.voices)?;
+    let (from, words) = words.small_number(TextKind::Word, 1, ex.bars)?;
+    let (to, words) = words.small_number(TextKind::Word, from, ex.bars)?;
+    let (price, words) = words.number(TextKind::Word, 0, 10_000)?;
+    words.done(TextKind::Word)?;
+    Ok(Relax {
+        rule,
+        voices,
+        from,
+        to,
+        price,
+    })
+}
+
+/// Reads a relax line.
+#[tactic(auto, unfolding(crate::specs::Relaxing::relax_line))]
+fn relax_line<'a>(text: Lines<'a>, ex: &Exercise) -> Result<(Relax, Lines<'a>), TextFault>
+    requires { ex.now.voices ≤ 4 }
+    ensures { Gives (λ x. (x.0, lines_of x.1)) result (relax_line ex.now (lines_of text.entry)) }
+{
+    let (words, text) = text.headed(TextKind::Head, b"relax")?;
+    let line = relax_in(words, ex)?;
+    Ok((line, text))
+}
+
+/// Whether the next line is a relax line that may stand behind those before.
+fn goes_on(text: Lines<'_>, before: &[Relax]) -> bool
+    ensures { result ≡ goes_on before.now (lines_of text.entry) }
+{
+    before.len() < MOST_RELAX && text.begins(b"relax")
+}
+
+/// Reads relax lines, as long as there are some, and up to the limit.
+pub fn relaxes_in<'a>(
+    alloc: Global,
+    text: Lines<'a>,
+    ex: &Exercise,
+) -> Result<(Vec<Relax>, Lines<'a>), TextFault>
+    requires { ex.now.voices ≤ 4 }
+    ensures { Gives (λ x. (x.0.items, lines_of x.1)) result (relaxes_in ex.now (lines_of text.entry)) }
+{
+    let mut lines = Vec::new(alloc);
+    let mut rest = text;
+    while goes_on(rest, &lines) {
+        let (line, behind) = relax_line(rest, ex)?;
+        lines.push(line)?;
+        rest = behind;
+    }
+    Ok((lines, rest))
+}
