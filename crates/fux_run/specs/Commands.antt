@@ -6,7 +6,7 @@ use Rattle.std.specs.Str.Parse.{digits_value}
 use Rattle.clap.specs.Simple.{on_top}
 use Rattle.clap.specs.Words.{App, Kinds, Row, Rule, Text, fault_of, first_of, matches_of, new_app, new_rule, with_rule}
 use Rattle.fux_run.specs.declared.command.Command.{Command}
-use Rattle.fux_run.specs.declared.command.Command.TheVariants.{Compose, Mark, Cantus}
+use Rattle.fux_run.specs.declared.command.Command.TheVariants.{Compose, Mark, Cantus, Print, ToSmf}
 
 -- words as their bytes
 abbrev pub texts : {Y : Type 0} → List (String Y) → List Text
@@ -17,12 +17,16 @@ pub data Task : Type 0 where
   compose : (name : Text) (budget : ℕ) → Task
   mark : (name : Text) → Task
   cantus : (name : Text) → Task
+  print : (name : Text) → Task
+  tosmf : (name : Text) → Task
 
 -- what a command asks for
 abbrev pub task_of : Command → Task
 task_of (Compose name budget) = compose name.now budget
 task_of (Mark name) = mark name.now
 task_of (Cantus name) = cantus name.now
+task_of (Print name) = print name.now
+task_of (ToSmf name) = tosmf name.now
 
 -- ---- the words behind the first, as `clap` takes them: EX, which must be there, and options, each once at most
 
@@ -36,11 +40,11 @@ option_word name = record (new_rule name) { long = Some name }
 abbrev pub words_of : Text → App
 words_of name = on_top (λ shape. record shape { no_binary_name = true }) (new_app name)
 
-abbrev pub mark_words : Text → App
-mark_words name = with_rule (words_of name) exercise_word
+abbrev pub exercise_words : Text → App
+exercise_words name = with_rule (words_of name) exercise_word
 
 abbrev pub compose_words : Text → App
-compose_words name = with_rule (mark_words name) (option_word (codes "budget"))
+compose_words name = with_rule (exercise_words name) (option_word (codes "budget"))
 
 -- a value where there is no fault
 abbrev pub if_faultless : {X : Type 0} → Kinds → X → Option X
@@ -72,20 +76,20 @@ abbrev pub compose_asked : List Row → Option Task
 compose_asked rows = option_and_then (λ name. option_map (compose name) (budget_in (first_of (codes "budget") rows)))
     (first_of (codes "EX") rows)
 
-abbrev pub mark_asked : List Row → Option Task
-mark_asked rows = option_map mark (first_of (codes "EX") rows)
-
-abbrev pub cantus_asked : List Row → Option Task
-cantus_asked rows = option_map cantus (first_of (codes "EX") rows)
+-- EX, in the words of a command that takes nothing else
+abbrev pub exercise_in : Text → List Text → Option Text
+exercise_in name words = option_and_then (first_of (codes "EX")) (found_in (exercise_words name) words)
 
 -- what the words ask for, if they are of a command's form
 abbrev pub asked : List Text → Option Task
 asked [] = None
 asked (word ∷ rest) =
     if bytes_eq word (codes "compose") then option_and_then compose_asked (found_in (compose_words word) rest)
-    else (if bytes_eq word (codes "mark") then option_and_then mark_asked (found_in (mark_words word) rest)
-    else (if bytes_eq word (codes "cantus") then option_and_then cantus_asked (found_in (mark_words word) rest)
-    else None))
+    else (if bytes_eq word (codes "mark") then option_map mark (exercise_in word rest)
+    else (if bytes_eq word (codes "cantus") then option_map cantus (exercise_in word rest)
+    else (if bytes_eq word (codes "print") then option_map print (exercise_in word rest)
+    else (if bytes_eq word (codes "tosmf") then option_map tosmf (exercise_in word rest)
+    else None))))
 
 -- ---- the files
 
@@ -94,6 +98,8 @@ abbrev pub name_in : Task → Text
 name_in (compose name budget) = name
 name_in (mark name) = name
 name_in (cantus name) = name
+name_in (print name) = name
+name_in (tosmf name) = name
 
 -- the names of the files that a command reads before its work, in the order of reading
 abbrev pub names_in : Task → List Text

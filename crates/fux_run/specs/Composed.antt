@@ -63,7 +63,7 @@ Tells ex budget Spent text = TellsBound ex budget text
 -- an output on an exercise none of whose menus is too wide
 pub record IsComposition (budget : ℕ) (ex : Exercise) (output : Output) : Type 0 where
   pub narrow : (i : ℕ) → i < columns_in ex → length (menu_of ex i) ≤ 8192
-  pub tells : Tells ex budget output.verdict output.text
+  pub tells : Tells ex budget output.verdict output.bytes
 
 -- a refusal of an exercise one of whose menus is too wide
 abbrev pub RefusesWidth : Exercise → Refusal → Type 0

@@ -2,6 +2,7 @@ pub mod Commands
 pub mod Complaints
 pub mod Composed
 pub mod Marked
+pub mod Rendered
 pub mod Runs
 pub mod Sinks
 pub mod Statuses

@@ -22,7 +22,7 @@ marks_verdict (mark ∷ marks) = Unfavorable
 pub record TellsMarks (ex : Exercise) (AreTheMarks : List Mark → Type 0) (output : Output) : Type 0 where
   pub marks : List Mark
   pub exact : AreTheMarks marks
-  pub text : output.text ≡ marks_text ex marks
+  pub bytes : output.bytes ≡ marks_text ex marks
   pub verdict : output.verdict ≡ marks_verdict marks
 
 -- an output tells the marks of an exercise's setting

@@ -21,7 +21,7 @@ work_status (Err refusal) = Refused
 
 -- the bytes that it writes to standard output
 abbrev pub work_output : Work → List ℕ
-work_output (Ok output) = output.text
+work_output (Ok output) = output.bytes
 work_output (Err refusal) = []
 
 -- the bytes that it writes to standard error, where the exercise has this name: an output has none
@@ -60,7 +60,7 @@ pub record IsWritten (old new : Option (List ℕ)) (said : Verdict) (work : Work
   pub output : Output
   pub is : work ≡ Ok output
   pub verdict : output.verdict ≡ said
-  pub written : new ≡ appended old output.text
+  pub written : new ≡ appended old output.bytes
 
 -- work that refuses a file of this name, as the text says
 pub record IsRefused (name text : List ℕ) (work : Work) : Type 0 where

@@ -9,9 +9,10 @@ use Rattle.fux_run.specs.declared.content.Content.TheVariants.{Whole, TooLong}
 use Rattle.fux_run.specs.declared.work.Output.{Output}
 use Rattle.fux_run.specs.declared.work.Stop.{Stop}
 use Rattle.fux_run.specs.declared.work.Stop.TheVariants.{Refused, Memory}
-use Rattle.fux_run.specs.Commands.{Task, compose, mark, cantus, names_in}
+use Rattle.fux_run.specs.Commands.{Task, compose, mark, cantus, print, tosmf, names_in}
 use Rattle.fux_run.specs.Composed.{Composes}
 use Rattle.fux_run.specs.Marked.{Marks, CantusMarks}
+use Rattle.fux_run.specs.Rendered.{Prints, WritesSmf}
 use Rattle.fux_run.specs.Texts.{Work, OnText}
 
 -- a command makes this of an exercise
@@ -19,6 +20,8 @@ abbrev pub MakesOf : Task → Exercise → Work → Type 0
 MakesOf (compose name budget) ex = Composes budget ex
 MakesOf (mark name) ex = Marks ex
 MakesOf (cantus name) ex = CantusMarks ex
+MakesOf (print name) ex = Prints ex
+MakesOf (tosmf name) ex = WritesSmf ex
 
 -- a command makes this of the text of an exercise
 abbrev pub MakesOfText : Task → List ℕ → Work → Type 0

@@ -3,7 +3,7 @@
 ghost use Rattle.std.specs.Prelude.{◌≡◌, ℕ, IfOk, IfSome, Some, codes, true, option_and_then, option_map};
 ghost use Rattle.std.specs.Fmt.{decimal};
 ghost use Rattle.clap.specs.Words.{app_of, found_of, is_simple_and_free, rows_of};
-ghost use Rattle.fux_run.specs.Commands.{IsBudget, asked, budget_in, cantus_asked, compose_asked, compose_words, found_in, mark_asked, mark_words, name_in, task_of, texts};
+ghost use Rattle.fux_run.specs.Commands.{IsBudget, asked, budget_in, cantus, compose_asked, compose_words, exercise_in, exercise_words, found_in, mark, name_in, print, task_of, texts, tosmf};
 
 use clap::error::ErrorKind;
 use clap::{Arg, ArgMatches};
@@ -19,6 +19,10 @@ pub enum Command<'a> {
     Mark { name: &'a str },
     /// The marks of a cantus firmus.
     Cantus { name: &'a str },
+    /// The printed score of a setting.
+    Print { name: &'a str },
+    /// The MIDI file of a setting.
+    ToSmf { name: &'a str },
 }
 
 impl<'a> Command<'a> {
@@ -27,8 +31,11 @@ impl<'a> Command<'a> {
         ensures { result.now ≡ name_in (task_of self.entry) }
     {
         match self {
-            Command::Compose { name, .. } | Command::Mark { name } | Command::Cantus { name } =>
-                name,
+            Command::Compose { name, .. }
+            | Command::Mark { name }
+            | Command::Cantus { name }
+            | Command::Print { name }
+            | Command::ToSmf { name } => name,
         }
     }
 }
@@ -48,6 +55,8 @@ pub fn parse(alloc: Global, words: &[String]) -> Result<Option<Command<'_>>, Mem
         "compose" => parse_compose(alloc, rest),
         "mark" => parse_mark(alloc, rest),
         "cantus" => parse_cantus(alloc, rest),
+        "print" => parse_print(alloc, rest),
+        "tosmf" => parse_tosmf(alloc, rest),
         _ => Ok(None),
     }
 }
@@ -72,12 +81,9 @@ fn parse_compose(alloc: Global, words: &[String]) -> Result<Option<Command<'_>>,
 /// The words behind `mark`.
 fn parse_mark(alloc: Global, words: &[String]) -> Result<Option<Command<'_>>, Memory>
     ensures { IfOk result (λ found. option_map task_of found
-        ≡ option_and_then mark_asked (found_in (mark_words (codes "mark")) (texts words.now))) }
+        ≡ option_map mark (exercise_in (codes "mark") (texts words.now))) }
 {
-    let Some(matches) = taken(exercise_command(alloc, "mark")?, words)? else {
-        return Ok(None);
-    };
-    let Some(name) = matches.get_str("EX") else {
+    let Some(name) = exercise_name(alloc, "mark", words)? else {
         return Ok(None);
     };
     Ok(Some(Command::Mark { name }))
@@ -86,20 +92,54 @@ fn parse_mark(alloc: Global, words: &[String]) -> Result<Option<Command<'_>>, Me
 /// The words behind `cantus`.
 fn parse_cantus(alloc: Global, words: &[String]) -> Result<Option<Command<'_>>, Memory>
     ensures { IfOk result (λ found. option_map task_of found
-        ≡ option_and_then cantus_asked (found_in (mark_words (codes "cantus")) (texts words.now))) }
+        ≡ option_map cantus (exercise_in (codes "cantus") (texts words.now))) }
 {
-    let Some(matches) = taken(exercise_command(alloc, "cantus")?, words)? else {
-        return Ok(None);
-    };
-    let Some(name) = matches.get_str("EX") else {
+    let Some(name) = exercise_name(alloc, "cantus", words)? else {
         return Ok(None);
     };
     Ok(Some(Command::Cantus { name }))
 }
 
+/// The words behind `print`.
+fn parse_print(alloc: Global, words: &[String]) -> Result<Option<Command<'_>>, Memory>
+    ensures { IfOk result (λ found. option_map task_of found
+        ≡ option_map print (exercise_in (codes "print") (texts words.now))) }
+{
+    let Some(name) = exercise_name(alloc, "print", words)? else {
+        return Ok(None);
+    };
+    Ok(Some(Command::Print { name }))
+}
+
+/// The words behind `tosmf`.
+fn parse_tosmf(alloc: Global, words: &[String]) -> Result<Option<Command<'_>>, Memory>
+    ensures { IfOk result (λ found. option_map task_of found
+        ≡ option_map tosmf (exercise_in (codes "tosmf") (texts words.now))) }
+{
+    let Some(name) = exercise_name(alloc, "tosmf", words)? else {
+        return Ok(None);
+    };
+    Ok(Some(Command::ToSmf { name }))
+}
+
+/// EX, in the words of the command of this name, which takes nothing else.
+fn exercise_name<'a>(
+    alloc: Global,
+    command: &'static str,
+    words: &'a [String],
+) -> Result<Option<&'a str>, Memory>
+    ensures { IfOk result (λ found. option_map (λ name. name.now) found
+        ≡ exercise_in command.now (texts words.now)) }
+{
+    let Some(matches) = taken(exercise_command(alloc, command)?, words)? else {
+        return Ok(None);
+    };
+    Ok(matches.get_str("EX"))
+}
+
 /// A command of `clap` with an exercise.
 fn exercise_command<'a>(alloc: Global, name: &'a str) -> Result<clap::Command<'a>, AllocError>
-    ensures { IfOk result (λ command. app_of command ≡ mark_words name.entry.now) }
+    ensures { IfOk result (λ command. app_of command ≡ exercise_words name.entry.now) }
 {
     let exercise = Arg::new(alloc, "EX").required(true);
     clap::Command::new(alloc, name)

@@ -1,6 +1,6 @@
 //! The command `compose`.
 
-ghost use Rattle.std.specs.Prelude.{◌≡◌, IfOk};
+ghost use Rattle.std.specs.Prelude.{◌≡◌, IfOk, string_bytes};
 ghost use Rattle.fux_grid.specs.Exercises.{IsValid, columns_in};
 ghost use Rattle.species_space.specs.Paths.{live_at};
 ghost use Rattle.tree_search.specs.Answer.{IsFirstLeast};
@@ -10,7 +10,7 @@ ghost use Rattle.fux_run.specs.Works.{Answers};
 use crate::refusal::Refusal;
 use crate::work::{Output, Stop, Verdict};
 use fux_grid::Exercise;
-use fux_pitch::{Label, Memory};
+use fux_pitch::Memory;
 use fux_text::write;
 use penalty_sheet::default_sheet;
 use species_space::{SpeciesSpace, TableFault, score_of};
@@ -50,21 +50,15 @@ fn search(
 ) -> Result<Output, Memory>
     requires valid { IsValid exercise.now }
     requires space { space.now ≡ record { exercise = exercise.now; sheet = usual_sheet } }
-    ensures { IfOk result (λ output. Tells exercise.now budget output.verdict output.text) }
+    ensures { IfOk result (λ output. Tells exercise.now budget output.verdict output.bytes) }
 {
     match search_depth(alloc, space, budget)? {
-        Outcome::Found { path, value } => Ok(Output {
-            verdict: Verdict::Favorable,
-            text: best_text(alloc, exercise, space, path.as_slice(), value)?,
-        }),
-        Outcome::Nothing => Ok(Output {
-            verdict: Verdict::Unfavorable,
-            text: none_text(alloc)?,
-        }),
-        Outcome::Spent { bound } => Ok(Output {
-            verdict: Verdict::Spent,
-            text: bound_text(alloc, bound)?,
-        }),
+        Outcome::Found { path, value } => Ok(Output::of_text(
+            Verdict::Favorable,
+            best_text(alloc, exercise, space, path.as_slice(), value)?,
+        )),
+        Outcome::Nothing => Ok(Output::of_text(Verdict::Unfavorable, none_text(alloc)?)),
+        Outcome::Spent { bound } => Ok(Output::of_text(Verdict::Spent, bound_text(alloc, bound)?)),
     }
 }
 
@@ -75,32 +69,32 @@ fn best_text(
     space: &SpeciesSpace<'_>,
     path: &[u16],
     penalty: u64,
-) -> Result<Label, Memory>
+) -> Result<String, Memory>
     requires valid { IsValid exercise.now }
     requires space { space.now ≡ record { exercise = exercise.now; sheet = usual_sheet } }
     requires first { IsFirstLeast (live_at exercise.now usual_sheet) (columns_in exercise.now) path.now penalty }
-    ensures { IfOk result (TellsBest exercise.now) }
+    ensures { IfOk result (λ text. TellsBest exercise.now (string_bytes text)) }
 {
     let score = score_of(alloc, space, path)?;
     let mut text = write(alloc, exercise, Some(&score))?;
     write!(text, "; penalty {penalty}\n")?;
-    Ok(Label::new(text))
+    Ok(text)
 }
 
 /// That there is none.
-fn none_text(alloc: Global) -> Result<Label, Memory>
-    ensures { IfOk result (λ text. text ≡ none_line) }
+fn none_text(alloc: Global) -> Result<String, Memory>
+    ensures { IfOk result (λ text. string_bytes text ≡ none_line) }
 {
     let mut text = String::new(alloc);
     text.push_str("none\n")?;
-    Ok(Label::new(text))
+    Ok(text)
 }
 
 /// A bound.
-fn bound_text(alloc: Global, bound: u64) -> Result<Label, Memory>
-    ensures { IfOk result (λ text. text ≡ bound_line bound) }
+fn bound_text(alloc: Global, bound: u64) -> Result<String, Memory>
+    ensures { IfOk result (λ text. string_bytes text ≡ bound_line bound) }
 {
     let mut text = String::new(alloc);
     write!(text, "spent, at least {bound}\n")?;
-    Ok(Label::new(text))
+    Ok(text)
 }

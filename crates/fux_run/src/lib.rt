@@ -9,6 +9,7 @@ mod exercise;
 mod marking;
 mod perform;
 mod refusal;
+mod rendering;
 mod status;
 mod top_call;
 mod work;

@@ -9,7 +9,7 @@ ghost use Rattle.fux_run.specs.Works.{Answers};
 use crate::refusal::Refusal;
 use crate::work::{Output, Stop, Verdict};
 use fux_grid::{Exercise, Score};
-use fux_pitch::{Label, Memory};
+use fux_pitch::Memory;
 use score_marker::{Mark, cantus_marks, marks, marks_text};
 use std::alloc::Global;
 
@@ -31,10 +31,7 @@ fn setting_output(alloc: Global, ex: &Exercise, score: &Score) -> Result<Output,
 {
     let marks = marks(alloc, ex, score)?;
     let text = marks_text(alloc, ex, &marks)?;
-    Ok(Output {
-        verdict: verdict_of(&marks),
-        text: Label::new(text),
-    })
+    Ok(Output::of_text(verdict_of(&marks), text))
 }
 
 /// The marks of the setting of an exercise.
@@ -55,8 +52,5 @@ pub fn cantus(alloc: Global, ex: &Exercise) -> Result<Output, Stop>
 {
     let marks = cantus_marks(alloc, ex)?;
     let text = marks_text(alloc, ex, &marks)?;
-    Ok(Output {
-        verdict: verdict_of(&marks),
-        text: Label::new(text),
-    })
+    Ok(Output::of_text(verdict_of(&marks), text))
 }

@@ -14,6 +14,7 @@ use crate::content::{Content, read_content};
 use crate::exercise::{LONGEST_TEXT, exercise_of};
 use crate::marking::{cantus, mark};
 use crate::refusal::{Refusal, refusal_text};
+use crate::rendering::{print, to_smf};
 use crate::work::{Output, Stop, Verdict};
 use fux_pitch::Memory;
 use fux_port::{Failed, Shelf, Sink, write_all};
@@ -36,7 +37,7 @@ pub fn perform<'a, F: Shelf, K: Sink, R: Threads + Sync>(
     let name = command.name();
     let text = read_content(alloc, shelf, name, LONGEST_TEXT)?;
     match answer(rt, alloc, command, &text) {
-        Ok(output) => match write_all(out, output.text.as_str().as_bytes()) {
+        Ok(output) => match write_all(out, output.bytes.as_slice()) {
             Ok(()) => Ok(output.verdict),
             Err(Failed) => Err(Complaint::Unwritable),
         },
@@ -60,6 +61,8 @@ fn answer<R: Threads + Sync>(
         Command::Compose { budget, .. } => compose(rt, alloc, &exercise, budget),
         Command::Mark { .. } => mark(alloc, &exercise),
         Command::Cantus { .. } => cantus(alloc, &exercise),
+        Command::Print { .. } => print(alloc, &exercise),
+        Command::ToSmf { .. } => to_smf(alloc, &exercise),
     }
 }
 

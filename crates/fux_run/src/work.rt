@@ -1,16 +1,16 @@
 //! What the commands make of an exercise.
 
-ghost use Rattle.std.specs.Prelude.{◌≡◌};
+ghost use Rattle.std.specs.Prelude.{◌≡◌, string_bytes};
 ghost use Rattle.fux_run.specs.declared.work.Stop.TheVariants as stop;
 
 use crate::refusal::Refusal;
-use fux_pitch::{Label, Memory};
+use fux_pitch::{List, Memory};
 use std::alloc::AllocError;
 
 /// What an output says, all in all.
 #[derive(Clone, Copy, Debug, PartialEq, Eq)]
 pub enum Verdict {
-    /// There is a best setting, or there is no mark.
+    /// There is a best setting, there is no mark, or the setting is written in another form.
     Favorable,
     /// No setting is lawful, or there is a mark.
     Unfavorable,
@@ -18,11 +18,30 @@ pub enum Verdict {
     Spent,
 }
 
-/// What a command writes to standard output: whole lines.
+/// What a command writes to standard output: whole lines, or a MIDI file.
 #[derive(Drop)]
 pub struct Output {
     pub verdict: Verdict,
-    pub text: Label,
+    pub bytes: List<u8>,
+}
+
+impl Output {
+    /// An output of this text. It takes no memory.
+    pub fn of_text(verdict: Verdict, text: String) -> Output
+        ensures { result ≡ record { verdict = verdict; bytes = string_bytes text } }
+    {
+        Output::of_bytes(verdict, text.into_bytes())
+    }
+
+    /// An output of these bytes. It takes no memory.
+    pub fn of_bytes(verdict: Verdict, bytes: Vec<u8>) -> Output
+        ensures { result ≡ record { verdict = verdict; bytes = bytes.items } }
+    {
+        Output {
+            verdict,
+            bytes: List::new(bytes),
+        }
+    }
 }
 
 /// Why a command makes no output.

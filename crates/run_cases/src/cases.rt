@@ -11,6 +11,8 @@
 //!
 //! with a line for each file. Texts have the escapes of byte strings: `\n`, `\t`, `\r`, `\\`, `\"` and `\xNN`.
 
+ghost use Rattle.std.specs.Prelude.{◌<◌};
+
 use fux_port::{MemShelf, MemSink};
 use fux_run::run;
 use std::alloc::{AllocError, Global};

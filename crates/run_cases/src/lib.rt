@@ -6,6 +6,8 @@ mod cases;
 #[cfg(test)]
 mod devices;
 #[cfg(test)]
+mod forms;
+#[cfg(test)]
 mod long_files;
 #[cfg(test)]
 mod table;

@@ -34,7 +34,10 @@ cantus A|fux 1/mode dorian/voices 2/bars 3/species 1 voice 1/cantus 0 D4 B4 D4/r
 |@|2||fux: usage/
 compose|@|2||fux: usage/
 Compose A|@|2||fux: usage/
-print A|@|2||fux: usage/
+print A|@|3||fux: no setting/
+tosmf A|@|3||fux: no setting/
+print A B|@|2||fux: usage/
+play A|@|2||fux: usage/
 mark A B|@|2||fux: usage/
 mark A --budget 7|@|2||fux: usage/
 compose A --budget|@|2||fux: usage/

@@ -35,7 +35,7 @@ returns c =
       best = best.0;
       cantus = prefix_has_cantus ex s c.requires.valid.cantus_there best.0.lawful.setting.prefix;
       spelled =
-          c.new.ensures ∙ c.in_ok-write.ensures.bytes
+          c.in_ok-write.ensures.bytes
           ∙ ap (λ text. text ++ penalty_line c.args.penalty) (c.in_ok-text.ensures ∙ ap (λ score. setting_text ex score.columns) c.in_ok-score.ensures ∙ ap (λ task. setting_text ex (prefix_at task.exercise path)) c.requires.space)
           ∙ ap (λ n. setting_text ex s ++ penalty_line n) (sym best.1);
     }

@@ -1,5 +1,6 @@
 use Rattle.fux_run.specs.Composed.{Composes}
 use Rattle.fux_run.specs.Marked.{CantusMarks, Marks}
+use Rattle.fux_run.specs.Rendered.{Prints, WritesSmf}
 use Rattle.fux_run.proofs.TextLemmas.{answers_text}
 use Rattle.fux_run.proofs.perform.answer.Goals as goal
 
@@ -20,6 +21,20 @@ pub returns-in-Mark : goal.returns-in-Mark
 returns-in-Mark g c = λ bytes content.
     rw c.in-Mark.is (answers_text Marks bytes c.in_ok-exercise.exercise (c.in_ok-exercise.ensures.reads bytes content) c.mark.result c.mark.ensures)
 
+pub print-requires : goal.print-requires
+print-requires g c = c.in_ok-exercise.ensures.valid
+
+pub to_smf-requires : goal.to_smf-requires
+to_smf-requires g c = c.in_ok-exercise.ensures.valid
+
+pub returns-in-Cantus : goal.returns-in-Cantus
+returns-in-Cantus g c = λ bytes content.
+    rw c.in-Cantus.is (answers_text CantusMarks bytes c.in_ok-exercise.exercise (c.in_ok-exercise.ensures.reads bytes content) c.cantus.result c.cantus.ensures)
+
+pub returns-in-Print : goal.returns-in-Print
+returns-in-Print g c = λ bytes content.
+    rw c.in-Print.is (answers_text Prints bytes c.in_ok-exercise.exercise (c.in_ok-exercise.ensures.reads bytes content) c.print.result c.print.ensures)
+
 pub returns : goal.returns
 returns g c = λ bytes content.
-    rw c.in-Cantus.is (answers_text CantusMarks bytes c.in_ok-exercise.exercise (c.in_ok-exercise.ensures.reads bytes content) c.cantus.result c.cantus.ensures)
+    rw c.in-ToSmf.is (answers_text WritesSmf bytes c.in_ok-exercise.exercise (c.in_ok-exercise.ensures.reads bytes content) c.to_smf.result c.to_smf.ensures)

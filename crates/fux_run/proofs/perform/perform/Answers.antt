@@ -10,7 +10,7 @@ returns-in-Ok-write_all-clause-ended g c =
     works_on (task_of c.args.command) (g.F.Shelf.files c.args.shelf.now) c.name-name.result.now c.in_ok-text.text (Ok c.in-Ok.output)
     (IsWritten (g.K.Sink.written c.args.out.now) (g.K.Sink.written c.write_all.new.sink) c.in-Ok.output.verdict)
     c.name-name.ensures c.in_ok-text.ensures.reads c.in-Ok.ensures
-    record { output = c.in-Ok.output; is = refl; verdict = refl; written = rw (c.as_bytes.ensures.value, c.as_str.ensures) at c.in-Ok-write_all.ensures.ok }
+    record { output = c.in-Ok.output; is = refl; verdict = refl; written = rw c.as_slice.ensures at c.in-Ok-write_all.ensures.ok }
 
 pub returns-in-Ok-clause-ended : goal.returns-in-Ok-clause-ended
 returns-in-Ok-clause-ended g c = (
@@ -18,7 +18,7 @@ returns-in-Ok-clause-ended g c = (
   works_on (task_of c.args.command) (g.F.Shelf.files c.args.shelf.now) c.name-name.result.now c.in_ok-text.text (Ok c.in-Ok.output)
       (λ work. StopsShort (g.K.Sink.written c.args.out.now) (g.K.Sink.written c.write_all.new.sink) (work_output work))
       c.name-name.ensures c.in_ok-text.ensures.reads c.in-Ok.ensures
-      (rw (c.as_bytes.ensures.value, c.as_str.ensures) at c.in-Err.ensures.err),
+      (rw c.as_slice.ensures at c.in-Err.ensures.err),
 )
 
 pub returns-in-Err-Refused-clause-ended : goal.returns-in-Err-Refused-clause-ended
