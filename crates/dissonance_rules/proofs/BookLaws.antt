@@ -52,6 +52,8 @@ tolls_keep n = record {
   ends = cost_settles_at_end n;
   at_once = λ e ex i behind now ahead. refl;
   quiet = λ e ex i behind now h. quiet_tolls ex i now h n (newest_column behind) (previous_pitches behind);
+  places = λ e. cc;
+  within = λ ex i. omega arith;
 }
 
 pub keeps_laws : KeepsLaws book

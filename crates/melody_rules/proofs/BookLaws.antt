@@ -54,6 +54,8 @@ tolls_keep n = record {
   ends = melody_tolls_settle_at_end n;
   at_once = λ e ex i behind now ahead. refl;
   quiet = λ e. toll_quiet n;
+  places = λ e. cc;
+  within = λ ex i. omega arith;
 }
 
 pub keeps_laws : KeepsLaws book

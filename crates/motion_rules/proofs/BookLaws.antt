@@ -48,6 +48,8 @@ tolls_keep n = record {
   ends = cost_settles_at_end n;
   at_once = λ e ex i behind now ahead. refl;
   quiet = λ e. toll_quiet n;
+  places = λ e. cc;
+  within = λ ex i. omega arith;
 }
 
 pub keeps_laws : KeepsLaws book

@@ -3,6 +3,7 @@
 
 mod afterbeats;
 mod bar_lines;
+mod book;
 mod clear;
 mod inner_voices;
 mod motion;
@@ -11,6 +12,7 @@ mod tolls;
 
 pub use afterbeats::breaks_afterbeat;
 pub use bar_lines::{BarLines, imperfect_runs_after, no_bar_lines, noted};
+pub use book::book_is_lawful;
 pub use clear::are_clear;
 pub use inner_voices::inner_moves;
 pub use motion::Motion;

@@ -1,4 +1,5 @@
 pub mod After
+pub mod AtOnce
 pub mod Bars
 pub mod BothLaw
 pub mod Degrees
@@ -11,6 +12,7 @@ pub mod Leading
 pub mod LowerVoices
 pub mod NearLaw
 pub mod Nearby
+pub mod Newest
 pub mod OrderlyLaw
 pub mod Pairs
 pub mod Places

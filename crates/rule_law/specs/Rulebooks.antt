@@ -17,8 +17,9 @@ use Rattle.rule_law.specs.Places.{Reading, Row, IsLocal, SettlesAtEnd, reading_o
 use Rattle.rule_law.specs.Prefixes.{GoesOn}
 use Rattle.rule_law.specs.Quiet.{is_quiet}
 
--- a rule: its sets of voices, how much it's read from, where it may stand, whether it may be settled later than at its own
--- column, and its rows: what breaks it for a set of voices, and which columns are enough to settle that
+-- a rule: its sets of voices, how much it's read from, where it may stand, whether it is late, and its rows: what breaks it for a
+-- set of voices, and which columns are enough to settle that. A late rule is read when its column is among the newest ones, so it may
+-- be settled later than at its own column
 pub record RuleRow : Type 0 where
   pub form : Form
   pub kind : Kind
@@ -82,6 +83,10 @@ pub record KeepsTollLaws (it : TollRow) : Type 0 where
       → it.enough ex i behind now ahead ≡ true
   pub quiet : it.late ≡ false → (ex : Exercise) (i : ℕ) (behind : List (List Cell)) (now : List Cell)
       → is_quiet i now ≡ true → it.cost ex i behind now [] ≡ 0
+  -- after an orderly prefix a column settles costs at its places alone, none of them behind it
+  pub places : it.late ≡ true → (ex : Exercise) (p : List (List Cell)) (col : List Cell) (i : ℕ)
+      → GoesOn ex p (col ∷ []) → 0 < newly_costs it ex p col i → IsAmong (it.first ex (length p)) (it.count ex (length p)) i
+  pub within : (ex : Exercise) (i : ℕ) → it.first ex i + it.count ex i ≤ i + 1
 
 -- what a crate has: which numbers are those of its rules and tolls, and each by its number
 pub record Rulebook : Type 0 where
@@ -164,6 +169,8 @@ no_toll_keeps = record {
   ends = λ ex. at_once_settles ex;
   at_once = λ e ex i behind now ahead. refl;
   quiet = λ e ex i behind now h. refl;
+  places = λ e. cc;
+  within = λ ex i. omega arith;
 }
 
 pub nothing_keeps : KeepsAllLaws nothing

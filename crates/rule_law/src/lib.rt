@@ -9,6 +9,7 @@ mod gauge;
 mod latest;
 mod leading;
 mod near;
+mod newest;
 mod pairs;
 mod rule;
 mod sets;
@@ -24,6 +25,7 @@ pub use gauge::{Gauge, menu_starts, starts_ahead};
 pub use latest::{Latest, latest_before, latest_of_column};
 pub use leading::is_leading;
 pub use near::{Near, cells_of};
+pub use newest::{ColumnCells, NewestColumns};
 pub use pairs::{
     both_move, move_alike, move_into_perfect, one_starts, sound_perfect, sound_same_key,
 };

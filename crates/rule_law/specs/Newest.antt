@@ -1,0 +1,19 @@
+-- The newest columns of a list: three bars of them are kept.
+use Rattle.std.specs.Prelude.{◌≡◌, ℕ, ◌+◌, ◌%◌, ◌<◌, ◌≤◌, List, [], ◌∷◌, length, take, slice_index_or}
+use Rattle.fux_grid.specs.declared.cell.Cell.{Cell}
+use Rattle.fux_grid.specs.declared.cell.Cell.TheVariants.{Rest}
+use Rattle.rule_law.specs.declared.newest.ColumnCells.{ColumnCells}
+use Rattle.rule_law.specs.declared.newest.NewestColumns.{NewestColumns}
+
+-- four voices that rest
+abbrev pub silent : ColumnCells
+silent = record { cells = Rest ∷ Rest ∷ Rest ∷ Rest ∷ [] }
+
+-- what is kept of column i, of so many voices
+abbrev pub kept_column : ℕ → NewestColumns → ℕ → List Cell
+kept_column voices kept i = take voices (slice_index_or kept.columns (i % 24) silent).cells
+
+-- the columns of the list, the oldest first, are so many, and the newest 24 are kept
+pub record AreNewestOf (voices : ℕ) (s : List (List Cell)) (kept : NewestColumns) : Type 0 where
+  pub count : kept.len ≡ length s
+  pub columns : (i : ℕ) → i < length s → length s ≤ i + 24 → kept_column voices kept i ≡ slice_index_or s i []
