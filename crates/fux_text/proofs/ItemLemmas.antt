@@ -6,7 +6,7 @@ use Rattle.fux_grid.specs.declared.cell.Cell.TheVariants.{Rest}
 use Rattle.fux_text.specs.Items.{goes_on, with_run, items_of_cells}
 
 -- the items of some cells begin with their first cell, so a cell with which that doesn't go on is an item of its own
-with_run-broken : (c d : Cell) (n m : ℕ) (items : List (Cell × ℕ)) → goes_on c d ≡ false → with_run c n (with_run d m items) ≡ (c, n) ∷ with_run d m items
+pub with_run-broken : (c d : Cell) (n m : ℕ) (items : List (Cell × ℕ)) → goes_on c d ≡ false → with_run c n (with_run d m items) ≡ (c, n) ∷ with_run d m items
 with_run-broken c d n m [] h = rw h refl
 with_run-broken c d n m (item ∷ items) h = by_test (goes_on d item.0) refl
   where

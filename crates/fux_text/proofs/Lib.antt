@@ -19,3 +19,12 @@ pub mod ValidRanges
 pub mod ValidRelax
 pub mod ValidSetting
 pub mod ValidText
+pub mod PlainWords
+pub mod OwnHead
+pub mod OwnRanges
+pub mod OwnRelax
+pub mod OwnItems
+pub mod OwnBars
+pub mod OwnSetting
+pub mod PlainLines
+pub mod OwnText

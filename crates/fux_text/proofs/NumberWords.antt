@@ -1,5 +1,5 @@
 -- The digits of a number are read as that number (`number-own`).
-use Rattle.std.proofs.Common.{◌≡◌, ℕ, zero, suc, ◌+◌, ◌*◌, ◌/◌, ◌%◌, ◌<◌, ◌≤◌, Bool, true, false, List, [], ◌∷◌, ◌++◌, get_or, length, Option, Some, None, refl, sym, ap, subst, ◌∙◌, arith}
+use Rattle.std.proofs.Common.{◌≡◌, ℕ, zero, suc, ◌+◌, ◌*◌, ◌/◌, ◌%◌, ◌<◌, ◌≤◌, Bool, true, false, List, [], ◌∷◌, ◌++◌, get_or, length, Some, None, refl, sym, ap, subst, ◌∙◌, arith}
 use Rattle.std.specs.Prelude.{◌-◌, ◌^◌, ◌==◌, ◌&&◌, not, nat_le, if◌then◌else◌}
 use Rattle.std.specs.Fmt.{decimal}
 use Rattle.std.specs.Option.{option_and_then}
@@ -61,7 +61,7 @@ number-own zero h = subst (λ ds. number_of ds ≡ Some 0) (sym (decimal_digit 0
 number-own (suc n) h =
     first-not_zero (suc n) (decimal (suc n)) (digits-own (suc n) (omega arith) h) (first_decimal (suc n) (omega arith) (omega arith))
 
-if_within-own : (least most n : ℕ) → least ≤ n → n ≤ most → if_within least most n ≡ Some n
+pub if_within-own : (least most n : ℕ) → least ≤ n → n ≤ most → if_within least most n ≡ Some n
 if_within-own least most n low high = rw (le_true least n low, le_true n most high) refl
 
 -- and where it lies within bounds, so does what is read

@@ -103,10 +103,11 @@ abbrev Begun : List RangeLine → Type 0
 Begun [] = ⊤
 Begun (line ∷ lines) = BeginsWithWhole (line ∷ lines)
 
-abbrev of_voice : ℕ → List RangeLine → List RangeLine
+abbrev pub of_voice : ℕ → List RangeLine → List RangeLine
 of_voice v lines = filter (λ line. line.voice == v) lines
 
-any-none : (v : ℕ) (lines : List RangeLine) → of_voice v lines ≡ [] → has_line lines v ≡ false
+-- a voice has a range line just where one of these lines is its own
+pub any-none : (v : ℕ) (lines : List RangeLine) → of_voice v lines ≡ [] → has_line lines v ≡ false
 any-none v [] e = refl
 any-none v (l ∷ ls) e = by (l.voice == v) (any-none v ls) e
   where
@@ -115,7 +116,7 @@ any-none v (l ∷ ls) e = by (l.voice == v) (any-none v ls) e
     by true rest e = absurd (grind (arith, e))
     by false rest e = rest e
 
-any-some : (v : ℕ) (lines : List RangeLine) (first : RangeLine) (others : List RangeLine) → of_voice v lines ≡ first ∷ others
+pub any-some : (v : ℕ) (lines : List RangeLine) (first : RangeLine) (others : List RangeLine) → of_voice v lines ≡ first ∷ others
     → has_line lines v ≡ true
 any-some v [] first others e = absurd (grind (arith, e))
 any-some v (l ∷ ls) first others e = by (l.voice == v) (any-some v ls first others) e

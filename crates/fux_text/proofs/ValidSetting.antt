@@ -19,7 +19,7 @@ use Rattle.fux_text.proofs.Following.{value_is, voices-length}
 use Rattle.fux_text.proofs.ScoreLoops.{column-cell}
 
 -- the cell of the cantus at a column
-abbrev cell_at : List Pitch → ℕ → Option Cell
+abbrev pub cell_at : List Pitch → ℕ → Option Cell
 cell_at cantus i = option_map (cantus_cell i) (slice_get cantus (i / 8))
 
 cell_at-later : (p : Pitch) (ps : List Pitch) (j : ℕ) → cell_at (p ∷ ps) (8 + j) ≡ cell_at ps j
@@ -29,7 +29,7 @@ cell_at-later p ps j =
     ap (λ k. option_map (cantus_cell (8 + j)) (slice_get (p ∷ ps) k)) q
     ∙ ap (λ m. option_map (λ x. if m == 0 then Start x else Hold x) (slice_get ps (j / 8))) r
 
-cantus_cells-at : (cantus : List Pitch) (i : ℕ) → i < 8 * length cantus → cell_at cantus i ≡ Some (cell_in (cantus_cells cantus) i)
+pub cantus_cells-at : (cantus : List Pitch) (i : ℕ) → i < 8 * length cantus → cell_at cantus i ≡ Some (cell_in (cantus_cells cantus) i)
 unfolding cantus_cells
 cantus_cells-at [] i lt = absurd (omega arith)
 cantus_cells-at (p ∷ ps) zero lt = refl

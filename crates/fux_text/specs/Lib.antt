@@ -3,6 +3,7 @@ pub mod Items
 pub mod Lines
 pub mod Names
 pub mod Ranges
+pub mod ReadBack
 pub mod Reading
 pub mod Relaxing
 pub mod Sing

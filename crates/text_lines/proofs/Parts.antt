@@ -30,7 +30,7 @@ first_part p xs i h =
 pub one_part : (p : ℕ → Bool) (xs : List ℕ) → length xs ≤ position_or_len p xs → slice_split p xs ≡ xs ∷ []
 one_part p xs h = slice_split_none p xs (λ k d lt. fails_before_first p xs k d (omega arith))
 
-lines_of_parts-more : (x : List ℕ) (parts : List (List ℕ)) → 0 < length parts
+pub lines_of_parts-more : (x : List ℕ) (parts : List (List ℕ)) → 0 < length parts
     → lines_of_parts (x ∷ parts) ≡ strip_carriage_return x ∷ lines_of_parts parts
 lines_of_parts-more x [] some = absurd (omega arith)
 lines_of_parts-more x (y ∷ more) some = refl

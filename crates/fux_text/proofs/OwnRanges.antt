@@ -1,0 +1,207 @@
+-- The range lines of a valid exercise are read back (`ranges-own`).
+use Rattle.std.proofs.Common.{◌≡◌, ◌≢◌, ℕ, suc, ◌+◌, ◌<◌, ◌≤◌, ◌≤ℤ◌, Bool, true, false, List, [], ◌∷◌, ◌++◌, get_or, map, Option, Some, None, Ok, refl, sym, ap, subst, ◌∙◌, append_assoc, arith}
+use Rattle.std.specs.Prelude.{◌==◌, ◌||◌, All, codes, int_lt, IfSome, IsSome, ⊤}
+use Rattle.std.specs.Fmt.{decimal}
+use Rattle.std.specs.List.{range_with_len}
+use Rattle.std.proofs.lemmas.Int.{ints}
+use Rattle.std.proofs.lemmas.List.{append-nil}
+use Rattle.std.proofs.lemmas.List.Elements.{filter-append}
+use Rattle.std.proofs.lemmas.List.FromFn.{get_or-range_with_len, length-range_with_len}
+use Rattle.std.proofs.lemmas.List.Sums.{list_all-from_AllPass}
+use Rattle.fux_pitch.specs.declared.pitch.Pitch.{Pitch}
+use Rattle.fux_pitch.specs.Names.{name_of}
+use Rattle.fux_pitch.specs.Pitch.{key_of}
+use Rattle.fux_grid.specs.declared.exercise.Exercise.{Exercise}
+use Rattle.fux_grid.specs.declared.exercise.RangeLine.{RangeLine}
+use Rattle.fux_grid.specs.Exercises.{BeginsWithWhole, IsFree, IsRangeLine, range_lines}
+use Rattle.text_lines.specs.Reading.{begins, done, headed, literal, next, number_in}
+use Rattle.text_lines.specs.Words.{LineWords}
+use Rattle.fux_text.specs.Head.{other_voice_in, pitch_in}
+use Rattle.fux_text.specs.Lines.{bars_words, range_words}
+use Rattle.fux_text.specs.Ranges.{all_ranged, bars_in, bars_of_later, has_line, high_in, misfits, range_in, range_line, ranges_in, ranges_on}
+use Rattle.fux_text.proofs.NumberWords.{within-own}
+use Rattle.fux_text.proofs.OwnHead.{at_words, left, other_voice-own, with_line}
+use Rattle.fux_text.proofs.OwnWords.{pitch-own}
+use Rattle.fux_text.proofs.PlainWords.{own_line, own_lines}
+use Rattle.fux_text.proofs.ValidRanges.{any-none, any-some, of_voice}
+
+-- a range line may stand behind these: a voice's first one has no bars, and a later one has some
+record FitsBehind (ex : Exercise) (before : List RangeLine) (line : RangeLine) : Type 0 where
+  pub fits : IsRangeLine ex line
+  pub first : has_line before line.voice ≡ false → line.bars ≡ None
+  pub later : has_line before line.voice ≡ true → IsSome line.bars
+
+-- an exercise has few voices and bars
+pub record IsSmall (ex : Exercise) : Type 0 where
+  pub voices : ex.voices ≤ 4
+  pub bars : ex.bars ≤ 24
+
+not_below : (low high : Pitch) → key_of low ≤ℤ key_of high → int_lt (key_of high) (key_of low) ≡ false
+not_below low high rises = by (int_lt (key_of high) (key_of low)) refl
+  where
+    by : (b : Bool) → int_lt (key_of high) (key_of low) ≡ b → b ≡ false
+    by true e = absurd (omega (arith, ints, e, rises))
+    by false e = refl
+
+-- the words behind `range`, where a voice's first line or a later one is read
+first-own : (ex : Exercise) (before : List RangeLine) (line past end column voice : ℕ) (low high : Pitch) → voice ≤ 9999999
+    → voice < ex.voices → voice ≢ ex.cantus_voice → key_of low ≤ℤ key_of high → has_line before voice ≡ false
+    → range_in ex before (at_words line past end column (decimal voice ∷ name_of low ∷ name_of high ∷ []))
+    ≡ Ok (record { voice = voice; low = low; high = high; bars = None })
+unfolding range_in other_voice_in misfits pitch_in high_in bars_of_later next done
+first-own ex before line past end column voice low high few there differs rises none =
+    rw (other_voice-own ex.cantus_voice ex.voices voice few there differs, none, pitch-own low, pitch-own high, not_below low high rises) refl
+
+later-own : (ex : Exercise) (before : List RangeLine) (line past end column voice : ℕ) (low high : Pitch) (from to : ℕ) → voice ≤ 9999999
+    → voice < ex.voices → voice ≢ ex.cantus_voice → key_of low ≤ℤ key_of high → has_line before voice ≡ true
+    → ex.bars ≤ 9999999 → 1 ≤ from → from ≤ to → to ≤ ex.bars
+    → range_in ex before (at_words line past end column (decimal voice ∷ name_of low ∷ name_of high ∷ decimal from ∷ decimal to ∷ []))
+    ≡ Ok (record { voice = voice; low = low; high = high; bars = Some (from, to) })
+unfolding range_in other_voice_in misfits pitch_in high_in bars_of_later bars_in number_in next done
+later-own ex before line past end column voice low high from to few there differs rises some few_bars least in_order most =
+    rw (
+      other_voice-own ex.cantus_voice ex.voices voice few there differs,
+      some,
+      pitch-own low,
+      pitch-own high,
+      not_below low high rises,
+      within-own 1 ex.bars from (omega (arith, in_order, most, few_bars)) least (omega (arith, in_order, most)),
+      within-own from ex.bars to (omega (arith, most, few_bars)) in_order most,
+    ) refl
+
+range_in-own : (ex : Exercise) (before : List RangeLine) (r : RangeLine) (line past end column : ℕ) → IsSmall ex → FitsBehind ex before r
+    → range_in ex before (at_words line past end column (decimal r.voice ∷ name_of r.low ∷ name_of r.high ∷ bars_words r.bars)) ≡ Ok r
+range_in-own ex before r line past end column small behind = by r.bars refl
+  where
+    few : r.voice ≤ 9999999
+    few = omega (arith, behind.fits.free.there, small.voices)
+
+    reads : Option (ℕ × ℕ) → Type 0
+    reads bars =
+        range_in ex before (at_words line past end column (decimal r.voice ∷ name_of r.low ∷ name_of r.high ∷ bars_words bars))
+        ≡ Ok (record { voice = r.voice; low = r.low; high = r.high; bars = bars })
+
+    some_if_none : (b : Bool) → has_line before r.voice ≡ b → r.bars ≡ None → b ≡ false
+    some_if_none true e none = absurd (none_some r.bars none (behind.later e))
+      where
+        none_some : (o : Option (ℕ × ℕ)) → o ≡ None → IsSome o → ⊥
+        none_some None e s = grind (arith, s)
+        none_some (Some x) e s = grind (arith, e)
+    some_if_none false e none = refl
+
+    later_if_some : (b : Bool) (x : ℕ × ℕ) → has_line before r.voice ≡ b → r.bars ≡ Some x → b ≡ true
+    later_if_some true x e some = refl
+    later_if_some false x e some = absurd (grind (arith, behind.first e, some))
+
+    by : (o : Option (ℕ × ℕ)) → r.bars ≡ o → reads r.bars
+    by None e =
+        subst reads (sym e)
+        (first-own ex before line past end column r.voice r.low r.high few behind.fits.free.there behind.fits.free.no_cantus
+        behind.fits.rises (some_if_none _ refl e))
+    by (Some (from, to)) e =
+        let within = subst (λ o. IfSome o (λ bars. (1 ≤ bars.0) × (bars.0 ≤ bars.1) × (bars.1 ≤ ex.bars))) e behind.fits.within in
+        subst reads (sym e)
+        (later-own ex before line past end column r.voice r.low r.high from to few behind.fits.free.there behind.fits.free.no_cantus
+        behind.fits.rises (later_if_some _ (from, to) refl e) (omega (arith, small.bars)) within.0 within.1 within.2)
+
+range_line-own : (ex : Exercise) (before : List RangeLine) (r : RangeLine) (after n : ℕ) (others : List LineWords) → IsSmall ex
+    → FitsBehind ex before r → range_line ex before (with_line after n (range_words r) others) ≡ Ok (r, left after others)
+unfolding range_line headed literal next
+range_line-own ex before r after n others small behind =
+    rw (range_in-own ex before r n (1 + 5) (own_line n (range_words r)).end (1 + 5 + 1) small behind) refl
+
+-- each of these lines may stand behind those before it
+abbrev FitInOrder : Exercise → List RangeLine → List RangeLine → Type 0
+FitInOrder ex before [] = ⊤
+FitInOrder ex before (r ∷ rs) = FitsBehind ex before r × FitInOrder ex (before ++ r ∷ []) rs
+
+begins_range : (r : RangeLine) (after n : ℕ) (others : List LineWords)
+    → begins (codes "range") (with_line after n (range_words r) others) ≡ true
+unfolding begins
+begins_range r after n others = refl
+
+-- range lines are read up to a line that is none
+ranges_on-own : (ex : Exercise) (rs before : List RangeLine) (after n : ℕ) (more : List (List (List ℕ))) → IsSmall ex
+    → FitInOrder ex before rs → ((m : ℕ) → begins (codes "range") (left after (own_lines m more)) ≡ false)
+    → (m : ℕ) × (ranges_on ex before after (own_lines n (map range_words rs ++ more)) ≡ Ok (before ++ rs, left after (own_lines m more)))
+unfolding ranges_on
+ranges_on-own ex [] before after n [] small fit other =
+    (n, ap (λ found. Ok (found, left after [])) (sym (append-nil before)))
+ranges_on-own ex [] before after n (ws ∷ more) small fit other =
+    (n, rw (other n) (ap (λ found. Ok (found, left after (own_lines n (ws ∷ more)))) (sym (append-nil before))))
+ranges_on-own ex (r ∷ rs) before after n more small fit other =
+    let rest = ranges_on-own ex rs (before ++ r ∷ []) after (n + 1) more small fit.1 other in
+    let others = own_lines (n + 1) (map range_words rs ++ more) in (
+      rest.0,
+      rw (begins_range r after n others, range_line-own ex before r after n others small fit.0)
+          (rest.1 ∙ ap (λ found. Ok (found, left after (own_lines rest.0 more))) (append_assoc before (r ∷ []) rs)),
+    )
+
+-- where each of these lines has bars, so has the one between others
+some_at_seam : (xs ys : List RangeLine) (r : RangeLine) → All (λ other. IsSome other.bars) (xs ++ r ∷ ys) → IsSome r.bars
+some_at_seam [] ys r all = all 0 r (omega arith)
+some_at_seam (x ∷ xs) ys r all = some_at_seam xs ys r (λ k d lt. all (suc k) d (omega arith))
+
+-- the range lines of a valid exercise may stand in their order
+fit-in-order : (ex : Exercise) (rs before : List RangeLine) → All (IsRangeLine ex) rs
+    → ((v : ℕ) → IsFree ex v → BeginsWithWhole (of_voice v (before ++ rs))) → FitInOrder ex before rs
+fit-in-order ex [] before fit whole = tt
+fit-in-order ex (r ∷ rs) before fit whole =
+    let one : IsRangeLine ex r = fit 0 r (omega arith) in (
+      fits_behind one (whole r.voice one.free),
+      fit-in-order ex rs (before ++ r ∷ []) (λ k d lt. fit (suc k) d (omega arith))
+          (λ v free. subst (λ lines. BeginsWithWhole (of_voice v lines)) (sym (append_assoc before (r ∷ []) rs)) (whole v free)),
+    )
+  where
+    own : (b : Bool) → (r.voice == r.voice) ≡ b → of_voice r.voice (r ∷ rs) ≡ r ∷ of_voice r.voice rs
+    own true e = rw e refl
+    own false e = absurd (grind (arith, e))
+
+    fits_behind : IsRangeLine ex r → BeginsWithWhole (of_voice r.voice (before ++ r ∷ rs)) → FitsBehind ex before r
+    fits_behind one begun =
+        by (of_voice r.voice before) refl
+        (subst BeginsWithWhole (filter-append (λ l. l.voice == r.voice) before (r ∷ rs)
+        ∙ ap (λ lines. of_voice r.voice before ++ lines) (own _ refl)) begun)
+      where
+        by : (mine : List RangeLine) → of_voice r.voice before ≡ mine → BeginsWithWhole (mine ++ r ∷ of_voice r.voice rs)
+            → FitsBehind ex before r
+        by [] e w = record {
+          fits = one;
+          first = λ _. w.0;
+          later = λ has. absurd (grind (arith, has, any-none r.voice before e));
+        }
+        by (x ∷ xs) e w = record {
+          fits = one;
+          first = λ none. absurd (grind (arith, none, any-some r.voice before x xs e));
+          later = λ _. some_at_seam xs (of_voice r.voice rs) r w.1;
+        }
+
+-- each free voice of a valid exercise has a range line
+all_ranged-own : (ex : Exercise) (lines : List RangeLine) → ((v : ℕ) → IsFree ex v → BeginsWithWhole (of_voice v lines))
+    → all_ranged ex lines ≡ true
+unfolding all_ranged
+all_ranged-own ex lines whole =
+    list_all-from_AllPass (λ v. (v == ex.cantus_voice) || has_line lines v) (range_with_len 0 ex.voices)
+    (λ k d lt.
+    let there : k < ex.voices = omega (arith, lt, length-range_with_len 0 ex.voices) in
+    let same : get_or (range_with_len 0 ex.voices) k d ≡ k = get_or-range_with_len 0 ex.voices k d there ∙ omega arith in
+    subst (λ v. ((v == ex.cantus_voice) || has_line lines v) ≡ true) (sym same) (by k there (k == ex.cantus_voice) refl))
+  where
+    has : (v : ℕ) (mine : List RangeLine) → of_voice v lines ≡ mine → BeginsWithWhole mine → has_line lines v ≡ true
+    has v [] e w = absurd w
+    has v (x ∷ xs) e w = any-some v lines x xs e
+
+    by : (v : ℕ) → v < ex.voices → (b : Bool) → (v == ex.cantus_voice) ≡ b → (b || has_line lines v) ≡ true
+    by v there true e = refl
+    by v there false e =
+        has v (of_voice v lines) refl (whole v (record { there = there; no_cantus = λ same. grind (arith, e, same) }))
+
+-- the range lines of an exercise, with other lines behind them
+pub ranges-own : (ex head : Exercise) (after n : ℕ) (more : List (List (List ℕ))) → IsSmall head → All (IsRangeLine head) ex.ranges
+    → ((v : ℕ) → IsFree head v → BeginsWithWhole (range_lines ex v))
+    → ((m : ℕ) → begins (codes "range") (left after (own_lines m more)) ≡ false)
+    → (m : ℕ) × (ranges_in head (left after (own_lines n (map range_words ex.ranges ++ more))) ≡ Ok (ex.ranges, left after (own_lines m more)))
+unfolding ranges_in
+ranges-own ex head after n more small fit whole other =
+    let found = ranges_on-own head ex.ranges [] after n more small (fit-in-order head ex.ranges [] fit whole) other in
+    (found.0, rw (found.1, all_ranged-own head ex.ranges whole) refl)

@@ -1,0 +1,246 @@
+-- What is written of an exercise and a setting are lines of words (`exercise_lines-plain`, `sung_lines-plain`).
+use Rattle.std.proofs.Common.{◌≡◌, ℕ, zero, suc, ◌+◌, ◌-◌, ◌*◌, ◌/◌, ◌%◌, ◌^◌, ◌<◌, ◌≤◌, Bool, true, false, List, [], ◌∷◌, ◌++◌, get_or, length, length-append, map, drop, Option, Some, None, refl, sym, subst, ◌∙◌, arith}
+use Rattle.std.specs.Prelude.{◌==◌, not, All, codes, nat_lt, filter, IfSome}
+use Rattle.std.specs.Fmt.{decimal, digits}
+use Rattle.std.specs.List.{flat_map, list_all, range_with_len}
+use Rattle.std.proofs.lemmas.Bool.{and_from, lt-ltb}
+use Rattle.std.proofs.lemmas.Fmt.{decimal_by_steps}
+use Rattle.std.proofs.lemmas.List.{length-map, length-take}
+use Rattle.std.proofs.lemmas.List.Folds.{list_all-append}
+use Rattle.std.proofs.lemmas.List.FromFn.{get_or-range_with_len, length-range_with_len}
+use Rattle.std.proofs.lemmas.List.Sums.{AllPass-from_list_all}
+use Rattle.fux_pitch.specs.declared.mode.Mode.{Mode}
+use Rattle.fux_pitch.specs.declared.mode.Mode.TheVariants.{Dorian, Phrygian, Lydian, Mixolydian, Aeolian, Ionian}
+use Rattle.fux_pitch.specs.declared.pitch.Pitch.{Pitch}
+use Rattle.fux_pitch.specs.Names.{name_of}
+use Rattle.fux_pitch.proofs.NameLemmas.{name_of-length, name_of-passes}
+use Rattle.fux_grid.specs.declared.cell.Cell.{Cell}
+use Rattle.fux_grid.specs.declared.cell.Cell.TheVariants.{Rest, Hold, Start}
+use Rattle.fux_grid.specs.declared.exercise.Exercise.{Exercise}
+use Rattle.fux_grid.specs.declared.exercise.RangeLine.{RangeLine}
+use Rattle.fux_grid.specs.declared.exercise.Relax.{Relax}
+use Rattle.fux_grid.specs.declared.exercise.VoiceSet.{VoiceSet}
+use Rattle.fux_grid.specs.Cells.{cell_in}
+use Rattle.fux_grid.specs.Columns.{line}
+use Rattle.fux_grid.specs.Exercises.{IsRangeLine, IsRelax, IsValid}
+use Rattle.fux_grid.specs.Grid.{Grid}
+use Rattle.fux_grid.specs.Letters.{bar_columns}
+use Rattle.fux_text.specs.Items.{goes_on, item_name, item_word, items_of_cells, with_run}
+use Rattle.fux_text.specs.Lines.{bar_words, bars_words, between_bar_lines, cantus_words, exercise_lines, head_lines, mode_name, range_words, relax_words, sing_words, voices_word}
+use Rattle.fux_text.proofs.ItemLemmas.{with_run-broken}
+use Rattle.fux_text.proofs.OwnItems.{items_words, with_run-longer}
+use Rattle.fux_text.proofs.OwnSetting.{sung_lines}
+use Rattle.fux_text.proofs.PlainWords.{is_ink, is_line, is_word, word_ink}
+
+-- ---- words
+
+word_if : (w : List ℕ) → 0 < length w → list_all is_ink w ≡ true → is_word w ≡ true
+word_if [] some e = absurd (omega (arith, some))
+word_if (b ∷ bs) some e = e
+
+word-append : (w xs : List ℕ) → is_word w ≡ true → list_all is_ink xs ≡ true → is_word (w ++ xs) ≡ true
+word-append w xs e f =
+    word_if (w ++ xs) (omega (arith, length-append w xs, some w e))
+    (list_all-append is_ink w xs ∙ and_from (list_all is_ink w) (list_all is_ink xs) (word_ink w e) f)
+  where
+    some : (w : List ℕ) → is_word w ≡ true → 0 < length w
+    some [] e = absurd (grind (arith, e))
+    some (b ∷ bs) e = omega arith
+
+digit-ink : (d : ℕ) → d < 10 → is_ink (48 + d) ≡ true
+digit-ink d lt = and_from (nat_lt 32 (48 + d)) (nat_lt (48 + d) 127) (lt-ltb 32 (48 + d) (omega (arith, lt))) (lt-ltb (48 + d) 127 (omega (arith, lt)))
+
+digit-word : (d : ℕ) → d < 10 → is_word ((48 + d) ∷ []) ≡ true
+digit-word d lt = and_from (is_ink (48 + d)) true (digit-ink d lt) refl
+
+number-word : (n : ℕ) → n ≤ 9999999 → is_word (decimal n) ≡ true
+number-word n few =
+    decimal_by_steps (λ m ds. is_word ds ≡ true) digit-word
+    (λ m ds ten e. word-append ds ((48 + m % 10) ∷ []) e (and_from (is_ink (48 + m % 10)) true (digit-ink (m % 10) (omega arith)) refl))
+    n (omega (arith, few))
+
+name-word : (p : Pitch) → is_word (name_of p) ≡ true
+name-word p = word_if (name_of p) (omega (arith, name_of-length p)) (name_of-passes is_ink refl p)
+
+mode-word : (m : Mode) → is_word (mode_name m) ≡ true
+mode-word Dorian = refl
+mode-word Phrygian = refl
+mode-word Lydian = refl
+mode-word Mixolydian = refl
+mode-word Aeolian = refl
+mode-word Ionian = refl
+
+-- ---- the lines of an exercise
+
+head-plain : (ex : Exercise) → IsValid ex → list_all is_line (head_lines ex) ≡ true
+head-plain ex valid =
+    rw (
+      mode-word ex.mode,
+      number-word ex.voices (omega (arith, valid.most_voices)),
+      number-word ex.bars (omega (arith, valid.most_bars)),
+      number-word ex.species (omega (arith, valid.most_species)),
+      number-word ex.species_voice (omega (arith, valid.species_there, valid.most_voices)),
+    ) refl
+
+names-plain : (ps : List Pitch) → list_all is_word (map name_of ps) ≡ true
+names-plain [] = refl
+names-plain (p ∷ ps) = and_from (is_word (name_of p)) (list_all is_word (map name_of ps)) (name-word p) (names-plain ps)
+
+cantus-plain : (ex : Exercise) → IsValid ex → is_line (cantus_words ex) ≡ true
+cantus-plain ex valid =
+    rw (number-word ex.cantus_voice (omega (arith, valid.cantus_there, valid.most_voices)), names-plain ex.cantus) refl
+
+bars_words-plain : (o : Option (ℕ × ℕ)) (bars : ℕ) → bars ≤ 24 → IfSome o (λ b. (1 ≤ b.0) × (b.0 ≤ b.1) × (b.1 ≤ bars))
+    → list_all is_word (bars_words o) ≡ true
+bars_words-plain None bars few h = refl
+bars_words-plain (Some (from, to)) bars few h =
+    rw (number-word from (omega (arith, h, few)), number-word to (omega (arith, h, few))) refl
+
+range-plain : (ex : Exercise) (r : RangeLine) → ex.voices ≤ 4 → ex.bars ≤ 24 → IsRangeLine ex r → is_line (range_words r) ≡ true
+range-plain ex r voices bars fits =
+    rw (
+      number-word r.voice (omega (arith, fits.free.there, voices)),
+      name-word r.low,
+      name-word r.high,
+      bars_words-plain r.bars ex.bars bars fits.within,
+    ) refl
+
+ranges-plain : (ex : Exercise) (rs : List RangeLine) → ex.voices ≤ 4 → ex.bars ≤ 24 → All (IsRangeLine ex) rs
+    → list_all is_line (map range_words rs) ≡ true
+ranges-plain ex [] voices bars fit = refl
+ranges-plain ex (r ∷ rs) voices bars fit =
+    and_from (is_line (range_words r)) (list_all is_line (map range_words rs)) (range-plain ex r voices bars (fit 0 r (omega arith)))
+    (ranges-plain ex rs voices bars (λ k d lt. fit (suc k) d (omega arith)))
+
+-- a set of voices, of which there is one at least
+abbrev is_set_word : ℕ → Bool
+is_set_word bits = is_word (voices_word (Some (record { bits = bits })))
+
+all_sets-plain : list_all is_set_word (range_with_len 1 15) ≡ true
+unfolding digits
+all_sets-plain = refl
+
+few-bits : (voices bits : ℕ) → voices ≤ 4 → bits < 2 ^ voices → bits < 16
+few-bits zero bits few lt = omega (arith, lt)
+few-bits (suc zero) bits few lt = omega (arith, lt)
+few-bits (suc (suc zero)) bits few lt = omega (arith, lt)
+few-bits (suc (suc (suc zero))) bits few lt = omega (arith, lt)
+few-bits (suc (suc (suc (suc zero)))) bits few lt = lt
+few-bits (suc (suc (suc (suc (suc n))))) bits few lt = absurd (omega (arith, few))
+
+set-word : (voices : ℕ) (o : Option VoiceSet) → voices ≤ 4 → IfSome o (λ set. (1 ≤ set.bits) × (set.bits < 2 ^ voices))
+    → is_word (voices_word o) ≡ true
+set-word voices None few h = refl
+set-word voices (Some set) few h =
+    let below : set.bits < 16 = few-bits voices set.bits few h.1 in
+    let at : get_or (range_with_len 1 15) (set.bits - 1) 0 ≡ set.bits =
+    get_or-range_with_len 1 15 (set.bits - 1) 0 (omega (arith, below, h.0)) ∙ omega (arith, h.0) in
+    subst (λ n. is_set_word n ≡ true) at
+    (AllPass-from_list_all is_set_word (range_with_len 1 15) all_sets-plain (set.bits - 1) 0
+    (omega (arith, length-range_with_len 1 15, below, h.0)))
+
+relax-plain : (ex : Exercise) (r : Relax) → ex.voices ≤ 4 → ex.bars ≤ 24 → IsRelax ex r → is_line (relax_words r) ≡ true
+relax-plain ex r voices bars fits =
+    rw (
+      word_ink (decimal r.rule) (number-word r.rule (omega (arith, fits.most_rule))),
+      set-word ex.voices r.voices voices fits.voices,
+      number-word r.from (omega (arith, fits.within, bars)),
+      number-word r.to (omega (arith, fits.within, bars)),
+      number-word r.price (omega (arith, fits.price)),
+    ) refl
+
+relaxes-plain : (ex : Exercise) (rs : List Relax) → ex.voices ≤ 4 → ex.bars ≤ 24 → All (IsRelax ex) rs
+    → list_all is_line (map relax_words rs) ≡ true
+relaxes-plain ex [] voices bars fit = refl
+relaxes-plain ex (r ∷ rs) voices bars fit =
+    and_from (is_line (relax_words r)) (list_all is_line (map relax_words rs)) (relax-plain ex r voices bars (fit 0 r (omega arith)))
+    (relaxes-plain ex rs voices bars (λ k d lt. fit (suc k) d (omega arith)))
+
+pub exercise_lines-plain : (ex : Exercise) → IsValid ex → list_all is_line (exercise_lines ex) ≡ true
+exercise_lines-plain ex valid =
+    list_all-append is_line (head_lines ex ++ cantus_words ex ∷ map range_words ex.ranges) (map relax_words ex.relax)
+    ∙ rw (
+      list_all-append is_line (head_lines ex) (cantus_words ex ∷ map range_words ex.ranges),
+      head-plain ex valid,
+      cantus-plain ex valid,
+      ranges-plain ex ex.ranges valid.most_voices valid.most_bars valid.range_lines_fit,
+      relaxes-plain ex ex.relax valid.most_voices valid.most_bars valid.relax_fit,
+    ) refl
+
+-- ---- the lines of a setting
+
+item_word-plain : (c : Cell) (n : ℕ) → n ≤ 9999999 → is_word (item_word (c, n)) ≡ true
+item_word-plain c n few = word-append (item_name c) (58 ∷ decimal n) (name c) (word_ink (decimal n) (number-word n few))
+  where
+    name : (c : Cell) → is_word (item_name c) ≡ true
+    name Rest = refl
+    name (Hold p) = refl
+    name (Start p) = name-word p
+
+run-plain : (cs : List Cell) (c : Cell) (n : ℕ) → n + length cs ≤ 9999999
+    → list_all is_word (map item_word (with_run c n (items_of_cells cs))) ≡ true
+run-plain [] c n few = and_from (is_word (item_word (c, n))) true (item_word-plain c n (omega (arith, few))) refl
+run-plain (d ∷ ds) c n few =
+    by (goes_on c d) refl (run-plain ds c (n + 1) (omega (arith, few))) (run-plain ds d 1 (omega (arith, few)))
+  where
+    Plain : List (Cell × ℕ) → Type 0
+    Plain items = list_all is_word (map item_word items) ≡ true
+
+    by : (b : Bool) → goes_on c d ≡ b → Plain (with_run c (n + 1) (items_of_cells ds)) → Plain (with_run d 1 (items_of_cells ds))
+        → Plain (with_run c n (with_run d 1 (items_of_cells ds)))
+    by true e longer rest = subst Plain (sym (with_run-longer c d n 1 (items_of_cells ds) e)) longer
+    by false e longer rest =
+        subst Plain (sym (with_run-broken c d n 1 (items_of_cells ds) e))
+        (and_from (is_word (item_word (c, n))) (list_all is_word (map item_word (with_run d 1 (items_of_cells ds))))
+        (item_word-plain c n (omega (arith, few))) rest)
+
+items-plain : (cs : List Cell) → length cs ≤ 9999999 → list_all is_word (items_words cs) ≡ true
+items-plain [] few = refl
+items-plain (c ∷ cs) few = run-plain cs c 1 (omega (arith, few))
+
+bar-plain : (v : ℕ) (columns : List (List Cell)) (bar : ℕ) → list_all is_word (bar_words v (bar_columns columns bar)) ≡ true
+bar-plain v columns bar =
+    items-plain (line v (bar_columns columns bar))
+    (omega (arith, length-map (bar_columns columns bar) (λ col. cell_in col v), length-take 8 (drop (8 * (bar - 1)) columns)))
+
+later_bars-plain : (v : ℕ) (columns : List (List Cell)) (bars : List ℕ)
+    → list_all is_word (flat_map (λ other. codes "|" ∷ other) (map (bar_words v) (map (bar_columns columns) bars))) ≡ true
+later_bars-plain v columns [] = refl
+later_bars-plain v columns (bar ∷ bars) =
+    let others = flat_map (λ other. codes "|" ∷ other) (map (bar_words v) (map (bar_columns columns) bars)) in
+    list_all-append is_word (bar_words v (bar_columns columns bar)) others
+    ∙ and_from (list_all is_word (bar_words v (bar_columns columns bar))) (list_all is_word others) (bar-plain v columns bar)
+    (later_bars-plain v columns bars)
+
+bars-plain : (v : ℕ) (columns : List (List Cell)) (bars : List ℕ)
+    → list_all is_word (between_bar_lines (map (bar_words v) (map (bar_columns columns) bars))) ≡ true
+bars-plain v columns [] = refl
+bars-plain v columns (bar ∷ bars) =
+    let others = flat_map (λ other. codes "|" ∷ other) (map (bar_words v) (map (bar_columns columns) bars)) in
+    list_all-append is_word (bar_words v (bar_columns columns bar)) others
+    ∙ and_from (list_all is_word (bar_words v (bar_columns columns bar))) (list_all is_word others) (bar-plain v columns bar)
+    (later_bars-plain v columns bars)
+
+sing-plain : (v : ℕ) (columns : List (List Cell)) → v ≤ 9999999 → is_line (sing_words v columns) ≡ true
+sing-plain v columns few = rw (number-word v few, bars-plain v columns (range_with_len 1 (length columns / 8))) refl
+
+-- each voice that is kept of a range is one of it
+voices-plain : (columns : List (List Cell)) (keep : ℕ → Bool) (n a : ℕ) → a + n ≤ 9999999
+    → list_all is_line (map (λ v. sing_words v columns) (filter keep (range_with_len a n))) ≡ true
+voices-plain columns keep zero a few = refl
+voices-plain columns keep (suc n) a few = by (keep a) refl (voices-plain columns keep n (a + 1) (omega (arith, few)))
+  where
+    lines : List ℕ → List (List (List ℕ))
+    lines vs = map (λ v. sing_words v columns) vs
+
+    by : (b : Bool) → keep a ≡ b → list_all is_line (lines (filter keep (range_with_len (a + 1) n))) ≡ true
+        → list_all is_line (lines (filter keep (a ∷ range_with_len (a + 1) n))) ≡ true
+    by true e rest =
+        rw e (and_from (is_line (sing_words a columns)) (list_all is_line (lines (filter keep (range_with_len (a + 1) n))))
+        (sing-plain a columns (omega (arith, few))) rest)
+    by false e rest = rw e rest
+
+pub sung_lines-plain : (ex : Exercise) (o : Option Grid) → ex.voices ≤ 4 → list_all is_line (sung_lines ex o) ≡ true
+sung_lines-plain ex None few = refl
+sung_lines-plain ex (Some score) few =
+    voices-plain score.columns (λ v. not (v == ex.cantus_voice)) ex.voices 0 (omega (arith, few))

@@ -1,0 +1,33 @@
+-- What is written is read back: the laws that tie the two directions of the note text to one another.
+use Rattle.std.specs.Prelude.{◌≡◌, ℕ, ◌≤◌, List, Option, All, IfSome, length, reverse}
+use Rattle.std.specs.List.{flat_map}
+use Rattle.fux_grid.specs.declared.cell.Cell.{Cell}
+use Rattle.fux_grid.specs.declared.exercise.Exercise.{Exercise}
+use Rattle.fux_grid.specs.Columns.{HistoryFollows}
+use Rattle.fux_grid.specs.Exercises.{IsGiven, IsValid}
+use Rattle.fux_grid.specs.Grid.{Grid}
+use Rattle.fux_text.specs.Lines.{free_voices, note_text, sing_text}
+use Rattle.fux_text.specs.Texts.{AreSingLinesOf, IsTextOf}
+use Rattle.fux_text.specs.Waiting.{IsJudged}
+
+-- a setting of an exercise: a complete score with the cantus, whose columns have a cell for each voice and follow one
+-- another (the last two hold of every score of the program)
+pub record IsSettingOf (ex : Exercise) (score : Grid) : Type 0 where
+  pub given : IsGiven ex score
+  pub full : All (λ col. length col ≡ ex.voices) score.columns
+  pub follows : HistoryFollows (reverse score.columns)
+
+-- what is written of an exercise, with a setting or without, is the note text of that exercise with that setting, where it
+-- isn't too long to be read
+abbrev pub NoteTextReadsBack : Type 0
+NoteTextReadsBack = (ex : Exercise) (score : Option Grid) → IsValid ex → IsJudged ex → IfSome score (IsSettingOf ex)
+    → length (note_text ex score) ≤ 65536 → IsTextOf (note_text ex score) (record ex { setting = score })
+
+-- the `sing` lines of a setting, one for each free voice
+abbrev pub sing_lines : Exercise → List (List Cell) → List ℕ
+sing_lines ex columns = flat_map (λ v. sing_text v columns) (free_voices ex)
+
+-- and they are read back as that setting
+abbrev pub SingLinesReadBack : Type 0
+SingLinesReadBack = (ex : Exercise) (score : Grid) → IsValid ex → IsSettingOf ex score
+    → length (sing_lines ex score.columns) ≤ 65536 → AreSingLinesOf ex (sing_lines ex score.columns) score
