@@ -16,7 +16,7 @@ use Rattle.text_lines.specs.Reading.{done, headed, literal, next, number_in}
 use Rattle.text_lines.specs.Words.{LineWords}
 use Rattle.fux_text.specs.Head.{cantus_line, head_in, mode_line, number_line, other_voice, other_voice_in, pitch_in, pitches_in, species_line, unless, version_line}
 use Rattle.fux_text.specs.Lines.{cantus_words, head_lines, mode_name}
-use Rattle.fux_text.specs.Waiting.{most_species, most_voices}
+use Rattle.fux_text.specs.Limits.{most_species, most_voices}
 use Rattle.fux_text.proofs.Named.{same_from}
 use Rattle.fux_text.proofs.NumberWords.{within-own}
 use Rattle.fux_text.proofs.OwnWords.{mode-own, pitch-own}

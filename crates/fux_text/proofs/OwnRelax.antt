@@ -11,7 +11,7 @@ use Rattle.text_lines.specs.Reading.{begins, done, headed, literal, next, number
 use Rattle.text_lines.specs.Words.{LineWords}
 use Rattle.fux_text.specs.Lines.{relax_words, voices_word}
 use Rattle.fux_text.specs.Relaxing.{relax_in, relax_line, relax_on, relaxes_in, rule_in, set_in}
-use Rattle.fux_text.specs.Waiting.{most_relax}
+use Rattle.fux_text.specs.Limits.{most_relax}
 use Rattle.fux_text.proofs.NumberWords.{within-own}
 use Rattle.fux_text.proofs.OwnHead.{at_words, left, with_line}
 use Rattle.fux_text.proofs.OwnRanges.{IsSmall}

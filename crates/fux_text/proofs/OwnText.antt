@@ -141,7 +141,7 @@ setting-head ex (Some score) h = record {
 
 pub note_text-own : NoteTextReadsBack
 unfolding IsTextOf exercise_in
-note_text-own ex o valid judged setting short =
+note_text-own ex o valid setting short =
     let sung = sung_lines ex o in
     let ls = exercise_lines ex ++ sung in
     let text = note_text-lines ex o in
@@ -153,7 +153,7 @@ note_text-own ex o valid judged setting short =
     (relaxes-head ex valid.relax_fit) valid.few_relax (no_relax ex o after) in
     let head : head_in (left after (own_lines 1 ls)) ≡ Ok (head_of ex, left after (own_lines 7 (later_lines ex sung))) =
     ap (λ all. head_in (left after (own_lines 1 all))) (lines-parts ex sung)
-    ∙ head-own ex after (later_lines ex sung) valid judged.voices judged.species in
+    ∙ head-own ex after (later_lines ex sung) valid valid.most_voices valid.most_species in
     rw (
       text,
       text_in-own ls (lines-plain ex o valid) (subst (λ bytes. length bytes ≤ 65536) text short),

@@ -10,7 +10,7 @@ use Rattle.text_lines.specs.Reading.{done, headed, literal, number_in}
 use Rattle.text_lines.specs.Words.{LineWords}
 use Rattle.text_lines.proofs.Binds.{bind_ok}
 use Rattle.fux_text.specs.Head.{cantus_line, head_in, mode_line, number_line, other_voice_in, pitch_in, pitches_in, species_line, version_line}
-use Rattle.fux_text.specs.Waiting.{most_species, most_voices}
+use Rattle.fux_text.specs.Limits.{most_species, most_voices}
 use Rattle.fux_text.proofs.Bounds.{IsOther, IsWithin, number-bounds, other-bounds}
 use Rattle.fux_text.proofs.Following.{value_is}
 

@@ -12,7 +12,7 @@ use Rattle.text_lines.specs.Numbers.{number_within}
 use Rattle.text_lines.specs.Reading.{done, fault_at, headed, literal, next, number_in}
 use Rattle.text_lines.specs.Words.{PlacedWord, LineWords}
 use Rattle.fux_text.specs.Names.{mode_named, pitch_named}
-use Rattle.fux_text.specs.Waiting.{most_voices, most_species}
+use Rattle.fux_text.specs.Limits.{most_voices, most_species}
 
 -- `fux 1`
 unfoldable pub version_line : TextLines → Result TextLines Fault

@@ -1,5 +1,6 @@
 pub mod Head
 pub mod Items
+pub mod Limits
 pub mod Lines
 pub mod Names
 pub mod Ranges
@@ -8,5 +9,4 @@ pub mod Reading
 pub mod Relaxing
 pub mod Sing
 pub mod Texts
-pub mod Waiting
 pub mod Words

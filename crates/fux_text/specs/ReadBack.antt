@@ -8,7 +8,6 @@ use Rattle.fux_grid.specs.Exercises.{IsGiven, IsValid}
 use Rattle.fux_grid.specs.Grid.{Grid}
 use Rattle.fux_text.specs.Lines.{free_voices, note_text, sing_text}
 use Rattle.fux_text.specs.Texts.{AreSingLinesOf, IsTextOf}
-use Rattle.fux_text.specs.Waiting.{IsJudged}
 
 -- a setting of an exercise: a complete score with the cantus, whose columns have a cell for each voice and follow one
 -- another (the last two hold of every score of the program)
@@ -20,7 +19,7 @@ pub record IsSettingOf (ex : Exercise) (score : Grid) : Type 0 where
 -- what is written of an exercise, with a setting or without, is the note text of that exercise with that setting, where it
 -- isn't too long to be read
 abbrev pub NoteTextReadsBack : Type 0
-NoteTextReadsBack = (ex : Exercise) (score : Option Grid) → IsValid ex → IsJudged ex → IfSome score (IsSettingOf ex)
+NoteTextReadsBack = (ex : Exercise) (score : Option Grid) → IsValid ex → IfSome score (IsSettingOf ex)
     → length (note_text ex score) ≤ 65536 → IsTextOf (note_text ex score) (record ex { setting = score })
 
 -- the `sing` lines of a setting, one for each free voice

@@ -12,7 +12,7 @@ use Rattle.text_lines.specs.Numbers.{number_within}
 use Rattle.text_lines.specs.Reading.{begins, done, fault_at, headed, next, number_in, same_text}
 use Rattle.text_lines.specs.Words.{LineWords}
 use Rattle.fux_text.specs.Lines.{voices_word}
-use Rattle.fux_text.specs.Waiting.{most_relax}
+use Rattle.fux_text.specs.Limits.{most_relax}
 
 -- the rule of a word: an `S` and its number
 abbrev pub rule_named : List ℕ → Option ℕ

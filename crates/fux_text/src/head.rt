@@ -5,10 +5,10 @@ ghost use Rattle.text_lines.specs.Faults.{Gives};
 ghost use Rattle.text_lines.specs.Lines.{lines_of};
 ghost use Rattle.text_lines.specs.Words.{word_of, words_of};
 ghost use Rattle.fux_text.specs.Head.{cantus_line, head_in, mode_line, number_line, other_voice, other_voice_in, pitch_in, pitches_in, species_line, version_line};
-ghost use Rattle.fux_text.specs.Waiting.{most_species, most_voices};
+ghost use Rattle.fux_text.specs.Limits.{most_species, most_voices};
 
+use crate::limits::{MOST_SPECIES, MOST_VOICES};
 use crate::names::{parse_mode, parse_pitch};
-use crate::waiting::{MOST_SPECIES, MOST_VOICES};
 use fux_grid::Exercise;
 use fux_pitch::{List, Mode, Pitch};
 use std::alloc::Global;

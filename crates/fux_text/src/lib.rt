@@ -5,6 +5,7 @@ mod exercise_lines;
 mod head;
 mod item_words;
 mod items;
+mod limits;
 mod names;
 mod note_text;
 mod ranges;
@@ -14,7 +15,6 @@ mod relaxing;
 mod setting;
 mod sing;
 mod sing_lines;
-mod waiting;
 
 pub use note_text::{sing_line, write};
 pub use read_back::{text_reads_back, words_read_back};

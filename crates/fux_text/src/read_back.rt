@@ -24,7 +24,7 @@ pub fn words_read_back()
 {}
 
 /// A law, and nothing to run: the text that [`crate::write`] writes is the note text of its exercise with its setting, and
-/// [`crate::sing_line`]'s lines are those of their setting. The first speaks of exercises that no limit refuses still.
+/// [`crate::sing_line`]'s lines are those of their setting.
 pub fn text_reads_back()
     ensures note_text { NoteTextReadsBack }
     ensures sing_lines { SingLinesReadBack }

@@ -9,7 +9,7 @@ ghost use Rattle.fux_text.specs.Lines.{voices_word};
 ghost use Rattle.fux_text.specs.Relaxing.{goes_on, is_set, relax_in, relax_line, relaxes_in, rule_in, rule_named, set_in, voices_named};
 
 use crate::exercise_lines::has_voice;
-use crate::waiting::MOST_RELAX;
+use crate::limits::MOST_RELAX;
 use fux_grid::{Exercise, Relax, VoiceSet};
 use std::alloc::Global;
 use text_lines::{Lines, TextFault, TextKind, Words, is_same, parse_within};
