@@ -1,4 +1,4 @@
-//! Composes and marks species counterpoint: `fux compose EX`, `fux mark EX` and `fux cantus EX`.
+//! Composes and marks species counterpoint: `fux compose EX`, `fux mark EX`, and the other commands of `docs/formats.md`.
 #![tactic(auto)]
 
 ghost use Rattle.std.specs.Prelude.{◌≡◌, ◌≢◌};

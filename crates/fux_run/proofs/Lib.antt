@@ -1,9 +1,8 @@
 pub mod BestLemmas
-pub mod Budgets
 pub mod ContentLemmas
-pub mod Forms
-pub mod PerformLemmas
+pub mod MakeLemmas
 pub mod RunLemmas
+pub mod SimpleForms
 pub mod SinkLemmas
 pub mod Taken
 pub mod TextFaults

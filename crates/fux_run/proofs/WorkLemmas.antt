@@ -16,7 +16,7 @@ works_so task files Holds Holds' so on = record {
   holds = so on.work on.holds;
 }
 
-not_missing : (files : Files) (name bytes : List ℕ) → MayHave files name bytes → IsMissing files name → ⊥
+pub not_missing : (files : Files) (name bytes : List ℕ) → MayHave files name bytes → IsMissing files name → ⊥
 not_missing files name bytes (inl untold) missing = cc (untold, missing)
 not_missing files name bytes (inr has) missing = cc (has, missing)
 

@@ -1,12 +1,18 @@
 -- What the words on the command line ask for. A word is its bytes.
-use Rattle.std.specs.Prelude.{ℕ, ◌≤◌, nat_le, ◌&&◌, List, [], ◌∷◌, String, Option, Some, None, true, map, string_bytes, codes, if◌then◌else◌, option_and_then, option_map}
-use Rattle.std.specs.Fmt.{decimal}
+use Rattle.std.specs.Prelude.{ℕ, ◌==◌, Bool, true, false, List, [], ◌∷◌, String, Option, Some, None, map, string_bytes, codes, if◌then◌else◌, option_and_then, option_map}
+use Rattle.std.specs.Option.{option_map_or}
 use Rattle.std.specs.Str.{bytes_eq}
-use Rattle.std.specs.Str.Parse.{digits_value}
 use Rattle.clap.specs.Simple.{on_top}
 use Rattle.clap.specs.Words.{App, Kinds, Row, Rule, Text, fault_of, first_of, matches_of, new_app, new_rule, with_rule}
+use Rattle.clap.specs.declared.builder.action.ArgAction.TheVariants.{SetTrue}
+use Rattle.fux_grid.specs.declared.exercise.Head.{Head}
+use Rattle.fux_text.specs.Names.{mode_named}
+use Rattle.smf_score.specs.Heads.{IsHead}
+use Rattle.text_lines.specs.Numbers.{number_within}
 use Rattle.fux_run.specs.declared.command.Command.{Command}
-use Rattle.fux_run.specs.declared.command.Command.TheVariants.{Compose, Mark, Cantus, Print, ToSmf}
+use Rattle.fux_run.specs.declared.command.Command.TheVariants.{OnExercise, FromSmf, Drill}
+use Rattle.fux_run.specs.declared.command.Job.{Job}
+use Rattle.fux_run.specs.declared.command.Job.TheVariants.{Compose, Mark, Cantus, Print, ToSmf}
 
 -- words as their bytes
 abbrev pub texts : {Y : Type 0} → List (String Y) → List Text
@@ -14,37 +20,59 @@ texts words = map string_bytes words
 
 -- a command, with the names of its files
 pub data Task : Type 0 where
-  compose : (name : Text) (budget : ℕ) → Task
-  mark : (name : Text) → Task
-  cantus : (name : Text) → Task
-  print : (name : Text) → Task
-  tosmf : (name : Text) → Task
+  on_exercise : (name : Text) (sheet : Option Text) (job : Job) → Task
+  fromsmf : (name : Text) (head : Head) → Task
+  drill : (number : ℕ) → Task
 
 -- what a command asks for
 abbrev pub task_of : Command → Task
-task_of (Compose name budget) = compose name.now budget
-task_of (Mark name) = mark name.now
-task_of (Cantus name) = cantus name.now
-task_of (Print name) = print name.now
-task_of (ToSmf name) = tosmf name.now
+task_of (OnExercise name sheet job) = on_exercise name.now (option_map (λ text. text.now) sheet) job
+task_of (FromSmf name head) = fromsmf name.now head
+task_of (Drill number) = drill number
 
--- ---- the words behind the first, as `clap` takes them: EX, which must be there, and options, each once at most
+-- the head of a command is one that an exercise may have
+abbrev pub HasHead : Command → Type 0
+HasHead (FromSmf name head) = IsHead head
+HasHead _ = Unit {0}
 
-abbrev pub exercise_word : Rule
-exercise_word = record (new_rule (codes "EX")) { required = true }
+-- ---- the words behind the first, as `clap` takes them: one that must be there, options, each once at most, and flags
 
-abbrev pub option_word : Text → Rule
-option_word name = record (new_rule name) { long = Some name }
+abbrev pub needed_word : Text → Rule
+needed_word name = record (new_rule name) { required = true }
+
+abbrev pub option_word : Bool → Text → Rule
+option_word needed name = record (new_rule name) { long = Some name; required = needed }
+
+abbrev pub flag_word : Text → Rule
+flag_word name = record (new_rule name) { long = Some name; action = Some SetTrue }
 
 -- a command of `clap` whose words have no program's name before them
 abbrev pub words_of : Text → App
 words_of name = on_top (λ shape. record shape { no_binary_name = true }) (new_app name)
 
-abbrev pub exercise_words : Text → App
-exercise_words name = with_rule (words_of name) exercise_word
+-- a command with one word that must be there
+abbrev pub one_word : Text → Text → App
+one_word name word = with_rule (words_of name) (needed_word word)
 
-abbrev pub compose_words : Text → App
-compose_words name = with_rule (exercise_words name) (option_word (codes "budget"))
+abbrev pub exercise_words : Text → App
+exercise_words name = one_word name (codes "EX")
+
+abbrev pub compose_words : App
+compose_words =
+    with_rule (with_rule (exercise_words (codes "compose")) (option_word false (codes "sheet")))
+    (option_word false (codes "budget"))
+
+abbrev pub drill_words : App
+drill_words = one_word (codes "drill") (codes "N")
+
+-- what says how a file is to be read, each of which must be there
+abbrev pub head_words : App → App
+head_words app =
+    with_rule (with_rule (with_rule (with_rule app (option_word true (codes "mode"))) (option_word true (codes "species")))
+    (option_word true (codes "voice"))) (option_word true (codes "cantus"))
+
+abbrev pub fromsmf_words : App
+fromsmf_words = with_rule (head_words (one_word (codes "fromsmf") (codes "FILE"))) (flag_word (codes "top-first"))
 
 -- a value where there is no fault
 abbrev pub if_faultless : {X : Type 0} → Kinds → X → Option X
@@ -55,52 +83,108 @@ if_faultless (fault ∷ faults) x = None
 abbrev pub found_in : App → List Text → Option (List Row)
 found_in app words = if_faultless (fault_of app words) (matches_of app words)
 
--- a number from one to another, in digits without a sign or a leading zero
-abbrev pub number_in : ℕ → ℕ → Text → Option ℕ
-number_in least most text =
-    let n = digits_value 10 text in
-    if bytes_eq text (decimal n) && (nat_le least n && nat_le n most) then Some n else None
+-- ---- what the values ask for
 
--- a budget that may be asked for
-abbrev pub IsBudget : ℕ → Type 0
-IsBudget budget = (1 ≤ budget) × (budget ≤ 4000000)
+-- the first that is missing gives none
+infixl 10 ◌>>=◌
+abbrev pub ◌>>=◌ : {A B : Type 0} → Option A → (A → Option B) → Option B
+x >>= f = option_and_then f x
+
+-- a number from one to another, in digits without a sign or a leading zero
+abbrev pub number_at : Text → ℕ → ℕ → List Row → Option ℕ
+number_at id least most rows = first_of id rows >>= number_within least most
 
 -- the budget: 1 to 4,000,000, and 1,000,000 where none is given
 abbrev pub budget_in : Option Text → Option ℕ
 budget_in None = Some 1000000
-budget_in (Some text) = number_in 1 4000000 text
+budget_in (Some text) = number_within 1 4000000 text
+
+-- a flag is given
+abbrev pub is_set : Text → List Row → Bool
+is_set id rows = option_map_or (bytes_eq (codes "true")) (first_of id rows) false
+
+-- a head whose two voices differ
+abbrev pub if_differ : Head → Option Head
+if_differ head = if head.species_voice == head.cantus_voice then None else Some head
+
+-- how a file is to be read
+abbrev pub head_in : List Row → Option Head
+head_in rows = do
+  mode ← first_of (codes "mode") rows >>= mode_named
+  species ← number_at (codes "species") 1 5 rows
+  voice ← number_at (codes "voice") 0 3 rows
+  cantus ← number_at (codes "cantus") 0 3 rows
+  if_differ (record {
+    mode = mode;
+    species = species;
+    species_voice = voice;
+    cantus_voice = cantus;
+    top_first = is_set (codes "top-first") rows;
+  })
+
+abbrev pub compose_asked : List Row → Option Task
+compose_asked rows = do
+  name ← first_of (codes "EX") rows
+  budget ← budget_in (first_of (codes "budget") rows)
+  Some (on_exercise name (first_of (codes "sheet") rows) (Compose budget))
+
+-- a job that needs nothing but an exercise
+abbrev pub job_asked : Job → List Row → Option Task
+job_asked job rows = first_of (codes "EX") rows >>= λ name. Some (on_exercise name None job)
+
+abbrev pub fromsmf_asked : List Row → Option Task
+fromsmf_asked rows = do
+  name ← first_of (codes "FILE") rows
+  head ← head_in rows
+  Some (fromsmf name head)
+
+abbrev pub drill_asked : List Row → Option Task
+drill_asked rows = number_at (codes "N") 0 1000000 rows >>= λ number. Some (drill number)
 
 -- ---- the commands by their first words
 
-abbrev pub compose_asked : List Row → Option Task
-compose_asked rows = option_and_then (λ name. option_map (compose name) (budget_in (first_of (codes "budget") rows)))
-    (first_of (codes "EX") rows)
+-- what the values in words of a form ask for
+abbrev pub asked_by : App → (List Row → Option Task) → List Text → Option Task
+asked_by form asks words = found_in form words >>= asks
 
--- EX, in the words of a command that takes nothing else
-abbrev pub exercise_in : Text → List Text → Option Text
-exercise_in name words = option_and_then (first_of (codes "EX")) (found_in (exercise_words name) words)
+-- what a job asks for in the words behind its name
+abbrev pub job_in : Text → Job → List Text → Option Task
+job_in name job = asked_by (exercise_words name) (job_asked job)
 
 -- what the words ask for, if they are of a command's form
 abbrev pub asked : List Text → Option Task
 asked [] = None
 asked (word ∷ rest) =
-    if bytes_eq word (codes "compose") then option_and_then compose_asked (found_in (compose_words word) rest)
-    else (if bytes_eq word (codes "mark") then option_map mark (exercise_in word rest)
-    else (if bytes_eq word (codes "cantus") then option_map cantus (exercise_in word rest)
-    else (if bytes_eq word (codes "print") then option_map print (exercise_in word rest)
-    else (if bytes_eq word (codes "tosmf") then option_map tosmf (exercise_in word rest)
-    else None))))
+    if bytes_eq word (codes "compose") then asked_by compose_words compose_asked rest
+    else (if bytes_eq word (codes "mark") then job_in (codes "mark") Mark rest
+    else (if bytes_eq word (codes "cantus") then job_in (codes "cantus") Cantus rest
+    else (if bytes_eq word (codes "print") then job_in (codes "print") Print rest
+    else (if bytes_eq word (codes "tosmf") then job_in (codes "tosmf") ToSmf rest
+    else (if bytes_eq word (codes "fromsmf") then asked_by fromsmf_words fromsmf_asked rest
+    else (if bytes_eq word (codes "drill") then asked_by drill_words drill_asked rest
+    else None))))))
 
 -- ---- the files
 
--- the name of the exercise that a command is about
+-- the name that a line about a refused file tells, where it tells one
 abbrev pub name_in : Task → Text
-name_in (compose name budget) = name
-name_in (mark name) = name
-name_in (cantus name) = name
-name_in (print name) = name
-name_in (tosmf name) = name
+name_in (on_exercise name sheet job) = name
+name_in (fromsmf name head) = name
+name_in (drill number) = []
+
+-- what there is, as a list
+abbrev pub as_list : {X : Type 0} → Option X → List X
+as_list None = []
+as_list (Some x) = x ∷ []
 
 -- the names of the files that a command reads before its work, in the order of reading
 abbrev pub names_in : Task → List Text
-names_in task = name_in task ∷ []
+names_in (on_exercise name sheet job) = name ∷ as_list sheet
+names_in (fromsmf name head) = name ∷ []
+names_in (drill number) = []
+
+-- how many bytes of each of them are read at most
+abbrev pub limit_in : Task → ℕ
+limit_in (on_exercise name sheet job) = 65536
+limit_in (fromsmf name head) = 1048576
+limit_in (drill number) = 65536

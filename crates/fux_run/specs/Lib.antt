@@ -1,9 +1,13 @@
 pub mod Commands
 pub mod Complaints
 pub mod Composed
+pub mod Drilled
 pub mod Marked
+pub mod Played
 pub mod Rendered
 pub mod Runs
+pub mod Searched
+pub mod Sheets
 pub mod Sinks
 pub mod Statuses
 pub mod Texts

@@ -7,6 +7,8 @@ use Rattle.fux_run.specs.declared.status.Status.{Status}
 use Rattle.fux_run.specs.declared.status.Status.TheVariants.{Favorable, Unfavorable, Usage, Refused, Unreadable, Unwritable, Spent, OutOfMemory}
 use Rattle.fux_run.specs.declared.refusal.Refusal.{Refusal}
 use Rattle.fux_run.specs.declared.work.Output.{Output}
+use Rattle.fux_run.specs.declared.work.Stop.{Stop}
+use Rattle.fux_run.specs.declared.work.Stop.TheVariants as stop
 use Rattle.fux_run.specs.declared.work.Verdict.{Verdict}
 use Rattle.fux_run.specs.Commands.{Task, name_in, names_in}
 use Rattle.fux_run.specs.Complaints.{complaint_status, complaint_text, fux_line, refusal_text}
@@ -68,6 +70,14 @@ pub record IsRefused (name text : List ℕ) (work : Work) : Type 0 where
   pub is : work ≡ Err refusal
   pub told : text ≡ refusal_text name refusal
 
+-- what a command made of its files, or why it made nothing, with the cause
+abbrev pub IsMade : Task → Files → Type 0 → Result Output Complaint → Type 0
+IsMade task files rose (Ok output) = Works task files (λ work. work ≡ Ok output)
+IsMade task files rose (Err (complaint.Refused text)) = Works task files (IsRefused (name_in task) text)
+IsMade task files rose (Err (complaint.Unreadable name)) = IsUnread files rose (names_in task) name.now
+IsMade task files rose (Err complaint.OutOfMemory) = Unit {0}
+IsMade task files rose (Err _) = ⊥
+
 -- how a command's work on its files ended, with the cause: what was written to standard output, and what is to be said
 abbrev pub Ended : Task → Files → Type 0 → Type 0 → Option (List ℕ) → Option (List ℕ) → Result Verdict Complaint → Type 0
 Ended task files rose cut old new (Ok verdict) = Works task files (IsWritten old new verdict)
@@ -93,6 +103,13 @@ abbrev pub SaysRefusal : List ℕ → Complaint → Type 0
 SaysRefusal said (complaint.Refused text) = text ≡ said
 SaysRefusal said complaint.OutOfMemory = Unit {0}
 SaysRefusal said _ = ⊥
+
+-- an answer of a command as a run tells it: its output, or what is said where there is none
+abbrev pub Says : List ℕ → Result Output Stop → Result Output Complaint → Type 0
+Says name (Ok output) told = told ≡ Ok output
+Says name (Err (stop.Refused refusal)) (Err complaint) = SaysRefusal (refusal_text name refusal) complaint
+Says name (Err (stop.Refused refusal)) (Ok output) = ⊥
+Says name (Err stop.Memory) told = told ≡ Err complaint.OutOfMemory
 
 -- the status that a run ends with
 abbrev pub result_status : Result Verdict Complaint → Status

@@ -1,5 +1,5 @@
 -- What the commands make of their files.
-use Rattle.std.specs.Prelude.{◌≡◌, ℕ, ◌<◌, ◌⊎◌, List, [], ◌∷◌, Option, None, Result, Ok, Err, length}
+use Rattle.std.specs.Prelude.{◌≡◌, ℕ, ◌<◌, ◌⊎◌, List, [], ◌∷◌, Option, Some, None, Result, Ok, Err, length}
 use Rattle.fux_grid.specs.declared.exercise.Exercise.{Exercise}
 use Rattle.fux_port.specs.Files.{file_of, HasFile, IsMissing}
 use Rattle.fux_run.specs.declared.complaint.Complaint.{Complaint}
@@ -9,28 +9,36 @@ use Rattle.fux_run.specs.declared.content.Content.TheVariants.{Whole, TooLong}
 use Rattle.fux_run.specs.declared.work.Output.{Output}
 use Rattle.fux_run.specs.declared.work.Stop.{Stop}
 use Rattle.fux_run.specs.declared.work.Stop.TheVariants.{Refused, Memory}
-use Rattle.fux_run.specs.Commands.{Task, compose, mark, cantus, print, tosmf, names_in}
+use Rattle.fux_run.specs.declared.command.Job.{Job}
+use Rattle.fux_run.specs.declared.command.Job.TheVariants.{Compose, Mark, Cantus, Print, ToSmf}
+use Rattle.penalty_sheet.specs.declared.sheet.Sheet.{Sheet}
+use Rattle.fux_run.specs.Commands.{Task, on_exercise, fromsmf, drill, as_list, names_in}
 use Rattle.fux_run.specs.Composed.{Composes}
+use Rattle.fux_run.specs.Drilled.{Drills}
 use Rattle.fux_run.specs.Marked.{Marks, CantusMarks}
+use Rattle.fux_run.specs.Played.{ReadsMidi}
 use Rattle.fux_run.specs.Rendered.{Prints, WritesSmf}
+use Rattle.fux_run.specs.Sheets.{OnSheet}
 use Rattle.fux_run.specs.Texts.{Work, OnText}
 
--- a command makes this of an exercise
-abbrev pub MakesOf : Task → Exercise → Work → Type 0
-MakesOf (compose name budget) ex = Composes budget ex
-MakesOf (mark name) ex = Marks ex
-MakesOf (cantus name) ex = CantusMarks ex
-MakesOf (print name) ex = Prints ex
-MakesOf (tosmf name) ex = WritesSmf ex
+-- a job makes this of an exercise, over the sheet in use
+abbrev pub MakesOf : Job → Sheet → Exercise → Work → Type 0
+MakesOf (Compose budget) sheet ex = Composes budget sheet ex
+MakesOf Mark sheet ex = Marks ex
+MakesOf Cantus sheet ex = CantusMarks ex
+MakesOf Print sheet ex = Prints ex
+MakesOf ToSmf sheet ex = WritesSmf ex
 
--- a command makes this of the text of an exercise
-abbrev pub MakesOfText : Task → List ℕ → Work → Type 0
-MakesOfText task text = OnText (MakesOf task) text
+-- a job makes this of the text of an exercise, and of the file of a sheet where one is given
+abbrev pub MakesOfText : Job → List (List ℕ) → List ℕ → Work → Type 0
+MakesOfText job sheets text = OnText (λ ex. OnSheet (λ sheet. MakesOf job sheet ex) sheets) text
 
 -- a command makes this of files with these bytes, in the order of reading
 abbrev pub Makes : Task → List (List ℕ) → Work → Type 0
-Makes task (text ∷ []) work = MakesOfText task text work
-Makes task _ work = ⊥
+Makes (on_exercise name sheet job) (text ∷ sheets) work = MakesOfText job sheets text work
+Makes (fromsmf name head) (file ∷ []) work = ReadsMidi head file work
+Makes (drill number) [] work = Drills number work
+Makes _ _ work = ⊥
 
 -- an answer is of such work, or memory is wanting
 abbrev pub Answers : (Work → Type 0) → Result Output Stop → Type 0
@@ -71,11 +79,24 @@ abbrev pub IsContent : ℕ → Content → List ℕ → Type 0
 IsContent limit (Whole read) bytes = read.items ≡ bytes
 IsContent limit TooLong bytes = limit < length bytes
 
+-- so have the contents of files, one after the other
+abbrev pub AreContents : ℕ → List Content → List (List ℕ) → Type 0
+AreContents limit [] [] = Unit {0}
+AreContents limit (content ∷ contents) (bytes ∷ more) = IsContent limit content bytes × AreContents limit contents more
+AreContents limit _ _ = ⊥
+
 -- the content of the file of a name
 pub record IsRead (limit : ℕ) (files : Files) (name : List ℕ) (read : Content) : Type 0 where
   pub bytes : List ℕ
   pub had : MayHave files name bytes
   pub content : IsContent limit read bytes
+
+-- the contents of the files of these names, one after the other
+abbrev pub AreRead : ℕ → Files → List (List ℕ) → List Content → Type 0
+AreRead limit files [] [] = Unit {0}
+AreRead limit files (name ∷ names) (content ∷ contents) =
+    IsRead limit files name content × AreRead limit files names contents
+AreRead limit files _ _ = ⊥
 
 -- the answers of a read, each with its cause
 abbrev pub Reads : ℕ → Files → Type 0 → List ℕ → Result Content Complaint → Type 0
@@ -83,3 +104,9 @@ Reads limit files rose name (Ok content) = IsRead limit files name content
 Reads limit files rose name (Err (complaint.Unreadable file)) = (file.now ≡ name) × (rose ⊎ IsMissing files name)
 Reads limit files rose name (Err complaint.OutOfMemory) = Unit {0}
 Reads limit files rose name (Err _) = ⊥
+
+-- the same of the file of a sheet, where one is named
+abbrev pub ReadsSheetFile : Files → Type 0 → Option (List ℕ) → Result (Option Content) Complaint → Type 0
+ReadsSheetFile files rose named (Ok content) = AreRead 65536 files (as_list named) (as_list content)
+ReadsSheetFile files rose (Some name) (Err complaint) = Reads 65536 files rose name (Err complaint)
+ReadsSheetFile files rose None (Err complaint) = ⊥

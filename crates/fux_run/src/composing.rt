@@ -1,82 +1,70 @@
 //! The command `compose`.
 
-ghost use Rattle.std.specs.Prelude.{◌≡◌, IfOk, string_bytes};
-ghost use Rattle.fux_grid.specs.Exercises.{IsValid, columns_in};
-ghost use Rattle.species_space.specs.Paths.{live_at};
-ghost use Rattle.tree_search.specs.Answer.{IsFirstLeast};
-ghost use Rattle.fux_run.specs.Composed.{usual_sheet, none_line, bound_line, Composes, Tells, TellsBest};
+ghost use Rattle.std.specs.Prelude.{◌≡◌, ℕ, ◌++◌, IfOk, string_bytes};
+ghost use Rattle.fux_grid.specs.Exercises.{IsComplete, IsValid};
+ghost use Rattle.fux_text.specs.Lines.{setting_text};
+ghost use Rattle.penalty_sheet.specs.declared.sheet.Sheet.{Sheet as ASheet};
+ghost use Rattle.fux_run.specs.Composed.{Composes, Tells, bound_line, none_line, penalty_line};
+ghost use Rattle.fux_run.specs.Searched.{HasWholeScore, IsFound};
 ghost use Rattle.fux_run.specs.Works.{Answers};
 
-use crate::refusal::Refusal;
+use crate::searching::{Found, best_setting};
 use crate::work::{Output, Stop, Verdict};
-use fux_grid::Exercise;
+use fux_grid::{Exercise, Score};
 use fux_pitch::Memory;
 use fux_text::write;
-use penalty_sheet::default_sheet;
-use species_space::{SpeciesSpace, TableFault, score_of};
+use penalty_sheet::Sheet;
 use std::alloc::Global;
 use std::fmt::Write;
 use std::thread::Threads;
-use tree_search::{Outcome, search_depth};
 
-/// The best setting of an exercise, that there is none, or a bound.
+/// The best setting of an exercise over a sheet of weights, that there is none, or a bound.
 pub fn compose<R: Threads + Sync>(
     rt: &R,
     alloc: Global,
     exercise: &Exercise,
+    sheet: &Sheet,
     budget: u32,
 ) -> Result<Output, Stop>
     requires { IsValid exercise.now }
-    ensures { Answers (Composes budget exercise.now) result }
+    ensures { Answers (Composes budget sheet.now exercise.now) result }
 {
-    let sheet = default_sheet();
-    let space = match SpeciesSpace::new(rt, alloc, exercise, &sheet) {
-        Ok(space) => space,
-        Err(TableFault::Memory) => return Err(Stop::Memory),
-        Err(TableFault::TooWide { place, count }) => return Err(Stop::Refused(Refusal::TooWide {
-            place,
-            count,
-        })),
-    };
-    Ok(search(alloc, exercise, &space, budget)?)
-}
-
-/// Searches the settings of an exercise.
-fn search(
-    alloc: Global,
-    exercise: &Exercise,
-    space: &SpeciesSpace<'_>,
-    budget: u32,
-) -> Result<Output, Memory>
-    requires valid { IsValid exercise.now }
-    requires space { space.now ≡ record { exercise = exercise.now; sheet = usual_sheet } }
-    ensures { IfOk result (λ output. Tells exercise.now budget output.verdict output.bytes) }
-{
-    match search_depth(alloc, space, budget)? {
-        Outcome::Found { path, value } => Ok(Output::of_text(
-            Verdict::Favorable,
-            best_text(alloc, exercise, space, path.as_slice(), value)?,
-        )),
-        Outcome::Nothing => Ok(Output::of_text(Verdict::Unfavorable, none_text(alloc)?)),
-        Outcome::Spent { bound } => Ok(Output::of_text(Verdict::Spent, bound_text(alloc, bound)?)),
+    match best_setting(rt, alloc, exercise, sheet, budget) {
+        Ok(found) => Ok(found_output(alloc, exercise, &found)?),
+        Err(stop) => Err(stop),
     }
 }
 
-/// The exercise with the setting that a path leads to, and its penalty.
+/// What is written of what was found, by whichever sheet and within whichever budget.
+fn found_output(alloc: Global, exercise: &Exercise, found: &Found) -> Result<Output, Memory>
+    requires valid { IsValid exercise.now }
+    requires complete { HasWholeScore exercise.now found.now }
+    ensures { (sheet : ASheet) (budget : ℕ) → IsFound exercise.now sheet budget found.now
+        → IfOk result (λ output. Tells exercise.now sheet budget output.verdict output.bytes) }
+{
+    match found {
+        Found::Best { score, penalty } => Ok(Output::of_text(
+            Verdict::Favorable,
+            best_text(alloc, exercise, score, *penalty)?,
+        )),
+        Found::Nothing => Ok(Output::of_text(Verdict::Unfavorable, none_text(alloc)?)),
+        Found::Spent { bound } => Ok(Output::of_text(Verdict::Spent, bound_text(alloc, *bound)?)),
+    }
+}
+
+/// The exercise with a setting, and a penalty.
 fn best_text(
     alloc: Global,
     exercise: &Exercise,
-    space: &SpeciesSpace<'_>,
-    path: &[u16],
+    score: &Score,
     penalty: u64,
 ) -> Result<String, Memory>
     requires valid { IsValid exercise.now }
-    requires space { space.now ≡ record { exercise = exercise.now; sheet = usual_sheet } }
-    requires first { IsFirstLeast (live_at exercise.now usual_sheet) (columns_in exercise.now) path.now penalty }
-    ensures { IfOk result (λ text. TellsBest exercise.now (string_bytes text)) }
+    requires complete { IsComplete exercise.now score.now }
+    ensures { IfOk result (λ text. string_bytes text
+        ≡ setting_text exercise.now score.now.columns ++ penalty_line penalty) }
 {
-    let score = score_of(alloc, space, path)?;
-    let mut text = write(alloc, exercise, Some(&score))?;
+    let mut text = write(alloc, exercise, Some(score))?;
     write!(text, "; penalty {penalty}\n")?;
     Ok(text)
 }

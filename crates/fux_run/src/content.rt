@@ -1,6 +1,6 @@
 //! The content of a file.
 
-ghost use Rattle.std.specs.Prelude.{◌≡◌};
+ghost use Rattle.std.specs.Prelude.{◌≡◌, ◌≤◌};
 ghost use Rattle.fux_port.specs.Counts.{Rose};
 ghost use Rattle.fux_run.specs.Works.{Reads};
 
@@ -26,6 +26,7 @@ pub fn read_content<'a, F: Shelf>(
 ) -> Result<Content, Complaint<'a>>
     ensures reads { Reads limit (F.files shelf.old) (Rose (F.faults shelf.old) (F.faults shelf.new)) name.now result }
     ensures files { F.files shelf.new ≡ F.files shelf.old }
+    ensures faults { F.faults shelf.old ≤ F.faults shelf.new }
 {
     match read_whole(alloc, shelf, name, limit) {
         Ok(bytes) => Ok(Content::Whole(bytes)),

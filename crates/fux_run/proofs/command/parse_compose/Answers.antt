@@ -1,33 +1,7 @@
-use Rattle.std.proofs.Common.{None, Some, codes, refl, ap, ◌∙◌}
-use Rattle.clap.specs.Words.{app_of, found_of, is_simple_and_free, rows_of}
-use Rattle.fux_run.specs.Commands.{compose, compose_asked, texts}
-use Rattle.fux_run.proofs.Forms.{compose_is_simple}
-use Rattle.fux_run.proofs.Taken.{asked_so, first_word}
+use Rattle.std.proofs.Common.{ap, ◌∙◌}
+use Rattle.clap.specs.Words.{is_simple_and_free}
+use Rattle.fux_run.proofs.SimpleForms.{compose_is_simple}
 use Rattle.fux_run.proofs.command.parse_compose.Goals as goal
 
 pub taken-requires : goal.taken-requires
-taken-requires c = ap is_simple_and_free c.in_ok-compose_command.ensures ∙ compose_is_simple
-
-pub returns-in_default-get_str : goal.returns-in_default-get_str
-returns-in_default-get_str c =
-    let found = found_of c.in-Some.matches in
-    let value = first_word found (codes "EX") None c.in_default-get_str.ensures in
-    asked_so compose_asked (app_of c.in_ok-compose_command.field-0) _ (texts c.args.words.now) (rows_of found) None
-    (rw c.in-Some.is at c.in_ok-matches.ensures) c.in_ok-compose_command.ensures (rw value refl)
-
-pub returns-in_default-budget_of : goal.returns-in_default-budget_of
-returns-in_default-budget_of c =
-    let found = found_of c.in-Some.matches in
-    let value = first_word found (codes "EX") (Some c.in-Some-get_str.name.now) c.in-Some-get_str.ensures in
-    let word = first_word found (codes "budget") _ c.get_str-2.ensures in
-    asked_so compose_asked (app_of c.in_ok-compose_command.field-0) _ (texts c.args.words.now) (rows_of found) None
-    (rw c.in-Some.is at c.in_ok-matches.ensures) c.in_ok-compose_command.ensures (rw (value, word, ← c.in_default-budget_of.ensures) refl)
-
-pub returns : goal.returns
-returns c =
-    let found = found_of c.in-Some.matches in
-    let value = first_word found (codes "EX") (Some c.in-Some-get_str.name.now) c.in-Some-get_str.ensures in
-    let word = first_word found (codes "budget") _ c.get_str-2.ensures in
-    asked_so compose_asked (app_of c.in_ok-compose_command.field-0) _ (texts c.args.words.now) (rows_of found)
-    (Some (compose c.in-Some-get_str.name.now c.in-Some-budget_of.budget))
-    (rw c.in-Some.is at c.in_ok-matches.ensures) c.in_ok-compose_command.ensures (rw (value, word, ← c.in-Some-budget_of.ensures) refl)
+taken-requires c = ap is_simple_and_free c.in_ok-compose_form.ensures ∙ compose_is_simple

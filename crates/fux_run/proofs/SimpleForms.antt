@@ -1,0 +1,21 @@
+-- The commands of `clap` are simple, so that its contract says all of them.
+use Rattle.std.proofs.Common.{◌≡◌, true, refl}
+use Rattle.clap.specs.Words.{Text, is_simple_and_free}
+use Rattle.clap.proofs.OnLiterals.{clap_on_literals}
+use Rattle.fux_run.specs.Commands.{compose_words, drill_words, exercise_words, fromsmf_words}
+
+pub compose_is_simple : is_simple_and_free compose_words ≡ true
+unfolding clap_on_literals
+compose_is_simple = refl
+
+pub exercise_is_simple : (name : Text) → is_simple_and_free (exercise_words name) ≡ true
+unfolding clap_on_literals
+exercise_is_simple name = refl
+
+pub fromsmf_is_simple : is_simple_and_free fromsmf_words ≡ true
+unfolding clap_on_literals
+fromsmf_is_simple = refl
+
+pub drill_is_simple : is_simple_and_free drill_words ≡ true
+unfolding clap_on_literals
+drill_is_simple = refl

@@ -1,0 +1,49 @@
+use Rattle.std.proofs.Common.{◌∷◌, []}
+use Rattle.std.proofs.lemmas.Result.{err_from_is_err_and}
+use Rattle.fux_port.specs.Counts.{Rose}
+use Rattle.fux_port.proofs.Rises.{rose_later}
+use Rattle.fux_run.specs.Commands.{as_list, drill, fromsmf, on_exercise}
+use Rattle.fux_run.proofs.MakeLemmas.{made_said, of_none, of_one, of_two, read_same, sheet_named, sheet_unread}
+use Rattle.fux_run.proofs.making.make.Goals as goal
+
+pub returns-in_err-weights-in-OnExercise-clause-made :
+    goal.returns-in_err-weights-in-OnExercise-clause-made
+returns-in_err-weights-in-OnExercise-clause-made g c =
+    let files = g.F.Shelf.files in
+    let faults = g.F.Shelf.faults in
+    let told = err_from_is_err_and c.from_residual-in_err-weights-in-OnExercise.result
+    c.from_residual-in_err-weights-in-OnExercise.ensures.1 in
+    rw (c.in-OnExercise.is, told.1, told.2) (sheet_unread c.in-OnExercise.name.now (sheet_named c.in-OnExercise.sheet) c.in-OnExercise.job
+    (files c.args.shelf.now) (files c.read_content.new.shelf) (Rose (faults c.args.shelf.now) (faults c.read_weights.new.shelf))
+    (Rose (faults c.read_content.new.shelf) (faults c.read_weights.new.shelf)) 65536 c.in_ok-text-in-OnExercise.text _
+    c.in_ok-text-in-OnExercise.ensures.reads c.in_ok-text-in-OnExercise.ensures.files
+    (rose_later _ _ _ c.in_ok-text-in-OnExercise.ensures.faults) c.in_err-weights-in-OnExercise.ensures.reads)
+
+pub returns-in_ok-weights-in-OnExercise-clause-made : goal.returns-in_ok-weights-in-OnExercise-clause-made
+returns-in_ok-weights-in-OnExercise-clause-made g c =
+    let name = c.in-OnExercise.name.now in
+    let sheet = sheet_named c.in-OnExercise.sheet in
+    let job = c.in-OnExercise.job in
+    let text = c.in_ok-text-in-OnExercise.text in
+    let weights = c.in_ok-weights-in-OnExercise.weights in
+    rw c.in-OnExercise.is (made_said (on_exercise name sheet job) (g.F.Shelf.files c.args.shelf.now) _
+    (text ∷ as_list weights) c.of_texts.result c.said.result (
+      c.in_ok-text-in-OnExercise.ensures.reads,
+      read_same 65536 (g.F.Shelf.files c.args.shelf.now) _ (as_list sheet) (as_list weights) c.in_ok-text-in-OnExercise.ensures.files
+          c.in_ok-weights-in-OnExercise.ensures.reads,
+    )
+    (of_two name sheet job text weights c.of_texts.result c.of_texts.ensures) c.said.ensures)
+
+pub returns-in_ok-file-in-FromSmf-clause-made : goal.returns-in_ok-file-in-FromSmf-clause-made
+returns-in_ok-file-in-FromSmf-clause-made g c =
+    let name = c.in-FromSmf.name.now in
+    let head = c.in-FromSmf.head in
+    let file = c.in_ok-file-in-FromSmf.file in
+    rw c.in-FromSmf.is (made_said (fromsmf name head) (g.F.Shelf.files c.args.shelf.now) _ (file ∷ []) c.from_smf.result
+    c.said-in-FromSmf.result (c.in_ok-file-in-FromSmf.ensures.reads, tt)
+    (of_one name head file c.from_smf.result c.from_smf.ensures) c.said-in-FromSmf.ensures)
+
+pub returns-in-Drill-clause-made : goal.returns-in-Drill-clause-made
+returns-in-Drill-clause-made g c =
+    rw c.in-Drill.is (made_said (drill c.in-Drill.number) (g.F.Shelf.files c.args.shelf.now) _ [] c.drill.result
+    c.said-in-Drill.result tt (of_none c.in-Drill.number c.drill.result c.drill.ensures) c.said-in-Drill.ensures)

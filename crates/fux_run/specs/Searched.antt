@@ -1,0 +1,60 @@
+-- What a search for the best setting of an exercise finds, over a sheet of weights.
+use Rattle.std.specs.Prelude.{◌≡◌, ℕ, ◌+◌, ◌<◌, ◌≤◌, Result, Ok, Err, length}
+use Rattle.fux_grid.specs.declared.exercise.Exercise.{Exercise}
+use Rattle.fux_grid.specs.Exercises.{HasCantus, IsComplete, columns_in}
+use Rattle.fux_grid.specs.Grid.{Grid}
+use Rattle.fux_grid.specs.Menus.{menu_of}
+use Rattle.penalty_sheet.specs.declared.sheet.Sheet.{Sheet}
+use Rattle.penalty_sheet.specs.Weights.{default_weights}
+use Rattle.fux_judge.specs.Lawful.{IsBest, HasNoLawful, BoundsLawful, HasLive, HasLiveAtMost}
+use Rattle.fux_judge.specs.Penalties.{penalty_of}
+use Rattle.species_space.specs.Task.{IsTooWide}
+use Rattle.fux_run.specs.declared.refusal.Refusal.{Refusal}
+use Rattle.fux_run.specs.declared.refusal.Refusal.TheVariants.{TooWide}
+use Rattle.fux_run.specs.declared.searching.Found.{Found}
+use Rattle.fux_run.specs.declared.searching.Found.TheVariants.{Best, Nothing, Spent}
+use Rattle.fux_run.specs.declared.work.Stop.{Stop}
+use Rattle.fux_run.specs.declared.work.Stop.TheVariants.{Refused, Memory}
+
+-- the sheet that counts where none is given
+abbrev pub usual_sheet : Sheet
+usual_sheet = record { weights = default_weights }
+
+-- the best setting, over the cantus as it is, with its penalty
+pub record IsBestFound (ex : Exercise) (sheet : Sheet) (score : Grid) (penalty : ℕ) : Type 0 where
+  pub best : IsBest ex sheet score.columns
+  pub cantus : HasCantus ex score.columns
+  pub complete : IsComplete ex score
+  pub charged : penalty ≡ penalty_of ex sheet score.columns
+
+-- a bound that the penalty of every lawful setting reaches; there are more live prefixes than the budget has units
+pub record IsBound (ex : Exercise) (sheet : Sheet) (budget bound : ℕ) : Type 0 where
+  pub reached : BoundsLawful ex sheet bound
+  pub many : HasLive ex (budget + 1)
+  pub scarce : HasLiveAtMost ex budget → ⊥
+
+-- what was found is so
+abbrev pub IsFound : Exercise → Sheet → ℕ → Found → Type 0
+IsFound ex sheet budget (Best score penalty) = IsBestFound ex sheet score penalty
+IsFound ex sheet budget Nothing = HasNoLawful ex
+IsFound ex sheet budget (Spent bound) = IsBound ex sheet budget bound
+
+-- a setting that was found has the exercise's voices and all columns
+abbrev pub HasWholeScore : Exercise → Found → Type 0
+HasWholeScore ex (Best score penalty) = IsComplete ex score
+HasWholeScore ex _ = Unit {0}
+
+-- no menu of the exercise is too wide
+abbrev pub IsNarrow : Exercise → Type 0
+IsNarrow ex = (i : ℕ) → i < columns_in ex → length (menu_of ex i) ≤ 8192
+
+-- a refusal of an exercise one of whose menus is too wide
+abbrev pub RefusesWidth : Exercise → Refusal → Type 0
+RefusesWidth ex (TooWide place count) = IsTooWide ex place count
+RefusesWidth ex _ = ⊥
+
+-- what a search over an exercise answers
+abbrev pub Finds : Exercise → Sheet → ℕ → Result Found Stop → Type 0
+Finds ex sheet budget (Ok found) = IsNarrow ex × IsFound ex sheet budget found
+Finds ex sheet budget (Err (Refused refusal)) = RefusesWidth ex refusal
+Finds ex sheet budget (Err Memory) = Unit {0}

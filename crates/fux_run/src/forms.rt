@@ -1,0 +1,83 @@
+//! The forms of the words behind a command's name, as simple commands of `clap`.
+
+ghost use Rattle.std.specs.Prelude.{◌≡◌, IfOk, codes};
+ghost use Rattle.clap.specs.Words.{app_of, with_rule};
+ghost use Rattle.fux_run.specs.Commands.{compose_words, drill_words, exercise_words, flag_word, fromsmf_words, head_words, one_word, option_word};
+
+use clap::{Arg, ArgAction, Command};
+use std::alloc::{AllocError, Global};
+
+/// A command with one word that must be there.
+fn one_word<'a>(alloc: Global, name: &'a str, word: &'a str) -> Result<Command<'a>, AllocError>
+    ensures { IfOk result (λ command. app_of command ≡ one_word name.entry.now word.entry.now) }
+{
+    let needed = Arg::new(alloc, word).required(true);
+    Command::new(alloc, name).no_binary_name(true).arg(needed)
+}
+
+/// The command with an option more.
+fn with_option<'a>(
+    alloc: Global,
+    command: Command<'a>,
+    name: &'a str,
+    needed: bool,
+) -> Result<Command<'a>, AllocError>
+    ensures { IfOk result (λ longer. app_of longer ≡ with_rule (app_of command.entry) (option_word needed name.entry.now)) }
+{
+    let option = Arg::new(alloc, name).long(name).required(needed);
+    command.arg(option)
+}
+
+/// The command with a flag more, which takes no value.
+fn with_flag<'a>(
+    alloc: Global,
+    command: Command<'a>,
+    name: &'a str,
+) -> Result<Command<'a>, AllocError>
+    ensures { IfOk result (λ longer. app_of longer ≡ with_rule (app_of command.entry) (flag_word name.entry.now)) }
+{
+    let flag = Arg::new(alloc, name).long(name).action(ArgAction::SetTrue);
+    command.arg(flag)
+}
+
+/// `NAME EX`.
+pub fn exercise_form<'a>(alloc: Global, name: &'a str) -> Result<Command<'a>, AllocError>
+    ensures { IfOk result (λ command. app_of command ≡ exercise_words name.entry.now) }
+{
+    one_word(alloc, name, "EX")
+}
+
+/// `compose EX [--sheet S] [--budget N]`.
+pub fn compose_form<'a>(alloc: Global) -> Result<Command<'a>, AllocError>
+    ensures { IfOk result (λ command. app_of command ≡ compose_words) }
+{
+    let command = exercise_form(alloc, "compose")?;
+    let command = with_option(alloc, command, "sheet", false)?;
+    with_option(alloc, command, "budget", false)
+}
+
+/// `drill N`.
+pub fn drill_form<'a>(alloc: Global) -> Result<Command<'a>, AllocError>
+    ensures { IfOk result (λ command. app_of command ≡ drill_words) }
+{
+    one_word(alloc, "drill", "N")
+}
+
+/// The command with what says how a file is to be read.
+fn with_head<'a>(alloc: Global, command: Command<'a>) -> Result<Command<'a>, AllocError>
+    ensures { IfOk result (λ longer. app_of longer ≡ head_words (app_of command.entry)) }
+{
+    let command = with_option(alloc, command, "mode", true)?;
+    let command = with_option(alloc, command, "species", true)?;
+    let command = with_option(alloc, command, "voice", true)?;
+    with_option(alloc, command, "cantus", true)
+}
+
+/// `fromsmf FILE --mode M --species N --voice V --cantus C [--top-first]`.
+pub fn from_smf_form<'a>(alloc: Global) -> Result<Command<'a>, AllocError>
+    ensures { IfOk result (λ command. app_of command ≡ fromsmf_words) }
+{
+    let command = one_word(alloc, "fromsmf", "FILE")?;
+    let command = with_head(alloc, command)?;
+    with_flag(alloc, command, "top-first")
+}

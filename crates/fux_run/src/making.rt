@@ -1,0 +1,132 @@
+//! What a command makes of its files.
+
+ghost use Rattle.std.specs.Prelude.{◌≡◌, ◌≤◌, ℕ, List, option_map};
+ghost use Rattle.fux_grid.specs.Exercises.{IsValid};
+ghost use Rattle.fux_port.specs.Counts.{Rose};
+ghost use Rattle.fux_run.specs.Commands.{HasHead, as_list, task_of};
+ghost use Rattle.fux_run.specs.Complaints.{refusal_text};
+ghost use Rattle.fux_run.specs.Runs.{IsMade, Says, SaysRefusal};
+ghost use Rattle.fux_run.specs.Works.{Answers, AreContents, IsContent, MakesOf, MakesOfText, ReadsSheetFile};
+
+use crate::command::{Command, Job};
+use crate::complaint::Complaint;
+use crate::composing::compose;
+use crate::content::{Content, read_content};
+use crate::drilling::drill;
+use crate::exercise::{LONGEST_TEXT, exercise_of};
+use crate::marking::{cantus, mark};
+use crate::playing::{LONGEST_MIDI, from_smf};
+use crate::refusal::{Refusal, refusal_text};
+use crate::rendering::{print, to_smf};
+use crate::weighing::sheet_of;
+use crate::work::{Output, Stop};
+use fux_grid::Exercise;
+use fux_pitch::Memory;
+use fux_port::Shelf;
+use penalty_sheet::Sheet;
+use std::alloc::Global;
+use std::thread::Threads;
+
+/// What a command makes of its files, all of which are read before its work.
+pub fn make<'a, F: Shelf, R: Threads + Sync>(
+    rt: &R,
+    alloc: Global,
+    command: Command<'a>,
+    shelf: &mut F,
+) -> Result<Output, Complaint<'a>>
+    requires { HasHead command }
+    ensures made { IsMade (task_of command.entry) (F.files shelf.old)
+        (Rose (F.faults shelf.old) (F.faults shelf.new)) result }
+    ensures files { F.files shelf.new ≡ F.files shelf.old }
+{
+    match command {
+        Command::OnExercise { name, sheet, job } => {
+            let text = read_content(alloc, shelf, name, LONGEST_TEXT)?;
+            let weights = read_weights(alloc, shelf, sheet)?;
+            said(alloc, name, of_texts(rt, alloc, &text, &weights, job))
+        }
+        Command::FromSmf { name, head } => {
+            let file = read_content(alloc, shelf, name, LONGEST_MIDI)?;
+            said(alloc, name, from_smf(alloc, &file, &head))
+        }
+        Command::Drill { number } => said(alloc, "", drill(rt, alloc, number)),
+    }
+}
+
+/// Reads the file of the sheet, where one is named.
+fn read_weights<'a, F: Shelf>(
+    alloc: Global,
+    shelf: &mut F,
+    name: Option<&'a str>,
+) -> Result<Option<Content>, Complaint<'a>>
+    ensures reads { ReadsSheetFile (F.files shelf.old) (Rose (F.faults shelf.old) (F.faults shelf.new))
+        (option_map (λ text. text.now) name.entry) result }
+    ensures files { F.files shelf.new ≡ F.files shelf.old }
+    ensures faults { F.faults shelf.old ≤ F.faults shelf.new }
+{
+    match name {
+        None => Ok(None),
+        Some(name) => Ok(Some(read_content(alloc, shelf, name, LONGEST_TEXT)?)),
+    }
+}
+
+/// What a job makes of the text of an exercise, and of the file of a sheet where one is given.
+fn of_texts<R: Threads + Sync>(
+    rt: &R,
+    alloc: Global,
+    text: &Content,
+    weights: &Option<Content>,
+    job: Job,
+) -> Result<Output, Stop>
+    ensures { (bytes : List ℕ) (sheets : List (List ℕ)) → IsContent 65536 text.now bytes
+        → AreContents 65536 (as_list weights.now) sheets → Answers (MakesOfText job sheets bytes) result }
+{
+    let exercise = exercise_of(alloc, text)?;
+    let sheet = sheet_of(alloc, weights)?;
+    of_exercise(rt, alloc, &exercise, &sheet, job)
+}
+
+/// What a job makes of an exercise, over a sheet of weights.
+fn of_exercise<R: Threads + Sync>(
+    rt: &R,
+    alloc: Global,
+    exercise: &Exercise,
+    sheet: &Sheet,
+    job: Job,
+) -> Result<Output, Stop>
+    requires { IsValid exercise.now }
+    ensures { Answers (MakesOf job sheet.now exercise.now) result }
+{
+    match job {
+        Job::Compose { budget } => compose(rt, alloc, exercise, sheet, budget),
+        Job::Mark => mark(alloc, exercise),
+        Job::Cantus => cantus(alloc, exercise),
+        Job::Print => print(alloc, exercise),
+        Job::ToSmf => to_smf(alloc, exercise),
+    }
+}
+
+/// The output of an answer, or what is said where there is none, with this name for a text that is refused.
+fn said(
+    alloc: Global,
+    name: &str,
+    answer: Result<Output, Stop>,
+) -> Result<Output, Complaint<'static>>
+    ensures { Says name.now answer result }
+{
+    match answer {
+        Ok(output) => Ok(output),
+        Err(Stop::Refused(refusal)) => Err(refused(alloc, name, &refusal)),
+        Err(Stop::Memory) => Err(Complaint::OutOfMemory),
+    }
+}
+
+/// The complaint about a refused file of this name.
+fn refused(alloc: Global, name: &str, refusal: &Refusal) -> Complaint<'static>
+    ensures { SaysRefusal (refusal_text name.now refusal.now) result }
+{
+    match refusal_text(alloc, name, refusal) {
+        Ok(text) => Complaint::Refused { text },
+        Err(Memory) => Complaint::OutOfMemory,
+    }
+}

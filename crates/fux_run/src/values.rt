@@ -1,0 +1,158 @@
+//! What the values that words give ask for.
+
+ghost use Rattle.std.specs.Prelude.{◌≡◌, ◌≤◌, IfSome, Some, option_map};
+ghost use Rattle.clap.specs.Words.{first_of, found_of, rows_of};
+ghost use Rattle.fux_text.specs.Lines.{mode_name};
+ghost use Rattle.fux_text.specs.Names.{mode_named};
+ghost use Rattle.smf_score.specs.Heads.{IsHead};
+ghost use Rattle.text_lines.specs.Numbers.{number_within};
+ghost use Rattle.fux_pitch.specs.declared.mode.Mode.{Mode as AMode};
+ghost use Rattle.fux_run.specs.Commands.{HasHead, budget_in, compose_asked, drill_asked, fromsmf_asked, head_in, is_set, job_asked, number_at, task_of};
+
+use crate::command::{Command, Job};
+use clap::ArgMatches;
+use fux_grid::Head;
+use fux_pitch::Mode;
+use text_lines::parse_number;
+
+const USUAL_BUDGET: u32 = 1_000_000;
+
+const GREATEST_BUDGET: u32 = 4_000_000;
+
+/// The greatest number of a drill.
+const LAST_DRILL: u32 = 1_000_000;
+
+/// The first value of an option or a word.
+fn value<'a>(matches: &ArgMatches<'a>, id: &str) -> Option<&'a str>
+    ensures { option_map (λ text. text.now) result ≡ first_of id.now (rows_of (found_of matches.now)) }
+{
+    matches.get_str(id)
+}
+
+/// The number that a word writes, from one to another, in digits without a sign or a leading zero.
+fn number_within(word: &str, least: u32, most: u32) -> Option<u32>
+    ensures value { result ≡ number_within least most word.now }
+    ensures least { IfSome result (λ n. least ≤ n) }
+    ensures most { IfSome result (λ n. n ≤ most) }
+{
+    let number = parse_number(word.as_bytes())?;
+    if least <= number && number <= most {
+        Some(number)
+    } else {
+        None
+    }
+}
+
+/// The number at an option or a word.
+fn number_at(matches: &ArgMatches<'_>, id: &str, least: u32, most: u32) -> Option<u32>
+    ensures value { result ≡ number_at id.now least most (rows_of (found_of matches.now)) }
+    ensures least { IfSome result (λ n. least ≤ n) }
+    ensures most { IfSome result (λ n. n ≤ most) }
+{
+    number_within(value(matches, id)?, least, most)
+}
+
+/// The budget that a word gives, or the usual one where there is none.
+fn budget_of(word: Option<&str>) -> Option<u32>
+    ensures { result ≡ budget_in (option_map (λ text. text.now) word.entry) }
+{
+    match word {
+        Some(word) => number_within(word, 1, GREATEST_BUDGET),
+        None => Some(USUAL_BUDGET),
+    }
+}
+
+/// Whether a flag is given.
+fn is_set(matches: &ArgMatches<'_>, id: &str) -> bool
+    ensures { result ≡ is_set id.now (rows_of (found_of matches.now)) }
+{
+    match value(matches, id) {
+        Some(text) => text == "true",
+        None => false,
+    }
+}
+
+/// The mode of a name.
+fn mode_of(word: &str) -> Option<Mode>
+    ensures named { IfSome result (λ mode. mode_name mode ≡ word.now) }
+    ensures every { (mode : AMode) → mode_name mode ≡ word.now → result ≡ Some mode }
+{
+    match word {
+        "dorian" => Some(Mode::Dorian),
+        "phrygian" => Some(Mode::Phrygian),
+        "lydian" => Some(Mode::Lydian),
+        "mixolydian" => Some(Mode::Mixolydian),
+        "aeolian" => Some(Mode::Aeolian),
+        "ionian" => Some(Mode::Ionian),
+        _ => None,
+    }
+}
+
+/// The mode of a name.
+fn mode_named(word: &str) -> Option<Mode>
+    ensures { result ≡ mode_named word.now }
+{
+    mode_of(word)
+}
+
+/// How a MIDI file is to be read.
+fn head_of(matches: &ArgMatches<'_>) -> Option<Head>
+    ensures value { result ≡ head_in (rows_of (found_of matches.now)) }
+    ensures head { IfSome result IsHead }
+{
+    let mode = mode_named(value(matches, "mode")?)?;
+    let species = number_at(matches, "species", 1, 5)?;
+    let voice = number_at(matches, "voice", 0, 3)?;
+    let cantus = number_at(matches, "cantus", 0, 3)?;
+    if voice == cantus {
+        return None;
+    }
+    Some(Head {
+        mode,
+        species: species as u8,
+        species_voice: voice as u8,
+        cantus_voice: cantus as u8,
+        top_first: is_set(matches, "top-first"),
+    })
+}
+
+/// `compose`, on the exercise of a file.
+pub fn composing<'a>(matches: &ArgMatches<'a>) -> Option<Command<'a>>
+    ensures asked { option_map task_of result ≡ compose_asked (rows_of (found_of matches.now)) }
+    ensures head { IfSome result HasHead }
+{
+    let name = value(matches, "EX")?;
+    let budget = budget_of(value(matches, "budget"))?;
+    let sheet = value(matches, "sheet");
+    let job = Job::Compose { budget };
+    Some(Command::OnExercise { name, sheet, job })
+}
+
+/// A job that needs nothing but the exercise of a file.
+pub fn job_on<'a>(matches: &ArgMatches<'a>, job: Job) -> Option<Command<'a>>
+    ensures asked { option_map task_of result ≡ job_asked job (rows_of (found_of matches.now)) }
+    ensures head { IfSome result HasHead }
+{
+    let name = value(matches, "EX")?;
+    let sheet = None;
+    Some(Command::OnExercise { name, sheet, job })
+}
+
+/// `fromsmf`, on a MIDI file.
+pub fn smf_reading<'a>(matches: &ArgMatches<'a>) -> Option<Command<'a>>
+    ensures asked { option_map task_of result ≡ fromsmf_asked (rows_of (found_of matches.now)) }
+    ensures head { IfSome result HasHead }
+{
+    let name = value(matches, "FILE")?;
+    let head = head_of(matches)?;
+    Some(Command::FromSmf { name, head })
+}
+
+/// `drill`, of a number.
+pub fn drilling<'a>(matches: &ArgMatches<'a>) -> Option<Command<'a>>
+    ensures asked { option_map task_of result ≡ drill_asked (rows_of (found_of matches.now)) }
+    ensures head { IfSome result HasHead }
+{
+    let number = number_at(matches, "N", 0, LAST_DRILL)?;
+    Some(Command::Drill { number })
+}
