@@ -1,10 +1,14 @@
 pub mod CantusLemmas
+pub mod FileBack
 pub mod FollowLemmas
 pub mod GridLemmas
 pub mod LineLemmas
+pub mod NotesBack
+pub mod NumbersBack
 pub mod OrderLemmas
 pub mod PlacedLemmas
 pub mod PlayedLemmas
 pub mod RangeLemmas
 pub mod ReadingLemmas
+pub mod StrokesBack
 pub mod ValidLemmas
