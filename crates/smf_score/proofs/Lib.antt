@@ -7,6 +7,7 @@ pub mod NotesBack
 pub mod NumbersBack
 pub mod OrderLemmas
 pub mod PlacedLemmas
+pub mod PlacesBack
 pub mod PlayedLemmas
 pub mod RangeLemmas
 pub mod ReadingLemmas
