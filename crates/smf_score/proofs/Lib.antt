@@ -1,4 +1,5 @@
 pub mod CantusLemmas
+pub mod CellsBack
 pub mod FileBack
 pub mod FollowLemmas
 pub mod GridLemmas
