@@ -1,5 +1,5 @@
 -- The notes of a written file sound as the score does, each pitch as its key is spelled (`cell_back`, `columns_back`).
-use Rattle.std.proofs.Common.{◌≡◌, ◌≢◌, ℕ, zero, suc, ◌+◌, ◌-◌, ◌<◌, ◌≤◌, ◌⊎◌, inl, inr, Bool, true, false, IsTrue, List, [], ◌∷◌, ◌++◌, length, get_or, map, Option, Some, None, refl, sym, ◌∙◌, ap, subst, arith, cond, eqb, ltb, ne_eqb, add-one}
+use Rattle.std.proofs.Common.{◌≡◌, ◌≢◌, ℕ, zero, suc, ◌+◌, ◌-◌, ◌<◌, ◌≤◌, ◌⊎◌, inl, inr, IsTrue, List, [], ◌∷◌, ◌++◌, length, get_or, map, Option, Some, refl, sym, ◌∙◌, ap, subst, arith, ne_eqb}
 use Rattle.std.specs.Bool.{⊤}
 use Rattle.std.specs.Prelude.{reverse, All}
 use Rattle.std.specs.List.{range_with_len}
@@ -13,10 +13,10 @@ use Rattle.fux_grid.specs.declared.cell.Cell.{Cell}
 use Rattle.fux_grid.specs.declared.cell.Cell.TheVariants.{Rest, Hold, Start}
 use Rattle.fux_grid.specs.declared.cell.Note.{Note}
 use Rattle.fux_grid.specs.Cells.{cell_follows, cell_in, pitch_of}
-use Rattle.fux_grid.specs.Columns.{ColumnFollows, HistoryFollows, cell_at, line, newest_column}
+use Rattle.fux_grid.specs.Columns.{HistoryFollows, cell_at, line, newest_column}
 use Rattle.smf_score.specs.declared.placed.Placed.{Placed}
 use Rattle.smf_score.specs.Lines.{holds_ahead, notes_of}
-use Rattle.smf_score.specs.ReadBack.{respelled, respelled_cell}
+use Rattle.smf_score.specs.ReadBack.{respelled_cell}
 use Rattle.smf_score.specs.Sounding.{cell_on, column_on, columns_on}
 use Rattle.smf_score.proofs.FileBack.{voice_notes}
 use Rattle.smf_score.proofs.FollowLemmas.{cell_with, cell_with-other, cell_with-start, cell_with-hold, cell_with-before, cell_with-after}

@@ -1,8 +1,7 @@
 -- The file that is written is read as the strokes of the score's notes (`file_back`, `answers_back`).
-use Rattle.std.proofs.Common.{◌≡◌, ℕ, zero, suc, ◌+◌, ◌-◌, ◌*◌, ◌<◌, ◌≤◌, ◌^◌, Bool, true, false, List, [], ◌∷◌, ◌++◌, length, map, Option, Some, None, Result, Ok, Err, refl, sym, ◌∙◌, ap, arith, cond, append_assoc, add-one}
+use Rattle.std.proofs.Common.{◌≡◌, ℕ, zero, suc, ◌+◌, ◌-◌, ◌*◌, ◌<◌, ◌≤◌, ◌^◌, List, [], ◌∷◌, ◌++◌, length, Some, None, Result, Ok, Err, refl, ◌∙◌, ap, arith, append_assoc, add-one}
 use Rattle.std.proofs.lemmas.Bool.{le-ltb}
 use Rattle.std.proofs.lemmas.List.{length-append, length-map}
-use Rattle.fux_pitch.specs.declared.pitch.Pitch.{Pitch}
 use Rattle.fux_grid.specs.declared.cell.Cell.{Cell}
 use Rattle.fux_grid.specs.declared.cell.Cell.TheVariants.{Rest, Hold, Start}
 use Rattle.fux_grid.specs.declared.cell.Note.{Note}
@@ -11,9 +10,8 @@ use Rattle.fux_grid.specs.Columns.{line}
 use Rattle.fux_grid.specs.Grid.{Grid}
 use Rattle.smf_bytes.specs.declared.chunks.Header.{Header}
 use Rattle.smf_bytes.specs.declared.fault.ByteFault.{ByteFault}
-use Rattle.smf_bytes.specs.declared.fault.ByteFault.TheVariants.{TooLong}
 use Rattle.smf_bytes.specs.Chunks.{Chunk, header_in}
-use Rattle.smf_bytes.specs.Events.{Answers, File, Timed, events_left, followed_by, file_in, track_then, tracks_in, begun}
+use Rattle.smf_bytes.specs.Events.{Answers, File, events_left, followed_by, file_in, track_then, tracks_in, begun}
 use Rattle.smf_score.specs.declared.fault.SmfFault.{SmfFault}
 use Rattle.smf_score.specs.declared.strokes.Stroke.{Stroke}
 use Rattle.smf_score.specs.declared.written.TheConstants.{TRACK}

@@ -1,5 +1,6 @@
 pub mod CantusLemmas
 pub mod CellsBack
+pub mod ExerciseBack
 pub mod FileBack
 pub mod FollowLemmas
 pub mod GridLemmas
@@ -12,5 +13,6 @@ pub mod PlacesBack
 pub mod PlayedLemmas
 pub mod RangeLemmas
 pub mod ReadingLemmas
+pub mod RoundTrip
 pub mod StrokesBack
 pub mod ValidLemmas

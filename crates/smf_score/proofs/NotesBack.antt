@@ -1,7 +1,6 @@
 -- The strokes that are read of a written file are the score's notes (`all_notes_back`), which stand in order (`notes_in_order`).
-use Rattle.std.proofs.Common.{◌≡◌, ℕ, zero, suc, ◌+◌, ◌*◌, ◌<◌, ◌≤◌, ◌⊎◌, inl, inr, Bool, true, false, List, [], ◌∷◌, ◌++◌, length, get_or, map, refl, sym, ◌∙◌, ap, arith, append_assoc}
+use Rattle.std.proofs.Common.{◌≡◌, ℕ, zero, suc, ◌+◌, ◌*◌, ◌<◌, ◌≤◌, ◌⊎◌, inl, inr, false, List, [], ◌∷◌, ◌++◌, length, get_or, map, refl, ◌∙◌, ap, arith}
 use Rattle.std.proofs.lemmas.Bool.{eq-eqb}
-use Rattle.std.proofs.lemmas.List.{append-nil}
 use Rattle.std.specs.Bool.{⊤}
 use Rattle.std.specs.List.Sorted.{IsSortedBy}
 use Rattle.fux_grid.specs.declared.cell.Cell.{Cell}
@@ -13,7 +12,7 @@ use Rattle.smf_score.specs.Order.{IsInOrder, is_before}
 use Rattle.smf_score.specs.Played.{notes_in, played}
 use Rattle.smf_score.specs.Written.{midi_key}
 use Rattle.smf_score.proofs.FileBack.{voice_in_turn, voice_notes, voices_strokes}
-use Rattle.smf_score.proofs.OrderLemmas.{IsNotLater, not_before_from}
+use Rattle.smf_score.proofs.OrderLemmas.{not_before_from}
 use Rattle.smf_score.proofs.StrokesBack.{AreInTurn, note_strokes, tempo_strokes}
 
 -- a note of a score as it is played by the voice of a rank

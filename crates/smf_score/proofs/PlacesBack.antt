@@ -1,5 +1,5 @@
 -- The notes of a written file are placed where they stand in the score, each with its pitch as its key is spelled (`all_placed`).
-use Rattle.std.proofs.Common.{◌≡◌, ◌≢◌, ℕ, zero, suc, ◌+◌, ◌-◌, ◌*◌, ◌<◌, ◌≤◌, Bool, true, false, List, [], ◌∷◌, ◌++◌, length, get_or, map, Option, Some, None, Result, Ok, Err, refl, sym, ◌∙◌, ap, subst, arith, cond, eqb, ltb, max, ne_eqb, add-one}
+use Rattle.std.proofs.Common.{◌≡◌, ◌≢◌, ℕ, zero, suc, ◌+◌, ◌-◌, ◌*◌, ◌<◌, ◌≤◌, Bool, true, false, List, [], ◌∷◌, ◌++◌, length, get_or, map, Option, Some, None, Result, Ok, Err, refl, sym, ◌∙◌, ap, subst, arith, cond, eqb, ltb, max, ne_eqb}
 use Rattle.std.specs.Prelude.{◌&&◌, IsSome}
 use Rattle.std.specs.Option.{unwrap_or}
 use Rattle.std.proofs.lemmas.Bool.{eq-eqb, le-ltb, lt-ltb, lt-leb}
@@ -13,7 +13,6 @@ use Rattle.fux_grid.specs.declared.cell.Note.{Note}
 use Rattle.fux_grid.specs.Cells.{cell_in, is_start}
 use Rattle.fux_grid.specs.Columns.{line}
 use Rattle.smf_score.specs.declared.fault.SmfFault.{SmfFault}
-use Rattle.smf_score.specs.declared.fault.SmfFault.TheVariants.{ZeroNote, Overlap}
 use Rattle.smf_score.specs.declared.placed.Placed.{Placed}
 use Rattle.smf_score.specs.declared.placed.Progress.{Progress}
 use Rattle.smf_score.specs.declared.played.Played.{Played}
@@ -181,14 +180,13 @@ all_placed columns v (suc more) progress e low notes =
         subst (λ (ns : List Note). AreInTurn (length columns) 0 ns) is (voice_in_turn columns v (length columns) (omega arith)) in
         let end = note.start + note.len in
         let behind = voices_played columns (suc v) more in
-        let places = voices_placed columns (suc v) more in
-        (
+        let places = voices_placed columns (suc v) more in (
           later.0,
           omega (arith, later.1),
           ap (λ (ns : List Note). places_in 480 progress (map (played_note (suc v)) ns ++ behind)) is
-          ∙ step_back v (suc v) 0 progress note (map (played_note (suc v)) others ++ behind) (begins v progress e low) (omega arith) turn.1
-          ∙ ap (with_placed (placed_note v note ∷ [])) (notes_placed (length columns) v (suc v) end others behind turn.2)
-          ∙ with_placed-more (placed_note v note) (map (placed_note v) others) (places_in 480 (progress_at v (suc v) (last_end end others)) behind)
-          ∙ ap (with_placed (placed_note v note ∷ map (placed_note v) others)) later.2
-          ∙ ap (λ (ns : List Note). answer (map (placed_note v) ns ++ places) later.0) (sym is),
+              ∙ step_back v (suc v) 0 progress note (map (played_note (suc v)) others ++ behind) (begins v progress e low) (omega arith) turn.1
+              ∙ ap (with_placed (placed_note v note ∷ [])) (notes_placed (length columns) v (suc v) end others behind turn.2)
+              ∙ with_placed-more (placed_note v note) (map (placed_note v) others) (places_in 480 (progress_at v (suc v) (last_end end others)) behind)
+              ∙ ap (with_placed (placed_note v note ∷ map (placed_note v) others)) later.2
+              ∙ ap (λ (ns : List Note). answer (map (placed_note v) ns ++ places) later.0) (sym is),
         )

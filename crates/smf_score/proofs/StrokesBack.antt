@@ -1,5 +1,5 @@
 -- The track of a voice that is written is read as the strokes of its notes (`notes_back`).
-use Rattle.std.proofs.Common.{◌≡◌, ◌≢◌, ℕ, zero, suc, ◌+◌, ◌-◌, ◌*◌, ◌/◌, ◌%◌, ◌<◌, ◌≤◌, ◌^◌, Bool, true, false, List, [], ◌∷◌, ◌++◌, length, Option, Some, None, Result, Ok, Err, refl, sym, ◌∙◌, ap, arith, cond, eqb, ne_eqb, append_assoc}
+use Rattle.std.proofs.Common.{◌≡◌, ◌≢◌, ℕ, ◌+◌, ◌-◌, ◌*◌, ◌/◌, ◌%◌, ◌<◌, ◌≤◌, ◌^◌, List, [], ◌∷◌, ◌++◌, length, Option, Some, None, Result, Ok, refl, ◌∙◌, ap, arith, ne_eqb, append_assoc}
 use Rattle.std.proofs.lemmas.Bool.{le-ltb, lt-ltb}
 use Rattle.std.proofs.lemmas.List.{length-append}
 use Rattle.std.proofs.lemmas.Int.{ints}
@@ -10,13 +10,13 @@ use Rattle.fux_grid.specs.declared.cell.Note.{Note}
 use Rattle.smf_bytes.specs.declared.fault.ByteFault.{ByteFault}
 use Rattle.smf_bytes.specs.Numbers.{digits_in, quantity_in}
 use Rattle.smf_bytes.specs.Messages.{Event, Message, Off, On, Meta, two_byte_message, message_in, meta_in, event_in}
-use Rattle.smf_bytes.specs.Events.{Timed, Left, Answers, event_then, left_then, next_in, events_in, events_left}
+use Rattle.smf_bytes.specs.Events.{Left, event_then, left_then, next_in, events_in, events_left}
 use Rattle.smf_bytes.proofs.EventLemmas.{events_more}
 use Rattle.smf_score.specs.declared.fault.SmfFault.{SmfFault}
 use Rattle.smf_score.specs.declared.strokes.Act.TheVariants.{Strike, Release, End, Nothing}
 use Rattle.smf_score.specs.declared.strokes.Stroke.{Stroke}
 use Rattle.smf_score.specs.Faults.{◌>>=◌}
-use Rattle.smf_score.specs.Strokes.{act_of, stroke_of, strokes_in}
+use Rattle.smf_score.specs.Strokes.{stroke_of, strokes_in}
 use Rattle.smf_score.specs.Written.{midi_key, end_bytes, note_bytes, notes_bytes, quantity}
 use Rattle.smf_score.proofs.NumbersBack.{quantity_back, read_then}
 

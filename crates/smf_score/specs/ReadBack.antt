@@ -1,5 +1,5 @@
 -- What is written reads back: the law that joins the two directions.
-use Rattle.std.specs.Prelude.{◌≡◌, ℕ, ◌<◌, List, map, length, reverse, Option, Some, None, [], false, true, All, Result, Ok}
+use Rattle.std.specs.Prelude.{◌≡◌, ℕ, ◌<◌, List, map, length, reverse, Some, [], false, true, All, Result, Ok}
 use Rattle.std.specs.Option.{unwrap_or}
 use Rattle.fux_pitch.specs.declared.pitch.Pitch.{Pitch}
 use Rattle.fux_pitch.specs.Spelling.{spelled}
@@ -33,7 +33,8 @@ respelled_score score = record { voices = score.voices; columns = map (map respe
 abbrev pub HasNote : List (List Cell) → ℕ → Type 0
 HasNote s v = (i : ℕ) × (i < length s) × (is_start (cell_at s v i) ≡ true)
 
--- a score of a valid exercise: complete, with the cells of the cantus and a note in each voice
+-- a score of a valid exercise, with the cells of the cantus and a note in each voice; each score keeps that its
+-- columns are full and follow one another
 pub record IsSounding (ex : Exercise) (score : Grid) : Type 0 where
   pub valid : IsValid ex
   pub given : IsGiven ex score
@@ -61,7 +62,12 @@ pub record IsReadBack (ex : Exercise) (score : Grid) (read : Exercise) : Type 0 
   pub relax : read.relax ≡ []
   pub setting : read.setting ≡ Some (respelled_score score)
 
--- the file of a score has a reading, and that is the exercise with this score
+-- bytes have this reading and no other
+abbrev pub ReadsOnlyAs : Head → List ℕ → Exercise → Type 0
+ReadsOnlyAs head bytes read =
+    IsReading head bytes (Ok read) × ((other : Result Exercise SmfFault) → IsReading head bytes other → other ≡ Ok read)
+
+-- the file of a score has one reading: its exercise with this score
 abbrev pub ReadsBack : Type 0
 ReadsBack = (ex : Exercise) (score : Grid) (head : Head) → IsSounding ex score → IsHeadOf ex head
-    → (read : Exercise) × IsReading head (smf_of score) (Ok read) × IsReadBack ex score read
+    → (read : Exercise) × ReadsOnlyAs head (smf_of score) read × IsReadBack ex score read
