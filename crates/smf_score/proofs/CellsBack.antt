@@ -38,12 +38,14 @@ follows_from : (v : ℕ) (columns before : List (List Cell)) → HistoryFollows 
 follows_from v [] before h = tt
 follows_from v (col ∷ columns) before h =
     let turned : reverse (col ∷ columns) ++ before ≡ reverse columns ++ col ∷ before =
-    ap (λ (s : List (List Cell)). s ++ before) (reverse-append (col ∷ []) columns) ∙ append_assoc (reverse columns) (col ∷ []) before in
+    ap (λ (s : List (List Cell)). s ++ before) (reverse-append (col ∷ []) columns) ∙ append_assoc (reverse columns)
+    (col ∷ []) before in
     let k : HistoryFollows (reverse columns ++ col ∷ before) = subst HistoryFollows turned h in
     ((later_follows (reverse columns) (col ∷ before) k).0 v, follows_from v columns (col ∷ before) k)
 
 -- the cells of a voice of a score
-pub line_follows : (v : ℕ) (columns : List (List Cell)) → HistoryFollows (reverse columns) → LineFollows Rest (line v columns)
+pub line_follows : (v : ℕ) (columns : List (List Cell)) → HistoryFollows (reverse columns)
+    → LineFollows Rest (line v columns)
 line_follows v columns h = follows_from v columns [] (subst HistoryFollows (sym (append-nil (reverse columns))) h)
 
 none_held : (cells : List Cell) → LineFollows Rest cells → holds_ahead cells ≡ 0
@@ -55,15 +57,19 @@ none_held (Hold p ∷ cells) follows = let first = follows.0 in absurd cc
 -- a cell behind one that sounds a pitch holds this pitch
 held_same : (c : Cell) (q p : Pitch) → pitch_of c ≡ Some q → IsTrue (cell_follows c (Hold p)) → q ≡ p
 held_same Rest q p sounds follows = absurd cc
-held_same (Hold r) q p sounds follows = let same : r ≡ q = cc in sym same ∙ (equal_by_test r p (same_pitch r p) refl).0 follows
-held_same (Start r) q p sounds follows = let same : r ≡ q = cc in sym same ∙ (equal_by_test r p (same_pitch r p) refl).0 follows
+held_same (Hold r) q p sounds follows =
+    let same : r ≡ q = cc in sym same ∙ (equal_by_test r p (same_pitch r p) refl).0 follows
+held_same (Start r) q p sounds follows =
+    let same : r ≡ q = cc in sym same ∙ (equal_by_test r p (same_pitch r p) refl).0 follows
 
-held_cells : (c : Cell) (q : Pitch) (cells : List Cell) (k : ℕ) → pitch_of c ≡ Some q → LineFollows c cells → k < holds_ahead cells
+held_cells : (c : Cell) (q : Pitch) (cells : List Cell) (k : ℕ) → pitch_of c ≡ Some q → LineFollows c cells
+    → k < holds_ahead cells
     → get_or cells k Rest ≡ Hold q
 held_cells c q [] k sounds follows within = absurd (omega arith)
 held_cells c q (Rest ∷ cells) k sounds follows within = absurd (omega arith)
 held_cells c q (Start p ∷ cells) k sounds follows within = absurd (omega arith)
-held_cells c q (Hold p ∷ cells) zero sounds follows within = ap (λ (r : Pitch). Hold r) (sym (held_same c q p sounds follows.0))
+held_cells c q (Hold p ∷ cells) zero sounds follows within =
+    ap (λ (r : Pitch). Hold r) (sym (held_same c q p sounds follows.0))
 held_cells c q (Hold p ∷ cells) (suc k) sounds follows within =
     let same : p ≡ q = sym (held_same c q p sounds follows.0) in
     held_cells (Hold p) q cells k (ap (λ (r : Pitch). some r) same) follows.1 (omega arith)
@@ -98,7 +104,8 @@ early_rest v i at (Start p ∷ cells) others quiet early =
     ∙ early_rest v i (suc at) cells others quiet (omega arith)
 
 -- from a column on, behind the holds that stand there, the notes sound as the line does
-line_back : (v i at : ℕ) (before : Cell) (cells : List Cell) (others : List Placed) → cell_on others v i ≡ Rest → LineFollows before cells
+line_back : (v i at : ℕ) (before : Cell) (cells : List Cell) (others : List Placed) → cell_on others v i ≡ Rest
+    → LineFollows before cells
     → at + holds_ahead cells ≤ i
     → cell_on (map (placed_note v) (notes_of at cells) ++ others) v i ≡ respelled_cell (get_or cells (i - at) Rest)
 line_back v i at before [] others quiet follows later = quiet
@@ -111,8 +118,10 @@ line_back v i at before (Rest ∷ cells) others quiet follows later =
   where
     by : (at < i) ⊎ (i ≤ at)
         → (suc at + holds_ahead cells ≤ i
-        → cell_on (map (placed_note v) (notes_of (suc at) cells) ++ others) v i ≡ respelled_cell (get_or cells (i - suc at) Rest))
-        → cell_on (map (placed_note v) (notes_of (suc at) cells) ++ others) v i ≡ respelled_cell (get_or (Rest ∷ cells) (i - at) Rest)
+        → cell_on (map (placed_note v) (notes_of (suc at) cells) ++ others) v i
+        ≡ respelled_cell (get_or cells (i - suc at) Rest))
+        → cell_on (map (placed_note v) (notes_of (suc at) cells) ++ others) v i
+        ≡ respelled_cell (get_or (Rest ∷ cells) (i - at) Rest)
     by (inl after) further =
         let next : i - at ≡ suc (i - suc at) = omega arith in
         further (omega (arith, none_held cells follows.1))
@@ -122,7 +131,8 @@ line_back v i at before (Rest ∷ cells) others quiet follows later =
         early_rest v i (suc at) cells others quiet (omega arith)
         ∙ ap (λ k. respelled_cell (get_or (Rest ∷ cells) k Rest)) (sym none)
 line_back v i at before (Start p ∷ cells) others quiet follows later =
-    by (cases_lt at i) (cases_lt i (at + suc (holds_ahead cells))) (λ after. line_back v i (suc at) (Start p) cells others quiet follows.1 after)
+    by (cases_lt at i) (cases_lt i (at + suc (holds_ahead cells)))
+    (λ after. line_back v i (suc at) (Start p) cells others quiet follows.1 after)
   where
     note : Note
     note = record { start = at; len = suc (holds_ahead cells); pitch = p }
@@ -150,10 +160,12 @@ line_back v i at before (Start p ∷ cells) others quiet follows later =
 
 -- ---- the voices
 
-lower_rests : (columns : List (List Cell)) (v more w i : ℕ) → w < v → cell_on (voices_placed columns v more) w i ≡ Rest
+lower_rests : (columns : List (List Cell)) (v more w i : ℕ) → w < v
+    → cell_on (voices_placed columns v more) w i ≡ Rest
 lower_rests columns v zero w i lower = refl
 lower_rests columns v (suc more) w i lower =
-    others_skipped v w i 0 (line v columns) (voices_placed columns (suc v) more) (λ e. absurd (omega (arith, e, lower)))
+    others_skipped v w i 0 (line v columns) (voices_placed columns (suc v) more)
+    (λ e. absurd (omega (arith, e, lower)))
     ∙ lower_rests columns (suc v) more w i (omega arith)
 
 -- the notes of a voice sound as its line does
@@ -167,18 +179,22 @@ voice_cell columns v (suc more) w i follows low within =
     others = voices_placed columns (suc v) more
 
     by : (v < w) ⊎ (w ≤ v) → (suc v ≤ w → cell_on others w i ≡ respelled_cell (get_or (line w columns) i Rest))
-        → cell_on (map (placed_note v) (voice_notes columns v) ++ others) w i ≡ respelled_cell (get_or (line w columns) i Rest)
+        → cell_on (map (placed_note v) (voice_notes columns v) ++ others) w i
+        ≡ respelled_cell (get_or (line w columns) i Rest)
     by (inl after) further =
         others_skipped v w i 0 (line v columns) others (λ e. absurd (omega (arith, e, after))) ∙ further after
     by (inr past) further =
         let same : v ≡ w = omega arith in
         let place : i - 0 ≡ i = omega arith in
-        subst (λ u. cell_on (map (placed_note v) (voice_notes columns v) ++ others) u i ≡ respelled_cell (get_or (line u columns) i Rest)) same
-        (line_back v i 0 Rest (line v columns) others (lower_rests columns (suc v) more v i (omega arith)) (line_follows v columns follows)
+        subst (λ u. cell_on (map (placed_note v) (voice_notes columns v) ++ others) u i ≡ respelled_cell
+        (get_or (line u columns) i Rest)) same
+        (line_back v i 0 Rest (line v columns) others (lower_rests columns (suc v) more v i (omega arith))
+        (line_follows v columns follows)
         (omega (arith, none_held (line v columns) (line_follows v columns follows)))
         ∙ ap (λ k. respelled_cell (get_or (line v columns) k Rest)) place)
 
-pub cell_back : (columns : List (List Cell)) (voices w i : ℕ) → HistoryFollows (reverse columns) → w < voices → i < length columns
+pub cell_back : (columns : List (List Cell)) (voices w i : ℕ) → HistoryFollows (reverse columns) → w < voices
+    → i < length columns
     → cell_on (voices_placed columns 0 voices) w i ≡ respelled_cell (cell_at columns w i)
 cell_back columns voices w i follows low within =
     let f : List Cell → Cell = λ col. cell_in col w in
@@ -188,7 +204,8 @@ cell_back columns voices w i follows low within =
 -- ---- the columns
 
 -- a function of the places of a list that gives its elements
-map_places : {X : Type 0} (f : ℕ → X) (a : ℕ) (xs : List X) (d : X) → ((k : ℕ) → k < length xs → f (a + k) ≡ get_or xs k d)
+map_places : {X : Type 0} (f : ℕ → X) (a : ℕ) (xs : List X) (d : X)
+    → ((k : ℕ) → k < length xs → f (a + k) ≡ get_or xs k d)
     → map f (range_with_len a (length xs)) ≡ xs
 map_places f a [] d h = refl
 map_places f a (x ∷ xs) d h =
@@ -203,8 +220,10 @@ map_all : {X : Type 0} (f : ℕ → X) (xs : List X) (d : X) → ((k : ℕ) → 
     → map f (range_with_len 0 (length xs)) ≡ xs
 map_all f xs d h = map_places f 0 xs d (λ k within. let same : 0 + k ≡ k = omega arith in ap f same ∙ h k within)
 
-column_back : (columns : List (List Cell)) (voices i : ℕ) → HistoryFollows (reverse columns) → All (λ col. length col ≡ voices) columns
-    → i < length columns → column_on (voices_placed columns 0 voices) voices i ≡ map respelled_cell (get_or columns i [])
+column_back : (columns : List (List Cell)) (voices i : ℕ) → HistoryFollows (reverse columns)
+    → All (λ col. length col ≡ voices) columns
+    → i < length columns
+    → column_on (voices_placed columns 0 voices) voices i ≡ map respelled_cell (get_or columns i [])
 column_back columns voices i follows full within =
     let col : List Cell = get_or columns i [] in
     let width : length col ≡ voices = All-get_or (λ col. length col ≡ voices) columns i [] within full in
@@ -216,7 +235,8 @@ column_back columns voices i follows full within =
     cell_back columns voices k i follows (omega (arith, wide)) within
     ∙ sym (get_or-map respelled_cell col k Rest Rest there))
 
-pub columns_back : (columns : List (List Cell)) (voices n : ℕ) → HistoryFollows (reverse columns) → All (λ col. length col ≡ voices) columns
+pub columns_back : (columns : List (List Cell)) (voices n : ℕ) → HistoryFollows (reverse columns)
+    → All (λ col. length col ≡ voices) columns
     → length columns ≡ n → columns_on (voices_placed columns 0 voices) voices n ≡ map (map respelled_cell) columns
 columns_back columns voices n follows full whole =
     let long : length (map (map respelled_cell) columns) ≡ n = length-map columns (map respelled_cell) ∙ whole in

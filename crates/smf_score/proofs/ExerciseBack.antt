@@ -63,15 +63,18 @@ cantus_back notes v bar (p ∷ cantus) h =
     rw (first, later) refl
 
 -- the cell of the cantus at a slot of a bar
-cantus_there : (ex : Exercise) (s : List (List Cell)) (bar k : ℕ) (p : Pitch) → HasCantus ex s → k < 8 → 8 * bar + k < length s
+cantus_there : (ex : Exercise) (s : List (List Cell)) (bar k : ℕ) (p : Pitch) → HasCantus ex s → k < 8
+    → 8 * bar + k < length s
     → slice_get ex.cantus bar ≡ Some p → cell_at s ex.cantus_voice (8 * bar + k) ≡ cantus_cell k p
 cantus_there ex s bar k p has low within e =
     let i = 8 * bar + k in
     let same : (8 * bar + k) / 8 ≡ bar = omega arith in
     let slot : (8 * bar + k) % 8 ≡ k % 8 = omega arith in
     let read : slice_get ex.cantus ((8 * bar + k) / 8) ≡ Some p = ap (slice_get ex.cantus) same ∙ e in
-    let there : option_map (cantus_cell i) (slice_get ex.cantus (i / 8)) ≡ Some (cell_at s ex.cantus_voice i) = has i within in
-    let cell : Some (cantus_cell i p) ≡ Some (cell_at s ex.cantus_voice i) = ap (option_map (cantus_cell i)) (sym read) ∙ there in
+    let there : option_map (cantus_cell i) (slice_get ex.cantus (i / 8)) ≡ Some (cell_at s ex.cantus_voice i) =
+    has i within in
+    let cell : Some (cantus_cell i p) ≡ Some (cell_at s ex.cantus_voice i) =
+    ap (option_map (cantus_cell i)) (sym read) ∙ there in
     some_is (cell_at s ex.cantus_voice i) (cantus_cell i p) (sym cell)
     ∙ ap (λ (n : ℕ). cond (eqb n 0) (Start p) (Hold p)) slot
   where
@@ -83,7 +86,8 @@ cantus_there ex s bar k p has low within e =
 
 -- ---- how long it is
 
-last_most : (most v ended : ℕ) (notes : List Note) (others : List Placed) → AreInTurn most ended notes → last_slot others ≤ most
+last_most : (most v ended : ℕ) (notes : List Note) (others : List Placed) → AreInTurn most ended notes
+    → last_slot others ≤ most
     → last_slot (map (placed_note v) notes ++ others) ≤ most
 last_most most v ended [] others turn later = later
 last_most most v ended (note ∷ notes) others turn later =
@@ -114,31 +118,46 @@ held_before_last (note ∷ notes) v i q e =
         → (cell_on notes v i ≡ Hold q → i < last_slot notes) → i < max (last_slot notes) note.end
     at true u is h further = absurd cc
     at false true is h further =
-        let over : i < note.end = ltb-true i note.end (and_parts (ltb note.start i) (ltb i note.end) (and_parts (eqb note.voice v) (ltb note.start i && ltb i note.end) is).1).1 in
+        let over : i < note.end =
+        ltb-true i note.end (and_parts (ltb note.start i) (ltb i note.end)
+        (and_parts (eqb note.voice v) (ltb note.start i && ltb i note.end) is).1).1 in
         omega arith
     at false false is h further = let later = further h in omega arith
 
-bars_back : (notes : List Placed) (bars : ℕ) → last_slot notes ≡ 8 * bars → 3 ≤ bars → bars ≤ 24 → bars_in notes ≡ Ok bars
+bars_back : (notes : List Placed) (bars : ℕ) → last_slot notes ≡ 8 * bars → 3 ≤ bars → bars ≤ 24
+    → bars_in notes ≡ Ok bars
 bars_back notes bars e few many =
     let count : (last_slot notes + 7) / 8 ≡ bars = omega (arith, e) in
     ap bars_within count ∙ rw (le-leb 3 bars few, le-leb bars 24 many) refl
 
-voices_back : (head : Head) (voices : ℕ) → 2 ≤ voices → voices ≤ 4 → head.cantus_voice < voices → head.species_voice < voices
+voices_back : (head : Head) (voices : ℕ) → 2 ≤ voices → voices ≤ 4 → head.cantus_voice < voices
+    → head.species_voice < voices
     → voices_in head voices ≡ Ok voices
 voices_back head voices few many cantus species =
-    rw (le-leb 2 voices few, le-leb voices 4 many, lt-ltb head.cantus_voice voices cantus, lt-ltb head.species_voice voices species) refl
+    rw (
+      le-leb 2 voices few,
+      le-leb voices 4 many,
+      lt-ltb head.cantus_voice voices cantus,
+      lt-ltb head.species_voice
+          voices species,
+    ) refl
 
 -- ---- the exercise
 
+-- a step that has this value goes on with it
+value_then : {A B : Type 0} (r : Result A SmfFault) (f : A → Result B SmfFault) (x : A) → r ≡ Ok x → (r >>= f) ≡ f x
+value_then r f x e = ap (λ (s : Result _ SmfFault). s >>= f) e
+
 -- the exercise of placed notes, where its parts are read
-parts_back : (head : Head) (notes : List Placed) (voices bars : ℕ) (cantus : List Pitch) → voices_in head voices ≡ Ok voices
+parts_back : (head : Head) (notes : List Placed) (voices bars : ℕ) (cantus : List Pitch)
+    → voices_in head voices ≡ Ok voices
     → bars_in notes ≡ Ok bars → cantus_in notes head.cantus_voice 0 bars ≡ Ok cantus
     → exercise_in head notes voices ≡ Ok (exercise_with head notes voices bars cantus)
 unfolding exercise_in
 parts_back head notes voices bars cantus a b c =
-    ap (λ (r : Result ℕ SmfFault). r >>= λ count. bars_in notes >>= λ n. cantus_in notes head.cantus_voice 0 n >>= λ ps. Ok (exercise_with head notes count n ps)) a
-    ∙ ap (λ (r : Result ℕ SmfFault). r >>= λ n. cantus_in notes head.cantus_voice 0 n >>= λ ps. Ok (exercise_with head notes voices n ps)) b
-    ∙ ap (λ (r : Result (List Pitch) SmfFault). r >>= λ ps. Ok (exercise_with head notes voices bars ps)) c
+    value_then (voices_in head voices) _ voices a
+    ∙ value_then (bars_in notes) _ bars b
+    ∙ value_then (cantus_in notes head.cantus_voice 0 bars) _ cantus c
 
 module _ (ex : Exercise) (score : Grid) (head : Head) (sounding : IsSounding ex score) (of : IsHeadOf ex head) where
   abbrev pub placed_notes : List Placed
@@ -153,10 +172,12 @@ module _ (ex : Exercise) (score : Grid) (head : Head) (sounding : IsSounding ex 
   cantus_cells bar k p low e =
       let below : bar < length ex.cantus = slice_get_within ex.cantus bar p e in
       let within : 8 * bar + k < length score.columns = omega (arith, whole, sounding.valid.whole_cantus) in
-      cell_back score.columns ex.voices ex.cantus_voice (8 * bar + k) sounding.follows sounding.valid.cantus_there within
+      cell_back score.columns ex.voices ex.cantus_voice (8 * bar + k) sounding.follows sounding.valid.cantus_there
+      within
       ∙ ap respelled_cell (cantus_there ex score.columns bar k p sounding.given.cantus low within e)
 
-  bar_back : (bar : ℕ) (p : Pitch) → slice_get ex.cantus bar ≡ Some p → whole_at placed_notes ex.cantus_voice bar ≡ Some (respelled p)
+  bar_back : (bar : ℕ) (p : Pitch) → slice_get ex.cantus bar ≡ Some p
+      → whole_at placed_notes ex.cantus_voice bar ≡ Some (respelled p)
   bar_back bar p e =
       let here : 8 * bar + 0 ≡ 8 * bar = omega arith in
       whole_back placed_notes ex.cantus_voice bar (respelled p)
@@ -179,10 +200,13 @@ module _ (ex : Exercise) (score : Grid) (head : Head) (sounding : IsSounding ex 
   last_is = at (slice_get ex.cantus (ex.bars - 1)) refl
     where
       at : (o : Option Pitch) → slice_get ex.cantus (ex.bars - 1) ≡ o → last_slot placed_notes ≡ 8 * ex.bars
-      at None e = absurd (none_there ex.cantus (ex.bars - 1) (omega (arith, sounding.valid.whole_cantus, sounding.valid.fewest_bars)) e)
+      at None e =
+          absurd (none_there ex.cantus (ex.bars - 1)
+          (omega (arith, sounding.valid.whole_cantus, sounding.valid.fewest_bars)) e)
       at (Some p) e =
           let most = voices_most score.columns 0 ex.voices in
-          let held : cell_on placed_notes ex.cantus_voice (8 * (ex.bars - 1) + 7) ≡ Hold (respelled p) = cantus_cells (ex.bars - 1) 7 p (omega arith) e in
+          let held : cell_on placed_notes ex.cantus_voice (8 * (ex.bars - 1) + 7) ≡ Hold (respelled p) =
+          cantus_cells (ex.bars - 1) 7 p (omega arith) e in
           let least = held_before_last placed_notes ex.cantus_voice (8 * (ex.bars - 1) + 7) (respelled p) held in
           omega (arith, whole, sounding.valid.fewest_bars)
 
@@ -194,7 +218,8 @@ module _ (ex : Exercise) (score : Grid) (head : Head) (sounding : IsSounding ex 
   exercise_back =
       parts_back head placed_notes ex.voices ex.bars (map respelled ex.cantus)
       (voices_back head ex.voices sounding.valid.fewest_voices sounding.valid.most_voices
-      (omega (arith, of.cantus_voice, sounding.valid.cantus_there)) (omega (arith, of.species_voice, sounding.valid.species_there)))
+      (omega (arith, of.cantus_voice, sounding.valid.cantus_there))
+      (omega (arith, of.species_voice, sounding.valid.species_there)))
       (bars_back placed_notes ex.bars last_is sounding.valid.fewest_bars sounding.valid.most_bars)
       cantus_read
 

@@ -35,7 +35,8 @@ in_turn at ended most (Hold p ∷ cells) early within = in_turn (suc at) ended m
 in_turn at ended most (Start p ∷ cells) early within =
     (omega arith, omega arith, in_turn (suc at) (at + suc (holds_ahead cells)) most cells (omega arith) (omega arith))
 
-pub voice_in_turn : (columns : List (List Cell)) (v most : ℕ) → length columns ≤ most → AreInTurn most 0 (voice_notes columns v)
+pub voice_in_turn : (columns : List (List Cell)) (v most : ℕ) → length columns ≤ most
+    → AreInTurn most 0 (voice_notes columns v)
 voice_in_turn columns v most few =
     let long : length (line v columns) ≡ length columns = length-map columns (λ col. cell_in col v) in
     in_turn 0 0 most (line v columns) (omega arith) (omega arith)
@@ -68,7 +69,8 @@ notes_short v ended (note ∷ notes) =
       arith,
       note_short v (note.start - ended) note.len (midi_key note.pitch),
       notes_short v (note.start + note.len) notes,
-      length-append (note_bytes v (note.start - ended) note.len (midi_key note.pitch)) (notes_bytes v (note.start + note.len) notes),
+      length-append (note_bytes v (note.start - ended) note.len (midi_key note.pitch))
+          (notes_bytes v (note.start + note.len) notes),
     )
 
 -- the bytes of a track of a voice
@@ -85,7 +87,8 @@ body_short columns v =
       length-append (notes_bytes v 0 (voice_notes columns v)) end_bytes,
     )
 
-tracks_short : (columns : List (List Cell)) (v more : ℕ) → length columns ≤ 192 → length (tracks_bytes columns v more) ≤ 4096 * more
+tracks_short : (columns : List (List Cell)) (v more : ℕ) → length columns ≤ 192
+    → length (tracks_bytes columns v more) ≤ 4096 * more
 tracks_short columns v zero few = omega arith
 tracks_short columns v (suc more) few =
     omega (
@@ -119,7 +122,8 @@ strokes_followed (Err f ∷ first) later s t a b = absurd cc
 -- the strokes of so many voices from one on; the track of a voice is one behind that of the tempo
 abbrev pub voices_strokes : List (List Cell) → ℕ → ℕ → List Stroke
 voices_strokes columns v zero = []
-voices_strokes columns v (suc more) = note_strokes (suc v) v 0 (voice_notes columns v) ++ voices_strokes columns (suc v) more
+voices_strokes columns v (suc more) =
+    note_strokes (suc v) v 0 (voice_notes columns v) ++ voices_strokes columns (suc v) more
 
 tracks_back : (columns : List (List Cell)) (size v more : ℕ) → length columns ≤ 192 → v + more ≤ 16
     → strokes_in (tracks_in more (suc v) size (tracks_bytes columns v more)) ≡ Ok (voices_strokes columns v more)
@@ -130,10 +134,12 @@ tracks_back columns size v (suc more) few voices =
     let short : length (voice_body columns v) < 2 ^ 32 = omega (arith, body_short columns v) in
     ap (λ (r : Result Chunk ByteFault). strokes_in (track_then (suc v) size (tracks_in more (suc (suc v)) size) r))
     (track_back size (voice_body columns v) rest short)
-    ∙ strokes_followed (events_left (Some (begun (suc v) size (record { kind = TRACK; bytes = voice_body columns v; rest = rest }))))
+    ∙ strokes_followed (events_left (Some (begun (suc v) size
+    (record { kind = TRACK; bytes = voice_body columns v; rest = rest }))))
     (tracks_in more (suc (suc v)) size rest)
     (note_strokes (suc v) v 0 (voice_notes columns v)) (voices_strokes columns (suc v) more)
-    (notes_back (suc v) (size - length rest) 0 None v (voice_notes columns v) (omega arith) (voice_in_turn columns v 1000 (omega arith)))
+    (notes_back (suc v) (size - length rest) 0 None v (voice_notes columns v) (omega arith)
+    (voice_in_turn columns v 1000 (omega arith)))
     (tracks_back columns size (suc v) more few (omega arith))
 
 -- the tracks of a file are read as strokes
@@ -144,7 +150,8 @@ unfolding tracks_in
 answers_back columns size voices few low =
     let rest = tracks_bytes columns 0 voices in
     ap (λ (n : ℕ). strokes_in (tracks_in n 0 size (tempo_bytes ++ rest))) (add-one voices)
-    ∙ ap (λ (r : Result Chunk ByteFault). strokes_in (track_then 0 size (tracks_in voices 1 size) r)) (track_back size tempo_body rest (omega arith))
+    ∙ ap (λ (r : Result Chunk ByteFault). strokes_in (track_then 0 size (tracks_in voices 1 size) r))
+    (track_back size tempo_body rest (omega arith))
     ∙ strokes_followed (events_left (Some (begun 0 size (record { kind = TRACK; bytes = tempo_body; rest = rest }))))
     (tracks_in voices 1 size rest) tempo_strokes (voices_strokes columns 0 voices)
     (tempo_back (size - length rest)) (tracks_back columns size 0 voices few (omega arith))
@@ -155,10 +162,13 @@ answers_back columns size voices few low =
 abbrev pub read_file : Grid → File
 read_file score = record {
   header = record { format = 1; tracks = score.voices + 1; division = 480 };
-  answers = tracks_in (score.voices + 1) 0 (length (smf_of score)) (tempo_bytes ++ tracks_bytes score.columns 0 score.voices);
+  answers =
+      tracks_in (score.voices + 1) 0 (length (smf_of score))
+      (tempo_bytes ++ tracks_bytes score.columns 0 score.voices);
 }
 
-pub file_back : (score : Grid) → length score.columns ≤ 192 → score.voices ≤ 4 → file_in (smf_of score) ≡ Ok (read_file score)
+pub file_back : (score : Grid) → length score.columns ≤ 192 → score.voices ≤ 4
+    → file_in (smf_of score) ≡ Ok (read_file score)
 file_back score few low =
     let tracks = score.voices + 1 in
     let rest = tempo_bytes ++ tracks_bytes score.columns 0 score.voices in
@@ -171,11 +181,13 @@ file_back score few low =
       length-append (header_bytes tracks ++ tempo_bytes) (tracks_bytes score.columns 0 score.voices),
       length-append (header_bytes tracks) tempo_bytes,
     ) in
-    let header : header_in (length (smf_of score)) (smf_of score) ≡ Ok (record { format = 1; tracks = tracks; division = 480 }, rest) =
+    let header : header_in (length (smf_of score)) (smf_of score)
+    ≡ Ok (record { format = 1; tracks = tracks; division = 480 }, rest) =
     ap (header_in (length (smf_of score))) apart ∙ header_back (length (smf_of score)) tracks rest (omega arith) in
     file_at (smf_of score) rest (record { format = 1; tracks = tracks; division = 480 }) short header
   where
-    file_at : (bytes rest : List ℕ) (header : Header) → length bytes ≤ 1048576 → header_in (length bytes) bytes ≡ Ok (header, rest)
+    file_at : (bytes rest : List ℕ) (header : Header) → length bytes ≤ 1048576
+        → header_in (length bytes) bytes ≡ Ok (header, rest)
         → file_in bytes ≡ Ok (record { header = header; answers = tracks_in header.tracks 0 (length bytes) rest })
     file_at bytes rest header short e =
         rw (le-ltb 1048576 (length bytes) short)

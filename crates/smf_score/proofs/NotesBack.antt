@@ -22,7 +22,8 @@ played_note rank note = played rank rank (240 * note.start) (240 * (note.start +
 -- the notes of so many voices from one on
 abbrev pub voices_played : List (List Cell) → ℕ → ℕ → List Played
 voices_played columns v zero = []
-voices_played columns v (suc more) = map (played_note (suc v)) (voice_notes columns v) ++ voices_played columns (suc v) more
+voices_played columns v (suc more) =
+    map (played_note (suc v)) (voice_notes columns v) ++ voices_played columns (suc v) more
 
 -- a track is a voice, the first the lowest
 abbrev pub tracks_are_voices : Layout
@@ -42,7 +43,8 @@ voices_back : (columns : List (List Cell)) (v more : ℕ)
 voices_back columns v zero = refl
 voices_back columns v (suc more) =
     voice_back (suc v) v 0 (voice_notes columns v) (voices_strokes columns (suc v) more)
-    ∙ ap (λ (ns : List Played). map (played_note (suc v)) (voice_notes columns v) ++ ns) (voices_back columns (suc v) more)
+    ∙ ap (λ (ns : List Played). map (played_note (suc v)) (voice_notes columns v) ++ ns)
+    (voices_back columns (suc v) more)
 
 pub all_notes_back : (columns : List (List Cell)) (voices : ℕ)
     → notes_in tracks_are_voices (tempo_strokes ++ voices_strokes columns 0 voices) ≡ voices_played columns 0 voices
@@ -66,32 +68,43 @@ rising_sorted rank start (a ∷ b ∷ notes) rising (suc k) d from within =
     ap (λ n. is_before (get_or (a ∷ b ∷ notes) n d) (get_or (b ∷ notes) k d)) next
     ∙ rising_sorted a.rank a.start (b ∷ notes) rising.1 k d (omega arith) (omega arith)
 
-rising_append : (most rank start ended : ℕ) (notes : List Note) (later : List Played) → AreInTurn most ended notes → start ≤ 240 * ended
+rising_append : (most rank start ended : ℕ) (notes : List Note) (later : List Played) → AreInTurn most ended notes
+    → start ≤ 240 * ended
     → ((s : ℕ) → AreRising rank s later) → AreRising rank start (map (played_note rank) notes ++ later)
 rising_append most rank start ended [] later turn early behind = behind start
 rising_append most rank start ended (note ∷ notes) later turn early behind =
     let begun : start ≤ 240 * note.start = omega (arith, turn.0) in
-    let over : 240 * note.start ≤ 240 * (note.start + note.len) = omega arith in
-    (inr (refl, begun), rising_append most rank (240 * note.start) (note.start + note.len) notes later turn.2 over behind)
+    let over : 240 * note.start ≤ 240 * (note.start + note.len) = omega arith in (
+      inr (refl, begun),
+      rising_append most rank (240 * note.start) (note.start + note.len) notes later turn.2 over
+          behind,
+    )
 
-rising_voices : (columns : List (List Cell)) (v more rank start : ℕ) → rank ≤ v → AreRising rank start (voices_played columns v more)
+rising_voices : (columns : List (List Cell)) (v more rank start : ℕ) → rank ≤ v
+    → AreRising rank start (voices_played columns v more)
 rising_voices columns v zero rank start low = tt
 rising_voices columns v (suc more) rank start low =
     at (voice_notes columns v) (voice_in_turn columns v (length columns) (omega arith))
-    (rising_voices columns (suc v) more rank start (omega arith)) (λ s. rising_voices columns (suc v) more (suc v) s (omega arith))
+    (rising_voices columns (suc v) more rank start (omega arith))
+    (λ s. rising_voices columns (suc v) more (suc v) s (omega arith))
   where
     later : List Played
     later = voices_played columns (suc v) more
 
-    at : (notes : List Note) → AreInTurn (length columns) 0 notes → AreRising rank start later → ((s : ℕ) → AreRising (suc v) s later)
+    at : (notes : List Note) → AreInTurn (length columns) 0 notes → AreRising rank start later
+        → ((s : ℕ) → AreRising (suc v) s later)
         → AreRising rank start (map (played_note (suc v)) notes ++ later)
     at [] turn none some = none
     at (note ∷ notes) turn none some =
-        let over : 240 * note.start ≤ 240 * (note.start + note.len) = omega arith in
-        (inl (omega arith), rising_append (length columns) (suc v) (240 * note.start) (note.start + note.len) notes later turn.2 over some)
+        let over : 240 * note.start ≤ 240 * (note.start + note.len) = omega arith in (
+          inl (omega arith),
+          rising_append (length columns) (suc v) (240 * note.start) (note.start + note.len) notes
+              later turn.2 over some,
+        )
 
 -- the notes stand in order
-pub notes_in_order : (columns : List (List Cell)) (voices : ℕ) → IsInOrder (voices_played columns 0 voices) (voices_played columns 0 voices)
+pub notes_in_order : (columns : List (List Cell)) (voices : ℕ)
+    → IsInOrder (voices_played columns 0 voices) (voices_played columns 0 voices)
 notes_in_order columns voices = record {
   sorted = rising_sorted 0 0 (voices_played columns 0 voices) (rising_voices columns 0 voices 0 0 (omega arith));
   stable = λ x. refl;

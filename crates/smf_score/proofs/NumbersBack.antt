@@ -64,7 +64,8 @@ quantity_back n end more few = at (cases_lt n 128) (cases_lt n 16384)
         from ((128 + n / 16384) ∷ (128 + n / 128 % 128) ∷ n % 128 ∷ []) (three larger)
         (digits_more 3 begin 0 end (128 + n / 16384) ((128 + n / 128 % 128) ∷ n % 128 ∷ more) (omega arith)
         ∙ digits_more 2 begin high end (128 + n / 128 % 128) (n % 128 ∷ more) (omega arith)
-        ∙ digits_last 1 begin (128 * high + (128 + n / 128 % 128 - 128)) end (n % 128) n more (omega arith) (omega arith))
+        ∙ digits_last 1 begin (128 * high + (128 + n / 128 % 128 - 128)) end (n % 128) n more (omega arith)
+        (omega arith))
 
 pub quantity_short : (n : ℕ) → length (quantity n) ≤ 3
 quantity_short n = at (ltb n 128) (ltb n 16384)
@@ -76,31 +77,45 @@ quantity_short n = at (ltb n 128) (ltb n 16384)
     at false false = omega arith
 
 -- so many bytes read back
-pub bytes_back : (end count : ℕ) (body more : List ℕ) → count ≡ length body → bytes_in end count (body ++ more) ≡ Ok (body, more)
+pub bytes_back : (end count : ℕ) (body more : List ℕ) → count ≡ length body
+    → bytes_in end count (body ++ more) ≡ Ok (body, more)
 bytes_back end count body more e =
     let whole = length-append body more in
-    rw (e, le-ltb (length (body ++ more)) (length body) (omega arith), take-append_seam body more, drop-append_seam body more) refl
+    rw (
+      e,
+      le-ltb (length (body ++ more)) (length body) (omega arith),
+      take-append_seam body more,
+      drop-append_seam
+          body more,
+    ) refl
 
 -- a number of so many bytes
 number_back : (w : Width) (end n : ℕ) (bytes more : List ℕ) → byte_len w ≡ length bytes → from_be_bytes w bytes ≡ n
     → number_in w end (bytes ++ more) ≡ Ok (n, more)
 number_back w end n bytes more e value =
     let whole = length-append bytes more in
-    let enough : ltb (length (bytes ++ more)) (byte_len w) ≡ false = le-ltb (length (bytes ++ more)) (byte_len w) (omega arith) in
-    let front : take (byte_len w) (bytes ++ more) ≡ bytes = ap (λ (k : ℕ). take k (bytes ++ more)) e ∙ take-append_seam bytes more in
-    let back : drop (byte_len w) (bytes ++ more) ≡ more = ap (λ (k : ℕ). drop k (bytes ++ more)) e ∙ drop-append_seam bytes more in
+    let enough : ltb (length (bytes ++ more)) (byte_len w) ≡ false =
+    le-ltb (length (bytes ++ more)) (byte_len w) (omega arith) in
+    let front : take (byte_len w) (bytes ++ more) ≡ bytes =
+    ap (λ (k : ℕ). take k (bytes ++ more)) e ∙ take-append_seam bytes more in
+    let back : drop (byte_len w) (bytes ++ more) ≡ more =
+    ap (λ (k : ℕ). drop k (bytes ++ more)) e ∙ drop-append_seam bytes more in
     let read : from_be_bytes w (take (byte_len w) (bytes ++ more)) ≡ n = ap (from_be_bytes w) front ∙ value in
-    ap (λ (t : Bool). cond t (Err (Truncated end)) (Ok (from_be_bytes w (take (byte_len w) (bytes ++ more)), drop (byte_len w) (bytes ++ more)))) enough
+    ap
+    (λ (t : Bool). cond t (Err (Truncated end))
+    (Ok (from_be_bytes w (take (byte_len w) (bytes ++ more)), drop (byte_len w) (bytes ++ more)))) enough
     ∙ ap (λ (k : ℕ). the_pair k (drop (byte_len w) (bytes ++ more))) read
     ∙ ap (λ (bs : List ℕ). the_pair n bs) back
   where
     the_pair : ℕ → List ℕ → Result (ℕ × List ℕ) ByteFault
     the_pair k bs = Ok (k, bs)
 
-pub number_back_2 : (end n : ℕ) (more : List ℕ) → n < 2 ^ 16 → number_in w16 end (to_be_bytes w16 n ++ more) ≡ Ok (n, more)
+pub number_back_2 : (end n : ℕ) (more : List ℕ) → n < 2 ^ 16
+    → number_in w16 end (to_be_bytes w16 n ++ more) ≡ Ok (n, more)
 number_back_2 end n more few = number_back w16 end n (to_be_bytes w16 n) more refl (from_be_bytes-to_be_bytes_2 n few)
 
-pub number_back_4 : (end n : ℕ) (more : List ℕ) → n < 2 ^ 32 → number_in w32 end (to_be_bytes w32 n ++ more) ≡ Ok (n, more)
+pub number_back_4 : (end n : ℕ) (more : List ℕ) → n < 2 ^ 32
+    → number_in w32 end (to_be_bytes w32 n ++ more) ≡ Ok (n, more)
 number_back_4 end n more few = number_back w32 end n (to_be_bytes w32 n) more refl (from_be_bytes-to_be_bytes_4 n few)
 
 -- a chunk reads back
@@ -108,7 +123,8 @@ pub chunk_back : (size kind : ℕ) (body more : List ℕ) → kind < 2 ^ 32 → 
     → chunk_in size (chunk_bytes kind body ++ more) ≡ Ok (record { kind = kind; bytes = body; rest = more })
 unfolding chunk_in
 chunk_back size kind body more few short =
-    let apart : chunk_bytes kind body ++ more ≡ to_be_bytes w32 kind ++ (to_be_bytes w32 (length body) ++ (body ++ more)) =
+    let apart : chunk_bytes kind body ++ more
+    ≡ to_be_bytes w32 kind ++ (to_be_bytes w32 (length body) ++ (body ++ more)) =
     append_assoc (to_be_bytes w32 kind ++ to_be_bytes w32 (length body)) body more
     ∙ append_assoc (to_be_bytes w32 kind) (to_be_bytes w32 (length body)) (body ++ more) in
     ap (chunk_in size) apart
@@ -117,7 +133,8 @@ chunk_back size kind body more few short =
     (number_back_4 size kind (to_be_bytes w32 (length body) ++ (body ++ more)) few)
     (read_then (number_in w32 size (to_be_bytes w32 (length body) ++ (body ++ more))) _ (length body, body ++ more) _
     (number_back_4 size (length body) (body ++ more) short)
-    (read_then (bytes_in size (length body) (body ++ more)) _ (body, more) _ (bytes_back size (length body) body more refl) refl))
+    (read_then (bytes_in size (length body) (body ++ more)) _ (body, more) _
+    (bytes_back size (length body) body more refl) refl))
 
 -- a track reads back
 pub track_back : (size : ℕ) (body more : List ℕ) → length body < 2 ^ 32
@@ -131,8 +148,11 @@ header_at : (size : ℕ) (bytes rest : List ℕ) → 4 ≤ length bytes → numb
     → header_in size bytes ≡ header_behind size rest
 unfolding header_in
 header_at size bytes rest long e =
-    ap (λ (t : Bool). cond t (Err (Chunk 0)) (number_in w32 size bytes >>= λ kind. cond (eqb kind.0 HEADER) (header_behind size kind.1) (Err (Chunk 0)))) (le-ltb (length bytes) 4 long)
-    ∙ read_then (number_in w32 size bytes) (λ kind. cond (eqb kind.0 HEADER) (header_behind size kind.1) (Err (Chunk 0))) (HEADER, rest) (header_behind size rest) e refl
+    ap
+    (λ (t : Bool). cond t (Err (Chunk 0)) (number_in w32 size bytes >>= λ kind. cond (eqb kind.0 HEADER)
+    (header_behind size kind.1) (Err (Chunk 0)))) (le-ltb (length bytes) 4 long)
+    ∙ read_then (number_in w32 size bytes) (λ kind. cond (eqb kind.0 HEADER) (header_behind size kind.1)
+    (Err (Chunk 0))) (HEADER, rest) (header_behind size rest) e refl
 
 -- the three numbers of a header
 fields_at : (size : ℕ) (bytes first second third : List ℕ) (format tracks division : ℕ)
@@ -146,7 +166,8 @@ fields_at size bytes first second third format tracks division a b c =
     (read_then (number_in w16 size second) _ (division, third) _ c refl))
 
 behind_at : (size : ℕ) (bytes rest body more : List ℕ) (count : ℕ) (header : Header) → 6 ≤ count
-    → number_in w32 size bytes ≡ Ok (count, rest) → bytes_in size count rest ≡ Ok (body, more) → fields_in size body ≡ Ok header
+    → number_in w32 size bytes ≡ Ok (count, rest) → bytes_in size count rest ≡ Ok (body, more)
+    → fields_in size body ≡ Ok header
     → header_behind size bytes ≡ Ok (header, more)
 unfolding header_behind
 behind_at size bytes rest body more count header long a b c =
@@ -170,7 +191,9 @@ header_back size tracks more few =
     (number_back_2 size 1 numbers (omega arith)) (number_back_2 size tracks (to_be_bytes w16 480 ++ []) few)
     (number_back_2 size 480 [] (omega arith)) in
     ap (header_in size) apart
-    ∙ header_at size (to_be_bytes w32 HEADER ++ (to_be_bytes w32 6 ++ (body ++ more))) (to_be_bytes w32 6 ++ (body ++ more)) (omega arith)
+    ∙ header_at size (to_be_bytes w32 HEADER ++ (to_be_bytes w32 6 ++ (body ++ more)))
+    (to_be_bytes w32 6 ++ (body ++ more)) (omega arith)
     (number_back_4 size HEADER (to_be_bytes w32 6 ++ (body ++ more)) (omega arith))
-    ∙ behind_at size (to_be_bytes w32 6 ++ (body ++ more)) (body ++ more) body more 6 (record { format = 1; tracks = tracks; division = 480 })
+    ∙ behind_at size (to_be_bytes w32 6 ++ (body ++ more)) (body ++ more) body more 6
+    (record { format = 1; tracks = tracks; division = 480 })
     (omega arith) (number_back_4 size 6 (body ++ more) (omega arith)) (bytes_back size 6 body more refl) fields

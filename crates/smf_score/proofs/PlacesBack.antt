@@ -35,7 +35,8 @@ spelled_as p = at (spelled (midi_key p)) ((spelled-known (midi_key p)).1 (key_bo
 
 -- a note of a voice on the grid
 abbrev pub placed_note : ℕ → Note → Placed
-placed_note v note = record { voice = v; start = note.start; end = note.start + note.len; pitch = respelled note.pitch }
+placed_note v note =
+    record { voice = v; start = note.start; end = note.start + note.len; pitch = respelled note.pitch }
 
 -- the notes of so many voices from one on
 abbrev pub voices_placed : List (List Cell) → ℕ → ℕ → List Placed
@@ -60,15 +61,23 @@ between v rank ended start end note pitch early long =
     let voice : suc v - 1 ≡ v = omega arith in
     rw (lt-leb end start long, le-ltb start ended early, most, voice) refl
 
-place_back : (v rank ended : ℕ) (progress : Progress) (note : Note) → with_note progress rank ≡ progress_at v rank ended
+place_back : (v rank ended : ℕ) (progress : Progress) (note : Note)
+    → with_note progress rank ≡ progress_at v rank ended
     → ended ≤ note.start → 1 ≤ note.len
-    → place_in 480 progress (played_note rank note) ≡ Ok (placed_note v note, progress_at v rank (note.start + note.len))
+    → place_in 480 progress (played_note rank note)
+    ≡ Ok (placed_note v note, progress_at v rank (note.start + note.len))
 place_back v rank ended progress note e early long =
     let after = note.start + note.len in
     ap (place_spelled 480 progress (played_note rank note)) (spelled_as note.pitch)
-    ∙ ap (λ (line : Progress). place_between line (played_note rank note) (respelled note.pitch) (slot_of 480 (240 * note.start)) (slot_of 480 (240 * after))) e
-    ∙ ap (λ (s : ℕ). place_between (progress_at v rank ended) (played_note rank note) (respelled note.pitch) s (slot_of 480 (240 * after))) (own_slot note.start)
-    ∙ ap (λ (s : ℕ). place_between (progress_at v rank ended) (played_note rank note) (respelled note.pitch) note.start s) (own_slot after)
+    ∙ ap
+    (λ (line : Progress). place_between line (played_note rank note) (respelled note.pitch)
+    (slot_of 480 (240 * note.start)) (slot_of 480 (240 * after))) e
+    ∙ ap
+    (λ (s : ℕ). place_between (progress_at v rank ended) (played_note rank note) (respelled note.pitch) s
+    (slot_of 480 (240 * after))) (own_slot note.start)
+    ∙ ap
+    (λ (s : ℕ). place_between (progress_at v rank ended) (played_note rank note) (respelled note.pitch) note.start
+    s) (own_slot after)
     ∙ between v rank ended note.start after (played_note rank note) (respelled note.pitch) early (omega arith)
 
 -- ---- the notes of a voice
@@ -88,13 +97,16 @@ with_placed-more p places (Ok (others, progress)) = refl
 with_placed-more p places (Err f) = refl
 
 -- a note, and those behind it
-step_back : (v rank ended : ℕ) (progress : Progress) (note : Note) (rest : List Played) → with_note progress rank ≡ progress_at v rank ended
+step_back : (v rank ended : ℕ) (progress : Progress) (note : Note) (rest : List Played)
+    → with_note progress rank ≡ progress_at v rank ended
     → ended ≤ note.start → 1 ≤ note.len
     → places_in 480 progress (played_note rank note ∷ rest)
     ≡ with_placed (placed_note v note ∷ []) (places_in 480 (progress_at v rank (note.start + note.len)) rest)
 unfolding places_in
 step_back v rank ended progress note rest e early long =
-    ap (λ (r : Result (Placed × Progress) SmfFault). r >>= λ first. places_in 480 first.1 rest >>= λ others. Ok (first.0 ∷ others.0, others.1))
+    ap
+    (λ (r : Result (Placed × Progress) SmfFault). r >>= λ first. places_in 480 first.1 rest >>= λ others. Ok
+    (first.0 ∷ others.0, others.1))
     (place_back v rank ended progress note e early long)
     ∙ at (places_in 480 (progress_at v rank (note.start + note.len)) rest)
   where
@@ -117,14 +129,17 @@ notes_placed : (most v rank ended : ℕ) (notes : List Note) (rest : List Played
 notes_placed most v rank ended [] rest turn = sym (with_placed-none (places_in 480 (progress_at v rank ended) rest))
 notes_placed most v rank ended (note ∷ notes) rest turn =
     let after = note.start + note.len in
-    step_back v rank ended (progress_at v rank ended) note (map (played_note rank) notes ++ rest) (goes_on v rank ended) turn.0 turn.1
+    step_back v rank ended (progress_at v rank ended) note (map (played_note rank) notes ++ rest)
+    (goes_on v rank ended) turn.0 turn.1
     ∙ ap (with_placed (placed_note v note ∷ [])) (notes_placed most v rank after notes rest turn.2)
-    ∙ with_placed-more (placed_note v note) (map (placed_note v) notes) (places_in 480 (progress_at v rank (last_end after notes)) rest)
+    ∙ with_placed-more (placed_note v note) (map (placed_note v) notes)
+    (places_in 480 (progress_at v rank (last_end after notes)) rest)
 
 -- ---- the voices
 
 -- a note of a higher rank begins a voice
-begins : (v : ℕ) (progress : Progress) → progress.voices ≡ v → progress.rank ≤ v → with_note progress (suc v) ≡ progress_at v (suc v) 0
+begins : (v : ℕ) (progress : Progress) → progress.voices ≡ v → progress.rank ≤ v
+    → with_note progress (suc v) ≡ progress_at v (suc v) 0
 begins v progress e low =
     let differs : progress.rank ≢ suc v = λ same. absurd (omega (arith, low, same)) in
     let next : progress.voices + 1 ≡ suc v = omega (arith, e) in
@@ -134,7 +149,8 @@ begins v progress e low =
     voices_at : ℕ → Progress
     voices_at n = record { voices = n; rank = suc v; ended = 0 }
 
-    at : (t u : Bool) → u ≡ false → cond (t && u) progress (voices_at (progress.voices + 1)) ≡ voices_at (progress.voices + 1)
+    at : (t u : Bool) → u ≡ false
+        → cond (t && u) progress (voices_at (progress.voices + 1)) ≡ voices_at (progress.voices + 1)
     at true true h = absurd cc
     at true false h = refl
     at false u h = refl
@@ -148,10 +164,12 @@ no_notes at (suc i) (Hold p ∷ cells) none = no_notes (suc at) i cells none
 no_notes at i (Start p ∷ cells) none = absurd cc
 
 -- a voice with a note has a first one
-has_first : (columns : List (List Cell)) (v : ℕ) → HasNote columns v → (note : Note) × (notes : List Note) × (voice_notes columns v ≡ note ∷ notes)
+has_first : (columns : List (List Cell)) (v : ℕ) → HasNote columns v
+    → (note : Note) × (notes : List Note) × (voice_notes columns v ≡ note ∷ notes)
 has_first columns v (i, within, starts) = at (voice_notes columns v) refl
   where
-    at : (notes : List Note) → voice_notes columns v ≡ notes → (first : Note) × (others : List Note) × (notes ≡ first ∷ others)
+    at : (notes : List Note) → voice_notes columns v ≡ notes
+        → (first : Note) × (others : List Note) × (notes ≡ first ∷ others)
     at [] none =
         let f : List Cell → Cell = λ col. cell_in col v in
         let there = get_or-map f columns i [] Rest within in
@@ -160,33 +178,45 @@ has_first columns v (i, within, starts) = at (voice_notes columns v) refl
     at (first ∷ others) e = (first, others, refl)
 
 -- the notes of so many voices, of which each has one
-pub all_placed : (columns : List (List Cell)) (v more : ℕ) (progress : Progress) → progress.voices ≡ v → progress.rank ≤ v
+pub all_placed : (columns : List (List Cell)) (v more : ℕ) (progress : Progress) → progress.voices ≡ v
+    → progress.rank ≤ v
     → ((w : ℕ) → w < v + more → HasNote columns w)
-    → (after : Progress) × (after.voices ≡ v + more) × (places_in 480 progress (voices_played columns v more) ≡ Ok (voices_placed columns v more, after))
+    → (after : Progress) × (after.voices ≡ v + more) ×
+    (places_in 480 progress (voices_played columns v more) ≡ Ok (voices_placed columns v more, after))
 unfolding places_in
 all_placed columns v zero progress e low notes = (progress, omega arith, refl)
 all_placed columns v (suc more) progress e low notes =
     let first = has_first columns v (notes v (omega arith)) in
-    at first.0 first.1 first.2 (all_placed columns (suc v) more (progress_at v (suc v) (last_end (first.0.start + first.0.len) first.1)) refl (omega arith) (λ w within. notes w (omega arith)))
+    at first.0 first.1 first.2 (all_placed columns (suc v) more
+    (progress_at v (suc v) (last_end (first.0.start + first.0.len) first.1)) refl (omega arith)
+    (λ w within. notes w (omega arith)))
   where
     answer : List Placed → Progress → Result (List Placed × Progress) SmfFault
     answer places after = Ok (places, after)
 
     at : (note : Note) (others : List Note) → voice_notes columns v ≡ note ∷ others
-        → ((after : Progress) × (after.voices ≡ suc v + more) × (places_in 480 (progress_at v (suc v) (last_end (note.start + note.len) others)) (voices_played columns (suc v) more) ≡ Ok (voices_placed columns (suc v) more, after)))
-        → (after : Progress) × (after.voices ≡ v + suc more) × (places_in 480 progress (voices_played columns v (suc more)) ≡ Ok (voices_placed columns v (suc more), after))
+        →
+        ((after : Progress) × (after.voices ≡ suc v + more) ×
+        (places_in 480 (progress_at v (suc v) (last_end (note.start + note.len) others))
+        (voices_played columns (suc v) more) ≡ Ok (voices_placed columns (suc v) more, after)))
+        → (after : Progress) × (after.voices ≡ v + suc more) ×
+        (places_in 480 progress (voices_played columns v (suc more)) ≡ Ok (voices_placed columns v (suc more), after))
     at note others is later =
         let turn : AreInTurn (length columns) 0 (note ∷ others) =
-        subst (λ (ns : List Note). AreInTurn (length columns) 0 ns) is (voice_in_turn columns v (length columns) (omega arith)) in
+        subst (λ (ns : List Note). AreInTurn (length columns) 0 ns) is
+        (voice_in_turn columns v (length columns) (omega arith)) in
         let end = note.start + note.len in
         let behind = voices_played columns (suc v) more in
         let places = voices_placed columns (suc v) more in (
           later.0,
           omega (arith, later.1),
           ap (λ (ns : List Note). places_in 480 progress (map (played_note (suc v)) ns ++ behind)) is
-              ∙ step_back v (suc v) 0 progress note (map (played_note (suc v)) others ++ behind) (begins v progress e low) (omega arith) turn.1
-              ∙ ap (with_placed (placed_note v note ∷ [])) (notes_placed (length columns) v (suc v) end others behind turn.2)
-              ∙ with_placed-more (placed_note v note) (map (placed_note v) others) (places_in 480 (progress_at v (suc v) (last_end end others)) behind)
+              ∙ step_back v (suc v) 0 progress note (map (played_note (suc v)) others ++ behind)
+              (begins v progress e low) (omega arith) turn.1
+              ∙ ap (with_placed (placed_note v note ∷ []))
+              (notes_placed (length columns) v (suc v) end others behind turn.2)
+              ∙ with_placed-more (placed_note v note) (map (placed_note v) others)
+              (places_in 480 (progress_at v (suc v) (last_end end others)) behind)
               ∙ ap (with_placed (placed_note v note ∷ map (placed_note v) others)) later.2
               ∙ ap (λ (ns : List Note). answer (map (placed_note v) ns ++ places) later.0) (sym is),
         )

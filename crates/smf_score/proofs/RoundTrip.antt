@@ -28,10 +28,12 @@ use Rattle.smf_score.proofs.StrokesBack.{tempo_strokes}
 
 -- the notes of a score are read as its exercise
 notes_read : (ex : Exercise) (score : Grid) (head : Head) (sounding : IsSounding ex score) (of : IsHeadOf ex head)
-    → exercise_of_notes head 480 (voices_played score.columns 0 ex.voices) ≡ Ok (read_exercise ex score head sounding of)
+    → exercise_of_notes head 480 (voices_played score.columns 0 ex.voices)
+    ≡ Ok (read_exercise ex score head sounding of)
 unfolding exercise_of_notes
 notes_read ex score head sounding of =
-    let placed = all_placed score.columns 0 ex.voices first_line refl (omega arith) (λ w within. sounding.notes w (omega arith)) in
+    let placed =
+    all_placed score.columns 0 ex.voices first_line refl (omega arith) (λ w within. sounding.notes w (omega arith)) in
     let count : placed.0.voices ≡ ex.voices = omega (arith, placed.1) in
     ap (λ (r : Result (List Placed × Progress) SmfFault). r >>= λ x. exercise_in head x.0 x.1.voices) placed.2
     ∙ ap (λ (n : ℕ). exercise_in head (voices_placed score.columns 0 ex.voices) n) count
@@ -39,7 +41,8 @@ notes_read ex score head sounding of =
 
 -- the strokes of its notes are
 strokes_read : (ex : Exercise) (score : Grid) (head : Head) (sounding : IsSounding ex score) (of : IsHeadOf ex head)
-    → OfStrokes head (read_file score) (Ok (tempo_strokes ++ voices_strokes score.columns 0 ex.voices)) (Ok (read_exercise ex score head sounding of))
+    → OfStrokes head (read_file score) (Ok (tempo_strokes ++ voices_strokes score.columns 0 ex.voices))
+    (Ok (read_exercise ex score head sounding of))
 strokes_read ex score head sounding of =
     let strokes = tempo_strokes ++ voices_strokes score.columns 0 ex.voices in
     let layout : Layout = record { format = 1; top_first = head.top_first } in
@@ -47,7 +50,8 @@ strokes_read ex score head sounding of =
     let notes : notes_in layout strokes ≡ voices_played score.columns 0 ex.voices =
     ap (λ (l : Layout). notes_in l strokes) voices ∙ all_notes_back score.columns ex.voices in (
       voices_played score.columns 0 ex.voices,
-      subst (λ (ns : List Played). IsInOrder ns (voices_played score.columns 0 ex.voices)) (sym notes) (notes_in_order score.columns ex.voices),
+      subst (λ (ns : List Played). IsInOrder ns (voices_played score.columns 0 ex.voices)) (sym notes)
+          (notes_in_order score.columns ex.voices),
       sym (notes_read ex score head sounding of),
     )
   where
@@ -64,7 +68,8 @@ file_read ex score head sounding of =
     let strokes = answers_back score.columns (length (smf_of score)) score.voices few (omega arith)
     ∙ ap (λ (v : ℕ). strokes_of (tempo_strokes ++ voices_strokes score.columns 0 v)) count in
     subst (λ (r : Result File ByteFault). OfHeader head r read) (sym (file_back score few low))
-    (subst (λ (r : Result (List Stroke) SmfFault). OfStrokes head (read_file score) r read) (sym strokes) (strokes_read ex score head sounding of))
+    (subst (λ (r : Result (List Stroke) SmfFault). OfStrokes head (read_file score) r read) (sym strokes)
+    (strokes_read ex score head sounding of))
   where
     strokes_of : List Stroke → Result (List Stroke) SmfFault
     strokes_of strokes = Ok strokes

@@ -39,7 +39,8 @@ message_back status key velocity end more low first second =
     let b : status / 16 ≢ 13 = λ e. absurd (omega (arith, low, e)) in
     rw (lt-ltb key 128 first, ne_eqb (status / 16) 12 a, ne_eqb (status / 16) 13 b, lt-ltb velocity 128 second) refl
 
-event_back : (running : Option ℕ) (status key velocity end : ℕ) (more : List ℕ) → 0x80 ≤ status → status < 0xB0 → key < 128 → velocity < 128
+event_back : (running : Option ℕ) (status key velocity end : ℕ) (more : List ℕ) → 0x80 ≤ status → status < 0xB0
+    → key < 128 → velocity < 128
     → event_in running end (status ∷ key ∷ velocity ∷ more)
     ≡ Ok (record { message = two_byte_message status key velocity; running = Some status; rest = more })
 unfolding event_in
@@ -77,7 +78,8 @@ unfolding next_in
 next_back left delta rest event some a b =
     let none : length left.rest ≢ 0 = λ e. absurd (omega (arith, some, e)) in
     rw (ne_eqb (length left.rest) 0 none)
-    (read_then (quantity_in left.end left.rest) _ (delta, rest) _ a (read_then (event_in left.running left.end rest) _ event _ b refl))
+    (read_then (quantity_in left.end left.rest) _ (delta, rest) _ a
+    (read_then (event_in left.running left.end rest) _ event _ b refl))
 
 -- what the events of what is left do
 abbrev pub strokes_left : Left → Result (List Stroke) SmfFault
@@ -92,21 +94,46 @@ stroke_then : (left : Left) (delta : ℕ) (rest : List ℕ) (event : Event) (aft
     → left_then left delta event ≡ after
     → strokes_left left ≡ with_stroke (stroke_of (event_then left delta event)) (strokes_in (events_left after))
 stroke_then left delta rest event after some a b e =
-    ap strokes_in (events_more left (event_then left delta event) (left_then left delta event) (next_back left delta rest event some a b))
+    ap strokes_in (events_more left (event_then left delta event) (left_then left delta event)
+    (next_back left delta rest event some a b))
     ∙ ap (λ (o : Option Left). with_stroke (stroke_of (event_then left delta event)) (strokes_in (events_left o))) e
 
 some_bytes : (delta b : ℕ) (bytes : List ℕ) → 0 < length (quantity delta ++ b ∷ bytes)
 some_bytes delta b bytes = let whole = length-append (quantity delta) (b ∷ bytes) in omega arith
 
 -- a key is struck
-struck : (number end tick : ℕ) (running : Option ℕ) (delta v key : ℕ) (more : List ℕ) → delta < 2 ^ 21 → v < 16 → key < 128
-    → strokes_left (record { number = number; end = end; tick = tick; running = running; rest = quantity delta ++ (0x90 + v) ∷ key ∷ 0x40 ∷ more })
+struck : (number end tick : ℕ) (running : Option ℕ) (delta v key : ℕ) (more : List ℕ) → delta < 2 ^ 21 → v < 16
+    → key < 128
+    → strokes_left
+    (record {
+      number = number;
+      end = end;
+      tick = tick;
+      running = running;
+      rest = quantity delta ++ (0x90 + v) ∷ key ∷
+          0x40 ∷ more;
+    })
     ≡ with_stroke (record { track = number; tick = tick + delta; act = Strike v key })
-    (strokes_left (record { number = number; end = end; tick = tick + delta; running = Some (0x90 + v); rest = more }))
+    (strokes_left (record {
+      number = number;
+      end = end;
+      tick = tick + delta;
+      running = Some (0x90 + v);
+      rest = more;
+    }))
 struck number end tick running delta v key more short few low =
-    let left : Left = record { number = number; end = end; tick = tick; running = running; rest = quantity delta ++ (0x90 + v) ∷ key ∷ 0x40 ∷ more } in
+    let left : Left =
+    record {
+      number = number;
+      end = end;
+      tick = tick;
+      running = running;
+      rest = quantity delta ++ (0x90 + v) ∷ key ∷
+          0x40 ∷ more;
+    } in
     let is : (m : Message) → Event = λ m. record { message = m; running = Some (0x90 + v); rest = more } in
-    stroke_then left delta ((0x90 + v) ∷ key ∷ 0x40 ∷ more) (is (On v key 0x40)) (Some (record { number = number; end = end; tick = tick + delta; running = Some (0x90 + v); rest = more }))
+    stroke_then left delta ((0x90 + v) ∷ key ∷ 0x40 ∷ more) (is (On v key 0x40))
+    (Some (record { number = number; end = end; tick = tick + delta; running = Some (0x90 + v); rest = more }))
     (some_bytes delta (0x90 + v) (key ∷ 0x40 ∷ more)) (quantity_back delta end ((0x90 + v) ∷ key ∷ 0x40 ∷ more) short)
     (event_back running (0x90 + v) key 0x40 end more (omega arith) (omega arith) low (omega arith)
     ∙ ap (λ (m : Message). answer (is m)) (on_message v key 0x40 few))
@@ -116,14 +143,38 @@ struck number end tick running delta v key more short few low =
     answer e = Ok e
 
 -- a key is let go
-let_go : (number end tick : ℕ) (running : Option ℕ) (delta v key : ℕ) (more : List ℕ) → delta < 2 ^ 21 → v < 16 → key < 128
-    → strokes_left (record { number = number; end = end; tick = tick; running = running; rest = quantity delta ++ (0x80 + v) ∷ key ∷ 0x40 ∷ more })
+let_go : (number end tick : ℕ) (running : Option ℕ) (delta v key : ℕ) (more : List ℕ) → delta < 2 ^ 21 → v < 16
+    → key < 128
+    → strokes_left
+    (record {
+      number = number;
+      end = end;
+      tick = tick;
+      running = running;
+      rest = quantity delta ++ (0x80 + v) ∷ key ∷
+          0x40 ∷ more;
+    })
     ≡ with_stroke (record { track = number; tick = tick + delta; act = Release v key })
-    (strokes_left (record { number = number; end = end; tick = tick + delta; running = Some (0x80 + v); rest = more }))
+    (strokes_left (record {
+      number = number;
+      end = end;
+      tick = tick + delta;
+      running = Some (0x80 + v);
+      rest = more;
+    }))
 let_go number end tick running delta v key more short few low =
-    let left : Left = record { number = number; end = end; tick = tick; running = running; rest = quantity delta ++ (0x80 + v) ∷ key ∷ 0x40 ∷ more } in
+    let left : Left =
+    record {
+      number = number;
+      end = end;
+      tick = tick;
+      running = running;
+      rest = quantity delta ++ (0x80 + v) ∷ key ∷
+          0x40 ∷ more;
+    } in
     let is : (m : Message) → Event = λ m. record { message = m; running = Some (0x80 + v); rest = more } in
-    stroke_then left delta ((0x80 + v) ∷ key ∷ 0x40 ∷ more) (is (Off v key)) (Some (record { number = number; end = end; tick = tick + delta; running = Some (0x80 + v); rest = more }))
+    stroke_then left delta ((0x80 + v) ∷ key ∷ 0x40 ∷ more) (is (Off v key))
+    (Some (record { number = number; end = end; tick = tick + delta; running = Some (0x80 + v); rest = more }))
     (some_bytes delta (0x80 + v) (key ∷ 0x40 ∷ more)) (quantity_back delta end ((0x80 + v) ∷ key ∷ 0x40 ∷ more) short)
     (event_back running (0x80 + v) key 0x40 end more (omega arith) (omega arith) low (omega arith)
     ∙ ap (λ (m : Message). answer (is m)) (off_message v key 0x40 few))
@@ -141,7 +192,8 @@ tempo_body = 0 ∷ 0xFF ∷ 0x51 ∷ 3 ∷ 0x07 ∷ 0xA1 ∷ 0x20 ∷ 0 ∷ 0xFF
 -- notes stand one after the other, the first not before a column, and the last is over at another
 abbrev pub AreInTurn : ℕ → ℕ → List Note → Type 0
 AreInTurn most ended [] = ended ≤ most
-AreInTurn most ended (note ∷ notes) = (ended ≤ note.start) × (1 ≤ note.len) × AreInTurn most (note.start + note.len) notes
+AreInTurn most ended (note ∷ notes) =
+    (ended ≤ note.start) × (1 ≤ note.len) × AreInTurn most (note.start + note.len) notes
 
 pub turn_within : (most ended : ℕ) (notes : List Note) → AreInTurn most ended notes → ended ≤ most
 turn_within most ended [] turn = turn
@@ -170,9 +222,11 @@ note_parts v wait len key more =
 
 -- what is left of the track of a voice
 abbrev pub left_of : ℕ → ℕ → ℕ → Option ℕ → List ℕ → Left
-left_of number end tick running rest = record { number = number; end = end; tick = tick; running = running; rest = rest }
+left_of number end tick running rest =
+    record { number = number; end = end; tick = tick; running = running; rest = rest }
 
-note_back : (number end ended : ℕ) (running : Option ℕ) (v start len key : ℕ) (more : List ℕ) → ended ≤ start → start + len ≤ 1000
+note_back : (number end ended : ℕ) (running : Option ℕ) (v start len key : ℕ) (more : List ℕ) → ended ≤ start
+    → start + len ≤ 1000
     → v < 16 → key < 128
     → strokes_left (left_of number end (240 * ended) running (note_bytes v (start - ended) len key ++ more))
     ≡ with_stroke (record { track = number; tick = 240 * start; act = Strike v key })
@@ -182,12 +236,17 @@ note_back number end ended running v start len key more later short few low =
     let behind : List ℕ = quantity (240 * len) ++ (0x80 + v) ∷ key ∷ 0x40 ∷ more in
     let begun : 240 * ended + 240 * (start - ended) ≡ 240 * start = omega arith in
     let over : 240 * start + 240 * len ≡ 240 * (start + len) = omega arith in
-    ap (λ (bytes : List ℕ). strokes_left (left_of number end (240 * ended) running bytes)) (note_parts v (start - ended) len key more)
+    ap (λ (bytes : List ℕ). strokes_left (left_of number end (240 * ended) running bytes))
+    (note_parts v (start - ended) len key more)
     ∙ struck number end (240 * ended) running (240 * (start - ended)) v key behind (omega arith) few low
-    ∙ ap (λ (t : ℕ). with_stroke (record { track = number; tick = t; act = Strike v key }) (strokes_left (left_of number end t (Some (0x90 + v)) behind))) begun
+    ∙ ap
+    (λ (t : ℕ). with_stroke (record { track = number; tick = t; act = Strike v key })
+    (strokes_left (left_of number end t (Some (0x90 + v)) behind))) begun
     ∙ ap (with_stroke (record { track = number; tick = 240 * start; act = Strike v key }))
     (let_go number end (240 * start) (Some (0x90 + v)) (240 * len) v key more (omega arith) few low
-    ∙ ap (λ (t : ℕ). with_stroke (record { track = number; tick = t; act = Release v key }) (strokes_left (left_of number end t (Some (0x80 + v)) more))) over)
+    ∙ ap
+    (λ (t : ℕ). with_stroke (record { track = number; tick = t; act = Release v key })
+    (strokes_left (left_of number end t (Some (0x80 + v)) more))) over)
 
 -- the end of a track, at once
 end_delta : (end : ℕ) → quantity_in end end_bytes ≡ Ok (0, 0xFF ∷ 0x2F ∷ 0 ∷ [])
@@ -210,12 +269,14 @@ unfolding events_in next_in event_in meta_in digits_in tempo_strokes
 tempo_back end = refl
 
 -- the track of a voice is read as the strokes of its notes
-pub notes_back : (number end ended : ℕ) (running : Option ℕ) (v : ℕ) (notes : List Note) → v < 16 → AreInTurn 1000 ended notes
+pub notes_back : (number end ended : ℕ) (running : Option ℕ) (v : ℕ) (notes : List Note) → v < 16
+    → AreInTurn 1000 ended notes
     → strokes_left (left_of number end (240 * ended) running (notes_bytes v ended notes ++ end_bytes))
     ≡ Ok (note_strokes number v ended notes)
 notes_back number end ended running v [] few turn =
     let left : Left = left_of number end (240 * ended) running end_bytes in
-    stroke_then left 0 (0xFF ∷ 0x2F ∷ 0 ∷ []) (record { message = Meta 0x2F []; running = None; rest = [] }) None (omega arith)
+    stroke_then left 0 (0xFF ∷ 0x2F ∷ 0 ∷ []) (record { message = Meta 0x2F []; running = None; rest = [] }) None
+    (omega arith)
     (end_delta end) (end_event running end) refl
     ∙ ap (λ (t : ℕ). ended_at t) (omega arith)
   where
@@ -226,8 +287,12 @@ notes_back number end ended running v (note ∷ notes) few turn =
     let low : midi_key note.pitch < 128 = omega (arith, (key_bounds note.pitch).1) in
     let key = midi_key note.pitch in
     ap (λ (bytes : List ℕ). strokes_left (left_of number end (240 * ended) running bytes))
-    (append_assoc (note_bytes v (note.start - ended) note.len key) (notes_bytes v (note.start + note.len) notes) end_bytes)
-    ∙ note_back number end ended running v note.start note.len key (notes_bytes v (note.start + note.len) notes ++ end_bytes) turn.0 within few low
-    ∙ ap (λ (later : Result (List Stroke) SmfFault). with_stroke (record { track = number; tick = 240 * note.start; act = Strike v key })
+    (append_assoc (note_bytes v (note.start - ended) note.len key) (notes_bytes v (note.start + note.len) notes)
+    end_bytes)
+    ∙ note_back number end ended running v note.start note.len key
+    (notes_bytes v (note.start + note.len) notes ++ end_bytes) turn.0 within few low
+    ∙ ap
+    (λ (later : Result (List Stroke) SmfFault). with_stroke
+    (record { track = number; tick = 240 * note.start; act = Strike v key })
     (with_stroke (record { track = number; tick = 240 * (note.start + note.len); act = Release v key }) later))
     (notes_back number end (note.start + note.len) (Some (0x80 + v)) v notes few turn.2)
