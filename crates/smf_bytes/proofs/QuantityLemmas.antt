@@ -45,3 +45,6 @@ unfolding digits_in
 digits_over n begin high end bytes many =
     let k : 4 - n ≡ 0 = omega arith in
     rw k refl
+
+-- what a byte does to a quantity
+pub ruleset digit_steps = (digits_last, digits_more, digits_short, digits_over)

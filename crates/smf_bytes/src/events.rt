@@ -162,6 +162,7 @@ impl<'a> Events<'a> {
     }
 
     /// Reads nothing more.
+    #[tactic(auto, using(crate::proofs::EventLemmas::tracks_over))]
     fn stop(&mut self)
         ensures kept { self.new.header ≡ self.old.header }
         ensures over { to_come self.new ≡ [] }

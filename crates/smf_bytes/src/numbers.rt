@@ -56,6 +56,7 @@ pub(crate) fn u32_of(end: usize, bytes: &[u8]) -> Result<(u32, &[u8]), ByteFault
 }
 
 /// A quantity of one to four bytes, seven bits in each.
+#[tactic(auto, using(crate::proofs::QuantityLemmas::digit_steps))]
 pub(crate) fn quantity_of(end: usize, bytes: &[u8]) -> Result<(u32, &[u8]), ByteFault>
     requires { length bytes.now ≤ end }
     ensures value { Gives (λ x. (x.0, x.1.now)) result (quantity_in end bytes.now) }

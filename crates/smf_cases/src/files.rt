@@ -23,7 +23,7 @@ const WRITTEN: &[u8] = b"MThd\x00\x00\x00\x06\x00\x01\x00\x03\x01\xe0\
     MTrk\x00\x00\x00\x1f\x00\x91\x4a\x40\x8f\x00\x81\x4a\x40\x00\x91\x49\x40\x8f\x00\x81\x49\x40\x00\x91\x4a\x40\x8f\x00\x81\x4a\x40\x00\xff\x2f\x00";
 
 /// The head of these voices: the first species above the cantus.
-const HEAD: Head = Head {
+pub(crate) const HEAD: Head = Head {
     mode: Mode::Dorian,
     species: 1,
     species_voice: 1,
@@ -58,7 +58,7 @@ fn told(alloc: Global, fault: SmfFault) -> Result<String, AllocError> {
 }
 
 /// What is read of a file: its fault, or how many bars it has.
-fn answer(alloc: Global, bytes: &[u8], head: &Head) -> Result<String, AllocError>
+pub(crate) fn answer(alloc: Global, bytes: &[u8], head: &Head) -> Result<String, AllocError>
     requires { IsHead head.now }
 {
     match from_smf(alloc, bytes, head) {

@@ -172,28 +172,28 @@ rest_followed b (Hold p) h = absurd cc
 rest_followed b (Start p) h = start_follows b p
 
 -- the cell of a voice at a slot, where a note stands before others that give a cell
-abbrev cell_with : Placed → ℕ → ℕ → Cell → Cell
+abbrev pub cell_with : Placed → ℕ → ℕ → Cell → Cell
 cell_with p v i c =
     cond (eqb p.voice v && eqb p.start i) (Start p.pitch)
     (cond (eqb p.voice v && (ltb p.start i && ltb i p.end)) (Hold p.pitch) c)
 
-cell_with-other : (p : Placed) (v i : ℕ) (c : Cell) → eqb p.voice v ≡ false → cell_with p v i c ≡ c
+pub cell_with-other : (p : Placed) (v i : ℕ) (c : Cell) → eqb p.voice v ≡ false → cell_with p v i c ≡ c
 cell_with-other p v i c e = rw e refl
 
-cell_with-start : (p : Placed) (v i : ℕ) (c : Cell) → eqb p.voice v ≡ true → p.start ≡ i → cell_with p v i c ≡ Start p.pitch
+pub cell_with-start : (p : Placed) (v i : ℕ) (c : Cell) → eqb p.voice v ≡ true → p.start ≡ i → cell_with p v i c ≡ Start p.pitch
 cell_with-start p v i c e same = rw (e, eq-eqb p.start i same) refl
 
-cell_with-hold : (p : Placed) (v i : ℕ) (c : Cell) → eqb p.voice v ≡ true → p.start < i → i < p.end → cell_with p v i c ≡ Hold p.pitch
+pub cell_with-hold : (p : Placed) (v i : ℕ) (c : Cell) → eqb p.voice v ≡ true → p.start < i → i < p.end → cell_with p v i c ≡ Hold p.pitch
 cell_with-hold p v i c e after before =
     let differs : p.start ≢ i = λ same. absurd (omega (arith, after, same)) in
     rw (e, ne_eqb p.start i differs, lt-ltb p.start i after, lt-ltb i p.end before) refl
 
-cell_with-before : (p : Placed) (v i : ℕ) (c : Cell) → eqb p.voice v ≡ true → i < p.start → cell_with p v i c ≡ c
+pub cell_with-before : (p : Placed) (v i : ℕ) (c : Cell) → eqb p.voice v ≡ true → i < p.start → cell_with p v i c ≡ c
 cell_with-before p v i c e early =
     let differs : p.start ≢ i = λ same. absurd (omega (arith, early, same)) in
     rw (e, ne_eqb p.start i differs, le-ltb p.start i (omega (arith, early))) refl
 
-cell_with-after : (p : Placed) (v i : ℕ) (c : Cell) → eqb p.voice v ≡ true → p.start < i → p.end ≤ i → cell_with p v i c ≡ c
+pub cell_with-after : (p : Placed) (v i : ℕ) (c : Cell) → eqb p.voice v ≡ true → p.start < i → p.end ≤ i → cell_with p v i c ≡ c
 cell_with-after p v i c e after over =
     let differs : p.start ≢ i = λ same. absurd (omega (arith, after, same)) in
     rw (e, ne_eqb p.start i differs, lt-ltb p.start i after, le-ltb i p.end over) refl

@@ -63,7 +63,7 @@ sides a b = at (cases_lt a.rank b.rank) (cases_lt b.rank a.rank) (cases_lt a.sta
         }
 
 -- a note is no later than another
-abbrev IsNotLater : Played → Played → Type 0
+abbrev pub IsNotLater : Played → Played → Type 0
 IsNotLater b a = (b.rank < a.rank) ⊎ ((b.rank ≡ a.rank) × (b.start ≤ a.start))
 
 before_is : (a b : Played) → is_before a b ≡ true → IsEarlier a b
@@ -93,7 +93,7 @@ before_from a b earlier = at (sides a b).side
     at (inl x) = x.1
     at (inr x) = absurd (apart a b earlier x.0)
 
-not_before_from : (a b : Played) → IsNotLater b a → is_before a b ≡ false
+pub not_before_from : (a b : Played) → IsNotLater b a → is_before a b ≡ false
 not_before_from a b late = at (sides a b).side
   where
     at : (IsEarlier a b × (is_before a b ≡ true)) ⊎ (IsNotLater b a × (is_before a b ≡ false)) → is_before a b ≡ false

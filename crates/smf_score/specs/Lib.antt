@@ -7,6 +7,7 @@ pub mod Order
 pub mod Placed
 pub mod Played
 pub mod Ranges
+pub mod ReadBack
 pub mod Reading
 pub mod Sounding
 pub mod Strokes
