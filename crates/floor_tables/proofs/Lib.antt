@@ -1,0 +1,4 @@
+pub mod LeastLemmas
+pub mod MenuLemmas
+pub mod PackedLemmas
+pub mod TableLemmas

@@ -1,0 +1,5 @@
+pub mod Chains
+pub mod Menus
+pub mod Packed
+pub mod Rows
+pub mod Tables

@@ -1,0 +1,11 @@
+//! The least that a chain of columns to the end of a setting costs.
+#![tactic(auto)]
+
+mod least;
+mod links;
+mod menu;
+mod packed;
+mod tables;
+
+pub use links::Links;
+pub use tables::{TableFault, Tables};
