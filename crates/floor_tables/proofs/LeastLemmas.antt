@@ -11,7 +11,7 @@ use Rattle.fux_grid.specs.Columns.{ColumnFollows}
 use Rattle.fux_grid.specs.Grid.{items_of}
 use Rattle.arrayvec.specs.ArrayVec.{ArrayVec}
 use Rattle.floor_tables.specs.Chains.{Chains, AreLinked, HasSum, IsLeast, IsLeastOf, cells_of, chain_sum, plus}
-use Rattle.floor_tables.specs.Rows.{IsRow, IsSumOf, IsSumWithin, lesser}
+use Rattle.floor_tables.specs.Rows.{IsRow, IsSumAt, IsSumOf, IsSumWithin, lesser}
 
 -- ---- numbers that may be lacking
 
@@ -79,9 +79,6 @@ least_more IsOne IsOther IsNext least other old is one two cases = record { reac
     lowest x h = by x (cases x h)
 
 -- the next column of a menu
-abbrev IsSumAt : Chains → ℕ → Option (List Cell) → List (Option ℕ) → ℕ → ℕ → Type 0
-IsSumAt c i before row k = IsSumOf c i before (get_or (c.menu i) k []) (get_or row k None)
-
 pub below_or_at : (k count : ℕ) → k < count + 1 → (k < count) ⊎ (k ≡ count)
 below_or_at k count h = by (cases_lt k count)
   where
@@ -118,7 +115,7 @@ least_within_none c i before row = record { reached = λ x e. cc; lowest = none 
 
 -- ---- chains
 
-at_most : (a : Option ℕ) (x y : ℕ) → x ≤ y → IsSomeAnd a (λ z. z ≤ x) → IsSomeAnd a (λ z. z ≤ y)
+pub at_most : (a : Option ℕ) (x y : ℕ) → x ≤ y → IsSomeAnd a (λ z. z ≤ x) → IsSomeAnd a (λ z. z ≤ y)
 at_most None x y l h = h
 at_most (Some z) x y l h = let k : z ≤ y = omega (arith, h, l) in k
 

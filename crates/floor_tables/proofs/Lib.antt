@@ -1,3 +1,4 @@
+pub mod CandidateLemmas
 pub mod LeastLemmas
 pub mod MenuLemmas
 pub mod PackedLemmas

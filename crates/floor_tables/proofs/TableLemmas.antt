@@ -1,5 +1,5 @@
 -- Tables grow by a row at a time (`rows_more`).
-use Rattle.std.proofs.Common.{◌≡◌, ◌⊎◌, inl, inr, ℕ, ◌+◌, ◌-◌, ◌*◌, ◌^◌, ◌<◌, ◌≤◌, List, [], ◌∷◌, ◌++◌, length, get_or, suc, Some, None, ap, sym, ◌∙◌, subst, arith}
+use Rattle.std.proofs.Common.{◌≡◌, ◌⊎◌, inl, inr, ℕ, ◌+◌, ◌-◌, ◌*◌, ◌^◌, ◌<◌, ◌≤◌, List, [], ◌∷◌, ◌++◌, length, get_or, suc, Option, Some, None, ap, sym, ◌∙◌, subst, arith}
 use Rattle.std.proofs.lemmas.List.{get_or_append_left, get_or_push, length_push}
 use Rattle.std.specs.List.{Contains}
 use Rattle.fux_grid.specs.declared.cell.Cell.{Cell}
@@ -9,7 +9,7 @@ use Rattle.floor_tables.specs.declared.tables.Row.{Row}
 use Rattle.floor_tables.specs.declared.tables.Tables.{Tables}
 use Rattle.floor_tables.specs.Chains.{Chains, IsLeast}
 use Rattle.floor_tables.specs.Menus.{IsMenuOf, IsPacked}
-use Rattle.floor_tables.specs.Rows.{AllAtMost, IsRow}
+use Rattle.floor_tables.specs.Rows.{AllAtMost, IsAtMost, IsRow}
 use Rattle.floor_tables.specs.Tables.{AreRows, AreTablesOf, IsRowAt}
 use Rattle.floor_tables.proofs.LeastLemmas.{below_or_at, length-columns}
 
@@ -94,3 +94,24 @@ least_at c i k row menu col asked h e =
 
 pub sums_beside : (c : Chains) (i : ℕ) (row : Row) (menu : Menu) (col : List Cell) → IsAsked c i row menu col → length row.sums.items ≡ length menu.columns.items
 sums_beside c i row menu col asked = asked.sums.beside ∙ sym (length-columns menu.columns.items (c.menu i) asked.are)
+
+-- ---- a row grows by a sum at a time
+
+pub row_pushed : (c : Chains) (i k : ℕ) (row : List (Option ℕ)) (least : Option ℕ) → length row ≡ k
+    → ((j : ℕ) → j < k → IsLeast c (suc i) (Some (get_or (c.menu i) j [])) (get_or row j None))
+    → IsLeast c (suc i) (Some (get_or (c.menu i) k [])) least
+    → (j : ℕ) → j < k + 1 → IsLeast c (suc i) (Some (get_or (c.menu i) j [])) (get_or (row ++ least ∷ []) j None)
+row_pushed c i k row least e old here j h = by (below_or_at j k h)
+  where
+    by : (j < k) ⊎ (j ≡ k) → IsLeast c (suc i) (Some (get_or (c.menu i) j [])) (get_or (row ++ least ∷ []) j None)
+    by (inl l) = subst (λ (o : Option ℕ). IsLeast c (suc i) (Some (get_or (c.menu i) j [])) o) (sym (get_or_append_left row (least ∷ []) None j (omega arith))) (old j l)
+    by (inr f) =
+        subst (λ (o : Option ℕ). IsLeast c (suc i) (Some (get_or (c.menu i) j [])) o) (sym (get_or_push row least None j (e ∙ sym f)))
+        (subst (λ (n : ℕ). IsLeast c (suc i) (Some (get_or (c.menu i) n [])) least) (sym f) here)
+
+pub sums_pushed : (most : ℕ) (row : List (Option ℕ)) (least : Option ℕ) → AllAtMost most row → IsAtMost most least → AllAtMost most (row ++ least ∷ [])
+sums_pushed most row least old here j h = by (below_or_at j (length row) (omega (arith, length_push row least)))
+  where
+    by : (j < length row) ⊎ (j ≡ length row) → IsAtMost most (get_or (row ++ least ∷ []) j None)
+    by (inl l) = subst (λ (o : Option ℕ). IsAtMost most o) (sym (get_or_append_left row (least ∷ []) None j l)) (old j l)
+    by (inr f) = subst (λ (o : Option ℕ). IsAtMost most o) (sym (get_or_push row least None j (sym f))) here

@@ -1,3 +1,4 @@
+pub mod Candidates
 pub mod Chains
 pub mod Menus
 pub mod Packed

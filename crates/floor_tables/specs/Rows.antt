@@ -18,10 +18,13 @@ pub record IsSumOf (c : Chains) (i : ℕ) (before : Option (List Cell)) (d : Lis
   pub is_rest : rest ≡ Some behind
   pub both : own + behind ≡ sum
 
--- one of the first so many columns of a menu costs so much, together with the sum that a row has beside it
+-- the column of a menu with this number costs so much, together with the sum that a row has beside it
+abbrev pub IsSumAt : Chains → ℕ → Option (List Cell) → List (Option ℕ) → ℕ → ℕ → Type 0
+IsSumAt c i before row k = IsSumOf c i before (slice_index_or (c.menu i) k []) (slice_index_or row k None)
+
+-- and so does one of the first so many columns
 abbrev pub IsSumWithin : Chains → ℕ → Option (List Cell) → List (Option ℕ) → ℕ → ℕ → Type 0
-IsSumWithin c i before row count sum =
-    (k : ℕ) × (k < count) × IsSumOf c i before (slice_index_or (c.menu i) k []) (slice_index_or row k None) sum
+IsSumWithin c i before row count sum = (k : ℕ) × (k < count) × IsSumAt c i before row k sum
 
 -- the lesser one; where one is none, the other
 abbrev pub lesser : Option ℕ → Option ℕ → Option ℕ

@@ -13,7 +13,7 @@ use crate::menu::Menu;
 use fux_grid::{Column, follows};
 
 /// The lesser of two sums; where one is none, the other.
-fn lesser(a: Option<u64>, b: Option<u64>) -> Option<u64>
+pub(crate) fn lesser(a: Option<u64>, b: Option<u64>) -> Option<u64>
     ensures value { result ≡ rows.lesser a b }
     ensures bound { (most : ℕ) → IsAtMost most a → IsAtMost most b → IsAtMost most result }
 {
@@ -25,7 +25,7 @@ fn lesser(a: Option<u64>, b: Option<u64>) -> Option<u64>
 }
 
 /// Two costs together; none where one of them is none.
-fn plus(a: Option<u64>, b: Option<u64>) -> Option<u64>
+pub(crate) fn plus(a: Option<u64>, b: Option<u64>) -> Option<u64>
     requires first { IsAtMost (2 ^ 53) a }
     requires second { IsAtMost (2 ^ 62) b }
     ensures value { result ≡ chains.plus a b }
@@ -39,7 +39,7 @@ fn plus(a: Option<u64>, b: Option<u64>) -> Option<u64>
 
 /// What a column costs behind another, together with the least sum behind it. None where it doesn't follow, where the two
 /// may not be neighbors, and where there is no such sum.
-fn sum_of<L: Links>(
+pub(crate) fn sum_of<L: Links>(
     links: &L,
     i: usize,
     prev: Option<&Column>,

@@ -1,6 +1,7 @@
 //! The least that a chain of columns to the end of a setting costs.
 #![tactic(auto)]
 
+mod candidates;
 mod least;
 mod links;
 mod menu;

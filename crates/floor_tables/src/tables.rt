@@ -3,11 +3,13 @@
 ghost use Rattle.std.specs.Prelude.{◌≡◌, ◌<◌, ◌≤◌, ◌+◌, ◌-◌, ℕ, List, ◌*◌, ◌^◌, length, suc, replicate, IfOk, IfErr, OnOk, OnErr, slice_index_or};
 ghost use Rattle.std.specs.List.{Contains};
 ghost use Rattle.fux_grid.specs.Exercises.{bar_of, slot_of};
+ghost use Rattle.floor_tables.specs.Candidates.{AreCandidates, GoByBounds};
 ghost use Rattle.floor_tables.specs.Chains.{Chains, IsLeast};
 ghost use Rattle.floor_tables.specs.Menus.{IsMenuOf};
 ghost use Rattle.floor_tables.specs.Rows.{AllAtMost, IsRow};
 ghost use Rattle.floor_tables.specs.Tables.{AreNarrow, AreRows, AreTablesOf, TellsWidth};
 
+use crate::candidates::{Candidate, candidates, least_of_candidates};
 use crate::least::least_behind;
 use crate::links::Links;
 use crate::menu::Menu;
@@ -70,6 +72,38 @@ fn check_widths<L: Links>(links: &L) -> Result<(), TableFault>
     Ok(())
 }
 
+/// The least sums behind the columns of a menu, that of place `i`, from the menu of the next place, its sums and the order
+/// in which its columns are tried.
+fn sums_in_order<L: Links>(
+    alloc: Global,
+    links: &L,
+    i: usize,
+    menu: &Menu,
+    next: &Menu,
+    sums: &[Option<u64>],
+    order: &[Candidate],
+) -> Result<Vec<Option<u64>>, Memory>
+    requires place { i + 1 < (L.chains links.now).places }
+    requires short { i < 192 }
+    requires menu { IsMenuOf ((L.chains links.now).menu i) menu.now }
+    requires next { IsMenuOf ((L.chains links.now).menu (i + 1)) next.now }
+    requires row { IsRow (L.chains links.now) (i + 1) sums.now }
+    requires small { AllAtMost (2 ^ 62) sums.now }
+    requires candidates { AreCandidates (L.chains links.now) (i + 1) sums.now (length ((L.chains links.now).menu (i + 1))) order.now }
+    requires order { GoByBounds order.now }
+    ensures row { IfOk result (λ row. IsRow (L.chains links.now) i row.items) }
+    ensures small { IfOk result (λ row. (most : ℕ) → AllAtMost most sums.now → AllAtMost (most + 2 ^ 53) row.items) }
+{
+    let width = menu.len();
+    let mut row = Vec::with_capacity(alloc, width)?;
+    for k in 0..width {
+        let prev = menu.column(k);
+        let least = least_of_candidates(links, i + 1, Some(prev), next, sums, order);
+        row.push_reserved(least);
+    }
+    Ok(row)
+}
+
 /// The least sums behind the columns of a menu, that of place `i`, from the menu and the sums of the next place.
 fn sums_before<L: Links>(
     alloc: Global,
@@ -88,12 +122,8 @@ fn sums_before<L: Links>(
     ensures row { IfOk result (λ row. IsRow (L.chains links.now) i row.items) }
     ensures small { IfOk result (λ row. (most : ℕ) → AllAtMost most sums.now → AllAtMost (most + 2 ^ 53) row.items) }
 {
-    let width = menu.len();
-    let mut row = Vec::with_capacity(alloc, width)?;
-    for k in 0..width {
-        row.push_reserved(least_behind(links, i + 1, Some(menu.column(k)), next, sums));
-    }
-    Ok(row)
+    let order = candidates(alloc, links, i + 1, next, sums)?;
+    sums_in_order(alloc, links, i, menu, next, sums, &order)
 }
 
 /// The least sums behind the columns of the last place's menu.

@@ -2,7 +2,7 @@ use Rattle.std.proofs.Common.{◌≡◌, ℕ, ◌+◌, ◌^◌, ◌<◌, ◌≤�
 use Rattle.floor_tables.specs.Chains.{IsLeast}
 use Rattle.floor_tables.specs.Rows.{AllAtMost}
 use Rattle.std.specs.Prelude.{vec_capacity, vec_len}
-use Rattle.floor_tables.proofs.tables.sums_before.Given as goal
+use Rattle.floor_tables.proofs.tables.sums_in_order.Given as goal
 
 abbrev pub invariant-loop-k : goal.invariant-loop-k
 invariant-loop-k g l = record {
