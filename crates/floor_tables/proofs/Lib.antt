@@ -1,0 +1,5 @@
+pub mod CandidateLemmas
+pub mod LeastLemmas
+pub mod MenuLemmas
+pub mod PackedLemmas
+pub mod TableLemmas

@@ -1,0 +1,23 @@
+-- The columns of a menu that may have a sum, with what it is at least.
+use Rattle.std.specs.Prelude.{ℕ, ◌<◌, ◌≤◌, List, Option}
+use Rattle.std.specs.List.{All, Contains}
+use Rattle.std.specs.List.Sorted.{IsNonDecreasingBy}
+use Rattle.fux_grid.specs.declared.cell.Cell.{Cell}
+use Rattle.floor_tables.specs.declared.candidates.Candidate.{Candidate}
+use Rattle.floor_tables.specs.Chains.{Chains}
+use Rattle.floor_tables.specs.Rows.{IsSumAt}
+
+-- a candidate stands for the column, with a bound that its sum reaches
+pub record HasBound (candidates : List Candidate) (k sum : ℕ) : Type 0 where
+  pub bound : ℕ
+  pub one : Contains candidates (record { bound = bound; number = k })
+  pub low : bound ≤ sum
+
+-- the first so many columns of a place's menu that have a sum behind some column are among the candidates
+pub record AreCandidates (c : Chains) (i : ℕ) (row : List (Option ℕ)) (count : ℕ) (candidates : List Candidate) : Type 0 where
+  pub within : All (λ e. e.number < count) candidates
+  pub enough : (before : Option (List Cell)) (k sum : ℕ) → k < count → IsSumAt c i before row k sum → HasBound candidates k sum
+
+-- they go by their bounds
+abbrev pub GoByBounds : List Candidate → Type 0
+GoByBounds = IsNonDecreasingBy (λ e. e.bound)

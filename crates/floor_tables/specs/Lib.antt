@@ -1,0 +1,6 @@
+pub mod Candidates
+pub mod Chains
+pub mod Menus
+pub mod Packed
+pub mod Rows
+pub mod Tables
