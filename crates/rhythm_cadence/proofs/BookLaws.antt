@@ -3,7 +3,7 @@ use Rattle.std.specs.Prelude.{◌≡◌, ℕ, ◌+◌, ◌-◌, ◌*◌, ◌/◌
 use Rattle.std.specs.Int.{from_bool}
 use Rattle.std.specs.List.{list_any}
 use Rattle.std.proofs.Common.{ap, sym, ◌∙◌, subst, arith}
-use Rattle.std.proofs.lemmas.Bool.{and_from, and_parts, both_ways, eq-eqb, eqb-true}
+use Rattle.std.proofs.lemmas.Bool.{and_from, and_parts, both_ways, eq-eqb, eqb-true, ne_eqb}
 use Rattle.std.proofs.lemmas.Bool.Decides.{nat_tests}
 use Rattle.std.proofs.lemmas.List.{length-append, length-drop}
 use Rattle.fux_grid.specs.declared.cell.Cell.{Cell}
@@ -267,6 +267,10 @@ quaver_newly-among ex voices p col i on among =
     ap (λ b. b && reading_of (quaver_row ex voices) (p ++ col ∷ []) i)
     (quaver_newly ex voices p col i ∙ among_newly (columns_in ex) (length p) i (quaver_room ex p col on) (not_one ex.bars) among)
 
+-- such a place is the newest one or the one before it
+pub quavers_bounds : (columns n i : ℕ) → IsAmong (n - 1) (quavers_settled columns n) i → (i ≤ n) × (n ≤ i + 1)
+quavers_bounds columns n i among = (grind (arith, nat_tests, among.to), omega (arith, among.from))
+
 quaver_keeps : KeepsRuleLaws quaver_rule
 quaver_keeps = record {
   local = quaver_is_local;
@@ -282,6 +286,10 @@ quaver_keeps = record {
 
 pub rules_keep : (n : ℕ) → KeepsRuleLaws (rule_row n)
 rules_keep = by_row KeepsRuleLaws early_keep shape_keeps cadence_keeps quaver_keeps
+
+-- the late rule that is neither S3 nor S22
+pub quaver_row_of : (n : ℕ) → is_late n ≡ true → (n ≡ 3 → ⊥) → (n ≡ 22 → ⊥) → rule_row n ≡ quaver_rule
+quaver_row_of n late a b = rw (late, ne_eqb n 3 a, ne_eqb n 22 b) refl
 
 -- ---- Q15
 

@@ -41,17 +41,20 @@ after_rest Rest Rest cells r e = refl
 after_rest (Hold p) Rest cells r e = refl
 after_rest (Start p) Rest cells r e = absurd r
 
-rest_after : (ex : Exercise) (p : List (List Cell)) (i v : ℕ) → IsFree ex v → IsOrderly ex p → i + 1 < length p → cell_in (slice_index_or p (i + 1) []) v ≡ Rest → starts (cell_in (slice_index_or p i []) v) ≡ false
+-- its line up to a place has rests first
+pub rests_earlier : (ex : Exercise) (p : List (List Cell)) (n v : ℕ) → IsFree ex v → IsOrderly ex p → RestsFirst (line v (earlier p n))
 unfolding earlier
-rest_after ex p i v free orderly here rest =
-    let n : ℕ = i + 1 + 1 in
+rests_earlier ex p n v free orderly =
     let O : List (List Cell) → Type 0 = λ s. IsOrderly ex s in
     let fewer : IsOrderly ex (take n p) = orderly-fewer ex (take n p) (drop n p) (subst O (sym (take-append-drop n p)) orderly) in
-    let rests : RestsFirst (line v (earlier p n)) = free_rests ex v free (reverse (take n p)) (subst O (sym (reverse-reverse (take n p))) fewer) in
+    free_rests ex v free (reverse (take n p)) (subst O (sym (reverse-reverse (take n p))) fewer)
+
+rest_after : (ex : Exercise) (p : List (List Cell)) (i v : ℕ) → IsFree ex v → IsOrderly ex p → i + 1 < length p → cell_in (slice_index_or p (i + 1) []) v ≡ Rest → starts (cell_in (slice_index_or p i []) v) ≡ false
+rest_after ex p i v free orderly here rest =
     let R : List Cell → Type 0 = λ cells. RestsFirst cells in
-    let cells : line v (earlier p n) ≡ cell_in (slice_index_or p (i + 1) []) v ∷ cell_in (slice_index_or p i []) v ∷ line v (earlier p i) =
+    let cells : line v (earlier p (i + 1 + 1)) ≡ cell_in (slice_index_or p (i + 1) []) v ∷ cell_in (slice_index_or p i []) v ∷ line v (earlier p i) =
     line-more p v (i + 1) here ∙ ap (λ cs. cell_in (slice_index_or p (i + 1) []) v ∷ cs) (line-more p v i (omega (arith, here))) in
-    after_rest (cell_in (slice_index_or p i []) v) (cell_in (slice_index_or p (i + 1) []) v) (line v (earlier p i)) (subst R cells rests) rest
+    after_rest (cell_in (slice_index_or p i []) v) (cell_in (slice_index_or p (i + 1) []) v) (line v (earlier p i)) (subst R cells (rests_earlier ex p (i + 1 + 1) v free orderly)) rest
 
 -- the row of one voice, from its next cell and those after it
 from_next : ℕ → List (List Cell) → List Cell → ℕ → Cell → List Cell → Bool
@@ -81,7 +84,7 @@ voice_same i behind now [] t v some f = absurd (omega (arith, some))
 voice_same i behind now (col ∷ ahead) t v some f = next_tells i behind now v (cell_in col v) (line v (ahead ++ t)) (line v ahead) f
 
 -- two tests that agree for each free voice agree for the voice of a set
-same_on_voice : (ex : Exercise) (f g : ℕ → Bool) (voice : Option ℕ) → ((v : ℕ) → IsFree ex v → f v ≡ g v) → holds_of_voice ex (λ v. is_free ex v && f v) voice ≡ holds_of_voice ex (λ v. is_free ex v && g v) voice
+pub same_on_voice : (ex : Exercise) (f g : ℕ → Bool) (voice : Option ℕ) → ((v : ℕ) → IsFree ex v → f v ≡ g v) → holds_of_voice ex (λ v. is_free ex v && f v) voice ≡ holds_of_voice ex (λ v. is_free ex v && g v) voice
 same_on_voice ex f g None same = refl
 same_on_voice ex f g (Some v) same = at (nat_lt v ex.voices) (v == ex.cantus_voice) refl refl
   where

@@ -65,7 +65,7 @@ pattern_enough ex i behind now ahead = not (begins_bar i) || nat_le 7 (length ah
 abbrev pub same_cells : List Cell → List Cell → Bool
 same_cells xs ys =
     list_all (λ k. same_cell (slice_index_or xs k Rest) (slice_index_or ys k Rest))
-    (0 ∷ 1 ∷ 2 ∷ 3 ∷ 4 ∷ 5 ∷ 6 ∷ 7 ∷ [])
+    (7 ∷ 6 ∷ 5 ∷ 4 ∷ 3 ∷ 2 ∷ 1 ∷ 0 ∷ [])
 
 -- the last column of a bar settles the bar, from the second bar on
 abbrev pub settles_pattern : Exercise → ℕ → Bool

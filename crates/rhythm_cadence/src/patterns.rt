@@ -111,18 +111,18 @@ pub(crate) fn settles_pattern(ex: &Exercise, i: usize) -> bool
     ex.species >= 2 && i % 8 == 7 && i >= 15
 }
 
-/// Whether the cells of two bars are the same.
+/// Whether the cells of two bars, from the newest to the oldest, are the same.
 fn same_cells(a: &[Cell; 8], b: &[Cell; 8]) -> bool
     ensures { result ≡ words.same_cells a.now b.now }
 {
-    same_cell(a[0], b[0])
-        && same_cell(a[1], b[1])
-        && same_cell(a[2], b[2])
-        && same_cell(a[3], b[3])
-        && same_cell(a[4], b[4])
-        && same_cell(a[5], b[5])
+    same_cell(a[7], b[7])
         && same_cell(a[6], b[6])
-        && same_cell(a[7], b[7])
+        && same_cell(a[5], b[5])
+        && same_cell(a[4], b[4])
+        && same_cell(a[3], b[3])
+        && same_cell(a[2], b[2])
+        && same_cell(a[1], b[1])
+        && same_cell(a[0], b[0])
 }
 
 /// Q16, read from the newest columns, of the bar that the newest one settles.
