@@ -15,12 +15,12 @@ use Rattle.rule_law.specs.AtOnce.{breaks_at_own_place, costs_at_own_place, newly
 use Rattle.rule_law.specs.Bars.{begins_bar, begins_inner_bar}
 use Rattle.rule_law.specs.Forms.{IsOf, all_form, may_stand, pair_form, set_of_all, sets_of, voice_form}
 use Rattle.rule_law.specs.Growth.{newly}
-use Rattle.rule_law.specs.Law.{at_once_settles, first_true, local_from_row, second_true}
+use Rattle.rule_law.specs.Law.{at_once_settles, first_true, local_from_row}
 use Rattle.rule_law.specs.Nearby.{previous_pitches, whole_of}
 use Rattle.rule_law.specs.Places.{reading_of, settled_by}
 use Rattle.rule_law.specs.Prefixes.{GoesOn}
 use Rattle.rule_law.specs.Quiet.{is_quiet, and_none, on_free_voice-none, on_pair-none, on_voice-none}
-use Rattle.rule_law.specs.Rulebooks.{IsAmong, KeepsLaws, KeepsRuleLaws, KeepsTollLaws, newly_breaks, newly_costs, no_toll, nothing, nothing_keeps}
+use Rattle.rule_law.specs.Rulebooks.{IsAmong, KeepsLaws, KeepsRuleLaws, KeepsTollLaws, newly_breaks, newly_costs, no_toll, nothing_keeps}
 use Rattle.rule_law.specs.Terms.{holds_of, interval_in, starts}
 use Rattle.rhythm_cadence.specs.AllRules.{by_row, ligature_is_local, ligature_settles_at_end}
 use Rattle.rhythm_cadence.specs.Book.{at_once_row, book, cadence_rule, is_late, is_late_toll, ligature_row, pattern_row, quaver_rule, quavers_settled, rule_row, shape_rule, toll_row}
@@ -28,7 +28,7 @@ use Rattle.rhythm_cadence.specs.Cadence.{cadence_enough, cadence_row, lacks_cade
 use Rattle.rhythm_cadence.specs.LateLaws.{pattern_enough_stays, pattern_is_local, pattern_settles_at_end, quaver_enough_stays, quaver_is_local, quaver_settles_at_end}
 use Rattle.rhythm_cadence.specs.Locality.{rhythm_breaks, rhythm_is_local, rhythm_settles_at_end, rhythm_stays}
 use Rattle.rhythm_cadence.specs.Parts.{newest_start}
-use Rattle.rhythm_cadence.specs.Patterns.{is_pattern, pattern_enough, repeats_bar, settles_pattern}
+use Rattle.rhythm_cadence.specs.Patterns.{pattern_enough, repeats_bar, settles_pattern}
 use Rattle.rhythm_cadence.specs.Quavers.{quaver_enough, quaver_row}
 use Rattle.rhythm_cadence.specs.Quiet.{quiet_rows}
 use Rattle.rhythm_cadence.specs.Rows.{begins_last_bar, broken_in, enough_after, fits_ending, holds_of_pitch, is_final, may_go_on, near_rows, open_row, shape_row}
@@ -347,7 +347,7 @@ pattern_settled ex s i slot =
     within : (n : ℕ) → (nat_lt i n && nat_le 7 (n - (i + 1))) ≡ nat_lt (i + 7) n
     within n = grind (arith, nat_tests)
 
-pattern_newly : (ex : Exercise) (p : List (List Cell)) (col : List Cell) (i : ℕ) → begins_bar i ≡ true
+pub pattern_newly : (ex : Exercise) (p : List (List Cell)) (col : List Cell) (i : ℕ) → begins_bar i ≡ true
     → newly (settled_by (pattern_enough ex)) p col i ≡ (nat_lt (i + 7) (length p + 1) && not (nat_lt (i + 7) (length p)))
 pattern_newly ex p col i slot =
     ap (λ b. b && not (settled_by (pattern_enough ex) p i))
@@ -394,6 +394,10 @@ pattern_keeps = record {
   places = λ late. pattern_places;
   within = λ ex i. pattern_within (settles_pattern ex i) i;
 }
+
+-- the toll that isn't Q15
+pub pattern_row_of : (n : ℕ) → is_late_toll n ≡ true → (n ≡ 15 → ⊥) → toll_row n ≡ pattern_row
+pattern_row_of n late other = rw (late, ne_eqb n 15 other) refl
 
 pub tolls_keep : (n : ℕ) → KeepsTollLaws (toll_row n)
 tolls_keep n = at (is_late_toll n) (n == 15)

@@ -1,5 +1,5 @@
 -- What is read of S22 from the newest columns is what its row reads there (`cadence_reading`).
-use Rattle.std.specs.Prelude.{◌≡◌, ℕ, zero, suc, ◌+◌, ◌-◌, ◌*◌, ◌/◌, ◌<◌, ◌≤◌, ◌==◌, Bool, true, false, not, ◌&&◌, nat_lt, IsTrue, List, [], ◌∷◌, ◌++◌, Option, Some, None, if◌then◌else◌, length, reverse, slice_index_or, take, refl}
+use Rattle.std.specs.Prelude.{◌≡◌, ℕ, zero, suc, ◌+◌, ◌-◌, ◌/◌, ◌<◌, ◌≤◌, ◌==◌, Bool, true, false, not, ◌&&◌, nat_lt, IsTrue, List, [], ◌∷◌, ◌++◌, Option, Some, None, if◌then◌else◌, length, reverse, slice_index_or, take, refl}
 use Rattle.std.specs.List.{list_all, list_any}
 use Rattle.std.proofs.Common.{ap, sym, ◌∙◌, subst, arith}
 use Rattle.std.proofs.Math.ListN.{get_or-append}
@@ -26,7 +26,7 @@ use Rattle.rule_law.specs.Prefixes.{GoesOn}
 use Rattle.rule_law.specs.Rulebooks.{IsAmong, newly_breaks}
 use Rattle.rule_law.specs.Terms.{note_pitch, sounds}
 use Rattle.rhythm_cadence.specs.Book.{cadence_rule}
-use Rattle.rhythm_cadence.specs.Cadence.{cadence_row, ends_well, has_suspension, held_pitch, holds_suspension, is_lead, lacks_cadence_at, leading_slot, leads_to, shows_cadence, sounding_note, started_pitch, starts_final}
+use Rattle.rhythm_cadence.specs.Cadence.{ends_well, has_suspension, held_pitch, holds_suspension, is_lead, lacks_cadence_at, leading_slot, leads_to, shows_cadence, sounding_note, started_pitch, starts_final}
 use Rattle.rhythm_cadence.specs.NewestCells.{bar_behind}
 use Rattle.rhythm_cadence.specs.Rows.{begins_last_bar}
 use Rattle.rhythm_cadence.proofs.QuaverReadings.{follows_earlier}

@@ -5,5 +5,6 @@ pub mod NewestBars
 pub mod NewestReadings
 pub mod OrderlyReadings
 pub mod PartLemmas
+pub mod PatternReadings
 pub mod QuaverReadings
 pub mod ShapeSets

@@ -1,5 +1,5 @@
 -- What is read of S25 from the newest columns is what its row reads there (`quaver_reading`).
-use Rattle.std.specs.Prelude.{◌≡◌, ℕ, zero, suc, ◌+◌, ◌-◌, ◌<◌, ◌≤◌, ◌==◌, Bool, true, false, not, ◌&&◌, List, [], ◌∷◌, ◌++◌, Option, if◌then◌else◌, length, drop, reverse, slice_index_or, refl}
+use Rattle.std.specs.Prelude.{◌≡◌, ℕ, zero, suc, ◌+◌, ◌-◌, ◌≤◌, Bool, true, false, not, ◌&&◌, List, [], ◌∷◌, ◌++◌, Option, if◌then◌else◌, length, drop, reverse, slice_index_or, refl}
 use Rattle.std.proofs.Common.{ap, sym, ◌∙◌, subst, arith}
 use Rattle.std.proofs.lemmas.Bool.{ne_eqb}
 use Rattle.std.proofs.lemmas.List.{length-append, length-drop}
@@ -11,7 +11,7 @@ use Rattle.fux_grid.specs.Cells.{cell_in, first_of, is_hold, newest, onsets_from
 use Rattle.fux_grid.specs.Columns.{HistoryFollows, cell_at, earlier, line, newest_column}
 use Rattle.fux_grid.specs.Exercises.{IsFree, columns_in}
 use Rattle.fux_grid.proofs.Histories.{earlier-all, earlier-append, earlier-more, earlier-none, line-more}
-use Rattle.rule_law.specs.After.{next_onset, onset_pitch}
+use Rattle.rule_law.specs.After.{onset_pitch}
 use Rattle.rule_law.specs.Nearby.{RestsFirst, line_follows, previous-sounds}
 use Rattle.rule_law.specs.Places.{reading_of}
 use Rattle.rule_law.specs.Prefixes.{GoesOn}

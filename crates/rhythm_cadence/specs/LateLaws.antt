@@ -1,5 +1,5 @@
 -- S25 and Q16 wait for later columns. Once settled they read the same in each prefix that goes on, and so in each setting.
-use Rattle.std.specs.Prelude.{◌≡◌, ℕ, suc, ◌+◌, ◌-◌, ◌*◌, ◌%◌, ◌<◌, ◌≤◌, ◌==◌, Bool, true, false, not, ◌&&◌, ◌||◌, nat_le, nat_lt, List, [], ◌∷◌, ◌++◌, Option, Some, None, IsTrue, length, drop, take, reverse, slice_index_or, refl}
+use Rattle.std.specs.Prelude.{◌≡◌, ℕ, ◌+◌, ◌-◌, ◌%◌, ◌<◌, ◌≤◌, ◌==◌, Bool, true, false, not, ◌&&◌, ◌||◌, nat_le, nat_lt, List, [], ◌∷◌, ◌++◌, Option, Some, None, IsTrue, length, drop, take, reverse, slice_index_or, refl}
 use Rattle.std.specs.Int.{from_bool}
 use Rattle.std.specs.List.{list_all}
 use Rattle.std.proofs.Common.{ap, sym, ◌∙◌, subst, arith, drop-cons}
@@ -12,7 +12,7 @@ use Rattle.fux_grid.specs.declared.cell.Cell.TheVariants.{Rest, Hold, Start}
 use Rattle.fux_grid.specs.declared.exercise.Exercise.{Exercise}
 use Rattle.fux_grid.specs.Cells.{cell_in, first_of, is_hold, onsets_from, pitch_of}
 use Rattle.fux_grid.specs.Columns.{earlier, line, newest_column}
-use Rattle.fux_grid.specs.Exercises.{IsFree, columns_in, slot_of}
+use Rattle.fux_grid.specs.Exercises.{IsFree, slot_of}
 use Rattle.fux_grid.specs.Orderly.{IsOrderly}
 use Rattle.fux_grid.proofs.Histories.{line-more}
 use Rattle.fux_grid.proofs.OrderlyLemmas.{orderly-fewer}
@@ -21,12 +21,11 @@ use Rattle.rule_law.specs.Bars.{begins_bar}
 use Rattle.rule_law.specs.Growth.{EnoughStays}
 use Rattle.rule_law.specs.LateLaw.{StaysAhead, by_either, ends_when_whole, local_from_ahead, whole_same, whole_stays}
 use Rattle.rule_law.specs.Law.{both_true, local_from_row, test_from_below}
-use Rattle.rule_law.specs.Nearby.{AllRests, RestsFirst}
+use Rattle.rule_law.specs.Nearby.{RestsFirst}
 use Rattle.rule_law.specs.OrderlyLaw.{free_rests}
 use Rattle.rule_law.specs.Places.{IsLocal, IsUndisturbed, SettlesAtEnd, reading_of, settled_by}
-use Rattle.rule_law.specs.Prefixes.{GoesOn}
 use Rattle.rule_law.specs.Terms.{previous_pitch, starts}
-use Rattle.rule_law.specs.Voices.{holds_of_voice, is_free, on_free_voice, voice_of}
+use Rattle.rule_law.specs.Voices.{holds_of_voice, is_free, voice_of}
 use Rattle.rule_law.specs.Whole.{is_whole}
 use Rattle.rhythm_cadence.specs.Patterns.{pattern_enough, pattern_toll, repeats_bar, repeats_slot, same_cell}
 use Rattle.rhythm_cadence.specs.Quavers.{is_step_apart, is_stepwise, quaver_enough, quaver_row, starts_quaver}

@@ -9,7 +9,7 @@ use Rattle.fux_grid.specs.declared.exercise.Exercise.{Exercise}
 use Rattle.fux_grid.specs.Cells.{cell_in}
 use Rattle.fux_grid.specs.Exercises.{slot_of}
 use Rattle.rule_law.specs.Bars.{begins_bar, begins_inner_bar}
-use Rattle.rule_law.specs.Places.{Row, at_once}
+use Rattle.rule_law.specs.Places.{Row}
 use Rattle.rule_law.specs.Nearby.{NearRow}
 use Rattle.rule_law.specs.Terms.{starts}
 use Rattle.rhythm_cadence.specs.NewestCells.{bar_behind}

@@ -1,4 +1,4 @@
-use Rattle.std.proofs.Common.{◌≡◌, ℕ, ◌-◌, ◌++◌, ◌∷◌, [], List, arith, ap, sym, ◌∙◌, subst, length}
+use Rattle.std.proofs.Common.{◌≡◌, ℕ, ◌-◌, ◌++◌, ◌∷◌, [], arith, ap, sym, ◌∙◌, subst, length}
 use Rattle.std.proofs.lemmas.List.{length-append}
 use Rattle.fux_grid.specs.Exercises.{columns_in}
 use Rattle.rule_law.specs.Rulebooks.{IsAmong, RuleRow, newly_breaks}
