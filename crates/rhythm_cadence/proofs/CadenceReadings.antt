@@ -26,7 +26,7 @@ use Rattle.rule_law.specs.Prefixes.{GoesOn}
 use Rattle.rule_law.specs.Rulebooks.{IsAmong, newly_breaks}
 use Rattle.rule_law.specs.Terms.{note_pitch, sounds}
 use Rattle.rhythm_cadence.specs.Book.{cadence_rule}
-use Rattle.rhythm_cadence.specs.Cadence.{ends_well, has_suspension, held_pitch, holds_suspension, is_lead, lacks_cadence_at, leading_slot, leads_to, shows_cadence, sounding_note, started_pitch, starts_final}
+use Rattle.rhythm_cadence.specs.Cadence.{ends_well, has_suspension, held_pitch, holds_suspension, is_lead, lacks_cadence_at, leading_slot, leads_to, shows_cadence, some_ends_well, sounding_note, started_pitch, starts_final}
 use Rattle.rhythm_cadence.specs.NewestCells.{bar_behind}
 use Rattle.rhythm_cadence.specs.Rows.{begins_last_bar}
 use Rattle.rhythm_cadence.proofs.QuaverReadings.{follows_earlier}
@@ -135,9 +135,6 @@ voice_same ex i species final f x g None lead e = rw e (neither f)
     neither f = refl
 voice_same ex i species final f x g (Some note) lead e = at (note.start == (i - 8 + leading_slot species)) e
   where
-    leads : Bool
-    leads = is_leading ex.mode note.pitch && lies_above 1 final (Some note.pitch)
-
     at : (b : Bool) → lead ≡ (if b then Some note.pitch else None)
         → ((f && ((is_leading ex.mode note.pitch && lies_above 1 final (Some note.pitch)) && b)) && (if x then g (Some note.pitch) else true))
         ≡ ((f && is_lead ex final lead) && (if x then g lead else true))
@@ -174,7 +171,6 @@ module _ (ex : Exercise) (p : List (List Cell)) (col : List Cell) (on : GoesOn e
       ≡ pitch_from (length p - 8 + leading_slot species) (sounding_note v (reverse p))
   lead_found v species =
       let bound : leading_slot species ≤ 6 = slot_bound species in
-      let m : ℕ = 7 - leading_slot species in
       sym (held-append (7 - leading_slot species) (bar_behind (p ++ col ∷ []) v (length p)) (line v (earlier (p ++ col ∷ []) (length p - 8))) (omega arith))
       ∙ ap (held_pitch (7 - leading_slot species)) (sym (line-bar (p ++ col ∷ []) v (length p) far (omega (arith, length-append p (col ∷ [])))) ∙ ap (line v) behind-earlier)
       ∙ note_found (7 - leading_slot species) v (reverse p) behind_follows (omega (arith, far, length-reverse p))
@@ -190,9 +186,9 @@ module _ (ex : Exercise) (p : List (List Cell)) (col : List Cell) (on : GoesOn e
       ∙ ap (λ now. ends_well ex (slice_index_or (p ++ col ∷ []) (length p - 8) []) (bar_behind (p ++ col ∷ []) v (length p)) now v)
       (sym (get_or-append_seam p col [] []))
 
-  all_readings : (b : Bool) → (b && not (list_any (λ v. nat_lt v ex.voices && shows_cadence ex (length p) (reverse p) col v) (0 ∷ 1 ∷ 2 ∷ 3 ∷ [])))
-      ≡ (b && not (list_any (λ v. nat_lt v ex.voices && ends_well ex (slice_index_or (p ++ col ∷ []) (length p - 8) []) (bar_behind (p ++ col ∷ []) v (length p)) (slice_index_or (p ++ col ∷ []) (length p) []) v) (0 ∷ 1 ∷ 2 ∷ 3 ∷ [])))
-  all_readings b = ap (λ x. b && not x) (list_any-same _ _ (0 ∷ 1 ∷ 2 ∷ 3 ∷ []) (λ v. ap (λ x. nat_lt v ex.voices && x) (voice_reading v)))
+  some_reading : list_any (λ v. nat_lt v ex.voices && shows_cadence ex (length p) (reverse p) col v) (0 ∷ 1 ∷ 2 ∷ 3 ∷ [])
+      ≡ some_ends_well ex (p ++ col ∷ []) (length p)
+  some_reading = list_any-same _ _ (0 ∷ 1 ∷ 2 ∷ 3 ∷ []) (λ v. ap (λ x. nat_lt v ex.voices && x) (voice_reading v))
 
 last_bar_far : (n bars : ℕ) → 3 ≤ bars → n / 8 + 1 ≡ bars → 8 ≤ n
 last_bar_far n bars h e = omega arith
@@ -202,8 +198,8 @@ pub cadence_reading : (ex : Exercise) (voices : ℕ) (p : List (List Cell)) (col
     → newly_breaks cadence_rule ex voices p col i ≡ lacks_cadence_at ex (p ++ col ∷ []) (length p) voices
 cadence_reading ex voices p col i valid on among = at (begins_last_bar ex (length p)) refl among
   where
-    order : (a b x y : Bool) → (b ≡ true → x ≡ y) → (a && (b && x)) ≡ ((b && a) && y)
-    order true true x y f = f refl
+    order : (a b x y : Bool) → x ≡ y → (a && (b && x)) ≡ ((b && a) && y)
+    order true true x y f = f
     order true false x y f = refl
     order false true x y f = refl
     order false false x y f = refl
@@ -216,4 +212,4 @@ cadence_reading ex voices p col i valid on among = at (begins_last_bar ex (lengt
         let far : 8 ≤ length p = last_bar_far (length p) ex.bars valid.fewest_bars (eqb-true (length p / 8 + 1) ex.bars (and_parts (begins_bar (length p)) (length p / 8 + 1 == ex.bars) e).1) in
         ap (newly_breaks cadence_rule ex voices p col) here
         ∙ newly_breaks-at_once cadence_rule ex voices (λ i behind now ahead. refl) p col
-        ∙ order (voices == set_of_all ex.voices) (begins_last_bar ex (length p)) _ _ (λ b. all_readings ex p col on far true)
+        ∙ order (voices == set_of_all ex.voices) (begins_last_bar ex (length p)) _ _ (ap not (some_reading ex p col on far))

@@ -1,8 +1,8 @@
--- What is read of Q15 and Q16 from the newest columns is what the tolls cost there (`ligature_reading`, `pattern_reading`).
+-- What is read of Q16 from the newest columns is what the toll costs there (`pattern_reading`).
 use Rattle.std.specs.Prelude.{◌≡◌, ℕ, ◌+◌, ◌-◌, ◌%◌, ◌≤◌, ◌==◌, Bool, true, false, not, ◌&&◌, nat_le, nat_lt, List, [], ◌∷◌, ◌++◌, if◌then◌else◌, length, drop, slice_index_or, refl}
 use Rattle.std.specs.Int.{from_bool}
 use Rattle.std.proofs.Common.{ap, sym, ◌∙◌, add-one, arith, drop-cons}
-use Rattle.std.proofs.Math.Seq.{get_or-append_seam, get_or-drop}
+use Rattle.std.proofs.Math.Seq.{get_or-drop}
 use Rattle.std.proofs.lemmas.Bool.{and_from, and_parts, eq-eqb, eqb-true}
 use Rattle.std.proofs.lemmas.Bool.Decides.{nat_tests}
 use Rattle.std.proofs.lemmas.List.{length-append, length-drop}
@@ -12,32 +12,13 @@ use Rattle.fux_grid.specs.Cells.{cell_in}
 use Rattle.fux_grid.specs.Columns.{cell_at, earlier}
 use Rattle.fux_grid.specs.Exercises.{slot_of}
 use Rattle.fux_grid.proofs.Histories.{get_or-earlier}
-use Rattle.rule_law.specs.AtOnce.{newly_costs-at_once}
-use Rattle.rule_law.specs.Bars.{begins_bar, begins_inner_bar}
+use Rattle.rule_law.specs.Bars.{begins_bar}
 use Rattle.rule_law.specs.Places.{reading_of}
 use Rattle.rule_law.specs.Rulebooks.{IsAmong, newly_costs}
-use Rattle.rhythm_cadence.specs.Book.{ligature_row, pattern_row}
+use Rattle.rhythm_cadence.specs.Book.{pattern_row}
 use Rattle.rhythm_cadence.specs.NewestCells.{bar_behind}
-use Rattle.rhythm_cadence.specs.Patterns.{lacks_ligature, pattern_at, repeats_bar, repeats_slot, same_cell, same_cells, settles_pattern}
+use Rattle.rhythm_cadence.specs.Patterns.{pattern_at, repeats_bar, repeats_slot, same_cell, same_cells, settles_pattern}
 use Rattle.rhythm_cadence.proofs.BookLaws.{pattern_newly}
-
--- ---- Q15
-
-pub ligature_reading : (ex : Exercise) (p : List (List Cell)) (col : List Cell) (i : ℕ)
-    → IsAmong (length p) (ligature_row.count ex (length p)) i
-    → newly_costs ligature_row ex p col i ≡ from_bool (lacks_ligature ex (length p) (slice_index_or (p ++ col ∷ []) (length p) []))
-ligature_reading ex p col i = at ((ex.species == 4) && begins_inner_bar ex (length p))
-  where
-    at : (b : Bool) → IsAmong (length p) (if b then 1 else 0) i
-        → newly_costs ligature_row ex p col i ≡ from_bool (lacks_ligature ex (length p) (slice_index_or (p ++ col ∷ []) (length p) []))
-    at false a = absurd (omega (arith, a.from, a.to))
-    at true a =
-        let here : i ≡ length p = omega (arith, a.from, a.to) in
-        ap (newly_costs ligature_row ex p col) here
-        ∙ newly_costs-at_once ligature_row ex (λ i behind now ahead. refl) p col
-        ∙ ap (λ now. from_bool (lacks_ligature ex (length p) now)) (sym (get_or-append_seam p col [] []))
-
--- ---- Q16
 
 module _ (s : List (List Cell)) (v i : ℕ) (second : 8 ≤ i) (whole : i + 8 ≡ length s) where
   columns : slice_index_or s i [] ∷ drop (i + 1) s ≡ drop i s
@@ -55,14 +36,17 @@ module _ (s : List (List Cell)) (v i : ℕ) (second : 8 ≤ i) (whole : i + 8 �
   bar_reading : repeats_bar v (earlier s i) (slice_index_or s i []) (drop (i + 1) s) ≡ same_cells (bar_behind s v i) (bar_behind s v (i + 8))
   bar_reading =
       let seven : nat_le 7 (length (drop (i + 1) s)) ≡ true = enough (length (drop (i + 1) s)) (omega (arith, whole, length-drop (i + 1) s)) in
-      rw (seven, slot_reading 0 (i - 8) (i + 8 - 8) (omega arith) (omega (arith, second)) (omega arith),
-      slot_reading 1 (i - 7) (i + 8 - 7) (omega arith) (omega (arith, second)) (omega arith),
-      slot_reading 2 (i - 6) (i + 8 - 6) (omega arith) (omega (arith, second)) (omega arith),
-      slot_reading 3 (i - 5) (i + 8 - 5) (omega arith) (omega (arith, second)) (omega arith),
-      slot_reading 4 (i - 4) (i + 8 - 4) (omega arith) (omega (arith, second)) (omega arith),
-      slot_reading 5 (i - 3) (i + 8 - 3) (omega arith) (omega (arith, second)) (omega arith),
-      slot_reading 6 (i - 2) (i + 8 - 2) (omega arith) (omega (arith, second)) (omega arith),
-      slot_reading 7 (i - 1) (i + 8 - 1) (omega arith) (omega (arith, second)) (omega arith)) refl
+      rw (
+        seven,
+        slot_reading 0 (i - 8) (i + 8 - 8) (omega arith) (omega (arith, second)) (omega arith),
+        slot_reading 1 (i - 7) (i + 8 - 7) (omega arith) (omega (arith, second)) (omega arith),
+        slot_reading 2 (i - 6) (i + 8 - 6) (omega arith) (omega (arith, second)) (omega arith),
+        slot_reading 3 (i - 5) (i + 8 - 5) (omega arith) (omega (arith, second)) (omega arith),
+        slot_reading 4 (i - 4) (i + 8 - 4) (omega arith) (omega (arith, second)) (omega arith),
+        slot_reading 5 (i - 3) (i + 8 - 3) (omega arith) (omega (arith, second)) (omega arith),
+        slot_reading 6 (i - 2) (i + 8 - 2) (omega arith) (omega (arith, second)) (omega arith),
+        slot_reading 7 (i - 1) (i + 8 - 1) (omega arith) (omega (arith, second)) (omega arith),
+      ) refl
     where
       enough : (n : ℕ) → 7 ≤ n → nat_le 7 n ≡ true
       enough n h = grind (arith, nat_tests)

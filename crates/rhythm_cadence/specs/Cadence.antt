@@ -103,13 +103,15 @@ ends_well ex start bar now v =
     && is_lead ex (pitch_of (cell_in now v)) lead
     && (if has_suspension (species_in ex v) then holds_suspension ex start lead v else true)
 
--- at column i, the beginning of the last bar, some voice does
+-- a voice is there and does so at column i, the beginning of the last bar
+abbrev pub ends_well_at : Exercise → List (List Cell) → ℕ → ℕ → Bool
+ends_well_at ex s i v =
+    nat_lt v ex.voices
+    && ends_well ex (slice_index_or s (i - 8) []) (bar_behind s v i) (slice_index_or s i []) v
+
+-- some voice does
 abbrev pub some_ends_well : Exercise → List (List Cell) → ℕ → Bool
-some_ends_well ex s i =
-    list_any
-    (λ v. nat_lt v ex.voices
-    && ends_well ex (slice_index_or s (i - 8) []) (bar_behind s v i) (slice_index_or s i []) v)
-    (0 ∷ 1 ∷ 2 ∷ 3 ∷ [])
+some_ends_well ex s i = list_any (ends_well_at ex s i) (0 ∷ 1 ∷ 2 ∷ 3 ∷ [])
 
 -- S22 at column i, which is the newest
 abbrev pub lacks_cadence_at : Exercise → List (List Cell) → ℕ → ℕ → Bool

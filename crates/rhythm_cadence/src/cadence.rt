@@ -192,8 +192,7 @@ fn ends_well(newest: &NewestColumns, ex: &Exercise, i: usize, v: u8) -> bool
     requires voices { ex.now.voices ≤ 4 }
     requires place { 8 ≤ i }
     ensures { (s : List (List ACell)) → AreNewestOf ex.now.voices s newest.now → length s ≤ i + 1
-        → result ≡ (nat_lt v ex.now.voices
-        && words.ends_well ex.now (slice_index_or s (i - 8) []) (bar_behind s v i) (slice_index_or s i []) v) }
+        → result ≡ words.ends_well_at ex.now s i v }
 {
     if v >= ex.voices {
         return false;

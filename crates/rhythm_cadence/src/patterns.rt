@@ -98,7 +98,8 @@ pub(crate) fn lacks_ligature_now(newest: &NewestColumns, ex: &Exercise) -> bool
     requires valid { IsValid ex.now }
     requires begun { 0 < newest.now.len }
     ensures { (s : List (List ACell)) → AreNewestOf ex.now.voices s newest.now
-        → result ≡ words.lacks_ligature ex.now (newest.now.len - 1) (slice_index_or s (newest.now.len - 1) []) }
+        → result ≡ words.lacks_ligature ex.now (newest.now.len - 1)
+        (slice_index_or s (newest.now.len - 1) []) }
 {
     let i = newest.len - 1;
     lacks_ligature(ex, i, newest.at(i, ex.voices as usize))

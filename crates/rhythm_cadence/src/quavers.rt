@@ -99,12 +99,16 @@ pub(crate) fn has_bad_quaver(
     if place >= newest.len {
         return false;
     }
-    match free_voice(ex, voices) {
-        Some(v) => is_bad_quaver(
-            cell_before(newest, ex, v, place),
-            cell_at(newest, ex, v, place),
-            cell_at(newest, ex, v, place + 1),
-        ),
-        None => false,
+    let Some(v) = free_voice(ex, voices) else {
+        return false;
+    };
+    let now = cell_at(newest, ex, v, place);
+    if !starts(now) {
+        return false;
     }
+    is_bad_quaver(
+        cell_before(newest, ex, v, place),
+        now,
+        cell_at(newest, ex, v, place + 1),
+    )
 }
