@@ -1,9 +1,11 @@
+pub mod AllRules
 pub mod Book
 pub mod Cadence
 pub mod InPlace
 pub mod LateLaws
 pub mod Locality
 pub mod LowerVoices
+pub mod NewestCells
 pub mod Parts
 pub mod Patterns
 pub mod Quavers
