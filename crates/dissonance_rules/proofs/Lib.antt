@@ -1,2 +1,4 @@
 pub mod BookLaws
 pub mod LatePlaces
+pub mod NotesAhead
+pub mod OffBar

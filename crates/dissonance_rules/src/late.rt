@@ -17,15 +17,15 @@ pub(crate) fn is_late(rule: u8) -> bool
     rule == 15 || rule == 19 || rule == 20 || rule == 21
 }
 
-/// Whether a voice of a species may start a note in column `i`, or the last bar begins there.
+/// Whether a voice of a species, other than species 1, may start a note in column `i`.
 fn may_settle(species: u8, i: usize) -> bool
     ensures { result ≡ book.may_settle species i }
 {
     match species {
         1 => false,
-        5 => i % 4 != 1,
+        2 | 4 => i % 4 == 0,
         3 => i % 2 == 0,
-        _ => i % 4 == 0,
+        _ => i % 4 != 1,
     }
 }
 
@@ -35,9 +35,9 @@ fn reach(species: u8) -> usize
     ensures few { result ≤ 19 }
 {
     match species {
-        5 => 19,
+        2 | 3 => 4,
         4 => 8,
-        _ => 4,
+        _ => 19,
     }
 }
 
