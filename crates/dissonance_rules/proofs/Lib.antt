@@ -1,4 +1,5 @@
 pub mod BookLaws
+pub mod KeptLemmas
 pub mod LatePlaces
 pub mod NotesAhead
 pub mod OffBar

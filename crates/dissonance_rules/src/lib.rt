@@ -5,6 +5,7 @@ mod apart;
 mod book;
 mod clashes;
 mod dissonance;
+mod kept;
 mod late;
 mod ligatures;
 mod passing;
