@@ -1,12 +1,12 @@
 -- What the newest columns tell of a list.
-use Rattle.std.specs.Prelude.{◌≡◌, ℕ, zero, suc, ◌+◌, ◌-◌, ◌<◌, ◌≤◌, ◌==◌, Bool, true, false, List, [], ◌∷◌, Some, None, drop, take, length, slice_index_or, refl}
+use Rattle.std.specs.Prelude.{◌≡◌, ℕ, suc, ◌+◌, ◌-◌, ◌<◌, ◌≤◌, List, [], ◌∷◌, drop, take, length, slice_index_or, refl}
 use Rattle.std.proofs.Common.{ap, sym, ◌∙◌, subst, arith}
-use Rattle.std.proofs.lemmas.List.{drop_all, drop_more, get_or-take, length-take, length-take-le}
+use Rattle.std.proofs.lemmas.List.{drop_all, drop_more, get_or-take, length-take-le}
 use Rattle.fux_pitch.specs.declared.pitch.Pitch.{Pitch}
 use Rattle.fux_grid.specs.declared.cell.Cell.{Cell}
 use Rattle.fux_grid.specs.declared.cell.Cell.TheVariants.{Rest, Hold, Start}
 use Rattle.fux_grid.specs.declared.exercise.Exercise.{Exercise}
-use Rattle.fux_grid.specs.Cells.{cell_in, first_of, onsets_from}
+use Rattle.fux_grid.specs.Cells.{cell_in, onsets_from}
 use Rattle.fux_grid.specs.Columns.{earlier, line}
 use Rattle.fux_grid.proofs.Histories.{get_or-earlier, get_or-earlier_past}
 use Rattle.rule_law.specs.Newest.{AreNewestOf}

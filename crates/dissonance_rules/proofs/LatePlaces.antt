@@ -63,8 +63,8 @@ way_of ex test voices = at (pair_of voices) refl
                 free = both.0;
                 passes = both.1;
                 fails = λ other k.
-                  fails_first (nat_lt pair.1 ex.voices) (is_free ex pair.0) (is_free ex pair.1) (other pair.0 pair.1) (other pair.1 pair.0) parts.0 both.0
-                  (sym (ap (holds_of_pair ex (holds_some_way ex other)) e) ∙ k);
+                    fails_first (nat_lt pair.1 ex.voices) (is_free ex pair.0) (is_free ex pair.1) (other pair.0 pair.1) (other pair.1 pair.0) parts.0 both.0
+                    (sym (ap (holds_of_pair ex (holds_some_way ex other)) e) ∙ k);
               }
           | inr one ↦
               let both = and_parts (is_free ex pair.1) (test pair.1 pair.0) one in
@@ -74,8 +74,8 @@ way_of ex test voices = at (pair_of voices) refl
                 free = both.0;
                 passes = both.1;
                 fails = λ other k.
-                  fails_second (nat_lt pair.1 ex.voices) (is_free ex pair.0) (is_free ex pair.1) (other pair.0 pair.1) (other pair.1 pair.0) parts.0 both.0
-                  (sym (ap (holds_of_pair ex (holds_some_way ex other)) e) ∙ k);
+                    fails_second (nat_lt pair.1 ex.voices) (is_free ex pair.0) (is_free ex pair.1) (other pair.0 pair.1) (other pair.1 pair.0) parts.0 both.0
+                    (sym (ap (holds_of_pair ex (holds_some_way ex other)) e) ∙ k);
               }
         ]
 

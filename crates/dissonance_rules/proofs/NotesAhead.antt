@@ -222,12 +222,12 @@ module _ (ex : Exercise) (p : List (List Cell)) (v : ℕ) (orderly : IsOrderly e
       elim (cases_eq (j % 8) 0) [
         | inl bar ↦ start_at j 0 here bar (rw (shapes_of 3 (j / 8 + 1) e, no_last j here) (third_at_bar (j / 8 + 1) (no_first j (omega (arith, bar, past)))))
         | inr a ↦ elim (cases_eq (j % 8) 2) [
-            | inl two ↦ start_at j 2 here two (rw (shapes_of 3 (j / 8 + 1) e, no_last j here) (third_at_two (j / 8 + 1)))
-            | inr b ↦ elim (cases_eq (j % 8) 4) [
-                | inl half ↦ start_at j 4 here half (rw (shapes_of 3 (j / 8 + 1) e, no_last j here) (third_at_half (j / 8 + 1)))
-                | inr c ↦ start_at j 6 here (omega (arith, even, a, b, c)) (rw (shapes_of 3 (j / 8 + 1) e, no_last j here) (third_at_six (j / 8 + 1)))
-              ]
+          | inl two ↦ start_at j 2 here two (rw (shapes_of 3 (j / 8 + 1) e, no_last j here) (third_at_two (j / 8 + 1)))
+          | inr b ↦ elim (cases_eq (j % 8) 4) [
+            | inl half ↦ start_at j 4 here half (rw (shapes_of 3 (j / 8 + 1) e, no_last j here) (third_at_half (j / 8 + 1)))
+            | inr c ↦ start_at j 6 here (omega (arith, even, a, b, c)) (rw (shapes_of 3 (j / 8 + 1) e, no_last j here) (third_at_six (j / 8 + 1)))
           ]
+        ]
       ]
 
   fourth_starts : species_in ex v ≡ 4 → (j : ℕ) → j < length p → j % 8 ≡ 4 → starts (cell_at p v j) ≡ true

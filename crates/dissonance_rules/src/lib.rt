@@ -16,7 +16,7 @@ pub use apart::are_apart;
 pub use book::book_is_lawful;
 pub use clashes::{breaks_clash, is_clash_settled};
 pub use dissonance::Dissonance;
-pub use late::places_settled;
+pub use late::{breaks_late, places_settled};
 pub use ligatures::{is_bad_suspension, is_suspended, is_unprepared, resolves};
 pub use passing::{is_cambiata, is_good, is_neighbor, is_passing, starts_in_clash};
 pub use rows::{breaks, cost};

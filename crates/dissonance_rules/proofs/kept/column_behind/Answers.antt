@@ -1,5 +1,4 @@
 use Rattle.dissonance_rules.proofs.KeptLemmas.{behind_none, behind_told}
-use Rattle.std.proofs.lemmas.Bool.{leb-true}
 use Rattle.dissonance_rules.proofs.kept.column_behind.Goals as goal
 use Rattle.std.proofs.Common.{arith}
 

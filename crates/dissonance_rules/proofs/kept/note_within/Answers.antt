@@ -1,5 +1,4 @@
-use Rattle.std.proofs.Common.{◌≡◌, ℕ, ap, sym, ◌∙◌, arith, List, ◌≤◌, length}
-use Rattle.fux_grid.specs.declared.cell.Cell.{Cell}
+use Rattle.std.proofs.Common.{ap, sym, ◌∙◌, arith}
 use Rattle.fux_grid.specs.Cells.{cell_in, first_of}
 use Rattle.dissonance_rules.proofs.KeptLemmas.{notes-no_start, notes-none, notes-start, told}
 use Rattle.dissonance_rules.proofs.kept.note_within.Goals as goal
