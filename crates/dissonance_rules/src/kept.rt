@@ -13,7 +13,8 @@ use rule_law::NewestColumns;
 #[inline]
 pub(crate) fn column_at<'a>(newest: &'a NewestColumns, ex: &Exercise, i: usize) -> &'a [Cell]
     requires { ex.now.voices ≤ 4 }
-    ensures { (s : List (List ACell)) → IsKept ex.now newest.now s i → result.now ≡ slice_index_or s i [] }
+    ensures { (s : List (List ACell)) → IsKept ex.now newest.now s i
+        → result.now ≡ slice_index_or s i [] }
 {
     newest.at(i, usize::from(ex.voices))
 }
@@ -28,7 +29,8 @@ pub(crate) fn column_behind<'a>(
 ) -> &'a [Cell]
     requires voices { ex.now.voices ≤ 4 }
     requires near { k ≤ 2 }
-    ensures { (s : List (List ACell)) → IsKept ex.now newest.now s i → result.now ≡ slice_index_or (earlier s i) k [] }
+    ensures { (s : List (List ACell)) → IsKept ex.now newest.now s i
+        → result.now ≡ slice_index_or (earlier s i) k [] }
 {
     if k >= i {
         return &[];
@@ -48,7 +50,8 @@ pub(crate) fn column_ahead<'a>(
     requires place { i < newest.now.len }
     requires room { newest.now.len ≤ 192 }
     requires near { k ≤ 192 }
-    ensures { (s : List (List ACell)) → IsKept ex.now newest.now s i → result.now ≡ slice_index_or (drop (i + 1) s) k [] }
+    ensures { (s : List (List ACell)) → IsKept ex.now newest.now s i
+        → result.now ≡ slice_index_or (drop (i + 1) s) k [] }
 {
     newest.at(i + 1 + k, usize::from(ex.voices))
 }

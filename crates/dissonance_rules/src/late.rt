@@ -178,7 +178,8 @@ fn is_passing_open(
 fn settles_passing(newest: &NewestColumns, ex: &Exercise, voices: VoiceSet, place: usize) -> bool
     requires valid { IsValid ex.now }
     requires place { place < newest.now.len }
-    ensures { (p : List (List ACell)) (col : List ACell) → IsKept ex.now newest.now (p ++ col ∷ []) place
+    ensures { (p : List (List ACell)) (col : List ACell)
+        → IsKept ex.now newest.now (p ++ col ∷ []) place
         → result ≡ newly (settled_by (passing_enough ex.now voices.bits)) p col place }
 {
     if is_passing_open(newest, ex, place, newest.len, voices) {

@@ -287,7 +287,8 @@ pub(crate) fn is_open_kept(
     requires within { end ≤ newest.now.len }
     requires place { i < end }
     ensures { (s : List (List ACell)) → IsKept ex.now newest.now s i
-        → result ≡ words.is_open_clash ex.now i (slice_index_or s i []) (drop (i + 1) (take end s)) v w }
+        → result ≡ words.is_open_clash ex.now i (slice_index_or s i [])
+        (drop (i + 1) (take end s)) v w }
 {
     if !starts_in_clash(column_at(newest, ex, i), v as usize, w as usize) {
         return false;
