@@ -16,7 +16,7 @@ use Rattle.penalty_sheet.specs.Weights.{weight_of}
 abbrev pub tolls_of_melody : List ℕ
 tolls_of_melody = 7 ∷ 8 ∷ 9 ∷ 10 ∷ 13 ∷ []
 
--- the others that are read
+-- the others that are settled at once
 abbrev pub tolls_of_pairs : List ℕ
 tolls_of_pairs = 1 ∷ 2 ∷ 11 ∷ 14 ∷ []
 

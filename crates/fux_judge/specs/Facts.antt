@@ -1,5 +1,5 @@
 -- What holds of each rule and toll, whichever crate has it.
-use Rattle.std.specs.Prelude.{◌≡◌, ℕ, ◌==◌, ◌||◌, not, Bool, true, false, if◌then◌else◌, refl}
+use Rattle.std.specs.Prelude.{◌≡◌, ℕ, Bool, true, false, if◌then◌else◌, not, refl}
 use Rattle.std.specs.List.{filter, range_with_len}
 use Rattle.fux_grid.specs.declared.exercise.Exercise.{Exercise}
 use Rattle.rule_law.specs.Places.{IsLocal, SettlesAtEnd}
@@ -13,7 +13,7 @@ use Rattle.melody_rules.proofs.BookLaws as melody_laws
 use Rattle.motion_rules.proofs.BookLaws as motion_laws
 use Rattle.dissonance_rules.proofs.BookLaws as dissonance_laws
 use Rattle.rhythm_cadence.proofs.BookLaws as rhythm_laws
-use Rattle.fux_judge.specs.Rules.{all_rules, rule_at, toll_at, enough, cost_enough, is_broken, is_settled, cost_at, is_cost_settled, is_late, rules_read, tolls_read, rules_at_once, late_rules}
+use Rattle.fux_judge.specs.Rules.{all_rules, rule_at, toll_at, enough, cost_enough, is_broken, is_settled, cost_at, is_cost_settled, is_late, is_late_toll, rules_read, tolls_read, rules_at_once, late_rules, tolls_at_once, late_tolls}
 
 all_keep : KeepsAllLaws all_rules
 all_keep =
@@ -56,17 +56,6 @@ module _ (toll : ℕ) (ex : Exercise) where
   pub toll_needs_place : NeedsPlace (is_cost_settled toll ex)
   toll_needs_place = needs_place (cost_enough toll ex)
 
--- no toll is late so far
-pub tolls_at_once : (toll : ℕ) → (toll_at toll).late ≡ false
-unfolding toll_at
-tolls_at_once toll = at (melody.has_toll toll) (motion.has_toll toll) (dissonance.has_toll toll)
-  where
-    at : (a b c : Bool) → (if a then melody.toll_row toll else (if b then motion.toll_row toll else (if c then dissonance.toll_row toll else nothing.toll toll))).late ≡ false
-    at true b c = refl
-    at false true c = refl
-    at false false true = refl
-    at false false false = refl
-
 -- the lists of numbers are those of the table
 pub rules_are_all : rules_read ≡ filter all_rules.has_rule (range_with_len 1 26)
 unfolding rules_read
@@ -83,3 +72,22 @@ at_once_are_all = refl
 pub late_are_all : late_rules ≡ filter is_late rules_read
 unfolding rules_read late_rules rule_at
 late_are_all = refl
+
+pub tolls_at_once_are_all : tolls_at_once ≡ filter (λ toll. not (is_late_toll toll)) tolls_read
+unfolding tolls_read tolls_at_once toll_at
+tolls_at_once_are_all = refl
+
+pub late_tolls_are_all : late_tolls ≡ filter is_late_toll tolls_read
+unfolding tolls_read late_tolls toll_at
+late_tolls_are_all = refl
+
+-- no toll is late so far
+pub no_late_toll : (toll : ℕ) → is_late_toll toll ≡ false
+unfolding toll_at
+no_late_toll toll = at (melody.has_toll toll) (motion.has_toll toll) (dissonance.has_toll toll)
+  where
+    at : (a b c : Bool) → (if a then melody.toll_row toll else (if b then motion.toll_row toll else (if c then dissonance.toll_row toll else nothing.toll toll))).late ≡ false
+    at true b c = refl
+    at false true c = refl
+    at false false true = refl
+    at false false false = refl

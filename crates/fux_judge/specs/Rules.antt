@@ -86,9 +86,13 @@ is_cost_settled toll ex = settled_by (cost_enough toll ex)
 abbrev pub is_read : ℕ → Bool
 is_read rule = list_any (λ read. rule == read) rules_read
 
--- a rule may be settled later than at its own column
+-- a rule is read when its column is among the newest ones: it may be settled later than at its own column
 abbrev pub is_late : ℕ → Bool
 is_late rule = (rule_at rule).late
+
+-- a toll is
+abbrev pub is_late_toll : ℕ → Bool
+is_late_toll toll = (toll_at toll).late
 
 -- the rules that are settled at once, and the others
 unfoldable pub rules_at_once : List ℕ
@@ -96,3 +100,10 @@ rules_at_once = 1 ∷ 2 ∷ 4 ∷ 5 ∷ 6 ∷ 7 ∷ 8 ∷ 9 ∷ 10 ∷ 11 ∷ 12
 
 unfoldable pub late_rules : List ℕ
 late_rules = 3 ∷ []
+
+-- the tolls that are settled at once, and the others
+unfoldable pub tolls_at_once : List ℕ
+tolls_at_once = 1 ∷ 2 ∷ 7 ∷ 8 ∷ 9 ∷ 10 ∷ 11 ∷ 13 ∷ 14 ∷ []
+
+unfoldable pub late_tolls : List ℕ
+late_tolls = []

@@ -25,7 +25,7 @@ fn every_late_rule() -> &'static [u8]
     ensures value { result.now ≡ late_rules }
     ensures table { result.now ≡ filter is_late rules_read }
     ensures numbers { IsTrue (list_all (λ rule. nat_lt rule 32 && is_late rule) result.now) }
-    ensures few { length result.now ≤ 6 }
+    ensures few { length result.now ≤ 12 }
 {
     &LATE_RULES
 }
@@ -33,13 +33,13 @@ fn every_late_rule() -> &'static [u8]
 /// Where the newest column may settle a late rule.
 fn places_of(rule: u8, ex: &Exercise, next: &State) -> LatePlaces
     requires late { is_late rule ≡ true }
-    requires begun { 0 < next.now.len }
-    ensures first { result.first ≡ (rule_at rule).first ex.now (next.now.len - 1) }
-    ensures count { result.count ≡ (rule_at rule).count ex.now (next.now.len - 1) }
-    ensures within { result.first + result.count ≤ next.now.len }
-    ensures few { result.count ≤ 16 }
+    requires begun { 0 < next.now.newest.len }
+    ensures first { result.first ≡ (rule_at rule).first ex.now (next.now.newest.len - 1) }
+    ensures count { result.count ≡ (rule_at rule).count ex.now (next.now.newest.len - 1) }
+    ensures within { result.first + result.count ≤ next.now.newest.len }
+    ensures few { result.count ≤ 24 }
 {
-    rhythm_cadence::places_settled(rule, ex, next.len - 1)
+    rhythm_cadence::places_settled(rule, ex, next.newest.len - 1)
 }
 
 /// Whether the newest column settles a break of a late rule, at one of its places.
@@ -124,8 +124,8 @@ fn prices_for(rule: u8, ex: &Exercise, next: &State, place: usize, sets: &[u8]) 
 fn is_broken_late(rule: u8, ex: &Exercise, next: &State) -> bool
     requires late { is_late rule ≡ true }
     requires valid { IsValid ex.now }
-    requires begun { 0 < next.now.len }
-    requires room { next.now.len ≤ columns_in ex.now }
+    requires begun { 0 < next.now.newest.len }
+    requires room { next.now.newest.len ≤ columns_in ex.now }
     ensures { (p : List (List ACell)) (col : List ACell) → HasCome ex.now next.now p col → result ≡ steps.breaks_late ex.now p col rule }
 {
     let places = places_of(rule, ex, next);
@@ -142,10 +142,10 @@ fn is_broken_late(rule: u8, ex: &Exercise, next: &State) -> bool
 fn prices_of_late(rule: u8, ex: &Exercise, next: &State) -> u64
     requires late { is_late rule ≡ true }
     requires valid { IsValid ex.now }
-    requires begun { 0 < next.now.len }
-    requires room { next.now.len ≤ columns_in ex.now }
+    requires begun { 0 < next.now.newest.len }
+    requires room { next.now.newest.len ≤ columns_in ex.now }
     ensures value { (p : List (List ACell)) (col : List ACell) → HasCome ex.now next.now p col → result ≡ steps.prices_late ex.now p col rule }
-    ensures bound { result ≤ 960000 }
+    ensures bound { result ≤ 1440000 }
 {
     let places = places_of(rule, ex, next);
     let sets = sets_of(form_of(rule), ex.voices);
@@ -160,8 +160,8 @@ fn prices_of_late(rule: u8, ex: &Exercise, next: &State) -> u64
 /// A set with the late rules added of which the newest column settles a strict break.
 pub(crate) fn with_late(set: RuleSet, ex: &Exercise, next: &State) -> RuleSet
     requires valid { IsValid ex.now }
-    requires begun { 0 < next.now.len }
-    requires room { next.now.len ≤ columns_in ex.now }
+    requires begun { 0 < next.now.newest.len }
+    requires room { next.now.newest.len ≤ columns_in ex.now }
     ensures { (p : List (List ACell)) (col : List ACell) → HasCome ex.now next.now p col → (r : ℕ)
         → has_rule result.bits r ≡ (has_rule set.bits r || list_any (λ rule. steps.breaks_late ex.now p col rule && r == rule) late_rules) }
 {
@@ -176,10 +176,10 @@ pub(crate) fn with_late(set: RuleSet, ex: &Exercise, next: &State) -> RuleSet
 /// What the newest column settles of the prices of all late rules.
 pub(crate) fn late_prices(ex: &Exercise, next: &State) -> u64
     requires valid { IsValid ex.now }
-    requires begun { 0 < next.now.len }
-    requires room { next.now.len ≤ columns_in ex.now }
+    requires begun { 0 < next.now.newest.len }
+    requires room { next.now.newest.len ≤ columns_in ex.now }
     ensures value { (p : List (List ACell)) (col : List ACell) → HasCome ex.now next.now p col → result ≡ sum_by (steps.prices_late ex.now p col) late_rules }
-    ensures bound { result ≤ 5760000 }
+    ensures bound { result ≤ 17280000 }
 {
     if ex.relax.as_slice().is_empty() {
         return 0;

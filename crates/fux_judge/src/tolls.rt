@@ -1,4 +1,4 @@
-//! Tolls, read at a moment.
+//! Tolls that are settled at once, read at a moment.
 
 ghost use Rattle.std.specs.Prelude.{◌≡◌, ◌≤◌, ◌<◌, ◌+◌, ◌||◌, List, IsTrue, if◌then◌else◌, length};
 ghost use Rattle.std.specs.List.{sum_by};
@@ -10,7 +10,7 @@ ghost use Rattle.melody_rules.specs.Rows as melody;
 ghost use Rattle.penalty_sheet.specs.Weights.{weight_of};
 ghost use Rattle.fux_judge.specs.Charges.{tolls_of_pairs, voice_charge};
 ghost use Rattle.fux_judge.specs.Rules as rules;
-ghost use Rattle.fux_judge.specs.Rules.{cost_at, tolls_read};
+ghost use Rattle.fux_judge.specs.Rules.{cost_at, tolls_at_once};
 ghost use Rattle.fux_judge.specs.Moments.{IsAfter, toll_then, with_column};
 
 use crate::moment::Moment;
@@ -104,9 +104,9 @@ pub(crate) fn charge_of_voice(sheet: &Sheet, m: &Moment<'_>, voice: usize) -> u6
     charge_of_move(sheet, m.latest.of(voice), cell) + charge_of_leap(sheet, m.notes, voice, cell)
 }
 
-/// What all tolls cost together.
+/// What the tolls that are settled at once cost together.
 pub(crate) fn charges(sheet: &Sheet, m: &Moment<'_>) -> u64
-    ensures value { (p : List (List ACell)) → IsAfter p m.now → result ≡ sum_by (toll_then sheet.now p m.now) tolls_read }
+    ensures value { (p : List (List ACell)) → IsAfter p m.now → result ≡ sum_by (toll_then sheet.now p m.now) tolls_at_once }
     ensures bound { result ≤ 7864200 }
 {
     charge_of_voice(sheet, m, 0)
