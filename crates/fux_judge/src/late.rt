@@ -11,14 +11,14 @@ ghost use Rattle.fux_judge.specs.Rules.{is_late, late_rules, rule_at, rules_read
 ghost use Rattle.fux_judge.specs.States.{HasCome};
 ghost use Rattle.fux_judge.specs.Steps as steps;
 
-use crate::reading::form_of;
+use crate::reading::{form_of, is_of_dissonance, is_of_motion, is_of_rhythm};
 use crate::state::State;
 use fux_grid::{Exercise, VoiceSet};
 use penalty_sheet::price_at;
 use rule_law::{LatePlaces, RuleSet, sets_of};
 
 /// The rules that may be settled later than at their own column.
-const LATE_RULES: [u8; 1] = [3];
+const LATE_RULES: [u8; 9] = [3, 15, 18, 19, 20, 21, 22, 23, 25];
 
 #[tactic(auto, unfolding(crate::specs::Rules::late_rules, crate::specs::Rules::rules_read, crate::specs::Rules::rule_at))]
 fn every_late_rule() -> &'static [u8]
@@ -30,33 +30,70 @@ fn every_late_rule() -> &'static [u8]
     &LATE_RULES
 }
 
+/// Where column `i` may settle a late rule, as the crate that has it says.
+fn places_at(rule: u8, ex: &Exercise, i: usize) -> LatePlaces
+    requires late { is_late rule ≡ true }
+    requires valid { IsValid ex.now }
+    requires place { i < columns_in ex.now }
+    ensures first { result.first ≡ (rule_at rule).first ex.now i }
+    ensures count { result.count ≡ (rule_at rule).count ex.now i }
+    ensures few { result.count ≤ 24 }
+{
+    if is_of_motion(rule) {
+        return motion_rules::places_settled(rule, ex, i);
+    }
+    if is_of_dissonance(rule) {
+        return dissonance_rules::places_settled(rule, ex, i);
+    }
+    if is_of_rhythm(rule) {
+        return rhythm_cadence::places_settled(rule, ex, i);
+    }
+    doubling_rules::places_settled(rule, ex, i)
+}
+
 /// Where the newest column may settle a late rule.
 fn places_of(rule: u8, ex: &Exercise, next: &State) -> LatePlaces
     requires late { is_late rule ≡ true }
+    requires valid { IsValid ex.now }
     requires begun { 0 < next.now.newest.len }
+    requires room { next.now.newest.len ≤ columns_in ex.now }
     ensures first { result.first ≡ (rule_at rule).first ex.now (next.now.newest.len - 1) }
     ensures count { result.count ≡ (rule_at rule).count ex.now (next.now.newest.len - 1) }
     ensures within { result.first + result.count ≤ next.now.newest.len }
     ensures few { result.count ≤ 24 }
 {
-    rhythm_cadence::places_settled(rule, ex, next.newest.len - 1)
+    places_at(rule, ex, next.newest.len - 1)
 }
 
-/// Whether the newest column settles a break of a late rule, at one of its places.
-#[inline]
+/// Whether the newest column settles a break of a late rule, at one of its places, as the crate that has it says.
 fn breaks_at(rule: u8, ex: &Exercise, next: &State, voices: VoiceSet, place: usize) -> bool
     requires late { is_late rule ≡ true }
+    requires valid { IsValid ex.now }
+    requires begun { 0 < next.now.newest.len }
+    requires room { next.now.newest.len ≤ columns_in ex.now }
     ensures { (p : List (List ACell)) (col : List ACell) → HasCome ex.now next.now p col
         → IsAmong ((rule_at rule).first ex.now (length p)) ((rule_at rule).count ex.now (length p)) place
         → result ≡ newly_breaks (rule_at rule) ex.now voices.bits p col place }
 {
-    rhythm_cadence::breaks_late(&next.rhythm, rule, ex, voices, place)
+    let newest = &next.newest;
+    if is_of_motion(rule) {
+        return motion_rules::breaks_late(newest, rule, ex, voices, place);
+    }
+    if is_of_dissonance(rule) {
+        return dissonance_rules::breaks_late(newest, rule, ex, voices, place);
+    }
+    if is_of_rhythm(rule) {
+        return rhythm_cadence::breaks_late(&next.rhythm, newest, rule, ex, voices, place);
+    }
+    doubling_rules::breaks_late(newest, rule, ex, voices, place)
 }
 
 /// Whether that is a strict break.
 fn breaks_strictly_at(rule: u8, ex: &Exercise, next: &State, voices: VoiceSet, place: usize) -> bool
     requires late { is_late rule ≡ true }
     requires valid { IsValid ex.now }
+    requires begun { 0 < next.now.newest.len }
+    requires room { next.now.newest.len ≤ columns_in ex.now }
     requires place { place < columns_in ex.now }
     ensures { (p : List (List ACell)) (col : List ACell) → HasCome ex.now next.now p col
         → IsAmong ((rule_at rule).first ex.now (length p)) ((rule_at rule).count ex.now (length p)) place
@@ -72,6 +109,8 @@ fn breaks_strictly_at(rule: u8, ex: &Exercise, next: &State, voices: VoiceSet, p
 fn price_settled(rule: u8, ex: &Exercise, next: &State, voices: VoiceSet, place: usize) -> u64
     requires late { is_late rule ≡ true }
     requires valid { IsValid ex.now }
+    requires begun { 0 < next.now.newest.len }
+    requires room { next.now.newest.len ≤ columns_in ex.now }
     requires place { place < columns_in ex.now }
     ensures value { (p : List (List ACell)) (col : List ACell) → HasCome ex.now next.now p col
         → IsAmong ((rule_at rule).first ex.now (length p)) ((rule_at rule).count ex.now (length p)) place
@@ -88,6 +127,8 @@ fn price_settled(rule: u8, ex: &Exercise, next: &State, voices: VoiceSet, place:
 fn breaks_for(rule: u8, ex: &Exercise, next: &State, place: usize, sets: &[u8]) -> bool
     requires late { is_late rule ≡ true }
     requires valid { IsValid ex.now }
+    requires begun { 0 < next.now.newest.len }
+    requires room { next.now.newest.len ≤ columns_in ex.now }
     requires place { place < columns_in ex.now }
     ensures { (p : List (List ACell)) (col : List ACell) → HasCome ex.now next.now p col
         → IsAmong ((rule_at rule).first ex.now (length p)) ((rule_at rule).count ex.now (length p)) place
@@ -105,6 +146,8 @@ fn breaks_for(rule: u8, ex: &Exercise, next: &State, place: usize, sets: &[u8]) 
 fn prices_for(rule: u8, ex: &Exercise, next: &State, place: usize, sets: &[u8]) -> u64
     requires late { is_late rule ≡ true }
     requires valid { IsValid ex.now }
+    requires begun { 0 < next.now.newest.len }
+    requires room { next.now.newest.len ≤ columns_in ex.now }
     requires place { place < columns_in ex.now }
     requires few { length sets.now ≤ 6 }
     ensures value { (p : List (List ACell)) (col : List ACell) → HasCome ex.now next.now p col

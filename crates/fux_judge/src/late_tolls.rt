@@ -6,6 +6,7 @@ ghost use Rattle.fux_grid.specs.declared.cell.Cell.{Cell as ACell};
 ghost use Rattle.fux_grid.specs.Exercises.{IsValid, columns_in};
 ghost use Rattle.rule_law.specs.Rulebooks.{IsAmong, newly_costs};
 ghost use Rattle.fux_judge.specs.Penalties.{new_toll};
+ghost use Rattle.fux_judge.specs.Rules as rules;
 ghost use Rattle.fux_judge.specs.Rules.{is_late_toll, late_tolls, toll_at, tolls_read};
 ghost use Rattle.fux_judge.specs.States.{HasCome};
 ghost use Rattle.fux_judge.specs.Steps as steps;
@@ -16,7 +17,7 @@ use penalty_sheet::{Sheet, weight};
 use rule_law::LatePlaces;
 
 /// The tolls that may be settled later than at their own column.
-const LATE_TOLLS: [u8; 0] = [];
+const LATE_TOLLS: [u8; 7] = [3, 4, 5, 6, 12, 15, 16];
 
 #[tactic(auto, unfolding(crate::specs::Rules::late_tolls, crate::specs::Rules::tolls_read, crate::specs::Rules::toll_at))]
 fn every_late_toll() -> &'static [u8]
@@ -26,6 +27,40 @@ fn every_late_toll() -> &'static [u8]
     ensures few { length result.now ≤ 8 }
 {
     &LATE_TOLLS
+}
+
+/// Whether a toll is of motion.
+#[inline]
+fn is_of_motion(toll: u8) -> bool
+    ensures { result ≡ rules.is_toll_of_motion toll }
+{
+    toll == 11 || toll == 12 || toll == 14
+}
+
+/// Whether a toll is of rhythm.
+#[inline]
+fn is_of_rhythm(toll: u8) -> bool
+    ensures { result ≡ rules.is_toll_of_rhythm toll }
+{
+    toll == 15 || toll == 16
+}
+
+/// Where column `i` may settle what a late toll costs, as the crate that has it says.
+fn places_at(toll: u8, ex: &Exercise, i: usize) -> LatePlaces
+    requires late { is_late_toll toll ≡ true }
+    requires valid { IsValid ex.now }
+    requires place { i < columns_in ex.now }
+    ensures first { result.first ≡ (toll_at toll).first ex.now i }
+    ensures count { result.count ≡ (toll_at toll).count ex.now i }
+    ensures few { result.count ≤ 24 }
+{
+    if is_of_motion(toll) {
+        return motion_rules::toll_places(toll, ex, i);
+    }
+    if is_of_rhythm(toll) {
+        return rhythm_cadence::toll_places(toll, ex, i);
+    }
+    doubling_rules::toll_places(toll, ex, i)
 }
 
 /// Where the newest column may settle what a late toll costs.
@@ -39,11 +74,10 @@ fn places_of(toll: u8, ex: &Exercise, next: &State) -> LatePlaces
     ensures within { result.first + result.count ≤ next.now.newest.len }
     ensures few { result.count ≤ 24 }
 {
-    let _ = (toll, ex.voices, next.newest.len);
-    LatePlaces { first: 0, count: 0 }
+    places_at(toll, ex, next.newest.len - 1)
 }
 
-/// What the newest column settles of a late toll at one of its places, without its weight.
+/// What the newest column settles of a late toll at one of its places, without its weight, as the crate that has it says.
 fn cost_at(toll: u8, ex: &Exercise, next: &State, place: usize) -> u32
     requires late { is_late_toll toll ≡ true }
     requires valid { IsValid ex.now }
@@ -54,8 +88,14 @@ fn cost_at(toll: u8, ex: &Exercise, next: &State, place: usize) -> u32
         → result ≡ newly_costs (toll_at toll) ex.now p col place }
     ensures bound { result ≤ 6 }
 {
-    let _ = (toll, ex.voices, next.newest.len, place);
-    0
+    let newest = &next.newest;
+    if is_of_motion(toll) {
+        return motion_rules::cost_late(newest, toll, ex, place);
+    }
+    if is_of_rhythm(toll) {
+        return rhythm_cadence::cost_late(newest, toll, ex, place);
+    }
+    doubling_rules::cost_late(newest, toll, ex, place)
 }
 
 /// What it settles there by the toll's weight.
