@@ -1,7 +1,6 @@
 -- S23 and the tolls Q3 to Q6: what voices double, how far apart they lie, and where in its range each keeps.
-use Rattle.std.specs.Prelude.{ℕ, ◌+◌, ◌-◌, ◌/◌, ◌==◌, Bool, true, false, ◌&&◌, ◌||◌, not, nat_le, nat_lt, pos, List, [], ◌∷◌, Option, Some, None, if◌then◌else◌}
+use Rattle.std.specs.Prelude.{ℕ, ◌+◌, ◌-◌, ◌/◌, ◌==◌, Bool, false, ◌&&◌, ◌||◌, nat_le, nat_lt, pos, List, Option, Some, None, if◌then◌else◌}
 use Rattle.std.specs.Int.{from_bool}
-use Rattle.std.specs.List.{list_any}
 use Rattle.std.specs.Ordering.{int_eq}
 use Rattle.fux_pitch.specs.declared.interval.Interval.{Interval}
 use Rattle.fux_pitch.specs.declared.pitch.Pitch.{Pitch}
@@ -15,8 +14,9 @@ use Rattle.fux_grid.specs.Exercises.{bar_of}
 use Rattle.fux_grid.specs.Menus.{range_of}
 use Rattle.rule_law.specs.Bars.{begins_bar, begins_inner_bar}
 use Rattle.rule_law.specs.Leading.{is_leading}
-use Rattle.rule_law.specs.Nearby.{NearRow}
+use Rattle.rule_law.specs.Nearby.{NearRow, whole_of}
 use Rattle.rule_law.specs.Pairs.{one_starts}
+use Rattle.rule_law.specs.Places.{Row, at_once}
 use Rattle.rule_law.specs.Terms.{degrees_without_sign, holds_of, interval_in, sounds}
 use Rattle.rule_law.specs.Voices.{count_free, on_pair}
 
@@ -37,8 +37,8 @@ abbrev pub double_leading : Exercise → ℕ → List Cell → ℕ → ℕ → B
 double_leading ex i now v w =
     is_before_last_bar ex i && sounds_leading ex now v && sounds_leading ex now w && one_starts now v w
 
-abbrev pub doubling_rows : Exercise → ℕ → NearRow Bool
-doubling_rows ex voices i before previous now = on_pair ex (double_leading ex i now) voices
+abbrev pub breaks_in_column : Exercise → ℕ → ℕ → List Cell → Bool
+breaks_in_column ex voices i now = on_pair ex (double_leading ex i now) voices
 
 -- a third, of any size, but for octaves
 abbrev pub is_third : Interval → Bool
@@ -98,10 +98,31 @@ strays ex v i (Start p) = is_far_from_middle (range_of ex v (bar_of i)) p
 unfoldable pub straying_notes : Exercise → ℕ → List Cell → ℕ
 straying_notes ex i now = count_free ex (λ v. nat_lt v ex.voices && strays ex v i (cell_in now v))
 
--- what each of the tolls costs
-abbrev pub doubling_tolls : ℕ → Exercise → NearRow ℕ
-doubling_tolls toll ex i before previous now =
+-- what each of the tolls costs, without its weight
+abbrev pub cost_of_column : ℕ → Exercise → ℕ → List Cell → ℕ
+cost_of_column toll ex i now =
     if toll == 3 then from_bool (lacks_third ex i now)
     else (if toll == 4 then wide_pairs i now
     else (if toll == 5 then from_bool (doubles_third ex i now)
     else straying_notes ex i now))
+
+-- the rule and the tolls as rows of neighbors
+abbrev pub doubling_rows : Exercise → ℕ → NearRow Bool
+doubling_rows ex voices i before previous now = breaks_in_column ex voices i now
+
+abbrev pub doubling_tolls : ℕ → Exercise → NearRow ℕ
+doubling_tolls toll ex i before previous now = cost_of_column toll ex i now
+
+-- the rule is broken at a place, and what a toll costs there
+abbrev pub broken_in : ℕ → Exercise → ℕ → Row Bool
+broken_in rule ex voices = whole_of (doubling_rows ex voices)
+
+abbrev pub cost_in : ℕ → Exercise → Row ℕ
+cost_in toll ex = whole_of (doubling_tolls toll ex)
+
+-- all are settled at once
+abbrev pub enough_after : ℕ → Exercise → ℕ → Row Bool
+enough_after rule ex voices = at_once
+
+abbrev pub cost_enough : ℕ → Exercise → Row Bool
+cost_enough toll ex = at_once

@@ -1,9 +1,17 @@
 //! What voices double, how far apart they lie, and where in its range each keeps: S23 and Q3 to Q6.
 #![tactic(auto)]
 
+mod book;
+mod doubling;
+mod late;
 mod rows;
+mod tolls;
 
+pub use book::book_is_lawful;
+pub use doubling::Doubling;
+pub use late::{breaks_late, cost_late, places_settled, toll_places};
 pub use rows::{
     double_leading, doubles_third, doubling_breaks, doubling_cost, lacks_third, straying_notes,
     wide_pairs,
 };
+pub use tolls::{Q3, Q4, Q5, Q6};

@@ -1,11 +1,9 @@
 //! The rule and the tolls over one column.
 
-ghost use Rattle.std.specs.Prelude.{◌≡◌, ◌<◌, ◌≤◌, ◌&&◌, nat_lt, ℕ, List};
+ghost use Rattle.std.specs.Prelude.{◌≡◌, ◌<◌, ◌≤◌, ◌&&◌, nat_lt};
 ghost use Rattle.fux_pitch.specs.Size.{IsShort};
-ghost use Rattle.fux_grid.specs.declared.cell.Cell.{Cell};
 ghost use Rattle.fux_grid.specs.Cells.{cell_in};
 ghost use Rattle.fux_grid.specs.Exercises.{IsFree, IsValid, columns_in};
-ghost use Rattle.rule_law.specs.Nearby.{Pitches};
 ghost use Rattle.rule_law.specs.Voices as voices_words;
 ghost use Rattle.doubling_rules.specs.Rows as rows;
 
@@ -25,11 +23,18 @@ fn sounds_leading(ex: &Exercise, now: &[Cell], v: usize) -> bool
     }
 }
 
+/// Whether column `i` is of the bar before the last.
+pub(crate) fn is_before_last_bar(ex: &Exercise, i: usize) -> bool
+    ensures { result ≡ rows.is_before_last_bar ex.now i }
+{
+    i / 8 + 2 == usize::from(ex.bars)
+}
+
 /// S23: whether in the bar before the last two voices both sound the leading note, and one of them starts it.
 pub fn double_leading(ex: &Exercise, i: usize, now: &[Cell], v: usize, w: usize) -> bool
     ensures { result ≡ rows.double_leading ex.now i now.now v w }
 {
-    if i / 8 + 2 != usize::from(ex.bars) {
+    if !is_before_last_bar(ex, i) {
         return false;
     }
     sounds_leading(ex, now, v) && sounds_leading(ex, now, w) && one_starts(now, v, w)
@@ -37,8 +42,7 @@ pub fn double_leading(ex: &Exercise, i: usize, now: &[Cell], v: usize, w: usize)
 
 /// Whether S23 is broken at column `i`, whose cells are `now`, for a set of two voices.
 pub fn doubling_breaks(ex: &Exercise, voices: VoiceSet, i: usize, now: &[Cell]) -> bool
-    ensures { (before : List Cell) (previous : Pitches) →
-        result ≡ rows.doubling_rows ex.now voices.bits i before previous now.now }
+    ensures { result ≡ rows.breaks_in_column ex.now voices.bits i now.now }
 {
     let Some((v, w)) = pair_of(voices) else {
         return false;
@@ -167,8 +171,7 @@ pub fn straying_notes(ex: &Exercise, i: usize, now: &[Cell]) -> u32
 pub fn doubling_cost(toll: u8, ex: &Exercise, i: usize, now: &[Cell]) -> u32
     requires valid { IsValid ex.now }
     requires place { i < columns_in ex.now }
-    ensures value { (before : List Cell) (previous : Pitches) →
-        result ≡ rows.doubling_tolls toll ex.now i before previous now.now }
+    ensures value { result ≡ rows.cost_of_column toll ex.now i now.now }
     ensures bound { result ≤ 4 }
 {
     match toll {

@@ -1,17 +1,23 @@
 -- The rules and tolls of motion keep the laws of a crate's book.
-use Rattle.std.specs.Prelude.{◌≡◌, ℕ, ◌==◌, Bool, true, false, List, [], ◌∷◌, if◌then◌else◌, refl}
+use Rattle.std.specs.Prelude.{◌≡◌, ◌≤◌, ℕ, ◌+◌, ◌==◌, Bool, true, false, ◌&&◌, nat_le, List, [], length, reverse, if◌then◌else◌, refl}
 use Rattle.std.proofs.Common.{arith}
 use Rattle.fux_grid.specs.declared.cell.Cell.{Cell}
 use Rattle.fux_grid.specs.declared.exercise.Exercise.{Exercise}
 use Rattle.fux_grid.specs.Columns.{newest_column}
+use Rattle.rule_law.specs.AtOnce.{breaks_where_it_may, costs_where_it_may}
+use Rattle.rule_law.specs.Bars.{begins_bar}
 use Rattle.rule_law.specs.Forms.{IsOf, pair_form, pair_sets_of}
 use Rattle.rule_law.specs.Nearby.{previous_pitches, whole_of}
-use Rattle.rule_law.specs.Quiet.{is_quiet}
+use Rattle.rule_law.specs.Law.{at_once_settles, local_from_row}
+use Rattle.rule_law.specs.Pairs.{count_pairs}
+use Rattle.rule_law.specs.Quiet.{is_quiet, on_pair-none}
 use Rattle.rule_law.specs.Rulebooks.{KeepsLaws, KeepsRuleLaws, KeepsTollLaws}
-use Rattle.motion_rules.specs.Locality.{motion_is_local, motion_settles_at_end, cost_is_local, cost_settles_at_end}
-use Rattle.motion_rules.specs.Quiet.{quiet_rows, quiet_runs, quiet_tolls}
-use Rattle.motion_rules.specs.Rows.{broken_in, cost_enough, cost_in, enough_after, imperfect_runs, near_rows, toll_rows}
-use Rattle.motion_rules.specs.Book.{book, rule_row, toll_row}
+use Rattle.motion_rules.specs.Afterbeats.{afterbeat_enough, afterbeat_row, has_species_voice, moves_within_bars}
+use Rattle.motion_rules.specs.InnerVoices.{inner_move_into_perfect}
+use Rattle.motion_rules.specs.Locality.{cost_is_local, cost_settles_at_end, inner_is_local, inner_settles_at_end}
+use Rattle.motion_rules.specs.Quiet.{quiet_rows, quiet_runs, quiet_tolls, within_a_bar}
+use Rattle.motion_rules.specs.Rows.{broken_in, cost_in, enough_after, imperfect_runs, toll_rows}
+use Rattle.motion_rules.specs.Book.{at_once_row, at_once_toll, book, is_late, is_late_toll, late_row, late_toll, may_be_bare, rule_row, toll_row}
 
 rule_form : (n : ℕ) (ex : Exercise) (i : ℕ) (behind : List (List Cell)) (now : List Cell) (ahead : List (List Cell)) → IsOf (pair_sets_of ex.voices) (λ voices. broken_in n ex voices i behind now ahead)
 rule_form n ex i behind now ahead = at (n == 10) (n == 16) refl refl
@@ -28,11 +34,40 @@ toll_quiet n ex i behind now h = at (n == 14)
     at true = quiet_runs ex i now h behind
     at false = quiet_tolls ex i now h n (newest_column behind) (previous_pitches behind)
 
-pub rules_keep : (n : ℕ) → KeepsRuleLaws (rule_row n)
-rules_keep n = record {
-  local = motion_is_local n;
+-- where S18 may not be broken, no two voices break it
+elsewhere : (ex : Exercise) (voices i : ℕ) (behind : List (List Cell)) (now : List Cell) → may_be_bare ex i ≡ false → afterbeat_row ex voices i behind now [] ≡ false
+elsewhere ex voices i behind now none = on_pair-none ex _ voices (λ v w. at (moves_within_bars ex.species) (begins_bar i) (nat_le 8 i) (has_species_voice ex v w) _ _ none)
+  where
+    at : (a b c x y z : Bool) → (a && b && c) ≡ false → (a && x && b && c && y && z) ≡ false
+    at true true true x y z h = cc
+    at true true false true y z h = refl
+    at true true false false y z h = refl
+    at true false c true y z h = refl
+    at true false c false y z h = refl
+    at false b c x y z h = refl
+
+most : (b : Bool) (i : ℕ) → i + (if b then 1 else 0) ≤ i + 1
+most true i = omega arith
+most false i = omega arith
+
+late_rules_keep : (n : ℕ) → KeepsRuleLaws (late_row n)
+late_rules_keep n = record {
+  local = λ ex voices. local_from_row ex (afterbeat_row ex voices) (afterbeat_enough ex voices) (λ i behind now ahead t h. refl);
   stays = λ ex voices i behind now ahead t h. refl;
-  ends = motion_settles_at_end n;
+  ends = λ ex voices. at_once_settles ex;
+  form = λ ex i behind now ahead. pair_form ex _;
+  stands = λ ex voices i behind now h. within_a_bar ex voices i behind now h;
+  at_once = λ e. cc;
+  quiet = λ e. cc;
+  places = λ e ex voices p col i on h. breaks_where_it_may (late_row n) ex voices (λ i behind now ahead. refl) p col (may_be_bare ex (length p)) (elsewhere ex voices (length p) (reverse p) col) i h;
+  within = λ ex i. most (may_be_bare ex i) i;
+}
+
+rules_at_once_keep : (n : ℕ) → KeepsRuleLaws (at_once_row n)
+rules_at_once_keep n = record {
+  local = λ ex voices. local_from_row ex (broken_in n ex voices) (enough_after n ex voices) (λ i behind now ahead t h. refl);
+  stays = λ ex voices i behind now ahead t h. refl;
+  ends = λ ex voices. at_once_settles ex;
   form = rule_form n;
   stands = λ ex voices i behind now e. cc;
   at_once = λ e ex voices i behind now ahead. refl;
@@ -41,8 +76,30 @@ rules_keep n = record {
   within = λ ex i. omega arith;
 }
 
-pub tolls_keep : (n : ℕ) → KeepsTollLaws (toll_row n)
-tolls_keep n = record {
+pub rules_keep : (n : ℕ) → KeepsRuleLaws (rule_row n)
+rules_keep n = at (is_late n)
+  where
+    at : (b : Bool) → KeepsRuleLaws (if b then late_row n else at_once_row n)
+    at true = late_rules_keep n
+    at false = rules_at_once_keep n
+
+-- in two voices Q12 costs nothing
+two_voices : (ex : Exercise) (before now : List Cell) → nat_le 3 ex.voices ≡ false → (if nat_le 3 ex.voices then count_pairs (inner_move_into_perfect ex before now) else 0) ≡ 0
+two_voices ex before now h = rw h refl
+
+late_tolls_keep : (n : ℕ) → KeepsTollLaws (late_toll n)
+late_tolls_keep n = record {
+  local = inner_is_local;
+  stays = λ ex i behind now ahead t h. refl;
+  ends = inner_settles_at_end;
+  at_once = λ e. cc;
+  quiet = λ e. cc;
+  places = λ e ex p col i on h. costs_where_it_may (late_toll n) ex (λ i behind now ahead. refl) p col (nat_le 3 ex.voices) (two_voices ex (newest_column (reverse p)) col) i h;
+  within = λ ex i. most (nat_le 3 ex.voices) i;
+}
+
+tolls_at_once_keep : (n : ℕ) → KeepsTollLaws (at_once_toll n)
+tolls_at_once_keep n = record {
   local = cost_is_local n;
   stays = λ ex i behind now ahead t h. refl;
   ends = cost_settles_at_end n;
@@ -51,6 +108,13 @@ tolls_keep n = record {
   places = λ e. cc;
   within = λ ex i. omega arith;
 }
+
+pub tolls_keep : (n : ℕ) → KeepsTollLaws (toll_row n)
+tolls_keep n = at (is_late_toll n)
+  where
+    at : (b : Bool) → KeepsTollLaws (if b then late_toll n else at_once_toll n)
+    at true = late_tolls_keep n
+    at false = tolls_at_once_keep n
 
 pub keeps_laws : KeepsLaws book
 keeps_laws = record { rules = λ n h. rules_keep n; tolls = λ n h. tolls_keep n }

@@ -1,2 +1,4 @@
+pub mod AfterbeatLemmas
 pub mod BookLaws
 pub mod BarLineLemmas
+pub mod LateLemmas

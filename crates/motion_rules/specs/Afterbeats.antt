@@ -1,5 +1,5 @@
 -- S18: equal perfect intervals at the beginnings of two bars in a row, with nothing between that hides them.
-use Rattle.std.specs.Prelude.{ℕ, ◌==◌, Bool, true, false, ◌&&◌, ◌||◌, nat_le, List, [], ◌∷◌, Option, Some, None, slice_index_or}
+use Rattle.std.specs.Prelude.{ℕ, ◌==◌, Bool, true, ◌&&◌, ◌||◌, nat_le, List, [], ◌∷◌, Option, Some, map, slice_index_or}
 use Rattle.std.specs.List.{list_all}
 use Rattle.fux_pitch.specs.declared.pitch.Pitch.{Pitch}
 use Rattle.fux_grid.specs.declared.cell.Cell.{Cell}
@@ -25,16 +25,13 @@ stays_near p Rest = true
 stays_near p (Hold q) = true
 stays_near p (Start q) = holds_of (λ k. nat_le (degrees_without_sign k) 2) (interval_of_pitches p (Some q))
 
--- a note that the voice starts so many columns before the newest one stays near the pitch that it sounds at the beginning of the bar
-abbrev pub stays_near_at : List (List Cell) → ℕ → ℕ → Bool
-stays_near_at behind v k =
-    stays_near (pitch_of (cell_in (slice_index_or behind 7 []) v)) (cell_in (slice_index_or behind k []) v)
+-- the cells of a voice in the seven newest columns, from the newest one on
+abbrev pub newest_cells : List (List Cell) → ℕ → List Cell
+newest_cells behind v = map (λ k. cell_in (slice_index_or behind k []) v) (0 ∷ 1 ∷ 2 ∷ 3 ∷ 4 ∷ 5 ∷ 6 ∷ [])
 
--- each note that the voice starts after the beginning of the bar before, and before this one, stays within two degrees of the pitch
--- that it sounds there
-abbrev pub never_leaves : List (List Cell) → ℕ → Bool
-never_leaves behind v =
-    list_all (stays_near_at behind v) (0 ∷ 1 ∷ 2 ∷ 3 ∷ 4 ∷ 5 ∷ 6 ∷ [])
+-- each note that the cells start stays within two degrees of the pitch
+abbrev pub never_leaves : Option Pitch → List Cell → Bool
+never_leaves p cells = list_all (stays_near p) cells
 
 -- from one column to another both voices have gone to other pitches, from a perfect interval to an equal one
 abbrev pub arrive_in_parallel : List Cell → List Cell → ℕ → ℕ → Bool
@@ -43,14 +40,19 @@ arrive_in_parallel before now v w =
     && differs (pitch_of (cell_in before v)) (pitch_of (cell_in now v))
     && differs (pitch_of (cell_in before w)) (pitch_of (cell_in now w))
 
--- S18: at the beginning of a bar that isn't the first, the species voice, in species 2, 3 or 5, and another voice have arrived so since
--- the beginning of the bar before, and the notes of the species voice between stay near
-abbrev pub is_bare_parallel : Exercise → ℕ → List (List Cell) → List Cell → ℕ → ℕ → Bool
-is_bare_parallel ex i behind now v w =
+-- in species 2, 3 or 5, at the beginning of a bar that isn't the first, two voices, one of them the species voice, have arrived so since
+-- the beginning of the bar before
+abbrev pub arrive_at_bar : Exercise → ℕ → List Cell → List Cell → ℕ → ℕ → Bool
+arrive_at_bar ex i bar_line now v w =
     moves_within_bars ex.species && has_species_voice ex v w
     && begins_bar i && nat_le 8 i
-    && arrive_in_parallel (slice_index_or behind 7 []) now v w
-    && never_leaves behind ex.species_voice
+    && arrive_in_parallel bar_line now v w
+
+-- S18: they have, and the notes that the species voice starts between stay near the pitch that it sounds at the bar before
+abbrev pub is_bare_parallel : Exercise → ℕ → List (List Cell) → List Cell → ℕ → ℕ → Bool
+is_bare_parallel ex i behind now v w =
+    arrive_at_bar ex i (slice_index_or behind 7 []) now v w
+    && never_leaves (pitch_of (cell_in (slice_index_or behind 7 []) ex.species_voice)) (newest_cells behind ex.species_voice)
 
 abbrev pub afterbeat_row : Exercise → ℕ → Row Bool
 afterbeat_row ex voices i behind now ahead = on_pair ex (is_bare_parallel ex i behind now) voices

@@ -1,19 +1,32 @@
 -- The rules and tolls of motion as a crate's book.
-use Rattle.std.specs.Prelude.{ℕ, Bool, ◌==◌, ◌||◌, true, false, if◌then◌else◌}
+use Rattle.std.specs.Prelude.{ℕ, Bool, ◌==◌, ◌&&◌, ◌||◌, nat_le, true, false, if◌then◌else◌}
+use Rattle.fux_grid.specs.declared.exercise.Exercise.{Exercise}
 use Rattle.rule_law.specs.declared.table.Form.TheVariants.{TwoVoices}
 use Rattle.rule_law.specs.declared.table.Kind.TheVariants.{Column, Pair, Window}
-use Rattle.rule_law.specs.declared.table.Stands.TheVariants.{Anywhere}
+use Rattle.rule_law.specs.declared.table.Stands.TheVariants.{Anywhere, AtBars}
+use Rattle.rule_law.specs.Bars.{begins_bar}
+use Rattle.rule_law.specs.Nearby.{whole_of}
+use Rattle.rule_law.specs.Places.{at_once}
 use Rattle.rule_law.specs.Rulebooks.{RuleRow, Rulebook, TollRow}
+use Rattle.motion_rules.specs.Afterbeats.{afterbeat_enough, afterbeat_row, moves_within_bars}
+use Rattle.motion_rules.specs.InnerVoices.{inner_toll}
 use Rattle.motion_rules.specs.Rows.{broken_in, cost_enough, cost_in, enough_after}
 
 abbrev pub has_rule : ℕ → Bool
-has_rule n = (n == 10) || (n == 16) || (n == 17)
+has_rule n = (n == 10) || (n == 16) || (n == 17) || (n == 18)
 
 abbrev pub has_toll : ℕ → Bool
-has_toll n = (n == 11) || (n == 14)
+has_toll n = (n == 11) || (n == 12) || (n == 14)
 
-abbrev pub rule_row : ℕ → RuleRow
-rule_row n = record {
+-- S18 and Q12 are read among the newest columns
+abbrev pub is_late : ℕ → Bool
+is_late n = n == 18
+
+abbrev pub is_late_toll : ℕ → Bool
+is_late_toll n = n == 12
+
+abbrev pub at_once_row : ℕ → RuleRow
+at_once_row n = record {
   form = TwoVoices;
   kind = if n == 10 then Column else Pair;
   stands = Anywhere;
@@ -24,8 +37,27 @@ rule_row n = record {
   count = λ ex i. 1;
 }
 
-abbrev pub toll_row : ℕ → TollRow
-toll_row n = record {
+-- S18 may be broken at the column: a bar that isn't the first begins, and the species goes on within bars
+abbrev pub may_be_bare : Exercise → ℕ → Bool
+may_be_bare ex i = moves_within_bars ex.species && begins_bar i && nat_le 8 i
+
+abbrev pub late_row : ℕ → RuleRow
+late_row n = record {
+  form = TwoVoices;
+  kind = Window;
+  stands = AtBars;
+  late = true;
+  broken = afterbeat_row;
+  enough = afterbeat_enough;
+  first = λ ex i. i;
+  count = λ ex i. if may_be_bare ex i then 1 else 0;
+}
+
+abbrev pub rule_row : ℕ → RuleRow
+rule_row n = if is_late n then late_row n else at_once_row n
+
+abbrev pub at_once_toll : ℕ → TollRow
+at_once_toll n = record {
   kind = if n == 14 then Window else Pair;
   late = false;
   cost = cost_in n;
@@ -33,6 +65,20 @@ toll_row n = record {
   first = λ ex i. i;
   count = λ ex i. 1;
 }
+
+-- Q12 costs nothing in two voices
+abbrev pub late_toll : ℕ → TollRow
+late_toll n = record {
+  kind = Pair;
+  late = true;
+  cost = λ ex. whole_of (inner_toll ex);
+  enough = λ ex. at_once;
+  first = λ ex i. i;
+  count = λ ex i. if nat_le 3 ex.voices then 1 else 0;
+}
+
+abbrev pub toll_row : ℕ → TollRow
+toll_row n = if is_late_toll n then late_toll n else at_once_toll n
 
 abbrev pub book : Rulebook
 book = record { has_rule = has_rule; rule = rule_row; has_toll = has_toll; toll = toll_row }

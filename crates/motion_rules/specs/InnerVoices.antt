@@ -11,6 +11,9 @@ abbrev pub inner_move_into_perfect : Exercise → List Cell → List Cell → �
 inner_move_into_perfect ex before now v w = not (are_outer ex v w) && move_into_perfect before now v w
 
 -- Q12: in three or four voices, how many pairs do
-abbrev pub inner_toll : Exercise → NearRow ℕ
-inner_toll ex i before previous now =
+abbrev pub inner_moves : Exercise → List Cell → List Cell → ℕ
+inner_moves ex before now =
     if nat_le 3 ex.voices then count_pairs (inner_move_into_perfect ex before now) else 0
+
+abbrev pub inner_toll : Exercise → NearRow ℕ
+inner_toll ex i before previous now = inner_moves ex before now

@@ -1,39 +1,72 @@
--- The readings of the rules S10, S16 and S17 and of the tolls Q11 and Q14 are local, and two neighbors decide all but Q14.
-use Rattle.std.specs.Prelude.{◌≡◌, ℕ, ◌+◌, ◌^◌, ◌==◌, Bool, true, false, IsTrue, if◌then◌else◌, refl}
-use Rattle.std.proofs.Common.{subst, sym}
+-- The readings of the rules S10 and S16 to S18 and of the tolls Q11, Q12 and Q14 are local, and two neighbors decide all but S18 and Q14.
+use Rattle.std.specs.Prelude.{◌≡◌, ℕ, ◌+◌, ◌^◌, ◌==◌, Bool, true, false, IsTrue, ◌++◌, length, nat_lt, if◌then◌else◌, refl}
+use Rattle.std.proofs.Common.{subst, sym, ◌∙◌}
 use Rattle.std.proofs.lemmas.Bool.{eqb-true}
 use Rattle.fux_grid.specs.declared.exercise.Exercise.{Exercise}
+use Rattle.rule_law.specs.AtOnce.{AlwaysEnough}
 use Rattle.rule_law.specs.BothLaw.{RuleReading, AreLocal, SettleAtEnd}
-use Rattle.rule_law.specs.Law.{at_once_settles, local_from_row}
+use Rattle.rule_law.specs.Law.{at_once_settles, both_true, local_from_row, test_from_below}
 use Rattle.rule_law.specs.NearLaw.{IsNear, near_from_whole}
 use Rattle.rule_law.specs.Nearby.{whole_of}
-use Rattle.rule_law.specs.Places.{IsLocal, Row, SettlesAtEnd, reading_of, settled_by}
+use Rattle.rule_law.specs.Places.{IsLocal, IsUndisturbed, Row, SettlesAtEnd, at_once, reading_of, settled_by}
 use Rattle.rule_law.specs.Voices.{has_rule}
-use Rattle.motion_rules.specs.Rows.{broken_in, cost_enough, cost_in, enough_after, imperfect_runs, near_rows, toll_rows}
+use Rattle.motion_rules.specs.Book.{at_once_row, is_late, late_row, rule_row}
+use Rattle.motion_rules.specs.InnerVoices.{inner_toll}
+use Rattle.motion_rules.specs.Rows.{cost_enough, cost_in, imperfect_runs, near_rows, toll_rows}
 
--- the bits of the rules 10, 16 and 17
+-- the bits of the rules 10, 16, 17 and 18
 abbrev pub rule_bits : ℕ
-rule_bits = 2 ^ 10 + 2 ^ 16 + 2 ^ 17
+rule_bits = 2 ^ 10 + 2 ^ 16 + 2 ^ 17 + 2 ^ 18
+
+-- the bits of those that two neighbors decide
+abbrev pub near_bits : ℕ
+near_bits = 2 ^ 10 + 2 ^ 16 + 2 ^ 17
 
 -- the bit of the toll 11
 abbrev pub toll_bits : ℕ
 toll_bits = 2 ^ 11
 
--- whether a rule is broken at a place of a list, and whether that is settled
+-- whether a rule is broken at a place of a list, and whether that is settled: by its row in the book
 abbrev pub motion_breaks : RuleReading
-motion_breaks rule ex voices = reading_of (broken_in rule ex voices)
+motion_breaks rule ex voices = reading_of ((rule_row rule).broken ex voices)
 
 abbrev pub motion_settles : RuleReading
-motion_settles rule ex voices = settled_by (enough_after rule ex voices)
+motion_settles rule ex voices = settled_by ((rule_row rule).enough ex voices)
+
+-- all are settled at once
+pub rules_at_once : (rule : ℕ) (ex : Exercise) (voices : ℕ) → AlwaysEnough ((rule_row rule).enough ex voices)
+rules_at_once rule ex voices i behind now ahead = at (is_late rule)
+  where
+    at : (b : Bool) → (if b then late_row rule else at_once_row rule).enough ex voices i behind now ahead ≡ true
+    at true = refl
+    at false = refl
+
+pub rows_look_back : (rule : ℕ) (ex : Exercise) (voices : ℕ) → IsUndisturbed ((rule_row rule).broken ex voices) ((rule_row rule).enough ex voices)
+rows_look_back rule ex voices i behind now ahead t h = at (is_late rule)
+  where
+    at : (b : Bool) → (if b then late_row rule else at_once_row rule).broken ex voices i behind now (ahead ++ t) ≡ (if b then late_row rule else at_once_row rule).broken ex voices i behind now ahead
+    at true = refl
+    at false = refl
 
 pub motion_is_local : AreLocal motion_breaks motion_settles
-motion_is_local rule ex voices = local_from_row ex (broken_in rule ex voices) (enough_after rule ex voices) (λ i behind now ahead t h. refl)
+motion_is_local rule ex voices = local_from_row ex ((rule_row rule).broken ex voices) ((rule_row rule).enough ex voices) (rows_look_back rule ex voices)
 
 pub motion_settles_at_end : SettleAtEnd motion_settles
-motion_settles_at_end rule ex voices = at_once_settles ex
+motion_settles_at_end rule ex voices s i whole here = both_true (nat_lt i (length s)) _ (test_from_below i (length s) here) (rules_at_once rule ex voices _ _ _ _)
 
-pub motion_is_near : (rule : ℕ) (ex : Exercise) (voices : ℕ) → IsNear ex (motion_breaks rule ex voices) (near_rows rule ex voices)
-motion_is_near rule ex voices = near_from_whole ex (near_rows rule ex voices)
+-- where one number has a bit and the other has none, they differ
+differs_by : (bits n k : ℕ) → has_rule bits k ≡ false → IsTrue (has_rule bits n) → (n == k) ≡ false
+differs_by bits n k none h = from (n == k) (λ e. let P : ℕ → Type 0 = λ q. IsTrue (has_rule bits q) in let both : false ≡ true = sym none ∙ subst P (eqb-true n k e) h in cc)
+  where
+    from : (b : Bool) → (b ≡ true → ⊥) → b ≡ false
+    from true f = absurd (f refl)
+    from false f = refl
+
+-- where a rule isn't S18, two neighbors decide it
+pub motion_is_near : (rule : ℕ) (ex : Exercise) (voices : ℕ) → IsTrue (has_rule near_bits rule) → IsNear ex (motion_breaks rule ex voices) (near_rows rule ex voices)
+motion_is_near rule ex voices h =
+    let near : Bool → Type 0 = λ b. IsNear ex (reading_of ((if b then late_row rule else at_once_row rule).broken ex voices)) (near_rows rule ex voices) in
+    subst near (sym (differs_by near_bits rule 18 refl h)) (near_from_whole ex (near_rows rule ex voices))
 
 -- the same of a toll
 pub cost_is_local : (toll : ℕ) (ex : Exercise) → IsLocal ex (reading_of (cost_in toll ex)) (settled_by (cost_enough toll ex))
@@ -42,19 +75,18 @@ cost_is_local toll ex = local_from_row ex (cost_in toll ex) (cost_enough toll ex
 pub cost_settles_at_end : (toll : ℕ) (ex : Exercise) → SettlesAtEnd ex (settled_by (cost_enough toll ex))
 cost_settles_at_end toll ex = at_once_settles ex
 
--- a toll of neighbors isn't Q14
-not_14 : (toll : ℕ) → IsTrue (has_rule toll_bits toll) → (toll == 14) ≡ false
-not_14 toll h = from (toll == 14) (λ e. let P : ℕ → Type 0 = λ q. IsTrue (has_rule toll_bits q) in let k : false ≡ true = subst P (eqb-true toll 14 e) h in cc)
-  where
-    from : (b : Bool) → (b ≡ true → ⊥) → b ≡ false
-    from true f = absurd (f refl)
-    from false f = refl
-
 -- where a toll isn't Q14, two neighbors decide it
 pub cost_is_near : (toll : ℕ) (ex : Exercise) → IsTrue (has_rule toll_bits toll) → IsNear ex (reading_of (cost_in toll ex)) (toll_rows toll ex)
 cost_is_near toll ex h =
     let near : Bool → Type 0 = λ b. IsNear ex (reading_of (chosen b)) (toll_rows toll ex) in
-    subst near (sym (not_14 toll h)) (near_from_whole ex (toll_rows toll ex))
+    subst near (sym (differs_by toll_bits toll 14 refl h)) (near_from_whole ex (toll_rows toll ex))
   where
     chosen : Bool → Row ℕ
     chosen b i behind now ahead = if b then imperfect_runs i behind now else whole_of (toll_rows toll ex) i behind now ahead
+
+-- Q12 too
+pub inner_is_local : (ex : Exercise) → IsLocal ex (reading_of (whole_of (inner_toll ex))) (settled_by at_once)
+inner_is_local ex = local_from_row ex (whole_of (inner_toll ex)) at_once (λ i behind now ahead t h. refl)
+
+pub inner_settles_at_end : (ex : Exercise) → SettlesAtEnd ex (settled_by at_once)
+inner_settles_at_end ex = at_once_settles ex

@@ -1,9 +1,11 @@
 //! S18: equal perfect intervals at the beginnings of two bars in a row, with nothing between that hides them.
 
-ghost use Rattle.std.specs.Prelude.{◌≡◌, ◌<◌, [], length, slice_index_or};
+ghost use Rattle.std.specs.Prelude.{◌≡◌, ◌<◌, ◌&&◌, [], length, slice_index_or};
+ghost use Rattle.fux_grid.specs.Cells.{cell_in, pitch_of};
 ghost use Rattle.fux_grid.specs.Columns.{earlier};
 ghost use Rattle.rule_law.specs.Places.{reading_of};
 ghost use Rattle.rule_law.specs.Terms as terms;
+ghost use Rattle.rule_law.specs.Voices.{on_pair};
 ghost use Rattle.motion_rules.specs.Afterbeats as words;
 ghost use Rattle.motion_rules.specs.Afterbeats.{afterbeat_row};
 
@@ -22,30 +24,28 @@ fn stays_near(p: Option<Pitch>, cell: Cell) -> bool
     }
 }
 
-/// Whether a voice, if it starts a note in the column that stands k columns before the one before `i`, stays near the pitch that it
-/// sounds at the beginning of the bar before.
-fn stays_near_at(score: &Score, i: usize, v: usize, k: usize) -> bool
+/// The cells of a voice in the seven columns before column `i`, from the newest one on.
+fn newest_cells(score: &Score, i: usize, v: usize) -> [Cell; 7]
     requires { i < length score.now.columns }
-    ensures { result ≡ words.stays_near_at (earlier score.now.columns i) v k }
+    ensures { result ≡ words.newest_cells (earlier score.now.columns i) v }
 {
-    stays_near(
-        cell_of(score.behind(i, 7), v).pitch(),
-        cell_of(score.behind(i, k), v),
-    )
+    [
+        cell_of(score.behind(i, 0), v),
+        cell_of(score.behind(i, 1), v),
+        cell_of(score.behind(i, 2), v),
+        cell_of(score.behind(i, 3), v),
+        cell_of(score.behind(i, 4), v),
+        cell_of(score.behind(i, 5), v),
+        cell_of(score.behind(i, 6), v),
+    ]
 }
 
-/// Whether a voice stays near in all of the bar before.
-fn never_leaves(score: &Score, i: usize, v: usize) -> bool
-    requires { i < length score.now.columns }
-    ensures { result ≡ words.never_leaves (earlier score.now.columns i) v }
+/// Whether each note that the cells start stays near the pitch that a voice sounds in a column.
+pub(crate) fn never_leaves(bar_line: &[Cell], v: usize, cells: &[Cell]) -> bool
+    ensures { result ≡ words.never_leaves (pitch_of (cell_in bar_line.now v)) cells.now }
 {
-    stays_near_at(score, i, v, 0)
-        && stays_near_at(score, i, v, 1)
-        && stays_near_at(score, i, v, 2)
-        && stays_near_at(score, i, v, 3)
-        && stays_near_at(score, i, v, 4)
-        && stays_near_at(score, i, v, 5)
-        && stays_near_at(score, i, v, 6)
+    let p = cell_of(bar_line, v).pitch();
+    cells.iter().all(|cell| stays_near(p, *cell))
 }
 
 /// Whether there are both pitches, and they differ.
@@ -71,21 +71,44 @@ fn arrive_in_parallel(before: &[Cell], now: &[Cell], v: usize, w: usize) -> bool
         && differ(cell_of(before, w).pitch(), cell_of(now, w).pitch())
 }
 
-/// Whether two voices, one of which is the species voice of species 2, 3 or 5, are such as S18 speaks of.
-fn is_bare_parallel(ex: &Exercise, score: &Score, i: usize, v: u8, w: u8) -> bool
-    requires { i < length score.now.columns }
-    ensures { result ≡ words.is_bare_parallel ex.now i (earlier score.now.columns i)
-        (slice_index_or score.now.columns i []) v w }
+/// Whether the species is 2, 3 or 5, and one of two voices the species voice.
+fn speaks_of(ex: &Exercise, v: u8, w: u8) -> bool
+    ensures { result ≡ (words.moves_within_bars ex.now.species && words.has_species_voice ex.now v w) }
 {
-    if !matches!(ex.species, 2 | 3 | 5) || v != ex.species_voice && w != ex.species_voice {
+    matches!(ex.species, 2 | 3 | 5) && (v == ex.species_voice || w == ex.species_voice)
+}
+
+/// Whether at column `i`, whose cells are `now`, two voices have arrived so since `bar_line`, the column at the beginning of the bar
+/// before.
+fn arrive_at_bar(ex: &Exercise, i: usize, bar_line: &[Cell], now: &[Cell], v: u8, w: u8) -> bool
+    ensures { result ≡ words.arrive_at_bar ex.now i bar_line.now now.now v w }
+{
+    if !speaks_of(ex, v, w) {
         return false;
     }
-    if !begins_bar(i) || i < 8 {
+    if !begins_bar(i) {
         return false;
     }
-    let now = score.column(i).as_slice();
-    arrive_in_parallel(score.behind(i, 7), now, v as usize, w as usize)
-        && never_leaves(score, i, ex.species_voice as usize)
+    if i < 8 {
+        return false;
+    }
+    arrive_in_parallel(bar_line, now, v as usize, w as usize)
+}
+
+/// Whether the two voices of a set have.
+pub(crate) fn two_arrive_at_bar(
+    ex: &Exercise,
+    voices: VoiceSet,
+    i: usize,
+    bar_line: &[Cell],
+    now: &[Cell],
+) -> bool
+    ensures { result ≡ on_pair ex.now (words.arrive_at_bar ex.now i bar_line.now now.now) voices.bits }
+{
+    let Some((v, w)) = pair_of(voices) else {
+        return false;
+    };
+    w < ex.voices && arrive_at_bar(ex, i, bar_line, now, v, w)
 }
 
 /// S18: whether at the beginning of a bar that isn't the first, the species voice, in species 2, 3 or 5, and another voice sound a
@@ -95,8 +118,10 @@ pub fn breaks_afterbeat(ex: &Exercise, score: &Score, i: usize, voices: VoiceSet
     requires { i < length score.now.columns }
     ensures { result ≡ reading_of (afterbeat_row ex.now voices.bits) score.now.columns i }
 {
-    let Some((v, w)) = pair_of(voices) else {
+    let bar_line = score.behind(i, 7);
+    if !two_arrive_at_bar(ex, voices, i, bar_line, score.column(i).as_slice()) {
         return false;
-    };
-    w < ex.voices && is_bare_parallel(ex, score, i, v, w)
+    }
+    let voice = ex.species_voice as usize;
+    never_leaves(bar_line, voice, &newest_cells(score, i, voice))
 }

@@ -1,9 +1,7 @@
 //! Q12: inner voices that move alike into a perfect interval.
 
-ghost use Rattle.std.specs.Prelude.{◌≡◌, ◌≤◌, ℕ};
-ghost use Rattle.rule_law.specs.Nearby.{Pitches};
+ghost use Rattle.std.specs.Prelude.{◌≡◌, ◌≤◌};
 ghost use Rattle.motion_rules.specs.InnerVoices as words;
-ghost use Rattle.motion_rules.specs.InnerVoices.{inner_toll};
 
 use crate::rows::are_outer;
 use fux_grid::{Cell, Exercise};
@@ -19,8 +17,7 @@ fn inner_move_into_perfect(ex: &Exercise, before: &[Cell], now: &[Cell], v: u8, 
 /// Q12: in three or four voices, how many pairs, but for the lowest with the highest voice, both rise or both fall into a perfect
 /// interval.
 pub fn inner_moves(ex: &Exercise, before: &[Cell], now: &[Cell]) -> u32
-    ensures value { (i : ℕ) (previous : Pitches) →
-        result ≡ inner_toll ex.now i before.now previous now.now }
+    ensures value { result ≡ words.inner_moves ex.now before.now now.now }
     ensures bound { result ≤ 6 }
 {
     if ex.voices < 3 {

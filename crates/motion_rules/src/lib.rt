@@ -1,4 +1,4 @@
-//! Rules and tolls of motion: S10, S16, S17, Q11 and Q14.
+//! Rules and tolls of motion: S10, S16 to S18, Q11, Q12 and Q14.
 #![tactic(auto)]
 
 mod afterbeats;
@@ -6,6 +6,7 @@ mod bar_lines;
 mod book;
 mod clear;
 mod inner_voices;
+mod late;
 mod motion;
 mod rows;
 mod tolls;
@@ -15,6 +16,7 @@ pub use bar_lines::{BarLines, imperfect_runs_after, no_bar_lines, noted};
 pub use book::book_is_lawful;
 pub use clear::are_clear;
 pub use inner_voices::inner_moves;
+pub use late::{breaks_late, cost_late, places_settled, toll_places};
 pub use motion::Motion;
 pub use rows::{breaks, cost};
-pub use tolls::{Q11, Q14};
+pub use tolls::{Q11, Q12, Q14};

@@ -1,14 +1,15 @@
 //! The rules as one `Rule`, and what two neighboring columns decide of them.
 
 ghost use Rattle.rule_law.specs.Places.{reading_of};
-ghost use Rattle.motion_rules.specs.Locality.{cost_is_near, motion_breaks, motion_is_local, motion_is_near, motion_settles, motion_settles_at_end, rule_bits, toll_bits};
+ghost use Rattle.motion_rules.specs.Locality.{cost_is_near, motion_breaks, motion_is_local, motion_is_near, motion_settles, motion_settles_at_end, near_bits, rule_bits, toll_bits};
 ghost use Rattle.motion_rules.specs.Rows.{cost_in, near_rows, toll_rows};
 
+use crate::afterbeats::breaks_afterbeat;
 use crate::rows::{breaks, cost};
 use fux_grid::{Column, Exercise, Score, VoiceSet};
 use rule_law::{Latest, Near, Rule, RuleSet, cells_of};
 
-/// The rules S10, S16 and S17.
+/// The rules S10 and S16 to S18.
 #[derive(Clone, Copy, Debug, PartialEq, Eq)]
 pub struct Motion;
 
@@ -25,11 +26,14 @@ impl Rule for Motion {
 
     fn covers(&self) -> RuleSet {
         RuleSet {
-            bits: 1 << 10 | 1 << 16 | 1 << 17,
+            bits: 1 << 10 | 1 << 16 | 1 << 17 | 1 << 18,
         }
     }
 
     fn broken(&self, rule: u8, ex: &Exercise, score: &Score, i: usize, voices: VoiceSet) -> bool {
+        if rule == 18 {
+            return breaks_afterbeat(ex, score, i, voices);
+        }
         breaks(
             rule,
             ex,
@@ -54,7 +58,7 @@ impl Rule for Motion {
 }
 
 impl Near for Motion {
-    ghost near_rules = { λ _. rule_bits };
+    ghost near_rules = { λ _. near_bits };
 
     ghost near_tolls = { λ _. toll_bits };
 
@@ -64,7 +68,7 @@ impl Near for Motion {
 
     ghost toll_row = { λ _. toll_rows };
 
-    ghost rules_agree = { λ _ rule ex voices h. motion_is_near rule ex voices };
+    ghost rules_agree = { λ _ rule ex voices h. motion_is_near rule ex voices h };
 
     ghost tolls_agree = { λ _ toll ex h. cost_is_near toll ex h };
 

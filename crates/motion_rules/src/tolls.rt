@@ -3,11 +3,14 @@
 ghost use Rattle.std.specs.Prelude.{◌≡◌, ◌<◌, [], length, slice_index_or};
 ghost use Rattle.std.specs.List.{list_all};
 ghost use Rattle.fux_grid.specs.Columns.{earlier};
-ghost use Rattle.rule_law.specs.Places.{reading_of, settled_by};
-ghost use Rattle.motion_rules.specs.Locality.{cost_is_local, cost_settles_at_end};
+ghost use Rattle.rule_law.specs.Nearby.{whole_of};
+ghost use Rattle.rule_law.specs.Places.{at_once, reading_of, settled_by};
+ghost use Rattle.motion_rules.specs.InnerVoices.{inner_toll};
+ghost use Rattle.motion_rules.specs.Locality.{cost_is_local, cost_settles_at_end, inner_is_local, inner_settles_at_end};
 ghost use Rattle.motion_rules.specs.Rows as rows;
 ghost use Rattle.motion_rules.specs.Rows.{cost_enough, cost_in, four_bar_lines};
 
+use crate::inner_voices::inner_moves;
 use crate::rows::{cost, sound_imperfect};
 use fux_grid::{Cell, Exercise, Score};
 use rule_law::{Latest, Toll, begins_bar};
@@ -40,6 +43,34 @@ impl Toll for Q11 {
             &Latest::NONE,
             score.column(i).as_slice(),
         )
+    }
+
+    fn settled(&self, _ex: &Exercise, _prefix: &Score, _i: usize) -> bool {
+        true
+    }
+}
+
+/// Inner voices that move alike into a perfect interval, in three or four voices.
+#[derive(Clone, Copy, Debug, PartialEq, Eq)]
+pub struct Q12;
+
+impl Toll for Q12 {
+    ghost numbered = { λ _. 12 };
+
+    ghost charges = { λ _ ex. reading_of (whole_of (inner_toll ex)) };
+
+    ghost settles = { λ _ ex. settled_by at_once };
+
+    ghost local = { λ _. inner_is_local };
+
+    ghost ends = { λ _. inner_settles_at_end };
+
+    fn number(&self) -> u8 {
+        12
+    }
+
+    fn cost(&self, ex: &Exercise, score: &Score, i: usize) -> u32 {
+        inner_moves(ex, score.before(i), score.column(i).as_slice())
     }
 
     fn settled(&self, _ex: &Exercise, _prefix: &Score, _i: usize) -> bool {

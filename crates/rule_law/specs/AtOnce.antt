@@ -42,6 +42,11 @@ module _ (enough : Row Bool) (always : AlwaysEnough enough) (p : List (List Cell
 pub own_place : (i n : ℕ) → i ≡ n → IsAmong n 1 i
 own_place i n e = record { from = omega (arith, e); to = omega (arith, e) }
 
+-- a place among none, or among the newest column alone, is the newest column
+pub among_own : (stands : Bool) (i n : ℕ) → IsAmong n (if stands then 1 else 0) i → i ≡ n
+among_own true i n h = omega (arith, h.from, h.to)
+among_own false i n h = absurd (omega (arith, h.from, h.to))
+
 -- a break that is settled at once
 module _ (it : RuleRow) (ex : Exercise) (voices : ℕ) (always : AlwaysEnough (it.enough ex voices)) (p : List (List Cell)) (col : List Cell) where
   pub breaks_at_own_place : (i : ℕ) → newly_breaks it ex voices p col i ≡ true → IsAmong (length p) 1 i
@@ -51,6 +56,20 @@ module _ (it : RuleRow) (ex : Exercise) (voices : ℕ) (always : AlwaysEnough (i
   newly_breaks-at_once =
       ap (λ b. b && reading_of (it.broken ex voices) (p ++ col ∷ []) (length p)) (newly_there (it.enough ex voices) always p col)
       ∙ reading-at_end (it.broken ex voices) p col
+
+  pub newly_breaks-there : (i : ℕ) → i ≡ length p → newly_breaks it ex voices p col i ≡ reading_of (it.broken ex voices) (p ++ col ∷ []) i
+  newly_breaks-there i e =
+      ap (λ b. b && reading_of (it.broken ex voices) (p ++ col ∷ []) i)
+      (ap (newly (settled_by (it.enough ex voices)) p col) e ∙ newly_there (it.enough ex voices) always p col)
+
+  -- where it can't be broken, no place is left
+  pub breaks_where_it_may : (may : Bool) → (may ≡ false → it.broken ex voices (length p) (reverse p) col [] ≡ false)
+      → (i : ℕ) → newly_breaks it ex voices p col i ≡ true → IsAmong (length p) (if may then 1 else 0) i
+  breaks_where_it_may true kept i h = breaks_at_own_place i h
+  breaks_where_it_may false kept i h =
+      let here : i ≡ length p = newly_alone (it.enough ex voices) always p col i (first_true _ _ h) in
+      let broken : newly_breaks it ex voices p col (length p) ≡ true = sym (ap (newly_breaks it ex voices p col) here) ∙ h in
+      let no : false ≡ true = sym (kept refl) ∙ sym newly_breaks-at_once ∙ broken in cc
 
 -- a cost that is settled at once
 module _ (it : TollRow) (ex : Exercise) (always : AlwaysEnough (it.enough ex)) (p : List (List Cell)) (col : List Cell) where
@@ -65,3 +84,20 @@ module _ (it : TollRow) (ex : Exercise) (always : AlwaysEnough (it.enough ex)) (
   newly_costs-at_once =
       ap (λ b. if b then reading_of (it.cost ex) (p ++ col ∷ []) (length p) else 0) (newly_there (it.enough ex) always p col)
       ∙ reading-at_end (it.cost ex) p col
+
+  pub newly_costs-there : (i : ℕ) → i ≡ length p → newly_costs it ex p col i ≡ reading_of (it.cost ex) (p ++ col ∷ []) i
+  newly_costs-there i e =
+      ap (λ b. if b then reading_of (it.cost ex) (p ++ col ∷ []) i else 0)
+      (ap (newly (settled_by (it.enough ex)) p col) e ∙ newly_there (it.enough ex) always p col)
+
+  -- where it can't cost anything, no place is left
+  pub costs_where_it_may : (may : Bool) → (may ≡ false → it.cost ex (length p) (reverse p) col [] ≡ 0)
+      → (i : ℕ) → 0 < newly_costs it ex p col i → IsAmong (length p) (if may then 1 else 0) i
+  costs_where_it_may true free i h = costs_at_own_place i h
+  costs_where_it_may false free i h =
+      let here : i ≡ length p = own_place-is i (length p) (costs_at_own_place i h) in
+      let none : newly_costs it ex p col i ≡ 0 = ap (newly_costs it ex p col) here ∙ newly_costs-at_once ∙ free refl in
+      absurd (omega (arith, none, h))
+    where
+      own_place-is : (i n : ℕ) → IsAmong n 1 i → i ≡ n
+      own_place-is i n h = omega (arith, h.from, h.to)

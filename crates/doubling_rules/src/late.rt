@@ -1,0 +1,99 @@
+//! The rule and the tolls, read among the newest columns.
+
+ghost use Rattle.std.specs.Prelude.{◌≡◌, ◌<◌, ◌≤◌, ◌∷◌, ◌++◌, [], List, IsTrue, if◌then◌else◌, length};
+ghost use Rattle.fux_grid.specs.declared.cell.Cell.{Cell as ACell};
+ghost use Rattle.fux_grid.specs.Exercises.{IsValid, columns_in};
+ghost use Rattle.rule_law.specs.Newest.{AreNewestOf};
+ghost use Rattle.rule_law.specs.Prefixes.{GoesOn};
+ghost use Rattle.rule_law.specs.Rulebooks.{IsAmong, newly_breaks, newly_costs};
+ghost use Rattle.doubling_rules.specs.Book as book;
+ghost use Rattle.doubling_rules.specs.Book.{rule_row, toll_row};
+
+use crate::rows::{doubling_breaks, doubling_cost, is_before_last_bar};
+use fux_grid::{Exercise, VoiceSet};
+use rule_law::{LatePlaces, NewestColumns, begins_bar, begins_inner_bar};
+
+/// Column `i` alone, or no place where nothing can stand there.
+fn own_place(may: bool, i: usize) -> LatePlaces
+    ensures first { result.first ≡ i }
+    ensures count { result.count ≡ (if may then 1 else 0) }
+{
+    LatePlaces {
+        first: i,
+        count: usize::from(may),
+    }
+}
+
+/// The places at which column `i` may settle a break of S23: its own, in the bar before the last.
+pub fn places_settled(rule: u8, ex: &Exercise, i: usize) -> LatePlaces
+    requires late { IsTrue (rule_row rule).late }
+    requires valid { IsValid ex.now }
+    requires place { i < columns_in ex.now }
+    ensures first { result.first ≡ (rule_row rule).first ex.now i }
+    ensures count { result.count ≡ (rule_row rule).count ex.now i }
+    ensures few { result.count ≤ 24 }
+{
+    own_place(is_before_last_bar(ex, i), i)
+}
+
+/// Whether the newest column settles a break of S23 at its place.
+pub fn breaks_late(
+    newest: &NewestColumns,
+    rule: u8,
+    ex: &Exercise,
+    voices: VoiceSet,
+    place: usize,
+) -> bool
+    requires late { IsTrue (rule_row rule).late }
+    requires valid { IsValid ex.now }
+    requires begun { 0 < newest.now.len }
+    requires room { newest.now.len ≤ columns_in ex.now }
+    ensures { (p : List (List ACell)) (col : List ACell)
+        → AreNewestOf ex.now.voices (p ++ col ∷ []) newest.now → GoesOn ex.now p (col ∷ [])
+        → IsAmong ((rule_row rule).first ex.now (length p)) ((rule_row rule).count ex.now (length p)) place
+        → result ≡ newly_breaks (rule_row rule) ex.now voices.bits p col place }
+{
+    doubling_breaks(ex, voices, place, newest.at(place, ex.voices as usize))
+}
+
+/// Whether a toll may cost something at column `i`.
+fn may_cost(toll: u8, ex: &Exercise, i: usize) -> bool
+    ensures { result ≡ book.may_cost toll ex.now i }
+{
+    match toll {
+        3 => ex.voices >= 3 && begins_inner_bar(ex, i),
+        4 => begins_bar(i),
+        5 => ex.voices >= 3 && begins_bar(i),
+        _ => true,
+    }
+}
+
+/// The places at which column `i` may settle a cost: its own, where the toll may cost something.
+pub fn toll_places(toll: u8, ex: &Exercise, i: usize) -> LatePlaces
+    requires late { IsTrue (toll_row toll).late }
+    requires valid { IsValid ex.now }
+    requires place { i < columns_in ex.now }
+    ensures first { result.first ≡ (toll_row toll).first ex.now i }
+    ensures count { result.count ≡ (toll_row toll).count ex.now i }
+    ensures few { result.count ≤ 24 }
+{
+    own_place(may_cost(toll, ex, i), i)
+}
+
+/// What the newest column settles of a toll's costs at its place, without the weight.
+pub fn cost_late(newest: &NewestColumns, toll: u8, ex: &Exercise, place: usize) -> u32
+    requires late { IsTrue (toll_row toll).late }
+    requires valid { IsValid ex.now }
+    requires begun { 0 < newest.now.len }
+    requires room { newest.now.len ≤ columns_in ex.now }
+    ensures value { (p : List (List ACell)) (col : List ACell)
+        → AreNewestOf ex.now.voices (p ++ col ∷ []) newest.now → GoesOn ex.now p (col ∷ [])
+        → IsAmong ((toll_row toll).first ex.now (length p)) ((toll_row toll).count ex.now (length p)) place
+        → result ≡ newly_costs (toll_row toll) ex.now p col place }
+    ensures bound { result ≤ 6 }
+{
+    if place >= newest.len {
+        return 0;
+    }
+    doubling_cost(toll, ex, place, newest.at(place, ex.voices as usize))
+}

@@ -1,0 +1,23 @@
+-- What the late toll costs among the newest columns.
+use Rattle.std.specs.Prelude.{◌≡◌, ℕ, Bool, true, false, List, [], ◌∷◌, ◌++◌, IsTrue, length, nat_le, slice_index_or, if◌then◌else◌, refl}
+use Rattle.fux_grid.specs.declared.cell.Cell.{Cell}
+use Rattle.fux_grid.specs.declared.exercise.Exercise.{Exercise}
+use Rattle.fux_grid.specs.Columns.{earlier, newest_column}
+use Rattle.rule_law.specs.AtOnce.{among_own, newly_costs-there}
+use Rattle.rule_law.specs.Rulebooks.{IsAmong, newly_costs}
+use Rattle.motion_rules.specs.Book.{at_once_toll, is_late_toll, late_toll, toll_row}
+use Rattle.motion_rules.specs.InnerVoices.{inner_moves}
+
+-- at a place that the newest column may settle: it is the newest column, and what is newly settled there is Q12
+module _ (toll : ℕ) (ex : Exercise) (p : List (List Cell)) (col : List Cell) (place : ℕ) where
+  pub newly_inner : IsTrue (toll_row toll).late → IsAmong ((toll_row toll).first ex (length p)) ((toll_row toll).count ex (length p)) place
+      → (place ≡ length p) × (newly_costs (toll_row toll) ex p col place ≡ inner_moves ex (newest_column (earlier (p ++ col ∷ []) place)) (slice_index_or (p ++ col ∷ []) place []))
+  newly_inner = at (is_late_toll toll)
+    where
+      at : (b : Bool) → IsTrue (if b then late_toll toll else at_once_toll toll).late
+          → IsAmong ((if b then late_toll toll else at_once_toll toll).first ex (length p)) ((if b then late_toll toll else at_once_toll toll).count ex (length p)) place
+          → (place ≡ length p) × (newly_costs (if b then late_toll toll else at_once_toll toll) ex p col place ≡ inner_moves ex (newest_column (earlier (p ++ col ∷ []) place)) (slice_index_or (p ++ col ∷ []) place []))
+      at true h among =
+          let own : place ≡ length p = among_own (nat_le 3 ex.voices) place (length p) among in
+          (own, newly_costs-there (late_toll toll) ex (λ i behind now ahead. refl) p col place own)
+      at false h among = cc

@@ -1,0 +1,22 @@
+use Rattle.std.specs.Prelude.{◌≡◌, ◌≤◌, ◌+◌, [], ◌∷◌, ◌++◌, List, length}
+use Rattle.std.proofs.Common.{ap, sym, ◌∙◌, arith}
+use Rattle.std.proofs.lemmas.List.{length-append}
+use Rattle.fux_grid.specs.declared.cell.Cell.{Cell}
+use Rattle.fux_grid.specs.Columns.{earlier, newest_column}
+use Rattle.motion_rules.specs.InnerVoices.{inner_moves}
+use Rattle.motion_rules.proofs.AfterbeatLemmas.{newest-first}
+use Rattle.motion_rules.proofs.LateLemmas.{newly_inner}
+use Rattle.motion_rules.proofs.late.cost_late.Goals as goal
+
+pub returns-clause-value : goal.returns-clause-value
+returns-clause-value c = λ p col newest on among.
+    let ex = c.args.ex.now in
+    let place = c.args.place in
+    let s = p ++ col ∷ [] in
+    let there = newly_inner c.args.toll ex p col place c.requires.late among in
+    let last : length s ≡ place + 1 = omega (arith, there.0, length-append p (col ∷ [])) in
+    let kept : length s ≤ place + 24 = omega (arith, last) in
+    c.inner_moves.ensures.value
+    ∙ ap (λ (before : List Cell). inner_moves ex before c.at-now.result.now) (c.behind.ensures s newest last ∙ sym (newest-first (earlier s place)))
+    ∙ ap (λ (now : List Cell). inner_moves ex (newest_column (earlier s place)) now) (c.at-now.ensures s newest kept)
+    ∙ sym there.1
