@@ -1,14 +1,16 @@
 -- S22: the cadence at the beginning of the last bar.
-use Rattle.std.specs.Prelude.{ℕ, ◌+◌, ◌-◌, ◌^◌, ◌%◌, ◌==◌, Bool, true, false, not, ◌&&◌, ◌||◌, nat_lt, List, [], ◌∷◌, Option, Some, None, if◌then◌else◌, slice_index_or}
-use Rattle.std.specs.List.{list_any}
+use Rattle.std.specs.Prelude.{ℕ, ◌+◌, ◌-◌, ◌%◌, ◌==◌, Bool, true, false, not, ◌&&◌, ◌||◌, nat_lt, List, [], ◌∷◌, Option, Some, None, if◌then◌else◌, slice_index_or, take}
+use Rattle.std.specs.List.{list_all, list_any}
 use Rattle.fux_pitch.specs.declared.pitch.Pitch.{Pitch}
 use Rattle.fux_grid.specs.declared.cell.Cell.{Cell}
+use Rattle.fux_grid.specs.declared.cell.Cell.TheVariants.{Rest, Hold, Start}
 use Rattle.fux_grid.specs.declared.cell.Note.{Note}
 use Rattle.fux_grid.specs.declared.exercise.Exercise.{Exercise}
 use Rattle.fux_grid.specs.Cells.{cell_in, first_of, is_hold, notes_from, pitch_of}
-use Rattle.fux_grid.specs.Columns.{line, newest_column}
+use Rattle.fux_grid.specs.Columns.{cell_at, line, newest_column}
 use Rattle.fux_grid.specs.Exercises.{species_in}
 use Rattle.rule_law.specs.Degrees.{lies_above}
+use Rattle.rule_law.specs.Forms.{set_of_all}
 use Rattle.rule_law.specs.Leading.{is_leading}
 use Rattle.rule_law.specs.Places.{Row, at_once}
 use Rattle.rule_law.specs.Terms.{degrees_without_sign, holds_of, interval_in, note_pitch, sounds, starts}
@@ -66,14 +68,55 @@ lacks_cadence ex i behind now =
     begins_last_bar ex i
     && not (list_any (λ v. nat_lt v ex.voices && shows_cadence ex i behind now v) (0 ∷ 1 ∷ 2 ∷ 3 ∷ []))
 
--- the set of all voices, of so many
-abbrev pub all_of : ℕ → ℕ
-all_of voices = 2 ^ voices - 1
-
 -- S22, which is broken for the set of all voices
 abbrev pub cadence_row : Exercise → ℕ → Row Bool
-cadence_row ex voices i behind now ahead = (voices == all_of ex.voices) && lacks_cadence ex i behind now
+cadence_row ex voices i behind now ahead = (voices == set_of_all ex.voices) && lacks_cadence ex i behind now
 
 -- it is settled at once
 abbrev pub cadence_enough : Exercise → ℕ → Row Bool
 cadence_enough ex voices = at_once
+
+-- ---- the same from cells that stand among the newest ones
+
+-- the cells of a voice in the eight columns before column i, from the newest to the oldest
+abbrev pub bar_behind : List (List Cell) → ℕ → ℕ → List Cell
+bar_behind s v i =
+    cell_at s v (i - 1) ∷ cell_at s v (i - 2) ∷ cell_at s v (i - 3) ∷ cell_at s v (i - 4)
+    ∷ cell_at s v (i - 5) ∷ cell_at s v (i - 6) ∷ cell_at s v (i - 7) ∷ cell_at s v (i - 8) ∷ []
+
+-- the pitch that starts in a cell
+abbrev pub started_pitch : Cell → Option Pitch
+started_pitch Rest = None
+started_pitch (Hold p) = None
+started_pitch (Start p) = Some p
+
+-- the pitch of the note that is held in exactly so many of the newest cells, and started before them
+abbrev pub held_pitch : ℕ → List Cell → Option Pitch
+held_pitch held cells =
+    if list_all is_hold (take held cells) then started_pitch (slice_index_or cells held Rest) else None
+
+-- the leading note one degree below the final
+abbrev pub is_lead : Exercise → Option Pitch → Option Pitch → Bool
+is_lead ex final lead =
+    holds_of_pitch (λ p. is_leading ex.mode p && lies_above 1 final (Some p)) lead
+
+-- a voice shows its cadence in the column now, by its cells in the bar before and by the column that began that bar
+abbrev pub ends_well : Exercise → List Cell → List Cell → List Cell → ℕ → Bool
+ends_well ex start bar now v =
+    let lead = held_pitch (7 - leading_slot (species_in ex v)) bar in
+    starts_final ex (cell_in now v)
+    && is_lead ex (pitch_of (cell_in now v)) lead
+    && (if has_suspension (species_in ex v) then holds_suspension ex start lead v else true)
+
+-- at column i, the beginning of the last bar, some voice does
+abbrev pub some_ends_well : Exercise → List (List Cell) → ℕ → Bool
+some_ends_well ex s i =
+    list_any
+    (λ v. nat_lt v ex.voices
+    && ends_well ex (slice_index_or s (i - 8) []) (bar_behind s v i) (slice_index_or s i []) v)
+    (0 ∷ 1 ∷ 2 ∷ 3 ∷ [])
+
+-- S22 at column i, which is the newest
+abbrev pub lacks_cadence_at : Exercise → List (List Cell) → ℕ → ℕ → Bool
+lacks_cadence_at ex s i voices =
+    (voices == set_of_all ex.voices) && begins_last_bar ex i && not (some_ends_well ex s i)

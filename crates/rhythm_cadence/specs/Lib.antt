@@ -1,3 +1,4 @@
+pub mod AllRules
 pub mod Book
 pub mod Cadence
 pub mod InPlace

@@ -22,7 +22,7 @@ use Rattle.rhythm_cadence.specs.Rows.{broken_in, near_rows, enough_after, leaves
 
 -- the bits of the rules
 abbrev pub covered_bits : ℕ
-covered_bits = 2 ^ 1 + 2 ^ 2 + 2 ^ 3 + 2 ^ 12 + 2 ^ 13 + 2 ^ 24
+covered_bits = 2 ^ 1 + 2 ^ 2 + 2 ^ 3 + 2 ^ 12 + 2 ^ 13 + 2 ^ 22 + 2 ^ 24 + 2 ^ 25
 
 -- the bits of those that neighbors decide
 abbrev pub near_bits : ℕ

@@ -7,6 +7,8 @@ use Rattle.fux_grid.specs.declared.cell.Cell.{Cell}
 use Rattle.fux_grid.specs.declared.cell.Cell.TheVariants.{Rest, Hold, Start}
 use Rattle.fux_grid.specs.declared.exercise.Exercise.{Exercise}
 use Rattle.fux_grid.specs.Cells.{cell_in}
+use Rattle.fux_grid.specs.Columns.{cell_at}
+use Rattle.fux_grid.specs.Exercises.{slot_of}
 use Rattle.rule_law.specs.Bars.{begins_bar, begins_inner_bar}
 use Rattle.rule_law.specs.Places.{Row, at_once}
 use Rattle.rule_law.specs.Nearby.{NearRow}
@@ -56,3 +58,20 @@ pattern_toll ex i behind now ahead = from_bool (is_pattern ex i behind now ahead
 -- at the beginning of a bar it is settled once the bar is whole
 abbrev pub pattern_enough : Exercise → Row Bool
 pattern_enough ex i behind now ahead = not (begins_bar i) || nat_le 7 (length ahead)
+
+-- ---- the same from cells that stand among the newest ones
+
+-- a voice has in these eight columns, the last of which is column i, the cells that it had eight columns earlier
+abbrev pub repeats_at : List (List Cell) → ℕ → ℕ → Bool
+repeats_at s v i = same_cell (cell_at s v (i - 8)) (cell_at s v i)
+
+abbrev pub repeats_bar_at : List (List Cell) → ℕ → ℕ → Bool
+repeats_bar_at s v i = list_all (λ back. repeats_at s v (i - back)) (7 ∷ 6 ∷ 5 ∷ 4 ∷ 3 ∷ 2 ∷ 1 ∷ 0 ∷ [])
+
+-- the last column of a bar settles the bar, from the second bar on
+abbrev pub settles_pattern : Exercise → ℕ → Bool
+settles_pattern ex i = nat_le 2 ex.species && (slot_of i == 7) && nat_le 15 i
+
+-- Q16 of the bar that column i, the newest, settles
+abbrev pub pattern_at : Exercise → List (List Cell) → ℕ → Bool
+pattern_at ex s i = settles_pattern ex i && repeats_bar_at s ex.species_voice i

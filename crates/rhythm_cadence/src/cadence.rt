@@ -1,16 +1,20 @@
 //! S22: the cadence at the beginning of the last bar.
 
-ghost use Rattle.std.specs.Prelude.{◌≡◌, ◌+◌, ◌-◌, ◌<◌, ◌≤◌, ◌&&◌, [], nat_lt, length, slice_index_or};
+ghost use Rattle.std.specs.Prelude.{◌≡◌, ◌+◌, ◌-◌, ◌==◌, ◌<◌, ◌≤◌, ◌&&◌, [], List, nat_lt, length, slice_index_or};
+ghost use Rattle.fux_grid.specs.declared.cell.Cell.{Cell as ACell};
 ghost use Rattle.fux_grid.specs.Exercises.{IsValid};
 ghost use Rattle.fux_grid.specs.Columns.{earlier};
+ghost use Rattle.rule_law.specs.Forms.{set_of_all};
+ghost use Rattle.rule_law.specs.Newest.{AreNewestOf};
 ghost use Rattle.rule_law.specs.Places.{reading_of};
 ghost use Rattle.rhythm_cadence.specs.Cadence as words;
 ghost use Rattle.rhythm_cadence.specs.Cadence.{cadence_row};
 
+use crate::newest::{bar_behind, cell_at};
 use crate::rows::{begins_last_bar, is_final};
 use fux_grid::{Cell, Exercise, Note, Score, VoiceSet, cell_of, note_behind, species_of};
 use fux_pitch::Pitch;
-use rule_law::{interval_in, is_leading, is_sounding, lies_above};
+use rule_law::{NewestColumns, interval_in, is_leading, is_sounding, lies_above};
 
 /// The slot of the last bar but one on which the leading note starts, by the voice's species.
 fn leading_slot(species: u8) -> usize
@@ -45,18 +49,28 @@ fn starts_final(ex: &Exercise, cell: Cell) -> bool
     }
 }
 
+/// Whether a pitch is the leading note, one degree below the final.
+fn is_lead(ex: &Exercise, last: Option<Pitch>, lead: Option<Pitch>) -> bool
+    ensures { result ≡ words.is_lead ex.now last lead }
+{
+    match lead {
+        Some(p) => is_leading(ex.mode, p) && lies_above(1, last, Some(p)),
+        None => false,
+    }
+}
+
 /// Whether the note leads to the final at column `i`.
 fn leads_to(ex: &Exercise, i: usize, species: u8, last: Option<Pitch>, note: Option<Note>) -> bool
     requires { i ≤ 192 }
     ensures { result ≡ words.leads_to ex.now i species last note }
 {
-    let Some(note) = note else {
-        return false;
-    };
-    if !is_leading(ex.mode, note.pitch) || !lies_above(1, last, Some(note.pitch)) {
-        return false;
+    match note {
+        Some(note) => {
+            is_lead(ex, last, Some(note.pitch))
+                && note.start == i.saturating_sub(8) + leading_slot(species)
+        }
+        None => false,
     }
-    note.start == i.saturating_sub(8) + leading_slot(species)
 }
 
 /// Whether a voice lies a seventh above the cantus, or a second below it, but for octaves.
@@ -68,6 +82,13 @@ fn is_suspended(ex: &Exercise, column: &[Cell], v: u8) -> bool
         Some(size) => size.degrees.unsigned_abs() % 7 == wanted,
         None => false,
     }
+}
+
+/// Whether the leading note of a species is prepared by a suspension.
+fn has_suspension(species: u8) -> bool
+    ensures { result ≡ words.has_suspension species }
+{
+    species == 4 || species == 5
 }
 
 /// Whether a voice holds a pitch one degree above the leading note, suspended so.
@@ -96,7 +117,7 @@ pub fn shows_cadence(ex: &Exercise, score: &Score, i: usize, v: u8) -> bool
     if !leads_to(ex, i, species, cell.pitch(), note) {
         return false;
     }
-    if species != 4 && species != 5 {
+    if !has_suspension(species) {
         return true;
     }
     match note {
@@ -115,20 +136,80 @@ fn is_shown_by(ex: &Exercise, score: &Score, i: usize, v: u8) -> bool
     v < ex.voices && shows_cadence(ex, score, i, v)
 }
 
+/// Whether the set has all voices, and no others.
+#[inline]
+fn has_all_voices(ex: &Exercise, voices: VoiceSet) -> bool
+    ensures { result ≡ (voices.bits == set_of_all ex.now.voices) }
+{
+    match ex.voices {
+        2 => voices.bits == 3,
+        3 => voices.bits == 7,
+        _ => voices.bits == 15,
+    }
+}
+
 /// S22: whether at column `i`, if the last bar begins there, no voice shows its cadence. It is broken for the set of all voices.
 pub fn breaks_cadence(ex: &Exercise, score: &Score, i: usize, voices: VoiceSet) -> bool
     requires valid { IsValid ex.now }
     requires place { i < length score.now.columns }
     ensures { result ≡ reading_of (cadence_row ex.now voices.bits) score.now.columns i }
 {
-    if u16::from(voices.bits) + 1 != 1 << ex.voices {
-        return false;
-    }
-    if !begins_last_bar(ex, i) {
+    if !begins_last_bar(ex, i) || !has_all_voices(ex, voices) {
         return false;
     }
     !(is_shown_by(ex, score, i, 0)
         || is_shown_by(ex, score, i, 1)
         || is_shown_by(ex, score, i, 2)
         || is_shown_by(ex, score, i, 3))
+}
+
+/// The pitch of the note that is held in exactly so many of the newest of these cells, and started before them.
+fn held_pitch(cells: &[Cell], held: usize) -> Option<Pitch>
+    requires { held < length cells.now }
+    ensures { result ≡ words.held_pitch held cells.now }
+{
+    match cells[held] {
+        Cell::Start(p) if cells[..held].iter().all(|cell| cell.is_hold()) => Some(p),
+        _ => None,
+    }
+}
+
+/// Whether a voice is there and shows its cadence at column `i`, the newest, read from the newest columns.
+fn ends_well(newest: &NewestColumns, ex: &Exercise, i: usize, v: u8) -> bool
+    requires voices { ex.now.voices ≤ 4 }
+    requires place { 8 ≤ i }
+    ensures { (s : List (List ACell)) → AreNewestOf ex.now.voices s newest.now → length s ≤ i + 1
+        → result ≡ (nat_lt v ex.now.voices
+        && words.ends_well ex.now (slice_index_or s (i - 8) []) (words.bar_behind s v i) (slice_index_or s i []) v) }
+{
+    if v >= ex.voices {
+        return false;
+    }
+    let cell = cell_at(newest, ex, v, i);
+    if !starts_final(ex, cell) {
+        return false;
+    }
+    let species = species_of(ex, v);
+    let lead = held_pitch(&bar_behind(newest, ex, v, i), 7 - leading_slot(species));
+    if !is_lead(ex, cell.pitch(), lead) {
+        return false;
+    }
+    !has_suspension(species) || holds_suspension(ex, newest.at(i - 8, ex.voices as usize), lead, v)
+}
+
+/// S22, read from the newest columns, at the newest.
+pub(crate) fn lacks_cadence(newest: &NewestColumns, ex: &Exercise, voices: VoiceSet) -> bool
+    requires valid { IsValid ex.now }
+    requires begun { 0 < newest.now.len }
+    ensures { (s : List (List ACell)) → AreNewestOf ex.now.voices s newest.now
+        → result ≡ words.lacks_cadence_at ex.now s (newest.now.len - 1) voices.bits }
+{
+    let i = newest.len - 1;
+    if !begins_last_bar(ex, i) || !has_all_voices(ex, voices) {
+        return false;
+    }
+    !(ends_well(newest, ex, i, 0)
+        || ends_well(newest, ex, i, 1)
+        || ends_well(newest, ex, i, 2)
+        || ends_well(newest, ex, i, 3))
 }

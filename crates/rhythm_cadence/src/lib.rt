@@ -1,22 +1,29 @@
-//! Rules of ranges, bar shapes, beginnings and endings.
+//! Rules and tolls of ranges, bar shapes, beginnings, endings, and what lies within a bar.
 #![tactic(auto)]
 
+mod book;
 mod cadence;
 mod in_place;
+mod late;
 mod letter_sets;
+mod newest;
 mod part;
 mod patterns;
 mod quavers;
 mod rhythm;
 mod rows;
+mod tolls;
 
+pub use book::book_is_lawful;
 pub use cadence::{breaks_cadence, shows_cadence};
 pub use in_place::are_in_place;
+pub use late::{breaks_late, cost_late, places_settled, toll_places};
 pub use letter_sets::{LetterSets, fitting_shapes};
-pub use part::{BarShapes, breaks_late, noted, places_settled, unbegun};
+pub use part::{BarShapes, noted, unbegun};
 pub use patterns::{is_pattern_settled, lacks_ligature, pattern_cost};
 pub use quavers::{breaks_quaver, is_quaver_settled};
 pub use rhythm::{Rhythm, breaks};
 pub use rows::{
     begins_last_bar, ends_badly, is_final, lacks_final, leaves_gamut, leaves_range, opens_badly,
 };
+pub use tolls::{Q15, Q16};

@@ -1,21 +1,18 @@
 //! The part of a state that reads bar shapes.
 
-ghost use Rattle.std.specs.Prelude.{◌≡◌, ◌==◌, ◌&&◌, ◌^◌, ◌<◌, ◌≤◌, ◌∷◌, ◌++◌, [], ℕ, List, IsTrue, length, nat_lt};
+ghost use Rattle.std.specs.Prelude.{◌≡◌, ◌==◌, ◌&&◌, ◌^◌, ◌<◌, ◌≤◌, ◌∷◌, ◌++◌, [], ℕ, List, length, nat_lt};
 ghost use Rattle.fux_grid.specs.declared.cell.Cell.{Cell};
 ghost use Rattle.fux_grid.specs.declared.exercise.Exercise.{Exercise};
 ghost use Rattle.fux_grid.specs.Cells.{cell_in};
 ghost use Rattle.fux_grid.specs.Exercises.{IsValid, columns_in};
 ghost use Rattle.rule_law.specs.Places.{reading_of};
-ghost use Rattle.rule_law.specs.Prefixes.{GoesOn};
-ghost use Rattle.rule_law.specs.Rulebooks.{IsAmong, newly_breaks};
 ghost use Rattle.rule_law.specs.Voices as voices_words;
-ghost use Rattle.rhythm_cadence.specs.Book.{rule_row};
 ghost use Rattle.rhythm_cadence.specs.Parts.{IsShapesOf, newest_start, shapes_after};
 ghost use Rattle.rhythm_cadence.specs.Rows.{broken_in};
 
 use crate::letter_sets::fitting_shapes;
 use fux_grid::{Cell, Exercise, VoiceSet, cell_of, species_of};
-use rule_law::{LatePlaces, begins_bar, is_free};
+use rule_law::{begins_bar, is_free};
 
 /// For each of four voices the shapes that it may still have in the bar of the newest column: bit k of a voice's set is
 /// shape k of its species and bar. Nothing is meant of the cantus, nor before the first column.
@@ -81,37 +78,11 @@ fn breaks_shape(part: &BarShapes, ex: &Exercise, v: u8) -> bool
     has_none_left(possible[v as usize], ex, v)
 }
 
-/// The places at which column `i` may settle a break of a rule.
-pub fn places_settled(rule: u8, ex: &Exercise, i: usize) -> LatePlaces
-    ensures first { result.first ≡ (rule_row rule).first ex.now i }
-    ensures count { result.count ≡ (rule_row rule).count ex.now i }
-    ensures few { result.count ≤ 16 }
+/// S3: whether the one voice of a set has left the shapes of the newest bar.
+pub(crate) fn breaks_shapes(part: &BarShapes, ex: &Exercise, voices: VoiceSet) -> bool
+    ensures { (p : List (List Cell)) → 0 < length p → IsShapesOf ex.now p part.now →
+        result ≡ reading_of (broken_in 3 ex.now voices.bits) p (newest_start p) }
 {
-    let _ = ex.voices;
-    if rule == 3 {
-        return LatePlaces {
-            first: 8 * (i / 8),
-            count: 1,
-        };
-    }
-    LatePlaces { first: i, count: 1 }
-}
-
-/// Whether the newest column settles a break of a late rule at one of its places, where the column comes after an orderly
-/// prefix: S3 at the beginning of the column's bar.
-pub fn breaks_late(
-    part: &BarShapes,
-    rule: u8,
-    ex: &Exercise,
-    voices: VoiceSet,
-    place: usize,
-) -> bool
-    requires { IsTrue (rule_row rule).late }
-    ensures { (p : List (List Cell)) (col : List Cell) → IsShapesOf ex.now (p ++ col ∷ []) part.now → GoesOn ex.now p (col ∷ [])
-        → IsAmong ((rule_row rule).first ex.now (length p)) ((rule_row rule).count ex.now (length p)) place
-        → result ≡ newly_breaks (rule_row rule) ex.now voices.bits p col place }
-{
-    let _ = (rule, place);
     match voices.bits {
         1 => breaks_shape(part, ex, 0),
         2 => breaks_shape(part, ex, 1),

@@ -1,13 +1,17 @@
 //! The tolls Q15 and Q16: ligatures that are missing, and bars that repeat the bar before.
 
-ghost use Rattle.std.specs.Prelude.{◌≡◌, ◌+◌, ◌<◌, ◌≤◌, [], length, drop, slice_index_or};
+ghost use Rattle.std.specs.Prelude.{◌≡◌, ◌+◌, ◌-◌, ◌<◌, ◌≤◌, [], List, length, drop, slice_index_or};
+ghost use Rattle.fux_grid.specs.declared.cell.Cell.{Cell as ACell};
+ghost use Rattle.fux_grid.specs.Exercises.{IsValid};
 ghost use Rattle.fux_grid.specs.Columns.{earlier};
+ghost use Rattle.rule_law.specs.Newest.{AreNewestOf};
 ghost use Rattle.rule_law.specs.Places.{reading_of, settled_by};
 ghost use Rattle.rhythm_cadence.specs.Patterns as words;
 ghost use Rattle.rhythm_cadence.specs.Patterns.{pattern_enough, pattern_toll};
 
+use crate::newest::cell_at;
 use fux_grid::{Cell, Exercise, Score, cell_of};
-use rule_law::{begins_bar, begins_inner_bar, starts};
+use rule_law::{NewestColumns, begins_bar, begins_inner_bar, starts};
 
 /// Q15: whether, in species 4, the species voice starts a note at the beginning of a bar that is neither the first nor the last.
 pub fn lacks_ligature(ex: &Exercise, i: usize, now: &[Cell]) -> bool
@@ -87,4 +91,52 @@ pub fn is_pattern_settled(ex: &Exercise, score: &Score, i: usize) -> bool
 {
     score.kept();
     !begins_bar(i) || i + 7 < score.len()
+}
+
+/// Q15, read from the newest columns, at the newest.
+pub(crate) fn lacks_ligature_now(newest: &NewestColumns, ex: &Exercise) -> bool
+    requires valid { IsValid ex.now }
+    requires begun { 0 < newest.now.len }
+    ensures { (s : List (List ACell)) → AreNewestOf ex.now.voices s newest.now
+        → result ≡ words.lacks_ligature ex.now (newest.now.len - 1) (slice_index_or s (newest.now.len - 1) []) }
+{
+    let i = newest.len - 1;
+    lacks_ligature(ex, i, newest.at(i, ex.voices as usize))
+}
+
+/// Whether column `i` may settle Q16, at the beginning of its bar: it ends a bar that isn't the first, in species 2 to 5.
+pub(crate) fn settles_pattern(ex: &Exercise, i: usize) -> bool
+    ensures { result ≡ words.settles_pattern ex.now i }
+{
+    ex.species >= 2 && i % 8 == 7 && i >= 15
+}
+
+/// Whether the species voice has at column `i` the cell that it had eight columns earlier.
+fn repeats_at(newest: &NewestColumns, ex: &Exercise, i: usize) -> bool
+    requires voices { ex.now.voices ≤ 4 }
+    requires place { 8 ≤ i }
+    ensures { (s : List (List ACell)) → AreNewestOf ex.now.voices s newest.now → length s ≤ i + 16
+        → result ≡ words.repeats_at s ex.now.species_voice i }
+{
+    let v = ex.species_voice;
+    same_cell(cell_at(newest, ex, v, i - 8), cell_at(newest, ex, v, i))
+}
+
+/// Q16, read from the newest columns, of the bar that the newest one settles.
+pub(crate) fn ends_pattern(newest: &NewestColumns, ex: &Exercise) -> bool
+    requires valid { IsValid ex.now }
+    requires begun { 0 < newest.now.len }
+    ensures { (s : List (List ACell)) → AreNewestOf ex.now.voices s newest.now
+        → result ≡ words.pattern_at ex.now s (newest.now.len - 1) }
+{
+    let i = newest.len - 1;
+    settles_pattern(ex, i)
+        && repeats_at(newest, ex, i - 7)
+        && repeats_at(newest, ex, i - 6)
+        && repeats_at(newest, ex, i - 5)
+        && repeats_at(newest, ex, i - 4)
+        && repeats_at(newest, ex, i - 3)
+        && repeats_at(newest, ex, i - 2)
+        && repeats_at(newest, ex, i - 1)
+        && repeats_at(newest, ex, i)
 }

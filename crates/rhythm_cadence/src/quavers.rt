@@ -1,15 +1,21 @@
 //! S25: notes of one slot.
 
-ghost use Rattle.std.specs.Prelude.{◌≡◌, ◌+◌, ◌<◌, [], length, drop, slice_index_or};
+ghost use Rattle.std.specs.Prelude.{◌≡◌, ◌+◌, ◌<◌, ◌≤◌, [], List, length, drop, slice_index_or};
+ghost use Rattle.fux_grid.specs.declared.cell.Cell.{Cell as ACell};
 ghost use Rattle.fux_grid.specs.Exercises.{IsValid};
 ghost use Rattle.fux_grid.specs.Columns.{earlier};
+ghost use Rattle.rule_law.specs.Newest.{AreNewestOf};
 ghost use Rattle.rule_law.specs.Places.{reading_of, settled_by};
 ghost use Rattle.rhythm_cadence.specs.Quavers as words;
 ghost use Rattle.rhythm_cadence.specs.Quavers.{quaver_row, quaver_enough};
 
-use fux_grid::{Exercise, Score, VoiceSet, cell_of};
+use crate::newest::{cell_at, cell_before};
+use crate::rhythm::free_voice;
+use fux_grid::{Cell, Exercise, Score, VoiceSet, cell_of};
 use fux_pitch::{Pitch, interval_of};
-use rule_law::{is_free, is_step, next_onset, onset_pitch, previous_pitch, starts, voice_of};
+use rule_law::{
+    NewestColumns, is_free, is_step, next_onset, onset_pitch, previous_pitch, starts, voice_of,
+};
 
 /// Whether a note of exactly one slot starts.
 fn starts_quaver(score: &Score, i: usize, v: u8) -> bool
@@ -66,4 +72,39 @@ pub fn is_quaver_settled(ex: &Exercise, score: &Score, i: usize, voices: VoiceSe
     score.kept();
     let bars = usize::from(ex.bars);
     i + 1 < score.len() || score.len() >= 8 * bars
+}
+
+/// Whether a note of exactly one slot starts between two cells, and isn't entered and left by a step.
+fn is_bad_quaver(before: Cell, now: Cell, next: Cell) -> bool
+    ensures { result ≡ words.is_bad_quaver before now next }
+{
+    if !starts(now) || next.is_hold() {
+        return false;
+    }
+    !(is_step_apart(before.pitch(), now.pitch()) && is_step_apart(now.pitch(), next.pitch()))
+}
+
+/// S25, read from the newest columns, at a place of the newest or the one before it: what a voice sounds in the column before a note is
+/// then its previous note.
+pub(crate) fn has_bad_quaver(
+    newest: &NewestColumns,
+    ex: &Exercise,
+    voices: VoiceSet,
+    place: usize,
+) -> bool
+    requires { ex.now.voices ≤ 4 }
+    ensures { (s : List (List ACell)) → AreNewestOf ex.now.voices s newest.now → place < length s
+        → length s ≤ place + 2 → result ≡ words.quaver_at ex.now s place voices.bits }
+{
+    if place >= newest.len {
+        return false;
+    }
+    match free_voice(ex, voices) {
+        Some(v) => is_bad_quaver(
+            cell_before(newest, ex, v, place),
+            cell_at(newest, ex, v, place),
+            cell_at(newest, ex, v, place + 1),
+        ),
+        None => false,
+    }
 }

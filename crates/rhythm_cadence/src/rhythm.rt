@@ -6,10 +6,13 @@ ghost use Rattle.fux_grid.specs.Orderly.{voice_shapes};
 ghost use Rattle.fux_grid.specs.Shapes.{begins_shape};
 ghost use Rattle.rule_law.specs.Places.{reading_of};
 ghost use Rattle.rule_law.specs.Voices.{on_free_voice};
+ghost use Rattle.rhythm_cadence.specs.AllRules as all;
 ghost use Rattle.rhythm_cadence.specs.Locality as law;
 ghost use Rattle.rhythm_cadence.specs.Rows as rows;
 ghost use Rattle.rhythm_cadence.specs.Rows.{holds_of_some};
 
+use crate::cadence::breaks_cadence;
+use crate::quavers::{breaks_quaver, is_quaver_settled};
 use crate::rows::{ends_badly, lacks_final, leaves_gamut, leaves_range, opens_badly};
 use fux_grid::{
     Cell, Column, Exercise, Score, VoiceSet, cell_of, letters_from, shapes_of, species_of,
@@ -99,7 +102,7 @@ fn may_go_on(ex: &Exercise, score: &Score, v: u8, i: usize) -> bool
 
 /// The one free voice of a set, where the exercise has it.
 #[inline]
-fn free_voice(ex: &Exercise, voices: VoiceSet) -> Option<u8>
+pub(crate) fn free_voice(ex: &Exercise, voices: VoiceSet) -> Option<u8>
     ensures free { IfSome result (IsFree ex.now) }
     ensures test { (test : ℕ → Bool) → on_free_voice ex.now test voices.bits ≡ holds_of_some test result }
 {
@@ -149,44 +152,50 @@ fn is_open(ex: &Exercise, score: &Score, i: usize, voices: VoiceSet) -> bool
     }
 }
 
-/// The rules S1, S2, S3, S12, S13 and S24.
+/// The rules S1, S2, S3, S12, S13, S22, S24 and S25.
 #[derive(Clone, Copy, Debug, PartialEq, Eq)]
 pub struct Rhythm;
 
 impl Rule for Rhythm {
     ghost covered = { λ _. law.covered_bits };
 
-    ghost breaks = { λ _. law.rhythm_breaks };
+    ghost breaks = { λ _. all.book_breaks };
 
-    ghost settles = { λ _. law.rhythm_settles };
+    ghost settles = { λ _. all.book_settles };
 
-    ghost local = { λ _. law.rhythm_is_local };
+    ghost local = { λ _. all.book_is_local };
 
-    ghost ends = { λ _. law.rhythm_settles_at_end };
+    ghost ends = { λ _. all.book_settles_at_end };
 
     fn covers(&self) -> RuleSet {
         RuleSet {
-            bits: 1 << 1 | 1 << 2 | 1 << 3 | 1 << 12 | 1 << 13 | 1 << 24,
+            bits: 1 << 1 | 1 << 2 | 1 << 3 | 1 << 12 | 1 << 13 | 1 << 22 | 1 << 24 | 1 << 25,
         }
     }
 
     fn broken(&self, rule: u8, ex: &Exercise, score: &Score, i: usize, voices: VoiceSet) -> bool {
-        if rule == 3 {
-            return leaves_shapes(ex, score, i, voices);
+        match rule {
+            3 => leaves_shapes(ex, score, i, voices),
+            22 => breaks_cadence(ex, score, i, voices),
+            25 => breaks_quaver(ex, score, i, voices),
+            _ => breaks(
+                rule,
+                ex,
+                voices,
+                i,
+                score.before(i),
+                &latest_before(score, i),
+                score.column(i).as_slice(),
+            ),
         }
-        breaks(
-            rule,
-            ex,
-            voices,
-            i,
-            score.before(i),
-            &latest_before(score, i),
-            score.column(i).as_slice(),
-        )
     }
 
     fn settled(&self, rule: u8, ex: &Exercise, prefix: &Score, i: usize, voices: VoiceSet) -> bool {
-        rule != 3 || !is_open(ex, prefix, i, voices)
+        match rule {
+            3 => !is_open(ex, prefix, i, voices),
+            25 => is_quaver_settled(ex, prefix, i, voices),
+            _ => true,
+        }
     }
 }
 
@@ -201,7 +210,7 @@ impl Near for Rhythm {
 
     ghost toll_row = { λ _ toll ex i before previous now. 0 };
 
-    ghost rules_agree = { λ _. law.rhythm_is_near };
+    ghost rules_agree = { λ _. all.book_is_near };
 
     ghost tolls_agree = { λ _ toll ex h p next prefix. refl };
 

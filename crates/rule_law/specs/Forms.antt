@@ -28,6 +28,10 @@ pair_sets_of voices = if voices == 2 then 3 ∷ [] else pair_sets
 abbrev pub all_sets_of : ℕ → List ℕ
 all_sets_of voices = if voices == 2 then 3 ∷ [] else (if voices == 3 then 7 ∷ [] else 15 ∷ [])
 
+-- that set, of two, three or four voices
+abbrev pub set_of_all : ℕ → ℕ
+set_of_all voices = if voices == 2 then 3 else (if voices == 3 then 7 else 15)
+
 -- the sets of a form
 abbrev pub sets_of : Form → ℕ → List ℕ
 sets_of OneVoice = voice_sets_of
@@ -60,6 +64,17 @@ pair_form ex test = at (ex.voices == 2) refl
     at : (b : Bool) → (ex.voices == 2) ≡ b → IsOf (pair_sets_of ex.voices) (on_pair ex test)
     at true e = record { any = λ also. rw (eqb-true ex.voices 2 e) refl; sum = λ price. rw (eqb-true ex.voices 2 e) (omega arith) }
     at false e = record { any = λ also. rw e refl; sum = λ price. rw e (omega arith) }
+
+pub all_form : (ex : Exercise) (test : Bool)
+    → IsOf (all_sets_of ex.voices) (λ voices. (voices == set_of_all ex.voices) && test)
+unfolding all_sets
+all_form ex test = at (ex.voices == 2) (ex.voices == 3) refl refl
+  where
+    at : (b c : Bool) → (ex.voices == 2) ≡ b → (ex.voices == 3) ≡ c
+        → IsOf (all_sets_of ex.voices) (λ voices. (voices == set_of_all ex.voices) && test)
+    at true c e f = rw e (record { any = λ also. refl; sum = λ price. omega arith })
+    at false true e f = rw (e, f) (record { any = λ also. refl; sum = λ price. omega arith })
+    at false false e f = rw (e, f) (record { any = λ also. refl; sum = λ price. omega arith })
 
 -- of two tests of one form a choice is of it
 pub choose_form : (b : Bool) (sets : List ℕ) (x y : ℕ → Bool) → IsOf sets x → IsOf sets y → IsOf sets (λ voices. if b then x voices else y voices)
