@@ -1,19 +1,61 @@
--- The rules and tolls of dissonance as a crate's book.
-use Rattle.std.specs.Prelude.{ℕ, Bool, ◌==◌, ◌||◌, true, false}
+-- The rules and tolls of dissonance as a crate's book. S15, S19, S20 and S21 are late: they are read from the newest columns.
+use Rattle.std.specs.Prelude.{ℕ, Bool, ◌+◌, ◌-◌, ◌%◌, ◌==◌, not, ◌||◌, true, false, if◌then◌else◌}
+use Rattle.fux_grid.specs.declared.exercise.Exercise.{Exercise}
+use Rattle.fux_grid.specs.Exercises.{slot_of}
 use Rattle.rule_law.specs.declared.table.Form.TheVariants.{TwoVoices}
-use Rattle.rule_law.specs.declared.table.Kind.TheVariants.{Column}
-use Rattle.rule_law.specs.declared.table.Stands.TheVariants.{AtBars}
+use Rattle.rule_law.specs.declared.table.Kind.TheVariants.{Column, Window}
+use Rattle.rule_law.specs.declared.table.Stands.TheVariants.{Anywhere, AtBars}
+use Rattle.rule_law.specs.Bars.{begins_bar}
 use Rattle.rule_law.specs.Rulebooks.{RuleRow, Rulebook, TollRow}
+use Rattle.dissonance_rules.specs.Clashes.{clash_enough, clash_row}
 use Rattle.dissonance_rules.specs.Rows.{broken_in, cost_enough, cost_in, enough_after}
 
+-- S15, S19, S20 and S21
+abbrev pub is_late : ℕ → Bool
+is_late n = (n == 15) || (n == 19) || (n == 20) || (n == 21)
+
 abbrev pub has_rule : ℕ → Bool
-has_rule n = (n == 11) || (n == 14)
+has_rule n = (n == 11) || (n == 14) || is_late n
 
 abbrev pub has_toll : ℕ → Bool
 has_toll n = (n == 1) || (n == 2)
 
-abbrev pub rule_row : ℕ → RuleRow
-rule_row n = record {
+-- how many columns before the newest one S15 may be open for a voice of a species: until its next note, or in species 5 the one after
+-- that, which come by the middle of the bars that follow
+abbrev pub reach : ℕ → ℕ
+reach species = if species == 5 then 19 else (if species == 4 then 8 else 4)
+
+-- a voice of a species, other than species 1, may start a note in a column, or the last bar begins there
+abbrev pub may_settle : ℕ → ℕ → Bool
+may_settle species i =
+    if species == 1 then false
+    else (if species == 5 then not (i % 4 == 1)
+    else (if species == 3 then i % 2 == 0
+    else i % 4 == 0))
+
+-- the places of S15: a clash stays open for so many columns at most, and is settled where a note may start
+abbrev pub passing_count : Exercise → ℕ → ℕ
+passing_count ex i = if may_settle ex.species i then i + 1 - (i - reach ex.species) else 0
+
+-- the places of S20: the middle of a bar settles its beginning
+abbrev pub resolution_count : ℕ → ℕ
+resolution_count i = if slot_of i == 4 then 1 else 0
+
+-- the places of S19 and S21: their own columns, which begin bars
+abbrev pub suspension_count : ℕ → ℕ
+suspension_count i = if begins_bar i then 1 else 0
+
+abbrev pub late_first : ℕ → Exercise → ℕ → ℕ
+late_first n ex i = if n == 15 then i - reach ex.species else (if n == 20 then i - 4 else i)
+
+abbrev pub late_count : ℕ → Exercise → ℕ → ℕ
+late_count n ex i =
+    if n == 15 then passing_count ex i
+    else (if n == 20 then resolution_count i
+    else suspension_count i)
+
+abbrev pub at_once_row : ℕ → RuleRow
+at_once_row n = record {
   form = TwoVoices;
   kind = Column;
   stands = AtBars;
@@ -23,6 +65,21 @@ rule_row n = record {
   first = λ ex i. i;
   count = λ ex i. 1;
 }
+
+abbrev pub late_row : ℕ → RuleRow
+late_row n = record {
+  form = TwoVoices;
+  kind = Window;
+  stands = if n == 15 then Anywhere else AtBars;
+  late = true;
+  broken = clash_row n;
+  enough = clash_enough n;
+  first = late_first n;
+  count = late_count n;
+}
+
+abbrev pub rule_row : ℕ → RuleRow
+rule_row n = if is_late n then late_row n else at_once_row n
 
 abbrev pub toll_row : ℕ → TollRow
 toll_row n = record {

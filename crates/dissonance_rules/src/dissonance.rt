@@ -1,14 +1,16 @@
 //! The rules as one `Rule`, and what two neighboring columns decide of them.
 
 ghost use Rattle.rule_law.specs.Places.{reading_of};
-ghost use Rattle.dissonance_rules.specs.Locality.{cost_is_near, dissonance_breaks, dissonance_is_local, dissonance_is_near, dissonance_settles, dissonance_settles_at_end, rule_bits, toll_bits};
+ghost use Rattle.dissonance_rules.specs.Locality.{cost_is_near, dissonance_breaks, dissonance_is_local, dissonance_is_near, dissonance_settles, dissonance_settles_at_end, near_bits, rule_bits, toll_bits};
 ghost use Rattle.dissonance_rules.specs.Rows.{cost_in, near_rows, toll_rows};
 
+use crate::clashes::{breaks_clash, is_clash_settled};
+use crate::late::is_late;
 use crate::rows::{breaks, cost};
 use fux_grid::{Column, Exercise, Score, VoiceSet};
 use rule_law::{Latest, Near, Rule, RuleSet, cells_of};
 
-/// The rules S11 and S14. Neither looks at earlier columns or notes.
+/// The rules S11, S14, S15, S19, S20 and S21. S11 and S14 look at no earlier columns or notes.
 #[derive(Clone, Copy, Debug, PartialEq, Eq)]
 pub struct Dissonance;
 
@@ -25,11 +27,14 @@ impl Rule for Dissonance {
 
     fn covers(&self) -> RuleSet {
         RuleSet {
-            bits: 1 << 11 | 1 << 14,
+            bits: 1 << 11 | 1 << 14 | 1 << 15 | 1 << 19 | 1 << 20 | 1 << 21,
         }
     }
 
     fn broken(&self, rule: u8, ex: &Exercise, score: &Score, i: usize, voices: VoiceSet) -> bool {
+        if is_late(rule) {
+            return breaks_clash(rule, ex, score, i, voices);
+        }
         breaks(
             rule,
             ex,
@@ -41,20 +46,13 @@ impl Rule for Dissonance {
         )
     }
 
-    fn settled(
-        &self,
-        _rule: u8,
-        _ex: &Exercise,
-        _prefix: &Score,
-        _i: usize,
-        _voices: VoiceSet,
-    ) -> bool {
-        true
+    fn settled(&self, rule: u8, ex: &Exercise, prefix: &Score, i: usize, voices: VoiceSet) -> bool {
+        !is_late(rule) || is_clash_settled(rule, ex, prefix, i, voices)
     }
 }
 
 impl Near for Dissonance {
-    ghost near_rules = { λ _. rule_bits };
+    ghost near_rules = { λ _. near_bits };
 
     ghost near_tolls = { λ _. toll_bits };
 
@@ -64,7 +62,7 @@ impl Near for Dissonance {
 
     ghost toll_row = { λ _. toll_rows };
 
-    ghost rules_agree = { λ _ rule ex voices h. dissonance_is_near rule ex voices };
+    ghost rules_agree = { λ _. dissonance_is_near };
 
     ghost tolls_agree = { λ _ toll ex h. cost_is_near toll ex };
 
