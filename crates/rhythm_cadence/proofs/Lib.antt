@@ -1,6 +1,10 @@
 pub mod BarReadings
 pub mod BookLaws
+pub mod CadenceReadings
 pub mod NewestBars
+pub mod NewestReadings
 pub mod OrderlyReadings
 pub mod PartLemmas
+pub mod PatternReadings
+pub mod QuaverReadings
 pub mod ShapeSets

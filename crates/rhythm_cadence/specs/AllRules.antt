@@ -1,16 +1,16 @@
 -- The readings of all rules and tolls of the crate, and their laws.
 use Rattle.std.specs.Prelude.{ℕ, ◌≡◌, ◌==◌, ◌||◌, Bool, true, false, IsTrue, if◌then◌else◌, refl}
-use Rattle.std.proofs.Common.{ap, subst, sym, ◌∙◌}
+use Rattle.std.proofs.Common.{subst}
 use Rattle.std.proofs.lemmas.Bool.{eqb-true, false_from_ne_true}
 use Rattle.fux_grid.specs.declared.exercise.Exercise.{Exercise}
 use Rattle.rule_law.specs.BothLaw.{AreLocal, RuleReading, SettleAtEnd}
 use Rattle.rule_law.specs.Law.{at_once_settles, local_from_row}
 use Rattle.rule_law.specs.NearLaw.{IsNear}
-use Rattle.rule_law.specs.Places.{IsLocal, Reading, SettlesAtEnd, reading_of, settled_by}
+use Rattle.rule_law.specs.Places.{IsLocal, SettlesAtEnd, reading_of, settled_by}
 use Rattle.rule_law.specs.Rulebooks.{RuleRow}
 use Rattle.rule_law.specs.Voices.{has_rule}
-use Rattle.rhythm_cadence.specs.Book.{at_once_row, cadence_rule, is_late, ligature_row, pattern_row, quaver_rule, rule_row, shape_rule}
-use Rattle.rhythm_cadence.specs.LateLaws.{pattern_is_local, pattern_settles_at_end, quaver_is_local, quaver_settles_at_end}
+use Rattle.rhythm_cadence.specs.Book.{at_once_row, cadence_rule, is_late, ligature_row, quaver_rule, rule_row, shape_rule}
+use Rattle.rhythm_cadence.specs.LateLaws.{quaver_is_local, quaver_settles_at_end}
 use Rattle.rhythm_cadence.specs.Locality.{near_bits, rhythm_is_local, rhythm_is_near, rhythm_settles_at_end}
 use Rattle.rhythm_cadence.specs.Rows.{near_rows}
 

@@ -1,6 +1,5 @@
 -- The rules and tolls of rhythm and cadence as a crate's book.
 use Rattle.std.specs.Prelude.{ℕ, Bool, ◌+◌, ◌-◌, ◌*◌, ◌/◌, ◌==◌, ◌||◌, ◌&&◌, nat_lt, true, false, if◌then◌else◌}
-use Rattle.fux_grid.specs.declared.exercise.Exercise.{Exercise}
 use Rattle.fux_grid.specs.Exercises.{columns_in}
 use Rattle.rule_law.specs.declared.table.Form.TheVariants.{OneVoice, TwoVoices, AllVoices}
 use Rattle.rule_law.specs.declared.table.Kind.TheVariants.{Column, Pair, Window}

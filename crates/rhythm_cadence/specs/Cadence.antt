@@ -7,13 +7,14 @@ use Rattle.fux_grid.specs.declared.cell.Cell.TheVariants.{Rest, Hold, Start}
 use Rattle.fux_grid.specs.declared.cell.Note.{Note}
 use Rattle.fux_grid.specs.declared.exercise.Exercise.{Exercise}
 use Rattle.fux_grid.specs.Cells.{cell_in, first_of, is_hold, notes_from, pitch_of}
-use Rattle.fux_grid.specs.Columns.{cell_at, line, newest_column}
+use Rattle.fux_grid.specs.Columns.{line, newest_column}
 use Rattle.fux_grid.specs.Exercises.{species_in}
 use Rattle.rule_law.specs.Degrees.{lies_above}
 use Rattle.rule_law.specs.Forms.{set_of_all}
 use Rattle.rule_law.specs.Leading.{is_leading}
 use Rattle.rule_law.specs.Places.{Row, at_once}
 use Rattle.rule_law.specs.Terms.{degrees_without_sign, holds_of, interval_in, note_pitch, sounds, starts}
+use Rattle.rhythm_cadence.specs.NewestCells.{bar_behind}
 use Rattle.rhythm_cadence.specs.Rows.{begins_last_bar, holds_of_pitch, is_final}
 
 -- the slot of the last bar but one on which the leading note starts, by the voice's species: the cantus has species 1
@@ -78,12 +79,6 @@ cadence_enough ex voices = at_once
 
 -- ---- the same from cells that stand among the newest ones
 
--- the cells of a voice in the eight columns before column i, from the newest to the oldest
-abbrev pub bar_behind : List (List Cell) → ℕ → ℕ → List Cell
-bar_behind s v i =
-    cell_at s v (i - 1) ∷ cell_at s v (i - 2) ∷ cell_at s v (i - 3) ∷ cell_at s v (i - 4)
-    ∷ cell_at s v (i - 5) ∷ cell_at s v (i - 6) ∷ cell_at s v (i - 7) ∷ cell_at s v (i - 8) ∷ []
-
 -- the pitch that starts in a cell
 abbrev pub started_pitch : Cell → Option Pitch
 started_pitch Rest = None
@@ -119,4 +114,4 @@ some_ends_well ex s i =
 -- S22 at column i, which is the newest
 abbrev pub lacks_cadence_at : Exercise → List (List Cell) → ℕ → ℕ → Bool
 lacks_cadence_at ex s i voices =
-    (voices == set_of_all ex.voices) && begins_last_bar ex i && not (some_ends_well ex s i)
+    begins_last_bar ex i && (voices == set_of_all ex.voices) && not (some_ends_well ex s i)

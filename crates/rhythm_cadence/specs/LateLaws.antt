@@ -1,5 +1,5 @@
 -- S25 and Q16 wait for later columns. Once settled they read the same in each prefix that goes on, and so in each setting.
-use Rattle.std.specs.Prelude.{◌≡◌, ℕ, suc, ◌+◌, ◌-◌, ◌*◌, ◌%◌, ◌<◌, ◌≤◌, ◌==◌, Bool, true, false, not, ◌&&◌, ◌||◌, nat_le, nat_lt, List, [], ◌∷◌, ◌++◌, Option, Some, None, IsTrue, length, drop, take, reverse, slice_index_or, refl}
+use Rattle.std.specs.Prelude.{◌≡◌, ℕ, ◌+◌, ◌-◌, ◌%◌, ◌<◌, ◌≤◌, ◌==◌, Bool, true, false, not, ◌&&◌, ◌||◌, nat_le, nat_lt, List, [], ◌∷◌, ◌++◌, Option, Some, None, IsTrue, length, drop, take, reverse, slice_index_or, refl}
 use Rattle.std.specs.Int.{from_bool}
 use Rattle.std.specs.List.{list_all}
 use Rattle.std.proofs.Common.{ap, sym, ◌∙◌, subst, arith, drop-cons}
@@ -12,7 +12,7 @@ use Rattle.fux_grid.specs.declared.cell.Cell.TheVariants.{Rest, Hold, Start}
 use Rattle.fux_grid.specs.declared.exercise.Exercise.{Exercise}
 use Rattle.fux_grid.specs.Cells.{cell_in, first_of, is_hold, onsets_from, pitch_of}
 use Rattle.fux_grid.specs.Columns.{earlier, line, newest_column}
-use Rattle.fux_grid.specs.Exercises.{IsFree, columns_in, slot_of}
+use Rattle.fux_grid.specs.Exercises.{IsFree, slot_of}
 use Rattle.fux_grid.specs.Orderly.{IsOrderly}
 use Rattle.fux_grid.proofs.Histories.{line-more}
 use Rattle.fux_grid.proofs.OrderlyLemmas.{orderly-fewer}
@@ -21,12 +21,11 @@ use Rattle.rule_law.specs.Bars.{begins_bar}
 use Rattle.rule_law.specs.Growth.{EnoughStays}
 use Rattle.rule_law.specs.LateLaw.{StaysAhead, by_either, ends_when_whole, local_from_ahead, whole_same, whole_stays}
 use Rattle.rule_law.specs.Law.{both_true, local_from_row, test_from_below}
-use Rattle.rule_law.specs.Nearby.{AllRests, RestsFirst}
+use Rattle.rule_law.specs.Nearby.{RestsFirst}
 use Rattle.rule_law.specs.OrderlyLaw.{free_rests}
 use Rattle.rule_law.specs.Places.{IsLocal, IsUndisturbed, SettlesAtEnd, reading_of, settled_by}
-use Rattle.rule_law.specs.Prefixes.{GoesOn}
 use Rattle.rule_law.specs.Terms.{previous_pitch, starts}
-use Rattle.rule_law.specs.Voices.{holds_of_voice, is_free, on_free_voice, voice_of}
+use Rattle.rule_law.specs.Voices.{holds_of_voice, is_free, voice_of}
 use Rattle.rule_law.specs.Whole.{is_whole}
 use Rattle.rhythm_cadence.specs.Patterns.{pattern_enough, pattern_toll, repeats_bar, repeats_slot, same_cell}
 use Rattle.rhythm_cadence.specs.Quavers.{is_step_apart, is_stepwise, quaver_enough, quaver_row, starts_quaver}
@@ -41,17 +40,20 @@ after_rest Rest Rest cells r e = refl
 after_rest (Hold p) Rest cells r e = refl
 after_rest (Start p) Rest cells r e = absurd r
 
-rest_after : (ex : Exercise) (p : List (List Cell)) (i v : ℕ) → IsFree ex v → IsOrderly ex p → i + 1 < length p → cell_in (slice_index_or p (i + 1) []) v ≡ Rest → starts (cell_in (slice_index_or p i []) v) ≡ false
+-- its line up to a place has rests first
+pub rests_earlier : (ex : Exercise) (p : List (List Cell)) (n v : ℕ) → IsFree ex v → IsOrderly ex p → RestsFirst (line v (earlier p n))
 unfolding earlier
-rest_after ex p i v free orderly here rest =
-    let n : ℕ = i + 1 + 1 in
+rests_earlier ex p n v free orderly =
     let O : List (List Cell) → Type 0 = λ s. IsOrderly ex s in
     let fewer : IsOrderly ex (take n p) = orderly-fewer ex (take n p) (drop n p) (subst O (sym (take-append-drop n p)) orderly) in
-    let rests : RestsFirst (line v (earlier p n)) = free_rests ex v free (reverse (take n p)) (subst O (sym (reverse-reverse (take n p))) fewer) in
+    free_rests ex v free (reverse (take n p)) (subst O (sym (reverse-reverse (take n p))) fewer)
+
+rest_after : (ex : Exercise) (p : List (List Cell)) (i v : ℕ) → IsFree ex v → IsOrderly ex p → i + 1 < length p → cell_in (slice_index_or p (i + 1) []) v ≡ Rest → starts (cell_in (slice_index_or p i []) v) ≡ false
+rest_after ex p i v free orderly here rest =
     let R : List Cell → Type 0 = λ cells. RestsFirst cells in
-    let cells : line v (earlier p n) ≡ cell_in (slice_index_or p (i + 1) []) v ∷ cell_in (slice_index_or p i []) v ∷ line v (earlier p i) =
+    let cells : line v (earlier p (i + 1 + 1)) ≡ cell_in (slice_index_or p (i + 1) []) v ∷ cell_in (slice_index_or p i []) v ∷ line v (earlier p i) =
     line-more p v (i + 1) here ∙ ap (λ cs. cell_in (slice_index_or p (i + 1) []) v ∷ cs) (line-more p v i (omega (arith, here))) in
-    after_rest (cell_in (slice_index_or p i []) v) (cell_in (slice_index_or p (i + 1) []) v) (line v (earlier p i)) (subst R cells rests) rest
+    after_rest (cell_in (slice_index_or p i []) v) (cell_in (slice_index_or p (i + 1) []) v) (line v (earlier p i)) (subst R cells (rests_earlier ex p (i + 1 + 1) v free orderly)) rest
 
 -- the row of one voice, from its next cell and those after it
 from_next : ℕ → List (List Cell) → List Cell → ℕ → Cell → List Cell → Bool
@@ -81,7 +83,7 @@ voice_same i behind now [] t v some f = absurd (omega (arith, some))
 voice_same i behind now (col ∷ ahead) t v some f = next_tells i behind now v (cell_in col v) (line v (ahead ++ t)) (line v ahead) f
 
 -- two tests that agree for each free voice agree for the voice of a set
-same_on_voice : (ex : Exercise) (f g : ℕ → Bool) (voice : Option ℕ) → ((v : ℕ) → IsFree ex v → f v ≡ g v) → holds_of_voice ex (λ v. is_free ex v && f v) voice ≡ holds_of_voice ex (λ v. is_free ex v && g v) voice
+pub same_on_voice : (ex : Exercise) (f g : ℕ → Bool) (voice : Option ℕ) → ((v : ℕ) → IsFree ex v → f v ≡ g v) → holds_of_voice ex (λ v. is_free ex v && f v) voice ≡ holds_of_voice ex (λ v. is_free ex v && g v) voice
 same_on_voice ex f g None same = refl
 same_on_voice ex f g (Some v) same = at (nat_lt v ex.voices) (v == ex.cantus_voice) refl refl
   where

@@ -5,6 +5,7 @@ pub mod InPlace
 pub mod LateLaws
 pub mod Locality
 pub mod LowerVoices
+pub mod NewestCells
 pub mod Parts
 pub mod Patterns
 pub mod Quavers

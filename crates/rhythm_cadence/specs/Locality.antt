@@ -11,7 +11,7 @@ use Rattle.fux_grid.specs.Letters.{letters_of}
 use Rattle.fux_grid.specs.Orderly.{voice_shapes}
 use Rattle.fux_grid.proofs.ShapeBeginnings.{begins_shape-fewer, letters_of-append, take-append}
 use Rattle.rule_law.specs.Bars.{begins_bar}
-use Rattle.rule_law.specs.Places.{Row, IsUndisturbed, reading_of, settled_by}
+use Rattle.rule_law.specs.Places.{IsUndisturbed, reading_of, settled_by}
 use Rattle.rule_law.specs.Growth.{EnoughStays}
 use Rattle.rule_law.specs.Law.{local_from_row, reads_on, both_true, test_from_below}
 use Rattle.rule_law.specs.BothLaw.{RuleReading, AreLocal, SettleAtEnd}

@@ -1,5 +1,5 @@
 -- The tolls Q15 and Q16: ligatures that are missing, and bars that repeat the bar before.
-use Rattle.std.specs.Prelude.{ℕ, ◌-◌, ◌==◌, Bool, true, false, not, ◌&&◌, ◌||◌, nat_le, List, [], ◌∷◌, length, slice_index_or}
+use Rattle.std.specs.Prelude.{ℕ, ◌+◌, ◌-◌, ◌==◌, Bool, true, false, not, ◌&&◌, ◌||◌, nat_le, List, [], ◌∷◌, length, slice_index_or}
 use Rattle.std.specs.Int.{from_bool}
 use Rattle.std.specs.List.{list_all}
 use Rattle.fux_pitch.specs.Pitch.{same_pitch}
@@ -7,12 +7,12 @@ use Rattle.fux_grid.specs.declared.cell.Cell.{Cell}
 use Rattle.fux_grid.specs.declared.cell.Cell.TheVariants.{Rest, Hold, Start}
 use Rattle.fux_grid.specs.declared.exercise.Exercise.{Exercise}
 use Rattle.fux_grid.specs.Cells.{cell_in}
-use Rattle.fux_grid.specs.Columns.{cell_at}
 use Rattle.fux_grid.specs.Exercises.{slot_of}
 use Rattle.rule_law.specs.Bars.{begins_bar, begins_inner_bar}
-use Rattle.rule_law.specs.Places.{Row, at_once}
+use Rattle.rule_law.specs.Places.{Row}
 use Rattle.rule_law.specs.Nearby.{NearRow}
 use Rattle.rule_law.specs.Terms.{starts}
+use Rattle.rhythm_cadence.specs.NewestCells.{bar_behind}
 
 -- Q15: in species 4, at the beginning of a bar that is neither the first nor the last, the species voice starts a note
 abbrev pub lacks_ligature : Exercise → ℕ → List Cell → Bool
@@ -61,12 +61,11 @@ pattern_enough ex i behind now ahead = not (begins_bar i) || nat_le 7 (length ah
 
 -- ---- the same from cells that stand among the newest ones
 
--- a voice has in these eight columns, the last of which is column i, the cells that it had eight columns earlier
-abbrev pub repeats_at : List (List Cell) → ℕ → ℕ → Bool
-repeats_at s v i = same_cell (cell_at s v (i - 8)) (cell_at s v i)
-
-abbrev pub repeats_bar_at : List (List Cell) → ℕ → ℕ → Bool
-repeats_bar_at s v i = list_all (λ back. repeats_at s v (i - back)) (7 ∷ 6 ∷ 5 ∷ 4 ∷ 3 ∷ 2 ∷ 1 ∷ 0 ∷ [])
+-- two lists have the same cells at each of eight places
+abbrev pub same_cells : List Cell → List Cell → Bool
+same_cells xs ys =
+    list_all (λ k. same_cell (slice_index_or xs k Rest) (slice_index_or ys k Rest))
+    (7 ∷ 6 ∷ 5 ∷ 4 ∷ 3 ∷ 2 ∷ 1 ∷ 0 ∷ [])
 
 -- the last column of a bar settles the bar, from the second bar on
 abbrev pub settles_pattern : Exercise → ℕ → Bool
@@ -74,4 +73,6 @@ settles_pattern ex i = nat_le 2 ex.species && (slot_of i == 7) && nat_le 15 i
 
 -- Q16 of the bar that column i, the newest, settles
 abbrev pub pattern_at : Exercise → List (List Cell) → ℕ → Bool
-pattern_at ex s i = settles_pattern ex i && repeats_bar_at s ex.species_voice i
+pattern_at ex s i =
+    settles_pattern ex i
+    && same_cells (bar_behind s ex.species_voice (i - 7)) (bar_behind s ex.species_voice (i + 1))

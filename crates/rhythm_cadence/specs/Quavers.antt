@@ -1,8 +1,7 @@
 -- S25: notes of one slot.
-use Rattle.std.specs.Prelude.{ℕ, ◌+◌, ◌-◌, ◌==◌, Bool, if◌then◌else◌, not, ◌&&◌, ◌||◌, nat_lt, List, length, Option}
+use Rattle.std.specs.Prelude.{ℕ, ◌+◌, Bool, not, ◌&&◌, ◌||◌, nat_lt, List, length, Option}
 use Rattle.fux_pitch.specs.declared.pitch.Pitch.{Pitch}
 use Rattle.fux_grid.specs.declared.cell.Cell.{Cell}
-use Rattle.fux_grid.specs.declared.cell.Cell.TheVariants.{Rest}
 use Rattle.fux_grid.specs.declared.exercise.Exercise.{Exercise}
 use Rattle.fux_grid.specs.Cells.{cell_in, is_hold, pitch_of}
 use Rattle.fux_grid.specs.Columns.{cell_at, line, newest_column}
@@ -11,6 +10,7 @@ use Rattle.rule_law.specs.Places.{Row}
 use Rattle.rule_law.specs.Terms.{holds_of, interval_of_pitches, is_step, previous_pitch, starts}
 use Rattle.rule_law.specs.Whole.{is_whole}
 use Rattle.rule_law.specs.Voices.{on_free_voice}
+use Rattle.rhythm_cadence.specs.NewestCells.{cell_before}
 
 -- a note of exactly one slot starts: the column after it, where there is one, doesn't hold it
 abbrev pub starts_quaver : List Cell → List (List Cell) → ℕ → Bool
@@ -36,10 +36,6 @@ abbrev pub quaver_enough : Exercise → ℕ → Row Bool
 quaver_enough ex voices i behind now ahead = nat_lt 0 (length ahead) || is_whole ex i ahead
 
 -- ---- the same from cells that stand among the newest ones
-
--- the cell of a voice before column i, a rest before the first one
-abbrev pub cell_before : List (List Cell) → ℕ → ℕ → Cell
-cell_before s v i = if i == 0 then Rest else cell_at s v (i - 1)
 
 -- a note of exactly one slot starts between two cells, and isn't entered and left by a step
 abbrev pub is_bad_quaver : Cell → Cell → Cell → Bool

@@ -1,7 +1,9 @@
 //! S22: the cadence at the beginning of the last bar.
 
 ghost use Rattle.std.specs.Prelude.{◌≡◌, ◌+◌, ◌-◌, ◌==◌, ◌<◌, ◌≤◌, ◌&&◌, [], List, nat_lt, length, slice_index_or};
+ghost use Rattle.std.specs.List.{list_all};
 ghost use Rattle.fux_grid.specs.declared.cell.Cell.{Cell as ACell};
+ghost use Rattle.fux_grid.specs.Cells.{is_hold};
 ghost use Rattle.fux_grid.specs.Exercises.{IsValid};
 ghost use Rattle.fux_grid.specs.Columns.{earlier};
 ghost use Rattle.rule_law.specs.Forms.{set_of_all};
@@ -9,6 +11,7 @@ ghost use Rattle.rule_law.specs.Newest.{AreNewestOf};
 ghost use Rattle.rule_law.specs.Places.{reading_of};
 ghost use Rattle.rhythm_cadence.specs.Cadence as words;
 ghost use Rattle.rhythm_cadence.specs.Cadence.{cadence_row};
+ghost use Rattle.rhythm_cadence.specs.NewestCells.{bar_behind};
 
 use crate::newest::{bar_behind, cell_at};
 use crate::rows::{begins_last_bar, is_final};
@@ -163,13 +166,23 @@ pub fn breaks_cadence(ex: &Exercise, score: &Score, i: usize, voices: VoiceSet) 
         || is_shown_by(ex, score, i, 3))
 }
 
+/// Whether all these cells hold a note.
+fn are_held(cells: &[Cell]) -> bool
+    ensures { result ≡ list_all is_hold cells.now }
+{
+    cells.iter().all(|cell| cell.is_hold())
+}
+
 /// The pitch of the note that is held in exactly so many of the newest of these cells, and started before them.
 fn held_pitch(cells: &[Cell], held: usize) -> Option<Pitch>
     requires { held < length cells.now }
     ensures { result ≡ words.held_pitch held cells.now }
 {
+    if !are_held(&cells[..held]) {
+        return None;
+    }
     match cells[held] {
-        Cell::Start(p) if cells[..held].iter().all(|cell| cell.is_hold()) => Some(p),
+        Cell::Start(p) => Some(p),
         _ => None,
     }
 }
@@ -180,7 +193,7 @@ fn ends_well(newest: &NewestColumns, ex: &Exercise, i: usize, v: u8) -> bool
     requires place { 8 ≤ i }
     ensures { (s : List (List ACell)) → AreNewestOf ex.now.voices s newest.now → length s ≤ i + 1
         → result ≡ (nat_lt v ex.now.voices
-        && words.ends_well ex.now (slice_index_or s (i - 8) []) (words.bar_behind s v i) (slice_index_or s i []) v) }
+        && words.ends_well ex.now (slice_index_or s (i - 8) []) (bar_behind s v i) (slice_index_or s i []) v) }
 {
     if v >= ex.voices {
         return false;
@@ -197,6 +210,25 @@ fn ends_well(newest: &NewestColumns, ex: &Exercise, i: usize, v: u8) -> bool
     !has_suspension(species) || holds_suspension(ex, newest.at(i - 8, ex.voices as usize), lead, v)
 }
 
+/// Whether some voice shows its cadence there.
+fn some_ends_well(newest: &NewestColumns, ex: &Exercise, i: usize) -> bool
+    requires voices { ex.now.voices ≤ 4 }
+    requires place { 8 ≤ i }
+    ensures { (s : List (List ACell)) → AreNewestOf ex.now.voices s newest.now → length s ≤ i + 1
+        → result ≡ words.some_ends_well ex.now s i }
+{
+    if ends_well(newest, ex, i, 0) {
+        return true;
+    }
+    if ends_well(newest, ex, i, 1) {
+        return true;
+    }
+    if ends_well(newest, ex, i, 2) {
+        return true;
+    }
+    ends_well(newest, ex, i, 3)
+}
+
 /// S22, read from the newest columns, at the newest.
 pub(crate) fn lacks_cadence(newest: &NewestColumns, ex: &Exercise, voices: VoiceSet) -> bool
     requires valid { IsValid ex.now }
@@ -205,11 +237,8 @@ pub(crate) fn lacks_cadence(newest: &NewestColumns, ex: &Exercise, voices: Voice
         → result ≡ words.lacks_cadence_at ex.now s (newest.now.len - 1) voices.bits }
 {
     let i = newest.len - 1;
-    if !begins_last_bar(ex, i) || !has_all_voices(ex, voices) {
+    if !begins_last_bar(ex, i) {
         return false;
     }
-    !(ends_well(newest, ex, i, 0)
-        || ends_well(newest, ex, i, 1)
-        || ends_well(newest, ex, i, 2)
-        || ends_well(newest, ex, i, 3))
+    has_all_voices(ex, voices) && !some_ends_well(newest, ex, i)
 }

@@ -76,11 +76,13 @@ pub fn breaks_late(
         → IsAmong ((rule_row rule).first ex.now (length p)) ((rule_row rule).count ex.now (length p)) place
         → result ≡ newly_breaks (rule_row rule) ex.now voices.bits p col place }
 {
-    match rule {
-        3 => breaks_shapes(part, ex, voices),
-        22 => lacks_cadence(newest, ex, voices),
-        _ => has_bad_quaver(newest, ex, voices, place),
+    if rule == 3 {
+        return breaks_shapes(part, ex, voices);
     }
+    if rule == 22 {
+        return lacks_cadence(newest, ex, voices);
+    }
+    has_bad_quaver(newest, ex, voices, place)
 }
 
 /// The places at which column `i` may settle what a late toll costs.

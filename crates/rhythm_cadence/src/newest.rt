@@ -4,8 +4,7 @@ ghost use Rattle.std.specs.Prelude.{◌≡◌, ◌+◌, ◌-◌, ◌≤◌, ◌<
 ghost use Rattle.fux_grid.specs.declared.cell.Cell.{Cell as ACell};
 ghost use Rattle.fux_grid.specs.Columns as columns;
 ghost use Rattle.rule_law.specs.Newest.{AreNewestOf};
-ghost use Rattle.rhythm_cadence.specs.Cadence as words;
-ghost use Rattle.rhythm_cadence.specs.Quavers as quavers;
+ghost use Rattle.rhythm_cadence.specs.NewestCells as words;
 
 use fux_grid::{Cell, Exercise, cell_of};
 use rule_law::NewestColumns;
@@ -25,7 +24,7 @@ pub(crate) fn cell_at(newest: &NewestColumns, ex: &Exercise, v: u8, i: usize) ->
 pub(crate) fn cell_before(newest: &NewestColumns, ex: &Exercise, v: u8, i: usize) -> Cell
     requires { ex.now.voices ≤ 4 }
     ensures { (s : List (List ACell)) → AreNewestOf ex.now.voices s newest.now
-        → length s ≤ i + 23 → result ≡ quavers.cell_before s v i }
+        → length s ≤ i + 23 → result ≡ words.cell_before s v i }
 {
     if i == 0 {
         return Cell::Rest;

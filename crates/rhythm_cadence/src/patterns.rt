@@ -2,14 +2,14 @@
 
 ghost use Rattle.std.specs.Prelude.{◌≡◌, ◌+◌, ◌-◌, ◌<◌, ◌≤◌, [], List, length, drop, slice_index_or};
 ghost use Rattle.fux_grid.specs.declared.cell.Cell.{Cell as ACell};
-ghost use Rattle.fux_grid.specs.Exercises.{IsValid};
+ghost use Rattle.fux_grid.specs.Exercises.{IsValid, columns_in};
 ghost use Rattle.fux_grid.specs.Columns.{earlier};
 ghost use Rattle.rule_law.specs.Newest.{AreNewestOf};
 ghost use Rattle.rule_law.specs.Places.{reading_of, settled_by};
 ghost use Rattle.rhythm_cadence.specs.Patterns as words;
 ghost use Rattle.rhythm_cadence.specs.Patterns.{pattern_enough, pattern_toll};
 
-use crate::newest::cell_at;
+use crate::newest::bar_behind;
 use fux_grid::{Cell, Exercise, Score, cell_of};
 use rule_law::{NewestColumns, begins_bar, begins_inner_bar, starts};
 
@@ -111,32 +111,35 @@ pub(crate) fn settles_pattern(ex: &Exercise, i: usize) -> bool
     ex.species >= 2 && i % 8 == 7 && i >= 15
 }
 
-/// Whether the species voice has at column `i` the cell that it had eight columns earlier.
-fn repeats_at(newest: &NewestColumns, ex: &Exercise, i: usize) -> bool
-    requires voices { ex.now.voices ≤ 4 }
-    requires place { 8 ≤ i }
-    ensures { (s : List (List ACell)) → AreNewestOf ex.now.voices s newest.now → length s ≤ i + 16
-        → result ≡ words.repeats_at s ex.now.species_voice i }
+/// Whether the cells of two bars, from the newest to the oldest, are the same.
+fn same_cells(a: &[Cell; 8], b: &[Cell; 8]) -> bool
+    ensures { result ≡ words.same_cells a.now b.now }
 {
-    let v = ex.species_voice;
-    same_cell(cell_at(newest, ex, v, i - 8), cell_at(newest, ex, v, i))
+    same_cell(a[7], b[7])
+        && same_cell(a[6], b[6])
+        && same_cell(a[5], b[5])
+        && same_cell(a[4], b[4])
+        && same_cell(a[3], b[3])
+        && same_cell(a[2], b[2])
+        && same_cell(a[1], b[1])
+        && same_cell(a[0], b[0])
 }
 
 /// Q16, read from the newest columns, of the bar that the newest one settles.
 pub(crate) fn ends_pattern(newest: &NewestColumns, ex: &Exercise) -> bool
     requires valid { IsValid ex.now }
     requires begun { 0 < newest.now.len }
+    requires room { newest.now.len ≤ columns_in ex.now }
     ensures { (s : List (List ACell)) → AreNewestOf ex.now.voices s newest.now
         → result ≡ words.pattern_at ex.now s (newest.now.len - 1) }
 {
     let i = newest.len - 1;
-    settles_pattern(ex, i)
-        && repeats_at(newest, ex, i - 7)
-        && repeats_at(newest, ex, i - 6)
-        && repeats_at(newest, ex, i - 5)
-        && repeats_at(newest, ex, i - 4)
-        && repeats_at(newest, ex, i - 3)
-        && repeats_at(newest, ex, i - 2)
-        && repeats_at(newest, ex, i - 1)
-        && repeats_at(newest, ex, i)
+    if !settles_pattern(ex, i) {
+        return false;
+    }
+    let v = ex.species_voice;
+    same_cells(
+        &bar_behind(newest, ex, v, i - 7),
+        &bar_behind(newest, ex, v, i + 1),
+    )
 }

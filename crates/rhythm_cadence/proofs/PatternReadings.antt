@@ -1,0 +1,105 @@
+-- What is read of Q15 and Q16 from the newest columns is what the tolls cost there (`ligature_reading`, `pattern_reading`).
+use Rattle.std.specs.Prelude.{◌≡◌, ℕ, ◌+◌, ◌-◌, ◌%◌, ◌≤◌, ◌==◌, Bool, true, false, not, ◌&&◌, nat_le, nat_lt, List, [], ◌∷◌, ◌++◌, if◌then◌else◌, length, drop, slice_index_or, refl}
+use Rattle.std.specs.Int.{from_bool}
+use Rattle.std.proofs.Common.{ap, sym, ◌∙◌, add-one, arith, drop-cons}
+use Rattle.std.proofs.Math.Seq.{get_or-append_seam, get_or-drop}
+use Rattle.std.proofs.lemmas.Bool.{and_from, and_parts, eq-eqb, eqb-true}
+use Rattle.std.proofs.lemmas.Bool.Decides.{nat_tests}
+use Rattle.std.proofs.lemmas.List.{length-append, length-drop}
+use Rattle.fux_grid.specs.declared.cell.Cell.{Cell}
+use Rattle.fux_grid.specs.declared.exercise.Exercise.{Exercise}
+use Rattle.fux_grid.specs.Cells.{cell_in}
+use Rattle.fux_grid.specs.Columns.{cell_at, earlier}
+use Rattle.fux_grid.specs.Exercises.{slot_of}
+use Rattle.fux_grid.proofs.Histories.{get_or-earlier}
+use Rattle.rule_law.specs.AtOnce.{newly_costs-at_once}
+use Rattle.rule_law.specs.Bars.{begins_bar, begins_inner_bar}
+use Rattle.rule_law.specs.Places.{reading_of}
+use Rattle.rule_law.specs.Rulebooks.{IsAmong, newly_costs}
+use Rattle.rhythm_cadence.specs.Book.{ligature_row, pattern_row}
+use Rattle.rhythm_cadence.specs.NewestCells.{bar_behind}
+use Rattle.rhythm_cadence.specs.Patterns.{lacks_ligature, pattern_at, repeats_bar, repeats_slot, same_cell, same_cells, settles_pattern}
+use Rattle.rhythm_cadence.proofs.BookLaws.{pattern_newly}
+
+-- ---- Q15
+
+pub ligature_reading : (ex : Exercise) (p : List (List Cell)) (col : List Cell) (i : ℕ)
+    → IsAmong (length p) (ligature_row.count ex (length p)) i
+    → newly_costs ligature_row ex p col i ≡ from_bool (lacks_ligature ex (length p) (slice_index_or (p ++ col ∷ []) (length p) []))
+ligature_reading ex p col i = at ((ex.species == 4) && begins_inner_bar ex (length p))
+  where
+    at : (b : Bool) → IsAmong (length p) (if b then 1 else 0) i
+        → newly_costs ligature_row ex p col i ≡ from_bool (lacks_ligature ex (length p) (slice_index_or (p ++ col ∷ []) (length p) []))
+    at false a = absurd (omega (arith, a.from, a.to))
+    at true a =
+        let here : i ≡ length p = omega (arith, a.from, a.to) in
+        ap (newly_costs ligature_row ex p col) here
+        ∙ newly_costs-at_once ligature_row ex (λ i behind now ahead. refl) p col
+        ∙ ap (λ now. from_bool (lacks_ligature ex (length p) now)) (sym (get_or-append_seam p col [] []))
+
+-- ---- Q16
+
+module _ (s : List (List Cell)) (v i : ℕ) (second : 8 ≤ i) (whole : i + 8 ≡ length s) where
+  columns : slice_index_or s i [] ∷ drop (i + 1) s ≡ drop i s
+  columns = ap (λ k. slice_index_or s i [] ∷ drop k s) (add-one i) ∙ sym (drop-cons s i [] (omega (arith, whole)))
+
+  slot_reading : (k a b : ℕ) → k ≤ 7 → a + 8 ≡ i + k → b ≡ i + k
+      → repeats_slot v (earlier s i) (slice_index_or s i []) (drop (i + 1) s) k ≡ same_cell (cell_at s v a) (cell_at s v b)
+  slot_reading k a b h e f =
+      let far : i - 1 - (7 - k) ≡ a = omega (arith, e, second, h) in
+      ap (λ c. same_cell (cell_in c v) (cell_in (slice_index_or (slice_index_or s i [] ∷ drop (i + 1) s) k []) v))
+      (get_or-earlier s i (7 - k) (omega (arith, second)) (omega (arith, whole)) ∙ ap (λ n. slice_index_or s n []) far)
+      ∙ ap (λ c. same_cell (cell_at s v a) (cell_in c v))
+      (ap (λ cs. slice_index_or cs k []) columns ∙ get_or-drop i s k [] ∙ ap (λ n. slice_index_or s n []) (sym f))
+
+  bar_reading : repeats_bar v (earlier s i) (slice_index_or s i []) (drop (i + 1) s) ≡ same_cells (bar_behind s v i) (bar_behind s v (i + 8))
+  bar_reading =
+      let seven : nat_le 7 (length (drop (i + 1) s)) ≡ true = enough (length (drop (i + 1) s)) (omega (arith, whole, length-drop (i + 1) s)) in
+      rw (seven, slot_reading 0 (i - 8) (i + 8 - 8) (omega arith) (omega (arith, second)) (omega arith),
+      slot_reading 1 (i - 7) (i + 8 - 7) (omega arith) (omega (arith, second)) (omega arith),
+      slot_reading 2 (i - 6) (i + 8 - 6) (omega arith) (omega (arith, second)) (omega arith),
+      slot_reading 3 (i - 5) (i + 8 - 5) (omega arith) (omega (arith, second)) (omega arith),
+      slot_reading 4 (i - 4) (i + 8 - 4) (omega arith) (omega (arith, second)) (omega arith),
+      slot_reading 5 (i - 3) (i + 8 - 3) (omega arith) (omega (arith, second)) (omega arith),
+      slot_reading 6 (i - 2) (i + 8 - 2) (omega arith) (omega (arith, second)) (omega arith),
+      slot_reading 7 (i - 1) (i + 8 - 1) (omega arith) (omega (arith, second)) (omega arith)) refl
+    where
+      enough : (n : ℕ) → 7 ≤ n → nat_le 7 n ≡ true
+      enough n h = grind (arith, nat_tests)
+
+-- where a bar begins, and where the newest column ends it
+bar_facts : (ex : Exercise) (n : ℕ) → settles_pattern ex n ≡ true
+    → (nat_le 2 ex.species ≡ true) × (begins_bar (n - 7) ≡ true) × (nat_le 8 (n - 7) ≡ true) × (8 ≤ n - 7) × (n - 7 + 7 ≡ n)
+bar_facts ex n e =
+    let outer = and_parts (nat_le 2 ex.species && (slot_of n == 7)) (nat_le 15 n) e in
+    let inner = and_parts (nat_le 2 ex.species) (slot_of n == 7) outer.0 in
+    let seven : n % 8 ≡ 7 = eqb-true (n % 8) 7 inner.1 in
+    let far : 15 ≤ n = grind (arith, nat_tests, outer.1) in
+    let zero : (n - 7) % 8 ≡ 0 = omega (arith, seven, far) in
+    (inner.0, eq-eqb ((n - 7) % 8) 0 zero, grind (arith, nat_tests, far), omega (arith, far), omega (arith, far))
+
+pub pattern_reading : (ex : Exercise) (p : List (List Cell)) (col : List Cell) (i : ℕ)
+    → IsAmong (length p - 7) (pattern_row.count ex (length p)) i
+    → newly_costs pattern_row ex p col i ≡ from_bool (pattern_at ex (p ++ col ∷ []) (length p))
+pattern_reading ex p col i = at (settles_pattern ex (length p)) refl
+  where
+    within : (i n : ℕ) → i + 7 ≡ n → (nat_lt (i + 7) (n + 1) && not (nat_lt (i + 7) n)) ≡ true
+    within i n e = grind (arith, nat_tests, e)
+
+    at : (b : Bool) → settles_pattern ex (length p) ≡ b → IsAmong (length p - 7) (if b then 1 else 0) i
+        → newly_costs pattern_row ex p col i ≡ from_bool (pattern_at ex (p ++ col ∷ []) (length p))
+    at false e a = absurd (omega (arith, a.from, a.to))
+    at true e a =
+        let here : i ≡ length p - 7 = omega (arith, a.from, a.to) in
+        let facts = bar_facts ex (length p) e in
+        let ends : length p - 7 + 7 ≡ length p = facts.4 in
+        let whole : length p - 7 + 8 ≡ length (p ++ col ∷ []) = omega (arith, ends, length-append p (col ∷ [])) in
+        let next : length p - 7 + 8 ≡ length p + 1 = omega (arith, ends) in
+        ap (newly_costs pattern_row ex p col) here
+        ∙ ap (λ b. if b then reading_of (pattern_row.cost ex) (p ++ col ∷ []) (length p - 7) else 0)
+        (pattern_newly ex p col (length p - 7) facts.1 ∙ within (length p - 7) (length p) ends)
+        ∙ ap (λ b. from_bool (b && repeats_bar ex.species_voice (earlier (p ++ col ∷ []) (length p - 7)) (slice_index_or (p ++ col ∷ []) (length p - 7) []) (drop (length p - 7 + 1) (p ++ col ∷ []))))
+        (and_from (nat_le 2 ex.species && begins_bar (length p - 7)) (nat_le 8 (length p - 7)) (and_from (nat_le 2 ex.species) (begins_bar (length p - 7)) facts.0 facts.1) facts.2)
+        ∙ ap from_bool (bar_reading (p ++ col ∷ []) ex.species_voice (length p - 7) facts.3 whole)
+        ∙ ap (λ n. from_bool (same_cells (bar_behind (p ++ col ∷ []) ex.species_voice (length p - 7)) (bar_behind (p ++ col ∷ []) ex.species_voice n))) next
+        ∙ sym (ap (λ b. from_bool (b && same_cells (bar_behind (p ++ col ∷ []) ex.species_voice (length p - 7)) (bar_behind (p ++ col ∷ []) ex.species_voice (length p + 1)))) e)
