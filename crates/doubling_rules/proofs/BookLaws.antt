@@ -18,7 +18,8 @@ use Rattle.doubling_rules.specs.Locality.{cost_is_local, cost_settles_at_end, do
 use Rattle.doubling_rules.specs.Rows.{cost_of_column, count_thirds, double_leading, doubles_third, is_before_last_bar, lacks_third, sounds_leading, straying_notes, wide_pairs}
 
 -- in no bar but the one before the last is S23 broken
-elsewhere : (ex : Exercise) (voices i : ℕ) (now : List Cell) → is_before_last_bar ex i ≡ false → on_pair ex (double_leading ex i now) voices ≡ false
+elsewhere : (ex : Exercise) (voices i : ℕ) (now : List Cell)
+    → is_before_last_bar ex i ≡ false → on_pair ex (double_leading ex i now) voices ≡ false
 elsewhere ex voices i now none =
     on_pair-none ex (double_leading ex i now) voices
     (λ v w. ap (λ b. b && sounds_leading ex now v && sounds_leading ex now w && one_starts now v w) none)
@@ -36,6 +37,10 @@ free n ex i now = at (n == 3) (n == 4) (n == 5)
     at false false true h = ap (λ t. from_bool (t && nat_le 2 (count_thirds now))) h
     at false false false h = cc
 
+most : (b : Bool) (i : ℕ) → i + (if b then 1 else 0) ≤ i + 1
+most true i = omega arith
+most false i = omega arith
+
 pub rules_keep : (n : ℕ) → KeepsRuleLaws (rule_row n)
 rules_keep n = record {
   local = doubling_is_local n;
@@ -45,13 +50,10 @@ rules_keep n = record {
   stands = λ ex voices i behind now e. cc;
   at_once = λ e. cc;
   quiet = λ e. cc;
-  places = λ e ex voices p col i on h. breaks_where_it_may (rule_row n) ex voices (λ i behind now ahead. refl) p col (is_before_last_bar ex (length p)) (elsewhere ex voices (length p) col) i h;
+  places = λ e ex voices p col i on h. breaks_where_it_may (rule_row n) ex voices (λ i behind now ahead. refl) p col
+      (is_before_last_bar ex (length p)) (elsewhere ex voices (length p) col) i h;
   within = λ ex i. most (is_before_last_bar ex i) i;
 }
-  where
-    most : (b : Bool) (i : ℕ) → i + (if b then 1 else 0) ≤ i + 1
-    most true i = omega arith
-    most false i = omega arith
 
 pub tolls_keep : (n : ℕ) → KeepsTollLaws (toll_row n)
 tolls_keep n = record {
@@ -60,13 +62,10 @@ tolls_keep n = record {
   ends = cost_settles_at_end n;
   at_once = λ e. cc;
   quiet = λ e. cc;
-  places = λ e ex p col i on h. costs_where_it_may (toll_row n) ex (λ i behind now ahead. refl) p col (may_cost n ex (length p)) (free n ex (length p) col) i h;
+  places = λ e ex p col i on h. costs_where_it_may (toll_row n) ex (λ i behind now ahead. refl) p col
+      (may_cost n ex (length p)) (free n ex (length p) col) i h;
   within = λ ex i. most (may_cost n ex i) i;
 }
-  where
-    most : (b : Bool) (i : ℕ) → i + (if b then 1 else 0) ≤ i + 1
-    most true i = omega arith
-    most false i = omega arith
 
 pub keeps_laws : KeepsLaws book
 keeps_laws = record { rules = λ n h. rules_keep n; tolls = λ n h. tolls_keep n }

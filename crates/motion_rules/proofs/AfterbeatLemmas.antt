@@ -3,13 +3,13 @@ use Rattle.std.specs.Prelude.{◌≡◌, ℕ, Bool, true, false, ◌&&◌, nat_l
 use Rattle.std.proofs.Common.{ap, ◌∙◌}
 use Rattle.fux_grid.specs.declared.cell.Cell.{Cell}
 use Rattle.fux_grid.specs.declared.exercise.Exercise.{Exercise}
-use Rattle.fux_grid.specs.Cells.{cell_in, pitch_of}
 use Rattle.fux_grid.specs.Columns.{newest_column}
 use Rattle.rule_law.specs.Voices.{holds_of_pair, on_pair, pair_of}
-use Rattle.motion_rules.specs.Afterbeats.{afterbeat_row, arrive_at_bar, never_leaves, newest_cells}
+use Rattle.motion_rules.specs.Afterbeats.{afterbeat_row, arrive_at_bar, stays_since_bar}
 
 -- a test of two voices, and a fact that doesn't depend on them
-on_pair-and : (ex : Exercise) (test : ℕ → ℕ → Bool) (also : Bool) (voices : ℕ) → on_pair ex (λ v w. test v w && also) voices ≡ (on_pair ex test voices && also)
+on_pair-and : (ex : Exercise) (test : ℕ → ℕ → Bool) (also : Bool) (voices : ℕ)
+    → on_pair ex (λ v w. test v w && also) voices ≡ (on_pair ex test voices && also)
 on_pair-and ex test also voices = at (pair_of voices)
   where
     three : (a b c : Bool) → (a && (b && c)) ≡ ((a && b) && c)
@@ -21,19 +21,11 @@ on_pair-and ex test also voices = at (pair_of voices)
     at (Some pair) = three (nat_lt pair.1 ex.voices) (test pair.0 pair.1) also
 
 module _ (ex : Exercise) (voices i : ℕ) (behind : List (List Cell)) (now : List Cell) (ahead : List (List Cell)) where
-  stays : Bool
-  stays = never_leaves (pitch_of (cell_in (slice_index_or behind 7 []) ex.species_voice)) (newest_cells behind ex.species_voice)
-
-  arrive : ℕ → ℕ → Bool
-  arrive = arrive_at_bar ex i (slice_index_or behind 7 []) now
-
-  pub kept_if_apart : on_pair ex (arrive_at_bar ex i (slice_index_or behind 7 []) now) voices ≡ false → afterbeat_row ex voices i behind now ahead ≡ false
-  unfolding stays arrive
-  kept_if_apart e = on_pair-and ex arrive stays voices ∙ ap (λ b. b && stays) e
-
-  pub broken_if_near : on_pair ex (arrive_at_bar ex i (slice_index_or behind 7 []) now) voices ≡ true → afterbeat_row ex voices i behind now ahead ≡ never_leaves (pitch_of (cell_in (slice_index_or behind 7 []) ex.species_voice)) (newest_cells behind ex.species_voice)
-  unfolding stays arrive
-  broken_if_near e = on_pair-and ex arrive stays voices ∙ ap (λ b. b && stays) e
+  pub kept_if_apart : on_pair ex (arrive_at_bar ex i (slice_index_or behind 7 []) now) voices ≡ false
+      → afterbeat_row ex voices i behind now ahead ≡ false
+  kept_if_apart e =
+      on_pair-and ex (arrive_at_bar ex i (slice_index_or behind 7 []) now) (stays_since_bar behind ex.species_voice) voices
+      ∙ ap (λ b. b && stays_since_bar behind ex.species_voice) e
 
 -- the newest column is the first one
 pub newest-first : (behind : List (List Cell)) → newest_column behind ≡ slice_index_or behind 0 []

@@ -35,8 +35,11 @@ toll_quiet n ex i behind now h = at (n == 14)
     at false = quiet_tolls ex i now h n (newest_column behind) (previous_pitches behind)
 
 -- where S18 may not be broken, no two voices break it
-elsewhere : (ex : Exercise) (voices i : ℕ) (behind : List (List Cell)) (now : List Cell) → may_be_bare ex i ≡ false → afterbeat_row ex voices i behind now [] ≡ false
-elsewhere ex voices i behind now none = on_pair-none ex _ voices (λ v w. at (moves_within_bars ex.species) (begins_bar i) (nat_le 8 i) (has_species_voice ex v w) _ _ none)
+elsewhere : (ex : Exercise) (voices i : ℕ) (behind : List (List Cell)) (now : List Cell)
+    → may_be_bare ex i ≡ false → afterbeat_row ex voices i behind now [] ≡ false
+elsewhere ex voices i behind now none =
+    on_pair-none ex _ voices
+    (λ v w. at (moves_within_bars ex.species) (begins_bar i) (nat_le 8 i) (has_species_voice ex v w) _ _ none)
   where
     at : (a b c x y z : Bool) → (a && b && c) ≡ false → (a && x && b && c && y && z) ≡ false
     at true true true x y z h = cc
@@ -59,7 +62,8 @@ late_rules_keep n = record {
   stands = λ ex voices i behind now h. within_a_bar ex voices i behind now h;
   at_once = λ e. cc;
   quiet = λ e. cc;
-  places = λ e ex voices p col i on h. breaks_where_it_may (late_row n) ex voices (λ i behind now ahead. refl) p col (may_be_bare ex (length p)) (elsewhere ex voices (length p) (reverse p) col) i h;
+  places = λ e ex voices p col i on h. breaks_where_it_may (late_row n) ex voices (λ i behind now ahead. refl) p col
+      (may_be_bare ex (length p)) (elsewhere ex voices (length p) (reverse p) col) i h;
   within = λ ex i. most (may_be_bare ex i) i;
 }
 
@@ -84,7 +88,8 @@ rules_keep n = at (is_late n)
     at false = rules_at_once_keep n
 
 -- in two voices Q12 costs nothing
-two_voices : (ex : Exercise) (before now : List Cell) → nat_le 3 ex.voices ≡ false → (if nat_le 3 ex.voices then count_pairs (inner_move_into_perfect ex before now) else 0) ≡ 0
+two_voices : (ex : Exercise) (before now : List Cell) → nat_le 3 ex.voices ≡ false
+    → (if nat_le 3 ex.voices then count_pairs (inner_move_into_perfect ex before now) else 0) ≡ 0
 two_voices ex before now h = rw h refl
 
 late_tolls_keep : (n : ℕ) → KeepsTollLaws (late_toll n)
@@ -94,7 +99,8 @@ late_tolls_keep n = record {
   ends = inner_settles_at_end;
   at_once = λ e. cc;
   quiet = λ e. cc;
-  places = λ e ex p col i on h. costs_where_it_may (late_toll n) ex (λ i behind now ahead. refl) p col (nat_le 3 ex.voices) (two_voices ex (newest_column (reverse p)) col) i h;
+  places = λ e ex p col i on h. costs_where_it_may (late_toll n) ex (λ i behind now ahead. refl) p col
+      (nat_le 3 ex.voices) (two_voices ex (newest_column (reverse p)) col) i h;
   within = λ ex i. most (nat_le 3 ex.voices) i;
 }
 

@@ -4,19 +4,29 @@ use Rattle.fux_grid.specs.declared.cell.Cell.{Cell}
 use Rattle.fux_grid.specs.declared.exercise.Exercise.{Exercise}
 use Rattle.fux_grid.specs.Columns.{earlier, newest_column}
 use Rattle.rule_law.specs.AtOnce.{among_own, newly_costs-there}
-use Rattle.rule_law.specs.Rulebooks.{IsAmong, newly_costs}
+use Rattle.rule_law.specs.Rulebooks.{IsAmong, TollRow, newly_costs}
 use Rattle.motion_rules.specs.Book.{at_once_toll, is_late_toll, late_toll, toll_row}
 use Rattle.motion_rules.specs.InnerVoices.{inner_moves}
 
+-- what Q12 costs at a place of a list
+abbrev inner_cost : Exercise → List (List Cell) → ℕ → ℕ
+inner_cost ex s i = inner_moves ex (newest_column (earlier s i)) (slice_index_or s i [])
+
 -- at a place that the newest column may settle: it is the newest column, and what is newly settled there is Q12
 module _ (toll : ℕ) (ex : Exercise) (p : List (List Cell)) (col : List Cell) (place : ℕ) where
-  pub newly_inner : IsTrue (toll_row toll).late → IsAmong ((toll_row toll).first ex (length p)) ((toll_row toll).count ex (length p)) place
-      → (place ≡ length p) × (newly_costs (toll_row toll) ex p col place ≡ inner_moves ex (newest_column (earlier (p ++ col ∷ []) place)) (slice_index_or (p ++ col ∷ []) place []))
+  abbrev IsInnerAt : TollRow → Type 0
+  IsInnerAt it = (place ≡ length p) × (newly_costs it ex p col place ≡ inner_cost ex (p ++ col ∷ []) place)
+
+  abbrev row : Bool → TollRow
+  row b = if b then late_toll toll else at_once_toll toll
+
+  pub newly_inner : IsTrue (toll_row toll).late
+      → IsAmong ((toll_row toll).first ex (length p)) ((toll_row toll).count ex (length p)) place
+      → IsInnerAt (toll_row toll)
   newly_inner = at (is_late_toll toll)
     where
-      at : (b : Bool) → IsTrue (if b then late_toll toll else at_once_toll toll).late
-          → IsAmong ((if b then late_toll toll else at_once_toll toll).first ex (length p)) ((if b then late_toll toll else at_once_toll toll).count ex (length p)) place
-          → (place ≡ length p) × (newly_costs (if b then late_toll toll else at_once_toll toll) ex p col place ≡ inner_moves ex (newest_column (earlier (p ++ col ∷ []) place)) (slice_index_or (p ++ col ∷ []) place []))
+      at : (b : Bool) → IsTrue (row b).late → IsAmong ((row b).first ex (length p)) ((row b).count ex (length p)) place
+          → IsInnerAt (row b)
       at true h among =
           let own : place ≡ length p = among_own (nat_le 3 ex.voices) place (length p) among in
           (own, newly_costs-there (late_toll toll) ex (λ i behind now ahead. refl) p col place own)

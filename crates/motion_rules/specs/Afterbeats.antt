@@ -48,11 +48,15 @@ arrive_at_bar ex i bar_line now v w =
     && begins_bar i && nat_le 8 i
     && arrive_in_parallel bar_line now v w
 
--- S18: they have, and the notes that the species voice starts between stay near the pitch that it sounds at the bar before
+-- the notes that a voice starts since the beginning of the bar before stay near the pitch that it sounds there
+abbrev pub stays_since_bar : List (List Cell) → ℕ → Bool
+stays_since_bar behind v =
+    never_leaves (pitch_of (cell_in (slice_index_or behind 7 []) v)) (newest_cells behind v)
+
+-- S18: they have arrived so, and the species voice stays near
 abbrev pub is_bare_parallel : Exercise → ℕ → List (List Cell) → List Cell → ℕ → ℕ → Bool
 is_bare_parallel ex i behind now v w =
-    arrive_at_bar ex i (slice_index_or behind 7 []) now v w
-    && never_leaves (pitch_of (cell_in (slice_index_or behind 7 []) ex.species_voice)) (newest_cells behind ex.species_voice)
+    arrive_at_bar ex i (slice_index_or behind 7 []) now v w && stays_since_bar behind ex.species_voice
 
 abbrev pub afterbeat_row : Exercise → ℕ → Row Bool
 afterbeat_row ex voices i behind now ahead = on_pair ex (is_bare_parallel ex i behind now) voices
