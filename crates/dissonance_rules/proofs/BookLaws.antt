@@ -1,23 +1,20 @@
 -- The rules and tolls of dissonance keep the laws of a crate's book.
-use Rattle.std.specs.Prelude.{◌≡◌, ◌≢◌, ℕ, ◌+◌, ◌-◌, ◌*◌, ◌%◌, ◌<◌, ◌≤◌, ◌==◌, ◌&&◌, ◌||◌, Bool, true, false, not, nat_le, nat_lt, List, [], ◌∷◌, ◌++◌, IsTrue, length, if◌then◌else◌, refl}
-use Rattle.std.proofs.Common.{ap, sym, ◌∙◌, subst, arith}
-use Rattle.std.proofs.lemmas.Bool.{and_parts, cond_both, eqb-true}
-use Rattle.std.proofs.lemmas.Bool.Decides.{nat_tests}
+use Rattle.std.specs.Prelude.{◌≡◌, ℕ, ◌+◌, ◌-◌, ◌≤◌, ◌==◌, ◌&&◌, ◌||◌, Bool, true, false, nat_le, nat_lt, List, [], if◌then◌else◌, refl}
+use Rattle.std.proofs.Common.{ap, arith}
+use Rattle.std.proofs.lemmas.Bool.{cond_both}
 use Rattle.fux_grid.specs.declared.cell.Cell.{Cell}
 use Rattle.fux_grid.specs.declared.exercise.Exercise.{Exercise}
 use Rattle.fux_grid.specs.Cells.{cell_in}
 use Rattle.fux_grid.specs.Columns.{newest_column}
 use Rattle.fux_grid.specs.Exercises.{bar_of, slot_of}
 use Rattle.rule_law.specs.declared.table.Stands.TheVariants.{Anywhere, AtBars}
-use Rattle.rule_law.specs.AtOnce.{breaks_at_own_place}
 use Rattle.rule_law.specs.Bars.{begins_bar}
 use Rattle.rule_law.specs.Forms.{IsOf, may_stand, pair_form, pair_sets_of}
 use Rattle.rule_law.specs.Growth.{EnoughStays}
-use Rattle.rule_law.specs.Nearby.{previous_pitches, whole_of}
+use Rattle.rule_law.specs.Nearby.{previous_pitches}
 use Rattle.rule_law.specs.Pairs.{sound_same_key}
-use Rattle.rule_law.specs.Prefixes.{GoesOn}
-use Rattle.rule_law.specs.Quiet.{is_quiet, and_none, either_none, on_pair-none}
-use Rattle.rule_law.specs.Rulebooks.{IsAmong, KeepsLaws, KeepsRuleLaws, KeepsTollLaws, newly_breaks}
+use Rattle.rule_law.specs.Quiet.{either_none, on_pair-none}
+use Rattle.rule_law.specs.Rulebooks.{KeepsLaws, KeepsRuleLaws, KeepsTollLaws}
 use Rattle.rule_law.specs.Terms.{clash, starts}
 use Rattle.rule_law.specs.Voices.{is_free}
 use Rattle.rule_law.specs.Ways.{holds_some_way}

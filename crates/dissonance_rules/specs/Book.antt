@@ -20,18 +20,21 @@ has_rule n = (n == 11) || (n == 14) || is_late n
 abbrev pub has_toll : ℕ → Bool
 has_toll n = (n == 1) || (n == 2)
 
--- how many columns before the newest one S15 may be open for a voice of a species: until its next note, or in species 5 the one after
--- that, which come by the middle of the bars that follow
+-- how many columns before the newest one S15 may be open for a voice of a species: until its next note, or in species 3 and 5 the one
+-- after that. In florid bars, but for the first, a note starts by the middle
 abbrev pub reach : ℕ → ℕ
-reach species = if species == 5 then 19 else (if species == 4 then 8 else 4)
+reach species =
+    if (species == 2) || (species == 3) then 4
+    else (if species == 4 then 8
+    else 19)
 
--- a voice of a species, other than species 1, may start a note in a column, or the last bar begins there
+-- a voice of a species, other than species 1, may start a note in a column
 abbrev pub may_settle : ℕ → ℕ → Bool
 may_settle species i =
     if species == 1 then false
-    else (if species == 5 then not (i % 4 == 1)
+    else (if (species == 2) || (species == 4) then i % 4 == 0
     else (if species == 3 then i % 2 == 0
-    else i % 4 == 0))
+    else not (i % 4 == 1)))
 
 -- the places of S15: a clash stays open for so many columns at most, and is settled where a note may start
 abbrev pub passing_count : Exercise → ℕ → ℕ

@@ -1,5 +1,5 @@
 -- S15 and S20 wait for later columns. Once settled they read the same in each prefix that goes on, and so in each setting; S19 and S21 do at once.
-use Rattle.std.specs.Prelude.{◌≡◌, ◌≢◌, ℕ, suc, ◌+◌, ◌-◌, ◌*◌, ◌/◌, ◌%◌, ◌<◌, ◌≤◌, ◌==◌, Bool, true, false, not, ◌&&◌, ◌||◌, nat_le, nat_lt, List, [], ◌∷◌, ◌++◌, Option, Some, None, is_some, IsTrue, length, drop, slice_index_or, if◌then◌else◌, refl}
+use Rattle.std.specs.Prelude.{◌≡◌, ◌≢◌, ℕ, suc, ◌+◌, ◌-◌, ◌*◌, ◌<◌, ◌≤◌, Bool, true, false, not, ◌&&◌, ◌||◌, nat_le, nat_lt, List, [], ◌∷◌, ◌++◌, Option, Some, None, is_some, IsTrue, length, drop, slice_index_or, if◌then◌else◌, refl}
 use Rattle.std.proofs.Common.{ap, sym, ◌∙◌, subst, arith}
 use Rattle.std.proofs.Math.ListN.{get_or-append}
 use Rattle.std.proofs.lemmas.Bool.{or_parts}
@@ -12,22 +12,22 @@ use Rattle.fux_grid.specs.declared.cell.Onset.{Onset}
 use Rattle.fux_grid.specs.declared.exercise.Exercise.{Exercise}
 use Rattle.fux_grid.specs.Cells.{cell_in, first_of, onsets_from, pitch_of}
 use Rattle.fux_grid.specs.Columns.{earlier, line}
-use Rattle.fux_grid.specs.Exercises.{bar_of, columns_in, slot_of, species_in}
+use Rattle.fux_grid.specs.Exercises.{bar_of, slot_of, species_in}
 use Rattle.fux_grid.specs.Menus.{IsInMenu}
 use Rattle.rule_law.specs.After.{next_onset, onset_pitch, onsets_after, second_next_onset, second_of}
 use Rattle.rule_law.specs.Bars.{begins_bar}
 use Rattle.rule_law.specs.Growth.{EnoughStays}
-use Rattle.rule_law.specs.LateLaw.{StaysAhead, by_either, ends_when_whole, local_from_ahead, local_or_whole, whole_same, whole_stays}
-use Rattle.rule_law.specs.Law.{at_once_settles, local_from_row}
+use Rattle.rule_law.specs.LateLaw.{StaysAhead, ends_when_whole, local_from_ahead, local_or_whole, whole_stays}
+use Rattle.rule_law.specs.Law.{local_from_row}
 use Rattle.rule_law.specs.Places.{IsLocal, IsUndisturbed, SettlesAtEnd, reading_of, settled_by}
 use Rattle.rule_law.specs.Prefixes.{GoesOn}
 use Rattle.rule_law.specs.Terms.{is_clean, previous_pitch, starts}
-use Rattle.rule_law.specs.Voices.{holds_of_pair, is_free, on_pair, pair_of}
+use Rattle.rule_law.specs.Voices.{holds_of_pair, is_free, pair_of}
 use Rattle.rule_law.specs.Ways.{holds_some_way, on_some_way}
 use Rattle.rule_law.specs.Whole.{is_whole}
 use Rattle.rule_law.proofs.NextPitch.{last_bar_holds}
-use Rattle.dissonance_rules.specs.Clashes.{clash_enough, clash_row, clash_rule, passing_enough, resolution_enough}
-use Rattle.dissonance_rules.specs.Ligatures.{is_suspended, lacks_resolution, resolves}
+use Rattle.dissonance_rules.specs.Clashes.{clash_enough, clash_row, passing_enough, resolution_enough}
+use Rattle.dissonance_rules.specs.Ligatures.{is_suspended, resolves}
 use Rattle.dissonance_rules.specs.Passing.{clashes_badly, has_notes_after, has_ornaments, is_cambiata, is_good, is_good_note, is_neighbor, is_open_clash, is_passing, next_is_clean, reaches_last_bar, starts_clean, starts_in_clash}
 
 -- ---- S20
@@ -94,7 +94,7 @@ first_from_second [] h = cc
 first_from_second (x ∷ xs) h = refl
 
 -- the notes of a voice ahead, and those of the columns after
-onsets_after-append : (i v : ℕ) (ahead t : List (List Cell)) → onsets_after i v (ahead ++ t) ≡ onsets_after i v ahead ++ onsets_from (i + 1 + length (line v ahead)) (line v t)
+pub onsets_after-append : (i v : ℕ) (ahead t : List (List Cell)) → onsets_after i v (ahead ++ t) ≡ onsets_after i v ahead ++ onsets_from (i + 1 + length (line v ahead)) (line v t)
 onsets_after-append i v ahead t =
     ap (onsets_from (i + 1)) (map-append (λ col. cell_in col v) ahead t) ∙ onsets-append (i + 1) (line v ahead) (line v t)
 
@@ -155,7 +155,7 @@ notes_same species i behind now ahead t v h = at (has_ornaments species) refl
         good_same species i behind now ahead t v (first one) (λ k. no_way (sym e ∙ k))
 
 -- columns without a start have no notes
-no_onsets : (n v : ℕ) (t : List (List Cell)) → ((k : ℕ) → k < length t → starts (cell_in (slice_index_or t k []) v) ≡ false) → onsets_from n (line v t) ≡ []
+pub no_onsets : (n v : ℕ) (t : List (List Cell)) → ((k : ℕ) → k < length t → starts (cell_in (slice_index_or t k []) v) ≡ false) → onsets_from n (line v t) ≡ []
 no_onsets n v [] none = refl
 no_onsets n v (col ∷ t) none =
     no_first n (cell_in col v) (line v t) (none 0 (omega arith)) (no_onsets (suc n) v t (λ k here. none (suc k) (omega (arith, here))))

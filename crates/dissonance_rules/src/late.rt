@@ -1,13 +1,27 @@
 //! Breaks of the late rules that the newest column settles, read from the newest columns.
 
-ghost use Rattle.std.specs.Prelude.{◌≡◌, ◌≤◌, ◌<◌, ◌∷◌, ◌++◌, [], ℕ, List, IsTrue, length};
+ghost use Rattle.std.specs.Prelude.{◌≡◌, ◌≤◌, ◌<◌, ◌+◌, ◌&&◌, ◌∷◌, ◌++◌, [], ℕ, List, IsTrue, true, length, drop, take, slice_index_or};
 ghost use Rattle.fux_grid.specs.declared.cell.Cell.{Cell as ACell};
+ghost use Rattle.fux_grid.specs.Columns.{earlier};
 ghost use Rattle.fux_grid.specs.Exercises.{IsValid, columns_in};
+ghost use Rattle.rule_law.specs.Newest.{AreNewestOf};
+ghost use Rattle.rule_law.specs.Growth.{newly};
+ghost use Rattle.rule_law.specs.Places.{reading_of, settled_by};
+ghost use Rattle.rule_law.specs.Prefixes.{GoesOn};
+ghost use Rattle.rule_law.specs.Rulebooks.{IsAmong, newly_breaks};
+ghost use Rattle.rule_law.specs.Voices as voices;
+ghost use Rattle.rule_law.specs.Ways.{on_some_way};
 ghost use Rattle.dissonance_rules.specs.Book as book;
 ghost use Rattle.dissonance_rules.specs.Book.{rule_row};
+ghost use Rattle.dissonance_rules.specs.Clashes.{clash_row, clash_rule, passing_enough};
+ghost use Rattle.dissonance_rules.specs.Kept.{IsKept};
+ghost use Rattle.dissonance_rules.specs.Passing as passing;
 
-use fux_grid::Exercise;
-use rule_law::{LatePlaces, begins_bar};
+use crate::kept::column_at;
+use crate::ligatures::{is_bad_suspension, lacks_preparation_kept, lacks_resolution_kept};
+use crate::passing::{clashes_badly_kept, is_open_kept};
+use fux_grid::{Exercise, VoiceSet};
+use rule_law::{LatePlaces, NewestColumns, begins_bar, is_free, pair_of};
 
 /// Whether a rule is late: S15, S19, S20 or S21.
 #[inline]
@@ -17,15 +31,15 @@ pub(crate) fn is_late(rule: u8) -> bool
     rule == 15 || rule == 19 || rule == 20 || rule == 21
 }
 
-/// Whether a voice of a species may start a note in column `i`, or the last bar begins there.
+/// Whether a voice of a species, other than species 1, may start a note in column `i`.
 fn may_settle(species: u8, i: usize) -> bool
     ensures { result ≡ book.may_settle species i }
 {
     match species {
         1 => false,
-        5 => i % 4 != 1,
+        2 | 4 => i % 4 == 0,
         3 => i % 2 == 0,
-        _ => i % 4 == 0,
+        _ => i % 4 != 1,
     }
 }
 
@@ -35,9 +49,9 @@ fn reach(species: u8) -> usize
     ensures few { result ≤ 19 }
 {
     match species {
-        5 => 19,
+        2 | 3 => 4,
         4 => 8,
-        _ => 4,
+        _ => 19,
     }
 }
 
@@ -78,4 +92,129 @@ pub fn places_settled(rule: u8, ex: &Exercise, i: usize) -> LatePlaces
             count: usize::from(begins_bar(i)),
         },
     }
+}
+
+/// Whether `v` is free and breaks a late rule for one way to name the voices, by the newest columns.
+fn breaks_one_way(newest: &NewestColumns, rule: u8, ex: &Exercise, i: usize, v: u8, w: u8) -> bool
+    requires voices { ex.now.voices ≤ 4 }
+    requires room { newest.now.len ≤ 192 }
+    requires place { i < newest.now.len }
+    ensures { (s : List (List ACell)) → IsKept ex.now newest.now s i
+        → result ≡ (voices.is_free ex.now v
+        && clash_rule rule ex.now i (earlier s i) (slice_index_or s i []) (drop (i + 1) s) v w) }
+{
+    if !is_free(ex, v) {
+        return false;
+    }
+    match rule {
+        15 => clashes_badly_kept(newest, ex, i, v, w),
+        19 => lacks_preparation_kept(newest, ex, i, v, w),
+        20 => lacks_resolution_kept(newest, ex, i, v, w),
+        _ => is_bad_suspension(i, column_at(newest, ex, i), v as usize, w as usize),
+    }
+}
+
+/// Whether a late rule is broken at column `i` for a set of voices, by the newest columns.
+fn breaks_kept(newest: &NewestColumns, rule: u8, ex: &Exercise, i: usize, voices: VoiceSet) -> bool
+    requires voices { ex.now.voices ≤ 4 }
+    requires room { newest.now.len ≤ 192 }
+    requires place { i < newest.now.len }
+    ensures { (s : List (List ACell)) → IsKept ex.now newest.now s i
+        → result ≡ reading_of (clash_row rule ex.now voices.bits) s i }
+{
+    let Some((v, w)) = pair_of(voices) else {
+        return false;
+    };
+    if w >= ex.voices {
+        return false;
+    }
+    breaks_one_way(newest, rule, ex, i, v, w) || breaks_one_way(newest, rule, ex, i, w, v)
+}
+
+/// Whether `v` is free and S15 is open for one way to name the voices in the first columns of the list.
+fn is_open_one_way(
+    newest: &NewestColumns,
+    ex: &Exercise,
+    i: usize,
+    end: usize,
+    v: u8,
+    w: u8,
+) -> bool
+    requires valid { IsValid ex.now }
+    requires within { end ≤ newest.now.len }
+    requires place { i < end }
+    ensures { (s : List (List ACell)) → IsKept ex.now newest.now s i
+        → result ≡ (voices.is_free ex.now v
+        && passing.is_open_clash ex.now i (slice_index_or s i []) (drop (i + 1) (take end s)) v w) }
+{
+    is_free(ex, v) && is_open_kept(newest, ex, i, end, v, w)
+}
+
+/// Whether S15 is open for a set of voices in the first columns of the list.
+fn is_passing_open(
+    newest: &NewestColumns,
+    ex: &Exercise,
+    i: usize,
+    end: usize,
+    voices: VoiceSet,
+) -> bool
+    requires valid { IsValid ex.now }
+    requires within { end ≤ newest.now.len }
+    requires place { i < end }
+    ensures { (s : List (List ACell)) → IsKept ex.now newest.now s i
+        → result ≡ on_some_way ex.now (passing.is_open_clash ex.now i (slice_index_or s i [])
+        (drop (i + 1) (take end s))) voices.bits }
+{
+    let Some((v, w)) = pair_of(voices) else {
+        return false;
+    };
+    if w >= ex.voices {
+        return false;
+    }
+    is_open_one_way(newest, ex, i, end, v, w) || is_open_one_way(newest, ex, i, end, w, v)
+}
+
+/// Whether the newest column settles S15 at a place: it isn't open any more, and was before.
+fn settles_passing(newest: &NewestColumns, ex: &Exercise, voices: VoiceSet, place: usize) -> bool
+    requires valid { IsValid ex.now }
+    requires place { place < newest.now.len }
+    ensures { (p : List (List ACell)) (col : List ACell) → IsKept ex.now newest.now (p ++ col ∷ []) place
+        → result ≡ newly (settled_by (passing_enough ex.now voices.bits)) p col place }
+{
+    if is_passing_open(newest, ex, place, newest.len, voices) {
+        return false;
+    }
+    if place + 1 == newest.len {
+        return true;
+    }
+    is_passing_open(newest, ex, place, newest.len - 1, voices)
+}
+
+/// Whether the newest column settles a break of a late rule at one of its places, where the column comes after an orderly prefix.
+pub fn breaks_late(
+    newest: &NewestColumns,
+    rule: u8,
+    ex: &Exercise,
+    voices: VoiceSet,
+    place: usize,
+) -> bool
+    requires late { IsTrue (rule_row rule).late }
+    requires valid { IsValid ex.now }
+    requires begun { 0 < newest.now.len }
+    requires room { newest.now.len ≤ columns_in ex.now }
+    ensures { (p : List (List ACell)) (col : List ACell)
+        → AreNewestOf ex.now.voices (p ++ col ∷ []) newest.now → GoesOn ex.now p (col ∷ [])
+        → IsAmong ((rule_row rule).first ex.now (length p)) ((rule_row rule).count ex.now (length p)) place
+        → result ≡ newly_breaks (rule_row rule) ex.now voices.bits p col place }
+{
+    if place >= newest.len {
+        return false;
+    }
+    if !breaks_kept(newest, rule, ex, place, voices) {
+        return false;
+    }
+    if rule != 15 {
+        return true;
+    }
+    settles_passing(newest, ex, voices, place)
 }

@@ -1,12 +1,17 @@
 //! S19, S20 and S21: a voice that holds a note over a bar line and clashes there.
 
-ghost use Rattle.std.specs.Prelude.{◌≡◌, ◌+◌, ◌<◌, [], length, drop, slice_index_or};
+ghost use Rattle.std.specs.Prelude.{◌≡◌, ◌+◌, ◌<◌, ◌≤◌, [], List, length, drop, slice_index_or};
+ghost use Rattle.fux_grid.specs.declared.cell.Cell.{Cell as ACell};
 ghost use Rattle.fux_grid.specs.Columns.{earlier};
 ghost use Rattle.rule_law.specs.Terms as terms;
+ghost use Rattle.dissonance_rules.specs.Kept.{IsKept};
 ghost use Rattle.dissonance_rules.specs.Ligatures as words;
 
-use fux_grid::{Cell, Score, cell_of};
-use rule_law::{begins_bar, interval_in, is_clash, is_clean, lies_above, lowest, starts};
+use crate::kept::{column_ahead, column_at, column_behind};
+use fux_grid::{Cell, Exercise, Score, cell_of};
+use rule_law::{
+    NewestColumns, begins_bar, interval_in, is_clash, is_clean, lies_above, lowest, starts,
+};
 
 /// Whether at the beginning of a bar `v` holds a note, and clashes with `w`.
 pub fn is_suspended(i: usize, now: &[Cell], v: usize, w: usize) -> bool
@@ -43,6 +48,29 @@ pub(crate) fn lacks_preparation(score: &Score, i: usize, v: u8, w: u8) -> bool
     )
 }
 
+/// S19 by the newest columns.
+pub(crate) fn lacks_preparation_kept(
+    newest: &NewestColumns,
+    ex: &Exercise,
+    i: usize,
+    v: u8,
+    w: u8,
+) -> bool
+    requires { ex.now.voices ≤ 4 }
+    ensures { (s : List (List ACell)) → IsKept ex.now newest.now s i
+        → result ≡ words.lacks_preparation i (earlier s i) (slice_index_or s i []) v w }
+{
+    if !is_suspended(i, column_at(newest, ex, i), v as usize, w as usize) {
+        return false;
+    }
+    is_unprepared(
+        column_behind(newest, ex, i, 0),
+        column_behind(newest, ex, i, 1),
+        column_behind(newest, ex, i, 2),
+        v as usize,
+    )
+}
+
 /// Whether a suspended voice resolves: it is held in the next column, and in the fourth a note starts, one degree below, where it is clean.
 pub fn resolves(now: &[Cell], next: &[Cell], fourth: &[Cell], v: usize) -> bool
     ensures { result ≡ words.resolves now.now next.now fourth.now v }
@@ -65,6 +93,32 @@ pub(crate) fn lacks_resolution(score: &Score, i: usize, v: u8, w: u8) -> bool
         return false;
     }
     !resolves(now, score.later(i, 0), score.later(i, 3), v as usize)
+}
+
+/// S20 by the newest columns.
+pub(crate) fn lacks_resolution_kept(
+    newest: &NewestColumns,
+    ex: &Exercise,
+    i: usize,
+    v: u8,
+    w: u8,
+) -> bool
+    requires voices { ex.now.voices ≤ 4 }
+    requires room { newest.now.len ≤ 192 }
+    requires place { i < newest.now.len }
+    ensures { (s : List (List ACell)) → IsKept ex.now newest.now s i
+        → result ≡ words.lacks_resolution i (slice_index_or s i []) (drop (i + 1) s) v w }
+{
+    let now = column_at(newest, ex, i);
+    if !is_suspended(i, now, v as usize, w as usize) {
+        return false;
+    }
+    !resolves(
+        now,
+        column_ahead(newest, ex, i, 0),
+        column_ahead(newest, ex, i, 3),
+        v as usize,
+    )
 }
 
 /// Whether a voice is the lowest that sounds.

@@ -1,15 +1,22 @@
 //! S15: notes that start within a bar and clash, and what makes them good: passing notes, neighbors and the cambiata.
 
-ghost use Rattle.std.specs.Prelude.{◌≡◌, ◌+◌, ◌<◌, [], length, drop, slice_index_or};
+ghost use Rattle.std.specs.Prelude.{◌≡◌, ◌+◌, ◌-◌, ◌*◌, ◌<◌, ◌≤◌, ◌&&◌, [], ℕ, List, IfSome, true, not, nat_lt, length, drop, take, slice_index_or};
+ghost use Rattle.fux_grid.specs.declared.cell.Cell.{Cell as ACell};
+ghost use Rattle.fux_grid.specs.Cells.{first_of};
 ghost use Rattle.fux_grid.specs.Columns.{earlier};
-ghost use Rattle.fux_grid.specs.Exercises.{IsValid, columns_in};
+ghost use Rattle.fux_grid.specs.Exercises.{IsValid, columns_in, species_in};
+ghost use Rattle.rule_law.specs.After.{second_of};
+ghost use Rattle.rule_law.specs.Bars as terms;
+ghost use Rattle.rule_law.specs.Voices.{is_free};
+ghost use Rattle.dissonance_rules.specs.Kept.{IsKept, notes_within};
 ghost use Rattle.dissonance_rules.specs.Passing as words;
 
+use crate::kept::{column_ahead, column_at, column_behind, note_within};
 use fux_grid::{Cell, Exercise, Onset, Score, cell_of, species_of};
 use fux_pitch::{Pitch, interval_of};
 use rule_law::{
-    begins_bar, falls, is_clash, is_clean, is_step, lies_above, next_onset, onset_pitch,
-    previous_pitch, same_way, second_next_onset, starts,
+    NewestColumns, begins_bar, falls, is_clash, is_clean, is_step, lies_above, next_onset,
+    onset_pitch, previous_pitch, same_way, second_next_onset, starts,
 };
 
 /// A passing note: the move to it and the move from it are steps the same way.
@@ -126,26 +133,34 @@ pub fn starts_in_clash(now: &[Cell], v: usize, w: usize) -> bool
     starts(cell_of(now, v)) && is_clash(now, v, w)
 }
 
+/// Whether a note of `v` starts within a bar, and clashes with `w`.
+#[inline]
+fn clashes_within_bar(i: usize, now: &[Cell], v: usize, w: usize) -> bool
+    ensures { result ≡ (not (terms.begins_bar i) && words.starts_in_clash now.now v w) }
+{
+    !begins_bar(i) && starts_in_clash(now, v, w)
+}
+
 /// S15, for one way to name the voices: whether a note of `v` starts within a bar and clashes with `w`, and isn't good.
 pub(crate) fn clashes_badly(ex: &Exercise, score: &Score, i: usize, v: u8, w: u8) -> bool
     requires { i < length score.now.columns }
     ensures { result ≡ words.clashes_badly ex.now i (earlier score.now.columns i)
         (slice_index_or score.now.columns i []) (drop (i + 1) score.now.columns) v w }
 {
-    if begins_bar(i) || !starts_in_clash(score.column(i).as_slice(), v as usize, w as usize) {
+    if !clashes_within_bar(i, score.column(i).as_slice(), v as usize, w as usize) {
         return false;
     }
     !is_good_note(score, species_of(ex, v), i, v)
 }
 
-/// Whether the score has a column of the last bar.
-fn reaches_last_bar(ex: &Exercise, score: &Score, i: usize) -> bool
-    requires valid { IsValid ex.now }
-    requires place { i < length score.now.columns }
-    ensures { result ≡ words.reaches_last_bar ex.now i (drop (i + 1) score.now.columns) }
+/// Whether so many columns have one of the last bar.
+#[inline]
+fn reaches_last_bar(ex: &Exercise, columns: usize) -> bool
+    requires { IsValid ex.now }
+    ensures { result ≡ nat_lt (8 * (ex.now.bars - 1)) columns }
 {
     let bars = usize::from(ex.bars);
-    score.len() > 8 * (bars - 1)
+    columns > 8 * (bars - 1)
 }
 
 /// Whether the score has as many notes of `v` after column `i` as tell what the note there is.
@@ -169,5 +184,120 @@ pub(crate) fn is_open_clash(ex: &Exercise, score: &Score, i: usize, v: u8, w: u8
     if !starts_in_clash(score.column(i).as_slice(), v as usize, w as usize) {
         return false;
     }
-    !(has_notes_after(score, species_of(ex, v), i, v) || reaches_last_bar(ex, score, i))
+    !(has_notes_after(score, species_of(ex, v), i, v) || reaches_last_bar(ex, score.len()))
+}
+
+/// The next two notes that a voice starts after a column.
+#[derive(Clone, Copy, Debug, PartialEq, Eq)]
+struct NextNotes {
+    first: Option<Onset>,
+    second: Option<Onset>,
+}
+
+/// Those after column `i`, in the first columns of the list whose newest ones are kept.
+fn next_notes(newest: &NewestColumns, ex: &Exercise, i: usize, v: u8, end: usize) -> NextNotes
+    requires voices { ex.now.voices ≤ 4 }
+    requires within { end ≤ newest.now.len }
+    requires place { i < end }
+    ensures first { (s : List (List ACell)) → IsKept ex.now newest.now s i
+        → result.first ≡ first_of (notes_within s end v (i + 1)) }
+    ensures second { (s : List (List ACell)) → IsKept ex.now newest.now s i
+        → result.second ≡ second_of (notes_within s end v (i + 1)) }
+    ensures later { IfSome result.first (λ onset. i < onset.start) }
+    ensures there { IfSome result.first (λ onset. onset.start < end) }
+{
+    let first = note_within(newest, ex, v, i + 1, end);
+    let second = match first {
+        Some(onset) => note_within(newest, ex, v, onset.start + 1, end),
+        None => None,
+    };
+    NextNotes { first, second }
+}
+
+/// Whether a voice is clean where a note starts.
+fn is_clean_at(newest: &NewestColumns, ex: &Exercise, i: usize, v: u8, note: Option<Onset>) -> bool
+    requires voices { ex.now.voices ≤ 4 }
+    requires room { newest.now.len ≤ 192 }
+    requires place { i < newest.now.len }
+    requires later { IfSome note (λ onset. i < onset.start) }
+    requires there { IfSome note (λ onset. onset.start < newest.now.len) }
+    ensures { (s : List (List ACell)) → IsKept ex.now newest.now s i
+        → result ≡ words.starts_clean i (drop (i + 1) s) v note }
+{
+    match note {
+        Some(onset) => is_clean(
+            column_ahead(newest, ex, i, onset.start - (i + 1)),
+            v as usize,
+        ),
+        None => false,
+    }
+}
+
+/// Whether the note of a voice that starts at column `i` is good, by the newest columns.
+fn is_good_kept(newest: &NewestColumns, ex: &Exercise, i: usize, v: u8) -> bool
+    requires voices { ex.now.voices ≤ 4 }
+    requires room { newest.now.len ≤ 192 }
+    requires place { i < newest.now.len }
+    ensures { (s : List (List ACell)) → IsKept ex.now newest.now s i → is_free ex.now v ≡ true
+        → result ≡ words.is_good_note (species_in ex.now v) i (earlier s i) (slice_index_or s i [])
+        (drop (i + 1) s) v }
+{
+    let next = next_notes(newest, ex, i, v, newest.len);
+    is_good(
+        species_of(ex, v),
+        cell_of(column_behind(newest, ex, i, 0), v as usize).pitch(),
+        cell_of(column_at(newest, ex, i), v as usize).pitch(),
+        onset_pitch(next.first),
+        is_clean_at(newest, ex, i, v, next.first),
+        onset_pitch(next.second),
+    )
+}
+
+/// S15 by the newest columns, as `clashes_badly`.
+pub(crate) fn clashes_badly_kept(
+    newest: &NewestColumns,
+    ex: &Exercise,
+    i: usize,
+    v: u8,
+    w: u8,
+) -> bool
+    requires voices { ex.now.voices ≤ 4 }
+    requires room { newest.now.len ≤ 192 }
+    requires place { i < newest.now.len }
+    ensures { (s : List (List ACell)) → IsKept ex.now newest.now s i → is_free ex.now v ≡ true
+        → result ≡ words.clashes_badly ex.now i (earlier s i) (slice_index_or s i [])
+        (drop (i + 1) s) v w }
+{
+    if !clashes_within_bar(i, column_at(newest, ex, i), v as usize, w as usize) {
+        return false;
+    }
+    !is_good_kept(newest, ex, i, v)
+}
+
+/// Whether S15 is open for one way to name the voices in the first columns of the list, by the newest columns.
+pub(crate) fn is_open_kept(
+    newest: &NewestColumns,
+    ex: &Exercise,
+    i: usize,
+    end: usize,
+    v: u8,
+    w: u8,
+) -> bool
+    requires valid { IsValid ex.now }
+    requires within { end ≤ newest.now.len }
+    requires place { i < end }
+    ensures { (s : List (List ACell)) → IsKept ex.now newest.now s i
+        → result ≡ words.is_open_clash ex.now i (slice_index_or s i []) (drop (i + 1) (take end s)) v w }
+{
+    if !starts_in_clash(column_at(newest, ex, i), v as usize, w as usize) {
+        return false;
+    }
+    if reaches_last_bar(ex, end) {
+        return false;
+    }
+    let next = next_notes(newest, ex, i, v, end);
+    if has_ornaments(species_of(ex, v)) {
+        return next.second.is_none();
+    }
+    next.first.is_none()
 }
