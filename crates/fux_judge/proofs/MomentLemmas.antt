@@ -20,7 +20,7 @@ use Rattle.dissonance_rules.specs.Rows as dissonance
 use Rattle.rhythm_cadence.specs.Rows as rhythm
 use Rattle.fux_judge.specs.declared.moment.Moment.{Moment}
 use Rattle.fux_judge.specs.Charges.{is_clashing_toll, is_moving_toll}
-use Rattle.fux_judge.specs.Rules.{is_melodic, is_of_motion, is_of_dissonance, is_of_rhythm, is_of_doubling, is_toll_of_motion, is_toll_of_dissonance, is_toll_of_melody, is_toll_of_rhythm, is_toll_of_doubling, rule_at, toll_at, breaks, enough, costs, is_broken, cost_at, is_late, is_late_toll}
+use Rattle.fux_judge.specs.Rules.{is_melodic, is_of_motion, is_of_dissonance, is_of_rhythm, is_of_doubling, is_toll_of_motion, is_toll_of_dissonance, is_toll_of_melody, is_toll_of_rhythm, is_toll_of_doubling, rule_at, toll_at, breaks, enough, costs, cost_enough, is_broken, cost_at, is_late, is_late_toll}
 use Rattle.fux_judge.specs.Moments.{IsAfter, is_broken_then, with_column}
 
 -- a row of neighbors reads the column before and each voice's previous pitch
@@ -45,6 +45,11 @@ late_of it = it.late
 not_late_row : (b : Bool) (late soon : RuleRow) → late_of late ≡ true → late_of (if b then late else soon) ≡ false → (if b then late else soon) ≡ soon
 not_late_row true late soon l h = let no : true ≡ false = sym l ∙ h in cc
 not_late_row false late soon l h = refl
+
+-- and where it is late, it is the late one
+pub late_chosen : (b : Bool) (late soon : RuleRow) → late_of soon ≡ false → late_of (if b then late else soon) ≡ true → b ≡ true
+late_chosen true late soon s h = refl
+late_chosen false late soon s h = let no : false ≡ true = sym s ∙ h in cc
 
 -- the late rows of rhythm are late
 rhythm_late : (rule : ℕ) → late_of (rhythm_book.late_row rule) ≡ true
@@ -236,6 +241,29 @@ module _ (rule : ℕ) (voices : ℕ) (p : List (List Cell)) (m : Moment) where
 
     pub none_then : is_of_motion rule ≡ false → is_of_dissonance rule ≡ false → is_of_rhythm rule ≡ false → false ≡ is_broken_then rule voices p m
     none_then f g h = broken_then (no_rule.broken m.exercise.now voices) (breaks_of_none rule m.exercise.now voices e f g h (not_doubling rule soon e f g h))
+
+-- but for Q16 each toll is settled at its own column
+module _ (toll : ℕ) (other : (toll == 16) ≡ false) (ex : Exercise) (i : ℕ) (behind : List (List Cell)) (now : List Cell) (ahead : List (List Cell)) where
+  of_motion : (b : Bool) → (if b then motion_book.late_toll toll else motion_book.at_once_toll toll).enough ex i behind now ahead ≡ true
+  of_motion true = refl
+  of_motion false = refl
+
+  of_rhythm : (a b : Bool) → b ≡ false → (if a || b then (if a then rhythm_book.ligature_row else rhythm_book.pattern_row) else no_toll).enough ex i behind now ahead ≡ true
+  of_rhythm a true e = cc
+  of_rhythm true false e = refl
+  of_rhythm false false e = refl
+
+  pub cost_settled_soon : cost_enough toll ex i behind now ahead ≡ true
+  unfolding toll_at
+  cost_settled_soon = at (is_toll_of_melody toll) (is_toll_of_motion toll) (is_toll_of_dissonance toll) (is_toll_of_rhythm toll) (is_toll_of_doubling toll)
+    where
+      at : (a b c d e : Bool) → (if a then melody_book.toll_row toll else (if b then motion_book.toll_row toll else (if c then dissonance_book.toll_row toll else (if d then rhythm_book.toll_row toll else (if e then doubling_book.toll_row toll else no_toll))))).enough ex i behind now ahead ≡ true
+      at true b c d e = refl
+      at false true c d e = of_motion (motion_book.is_late_toll toll)
+      at false false true d e = refl
+      at false false false true e = of_rhythm (toll == 15) (toll == 16) other
+      at false false false false true = refl
+      at false false false false false = refl
 
 abbrev pub late_toll_of : TollRow → Bool
 late_toll_of it = it.late

@@ -13,18 +13,12 @@ returns-then-is_of_motion-clause-value c = λ p col come among.
     c.cost_late.ensures.value p col come.reached.newest come.on (subst P row among)
     ∙ sym (ap (λ (it : TollRow). newly_costs it c.args.ex.now p col c.args.place) row)
 
-pub cost_late-then-is_of_rhythm-requires-clause-late : goal.cost_late-then-is_of_rhythm-requires-clause-late
-cost_late-then-is_of_rhythm-requires-clause-late c = sym (ap late_toll_of (late_toll_rhythm c.args.toll c.requires.late (sym c.if-is_of_motion.ensures) (sym c.if-is_of_rhythm.ensures))) ∙ c.requires.late
-
 pub returns-then-is_of_rhythm-clause-value : goal.returns-then-is_of_rhythm-clause-value
 returns-then-is_of_rhythm-clause-value c = λ p col come among.
     let row = late_toll_rhythm c.args.toll c.requires.late (sym c.if-is_of_motion.ensures) (sym c.if-is_of_rhythm.ensures) in
     let P : TollRow → Type 0 = λ it. IsAmong (it.first c.args.ex.now (length p)) (it.count c.args.ex.now (length p)) c.args.place in
     c.cost_late-then-is_of_rhythm.ensures.value p col come.reached.newest come.on (subst P row among)
     ∙ sym (ap (λ (it : TollRow). newly_costs it c.args.ex.now p col c.args.place) row)
-
-pub cost_late-2-requires-clause-late : goal.cost_late-2-requires-clause-late
-cost_late-2-requires-clause-late c = sym (ap late_toll_of (late_toll_doubling c.args.toll c.requires.late (sym c.if-is_of_motion.ensures) (sym c.if-is_of_rhythm.ensures))) ∙ c.requires.late
 
 pub returns-clause-value : goal.returns-clause-value
 returns-clause-value c = λ p col come among.

@@ -12,17 +12,11 @@ returns-then-is_of_motion-clause-first c = c.toll_places.ensures.first ∙ sym (
 pub returns-then-is_of_motion-clause-count : goal.returns-then-is_of_motion-clause-count
 returns-then-is_of_motion-clause-count c = c.toll_places.ensures.count ∙ sym (ap (λ (it : TollRow). it.count c.args.ex.now c.args.i) (late_toll_motion c.args.toll c.requires.late (sym c.if-is_of_motion.ensures)))
 
-pub toll_places-then-is_of_rhythm-requires-clause-late : goal.toll_places-then-is_of_rhythm-requires-clause-late
-toll_places-then-is_of_rhythm-requires-clause-late c = sym (ap late_toll_of (late_toll_rhythm c.args.toll c.requires.late (sym c.if-is_of_motion.ensures) (sym c.if-is_of_rhythm.ensures))) ∙ c.requires.late
-
 pub returns-then-is_of_rhythm-clause-first : goal.returns-then-is_of_rhythm-clause-first
 returns-then-is_of_rhythm-clause-first c = c.toll_places-then-is_of_rhythm.ensures.first ∙ sym (ap (λ (it : TollRow). it.first c.args.ex.now c.args.i) (late_toll_rhythm c.args.toll c.requires.late (sym c.if-is_of_motion.ensures) (sym c.if-is_of_rhythm.ensures)))
 
 pub returns-then-is_of_rhythm-clause-count : goal.returns-then-is_of_rhythm-clause-count
 returns-then-is_of_rhythm-clause-count c = c.toll_places-then-is_of_rhythm.ensures.count ∙ sym (ap (λ (it : TollRow). it.count c.args.ex.now c.args.i) (late_toll_rhythm c.args.toll c.requires.late (sym c.if-is_of_motion.ensures) (sym c.if-is_of_rhythm.ensures)))
-
-pub toll_places-2-requires-clause-late : goal.toll_places-2-requires-clause-late
-toll_places-2-requires-clause-late c = sym (ap late_toll_of (late_toll_doubling c.args.toll c.requires.late (sym c.if-is_of_motion.ensures) (sym c.if-is_of_rhythm.ensures))) ∙ c.requires.late
 
 pub returns-clause-first : goal.returns-clause-first
 returns-clause-first c = c.toll_places-2.ensures.first ∙ sym (ap (λ (it : TollRow). it.first c.args.ex.now c.args.i) (late_toll_doubling c.args.toll c.requires.late (sym c.if-is_of_motion.ensures) (sym c.if-is_of_rhythm.ensures)))

@@ -1,7 +1,14 @@
 use Rattle.std.proofs.Common.{Bool, ap, sym, ◌∙◌}
 use Rattle.rule_law.specs.Places.{Row, reading_of}
+use Rattle.fux_judge.proofs.CoverLemmas.{covers_dissonance, covers_rhythm}
 use Rattle.fux_judge.proofs.MomentLemmas.{breaks_melodic, breaks_of_motion, breaks_of_dissonance, breaks_of_rhythm, breaks_of_doubling, breaks_of_none}
 use Rattle.fux_judge.proofs.whole.is_broken_in.Goals as goal
+
+pub broken-requires-then-is_of_dissonance-clause-rule : goal.broken-requires-then-is_of_dissonance-clause-rule
+broken-requires-then-is_of_dissonance-clause-rule c = covers_dissonance c.args.rule (sym c.if-is_of_dissonance.ensures)
+
+pub broken-requires-then-is_of_rhythm-clause-rule : goal.broken-requires-then-is_of_rhythm-clause-rule
+broken-requires-then-is_of_rhythm-clause-rule c = covers_rhythm c.args.rule (sym c.if-is_of_rhythm.ensures)
 
 pub returns-then-is_melodic : goal.returns-then-is_melodic
 returns-then-is_melodic c =
