@@ -17,7 +17,7 @@ use Rattle.penalty_sheet.specs.declared.sheet.Sheet.{Sheet}
 use Rattle.penalty_sheet.specs.Weights.{weight_of}
 use Rattle.fux_judge.specs.Charges.{stands, tolls_of_melody, tolls_of_pairs, voice_charge, voice_charges, voice_toll}
 use Rattle.fux_judge.specs.Penalties.{newly_paid}
-use Rattle.fux_judge.specs.Rules.{costs, cost_at, toll_at, tolls_read}
+use Rattle.fux_judge.specs.Rules.{costs, cost_at, toll_at, tolls_at_once}
 use Rattle.fux_judge.specs.Steps.{tolls_at_end, tolls_within}
 
 -- so many of four, by a weight, is the weight for each of them
@@ -61,9 +61,9 @@ module _ (ex : Exercise) (sheet : Sheet) (p : List (List Cell)) (col : List Cell
   unfolding toll_at melody.open_leaps
   thirteen = ap (λ n. n * weight_of sheet 13) (reading-at_end (costs 13 ex) p col) ∙ weighed _ _ _ _ (weight_of sheet 13)
 
-  -- so all tolls at the column are what each voice pays, and the others
+  -- so all tolls that are settled at once are what each voice pays, and the others
   pub tolls_by_voices : tolls_at_end ex sheet p col ≡ voice_charge ex sheet p col 0 + voice_charge ex sheet p col 1 + voice_charge ex sheet p col 2 + voice_charge ex sheet p col 3 + sum_by (λ toll. cost_at toll ex (p ++ col ∷ []) (length p) * weight_of sheet toll) tolls_of_pairs
-  unfolding tolls_read
+  unfolding tolls_at_once
   tolls_by_voices = omega (arith, seven, eight, nine, ten, thirteen)
 
   no_more : (n : ℕ) → n ≤ 4 → voice_charges n ex sheet p col ≤ voice_charge ex sheet p col 0 + voice_charge ex sheet p col 1 + voice_charge ex sheet p col 2 + voice_charge ex sheet p col 3

@@ -20,7 +20,7 @@ use Rattle.dissonance_rules.specs.Apart.{apart_rows, some_come_close}
 use Rattle.rhythm_cadence.specs.InPlace.{in_place_rows, some_out_of_place}
 use Rattle.rhythm_cadence.specs.Rows.{begins_last_bar, fits_ending, holds_of_pitch, is_final}
 use Rattle.fux_judge.specs.declared.moment.Moment.{Moment}
-use Rattle.fux_judge.specs.Rules.{all_sets, is_late, is_melodic, is_of_motion, is_of_dissonance, rule_at, rules_at_once}
+use Rattle.fux_judge.specs.Rules.{all_sets, is_late, is_melodic, is_of_motion, rule_at, rules_at_once}
 use Rattle.fux_judge.specs.Penalties.{is_strict_at}
 use Rattle.fux_judge.specs.Moments.{IsAfter, is_broken_then, is_strictly_broken_then}
 use Rattle.fux_judge.proofs.MomentLemmas.{window_then, melodic_then, motion_then, dissonance_then, rhythm_then}
@@ -30,6 +30,13 @@ use Rattle.fux_judge.proofs.QuietLemmas.{none_passes}
 -- the rules of the last bar alone
 abbrev pub is_of_ending : ℕ → Bool
 is_of_ending rule = (rule == 13) || (rule == 24)
+
+-- the rules of motion that are settled at once, and those of dissonance
+abbrev pub is_moving : ℕ → Bool
+is_moving rule = ((rule == 10) || (rule == 16)) || (rule == 17)
+
+abbrev pub is_close : ℕ → Bool
+is_close rule = (rule == 11) || (rule == 14)
 
 -- the rules of one free voice that isn't of melody
 abbrev pub is_of_place : ℕ → Bool
@@ -57,12 +64,12 @@ pub not_rough : (rough : Bool) → true ≡ not rough → rough ≡ false
 not_rough true h = cc
 not_rough false h = refl
 
-all_of_them : list_all (λ r. not (is_late r)) (1 ∷ 2 ∷ 12 ∷ 13 ∷ 24 ∷ []) ≡ true
+all_of_them : list_all (λ r. not (is_late r)) (1 ∷ 2 ∷ 10 ∷ 11 ∷ 12 ∷ 13 ∷ 14 ∷ 16 ∷ 17 ∷ 24 ∷ []) ≡ true
 unfolding rule_at
 all_of_them = refl
 
-at_once : (rule : ℕ) → list_any (λ other. rule == other) (1 ∷ 2 ∷ 12 ∷ 13 ∷ 24 ∷ []) ≡ true → is_late rule ≡ false
-at_once rule h = not_rough (is_late rule) (sym (one_of (λ r. not (is_late r)) rule (1 ∷ 2 ∷ 12 ∷ 13 ∷ 24 ∷ []) all_of_them h))
+at_once : (rule : ℕ) → list_any (λ other. rule == other) (1 ∷ 2 ∷ 10 ∷ 11 ∷ 12 ∷ 13 ∷ 14 ∷ 16 ∷ 17 ∷ 24 ∷ []) ≡ true → is_late rule ≡ false
+at_once rule h = not_rough (is_late rule) (sym (one_of (λ r. not (is_late r)) rule (1 ∷ 2 ∷ 10 ∷ 11 ∷ 12 ∷ 13 ∷ 14 ∷ 16 ∷ 17 ∷ 24 ∷ []) all_of_them h))
 
 -- likewise of three
 of_three : (P : ℕ → Type 0) (a b c rule : ℕ) → P a → P b → P c → (((rule == a) || (rule == b)) || (rule == c)) ≡ true → P rule
@@ -87,11 +94,11 @@ module _ (p : List (List Cell)) (m : Moment) where
       at voices false e = sym (melodic_then rule voices p m melodic e) ∙ smooth_near_rows m.exercise.now (reverse p) m.column.now smooth rule voices (length p) (newest_column (reverse p))
 
   -- a column in which no two voices move badly keeps the rules of motion
-  motion_kept : some_move_badly m.exercise.now (newest_column (reverse p)) m.column.now ≡ false → (rule : ℕ) → is_of_motion rule ≡ true → is_strictly_broken_then all_sets rule p m ≡ false
-  motion_kept clear rule = of_three (λ rule. is_strictly_broken_then all_sets rule p m ≡ false) 10 16 17 rule (one 10 refl refl) (one 16 refl refl) (one 17 refl refl)
+  motion_kept : some_move_badly m.exercise.now (newest_column (reverse p)) m.column.now ≡ false → (rule : ℕ) → is_moving rule ≡ true → is_strictly_broken_then all_sets rule p m ≡ false
+  motion_kept clear rule = of_three (λ rule. is_strictly_broken_then all_sets rule p m ≡ false) 10 16 17 rule (one 10 refl refl refl) (one 16 refl refl refl) (one 17 refl refl refl)
     where
-      one : (rule : ℕ) → is_melodic rule ≡ false → is_of_motion rule ≡ true → is_strictly_broken_then all_sets rule p m ≡ false
-      one rule e motion = kept_by_all rule (λ voices. sym (motion_then rule voices p m e motion) ∙ clear_rows m.exercise.now (newest_column (reverse p)) m.column.now clear rule voices (length p) (previous_pitches (reverse p)))
+      one : (rule : ℕ) → list_any (λ other. rule == other) (1 ∷ 2 ∷ 10 ∷ 11 ∷ 12 ∷ 13 ∷ 14 ∷ 16 ∷ 17 ∷ 24 ∷ []) ≡ true → is_melodic rule ≡ false → is_of_motion rule ≡ true → is_strictly_broken_then all_sets rule p m ≡ false
+      one rule soon e motion = kept_by_all rule (λ voices. sym (motion_then rule voices p m (at_once rule soon) e motion) ∙ clear_rows m.exercise.now (newest_column (reverse p)) m.column.now clear rule voices (length p) (previous_pitches (reverse p)))
 
   -- a column in which every voice is in place keeps those of one voice
   place_kept : some_out_of_place m.exercise.now (length p) (previous_pitches (reverse p)) m.column.now ≡ false → (rule : ℕ) → is_of_place rule ≡ true → is_strictly_broken_then all_sets rule p m ≡ false
@@ -109,18 +116,18 @@ module _ (p : List (List Cell)) (m : Moment) where
       ∙ on_voice-none m.exercise.now _ voices (λ v. and_none (v == 0) _ (ap (λ b. b && not (holds_of_pitch (is_final m.exercise.now) (pitch_of (cell_in m.column.now 0)))) before))))
 
   -- within a bar no rule of dissonance is broken
-  dissonance_kept : begins_bar (length p) ≡ false → (rule : ℕ) → is_of_dissonance rule ≡ true → is_strictly_broken_then all_sets rule p m ≡ false
+  dissonance_kept : begins_bar (length p) ≡ false → (rule : ℕ) → is_close rule ≡ true → is_strictly_broken_then all_sets rule p m ≡ false
   dissonance_kept within rule = of_two (λ rule. is_strictly_broken_then all_sets rule p m ≡ false) 11 14 rule
-      (kept_by_all 11 (λ voices. sym (dissonance_then 11 voices p m refl refl refl)
+      (kept_by_all 11 (λ voices. sym (dissonance_then 11 voices p m (at_once 11 refl) refl refl refl)
       ∙ on_pair-none m.exercise.now _ voices (λ v w. ap (λ b. (b && nat_le 2 (bar_of (length p)) && nat_lt (bar_of (length p)) m.exercise.now.bars) && sound_same_key m.column.now v w) within)))
-      (kept_by_all 14 (λ voices. sym (dissonance_then 14 voices p m refl refl refl)
+      (kept_by_all 14 (λ voices. sym (dissonance_then 14 voices p m (at_once 14 refl) refl refl refl)
       ∙ on_pair-none m.exercise.now _ voices (λ v w. ap (λ b. b && starts (cell_in m.column.now v) && starts (cell_in m.column.now w) && clash m.column.now v w) within)))
 
   -- nor where no two voices come close
-  closeness_kept : some_come_close m.exercise.now m.column.now ≡ false → (rule : ℕ) → is_of_dissonance rule ≡ true → is_strictly_broken_then all_sets rule p m ≡ false
+  closeness_kept : some_come_close m.exercise.now m.column.now ≡ false → (rule : ℕ) → is_close rule ≡ true → is_strictly_broken_then all_sets rule p m ≡ false
   closeness_kept apart rule = of_two (λ rule. is_strictly_broken_then all_sets rule p m ≡ false) 11 14 rule
-      (kept_by_all 11 (λ voices. sym (dissonance_then 11 voices p m refl refl refl) ∙ apart_rows m.exercise.now m.column.now apart 11 voices (length p) (newest_column (reverse p)) (previous_pitches (reverse p))))
-      (kept_by_all 14 (λ voices. sym (dissonance_then 14 voices p m refl refl refl) ∙ apart_rows m.exercise.now m.column.now apart 14 voices (length p) (newest_column (reverse p)) (previous_pitches (reverse p))))
+      (kept_by_all 11 (λ voices. sym (dissonance_then 11 voices p m (at_once 11 refl) refl refl refl) ∙ apart_rows m.exercise.now m.column.now apart 11 voices (length p) (newest_column (reverse p)) (previous_pitches (reverse p))))
+      (kept_by_all 14 (λ voices. sym (dissonance_then 14 voices p m (at_once 14 refl) refl refl refl) ∙ apart_rows m.exercise.now m.column.now apart 14 voices (length p) (newest_column (reverse p)) (previous_pitches (reverse p))))
 
   -- what a column keeps whose voices are smooth, clear of one another and in place
   pub record IsFair : Type 0 where
@@ -136,7 +143,7 @@ module _ (p : List (List Cell)) (m : Moment) where
     unfolding rules_at_once
     at_the_end =
         left_out (λ rule. is_strictly_broken_then all_sets rule p m) is_of_place (1 ∷ 2 ∷ 11 ∷ 12 ∷ 13 ∷ 14 ∷ 24 ∷ []) r (place_kept fair.placed)
-        ∙ left_out (λ rule. is_strictly_broken_then all_sets rule p m) is_of_motion (1 ∷ 2 ∷ 10 ∷ 11 ∷ 12 ∷ 13 ∷ 14 ∷ 16 ∷ 17 ∷ 24 ∷ []) r (motion_kept fair.clear)
+        ∙ left_out (λ rule. is_strictly_broken_then all_sets rule p m) is_moving (1 ∷ 2 ∷ 10 ∷ 11 ∷ 12 ∷ 13 ∷ 14 ∷ 16 ∷ 17 ∷ 24 ∷ []) r (motion_kept fair.clear)
         ∙ left_out (λ rule. is_strictly_broken_then all_sets rule p m) is_melodic rules_at_once r (melody_kept fair.smooth)
 
     pub at_a_bar : begins_last_bar m.exercise.now (length p) ≡ false → found_in (11 ∷ 14 ∷ []) ≡ found_in rules_at_once
@@ -146,12 +153,12 @@ module _ (p : List (List Cell)) (m : Moment) where
 
     pub within_a_bar : begins_bar (length p) ≡ false → found_in [] ≡ found_in rules_at_once
     within_a_bar within =
-        left_out (λ rule. is_strictly_broken_then all_sets rule p m) is_of_dissonance (11 ∷ 14 ∷ []) r (dissonance_kept within)
+        left_out (λ rule. is_strictly_broken_then all_sets rule p m) is_close (11 ∷ 14 ∷ []) r (dissonance_kept within)
         ∙ at_a_bar (ap (λ b. b && (bar_of (length p) == m.exercise.now.bars)) within)
 
     pub where_apart : begins_last_bar m.exercise.now (length p) ≡ false → some_come_close m.exercise.now m.column.now ≡ false → found_in [] ≡ found_in rules_at_once
     where_apart before apart =
-        left_out (λ rule. is_strictly_broken_then all_sets rule p m) is_of_dissonance (11 ∷ 14 ∷ []) r (closeness_kept apart)
+        left_out (λ rule. is_strictly_broken_then all_sets rule p m) is_close (11 ∷ 14 ∷ []) r (closeness_kept apart)
         ∙ at_a_bar before
 
 -- by the answers of the three tests

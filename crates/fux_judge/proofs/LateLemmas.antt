@@ -17,17 +17,18 @@ use Rattle.fux_judge.specs.Steps.{prices_late, sets_of_rule, zero_below}
 use Rattle.fux_judge.proofs.SetLemmas.{priceless}
 
 -- the place before the newest column is as far as the prefix goes
-pub as_far : (ex : Exercise) (next : State) (p : List (List Cell)) (col : List Cell) → HasCome ex next p col → next.len - 1 ≡ length p
-as_far ex next p col come = omega (arith, come.reached.len, length-append p (col ∷ []))
+pub as_far : (ex : Exercise) (next : State) (p : List (List Cell)) (col : List Cell) → HasCome ex next p col → next.newest.len - 1 ≡ length p
+as_far ex next p col come = omega (arith, come.reached.newest.count, length-append p (col ∷ []))
 
-module _ (rule : ℕ) (ex : Exercise) (next : State) (p : List (List Cell)) (col : List Cell) (come : HasCome ex next p col) (first count : ℕ) (f : first ≡ (rule_at rule).first ex (next.len - 1)) (c : count ≡ (rule_at rule).count ex (next.len - 1)) where
-  pub first_is : first ≡ (rule_at rule).first ex (length p)
-  first_is = f ∙ ap ((rule_at rule).first ex) (as_far ex next p col come)
+-- the places of a rule or a toll, by its first and its count
+module _ (first_of count_of : Exercise → ℕ → ℕ) (ex : Exercise) (next : State) (p : List (List Cell)) (col : List Cell) (come : HasCome ex next p col) (first count : ℕ) (f : first ≡ first_of ex (next.newest.len - 1)) (c : count ≡ count_of ex (next.newest.len - 1)) where
+  pub first_is : first ≡ first_of ex (length p)
+  first_is = f ∙ ap (first_of ex) (as_far ex next p col come)
 
-  pub count_is : count ≡ (rule_at rule).count ex (length p)
-  count_is = c ∙ ap ((rule_at rule).count ex) (as_far ex next p col come)
+  pub count_is : count ≡ count_of ex (length p)
+  count_is = c ∙ ap (count_of ex) (as_far ex next p col come)
 
-  pub is_among : (k : ℕ) → k < count → IsAmong ((rule_at rule).first ex (length p)) ((rule_at rule).count ex (length p)) (first + k)
+  pub is_among : (k : ℕ) → k < count → IsAmong (first_of ex (length p)) (count_of ex (length p)) (first + k)
   is_among k h = record { from = omega (arith, first_is); to = omega (arith, first_is, count_is) }
 
 -- what is found below a number is found

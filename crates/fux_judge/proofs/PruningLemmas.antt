@@ -19,9 +19,9 @@ use Rattle.motion_rules.specs.LowerVoices as motion_below
 use Rattle.dissonance_rules.specs.LowerVoices as dissonance_below
 use Rattle.rhythm_cadence.specs.LowerVoices as rhythm_below
 use Rattle.rule_law.specs.Forms as forms
-use Rattle.rule_law.specs.Rulebooks.{RuleRow, no_rule}
+use Rattle.rule_law.specs.Rulebooks.{no_rule}
 use Rattle.fux_judge.specs.Rules.{rules_read, all_sets, is_late, is_melodic, is_of_motion, is_of_dissonance, is_of_rhythm, is_read, rule_at, breaks, is_broken}
-use Rattle.fux_judge.proofs.MomentLemmas.{at_rhythm, breaks_melodic, breaks_of_dissonance, breaks_of_motion, breaks_of_none, breaks_of_rhythm}
+use Rattle.fux_judge.proofs.MomentLemmas.{breaks_melodic, breaks_of_none, not_doubling, not_shape, soon_by_dissonance, soon_by_motion, soon_by_rhythm}
 use Rattle.fux_judge.specs.Penalties.{is_strict_at, newly_broken}
 use Rattle.fux_judge.specs.Steps.{newly_broken-at_once}
 use Rattle.fux_judge.specs.Pruning.{AllBreak, is_set_below, reads_below, rules_below, sets_below}
@@ -108,18 +108,21 @@ module _ (n : ℕ) (a b : List Cell) (same : IsSameBelow n a b) (i : ℕ) (behin
     unfolding in_some_crate
     breaks_same reads = at (is_melodic rule) (is_of_motion rule) (is_of_dissonance rule) (is_of_rhythm rule) refl refl refl refl
       where
+        soon : is_late rule ≡ false
+        soon = settled_at_once rule reads
+
         by : (row : Row Bool) → breaks rule ex voices ≡ row → row i behind a [] ≡ row i behind b [] → breaks rule ex voices i behind a [] ≡ breaks rule ex voices i behind b []
         by row e h = ap (λ (r : Row Bool). r i behind a []) e ∙ h ∙ sym (ap (λ (r : Row Bool). r i behind b []) e)
 
         at : (x y z w : Bool) → is_melodic rule ≡ x → is_of_motion rule ≡ y → is_of_dissonance rule ≡ z → is_of_rhythm rule ≡ w → breaks rule ex voices i behind a [] ≡ breaks rule ex voices i behind b []
         at true y z w e f g h = by (melody.broken_in rule ex voices) (breaks_melodic rule ex voices e) melody_same
-        at false true z w e f g h = by (motion.broken_in rule ex voices) (breaks_of_motion rule ex voices e f) motion_same
-        at false false true w e f g h = by (dissonance.broken_in rule ex voices) (breaks_of_dissonance rule ex voices e f g) dissonance_same
+        at false true z w e f g h = by (motion.broken_in rule ex voices) (soon_by_motion rule ex voices e soon f) motion_same
+        at false false true w e f g h = by (dissonance.broken_in rule ex voices) (soon_by_dissonance rule ex voices e soon f g) dissonance_same
         at false false false true e f g h =
-            by (rhythm.broken_in rule ex voices) (breaks_of_rhythm rule ex voices e f g h)
-            (rhythm_same (sym (ap (λ (it : RuleRow). it.late) (at_rhythm rule e f g h)) ∙ settled_at_once rule reads)
+            by (rhythm.broken_in rule ex voices) (soon_by_rhythm rule ex voices e soon f g h)
+            (rhythm_same (not_shape rule soon e f g h)
             (after (is_of_dissonance rule) (rhythm_below.is_of_ending rule) (after (is_of_motion rule) (is_of_dissonance rule || rhythm_below.is_of_ending rule) (after (is_melodic rule) (is_of_motion rule || (is_of_dissonance rule || rhythm_below.is_of_ending rule)) (of_some_crate rule reads) e) f) g))
-        at false false false false e f g h = by (no_rule.broken ex voices) (breaks_of_none rule ex voices e f g h) refl
+        at false false false false e f g h = by (no_rule.broken ex voices) (breaks_of_none rule ex voices e f g h (not_doubling rule soon e f g h)) refl
 
 module _ (rule voices n : ℕ) (ex : Exercise) (p : List (List Cell)) (col : List Cell) where
   -- so a strict break in one is one in the other

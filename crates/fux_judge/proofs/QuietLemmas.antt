@@ -1,4 +1,4 @@
--- At a quiet column no rule that is settled at once is broken, and no toll costs anything.
+-- At a quiet column no rule that is settled at once is broken, and no such toll costs anything.
 use Rattle.std.proofs.Common.{◌≡◌, ◌≢◌, ℕ, ◌+◌, ◌*◌, ◌==◌, ◌&&◌, Bool, true, false, not, List, [], ◌∷◌, length, reverse, refl, ap, sym, ◌∙◌, subst, arith}
 use Rattle.std.specs.Prelude.{if◌then◌else◌, nat_lt}
 use Rattle.std.specs.List.{list_all, list_any, sum_by}
@@ -15,8 +15,9 @@ use Rattle.penalty_sheet.specs.declared.sheet.Sheet.{Sheet}
 use Rattle.penalty_sheet.specs.Weights.{weight_of}
 use Rattle.fux_judge.specs.declared.moment.Moment.{Moment}
 use Rattle.rule_law.specs.Law.{reading-at_end}
-use Rattle.fux_judge.specs.Facts.{rule_keeps, toll_keeps, tolls_at_once}
-use Rattle.fux_judge.specs.Rules.{all_sets, breaks, costs, cost_at, is_late}
+use Rattle.fux_judge.specs.Facts.{rule_keeps, toll_keeps}
+use Rattle.fux_judge.specs.Rules.{all_sets, breaks, costs, cost_at, is_late, is_late_toll, tolls_at_once}
+use Rattle.fux_judge.specs.Steps.{tolls_all_at_once}
 use Rattle.fux_judge.specs.Penalties.{is_strict_at, price_at}
 use Rattle.fux_judge.specs.Moments.{is_broken_then, is_strictly_broken_then, prices_then, toll_then, with_column}
 
@@ -33,10 +34,10 @@ module _ (p : List (List Cell)) (m : Moment) (place : m.place ≡ length p) (qui
       reading-at_end (breaks rule m.exercise.now voices) p m.column.now
       ∙ (rule_keeps rule).quiet n m.exercise.now voices (length p) (reverse p) m.column.now here
 
-  costless : (toll : ℕ) → cost_at toll m.exercise.now (with_column p m) (length p) ≡ 0
-  costless toll =
+  costless : (toll : ℕ) → is_late_toll toll ≡ false → cost_at toll m.exercise.now (with_column p m) (length p) ≡ 0
+  costless toll n =
       reading-at_end (costs toll m.exercise.now) p m.column.now
-      ∙ (toll_keeps toll).quiet (tolls_at_once toll) m.exercise.now (length p) (reverse p) m.column.now here
+      ∙ (toll_keeps toll).quiet n m.exercise.now (length p) (reverse p) m.column.now here
 
   no_strict_break : (rule : ℕ) → is_late rule ≡ false → is_strictly_broken_then all_sets rule p m ≡ false
   no_strict_break rule other =
@@ -71,8 +72,25 @@ module _ (p : List (List Cell)) (m : Moment) (place : m.place ≡ length p) (qui
       sum_of_none : (a b s : ℕ) → s ≡ a + b → a ≡ 0 → b ≡ 0 → s ≡ 0
       sum_of_none a b s e f g = omega arith
 
-  pub none_charged : (sheet : Sheet) (tolls : List ℕ) → sum_by (toll_then sheet p m) tolls ≡ 0
-  none_charged sheet tolls = sum_by-none (toll_then sheet p m) tolls (λ toll. ap (λ c. c * weight_of sheet toll) (costless toll) ∙ nothing (weight_of sheet toll))
+  pub none_charged : (sheet : Sheet) → sum_by (toll_then sheet p m) tolls_at_once ≡ 0
+  none_charged sheet = none_of tolls_at_once (tolls_all_at_once m.exercise.now p m.column.now)
     where
-      nothing : (n : ℕ) → 0 * n ≡ 0
-      nothing n = omega arith
+      nothing : (toll n : ℕ) → n ≡ 0 → n * weight_of sheet toll ≡ 0
+      nothing toll n e = ap (λ c. c * weight_of sheet toll) e ∙ none (weight_of sheet toll)
+        where
+          none : (w : ℕ) → 0 * w ≡ 0
+          none w = omega arith
+
+      from : (b : Bool) → not b ≡ true → b ≡ false
+      from true h = cc
+      from false h = refl
+
+      none_of : (tolls : List ℕ) → list_all (λ toll. not (is_late_toll toll)) tolls ≡ true → sum_by (toll_then sheet p m) tolls ≡ 0
+      none_of [] h = refl
+      none_of (toll ∷ tolls) h =
+          let both = and_parts (not (is_late_toll toll)) (list_all (λ toll. not (is_late_toll toll)) tolls) h in
+          sum_of_none (toll_then sheet p m toll) (sum_by (toll_then sheet p m) tolls) _ (sum_by-cons (toll_then sheet p m) toll tolls)
+          (nothing toll (cost_at toll m.exercise.now (with_column p m) (length p)) (costless toll (from (is_late_toll toll) both.0))) (none_of tolls both.1)
+        where
+          sum_of_none : (a b s : ℕ) → s ≡ a + b → a ≡ 0 → b ≡ 0 → s ≡ 0
+          sum_of_none a b s e f g = omega arith

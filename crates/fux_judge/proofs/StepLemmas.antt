@@ -1,7 +1,7 @@
 -- A step tells which rules the column breaks (`step_breaks`), and what it costs (`step_pays`).
 use Rattle.std.proofs.Common.{◌≡◌, ℕ, ◌+◌, ◌*◌, ◌==◌, ◌&&◌, ◌||◌, Bool, true, false, List, [], ◌∷◌, ◌++◌, length, refl, ap, sym, ◌∙◌, arith}
 use Rattle.std.specs.Prelude.{if◌then◌else◌, not}
-use Rattle.std.specs.List.{list_all, list_any, sum_by}
+use Rattle.std.specs.List.{filter, list_all, list_any, sum_by}
 use Rattle.std.proofs.lemmas.Bool.{eqb-true}
 use Rattle.fux_grid.specs.declared.cell.Cell.{Cell}
 use Rattle.fux_grid.specs.declared.exercise.Exercise.{Exercise}
@@ -10,10 +10,11 @@ use Rattle.rule_law.specs.Prefixes.{GoesOn}
 use Rattle.penalty_sheet.specs.declared.sheet.Sheet.{Sheet}
 use Rattle.penalty_sheet.specs.Weights.{weight_of}
 use Rattle.fux_judge.specs.declared.moment.Moment.{Moment}
-use Rattle.fux_judge.specs.Rules.{all_sets, is_broken, is_late, is_read, cost_at, late_rules, rules_at_once, rules_read, tolls_read}
+use Rattle.fux_judge.specs.Facts.{at_once_are_all, late_are_all}
+use Rattle.fux_judge.specs.Rules.{all_sets, is_broken, is_late, is_read, cost_at, late_rules, late_tolls, rules_at_once, rules_read, tolls_at_once}
 use Rattle.fux_judge.specs.Penalties.{is_strict_at, price_at, newly_broken, newly_paid, paid}
 use Rattle.fux_judge.specs.Moments.{is_strictly_broken_then, prices_then, toll_then}
-use Rattle.fux_judge.specs.Steps.{all_at_once, all_late, breaks_late, is_strictly_broken_at_end, newly_broken-at_once, newly_broken-late, newly_paid-parts, prices_at_end, prices_late, tolls_at_end}
+use Rattle.fux_judge.specs.Steps.{all_at_once, all_late, breaks_late, is_strictly_broken_at_end, newly_broken-at_once, newly_broken-late, newly_paid-parts, prices_at_end, prices_late, toll_at_end, toll_late, tolls_at_end}
 use Rattle.fux_judge.proofs.PruningLemmas.{one_of}
 
 and_false : (x : Bool) → (x && false) ≡ false
@@ -35,18 +36,36 @@ picked : (X : ℕ → Bool) (r : ℕ) (rules : List ℕ) → list_any (λ rule. 
 picked X r [] = refl
 picked X r (k ∷ rules) = picked_one X r k (list_any (λ rule. X rule && r == rule) rules) (list_any (λ rule. r == rule) rules) (r == k) refl (picked X r rules)
 
--- the rules that are read are those that are settled at once, and S3
-move_third : (a b c others : Bool) → (a || (b || (c || others))) ≡ ((a || (b || others)) || (c || false))
-move_third true b c others = refl
-move_third false true c others = refl
-move_third false false true true = refl
-move_third false false true false = refl
-move_third false false false true = refl
-move_third false false false false = refl
+-- a test passes for some of a list where it does for some of those that are kept, or for some of the others
+parted : (test keep : ℕ → Bool) (xs : List ℕ) → list_any test xs ≡ (list_any test (filter (λ x. not (keep x)) xs) || list_any test (filter keep xs))
+parted test keep [] = refl
+parted test keep (x ∷ xs) = at (keep x) (parted test keep xs)
+  where
+    others : List ℕ
+    others = filter (λ x. not (keep x)) xs
 
+    kept : List ℕ
+    kept = filter keep xs
+
+    in_front : (t a b : Bool) → (t || (a || b)) ≡ (a || (t || b))
+    in_front true true b = refl
+    in_front true false b = refl
+    in_front false a b = refl
+
+    grouped : (t a b : Bool) → (t || (a || b)) ≡ ((t || a) || b)
+    grouped true a b = refl
+    grouped false a b = refl
+
+    at : (k : Bool) → list_any test xs ≡ (list_any test others || list_any test kept) → (test x || list_any test xs) ≡ (list_any test (if not k then x ∷ others else others) || list_any test (if k then x ∷ kept else kept))
+    at true e = ap (λ b. test x || b) e ∙ in_front (test x) (list_any test others) (list_any test kept)
+    at false e = ap (λ b. test x || b) e ∙ grouped (test x) (list_any test others) (list_any test kept)
+
+-- the rules that are read are those that are settled at once, and the late ones
 read_by_parts : (r : ℕ) → is_read r ≡ (list_any (λ rule. r == rule) rules_at_once || list_any (λ rule. r == rule) late_rules)
-unfolding rules_read rules_at_once late_rules
-read_by_parts r = move_third (r == 1) (r == 2) (r == 3) (list_any (λ rule. r == rule) (4 ∷ 5 ∷ 6 ∷ 7 ∷ 8 ∷ 9 ∷ 10 ∷ 11 ∷ 12 ∷ 13 ∷ 14 ∷ 16 ∷ 17 ∷ 24 ∷ 26 ∷ []))
+read_by_parts r =
+    parted (λ rule. r == rule) is_late rules_read
+    ∙ ap (λ rules. list_any (λ rule. r == rule) rules || list_any (λ rule. r == rule) (filter is_late rules_read)) (sym at_once_are_all)
+    ∙ ap (λ rules. list_any (λ rule. r == rule) rules_at_once || list_any (λ rule. r == rule) rules) (sym late_are_all)
 
 -- two answers for two kinds are one for both
 for_both : (a b x y n : Bool) → (a ≡ true → x ≡ n) → (b ≡ true → y ≡ n) → ((a && x) || (b && y)) ≡ ((a || b) && n)
@@ -75,8 +94,8 @@ module _ (ex : Exercise) (p : List (List Cell)) (col : List Cell) where
     prices_then_are : (rule : ℕ) → prices_then all_sets rule p m ≡ prices_at_end ex p col rule
     prices_then_are rule = ap (λ e. sum_by (λ voices. if is_broken rule e voices (p ++ m.column.now ∷ []) (length p) then price_at rule e voices (length p) else 0) all_sets) same ∙ ap (λ c. sum_by (λ voices. if is_broken rule ex voices (p ++ c ∷ []) (length p) then price_at rule ex voices (length p) else 0) all_sets) its
 
-    tolls_then_are : sum_by (toll_then sheet p m) tolls_read ≡ tolls_at_end ex sheet p col
-    tolls_then_are = ap (λ e. sum_by (λ toll. cost_at toll e (p ++ m.column.now ∷ []) (length p) * weight_of sheet toll) tolls_read) same ∙ ap (λ c. sum_by (λ toll. cost_at toll ex (p ++ c ∷ []) (length p) * weight_of sheet toll) tolls_read) its
+    tolls_then_are : sum_by (toll_then sheet p m) tolls_at_once ≡ tolls_at_end ex sheet p col
+    tolls_then_are = ap (λ e. sum_by (toll_at_end e sheet p m.column.now) tolls_at_once) same ∙ ap (λ c. sum_by (toll_at_end ex sheet p c) tolls_at_once) its
 
     -- what a step says of the rules
     pub step_breaks : GoesOn ex p (col ∷ []) → (r : ℕ) → (list_any (λ rule. is_strictly_broken_then all_sets rule p m && r == rule) rules_at_once || list_any (λ rule. breaks_late ex p col rule && r == rule) late_rules) ≡ (is_read r && newly_broken ex p col r)
@@ -93,10 +112,10 @@ module _ (ex : Exercise) (p : List (List Cell)) (col : List Cell) where
         ∙ ap (λ b. b && newly_broken ex p col r) (sym (read_by_parts r))
 
     -- what a step says of the charges
-    pub step_pays : GoesOn ex p (col ∷ []) → (charges later : ℕ) → charges ≡ sum_by (toll_then sheet p m) tolls_read + sum_by (λ rule. prices_then all_sets rule p m) rules_at_once → later ≡ sum_by (prices_late ex p col) late_rules → charges + later ≡ newly_paid ex sheet p col
-    step_pays on charges later e f =
-        together _ _ _ _ _ e f tolls_then_are (sum_by-same (λ rule. prices_then all_sets rule p m) (prices_at_end ex p col) rules_at_once prices_then_are)
+    pub step_pays : GoesOn ex p (col ∷ []) → (charges tolls later : ℕ) → charges ≡ sum_by (toll_then sheet p m) tolls_at_once + sum_by (λ rule. prices_then all_sets rule p m) rules_at_once → tolls ≡ sum_by (toll_late ex sheet p col) late_tolls → later ≡ sum_by (prices_late ex p col) late_rules → charges + tolls + later ≡ newly_paid ex sheet p col
+    step_pays on charges tolls later e t f =
+        together _ _ _ _ _ _ e t f tolls_then_are (sum_by-same (λ rule. prices_then all_sets rule p m) (prices_at_end ex p col) rules_at_once prices_then_are)
         ∙ sym (newly_paid-parts ex p col sheet on)
       where
-        together : (a b c d e : ℕ) → charges ≡ a + b → later ≡ c → a ≡ d → b ≡ e → charges + later ≡ d + (e + c)
-        together a b c d e h k g i = omega arith
+        together : (a b c d e x : ℕ) → charges ≡ a + b → tolls ≡ x → later ≡ c → a ≡ d → b ≡ e → charges + tolls + later ≡ d + x + (e + c)
+        together a b c d e x h t k g i = omega arith

@@ -1,5 +1,5 @@
 -- What each voice pays by its own move.
-use Rattle.std.specs.Prelude.{ℕ, ◌==◌, Bool, ◌&&◌, List, [], ◌∷◌, reverse, if◌then◌else◌}
+use Rattle.std.specs.Prelude.{ℕ, ◌==◌, Bool, ◌&&◌, ◌||◌, List, [], ◌∷◌, reverse, if◌then◌else◌}
 use Rattle.std.specs.List.{sum_by}
 use Rattle.fux_grid.specs.declared.cell.Cell.{Cell}
 use Rattle.fux_grid.specs.declared.exercise.Exercise.{Exercise}
@@ -16,9 +16,16 @@ use Rattle.penalty_sheet.specs.Weights.{weight_of}
 abbrev pub tolls_of_melody : List ℕ
 tolls_of_melody = 7 ∷ 8 ∷ 9 ∷ 10 ∷ 13 ∷ []
 
--- the others that are read
+-- the others that are settled at once
 abbrev pub tolls_of_pairs : List ℕ
 tolls_of_pairs = 1 ∷ 2 ∷ 11 ∷ 14 ∷ []
+
+-- those of motion, and those of dissonance
+abbrev pub is_moving_toll : ℕ → Bool
+is_moving_toll toll = (toll == 11) || (toll == 14)
+
+abbrev pub is_clashing_toll : ℕ → Bool
+is_clashing_toll toll = (toll == 1) || (toll == 2)
 
 -- a toll of melody stands for a cell of a line, whose cells go from the newest to the oldest
 abbrev pub stands : ℕ → List Cell → Cell → Bool

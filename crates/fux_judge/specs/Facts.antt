@@ -1,5 +1,5 @@
 -- What holds of each rule and toll, whichever crate has it.
-use Rattle.std.specs.Prelude.{◌≡◌, ℕ, ◌==◌, ◌||◌, not, Bool, true, false, if◌then◌else◌, refl}
+use Rattle.std.specs.Prelude.{◌≡◌, ℕ, not, refl}
 use Rattle.std.specs.List.{filter, range_with_len}
 use Rattle.fux_grid.specs.declared.exercise.Exercise.{Exercise}
 use Rattle.rule_law.specs.Places.{IsLocal, SettlesAtEnd}
@@ -9,18 +9,21 @@ use Rattle.melody_rules.specs.Book as melody
 use Rattle.motion_rules.specs.Book as motion
 use Rattle.dissonance_rules.specs.Book as dissonance
 use Rattle.rhythm_cadence.specs.Book as rhythm
+use Rattle.doubling_rules.specs.Book as doubling
 use Rattle.melody_rules.proofs.BookLaws as melody_laws
 use Rattle.motion_rules.proofs.BookLaws as motion_laws
 use Rattle.dissonance_rules.proofs.BookLaws as dissonance_laws
 use Rattle.rhythm_cadence.proofs.BookLaws as rhythm_laws
-use Rattle.fux_judge.specs.Rules.{all_rules, rule_at, toll_at, enough, cost_enough, is_broken, is_settled, cost_at, is_cost_settled, is_late, rules_read, tolls_read, rules_at_once, late_rules}
+use Rattle.doubling_rules.proofs.BookLaws as doubling_laws
+use Rattle.fux_judge.specs.Rules.{all_rules, rule_at, toll_at, enough, cost_enough, is_broken, is_settled, cost_at, is_cost_settled, is_late, is_late_toll, rules_read, tolls_read, rules_at_once, late_rules, tolls_at_once, late_tolls}
 
 all_keep : KeepsAllLaws all_rules
 all_keep =
-    joined_keeps melody.book (joined motion.book (joined dissonance.book (joined rhythm.book nothing))) melody_laws.keeps_laws
-    (joined_keeps motion.book (joined dissonance.book (joined rhythm.book nothing)) motion_laws.keeps_laws
-    (joined_keeps dissonance.book (joined rhythm.book nothing) dissonance_laws.keeps_laws
-    (joined_keeps rhythm.book nothing rhythm_laws.keeps_laws nothing_keeps)))
+    joined_keeps melody.book (joined motion.book (joined dissonance.book (joined rhythm.book (joined doubling.book nothing)))) melody_laws.keeps_laws
+    (joined_keeps motion.book (joined dissonance.book (joined rhythm.book (joined doubling.book nothing))) motion_laws.keeps_laws
+    (joined_keeps dissonance.book (joined rhythm.book (joined doubling.book nothing)) dissonance_laws.keeps_laws
+    (joined_keeps rhythm.book (joined doubling.book nothing) rhythm_laws.keeps_laws
+    (joined_keeps doubling.book nothing doubling_laws.keeps_laws nothing_keeps))))
 
 pub rule_keeps : (rule : ℕ) → KeepsRuleLaws (rule_at rule)
 unfolding rule_at
@@ -56,17 +59,6 @@ module _ (toll : ℕ) (ex : Exercise) where
   pub toll_needs_place : NeedsPlace (is_cost_settled toll ex)
   toll_needs_place = needs_place (cost_enough toll ex)
 
--- no toll is late so far
-pub tolls_at_once : (toll : ℕ) → (toll_at toll).late ≡ false
-unfolding toll_at
-tolls_at_once toll = at (melody.has_toll toll) (motion.has_toll toll) (dissonance.has_toll toll)
-  where
-    at : (a b c : Bool) → (if a then melody.toll_row toll else (if b then motion.toll_row toll else (if c then dissonance.toll_row toll else nothing.toll toll))).late ≡ false
-    at true b c = refl
-    at false true c = refl
-    at false false true = refl
-    at false false false = refl
-
 -- the lists of numbers are those of the table
 pub rules_are_all : rules_read ≡ filter all_rules.has_rule (range_with_len 1 26)
 unfolding rules_read
@@ -83,3 +75,11 @@ at_once_are_all = refl
 pub late_are_all : late_rules ≡ filter is_late rules_read
 unfolding rules_read late_rules rule_at
 late_are_all = refl
+
+pub tolls_at_once_are_all : tolls_at_once ≡ filter (λ toll. not (is_late_toll toll)) tolls_read
+unfolding tolls_read tolls_at_once toll_at
+tolls_at_once_are_all = refl
+
+pub late_tolls_are_all : late_tolls ≡ filter is_late_toll tolls_read
+unfolding tolls_read late_tolls toll_at
+late_tolls_are_all = refl

@@ -9,10 +9,11 @@ use Rattle.melody_rules.specs.Book as melody
 use Rattle.motion_rules.specs.Book as motion
 use Rattle.dissonance_rules.specs.Book as dissonance
 use Rattle.rhythm_cadence.specs.Book as rhythm
+use Rattle.doubling_rules.specs.Book as doubling
 
 -- the crates' books as one
 abbrev pub all_rules : Rulebook
-all_rules = joined melody.book (joined motion.book (joined dissonance.book (joined rhythm.book nothing)))
+all_rules = joined melody.book (joined motion.book (joined dissonance.book (joined rhythm.book (joined doubling.book nothing))))
 
 -- the rule of a number, and the toll; a number that no crate has is never broken, and costs nothing
 unfoldable pub rule_at : ℕ → RuleRow
@@ -23,11 +24,12 @@ toll_at = all_rules.toll
 
 -- the rules that are read; no other is ever broken
 unfoldable pub rules_read : List ℕ
-rules_read = 1 ∷ 2 ∷ 3 ∷ 4 ∷ 5 ∷ 6 ∷ 7 ∷ 8 ∷ 9 ∷ 10 ∷ 11 ∷ 12 ∷ 13 ∷ 14 ∷ 16 ∷ 17 ∷ 24 ∷ 26 ∷ []
+rules_read =
+    1 ∷ 2 ∷ 3 ∷ 4 ∷ 5 ∷ 6 ∷ 7 ∷ 8 ∷ 9 ∷ 10 ∷ 11 ∷ 12 ∷ 13 ∷ 14 ∷ 15 ∷ 16 ∷ 17 ∷ 18 ∷ 19 ∷ 20 ∷ 21 ∷ 22 ∷ 23 ∷ 24 ∷ 25 ∷ 26 ∷ []
 
 -- the tolls that are read; no other costs anything
 unfoldable pub tolls_read : List ℕ
-tolls_read = 1 ∷ 2 ∷ 7 ∷ 8 ∷ 9 ∷ 10 ∷ 11 ∷ 13 ∷ 14 ∷ []
+tolls_read = 1 ∷ 2 ∷ 3 ∷ 4 ∷ 5 ∷ 6 ∷ 7 ∷ 8 ∷ 9 ∷ 10 ∷ 11 ∷ 12 ∷ 13 ∷ 14 ∷ 15 ∷ 16 ∷ []
 
 -- every set of voices, of four at most, by its bits
 abbrev pub all_sets : List ℕ
@@ -46,6 +48,9 @@ is_of_dissonance = dissonance.has_rule
 abbrev pub is_of_rhythm : ℕ → Bool
 is_of_rhythm = rhythm.has_rule
 
+abbrev pub is_of_doubling : ℕ → Bool
+is_of_doubling = doubling.has_rule
+
 abbrev pub is_toll_of_motion : ℕ → Bool
 is_toll_of_motion = motion.has_toll
 
@@ -54,6 +59,12 @@ is_toll_of_dissonance = dissonance.has_toll
 
 abbrev pub is_toll_of_melody : ℕ → Bool
 is_toll_of_melody = melody.has_toll
+
+abbrev pub is_toll_of_rhythm : ℕ → Bool
+is_toll_of_rhythm = rhythm.has_toll
+
+abbrev pub is_toll_of_doubling : ℕ → Bool
+is_toll_of_doubling = doubling.has_toll
 
 -- whether a rule is broken for a set of voices, and whether that is settled
 abbrev pub breaks : ℕ → Exercise → ℕ → Row Bool
@@ -86,13 +97,24 @@ is_cost_settled toll ex = settled_by (cost_enough toll ex)
 abbrev pub is_read : ℕ → Bool
 is_read rule = list_any (λ read. rule == read) rules_read
 
--- a rule may be settled later than at its own column
+-- a rule is read when its column is among the newest ones: it may be settled later than at its own column
 abbrev pub is_late : ℕ → Bool
 is_late rule = (rule_at rule).late
+
+-- a toll is
+abbrev pub is_late_toll : ℕ → Bool
+is_late_toll toll = (toll_at toll).late
 
 -- the rules that are settled at once, and the others
 unfoldable pub rules_at_once : List ℕ
 rules_at_once = 1 ∷ 2 ∷ 4 ∷ 5 ∷ 6 ∷ 7 ∷ 8 ∷ 9 ∷ 10 ∷ 11 ∷ 12 ∷ 13 ∷ 14 ∷ 16 ∷ 17 ∷ 24 ∷ 26 ∷ []
 
 unfoldable pub late_rules : List ℕ
-late_rules = 3 ∷ []
+late_rules = 3 ∷ 15 ∷ 18 ∷ 19 ∷ 20 ∷ 21 ∷ 22 ∷ 23 ∷ 25 ∷ []
+
+-- the tolls that are settled at once, and the others
+unfoldable pub tolls_at_once : List ℕ
+tolls_at_once = 1 ∷ 2 ∷ 7 ∷ 8 ∷ 9 ∷ 10 ∷ 11 ∷ 13 ∷ 14 ∷ []
+
+unfoldable pub late_tolls : List ℕ
+late_tolls = 3 ∷ 4 ∷ 5 ∷ 6 ∷ 12 ∷ 15 ∷ 16 ∷ []

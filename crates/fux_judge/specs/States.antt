@@ -1,18 +1,17 @@
 -- What a state knows of its prefix.
-use Rattle.std.specs.Prelude.{◌≡◌, ◌<◌, List, [], ◌∷◌, ◌++◌, length, take, reverse}
+use Rattle.std.specs.Prelude.{List, [], ◌∷◌, ◌++◌, reverse}
 use Rattle.fux_grid.specs.declared.cell.Cell.{Cell}
 use Rattle.fux_grid.specs.declared.exercise.Exercise.{Exercise}
-use Rattle.fux_grid.specs.Columns.{newest_column}
+use Rattle.rule_law.specs.Newest.{AreNewestOf}
 use Rattle.rule_law.specs.Prefixes.{GoesOn}
 use Rattle.melody_rules.specs.Notes.{AreNotesOf}
 use Rattle.motion_rules.specs.BarLines.{IsBarLinesOf}
 use Rattle.rhythm_cadence.specs.Parts.{IsShapesOf}
 use Rattle.fux_judge.specs.declared.state.State.{State}
 
--- the state is of the prefix: it knows its length and its last column, and each crate's part is of it
+-- the state is of the prefix: it knows its length and its newest columns, and each crate's part is of it
 pub record IsStateOf (ex : Exercise) (p : List (List Cell)) (state : State) : Type 0 where
-  pub len : state.len ≡ length p
-  pub last : 0 < length p → take ex.voices state.last.cells ≡ newest_column (reverse p)
+  pub newest : AreNewestOf ex.voices p state.newest
   pub melody : AreNotesOf (reverse p) state.melody
   pub rhythm : IsShapesOf ex p state.rhythm
   pub motion : IsBarLinesOf p state.motion

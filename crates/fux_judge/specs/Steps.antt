@@ -15,11 +15,11 @@ use Rattle.rule_law.specs.Growth.{any_below, any_below-same, any_below-list_any,
 use Rattle.rule_law.specs.Law.{first_true, second_true, test_from_below}
 use Rattle.rule_law.specs.Places.{Row, reading_of, settled_by}
 use Rattle.rule_law.specs.Prefixes.{GoesOn}
-use Rattle.rule_law.specs.Rulebooks.{IsAmong, newly_breaks}
+use Rattle.rule_law.specs.Rulebooks.{IsAmong, newly_breaks, newly_costs}
 use Rattle.penalty_sheet.specs.declared.sheet.Sheet.{Sheet}
 use Rattle.penalty_sheet.specs.Weights.{weight_of}
-use Rattle.fux_judge.specs.Rules.{rules_read, tolls_read, all_sets, rule_at, enough, cost_enough, is_broken, is_settled, cost_at, is_cost_settled, is_late, rules_at_once, late_rules}
-use Rattle.fux_judge.specs.Facts.{rule_keeps, toll_keeps, tolls_at_once}
+use Rattle.fux_judge.specs.Rules.{rules_read, tolls_read, all_sets, rule_at, toll_at, enough, cost_enough, is_broken, is_settled, cost_at, is_cost_settled, is_late, is_late_toll, rules_at_once, late_rules, tolls_at_once, late_tolls}
+use Rattle.fux_judge.specs.Facts.{rule_keeps, toll_keeps}
 use Rattle.fux_judge.specs.Penalties.{is_strict_at, price_at, newly_broken_at, newly_broken, new_toll, new_price, new_tolls, new_prices, newly_paid}
 use Rattle.fux_judge.specs.Ends.{from_none_below}
 
@@ -31,9 +31,12 @@ is_strictly_broken_at_end ex p col rule = list_any (λ voices. is_broken rule ex
 abbrev pub prices_at_end : Exercise → List (List Cell) → List Cell → ℕ → ℕ
 prices_at_end ex p col rule = sum_by (λ voices. if is_broken rule ex voices (p ++ col ∷ []) (length p) then price_at rule ex voices (length p) else 0) all_sets
 
--- the tolls there
+-- what a toll costs there, by its weight, and what those cost that are settled at once
+abbrev pub toll_at_end : Exercise → Sheet → List (List Cell) → List Cell → ℕ → ℕ
+toll_at_end ex sheet p col toll = cost_at toll ex (p ++ col ∷ []) (length p) * weight_of sheet toll
+
 abbrev pub tolls_at_end : Exercise → Sheet → List (List Cell) → List Cell → ℕ
-tolls_at_end ex sheet p col = sum_by (λ toll. cost_at toll ex (p ++ col ∷ []) (length p) * weight_of sheet toll) tolls_read
+tolls_at_end ex sheet p col = sum_by (toll_at_end ex sheet p col) tolls_at_once
 
 -- some of so many places passes, from the first one on; the sum over them
 abbrev pub any_among : ℕ → ℕ → (ℕ → Bool) → Bool
@@ -56,6 +59,11 @@ abbrev pub prices_late : Exercise → List (List Cell) → List Cell → ℕ →
 prices_late ex p col rule =
     sum_among ((rule_at rule).first ex (length p)) ((rule_at rule).count ex (length p))
     (λ i. sum_by (new_price ex p col i rule) (sets_of_rule rule ex))
+
+-- what the column settles of a late toll at the toll's places
+abbrev pub toll_late : Exercise → Sheet → List (List Cell) → List Cell → ℕ → ℕ
+toll_late ex sheet p col toll =
+    sum_among ((toll_at toll).first ex (length p)) ((toll_at toll).count ex (length p)) (λ i. new_toll ex sheet p col i toll)
 
 -- ---- what holds of them
 
@@ -294,30 +302,86 @@ module _ (ex : Exercise) (p : List (List Cell)) (col : List Cell) where
       ∙ ap (λ n. n + sum_by of late_rules) (sum_where (λ rule. not (is_late rule)) of (prices_at_end ex p col) rules_at_once all_at_once (λ rule h. prices-at_once rule (not_false (is_late rule) h)))
       ∙ ap (λ n. sum_by (prices_at_end ex p col) rules_at_once + n) (sum_where is_late of (prices_late ex p col) late_rules all_late (λ rule h. prices-late rule h on))
 
+  pub tolls_all_at_once : list_all (λ toll. not (is_late_toll toll)) tolls_at_once ≡ true
+  unfolding tolls_at_once toll_at
+  tolls_all_at_once = refl
+
+  pub tolls_all_late : list_all is_late_toll late_tolls ≡ true
+  unfolding late_tolls toll_at
+  tolls_all_late = refl
+
+  -- the tolls that are read are those that are settled at once, and the late ones
+  split_tolls : (f : ℕ → ℕ) → sum_by f tolls_read ≡ sum_by f tolls_at_once + sum_by f late_tolls
+  unfolding tolls_read tolls_at_once late_tolls
+  split_tolls f = omega arith
+
   module _ (sheet : Sheet) where
-    cost_at_once : (toll i : ℕ) (behind : List (List Cell)) (now : List Cell) (ahead : List (List Cell)) → cost_enough toll ex i behind now ahead ≡ true
-    cost_at_once toll = (toll_keeps toll).at_once (tolls_at_once toll) ex
+    -- what the column settles of a toll at all places
+    abbrev pub toll_settled : ℕ → ℕ
+    toll_settled toll = sum_below (λ i. new_toll ex sheet p col i toll) (length p + 1)
 
-    tolls_settled : sum_below (new_tolls ex sheet p col) (length p + 1) ≡ tolls_at_end ex sheet p col
-    tolls_settled =
-        last_alone (new_tolls ex sheet p col) (length p)
-        (λ i h. sum_by-none (new_toll ex sheet p col i) tolls_read
-        (λ toll. ap (λ b. if b then cost_at toll ex (p ++ col ∷ []) i * weight_of sheet toll else 0) (newly_before (cost_enough toll ex) (cost_at_once toll) p col i h)))
-        ∙ sum_by-same (new_toll ex sheet p col (length p)) (λ toll. cost_at toll ex (p ++ col ∷ []) (length p) * weight_of sheet toll) tolls_read
-        (λ toll. ap (λ b. if b then cost_at toll ex (p ++ col ∷ []) (length p) * weight_of sheet toll else 0) (newly_at_end (cost_enough toll ex) (cost_at_once toll) p col))
+    -- of one that is settled at once, what it costs at the column's own place
+    toll-at_once : (toll : ℕ) → is_late_toll toll ≡ false → toll_settled toll ≡ toll_at_end ex sheet p col toll
+    toll-at_once toll n =
+        last_alone (λ i. new_toll ex sheet p col i toll) (length p)
+        (λ i h. ap (λ b. if b then cost_at toll ex (p ++ col ∷ []) i * weight_of sheet toll else 0) (newly_before (cost_enough toll ex) ((toll_keeps toll).at_once n ex) p col i h))
+        ∙ ap (λ b. if b then toll_at_end ex sheet p col toll else 0) (newly_at_end (cost_enough toll ex) ((toll_keeps toll).at_once n ex) p col)
 
-    parts : newly_paid ex sheet p col ≡ tolls_at_end ex sheet p col + sum_below (new_prices ex p col) (length p + 1)
+    -- of a late one, after an orderly prefix, what it costs at its places
+    toll-late : (toll : ℕ) → is_late_toll toll ≡ true → GoesOn ex p (col ∷ []) → toll_settled toll ≡ toll_late ex sheet p col toll
+    toll-late toll late on =
+        sum_among-alone (λ i. new_toll ex sheet p col i toll) ((toll_at toll).first ex (length p)) ((toll_at toll).count ex (length p)) (length p + 1)
+        ((toll_keeps toll).within ex (length p))
+        (λ i h. unpaid i (λ among. not_before i among h)) (λ i h. unpaid i (λ among. not_behind i among h))
+      where
+        not_before : (i : ℕ) {f c : ℕ} → IsAmong f c i → i < f → ⊥
+        not_before i among h = omega (arith, among.from)
+
+        not_behind : (i : ℕ) {f c : ℕ} → IsAmong f c i → f + c ≤ i → ⊥
+        not_behind i among h = omega (arith, among.to)
+
+        weighed : (b : Bool) (c w : ℕ) → (if b then c else 0) ≡ 0 → (if b then c * w else 0) ≡ 0
+        weighed true c w e = ap (λ n. n * w) e ∙ none w
+          where
+            none : (w : ℕ) → 0 * w ≡ 0
+            none w = omega arith
+        weighed false c w e = refl
+
+        nothing : (n : ℕ) → (0 < n → ⊥) → n ≡ 0
+        nothing zero h = refl
+        nothing (suc n) h = absurd (h (omega arith))
+
+        unpaid : (i : ℕ) → (IsAmong ((toll_at toll).first ex (length p)) ((toll_at toll).count ex (length p)) i → ⊥) → new_toll ex sheet p col i toll ≡ 0
+        unpaid i out =
+            weighed (newly (is_cost_settled toll ex) p col i) (cost_at toll ex (p ++ col ∷ []) i) (weight_of sheet toll)
+            (nothing (newly_costs (toll_at toll) ex p col i) (λ h. out ((toll_keeps toll).places late ex p col i on h)))
+
+    tolls_by_number : sum_below (new_tolls ex sheet p col) (length p + 1) ≡ sum_by toll_settled tolls_read
+    tolls_by_number = sum_below-sum_by (λ toll i. new_toll ex sheet p col i toll) tolls_read (length p + 1)
+
+    tolls_soon : sum_by toll_settled tolls_at_once ≡ tolls_at_end ex sheet p col
+    tolls_soon = sum_where (λ toll. not (is_late_toll toll)) toll_settled (toll_at_end ex sheet p col) tolls_at_once tolls_all_at_once (λ toll h. toll-at_once toll (not_false (is_late_toll toll) h))
+
+    tolls_parts : sum_below (new_tolls ex sheet p col) (length p + 1) ≡ tolls_at_end ex sheet p col + sum_by toll_settled late_tolls
+    tolls_parts = tolls_by_number ∙ split_tolls toll_settled ∙ ap (λ n. n + sum_by toll_settled late_tolls) tolls_soon
+
+    parts : newly_paid ex sheet p col ≡ tolls_at_end ex sheet p col + sum_by toll_settled late_tolls + sum_below (new_prices ex p col) (length p + 1)
     parts =
         sum_below-plus (new_tolls ex sheet p col) (new_prices ex p col) (length p + 1)
-        ∙ ap (λ n. n + sum_below (new_prices ex p col) (length p + 1)) tolls_settled
+        ∙ ap (λ n. n + sum_below (new_prices ex p col) (length p + 1)) tolls_parts
 
-    -- the column settles no less than the tolls at its own place
+    -- the column settles no less than what the tolls that are settled at once cost at its own place
     pub tolls_within : tolls_at_end ex sheet p col ≤ newly_paid ex sheet p col
-    tolls_within = no_less _ _ _ parts
+    tolls_within = no_less _ _ _ _ parts
       where
-        no_less : (a b c : ℕ) → c ≡ a + b → a ≤ c
-        no_less a b c e = omega arith
+        no_less : (a b c d : ℕ) → d ≡ a + b + c → a ≤ d
+        no_less a b c d e = omega arith
 
-    -- what it settles is what the tolls cost at its own place, and what relaxed breaks cost there and at the places of late rules
-    pub newly_paid-parts : GoesOn ex p (col ∷ []) → newly_paid ex sheet p col ≡ tolls_at_end ex sheet p col + (sum_by (prices_at_end ex p col) rules_at_once + sum_by (prices_late ex p col) late_rules)
-    newly_paid-parts on = parts ∙ ap (λ n. tolls_at_end ex sheet p col + n) (prices_settled on)
+    -- what it settles is what the tolls cost at its own place and late ones at theirs, and what relaxed breaks cost there and at the
+    -- places of late rules
+    pub newly_paid-parts : GoesOn ex p (col ∷ []) → newly_paid ex sheet p col ≡ tolls_at_end ex sheet p col + sum_by (toll_late ex sheet p col) late_tolls + (sum_by (prices_at_end ex p col) rules_at_once + sum_by (prices_late ex p col) late_rules)
+    newly_paid-parts on =
+        parts
+        ∙ ap (λ n. tolls_at_end ex sheet p col + n + sum_below (new_prices ex p col) (length p + 1))
+        (sum_where is_late_toll toll_settled (toll_late ex sheet p col) late_tolls tolls_all_late (λ toll h. toll-late toll h on))
+        ∙ ap (λ n. tolls_at_end ex sheet p col + sum_by (toll_late ex sheet p col) late_tolls + n) (prices_settled on)

@@ -11,52 +11,89 @@ ghost use Rattle.fux_judge.specs.Rules.{is_late, late_rules, rule_at, rules_read
 ghost use Rattle.fux_judge.specs.States.{HasCome};
 ghost use Rattle.fux_judge.specs.Steps as steps;
 
-use crate::reading::form_of;
+use crate::reading::{form_of, is_of_dissonance, is_of_motion, is_of_rhythm};
 use crate::state::State;
 use fux_grid::{Exercise, VoiceSet};
 use penalty_sheet::price_at;
 use rule_law::{LatePlaces, RuleSet, sets_of};
 
 /// The rules that may be settled later than at their own column.
-const LATE_RULES: [u8; 1] = [3];
+const LATE_RULES: [u8; 9] = [3, 15, 18, 19, 20, 21, 22, 23, 25];
 
 #[tactic(auto, unfolding(crate::specs::Rules::late_rules, crate::specs::Rules::rules_read, crate::specs::Rules::rule_at))]
 fn every_late_rule() -> &'static [u8]
     ensures value { result.now ≡ late_rules }
     ensures table { result.now ≡ filter is_late rules_read }
     ensures numbers { IsTrue (list_all (λ rule. nat_lt rule 32 && is_late rule) result.now) }
-    ensures few { length result.now ≤ 6 }
+    ensures few { length result.now ≤ 12 }
 {
     &LATE_RULES
+}
+
+/// Where column `i` may settle a late rule, as the crate that has it says.
+fn places_at(rule: u8, ex: &Exercise, i: usize) -> LatePlaces
+    requires late { is_late rule ≡ true }
+    requires valid { IsValid ex.now }
+    requires place { i < columns_in ex.now }
+    ensures first { result.first ≡ (rule_at rule).first ex.now i }
+    ensures count { result.count ≡ (rule_at rule).count ex.now i }
+    ensures few { result.count ≤ 24 }
+{
+    if is_of_motion(rule) {
+        return motion_rules::places_settled(rule, ex, i);
+    }
+    if is_of_dissonance(rule) {
+        return dissonance_rules::places_settled(rule, ex, i);
+    }
+    if is_of_rhythm(rule) {
+        return rhythm_cadence::places_settled(rule, ex, i);
+    }
+    doubling_rules::places_settled(rule, ex, i)
 }
 
 /// Where the newest column may settle a late rule.
 fn places_of(rule: u8, ex: &Exercise, next: &State) -> LatePlaces
     requires late { is_late rule ≡ true }
-    requires begun { 0 < next.now.len }
-    ensures first { result.first ≡ (rule_at rule).first ex.now (next.now.len - 1) }
-    ensures count { result.count ≡ (rule_at rule).count ex.now (next.now.len - 1) }
-    ensures within { result.first + result.count ≤ next.now.len }
-    ensures few { result.count ≤ 16 }
+    requires valid { IsValid ex.now }
+    requires begun { 0 < next.now.newest.len }
+    requires room { next.now.newest.len ≤ columns_in ex.now }
+    ensures first { result.first ≡ (rule_at rule).first ex.now (next.now.newest.len - 1) }
+    ensures count { result.count ≡ (rule_at rule).count ex.now (next.now.newest.len - 1) }
+    ensures within { result.first + result.count ≤ next.now.newest.len }
+    ensures few { result.count ≤ 24 }
 {
-    rhythm_cadence::places_settled(rule, ex, next.len - 1)
+    places_at(rule, ex, next.newest.len - 1)
 }
 
-/// Whether the newest column settles a break of a late rule, at one of its places.
-#[inline]
+/// Whether the newest column settles a break of a late rule, at one of its places, as the crate that has it says.
 fn breaks_at(rule: u8, ex: &Exercise, next: &State, voices: VoiceSet, place: usize) -> bool
     requires late { is_late rule ≡ true }
+    requires valid { IsValid ex.now }
+    requires begun { 0 < next.now.newest.len }
+    requires room { next.now.newest.len ≤ columns_in ex.now }
     ensures { (p : List (List ACell)) (col : List ACell) → HasCome ex.now next.now p col
         → IsAmong ((rule_at rule).first ex.now (length p)) ((rule_at rule).count ex.now (length p)) place
         → result ≡ newly_breaks (rule_at rule) ex.now voices.bits p col place }
 {
-    rhythm_cadence::breaks_late(&next.rhythm, rule, ex, voices, place)
+    let newest = &next.newest;
+    if is_of_motion(rule) {
+        return motion_rules::breaks_late(newest, rule, ex, voices, place);
+    }
+    if is_of_dissonance(rule) {
+        return dissonance_rules::breaks_late(newest, rule, ex, voices, place);
+    }
+    if is_of_rhythm(rule) {
+        return rhythm_cadence::breaks_late(&next.rhythm, newest, rule, ex, voices, place);
+    }
+    doubling_rules::breaks_late(newest, rule, ex, voices, place)
 }
 
 /// Whether that is a strict break.
 fn breaks_strictly_at(rule: u8, ex: &Exercise, next: &State, voices: VoiceSet, place: usize) -> bool
     requires late { is_late rule ≡ true }
     requires valid { IsValid ex.now }
+    requires begun { 0 < next.now.newest.len }
+    requires room { next.now.newest.len ≤ columns_in ex.now }
     requires place { place < columns_in ex.now }
     ensures { (p : List (List ACell)) (col : List ACell) → HasCome ex.now next.now p col
         → IsAmong ((rule_at rule).first ex.now (length p)) ((rule_at rule).count ex.now (length p)) place
@@ -72,6 +109,8 @@ fn breaks_strictly_at(rule: u8, ex: &Exercise, next: &State, voices: VoiceSet, p
 fn price_settled(rule: u8, ex: &Exercise, next: &State, voices: VoiceSet, place: usize) -> u64
     requires late { is_late rule ≡ true }
     requires valid { IsValid ex.now }
+    requires begun { 0 < next.now.newest.len }
+    requires room { next.now.newest.len ≤ columns_in ex.now }
     requires place { place < columns_in ex.now }
     ensures value { (p : List (List ACell)) (col : List ACell) → HasCome ex.now next.now p col
         → IsAmong ((rule_at rule).first ex.now (length p)) ((rule_at rule).count ex.now (length p)) place
@@ -88,6 +127,8 @@ fn price_settled(rule: u8, ex: &Exercise, next: &State, voices: VoiceSet, place:
 fn breaks_for(rule: u8, ex: &Exercise, next: &State, place: usize, sets: &[u8]) -> bool
     requires late { is_late rule ≡ true }
     requires valid { IsValid ex.now }
+    requires begun { 0 < next.now.newest.len }
+    requires room { next.now.newest.len ≤ columns_in ex.now }
     requires place { place < columns_in ex.now }
     ensures { (p : List (List ACell)) (col : List ACell) → HasCome ex.now next.now p col
         → IsAmong ((rule_at rule).first ex.now (length p)) ((rule_at rule).count ex.now (length p)) place
@@ -105,6 +146,8 @@ fn breaks_for(rule: u8, ex: &Exercise, next: &State, place: usize, sets: &[u8]) 
 fn prices_for(rule: u8, ex: &Exercise, next: &State, place: usize, sets: &[u8]) -> u64
     requires late { is_late rule ≡ true }
     requires valid { IsValid ex.now }
+    requires begun { 0 < next.now.newest.len }
+    requires room { next.now.newest.len ≤ columns_in ex.now }
     requires place { place < columns_in ex.now }
     requires few { length sets.now ≤ 6 }
     ensures value { (p : List (List ACell)) (col : List ACell) → HasCome ex.now next.now p col
@@ -124,8 +167,8 @@ fn prices_for(rule: u8, ex: &Exercise, next: &State, place: usize, sets: &[u8]) 
 fn is_broken_late(rule: u8, ex: &Exercise, next: &State) -> bool
     requires late { is_late rule ≡ true }
     requires valid { IsValid ex.now }
-    requires begun { 0 < next.now.len }
-    requires room { next.now.len ≤ columns_in ex.now }
+    requires begun { 0 < next.now.newest.len }
+    requires room { next.now.newest.len ≤ columns_in ex.now }
     ensures { (p : List (List ACell)) (col : List ACell) → HasCome ex.now next.now p col → result ≡ steps.breaks_late ex.now p col rule }
 {
     let places = places_of(rule, ex, next);
@@ -142,10 +185,10 @@ fn is_broken_late(rule: u8, ex: &Exercise, next: &State) -> bool
 fn prices_of_late(rule: u8, ex: &Exercise, next: &State) -> u64
     requires late { is_late rule ≡ true }
     requires valid { IsValid ex.now }
-    requires begun { 0 < next.now.len }
-    requires room { next.now.len ≤ columns_in ex.now }
+    requires begun { 0 < next.now.newest.len }
+    requires room { next.now.newest.len ≤ columns_in ex.now }
     ensures value { (p : List (List ACell)) (col : List ACell) → HasCome ex.now next.now p col → result ≡ steps.prices_late ex.now p col rule }
-    ensures bound { result ≤ 960000 }
+    ensures bound { result ≤ 1440000 }
 {
     let places = places_of(rule, ex, next);
     let sets = sets_of(form_of(rule), ex.voices);
@@ -160,8 +203,8 @@ fn prices_of_late(rule: u8, ex: &Exercise, next: &State) -> u64
 /// A set with the late rules added of which the newest column settles a strict break.
 pub(crate) fn with_late(set: RuleSet, ex: &Exercise, next: &State) -> RuleSet
     requires valid { IsValid ex.now }
-    requires begun { 0 < next.now.len }
-    requires room { next.now.len ≤ columns_in ex.now }
+    requires begun { 0 < next.now.newest.len }
+    requires room { next.now.newest.len ≤ columns_in ex.now }
     ensures { (p : List (List ACell)) (col : List ACell) → HasCome ex.now next.now p col → (r : ℕ)
         → has_rule result.bits r ≡ (has_rule set.bits r || list_any (λ rule. steps.breaks_late ex.now p col rule && r == rule) late_rules) }
 {
@@ -176,10 +219,10 @@ pub(crate) fn with_late(set: RuleSet, ex: &Exercise, next: &State) -> RuleSet
 /// What the newest column settles of the prices of all late rules.
 pub(crate) fn late_prices(ex: &Exercise, next: &State) -> u64
     requires valid { IsValid ex.now }
-    requires begun { 0 < next.now.len }
-    requires room { next.now.len ≤ columns_in ex.now }
+    requires begun { 0 < next.now.newest.len }
+    requires room { next.now.newest.len ≤ columns_in ex.now }
     ensures value { (p : List (List ACell)) (col : List ACell) → HasCome ex.now next.now p col → result ≡ sum_by (steps.prices_late ex.now p col) late_rules }
-    ensures bound { result ≤ 5760000 }
+    ensures bound { result ≤ 17280000 }
 {
     if ex.relax.as_slice().is_empty() {
         return 0;

@@ -4,6 +4,7 @@
 mod always;
 mod kept;
 mod late;
+mod late_tolls;
 mod moment;
 mod pruning;
 mod reading;

@@ -171,13 +171,13 @@ pub fn pruned_within(
     limit: Option<u64>,
 ) -> Option<usize>
     requires valid { IsValid ex.now }
-    requires room { state.now.len < columns_in ex.now }
+    requires room { state.now.newest.len < columns_in ex.now }
     requires full { length col.now.items ≡ ex.now.voices }
     ensures some { IfSome result (λ n. 1 ≤ n) }
     ensures few { IfSome result (λ n. n ≤ ex.now.voices) }
     ensures pruned { IfSome result (λ n. (p : List (List ACell)) → IsStateOf ex.now p state.now → (other : List ACell) → length other ≡ ex.now.voices → take n other ≡ take n col.now.items → IsPruned ex.now sheet.now p limit other) }
 {
-    if is_quiet(state.len, col.as_slice()) {
+    if is_quiet(state.newest.len, col.as_slice()) {
         return None;
     }
     let moment = moment_of(ex, state, col);

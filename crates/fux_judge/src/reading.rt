@@ -36,7 +36,7 @@ fn looks_back(rule: u8) -> bool
 pub(crate) fn is_of_motion(rule: u8) -> bool
     ensures { result ≡ rules.is_of_motion rule }
 {
-    rule == 10 || rule == 16 || rule == 17
+    rule == 10 || rule == 16 || rule == 17 || rule == 18
 }
 
 /// Whether a rule is of dissonance.
@@ -44,7 +44,7 @@ pub(crate) fn is_of_motion(rule: u8) -> bool
 pub(crate) fn is_of_dissonance(rule: u8) -> bool
     ensures { result ≡ rules.is_of_dissonance rule }
 {
-    rule == 11 || rule == 14
+    rule == 11 || rule == 14 || rule == 15 || rule == 19 || rule == 20 || rule == 21
 }
 
 /// Whether a rule is of rhythm and cadence.
@@ -52,7 +52,15 @@ pub(crate) fn is_of_dissonance(rule: u8) -> bool
 pub(crate) fn is_of_rhythm(rule: u8) -> bool
     ensures { result ≡ rules.is_of_rhythm rule }
 {
-    rule == 1 || rule == 2 || rule == 3 || rule == 12 || rule == 13 || rule == 24
+    matches!(rule, 1 | 2 | 3 | 12 | 13 | 22 | 24 | 25)
+}
+
+/// Whether a rule is of what voices double.
+#[inline]
+pub(crate) fn is_of_doubling(rule: u8) -> bool
+    ensures { result ≡ rules.is_of_doubling rule }
+{
+    rule == 23
 }
 
 /// Which sets of voices a rule speaks of.
@@ -70,10 +78,11 @@ pub(crate) fn form_of(rule: u8) -> Form
     if is_of_dissonance(rule) {
         return Form::TwoVoices;
     }
-    if is_of_rhythm(rule) && rule == 13 {
-        return Form::TwoVoices;
+    match rule {
+        13 | 23 => Form::TwoVoices,
+        22 => Form::AllVoices,
+        _ => Form::OneVoice,
     }
-    Form::OneVoice
 }
 
 /// Whether a rule that is settled at once is broken for a set of voices.
@@ -174,7 +183,7 @@ pub(crate) fn is_strictly_broken_now(rule: u8, m: &Moment<'_>) -> bool
     is_strictly_broken_for(sets_of(form_of(rule), m.exercise.voices), rule, m)
 }
 
-/// The prices of the relaxed breaks of a rule, other than S3.
+/// The prices of the relaxed breaks of a rule that is settled at once.
 pub(crate) fn prices_now(rule: u8, m: &Moment<'_>) -> u64
     requires rule { is_late rule ≡ false }
     requires readable { IsReadable m.now }

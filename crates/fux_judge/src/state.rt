@@ -1,55 +1,23 @@
 //! What is kept of a prefix.
 
-ghost use Rattle.std.specs.Prelude.{◌≡◌, ◌≤◌, ◌<◌, ◌∷◌, ◌++◌, ◌==◌, [], List, length, reverse, take};
+ghost use Rattle.std.specs.Prelude.{◌≡◌, ◌≤◌, ◌==◌, [], List, length, reverse};
 ghost use Rattle.fux_grid.specs.declared.cell.Cell.{Cell as ACell};
 ghost use Rattle.fux_grid.specs.declared.exercise.Exercise.{Exercise as AnExercise};
 ghost use Rattle.fux_grid.specs.Columns.{newest_column};
 ghost use Rattle.fux_judge.specs.States.{IsStateOf};
 
-use fux_grid::{Cell, Exercise, cell_of};
+use fux_grid::{Cell, Exercise};
 use melody_rules::{VoiceNotes, all_silent};
 use motion_rules::{BarLines, no_bar_lines};
 use rhythm_cadence::{BarShapes, unbegun};
+use rule_law::NewestColumns;
 
-/// The cells of four voices; rests where the exercise has fewer.
-#[derive(Clone, Copy, Debug, PartialEq, Eq)]
-pub struct ColumnCells {
-    cells: [Cell; 4],
-}
-
-impl ColumnCells {
-    /// The cells of a column.
-    #[inline]
-    pub(crate) fn of(column: &[Cell]) -> ColumnCells
-        ensures { length column.now ≤ 4 → take (length column.now) result.cells ≡ column.now }
-    {
-        ColumnCells {
-            cells: [
-                cell_of(column, 0),
-                cell_of(column, 1),
-                cell_of(column, 2),
-                cell_of(column, 3),
-            ],
-        }
-    }
-
-    /// The first cells.
-    #[inline]
-    pub(crate) fn first(&self, voices: usize) -> &[Cell]
-        requires { voices ≤ 4 }
-        ensures { result.now ≡ take voices self.now.cells }
-    {
-        &self.cells[..voices]
-    }
-}
-
-/// What is kept of a prefix of any length, enough to judge each column that may follow: how many columns it has, the last of them, and
-/// a part for each crate of rules that looks further back. It has a fixed size and takes no memory.
+/// What is kept of a prefix of any length, enough to judge each column that may follow: how many columns it has, the newest of them,
+/// and a part for each crate of rules that looks further back. It has a fixed size and takes no memory.
 #[derive(Clone, Copy, Debug, PartialEq, Eq)]
 pub struct State {
-    /// How many columns the prefix has.
-    pub len: usize,
-    pub(crate) last: ColumnCells,
+    /// How many columns the prefix has, and the newest of them.
+    pub newest: NewestColumns,
     pub(crate) melody: [VoiceNotes; 4],
     pub(crate) rhythm: BarShapes,
     pub(crate) motion: BarLines,
@@ -62,10 +30,7 @@ impl State {
     {
         let _ = ex.voices;
         State {
-            len: 0,
-            last: ColumnCells {
-                cells: [Cell::Rest; 4],
-            },
+            newest: NewestColumns::none(),
             melody: all_silent(),
             rhythm: unbegun(),
             motion: no_bar_lines(),
@@ -77,7 +42,7 @@ impl State {
     pub fn len(&self) -> usize
         ensures { (ex : AnExercise) (p : List (List ACell)) → IsStateOf ex p self.now → result ≡ length p }
     {
-        self.len
+        self.newest.len
     }
 
     /// Whether the prefix is empty.
@@ -85,7 +50,7 @@ impl State {
     pub fn is_empty(&self) -> bool
         ensures { (ex : AnExercise) (p : List (List ACell)) → IsStateOf ex p self.now → result ≡ (length p == 0) }
     {
-        self.len == 0
+        self.newest.len == 0
     }
 
     /// The cells of the last column; none where there is none.
@@ -94,9 +59,9 @@ impl State {
         requires { ex.now.voices ≤ 4 }
         ensures { (p : List (List ACell)) → IsStateOf ex.now p self.now → result.now ≡ newest_column (reverse p) }
     {
-        if self.len == 0 {
+        if self.newest.len == 0 {
             return &[];
         }
-        self.last.first(ex.voices as usize)
+        self.newest.at(self.newest.len - 1, ex.voices as usize)
     }
 }

@@ -1,4 +1,4 @@
-//! Tolls, read at a moment.
+//! Tolls that are settled at once, read at a moment.
 
 ghost use Rattle.std.specs.Prelude.{◌≡◌, ◌≤◌, ◌<◌, ◌+◌, ◌||◌, List, IsTrue, if◌then◌else◌, length};
 ghost use Rattle.std.specs.List.{sum_by};
@@ -8,9 +8,8 @@ ghost use Rattle.rule_law.specs.Terms.{holds_of, move_from};
 ghost use Rattle.melody_rules.specs.Notes.{AreNotesOf};
 ghost use Rattle.melody_rules.specs.Rows as melody;
 ghost use Rattle.penalty_sheet.specs.Weights.{weight_of};
-ghost use Rattle.fux_judge.specs.Charges.{tolls_of_pairs, voice_charge};
-ghost use Rattle.fux_judge.specs.Rules as rules;
-ghost use Rattle.fux_judge.specs.Rules.{cost_at, tolls_read};
+ghost use Rattle.fux_judge.specs.Charges.{is_clashing_toll, is_moving_toll, tolls_of_pairs, voice_charge};
+ghost use Rattle.fux_judge.specs.Rules.{cost_at, tolls_at_once};
 ghost use Rattle.fux_judge.specs.Moments.{IsAfter, toll_then, with_column};
 
 use crate::moment::Moment;
@@ -21,22 +20,22 @@ use motion_rules::imperfect_runs_after;
 use penalty_sheet::{Sheet, weight};
 use rule_law::{is_free, starts};
 
-/// Whether a toll is of motion.
+/// Whether a toll is one of motion that is settled at once.
 #[inline]
-fn is_of_motion(toll: u8) -> bool
-    ensures { result ≡ rules.is_toll_of_motion toll }
+fn is_moving(toll: u8) -> bool
+    ensures { result ≡ is_moving_toll toll }
 {
     toll == 11 || toll == 14
 }
 
 /// What a toll of motion or dissonance costs, without its weight.
 fn cost(toll: u8, m: &Moment<'_>) -> u32
-    requires { IsTrue (rules.is_toll_of_motion toll || rules.is_toll_of_dissonance toll) }
+    requires { IsTrue (is_moving_toll toll || is_clashing_toll toll) }
     ensures value { (p : List (List ACell)) → IsAfter p m.now → result ≡ cost_at toll m.now.exercise.now (with_column p m.now) (length p) }
     ensures bound { result ≤ 6 }
 {
     let (ex, i, before, now) = (m.exercise, m.place, m.before, m.column);
-    if !is_of_motion(toll) {
+    if !is_moving(toll) {
         return dissonance_rules::cost(toll, ex, i, before, &m.latest, now);
     }
     if toll == 14 {
@@ -49,7 +48,7 @@ fn cost(toll: u8, m: &Moment<'_>) -> u32
 fn charge(toll: u8, sheet: &Sheet, m: &Moment<'_>) -> u64
     requires first { 1 ≤ toll }
     requires last { toll ≤ 20 }
-    requires pairs { IsTrue (rules.is_toll_of_motion toll || rules.is_toll_of_dissonance toll) }
+    requires pairs { IsTrue (is_moving_toll toll || is_clashing_toll toll) }
     ensures value { (p : List (List ACell)) → IsAfter p m.now → result ≡ toll_then sheet.now p m.now toll }
     ensures bound { result ≤ 393210 }
 {
@@ -104,9 +103,9 @@ pub(crate) fn charge_of_voice(sheet: &Sheet, m: &Moment<'_>, voice: usize) -> u6
     charge_of_move(sheet, m.latest.of(voice), cell) + charge_of_leap(sheet, m.notes, voice, cell)
 }
 
-/// What all tolls cost together.
+/// What the tolls that are settled at once cost together.
 pub(crate) fn charges(sheet: &Sheet, m: &Moment<'_>) -> u64
-    ensures value { (p : List (List ACell)) → IsAfter p m.now → result ≡ sum_by (toll_then sheet.now p m.now) tolls_read }
+    ensures value { (p : List (List ACell)) → IsAfter p m.now → result ≡ sum_by (toll_then sheet.now p m.now) tolls_at_once }
     ensures bound { result ≤ 7864200 }
 {
     charge_of_voice(sheet, m, 0)

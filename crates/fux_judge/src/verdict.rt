@@ -6,16 +6,17 @@ ghost use Rattle.fux_grid.specs.declared.cell.Cell.{Cell as ACell};
 ghost use Rattle.fux_grid.specs.Exercises.{IsValid, columns_in};
 ghost use Rattle.rule_law.specs.Prefixes.{GoesOn};
 ghost use Rattle.rule_law.specs.Voices.{has_rule};
-ghost use Rattle.fux_judge.specs.Rules.{all_rules, all_sets, is_late, rules_at_once, rules_read, tolls_read, is_read};
+ghost use Rattle.fux_judge.specs.Rules.{all_rules, all_sets, is_late, rules_at_once, rules_read, tolls_at_once, is_read};
 ghost use Rattle.fux_judge.specs.Penalties.{newly_broken, newly_paid, paid};
 ghost use Rattle.fux_judge.specs.Moments.{IsReadable, IsAfter, is_strictly_broken_then, prices_then, toll_then};
 ghost use Rattle.fux_judge.specs.States.{IsStateOf};
 
 use crate::kept::{all_at_once, rules_left};
 use crate::late::{late_prices, with_late};
+use crate::late_tolls::late_charges;
 use crate::moment::Moment;
 use crate::reading::{is_strictly_broken_now, prices_now};
-use crate::state::{ColumnCells, State};
+use crate::state::State;
 use crate::tolls::charges;
 use fux_grid::{Column, Exercise};
 use melody_rules::{all_noted, latest_of_notes};
@@ -36,8 +37,8 @@ pub struct Verdict {
 }
 
 /// All rules that are read.
-const RULES: [u8; 18] = [
-    1, 2, 3, 4, 5, 6, 7, 8, 9, 10, 11, 12, 13, 14, 16, 17, 24, 26,
+const RULES: [u8; 26] = [
+    1, 2, 3, 4, 5, 6, 7, 8, 9, 10, 11, 12, 13, 14, 15, 16, 17, 18, 19, 20, 21, 22, 23, 24, 25, 26,
 ];
 
 impl Verdict {
@@ -55,7 +56,7 @@ impl Verdict {
 pub fn every_rule() -> &'static [u8]
     ensures value { result.now ≡ rules_read }
     ensures table { result.now ≡ filter all_rules.has_rule (range_with_len 1 26) }
-    ensures count { length result.now ≡ 18 }
+    ensures count { length result.now ≡ 26 }
 {
     &RULES
 }
@@ -101,18 +102,17 @@ fn prices_of(rules: &[u8], m: &Moment<'_>) -> u64
 /// The state after a column.
 fn next_state(ex: &Exercise, state: &State, col: &Column) -> State
     requires valid { IsValid ex.now }
-    requires room { state.now.len < columns_in ex.now }
+    requires room { state.now.newest.len < columns_in ex.now }
     requires full { length col.now.items ≡ ex.now.voices }
     ensures state { (p : List (List ACell)) → IsStateOf ex.now p state.now → IsStateOf ex.now (p ++ col.now.items ∷ []) result }
-    ensures length { result.len ≡ state.now.len + 1 }
+    ensures length { result.newest.len ≡ state.now.newest.len + 1 }
 {
     let cells = col.as_slice();
     State {
-        len: state.len + 1,
-        last: ColumnCells::of(cells),
+        newest: state.newest.with(cells),
         melody: all_noted(&state.melody, cells),
-        rhythm: rhythm_cadence::noted(&state.rhythm, ex, state.len, cells),
-        motion: motion_rules::noted(&state.motion, state.len, cells),
+        rhythm: rhythm_cadence::noted(&state.rhythm, ex, state.newest.len, cells),
+        motion: motion_rules::noted(&state.motion, state.newest.len, cells),
     }
 }
 
@@ -122,11 +122,11 @@ pub(crate) fn moment_of<'a>(ex: &'a Exercise, state: &'a State, col: &'a Column)
     ensures after { (p : List (List ACell)) → IsStateOf ex.entry.now p state.entry.now → IsAfter p result }
     ensures exercise { result.exercise.now ≡ ex.entry.now }
     ensures column { result.column.now ≡ col.entry.now.items }
-    ensures place { result.place ≡ state.entry.now.len }
+    ensures place { result.place ≡ state.entry.now.newest.len }
 {
     Moment {
         exercise: ex,
-        place: state.len,
+        place: state.newest.len,
         before: state.before(ex),
         latest: latest_of_notes(&state.melody),
         notes: &state.melody,
@@ -135,12 +135,12 @@ pub(crate) fn moment_of<'a>(ex: &'a Exercise, state: &'a State, col: &'a Column)
     }
 }
 
-/// The rules settled at once that the column breaks strictly, and what it costs of them and of tolls. Where nothing begins,
+/// The rules settled at once that the column breaks strictly, and what it costs of them and of such tolls. Where nothing begins,
 /// nothing is read.
 fn readings(sheet: &Sheet, m: &Moment<'_>) -> (RuleSet, u64)
     requires { IsReadable m.now }
     ensures broken { (p : List (List ACell)) → IsAfter p m.now → (r : ℕ) → has_rule result.0.bits r ≡ list_any (λ rule. is_strictly_broken_then all_sets rule p m.now && r == rule) rules_at_once }
-    ensures paid { (p : List (List ACell)) → IsAfter p m.now → result.1 ≡ sum_by (toll_then sheet.now p m.now) tolls_read + sum_by (λ rule. prices_then all_sets rule p m.now) rules_at_once }
+    ensures paid { (p : List (List ACell)) → IsAfter p m.now → result.1 ≡ sum_by (toll_then sheet.now p m.now) tolls_at_once + sum_by (λ rule. prices_then all_sets rule p m.now) rules_at_once }
     ensures bound { result.1 ≤ 9784200 }
 {
     if is_quiet(m.place, m.column) {
@@ -153,7 +153,7 @@ fn readings(sheet: &Sheet, m: &Moment<'_>) -> (RuleSet, u64)
 /// Judges a column that comes after a prefix: which rules it breaks strictly, what it costs, and the state of the longer prefix. It takes no memory.
 pub fn step(ex: &Exercise, sheet: &Sheet, state: &State, col: &Column) -> Verdict
     requires valid { IsValid ex.now }
-    requires room { state.now.len < columns_in ex.now }
+    requires room { state.now.newest.len < columns_in ex.now }
     requires full { length col.now.items ≡ ex.now.voices }
     ensures state { (p : List (List ACell)) → IsStateOf ex.now p state.now → IsStateOf ex.now (p ++ col.now.items ∷ []) result.state }
 
@@ -162,14 +162,14 @@ pub fn step(ex: &Exercise, sheet: &Sheet, state: &State, col: &Column) -> Verdic
     ensures broken { (p : List (List ACell)) → IsStateOf ex.now p state.now → GoesOn ex.now p (col.now.items ∷ []) → (r : ℕ) → has_rule result.broken.bits r ≡ (is_read r && newly_broken ex.now p col.now.items r) }
     ensures settled { (p : List (List ACell)) → IsStateOf ex.now p state.now → GoesOn ex.now p (col.now.items ∷ []) → result.paid ≡ newly_paid ex.now sheet.now p col.now.items }
     ensures paid { (p : List (List ACell)) → IsStateOf ex.now p state.now → GoesOn ex.now p (col.now.items ∷ []) → paid ex.now sheet.now (p ++ col.now.items ∷ []) ≡ paid ex.now sheet.now p + result.paid }
-    ensures bound { result.paid ≤ 16777216 }
+    ensures bound { result.paid ≤ 134217728 }
     ensures least { result.least ≡ 0 }
 {
     let moment = moment_of(ex, state, col);
     let next = next_state(ex, state, col);
     let (at_once, paid) = readings(sheet, &moment);
     let broken = with_late(at_once, ex, &next);
-    let paid = paid + late_prices(ex, &next);
+    let paid = paid + late_charges(sheet, ex, &next) + late_prices(ex, &next);
     Verdict {
         state: next,
         broken,

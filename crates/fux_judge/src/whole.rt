@@ -6,12 +6,13 @@ ghost use Rattle.fux_grid.specs.Exercises.{IsValid, columns_in};
 ghost use Rattle.fux_judge.specs.Rules as rules;
 ghost use Rattle.fux_judge.specs.Rules.{all_rules, tolls_read};
 
-use crate::reading::{is_melodic, is_of_dissonance, is_of_motion, is_of_rhythm};
+use crate::reading::{is_melodic, is_of_dissonance, is_of_doubling, is_of_motion, is_of_rhythm};
 use dissonance_rules::{Dissonance, Q1, Q2};
+use doubling_rules::{Doubling, Q3, Q4, Q5, Q6};
 use fux_grid::{Exercise, Score, VoiceSet};
 use melody_rules::{Melody, Q7, Q8, Q9, Q10, Q13};
-use motion_rules::{Motion, Q11, Q14};
-use rhythm_cadence::Rhythm;
+use motion_rules::{Motion, Q11, Q12, Q14};
+use rhythm_cadence::{Q15, Q16, Rhythm};
 use rule_law::{Rule, Toll};
 
 /// Whether a rule is broken at column `i` for a set of voices. A number that no crate has is never broken.
@@ -33,6 +34,9 @@ pub fn is_broken_in(rule: u8, ex: &Exercise, score: &Score, i: usize, voices: Vo
     }
     if is_of_rhythm(rule) {
         return Rhythm.broken(rule, ex, score, i, voices);
+    }
+    if is_of_doubling(rule) {
+        return Doubling.broken(rule, ex, score, i, voices);
     }
     false
 }
@@ -57,11 +61,14 @@ pub fn is_settled_in(rule: u8, ex: &Exercise, prefix: &Score, i: usize, voices: 
     if is_of_rhythm(rule) {
         return Rhythm.settled(rule, ex, prefix, i, voices);
     }
+    if is_of_doubling(rule) {
+        return Doubling.settled(rule, ex, prefix, i, voices);
+    }
     true
 }
 
 /// All tolls that are read.
-const TOLLS: [u8; 9] = [1, 2, 7, 8, 9, 10, 11, 13, 14];
+const TOLLS: [u8; 16] = [1, 2, 3, 4, 5, 6, 7, 8, 9, 10, 11, 12, 13, 14, 15, 16];
 
 /// All tolls that are read, by ascending numbers: those of all crates.
 #[tactic(auto, unfolding(crate::specs::Rules::tolls_read))]
@@ -88,6 +95,18 @@ pub fn cost_in(toll: u8, ex: &Exercise, score: &Score, i: usize) -> u32
     if toll == 2 {
         return Q2.cost(ex, score, i);
     }
+    if toll == 3 {
+        return Q3.cost(ex, score, i);
+    }
+    if toll == 4 {
+        return Q4.cost(ex, score, i);
+    }
+    if toll == 5 {
+        return Q5.cost(ex, score, i);
+    }
+    if toll == 6 {
+        return Q6.cost(ex, score, i);
+    }
     if toll == 7 {
         return Q7.cost(ex, score, i);
     }
@@ -103,20 +122,34 @@ pub fn cost_in(toll: u8, ex: &Exercise, score: &Score, i: usize) -> u32
     if toll == 11 {
         return Q11.cost(ex, score, i);
     }
+    if toll == 12 {
+        return Q12.cost(ex, score, i);
+    }
     if toll == 13 {
         return Q13.cost(ex, score, i);
     }
     if toll == 14 {
         return Q14.cost(ex, score, i);
     }
+    if toll == 15 {
+        return Q15.cost(ex, score, i);
+    }
+    if toll == 16 {
+        return Q16.cost(ex, score, i);
+    }
     0
 }
 
-/// Whether that is settled: each toll is so far at its own column.
+/// Whether that is settled: each toll but Q16 is at its own column.
 pub fn is_cost_settled_in(toll: u8, ex: &Exercise, prefix: &Score, i: usize) -> bool
-    requires { i < length prefix.now.columns }
+    requires valid { IsValid ex.now }
+    requires voices { prefix.now.voices ≡ ex.now.voices }
+    requires few { length prefix.now.columns ≤ columns_in ex.now }
+    requires place { i < length prefix.now.columns }
     ensures { result ≡ rules.is_cost_settled toll ex.now prefix.now.columns i }
 {
-    let _ = (toll, ex.voices, prefix.len(), i);
+    if toll == 16 {
+        return Q16.settled(ex, prefix, i);
+    }
     true
 }

@@ -19,6 +19,8 @@ use penalty_sheet::{Sheet, weight};
 /// Whether what a toll costs at a place is settled in an earlier score. It isn't where there is none, nor at a place that
 /// the score doesn't have.
 fn is_settled_before(toll: u8, ex: &Exercise, before: Option<&Score>, i: usize) -> bool
+    requires valid { IsValid ex.now }
+    requires earlier { ForSome before (λ score. IsPart ex.now score.now) }
     ensures { result ≡ is_cost_settled toll ex.now (columns_of (option_copied before.entry)) i }
 {
     match before {
@@ -44,6 +46,7 @@ fn charge(
     requires first { 1 ≤ toll }
     requires last { toll ≤ 20 }
     requires valid { IsValid ex.now }
+    requires earlier { ForSome before (λ score. IsPart ex.now score.now) }
     requires part { IsPart ex.now score.now }
     requires place { i < length score.now.columns }
     ensures value { result ≡ toll_since ex.now sheet.now (columns_of (option_copied before.entry)) score.now.columns i toll }
@@ -61,6 +64,7 @@ fn charge(
 /// What the tolls come to at a place.
 fn tolls_at(ex: &Exercise, sheet: &Sheet, before: Option<&Score>, score: &Score, i: usize) -> u64
     requires valid { IsValid ex.now }
+    requires earlier { ForSome before (λ score. IsPart ex.now score.now) }
     requires part { IsPart ex.now score.now }
     requires place { i < length score.now.columns }
     ensures value { result ≡ sum_by (toll_since ex.now sheet.now (columns_of (option_copied before.entry)) score.now.columns i) tolls_read }
@@ -124,7 +128,7 @@ fn prices_at(ex: &Exercise, before: Option<&Score>, score: &Score, i: usize) -> 
     requires part { IsPart ex.now score.now }
     requires place { i < length score.now.columns }
     ensures value { result ≡ prices_since ex.now (columns_of (option_copied before.entry)) score.now.columns i }
-    ensures bound { result ≤ 2700000 }
+    ensures bound { result ≤ 3900000 }
 {
     let mut sum = 0u64;
     for rule in every_rule() {
@@ -141,7 +145,7 @@ fn charges_at(ex: &Exercise, sheet: &Sheet, before: Option<&Score>, score: &Scor
     requires part { IsPart ex.now score.now }
     requires place { i < length score.now.columns }
     ensures value { result ≡ charges_since ex.now sheet.now (columns_of (option_copied before.entry)) score.now.columns i }
-    ensures bound { result ≤ 5629413636256500 }
+    ensures bound { result ≤ 5629413637456500 }
 {
     tolls_at(ex, sheet, before, score, i) + prices_at(ex, before, score, i)
 }

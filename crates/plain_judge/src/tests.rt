@@ -132,8 +132,11 @@ fn copied(column: &Column) -> Result<Column, Fail> {
     Ok(cells)
 }
 
+/// The rules and tolls that are read among the newest columns.
+const LATE_RULES: [u8; 9] = [3, 15, 18, 19, 20, 21, 22, 23, 25];
+
 /// Compares the judge's verdict of a longer score's last column with the plain reading, and answers the rules that are
-/// newly broken. Where a break of S3 is settled before it, the judge promises nothing of S3, so it isn't asked.
+/// newly broken. Where a break of S3 is settled before it, the judge promises nothing of late rules and of costs, so it isn't asked.
 fn compare(
     rt: &impl Abort,
     ex: &Exercise,
@@ -151,9 +154,11 @@ fn compare(
     assert!(rt; longer.len() == prefix.len() + 1);
     let broken = newly_broken(ex, prefix, longer);
     let paid = newly_paid(ex, sheet, prefix, longer);
-    assert_eq!(rt; verdict.paid, paid, "column {}", prefix.len());
+    if orderly {
+        assert_eq!(rt; verdict.paid, paid, "column {}", prefix.len());
+    }
     for rule in 0..32u8 {
-        if rule != 3 || orderly {
+        if orderly || !LATE_RULES.contains(&rule) {
             let (found, wanted) = (verdict.broken.has(rule), broken.has(rule));
             assert_eq!(rt; found, wanted, "S{rule} at {}", prefix.len());
         }
@@ -188,14 +193,14 @@ fn compare_sums(
 }
 
 /// Judges a score column by column, each as the plain reading of the scores without it and with it does, and answers what
-/// is paid of it.
+/// is paid of it; nothing where it breaks S3.
 fn walk(
     rt: &impl Abort,
     alloc: Global,
     ex: &Exercise,
     sheet: &Sheet,
     score: &Score,
-) -> Result<u64, Fail>
+) -> Result<Option<u64>, Fail>
     requires valid { IsValid ex.now }
 {
     assert!(rt; score.voices() == ex.voices && score.len() == 8 * usize::from(ex.bars));
@@ -215,12 +220,15 @@ fn walk(
             bits: broken.bits | new.bits,
         };
         sum = sum.saturating_add(verdict.paid);
-        if i % 8 == 7 {
+        if i % 8 == 7 && !broken.has(3) {
             compare_sums(rt, ex, sheet, &longer, broken, sum);
         }
         state = verdict.state;
     }
-    Ok(sum)
+    if broken.has(3) {
+        return Ok(None);
+    }
+    Ok(Some(sum))
 }
 
 const CANTUS: &str = "D4 E4 D4";
@@ -237,7 +245,7 @@ const SHORT_LINE: &str = "D4:8 F4:8 E4:8 D4:8";
 
 #[test]
 fn columns_are_judged_as_the_whole_score(rt: HostRuntime) -> Result<(), Fail> {
-    let table: [Setting; 14] = [
+    let table: [Setting; 22] = [
         (1, 0, CANTUS, &[], &[LINE, "D5:8 C5:8 D5:8"], Some(0)),
         (1, 0, CANTUS, &[], &[LINE, "D5:8 C#5:8 D5:8"], Some(0)),
         // a leap of a third, and one direct motion
@@ -344,6 +352,102 @@ fn columns_are_judged_as_the_whole_score(rt: HostRuntime) -> Result<(), Fail> {
             ],
             None,
         ),
+        // three voices: passing notes, and no cadence
+        (
+            2,
+            0,
+            SHORT_CANTUS,
+            &[(22, 7, 20), (15, 6, 3)],
+            &[
+                SHORT_LINE,
+                "r:4 D5:4 C5:4 A4:4 G4:4 B4:4 A4:8",
+                "A5:8 A5:8 G5:8 F5:8",
+            ],
+            None,
+        ),
+        // crotchets that clash and turn, fifths on the first beats, and a bar that comes again
+        (
+            3,
+            0,
+            SHORT_CANTUS,
+            &[(15, 0, 4), (18, 3, 25)],
+            &[
+                SHORT_LINE,
+                "A4:2 B4:2 C5:2 B4:2 C5:2 E5:2 D5:2 B4:2 C5:2 E5:2 D5:2 B4:2 D5:8",
+            ],
+            None,
+        ),
+        // four voices: inner voices that move alike, and wide pairs
+        (
+            3,
+            0,
+            SHORT_CANTUS,
+            &[(15, 0, 2), (16, 0, 3), (22, 15, 6)],
+            &[
+                "D3:8 F3:8 E3:8 D3:8",
+                "A4:2 B4:2 C5:2 B4:2 A4:2 G4:2 F4:2 C5:2 G4:2 A4:2 B4:2 C#5:2 D5:8",
+                "F5:8 A5:8 G5:8 F5:8",
+                "D6:8 C6:8 B5:8 A5:8",
+            ],
+            None,
+        ),
+        // suspensions: prepared and resolved, left by a leap, and at a size that isn't good
+        (
+            4,
+            0,
+            "D4 F4 E4 G4 F4 E4 D4",
+            &[(19, 0, 5), (20, 3, 11), (21, 0, 7)],
+            &[
+                "D4:8 F4:8 E4:8 G4:8 F4:8 E4:8 D4:8",
+                "r:4 G4:8 D5:8 A4:8 B4:8 G4:4 D5:8 C#5:4 D5:8",
+            ],
+            None,
+        ),
+        // the same below two whole notes, with a new note at a bar
+        (
+            4,
+            0,
+            SHORT_CANTUS,
+            &[(20, 0, 9), (19, 6, 1)],
+            &[
+                SHORT_LINE,
+                "r:4 A4:4 C5:4 D5:8 C#5:4 D5:8",
+                "F5:8 C6:8 B5:8 A5:8",
+            ],
+            None,
+        ),
+        // notes of one slot that are left by a leap, and ties into dissonance
+        (
+            5,
+            0,
+            SHORT_CANTUS,
+            &[(25, 0, 8), (15, 0, 3), (19, 3, 2)],
+            &[SHORT_LINE, "r:4 A4:4 G4:4 C5:6 A4:1 B4:1 C#5:4 D5:8"],
+            None,
+        ),
+        // the leading note twice, a third and none
+        (
+            1,
+            0,
+            CANTUS,
+            &[(23, 0, 13), (10, 0, 1)],
+            &[LINE, "A4:8 C#5:8 D5:8", "D5:8 C#5:8 D5:8", "F5:8 A5:8 A5:8"],
+            None,
+        ),
+        // a whole bar of each kind of note of species 5, in four voices
+        (
+            5,
+            2,
+            "D5 F5 E5 D5",
+            &[(15, 0, 1), (20, 0, 2), (22, 0, 3)],
+            &[
+                "D3:8 A3:8 E3:8 D3:8",
+                "r:4 F4:6 E4:1 D4:1 C4:2 D4:2 E4:4 B3:4 C#4:4 D4:8",
+                "D5:8 F5:8 E5:8 D5:8",
+                "A5:8 C6:8 G5:8 A5:8",
+            ],
+            None,
+        ),
     ];
     let sheet = default_sheet();
     for (species, cantus_voice, cantus, relax, lines, wanted) in table {
@@ -357,7 +461,9 @@ fn columns_are_judged_as_the_whole_score(rt: HostRuntime) -> Result<(), Fail> {
             relax,
         )?;
         assert!(rt; ex.is_valid());
-        let paid = walk(&rt, rt.alloc(), &ex, &sheet, &score)?;
+        let Some(paid) = walk(&rt, rt.alloc(), &ex, &sheet, &score)? else {
+            continue;
+        };
         assert_eq!(rt; penalty(&ex, &sheet, &score), Some(paid), "{lines:?}");
         assert_eq!(rt; wanted.unwrap_or(paid), paid, "{lines:?}");
     }

@@ -74,8 +74,9 @@ impl NewestColumns {
     #[inline]
     pub fn with(&self, column: &[Cell]) -> NewestColumns
         requires room { self.now.len < 192 }
-        ensures { (voices : ℕ) (s : List (List ACell)) → voices ≤ 4 → length column.now ≡ voices
+        ensures newest { (voices : ℕ) (s : List (List ACell)) → voices ≤ 4 → length column.now ≡ voices
             → AreNewestOf voices s self.now → AreNewestOf voices (s ++ column.now ∷ []) result }
+        ensures count { result.len ≡ self.now.len + 1 }
     {
         let mut next = *self;
         next.columns[self.len % 24] = ColumnCells::of(column);

@@ -32,8 +32,8 @@ all_four : (a b c d : Bool) → a ≡ true → b ≡ true → c ≡ true → d �
 all_four a b c d e f g h = rw (e, f, g, h) refl
 
 -- a node knows how long its path is
-pub as_long : (ex : Exercise) (sheet : Sheet) (node : Node) (path : List ℕ) → IsNodeOf ex sheet node path → node.state.len ≡ length path
-as_long ex sheet node path at = at.state.len ∙ length-columns_on ex 0 path
+pub as_long : (ex : Exercise) (sheet : Sheet) (node : Node) (path : List ℕ) → IsNodeOf ex sheet node path → node.state.newest.len ≡ length path
+as_long ex sheet node path at = at.state.newest.count ∙ length-columns_on ex 0 path
 
 module _ (ex : Exercise) (path : List ℕ) (k : ℕ) (live : is_live_path ex path ≡ true) where
   abbrev before : List Cell

@@ -12,4 +12,4 @@ pub record IsNodeOf (ex : Exercise) (sheet : Sheet) (node : Node) (path : List �
   pub state : IsStateOf ex (prefix_at ex path) node.state
   pub is_live : is_live_path ex path ≡ true
   pub paid : node.paid ≡ paid ex sheet (prefix_at ex path)
-  pub small : node.paid ≤ 16777216 * length path
+  pub small : node.paid ≤ 134217728 * length path

@@ -248,7 +248,7 @@ fn child_by(
 ) -> Option<(Node, u64)>
     requires valid { IsValid exercise.now }
     requires child { HasChild (IsNodeOf exercise.now sheet.now node.now) (columns_in exercise.now) (width_at exercise.now) k }
-    requires column { column.now.items ≡ slice_index_or (menu_of exercise.now node.now.state.len) k [] }
+    requires column { column.now.items ≡ slice_index_or (menu_of exercise.now node.now.state.newest.len) k [] }
     ensures { (path : List ℕ) → IsNodeOf exercise.now sheet.now node.now path → MatchOption result
         (live_at exercise.now sheet.now (path ++ k ∷ []) ≡ None)
         (λ entry. IsNodeOf exercise.now sheet.now entry.0 (path ++ k ∷ []) × (live_at exercise.now sheet.now (path ++ k ∷ []) ≡ Some entry.1)) }
@@ -336,10 +336,10 @@ fn next_unpruned(
     best: Option<u64>,
 ) -> usize
     requires valid { IsValid exercise.now }
-    requires room { node.now.state.len < columns_in exercise.now }
-    requires menu { items_of menu.now.columns.items ≡ menu_of exercise.now node.now.state.len }
+    requires room { node.now.state.newest.len < columns_in exercise.now }
+    requires menu { items_of menu.now.columns.items ≡ menu_of exercise.now node.now.state.newest.len }
     requires cut { IsBlockMenu menu.now }
-    requires skips { SkipsDead exercise.now node.now.state.len menu.now }
+    requires skips { SkipsDead exercise.now node.now.state.newest.len menu.now }
     requires within { from ≤ length menu.now.columns.items }
     ensures onward { from ≤ result }
     ensures within { result ≤ length menu.now.columns.items }

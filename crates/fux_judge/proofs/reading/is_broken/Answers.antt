@@ -19,12 +19,12 @@ returns-then-is_melodic c = λ p after.
 pub returns-then-is_of_motion : goal.returns-then-is_of_motion
 returns-then-is_of_motion c = λ p after.
     c.breaks-then-is_of_motion.ensures ∙ near_then (motion.near_rows c.args.rule c.args.m.now.exercise.now c.args.voices.bits) p c.args.m.now after
-    ∙ motion_then c.args.rule c.args.voices.bits p c.args.m.now (sym c.if-is_melodic.ensures) (sym c.if-is_of_motion.ensures)
+    ∙ motion_then c.args.rule c.args.voices.bits p c.args.m.now c.requires.rule (sym c.if-is_melodic.ensures) (sym c.if-is_of_motion.ensures)
 
 pub returns-then-is_of_dissonance : goal.returns-then-is_of_dissonance
 returns-then-is_of_dissonance c = λ p after.
     c.breaks-then-is_of_dissonance.ensures ∙ near_then (dissonance.near_rows c.args.rule c.args.m.now.exercise.now c.args.voices.bits) p c.args.m.now after
-    ∙ dissonance_then c.args.rule c.args.voices.bits p c.args.m.now (sym c.if-is_melodic.ensures) (sym c.if-is_of_motion.ensures) (sym c.if-is_of_dissonance.ensures)
+    ∙ dissonance_then c.args.rule c.args.voices.bits p c.args.m.now c.requires.rule (sym c.if-is_melodic.ensures) (sym c.if-is_of_motion.ensures) (sym c.if-is_of_dissonance.ensures)
 
 pub returns-then-is_of_rhythm : goal.returns-then-is_of_rhythm
 returns-then-is_of_rhythm c = λ p after.
@@ -33,4 +33,4 @@ returns-then-is_of_rhythm c = λ p after.
 
 pub returns : goal.returns
 returns c = λ p after.
-    none_then c.args.rule c.args.voices.bits p c.args.m.now (sym c.if-is_melodic.ensures) (sym c.if-is_of_motion.ensures) (sym c.if-is_of_dissonance.ensures) (sym c.if-is_of_rhythm.ensures)
+    none_then c.args.rule c.args.voices.bits p c.args.m.now c.requires.rule (sym c.if-is_melodic.ensures) (sym c.if-is_of_motion.ensures) (sym c.if-is_of_dissonance.ensures) (sym c.if-is_of_rhythm.ensures)

@@ -1,7 +1,7 @@
 use Rattle.std.proofs.Common.{◌≡◌, ◌||◌, Bool, true, false, sym, ◌∙◌}
 use Rattle.motion_rules.specs.Rows as motion
 use Rattle.dissonance_rules.specs.Rows as dissonance
-use Rattle.fux_judge.specs.Rules.{is_toll_of_motion, is_toll_of_dissonance}
+use Rattle.fux_judge.specs.Charges.{is_clashing_toll, is_moving_toll}
 use Rattle.fux_judge.proofs.MomentLemmas.{near_then, bar_line_cost, motion_cost, dissonance_cost, not_equal}
 use Rattle.fux_judge.proofs.tolls.cost.Goals as goal
 
@@ -9,10 +9,10 @@ other : (x y : Bool) → (x || y) ≡ true → x ≡ false → y ≡ true
 other true y h e = cc
 other false y h e = h
 
-pub returns-then-not-is_of_motion-clause-value : goal.returns-then-not-is_of_motion-clause-value
-returns-then-not-is_of_motion-clause-value c = λ p after.
+pub returns-then-not-is_moving-clause-value : goal.returns-then-not-is_moving-clause-value
+returns-then-not-is_moving-clause-value c = λ p after.
     c.cost.ensures.value ∙ near_then (dissonance.toll_rows c.args.toll c.args.m.now.exercise.now) p c.args.m.now after
-    ∙ dissonance_cost c.args.toll p c.args.m.now (other (is_toll_of_motion c.args.toll) (is_toll_of_dissonance c.args.toll) c.requires (sym c.if-not-is_of_motion.ensures))
+    ∙ dissonance_cost c.args.toll p c.args.m.now (other (is_moving_toll c.args.toll) (is_clashing_toll c.args.toll) c.requires (sym c.if-not-is_moving.ensures))
 
 pub returns-then-toll-eq14-clause-value : goal.returns-then-toll-eq14-clause-value
 returns-then-toll-eq14-clause-value c = λ p after.
@@ -22,4 +22,4 @@ returns-then-toll-eq14-clause-value c = λ p after.
 pub returns-clause-value : goal.returns-clause-value
 returns-clause-value c = λ p after.
     c.cost-2.ensures.value ∙ near_then (motion.toll_rows c.args.toll c.args.m.now.exercise.now) p c.args.m.now after
-    ∙ motion_cost c.args.toll p c.args.m.now (sym c.if-not-is_of_motion.ensures) (not_equal c.args.toll 14 c.if-toll-eq14.false)
+    ∙ motion_cost c.args.toll p c.args.m.now (sym c.if-not-is_moving.ensures) (not_equal c.args.toll 14 c.if-toll-eq14.false)

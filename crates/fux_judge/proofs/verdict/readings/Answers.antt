@@ -2,7 +2,7 @@ use Rattle.std.proofs.Common.{◌≡◌, ℕ, ◌+◌, ◌==◌, ap, sym, ◌∙
 use Rattle.std.proofs.lemmas.Nat.Bits.{bit_at-zero}
 use Rattle.std.specs.Prelude.{nat_lt, not, true, ◌&&◌}
 use Rattle.std.specs.List.{list_all, sum_by}
-use Rattle.fux_judge.specs.Rules.{all_sets, is_late, rule_at, rules_at_once, tolls_read}
+use Rattle.fux_judge.specs.Rules.{all_sets, is_late, rule_at, rules_at_once, tolls_at_once}
 use Rattle.fux_judge.specs.Moments.{prices_then, toll_then}
 use Rattle.fux_judge.proofs.QuietLemmas.{none_broken, none_charged, none_priced}
 use Rattle.fux_judge.proofs.verdict.readings.Goals as goal
@@ -19,8 +19,8 @@ returns-then-is_quiet-clause-broken c = λ p after r.
 pub returns-then-is_quiet-clause-paid : goal.returns-then-is_quiet-clause-paid
 returns-then-is_quiet-clause-paid c = λ p after.
     let quiet = sym c.is_quiet.ensures ∙ c.if-is_quiet.true in
-    none_together (sum_by (toll_then c.args.sheet.now p c.args.m.now) tolls_read) (sum_by (λ rule. prices_then all_sets rule p c.args.m.now) rules_at_once)
-    (none_charged p c.args.m.now after.place quiet c.args.sheet.now tolls_read) (none_priced p c.args.m.now after.place quiet rules_at_once all_numbers)
+    none_together (sum_by (toll_then c.args.sheet.now p c.args.m.now) tolls_at_once) (sum_by (λ rule. prices_then all_sets rule p c.args.m.now) rules_at_once)
+    (none_charged p c.args.m.now after.place quiet c.args.sheet.now) (none_priced p c.args.m.now after.place quiet rules_at_once all_numbers)
   where
     none_together : (a b : ℕ) → a ≡ 0 → b ≡ 0 → 0 ≡ a + b
     none_together a b e f = omega arith

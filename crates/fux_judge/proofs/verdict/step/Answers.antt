@@ -23,8 +23,8 @@ returns-clause-settled c = λ p st on.
     let after = c.moment_of-moment.ensures.after p st in
     let col = c.args.col.now.items in
     let m = c.moment_of-moment.result in
-    step_pays c.args.ex.now p col c.args.sheet.now m c.moment_of-moment.ensures.exercise c.moment_of-moment.ensures.column on _ _
-    (c.readings-paid.ensures.paid p after) (c.late_prices.ensures.value p col record { reached = c.next_state-next.ensures.state p st; on = on })
+    step_pays c.args.ex.now p col c.args.sheet.now m c.moment_of-moment.ensures.exercise c.moment_of-moment.ensures.column on _ _ _
+    (c.readings-paid.ensures.paid p after) (c.late_charges.ensures.value p col record { reached = c.next_state-next.ensures.state p st; on = on }) (c.late_prices.ensures.value p col record { reached = c.next_state-next.ensures.state p st; on = on })
 
 pub returns-clause-paid : goal.returns-clause-paid
 returns-clause-paid c = λ p st on.
@@ -33,5 +33,5 @@ returns-clause-paid c = λ p st on.
     let m = c.moment_of-moment.result in
     paid_grows c.args.ex.now p col c.args.sheet.now
     ∙ ap (λ n. paid c.args.ex.now c.args.sheet.now p + n)
-    (sym (step_pays c.args.ex.now p col c.args.sheet.now m c.moment_of-moment.ensures.exercise c.moment_of-moment.ensures.column on _ _
-    (c.readings-paid.ensures.paid p after) (c.late_prices.ensures.value p col record { reached = c.next_state-next.ensures.state p st; on = on })))
+    (sym (step_pays c.args.ex.now p col c.args.sheet.now m c.moment_of-moment.ensures.exercise c.moment_of-moment.ensures.column on _ _ _
+    (c.readings-paid.ensures.paid p after) (c.late_charges.ensures.value p col record { reached = c.next_state-next.ensures.state p st; on = on }) (c.late_prices.ensures.value p col record { reached = c.next_state-next.ensures.state p st; on = on })))

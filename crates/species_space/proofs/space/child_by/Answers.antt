@@ -26,7 +26,7 @@ pub returns-then-not-cells_follow : goal.returns-then-not-cells_follow
 returns-then-not-cells_follow c = λ path at.
     let ex = c.args.exercise.now in
     let k = c.args.k in
-    let same = c.as_slice.ensures.value ∙ chosen ex path k c.args.node.now.state.len c.args.column.now.items (as_long ex c.args.sheet.now c.args.node.now path at) c.requires.column in
+    let same = c.as_slice.ensures.value ∙ chosen ex path k c.args.node.now.state.newest.len c.args.column.now.items (as_long ex c.args.sheet.now c.args.node.now path at) c.requires.column in
     strays ex path k at.is_live c.args.sheet.now
     (λ follows.
     let P : List Cell → List Cell → Type 0 = λ b n. ColumnFollows b n in
@@ -42,7 +42,7 @@ pub step-verdict-requires-clause-full : goal.step-verdict-requires-clause-full
 step-verdict-requires-clause-full c =
     let ex = c.args.exercise.now in
     let child = c.requires.child in
-    let same = chosen ex child.path c.args.k c.args.node.now.state.len c.args.column.now.items (as_long ex c.args.sheet.now c.args.node.now child.path child.at) c.requires.column in
+    let same = chosen ex child.path c.args.k c.args.node.now.state.newest.len c.args.column.now.items (as_long ex c.args.sheet.now c.args.node.now child.path child.at) c.requires.column in
     ap length same ∙ menu_of-full ex (length child.path) c.args.k [] child.within
 
 pub returns-then-breaks : goal.returns-then-breaks
@@ -50,7 +50,7 @@ returns-then-breaks c = λ path at.
     let ex = c.args.exercise.now in
     let k = c.args.k in
     let p = prefix_at ex path in
-    let same = chosen ex path k c.args.node.now.state.len c.args.column.now.items (as_long ex c.args.sheet.now c.args.node.now path at) c.requires.column in
+    let same = chosen ex path k c.args.node.now.state.newest.len c.args.column.now.items (as_long ex c.args.sheet.now c.args.node.now path at) c.requires.column in
     let broken = c.step-verdict.result.broken.bits in
     let child = c.requires.child in
     let long = as_long ex c.args.sheet.now c.args.node.now path at in
@@ -77,7 +77,7 @@ returns c = λ path at.
     let room : length path < columns_in ex = omega (arith, long, longer, child.above) in
     let same_length : length child.path ≡ length path = sym longer ∙ long in
     let within : k < width_at ex path = subst (λ n. k < length (menu_of ex n)) same_length child.within in
-    let same = chosen ex path k c.args.node.now.state.len c.args.column.now.items long c.requires.column in
+    let same = chosen ex path k c.args.node.now.state.newest.len c.args.column.now.items long c.requires.column in
     let broken = c.step-verdict.result.broken.bits in
     let before = c.before-before.ensures p at.state in
     let there = subst (λ b. ColumnFollows b (column_at ex path k)) before (subst (ColumnFollows c.before-before.result.now) (c.as_slice.ensures.value ∙ same) (c.cells_follow.ensures.0 c.if-not-cells_follow.false)) in

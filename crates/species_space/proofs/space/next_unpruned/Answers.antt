@@ -23,7 +23,7 @@ loop-k-init c =
       onward = next.onward;
       within = next.within;
       passed = λ p st own j le lt follows.
-          inl (next.passed c.args.exercise.now c.args.node.now.state.len c.requires.skips.skip j le lt
+          inl (next.passed c.args.exercise.now c.args.node.now.state.newest.len c.requires.skips.skip j le lt
           (subst (λ b. ColumnFollows b (slice_index_or (items_of columns) j [])) (sym (c.before-before.ensures p st)) follows) p (sym st.len));
     }
 
@@ -31,9 +31,9 @@ pub pruned_within-requires-clause-full : goal.pruned_within-requires-clause-full
 pruned_within-requires-clause-full c =
     let columns = c.args.menu.now.columns.items in
     let k = c.loop-k.k in
-    let wide : length columns ≡ length (menu_of c.args.exercise.now c.args.node.now.state.len) = sym (length-map columns (λ col. col.items)) ∙ ap length c.requires.menu in
+    let wide : length columns ≡ length (menu_of c.args.exercise.now c.args.node.now.state.newest.len) = sym (length-map columns (λ col. col.items)) ∙ ap length c.requires.menu in
     ap length c.column-column.ensures ∙ ap (λ cols. length (slice_index_or cols k [])) c.requires.menu
-    ∙ menu_of-full c.args.exercise.now c.args.node.now.state.len k [] (omega (arith, wide, c.loop-k-test.true, c.len.ensures, c.args.menu.now.columns.ok.0))
+    ∙ menu_of-full c.args.exercise.now c.args.node.now.state.newest.len k [] (omega (arith, wide, c.loop-k-test.true, c.len.ensures, c.args.menu.now.columns.ok.0))
 
 pub returns-in_default-clause-onward : goal.returns-in_default-clause-onward
 returns-in_default-clause-onward c = c.loop-k.invariant.onward
@@ -57,7 +57,7 @@ loop-k-preserved c =
     let to = c.next_choice-k-in-loop-k.result in
     let long = length-map columns (λ col. col.items) in
     let full : (j : ℕ) → j < length menu → length (slice_index_or menu j []) ≡ ex.voices = λ j lt.
-    ap (λ cols. length (slice_index_or cols j [])) c.requires.menu ∙ menu_of-full ex c.args.node.now.state.len j [] (subst (λ cols. j < length cols) c.requires.menu lt) in
+    ap (λ cols. length (slice_index_or cols j [])) c.requires.menu ∙ menu_of-full ex c.args.node.now.state.newest.len j [] (subst (λ cols. j < length cols) c.requires.menu lt) in
     record {
       onward = omega (arith, c.loop-k.invariant.onward, block.onward, next.onward);
       within = next.within;
@@ -70,7 +70,7 @@ loop-k-preserved c =
           (passed_on P k end to
           (λ j le lt. costly j (c.in-Some.ensures.pruned p st (slice_index_or menu j []) (full j (omega (arith, lt, block.within))) (block.cells j le lt ∙ ap (take c.in-Some.voices) (sym c.column-column.ensures))))
           (λ j le lt follows.
-          inl (next.passed ex c.args.node.now.state.len c.requires.skips.skip j le lt
+          inl (next.passed ex c.args.node.now.state.newest.len c.requires.skips.skip j le lt
           (subst (λ b. ColumnFollows b (slice_index_or menu j [])) (sym (c.before-before.ensures p st)) follows) p (sym st.len))));
     }
 

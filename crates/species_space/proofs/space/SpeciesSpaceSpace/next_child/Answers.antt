@@ -17,9 +17,9 @@ menu-menu-requires c =
 pub next_unpruned-requires-clause-room : goal.next_unpruned-requires-clause-room
 next_unpruned-requires-clause-room c =
     let ex = c.args.self.now.exercise in
-    let here : c.args.node.now.state.len ≡ length c.requires.path = c.requires.at.state.len ∙ length-columns_on ex 0 c.requires.path in
-    let room : c.args.node.now.state.len < columns_in ex = omega (arith, here, c.requires.above) in
-    subst (λ e. c.args.node.now.state.len < columns_in e) (sym (ap (λ task. task.exercise) c.self.view_is)) room
+    let here : c.args.node.now.state.newest.len ≡ length c.requires.path = c.requires.at.state.newest.count ∙ length-columns_on ex 0 c.requires.path in
+    let room : c.args.node.now.state.newest.len < columns_in ex = omega (arith, here, c.requires.above) in
+    subst (λ e. c.args.node.now.state.newest.len < columns_in e) (sym (ap (λ task. task.exercise) c.self.view_is)) room
 
 pub next_unpruned-requires-clause-within : goal.next_unpruned-requires-clause-within
 next_unpruned-requires-clause-within c =

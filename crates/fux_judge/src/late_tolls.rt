@@ -1,0 +1,149 @@
+//! What a column settles of late tolls.
+
+ghost use Rattle.std.specs.Prelude.{◌≡◌, ◌≤◌, ◌<◌, ◌+◌, ◌-◌, true, ◌&&◌, nat_le, ◌++◌, ◌∷◌, [], ℕ, List, IsTrue, length};
+ghost use Rattle.std.specs.List.{filter, list_all, sum_by};
+ghost use Rattle.fux_grid.specs.declared.cell.Cell.{Cell as ACell};
+ghost use Rattle.fux_grid.specs.Exercises.{IsValid, columns_in};
+ghost use Rattle.rule_law.specs.Rulebooks.{IsAmong, newly_costs};
+ghost use Rattle.fux_judge.specs.Penalties.{new_toll};
+ghost use Rattle.fux_judge.specs.Rules as rules;
+ghost use Rattle.fux_judge.specs.Rules.{is_late_toll, late_tolls, toll_at, tolls_read};
+ghost use Rattle.fux_judge.specs.States.{HasCome};
+ghost use Rattle.fux_judge.specs.Steps as steps;
+
+use crate::state::State;
+use fux_grid::Exercise;
+use penalty_sheet::{Sheet, weight};
+use rule_law::LatePlaces;
+
+/// The tolls that may be settled later than at their own column.
+const LATE_TOLLS: [u8; 7] = [3, 4, 5, 6, 12, 15, 16];
+
+#[tactic(auto, unfolding(crate::specs::Rules::late_tolls, crate::specs::Rules::tolls_read, crate::specs::Rules::toll_at))]
+fn every_late_toll() -> &'static [u8]
+    ensures value { result.now ≡ late_tolls }
+    ensures table { result.now ≡ filter is_late_toll tolls_read }
+    ensures numbers { IsTrue (list_all (λ toll. nat_le 1 toll && (nat_le toll 20 && is_late_toll toll)) result.now) }
+    ensures few { length result.now ≤ 8 }
+{
+    &LATE_TOLLS
+}
+
+/// Whether a toll is of motion.
+#[inline]
+fn is_of_motion(toll: u8) -> bool
+    ensures { result ≡ rules.is_toll_of_motion toll }
+{
+    toll == 11 || toll == 12 || toll == 14
+}
+
+/// Whether a toll is of rhythm.
+#[inline]
+fn is_of_rhythm(toll: u8) -> bool
+    ensures { result ≡ rules.is_toll_of_rhythm toll }
+{
+    toll == 15 || toll == 16
+}
+
+/// Where column `i` may settle what a late toll costs, as the crate that has it says.
+fn places_at(toll: u8, ex: &Exercise, i: usize) -> LatePlaces
+    requires late { is_late_toll toll ≡ true }
+    requires valid { IsValid ex.now }
+    requires place { i < columns_in ex.now }
+    ensures first { result.first ≡ (toll_at toll).first ex.now i }
+    ensures count { result.count ≡ (toll_at toll).count ex.now i }
+    ensures few { result.count ≤ 24 }
+{
+    if is_of_motion(toll) {
+        return motion_rules::toll_places(toll, ex, i);
+    }
+    if is_of_rhythm(toll) {
+        return rhythm_cadence::toll_places(toll, ex, i);
+    }
+    doubling_rules::toll_places(toll, ex, i)
+}
+
+/// Where the newest column may settle what a late toll costs.
+fn places_of(toll: u8, ex: &Exercise, next: &State) -> LatePlaces
+    requires late { is_late_toll toll ≡ true }
+    requires valid { IsValid ex.now }
+    requires begun { 0 < next.now.newest.len }
+    requires room { next.now.newest.len ≤ columns_in ex.now }
+    ensures first { result.first ≡ (toll_at toll).first ex.now (next.now.newest.len - 1) }
+    ensures count { result.count ≡ (toll_at toll).count ex.now (next.now.newest.len - 1) }
+    ensures within { result.first + result.count ≤ next.now.newest.len }
+    ensures few { result.count ≤ 24 }
+{
+    places_at(toll, ex, next.newest.len - 1)
+}
+
+/// What the newest column settles of a late toll at one of its places, without its weight, as the crate that has it says.
+fn cost_at(toll: u8, ex: &Exercise, next: &State, place: usize) -> u32
+    requires late { is_late_toll toll ≡ true }
+    requires valid { IsValid ex.now }
+    requires begun { 0 < next.now.newest.len }
+    requires room { next.now.newest.len ≤ columns_in ex.now }
+    ensures value { (p : List (List ACell)) (col : List ACell) → HasCome ex.now next.now p col
+        → IsAmong ((toll_at toll).first ex.now (length p)) ((toll_at toll).count ex.now (length p)) place
+        → result ≡ newly_costs (toll_at toll) ex.now p col place }
+    ensures bound { result ≤ 6 }
+{
+    let newest = &next.newest;
+    if is_of_motion(toll) {
+        return motion_rules::cost_late(newest, toll, ex, place);
+    }
+    if is_of_rhythm(toll) {
+        return rhythm_cadence::cost_late(newest, toll, ex, place);
+    }
+    doubling_rules::cost_late(newest, toll, ex, place)
+}
+
+/// What it settles there by the toll's weight.
+fn charge_at(toll: u8, sheet: &Sheet, ex: &Exercise, next: &State, place: usize) -> u64
+    requires number { IsTrue (nat_le 1 toll && (nat_le toll 20 && is_late_toll toll)) }
+    requires valid { IsValid ex.now }
+    requires begun { 0 < next.now.newest.len }
+    requires room { next.now.newest.len ≤ columns_in ex.now }
+    ensures value { (p : List (List ACell)) (col : List ACell) → HasCome ex.now next.now p col
+        → IsAmong ((toll_at toll).first ex.now (length p)) ((toll_at toll).count ex.now (length p)) place
+        → result ≡ new_toll ex.now sheet.now p col place toll }
+    ensures bound { result ≤ 393210 }
+{
+    u64::from(cost_at(toll, ex, next, place)) * u64::from(weight(sheet, toll))
+}
+
+/// What the newest column settles of a late toll.
+fn charges_of(toll: u8, sheet: &Sheet, ex: &Exercise, next: &State) -> u64
+    requires number { IsTrue (nat_le 1 toll && (nat_le toll 20 && is_late_toll toll)) }
+    requires valid { IsValid ex.now }
+    requires begun { 0 < next.now.newest.len }
+    requires room { next.now.newest.len ≤ columns_in ex.now }
+    ensures value { (p : List (List ACell)) (col : List ACell) → HasCome ex.now next.now p col
+        → result ≡ steps.toll_late ex.now sheet.now p col toll }
+    ensures bound { result ≤ 9437040 }
+{
+    let places = places_of(toll, ex, next);
+    let mut sum = 0u64;
+    for k in 0..places.count {
+        let charge = charge_at(toll, sheet, ex, next, places.first + k);
+        sum += charge;
+    }
+    sum
+}
+
+/// What the newest column settles of all late tolls.
+pub(crate) fn late_charges(sheet: &Sheet, ex: &Exercise, next: &State) -> u64
+    requires valid { IsValid ex.now }
+    requires begun { 0 < next.now.newest.len }
+    requires room { next.now.newest.len ≤ columns_in ex.now }
+    ensures value { (p : List (List ACell)) (col : List ACell) → HasCome ex.now next.now p col
+        → result ≡ sum_by (steps.toll_late ex.now sheet.now p col) late_tolls }
+    ensures bound { result ≤ 75496320 }
+{
+    let mut sum = 0u64;
+    for toll in every_late_toll() {
+        let charges = charges_of(*toll, sheet, ex, next);
+        sum += charges;
+    }
+    sum
+}
