@@ -243,34 +243,60 @@ const SHORT_CANTUS: &str = "D4 F4 E4 D4";
 
 const SHORT_LINE: &str = "D4:8 F4:8 E4:8 D4:8";
 
+/// Judges settings column by column, beside the plain reading.
+fn judge_all(rt: &impl Abort, alloc: Global, table: &[Setting]) -> Result<(), Fail> {
+    let sheet = default_sheet();
+    for (species, cantus_voice, cantus, relax, lines, wanted) in table {
+        let score = score(alloc, lines)?;
+        let ex = exercise(
+            alloc,
+            score.voices(),
+            *species,
+            *cantus_voice,
+            cantus,
+            relax,
+        )?;
+        assert!(rt; ex.is_valid());
+        let Some(paid) = walk(rt, alloc, &ex, &sheet, &score)? else {
+            continue;
+        };
+        assert_eq!(rt; penalty(&ex, &sheet, &score), Some(paid), "{lines:?}");
+        assert_eq!(rt; wanted.unwrap_or(paid), paid, "{lines:?}");
+    }
+    Ok(())
+}
+
+#[test]
+fn a_long_setting_is_judged_as_the_whole_score(rt: HostRuntime) -> Result<(), Fail> {
+    let table: [Setting; 1] = [(
+        1,
+        0,
+        LONG_CANTUS,
+        &[],
+        &[
+            LONG_LINE,
+            "A4:8 A4:8 G4:8 A4:8 B4:8 C5:8 C5:8 B4:8 D5:8 C#5:8 D5:8",
+        ],
+        Some(21),
+    )];
+    judge_all(&rt, rt.alloc(), &table)
+}
+
 #[test]
 fn columns_are_judged_as_the_whole_score(rt: HostRuntime) -> Result<(), Fail> {
-    let table: [Setting; 22] = [
-        (1, 0, CANTUS, &[], &[LINE, "D5:8 C5:8 D5:8"], Some(0)),
-        (1, 0, CANTUS, &[], &[LINE, "D5:8 C#5:8 D5:8"], Some(0)),
-        // a leap of a third, and one direct motion
-        (1, 0, CANTUS, &[], &[LINE, "A4:8 C#5:8 D5:8"], Some(3)),
+    let table: [Setting; 13] = [
+        // each D5 lies far from the middle of the range
+        (1, 0, CANTUS, &[], &[LINE, "D5:8 C5:8 D5:8"], Some(2)),
+        (1, 0, CANTUS, &[], &[LINE, "D5:8 C#5:8 D5:8"], Some(2)),
+        // a leap of a third, one direct motion, and a D5
+        (1, 0, CANTUS, &[], &[LINE, "A4:8 C#5:8 D5:8"], Some(4)),
+        // fifths from bar 1 to bar 3, strict by S17 and relaxed by S16
         (
             1,
             0,
-            LONG_CANTUS,
-            &[],
-            &[
-                LONG_LINE,
-                "A4:8 A4:8 G4:8 A4:8 B4:8 C5:8 C5:8 B4:8 D5:8 C#5:8 D5:8",
-            ],
-            Some(19),
-        ),
-        // fifths from bar 4 to bar 6, strict by S17 and relaxed by S16
-        (
-            1,
-            0,
-            LONG_CANTUS,
+            "D4 G4 F4 E4 D4",
             &[(16, 0, 50), (16, 3, 9)],
-            &[
-                LONG_LINE,
-                "A4:8 A4:8 G4:8 A4:8 D5:8 C5:8 C5:8 B4:8 D5:8 C#5:8 D5:8",
-            ],
+            &["D4:8 G4:8 F4:8 E4:8 D4:8", "A4:8 D5:8 C5:8 C#5:8 D5:8"],
             None,
         ),
         (
@@ -352,6 +378,13 @@ fn columns_are_judged_as_the_whole_score(rt: HostRuntime) -> Result<(), Fail> {
             ],
             None,
         ),
+    ];
+    judge_all(&rt, rt.alloc(), &table)
+}
+
+#[test]
+fn late_rules_are_judged_as_the_whole_score(rt: HostRuntime) -> Result<(), Fail> {
+    let table: [Setting; 8] = [
         // three voices: passing notes, and no cadence
         (
             2,
@@ -395,11 +428,11 @@ fn columns_are_judged_as_the_whole_score(rt: HostRuntime) -> Result<(), Fail> {
         (
             4,
             0,
-            "D4 F4 E4 G4 F4 E4 D4",
+            "D4 F4 E4 G4 E4 D4",
             &[(19, 0, 5), (20, 3, 11), (21, 0, 7)],
             &[
-                "D4:8 F4:8 E4:8 G4:8 F4:8 E4:8 D4:8",
-                "r:4 G4:8 D5:8 A4:8 B4:8 G4:4 D5:8 C#5:4 D5:8",
+                "D4:8 F4:8 E4:8 G4:8 E4:8 D4:8",
+                "r:4 G4:8 D5:8 A4:8 D5:8 C#5:4 D5:8",
             ],
             None,
         ),
@@ -449,23 +482,5 @@ fn columns_are_judged_as_the_whole_score(rt: HostRuntime) -> Result<(), Fail> {
             None,
         ),
     ];
-    let sheet = default_sheet();
-    for (species, cantus_voice, cantus, relax, lines, wanted) in table {
-        let score = score(rt.alloc(), lines)?;
-        let ex = exercise(
-            rt.alloc(),
-            score.voices(),
-            species,
-            cantus_voice,
-            cantus,
-            relax,
-        )?;
-        assert!(rt; ex.is_valid());
-        let Some(paid) = walk(&rt, rt.alloc(), &ex, &sheet, &score)? else {
-            continue;
-        };
-        assert_eq!(rt; penalty(&ex, &sheet, &score), Some(paid), "{lines:?}");
-        assert_eq!(rt; wanted.unwrap_or(paid), paid, "{lines:?}");
-    }
-    Ok(())
+    judge_all(&rt, rt.alloc(), &table)
 }
