@@ -19,6 +19,7 @@ pub mod ValidRanges
 pub mod ValidRelax
 pub mod ValidSetting
 pub mod ValidText
+pub mod Layouts
 pub mod PlainWords
 pub mod OwnHead
 pub mod OwnRanges

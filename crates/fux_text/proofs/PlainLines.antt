@@ -28,7 +28,8 @@ use Rattle.fux_grid.specs.Letters.{bar_columns}
 use Rattle.fux_text.specs.Items.{goes_on, item_name, item_word, items_of_cells, with_run}
 use Rattle.fux_text.specs.Lines.{bar_words, bars_words, between_bar_lines, cantus_words, exercise_lines, head_lines, mode_name, range_words, relax_words, sing_words, voices_word}
 use Rattle.fux_text.proofs.ItemLemmas.{with_run-broken}
-use Rattle.fux_text.proofs.OwnItems.{items_words, with_run-longer}
+use Rattle.fux_text.proofs.OwnBars.{items_words}
+use Rattle.fux_text.proofs.OwnItems.{with_run-longer}
 use Rattle.fux_text.proofs.OwnSetting.{sung_lines}
 use Rattle.fux_text.proofs.PlainWords.{is_ink, is_line, is_word, word_ink}
 

@@ -1,3 +1,4 @@
+pub mod Grammar
 pub mod Head
 pub mod Items
 pub mod Lines

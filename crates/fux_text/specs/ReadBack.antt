@@ -3,19 +3,12 @@ use Rattle.std.specs.Prelude.{◌≡◌, ℕ, ◌≤◌, List, Option, All, IfSo
 use Rattle.std.specs.List.{flat_map}
 use Rattle.fux_grid.specs.declared.cell.Cell.{Cell}
 use Rattle.fux_grid.specs.declared.exercise.Exercise.{Exercise}
-use Rattle.fux_grid.specs.Columns.{HistoryFollows}
-use Rattle.fux_grid.specs.Exercises.{IsGiven, IsValid}
+use Rattle.fux_grid.specs.Exercises.{IsValid}
 use Rattle.fux_grid.specs.Grid.{Grid}
+use Rattle.fux_text.specs.Grammar.{IsSettingOf}
 use Rattle.fux_text.specs.Lines.{free_voices, note_text, sing_text}
 use Rattle.fux_text.specs.Texts.{AreSingLinesOf, IsTextOf}
 use Rattle.fux_text.specs.Waiting.{IsJudged}
-
--- a setting of an exercise: a complete score with the cantus, whose columns have a cell for each voice and follow one
--- another (the last two hold of every score of the program)
-pub record IsSettingOf (ex : Exercise) (score : Grid) : Type 0 where
-  pub given : IsGiven ex score
-  pub full : All (λ col. length col ≡ ex.voices) score.columns
-  pub follows : HistoryFollows (reverse score.columns)
 
 -- what is written of an exercise, with a setting or without, is the note text of that exercise with that setting, where it
 -- isn't too long to be read
