@@ -29,3 +29,6 @@ pub mod OwnBars
 pub mod OwnSetting
 pub mod PlainLines
 pub mod OwnText
+pub mod OnlyWords
+pub mod OnlyHead
+pub mod OnlyRanges
