@@ -32,3 +32,6 @@ pub mod OwnText
 pub mod OnlyWords
 pub mod OnlyHead
 pub mod OnlyRanges
+pub mod OnlySing
+pub mod OnlySetting
+pub mod OnlyText

@@ -29,7 +29,7 @@ use Rattle.fux_text.proofs.Named.{found_name, text_from}
 -- ---- numbers
 
 -- a number and the digits that it is written with
-record IsWritten (ds : List ℕ) (n : ℕ) : Type 0 where
+pub record IsWritten (ds : List ℕ) (n : ℕ) : Type 0 where
   pub digits : ds ≡ decimal n
   pub few : n ≤ 9999999
 
@@ -68,7 +68,7 @@ more-only m (b ∷ bs) n some few e =
     by true d false s rest e = absurd (grind (arith, e))
     by false d s t rest e = absurd (grind (arith, e))
 
-number-only : (ds : List ℕ) (n : ℕ) → number_of ds ≡ Some n → IsWritten ds n
+pub number-only : (ds : List ℕ) (n : ℕ) → number_of ds ≡ Some n → IsWritten ds n
 unfolding number_of
 number-only [] n e = absurd (grind (arith, e))
 number-only (b ∷ bs) n e = by (b == 48) refl e

@@ -97,19 +97,19 @@ voice-sung_own ex columns v after l words others has there e sung =
     rw e (sing_line-own ex.bars v words (line v columns) after l others has.some (omega (arith, there, has.few)) sung (has.follows v))
 
 -- the free ones of so many voices
-abbrev free_of : Exercise → ℕ → ℕ → List ℕ
+abbrev pub free_of : Exercise → ℕ → ℕ → List ℕ
 free_of ex a n = filter (λ v. not (v == ex.cantus_voice)) (range_with_len a n)
 
-free-cantus : (ex : Exercise) (a n : ℕ) → (a == ex.cantus_voice) ≡ true → free_of ex a (suc n) ≡ free_of ex (a + 1) n
+pub free-cantus : (ex : Exercise) (a n : ℕ) → (a == ex.cantus_voice) ≡ true → free_of ex a (suc n) ≡ free_of ex (a + 1) n
 free-cantus ex a n e = rw e refl
 
-free-other : (ex : Exercise) (a n : ℕ) → (a == ex.cantus_voice) ≡ false → free_of ex a (suc n) ≡ a ∷ free_of ex (a + 1) n
+pub free-other : (ex : Exercise) (a n : ℕ) → (a == ex.cantus_voice) ≡ false → free_of ex a (suc n) ≡ a ∷ free_of ex (a + 1) n
 free-other ex a n e = rw e refl
 
 -- voices are read from such lines
 abbrev ReadsVoices : Exercise → List (List Cell) → ℕ → ℕ → ℕ → List (List Cell) → Type 0
 ReadsVoices ex columns after n a before =
-    (lay : ℕ → LineWords) (lines : List (List (List ℕ))) → AreSung ex.bars columns (free_of ex a n) lines
+    (lay : ℕ → LineWords) (lines : List (List (List ℕ))) → AreSung ex.bars (λ w. line w columns) (free_of ex a n) lines
     → voices_in ex (range_with_len a n) before (left after (lines_at lay lines))
     ≡ Ok (before ++ map (λ v. line v columns) (range_with_len a n), left after [])
 
@@ -131,7 +131,7 @@ voices-own ex columns after has (suc n) a before low lay lines sung =
     Reads found =
         voices_in ex (a ∷ vs) before (left after (lines_at lay found)) ≡ Ok (before ++ map (λ v. line v columns) (a ∷ vs), left after [])
 
-    first : (found : List (List (List ℕ))) → (a == ex.cantus_voice) ≡ false → AreSung ex.bars columns (a ∷ free_of ex (a + 1) n) found
+    first : (found : List (List (List ℕ))) → (a == ex.cantus_voice) ≡ false → AreSung ex.bars (λ w. line w columns) (a ∷ free_of ex (a + 1) n) found
         → ReadsVoices ex columns after n (a + 1) (before ++ line a columns ∷ []) → Reads found
     first [] e s rest = absurd s
     first (words ∷ others) e s rest =
@@ -141,13 +141,13 @@ voices-own ex columns after has (suc n) a before low lay lines sung =
     by : (b : Bool) → (a == ex.cantus_voice) ≡ b → ReadsVoices ex columns after n (a + 1) (before ++ line a columns ∷ []) → Reads lines
     by true e rest =
         rw (voice-cantus_own ex columns a (left after (lines_at lay lines)) has e)
-        (rest lay lines (subst (λ free. AreSung ex.bars columns free lines) (free-cantus ex a n e) sung)
+        (rest lay lines (subst (λ free. AreSung ex.bars (λ w. line w columns) free lines) (free-cantus ex a n e) sung)
         ∙ ap (λ found. Ok (found, left after [])) whole)
-    by false e rest = first lines e (subst (λ free. AreSung ex.bars columns free lines) (free-other ex a n e) sung) rest
+    by false e rest = first lines e (subst (λ free. AreSung ex.bars (λ w. line w columns) free lines) (free-other ex a n e) sung) rest
 
 -- ---- the score
 
-cells-of_column : (col : List Cell) → map (λ v. cell_in col v) (range_with_len 0 (length col)) ≡ col
+pub cells-of_column : (col : List Cell) → map (λ v. cell_in col v) (range_with_len 0 (length col)) ≡ col
 cells-of_column col =
     ext_get_or Rest (map (λ v. cell_in col v) (range_with_len 0 (length col))) col
     (length-map-range_with_len (λ v. cell_in col v) 0 (length col))
@@ -190,7 +190,7 @@ pub record IsSingable (ex : Exercise) : Type 0 where
 
 -- a setting is read from the lines of its free voices
 pub sung_score-own : (ex : Exercise) (score : Grid) (after : ℕ) (lay : ℕ → LineWords) (lines : List (List (List ℕ))) → IsSingable ex
-    → IsSettingOf ex score → AreSung ex.bars score.columns (free_voices ex) lines
+    → IsSettingOf ex score → AreSung ex.bars (λ w. line w score.columns) (free_voices ex) lines
     → sung_score ex (left after (lines_at lay lines)) ≡ Ok score
 unfolding sung_score no_line
 sung_score-own ex score after lay lines can setting sung =
@@ -224,23 +224,23 @@ abbrev pub BeginWithSing : List (List (List ℕ)) → Type 0
 BeginWithSing [] = ⊤
 BeginWithSing (words ∷ lines) = (others : List (List ℕ)) × (words ≡ codes "sing" ∷ others)
 
-sung-begin : (bars : ℕ) (columns : List (List Cell)) (vs : List ℕ) (lines : List (List (List ℕ))) → AreSung bars columns vs lines
+sung-begin : (bars : ℕ) (cells : ℕ → List Cell) (vs : List ℕ) (lines : List (List (List ℕ))) → AreSung bars cells vs lines
     → BeginWithSing lines
-sung-begin bars columns vs [] sung = tt
-sung-begin bars columns [] (words ∷ lines) sung = absurd sung
-sung-begin bars columns (v ∷ vs) (words ∷ lines) sung =
+sung-begin bars cells vs [] sung = tt
+sung-begin bars cells [] (words ∷ lines) sung = absurd sung
+sung-begin bars cells (v ∷ vs) (words ∷ lines) sung =
     (decimal v ∷ between_bar_lines (map (map item_word) sung.0.items), sung.0.written)
 
 pub sings-begin : (ex : Exercise) (lines : List (List (List ℕ))) (o : Option Grid) → Sings ex lines o → BeginWithSing lines
 sings-begin ex lines None none = subst BeginWithSing (sym none) tt
-sings-begin ex lines (Some score) sings = sung-begin ex.bars score.columns (free_voices ex) lines sings.1
+sings-begin ex lines (Some score) sings = sung-begin ex.bars (λ w. line w score.columns) (free_voices ex) lines sings.1
 
 -- where there is a line for the first voice, it begins so
-begins-first : (bars : ℕ) (columns : List (List Cell)) (v : ℕ) (vs : List ℕ) (after : ℕ) (lay : ℕ → LineWords) (lines : List (List (List ℕ)))
-    → AreSung bars columns (v ∷ vs) lines → begins (codes "sing") (left after (lines_at lay lines)) ≡ true
+begins-first : (bars : ℕ) (cells : ℕ → List Cell) (v : ℕ) (vs : List ℕ) (after : ℕ) (lay : ℕ → LineWords) (lines : List (List (List ℕ)))
+    → AreSung bars cells (v ∷ vs) lines → begins (codes "sing") (left after (lines_at lay lines)) ≡ true
 unfolding begins
-begins-first bars columns v vs after lay [] sung = absurd sung
-begins-first bars columns v vs after lay (words ∷ lines) sung =
+begins-first bars cells v vs after lay [] sung = absurd sung
+begins-first bars cells v vs after lay (words ∷ lines) sung =
     subst (λ ws. begins (codes "sing") (left after (lines_at lay (ws ∷ lines))) ≡ true) (sym sung.0.written) refl
 
 pub setting-own : (ex : Exercise) (o : Option Grid) (after : ℕ) (lay : ℕ → LineWords) (lines : List (List (List ℕ))) → IsSingable ex
@@ -250,8 +250,8 @@ setting-own ex None after lay lines can none =
     subst (λ found. setting_in ex (left after (lines_at lay found)) ≡ Ok None) (sym none) refl
 setting-own ex (Some score) after lay lines can sings =
     let first = first_free ex.cantus_voice ex.voices can.fewest_voices in
-    rw (begins-first ex.bars score.columns first.0 first.1 after lay lines
-    (subst (λ vs. AreSung ex.bars score.columns vs lines) first.2 sings.1),
+    rw (begins-first ex.bars (λ w. line w score.columns) first.0 first.1 after lay lines
+    (subst (λ vs. AreSung ex.bars (λ w. line w score.columns) vs lines) first.2 sings.1),
     sung_score-own ex score after lay lines can sings.0 sings.1) refl
 
 -- ---- the lines that are written
@@ -266,7 +266,7 @@ pub sung_lines-sing : (ex : Exercise) (o : Option Grid) → IfSome o (IsSettingO
 sung_lines-sing ex None setting = refl
 sung_lines-sing ex (Some score) setting = (setting, all (free_voices ex))
   where
-    all : (vs : List ℕ) → AreSung ex.bars score.columns vs (map (λ v. sing_words v score.columns) vs)
+    all : (vs : List ℕ) → AreSung ex.bars (λ w. line w score.columns) vs (map (λ v. sing_words v score.columns) vs)
     all [] = tt
     all (v ∷ vs) =
         (sing_words-sung ex.bars v score.columns setting.given.complete.whole (line-follows_own v score.columns setting.follows), all vs)

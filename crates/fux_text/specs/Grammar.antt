@@ -43,17 +43,17 @@ pub record IsSettingOf (ex : Exercise) (score : Grid) : Type 0 where
   pub full : All (λ col. length col ≡ ex.voices) score.columns
   pub follows : HistoryFollows (reverse score.columns)
 
--- a line for each of these voices, in their order
-abbrev pub AreSung : ℕ → List (List Cell) → List ℕ → List (List (List ℕ)) → Type 0
-AreSung bars columns [] [] = ⊤
-AreSung bars columns [] (words ∷ lines) = ⊥
-AreSung bars columns (v ∷ vs) [] = ⊥
-AreSung bars columns (v ∷ vs) (words ∷ lines) = IsSung bars v words (line v columns) × AreSung bars columns vs lines
+-- a line for each of these voices, in their order, where each voice has such cells
+abbrev pub AreSung : ℕ → (ℕ → List Cell) → List ℕ → List (List (List ℕ)) → Type 0
+AreSung bars cells [] [] = ⊤
+AreSung bars cells [] (words ∷ lines) = ⊥
+AreSung bars cells (v ∷ vs) [] = ⊥
+AreSung bars cells (v ∷ vs) (words ∷ lines) = IsSung bars v words (cells v) × AreSung bars cells vs lines
 
 -- the lines of a setting, one for each free voice, or no lines
 abbrev pub Sings : Exercise → List (List (List ℕ)) → Option Grid → Type 0
 Sings ex lines None = lines ≡ []
-Sings ex lines (Some score) = IsSettingOf ex score × AreSung ex.bars score.columns (free_voices ex) lines
+Sings ex lines (Some score) = IsSettingOf ex score × AreSung ex.bars (λ v. line v score.columns) (free_voices ex) lines
 
 -- a note text of an exercise: it has the exercise's lines, and then those of its setting, if it has one
 pub record IsNoteText (bytes : List ℕ) (ex : Exercise) : Type 0 where
