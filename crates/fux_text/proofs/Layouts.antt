@@ -1,5 +1,5 @@
 -- Words and the places at which they stand: a text is its words in some layout (`lines-laid`).
-use Rattle.std.proofs.Common.{◌≡◌, ℕ, zero, suc, List, [], ◌∷◌, get_or, map, refl, ap, ◌∙◌}
+use Rattle.std.proofs.Common.{◌≡◌, ℕ, suc, List, [], ◌∷◌, get_or, map, refl, ap, ◌∙◌}
 use Rattle.text_lines.specs.Lines.{TextLines}
 use Rattle.text_lines.specs.Words.{LineWords, PlacedWord}
 use Rattle.fux_text.specs.Words.{texts}

@@ -35,3 +35,4 @@ pub mod OnlyRanges
 pub mod OnlySing
 pub mod OnlySetting
 pub mod OnlyText
+pub mod ReadTexts

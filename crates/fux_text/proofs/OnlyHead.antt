@@ -1,5 +1,5 @@
 -- What is read before the ranges has the words that are written of it (`head-only`).
-use Rattle.std.proofs.Common.{◌≡◌, ℕ, zero, suc, ◌+◌, ◌-◌, Bool, true, false, List, [], ◌∷◌, ◌++◌, length, map, Option, Some, None, Ok, refl, sym, ap, subst, ◌∙◌, append_assoc, arith}
+use Rattle.std.proofs.Common.{◌≡◌, ℕ, zero, suc, ◌-◌, Bool, true, false, List, [], ◌∷◌, ◌++◌, map, Option, Some, None, Ok, refl, sym, ap, ◌∙◌, append_assoc, arith}
 use Rattle.std.specs.Prelude.{◌==◌, codes, if◌then◌else◌}
 use Rattle.std.specs.Fmt.{decimal}
 use Rattle.std.specs.Option.{ok_or, option_and_then}
@@ -18,7 +18,7 @@ use Rattle.text_lines.proofs.Binds.{bind_ok, ok_or_ok}
 use Rattle.fux_text.specs.Head.{cantus_line, head_in, mode_line, number_line, other_voice, other_voice_in, pitch_in, pitches_in, species_line, unless, version_line}
 use Rattle.fux_text.specs.Lines.{cantus_words, head_lines, mode_name}
 use Rattle.fux_text.specs.Names.{mode_named, pitch_named}
-use Rattle.fux_text.specs.Waiting.{IsJudged, most_species, most_voices}
+use Rattle.fux_text.specs.Waiting.{most_species, most_voices}
 use Rattle.fux_text.specs.Words.{texts}
 use Rattle.fux_text.proofs.Following.{value_is}
 use Rattle.fux_text.proofs.OnlyWords.{done-only, headed-only, line_texts, literal-only, mode-only, next-only, number_in-only, pitch-only, within-only}

@@ -1,11 +1,9 @@
 -- A setting that is read has the lines of its free voices (`setting-only`, `sung_score-only`).
-use Rattle.std.proofs.Common.{◌≡◌, ℕ, zero, suc, ◌+◌, ◌*◌, ◌<◌, ◌≤◌, Bool, true, false, List, [], ◌∷◌, ◌++◌, get_or, length, length-append, map, reverse, Option, Some, None, Ok, refl, sym, ap, subst, ◌∙◌, append_assoc, arith}
-use Rattle.std.specs.Prelude.{◌==◌, All, codes, if◌then◌else◌, ⊤}
+use Rattle.std.proofs.Common.{◌≡◌, ℕ, zero, suc, ◌+◌, ◌*◌, ◌<◌, Bool, true, false, List, [], ◌∷◌, ◌++◌, get_or, length, length-append, map, reverse, Option, Some, None, Ok, refl, sym, ap, subst, ◌∙◌, arith}
+use Rattle.std.specs.Prelude.{◌==◌, codes, if◌then◌else◌}
 use Rattle.std.specs.List.{AllByRecursion, range_with_len}
 use Rattle.std.proofs.lemmas.List.{append-nil, length-map}
 use Rattle.std.proofs.lemmas.List.FromFn.{get_or-map-range_with_len, length-map-range_with_len, length-range_with_len, map-range_with_len_more}
-use Rattle.std.proofs.lemmas.List.Sums.{sum_by-cons}
-use Rattle.std.proofs.lemmas.Simd.{map-map}
 use Rattle.fux_grid.specs.declared.cell.Cell.{Cell}
 use Rattle.fux_grid.specs.declared.cell.Cell.TheVariants.{Rest}
 use Rattle.fux_grid.specs.declared.exercise.Exercise.{Exercise}
@@ -27,7 +25,7 @@ use Rattle.fux_text.proofs.OnlyWords.{line_texts, no_line-only}
 use Rattle.fux_text.proofs.OwnBars.{cells-length}
 use Rattle.fux_text.proofs.OwnSetting.{cells-of_column, free-cantus, free-other, free_of}
 use Rattle.fux_text.proofs.ScoreLoops.{column-cell, next-follows}
-use Rattle.fux_text.proofs.ValidSetting.{KeepsLines, sung-valid, voices-keep}
+use Rattle.fux_text.proofs.ValidSetting.{sung-valid, voices-keep}
 
 -- ---- the voices
 
@@ -123,9 +121,10 @@ sung-columns : (bars : ℕ) (lines : List (List Cell)) (vs : List ℕ) (words : 
 sung-columns bars lines [] [] sung = tt
 sung-columns bars lines [] (ws ∷ words) sung = absurd sung
 sung-columns bars lines (v ∷ vs) [] sung = absurd sung
-sung-columns bars lines (v ∷ vs) (ws ∷ words) sung =
-    (subst (λ cs. IsSung bars v ws cs) (sym (line-of_score bars v lines (sung-length bars v ws (get_or lines v []) sung.0))) sung.0,
-    sung-columns bars lines vs words sung.1)
+sung-columns bars lines (v ∷ vs) (ws ∷ words) sung = (
+  subst (λ cs. IsSung bars v ws cs) (sym (line-of_score bars v lines (sung-length bars v ws (get_or lines v []) sung.0))) sung.0,
+  sung-columns bars lines vs words sung.1,
+)
 
 columns-follow : (lines : List (List Cell)) (n : ℕ) → AllByRecursion (FollowsFrom Rest) lines
     → HistoryFollows (reverse (map (column_of lines) (range_with_len 0 n)))

@@ -1,8 +1,8 @@
 -- A `sing` line that is read has the words of items with these cells (`sing_line-only`).
-use Rattle.std.proofs.Common.{◌≡◌, ℕ, zero, suc, ◌+◌, ◌-◌, ◌*◌, ◌<◌, ◌≤◌, Bool, true, false, List, [], ◌∷◌, ◌++◌, length, length-append, map, replicate, take, drop, Option, Some, None, Ok, refl, sym, ap, subst, ◌∙◌, append_assoc, arith}
+use Rattle.std.proofs.Common.{◌≡◌, ℕ, suc, ◌+◌, ◌-◌, ◌*◌, ◌<◌, ◌≤◌, Bool, true, false, List, [], ◌∷◌, ◌++◌, length, length-append, map, take, drop, Option, Some, None, Ok, refl, sym, ap, subst, ◌∙◌, append_assoc, arith}
 use Rattle.std.specs.Prelude.{◌==◌, ◌&&◌, nat_le, not, codes, option_map, if◌then◌else◌}
 use Rattle.std.specs.Fmt.{decimal}
-use Rattle.std.specs.List.{AllByRecursion, after_first, before_first, flat_map, position_or_len, sum_by}
+use Rattle.std.specs.List.{AllByRecursion, after_first, before_first, flat_map, position_or_len}
 use Rattle.std.specs.Option.{ok_or}
 use Rattle.std.proofs.lemmas.Bool.{eqb-true}
 use Rattle.std.proofs.lemmas.List.{append-nil, length-replicate}
@@ -13,7 +13,7 @@ use Rattle.fux_grid.specs.declared.cell.Cell.{Cell}
 use Rattle.fux_grid.specs.declared.cell.Cell.TheVariants.{Rest, Hold, Start}
 use Rattle.fux_grid.specs.Cells.{is_hold, pitch_of}
 use Rattle.text_lines.specs.declared.fault.TextKind.TheVariants as kinds
-use Rattle.text_lines.specs.Faults.{Fault, ◌>>=◌}
+use Rattle.text_lines.specs.Faults.{◌>>=◌}
 use Rattle.text_lines.specs.Lines.{TextLines}
 use Rattle.text_lines.specs.Numbers.{if_within, number_of}
 use Rattle.text_lines.specs.Reading.{fault_at, fault_beyond, headed, number_in, same_text}
@@ -23,7 +23,6 @@ use Rattle.fux_text.specs.declared.item_words.ItemName.{ItemName}
 use Rattle.fux_text.specs.declared.item_words.ItemName.TheVariants as names
 use Rattle.fux_text.specs.Grammar.{IsBar, IsSung, cells_of, cells_of_bars}
 use Rattle.fux_text.specs.Items.{item_name, item_word}
-use Rattle.fux_text.specs.Lines.{between_bar_lines}
 use Rattle.fux_text.specs.Names.{pitch_named}
 use Rattle.fux_text.specs.Ranges.{refused_if}
 use Rattle.fux_text.specs.Sing.{bar_line_in, first_cell, held, is_colon, is_full, item_cells, item_in, item_named, item_parts, latest, sing_line_in, sung_end, sung_in, sung_word, sung_words}
@@ -206,9 +205,10 @@ bar_line-only : (count bar next : ℕ) (done : List Cell) (w : PlacedWord) → b
 unfolding bar_line_in
 bar_line-only count bar next done w e =
     let full = bind_ok (refused_if (not (is_full bar done)) (fault_at kinds.Length w)) _ next e in
-    let more = bind_ok (refused_if (bar + 1 == count) (fault_at kinds.BarLine w)) _ next full.2 in
-    (full-only bar done (not_refused (not (is_full bar done)) (fault_at kinds.Length w) full.0 full.1),
-    sym (value_is (bar + 1) next _ refl more.2))
+    let more = bind_ok (refused_if (bar + 1 == count) (fault_at kinds.BarLine w)) _ next full.2 in (
+      full-only bar done (not_refused (not (is_full bar done)) (fault_at kinds.Length w) full.0 full.1),
+      sym (value_is (bar + 1) next _ refl more.2),
+    )
 
 item_cells-length : (c : Cell) (n : ℕ) → 1 ≤ n → length (item_cells c n) ≡ n
 item_cells-length c n some = ap suc (length-replicate (n - 1) (held c)) ∙ omega (arith, some)

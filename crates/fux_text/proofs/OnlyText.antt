@@ -1,5 +1,5 @@
 -- A text that is read is a note text of what is read (`note_text-only`), and so are `sing` lines (`setting_lines-only`).
-use Rattle.std.proofs.Common.{◌≡◌, ℕ, ◌<◌, ◌≤◌, Bool, true, false, List, [], ◌∷◌, ◌++◌, length, map, Option, Some, None, Ok, Err, refl, sym, ap, subst, ◌∙◌, append_assoc, arith}
+use Rattle.std.proofs.Common.{◌≡◌, ℕ, ◌≤◌, Bool, true, false, List, ◌∷◌, ◌++◌, length, map, Option, Some, None, Ok, Err, refl, sym, ap, subst, ◌∙◌, append_assoc, arith}
 use Rattle.std.specs.Prelude.{nat_lt, if◌then◌else◌}
 use Rattle.std.specs.Str.{IsUtf8, is_utf8}
 use Rattle.std.proofs.lemmas.Bool.{ltb-false}
@@ -10,16 +10,16 @@ use Rattle.fux_grid.specs.declared.exercise.Relax.{Relax}
 use Rattle.fux_grid.specs.Exercises.{IsValid}
 use Rattle.fux_grid.specs.Grid.{Grid}
 use Rattle.text_lines.specs.declared.fault.TextKind.TheVariants.{TooLong}
-use Rattle.text_lines.specs.Lines.{TextLines, lines_from, lines_in}
+use Rattle.text_lines.specs.Lines.{TextLines, lines_in}
 use Rattle.text_lines.specs.Utf8.{fault_of_utf8, text_in}
 use Rattle.text_lines.proofs.Binds.{bind_ok}
-use Rattle.fux_text.specs.Grammar.{AreSettingLines, IsNoteText, IsSettingOf, Sings}
+use Rattle.fux_text.specs.Grammar.{AreSettingLines, IsNoteText, Sings}
 use Rattle.fux_text.specs.Head.{head_in}
 use Rattle.fux_text.specs.Lines.{cantus_words, exercise_lines, head_lines, range_words, relax_words}
 use Rattle.fux_text.specs.Ranges.{ranges_in}
 use Rattle.fux_text.specs.Reading.{exercise_in, setting_alone}
 use Rattle.fux_text.specs.Relaxing.{relaxes_in}
-use Rattle.fux_text.specs.Sing.{setting_in, sung_score}
+use Rattle.fux_text.specs.Sing.{setting_in}
 use Rattle.fux_text.specs.Words.{words_in}
 use Rattle.fux_text.proofs.Following.{value_is}
 use Rattle.fux_text.proofs.OnlyHead.{head-only}
@@ -63,16 +63,17 @@ sings_whole : (head : Exercise) (ranges : List RangeLine) (relax : List Relax) (
     (o : Option Grid) → Sings head lines o → Sings (record head { ranges = ranges; relax = relax; setting = setting }) lines o
 sings_whole head ranges relax setting lines None sings = sings
 sings_whole head ranges relax setting lines (Some score) sings =
-    let s = sings.0 in
-    (record {
-      given = record {
-        complete = record { voices = s.given.complete.voices; whole = s.given.complete.whole };
-        cantus = s.given.cantus;
-      };
-      full = s.full;
-      follows = s.follows;
-    },
-    sings.1)
+    let s = sings.0 in (
+      record {
+        given = record {
+          complete = record { voices = s.given.complete.voices; whole = s.given.complete.whole };
+          cantus = s.given.cantus;
+        };
+        full = s.full;
+        follows = s.follows;
+      },
+      sings.1,
+    )
 
 pub note_text-only : (bytes : List ℕ) (ex : Exercise) → exercise_in bytes ≡ Ok ex → IsNoteText bytes ex
 unfolding exercise_in

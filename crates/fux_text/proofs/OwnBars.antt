@@ -19,10 +19,10 @@ use Rattle.text_lines.specs.Reading.{headed, literal, next, number_in}
 use Rattle.text_lines.specs.Words.{LineWords, PlacedWord}
 use Rattle.fux_text.specs.Grammar.{IsBar, IsSung, cells_of, cells_of_bars}
 use Rattle.fux_text.specs.Items.{item_word, items_of_cells}
-use Rattle.fux_text.specs.Lines.{bar_words, bars_of, between_bar_lines, sing_words}
+use Rattle.fux_text.specs.Lines.{bar_words, between_bar_lines, sing_words}
 use Rattle.fux_text.specs.Sing.{FollowsFrom, held, item_cells, bar_line_in, latest, sing_line_in, sung_end, sung_in, sung_word}
 use Rattle.fux_text.proofs.NumberWords.{within-own}
-use Rattle.fux_text.proofs.Layouts.{at_words, laid, left, places_of, with_line}
+use Rattle.fux_text.proofs.Layouts.{at_words, left, places_of, with_line}
 use Rattle.fux_text.proofs.OwnItems.{GoesOn, bar-own, items-of_bar, lengths}
 
 follows-parts : (before : Cell) (xs ys : List Cell) → FollowsFrom before (xs ++ ys)
@@ -39,8 +39,13 @@ pub cells-length : (items : List (Cell × ℕ)) → AllByRecursion (λ item. 1 �
 cells-length [] some = refl
 cells-length ((c, n) ∷ items) some =
     let first : length (item_cells c n) ≡ n = ap suc (length-replicate (n - 1) (held c)) ∙ omega (arith, some.0) in
-    omega (arith, length-append (item_cells c n) (cells_of items), first, cells-length items some.1,
-    sum_by-cons (λ item. item.1) (c, n) items)
+    omega (
+      arith,
+      length-append (item_cells c n) (cells_of items),
+      first,
+      cells-length items some.1,
+      sum_by-cons (λ item. item.1) (c, n) items,
+    )
 
 -- a bar line behind a full bar that isn't the last one
 bar_line-own : (bars bar : ℕ) (done : List Cell) (n column : ℕ) → length done ≡ 8 * bar + 8 → bar + 1 < bars
@@ -96,8 +101,10 @@ line_words-own : (count v : ℕ) (bars : List (List (Cell × ℕ))) (after : ℕ
 unfolding sing_line_in headed literal next number_in
 line_words-own count v bars after l others some few last whole f =
     let place = places_of l.words in
-    rw (within-own v v v few (omega arith) (omega arith),
-    sung_in-own count l.line ((place 1).column + length (decimal v)) l.end (λ k. place (suc (suc k))) bars some last whole f) refl
+    rw (
+      within-own v v v few (omega arith) (omega arith),
+      sung_in-own count l.line ((place 1).column + length (decimal v)) l.end (λ k. place (suc (suc k))) bars some last whole f,
+    ) refl
 
 -- a `sing` line is read, wherever its words stand
 pub sing_line-own : (count v : ℕ) (words : List (List ℕ)) (cells : List Cell) (after : ℕ) (l : LineWords) (others : List LineWords)

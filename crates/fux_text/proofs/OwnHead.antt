@@ -11,7 +11,6 @@ use Rattle.fux_grid.specs.declared.exercise.Exercise.{Exercise}
 use Rattle.fux_grid.specs.Exercises.{IsValid}
 use Rattle.text_lines.specs.declared.fault.TextKind.{TextKind}
 use Rattle.text_lines.specs.declared.fault.TextKind.TheVariants as kinds
-use Rattle.text_lines.specs.Lines.{TextLines}
 use Rattle.text_lines.specs.Reading.{done, headed, literal, next, number_in}
 use Rattle.text_lines.specs.Words.{LineWords, PlacedWord}
 use Rattle.fux_text.specs.Head.{cantus_line, head_in, mode_line, number_line, other_voice, other_voice_in, pitch_in, pitches_in, species_line, unless, version_line}

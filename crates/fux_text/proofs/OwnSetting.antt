@@ -21,7 +21,7 @@ use Rattle.fux_text.specs.Grammar.{AreSung, IsSettingOf, IsSung, Sings}
 use Rattle.fux_text.specs.Items.{item_word}
 use Rattle.fux_text.specs.Lines.{between_bar_lines, free_voices, sing_words}
 use Rattle.fux_text.specs.Sing.{FollowsFrom, cantus_cells, column_of, item_cells, score_of, setting_in, sung_score, voice_in, voices_in}
-use Rattle.fux_text.proofs.Layouts.{laid, left, lines_at, with_line}
+use Rattle.fux_text.proofs.Layouts.{left, lines_at, with_line}
 use Rattle.fux_text.proofs.OwnBars.{sing_line-own, sing_words-sung}
 use Rattle.fux_text.proofs.ValidSetting.{cantus_cells-at}
 
@@ -250,9 +250,11 @@ setting-own ex None after lay lines can none =
     subst (λ found. setting_in ex (left after (lines_at lay found)) ≡ Ok None) (sym none) refl
 setting-own ex (Some score) after lay lines can sings =
     let first = first_free ex.cantus_voice ex.voices can.fewest_voices in
-    rw (begins-first ex.bars (λ w. line w score.columns) first.0 first.1 after lay lines
-    (subst (λ vs. AreSung ex.bars (λ w. line w score.columns) vs lines) first.2 sings.1),
-    sung_score-own ex score after lay lines can sings.0 sings.1) refl
+    rw (
+      begins-first ex.bars (λ w. line w score.columns) first.0 first.1 after lay lines
+          (subst (λ vs. AreSung ex.bars (λ w. line w score.columns) vs lines) first.2 sings.1),
+      sung_score-own ex score after lay lines can sings.0 sings.1,
+    ) refl
 
 -- ---- the lines that are written
 

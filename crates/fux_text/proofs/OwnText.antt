@@ -133,16 +133,17 @@ each-head ex each v free = each v (record { there = free.there; no_cantus = free
 setting-head : (ex : Exercise) (lines : List (List (List ℕ))) (o : Option Grid) → Sings ex lines o → Sings (head_of ex) lines o
 setting-head ex lines None sings = sings
 setting-head ex lines (Some score) sings =
-    let s = sings.0 in
-    (record {
-      given = record {
-        complete = record { voices = s.given.complete.voices; whole = s.given.complete.whole };
-        cantus = s.given.cantus;
-      };
-      full = s.full;
-      follows = s.follows;
-    },
-    sings.1)
+    let s = sings.0 in (
+      record {
+        given = record {
+          complete = record { voices = s.given.complete.voices; whole = s.given.complete.whole };
+          cantus = s.given.cantus;
+        };
+        full = s.full;
+        follows = s.follows;
+      },
+      sings.1,
+    )
 
 -- ---- the texts
 
@@ -171,9 +172,14 @@ note_text-read bytes ex t =
     (each-head ex t.valid.each_has_range) (λ other. no_range t.sung ex.relax after other sing) in
     let relax = relaxes-own (head_of ex) ex.relax after ranges.0 t.sung (omega (arith, t.valid.fewest_voices)) (small ex t.valid)
     (relaxes-head ex t.valid.relax_fit) t.valid.few_relax (λ other. no_relax t.sung after other sing) in
-    rw (text_in-words bytes ls t.short t.utf8 t.lines, head, ranges.1, relax.1,
-    setting-own (head_of ex) ex.setting after relax.0 t.sung (singable_head ex (singable ex t.valid))
-    (setting-head ex t.sung ex.setting t.setting)) refl
+    rw (
+      text_in-words bytes ls t.short t.utf8 t.lines,
+      head,
+      ranges.1,
+      relax.1,
+      setting-own (head_of ex) ex.setting after relax.0 t.sung (singable_head ex (singable ex t.valid))
+          (setting-head ex t.sung ex.setting t.setting),
+    ) refl
 
 -- and so are the lines of a setting
 pub setting_lines-read : (ex : Exercise) (bytes : List ℕ) (score : Grid) → IsValid ex → AreSettingLines ex bytes score
@@ -182,8 +188,10 @@ unfolding setting_alone
 setting_lines-read ex bytes score valid t =
     let after : ℕ = 1 + length (lines bytes) in
     let lay = layout_of (lines_from 1 bytes) in
-    rw (text_in-words bytes (words_in bytes) t.short t.utf8 refl,
-    sung_score-own ex score after lay (words_in bytes) (singable ex valid) t.setting.0 t.setting.1) refl
+    rw (
+      text_in-words bytes (words_in bytes) t.short t.utf8 refl,
+      sung_score-own ex score after lay (words_in bytes) (singable ex valid) t.setting.0 t.setting.1,
+    ) refl
 
 -- an exercise with another setting
 valid_with : (ex : Exercise) (o : Option Grid) → IsValid ex → IfSome o (IsSettingOf ex) → IsValid (record ex { setting = o })
@@ -229,16 +237,17 @@ valid_with ex o valid setting = record {
 sings_with : (ex : Exercise) (lines : List (List (List ℕ))) (o : Option Grid) → Sings ex lines o → Sings (record ex { setting = o }) lines o
 sings_with ex lines None sings = sings
 sings_with ex lines (Some score) sings =
-    let s = sings.0 in
-    (record {
-      given = record {
-        complete = record { voices = s.given.complete.voices; whole = s.given.complete.whole };
-        cantus = s.given.cantus;
-      };
-      full = s.full;
-      follows = s.follows;
-    },
-    sings.1)
+    let s = sings.0 in (
+      record {
+        given = record {
+          complete = record { voices = s.given.complete.voices; whole = s.given.complete.whole };
+          cantus = s.given.cantus;
+        };
+        full = s.full;
+        follows = s.follows;
+      },
+      sings.1,
+    )
 
 -- what is written is a note text
 pub note_text-own : (ex : Exercise) (o : Option Grid) → IsValid ex → IsJudged ex → IfSome o (IsSettingOf ex)
@@ -274,9 +283,9 @@ sing_lines-own ex score valid setting short =
 pub note_text-back : NoteTextReadsBack
 unfolding IsTextOf
 note_text-back ex o valid judged setting short =
-    note_text-read (note_text ex o) (record ex { setting = o }) (note_text-own ex o valid judged setting short)
+    note_text-own ex o valid judged setting short
 
 pub sing_lines-back : SingLinesReadBack
 unfolding AreSingLinesOf
 sing_lines-back ex score valid setting short =
-    setting_lines-read ex (sing_lines ex score.columns) score valid (sing_lines-own ex score valid setting short)
+    sing_lines-own ex score valid setting short

@@ -1,5 +1,5 @@
 -- A text that is written of words has lines with these words in them (`words_in-own`).
-use Rattle.std.proofs.Common.{◌≡◌, ℕ, ◌+◌, ◌-◌, ◌<◌, ◌≤◌, Bool, true, false, List, [], ◌∷◌, ◌++◌, get_or, length, map, Ok, refl, ap, ◌∙◌, append_assoc, arith}
+use Rattle.std.proofs.Common.{◌≡◌, ℕ, ◌+◌, ◌-◌, ◌<◌, Bool, true, false, List, [], ◌∷◌, ◌++◌, get_or, length, map, refl, ap, ◌∙◌, append_assoc, arith}
 use Rattle.std.specs.Prelude.{◌==◌, ◌&&◌, not, All, nat_lt, slice_index}
 use Rattle.std.specs.List.{join_with_byte, list_all, slice_split}
 use Rattle.std.specs.Str.{IsAscii, IsUtf8}
@@ -11,7 +11,7 @@ use Rattle.std.proofs.lemmas.List.Sums.{AllPass-from_list_all}
 use Rattle.std.proofs.lemmas.Str.{IsAscii-append, IsUtf8-from_ascii}
 use Rattle.std.proofs.lemmas.Str.Ascii.{IsAscii-cons, IsAscii-from_all, IsAscii-nil}
 use Rattle.text_lines.specs.Lines.{is_comment, is_skipped, line_words, lines_from, numbered}
-use Rattle.text_lines.specs.Words.{LineWords, PlacedWord, is_blank, placed, words_from}
+use Rattle.text_lines.specs.Words.{is_blank, placed, words_from}
 use Rattle.text_lines.proofs.Parts.{lines_of_parts-more}
 use Rattle.fux_text.specs.Words.{texts, words_in, text_line, text_of}
 
