@@ -46,6 +46,7 @@ layout_of lines k = get_or lines k (record { line = 0; past = 0; end = 0; words 
 pub lines-laid : (lines : List LineWords) → lines_at (layout_of lines) (map texts lines) ≡ lines
 lines-laid [] = refl
 lines-laid (l ∷ lines) =
-    ap (λ ws. record { line = l.line; past = l.past; end = l.end; words = ws } ∷ lines_at (layout_of lines) (map texts lines))
+    ap (λ ws. record { line = l.line; past = l.past; end = l.end; words = ws } ∷ lines_at (layout_of lines)
+    (map texts lines))
     (set_out-own l.words)
     ∙ ap (λ more. l ∷ more) (lines-laid lines)

@@ -23,7 +23,8 @@ use Rattle.fux_text.specs.Words.{texts}
 use Rattle.fux_text.proofs.Following.{value_is}
 use Rattle.fux_text.proofs.OnlyWords.{done-only, headed-only, line_texts, literal-only, mode-only, next-only, number_in-only, pitch-only, within-only}
 
-version_line-only : (text rest : TextLines) → version_line text ≡ Ok rest → line_texts text ≡ (codes "fux" ∷ codes "1" ∷ []) ∷ line_texts rest
+version_line-only : (text rest : TextLines) → version_line text ≡ Ok rest → line_texts text
+    ≡ (codes "fux" ∷ codes "1" ∷ []) ∷ line_texts rest
 unfolding version_line
 version_line-only text rest e =
     let line = bind_ok (headed kinds.Head (codes "fux") text) _ rest e in
@@ -31,7 +32,8 @@ version_line-only text rest e =
     let end = bind_ok (done kinds.Word words.0) _ rest words.2 in
     headed-only kinds.Head (codes "fux") text line.0 line.1
     ∙ ap (λ ws. (codes "fux" ∷ ws) ∷ line_texts line.0.1)
-    (literal-only kinds.Word (codes "1") line.0.0 words.0 words.1 ∙ ap (λ ws. codes "1" ∷ ws) (done-only kinds.Word words.0 end.0 end.1))
+    (literal-only kinds.Word (codes "1") line.0.0 words.0 words.1
+    ∙ ap (λ ws. codes "1" ∷ ws) (done-only kinds.Word words.0 end.0 end.1))
     ∙ ap (λ t. (codes "fux" ∷ codes "1" ∷ []) ∷ line_texts t) (value_is line.0.1 rest _ refl end.2)
 
 mode_line-only : (text : TextLines) (x : Mode × TextLines) → mode_line text ≡ Ok x
@@ -58,7 +60,8 @@ number_line-only name kind least most text x e =
     let end = bind_ok (done kinds.Word n.0.1) _ x n.2 in
     headed-only kinds.Head name text line.0 line.1
     ∙ ap (λ ws. (name ∷ ws) ∷ line_texts line.0.1)
-    (number_in-only kind least most line.0.0 n.0 n.1 ∙ ap (λ ws. decimal n.0.0 ∷ ws) (done-only kinds.Word n.0.1 end.0 end.1))
+    (number_in-only kind least most line.0.0 n.0 n.1 ∙ ap (λ ws. decimal n.0.0 ∷ ws)
+    (done-only kinds.Word n.0.1 end.0 end.1))
     ∙ ap (λ y. (name ∷ decimal y.0 ∷ []) ∷ line_texts y.1) (value_is (n.0.0, line.0.1) x _ refl end.2)
 
 species_line-only : (voices : ℕ) (text : TextLines) (x : ℕ × ℕ × TextLines) → species_line voices text ≡ Ok x
@@ -118,7 +121,8 @@ record ArePitches (before : List Pitch) (at : LineWords) (x : List Pitch × Line
   pub all : x.0 ≡ before ++ ps
   pub words : texts at ≡ map name_of ps ++ texts x.1
 
-pitches_in-only : (n : ℕ) (before : List Pitch) (at : LineWords) (x : List Pitch × LineWords) → pitches_in n before at ≡ Ok x
+pitches_in-only : (n : ℕ) (before : List Pitch) (at : LineWords) (x : List Pitch × LineWords)
+    → pitches_in n before at ≡ Ok x
     → ArePitches before at x
 unfolding pitches_in
 pitches_in-only zero before at x e =
@@ -147,9 +151,11 @@ cantus_line-only voices species_voice bars text x e =
     ∙ ap (λ ws. (codes "cantus" ∷ ws) ∷ line_texts line.0.1)
     (other_voice_in-only kinds.Cantus species_voice voices line.0.0 v.0 v.1
     ∙ ap (λ ws. decimal v.0.0 ∷ ws)
-    (ps.words ∙ ap (λ ws. map name_of ps.ps ++ ws) (done-only kinds.Cantus pitches.0.1 end.0 end.1) ∙ append-nil (map name_of ps.ps)
+    (ps.words ∙ ap (λ ws. map name_of ps.ps ++ ws) (done-only kinds.Cantus pitches.0.1 end.0 end.1)
+    ∙ append-nil (map name_of ps.ps)
     ∙ ap (map name_of) (sym ps.all)))
-    ∙ ap (λ y. (codes "cantus" ∷ decimal y.0 ∷ map name_of y.1) ∷ line_texts y.2) (value_is (v.0.0, pitches.0.0, line.0.1) x _ refl end.2)
+    ∙ ap (λ y. (codes "cantus" ∷ decimal y.0 ∷ map name_of y.1) ∷ line_texts y.2)
+    (value_is (v.0.0, pitches.0.0, line.0.1) x _ refl end.2)
 
 pub head-only : (text : TextLines) (x : Exercise × TextLines) → head_in text ≡ Ok x
     → line_texts text ≡ head_lines x.0 ++ cantus_words x.0 ∷ line_texts x.1

@@ -29,7 +29,8 @@ use Rattle.fux_text.proofs.RangeLoops.{range_line-rest}
 use Rattle.fux_text.proofs.RelaxLoops.{relax_line-rest}
 use Rattle.fux_text.proofs.OnlyWords.{done-only, headed-only, line_texts, next-only, number_in-only, pitch-only, rule-only, set-only}
 
-high_in-only : (low : Pitch) (at : LineWords) (x : Pitch × LineWords) → high_in low at ≡ Ok x → texts at ≡ name_of x.0 ∷ texts x.1
+high_in-only : (low : Pitch) (at : LineWords) (x : Pitch × LineWords) → high_in low at ≡ Ok x → texts at
+    ≡ name_of x.0 ∷ texts x.1
 unfolding high_in
 high_in-only low at x e =
     let w = bind_ok (next kinds.Range at) _ x e in
@@ -50,7 +51,8 @@ bars_in-only bars at x e =
     ∙ ap (λ ws. decimal from.0.0 ∷ ws) (number_in-only kinds.Range from.0.0 bars from.0.1 to.0 to.1)
     ∙ ap (λ y. decimal y.0.0 ∷ decimal y.0.1 ∷ texts y.1) (value_is ((from.0.0, to.0.0), to.0.1) x _ refl to.2)
 
-bars_of_later-only : (later : Bool) (bars : ℕ) (at : LineWords) (x : Option (ℕ × ℕ) × LineWords) → bars_of_later later bars at ≡ Ok x
+bars_of_later-only : (later : Bool) (bars : ℕ) (at : LineWords) (x : Option (ℕ × ℕ) × LineWords)
+    → bars_of_later later bars at ≡ Ok x
     → texts at ≡ bars_words x.0 ++ texts x.1
 unfolding bars_of_later
 bars_of_later-only false bars at x e = ap (λ y. bars_words y.0 ++ texts y.1) (value_is (None, at) x _ refl e)
@@ -59,7 +61,8 @@ bars_of_later-only true bars at x e =
     bars_in-only bars at found.0 found.1
     ∙ ap (λ y. bars_words y.0 ++ texts y.1) (value_is (Some found.0.0, found.0.1) x _ refl found.2)
 
-range_in-only : (ex : Exercise) (before : List RangeLine) (at : LineWords) (r : RangeLine) → range_in ex before at ≡ Ok r
+range_in-only : (ex : Exercise) (before : List RangeLine) (at : LineWords) (r : RangeLine) → range_in ex before at
+    ≡ Ok r
     → codes "range" ∷ texts at ≡ range_words r
 unfolding range_in
 range_in-only ex before at r e =
@@ -77,8 +80,10 @@ range_in-only ex before at r e =
     (high_in-only low.0.0 low.0.1 high.0 high.1
     ∙ ap (λ ws. name_of high.0.0 ∷ ws)
     (bars_of_later-only (has_line before v.0.0) ex.bars high.0.1 bars.0 bars.1
-    ∙ ap (λ ws. bars_words bars.0.0 ++ ws) (done-only kinds.Word bars.0.1 end.0 end.1) ∙ append-nil (bars_words bars.0.0)))))
-    ∙ ap range_words (value_is (record { voice = v.0.0; low = low.0.0; high = high.0.0; bars = bars.0.0 }) r _ refl end.2)
+    ∙ ap (λ ws. bars_words bars.0.0 ++ ws) (done-only kinds.Word bars.0.1 end.0 end.1)
+    ∙ append-nil (bars_words bars.0.0)))))
+    ∙ ap range_words
+    (value_is (record { voice = v.0.0; low = low.0.0; high = high.0.0; bars = bars.0.0 }) r _ refl end.2)
 
 range_line-only : (ex : Exercise) (before : List RangeLine) (text : TextLines) (x : RangeLine × TextLines)
     → range_line ex before text ≡ Ok x → line_texts text ≡ range_words x.0 ∷ line_texts x.1
@@ -96,17 +101,20 @@ record AreRanges (before : List RangeLine) (text : TextLines) (x : List RangeLin
   pub all : x.0 ≡ before ++ rs
   pub words : line_texts text ≡ map range_words rs ++ line_texts x.1
 
-no_ranges : (before : List RangeLine) (text : TextLines) (x : List RangeLine × TextLines) → (before, text) ≡ x → AreRanges before text x
+no_ranges : (before : List RangeLine) (text : TextLines) (x : List RangeLine × TextLines) → (before, text) ≡ x
+    → AreRanges before text x
 no_ranges before text x same = record {
   rs = [];
   all = ap (λ y. y.0) (sym same) ∙ sym (append-nil before);
   words = ap (λ y. line_texts y.1) same;
 }
 
-ranges_on-only : (ex : Exercise) (before : List RangeLine) (after : ℕ) (lines : List LineWords) (x : List RangeLine × TextLines)
+ranges_on-only : (ex : Exercise) (before : List RangeLine) (after : ℕ) (lines : List LineWords)
+    (x : List RangeLine × TextLines)
     → ranges_on ex before after lines ≡ Ok x → AreRanges before (record { after = after; lines = lines }) x
 unfolding ranges_on
-ranges_on-only ex before after [] x e = no_ranges before (record { after = after; lines = [] }) x (value_is _ x _ refl e)
+ranges_on-only ex before after [] x e = no_ranges before (record { after = after; lines = [] }) x
+    (value_is _ x _ refl e)
 ranges_on-only ex before after (line ∷ others) x e =
     by (begins (codes "range") text) (λ r. ranges_on-only ex (before ++ r ∷ []) after others x) e
   where
@@ -114,13 +122,17 @@ ranges_on-only ex before after (line ∷ others) x e =
     text = record { after = after; lines = line ∷ others }
 
     by : (b : Bool)
-        → ((r : RangeLine) → ranges_on ex (before ++ r ∷ []) after others ≡ Ok x → AreRanges (before ++ r ∷ []) (record { after = after; lines = others }) x)
-        → (if b then (range_line ex before text >>= λ range. ranges_on ex (before ++ range.0 ∷ []) after others) else Ok (before, text)) ≡ Ok x
+        → ((r : RangeLine) → ranges_on ex (before ++ r ∷ []) after others ≡ Ok x
+        → AreRanges (before ++ r ∷ []) (record { after = after; lines = others }) x)
+        → (if b then (range_line ex before text >>= λ range. ranges_on ex
+        (before ++ range.0 ∷ []) after others) else Ok (before, text)) ≡ Ok x
         → AreRanges before text x
     by true rest e =
-        let range = bind_ok (range_line ex before text) (λ range. ranges_on ex (before ++ range.0 ∷ []) after others) x e in
+        let range = bind_ok (range_line ex before text)
+        (λ range. ranges_on ex (before ++ range.0 ∷ []) after others) x e in
         let more = rest range.0.0 range.2 in
-        let behind : range.0.1 ≡ record { after = after; lines = others } = range_line-rest ex before after line others range.0.0 range.0.1 range.1 in
+        let behind : range.0.1 ≡ record { after = after; lines = others } =
+        range_line-rest ex before after line others range.0.0 range.0.1 range.1 in
         record {
           rs = range.0.0 ∷ more.rs;
           all = more.all ∙ append_assoc before (range.0.0 ∷ []) more.rs;
@@ -141,7 +153,8 @@ ranges-only ex text x e =
 
 -- ---- relax lines
 
-rule_in-only : (at : LineWords) (x : ℕ × LineWords) → rule_in at ≡ Ok x → texts at ≡ (codes "S" ++ decimal x.0) ∷ texts x.1
+rule_in-only : (at : LineWords) (x : ℕ × LineWords) → rule_in at ≡ Ok x → texts at
+    ≡ (codes "S" ++ decimal x.0) ∷ texts x.1
 unfolding rule_in
 rule_in-only at x e =
     let w = bind_ok (next kinds.Word at) _ x e in
@@ -162,7 +175,8 @@ set_in-only voices at x e =
     ∙ ap (λ first. first ∷ texts w.0.1) (set-only voices w.0.0.text set.0 found)
     ∙ ap (λ y. voices_word y.0 ∷ texts y.1) (value_is (set.0, w.0.1) x _ refl set.2)
 
-relax_in-only : (ex : Exercise) (at : LineWords) (r : Relax) → relax_in ex at ≡ Ok r → codes "relax" ∷ texts at ≡ relax_words r
+relax_in-only : (ex : Exercise) (at : LineWords) (r : Relax) → relax_in ex at ≡ Ok r → codes "relax" ∷ texts at
+    ≡ relax_words r
 unfolding relax_in
 relax_in-only ex at r e =
     let rule = bind_ok (rule_in at) _ r e in
@@ -200,7 +214,8 @@ record AreRelaxes (before : List Relax) (text : TextLines) (x : List Relax × Te
   pub all : x.0 ≡ before ++ rs
   pub words : line_texts text ≡ map relax_words rs ++ line_texts x.1
 
-no_relaxes : (before : List Relax) (text : TextLines) (x : List Relax × TextLines) → (before, text) ≡ x → AreRelaxes before text x
+no_relaxes : (before : List Relax) (text : TextLines) (x : List Relax × TextLines) → (before, text) ≡ x
+    → AreRelaxes before text x
 no_relaxes before text x same = record {
   rs = [];
   all = ap (λ y. y.0) (sym same) ∙ sym (append-nil before);
@@ -210,7 +225,8 @@ no_relaxes before text x same = record {
 relax_on-only : (ex : Exercise) (before : List Relax) (after : ℕ) (lines : List LineWords) (x : List Relax × TextLines)
     → relax_on ex before after lines ≡ Ok x → AreRelaxes before (record { after = after; lines = lines }) x
 unfolding relax_on
-relax_on-only ex before after [] x e = no_relaxes before (record { after = after; lines = [] }) x (value_is _ x _ refl e)
+relax_on-only ex before after [] x e = no_relaxes before (record { after = after; lines = [] }) x
+    (value_is _ x _ refl e)
 relax_on-only ex before after (line ∷ others) x e =
     by (goes_on before text) (λ r. relax_on-only ex (before ++ r ∷ []) after others x) e
   where
@@ -218,13 +234,16 @@ relax_on-only ex before after (line ∷ others) x e =
     text = record { after = after; lines = line ∷ others }
 
     by : (b : Bool)
-        → ((r : Relax) → relax_on ex (before ++ r ∷ []) after others ≡ Ok x → AreRelaxes (before ++ r ∷ []) (record { after = after; lines = others }) x)
-        → (if b then (relax_line ex text >>= λ relax. relax_on ex (before ++ relax.0 ∷ []) after others) else Ok (before, text)) ≡ Ok x
+        → ((r : Relax) → relax_on ex (before ++ r ∷ []) after others ≡ Ok x
+        → AreRelaxes (before ++ r ∷ []) (record { after = after; lines = others }) x)
+        → (if b then (relax_line ex text >>= λ relax. relax_on ex (before ++ relax.0 ∷ []) after others) else Ok
+        (before, text)) ≡ Ok x
         → AreRelaxes before text x
     by true rest e =
         let relax = bind_ok (relax_line ex text) (λ relax. relax_on ex (before ++ relax.0 ∷ []) after others) x e in
         let more = rest relax.0.0 relax.2 in
-        let behind : relax.0.1 ≡ record { after = after; lines = others } = relax_line-rest ex after line others relax.0.0 relax.0.1 relax.1 in
+        let behind : relax.0.1 ≡ record { after = after; lines = others } =
+        relax_line-rest ex after line others relax.0.0 relax.0.1 relax.1 in
         record {
           rs = relax.0.0 ∷ more.rs;
           all = more.all ∙ append_assoc before (relax.0.0 ∷ []) more.rs;

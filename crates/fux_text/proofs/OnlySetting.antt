@@ -34,7 +34,8 @@ cantus-only : (ex : Exercise) (v : ℕ) (text : TextLines) (x : List Cell × Tex
 unfolding voice_in
 cantus-only ex v text x same e = by (v == ex.cantus_voice) same e
   where
-    by : (b : Bool) → b ≡ true → (if b then Ok (cantus_cells ex.cantus, text) else sing_line_in ex.bars v text) ≡ Ok x → text ≡ x.1
+    by : (b : Bool) → b ≡ true → (if b then Ok (cantus_cells ex.cantus, text) else sing_line_in ex.bars v text)
+        ≡ Ok x → text ≡ x.1
     by true f e = ap (λ y. y.1) (value_is (cantus_cells ex.cantus, text) x _ refl e)
     by false f e = absurd (grind (arith, f))
 
@@ -58,18 +59,21 @@ get_or-seam : (xs : List (List Cell)) (y : List Cell) → get_or (xs ++ y ∷ []
 get_or-seam [] y = refl
 get_or-seam (x ∷ xs) y = get_or-seam xs y
 
-voices-only : (ex : Exercise) (n a : ℕ) (before : List (List Cell)) (text : TextLines) (x : List (List Cell) × TextLines)
+voices-only : (ex : Exercise) (n a : ℕ) (before : List (List Cell)) (text : TextLines)
+    (x : List (List Cell) × TextLines)
     → length before ≡ a → voices_in ex (range_with_len a n) before text ≡ Ok x → HaveLines ex a n text x
 unfolding voices_in
 voices-only ex zero a before text x long e =
     record { words = []; lines = ap (λ y. line_texts y.1) (value_is (before, text) x _ refl e); sung = tt }
 voices-only ex (suc n) a before text x long e =
-    let cells = bind_ok (voice_in ex a text) (λ found. voices_in ex (range_with_len (a + 1) n) (before ++ found.0 ∷ []) found.1) x e in
+    let cells = bind_ok (voice_in ex a text)
+    (λ found. voices_in ex (range_with_len (a + 1) n) (before ++ found.0 ∷ []) found.1) x e in
     let more = before ++ cells.0.0 ∷ [] in
     let long_more : length more ≡ a + 1 = length-append before (cells.0.0 ∷ []) ∙ omega (arith, long) in
     let rest = voices-only ex n (a + 1) more cells.0.1 x long_more cells.2 in
     let kept = voices-keep ex n (a + 1) more cells.0.1 x long_more cells.2 in
-    let own : get_or x.0 a [] ≡ cells.0.0 = kept.kept a (omega arith) ∙ ap (λ k. get_or more k []) (sym long) ∙ get_or-seam before cells.0.0 in
+    let own : get_or x.0 a [] ≡ cells.0.0 = kept.kept a (omega arith) ∙ ap (λ k. get_or more k []) (sym long)
+    ∙ get_or-seam before cells.0.0 in
     by (a == ex.cantus_voice) refl cells.0 cells.1 own rest
   where
     Sung : List ℕ → List (List (List ℕ)) → Type 0
@@ -93,13 +97,15 @@ voices-only ex (suc n) a before text x long e =
 
 -- ---- the score
 
-bars-length : (bars : List (List (Cell × ℕ))) → AllByRecursion IsBar bars → length (cells_of_bars bars) ≡ 8 * length bars
+bars-length : (bars : List (List (Cell × ℕ))) → AllByRecursion IsBar bars → length (cells_of_bars bars)
+    ≡ 8 * length bars
 bars-length [] whole = refl
 bars-length (items ∷ bars) whole =
     let one : length (cells_of items) ≡ 8 = cells-length items whole.0.some ∙ whole.0.whole in
     length-append (cells_of items) (cells_of_bars bars) ∙ omega (arith, one, bars-length bars whole.1)
 
-sung-length : (count v : ℕ) (words : List (List ℕ)) (cells : List Cell) → IsSung count v words cells → length cells ≡ 8 * count
+sung-length : (count v : ℕ) (words : List (List ℕ)) (cells : List Cell) → IsSung count v words cells → length cells
+    ≡ 8 * count
 sung-length count v words cells s = ap length s.sounds ∙ bars-length s.items s.whole ∙ ap (λ n. 8 * n) s.count
 
 -- a voice of the score has the cells of its line
@@ -108,7 +114,8 @@ line-of_score : (bars v : ℕ) (lines : List (List Cell)) → length (get_or lin
 unfolding score_of
 line-of_score bars v lines long =
     cells-at (range_with_len 0 (8 * bars))
-    ∙ ap (λ n. map (λ i. cell_in (get_or lines v []) i) (range_with_len 0 n)) (sym long) ∙ cells-of_column (get_or lines v [])
+    ∙ ap (λ n. map (λ i. cell_in (get_or lines v []) i) (range_with_len 0 n)) (sym long)
+    ∙ cells-of_column (get_or lines v [])
   where
     cells-at : (is : List ℕ) → line v (map (column_of lines) is) ≡ map (λ i. cell_in (get_or lines v []) i) is
     cells-at [] = refl
@@ -122,7 +129,8 @@ sung-columns bars lines [] [] sung = tt
 sung-columns bars lines [] (ws ∷ words) sung = absurd sung
 sung-columns bars lines (v ∷ vs) [] sung = absurd sung
 sung-columns bars lines (v ∷ vs) (ws ∷ words) sung = (
-  subst (λ cs. IsSung bars v ws cs) (sym (line-of_score bars v lines (sung-length bars v ws (get_or lines v []) sung.0))) sung.0,
+  subst (λ cs. IsSung bars v ws cs)
+      (sym (line-of_score bars v lines (sung-length bars v ws (get_or lines v []) sung.0))) sung.0,
   sung-columns bars lines vs words sung.1,
 )
 
@@ -133,11 +141,13 @@ columns-follow lines (suc n) f =
     let columns = map (column_of lines) (range_with_len 0 n) in
     let one : suc n ≡ n + 1 = omega arith in
     let more : map (column_of lines) (range_with_len 0 (suc n)) ≡ columns ++ column_of lines n ∷ [] =
-    ap (λ k. map (column_of lines) (range_with_len 0 k)) one ∙ map-range_with_len_more (column_of lines) 0 n n (omega arith) in
+    ap (λ k. map (column_of lines) (range_with_len 0 k)) one ∙ map-range_with_len_more (column_of lines) 0 n n
+    (omega arith) in
     subst HistoryFollows (sym (ap reverse more ∙ reverse-push columns (column_of lines n)))
     (next-follows lines n f, columns-follow lines n f)
 
-score-setting : (ex : Exercise) (lines : List (List Cell)) → length lines ≡ ex.voices → AllByRecursion (FollowsFrom Rest) lines
+score-setting : (ex : Exercise) (lines : List (List Cell)) → length lines ≡ ex.voices
+    → AllByRecursion (FollowsFrom Rest) lines
     → IsGiven ex (score_of ex.bars lines) → IsSettingOf ex (score_of ex.bars lines)
 unfolding score_of
 score-setting ex lines long follow given = record {
@@ -150,7 +160,8 @@ score-setting ex lines long follow given = record {
 }
 
 -- what is read of `sing` lines is a setting with these lines
-pub sung_score-only : (ex : Exercise) (text : TextLines) (score : Grid) → ex.cantus_voice < ex.voices → length ex.cantus ≡ ex.bars
+pub sung_score-only : (ex : Exercise) (text : TextLines) (score : Grid) → ex.cantus_voice < ex.voices
+    → length ex.cantus ≡ ex.bars
     → sung_score ex text ≡ Ok score → Sings ex (line_texts text) (Some score)
 unfolding sung_score
 sung_score-only ex text score there whole e =
@@ -158,27 +169,36 @@ sung_score-only ex text score there whole e =
     let end = bind_ok (no_line lines.0.1) _ score lines.2 in
     let same : score_of ex.bars lines.0.0 ≡ score = value_is (score_of ex.bars lines.0.0) score _ refl end.2 in
     let long : length lines.0.0 ≡ ex.voices =
-    omega (arith, voices-length ex (range_with_len 0 ex.voices) [] text lines.0 lines.1, length-range_with_len 0 ex.voices) in
+    omega (
+      arith,
+      voices-length ex
+          (range_with_len 0 ex.voices) [] text lines.0 lines.1,
+      length-range_with_len 0 ex.voices,
+    ) in
     let have = voices-only ex ex.voices 0 [] text lines.0 refl lines.1 in
     let words : line_texts text ≡ have.words =
     have.lines ∙ ap (λ ls. have.words ++ ls) (no_line-only lines.0.1 end.0 end.1) ∙ append-nil have.words in
     let given = sung-valid ex text score there whole e in
-    let setting = score-setting ex lines.0.0 long (voices-follow ex (range_with_len 0 ex.voices) [] text lines.0 tt lines.1)
+    let setting = score-setting ex lines.0.0 long
+    (voices-follow ex (range_with_len 0 ex.voices) [] text lines.0 tt lines.1)
     (subst (IsGiven ex) (sym same) given) in
     subst (λ ls. Sings ex ls (Some score)) (sym words)
     (subst (λ s. Sings ex have.words (Some s)) same
     (setting, sung-columns ex.bars lines.0.0 (free_voices ex) have.words have.sung))
 
-pub setting-only : (ex : Exercise) (text : TextLines) (o : Option Grid) → ex.cantus_voice < ex.voices → length ex.cantus ≡ ex.bars
+pub setting-only : (ex : Exercise) (text : TextLines) (o : Option Grid) → ex.cantus_voice < ex.voices
+    → length ex.cantus ≡ ex.bars
     → setting_in ex text ≡ Ok o → Sings ex (line_texts text) o
 unfolding setting_in
 setting-only ex text o there whole e = by (begins (codes "sing") text) e
   where
-    by : (b : Bool) → (if b then (sung_score ex text >>= λ score. Ok (Some score)) else (no_line text >>= λ end. Ok None)) ≡ Ok o
+    by : (b : Bool) →
+        (if b then (sung_score ex text >>= λ score. Ok (Some score)) else (no_line text >>= λ end. Ok None)) ≡ Ok o
         → Sings ex (line_texts text) o
     by true e =
         let score = bind_ok (sung_score ex text) (λ score. Ok (Some score)) o e in
-        subst (Sings ex (line_texts text)) (value_is (Some score.0) o _ refl score.2) (sung_score-only ex text score.0 there whole score.1)
+        subst (Sings ex (line_texts text)) (value_is (Some score.0) o _ refl score.2)
+        (sung_score-only ex text score.0 there whole score.1)
     by false e =
         let end = bind_ok (no_line text) (λ end. Ok None) o e in
         subst (Sings ex (line_texts text)) (value_is None o _ refl end.2) (no_line-only text end.0 end.1)

@@ -37,7 +37,8 @@ use Rattle.fux_text.proofs.ValidRanges.{not_refused}
 -- ---- an item
 
 -- a text is what stands before its first colon, a colon, and what stands behind it
-colon-parts : (xs : List ℕ) → 0 < length (after_first is_colon xs) → xs ≡ before_first is_colon xs ++ 58 ∷ after_first is_colon xs
+colon-parts : (xs : List ℕ) → 0 < length (after_first is_colon xs) → xs
+    ≡ before_first is_colon xs ++ 58 ∷ after_first is_colon xs
 colon-parts [] some = absurd (omega (arith, some))
 colon-parts (x ∷ xs) some = by (x == 58) refl some (colon-parts xs)
   where
@@ -48,7 +49,8 @@ colon-parts (x ∷ xs) some = by (x == 58) refl some (colon-parts xs)
     Parts n = x ∷ xs ≡ take n (x ∷ xs) ++ 58 ∷ drop (n + 1) (x ∷ xs)
 
     by : (b : Bool) → (x == 58) ≡ b → 0 < length (drop ((if not b then 1 + k else 0) + 1) (x ∷ xs))
-        → (0 < length (drop (k + 1) xs) → xs ≡ take k xs ++ 58 ∷ drop (k + 1) xs) → Parts (if not (x == 58) then 1 + k else 0)
+        → (0 < length (drop (k + 1) xs) → xs ≡ take k xs ++ 58 ∷ drop (k + 1) xs)
+        → Parts (if not (x == 58) then 1 + k else 0)
     by true e some rest = rw e (ap (λ c. c ∷ xs) (eqb-true x 58 e))
     by false e some rest =
         let n : 1 + k + 1 ≡ suc (k + 1) = omega arith in
@@ -72,7 +74,8 @@ item_parts-only text x e = by (number_of behind) refl e
     some [] n e = absurd (none n e)
     some (d ∷ ds) n e = omega arith
 
-    by : (o : Option ℕ) → number_of behind ≡ o → option_map (λ n. (before_first is_colon text, n)) o ≡ Some x → text ≡ x.0 ++ 58 ∷ decimal x.1
+    by : (o : Option ℕ) → number_of behind ≡ o → option_map (λ n. (before_first is_colon text, n)) o ≡ Some x → text
+        ≡ x.0 ++ 58 ∷ decimal x.1
     by None f e = absurd (grind (arith, e))
     by (Some n) f e =
         let same : (before_first is_colon text, n) ≡ x = grind (arith, e) in
@@ -92,13 +95,17 @@ item_named-only text name e = by (same_text text (codes "r")) refl (same_text te
   where
     note : (o : Option Pitch) → pitch_named text ≡ o → option_map names.Note o ≡ Some name → IsNamed text name
     note None f e = absurd (grind (arith, e))
-    note (Some p) f e = let same : names.Note p ≡ name = grind (arith, e) in subst (IsNamed text) same (pitch-only text p f)
+    note (Some p) f e = let same : names.Note p ≡ name = grind (arith, e) in subst (IsNamed text) same
+        (pitch-only text p f)
 
     by : (r : Bool) → same_text text (codes "r") ≡ r → (t : Bool) → same_text text (codes "_") ≡ t
-        → (if r then Some names.Silence else (if t then Some names.Tie else option_map names.Note (pitch_named text))) ≡ Some name
+        → (if r then Some names.Silence else
+        (if t then Some names.Tie else option_map names.Note (pitch_named text))) ≡ Some name
         → IsNamed text name
-    by true d t f e = let same : names.Silence ≡ name = grind (arith, e) in subst (IsNamed text) same (text_from text (codes "r") d)
-    by false d true f e = let same : names.Tie ≡ name = grind (arith, e) in subst (IsNamed text) same (text_from text (codes "_") f)
+    by true d t f e = let same : names.Silence ≡ name = grind (arith, e) in subst (IsNamed text) same
+        (text_from text (codes "r") d)
+    by false d true f e = let same : names.Tie ≡ name = grind (arith, e) in subst (IsNamed text) same
+        (text_from text (codes "_") f)
     by false d false f e = note (pitch_named text) refl e
 
 -- a first cell of that name, held at the beginning of a bar alone
@@ -136,18 +143,23 @@ inside m n e = by (nat_le 1 m && nat_le m 8) e
     by true e = grind (arith, e)
     by false e = absurd (grind (arith, e))
 
-item_in-only : (bar : ℕ) (done : List Cell) (w : PlacedWord) (item : Cell × ℕ) → item_in bar done w ≡ Ok item → IsItemAt bar done w.text item
+item_in-only : (bar : ℕ) (done : List Cell) (w : PlacedWord) (item : Cell × ℕ) → item_in bar done w ≡ Ok item
+    → IsItemAt bar done w.text item
 unfolding item_in
 item_in-only bar done w item e =
     let parts = bind_ok (ok_or (item_parts w.text) (fault_at kinds.Word w)) _ item e in
     let name = bind_ok (ok_or (item_named parts.0.0) (fault_at kinds.Pitch w)) _ item parts.2 in
     let count = bind_ok (ok_or (if_within 1 8 parts.0.1) (fault_at kinds.Length w)) _ item name.2 in
-    let cell = bind_ok (ok_or (first_cell (length done == 8 * bar) (latest Rest done) name.0) (fault_at kinds.Tie w)) _ item count.2 in
+    let cell = bind_ok
+    (ok_or (first_cell (length done == 8 * bar) (latest Rest done) name.0)
+    (fault_at kinds.Tie w)) _ item count.2 in
     let p = ok_or_ok (item_parts w.text) (fault_at kinds.Word w) parts.0 parts.1 in
     let n = ok_or_ok (item_named parts.0.0) (fault_at kinds.Pitch w) name.0 name.1 in
     let k = ok_or_ok (if_within 1 8 parts.0.1) (fault_at kinds.Length w) count.0 count.1 in
-    let c = ok_or_ok (first_cell (length done == 8 * bar) (latest Rest done) name.0) (fault_at kinds.Tie w) cell.0 cell.1 in
-    let called = first_cell-only parts.0.0 (length done == 8 * bar) (latest Rest done) cell.0 name.0 (item_named-only parts.0.0 name.0 n) c in
+    let c = ok_or_ok (first_cell (length done == 8 * bar) (latest Rest done) name.0)
+    (fault_at kinds.Tie w) cell.0 cell.1 in
+    let called = first_cell-only parts.0.0 (length done == 8 * bar) (latest Rest done) cell.0 name.0
+    (item_named-only parts.0.0 name.0 n) c in
     subst (IsItemAt bar done w.text) (value_is (cell.0, count.0) item _ refl cell.2)
     (record {
       word = item_parts-only w.text parts.0 p ∙ ap (λ first. first ++ 58 ∷ decimal parts.0.1) called.name
@@ -178,7 +190,8 @@ not_not false e = absurd (grind (arith, e))
 full-only : (bar : ℕ) (done : List Cell) → not (is_full bar done) ≡ false → length done ≡ 8 * bar + 8
 full-only bar done e = eqb-true (length done) (8 * bar + 8) (not_not (is_full bar done) e)
 
-end-only : (count bar : ℕ) (done : List Cell) (at : LineWords) (cells : List Cell) → sung_end count bar done at ≡ Ok cells
+end-only : (count bar : ℕ) (done : List Cell) (at : LineWords) (cells : List Cell) → sung_end count bar done at
+    ≡ Ok cells
     → AreLeft count bar done [] cells
 unfolding sung_end
 end-only count bar done at cells e =
@@ -219,7 +232,8 @@ no_hold (Hold p) h = absurd (h refl)
 no_hold (Start p) h = refl
 
 -- a bar line
-left-bar : (count bar : ℕ) (done : List Cell) (text : List ℕ) (words : List (List ℕ)) (cells : List Cell) → text ≡ codes "|"
+left-bar : (count bar : ℕ) (done : List Cell) (text : List ℕ) (words : List (List ℕ)) (cells : List Cell) → text
+    ≡ codes "|"
     → length done ≡ 8 * bar + 8 → AreLeft count (bar + 1) done words cells → AreLeft count bar done (text ∷ words) cells
 left-bar count bar done text words cells same full r = record {
   items = [];
@@ -235,19 +249,23 @@ left-bar count bar done text words cells same full r = record {
 }
 
 -- an item
-left-item : (count bar : ℕ) (done : List Cell) (text : List ℕ) (words : List (List ℕ)) (cells : List Cell) (item : Cell × ℕ)
-    → 8 * bar ≤ length done → IsItemAt bar done text item → AreLeft count bar (done ++ item_cells item.0 item.1) words cells
+left-item : (count bar : ℕ) (done : List Cell) (text : List ℕ) (words : List (List ℕ)) (cells : List Cell)
+    (item : Cell × ℕ)
+    → 8 * bar ≤ length done → IsItemAt bar done text item → AreLeft count bar
+    (done ++ item_cells item.0 item.1) words cells
     → AreLeft count bar done (text ∷ words) cells
 left-item count bar done text words cells item low i r =
     let long : length (done ++ item_cells item.0 item.1) ≡ length done + item.1 =
-    length-append done (item_cells item.0 item.1) ∙ ap (λ n. length done + n) (item_cells-length item.0 item.1 i.some) in
+    length-append done (item_cells item.0 item.1) ∙ ap (λ n. length done + n)
+    (item_cells-length item.0 item.1 i.some) in
     let starts = r.starts (omega (arith, long, low, i.some)) in
     record {
       items = item ∷ r.items;
       more = r.more;
       written = ap (λ first. first ∷ words) i.word ∙ ap (λ ws. item_word item ∷ ws) r.written;
       sounds = r.sounds ∙ append_assoc done (item_cells item.0 item.1) (cells_of r.items ++ cells_of_bars r.more)
-          ∙ ap (λ found. done ++ found) (sym (append_assoc (item_cells item.0 item.1) (cells_of r.items) (cells_of_bars r.more)));
+          ∙ ap (λ found. done ++ found)
+          (sym (append_assoc (item_cells item.0 item.1) (cells_of r.items) (cells_of_bars r.more)));
       last = r.last;
       sum = omega (arith, sum_by-cons (λ (x : Cell × ℕ). x.1) item r.items, long, r.sum);
       some = (i.some, r.some);
@@ -256,8 +274,10 @@ left-item count bar done text words cells item low i r =
       whole = r.whole;
     }
 
-word-only : (count bar : ℕ) (done : List Cell) (w : PlacedWord) (words : List (List ℕ)) (cells : List Cell) (out : ℕ × List Cell)
-    → 8 * bar ≤ length done → sung_word count bar done w ≡ Ok out → (8 * out.0 ≤ length out.1 → AreLeft count out.0 out.1 words cells)
+word-only : (count bar : ℕ) (done : List Cell) (w : PlacedWord) (words : List (List ℕ)) (cells : List Cell)
+    (out : ℕ × List Cell)
+    → 8 * bar ≤ length done → sung_word count bar done w ≡ Ok out
+    → (8 * out.0 ≤ length out.1 → AreLeft count out.0 out.1 words cells)
     → AreLeft count bar done (w.text ∷ words) cells
 unfolding sung_word
 word-only count bar done w words cells out low e rest = by (same_text w.text (codes "|")) refl e
@@ -272,7 +292,8 @@ word-only count bar done w words cells out low e rest = by (same_text w.text (co
     by true f e =
         let next = bind_ok (bar_line_in count bar done w) (λ next. Ok (next, done)) out e in
         let line = bar_line-only count bar next.0 done w next.1 in
-        let so_far : (bar + 1, done) ≡ out = ap (λ n. (n, done)) (sym line.1) ∙ value_is (next.0, done) out _ refl next.2 in
+        let so_far : (bar + 1, done) ≡ out = ap (λ n. (n, done)) (sym line.1)
+        ∙ value_is (next.0, done) out _ refl next.2 in
         left-bar count bar done w.text words cells (text_from w.text (codes "|") f) line.0
         (subst Left (sym so_far) rest (omega (arith, line.0)))
     by false f e =
@@ -282,7 +303,8 @@ word-only count bar done w words cells out low e rest = by (same_text w.text (co
         left-item count bar done w.text words cells item.0 low (item_in-only bar done w item.0 item.1)
         (subst Left (sym so_far) rest (omega (arith, low, length-append done (item_cells item.0.0 item.0.1))))
 
-sung_words-only : (count bar : ℕ) (done : List Cell) (at : LineWords) (ws : List PlacedWord) (cells : List Cell) → 8 * bar ≤ length done
+sung_words-only : (count bar : ℕ) (done : List Cell) (at : LineWords) (ws : List PlacedWord) (cells : List Cell)
+    → 8 * bar ≤ length done
     → sung_words count bar done at ws ≡ Ok cells → AreLeft count bar done (map (λ w. w.text) ws) cells
 sung_words-only count bar done at [] cells low e = end-only count bar done at cells e
 sung_words-only count bar done at (w ∷ ws) cells low e =
@@ -322,7 +344,8 @@ sing_line-only count v text x e =
     (record {
       words = codes "sing" ∷ decimal v ∷ texts voice.0.1;
       line = headed-only kinds.Sing (codes "sing") text line.0 line.1
-          ∙ ap (λ ws. (codes "sing" ∷ ws) ∷ line_texts line.0.1) (number_in-only kinds.Sing v v line.0.0 voice.0 voice.1)
+          ∙ ap (λ ws. (codes "sing" ∷ ws) ∷ line_texts line.0.1)
+          (number_in-only kinds.Sing v v line.0.0 voice.0 voice.1)
           ∙ ap (λ n. (codes "sing" ∷ decimal n ∷ texts voice.0.1) ∷ line_texts line.0.1) same;
       sung = sung_in-only count v voice.0.1 cells.0 cells.1;
     })

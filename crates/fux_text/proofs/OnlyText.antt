@@ -1,4 +1,5 @@
--- A text that is read is a note text of what is read (`note_text-only`), and so are `sing` lines (`setting_lines-only`).
+-- A text that is read is a note text of what is read (`note_text-only`), and lines that are read as a setting are its
+-- lines (`setting_lines-only`).
 use Rattle.std.proofs.Common.{◌≡◌, ℕ, ◌≤◌, Bool, true, false, List, ◌∷◌, ◌++◌, length, map, Option, Some, None, Ok, Err, refl, sym, ap, subst, ◌∙◌, append_assoc, arith}
 use Rattle.std.specs.Prelude.{nat_lt, if◌then◌else◌}
 use Rattle.std.specs.Str.{IsUtf8, is_utf8}
@@ -52,15 +53,18 @@ text_in-only bytes text e = by (nat_lt 65536 (length bytes)) refl (is_utf8 bytes
     by false l false f e = absurd (grind (arith, e))
 
 -- the lines of an exercise's head, its ranges and its relax lines are those of the exercise
-all_lines : (head : Exercise) (ranges : List RangeLine) (relax : List Relax) (o : Option Grid) (sung : List (List (List ℕ)))
+all_lines : (head : Exercise) (ranges : List RangeLine) (relax : List Relax) (o : Option Grid)
+    (sung : List (List (List ℕ)))
     → head_lines head ++ cantus_words head ∷ (map range_words ranges ++ (map relax_words relax ++ sung))
     ≡ exercise_lines (record head { ranges = ranges; relax = relax; setting = o }) ++ sung
 all_lines head ranges relax o sung =
     sym (append_assoc (head_lines head ++ cantus_words head ∷ map range_words ranges) (map relax_words relax) sung
     ∙ append_assoc (head_lines head) (cantus_words head ∷ map range_words ranges) (map relax_words relax ++ sung))
 
-sings_whole : (head : Exercise) (ranges : List RangeLine) (relax : List Relax) (setting : Option Grid) (lines : List (List (List ℕ)))
-    (o : Option Grid) → Sings head lines o → Sings (record head { ranges = ranges; relax = relax; setting = setting }) lines o
+sings_whole : (head : Exercise) (ranges : List RangeLine) (relax : List Relax) (setting : Option Grid)
+    (lines : List (List (List ℕ)))
+    (o : Option Grid) → Sings head lines o → Sings
+    (record head { ranges = ranges; relax = relax; setting = setting }) lines o
 sings_whole head ranges relax setting lines None sings = sings
 sings_whole head ranges relax setting lines (Some score) sings =
     let s = sings.0 in (
@@ -106,7 +110,8 @@ note_text-only bytes ex e =
           (setting-only head.0.0 relax.0.1 setting.0 h.cantus_there h.whole setting.1);
     })
 
-pub setting_lines-only : (ex : Exercise) (bytes : List ℕ) (score : Grid) → IsValid ex → setting_alone ex bytes ≡ Ok score
+pub setting_lines-only : (ex : Exercise) (bytes : List ℕ) (score : Grid) → IsValid ex → setting_alone ex bytes
+    ≡ Ok score
     → AreSettingLines ex bytes score
 unfolding setting_alone
 setting_lines-only ex bytes score valid e =

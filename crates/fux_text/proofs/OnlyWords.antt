@@ -36,20 +36,24 @@ pub record IsWritten (ds : List ℕ) (n : ℕ) : Type 0 where
 digit-bounds : (b : ℕ) → is_digit b ≡ true → (48 ≤ b) × (b ≤ 57)
 digit-bounds b e = by (nat_le 48 b) refl (nat_le b 57) refl e
   where
-    by : (low : Bool) → nat_le 48 b ≡ low → (high : Bool) → nat_le b 57 ≡ high → (low && high) ≡ true → (48 ≤ b) × (b ≤ 57)
+    by : (low : Bool) → nat_le 48 b ≡ low → (high : Bool) → nat_le b 57 ≡ high → (low && high) ≡ true
+        → (48 ≤ b) × (b ≤ 57)
     by true d true f e = (grind (arith, d), grind (arith, f))
     by true d false f e = absurd (grind (arith, e))
     by false d high f e = absurd (grind (arith, e))
 
-more-only : (m : ℕ) (ds : List ℕ) (n : ℕ) → 1 ≤ m → m ≤ 9999999 → digits_after m ds ≡ Some n → IsWritten (decimal m ++ ds) n
+more-only : (m : ℕ) (ds : List ℕ) (n : ℕ) → 1 ≤ m → m ≤ 9999999 → digits_after m ds ≡ Some n
+    → IsWritten (decimal m ++ ds) n
 more-only m [] n some few e =
     let same : m ≡ n = grind (arith, e) in
     record { digits = append-nil (decimal m) ∙ ap decimal same; few = omega (arith, few, same) }
 more-only m (b ∷ bs) n some few e =
-    by (is_digit b) refl (nat_le m 999999) refl (λ high. more-only (10 * m + (b - 48)) bs n (omega (arith, some)) high) e
+    by (is_digit b) refl (nat_le m 999999) refl
+    (λ high. more-only (10 * m + (b - 48)) bs n (omega (arith, some)) high) e
   where
     by : (d : Bool) → is_digit b ≡ d → (s : Bool) → nat_le m 999999 ≡ s
-        → (10 * m + (b - 48) ≤ 9999999 → digits_after (10 * m + (b - 48)) bs ≡ Some n → IsWritten (decimal (10 * m + (b - 48)) ++ bs) n)
+        → (10 * m + (b - 48) ≤ 9999999 → digits_after (10 * m + (b - 48)) bs ≡ Some n
+        → IsWritten (decimal (10 * m + (b - 48)) ++ bs) n)
         → (if d && s then digits_after (10 * m + (b - 48)) bs else None) ≡ Some n → IsWritten (decimal m ++ b ∷ bs) n
     by true d true s rest e =
         let digit = digit-bounds b d in
@@ -79,7 +83,8 @@ number-only (b ∷ bs) n e = by (b == 48) refl e
         record { digits = sym (decimal_digit 0 (omega arith)) ∙ ap decimal same; few = omega (arith, same) }
     zero_only (c ∷ cs) z e = absurd (grind (arith, z))
 
-    other : (d : Bool) → is_digit b ≡ d → (b == 48) ≡ false → (if d && true then digits_after (10 * 0 + (b - 48)) bs else None) ≡ Some n
+    other : (d : Bool) → is_digit b ≡ d → (b == 48) ≡ false →
+        (if d && true then digits_after (10 * 0 + (b - 48)) bs else None) ≡ Some n
         → IsWritten (b ∷ bs) n
     other true d f e =
         let digit = digit-bounds b d in
@@ -91,12 +96,14 @@ number-only (b ∷ bs) n e = by (b == 48) refl e
         record { digits = ap (λ ds. ds ++ bs) (sym one) ∙ r.digits; few = r.few }
     other false d f e = absurd (grind (arith, e))
 
-    at_zero : (t : Bool) → (length bs == 0) ≡ t → b ≡ 48 → (if not t then None else digits_after 0 (b ∷ bs)) ≡ Some n → IsWritten (b ∷ bs) n
+    at_zero : (t : Bool) → (length bs == 0) ≡ t → b ≡ 48 → (if not t then None else digits_after 0 (b ∷ bs)) ≡ Some n
+        → IsWritten (b ∷ bs) n
     at_zero true z f e =
         subst (λ c. IsWritten (c ∷ bs) n) (sym f) (zero_only bs z (ap (λ c. digits_after 0 (c ∷ bs)) (sym f) ∙ e))
     at_zero false z f e = absurd (grind (arith, e))
 
-    by : (t : Bool) → (b == 48) ≡ t → (if t && not (length bs == 0) then None else digits_after 0 (b ∷ bs)) ≡ Some n → IsWritten (b ∷ bs) n
+    by : (t : Bool) → (b == 48) ≡ t → (if t && not (length bs == 0) then None else digits_after 0 (b ∷ bs)) ≡ Some n
+        → IsWritten (b ∷ bs) n
     by true f e = at_zero (length bs == 0) refl (grind (arith, f)) e
     by false f e = other (is_digit b) refl f e
 
@@ -125,7 +132,8 @@ pub rule-only : (text : List ℕ) (rule : ℕ) → rule_named text ≡ Some rule
 rule-only [] rule e = absurd (grind (arith, e))
 rule-only (b ∷ bs) rule e = by (b == 83) refl e
   where
-    by : (t : Bool) → (b == 83) ≡ t → (if t then number_within 4 26 bs else None) ≡ Some rule → b ∷ bs ≡ 83 ∷ decimal rule
+    by : (t : Bool) → (b == 83) ≡ t → (if t then number_within 4 26 bs else None) ≡ Some rule → b ∷ bs
+        ≡ 83 ∷ decimal rule
     by true f e =
         let same : b ≡ 83 = grind (arith, f) in
         ap (λ c. c ∷ bs) same ∙ ap (λ ds. 83 ∷ ds) (within-only 4 26 bs rule e)
@@ -135,11 +143,13 @@ find-passes : (p : ℕ → Bool) (xs : List ℕ) (x : ℕ) → find p xs ≡ Som
 find-passes p [] x e = absurd (grind (arith, e))
 find-passes p (y ∷ ys) x e = by (p y) refl (find-passes p ys x) e
   where
-    by : (b : Bool) → p y ≡ b → (find p ys ≡ Some x → p x ≡ true) → (if b then Some y else find p ys) ≡ Some x → p x ≡ true
+    by : (b : Bool) → p y ≡ b → (find p ys ≡ Some x → p x ≡ true) → (if b then Some y else find p ys) ≡ Some x → p x
+        ≡ true
     by true f rest e = let same : y ≡ x = grind (arith, e) in ap p (sym same) ∙ f
     by false f rest e = rest e
 
-pub set-only : (voices : ℕ) (text : List ℕ) (o : Option VoiceSet) → voices_named voices text ≡ Some o → text ≡ voices_word o
+pub set-only : (voices : ℕ) (text : List ℕ) (o : Option VoiceSet) → voices_named voices text ≡ Some o → text
+    ≡ voices_word o
 unfolding voices_named
 set-only voices text o e = by (same_text (voices_word None) text) refl e
   where
@@ -148,10 +158,12 @@ set-only voices text o e = by (same_text (voices_word None) text) refl e
     found None f e = absurd (grind (arith, e))
     found (Some bits) f e =
         let same : Some (record { bits = bits }) ≡ o = grind (arith, e) in
-        sym (text_from (voices_word (Some (record { bits = bits }))) text (find-passes (is_set text) (range_with_len 1 (2 ^ voices - 1)) bits f)) ∙ ap voices_word same
+        sym (text_from (voices_word (Some (record { bits = bits }))) text
+        (find-passes (is_set text) (range_with_len 1 (2 ^ voices - 1)) bits f)) ∙ ap voices_word same
 
     by : (t : Bool) → same_text (voices_word None) text ≡ t
-        → (if t then Some None else option_map (λ bits. Some (record { bits = bits })) (find (is_set text) (range_with_len 1 (2 ^ voices - 1)))) ≡ Some o
+        → (if t then Some None else option_map (λ bits. Some (record { bits = bits }))
+        (find (is_set text) (range_with_len 1 (2 ^ voices - 1)))) ≡ Some o
         → text ≡ voices_word o
     by true f e =
         let same : None ≡ o = grind (arith, e) in
@@ -160,11 +172,13 @@ set-only voices text o e = by (same_text (voices_word None) text) refl e
 
 -- ---- words and lines
 
-pub next-only : (kind : TextKind) (at : LineWords) (x : PlacedWord × LineWords) → next kind at ≡ Ok x → texts at ≡ x.0.text ∷ texts x.1
+pub next-only : (kind : TextKind) (at : LineWords) (x : PlacedWord × LineWords) → next kind at ≡ Ok x → texts at
+    ≡ x.0.text ∷ texts x.1
 unfolding next
 next-only kind at x e = by at.words refl e
   where
-    by : (ws : List PlacedWord) → at.words ≡ ws → ok_or (first_of at ws) (fault_past kind at) ≡ Ok x → texts at ≡ x.0.text ∷ texts x.1
+    by : (ws : List PlacedWord) → at.words ≡ ws → ok_or (first_of at ws) (fault_past kind at) ≡ Ok x → texts at
+        ≡ x.0.text ∷ texts x.1
     by [] f e = absurd (grind (arith, e))
     by (w ∷ ws) f e =
         let rest : LineWords = record at { past = w.column + length w.text; words = ws } in
@@ -179,7 +193,8 @@ done-only kind at x e = by at.words refl e
     by [] f e = ap (λ words. map (λ word. word.text) words) f
     by (w ∷ ws) f e = absurd (grind (arith, e))
 
-pub literal-only : (kind : TextKind) (text : List ℕ) (at rest : LineWords) → literal kind text at ≡ Ok rest → texts at ≡ text ∷ texts rest
+pub literal-only : (kind : TextKind) (text : List ℕ) (at rest : LineWords) → literal kind text at ≡ Ok rest
+    → texts at ≡ text ∷ texts rest
 unfolding literal
 literal-only kind text at rest e =
     let w = bind_ok (next kind at) _ rest e in
@@ -188,10 +203,12 @@ literal-only kind text at rest e =
     by : (w : PlacedWord) (others : LineWords) (t : Bool) → same_text w.text text ≡ t
         → (if t then Ok others else Err (fault_at kind w)) ≡ Ok rest → w.text ∷ texts others ≡ text ∷ texts rest
     by w others true f e =
-        ap (λ first. first ∷ texts others) (text_from w.text text f) ∙ ap (λ at. text ∷ texts at) (value_is others rest _ refl e)
+        ap (λ first. first ∷ texts others) (text_from w.text text f)
+        ∙ ap (λ at. text ∷ texts at) (value_is others rest _ refl e)
     by w others false f e = absurd (grind (arith, e))
 
-pub number_in-only : (kind : TextKind) (least most : ℕ) (at : LineWords) (x : ℕ × LineWords) → number_in kind least most at ≡ Ok x
+pub number_in-only : (kind : TextKind) (least most : ℕ) (at : LineWords) (x : ℕ × LineWords)
+    → number_in kind least most at ≡ Ok x
     → texts at ≡ decimal x.0 ∷ texts x.1
 unfolding number_in
 number_in-only kind least most at x e =
@@ -206,7 +223,8 @@ number_in-only kind least most at x e =
 abbrev pub line_texts : TextLines → List (List (List ℕ))
 line_texts text = map texts text.lines
 
-pub headed-only : (kind : TextKind) (name : List ℕ) (text : TextLines) (x : LineWords × TextLines) → headed kind name text ≡ Ok x
+pub headed-only : (kind : TextKind) (name : List ℕ) (text : TextLines) (x : LineWords × TextLines)
+    → headed kind name text ≡ Ok x
     → line_texts text ≡ (name ∷ texts x.0) ∷ line_texts x.1
 unfolding headed
 headed-only kind name text x e = by text.lines refl e
@@ -220,14 +238,16 @@ headed-only kind name text x e = by text.lines refl e
         let words = bind_ok (literal kinds.Head name l) _ x e in
         ap (λ found. map texts found) f
         ∙ ap (λ ws. ws ∷ map texts lines) (literal-only kinds.Head name l words.0 words.1)
-        ∙ ap (λ y. (name ∷ texts y.0) ∷ line_texts y.1) (value_is (words.0, record { after = text.after; lines = lines }) x _ refl words.2)
+        ∙ ap (λ y. (name ∷ texts y.0) ∷ line_texts y.1)
+        (value_is (words.0, record { after = text.after; lines = lines }) x _ refl words.2)
 
 pub no_line-only : (text : TextLines) (x : Unit {0}) → no_line text ≡ Ok x → line_texts text ≡ []
 unfolding no_line fault_here
 no_line-only text x e = by text.lines refl e
   where
     by : (lines : List LineWords) → text.lines ≡ lines
-        → none_of_lines (fault_of_line kinds.Head text.after (first_line_of text.after lines)) (first_line_of text.after lines) ≡ Ok x
+        → none_of_lines (fault_of_line kinds.Head text.after (first_line_of text.after lines))
+        (first_line_of text.after lines) ≡ Ok x
         → line_texts text ≡ []
     by [] f e = ap (λ found. map texts found) f
     by (l ∷ lines) f e = absurd (grind (arith, e))

@@ -1,5 +1,5 @@
--- A `sing` line is read as the cells of its items (`sing_line-own`), and the line that is written of a voice has the cells
--- of the voice (`sing_words-sung`).
+-- A `sing` line is read as the cells of its items (`sing_line-own`), and the line that is written of a voice has the
+-- cells of the voice (`sing_words-sung`).
 use Rattle.std.proofs.Common.{◌≡◌, ℕ, zero, suc, ◌+◌, ◌-◌, ◌*◌, ◌/◌, ◌<◌, ◌≤◌, List, [], ◌∷◌, ◌++◌, length, length-append, length-drop, map, take, drop, Ok, refl, sym, ap, subst, ◌∙◌, append_assoc, arith}
 use Rattle.std.specs.Prelude.{codes}
 use Rattle.std.specs.Fmt.{decimal}
@@ -35,7 +35,8 @@ latest-append before [] ys = refl
 latest-append before (x ∷ xs) ys = latest-append x xs ys
 
 -- items have as many cells as their lengths sum to
-pub cells-length : (items : List (Cell × ℕ)) → AllByRecursion (λ item. 1 ≤ item.1) items → length (cells_of items) ≡ lengths items
+pub cells-length : (items : List (Cell × ℕ)) → AllByRecursion (λ item. 1 ≤ item.1) items → length (cells_of items)
+    ≡ lengths items
 cells-length [] some = refl
 cells-length ((c, n) ∷ items) some =
     let first : length (item_cells c n) ≡ n = ap suc (length-replicate (n - 1) (held c)) ∙ omega (arith, some.0) in
@@ -63,7 +64,8 @@ end-own bars bar done at full last = rw (eq-eqb (length done) (8 * bar + 8) full
 later_bars-own : (count : ℕ) (at : LineWords) (bars : List (List (Cell × ℕ))) (bar : ℕ) (done : List Cell)
     → length done ≡ 8 * bar + 8 → bar + 1 + length bars ≡ count → AllByRecursion IsBar bars
     → FollowsFrom (latest Rest done) (cells_of_bars bars)
-    → GoesOn count bar done at (flat_map (λ other. codes "|" ∷ other) (map (map item_word) bars)) (Ok (done ++ cells_of_bars bars))
+    → GoesOn count bar done at (flat_map (λ other. codes "|" ∷ other) (map (map item_word) bars))
+    (Ok (done ++ cells_of_bars bars))
 later_bars-own count at [] bar done full last whole f = λ place.
     end-own count bar done at full (omega (arith, last)) ∙ ap Ok (sym (append-nil done))
 later_bars-own count at (items ∷ bars) bar done full last whole f = λ place.
@@ -75,14 +77,17 @@ later_bars-own count at (items ∷ bars) bar done full last whole f = λ place.
     (omega (arith, last)) whole.1
     (subst (λ c. FollowsFrom c (cells_of_bars bars)) (sym (latest-append Rest done cs)) parts.1) in
     rw (bar_line-own count bar done (place 0).line (place 0).column full (omega (arith, last)))
-    (bar-own count (bar + 1) at words (Ok (done ++ (cs ++ cells_of_bars bars))) done items (omega (arith, full)) whole.0 parts.0
+    (bar-own count (bar + 1) at words (Ok (done ++ (cs ++ cells_of_bars bars))) done items
+    (omega (arith, full)) whole.0 parts.0
     (λ p. more p ∙ ap Ok (append_assoc done cs (cells_of_bars bars)))
     (λ k. place (suc k)))
 
 -- the words of a line's bars give their cells
-sung_in-own : (count line past end : ℕ) (place : ℕ → PlacedWord) (bars : List (List (Cell × ℕ))) → 1 ≤ count → length bars ≡ count
+sung_in-own : (count line past end : ℕ) (place : ℕ → PlacedWord) (bars : List (List (Cell × ℕ))) → 1 ≤ count
+    → length bars ≡ count
     → AllByRecursion IsBar bars → FollowsFrom Rest (cells_of_bars bars)
-    → sung_in count (at_words line past end place (between_bar_lines (map (map item_word) bars))) ≡ Ok (cells_of_bars bars)
+    → sung_in count (at_words line past end place (between_bar_lines (map (map item_word) bars)))
+    ≡ Ok (cells_of_bars bars)
 unfolding sung_in
 sung_in-own count line past end place [] some last whole f = absurd (omega (arith, some, last))
 sung_in-own count line past end place (items ∷ bars) some last whole f =
@@ -90,24 +95,29 @@ sung_in-own count line past end place (items ∷ bars) some last whole f =
     let eight : length cs ≡ 8 = cells-length items whole.0.some ∙ whole.0.whole in
     let parts = follows-parts Rest cs (cells_of_bars bars) f in
     let at = at_words line past end place (between_bar_lines (map (map item_word) (items ∷ bars))) in
-    bar-own count 0 at (flat_map (λ other. codes "|" ∷ other) (map (map item_word) bars)) (Ok (cells_of_bars (items ∷ bars))) [] items
+    bar-own count 0 at (flat_map (λ other. codes "|" ∷ other) (map (map item_word) bars))
+    (Ok (cells_of_bars (items ∷ bars))) [] items
     refl whole.0 parts.0
     (later_bars-own count at bars 0 cs (omega (arith, eight)) (omega (arith, last)) whole.1 parts.1) place
 
-line_words-own : (count v : ℕ) (bars : List (List (Cell × ℕ))) (after : ℕ) (l : LineWords) (others : List LineWords) → 1 ≤ count
+line_words-own : (count v : ℕ) (bars : List (List (Cell × ℕ))) (after : ℕ) (l : LineWords) (others : List LineWords)
+    → 1 ≤ count
     → v ≤ 9999999 → length bars ≡ count → AllByRecursion IsBar bars → FollowsFrom Rest (cells_of_bars bars)
-    → sing_line_in count v (with_line after l (codes "sing" ∷ decimal v ∷ between_bar_lines (map (map item_word) bars)) others)
+    → sing_line_in count v
+    (with_line after l (codes "sing" ∷ decimal v ∷ between_bar_lines (map (map item_word) bars)) others)
     ≡ Ok (cells_of_bars bars, left after others)
 unfolding sing_line_in headed literal next number_in
 line_words-own count v bars after l others some few last whole f =
     let place = places_of l.words in
     rw (
       within-own v v v few (omega arith) (omega arith),
-      sung_in-own count l.line ((place 1).column + length (decimal v)) l.end (λ k. place (suc (suc k))) bars some last whole f,
+      sung_in-own count l.line ((place 1).column + length (decimal v)) l.end
+          (λ k. place (suc (suc k))) bars some last whole f,
     ) refl
 
 -- a `sing` line is read, wherever its words stand
-pub sing_line-own : (count v : ℕ) (words : List (List ℕ)) (cells : List Cell) (after : ℕ) (l : LineWords) (others : List LineWords)
+pub sing_line-own : (count v : ℕ) (words : List (List ℕ)) (cells : List Cell) (after : ℕ) (l : LineWords)
+    (others : List LineWords)
     → 1 ≤ count → v ≤ 9999999 → IsSung count v words cells → FollowsFrom Rest cells
     → sing_line_in count v (with_line after l words others) ≡ Ok (cells, left after others)
 sing_line-own count v words cells after l others some few s f =
@@ -139,7 +149,8 @@ drop-eight (suc k) (x ∷ xs) =
     let same : suc k + 8 ≡ suc (k + 8) = omega arith in
     ap (λ n. drop n (x ∷ xs)) same ∙ drop-eight k xs
 
-bars-are : (xs : List Cell) (a b n : ℕ) → b ≡ a + 1 → 8 * (a + n) ≤ length xs → AreBars (map (bar_of_line xs) (range_with_len b n))
+bars-are : (xs : List Cell) (a b n : ℕ) → b ≡ a + 1 → 8 * (a + n) ≤ length xs
+    → AreBars (map (bar_of_line xs) (range_with_len b n))
 bars-are xs a b zero e long = tt
 bars-are xs a b (suc n) e long = (
   length-take-le 8 (drop (8 * (b - 1)) xs) (omega (arith, length-drop (8 * (b - 1)) xs, long, e)),
@@ -156,7 +167,8 @@ bars-joined xs a b (suc n) e =
     let ys = drop (8 * a) xs in
     ap (λ k. take 8 (drop k xs) ++ joined (map (bar_of_line xs) (range_with_len (b + 1) n))) first
     ∙ ap (λ more. take 8 ys ++ more)
-    (bars-joined xs (a + 1) (b + 1) n (omega (arith, e)) ∙ ap (λ k. take (8 * n) (drop k xs)) next ∙ ap (take (8 * n)) (drop-eight (8 * a) xs))
+    (bars-joined xs (a + 1) (b + 1) n (omega (arith, e)) ∙ ap (λ k. take (8 * n) (drop k xs)) next
+    ∙ ap (take (8 * n)) (drop-eight (8 * a) xs))
     ∙ sym (take-add 8 (8 * n) ys) ∙ ap (λ k. take k ys) all
 
 -- the words of a voice's bars are those of the bars of its line
@@ -177,19 +189,25 @@ bars-items before [] eight f = (tt, refl)
 bars-items before (cs ∷ bars) eight f =
     let parts = follows-parts before cs (joined bars) f in
     let one = items-of_bar before cs eight.0 parts.0 in
-    let rest = bars-items (latest before cs) bars eight.1 parts.1 in
-    ((one.bar, rest.0), ap (λ cells. cells ++ cells_of_bars (map items_of_cells bars)) one.cells ∙ ap (λ more. cs ++ more) rest.1)
+    let rest = bars-items (latest before cs) bars eight.1 parts.1 in (
+      (one.bar, rest.0),
+      ap (λ cells. cells ++ cells_of_bars (map items_of_cells bars)) one.cells
+          ∙ ap (λ more. cs ++ more) rest.1,
+    )
 
 -- the line that is written of a voice has its cells
-pub sing_words-sung : (count v : ℕ) (columns : List (List Cell)) → length columns ≡ 8 * count → FollowsFrom Rest (line v columns)
+pub sing_words-sung : (count v : ℕ) (columns : List (List Cell)) → length columns ≡ 8 * count
+    → FollowsFrom Rest (line v columns)
     → IsSung count v (sing_words v columns) (line v columns)
 sing_words-sung count v columns long f =
     let cells = line v columns in
     let bars = map (bar_of_line cells) (range_with_len 1 count) in
     let long_line : length cells ≡ 8 * count = omega (arith, length-map columns (λ col. cell_in col v), long) in
     let parts : length columns / 8 ≡ count = omega (arith, long) in
-    let whole : joined bars ≡ cells = bars-joined cells 0 1 count refl ∙ take_all (8 * count) cells (omega (arith, long_line)) in
-    let items = bars-items Rest bars (bars-are cells 0 1 count refl (omega (arith, long_line))) (subst (FollowsFrom Rest) (sym whole) f) in
+    let whole : joined bars ≡ cells = bars-joined cells 0 1 count refl
+    ∙ take_all (8 * count) cells (omega (arith, long_line)) in
+    let items = bars-items Rest bars (bars-are cells 0 1 count refl (omega (arith, long_line)))
+    (subst (FollowsFrom Rest) (sym whole) f) in
     record {
       items = map items_of_cells bars;
       written = ap (λ ws. codes "sing" ∷ decimal v ∷ between_bar_lines ws)

@@ -31,24 +31,30 @@ mode_line-own : (after : ℕ) (l : LineWords) (others : List LineWords) (mode : 
 unfolding mode_line headed literal next done
 mode_line-own after l others mode = rw (mode-own mode) refl
 
-number_line-own : (name : List ℕ) (kind : TextKind) (after : ℕ) (l : LineWords) (others : List LineWords) (least most value : ℕ)
+number_line-own : (name : List ℕ) (kind : TextKind) (after : ℕ) (l : LineWords) (others : List LineWords)
+    (least most value : ℕ)
     → value ≤ 9999999 → least ≤ value → value ≤ most
-    → number_line name kind least most (with_line after l (name ∷ decimal value ∷ []) others) ≡ Ok (value, left after others)
+    → number_line name kind least most (with_line after l (name ∷ decimal value ∷ []) others)
+    ≡ Ok (value, left after others)
 unfolding number_line headed literal next done number_in
 number_line-own name kind after l others least most value few low high =
     rw (same_from name name refl, within-own least most value few low high) refl
 
-species_line-own : (after : ℕ) (l : LineWords) (others : List LineWords) (voices species v : ℕ) → species ≤ 9999999 → v ≤ 9999999
+species_line-own : (after : ℕ) (l : LineWords) (others : List LineWords) (voices species v : ℕ) → species ≤ 9999999
+    → v ≤ 9999999
     → 1 ≤ species → species ≤ most_species → v ≤ voices - 1
-    → species_line voices (with_line after l (codes "species" ∷ decimal species ∷ codes "voice" ∷ decimal v ∷ []) others)
+    → species_line voices
+    (with_line after l (codes "species" ∷ decimal species ∷ codes "voice" ∷ decimal v ∷ []) others)
     ≡ Ok (species, v, left after others)
 unfolding species_line headed literal next done number_in
 species_line-own after l others voices species v few few_v low high there =
     rw (within-own 1 most_species species few low high, within-own 0 (voices - 1) v few_v (omega arith) there) refl
 
-pub other_voice-own : (other voices v : ℕ) → v ≤ 9999999 → v < voices → v ≢ other → other_voice other voices (decimal v) ≡ Some v
+pub other_voice-own : (other voices v : ℕ) → v ≤ 9999999 → v < voices → v ≢ other
+    → other_voice other voices (decimal v) ≡ Some v
 other_voice-own other voices v few there differs =
-    ap (option_and_then (unless other)) (within-own 0 (voices - 1) v few (omega arith) (omega arith)) ∙ by (v == other) refl
+    ap (option_and_then (unless other)) (within-own 0 (voices - 1) v few (omega arith) (omega arith))
+    ∙ by (v == other) refl
   where
     by : (b : Bool) → (v == other) ≡ b → (if b then None else Some v) ≡ Some v
     by true e = absurd (differs (grind (arith, e)))
@@ -77,7 +83,8 @@ pitches_in-own (p ∷ ps) before line past end place =
       end = others.end;
     }
 
-cantus_line-own : (after : ℕ) (l : LineWords) (more : List LineWords) (voices species_voice bars v : ℕ) (cantus : List Pitch)
+cantus_line-own : (after : ℕ) (l : LineWords) (more : List LineWords) (voices species_voice bars v : ℕ)
+    (cantus : List Pitch)
     → v ≤ 9999999 → v < voices → v ≢ species_voice → length cantus ≡ bars
     → cantus_line voices species_voice bars (with_line after l (codes "cantus" ∷ decimal v ∷ map name_of cantus) more)
     ≡ Ok (v, cantus, left after more)
@@ -97,26 +104,32 @@ head_of ex = record ex { ranges = []; relax = []; setting = None }
 abbrev pub behind_head : (ℕ → LineWords) → ℕ → LineWords
 behind_head lay k = lay (suc (suc (suc (suc (suc (suc k))))))
 
-pub head-own : (ex : Exercise) (after : ℕ) (lay : ℕ → LineWords) (more : List (List (List ℕ))) → IsValid ex → IsJudged ex
+pub head-own : (ex : Exercise) (after : ℕ) (lay : ℕ → LineWords) (more : List (List (List ℕ))) → IsValid ex
+    → IsJudged ex
     → head_in (left after (lines_at lay (head_lines ex ++ cantus_words ex ∷ more)))
     ≡ Ok (head_of ex, left after (lines_at (behind_head lay) more))
 unfolding head_in
 head-own ex after lay more valid judged =
     let others = lines_at (behind_head lay) more in
     let cantus = laid (lay 5) (cantus_words ex) ∷ others in
-    let species = laid (lay 4) (codes "species" ∷ decimal ex.species ∷ codes "voice" ∷ decimal ex.species_voice ∷ []) ∷ cantus in
+    let species = laid (lay 4)
+    (codes "species" ∷ decimal ex.species ∷ codes "voice" ∷ decimal ex.species_voice ∷ []) ∷ cantus in
     let bars = laid (lay 3) (codes "bars" ∷ decimal ex.bars ∷ []) ∷ species in
     let voices = laid (lay 2) (codes "voices" ∷ decimal ex.voices ∷ []) ∷ bars in
     let mode = laid (lay 1) (codes "mode" ∷ mode_name ex.mode ∷ []) ∷ voices in
     rw (
       version_line-own after (lay 0) mode,
       mode_line-own after (lay 1) voices ex.mode,
-      number_line-own (codes "voices") kinds.Word after (lay 2) bars 2 most_voices ex.voices (omega (arith, valid.most_voices))
+      number_line-own (codes "voices") kinds.Word after (lay 2) bars 2 most_voices ex.voices
+          (omega (arith, valid.most_voices))
           valid.fewest_voices judged.voices,
-      number_line-own (codes "bars") kinds.Bars after (lay 3) species 3 24 ex.bars (omega (arith, valid.most_bars)) valid.fewest_bars
+      number_line-own (codes "bars") kinds.Bars after (lay 3) species 3 24 ex.bars
+          (omega (arith, valid.most_bars)) valid.fewest_bars
           valid.most_bars,
       species_line-own after (lay 4) cantus ex.voices ex.species ex.species_voice (omega (arith, valid.most_species))
-          (omega (arith, valid.species_there, valid.most_voices)) valid.least_species judged.species (omega (arith, valid.species_there)),
+          (omega (arith, valid.species_there, valid.most_voices)) valid.least_species judged.species
+          (omega (arith, valid.species_there)),
       cantus_line-own after (lay 5) others ex.voices ex.species_voice ex.bars ex.cantus_voice ex.cantus
-          (omega (arith, valid.cantus_there, valid.most_voices)) valid.cantus_there (λ same. valid.differ (sym same)) valid.whole_cantus,
+          (omega (arith, valid.cantus_there, valid.most_voices)) valid.cantus_there
+          (λ same. valid.differ (sym same)) valid.whole_cantus,
     ) refl

@@ -31,7 +31,8 @@ use Rattle.fux_text.proofs.Layouts.{set_out}
 
 -- ---- an item's word
 
-colon_at : (name ds : List ℕ) → list_all (λ b. not (b == 58)) name ≡ true → position_or_len is_colon (name ++ 58 ∷ ds) ≡ length name
+colon_at : (name ds : List ℕ) → list_all (λ b. not (b == 58)) name ≡ true
+    → position_or_len is_colon (name ++ 58 ∷ ds) ≡ length name
 colon_at [] ds e = refl
 colon_at (b ∷ bs) ds e =
     let p = and_parts (not (b == 58)) (list_all (λ c. not (c == 58)) bs) e in
@@ -44,7 +45,8 @@ unfolding item_parts
 item_parts-own name n none few =
     let text = name ++ 58 ∷ decimal n in
     let colon = colon_at name (decimal n) none in
-    let before : before_first is_colon text ≡ name = ap (λ k. take k text) colon ∙ take-append_seam name (58 ∷ decimal n) in
+    let before : before_first is_colon text ≡ name = ap (λ k. take k text) colon
+    ∙ take-append_seam name (58 ∷ decimal n) in
     let after : after_first is_colon text ≡ decimal n =
     ap (λ k. drop (k + 1) text) colon ∙ drop-append-add name (58 ∷ decimal n) 1 in
     ap (λ o. option_map (λ m. (before_first is_colon text, m)) o) (ap number_of after ∙ number-own n few)
@@ -75,7 +77,12 @@ item_named-own Rest = refl
 item_named-own (Hold p) = refl
 item_named-own (Start p) =
     let long = name_of-length p in
-    rw (shorter (name_of p) (codes "r") (omega (arith, long)), shorter (name_of p) (codes "_") (omega (arith, long)), pitch-own p) refl
+    rw (
+      shorter (name_of p) (codes "r") (omega (arith, long)),
+      shorter (name_of p) (codes "_")
+          (omega (arith, long)),
+      pitch-own p,
+    ) refl
 
 -- an item that begins with this cell may stand behind so many bars and these cells
 abbrev pub CanBegin : ℕ → List Cell → Cell → Type 0
@@ -85,18 +92,27 @@ item_in-own : (bar : ℕ) (done : List Cell) (line column : ℕ) (c : Cell) (n :
     → item_in bar done (record { line = line; column = column; text = item_word (c, n) }) ≡ Ok (c, n)
 unfolding item_in
 item_in-own bar done line column c n least most can =
-    rw (item_parts-own (item_name c) n (item_name-no_colon c) (omega (arith, most)), item_named-own c, if_within-own 1 8 n least most, can) refl
+    rw (
+      item_parts-own (item_name c) n (item_name-no_colon c)
+          (omega (arith, most)),
+      item_named-own c,
+      if_within-own 1 8 n least most,
+      can,
+    ) refl
 
 long_word : (c : Cell) (n : ℕ) → same_text (item_word (c, n)) (codes "|") ≡ false
-long_word c n = shorter (item_word (c, n)) (codes "|") (omega (arith, length-append (item_name c) (58 ∷ decimal n), named c))
+long_word c n = shorter (item_word (c, n)) (codes "|")
+    (omega (arith, length-append (item_name c) (58 ∷ decimal n), named c))
   where
     named : (c : Cell) → 1 ≤ length (item_name c)
     named Rest = omega arith
     named (Hold p) = omega arith
     named (Start p) = omega (arith, (name_of-length p).0)
 
-sung_item-own : (bars bar : ℕ) (done : List Cell) (line column : ℕ) (c : Cell) (n : ℕ) → 1 ≤ n → n ≤ 8 → CanBegin bar done c
-    → sung_word bars bar done (record { line = line; column = column; text = item_word (c, n) }) ≡ Ok (bar, done ++ item_cells c n)
+sung_item-own : (bars bar : ℕ) (done : List Cell) (line column : ℕ) (c : Cell) (n : ℕ) → 1 ≤ n → n ≤ 8
+    → CanBegin bar done c
+    → sung_word bars bar done (record { line = line; column = column; text = item_word (c, n) })
+    ≡ Ok (bar, done ++ item_cells c n)
 unfolding sung_word
 sung_item-own bars bar done line column c n least most can =
     rw (long_word c n, item_in-own bar done line column c n least most can) refl
@@ -128,7 +144,8 @@ pub with_run-longer : (c d : Cell) (n m : ℕ) (items : List (Cell × ℕ)) → 
 with_run-longer c d n m [] e = rw e refl
 with_run-longer c d n m (item ∷ items) e = by (goes_on c item.0) refl
   where
-    by : (b : Bool) → goes_on c item.0 ≡ b → with_run c n (with_run d m (item ∷ items)) ≡ with_run c (n + m) (item ∷ items)
+    by : (b : Bool) → goes_on c item.0 ≡ b → with_run c n (with_run d m (item ∷ items))
+        ≡ with_run c (n + m) (item ∷ items)
     by true f =
         let g : goes_on d item.0 ≡ true = goes_on-same c d item.0 e ∙ f in
         rw (f, g, e) (ap (λ k. (c, k) ∷ items) (omega arith))
@@ -163,12 +180,14 @@ begins-anywhere bar done (Hold p) e = absurd (grind (arith, e))
 begins-anywhere bar done (Start p) e = refl
 
 -- at the beginning of a bar so does what is held
-tie-own : (before : Cell) (p : Pitch) → IsTrue (cell_follows before (Hold p)) → option_map Hold (pitch_of before) ≡ Some (Hold p)
+tie-own : (before : Cell) (p : Pitch) → IsTrue (cell_follows before (Hold p)) → option_map Hold (pitch_of before)
+    ≡ Some (Hold p)
 tie-own Rest p h = absurd (grind (arith, h))
 tie-own (Hold q) p h = ap (λ x. Some (Hold x)) (equal_from_test q p h)
 tie-own (Start q) p h = ap (λ x. Some (Hold x)) (equal_from_test q p h)
 
-begins-bar : (bar : ℕ) (done : List Cell) (c : Cell) → length done ≡ 8 * bar → IsTrue (cell_follows (latest Rest done) c) → CanBegin bar done c
+begins-bar : (bar : ℕ) (done : List Cell) (c : Cell) → length done ≡ 8 * bar
+    → IsTrue (cell_follows (latest Rest done) c) → CanBegin bar done c
 begins-bar bar done Rest e h = refl
 begins-bar bar done (Start p) e h = refl
 begins-bar bar done (Hold p) e h = by (length done == 8 * bar) refl
@@ -192,13 +211,15 @@ GoesOn bars bar done at more total = (place : ℕ → PlacedWord) → sung_words
 abbrev pub lengths : List (Cell × ℕ) → ℕ
 lengths items = sum_by (λ item. item.1) items
 
-item-own : (bars bar : ℕ) (at : LineWords) (more : List (List ℕ)) (total : Result (List Cell) Fault) (done : List Cell) (c : Cell) (n : ℕ)
+item-own : (bars bar : ℕ) (at : LineWords) (more : List (List ℕ)) (total : Result (List Cell) Fault)
+    (done : List Cell) (c : Cell) (n : ℕ)
     → 1 ≤ n → n ≤ 8 → CanBegin bar done c → GoesOn bars bar (done ++ item_cells c n) at more total
     → GoesOn bars bar done at (item_word (c, n) ∷ more) total
 item-own bars bar at more total done c n least most can h = λ place.
     rw (sung_item-own bars bar done (place 0).line (place 0).column c n least most can) (h (λ k. place (suc k)))
 
-items-own : (bars bar : ℕ) (at : LineWords) (more : List (List ℕ)) (total : Result (List Cell) Fault) (items : List (Cell × ℕ))
+items-own : (bars bar : ℕ) (at : LineWords) (more : List (List ℕ)) (total : Result (List Cell) Fault)
+    (items : List (Cell × ℕ))
     (done : List Cell) → lengths items ≤ 8 → AllByRecursion (λ item. 1 ≤ item.1) items
     → AllByRecursion (λ item. is_hold item.0 ≡ false) items → GoesOn bars bar (done ++ cells_of items) at more total
     → GoesOn bars bar done at (map item_word items ++ more) total
@@ -206,20 +227,26 @@ items-own bars bar at more total [] done few some starts h =
     subst (λ cells. GoesOn bars bar cells at more total) (append-nil done) h
 items-own bars bar at more total ((c, n) ∷ items) done few some starts h =
     let sum : lengths ((c, n) ∷ items) ≡ n + lengths items = sum_by-cons (λ item. item.1) (c, n) items in
-    item-own bars bar at (map item_word items ++ more) total done c n some.0 (omega (arith, few, sum)) (begins-anywhere bar done c starts.0)
+    item-own bars bar at (map item_word items ++ more) total done c n some.0 (omega (arith, few, sum))
+    (begins-anywhere bar done c starts.0)
     (items-own bars bar at more total items (done ++ item_cells c n) (omega (arith, few, sum)) some.1 starts.1
-    (subst (λ cells. GoesOn bars bar cells at more total) (sym (append_assoc done (item_cells c n) (cells_of items))) h))
+    (subst (λ cells. GoesOn bars bar cells at more total)
+    (sym (append_assoc done (item_cells c n) (cells_of items))) h))
 
 -- the items of a bar are read behind the bars before it
-pub bar-own : (bars bar : ℕ) (at : LineWords) (more : List (List ℕ)) (total : Result (List Cell) Fault) (done : List Cell)
+pub bar-own : (bars bar : ℕ) (at : LineWords) (more : List (List ℕ)) (total : Result (List Cell) Fault)
+    (done : List Cell)
     (items : List (Cell × ℕ)) → length done ≡ 8 * bar → IsBar items → FollowsFrom (latest Rest done) (cells_of items)
-    → GoesOn bars bar (done ++ cells_of items) at more total → GoesOn bars bar done at (map item_word items ++ more) total
+    → GoesOn bars bar (done ++ cells_of items) at more total → GoesOn bars bar done at
+    (map item_word items ++ more) total
 bar-own bars bar at more total done [] long b f h = absurd (omega (arith, b.whole))
 bar-own bars bar at more total done ((c, n) ∷ items) long b f h =
     let sum : lengths ((c, n) ∷ items) ≡ n + lengths items = sum_by-cons (λ item. item.1) (c, n) items in
-    item-own bars bar at (map item_word items ++ more) total done c n b.some.0 (omega (arith, b.whole, sum)) (begins-bar bar done c long f.0)
+    item-own bars bar at (map item_word items ++ more) total done c n b.some.0 (omega (arith, b.whole, sum))
+    (begins-bar bar done c long f.0)
     (items-own bars bar at more total items (done ++ item_cells c n) (omega (arith, b.whole, sum)) b.some.1 b.ties
-    (subst (λ cells. GoesOn bars bar cells at more total) (sym (append_assoc done (item_cells c n) (cells_of items))) h))
+    (subst (λ cells. GoesOn bars bar cells at more total)
+    (sym (append_assoc done (item_cells c n) (cells_of items))) h))
 
 -- ---- the items that are written
 
@@ -242,12 +269,15 @@ begins-within (Hold q) (Hold p) e h = absurd (grind (arith, e))
 begins-within (Start q) (Hold p) e h = absurd (grind (arith, e))
 begins-within c (Start p) e h = refl
 
-all_starts : (d : Cell) (items : List (Cell × ℕ)) → is_hold d ≡ false → AllByRecursion (λ item. item.0 ≡ d) (take 1 items)
-    → AllByRecursion (λ item. is_hold item.0 ≡ false) (drop 1 items) → AllByRecursion (λ item. is_hold item.0 ≡ false) items
+all_starts : (d : Cell) (items : List (Cell × ℕ)) → is_hold d ≡ false
+    → AllByRecursion (λ item. item.0 ≡ d) (take 1 items)
+    → AllByRecursion (λ item. is_hold item.0 ≡ false) (drop 1 items)
+    → AllByRecursion (λ item. is_hold item.0 ≡ false) items
 all_starts d [] e f t = tt
 all_starts d (item ∷ items) e f t = (ap is_hold f.0 ∙ e, t)
 
-run-items : (cs : List Cell) (c : Cell) (m : ℕ) → FollowsFrom c cs → IsRun c m cs (with_run c (suc m) (items_of_cells cs))
+run-items : (cs : List Cell) (c : Cell) (m : ℕ) → FollowsFrom c cs
+    → IsRun c m cs (with_run c (suc m) (items_of_cells cs))
 run-items [] c m f = record {
   cells = ap (λ cells. cells ++ []) (run_cells c m);
   some = (omega arith, tt);
@@ -268,7 +298,8 @@ run-items (d ∷ ds) c m f = by (goes_on c d) refl (run-items ds c (suc m)) (run
         let r = longer (follows-held c ds (subst (λ x. FollowsFrom x ds) same f.1)) in
         subst (IsRun c m (d ∷ ds)) (sym (with_run-longer c d (suc m) 1 items e ∙ ap (λ k. with_run c k items) n))
         (record {
-          cells = r.cells ∙ ap (λ tail. c ∷ tail) (replicate-more m (held c) ds) ∙ ap (λ x. run c m ++ x ∷ ds) (sym same);
+          cells = r.cells ∙ ap (λ tail. c ∷ tail) (replicate-more m (held c) ds)
+              ∙ ap (λ x. run c m ++ x ∷ ds) (sym same);
           some = r.some;
           ties = r.ties;
           sum = omega (arith, r.sum);
@@ -290,7 +321,8 @@ pub record AreItemsOf (cs : List Cell) (items : List (Cell × ℕ)) : Type 0 whe
   pub bar : IsBar items
   pub cells : cells_of items ≡ cs
 
-pub items-of_bar : (before : Cell) (cs : List Cell) → length cs ≡ 8 → FollowsFrom before cs → AreItemsOf cs (items_of_cells cs)
+pub items-of_bar : (before : Cell) (cs : List Cell) → length cs ≡ 8 → FollowsFrom before cs
+    → AreItemsOf cs (items_of_cells cs)
 items-of_bar before [] eight f = absurd (omega (arith, eight))
 items-of_bar before (c ∷ cs) eight f =
     let r = run-items cs c 0 f.1 in

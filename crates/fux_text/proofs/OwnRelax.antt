@@ -17,9 +17,11 @@ use Rattle.fux_text.proofs.Layouts.{at_words, left, lines_at, places_of, with_li
 use Rattle.fux_text.proofs.OwnRanges.{IsSmall}
 use Rattle.fux_text.proofs.OwnWords.{rule-own, set-own}
 
-relax_in-own : (ex : Exercise) (r : Relax) (line past end : ℕ) (place : ℕ → PlacedWord) → 1 ≤ ex.voices → IsSmall ex → IsRelax ex r
+relax_in-own : (ex : Exercise) (r : Relax) (line past end : ℕ) (place : ℕ → PlacedWord) → 1 ≤ ex.voices → IsSmall ex
+    → IsRelax ex r
     → relax_in ex (at_words line past end place
-    ((codes "S" ++ decimal r.rule) ∷ voices_word r.voices ∷ decimal r.from ∷ decimal r.to ∷ decimal r.price ∷ [])) ≡ Ok r
+    ((codes "S" ++ decimal r.rule) ∷ voices_word r.voices ∷ decimal r.from ∷ decimal r.to ∷ decimal r.price ∷ []))
+    ≡ Ok r
 unfolding relax_in rule_in set_in number_in next done
 relax_in-own ex r line past end place some small fits =
     rw (
@@ -30,7 +32,8 @@ relax_in-own ex r line past end place some small fits =
       within-own 0 10000 r.price (omega (arith, fits.price)) (omega arith) fits.price,
     ) refl
 
-relax_line-own : (ex : Exercise) (r : Relax) (after : ℕ) (l : LineWords) (others : List LineWords) → 1 ≤ ex.voices → IsSmall ex → IsRelax ex r
+relax_line-own : (ex : Exercise) (r : Relax) (after : ℕ) (l : LineWords) (others : List LineWords) → 1 ≤ ex.voices
+    → IsSmall ex → IsRelax ex r
     → relax_line ex (with_line after l (relax_words r) others) ≡ Ok (r, left after others)
 unfolding relax_line headed literal next
 relax_line-own ex r after l others some small fits =
@@ -43,20 +46,25 @@ unfolding begins
 begins_relax r after l others = refl
 
 -- relax lines are read up to a line that is none
-relax_on-own : (ex : Exercise) (rs before : List Relax) (after : ℕ) (lay : ℕ → LineWords) (more : List (List (List ℕ))) → 1 ≤ ex.voices → IsSmall ex
+relax_on-own : (ex : Exercise) (rs before : List Relax) (after : ℕ) (lay : ℕ → LineWords)
+    (more : List (List (List ℕ))) → 1 ≤ ex.voices → IsSmall ex
     → All (IsRelax ex) rs → length before + length rs ≤ most_relax
     → ((other : ℕ → LineWords) → begins (codes "relax") (left after (lines_at other more)) ≡ false)
-    → (behind : ℕ → LineWords) × (relax_on ex before after (lines_at lay (map relax_words rs ++ more)) ≡ Ok (before ++ rs, left after (lines_at behind more)))
+    → (behind : ℕ → LineWords) ×
+    (relax_on ex before after (lines_at lay (map relax_words rs ++ more))
+    ≡ Ok (before ++ rs, left after (lines_at behind more)))
 unfolding relax_on
 relax_on-own ex [] before after lay [] some small fit few other =
     (lay, ap (λ found. Ok (found, left after [])) (sym (append-nil before)))
 relax_on-own ex [] before after lay (ws ∷ more) some small fit few other = (
   lay,
-  rw (and_right (nat_lt (length before) most_relax) (begins (codes "relax") (left after (lines_at lay (ws ∷ more)))) (other lay))
+  rw (and_right (nat_lt (length before) most_relax) (begins (codes "relax") (left after (lines_at lay (ws ∷ more))))
+      (other lay))
       (ap (λ found. Ok (found, left after (lines_at lay (ws ∷ more)))) (sym (append-nil before))),
 )
 relax_on-own ex (r ∷ rs) before after lay more some small fit few other =
-    let rest = relax_on-own ex rs (before ++ r ∷ []) after (λ k. lay (suc k)) more some small (λ k d lt. fit (suc k) d (omega arith))
+    let rest = relax_on-own ex rs (before ++ r ∷ []) after (λ k. lay (suc k)) more some small
+    (λ k d lt. fit (suc k) d (omega arith))
     (omega (arith, few, length-append before (r ∷ []))) other in
     let others = lines_at (λ k. lay (suc k)) (map relax_words rs ++ more) in (
       rest.0,
@@ -68,9 +76,12 @@ relax_on-own ex (r ∷ rs) before after lay more some small fit few other =
           (rest.1 ∙ ap (λ found. Ok (found, left after (lines_at rest.0 more))) (append_assoc before (r ∷ []) rs)),
     )
 
-pub relaxes-own : (ex : Exercise) (rs : List Relax) (after : ℕ) (lay : ℕ → LineWords) (more : List (List (List ℕ))) → 1 ≤ ex.voices → IsSmall ex
+pub relaxes-own : (ex : Exercise) (rs : List Relax) (after : ℕ) (lay : ℕ → LineWords) (more : List (List (List ℕ)))
+    → 1 ≤ ex.voices → IsSmall ex
     → All (IsRelax ex) rs → length rs ≤ most_relax
     → ((other : ℕ → LineWords) → begins (codes "relax") (left after (lines_at other more)) ≡ false)
-    → (behind : ℕ → LineWords) × (relaxes_in ex (left after (lines_at lay (map relax_words rs ++ more))) ≡ Ok (rs, left after (lines_at behind more)))
+    → (behind : ℕ → LineWords) ×
+    (relaxes_in ex (left after (lines_at lay (map relax_words rs ++ more)))
+    ≡ Ok (rs, left after (lines_at behind more)))
 relaxes-own ex rs after lay more some small fit few other =
     relax_on-own ex rs [] after lay more some small fit (omega (arith, few)) other

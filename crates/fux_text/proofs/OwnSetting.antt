@@ -44,8 +44,10 @@ line-follows_from v (col ∷ cols) older h =
     ((older-follow (reverse cols) (col ∷ older) same).0 v, line-follows_from v cols (col ∷ older) same)
 
 -- the cells of a voice follow one another
-line-follows_own : (v : ℕ) (columns : List (List Cell)) → HistoryFollows (reverse columns) → FollowsFrom Rest (line v columns)
-line-follows_own v columns h = line-follows_from v columns [] (subst HistoryFollows (sym (append-nil (reverse columns))) h)
+line-follows_own : (v : ℕ) (columns : List (List Cell)) → HistoryFollows (reverse columns)
+    → FollowsFrom Rest (line v columns)
+line-follows_own v columns h = line-follows_from v columns []
+    (subst HistoryFollows (sym (append-nil (reverse columns))) h)
 
 -- ---- the cantus
 
@@ -56,14 +58,16 @@ cantus_cells-length (p ∷ ps) =
     length-append (item_cells (Start p) 8) (flat_map (λ q. item_cells (Start q) 8) ps)
     ∙ ap (λ n. 8 + n) (cantus_cells-length ps) ∙ omega arith
 
-line-cell : (v i : ℕ) (columns : List (List Cell)) → i < length columns → get_or (line v columns) i Rest ≡ cell_in (get_or columns i []) v
+line-cell : (v i : ℕ) (columns : List (List Cell)) → i < length columns → get_or (line v columns) i Rest
+    ≡ cell_in (get_or columns i []) v
 line-cell v i columns lt = get_or-map (λ col. cell_in col v) columns i [] Rest lt
 
 some_same : (c d : Cell) → Some c ≡ Some d → c ≡ d
 some_same c d e = grind (arith, e)
 
 -- the cells of the cantus voice are those of the cantus
-cantus_line-cells : (ex : Exercise) (columns : List (List Cell)) → length columns ≡ 8 * length ex.cantus → HasCantus ex columns
+cantus_line-cells : (ex : Exercise) (columns : List (List Cell)) → length columns ≡ 8 * length ex.cantus
+    → HasCantus ex columns
     → cantus_cells ex.cantus ≡ line ex.cantus_voice columns
 cantus_line-cells ex columns long has =
     ext_get_or Rest (cantus_cells ex.cantus) (line ex.cantus_voice columns)
@@ -86,24 +90,29 @@ voice-cantus_own : (ex : Exercise) (columns : List (List Cell)) (v : ℕ) (text 
     → (v == ex.cantus_voice) ≡ true → voice_in ex v text ≡ Ok (line v columns, text)
 unfolding voice_in
 voice-cantus_own ex columns v text has e =
-    let cells : cantus_cells ex.cantus ≡ line v columns = has.cantus ∙ ap (λ w. line w columns) (sym (eqb-true v ex.cantus_voice e)) in
+    let cells : cantus_cells ex.cantus ≡ line v columns = has.cantus
+    ∙ ap (λ w. line w columns) (sym (eqb-true v ex.cantus_voice e)) in
     rw e (ap (λ cs. Ok (cs, text)) cells)
 
-voice-sung_own : (ex : Exercise) (columns : List (List Cell)) (v after : ℕ) (l : LineWords) (words : List (List ℕ)) (others : List LineWords)
+voice-sung_own : (ex : Exercise) (columns : List (List Cell)) (v after : ℕ) (l : LineWords) (words : List (List ℕ))
+    (others : List LineWords)
     → HasVoices ex columns → v < ex.voices → (v == ex.cantus_voice) ≡ false → IsSung ex.bars v words (line v columns)
     → voice_in ex v (with_line after l words others) ≡ Ok (line v columns, left after others)
 unfolding voice_in
 voice-sung_own ex columns v after l words others has there e sung =
-    rw e (sing_line-own ex.bars v words (line v columns) after l others has.some (omega (arith, there, has.few)) sung (has.follows v))
+    rw e (sing_line-own ex.bars v words (line v columns) after l others has.some (omega (arith, there, has.few)) sung
+    (has.follows v))
 
 -- the free ones of so many voices
 abbrev pub free_of : Exercise → ℕ → ℕ → List ℕ
 free_of ex a n = filter (λ v. not (v == ex.cantus_voice)) (range_with_len a n)
 
-pub free-cantus : (ex : Exercise) (a n : ℕ) → (a == ex.cantus_voice) ≡ true → free_of ex a (suc n) ≡ free_of ex (a + 1) n
+pub free-cantus : (ex : Exercise) (a n : ℕ) → (a == ex.cantus_voice) ≡ true → free_of ex a (suc n)
+    ≡ free_of ex (a + 1) n
 free-cantus ex a n e = rw e refl
 
-pub free-other : (ex : Exercise) (a n : ℕ) → (a == ex.cantus_voice) ≡ false → free_of ex a (suc n) ≡ a ∷ free_of ex (a + 1) n
+pub free-other : (ex : Exercise) (a n : ℕ) → (a == ex.cantus_voice) ≡ false → free_of ex a (suc n)
+    ≡ a ∷ free_of ex (a + 1) n
 free-other ex a n e = rw e refl
 
 -- voices are read from such lines
@@ -113,37 +122,46 @@ ReadsVoices ex columns after n a before =
     → voices_in ex (range_with_len a n) before (left after (lines_at lay lines))
     ≡ Ok (before ++ map (λ v. line v columns) (range_with_len a n), left after [])
 
-voices-own : (ex : Exercise) (columns : List (List Cell)) (after : ℕ) → HasVoices ex columns → (n a : ℕ) (before : List (List Cell))
+voices-own : (ex : Exercise) (columns : List (List Cell)) (after : ℕ) → HasVoices ex columns
+    → (n a : ℕ) (before : List (List Cell))
     → a + n ≤ ex.voices → ReadsVoices ex columns after n a before
 unfolding voices_in
-voices-own ex columns after has zero a before low lay [] sung = ap (λ found. Ok (found, left after [])) (sym (append-nil before))
+voices-own ex columns after has zero a before low lay [] sung = ap (λ found. Ok (found, left after []))
+    (sym (append-nil before))
 voices-own ex columns after has zero a before low lay (words ∷ lines) sung = absurd sung
 voices-own ex columns after has (suc n) a before low lay lines sung =
-    by (a == ex.cantus_voice) refl (voices-own ex columns after has n (a + 1) (before ++ line a columns ∷ []) (omega (arith, low)))
+    by (a == ex.cantus_voice) refl
+    (voices-own ex columns after has n (a + 1) (before ++ line a columns ∷ []) (omega (arith, low)))
   where
     vs : List ℕ
     vs = range_with_len (a + 1) n
 
-    whole : (before ++ line a columns ∷ []) ++ map (λ v. line v columns) vs ≡ before ++ map (λ v. line v columns) (a ∷ vs)
+    whole : (before ++ line a columns ∷ []) ++ map (λ v. line v columns) vs
+        ≡ before ++ map (λ v. line v columns) (a ∷ vs)
     whole = append_assoc before (line a columns ∷ []) (map (λ v. line v columns) vs)
 
     Reads : List (List (List ℕ)) → Type 0
     Reads found =
-        voices_in ex (a ∷ vs) before (left after (lines_at lay found)) ≡ Ok (before ++ map (λ v. line v columns) (a ∷ vs), left after [])
+        voices_in ex (a ∷ vs) before (left after (lines_at lay found))
+        ≡ Ok (before ++ map (λ v. line v columns) (a ∷ vs), left after [])
 
-    first : (found : List (List (List ℕ))) → (a == ex.cantus_voice) ≡ false → AreSung ex.bars (λ w. line w columns) (a ∷ free_of ex (a + 1) n) found
+    first : (found : List (List (List ℕ))) → (a == ex.cantus_voice) ≡ false
+        → AreSung ex.bars (λ w. line w columns) (a ∷ free_of ex (a + 1) n) found
         → ReadsVoices ex columns after n (a + 1) (before ++ line a columns ∷ []) → Reads found
     first [] e s rest = absurd s
     first (words ∷ others) e s rest =
-        rw (voice-sung_own ex columns a after (lay 0) words (lines_at (λ k. lay (suc k)) others) has (omega (arith, low)) e s.0)
+        rw (voice-sung_own ex columns a after (lay 0) words (lines_at (λ k. lay (suc k)) others) has
+        (omega (arith, low)) e s.0)
         (rest (λ k. lay (suc k)) others s.1 ∙ ap (λ found. Ok (found, left after [])) whole)
 
-    by : (b : Bool) → (a == ex.cantus_voice) ≡ b → ReadsVoices ex columns after n (a + 1) (before ++ line a columns ∷ []) → Reads lines
+    by : (b : Bool) → (a == ex.cantus_voice) ≡ b → ReadsVoices ex columns after n (a + 1)
+        (before ++ line a columns ∷ []) → Reads lines
     by true e rest =
         rw (voice-cantus_own ex columns a (left after (lines_at lay lines)) has e)
         (rest lay lines (subst (λ free. AreSung ex.bars (λ w. line w columns) free lines) (free-cantus ex a n e) sung)
         ∙ ap (λ found. Ok (found, left after [])) whole)
-    by false e rest = first lines e (subst (λ free. AreSung ex.bars (λ w. line w columns) free lines) (free-other ex a n e) sung) rest
+    by false e rest = first lines e
+        (subst (λ free. AreSung ex.bars (λ w. line w columns) free lines) (free-other ex a n e) sung) rest
 
 -- ---- the score
 
@@ -158,16 +176,20 @@ column-own : (columns : List (List Cell)) (voices i : ℕ) → i < length column
     → column_of (map (λ v. line v columns) (range_with_len 0 voices)) i ≡ get_or columns i []
 column-own columns voices i lt wide =
     cells-at (range_with_len 0 voices)
-    ∙ ap (λ n. map (λ v. cell_in (get_or columns i []) v) (range_with_len 0 n)) (sym wide) ∙ cells-of_column (get_or columns i [])
+    ∙ ap (λ n. map (λ v. cell_in (get_or columns i []) v) (range_with_len 0 n)) (sym wide)
+    ∙ cells-of_column (get_or columns i [])
   where
-    cells-at : (vs : List ℕ) → map (λ cells. cell_in cells i) (map (λ v. line v columns) vs) ≡ map (λ v. cell_in (get_or columns i []) v) vs
+    cells-at : (vs : List ℕ) → map (λ cells. cell_in cells i) (map (λ v. line v columns) vs)
+        ≡ map (λ v. cell_in (get_or columns i []) v) vs
     cells-at [] = refl
     cells-at (v ∷ vs) =
         ap (λ c. c ∷ map (λ cells. cell_in cells i) (map (λ w. line w columns) vs)) (line-cell v i columns lt)
         ∙ ap (λ more. cell_in (get_or columns i []) v ∷ more) (cells-at vs)
 
-score-own : (bars voices : ℕ) (columns : List (List Cell)) → length columns ≡ 8 * bars → All (λ col. length col ≡ voices) columns
-    → score_of bars (map (λ v. line v columns) (range_with_len 0 voices)) ≡ record { voices = voices; columns = columns }
+score-own : (bars voices : ℕ) (columns : List (List Cell)) → length columns ≡ 8 * bars
+    → All (λ col. length col ≡ voices) columns
+    → score_of bars (map (λ v. line v columns) (range_with_len 0 voices))
+    ≡ record { voices = voices; columns = columns }
 unfolding score_of
 score-own bars voices columns long full =
     let lines = map (λ v. line v columns) (range_with_len 0 voices) in
@@ -189,7 +211,8 @@ pub record IsSingable (ex : Exercise) : Type 0 where
   pub whole_cantus : length ex.cantus ≡ ex.bars
 
 -- a setting is read from the lines of its free voices
-pub sung_score-own : (ex : Exercise) (score : Grid) (after : ℕ) (lay : ℕ → LineWords) (lines : List (List (List ℕ))) → IsSingable ex
+pub sung_score-own : (ex : Exercise) (score : Grid) (after : ℕ) (lay : ℕ → LineWords) (lines : List (List (List ℕ)))
+    → IsSingable ex
     → IsSettingOf ex score → AreSung ex.bars (λ w. line w score.columns) (free_voices ex) lines
     → sung_score ex (left after (lines_at lay lines)) ≡ Ok score
 unfolding sung_score no_line
@@ -224,26 +247,30 @@ abbrev pub BeginWithSing : List (List (List ℕ)) → Type 0
 BeginWithSing [] = ⊤
 BeginWithSing (words ∷ lines) = (others : List (List ℕ)) × (words ≡ codes "sing" ∷ others)
 
-sung-begin : (bars : ℕ) (cells : ℕ → List Cell) (vs : List ℕ) (lines : List (List (List ℕ))) → AreSung bars cells vs lines
+sung-begin : (bars : ℕ) (cells : ℕ → List Cell) (vs : List ℕ) (lines : List (List (List ℕ)))
+    → AreSung bars cells vs lines
     → BeginWithSing lines
 sung-begin bars cells vs [] sung = tt
 sung-begin bars cells [] (words ∷ lines) sung = absurd sung
 sung-begin bars cells (v ∷ vs) (words ∷ lines) sung =
     (decimal v ∷ between_bar_lines (map (map item_word) sung.0.items), sung.0.written)
 
-pub sings-begin : (ex : Exercise) (lines : List (List (List ℕ))) (o : Option Grid) → Sings ex lines o → BeginWithSing lines
+pub sings-begin : (ex : Exercise) (lines : List (List (List ℕ))) (o : Option Grid) → Sings ex lines o
+    → BeginWithSing lines
 sings-begin ex lines None none = subst BeginWithSing (sym none) tt
 sings-begin ex lines (Some score) sings = sung-begin ex.bars (λ w. line w score.columns) (free_voices ex) lines sings.1
 
 -- where there is a line for the first voice, it begins so
-begins-first : (bars : ℕ) (cells : ℕ → List Cell) (v : ℕ) (vs : List ℕ) (after : ℕ) (lay : ℕ → LineWords) (lines : List (List (List ℕ)))
+begins-first : (bars : ℕ) (cells : ℕ → List Cell) (v : ℕ) (vs : List ℕ) (after : ℕ) (lay : ℕ → LineWords)
+    (lines : List (List (List ℕ)))
     → AreSung bars cells (v ∷ vs) lines → begins (codes "sing") (left after (lines_at lay lines)) ≡ true
 unfolding begins
 begins-first bars cells v vs after lay [] sung = absurd sung
 begins-first bars cells v vs after lay (words ∷ lines) sung =
     subst (λ ws. begins (codes "sing") (left after (lines_at lay (ws ∷ lines))) ≡ true) (sym sung.0.written) refl
 
-pub setting-own : (ex : Exercise) (o : Option Grid) (after : ℕ) (lay : ℕ → LineWords) (lines : List (List (List ℕ))) → IsSingable ex
+pub setting-own : (ex : Exercise) (o : Option Grid) (after : ℕ) (lay : ℕ → LineWords) (lines : List (List (List ℕ)))
+    → IsSingable ex
     → Sings ex lines o → setting_in ex (left after (lines_at lay lines)) ≡ Ok o
 unfolding setting_in begins no_line
 setting-own ex None after lay lines can none =
@@ -270,5 +297,8 @@ sung_lines-sing ex (Some score) setting = (setting, all (free_voices ex))
   where
     all : (vs : List ℕ) → AreSung ex.bars (λ w. line w score.columns) vs (map (λ v. sing_words v score.columns) vs)
     all [] = tt
-    all (v ∷ vs) =
-        (sing_words-sung ex.bars v score.columns setting.given.complete.whole (line-follows_own v score.columns setting.follows), all vs)
+    all (v ∷ vs) = (
+      sing_words-sung ex.bars v score.columns setting.given.complete.whole
+          (line-follows_own v score.columns setting.follows),
+      all vs,
+    )

@@ -1,5 +1,5 @@
--- The note text of an exercise, with a setting or without, is read back (`note_text-own`), and so are the `sing` lines of a
--- setting alone (`sing_lines-own`).
+-- A note text is read as its exercise (`note_text-read`), and what is written is a note text (`note_text-own`). So it is
+-- with the `sing` lines of a setting alone (`setting_lines-read`, `sing_lines-own`).
 use Rattle.std.proofs.Common.{◌≡◌, ℕ, ◌+◌, ◌≤◌, true, false, List, [], ◌∷◌, ◌++◌, length, map, Option, Some, None, Ok, refl, sym, ap, subst, ◌∙◌, append_assoc, arith}
 use Rattle.std.specs.Prelude.{All, IfSome, codes}
 use Rattle.std.specs.List.{list_all}
@@ -57,10 +57,12 @@ lines-parts ex sung =
     append_assoc (head_lines ex ++ cantus_words ex ∷ map range_words ex.ranges) (map relax_words ex.relax) sung
     ∙ append_assoc (head_lines ex) (cantus_words ex ∷ map range_words ex.ranges) (map relax_words ex.relax ++ sung)
 
-lines-plain : (ex : Exercise) (o : Option Grid) → IsValid ex → list_all is_line (exercise_lines ex ++ sung_lines ex o) ≡ true
+lines-plain : (ex : Exercise) (o : Option Grid) → IsValid ex → list_all is_line
+    (exercise_lines ex ++ sung_lines ex o) ≡ true
 lines-plain ex o valid =
     list_all-append is_line (exercise_lines ex) (sung_lines ex o)
-    ∙ and_from (list_all is_line (exercise_lines ex)) (list_all is_line (sung_lines ex o)) (exercise_lines-plain ex valid)
+    ∙ and_from (list_all is_line (exercise_lines ex)) (list_all is_line (sung_lines ex o))
+    (exercise_lines-plain ex valid)
     (sung_lines-plain ex o valid.most_voices)
 
 -- ---- which line begins how
@@ -130,7 +132,8 @@ each-head : (ex : Exercise) → ((v : ℕ) → IsFree ex v → BeginsWithWhole (
     → (v : ℕ) → IsFree (head_of ex) v → BeginsWithWhole (range_lines ex v)
 each-head ex each v free = each v (record { there = free.there; no_cantus = free.no_cantus })
 
-setting-head : (ex : Exercise) (lines : List (List (List ℕ))) (o : Option Grid) → Sings ex lines o → Sings (head_of ex) lines o
+setting-head : (ex : Exercise) (lines : List (List (List ℕ))) (o : Option Grid) → Sings ex lines o
+    → Sings (head_of ex) lines o
 setting-head ex lines None sings = sings
 setting-head ex lines (Some score) sings =
     let s = sings.0 in (
@@ -165,12 +168,15 @@ note_text-read bytes ex t =
     let lay = layout_of (lines_from 1 bytes) in
     let relaxing = map relax_words ex.relax ++ t.sung in
     let sing = sings-begin ex t.sung ex.setting t.setting in
-    let head : head_in (left after (lines_at lay ls)) ≡ Ok (head_of ex, left after (lines_at (behind_head lay) (later_lines ex t.sung))) =
+    let head : head_in (left after (lines_at lay ls)) ≡ Ok
+    (head_of ex, left after (lines_at (behind_head lay) (later_lines ex t.sung))) =
     ap (λ all. head_in (left after (lines_at lay all))) (lines-parts ex t.sung)
     ∙ head-own ex after lay (later_lines ex t.sung) t.valid t.judged in
-    let ranges = ranges-own ex (head_of ex) after (behind_head lay) relaxing (small ex t.valid) (range_lines-head ex t.valid.range_lines_fit)
+    let ranges = ranges-own ex (head_of ex) after (behind_head lay) relaxing (small ex t.valid)
+    (range_lines-head ex t.valid.range_lines_fit)
     (each-head ex t.valid.each_has_range) (λ other. no_range t.sung ex.relax after other sing) in
-    let relax = relaxes-own (head_of ex) ex.relax after ranges.0 t.sung (omega (arith, t.valid.fewest_voices)) (small ex t.valid)
+    let relax = relaxes-own (head_of ex) ex.relax after ranges.0 t.sung (omega (arith, t.valid.fewest_voices))
+    (small ex t.valid)
     (relaxes-head ex t.valid.relax_fit) t.valid.few_relax (λ other. no_relax t.sung after other sing) in
     rw (
       text_in-words bytes ls t.short t.utf8 t.lines,
@@ -194,7 +200,8 @@ setting_lines-read ex bytes score valid t =
     ) refl
 
 -- an exercise with another setting
-valid_with : (ex : Exercise) (o : Option Grid) → IsValid ex → IfSome o (IsSettingOf ex) → IsValid (record ex { setting = o })
+valid_with : (ex : Exercise) (o : Option Grid) → IsValid ex → IfSome o (IsSettingOf ex)
+    → IsValid (record ex { setting = o })
 valid_with ex o valid setting = record {
   fewest_voices = valid.fewest_voices;
   most_voices = valid.most_voices;
@@ -234,7 +241,8 @@ valid_with ex o valid setting = record {
       cantus = s.given.cantus;
     }
 
-sings_with : (ex : Exercise) (lines : List (List (List ℕ))) (o : Option Grid) → Sings ex lines o → Sings (record ex { setting = o }) lines o
+sings_with : (ex : Exercise) (lines : List (List (List ℕ))) (o : Option Grid) → Sings ex lines o
+    → Sings (record ex { setting = o }) lines o
 sings_with ex lines None sings = sings
 sings_with ex lines (Some score) sings =
     let s = sings.0 in (

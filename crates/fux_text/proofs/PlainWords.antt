@@ -33,7 +33,8 @@ abbrev is_plain : ℕ → Bool
 is_plain b = nat_lt 31 b && nat_lt b 127
 
 plain_if_ink : (b : ℕ) → is_ink b ≡ true → is_plain b ≡ true
-plain_if_ink b e = let p = and_parts (nat_lt 32 b) (nat_lt b 127) e in and_from (nat_lt 31 b) (nat_lt b 127) (grind (arith, p.0)) p.1
+plain_if_ink b e = let p = and_parts (nat_lt 32 b) (nat_lt b 127) e in and_from (nat_lt 31 b) (nat_lt b 127)
+    (grind (arith, p.0)) p.1
 
 ink_no_blank : (b : ℕ) → is_ink b ≡ true → is_blank b ≡ false
 ink_no_blank b e = let p = and_parts (nat_lt 32 b) (nat_lt b 127) e in grind (arith, p.0)
@@ -48,7 +49,8 @@ plain_ascii : (b : ℕ) → is_plain b ≡ true → b < 128
 plain_ascii b e = let p = and_parts (nat_lt 31 b) (nat_lt b 127) e in grind (arith, p.1)
 
 -- what holds of each byte that passes a test holds of all bytes of such a text
-each : (test : ℕ → Bool) (P : ℕ → Type 0) (xs : List ℕ) → ((b : ℕ) → test b ≡ true → P b) → list_all test xs ≡ true → All P xs
+each : (test : ℕ → Bool) (P : ℕ → Type 0) (xs : List ℕ) → ((b : ℕ) → test b ≡ true → P b) → list_all test xs ≡ true
+    → All P xs
 each test P xs f e = λ k d lt. f (get_or xs k d) (AllPass-from_list_all test xs e k d lt)
 
 all_plain : (xs : List ℕ) → list_all is_ink xs ≡ true → list_all is_plain xs ≡ true
@@ -74,14 +76,16 @@ words_plain (w ∷ next ∷ ws) e =
 words_split : (w : List ℕ) (ws : List (List ℕ)) → list_all is_word (w ∷ ws) ≡ true
     → slice_split is_blank (join_with_byte 32 (w ∷ ws)) ≡ w ∷ ws
 words_split w [] e =
-    slice_split_none is_blank w (each is_ink (λ b. is_blank b ≡ false) w ink_no_blank (word_ink w (and_parts (is_word w) true e).0))
+    slice_split_none is_blank w
+    (each is_ink (λ b. is_blank b ≡ false) w ink_no_blank (word_ink w (and_parts (is_word w) true e).0))
 words_split w (next ∷ ws) e =
     let p = and_parts (is_word w) (list_all is_word (next ∷ ws)) e in
     slice_split_at is_blank w 32 (join_with_byte 32 (next ∷ ws))
     (each is_ink (λ b. is_blank b ≡ false) w ink_no_blank (word_ink w p.0)) refl
     ∙ ap (λ parts. w ∷ parts) (words_split next ws p.1)
 
-placed-own : (line column : ℕ) (ws : List (List ℕ)) → list_all is_word ws ≡ true → map (λ w. w.text) (placed line column ws) ≡ ws
+placed-own : (line column : ℕ) (ws : List (List ℕ)) → list_all is_word ws ≡ true
+    → map (λ w. w.text) (placed line column ws) ≡ ws
 placed-own line column [] e = refl
 placed-own line column ([] ∷ ws) e = absurd (grind (arith, e))
 placed-own line column ((b ∷ bs) ∷ ws) e =
@@ -122,7 +126,8 @@ numbered-own number ((w ∷ ws) ∷ ls) e =
     ≡ line_words number (join_with_byte 32 (w ∷ ws)) ∷ numbered (number + 1) (map (join_with_byte 32) ls) =
     rw (line_kept w ws q.0 r.0) refl in
     ap (map texts) kept
-    ∙ ap (λ first. first ∷ map texts (numbered (number + 1) (map (join_with_byte 32) ls))) (words_from-own number w ws q.1)
+    ∙ ap (λ first. first ∷ map texts (numbered (number + 1) (map (join_with_byte 32) ls)))
+    (words_from-own number w ws q.1)
     ∙ ap (λ more. (w ∷ ws) ∷ more) (numbered-own (number + 1) ls p.1)
 
 -- no carriage return ends a line

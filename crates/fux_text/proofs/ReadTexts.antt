@@ -38,7 +38,8 @@ one_value : (read : Result Exercise Fault) (a b : Exercise) → read ≡ Ok a �
 one_value read a b h k = cc
 
 pub texts-of_one : NoteTextsAreOfOne
-texts-of_one bytes ex other is its = one_value (exercise_in bytes) ex other (text-read bytes ex is) (text-read bytes other its)
+texts-of_one bytes ex other is its = one_value (exercise_in bytes) ex other (text-read bytes ex is)
+    (text-read bytes other its)
 
 no_value : (read : Result Exercise Fault) (a : Exercise) (f : Fault) → read ≡ Ok a → read ≡ Err f → ⊥
 no_value read a f h k = grind (arith, h, k)

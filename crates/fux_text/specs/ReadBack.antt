@@ -12,8 +12,8 @@ use Rattle.fux_text.specs.Reading.{exercise_in, setting_alone}
 use Rattle.fux_text.specs.Texts.{AreSingLinesOf, HasFault, IsTextOf}
 use Rattle.fux_text.specs.Waiting.{IsJudged}
 
--- what is written of an exercise, with a setting or without, is the note text of that exercise with that setting, where it
--- isn't too long to be read
+-- what is written of an exercise, with a setting or without, is a note text of that exercise with that setting, where
+-- it isn't too long to be read
 abbrev pub NoteTextReadsBack : Type 0
 NoteTextReadsBack = (ex : Exercise) (score : Option Grid) → IsValid ex → IsJudged ex → IfSome score (IsSettingOf ex)
     → length (note_text ex score) ≤ 65536 → IsTextOf (note_text ex score) (record ex { setting = score })
