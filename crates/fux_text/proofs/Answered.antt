@@ -6,10 +6,10 @@ use Rattle.text_lines.specs.declared.fault.TextFault.{TextFault}
 use Rattle.text_lines.specs.declared.fault.TextFault.TheVariants as faults
 use Rattle.text_lines.specs.Faults.{Fault, Gives}
 
-pub given-both : {A : Type 0} (r : Result A TextFault) (read : Result A Fault) (P : A → Type 0) → Gives (λ x. x) r read
-    → ((x : A) → read ≡ Ok x → P x) → IfOk r (λ x. (read ≡ Ok x) × P x)
-given-both (Ok x) read P h f = (h, f x h)
-given-both (Err e) read P h f = tt
+pub given-both : {A : Type 0} (r : Result A TextFault) (read : Result A Fault) (Q P : A → Type 0) → Gives (λ x. x) r read
+    → ((x : A) → read ≡ Ok x → Q x) → ((x : A) → read ≡ Ok x → P x) → IfOk r (λ x. Q x × P x)
+given-both (Ok x) read Q P h g f = (g x h, f x h)
+given-both (Err e) read Q P h g f = tt
 
 pub given-fault : {A : Type 0} (r : Result A TextFault) (read : Result A Fault) (kind : TextKind) (line column : ℕ)
     → r ≡ Err (faults.At kind line column) → Gives (λ x. x) r read

@@ -19,6 +19,7 @@ pub mod ValidRanges
 pub mod ValidRelax
 pub mod ValidSetting
 pub mod ValidText
+pub mod Layouts
 pub mod PlainWords
 pub mod OwnHead
 pub mod OwnRanges
@@ -28,3 +29,10 @@ pub mod OwnBars
 pub mod OwnSetting
 pub mod PlainLines
 pub mod OwnText
+pub mod OnlyWords
+pub mod OnlyHead
+pub mod OnlyRanges
+pub mod OnlySing
+pub mod OnlySetting
+pub mod OnlyText
+pub mod ReadTexts

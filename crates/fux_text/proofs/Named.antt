@@ -72,7 +72,7 @@ has-range (suc n) a i low high = elim (eq_or_more a i low) [ inl e ↦ inl e | i
     eq_or_more a i h = grind arith
 
 -- what is found has the name
-found_name : {A : Type 0} (name : A → List ℕ) (xs : List A) (text : List ℕ) (x : A) → named name xs text ≡ Some x → name x ≡ text
+pub found_name : {A : Type 0} (name : A → List ℕ) (xs : List A) (text : List ℕ) (x : A) → named name xs text ≡ Some x → name x ≡ text
 found_name name [] text x e = grind arith
 found_name name (y ∷ ys) text x e = by (same_text (name y) text) refl (found_name name ys text x) e
   where

@@ -1,10 +1,13 @@
--- A `sing` line is read back as the cells of its voice (`sing_line-own`).
+-- A `sing` line is read as the cells of its items (`sing_line-own`), and the line that is written of a voice has the
+-- cells of the voice (`sing_words-sung`).
 use Rattle.std.proofs.Common.{◌≡◌, ℕ, zero, suc, ◌+◌, ◌-◌, ◌*◌, ◌/◌, ◌<◌, ◌≤◌, List, [], ◌∷◌, ◌++◌, length, length-append, length-drop, map, take, drop, Ok, refl, sym, ap, subst, ◌∙◌, append_assoc, arith}
 use Rattle.std.specs.Prelude.{codes}
 use Rattle.std.specs.Fmt.{decimal}
 use Rattle.std.specs.List.{AllByRecursion, flat_map, range_with_len}
 use Rattle.std.proofs.lemmas.Bool.{eq-eqb, ne_eqb}
-use Rattle.std.proofs.lemmas.List.{append-nil, drop-map, length-map, length-take-le, take_all, take-map}
+use Rattle.std.proofs.lemmas.List.Sums.{sum_by-cons}
+use Rattle.std.proofs.lemmas.Simd.{map-map}
+use Rattle.std.proofs.lemmas.List.{length-replicate, append-nil, drop-map, length-map, length-take-le, take_all, take-map}
 use Rattle.std.proofs.lemmas.List.FromFn.{length-map-range_with_len}
 use Rattle.std.proofs.Math.Seq.{drop-nil, take-add}
 use Rattle.fux_grid.specs.declared.cell.Cell.{Cell}
@@ -13,13 +16,14 @@ use Rattle.fux_grid.specs.Cells.{cell_in}
 use Rattle.fux_grid.specs.Columns.{line}
 use Rattle.fux_grid.specs.Letters.{bar_columns}
 use Rattle.text_lines.specs.Reading.{headed, literal, next, number_in}
-use Rattle.text_lines.specs.Words.{LineWords}
-use Rattle.fux_text.specs.Lines.{bar_words, bars_of, between_bar_lines, sing_words}
-use Rattle.fux_text.specs.Sing.{FollowsFrom, bar_line_in, latest, sing_line_in, sung_end, sung_in, sung_word}
+use Rattle.text_lines.specs.Words.{LineWords, PlacedWord}
+use Rattle.fux_text.specs.Grammar.{IsBar, IsSung, cells_of, cells_of_bars}
+use Rattle.fux_text.specs.Items.{item_word, items_of_cells}
+use Rattle.fux_text.specs.Lines.{bar_words, between_bar_lines, sing_words}
+use Rattle.fux_text.specs.Sing.{FollowsFrom, held, item_cells, bar_line_in, latest, sing_line_in, sung_end, sung_in, sung_word}
 use Rattle.fux_text.proofs.NumberWords.{within-own}
-use Rattle.fux_text.proofs.OwnHead.{at_words, left, with_line}
-use Rattle.fux_text.proofs.OwnItems.{GoesOn, bar-own, items_words}
-use Rattle.fux_text.proofs.PlainWords.{own_line}
+use Rattle.fux_text.proofs.Layouts.{at_words, left, places_of, with_line}
+use Rattle.fux_text.proofs.OwnItems.{GoesOn, bar-own, items-of_bar, lengths}
 
 follows-parts : (before : Cell) (xs ys : List Cell) → FollowsFrom before (xs ++ ys)
     → FollowsFrom before xs × FollowsFrom (latest before xs) ys
@@ -30,12 +34,19 @@ latest-append : (before : Cell) (xs ys : List Cell) → latest before (xs ++ ys)
 latest-append before [] ys = refl
 latest-append before (x ∷ xs) ys = latest-append x xs ys
 
--- bars one after the other
-abbrev joined : List (List Cell) → List Cell
-joined bars = flat_map (λ cs. cs) bars
-
-abbrev AreBars : List (List Cell) → Type 0
-AreBars bars = AllByRecursion (λ cs. length cs ≡ 8) bars
+-- items have as many cells as their lengths sum to
+pub cells-length : (items : List (Cell × ℕ)) → AllByRecursion (λ item. 1 ≤ item.1) items → length (cells_of items)
+    ≡ lengths items
+cells-length [] some = refl
+cells-length ((c, n) ∷ items) some =
+    let first : length (item_cells c n) ≡ n = ap suc (length-replicate (n - 1) (held c)) ∙ omega (arith, some.0) in
+    omega (
+      arith,
+      length-append (item_cells c n) (cells_of items),
+      first,
+      cells-length items some.1,
+      sum_by-cons (λ item. item.1) (c, n) items,
+    )
 
 -- a bar line behind a full bar that isn't the last one
 bar_line-own : (bars bar : ℕ) (done : List Cell) (n column : ℕ) → length done ≡ 8 * bar + 8 → bar + 1 < bars
@@ -50,34 +61,82 @@ unfolding sung_end
 end-own bars bar done at full last = rw (eq-eqb (length done) (8 * bar + 8) full, eq-eqb (bar + 1) bars last) refl
 
 -- the bars behind the first
-later_bars-own : (count : ℕ) (at : LineWords) (n : ℕ) (bars : List (List Cell)) (bar : ℕ) (done : List Cell)
-    → length done ≡ 8 * bar + 8 → bar + 1 + length bars ≡ count → AreBars bars → FollowsFrom (latest Rest done) (joined bars)
-    → GoesOn count bar done at n (flat_map (λ other. codes "|" ∷ other) (map items_words bars)) (Ok (done ++ joined bars))
-later_bars-own count at n [] bar done full last eight f = λ column.
+later_bars-own : (count : ℕ) (at : LineWords) (bars : List (List (Cell × ℕ))) (bar : ℕ) (done : List Cell)
+    → length done ≡ 8 * bar + 8 → bar + 1 + length bars ≡ count → AllByRecursion IsBar bars
+    → FollowsFrom (latest Rest done) (cells_of_bars bars)
+    → GoesOn count bar done at (flat_map (λ other. codes "|" ∷ other) (map (map item_word) bars))
+    (Ok (done ++ cells_of_bars bars))
+later_bars-own count at [] bar done full last whole f = λ place.
     end-own count bar done at full (omega (arith, last)) ∙ ap Ok (sym (append-nil done))
-later_bars-own count at n (cs ∷ bars) bar done full last eight f = λ column.
-    let parts = follows-parts (latest Rest done) cs (joined bars) f in
-    let words = flat_map (λ other. codes "|" ∷ other) (map items_words bars) in
-    let more = later_bars-own count at n bars (bar + 1) (done ++ cs) (omega (arith, length-append done cs, full, eight.0))
-    (omega (arith, last)) eight.1
-    (subst (λ c. FollowsFrom c (joined bars)) (sym (latest-append Rest done cs)) parts.1) in
-    rw (bar_line-own count bar done n column full (omega (arith, last)))
-    (bar-own count (bar + 1) at n words (Ok (done ++ (cs ++ joined bars))) done cs (omega (arith, full)) eight.0 parts.0
-    (λ c. more c ∙ ap Ok (append_assoc done cs (joined bars)))
-    (column + 1 + 1))
+later_bars-own count at (items ∷ bars) bar done full last whole f = λ place.
+    let cs = cells_of items in
+    let eight : length cs ≡ 8 = cells-length items whole.0.some ∙ whole.0.whole in
+    let parts = follows-parts (latest Rest done) cs (cells_of_bars bars) f in
+    let words = flat_map (λ other. codes "|" ∷ other) (map (map item_word) bars) in
+    let more = later_bars-own count at bars (bar + 1) (done ++ cs) (omega (arith, length-append done cs, full, eight))
+    (omega (arith, last)) whole.1
+    (subst (λ c. FollowsFrom c (cells_of_bars bars)) (sym (latest-append Rest done cs)) parts.1) in
+    rw (bar_line-own count bar done (place 0).line (place 0).column full (omega (arith, last)))
+    (bar-own count (bar + 1) at words (Ok (done ++ (cs ++ cells_of_bars bars))) done items
+    (omega (arith, full)) whole.0 parts.0
+    (λ p. more p ∙ ap Ok (append_assoc done cs (cells_of_bars bars)))
+    (λ k. place (suc k)))
 
--- the words of a line's bars give its cells
-sung_in-own : (count : ℕ) (n past end column : ℕ) (bar : List Cell) (bars : List (List Cell)) → 1 + length bars ≡ count
-    → AreBars (bar ∷ bars) → FollowsFrom Rest (joined (bar ∷ bars))
-    → sung_in count (at_words n past end column (between_bar_lines (map items_words (bar ∷ bars)))) ≡ Ok (joined (bar ∷ bars))
+-- the words of a line's bars give their cells
+sung_in-own : (count line past end : ℕ) (place : ℕ → PlacedWord) (bars : List (List (Cell × ℕ))) → 1 ≤ count
+    → length bars ≡ count
+    → AllByRecursion IsBar bars → FollowsFrom Rest (cells_of_bars bars)
+    → sung_in count (at_words line past end place (between_bar_lines (map (map item_word) bars)))
+    ≡ Ok (cells_of_bars bars)
 unfolding sung_in
-sung_in-own count n past end column bar bars last eight f =
-    let parts = follows-parts Rest bar (joined bars) f in
-    let at = at_words n past end column (between_bar_lines (map items_words (bar ∷ bars))) in
-    bar-own count 0 at n (flat_map (λ other. codes "|" ∷ other) (map items_words bars)) (Ok (joined (bar ∷ bars))) [] bar refl eight.0 parts.0
-    (later_bars-own count at n bars 0 bar (omega (arith, eight.0)) (omega (arith, last)) eight.1 parts.1) column
+sung_in-own count line past end place [] some last whole f = absurd (omega (arith, some, last))
+sung_in-own count line past end place (items ∷ bars) some last whole f =
+    let cs = cells_of items in
+    let eight : length cs ≡ 8 = cells-length items whole.0.some ∙ whole.0.whole in
+    let parts = follows-parts Rest cs (cells_of_bars bars) f in
+    let at = at_words line past end place (between_bar_lines (map (map item_word) (items ∷ bars))) in
+    bar-own count 0 at (flat_map (λ other. codes "|" ∷ other) (map (map item_word) bars))
+    (Ok (cells_of_bars (items ∷ bars))) [] items
+    refl whole.0 parts.0
+    (later_bars-own count at bars 0 cs (omega (arith, eight)) (omega (arith, last)) whole.1 parts.1) place
+
+line_words-own : (count v : ℕ) (bars : List (List (Cell × ℕ))) (after : ℕ) (l : LineWords) (others : List LineWords)
+    → 1 ≤ count
+    → v ≤ 9999999 → length bars ≡ count → AllByRecursion IsBar bars → FollowsFrom Rest (cells_of_bars bars)
+    → sing_line_in count v
+    (with_line after l (codes "sing" ∷ decimal v ∷ between_bar_lines (map (map item_word) bars)) others)
+    ≡ Ok (cells_of_bars bars, left after others)
+unfolding sing_line_in headed literal next number_in
+line_words-own count v bars after l others some few last whole f =
+    let place = places_of l.words in
+    rw (
+      within-own v v v few (omega arith) (omega arith),
+      sung_in-own count l.line ((place 1).column + length (decimal v)) l.end
+          (λ k. place (suc (suc k))) bars some last whole f,
+    ) refl
+
+-- a `sing` line is read, wherever its words stand
+pub sing_line-own : (count v : ℕ) (words : List (List ℕ)) (cells : List Cell) (after : ℕ) (l : LineWords)
+    (others : List LineWords)
+    → 1 ≤ count → v ≤ 9999999 → IsSung count v words cells → FollowsFrom Rest cells
+    → sing_line_in count v (with_line after l words others) ≡ Ok (cells, left after others)
+sing_line-own count v words cells after l others some few s f =
+    ap (λ ws. sing_line_in count v (with_line after l ws others)) s.written
+    ∙ line_words-own count v s.items after l others some few s.count s.whole (subst (FollowsFrom Rest) s.sounds f)
+    ∙ ap (λ cs. Ok (cs, left after others)) (sym s.sounds)
+
+-- bars one after the other
+abbrev joined : List (List Cell) → List Cell
+joined bars = flat_map (λ cs. cs) bars
+
+abbrev AreBars : List (List Cell) → Type 0
+AreBars bars = AllByRecursion (λ cs. length cs ≡ 8) bars
 
 -- ---- the bars of a line
+
+-- the words of a bar's cells
+abbrev pub items_words : List Cell → List (List ℕ)
+items_words cs = map item_word (items_of_cells cs)
 
 -- the cells of a bar, counted from 1
 abbrev bar_of_line : List Cell → ℕ → List Cell
@@ -90,7 +149,8 @@ drop-eight (suc k) (x ∷ xs) =
     let same : suc k + 8 ≡ suc (k + 8) = omega arith in
     ap (λ n. drop n (x ∷ xs)) same ∙ drop-eight k xs
 
-bars-are : (xs : List Cell) (a b n : ℕ) → b ≡ a + 1 → 8 * (a + n) ≤ length xs → AreBars (map (bar_of_line xs) (range_with_len b n))
+bars-are : (xs : List Cell) (a b n : ℕ) → b ≡ a + 1 → 8 * (a + n) ≤ length xs
+    → AreBars (map (bar_of_line xs) (range_with_len b n))
 bars-are xs a b zero e long = tt
 bars-are xs a b (suc n) e long = (
   length-take-le 8 (drop (8 * (b - 1)) xs) (omega (arith, length-drop (8 * (b - 1)) xs, long, e)),
@@ -107,7 +167,8 @@ bars-joined xs a b (suc n) e =
     let ys = drop (8 * a) xs in
     ap (λ k. take 8 (drop k xs) ++ joined (map (bar_of_line xs) (range_with_len (b + 1) n))) first
     ∙ ap (λ more. take 8 ys ++ more)
-    (bars-joined xs (a + 1) (b + 1) n (omega (arith, e)) ∙ ap (λ k. take (8 * n) (drop k xs)) next ∙ ap (take (8 * n)) (drop-eight (8 * a) xs))
+    (bars-joined xs (a + 1) (b + 1) n (omega (arith, e)) ∙ ap (λ k. take (8 * n) (drop k xs)) next
+    ∙ ap (take (8 * n)) (drop-eight (8 * a) xs))
     ∙ sym (take-add 8 (8 * n) ys) ∙ ap (λ k. take k ys) all
 
 -- the words of a voice's bars are those of the bars of its line
@@ -121,42 +182,39 @@ words-of_bars v columns (bar ∷ bars) =
     ap (λ cs. items_words cs ∷ map (bar_words v) (map (bar_columns columns) bars)) cells
     ∙ ap (λ more. items_words (bar_of_line (line v columns) bar) ∷ more) (words-of_bars v columns bars)
 
--- the cells of a voice of so many bars
-sung-own : (bars v : ℕ) (columns : List (List Cell)) (n past end column : ℕ) → 1 ≤ bars → length columns ≡ 8 * bars
+-- the items of bars of cells are bars, and have these cells
+bars-items : (before : Cell) (bars : List (List Cell)) → AreBars bars → FollowsFrom before (joined bars)
+    → AllByRecursion IsBar (map items_of_cells bars) × (cells_of_bars (map items_of_cells bars) ≡ joined bars)
+bars-items before [] eight f = (tt, refl)
+bars-items before (cs ∷ bars) eight f =
+    let parts = follows-parts before cs (joined bars) f in
+    let one = items-of_bar before cs eight.0 parts.0 in
+    let rest = bars-items (latest before cs) bars eight.1 parts.1 in (
+      (one.bar, rest.0),
+      ap (λ cells. cells ++ cells_of_bars (map items_of_cells bars)) one.cells
+          ∙ ap (λ more. cs ++ more) rest.1,
+    )
+
+-- the line that is written of a voice has its cells
+pub sing_words-sung : (count v : ℕ) (columns : List (List Cell)) → length columns ≡ 8 * count
     → FollowsFrom Rest (line v columns)
-    → sung_in bars (at_words n past end column (between_bar_lines (map (bar_words v) (bars_of columns)))) ≡ Ok (line v columns)
-sung-own bars v columns n past end column some long f = by bars refl
-  where
-    cells : List Cell
-    cells = line v columns
-
-    of_count : ℕ → List (List Cell)
-    of_count count = map (bar_of_line cells) (range_with_len 1 count)
-
-    by : (count : ℕ) → bars ≡ count
-        → sung_in bars (at_words n past end column (between_bar_lines (map (bar_words v) (bars_of columns)))) ≡ Ok cells
-    by zero e = absurd (omega (arith, e, some))
-    by (suc count) e =
-        let long_line : length cells ≡ 8 * suc count = omega (arith, length-map columns (λ col. cell_in col v), long, e) in
-        let parts : length columns / 8 ≡ suc count = omega (arith, long, e) in
-        let whole : joined (of_count (suc count)) ≡ cells =
-        bars-joined cells 0 1 (suc count) refl ∙ take_all (8 * suc count) cells (omega (arith, long_line)) in
-        let words : map (bar_words v) (bars_of columns) ≡ map items_words (of_count (suc count)) =
-        words-of_bars v columns (range_with_len 1 (length columns / 8)) ∙ ap (λ k. map items_words (of_count k)) parts in
-        let last : 1 + length (map (bar_of_line cells) (range_with_len 2 count)) ≡ bars =
-        omega (arith, e, length-map-range_with_len (bar_of_line cells) 2 count) in
-        ap (λ ws. sung_in bars (at_words n past end column (between_bar_lines ws))) words
-        ∙ sung_in-own bars n past end column (bar_of_line cells 1) (map (bar_of_line cells) (range_with_len 2 count)) last
-        (bars-are cells 0 1 (suc count) refl (omega (arith, long_line))) (subst (FollowsFrom Rest) (sym whole) f)
-        ∙ ap Ok whole
-
-pub sing_line-own : (bars v : ℕ) (columns : List (List Cell)) (after n : ℕ) (others : List LineWords) → 1 ≤ bars → v ≤ 9999999
-    → length columns ≡ 8 * bars → FollowsFrom Rest (line v columns)
-    → sing_line_in bars v (with_line after n (sing_words v columns) others) ≡ Ok (line v columns, left after others)
-unfolding sing_line_in headed literal next number_in
-sing_line-own bars v columns after n others some few long f =
-    let past = 1 + 4 + 1 + length (decimal v) in
-    rw (
-      within-own v v v few (omega arith) (omega arith),
-      sung-own bars v columns n past (own_line n (sing_words v columns)).end (past + 1) some long f,
-    ) refl
+    → IsSung count v (sing_words v columns) (line v columns)
+sing_words-sung count v columns long f =
+    let cells = line v columns in
+    let bars = map (bar_of_line cells) (range_with_len 1 count) in
+    let long_line : length cells ≡ 8 * count = omega (arith, length-map columns (λ col. cell_in col v), long) in
+    let parts : length columns / 8 ≡ count = omega (arith, long) in
+    let whole : joined bars ≡ cells = bars-joined cells 0 1 count refl
+    ∙ take_all (8 * count) cells (omega (arith, long_line)) in
+    let items = bars-items Rest bars (bars-are cells 0 1 count refl (omega (arith, long_line)))
+    (subst (FollowsFrom Rest) (sym whole) f) in
+    record {
+      items = map items_of_cells bars;
+      written = ap (λ ws. codes "sing" ∷ decimal v ∷ between_bar_lines ws)
+          (words-of_bars v columns (range_with_len 1 (length columns / 8))
+          ∙ ap (λ n. map items_words (map (bar_of_line cells) (range_with_len 1 n))) parts
+          ∙ sym (map-map (map item_word) items_of_cells bars));
+      count = length-map bars items_of_cells ∙ length-map-range_with_len (bar_of_line cells) 1 count;
+      whole = items.0;
+      sounds = sym (items.1 ∙ whole);
+    }

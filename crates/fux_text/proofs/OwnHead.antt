@@ -1,5 +1,5 @@
 -- The lines before the ranges are read back (`head-own`).
-use Rattle.std.proofs.Common.{◌≡◌, ◌≢◌, ℕ, ◌+◌, ◌-◌, ◌<◌, ◌≤◌, Bool, true, false, List, [], ◌∷◌, ◌++◌, length, map, Some, None, Ok, refl, sym, ap, subst, ◌∙◌, append_assoc, arith}
+use Rattle.std.proofs.Common.{◌≡◌, ◌≢◌, ℕ, ◌+◌, ◌-◌, ◌<◌, ◌≤◌, Bool, true, false, List, [], ◌∷◌, ◌++◌, length, map, Some, None, Ok, refl, sym, ap, subst, ◌∙◌, append_assoc, arith, suc}
 use Rattle.std.specs.Prelude.{◌==◌, codes, if◌then◌else◌}
 use Rattle.std.specs.Fmt.{decimal}
 use Rattle.std.specs.Option.{option_and_then}
@@ -11,60 +11,54 @@ use Rattle.fux_grid.specs.declared.exercise.Exercise.{Exercise}
 use Rattle.fux_grid.specs.Exercises.{IsValid}
 use Rattle.text_lines.specs.declared.fault.TextKind.{TextKind}
 use Rattle.text_lines.specs.declared.fault.TextKind.TheVariants as kinds
-use Rattle.text_lines.specs.Lines.{TextLines}
 use Rattle.text_lines.specs.Reading.{done, headed, literal, next, number_in}
-use Rattle.text_lines.specs.Words.{LineWords}
+use Rattle.text_lines.specs.Words.{LineWords, PlacedWord}
 use Rattle.fux_text.specs.Head.{cantus_line, head_in, mode_line, number_line, other_voice, other_voice_in, pitch_in, pitches_in, species_line, unless, version_line}
 use Rattle.fux_text.specs.Lines.{cantus_words, head_lines, mode_name}
 use Rattle.fux_text.specs.Limits.{most_species, most_voices}
 use Rattle.fux_text.proofs.Named.{same_from}
 use Rattle.fux_text.proofs.NumberWords.{within-own}
 use Rattle.fux_text.proofs.OwnWords.{mode-own, pitch-own}
-use Rattle.fux_text.proofs.PlainWords.{own_line, own_lines, set_out}
+use Rattle.fux_text.proofs.Layouts.{at_words, laid, left, lines_at, places_of, with_line}
 
--- a text of a written line and others
-abbrev pub with_line : ℕ → ℕ → List (List ℕ) → List LineWords → TextLines
-with_line after n ws others = record { after = after; lines = own_line n ws ∷ others }
-
-abbrev pub left : ℕ → List LineWords → TextLines
-left after others = record { after = after; lines = others }
-
-version_line-own : (after n : ℕ) (others : List LineWords)
-    → version_line (with_line after n (codes "fux" ∷ codes "1" ∷ []) others) ≡ Ok (left after others)
+version_line-own : (after : ℕ) (l : LineWords) (others : List LineWords)
+    → version_line (with_line after l (codes "fux" ∷ codes "1" ∷ []) others) ≡ Ok (left after others)
 unfolding version_line headed literal next done
-version_line-own after n others = refl
+version_line-own after l others = refl
 
-mode_line-own : (after n : ℕ) (others : List LineWords) (mode : Mode)
-    → mode_line (with_line after n (codes "mode" ∷ mode_name mode ∷ []) others) ≡ Ok (mode, left after others)
+mode_line-own : (after : ℕ) (l : LineWords) (others : List LineWords) (mode : Mode)
+    → mode_line (with_line after l (codes "mode" ∷ mode_name mode ∷ []) others) ≡ Ok (mode, left after others)
 unfolding mode_line headed literal next done
-mode_line-own after n others mode = rw (mode-own mode) refl
+mode_line-own after l others mode = rw (mode-own mode) refl
 
-number_line-own : (name : List ℕ) (kind : TextKind) (after n : ℕ) (others : List LineWords) (least most value : ℕ)
+number_line-own : (name : List ℕ) (kind : TextKind) (after : ℕ) (l : LineWords) (others : List LineWords)
+    (least most value : ℕ)
     → value ≤ 9999999 → least ≤ value → value ≤ most
-    → number_line name kind least most (with_line after n (name ∷ decimal value ∷ []) others) ≡ Ok (value, left after others)
+    → number_line name kind least most (with_line after l (name ∷ decimal value ∷ []) others)
+    ≡ Ok (value, left after others)
 unfolding number_line headed literal next done number_in
-number_line-own name kind after n others least most value few low high =
+number_line-own name kind after l others least most value few low high =
     rw (same_from name name refl, within-own least most value few low high) refl
 
-species_line-own : (after n : ℕ) (others : List LineWords) (voices species v : ℕ) → species ≤ 9999999 → v ≤ 9999999
+species_line-own : (after : ℕ) (l : LineWords) (others : List LineWords) (voices species v : ℕ) → species ≤ 9999999
+    → v ≤ 9999999
     → 1 ≤ species → species ≤ most_species → v ≤ voices - 1
-    → species_line voices (with_line after n (codes "species" ∷ decimal species ∷ codes "voice" ∷ decimal v ∷ []) others)
+    → species_line voices
+    (with_line after l (codes "species" ∷ decimal species ∷ codes "voice" ∷ decimal v ∷ []) others)
     ≡ Ok (species, v, left after others)
 unfolding species_line headed literal next done number_in
-species_line-own after n others voices species v few few_v low high there =
+species_line-own after l others voices species v few few_v low high there =
     rw (within-own 1 most_species species few low high, within-own 0 (voices - 1) v few_v (omega arith) there) refl
 
-pub other_voice-own : (other voices v : ℕ) → v ≤ 9999999 → v < voices → v ≢ other → other_voice other voices (decimal v) ≡ Some v
+pub other_voice-own : (other voices v : ℕ) → v ≤ 9999999 → v < voices → v ≢ other
+    → other_voice other voices (decimal v) ≡ Some v
 other_voice-own other voices v few there differs =
-    ap (option_and_then (unless other)) (within-own 0 (voices - 1) v few (omega arith) (omega arith)) ∙ by (v == other) refl
+    ap (option_and_then (unless other)) (within-own 0 (voices - 1) v few (omega arith) (omega arith))
+    ∙ by (v == other) refl
   where
     by : (b : Bool) → (v == other) ≡ b → (if b then None else Some v) ≡ Some v
     by true e = absurd (differs (grind (arith, e)))
     by false e = refl
-
--- the words of a line that are left, whatever stood before them
-abbrev pub at_words : ℕ → ℕ → ℕ → ℕ → List (List ℕ) → LineWords
-at_words line past end column ws = record { line = line; past = past; end = end; words = set_out line column ws }
 
 -- what is left of a line behind the pitches with which it ends
 record AfterPitches (before ps : List Pitch) (at : LineWords) : Type 0 where
@@ -72,33 +66,33 @@ record AfterPitches (before ps : List Pitch) (at : LineWords) : Type 0 where
   pub read : pitches_in (length ps) before at ≡ Ok (before ++ ps, rest)
   pub end : done kinds.Cantus rest ≡ Ok tt
 
-pitches_in-own : (ps before : List Pitch) (line past end column : ℕ)
-    → AfterPitches before ps (at_words line past end column (map name_of ps))
+pitches_in-own : (ps before : List Pitch) (line past end : ℕ) (place : ℕ → PlacedWord)
+    → AfterPitches before ps (at_words line past end place (map name_of ps))
 unfolding pitches_in pitch_in next done
-pitches_in-own [] before line past end column = record {
-  rest = at_words line past end column [];
-  read = ap (λ found. Ok (found, at_words line past end column [])) (sym (append-nil before));
+pitches_in-own [] before line past end place = record {
+  rest = at_words line past end place [];
+  read = ap (λ found. Ok (found, at_words line past end place [])) (sym (append-nil before));
   end = refl;
 }
-pitches_in-own (p ∷ ps) before line past end column =
-    let behind = column + length (name_of p) in
-    let others = pitches_in-own ps (before ++ p ∷ []) line behind end (behind + 1) in
+pitches_in-own (p ∷ ps) before line past end place =
+    let behind = (place 0).column + length (name_of p) in
+    let others = pitches_in-own ps (before ++ p ∷ []) line behind end (λ k. place (suc k)) in
     record {
       rest = others.rest;
       read = rw (pitch-own p) (others.read ∙ ap (λ found. Ok (found, others.rest)) (append_assoc before (p ∷ []) ps));
       end = others.end;
     }
 
-cantus_line-own : (after n : ℕ) (more : List LineWords) (voices species_voice bars v : ℕ) (cantus : List Pitch)
+cantus_line-own : (after : ℕ) (l : LineWords) (more : List LineWords) (voices species_voice bars v : ℕ)
+    (cantus : List Pitch)
     → v ≤ 9999999 → v < voices → v ≢ species_voice → length cantus ≡ bars
-    → cantus_line voices species_voice bars (with_line after n (codes "cantus" ∷ decimal v ∷ map name_of cantus) more)
+    → cantus_line voices species_voice bars (with_line after l (codes "cantus" ∷ decimal v ∷ map name_of cantus) more)
     ≡ Ok (v, cantus, left after more)
 unfolding cantus_line headed literal next other_voice_in
-cantus_line-own after n more voices species_voice bars v cantus few there differs whole =
-    let column = 1 + 6 + 1 + length (decimal v) in
-    let text = with_line after n (codes "cantus" ∷ decimal v ∷ map name_of cantus) more in
-    let end = (own_line n (codes "cantus" ∷ decimal v ∷ map name_of cantus)).end in
-    let ps = pitches_in-own cantus [] n column end (column + 1) in
+cantus_line-own after l more voices species_voice bars v cantus few there differs whole =
+    let text = with_line after l (codes "cantus" ∷ decimal v ∷ map name_of cantus) more in
+    let place = places_of l.words in
+    let ps = pitches_in-own cantus [] l.line ((place 1).column + length (decimal v)) l.end (λ k. place (suc (suc k))) in
     subst (λ count. cantus_line voices species_voice count text ≡ Ok (v, cantus, left after more)) whole
     (rw (other_voice-own species_voice voices v few there differs, ps.read, ps.end) refl)
 
@@ -106,23 +100,35 @@ cantus_line-own after n more voices species_voice bars v cantus few there differ
 abbrev pub head_of : Exercise → Exercise
 head_of ex = record ex { ranges = []; relax = []; setting = None }
 
-pub head-own : (ex : Exercise) (after : ℕ) (more : List (List (List ℕ))) → IsValid ex → ex.voices ≤ most_voices → ex.species ≤ most_species
-    → head_in (left after (own_lines 1 (head_lines ex ++ cantus_words ex ∷ more))) ≡ Ok (head_of ex, left after (own_lines 7 more))
+-- the layout behind the lines before the ranges
+abbrev pub behind_head : (ℕ → LineWords) → ℕ → LineWords
+behind_head lay k = lay (suc (suc (suc (suc (suc (suc k))))))
+
+pub head-own : (ex : Exercise) (after : ℕ) (lay : ℕ → LineWords) (more : List (List (List ℕ))) → IsValid ex
+    → head_in (left after (lines_at lay (head_lines ex ++ cantus_words ex ∷ more)))
+    ≡ Ok (head_of ex, left after (lines_at (behind_head lay) more))
 unfolding head_in
-head-own ex after more valid few_voices known =
-    let others = own_lines 7 more in
-    let cantus = own_line 6 (cantus_words ex) ∷ others in
-    let species = own_line 5 (codes "species" ∷ decimal ex.species ∷ codes "voice" ∷ decimal ex.species_voice ∷ []) ∷ cantus in
-    let bars = own_line 4 (codes "bars" ∷ decimal ex.bars ∷ []) ∷ species in
-    let voices = own_line 3 (codes "voices" ∷ decimal ex.voices ∷ []) ∷ bars in
-    let mode = own_line 2 (codes "mode" ∷ mode_name ex.mode ∷ []) ∷ voices in
+head-own ex after lay more valid =
+    let others = lines_at (behind_head lay) more in
+    let cantus = laid (lay 5) (cantus_words ex) ∷ others in
+    let species = laid (lay 4)
+    (codes "species" ∷ decimal ex.species ∷ codes "voice" ∷ decimal ex.species_voice ∷ []) ∷ cantus in
+    let bars = laid (lay 3) (codes "bars" ∷ decimal ex.bars ∷ []) ∷ species in
+    let voices = laid (lay 2) (codes "voices" ∷ decimal ex.voices ∷ []) ∷ bars in
+    let mode = laid (lay 1) (codes "mode" ∷ mode_name ex.mode ∷ []) ∷ voices in
     rw (
-      version_line-own after 1 mode,
-      mode_line-own after 2 voices ex.mode,
-      number_line-own (codes "voices") kinds.Word after 3 bars 2 most_voices ex.voices (omega (arith, valid.most_voices)) valid.fewest_voices few_voices,
-      number_line-own (codes "bars") kinds.Bars after 4 species 3 24 ex.bars (omega (arith, valid.most_bars)) valid.fewest_bars valid.most_bars,
-      species_line-own after 5 cantus ex.voices ex.species ex.species_voice (omega (arith, valid.most_species))
-          (omega (arith, valid.species_there, valid.most_voices)) valid.least_species known (omega (arith, valid.species_there)),
-      cantus_line-own after 6 others ex.voices ex.species_voice ex.bars ex.cantus_voice ex.cantus
-          (omega (arith, valid.cantus_there, valid.most_voices)) valid.cantus_there (λ same. valid.differ (sym same)) valid.whole_cantus,
+      version_line-own after (lay 0) mode,
+      mode_line-own after (lay 1) voices ex.mode,
+      number_line-own (codes "voices") kinds.Word after (lay 2) bars 2 most_voices ex.voices
+          (omega (arith, valid.most_voices))
+          valid.fewest_voices valid.most_voices,
+      number_line-own (codes "bars") kinds.Bars after (lay 3) species 3 24 ex.bars
+          (omega (arith, valid.most_bars)) valid.fewest_bars
+          valid.most_bars,
+      species_line-own after (lay 4) cantus ex.voices ex.species ex.species_voice (omega (arith, valid.most_species))
+          (omega (arith, valid.species_there, valid.most_voices)) valid.least_species valid.most_species
+          (omega (arith, valid.species_there)),
+      cantus_line-own after (lay 5) others ex.voices ex.species_voice ex.bars ex.cantus_voice ex.cantus
+          (omega (arith, valid.cantus_there, valid.most_voices)) valid.cantus_there
+          (λ same. valid.differ (sym same)) valid.whole_cantus,
     ) refl

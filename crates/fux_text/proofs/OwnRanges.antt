@@ -15,14 +15,14 @@ use Rattle.fux_grid.specs.declared.exercise.Exercise.{Exercise}
 use Rattle.fux_grid.specs.declared.exercise.RangeLine.{RangeLine}
 use Rattle.fux_grid.specs.Exercises.{BeginsWithWhole, IsFree, IsRangeLine, range_lines}
 use Rattle.text_lines.specs.Reading.{begins, done, headed, literal, next, number_in}
-use Rattle.text_lines.specs.Words.{LineWords}
+use Rattle.text_lines.specs.Words.{LineWords, PlacedWord}
 use Rattle.fux_text.specs.Head.{other_voice_in, pitch_in}
 use Rattle.fux_text.specs.Lines.{bars_words, range_words}
 use Rattle.fux_text.specs.Ranges.{all_ranged, bars_in, bars_of_later, has_line, high_in, misfits, range_in, range_line, ranges_in, ranges_on}
 use Rattle.fux_text.proofs.NumberWords.{within-own}
-use Rattle.fux_text.proofs.OwnHead.{at_words, left, other_voice-own, with_line}
+use Rattle.fux_text.proofs.Layouts.{at_words, left, lines_at, places_of, with_line}
+use Rattle.fux_text.proofs.OwnHead.{other_voice-own}
 use Rattle.fux_text.proofs.OwnWords.{pitch-own}
-use Rattle.fux_text.proofs.PlainWords.{own_line, own_lines}
 use Rattle.fux_text.proofs.ValidRanges.{any-none, any-some, of_voice}
 
 -- a range line may stand behind these: a voice's first one has no bars, and a later one has some
@@ -44,21 +44,30 @@ not_below low high rises = by (int_lt (key_of high) (key_of low)) refl
     by false e = refl
 
 -- the words behind `range`, where a voice's first line or a later one is read
-first-own : (ex : Exercise) (before : List RangeLine) (line past end column voice : ℕ) (low high : Pitch) → voice ≤ 9999999
+first-own : (ex : Exercise) (before : List RangeLine) (line past end : ℕ) (place : ℕ → PlacedWord) (voice : ℕ)
+    (low high : Pitch) → voice ≤ 9999999
     → voice < ex.voices → voice ≢ ex.cantus_voice → key_of low ≤ℤ key_of high → has_line before voice ≡ false
-    → range_in ex before (at_words line past end column (decimal voice ∷ name_of low ∷ name_of high ∷ []))
+    → range_in ex before (at_words line past end place (decimal voice ∷ name_of low ∷ name_of high ∷ []))
     ≡ Ok (record { voice = voice; low = low; high = high; bars = None })
 unfolding range_in other_voice_in misfits pitch_in high_in bars_of_later next done
-first-own ex before line past end column voice low high few there differs rises none =
-    rw (other_voice-own ex.cantus_voice ex.voices voice few there differs, none, pitch-own low, pitch-own high, not_below low high rises) refl
+first-own ex before line past end place voice low high few there differs rises none =
+    rw (
+      other_voice-own ex.cantus_voice ex.voices voice few there differs,
+      none,
+      pitch-own low,
+      pitch-own high,
+      not_below low high rises,
+    ) refl
 
-later-own : (ex : Exercise) (before : List RangeLine) (line past end column voice : ℕ) (low high : Pitch) (from to : ℕ) → voice ≤ 9999999
+later-own : (ex : Exercise) (before : List RangeLine) (line past end : ℕ) (place : ℕ → PlacedWord) (voice : ℕ)
+    (low high : Pitch) (from to : ℕ) → voice ≤ 9999999
     → voice < ex.voices → voice ≢ ex.cantus_voice → key_of low ≤ℤ key_of high → has_line before voice ≡ true
     → ex.bars ≤ 9999999 → 1 ≤ from → from ≤ to → to ≤ ex.bars
-    → range_in ex before (at_words line past end column (decimal voice ∷ name_of low ∷ name_of high ∷ decimal from ∷ decimal to ∷ []))
+    → range_in ex before
+    (at_words line past end place (decimal voice ∷ name_of low ∷ name_of high ∷ decimal from ∷ decimal to ∷ []))
     ≡ Ok (record { voice = voice; low = low; high = high; bars = Some (from, to) })
 unfolding range_in other_voice_in misfits pitch_in high_in bars_of_later bars_in number_in next done
-later-own ex before line past end column voice low high from to few there differs rises some few_bars least in_order most =
+later-own ex before line past end place voice low high from to few there differs rises some few_bars least in_order most =
     rw (
       other_voice-own ex.cantus_voice ex.voices voice few there differs,
       some,
@@ -69,16 +78,19 @@ later-own ex before line past end column voice low high from to few there differ
       within-own from ex.bars to (omega (arith, most, few_bars)) in_order most,
     ) refl
 
-range_in-own : (ex : Exercise) (before : List RangeLine) (r : RangeLine) (line past end column : ℕ) → IsSmall ex → FitsBehind ex before r
-    → range_in ex before (at_words line past end column (decimal r.voice ∷ name_of r.low ∷ name_of r.high ∷ bars_words r.bars)) ≡ Ok r
-range_in-own ex before r line past end column small behind = by r.bars refl
+range_in-own : (ex : Exercise) (before : List RangeLine) (r : RangeLine) (line past end : ℕ) (place : ℕ → PlacedWord)
+    → IsSmall ex → FitsBehind ex before r
+    → range_in ex before
+    (at_words line past end place (decimal r.voice ∷ name_of r.low ∷ name_of r.high ∷ bars_words r.bars)) ≡ Ok r
+range_in-own ex before r line past end place small behind = by r.bars refl
   where
     few : r.voice ≤ 9999999
     few = omega (arith, behind.fits.free.there, small.voices)
 
     reads : Option (ℕ × ℕ) → Type 0
     reads bars =
-        range_in ex before (at_words line past end column (decimal r.voice ∷ name_of r.low ∷ name_of r.high ∷ bars_words bars))
+        range_in ex before
+        (at_words line past end place (decimal r.voice ∷ name_of r.low ∷ name_of r.high ∷ bars_words bars))
         ≡ Ok (record { voice = r.voice; low = r.low; high = r.high; bars = bars })
 
     some_if_none : (b : Bool) → has_line before r.voice ≡ b → r.bars ≡ None → b ≡ false
@@ -96,49 +108,58 @@ range_in-own ex before r line past end column small behind = by r.bars refl
     by : (o : Option (ℕ × ℕ)) → r.bars ≡ o → reads r.bars
     by None e =
         subst reads (sym e)
-        (first-own ex before line past end column r.voice r.low r.high few behind.fits.free.there behind.fits.free.no_cantus
+        (first-own ex before line past end place r.voice r.low r.high few behind.fits.free.there behind.fits.free.no_cantus
         behind.fits.rises (some_if_none _ refl e))
     by (Some (from, to)) e =
-        let within = subst (λ o. IfSome o (λ bars. (1 ≤ bars.0) × (bars.0 ≤ bars.1) × (bars.1 ≤ ex.bars))) e behind.fits.within in
+        let within =
+        subst (λ o. IfSome o (λ bars. (1 ≤ bars.0) × (bars.0 ≤ bars.1) × (bars.1 ≤ ex.bars))) e behind.fits.within in
         subst reads (sym e)
-        (later-own ex before line past end column r.voice r.low r.high from to few behind.fits.free.there behind.fits.free.no_cantus
+        (later-own ex before line past end place r.voice r.low r.high from to few behind.fits.free.there behind.fits.free.no_cantus
         behind.fits.rises (later_if_some _ (from, to) refl e) (omega (arith, small.bars)) within.0 within.1 within.2)
 
-range_line-own : (ex : Exercise) (before : List RangeLine) (r : RangeLine) (after n : ℕ) (others : List LineWords) → IsSmall ex
-    → FitsBehind ex before r → range_line ex before (with_line after n (range_words r) others) ≡ Ok (r, left after others)
+range_line-own : (ex : Exercise) (before : List RangeLine) (r : RangeLine) (after : ℕ) (l : LineWords)
+    (others : List LineWords) → IsSmall ex
+    → FitsBehind ex before r → range_line ex before (with_line after l (range_words r) others)
+    ≡ Ok (r, left after others)
 unfolding range_line headed literal next
-range_line-own ex before r after n others small behind =
-    rw (range_in-own ex before r n (1 + 5) (own_line n (range_words r)).end (1 + 5 + 1) small behind) refl
+range_line-own ex before r after l others small behind =
+    let place = places_of l.words in
+    rw (range_in-own ex before r l.line ((place 0).column + 5) l.end (λ k. place (suc k)) small behind) refl
 
 -- each of these lines may stand behind those before it
 abbrev FitInOrder : Exercise → List RangeLine → List RangeLine → Type 0
 FitInOrder ex before [] = ⊤
 FitInOrder ex before (r ∷ rs) = FitsBehind ex before r × FitInOrder ex (before ++ r ∷ []) rs
 
-begins_range : (r : RangeLine) (after n : ℕ) (others : List LineWords)
-    → begins (codes "range") (with_line after n (range_words r) others) ≡ true
+begins_range : (r : RangeLine) (after : ℕ) (l : LineWords) (others : List LineWords)
+    → begins (codes "range") (with_line after l (range_words r) others) ≡ true
 unfolding begins
-begins_range r after n others = refl
+begins_range r after l others = refl
 
 -- range lines are read up to a line that is none
-ranges_on-own : (ex : Exercise) (rs before : List RangeLine) (after n : ℕ) (more : List (List (List ℕ))) → IsSmall ex
-    → FitInOrder ex before rs → ((m : ℕ) → begins (codes "range") (left after (own_lines m more)) ≡ false)
-    → (m : ℕ) × (ranges_on ex before after (own_lines n (map range_words rs ++ more)) ≡ Ok (before ++ rs, left after (own_lines m more)))
+ranges_on-own : (ex : Exercise) (rs before : List RangeLine) (after : ℕ) (lay : ℕ → LineWords)
+    (more : List (List (List ℕ))) → IsSmall ex
+    → FitInOrder ex before rs →
+    ((other : ℕ → LineWords) → begins (codes "range") (left after (lines_at other more)) ≡ false)
+    → (behind : ℕ → LineWords) ×
+    (ranges_on ex before after (lines_at lay (map range_words rs ++ more))
+    ≡ Ok (before ++ rs, left after (lines_at behind more)))
 unfolding ranges_on
-ranges_on-own ex [] before after n [] small fit other =
-    (n, ap (λ found. Ok (found, left after [])) (sym (append-nil before)))
-ranges_on-own ex [] before after n (ws ∷ more) small fit other =
-    (n, rw (other n) (ap (λ found. Ok (found, left after (own_lines n (ws ∷ more)))) (sym (append-nil before))))
-ranges_on-own ex (r ∷ rs) before after n more small fit other =
-    let rest = ranges_on-own ex rs (before ++ r ∷ []) after (n + 1) more small fit.1 other in
-    let others = own_lines (n + 1) (map range_words rs ++ more) in (
+ranges_on-own ex [] before after lay [] small fit other =
+    (lay, ap (λ found. Ok (found, left after [])) (sym (append-nil before)))
+ranges_on-own ex [] before after lay (ws ∷ more) small fit other =
+    (lay, rw (other lay) (ap (λ found. Ok (found, left after (lines_at lay (ws ∷ more)))) (sym (append-nil before))))
+ranges_on-own ex (r ∷ rs) before after lay more small fit other =
+    let rest = ranges_on-own ex rs (before ++ r ∷ []) after (λ k. lay (suc k)) more small fit.1 other in
+    let others = lines_at (λ k. lay (suc k)) (map range_words rs ++ more) in (
       rest.0,
-      rw (begins_range r after n others, range_line-own ex before r after n others small fit.0)
-          (rest.1 ∙ ap (λ found. Ok (found, left after (own_lines rest.0 more))) (append_assoc before (r ∷ []) rs)),
+      rw (begins_range r after (lay 0) others, range_line-own ex before r after (lay 0) others small fit.0)
+          (rest.1 ∙ ap (λ found. Ok (found, left after (lines_at rest.0 more))) (append_assoc before (r ∷ []) rs)),
     )
 
 -- where each of these lines has bars, so has the one between others
-some_at_seam : (xs ys : List RangeLine) (r : RangeLine) → All (λ other. IsSome other.bars) (xs ++ r ∷ ys) → IsSome r.bars
+some_at_seam : (xs ys : List RangeLine) (r : RangeLine) → All (λ other. IsSome other.bars) (xs ++ r ∷ ys)
+    → IsSome r.bars
 some_at_seam [] ys r all = all 0 r (omega arith)
 some_at_seam (x ∷ xs) ys r all = some_at_seam xs ys r (λ k d lt. all (suc k) d (omega arith))
 
@@ -150,7 +171,8 @@ fit-in-order ex (r ∷ rs) before fit whole =
     let one : IsRangeLine ex r = fit 0 r (omega arith) in (
       fits_behind one (whole r.voice one.free),
       fit-in-order ex rs (before ++ r ∷ []) (λ k d lt. fit (suc k) d (omega arith))
-          (λ v free. subst (λ lines. BeginsWithWhole (of_voice v lines)) (sym (append_assoc before (r ∷ []) rs)) (whole v free)),
+          (λ v free. subst (λ lines. BeginsWithWhole (of_voice v lines)) (sym (append_assoc before (r ∷ []) rs))
+          (whole v free)),
     )
   where
     own : (b : Bool) → (r.voice == r.voice) ≡ b → of_voice r.voice (r ∷ rs) ≡ r ∷ of_voice r.voice rs
@@ -163,7 +185,8 @@ fit-in-order ex (r ∷ rs) before fit whole =
         (subst BeginsWithWhole (filter-append (λ l. l.voice == r.voice) before (r ∷ rs)
         ∙ ap (λ lines. of_voice r.voice before ++ lines) (own _ refl)) begun)
       where
-        by : (mine : List RangeLine) → of_voice r.voice before ≡ mine → BeginsWithWhole (mine ++ r ∷ of_voice r.voice rs)
+        by : (mine : List RangeLine) → of_voice r.voice before ≡ mine
+            → BeginsWithWhole (mine ++ r ∷ of_voice r.voice rs)
             → FitsBehind ex before r
         by [] e w = record {
           fits = one;
@@ -184,8 +207,10 @@ all_ranged-own ex lines whole =
     list_all-from_AllPass (λ v. (v == ex.cantus_voice) || has_line lines v) (range_with_len 0 ex.voices)
     (λ k d lt.
     let there : k < ex.voices = omega (arith, lt, length-range_with_len 0 ex.voices) in
-    let same : get_or (range_with_len 0 ex.voices) k d ≡ k = get_or-range_with_len 0 ex.voices k d there ∙ omega arith in
-    subst (λ v. ((v == ex.cantus_voice) || has_line lines v) ≡ true) (sym same) (by k there (k == ex.cantus_voice) refl))
+    let same : get_or (range_with_len 0 ex.voices) k d ≡ k = get_or-range_with_len 0 ex.voices k d there
+    ∙ omega arith in
+    subst (λ v. ((v == ex.cantus_voice) || has_line lines v) ≡ true) (sym same)
+    (by k there (k == ex.cantus_voice) refl))
   where
     has : (v : ℕ) (mine : List RangeLine) → of_voice v lines ≡ mine → BeginsWithWhole mine → has_line lines v ≡ true
     has v [] e w = absurd w
@@ -197,11 +222,14 @@ all_ranged-own ex lines whole =
         has v (of_voice v lines) refl (whole v (record { there = there; no_cantus = λ same. grind (arith, e, same) }))
 
 -- the range lines of an exercise, with other lines behind them
-pub ranges-own : (ex head : Exercise) (after n : ℕ) (more : List (List (List ℕ))) → IsSmall head → All (IsRangeLine head) ex.ranges
+pub ranges-own : (ex head : Exercise) (after : ℕ) (lay : ℕ → LineWords) (more : List (List (List ℕ))) → IsSmall head
+    → All (IsRangeLine head) ex.ranges
     → ((v : ℕ) → IsFree head v → BeginsWithWhole (range_lines ex v))
-    → ((m : ℕ) → begins (codes "range") (left after (own_lines m more)) ≡ false)
-    → (m : ℕ) × (ranges_in head (left after (own_lines n (map range_words ex.ranges ++ more))) ≡ Ok (ex.ranges, left after (own_lines m more)))
+    → ((other : ℕ → LineWords) → begins (codes "range") (left after (lines_at other more)) ≡ false)
+    → (behind : ℕ → LineWords) ×
+    (ranges_in head (left after (lines_at lay (map range_words ex.ranges ++ more)))
+    ≡ Ok (ex.ranges, left after (lines_at behind more)))
 unfolding ranges_in
-ranges-own ex head after n more small fit whole other =
-    let found = ranges_on-own head ex.ranges [] after n more small (fit-in-order head ex.ranges [] fit whole) other in
+ranges-own ex head after lay more small fit whole other =
+    let found = ranges_on-own head ex.ranges [] after lay more small (fit-in-order head ex.ranges [] fit whole) other in
     (found.0, rw (found.1, all_ranged-own head ex.ranges whole) refl)

@@ -1,6 +1,6 @@
 -- A setting is read back from its `sing` lines (`sung_score-own`, `setting-own`).
 use Rattle.std.proofs.Common.{◌≡◌, ℕ, zero, suc, ◌+◌, ◌*◌, ◌<◌, ◌≤◌, Bool, true, false, List, [], ◌∷◌, ◌++◌, get_or, length, map, reverse, Option, Some, None, Ok, refl, sym, ap, subst, ◌∙◌, append_assoc, arith}
-use Rattle.std.specs.Prelude.{◌==◌, not, All, codes, filter, IfSome}
+use Rattle.std.specs.Prelude.{◌==◌, not, All, codes, filter, IfSome, ⊤}
 use Rattle.std.specs.List.{flat_map, range_with_len}
 use Rattle.std.proofs.lemmas.Bool.{eqb-true, ne_eqb}
 use Rattle.std.proofs.lemmas.List.{append-nil, ext_get_or, get_or-map, length-append, length-map, reverse-append}
@@ -16,12 +16,13 @@ use Rattle.fux_grid.specs.Grid.{Grid}
 use Rattle.text_lines.specs.Lines.{TextLines}
 use Rattle.text_lines.specs.Reading.{begins, no_line}
 use Rattle.text_lines.specs.Words.{LineWords}
-use Rattle.fux_text.specs.Lines.{free_voices, sing_words}
-use Rattle.fux_text.specs.ReadBack.{IsSettingOf}
+use Rattle.std.specs.Fmt.{decimal}
+use Rattle.fux_text.specs.Grammar.{AreSung, IsSettingOf, IsSung, Sings}
+use Rattle.fux_text.specs.Items.{item_word}
+use Rattle.fux_text.specs.Lines.{between_bar_lines, free_voices, sing_words}
 use Rattle.fux_text.specs.Sing.{FollowsFrom, cantus_cells, column_of, item_cells, score_of, setting_in, sung_score, voice_in, voices_in}
-use Rattle.fux_text.proofs.OwnBars.{sing_line-own}
-use Rattle.fux_text.proofs.OwnHead.{left}
-use Rattle.fux_text.proofs.PlainWords.{own_line, own_lines}
+use Rattle.fux_text.proofs.Layouts.{left, lines_at, with_line}
+use Rattle.fux_text.proofs.OwnBars.{sing_line-own, sing_words-sung}
 use Rattle.fux_text.proofs.ValidSetting.{cantus_cells-at}
 
 -- ---- lines of columns that follow one another
@@ -43,8 +44,10 @@ line-follows_from v (col ∷ cols) older h =
     ((older-follow (reverse cols) (col ∷ older) same).0 v, line-follows_from v cols (col ∷ older) same)
 
 -- the cells of a voice follow one another
-line-follows_own : (v : ℕ) (columns : List (List Cell)) → HistoryFollows (reverse columns) → FollowsFrom Rest (line v columns)
-line-follows_own v columns h = line-follows_from v columns [] (subst HistoryFollows (sym (append-nil (reverse columns))) h)
+line-follows_own : (v : ℕ) (columns : List (List Cell)) → HistoryFollows (reverse columns)
+    → FollowsFrom Rest (line v columns)
+line-follows_own v columns h = line-follows_from v columns []
+    (subst HistoryFollows (sym (append-nil (reverse columns))) h)
 
 -- ---- the cantus
 
@@ -55,14 +58,16 @@ cantus_cells-length (p ∷ ps) =
     length-append (item_cells (Start p) 8) (flat_map (λ q. item_cells (Start q) 8) ps)
     ∙ ap (λ n. 8 + n) (cantus_cells-length ps) ∙ omega arith
 
-line-cell : (v i : ℕ) (columns : List (List Cell)) → i < length columns → get_or (line v columns) i Rest ≡ cell_in (get_or columns i []) v
+line-cell : (v i : ℕ) (columns : List (List Cell)) → i < length columns → get_or (line v columns) i Rest
+    ≡ cell_in (get_or columns i []) v
 line-cell v i columns lt = get_or-map (λ col. cell_in col v) columns i [] Rest lt
 
 some_same : (c d : Cell) → Some c ≡ Some d → c ≡ d
 some_same c d e = grind (arith, e)
 
 -- the cells of the cantus voice are those of the cantus
-cantus_line-cells : (ex : Exercise) (columns : List (List Cell)) → length columns ≡ 8 * length ex.cantus → HasCantus ex columns
+cantus_line-cells : (ex : Exercise) (columns : List (List Cell)) → length columns ≡ 8 * length ex.cantus
+    → HasCantus ex columns
     → cantus_cells ex.cantus ≡ line ex.cantus_voice columns
 cantus_line-cells ex columns long has =
     ext_get_or Rest (cantus_cells ex.cantus) (line ex.cantus_voice columns)
@@ -74,66 +79,93 @@ cantus_line-cells ex columns long has =
 
 -- ---- the voices, one after the other
 
--- what the lines of voices are read from
+-- what the lines of voices are read into
 record HasVoices (ex : Exercise) (columns : List (List Cell)) : Type 0 where
   pub some : 1 ≤ ex.bars
   pub few : ex.voices ≤ 9999999
-  pub long : length columns ≡ 8 * ex.bars
   pub follows : (v : ℕ) → FollowsFrom Rest (line v columns)
   pub cantus : cantus_cells ex.cantus ≡ line ex.cantus_voice columns
-
-abbrev is_free_voice : Exercise → ℕ → Bool
-is_free_voice ex v = not (v == ex.cantus_voice)
-
-abbrev sung : List (List Cell) → List ℕ → List (List (List ℕ))
-sung columns vs = map (λ v. sing_words v columns) vs
 
 voice-cantus_own : (ex : Exercise) (columns : List (List Cell)) (v : ℕ) (text : TextLines) → HasVoices ex columns
     → (v == ex.cantus_voice) ≡ true → voice_in ex v text ≡ Ok (line v columns, text)
 unfolding voice_in
 voice-cantus_own ex columns v text has e =
-    let cells : cantus_cells ex.cantus ≡ line v columns = has.cantus ∙ ap (λ w. line w columns) (sym (eqb-true v ex.cantus_voice e)) in
+    let cells : cantus_cells ex.cantus ≡ line v columns = has.cantus
+    ∙ ap (λ w. line w columns) (sym (eqb-true v ex.cantus_voice e)) in
     rw e (ap (λ cs. Ok (cs, text)) cells)
 
-voice-sung_own : (ex : Exercise) (columns : List (List Cell)) (after m v : ℕ) (others : List LineWords) → HasVoices ex columns
-    → v < ex.voices → (v == ex.cantus_voice) ≡ false
-    → voice_in ex v (left after (own_line m (sing_words v columns) ∷ others)) ≡ Ok (line v columns, left after others)
+voice-sung_own : (ex : Exercise) (columns : List (List Cell)) (v after : ℕ) (l : LineWords) (words : List (List ℕ))
+    (others : List LineWords)
+    → HasVoices ex columns → v < ex.voices → (v == ex.cantus_voice) ≡ false → IsSung ex.bars v words (line v columns)
+    → voice_in ex v (with_line after l words others) ≡ Ok (line v columns, left after others)
 unfolding voice_in
-voice-sung_own ex columns after m v others has there e =
-    rw e (sing_line-own ex.bars v columns after m others has.some (omega (arith, there, has.few)) has.long (has.follows v))
+voice-sung_own ex columns v after l words others has there e sung =
+    rw e (sing_line-own ex.bars v words (line v columns) after l others has.some (omega (arith, there, has.few)) sung
+    (has.follows v))
 
-voices-own : (ex : Exercise) (columns : List (List Cell)) (after : ℕ) → HasVoices ex columns → (n a : ℕ) (before : List (List Cell)) (m : ℕ)
-    → a + n ≤ ex.voices
-    → voices_in ex (range_with_len a n) before (left after (own_lines m (sung columns (filter (is_free_voice ex) (range_with_len a n)))))
+-- the free ones of so many voices
+abbrev pub free_of : Exercise → ℕ → ℕ → List ℕ
+free_of ex a n = filter (λ v. not (v == ex.cantus_voice)) (range_with_len a n)
+
+pub free-cantus : (ex : Exercise) (a n : ℕ) → (a == ex.cantus_voice) ≡ true → free_of ex a (suc n)
+    ≡ free_of ex (a + 1) n
+free-cantus ex a n e = rw e refl
+
+pub free-other : (ex : Exercise) (a n : ℕ) → (a == ex.cantus_voice) ≡ false → free_of ex a (suc n)
+    ≡ a ∷ free_of ex (a + 1) n
+free-other ex a n e = rw e refl
+
+-- voices are read from such lines
+abbrev ReadsVoices : Exercise → List (List Cell) → ℕ → ℕ → ℕ → List (List Cell) → Type 0
+ReadsVoices ex columns after n a before =
+    (lay : ℕ → LineWords) (lines : List (List (List ℕ))) → AreSung ex.bars (λ w. line w columns) (free_of ex a n) lines
+    → voices_in ex (range_with_len a n) before (left after (lines_at lay lines))
     ≡ Ok (before ++ map (λ v. line v columns) (range_with_len a n), left after [])
+
+voices-own : (ex : Exercise) (columns : List (List Cell)) (after : ℕ) → HasVoices ex columns
+    → (n a : ℕ) (before : List (List Cell))
+    → a + n ≤ ex.voices → ReadsVoices ex columns after n a before
 unfolding voices_in
-voices-own ex columns after has zero a before m low = ap (λ lines. Ok (lines, left after [])) (sym (append-nil before))
-voices-own ex columns after has (suc n) a before m low =
-    by (a == ex.cantus_voice) refl (λ k. voices-own ex columns after has n (a + 1) (before ++ line a columns ∷ []) k (omega (arith, low)))
+voices-own ex columns after has zero a before low lay [] sung = ap (λ found. Ok (found, left after []))
+    (sym (append-nil before))
+voices-own ex columns after has zero a before low lay (words ∷ lines) sung = absurd sung
+voices-own ex columns after has (suc n) a before low lay lines sung =
+    by (a == ex.cantus_voice) refl
+    (voices-own ex columns after has n (a + 1) (before ++ line a columns ∷ []) (omega (arith, low)))
   where
     vs : List ℕ
     vs = range_with_len (a + 1) n
 
-    text : ℕ → TextLines
-    text k = left after (own_lines k (sung columns (filter (is_free_voice ex) vs)))
-
-    whole : (before ++ line a columns ∷ []) ++ map (λ v. line v columns) vs ≡ before ++ map (λ v. line v columns) (a ∷ vs)
+    whole : (before ++ line a columns ∷ []) ++ map (λ v. line v columns) vs
+        ≡ before ++ map (λ v. line v columns) (a ∷ vs)
     whole = append_assoc before (line a columns ∷ []) (map (λ v. line v columns) vs)
 
-    by : (b : Bool) → (a == ex.cantus_voice) ≡ b
-        → ((k : ℕ) → voices_in ex vs (before ++ line a columns ∷ []) (text k)
-        ≡ Ok ((before ++ line a columns ∷ []) ++ map (λ v. line v columns) vs, left after []))
-        → voices_in ex (a ∷ vs) before (left after (own_lines m (sung columns (filter (is_free_voice ex) (a ∷ vs)))))
+    Reads : List (List (List ℕ)) → Type 0
+    Reads found =
+        voices_in ex (a ∷ vs) before (left after (lines_at lay found))
         ≡ Ok (before ++ map (λ v. line v columns) (a ∷ vs), left after [])
+
+    first : (found : List (List (List ℕ))) → (a == ex.cantus_voice) ≡ false
+        → AreSung ex.bars (λ w. line w columns) (a ∷ free_of ex (a + 1) n) found
+        → ReadsVoices ex columns after n (a + 1) (before ++ line a columns ∷ []) → Reads found
+    first [] e s rest = absurd s
+    first (words ∷ others) e s rest =
+        rw (voice-sung_own ex columns a after (lay 0) words (lines_at (λ k. lay (suc k)) others) has
+        (omega (arith, low)) e s.0)
+        (rest (λ k. lay (suc k)) others s.1 ∙ ap (λ found. Ok (found, left after [])) whole)
+
+    by : (b : Bool) → (a == ex.cantus_voice) ≡ b → ReadsVoices ex columns after n (a + 1)
+        (before ++ line a columns ∷ []) → Reads lines
     by true e rest =
-        rw (e, voice-cantus_own ex columns a (text m) has e) (rest m ∙ ap (λ lines. Ok (lines, left after [])) whole)
-    by false e rest =
-        rw (e, voice-sung_own ex columns after m a (own_lines (m + 1) (sung columns (filter (is_free_voice ex) vs))) has (omega (arith, low)) e)
-        (rest (m + 1) ∙ ap (λ lines. Ok (lines, left after [])) whole)
+        rw (voice-cantus_own ex columns a (left after (lines_at lay lines)) has e)
+        (rest lay lines (subst (λ free. AreSung ex.bars (λ w. line w columns) free lines) (free-cantus ex a n e) sung)
+        ∙ ap (λ found. Ok (found, left after [])) whole)
+    by false e rest = first lines e
+        (subst (λ free. AreSung ex.bars (λ w. line w columns) free lines) (free-other ex a n e) sung) rest
 
 -- ---- the score
 
-cells-of_column : (col : List Cell) → map (λ v. cell_in col v) (range_with_len 0 (length col)) ≡ col
+pub cells-of_column : (col : List Cell) → map (λ v. cell_in col v) (range_with_len 0 (length col)) ≡ col
 cells-of_column col =
     ext_get_or Rest (map (λ v. cell_in col v) (range_with_len 0 (length col))) col
     (length-map-range_with_len (λ v. cell_in col v) 0 (length col))
@@ -144,16 +176,20 @@ column-own : (columns : List (List Cell)) (voices i : ℕ) → i < length column
     → column_of (map (λ v. line v columns) (range_with_len 0 voices)) i ≡ get_or columns i []
 column-own columns voices i lt wide =
     cells-at (range_with_len 0 voices)
-    ∙ ap (λ n. map (λ v. cell_in (get_or columns i []) v) (range_with_len 0 n)) (sym wide) ∙ cells-of_column (get_or columns i [])
+    ∙ ap (λ n. map (λ v. cell_in (get_or columns i []) v) (range_with_len 0 n)) (sym wide)
+    ∙ cells-of_column (get_or columns i [])
   where
-    cells-at : (vs : List ℕ) → map (λ cells. cell_in cells i) (map (λ v. line v columns) vs) ≡ map (λ v. cell_in (get_or columns i []) v) vs
+    cells-at : (vs : List ℕ) → map (λ cells. cell_in cells i) (map (λ v. line v columns) vs)
+        ≡ map (λ v. cell_in (get_or columns i []) v) vs
     cells-at [] = refl
     cells-at (v ∷ vs) =
         ap (λ c. c ∷ map (λ cells. cell_in cells i) (map (λ w. line w columns) vs)) (line-cell v i columns lt)
         ∙ ap (λ more. cell_in (get_or columns i []) v ∷ more) (cells-at vs)
 
-score-own : (bars voices : ℕ) (columns : List (List Cell)) → length columns ≡ 8 * bars → All (λ col. length col ≡ voices) columns
-    → score_of bars (map (λ v. line v columns) (range_with_len 0 voices)) ≡ record { voices = voices; columns = columns }
+score-own : (bars voices : ℕ) (columns : List (List Cell)) → length columns ≡ 8 * bars
+    → All (λ col. length col ≡ voices) columns
+    → score_of bars (map (λ v. line v columns) (range_with_len 0 voices))
+    ≡ record { voices = voices; columns = columns }
 unfolding score_of
 score-own bars voices columns long full =
     let lines = map (λ v. line v columns) (range_with_len 0 voices) in
@@ -175,30 +211,26 @@ pub record IsSingable (ex : Exercise) : Type 0 where
   pub whole_cantus : length ex.cantus ≡ ex.bars
 
 -- a setting is read from the lines of its free voices
-pub sung_score-own : (ex : Exercise) (score : Grid) (after m : ℕ) → IsSingable ex → IsSettingOf ex score
-    → sung_score ex (left after (own_lines m (map (λ v. sing_words v score.columns) (free_voices ex)))) ≡ Ok score
+pub sung_score-own : (ex : Exercise) (score : Grid) (after : ℕ) (lay : ℕ → LineWords) (lines : List (List (List ℕ)))
+    → IsSingable ex
+    → IsSettingOf ex score → AreSung ex.bars (λ w. line w score.columns) (free_voices ex) lines
+    → sung_score ex (left after (lines_at lay lines)) ≡ Ok score
 unfolding sung_score no_line
-sung_score-own ex score after m can setting =
+sung_score-own ex score after lay lines can setting sung =
     let columns = score.columns in
     let long : length columns ≡ 8 * ex.bars = setting.given.complete.whole in
     let has : HasVoices ex columns =
     record {
       some = can.some_bars;
       few = omega (arith, can.most_voices);
-      long = long;
       follows = λ v. line-follows_own v columns setting.follows;
       cantus = cantus_line-cells ex columns (long ∙ ap (λ n. 8 * n) (sym can.whole_cantus)) setting.given.cantus;
     } in
-    rw (voices-own ex columns after has ex.voices 0 [] m (omega arith))
+    rw (voices-own ex columns after has ex.voices 0 [] (omega arith) lay lines sung)
     (ap Ok (score-own ex.bars ex.voices columns long setting.full
     ∙ ap (λ n. record { voices = n; columns = columns }) (sym setting.given.complete.voices)))
 
 -- ---- a setting, or none
-
--- the `sing` lines of a setting, or none
-abbrev pub sung_lines : Exercise → Option Grid → List (List (List ℕ))
-sung_lines ex None = []
-sung_lines ex (Some score) = map (λ v. sing_words v score.columns) (free_voices ex)
 
 first_free : (cantus voices : ℕ) → 2 ≤ voices
     → (v : ℕ) × (vs : List ℕ) × (filter (λ w. not (w == cantus)) (range_with_len 0 voices) ≡ v ∷ vs)
@@ -210,18 +242,63 @@ first_free (suc c) (suc (suc n)) some =
     let no : (0 == suc c) ≡ false = ne_eqb 0 (suc c) (λ e. omega (arith, e)) in
     (0, filter p (range_with_len 1 (suc n)), rw no refl)
 
-begins_sing : (columns : List (List Cell)) (vs : List ℕ) (after m v : ℕ)
-    → begins (codes "sing") (left after (own_lines m (map (λ w. sing_words w columns) (v ∷ vs)))) ≡ true
-unfolding begins
-begins_sing columns vs after m v = refl
+-- the first of these lines begins with `sing`
+abbrev pub BeginWithSing : List (List (List ℕ)) → Type 0
+BeginWithSing [] = ⊤
+BeginWithSing (words ∷ lines) = (others : List (List ℕ)) × (words ≡ codes "sing" ∷ others)
 
-pub setting-own : (ex : Exercise) (o : Option Grid) (after m : ℕ) → IsSingable ex → IfSome o (IsSettingOf ex)
-    → setting_in ex (left after (own_lines m (sung_lines ex o))) ≡ Ok o
+sung-begin : (bars : ℕ) (cells : ℕ → List Cell) (vs : List ℕ) (lines : List (List (List ℕ)))
+    → AreSung bars cells vs lines
+    → BeginWithSing lines
+sung-begin bars cells vs [] sung = tt
+sung-begin bars cells [] (words ∷ lines) sung = absurd sung
+sung-begin bars cells (v ∷ vs) (words ∷ lines) sung =
+    (decimal v ∷ between_bar_lines (map (map item_word) sung.0.items), sung.0.written)
+
+pub sings-begin : (ex : Exercise) (lines : List (List (List ℕ))) (o : Option Grid) → Sings ex lines o
+    → BeginWithSing lines
+sings-begin ex lines None none = subst BeginWithSing (sym none) tt
+sings-begin ex lines (Some score) sings = sung-begin ex.bars (λ w. line w score.columns) (free_voices ex) lines sings.1
+
+-- where there is a line for the first voice, it begins so
+begins-first : (bars : ℕ) (cells : ℕ → List Cell) (v : ℕ) (vs : List ℕ) (after : ℕ) (lay : ℕ → LineWords)
+    (lines : List (List (List ℕ)))
+    → AreSung bars cells (v ∷ vs) lines → begins (codes "sing") (left after (lines_at lay lines)) ≡ true
+unfolding begins
+begins-first bars cells v vs after lay [] sung = absurd sung
+begins-first bars cells v vs after lay (words ∷ lines) sung =
+    subst (λ ws. begins (codes "sing") (left after (lines_at lay (ws ∷ lines))) ≡ true) (sym sung.0.written) refl
+
+pub setting-own : (ex : Exercise) (o : Option Grid) (after : ℕ) (lay : ℕ → LineWords) (lines : List (List (List ℕ)))
+    → IsSingable ex
+    → Sings ex lines o → setting_in ex (left after (lines_at lay lines)) ≡ Ok o
 unfolding setting_in begins no_line
-setting-own ex None after m can setting = refl
-setting-own ex (Some score) after m can setting =
+setting-own ex None after lay lines can none =
+    subst (λ found. setting_in ex (left after (lines_at lay found)) ≡ Ok None) (sym none) refl
+setting-own ex (Some score) after lay lines can sings =
     let first = first_free ex.cantus_voice ex.voices can.fewest_voices in
-    let sings : begins (codes "sing") (left after (own_lines m (sung_lines ex (Some score)))) ≡ true =
-    ap (λ vs. begins (codes "sing") (left after (own_lines m (map (λ v. sing_words v score.columns) vs)))) first.2
-    ∙ begins_sing score.columns first.1 after m first.0 in
-    rw (sings, sung_score-own ex score after m can setting) refl
+    rw (
+      begins-first ex.bars (λ w. line w score.columns) first.0 first.1 after lay lines
+          (subst (λ vs. AreSung ex.bars (λ w. line w score.columns) vs lines) first.2 sings.1),
+      sung_score-own ex score after lay lines can sings.0 sings.1,
+    ) refl
+
+-- ---- the lines that are written
+
+-- the `sing` lines of a setting, or none
+abbrev pub sung_lines : Exercise → Option Grid → List (List (List ℕ))
+sung_lines ex None = []
+sung_lines ex (Some score) = map (λ v. sing_words v score.columns) (free_voices ex)
+
+-- the lines that are written of a setting are lines of it
+pub sung_lines-sing : (ex : Exercise) (o : Option Grid) → IfSome o (IsSettingOf ex) → Sings ex (sung_lines ex o) o
+sung_lines-sing ex None setting = refl
+sung_lines-sing ex (Some score) setting = (setting, all (free_voices ex))
+  where
+    all : (vs : List ℕ) → AreSung ex.bars (λ w. line w score.columns) vs (map (λ v. sing_words v score.columns) vs)
+    all [] = tt
+    all (v ∷ vs) = (
+      sing_words-sung ex.bars v score.columns setting.given.complete.whole
+          (line-follows_own v score.columns setting.follows),
+      all vs,
+    )

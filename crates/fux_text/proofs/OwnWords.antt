@@ -72,9 +72,11 @@ each-own : (voices b : ℕ) → AllOwn voices → 1 ≤ b → b < 2 ^ voices
     → voices_named voices (voices_word (Some (record { bits = b }))) ≡ Some (Some (record { bits = b }))
 each-own voices b all low high =
     let count = 2 ^ voices - 1 in
-    let at : get_or (range_with_len 1 count) (b - 1) 0 ≡ b = get_or-range_with_len 1 count (b - 1) 0 (omega arith) ∙ omega arith in
+    let at : get_or (range_with_len 1 count) (b - 1) 0 ≡ b = get_or-range_with_len 1 count (b - 1) 0 (omega arith)
+    ∙ omega arith in
     own-is b _ (subst (λ n. reads_own voices n ≡ true) at
-    (AllPass-from_list_all (reads_own voices) (range_with_len 1 count) all (b - 1) 0 (omega (arith, length-range_with_len 1 count))))
+    (AllPass-from_list_all (reads_own voices) (range_with_len 1 count) all (b - 1) 0
+    (omega (arith, length-range_with_len 1 count))))
 
 all-own : (voices : ℕ) → 1 ≤ voices → voices ≤ 4 → AllOwn voices
 all-own zero low high = absurd (omega arith)

@@ -28,7 +28,8 @@ use Rattle.fux_grid.specs.Letters.{bar_columns}
 use Rattle.fux_text.specs.Items.{goes_on, item_name, item_word, items_of_cells, with_run}
 use Rattle.fux_text.specs.Lines.{bar_words, bars_words, between_bar_lines, cantus_words, exercise_lines, head_lines, mode_name, range_words, relax_words, sing_words, voices_word}
 use Rattle.fux_text.proofs.ItemLemmas.{with_run-broken}
-use Rattle.fux_text.proofs.OwnItems.{items_words, with_run-longer}
+use Rattle.fux_text.proofs.OwnBars.{items_words}
+use Rattle.fux_text.proofs.OwnItems.{with_run-longer}
 use Rattle.fux_text.proofs.OwnSetting.{sung_lines}
 use Rattle.fux_text.proofs.PlainWords.{is_ink, is_line, is_word, word_ink}
 
@@ -48,7 +49,8 @@ word-append w xs e f =
     some (b ∷ bs) e = omega arith
 
 digit-ink : (d : ℕ) → d < 10 → is_ink (48 + d) ≡ true
-digit-ink d lt = and_from (nat_lt 32 (48 + d)) (nat_lt (48 + d) 127) (lt-ltb 32 (48 + d) (omega (arith, lt))) (lt-ltb (48 + d) 127 (omega (arith, lt)))
+digit-ink d lt = and_from (nat_lt 32 (48 + d)) (nat_lt (48 + d) 127) (lt-ltb 32 (48 + d) (omega (arith, lt)))
+    (lt-ltb (48 + d) 127 (omega (arith, lt)))
 
 digit-word : (d : ℕ) → d < 10 → is_word ((48 + d) ∷ []) ≡ true
 digit-word d lt = and_from (is_ink (48 + d)) true (digit-ink d lt) refl
@@ -56,7 +58,8 @@ digit-word d lt = and_from (is_ink (48 + d)) true (digit-ink d lt) refl
 number-word : (n : ℕ) → n ≤ 9999999 → is_word (decimal n) ≡ true
 number-word n few =
     decimal_by_steps (λ m ds. is_word ds ≡ true) digit-word
-    (λ m ds ten e. word-append ds ((48 + m % 10) ∷ []) e (and_from (is_ink (48 + m % 10)) true (digit-ink (m % 10) (omega arith)) refl))
+    (λ m ds ten e. word-append ds ((48 + m % 10) ∷ []) e
+    (and_from (is_ink (48 + m % 10)) true (digit-ink (m % 10) (omega arith)) refl))
     n (omega (arith, few))
 
 name-word : (p : Pitch) → is_word (name_of p) ≡ true
@@ -96,7 +99,8 @@ bars_words-plain None bars few h = refl
 bars_words-plain (Some (from, to)) bars few h =
     rw (number-word from (omega (arith, h, few)), number-word to (omega (arith, h, few))) refl
 
-range-plain : (ex : Exercise) (r : RangeLine) → ex.voices ≤ 4 → ex.bars ≤ 24 → IsRangeLine ex r → is_line (range_words r) ≡ true
+range-plain : (ex : Exercise) (r : RangeLine) → ex.voices ≤ 4 → ex.bars ≤ 24 → IsRangeLine ex r
+    → is_line (range_words r) ≡ true
 range-plain ex r voices bars fits =
     rw (
       number-word r.voice (omega (arith, fits.free.there, voices)),
@@ -109,7 +113,8 @@ ranges-plain : (ex : Exercise) (rs : List RangeLine) → ex.voices ≤ 4 → ex.
     → list_all is_line (map range_words rs) ≡ true
 ranges-plain ex [] voices bars fit = refl
 ranges-plain ex (r ∷ rs) voices bars fit =
-    and_from (is_line (range_words r)) (list_all is_line (map range_words rs)) (range-plain ex r voices bars (fit 0 r (omega arith)))
+    and_from (is_line (range_words r)) (list_all is_line (map range_words rs))
+    (range-plain ex r voices bars (fit 0 r (omega arith)))
     (ranges-plain ex rs voices bars (λ k d lt. fit (suc k) d (omega arith)))
 
 -- a set of voices, of which there is one at least
@@ -153,7 +158,8 @@ relaxes-plain : (ex : Exercise) (rs : List Relax) → ex.voices ≤ 4 → ex.bar
     → list_all is_line (map relax_words rs) ≡ true
 relaxes-plain ex [] voices bars fit = refl
 relaxes-plain ex (r ∷ rs) voices bars fit =
-    and_from (is_line (relax_words r)) (list_all is_line (map relax_words rs)) (relax-plain ex r voices bars (fit 0 r (omega arith)))
+    and_from (is_line (relax_words r)) (list_all is_line (map relax_words rs))
+    (relax-plain ex r voices bars (fit 0 r (omega arith)))
     (relaxes-plain ex rs voices bars (λ k d lt. fit (suc k) d (omega arith)))
 
 pub exercise_lines-plain : (ex : Exercise) → IsValid ex → list_all is_line (exercise_lines ex) ≡ true
@@ -186,7 +192,8 @@ run-plain (d ∷ ds) c n few =
     Plain : List (Cell × ℕ) → Type 0
     Plain items = list_all is_word (map item_word items) ≡ true
 
-    by : (b : Bool) → goes_on c d ≡ b → Plain (with_run c (n + 1) (items_of_cells ds)) → Plain (with_run d 1 (items_of_cells ds))
+    by : (b : Bool) → goes_on c d ≡ b → Plain (with_run c (n + 1) (items_of_cells ds))
+        → Plain (with_run d 1 (items_of_cells ds))
         → Plain (with_run c n (with_run d 1 (items_of_cells ds)))
     by true e longer rest = subst Plain (sym (with_run-longer c d n 1 (items_of_cells ds) e)) longer
     by false e longer rest =
@@ -198,18 +205,26 @@ items-plain : (cs : List Cell) → length cs ≤ 9999999 → list_all is_word (i
 items-plain [] few = refl
 items-plain (c ∷ cs) few = run-plain cs c 1 (omega (arith, few))
 
-bar-plain : (v : ℕ) (columns : List (List Cell)) (bar : ℕ) → list_all is_word (bar_words v (bar_columns columns bar)) ≡ true
+bar-plain : (v : ℕ) (columns : List (List Cell)) (bar : ℕ) → list_all is_word (bar_words v (bar_columns columns bar))
+    ≡ true
 bar-plain v columns bar =
     items-plain (line v (bar_columns columns bar))
-    (omega (arith, length-map (bar_columns columns bar) (λ col. cell_in col v), length-take 8 (drop (8 * (bar - 1)) columns)))
+    (omega (
+      arith,
+      length-map (bar_columns columns bar) (λ col. cell_in col v),
+      length-take 8
+          (drop (8 * (bar - 1)) columns),
+    ))
 
 later_bars-plain : (v : ℕ) (columns : List (List Cell)) (bars : List ℕ)
-    → list_all is_word (flat_map (λ other. codes "|" ∷ other) (map (bar_words v) (map (bar_columns columns) bars))) ≡ true
+    → list_all is_word (flat_map (λ other. codes "|" ∷ other) (map (bar_words v) (map (bar_columns columns) bars)))
+    ≡ true
 later_bars-plain v columns [] = refl
 later_bars-plain v columns (bar ∷ bars) =
     let others = flat_map (λ other. codes "|" ∷ other) (map (bar_words v) (map (bar_columns columns) bars)) in
     list_all-append is_word (bar_words v (bar_columns columns bar)) others
-    ∙ and_from (list_all is_word (bar_words v (bar_columns columns bar))) (list_all is_word others) (bar-plain v columns bar)
+    ∙ and_from (list_all is_word (bar_words v (bar_columns columns bar))) (list_all is_word others)
+    (bar-plain v columns bar)
     (later_bars-plain v columns bars)
 
 bars-plain : (v : ℕ) (columns : List (List Cell)) (bars : List ℕ)
@@ -218,7 +233,8 @@ bars-plain v columns [] = refl
 bars-plain v columns (bar ∷ bars) =
     let others = flat_map (λ other. codes "|" ∷ other) (map (bar_words v) (map (bar_columns columns) bars)) in
     list_all-append is_word (bar_words v (bar_columns columns bar)) others
-    ∙ and_from (list_all is_word (bar_words v (bar_columns columns bar))) (list_all is_word others) (bar-plain v columns bar)
+    ∙ and_from (list_all is_word (bar_words v (bar_columns columns bar))) (list_all is_word others)
+    (bar-plain v columns bar)
     (later_bars-plain v columns bars)
 
 sing-plain : (v : ℕ) (columns : List (List Cell)) → v ≤ 9999999 → is_line (sing_words v columns) ≡ true
@@ -236,7 +252,8 @@ voices-plain columns keep (suc n) a few = by (keep a) refl (voices-plain columns
     by : (b : Bool) → keep a ≡ b → list_all is_line (lines (filter keep (range_with_len (a + 1) n))) ≡ true
         → list_all is_line (lines (filter keep (a ∷ range_with_len (a + 1) n))) ≡ true
     by true e rest =
-        rw e (and_from (is_line (sing_words a columns)) (list_all is_line (lines (filter keep (range_with_len (a + 1) n))))
+        rw e (and_from (is_line (sing_words a columns))
+        (list_all is_line (lines (filter keep (range_with_len (a + 1) n))))
         (sing-plain a columns (omega (arith, few))) rest)
     by false e rest = rw e rest
 

@@ -1,8 +1,8 @@
--- A text that is written of words is read as its lines, with these words in them (`text_in-own`).
-use Rattle.std.proofs.Common.{◌≡◌, ℕ, ◌+◌, ◌-◌, ◌<◌, ◌≤◌, Bool, true, false, List, [], ◌∷◌, ◌++◌, get_or, length, map, Ok, refl, ap, ◌∙◌, append_assoc, arith}
+-- A text that is written of words has lines with these words in them (`words_in-own`).
+use Rattle.std.proofs.Common.{◌≡◌, ℕ, ◌+◌, ◌-◌, ◌<◌, Bool, true, false, List, [], ◌∷◌, ◌++◌, get_or, length, map, refl, ap, ◌∙◌, append_assoc, arith}
 use Rattle.std.specs.Prelude.{◌==◌, ◌&&◌, not, All, nat_lt, slice_index}
 use Rattle.std.specs.List.{join_with_byte, list_all, slice_split}
-use Rattle.std.specs.Str.{IsAscii}
+use Rattle.std.specs.Str.{IsAscii, IsUtf8}
 use Rattle.std.specs.Str.Lines.{lines, lines_of_parts, strip_carriage_return}
 use Rattle.std.proofs.lemmas.Bool.{and_parts, and_from}
 use Rattle.std.proofs.lemmas.List.Folds.{list_all-append}
@@ -11,11 +11,9 @@ use Rattle.std.proofs.lemmas.List.Sums.{AllPass-from_list_all}
 use Rattle.std.proofs.lemmas.Str.{IsAscii-append, IsUtf8-from_ascii}
 use Rattle.std.proofs.lemmas.Str.Ascii.{IsAscii-cons, IsAscii-from_all, IsAscii-nil}
 use Rattle.text_lines.specs.Lines.{is_comment, is_skipped, line_words, lines_from, numbered}
-use Rattle.text_lines.specs.Utf8.{text_in}
-use Rattle.text_lines.specs.Words.{LineWords, PlacedWord, is_blank, placed, words_from}
-use Rattle.text_lines.proofs.Faulty.{text_in-ok}
+use Rattle.text_lines.specs.Words.{is_blank, placed, words_from}
 use Rattle.text_lines.proofs.Parts.{lines_of_parts-more}
-use Rattle.fux_text.specs.Words.{text_line, text_of}
+use Rattle.fux_text.specs.Words.{texts, words_in, text_line, text_of}
 
 -- a byte of a word: it is printed, and no blank
 abbrev pub is_ink : ℕ → Bool
@@ -30,25 +28,13 @@ abbrev pub is_line : List (List ℕ) → Bool
 is_line [] = false
 is_line (w ∷ ws) = not (is_comment w) && list_all is_word (w ∷ ws)
 
--- the words of a line, from a column on, with one space between them
-abbrev pub set_out : ℕ → ℕ → List (List ℕ) → List PlacedWord
-set_out line column [] = []
-set_out line column (w ∷ ws) = record { line = line; column = column; text = w } ∷ set_out line (column + length w + 1) ws
-
--- a line that is written, and lines from a number on
-abbrev pub own_line : ℕ → List (List ℕ) → LineWords
-own_line number ws = record { line = number; past = 1; end = 1 + length (join_with_byte 32 ws); words = set_out number 1 ws }
-
-abbrev pub own_lines : ℕ → List (List (List ℕ)) → List LineWords
-own_lines number [] = []
-own_lines number (ws ∷ lines) = own_line number ws ∷ own_lines (number + 1) lines
-
 -- a byte of a line
 abbrev is_plain : ℕ → Bool
 is_plain b = nat_lt 31 b && nat_lt b 127
 
 plain_if_ink : (b : ℕ) → is_ink b ≡ true → is_plain b ≡ true
-plain_if_ink b e = let p = and_parts (nat_lt 32 b) (nat_lt b 127) e in and_from (nat_lt 31 b) (nat_lt b 127) (grind (arith, p.0)) p.1
+plain_if_ink b e = let p = and_parts (nat_lt 32 b) (nat_lt b 127) e in and_from (nat_lt 31 b) (nat_lt b 127)
+    (grind (arith, p.0)) p.1
 
 ink_no_blank : (b : ℕ) → is_ink b ≡ true → is_blank b ≡ false
 ink_no_blank b e = let p = and_parts (nat_lt 32 b) (nat_lt b 127) e in grind (arith, p.0)
@@ -63,7 +49,8 @@ plain_ascii : (b : ℕ) → is_plain b ≡ true → b < 128
 plain_ascii b e = let p = and_parts (nat_lt 31 b) (nat_lt b 127) e in grind (arith, p.1)
 
 -- what holds of each byte that passes a test holds of all bytes of such a text
-each : (test : ℕ → Bool) (P : ℕ → Type 0) (xs : List ℕ) → ((b : ℕ) → test b ≡ true → P b) → list_all test xs ≡ true → All P xs
+each : (test : ℕ → Bool) (P : ℕ → Type 0) (xs : List ℕ) → ((b : ℕ) → test b ≡ true → P b) → list_all test xs ≡ true
+    → All P xs
 each test P xs f e = λ k d lt. f (get_or xs k d) (AllPass-from_list_all test xs e k d lt)
 
 all_plain : (xs : List ℕ) → list_all is_ink xs ≡ true → list_all is_plain xs ≡ true
@@ -89,24 +76,27 @@ words_plain (w ∷ next ∷ ws) e =
 words_split : (w : List ℕ) (ws : List (List ℕ)) → list_all is_word (w ∷ ws) ≡ true
     → slice_split is_blank (join_with_byte 32 (w ∷ ws)) ≡ w ∷ ws
 words_split w [] e =
-    slice_split_none is_blank w (each is_ink (λ b. is_blank b ≡ false) w ink_no_blank (word_ink w (and_parts (is_word w) true e).0))
+    slice_split_none is_blank w
+    (each is_ink (λ b. is_blank b ≡ false) w ink_no_blank (word_ink w (and_parts (is_word w) true e).0))
 words_split w (next ∷ ws) e =
     let p = and_parts (is_word w) (list_all is_word (next ∷ ws)) e in
     slice_split_at is_blank w 32 (join_with_byte 32 (next ∷ ws))
     (each is_ink (λ b. is_blank b ≡ false) w ink_no_blank (word_ink w p.0)) refl
     ∙ ap (λ parts. w ∷ parts) (words_split next ws p.1)
 
-placed-own : (line column : ℕ) (ws : List (List ℕ)) → list_all is_word ws ≡ true → placed line column ws ≡ set_out line column ws
+placed-own : (line column : ℕ) (ws : List (List ℕ)) → list_all is_word ws ≡ true
+    → map (λ w. w.text) (placed line column ws) ≡ ws
 placed-own line column [] e = refl
 placed-own line column ([] ∷ ws) e = absurd (grind (arith, e))
 placed-own line column ((b ∷ bs) ∷ ws) e =
-    ap (λ more. record { line = line; column = column; text = b ∷ bs } ∷ more)
+    ap (λ more. (b ∷ bs) ∷ more)
     (placed-own line (column + length (b ∷ bs) + 1) ws (and_parts (is_word (b ∷ bs)) (list_all is_word ws) e).1)
 
 words_from-own : (line : ℕ) (w : List ℕ) (ws : List (List ℕ)) → list_all is_word (w ∷ ws) ≡ true
-    → words_from line 1 (join_with_byte 32 (w ∷ ws)) ≡ set_out line 1 (w ∷ ws)
+    → map (λ x. x.text) (words_from line 1 (join_with_byte 32 (w ∷ ws))) ≡ w ∷ ws
 unfolding words_from
-words_from-own line w ws e = ap (placed line 1) (words_split w ws e) ∙ placed-own line 1 (w ∷ ws) e
+words_from-own line w ws e =
+    ap (λ parts. map (λ x. x.text) (placed line 1 parts)) (words_split w ws e) ∙ placed-own line 1 (w ∷ ws) e
 
 -- a line is no comment and has words, so it isn't skipped
 inked_kept : (b : ℕ) (bs : List ℕ) → not (b == 59) ≡ true → is_ink b ≡ true → is_skipped (b ∷ bs) ≡ false
@@ -123,9 +113,9 @@ line_kept (b ∷ bs) [] n e = inked_kept b bs n (and_parts (is_ink b) (list_all 
 line_kept (b ∷ bs) (next ∷ ws) n e =
     inked_kept b (bs ++ 32 ∷ join_with_byte 32 (next ∷ ws)) n (and_parts (is_ink b) (list_all is_ink bs) e).0
 
--- lines that are written are numbered so, with their words
+-- lines that are written have these words
 numbered-own : (number : ℕ) (ls : List (List (List ℕ))) → list_all is_line ls ≡ true
-    → numbered number (map (join_with_byte 32) ls) ≡ own_lines number ls
+    → map texts (numbered number (map (join_with_byte 32) ls)) ≡ ls
 numbered-own number [] e = refl
 numbered-own number ([] ∷ ls) e = absurd (grind (arith, e))
 numbered-own number ((w ∷ ws) ∷ ls) e =
@@ -135,10 +125,10 @@ numbered-own number ((w ∷ ws) ∷ ls) e =
     let kept : numbered number (map (join_with_byte 32) ((w ∷ ws) ∷ ls))
     ≡ line_words number (join_with_byte 32 (w ∷ ws)) ∷ numbered (number + 1) (map (join_with_byte 32) ls) =
     rw (line_kept w ws q.0 r.0) refl in
-    kept
-    ∙ ap (λ placed_words. record { line = number; past = 1; end = 1 + length (join_with_byte 32 (w ∷ ws)); words = placed_words }
-    ∷ numbered (number + 1) (map (join_with_byte 32) ls)) (words_from-own number w ws q.1)
-    ∙ ap (λ more. own_line number (w ∷ ws) ∷ more) (numbered-own (number + 1) ls p.1)
+    ap (map texts) kept
+    ∙ ap (λ first. first ∷ map texts (numbered (number + 1) (map (join_with_byte 32) ls)))
+    (words_from-own number w ws q.1)
+    ∙ ap (λ more. (w ∷ ws) ∷ more) (numbered-own (number + 1) ls p.1)
 
 -- no carriage return ends a line
 strip-plain : (xs : List ℕ) → list_all is_plain xs ≡ true → strip_carriage_return xs ≡ xs
@@ -184,13 +174,10 @@ text-ascii (ws ∷ ls) e =
     (IsAscii-cons 10 [] (omega arith) IsAscii-nil))
     (text-ascii ls p.1)
 
-lines_from-own : (ls : List (List (List ℕ))) → list_all is_line ls ≡ true → lines_from 1 (text_of ls) ≡ own_lines 1 ls
-unfolding lines_from
-lines_from-own ls e = ap (numbered 1) (lines-own ls e) ∙ numbered-own 1 ls e
+-- a text of lines is UTF-8, and has these lines with these words
+pub text-utf8 : (ls : List (List (List ℕ))) → list_all is_line ls ≡ true → IsUtf8 (text_of ls)
+text-utf8 ls e = IsUtf8-from_ascii (text_of ls) (text-ascii ls e)
 
--- a text of lines that isn't too long is read as these lines
-pub text_in-own : (ls : List (List (List ℕ))) → list_all is_line ls ≡ true → length (text_of ls) ≤ 65536
-    → text_in (text_of ls) ≡ Ok (record { after = 1 + length (lines (text_of ls)); lines = own_lines 1 ls })
-text_in-own ls e short =
-    text_in-ok (text_of ls) short (IsUtf8-from_ascii (text_of ls) (text-ascii ls e))
-    ∙ ap (λ found. Ok (record { after = 1 + length (lines (text_of ls)); lines = found })) (lines_from-own ls e)
+pub words_in-own : (ls : List (List (List ℕ))) → list_all is_line ls ≡ true → words_in (text_of ls) ≡ ls
+unfolding lines_from words_in
+words_in-own ls e = ap (λ bytes. map texts (numbered 1 bytes)) (lines-own ls e) ∙ numbered-own 1 ls e

@@ -25,7 +25,7 @@ headed-rest kind name after line others x e =
     let step = bind_ok (literal kinds.Head name line) (λ words. Ok (words, record { after = after; lines = others })) x e in
     pair_rest step.0 (record { after = after; lines = others }) x _ refl step.2
 
-range_line-rest : (ex : Exercise) (before : List RangeLine) (after : ℕ) (line : LineWords) (others : List LineWords)
+pub range_line-rest : (ex : Exercise) (before : List RangeLine) (after : ℕ) (line : LineWords) (others : List LineWords)
     (r : RangeLine) (rest : TextLines) → range_line ex before (record { after = after; lines = line ∷ others }) ≡ Ok (r, rest)
     → rest ≡ record { after = after; lines = others }
 unfolding range_line

@@ -14,7 +14,7 @@ use Rattle.text_lines.proofs.Binds.{bind_ok}
 use Rattle.fux_text.specs.Relaxing.{goes_on, relax_in, relax_line, relax_on}
 use Rattle.fux_text.proofs.RangeLoops.{headed-rest, pair_rest}
 
-relax_line-rest : (ex : Exercise) (after : ℕ) (line : LineWords) (others : List LineWords)
+pub relax_line-rest : (ex : Exercise) (after : ℕ) (line : LineWords) (others : List LineWords)
     (r : Relax) (rest : TextLines) → relax_line ex (record { after = after; lines = line ∷ others }) ≡ Ok (r, rest)
     → rest ≡ record { after = after; lines = others }
 unfolding relax_line

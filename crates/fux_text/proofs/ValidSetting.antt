@@ -45,7 +45,7 @@ cantus_cells-at (p ∷ ps) (suc (suc (suc (suc (suc (suc (suc (suc j)))))))) lt 
     ap (cell_at (p ∷ ps)) eight ∙ cell_at-later p ps j ∙ cantus_cells-at ps j (omega (arith, lt))
 
 -- what is read of voices: those before are kept, and the cantus has its cells
-record KeepsLines (ex : Exercise) (a n : ℕ) (before lines : List (List Cell)) : Type 0 where
+pub record KeepsLines (ex : Exercise) (a n : ℕ) (before lines : List (List Cell)) : Type 0 where
   pub kept : (k : ℕ) → k < a → get_or lines k [] ≡ get_or before k []
   pub cantus : a ≤ ex.cantus_voice → ex.cantus_voice < a + n → get_or lines ex.cantus_voice [] ≡ cantus_cells ex.cantus
 
@@ -68,7 +68,7 @@ voice-cantus ex v text x same e = by (v == ex.cantus_voice) refl e
     by true d e = sym (ap (λ y. y.0) (value_is (cantus_cells ex.cantus, text) x _ refl e))
     by false d e = absurd (grind (arith, d, same))
 
-voices-keep : (ex : Exercise) (n a : ℕ) (before : List (List Cell)) (text : TextLines) (x : List (List Cell) × TextLines)
+pub voices-keep : (ex : Exercise) (n a : ℕ) (before : List (List Cell)) (text : TextLines) (x : List (List Cell) × TextLines)
     → length before ≡ a → voices_in ex (range_with_len a n) before text ≡ Ok x → KeepsLines ex a n before x.0
 unfolding voices_in
 voices-keep ex zero a before text x long e =

@@ -1,6 +1,6 @@
+pub mod Grammar
 pub mod Head
 pub mod Items
-pub mod Limits
 pub mod Lines
 pub mod Names
 pub mod Ranges
@@ -9,4 +9,5 @@ pub mod Reading
 pub mod Relaxing
 pub mod Sing
 pub mod Texts
+pub mod Limits
 pub mod Words

@@ -1,23 +1,18 @@
 -- What is written is read back: the laws that tie the two directions of the note text to one another.
-use Rattle.std.specs.Prelude.{◌≡◌, ℕ, ◌≤◌, List, Option, All, IfSome, length, reverse}
+use Rattle.std.specs.Prelude.{◌≡◌, ◌↔◌, ℕ, Ok, ◌≤◌, List, Option, IfSome, length}
 use Rattle.std.specs.List.{flat_map}
 use Rattle.fux_grid.specs.declared.cell.Cell.{Cell}
 use Rattle.fux_grid.specs.declared.exercise.Exercise.{Exercise}
-use Rattle.fux_grid.specs.Columns.{HistoryFollows}
-use Rattle.fux_grid.specs.Exercises.{IsGiven, IsValid}
+use Rattle.fux_grid.specs.Exercises.{IsValid}
 use Rattle.fux_grid.specs.Grid.{Grid}
+use Rattle.text_lines.specs.declared.fault.TextKind.{TextKind}
+use Rattle.fux_text.specs.Grammar.{IsSettingOf}
 use Rattle.fux_text.specs.Lines.{free_voices, note_text, sing_text}
-use Rattle.fux_text.specs.Texts.{AreSingLinesOf, IsTextOf}
+use Rattle.fux_text.specs.Reading.{exercise_in, setting_alone}
+use Rattle.fux_text.specs.Texts.{AreSingLinesOf, HasFault, IsTextOf}
 
--- a setting of an exercise: a complete score with the cantus, whose columns have a cell for each voice and follow one
--- another (the last two hold of every score of the program)
-pub record IsSettingOf (ex : Exercise) (score : Grid) : Type 0 where
-  pub given : IsGiven ex score
-  pub full : All (λ col. length col ≡ ex.voices) score.columns
-  pub follows : HistoryFollows (reverse score.columns)
-
--- what is written of an exercise, with a setting or without, is the note text of that exercise with that setting, where it
--- isn't too long to be read
+-- what is written of an exercise, with a setting or without, is a note text of that exercise with that setting, where
+-- it isn't too long to be read
 abbrev pub NoteTextReadsBack : Type 0
 NoteTextReadsBack = (ex : Exercise) (score : Option Grid) → IsValid ex → IfSome score (IsSettingOf ex)
     → length (note_text ex score) ≤ 65536 → IsTextOf (note_text ex score) (record ex { setting = score })
@@ -30,3 +25,20 @@ sing_lines ex columns = flat_map (λ v. sing_text v columns) (free_voices ex)
 abbrev pub SingLinesReadBack : Type 0
 SingLinesReadBack = (ex : Exercise) (score : Grid) → IsValid ex → IsSettingOf ex score
     → length (sing_lines ex score.columns) ≤ 65536 → AreSingLinesOf ex (sing_lines ex score.columns) score
+
+-- a text is read as an exercise just where it is a note text of the exercise
+abbrev pub NoteTextsAreRead : Type 0
+NoteTextsAreRead = (bytes : List ℕ) (ex : Exercise) → IsTextOf bytes ex ↔ (exercise_in bytes ≡ Ok ex)
+
+-- so it is of one exercise at most, and has no fault if it is of one
+abbrev pub NoteTextsAreOfOne : Type 0
+NoteTextsAreOfOne = (bytes : List ℕ) (ex other : Exercise) → IsTextOf bytes ex → IsTextOf bytes other → ex ≡ other
+
+abbrev pub NoteTextsHaveNoFault : Type 0
+NoteTextsHaveNoFault = (bytes : List ℕ) (ex : Exercise) (kind : TextKind) (line column : ℕ) → IsTextOf bytes ex
+    → HasFault bytes kind line column → ⊥
+
+-- and `sing` lines alone are read as a setting just where they are its lines
+abbrev pub SingLinesAreRead : Type 0
+SingLinesAreRead = (ex : Exercise) (bytes : List ℕ) (score : Grid) → IsValid ex
+    → AreSingLinesOf ex bytes score ↔ (setting_alone ex bytes ≡ Ok score)

@@ -1,24 +1,25 @@
 -- Which texts are note texts, and where a text is at fault.
-use Rattle.std.specs.Prelude.{◌≡◌, ◌⊎◌, ℕ, List, Ok, Err}
+use Rattle.std.specs.Prelude.{◌≡◌, ◌⊎◌, ℕ, List, Err}
 use Rattle.fux_grid.specs.declared.exercise.Exercise.{Exercise}
 use Rattle.fux_grid.specs.Grid.{Grid}
 use Rattle.text_lines.specs.declared.fault.TextKind.{TextKind}
 use Rattle.text_lines.specs.declared.fault.TextFault.{TextFault}
 use Rattle.text_lines.specs.declared.fault.TextFault.TheVariants as faults
+use Rattle.fux_text.specs.Grammar.{AreSettingLines, IsNoteText}
 use Rattle.fux_text.specs.Reading.{exercise_in, setting_alone}
 
--- the bytes are a note text of the exercise
+-- the bytes are a note text of the exercise: their lines have its words (what is read of them is the exercise just then)
 unfoldable pub IsTextOf : List ℕ → Exercise → Type 0
-IsTextOf bytes ex = exercise_in bytes ≡ Ok ex
+IsTextOf bytes ex = IsNoteText bytes ex
 
--- the bytes are no note text, and this is their first fault
+-- the bytes are no note text, and this is the first fault that reading meets
 unfoldable pub HasFault : List ℕ → TextKind → ℕ → ℕ → Type 0
 HasFault bytes kind line column =
     exercise_in bytes ≡ Err (record { kind = kind; line = line; column = column })
 
 -- the bytes are the `sing` lines of this setting of the exercise
 unfoldable pub AreSingLinesOf : Exercise → List ℕ → Grid → Type 0
-AreSingLinesOf ex bytes score = setting_alone ex bytes ≡ Ok score
+AreSingLinesOf ex bytes score = AreSettingLines ex bytes score
 
 -- the bytes are no such lines, and this is their first fault
 unfoldable pub HasSingFault : Exercise → List ℕ → TextKind → ℕ → ℕ → Type 0

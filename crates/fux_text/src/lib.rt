@@ -17,6 +17,6 @@ mod sing;
 mod sing_lines;
 
 pub use note_text::{sing_line, write};
-pub use read_back::{text_reads_back, words_read_back};
+pub use read_back::{text_reads_back, texts_are_read, words_read_back};
 pub use reading::{read, read_sing};
 pub use text_lines::{TextFault, TextKind};

@@ -10,7 +10,7 @@ ghost use Rattle.fux_pitch.specs.Names.{name_of};
 ghost use Rattle.text_lines.specs.Numbers.{number_of};
 ghost use Rattle.fux_text.specs.Lines.{mode_name, voices_word};
 ghost use Rattle.fux_text.specs.Names.{mode_named, pitch_named};
-ghost use Rattle.fux_text.specs.ReadBack.{NoteTextReadsBack, SingLinesReadBack};
+ghost use Rattle.fux_text.specs.ReadBack.{NoteTextReadsBack, NoteTextsAreOfOne, NoteTextsAreRead, NoteTextsHaveNoFault, SingLinesAreRead, SingLinesReadBack};
 ghost use Rattle.fux_text.specs.Relaxing.{rule_named, voices_named};
 
 /// A law, and nothing to run: a word that is written is read as what it was written of.
@@ -23,7 +23,16 @@ pub fn words_read_back()
         → IfSome set (λ s. (1 ≤ s.bits) × (s.bits < 2 ^ voices)) → voices_named voices (voices_word set) ≡ Some set }
 {}
 
-/// A law, and nothing to run: the text that [`crate::write`] writes is the note text of its exercise with its setting, and
+/// A law, and nothing to run: a text is read as an exercise just where its lines have the exercise's words, so it is of one
+/// exercise at most. Lines of a setting alone are read so, too.
+pub fn texts_are_read()
+    ensures texts { NoteTextsAreRead }
+    ensures one { NoteTextsAreOfOne }
+    ensures faultless { NoteTextsHaveNoFault }
+    ensures sing_lines { SingLinesAreRead }
+{}
+
+/// A law, and nothing to run: the text that [`crate::write`] writes is a note text of its exercise with its setting, and
 /// [`crate::sing_line`]'s lines are those of their setting.
 pub fn text_reads_back()
     ensures note_text { NoteTextReadsBack }

@@ -2,12 +2,14 @@ use Rattle.fux_grid.specs.Exercises.{IsValid}
 use Rattle.fux_text.specs.Reading.{exercise_in}
 use Rattle.fux_text.specs.Texts.{HasFault, IsTextOf}
 use Rattle.fux_text.proofs.Answered.{given-both, given-fault, given-only, given-first}
+use Rattle.fux_text.proofs.ReadTexts.{read-text, text-read}
 use Rattle.fux_text.proofs.ValidText.{exercise-valid}
 use Rattle.fux_text.proofs.reading.read.Goals as goal
 
 pub returns-clause-ok : goal.returns-clause-ok
-unfolding IsTextOf
-returns-clause-ok c = given-both c.exercise_in.result (exercise_in c.args.bytes.now) IsValid c.exercise_in.ensures (λ ex. exercise-valid c.args.bytes.now ex)
+returns-clause-ok c =
+    given-both c.exercise_in.result (exercise_in c.args.bytes.now) (IsTextOf c.args.bytes.now) IsValid c.exercise_in.ensures
+    (read-text c.args.bytes.now) (exercise-valid c.args.bytes.now)
 
 pub returns-clause-fault : goal.returns-clause-fault
 unfolding HasFault
@@ -15,8 +17,8 @@ returns-clause-fault c = λ kind line column e.
     given-fault c.exercise_in.result (exercise_in c.args.bytes.now) kind line column e c.exercise_in.ensures
 
 pub returns-clause-only : goal.returns-clause-only
-unfolding IsTextOf
-returns-clause-only c = λ ex is. given-only c.exercise_in.result (exercise_in c.args.bytes.now) ex is c.exercise_in.ensures
+returns-clause-only c = λ ex is.
+    given-only c.exercise_in.result (exercise_in c.args.bytes.now) ex (text-read c.args.bytes.now ex is) c.exercise_in.ensures
 
 pub returns-clause-first : goal.returns-clause-first
 unfolding HasFault

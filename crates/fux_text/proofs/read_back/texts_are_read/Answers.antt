@@ -1,0 +1,14 @@
+use Rattle.fux_text.proofs.ReadTexts.{sing_texts-read, texts-faultless, texts-of_one, texts-read}
+use Rattle.fux_text.proofs.read_back.texts_are_read.Goals as goal
+
+pub returns-clause-texts : goal.returns-clause-texts
+returns-clause-texts c = texts-read
+
+pub returns-clause-one : goal.returns-clause-one
+returns-clause-one c = texts-of_one
+
+pub returns-clause-faultless : goal.returns-clause-faultless
+returns-clause-faultless c = texts-faultless
+
+pub returns-clause-sing_lines : goal.returns-clause-sing_lines
+returns-clause-sing_lines c = sing_texts-read

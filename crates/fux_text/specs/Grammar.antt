@@ -1,0 +1,70 @@
+-- The grammar of the note text: which words its lines have. But for `sing` lines they are those that are written.
+use Rattle.std.specs.Prelude.{All, reverse, ◌≡◌, ℕ, ◌≤◌, List, [], ◌∷◌, ◌++◌, Option, Some, None, codes, drop, false, length, map, ⊤}
+use Rattle.std.specs.Fmt.{decimal}
+use Rattle.std.specs.List.{AllByRecursion, flat_map, sum_by}
+use Rattle.std.specs.Str.{IsUtf8}
+use Rattle.fux_grid.specs.declared.cell.Cell.{Cell}
+use Rattle.fux_grid.specs.declared.exercise.Exercise.{Exercise}
+use Rattle.fux_grid.specs.Cells.{is_hold}
+use Rattle.fux_grid.specs.Columns.{HistoryFollows, line}
+use Rattle.fux_grid.specs.Exercises.{IsGiven, IsValid}
+use Rattle.fux_grid.specs.Grid.{Grid}
+use Rattle.fux_text.specs.Items.{item_word}
+use Rattle.fux_text.specs.Lines.{between_bar_lines, exercise_lines, free_voices}
+use Rattle.fux_text.specs.Sing.{item_cells}
+use Rattle.fux_text.specs.Words.{words_in}
+
+-- the items of a bar: their lengths sum to 8, and none but the first goes on with what sounded
+pub record IsBar (items : List (Cell × ℕ)) : Type 0 where
+  pub whole : sum_by (λ item. item.1) items ≡ 8
+  pub some : AllByRecursion (λ item. 1 ≤ item.1) items
+  pub ties : AllByRecursion (λ item. is_hold item.0 ≡ false) (drop 1 items)
+
+-- the cells of items, and of bars of items
+abbrev pub cells_of : List (Cell × ℕ) → List Cell
+cells_of items = flat_map (λ item. item_cells item.0 item.1) items
+
+abbrev pub cells_of_bars : List (List (Cell × ℕ)) → List Cell
+cells_of_bars bars = flat_map cells_of bars
+
+-- the words of a `sing` line: its voice, and so many bars, whose items have these cells
+pub record IsSung (bars v : ℕ) (words : List (List ℕ)) (cells : List Cell) : Type 0 where
+  pub items : List (List (Cell × ℕ))
+  pub written : words ≡ codes "sing" ∷ decimal v ∷ between_bar_lines (map (map item_word) items)
+  pub count : length items ≡ bars
+  pub whole : AllByRecursion IsBar items
+  pub sounds : cells ≡ cells_of_bars items
+
+-- a setting of an exercise: a complete score with the cantus, whose columns have a cell for each voice and follow one
+-- another (the last two hold of every score of the program)
+pub record IsSettingOf (ex : Exercise) (score : Grid) : Type 0 where
+  pub given : IsGiven ex score
+  pub full : All (λ col. length col ≡ ex.voices) score.columns
+  pub follows : HistoryFollows (reverse score.columns)
+
+-- a line for each of these voices, in their order, where each voice has such cells
+abbrev pub AreSung : ℕ → (ℕ → List Cell) → List ℕ → List (List (List ℕ)) → Type 0
+AreSung bars cells [] [] = ⊤
+AreSung bars cells [] (words ∷ lines) = ⊥
+AreSung bars cells (v ∷ vs) [] = ⊥
+AreSung bars cells (v ∷ vs) (words ∷ lines) = IsSung bars v words (cells v) × AreSung bars cells vs lines
+
+-- the lines of a setting, one for each free voice, or no lines
+abbrev pub Sings : Exercise → List (List (List ℕ)) → Option Grid → Type 0
+Sings ex lines None = lines ≡ []
+Sings ex lines (Some score) = IsSettingOf ex score × AreSung ex.bars (λ v. line v score.columns) (free_voices ex) lines
+
+-- a note text of an exercise: it has the exercise's lines, and then those of its setting, if it has one
+pub record IsNoteText (bytes : List ℕ) (ex : Exercise) : Type 0 where
+  pub short : length bytes ≤ 65536
+  pub utf8 : IsUtf8 bytes
+  pub sung : List (List (List ℕ))
+  pub lines : words_in bytes ≡ exercise_lines ex ++ sung
+  pub valid : IsValid ex
+  pub setting : Sings ex sung ex.setting
+
+-- the `sing` lines of a setting of an exercise, and no others
+pub record AreSettingLines (ex : Exercise) (bytes : List ℕ) (score : Grid) : Type 0 where
+  pub short : length bytes ≤ 65536
+  pub utf8 : IsUtf8 bytes
+  pub setting : Sings ex (words_in bytes) (Some score)
