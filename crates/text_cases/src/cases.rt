@@ -81,7 +81,7 @@ pub const CASES: &[u8] = b"\
     head 4 1\x01fux 1\nmode lydian\nvoices 2\nbrrs 3\nspecies 1 voice 1\ncantus 0 F3 G3 E#3\nrange 1 C4 D5\nrange 1 Cb4 D5 3 3\nrange 1 D4 D5 2 3\nsing 1 F4:8 | A#4:8 | G4:8\n\x00\
     cantus 6 8\x01fux 1\nmode ionian\nvoices 2\nbars 5\nspecies 1 voice 1\ncantus 0E977 C4 D4 E4 D4 C4\nrange 1 E3 F4\nsing 1 Ab3:8 | A3:8 | B3:8 | A\x00\
     head 1 1\x01fCx41\x00\
-    word 5 9\x01fux 1\nmode ionian\nvoices 2\nbars 3\nspecies 2 voice 1\ncantus 0 C3 D3 C3\nrange 1 F2 E#3\nsing 1 G2:4 G2:1 r:2 B2:1 | r:1 C2:1 r:6 | G:8\n\x00\
+    pitch 8 44\x01fux 1\nmode ionian\nvoices 2\nbars 3\nspecies 2 voice 1\ncantus 0 C3 D3 C3\nrange 1 F2 E#3\nsing 1 G2:4 G2:1 r:2 B2:1 | r:1 C2:1 r:6 | G:8\n\x00\
     ok\x01fux 1\nmode dorian\nvoices 2\nbars 3\nspecies 1 voice 1\ncantus 0 D4 E4 D4\nrange 1 A4 D5\n\x00\
     ok\x01fux 1\nmode dorian\nvoices 2\nbars 3\nspecies 1 voice 1\ncantus 0 D4 E4 D4\nrange 1 A4 D5\nsing 1 D5:8 | C#5:8 | D5:8\n\x00\
     head 1 1\x01\x00\
@@ -89,7 +89,8 @@ pub const CASES: &[u8] = b"\
     cantus 6 15\x01fux 1\nmode dorian\nvoices 2\nbars 3\nspecies 1 voice 1\ncantus 0 D4 E4\nrange 1 A4 D5\n\x00\
     length 8 21\x01fux 1\nmode dorian\nvoices 2\nbars 3\nspecies 1 voice 1\ncantus 0 D4 E4 D4\nrange 1 A4 D5\nsing 1 D5:8 | C#5:7 | D5:8\n\x00\
     pitch 8 23\x01fux 1\nmode dorian\nvoices 2\nbars 3\nspecies 1 voice 1\ncantus 0 D4 E4 D4\nrange 1 A4 D5\nsing 1 D5:8 | C#5:8 | H5:8\n\x00\
-    word 5 9\x01fux 1\nmode dorian\nvoices 2\nbars 3\nspecies 2 voice 1\ncantus 0 D4 E4 D4\nrange 1 A4 D5\n\x00\
+    word 5 9\x01fux 1\nmode dorian\nvoices 2\nbars 3\nspecies 6 voice 1\ncantus 0 D4 E4 D4\nrange 1 A4 D5\n\x00\
+    ok\x01fux 1\nmode dorian\nvoices 2\nbars 3\nspecies 2 voice 1\ncantus 0 D4 E4 D4\nrange 1 A4 D5\n\x00\
     ok\x01fux\t1\r\nmode\tdorian\r\nvoices\t2\r\nbars\t3\r\nspecies\t1\tvoice\t1\r\ncantus\t0\tD4\tE4\tD4\r\nrange\t1\tA4\tD5\r\n; comment\n\x00\
     head 1 1\x01\xef\xbb\xbffux 1\nmode dorian\nvoices 2\nbars 3\nspecies 1 voice 1\ncantus 0 D4 E4 D4\nrange 1 A4 D5\n\x00\
     word 1 5\x01fux 2\nmode dorian\nvoices 2\nbars 3\nspecies 1 voice 1\ncantus 0 D4 E4 D4\nrange 1 A4 D5\n\x00\
@@ -98,7 +99,8 @@ pub const CASES: &[u8] = b"\
     word 2 6\x01fux 1\nmode Dorian\nvoices 2\nbars 3\nspecies 1 voice 1\ncantus 0 D4 E4 D4\nrange 1 A4 D5\n\x00\
     word 2 5\x01fux 1\nmode\nvoices 2\nbars 3\nspecies 1 voice 1\ncantus 0 D4 E4 D4\nrange 1 A4 D5\n\x00\
     word 2 13\x01fux 1\nmode dorian x\nvoices 2\nbars 3\nspecies 1 voice 1\ncantus 0 D4 E4 D4\nrange 1 A4 D5\n\x00\
-    word 3 8\x01fux 1\nmode dorian\nvoices 3\nbars 3\nspecies 1 voice 1\ncantus 0 D4 E4 D4\nrange 1 A4 D5\n\x00\
+    word 3 8\x01fux 1\nmode dorian\nvoices 5\nbars 3\nspecies 1 voice 1\ncantus 0 D4 E4 D4\nrange 1 A4 D5\n\x00\
+    range 8 1\x01fux 1\nmode dorian\nvoices 3\nbars 3\nspecies 1 voice 1\ncantus 0 D4 E4 D4\nrange 1 A4 D5\n\x00\
     word 3 8\x01fux 1\nmode dorian\nvoices 02\nbars 3\nspecies 1 voice 1\ncantus 0 D4 E4 D4\nrange 1 A4 D5\n\x00\
     word 3 7\x01fux 1\nmode dorian\nvoices\nbars 3\nspecies 1 voice 1\ncantus 0 D4 E4 D4\nrange 1 A4 D5\n\x00\
     word 3 8\x01fux 1\nmode dorian\nvoices 1\nbars 3\nspecies 1 voice 1\ncantus 0 D4 E4 D4\nrange 1 A4 D5\n\x00\

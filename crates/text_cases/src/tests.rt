@@ -46,7 +46,7 @@ fn reads_each_case(rt: HostRuntime) -> Result<(), Fail> {
         assert_eq!(rt; found.as_bytes(), answer);
         count = count.saturating_add(1);
     }
-    assert_eq!(rt; count, 195);
+    assert_eq!(rt; count, 197);
     Ok(())
 }
 
