@@ -172,6 +172,9 @@ fn is_broken_late(rule: u8, ex: &Exercise, next: &State) -> bool
     ensures { (p : List (List ACell)) (col : List ACell) → HasCome ex.now next.now p col → result ≡ steps.breaks_late ex.now p col rule }
 {
     let places = places_of(rule, ex, next);
+    if places.count == 0 {
+        return false;
+    }
     let sets = sets_of(form_of(rule), ex.voices);
     for k in 0..places.count {
         if breaks_for(rule, ex, next, places.first + k, sets) {

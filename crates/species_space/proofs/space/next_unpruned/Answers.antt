@@ -24,7 +24,7 @@ loop-k-init c =
       within = next.within;
       passed = λ p st own j le lt follows.
           inl (next.passed c.args.exercise.now c.args.node.now.state.newest.len c.requires.skips.skip j le lt
-          (subst (λ b. ColumnFollows b (slice_index_or (items_of columns) j [])) (sym (c.before-before.ensures p st)) follows) p (sym st.len));
+          (subst (λ b. ColumnFollows b (slice_index_or (items_of columns) j [])) (sym (c.before-before.ensures p st)) follows) p (sym st.newest.count));
     }
 
 pub pruned_within-requires-clause-full : goal.pruned_within-requires-clause-full
@@ -71,7 +71,7 @@ loop-k-preserved c =
           (λ j le lt. costly j (c.in-Some.ensures.pruned p st (slice_index_or menu j []) (full j (omega (arith, lt, block.within))) (block.cells j le lt ∙ ap (take c.in-Some.voices) (sym c.column-column.ensures))))
           (λ j le lt follows.
           inl (next.passed ex c.args.node.now.state.newest.len c.requires.skips.skip j le lt
-          (subst (λ b. ColumnFollows b (slice_index_or menu j [])) (sym (c.before-before.ensures p st)) follows) p (sym st.len))));
+          (subst (λ b. ColumnFollows b (slice_index_or menu j [])) (sym (c.before-before.ensures p st)) follows) p (sym st.newest.count))));
     }
 
 pub returns-clause-onward : goal.returns-clause-onward
