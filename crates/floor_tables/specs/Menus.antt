@@ -1,5 +1,5 @@
 -- Menus, as the tables keep them.
-use Rattle.std.specs.Prelude.{◌≡◌, ℕ, ◌<◌, ◌≤◌, List, length, map, slice_index_or}
+use Rattle.std.specs.Prelude.{◌≡◌, ℕ, ◌<◌, ◌≤◌, List, [], length, map, slice_index_or}
 use Rattle.fux_grid.specs.declared.cell.Cell.{Cell}
 use Rattle.fux_grid.specs.Grid.{items_of}
 use Rattle.floor_tables.specs.Chains.{AreFull}
@@ -20,3 +20,7 @@ pub record IsPacked (voices : ℕ) (menu : Menu) : Type 0 where
   pub rising : IsRising menu.numbers.items
   pub full : AreFull voices (items_of menu.columns.items)
   pub few : voices ≤ 4
+
+-- a column stands in a menu under a number
+abbrev pub IsNumberOf : Menu → List Cell → ℕ → Type 0
+IsNumberOf menu d k = (k < length menu.columns.items) × (slice_index_or (items_of menu.columns.items) k [] ≡ d)

@@ -4,7 +4,7 @@ ghost use Rattle.std.specs.Prelude.{◌≡◌, ◌≤◌, ◌<◌, ◌+◌, ◌^
 ghost use Rattle.std.specs.Bool.{OnTrue};
 ghost use Rattle.std.specs.List.{Contains};
 ghost use Rattle.fux_grid.specs.declared.cell.Cell.{Cell as ACell};
-ghost use Rattle.floor_tables.specs.Candidates.{AreCandidates, GoByBounds};
+ghost use Rattle.floor_tables.specs.Candidates.{AreAllCandidates, GoByBounds};
 ghost use Rattle.floor_tables.specs.Chains.{IsLeast, given};
 ghost use Rattle.floor_tables.specs.Menus.{IsMenuOf};
 ghost use Rattle.floor_tables.specs.Rows.{AllAtMost, IsAtMost, IsRow, IsSumOf};
@@ -30,7 +30,8 @@ fn bound_of<L: Links>(links: &L, i: usize, next: &Column, rest: Option<u64>) -> 
     requires place { i < (L.chains links.now).places }
     requires choice { Contains ((L.chains links.now).menu i) next.now.items }
     requires small { IsAtMost (2 ^ 62) rest }
-    ensures { (before : Option (List ACell)) (x : ℕ) → IsSumOf (L.chains links.now) i before next.now.items rest x → IsSomeAnd result (λ y. y ≤ x) }
+    ensures { (before : Option (List ACell)) (x : ℕ)
+        → IsSumOf (L.chains links.now) i before next.now.items rest x → IsSomeAnd result (λ y. y ≤ x) }
 {
     let own = links.least_cost(i, next);
     plus(own, rest)
@@ -48,7 +49,7 @@ fn some_candidates<L: Links>(
     requires menu { IsMenuOf ((L.chains links.now).menu i) menu.now }
     requires beside { length row.now ≡ length ((L.chains links.now).menu i) }
     requires small { AllAtMost (2 ^ 62) row.now }
-    ensures { IfOk result (λ found. AreCandidates (L.chains links.now) i row.now (length ((L.chains links.now).menu i)) found.items) }
+    ensures { IfOk result (λ found. AreAllCandidates (L.chains links.now) i row.now found.items) }
 {
     let mut found = Vec::with_capacity(alloc, menu.len())?;
     for k in 0..menu.len() {
@@ -72,7 +73,7 @@ pub(crate) fn candidates<L: Links>(
     requires menu { IsMenuOf ((L.chains links.now).menu i) menu.now }
     requires beside { length row.now ≡ length ((L.chains links.now).menu i) }
     requires small { AllAtMost (2 ^ 62) row.now }
-    ensures all { IfOk result (λ found. AreCandidates (L.chains links.now) i row.now (length ((L.chains links.now).menu i)) found.items) }
+    ensures all { IfOk result (λ found. AreAllCandidates (L.chains links.now) i row.now found.items) }
     ensures order { IfOk result (λ found. GoByBounds found.items) }
 {
     let mut found = some_candidates(alloc, links, i, menu, row)?;
@@ -104,7 +105,7 @@ pub(crate) fn least_of_candidates<L: Links>(
     requires menu { IsMenuOf ((L.chains links.now).menu i) menu.now }
     requires row { IsRow (L.chains links.now) i row.now }
     requires small { AllAtMost (2 ^ 62) row.now }
-    requires candidates { AreCandidates (L.chains links.now) i row.now (length ((L.chains links.now).menu i)) candidates.now }
+    requires candidates { AreAllCandidates (L.chains links.now) i row.now candidates.now }
     requires order { GoByBounds candidates.now }
     ensures least { IsLeast (L.chains links.now) i (given prev.entry) result }
     ensures bound { (most : ℕ) → AllAtMost most row.now → IsAtMost (most + 2 ^ 53) result }

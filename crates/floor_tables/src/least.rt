@@ -49,7 +49,8 @@ pub(crate) fn sum_of<L: Links>(
     requires place { i < (L.chains links.now).places }
     requires choice { Contains ((L.chains links.now).menu i) next.now.items }
     requires small { IsAtMost (2 ^ 62) rest }
-    ensures value { (x : ℕ) → (result ≡ Some x) ↔ IsSumOf (L.chains links.now) i (given prev.entry) next.now.items rest x }
+    ensures value { (x : ℕ) → (result ≡ Some x)
+        ↔ IsSumOf (L.chains links.now) i (given prev.entry) next.now.items rest x }
     ensures bound { (most : ℕ) → IsAtMost most rest → IsAtMost (most + 2 ^ 53) result }
 {
     if !follows(prev, next) {

@@ -6,7 +6,7 @@ ghost use Rattle.fux_grid.specs.declared.cell.Cell.{Cell as ACell};
 ghost use Rattle.fux_grid.specs.Grid.{items_of};
 ghost use Rattle.fux_grid.specs.Menus.{IsAscending};
 ghost use Rattle.floor_tables.specs.Chains.{AreFull};
-ghost use Rattle.floor_tables.specs.Menus.{IsMenuOf, IsPacked};
+ghost use Rattle.floor_tables.specs.Menus.{IsMenuOf, IsNumberOf, IsPacked};
 ghost use Rattle.floor_tables.specs.Packed as specs;
 
 use crate::packed::packed;
@@ -63,8 +63,8 @@ impl Menu {
 
     /// Where a column of the menu stands in it; none only for another column.
     pub(crate) fn place_of(&self, column: &Column) -> Option<usize>
-        ensures { (voices : ℕ) → IsPacked voices self.now → Contains (items_of self.now.columns.items) column.now.items →
-            IsSomeAnd result (λ k. (k < length self.now.columns.items) × (slice_index_or (items_of self.now.columns.items) k [] ≡ column.now.items)) }
+        ensures { (voices : ℕ) → IsPacked voices self.now → Contains (items_of self.now.columns.items) column.now.items
+            → IsSomeAnd result (IsNumberOf self.now column.now.items) }
     {
         match self.numbers.binary_search(&packed(column.as_slice())) {
             Ok(k) => Some(k),

@@ -3,7 +3,7 @@
 ghost use Rattle.std.specs.Prelude.{◌≡◌, ◌<◌, ◌≤◌, ◌+◌, ◌-◌, ℕ, List, ◌*◌, ◌^◌, length, suc, replicate, IfOk, IfErr, OnOk, OnErr, slice_index_or};
 ghost use Rattle.std.specs.List.{Contains};
 ghost use Rattle.fux_grid.specs.Exercises.{bar_of, slot_of};
-ghost use Rattle.floor_tables.specs.Candidates.{AreCandidates, GoByBounds};
+ghost use Rattle.floor_tables.specs.Candidates.{AreAllCandidates, GoByBounds};
 ghost use Rattle.floor_tables.specs.Chains.{Chains, IsLeast};
 ghost use Rattle.floor_tables.specs.Menus.{IsMenuOf};
 ghost use Rattle.floor_tables.specs.Rows.{AllAtMost, IsRow};
@@ -89,10 +89,11 @@ fn sums_in_order<L: Links>(
     requires next { IsMenuOf ((L.chains links.now).menu (i + 1)) next.now }
     requires row { IsRow (L.chains links.now) (i + 1) sums.now }
     requires small { AllAtMost (2 ^ 62) sums.now }
-    requires candidates { AreCandidates (L.chains links.now) (i + 1) sums.now (length ((L.chains links.now).menu (i + 1))) order.now }
+    requires candidates { AreAllCandidates (L.chains links.now) (i + 1) sums.now order.now }
     requires order { GoByBounds order.now }
     ensures row { IfOk result (λ row. IsRow (L.chains links.now) i row.items) }
-    ensures small { IfOk result (λ row. (most : ℕ) → AllAtMost most sums.now → AllAtMost (most + 2 ^ 53) row.items) }
+    ensures small { IfOk result (λ row. (most : ℕ)
+        → AllAtMost most sums.now → AllAtMost (most + 2 ^ 53) row.items) }
 {
     let width = menu.len();
     let mut row = Vec::with_capacity(alloc, width)?;
@@ -120,7 +121,8 @@ fn sums_before<L: Links>(
     requires row { IsRow (L.chains links.now) (i + 1) sums.now }
     requires small { AllAtMost (2 ^ 62) sums.now }
     ensures row { IfOk result (λ row. IsRow (L.chains links.now) i row.items) }
-    ensures small { IfOk result (λ row. (most : ℕ) → AllAtMost most sums.now → AllAtMost (most + 2 ^ 53) row.items) }
+    ensures small { IfOk result (λ row. (most : ℕ)
+        → AllAtMost most sums.now → AllAtMost (most + 2 ^ 53) row.items) }
 {
     let order = candidates(alloc, links, i + 1, next, sums)?;
     sums_in_order(alloc, links, i, menu, next, sums, &order)
@@ -215,7 +217,8 @@ impl Tables {
     /// The least sum over the chains that begin behind a column of a place's menu and go on to the last place. None exactly
     /// where no chain does.
     pub fn rest(&self, i: usize, column: &Column) -> Option<u64>
-        ensures { (c : Chains) → AreTablesOf c self.now → i < c.places → Contains (c.menu i) column.now.items → IsLeast c (suc i) (Some column.now.items) result }
+        ensures { (c : Chains) → AreTablesOf c self.now → i < c.places → Contains (c.menu i) column.now.items
+            → IsLeast c (suc i) (Some column.now.items) result }
     {
         if i >= self.rows.len() {
             return None;
