@@ -1,0 +1,35 @@
+-- Chains over the menus of an exercise, with a small cost: what voice 1 leaps.
+use Rattle.std.specs.Prelude.{ℕ, ◌+◌, ◌-◌, ◌==◌, List, Option, Some, None, if◌then◌else◌}
+use Rattle.fux_pitch.specs.declared.pitch.Pitch.{Pitch}
+use Rattle.fux_pitch.specs.Pitch.{degree_of}
+use Rattle.fux_grid.specs.declared.cell.Cell.{Cell}
+use Rattle.fux_grid.specs.declared.cell.Cell.TheVariants.{Rest, Hold, Start}
+use Rattle.fux_grid.specs.declared.exercise.Exercise.{Exercise}
+use Rattle.fux_grid.specs.Cells.{cell_in, pitch_of}
+use Rattle.fux_grid.specs.Exercises.{columns_in}
+use Rattle.fux_grid.specs.Menus.{menu_of}
+use Rattle.floor_tables.specs.Chains.{Chains, cells_of}
+
+-- how many degrees lie between two pitches
+abbrev pub distance : Pitch → Pitch → ℕ
+distance p q = (degree_of p - degree_of q) + (degree_of q - degree_of p)
+
+-- a note that starts costs the degrees from the note before it, which isn't of its degree, and one where there is none
+abbrev pub leap_from : Option Pitch → Pitch → Option ℕ
+leap_from None q = Some 1
+leap_from (Some p) q = if degree_of p == degree_of q then None else Some (distance p q)
+
+-- what a cell costs behind another
+abbrev pub leap : Cell → Cell → Option ℕ
+leap before Rest = Some 0
+leap before (Hold q) = Some 0
+leap before (Start q) = leap_from (pitch_of before) q
+
+-- the chains of an exercise
+abbrev pub chains_of : Exercise → Chains
+chains_of ex = record {
+  voices = ex.voices;
+  places = columns_in ex;
+  menu = menu_of ex;
+  cost = λ i before next. leap (cell_in (cells_of before) 1) (cell_in next 1);
+}

@@ -1,0 +1,93 @@
+//! A small cost over the menus of an exercise.
+
+ghost use Rattle.std.specs.Prelude.{◌≡◌, ◌≤◌, IfSome};
+ghost use Rattle.fux_grid.specs.Exercises.{IsValid};
+ghost use Rattle.chain_cases.specs.Leaps as specs;
+
+use floor_tables::Links;
+use fux_grid::{Cell, Column, Exercise, MenuFault, cell_of, menu, width};
+use fux_pitch::Pitch;
+use std::alloc::Global;
+use std::marker::Model;
+
+/// The chains of an exercise, where voice 1 pays for its leaps and strikes no degree twice in a row.
+#[derive(Drop)]
+pub struct Leaps<'a> {
+    exercise: &'a Exercise,
+}
+
+impl<'a> Model for Leaps<'a> {
+    ghost use Rattle.fux_grid.specs.declared.exercise.Exercise.{Exercise as AnExercise};
+    ghost use Rattle.fux_grid.specs.Exercises.{IsValid};
+
+    ghost Value = { AnExercise };
+
+    ghost view = { λ s. s.exercise.now };
+
+    ghost invariant = { λ s. IsValid s.exercise.now };
+}
+
+impl<'a> Leaps<'a> {
+    /// The chains of this exercise.
+    pub fn new(exercise: &'a Exercise) -> Leaps<'a>
+        requires { IsValid exercise.now }
+        ensures { result ≡ exercise.entry.now }
+    {
+        Leaps { exercise }
+    }
+}
+
+/// What a note costs that starts behind another, or behind none.
+fn leap_from(before: Option<Pitch>, q: Pitch) -> Option<u64>
+    ensures value { result ≡ specs.leap_from before q }
+    ensures small { IfSome result (λ cost. cost ≤ 256) }
+{
+    let Some(p) = before else {
+        return Some(1);
+    };
+    if p.degree() == q.degree() {
+        return None;
+    }
+    Some(u64::from(p.degree().abs_diff(q.degree())))
+}
+
+/// What a cell costs behind another.
+fn leap(before: Cell, next: Cell) -> Option<u64>
+    ensures value { result ≡ specs.leap before next }
+    ensures small { IfSome result (λ cost. cost ≤ 256) }
+{
+    match next {
+        Cell::Start(q) => leap_from(before.pitch(), q),
+        _ => Some(0),
+    }
+}
+
+impl<'a> Links for Leaps<'a> {
+    ghost use Rattle.chain_cases.specs.Leaps.{chains_of};
+
+    ghost chains = { chains_of };
+
+    fn places(&self) -> usize {
+        8 * self.exercise.bars as usize
+    }
+
+    fn voices(&self) -> usize {
+        self.exercise.voices as usize
+    }
+
+    fn width(&self, i: usize) -> u64 {
+        width(self.exercise, i)
+    }
+
+    fn menu(&self, alloc: Global, i: usize) -> Result<Vec<Column>, MenuFault> {
+        menu(alloc, self.exercise, i)
+    }
+
+    fn cost(&self, _i: usize, prev: Option<&Column>, next: &Column) -> Option<u64> {
+        let before = match prev {
+            Some(column) => cell_of(column, 1),
+            None => Cell::Rest,
+        };
+        leap(before, cell_of(next, 1))
+    }
+}

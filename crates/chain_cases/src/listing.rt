@@ -1,0 +1,36 @@
+//! The least sum over chains, from a plain listing of them all.
+
+ghost use Rattle.std.specs.Prelude.{◌≤◌};
+
+use floor_tables::Links;
+use fux_grid::{Column, follows};
+use fux_pitch::Memory;
+use std::alloc::Global;
+
+/// The least sum over the chains that begin at a place, behind a column or behind none: each chain is gone through.
+pub(crate) fn least_of_list<L: Links>(
+    alloc: Global,
+    links: &L,
+    i: usize,
+    prev: Option<&Column>,
+) -> Result<Option<u64>, Memory>
+    requires { i ≤ (L.chains links.now).places }
+{
+    if i == links.places() {
+        return Ok(Some(0));
+    }
+    let Ok(menu) = links.menu(alloc, i) else {
+        return Err(Memory);
+    };
+    let mut sums = Vec::new(alloc);
+    for k in 0..menu.len() {
+        if follows(prev, &menu[k])
+            && let Some(own) = links.cost(i, prev, &menu[k])
+        {
+            if let Some(rest) = least_of_list(alloc, links, i + 1, Some(&menu[k]))? {
+                sums.push(own.saturating_add(rest))?;
+            }
+        }
+    }
+    Ok(sums.iter().copied().min())
+}
