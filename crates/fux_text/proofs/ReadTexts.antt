@@ -1,10 +1,11 @@
 -- A text is read just where its lines have the words of what is read (`texts-read`, `sing_texts-read`).
-use Rattle.std.proofs.Common.{◌≡◌, ℕ, List, Result, Ok, Err, arith}
+use Rattle.std.proofs.Common.{◌≡◌, ℕ, List, Result, Ok, Err, ◌⊎◌, inl, inr, refl, arith}
 use Rattle.fux_grid.specs.declared.exercise.Exercise.{Exercise}
 use Rattle.fux_grid.specs.Exercises.{IsValid}
 use Rattle.fux_grid.specs.Grid.{Grid}
+use Rattle.text_lines.specs.declared.fault.TextKind.{TextKind}
 use Rattle.text_lines.specs.Faults.{Fault}
-use Rattle.fux_text.specs.ReadBack.{NoteTextsAreOfOne, NoteTextsAreRead, NoteTextsHaveNoFault, SingLinesAreRead}
+use Rattle.fux_text.specs.ReadBack.{NoteTextsAreOfOne, NoteTextsAreRead, NoteTextsHaveNoFault, NoteTextsOrFaults, SingLinesAreRead}
 use Rattle.fux_text.specs.Reading.{exercise_in, setting_alone}
 use Rattle.fux_text.specs.Texts.{AreSingLinesOf, HasFault, IsTextOf}
 use Rattle.fux_text.proofs.OnlyText.{note_text-only, setting_lines-only}
@@ -33,6 +34,15 @@ texts-read bytes ex = (text-read bytes ex, read-text bytes ex)
 
 pub sing_texts-read : SingLinesAreRead
 sing_texts-read ex bytes score valid = (lines-read ex bytes score valid, read-lines ex bytes score valid)
+
+each : (bytes : List ℕ) (read : Result Exercise Fault) → exercise_in bytes ≡ read
+    → ((ex : Exercise) × IsTextOf bytes ex) ⊎ ((kind : TextKind) × (line : ℕ) × (column : ℕ) × HasFault bytes kind line column)
+unfolding HasFault
+each bytes (Ok ex) e = inl (ex, read-text bytes ex e)
+each bytes (Err f) e = inr (f.kind, f.line, f.column, e)
+
+pub texts-or_faults : NoteTextsOrFaults
+texts-or_faults bytes = each bytes (exercise_in bytes) refl
 
 one_value : (read : Result Exercise Fault) (a b : Exercise) → read ≡ Ok a → read ≡ Ok b → a ≡ b
 one_value read a b h k = cc

@@ -1,5 +1,5 @@
 -- What is written is read back: the laws that tie the two directions of the note text to one another.
-use Rattle.std.specs.Prelude.{◌≡◌, ◌↔◌, ℕ, Ok, ◌≤◌, List, Option, IfSome, length}
+use Rattle.std.specs.Prelude.{◌⊎◌, ◌≡◌, ◌↔◌, ℕ, Ok, ◌≤◌, List, Option, IfSome, length}
 use Rattle.std.specs.List.{flat_map}
 use Rattle.fux_grid.specs.declared.cell.Cell.{Cell}
 use Rattle.fux_grid.specs.declared.exercise.Exercise.{Exercise}
@@ -30,7 +30,12 @@ SingLinesReadBack = (ex : Exercise) (score : Grid) → IsValid ex → IsSettingO
 abbrev pub NoteTextsAreRead : Type 0
 NoteTextsAreRead = (bytes : List ℕ) (ex : Exercise) → IsTextOf bytes ex ↔ (exercise_in bytes ≡ Ok ex)
 
--- so it is of one exercise at most, and has no fault if it is of one
+-- so it is of an exercise or has a fault
+abbrev pub NoteTextsOrFaults : Type 0
+NoteTextsOrFaults = (bytes : List ℕ)
+    → ((ex : Exercise) × IsTextOf bytes ex) ⊎ ((kind : TextKind) × (line : ℕ) × (column : ℕ) × HasFault bytes kind line column)
+
+-- it is of one exercise at most, and has no fault if it is of one
 abbrev pub NoteTextsAreOfOne : Type 0
 NoteTextsAreOfOne = (bytes : List ℕ) (ex other : Exercise) → IsTextOf bytes ex → IsTextOf bytes other → ex ≡ other
 

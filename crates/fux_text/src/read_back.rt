@@ -10,7 +10,7 @@ ghost use Rattle.fux_pitch.specs.Names.{name_of};
 ghost use Rattle.text_lines.specs.Numbers.{number_of};
 ghost use Rattle.fux_text.specs.Lines.{mode_name, voices_word};
 ghost use Rattle.fux_text.specs.Names.{mode_named, pitch_named};
-ghost use Rattle.fux_text.specs.ReadBack.{NoteTextReadsBack, NoteTextsAreOfOne, NoteTextsAreRead, NoteTextsHaveNoFault, SingLinesAreRead, SingLinesReadBack};
+ghost use Rattle.fux_text.specs.ReadBack.{NoteTextReadsBack, NoteTextsAreOfOne, NoteTextsAreRead, NoteTextsHaveNoFault, NoteTextsOrFaults, SingLinesAreRead, SingLinesReadBack};
 ghost use Rattle.fux_text.specs.Relaxing.{rule_named, voices_named};
 
 /// A law, and nothing to run: a word that is written is read as what it was written of.
@@ -27,6 +27,7 @@ pub fn words_read_back()
 /// exercise at most. Lines of a setting alone are read so, too.
 pub fn texts_are_read()
     ensures texts { NoteTextsAreRead }
+    ensures each { NoteTextsOrFaults }
     ensures one { NoteTextsAreOfOne }
     ensures faultless { NoteTextsHaveNoFault }
     ensures sing_lines { SingLinesAreRead }

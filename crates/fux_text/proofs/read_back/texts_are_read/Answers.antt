@@ -1,8 +1,11 @@
-use Rattle.fux_text.proofs.ReadTexts.{sing_texts-read, texts-faultless, texts-of_one, texts-read}
+use Rattle.fux_text.proofs.ReadTexts.{sing_texts-read, texts-faultless, texts-of_one, texts-or_faults, texts-read}
 use Rattle.fux_text.proofs.read_back.texts_are_read.Goals as goal
 
 pub returns-clause-texts : goal.returns-clause-texts
 returns-clause-texts c = texts-read
+
+pub returns-clause-each : goal.returns-clause-each
+returns-clause-each c = texts-or_faults
 
 pub returns-clause-one : goal.returns-clause-one
 returns-clause-one c = texts-of_one
