@@ -189,7 +189,16 @@ fn the_lowest_voices_make_a_column_dead(rt: HostRuntime) -> Result<(), Fail> {
             Some(3),
             true,
         ),
-        (0, BELOW, None, &[FIRST, SECOND], "D3 A3 A4 D5", None, false),
+        // an end without a cadence, which is relaxed
+        (
+            0,
+            BELOW,
+            Some(22),
+            &[FIRST, SECOND],
+            "D3 A3 A4 D5",
+            None,
+            false,
+        ),
     ];
     for (cantus_voice, cantus, relaxed, bars, notes, wanted, always) in table {
         let ex = exercise(rt.alloc(), cantus_voice, cantus, relaxed)?;

@@ -168,6 +168,7 @@ fn marks_of_settings(rt: HostRuntime) -> Result<(), Fail> {
                 (3, 0, 4, 2),
                 (3, 0, 13, 3),
                 (3, 0, 14, 3),
+                (3, 0, 22, 3),
             ],
         ),
         // rests before, between and behind
@@ -175,7 +176,7 @@ fn marks_of_settings(rt: HostRuntime) -> Result<(), Fail> {
             CANTUS,
             1,
             &[LINE, "r:4 A4:4 r:8 D5:4 r:4"],
-            &[(1, 0, 3, 2), (2, 0, 3, 2), (3, 0, 3, 2)],
+            &[(1, 0, 3, 2), (2, 0, 3, 2), (3, 0, 3, 2), (3, 0, 22, 3)],
         ),
         // too high, outside the gamut, and held over the bar line
         (
@@ -191,6 +192,9 @@ fn marks_of_settings(rt: HostRuntime) -> Result<(), Fail> {
                 (3, 0, 2, 2),
                 (3, 0, 3, 2),
                 (3, 0, 13, 3),
+                (3, 0, 19, 3),
+                (3, 0, 20, 3),
+                (3, 0, 22, 3),
             ],
         ),
         // no cantus to be heard
@@ -204,6 +208,7 @@ fn marks_of_settings(rt: HostRuntime) -> Result<(), Fail> {
                 (1, 0, 14, 6),
                 (3, 0, 13, 3),
                 (3, 0, 13, 5),
+                (3, 0, 22, 7),
                 (3, 0, 24, 1),
             ],
         ),
@@ -222,6 +227,7 @@ fn marks_of_settings(rt: HostRuntime) -> Result<(), Fail> {
                 (3, 0, 16, 5),
                 (3, 0, 16, 6),
                 (3, 0, 17, 5),
+                (3, 0, 22, 7),
             ],
         ),
         // within the bars: a repetition, bad moves, a tone too low and a span too wide
@@ -256,6 +262,7 @@ fn marks_of_settings(rt: HostRuntime) -> Result<(), Fail> {
                 (2, 0, 11, 6),
                 (2, 0, 11, 10),
                 (2, 0, 11, 12),
+                (3, 0, 22, 15),
             ],
         ),
     ];

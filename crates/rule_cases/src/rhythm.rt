@@ -7,7 +7,7 @@ use arrayvec::ArrayVec;
 use fux_grid::{Cell, Exercise, RangeLine, Score, VoiceSet};
 use fux_pitch::{List, Mode, Pitch, spell};
 use rhythm_cadence::{Rhythm, breaks_late, noted, unbegun};
-use rule_law::{Near, Rule};
+use rule_law::{Near, NewestColumns, Rule};
 use std::alloc::Global;
 use std::process::Abort;
 use std::test::Fail;
@@ -419,13 +419,20 @@ fn settles_so<A: Abort>(
     assert!(rt; Rhythm.settled(3, ex, score, 0, voices) == settled);
     assert!(rt; Rhythm.broken(3, ex, score, 0, voices) == broken);
     let mut part = unbegun();
+    let mut newest = NewestColumns::none();
     for i in 0..score.len() {
+        assert!(rt; newest.len < 192);
         part = noted(&part, ex, i, score.column(i).as_slice());
+        newest = newest.with(score.column(i).as_slice());
     }
+    assert!(rt; newest.len > 0 && newest.len <= 8 * ex.bars as usize);
     assert!(rt; part.possible[1] == left);
-    assert!(rt; breaks_late(&part, 3, ex, voices, 0) == broken);
+    assert!(rt; breaks_late(&part, &newest, 3, ex, voices, 0) == broken);
     let cantus = VoiceSet { bits: 1 };
-    assert!(rt; !breaks_late(&part, 3, ex, cantus, 0), "the cantus");
+    assert!(rt;
+        !breaks_late(&part, &newest, 3, ex, cantus, 0),
+        "the cantus"
+    );
 }
 
 /// S3 is settled where the letters begin no shape, and else when the bar is whole.
