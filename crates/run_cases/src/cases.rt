@@ -1,0 +1,155 @@
+//! Runs over any files: a text of cases with an empty line between each two. A case is
+//!
+//! ```text
+//! case NUMBER KIND
+//! words "compose" "E"
+//! file "E" "fux 1\nmode .."
+//! status 0
+//! out ".."
+//! err ".."
+//! ```
+//!
+//! with a line for each file. Texts have the escapes of byte strings: `\n`, `\t`, `\r`, `\\`, `\"` and `\xNN`.
+
+ghost use Rattle.std.specs.Prelude.{◌<◌};
+
+use fux_port::{MemShelf, MemSink};
+use fux_run::run;
+use std::alloc::{AllocError, Global};
+use std::test::Fail;
+use std::thread::Threads;
+
+/// What a case gives, and what is to come of it.
+#[derive(Drop)]
+struct Case {
+    words: Vec<String>,
+    shelf: MemShelf,
+    status: u8,
+    output: Vec<u8>,
+    complaint: Vec<u8>,
+}
+
+/// What the bytes of an escape so far ask for.
+#[derive(Clone, Copy)]
+enum Escape {
+    None,
+    Begun,
+    FirstDigit,
+    SecondDigit(u8),
+}
+
+/// The value of a hexadecimal digit, 0 for any other byte.
+fn digit(byte: u8) -> u8
+    ensures { result < 16 }
+{
+    match byte {
+        b'0'..=b'9' => byte - b'0',
+        b'a'..=b'f' => byte - b'a' + 10,
+        _ => 0,
+    }
+}
+
+/// The bytes that a text with escapes stands for.
+fn decoded(alloc: Global, text: &str) -> Result<Vec<u8>, AllocError> {
+    let mut bytes = Vec::new(alloc);
+    let mut escape = Escape::None;
+    for byte in text.bytes() {
+        escape = match (escape, byte) {
+            (Escape::None, b'\\') => Escape::Begun,
+            (Escape::None, _) => {
+                bytes.push(byte)?;
+                Escape::None
+            }
+            (Escape::Begun, b'x') => Escape::FirstDigit,
+            (Escape::Begun, _) => {
+                bytes.push(match byte {
+                    b'n' => b'\n',
+                    b't' => b'\t',
+                    b'r' => b'\r',
+                    _ => byte,
+                })?;
+                Escape::None
+            }
+            (Escape::FirstDigit, _) => Escape::SecondDigit(digit(byte)),
+            (Escape::SecondDigit(high), _) => {
+                bytes.push(high.wrapping_mul(16).wrapping_add(digit(byte)))?;
+                Escape::None
+            }
+        };
+    }
+    Ok(bytes)
+}
+
+/// The words of a line, each within quotes.
+fn words_in(alloc: Global, line: &str) -> Result<Vec<String>, Fail> {
+    let mut words = Vec::new(alloc);
+    for (place, piece) in line.split('"').enumerate() {
+        if place % 2 == 1 {
+            words.push(String::from_str(alloc, piece)?)?;
+        }
+    }
+    Ok(words)
+}
+
+/// The text within the quotes behind a line's first word.
+fn quoted<'a>(line: &'a str, name: &str) -> Option<&'a str> {
+    line.strip_prefix(name)?
+        .strip_prefix(" \"")?
+        .strip_suffix('"')
+}
+
+impl Case {
+    /// A case that nothing is said of.
+    fn new(alloc: Global) -> Result<Case, Fail> {
+        Ok(Case {
+            words: Vec::new(alloc),
+            shelf: MemShelf::new(alloc, &[])?,
+            status: 0,
+            output: Vec::new(alloc),
+            complaint: Vec::new(alloc),
+        })
+    }
+
+    /// Takes a line of the case.
+    fn take(&mut self, alloc: Global, line: &str) -> Result<(), Fail> {
+        if line.starts_with("words ") {
+            self.words = words_in(alloc, line)?;
+        } else if let Some(file) = quoted(line, "file") {
+            let (name, text) = file.split_once("\" \"").ok_or("no file")?;
+            self.shelf.put(name, &decoded(alloc, text)?)?;
+        } else if let Some(number) = line.strip_prefix("status ") {
+            self.status = number.parse()?;
+        } else if let Some(text) = quoted(line, "out") {
+            self.output = decoded(alloc, text)?;
+        } else if let Some(text) = quoted(line, "err") {
+            self.complaint = decoded(alloc, text)?;
+        }
+        Ok(())
+    }
+
+    /// Runs the case, and tells whether that comes of it which is to come.
+    fn agrees<R: Threads + Sync>(&mut self, rt: &R, alloc: Global) -> Result<bool, Fail> {
+        let mut out = MemSink::new(alloc, 1_000_000, 1_000_000, &[])?;
+        let mut err = MemSink::new(alloc, 1_000, 1_000, &[])?;
+        let status = run(rt, alloc, &self.words, &mut self.shelf, &mut out, &mut err);
+        Ok(
+            status == self.status
+                && out.bytes() == self.output.as_slice()
+                && err.bytes() == self.complaint.as_slice(),
+        )
+    }
+}
+
+/// Runs each case, and fails with the first of which something else comes.
+pub fn try_cases<R: Threads + Sync>(rt: &R, alloc: Global, cases: &str) -> Result<(), Fail> {
+    for text in cases.split("\n\n") {
+        let mut case = Case::new(alloc)?;
+        for line in text.lines() {
+            case.take(alloc, line)?;
+        }
+        if !case.agrees(rt, alloc)? {
+            return Err(Fail::from(text));
+        }
+    }
+    Ok(())
+}
