@@ -2,15 +2,11 @@
 #![tactic(auto)]
 
 #[cfg(test)]
-mod cases;
-#[cfg(test)]
 mod devices;
 #[cfg(test)]
 mod long_files;
 #[cfg(test)]
 mod table;
-#[cfg(test)]
-mod texts;
 #[cfg(test)]
 mod vectors;
 #[cfg(test)]

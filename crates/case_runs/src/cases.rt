@@ -1,4 +1,4 @@
-//! Runs over any files: a text of cases with an empty line between each two. A case is
+//! Cases of whole runs over any files. A case is
 //!
 //! ```text
 //! case NUMBER KIND
@@ -13,15 +13,16 @@
 
 ghost use Rattle.std.specs.Prelude.{◌<◌};
 
+use fux_pitch::Memory;
 use fux_port::{MemShelf, MemSink};
 use fux_run::run;
-use std::alloc::{AllocError, Global};
-use std::test::Fail;
+use std::alloc::Global;
 use std::thread::Threads;
 
 /// What a case gives, and what is to come of it.
 #[derive(Drop)]
-struct Case {
+pub struct Case {
+    title: String,
     words: Vec<String>,
     shelf: MemShelf,
     status: u8,
@@ -50,7 +51,7 @@ fn digit(byte: u8) -> u8
 }
 
 /// The bytes that a text with escapes stands for.
-fn decoded(alloc: Global, text: &str) -> Result<Vec<u8>, AllocError> {
+fn decoded(alloc: Global, text: &str) -> Result<Vec<u8>, Memory> {
     let mut bytes = Vec::new(alloc);
     let mut escape = Escape::None;
     for byte in text.bytes() {
@@ -81,7 +82,7 @@ fn decoded(alloc: Global, text: &str) -> Result<Vec<u8>, AllocError> {
 }
 
 /// The words of a line, each within quotes.
-fn words_in(alloc: Global, line: &str) -> Result<Vec<String>, Fail> {
+fn words_in(alloc: Global, line: &str) -> Result<Vec<String>, Memory> {
     let mut words = Vec::new(alloc);
     for (place, piece) in line.split('"').enumerate() {
         if place % 2 == 1 {
@@ -100,8 +101,9 @@ fn quoted<'a>(line: &'a str, name: &str) -> Option<&'a str> {
 
 impl Case {
     /// A case that nothing is said of.
-    fn new(alloc: Global) -> Result<Case, Fail> {
+    pub fn new(alloc: Global) -> Result<Case, Memory> {
         Ok(Case {
+            title: String::new(alloc),
             words: Vec::new(alloc),
             shelf: MemShelf::new(alloc, &[])?,
             status: 0,
@@ -110,15 +112,23 @@ impl Case {
         })
     }
 
+    /// Its first line; empty where it has none yet.
+    pub fn title(&self) -> &str {
+        self.title.as_str()
+    }
+
     /// Takes a line of the case.
-    fn take(&mut self, alloc: Global, line: &str) -> Result<(), Fail> {
-        if line.starts_with("words ") {
+    pub fn take(&mut self, alloc: Global, line: &str) -> Result<(), Memory> {
+        if line.starts_with("case ") {
+            self.title = String::from_str(alloc, line)?;
+        } else if line.starts_with("words ") {
             self.words = words_in(alloc, line)?;
         } else if let Some(file) = quoted(line, "file") {
-            let (name, text) = file.split_once("\" \"").ok_or("no file")?;
-            self.shelf.put(name, &decoded(alloc, text)?)?;
+            if let Some((name, text)) = file.split_once("\" \"") {
+                self.shelf.put(name, &decoded(alloc, text)?)?;
+            }
         } else if let Some(number) = line.strip_prefix("status ") {
-            self.status = number.parse()?;
+            self.status = number.parse().unwrap_or(255);
         } else if let Some(text) = quoted(line, "out") {
             self.output = decoded(alloc, text)?;
         } else if let Some(text) = quoted(line, "err") {
@@ -128,7 +138,7 @@ impl Case {
     }
 
     /// Runs the case, and tells whether that comes of it which is to come.
-    fn agrees<R: Threads + Sync>(&mut self, rt: &R, alloc: Global) -> Result<bool, Fail> {
+    pub fn agrees<R: Threads + Sync>(&mut self, rt: &R, alloc: Global) -> Result<bool, Memory> {
         let mut out = MemSink::new(alloc, 1_000_000, 1_000_000, &[])?;
         let mut err = MemSink::new(alloc, 1_000, 1_000, &[])?;
         let status = run(rt, alloc, &self.words, &mut self.shelf, &mut out, &mut err);
@@ -138,18 +148,4 @@ impl Case {
                 && err.bytes() == self.complaint.as_slice(),
         )
     }
-}
-
-/// Runs each case, and fails with the first of which something else comes.
-pub fn try_cases<R: Threads + Sync>(rt: &R, alloc: Global, cases: &str) -> Result<(), Fail> {
-    for text in cases.split("\n\n") {
-        let mut case = Case::new(alloc)?;
-        for line in text.lines() {
-            case.take(alloc, line)?;
-        }
-        if !case.agrees(rt, alloc)? {
-            return Err(Fail::from(text));
-        }
-    }
-    Ok(())
 }

@@ -1,0 +1,37 @@
+//! Runs the cases that standard input has, with an empty line between each two, and tells how many there are and which of them
+//! come out otherwise than they say.
+#![tactic(auto)]
+
+mod cases;
+
+use cases::Case;
+use fux_pitch::Memory;
+use std::io;
+use std::io::ErrorKind;
+
+fn main(rt: HostRuntime) -> io::Result<()> {
+    let mut count = 0u32;
+    let mut case = known(Case::new(rt.alloc()))?;
+    for line in rt.lines(rt.alloc()) {
+        let line = line?;
+        if line.is_empty() {
+            let agrees = known(case.agrees(&rt, rt.alloc()))?;
+            if !agrees {
+                println!(rt; "otherwise: {}", case.title())?;
+            }
+            case = known(Case::new(rt.alloc()))?;
+        } else {
+            known(case.take(rt.alloc(), line.as_str()))?;
+            count = count.saturating_add(u32::from(line.starts_with("case ")));
+        }
+    }
+    println!(rt; "cases {count}")
+}
+
+/// What came of work that may want for memory.
+fn known<T>(answer: Result<T, Memory>) -> io::Result<T> {
+    match answer {
+        Ok(value) => Ok(value),
+        Err(Memory) => Err(io::Error::from(ErrorKind::OutOfMemory)),
+    }
+}
