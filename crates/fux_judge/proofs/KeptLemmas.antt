@@ -21,26 +21,12 @@ use Rattle.rhythm_cadence.specs.InPlace.{in_place_rows, some_out_of_place}
 use Rattle.rhythm_cadence.specs.Rows.{begins_last_bar, fits_ending, holds_of_pitch, is_final}
 use Rattle.fux_judge.specs.declared.moment.Moment.{Moment}
 use Rattle.fux_judge.specs.Rules.{all_sets, is_late, is_melodic, is_of_motion, rule_at, rules_at_once}
+use Rattle.fux_judge.specs.Kept.{is_close, is_moving, is_of_ending, is_of_place, rules_at_a_bar, rules_at_the_end, rules_within_bars}
 use Rattle.fux_judge.specs.Penalties.{is_strict_at}
 use Rattle.fux_judge.specs.Moments.{IsAfter, is_broken_then, is_strictly_broken_then}
 use Rattle.fux_judge.proofs.MomentLemmas.{window_then, melodic_then, motion_then, dissonance_then, rhythm_then}
 use Rattle.fux_judge.proofs.PruningLemmas.{one_of}
 use Rattle.fux_judge.proofs.QuietLemmas.{none_passes}
-
--- the rules of the last bar alone
-abbrev pub is_of_ending : ℕ → Bool
-is_of_ending rule = (rule == 13) || (rule == 24)
-
--- the rules of motion that are settled at once, and those of dissonance
-abbrev pub is_moving : ℕ → Bool
-is_moving rule = ((rule == 10) || (rule == 16)) || (rule == 17)
-
-abbrev pub is_close : ℕ → Bool
-is_close rule = (rule == 11) || (rule == 14)
-
--- the rules of one free voice that isn't of melody
-abbrev pub is_of_place : ℕ → Bool
-is_of_place rule = ((rule == 1) || (rule == 2)) || (rule == 12)
 
 -- what holds of two numbers holds of one that is one of them
 of_two : (P : ℕ → Type 0) (a b rule : ℕ) → P a → P b → ((rule == a) || (rule == b)) ≡ true → P rule
@@ -64,12 +50,16 @@ pub not_rough : (rough : Bool) → true ≡ not rough → rough ≡ false
 not_rough true h = cc
 not_rough false h = refl
 
-all_of_them : list_all (λ r. not (is_late r)) (1 ∷ 2 ∷ 10 ∷ 11 ∷ 12 ∷ 13 ∷ 14 ∷ 16 ∷ 17 ∷ 24 ∷ []) ≡ true
+-- the rules that tests tell of are settled at once
+abbrev pub told_of : List ℕ
+told_of = 1 ∷ 2 ∷ 10 ∷ 11 ∷ 12 ∷ 13 ∷ 14 ∷ 16 ∷ 17 ∷ 24 ∷ []
+
+all_of_them : list_all (λ r. not (is_late r)) told_of ≡ true
 unfolding rule_at
 all_of_them = refl
 
-at_once : (rule : ℕ) → list_any (λ other. rule == other) (1 ∷ 2 ∷ 10 ∷ 11 ∷ 12 ∷ 13 ∷ 14 ∷ 16 ∷ 17 ∷ 24 ∷ []) ≡ true → is_late rule ≡ false
-at_once rule h = not_rough (is_late rule) (sym (one_of (λ r. not (is_late r)) rule (1 ∷ 2 ∷ 10 ∷ 11 ∷ 12 ∷ 13 ∷ 14 ∷ 16 ∷ 17 ∷ 24 ∷ []) all_of_them h))
+at_once : (rule : ℕ) → list_any (λ other. rule == other) told_of ≡ true → is_late rule ≡ false
+at_once rule h = not_rough (is_late rule) (sym (one_of (λ r. not (is_late r)) rule told_of all_of_them h))
 
 -- likewise of three
 of_three : (P : ℕ → Type 0) (a b c rule : ℕ) → P a → P b → P c → (((rule == a) || (rule == b)) || (rule == c)) ≡ true → P rule
@@ -97,7 +87,7 @@ module _ (p : List (List Cell)) (m : Moment) where
   motion_kept : some_move_badly m.exercise.now (newest_column (reverse p)) m.column.now ≡ false → (rule : ℕ) → is_moving rule ≡ true → is_strictly_broken_then all_sets rule p m ≡ false
   motion_kept clear rule = of_three (λ rule. is_strictly_broken_then all_sets rule p m ≡ false) 10 16 17 rule (one 10 refl refl refl) (one 16 refl refl refl) (one 17 refl refl refl)
     where
-      one : (rule : ℕ) → list_any (λ other. rule == other) (1 ∷ 2 ∷ 10 ∷ 11 ∷ 12 ∷ 13 ∷ 14 ∷ 16 ∷ 17 ∷ 24 ∷ []) ≡ true → is_melodic rule ≡ false → is_of_motion rule ≡ true → is_strictly_broken_then all_sets rule p m ≡ false
+      one : (rule : ℕ) → list_any (λ other. rule == other) told_of ≡ true → is_melodic rule ≡ false → is_of_motion rule ≡ true → is_strictly_broken_then all_sets rule p m ≡ false
       one rule soon e motion = kept_by_all rule (λ voices. sym (motion_then rule voices p m (at_once rule soon) e motion) ∙ clear_rows m.exercise.now (newest_column (reverse p)) m.column.now clear rule voices (length p) (previous_pitches (reverse p)))
 
   -- a column in which every voice is in place keeps those of one voice
@@ -139,27 +129,32 @@ module _ (p : List (List Cell)) (m : Moment) where
     abbrev pub found_in : List ℕ → Bool
     found_in = list_any (λ rule. is_strictly_broken_then all_sets rule p m && r == rule)
 
-    pub at_the_end : found_in (11 ∷ 13 ∷ 14 ∷ 24 ∷ []) ≡ found_in rules_at_once
-    unfolding rules_at_once
-    at_the_end =
-        left_out (λ rule. is_strictly_broken_then all_sets rule p m) is_of_place (1 ∷ 2 ∷ 11 ∷ 12 ∷ 13 ∷ 14 ∷ 24 ∷ []) r (place_kept fair.placed)
-        ∙ left_out (λ rule. is_strictly_broken_then all_sets rule p m) is_moving (1 ∷ 2 ∷ 10 ∷ 11 ∷ 12 ∷ 13 ∷ 14 ∷ 16 ∷ 17 ∷ 24 ∷ []) r (motion_kept fair.clear)
-        ∙ left_out (λ rule. is_strictly_broken_then all_sets rule p m) is_melodic rules_at_once r (melody_kept fair.smooth)
+    abbrev pub strict : ℕ → Bool
+    strict rule = is_strictly_broken_then all_sets rule p m
 
-    pub at_a_bar : begins_last_bar m.exercise.now (length p) ≡ false → found_in (11 ∷ 14 ∷ []) ≡ found_in rules_at_once
-    at_a_bar before =
-        left_out (λ rule. is_strictly_broken_then all_sets rule p m) is_of_ending (11 ∷ 13 ∷ 14 ∷ 24 ∷ []) r (endings_kept before)
-        ∙ at_the_end
+    pub at_the_end : (rules : List ℕ) → rules ≡ rules_at_the_end → found_in rules ≡ found_in rules_at_once
+    unfolding rules_at_the_end
+    at_the_end rules e =
+        ap found_in e
+        ∙ left_out strict is_of_place (filter (λ rule. not (is_moving rule)) (filter (λ rule. not (is_melodic rule)) rules_at_once)) r (place_kept fair.placed)
+        ∙ left_out strict is_moving (filter (λ rule. not (is_melodic rule)) rules_at_once) r (motion_kept fair.clear)
+        ∙ left_out strict is_melodic rules_at_once r (melody_kept fair.smooth)
 
-    pub within_a_bar : begins_bar (length p) ≡ false → found_in [] ≡ found_in rules_at_once
-    within_a_bar within =
-        left_out (λ rule. is_strictly_broken_then all_sets rule p m) is_close (11 ∷ 14 ∷ []) r (dissonance_kept within)
-        ∙ at_a_bar (ap (λ b. b && (bar_of (length p) == m.exercise.now.bars)) within)
+    pub at_a_bar : begins_last_bar m.exercise.now (length p) ≡ false → (rules : List ℕ) → rules ≡ rules_at_a_bar → found_in rules ≡ found_in rules_at_once
+    unfolding rules_at_a_bar
+    at_a_bar before rules e =
+        ap found_in e ∙ left_out strict is_of_ending rules_at_the_end r (endings_kept before) ∙ at_the_end rules_at_the_end refl
 
-    pub where_apart : begins_last_bar m.exercise.now (length p) ≡ false → some_come_close m.exercise.now m.column.now ≡ false → found_in [] ≡ found_in rules_at_once
-    where_apart before apart =
-        left_out (λ rule. is_strictly_broken_then all_sets rule p m) is_close (11 ∷ 14 ∷ []) r (closeness_kept apart)
-        ∙ at_a_bar before
+    pub within_a_bar : begins_bar (length p) ≡ false → (rules : List ℕ) → rules ≡ rules_within_bars → found_in rules ≡ found_in rules_at_once
+    unfolding rules_within_bars
+    within_a_bar within rules e =
+        ap found_in e ∙ left_out strict is_close rules_at_a_bar r (dissonance_kept within)
+        ∙ at_a_bar (ap (λ b. b && (bar_of (length p) == m.exercise.now.bars)) within) rules_at_a_bar refl
+
+    pub where_apart : begins_last_bar m.exercise.now (length p) ≡ false → some_come_close m.exercise.now m.column.now ≡ false → (rules : List ℕ) → rules ≡ rules_within_bars → found_in rules ≡ found_in rules_at_once
+    unfolding rules_within_bars
+    where_apart before apart rules e =
+        ap found_in e ∙ left_out strict is_close rules_at_a_bar r (closeness_kept apart) ∙ at_a_bar before rules_at_a_bar refl
 
 -- by the answers of the three tests
 pub fair_by_tests : (p : List (List Cell)) (m : Moment) → IsAfter p m → true ≡ not (some_rough m.exercise.now (reverse p) m.column.now) → true ≡ not (some_move_badly m.exercise.now m.before.now m.column.now) → true ≡ not (some_out_of_place m.exercise.now m.place m.latest.pitches m.column.now) → IsFair p m

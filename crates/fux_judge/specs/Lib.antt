@@ -4,8 +4,10 @@ pub mod Charges
 pub mod Ends
 pub mod Facts
 pub mod Grows
+pub mod Kept
 pub mod Lawful
 pub mod Moments
+pub mod Parts
 pub mod Penalties
 pub mod Pruning
 pub mod Rules

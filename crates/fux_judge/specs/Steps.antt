@@ -22,6 +22,7 @@ use Rattle.fux_judge.specs.Rules.{rules_read, tolls_read, all_sets, rule_at, tol
 use Rattle.fux_judge.specs.Facts.{rule_keeps, toll_keeps}
 use Rattle.fux_judge.specs.Penalties.{is_strict_at, price_at, newly_broken_at, newly_broken, new_toll, new_price, new_tolls, new_prices, newly_paid}
 use Rattle.fux_judge.specs.Ends.{from_none_below}
+use Rattle.fux_judge.specs.Parts.{list_all-kept, sum_by-parted}
 
 -- a rule is strictly broken at the column that comes after a prefix
 abbrev pub is_strictly_broken_at_end : Exercise → List (List Cell) → List Cell → ℕ → Bool
@@ -270,8 +271,8 @@ module _ (ex : Exercise) (p : List (List Cell)) (col : List Cell) where
 
   -- the rules that are read are those that are settled at once, and the late ones
   split_rules : (f : ℕ → ℕ) → sum_by f rules_read ≡ sum_by f rules_at_once + sum_by f late_rules
-  unfolding rules_read rules_at_once late_rules
-  split_rules f = omega arith
+  unfolding rules_at_once late_rules
+  split_rules f = sum_by-parted f is_late rules_read
 
   sum_where : (test : ℕ → Bool) (f g : ℕ → ℕ) (xs : List ℕ) → list_all test xs ≡ true → ((x : ℕ) → test x ≡ true → f x ≡ g x) → sum_by f xs ≡ sum_by g xs
   sum_where test f g [] h e = refl
@@ -284,12 +285,12 @@ module _ (ex : Exercise) (p : List (List Cell)) (col : List Cell) where
   not_false false h = refl
 
   pub all_at_once : list_all (λ rule. not (is_late rule)) rules_at_once ≡ true
-  unfolding rules_at_once rule_at
-  all_at_once = refl
+  unfolding rules_at_once
+  all_at_once = list_all-kept (λ rule. not (is_late rule)) rules_read
 
   pub all_late : list_all is_late late_rules ≡ true
-  unfolding late_rules rule_at
-  all_late = refl
+  unfolding late_rules
+  all_late = list_all-kept is_late rules_read
 
   pub prices_by_rules : sum_below (new_prices ex p col) (length p + 1) ≡ sum_by (λ rule. sum_below (prices_of_rule rule) (length p + 1)) rules_read
   prices_by_rules = sum_below-sum_by (λ rule i. sum_by (new_price ex p col i rule) all_sets) rules_read (length p + 1)
@@ -303,17 +304,17 @@ module _ (ex : Exercise) (p : List (List Cell)) (col : List Cell) where
       ∙ ap (λ n. sum_by (prices_at_end ex p col) rules_at_once + n) (sum_where is_late of (prices_late ex p col) late_rules all_late (λ rule h. prices-late rule h on))
 
   pub tolls_all_at_once : list_all (λ toll. not (is_late_toll toll)) tolls_at_once ≡ true
-  unfolding tolls_at_once toll_at
-  tolls_all_at_once = refl
+  unfolding tolls_at_once
+  tolls_all_at_once = list_all-kept (λ toll. not (is_late_toll toll)) tolls_read
 
   pub tolls_all_late : list_all is_late_toll late_tolls ≡ true
-  unfolding late_tolls toll_at
-  tolls_all_late = refl
+  unfolding late_tolls
+  tolls_all_late = list_all-kept is_late_toll tolls_read
 
   -- the tolls that are read are those that are settled at once, and the late ones
   split_tolls : (f : ℕ → ℕ) → sum_by f tolls_read ≡ sum_by f tolls_at_once + sum_by f late_tolls
-  unfolding tolls_read tolls_at_once late_tolls
-  split_tolls f = omega arith
+  unfolding tolls_at_once late_tolls
+  split_tolls f = sum_by-parted f is_late_toll tolls_read
 
   module _ (sheet : Sheet) where
     -- what the column settles of a toll at all places

@@ -1,33 +1,21 @@
 //! What a column settles of late tolls.
 
 ghost use Rattle.std.specs.Prelude.{◌≡◌, ◌≤◌, ◌<◌, ◌+◌, ◌-◌, true, ◌&&◌, nat_le, ◌++◌, ◌∷◌, [], ℕ, List, IsTrue, length};
-ghost use Rattle.std.specs.List.{filter, list_all, sum_by};
+ghost use Rattle.std.specs.List.{sum_by};
 ghost use Rattle.fux_grid.specs.declared.cell.Cell.{Cell as ACell};
 ghost use Rattle.fux_grid.specs.Exercises.{IsValid, columns_in};
 ghost use Rattle.rule_law.specs.Rulebooks.{IsAmong, newly_costs};
 ghost use Rattle.fux_judge.specs.Penalties.{new_toll};
 ghost use Rattle.fux_judge.specs.Rules as rules;
-ghost use Rattle.fux_judge.specs.Rules.{is_late_toll, late_tolls, toll_at, tolls_read};
+ghost use Rattle.fux_judge.specs.Rules.{is_late_toll, late_tolls, toll_at};
 ghost use Rattle.fux_judge.specs.States.{HasCome};
 ghost use Rattle.fux_judge.specs.Steps as steps;
 
+use crate::numbers::every_late_toll;
 use crate::state::State;
 use fux_grid::Exercise;
 use penalty_sheet::{Sheet, weight};
 use rule_law::LatePlaces;
-
-/// The tolls that may be settled later than at their own column.
-const LATE_TOLLS: [u8; 7] = [3, 4, 5, 6, 12, 15, 16];
-
-#[tactic(auto, unfolding(crate::specs::Rules::late_tolls, crate::specs::Rules::tolls_read, crate::specs::Rules::toll_at))]
-fn every_late_toll() -> &'static [u8]
-    ensures value { result.now ≡ late_tolls }
-    ensures table { result.now ≡ filter is_late_toll tolls_read }
-    ensures numbers { IsTrue (list_all (λ toll. nat_le 1 toll && (nat_le toll 20 && is_late_toll toll)) result.now) }
-    ensures few { length result.now ≤ 8 }
-{
-    &LATE_TOLLS
-}
 
 /// Whether a toll is of motion.
 #[inline]

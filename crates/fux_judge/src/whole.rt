@@ -1,10 +1,8 @@
 //! Rules and tolls, read in a whole list of columns: each in the crate that has it.
 
-ghost use Rattle.std.specs.Prelude.{◌≡◌, ◌≤◌, ◌<◌, ◌&&◌, ℕ, IsTrue, nat_le, length};
-ghost use Rattle.std.specs.List.{filter, list_all, range_with_len};
+ghost use Rattle.std.specs.Prelude.{◌≡◌, ◌≤◌, ◌<◌, length};
 ghost use Rattle.fux_grid.specs.Exercises.{IsValid, columns_in};
 ghost use Rattle.fux_judge.specs.Rules as rules;
-ghost use Rattle.fux_judge.specs.Rules.{all_rules, tolls_read};
 
 use crate::reading::{is_melodic, is_of_dissonance, is_of_doubling, is_of_motion, is_of_rhythm};
 use dissonance_rules::{Dissonance, Q1, Q2};
@@ -65,20 +63,6 @@ pub fn is_settled_in(rule: u8, ex: &Exercise, prefix: &Score, i: usize, voices: 
         return Doubling.settled(rule, ex, prefix, i, voices);
     }
     true
-}
-
-/// All tolls that are read.
-const TOLLS: [u8; 16] = [1, 2, 3, 4, 5, 6, 7, 8, 9, 10, 11, 12, 13, 14, 15, 16];
-
-/// All tolls that are read, by ascending numbers: those of all crates.
-#[tactic(auto, unfolding(crate::specs::Rules::tolls_read))]
-pub fn every_toll() -> &'static [u8]
-    ensures value { result.now ≡ tolls_read }
-    ensures table { result.now ≡ filter all_rules.has_toll (range_with_len 1 20) }
-    ensures numbers { IsTrue (list_all (λ toll. nat_le 1 toll && nat_le toll 20) result.now) }
-    ensures few { length result.now ≤ 20 }
-{
-    &TOLLS
 }
 
 /// What a toll costs at column `i`, without its weight. A number that no crate has costs nothing.
