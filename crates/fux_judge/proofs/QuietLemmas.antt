@@ -1,16 +1,12 @@
 -- At a quiet column no rule that is settled at once is broken, and no such toll costs anything.
-use Rattle.std.proofs.Common.{◌≡◌, ◌≢◌, ℕ, ◌+◌, ◌*◌, ◌==◌, ◌&&◌, Bool, true, false, not, List, [], ◌∷◌, length, reverse, refl, ap, sym, ◌∙◌, subst, arith}
+use Rattle.std.proofs.Common.{◌≡◌, ℕ, ◌+◌, ◌*◌, ◌==◌, ◌&&◌, Bool, true, false, not, List, [], ◌∷◌, length, reverse, refl, ap, sym, ◌∙◌, arith}
 use Rattle.std.specs.Prelude.{if◌then◌else◌, nat_lt}
 use Rattle.std.specs.List.{list_all, list_any, sum_by}
 use Rattle.std.proofs.lemmas.Bool.{and_parts}
 use Rattle.std.proofs.lemmas.List.Sums.{sum_by-cons}
 use Rattle.fux_grid.specs.declared.cell.Cell.{Cell}
-use Rattle.fux_grid.specs.Cells.{cell_in}
-use Rattle.fux_grid.specs.Columns.{newest_column}
 use Rattle.rule_law.specs.Growth.{sum_by-none}
-use Rattle.rule_law.specs.Nearby.{previous_pitches}
-use Rattle.rule_law.specs.Quiet.{is_quiet, quiet_cell}
-use Rattle.rule_law.specs.Terms.{starts}
+use Rattle.rule_law.specs.Quiet.{is_quiet}
 use Rattle.penalty_sheet.specs.declared.sheet.Sheet.{Sheet}
 use Rattle.penalty_sheet.specs.Weights.{weight_of}
 use Rattle.fux_judge.specs.declared.moment.Moment.{Moment}

@@ -1,18 +1,17 @@
 -- A step tells which rules the column breaks (`step_breaks`), and what it costs (`step_pays`).
-use Rattle.std.proofs.Common.{◌≡◌, ℕ, ◌+◌, ◌*◌, ◌==◌, ◌&&◌, ◌||◌, Bool, true, false, List, [], ◌∷◌, ◌++◌, length, refl, ap, sym, ◌∙◌, arith}
+use Rattle.std.proofs.Common.{◌≡◌, ℕ, ◌+◌, ◌==◌, ◌&&◌, ◌||◌, Bool, true, false, List, [], ◌∷◌, ◌++◌, length, refl, ap, sym, ◌∙◌, arith}
 use Rattle.std.specs.Prelude.{if◌then◌else◌, not}
-use Rattle.std.specs.List.{filter, list_all, list_any, sum_by}
+use Rattle.std.specs.List.{list_any, sum_by}
 use Rattle.std.proofs.lemmas.Bool.{eqb-true}
 use Rattle.fux_grid.specs.declared.cell.Cell.{Cell}
 use Rattle.fux_grid.specs.declared.exercise.Exercise.{Exercise}
 use Rattle.rule_law.specs.Growth.{list_any-same, sum_by-same}
 use Rattle.rule_law.specs.Prefixes.{GoesOn}
 use Rattle.penalty_sheet.specs.declared.sheet.Sheet.{Sheet}
-use Rattle.penalty_sheet.specs.Weights.{weight_of}
 use Rattle.fux_judge.specs.declared.moment.Moment.{Moment}
 use Rattle.fux_judge.specs.Parts.{list_any-parted}
-use Rattle.fux_judge.specs.Rules.{all_sets, is_broken, is_late, is_read, cost_at, late_rules, late_tolls, rules_at_once, rules_read, tolls_at_once}
-use Rattle.fux_judge.specs.Penalties.{is_strict_at, price_at, newly_broken, newly_paid, paid}
+use Rattle.fux_judge.specs.Rules.{all_sets, is_broken, is_late, is_read, late_rules, late_tolls, rules_at_once, rules_read, tolls_at_once}
+use Rattle.fux_judge.specs.Penalties.{is_strict_at, price_at, newly_broken, newly_paid}
 use Rattle.fux_judge.specs.Moments.{is_strictly_broken_then, prices_then, toll_then}
 use Rattle.fux_judge.specs.Steps.{all_at_once, all_late, breaks_late, is_strictly_broken_at_end, newly_broken-at_once, newly_broken-late, newly_paid-parts, prices_at_end, prices_late, toll_at_end, toll_late, tolls_at_end}
 use Rattle.fux_judge.proofs.PruningLemmas.{one_of}

@@ -9,10 +9,9 @@ use Rattle.std.proofs.lemmas.Bool.{eq-eqb, eqb-true}
 use Rattle.std.proofs.lemmas.List.{length-append, reverse-append, reverse-reverse}
 use Rattle.fux_grid.specs.declared.cell.Cell.{Cell}
 use Rattle.fux_grid.specs.declared.exercise.Exercise.{Exercise}
-use Rattle.fux_grid.specs.Columns.{ColumnFollows, HistoryFollows, newest_column}
-use Rattle.fux_grid.specs.Exercises.{columns_in}
+use Rattle.fux_grid.specs.Columns.{HistoryFollows}
 use Rattle.fux_grid.specs.Menus.{IsInMenu}
-use Rattle.fux_grid.specs.Orderly.{HasBegun, IsOrderly}
+use Rattle.fux_grid.specs.Orderly.{IsOrderly}
 use Rattle.fux_grid.proofs.Histories.{reverse-push}
 use Rattle.fux_grid.proofs.OrderlyLemmas.{orderly-fewer}
 use Rattle.rule_law.specs.Prefixes.{GoesOn, IsPrefix, IsSetting}

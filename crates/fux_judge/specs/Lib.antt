@@ -1,6 +1,7 @@
 pub mod Alive
 pub mod Always
 pub mod Charges
+pub mod Crates
 pub mod Ends
 pub mod Facts
 pub mod Grows

@@ -1,5 +1,5 @@
 -- What the rules and tolls read at the column that comes after a prefix.
-use Rattle.std.specs.Prelude.{◌≡◌, ℕ, ◌&&◌, ◌*◌, ◌<◌, Bool, List, [], ◌∷◌, ◌++◌, ◌==◌, reverse, length, if◌then◌else◌}
+use Rattle.std.specs.Prelude.{◌≡◌, ℕ, ◌&&◌, ◌*◌, ◌<◌, Bool, List, [], ◌∷◌, ◌++◌, reverse, length, if◌then◌else◌}
 use Rattle.std.specs.List.{list_any, sum_by}
 use Rattle.fux_grid.specs.declared.cell.Cell.{Cell}
 use Rattle.fux_grid.specs.Columns.{newest_column}

@@ -1,15 +1,14 @@
 -- What one column settles: of rules and tolls that are settled at once what is read at its own place, of late rules what is newly
 -- settled at their places.
-use Rattle.std.specs.Prelude.{◌≡◌, ℕ, zero, suc, ◌+◌, ◌-◌, ◌*◌, ◌<◌, ◌≤◌, ◌==◌, Bool, true, false, not, ◌&&◌, ◌||◌, nat_lt, List, [], ◌∷◌, ◌++◌, length, if◌then◌else◌, refl}
+use Rattle.std.specs.Prelude.{◌≡◌, ℕ, zero, suc, ◌+◌, ◌-◌, ◌*◌, ◌<◌, ◌≤◌, Bool, true, false, not, ◌&&◌, ◌||◌, nat_lt, List, [], ◌∷◌, ◌++◌, length, if◌then◌else◌, refl}
 use Rattle.std.specs.List.{list_all, list_any, sum_by}
-use Rattle.std.proofs.Common.{ap, sym, ◌∙◌, subst, arith, add-one}
+use Rattle.std.proofs.Common.{ap, sym, ◌∙◌, arith, add-one}
 use Rattle.std.proofs.lemmas.Bool.{false_from_ne_true}
 use Rattle.std.proofs.lemmas.Bool.Decides.{nat_tests}
 use Rattle.std.proofs.lemmas.List.{length-append}
 use Rattle.std.proofs.lemmas.List.Sums.{sum_by-cons}
 use Rattle.fux_grid.specs.declared.cell.Cell.{Cell}
 use Rattle.fux_grid.specs.declared.exercise.Exercise.{Exercise}
-use Rattle.fux_grid.specs.Columns.{earlier}
 use Rattle.rule_law.specs.Forms.{IsOf, sets_of}
 use Rattle.rule_law.specs.Growth.{any_below, any_below-same, any_below-list_any, sum_below, sum_below-same, sum_below-plus, sum_below-sum_by, newly, list_any-same, sum_by-same, sum_by-none}
 use Rattle.rule_law.specs.Law.{first_true, second_true, test_from_below}

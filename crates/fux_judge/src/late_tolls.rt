@@ -6,34 +6,17 @@ ghost use Rattle.fux_grid.specs.declared.cell.Cell.{Cell as ACell};
 ghost use Rattle.fux_grid.specs.Exercises.{IsValid, columns_in};
 ghost use Rattle.rule_law.specs.Rulebooks.{IsAmong, newly_costs};
 ghost use Rattle.fux_judge.specs.Penalties.{new_toll};
-ghost use Rattle.fux_judge.specs.Rules as rules;
 ghost use Rattle.fux_judge.specs.Rules.{is_late_toll, late_tolls, toll_at};
 ghost use Rattle.fux_judge.specs.States.{HasCome};
 ghost use Rattle.fux_judge.specs.Steps as steps;
 
-use crate::numbers::every_late_toll;
+use crate::numbers::{RuleCrate, crate_of_toll, every_late_toll};
 use crate::state::State;
 use fux_grid::Exercise;
 use penalty_sheet::{Sheet, weight};
 use rule_law::LatePlaces;
 
-/// Whether a toll is of motion.
-#[inline]
-fn is_of_motion(toll: u8) -> bool
-    ensures { result ≡ rules.is_toll_of_motion toll }
-{
-    toll == 11 || toll == 12 || toll == 14
-}
-
-/// Whether a toll is of rhythm.
-#[inline]
-fn is_of_rhythm(toll: u8) -> bool
-    ensures { result ≡ rules.is_toll_of_rhythm toll }
-{
-    toll == 15 || toll == 16
-}
-
-/// Where column `i` may settle what a late toll costs, as the crate that has it says.
+/// Where column `i` may settle what a late toll costs, as the crate that has it says. Melody and dissonance have none.
 fn places_at(toll: u8, ex: &Exercise, i: usize) -> LatePlaces
     requires late { is_late_toll toll ≡ true }
     requires valid { IsValid ex.now }
@@ -42,13 +25,14 @@ fn places_at(toll: u8, ex: &Exercise, i: usize) -> LatePlaces
     ensures count { result.count ≡ (toll_at toll).count ex.now i }
     ensures few { result.count ≤ 24 }
 {
-    if is_of_motion(toll) {
-        return motion_rules::toll_places(toll, ex, i);
+    match crate_of_toll(toll) {
+        Some(RuleCrate::Melody) => LatePlaces { first: i, count: 1 },
+        Some(RuleCrate::Motion) => motion_rules::toll_places(toll, ex, i),
+        Some(RuleCrate::Dissonance) => LatePlaces { first: i, count: 1 },
+        Some(RuleCrate::Rhythm) => rhythm_cadence::toll_places(toll, ex, i),
+        Some(RuleCrate::Doubling) => doubling_rules::toll_places(toll, ex, i),
+        None => LatePlaces { first: i, count: 1 },
     }
-    if is_of_rhythm(toll) {
-        return rhythm_cadence::toll_places(toll, ex, i);
-    }
-    doubling_rules::toll_places(toll, ex, i)
 }
 
 /// Where the newest column may settle what a late toll costs.
@@ -77,13 +61,14 @@ fn cost_at(toll: u8, ex: &Exercise, next: &State, place: usize) -> u32
     ensures bound { result ≤ 6 }
 {
     let newest = &next.newest;
-    if is_of_motion(toll) {
-        return motion_rules::cost_late(newest, toll, ex, place);
+    match crate_of_toll(toll) {
+        Some(RuleCrate::Melody) => 0,
+        Some(RuleCrate::Motion) => motion_rules::cost_late(newest, toll, ex, place),
+        Some(RuleCrate::Dissonance) => 0,
+        Some(RuleCrate::Rhythm) => rhythm_cadence::cost_late(newest, toll, ex, place),
+        Some(RuleCrate::Doubling) => doubling_rules::cost_late(newest, toll, ex, place),
+        None => 0,
     }
-    if is_of_rhythm(toll) {
-        return rhythm_cadence::cost_late(newest, toll, ex, place);
-    }
-    doubling_rules::cost_late(newest, toll, ex, place)
 }
 
 /// What it settles there by the toll's weight.

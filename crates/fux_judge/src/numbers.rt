@@ -1,10 +1,24 @@
-//! The numbers of rules and tolls: which there are, which are settled at once and which are late, and which are left to read where a
-//! test tells of the others. Each list is the table's, by its clause.
+//! The numbers of rules and tolls: which there are, which crate has each, which are settled at once and which are late, and which are
+//! left to read where a test tells of the others. Each list is the table's, by its clause.
 
 ghost use Rattle.std.specs.Prelude.{◌≡◌, ◌≤◌, ◌&&◌, not, nat_le, nat_lt, ℕ, IsTrue, length};
 ghost use Rattle.std.specs.List.{filter, list_all, range_with_len};
+ghost use Rattle.fux_judge.specs.Crates.{crate_with, crate_with_toll};
 ghost use Rattle.fux_judge.specs.Kept.{rules_at_a_bar, rules_at_the_end, rules_within_bars};
-ghost use Rattle.fux_judge.specs.Rules.{all_rules, is_late, is_late_toll, late_rules, late_tolls, rules_at_once, rules_read, tolls_read};
+ghost use Rattle.fux_judge.specs.Rules as rules;
+ghost use Rattle.fux_judge.specs.Rules.{all_rules, is_late, is_late_toll, late_rules, late_tolls, rule_at, rules_at_once, rules_read, tolls_read};
+
+use rule_law::Form;
+
+/// The crates of rules.
+#[derive(Clone, Copy, Debug, PartialEq, Eq)]
+pub(crate) enum RuleCrate {
+    Melody,
+    Motion,
+    Dissonance,
+    Rhythm,
+    Doubling,
+}
 
 /// All rules that are read.
 const RULES: [u8; 26] = [
@@ -108,4 +122,150 @@ pub(crate) fn every_late_toll() -> &'static [u8]
     ensures few { length result.now ≤ 8 }
 {
     &LATE_TOLLS
+}
+
+/// Whether a rule is of melody.
+#[inline]
+fn is_melodic(rule: u8) -> bool
+    ensures { result ≡ rules.is_melodic rule }
+{
+    rule == 4 || rule == 5 || rule == 6 || rule == 7 || rule == 8 || rule == 9 || rule == 26
+}
+
+/// Whether a rule is of motion.
+#[inline]
+fn is_of_motion(rule: u8) -> bool
+    ensures { result ≡ rules.is_of_motion rule }
+{
+    rule == 10 || rule == 16 || rule == 17 || rule == 18
+}
+
+/// Whether a rule is of dissonance.
+#[inline]
+fn is_of_dissonance(rule: u8) -> bool
+    ensures { result ≡ rules.is_of_dissonance rule }
+{
+    rule == 11 || rule == 14 || rule == 15 || rule == 19 || rule == 20 || rule == 21
+}
+
+/// Whether a rule is of rhythm and cadence.
+#[inline]
+fn is_of_rhythm(rule: u8) -> bool
+    ensures { result ≡ rules.is_of_rhythm rule }
+{
+    matches!(rule, 1 | 2 | 3 | 12 | 13 | 22 | 24 | 25)
+}
+
+/// Whether a rule is of what voices double.
+#[inline]
+fn is_of_doubling(rule: u8) -> bool
+    ensures { result ≡ rules.is_of_doubling rule }
+{
+    rule == 23
+}
+
+/// The crate that has a rule; none has a number that is in no book.
+pub(crate) fn crate_of(rule: u8) -> Option<RuleCrate>
+    ensures { result ≡ crate_with rule }
+{
+    if is_melodic(rule) {
+        return Some(RuleCrate::Melody);
+    }
+    if is_of_motion(rule) {
+        return Some(RuleCrate::Motion);
+    }
+    if is_of_dissonance(rule) {
+        return Some(RuleCrate::Dissonance);
+    }
+    if is_of_rhythm(rule) {
+        return Some(RuleCrate::Rhythm);
+    }
+    if is_of_doubling(rule) {
+        return Some(RuleCrate::Doubling);
+    }
+    None
+}
+
+/// Which sets of voices a rule speaks of.
+#[inline]
+#[tactic(auto, unfolding(crate::specs::Rules::rule_at))]
+pub(crate) fn form_of(rule: u8) -> Form
+    ensures { result ≡ (rule_at rule).form }
+{
+    if is_melodic(rule) {
+        return Form::OneVoice;
+    }
+    if is_of_motion(rule) {
+        return Form::TwoVoices;
+    }
+    if is_of_dissonance(rule) {
+        return Form::TwoVoices;
+    }
+    match rule {
+        13 | 23 => Form::TwoVoices,
+        22 => Form::AllVoices,
+        _ => Form::OneVoice,
+    }
+}
+
+/// Whether a toll is of melody.
+#[inline]
+fn is_toll_of_melody(toll: u8) -> bool
+    ensures { result ≡ rules.is_toll_of_melody toll }
+{
+    toll == 7 || toll == 8 || toll == 9 || toll == 10 || toll == 13
+}
+
+/// Whether a toll is of motion.
+#[inline]
+fn is_toll_of_motion(toll: u8) -> bool
+    ensures { result ≡ rules.is_toll_of_motion toll }
+{
+    toll == 11 || toll == 12 || toll == 14
+}
+
+/// Whether a toll is of dissonance.
+#[inline]
+fn is_toll_of_dissonance(toll: u8) -> bool
+    ensures { result ≡ rules.is_toll_of_dissonance toll }
+{
+    toll == 1 || toll == 2
+}
+
+/// Whether a toll is of rhythm.
+#[inline]
+fn is_toll_of_rhythm(toll: u8) -> bool
+    ensures { result ≡ rules.is_toll_of_rhythm toll }
+{
+    toll == 15 || toll == 16
+}
+
+/// Whether a toll is of what voices double.
+#[inline]
+fn is_toll_of_doubling(toll: u8) -> bool
+    ensures { result ≡ rules.is_toll_of_doubling toll }
+{
+    toll == 3 || toll == 4 || toll == 5 || toll == 6
+}
+
+/// The crate that has a toll.
+pub(crate) fn crate_of_toll(toll: u8) -> Option<RuleCrate>
+    ensures { result ≡ crate_with_toll toll }
+{
+    if is_toll_of_melody(toll) {
+        return Some(RuleCrate::Melody);
+    }
+    if is_toll_of_motion(toll) {
+        return Some(RuleCrate::Motion);
+    }
+    if is_toll_of_dissonance(toll) {
+        return Some(RuleCrate::Dissonance);
+    }
+    if is_toll_of_rhythm(toll) {
+        return Some(RuleCrate::Rhythm);
+    }
+    if is_toll_of_doubling(toll) {
+        return Some(RuleCrate::Doubling);
+    }
+    None
 }
