@@ -160,12 +160,12 @@ module _ (p : List (List Cell)) (m : Moment) where
         ap found_in e ∙ left_out strict is_close rules_at_a_bar r (closeness_kept apart) ∙ at_a_bar before rules_at_a_bar refl
 
 -- by the answers of the three tests
-pub fair_by_tests : (p : List (List Cell)) (m : Moment) → IsAfter p m → true ≡ not (some_rough m.exercise.now (reverse p) m.column.now) → true ≡ not (some_move_badly m.exercise.now m.before.now m.column.now) → true ≡ not (some_out_of_place m.exercise.now m.place m.latest.pitches m.column.now) → IsFair p m
+pub fair_by_tests : (p : List (List Cell)) (m : Moment) → IsAfter p m → true ≡ not (some_rough m.exercise.now (reverse p) m.column.now) → true ≡ not (some_move_badly m.exercise.now m.before.now m.column.now) → true ≡ not (some_out_of_place m.exercise.now m.state.now.newest.len m.latest.pitches m.column.now) → IsFair p m
 fair_by_tests p m after smooth clear placed = record {
   smooth = not_rough (some_rough m.exercise.now (reverse p) m.column.now) smooth;
   clear = ap (λ b. some_move_badly m.exercise.now b m.column.now) (sym after.before) ∙ not_rough (some_move_badly m.exercise.now m.before.now m.column.now) clear;
   placed =
-      ap (λ i. some_out_of_place m.exercise.now i (previous_pitches (reverse p)) m.column.now) (sym after.place)
-      ∙ ap (λ l. some_out_of_place m.exercise.now m.place l m.column.now) (sym after.latest)
-      ∙ not_rough (some_out_of_place m.exercise.now m.place m.latest.pitches m.column.now) placed;
+      ap (λ i. some_out_of_place m.exercise.now i (previous_pitches (reverse p)) m.column.now) (sym after.state.newest.count)
+      ∙ ap (λ l. some_out_of_place m.exercise.now m.state.now.newest.len l m.column.now) (sym after.latest)
+      ∙ not_rough (some_out_of_place m.exercise.now m.state.now.newest.len m.latest.pitches m.column.now) placed;
 }

@@ -27,9 +27,9 @@ use Rattle.fux_judge.specs.Moments.{IsAfter, is_broken_then, with_column}
 use Rattle.fux_judge.proofs.CrateLemmas.{breaks_by_crate, late_by_crate, not_shape, rule_of_crate, soon_in_dissonance, soon_in_motion, soon_in_rhythm}
 
 -- a row of neighbors reads the column before and each voice's previous pitch
-pub near_then : {R : Type 0} (row : NearRow R) (p : List (List Cell)) (m : Moment) → IsAfter p m → row m.place m.before.now m.latest.pitches m.column.now ≡ whole_of row (length p) (reverse p) m.column.now []
+pub near_then : {R : Type 0} (row : NearRow R) (p : List (List Cell)) (m : Moment) → IsAfter p m → row m.state.now.newest.len m.before.now m.latest.pitches m.column.now ≡ whole_of row (length p) (reverse p) m.column.now []
 near_then row p m after =
-    ap (λ i. row i m.before.now m.latest.pitches m.column.now) after.place
+    ap (λ i. row i m.before.now m.latest.pitches m.column.now) after.state.newest.count
     ∙ ap (λ b. row (length p) b m.latest.pitches m.column.now) after.before
     ∙ ap (λ l. row (length p) (newest_column (reverse p)) l m.column.now) after.latest
 
@@ -121,7 +121,7 @@ module _ (toll : ℕ) (p : List (List Cell)) (m : Moment) where
   unfolding toll_at
   costs_of_dissonance = one_of_two (λ t. costs t m.exercise.now ≡ dissonance.cost_in t m.exercise.now) 1 2 refl refl
 
-  pub bar_line_cost : toll ≡ 14 → m.place ≡ length p → reading_of (motion.cost_in 14 m.exercise.now) (p ++ m.column.now ∷ []) m.place ≡ cost_at toll m.exercise.now (with_column p m) (length p)
+  pub bar_line_cost : toll ≡ 14 → m.state.now.newest.len ≡ length p → reading_of (motion.cost_in 14 m.exercise.now) (p ++ m.column.now ∷ []) m.state.now.newest.len ≡ cost_at toll m.exercise.now (with_column p m) (length p)
   bar_line_cost e here =
       ap (reading_of (motion.cost_in 14 m.exercise.now) (p ++ m.column.now ∷ [])) here
       ∙ ap (λ t. reading_of (motion.cost_in t m.exercise.now) (p ++ m.column.now ∷ []) (length p)) (sym e)

@@ -21,7 +21,7 @@ pub none_passes : {X : Type 0} (test : X → Bool) (xs : List X) → ((x : X) �
 none_passes test [] none = refl
 none_passes test (x ∷ xs) none = rw (none x) (none_passes test xs none)
 
-module _ (p : List (List Cell)) (m : Moment) (place : m.place ≡ length p) (quiet : is_quiet m.place m.column.now ≡ true) where
+module _ (p : List (List Cell)) (m : Moment) (place : m.state.now.newest.len ≡ length p) (quiet : is_quiet m.state.now.newest.len m.column.now ≡ true) where
   here : is_quiet (length p) m.column.now ≡ true
   here = sym (ap (λ i. is_quiet i m.column.now) place) ∙ quiet
 

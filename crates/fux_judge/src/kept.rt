@@ -20,19 +20,19 @@ pub(crate) fn rules_left(m: &Moment<'_>) -> &'static [u8]
     ensures numbers { IsTrue (list_all (λ rule. nat_lt rule 32 && not (is_late rule)) result.now) }
     ensures kept { (p : List (List ACell)) → IsAfter p m.now → (r : ℕ) → list_any (λ rule. is_strictly_broken_then all_sets rule p m.now && r == rule) result.now ≡ list_any (λ rule. is_strictly_broken_then all_sets rule p m.now && r == rule) rules_at_once }
 {
-    if !are_smooth(m.exercise, m.notes, m.column) {
+    if !are_smooth(m.exercise, &m.state.melody, m.column) {
         return all_at_once();
     }
     if !are_clear(m.exercise, m.before, m.column) {
         return all_at_once();
     }
-    if !are_in_place(m.exercise, m.place, &m.latest, m.column) {
+    if !are_in_place(m.exercise, m.state.newest.len, &m.latest, m.column) {
         return all_at_once();
     }
-    if !begins_bar(m.place) {
+    if !begins_bar(m.state.newest.len) {
         return left_within_bars();
     }
-    if begins_last_bar(m.exercise, m.place) {
+    if begins_last_bar(m.exercise, m.state.newest.len) {
         return left_at_the_end();
     }
     if are_apart(m.exercise, m.column) {

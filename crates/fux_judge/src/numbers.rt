@@ -165,6 +165,7 @@ fn is_of_doubling(rule: u8) -> bool
 }
 
 /// The crate that has a rule; none has a number that is in no book.
+#[inline]
 pub(crate) fn crate_of(rule: u8) -> Option<RuleCrate>
     ensures { result ≡ crate_with rule }
 {
@@ -249,6 +250,7 @@ fn is_toll_of_doubling(toll: u8) -> bool
 }
 
 /// The crate that has a toll.
+#[inline]
 pub(crate) fn crate_of_toll(toll: u8) -> Option<RuleCrate>
     ensures { result ≡ crate_with_toll toll }
 {

@@ -32,10 +32,16 @@ fn breaks_melody(rule: u8, voices: VoiceSet, m: &Moment<'_>) -> bool
     ensures { (p : List (List ACell)) → IsAfter p m.now → result ≡ is_broken_then rule voices.bits p m.now }
 {
     if looks_back(rule) {
-        return breaks_looking_back(rule, m.exercise, voices, m.notes, m.column);
+        return breaks_looking_back(rule, m.exercise, voices, &m.state.melody, m.column);
     }
     melody_rules::breaks(
-        rule, m.exercise, voices, m.place, m.before, &m.latest, m.column,
+        rule,
+        m.exercise,
+        voices,
+        m.state.newest.len,
+        m.before,
+        &m.latest,
+        m.column,
     )
 }
 
@@ -45,7 +51,7 @@ fn is_broken(rule: u8, voices: VoiceSet, m: &Moment<'_>) -> bool
     requires readable { IsReadable m.now }
     ensures { (p : List (List ACell)) → IsAfter p m.now → result ≡ is_broken_then rule voices.bits p m.now }
 {
-    let (ex, i, before, now) = (m.exercise, m.place, m.before, m.column);
+    let (ex, i, before, now) = (m.exercise, m.state.newest.len, m.before, m.column);
     match crate_of(rule) {
         Some(RuleCrate::Melody) => breaks_melody(rule, voices, m),
         Some(RuleCrate::Motion) => motion_rules::breaks(
@@ -66,9 +72,9 @@ fn is_broken(rule: u8, voices: VoiceSet, m: &Moment<'_>) -> bool
 #[inline]
 fn bar_at(m: &Moment<'_>) -> u8
     requires { IsReadable m.now }
-    ensures { result ≡ bar_of m.now.place }
+    ensures { result ≡ bar_of m.now.state.now.newest.len }
 {
-    (m.place / 8 + 1) as u8
+    (m.state.newest.len / 8 + 1) as u8
 }
 
 /// Whether a rule that is settled at once is strictly broken for a set of voices.

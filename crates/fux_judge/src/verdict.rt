@@ -108,15 +108,13 @@ pub(crate) fn moment_of<'a>(ex: &'a Exercise, state: &'a State, col: &'a Column)
     ensures after { (p : List (List ACell)) → IsStateOf ex.entry.now p state.entry.now → IsAfter p result }
     ensures exercise { result.exercise.now ≡ ex.entry.now }
     ensures column { result.column.now ≡ col.entry.now.items }
-    ensures place { result.place ≡ state.entry.now.newest.len }
+    ensures place { result.state.now.newest.len ≡ state.entry.now.newest.len }
 {
     Moment {
         exercise: ex,
-        place: state.newest.len,
+        state,
         before: state.before(ex),
         latest: latest_of_notes(&state.melody),
-        notes: &state.melody,
-        bar_lines: &state.motion,
         column: col.as_slice(),
     }
 }
@@ -129,7 +127,7 @@ fn readings(sheet: &Sheet, m: &Moment<'_>) -> (RuleSet, u64)
     ensures paid { (p : List (List ACell)) → IsAfter p m.now → result.1 ≡ sum_by (toll_then sheet.now p m.now) tolls_at_once + sum_by (λ rule. prices_then all_sets rule p m.now) rules_at_once }
     ensures bound { result.1 ≤ 9784200 }
 {
-    if is_quiet(m.place, m.column) {
+    if is_quiet(m.state.newest.len, m.column) {
         return (RuleSet::EMPTY, 0);
     }
     let paid = charges(sheet, m) + prices_of(all_at_once(), m);

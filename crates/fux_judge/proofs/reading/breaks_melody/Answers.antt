@@ -5,7 +5,7 @@ use Rattle.fux_judge.proofs.reading.breaks_melody.Goals as goal
 
 pub returns-then-looks_back : goal.returns-then-looks_back
 returns-then-looks_back c = λ p after.
-    c.breaks_looking_back.ensures (length p) (reverse p) [] after.notes
+    c.breaks_looking_back.ensures (length p) (reverse p) [] after.state.melody
     ∙ window_then c.args.rule c.args.voices.bits p c.args.m.now c.requires.rule (sym c.if-looks_back.ensures)
 
 pub returns : goal.returns
