@@ -17,8 +17,8 @@ use Rattle.penalty_sheet.specs.declared.sheet.Sheet.{Sheet}
 use Rattle.penalty_sheet.specs.Weights.{weight_of}
 use Rattle.fux_judge.specs.Charges.{stands, tolls_of_melody, tolls_of_pairs, voice_charge, voice_charges, voice_toll}
 use Rattle.fux_judge.specs.Penalties.{newly_paid}
-use Rattle.fux_judge.specs.Rules.{costs, cost_at, toll_at, tolls_at_once}
-use Rattle.fux_judge.specs.Steps.{tolls_at_end, tolls_within}
+use Rattle.fux_judge.specs.Rules.{costs, cost_at, toll_at, tolls_at_once, tolls_read}
+use Rattle.fux_judge.specs.Steps.{toll_at_end, tolls_at_end, tolls_within}
 
 -- so many of four, by a weight, is the weight for each of them
 weighed : (a b c d : Bool) (w : ℕ) → (0 + (if a then 1 else 0) + (if b then 1 else 0) + (if c then 1 else 0) + (if d then 1 else 0)) * w ≡ (if a then w else 0) + (if b then w else 0) + (if c then w else 0) + (if d then w else 0)
@@ -38,6 +38,11 @@ weighed false false true true w = omega arith
 weighed false false true false w = omega arith
 weighed false false false true w = omega arith
 weighed false false false false w = omega arith
+
+-- the tolls that are settled at once are those of melody, and those of several voices
+tolls_here : tolls_at_once ≡ 1 ∷ 2 ∷ 7 ∷ 8 ∷ 9 ∷ 10 ∷ 11 ∷ 13 ∷ 14 ∷ []
+unfolding tolls_at_once tolls_read toll_at
+tolls_here = refl
 
 module _ (ex : Exercise) (sheet : Sheet) (p : List (List Cell)) (col : List Cell) where
   -- each toll of melody at the column is what it costs the four voices
@@ -61,10 +66,12 @@ module _ (ex : Exercise) (sheet : Sheet) (p : List (List Cell)) (col : List Cell
   unfolding toll_at melody.open_leaps
   thirteen = ap (λ n. n * weight_of sheet 13) (reading-at_end (costs 13 ex) p col) ∙ weighed _ _ _ _ (weight_of sheet 13)
 
+  by_numbers : sum_by (toll_at_end ex sheet p col) (1 ∷ 2 ∷ 7 ∷ 8 ∷ 9 ∷ 10 ∷ 11 ∷ 13 ∷ 14 ∷ []) ≡ voice_charge ex sheet p col 0 + voice_charge ex sheet p col 1 + voice_charge ex sheet p col 2 + voice_charge ex sheet p col 3 + sum_by (toll_at_end ex sheet p col) tolls_of_pairs
+  by_numbers = omega (arith, seven, eight, nine, ten, thirteen)
+
   -- so all tolls that are settled at once are what each voice pays, and the others
   pub tolls_by_voices : tolls_at_end ex sheet p col ≡ voice_charge ex sheet p col 0 + voice_charge ex sheet p col 1 + voice_charge ex sheet p col 2 + voice_charge ex sheet p col 3 + sum_by (λ toll. cost_at toll ex (p ++ col ∷ []) (length p) * weight_of sheet toll) tolls_of_pairs
-  unfolding tolls_at_once
-  tolls_by_voices = omega (arith, seven, eight, nine, ten, thirteen)
+  tolls_by_voices = ap (sum_by (toll_at_end ex sheet p col)) tolls_here ∙ by_numbers
 
   no_more : (n : ℕ) → n ≤ 4 → voice_charges n ex sheet p col ≤ voice_charge ex sheet p col 0 + voice_charge ex sheet p col 1 + voice_charge ex sheet p col 2 + voice_charge ex sheet p col 3
   no_more zero h = omega arith

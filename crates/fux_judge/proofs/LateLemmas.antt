@@ -1,17 +1,17 @@
 -- What is read at the places of a late rule.
-use Rattle.std.proofs.Common.{◌≡◌, ℕ, ◌+◌, ◌-◌, ◌<◌, ◌==◌, ◌&&◌, ◌||◌, zero, suc, Bool, true, false, List, [], ◌∷◌, ◌++◌, length, refl, ap, sym, ◌∙◌, arith}
+use Rattle.std.proofs.Common.{◌≡◌, ℕ, ◌+◌, ◌-◌, ◌<◌, ◌==◌, ◌&&◌, ◌||◌, zero, suc, Bool, true, false, List, [], ◌∷◌, length, refl, ap, sym, ◌∙◌, arith}
 use Rattle.std.specs.Prelude.{if◌then◌else◌}
-use Rattle.std.specs.List.{list_any, sum_by}
+use Rattle.std.specs.List.{sum_by}
 use Rattle.std.proofs.lemmas.List.{length-append}
 use Rattle.fux_grid.specs.declared.cell.Cell.{Cell}
 use Rattle.fux_grid.specs.declared.exercise.Exercise.{Exercise}
 use Rattle.std.proofs.lemmas.Bool.{eqb-true}
 use Rattle.std.proofs.lemmas.Bool.Decides.{nat_tests}
 use Rattle.rule_law.specs.Growth.{any_below, sum_by-none}
-use Rattle.rule_law.specs.Rulebooks.{IsAmong, newly_breaks}
+use Rattle.rule_law.specs.Rulebooks.{IsAmong}
 use Rattle.fux_judge.specs.declared.state.State.{State}
-use Rattle.fux_judge.specs.Penalties.{is_strict_at, newly_broken_at, new_price, price_at}
-use Rattle.fux_judge.specs.Rules.{is_broken, is_settled, late_rules, rule_at}
+use Rattle.fux_judge.specs.Penalties.{new_price}
+use Rattle.fux_judge.specs.Rules.{late_rules, rule_at}
 use Rattle.fux_judge.specs.States.{HasCome}
 use Rattle.fux_judge.specs.Steps.{prices_late, sets_of_rule, zero_below}
 use Rattle.fux_judge.proofs.SetLemmas.{priceless}

@@ -1,7 +1,7 @@
 mod LateLemmas
 pub mod AlwaysLemmas
 pub mod ChargeLemmas
-pub mod CoverLemmas
+pub mod CrateLemmas
 pub mod KeptLemmas
 pub mod MomentLemmas
 pub mod PruningLemmas

@@ -1,5 +1,5 @@
 -- A strict break of the first voices is one in each column that has their cells.
-use Rattle.std.proofs.Common.{◌≡◌, ◌≢◌, ℕ, ◌==◌, ◌&&◌, ◌||◌, Bool, true, false, List, [], ◌∷◌, ◌++◌, length, reverse, refl, ap, sym, ◌∙◌, eq-eqb}
+use Rattle.std.proofs.Common.{◌≡◌, ℕ, ◌==◌, ◌&&◌, ◌||◌, Bool, true, false, Option, Some, None, List, [], ◌∷◌, ◌++◌, length, reverse, refl, ap, sym, ◌∙◌}
 use Rattle.std.specs.Prelude.{if◌then◌else◌, not}
 use Rattle.std.specs.List.{list_any, list_all}
 use Rattle.std.proofs.lemmas.Bool.{eqb-true}
@@ -19,9 +19,16 @@ use Rattle.motion_rules.specs.LowerVoices as motion_below
 use Rattle.dissonance_rules.specs.LowerVoices as dissonance_below
 use Rattle.rhythm_cadence.specs.LowerVoices as rhythm_below
 use Rattle.rule_law.specs.Forms as forms
-use Rattle.rule_law.specs.Rulebooks.{no_rule}
-use Rattle.fux_judge.specs.Rules.{rules_read, all_sets, is_late, is_melodic, is_of_motion, is_of_dissonance, is_of_rhythm, is_read, rule_at, breaks, is_broken}
-use Rattle.fux_judge.proofs.MomentLemmas.{breaks_melodic, breaks_of_none, not_doubling, not_shape, soon_by_dissonance, soon_by_motion, soon_by_rhythm}
+use Rattle.rule_law.specs.Rulebooks.{RuleRow, no_rule}
+use Rattle.melody_rules.specs.Book as melody_book
+use Rattle.motion_rules.specs.Book as motion_book
+use Rattle.dissonance_rules.specs.Book as dissonance_book
+use Rattle.rhythm_cadence.specs.Book as rhythm_book
+use Rattle.fux_judge.specs.declared.numbers.RuleCrate.{RuleCrate}
+use Rattle.fux_judge.specs.declared.numbers.RuleCrate.TheVariants.{Melody, Motion, Dissonance, Rhythm, Doubling}
+use Rattle.fux_judge.specs.Crates.{crate_with}
+use Rattle.fux_judge.specs.Rules.{rules_read, all_sets, is_late, is_read, rule_at, breaks, is_broken}
+use Rattle.fux_judge.proofs.CrateLemmas.{late_by_crate, not_shape, rule_of_crate, soon_in_dissonance, soon_in_motion, soon_in_rhythm}
 use Rattle.fux_judge.specs.Penalties.{is_strict_at, newly_broken}
 use Rattle.fux_judge.specs.Steps.{newly_broken-at_once}
 use Rattle.fux_judge.specs.Pruning.{AllBreak, is_set_below, reads_below, rules_below, sets_below}
@@ -64,12 +71,26 @@ settled_at_once rule h = not_from (is_late rule) (one_of (λ r. not (is_late r))
     not_from true h = cc
     not_from false h = refl
 
-in_some_crate : ℕ → Bool
-in_some_crate rule = is_melodic rule || (is_of_motion rule || (is_of_dissonance rule || rhythm_below.is_of_ending rule))
+is_rhythmic : Option RuleCrate → Bool
+is_rhythmic (Some Rhythm) = true
+is_rhythmic (Some Melody) = false
+is_rhythmic (Some Motion) = false
+is_rhythmic (Some Dissonance) = false
+is_rhythmic (Some Doubling) = false
+is_rhythmic None = false
 
-of_some_crate : (rule : ℕ) → reads_below rule ≡ true → in_some_crate rule ≡ true
-unfolding in_some_crate
-of_some_crate rule h = one_of in_some_crate rule rules_below refl h
+ends_by : Option RuleCrate → ℕ → Bool
+ends_by crate rule = if is_rhythmic crate then rhythm_below.is_of_ending rule else true
+
+all_end : list_all (λ rule. ends_by (crate_with rule) rule) rules_below ≡ true
+unfolding ends_by is_rhythmic
+all_end = refl
+
+of_ending : (rule : ℕ) → reads_below rule ≡ true → crate_with rule ≡ Some Rhythm → rhythm_below.is_of_ending rule ≡ true
+unfolding ends_by is_rhythmic
+of_ending rule h e =
+    let here : ends_by (Some Rhythm) rule ≡ true = sym (ap (λ c. ends_by c rule) e) ∙ one_of (λ r. ends_by (crate_with r) r) rule rules_below all_end h in
+    here
 
 set_there : (voices : ℕ) → list_any (λ other. voices == other) sets_below ≡ true → list_any (λ other. voices == other) all_sets ≡ true
 unfolding forms.all_sets
@@ -99,30 +120,23 @@ module _ (n : ℕ) (a b : List Cell) (same : IsSameBelow n a b) (i : ℕ) (behin
         ∙ rhythm_below.near_rows-same n a b same ex i rule voices (newest_column behind) (previous_pitches behind) ending below
         ∙ sym (ap (λ t. if t then rhythm.shape_row ex voices i behind b [] else whole_of (rhythm.near_rows rule ex voices) i behind b []) e)
 
-    after : (x y : Bool) → (x || y) ≡ true → x ≡ false → y ≡ true
-    after true y h e = cc
-    after false y h e = h
-
     -- a rule that reads below is broken in both columns, or in none
     breaks_same : reads_below rule ≡ true → breaks rule ex voices i behind a [] ≡ breaks rule ex voices i behind b []
-    unfolding in_some_crate
-    breaks_same reads = at (is_melodic rule) (is_of_motion rule) (is_of_dissonance rule) (is_of_rhythm rule) refl refl refl refl
+    breaks_same reads = at (crate_with rule) refl
       where
         soon : is_late rule ≡ false
         soon = settled_at_once rule reads
 
-        by : (row : Row Bool) → breaks rule ex voices ≡ row → row i behind a [] ≡ row i behind b [] → breaks rule ex voices i behind a [] ≡ breaks rule ex voices i behind b []
-        by row e h = ap (λ (r : Row Bool). r i behind a []) e ∙ h ∙ sym (ap (λ (r : Row Bool). r i behind b []) e)
+        by : (it : RuleRow) → rule_at rule ≡ it → it.broken ex voices i behind a [] ≡ it.broken ex voices i behind b [] → breaks rule ex voices i behind a [] ≡ breaks rule ex voices i behind b []
+        by it e h = ap (λ (r : RuleRow). r.broken ex voices i behind a []) e ∙ h ∙ sym (ap (λ (r : RuleRow). r.broken ex voices i behind b []) e)
 
-        at : (x y z w : Bool) → is_melodic rule ≡ x → is_of_motion rule ≡ y → is_of_dissonance rule ≡ z → is_of_rhythm rule ≡ w → breaks rule ex voices i behind a [] ≡ breaks rule ex voices i behind b []
-        at true y z w e f g h = by (melody.broken_in rule ex voices) (breaks_melodic rule ex voices e) melody_same
-        at false true z w e f g h = by (motion.broken_in rule ex voices) (soon_by_motion rule ex voices e soon f) motion_same
-        at false false true w e f g h = by (dissonance.broken_in rule ex voices) (soon_by_dissonance rule ex voices e soon f g) dissonance_same
-        at false false false true e f g h =
-            by (rhythm.broken_in rule ex voices) (soon_by_rhythm rule ex voices e soon f g h)
-            (rhythm_same (not_shape rule soon e f g h)
-            (after (is_of_dissonance rule) (rhythm_below.is_of_ending rule) (after (is_of_motion rule) (is_of_dissonance rule || rhythm_below.is_of_ending rule) (after (is_melodic rule) (is_of_motion rule || (is_of_dissonance rule || rhythm_below.is_of_ending rule)) (of_some_crate rule reads) e) f) g))
-        at false false false false e f g h = by (no_rule.broken ex voices) (breaks_of_none rule ex voices e f g h (not_doubling rule soon e f g h)) refl
+        at : (crate : Option RuleCrate) → crate_with rule ≡ crate → breaks rule ex voices i behind a [] ≡ breaks rule ex voices i behind b []
+        at (Some Melody) e = by (melody_book.rule_row rule) (rule_of_crate rule (Some Melody) e) melody_same
+        at (Some Motion) e = by (motion_book.at_once_row rule) (soon_in_motion rule soon e) motion_same
+        at (Some Dissonance) e = by (dissonance_book.at_once_row rule) (soon_in_dissonance rule soon e) dissonance_same
+        at (Some Rhythm) e = by (rhythm_book.at_once_row rule) (soon_in_rhythm rule soon e) (rhythm_same (not_shape rule soon e) (of_ending rule reads e))
+        at (Some Doubling) e = let no : true ≡ false = late_by_crate rule (Some Doubling) e false soon in cc
+        at None e = by no_rule (rule_of_crate rule None e) refl
 
 module _ (rule voices n : ℕ) (ex : Exercise) (p : List (List Cell)) (col : List Cell) where
   -- so a strict break in one is one in the other

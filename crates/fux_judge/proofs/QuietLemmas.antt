@@ -1,16 +1,12 @@
 -- At a quiet column no rule that is settled at once is broken, and no such toll costs anything.
-use Rattle.std.proofs.Common.{◌≡◌, ◌≢◌, ℕ, ◌+◌, ◌*◌, ◌==◌, ◌&&◌, Bool, true, false, not, List, [], ◌∷◌, length, reverse, refl, ap, sym, ◌∙◌, subst, arith}
+use Rattle.std.proofs.Common.{◌≡◌, ℕ, ◌+◌, ◌*◌, ◌==◌, ◌&&◌, Bool, true, false, not, List, [], ◌∷◌, length, reverse, refl, ap, sym, ◌∙◌, arith}
 use Rattle.std.specs.Prelude.{if◌then◌else◌, nat_lt}
 use Rattle.std.specs.List.{list_all, list_any, sum_by}
 use Rattle.std.proofs.lemmas.Bool.{and_parts}
 use Rattle.std.proofs.lemmas.List.Sums.{sum_by-cons}
 use Rattle.fux_grid.specs.declared.cell.Cell.{Cell}
-use Rattle.fux_grid.specs.Cells.{cell_in}
-use Rattle.fux_grid.specs.Columns.{newest_column}
 use Rattle.rule_law.specs.Growth.{sum_by-none}
-use Rattle.rule_law.specs.Nearby.{previous_pitches}
-use Rattle.rule_law.specs.Quiet.{is_quiet, quiet_cell}
-use Rattle.rule_law.specs.Terms.{starts}
+use Rattle.rule_law.specs.Quiet.{is_quiet}
 use Rattle.penalty_sheet.specs.declared.sheet.Sheet.{Sheet}
 use Rattle.penalty_sheet.specs.Weights.{weight_of}
 use Rattle.fux_judge.specs.declared.moment.Moment.{Moment}
@@ -25,7 +21,7 @@ pub none_passes : {X : Type 0} (test : X → Bool) (xs : List X) → ((x : X) �
 none_passes test [] none = refl
 none_passes test (x ∷ xs) none = rw (none x) (none_passes test xs none)
 
-module _ (p : List (List Cell)) (m : Moment) (place : m.place ≡ length p) (quiet : is_quiet m.place m.column.now ≡ true) where
+module _ (p : List (List Cell)) (m : Moment) (place : m.state.now.newest.len ≡ length p) (quiet : is_quiet m.state.now.newest.len m.column.now ≡ true) where
   here : is_quiet (length p) m.column.now ≡ true
   here = sym (ap (λ i. is_quiet i m.column.now) place) ∙ quiet
 

@@ -1,13 +1,9 @@
 -- A rule is broken for no set of voices that isn't of its form, so only those sets need be tried.
-use Rattle.std.proofs.Common.{◌≡◌, ℕ, ◌==◌, ◌&&◌, Bool, true, false, List, [], length, reverse, refl, ap, sym, ◌∙◌, arith}
+use Rattle.std.proofs.Common.{◌≡◌, ℕ, ◌&&◌, Bool, true, false, List, [], length, reverse, refl, ap, sym, ◌∙◌}
 use Rattle.std.specs.Prelude.{if◌then◌else◌, nat_lt}
 use Rattle.std.specs.List.{list_any, sum_by}
 use Rattle.fux_grid.specs.declared.cell.Cell.{Cell}
 use Rattle.fux_grid.specs.declared.exercise.Exercise.{Exercise}
-use Rattle.rule_law.specs.Places.{Row}
-use Rattle.rule_law.specs.Nearby.{whole_of}
-use Rattle.rule_law.specs.Voices.{on_voice, on_pair}
-use Rattle.std.proofs.lemmas.Bool.{eqb-true}
 use Rattle.rule_law.specs.Growth.{list_any-same, sum_by-same, sum_by-none}
 use Rattle.rule_law.specs.Law.{reading-at_end}
 use Rattle.fux_judge.specs.declared.moment.Moment.{Moment}

@@ -1,18 +1,17 @@
 -- A step tells which rules the column breaks (`step_breaks`), and what it costs (`step_pays`).
-use Rattle.std.proofs.Common.{◌≡◌, ℕ, ◌+◌, ◌*◌, ◌==◌, ◌&&◌, ◌||◌, Bool, true, false, List, [], ◌∷◌, ◌++◌, length, refl, ap, sym, ◌∙◌, arith}
+use Rattle.std.proofs.Common.{◌≡◌, ℕ, ◌+◌, ◌==◌, ◌&&◌, ◌||◌, Bool, true, false, List, [], ◌∷◌, ◌++◌, length, refl, ap, sym, ◌∙◌, arith}
 use Rattle.std.specs.Prelude.{if◌then◌else◌, not}
-use Rattle.std.specs.List.{filter, list_all, list_any, sum_by}
+use Rattle.std.specs.List.{list_any, sum_by}
 use Rattle.std.proofs.lemmas.Bool.{eqb-true}
 use Rattle.fux_grid.specs.declared.cell.Cell.{Cell}
 use Rattle.fux_grid.specs.declared.exercise.Exercise.{Exercise}
 use Rattle.rule_law.specs.Growth.{list_any-same, sum_by-same}
 use Rattle.rule_law.specs.Prefixes.{GoesOn}
 use Rattle.penalty_sheet.specs.declared.sheet.Sheet.{Sheet}
-use Rattle.penalty_sheet.specs.Weights.{weight_of}
 use Rattle.fux_judge.specs.declared.moment.Moment.{Moment}
-use Rattle.fux_judge.specs.Facts.{at_once_are_all, late_are_all}
-use Rattle.fux_judge.specs.Rules.{all_sets, is_broken, is_late, is_read, cost_at, late_rules, late_tolls, rules_at_once, rules_read, tolls_at_once}
-use Rattle.fux_judge.specs.Penalties.{is_strict_at, price_at, newly_broken, newly_paid, paid}
+use Rattle.fux_judge.specs.Parts.{list_any-parted}
+use Rattle.fux_judge.specs.Rules.{all_sets, is_broken, is_late, is_read, late_rules, late_tolls, rules_at_once, rules_read, tolls_at_once}
+use Rattle.fux_judge.specs.Penalties.{is_strict_at, price_at, newly_broken, newly_paid}
 use Rattle.fux_judge.specs.Moments.{is_strictly_broken_then, prices_then, toll_then}
 use Rattle.fux_judge.specs.Steps.{all_at_once, all_late, breaks_late, is_strictly_broken_at_end, newly_broken-at_once, newly_broken-late, newly_paid-parts, prices_at_end, prices_late, toll_at_end, toll_late, tolls_at_end}
 use Rattle.fux_judge.proofs.PruningLemmas.{one_of}
@@ -36,36 +35,10 @@ picked : (X : ℕ → Bool) (r : ℕ) (rules : List ℕ) → list_any (λ rule. 
 picked X r [] = refl
 picked X r (k ∷ rules) = picked_one X r k (list_any (λ rule. X rule && r == rule) rules) (list_any (λ rule. r == rule) rules) (r == k) refl (picked X r rules)
 
--- a test passes for some of a list where it does for some of those that are kept, or for some of the others
-parted : (test keep : ℕ → Bool) (xs : List ℕ) → list_any test xs ≡ (list_any test (filter (λ x. not (keep x)) xs) || list_any test (filter keep xs))
-parted test keep [] = refl
-parted test keep (x ∷ xs) = at (keep x) (parted test keep xs)
-  where
-    others : List ℕ
-    others = filter (λ x. not (keep x)) xs
-
-    kept : List ℕ
-    kept = filter keep xs
-
-    in_front : (t a b : Bool) → (t || (a || b)) ≡ (a || (t || b))
-    in_front true true b = refl
-    in_front true false b = refl
-    in_front false a b = refl
-
-    grouped : (t a b : Bool) → (t || (a || b)) ≡ ((t || a) || b)
-    grouped true a b = refl
-    grouped false a b = refl
-
-    at : (k : Bool) → list_any test xs ≡ (list_any test others || list_any test kept) → (test x || list_any test xs) ≡ (list_any test (if not k then x ∷ others else others) || list_any test (if k then x ∷ kept else kept))
-    at true e = ap (λ b. test x || b) e ∙ in_front (test x) (list_any test others) (list_any test kept)
-    at false e = ap (λ b. test x || b) e ∙ grouped (test x) (list_any test others) (list_any test kept)
-
 -- the rules that are read are those that are settled at once, and the late ones
 read_by_parts : (r : ℕ) → is_read r ≡ (list_any (λ rule. r == rule) rules_at_once || list_any (λ rule. r == rule) late_rules)
-read_by_parts r =
-    parted (λ rule. r == rule) is_late rules_read
-    ∙ ap (λ rules. list_any (λ rule. r == rule) rules || list_any (λ rule. r == rule) (filter is_late rules_read)) (sym at_once_are_all)
-    ∙ ap (λ rules. list_any (λ rule. r == rule) rules_at_once || list_any (λ rule. r == rule) rules) (sym late_are_all)
+unfolding rules_at_once late_rules
+read_by_parts r = list_any-parted (λ rule. r == rule) is_late rules_read
 
 -- two answers for two kinds are one for both
 for_both : (a b x y n : Bool) → (a ≡ true → x ≡ n) → (b ≡ true → y ≡ n) → ((a && x) || (b && y)) ≡ ((a || b) && n)

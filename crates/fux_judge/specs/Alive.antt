@@ -5,14 +5,13 @@ use Rattle.std.specs.Prelude.{◌≡◌, ℕ, zero, suc, ◌+◌, ◌-◌, ◌*�
 use Rattle.std.specs.List.{list_any}
 use Rattle.std.proofs.Common.{ap, sym, ◌∙◌, subst, arith}
 use Rattle.std.proofs.Math.ListN.{get_or-append}
-use Rattle.std.proofs.lemmas.Bool.{eq-eqb}
+use Rattle.std.proofs.lemmas.Bool.{eq-eqb, eqb-true}
 use Rattle.std.proofs.lemmas.List.{length-append, reverse-append, reverse-reverse}
 use Rattle.fux_grid.specs.declared.cell.Cell.{Cell}
 use Rattle.fux_grid.specs.declared.exercise.Exercise.{Exercise}
-use Rattle.fux_grid.specs.Columns.{ColumnFollows, HistoryFollows, newest_column}
-use Rattle.fux_grid.specs.Exercises.{columns_in}
+use Rattle.fux_grid.specs.Columns.{HistoryFollows}
 use Rattle.fux_grid.specs.Menus.{IsInMenu}
-use Rattle.fux_grid.specs.Orderly.{HasBegun, IsOrderly}
+use Rattle.fux_grid.specs.Orderly.{IsOrderly}
 use Rattle.fux_grid.proofs.Histories.{reverse-push}
 use Rattle.fux_grid.proofs.OrderlyLemmas.{orderly-fewer}
 use Rattle.rule_law.specs.Prefixes.{GoesOn, IsPrefix, IsSetting}
@@ -49,10 +48,19 @@ not_any f [] d h k lt = absurd (omega arith)
 not_any f (x ∷ xs) d h zero lt = (or_false (f x) (list_any f xs) h).0
 not_any f (x ∷ xs) d h (suc k) lt = not_any f xs d (or_false (f x) (list_any f xs) h).1 k (omega arith)
 
--- the third rule that is read is that of shapes
+-- nor does one that is among them
+not_this : (f : ℕ → Bool) (n : ℕ) (xs : List ℕ) → list_any f xs ≡ false → list_any (λ x. n == x) xs ≡ true → f n ≡ false
+not_this f n [] h there = cc
+not_this f n (x ∷ xs) h there = at (n == x) refl there (or_false (f x) (list_any f xs) h) (not_this f n xs)
+  where
+    at : (b : Bool) → (n == x) ≡ b → (b || list_any (λ y. n == y) xs) ≡ true → (f x ≡ false) × (list_any f xs ≡ false) → (list_any f xs ≡ false → list_any (λ y. n == y) xs ≡ true → f n ≡ false) → f n ≡ false
+    at true e m both later = ap f (eqb-true n x e) ∙ both.0
+    at false e m both later = later both.1 m
+
+-- the rule of shapes is read
 rule_three : (f : ℕ → Bool) → list_any f rules_read ≡ false → f 3 ≡ false
 unfolding rules_read
-rule_three f h = not_any f rules_read 0 h 2 (omega arith)
+rule_three f h = not_this f 3 rules_read h refl
 
 -- each voice alone is one of the sets
 one_voice : (f : ℕ → Bool) → list_any f all_sets ≡ false → (v : ℕ) → v < 4 → f (2 ^ v) ≡ false

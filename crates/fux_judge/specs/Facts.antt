@@ -1,6 +1,5 @@
 -- What holds of each rule and toll, whichever crate has it.
-use Rattle.std.specs.Prelude.{◌≡◌, ℕ, not, refl}
-use Rattle.std.specs.List.{filter, range_with_len}
+use Rattle.std.specs.Prelude.{ℕ}
 use Rattle.fux_grid.specs.declared.exercise.Exercise.{Exercise}
 use Rattle.rule_law.specs.Places.{IsLocal, SettlesAtEnd}
 use Rattle.rule_law.specs.Growth.{Stays, NeedsPlace, stays_from_enough, needs_place}
@@ -15,7 +14,7 @@ use Rattle.motion_rules.proofs.BookLaws as motion_laws
 use Rattle.dissonance_rules.proofs.BookLaws as dissonance_laws
 use Rattle.rhythm_cadence.proofs.BookLaws as rhythm_laws
 use Rattle.doubling_rules.proofs.BookLaws as doubling_laws
-use Rattle.fux_judge.specs.Rules.{all_rules, rule_at, toll_at, enough, cost_enough, is_broken, is_settled, cost_at, is_cost_settled, is_late, is_late_toll, rules_read, tolls_read, rules_at_once, late_rules, tolls_at_once, late_tolls}
+use Rattle.fux_judge.specs.Rules.{all_rules, rule_at, toll_at, enough, cost_enough, is_broken, is_settled, cost_at, is_cost_settled}
 
 all_keep : KeepsAllLaws all_rules
 all_keep =
@@ -58,28 +57,3 @@ module _ (toll : ℕ) (ex : Exercise) where
 
   pub toll_needs_place : NeedsPlace (is_cost_settled toll ex)
   toll_needs_place = needs_place (cost_enough toll ex)
-
--- the lists of numbers are those of the table
-pub rules_are_all : rules_read ≡ filter all_rules.has_rule (range_with_len 1 26)
-unfolding rules_read
-rules_are_all = refl
-
-pub tolls_are_all : tolls_read ≡ filter all_rules.has_toll (range_with_len 1 20)
-unfolding tolls_read
-tolls_are_all = refl
-
-pub at_once_are_all : rules_at_once ≡ filter (λ rule. not (is_late rule)) rules_read
-unfolding rules_read rules_at_once rule_at
-at_once_are_all = refl
-
-pub late_are_all : late_rules ≡ filter is_late rules_read
-unfolding rules_read late_rules rule_at
-late_are_all = refl
-
-pub tolls_at_once_are_all : tolls_at_once ≡ filter (λ toll. not (is_late_toll toll)) tolls_read
-unfolding tolls_read tolls_at_once toll_at
-tolls_at_once_are_all = refl
-
-pub late_tolls_are_all : late_tolls ≡ filter is_late_toll tolls_read
-unfolding tolls_read late_tolls toll_at
-late_tolls_are_all = refl

@@ -1,9 +1,9 @@
 -- A strict break is settled in a longer prefix where one was before or its last column settles one (`strict_break_grows`), and
 -- what is paid of it is what was before and what that column settles (`paid_grows`). After an orderly prefix the same holds of what
 -- is settled in the list itself, so in prefixes that were orderly before their last column both are one.
-use Rattle.std.specs.Prelude.{◌≡◌, ℕ, suc, ◌+◌, ◌*◌, ◌<◌, ◌≤◌, Bool, true, false, ◌&&◌, ◌||◌, List, [], ◌∷◌, ◌++◌, length, reverse, take, slice_index_or, if◌then◌else◌, refl}
+use Rattle.std.specs.Prelude.{◌≡◌, ℕ, suc, ◌+◌, ◌*◌, ◌<◌, ◌≤◌, Bool, true, false, ◌&&◌, ◌||◌, List, [], ◌∷◌, ◌++◌, length, take, slice_index_or, if◌then◌else◌, refl}
 use Rattle.std.specs.List.{list_any, sum_by}
-use Rattle.std.proofs.Common.{ap, sym, ◌∙◌, subst, arith, add-one}
+use Rattle.std.proofs.Common.{ap, ◌∙◌, arith, add-one}
 use Rattle.std.proofs.Math.ListN.{get_or-append}
 use Rattle.std.proofs.Math.Seq.{get_or-append_seam}
 use Rattle.std.proofs.lemmas.List.{length-append, take-append-le, take_all}
@@ -11,7 +11,7 @@ use Rattle.fux_grid.specs.declared.cell.Cell.{Cell}
 use Rattle.fux_grid.specs.declared.exercise.Exercise.{Exercise}
 use Rattle.rule_law.specs.Forms as forms
 use Rattle.rule_law.specs.Places.{IsLocal}
-use Rattle.rule_law.specs.Prefixes.{GoesOn, IsPrefix}
+use Rattle.rule_law.specs.Prefixes.{GoesOn}
 use Rattle.rule_law.specs.Growth.{any_below, sum_below, newly, any_below-same, any_below-or, any_below-list_any, sum_below-same, sum_below-plus, list_any-same, list_any-or, sum_by-same, sum_by-plus, sum_by-none, test_grows, charge_grows, unsettled_at_end}
 use Rattle.penalty_sheet.specs.declared.sheet.Sheet.{Sheet}
 use Rattle.penalty_sheet.specs.Weights.{weight_of}

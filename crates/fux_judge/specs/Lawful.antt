@@ -1,11 +1,8 @@
 -- Prefixes and settings; which of them are live and lawful, and which setting is best.
-use Rattle.std.specs.Prelude.{◌≡◌, ◌≢◌, ℕ, ◌<◌, ◌≤◌, Bool, false, ◌&&◌, List, [], ◌∷◌, reverse, length, slice_index_or}
+use Rattle.std.specs.Prelude.{◌≡◌, ◌≢◌, ℕ, ◌<◌, ◌≤◌, Bool, false, ◌&&◌, List, [], ◌∷◌, length}
 use Rattle.std.specs.List.{list_any, AllByRecursion}
 use Rattle.fux_grid.specs.declared.cell.Cell.{Cell}
 use Rattle.fux_grid.specs.declared.exercise.Exercise.{Exercise}
-use Rattle.fux_grid.specs.Columns.{HistoryFollows}
-use Rattle.fux_grid.specs.Exercises.{columns_in}
-use Rattle.fux_grid.specs.Menus.{IsInMenu}
 use Rattle.fux_grid.specs.Order.{IsEarlier}
 use Rattle.rule_law.specs.Places.{Reading}
 use Rattle.rule_law.specs.Prefixes.{IsPrefix, IsSetting}

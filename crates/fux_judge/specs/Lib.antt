@@ -1,11 +1,14 @@
 pub mod Alive
 pub mod Always
 pub mod Charges
+pub mod Crates
 pub mod Ends
 pub mod Facts
 pub mod Grows
+pub mod Kept
 pub mod Lawful
 pub mod Moments
+pub mod Parts
 pub mod Penalties
 pub mod Pruning
 pub mod Rules

@@ -1,30 +1,27 @@
 -- What the rules and tolls read at the column that comes after a prefix.
-use Rattle.std.specs.Prelude.{◌≡◌, ℕ, ◌&&◌, ◌*◌, ◌<◌, Bool, List, [], ◌∷◌, ◌++◌, ◌==◌, reverse, length, if◌then◌else◌}
+use Rattle.std.specs.Prelude.{◌≡◌, ℕ, ◌&&◌, ◌*◌, ◌<◌, Bool, List, [], ◌∷◌, ◌++◌, reverse, length, if◌then◌else◌}
 use Rattle.std.specs.List.{list_any, sum_by}
 use Rattle.fux_grid.specs.declared.cell.Cell.{Cell}
 use Rattle.fux_grid.specs.Columns.{newest_column}
 use Rattle.fux_grid.specs.Exercises.{IsValid, columns_in}
 use Rattle.rule_law.specs.Nearby.{previous_pitches}
-use Rattle.melody_rules.specs.Notes.{AreNotesOf}
-use Rattle.motion_rules.specs.BarLines.{IsBarLinesOf}
 use Rattle.penalty_sheet.specs.declared.sheet.Sheet.{Sheet}
 use Rattle.penalty_sheet.specs.Weights.{weight_of}
 use Rattle.fux_judge.specs.declared.moment.Moment.{Moment}
 use Rattle.fux_judge.specs.Rules.{is_broken, cost_at}
 use Rattle.fux_judge.specs.Penalties.{is_strict_at, price_at}
+use Rattle.fux_judge.specs.States.{IsStateOf}
 
 -- the moment can be read: its exercise is valid, and its column is one of a setting
 pub record IsReadable (m : Moment) : Type 0 where
   pub valid : IsValid m.exercise.now
-  pub place : m.place < columns_in m.exercise.now
+  pub place : m.state.now.newest.len < columns_in m.exercise.now
 
--- what comes before the column is that of a prefix
+-- what comes before the column is a prefix: the state is its own, and what was taken from that
 pub record IsAfter (p : List (List Cell)) (m : Moment) : Type 0 where
-  pub place : m.place ≡ length p
+  pub state : IsStateOf m.exercise.now p m.state.now
   pub before : m.before.now ≡ newest_column (reverse p)
   pub latest : m.latest.pitches ≡ previous_pitches (reverse p)
-  pub notes : AreNotesOf (reverse p) m.notes.now
-  pub bar_lines : IsBarLinesOf p m.bar_lines.now
 
 -- the prefix with the moment's column
 abbrev pub with_column : List (List Cell) → Moment → List (List Cell)

@@ -1,5 +1,5 @@
 -- All rules and tolls by their numbers: their rows stand in the rule crates.
-use Rattle.std.specs.Prelude.{ℕ, ◌==◌, not, Bool, List, [], ◌∷◌}
+use Rattle.std.specs.Prelude.{ℕ, ◌==◌, not, Bool, List}
 use Rattle.std.specs.List.{filter, list_any, range_with_len}
 use Rattle.fux_grid.specs.declared.exercise.Exercise.{Exercise}
 use Rattle.rule_law.specs.Forms as forms
@@ -22,14 +22,13 @@ rule_at = all_rules.rule
 unfoldable pub toll_at : ℕ → TollRow
 toll_at = all_rules.toll
 
--- the rules that are read; no other is ever broken
+-- the rules that are read: those of the books; no other is ever broken
 unfoldable pub rules_read : List ℕ
-rules_read =
-    1 ∷ 2 ∷ 3 ∷ 4 ∷ 5 ∷ 6 ∷ 7 ∷ 8 ∷ 9 ∷ 10 ∷ 11 ∷ 12 ∷ 13 ∷ 14 ∷ 15 ∷ 16 ∷ 17 ∷ 18 ∷ 19 ∷ 20 ∷ 21 ∷ 22 ∷ 23 ∷ 24 ∷ 25 ∷ 26 ∷ []
+rules_read = filter all_rules.has_rule (range_with_len 1 26)
 
 -- the tolls that are read; no other costs anything
 unfoldable pub tolls_read : List ℕ
-tolls_read = 1 ∷ 2 ∷ 3 ∷ 4 ∷ 5 ∷ 6 ∷ 7 ∷ 8 ∷ 9 ∷ 10 ∷ 11 ∷ 12 ∷ 13 ∷ 14 ∷ 15 ∷ 16 ∷ []
+tolls_read = filter all_rules.has_toll (range_with_len 1 20)
 
 -- every set of voices, of four at most, by its bits
 abbrev pub all_sets : List ℕ
@@ -107,14 +106,14 @@ is_late_toll toll = (toll_at toll).late
 
 -- the rules that are settled at once, and the others
 unfoldable pub rules_at_once : List ℕ
-rules_at_once = 1 ∷ 2 ∷ 4 ∷ 5 ∷ 6 ∷ 7 ∷ 8 ∷ 9 ∷ 10 ∷ 11 ∷ 12 ∷ 13 ∷ 14 ∷ 16 ∷ 17 ∷ 24 ∷ 26 ∷ []
+rules_at_once = filter (λ rule. not (is_late rule)) rules_read
 
 unfoldable pub late_rules : List ℕ
-late_rules = 3 ∷ 15 ∷ 18 ∷ 19 ∷ 20 ∷ 21 ∷ 22 ∷ 23 ∷ 25 ∷ []
+late_rules = filter is_late rules_read
 
 -- the tolls that are settled at once, and the others
 unfoldable pub tolls_at_once : List ℕ
-tolls_at_once = 1 ∷ 2 ∷ 7 ∷ 8 ∷ 9 ∷ 10 ∷ 11 ∷ 13 ∷ 14 ∷ []
+tolls_at_once = filter (λ toll. not (is_late_toll toll)) tolls_read
 
 unfoldable pub late_tolls : List ℕ
-late_tolls = 3 ∷ 4 ∷ 5 ∷ 6 ∷ 12 ∷ 15 ∷ 16 ∷ []
+late_tolls = filter is_late_toll tolls_read

@@ -1,15 +1,14 @@
 -- What one column settles: of rules and tolls that are settled at once what is read at its own place, of late rules what is newly
 -- settled at their places.
-use Rattle.std.specs.Prelude.{◌≡◌, ℕ, zero, suc, ◌+◌, ◌-◌, ◌*◌, ◌<◌, ◌≤◌, ◌==◌, Bool, true, false, not, ◌&&◌, ◌||◌, nat_lt, List, [], ◌∷◌, ◌++◌, length, if◌then◌else◌, refl}
+use Rattle.std.specs.Prelude.{◌≡◌, ℕ, zero, suc, ◌+◌, ◌-◌, ◌*◌, ◌<◌, ◌≤◌, Bool, true, false, not, ◌&&◌, ◌||◌, nat_lt, List, [], ◌∷◌, ◌++◌, length, if◌then◌else◌, refl}
 use Rattle.std.specs.List.{list_all, list_any, sum_by}
-use Rattle.std.proofs.Common.{ap, sym, ◌∙◌, subst, arith, add-one}
+use Rattle.std.proofs.Common.{ap, sym, ◌∙◌, arith, add-one}
 use Rattle.std.proofs.lemmas.Bool.{false_from_ne_true}
 use Rattle.std.proofs.lemmas.Bool.Decides.{nat_tests}
 use Rattle.std.proofs.lemmas.List.{length-append}
 use Rattle.std.proofs.lemmas.List.Sums.{sum_by-cons}
 use Rattle.fux_grid.specs.declared.cell.Cell.{Cell}
 use Rattle.fux_grid.specs.declared.exercise.Exercise.{Exercise}
-use Rattle.fux_grid.specs.Columns.{earlier}
 use Rattle.rule_law.specs.Forms.{IsOf, sets_of}
 use Rattle.rule_law.specs.Growth.{any_below, any_below-same, any_below-list_any, sum_below, sum_below-same, sum_below-plus, sum_below-sum_by, newly, list_any-same, sum_by-same, sum_by-none}
 use Rattle.rule_law.specs.Law.{first_true, second_true, test_from_below}
@@ -22,6 +21,7 @@ use Rattle.fux_judge.specs.Rules.{rules_read, tolls_read, all_sets, rule_at, tol
 use Rattle.fux_judge.specs.Facts.{rule_keeps, toll_keeps}
 use Rattle.fux_judge.specs.Penalties.{is_strict_at, price_at, newly_broken_at, newly_broken, new_toll, new_price, new_tolls, new_prices, newly_paid}
 use Rattle.fux_judge.specs.Ends.{from_none_below}
+use Rattle.fux_judge.specs.Parts.{list_all-kept, sum_by-parted}
 
 -- a rule is strictly broken at the column that comes after a prefix
 abbrev pub is_strictly_broken_at_end : Exercise → List (List Cell) → List Cell → ℕ → Bool
@@ -270,8 +270,8 @@ module _ (ex : Exercise) (p : List (List Cell)) (col : List Cell) where
 
   -- the rules that are read are those that are settled at once, and the late ones
   split_rules : (f : ℕ → ℕ) → sum_by f rules_read ≡ sum_by f rules_at_once + sum_by f late_rules
-  unfolding rules_read rules_at_once late_rules
-  split_rules f = omega arith
+  unfolding rules_at_once late_rules
+  split_rules f = sum_by-parted f is_late rules_read
 
   sum_where : (test : ℕ → Bool) (f g : ℕ → ℕ) (xs : List ℕ) → list_all test xs ≡ true → ((x : ℕ) → test x ≡ true → f x ≡ g x) → sum_by f xs ≡ sum_by g xs
   sum_where test f g [] h e = refl
@@ -284,12 +284,12 @@ module _ (ex : Exercise) (p : List (List Cell)) (col : List Cell) where
   not_false false h = refl
 
   pub all_at_once : list_all (λ rule. not (is_late rule)) rules_at_once ≡ true
-  unfolding rules_at_once rule_at
-  all_at_once = refl
+  unfolding rules_at_once
+  all_at_once = list_all-kept (λ rule. not (is_late rule)) rules_read
 
   pub all_late : list_all is_late late_rules ≡ true
-  unfolding late_rules rule_at
-  all_late = refl
+  unfolding late_rules
+  all_late = list_all-kept is_late rules_read
 
   pub prices_by_rules : sum_below (new_prices ex p col) (length p + 1) ≡ sum_by (λ rule. sum_below (prices_of_rule rule) (length p + 1)) rules_read
   prices_by_rules = sum_below-sum_by (λ rule i. sum_by (new_price ex p col i rule) all_sets) rules_read (length p + 1)
@@ -303,17 +303,17 @@ module _ (ex : Exercise) (p : List (List Cell)) (col : List Cell) where
       ∙ ap (λ n. sum_by (prices_at_end ex p col) rules_at_once + n) (sum_where is_late of (prices_late ex p col) late_rules all_late (λ rule h. prices-late rule h on))
 
   pub tolls_all_at_once : list_all (λ toll. not (is_late_toll toll)) tolls_at_once ≡ true
-  unfolding tolls_at_once toll_at
-  tolls_all_at_once = refl
+  unfolding tolls_at_once
+  tolls_all_at_once = list_all-kept (λ toll. not (is_late_toll toll)) tolls_read
 
   pub tolls_all_late : list_all is_late_toll late_tolls ≡ true
-  unfolding late_tolls toll_at
-  tolls_all_late = refl
+  unfolding late_tolls
+  tolls_all_late = list_all-kept is_late_toll tolls_read
 
   -- the tolls that are read are those that are settled at once, and the late ones
   split_tolls : (f : ℕ → ℕ) → sum_by f tolls_read ≡ sum_by f tolls_at_once + sum_by f late_tolls
-  unfolding tolls_read tolls_at_once late_tolls
-  split_tolls f = omega arith
+  unfolding tolls_at_once late_tolls
+  split_tolls f = sum_by-parted f is_late_toll tolls_read
 
   module _ (sheet : Sheet) where
     -- what the column settles of a toll at all places

@@ -1,36 +1,23 @@
 //! Breaks that a column settles at earlier places.
 
-ghost use Rattle.std.specs.Prelude.{◌≡◌, ◌≤◌, ◌<◌, ◌+◌, ◌-◌, ◌*◌, true, ◌&&◌, ◌||◌, ◌==◌, not, nat_lt, ◌∷◌, ◌++◌, [], ℕ, List, IsTrue, length};
-ghost use Rattle.std.specs.List.{filter, list_all, list_any, sum_by};
+ghost use Rattle.std.specs.Prelude.{◌≡◌, ◌≤◌, ◌<◌, ◌+◌, ◌-◌, ◌*◌, true, ◌&&◌, ◌||◌, ◌==◌, ℕ, List, length};
+ghost use Rattle.std.specs.List.{list_any, sum_by};
 ghost use Rattle.fux_grid.specs.declared.cell.Cell.{Cell as ACell};
 ghost use Rattle.fux_grid.specs.Exercises.{IsValid, columns_in};
 ghost use Rattle.rule_law.specs.Rulebooks.{IsAmong, newly_breaks};
 ghost use Rattle.rule_law.specs.Voices.{has_rule};
 ghost use Rattle.fux_judge.specs.Penalties.{is_strict_at, newly_broken_at, new_price};
-ghost use Rattle.fux_judge.specs.Rules.{is_late, late_rules, rule_at, rules_read};
+ghost use Rattle.fux_judge.specs.Rules.{is_late, late_rules, rule_at};
 ghost use Rattle.fux_judge.specs.States.{HasCome};
 ghost use Rattle.fux_judge.specs.Steps as steps;
 
-use crate::reading::{form_of, is_of_dissonance, is_of_motion, is_of_rhythm};
+use crate::numbers::{RuleCrate, crate_of, every_late_rule, form_of};
 use crate::state::State;
 use fux_grid::{Exercise, VoiceSet};
 use penalty_sheet::price_at;
 use rule_law::{LatePlaces, RuleSet, sets_of};
 
-/// The rules that may be settled later than at their own column.
-const LATE_RULES: [u8; 9] = [3, 15, 18, 19, 20, 21, 22, 23, 25];
-
-#[tactic(auto, unfolding(crate::specs::Rules::late_rules, crate::specs::Rules::rules_read, crate::specs::Rules::rule_at))]
-fn every_late_rule() -> &'static [u8]
-    ensures value { result.now ≡ late_rules }
-    ensures table { result.now ≡ filter is_late rules_read }
-    ensures numbers { IsTrue (list_all (λ rule. nat_lt rule 32 && is_late rule) result.now) }
-    ensures few { length result.now ≤ 12 }
-{
-    &LATE_RULES
-}
-
-/// Where column `i` may settle a late rule, as the crate that has it says.
+/// Where column `i` may settle a late rule, as the crate that has it says. Melody has none.
 fn places_at(rule: u8, ex: &Exercise, i: usize) -> LatePlaces
     requires late { is_late rule ≡ true }
     requires valid { IsValid ex.now }
@@ -39,16 +26,14 @@ fn places_at(rule: u8, ex: &Exercise, i: usize) -> LatePlaces
     ensures count { result.count ≡ (rule_at rule).count ex.now i }
     ensures few { result.count ≤ 24 }
 {
-    if is_of_motion(rule) {
-        return motion_rules::places_settled(rule, ex, i);
+    match crate_of(rule) {
+        Some(RuleCrate::Melody) => LatePlaces { first: i, count: 1 },
+        Some(RuleCrate::Motion) => motion_rules::places_settled(rule, ex, i),
+        Some(RuleCrate::Dissonance) => dissonance_rules::places_settled(rule, ex, i),
+        Some(RuleCrate::Rhythm) => rhythm_cadence::places_settled(rule, ex, i),
+        Some(RuleCrate::Doubling) => doubling_rules::places_settled(rule, ex, i),
+        None => LatePlaces { first: i, count: 1 },
     }
-    if is_of_dissonance(rule) {
-        return dissonance_rules::places_settled(rule, ex, i);
-    }
-    if is_of_rhythm(rule) {
-        return rhythm_cadence::places_settled(rule, ex, i);
-    }
-    doubling_rules::places_settled(rule, ex, i)
 }
 
 /// Where the newest column may settle a late rule.
@@ -76,16 +61,18 @@ fn breaks_at(rule: u8, ex: &Exercise, next: &State, voices: VoiceSet, place: usi
         → result ≡ newly_breaks (rule_at rule) ex.now voices.bits p col place }
 {
     let newest = &next.newest;
-    if is_of_motion(rule) {
-        return motion_rules::breaks_late(newest, rule, ex, voices, place);
+    match crate_of(rule) {
+        Some(RuleCrate::Melody) => false,
+        Some(RuleCrate::Motion) => motion_rules::breaks_late(newest, rule, ex, voices, place),
+        Some(RuleCrate::Dissonance) => {
+            dissonance_rules::breaks_late(newest, rule, ex, voices, place)
+        }
+        Some(RuleCrate::Rhythm) => {
+            rhythm_cadence::breaks_late(&next.rhythm, newest, rule, ex, voices, place)
+        }
+        Some(RuleCrate::Doubling) => doubling_rules::breaks_late(newest, rule, ex, voices, place),
+        None => false,
     }
-    if is_of_dissonance(rule) {
-        return dissonance_rules::breaks_late(newest, rule, ex, voices, place);
-    }
-    if is_of_rhythm(rule) {
-        return rhythm_cadence::breaks_late(&next.rhythm, newest, rule, ex, voices, place);
-    }
-    doubling_rules::breaks_late(newest, rule, ex, voices, place)
 }
 
 /// Whether that is a strict break.

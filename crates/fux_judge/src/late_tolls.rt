@@ -1,51 +1,22 @@
 //! What a column settles of late tolls.
 
 ghost use Rattle.std.specs.Prelude.{◌≡◌, ◌≤◌, ◌<◌, ◌+◌, ◌-◌, true, ◌&&◌, nat_le, ◌++◌, ◌∷◌, [], ℕ, List, IsTrue, length};
-ghost use Rattle.std.specs.List.{filter, list_all, sum_by};
+ghost use Rattle.std.specs.List.{sum_by};
 ghost use Rattle.fux_grid.specs.declared.cell.Cell.{Cell as ACell};
 ghost use Rattle.fux_grid.specs.Exercises.{IsValid, columns_in};
 ghost use Rattle.rule_law.specs.Rulebooks.{IsAmong, newly_costs};
 ghost use Rattle.fux_judge.specs.Penalties.{new_toll};
-ghost use Rattle.fux_judge.specs.Rules as rules;
-ghost use Rattle.fux_judge.specs.Rules.{is_late_toll, late_tolls, toll_at, tolls_read};
+ghost use Rattle.fux_judge.specs.Rules.{is_late_toll, late_tolls, toll_at};
 ghost use Rattle.fux_judge.specs.States.{HasCome};
 ghost use Rattle.fux_judge.specs.Steps as steps;
 
+use crate::numbers::{RuleCrate, crate_of_toll, every_late_toll};
 use crate::state::State;
 use fux_grid::Exercise;
 use penalty_sheet::{Sheet, weight};
 use rule_law::LatePlaces;
 
-/// The tolls that may be settled later than at their own column.
-const LATE_TOLLS: [u8; 7] = [3, 4, 5, 6, 12, 15, 16];
-
-#[tactic(auto, unfolding(crate::specs::Rules::late_tolls, crate::specs::Rules::tolls_read, crate::specs::Rules::toll_at))]
-fn every_late_toll() -> &'static [u8]
-    ensures value { result.now ≡ late_tolls }
-    ensures table { result.now ≡ filter is_late_toll tolls_read }
-    ensures numbers { IsTrue (list_all (λ toll. nat_le 1 toll && (nat_le toll 20 && is_late_toll toll)) result.now) }
-    ensures few { length result.now ≤ 8 }
-{
-    &LATE_TOLLS
-}
-
-/// Whether a toll is of motion.
-#[inline]
-fn is_of_motion(toll: u8) -> bool
-    ensures { result ≡ rules.is_toll_of_motion toll }
-{
-    toll == 11 || toll == 12 || toll == 14
-}
-
-/// Whether a toll is of rhythm.
-#[inline]
-fn is_of_rhythm(toll: u8) -> bool
-    ensures { result ≡ rules.is_toll_of_rhythm toll }
-{
-    toll == 15 || toll == 16
-}
-
-/// Where column `i` may settle what a late toll costs, as the crate that has it says.
+/// Where column `i` may settle what a late toll costs, as the crate that has it says. Melody and dissonance have none.
 fn places_at(toll: u8, ex: &Exercise, i: usize) -> LatePlaces
     requires late { is_late_toll toll ≡ true }
     requires valid { IsValid ex.now }
@@ -54,13 +25,14 @@ fn places_at(toll: u8, ex: &Exercise, i: usize) -> LatePlaces
     ensures count { result.count ≡ (toll_at toll).count ex.now i }
     ensures few { result.count ≤ 24 }
 {
-    if is_of_motion(toll) {
-        return motion_rules::toll_places(toll, ex, i);
+    match crate_of_toll(toll) {
+        Some(RuleCrate::Melody) => LatePlaces { first: i, count: 1 },
+        Some(RuleCrate::Motion) => motion_rules::toll_places(toll, ex, i),
+        Some(RuleCrate::Dissonance) => LatePlaces { first: i, count: 1 },
+        Some(RuleCrate::Rhythm) => rhythm_cadence::toll_places(toll, ex, i),
+        Some(RuleCrate::Doubling) => doubling_rules::toll_places(toll, ex, i),
+        None => LatePlaces { first: i, count: 1 },
     }
-    if is_of_rhythm(toll) {
-        return rhythm_cadence::toll_places(toll, ex, i);
-    }
-    doubling_rules::toll_places(toll, ex, i)
 }
 
 /// Where the newest column may settle what a late toll costs.
@@ -89,13 +61,14 @@ fn cost_at(toll: u8, ex: &Exercise, next: &State, place: usize) -> u32
     ensures bound { result ≤ 6 }
 {
     let newest = &next.newest;
-    if is_of_motion(toll) {
-        return motion_rules::cost_late(newest, toll, ex, place);
+    match crate_of_toll(toll) {
+        Some(RuleCrate::Melody) => 0,
+        Some(RuleCrate::Motion) => motion_rules::cost_late(newest, toll, ex, place),
+        Some(RuleCrate::Dissonance) => 0,
+        Some(RuleCrate::Rhythm) => rhythm_cadence::cost_late(newest, toll, ex, place),
+        Some(RuleCrate::Doubling) => doubling_rules::cost_late(newest, toll, ex, place),
+        None => 0,
     }
-    if is_of_rhythm(toll) {
-        return rhythm_cadence::cost_late(newest, toll, ex, place);
-    }
-    doubling_rules::cost_late(newest, toll, ex, place)
 }
 
 /// What it settles there by the toll's weight.

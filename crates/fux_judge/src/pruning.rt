@@ -71,7 +71,7 @@ fn breaks_alone(voice: u8, voices: VoiceSet, m: &Moment<'_>) -> bool
     requires readable { IsReadable m.now }
     ensures { OnTrue result (IsDeadBy voices.bits m.now) }
 {
-    if is_smooth_in(m.exercise, m.notes, m.column, voice) {
+    if is_smooth_in(m.exercise, &m.state.melody, m.column, voice) {
         return false;
     }
     if m.exercise.relax.as_slice().is_empty() {

@@ -1,27 +1,21 @@
 //! Rules and tolls, read at a moment.
 
-ghost use Rattle.std.specs.Prelude.{◌≡◌, false, ◌&&◌, if◌then◌else◌, ◌<◌, ◌≤◌, ◌*◌, ◌+◌, ◌^◌, List, [], IsTrue, length};
+ghost use Rattle.std.specs.Prelude.{◌≡◌, Some, false, ◌&&◌, if◌then◌else◌, ◌<◌, ◌≤◌, ◌*◌, ◌+◌, ◌^◌, List, [], IsTrue, length};
 ghost use Rattle.fux_grid.specs.declared.cell.Cell.{Cell as ACell};
 ghost use Rattle.melody_rules.specs.Rows as melody;
 ghost use Rattle.fux_grid.specs.Exercises.{bar_of};
-ghost use Rattle.fux_judge.specs.Rules as rules;
-ghost use Rattle.fux_judge.specs.Rules.{all_sets, is_late, rule_at};
+ghost use Rattle.fux_judge.specs.declared.numbers.RuleCrate.TheVariants.{Melody};
+ghost use Rattle.fux_judge.specs.Crates.{crate_with};
+ghost use Rattle.fux_judge.specs.Rules.{all_sets, is_late};
 ghost use Rattle.fux_judge.specs.Penalties.{is_strict_at, price_at as price_at_place};
 ghost use Rattle.fux_judge.specs.Moments.{IsReadable, IsAfter, is_broken_then, is_strictly_broken_then, prices_then, with_column};
 
 use crate::moment::Moment;
+use crate::numbers::{RuleCrate, crate_of, form_of};
 use fux_grid::VoiceSet;
 use melody_rules::breaks_looking_back;
 use penalty_sheet::price_at;
-use rule_law::{Form, sets_of};
-
-/// Whether a rule is of melody.
-#[inline]
-pub(crate) fn is_melodic(rule: u8) -> bool
-    ensures { result ≡ rules.is_melodic rule }
-{
-    rule == 4 || rule == 5 || rule == 6 || rule == 7 || rule == 8 || rule == 9 || rule == 26
-}
+use rule_law::sets_of;
 
 /// Whether a rule of melody looks back over several notes.
 #[inline]
@@ -31,58 +25,24 @@ fn looks_back(rule: u8) -> bool
     rule == 6 || rule == 7 || rule == 8 || rule == 9
 }
 
-/// Whether a rule is of motion.
-#[inline]
-pub(crate) fn is_of_motion(rule: u8) -> bool
-    ensures { result ≡ rules.is_of_motion rule }
+/// Whether a rule of melody is broken for a set of voices.
+fn breaks_melody(rule: u8, voices: VoiceSet, m: &Moment<'_>) -> bool
+    requires rule { crate_with rule ≡ Some Melody }
+    requires readable { IsReadable m.now }
+    ensures { (p : List (List ACell)) → IsAfter p m.now → result ≡ is_broken_then rule voices.bits p m.now }
 {
-    rule == 10 || rule == 16 || rule == 17 || rule == 18
-}
-
-/// Whether a rule is of dissonance.
-#[inline]
-pub(crate) fn is_of_dissonance(rule: u8) -> bool
-    ensures { result ≡ rules.is_of_dissonance rule }
-{
-    rule == 11 || rule == 14 || rule == 15 || rule == 19 || rule == 20 || rule == 21
-}
-
-/// Whether a rule is of rhythm and cadence.
-#[inline]
-pub(crate) fn is_of_rhythm(rule: u8) -> bool
-    ensures { result ≡ rules.is_of_rhythm rule }
-{
-    matches!(rule, 1 | 2 | 3 | 12 | 13 | 22 | 24 | 25)
-}
-
-/// Whether a rule is of what voices double.
-#[inline]
-pub(crate) fn is_of_doubling(rule: u8) -> bool
-    ensures { result ≡ rules.is_of_doubling rule }
-{
-    rule == 23
-}
-
-/// Which sets of voices a rule speaks of.
-#[inline]
-#[tactic(auto, unfolding(crate::specs::Rules::rule_at))]
-pub(crate) fn form_of(rule: u8) -> Form
-    ensures { result ≡ (rule_at rule).form }
-{
-    if is_melodic(rule) {
-        return Form::OneVoice;
+    if looks_back(rule) {
+        return breaks_looking_back(rule, m.exercise, voices, &m.state.melody, m.column);
     }
-    if is_of_motion(rule) {
-        return Form::TwoVoices;
-    }
-    if is_of_dissonance(rule) {
-        return Form::TwoVoices;
-    }
-    match rule {
-        13 | 23 => Form::TwoVoices,
-        22 => Form::AllVoices,
-        _ => Form::OneVoice,
-    }
+    melody_rules::breaks(
+        rule,
+        m.exercise,
+        voices,
+        m.state.newest.len,
+        m.before,
+        &m.latest,
+        m.column,
+    )
 }
 
 /// Whether a rule that is settled at once is broken for a set of voices.
@@ -91,32 +51,30 @@ fn is_broken(rule: u8, voices: VoiceSet, m: &Moment<'_>) -> bool
     requires readable { IsReadable m.now }
     ensures { (p : List (List ACell)) → IsAfter p m.now → result ≡ is_broken_then rule voices.bits p m.now }
 {
-    let (ex, i, before, now) = (m.exercise, m.place, m.before, m.column);
-    if is_melodic(rule) {
-        if looks_back(rule) {
-            return breaks_looking_back(rule, ex, voices, m.notes, now);
+    let (ex, i, before, now) = (m.exercise, m.state.newest.len, m.before, m.column);
+    match crate_of(rule) {
+        Some(RuleCrate::Melody) => breaks_melody(rule, voices, m),
+        Some(RuleCrate::Motion) => motion_rules::breaks(
+            rule, ex, voices, i, before, &m.latest, now,
+        ),
+        Some(RuleCrate::Dissonance) => {
+            dissonance_rules::breaks(rule, ex, voices, i, before, &m.latest, now)
         }
-        return melody_rules::breaks(rule, ex, voices, i, before, &m.latest, now);
+        Some(RuleCrate::Rhythm) => {
+            rhythm_cadence::breaks(rule, ex, voices, i, before, &m.latest, now)
+        }
+        Some(RuleCrate::Doubling) => false,
+        None => false,
     }
-    if is_of_motion(rule) {
-        return motion_rules::breaks(rule, ex, voices, i, before, &m.latest, now);
-    }
-    if is_of_dissonance(rule) {
-        return dissonance_rules::breaks(rule, ex, voices, i, before, &m.latest, now);
-    }
-    if is_of_rhythm(rule) {
-        return rhythm_cadence::breaks(rule, ex, voices, i, before, &m.latest, now);
-    }
-    false
 }
 
 /// The bar of a moment, counted from 1.
 #[inline]
 fn bar_at(m: &Moment<'_>) -> u8
     requires { IsReadable m.now }
-    ensures { result ≡ bar_of m.now.place }
+    ensures { result ≡ bar_of m.now.state.now.newest.len }
 {
-    (m.place / 8 + 1) as u8
+    (m.state.newest.len / 8 + 1) as u8
 }
 
 /// Whether a rule that is settled at once is strictly broken for a set of voices.

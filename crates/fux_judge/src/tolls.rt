@@ -34,12 +34,12 @@ fn cost(toll: u8, m: &Moment<'_>) -> u32
     ensures value { (p : List (List ACell)) → IsAfter p m.now → result ≡ cost_at toll m.now.exercise.now (with_column p m.now) (length p) }
     ensures bound { result ≤ 6 }
 {
-    let (ex, i, before, now) = (m.exercise, m.place, m.before, m.column);
+    let (ex, i, before, now) = (m.exercise, m.state.newest.len, m.before, m.column);
     if !is_moving(toll) {
         return dissonance_rules::cost(toll, ex, i, before, &m.latest, now);
     }
     if toll == 14 {
-        return imperfect_runs_after(m.bar_lines, i, now);
+        return imperfect_runs_after(&m.state.motion, i, now);
     }
     motion_rules::cost(toll, ex, i, before, &m.latest, now)
 }
@@ -100,7 +100,8 @@ pub(crate) fn charge_of_voice(sheet: &Sheet, m: &Moment<'_>, voice: usize) -> u6
     if !is_free(m.exercise, voice as u8) {
         return 0;
     }
-    charge_of_move(sheet, m.latest.of(voice), cell) + charge_of_leap(sheet, m.notes, voice, cell)
+    charge_of_move(sheet, m.latest.of(voice), cell)
+        + charge_of_leap(sheet, &m.state.melody, voice, cell)
 }
 
 /// What the tolls that are settled at once cost together.

@@ -8,9 +8,8 @@ ghost use Rattle.fux_judge.specs.Penalties as penalties;
 ghost use Rattle.fux_judge.specs.Penalties.{penalty_of, prices_at, tolls_at};
 ghost use Rattle.fux_judge.specs.Rules.{all_sets, cost_at, is_broken};
 
-use crate::reading::form_of;
-use crate::verdict::every_rule;
-use crate::whole::{cost_in, every_toll, is_broken_in};
+use crate::numbers::{every_rule, every_toll, form_of};
+use crate::whole::{cost_in, is_broken_in};
 use fux_grid::{Exercise, Score, VoiceSet};
 use penalty_sheet::{Sheet, price_at, weight};
 use rule_law::sets_of;

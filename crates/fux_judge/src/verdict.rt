@@ -1,20 +1,21 @@
 //! One column more.
 
 ghost use Rattle.std.specs.Prelude.{◌≡◌, ◌≤◌, ◌<◌, ◌+◌, ◌*◌, ◌&&◌, ◌||◌, ◌==◌, not, nat_lt, ◌∷◌, ◌++◌, [], ℕ, Bool, List, IsTrue, length, reverse};
-ghost use Rattle.std.specs.List.{filter, list_any, list_all, range_with_len, sum_by};
+ghost use Rattle.std.specs.List.{list_any, list_all, sum_by};
 ghost use Rattle.fux_grid.specs.declared.cell.Cell.{Cell as ACell};
 ghost use Rattle.fux_grid.specs.Exercises.{IsValid, columns_in};
 ghost use Rattle.rule_law.specs.Prefixes.{GoesOn};
 ghost use Rattle.rule_law.specs.Voices.{has_rule};
-ghost use Rattle.fux_judge.specs.Rules.{all_rules, all_sets, is_late, rules_at_once, rules_read, tolls_at_once, is_read};
+ghost use Rattle.fux_judge.specs.Rules.{all_sets, is_late, rules_at_once, rules_read, tolls_at_once, is_read};
 ghost use Rattle.fux_judge.specs.Penalties.{newly_broken, newly_paid, paid};
 ghost use Rattle.fux_judge.specs.Moments.{IsReadable, IsAfter, is_strictly_broken_then, prices_then, toll_then};
 ghost use Rattle.fux_judge.specs.States.{IsStateOf};
 
-use crate::kept::{all_at_once, rules_left};
+use crate::kept::rules_left;
 use crate::late::{late_prices, with_late};
 use crate::late_tolls::late_charges;
 use crate::moment::Moment;
+use crate::numbers::{all_at_once, every_rule};
 use crate::reading::{is_strictly_broken_now, prices_now};
 use crate::state::State;
 use crate::tolls::charges;
@@ -36,11 +37,6 @@ pub struct Verdict {
     pub least: u64,
 }
 
-/// All rules that are read.
-const RULES: [u8; 26] = [
-    1, 2, 3, 4, 5, 6, 7, 8, 9, 10, 11, 12, 13, 14, 15, 16, 17, 18, 19, 20, 21, 22, 23, 24, 25, 26,
-];
-
 impl Verdict {
     /// Whether the column settles a strict break of some rule.
     #[inline]
@@ -49,16 +45,6 @@ impl Verdict {
     {
         any_of(every_rule(), self.broken)
     }
-}
-
-/// All rules that are read, by ascending numbers: those of all crates.
-#[tactic(auto, unfolding(crate::specs::Rules::rules_read))]
-pub fn every_rule() -> &'static [u8]
-    ensures value { result.now ≡ rules_read }
-    ensures table { result.now ≡ filter all_rules.has_rule (range_with_len 1 26) }
-    ensures count { length result.now ≡ 26 }
-{
-    &RULES
 }
 
 /// Whether one of these rules is in a set.
@@ -122,15 +108,13 @@ pub(crate) fn moment_of<'a>(ex: &'a Exercise, state: &'a State, col: &'a Column)
     ensures after { (p : List (List ACell)) → IsStateOf ex.entry.now p state.entry.now → IsAfter p result }
     ensures exercise { result.exercise.now ≡ ex.entry.now }
     ensures column { result.column.now ≡ col.entry.now.items }
-    ensures place { result.place ≡ state.entry.now.newest.len }
+    ensures place { result.state.now.newest.len ≡ state.entry.now.newest.len }
 {
     Moment {
         exercise: ex,
-        place: state.newest.len,
+        state,
         before: state.before(ex),
         latest: latest_of_notes(&state.melody),
-        notes: &state.melody,
-        bar_lines: &state.motion,
         column: col.as_slice(),
     }
 }
@@ -143,7 +127,7 @@ fn readings(sheet: &Sheet, m: &Moment<'_>) -> (RuleSet, u64)
     ensures paid { (p : List (List ACell)) → IsAfter p m.now → result.1 ≡ sum_by (toll_then sheet.now p m.now) tolls_at_once + sum_by (λ rule. prices_then all_sets rule p m.now) rules_at_once }
     ensures bound { result.1 ≤ 9784200 }
 {
-    if is_quiet(m.place, m.column) {
+    if is_quiet(m.state.newest.len, m.column) {
         return (RuleSet::EMPTY, 0);
     }
     let paid = charges(sheet, m) + prices_of(all_at_once(), m);

@@ -1,12 +1,10 @@
 //! Rules and tolls, read in a whole list of columns: each in the crate that has it.
 
-ghost use Rattle.std.specs.Prelude.{◌≡◌, ◌≤◌, ◌<◌, ◌&&◌, ℕ, IsTrue, nat_le, length};
-ghost use Rattle.std.specs.List.{filter, list_all, range_with_len};
+ghost use Rattle.std.specs.Prelude.{◌≡◌, ◌≤◌, ◌<◌, length};
 ghost use Rattle.fux_grid.specs.Exercises.{IsValid, columns_in};
 ghost use Rattle.fux_judge.specs.Rules as rules;
-ghost use Rattle.fux_judge.specs.Rules.{all_rules, tolls_read};
 
-use crate::reading::{is_melodic, is_of_dissonance, is_of_doubling, is_of_motion, is_of_rhythm};
+use crate::numbers::{RuleCrate, crate_of};
 use dissonance_rules::{Dissonance, Q1, Q2};
 use doubling_rules::{Doubling, Q3, Q4, Q5, Q6};
 use fux_grid::{Exercise, Score, VoiceSet};
@@ -23,22 +21,14 @@ pub fn is_broken_in(rule: u8, ex: &Exercise, score: &Score, i: usize, voices: Vo
     requires place { i < length score.now.columns }
     ensures { result ≡ rules.is_broken rule ex.now voices.bits score.now.columns i }
 {
-    if is_melodic(rule) {
-        return Melody.broken(rule, ex, score, i, voices);
+    match crate_of(rule) {
+        Some(RuleCrate::Melody) => Melody.broken(rule, ex, score, i, voices),
+        Some(RuleCrate::Motion) => Motion.broken(rule, ex, score, i, voices),
+        Some(RuleCrate::Dissonance) => Dissonance.broken(rule, ex, score, i, voices),
+        Some(RuleCrate::Rhythm) => Rhythm.broken(rule, ex, score, i, voices),
+        Some(RuleCrate::Doubling) => Doubling.broken(rule, ex, score, i, voices),
+        None => false,
     }
-    if is_of_motion(rule) {
-        return Motion.broken(rule, ex, score, i, voices);
-    }
-    if is_of_dissonance(rule) {
-        return Dissonance.broken(rule, ex, score, i, voices);
-    }
-    if is_of_rhythm(rule) {
-        return Rhythm.broken(rule, ex, score, i, voices);
-    }
-    if is_of_doubling(rule) {
-        return Doubling.broken(rule, ex, score, i, voices);
-    }
-    false
 }
 
 /// Whether that is settled.
@@ -49,36 +39,14 @@ pub fn is_settled_in(rule: u8, ex: &Exercise, prefix: &Score, i: usize, voices: 
     requires place { i < length prefix.now.columns }
     ensures { result ≡ rules.is_settled rule ex.now voices.bits prefix.now.columns i }
 {
-    if is_melodic(rule) {
-        return Melody.settled(rule, ex, prefix, i, voices);
+    match crate_of(rule) {
+        Some(RuleCrate::Melody) => Melody.settled(rule, ex, prefix, i, voices),
+        Some(RuleCrate::Motion) => Motion.settled(rule, ex, prefix, i, voices),
+        Some(RuleCrate::Dissonance) => Dissonance.settled(rule, ex, prefix, i, voices),
+        Some(RuleCrate::Rhythm) => Rhythm.settled(rule, ex, prefix, i, voices),
+        Some(RuleCrate::Doubling) => Doubling.settled(rule, ex, prefix, i, voices),
+        None => true,
     }
-    if is_of_motion(rule) {
-        return Motion.settled(rule, ex, prefix, i, voices);
-    }
-    if is_of_dissonance(rule) {
-        return Dissonance.settled(rule, ex, prefix, i, voices);
-    }
-    if is_of_rhythm(rule) {
-        return Rhythm.settled(rule, ex, prefix, i, voices);
-    }
-    if is_of_doubling(rule) {
-        return Doubling.settled(rule, ex, prefix, i, voices);
-    }
-    true
-}
-
-/// All tolls that are read.
-const TOLLS: [u8; 16] = [1, 2, 3, 4, 5, 6, 7, 8, 9, 10, 11, 12, 13, 14, 15, 16];
-
-/// All tolls that are read, by ascending numbers: those of all crates.
-#[tactic(auto, unfolding(crate::specs::Rules::tolls_read))]
-pub fn every_toll() -> &'static [u8]
-    ensures value { result.now ≡ tolls_read }
-    ensures table { result.now ≡ filter all_rules.has_toll (range_with_len 1 20) }
-    ensures numbers { IsTrue (list_all (λ toll. nat_le 1 toll && nat_le toll 20) result.now) }
-    ensures few { length result.now ≤ 20 }
-{
-    &TOLLS
 }
 
 /// What a toll costs at column `i`, without its weight. A number that no crate has costs nothing.

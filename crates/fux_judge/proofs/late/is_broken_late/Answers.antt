@@ -1,12 +1,10 @@
-use Rattle.std.proofs.Common.{◌≡◌, ◌+◌, ◌||◌, ℕ, suc, Bool, true, false, List, ap, sym, ◌∙◌, add-one, length, arith}
+use Rattle.std.proofs.Common.{◌≡◌, ◌+◌, ◌||◌, ℕ, Bool, true, false, ap, sym, ◌∙◌, add-one, length, arith}
 use Rattle.std.specs.List.{list_any}
-use Rattle.fux_grid.specs.declared.cell.Cell.{Cell}
 use Rattle.rule_law.specs.Forms.{sets_of}
 use Rattle.rule_law.specs.Growth.{any_below}
 use Rattle.fux_judge.specs.Penalties.{newly_broken_at}
 use Rattle.fux_judge.specs.Rules.{rule_at}
-use Rattle.fux_judge.specs.States.{HasCome}
-use Rattle.fux_judge.specs.Steps.{breaks_late, sets_of_rule}
+use Rattle.fux_judge.specs.Steps.{sets_of_rule}
 use Rattle.fux_judge.proofs.LateLemmas.{count_is, first_is, is_among, any_below-found}
 use Rattle.fux_judge.proofs.late.is_broken_late.Goals as goal
 

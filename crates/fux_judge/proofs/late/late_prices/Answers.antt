@@ -1,10 +1,7 @@
-use Rattle.std.proofs.Common.{ap, sym, ◌∙◌, ◌+◌, take, arith}
-use Rattle.std.specs.List.{sum_by}
+use Rattle.std.proofs.Common.{sym, ◌∙◌}
 use Rattle.std.proofs.lemmas.Bool.{eqb-true}
-use Rattle.std.proofs.lemmas.List.{nil_from_length, take_all}
-use Rattle.fux_judge.specs.Steps.{prices_late}
+use Rattle.std.proofs.lemmas.List.{nil_from_length}
 use Rattle.fux_judge.proofs.LateLemmas.{no_late_prices}
-use Rattle.fux_judge.proofs.SumLemmas.{late_in_range, sum_by_more}
 use Rattle.fux_judge.proofs.late.late_prices.Goals as goal
 
 pub returns-then-is_empty-clause-value : goal.returns-then-is_empty-clause-value

@@ -1,40 +1,49 @@
-use Rattle.std.proofs.Common.{refl, ap, sym, ◌∙◌}
-use Rattle.rule_law.specs.Rulebooks.{RuleRow}
-use Rattle.rhythm_cadence.specs.Book.{at_once_row, is_late, late_row}
-use Rattle.fux_judge.proofs.MomentLemmas.{late_chosen, late_dissonance, late_doubling, late_motion, late_of, late_rhythm}
+use Rattle.std.proofs.Common.{true, Some, None, ap, sym, ◌∙◌}
+use Rattle.fux_judge.specs.declared.numbers.RuleCrate.TheVariants.{Melody, Motion, Dissonance, Rhythm, Doubling}
+use Rattle.fux_judge.proofs.CrateLemmas.{count_by_crate, first_by_crate, late_by_crate, late_in_rhythm}
 use Rattle.fux_judge.proofs.late.places_at.Goals as goal
 
 pub places_settled-requires-clause-late : goal.places_settled-requires-clause-late
-places_settled-requires-clause-late c = sym (ap late_of (late_motion c.args.rule c.requires.late (sym c.if-is_of_motion.ensures))) ∙ c.requires.late
+places_settled-requires-clause-late c = late_by_crate c.args.rule (Some Motion) (sym c.crate_of.ensures ∙ c.in-Some-Motion.is ∙ ap Some c.in-Some-Motion.field-0-is) true c.requires.late
 
-pub returns-then-is_of_motion-clause-first : goal.returns-then-is_of_motion-clause-first
-returns-then-is_of_motion-clause-first c = c.places_settled.ensures.first ∙ sym (ap (λ (it : RuleRow). it.first c.args.ex.now c.args.i) (late_motion c.args.rule c.requires.late (sym c.if-is_of_motion.ensures)))
+pub places_settled-requires-in-Some-Dissonance-clause-late : goal.places_settled-requires-in-Some-Dissonance-clause-late
+places_settled-requires-in-Some-Dissonance-clause-late c = late_by_crate c.args.rule (Some Dissonance) (sym c.crate_of.ensures ∙ c.in-Some-Dissonance.is ∙ ap Some c.in-Some-Dissonance.field-0-is) true c.requires.late
 
-pub returns-then-is_of_motion-clause-count : goal.returns-then-is_of_motion-clause-count
-returns-then-is_of_motion-clause-count c = c.places_settled.ensures.count ∙ sym (ap (λ (it : RuleRow). it.count c.args.ex.now c.args.i) (late_motion c.args.rule c.requires.late (sym c.if-is_of_motion.ensures)))
+pub places_settled-requires-in-Some-Rhythm-clause-late : goal.places_settled-requires-in-Some-Rhythm-clause-late
+places_settled-requires-in-Some-Rhythm-clause-late c = late_in_rhythm c.args.rule (late_by_crate c.args.rule (Some Rhythm) (sym c.crate_of.ensures ∙ c.in-Some-Rhythm.is ∙ ap Some c.in-Some-Rhythm.field-0-is) true c.requires.late)
 
-pub places_settled-requires-then-is_of_dissonance-clause-late : goal.places_settled-requires-then-is_of_dissonance-clause-late
-places_settled-requires-then-is_of_dissonance-clause-late c = sym (ap late_of (late_dissonance c.args.rule c.requires.late (sym c.if-is_of_motion.ensures) (sym c.if-is_of_dissonance.ensures))) ∙ c.requires.late
+pub returns-in-Some-Melody-clause-first : goal.returns-in-Some-Melody-clause-first
+returns-in-Some-Melody-clause-first c = sym (first_by_crate c.args.rule (Some Melody) (sym c.crate_of.ensures ∙ c.in-Some-Melody.is ∙ ap Some c.in-Some-Melody.field-0-is) c.args.ex.now c.args.i)
 
-pub returns-then-is_of_dissonance-clause-first : goal.returns-then-is_of_dissonance-clause-first
-returns-then-is_of_dissonance-clause-first c = c.places_settled-then-is_of_dissonance.ensures.first ∙ sym (ap (λ (it : RuleRow). it.first c.args.ex.now c.args.i) (late_dissonance c.args.rule c.requires.late (sym c.if-is_of_motion.ensures) (sym c.if-is_of_dissonance.ensures)))
+pub returns-in-Some-Melody-clause-count : goal.returns-in-Some-Melody-clause-count
+returns-in-Some-Melody-clause-count c = sym (count_by_crate c.args.rule (Some Melody) (sym c.crate_of.ensures ∙ c.in-Some-Melody.is ∙ ap Some c.in-Some-Melody.field-0-is) c.args.ex.now c.args.i)
 
-pub returns-then-is_of_dissonance-clause-count : goal.returns-then-is_of_dissonance-clause-count
-returns-then-is_of_dissonance-clause-count c = c.places_settled-then-is_of_dissonance.ensures.count ∙ sym (ap (λ (it : RuleRow). it.count c.args.ex.now c.args.i) (late_dissonance c.args.rule c.requires.late (sym c.if-is_of_motion.ensures) (sym c.if-is_of_dissonance.ensures)))
+pub returns-in-Some-Motion-clause-first : goal.returns-in-Some-Motion-clause-first
+returns-in-Some-Motion-clause-first c = c.places_settled.ensures.first ∙ sym (first_by_crate c.args.rule (Some Motion) (sym c.crate_of.ensures ∙ c.in-Some-Motion.is ∙ ap Some c.in-Some-Motion.field-0-is) c.args.ex.now c.args.i)
 
-pub places_settled-requires-then-is_of_rhythm-clause-late : goal.places_settled-requires-then-is_of_rhythm-clause-late
-places_settled-requires-then-is_of_rhythm-clause-late c =
-    late_chosen (is_late c.args.rule) (late_row c.args.rule) (at_once_row c.args.rule) refl
-    (sym (ap late_of (late_rhythm c.args.rule c.requires.late (sym c.if-is_of_motion.ensures) (sym c.if-is_of_dissonance.ensures) (sym c.if-is_of_rhythm.ensures))) ∙ c.requires.late)
+pub returns-in-Some-Motion-clause-count : goal.returns-in-Some-Motion-clause-count
+returns-in-Some-Motion-clause-count c = c.places_settled.ensures.count ∙ sym (count_by_crate c.args.rule (Some Motion) (sym c.crate_of.ensures ∙ c.in-Some-Motion.is ∙ ap Some c.in-Some-Motion.field-0-is) c.args.ex.now c.args.i)
 
-pub returns-then-is_of_rhythm-clause-first : goal.returns-then-is_of_rhythm-clause-first
-returns-then-is_of_rhythm-clause-first c = c.places_settled-then-is_of_rhythm.ensures.first ∙ sym (ap (λ (it : RuleRow). it.first c.args.ex.now c.args.i) (late_rhythm c.args.rule c.requires.late (sym c.if-is_of_motion.ensures) (sym c.if-is_of_dissonance.ensures) (sym c.if-is_of_rhythm.ensures)))
+pub returns-in-Some-Dissonance-clause-first : goal.returns-in-Some-Dissonance-clause-first
+returns-in-Some-Dissonance-clause-first c = c.places_settled-in-Some-Dissonance.ensures.first ∙ sym (first_by_crate c.args.rule (Some Dissonance) (sym c.crate_of.ensures ∙ c.in-Some-Dissonance.is ∙ ap Some c.in-Some-Dissonance.field-0-is) c.args.ex.now c.args.i)
 
-pub returns-then-is_of_rhythm-clause-count : goal.returns-then-is_of_rhythm-clause-count
-returns-then-is_of_rhythm-clause-count c = c.places_settled-then-is_of_rhythm.ensures.count ∙ sym (ap (λ (it : RuleRow). it.count c.args.ex.now c.args.i) (late_rhythm c.args.rule c.requires.late (sym c.if-is_of_motion.ensures) (sym c.if-is_of_dissonance.ensures) (sym c.if-is_of_rhythm.ensures)))
+pub returns-in-Some-Dissonance-clause-count : goal.returns-in-Some-Dissonance-clause-count
+returns-in-Some-Dissonance-clause-count c = c.places_settled-in-Some-Dissonance.ensures.count ∙ sym (count_by_crate c.args.rule (Some Dissonance) (sym c.crate_of.ensures ∙ c.in-Some-Dissonance.is ∙ ap Some c.in-Some-Dissonance.field-0-is) c.args.ex.now c.args.i)
 
-pub returns-clause-first : goal.returns-clause-first
-returns-clause-first c = c.places_settled-2.ensures.first ∙ sym (ap (λ (it : RuleRow). it.first c.args.ex.now c.args.i) (late_doubling c.args.rule c.requires.late (sym c.if-is_of_motion.ensures) (sym c.if-is_of_dissonance.ensures) (sym c.if-is_of_rhythm.ensures)))
+pub returns-in-Some-Rhythm-clause-first : goal.returns-in-Some-Rhythm-clause-first
+returns-in-Some-Rhythm-clause-first c = c.places_settled-in-Some-Rhythm.ensures.first ∙ sym (first_by_crate c.args.rule (Some Rhythm) (sym c.crate_of.ensures ∙ c.in-Some-Rhythm.is ∙ ap Some c.in-Some-Rhythm.field-0-is) c.args.ex.now c.args.i)
 
-pub returns-clause-count : goal.returns-clause-count
-returns-clause-count c = c.places_settled-2.ensures.count ∙ sym (ap (λ (it : RuleRow). it.count c.args.ex.now c.args.i) (late_doubling c.args.rule c.requires.late (sym c.if-is_of_motion.ensures) (sym c.if-is_of_dissonance.ensures) (sym c.if-is_of_rhythm.ensures)))
+pub returns-in-Some-Rhythm-clause-count : goal.returns-in-Some-Rhythm-clause-count
+returns-in-Some-Rhythm-clause-count c = c.places_settled-in-Some-Rhythm.ensures.count ∙ sym (count_by_crate c.args.rule (Some Rhythm) (sym c.crate_of.ensures ∙ c.in-Some-Rhythm.is ∙ ap Some c.in-Some-Rhythm.field-0-is) c.args.ex.now c.args.i)
+
+pub returns-in-Some-Doubling-clause-first : goal.returns-in-Some-Doubling-clause-first
+returns-in-Some-Doubling-clause-first c = c.places_settled-in-Some-Doubling.ensures.first ∙ sym (first_by_crate c.args.rule (Some Doubling) (sym c.crate_of.ensures ∙ c.in-Some-Doubling.is ∙ ap Some c.in-Some-Doubling.field-0-is) c.args.ex.now c.args.i)
+
+pub returns-in-Some-Doubling-clause-count : goal.returns-in-Some-Doubling-clause-count
+returns-in-Some-Doubling-clause-count c = c.places_settled-in-Some-Doubling.ensures.count ∙ sym (count_by_crate c.args.rule (Some Doubling) (sym c.crate_of.ensures ∙ c.in-Some-Doubling.is ∙ ap Some c.in-Some-Doubling.field-0-is) c.args.ex.now c.args.i)
+
+pub returns-in-None-clause-first : goal.returns-in-None-clause-first
+returns-in-None-clause-first c = sym (first_by_crate c.args.rule None (sym c.crate_of.ensures ∙ c.in-None.is) c.args.ex.now c.args.i)
+
+pub returns-in-None-clause-count : goal.returns-in-None-clause-count
+returns-in-None-clause-count c = sym (count_by_crate c.args.rule None (sym c.crate_of.ensures ∙ c.in-None.is) c.args.ex.now c.args.i)

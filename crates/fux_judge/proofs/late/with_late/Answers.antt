@@ -4,7 +4,6 @@ use Rattle.std.proofs.lemmas.List.Folds.{list_any_more}
 use Rattle.std.proofs.lemmas.List.{take_all}
 use Rattle.rule_law.specs.Voices.{has_rule}
 use Rattle.fux_judge.specs.Steps.{breaks_late}
-use Rattle.fux_judge.proofs.SumLemmas.{late_in_range}
 use Rattle.fux_judge.proofs.late.with_late.Goals as goal
 
 or_right : (a b c : Bool) → ((a || b) || c) ≡ (a || (b || c))

@@ -1,36 +1,30 @@
-use Rattle.std.proofs.Common.{[], length, reverse, sym, ◌∙◌}
-use Rattle.melody_rules.specs.Rows as melody
+use Rattle.std.proofs.Common.{Some, ap, sym, ◌∙◌}
 use Rattle.motion_rules.specs.Rows as motion
 use Rattle.dissonance_rules.specs.Rows as dissonance
 use Rattle.rhythm_cadence.specs.Rows as rhythm
-use Rattle.fux_judge.proofs.MomentLemmas.{near_then, window_then, melodic_then, motion_then, dissonance_then, none_then, rhythm_then}
+use Rattle.fux_judge.proofs.MomentLemmas.{dissonance_then, doubling_then, motion_then, near_then, none_then, rhythm_then}
 use Rattle.fux_judge.proofs.reading.is_broken.Goals as goal
 
-pub returns-then-looks_back : goal.returns-then-looks_back
-returns-then-looks_back c = λ p after.
-    c.breaks_looking_back.ensures (length p) (reverse p) [] after.notes
-    ∙ window_then c.args.rule c.args.voices.bits p c.args.m.now (sym c.if-is_melodic.ensures) (sym c.if-looks_back.ensures)
+pub breaks_melody-requires-clause-rule : goal.breaks_melody-requires-clause-rule
+breaks_melody-requires-clause-rule c = sym c.crate_of.ensures ∙ c.in-Some-Melody.is ∙ ap Some c.in-Some-Melody.field-0-is
 
-pub returns-then-is_melodic : goal.returns-then-is_melodic
-returns-then-is_melodic c = λ p after.
-    c.breaks.ensures ∙ near_then (melody.near_rows c.args.rule c.args.m.now.exercise.now c.args.voices.bits) p c.args.m.now after
-    ∙ melodic_then c.args.rule c.args.voices.bits p c.args.m.now (sym c.if-is_melodic.ensures) (sym c.if-looks_back.ensures)
+pub returns-in-Some-Motion : goal.returns-in-Some-Motion
+returns-in-Some-Motion c = λ p after.
+    c.breaks.ensures ∙ near_then (motion.near_rows c.args.rule c.args.m.now.exercise.now c.args.voices.bits) p c.args.m.now after
+    ∙ motion_then c.args.rule c.args.voices.bits p c.args.m.now c.requires.rule (sym c.crate_of.ensures ∙ c.in-Some-Motion.is ∙ ap Some c.in-Some-Motion.field-0-is)
 
-pub returns-then-is_of_motion : goal.returns-then-is_of_motion
-returns-then-is_of_motion c = λ p after.
-    c.breaks-then-is_of_motion.ensures ∙ near_then (motion.near_rows c.args.rule c.args.m.now.exercise.now c.args.voices.bits) p c.args.m.now after
-    ∙ motion_then c.args.rule c.args.voices.bits p c.args.m.now c.requires.rule (sym c.if-is_melodic.ensures) (sym c.if-is_of_motion.ensures)
+pub returns-in-Some-Dissonance : goal.returns-in-Some-Dissonance
+returns-in-Some-Dissonance c = λ p after.
+    c.breaks-in-Some-Dissonance.ensures ∙ near_then (dissonance.near_rows c.args.rule c.args.m.now.exercise.now c.args.voices.bits) p c.args.m.now after
+    ∙ dissonance_then c.args.rule c.args.voices.bits p c.args.m.now c.requires.rule (sym c.crate_of.ensures ∙ c.in-Some-Dissonance.is ∙ ap Some c.in-Some-Dissonance.field-0-is)
 
-pub returns-then-is_of_dissonance : goal.returns-then-is_of_dissonance
-returns-then-is_of_dissonance c = λ p after.
-    c.breaks-then-is_of_dissonance.ensures ∙ near_then (dissonance.near_rows c.args.rule c.args.m.now.exercise.now c.args.voices.bits) p c.args.m.now after
-    ∙ dissonance_then c.args.rule c.args.voices.bits p c.args.m.now c.requires.rule (sym c.if-is_melodic.ensures) (sym c.if-is_of_motion.ensures) (sym c.if-is_of_dissonance.ensures)
+pub returns-in-Some-Rhythm : goal.returns-in-Some-Rhythm
+returns-in-Some-Rhythm c = λ p after.
+    c.breaks-in-Some-Rhythm.ensures ∙ near_then (rhythm.near_rows c.args.rule c.args.m.now.exercise.now c.args.voices.bits) p c.args.m.now after
+    ∙ rhythm_then c.args.rule c.args.voices.bits p c.args.m.now c.requires.rule (sym c.crate_of.ensures ∙ c.in-Some-Rhythm.is ∙ ap Some c.in-Some-Rhythm.field-0-is)
 
-pub returns-then-is_of_rhythm : goal.returns-then-is_of_rhythm
-returns-then-is_of_rhythm c = λ p after.
-    c.breaks-then-is_of_rhythm.ensures ∙ near_then (rhythm.near_rows c.args.rule c.args.m.now.exercise.now c.args.voices.bits) p c.args.m.now after
-    ∙ rhythm_then c.args.rule c.args.voices.bits p c.args.m.now c.requires.rule (sym c.if-is_melodic.ensures) (sym c.if-is_of_motion.ensures) (sym c.if-is_of_dissonance.ensures) (sym c.if-is_of_rhythm.ensures)
+pub returns-in-Some-Doubling : goal.returns-in-Some-Doubling
+returns-in-Some-Doubling c = λ p after. doubling_then c.args.rule c.args.voices.bits p c.args.m.now c.requires.rule (sym c.crate_of.ensures ∙ c.in-Some-Doubling.is ∙ ap Some c.in-Some-Doubling.field-0-is)
 
-pub returns : goal.returns
-returns c = λ p after.
-    none_then c.args.rule c.args.voices.bits p c.args.m.now c.requires.rule (sym c.if-is_melodic.ensures) (sym c.if-is_of_motion.ensures) (sym c.if-is_of_dissonance.ensures) (sym c.if-is_of_rhythm.ensures)
+pub returns-in-None : goal.returns-in-None
+returns-in-None c = λ p after. none_then c.args.rule c.args.voices.bits p c.args.m.now (sym c.crate_of.ensures ∙ c.in-None.is)

@@ -19,4 +19,4 @@ returns-clause-value c = λ p after.
     paid_by_voice c.args.m.now.exercise.now c.args.sheet.now p c.args.m.now.column.now c.args.voice _ _
     (sym c.is_free.ensures ∙ c.if-not-is_free.false)
     (c.charge_of_move.ensures.value ∙ ap (λ previous. move previous c.cell_of-cell.result) latest ∙ ap (move (previous_pitch (line c.args.voice (reverse p)))) c.cell_of-cell.ensures)
-    (c.charge_of_leap.ensures.value (reverse p) after.notes ∙ ap leap c.cell_of-cell.ensures)
+    (c.charge_of_leap.ensures.value (reverse p) after.state.melody ∙ ap leap c.cell_of-cell.ensures)

@@ -16,8 +16,8 @@ returns-then-not-is_moving-clause-value c = λ p after.
 
 pub returns-then-toll-eq14-clause-value : goal.returns-then-toll-eq14-clause-value
 returns-then-toll-eq14-clause-value c = λ p after.
-    c.imperfect_runs_after.ensures.value c.args.m.now.exercise.now p (sym after.place) after.bar_lines
-    ∙ bar_line_cost c.args.toll p c.args.m.now c.if-toll-eq14.true after.place
+    c.imperfect_runs_after.ensures.value c.args.m.now.exercise.now p (sym after.state.newest.count) after.state.motion
+    ∙ bar_line_cost c.args.toll p c.args.m.now c.if-toll-eq14.true after.state.newest.count
 
 pub returns-clause-value : goal.returns-clause-value
 returns-clause-value c = λ p after.

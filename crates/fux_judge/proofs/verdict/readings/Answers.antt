@@ -2,25 +2,25 @@ use Rattle.std.proofs.Common.{◌≡◌, ℕ, ◌+◌, ◌==◌, ap, sym, ◌∙
 use Rattle.std.proofs.lemmas.Nat.Bits.{bit_at-zero}
 use Rattle.std.specs.Prelude.{nat_lt, not, true, ◌&&◌}
 use Rattle.std.specs.List.{list_all, sum_by}
-use Rattle.fux_judge.specs.Rules.{all_sets, is_late, rule_at, rules_at_once, tolls_at_once}
+use Rattle.fux_judge.specs.Rules.{all_sets, is_late, rule_at, rules_at_once, rules_read, tolls_at_once}
 use Rattle.fux_judge.specs.Moments.{prices_then, toll_then}
 use Rattle.fux_judge.proofs.QuietLemmas.{none_broken, none_charged, none_priced}
 use Rattle.fux_judge.proofs.verdict.readings.Goals as goal
 
 all_numbers : list_all (λ rule. nat_lt rule 32 && not (is_late rule)) rules_at_once ≡ true
-unfolding rules_at_once rule_at
+unfolding rules_at_once rules_read rule_at
 all_numbers = refl
 
 pub returns-then-is_quiet-clause-broken : goal.returns-then-is_quiet-clause-broken
 returns-then-is_quiet-clause-broken c = λ p after r.
     ap (λ n. n == 1) (bit_at-zero r)
-    ∙ sym (none_broken p c.args.m.now after.place (sym c.is_quiet.ensures ∙ c.if-is_quiet.true) rules_at_once all_numbers r)
+    ∙ sym (none_broken p c.args.m.now after.state.newest.count (sym c.is_quiet.ensures ∙ c.if-is_quiet.true) rules_at_once all_numbers r)
 
 pub returns-then-is_quiet-clause-paid : goal.returns-then-is_quiet-clause-paid
 returns-then-is_quiet-clause-paid c = λ p after.
     let quiet = sym c.is_quiet.ensures ∙ c.if-is_quiet.true in
     none_together (sum_by (toll_then c.args.sheet.now p c.args.m.now) tolls_at_once) (sum_by (λ rule. prices_then all_sets rule p c.args.m.now) rules_at_once)
-    (none_charged p c.args.m.now after.place quiet c.args.sheet.now) (none_priced p c.args.m.now after.place quiet rules_at_once all_numbers)
+    (none_charged p c.args.m.now after.state.newest.count quiet c.args.sheet.now) (none_priced p c.args.m.now after.state.newest.count quiet rules_at_once all_numbers)
   where
     none_together : (a b : ℕ) → a ≡ 0 → b ≡ 0 → 0 ≡ a + b
     none_together a b e f = omega arith

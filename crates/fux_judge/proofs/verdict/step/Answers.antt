@@ -1,7 +1,5 @@
-use Rattle.std.proofs.Common.{◌≡◌, ◌+◌, ◌∷◌, ◌++◌, [], ◌||◌, ◌==◌, ◌&&◌, length, ap, sym, ◌∙◌, arith}
+use Rattle.std.proofs.Common.{◌+◌, ◌||◌, ◌==◌, ◌&&◌, ap, sym, ◌∙◌}
 use Rattle.std.specs.List.{list_any}
-use Rattle.std.proofs.lemmas.List.{length-append}
-use Rattle.rule_law.specs.Prefixes.{GoesOn}
 use Rattle.fux_judge.specs.Penalties.{paid}
 use Rattle.fux_judge.specs.Grows.{paid_grows}
 use Rattle.fux_judge.specs.Rules.{late_rules}

@@ -1,39 +1,48 @@
-use Rattle.std.proofs.Common.{Bool, ap, sym, ◌∙◌}
+use Rattle.std.proofs.Common.{Bool, Some, None, ap, sym, ◌∙◌, arith}
 use Rattle.rule_law.specs.Places.{Row, reading_of}
-use Rattle.fux_judge.proofs.CoverLemmas.{covers_dissonance, covers_rhythm}
-use Rattle.fux_judge.proofs.MomentLemmas.{breaks_melodic, breaks_of_motion, breaks_of_dissonance, breaks_of_rhythm, breaks_of_doubling, breaks_of_none}
+use Rattle.fux_judge.specs.declared.numbers.RuleCrate.TheVariants.{Melody, Motion, Dissonance, Rhythm, Doubling}
+use Rattle.fux_judge.proofs.CrateLemmas.{breaks_by_crate, covers}
 use Rattle.fux_judge.proofs.whole.is_broken_in.Goals as goal
 
-pub broken-requires-then-is_of_dissonance-clause-rule : goal.broken-requires-then-is_of_dissonance-clause-rule
-broken-requires-then-is_of_dissonance-clause-rule c = covers_dissonance c.args.rule (sym c.if-is_of_dissonance.ensures)
+pub broken-requires-clause-rule : goal.broken-requires-clause-rule
+broken-requires-clause-rule c = covers c.args.rule (Some Melody) (omega arith) (sym c.crate_of.ensures ∙ c.in-Some-Melody.is ∙ ap Some c.in-Some-Melody.field-0-is)
 
-pub broken-requires-then-is_of_rhythm-clause-rule : goal.broken-requires-then-is_of_rhythm-clause-rule
-broken-requires-then-is_of_rhythm-clause-rule c = covers_rhythm c.args.rule (sym c.if-is_of_rhythm.ensures)
+pub broken-requires-in-Some-Motion-clause-rule : goal.broken-requires-in-Some-Motion-clause-rule
+broken-requires-in-Some-Motion-clause-rule c = covers c.args.rule (Some Motion) (omega arith) (sym c.crate_of.ensures ∙ c.in-Some-Motion.is ∙ ap Some c.in-Some-Motion.field-0-is)
 
-pub returns-then-is_melodic : goal.returns-then-is_melodic
-returns-then-is_melodic c =
+pub broken-requires-in-Some-Dissonance-clause-rule : goal.broken-requires-in-Some-Dissonance-clause-rule
+broken-requires-in-Some-Dissonance-clause-rule c = covers c.args.rule (Some Dissonance) (omega arith) (sym c.crate_of.ensures ∙ c.in-Some-Dissonance.is ∙ ap Some c.in-Some-Dissonance.field-0-is)
+
+pub broken-requires-in-Some-Rhythm-clause-rule : goal.broken-requires-in-Some-Rhythm-clause-rule
+broken-requires-in-Some-Rhythm-clause-rule c = covers c.args.rule (Some Rhythm) (omega arith) (sym c.crate_of.ensures ∙ c.in-Some-Rhythm.is ∙ ap Some c.in-Some-Rhythm.field-0-is)
+
+pub broken-requires-in-Some-Doubling-clause-rule : goal.broken-requires-in-Some-Doubling-clause-rule
+broken-requires-in-Some-Doubling-clause-rule c = covers c.args.rule (Some Doubling) (omega arith) (sym c.crate_of.ensures ∙ c.in-Some-Doubling.is ∙ ap Some c.in-Some-Doubling.field-0-is)
+
+pub returns-in-Some-Melody : goal.returns-in-Some-Melody
+returns-in-Some-Melody c =
     c.broken.ensures
-    ∙ sym (ap (λ (row : Row Bool). reading_of row c.args.score.now.columns c.args.i) (breaks_melodic c.args.rule c.args.ex.now c.args.voices.bits (sym c.if-is_melodic.ensures)))
+    ∙ sym (ap (λ (row : Row Bool). reading_of row c.args.score.now.columns c.args.i) (breaks_by_crate c.args.rule (Some Melody) (sym c.crate_of.ensures ∙ c.in-Some-Melody.is ∙ ap Some c.in-Some-Melody.field-0-is) c.args.ex.now c.args.voices.bits))
 
-pub returns-then-is_of_motion : goal.returns-then-is_of_motion
-returns-then-is_of_motion c =
-    c.broken-then-is_of_motion.ensures
-    ∙ sym (ap (λ (row : Row Bool). reading_of row c.args.score.now.columns c.args.i) (breaks_of_motion c.args.rule c.args.ex.now c.args.voices.bits (sym c.if-is_melodic.ensures) (sym c.if-is_of_motion.ensures)))
+pub returns-in-Some-Motion : goal.returns-in-Some-Motion
+returns-in-Some-Motion c =
+    c.broken-in-Some-Motion.ensures
+    ∙ sym (ap (λ (row : Row Bool). reading_of row c.args.score.now.columns c.args.i) (breaks_by_crate c.args.rule (Some Motion) (sym c.crate_of.ensures ∙ c.in-Some-Motion.is ∙ ap Some c.in-Some-Motion.field-0-is) c.args.ex.now c.args.voices.bits))
 
-pub returns-then-is_of_dissonance : goal.returns-then-is_of_dissonance
-returns-then-is_of_dissonance c =
-    c.broken-then-is_of_dissonance.ensures
-    ∙ sym (ap (λ (row : Row Bool). reading_of row c.args.score.now.columns c.args.i) (breaks_of_dissonance c.args.rule c.args.ex.now c.args.voices.bits (sym c.if-is_melodic.ensures) (sym c.if-is_of_motion.ensures) (sym c.if-is_of_dissonance.ensures)))
+pub returns-in-Some-Dissonance : goal.returns-in-Some-Dissonance
+returns-in-Some-Dissonance c =
+    c.broken-in-Some-Dissonance.ensures
+    ∙ sym (ap (λ (row : Row Bool). reading_of row c.args.score.now.columns c.args.i) (breaks_by_crate c.args.rule (Some Dissonance) (sym c.crate_of.ensures ∙ c.in-Some-Dissonance.is ∙ ap Some c.in-Some-Dissonance.field-0-is) c.args.ex.now c.args.voices.bits))
 
-pub returns-then-is_of_rhythm : goal.returns-then-is_of_rhythm
-returns-then-is_of_rhythm c =
-    c.broken-then-is_of_rhythm.ensures
-    ∙ sym (ap (λ (row : Row Bool). reading_of row c.args.score.now.columns c.args.i) (breaks_of_rhythm c.args.rule c.args.ex.now c.args.voices.bits (sym c.if-is_melodic.ensures) (sym c.if-is_of_motion.ensures) (sym c.if-is_of_dissonance.ensures) (sym c.if-is_of_rhythm.ensures)))
+pub returns-in-Some-Rhythm : goal.returns-in-Some-Rhythm
+returns-in-Some-Rhythm c =
+    c.broken-in-Some-Rhythm.ensures
+    ∙ sym (ap (λ (row : Row Bool). reading_of row c.args.score.now.columns c.args.i) (breaks_by_crate c.args.rule (Some Rhythm) (sym c.crate_of.ensures ∙ c.in-Some-Rhythm.is ∙ ap Some c.in-Some-Rhythm.field-0-is) c.args.ex.now c.args.voices.bits))
 
-pub returns-then-is_of_doubling : goal.returns-then-is_of_doubling
-returns-then-is_of_doubling c =
-    c.broken-then-is_of_doubling.ensures
-    ∙ sym (ap (λ (row : Row Bool). reading_of row c.args.score.now.columns c.args.i) (breaks_of_doubling c.args.rule c.args.ex.now c.args.voices.bits (sym c.if-is_melodic.ensures) (sym c.if-is_of_motion.ensures) (sym c.if-is_of_dissonance.ensures) (sym c.if-is_of_rhythm.ensures) (sym c.if-is_of_doubling.ensures)))
+pub returns-in-Some-Doubling : goal.returns-in-Some-Doubling
+returns-in-Some-Doubling c =
+    c.broken-in-Some-Doubling.ensures
+    ∙ sym (ap (λ (row : Row Bool). reading_of row c.args.score.now.columns c.args.i) (breaks_by_crate c.args.rule (Some Doubling) (sym c.crate_of.ensures ∙ c.in-Some-Doubling.is ∙ ap Some c.in-Some-Doubling.field-0-is) c.args.ex.now c.args.voices.bits))
 
-pub returns : goal.returns
-returns c = sym (ap (λ (row : Row Bool). reading_of row c.args.score.now.columns c.args.i) (breaks_of_none c.args.rule c.args.ex.now c.args.voices.bits (sym c.if-is_melodic.ensures) (sym c.if-is_of_motion.ensures) (sym c.if-is_of_dissonance.ensures) (sym c.if-is_of_rhythm.ensures) (sym c.if-is_of_doubling.ensures)))
+pub returns-in-None : goal.returns-in-None
+returns-in-None c = sym (ap (λ (row : Row Bool). reading_of row c.args.score.now.columns c.args.i) (breaks_by_crate c.args.rule None (sym c.crate_of.ensures ∙ c.in-None.is) c.args.ex.now c.args.voices.bits))

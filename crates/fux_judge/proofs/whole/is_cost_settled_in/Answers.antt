@@ -1,4 +1,4 @@
-use Rattle.std.proofs.Common.{true, length, ap, sym, ◌∙◌}
+use Rattle.std.proofs.Common.{length, ap, sym, ◌∙◌}
 use Rattle.std.specs.Prelude.{nat_lt}
 use Rattle.std.proofs.lemmas.Bool.{ne_eqb}
 use Rattle.rule_law.specs.Law.{both_true, test_from_below}

@@ -1,0 +1,7 @@
+use Rattle.std.proofs.Common.{refl}
+use Rattle.fux_judge.specs.Rules.{rule_at, rules_at_once, rules_read}
+use Rattle.fux_judge.proofs.numbers.all_at_once.Goals as goal
+
+pub returns-clause-value : goal.returns-clause-value
+unfolding rules_at_once rules_read rule_at
+returns-clause-value c = refl

@@ -1,0 +1,7 @@
+use Rattle.std.proofs.Common.{refl}
+use Rattle.fux_judge.specs.Rules.{late_rules, rule_at, rules_read}
+use Rattle.fux_judge.proofs.numbers.every_late_rule.Goals as goal
+
+pub returns-clause-value : goal.returns-clause-value
+unfolding late_rules rules_read rule_at
+returns-clause-value c = refl
