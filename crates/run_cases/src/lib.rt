@@ -8,6 +8,4 @@ mod long_files;
 #[cfg(test)]
 mod table;
 #[cfg(test)]
-mod vectors;
-#[cfg(test)]
 mod words;
