@@ -148,9 +148,11 @@ aeolian|A4 F4 B4 A4|C5 A5|E5 D5 G5 A5|2"
 }
 
 /// The rules that don't count, whose breaks cost nothing.
-const FIRST_FREE: &[u8] = &[4, 5, 6, 7, 8, 9, 10, 11, 16, 17, 24, 26];
+const FIRST_FREE: &[u8] = &[
+    4, 5, 6, 7, 8, 9, 10, 11, 15, 16, 17, 18, 19, 20, 21, 22, 23, 24, 25, 26,
+];
 
-const SECOND_FREE: &[u8] = &[6, 7, 8, 9, 10, 16, 17];
+const SECOND_FREE: &[u8] = &[6, 7, 8, 9, 10, 15, 16, 17, 18, 19, 20, 21, 22, 23, 25];
 
 /// The weights of the tolls that count.
 const FIRST_SHEET: Sheet = Sheet {
