@@ -1,16 +1,13 @@
 -- Where reading stands in the middle of a head, some bytes lead to its end (`goes-on`).
-use Rattle.std.proofs.Common.{◌≡◌, ◌≢◌, ◌⊎◌, inl, inr, ℕ, zero, suc, ◌+◌, ◌-◌, ◌*◌, ◌/◌, ◌%◌, ◌<◌, ◌≤◌, ◌^◌, Bool, true, false, List, [], ◌∷◌, ◌++◌, Option, Some, None, length, length-drop, drop, refl, sym, ap, subst, ◌∙◌, append_assoc, append-nil, arith}
+use Rattle.std.proofs.Common.{◌≡◌, ◌⊎◌, inl, inr, ℕ, ◌+◌, ◌-◌, ◌*◌, ◌%◌, ◌<◌, ◌≤◌, ◌^◌, Bool, true, false, List, [], ◌∷◌, ◌++◌, Option, Some, None, length, length-drop, drop, refl, ap, ◌∙◌, append_assoc, arith}
 use Rattle.std.specs.Prelude.{◌==◌, ◌&&◌, ◌||◌, not, ⊤, IfSome, codes, is_some, nat_le, nat_lt, option_map, if◌then◌else◌}
 use Rattle.std.specs.Option.{option_and_then}
-use Rattle.std.proofs.lemmas.Bool.{and_parts, eqb-true, false≢true}
+use Rattle.std.proofs.lemmas.Bool.{and_parts, eqb-true}
 use Rattle.std.proofs.lemmas.Bool.Decides.{nat_tests}
 use Rattle.fux_pitch.specs.declared.pitch.Pitch.{Pitch}
-use Rattle.fux_pitch.specs.Names.{name_of}
-use Rattle.fux_pitch.specs.Pitch.{pitch_at}
 use Rattle.fux_grid.specs.declared.cell.Cell.{Cell}
-use Rattle.fux_grid.specs.declared.cell.Cell.TheVariants.{Rest, Hold, Start}
+use Rattle.fux_grid.specs.declared.cell.Cell.TheVariants.{Rest, Start}
 use Rattle.fux_grid.specs.declared.exercise.Exercise.{Exercise}
-use Rattle.fux_text.specs.Names.{pitch_named, pitches}
 use Rattle.text_lines.specs.Numbers.{is_digit}
 use Rattle.cert_text.specs.declared.place.Fixed.{Fixed}
 use Rattle.cert_text.specs.declared.place.Fixed.TheVariants.{BarLine, Best, Claims, Colon, Feed, Nothing, Opening, Sing, Space}
@@ -18,12 +15,12 @@ use Rattle.cert_text.specs.declared.place.Part.{Part}
 use Rattle.cert_text.specs.declared.place.Place.{Place}
 use Rattle.cert_text.specs.declared.place.Place.TheVariants.{Count, Digits, Kind, Letter, Name, Sign, Whole, Within}
 use Rattle.cert_text.specs.declared.place.Spot.{Spot}
-use Rattle.cert_text.specs.HeadRuns.{first_part, run}
-use Rattle.cert_text.specs.Places.{after_at, behind_fixed, behind_item, behind_name, digit_after, fixed_bytes, free_from, is_expected, is_pitch, line_from, may_hold, may_rest, part_after, sing_bytes}
+use Rattle.cert_text.specs.HeadRuns.{run}
+use Rattle.cert_text.specs.Places.{after_at, behind_fixed, behind_item, behind_name, digit_after, fixed_bytes, free_from, is_expected, is_pitch, line_from, may_hold, may_rest, part_after}
 use Rattle.std.specs.Fmt.{decimal}
 use Rattle.cert_text.proofs.FourthOctave.{flat-four, natural-four, sharp-four}
-use Rattle.cert_text.proofs.ItemBacks.{Ends, not_done}
-use Rattle.cert_text.specs.SingItems.{Fits, behind_text, claims_text, items_text, line_text, lines_text, sounds}
+use Rattle.cert_text.proofs.ItemBacks.{Ends}
+use Rattle.cert_text.specs.SingItems.{behind_text, claims_text, items_text, lines_text, sounds}
 use Rattle.cert_text.proofs.ItemRuns.{behind-run, count-run, items-run, natural-run, signed-run}
 use Rattle.cert_text.proofs.LineBacks.{sample, sample-fits}
 use Rattle.cert_text.proofs.LineRuns.{free_among, lines-run, number-run, sing-long}

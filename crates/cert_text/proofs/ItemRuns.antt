@@ -1,5 +1,5 @@
 -- The items of a `sing` line, one after the other over all its bars, and that a line of them is read to its end (`items-run`).
-use Rattle.std.proofs.Common.{◌≡◌, ℕ, zero, suc, ◌+◌, ◌-◌, ◌*◌, ◌/◌, ◌%◌, ◌<◌, ◌≤◌, ℤ, pos, negsuc, ◌≤ℤ◌, Bool, true, false, List, [], ◌∷◌, ◌++◌, Option, Some, None, length, refl, sym, ap, subst, ◌∙◌, append_assoc, arith}
+use Rattle.std.proofs.Common.{◌≡◌, ℕ, zero, suc, ◌+◌, ◌-◌, ◌*◌, ◌/◌, ◌%◌, ◌<◌, ◌≤◌, ℤ, pos, negsuc, ◌≤ℤ◌, Bool, true, false, List, [], ◌∷◌, ◌++◌, Option, refl, sym, ap, ◌∙◌, append_assoc, arith}
 use Rattle.std.specs.Prelude.{◌==◌, ◌&&◌, ◌||◌, IsTrue, codes, is_some, nat_le, nat_lt, if◌then◌else◌}
 use Rattle.std.proofs.lemmas.Bool.Decides.{nat_tests}
 use Rattle.std.proofs.lemmas.Int.{ints}
@@ -12,13 +12,10 @@ use Rattle.fux_grid.specs.declared.cell.Cell.TheVariants.{Rest, Hold, Start}
 use Rattle.fux_grid.specs.declared.exercise.Exercise.{Exercise}
 use Rattle.fux_grid.specs.Cells.{cell_follows}
 use Rattle.fux_text.specs.Items.{item_name}
-use Rattle.fux_text.specs.Names.{pitch_named}
 use Rattle.fux_text.specs.Sing.{held}
 use Rattle.fux_text.proofs.OwnWords.{pitch-own}
-use Rattle.cert_text.specs.declared.place.Fixed.TheVariants.{BarLine, Colon, Feed, Space}
+use Rattle.cert_text.specs.declared.place.Fixed.TheVariants.{BarLine, Feed, Space}
 use Rattle.cert_text.specs.declared.place.Place.TheVariants.{Count, Letter, Name, Sign, Within}
-use Rattle.cert_text.specs.declared.place.Part.{Part}
-use Rattle.cert_text.specs.declared.place.Place.{Place}
 use Rattle.cert_text.specs.declared.place.Spot.{Spot}
 use Rattle.cert_text.specs.HeadRuns.{run}
 use Rattle.cert_text.specs.SingItems.{Fits, behind_text, can_stand, item_text, items_text, sounds}

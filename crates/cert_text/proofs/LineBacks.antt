@@ -1,10 +1,9 @@
 -- Bytes that are read to the end of a head are those of one (`head-from`).
-use Rattle.std.proofs.Common.{◌≡◌, ◌≢◌, ◌⊎◌, inl, inr, ℕ, zero, suc, ◌+◌, ◌-◌, ◌*◌, ◌/◌, ◌%◌, ◌<◌, ◌≤◌, ◌^◌, Bool, true, false, List, [], ◌∷◌, ◌++◌, Option, Some, None, length, refl, sym, ap, subst, ◌∙◌, append_assoc, append-nil, arith}
-use Rattle.std.specs.Prelude.{◌==◌, ◌&&◌, ◌||◌, not, codes, filter, is_some, nat_le, nat_lt, option_map, if◌then◌else◌}
+use Rattle.std.proofs.Common.{◌≡◌, ◌≢◌, ◌⊎◌, inl, inr, ℕ, zero, suc, ◌+◌, ◌-◌, ◌*◌, ◌/◌, ◌%◌, ◌<◌, ◌≤◌, ◌^◌, Bool, true, false, List, [], ◌∷◌, ◌++◌, Option, Some, None, refl, sym, ap, subst, ◌∙◌, append_assoc, append-nil, arith}
+use Rattle.std.specs.Prelude.{◌==◌, ◌&&◌, not, codes, nat_le, nat_lt, option_map, if◌then◌else◌}
 use Rattle.std.specs.Fmt.{decimal}
-use Rattle.std.specs.List.{flat_map, range_with_len}
 use Rattle.std.specs.Option.{option_and_then}
-use Rattle.std.proofs.lemmas.Bool.{and_parts, eqb-true, false≢true}
+use Rattle.std.proofs.lemmas.Bool.{and_parts, eqb-true}
 use Rattle.std.proofs.lemmas.Bool.Decides.{nat_tests}
 use Rattle.std.proofs.lemmas.Fmt.{decimal_digit, decimal_step}
 use Rattle.fux_pitch.specs.declared.pitch.Pitch.{Pitch}
@@ -14,11 +13,10 @@ use Rattle.fux_grid.specs.declared.exercise.Exercise.{Exercise}
 use Rattle.text_lines.specs.Numbers.{is_digit}
 use Rattle.cert_text.specs.declared.place.Fixed.TheVariants.{Best, Claims, Feed, Nothing, Opening, Sing}
 use Rattle.cert_text.specs.declared.place.Part.{Part}
-use Rattle.cert_text.specs.declared.place.Place.{Place}
-use Rattle.cert_text.specs.declared.place.Place.TheVariants.{Digits, Kind, Name, Whole, Within}
+use Rattle.cert_text.specs.declared.place.Place.TheVariants.{Digits, Kind, Whole, Within}
 use Rattle.cert_text.specs.HeadRuns.{first_part, run}
-use Rattle.cert_text.specs.Places.{behind_fixed, digit_after, line_from, sing_bytes}
-use Rattle.cert_text.proofs.ItemBacks.{Ends, ItemsFrom, Leads, fixed-from, items-from, not_done}
+use Rattle.cert_text.specs.Places.{behind_fixed, line_from, sing_bytes}
+use Rattle.cert_text.proofs.ItemBacks.{Ends, Leads, fixed-from, items-from, not_done}
 use Rattle.cert_text.specs.SingItems.{Fits, claims_text, items_text, line_text, lines_text, nothing_text, opening_text}
 use Rattle.cert_text.proofs.LineRuns.{free_among, has-line, sing-long, skips-cantus}
 use Rattle.cert_text.proofs.RunLemmas.{at}

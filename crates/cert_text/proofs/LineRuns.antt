@@ -1,20 +1,18 @@
 -- The text of a head is read to its end (`best-run`, `nothing-run`).
-use Rattle.std.proofs.Common.{◌≡◌, ℕ, zero, suc, ◌+◌, ◌-◌, ◌*◌, ◌/◌, ◌%◌, ◌<◌, ◌≤◌, ◌^◌, Bool, true, false, List, [], ◌∷◌, ◌++◌, Option, Some, None, length, refl, sym, ap, subst, ◌∙◌, append_assoc, arith}
-use Rattle.std.specs.Prelude.{◌==◌, ◌&&◌, ◌||◌, not, codes, filter, nat_le, nat_lt, if◌then◌else◌}
+use Rattle.std.proofs.Common.{◌≡◌, ℕ, zero, suc, ◌+◌, ◌-◌, ◌*◌, ◌/◌, ◌%◌, ◌<◌, ◌≤◌, ◌^◌, Bool, true, false, List, [], ◌∷◌, ◌++◌, Option, Some, None, length, refl, ap, ◌∙◌, append_assoc, arith}
+use Rattle.std.specs.Prelude.{◌==◌, not, codes, filter, nat_le, nat_lt, if◌then◌else◌}
 use Rattle.std.specs.Fmt.{decimal}
-use Rattle.std.specs.List.{flat_map, range_with_len}
+use Rattle.std.specs.List.{range_with_len}
 use Rattle.std.proofs.lemmas.Bool.Decides.{nat_tests}
 use Rattle.std.proofs.lemmas.Fmt.{decimal_by_steps}
 use Rattle.fux_grid.specs.declared.cell.Cell.{Cell}
 use Rattle.fux_grid.specs.declared.cell.Cell.TheVariants.{Rest}
 use Rattle.fux_grid.specs.declared.exercise.Exercise.{Exercise}
 use Rattle.text_lines.specs.Numbers.{is_digit}
-use Rattle.cert_text.specs.declared.place.Fixed.TheVariants.{Claims, Feed, Sing}
+use Rattle.cert_text.specs.declared.place.Fixed.TheVariants.{Sing}
 use Rattle.cert_text.specs.declared.place.Place.TheVariants.{Digits, Name, Whole, Within}
-use Rattle.cert_text.specs.declared.place.Place.{Place}
-use Rattle.cert_text.specs.declared.place.Part.{Part}
 use Rattle.cert_text.specs.HeadRuns.{first_part, run}
-use Rattle.cert_text.specs.Places.{behind_fixed, free_from, line_from, sing_bytes}
+use Rattle.cert_text.specs.Places.{line_from, sing_bytes}
 use Rattle.cert_text.specs.SingItems.{Fits, claims_text, items_text, line_text, lines_text, opening_text}
 use Rattle.cert_text.proofs.ItemRuns.{items-run}
 use Rattle.cert_text.proofs.RunLemmas.{at, fixed-run}

@@ -1,5 +1,5 @@
 -- Where bytes stop being a head (`stops-from`), and which bytes are one (`text-from`).
-use Rattle.std.proofs.Common.{◌≡◌, ◌≢◌, ◌⊎◌, inl, inr, ⊎_elim, append_assoc, length-append, append-nil, ℕ, zero, suc, ◌+◌, ◌-◌, ◌<◌, ◌≤◌, Bool, true, false, List, [], ◌∷◌, ◌++◌, Option, Some, None, length, take, drop, refl, sym, ap, subst, ◌∙◌, arith}
+use Rattle.std.proofs.Common.{◌≡◌, ◌⊎◌, inl, inr, ⊎_elim, append_assoc, length-append, length-drop, append-nil, ℕ, ◌+◌, ◌-◌, ◌<◌, ◌≤◌, List, [], ◌∷◌, ◌++◌, Option, Some, None, length, take, drop, refl, sym, ap, subst, ◌∙◌, arith}
 use Rattle.std.specs.Prelude.{IfSome, codes}
 use Rattle.std.specs.Option.{option_and_then}
 use Rattle.std.specs.Fmt.{decimal}
@@ -11,10 +11,10 @@ use Rattle.fux_grid.specs.declared.exercise.Exercise.{Exercise}
 use Rattle.fux_grid.specs.Exercises.{IsValid}
 use Rattle.fux_text.specs.Lines.{free_voices}
 use Rattle.cert_text.specs.declared.place.Part.{Part}
-use Rattle.cert_text.specs.declared.place.Place.TheVariants.{Whole, Within}
+use Rattle.cert_text.specs.declared.place.Place.TheVariants.{Whole}
 use Rattle.cert_text.specs.HeadRuns.{RunStops, first_part, run}
-use Rattle.cert_text.specs.HeadTexts.{BeginsText, TextStops}
-use Rattle.cert_text.specs.SingItems.{AreLines, IsBestText, IsHeadText, best_text, claims_text, lines_text, nothing_text, opening_text}
+use Rattle.cert_text.specs.HeadTexts.{TextStops}
+use Rattle.cert_text.specs.SingItems.{IsHeadText, best_text, claims_text, lines_text, nothing_text, opening_text}
 use Rattle.cert_text.proofs.Completions.{IsPart, goes-on, run-keeps}
 use Rattle.cert_text.proofs.LineBacks.{BestFrom, head-from}
 use Rattle.cert_text.proofs.LineRuns.{best-run, lines-run, nothing-run}
@@ -153,3 +153,31 @@ pub best-long : (bytes : List ℕ) (used penalty : ℕ) (lines : List ℕ) → u
     → take used bytes ≡ best_text penalty lines → 17 + length (decimal penalty) + 7 ≤ used
 best-long bytes used penalty lines within text =
     (lines-at bytes used penalty (length (decimal penalty)) lines within refl text).first
+
+-- ---- one head at the front
+
+after_whole : (ex : Exercise) (penalty : Option ℕ) (more : List ℕ) (total : Option ℕ) → 0 < length more
+    → run ex (at penalty Whole) more ≡ Some (at total Whole) → ⊥
+after_whole ex penalty [] total some e = omega (arith, some)
+after_whole ex penalty (b ∷ more) total some e = absurd (grind (arith, e))
+
+-- a head doesn't go on behind its end
+no_longer : (ex : Exercise) (bytes : List ℕ) (n m : ℕ) (penalty total : Option ℕ) → n < m → m ≤ length bytes
+    → run ex first_part (take n bytes) ≡ Some (at penalty Whole) → run ex first_part (take m bytes) ≡ Some (at total Whole) → ⊥
+no_longer ex bytes n m penalty total lt within e f =
+    let more = take (m - n) (drop n bytes) in
+    let long : length more ≡ m - n = length-take-le (m - n) (drop n bytes) (omega (arith, length-drop n bytes, within)) in
+    after_whole ex penalty more total (omega (arith, long, lt))
+    (sym (ap (run ex first_part) (split n m bytes (omega (arith, lt))) ∙ run-on ex first_part (at penalty Whole) (take n bytes) more e) ∙ f)
+
+pub same-head : (ex : Exercise) (bytes : List ℕ) (n m : ℕ) (penalty total : Option ℕ) → IsValid ex → n ≤ length bytes → m ≤ length bytes
+    → IsHeadText ex (take n bytes) penalty → IsHeadText ex (take m bytes) total → (n ≡ m) × (penalty ≡ total)
+same-head ex bytes n m penalty total valid within within' text text' =
+    let e = text-runs ex (take n bytes) penalty valid text in
+    let f = text-runs ex (take m bytes) total valid text' in
+    let least : m ≤ n = ⊎_elim (λ lt. absurd (no_longer ex bytes n m penalty total lt within' e f)) (λ h. h) (cases_lt n m) in
+    let most : n ≤ m = ⊎_elim (λ lt. absurd (no_longer ex bytes m n total penalty lt within f e)) (λ h. h) (cases_lt m n) in
+    let same : n ≡ m = omega (arith, least, most) in
+    let ends : Some (at penalty Whole) ≡ Some (at total Whole) = sym e ∙ ap (λ k. run ex first_part (take k bytes)) same ∙ f in
+    let parts : at penalty Whole ≡ at total Whole = cc in
+    (same, ap (λ (p : Part). p.penalty) parts)

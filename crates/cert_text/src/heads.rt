@@ -1,11 +1,11 @@
 //! Reading the head of a certificate.
 
-ghost use Rattle.std.specs.Prelude.{◌≡◌, ◌⊎◌, ◌+◌, ◌≤◌, ℕ, IfErr, IfOk, List, length, take};
+ghost use Rattle.std.specs.Prelude.{◌≡◌, ◌⊎◌, ◌+◌, ◌≤◌, ℕ, IfErr, IfOk, List, MatchResult, Option, Some, length, take};
 ghost use Rattle.std.specs.Fmt.{decimal};
 ghost use Rattle.fux_grid.specs.Exercises.{IsValid};
-ghost use Rattle.cert_text.specs.HeadTexts.{Heads, TextStops};
+ghost use Rattle.cert_text.specs.HeadTexts.{Heads, TextStops, penalty_of};
 ghost use Rattle.cert_text.specs.HeadRuns.{ScanTells, first_part};
-ghost use Rattle.cert_text.specs.SingItems.{IsBestText, best_text};
+ghost use Rattle.cert_text.specs.SingItems.{IsBestText, IsHeadText, best_text};
 
 use crate::answers::{CertFault, CertHead};
 use crate::place::{Fixed, Part, Place};
@@ -69,7 +69,8 @@ fn best_head(
     requires within { used ≤ length bytes.now }
     requires text { IsBestText ex.now (take used bytes.now) penalty }
     ensures ok { IfOk result (λ found. Heads ex.now bytes.now found.0 found.1) }
-    ensures fault { IfErr result (λ fault. fault ≡ CertFault.Memory) }
+    ensures same { MatchResult result (λ found. (found.1 ≡ used) × (penalty_of found.0 ≡ Some penalty))
+        (λ fault. fault ≡ CertFault.Memory) }
 {
     match read_sing(alloc, ex, lines_in(bytes, penalty, used)) {
         Ok(score) => Ok((CertHead::Best { penalty, score }, used)),
@@ -89,6 +90,12 @@ pub fn head(alloc: Global, ex: &Exercise, bytes: &[u8]) -> Result<(CertHead, usi
     ensures ok { IfOk result (λ found. Heads ex.now bytes.now found.0 found.1) }
     ensures fault { IfErr result (λ fault. (fault ≡ CertFault.Memory)
         ⊎ ((at : ℕ) × (fault ≡ CertFault.CertHead at) × TextStops ex.now bytes.now at)) }
+
+    // Where a head stands at the front, it is answered, unless memory runs out.
+    ensures only { (n : ℕ) (penalty : Option ℕ) → n ≤ length bytes.now
+        → IsHeadText ex.now (take n bytes.now) penalty
+        → MatchResult result (λ found. (found.1 ≡ n) × (penalty_of found.0 ≡ penalty))
+        (λ fault. fault ≡ CertFault.Memory) }
 {
     match scan(ex, bytes) {
         Err(at) => Err(CertFault::CertHead { at: at as u64 }),

@@ -1,4 +1,4 @@
-use Rattle.std.proofs.Common.{◌≡◌, ◌/◌, ◌%◌, ◌+◌, ◌≤◌, ◌∷◌, [], length, length-append, ap, sym, ◌∙◌, arith}
+use Rattle.std.proofs.Common.{◌/◌, ◌%◌, ◌+◌, ◌≤◌, ◌∷◌, [], length, length-append, ap, sym, arith}
 use Rattle.std.specs.Fmt.{decimal}
 use Rattle.std.proofs.lemmas.Fmt.{decimal_digit, decimal_step, length-decimal-le}
 use Rattle.cert_text.proofs.heads.+digits.Goals as goal

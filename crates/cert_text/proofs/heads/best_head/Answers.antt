@@ -1,4 +1,4 @@
-use Rattle.std.proofs.Common.{arith, subst, refl}
+use Rattle.std.proofs.Common.{subst}
 use Rattle.fux_text.specs.Texts.{AreSingLinesOf}
 use Rattle.cert_text.proofs.Stopping.{best-long}
 use Rattle.cert_text.proofs.heads.best_head.Goals as goal

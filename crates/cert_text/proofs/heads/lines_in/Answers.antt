@@ -1,4 +1,3 @@
-use Rattle.std.proofs.Common.{arith, ◌∙◌}
 use Rattle.cert_text.proofs.Stopping.{lines-at}
 use Rattle.cert_text.proofs.heads.lines_in.Goals as goal
 

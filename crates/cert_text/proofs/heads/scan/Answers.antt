@@ -1,4 +1,4 @@
-use Rattle.std.proofs.Common.{◌≡◌, ◌+◌, get_or, Some, arith, ap, sym, ◌∙◌}
+use Rattle.std.proofs.Common.{Some, arith, ap, sym, ◌∙◌}
 use Rattle.cert_text.proofs.RunLemmas.{run-more}
 use Rattle.cert_text.specs.HeadRuns.{first_part}
 use Rattle.cert_text.proofs.heads.scan.Goals as goal
