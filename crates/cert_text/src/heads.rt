@@ -74,6 +74,7 @@ fn best_head(
 {
     match read_sing(alloc, ex, lines_in(bytes, penalty, used)) {
         Ok(score) => Ok((CertHead::Best { penalty, score }, used)),
+        // Canonical lines are always read, so that nothing but memory can be wanting here. No clause says so yet.
         Err(_) => Err(CertFault::Memory),
     }
 }
