@@ -1,4 +1,12 @@
+pub mod Completions
+pub mod FourthOctave
+pub mod ItemBacks
+pub mod ItemRuns
+pub mod LineBacks
 pub mod LineLemmas
+pub mod LineRuns
 pub mod PartLemmas
+pub mod RunLemmas
 pub mod StopLemmas
+pub mod Stopping
 pub mod TakeLemmas

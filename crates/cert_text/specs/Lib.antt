@@ -1,4 +1,8 @@
 pub mod Begun
+pub mod HeadRuns
+pub mod HeadTexts
 pub mod Lines
+pub mod Places
 pub mod Reading
+pub mod SingItems
 pub mod Takes

@@ -1,5 +1,16 @@
 //! What is answered about a certificate.
 
+use fux_grid::Score;
+
+/// What a certificate's head says.
+#[derive(Drop)]
+pub enum CertHead {
+    /// No lawful setting has a lesser penalty than this one.
+    Best { penalty: u64, score: Score },
+    /// No setting is lawful.
+    Nothing,
+}
+
 /// What is wrong with the text of a certificate, at a byte counted from 0.
 #[derive(Clone, Copy, Debug, PartialEq, Eq)]
 pub enum CertFault {

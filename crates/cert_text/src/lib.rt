@@ -1,12 +1,15 @@
-//! The text of certificates: the lines of claims, read from pieces of any size and written, and what is answered about
-//! certificates.
+//! The text of certificates: its head, the lines of claims, read from pieces of any size and written, and what is answered
+//! about certificates.
 #![tactic(auto)]
 
 mod answers;
 mod begun;
 mod claim;
 mod claims;
+mod heads;
+mod place;
 
-pub use answers::{Accepted, CertFault, CertWrite, Refused, Why};
+pub use answers::{Accepted, CertFault, CertHead, CertWrite, Refused, Why};
 pub use claim::{Claim, write_claim};
 pub use claims::{Claims, Taken};
+pub use heads::head;

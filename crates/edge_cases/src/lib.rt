@@ -6,6 +6,8 @@ mod claims;
 #[cfg(test)]
 mod drills;
 #[cfg(test)]
+mod heads;
+#[cfg(test)]
 mod prints;
 #[cfg(test)]
 mod sheets;

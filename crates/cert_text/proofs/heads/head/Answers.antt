@@ -1,0 +1,51 @@
+use Rattle.std.proofs.Common.{inr, refl, subst, take}
+use Rattle.std.specs.Prelude.{None, Some}
+use Rattle.cert_text.specs.HeadRuns.{RunsTo}
+use Rattle.std.specs.Prelude.{◌≡◌, ℕ, MatchResult, Option}
+use Rattle.cert_text.specs.declared.answers.CertFault.TheVariants.{Memory}
+use Rattle.cert_text.specs.HeadTexts.{penalty_of}
+use Rattle.cert_text.proofs.Stopping.{same-head, stops-from, text-from}
+use Rattle.cert_text.proofs.heads.head.Goals as goal
+
+pub best_head-requires-clause-text : goal.best_head-requires-clause-text
+best_head-requires-clause-text c =
+    let front = take c.in-Ok-default-Some.used c.args.bytes.now in
+    text-from c.args.ex.now front (Some c.in-Ok-default-Some.penalty) c.requires
+    (subst (RunsTo c.args.ex.now front) c.in-Ok-default-Some.field-0-1-is c.in-Ok-default-Some.ensures.1)
+
+pub returns-in-Err-clause-fault : goal.returns-in-Err-clause-fault
+returns-in-Err-clause-fault c = inr (c.in-Err.at, refl, stops-from c.args.ex.now c.args.bytes.now c.in-Err.at c.requires c.in-Err.ensures)
+
+pub returns-in-Ok-default-None-clause-ok : goal.returns-in-Ok-default-None-clause-ok
+returns-in-Ok-default-None-clause-ok c =
+    let front = take c.in-Ok-default-None.used c.args.bytes.now in
+    record {
+      within = c.in-Ok-default-None.ensures.0;
+      text =
+          text-from c.args.ex.now front None c.requires
+          (subst (RunsTo c.args.ex.now front) c.in-Ok-default-None.field-0-1-is c.in-Ok-default-None.ensures.1);
+      setting = tt;
+    }
+
+pub returns-in-Err-clause-only : goal.returns-in-Err-clause-only
+returns-in-Err-clause-only c = λ n penalty within text.
+    absurd ((stops-from c.args.ex.now c.args.bytes.now c.in-Err.at c.requires c.in-Err.ensures).unfinished n penalty within text)
+
+pub returns-in-Ok-default-None-clause-only : goal.returns-in-Ok-default-None-clause-only
+returns-in-Ok-default-None-clause-only c = λ n penalty within text.
+    let front = take c.in-Ok-default-None.used c.args.bytes.now in
+    same-head c.args.ex.now c.args.bytes.now c.in-Ok-default-None.used n None penalty c.requires c.in-Ok-default-None.ensures.0 within
+    (text-from c.args.ex.now front None c.requires
+    (subst (RunsTo c.args.ex.now front) c.in-Ok-default-None.field-0-1-is c.in-Ok-default-None.ensures.1)) text
+
+pub returns-in-Ok-default-Some-clause-only : goal.returns-in-Ok-default-Some-clause-only
+returns-in-Ok-default-Some-clause-only c = λ n penalty within text.
+    let used = c.in-Ok-default-Some.used in
+    let front = take used c.args.bytes.now in
+    let same = same-head c.args.ex.now c.args.bytes.now used n (Some c.in-Ok-default-Some.penalty) penalty c.requires
+    c.in-Ok-default-Some.ensures.0 within
+    (text-from c.args.ex.now front (Some c.in-Ok-default-Some.penalty) c.requires
+    (subst (RunsTo c.args.ex.now front) c.in-Ok-default-Some.field-0-1-is c.in-Ok-default-Some.ensures.1)) text in
+    let Answers : ℕ → Option ℕ → Type 0 = λ k q. MatchResult c.best_head.result
+    (λ found. (found.1 ≡ k) × (penalty_of found.0 ≡ q)) (λ fault. fault ≡ Memory) in
+    subst (λ k. Answers k penalty) same.0 (subst (λ q. Answers used q) same.1 c.best_head.ensures.same)
