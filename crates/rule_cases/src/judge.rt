@@ -116,11 +116,11 @@ fn judged(
 ) -> Findings
     requires valid { IsValid ex.now }
 {
-    assert!(rt; ex.voices == 4 && ex.bars == 3 && state.len() < 24 && col.len() == 4);
+    assert!(rt; ex.voices == 4 && ex.bars == 3 && state.newest.len < 24 && col.len() == 4);
     let sheet = default_sheet();
     Findings {
         broken_within: pruned_within(ex, &sheet, state, col, 0, None),
-        is_always_dead: is_always_dead(ex, state.len(), col),
+        is_always_dead: is_always_dead(ex, state.newest.len, col),
         costly_within: pruned_within(ex, &sheet, state, col, 4, limit),
         verdict: step(ex, &sheet, state, col),
     }
