@@ -8,7 +8,7 @@ use Rattle.fux_grid.specs.declared.exercise.Exercise.{Exercise}
 use Rattle.fux_grid.specs.Cells.{cell_in, pitch_of}
 use Rattle.fux_grid.specs.Exercises.{columns_in}
 use Rattle.fux_grid.specs.Menus.{menu_of}
-use Rattle.floor_tables.specs.Chains.{Chains, cells_of}
+use Rattle.chain_sums.specs.Chains.{Chains, cells_of}
 
 -- how many degrees lie between two pitches
 abbrev pub distance : Pitch → Pitch → ℕ

@@ -4,7 +4,7 @@ ghost use Rattle.std.specs.Prelude.{◌≡◌, ◌≤◌, IfSome};
 ghost use Rattle.fux_grid.specs.Exercises.{IsValid};
 ghost use Rattle.chain_cases.specs.Leaps as specs;
 
-use floor_tables::Links;
+use chain_sums::Links;
 use fux_grid::{Cell, Column, Exercise, MenuFault, cell_of, menu, width};
 use fux_pitch::Pitch;
 use std::alloc::Global;

@@ -2,7 +2,7 @@
 
 ghost use Rattle.std.specs.Prelude.{◌≤◌};
 
-use floor_tables::Links;
+use chain_sums::Links;
 use fux_grid::{Column, follows};
 use fux_pitch::Memory;
 use std::alloc::Global;

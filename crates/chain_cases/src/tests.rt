@@ -2,7 +2,7 @@
 
 use crate::leaps::Leaps;
 use crate::listing::least_of_list;
-use floor_tables::{Links, Tables};
+use chain_sums::{Links, Tables};
 use fux_grid::{Exercise, RangeLine};
 use fux_pitch::{List, Mode, Pitch, parse_pitch};
 use std::alloc::Global;

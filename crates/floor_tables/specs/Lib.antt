@@ -1,6 +1,2 @@
-pub mod Candidates
-pub mod Chains
-pub mod Menus
-pub mod Packed
-pub mod Rows
+pub mod Floors
 pub mod Tables

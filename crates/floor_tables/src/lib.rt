@@ -1,12 +1,7 @@
-//! The least that a chain of columns to the end of a setting costs.
+//! The least that the columns still to come cost, for each column of an exercise.
 #![tactic(auto)]
 
-mod candidates;
-mod least;
-mod links;
-mod menu;
-mod packed;
 mod tables;
 
-pub use links::Links;
-pub use tables::{TableFault, Tables};
+pub use chain_sums::TableFault;
+pub use tables::{Tables, fill_tables};

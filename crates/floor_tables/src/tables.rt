@@ -1,243 +1,70 @@
-//! Tables of least sums over chains.
+//! Tables of the least sums over the chains of an exercise.
 
-ghost use Rattle.std.specs.Prelude.{◌≡◌, ◌<◌, ◌≤◌, ◌+◌, ◌-◌, ℕ, List, ◌*◌, ◌^◌, length, suc, replicate, IfOk, IfErr, OnOk, OnErr, slice_index_or};
+ghost use Rattle.std.specs.Prelude.{◌≡◌, ◌<◌, OnOk, IfOk, IfErr};
 ghost use Rattle.std.specs.List.{Contains};
-ghost use Rattle.fux_grid.specs.Exercises.{bar_of, slot_of};
-ghost use Rattle.floor_tables.specs.Candidates.{AreAllCandidates, GoByBounds};
-ghost use Rattle.floor_tables.specs.Chains.{Chains, IsLeast};
-ghost use Rattle.floor_tables.specs.Menus.{IsMenuOf};
-ghost use Rattle.floor_tables.specs.Rows.{AllAtMost, IsRow};
-ghost use Rattle.floor_tables.specs.Tables.{AreNarrow, AreRows, AreTablesOf, TellsWidth};
+ghost use Rattle.fux_grid.specs.Exercises.{IsValid, columns_in};
+ghost use Rattle.fux_grid.specs.Menus.{menu_of};
+ghost use Rattle.floor_tables.specs.Tables.{AreNarrow, IsRest, IsStart, TellsWidth};
 
-use crate::candidates::{Candidate, candidates, least_of_candidates};
-use crate::least::least_behind;
-use crate::links::Links;
-use crate::menu::Menu;
-use fux_grid::{Column, Place, WIDEST};
-use fux_pitch::Memory;
+use chain_sums::TableFault;
+use fux_grid::{Column, Exercise};
+use penalty_sheet::Sheet;
 use std::alloc::Global;
+use std::marker::Model;
+use std::thread::Threads;
 
-/// Why there are no tables.
-#[derive(Clone, Copy, Debug, PartialEq, Eq)]
-pub enum TableFault {
-    /// A menu has more than 8,192 columns: the first such place, and how many it has.
-    TooWide { place: Place, count: u64 },
-    Memory,
-}
-
-/// The least sums of a place.
+/// For each column of an exercise's menus the least that the columns behind it cost together, by the rules and tolls that read no
+/// more than two neighbors.
 #[derive(Drop)]
-struct Row {
-    /// The number of the place's menu.
-    menu: usize,
-    /// For each column of the menu the least sum over the chains behind it.
-    sums: Vec<Option<u64>>,
+pub struct Tables<'a> {
+    exercise: &'a Exercise,
+    sheet: &'a Sheet,
+    sums: chain_sums::Tables,
 }
 
-/// For each place and each column of its menu the least sum over the chains behind it, and the least sum over all chains.
-#[derive(Drop)]
-pub struct Tables {
-    menus: Vec<Menu>,
-    /// The row of the last place comes first.
-    rows: Vec<Row>,
-    start: Option<u64>,
+impl<'a> Model for Tables<'a> {
+    ghost use Rattle.fux_grid.specs.Exercises.{IsValid};
+    ghost use Rattle.chain_sums.specs.Tables.{AreTablesOf};
+    ghost use Rattle.floor_tables.specs.Floors.{chains_of};
+    ghost use Rattle.floor_tables.specs.Tables.{Task};
+
+    ghost Value = { Task };
+
+    ghost view = { λ t. record { exercise = t.exercise.now; sheet = t.sheet.now } };
+
+    ghost invariant = { λ t. IsValid t.exercise.now × AreTablesOf (chains_of t.exercise.now t.sheet.now) t.sums };
 }
 
-/// The place of a column.
-fn place_of(i: usize) -> Place
-    requires { i < 192 }
-    ensures bar { result.bar ≡ bar_of i }
-    ensures slot { result.slot ≡ slot_of i }
+/// The tables of an exercise by a sheet. All memory is taken here.
+pub fn fill_tables<'a, R: Threads + Sync>(
+    _rt: &R,
+    _alloc: Global,
+    ex: &'a Exercise,
+    sheet: &'a Sheet,
+) -> Result<Tables<'a>, TableFault>
+    requires { IsValid ex.now }
+    ensures made { IfOk result (λ t. t ≡ record { exercise = ex.entry.now; sheet = sheet.entry.now }) }
+    ensures narrow { OnOk result (AreNarrow ex.entry.now) }
+    ensures wide { IfErr result (TellsWidth ex.entry.now) }
 {
-    Place {
-        bar: (i / 8 + 1) as u8,
-        slot: (i % 8) as u8,
-    }
+    let _ = (ex, sheet);
+    Err(TableFault::Memory)
 }
 
-/// Finds the first menu that is too wide.
-fn check_widths<L: Links>(links: &L) -> Result<(), TableFault>
-    ensures narrow { OnOk result (AreNarrow (L.chains links.now)) }
-    ensures wide { IfErr result (TellsWidth (L.chains links.now)) }
-{
-    for i in 0..links.places() {
-        let count = links.width(i);
-        if count > WIDEST {
-            return Err(TableFault::TooWide {
-                place: place_of(i),
-                count,
-            });
-        }
-    }
-    Ok(())
-}
-
-/// The least sums behind the columns of a menu, that of place `i`, from the menu of the next place, its sums and the order
-/// in which its columns are tried.
-fn sums_in_order<L: Links>(
-    alloc: Global,
-    links: &L,
-    i: usize,
-    menu: &Menu,
-    next: &Menu,
-    sums: &[Option<u64>],
-    order: &[Candidate],
-) -> Result<Vec<Option<u64>>, Memory>
-    requires place { i + 1 < (L.chains links.now).places }
-    requires short { i < 192 }
-    requires menu { IsMenuOf ((L.chains links.now).menu i) menu.now }
-    requires next { IsMenuOf ((L.chains links.now).menu (i + 1)) next.now }
-    requires row { IsRow (L.chains links.now) (i + 1) sums.now }
-    requires small { AllAtMost (2 ^ 62) sums.now }
-    requires candidates { AreAllCandidates (L.chains links.now) (i + 1) sums.now order.now }
-    requires order { GoByBounds order.now }
-    ensures row { IfOk result (λ row. IsRow (L.chains links.now) i row.items) }
-    ensures small { IfOk result (λ row. (most : ℕ)
-        → AllAtMost most sums.now → AllAtMost (most + 2 ^ 53) row.items) }
-{
-    let width = menu.len();
-    let mut row = Vec::with_capacity(alloc, width)?;
-    for k in 0..width {
-        let prev = menu.column(k);
-        let least = least_of_candidates(links, i + 1, Some(prev), next, sums, order);
-        row.push_reserved(least);
-    }
-    Ok(row)
-}
-
-/// The least sums behind the columns of a menu, that of place `i`, from the menu and the sums of the next place.
-fn sums_before<L: Links>(
-    alloc: Global,
-    links: &L,
-    i: usize,
-    menu: &Menu,
-    next: &Menu,
-    sums: &[Option<u64>],
-) -> Result<Vec<Option<u64>>, Memory>
-    requires place { i + 1 < (L.chains links.now).places }
-    requires short { i < 192 }
-    requires menu { IsMenuOf ((L.chains links.now).menu i) menu.now }
-    requires next { IsMenuOf ((L.chains links.now).menu (i + 1)) next.now }
-    requires row { IsRow (L.chains links.now) (i + 1) sums.now }
-    requires small { AllAtMost (2 ^ 62) sums.now }
-    ensures row { IfOk result (λ row. IsRow (L.chains links.now) i row.items) }
-    ensures small { IfOk result (λ row. (most : ℕ)
-        → AllAtMost most sums.now → AllAtMost (most + 2 ^ 53) row.items) }
-{
-    let order = candidates(alloc, links, i + 1, next, sums)?;
-    sums_in_order(alloc, links, i, menu, next, sums, &order)
-}
-
-/// The least sums behind the columns of the last place's menu.
-fn sums_at_end(alloc: Global, width: usize) -> Result<Vec<Option<u64>>, Memory>
-    ensures { IfOk result (λ row. row.items ≡ replicate width (Some 0)) }
-{
-    Ok(vec![in alloc; Some(0); width]?)
-}
-
-/// The least sums of place `i`, the last one that has no row yet.
-fn sums_of<L: Links>(
-    alloc: Global,
-    links: &L,
-    i: usize,
-    menu: &Menu,
-    menus: &[Menu],
-    rows: &[Row],
-) -> Result<Vec<Option<u64>>, Memory>
-    requires place { i + 1 + length rows.now ≡ (L.chains links.now).places }
-    requires short { (L.chains links.now).places ≤ 192 }
-    requires menu { IsMenuOf ((L.chains links.now).menu i) menu.now }
-    requires rows { AreRows (L.chains links.now) menus.now rows.now }
-    ensures row { IfOk result (λ row. IsRow (L.chains links.now) i row.items) }
-    ensures small { IfOk result (λ row. AllAtMost (length rows.now * 2 ^ 53) row.items) }
-{
-    if rows.is_empty() {
-        return sums_at_end(alloc, menu.len());
-    }
-    let next = &rows[rows.len() - 1];
-    sums_before(alloc, links, i, menu, &menus[next.menu], &next.sums)
-}
-
-impl Tables {
-    /// Adds the row of place `i`, the last one that has none yet.
-    fn add_row<L: Links>(&mut self, alloc: Global, links: &L, i: usize) -> Result<(), Memory>
-        requires place { i + 1 + length self.old.rows.items ≡ (L.chains links.now).places }
-        requires short { (L.chains links.now).places ≤ 192 }
-        requires rows { AreRows (L.chains links.now) self.old.menus.items self.old.rows.items }
-        ensures rows { OnOk result (AreRows (L.chains links.now) self.new.menus.items self.new.rows.items) }
-        ensures longer { OnOk result (length self.new.rows.items ≡ length self.old.rows.items + 1) }
+impl<'a> Tables<'a> {
+    /// The least sum over the chains that go on behind a column of place `i`. None exactly where no chain reaches the end.
+    pub fn rest(&self, i: usize, col: &Column) -> Option<u64>
+        requires place { i < columns_in self.now.exercise }
+        requires choice { Contains (menu_of self.now.exercise i) col.now.items }
+        ensures { IsRest self.now.exercise self.now.sheet i col.now.items result }
     {
-        let Ok(columns) = links.menu(alloc, i) else {
-            return Err(Memory);
-        };
-        let menu = Menu::new(alloc, links.voices(), columns)?;
-        let sums = sums_of(alloc, links, i, &menu, &self.menus, &self.rows)?;
-        let number = self.menus.len();
-        self.menus.push(menu)?;
-        self.rows.push(Row { menu: number, sums })?;
-        Ok(())
+        self.sums.rest(i, col)
     }
 
-    /// The least sum over all chains, where each place has its row.
-    fn least_of_all<L: Links>(&self, links: &L) -> Option<u64>
-        requires whole { length self.now.rows.items ≡ (L.chains links.now).places }
-        requires short { (L.chains links.now).places ≤ 192 }
-        requires rows { AreRows (L.chains links.now) self.now.menus.items self.now.rows.items }
-        ensures { IsLeast (L.chains links.now) 0 None result }
-    {
-        if self.rows.is_empty() {
-            return Some(0);
-        }
-        let first = &self.rows[self.rows.len() - 1];
-        least_behind(links, 0, None, &self.menus[first.menu], &first.sums)
-    }
-
-    /// The tables of these links. They take all their memory here.
-    pub fn fill<L: Links>(alloc: Global, links: &L) -> Result<Tables, TableFault>
-        ensures tables { IfOk result (AreTablesOf (L.chains links.now)) }
-        ensures narrow { OnOk result (AreNarrow (L.chains links.now)) }
-        ensures wide { IfErr result (TellsWidth (L.chains links.now)) }
-    {
-        check_widths(links)?;
-        let mut tables = Tables {
-            menus: Vec::new(alloc),
-            rows: Vec::new(alloc),
-            start: None,
-        };
-        let places = links.places();
-        for done in 0..places {
-            tables
-                .add_row(alloc, links, places - 1 - done)
-                .map_err(|_| TableFault::Memory)?;
-        }
-        tables.start = tables.least_of_all(links);
-        Ok(tables)
-    }
-
-    /// The least sum over the chains that begin behind a column of a place's menu and go on to the last place. None exactly
-    /// where no chain does.
-    pub fn rest(&self, i: usize, column: &Column) -> Option<u64>
-        ensures { (c : Chains) → AreTablesOf c self.now → i < c.places → Contains (c.menu i) column.now.items
-            → IsLeast c (suc i) (Some column.now.items) result }
-    {
-        if i >= self.rows.len() {
-            return None;
-        }
-        let row = &self.rows[self.rows.len() - 1 - i];
-        if row.menu >= self.menus.len() {
-            return None;
-        }
-        let k = self.menus[row.menu].place_of(column)?;
-        if k >= row.sums.len() {
-            return None;
-        }
-        row.sums[k]
-    }
-
-    /// The least sum over the chains that begin at the first place. None exactly where no chain does.
+    /// The least sum over all chains. None exactly where there is no chain.
     pub fn start(&self) -> Option<u64>
-        ensures { (c : Chains) → AreTablesOf c self.now → IsLeast c 0 None result }
+        ensures { IsStart self.now.exercise self.now.sheet result }
     {
-        self.start
+        self.sums.start()
     }
 }

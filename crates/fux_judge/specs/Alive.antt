@@ -22,7 +22,7 @@ use Rattle.penalty_sheet.specs.declared.sheet.Sheet.{Sheet}
 use Rattle.fux_judge.specs.Rules.{rules_read, all_sets, rule_at, is_broken}
 use Rattle.rule_law.specs.Forms as forms
 use Rattle.rule_law.specs.Growth.{newly}
-use Rattle.fux_judge.specs.Penalties.{has_strict_break, has_break_settled_in, newly_broken, newly_broken_at, newly_paid, paid, charges_settled_in, penalty_of, is_strict_at}
+use Rattle.fux_judge.specs.Penalties.{has_strict_break, has_break_settled_in, newly_broken, newly_broken_at, newly_paid, paid, charges_settled_in, charges_of, is_strict_at}
 use Rattle.fux_judge.specs.Lawful.{breaks_strictly}
 use Rattle.fux_judge.specs.Ends.{none_below, unbroken_if_none_settled, none_settled_if_unbroken, settled_at_end}
 use Rattle.fux_judge.specs.Grows.{strict_break_grows, paid_grows, break_settled_grows, charges_settled_grow}
@@ -147,7 +147,7 @@ module _ (ex : Exercise) (few : ex.voices ≤ 4) (s : List (List Cell)) (setting
       unbroken_if_none_settled ex s setting.whole (sym (agree ex s setting.prefix (alive_orderly ex few s alive)).breaks ∙ alive)
 
   -- what is paid of it is its penalty
-  pub paid_at_end : has_strict_break ex s ≡ false → (sheet : Sheet) → paid ex sheet s ≡ penalty_of ex sheet s
+  pub paid_at_end : has_strict_break ex s ≡ false → (sheet : Sheet) → paid ex sheet s ≡ charges_of ex sheet s
   paid_at_end alive sheet =
       (agree ex s setting.prefix (alive_orderly ex few s alive)).pays sheet ∙ settled_at_end ex s setting.whole sheet
 

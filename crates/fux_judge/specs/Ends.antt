@@ -11,7 +11,7 @@ use Rattle.rule_law.specs.Growth.{any_below, sum_below-same, list_any-same, sum_
 use Rattle.penalty_sheet.specs.declared.sheet.Sheet.{Sheet}
 use Rattle.penalty_sheet.specs.Weights.{weight_of}
 use Rattle.fux_judge.specs.Rules.{rules_read, tolls_read, all_sets, is_broken, is_settled, cost_at, is_cost_settled}
-use Rattle.fux_judge.specs.Penalties.{is_strict_at, price_at, is_strictly_broken, has_break_settled_in, settled_tolls, settled_prices, charges_settled_in, tolls_at, prices_at, penalty_of}
+use Rattle.fux_judge.specs.Penalties.{is_strict_at, price_at, is_strictly_broken, has_break_settled_in, settled_tolls, settled_prices, charges_settled_in, tolls_at, prices_at, charges_of}
 use Rattle.fux_judge.specs.Lawful.{breaks_strictly}
 use Rattle.fux_judge.specs.Facts.{rule_settles_at_end, toll_settles_at_end}
 
@@ -54,7 +54,7 @@ module _ (ex : Exercise) (s : List (List Cell)) (whole : length s ≡ columns_in
       from_none_below (λ i. list_any (λ rule. list_any (λ voices. is_strictly_broken rule ex voices s i) all_sets) rules_read) (length s) (λ i k. settled_break i k ∙ h i k)
 
   -- the charges settled in a list of all columns are its penalty
-  pub settled_at_end : (sheet : Sheet) → charges_settled_in ex sheet s ≡ penalty_of ex sheet s
+  pub settled_at_end : (sheet : Sheet) → charges_settled_in ex sheet s ≡ charges_of ex sheet s
   settled_at_end sheet =
       sum_below-same (λ i. settled_tolls ex sheet s i + settled_prices ex s i) (λ i. tolls_at ex sheet s i + prices_at ex s i) (length s)
       (λ i h.

@@ -4,9 +4,11 @@ pub mod Charges
 pub mod Crates
 pub mod Ends
 pub mod Facts
+pub mod Gauges
 pub mod Grows
 pub mod Kept
 pub mod Lawful
+pub mod Links
 pub mod Moments
 pub mod Parts
 pub mod Penalties

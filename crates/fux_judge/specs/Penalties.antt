@@ -9,6 +9,7 @@ use Rattle.rule_law.specs.Growth.{any_below, sum_below, newly}
 use Rattle.penalty_sheet.specs.declared.sheet.Sheet.{Sheet}
 use Rattle.penalty_sheet.specs.Prices.{price_in, is_strict, amount_of}
 use Rattle.penalty_sheet.specs.Weights.{weight_of}
+use Rattle.fux_judge.specs.Gauges.{gauges_of}
 use Rattle.fux_judge.specs.Rules.{rules_read, tolls_read, all_sets, is_broken, is_settled, cost_at, is_cost_settled}
 
 -- a break at a column is strict where no relax line of the exercise gives it a price
@@ -74,9 +75,13 @@ tolls_at ex sheet s i = sum_by (λ toll. cost_at toll ex s i * weight_of sheet t
 abbrev pub prices_at : Exercise → Reading ℕ
 prices_at ex s i = sum_by (λ rule. sum_by (λ voices. if is_broken rule ex voices s i then price_at rule ex voices i else 0) all_sets) rules_read
 
--- the penalty of a list of columns: over all its places, tolls and prices
+-- what a list of columns costs by tolls and prices, over all its places
+abbrev pub charges_of : Exercise → Sheet → List (List Cell) → ℕ
+charges_of ex sheet s = sum_below (λ i. tolls_at ex sheet s i + prices_at ex s i) (length s)
+
+-- the penalty of a setting: that, and what the lines of its free voices cost
 abbrev pub penalty_of : Exercise → Sheet → List (List Cell) → ℕ
-penalty_of ex sheet s = sum_below (λ i. tolls_at ex sheet s i + prices_at ex s i) (length s)
+penalty_of ex sheet s = charges_of ex sheet s + gauges_of ex sheet s
 
 -- the same readings in the list itself: of an orderly prefix, and of a setting that begins with none but orderly ones, they are those above
 abbrev pub has_break_settled_in : Exercise → List (List Cell) → Bool

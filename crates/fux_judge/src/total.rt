@@ -5,7 +5,7 @@ ghost use Rattle.std.specs.List.{sum_by};
 ghost use Rattle.fux_grid.specs.Exercises.{IsComplete, IsValid, columns_in};
 ghost use Rattle.penalty_sheet.specs.Weights.{weight_of};
 ghost use Rattle.fux_judge.specs.Penalties as penalties;
-ghost use Rattle.fux_judge.specs.Penalties.{penalty_of, prices_at, tolls_at};
+ghost use Rattle.fux_judge.specs.Penalties.{charges_of, prices_at, tolls_at};
 ghost use Rattle.fux_judge.specs.Rules.{all_sets, cost_at, is_broken};
 
 use crate::numbers::{every_rule, every_toll, form_of};
@@ -80,7 +80,7 @@ fn prices_of(ex: &Exercise, score: &Score, i: usize) -> u64
 pub fn penalty(ex: &Exercise, sheet: &Sheet, score: &Score) -> Option<u64>
     requires { IsValid ex.now }
     ensures known { IsSome result ↔ IsComplete ex.now score.now }
-    ensures value { IfSome result (λ penalty. penalty ≡ penalty_of ex.now sheet.now score.now.columns) }
+    ensures value { IfSome result (λ penalty. penalty ≡ charges_of ex.now sheet.now score.now.columns) }
 {
     let columns = 8 * ex.bars as usize;
     score.kept();

@@ -7,7 +7,7 @@ ghost use Rattle.fux_grid.specs.declared.cell.Cell.{Cell as ACell};
 ghost use Rattle.fux_grid.specs.Exercises.{IsValid, columns_in};
 ghost use Rattle.penalty_sheet.specs.Weights.{weight_of};
 ghost use Rattle.fux_judge.specs.Penalties as grows;
-ghost use Rattle.fux_judge.specs.Penalties.{charges_settled_in, penalty_of};
+ghost use Rattle.fux_judge.specs.Penalties.{charges_settled_in, charges_of};
 ghost use Rattle.fux_judge.specs.Rules.{all_sets, is_cost_settled, tolls_read};
 ghost use Rattle.plain_judge.specs.Between.{IsPart, charges_since, columns_of, paid_since, price_since, prices_since, toll_since};
 
@@ -171,7 +171,7 @@ pub fn settled_charges(ex: &Exercise, sheet: &Sheet, score: &Score) -> u64
     requires valid { IsValid ex.now }
     requires part { IsPart ex.now score.now }
     ensures value { result ≡ charges_settled_in ex.now sheet.now score.now.columns }
-    ensures whole { length score.now.columns ≡ columns_in ex.now → result ≡ penalty_of ex.now sheet.now score.now.columns }
+    ensures whole { length score.now.columns ≡ columns_in ex.now → result ≡ charges_of ex.now sheet.now score.now.columns }
 {
     charges_of(ex, sheet, None, score)
 }

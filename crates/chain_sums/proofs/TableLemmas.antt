@@ -1,0 +1,117 @@
+-- Tables grow by a row at a time (`rows_more`).
+use Rattle.std.proofs.Common.{◌≡◌, ◌⊎◌, inl, inr, ℕ, ◌+◌, ◌-◌, ◌*◌, ◌^◌, ◌<◌, ◌≤◌, List, [], ◌∷◌, ◌++◌, length, get_or, suc, Option, Some, None, ap, sym, ◌∙◌, subst, arith}
+use Rattle.std.proofs.lemmas.List.{get_or_append_left, get_or_push, length_push}
+use Rattle.std.specs.List.{Contains}
+use Rattle.fux_grid.specs.declared.cell.Cell.{Cell}
+use Rattle.fux_grid.specs.Grid.{items_of}
+use Rattle.chain_sums.specs.declared.menu.Menu.{Menu}
+use Rattle.chain_sums.specs.declared.tables.Row.{Row}
+use Rattle.chain_sums.specs.declared.tables.Tables.{Tables}
+use Rattle.chain_sums.specs.Chains.{Chains, IsLeast}
+use Rattle.chain_sums.specs.Menus.{IsMenuOf, IsPacked}
+use Rattle.chain_sums.specs.Rows.{AllAtMost, IsAtMost, IsRow}
+use Rattle.chain_sums.specs.Tables.{AreRows, AreTablesOf, IsRowAt}
+use Rattle.chain_sums.proofs.LeastLemmas.{below_or_at, length-columns}
+
+-- the menus that were there stay where they are
+pub record KeepMenus (menus more : List Menu) : Type 0 where
+  pub longer : length menus ≤ length more
+  pub same : (k : ℕ) (d : Menu) → k < length menus → get_or more k d ≡ get_or menus k d
+
+pub menus_pushed : (menus : List Menu) (menu : Menu) → KeepMenus menus (menus ++ menu ∷ [])
+menus_pushed menus menu = record {
+  longer = omega (arith, length_push menus menu);
+  same = λ k d h. get_or_append_left menus (menu ∷ []) d k h;
+}
+
+row_kept : (c : Chains) (i : ℕ) (menus more : List Menu) (row : Row) → KeepMenus menus more → IsRowAt c i menus row → IsRowAt c i more row
+row_kept c i menus more row keep at = record {
+  named = omega (arith, keep.longer, at.named);
+  menu = λ d. subst (λ (m : Menu). IsMenuOf (c.menu i) m) (sym (keep.same row.menu d at.named)) (at.menu d);
+  packed = λ d. subst (λ (m : Menu). IsPacked c.voices m) (sym (keep.same row.menu d at.named)) (at.packed d);
+  sums = at.sums;
+}
+
+pub rows_more : (c : Chains) (i : ℕ) (menus more : List Menu) (rows : List Row) (row : Row) → KeepMenus menus more → AreRows c menus rows
+    → i + 1 + length rows ≡ c.places → IsRowAt c i more row → AllAtMost (length rows * 2 ^ 53) row.sums.items → AreRows c more (rows ++ row ∷ [])
+rows_more c i menus more rows row keep are place here small = record {
+  few = omega (arith, length_push rows row);
+  at = λ j d h. at j d (below_or_at j (length rows) (omega (arith, length_push rows row)));
+  small = λ j d h. small_at j d (below_or_at j (length rows) (omega (arith, length_push rows row)));
+}
+  where
+    at : (j : ℕ) (d : Row) → (j < length rows) ⊎ (j ≡ length rows) → IsRowAt c (c.places - 1 - j) more (get_or (rows ++ row ∷ []) j d)
+    at j d (inl h) =
+        subst (λ (r : Row). IsRowAt c (c.places - 1 - j) more r) (sym (get_or_append_left rows (row ∷ []) d j h))
+        (row_kept c (c.places - 1 - j) menus more (get_or rows j d) keep (are.at j d h))
+    at j d (inr e) =
+        let last : i ≡ c.places - 1 - j = omega arith in
+        subst (λ (r : Row). IsRowAt c (c.places - 1 - j) more r) (sym (get_or_push rows row d j (sym e)))
+        (subst (λ (k : ℕ). IsRowAt c k more row) last here)
+
+    small_at : (j : ℕ) (d : Row) → (j < length rows) ⊎ (j ≡ length rows) → AllAtMost (j * 2 ^ 53) (get_or (rows ++ row ∷ []) j d).sums.items
+    small_at j d (inl h) = subst (λ (r : Row). AllAtMost (j * 2 ^ 53) r.sums.items) (sym (get_or_append_left rows (row ∷ []) d j h)) (are.small j d h)
+    small_at j d (inr e) =
+        subst (λ (r : Row). AllAtMost (j * 2 ^ 53) r.sums.items) (sym (get_or_push rows row d j (sym e)))
+        (subst (λ (k : ℕ). AllAtMost (k * 2 ^ 53) row.sums.items) (sym e) small)
+
+-- the row of a place
+pub row_for : (c : Chains) (t : Tables) (i : ℕ) (d : Row) → AreTablesOf c t → i < c.places → IsRowAt c i t.menus.items (get_or t.rows.items (length t.rows.items - 1 - i) d)
+row_for c t i d are h =
+    let e : c.places - 1 - (length t.rows.items - 1 - i) ≡ i = omega (arith, are.whole) in
+    subst (λ (j : ℕ). IsRowAt c j t.menus.items (get_or t.rows.items (length t.rows.items - 1 - i) d)) e
+    (are.rows.at (length t.rows.items - 1 - i) d (omega (arith, are.whole)))
+
+-- what a look into the tables finds: the row of the place, and its menu, which has the column
+pub record IsAsked (c : Chains) (i : ℕ) (row : Row) (menu : Menu) (col : List Cell) : Type 0 where
+  pub packed : IsPacked c.voices menu
+  pub are : IsMenuOf (c.menu i) menu
+  pub there : Contains (items_of menu.columns.items) col
+  pub sums : IsRow c i row.sums.items
+
+pub is_asked : (c : Chains) (t : Tables) (i last : ℕ) (row : Row) (menu : Menu) (col : List Cell) → AreTablesOf c t → i < c.places
+    → last ≡ length t.rows.items → row ≡ get_or t.rows.items (last - 1 - i) row → menu ≡ get_or t.menus.items row.menu menu → Contains (c.menu i) col → IsAsked c i row menu col
+is_asked c t i last row menu col are h e is is_menu there = record {
+  packed = subst (λ (m : Menu). IsPacked c.voices m) (sym is_menu) (here.packed menu);
+  are = same;
+  there = subst (λ (columns : List (List Cell)). Contains columns col) (sym same) there;
+  sums = here.sums;
+}
+  where
+    here : IsRowAt c i t.menus.items row
+    here =
+        subst (λ (r : Row). IsRowAt c i t.menus.items r) (sym (is ∙ ap (λ n. get_or t.rows.items (n - 1 - i) row) e)) (row_for c t i row are h)
+
+    same : items_of menu.columns.items ≡ c.menu i
+    same = subst (λ (m : Menu). IsMenuOf (c.menu i) m) (sym is_menu) (here.menu menu)
+
+-- the least sum of the place's column
+pub least_at : (c : Chains) (i k : ℕ) (row : Row) (menu : Menu) (col : List Cell) → IsAsked c i row menu col → k < length menu.columns.items
+    → get_or (items_of menu.columns.items) k [] ≡ col → IsLeast c (suc i) (Some col) (get_or row.sums.items k None)
+least_at c i k row menu col asked h e =
+    subst (λ (d : List Cell). IsLeast c (suc i) (Some d) (get_or row.sums.items k None)) (ap (λ xs. get_or xs k []) (sym asked.are) ∙ e)
+    (asked.sums.least k (omega (arith, length-columns menu.columns.items (c.menu i) asked.are)))
+
+pub sums_beside : (c : Chains) (i : ℕ) (row : Row) (menu : Menu) (col : List Cell) → IsAsked c i row menu col → length row.sums.items ≡ length menu.columns.items
+sums_beside c i row menu col asked = asked.sums.beside ∙ sym (length-columns menu.columns.items (c.menu i) asked.are)
+
+-- ---- a row grows by a sum at a time
+
+pub row_pushed : (c : Chains) (i k : ℕ) (row : List (Option ℕ)) (least : Option ℕ) → length row ≡ k
+    → ((j : ℕ) → j < k → IsLeast c (suc i) (Some (get_or (c.menu i) j [])) (get_or row j None))
+    → IsLeast c (suc i) (Some (get_or (c.menu i) k [])) least
+    → (j : ℕ) → j < k + 1 → IsLeast c (suc i) (Some (get_or (c.menu i) j [])) (get_or (row ++ least ∷ []) j None)
+row_pushed c i k row least e old here j h = by (below_or_at j k h)
+  where
+    by : (j < k) ⊎ (j ≡ k) → IsLeast c (suc i) (Some (get_or (c.menu i) j [])) (get_or (row ++ least ∷ []) j None)
+    by (inl l) = subst (λ (o : Option ℕ). IsLeast c (suc i) (Some (get_or (c.menu i) j [])) o) (sym (get_or_append_left row (least ∷ []) None j (omega arith))) (old j l)
+    by (inr f) =
+        subst (λ (o : Option ℕ). IsLeast c (suc i) (Some (get_or (c.menu i) j [])) o) (sym (get_or_push row least None j (e ∙ sym f)))
+        (subst (λ (n : ℕ). IsLeast c (suc i) (Some (get_or (c.menu i) n [])) least) (sym f) here)
+
+pub sums_pushed : (most : ℕ) (row : List (Option ℕ)) (least : Option ℕ) → AllAtMost most row → IsAtMost most least → AllAtMost most (row ++ least ∷ [])
+sums_pushed most row least old here j h = by (below_or_at j (length row) (omega (arith, length_push row least)))
+  where
+    by : (j < length row) ⊎ (j ≡ length row) → IsAtMost most (get_or (row ++ least ∷ []) j None)
+    by (inl l) = subst (λ (o : Option ℕ). IsAtMost most o) (sym (get_or_append_left row (least ∷ []) None j l)) (old j l)
+    by (inr f) = subst (λ (o : Option ℕ). IsAtMost most o) (sym (get_or_push row least None j (sym f))) here

@@ -1,0 +1,7 @@
+pub mod Candidates
+pub mod Chains
+pub mod Menus
+pub mod Packed
+pub mod Rows
+pub mod Sums
+pub mod Tables

@@ -1,0 +1,123 @@
+//! The columns of a menu by what they cost at least with the least sum behind them, so that few of them are tried.
+
+ghost use Rattle.std.specs.Prelude.{◌≡◌, ◌≤◌, ◌<◌, ◌+◌, ◌^◌, ℕ, List, Option, length, IfOk, IfSome, IsSomeAnd};
+ghost use Rattle.std.specs.Bool.{OnTrue};
+ghost use Rattle.std.specs.List.{Contains};
+ghost use Rattle.fux_grid.specs.declared.cell.Cell.{Cell as ACell};
+ghost use Rattle.chain_sums.specs.Candidates.{AreAllCandidates, GoByBounds};
+ghost use Rattle.chain_sums.specs.Chains.{IsLeast, given};
+ghost use Rattle.chain_sums.specs.Menus.{IsMenuOf};
+ghost use Rattle.chain_sums.specs.Rows.{AllAtMost, IsAtMost, IsRow, IsSumOf};
+
+use crate::least::{lesser, plus, sum_of};
+use crate::links::Links;
+use crate::menu::Menu;
+use fux_grid::Column;
+use fux_pitch::Memory;
+use std::alloc::Global;
+
+/// A column of a menu that may have a sum.
+#[derive(Clone, Copy)]
+pub(crate) struct Candidate {
+    /// What its sum is at least.
+    pub(crate) bound: u64,
+    /// Its number in the menu.
+    pub(crate) number: usize,
+}
+
+/// What the sum of a column is at least, whatever stands before it. None only where it has none.
+fn bound_of<L: Links>(links: &L, i: usize, next: &Column, rest: Option<u64>) -> Option<u64>
+    requires place { i < (L.chains links.now).places }
+    requires choice { Contains ((L.chains links.now).menu i) next.now.items }
+    requires small { IsAtMost (2 ^ 62) rest }
+    ensures { (before : Option (List ACell)) (x : ℕ)
+        → IsSumOf (L.chains links.now) i before next.now.items rest x → IsSomeAnd result (λ y. y ≤ x) }
+{
+    let own = links.least_cost(i, next);
+    plus(own, rest)
+}
+
+/// The columns of a menu that may have a sum, in reading order.
+fn some_candidates<L: Links>(
+    alloc: Global,
+    links: &L,
+    i: usize,
+    menu: &Menu,
+    row: &[Option<u64>],
+) -> Result<Vec<Candidate>, Memory>
+    requires place { i < (L.chains links.now).places }
+    requires menu { IsMenuOf ((L.chains links.now).menu i) menu.now }
+    requires beside { length row.now ≡ length ((L.chains links.now).menu i) }
+    requires small { AllAtMost (2 ^ 62) row.now }
+    ensures { IfOk result (λ found. AreAllCandidates (L.chains links.now) i row.now found.items) }
+{
+    let mut found = Vec::with_capacity(alloc, menu.len())?;
+    for k in 0..menu.len() {
+        let Some(bound) = bound_of(links, i, menu.column(k), row[k]) else {
+            continue;
+        };
+        found.push_reserved(Candidate { bound, number: k });
+    }
+    Ok(found)
+}
+
+/// The same, those first whose sums may be least.
+pub(crate) fn candidates<L: Links>(
+    alloc: Global,
+    links: &L,
+    i: usize,
+    menu: &Menu,
+    row: &[Option<u64>],
+) -> Result<Vec<Candidate>, Memory>
+    requires place { i < (L.chains links.now).places }
+    requires menu { IsMenuOf ((L.chains links.now).menu i) menu.now }
+    requires beside { length row.now ≡ length ((L.chains links.now).menu i) }
+    requires small { AllAtMost (2 ^ 62) row.now }
+    ensures all { IfOk result (λ found. AreAllCandidates (L.chains links.now) i row.now found.items) }
+    ensures order { IfOk result (λ found. GoByBounds found.items) }
+{
+    let mut found = some_candidates(alloc, links, i, menu, row)?;
+    found.sort_unstable_by_key(|candidate| candidate.bound);
+    Ok(found)
+}
+
+/// Whether a sum is there that is at most a bound.
+fn is_reached(least: Option<u64>, bound: u64) -> bool
+    ensures { OnTrue result (IsSomeAnd least (λ x. x ≤ bound)) }
+{
+    match least {
+        Some(x) => x <= bound,
+        None => false,
+    }
+}
+
+/// The least sum over the chains that begin at a place, behind a column or behind none: the candidates are tried until no
+/// later one can have a lesser sum.
+pub(crate) fn least_of_candidates<L: Links>(
+    links: &L,
+    i: usize,
+    prev: Option<&Column>,
+    menu: &Menu,
+    row: &[Option<u64>],
+    candidates: &[Candidate],
+) -> Option<u64>
+    requires place { i < (L.chains links.now).places }
+    requires menu { IsMenuOf ((L.chains links.now).menu i) menu.now }
+    requires row { IsRow (L.chains links.now) i row.now }
+    requires small { AllAtMost (2 ^ 62) row.now }
+    requires candidates { AreAllCandidates (L.chains links.now) i row.now candidates.now }
+    requires order { GoByBounds candidates.now }
+    ensures least { IsLeast (L.chains links.now) i (given prev.entry) result }
+    ensures bound { (most : ℕ) → AllAtMost most row.now → IsAtMost (most + 2 ^ 53) result }
+{
+    let mut least = None;
+    for candidate in candidates {
+        if is_reached(least, candidate.bound) {
+            return least;
+        }
+        let k = candidate.number;
+        let sum = sum_of(links, i, prev, menu.column(k), row[k]);
+        least = lesser(least, sum);
+    }
+    least
+}

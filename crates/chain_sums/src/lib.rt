@@ -1,0 +1,12 @@
+//! The least that a chain of columns to the end of a setting costs.
+#![tactic(auto)]
+
+mod candidates;
+mod least;
+mod links;
+mod menu;
+mod packed;
+mod tables;
+
+pub use links::Links;
+pub use tables::{TableFault, Tables};

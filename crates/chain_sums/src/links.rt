@@ -1,0 +1,60 @@
+//! What chains are made of.
+
+ghost use Rattle.std.specs.Prelude.{◌≡◌, ◌≤◌, ◌<◌, ◌^◌, ℕ, length, IfOk, IfSome, IsSomeAnd, List, Option};
+ghost use Rattle.std.specs.List.{Contains};
+ghost use Rattle.fux_grid.specs.declared.cell.Cell.{Cell as ACell};
+ghost use Rattle.fux_grid.specs.Grid.{items_of};
+ghost use Rattle.fux_grid.specs.Menus.{IsAscending};
+ghost use Rattle.chain_sums.specs.Chains.{AreFull, Chains, given};
+
+use fux_grid::{Column, MenuFault};
+use std::alloc::Global;
+
+/// Columns that may stand side by side: the menu of each place, and what a column costs there behind another.
+pub trait Links {
+    ghost chains: { Self → Chains };
+
+    /// How many places there are.
+    fn places(&self) -> usize
+        ensures value { result ≡ (chains self.now).places }
+        ensures bound { result ≤ 192 };
+
+    /// How many voices each column has.
+    fn voices(&self) -> usize
+        ensures value { result ≡ (chains self.now).voices }
+        ensures few { result ≤ 4 };
+
+    /// How many columns the menu of a place has.
+    fn width(&self, i: usize) -> u64
+        requires { i < (chains self.now).places }
+        ensures { result ≡ length ((chains self.now).menu i) };
+
+    /// The menu of a place, in reading order. It is asked for where no menu is too wide, and a fault is want of memory.
+    fn menu(&self, alloc: Global, i: usize) -> Result<Vec<Column>, MenuFault>
+        requires { i < (chains self.now).places }
+        ensures value { IfOk result (λ menu. items_of menu.items ≡ (chains self.now).menu i) }
+        ensures order { IfOk result (λ menu. IsAscending (items_of menu.items)) }
+        ensures full { IfOk result (λ menu. AreFull (chains self.now).voices (items_of menu.items)) };
+
+    /// What `next` costs at a place, behind `prev`, which is lacking at the first place. None where the two may not be
+    /// neighbors. It is asked of columns that follow one another.
+    fn cost(&self, i: usize, prev: Option<&Column>, next: &Column) -> Option<u64>
+        requires place { i < (chains self.now).places }
+        requires choice { Contains ((chains self.now).menu i) next.now.items }
+        ensures value { result ≡ (chains self.now).cost i (given prev.entry) next.now.items }
+        ensures bound { IfSome result (λ cost. cost ≤ 2 ^ 53) };
+
+    /// What `next` costs at a place at least, whatever stands before it. None only where it may stand behind no column. A
+    /// higher answer spares more work, and changes no sum.
+    fn least_cost(&self, i: usize, next: &Column) -> Option<u64>
+        requires place { i < (chains self.now).places }
+        requires choice { Contains ((chains self.now).menu i) next.now.items }
+        ensures least { (before : Option (List ACell)) (x : ℕ)
+            → (chains self.now).cost i before next.now.items ≡ Some x → IsSomeAnd result (λ y. y ≤ x) }
+        ensures bound { IfSome result (λ cost. cost ≤ 2 ^ 53) }
+    {
+        let _ = i;
+        let _ = next;
+        Some(0)
+    }
+}

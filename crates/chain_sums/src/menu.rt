@@ -1,0 +1,74 @@
+//! A menu, as the tables keep it.
+
+ghost use Rattle.std.specs.Prelude.{◌≡◌, ◌<◌, ◌≤◌, ℕ, List, [], length, map, slice_index_or, IfOk, IsSomeAnd};
+ghost use Rattle.std.specs.List.{Contains};
+ghost use Rattle.fux_grid.specs.declared.cell.Cell.{Cell as ACell};
+ghost use Rattle.fux_grid.specs.Grid.{items_of};
+ghost use Rattle.fux_grid.specs.Menus.{IsAscending};
+ghost use Rattle.chain_sums.specs.Chains.{AreFull};
+ghost use Rattle.chain_sums.specs.Menus.{IsMenuOf, IsNumberOf, IsPacked};
+ghost use Rattle.chain_sums.specs.Packed as specs;
+
+use crate::packed::packed;
+use fux_grid::Column;
+use fux_pitch::Memory;
+use std::alloc::Global;
+
+/// The columns that may stand at a place, and their numbers, which rise.
+#[derive(Drop)]
+pub(crate) struct Menu {
+    columns: Vec<Column>,
+    numbers: Vec<u64>,
+}
+
+/// The numbers of columns.
+fn packed_columns(alloc: Global, columns: &[Column]) -> Result<Vec<u64>, Memory>
+    ensures { IfOk result (λ numbers. numbers.items ≡ map specs.packed (items_of columns.now)) }
+{
+    let mut numbers = Vec::with_capacity(alloc, columns.len())?;
+    for k in 0..columns.len() {
+        numbers.push_reserved(packed(columns[k].as_slice()));
+    }
+    Ok(numbers)
+}
+
+impl Menu {
+    /// The menu of these columns.
+    pub(crate) fn new(alloc: Global, voices: usize, columns: Vec<Column>) -> Result<Menu, Memory>
+        requires order { IsAscending (items_of columns.items) }
+        requires full { AreFull voices (items_of columns.items) }
+        requires few { voices ≤ 4 }
+        ensures columns { IfOk result (IsMenuOf (items_of columns.items)) }
+        ensures packed { IfOk result (IsPacked voices) }
+    {
+        let _ = voices;
+        let numbers = packed_columns(alloc, &columns)?;
+        Ok(Menu { columns, numbers })
+    }
+
+    /// How many columns there are.
+    pub(crate) fn len(&self) -> usize
+        ensures { result ≡ length self.now.columns.items }
+    {
+        self.columns.len()
+    }
+
+    /// The column of a number.
+    pub(crate) fn column(&self, k: usize) -> &Column
+        requires { k < length self.now.columns.items }
+        ensures { result.now.items ≡ slice_index_or (items_of self.now.columns.items) k [] }
+    {
+        &self.columns[k]
+    }
+
+    /// Where a column of the menu stands in it; none only for another column.
+    pub(crate) fn place_of(&self, column: &Column) -> Option<usize>
+        ensures { (voices : ℕ) → IsPacked voices self.now → Contains (items_of self.now.columns.items) column.now.items
+            → IsSomeAnd result (IsNumberOf self.now column.now.items) }
+    {
+        match self.numbers.binary_search(&packed(column.as_slice())) {
+            Ok(k) => Some(k),
+            Err(_) => None,
+        }
+    }
+}

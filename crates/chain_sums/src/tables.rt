@@ -1,0 +1,243 @@
+//! Tables of least sums over chains.
+
+ghost use Rattle.std.specs.Prelude.{◌≡◌, ◌<◌, ◌≤◌, ◌+◌, ◌-◌, ℕ, List, ◌*◌, ◌^◌, length, suc, replicate, IfOk, IfErr, OnOk, OnErr, slice_index_or};
+ghost use Rattle.std.specs.List.{Contains};
+ghost use Rattle.fux_grid.specs.Exercises.{bar_of, slot_of};
+ghost use Rattle.chain_sums.specs.Candidates.{AreAllCandidates, GoByBounds};
+ghost use Rattle.chain_sums.specs.Chains.{Chains, IsLeast};
+ghost use Rattle.chain_sums.specs.Menus.{IsMenuOf};
+ghost use Rattle.chain_sums.specs.Rows.{AllAtMost, IsRow};
+ghost use Rattle.chain_sums.specs.Tables.{AreNarrow, AreRows, AreTablesOf, TellsWidth};
+
+use crate::candidates::{Candidate, candidates, least_of_candidates};
+use crate::least::least_behind;
+use crate::links::Links;
+use crate::menu::Menu;
+use fux_grid::{Column, Place, WIDEST};
+use fux_pitch::Memory;
+use std::alloc::Global;
+
+/// Why there are no tables.
+#[derive(Clone, Copy, Debug, PartialEq, Eq)]
+pub enum TableFault {
+    /// A menu has more than 8,192 columns: the first such place, and how many it has.
+    TooWide { place: Place, count: u64 },
+    Memory,
+}
+
+/// The least sums of a place.
+#[derive(Drop)]
+struct Row {
+    /// The number of the place's menu.
+    menu: usize,
+    /// For each column of the menu the least sum over the chains behind it.
+    sums: Vec<Option<u64>>,
+}
+
+/// For each place and each column of its menu the least sum over the chains behind it, and the least sum over all chains.
+#[derive(Drop)]
+pub struct Tables {
+    menus: Vec<Menu>,
+    /// The row of the last place comes first.
+    rows: Vec<Row>,
+    start: Option<u64>,
+}
+
+/// The place of a column.
+fn place_of(i: usize) -> Place
+    requires { i < 192 }
+    ensures bar { result.bar ≡ bar_of i }
+    ensures slot { result.slot ≡ slot_of i }
+{
+    Place {
+        bar: (i / 8 + 1) as u8,
+        slot: (i % 8) as u8,
+    }
+}
+
+/// Finds the first menu that is too wide.
+fn check_widths<L: Links>(links: &L) -> Result<(), TableFault>
+    ensures narrow { OnOk result (AreNarrow (L.chains links.now)) }
+    ensures wide { IfErr result (TellsWidth (L.chains links.now)) }
+{
+    for i in 0..links.places() {
+        let count = links.width(i);
+        if count > WIDEST {
+            return Err(TableFault::TooWide {
+                place: place_of(i),
+                count,
+            });
+        }
+    }
+    Ok(())
+}
+
+/// The least sums behind the columns of a menu, that of place `i`, from the menu of the next place, its sums and the order
+/// in which its columns are tried.
+fn sums_in_order<L: Links>(
+    alloc: Global,
+    links: &L,
+    i: usize,
+    menu: &Menu,
+    next: &Menu,
+    sums: &[Option<u64>],
+    order: &[Candidate],
+) -> Result<Vec<Option<u64>>, Memory>
+    requires place { i + 1 < (L.chains links.now).places }
+    requires short { i < 192 }
+    requires menu { IsMenuOf ((L.chains links.now).menu i) menu.now }
+    requires next { IsMenuOf ((L.chains links.now).menu (i + 1)) next.now }
+    requires row { IsRow (L.chains links.now) (i + 1) sums.now }
+    requires small { AllAtMost (2 ^ 62) sums.now }
+    requires candidates { AreAllCandidates (L.chains links.now) (i + 1) sums.now order.now }
+    requires order { GoByBounds order.now }
+    ensures row { IfOk result (λ row. IsRow (L.chains links.now) i row.items) }
+    ensures small { IfOk result (λ row. (most : ℕ)
+        → AllAtMost most sums.now → AllAtMost (most + 2 ^ 53) row.items) }
+{
+    let width = menu.len();
+    let mut row = Vec::with_capacity(alloc, width)?;
+    for k in 0..width {
+        let prev = menu.column(k);
+        let least = least_of_candidates(links, i + 1, Some(prev), next, sums, order);
+        row.push_reserved(least);
+    }
+    Ok(row)
+}
+
+/// The least sums behind the columns of a menu, that of place `i`, from the menu and the sums of the next place.
+fn sums_before<L: Links>(
+    alloc: Global,
+    links: &L,
+    i: usize,
+    menu: &Menu,
+    next: &Menu,
+    sums: &[Option<u64>],
+) -> Result<Vec<Option<u64>>, Memory>
+    requires place { i + 1 < (L.chains links.now).places }
+    requires short { i < 192 }
+    requires menu { IsMenuOf ((L.chains links.now).menu i) menu.now }
+    requires next { IsMenuOf ((L.chains links.now).menu (i + 1)) next.now }
+    requires row { IsRow (L.chains links.now) (i + 1) sums.now }
+    requires small { AllAtMost (2 ^ 62) sums.now }
+    ensures row { IfOk result (λ row. IsRow (L.chains links.now) i row.items) }
+    ensures small { IfOk result (λ row. (most : ℕ)
+        → AllAtMost most sums.now → AllAtMost (most + 2 ^ 53) row.items) }
+{
+    let order = candidates(alloc, links, i + 1, next, sums)?;
+    sums_in_order(alloc, links, i, menu, next, sums, &order)
+}
+
+/// The least sums behind the columns of the last place's menu.
+fn sums_at_end(alloc: Global, width: usize) -> Result<Vec<Option<u64>>, Memory>
+    ensures { IfOk result (λ row. row.items ≡ replicate width (Some 0)) }
+{
+    Ok(vec![in alloc; Some(0); width]?)
+}
+
+/// The least sums of place `i`, the last one that has no row yet.
+fn sums_of<L: Links>(
+    alloc: Global,
+    links: &L,
+    i: usize,
+    menu: &Menu,
+    menus: &[Menu],
+    rows: &[Row],
+) -> Result<Vec<Option<u64>>, Memory>
+    requires place { i + 1 + length rows.now ≡ (L.chains links.now).places }
+    requires short { (L.chains links.now).places ≤ 192 }
+    requires menu { IsMenuOf ((L.chains links.now).menu i) menu.now }
+    requires rows { AreRows (L.chains links.now) menus.now rows.now }
+    ensures row { IfOk result (λ row. IsRow (L.chains links.now) i row.items) }
+    ensures small { IfOk result (λ row. AllAtMost (length rows.now * 2 ^ 53) row.items) }
+{
+    if rows.is_empty() {
+        return sums_at_end(alloc, menu.len());
+    }
+    let next = &rows[rows.len() - 1];
+    sums_before(alloc, links, i, menu, &menus[next.menu], &next.sums)
+}
+
+impl Tables {
+    /// Adds the row of place `i`, the last one that has none yet.
+    fn add_row<L: Links>(&mut self, alloc: Global, links: &L, i: usize) -> Result<(), Memory>
+        requires place { i + 1 + length self.old.rows.items ≡ (L.chains links.now).places }
+        requires short { (L.chains links.now).places ≤ 192 }
+        requires rows { AreRows (L.chains links.now) self.old.menus.items self.old.rows.items }
+        ensures rows { OnOk result (AreRows (L.chains links.now) self.new.menus.items self.new.rows.items) }
+        ensures longer { OnOk result (length self.new.rows.items ≡ length self.old.rows.items + 1) }
+    {
+        let Ok(columns) = links.menu(alloc, i) else {
+            return Err(Memory);
+        };
+        let menu = Menu::new(alloc, links.voices(), columns)?;
+        let sums = sums_of(alloc, links, i, &menu, &self.menus, &self.rows)?;
+        let number = self.menus.len();
+        self.menus.push(menu)?;
+        self.rows.push(Row { menu: number, sums })?;
+        Ok(())
+    }
+
+    /// The least sum over all chains, where each place has its row.
+    fn least_of_all<L: Links>(&self, links: &L) -> Option<u64>
+        requires whole { length self.now.rows.items ≡ (L.chains links.now).places }
+        requires short { (L.chains links.now).places ≤ 192 }
+        requires rows { AreRows (L.chains links.now) self.now.menus.items self.now.rows.items }
+        ensures { IsLeast (L.chains links.now) 0 None result }
+    {
+        if self.rows.is_empty() {
+            return Some(0);
+        }
+        let first = &self.rows[self.rows.len() - 1];
+        least_behind(links, 0, None, &self.menus[first.menu], &first.sums)
+    }
+
+    /// The tables of these links. They take all their memory here.
+    pub fn fill<L: Links>(alloc: Global, links: &L) -> Result<Tables, TableFault>
+        ensures tables { IfOk result (AreTablesOf (L.chains links.now)) }
+        ensures narrow { OnOk result (AreNarrow (L.chains links.now)) }
+        ensures wide { IfErr result (TellsWidth (L.chains links.now)) }
+    {
+        check_widths(links)?;
+        let mut tables = Tables {
+            menus: Vec::new(alloc),
+            rows: Vec::new(alloc),
+            start: None,
+        };
+        let places = links.places();
+        for done in 0..places {
+            tables
+                .add_row(alloc, links, places - 1 - done)
+                .map_err(|_| TableFault::Memory)?;
+        }
+        tables.start = tables.least_of_all(links);
+        Ok(tables)
+    }
+
+    /// The least sum over the chains that begin behind a column of a place's menu and go on to the last place. None exactly
+    /// where no chain does.
+    pub fn rest(&self, i: usize, column: &Column) -> Option<u64>
+        ensures { (c : Chains) → AreTablesOf c self.now → i < c.places → Contains (c.menu i) column.now.items
+            → IsLeast c (suc i) (Some column.now.items) result }
+    {
+        if i >= self.rows.len() {
+            return None;
+        }
+        let row = &self.rows[self.rows.len() - 1 - i];
+        if row.menu >= self.menus.len() {
+            return None;
+        }
+        let k = self.menus[row.menu].place_of(column)?;
+        if k >= row.sums.len() {
+            return None;
+        }
+        row.sums[k]
+    }
+
+    /// The least sum over the chains that begin at the first place. None exactly where no chain does.
+    pub fn start(&self) -> Option<u64>
+        ensures { (c : Chains) → AreTablesOf c self.now → IsLeast c 0 None result }
+    {
+        self.start
+    }
+}

@@ -1,9 +1,0 @@
-use Rattle.std.proofs.Common.{◌≡◌, length}
-use Rattle.floor_tables.specs.Tables.{AreRows}
-use Rattle.floor_tables.proofs.tables.Tables.fill.Given as goal
-
-abbrev pub invariant-loop-done : goal.invariant-loop-done
-invariant-loop-done g l = record {
-  counted : length l.tables.rows.items ≡ l.done;
-  rows : AreRows (g.L.Links.chains l.links) l.tables.menus.items l.tables.rows.items;
-}

@@ -1,0 +1,47 @@
+-- What the lines of the free voices cost by the gauges Q17 to Q20, and what they cost at least while they go on.
+use Rattle.std.specs.Prelude.{ℕ, ◌*◌, ◌==◌, List, [], ◌∷◌, length, reverse, if◌then◌else◌}
+use Rattle.std.specs.List.{filter, range_with_len, sum_by}
+use Rattle.fux_grid.specs.declared.cell.Cell.{Cell}
+use Rattle.fux_grid.specs.declared.exercise.Exercise.{Exercise}
+use Rattle.fux_grid.specs.Columns.{line}
+use Rattle.rule_law.specs.Gauges.{LeastValue, LineValue}
+use Rattle.rule_law.specs.Voices.{is_free}
+use Rattle.melody_rules.specs.Gauges.{climax_least, climax_value, compass_least, compass_value, leaps_least, leaps_value, strikes_least, strikes_value}
+use Rattle.penalty_sheet.specs.declared.sheet.Sheet.{Sheet}
+use Rattle.penalty_sheet.specs.Weights.{weight_of}
+
+-- the numbers of the gauges
+abbrev pub gauges_read : List ℕ
+gauges_read = 17 ∷ 18 ∷ 19 ∷ 20 ∷ []
+
+-- the value of a gauge for a line; no other number has one
+abbrev pub gauge_value : ℕ → LineValue
+gauge_value gauge cells =
+    if gauge == 17 then climax_value cells
+    else (if gauge == 18 then compass_value cells
+    else (if gauge == 19 then leaps_value cells else (if gauge == 20 then strikes_value cells else 0)))
+
+-- what each line that begins so comes to at least
+abbrev pub gauge_least : ℕ → LeastValue
+gauge_least gauge ex v cells =
+    if gauge == 17 then climax_least ex v cells
+    else (if gauge == 18 then compass_least ex v cells
+    else (if gauge == 19 then leaps_least ex v cells else (if gauge == 20 then strikes_least ex v cells else 0)))
+
+-- the free voices of an exercise
+abbrev pub free_voices : Exercise → List ℕ
+free_voices ex = filter (is_free ex) (range_with_len 0 ex.voices)
+
+-- the cells of a voice in a list of columns, from the newest to the oldest
+abbrev pub cells_of_voice : List (List Cell) → ℕ → List Cell
+cells_of_voice p v = line v (reverse p)
+
+-- the values of all gauges for all free voices, by weight: what the lines of a setting cost
+abbrev pub gauges_of : Exercise → Sheet → List (List Cell) → ℕ
+gauges_of ex sheet s =
+    sum_by (λ v. sum_by (λ gauge. gauge_value gauge (cells_of_voice s v) * weight_of sheet gauge) gauges_read) (free_voices ex)
+
+-- what they come to at least in each setting that a prefix begins
+abbrev pub least_of : Exercise → Sheet → List (List Cell) → ℕ
+least_of ex sheet p =
+    sum_by (λ v. sum_by (λ gauge. gauge_least gauge ex v (cells_of_voice p v) * weight_of sheet gauge) gauges_read) (free_voices ex)

@@ -1,0 +1,51 @@
+-- What two neighboring columns decide by themselves.
+use Rattle.std.specs.Prelude.{ℕ, ◌*◌, Bool, true, false, ◌&&◌, List, [], ◌∷◌, map, Option, Some, None, if◌then◌else◌}
+use Rattle.std.specs.List.{list_any, sum_by}
+use Rattle.fux_grid.specs.declared.cell.Cell.{Cell}
+use Rattle.fux_grid.specs.declared.cell.Cell.TheVariants.{Rest, Hold, Start}
+use Rattle.fux_grid.specs.declared.exercise.Exercise.{Exercise}
+use Rattle.rule_law.specs.declared.table.Kind.{Kind}
+use Rattle.rule_law.specs.declared.table.Kind.TheVariants.{Column, Pair, Window}
+use Rattle.penalty_sheet.specs.declared.sheet.Sheet.{Sheet}
+use Rattle.penalty_sheet.specs.Weights.{weight_of}
+use Rattle.fux_judge.specs.Penalties.{is_strict_at}
+use Rattle.fux_judge.specs.Rules.{all_sets, breaks, costs, rule_at, rules_read, toll_at, tolls_read}
+
+-- a column and the one before it are enough
+abbrev pub is_of_neighbors : Kind → Bool
+is_of_neighbors Column = true
+is_of_neighbors Pair = true
+is_of_neighbors Window = false
+
+-- a cell in which what it sounds begins
+abbrev pub begun : Cell → Cell
+begun Rest = Rest
+begun (Hold p) = Start p
+begun (Start p) = Start p
+
+-- the column before, as all that is known of what lies behind: the previous note of a voice is the one that it sounds there,
+-- and a voice that rests there has none; nothing lies behind the first column
+abbrev pub behind_of : Option (List Cell) → List (List Cell)
+behind_of None = []
+behind_of (Some before) = before ∷ map begun before ∷ []
+
+-- the two break a rule of neighbors for a set of voices, at the place of the second
+abbrev pub breaks_between : Exercise → ℕ → Option (List Cell) → List Cell → ℕ → ℕ → Bool
+breaks_between ex i before next rule voices =
+    is_of_neighbors (rule_at rule).kind && breaks rule ex voices i (behind_of before) next []
+
+-- and strictly, for some set
+abbrev pub breaks_strictly : Exercise → ℕ → Option (List Cell) → List Cell → ℕ → Bool
+breaks_strictly ex i before next rule =
+    list_any (λ voices. breaks_between ex i before next rule voices && is_strict_at rule ex voices i) all_sets
+
+-- what a toll of neighbors costs there
+abbrev pub cost_between : Exercise → ℕ → Option (List Cell) → List Cell → ℕ → ℕ
+cost_between ex i before next toll =
+    if is_of_neighbors (toll_at toll).kind then costs toll ex i (behind_of before) next [] else 0
+
+-- what all of them cost, by weight; none where the two make a strict break
+unfoldable pub link_of : Exercise → Sheet → ℕ → Option (List Cell) → List Cell → Option ℕ
+link_of ex sheet i before next =
+    if list_any (breaks_strictly ex i before next) rules_read then None
+    else Some (sum_by (λ toll. cost_between ex i before next toll * weight_of sheet toll) tolls_read)
