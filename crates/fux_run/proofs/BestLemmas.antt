@@ -10,7 +10,7 @@ use Rattle.penalty_sheet.specs.declared.sheet.Sheet.{Sheet}
 use Rattle.rule_law.specs.Prefixes.{IsPrefix}
 use Rattle.fux_judge.specs.Lawful.{HasLive, HasLiveAtMost}
 use Rattle.species_space.specs.Grows.{live_value}
-use Rattle.species_space.specs.Paths.{prefix_at, is_live_path, live_at, length-columns_on}
+use Rattle.species_space.specs.Paths.{prefix_at, is_alive_path, live_at, length-columns_on}
 use Rattle.species_space.specs.Best.{first_least_is_best}
 use Rattle.species_space.specs.Exact.{menus_are_exact}
 use Rattle.species_space.specs.Task.{Task}
@@ -18,7 +18,7 @@ use Rattle.tree_search.specs.Answer.{IsFirstLeast}
 use Rattle.fux_run.specs.Searched.{IsBestFound}
 
 module _ (ex : Exercise) (sheet : Sheet) (path : List ℕ) (value : ℕ) (first : IsFirstLeast (live_at ex sheet) (columns_in ex) path value) where
-  pub first_is_live : is_live_path ex path ≡ true
+  pub first_is_live : is_alive_path ex path ≡ true
   first_is_live = (live_value ex sheet path value first.leaf.1).0
 
   pub first_is_whole : length (prefix_at ex path) ≡ columns_in ex

@@ -18,8 +18,8 @@ use Rattle.fux_judge.specs.Alive.{alive_orderly}
 use Rattle.fux_judge.specs.Lawful.{IsLive}
 use Rattle.fux_judge.specs.Rules.{rules_read, is_read}
 use Rattle.species_space.specs.Exact.{menus_are_exact}
-use Rattle.species_space.specs.Leaves.{prefix_is_live}
-use Rattle.species_space.specs.Paths.{column_at, is_live_path, length-columns_on, prefix_at, width_at}
+use Rattle.species_space.specs.Leaves.{prefix_is_alive}
+use Rattle.species_space.specs.Paths.{column_at, is_alive_path, length-columns_on, prefix_at, width_at}
 
 -- a prefix with a column more
 prefix_with : (ex : Exercise) (p : List (List Cell)) (col : List Cell) → IsPrefix ex p → length p < columns_in ex → IsInMenu ex (length p) col → ColumnFollows (newest_column (reverse p)) col → IsPrefix ex (p ++ col ∷ [])
@@ -40,9 +40,9 @@ prefix_with ex p col prefix room menu follows =
     }
 
 -- a column of the menu that follows a live path's prefix goes on from an orderly one
-pub goes_on_from : (ex : Exercise) (path : List ℕ) (k : ℕ) → ex.voices ≤ 4 → is_live_path ex path ≡ true → length path < columns_in ex → k < width_at ex path → ColumnFollows (newest_column (reverse (prefix_at ex path))) (column_at ex path k) → GoesOn ex (prefix_at ex path) (column_at ex path k ∷ [])
+pub goes_on_from : (ex : Exercise) (path : List ℕ) (k : ℕ) → ex.voices ≤ 4 → is_alive_path ex path ≡ true → length path < columns_in ex → k < width_at ex path → ColumnFollows (newest_column (reverse (prefix_at ex path))) (column_at ex path k) → GoesOn ex (prefix_at ex path) (column_at ex path k ∷ [])
 goes_on_from ex path k few live room within follows =
-    let alive = prefix_is_live ex (menus_are_exact ex) path live in
+    let alive = prefix_is_alive ex (menus_are_exact ex) path live in
     let size : length (prefix_at ex path) ≡ length path = length-columns_on ex 0 path in
     let M : ℕ → Type 0 = λ n. IsInMenu ex n (column_at ex path k) in
     record {

@@ -5,11 +5,11 @@ use Rattle.penalty_sheet.specs.declared.sheet.Sheet.{Sheet}
 use Rattle.fux_judge.specs.Penalties.{paid}
 use Rattle.fux_judge.specs.States.{IsStateOf}
 use Rattle.species_space.specs.declared.node.Node.{Node}
-use Rattle.species_space.specs.Paths.{prefix_at, is_live_path}
+use Rattle.species_space.specs.Paths.{prefix_at, is_alive_path}
 
 -- the node is of a live path: its state is of the prefix, and it knows what is paid
 pub record IsNodeOf (ex : Exercise) (sheet : Sheet) (node : Node) (path : List ℕ) : Type 0 where
   pub state : IsStateOf ex (prefix_at ex path) node.state
-  pub is_live : is_live_path ex path ≡ true
+  pub is_live : is_alive_path ex path ≡ true
   pub paid : node.paid ≡ paid ex sheet (prefix_at ex path)
   pub small : node.paid ≤ 134217728 * length path

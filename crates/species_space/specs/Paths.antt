@@ -17,6 +17,7 @@ use Rattle.penalty_sheet.specs.declared.sheet.Sheet.{Sheet}
 use Rattle.fux_judge.specs.Rules.{rules_read}
 use Rattle.fux_judge.specs.Penalties.{has_strict_break, newly_broken, newly_paid, paid}
 use Rattle.fux_judge.specs.Grows.{strict_break_grows}
+use Rattle.floor_tables.specs.Floors.{floor_of}
 
 -- the columns on a path from column i on: each number chooses one of the column's menu
 abbrev pub columns_on : Exercise → ℕ → List ℕ → List (List Cell)
@@ -41,15 +42,15 @@ abbrev pub history_follows : List (List Cell) → Bool
 history_follows [] = true
 history_follows (col ∷ cols) = column_follows (newest_column cols) col && history_follows cols
 
--- the path leads to a live prefix
-abbrev pub is_live_path : Exercise → List ℕ → Bool
-is_live_path ex path =
-    nat_le (length path) (columns_in ex) && is_in_menus ex 0 path
+-- the path leads to a prefix in which no strict break is settled; an exercise of more than four voices has no such path
+abbrev pub is_alive_path : Exercise → List ℕ → Bool
+is_alive_path ex path =
+    nat_le ex.voices 4 && nat_le (length path) (columns_in ex) && is_in_menus ex 0 path
     && history_follows (reverse (prefix_at ex path)) && not (has_strict_break ex (prefix_at ex path))
 
--- what is paid of the prefix that a path leads to, where it is live
+-- the floor of the prefix that a path leads to, where it is live: no strict break is settled in it, and a chain goes on from it
 unfoldable pub live_at : Exercise → Sheet → List ℕ → Option ℕ
-live_at ex sheet path = if is_live_path ex path then Some (paid ex sheet (prefix_at ex path)) else None
+live_at ex sheet path = if is_alive_path ex path then floor_of ex sheet (prefix_at ex path) else None
 
 -- how many columns there are to go on with
 abbrev pub width_at : Exercise → List ℕ → ℕ
@@ -99,16 +100,17 @@ IsPassedAfter ex sheet p best col =
     ColumnFollows (newest_column (reverse p)) col
     → (list_any (newly_broken ex p col) rules_read ≡ true) ⊎ IsSomeAnd best (λ value. value ≤ paid ex sheet p + newly_paid ex sheet p col)
 
--- a path that is longer by a number leads to a live prefix where the path does, it has room, the number is in the menu, and its
--- column follows and settles no strict break
+-- a path that is longer by a number is alive where the path is, it has room, the number is in the menu, and its column follows
+-- and settles no strict break
 abbrev pub goes_on : Exercise → List ℕ → ℕ → Bool
 goes_on ex path k =
     nat_lt (length path) (columns_in ex) && nat_lt k (width_at ex path)
     && column_follows (newest_column (reverse (prefix_at ex path))) (column_at ex path k)
     && not (list_any (newly_broken ex (prefix_at ex path) (column_at ex path k)) rules_read)
 
--- what makes a path lead to a live prefix, test by test
-pub record IsLivePath (ex : Exercise) (path : List ℕ) : Type 0 where
+-- what makes a path alive, test by test
+pub record IsAlivePath (ex : Exercise) (path : List ℕ) : Type 0 where
+  pub few : nat_le ex.voices 4 ≡ true
   pub room : nat_le (length path) (columns_in ex) ≡ true
   pub menus : is_in_menus ex 0 path ≡ true
   pub follows : history_follows (reverse (prefix_at ex path)) ≡ true
@@ -118,23 +120,26 @@ not_true : (b : Bool) → not b ≡ true → b ≡ false
 not_true true h = cc
 not_true false h = refl
 
-pub live_parts : (ex : Exercise) (path : List ℕ) → is_live_path ex path ≡ true → IsLivePath ex path
-live_parts ex path h =
+pub alive_parts : (ex : Exercise) (path : List ℕ) → is_alive_path ex path ≡ true → IsAlivePath ex path
+alive_parts ex path h =
+    let few = nat_le ex.voices 4 in
     let room = nat_le (length path) (columns_in ex) in
     let menus = is_in_menus ex 0 path in
     let follows = history_follows (reverse (prefix_at ex path)) in
     let alive = not (has_strict_break ex (prefix_at ex path)) in
-    let three : IsTrue (room && menus && follows) = first_true (room && menus && follows) alive h in
-    let two : IsTrue (room && menus) = first_true (room && menus) follows three in
+    let four : IsTrue (few && room && menus && follows) = first_true (few && room && menus && follows) alive h in
+    let three : IsTrue (few && room && menus) = first_true (few && room && menus) follows four in
+    let two : IsTrue (few && room) = first_true (few && room) menus three in
     record {
-      room = first_true room menus two;
-      menus = second_true room menus two;
-      follows = second_true (room && menus) follows three;
-      alive = not_true (has_strict_break ex (prefix_at ex path)) (second_true (room && menus && follows) alive h);
+      few = first_true few room two;
+      room = second_true few room two;
+      menus = second_true (few && room) menus three;
+      follows = second_true (few && room && menus) follows four;
+      alive = not_true (has_strict_break ex (prefix_at ex path)) (second_true (few && room && menus && follows) alive h);
     }
 
-pub live_from_parts : (ex : Exercise) (path : List ℕ) → IsLivePath ex path → is_live_path ex path ≡ true
-live_from_parts ex path live = rw (live.room, live.menus, live.follows, live.alive) refl
+pub alive_from_parts : (ex : Exercise) (path : List ℕ) → IsAlivePath ex path → is_alive_path ex path ≡ true
+alive_from_parts ex path live = rw (live.few, live.room, live.menus, live.follows, live.alive) refl
 
 below_test : (n m : ℕ) → nat_le (n + 1) m ≡ nat_lt n m
 below_test n m = grind (arith, nat_tests)
@@ -167,18 +172,19 @@ module _ (ex : Exercise) (path : List ℕ) (k : ℕ) where
   longer_breaks : has_strict_break ex (prefix_at ex (path ++ k ∷ [])) ≡ (has_strict_break ex (prefix_at ex path) || list_any (newly_broken ex (prefix_at ex path) (column_at ex path k)) rules_read)
   longer_breaks = ap (has_strict_break ex) (prefix_at-append ex path k) ∙ strict_break_grows ex (prefix_at ex path) (column_at ex path k)
 
-  -- after a live path, the next is live where it goes on
-  pub live_goes_on : is_live_path ex path ≡ true → is_live_path ex (path ++ k ∷ []) ≡ goes_on ex path k
-  live_goes_on h =
-      let live = live_parts ex path h in
-      rw (longer_room, longer_menus, longer_follows, longer_breaks, live.menus, live.follows, live.alive)
+  -- after an alive path, the next is alive where it goes on
+  pub alive_goes_on : is_alive_path ex path ≡ true → is_alive_path ex (path ++ k ∷ []) ≡ goes_on ex path k
+  alive_goes_on h =
+      let live = alive_parts ex path h in
+      rw (live.few, longer_room, longer_menus, longer_follows, longer_breaks, live.menus, live.follows, live.alive)
       (four_tests (nat_lt (length path) (columns_in ex)) (nat_lt k (length (menu_of ex (length path)))) (column_follows (newest_column (reverse (prefix_at ex path))) (column_at ex path k)) (list_any (newly_broken ex (prefix_at ex path) (column_at ex path k)) rules_read))
 
-  -- the parent of a live path is live
-  pub live_parent : is_live_path ex (path ++ k ∷ []) ≡ true → is_live_path ex path ≡ true
-  live_parent h =
-      let live = live_parts ex (path ++ k ∷ []) h in
-      live_from_parts ex path record {
+  -- the parent of an alive path is alive
+  pub alive_parent : is_alive_path ex (path ++ k ∷ []) ≡ true → is_alive_path ex path ≡ true
+  alive_parent h =
+      let live = alive_parts ex (path ++ k ∷ []) h in
+      alive_from_parts ex path record {
+        few = live.few;
         room = shorter_test (length path) (columns_in ex) (sym longer_room ∙ live.room);
         menus = first_true (is_in_menus ex 0 path) (nat_lt k (length (menu_of ex (length path)))) (sym longer_menus ∙ live.menus);
         follows = second_true (column_follows (newest_column (reverse (prefix_at ex path))) (column_at ex path k)) (history_follows (reverse (prefix_at ex path))) (sym longer_follows ∙ live.follows);
