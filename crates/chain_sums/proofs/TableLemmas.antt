@@ -95,6 +95,21 @@ least_at c i k row menu col asked h e =
 pub sums_beside : (c : Chains) (i : ℕ) (row : Row) (menu : Menu) (col : List Cell) → IsAsked c i row menu col → length row.sums.items ≡ length menu.columns.items
 sums_beside c i row menu col asked = asked.sums.beside ∙ sym (length-columns menu.columns.items (c.menu i) asked.are)
 
+pub at_most_more : (most more : ℕ) (sum : Option ℕ) → most ≤ more → IsAtMost most sum → IsAtMost more sum
+at_most_more most more None h is = tt
+at_most_more most more (Some x) h is = omega (arith, h, is)
+
+-- each sum of a row of the tables is small
+pub small_in : (c : Chains) (t : Tables) (i last : ℕ) (row : Row) (k : ℕ) → AreTablesOf c t → i < c.places → last ≡ length t.rows.items
+    → row ≡ get_or t.rows.items (last - 1 - i) row → k < length row.sums.items → IsAtMost (c.places * 2 ^ 53) (get_or row.sums.items k None)
+small_in c t i last row k are h e is within =
+    at_most_more ((last - 1 - i) * 2 ^ 53) (c.places * 2 ^ 53) (get_or row.sums.items k None) (omega (arith, are.whole, e)) (here k within)
+  where
+    here : AllAtMost ((last - 1 - i) * 2 ^ 53) row.sums.items
+    here =
+        subst (λ (r : Row). AllAtMost ((last - 1 - i) * 2 ^ 53) r.sums.items) (sym is)
+        (are.rows.small (last - 1 - i) row (omega (arith, are.whole, e, h)))
+
 -- ---- a row grows by a sum at a time
 
 pub row_pushed : (c : Chains) (i k : ℕ) (row : List (Option ℕ)) (least : Option ℕ) → length row ≡ k

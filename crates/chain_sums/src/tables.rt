@@ -6,7 +6,7 @@ ghost use Rattle.fux_grid.specs.Exercises.{bar_of, slot_of};
 ghost use Rattle.chain_sums.specs.Candidates.{AreAllCandidates, GoByBounds};
 ghost use Rattle.chain_sums.specs.Chains.{Chains, IsLeast};
 ghost use Rattle.chain_sums.specs.Menus.{IsMenuOf};
-ghost use Rattle.chain_sums.specs.Rows.{AllAtMost, IsRow};
+ghost use Rattle.chain_sums.specs.Rows.{AllAtMost, IsAtMost, IsRow};
 ghost use Rattle.chain_sums.specs.Tables.{AreNarrow, AreRows, AreTablesOf, TellsWidth};
 
 use crate::candidates::{Candidate, candidates, least_of_candidates};
@@ -183,7 +183,8 @@ impl Tables {
         requires whole { length self.now.rows.items ≡ (L.chains links.now).places }
         requires short { (L.chains links.now).places ≤ 192 }
         requires rows { AreRows (L.chains links.now) self.now.menus.items self.now.rows.items }
-        ensures { IsLeast (L.chains links.now) 0 None result }
+        ensures least { IsLeast (L.chains links.now) 0 None result }
+        ensures small { IsAtMost ((L.chains links.now).places * 2 ^ 53) result }
     {
         if self.rows.is_empty() {
             return Some(0);
@@ -217,8 +218,9 @@ impl Tables {
     /// The least sum over the chains that begin behind a column of a place's menu and go on to the last place. None exactly
     /// where no chain does.
     pub fn rest(&self, i: usize, column: &Column) -> Option<u64>
-        ensures { (c : Chains) → AreTablesOf c self.now → i < c.places → Contains (c.menu i) column.now.items
+        ensures least { (c : Chains) → AreTablesOf c self.now → i < c.places → Contains (c.menu i) column.now.items
             → IsLeast c (suc i) (Some column.now.items) result }
+        ensures small { (c : Chains) → AreTablesOf c self.now → i < c.places → IsAtMost (c.places * 2 ^ 53) result }
     {
         if i >= self.rows.len() {
             return None;
@@ -236,7 +238,8 @@ impl Tables {
 
     /// The least sum over the chains that begin at the first place. None exactly where no chain does.
     pub fn start(&self) -> Option<u64>
-        ensures { (c : Chains) → AreTablesOf c self.now → IsLeast c 0 None result }
+        ensures least { (c : Chains) → AreTablesOf c self.now → IsLeast c 0 None result }
+        ensures small { (c : Chains) → AreTablesOf c self.now → IsAtMost (c.places * 2 ^ 53) result }
     {
         self.start
     }
