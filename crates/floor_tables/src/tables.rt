@@ -47,7 +47,8 @@ pub fn fill_tables<'a, R: Threads + Sync>(
     ensures narrow { OnOk result (AreNarrow ex.entry.now) }
     ensures wide { IfErr result (TellsWidth ex.entry.now) }
 {
-    let _ = (ex.bars, sheet.weights);
+    let _ = ex;
+    let _ = sheet;
     Err(TableFault::Memory)
 }
 
