@@ -8,6 +8,7 @@ pub mod Gauges
 pub mod Grows
 pub mod Kept
 pub mod Lawful
+pub mod Least
 pub mod Links
 pub mod Moments
 pub mod Parts
