@@ -1,6 +1,6 @@
 //! Tables of least sums over chains.
 
-ghost use Rattle.std.specs.Prelude.{◌≡◌, ◌<◌, ◌≤◌, ◌+◌, ◌-◌, ℕ, List, ◌*◌, ◌^◌, length, suc, replicate, IfOk, IfErr, OnOk, OnErr, slice_index_or};
+ghost use Rattle.std.specs.Prelude.{◌≡◌, ◌<◌, ◌≤◌, ◌+◌, ◌-◌, ℕ, List, ◌*◌, ◌^◌, length, suc, [], replicate, IfOk, IfErr, OnOk, OnErr, slice_index_or};
 ghost use Rattle.std.specs.List.{Contains};
 ghost use Rattle.fux_grid.specs.Exercises.{bar_of, slot_of};
 ghost use Rattle.chain_sums.specs.Candidates.{AreAllCandidates, GoByBounds};
@@ -230,6 +230,23 @@ impl Tables {
             return None;
         }
         let k = self.menus[row.menu].place_of(column)?;
+        if k >= row.sums.len() {
+            return None;
+        }
+        row.sums[k]
+    }
+
+    /// The same of the column that has this number in the place's menu, counted from 0.
+    #[inline]
+    pub fn rest_of_number(&self, i: usize, k: usize) -> Option<u64>
+        ensures least { (c : Chains) → AreTablesOf c self.now → i < c.places → k < length (c.menu i)
+            → IsLeast c (suc i) (Some (slice_index_or (c.menu i) k [])) result }
+        ensures small { (c : Chains) → AreTablesOf c self.now → i < c.places → IsAtMost (c.places * 2 ^ 53) result }
+    {
+        if i >= self.rows.len() {
+            return None;
+        }
+        let row = &self.rows[self.rows.len() - 1 - i];
         if k >= row.sums.len() {
             return None;
         }

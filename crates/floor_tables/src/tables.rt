@@ -1,6 +1,6 @@
 //! Tables of the least sums over the chains of an exercise.
 
-ghost use Rattle.std.specs.Prelude.{◌≡◌, ◌<◌, OnOk, IfOk, IfErr};
+ghost use Rattle.std.specs.Prelude.{◌≡◌, ◌<◌, ◌≤◌, ◌^◌, [], OnOk, IfOk, IfErr, IfSome, length, slice_index_or};
 ghost use Rattle.std.specs.List.{Contains};
 ghost use Rattle.fux_grid.specs.Exercises.{IsValid, columns_in};
 ghost use Rattle.fux_grid.specs.Menus.{menu_of};
@@ -57,14 +57,27 @@ impl<'a> Tables<'a> {
     pub fn rest(&self, i: usize, col: &Column) -> Option<u64>
         requires place { i < columns_in self.now.exercise }
         requires choice { Contains (menu_of self.now.exercise i) col.now.items }
-        ensures { IsRest self.now.exercise self.now.sheet i col.now.items result }
+        ensures rest { IsRest self.now.exercise self.now.sheet i col.now.items result }
+        ensures small { IfSome result (λ sum. sum ≤ 2 ^ 61) }
     {
         self.sums.rest(i, col)
     }
 
+    /// The same of the column that has this number in the menu of place `i`, counted from 0.
+    #[inline]
+    pub fn rest_of_number(&self, i: usize, k: usize) -> Option<u64>
+        requires place { i < columns_in self.now.exercise }
+        requires number { k < length (menu_of self.now.exercise i) }
+        ensures rest { IsRest self.now.exercise self.now.sheet i (slice_index_or (menu_of self.now.exercise i) k []) result }
+        ensures small { IfSome result (λ sum. sum ≤ 2 ^ 61) }
+    {
+        self.sums.rest_of_number(i, k)
+    }
+
     /// The least sum over all chains. None exactly where there is no chain.
     pub fn start(&self) -> Option<u64>
-        ensures { IsStart self.now.exercise self.now.sheet result }
+        ensures start { IsStart self.now.exercise self.now.sheet result }
+        ensures small { IfSome result (λ sum. sum ≤ 2 ^ 61) }
     {
         self.sums.start()
     }

@@ -15,7 +15,7 @@ use Rattle.fux_grid.proofs.Histories.{reverse-push}
 use Rattle.rule_law.specs.Growth.{list_any-same}
 use Rattle.rule_law.specs.Prefixes.{GoesOn, IsPrefix}
 use Rattle.fux_judge.specs.Alive.{alive_orderly}
-use Rattle.fux_judge.specs.Lawful.{IsLive}
+use Rattle.fux_judge.specs.Lawful.{IsAlive}
 use Rattle.fux_judge.specs.Rules.{rules_read, is_read}
 use Rattle.species_space.specs.Exact.{menus_are_exact}
 use Rattle.species_space.specs.Leaves.{prefix_is_alive}

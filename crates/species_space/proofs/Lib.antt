@@ -1,5 +1,6 @@
 pub mod Alive
 pub mod Children
+pub mod FloorSteps
 pub mod MenuSteps
 pub mod Passing
 pub mod PathSteps

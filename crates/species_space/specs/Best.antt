@@ -21,7 +21,7 @@ use Rattle.species_space.specs.Paths.{columns_on, prefix_at, is_in_menus, is_ali
 use Rattle.species_space.specs.Grows.{live_value, live_some}
 use Rattle.species_space.specs.Leaves.{prefix_is_alive, path_to_alive}
 use Rattle.species_space.specs.Exact.{menus_are_exact}
-use Rattle.species_space.specs.FloorLaws.{FloorLaws}
+use Rattle.species_space.specs.FloorLaws.{floor_at_end}
 
 number-cases : (a b : ℕ) → (a < b) ⊎ ((a ≡ b) ⊎ (b < a))
 number-cases a b = at (nat_lt a b) (nat_lt b a) refl refl
@@ -72,7 +72,7 @@ module _ (ex : Exercise) where
           let P : List (List Cell) → Type 0 = λ s. IsEarlier s (prefix_at ex path) in
           absurd (earlier-itself (prefix_at ex path) (subst P (sym e) (before_is_earlier 0 other path (sym size) (alive_parts ex path live).menus h)))
 
-  module _ (few : ex.voices ≤ 4) (sheet : Sheet) (laws : FloorLaws ex sheet) where
+  module _ (few : ex.voices ≤ 4) (sheet : Sheet) where
     -- a leaf leads to a lawful setting, and its value is the penalty
     pub leaf_is_lawful : (path : List ℕ) (value : ℕ) → tree.IsLeaf (live_at ex sheet) (columns_in ex) path value → IsLawful ex (prefix_at ex path) × (penalty_of ex sheet (prefix_at ex path) ≡ value)
     leaf_is_lawful path value leaf =
@@ -81,7 +81,7 @@ module _ (ex : Exercise) where
         let whole : length (prefix_at ex path) ≡ columns_in ex = length-columns_on ex 0 path ∙ leaf.0 in
         let setting : IsSetting ex (prefix_at ex path) = record { prefix = alive.prefix; whole = whole } in (
           record { setting = setting; unbroken = unbroken_if_alive ex few (prefix_at ex path) setting alive.unbroken },
-          same_number (sym (laws.at_end (prefix_at ex path) few setting alive) ∙ own.1),
+          same_number (sym (floor_at_end ex sheet (prefix_at ex path) few setting alive) ∙ own.1),
         )
       where
         same_number : {m n : ℕ} → Some m ≡ Some n → m ≡ n
@@ -93,7 +93,7 @@ module _ (ex : Exercise) where
         let alive : IsAlive ex s = record { prefix = lawful.setting.prefix; unbroken = alive_if_unbroken ex few s lawful.setting lawful.unbroken } in
         let way = path_to_alive ex (menus_are_exact ex) few s alive in
         let size : length way.path ≡ columns_in ex = sym (length-columns_on ex 0 way.path) ∙ ap length way.there ∙ lawful.setting.whole in
-        (way.path, way.there, (size, live_some ex sheet way.path way.alive ∙ ap (floor_of ex sheet) way.there ∙ laws.at_end s few lawful.setting alive))
+        (way.path, way.there, (size, live_some ex sheet way.path way.alive ∙ ap (floor_of ex sheet) way.there ∙ floor_at_end ex sheet s few lawful.setting alive))
 
     pub first_least_is_best : (path : List ℕ) (value : ℕ) → tree.IsFirstLeast (live_at ex sheet) (columns_in ex) path value → IsBest ex sheet (prefix_at ex path) × (penalty_of ex sheet (prefix_at ex path) ≡ value)
     first_least_is_best path value found =

@@ -11,7 +11,7 @@ use Rattle.fux_judge.specs.Lawful.{IsAlive}
 use Rattle.floor_tables.specs.Floors.{floor_of}
 use Rattle.tree_search.specs.Space.{FloorsGrow, IsParent}
 use Rattle.species_space.specs.Exact.{menus_are_exact}
-use Rattle.species_space.specs.FloorLaws.{FloorLaws}
+use Rattle.species_space.specs.FloorLaws.{floor_grows}
 use Rattle.species_space.specs.Leaves.{prefix_is_alive}
 use Rattle.species_space.specs.Paths.{prefix_at, column_at, is_alive_path, goes_on, live_at, width_at, alive_parts, alive_goes_on, alive_parent, prefix_at-append}
 
@@ -53,14 +53,14 @@ pub at_most_four : (ex : Exercise) (path : List ℕ) → is_alive_path ex path �
 at_most_four ex path h = four_at_most ex.voices (alive_parts ex path h).few
 
 -- the parent of a live path is live, and its floor is no higher
-pub paths_grow : (ex : Exercise) (sheet : Sheet) → FloorLaws ex sheet → FloorsGrow (live_at ex sheet) (width_at ex) (columns_in ex)
-paths_grow ex sheet laws path k floor h =
+pub paths_grow : (ex : Exercise) (sheet : Sheet) → FloorsGrow (live_at ex sheet) (width_at ex) (columns_in ex)
+paths_grow ex sheet path k floor h =
     let here = live_value ex sheet (path ++ k ∷ []) floor h in
     let before = alive_parent ex path k here.0 in
     let steps = goes_on_parts ex path k (sym (alive_goes_on ex path k before) ∙ here.0) in
     let A : List (List Cell) → Type 0 = λ p. IsAlive ex p in
     let alive = subst A (prefix_at-append ex path k) (prefix_is_alive ex (menus_are_exact ex) (path ++ k ∷ []) here.0) in
-    let grown = laws.grows (prefix_at ex path) (column_at ex path k) (at_most_four ex path before) alive floor
+    let grown = floor_grows ex sheet (prefix_at ex path) (column_at ex path k) (at_most_four ex path before) alive floor
     (sym (ap (floor_of ex sheet) (prefix_at-append ex path k)) ∙ here.1) in
     parent steps before (floor_of ex sheet (prefix_at ex path)) refl grown
   where

@@ -18,19 +18,33 @@ pub record LivePath (ex : Exercise) (sheet : Sheet) (p : List (List Cell)) : Typ
   pub there : prefix_at ex path ≡ p
   pub is_live : IsSome (live_at ex sheet path)
 
-some_if_mapped : (f : ℕ → ℕ) (o : Option ℕ) (y : ℕ) → option_map f o ≡ Some y → IsSome o
-some_if_mapped f None y h = cc
-some_if_mapped f (Some x) y h = refl
-
 mapped_if_some : (f : ℕ → ℕ) (o : Option ℕ) → IsSome o → IsSome (option_map f o)
 mapped_if_some f None h = cc
 mapped_if_some f (Some x) h = refl
 
+-- what a floor is of
+pub record FloorParts (ex : Exercise) (sheet : Sheet) (p : List (List Cell)) (floor : ℕ) : Type 0 where
+  pub rest : ℕ
+  pub is_rest : rest_of ex sheet p ≡ Some rest
+  pub sum : paid ex sheet p + least_of ex sheet p + rest ≡ floor
+
 module _ (ex : Exercise) (sheet : Sheet) where
   -- a prefix has a floor exactly where a chain goes on from it
-  pub rest_if_floor : (p : List (List Cell)) (floor : ℕ) → floor_of ex sheet p ≡ Some floor → IsSome (rest_of ex sheet p)
+  pub floor_parts : (p : List (List Cell)) (floor : ℕ) → floor_of ex sheet p ≡ Some floor → FloorParts ex sheet p floor
   unfolding floor_of
-  rest_if_floor p floor h = some_if_mapped (λ rest. paid ex sheet p + least_of ex sheet p + rest) (rest_of ex sheet p) floor h
+  floor_parts p floor h = at (rest_of ex sheet p) refl h
+    where
+      at : (o : Option ℕ) → rest_of ex sheet p ≡ o → option_map (λ rest. paid ex sheet p + least_of ex sheet p + rest) o ≡ Some floor → FloorParts ex sheet p floor
+      at None e h = cc
+      at (Some rest) e h = record { rest = rest; is_rest = e; sum = cc }
+
+  pub floor_of_rest : (p : List (List Cell)) (rest : ℕ) → rest_of ex sheet p ≡ Some rest → floor_of ex sheet p ≡ Some (paid ex sheet p + least_of ex sheet p + rest)
+  unfolding floor_of
+  floor_of_rest p rest h = ap (option_map (λ rest. paid ex sheet p + least_of ex sheet p + rest)) h
+
+  pub no_floor : (p : List (List Cell)) → rest_of ex sheet p ≡ None → floor_of ex sheet p ≡ None
+  unfolding floor_of
+  no_floor p h = ap (option_map (λ rest. paid ex sheet p + least_of ex sheet p + rest)) h
 
   pub floor_if_rest : (p : List (List Cell)) → IsSome (rest_of ex sheet p) → IsSome (floor_of ex sheet p)
   unfolding floor_of
@@ -51,7 +65,7 @@ module _ (ex : Exercise) (sheet : Sheet) where
       at (Some value) e s =
           let own = live_value ex sheet path value e in
           let alive = prefix_is_alive ex (menus_are_exact ex) path own.0 in
-          record { prefix = alive.prefix; unbroken = alive.unbroken; goes_on = rest_if_floor (prefix_at ex path) value own.1 }
+          record { prefix = alive.prefix; unbroken = alive.unbroken; goes_on = subst IsSome (sym (floor_parts (prefix_at ex path) value own.1).is_rest) refl }
 
   pub path_to_live : ex.voices ≤ 4 → (p : List (List Cell)) → IsLive ex sheet p → LivePath ex sheet p
   path_to_live few p live =

@@ -17,7 +17,6 @@ use Rattle.tree_search.specs.Outcomes.{IfFound, IfSpent, IsSpent, OnNothing}
 use Rattle.tree_search.specs.declared.outcome.Outcome.{Outcome}
 use Rattle.tree_search.specs.declared.outcome.Outcome.TheVariants.{Found, Nothing, Spent}
 use Rattle.species_space.specs.Best.{best_is_first_least, bound_of_lawful, first_least_is_best, no_leaf_no_lawful, no_lawful_no_leaf, same_path}
-use Rattle.species_space.specs.FloorLaws.{FloorLaws}
 use Rattle.species_space.specs.Grows.{live_some, live_value}
 use Rattle.species_space.specs.Live.{live_prefix, path_is_alive, path_to_live}
 use Rattle.species_space.specs.Paths.{alive_parent, column_at, columns_on, is_alive_path, live_at, prefix_at, prefix_at-append}
@@ -220,28 +219,28 @@ module _ (ex : Exercise) (few : ex.voices ≤ 4) (sheet : Sheet) where
       each = loaded_path;
     }
 
-  module _ (laws : FloorLaws ex sheet) (budget : ℕ) where
+  module _ (budget : ℕ) where
     over_prefixes : tree.IsOverBudget (live_at ex sheet) (columns_in ex) budget → IsOverBudget ex sheet budget
     over_prefixes over = record {
       load = λ s best.
-          let way = best_is_first_least ex few sheet laws s best in
+          let way = best_is_first_least ex few sheet s best in
           many_prefixes ex _ _ (loaded_alike (penalty_of ex sheet s)) (budget + 1) (over.load way.0 (penalty_of ex sheet s) way.2);
-      whole = λ none. many_prefixes ex _ _ live_alike (budget + 1) (over.whole (no_lawful_no_leaf ex few sheet laws none));
+      whole = λ none. many_prefixes ex _ _ live_alike (budget + 1) (over.whole (no_lawful_no_leaf ex few sheet none));
     }
 
     over_paths : IsOverBudget ex sheet budget → tree.IsOverBudget (live_at ex sheet) (columns_in ex) budget
     over_paths over = record {
       load = λ path value first.
-          let own = first_least_is_best ex few sheet laws path value first in
+          let own = first_least_is_best ex few sheet path value first in
           many_paths ex _ _ (loaded_alike value) (budget + 1)
           (subst (λ n. HasMany (IsLoaded ex sheet n) (budget + 1)) own.1 (over.load (prefix_at ex path) own.0));
-      whole = λ none. many_paths ex _ _ live_alike (budget + 1) (over.whole (no_leaf_no_lawful ex few sheet laws none));
+      whole = λ none. many_paths ex _ _ live_alike (budget + 1) (over.whole (no_leaf_no_lawful ex few sheet none));
     }
 
     -- what a search of the front tells of this tree is exact
     pub answers_exactly : (outcome : Outcome) → IsFrontAnswer (live_at ex sheet) (columns_in ex) budget outcome → IsExact ex sheet budget outcome
     answers_exactly (Found path value) answer =
-        let own = first_least_is_best ex few sheet laws path value answer.found in
+        let own = first_least_is_best ex few sheet path value answer.found in
         record {
           found = record {
             best = own.0;
@@ -255,7 +254,7 @@ module _ (ex : Exercise) (few : ex.voices ≤ 4) (sheet : Sheet) where
     answers_exactly Nothing answer = record {
       found = tt;
       nothing = record {
-        none = no_leaf_no_lawful ex few sheet laws answer.nothing;
+        none = no_leaf_no_lawful ex few sheet answer.nothing;
         load = few_prefixes ex _ _ live_alike budget answer.nothing_load;
       };
       over = ((λ spent. absurd spent), (λ over. answer.over.1 (over_paths over)));
@@ -268,6 +267,6 @@ module _ (ex : Exercise) (few : ex.voices ≤ 4) (sheet : Sheet) where
       spent = record {
         many = many_prefixes ex _ _ (loaded_alike bound) (budget + 1) answer.spent;
         least = λ x low. few_prefixes ex _ _ (loaded_alike x) budget (answer.least x low);
-        reached = bound_of_lawful ex few sheet laws bound answer.bound;
+        reached = bound_of_lawful ex few sheet bound answer.bound;
       };
     }

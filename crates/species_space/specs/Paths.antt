@@ -1,5 +1,5 @@
 -- Paths of child numbers, and the prefixes that they lead to.
-use Rattle.std.specs.Prelude.{◌≡◌, ◌≤◌, ◌⊎◌, ℕ, suc, ◌+◌, Bool, true, false, not, ◌&&◌, ◌||◌, nat_lt, nat_le, List, [], ◌∷◌, ◌++◌, Option, Some, None, IsSomeAnd, IsTrue, length, reverse, slice_index_or, if◌then◌else◌, refl}
+use Rattle.std.specs.Prelude.{◌≡◌, ◌<◌, ◌≤◌, ℕ, suc, ◌+◌, Bool, true, false, not, ◌&&◌, ◌||◌, nat_lt, nat_le, List, [], ◌∷◌, ◌++◌, Option, Some, None, IsSomeAnd, IsTrue, length, reverse, slice_index_or, if◌then◌else◌, refl}
 use Rattle.std.specs.List.{list_any}
 use Rattle.std.proofs.Common.{ap, sym, ◌∙◌, arith}
 use Rattle.std.proofs.lemmas.List.{length-append}
@@ -7,7 +7,7 @@ use Rattle.std.proofs.lemmas.Bool.Decides.{nat_tests}
 use Rattle.fux_grid.specs.declared.cell.Cell.{Cell}
 use Rattle.fux_grid.specs.declared.exercise.Exercise.{Exercise}
 use Rattle.fux_grid.specs.Cells.{cell_in, cell_follows}
-use Rattle.fux_grid.specs.Columns.{newest_column, ColumnFollows}
+use Rattle.fux_grid.specs.Columns.{newest_column}
 use Rattle.fux_grid.specs.Exercises.{columns_in}
 use Rattle.fux_grid.specs.Menus.{menu_of}
 use Rattle.fux_grid.proofs.Histories.{reverse-push}
@@ -15,7 +15,7 @@ use Rattle.rule_law.specs.Growth.{any_below}
 use Rattle.rule_law.specs.Law.{first_true, second_true}
 use Rattle.penalty_sheet.specs.declared.sheet.Sheet.{Sheet}
 use Rattle.fux_judge.specs.Rules.{rules_read}
-use Rattle.fux_judge.specs.Penalties.{has_strict_break, newly_broken, newly_paid, paid}
+use Rattle.fux_judge.specs.Penalties.{has_strict_break, newly_broken}
 use Rattle.fux_judge.specs.Grows.{strict_break_grows}
 use Rattle.floor_tables.specs.Floors.{floor_of}
 
@@ -94,11 +94,14 @@ is_in_menus-append ex i (l ∷ path) k =
     ap (λ b. nat_lt l (length (menu_of ex i)) && b) (is_in_menus-append ex (suc i) path k ∙ ap (λ j. is_in_menus ex (suc i) path && nat_lt k (length (menu_of ex j))) e)
     ∙ sym (and_right (nat_lt l (length (menu_of ex i))) (is_in_menus ex (suc i) path) (nat_lt k (length (menu_of ex (i + suc (length path))))))
 
--- a column that may not follow a prefix, settles a strict break after it, or makes it no better than the best leaf, if there is one
-abbrev pub IsPassedAfter : Exercise → Sheet → List (List Cell) → Option ℕ → List Cell → Type 0
-IsPassedAfter ex sheet p best col =
-    ColumnFollows (newest_column (reverse p)) col
-    → (list_any (newly_broken ex p col) rules_read ≡ true) ⊎ IsSomeAnd best (λ value. value ≤ paid ex sheet p + newly_paid ex sheet p col)
+-- the child of this number is dead, or no better than the best leaf so far: its floor is no lower than that leaf's value
+abbrev pub IsNoBetter : Exercise → Sheet → List ℕ → Option ℕ → ℕ → Type 0
+IsNoBetter ex sheet path best k =
+    (floor : ℕ) → live_at ex sheet (path ++ k ∷ []) ≡ Some floor → IsSomeAnd best (λ value. value ≤ floor)
+
+-- and so is each from one number up to another
+abbrev pub ArePassed : Exercise → Sheet → List ℕ → Option ℕ → ℕ → ℕ → Type 0
+ArePassed ex sheet path best from to = (k : ℕ) → from ≤ k → k < to → IsNoBetter ex sheet path best k
 
 -- a path that is longer by a number is alive where the path is, it has room, the number is in the menu, and its column follows
 -- and settles no strict break

@@ -27,7 +27,7 @@ returns-then-not-cells_follow c = λ path at.
     let ex = c.args.exercise.now in
     let k = c.args.k in
     let same = c.as_slice.ensures.value ∙ chosen ex path k c.args.node.now.state.newest.len c.args.column.now.items (as_long ex c.args.sheet.now c.args.node.now path at) c.requires.column in
-    strays ex path k at.is_live c.args.sheet.now
+    strays ex path k at.alive c.args.sheet.now
     (λ follows.
     let P : List Cell → List Cell → Type 0 = λ b n. ColumnFollows b n in
     let there : ColumnFollows c.before-before.result.now c.as_slice.result.now = subst (P c.before-before.result.now) (sym same) (subst (λ b. P b (column_at ex path k)) (sym (c.before-before.ensures (prefix_at ex path) at.state)) follows) in
@@ -59,8 +59,8 @@ returns-then-breaks c = λ path at.
     let same_length : length child.path ≡ length path = sym longer ∙ long in
     let within : k < width_at ex path = subst (λ n. k < length (menu_of ex n)) same_length child.within in
     let there = subst (λ b. ColumnFollows b (column_at ex path k)) (c.before-before.ensures p at.state) (subst (ColumnFollows c.before-before.result.now) (c.as_slice.ensures.value ∙ same) (c.cells_follow.ensures.0 c.if-not-cells_follow.false)) in
-    let comes = subst (λ col. GoesOn ex p (col ∷ [])) (sym same) (goes_on_from ex path k c.requires.valid.most_voices at.is_live room within there) in
-    breaks ex path k at.is_live c.args.sheet.now
+    let comes = subst (λ col. GoesOn ex p (col ∷ [])) (sym same) (goes_on_from ex path k c.requires.valid.most_voices at.alive room within there) in
+    breaks ex path k at.alive c.args.sheet.now
     (ap (λ col. list_any (newly_broken ex p col) rules_read) (sym same)
     ∙ sym (any_read (has_rule broken) (newly_broken ex p c.args.column.now.items) (c.step-verdict.ensures.broken p at.state comes))
     ∙ sym c.breaks.ensures ∙ c.if-breaks.true)
@@ -81,12 +81,12 @@ returns c = λ path at.
     let broken = c.step-verdict.result.broken.bits in
     let before = c.before-before.ensures p at.state in
     let there = subst (λ b. ColumnFollows b (column_at ex path k)) before (subst (ColumnFollows c.before-before.result.now) (c.as_slice.ensures.value ∙ same) (c.cells_follow.ensures.0 c.if-not-cells_follow.false)) in
-    let comes = subst (λ col. GoesOn ex p (col ∷ [])) (sym same) (goes_on_from ex path k c.requires.valid.most_voices at.is_live room within there) in
+    let comes = subst (λ col. GoesOn ex p (col ∷ [])) (sym same) (goes_on_from ex path k c.requires.valid.most_voices at.alive room within there) in
     let unbroken =
     ap (λ col. list_any (newly_broken ex p col) rules_read) (sym same)
     ∙ sym (any_read (has_rule broken) (newly_broken ex p c.args.column.now.items) (c.step-verdict.ensures.broken p at.state comes))
     ∙ sym c.breaks.ensures ∙ c.if-breaks.false in
-    let live = goes ex path k at.is_live room within there unbroken in
+    let live = goes ex path k at.alive room within there unbroken in
     let next : p ++ c.args.column.now.items ∷ [] ≡ prefix_at ex (path ++ k ∷ []) = ap (λ col. p ++ col ∷ []) same ∙ sym (prefix_at-append ex path k) in
     let cost : c.args.node.now.paid + c.step-verdict.result.paid ≡ paid ex sheet (prefix_at ex (path ++ k ∷ [])) =
     ap (λ n. n + c.step-verdict.result.paid) at.paid ∙ sym (c.step-verdict.ensures.paid p at.state comes) ∙ ap (paid ex sheet) next in (

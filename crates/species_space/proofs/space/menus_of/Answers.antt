@@ -7,7 +7,7 @@ use Rattle.species_space.specs.declared.blocks.BlockMenu.{BlockMenu}
 use Rattle.species_space.specs.Blocks.{HasOneWidth, SkipDead}
 use Rattle.species_space.specs.Task.{AreMenus, SkipsDead}
 use Rattle.species_space.proofs.MenuSteps.{menus_more}
-use Rattle.species_space.proofs.space.SpeciesSpace.in_one_thread.Goals as goal
+use Rattle.species_space.proofs.space.menus_of.Goals as goal
 
 pub number_of-requires-clause-full : goal.number_of-requires-clause-full
 number_of-requires-clause-full c =
@@ -40,5 +40,5 @@ loop-i-preserved c =
       number_room = c.push_reserved.ensures.capacity ∙ old.number_room;
       few = omega (arith, named.more.1, old.few);
       counted = omega (arith, ap length pushed, length-append numbers (number ∷ []), old.counted);
-      kept = subst (AreMenus ex more) (sym pushed) (menus_more ex c.loop-i.menus.items more numbers number old.kept named.kept named.more.0 named.within value named.cut skips (omega (arith, wide, found.narrow)));
+      kept = subst (AreMenus ex more) (sym pushed) (menus_more ex c.loop-i.menus.items more numbers number old.kept named.kept named.more.0 named.within value named.cut skips (c.requires.narrow i (omega (arith, c.loop-i-test.true, c.args.exercise.ok, ?))));
     }

@@ -3,7 +3,7 @@ use Rattle.std.proofs.Common.{ℕ, ◌-◌, ◌<◌, ◌≤◌, [], length, slic
 use Rattle.fux_grid.specs.declared.exercise.Exercise.{Exercise}
 use Rattle.fux_grid.specs.Grid.{items_of}
 use Rattle.species_space.specs.Blocks.{SkipDead, StraysOrDies}
-use Rattle.species_space.proofs.space.next_choice.Given as goal
+use Rattle.species_space.proofs.walk.next_choice.Given as goal
 
 -- each column so far strays or dies
 abbrev pub invariant-loop-k : goal.invariant-loop-k

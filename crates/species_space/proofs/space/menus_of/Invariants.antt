@@ -1,7 +1,7 @@
 -- What the making of menus keeps.
 use Rattle.std.proofs.Common.{◌≡◌, ◌≤◌, length, vec_capacity}
 use Rattle.species_space.specs.Task.{AreMenus}
-use Rattle.species_space.proofs.space.SpeciesSpace.in_one_thread.Given as goal
+use Rattle.species_space.proofs.space.menus_of.Given as goal
 
 -- the number of a menu for each column so far, and room for the rest
 abbrev pub invariant-loop-i : goal.invariant-loop-i

@@ -3,7 +3,7 @@ use Rattle.std.proofs.lemmas.List.{length-map}
 use Rattle.fux_grid.specs.Grid.{items_of}
 use Rattle.species_space.specs.Blocks.{StraysOrDies}
 use Rattle.species_space.proofs.Passing.{passed_on}
-use Rattle.species_space.proofs.space.next_choice.Goals as goal
+use Rattle.species_space.proofs.walk.next_choice.Goals as goal
 
 pub loop-k-init : goal.loop-k-init
 loop-k-init c =
