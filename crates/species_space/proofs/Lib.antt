@@ -6,3 +6,4 @@ pub mod Passing
 pub mod PathSteps
 pub mod SameMenus
 pub mod ScoreSteps
+pub mod WalkSteps

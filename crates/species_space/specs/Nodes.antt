@@ -1,5 +1,5 @@
 -- What stands for a path while a search is there.
-use Rattle.std.specs.Prelude.{◌≡◌, ℕ, ◌*◌, ◌^◌, ◌≤◌, true, List, length}
+use Rattle.std.specs.Prelude.{◌≡◌, ℕ, ◌*◌, ◌≤◌, true, List, length}
 use Rattle.fux_grid.specs.declared.exercise.Exercise.{Exercise}
 use Rattle.penalty_sheet.specs.declared.sheet.Sheet.{Sheet}
 use Rattle.fux_judge.specs.Gauges.{least_of}
@@ -16,8 +16,3 @@ pub record IsNodeOf (ex : Exercise) (sheet : Sheet) (node : Node) (path : List �
   pub least : node.least ≡ least_of ex sheet (prefix_at ex path)
   pub few : node.paid ≤ 134217728 * length path
   pub little : node.least ≤ 334490640
-
--- its sums are small
-pub record IsSmall (node : Node) : Type 0 where
-  pub paid : node.paid ≤ 2 ^ 40
-  pub least : node.least ≤ 2 ^ 40

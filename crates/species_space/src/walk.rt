@@ -7,9 +7,10 @@ ghost use Rattle.fux_grid.specs.Exercises.{IsValid, columns_in};
 ghost use Rattle.fux_grid.specs.Grid.{items_of};
 ghost use Rattle.fux_grid.specs.Menus.{menu_of};
 ghost use Rattle.species_space.specs.Blocks.{IsBlockMenu, SkipDead, StraysOrDies};
-ghost use Rattle.species_space.specs.Nodes.{IsNodeOf, IsSmall};
+ghost use Rattle.species_space.specs.Nodes.{IsNodeOf};
 ghost use Rattle.species_space.specs.Paths.{ArePassed, IsNoBetter};
 ghost use Rattle.species_space.specs.Task.{SkipsDead};
+ghost use Rattle.tree_search.specs.Space.{IsInner};
 
 use crate::blocks::BlockMenu;
 use crate::node::Node;
@@ -54,10 +55,9 @@ fn limit_of(best: Option<u64>, at_least: u64) -> Option<u64>
 /// the rest of its column.
 #[inline]
 fn may_be_better(tables: &Tables<'_>, node: &Node, k: usize, best: Option<u64>) -> bool
-    requires place { node.now.state.newest.len < columns_in tables.now.exercise }
-    requires number { k < length (menu_of tables.now.exercise node.now.state.newest.len) }
-    requires small { IsSmall node.now }
     requires valid { IsValid tables.now.exercise }
+    requires node { IsInner (IsNodeOf tables.now.exercise tables.now.sheet node.now) (columns_in tables.now.exercise) }
+    requires number { k < length (menu_of tables.now.exercise node.now.state.newest.len) }
     ensures { OnFalse result ((path : List ℕ) → IsNodeOf tables.now.exercise tables.now.sheet node.now path
         → IsNoBetter tables.now.exercise tables.now.sheet path best k) }
 {
@@ -84,8 +84,7 @@ fn passed_over(
 ) -> Option<(usize, usize)>
     requires valid { IsValid exercise.now }
     requires tables { tables.now ≡ record { exercise = exercise.now; sheet = sheet.now } }
-    requires room { node.now.state.newest.len < columns_in exercise.now }
-    requires small { IsSmall node.now }
+    requires node { IsInner (IsNodeOf exercise.now sheet.now node.now) (columns_in exercise.now) }
     requires menu { items_of menu.now.columns.items ≡ menu_of exercise.now node.now.state.newest.len }
     requires cut { IsBlockMenu menu.now }
     requires within { k < length menu.now.columns.items }
@@ -115,8 +114,7 @@ pub(crate) fn next_unpruned(
 ) -> usize
     requires valid { IsValid exercise.now }
     requires tables { tables.now ≡ record { exercise = exercise.now; sheet = sheet.now } }
-    requires room { node.now.state.newest.len < columns_in exercise.now }
-    requires small { IsSmall node.now }
+    requires node { IsInner (IsNodeOf exercise.now sheet.now node.now) (columns_in exercise.now) }
     requires menu { items_of menu.now.columns.items ≡ menu_of exercise.now node.now.state.newest.len }
     requires cut { IsBlockMenu menu.now }
     requires skips { SkipsDead exercise.now node.now.state.newest.len menu.now }

@@ -9,13 +9,16 @@ use Rattle.fux_grid.specs.Menus.{menu_of}
 use Rattle.fux_grid.proofs.MenuLemmas.{menu_of-full}
 use Rattle.rule_law.specs.Voices.{has_rule}
 use Rattle.fux_judge.specs.Rules.{rules_read}
+use Rattle.fux_judge.specs.Gauges.{least_of}
 use Rattle.fux_judge.specs.Penalties.{newly_broken, paid}
+use Rattle.floor_tables.specs.Tables.{IsRest}
+use Rattle.species_space.specs.Live.{floor_of_rest}
 use Rattle.fux_judge.specs.States.{IsStateOf}
 use Rattle.species_space.specs.Grows.{live_some}
 use Rattle.species_space.specs.Paths.{prefix_at, column_at, width_at, prefix_at-append}
 use Rattle.rule_law.specs.Prefixes.{GoesOn}
 use Rattle.species_space.proofs.Alive.{goes_on_from, any_read}
-use Rattle.species_space.proofs.Children.{as_long, strays, breaks, goes}
+use Rattle.species_space.proofs.Children.{as_long, strays, breaks, goes, rest_there}
 use Rattle.species_space.proofs.space.child_by.Goals as goal
 
 -- the column is the one that the number chooses after the path
@@ -89,12 +92,22 @@ returns c = λ path at.
     let live = goes ex path k at.alive room within there unbroken in
     let next : p ++ c.args.column.now.items ∷ [] ≡ prefix_at ex (path ++ k ∷ []) = ap (λ col. p ++ col ∷ []) same ∙ sym (prefix_at-append ex path k) in
     let cost : c.args.node.now.paid + c.step-verdict.result.paid ≡ paid ex sheet (prefix_at ex (path ++ k ∷ [])) =
-    ap (λ n. n + c.step-verdict.result.paid) at.paid ∙ sym (c.step-verdict.ensures.paid p at.state comes) ∙ ap (paid ex sheet) next in (
+    ap (λ n. n + c.step-verdict.result.paid) at.paid ∙ sym (c.step-verdict.ensures.paid p at.state comes) ∙ ap (paid ex sheet) next in
+    let lines : c.step-verdict.result.least ≡ least_of ex sheet (prefix_at ex (path ++ k ∷ [])) =
+    c.step-verdict.ensures.least p at.state comes.longer ∙ ap (least_of ex sheet) next in
+    let is : IsRest ex sheet (length path) (column_at ex path k) (Some c.args.rest) =
+    subst (λ (n : ℕ). IsRest ex sheet n (column_at ex path k) (Some c.args.rest)) long
+    (subst (λ (col : List Cell). IsRest ex sheet c.args.node.now.state.newest.len col (Some c.args.rest)) same c.requires.rest) in
+    let rest = sym (rest_there ex path k at.alive sheet (Some c.args.rest) room is) in
+    let sum : paid ex sheet (prefix_at ex (path ++ k ∷ [])) + least_of ex sheet (prefix_at ex (path ++ k ∷ [])) + c.args.rest ≡ c.args.node.now.paid + c.step-verdict.result.paid + c.step-verdict.result.least + c.args.rest =
+    omega (arith, cost, lines) in (
       record {
         state = subst (λ q. IsStateOf ex q c.step-verdict.result.state) next (c.step-verdict.ensures.state p at.state);
-        is_live = live;
+        alive = live;
         paid = cost;
-        small = omega (arith, at.small, c.step-verdict.ensures.bound, length-append path (k ∷ []));
+        least = lines;
+        few = omega (arith, at.few, c.step-verdict.ensures.bound, length-append path (k ∷ []));
+        little = c.step-verdict.ensures.least_bound;
       },
-      live_some ex sheet (path ++ k ∷ []) live ∙ ap Some (sym cost),
+      live_some ex sheet (path ++ k ∷ []) live ∙ floor_of_rest ex sheet (prefix_at ex (path ++ k ∷ [])) c.args.rest rest ∙ ap Some sum,
     )

@@ -1,4 +1,4 @@
-use Rattle.std.proofs.Common.{◌≡◌, [], ◌∷◌, ap, length, slice_index_or, sym, ◌∙◌, subst, arith}
+use Rattle.std.proofs.Common.{◌≡◌, ◌≤◌, ℕ, [], ◌∷◌, ap, length, slice_index_or, sym, ◌∙◌, subst, arith}
 use Rattle.std.proofs.lemmas.List.{length-append, length-map}
 use Rattle.fux_grid.specs.Grid.{items_of}
 use Rattle.fux_grid.specs.Menus.{menu_of}
@@ -40,5 +40,5 @@ loop-i-preserved c =
       number_room = c.push_reserved.ensures.capacity ∙ old.number_room;
       few = omega (arith, named.more.1, old.few);
       counted = omega (arith, ap length pushed, length-append numbers (number ∷ []), old.counted);
-      kept = subst (AreMenus ex more) (sym pushed) (menus_more ex c.loop-i.menus.items more numbers number old.kept named.kept named.more.0 named.within value named.cut skips (c.requires.narrow i (omega (arith, c.loop-i-test.true, c.args.exercise.ok, ?))));
+      kept = subst (AreMenus ex more) (sym pushed) (menus_more ex c.loop-i.menus.items more numbers number old.kept named.kept named.more.0 named.within value named.cut skips (subst (λ (n : ℕ). length (menu_of ex n) ≤ 8192) here (c.requires.narrow i (omega (arith, c.loop-i-test.true)))));
     }
