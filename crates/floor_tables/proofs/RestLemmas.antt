@@ -7,10 +7,11 @@ use Rattle.fux_grid.specs.declared.exercise.Exercise.{Exercise}
 use Rattle.fux_grid.specs.Exercises.{columns_in}
 use Rattle.fux_grid.proofs.Histories.{reverse-push}
 use Rattle.penalty_sheet.specs.declared.sheet.Sheet.{Sheet}
+use Rattle.fux_judge.specs.Links.{last_column, newest_of}
 use Rattle.chain_sums.specs.Chains.{IsLeast}
 use Rattle.chain_sums.specs.Sums.{least_sum}
 use Rattle.chain_sums.proofs.SumLemmas.{least_is_sum}
-use Rattle.floor_tables.specs.Floors.{chains_of, last_column, newest_of, rest_of}
+use Rattle.floor_tables.specs.Floors.{chains_of, rest_of}
 use Rattle.floor_tables.specs.Tables.{IsRest, IsStart}
 
 pub last_column-push : (p : List (List Cell)) (col : List Cell) → last_column (p ++ col ∷ []) ≡ Some col
