@@ -4,6 +4,7 @@ pub mod ChargeLemmas
 pub mod CrateLemmas
 pub mod KeptLemmas
 pub mod LinkLemmas
+pub mod LinkPaid
 pub mod MomentLemmas
 pub mod PruningLemmas
 pub mod QuietLemmas

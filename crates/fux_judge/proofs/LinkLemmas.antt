@@ -4,6 +4,7 @@ use Rattle.std.proofs.Common.{◌≡◌, ◌≢◌, ℕ, ◌+◌, ◌*◌, ◌==
 use Rattle.std.specs.Prelude.{IsSomeAnd}
 use Rattle.std.specs.Borrow.{Bor}
 use Rattle.std.specs.List.{filter, list_any, sum_by}
+use Rattle.std.proofs.lemmas.Bool.{eqb-true}
 use Rattle.std.proofs.lemmas.List.Sums.{sum_by-cons}
 use Rattle.arrayvec.specs.ArrayVec.{ArrayVec}
 use Rattle.fux_grid.specs.declared.cell.Cell.{Cell}
@@ -37,10 +38,10 @@ use Rattle.fux_judge.specs.Facts.{rule_keeps}
 use Rattle.fux_judge.specs.Links.{behind_of, begun, breaks_between, breaks_strictly, column_of, column_rules, column_tolls, cost_between, given, is_of_column, is_of_neighbors, is_of_pair, is_rule_between, is_toll_between, link_of, pair_of, pair_rules, pair_tolls, together}
 use Rattle.fux_judge.specs.Neighbors.{IsLink, breaks_at_link, breaks_strictly_at_link, charge_at_link, cost_at_link}
 use Rattle.fux_judge.specs.Penalties.{is_strict_at}
-use Rattle.fux_judge.specs.Rules.{all_sets, breaks, costs, rule_at, rules_read, toll_at, tolls_read}
+use Rattle.fux_judge.specs.Rules.{all_sets, breaks, cost_enough, costs, enough, rule_at, rules_read, toll_at, tolls_read}
 use Rattle.fux_judge.specs.Steps.{sets_of_rule}
 use Rattle.fux_judge.proofs.CrateLemmas.{rule_of_crate, toll_of_crate}
-use Rattle.fux_judge.proofs.MomentLemmas.{not_equal}
+use Rattle.fux_judge.proofs.MomentLemmas.{cost_settled_soon, not_equal}
 
 -- ---- what is known behind one column
 
@@ -73,6 +74,11 @@ near_at row l link =
     ap (λ pitches. row l.place l.before.now pitches l.next.now) link.latest
     ∙ ap (λ cells. row l.place cells (sounding_pitches cells) l.next.now) link.before
     ∙ near_between row l.place l.prev l.next.now
+
+-- a row that reads no more than neighbors
+pub record HasNearRow {R : Type 0} (reads : Row R) : Type 0 where
+  pub row : NearRow R
+  pub is : reads ≡ whole_of row
 
 -- ---- a rule of neighbors, in the crate that has it
 
@@ -112,70 +118,127 @@ first_false : (a b : Bool) → (a || b) ≡ false → a ≡ false
 first_false true b h = cc
 first_false false b h = refl
 
+-- a row of neighbors that a rule of neighbors is read by
+module _ (rule : ℕ) (between : is_rule_between rule ≡ true) where
+  between_by : (crate : Option RuleCrate) → crate_with rule ≡ crate → is_of_neighbors (rule_by crate rule).kind ≡ true
+  between_by crate its = sym (ap (λ (r : RuleRow). is_of_neighbors r.kind) (rule_of_crate rule crate its)) ∙ between
+
+  soon_motion : crate_with rule ≡ Some Motion → rule_at rule ≡ motion_book.at_once_row rule
+  soon_motion its =
+      rule_of_crate rule (Some Motion) its
+      ∙ second (motion_book.is_late rule) (motion_book.late_row rule) (motion_book.at_once_row rule)
+      (other_row (motion_book.is_late rule) (motion_book.late_row rule) (motion_book.at_once_row rule) refl (between_by (Some Motion) its))
+
+  soon_dissonance : crate_with rule ≡ Some Dissonance → rule_at rule ≡ dissonance_book.at_once_row rule
+  soon_dissonance its =
+      rule_of_crate rule (Some Dissonance) its
+      ∙ second (dissonance_book.is_late rule) (dissonance_book.late_row rule) (dissonance_book.at_once_row rule)
+      (other_row (dissonance_book.is_late rule) (dissonance_book.late_row rule) (dissonance_book.at_once_row rule) refl (between_by (Some Dissonance) its))
+
+  not_late_rhythm : crate_with rule ≡ Some Rhythm → rhythm_book.is_late rule ≡ false
+  not_late_rhythm its =
+      other_row (rhythm_book.is_late rule) (rhythm_book.late_row rule) (rhythm_book.at_once_row rule) (rhythm_windows rule) (between_by (Some Rhythm) its)
+
+  soon_rhythm : crate_with rule ≡ Some Rhythm → rule_at rule ≡ rhythm_book.at_once_row rule
+  soon_rhythm its =
+      rule_of_crate rule (Some Rhythm) its
+      ∙ second (rhythm_book.is_late rule) (rhythm_book.late_row rule) (rhythm_book.at_once_row rule) (not_late_rhythm its)
+
+  -- so it is settled at its own column
+  soon_enough : (it : RuleRow) → rule_at rule ≡ it → it.late ≡ false → (ex : Exercise) (voices i : ℕ) (behind : List (List Cell)) (now : List Cell) (ahead : List (List Cell))
+      → enough rule ex voices i behind now ahead ≡ true
+  soon_enough it e soon = (rule_keeps rule).at_once (ap (λ (r : RuleRow). r.late) e ∙ soon)
+
+  pub settled_soon : (ex : Exercise) (voices i : ℕ) (behind : List (List Cell)) (now : List Cell) (ahead : List (List Cell))
+      → enough rule ex voices i behind now ahead ≡ true
+  settled_soon = at (crate_with rule) refl
+    where
+      at : (crate : Option RuleCrate) → crate_with rule ≡ crate → (ex : Exercise) (voices i : ℕ) (behind : List (List Cell)) (now : List Cell) (ahead : List (List Cell))
+          → enough rule ex voices i behind now ahead ≡ true
+      at None its = soon_enough no_rule (rule_of_crate rule None its) refl
+      at (Some Melody) its = soon_enough (rule_by (Some Melody) rule) (rule_of_crate rule (Some Melody) its) refl
+      at (Some Motion) its = soon_enough (motion_book.at_once_row rule) (soon_motion its) refl
+      at (Some Dissonance) its = soon_enough (dissonance_book.at_once_row rule) (soon_dissonance its) refl
+      at (Some Rhythm) its = soon_enough (rhythm_book.at_once_row rule) (soon_rhythm its) refl
+      at (Some Doubling) its = λ ex voices i behind now ahead.
+          ap (λ (r : RuleRow). r.enough ex voices i behind now ahead) (rule_of_crate rule (Some Doubling) its)
+
+  module _ (ex : Exercise) (voices : ℕ) where
+    of_row : (it : RuleRow) → rule_at rule ≡ it → breaks rule ex voices ≡ it.broken ex voices
+    of_row it e = ap (λ (r : RuleRow). r.broken ex voices) e
+
+    pub melody_row : crate_with rule ≡ Some Melody → breaks rule ex voices ≡ whole_of (melody.near_rows rule ex voices)
+    melody_row its =
+        of_row (rule_by (Some Melody) rule) (rule_of_crate rule (Some Melody) its)
+        ∙ second (melody.looks_back rule) (melody.window_rows rule ex voices) (whole_of (melody.near_rows rule ex voices))
+        (other_kind (melody.looks_back rule) Window Pair refl (between_by (Some Melody) its))
+
+    pub motion_row : crate_with rule ≡ Some Motion → breaks rule ex voices ≡ whole_of (motion.near_rows rule ex voices)
+    motion_row its = of_row (motion_book.at_once_row rule) (soon_motion its)
+
+    pub dissonance_row : crate_with rule ≡ Some Dissonance → breaks rule ex voices ≡ whole_of (dissonance.near_rows rule ex voices)
+    dissonance_row its = of_row (dissonance_book.at_once_row rule) (soon_dissonance its)
+
+    pub rhythm_row : crate_with rule ≡ Some Rhythm → breaks rule ex voices ≡ whole_of (rhythm.near_rows rule ex voices)
+    rhythm_row its =
+        let other : (rule == 3) ≡ false = first_false (rule == 3) ((rule == 22) || (rule == 25)) (grouped (rule == 3) (rule == 22) (rule == 25) (not_late_rhythm its)) in
+        of_row (rhythm_book.at_once_row rule) (soon_rhythm its) ∙ ap (λ b. chosen b) other
+      where
+        grouped : (a b c : Bool) → (a || b || c) ≡ false → (a || (b || c)) ≡ false
+        grouped true b c h = cc
+        grouped false b c h = h
+
+        chosen : Bool → Row Bool
+        chosen b i behind now ahead =
+            if b then rhythm.shape_row ex voices i behind now ahead
+            else whole_of (rhythm.near_rows rule ex voices) i behind now ahead
+
+    pub doubling_row : crate_with rule ≡ Some Doubling → breaks rule ex voices ≡ whole_of (doubling.doubling_rows ex voices)
+    doubling_row its = of_row (rule_by (Some Doubling) rule) (rule_of_crate rule (Some Doubling) its)
+
+    pub none_row : crate_with rule ≡ None → breaks rule ex voices ≡ whole_of (λ i before previous now. false)
+    none_row its = of_row no_rule (rule_of_crate rule None its)
+
+    pub has_row : HasNearRow (breaks rule ex voices)
+    has_row = at (crate_with rule) refl
+      where
+        at : (crate : Option RuleCrate) → crate_with rule ≡ crate → HasNearRow (breaks rule ex voices)
+        at None its = record { row = λ i before previous now. false; is = none_row its }
+        at (Some Melody) its = record { row = melody.near_rows rule ex voices; is = melody_row its }
+        at (Some Motion) its = record { row = motion.near_rows rule ex voices; is = motion_row its }
+        at (Some Dissonance) its = record { row = dissonance.near_rows rule ex voices; is = dissonance_row its }
+        at (Some Rhythm) its = record { row = rhythm.near_rows rule ex voices; is = rhythm_row its }
+        at (Some Doubling) its = record { row = doubling.doubling_rows ex voices; is = doubling_row its }
+
+-- so what a link reads is what the table says
 module _ (rule voices : ℕ) (l : Link) (link : IsLink l) (between : is_rule_between rule ≡ true) where
-  -- a row that the rule is read by
   broken_at : (row : NearRow Bool) → breaks rule l.exercise.now voices ≡ whole_of row → row l.place l.before.now l.latest.pitches l.next.now ≡ breaks_at_link l rule voices
   broken_at row e =
       near_at row l link
       ∙ sym (ap (λ (r : Row Bool). r l.place (behind_of (given l.prev)) l.next.now []) e)
       ∙ sym (ap (λ b. b && breaks rule l.exercise.now voices l.place (behind_of (given l.prev)) l.next.now []) between)
 
-  of_row : (it : RuleRow) → rule_at rule ≡ it → breaks rule l.exercise.now voices ≡ it.broken l.exercise.now voices
-  of_row it e = ap (λ (r : RuleRow). r.broken l.exercise.now voices) e
-
-  module _ (crate : Option RuleCrate) (its : crate_with rule ≡ crate) where
-    between_by : is_of_neighbors (rule_by crate rule).kind ≡ true
-    between_by = sym (ap (λ (r : RuleRow). is_of_neighbors r.kind) (rule_of_crate rule crate its)) ∙ between
-
   pub melody_at : crate_with rule ≡ Some Melody
       → melody.near_rows rule l.exercise.now voices l.place l.before.now l.latest.pitches l.next.now ≡ breaks_at_link l rule voices
-  melody_at its =
-      let near : melody.looks_back rule ≡ false = other_kind (melody.looks_back rule) Window Pair refl (between_by (Some Melody) its) in
-      broken_at (melody.near_rows rule l.exercise.now voices)
-      (of_row (rule_by (Some Melody) rule) (rule_of_crate rule (Some Melody) its)
-      ∙ second (melody.looks_back rule) (melody.window_rows rule l.exercise.now voices) (whole_of (melody.near_rows rule l.exercise.now voices)) near)
+  melody_at its = broken_at (melody.near_rows rule l.exercise.now voices) (melody_row rule between l.exercise.now voices its)
 
   pub motion_at : crate_with rule ≡ Some Motion
       → motion.near_rows rule l.exercise.now voices l.place l.before.now l.latest.pitches l.next.now ≡ breaks_at_link l rule voices
-  motion_at its =
-      let soon = other_row (motion_book.is_late rule) (motion_book.late_row rule) (motion_book.at_once_row rule) refl (between_by (Some Motion) its) in
-      broken_at (motion.near_rows rule l.exercise.now voices)
-      (of_row (motion_book.at_once_row rule)
-      (rule_of_crate rule (Some Motion) its ∙ second (motion_book.is_late rule) (motion_book.late_row rule) (motion_book.at_once_row rule) soon))
+  motion_at its = broken_at (motion.near_rows rule l.exercise.now voices) (motion_row rule between l.exercise.now voices its)
 
   pub dissonance_at : crate_with rule ≡ Some Dissonance
       → dissonance.near_rows rule l.exercise.now voices l.place l.before.now l.latest.pitches l.next.now ≡ breaks_at_link l rule voices
-  dissonance_at its =
-      let soon = other_row (dissonance_book.is_late rule) (dissonance_book.late_row rule) (dissonance_book.at_once_row rule) refl (between_by (Some Dissonance) its) in
-      broken_at (dissonance.near_rows rule l.exercise.now voices)
-      (of_row (dissonance_book.at_once_row rule)
-      (rule_of_crate rule (Some Dissonance) its ∙ second (dissonance_book.is_late rule) (dissonance_book.late_row rule) (dissonance_book.at_once_row rule) soon))
+  dissonance_at its = broken_at (dissonance.near_rows rule l.exercise.now voices) (dissonance_row rule between l.exercise.now voices its)
 
   pub rhythm_at : crate_with rule ≡ Some Rhythm
       → rhythm.near_rows rule l.exercise.now voices l.place l.before.now l.latest.pitches l.next.now ≡ breaks_at_link l rule voices
-  rhythm_at its =
-      let soon = other_row (rhythm_book.is_late rule) (rhythm_book.late_row rule) (rhythm_book.at_once_row rule) (rhythm_windows rule) (between_by (Some Rhythm) its) in
-      let other : (rule == 3) ≡ false = first_false (rule == 3) ((rule == 22) || (rule == 25)) (grouped (rule == 3) (rule == 22) (rule == 25) soon) in
-      broken_at (rhythm.near_rows rule l.exercise.now voices)
-      (of_row (rhythm_book.at_once_row rule)
-      (rule_of_crate rule (Some Rhythm) its ∙ second (rhythm_book.is_late rule) (rhythm_book.late_row rule) (rhythm_book.at_once_row rule) soon)
-      ∙ ap (λ b. chosen b) other)
-    where
-      grouped : (a b c : Bool) → (a || b || c) ≡ false → (a || (b || c)) ≡ false
-      grouped true b c h = cc
-      grouped false b c h = h
-
-      chosen : Bool → Row Bool
-      chosen b i behind now ahead =
-          if b then rhythm.shape_row l.exercise.now voices i behind now ahead
-          else whole_of (rhythm.near_rows rule l.exercise.now voices) i behind now ahead
+  rhythm_at its = broken_at (rhythm.near_rows rule l.exercise.now voices) (rhythm_row rule between l.exercise.now voices its)
 
   pub doubling_at : crate_with rule ≡ Some Doubling → doubling.breaks_in_column l.exercise.now voices l.place l.next.now ≡ breaks_at_link l rule voices
-  doubling_at its =
-      broken_at (doubling.doubling_rows l.exercise.now voices) (of_row (rule_by (Some Doubling) rule) (rule_of_crate rule (Some Doubling) its))
+  doubling_at its = broken_at (doubling.doubling_rows l.exercise.now voices) (doubling_row rule between l.exercise.now voices its)
 
   pub none_at : crate_with rule ≡ None → false ≡ breaks_at_link l rule voices
-  none_at its = broken_at (λ i before previous now. false) (of_row no_rule (rule_of_crate rule None its))
+  none_at its = broken_at (λ i before previous now. false) (none_row rule between l.exercise.now voices its)
 
 -- only the sets of its form need be tried
 pub for_all_sets : (ex : Exercise) (i : ℕ) (before : Option (List Cell)) (next : List Cell) (rule : ℕ)
@@ -210,6 +273,75 @@ module _ (l : Link) (ex : Bor Exercise) (i : ℕ) (prev : Option (Bor (ArrayVec 
 
 -- ---- a toll of neighbors, in the crate that has it
 
+module _ (toll : ℕ) (between : is_toll_between toll ≡ true) where
+  toll_between_by : (crate : Option RuleCrate) → crate_with_toll toll ≡ crate → is_of_neighbors (toll_by crate toll).kind ≡ true
+  toll_between_by crate its = sym (ap (λ (t : TollRow). is_of_neighbors t.kind) (toll_of_crate toll crate its)) ∙ between
+
+  -- it isn't Q16, so it is settled at its own column
+  not_pattern : (toll == 16) ≡ false
+  unfolding toll_at
+  not_pattern = at (toll == 16) refl
+    where
+      at : (b : Bool) → (toll == 16) ≡ b → b ≡ false
+      at true e = let P : ℕ → Type 0 = λ t. is_toll_between t ≡ true in let both : false ≡ true = subst P (eqb-true toll 16 e) between in cc
+      at false e = refl
+
+  pub toll_settled_soon : (ex : Exercise) (i : ℕ) (behind : List (List Cell)) (now : List Cell) (ahead : List (List Cell)) → cost_enough toll ex i behind now ahead ≡ true
+  toll_settled_soon = cost_settled_soon toll not_pattern
+
+  module _ (ex : Exercise) where
+    of_toll : (it : TollRow) → toll_at toll ≡ it → costs toll ex ≡ it.cost ex
+    of_toll it e = ap (λ (t : TollRow). t.cost ex) e
+
+    pub melody_toll : crate_with_toll toll ≡ Some Melody → costs toll ex ≡ whole_of (melody.toll_rows toll ex)
+    melody_toll its =
+        of_toll (toll_by (Some Melody) toll) (toll_of_crate toll (Some Melody) its)
+        ∙ second (toll == 13) (melody.open_leaps ex) (whole_of (melody.toll_rows toll ex))
+        (other_kind (toll == 13) Window Pair refl (toll_between_by (Some Melody) its))
+
+    motion_choice : (b : Bool) → (toll == 12) ≡ b → crate_with_toll toll ≡ Some Motion → toll_at toll ≡ (if b then motion_book.late_toll toll else motion_book.at_once_toll toll)
+    motion_choice b e its = toll_of_crate toll (Some Motion) its ∙ ap (λ b. if b then motion_book.late_toll toll else motion_book.at_once_toll toll) e
+
+    -- Q12, and the others
+    pub inner_toll_row : crate_with_toll toll ≡ Some Motion → (toll == 12) ≡ true → costs toll ex ≡ whole_of (inner_toll ex)
+    inner_toll_row its is = of_toll (motion_book.late_toll toll) (motion_choice true is its)
+
+    pub motion_toll : crate_with_toll toll ≡ Some Motion → (toll == 12) ≡ false → costs toll ex ≡ whole_of (motion.toll_rows toll ex)
+    motion_toll its other =
+        let row : toll_at toll ≡ motion_book.at_once_toll toll = motion_choice false other its in
+        let near : (toll == 14) ≡ false = other_kind (toll == 14) Window Pair refl (sym (ap (λ (t : TollRow). is_of_neighbors t.kind) row) ∙ between) in
+        of_toll (motion_book.at_once_toll toll) row ∙ ap (λ b. chosen b) near
+      where
+        chosen : Bool → Row ℕ
+        chosen b i behind now ahead = if b then motion.imperfect_runs i behind now else whole_of (motion.toll_rows toll ex) i behind now ahead
+
+    pub dissonance_toll : crate_with_toll toll ≡ Some Dissonance → costs toll ex ≡ whole_of (dissonance.toll_rows toll ex)
+    dissonance_toll its = of_toll (toll_by (Some Dissonance) toll) (toll_of_crate toll (Some Dissonance) its)
+
+    -- none of rhythm
+    pub rhythm_toll : crate_with_toll toll ≡ Some Rhythm → costs toll ex ≡ whole_of (λ i before previous now. 0)
+    rhythm_toll its =
+        let soon = other_toll (rhythm_book.is_late_toll toll) (rhythm_book.late_toll toll) no_toll (rhythm_window_tolls toll) (toll_between_by (Some Rhythm) its) in
+        of_toll no_toll (toll_of_crate toll (Some Rhythm) its ∙ second (rhythm_book.is_late_toll toll) (rhythm_book.late_toll toll) no_toll soon)
+
+    pub doubling_toll : crate_with_toll toll ≡ Some Doubling → costs toll ex ≡ whole_of (doubling.doubling_tolls toll ex)
+    doubling_toll its = of_toll (toll_by (Some Doubling) toll) (toll_of_crate toll (Some Doubling) its)
+
+    pub none_toll : crate_with_toll toll ≡ None → costs toll ex ≡ whole_of (λ i before previous now. 0)
+    none_toll its = of_toll no_toll (toll_of_crate toll None its)
+
+    pub has_toll_row : HasNearRow (costs toll ex)
+    has_toll_row = at (crate_with_toll toll) refl (toll == 12) refl
+      where
+        at : (crate : Option RuleCrate) → crate_with_toll toll ≡ crate → (b : Bool) → (toll == 12) ≡ b → HasNearRow (costs toll ex)
+        at None its b e = record { row = λ i before previous now. 0; is = none_toll its }
+        at (Some Melody) its b e = record { row = melody.toll_rows toll ex; is = melody_toll its }
+        at (Some Motion) its true e = record { row = inner_toll ex; is = inner_toll_row its e }
+        at (Some Motion) its false e = record { row = motion.toll_rows toll ex; is = motion_toll its e }
+        at (Some Dissonance) its b e = record { row = dissonance.toll_rows toll ex; is = dissonance_toll its }
+        at (Some Rhythm) its b e = record { row = λ i before previous now. 0; is = rhythm_toll its }
+        at (Some Doubling) its b e = record { row = doubling.doubling_tolls toll ex; is = doubling_toll its }
+
 module _ (toll : ℕ) (l : Link) (link : IsLink l) (between : is_toll_between toll ≡ true) where
   cost_by : (row : NearRow ℕ) → costs toll l.exercise.now ≡ whole_of row → row l.place l.before.now l.latest.pitches l.next.now ≡ cost_at_link l toll
   cost_by row e =
@@ -217,57 +349,30 @@ module _ (toll : ℕ) (l : Link) (link : IsLink l) (between : is_toll_between to
       ∙ sym (ap (λ (r : Row ℕ). r l.place (behind_of (given l.prev)) l.next.now []) e)
       ∙ sym (ap (λ b. if b then costs toll l.exercise.now l.place (behind_of (given l.prev)) l.next.now [] else 0) between)
 
-  of_toll : (it : TollRow) → toll_at toll ≡ it → costs toll l.exercise.now ≡ it.cost l.exercise.now
-  of_toll it e = ap (λ (t : TollRow). t.cost l.exercise.now) e
-
-  module _ (crate : Option RuleCrate) (its : crate_with_toll toll ≡ crate) where
-    toll_between_by : is_of_neighbors (toll_by crate toll).kind ≡ true
-    toll_between_by = sym (ap (λ (t : TollRow). is_of_neighbors t.kind) (toll_of_crate toll crate its)) ∙ between
-
   pub melody_costs : crate_with_toll toll ≡ Some Melody
       → melody.toll_rows toll l.exercise.now l.place l.before.now l.latest.pitches l.next.now ≡ cost_at_link l toll
-  melody_costs its =
-      let near : (toll == 13) ≡ false = other_kind (toll == 13) Window Pair refl (toll_between_by (Some Melody) its) in
-      cost_by (melody.toll_rows toll l.exercise.now)
-      (of_toll (toll_by (Some Melody) toll) (toll_of_crate toll (Some Melody) its)
-      ∙ second (toll == 13) (melody.open_leaps l.exercise.now) (whole_of (melody.toll_rows toll l.exercise.now)) near)
+  melody_costs its = cost_by (melody.toll_rows toll l.exercise.now) (melody_toll toll between l.exercise.now its)
 
-  -- Q12, and the others
   pub inner_costs : crate_with_toll toll ≡ Some Motion → toll ≡ 12
       → inner_toll l.exercise.now l.place l.before.now l.latest.pitches l.next.now ≡ cost_at_link l toll
-  inner_costs its is =
-      cost_by (inner_toll l.exercise.now)
-      (of_toll (motion_book.late_toll toll)
-      (toll_of_crate toll (Some Motion) its ∙ ap (λ b. if b then motion_book.late_toll toll else motion_book.at_once_toll toll) (ap (λ t. t == 12) is)))
+  inner_costs its is = cost_by (inner_toll l.exercise.now) (inner_toll_row toll between l.exercise.now its (ap (λ t. t == 12) is))
 
   pub motion_costs : crate_with_toll toll ≡ Some Motion → toll ≢ 12
       → motion.toll_rows toll l.exercise.now l.place l.before.now l.latest.pitches l.next.now ≡ cost_at_link l toll
-  motion_costs its other =
-      let row : toll_at toll ≡ motion_book.at_once_toll toll = toll_of_crate toll (Some Motion) its ∙ ap (λ b. if b then motion_book.late_toll toll else motion_book.at_once_toll toll) (not_equal toll 12 other) in
-      let near : (toll == 14) ≡ false = other_kind (toll == 14) Window Pair refl (sym (ap (λ (t : TollRow). is_of_neighbors t.kind) row) ∙ between) in
-      cost_by (motion.toll_rows toll l.exercise.now) (of_toll (motion_book.at_once_toll toll) row ∙ ap (λ b. chosen b) near)
-    where
-      chosen : Bool → Row ℕ
-      chosen b i behind now ahead = if b then motion.imperfect_runs i behind now else whole_of (motion.toll_rows toll l.exercise.now) i behind now ahead
+  motion_costs its other = cost_by (motion.toll_rows toll l.exercise.now) (motion_toll toll between l.exercise.now its (not_equal toll 12 other))
 
   pub dissonance_costs : crate_with_toll toll ≡ Some Dissonance
       → dissonance.toll_rows toll l.exercise.now l.place l.before.now l.latest.pitches l.next.now ≡ cost_at_link l toll
-  dissonance_costs its =
-      cost_by (dissonance.toll_rows toll l.exercise.now) (of_toll (toll_by (Some Dissonance) toll) (toll_of_crate toll (Some Dissonance) its))
+  dissonance_costs its = cost_by (dissonance.toll_rows toll l.exercise.now) (dissonance_toll toll between l.exercise.now its)
 
-  -- none of rhythm
   pub rhythm_costs : crate_with_toll toll ≡ Some Rhythm → 0 ≡ cost_at_link l toll
-  rhythm_costs its =
-      let soon = other_toll (rhythm_book.is_late_toll toll) (rhythm_book.late_toll toll) no_toll (rhythm_window_tolls toll) (toll_between_by (Some Rhythm) its) in
-      cost_by (λ i before previous now. 0)
-      (of_toll no_toll (toll_of_crate toll (Some Rhythm) its ∙ second (rhythm_book.is_late_toll toll) (rhythm_book.late_toll toll) no_toll soon))
+  rhythm_costs its = cost_by (λ i before previous now. 0) (rhythm_toll toll between l.exercise.now its)
 
   pub doubling_costs : crate_with_toll toll ≡ Some Doubling → doubling.cost_of_column toll l.exercise.now l.place l.next.now ≡ cost_at_link l toll
-  doubling_costs its =
-      cost_by (doubling.doubling_tolls toll l.exercise.now) (of_toll (toll_by (Some Doubling) toll) (toll_of_crate toll (Some Doubling) its))
+  doubling_costs its = cost_by (doubling.doubling_tolls toll l.exercise.now) (doubling_toll toll between l.exercise.now its)
 
   pub none_costs : crate_with_toll toll ≡ None → 0 ≡ cost_at_link l toll
-  none_costs its = cost_by (λ i before previous now. 0) (of_toll no_toll (toll_of_crate toll None its))
+  none_costs its = cost_by (λ i before previous now. 0) (none_toll toll between l.exercise.now its)
 
 -- ---- a list by kinds
 
