@@ -1,6 +1,6 @@
 -- Floors: what every setting that a prefix begins still costs. A prefix is live where no strict break is settled in it and a chain of
 -- columns goes on from it to the end; its floor is what is paid, what its lines come to at least, and the least sum over such chains.
-use Rattle.std.specs.Prelude.{◌≡◌, ◌≢◌, ℕ, ◌+◌, ◌-◌, ◌≤◌, false, List, [], ◌∷◌, ◌++◌, Option, Some, None, IsSome, IsSomeAnd, length, option_map}
+use Rattle.std.specs.Prelude.{◌≡◌, ◌≢◌, ℕ, ◌+◌, ◌-◌, ◌≤◌, false, List, [], ◌∷◌, ◌++◌, Option, IsSome, IsSomeAnd, length, option_map}
 use Rattle.std.specs.List.{AllByRecursion}
 use Rattle.fux_grid.specs.declared.cell.Cell.{Cell}
 use Rattle.fux_grid.specs.declared.exercise.Exercise.{Exercise}
