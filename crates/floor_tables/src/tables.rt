@@ -6,6 +6,7 @@ ghost use Rattle.fux_grid.specs.Exercises.{IsValid, columns_in};
 ghost use Rattle.fux_grid.specs.Menus.{menu_of};
 ghost use Rattle.floor_tables.specs.Tables.{AreNarrow, IsRest, IsStart, TellsWidth};
 
+use crate::links::ColumnLinks;
 use chain_sums::TableFault;
 use fux_grid::{Column, Exercise};
 use penalty_sheet::Sheet;
@@ -38,7 +39,7 @@ impl<'a> Model for Tables<'a> {
 /// The tables of an exercise by a sheet. All memory is taken here.
 pub fn fill_tables<'a, R: Threads + Sync>(
     _rt: &R,
-    _alloc: Global,
+    alloc: Global,
     ex: &'a Exercise,
     sheet: &'a Sheet,
 ) -> Result<Tables<'a>, TableFault>
@@ -47,8 +48,13 @@ pub fn fill_tables<'a, R: Threads + Sync>(
     ensures narrow { OnOk result (AreNarrow ex.entry.now) }
     ensures wide { IfErr result (TellsWidth ex.entry.now) }
 {
-    let _ = (ex.bars, sheet.weights);
-    Err(TableFault::Memory)
+    let links = ColumnLinks::new(ex, sheet);
+    let sums = chain_sums::Tables::fill(alloc, &links)?;
+    Ok(Tables {
+        exercise: ex,
+        sheet,
+        sums,
+    })
 }
 
 impl<'a> Tables<'a> {

@@ -3,6 +3,8 @@ pub mod AlwaysLemmas
 pub mod ChargeLemmas
 pub mod CrateLemmas
 pub mod KeptLemmas
+pub mod LinkLemmas
+pub mod LinkPaid
 pub mod MomentLemmas
 pub mod PruningLemmas
 pub mod QuietLemmas

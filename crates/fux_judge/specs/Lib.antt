@@ -10,6 +10,7 @@ pub mod Kept
 pub mod Lawful
 pub mod Links
 pub mod Moments
+pub mod Neighbors
 pub mod Parts
 pub mod Penalties
 pub mod Pruning

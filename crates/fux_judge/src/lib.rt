@@ -5,6 +5,7 @@ mod always;
 mod kept;
 mod late;
 mod late_tolls;
+mod link;
 mod moment;
 mod numbers;
 mod pruning;
@@ -16,6 +17,7 @@ mod verdict;
 mod whole;
 
 pub use always::is_always_dead;
+pub use link::{column_cost, link_cost, pair_cost};
 pub use numbers::{every_rule, every_toll};
 pub use pruning::pruned_within;
 pub use state::State;

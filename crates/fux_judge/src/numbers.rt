@@ -4,6 +4,8 @@
 ghost use Rattle.std.specs.Prelude.{◌≡◌, ◌≤◌, ◌&&◌, not, nat_le, nat_lt, ℕ, IsTrue, length};
 ghost use Rattle.std.specs.List.{filter, list_all, range_with_len};
 ghost use Rattle.fux_judge.specs.Crates.{crate_with, crate_with_toll};
+ghost use Rattle.fux_judge.specs.Links as links;
+ghost use Rattle.fux_judge.specs.Links.{is_rule_between, is_toll_between};
 ghost use Rattle.fux_judge.specs.Kept.{rules_at_a_bar, rules_at_the_end, rules_within_bars};
 ghost use Rattle.fux_judge.specs.Rules as rules;
 ghost use Rattle.fux_judge.specs.Rules.{all_rules, is_late, is_late_toll, late_rules, late_tolls, rule_at, rules_at_once, rules_read, tolls_read};
@@ -40,11 +42,23 @@ const AT_A_BAR: [u8; 2] = [11, 14];
 /// Within a bar there is none of these, nor where no two voices sound the same key or clash.
 const WITHIN_BARS: [u8; 0] = [];
 
+/// The rules that a column decides by itself.
+const COLUMN_RULES: [u8; 6] = [10, 11, 13, 14, 23, 24];
+
+/// Those that need the column before it too.
+const PAIR_RULES: [u8; 6] = [4, 5, 12, 16, 17, 26];
+
 /// All tolls that are read.
 const TOLLS: [u8; 16] = [1, 2, 3, 4, 5, 6, 7, 8, 9, 10, 11, 12, 13, 14, 15, 16];
 
 /// The tolls that may be settled later than at their own column.
 const LATE_TOLLS: [u8; 7] = [3, 4, 5, 6, 12, 15, 16];
+
+/// The tolls that a column decides by itself.
+const COLUMN_TOLLS: [u8; 6] = [1, 2, 3, 4, 5, 6];
+
+/// Those that need the column before it too.
+const PAIR_TOLLS: [u8; 6] = [7, 8, 9, 10, 11, 12];
 
 /// All rules that are read, by ascending numbers: those of all crates.
 #[tactic(auto, unfolding(crate::specs::Rules::rules_read))]
@@ -103,6 +117,24 @@ pub(crate) fn left_within_bars() -> &'static [u8]
     &WITHIN_BARS
 }
 
+/// The rules that a column decides by itself.
+#[tactic(auto, unfolding(crate::specs::Links::column_rules, crate::specs::Rules::rules_read, crate::specs::Rules::rule_at))]
+pub(crate) fn column_rules() -> &'static [u8]
+    ensures value { result.now ≡ links.column_rules }
+    ensures kinds { IsTrue (list_all is_rule_between result.now) }
+{
+    &COLUMN_RULES
+}
+
+/// Those that need the column before it too.
+#[tactic(auto, unfolding(crate::specs::Links::pair_rules, crate::specs::Rules::rules_read, crate::specs::Rules::rule_at))]
+pub(crate) fn pair_rules() -> &'static [u8]
+    ensures value { result.now ≡ links.pair_rules }
+    ensures kinds { IsTrue (list_all is_rule_between result.now) }
+{
+    &PAIR_RULES
+}
+
 /// All tolls that are read, by ascending numbers: those of all crates.
 #[tactic(auto, unfolding(crate::specs::Rules::tolls_read))]
 pub fn every_toll() -> &'static [u8]
@@ -122,6 +154,28 @@ pub(crate) fn every_late_toll() -> &'static [u8]
     ensures few { length result.now ≤ 8 }
 {
     &LATE_TOLLS
+}
+
+/// The tolls that a column decides by itself.
+#[tactic(auto, unfolding(crate::specs::Links::column_tolls, crate::specs::Rules::tolls_read, crate::specs::Rules::toll_at))]
+pub(crate) fn column_tolls() -> &'static [u8]
+    ensures value { result.now ≡ links.column_tolls }
+    ensures kinds { IsTrue (list_all is_toll_between result.now) }
+    ensures numbers { IsTrue (list_all (λ toll. nat_le 1 toll && nat_le toll 20) result.now) }
+    ensures few { length result.now ≤ 20 }
+{
+    &COLUMN_TOLLS
+}
+
+/// Those that need the column before it too.
+#[tactic(auto, unfolding(crate::specs::Links::pair_tolls, crate::specs::Rules::tolls_read, crate::specs::Rules::toll_at))]
+pub(crate) fn pair_tolls() -> &'static [u8]
+    ensures value { result.now ≡ links.pair_tolls }
+    ensures kinds { IsTrue (list_all is_toll_between result.now) }
+    ensures numbers { IsTrue (list_all (λ toll. nat_le 1 toll && nat_le toll 20) result.now) }
+    ensures few { length result.now ≤ 20 }
+{
+    &PAIR_TOLLS
 }
 
 /// Whether a rule is of melody.
