@@ -13,6 +13,7 @@ mod reading;
 mod state;
 mod tolls;
 mod total;
+mod unbroken;
 mod verdict;
 mod whole;
 
@@ -22,5 +23,6 @@ pub use numbers::{every_rule, every_toll};
 pub use pruning::pruned_within;
 pub use state::State;
 pub use total::penalty;
+pub use unbroken::step_unbroken;
 pub use verdict::{Verdict, step};
 pub use whole::{cost_in, is_broken_in, is_cost_settled_in, is_settled_in};

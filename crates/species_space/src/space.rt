@@ -19,7 +19,7 @@ ghost use Rattle.tree_search.specs.Space.{HasChild};
 use crate::blocks::{BlockMenu, column_at};
 use crate::node::Node;
 use fux_grid::{Cell, Column, Exercise, MenuFault, Place, cells_follow, menu};
-use fux_judge::{State, is_always_dead, pruned_within, step};
+use fux_judge::{State, is_always_dead, pruned_within, step_unbroken};
 use fux_pitch::Memory;
 use penalty_sheet::Sheet;
 use std::alloc::{AllocFailed, Global};
@@ -257,10 +257,9 @@ fn child_by(
     if !cells_follow(before, column.as_slice()) {
         return None;
     }
-    let verdict = step(exercise, sheet, &node.state, column);
-    if verdict.breaks() {
+    let Some(verdict) = step_unbroken(exercise, sheet, &node.state, column) else {
         return None;
-    }
+    };
     let paid = node.paid + verdict.paid;
     let child = Node {
         state: verdict.state,
