@@ -35,4 +35,10 @@ pub mod OnlyRanges
 pub mod OnlySing
 pub mod OnlySetting
 pub mod OnlyText
+pub mod FaultSteps
+pub mod FaultyHead
+pub mod FaultyRanges
+pub mod FaultyRelaxes
+pub mod FaultySing
+pub mod FaultyText
 pub mod ReadTexts

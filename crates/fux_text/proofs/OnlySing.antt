@@ -312,7 +312,7 @@ sung_words-only count bar done at (w ∷ ws) cells low e =
     word-only count bar done w (map (λ x. x.text) ws) cells step.0 low step.1
     (λ long. sung_words-only count step.0.0 step.0.1 at ws cells long step.2)
 
-sung_in-only : (count v : ℕ) (at : LineWords) (cells : List Cell) → sung_in count at ≡ Ok cells
+pub sung_in-only : (count v : ℕ) (at : LineWords) (cells : List Cell) → sung_in count at ≡ Ok cells
     → IsSung count v (codes "sing" ∷ decimal v ∷ texts at) cells
 unfolding sung_in
 sung_in-only count v at cells e =
