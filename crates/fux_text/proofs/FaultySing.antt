@@ -23,6 +23,7 @@ use Rattle.fux_text.specs.Words.{texts}
 use Rattle.fux_text.proofs.Bounds.{within-bounds}
 use Rattle.fux_text.proofs.FaultSteps.{fails_missing, faulty, faulty_line, gives_word, lawful, lawful_line, number-reads, number_given, number_lacks, one_some, reads_line, word-reads, word_lacks}
 use Rattle.fux_text.proofs.FaultyHead.{bind_faulty, in_row}
+use Rattle.fux_text.proofs.FaultyItems.{items-fails, items-faulty}
 use Rattle.fux_text.proofs.FaultyRanges.{line_is, no-next, rest_is}
 use Rattle.fux_text.proofs.Following.{line-follows, value_is}
 use Rattle.fux_text.proofs.Layouts.{left, set_out-own, with_line}
@@ -69,7 +70,8 @@ sing-faulty bars v text f e =
       rest,
       n,
       IsSingFault.in_items a x.1 s
-          (subst (λ m. Stands (λ text. number_within v v text ≡ Some m) a x.1) same t) e,
+          (subst (λ m. Stands (λ text. number_within v v text ≡ Some m) a x.1) same t)
+          (items-faulty bars x.1 f e),
     ))
     (λ y r e. absurd (grind (arith, e))))))
 
@@ -114,7 +116,7 @@ sing-fails bars v text rest line f n (IsSingFault.other_voice a s l) =
     (gives_word kinds.Head (codes "sing") _ s (rw (number_lacks kinds.Sing v v a f l) refl))
 sing-fails bars v text rest line f n (IsSingFault.in_items a b s t e) =
     reads_line kinds.Sing (codes "sing") _ text n
-    (gives_word kinds.Head (codes "sing") _ s (rw (number_given kinds.Sing v v a b v t, e) refl))
+    (gives_word kinds.Head (codes "sing") _ s (rw (number_given kinds.Sing v v a b v t, items-fails bars b f e) refl))
 
 sing-gives : (bars v : ℕ) (text rest : TextLines) → 1 ≤ bars → v ≤ 9999999 → IsSungNext bars v text rest
     → (cells : List Cell) × (sing_line_in bars v text ≡ Ok (cells, rest))

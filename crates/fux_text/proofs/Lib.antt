@@ -39,6 +39,7 @@ pub mod FaultSteps
 pub mod FaultyHead
 pub mod FaultyRanges
 pub mod FaultyRelaxes
+pub mod FaultyItems
 pub mod FaultySing
 pub mod FaultyText
 pub mod ReadTexts

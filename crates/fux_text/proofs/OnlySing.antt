@@ -223,7 +223,7 @@ bar_line-only count bar next done w e =
       sym (value_is (bar + 1) next _ refl more.2),
     )
 
-item_cells-length : (c : Cell) (n : ℕ) → 1 ≤ n → length (item_cells c n) ≡ n
+pub item_cells-length : (c : Cell) (n : ℕ) → 1 ≤ n → length (item_cells c n) ≡ n
 item_cells-length c n some = ap suc (length-replicate (n - 1) (held c)) ∙ omega (arith, some)
 
 no_hold : (c : Cell) → (is_hold c ≡ true → ⊥) → is_hold c ≡ false
