@@ -14,7 +14,7 @@ use Rattle.text_lines.proofs.Binds.{bind_ok}
 use Rattle.fux_text.specs.declared.item_words.ItemName.{ItemName}
 use Rattle.fux_text.specs.Ranges.{refused_if}
 use Rattle.fux_text.specs.Sing.{bar_line_in, first_cell, is_full, item_cells, item_in, item_named, item_parts, latest, sung_end, sung_in, sung_word, sung_words}
-use Rattle.fux_text.specs.SingFaults.{IsBarLineFault, IsEndFault, IsItem, IsItemFault, IsItemsFault}
+use Rattle.fux_text.specs.SingFaults.{GoesWrongFrom, IsBarLineFault, IsEndFault, IsItem, IsItemFault, IsItemsFault}
 use Rattle.fux_text.proofs.FaultyHead.{bind_faulty}
 use Rattle.fux_text.proofs.Following.{value_is}
 use Rattle.fux_text.proofs.Named.{same_from, text_from}
@@ -312,64 +312,46 @@ words-faulty bars before taken last cells at (w ∷ ws) f t e =
         let is = text_from w.text (codes "|") b in
         bind_faulty (sung_word bars before cells w) (λ so_far. sung_words bars so_far.0 so_far.1 at ws) f e (λ e.
         bind_faulty (bar_line_in bars before cells w) _ f (sym (bar_word bars before cells w is) ∙ e)
-        (λ e. inl (is, inl (bar_line-faulty bars before taken last cells w f t e)))
+        (λ e. GoesWrongFrom.at_bar_line is (bar_line-faulty bars before taken last cells w f t e))
         (λ x r e. absurd (grind (arith, e)))) (λ x r e.
         let next = bind_ok (bar_line_in bars before cells w) _ x (sym (bar_word bars before cells w is) ∙ r) in
         let can = bar_line-lawful bars before taken next.0 last cells w t next.1 in
         let out : (before + 1, cells) ≡ x = ap (λ n. (n, cells)) (sym can.next_is)
         ∙ value_is (next.0, cells) x _ refl next.2 in
-        inl (
-          is,
-          inr (
-            can.full,
-            can.more,
-            later 0 can.full can.more
-                (subst (λ (y : ℕ × List Cell). Reads y.0 y.1) (sym out) e),
-          ),
-        ))
+        GoesWrongFrom.behind_bar_line is can.full can.more
+        (later 0 can.full can.more (subst (λ (y : ℕ × List Cell). Reads y.0 y.1) (sym out) e)))
     by false b later other =
         let none = not_bar w.text b in
         bind_faulty (sung_word bars before cells w) (λ so_far. sung_words bars so_far.0 so_far.1 at ws) f e (λ e.
         bind_faulty (item_in before cells w) _ f (sym (item_word_read bars before cells w none) ∙ e)
-        (λ e. inr (
-          none,
-          inl (subst (ItemTells taken last w) (sym (item-tell cells before taken last w t) ∙ e)
-              (item-tells taken last w)),
-        ))
+        (λ e. GoesWrongFrom.at_item none
+        (subst (ItemTells taken last w) (sym (item-tell cells before taken last w t) ∙ e) (item-tells taken last w)))
         (λ x r e. absurd (grind (arith, e)))) (λ x r e.
         let item = bind_ok (item_in before cells w) _ x (sym (item_word_read bars before cells w none) ∙ r) in
         let is : IsItem taken last w.text item.0.0 item.0.1 =
         subst (ItemTells taken last w) (sym (item-tell cells before taken last w t) ∙ item.1) (item-tells taken last w) in
         let out : (before, cells ++ item_cells item.0.0 item.0.1) ≡ x =
         value_is (before, cells ++ item_cells item.0.0 item.0.1) x _ refl item.2 in
-        inr (
-          none,
-          inr (
-            item.0.0,
-            item.0.1,
-            is,
-            other item.0.0 item.0.1 is.least
-                (subst (λ (y : ℕ × List Cell). Reads y.0 y.1) (sym out) e),
-          ),
-        ))
+        GoesWrongFrom.behind_item none item.0.0 item.0.1 is
+        (other item.0.0 item.0.1 is.least (subst (λ (y : ℕ × List Cell). Reads y.0 y.1) (sym out) e)))
 
 words-fails : (bars before taken : ℕ) (last : Cell) (cells : List Cell) (at : LineWords) (ws : List PlacedWord)
     (f : Fault)
     → Tell cells before taken last
     → IsItemsFault bars before taken last at ws f → sung_words bars before cells at ws ≡ Err f
 words-fails bars before taken last cells at [] f t h = end-fails bars before taken last cells at f t h
-words-fails bars before taken last cells at (w ∷ ws) f t (inl (is, inl h)) =
+words-fails bars before taken last cells at (w ∷ ws) f t (GoesWrongFrom.at_bar_line is h) =
     rw (bar_word bars before cells w is, bar_line-fails bars before taken last cells w f t h) refl
-words-fails bars before taken last cells at (w ∷ ws) f t (inl (is, inr (full, more, h))) =
+words-fails bars before taken last cells at (w ∷ ws) f t (GoesWrongFrom.behind_bar_line is full more h) =
     rw (bar_word bars before cells w is, bar_line-gives bars before taken last cells w t full more)
     (words-fails bars (before + 1) 0 last cells at ws f (bar-more cells before taken last t full) h)
-words-fails bars before taken last cells at (w ∷ ws) f t (inr (none, inl h)) =
+words-fails bars before taken last cells at (w ∷ ws) f t (GoesWrongFrom.at_item none h) =
     rw (
       item_word_read bars before cells w none,
       item-tell cells before taken last w t,
       item-fails taken last w f h,
     ) refl
-words-fails bars before taken last cells at (w ∷ ws) f t (inr (none, inr (c, n, item, h))) =
+words-fails bars before taken last cells at (w ∷ ws) f t (GoesWrongFrom.behind_item none c n item h) =
     rw (
       item_word_read bars before cells w none,
       item-tell cells before taken last w t,

@@ -56,17 +56,25 @@ IsEndFault bars before taken at f =
     ((taken ≢ 8) × (f ≡ fault_beyond kinds.Length at))
     ⊎ ((taken ≡ 8) × (before + 1 ≢ bars) × (f ≡ fault_beyond kinds.BarLine at))
 
+-- a word of a line behind so many bars, so many slots of this bar, and this cell: it is a bar line or an item that is
+-- wrong, or one that is right, and the fault is behind it
+pub data GoesWrongFrom (bars before taken : ℕ) (last : Cell) (word : PlacedWord) (Behind : ℕ → ℕ → Cell → Type 0)
+    (f : Fault) : Type 0 where
+  at_bar_line : word.text ≡ codes "|" → IsBarLineFault bars before taken word f
+      → GoesWrongFrom bars before taken last word Behind f
+  at_item : word.text ≢ codes "|" → IsItemFault taken last word f
+      → GoesWrongFrom bars before taken last word Behind f
+  behind_bar_line : word.text ≡ codes "|" → taken ≡ 8 → before + 1 ≢ bars → Behind (before + 1) 0 last
+      → GoesWrongFrom bars before taken last word Behind f
+  behind_item : word.text ≢ codes "|" → (first : Cell) (count : ℕ) → IsItem taken last word.text first count
+      → Behind before (taken + count) (latest last (item_cells first count))
+      → GoesWrongFrom bars before taken last word Behind f
+
 -- the first fault of the words of items, behind so many bars, so many slots of this bar, and this cell
 abbrev pub IsItemsFault : ℕ → ℕ → ℕ → Cell → LineWords → List PlacedWord → Fault → Type 0
 IsItemsFault bars before taken last at [] f = IsEndFault bars before taken at f
 IsItemsFault bars before taken last at (word ∷ words) f =
-    ((word.text ≡ codes "|")
-    × (IsBarLineFault bars before taken word f
-    ⊎ ((taken ≡ 8) × (before + 1 ≢ bars) × IsItemsFault bars (before + 1) 0 last at words f)))
-    ⊎ ((word.text ≢ codes "|")
-    × (IsItemFault taken last word f
-    ⊎ ((first : Cell) × (count : ℕ) × IsItem taken last word.text first count
-    × IsItemsFault bars before (taken + count) (latest last (item_cells first count)) at words f)))
+    GoesWrongFrom bars before taken last word (λ b t l. IsItemsFault bars b t l at words f) f
 
 -- the first fault of the line of a voice
 pub data IsSingFault (bars v : ℕ) (line : LineWords) (f : Fault) : Type 0 where
