@@ -6,8 +6,6 @@ mod law;
 mod node;
 mod score;
 mod space;
-#[cfg(test)]
-mod tests;
 
 pub use law::is_counterpoint;
 pub use node::Node;

@@ -1,5 +1,5 @@
 use Rattle.species_space.specs.Grows.{live_value}
-use Rattle.species_space.proofs.tests.found_text.Goals as goal
+use Rattle.space_cases.proofs.best.found_text.Goals as goal
 
 pub score_of-requires : goal.score_of-requires
 score_of-requires c =
