@@ -1,6 +1,6 @@
 //! Tables of least sums over chains.
 
-ghost use Rattle.std.specs.Prelude.{◌≡◌, ◌<◌, ◌≤◌, ◌+◌, ◌-◌, ℕ, List, ◌*◌, ◌^◌, length, suc, replicate, IfOk, IfErr, OnOk, OnErr, slice_index_or};
+ghost use Rattle.std.specs.Prelude.{◌≡◌, ◌<◌, ◌≤◌, ◌+◌, ◌-◌, ℕ, List, [], ◌*◌, ◌^◌, Some, length, suc, replicate, IfOk, IfErr, OnOk, OnErr, slice_index_or};
 ghost use Rattle.std.specs.List.{Contains};
 ghost use Rattle.fux_grid.specs.Exercises.{bar_of, slot_of};
 ghost use Rattle.chain_sums.specs.Candidates.{AreAllCandidates, GoByBounds};
@@ -228,6 +228,21 @@ impl Tables {
             return None;
         }
         let k = self.menus[row.menu].place_of(column)?;
+        if k >= row.sums.len() {
+            return None;
+        }
+        row.sums[k]
+    }
+
+    /// The same behind the column that has a number in the place's menu: nothing is searched.
+    pub fn rest_of_number(&self, i: usize, k: usize) -> Option<u64>
+        ensures { (c : Chains) → AreTablesOf c self.now → i < c.places → k < length (c.menu i)
+            → IsLeast c (suc i) (Some (slice_index_or (c.menu i) k [])) result }
+    {
+        if i >= self.rows.len() {
+            return None;
+        }
+        let row = &self.rows[self.rows.len() - 1 - i];
         if k >= row.sums.len() {
             return None;
         }

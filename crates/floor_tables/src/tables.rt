@@ -1,6 +1,6 @@
 //! Tables of the least sums over the chains of an exercise.
 
-ghost use Rattle.std.specs.Prelude.{◌≡◌, ◌<◌, OnOk, IfOk, IfErr};
+ghost use Rattle.std.specs.Prelude.{◌≡◌, ◌<◌, [], length, slice_index_or, OnOk, IfOk, IfErr};
 ghost use Rattle.std.specs.List.{Contains};
 ghost use Rattle.fux_grid.specs.Exercises.{IsValid, columns_in};
 ghost use Rattle.fux_grid.specs.Menus.{menu_of};
@@ -65,6 +65,16 @@ impl<'a> Tables<'a> {
         ensures { IsRest self.now.exercise self.now.sheet i col.now.items result }
     {
         self.sums.rest(i, col)
+    }
+
+    /// The same behind the column that has a number in the place's menu: nothing is searched.
+    pub fn rest_of_number(&self, i: usize, k: usize) -> Option<u64>
+        requires place { i < columns_in self.now.exercise }
+        requires choice { k < length (menu_of self.now.exercise i) }
+        ensures { IsRest self.now.exercise self.now.sheet i
+            (slice_index_or (menu_of self.now.exercise i) k []) result }
+    {
+        self.sums.rest_of_number(i, k)
     }
 
     /// The least sum over all chains. None exactly where there is no chain.
