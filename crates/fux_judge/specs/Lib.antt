@@ -4,6 +4,7 @@ pub mod Charges
 pub mod Crates
 pub mod Ends
 pub mod Facts
+pub mod GaugeStates
 pub mod Gauges
 pub mod Grows
 pub mod Kept
