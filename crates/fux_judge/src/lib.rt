@@ -1,11 +1,14 @@
 //! Settled breaks and penalties, column by column: one small state stands for a prefix of any length.
 #![tactic(auto)]
 
+mod ahead;
 mod always;
+mod gauges;
 mod kept;
 mod late;
 mod late_tolls;
 mod link;
+mod lines;
 mod moment;
 mod numbers;
 mod pruning;
@@ -19,6 +22,7 @@ mod whole;
 
 pub use always::is_always_dead;
 pub use link::{column_cost, link_cost, pair_cost};
+pub use lines::least;
 pub use numbers::{every_rule, every_toll};
 pub use pruning::pruned_within;
 pub use state::State;

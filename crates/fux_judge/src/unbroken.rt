@@ -4,14 +4,16 @@ ghost use Rattle.std.specs.Prelude.{◌≡◌, ◌≤◌, ◌<◌, ◌+◌, ◌�
 ghost use Rattle.std.specs.List.{list_any};
 ghost use Rattle.fux_grid.specs.declared.cell.Cell.{Cell as ACell};
 ghost use Rattle.fux_grid.specs.Exercises.{IsValid, columns_in};
-ghost use Rattle.rule_law.specs.Prefixes.{GoesOn};
+ghost use Rattle.rule_law.specs.Prefixes.{GoesOn, IsPrefix};
 ghost use Rattle.rule_law.specs.Voices.{has_rule};
+ghost use Rattle.fux_judge.specs.Gauges.{least_of};
 ghost use Rattle.fux_judge.specs.Rules.{rules_at_once, rules_read};
 ghost use Rattle.fux_judge.specs.Penalties.{newly_broken, newly_paid, paid};
 ghost use Rattle.fux_judge.specs.States.{IsStateOf};
 
 use crate::late::{late_prices, settles_late_break};
 use crate::late_tolls::late_charges;
+use crate::lines::least;
 use crate::numbers::all_at_once;
 use crate::state::State;
 use crate::verdict::{Verdict, any_of, moment_of, next_state, readings};
@@ -47,7 +49,9 @@ pub fn step_unbroken(ex: &Exercise, sheet: &Sheet, state: &State, col: &Column) 
         → IfSome result (λ verdict. paid ex.now sheet.now (p ++ col.now.items ∷ []) ≡ paid ex.now sheet.now p + verdict.paid) }
     ensures bound { IfSome result (λ verdict. verdict.paid ≤ 134217728) }
     ensures none_broken { IfSome result (λ verdict. verdict.broken.bits ≡ 0) }
-    ensures least { IfSome result (λ verdict. verdict.least ≡ 0) }
+    ensures least { (p : List (List ACell)) → IsStateOf ex.now p state.now → IsPrefix ex.now (p ++ col.now.items ∷ [])
+        → IfSome result (λ verdict. verdict.least ≡ least_of ex.now sheet.now (p ++ col.now.items ∷ [])) }
+    ensures least_bound { IfSome result (λ verdict. verdict.least ≤ 334490640) }
 {
     let next = next_state(ex, state, col);
     if settles_late_break(ex, &next) {
@@ -58,10 +62,12 @@ pub fn step_unbroken(ex: &Exercise, sheet: &Sheet, state: &State, col: &Column) 
     if has_some(at_once) {
         return None;
     }
+    let paid = paid + late_charges(sheet, ex, &next) + late_prices(ex, &next);
+    let least = least(ex, sheet, &next);
     Some(Verdict {
         state: next,
         broken: RuleSet::EMPTY,
-        paid: paid + late_charges(sheet, ex, &next) + late_prices(ex, &next),
-        least: 0,
+        paid,
+        least,
     })
 }

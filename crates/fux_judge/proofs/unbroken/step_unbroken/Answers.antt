@@ -1,4 +1,4 @@
-use Rattle.std.proofs.Common.{◌+◌, ap, sym, ◌∙◌}
+use Rattle.std.proofs.Common.{◌+◌, ◌++◌, ◌∷◌, [], ap, sym, ◌∙◌}
 use Rattle.rule_law.specs.Voices.{has_rule}
 use Rattle.fux_judge.specs.Grows.{paid_grows}
 use Rattle.fux_judge.specs.Moments.{is_strictly_broken_then}
@@ -49,3 +49,7 @@ returns-clause-paid c = λ p st on.
     (c.readings-paid.ensures.paid p (c.moment_of-moment.ensures.after p st))
     (c.late_charges.ensures.value p col record { reached = c.next_state-next.ensures.state p st; on = on })
     (c.late_prices.ensures.value p col record { reached = c.next_state-next.ensures.state p st; on = on })))
+
+pub returns-clause-least : goal.returns-clause-least
+returns-clause-least c = λ p st prefix.
+    c.least-least.ensures.value (p ++ c.args.col.now.items ∷ []) (c.next_state-next.ensures.state p st) prefix

@@ -1,7 +1,7 @@
 use Rattle.std.proofs.Common.{◌≡◌, ◌≤◌, ◌*◌, ◌+◌}
 use Rattle.rule_law.specs.Growth.{sum_below}
 use Rattle.fux_judge.specs.Penalties.{prices_at, tolls_at}
-use Rattle.fux_judge.proofs.total.penalty.Given as goal
+use Rattle.fux_judge.proofs.total.charges_of.Given as goal
 
 abbrev pub invariant-loop-i : goal.invariant-loop-i
 invariant-loop-i l = record {
