@@ -62,14 +62,12 @@ row_for c t i d are h =
     subst (λ (j : ℕ). IsRowAt c j t.menus.items (get_or t.rows.items (length t.rows.items - 1 - i) d)) e
     (are.rows.at (length t.rows.items - 1 - i) d (omega (arith, are.whole)))
 
--- the sums of the row that is read there
-pub row_at : (c : Chains) (t : Tables) (i last : ℕ) (row : Row) → AreTablesOf c t → i < c.places
+pub row_is : (c : Chains) (t : Tables) (i last : ℕ) (row : Row) → AreTablesOf c t → i < c.places
     → last ≡ length t.rows.items → row ≡ get_or t.rows.items (last - 1 - i) row → IsRow c i row.sums.items
-row_at c t i last row are h e is = here.sums
-  where
-    here : IsRowAt c i t.menus.items row
-    here =
-        subst (λ (r : Row). IsRowAt c i t.menus.items r) (sym (is ∙ ap (λ n. get_or t.rows.items (n - 1 - i) row) e)) (row_for c t i row are h)
+row_is c t i last row are h e is =
+    let here : IsRowAt c i t.menus.items row =
+    subst (λ (r : Row). IsRowAt c i t.menus.items r) (sym (is ∙ ap (λ n. get_or t.rows.items (n - 1 - i) row) e)) (row_for c t i row are h) in
+    here.sums
 
 -- what a look into the tables finds: the row of the place, and its menu, which has the column
 pub record IsAsked (c : Chains) (i : ℕ) (row : Row) (menu : Menu) (col : List Cell) : Type 0 where

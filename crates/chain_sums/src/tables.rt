@@ -1,6 +1,6 @@
 //! Tables of least sums over chains.
 
-ghost use Rattle.std.specs.Prelude.{◌≡◌, ◌<◌, ◌≤◌, ◌+◌, ◌-◌, ℕ, List, ◌*◌, ◌^◌, length, suc, [], replicate, IfOk, IfErr, OnOk, OnErr, slice_index_or};
+ghost use Rattle.std.specs.Prelude.{◌≡◌, ◌<◌, ◌≤◌, ◌+◌, ◌-◌, ℕ, List, [], ◌*◌, ◌^◌, Some, length, suc, replicate, IfOk, IfErr, OnOk, OnErr, slice_index_or};
 ghost use Rattle.std.specs.List.{Contains};
 ghost use Rattle.fux_grid.specs.Exercises.{bar_of, slot_of};
 ghost use Rattle.chain_sums.specs.Candidates.{AreAllCandidates, GoByBounds};
@@ -236,7 +236,7 @@ impl Tables {
         row.sums[k]
     }
 
-    /// The same of the column that has this number in the place's menu, counted from 0.
+    /// The same behind the column that has a number in the place's menu: nothing is searched.
     #[inline]
     pub fn rest_of_number(&self, i: usize, k: usize) -> Option<u64>
         ensures least { (c : Chains) → AreTablesOf c self.now → i < c.places → k < length (c.menu i)

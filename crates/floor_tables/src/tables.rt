@@ -6,6 +6,7 @@ ghost use Rattle.fux_grid.specs.Exercises.{IsValid, columns_in};
 ghost use Rattle.fux_grid.specs.Menus.{menu_of};
 ghost use Rattle.floor_tables.specs.Tables.{AreNarrow, IsRest, IsStart, TellsWidth};
 
+use crate::links::ColumnLinks;
 use chain_sums::TableFault;
 use fux_grid::{Column, Exercise};
 use penalty_sheet::Sheet;
@@ -38,7 +39,7 @@ impl<'a> Model for Tables<'a> {
 /// The tables of an exercise by a sheet. All memory is taken here.
 pub fn fill_tables<'a, R: Threads + Sync>(
     _rt: &R,
-    _alloc: Global,
+    alloc: Global,
     ex: &'a Exercise,
     sheet: &'a Sheet,
 ) -> Result<Tables<'a>, TableFault>
@@ -47,9 +48,13 @@ pub fn fill_tables<'a, R: Threads + Sync>(
     ensures narrow { OnOk result (AreNarrow ex.entry.now) }
     ensures wide { IfErr result (TellsWidth ex.entry.now) }
 {
-    let _ = ex;
-    let _ = sheet;
-    Err(TableFault::Memory)
+    let links = ColumnLinks::new(ex, sheet);
+    let sums = chain_sums::Tables::fill(alloc, &links)?;
+    Ok(Tables {
+        exercise: ex,
+        sheet,
+        sums,
+    })
 }
 
 impl<'a> Tables<'a> {
@@ -63,12 +68,13 @@ impl<'a> Tables<'a> {
         self.sums.rest(i, col)
     }
 
-    /// The same of the column that has this number in the menu of place `i`, counted from 0.
+    /// The same behind the column that has a number in the place's menu: nothing is searched.
     #[inline]
     pub fn rest_of_number(&self, i: usize, k: usize) -> Option<u64>
         requires place { i < columns_in self.now.exercise }
-        requires number { k < length (menu_of self.now.exercise i) }
-        ensures rest { IsRest self.now.exercise self.now.sheet i (slice_index_or (menu_of self.now.exercise i) k []) result }
+        requires choice { k < length (menu_of self.now.exercise i) }
+        ensures rest { IsRest self.now.exercise self.now.sheet i
+            (slice_index_or (menu_of self.now.exercise i) k []) result }
         ensures small { IfSome result (λ sum. sum ≤ 2 ^ 61) }
     {
         self.sums.rest_of_number(i, k)

@@ -90,20 +90,23 @@ length-cells p v = length-map (reverse p) (λ col. cell_in col v) ∙ length-rev
 pub cells-more : (p : List (List Cell)) (col : List Cell) (v : ℕ) → cells_of_voice (p ++ col ∷ []) v ≡ cell_in col v ∷ cells_of_voice p v
 cells-more p col v = ap (line v) (reverse-push p col)
 
+-- the last column of a prefix is in its menu
+pub last_in_menu : (ex : Exercise) (p : List (List Cell)) (col : List Cell) → IsPrefix ex (p ++ col ∷ []) → IsInMenu ex (length p) col
+last_in_menu ex p col prefix =
+    let P : List Cell → Type 0 = λ c. IsInMenu ex (length p) c in
+    subst P (column_at_end ex p col) (prefix.menus (length p) (omega (arith, length-append p (col ∷ []))))
+
 next_cell : (ex : Exercise) (p : List (List Cell)) (col : List Cell) (v : ℕ) → IsPrefix ex (p ++ col ∷ []) → IsFree ex v → IsNextCell ex v (cells_of_voice p v) col
 next_cell ex p col v prefix free =
-    let size : length (p ++ col ∷ []) ≡ length p + 1 = length-append p (col ∷ []) in
-    let InMenu : List Cell → Type 0 = λ c. IsInMenu ex (length p) c in
-    let there : IsInMenu ex (length p) col = subst InMenu (column_at_end ex p col) (prefix.menus (length p) (omega (arith, size))) in
-    let Menu : ℕ → Type 0 = λ i. Contains (menu_of ex i) col in
+    let P : ℕ → Type 0 = λ i. Contains (menu_of ex i) col in
     record {
       free = free;
-      room = omega (arith, length-cells p v, size, prefix.few);
-      in_menu = subst Menu (sym (length-cells p v)) ((menu_of-contains ex (length p) col).1 there);
+      room = omega (arith, length-cells p v, length-append p (col ∷ []), prefix.few);
+      in_menu = subst P (sym (length-cells p v)) ((menu_of-contains ex (length p) col).1 (last_in_menu ex p col prefix));
     }
 
-pub least_grows : (ex : Exercise) → IsValid ex → (sheet : Sheet) (p : List (List Cell)) (col : List Cell) → IsPrefix ex (p ++ col ∷ []) → least_of ex sheet p ≤ least_of ex sheet (p ++ col ∷ [])
-least_grows ex valid sheet p col prefix =
+pub least_grows : (ex : Exercise) (sheet : Sheet) (p : List (List Cell)) (col : List Cell) → IsPrefix ex (p ++ col ∷ []) → least_of ex sheet p ≤ least_of ex sheet (p ++ col ∷ [])
+least_grows ex sheet p col prefix =
     sum_kept-le (is_free ex) (λ v. by_gauges v (cells_of_voice p v)) (λ v. by_gauges v (cells_of_voice (p ++ col ∷ []) v)) 0 ex.voices
     (λ v there free.
     let next : IsNextCell ex v (cells_of_voice p v) col = next_cell ex p col v prefix (free_voice ex v (omega (arith, there)) free) in

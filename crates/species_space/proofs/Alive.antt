@@ -52,11 +52,3 @@ goes_on_from ex path k few live room within follows =
           (subst M (sym size) ((menus_are_exact ex (length path)).only (column_at ex path k) (Contains-get_or (menu_of ex (length path)) k [] within)))
           follows;
     }
-
-read_only : (f : ℕ → Bool) → list_any (λ r. is_read r && f r) rules_read ≡ list_any f rules_read
-unfolding rules_read
-read_only f = refl
-
--- a set that has exactly the rules read that pass a test has one of those read where one passes
-pub any_read : (has f : ℕ → Bool) → ((r : ℕ) → has r ≡ (is_read r && f r)) → list_any has rules_read ≡ list_any f rules_read
-any_read has f h = list_any-same has (λ r. is_read r && f r) rules_read h ∙ read_only f

@@ -7,7 +7,7 @@ use Rattle.fux_grid.specs.declared.cell.Cell.{Cell}
 use Rattle.fux_grid.specs.declared.exercise.Exercise.{Exercise}
 use Rattle.fux_grid.specs.Columns.{newest_column, ColumnFollows}
 use Rattle.fux_grid.specs.Exercises.{IsValid, columns_in}
-use Rattle.rule_law.specs.Law.{test_from_below}
+use Rattle.rule_law.specs.Law.{both_true, test_from_below}
 use Rattle.rule_law.specs.Prefixes.{IsPrefix}
 use Rattle.penalty_sheet.specs.declared.sheet.Sheet.{Sheet}
 use Rattle.fux_judge.specs.Gauges.{least_of}
@@ -15,14 +15,14 @@ use Rattle.fux_judge.specs.Grows.{paid_grows}
 use Rattle.fux_judge.specs.Least.{least_grows}
 use Rattle.fux_judge.specs.Rules.{rules_read}
 use Rattle.fux_judge.specs.Penalties.{newly_broken, newly_paid, paid}
-use Rattle.floor_tables.specs.Floors.{floor_of, rest_of}
+use Rattle.floor_tables.specs.Floors.{rest_of}
 use Rattle.floor_tables.specs.Tables.{IsRest}
 use Rattle.floor_tables.proofs.RestLemmas.{rest_is}
 use Rattle.species_space.specs.declared.node.Node.{Node}
 use Rattle.species_space.specs.Exact.{menus_are_exact}
-use Rattle.species_space.specs.Grows.{at_most_four, live_none, live_some, live_value}
+use Rattle.species_space.specs.Grows.{live_none, live_some, live_value}
 use Rattle.species_space.specs.Leaves.{follows_from_test, prefix_is_alive, test_from_follows}
-use Rattle.species_space.specs.Live.{FloorParts, floor_of_rest, floor_parts, no_floor}
+use Rattle.species_space.specs.FloorLaws.{floor_parts, no_floor}
 use Rattle.species_space.specs.Nodes.{IsNodeOf}
 use Rattle.species_space.specs.Paths.{IsNoBetter, prefix_at, column_at, width_at, column_follows, is_alive_path, live_at, alive_goes_on, alive_from_parts, length-columns_on, prefix_at-append}
 
@@ -106,15 +106,15 @@ module _ (ex : Exercise) (path : List ℕ) (k : ℕ) (alive : is_alive_path ex p
       pub is_rest : rest_of ex sheet (prefix_at ex (path ++ k ∷ [])) ≡ Some rest
       pub low : paid ex sheet (prefix_at ex path) + newly_paid ex sheet (prefix_at ex path) (column_at ex path k) + least_of ex sheet (prefix_at ex path) + rest ≤ floor
 
-    pub costs : IsValid ex → (floor : ℕ) → live_at ex sheet (path ++ k ∷ []) ≡ Some floor → Costs floor
-    costs valid floor there =
+    pub costs : (floor : ℕ) → live_at ex sheet (path ++ k ∷ []) ≡ Some floor → Costs floor
+    costs floor there =
         let p = prefix_at ex path in
         let col = column_at ex path k in
         let own = live_value ex sheet (path ++ k ∷ []) floor there in
         let parts = floor_parts ex sheet (prefix_at ex (path ++ k ∷ [])) floor own.1 in
         let next : prefix_at ex (path ++ k ∷ []) ≡ p ++ col ∷ [] = prefix_at-append ex path k in
         let longer : IsPrefix ex (p ++ col ∷ []) = subst (λ q. IsPrefix ex q) next (prefix_is_alive ex (menus_are_exact ex) (path ++ k ∷ []) own.0).prefix in
-        let more = least_grows ex valid sheet p col longer in
+        let more = least_grows ex sheet p col longer in
         let pays : paid ex sheet (prefix_at ex (path ++ k ∷ [])) ≡ paid ex sheet p + newly_paid ex sheet p col = ap (paid ex sheet) next ∙ paid_grows ex p col sheet in
         let lines : least_of ex sheet (prefix_at ex (path ++ k ∷ [])) ≡ least_of ex sheet (p ++ col ∷ []) = ap (least_of ex sheet) next in
         record { rest = parts.rest; is_rest = parts.is_rest; low = sum_of _ _ _ _ _ _ parts.rest floor parts.sum pays lines more }
@@ -123,21 +123,21 @@ module _ (ex : Exercise) (path : List ℕ) (k : ℕ) (alive : is_alive_path ex p
         sum_of a b c d e f rest floor s p l m = omega (arith, s, p, l, m)
 
     -- one that costs too much is no better
-    pub no_better_if_costly : IsValid ex → (best : Option ℕ) → IsSomeAnd best (λ value. value ≤ paid ex sheet (prefix_at ex path) + least_of ex sheet (prefix_at ex path) + newly_paid ex sheet (prefix_at ex path) (column_at ex path k)) → IsNoBetter ex sheet path best k
-    no_better_if_costly valid best costly floor there =
-        let all = costs valid floor there in
+    pub no_better_if_costly : (best : Option ℕ) → IsSomeAnd best (λ value. value ≤ paid ex sheet (prefix_at ex path) + least_of ex sheet (prefix_at ex path) + newly_paid ex sheet (prefix_at ex path) (column_at ex path k)) → IsNoBetter ex sheet path best k
+    no_better_if_costly best costly floor there =
+        let all = costs floor there in
         some_lower best _ floor (omega (arith, all.low)) costly
 
     -- one without a rest is no better, nor is one whose rest costs too much
-    pub no_better_by_rest : IsValid ex → (rest best : Option ℕ) → length path < columns_in ex → IsRest ex sheet (length path) (column_at ex path k) rest
+    pub no_better_by_rest : (rest best : Option ℕ) → length path < columns_in ex → IsRest ex sheet (length path) (column_at ex path k) rest
         → ((x : ℕ) → rest ≡ Some x → IsSomeAnd best (λ value. value ≤ paid ex sheet (prefix_at ex path) + least_of ex sheet (prefix_at ex path) + x)) → IsNoBetter ex sheet path best k
-    no_better_by_rest valid rest best room is costly floor there =
-        let all = costs valid floor there in
+    no_better_by_rest rest best room is costly floor there =
+        let all = costs floor there in
         some_lower best _ floor (omega (arith, all.low)) (costly all.rest (rest_there rest room is ∙ all.is_rest))
 
 -- the empty path is alive
-pub begun_alive : (ex : Exercise) → ex.voices ≤ 4 → is_alive_path ex [] ≡ true
-begun_alive ex few = alive_from_parts ex [] record { few = test ex.voices 4 few; room = test 0 (columns_in ex) (omega arith); menus = refl; follows = refl; alive = refl }
+pub begun_alive : (ex : Exercise) → IsValid ex → is_alive_path ex [] ≡ true
+begun_alive ex valid = alive_from_parts ex [] record { voices = both_true (nat_le ex.voices 4) (nat_lt ex.cantus_voice ex.voices) (test ex.voices 4 valid.most_voices) (test_from_below ex.cantus_voice ex.voices valid.cantus_there); room = test 0 (columns_in ex) (omega arith); menus = refl; follows = refl; alive = refl }
   where
     test : (n m : ℕ) → n ≤ m → nat_le n m ≡ true
     test n m h = grind (arith, nat_tests)

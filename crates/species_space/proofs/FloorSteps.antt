@@ -5,6 +5,7 @@ use Rattle.std.specs.List.{list_any}
 use Rattle.std.proofs.lemmas.List.{append_assoc, append-nil}
 use Rattle.fux_grid.specs.declared.cell.Cell.{Cell}
 use Rattle.fux_grid.specs.declared.exercise.Exercise.{Exercise}
+use Rattle.fux_grid.specs.Exercises.{IsValid}
 use Rattle.penalty_sheet.specs.declared.sheet.Sheet.{Sheet}
 use Rattle.fux_judge.specs.Alive.{alive_if_unbroken, prefix_before}
 use Rattle.fux_judge.specs.Grows.{strict_break_grows}
@@ -12,15 +13,13 @@ use Rattle.fux_judge.specs.Lawful.{IsAlive, IsLawful}
 use Rattle.fux_judge.specs.Penalties.{has_strict_break, newly_broken, penalty_of}
 use Rattle.fux_judge.specs.Rules.{rules_read}
 use Rattle.floor_tables.specs.Floors.{IsLive, floor_of}
-use Rattle.species_space.specs.FloorLaws.{floor_at_end, floor_grows}
+use Rattle.species_space.specs.FloorLaws.{floor_at_end, floor_grows, floor_parts}
 use Rattle.species_space.specs.Floors.{HasFloors}
-use Rattle.species_space.specs.Live.{floor_parts}
-
 or_false : (a b : Bool) → (a || b) ≡ false → a ≡ false
 or_false true b h = cc
 or_false false b h = refl
 
-module _ (ex : Exercise) (sheet : Sheet) (few : ex.voices ≤ 4) where
+module _ (ex : Exercise) (sheet : Sheet) (valid : IsValid ex) where
   -- in the prefix no strict break is settled, and its floor is at most so much
   record IsLow (most : ℕ) (p : List (List Cell)) : Type 0 where
     alive : IsAlive ex p
@@ -44,7 +43,7 @@ module _ (ex : Exercise) (sheet : Sheet) (few : ex.voices ≤ 4) where
 
       at : (o : Option ℕ) → floor_of ex sheet (p ++ col ∷ []) ≡ o → IsSomeAnd o (λ floor. floor ≤ most) → IsSomeAnd (floor_of ex sheet p) (λ floor. floor ≤ most)
       at None e low = absurd low
-      at (Some floor) e low = lower (floor_of ex sheet p) floor low (floor_grows ex sheet p col few longer.alive floor e)
+      at (Some floor) e low = lower (floor_of ex sheet p) floor low (floor_grows ex sheet p col valid.most_voices valid.cantus_there longer.alive floor e)
 
   low_begun : (most : ℕ) (p more : List (List Cell)) → IsLow most (p ++ more) → IsLow most p
   low_begun most p [] whole = subst (λ (q : List (List Cell)). IsLow most q) (append-nil p) whole
@@ -52,11 +51,11 @@ module _ (ex : Exercise) (sheet : Sheet) (few : ex.voices ≤ 4) where
       low_before most p col (low_begun most (p ++ col ∷ []) more (subst (λ (q : List (List Cell)). IsLow most q) (sym (append_assoc p (col ∷ []) more)) whole))
 
   lawful_alive : (s : List (List Cell)) → IsLawful ex s → IsAlive ex s
-  lawful_alive s lawful = record { prefix = lawful.setting.prefix; unbroken = alive_if_unbroken ex few s lawful.setting lawful.unbroken }
+  lawful_alive s lawful = record { prefix = lawful.setting.prefix; unbroken = alive_if_unbroken ex valid.most_voices s lawful.setting lawful.unbroken }
 
   lawful_low : (s : List (List Cell)) → IsLawful ex s → IsLow (penalty_of ex sheet s) s
   lawful_low s lawful =
-      let e = floor_at_end ex sheet s few lawful.setting (lawful_alive s lawful) in
+      let e = floor_at_end ex sheet s valid.most_voices lawful.setting (lawful_alive s lawful) in
       record {
         alive = lawful_alive s lawful;
         low = subst (λ (o : Option ℕ). IsSomeAnd o (λ floor. floor ≤ penalty_of ex sheet s)) (sym e) (omega arith);
@@ -78,6 +77,6 @@ module _ (ex : Exercise) (sheet : Sheet) (few : ex.voices ≤ 4) where
     live = λ p more lawful.
         live_if_low (penalty_of ex sheet (p ++ more)) p (low_begun (penalty_of ex sheet (p ++ more)) p more (lawful_low (p ++ more) lawful));
     low = λ p more lawful. (low_begun (penalty_of ex sheet (p ++ more)) p more (lawful_low (p ++ more) lawful)).low;
-    grow = λ p col floor live e. floor_grows ex sheet p col few record { prefix = live.prefix; unbroken = live.unbroken } floor e;
-    end = λ s lawful. floor_at_end ex sheet s few lawful.setting (lawful_alive s lawful);
+    grow = λ p col floor live e. floor_grows ex sheet p col valid.most_voices valid.cantus_there record { prefix = live.prefix; unbroken = live.unbroken } floor e;
+    end = λ s lawful. floor_at_end ex sheet s valid.most_voices lawful.setting (lawful_alive s lawful);
   }

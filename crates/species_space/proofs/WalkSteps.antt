@@ -7,7 +7,6 @@ use Rattle.arrayvec.specs.ArrayVec.{ArrayVec}
 use Rattle.fux_grid.specs.declared.cell.Cell.{Cell}
 use Rattle.fux_grid.specs.declared.exercise.Exercise.{Exercise}
 use Rattle.fux_grid.specs.Columns.{newest_column, ColumnFollows}
-use Rattle.fux_grid.specs.Exercises.{IsValid}
 use Rattle.fux_grid.specs.Grid.{items_of}
 use Rattle.fux_grid.specs.Menus.{menu_of}
 use Rattle.penalty_sheet.specs.declared.sheet.Sheet.{Sheet}
@@ -37,12 +36,12 @@ module _ (ex : Exercise) (sheet : Sheet) (node : Node) (path : List ℕ) (at : I
       (stray (subst (λ (b : List Cell). ColumnFollows b col) (sym e) (subst (λ (c : List Cell). ColumnFollows (newest_column (reverse (prefix_at ex path))) c) (sym same) follows))
       (prefix_at ex path) (sym at.state.newest.count)))
 
-  pub pruned_no_better : IsValid ex → (k : ℕ) (best limit : Option ℕ) (col : List Cell) → col ≡ column_at ex path k
+  pub pruned_no_better : (k : ℕ) (best limit : Option ℕ) (col : List Cell) → col ≡ column_at ex path k
       → ((cost : ℕ) → IsSomeAnd limit (λ most. most ≤ cost) → IsSomeAnd best (λ value. value ≤ node.paid + node.least + cost))
       → IsPruned ex sheet (prefix_at ex path) limit col → IsNoBetter ex sheet path best k
-  pruned_no_better valid k best limit col same dear (inl broken) =
+  pruned_no_better k best limit col same dear (inl broken) =
       no_better_if_dead ex path k at.alive sheet best
       (λ follows. subst (λ (c : List Cell). list_any (newly_broken ex (prefix_at ex path) c) rules_read ≡ true) same broken)
-  pruned_no_better valid k best limit col same dear (inr costs) =
-      no_better_if_costly ex path k at.alive sheet valid best
+  pruned_no_better k best limit col same dear (inr costs) =
+      no_better_if_costly ex path k at.alive sheet best
       (some_lower best _ _ (omega (arith, at.paid, at.least, ap (newly_paid ex sheet (prefix_at ex path)) same)) (dear (newly_paid ex sheet (prefix_at ex path) col) costs))

@@ -5,7 +5,7 @@ use Rattle.std.proofs.Common.{ap, sym, ◌∙◌, subst, arith, inl, inr}
 use Rattle.std.proofs.lemmas.Bool.Decides.{nat_tests}
 use Rattle.fux_grid.specs.declared.cell.Cell.{Cell}
 use Rattle.fux_grid.specs.declared.exercise.Exercise.{Exercise}
-use Rattle.fux_grid.specs.Exercises.{columns_in}
+use Rattle.fux_grid.specs.Exercises.{IsValid, columns_in}
 use Rattle.fux_grid.specs.Menus.{menu_of}
 use Rattle.fux_grid.specs.Order.{IsEarlier}
 use Rattle.fux_grid.proofs.OrderLemmas.{earlier-chained, earlier-itself}
@@ -72,7 +72,7 @@ module _ (ex : Exercise) where
           let P : List (List Cell) → Type 0 = λ s. IsEarlier s (prefix_at ex path) in
           absurd (earlier-itself (prefix_at ex path) (subst P (sym e) (before_is_earlier 0 other path (sym size) (alive_parts ex path live).menus h)))
 
-  module _ (few : ex.voices ≤ 4) (sheet : Sheet) where
+  module _ (valid : IsValid ex) (sheet : Sheet) where
     -- a leaf leads to a lawful setting, and its value is the penalty
     pub leaf_is_lawful : (path : List ℕ) (value : ℕ) → tree.IsLeaf (live_at ex sheet) (columns_in ex) path value → IsLawful ex (prefix_at ex path) × (penalty_of ex sheet (prefix_at ex path) ≡ value)
     leaf_is_lawful path value leaf =
@@ -80,8 +80,8 @@ module _ (ex : Exercise) where
         let alive = prefix_is_alive ex (menus_are_exact ex) path own.0 in
         let whole : length (prefix_at ex path) ≡ columns_in ex = length-columns_on ex 0 path ∙ leaf.0 in
         let setting : IsSetting ex (prefix_at ex path) = record { prefix = alive.prefix; whole = whole } in (
-          record { setting = setting; unbroken = unbroken_if_alive ex few (prefix_at ex path) setting alive.unbroken },
-          same_number (sym (floor_at_end ex sheet (prefix_at ex path) few setting alive) ∙ own.1),
+          record { setting = setting; unbroken = unbroken_if_alive ex valid.most_voices (prefix_at ex path) setting alive.unbroken },
+          same_number (sym (floor_at_end ex sheet (prefix_at ex path) valid.most_voices setting alive) ∙ own.1),
         )
       where
         same_number : {m n : ℕ} → Some m ≡ Some n → m ≡ n
@@ -90,10 +90,10 @@ module _ (ex : Exercise) where
     -- a lawful setting is at the end of a path to a leaf
     pub lawful_is_leaf : (s : List (List Cell)) → IsLawful ex s → (path : List ℕ) × (prefix_at ex path ≡ s) × tree.IsLeaf (live_at ex sheet) (columns_in ex) path (penalty_of ex sheet s)
     lawful_is_leaf s lawful =
-        let alive : IsAlive ex s = record { prefix = lawful.setting.prefix; unbroken = alive_if_unbroken ex few s lawful.setting lawful.unbroken } in
-        let way = path_to_alive ex (menus_are_exact ex) few s alive in
+        let alive : IsAlive ex s = record { prefix = lawful.setting.prefix; unbroken = alive_if_unbroken ex valid.most_voices s lawful.setting lawful.unbroken } in
+        let way = path_to_alive ex (menus_are_exact ex) valid s alive in
         let size : length way.path ≡ columns_in ex = sym (length-columns_on ex 0 way.path) ∙ ap length way.there ∙ lawful.setting.whole in
-        (way.path, way.there, (size, live_some ex sheet way.path way.alive ∙ ap (floor_of ex sheet) way.there ∙ floor_at_end ex sheet s few lawful.setting alive))
+        (way.path, way.there, (size, live_some ex sheet way.path way.alive ∙ ap (floor_of ex sheet) way.there ∙ floor_at_end ex sheet s valid.most_voices lawful.setting alive))
 
     pub first_least_is_best : (path : List ℕ) (value : ℕ) → tree.IsFirstLeast (live_at ex sheet) (columns_in ex) path value → IsBest ex sheet (prefix_at ex path) × (penalty_of ex sheet (prefix_at ex path) ≡ value)
     first_least_is_best path value found =

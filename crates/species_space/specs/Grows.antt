@@ -5,7 +5,7 @@ use Rattle.std.proofs.lemmas.Bool.Decides.{nat_tests}
 use Rattle.fux_grid.specs.declared.cell.Cell.{Cell}
 use Rattle.fux_grid.specs.declared.exercise.Exercise.{Exercise}
 use Rattle.fux_grid.specs.Exercises.{columns_in}
-use Rattle.rule_law.specs.Law.{below_from_test}
+use Rattle.rule_law.specs.Law.{below_from_test, first_true, second_true}
 use Rattle.penalty_sheet.specs.declared.sheet.Sheet.{Sheet}
 use Rattle.fux_judge.specs.Lawful.{IsAlive}
 use Rattle.floor_tables.specs.Floors.{floor_of}
@@ -49,8 +49,14 @@ goes_on_parts ex path k h = five (nat_lt (length path) (columns_in ex)) (nat_lt 
 four_at_most : (n : ℕ) → nat_le n 4 ≡ true → n ≤ 4
 four_at_most n h = grind (arith, nat_tests)
 
-pub at_most_four : (ex : Exercise) (path : List ℕ) → is_alive_path ex path ≡ true → ex.voices ≤ 4
-at_most_four ex path h = four_at_most ex.voices (alive_parts ex path h).few
+-- an exercise with an alive path has at most four voices, one of which has the cantus
+at_most_four : (ex : Exercise) (path : List ℕ) → is_alive_path ex path ≡ true → ex.voices ≤ 4
+at_most_four ex path h =
+    four_at_most ex.voices (first_true (nat_le ex.voices 4) (nat_lt ex.cantus_voice ex.voices) (alive_parts ex path h).voices)
+
+cantus_among : (ex : Exercise) (path : List ℕ) → is_alive_path ex path ≡ true → ex.cantus_voice < ex.voices
+cantus_among ex path h =
+    below_from_test ex.cantus_voice ex.voices (second_true (nat_le ex.voices 4) (nat_lt ex.cantus_voice ex.voices) (alive_parts ex path h).voices)
 
 -- the parent of a live path is live, and its floor is no higher
 pub paths_grow : (ex : Exercise) (sheet : Sheet) → FloorsGrow (live_at ex sheet) (width_at ex) (columns_in ex)
@@ -60,7 +66,7 @@ paths_grow ex sheet path k floor h =
     let steps = goes_on_parts ex path k (sym (alive_goes_on ex path k before) ∙ here.0) in
     let A : List (List Cell) → Type 0 = λ p. IsAlive ex p in
     let alive = subst A (prefix_at-append ex path k) (prefix_is_alive ex (menus_are_exact ex) (path ++ k ∷ []) here.0) in
-    let grown = floor_grows ex sheet (prefix_at ex path) (column_at ex path k) (at_most_four ex path before) alive floor
+    let grown = floor_grows ex sheet (prefix_at ex path) (column_at ex path k) (at_most_four ex path before) (cantus_among ex path before) alive floor
     (sym (ap (floor_of ex sheet) (prefix_at-append ex path k)) ∙ here.1) in
     parent steps before (floor_of ex sheet (prefix_at ex path)) refl grown
   where

@@ -11,7 +11,7 @@ use Rattle.fux_grid.specs.declared.cell.Cell.TheVariants.{Rest}
 use Rattle.fux_grid.specs.declared.exercise.Exercise.{Exercise}
 use Rattle.fux_grid.specs.Cells.{cell_in, cell_follows}
 use Rattle.fux_grid.specs.Columns.{newest_column, ColumnFollows, HistoryFollows}
-use Rattle.fux_grid.specs.Exercises.{columns_in}
+use Rattle.fux_grid.specs.Exercises.{IsValid, columns_in}
 use Rattle.fux_grid.specs.Menus.{menu_of, IsInMenu}
 use Rattle.fux_grid.specs.Order.{column_order}
 use Rattle.rule_law.specs.Growth.{any_below}
@@ -141,8 +141,8 @@ module _ (ex : Exercise) (exact : (i : ℕ) → IsExactMenu ex i) where
       other_default (x ∷ xs) (suc k) d d' h = other_default xs k d d' (omega arith)
 
   -- each prefix in which no strict break is settled is at the end of an alive path
-  pub path_to_alive : ex.voices ≤ 4 → (p : List (List Cell)) → IsAlive ex p → PathTo ex p
-  path_to_alive four p live =
+  pub path_to_alive : IsValid ex → (p : List (List Cell)) → IsAlive ex p → PathTo ex p
+  path_to_alive valid p live =
       let way = lead 0 p (λ j k. at_zero j (live.prefix.menus j k)) in
       record { path = way.path; there = way.there; alive = whole way.path way.there way.menus }
     where
@@ -159,7 +159,7 @@ module _ (ex : Exercise) (exact : (i : ℕ) → IsExactMenu ex i) where
       whole path e menus =
           let size : length path ≡ length p = sym (length-columns_on ex 0 path) ∙ ap length e in
           alive_from_parts ex path record {
-            few = room_test ex.voices 4 four;
+            voices = both_true (nat_le ex.voices 4) (nat_lt ex.cantus_voice ex.voices) (room_test ex.voices 4 valid.most_voices) (test_from_below ex.cantus_voice ex.voices valid.cantus_there);
             room = room_test (length path) (columns_in ex) (omega (arith, live.prefix.few));
             menus = menus;
             follows = ap (λ q. history_follows (reverse q)) e ∙ test_from_history (reverse p) live.prefix.follows;

@@ -6,7 +6,7 @@ use Rattle.std.proofs.Common.{ap, sym, ◌∙◌, subst, arith}
 use Rattle.std.proofs.lemmas.List.{length-map}
 use Rattle.fux_grid.specs.declared.cell.Cell.{Cell}
 use Rattle.fux_grid.specs.declared.exercise.Exercise.{Exercise}
-use Rattle.fux_grid.specs.Exercises.{columns_in}
+use Rattle.fux_grid.specs.Exercises.{IsValid, columns_in}
 use Rattle.fux_grid.specs.Menus.{menu_of}
 use Rattle.penalty_sheet.specs.declared.sheet.Sheet.{Sheet}
 use Rattle.fux_judge.specs.Lawful.{AllDiffer, BoundsLawful, HasNoLawful, IsBest}
@@ -171,14 +171,14 @@ parted ex i (k ∷ path) (q ∷ p) col e =
       there = ap (λ c. c ∷ columns_on ex (suc i) way.parent) first ∙ ap (λ cols. q ∷ cols) way.there;
     }
 
-module _ (ex : Exercise) (few : ex.voices ≤ 4) (sheet : Sheet) where
+module _ (ex : Exercise) (valid : IsValid ex) (sheet : Sheet) where
   -- live paths below the root and live prefixes of one column or more
   pub live_alike : IsAlike ex (tree.IsLiveBelowRoot (live_at ex sheet)) (IsLiveBegun ex sheet)
   live_alike = record {
     alive = λ path h. path_is_alive ex sheet path h.0;
     leads = λ path h. (live_prefix ex sheet path h.0, begun ex path h.1);
     each = λ p h.
-        let way = path_to_live ex sheet few p h.0 in
+        let way = path_to_live ex sheet valid p h.0 in
         record { path = way.path; there = way.there; kind = (way.is_live, (λ e. h.1 (sym way.there ∙ ap (prefix_at ex) e))) };
   }
 
@@ -195,7 +195,7 @@ module _ (ex : Exercise) (few : ex.voices ≤ 4) (sheet : Sheet) where
 
     loaded_path : (p : List (List Cell)) → IsLoaded ex sheet x p → PathOf ex (tree.IsLoaded (live_at ex sheet) x) p
     loaded_path p loaded =
-        let way = path_to_live ex sheet few p loaded.live in
+        let way = path_to_live ex sheet valid p loaded.live in
         let parts = parted ex 0 way.path loaded.shorter loaded.last (way.there ∙ loaded.is) in
         let alive : is_alive_path ex (parts.parent ++ parts.child ∷ []) ≡ true = sym (ap (is_alive_path ex) parts.is) ∙ path_is_alive ex sheet way.path way.is_live in
         let same = live_some ex sheet parts.parent (alive_parent ex parts.parent parts.child alive) ∙ ap (floor_of ex sheet) parts.there in
@@ -223,24 +223,24 @@ module _ (ex : Exercise) (few : ex.voices ≤ 4) (sheet : Sheet) where
     over_prefixes : tree.IsOverBudget (live_at ex sheet) (columns_in ex) budget → IsOverBudget ex sheet budget
     over_prefixes over = record {
       load = λ s best.
-          let way = best_is_first_least ex few sheet s best in
+          let way = best_is_first_least ex valid sheet s best in
           many_prefixes ex _ _ (loaded_alike (penalty_of ex sheet s)) (budget + 1) (over.load way.0 (penalty_of ex sheet s) way.2);
-      whole = λ none. many_prefixes ex _ _ live_alike (budget + 1) (over.whole (no_lawful_no_leaf ex few sheet none));
+      whole = λ none. many_prefixes ex _ _ live_alike (budget + 1) (over.whole (no_lawful_no_leaf ex valid sheet none));
     }
 
     over_paths : IsOverBudget ex sheet budget → tree.IsOverBudget (live_at ex sheet) (columns_in ex) budget
     over_paths over = record {
       load = λ path value first.
-          let own = first_least_is_best ex few sheet path value first in
+          let own = first_least_is_best ex valid sheet path value first in
           many_paths ex _ _ (loaded_alike value) (budget + 1)
           (subst (λ n. HasMany (IsLoaded ex sheet n) (budget + 1)) own.1 (over.load (prefix_at ex path) own.0));
-      whole = λ none. many_paths ex _ _ live_alike (budget + 1) (over.whole (no_leaf_no_lawful ex few sheet none));
+      whole = λ none. many_paths ex _ _ live_alike (budget + 1) (over.whole (no_leaf_no_lawful ex valid sheet none));
     }
 
     -- what a search of the front tells of this tree is exact
     pub answers_exactly : (outcome : Outcome) → IsFrontAnswer (live_at ex sheet) (columns_in ex) budget outcome → IsExact ex sheet budget outcome
     answers_exactly (Found path value) answer =
-        let own = first_least_is_best ex few sheet path value answer.found in
+        let own = first_least_is_best ex valid sheet path value answer.found in
         record {
           found = record {
             best = own.0;
@@ -254,7 +254,7 @@ module _ (ex : Exercise) (few : ex.voices ≤ 4) (sheet : Sheet) where
     answers_exactly Nothing answer = record {
       found = tt;
       nothing = record {
-        none = no_leaf_no_lawful ex few sheet answer.nothing;
+        none = no_leaf_no_lawful ex valid sheet answer.nothing;
         load = few_prefixes ex _ _ live_alike budget answer.nothing_load;
       };
       over = ((λ spent. absurd spent), (λ over. answer.over.1 (over_paths over)));
@@ -267,6 +267,6 @@ module _ (ex : Exercise) (few : ex.voices ≤ 4) (sheet : Sheet) where
       spent = record {
         many = many_prefixes ex _ _ (loaded_alike bound) (budget + 1) answer.spent;
         least = λ x low. few_prefixes ex _ _ (loaded_alike x) budget (answer.least x low);
-        reached = bound_of_lawful ex few sheet bound answer.bound;
+        reached = bound_of_lawful ex valid sheet bound answer.bound;
       };
     }

@@ -42,10 +42,14 @@ abbrev pub history_follows : List (List Cell) → Bool
 history_follows [] = true
 history_follows (col ∷ cols) = column_follows (newest_column cols) col && history_follows cols
 
--- the path leads to a prefix in which no strict break is settled; an exercise of more than four voices has no such path
+-- at most four voices, one of which has the cantus
+abbrev pub has_voices : Exercise → Bool
+has_voices ex = nat_le ex.voices 4 && nat_lt ex.cantus_voice ex.voices
+
+-- the path leads to a prefix in which no strict break is settled; there is none where the exercise's voices aren't such
 abbrev pub is_alive_path : Exercise → List ℕ → Bool
 is_alive_path ex path =
-    nat_le ex.voices 4 && nat_le (length path) (columns_in ex) && is_in_menus ex 0 path
+    has_voices ex && nat_le (length path) (columns_in ex) && is_in_menus ex 0 path
     && history_follows (reverse (prefix_at ex path)) && not (has_strict_break ex (prefix_at ex path))
 
 -- the floor of the prefix that a path leads to, where it is live: no strict break is settled in it, and a chain goes on from it
@@ -113,7 +117,7 @@ goes_on ex path k =
 
 -- what makes a path alive, test by test
 pub record IsAlivePath (ex : Exercise) (path : List ℕ) : Type 0 where
-  pub few : nat_le ex.voices 4 ≡ true
+  pub voices : has_voices ex ≡ true
   pub room : nat_le (length path) (columns_in ex) ≡ true
   pub menus : is_in_menus ex 0 path ≡ true
   pub follows : history_follows (reverse (prefix_at ex path)) ≡ true
@@ -125,7 +129,7 @@ not_true false h = refl
 
 pub alive_parts : (ex : Exercise) (path : List ℕ) → is_alive_path ex path ≡ true → IsAlivePath ex path
 alive_parts ex path h =
-    let few = nat_le ex.voices 4 in
+    let few = has_voices ex in
     let room = nat_le (length path) (columns_in ex) in
     let menus = is_in_menus ex 0 path in
     let follows = history_follows (reverse (prefix_at ex path)) in
@@ -134,7 +138,7 @@ alive_parts ex path h =
     let three : IsTrue (few && room && menus) = first_true (few && room && menus) follows four in
     let two : IsTrue (few && room) = first_true (few && room) menus three in
     record {
-      few = first_true few room two;
+      voices = first_true few room two;
       room = second_true few room two;
       menus = second_true (few && room) menus three;
       follows = second_true (few && room && menus) follows four;
@@ -142,7 +146,7 @@ alive_parts ex path h =
     }
 
 pub alive_from_parts : (ex : Exercise) (path : List ℕ) → IsAlivePath ex path → is_alive_path ex path ≡ true
-alive_from_parts ex path live = rw (live.few, live.room, live.menus, live.follows, live.alive) refl
+alive_from_parts ex path live = rw (live.voices, live.room, live.menus, live.follows, live.alive) refl
 
 below_test : (n m : ℕ) → nat_le (n + 1) m ≡ nat_lt n m
 below_test n m = grind (arith, nat_tests)
@@ -179,7 +183,7 @@ module _ (ex : Exercise) (path : List ℕ) (k : ℕ) where
   pub alive_goes_on : is_alive_path ex path ≡ true → is_alive_path ex (path ++ k ∷ []) ≡ goes_on ex path k
   alive_goes_on h =
       let live = alive_parts ex path h in
-      rw (live.few, longer_room, longer_menus, longer_follows, longer_breaks, live.menus, live.follows, live.alive)
+      rw (live.voices, longer_room, longer_menus, longer_follows, longer_breaks, live.menus, live.follows, live.alive)
       (four_tests (nat_lt (length path) (columns_in ex)) (nat_lt k (length (menu_of ex (length path)))) (column_follows (newest_column (reverse (prefix_at ex path))) (column_at ex path k)) (list_any (newly_broken ex (prefix_at ex path) (column_at ex path k)) rules_read))
 
   -- the parent of an alive path is alive
@@ -187,7 +191,7 @@ module _ (ex : Exercise) (path : List ℕ) (k : ℕ) where
   alive_parent h =
       let live = alive_parts ex (path ++ k ∷ []) h in
       alive_from_parts ex path record {
-        few = live.few;
+        voices = live.voices;
         room = shorter_test (length path) (columns_in ex) (sym longer_room ∙ live.room);
         menus = first_true (is_in_menus ex 0 path) (nat_lt k (length (menu_of ex (length path)))) (sym longer_menus ∙ live.menus);
         follows = second_true (column_follows (newest_column (reverse (prefix_at ex path))) (column_at ex path k)) (history_follows (reverse (prefix_at ex path))) (sym longer_follows ∙ live.follows);

@@ -18,7 +18,7 @@ use crate::node::Node;
 use crate::walk::next_unpruned;
 use floor_tables::{TableFault, Tables, fill_tables};
 use fux_grid::{Column, Exercise, cells_follow, menu};
-use fux_judge::{State, is_always_dead, least, step};
+use fux_judge::{State, is_always_dead, least, step_unbroken};
 use fux_pitch::Memory;
 use penalty_sheet::Sheet;
 use std::alloc::Global;
@@ -83,6 +83,7 @@ impl<'a> SpeciesSpace<'a> {
         ensures fewest { 2 ≤ result }
         ensures most { result ≤ 4 }
         ensures short { columns_in self.now.exercise ≤ 192 }
+        ensures valid { IsValid self.now.exercise }
     {
         self.exercise.voices
     }
@@ -245,10 +246,9 @@ fn child_by(
     if !cells_follow(before, column.as_slice()) {
         return None;
     }
-    let verdict = step(exercise, sheet, &node.state, column);
-    if verdict.breaks() {
+    let Some(verdict) = step_unbroken(exercise, sheet, &node.state, column) else {
         return None;
-    }
+    };
     let paid = node.paid + verdict.paid;
     let child = Node {
         state: verdict.state,

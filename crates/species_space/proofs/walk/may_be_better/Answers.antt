@@ -31,7 +31,7 @@ returns-in_default c = λ path at.
     let long = as_long ex sheet c.args.node.now path at in
     let longer = as_long ex sheet c.args.node.now c.requires.node.path c.requires.node.at in
     let is = subst (λ (n : ℕ). IsRest ex sheet n (slice_index_or (menu_of ex n) c.args.k []) c.rest_of_number.result) here c.rest_of_number.ensures.rest in
-    no_better_by_rest ex path c.args.k at.alive sheet c.requires.valid c.rest_of_number.result c.args.best (omega (arith, long, longer, c.requires.node.above)) is
+    no_better_by_rest ex path c.args.k at.alive sheet c.rest_of_number.result c.args.best (omega (arith, long, longer, c.requires.node.above)) is
     (λ x e. absurd (c.in_default.not-Some x e))
 
 unless : (b : Bool) (A : Type 0) → (b ≡ false → A) → OnFalse b A
@@ -51,7 +51,7 @@ returns-in-Some-best c =
     let longer = as_long ex sheet c.args.node.now c.requires.node.path c.requires.node.at in
     let is = subst (λ (n : ℕ). IsRest ex sheet n (slice_index_or (menu_of ex n) c.args.k []) c.rest_of_number.result) here c.rest_of_number.ensures.rest in
     let dear : value ≤ c.args.node.now.paid + c.args.node.now.least + rest = reaches value (c.args.node.now.paid + c.args.node.now.least + rest) no in
-    no_better_by_rest ex path c.args.k at.alive sheet c.requires.valid c.rest_of_number.result c.args.best (omega (arith, long, longer, c.requires.node.above)) is
+    no_better_by_rest ex path c.args.k at.alive sheet c.rest_of_number.result c.args.best (omega (arith, long, longer, c.requires.node.above)) is
     (λ x e.
     let same : rest ≡ x = same_number rest x (sym c.in-Some.is ∙ e) in
     subst (λ (best : Option ℕ). IsSomeAnd best (λ v. v ≤ paid ex sheet (prefix_at ex path) + least_of ex sheet (prefix_at ex path) + x)) (sym c.in-Some-best.is)

@@ -55,6 +55,6 @@ returns-clause-passed c = λ path at j le lt.
     let inside : j < length menu = omega (arith, lt, block.within) in
     let full : length (slice_index_or menu j []) ≡ ex.voices =
     ap (λ cols. length (slice_index_or cols j [])) c.requires.menu ∙ menu_of-full ex i j [] (subst (λ cols. j < length cols) c.requires.menu inside) in
-    pruned_no_better ex sheet c.args.node.now path at c.requires.valid j c.args.best c.limit_of-limit.result (slice_index_or menu j [])
+    pruned_no_better ex sheet c.args.node.now path at j c.args.best c.limit_of-limit.result (slice_index_or menu j [])
     (column_of_menu ex sheet c.args.node.now path at columns j c.requires.menu) c.limit_of-limit.ensures
     (c.in_ok-voices.ensures.pruned _ at.state (slice_index_or menu j []) full (block.cells j le lt ∙ ap (take c.in_ok-voices.voices) (sym c.column.ensures)))
