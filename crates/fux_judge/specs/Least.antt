@@ -11,7 +11,7 @@ use Rattle.fux_grid.specs.declared.cell.Cell.{Cell}
 use Rattle.fux_grid.specs.declared.exercise.Exercise.{Exercise}
 use Rattle.fux_grid.specs.Cells.{cell_in}
 use Rattle.fux_grid.specs.Columns.{line}
-use Rattle.fux_grid.specs.Exercises.{IsFree, IsValid}
+use Rattle.fux_grid.specs.Exercises.{IsFree}
 use Rattle.fux_grid.specs.Menus.{IsInMenu, menu_of}
 use Rattle.fux_grid.proofs.Histories.{reverse-push}
 use Rattle.fux_grid.proofs.MenuLemmas.{menu_of-contains}

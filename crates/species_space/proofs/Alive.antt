@@ -1,6 +1,5 @@
 -- What a step reads of a column that comes after a live path is exact, since its prefix is orderly.
-use Rattle.std.proofs.Common.{◌≡◌, ℕ, ◌+◌, ◌<◌, ◌≤◌, Bool, true, ◌&&◌, List, [], ◌∷◌, ◌++◌, length, reverse, slice_index_or, refl, sym, ◌∙◌, subst, inl, inr, arith}
-use Rattle.std.specs.List.{list_any}
+use Rattle.std.proofs.Common.{◌≡◌, ℕ, ◌+◌, ◌<◌, ◌≤◌, true, List, [], ◌∷◌, ◌++◌, length, reverse, slice_index_or, sym, subst, inl, inr, arith}
 use Rattle.std.proofs.Math.ListN.{get_or-append}
 use Rattle.std.proofs.Math.Seq.{get_or-append_seam}
 use Rattle.std.proofs.lemmas.Bool.{cases_lt}
@@ -12,11 +11,8 @@ use Rattle.fux_grid.specs.Columns.{ColumnFollows, HistoryFollows, newest_column}
 use Rattle.fux_grid.specs.Exercises.{columns_in}
 use Rattle.fux_grid.specs.Menus.{IsInMenu, menu_of}
 use Rattle.fux_grid.proofs.Histories.{reverse-push}
-use Rattle.rule_law.specs.Growth.{list_any-same}
 use Rattle.rule_law.specs.Prefixes.{GoesOn, IsPrefix}
 use Rattle.fux_judge.specs.Alive.{alive_orderly}
-use Rattle.fux_judge.specs.Lawful.{IsAlive}
-use Rattle.fux_judge.specs.Rules.{rules_read, is_read}
 use Rattle.species_space.specs.Exact.{menus_are_exact}
 use Rattle.species_space.specs.Leaves.{prefix_is_alive}
 use Rattle.species_space.specs.Paths.{column_at, is_alive_path, length-columns_on, prefix_at, width_at}

@@ -1,5 +1,5 @@
 -- From the end of a lawful setting back to its beginning floors don't rise (`floors_hold`).
-use Rattle.std.proofs.Common.{◌≡◌, ℕ, ◌+◌, ◌≤◌, Bool, true, false, ◌||◌, List, [], ◌∷◌, ◌++◌, Option, Some, None, refl, ap, sym, ◌∙◌, subst, arith}
+use Rattle.std.proofs.Common.{◌≡◌, ℕ, ◌≤◌, Bool, true, false, ◌||◌, List, [], ◌∷◌, ◌++◌, Option, Some, None, refl, sym, ◌∙◌, subst, arith}
 use Rattle.std.specs.Prelude.{IsSome, IsSomeAnd}
 use Rattle.std.specs.List.{list_any}
 use Rattle.std.proofs.lemmas.List.{append_assoc, append-nil}
@@ -15,6 +15,7 @@ use Rattle.fux_judge.specs.Rules.{rules_read}
 use Rattle.floor_tables.specs.Floors.{IsLive, floor_of}
 use Rattle.species_space.specs.FloorLaws.{floor_at_end, floor_grows, floor_parts}
 use Rattle.species_space.specs.Floors.{HasFloors}
+
 or_false : (a b : Bool) → (a || b) ≡ false → a ≡ false
 or_false true b h = cc
 or_false false b h = refl

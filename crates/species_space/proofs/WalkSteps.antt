@@ -1,7 +1,7 @@
 -- What a walk over a menu passes over after a node's path is no better than the best leaf so far: a column that strays or dies
 -- (`stray_no_better`), and one that is pruned (`pruned_no_better`).
 use Rattle.std.specs.Prelude.{IsSomeAnd}
-use Rattle.std.proofs.Common.{◌≡◌, ◌⊎◌, inl, inr, ◌+◌, ◌≤◌, Option, ℕ, List, [], length, reverse, slice_index_or, ap, sym, ◌∙◌, subst, true, arith}
+use Rattle.std.proofs.Common.{◌≡◌, inl, inr, ◌+◌, ◌≤◌, Option, ℕ, List, [], reverse, slice_index_or, ap, sym, ◌∙◌, subst, true, arith}
 use Rattle.std.specs.List.{list_any}
 use Rattle.arrayvec.specs.ArrayVec.{ArrayVec}
 use Rattle.fux_grid.specs.declared.cell.Cell.{Cell}
@@ -10,8 +10,7 @@ use Rattle.fux_grid.specs.Columns.{newest_column, ColumnFollows}
 use Rattle.fux_grid.specs.Grid.{items_of}
 use Rattle.fux_grid.specs.Menus.{menu_of}
 use Rattle.penalty_sheet.specs.declared.sheet.Sheet.{Sheet}
-use Rattle.fux_judge.specs.Gauges.{least_of}
-use Rattle.fux_judge.specs.Penalties.{newly_broken, newly_paid, paid}
+use Rattle.fux_judge.specs.Penalties.{newly_broken, newly_paid}
 use Rattle.fux_judge.specs.Pruning.{IsPruned}
 use Rattle.fux_judge.specs.Rules.{rules_read}
 use Rattle.species_space.specs.declared.node.Node.{Node}

@@ -1,6 +1,6 @@
 -- Leaves are the lawful settings, with their penalties (`leaf_is_lawful`, `lawful_is_leaf`), and the first of least value is the
 -- best setting (`first_least_is_best`, `best_is_first_least`).
-use Rattle.std.specs.Prelude.{◌≡◌, ◌≢◌, ℕ, suc, ◌<◌, ◌≤◌, ◌⊎◌, Bool, true, false, nat_lt, List, [], ◌∷◌, Some, length, slice_index_or, refl}
+use Rattle.std.specs.Prelude.{◌≡◌, ◌≢◌, ℕ, suc, ◌<◌, ◌⊎◌, Bool, true, false, nat_lt, List, [], ◌∷◌, Some, length, slice_index_or, refl}
 use Rattle.std.proofs.Common.{ap, sym, ◌∙◌, subst, arith, inl, inr}
 use Rattle.std.proofs.lemmas.Bool.Decides.{nat_tests}
 use Rattle.fux_grid.specs.declared.cell.Cell.{Cell}

@@ -1,4 +1,4 @@
-use Rattle.std.proofs.Common.{◌≡◌, ◌+◌, ◌<◌, ◌≤◌, ℕ, Bool, true, false, nat_lt, List, [], Option, Some, None, length, slice_index_or, refl, sym, ◌∙◌, subst, arith}
+use Rattle.std.proofs.Common.{◌≡◌, ◌+◌, ◌<◌, ◌≤◌, ℕ, Bool, true, false, nat_lt, [], Option, Some, length, slice_index_or, refl, sym, ◌∙◌, subst, arith}
 use Rattle.std.specs.Bool.{OnFalse}
 use Rattle.std.specs.Prelude.{IsSomeAnd}
 use Rattle.std.proofs.lemmas.Bool.Decides.{nat_tests}
@@ -16,8 +16,8 @@ rest_of_number-requires-clause-place c =
     let path = c.requires.node.path in
     omega (arith, c.len.ensures ex (prefix_at ex path) c.requires.node.at.state, length-columns_on ex 0 path, c.requires.node.above)
 
-pub rest_of_number-requires-clause-number : goal.rest_of_number-requires-clause-number
-rest_of_number-requires-clause-number c =
+pub rest_of_number-requires-clause-choice : goal.rest_of_number-requires-clause-choice
+rest_of_number-requires-clause-choice c =
     let ex = c.args.tables.now.exercise in
     let path = c.requires.node.path in
     let here : c.len.result ≡ c.args.node.now.state.newest.len = c.len.ensures ex (prefix_at ex path) c.requires.node.at.state ∙ sym c.requires.node.at.state.newest.count in

@@ -1,5 +1,4 @@
-use Rattle.std.proofs.Common.{◌≡◌, ◌<◌, ◌≤◌, ℕ, [], length, slice_index_or, arith}
-use Rattle.std.proofs.lemmas.List.{length-map}
+use Rattle.std.proofs.Common.{ℕ, [], slice_index_or, arith}
 use Rattle.fux_grid.specs.Grid.{items_of}
 use Rattle.species_space.specs.Paths.{IsNoBetter}
 use Rattle.species_space.proofs.Passing.{passed_on}

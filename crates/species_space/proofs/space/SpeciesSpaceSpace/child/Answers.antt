@@ -1,4 +1,4 @@
-use Rattle.std.proofs.Common.{◌≡◌, ◌<◌, ℕ, List, [], Option, Some, None, length, slice_index_or, ap, sym, ◌∙◌, subst, arith}
+use Rattle.std.proofs.Common.{◌≡◌, ◌<◌, ℕ, List, [], Option, length, slice_index_or, ap, sym, ◌∙◌, subst, arith}
 use Rattle.fux_grid.specs.declared.cell.Cell.{Cell}
 use Rattle.fux_grid.specs.Exercises.{columns_in}
 use Rattle.fux_grid.specs.Menus.{menu_of}
@@ -23,8 +23,8 @@ rest_of_number-requires-clause-place c =
     let room : c.len-i.result < columns_in ex = omega (arith, c.len-i.ensures ex (prefix_at ex c.requires.path) c.requires.at.state, length-columns_on ex 0 c.requires.path, c.requires.above) in
     subst (λ (t : Task). c.len-i.result < columns_in t.exercise) (sym (c.self.invariant.1 ∙ c.self.view_is)) room
 
-pub rest_of_number-requires-clause-number : goal.rest_of_number-requires-clause-number
-rest_of_number-requires-clause-number c =
+pub rest_of_number-requires-clause-choice : goal.rest_of_number-requires-clause-choice
+rest_of_number-requires-clause-choice c =
     let ex = c.args.self.now.exercise in
     let here = c.len-i.ensures ex (prefix_at ex c.requires.path) c.requires.at.state ∙ length-columns_on ex 0 c.requires.path in
     subst (λ (t : Task). c.args.k < length (menu_of t.exercise c.len-i.result)) (sym (c.self.invariant.1 ∙ c.self.view_is))

@@ -1,4 +1,4 @@
-use Rattle.std.proofs.Common.{◌≡◌, ◌+◌, ℕ, [], Some, None, refl, ap, sym, ◌∙◌, subst, arith}
+use Rattle.std.proofs.Common.{◌≡◌, ◌+◌, [], Some, refl, ap, sym, ◌∙◌, subst, arith}
 use Rattle.fux_grid.specs.Exercises.{IsValid}
 use Rattle.rule_law.specs.Prefixes.{IsPrefix}
 use Rattle.fux_judge.specs.Gauges.{least_of}
@@ -38,6 +38,6 @@ returns c =
     let sum : paid ex sheet [] + least_of ex sheet [] + c.in_ok-start.start ≡ c.least-least.result + c.in_ok-start.start = omega (arith, none, lines) in (
       record { state = state; alive = alive; paid = refl; least = lines; few = omega arith; little = c.least-least.ensures.bound },
       live_some ex sheet [] alive
-      ∙ floor_of_rest ex sheet [] c.in_ok-start.start (sym (start_is ex sheet c.start.result start) ∙ c.in_ok-start.was)
-      ∙ ap Some sum,
+          ∙ floor_of_rest ex sheet [] c.in_ok-start.start (sym (start_is ex sheet c.start.result start) ∙ c.in_ok-start.was)
+          ∙ ap Some sum,
     )
