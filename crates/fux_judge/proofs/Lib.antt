@@ -10,3 +10,4 @@ pub mod RoughLemmas
 pub mod SetLemmas
 pub mod StepLemmas
 pub mod SumLemmas
+pub mod ShapeLemmas
