@@ -15,3 +15,4 @@ pub mod RoughLemmas
 pub mod SetLemmas
 pub mod StepLemmas
 pub mod SumLemmas
+pub mod ShapeLemmas

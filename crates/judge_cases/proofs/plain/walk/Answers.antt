@@ -2,7 +2,7 @@ use Rattle.std.proofs.Common.{◌∷◌, ◌++◌, [], List, take, ap, sym, ◌�
 use Rattle.std.proofs.lemmas.List.{take_more}
 use Rattle.fux_grid.specs.declared.cell.Cell.{Cell}
 use Rattle.fux_judge.specs.States.{IsStateOf}
-use Rattle.plain_judge.proofs.tests.walk.Goals as goal
+use Rattle.judge_cases.proofs.plain.walk.Goals as goal
 
 pub loop-i-preserved : goal.loop-i-preserved
 loop-i-preserved g c =
