@@ -13,6 +13,7 @@ use std::alloc::Global;
 use std::fmt::Write;
 use std::process::Abort;
 use std::test::Fail;
+use std::thread::Threads;
 use tree_search::{Outcome, search_depth};
 
 /// The rules that don't count, whose breaks cost nothing.
@@ -116,10 +117,16 @@ fn found_text(
 }
 
 /// What a search answers, as the end of a line.
-fn answer(alloc: Global, exercise: &Exercise, sheet: &Sheet, budget: u32) -> Result<String, Fail>
+fn answer<R: Threads + Sync>(
+    rt: &R,
+    alloc: Global,
+    exercise: &Exercise,
+    sheet: &Sheet,
+    budget: u32,
+) -> Result<String, Fail>
     requires { IsValid exercise.now }
 {
-    let Ok(space) = SpeciesSpace::in_one_thread(alloc, exercise, sheet) else {
+    let Ok(space) = SpeciesSpace::new(rt, alloc, exercise, sheet) else {
         return Err("no tables".into());
     };
     match search_depth(alloc, &space, budget)? {
@@ -130,8 +137,8 @@ fn answer(alloc: Global, exercise: &Exercise, sheet: &Sheet, budget: u32) -> Res
 }
 
 /// Compares what a search answers of each line with the end of the line.
-fn expect_best(
-    rt: &impl Abort,
+fn expect_best<R: Abort + Threads + Sync>(
+    rt: &R,
     alloc: Global,
     cases: &str,
     free: &[u8],
@@ -141,7 +148,7 @@ fn expect_best(
     for line in cases.lines() {
         let (exercise, wanted) = to_case(alloc, line, free)?;
         assert!(rt; exercise.is_valid(), "{line}");
-        let found = answer(alloc, &exercise, sheet, budget)?;
+        let found = answer(rt, alloc, &exercise, sheet, budget)?;
         assert_eq!(rt; found.as_str(), wanted, "{line}");
     }
     Ok(())
