@@ -26,6 +26,7 @@ use Rattle.motion_rules.specs.Rows as motion
 use Rattle.dissonance_rules.specs.Book as dissonance_book
 use Rattle.dissonance_rules.specs.Rows as dissonance
 use Rattle.rhythm_cadence.specs.Book as rhythm_book
+use Rattle.rhythm_cadence.specs.Patterns.{ligature_toll}
 use Rattle.rhythm_cadence.specs.Rows as rhythm
 use Rattle.doubling_rules.specs.Rows as doubling
 use Rattle.penalty_sheet.specs.declared.sheet.Sheet.{Sheet}
@@ -106,13 +107,6 @@ rhythm_windows rule = at (rule == 3) (rule == 22)
     at true b = refl
     at false true = refl
     at false false = refl
-
-rhythm_window_tolls : (toll : ℕ) → is_of_neighbors (rhythm_book.late_toll toll).kind ≡ false
-rhythm_window_tolls toll = at (toll == 15)
-  where
-    at : (b : Bool) → is_of_neighbors (if b then rhythm_book.ligature_row else rhythm_book.pattern_row).kind ≡ false
-    at true = refl
-    at false = refl
 
 first_false : (a b : Bool) → (a || b) ≡ false → a ≡ false
 first_false true b h = cc
@@ -318,11 +312,21 @@ module _ (toll : ℕ) (between : is_toll_between toll ≡ true) where
     pub dissonance_toll : crate_with_toll toll ≡ Some Dissonance → costs toll ex ≡ whole_of (dissonance.toll_rows toll ex)
     dissonance_toll its = of_toll (toll_by (Some Dissonance) toll) (toll_of_crate toll (Some Dissonance) its)
 
-    -- none of rhythm
-    pub rhythm_toll : crate_with_toll toll ≡ Some Rhythm → costs toll ex ≡ whole_of (λ i before previous now. 0)
-    rhythm_toll its =
-        let soon = other_toll (rhythm_book.is_late_toll toll) (rhythm_book.late_toll toll) no_toll (rhythm_window_tolls toll) (toll_between_by (Some Rhythm) its) in
-        of_toll no_toll (toll_of_crate toll (Some Rhythm) its ∙ second (rhythm_book.is_late_toll toll) (rhythm_book.late_toll toll) no_toll soon)
+    -- Q15, and no other
+    rhythm_choice : Bool → Bool → TollRow
+    rhythm_choice ligature pattern =
+        if ligature || pattern then (if ligature then rhythm_book.ligature_row else rhythm_book.pattern_row) else no_toll
+
+    pub ligature_toll_row : crate_with_toll toll ≡ Some Rhythm → (toll == 15) ≡ true → costs toll ex ≡ whole_of (ligature_toll ex)
+    unfolding rhythm_choice
+    ligature_toll_row its is =
+        of_toll rhythm_book.ligature_row (toll_of_crate toll (Some Rhythm) its ∙ ap (λ b. rhythm_choice b (toll == 16)) is)
+
+    pub other_rhythm_toll : crate_with_toll toll ≡ Some Rhythm → (toll == 15) ≡ false → costs toll ex ≡ whole_of (λ i before previous now. 0)
+    unfolding rhythm_choice
+    other_rhythm_toll its other =
+        of_toll no_toll
+        (toll_of_crate toll (Some Rhythm) its ∙ ap (λ b. rhythm_choice b (toll == 16)) other ∙ ap (rhythm_choice false) not_pattern)
 
     pub doubling_toll : crate_with_toll toll ≡ Some Doubling → costs toll ex ≡ whole_of (doubling.doubling_tolls toll ex)
     doubling_toll its = of_toll (toll_by (Some Doubling) toll) (toll_of_crate toll (Some Doubling) its)
@@ -339,7 +343,11 @@ module _ (toll : ℕ) (between : is_toll_between toll ≡ true) where
         at (Some Motion) its true e = record { row = inner_toll ex; is = inner_toll_row its e }
         at (Some Motion) its false e = record { row = motion.toll_rows toll ex; is = motion_toll its e }
         at (Some Dissonance) its b e = record { row = dissonance.toll_rows toll ex; is = dissonance_toll its }
-        at (Some Rhythm) its b e = record { row = λ i before previous now. 0; is = rhythm_toll its }
+        at (Some Rhythm) its b e = of_rhythm its (toll == 15) refl
+          where
+            of_rhythm : crate_with_toll toll ≡ Some Rhythm → (b : Bool) → (toll == 15) ≡ b → HasNearRow (costs toll ex)
+            of_rhythm its true e = record { row = ligature_toll ex; is = ligature_toll_row its e }
+            of_rhythm its false e = record { row = λ i before previous now. 0; is = other_rhythm_toll its e }
         at (Some Doubling) its b e = record { row = doubling.doubling_tolls toll ex; is = doubling_toll its }
 
 module _ (toll : ℕ) (l : Link) (link : IsLink l) (between : is_toll_between toll ≡ true) where
@@ -365,8 +373,13 @@ module _ (toll : ℕ) (l : Link) (link : IsLink l) (between : is_toll_between to
       → dissonance.toll_rows toll l.exercise.now l.place l.before.now l.latest.pitches l.next.now ≡ cost_at_link l toll
   dissonance_costs its = cost_by (dissonance.toll_rows toll l.exercise.now) (dissonance_toll toll between l.exercise.now its)
 
-  pub rhythm_costs : crate_with_toll toll ≡ Some Rhythm → 0 ≡ cost_at_link l toll
-  rhythm_costs its = cost_by (λ i before previous now. 0) (rhythm_toll toll between l.exercise.now its)
+  pub ligature_costs : crate_with_toll toll ≡ Some Rhythm → toll ≡ 15
+      → ligature_toll l.exercise.now l.place l.before.now l.latest.pitches l.next.now ≡ cost_at_link l toll
+  ligature_costs its is = cost_by (ligature_toll l.exercise.now) (ligature_toll_row toll between l.exercise.now its (ap (λ t. t == 15) is))
+
+  pub other_rhythm_costs : crate_with_toll toll ≡ Some Rhythm → toll ≢ 15 → 0 ≡ cost_at_link l toll
+  other_rhythm_costs its other =
+      cost_by (λ i before previous now. 0) (other_rhythm_toll toll between l.exercise.now its (not_equal toll 15 other))
 
   pub doubling_costs : crate_with_toll toll ≡ Some Doubling → doubling.cost_of_column toll l.exercise.now l.place l.next.now ≡ cost_at_link l toll
   doubling_costs its = cost_by (doubling.doubling_tolls toll l.exercise.now) (doubling_toll toll between l.exercise.now its)

@@ -153,7 +153,13 @@ fn cost(toll: u8, link: &Link<'_>) -> u32
             }
         }
         Some(RuleCrate::Dissonance) => { dissonance_rules::cost(toll, ex, i, before, latest, next) }
-        Some(RuleCrate::Rhythm) => 0,
+        Some(RuleCrate::Rhythm) => {
+            if toll == 15 {
+                u32::from(rhythm_cadence::lacks_ligature(ex, i, next))
+            } else {
+                0
+            }
+        }
         Some(RuleCrate::Doubling) => doubling_rules::doubling_cost(toll, ex, i, next),
         None => 0,
     }

@@ -52,7 +52,7 @@ const PAIR_RULES: [u8; 6] = [4, 5, 12, 16, 17, 26];
 const TOLLS: [u8; 16] = [1, 2, 3, 4, 5, 6, 7, 8, 9, 10, 11, 12, 13, 14, 15, 16];
 
 /// The tolls that a column decides by itself.
-const COLUMN_TOLLS: [u8; 6] = [1, 2, 3, 4, 5, 6];
+const COLUMN_TOLLS: [u8; 7] = [1, 2, 3, 4, 5, 6, 15];
 
 /// Those that need the column before it too.
 const PAIR_TOLLS: [u8; 6] = [7, 8, 9, 10, 11, 12];

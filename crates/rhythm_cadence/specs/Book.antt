@@ -92,7 +92,7 @@ is_late_toll n = (n == 15) || (n == 16)
 -- Q15 is settled at once, in species 4 at the beginning of an inner bar
 abbrev pub ligature_row : TollRow
 ligature_row = record {
-  kind = Window;
+  kind = Column;
   late = true;
   cost = λ ex. whole_of (ligature_toll ex);
   enough = λ ex. at_once;
