@@ -1,8 +1,13 @@
-mod LateLemmas
+pub mod FourLemmas
+pub mod AheadLemmas
 pub mod AlwaysLemmas
 pub mod ChargeLemmas
 pub mod CrateLemmas
 pub mod KeptLemmas
+pub mod LinkLemmas
+pub mod LinkPaid
+pub mod LineLemmas
+mod LateLemmas
 pub mod MomentLemmas
 pub mod PruningLemmas
 pub mod QuietLemmas
@@ -10,3 +15,4 @@ pub mod RoughLemmas
 pub mod SetLemmas
 pub mod StepLemmas
 pub mod SumLemmas
+pub mod ShapeLemmas

@@ -1,10 +1,14 @@
 //! Settled breaks and penalties, column by column: one small state stands for a prefix of any length.
 #![tactic(auto)]
 
+mod ahead;
 mod always;
+mod gauges;
 mod kept;
 mod late;
 mod late_tolls;
+mod lines;
+mod link;
 mod moment;
 mod numbers;
 mod pruning;
@@ -12,13 +16,17 @@ mod reading;
 mod state;
 mod tolls;
 mod total;
+mod unbroken;
 mod verdict;
 mod whole;
 
 pub use always::is_always_dead;
+pub use lines::least;
+pub use link::{column_cost, link_cost, pair_cost};
 pub use numbers::{every_rule, every_toll};
 pub use pruning::pruned_within;
 pub use state::State;
 pub use total::penalty;
+pub use unbroken::step_unbroken;
 pub use verdict::{Verdict, step};
 pub use whole::{cost_in, is_broken_in, is_cost_settled_in, is_settled_in};
