@@ -1,0 +1,4 @@
+pub mod Certificates
+pub mod Claims
+pub mod Floors
+pub mod Writer
