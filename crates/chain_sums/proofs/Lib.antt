@@ -2,4 +2,5 @@ pub mod CandidateLemmas
 pub mod LeastLemmas
 pub mod MenuLemmas
 pub mod PackedLemmas
+pub mod SumLemmas
 pub mod TableLemmas
