@@ -63,3 +63,12 @@ pub record Refutes (ex : Exercise) (sheet : Sheet) (head : CertHead) (t : List (
 pub record Begins (p t : List (List Cell)) : Type 0 where
   pub rest : List (List Cell)
   pub is : t ≡ p ++ rest
+
+-- one of the prefixes begins it
+abbrev pub IsBegunByOne : List (List (List Cell)) → List (List Cell) → Type 0
+IsBegunByOne [] t = ⊥
+IsBegunByOne (p ∷ owed) t = Begins p t ⊎ IsBegunByOne owed t
+
+-- each setting that refutes the head is begun by a prefix that is owed
+abbrev pub OwesRefuting : Exercise → Sheet → CertHead → List (List (List Cell)) → Type 0
+OwesRefuting ex sheet head owed = (t : List (List Cell)) → Refutes ex sheet head t → IsBegunByOne owed t
