@@ -1,2 +1,4 @@
+pub mod Orders
 pub mod Prefixes
 pub mod Valid
+pub mod WrittenClaims

@@ -4,6 +4,7 @@ ghost use Rattle.std.specs.Prelude.{List};
 ghost use Rattle.cert_text.specs.declared.claim.Claim.{Claim};
 ghost use Rattle.cert_law.specs.Certificates.{Holds, IsCertificate};
 ghost use Rattle.cert_law.specs.Floors.{FloorsHold};
+ghost use Rattle.cert_law.specs.Writer.{claims_of};
 ghost use Rattle.fux_grid.specs.Exercises.{IsValid};
 
 use cert_text::CertHead;
@@ -15,6 +16,17 @@ use penalty_sheet::Sheet;
 pub fn shown_by(ex: &Exercise, sheet: &Sheet, head: &CertHead)
     requires valid { IsValid ex.now }
     ensures { FloorsHold ex.now sheet.now → (claims : List Claim) → IsCertificate ex.now sheet.now head.now claims → Holds ex.now sheet.now head.now }
+{
+    let _ = ex.voices;
+    let _ = sheet;
+    let _ = head;
+}
+
+/// What the writer's certificate is: of a head that holds, it is valid. It does nothing, as `shown_by`.
+pub fn written(ex: &Exercise, sheet: &Sheet, head: &CertHead)
+    requires valid { IsValid ex.now }
+    ensures { FloorsHold ex.now sheet.now → Holds ex.now sheet.now head.now
+        → IsCertificate ex.now sheet.now head.now (claims_of ex.now sheet.now head.now) }
 {
     let _ = ex.voices;
     let _ = sheet;

@@ -5,4 +5,4 @@
 
 mod law;
 
-pub use law::shown_by;
+pub use law::{shown_by, written};
