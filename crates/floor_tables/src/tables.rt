@@ -1,6 +1,6 @@
 //! Tables of the least sums over the chains of an exercise.
 
-ghost use Rattle.std.specs.Prelude.{◌≡◌, ◌<◌, OnOk, IfOk, IfErr};
+ghost use Rattle.std.specs.Prelude.{◌≡◌, ◌<◌, [], length, OnOk, IfOk, IfErr, slice_index_or};
 ghost use Rattle.std.specs.List.{Contains};
 ghost use Rattle.fux_grid.specs.Exercises.{IsValid, columns_in};
 ghost use Rattle.fux_grid.specs.Menus.{menu_of};
@@ -59,6 +59,26 @@ impl<'a> Tables<'a> {
         ensures { IsRest self.now.exercise self.now.sheet i col.now.items result }
     {
         self.sums.rest(i, col)
+    }
+
+    /// How many columns the menu of a place has.
+    pub fn width(&self, i: usize) -> usize
+        requires { i < columns_in self.now.exercise }
+        ensures { result ≡ length (menu_of self.now.exercise i) }
+    {
+        self.sums.width(i)
+    }
+
+    /// The column of a number in the menu of a place.
+    pub fn column(&self, i: usize, k: usize) -> &Column
+        requires place { i < columns_in self.now.exercise }
+        requires within { k < length (menu_of self.now.exercise i) }
+        ensures { result.now.items ≡ slice_index_or (menu_of self.now.exercise i) k [] }
+    {
+        match self.sums.column(i, k) {
+            Some(column) => column,
+            None => unreachable!(),
+        }
     }
 
     /// The least sum over all chains. None exactly where there is no chain.
