@@ -1,1 +1,2 @@
 pub mod BreakLemmas
+pub mod NumberLemmas

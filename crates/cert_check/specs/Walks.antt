@@ -1,5 +1,5 @@
 -- Where a checker stands: the open prefixes that begin the one owed next, as the number of the column by which each goes on.
-use Rattle.std.specs.Prelude.{◌≡◌, ℕ, ◌+◌, ◌<◌, List, [], ◌∷◌, ◌++◌, Option, Some, None, IfSome, drop, length, map, reverse, slice_index_or, vec_capacity, ⊤}
+use Rattle.std.specs.Prelude.{◌≡◌, ℕ, ◌+◌, ◌<◌, Bool, IsTrue, List, [], ◌∷◌, ◌++◌, Option, Some, None, IfSome, drop, length, map, reverse, slice_index_or, vec_capacity, ⊤}
 use Rattle.std.specs.List.{filter}
 use Rattle.cert_check.specs.declared.judged.Judged.{Judged}
 use Rattle.cert_check.specs.declared.walk.Level.{Level}
@@ -25,6 +25,14 @@ next_from ex p from = filter (column_follows (newest_column (reverse p))) (drop 
 -- the prefixes that are longer by one of them
 abbrev pub longer_from : Exercise → List (List Cell) → ℕ → List (List (List Cell))
 longer_from ex p from = map (λ col. p ++ col ∷ []) (next_from ex p from)
+
+-- the number of the first column of a menu, from a number on, that follows these cells
+abbrev pub IsNextNumber : List (List Cell) → List Cell → ℕ → Option ℕ → Type 0
+IsNextNumber menu before from None = filter (column_follows before) (drop from menu) ≡ []
+IsNextNumber menu before from (Some k) =
+    (k < length menu) × IsTrue (column_follows before (slice_index_or menu k []))
+    × (filter (column_follows before) (drop from menu)
+        ≡ slice_index_or menu k [] ∷ filter (column_follows before) (drop (k + 1) menu))
 
 -- the prefix to which the numbers of levels lead, the newest level first
 abbrev pub prefix_of : Exercise → List Level → List (List Cell)
@@ -53,12 +61,17 @@ pub record IsOpen (t : Case) (p : List (List Cell)) (judged : Judged) : Type 0 w
 
 -- and goes on by the column of a number
 pub record IsLevel (t : Case) (p : List (List Cell)) (level : Level) : Type 0 where
-  pub is_open : IsOpen t p level.open
+  pub is_open : IsOpen t p level.parent
   pub within : level.number < length (menu_of t.exercise.now (length p))
 
 abbrev pub AreLevels : Case → List Level → Type 0
 AreLevels t [] = ⊤
 AreLevels t (level ∷ older) = IsLevel t (prefix_of t.exercise.now older) level × AreLevels t older
+
+-- where the prefix is open, it can go on
+pub record CanGoOn (t : Case) (p : List (List Cell)) (is_open : Bool) : Type 0 where
+  pub orderly : IsTrue is_open → IsOrderly t.exercise.now p
+  pub shorter : IsTrue is_open → length p < columns_in t.exercise.now
 
 pub record IsWalk (t : Case) (walk : Walk) : Type 0 where
   pub levels : AreLevels t (reverse walk.levels.items)
