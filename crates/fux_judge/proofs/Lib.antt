@@ -1,8 +1,11 @@
-mod LateLemmas
+pub mod FourLemmas
+pub mod AheadLemmas
 pub mod AlwaysLemmas
 pub mod ChargeLemmas
 pub mod CrateLemmas
 pub mod KeptLemmas
+pub mod LineLemmas
+mod LateLemmas
 pub mod MomentLemmas
 pub mod PruningLemmas
 pub mod QuietLemmas

@@ -1,5 +1,5 @@
 -- What the lines of the free voices cost by the gauges Q17 to Q20, and what they cost at least while they go on.
-use Rattle.std.specs.Prelude.{ℕ, ◌*◌, ◌==◌, List, [], ◌∷◌, length, reverse, if◌then◌else◌}
+use Rattle.std.specs.Prelude.{ℕ, ◌*◌, ◌==◌, List, [], ◌∷◌, reverse, if◌then◌else◌}
 use Rattle.std.specs.List.{filter, range_with_len, sum_by}
 use Rattle.fux_grid.specs.declared.cell.Cell.{Cell}
 use Rattle.fux_grid.specs.declared.exercise.Exercise.{Exercise}
@@ -36,12 +36,18 @@ free_voices ex = filter (is_free ex) (range_with_len 0 ex.voices)
 abbrev pub cells_of_voice : List (List Cell) → ℕ → List Cell
 cells_of_voice p v = line v (reverse p)
 
--- the values of all gauges for all free voices, by weight: what the lines of a setting cost
-abbrev pub gauges_of : Exercise → Sheet → List (List Cell) → ℕ
-gauges_of ex sheet s =
-    sum_by (λ v. sum_by (λ gauge. gauge_value gauge (cells_of_voice s v) * weight_of sheet gauge) gauges_read) (free_voices ex)
+-- what a whole line costs: the values of all gauges, each by its weight
+abbrev pub cost_of_line : Sheet → List Cell → ℕ
+cost_of_line sheet cells = sum_by (λ gauge. gauge_value gauge cells * weight_of sheet gauge) gauges_read
 
--- what they come to at least in each setting that a prefix begins
+-- what each line of a voice costs at least that begins so
+abbrev pub least_of_line : Exercise → Sheet → ℕ → List Cell → ℕ
+least_of_line ex sheet v cells = sum_by (λ gauge. gauge_least gauge ex v cells * weight_of sheet gauge) gauges_read
+
+-- what the lines of the free voices of a setting cost
+abbrev pub gauges_of : Exercise → Sheet → List (List Cell) → ℕ
+gauges_of ex sheet s = sum_by (λ v. cost_of_line sheet (cells_of_voice s v)) (free_voices ex)
+
+-- what they cost at least in each setting that a prefix begins
 abbrev pub least_of : Exercise → Sheet → List (List Cell) → ℕ
-least_of ex sheet p =
-    sum_by (λ v. sum_by (λ gauge. gauge_least gauge ex v (cells_of_voice p v) * weight_of sheet gauge) gauges_read) (free_voices ex)
+least_of ex sheet p = sum_by (λ v. least_of_line ex sheet v (cells_of_voice p v)) (free_voices ex)

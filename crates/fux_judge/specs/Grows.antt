@@ -33,7 +33,7 @@ module _ (ex : Exercise) (p : List (List Cell)) (col : List Cell) where
   start_at_end : take (length p) (p ++ col ∷ []) ≡ p
   start_at_end = same_start (length p) (omega arith) ∙ take_all (length p) p (omega arith)
 
-  column_at_end : slice_index_or (p ++ col ∷ []) (length p) [] ≡ col
+  pub column_at_end : slice_index_or (p ++ col ∷ []) (length p) [] ≡ col
   column_at_end = get_or-append_seam p col [] []
 
   -- a strict break is settled in the longer prefix where one was before, or where the column settles one

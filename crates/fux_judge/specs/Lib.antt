@@ -4,10 +4,12 @@ pub mod Charges
 pub mod Crates
 pub mod Ends
 pub mod Facts
+pub mod GaugeStates
 pub mod Gauges
 pub mod Grows
 pub mod Kept
 pub mod Lawful
+pub mod Least
 pub mod Links
 pub mod Moments
 pub mod Parts

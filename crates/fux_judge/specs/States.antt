@@ -8,6 +8,7 @@ use Rattle.melody_rules.specs.Notes.{AreNotesOf}
 use Rattle.motion_rules.specs.BarLines.{IsBarLinesOf}
 use Rattle.rhythm_cadence.specs.Parts.{IsShapesOf}
 use Rattle.fux_judge.specs.declared.state.State.{State}
+use Rattle.fux_judge.specs.GaugeStates.{AreAheadOf, AreGaugesOf}
 
 -- the state is of the prefix: it knows its length and its newest columns, and each crate's part is of it
 pub record IsStateOf (ex : Exercise) (p : List (List Cell)) (state : State) : Type 0 where
@@ -15,6 +16,8 @@ pub record IsStateOf (ex : Exercise) (p : List (List Cell)) (state : State) : Ty
   pub melody : AreNotesOf (reverse p) state.melody
   pub rhythm : IsShapesOf ex p state.rhythm
   pub motion : IsBarLinesOf p state.motion
+  pub gauges : AreGaugesOf (reverse p) state.gauges
+  pub ahead : AreAheadOf ex p state.ahead
 
 -- the state is of a prefix with one column more, which was orderly before it
 pub record HasCome (ex : Exercise) (state : State) (p : List (List Cell)) (col : List Cell) : Type 0 where

@@ -1,10 +1,13 @@
 //! Settled breaks and penalties, column by column: one small state stands for a prefix of any length.
 #![tactic(auto)]
 
+mod ahead;
 mod always;
+mod gauges;
 mod kept;
 mod late;
 mod late_tolls;
+mod lines;
 mod moment;
 mod numbers;
 mod pruning;
@@ -16,6 +19,7 @@ mod verdict;
 mod whole;
 
 pub use always::is_always_dead;
+pub use lines::least;
 pub use numbers::{every_rule, every_toll};
 pub use pruning::pruned_within;
 pub use state::State;

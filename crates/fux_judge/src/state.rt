@@ -6,6 +6,8 @@ ghost use Rattle.fux_grid.specs.declared.exercise.Exercise.{Exercise as AnExerci
 ghost use Rattle.fux_grid.specs.Columns.{newest_column};
 ghost use Rattle.fux_judge.specs.States.{IsStateOf};
 
+use crate::ahead::{LineAhead, all_ahead_at_start};
+use crate::gauges::{LineGauges, all_ungauged};
 use fux_grid::{Cell, Exercise};
 use melody_rules::{VoiceNotes, all_silent};
 use motion_rules::{BarLines, no_bar_lines};
@@ -21,6 +23,8 @@ pub struct State {
     pub(crate) melody: [VoiceNotes; 4],
     pub(crate) rhythm: BarShapes,
     pub(crate) motion: BarLines,
+    pub(crate) gauges: [LineGauges; 4],
+    pub(crate) ahead: [LineAhead; 4],
 }
 
 impl State {
@@ -28,12 +32,13 @@ impl State {
     pub fn start(ex: &Exercise) -> State
         ensures { IsStateOf ex.now [] result }
     {
-        let _ = ex.voices;
         State {
             newest: NewestColumns::none(),
             melody: all_silent(),
             rhythm: unbegun(),
             motion: no_bar_lines(),
+            gauges: all_ungauged(),
+            ahead: all_ahead_at_start(ex),
         }
     }
 

@@ -4,16 +4,20 @@ ghost use Rattle.std.specs.Prelude.{◌≡◌, ◌≤◌, ◌<◌, ◌+◌, ◌*
 ghost use Rattle.std.specs.List.{list_any, list_all, sum_by};
 ghost use Rattle.fux_grid.specs.declared.cell.Cell.{Cell as ACell};
 ghost use Rattle.fux_grid.specs.Exercises.{IsValid, columns_in};
-ghost use Rattle.rule_law.specs.Prefixes.{GoesOn};
+ghost use Rattle.rule_law.specs.Prefixes.{GoesOn, IsPrefix};
 ghost use Rattle.rule_law.specs.Voices.{has_rule};
+ghost use Rattle.fux_judge.specs.Gauges.{least_of};
 ghost use Rattle.fux_judge.specs.Rules.{all_sets, is_late, rules_at_once, rules_read, tolls_at_once, is_read};
 ghost use Rattle.fux_judge.specs.Penalties.{newly_broken, newly_paid, paid};
 ghost use Rattle.fux_judge.specs.Moments.{IsReadable, IsAfter, is_strictly_broken_then, prices_then, toll_then};
 ghost use Rattle.fux_judge.specs.States.{IsStateOf};
 
+use crate::ahead::all_ahead_after;
+use crate::gauges::all_gauged;
 use crate::kept::rules_left;
 use crate::late::{late_prices, with_late};
 use crate::late_tolls::late_charges;
+use crate::lines::least;
 use crate::moment::Moment;
 use crate::numbers::{all_at_once, every_rule};
 use crate::reading::{is_strictly_broken_now, prices_now};
@@ -33,7 +37,7 @@ pub struct Verdict {
     pub broken: RuleSet,
     /// The tolls, by their weights, and the prices that the column settles.
     pub paid: u64,
-    /// What the gauges will cost at least. None is read so far, so it is 0.
+    /// What the lines of the free voices will cost at least, by the gauges and their weights.
     pub least: u64,
 }
 
@@ -99,6 +103,8 @@ fn next_state(ex: &Exercise, state: &State, col: &Column) -> State
         melody: all_noted(&state.melody, cells),
         rhythm: rhythm_cadence::noted(&state.rhythm, ex, state.newest.len, cells),
         motion: motion_rules::noted(&state.motion, state.newest.len, cells),
+        gauges: all_gauged(ex, state.newest.len, &state.gauges, cells),
+        ahead: all_ahead_after(ex, state.newest.len, &state.ahead, cells),
     }
 }
 
@@ -147,17 +153,20 @@ pub fn step(ex: &Exercise, sheet: &Sheet, state: &State, col: &Column) -> Verdic
     ensures settled { (p : List (List ACell)) → IsStateOf ex.now p state.now → GoesOn ex.now p (col.now.items ∷ []) → result.paid ≡ newly_paid ex.now sheet.now p col.now.items }
     ensures paid { (p : List (List ACell)) → IsStateOf ex.now p state.now → GoesOn ex.now p (col.now.items ∷ []) → paid ex.now sheet.now (p ++ col.now.items ∷ []) ≡ paid ex.now sheet.now p + result.paid }
     ensures bound { result.paid ≤ 134217728 }
-    ensures least { result.least ≡ 0 }
+    ensures least { (p : List (List ACell)) → IsStateOf ex.now p state.now → IsPrefix ex.now (p ++ col.now.items ∷ []) →
+        result.least ≡ least_of ex.now sheet.now (p ++ col.now.items ∷ []) }
+    ensures least_bound { result.least ≤ 334490640 }
 {
     let moment = moment_of(ex, state, col);
     let next = next_state(ex, state, col);
     let (at_once, paid) = readings(sheet, &moment);
     let broken = with_late(at_once, ex, &next);
     let paid = paid + late_charges(sheet, ex, &next) + late_prices(ex, &next);
+    let least = least(ex, sheet, &next);
     Verdict {
         state: next,
         broken,
         paid,
-        least: 0,
+        least,
     }
 }

@@ -5,7 +5,7 @@ mod compass;
 mod leaps;
 mod strikes;
 
-pub use climax::{Climax, Q17};
-pub use compass::{Compass, Q18};
-pub use leaps::{Leaps, Q19};
+pub use climax::{Climax, Q17, is_final_climax};
+pub use compass::{Compass, Q18, is_narrow};
+pub use leaps::{Leaps, Q19, leap_excess};
 pub use strikes::{Q20, Strikes};

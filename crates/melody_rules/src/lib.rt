@@ -10,7 +10,9 @@ mod tolls;
 mod voices;
 mod windows;
 
-pub use gauges::{Climax, Compass, Leaps, Q17, Q18, Q19, Q20, Strikes};
+pub use gauges::{
+    Climax, Compass, Leaps, Q17, Q18, Q19, Q20, Strikes, is_final_climax, is_narrow, leap_excess,
+};
 pub use melody::{Melody, breaks};
 pub use moves::{leaves_sharp, moves_unmelodically, repeats};
 pub use notes::{VoiceNotes, breaks_after, leap_open_after, noted, notes_before, silent};

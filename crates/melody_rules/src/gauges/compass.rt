@@ -37,7 +37,7 @@ fn with_note(kept: Compass, pitch: Pitch) -> Compass
 }
 
 /// Whether the compass is narrow.
-fn is_narrow(kept: Compass) -> bool
+pub fn is_narrow(kept: Compass) -> bool
     ensures { (ps : List APitch) → IsCompassOf ps kept → result ≡ words.is_narrow ps }
 {
     kept.any && i16::from(kept.greatest) - i16::from(kept.least) < 7

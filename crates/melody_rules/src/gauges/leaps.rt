@@ -1,6 +1,6 @@
 //! Q19: too many leaps.
 
-ghost use Rattle.std.specs.Prelude.{◌≡◌, ◌-◌, ◌*◌, ◌<◌, ◌∷◌, List, Some, length};
+ghost use Rattle.std.specs.Prelude.{◌≡◌, ◌-◌, ◌*◌, ◌<◌, ◌≤◌, ◌∷◌, List, Some, length};
 ghost use Rattle.fux_pitch.specs.declared.pitch.Pitch.{Pitch as APitch};
 ghost use Rattle.rule_law.specs.Terms as terms;
 ghost use Rattle.melody_rules.specs.Gauges as words;
@@ -49,9 +49,10 @@ fn with_note(kept: Leaps, pitch: Pitch) -> Leaps
 }
 
 /// Three times the leaps, less the moves.
-fn excess(kept: Leaps) -> u32
-    ensures { (ps : List APitch) → IsLeapsOf ps kept →
+pub fn leap_excess(kept: Leaps) -> u32
+    ensures value { (ps : List APitch) → IsLeapsOf ps kept →
         result ≡ 3 * words.leaps_in ps - words.moves_in ps }
+    ensures bound { result ≤ 765 }
 {
     (3 * u32::from(kept.leaps)).saturating_sub(u32::from(kept.notes).saturating_sub(1))
 }
@@ -92,10 +93,10 @@ impl Gauge for Q19 {
     }
 
     fn least(&self, ex: &Exercise, v: u8, i: usize, s: Leaps) -> u32 {
-        excess(s).saturating_sub(starts_ahead(ex, v, i))
+        leap_excess(s).saturating_sub(starts_ahead(ex, v, i))
     }
 
     fn last(&self, _ex: &Exercise, _v: u8, s: Leaps) -> u32 {
-        excess(s)
+        leap_excess(s)
     }
 }

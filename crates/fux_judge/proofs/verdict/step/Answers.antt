@@ -1,4 +1,4 @@
-use Rattle.std.proofs.Common.{◌+◌, ◌||◌, ◌==◌, ◌&&◌, ap, sym, ◌∙◌}
+use Rattle.std.proofs.Common.{◌++◌, ◌∷◌, [], ◌+◌, ◌||◌, ◌==◌, ◌&&◌, ap, sym, ◌∙◌}
 use Rattle.std.specs.List.{list_any}
 use Rattle.fux_judge.specs.Penalties.{paid}
 use Rattle.fux_judge.specs.Grows.{paid_grows}
@@ -33,3 +33,6 @@ returns-clause-paid c = λ p st on.
     ∙ ap (λ n. paid c.args.ex.now c.args.sheet.now p + n)
     (sym (step_pays c.args.ex.now p col c.args.sheet.now m c.moment_of-moment.ensures.exercise c.moment_of-moment.ensures.column on _ _ _
     (c.readings-paid.ensures.paid p after) (c.late_charges.ensures.value p col record { reached = c.next_state-next.ensures.state p st; on = on }) (c.late_prices.ensures.value p col record { reached = c.next_state-next.ensures.state p st; on = on })))
+
+pub returns-clause-least : goal.returns-clause-least
+returns-clause-least c = λ p st prefix. c.least-least.ensures.value (p ++ c.args.col.now.items ∷ []) (c.next_state-next.ensures.state p st) prefix

@@ -6,4 +6,6 @@ returns c = record {
   melody = c.all_silent.ensures;
   rhythm = c.unbegun.ensures c.args.ex.now;
   motion = c.no_bar_lines.ensures;
+  gauges = c.all_ungauged.ensures;
+  ahead = c.all_ahead_at_start.ensures;
 }

@@ -1,0 +1,99 @@
+-- What lies ahead of a line: where no start is, each key is the last climax, and one that a later bar reaches above is not.
+use Rattle.std.proofs.Common.{◌≡◌, ℕ, zero, suc, ◌+◌, ◌<◌, ◌≤◌, Bool, true, false, ◌&&◌, ◌||◌, cond, List, refl, ap, sym, ◌∙◌, subst, arith, inl, inr}
+use Rattle.std.specs.Prelude.{pos, int_le, not, count_by, Contains}
+use Rattle.std.specs.List.{list_all, range_with_len}
+use Rattle.std.proofs.lemmas.Bool.{and_from, cases_lt}
+use Rattle.std.proofs.lemmas.Bool.Decides.{nat_tests}
+use Rattle.std.proofs.lemmas.Int.{ints}
+use Rattle.std.proofs.lemmas.List.Sums.{sum_by-cons}
+use Rattle.fux_pitch.specs.declared.pitch.Pitch.{Pitch}
+use Rattle.fux_pitch.specs.Pitch.{key_of}
+use Rattle.fux_grid.specs.declared.cell.Cell.{Cell}
+use Rattle.fux_grid.specs.declared.cell.Cell.TheVariants.{Rest, Hold, Start}
+use Rattle.fux_grid.specs.declared.exercise.Exercise.{Exercise}
+use Rattle.fux_grid.specs.Cells.{cell_in}
+use Rattle.fux_grid.specs.Exercises.{IsFree, bar_of, slot_of, species_in}
+use Rattle.fux_grid.specs.Menus.{cells_at, menu_of, pool_of}
+use Rattle.fux_grid.specs.Shapes.{allows, shapes_in}
+use Rattle.fux_grid.proofs.CellLemmas.{cells_at-free}
+use Rattle.fux_grid.proofs.MenuLemmas.{menu_of-contains}
+use Rattle.rule_law.specs.Gauges.{menu_starts}
+use Rattle.rule_law.specs.Terms.{starts}
+use Rattle.rule_law.proofs.MenuStarts.{any_only}
+use Rattle.rule_law.proofs.NextPitch.{start_allowed}
+
+pub second_true : (a b : Bool) → b ≡ true → (a || b) ≡ true
+second_true true b h = refl
+second_true false b h = h
+
+-- each of some numbers passes where all below the limit do
+pub all_from : (test : ℕ → Bool) (i n limit : ℕ) → i + n ≤ limit → ((j : ℕ) → j < limit → test j ≡ true) → list_all test (range_with_len i n) ≡ true
+all_from test i zero limit h each = refl
+all_from test i (suc n) limit h each =
+    and_from (test i) (list_all test (range_with_len (i + 1) n)) (each i (omega (arith, h))) (all_from test (i + 1) n limit (omega (arith, h)) each)
+
+abbrev number : Bool → ℕ
+number b = cond b 1 0
+
+-- where none of them starts a note, none is a place for a higher one
+pub none_starts : (starting top : ℕ → Bool) (i n : ℕ) → count_by starting (range_with_len i n) ≡ 0 → list_all (λ j. not (starting j) || top j) (range_with_len i n) ≡ true
+none_starts starting top i zero h = refl
+none_starts starting top i (suc n) h =
+    at (starting i) refl (sym (sum_by-cons (λ j. cond (starting j) 1 0) i (range_with_len (i + 1) n)) ∙ h) (none_starts starting top (i + 1) n)
+  where
+    rest : List ℕ
+    rest = range_with_len (i + 1) n
+
+    at : (b : Bool) → starting i ≡ b → number (starting i) + count_by starting rest ≡ 0 → (count_by starting rest ≡ 0 → list_all (λ j. not (starting j) || top j) rest ≡ true) → ((not (starting i) || top i) && list_all (λ j. not (starting j) || top j) rest) ≡ true
+    at true e k later = let one : number (starting i) ≡ 1 = ap number e in absurd (omega (arith, one, k))
+    at false e k later =
+        let none : number (starting i) ≡ 0 = ap number e in
+        and_from (not (starting i) || top i) (list_all (λ j. not (starting j) || top j) rest) (ap (λ b. not b || top i) e) (later (omega (arith, none, k)))
+
+-- where one of them doesn't pass, not all do
+pub not_all : (test : ℕ → Bool) (i n j : ℕ) → i ≤ j → j < i + n → test j ≡ false → list_all test (range_with_len i n) ≡ false
+not_all test i zero j low high e = absurd (omega (arith, low, high))
+not_all test i (suc n) j low high e =
+    elim (cases_lt i j) [
+      | inl before ↦ second_false (test i) (list_all test (range_with_len (i + 1) n)) (not_all test (i + 1) n j (omega (arith, before)) (omega (arith, high)) e)
+      | inr here ↦
+          let same : i ≡ j = omega (arith, low, here) in
+          ap (λ b. b && list_all test (range_with_len (i + 1) n)) (ap test same ∙ e)
+    ]
+  where
+    second_false : (a b : Bool) → b ≡ false → (a && b) ≡ false
+    second_false true b h = h
+    second_false false b h = refl
+
+-- a key below the high end, and one that isn't
+pub under_end : (key high : ℕ) (p : Pitch) → pos high ≡ key_of p → key < high → int_le (key_of p) (pos key) ≡ false
+under_end key high p e h = ap (λ k. int_le k (pos key)) (sym e) ∙ past
+  where
+    past : int_le (pos high) (pos key) ≡ false
+    past = grind (arith, nat_tests, ints, h)
+
+pub over_end : (key high : ℕ) (p : Pitch) → pos high ≡ key_of p → high ≤ key → int_le (key_of p) (pos key) ≡ true
+over_end key high p e h = ap (λ k. int_le k (pos key)) (sym e) ∙ within
+  where
+    within : int_le (pos high) (pos key) ≡ true
+    within = grind (arith, nat_tests, ints, h)
+
+-- the menu has a start of a free voice only where a shape allows one
+pub starts_allowed : (ex : Exercise) (v i : ℕ) → IsFree ex v → menu_starts ex v i ≡ true → allows (shapes_in (species_in ex v) (bar_of i) ex.bars) (slot_of i) 83 ≡ true
+starts_allowed ex v i free e =
+    let found = any_only (λ col. starts (cell_in col v)) (menu_of ex i) e in
+    at (cell_in found.0 v) (((menu_of-contains ex i found.0).0 found.1).cells v free.there) found.2
+  where
+    at : (c : Cell) → Contains (cells_at ex i v) c → starts c ≡ true → allows (shapes_in (species_in ex v) (bar_of i) ex.bars) (slot_of i) 83 ≡ true
+    at Rest h s = cc
+    at (Hold p) h s = cc
+    at (Start p) h s =
+        let P : List Cell → Type 0 = λ cells. Contains cells (Start p) in
+        start_allowed (shapes_in (species_in ex v) (bar_of i) ex.bars) (slot_of i) (pool_of ex v (bar_of i)) p (subst P (cells_at-free ex i v free.no_cantus) h)
+
+pub none_allowed : (ex : Exercise) (v i : ℕ) → IsFree ex v → allows (shapes_in (species_in ex v) (bar_of i) ex.bars) (slot_of i) 83 ≡ false → menu_starts ex v i ≡ false
+none_allowed ex v i free e = at (menu_starts ex v i) refl
+  where
+    at : (b : Bool) → menu_starts ex v i ≡ b → b ≡ false
+    at true h = let allowed = starts_allowed ex v i free h in cc
+    at false h = refl

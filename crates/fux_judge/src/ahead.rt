@@ -1,0 +1,164 @@
+//! What the gauges need to know of the columns ahead.
+
+ghost use Rattle.std.specs.Prelude.{◌≡◌, ◌<◌, ◌≤◌, ◌+◌, ◌-◌, ◌∷◌, ◌++◌, [], ℕ, List, length, false, pos, true};
+ghost use Rattle.fux_grid.specs.declared.cell.Cell.{Cell as ACell};
+ghost use Rattle.fux_grid.specs.Cells.{cell_in};
+ghost use Rattle.fux_grid.specs.Exercises.{IsFree, IsValid, columns_in};
+ghost use Rattle.fux_grid.specs.Menus.{IsInMenu};
+ghost use Rattle.rule_law.specs.Gauges as words;
+ghost use Rattle.melody_rules.specs.Gauges.{is_topped};
+ghost use Rattle.melody_rules.specs.Gauges as gauges_words;
+ghost use Rattle.fux_judge.specs.GaugeStates.{AreAheadOf, IsAheadOf};
+
+use fux_grid::{Cell, Exercise, START, allows, cell_of, range, shapes_of, species_of};
+use fux_pitch::semitone;
+use melody_rules::is_final_climax;
+use rule_law::{is_free, menu_starts, starts_ahead};
+
+/// What lies ahead of a line.
+#[derive(Clone, Copy, Debug, PartialEq, Eq)]
+pub(crate) struct LineAhead {
+    /// In how many columns ahead the voice may start a note.
+    pub(crate) starts: u32,
+    /// The high end of the voice's range in the last bar, 0 where it may start no note there.
+    pub(crate) last_high: u8,
+    /// No high end of the voice's range is above this key.
+    pub(crate) highest: u8,
+}
+
+/// The high end of a free voice's range in the last bar, 0 where it may start no note there.
+fn last_high(ex: &Exercise, v: u8) -> u8
+    requires valid { IsValid ex.now }
+    requires free { IsFree ex.now v }
+    ensures { (key : ℕ) → key < result → is_topped ex.now v (pos key) (columns_in ex.now - 8) ≡ false }
+{
+    if !menu_starts(ex, v, 8 * (ex.bars as usize) - 8) {
+        return 0;
+    }
+    let (_, high) = range(ex, v, ex.bars);
+    semitone(high)
+}
+
+/// The greater key.
+fn greater(key: u8, other: u8) -> u8
+    ensures first { key ≤ result }
+    ensures second { other ≤ result }
+{
+    if key > other { key } else { other }
+}
+
+/// The greatest high end of a free voice's ranges.
+fn highest(ex: &Exercise, v: u8) -> u8
+    requires valid { IsValid ex.now }
+    requires free { IsFree ex.now v }
+    ensures { (key : ℕ) → result ≤ key → (j : ℕ) → j < columns_in ex.now → is_topped ex.now v (pos key) j ≡ true }
+{
+    let mut highest = 0;
+    for bar in 1..ex.bars + 1 {
+        let (_, high) = range(ex, v, bar);
+        highest = greater(highest, semitone(high));
+    }
+    highest
+}
+
+/// What lies ahead of a line without cells.
+fn ahead_at_start(ex: &Exercise, v: u8) -> LineAhead
+    ensures { IsValid ex.now → IsFree ex.now v → IsAheadOf ex.now v 0 result }
+{
+    if !ex.is_valid() || v >= ex.voices || !is_free(ex, v) {
+        return LineAhead {
+            starts: 0,
+            last_high: 0,
+            highest: 0,
+        };
+    }
+    LineAhead {
+        starts: starts_ahead(ex, v, 0),
+        last_high: last_high(ex, v),
+        highest: highest(ex, v),
+    }
+}
+
+/// What lies ahead of all lines before the first column.
+pub(crate) fn all_ahead_at_start(ex: &Exercise) -> [LineAhead; 4]
+    ensures { AreAheadOf ex.now [] result }
+{
+    [
+        ahead_at_start(ex, 0),
+        ahead_at_start(ex, 1),
+        ahead_at_start(ex, 2),
+        ahead_at_start(ex, 3),
+    ]
+}
+
+/// Whether the menu of a column has a start of a free voice, where the voice has this cell in one of its columns.
+fn may_start(ex: &Exercise, v: u8, i: usize, cell: Cell) -> bool
+    requires valid { IsValid ex.now }
+    requires free { IsFree ex.now v }
+    requires place { i < columns_in ex.now }
+    ensures { (col : List ACell) → IsInMenu ex.now i col → cell_in col v ≡ cell → result ≡ words.menu_starts ex.now v i }
+{
+    let shapes = shapes_of(species_of(ex, v), (i / 8 + 1) as u8, ex.bars);
+    if !allows(shapes, i % 8, START) {
+        return false;
+    }
+    match cell {
+        Cell::Start(_) => true,
+        Cell::Hold(_) => menu_starts(ex, v, i),
+        Cell::Rest => menu_starts(ex, v, i),
+    }
+}
+
+/// What lies ahead of a line with one cell more, that of column `i`.
+fn ahead_after(ex: &Exercise, v: u8, i: usize, ahead: &LineAhead, cell: Cell) -> LineAhead
+    requires valid { IsValid ex.now }
+    requires place { i < columns_in ex.now }
+    ensures { (col : List ACell) → IsInMenu ex.now i col → cell_in col v ≡ cell → IsFree ex.now v →
+        IsAheadOf ex.now v i ahead.now → IsAheadOf ex.now v (i + 1) result }
+{
+    if v >= ex.voices || !is_free(ex, v) {
+        return *ahead;
+    }
+    LineAhead {
+        starts: ahead
+            .starts
+            .saturating_sub(u32::from(may_start(ex, v, i, cell))),
+        last_high: ahead.last_high,
+        highest: ahead.highest,
+    }
+}
+
+/// What lies ahead of all lines with one column more, column `i`.
+pub(crate) fn all_ahead_after(
+    ex: &Exercise,
+    i: usize,
+    ahead: &[LineAhead; 4],
+    column: &[Cell],
+) -> [LineAhead; 4]
+    requires valid { IsValid ex.now }
+    requires place { i < columns_in ex.now }
+    ensures { (p : List (List ACell)) → length p ≡ i → AreAheadOf ex.now p ahead.now → AreAheadOf ex.now (p ++ column.now ∷ []) result }
+{
+    [
+        ahead_after(ex, 0, i, &ahead[0], cell_of(column, 0)),
+        ahead_after(ex, 1, i, &ahead[1], cell_of(column, 1)),
+        ahead_after(ex, 2, i, &ahead[2], cell_of(column, 2)),
+        ahead_after(ex, 3, i, &ahead[3], cell_of(column, 3)),
+    ]
+}
+
+/// Whether no column from column `i` on is a place for a note above the key. What lies ahead mostly tells it at once.
+pub(crate) fn is_final(ex: &Exercise, v: u8, i: usize, ahead: &LineAhead, key: u8) -> bool
+    requires valid { IsValid ex.now }
+    requires free { IsFree ex.now v }
+    requires place { i ≤ columns_in ex.now }
+    ensures { IsAheadOf ex.now v i ahead.now → result ≡ gauges_words.is_final_climax ex.now v i (pos key) }
+{
+    if key >= ahead.highest || ahead.starts == 0 {
+        return true;
+    }
+    if key < ahead.last_high && i + 8 <= 8 * (ex.bars as usize) {
+        return false;
+    }
+    is_final_climax(ex, v, i, key)
+}

@@ -1,0 +1,105 @@
+//! What the gauges keep of a line, and what a whole line costs by them.
+
+ghost use Rattle.std.specs.Prelude.{◌≡◌, ◌≤◌, ◌<◌, ◌+◌, ◌*◌, ◌∷◌, [], List, length};
+ghost use Rattle.fux_grid.specs.declared.cell.Cell.{Cell as ACell};
+ghost use Rattle.fux_grid.specs.Exercises.{IsValid, columns_in};
+ghost use Rattle.penalty_sheet.specs.Weights.{weight_of};
+ghost use Rattle.std.specs.Int.{from_bool};
+ghost use Rattle.fux_judge.specs.Gauges as gauges_words;
+ghost use Rattle.fux_judge.specs.GaugeStates.{AreGaugesOf, IsGaugesOf};
+
+use fux_grid::{Cell, Exercise, cell_of};
+use melody_rules::{Climax, Compass, Leaps, Q17, Q18, Q19, Q20, Strikes, is_narrow, leap_excess};
+use penalty_sheet::{Sheet, weight};
+use rule_law::Gauge;
+
+/// What the gauges keep of a line.
+#[derive(Clone, Copy, Debug, PartialEq, Eq)]
+pub(crate) struct LineGauges {
+    pub(crate) climax: Climax,
+    pub(crate) compass: Compass,
+    pub(crate) leaps: Leaps,
+    pub(crate) strikes: Strikes,
+}
+
+/// Of a line without cells.
+fn ungauged() -> LineGauges
+    ensures { IsGaugesOf [] result }
+{
+    LineGauges {
+        climax: Q17.start(),
+        compass: Q18.start(),
+        leaps: Q19.start(),
+        strikes: Q20.start(),
+    }
+}
+
+/// Of no columns.
+pub(crate) fn all_ungauged() -> [LineGauges; 4]
+    ensures { AreGaugesOf [] result }
+{
+    [ungauged(), ungauged(), ungauged(), ungauged()]
+}
+
+/// Of a line with one cell more, that of column `i`.
+fn gauged(ex: &Exercise, v: u8, i: usize, kept: &LineGauges, cell: Cell) -> LineGauges
+    requires valid { IsValid ex.now }
+    requires place { i < columns_in ex.now }
+    ensures { (cells : List ACell) → length cells ≡ i → IsGaugesOf cells kept.now → IsGaugesOf (cell ∷ cells) result }
+{
+    match cell {
+        Cell::Start(_) => LineGauges {
+            climax: Q17.step(ex, v, i, kept.climax, cell),
+            compass: Q18.step(ex, v, i, kept.compass, cell),
+            leaps: Q19.step(ex, v, i, kept.leaps, cell),
+            strikes: Q20.step(ex, v, i, kept.strikes, cell),
+        },
+        Cell::Hold(_) => *kept,
+        Cell::Rest => *kept,
+    }
+}
+
+/// Of all lines with one column more, column `i`.
+pub(crate) fn all_gauged(
+    ex: &Exercise,
+    i: usize,
+    kept: &[LineGauges; 4],
+    column: &[Cell],
+) -> [LineGauges; 4]
+    requires valid { IsValid ex.now }
+    requires place { i < columns_in ex.now }
+    ensures { (behind : List (List ACell)) → length behind ≡ i → AreGaugesOf behind kept.now → AreGaugesOf (column.now ∷ behind) result }
+{
+    [
+        gauged(ex, 0, i, &kept[0], cell_of(column, 0)),
+        gauged(ex, 1, i, &kept[1], cell_of(column, 1)),
+        gauged(ex, 2, i, &kept[2], cell_of(column, 2)),
+        gauged(ex, 3, i, &kept[3], cell_of(column, 3)),
+    ]
+}
+
+/// The values of the four gauges, each by its weight.
+pub(crate) fn weighed(sheet: &Sheet, climax: u8, compass: bool, leaps: u32, strikes: u8) -> u64
+    requires { leaps ≤ 765 }
+    ensures value { result ≡ 0 + climax * weight_of sheet.now 17 + from_bool compass * weight_of sheet.now 18 + leaps * weight_of sheet.now 19 + strikes * weight_of sheet.now 20 }
+    ensures bound { result ≤ 83622660 }
+{
+    u64::from(climax) * u64::from(weight(sheet, 17))
+        + u64::from(compass) * u64::from(weight(sheet, 18))
+        + u64::from(leaps) * u64::from(weight(sheet, 19))
+        + u64::from(strikes) * u64::from(weight(sheet, 20))
+}
+
+/// What a whole line costs.
+pub(crate) fn cost_of_line(sheet: &Sheet, kept: &LineGauges) -> u64
+    ensures value { (cells : List ACell) → IsGaugesOf cells kept.now → result ≡ gauges_words.cost_of_line sheet.now cells }
+    ensures bound { result ≤ 83622660 }
+{
+    weighed(
+        sheet,
+        kept.climax.count.saturating_sub(1),
+        is_narrow(kept.compass),
+        leap_excess(kept.leaps),
+        kept.strikes.beyond,
+    )
+}
