@@ -1,2 +1,3 @@
 pub mod BreakLemmas
+pub mod LevelLemmas
 pub mod NumberLemmas

@@ -4,7 +4,7 @@ use Rattle.std.proofs.Common.{◌≡◌, ◌⊎◌, inl, inr, ℕ, zero, suc, �
 use Rattle.std.specs.List.{Contains, filter, list_any}
 use Rattle.std.proofs.Math.ListN.{get_or-append}
 use Rattle.std.proofs.Math.Seq.{get_or-append_seam}
-use Rattle.std.proofs.lemmas.Bool.{and_parts, cases_Bool, eqb-true, or_parts}
+use Rattle.std.proofs.lemmas.Bool.{and_parts, cases_Bool, cases_lt, eqb-true, or_parts}
 use Rattle.std.proofs.lemmas.List.{length-append, reverse-append, take-append-le}
 use Rattle.cert_law.specs.Certificates.{Begins, IsBegunByOne}
 use Rattle.cert_law.specs.Claims.{has_break_of, longer_prefixes, next_columns}
@@ -100,3 +100,23 @@ begun_longer ex p (col ∷ rest) shorter setting =
     let history : HistoryFollows (reverse rest ++ col ∷ reverse p) = subst (λ (h : List (List Cell)). HistoryFollows h) (reverse-middle p col rest) setting.prefix.follows in
     let follows : ColumnFollows (newest_column (reverse p)) col = (later_follow (reverse rest) (col ∷ reverse p) history).0 in
     among_passing p (column_follows (newest_column (reverse p))) (menu_of ex (length p)) col rest ((menu_of-contains ex (length p) col).1 chosen) ((column_follows_is (newest_column (reverse p)) col).1 follows)
+
+-- ---- how it gets longer
+
+-- a prefix stays one with a column more that is in the menu and follows
+pub prefix-push : (ex : Exercise) (p : List (List Cell)) (col : List Cell) → IsPrefix ex p → length p < columns_in ex → IsInMenu ex (length p) col
+    → ColumnFollows (newest_column (reverse p)) col → IsPrefix ex (p ++ col ∷ [])
+prefix-push ex p col prefix shorter chosen follows =
+    let size : length (p ++ col ∷ []) ≡ length p + 1 = length-append p (col ∷ []) in
+    record {
+      few = omega (arith, size, shorter);
+      menus = λ i h. at i (cases_lt i (length p)) (omega (arith, size, h));
+      follows = subst (λ (h : List (List Cell)). HistoryFollows h) (sym (reverse-push p col)) (follows, prefix.follows);
+    }
+  where
+    at : (i : ℕ) → (i < length p) ⊎ (length p ≤ i) → i < length p + 1 → IsInMenu ex i (slice_index_or (p ++ col ∷ []) i [])
+    at i (inl h) within = subst (λ (c : List Cell). IsInMenu ex i c) (sym (get_or-append p (col ∷ []) [] i h)) (prefix.menus i h)
+    at i (inr h) within =
+        let last : length p ≡ i = omega arith in
+        subst (λ (k : ℕ). IsInMenu ex k (slice_index_or (p ++ col ∷ []) k [])) last
+        (subst (λ (c : List Cell). IsInMenu ex (length p) c) (sym (get_or-append_seam p col [] [])) chosen)

@@ -8,7 +8,7 @@ use Rattle.std.specs.declared.cmp.Ordering.{Ordering}
 use Rattle.std.specs.declared.cmp.Ordering.TheVariants.{Less, Equal, Greater}
 use Rattle.std.proofs.Math.ListN.{get_or-append}
 use Rattle.std.proofs.Math.Seq.{get_or-append_seam}
-use Rattle.std.proofs.lemmas.Bool.{and_parts, cases_Bool, cases_lt, eq-eqb, eqb-true, or_parts}
+use Rattle.std.proofs.lemmas.Bool.{and_parts, cases_Bool, cases_lt, eq-eqb, eqb-true, lt-ltb, or_parts}
 use Rattle.std.proofs.lemmas.Bool.Decides.{nat_tests}
 use Rattle.std.proofs.lemmas.List.{length-append}
 use Rattle.std.proofs.lemmas.List.Elements.{Contains-get_or, recursion_from_All}
@@ -20,6 +20,7 @@ use Rattle.cert_law.specs.Certificates.{Holds, IsCertificate, IsCertified, IsHea
 use Rattle.cert_law.specs.Claims.{IsNoBetter, IsSettingOf, IsTrueOf, has_break_of, longer_prefixes}
 use Rattle.cert_law.specs.Floors.{FloorsHold}
 use Rattle.cert_law.specs.Writer.{claims_from, claims_of, columns_order, first_claim, is_equal, is_less, is_no_better, is_open, is_setting_of, least_break, unbroken_claim}
+use Rattle.cert_law.proofs.Prefixes.{prefix-push}
 use Rattle.cert_law.proofs.Orders.{less-order, order-equal, order-itself, order-less}
 use Rattle.chain_sums.specs.Sums.{column_follows}
 use Rattle.chain_sums.proofs.SumLemmas.{column_follows_is}
@@ -190,22 +191,10 @@ module _ (ex : Exercise) (sheet : Sheet) (few : ex.voices ≤ 4) (floors : Floor
   longer : (count : ℕ) (p : List (List Cell)) (col : List Cell) → IsPrefixBefore (suc count) p → IsInMenu ex (length p) col → ColumnFollows (newest_column (reverse p)) col → IsPrefixBefore count (p ++ col ∷ [])
   longer count p col before chosen follows =
       let size : length (p ++ col ∷ []) ≡ length p + 1 = length-append p (col ∷ []) in
-      let H : List (List Cell) → Type 0 = λ h. HistoryFollows h in
       record {
-        prefix = record {
-          few = omega (arith, size, before.size);
-          menus = λ i h. at i (cases_lt i (length p)) (omega (arith, size, h));
-          follows = subst H (sym (reverse-push p col)) (follows, before.prefix.follows);
-        };
+        prefix = prefix-push ex p col before.prefix (omega (arith, before.size)) chosen follows;
         size = omega (arith, size, before.size);
       }
-    where
-      at : (i : ℕ) → (i < length p) ⊎ (length p ≤ i) → i < length p + 1 → IsInMenu ex i (slice_index_or (p ++ col ∷ []) i [])
-      at i (inl h) within = subst (λ (c : List Cell). IsInMenu ex i c) (sym (get_or-append p (col ∷ []) [] i h)) (before.prefix.menus i h)
-      at i (inr h) within =
-          let last : length p ≡ i = omega arith in
-          subst (λ (k : ℕ). IsInMenu ex k (slice_index_or (p ++ col ∷ []) k [])) last
-          (subst (λ (c : List Cell). IsInMenu ex (length p) c) (sym (get_or-append_seam p col [] [])) chosen)
 
   all_longer : (count : ℕ) (p : List (List Cell)) → IsPrefixBefore (suc count) p → (cols : List (List Cell)) → AllByRecursion (IsInMenu ex (length p)) cols → AllByRecursion (IsPrefixBefore count) (map (λ c. p ++ c ∷ []) (filter (column_follows (newest_column (reverse p))) cols))
   all_longer count p before [] chosen = tt
@@ -273,3 +262,17 @@ sound ex sheet (Best penalty score) holds = (holds.0.lawful, holds.1)
 pub written_is_valid : (ex : Exercise) (sheet : Sheet) (few : ex.voices ≤ 4) (floors : FloorsHold ex sheet) (head : CertHead) → Holds ex sheet head → IsCertificate ex sheet head (claims_of ex sheet head)
 written_is_valid ex sheet few floors head holds =
     record { sound = sound ex sheet head holds; certified = claims_certified ex sheet few floors head holds }
+
+-- ---- tests of claims
+
+pub test_from_no_better : (head : CertHead) (p : List (List Cell)) (floor : ℕ) → IsNoBetter head p floor → is_no_better head p floor ≡ true
+test_from_no_better Nothing p floor h = absurd h
+test_from_no_better (Best penalty score) p floor (inl h) =
+    ap (λ b. b || ((floor == penalty) && is_less (columns_order score.columns p))) (lt-ltb penalty floor h)
+test_from_no_better (Best penalty score) p floor (inr h) =
+    ap (λ b. nat_lt penalty floor || (b && is_less (columns_order score.columns p))) (eq-eqb floor penalty h.0)
+    ∙ ap (λ o. nat_lt penalty floor || is_less o) (less-order score.columns p h.1) ∙ or_true (nat_lt penalty floor)
+  where
+    or_true : (b : Bool) → (b || true) ≡ true
+    or_true true = refl
+    or_true false = refl
