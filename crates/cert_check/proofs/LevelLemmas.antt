@@ -2,7 +2,7 @@
 use Rattle.std.proofs.Common.{◌≡◌, ℕ, suc, ◌+◌, ◌<◌, ◌≤◌, List, [], ◌∷◌, ◌++◌, Option, Some, None, IsTrue, length, map, reverse, slice_index_or, refl, ap, sym, ◌∙◌, subst, arith}
 use Rattle.std.proofs.lemmas.List.{length-append, reverse-append}
 use Rattle.std.proofs.lemmas.List.Elements.{Contains-get_or}
-use Rattle.cert_check.specs.declared.case.Case.{Case}
+use Rattle.cert_check.specs.Cases.{Matter}
 use Rattle.cert_check.specs.declared.judged.Judged.{Judged}
 use Rattle.cert_check.specs.declared.walk.Level.{Level}
 use Rattle.cert_check.specs.Prefixes.{IsJudged}
@@ -33,8 +33,8 @@ length-history (x ∷ xs) =
 pub length-levels : (ex : Exercise) (levels : List Level) → length levels ≡ length (prefix_of ex (reverse levels))
 length-levels ex levels = sym (length-prefix_of ex (reverse levels) ∙ length-history levels)
 
-pub level_parts : (t : Case) (old new : List Level) (level : Level) → old ≡ new ++ level ∷ [] → AreLevels t (reverse old)
-    → IsLevel t (prefix_of t.exercise.now (reverse new)) level × AreLevels t (reverse new)
+pub level_parts : (t : Matter) (old new : List Level) (level : Level) → old ≡ new ++ level ∷ [] → AreLevels t (reverse old)
+    → IsLevel t (prefix_of t.exercise (reverse new)) level × AreLevels t (reverse new)
 level_parts t old new level e are =
     subst (λ (levels : List Level). AreLevels t levels) (ap reverse e ∙ reverse-append new (level ∷ [])) are
 
@@ -42,11 +42,11 @@ pub reverse-level : (old new : List Level) (level : Level) → new ≡ old ++ le
 reverse-level old new level e = ap reverse e ∙ reverse-append old (level ∷ [])
 
 -- an open prefix goes on by the column of a number
-pub goes_on_by : (t : Case) (p : List (List Cell)) (parent : Judged) (from k : ℕ) (col : List Cell) → IsOpen t p parent
-    → IsNextNumber (menu_of t.exercise.now (length p)) (newest_column (reverse p)) from (Some k) → col ≡ column_after t.exercise.now p k
-    → GoesOn t.exercise.now p (col ∷ [])
+pub goes_on_by : (t : Matter) (p : List (List Cell)) (parent : Judged) (from k : ℕ) (col : List Cell) → IsOpen t p parent
+    → IsNextNumber (menu_of t.exercise (length p)) (newest_column (reverse p)) from (Some k) → col ≡ column_after t.exercise p k
+    → GoesOn t.exercise p (col ∷ [])
 goes_on_by t p parent from k col is_open next e =
-    let ex = t.exercise.now in
+    let ex = t.exercise in
     let chosen : IsInMenu ex (length p) (column_after ex p k) = (menu_of-contains ex (length p) (column_after ex p k)).0 (Contains-get_or (menu_of ex (length p)) k [] next.0) in
     record {
       orderly = is_open.orderly;

@@ -1,3 +1,4 @@
 pub mod BreakLemmas
 pub mod LevelLemmas
 pub mod NumberLemmas
+pub mod TruthLemmas

@@ -4,7 +4,7 @@ use Rattle.std.specs.List.{filter}
 use Rattle.cert_check.specs.declared.judged.Judged.{Judged}
 use Rattle.cert_check.specs.declared.walk.Level.{Level}
 use Rattle.cert_check.specs.declared.walk.Walk.{Walk}
-use Rattle.cert_check.specs.declared.case.Case.{Case}
+use Rattle.cert_check.specs.Cases.{Matter}
 use Rattle.cert_check.specs.Prefixes.{IsJudged}
 use Rattle.chain_sums.specs.Sums.{column_follows}
 use Rattle.fux_grid.specs.declared.cell.Cell.{Cell}
@@ -54,26 +54,26 @@ abbrev pub owed_by_walk : Exercise → Walk → List (List (List Cell))
 owed_by_walk ex walk = owed_at ex (reverse walk.levels.items) walk.next
 
 -- a prefix that is open, and can go on
-pub record IsOpen (t : Case) (p : List (List Cell)) (judged : Judged) : Type 0 where
+pub record IsOpen (t : Matter) (p : List (List Cell)) (judged : Judged) : Type 0 where
   pub known : IsJudged t p judged
-  pub orderly : IsOrderly t.exercise.now p
-  pub shorter : length p < columns_in t.exercise.now
+  pub orderly : IsOrderly t.exercise p
+  pub shorter : length p < columns_in t.exercise
 
 -- and goes on by the column of a number
-pub record IsLevel (t : Case) (p : List (List Cell)) (level : Level) : Type 0 where
+pub record IsLevel (t : Matter) (p : List (List Cell)) (level : Level) : Type 0 where
   pub is_open : IsOpen t p level.parent
-  pub within : level.number < length (menu_of t.exercise.now (length p))
+  pub within : level.number < length (menu_of t.exercise (length p))
 
-abbrev pub AreLevels : Case → List Level → Type 0
+abbrev pub AreLevels : Matter → List Level → Type 0
 AreLevels t [] = ⊤
-AreLevels t (level ∷ older) = IsLevel t (prefix_of t.exercise.now older) level × AreLevels t older
+AreLevels t (level ∷ older) = IsLevel t (prefix_of t.exercise older) level × AreLevels t older
 
 -- where the prefix is open, it can go on
-pub record CanGoOn (t : Case) (p : List (List Cell)) (is_open : Bool) : Type 0 where
-  pub orderly : IsTrue is_open → IsOrderly t.exercise.now p
-  pub shorter : IsTrue is_open → length p < columns_in t.exercise.now
+pub record CanGoOn (t : Matter) (p : List (List Cell)) (is_open : Bool) : Type 0 where
+  pub orderly : IsTrue is_open → IsOrderly t.exercise p
+  pub shorter : IsTrue is_open → length p < columns_in t.exercise
 
-pub record IsWalk (t : Case) (walk : Walk) : Type 0 where
+pub record IsWalk (t : Matter) (walk : Walk) : Type 0 where
   pub levels : AreLevels t (reverse walk.levels.items)
-  pub next : IfSome walk.next (IsJudged t (prefix_of t.exercise.now (reverse walk.levels.items)))
+  pub next : IfSome walk.next (IsJudged t (prefix_of t.exercise (reverse walk.levels.items)))
   pub room : vec_capacity walk.levels ≡ 192

@@ -3,4 +3,5 @@
 
 mod case;
 mod judged;
+mod truth;
 mod walk;

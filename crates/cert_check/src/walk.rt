@@ -2,7 +2,7 @@
 
 ghost use Rattle.std.specs.Prelude.{◌≡◌, ◌<◌, ◌≤◌, ◌+◌, ◌++◌, [], length, reverse, vec_capacity, Some, if◌then◌else◌};
 ghost use Rattle.std.specs.Bool.{OnFalse, OnTrue};
-ghost use Rattle.cert_check.specs.Cases.{HasTables, IsCase};
+ghost use Rattle.cert_check.specs.Cases.{HasTables, IsCase, matter_of};
 ghost use Rattle.cert_check.specs.Walks.{AreLevels, CanGoOn, IsNextNumber, IsOpen, IsWalk, longer_from, owed_by_walk, owed_later, prefix_of};
 ghost use Rattle.fux_grid.specs.Exercises.{columns_in};
 ghost use Rattle.fux_grid.specs.Menus.{menu_of};
@@ -51,12 +51,12 @@ fn next_number(tables: &Tables<'_>, i: usize, before: &[Cell], from: usize) -> O
 impl Walk {
     /// Goes to the first prefix that is longer than an open one by a column of this number or a later one, where there is one.
     fn enter(&mut self, case: &Case<'_>, tables: &Tables<'_>, parent: Judged, from: usize) -> bool
-        requires case { IsCase case.now }
-        requires tables { HasTables case.now tables.now }
-        requires levels { AreLevels case.now (reverse self.old.levels.items) }
+        requires case { IsCase (matter_of case.now) }
+        requires tables { HasTables (matter_of case.now) tables.now }
+        requires levels { AreLevels (matter_of case.now) (reverse self.old.levels.items) }
         requires room { vec_capacity self.old.levels ≡ 192 }
-        requires parent { IsOpen case.now (prefix_of case.now.exercise.now (reverse self.old.levels.items)) parent }
-        ensures walk { OnTrue result (IsWalk case.now self.new) }
+        requires parent { IsOpen (matter_of case.now) (prefix_of case.now.exercise.now (reverse self.old.levels.items)) parent }
+        ensures walk { OnTrue result (IsWalk (matter_of case.now) self.new) }
         ensures owed { let levels = reverse self.old.levels.items in let ex = case.now.exercise.now in OnTrue result
             (owed_by_walk ex self.new ≡ longer_from ex (prefix_of ex levels) from ++ owed_later ex levels) }
         ensures none { let levels = reverse self.old.levels.items in let ex = case.now.exercise.now in OnFalse result
@@ -75,11 +75,11 @@ impl Walk {
 
     /// Goes to the next prefix that is owed behind those of the levels.
     fn go_up(&mut self, case: &Case<'_>, tables: &Tables<'_>)
-        requires case { IsCase case.now }
-        requires tables { HasTables case.now tables.now }
-        requires levels { AreLevels case.now (reverse self.old.levels.items) }
+        requires case { IsCase (matter_of case.now) }
+        requires tables { HasTables (matter_of case.now) tables.now }
+        requires levels { AreLevels (matter_of case.now) (reverse self.old.levels.items) }
         requires room { vec_capacity self.old.levels ≡ 192 }
-        ensures walk { IsWalk case.now self.new }
+        ensures walk { IsWalk (matter_of case.now) self.new }
         ensures owed { owed_by_walk case.now.exercise.now self.new ≡ owed_later case.now.exercise.now (reverse self.old.levels.items) }
     {
         let Some(level) = self.levels.pop() else {
@@ -93,12 +93,12 @@ impl Walk {
 
     /// Goes on from the prefix that was owed next: where it is open, to those that are longer by a column first.
     pub(crate) fn go_on(&mut self, case: &Case<'_>, tables: &Tables<'_>, next: Judged, is_open: bool)
-        requires case { IsCase case.now }
-        requires tables { HasTables case.now tables.now }
-        requires walk { IsWalk case.now self.old }
+        requires case { IsCase (matter_of case.now) }
+        requires tables { HasTables (matter_of case.now) tables.now }
+        requires walk { IsWalk (matter_of case.now) self.old }
         requires next { self.old.next ≡ Some next }
-        requires parent { CanGoOn case.now (prefix_of case.now.exercise.now (reverse self.old.levels.items)) is_open }
-        ensures walk { IsWalk case.now self.new }
+        requires parent { CanGoOn (matter_of case.now) (prefix_of case.now.exercise.now (reverse self.old.levels.items)) is_open }
+        ensures walk { IsWalk (matter_of case.now) self.new }
         ensures owed { let levels = reverse self.old.levels.items in let ex = case.now.exercise.now in
             owed_by_walk ex self.new ≡ (if is_open then longer_from ex (prefix_of ex levels) 0 else []) ++ owed_later ex levels }
     {

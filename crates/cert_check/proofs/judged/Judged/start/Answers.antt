@@ -8,6 +8,7 @@ use Rattle.cert_check.specs.Prefixes.{order_with}
 use Rattle.cert_check.proofs.BreakLemmas.{breaks-none}
 use Rattle.fux_grid.specs.declared.cell.Cell.{Cell}
 use Rattle.fux_grid.specs.declared.exercise.Exercise.{Exercise}
+use Rattle.fux_judge.specs.Gauges.{least_of}
 use Rattle.fux_judge.specs.States.{IsStateOf}
 use Rattle.cert_check.proofs.judged.Judged.start.Goals as goal
 
@@ -20,11 +21,15 @@ start_order (Best penalty score) = none score.columns
     none (c ∷ s) = refl
 
 pub returns : goal.returns
-returns c = λ t same. record {
+returns c = λ t same sheets. record {
   prefix = record { few = omega arith; menus = λ i h. absurd (omega (arith, h)); follows = tt };
-  state = subst (λ (ex : Exercise). IsStateOf ex [] c.start.result) (sym same) c.start.ensures;
-  broken = λ r. ap (λ n. n == 1) (bit_at-zero r) ∙ sym (breaks-none t.exercise.now r);
+  state = subst (λ (ex : Exercise). IsStateOf ex [] c.start-state.result) (sym same) c.start-state.ensures;
+  broken = λ r. ap (λ n. n == 1) (bit_at-zero r) ∙ sym (breaks-none t.exercise r);
   paid = refl;
+  least =
+      c.least.ensures.value [] c.start-state.ensures record { few = omega arith; menus = λ i h. absurd (omega (arith, h)); follows = tt }
+      ∙ ap (λ ex. least_of ex c.args.sheet.now []) (sym same) ∙ ap (λ sheet. least_of t.exercise sheet []) (sym sheets);
+  low = c.least.ensures.bound;
   small = omega arith;
-  order = start_order t.head.now;
+  order = start_order t.head;
 }

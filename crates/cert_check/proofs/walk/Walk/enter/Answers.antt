@@ -1,4 +1,5 @@
 use Rattle.std.proofs.Common.{◌≡◌, ◌<◌, ◌≤◌, ◌*◌, ◌++◌, ◌∷◌, [], List, Some, ap, sym, ◌∙◌, subst, arith, length, reverse, slice_index_or}
+use Rattle.cert_check.specs.Cases.{matter_of}
 use Rattle.cert_check.specs.declared.walk.Level.{Level}
 use Rattle.cert_check.specs.Prefixes.{IsJudged}
 use Rattle.cert_check.specs.Walks.{AreLevels, IsNextNumber, IsWalk, column_after, prefix_of}
@@ -26,8 +27,8 @@ push_reserved-requires c =
 
 pub returns-clause-walk : goal.returns-clause-walk
 returns-clause-walk c =
-    let t = c.args.case.now in
-    let ex = t.exercise.now in
+    let t = matter_of c.args.case.now in
+    let ex = t.exercise in
     let older = reverse c.args.self.now.levels.items in
     let p = prefix_of ex older in
     let n : c.args.parent.state.newest.len ≡ length p = c.requires.parent.known.state.newest.count in
@@ -49,8 +50,8 @@ returns-clause-walk c =
 
 pub returns-clause-owed : goal.returns-clause-owed
 returns-clause-owed c =
-    let t = c.args.case.now in
-    let ex = t.exercise.now in
+    let t = matter_of c.args.case.now in
+    let ex = t.exercise in
     let older = reverse c.args.self.now.levels.items in
     let p = prefix_of ex older in
     let n : c.args.parent.state.newest.len ≡ length p = c.requires.parent.known.state.newest.count in
