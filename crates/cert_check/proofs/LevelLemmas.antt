@@ -1,6 +1,7 @@
 -- Levels: what is owed where one is added (`owed-entered`), and what one is that was taken away (`level_parts`).
 use Rattle.std.proofs.Common.{◌≡◌, ℕ, suc, ◌+◌, ◌<◌, ◌≤◌, List, [], ◌∷◌, ◌++◌, Option, Some, None, IsTrue, length, map, reverse, slice_index_or, refl, ap, sym, ◌∙◌, subst, arith}
-use Rattle.std.proofs.lemmas.List.{length-append, reverse-append}
+use Rattle.std.proofs.lemmas.List.{length-append, reverse-append, reverse-reverse}
+use Rattle.std.proofs.Math.Seq.{get_or-append_seam}
 use Rattle.std.proofs.lemmas.List.Elements.{Contains-get_or}
 use Rattle.cert_check.specs.Cases.{Matter}
 use Rattle.cert_check.specs.declared.judged.Judged.{Judged}
@@ -59,3 +60,22 @@ pub owed-entered : (ex : Exercise) (older new : List Level) (level : Level) (fro
 owed-entered ex older new level from e next =
     ap (λ levels. prefix_of ex levels ∷ owed_later ex levels) e
     ∙ ap (λ cols. map (λ col. prefix_of ex older ++ col ∷ []) cols ++ owed_later ex older) (sym next.2)
+
+-- where there is no level, the prefix is the empty one
+pub no_levels : (ex : Exercise) (levels : List Level) → length levels ≡ 0 → prefix_of ex (reverse levels) ≡ []
+no_levels ex [] e = refl
+no_levels ex (level ∷ levels) e = absurd (omega arith)
+
+-- the last level is the newest one
+pub newest_level : (levels : List Level) (level : Level) (i : ℕ) → i + 1 ≡ length levels → level ≡ slice_index_or levels i level → (older : List Level) × (reverse levels ≡ level ∷ older)
+newest_level levels level i size is = at (reverse levels) refl
+  where
+    at : (history : List Level) → reverse levels ≡ history → (older : List Level) × (reverse levels ≡ level ∷ older)
+    at [] e = absurd (omega (arith, size, length-history levels, ap length e))
+    at (newest ∷ older) e =
+        let back : levels ≡ reverse older ++ newest ∷ [] = sym (reverse-reverse levels) ∙ ap reverse e ∙ reverse-append (newest ∷ []) older in
+        let place : i ≡ length (reverse older) = omega (arith, size, ap length back, length-append (reverse older) (newest ∷ [])) in
+        let same : level ≡ newest =
+        is ∙ ap (λ ls. slice_index_or ls i level) back ∙ ap (λ k. slice_index_or (reverse older ++ newest ∷ []) k level) place
+        ∙ get_or-append_seam (reverse older) newest [] level in
+        (older, e ∙ ap (λ l. l ∷ older) (sym same))

@@ -32,7 +32,7 @@ IsNextNumber menu before from None = filter (column_follows before) (drop from m
 IsNextNumber menu before from (Some k) =
     (k < length menu) × IsTrue (column_follows before (slice_index_or menu k []))
     × (filter (column_follows before) (drop from menu)
-        ≡ slice_index_or menu k [] ∷ filter (column_follows before) (drop (k + 1) menu))
+    ≡ slice_index_or menu k [] ∷ filter (column_follows before) (drop (k + 1) menu))
 
 -- the prefix to which the numbers of levels lead, the newest level first
 abbrev pub prefix_of : Exercise → List Level → List (List Cell)

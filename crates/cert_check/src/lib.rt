@@ -2,6 +2,10 @@
 #![tactic(auto)]
 
 mod case;
+mod checker;
 mod judged;
 mod truth;
 mod walk;
+
+pub use cert_text::{Accepted, Refused, Why};
+pub use checker::Checker;

@@ -46,7 +46,8 @@ fn is_no_better(case: &Case<'_>, judged: &Judged, rest: u64) -> bool
         CertHead::Nothing => false,
         CertHead::Best { penalty, .. } => {
             let spent = judged.paid + judged.least;
-            exceeds(*penalty, spent, rest) || (equals(*penalty, spent, rest) && is_less(judged.order))
+            exceeds(*penalty, spent, rest)
+                || (equals(*penalty, spent, rest) && is_less(judged.order))
         }
     }
 }
@@ -87,13 +88,21 @@ fn can_go_on(ex: &Exercise, judged: &Judged) -> bool
     judged.state.newest.len < 8 * ex.bars as usize && !judged.broken.has(3)
 }
 
+/// Whether a claim is that the prefix is open.
+pub(crate) fn is_open(claim: Claim) -> bool
+    ensures { result ≡ words.is_open claim }
+{
+    match claim {
+        Claim::Open => true,
+        Claim::Broken(_) => false,
+        Claim::NoChain => false,
+        Claim::Floor => false,
+        Claim::TheScore => false,
+    }
+}
+
 /// Whether a claim is true of a prefix that has this rest.
-pub(crate) fn is_true(
-    case: &Case<'_>,
-    judged: &Judged,
-    rest: Option<u64>,
-    claim: Claim,
-) -> bool
+pub(crate) fn is_true(case: &Case<'_>, judged: &Judged, rest: Option<u64>, claim: Claim) -> bool
     requires case { IsCase (matter_of case.now) }
     requires small { IsSmall judged.now }
     ensures { (p : List (List ACell)) → IsJudged (matter_of case.now) p judged.now

@@ -4,6 +4,7 @@ ghost use Rattle.std.specs.Prelude.{◌≡◌, ◌<◌, ◌≤◌, ◌+◌, ◌+
 ghost use Rattle.std.specs.Bool.{OnFalse, OnTrue};
 ghost use Rattle.cert_check.specs.Cases.{HasTables, IsCase, matter_of};
 ghost use Rattle.cert_check.specs.Walks.{AreLevels, CanGoOn, IsNextNumber, IsOpen, IsWalk, longer_from, owed_by_walk, owed_later, prefix_of};
+ghost use Rattle.floor_tables.specs.Floors.{rest_of};
 ghost use Rattle.fux_grid.specs.Exercises.{columns_in};
 ghost use Rattle.fux_grid.specs.Menus.{menu_of};
 
@@ -11,11 +12,6 @@ use crate::case::Case;
 use crate::judged::Judged;
 use floor_tables::Tables;
 use fux_grid::{Cell, cells_follow};
-use std::alloc::Global;
-use fux_pitch::Memory;
-
-/// Room for 24 bars of eight columns.
-const MOST_LEVELS: usize = 192;
 
 /// An open prefix, and the number of the column by which it goes on to the prefix that is owed next.
 #[derive(Clone, Copy)]
@@ -49,6 +45,24 @@ fn next_number(tables: &Tables<'_>, i: usize, before: &[Cell], from: usize) -> O
 }
 
 impl Walk {
+    /// The least sum behind the last column of the prefix that is owed next; over all chains, where that is the empty one.
+    pub(crate) fn rest(&self, case: &Case<'_>, tables: &Tables<'_>) -> Option<u64>
+        requires case { IsCase (matter_of case.now) }
+        requires tables { HasTables (matter_of case.now) tables.now }
+        requires walk { IsWalk (matter_of case.now) self.now }
+        ensures { result ≡ rest_of case.now.exercise.now case.now.sheet.now
+            (prefix_of case.now.exercise.now (reverse self.now.levels.items)) }
+    {
+        let _ = case;
+        let count = self.levels.len();
+        if count == 0 {
+            return tables.start();
+        }
+        let level = &self.levels[count - 1];
+        let i = level.parent.state.newest.len;
+        tables.rest(i, tables.column(i, level.number))
+    }
+
     /// Goes to the first prefix that is longer than an open one by a column of this number or a later one, where there is one.
     fn enter(&mut self, case: &Case<'_>, tables: &Tables<'_>, parent: Judged, from: usize) -> bool
         requires case { IsCase (matter_of case.now) }
@@ -92,7 +106,13 @@ impl Walk {
     }
 
     /// Goes on from the prefix that was owed next: where it is open, to those that are longer by a column first.
-    pub(crate) fn go_on(&mut self, case: &Case<'_>, tables: &Tables<'_>, next: Judged, is_open: bool)
+    pub(crate) fn go_on(
+        &mut self,
+        case: &Case<'_>,
+        tables: &Tables<'_>,
+        next: Judged,
+        is_open: bool,
+    )
         requires case { IsCase (matter_of case.now) }
         requires tables { HasTables (matter_of case.now) tables.now }
         requires walk { IsWalk (matter_of case.now) self.old }
