@@ -10,7 +10,7 @@ use Rattle.cert_text.specs.declared.claim.Claim.{Claim}
 use Rattle.cert_text.specs.declared.claim.Claim.TheVariants.{Open, Broken, NoChain, Floor, TheScore}
 use Rattle.cert_law.specs.Certificates.{Begins, Holds, IsBegunByOne, IsBetter, IsCertificate, IsCertified, IsHeadSound, OwesRefuting, Refutes, owed_by}
 use Rattle.cert_law.specs.Claims.{IsNoBetter, IsTrueOf}
-use Rattle.cert_law.specs.Floors.{FloorsHold}
+use Rattle.cert_law.proofs.FloorFacts.{FloorsHold}
 use Rattle.cert_law.proofs.Prefixes.{begun_longer, begun_unbroken, unbroken-each}
 use Rattle.floor_tables.specs.Floors.{floor_of, rest_of}
 use Rattle.fux_grid.specs.declared.cell.Cell.{Cell}

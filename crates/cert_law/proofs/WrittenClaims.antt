@@ -18,7 +18,7 @@ use Rattle.cert_text.specs.declared.claim.Claim.{Claim}
 use Rattle.cert_text.specs.declared.claim.Claim.TheVariants.{Open, Broken, NoChain, Floor, TheScore}
 use Rattle.cert_law.specs.Certificates.{Holds, IsCertificate, IsCertified, IsHeadSound, owed_by}
 use Rattle.cert_law.specs.Claims.{IsNoBetter, IsSettingOf, IsTrueOf, has_break_of, longer_prefixes}
-use Rattle.cert_law.specs.Floors.{FloorsHold}
+use Rattle.cert_law.proofs.FloorFacts.{FloorsHold}
 use Rattle.cert_law.specs.Writer.{claims_from, claims_of, columns_order, first_claim, is_equal, is_less, is_no_better, is_open, is_setting_of, least_break, unbroken_claim}
 use Rattle.cert_law.proofs.Prefixes.{prefix-push}
 use Rattle.cert_law.proofs.Orders.{less-order, order-equal, order-itself, order-less}
