@@ -7,7 +7,7 @@ use Rattle.cert_text.specs.declared.answers.CertHead.TheVariants.{Best, Nothing}
 use Rattle.cert_text.specs.declared.answers.Refused.{Refused}
 use Rattle.cert_text.specs.declared.answers.Why.TheVariants.{False, Over}
 use Rattle.cert_text.specs.declared.claim.Claim.{Claim}
-use Rattle.cert_law.specs.Certificates.{IsHeadSound, OwesRefuting, owed_by}
+use Rattle.cert_law.specs.Certificates.{OwesRefuting, owed_by}
 use Rattle.cert_law.specs.Claims.{IsTrueOf}
 use Rattle.cert_check.specs.Cases.{HasTables, IsCase, Matter}
 use Rattle.cert_check.specs.Walks.{IsWalk, owed_by_walk}

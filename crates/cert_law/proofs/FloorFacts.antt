@@ -3,7 +3,7 @@
 use Rattle.std.proofs.Common.{◌≡◌, ℕ, ◌+◌, ◌≤◌, false, List, [], ◌∷◌, ◌++◌, Option, Some, None, refl, ap, sym, ◌∙◌, subst, arith}
 use Rattle.std.specs.Prelude.{IsSome, IsSomeAnd, option_map}
 use Rattle.cert_law.proofs.Prefixes.{append-middle}
-use Rattle.floor_tables.specs.Floors.{IsLive, floor_of, rest_of}
+use Rattle.floor_tables.specs.Floors.{IsLive, floor_of}
 use Rattle.floor_tables.specs.Grows.{floor_grows, live_before, rest_at_end}
 use Rattle.fux_grid.specs.declared.cell.Cell.{Cell}
 use Rattle.fux_grid.specs.declared.exercise.Exercise.{Exercise}

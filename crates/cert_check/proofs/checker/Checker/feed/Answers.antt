@@ -1,4 +1,4 @@
-use Rattle.std.proofs.Common.{◌≡◌, ℕ, ◌+◌, ◌++◌, ◌∷◌, [], List, Option, Some, None, IsTrue, reverse, ap, sym, ◌∙◌, subst, arith, refl, true≢false}
+use Rattle.std.proofs.Common.{◌≡◌, ◌+◌, ◌++◌, ◌∷◌, List, Option, reverse, ap, sym, ◌∙◌, subst, true≢false}
 use Rattle.std.specs.Prelude.{IfSome}
 use Rattle.cert_check.specs.Cases.{Matter}
 use Rattle.cert_check.specs.Checking.{Checking}
@@ -6,7 +6,7 @@ use Rattle.cert_check.specs.Prefixes.{IsJudged}
 use Rattle.cert_check.specs.Walks.{owed_at, owed_later, prefix_of}
 use Rattle.cert_check.specs.declared.judged.Judged.{Judged}
 use Rattle.cert_check.proofs.CheckingLemmas.{owed-taken, refuses_seen, takes_seen}
-use Rattle.cert_law.specs.Certificates.{OwesRefuting, owed_by}
+use Rattle.cert_law.specs.Certificates.{OwesRefuting}
 use Rattle.cert_law.proofs.FloorFacts.{floors_hold}
 use Rattle.cert_law.proofs.Valid.{claim_kept}
 use Rattle.fux_grid.specs.declared.cell.Cell.{Cell}

@@ -1,4 +1,4 @@
-use Rattle.std.proofs.Common.{◌≡◌, sym, ◌∙◌, subst}
+use Rattle.std.proofs.Common.{sym, ◌∙◌, subst}
 use Rattle.cert_check.specs.Cases.{Matter}
 use Rattle.cert_check.specs.Checking.{Checking}
 use Rattle.cert_check.proofs.CheckingLemmas.{none_from, shown}

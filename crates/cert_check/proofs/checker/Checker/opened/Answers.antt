@@ -1,4 +1,4 @@
-use Rattle.std.proofs.Common.{rules, ◌≡◌, List, [], ◌∷◌, Some, refl, sym, subst, reverse}
+use Rattle.std.proofs.Common.{rules, List, Some, refl, sym, subst, reverse}
 use Rattle.cert_check.specs.Cases.{Matter}
 use Rattle.cert_check.specs.Prefixes.{IsJudged}
 use Rattle.cert_check.specs.Walks.{AreLevels, owed_at, prefix_of}

@@ -1,6 +1,4 @@
-use Rattle.std.proofs.Common.{◌≡◌, ℕ, ◌+◌, ◌-◌, ◌≤◌, ◌<◌, ◌++◌, ◌∷◌, [], List, Option, length, reverse, slice_index_or, ap, sym, ◌∙◌, subst, arith}
-use Rattle.std.specs.List.{Contains}
-use Rattle.std.proofs.lemmas.List.Elements.{Contains-get_or}
+use Rattle.std.proofs.Common.{◌≡◌, ℕ, ◌-◌, [], List, length, reverse, slice_index_or, ap, sym, ◌∙◌, subst, arith}
 use Rattle.cert_check.specs.Cases.{matter_of}
 use Rattle.cert_check.specs.Walks.{AreLevels, column_after, prefix_of}
 use Rattle.cert_check.specs.declared.walk.Level.{Level}
