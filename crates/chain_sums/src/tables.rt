@@ -1,6 +1,6 @@
 //! Tables of least sums over chains.
 
-ghost use Rattle.std.specs.Prelude.{◌≡◌, ◌<◌, ◌≤◌, ◌+◌, ◌-◌, ℕ, List, [], ◌*◌, ◌^◌, Some, length, suc, replicate, IfOk, IfErr, OnOk, OnErr, slice_index_or};
+ghost use Rattle.std.specs.Prelude.{◌≡◌, ◌<◌, ◌≤◌, ◌+◌, ◌-◌, ℕ, List, [], ◌*◌, ◌^◌, Some, length, suc, replicate, IfOk, IfErr, OnOk, OnErr, IsSomeAnd, slice_index_or};
 ghost use Rattle.std.specs.List.{Contains};
 ghost use Rattle.fux_grid.specs.Exercises.{bar_of, slot_of};
 ghost use Rattle.chain_sums.specs.Candidates.{AreAllCandidates, GoByBounds};
@@ -291,6 +291,40 @@ impl Tables {
             return None;
         }
         row.sums[k]
+    }
+
+    /// The menu of a place.
+    fn menu_at(&self, i: usize) -> Option<&Menu>
+        ensures { (c : Chains) → AreTablesOf c self.now → i < c.places
+            → IsSomeAnd result (λ menu. IsMenuOf (c.menu i) menu.now) }
+    {
+        if i >= self.rows.len() {
+            return None;
+        }
+        self.menus.get(self.rows[self.rows.len() - 1 - i].menu)
+    }
+
+    /// How many columns the menu of a place has.
+    pub fn width(&self, i: usize) -> usize
+        ensures { (c : Chains) → AreTablesOf c self.now → i < c.places → result ≡ length (c.menu i) }
+    {
+        match self.menu_at(i) {
+            Some(menu) => menu.len(),
+            None => 0,
+        }
+    }
+
+    /// The column of a number in the menu of a place.
+    pub fn column(&self, i: usize, k: usize) -> Option<&Column>
+        ensures { (c : Chains) → AreTablesOf c self.now → i < c.places → k < length (c.menu i)
+            → IsSomeAnd result (λ column. column.now.items ≡ slice_index_or (c.menu i) k []) }
+    {
+        let menu = self.menu_at(i)?;
+        if k < menu.len() {
+            Some(menu.column(k))
+        } else {
+            None
+        }
     }
 
     /// The least sum over the chains that begin at the first place. None exactly where no chain does.

@@ -80,6 +80,26 @@ impl<'a> Tables<'a> {
         self.sums.rest_of_number(i, k)
     }
 
+    /// How many columns the menu of a place has.
+    pub fn width(&self, i: usize) -> usize
+        requires { i < columns_in self.now.exercise }
+        ensures { result ≡ length (menu_of self.now.exercise i) }
+    {
+        self.sums.width(i)
+    }
+
+    /// The column of a number in the menu of a place.
+    pub fn column(&self, i: usize, k: usize) -> &Column
+        requires place { i < columns_in self.now.exercise }
+        requires within { k < length (menu_of self.now.exercise i) }
+        ensures { result.now.items ≡ slice_index_or (menu_of self.now.exercise i) k [] }
+    {
+        match self.sums.column(i, k) {
+            Some(column) => column,
+            None => unreachable!(),
+        }
+    }
+
     /// The least sum over all chains. None exactly where there is no chain.
     pub fn start(&self) -> Option<u64>
         ensures start { IsStart self.now.exercise self.now.sheet result }

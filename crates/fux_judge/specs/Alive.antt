@@ -78,7 +78,7 @@ both_strict false b h = refl
 
 module _ (ex : Exercise) (few : ex.voices ≤ 4) where
   -- where a column settles no break of S3 the list stays orderly
-  in_shape : (p : List (List Cell)) (col : List Cell) → IsOrderly ex p → newly_broken ex p col 3 ≡ false → IsOrderly ex (p ++ col ∷ [])
+  pub in_shape : (p : List (List Cell)) (col : List Cell) → IsOrderly ex p → newly_broken ex p col 3 ≡ false → IsOrderly ex (p ++ col ∷ [])
   unfolding rule_at
   in_shape p col orderly h =
       orderly-step ex p col few orderly

@@ -1,0 +1,5 @@
+pub mod BreakLemmas
+pub mod CheckingLemmas
+pub mod LevelLemmas
+pub mod NumberLemmas
+pub mod TruthLemmas

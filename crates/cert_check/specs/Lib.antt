@@ -1,0 +1,4 @@
+pub mod Cases
+pub mod Checking
+pub mod Prefixes
+pub mod Walks

@@ -1,0 +1,154 @@
+//! The checker of certificates.
+
+ghost use Rattle.std.specs.Prelude.{◌≡◌, ◌≢◌, ◌+◌, ◌^◌, ◌<◌, ◌≤◌, [], ◌∷◌, None, Some, Ok, Err, IfErr, IfOk, OnOk};
+ghost use Rattle.cert_text.specs.declared.answers.Refused.{Refused as ARefused};
+ghost use Rattle.cert_text.specs.declared.answers.Why.TheVariants as whys;
+ghost use Rattle.cert_law.specs.Certificates.{Holds};
+ghost use Rattle.cert_check.specs.Cases.{HasTables, IsCase};
+ghost use Rattle.cert_check.specs.Checking.{Refuses, Takes, accepted_of};
+
+use crate::case::Case;
+use crate::judged::Judged;
+use crate::truth::{is_open, is_true};
+use crate::walk::Walk;
+use cert_text::{Accepted, CertHead, Claim, Refused, Why};
+use floor_tables::Tables;
+use fux_grid::Exercise;
+use fux_pitch::Memory;
+use penalty_sheet::Sheet;
+use std::alloc::Global;
+use std::marker::Model;
+
+/// Room for 24 bars of eight columns.
+const MOST_LEVELS: usize = 192;
+
+/// Judges the claims of a certificate one by one. It holds the open prefixes that begin the one owed next, and nothing else of what was
+/// judged, so that it takes no memory after it is opened.
+#[derive(Drop)]
+pub struct Checker<'a> {
+    exercise: &'a Exercise,
+    sheet: &'a Sheet,
+    head: CertHead,
+    tables: Tables<'a>,
+    walk: Walk,
+    taken: u64,
+    refusal: Option<Refused>,
+}
+
+impl<'a> Model for Checker<'a> {
+    ghost use Rattle.cert_check.specs.Checking.{Checking, IsChecking};
+    ghost use Rattle.cert_check.specs.Walks.{owed_by_walk};
+
+    ghost Value = { Checking };
+
+    ghost view = { λ c. record {
+      exercise = c.exercise.now;
+      sheet = c.sheet.now;
+      head = c.head;
+      owed = owed_by_walk c.exercise.now c.walk;
+      count = c.taken;
+      refusal = c.refusal;
+    } };
+
+    ghost invariant = { λ c. IsChecking
+        (record { exercise = c.exercise.now; sheet = c.sheet.now; head = c.head }) c.tables c.walk c.refusal };
+}
+
+impl<'a> Checker<'a> {
+    /// A checker for which the empty prefix is owed. It takes all its memory here.
+    pub(crate) fn opened(
+        alloc: Global,
+        exercise: &'a Exercise,
+        sheet: &'a Sheet,
+        head: CertHead,
+        tables: Tables<'a>,
+    ) -> Result<Checker<'a>, Memory>
+        requires case { IsCase (record { exercise = exercise.now; sheet = sheet.now; head = head }) }
+        requires tables { HasTables (record { exercise = exercise.now; sheet = sheet.now; head = head }) tables }
+        ensures { IfOk result (λ c. c ≡ record {
+          exercise = exercise.entry.now;
+          sheet = sheet.entry.now;
+          head = head;
+          owed = [] ∷ [];
+          count = 0;
+          refusal = None;
+        }) }
+    {
+        let levels = Vec::with_capacity(alloc, MOST_LEVELS)?;
+        let next = Some(Judged::start(exercise, sheet));
+        Ok(Checker {
+            exercise,
+            sheet,
+            head,
+            tables,
+            walk: Walk { levels, next },
+            taken: 0,
+            refusal: None,
+        })
+    }
+
+    /// Judges a claim of the prefix that is owed next. It is taken where it is true of it; after a refusal every call answers the same.
+    pub fn feed(&mut self, claim: Claim) -> Result<(), Refused>
+        requires { self.old.count < 2 ^ 40 }
+        ensures taken { self.old.refusal ≡ None → OnOk result (Takes self.old claim self.new) }
+        ensures refused { self.old.refusal ≡ None → IfErr result (λ refused. Refuses self.old claim refused self.new) }
+        ensures again { (refused : ARefused) → self.old.refusal ≡ Some refused → (result ≡ Err refused) × (self.new ≡ self.old) }
+    {
+        if let Some(refused) = self.refusal {
+            return Err(refused);
+        }
+        let Some(next) = self.walk.next else {
+            return self.refuse(Why::Over);
+        };
+        let case = Case {
+            exercise: self.exercise,
+            sheet: self.sheet,
+            head: &self.head,
+        };
+        let rest = self.walk.rest(&case, &self.tables);
+        if !is_true(&case, &next, rest, claim) {
+            return self.refuse(Why::False);
+        }
+        self.walk.go_on(&case, &self.tables, next, is_open(claim));
+        self.taken += 1;
+        Ok(())
+    }
+
+    /// Keeps that a claim is refused.
+    fn refuse(&mut self, why: Why) -> Result<(), Refused>
+        requires { self.old.count < 2 ^ 40 }
+        ensures answer { result ≡ Err (record { number = self.old.count + 1; why = why }) }
+        ensures kept { self.new ≡ record self.old { refusal = Some (record { number = self.old.count + 1; why = why }) } }
+    {
+        let refused = Refused {
+            number: self.taken + 1,
+            why,
+        };
+        self.refusal = Some(refused);
+        Err(refused)
+    }
+
+    /// What the claims so far show, where none is owed. The head's setting is the best one then, or nothing is lawful.
+    pub fn finish(&self) -> Result<Accepted, Refused>
+        requires { self.now.count ≤ 2 ^ 40 }
+        ensures accepted { self.now.refusal ≡ None → self.now.owed ≡ [] → result ≡ Ok (accepted_of self.now.head) }
+        ensures short { self.now.refusal ≡ None → self.now.owed ≢ [] →
+            result ≡ Err (record { number = self.now.count + 1; why = whys.Short }) }
+        ensures again { (refused : ARefused) → self.now.refusal ≡ Some refused → result ≡ Err refused }
+        ensures shown { IfOk result (λ _. Holds self.now.exercise self.now.sheet self.now.head) }
+    {
+        if let Some(refused) = self.refusal {
+            return Err(refused);
+        }
+        if self.walk.next.is_some() {
+            return Err(Refused {
+                number: self.taken + 1,
+                why: Why::Short,
+            });
+        }
+        Ok(match &self.head {
+            CertHead::Best { penalty, .. } => Accepted::Best(*penalty),
+            CertHead::Nothing => Accepted::Nothing,
+        })
+    }
+}

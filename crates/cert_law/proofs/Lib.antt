@@ -1,0 +1,5 @@
+pub mod FloorFacts
+pub mod Orders
+pub mod Prefixes
+pub mod Valid
+pub mod WrittenClaims

@@ -1,0 +1,74 @@
+-- Certificates: a head and claims, those of the prefixes in preorder from the empty one, each of them true. What a head says is
+-- refuted by some lawful settings; a valid certificate shows that there is none.
+use Rattle.std.specs.Prelude.{◌≡◌, ◌<◌, ◌⊎◌, List, [], ◌∷◌, ◌++◌, ⊤}
+use Rattle.cert_text.specs.declared.answers.CertHead.{CertHead}
+use Rattle.cert_text.specs.declared.answers.CertHead.TheVariants.{Best, Nothing}
+use Rattle.cert_text.specs.declared.claim.Claim.{Claim}
+use Rattle.cert_text.specs.declared.claim.Claim.TheVariants.{Open, Broken, NoChain, Floor, TheScore}
+use Rattle.cert_law.specs.Claims.{IsTrueOf, longer_prefixes}
+use Rattle.fux_grid.specs.declared.cell.Cell.{Cell}
+use Rattle.fux_grid.specs.declared.exercise.Exercise.{Exercise}
+use Rattle.fux_grid.specs.Order.{IsEarlier}
+use Rattle.fux_judge.specs.Lawful.{HasNoLawful, IsBest, IsLawful}
+use Rattle.fux_judge.specs.Penalties.{penalty_of}
+use Rattle.penalty_sheet.specs.declared.sheet.Sheet.{Sheet}
+
+-- what a claim of a prefix owes in its place: an open prefix owes each prefix that is longer by a column
+abbrev pub owed_by : Exercise → List (List Cell) → Claim → List (List (List Cell))
+owed_by ex p Open = longer_prefixes ex p
+owed_by ex p (Broken rule) = []
+owed_by ex p NoChain = []
+owed_by ex p Floor = []
+owed_by ex p TheScore = []
+
+-- the claims are those of the prefixes that are owed, the next one first, and of what they owe in their place; each is true, none
+-- is owed when they end, and none is over
+abbrev pub IsCertified : Exercise → Sheet → CertHead → List (List (List Cell)) → List Claim → Type 0
+IsCertified ex sheet head [] [] = ⊤
+IsCertified ex sheet head (p ∷ owed) [] = ⊥
+IsCertified ex sheet head [] (claim ∷ claims) = ⊥
+IsCertified ex sheet head (p ∷ owed) (claim ∷ claims) =
+    IsTrueOf ex sheet head p claim × IsCertified ex sheet head (owed_by ex p claim ++ owed) claims
+
+-- the head's setting is lawful, and has the head's penalty
+abbrev pub IsHeadSound : Exercise → Sheet → CertHead → Type 0
+IsHeadSound ex sheet Nothing = ⊤
+IsHeadSound ex sheet (Best penalty score) =
+    IsLawful ex score.columns × (penalty_of ex sheet score.columns ≡ penalty)
+
+-- a valid certificate
+pub record IsCertificate (ex : Exercise) (sheet : Sheet) (head : CertHead) (claims : List Claim) : Type 0 where
+  pub sound : IsHeadSound ex sheet head
+  pub certified : IsCertified ex sheet head ([] ∷ []) claims
+
+-- what a head says: its setting is the best one and has its penalty, or no setting is lawful
+abbrev pub Holds : Exercise → Sheet → CertHead → Type 0
+Holds ex sheet Nothing = HasNoLawful ex
+Holds ex sheet (Best penalty score) =
+    IsBest ex sheet score.columns × (penalty_of ex sheet score.columns ≡ penalty)
+
+-- a setting is better than the head's: it has a lesser penalty, or the same one and is earlier in reading order. Every setting is
+-- better than none
+abbrev pub IsBetter : Exercise → Sheet → CertHead → List (List Cell) → Type 0
+IsBetter ex sheet Nothing t = ⊤
+IsBetter ex sheet (Best penalty score) t =
+    (penalty_of ex sheet t < penalty) ⊎ ((penalty_of ex sheet t ≡ penalty) × IsEarlier t score.columns)
+
+-- a lawful setting refutes a head where it is better
+pub record Refutes (ex : Exercise) (sheet : Sheet) (head : CertHead) (t : List (List Cell)) : Type 0 where
+  pub lawful : IsLawful ex t
+  pub better : IsBetter ex sheet head t
+
+-- a list of columns begins another one
+pub record Begins (p t : List (List Cell)) : Type 0 where
+  pub rest : List (List Cell)
+  pub is : t ≡ p ++ rest
+
+-- one of the prefixes begins it
+abbrev pub IsBegunByOne : List (List (List Cell)) → List (List Cell) → Type 0
+IsBegunByOne [] t = ⊥
+IsBegunByOne (p ∷ owed) t = Begins p t ⊎ IsBegunByOne owed t
+
+-- each setting that refutes the head is begun by a prefix that is owed
+abbrev pub OwesRefuting : Exercise → Sheet → CertHead → List (List (List Cell)) → Type 0
+OwesRefuting ex sheet head owed = (t : List (List Cell)) → Refutes ex sheet head t → IsBegunByOne owed t

@@ -1,0 +1,96 @@
+-- The certificate that is written: for each prefix the first claim that is true of it.
+use Rattle.std.specs.Prelude.{ℕ, zero, suc, Bool, true, false, ◌&&◌, ◌||◌, ◌==◌, nat_lt, List, [], ◌∷◌, ◌++◌, Option, length, if◌then◌else◌, is_none}
+use Rattle.std.specs.List.{find, flat_map}
+use Rattle.std.specs.Option.{option_map_or}
+use Rattle.std.specs.Ordering.{ordering_then}
+use Rattle.std.specs.declared.cmp.Ordering.{Ordering}
+use Rattle.std.specs.declared.cmp.Ordering.TheVariants.{Less, Equal, Greater}
+use Rattle.cert_text.specs.declared.answers.CertHead.{CertHead}
+use Rattle.cert_text.specs.declared.answers.CertHead.TheVariants.{Best, Nothing}
+use Rattle.cert_text.specs.declared.claim.Claim.{Claim}
+use Rattle.cert_text.specs.declared.claim.Claim.TheVariants.{Open, Broken, NoChain, Floor, TheScore}
+use Rattle.cert_text.specs.Lines.{claim_line}
+use Rattle.cert_text.specs.SingItems.{best_text, nothing_text}
+use Rattle.cert_law.specs.Claims.{has_break_of, longer_prefixes}
+use Rattle.floor_tables.specs.Floors.{floor_of, rest_of}
+use Rattle.fux_grid.specs.declared.cell.Cell.{Cell}
+use Rattle.fux_grid.specs.declared.exercise.Exercise.{Exercise}
+use Rattle.fux_grid.specs.Exercises.{columns_in}
+use Rattle.fux_grid.specs.Order.{column_order}
+use Rattle.fux_judge.specs.Rules.{rules_read}
+use Rattle.fux_text.specs.ReadBack.{sing_lines}
+use Rattle.penalty_sheet.specs.declared.sheet.Sheet.{Sheet}
+
+abbrev pub is_less : Ordering → Bool
+is_less Less = true
+is_less Equal = false
+is_less Greater = false
+
+abbrev pub is_equal : Ordering → Bool
+is_equal Less = false
+is_equal Equal = true
+is_equal Greater = false
+
+-- how two lists go by the first column at which they differ; they are equal there where they differ at none that both have
+abbrev pub columns_order : List (List Cell) → List (List Cell) → Ordering
+columns_order [] t = Equal
+columns_order (c ∷ s) [] = Equal
+columns_order (c ∷ s) (d ∷ t) = ordering_then (column_order c d) (columns_order s t)
+
+-- whether the prefix is the head's setting
+abbrev pub is_setting_of : CertHead → List (List Cell) → Bool
+is_setting_of Nothing p = false
+is_setting_of (Best penalty score) p = (length p == length score.columns) && is_equal (columns_order score.columns p)
+
+-- whether a floor is no better than the head's setting
+abbrev pub is_no_better : CertHead → List (List Cell) → ℕ → Bool
+is_no_better Nothing p floor = false
+is_no_better (Best penalty score) p floor =
+    nat_lt penalty floor || ((floor == penalty) && is_less (columns_order score.columns p))
+
+-- the least rule of which a strict break is settled in a prefix
+abbrev pub least_break : Exercise → List (List Cell) → Option ℕ
+least_break ex p = find (has_break_of ex p) rules_read
+
+-- the first claim that is true of a prefix: it is the head's setting, a rule is broken, no chain goes on, the floor is no better than
+-- the head's setting; else it is open
+abbrev pub unbroken_claim : Exercise → Sheet → CertHead → List (List Cell) → Claim
+unbroken_claim ex sheet head p =
+    if is_none (rest_of ex sheet p) then NoChain
+    else (if option_map_or (is_no_better head p) (floor_of ex sheet p) false then Floor else Open)
+
+abbrev pub first_claim : Exercise → Sheet → CertHead → List (List Cell) → Claim
+first_claim ex sheet head p =
+    if is_setting_of head p then TheScore
+    else option_map_or Broken (least_break ex p) (unbroken_claim ex sheet head p)
+
+abbrev pub is_open : Claim → Bool
+is_open Open = true
+is_open (Broken rule) = false
+is_open NoChain = false
+is_open Floor = false
+is_open TheScore = false
+
+-- the claims of a prefix and of all that it owes, where so many columns more may come
+unfoldable pub claims_from : Exercise → Sheet → CertHead → ℕ → List (List Cell) → List Claim
+claims_from ex sheet head zero p = first_claim ex sheet head p ∷ []
+claims_from ex sheet head (suc count) p =
+    first_claim ex sheet head p
+    ∷ (if is_open (first_claim ex sheet head p) then flat_map (claims_from ex sheet head count) (longer_prefixes ex p) else [])
+
+-- all claims of a certificate
+abbrev pub claims_of : Exercise → Sheet → CertHead → List Claim
+claims_of ex sheet head = claims_from ex sheet head (columns_in ex) []
+
+-- the text of a head
+abbrev pub head_text : Exercise → CertHead → List ℕ
+head_text ex Nothing = nothing_text
+head_text ex (Best penalty score) = best_text penalty (sing_lines ex score.columns)
+
+-- the text of a certificate: its head's, and the line of each claim
+abbrev pub certificate_text : Exercise → CertHead → List Claim → List ℕ
+certificate_text ex head claims = head_text ex head ++ flat_map claim_line claims
+
+-- the certificate that is written for a head
+abbrev pub written_certificate : Exercise → Sheet → CertHead → List ℕ
+written_certificate ex sheet head = certificate_text ex head (claims_of ex sheet head)
