@@ -106,13 +106,7 @@ impl Walk {
     }
 
     /// Goes on from the prefix that was owed next: where it is open, to those that are longer by a column first.
-    pub fn go_on(
-        &mut self,
-        case: &Case<'_>,
-        tables: &Tables<'_>,
-        next: Judged,
-        is_open: bool,
-    )
+    pub fn go_on(&mut self, case: &Case<'_>, tables: &Tables<'_>, next: Judged, is_open: bool)
         requires case { IsCase (matter_of case.now) }
         requires tables { HasTables (matter_of case.now) tables.now }
         requires walk { IsWalk (matter_of case.now) self.old }
