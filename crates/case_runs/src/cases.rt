@@ -81,12 +81,12 @@ fn decoded(alloc: Global, text: &str) -> Result<Vec<u8>, Memory> {
     Ok(bytes)
 }
 
-/// The words of a line, each within quotes.
+/// The words of a line, each within quotes. No quote is within a word.
 fn words_in(alloc: Global, line: &str) -> Result<Vec<String>, Memory> {
     let mut words = Vec::new(alloc);
     for (place, piece) in line.split('"').enumerate() {
         if place % 2 == 1 {
-            words.push(String::from_str(alloc, piece)?)?;
+            words.push(String::from_utf8_lossy(alloc, &decoded(alloc, piece)?)?)?;
         }
     }
     Ok(words)

@@ -1,13 +1,12 @@
 -- What a checker answers and keeps, for a prefix that is owed next (`takes_true`, `refuses_false`, `owed-taken`).
-use Rattle.std.proofs.Common.{◌≡◌, ℕ, ◌+◌, Bool, true, false, List, [], ◌∷◌, ◌++◌, Option, Some, None, Err, if◌then◌else◌, reverse, refl, ap, sym, ◌∙◌, subst, true≢false}
+use Rattle.std.proofs.Common.{◌≡◌, ◌+◌, Bool, true, false, List, [], ◌∷◌, ◌++◌, Option, Some, None, Err, if◌then◌else◌, reverse, refl, ap, sym, ◌∙◌, subst, true≢false}
 use Rattle.std.specs.Prelude.{IfErr, Result, is_some}
 use Rattle.cert_text.specs.declared.answers.Refused.{Refused}
-use Rattle.cert_text.specs.declared.answers.Why.{Why}
 use Rattle.cert_text.specs.declared.answers.Why.TheVariants.{False}
 use Rattle.cert_text.specs.declared.claim.Claim.{Claim}
 use Rattle.cert_text.specs.declared.claim.Claim.TheVariants.{Open, Broken, NoChain, Floor, TheScore}
 use Rattle.cert_law.specs.Certificates.{Holds, IsBegunByOne, OwesRefuting, owed_by}
-use Rattle.cert_law.specs.Floors.{FloorsHold}
+use Rattle.cert_law.proofs.FloorFacts.{floors_hold}
 use Rattle.cert_law.proofs.Valid.{unrefuted_holds}
 use Rattle.cert_law.specs.Claims.{IsTrueOf}
 use Rattle.cert_law.specs.Writer.{is_open}
@@ -62,8 +61,8 @@ none_from None h = refl
 none_from (Some x) h = absurd (true≢false h)
 
 -- where none is owed and none was refused, the head holds
-pub shown : (t : Matter) (walk : Walk) → IsCase t → FloorsHold t.exercise t.sheet → OwesRefuting t.exercise t.sheet t.head (owed_by_walk t.exercise walk) → walk.next ≡ None
+pub shown : (t : Matter) (walk : Walk) → IsCase t → OwesRefuting t.exercise t.sheet t.head (owed_by_walk t.exercise walk) → walk.next ≡ None
     → Holds t.exercise t.sheet t.head
-shown t walk case floors owes none =
-    unrefuted_holds t.exercise t.sheet case.valid.most_voices floors t.head case.sound
+shown t walk case owes none =
+    unrefuted_holds t.exercise t.sheet case.valid.most_voices (floors_hold t.exercise case.valid t.sheet) t.head case.sound
     (λ s refutes. subst (λ (next : Option Judged). IsBegunByOne (owed_at t.exercise (reverse walk.levels.items) next) s) none (owes s refutes))

@@ -1,15 +1,13 @@
 -- Levels: what is owed where one is added (`owed-entered`), and what one is that was taken away (`level_parts`).
-use Rattle.std.proofs.Common.{◌≡◌, ℕ, suc, ◌+◌, ◌<◌, ◌≤◌, List, [], ◌∷◌, ◌++◌, Option, Some, None, IsTrue, length, map, reverse, slice_index_or, refl, ap, sym, ◌∙◌, subst, arith}
+use Rattle.std.proofs.Common.{◌≡◌, ℕ, ◌+◌, List, [], ◌∷◌, ◌++◌, Some, length, map, reverse, slice_index_or, refl, ap, sym, ◌∙◌, subst, arith}
 use Rattle.std.proofs.lemmas.List.{length-append, reverse-append, reverse-reverse}
 use Rattle.std.proofs.Math.Seq.{get_or-append_seam}
 use Rattle.std.proofs.lemmas.List.Elements.{Contains-get_or}
 use Rattle.cert_check.specs.Cases.{Matter}
 use Rattle.cert_check.specs.declared.judged.Judged.{Judged}
 use Rattle.cert_check.specs.declared.walk.Level.{Level}
-use Rattle.cert_check.specs.Prefixes.{IsJudged}
-use Rattle.cert_check.specs.Walks.{AreLevels, IsLevel, IsNextNumber, IsOpen, column_after, longer_from, next_from, owed_later, prefix_of}
+use Rattle.cert_check.specs.Walks.{AreLevels, IsLevel, IsNextNumber, IsOpen, column_after, longer_from, owed_later, prefix_of}
 use Rattle.cert_law.proofs.Prefixes.{prefix-push}
-use Rattle.chain_sums.specs.Sums.{column_follows}
 use Rattle.chain_sums.proofs.SumLemmas.{column_follows_is}
 use Rattle.fux_grid.specs.declared.cell.Cell.{Cell}
 use Rattle.fux_grid.specs.declared.exercise.Exercise.{Exercise}

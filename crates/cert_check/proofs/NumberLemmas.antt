@@ -1,6 +1,6 @@
 -- The columns that pass from a number on: where the column of the number passes or not (`passing_here`, `passing_later`), and at the end
 -- (`passing_none`).
-use Rattle.std.proofs.Common.{◌≡◌, ℕ, suc, ◌+◌, ◌<◌, ◌≤◌, Bool, true, false, List, [], ◌∷◌, Option, IsTrue, drop, length, reverse, slice_index_or, refl, ap, sym, ◌∙◌, subst, arith, add-one, if◌then◌else◌}
+use Rattle.std.proofs.Common.{◌≡◌, ℕ, suc, ◌+◌, ◌<◌, ◌≤◌, Bool, true, false, List, [], ◌∷◌, Option, drop, length, reverse, slice_index_or, ap, sym, ◌∙◌, subst, add-one, if◌then◌else◌}
 use Rattle.std.specs.List.{filter}
 use Rattle.std.proofs.Math.Seq.{drop-cons}
 use Rattle.std.proofs.lemmas.List.{drop_all}

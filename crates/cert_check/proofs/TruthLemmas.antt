@@ -1,5 +1,5 @@
 -- The tests of claims tell whether they are true.
-use Rattle.std.proofs.Common.{◌≡◌, ℕ, ◌+◌, Bool, true, false, List, Option, Some, None, IsTrue, refl, ap, sym, ◌∙◌, subst, true≢false}
+use Rattle.std.proofs.Common.{◌≡◌, ℕ, ◌+◌, Bool, false, List, Option, Some, None, IsTrue, ap, sym, ◌∙◌, subst, true≢false}
 use Rattle.std.specs.Prelude.{IsSomeAnd, option_map, ◌↔◌}
 use Rattle.cert_text.specs.declared.answers.CertHead.{CertHead}
 use Rattle.cert_text.specs.declared.claim.Claim.TheVariants.{Floor, TheScore}

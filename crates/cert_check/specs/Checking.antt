@@ -7,9 +7,8 @@ use Rattle.cert_text.specs.declared.answers.CertHead.TheVariants.{Best, Nothing}
 use Rattle.cert_text.specs.declared.answers.Refused.{Refused}
 use Rattle.cert_text.specs.declared.answers.Why.TheVariants.{False, Over}
 use Rattle.cert_text.specs.declared.claim.Claim.{Claim}
-use Rattle.cert_law.specs.Certificates.{IsHeadSound, OwesRefuting, owed_by}
+use Rattle.cert_law.specs.Certificates.{OwesRefuting, owed_by}
 use Rattle.cert_law.specs.Claims.{IsTrueOf}
-use Rattle.cert_law.specs.Floors.{FloorsHold}
 use Rattle.cert_check.specs.Cases.{HasTables, IsCase, Matter}
 use Rattle.cert_check.specs.Walks.{IsWalk, owed_by_walk}
 use Rattle.cert_check.specs.declared.walk.Walk.{Walk}
@@ -33,7 +32,7 @@ pub record IsChecking (t : Matter) (tables : Task) (walk : Walk) (refusal : Opti
   pub case : IsCase t
   pub has : HasTables t tables
   pub is : IsWalk t walk
-  pub owes : refusal ≡ None → FloorsHold t.exercise t.sheet → OwesRefuting t.exercise t.sheet t.head (owed_by_walk t.exercise walk)
+  pub owes : refusal ≡ None → OwesRefuting t.exercise t.sheet t.head (owed_by_walk t.exercise walk)
 
 -- a claim is taken: it is true of the first prefix that is owed, and what it owes stands in the place of that
 abbrev pub TakesOf : Checking → List (List (List Cell)) → Claim → Checking → Type 0

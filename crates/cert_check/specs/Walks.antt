@@ -9,7 +9,7 @@ use Rattle.cert_check.specs.Prefixes.{IsJudged}
 use Rattle.chain_sums.specs.Sums.{column_follows}
 use Rattle.fux_grid.specs.declared.cell.Cell.{Cell}
 use Rattle.fux_grid.specs.declared.exercise.Exercise.{Exercise}
-use Rattle.fux_grid.specs.Columns.{ColumnFollows, newest_column}
+use Rattle.fux_grid.specs.Columns.{newest_column}
 use Rattle.fux_grid.specs.Exercises.{columns_in}
 use Rattle.fux_grid.specs.Menus.{menu_of}
 use Rattle.fux_grid.specs.Orderly.{IsOrderly}

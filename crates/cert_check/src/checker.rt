@@ -4,17 +4,23 @@ ghost use Rattle.std.specs.Prelude.{◌≡◌, ◌≢◌, ◌+◌, ◌^◌, ◌<
 ghost use Rattle.cert_text.specs.declared.answers.Refused.{Refused as ARefused};
 ghost use Rattle.cert_text.specs.declared.answers.Why.TheVariants as whys;
 ghost use Rattle.cert_law.specs.Certificates.{Holds};
-ghost use Rattle.cert_law.specs.Floors.{FloorsHold};
+ghost use Rattle.cert_check.specs.Cases.{HasTables, IsCase};
 ghost use Rattle.cert_check.specs.Checking.{Refuses, Takes, accepted_of};
 
 use crate::case::Case;
+use crate::judged::Judged;
 use crate::truth::{is_open, is_true};
 use crate::walk::Walk;
 use cert_text::{Accepted, CertHead, Claim, Refused, Why};
 use floor_tables::Tables;
 use fux_grid::Exercise;
+use fux_pitch::Memory;
 use penalty_sheet::Sheet;
+use std::alloc::Global;
 use std::marker::Model;
+
+/// Room for 24 bars of eight columns.
+const MOST_LEVELS: usize = 192;
 
 /// Judges the claims of a certificate one by one. It holds the open prefixes that begin the one owed next, and nothing else of what was
 /// judged, so that it takes no memory after it is opened.
@@ -49,6 +55,38 @@ impl<'a> Model for Checker<'a> {
 }
 
 impl<'a> Checker<'a> {
+    /// A checker for which the empty prefix is owed. It takes all its memory here.
+    pub(crate) fn opened(
+        alloc: Global,
+        exercise: &'a Exercise,
+        sheet: &'a Sheet,
+        head: CertHead,
+        tables: Tables<'a>,
+    ) -> Result<Checker<'a>, Memory>
+        requires case { IsCase (record { exercise = exercise.now; sheet = sheet.now; head = head }) }
+        requires tables { HasTables (record { exercise = exercise.now; sheet = sheet.now; head = head }) tables }
+        ensures { IfOk result (λ c. c ≡ record {
+          exercise = exercise.entry.now;
+          sheet = sheet.entry.now;
+          head = head;
+          owed = [] ∷ [];
+          count = 0;
+          refusal = None;
+        }) }
+    {
+        let levels = Vec::with_capacity(alloc, MOST_LEVELS)?;
+        let next = Some(Judged::start(exercise, sheet));
+        Ok(Checker {
+            exercise,
+            sheet,
+            head,
+            tables,
+            walk: Walk { levels, next },
+            taken: 0,
+            refusal: None,
+        })
+    }
+
     /// Judges a claim of the prefix that is owed next. It is taken where it is true of it; after a refusal every call answers the same.
     pub fn feed(&mut self, claim: Claim) -> Result<(), Refused>
         requires { self.old.count < 2 ^ 40 }
@@ -97,8 +135,7 @@ impl<'a> Checker<'a> {
         ensures short { self.now.refusal ≡ None → self.now.owed ≢ [] →
             result ≡ Err (record { number = self.now.count + 1; why = whys.Short }) }
         ensures again { (refused : ARefused) → self.now.refusal ≡ Some refused → result ≡ Err refused }
-        ensures shown { IfOk result (λ _. FloorsHold self.now.exercise self.now.sheet →
-            Holds self.now.exercise self.now.sheet self.now.head) }
+        ensures shown { IfOk result (λ _. Holds self.now.exercise self.now.sheet self.now.head) }
     {
         if let Some(refused) = self.refusal {
             return Err(refused);

@@ -60,7 +60,7 @@ impl Walk {
         }
         let level = &self.levels[count - 1];
         let i = level.parent.state.newest.len;
-        tables.rest(i, tables.column(i, level.number))
+        tables.rest_of_number(i, level.number)
     }
 
     /// Goes to the first prefix that is longer than an open one by a column of this number or a later one, where there is one.

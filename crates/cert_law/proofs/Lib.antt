@@ -1,3 +1,4 @@
+pub mod FloorFacts
 pub mod Orders
 pub mod Prefixes
 pub mod Valid

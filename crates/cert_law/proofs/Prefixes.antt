@@ -1,13 +1,13 @@
 -- What begins a lawful setting: no strict break is settled in it (`begun_unbroken`), and where it isn't whole, the setting goes on
 -- by one of the columns that may come next (`begun_longer`).
-use Rattle.std.proofs.Common.{◌≡◌, ◌⊎◌, inl, inr, ℕ, zero, suc, ◌+◌, ◌<◌, ◌≤◌, ◌==◌, Bool, true, false, ◌&&◌, ◌||◌, List, [], ◌∷◌, ◌++◌, IsTrue, length, map, reverse, slice_index_or, take, refl, ap, sym, ◌∙◌, subst, arith, true≢false}
+use Rattle.std.proofs.Common.{◌≡◌, ◌⊎◌, inl, inr, ℕ, zero, suc, ◌+◌, ◌<◌, ◌≤◌, ◌==◌, Bool, true, false, ◌||◌, List, [], ◌∷◌, ◌++◌, length, map, reverse, slice_index_or, take, refl, ap, sym, ◌∙◌, subst, arith, true≢false}
 use Rattle.std.specs.List.{Contains, filter, list_any}
 use Rattle.std.proofs.Math.ListN.{get_or-append}
 use Rattle.std.proofs.Math.Seq.{get_or-append_seam}
 use Rattle.std.proofs.lemmas.Bool.{and_parts, cases_Bool, cases_lt, eqb-true, or_parts}
 use Rattle.std.proofs.lemmas.List.{length-append, reverse-append, take-append-le}
-use Rattle.cert_law.specs.Certificates.{Begins, IsBegunByOne}
-use Rattle.cert_law.specs.Claims.{has_break_of, longer_prefixes, next_columns}
+use Rattle.cert_law.specs.Certificates.{IsBegunByOne}
+use Rattle.cert_law.specs.Claims.{has_break_of, longer_prefixes}
 use Rattle.chain_sums.specs.Sums.{column_follows}
 use Rattle.chain_sums.proofs.SumLemmas.{column_follows_is}
 use Rattle.fux_grid.specs.declared.cell.Cell.{Cell}

@@ -1,25 +1,23 @@
 -- A valid certificate's head holds (`certificate_holds`): a lawful setting that refutes it would be begun by a prefix that is owed, as
 -- long as true claims are taken (`claim_kept`), and in the end none is owed.
-use Rattle.std.proofs.Common.{◌≡◌, ◌≢◌, ◌⊎◌, inl, inr, ℕ, zero, suc, ◌+◌, ◌<◌, ◌≤◌, Bool, true, false, List, [], ◌∷◌, ◌++◌, IsTrue, length, Option, Some, None, refl, ap, sym, ◌∙◌, subst, arith}
+use Rattle.std.proofs.Common.{◌≡◌, ◌≢◌, ◌⊎◌, inl, inr, ℕ, ◌+◌, ◌<◌, ◌≤◌, List, [], ◌∷◌, ◌++◌, length, Option, Some, None, refl, ap, sym, ◌∙◌, subst, arith}
 use Rattle.std.specs.Prelude.{IsSomeAnd, option_map}
 use Rattle.std.proofs.lemmas.Bool.{cases_lt}
-use Rattle.std.proofs.lemmas.List.{length-append}
 use Rattle.cert_text.specs.declared.answers.CertHead.{CertHead}
 use Rattle.cert_text.specs.declared.answers.CertHead.TheVariants.{Best, Nothing}
 use Rattle.cert_text.specs.declared.claim.Claim.{Claim}
 use Rattle.cert_text.specs.declared.claim.Claim.TheVariants.{Open, Broken, NoChain, Floor, TheScore}
-use Rattle.cert_law.specs.Certificates.{Begins, Holds, IsBegunByOne, IsBetter, IsCertificate, IsCertified, IsHeadSound, OwesRefuting, Refutes, owed_by}
+use Rattle.cert_law.specs.Certificates.{Holds, IsBegunByOne, IsBetter, IsCertificate, IsCertified, IsHeadSound, OwesRefuting, Refutes, owed_by}
 use Rattle.cert_law.specs.Claims.{IsNoBetter, IsTrueOf}
-use Rattle.cert_law.specs.Floors.{FloorsHold}
+use Rattle.cert_law.proofs.FloorFacts.{FloorsHold}
 use Rattle.cert_law.proofs.Prefixes.{begun_longer, begun_unbroken, unbroken-each}
 use Rattle.floor_tables.specs.Floors.{floor_of, rest_of}
 use Rattle.fux_grid.specs.declared.cell.Cell.{Cell}
 use Rattle.fux_grid.specs.declared.exercise.Exercise.{Exercise}
-use Rattle.fux_grid.specs.Exercises.{columns_in}
 use Rattle.fux_grid.specs.Grid.{Grid}
 use Rattle.fux_grid.specs.Order.{IsEarlier}
 use Rattle.fux_grid.proofs.OrderLemmas.{earlier-append, earlier-cases, earlier-chained, earlier-itself}
-use Rattle.fux_judge.specs.Lawful.{IsBest, IsLawful}
+use Rattle.fux_judge.specs.Lawful.{IsLawful}
 use Rattle.fux_judge.specs.Penalties.{paid, penalty_of}
 use Rattle.fux_judge.specs.Gauges.{least_of}
 use Rattle.penalty_sheet.specs.declared.sheet.Sheet.{Sheet}

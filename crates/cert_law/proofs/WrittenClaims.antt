@@ -1,13 +1,11 @@
 -- The claims that are written for a head that holds are certified (`claims_certified`): the first true claim of each prefix is true
 -- (`first_claim_true`), since a whole setting that is alive is the head's, or no better.
-use Rattle.std.proofs.Common.{◌≡◌, ◌≢◌, ◌⊎◌, inl, inr, ℕ, zero, suc, ◌+◌, ◌<◌, ◌≤◌, ◌==◌, nat_lt, Bool, true, false, ◌&&◌, ◌||◌, List, [], ◌∷◌, ◌++◌, IsTrue, if◌then◌else◌, length, map, reverse, slice_index_or, take, Option, Some, None, refl, ap, sym, ◌∙◌, subst, arith, append_assoc, true≢false}
+use Rattle.std.proofs.Common.{◌≡◌, ◌≢◌, ◌⊎◌, inl, inr, ℕ, zero, suc, ◌+◌, ◌<◌, ◌≤◌, ◌==◌, nat_lt, Bool, true, false, ◌&&◌, ◌||◌, List, [], ◌∷◌, ◌++◌, if◌then◌else◌, length, map, reverse, slice_index_or, take, Option, Some, None, refl, ap, sym, ◌∙◌, subst, arith, append_assoc, true≢false}
 use Rattle.std.specs.Prelude.{IsSomeAnd, is_none}
 use Rattle.std.specs.List.{AllByRecursion, filter, find, flat_map, list_all, list_any}
 use Rattle.std.specs.Option.{option_map_or}
 use Rattle.std.specs.declared.cmp.Ordering.{Ordering}
 use Rattle.std.specs.declared.cmp.Ordering.TheVariants.{Less, Equal, Greater}
-use Rattle.std.proofs.Math.ListN.{get_or-append}
-use Rattle.std.proofs.Math.Seq.{get_or-append_seam}
 use Rattle.std.proofs.lemmas.Bool.{and_parts, cases_Bool, cases_lt, eq-eqb, eqb-true, lt-ltb, or_parts}
 use Rattle.std.proofs.lemmas.Bool.Decides.{nat_tests}
 use Rattle.std.proofs.lemmas.List.{length-append}
@@ -18,7 +16,7 @@ use Rattle.cert_text.specs.declared.claim.Claim.{Claim}
 use Rattle.cert_text.specs.declared.claim.Claim.TheVariants.{Open, Broken, NoChain, Floor, TheScore}
 use Rattle.cert_law.specs.Certificates.{Holds, IsCertificate, IsCertified, IsHeadSound, owed_by}
 use Rattle.cert_law.specs.Claims.{IsNoBetter, IsSettingOf, IsTrueOf, has_break_of, longer_prefixes}
-use Rattle.cert_law.specs.Floors.{FloorsHold}
+use Rattle.cert_law.proofs.FloorFacts.{FloorsHold}
 use Rattle.cert_law.specs.Writer.{claims_from, claims_of, columns_order, first_claim, is_equal, is_less, is_no_better, is_open, is_setting_of, least_break, unbroken_claim}
 use Rattle.cert_law.proofs.Prefixes.{prefix-push}
 use Rattle.cert_law.proofs.Orders.{less-order, order-equal, order-itself, order-less}
@@ -27,12 +25,10 @@ use Rattle.chain_sums.proofs.SumLemmas.{column_follows_is}
 use Rattle.floor_tables.specs.Floors.{floor_of, rest_of}
 use Rattle.fux_grid.specs.declared.cell.Cell.{Cell}
 use Rattle.fux_grid.specs.declared.exercise.Exercise.{Exercise}
-use Rattle.fux_grid.specs.Columns.{ColumnFollows, HistoryFollows, newest_column}
+use Rattle.fux_grid.specs.Columns.{ColumnFollows, newest_column}
 use Rattle.fux_grid.specs.Exercises.{columns_in}
 use Rattle.fux_grid.specs.Menus.{IsInMenu, menu_of}
 use Rattle.fux_grid.specs.Order.{IsEarlier}
-use Rattle.fux_grid.specs.Orderly.{IsOrderly}
-use Rattle.fux_grid.proofs.Histories.{reverse-push}
 use Rattle.fux_grid.proofs.MenuLemmas.{menu_of-contains}
 use Rattle.fux_grid.proofs.OrderLemmas.{earlier-cases, earlier-itself}
 use Rattle.fux_judge.specs.Alive.{alive_orderly, unbroken_if_alive}

@@ -1,6 +1,6 @@
 -- Certificates: a head and claims, those of the prefixes in preorder from the empty one, each of them true. What a head says is
 -- refuted by some lawful settings; a valid certificate shows that there is none.
-use Rattle.std.specs.Prelude.{◌≡◌, ℕ, ◌<◌, ◌⊎◌, List, [], ◌∷◌, ◌++◌, ⊤}
+use Rattle.std.specs.Prelude.{◌≡◌, ◌<◌, ◌⊎◌, List, [], ◌∷◌, ◌++◌, ⊤}
 use Rattle.cert_text.specs.declared.answers.CertHead.{CertHead}
 use Rattle.cert_text.specs.declared.answers.CertHead.TheVariants.{Best, Nothing}
 use Rattle.cert_text.specs.declared.claim.Claim.{Claim}

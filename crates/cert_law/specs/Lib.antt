@@ -1,4 +1,3 @@
 pub mod Certificates
 pub mod Claims
-pub mod Floors
 pub mod Writer

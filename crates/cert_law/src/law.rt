@@ -3,7 +3,6 @@
 ghost use Rattle.std.specs.Prelude.{List};
 ghost use Rattle.cert_text.specs.declared.claim.Claim.{Claim};
 ghost use Rattle.cert_law.specs.Certificates.{Holds, IsCertificate};
-ghost use Rattle.cert_law.specs.Floors.{FloorsHold};
 ghost use Rattle.cert_law.specs.Writer.{claims_of};
 ghost use Rattle.fux_grid.specs.Exercises.{IsValid};
 
@@ -15,7 +14,7 @@ use penalty_sheet::Sheet;
 /// It does nothing; callers that prove something about a certificate learn this from it.
 pub fn shown_by(ex: &Exercise, sheet: &Sheet, head: &CertHead)
     requires valid { IsValid ex.now }
-    ensures { FloorsHold ex.now sheet.now → (claims : List Claim) → IsCertificate ex.now sheet.now head.now claims → Holds ex.now sheet.now head.now }
+    ensures { (claims : List Claim) → IsCertificate ex.now sheet.now head.now claims → Holds ex.now sheet.now head.now }
 {
     let _ = ex.voices;
     let _ = sheet;
@@ -25,7 +24,7 @@ pub fn shown_by(ex: &Exercise, sheet: &Sheet, head: &CertHead)
 /// What the writer's certificate is: of a head that holds, it is valid. It does nothing, as `shown_by`.
 pub fn written(ex: &Exercise, sheet: &Sheet, head: &CertHead)
     requires valid { IsValid ex.now }
-    ensures { FloorsHold ex.now sheet.now → Holds ex.now sheet.now head.now
+    ensures { Holds ex.now sheet.now head.now
         → IsCertificate ex.now sheet.now head.now (claims_of ex.now sheet.now head.now) }
 {
     let _ = ex.voices;

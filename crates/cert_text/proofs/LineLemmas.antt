@@ -1,12 +1,12 @@
 -- Which bytes begin a claim's line (`digit_begun`, `rule_ends`), and how the number of a rule is
--- written (`longer_rule`).
-use Rattle.std.proofs.Common.{◌≡◌, ◌≢◌, ℕ, Bool, true, false, nat_lt, ◌+◌, ◌*◌, ◌/◌, ◌%◌, ◌<◌, ◌≤◌, List, [], ◌∷◌, ◌++◌, ◌⊎◌, inl, inr, ⊎_elim, refl, sym, ap, ◌∙◌, arith, append_assoc}
+-- written (`longer_rule`). A claim's line has no line feed before its end (`word_has_no_feed`).
+use Rattle.std.proofs.Common.{◌≡◌, ◌≢◌, ℕ, Bool, true, false, nat_lt, ◌+◌, ◌*◌, ◌/◌, ◌%◌, ◌<◌, ◌≤◌, List, [], ◌∷◌, ◌++◌, ◌⊎◌, inl, inr, ⊎_elim, refl, sym, ap, ◌∙◌, subst, arith, append_assoc}
 use Rattle.std.specs.Fmt.{decimal}
 use Rattle.std.proofs.lemmas.Bool.Decides.{nat_tests}
 use Rattle.std.proofs.lemmas.Fmt.{decimal_digit, decimal_step}
 use Rattle.cert_text.specs.declared.claim.Claim.{Claim}
 use Rattle.cert_text.specs.declared.claim.Claim.TheVariants.{Open, Broken, NoChain, Floor, TheScore}
-use Rattle.cert_text.specs.Lines.{BeginsClaim, IsClaim, claim_line}
+use Rattle.cert_text.specs.Lines.{BeginsClaim, HasNoFeed, IsClaim, claim_line, claim_word}
 
 -- a number of two digits
 pub two_digits : (n : ℕ) → 10 ≤ n → n ≤ 26 → decimal n ≡ (48 + n / 10) ∷ (48 + n % 10) ∷ []
@@ -99,3 +99,18 @@ rule_ends rule byte low high other none b = at b.claim b.fits b.rest b.whole
         let tail : (decimal rule ++ byte ∷ []) ++ rest ≡ decimal n ++ 10 ∷ [] = cc in
         rules_differ rule n byte rest low high most other none
         (sym (append_assoc (decimal rule) (byte ∷ []) rest) ∙ tail)
+
+-- the number of a rule has no line feed
+digits_have_no_feed : (n : ℕ) → n ≤ 26 → HasNoFeed (decimal n)
+digits_have_no_feed n high = ⊎_elim
+    (λ (small, one). subst HasNoFeed (sym one) ((λ e. omega (arith, e)), tt))
+    (λ (large, two). subst HasNoFeed (sym two) ((λ e. omega (arith, e)), ((λ e. omega (arith, e)), tt)))
+    (digits_of n high)
+
+-- nor has a claim's line before its end
+pub word_has_no_feed : (claim : Claim) → IsClaim claim → HasNoFeed (claim_word claim)
+word_has_no_feed Open fits = ((λ e. cc), tt)
+word_has_no_feed NoChain fits = ((λ e. cc), tt)
+word_has_no_feed Floor fits = ((λ e. cc), tt)
+word_has_no_feed TheScore fits = ((λ e. cc), tt)
+word_has_no_feed (Broken n) fits = ((λ e. cc), ((λ e. cc), digits_have_no_feed n fits.1))

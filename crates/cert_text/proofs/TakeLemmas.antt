@@ -7,9 +7,10 @@ use Rattle.cert_text.specs.declared.begun.Begun.{Begun}
 use Rattle.cert_text.specs.declared.begun.Begun.TheVariants.{Nothing, Word, Letter, Blank}
 use Rattle.cert_text.specs.declared.begun.Step.TheVariants.{Goes}
 use Rattle.cert_text.specs.Begun.{IsBegun, StopStep, begun_bytes}
-use Rattle.cert_text.specs.Lines.{BeginsClaim, line_part}
+use Rattle.cert_text.specs.Lines.{BeginsClaim, HasNoFeed, line_part}
 use Rattle.cert_text.specs.Reading.{Reading}
 use Rattle.cert_text.specs.Takes.{Takes}
+use Rattle.cert_text.proofs.LineLemmas.{word_has_no_feed}
 
 -- what was begun begins a claim's line
 begun_begins : (begun : Begun) → IsBegun begun → BeginsClaim (begun_bytes begun)
@@ -30,6 +31,13 @@ begun_begins Blank fits = record {
   whole = refl;
 }
 
+-- and has no line feed
+begun_has_no_feed : (begun : Begun) → IsBegun begun → HasNoFeed (begun_bytes begun)
+begun_has_no_feed Nothing fits = tt
+begun_has_no_feed (Word claim) fits = word_has_no_feed claim fits
+begun_has_no_feed Letter fits = ((λ e. cc), tt)
+begun_has_no_feed Blank fits = ((λ e. cc), ((λ e. cc), tt))
+
 -- the line that goes on
 pub record GoesOn (old new : Reading) (after : Begun) (used : ℕ) : Type 0 where
   pub next : new.next ≡ old.next + used
@@ -49,6 +57,7 @@ goes_takes old new before after piece used same (fits, read, whole, part) unrefu
       within = omega (arith, whole);
       bytes = line ∙ sym on.begun;
       ended = tt;
+      unended = subst HasNoFeed (sym on.begun) (begun_has_no_feed after fits);
       all = λ none. whole;
       next = on.next;
       count = on.count;

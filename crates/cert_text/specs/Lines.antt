@@ -1,5 +1,5 @@
 -- The lines of claims.
-use Rattle.std.specs.Prelude.{◌≡◌, ℕ, ◌≤◌, ◌==◌, List, [], ◌∷◌, ◌++◌, codes, if◌then◌else◌, Option, Some, None}
+use Rattle.std.specs.Prelude.{◌≡◌, ◌≢◌, ℕ, ◌≤◌, ◌==◌, ⊤, List, [], ◌∷◌, ◌++◌, codes, if◌then◌else◌, Option, Some, None}
 use Rattle.std.specs.Fmt.{decimal}
 use Rattle.cert_text.specs.declared.claim.Claim.{Claim}
 use Rattle.cert_text.specs.declared.claim.Claim.TheVariants.{Open, Broken, NoChain, Floor, TheScore}
@@ -44,3 +44,8 @@ pub record BeginsClaim (bytes : List ℕ) : Type 0 where
 abbrev pub line_part : List ℕ → List ℕ
 line_part [] = []
 line_part (byte ∷ bytes) = if byte == 10 then byte ∷ [] else byte ∷ line_part bytes
+
+-- none of the bytes is a line feed
+abbrev pub HasNoFeed : List ℕ → Type 0
+HasNoFeed [] = ⊤
+HasNoFeed (byte ∷ bytes) = (byte ≢ 10) × HasNoFeed bytes

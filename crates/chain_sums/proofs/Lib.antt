@@ -2,5 +2,6 @@ pub mod CandidateLemmas
 pub mod LeastLemmas
 pub mod MenuLemmas
 pub mod PackedLemmas
+pub mod StillLemmas
 pub mod SumLemmas
 pub mod TableLemmas

@@ -62,6 +62,13 @@ row_for c t i d are h =
     subst (λ (j : ℕ). IsRowAt c j t.menus.items (get_or t.rows.items (length t.rows.items - 1 - i) d)) e
     (are.rows.at (length t.rows.items - 1 - i) d (omega (arith, are.whole)))
 
+pub row_is : (c : Chains) (t : Tables) (i last : ℕ) (row : Row) → AreTablesOf c t → i < c.places
+    → last ≡ length t.rows.items → row ≡ get_or t.rows.items (last - 1 - i) row → IsRow c i row.sums.items
+row_is c t i last row are h e is =
+    let here : IsRowAt c i t.menus.items row =
+    subst (λ (r : Row). IsRowAt c i t.menus.items r) (sym (is ∙ ap (λ n. get_or t.rows.items (n - 1 - i) row) e)) (row_for c t i row are h) in
+    here.sums
+
 -- what a look into the tables finds: the row of the place, and its menu, which has the column
 pub record IsAsked (c : Chains) (i : ℕ) (row : Row) (menu : Menu) (col : List Cell) : Type 0 where
   pub packed : IsPacked c.voices menu
@@ -94,6 +101,21 @@ least_at c i k row menu col asked h e =
 
 pub sums_beside : (c : Chains) (i : ℕ) (row : Row) (menu : Menu) (col : List Cell) → IsAsked c i row menu col → length row.sums.items ≡ length menu.columns.items
 sums_beside c i row menu col asked = asked.sums.beside ∙ sym (length-columns menu.columns.items (c.menu i) asked.are)
+
+pub at_most_more : (most more : ℕ) (sum : Option ℕ) → most ≤ more → IsAtMost most sum → IsAtMost more sum
+at_most_more most more None h is = tt
+at_most_more most more (Some x) h is = omega (arith, h, is)
+
+-- each sum of a row of the tables is small
+pub small_in : (c : Chains) (t : Tables) (i last : ℕ) (row : Row) (k : ℕ) → AreTablesOf c t → i < c.places → last ≡ length t.rows.items
+    → row ≡ get_or t.rows.items (last - 1 - i) row → k < length row.sums.items → IsAtMost (c.places * 2 ^ 53) (get_or row.sums.items k None)
+small_in c t i last row k are h e is within =
+    at_most_more ((last - 1 - i) * 2 ^ 53) (c.places * 2 ^ 53) (get_or row.sums.items k None) (omega (arith, are.whole, e)) (here k within)
+  where
+    here : AllAtMost ((last - 1 - i) * 2 ^ 53) row.sums.items
+    here =
+        subst (λ (r : Row). AllAtMost ((last - 1 - i) * 2 ^ 53) r.sums.items) (sym is)
+        (are.rows.small (last - 1 - i) row (omega (arith, are.whole, e, h)))
 
 -- ---- a row grows by a sum at a time
 

@@ -9,7 +9,7 @@ use Rattle.chain_sums.specs.declared.tables.TableFault.{TableFault}
 use Rattle.chain_sums.specs.declared.tables.TableFault.TheVariants.{TooWide, Memory}
 use Rattle.chain_sums.specs.Chains.{Chains, IsLeast}
 use Rattle.chain_sums.specs.Menus.{IsMenuOf, IsPacked}
-use Rattle.chain_sums.specs.Rows.{AllAtMost, IsRow}
+use Rattle.chain_sums.specs.Rows.{AllAtMost, IsAtMost, IsRow}
 
 -- a row has the least sums of a place, beside the menu of the place
 pub record IsRowAt (c : Chains) (i : ℕ) (menus : List Menu) (row : Row) : Type 0 where
@@ -29,6 +29,7 @@ pub record AreTablesOf (c : Chains) (t : Tables) : Type 0 where
   pub whole : length t.rows.items ≡ c.places
   pub rows : AreRows c t.menus.items t.rows.items
   pub start : IsLeast c 0 None t.start
+  pub small_start : IsAtMost (c.places * 2 ^ 53) t.start
 
 -- no menu is too wide
 abbrev pub AreNarrow : Chains → Type 0

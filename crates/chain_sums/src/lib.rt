@@ -6,6 +6,7 @@ mod least;
 mod links;
 mod menu;
 mod packed;
+mod still;
 mod tables;
 
 pub use links::Links;

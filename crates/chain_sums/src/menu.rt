@@ -8,8 +8,9 @@ ghost use Rattle.fux_grid.specs.Menus.{IsAscending};
 ghost use Rattle.chain_sums.specs.Chains.{AreFull};
 ghost use Rattle.chain_sums.specs.Menus.{IsMenuOf, IsNumberOf, IsPacked};
 ghost use Rattle.chain_sums.specs.Packed as specs;
+ghost use Rattle.chain_sums.specs.Still.{held};
 
-use crate::packed::packed;
+use crate::packed::{packed, packed_held};
 use fux_grid::Column;
 use fux_pitch::Memory;
 use std::alloc::Global;
@@ -67,6 +68,18 @@ impl Menu {
             → IsSomeAnd result (IsNumberOf self.now column.now.items) }
     {
         match self.numbers.binary_search(&packed(column.as_slice())) {
+            Ok(k) => Some(k),
+            Err(_) => None,
+        }
+    }
+
+    /// Where the column stands that goes on with all that a column sounds; none only where the menu hasn't got it.
+    pub(crate) fn place_of_held(&self, column: &Column) -> Option<usize>
+        ensures { (voices : ℕ) → IsPacked voices self.now
+            → Contains (items_of self.now.columns.items) (map held column.now.items)
+            → IsSomeAnd result (IsNumberOf self.now (map held column.now.items)) }
+    {
+        match self.numbers.binary_search(&packed_held(column.as_slice())) {
             Ok(k) => Some(k),
             Err(_) => None,
         }

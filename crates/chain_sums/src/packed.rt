@@ -3,6 +3,7 @@
 ghost use Rattle.std.specs.Prelude.{◌≡◌, ◌<◌};
 ghost use Rattle.fux_grid.specs.Cells.{cell_in};
 ghost use Rattle.chain_sums.specs.Packed as specs;
+ghost use Rattle.chain_sums.specs.Still as still;
 
 use fux_grid::{Cell, cell_of};
 use fux_pitch::{Pitch, semitone};
@@ -44,5 +45,33 @@ pub(crate) fn packed(column: &[Cell]) -> u64
 {
     let lower = packed_voice(column, 0) * VOICE + packed_voice(column, 1);
     let upper = packed_voice(column, 2) * VOICE + packed_voice(column, 3);
+    lower * (VOICE * VOICE) + upper
+}
+
+/// The cell that goes on with what a cell sounds.
+fn held(cell: Cell) -> Cell
+    ensures { result ≡ still.held cell }
+{
+    match cell {
+        Cell::Rest => Cell::Rest,
+        Cell::Hold(pitch) => Cell::Hold(pitch),
+        Cell::Start(pitch) => Cell::Hold(pitch),
+    }
+}
+
+/// The number of the cell that goes on with what a voice sounds in a column.
+fn packed_voice_held(column: &[Cell], v: usize) -> u64
+    ensures value { result ≡ specs.packed_cell (still.held (cell_in column.now v)) }
+    ensures bound { result < 32768 }
+{
+    u64::from(packed_cell(held(cell_of(column, v))))
+}
+
+/// The number of the column that goes on with all that a column sounds.
+pub(crate) fn packed_held(column: &[Cell]) -> u64
+    ensures { result ≡ still.packed_held column.now }
+{
+    let lower = packed_voice_held(column, 0) * VOICE + packed_voice_held(column, 1);
+    let upper = packed_voice_held(column, 2) * VOICE + packed_voice_held(column, 3);
     lower * (VOICE * VOICE) + upper
 }

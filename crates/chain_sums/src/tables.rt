@@ -1,18 +1,20 @@
 //! Tables of least sums over chains.
 
-ghost use Rattle.std.specs.Prelude.{◌≡◌, ◌<◌, ◌≤◌, ◌+◌, ◌-◌, ℕ, List, ◌*◌, ◌^◌, length, suc, replicate, IfOk, IfErr, IsSomeAnd, OnOk, OnErr, [], slice_index_or};
+ghost use Rattle.std.specs.Prelude.{◌≡◌, ◌<◌, ◌≤◌, ◌+◌, ◌-◌, ℕ, List, [], ◌*◌, ◌^◌, Some, length, suc, replicate, IfOk, IfErr, OnOk, OnErr, IsSomeAnd, slice_index_or};
 ghost use Rattle.std.specs.List.{Contains};
 ghost use Rattle.fux_grid.specs.Exercises.{bar_of, slot_of};
 ghost use Rattle.chain_sums.specs.Candidates.{AreAllCandidates, GoByBounds};
-ghost use Rattle.chain_sums.specs.Chains.{Chains, IsLeast};
-ghost use Rattle.chain_sums.specs.Menus.{IsMenuOf};
-ghost use Rattle.chain_sums.specs.Rows.{AllAtMost, IsRow};
+ghost use Rattle.chain_sums.specs.Chains.{AreFull, Chains, IsLeast};
+ghost use Rattle.chain_sums.specs.Menus.{IsMenuOf, IsPacked};
+ghost use Rattle.chain_sums.specs.Rows.{AllAtMost, IsAtMost, IsRow};
+ghost use Rattle.chain_sums.specs.Still.{IsStill};
 ghost use Rattle.chain_sums.specs.Tables.{AreNarrow, AreRows, AreTablesOf, TellsWidth};
 
 use crate::candidates::{Candidate, candidates, least_of_candidates};
 use crate::least::least_behind;
 use crate::links::Links;
 use crate::menu::Menu;
+use crate::still::{is_still, least_of_held};
 use fux_grid::{Column, Place, WIDEST};
 use fux_pitch::Memory;
 use std::alloc::Global;
@@ -105,6 +107,38 @@ fn sums_in_order<L: Links>(
     Ok(row)
 }
 
+/// The same where each column of the next menu holds all it sounds.
+fn sums_held<L: Links>(
+    alloc: Global,
+    links: &L,
+    i: usize,
+    menu: &Menu,
+    next: &Menu,
+    sums: &[Option<u64>],
+) -> Result<Vec<Option<u64>>, Memory>
+    requires place { i + 1 < (L.chains links.now).places }
+    requires short { i < 192 }
+    requires menu { IsMenuOf ((L.chains links.now).menu i) menu.now }
+    requires full { AreFull (L.chains links.now).voices ((L.chains links.now).menu i) }
+    requires next { IsMenuOf ((L.chains links.now).menu (i + 1)) next.now }
+    requires packed { IsPacked (L.chains links.now).voices next.now }
+    requires still { IsStill ((L.chains links.now).menu (i + 1)) }
+    requires row { IsRow (L.chains links.now) (i + 1) sums.now }
+    requires small { AllAtMost (2 ^ 62) sums.now }
+    ensures row { IfOk result (λ row. IsRow (L.chains links.now) i row.items) }
+    ensures small { IfOk result (λ row. (most : ℕ)
+        → AllAtMost most sums.now → AllAtMost (most + 2 ^ 53) row.items) }
+{
+    let width = menu.len();
+    let mut row = Vec::with_capacity(alloc, width)?;
+    for k in 0..width {
+        let prev = menu.column(k);
+        let least = least_of_held(links, i + 1, prev, next, sums);
+        row.push_reserved(least);
+    }
+    Ok(row)
+}
+
 /// The least sums behind the columns of a menu, that of place `i`, from the menu and the sums of the next place.
 fn sums_before<L: Links>(
     alloc: Global,
@@ -118,12 +152,17 @@ fn sums_before<L: Links>(
     requires short { i < 192 }
     requires menu { IsMenuOf ((L.chains links.now).menu i) menu.now }
     requires next { IsMenuOf ((L.chains links.now).menu (i + 1)) next.now }
+    requires full { AreFull (L.chains links.now).voices ((L.chains links.now).menu i) }
+    requires packed { IsPacked (L.chains links.now).voices next.now }
     requires row { IsRow (L.chains links.now) (i + 1) sums.now }
     requires small { AllAtMost (2 ^ 62) sums.now }
     ensures row { IfOk result (λ row. IsRow (L.chains links.now) i row.items) }
     ensures small { IfOk result (λ row. (most : ℕ)
         → AllAtMost most sums.now → AllAtMost (most + 2 ^ 53) row.items) }
 {
+    if is_still(next) {
+        return sums_held(alloc, links, i, menu, next, sums);
+    }
     let order = candidates(alloc, links, i + 1, next, sums)?;
     sums_in_order(alloc, links, i, menu, next, sums, &order)
 }
@@ -147,6 +186,7 @@ fn sums_of<L: Links>(
     requires place { i + 1 + length rows.now ≡ (L.chains links.now).places }
     requires short { (L.chains links.now).places ≤ 192 }
     requires menu { IsMenuOf ((L.chains links.now).menu i) menu.now }
+    requires full { AreFull (L.chains links.now).voices ((L.chains links.now).menu i) }
     requires rows { AreRows (L.chains links.now) menus.now rows.now }
     ensures row { IfOk result (λ row. IsRow (L.chains links.now) i row.items) }
     ensures small { IfOk result (λ row. AllAtMost (length rows.now * 2 ^ 53) row.items) }
@@ -183,7 +223,8 @@ impl Tables {
         requires whole { length self.now.rows.items ≡ (L.chains links.now).places }
         requires short { (L.chains links.now).places ≤ 192 }
         requires rows { AreRows (L.chains links.now) self.now.menus.items self.now.rows.items }
-        ensures { IsLeast (L.chains links.now) 0 None result }
+        ensures least { IsLeast (L.chains links.now) 0 None result }
+        ensures small { IsAtMost ((L.chains links.now).places * 2 ^ 53) result }
     {
         if self.rows.is_empty() {
             return Some(0);
@@ -217,8 +258,9 @@ impl Tables {
     /// The least sum over the chains that begin behind a column of a place's menu and go on to the last place. None exactly
     /// where no chain does.
     pub fn rest(&self, i: usize, column: &Column) -> Option<u64>
-        ensures { (c : Chains) → AreTablesOf c self.now → i < c.places → Contains (c.menu i) column.now.items
+        ensures least { (c : Chains) → AreTablesOf c self.now → i < c.places → Contains (c.menu i) column.now.items
             → IsLeast c (suc i) (Some column.now.items) result }
+        ensures small { (c : Chains) → AreTablesOf c self.now → i < c.places → IsAtMost (c.places * 2 ^ 53) result }
     {
         if i >= self.rows.len() {
             return None;
@@ -228,6 +270,23 @@ impl Tables {
             return None;
         }
         let k = self.menus[row.menu].place_of(column)?;
+        if k >= row.sums.len() {
+            return None;
+        }
+        row.sums[k]
+    }
+
+    /// The same behind the column that has a number in the place's menu: nothing is searched.
+    #[inline]
+    pub fn rest_of_number(&self, i: usize, k: usize) -> Option<u64>
+        ensures least { (c : Chains) → AreTablesOf c self.now → i < c.places → k < length (c.menu i)
+            → IsLeast c (suc i) (Some (slice_index_or (c.menu i) k [])) result }
+        ensures small { (c : Chains) → AreTablesOf c self.now → i < c.places → IsAtMost (c.places * 2 ^ 53) result }
+    {
+        if i >= self.rows.len() {
+            return None;
+        }
+        let row = &self.rows[self.rows.len() - 1 - i];
         if k >= row.sums.len() {
             return None;
         }
@@ -270,7 +329,8 @@ impl Tables {
 
     /// The least sum over the chains that begin at the first place. None exactly where no chain does.
     pub fn start(&self) -> Option<u64>
-        ensures { (c : Chains) → AreTablesOf c self.now → IsLeast c 0 None result }
+        ensures least { (c : Chains) → AreTablesOf c self.now → IsLeast c 0 None result }
+        ensures small { (c : Chains) → AreTablesOf c self.now → IsAtMost (c.places * 2 ^ 53) result }
     {
         self.start
     }

@@ -5,3 +5,5 @@ pub mod LatePlaces
 pub mod LateReadings
 pub mod NotesAhead
 pub mod OffBar
+pub mod ToldNotes
+pub mod ToldPlaces

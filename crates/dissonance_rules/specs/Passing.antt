@@ -87,6 +87,10 @@ clashes_badly ex i behind now ahead v w =
 abbrev pub reaches_last_bar : Exercise → ℕ → List (List Cell) → Bool
 reaches_last_bar ex i ahead = nat_lt (8 * (ex.bars - 1)) (i + 1 + length ahead)
 
+-- how many notes of a voice after a clash tell what the note there is: two in species 3 and 5, else one
+abbrev pub notes_needed : ℕ → ℕ
+notes_needed species = if has_ornaments species then 2 else 1
+
 -- the list has as many notes of v after column i as tell what the note there is: one, or two in species 3 and 5
 abbrev pub has_notes_after : ℕ → ℕ → ℕ → List (List Cell) → Bool
 has_notes_after species i v ahead =

@@ -10,6 +10,7 @@ mod late;
 mod ligatures;
 mod passing;
 mod rows;
+mod told;
 mod tolls;
 
 pub use apart::are_apart;
@@ -20,4 +21,5 @@ pub use late::{breaks_late, places_settled};
 pub use ligatures::{is_bad_suspension, is_suspended, is_unprepared, resolves};
 pub use passing::{is_cambiata, is_good, is_neighbor, is_passing, starts_in_clash};
 pub use rows::{breaks, cost};
+pub use told::places_left;
 pub use tolls::{Q1, Q2};

@@ -1,16 +1,16 @@
 -- What the tables answer is the rest of each prefix that they are asked about: of one that ends with the column (`rest_is`), and of
 -- the empty one (`start_is`).
-use Rattle.std.proofs.Common.{◌≡◌, ℕ, suc, ◌+◌, ◌-◌, ◌≤◌, List, [], ◌∷◌, ◌++◌, length, reverse, Option, Some, None, ap, sym, ◌∙◌, subst, arith}
+use Rattle.std.proofs.Common.{◌≡◌, ℕ, suc, ◌+◌, ◌-◌, ◌≤◌, List, [], ◌∷◌, ◌++◌, length, Option, Some, None, ap, sym, ◌∙◌, arith}
 use Rattle.std.proofs.lemmas.List.{length-append}
 use Rattle.fux_grid.specs.declared.cell.Cell.{Cell}
 use Rattle.fux_grid.specs.declared.exercise.Exercise.{Exercise}
 use Rattle.fux_grid.specs.Exercises.{columns_in}
 use Rattle.fux_grid.proofs.Histories.{reverse-push}
 use Rattle.penalty_sheet.specs.declared.sheet.Sheet.{Sheet}
-use Rattle.chain_sums.specs.Chains.{IsLeast}
+use Rattle.fux_judge.specs.Links.{last_column, newest_of}
 use Rattle.chain_sums.specs.Sums.{least_sum}
 use Rattle.chain_sums.proofs.SumLemmas.{least_is_sum}
-use Rattle.floor_tables.specs.Floors.{chains_of, last_column, newest_of, rest_of}
+use Rattle.floor_tables.specs.Floors.{chains_of, rest_of}
 use Rattle.floor_tables.specs.Tables.{IsRest, IsStart}
 
 pub last_column-push : (p : List (List Cell)) (col : List Cell) → last_column (p ++ col ∷ []) ≡ Some col

@@ -1,6 +1,6 @@
 -- Floors: what every setting that a prefix begins still costs. A prefix is live where no strict break is settled in it and a chain of
 -- columns goes on from it to the end; its floor is what is paid, what its lines come to at least, and the least sum over such chains.
-use Rattle.std.specs.Prelude.{◌≡◌, ◌≢◌, ℕ, ◌+◌, ◌-◌, ◌≤◌, false, List, [], ◌∷◌, ◌++◌, Option, Some, None, IsSome, IsSomeAnd, length, option_map, reverse}
+use Rattle.std.specs.Prelude.{◌≡◌, ◌≢◌, ℕ, ◌+◌, ◌-◌, ◌≤◌, false, List, [], ◌∷◌, ◌++◌, Option, IsSome, IsSomeAnd, length, option_map}
 use Rattle.std.specs.List.{AllByRecursion}
 use Rattle.fux_grid.specs.declared.cell.Cell.{Cell}
 use Rattle.fux_grid.specs.declared.exercise.Exercise.{Exercise}
@@ -10,7 +10,7 @@ use Rattle.rule_law.specs.Prefixes.{IsPrefix}
 use Rattle.penalty_sheet.specs.declared.sheet.Sheet.{Sheet}
 use Rattle.fux_judge.specs.Gauges.{least_of}
 use Rattle.fux_judge.specs.Lawful.{AllDiffer}
-use Rattle.fux_judge.specs.Links.{link_of}
+use Rattle.fux_judge.specs.Links.{last_column, link_of}
 use Rattle.fux_judge.specs.Penalties.{has_strict_break, paid}
 use Rattle.chain_sums.specs.Chains.{Chains}
 use Rattle.chain_sums.specs.Sums.{least_sum}
@@ -23,15 +23,6 @@ chains_of ex sheet = record {
   menu = menu_of ex;
   cost = link_of ex sheet;
 }
-
--- the newest column of a history, where there is one
-abbrev pub newest_of : List (List Cell) → Option (List Cell)
-newest_of [] = None
-newest_of (col ∷ cols) = Some col
-
--- the last column of a prefix
-abbrev pub last_column : List (List Cell) → Option (List Cell)
-last_column p = newest_of (reverse p)
 
 -- the least that the columns still to come cost by chains; none where no chain goes on to the end
 unfoldable pub rest_of : Exercise → Sheet → List (List Cell) → Option ℕ

@@ -1,6 +1,7 @@
 //! The least that the columns still to come cost, for each column of an exercise.
 #![tactic(auto)]
 
+mod links;
 mod tables;
 
 pub use chain_sums::TableFault;

@@ -1,11 +1,12 @@
 //! Tables of the least sums over the chains of an exercise.
 
-ghost use Rattle.std.specs.Prelude.{◌≡◌, ◌<◌, [], length, OnOk, IfOk, IfErr, slice_index_or};
+ghost use Rattle.std.specs.Prelude.{◌≡◌, ◌<◌, ◌≤◌, ◌^◌, [], OnOk, IfOk, IfErr, IfSome, length, slice_index_or};
 ghost use Rattle.std.specs.List.{Contains};
 ghost use Rattle.fux_grid.specs.Exercises.{IsValid, columns_in};
 ghost use Rattle.fux_grid.specs.Menus.{menu_of};
 ghost use Rattle.floor_tables.specs.Tables.{AreNarrow, IsRest, IsStart, TellsWidth};
 
+use crate::links::ColumnLinks;
 use chain_sums::TableFault;
 use fux_grid::{Column, Exercise};
 use penalty_sheet::Sheet;
@@ -38,7 +39,7 @@ impl<'a> Model for Tables<'a> {
 /// The tables of an exercise by a sheet. All memory is taken here.
 pub fn fill_tables<'a, R: Threads + Sync>(
     _rt: &R,
-    _alloc: Global,
+    alloc: Global,
     ex: &'a Exercise,
     sheet: &'a Sheet,
 ) -> Result<Tables<'a>, TableFault>
@@ -47,8 +48,13 @@ pub fn fill_tables<'a, R: Threads + Sync>(
     ensures narrow { OnOk result (AreNarrow ex.entry.now) }
     ensures wide { IfErr result (TellsWidth ex.entry.now) }
 {
-    let _ = (ex.bars, sheet.weights);
-    Err(TableFault::Memory)
+    let links = ColumnLinks::new(ex, sheet);
+    let sums = chain_sums::Tables::fill(alloc, &links)?;
+    Ok(Tables {
+        exercise: ex,
+        sheet,
+        sums,
+    })
 }
 
 impl<'a> Tables<'a> {
@@ -56,9 +62,22 @@ impl<'a> Tables<'a> {
     pub fn rest(&self, i: usize, col: &Column) -> Option<u64>
         requires place { i < columns_in self.now.exercise }
         requires choice { Contains (menu_of self.now.exercise i) col.now.items }
-        ensures { IsRest self.now.exercise self.now.sheet i col.now.items result }
+        ensures rest { IsRest self.now.exercise self.now.sheet i col.now.items result }
+        ensures small { IfSome result (λ sum. sum ≤ 2 ^ 61) }
     {
         self.sums.rest(i, col)
+    }
+
+    /// The same behind the column that has a number in the place's menu: nothing is searched.
+    #[inline]
+    pub fn rest_of_number(&self, i: usize, k: usize) -> Option<u64>
+        requires place { i < columns_in self.now.exercise }
+        requires choice { k < length (menu_of self.now.exercise i) }
+        ensures rest { IsRest self.now.exercise self.now.sheet i
+            (slice_index_or (menu_of self.now.exercise i) k []) result }
+        ensures small { IfSome result (λ sum. sum ≤ 2 ^ 61) }
+    {
+        self.sums.rest_of_number(i, k)
     }
 
     /// How many columns the menu of a place has.
@@ -83,7 +102,8 @@ impl<'a> Tables<'a> {
 
     /// The least sum over all chains. None exactly where there is no chain.
     pub fn start(&self) -> Option<u64>
-        ensures { IsStart self.now.exercise self.now.sheet result }
+        ensures start { IsStart self.now.exercise self.now.sheet result }
+        ensures small { IfSome result (λ sum. sum ≤ 2 ^ 61) }
     {
         self.sums.start()
     }

@@ -1,19 +1,22 @@
 -- What is read at the places of a late rule.
-use Rattle.std.proofs.Common.{◌≡◌, ℕ, ◌+◌, ◌-◌, ◌<◌, ◌==◌, ◌&&◌, ◌||◌, zero, suc, Bool, true, false, List, [], ◌∷◌, length, refl, ap, sym, ◌∙◌, arith}
+use Rattle.std.proofs.Common.{◌≡◌, ℕ, ◌+◌, ◌-◌, ◌<◌, ◌≤◌, ◌==◌, ◌&&◌, ◌||◌, zero, suc, Bool, true, false, List, [], ◌∷◌, length, refl, ap, sym, ◌∙◌, arith}
 use Rattle.std.specs.Prelude.{if◌then◌else◌}
-use Rattle.std.specs.List.{sum_by}
+use Rattle.std.specs.List.{list_any, sum_by}
 use Rattle.std.proofs.lemmas.List.{length-append}
 use Rattle.fux_grid.specs.declared.cell.Cell.{Cell}
 use Rattle.fux_grid.specs.declared.exercise.Exercise.{Exercise}
 use Rattle.std.proofs.lemmas.Bool.{eqb-true}
 use Rattle.std.proofs.lemmas.Bool.Decides.{nat_tests}
 use Rattle.rule_law.specs.Growth.{any_below, sum_by-none}
-use Rattle.rule_law.specs.Rulebooks.{IsAmong}
+use Rattle.rule_law.specs.Law.{first_true}
+use Rattle.rule_law.specs.Prefixes.{GoesOn}
+use Rattle.rule_law.specs.Rulebooks.{IsAmong, newly_breaks}
 use Rattle.fux_judge.specs.declared.state.State.{State}
-use Rattle.fux_judge.specs.Penalties.{new_price}
-use Rattle.fux_judge.specs.Rules.{late_rules, rule_at}
+use Rattle.fux_judge.specs.Facts.{rule_keeps}
+use Rattle.fux_judge.specs.Penalties.{is_strict_at, new_price, newly_broken_at}
+use Rattle.fux_judge.specs.Rules.{is_late, late_rules, rule_at}
 use Rattle.fux_judge.specs.States.{HasCome}
-use Rattle.fux_judge.specs.Steps.{prices_late, sets_of_rule, zero_below}
+use Rattle.fux_judge.specs.Steps.{any_among, any_among-alone, breaks_late, prices_late, sets_of_rule, zero_below}
 use Rattle.fux_judge.proofs.SetLemmas.{priceless}
 
 -- the place before the newest column is as far as the prefix goes
@@ -30,6 +33,33 @@ module _ (first_of count_of : Exercise → ℕ → ℕ) (ex : Exercise) (next : 
 
   pub is_among : (k : ℕ) → k < count → IsAmong (first_of ex (length p)) (count_of ex (length p)) (first + k)
   is_among k h = record { from = omega (arith, first_is); to = omega (arith, first_is, count_is) }
+
+-- a late rule's places, or those of them among which all is that it newly breaks, tell the same of a break
+module _ (rule : ℕ) (ex : Exercise) (p : List (List Cell)) (col : List Cell) where
+  abbrev Newly : ℕ → ℕ → Type 0
+  Newly voices i = newly_breaks (rule_at rule) ex voices p col i ≡ true
+
+  abbrev pub some_at : ℕ → Bool
+  some_at i = list_any (λ voices. newly_broken_at rule ex voices p col i) (sets_of_rule rule ex)
+
+  fresh_among : (first count i : ℕ) → ((voices : ℕ) → Newly voices i → IsAmong first count i) → (sets : List ℕ) → list_any (λ voices. newly_broken_at rule ex voices p col i) sets ≡ true → IsAmong first count i
+  fresh_among first count i all [] h = cc
+  fresh_among first count i all (voices ∷ sets) h = at (newly_broken_at rule ex voices p col i) refl h (fresh_among first count i all sets)
+    where
+      at : (b : Bool) → newly_broken_at rule ex voices p col i ≡ b → (b || list_any (λ voices. newly_broken_at rule ex voices p col i) sets) ≡ true → (list_any (λ voices. newly_broken_at rule ex voices p col i) sets ≡ true → IsAmong first count i) → IsAmong first count i
+      at true e k later = all voices (first_true (newly_breaks (rule_at rule) ex voices p col i) (is_strict_at rule ex voices i) e)
+      at false e k later = later k
+
+  among_alone : (first count : ℕ) → first + count ≤ length p + 1 → ((voices i : ℕ) → Newly voices i → IsAmong first count i) → any_below some_at (length p + 1) ≡ any_among first count some_at
+  among_alone first count within all = any_among-alone some_at first count (length p + 1) within (λ i h. fresh_among first count i (λ voices. all voices i) (sets_of_rule rule ex) h)
+
+  pub among_places : is_late rule ≡ true → GoesOn ex p (col ∷ []) → (voices i : ℕ) → Newly voices i → IsAmong ((rule_at rule).first ex (length p)) ((rule_at rule).count ex (length p)) i
+  among_places late on voices i h = (rule_keeps rule).places late ex voices p col i on h
+
+  pub breaks_among : is_late rule ≡ true → GoesOn ex p (col ∷ []) → (first count : ℕ) → first + count ≤ length p + 1 → ((voices i : ℕ) → Newly voices i → IsAmong first count i) → any_among first count some_at ≡ breaks_late ex p col rule
+  breaks_among late on first count within all =
+      sym (among_alone first count within all)
+      ∙ among_alone ((rule_at rule).first ex (length p)) ((rule_at rule).count ex (length p)) ((rule_keeps rule).within ex (length p)) (among_places late on)
 
 -- what is found below a number is found
 pub any_below-found : (f : ℕ → Bool) (k n : ℕ) → k < n → f k ≡ true → any_below f n ≡ true

@@ -4,6 +4,8 @@ pub mod AlwaysLemmas
 pub mod ChargeLemmas
 pub mod CrateLemmas
 pub mod KeptLemmas
+pub mod LinkLemmas
+pub mod LinkPaid
 pub mod LineLemmas
 mod LateLemmas
 pub mod MomentLemmas
@@ -13,3 +15,4 @@ pub mod RoughLemmas
 pub mod SetLemmas
 pub mod StepLemmas
 pub mod SumLemmas
+pub mod ShapeLemmas

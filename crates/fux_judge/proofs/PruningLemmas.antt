@@ -43,7 +43,7 @@ one_of test x (y ∷ ys) h k = at (x == y) refl k (one_of test x ys (second_true
     at false e m later = later m
 
 -- what one of a list passes, some of them passes
-some_of : (test : ℕ → Bool) (x : ℕ) (xs : List ℕ) → list_any (λ y. x == y) xs ≡ true → test x ≡ true → list_any test xs ≡ true
+pub some_of : (test : ℕ → Bool) (x : ℕ) (xs : List ℕ) → list_any (λ y. x == y) xs ≡ true → test x ≡ true → list_any test xs ≡ true
 some_of test x [] k t = cc
 some_of test x (y ∷ ys) k t = at (x == y) refl k (λ m. some_of test x ys m t)
   where

@@ -1,16 +1,17 @@
--- A step tells which rules the column breaks (`step_breaks`), and what it costs (`step_pays`).
+-- A step tells which rules the column breaks (`step_breaks`, `breaks_by_parts`), and what it costs (`step_pays`).
 use Rattle.std.proofs.Common.{◌≡◌, ℕ, ◌+◌, ◌==◌, ◌&&◌, ◌||◌, Bool, true, false, List, [], ◌∷◌, ◌++◌, length, refl, ap, sym, ◌∙◌, arith}
 use Rattle.std.specs.Prelude.{if◌then◌else◌, not}
-use Rattle.std.specs.List.{list_any, sum_by}
+use Rattle.std.specs.List.{list_all, list_any, sum_by}
 use Rattle.std.proofs.lemmas.Bool.{eqb-true}
 use Rattle.fux_grid.specs.declared.cell.Cell.{Cell}
 use Rattle.fux_grid.specs.declared.exercise.Exercise.{Exercise}
 use Rattle.rule_law.specs.Growth.{list_any-same, sum_by-same}
+use Rattle.rule_law.specs.Law.{first_true, second_true}
 use Rattle.rule_law.specs.Prefixes.{GoesOn}
 use Rattle.penalty_sheet.specs.declared.sheet.Sheet.{Sheet}
 use Rattle.fux_judge.specs.declared.moment.Moment.{Moment}
 use Rattle.fux_judge.specs.Parts.{list_any-parted}
-use Rattle.fux_judge.specs.Rules.{all_sets, is_broken, is_late, is_read, late_rules, late_tolls, rules_at_once, rules_read, tolls_at_once}
+use Rattle.fux_judge.specs.Rules.{all_sets, is_broken, is_late, is_read, late_rules, late_tolls, rule_at, rules_at_once, rules_read, tolls_at_once}
 use Rattle.fux_judge.specs.Penalties.{is_strict_at, price_at, newly_broken, newly_paid}
 use Rattle.fux_judge.specs.Moments.{is_strictly_broken_then, prices_then, toll_then}
 use Rattle.fux_judge.specs.Steps.{all_at_once, all_late, breaks_late, is_strictly_broken_at_end, newly_broken-at_once, newly_broken-late, newly_paid-parts, prices_at_end, prices_late, toll_at_end, toll_late, tolls_at_end}
@@ -36,9 +37,12 @@ picked X r [] = refl
 picked X r (k ∷ rules) = picked_one X r k (list_any (λ rule. X rule && r == rule) rules) (list_any (λ rule. r == rule) rules) (r == k) refl (picked X r rules)
 
 -- the rules that are read are those that are settled at once, and the late ones
-read_by_parts : (r : ℕ) → is_read r ≡ (list_any (λ rule. r == rule) rules_at_once || list_any (λ rule. r == rule) late_rules)
+read_in_parts : (test : ℕ → Bool) → list_any test rules_read ≡ (list_any test rules_at_once || list_any test late_rules)
 unfolding rules_at_once late_rules
-read_by_parts r = list_any-parted (λ rule. r == rule) is_late rules_read
+read_in_parts test = list_any-parted test is_late rules_read
+
+read_by_parts : (r : ℕ) → is_read r ≡ (list_any (λ rule. r == rule) rules_at_once || list_any (λ rule. r == rule) late_rules)
+read_by_parts r = read_in_parts (λ rule. r == rule)
 
 -- two answers for two kinds are one for both
 for_both : (a b x y n : Bool) → (a ≡ true → x ≡ n) → (b ≡ true → y ≡ n) → ((a && x) || (b && y)) ≡ ((a || b) && n)
@@ -59,7 +63,40 @@ not_from : (b : Bool) → not b ≡ true → b ≡ false
 not_from true h = cc
 not_from false h = refl
 
+-- tests that agree where a third one holds, agree on a list of which each passes that one
+any_where : (test f g : ℕ → Bool) (xs : List ℕ) → list_all test xs ≡ true → ((x : ℕ) → test x ≡ true → f x ≡ g x) → list_any f xs ≡ list_any g xs
+any_where test f g [] h e = refl
+any_where test f g (x ∷ xs) h e =
+    ap (λ b. b || list_any f xs) (e x (first_true (test x) (list_all test xs) h))
+    ∙ ap (λ b. g x || b) (any_where test f g xs (second_true (test x) (list_all test xs) h) e)
+
+each_is_there : list_all (λ r. list_any (λ rule. r == rule) rules_at_once) rules_at_once ≡ true
+unfolding rules_at_once rules_read rule_at
+each_is_there = refl
+
+-- a set of the rules settled at once that pass a test has some of them where some passes
+pub some_at_once : (has test : ℕ → Bool) → ((r : ℕ) → has r ≡ list_any (λ rule. test rule && r == rule) rules_at_once) → list_any has rules_at_once ≡ list_any test rules_at_once
+some_at_once has test same =
+    any_where (λ r. list_any (λ rule. r == rule) rules_at_once) has test rules_at_once each_is_there
+    (λ r there. same r ∙ picked test r rules_at_once ∙ ap (λ b. b && test r) there)
+
 module _ (ex : Exercise) (p : List (List Cell)) (col : List Cell) where
+  -- a strict break is of a rule that is settled at once, or of a late one
+  breaks_by_parts : GoesOn ex p (col ∷ []) → list_any (newly_broken ex p col) rules_read ≡ (list_any (is_strictly_broken_at_end ex p col) rules_at_once || list_any (breaks_late ex p col) late_rules)
+  breaks_by_parts on =
+      read_in_parts (newly_broken ex p col)
+      ∙ ap (λ b. b || list_any (newly_broken ex p col) late_rules)
+      (any_where (λ rule. not (is_late rule)) (newly_broken ex p col) (is_strictly_broken_at_end ex p col) rules_at_once (all_at_once ex p col) (λ r h. newly_broken-at_once ex p col r (not_from (is_late r) h)))
+      ∙ ap (λ b. list_any (is_strictly_broken_at_end ex p col) rules_at_once || b)
+      (any_where is_late (newly_broken ex p col) (breaks_late ex p col) late_rules (all_late ex p col) (λ r h. newly_broken-late ex p col r h on))
+
+  pub broken_late : GoesOn ex p (col ∷ []) → list_any (breaks_late ex p col) late_rules ≡ true → list_any (newly_broken ex p col) rules_read ≡ true
+  broken_late on h = breaks_by_parts on ∙ ap (λ b. list_any (is_strictly_broken_at_end ex p col) rules_at_once || b) h ∙ either (list_any (is_strictly_broken_at_end ex p col) rules_at_once)
+    where
+      either : (b : Bool) → (b || true) ≡ true
+      either true = refl
+      either false = refl
+
   module _ (sheet : Sheet) (m : Moment) (same : m.exercise.now ≡ ex) (its : m.column.now ≡ col) where
     strictly_then : (rule : ℕ) → is_strictly_broken_then all_sets rule p m ≡ is_strictly_broken_at_end ex p col rule
     strictly_then rule = ap (λ e. list_any (λ voices. is_broken rule e voices (p ++ m.column.now ∷ []) (length p) && is_strict_at rule e voices (length p)) all_sets) same ∙ ap (λ c. list_any (λ voices. is_broken rule ex voices (p ++ c ∷ []) (length p) && is_strict_at rule ex voices (length p)) all_sets) its
@@ -83,6 +120,18 @@ module _ (ex : Exercise) (p : List (List Cell)) (col : List Cell) where
         (λ e. sym (newly_broken-at_once ex p col r (not_from (is_late r) (one_of (λ rule. not (is_late rule)) r rules_at_once (all_at_once ex p col) e))))
         (λ e. sym (newly_broken-late ex p col r (one_of is_late r late_rules (all_late ex p col) e) on))
         ∙ ap (λ b. b && newly_broken ex p col r) (sym (read_by_parts r))
+
+    -- a column that breaks no late rule strictly breaks some rule where it breaks one that is settled at once
+    pub broken_at_once : GoesOn ex p (col ∷ []) → list_any (breaks_late ex p col) late_rules ≡ false → list_any (newly_broken ex p col) rules_read ≡ list_any (λ rule. is_strictly_broken_then all_sets rule p m) rules_at_once
+    broken_at_once on h =
+        breaks_by_parts on
+        ∙ ap (λ b. list_any (is_strictly_broken_at_end ex p col) rules_at_once || b) h
+        ∙ alone (list_any (is_strictly_broken_at_end ex p col) rules_at_once)
+        ∙ sym (list_any-same (λ rule. is_strictly_broken_then all_sets rule p m) (is_strictly_broken_at_end ex p col) rules_at_once strictly_then)
+      where
+        alone : (b : Bool) → (b || false) ≡ b
+        alone true = refl
+        alone false = refl
 
     -- what a step says of the charges
     pub step_pays : GoesOn ex p (col ∷ []) → (charges tolls later : ℕ) → charges ≡ sum_by (toll_then sheet p m) tolls_at_once + sum_by (λ rule. prices_then all_sets rule p m) rules_at_once → tolls ≡ sum_by (toll_late ex sheet p col) late_tolls → later ≡ sum_by (prices_late ex p col) late_rules → charges + tolls + later ≡ newly_paid ex sheet p col

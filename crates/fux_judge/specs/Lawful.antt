@@ -1,4 +1,4 @@
--- Prefixes and settings; which of them are live and lawful, and which setting is best.
+-- Prefixes and settings; which of them are alive and lawful, and which setting is best.
 use Rattle.std.specs.Prelude.{◌≡◌, ◌≢◌, ℕ, ◌<◌, ◌≤◌, Bool, false, ◌&&◌, List, [], ◌∷◌, length}
 use Rattle.std.specs.List.{list_any, AllByRecursion}
 use Rattle.fux_grid.specs.declared.cell.Cell.{Cell}
@@ -33,8 +33,8 @@ HasNoLawful ex = (s : List (List Cell)) → IsLawful ex s → ⊥
 abbrev pub BoundsLawful : Exercise → Sheet → ℕ → Type 0
 BoundsLawful ex sheet bound = (s : List (List Cell)) → IsLawful ex s → bound ≤ penalty_of ex sheet s
 
--- a live prefix: no strict break is settled in it
-pub record IsLive (ex : Exercise) (p : List (List Cell)) : Type 0 where
+-- a prefix in which no strict break is settled
+pub record IsAlive (ex : Exercise) (p : List (List Cell)) : Type 0 where
   pub prefix : IsPrefix ex p
   pub unbroken : has_strict_break ex p ≡ false
 
@@ -42,18 +42,3 @@ pub record IsLive (ex : Exercise) (p : List (List Cell)) : Type 0 where
 abbrev pub AllDiffer : List (List (List Cell)) → Type 0
 AllDiffer [] = Unit {0}
 AllDiffer (p ∷ others) = AllByRecursion (λ other. p ≢ other) others × AllDiffer others
-
--- a live prefix of one column or more
-abbrev pub IsLiveBegun : Exercise → List (List Cell) → Type 0
-IsLiveBegun ex p = IsLive ex p × (p ≢ [])
-
--- there are this many live prefixes of one column or more
-pub record HasLive (ex : Exercise) (count : ℕ) : Type 0 where
-  pub prefixes : List (List (List Cell))
-  pub counted : length prefixes ≡ count
-  pub differ : AllDiffer prefixes
-  pub live : AllByRecursion (IsLiveBegun ex) prefixes
-
--- there are at most this many
-abbrev pub HasLiveAtMost : Exercise → ℕ → Type 0
-HasLiveAtMost ex count = (prefixes : List (List (List Cell))) → AllDiffer prefixes → AllByRecursion (IsLiveBegun ex) prefixes → length prefixes ≤ count

@@ -11,7 +11,7 @@ use Rattle.fux_grid.specs.declared.cell.Cell.{Cell}
 use Rattle.fux_grid.specs.declared.exercise.Exercise.{Exercise}
 use Rattle.fux_grid.specs.Cells.{cell_in}
 use Rattle.fux_grid.specs.Columns.{line}
-use Rattle.fux_grid.specs.Exercises.{IsFree, IsValid}
+use Rattle.fux_grid.specs.Exercises.{IsFree}
 use Rattle.fux_grid.specs.Menus.{IsInMenu, menu_of}
 use Rattle.fux_grid.proofs.Histories.{reverse-push}
 use Rattle.fux_grid.proofs.MenuLemmas.{menu_of-contains}
@@ -105,8 +105,8 @@ next_cell ex p col v prefix free =
       in_menu = subst P (sym (length-cells p v)) ((menu_of-contains ex (length p) col).1 (last_in_menu ex p col prefix));
     }
 
-pub least_grows : (ex : Exercise) → IsValid ex → (sheet : Sheet) (p : List (List Cell)) (col : List Cell) → IsPrefix ex (p ++ col ∷ []) → least_of ex sheet p ≤ least_of ex sheet (p ++ col ∷ [])
-least_grows ex valid sheet p col prefix =
+pub least_grows : (ex : Exercise) (sheet : Sheet) (p : List (List Cell)) (col : List Cell) → IsPrefix ex (p ++ col ∷ []) → least_of ex sheet p ≤ least_of ex sheet (p ++ col ∷ [])
+least_grows ex sheet p col prefix =
     sum_kept-le (is_free ex) (λ v. by_gauges v (cells_of_voice p v)) (λ v. by_gauges v (cells_of_voice (p ++ col ∷ []) v)) 0 ex.voices
     (λ v there free.
     let next : IsNextCell ex v (cells_of_voice p v) col = next_cell ex p col v prefix (free_voice ex v (omega (arith, there)) free) in

@@ -12,6 +12,7 @@ pub mod Lawful
 pub mod Least
 pub mod Links
 pub mod Moments
+pub mod Neighbors
 pub mod Parts
 pub mod Penalties
 pub mod Pruning

@@ -1,6 +1,8 @@
 -- What two neighboring columns decide by themselves.
-use Rattle.std.specs.Prelude.{ℕ, ◌*◌, Bool, true, false, ◌&&◌, List, [], ◌∷◌, map, Option, Some, None, if◌then◌else◌}
-use Rattle.std.specs.List.{list_any, sum_by}
+use Rattle.std.specs.Prelude.{ℕ, ◌+◌, ◌*◌, Bool, true, false, ◌&&◌, List, [], ◌∷◌, map, reverse, Option, Some, None, option_map, if◌then◌else◌}
+use Rattle.std.specs.Borrow.{Bor}
+use Rattle.std.specs.List.{filter, list_any, sum_by}
+use Rattle.arrayvec.specs.ArrayVec.{ArrayVec}
 use Rattle.fux_grid.specs.declared.cell.Cell.{Cell}
 use Rattle.fux_grid.specs.declared.cell.Cell.TheVariants.{Rest, Hold, Start}
 use Rattle.fux_grid.specs.declared.exercise.Exercise.{Exercise}
@@ -16,6 +18,50 @@ abbrev pub is_of_neighbors : Kind → Bool
 is_of_neighbors Column = true
 is_of_neighbors Pair = true
 is_of_neighbors Window = false
+
+-- the column is enough, and the one before it is needed
+abbrev pub is_of_column : Kind → Bool
+is_of_column Column = true
+is_of_column Pair = false
+is_of_column Window = false
+
+abbrev pub is_of_pair : Kind → Bool
+is_of_pair Column = false
+is_of_pair Pair = true
+is_of_pair Window = false
+
+-- a rule of a kind, and a toll
+abbrev pub is_rule_between : ℕ → Bool
+is_rule_between rule = is_of_neighbors (rule_at rule).kind
+
+abbrev pub is_toll_between : ℕ → Bool
+is_toll_between toll = is_of_neighbors (toll_at toll).kind
+
+-- those that are read, of a column and of a pair
+unfoldable pub column_rules : List ℕ
+column_rules = filter (λ rule. is_of_column (rule_at rule).kind) rules_read
+
+unfoldable pub pair_rules : List ℕ
+pair_rules = filter (λ rule. is_of_pair (rule_at rule).kind) rules_read
+
+unfoldable pub column_tolls : List ℕ
+column_tolls = filter (λ toll. is_of_column (toll_at toll).kind) tolls_read
+
+unfoldable pub pair_tolls : List ℕ
+pair_tolls = filter (λ toll. is_of_pair (toll_at toll).kind) tolls_read
+
+-- the newest column of a history, where there is one
+abbrev pub newest_of : List (List Cell) → Option (List Cell)
+newest_of [] = None
+newest_of (col ∷ cols) = Some col
+
+-- the last column of a prefix
+abbrev pub last_column : List (List Cell) → Option (List Cell)
+last_column p = newest_of (reverse p)
+
+-- the cells of a column that may be lacking
+abbrev pub given : Option (Bor (ArrayVec Cell)) → Option (List Cell)
+given prev = option_map (λ col. col.now.items) prev
 
 -- a cell in which what it sounds begins
 abbrev pub begun : Cell → Cell
@@ -49,3 +95,21 @@ unfoldable pub link_of : Exercise → Sheet → ℕ → Option (List Cell) → L
 link_of ex sheet i before next =
     if list_any (breaks_strictly ex i before next) rules_read then None
     else Some (sum_by (λ toll. cost_between ex i before next toll * weight_of sheet toll) tolls_read)
+
+-- what the rules and tolls of a column say of one, whatever stands before it
+unfoldable pub column_of : Exercise → Sheet → ℕ → List Cell → Option ℕ
+column_of ex sheet i next =
+    if list_any (breaks_strictly ex i None next) column_rules then None
+    else Some (sum_by (λ toll. cost_between ex i None next toll * weight_of sheet toll) column_tolls)
+
+-- and those of a pair of two
+unfoldable pub pair_of : Exercise → Sheet → ℕ → Option (List Cell) → List Cell → Option ℕ
+pair_of ex sheet i before next =
+    if list_any (breaks_strictly ex i before next) pair_rules then None
+    else Some (sum_by (λ toll. cost_between ex i before next toll * weight_of sheet toll) pair_tolls)
+
+-- two costs together; none where one of them is none
+abbrev pub together : Option ℕ → Option ℕ → Option ℕ
+together None b = None
+together (Some x) None = None
+together (Some x) (Some y) = Some (x + y)

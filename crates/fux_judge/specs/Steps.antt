@@ -137,7 +137,7 @@ or_right : (a b : Bool) → b ≡ false → (a || b) ≡ a
 or_right true b h = refl
 or_right false b h = h
 
-any_among-alone : (f : ℕ → Bool) (first count n : ℕ) → first + count ≤ n → ((i : ℕ) → f i ≡ true → IsAmong first count i) → any_below f n ≡ any_among first count f
+pub any_among-alone : (f : ℕ → Bool) (first count n : ℕ) → first + count ≤ n → ((i : ℕ) → f i ≡ true → IsAmong first count i) → any_below f n ≡ any_among first count f
 any_among-alone f first count n within only =
     let size : n ≡ first + (count + (n - (first + count))) = omega arith in
     ap (any_below f) size

@@ -6,9 +6,10 @@ ghost use Rattle.fux_grid.specs.Exercises.{IsValid, columns_in};
 ghost use Rattle.penalty_sheet.specs.Weights.{weight_of};
 ghost use Rattle.std.specs.Int.{from_bool};
 ghost use Rattle.fux_judge.specs.Gauges as gauges_words;
+ghost use Rattle.fux_judge.specs.Gauges.{cells_of_voice};
 ghost use Rattle.fux_judge.specs.GaugeStates.{AreGaugesOf, IsGaugesOf};
 
-use fux_grid::{Cell, Exercise, cell_of};
+use fux_grid::{Cell, Exercise, Score, cell_of};
 use melody_rules::{Climax, Compass, Leaps, Q17, Q18, Q19, Q20, Strikes, is_narrow, leap_excess};
 use penalty_sheet::{Sheet, weight};
 use rule_law::Gauge;
@@ -102,4 +103,17 @@ pub(crate) fn cost_of_line(sheet: &Sheet, kept: &LineGauges) -> u64
         leap_excess(kept.leaps),
         kept.strikes.beyond,
     )
+}
+
+/// Of the line of a voice in a score.
+pub(crate) fn line_gauges(ex: &Exercise, score: &Score, v: u8) -> LineGauges
+    requires valid { IsValid ex.now }
+    requires few { length score.now.columns ≤ columns_in ex.now }
+    ensures { IsGaugesOf (cells_of_voice score.now.columns v) result }
+{
+    let mut kept = ungauged();
+    for j in 0..score.len() {
+        kept = gauged(ex, v, j, &kept, score.cell(v as usize, j));
+    }
+    kept
 }

@@ -18,6 +18,7 @@ use penalty_sheet::price_at;
 use rule_law::{LatePlaces, RuleSet, sets_of};
 
 /// Where column `i` may settle a late rule, as the crate that has it says. Melody has none.
+#[inline(always)]
 fn places_at(rule: u8, ex: &Exercise, i: usize) -> LatePlaces
     requires late { is_late rule ≡ true }
     requires valid { IsValid ex.now }
@@ -37,6 +38,7 @@ fn places_at(rule: u8, ex: &Exercise, i: usize) -> LatePlaces
 }
 
 /// Where the newest column may settle a late rule.
+#[inline(always)]
 fn places_of(rule: u8, ex: &Exercise, next: &State) -> LatePlaces
     requires late { is_late rule ≡ true }
     requires valid { IsValid ex.now }
@@ -48,6 +50,30 @@ fn places_of(rule: u8, ex: &Exercise, next: &State) -> LatePlaces
     ensures few { result.count ≤ 24 }
 {
     places_at(rule, ex, next.newest.len - 1)
+}
+
+/// Those of these places that are left once the newest columns are looked at, as the crate that has the rule says. Most say nothing.
+#[inline(always)]
+fn places_left(rule: u8, ex: &Exercise, next: &State) -> LatePlaces
+    requires late { is_late rule ≡ true }
+    requires valid { IsValid ex.now }
+    requires begun { 0 < next.now.newest.len }
+    requires room { next.now.newest.len ≤ columns_in ex.now }
+    ensures from { (rule_at rule).first ex.now (next.now.newest.len - 1) ≤ result.first }
+    ensures to { result.first + result.count ≤ (rule_at rule).first ex.now (next.now.newest.len - 1)
+        + (rule_at rule).count ex.now (next.now.newest.len - 1) }
+    ensures within { result.first + result.count ≤ next.now.newest.len }
+    ensures left { (p : List (List ACell)) (col : List ACell) → HasCome ex.now next.now p col
+        → (voices i : ℕ) → newly_breaks (rule_at rule) ex.now voices p col i ≡ true
+        → IsAmong result.first result.count i }
+{
+    let places = places_of(rule, ex, next);
+    match crate_of(rule) {
+        Some(RuleCrate::Dissonance) => {
+            dissonance_rules::places_left(&next.newest, rule, ex, places)
+        }
+        _ => places,
+    }
 }
 
 /// Whether the newest column settles a break of a late rule, at one of its places, as the crate that has it says.
@@ -151,6 +177,7 @@ fn prices_for(rule: u8, ex: &Exercise, next: &State, place: usize, sets: &[u8]) 
 }
 
 /// Whether the newest column settles a strict break of a late rule.
+#[inline(always)]
 fn is_broken_late(rule: u8, ex: &Exercise, next: &State) -> bool
     requires late { is_late rule ≡ true }
     requires valid { IsValid ex.now }
@@ -158,7 +185,7 @@ fn is_broken_late(rule: u8, ex: &Exercise, next: &State) -> bool
     requires room { next.now.newest.len ≤ columns_in ex.now }
     ensures { (p : List (List ACell)) (col : List ACell) → HasCome ex.now next.now p col → result ≡ steps.breaks_late ex.now p col rule }
 {
-    let places = places_of(rule, ex, next);
+    let places = places_left(rule, ex, next);
     if places.count == 0 {
         return false;
     }
@@ -188,6 +215,43 @@ fn prices_of_late(rule: u8, ex: &Exercise, next: &State) -> u64
         sum += prices;
     }
     sum
+}
+
+/// Whether the newest column settles a strict break of some late rule. Each is asked by its number and not from a list, the rules of one
+/// voice first, so that what a number says of its rule is known where the program is built.
+#[tactic(auto, unfolding(crate::specs::Rules::rule_at))]
+pub(crate) fn settles_late_break(ex: &Exercise, next: &State) -> bool
+    requires valid { IsValid ex.now }
+    requires begun { 0 < next.now.newest.len }
+    requires room { next.now.newest.len ≤ columns_in ex.now }
+    ensures { (p : List (List ACell)) (col : List ACell) → HasCome ex.now next.now p col
+        → result ≡ list_any (steps.breaks_late ex.now p col) late_rules }
+{
+    if is_broken_late(25, ex, next) {
+        return true;
+    }
+    if is_broken_late(3, ex, next) {
+        return true;
+    }
+    if is_broken_late(15, ex, next) {
+        return true;
+    }
+    if is_broken_late(18, ex, next) {
+        return true;
+    }
+    if is_broken_late(19, ex, next) {
+        return true;
+    }
+    if is_broken_late(20, ex, next) {
+        return true;
+    }
+    if is_broken_late(21, ex, next) {
+        return true;
+    }
+    if is_broken_late(22, ex, next) {
+        return true;
+    }
+    is_broken_late(23, ex, next)
 }
 
 /// A set with the late rules added of which the newest column settles a strict break.

@@ -4,9 +4,11 @@
 ghost use Rattle.std.specs.Prelude.{◌≡◌, ◌≤◌, ◌&&◌, not, nat_le, nat_lt, ℕ, IsTrue, length};
 ghost use Rattle.std.specs.List.{filter, list_all, range_with_len};
 ghost use Rattle.fux_judge.specs.Crates.{crate_with, crate_with_toll};
+ghost use Rattle.fux_judge.specs.Links as links;
+ghost use Rattle.fux_judge.specs.Links.{is_rule_between, is_toll_between};
 ghost use Rattle.fux_judge.specs.Kept.{rules_at_a_bar, rules_at_the_end, rules_within_bars};
 ghost use Rattle.fux_judge.specs.Rules as rules;
-ghost use Rattle.fux_judge.specs.Rules.{all_rules, is_late, is_late_toll, late_rules, late_tolls, rule_at, rules_at_once, rules_read, tolls_read};
+ghost use Rattle.fux_judge.specs.Rules.{all_rules, is_late, late_rules, rule_at, rules_at_once, rules_read, tolls_read};
 
 use rule_law::Form;
 
@@ -40,11 +42,20 @@ const AT_A_BAR: [u8; 2] = [11, 14];
 /// Within a bar there is none of these, nor where no two voices sound the same key or clash.
 const WITHIN_BARS: [u8; 0] = [];
 
+/// The rules that a column decides by itself.
+const COLUMN_RULES: [u8; 6] = [10, 11, 13, 14, 23, 24];
+
+/// Those that need the column before it too.
+const PAIR_RULES: [u8; 6] = [4, 5, 12, 16, 17, 26];
+
 /// All tolls that are read.
 const TOLLS: [u8; 16] = [1, 2, 3, 4, 5, 6, 7, 8, 9, 10, 11, 12, 13, 14, 15, 16];
 
-/// The tolls that may be settled later than at their own column.
-const LATE_TOLLS: [u8; 7] = [3, 4, 5, 6, 12, 15, 16];
+/// The tolls that a column decides by itself.
+const COLUMN_TOLLS: [u8; 6] = [1, 2, 3, 4, 5, 6];
+
+/// Those that need the column before it too.
+const PAIR_TOLLS: [u8; 6] = [7, 8, 9, 10, 11, 12];
 
 /// All rules that are read, by ascending numbers: those of all crates.
 #[tactic(auto, unfolding(crate::specs::Rules::rules_read))]
@@ -103,6 +114,24 @@ pub(crate) fn left_within_bars() -> &'static [u8]
     &WITHIN_BARS
 }
 
+/// The rules that a column decides by itself.
+#[tactic(auto, unfolding(crate::specs::Links::column_rules, crate::specs::Rules::rules_read, crate::specs::Rules::rule_at))]
+pub(crate) fn column_rules() -> &'static [u8]
+    ensures value { result.now ≡ links.column_rules }
+    ensures kinds { IsTrue (list_all is_rule_between result.now) }
+{
+    &COLUMN_RULES
+}
+
+/// Those that need the column before it too.
+#[tactic(auto, unfolding(crate::specs::Links::pair_rules, crate::specs::Rules::rules_read, crate::specs::Rules::rule_at))]
+pub(crate) fn pair_rules() -> &'static [u8]
+    ensures value { result.now ≡ links.pair_rules }
+    ensures kinds { IsTrue (list_all is_rule_between result.now) }
+{
+    &PAIR_RULES
+}
+
 /// All tolls that are read, by ascending numbers: those of all crates.
 #[tactic(auto, unfolding(crate::specs::Rules::tolls_read))]
 pub fn every_toll() -> &'static [u8]
@@ -114,18 +143,30 @@ pub fn every_toll() -> &'static [u8]
     &TOLLS
 }
 
-/// The tolls that are late.
-#[tactic(auto, unfolding(crate::specs::Rules::late_tolls, crate::specs::Rules::tolls_read, crate::specs::Rules::toll_at))]
-pub(crate) fn every_late_toll() -> &'static [u8]
-    ensures value { result.now ≡ late_tolls }
-    ensures numbers { IsTrue (list_all (λ toll. nat_le 1 toll && (nat_le toll 20 && is_late_toll toll)) result.now) }
-    ensures few { length result.now ≤ 8 }
+/// The tolls that a column decides by itself.
+#[tactic(auto, unfolding(crate::specs::Links::column_tolls, crate::specs::Rules::tolls_read, crate::specs::Rules::toll_at))]
+pub(crate) fn column_tolls() -> &'static [u8]
+    ensures value { result.now ≡ links.column_tolls }
+    ensures kinds { IsTrue (list_all is_toll_between result.now) }
+    ensures numbers { IsTrue (list_all (λ toll. nat_le 1 toll && nat_le toll 20) result.now) }
+    ensures few { length result.now ≤ 20 }
 {
-    &LATE_TOLLS
+    &COLUMN_TOLLS
+}
+
+/// Those that need the column before it too.
+#[tactic(auto, unfolding(crate::specs::Links::pair_tolls, crate::specs::Rules::tolls_read, crate::specs::Rules::toll_at))]
+pub(crate) fn pair_tolls() -> &'static [u8]
+    ensures value { result.now ≡ links.pair_tolls }
+    ensures kinds { IsTrue (list_all is_toll_between result.now) }
+    ensures numbers { IsTrue (list_all (λ toll. nat_le 1 toll && nat_le toll 20) result.now) }
+    ensures few { length result.now ≤ 20 }
+{
+    &PAIR_TOLLS
 }
 
 /// Whether a rule is of melody.
-#[inline]
+#[inline(always)]
 fn is_melodic(rule: u8) -> bool
     ensures { result ≡ rules.is_melodic rule }
 {
@@ -133,7 +174,7 @@ fn is_melodic(rule: u8) -> bool
 }
 
 /// Whether a rule is of motion.
-#[inline]
+#[inline(always)]
 fn is_of_motion(rule: u8) -> bool
     ensures { result ≡ rules.is_of_motion rule }
 {
@@ -141,7 +182,7 @@ fn is_of_motion(rule: u8) -> bool
 }
 
 /// Whether a rule is of dissonance.
-#[inline]
+#[inline(always)]
 fn is_of_dissonance(rule: u8) -> bool
     ensures { result ≡ rules.is_of_dissonance rule }
 {
@@ -149,7 +190,7 @@ fn is_of_dissonance(rule: u8) -> bool
 }
 
 /// Whether a rule is of rhythm and cadence.
-#[inline]
+#[inline(always)]
 fn is_of_rhythm(rule: u8) -> bool
     ensures { result ≡ rules.is_of_rhythm rule }
 {
@@ -157,7 +198,7 @@ fn is_of_rhythm(rule: u8) -> bool
 }
 
 /// Whether a rule is of what voices double.
-#[inline]
+#[inline(always)]
 fn is_of_doubling(rule: u8) -> bool
     ensures { result ≡ rules.is_of_doubling rule }
 {
@@ -165,7 +206,7 @@ fn is_of_doubling(rule: u8) -> bool
 }
 
 /// The crate that has a rule; none has a number that is in no book.
-#[inline]
+#[inline(always)]
 pub(crate) fn crate_of(rule: u8) -> Option<RuleCrate>
     ensures { result ≡ crate_with rule }
 {
@@ -188,7 +229,7 @@ pub(crate) fn crate_of(rule: u8) -> Option<RuleCrate>
 }
 
 /// Which sets of voices a rule speaks of.
-#[inline]
+#[inline(always)]
 #[tactic(auto, unfolding(crate::specs::Rules::rule_at))]
 pub(crate) fn form_of(rule: u8) -> Form
     ensures { result ≡ (rule_at rule).form }
@@ -210,7 +251,7 @@ pub(crate) fn form_of(rule: u8) -> Form
 }
 
 /// Whether a toll is of melody.
-#[inline]
+#[inline(always)]
 fn is_toll_of_melody(toll: u8) -> bool
     ensures { result ≡ rules.is_toll_of_melody toll }
 {
@@ -218,7 +259,7 @@ fn is_toll_of_melody(toll: u8) -> bool
 }
 
 /// Whether a toll is of motion.
-#[inline]
+#[inline(always)]
 fn is_toll_of_motion(toll: u8) -> bool
     ensures { result ≡ rules.is_toll_of_motion toll }
 {
@@ -226,7 +267,7 @@ fn is_toll_of_motion(toll: u8) -> bool
 }
 
 /// Whether a toll is of dissonance.
-#[inline]
+#[inline(always)]
 fn is_toll_of_dissonance(toll: u8) -> bool
     ensures { result ≡ rules.is_toll_of_dissonance toll }
 {
@@ -234,7 +275,7 @@ fn is_toll_of_dissonance(toll: u8) -> bool
 }
 
 /// Whether a toll is of rhythm.
-#[inline]
+#[inline(always)]
 fn is_toll_of_rhythm(toll: u8) -> bool
     ensures { result ≡ rules.is_toll_of_rhythm toll }
 {
@@ -242,7 +283,7 @@ fn is_toll_of_rhythm(toll: u8) -> bool
 }
 
 /// Whether a toll is of what voices double.
-#[inline]
+#[inline(always)]
 fn is_toll_of_doubling(toll: u8) -> bool
     ensures { result ≡ rules.is_toll_of_doubling toll }
 {
@@ -250,7 +291,7 @@ fn is_toll_of_doubling(toll: u8) -> bool
 }
 
 /// The crate that has a toll.
-#[inline]
+#[inline(always)]
 pub(crate) fn crate_of_toll(toll: u8) -> Option<RuleCrate>
     ensures { result ≡ crate_with_toll toll }
 {

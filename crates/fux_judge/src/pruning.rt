@@ -19,6 +19,7 @@ use crate::verdict::moment_of;
 use fux_grid::{Column, Exercise, VoiceSet, cell_of};
 use melody_rules::is_smooth_in;
 use penalty_sheet::Sheet;
+use rhythm_cadence::leaves_last_shape;
 use rule_law::{is_quiet, pair_of, sound_perfect, starts, voice_of};
 
 /// The rules of one voice that starts a note.
@@ -106,7 +107,26 @@ fn breaks_by(voices: VoiceSet, m: &Moment<'_>) -> bool
     breaks_alone(voice, voices, m)
 }
 
-/// Whether a voice breaks a rule strictly, alone or with a lower one.
+/// Whether a voice leaves the last of the shapes that it may still have in its bar.
+fn leaves_shapes(voice: usize, m: &Moment<'_>) -> bool
+    requires voice { voice < 4 }
+    requires readable { IsReadable m.now }
+    ensures { OnTrue result (IsDeadWithin (voice + 1) m.now) }
+{
+    let cell = cell_of(m.column, voice);
+    if leaves_last_shape(
+        &m.state.rhythm,
+        m.exercise,
+        m.state.newest.len,
+        cell,
+        voice as u8,
+    ) {
+        return true;
+    }
+    false
+}
+
+/// Whether a voice breaks a rule strictly, alone or with a lower one. Its shapes are asked first, which takes least.
 fn breaks_with(voice: usize, m: &Moment<'_>) -> bool
     requires voice { voice < 4 }
     requires readable { IsReadable m.now }
@@ -114,6 +134,9 @@ fn breaks_with(voice: usize, m: &Moment<'_>) -> bool
 {
     if !starts(cell_of(m.column, voice)) {
         return false;
+    }
+    if leaves_shapes(voice, m) {
+        return true;
     }
     for bits in sets_with(voice) {
         if breaks_by(VoiceSet { bits: *bits }, m) {

@@ -5,14 +5,18 @@ ghost use Rattle.std.specs.List.{sum_by};
 ghost use Rattle.fux_grid.specs.Exercises.{IsComplete, IsValid, columns_in};
 ghost use Rattle.penalty_sheet.specs.Weights.{weight_of};
 ghost use Rattle.fux_judge.specs.Penalties as penalties;
-ghost use Rattle.fux_judge.specs.Penalties.{charges_of, prices_at, tolls_at};
+ghost use Rattle.rule_law.specs.Voices as voices_words;
+ghost use Rattle.fux_judge.specs.Gauges as words;
+ghost use Rattle.fux_judge.specs.Gauges.{cells_of_voice};
+ghost use Rattle.fux_judge.specs.Penalties.{penalty_of, prices_at, tolls_at};
 ghost use Rattle.fux_judge.specs.Rules.{all_sets, cost_at, is_broken};
 
+use crate::gauges::{cost_of_line, line_gauges};
 use crate::numbers::{every_rule, every_toll, form_of};
 use crate::whole::{cost_in, is_broken_in};
 use fux_grid::{Exercise, Score, VoiceSet};
 use penalty_sheet::{Sheet, price_at, weight};
-use rule_law::sets_of;
+use rule_law::{is_free, sets_of};
 
 /// What the tolls cost at a place, each by its weight.
 fn tolls_of(ex: &Exercise, sheet: &Sheet, score: &Score, i: usize) -> u64
@@ -76,21 +80,59 @@ fn prices_of(ex: &Exercise, score: &Score, i: usize) -> u64
     sum
 }
 
-/// The penalty of a score: all tolls by their weights, and the prices of relaxed breaks. There is none where the score isn't complete. It takes no memory.
+/// What tolls and prices come to at all places.
+fn charges_of(ex: &Exercise, sheet: &Sheet, score: &Score) -> u64
+    requires valid { IsValid ex.now }
+    requires complete { IsComplete ex.now score.now }
+    ensures value { result ≡ penalties.charges_of ex.now sheet.now score.now.columns }
+    ensures bound { result ≤ 1080847418011488000 }
+{
+    let mut sum = 0u64;
+    for i in 0..score.len() {
+        let charge = tolls_of(ex, sheet, score, i) + prices_of(ex, score, i);
+        sum += charge;
+    }
+    sum
+}
+
+/// What the line of a voice costs, nothing where the voice isn't free.
+fn line_of(ex: &Exercise, sheet: &Sheet, score: &Score, v: u8) -> u64
+    requires valid { IsValid ex.now }
+    requires complete { IsComplete ex.now score.now }
+    ensures value { result ≡ (if voices_words.is_free ex.now v then words.cost_of_line sheet.now (cells_of_voice score.now.columns v) else 0) }
+    ensures bound { result ≤ 83622660 }
+{
+    if !is_free(ex, v) {
+        return 0;
+    }
+    cost_of_line(sheet, &line_gauges(ex, score, v))
+}
+
+/// What the lines of the free voices cost.
+fn lines_of(ex: &Exercise, sheet: &Sheet, score: &Score) -> u64
+    requires valid { IsValid ex.now }
+    requires complete { IsComplete ex.now score.now }
+    ensures value { result ≡ words.gauges_of ex.now sheet.now score.now.columns }
+    ensures bound { result ≤ 334490640 }
+{
+    let mut sum = 0u64;
+    for v in 0..ex.voices {
+        sum += line_of(ex, sheet, score, v);
+    }
+    sum
+}
+
+/// The penalty of a score: all tolls by their weights, the prices of relaxed breaks, and the gauges of the free voices' lines by their
+/// weights. There is none where the score isn't complete. It takes no memory.
 pub fn penalty(ex: &Exercise, sheet: &Sheet, score: &Score) -> Option<u64>
     requires { IsValid ex.now }
     ensures known { IsSome result ↔ IsComplete ex.now score.now }
-    ensures value { IfSome result (λ penalty. penalty ≡ charges_of ex.now sheet.now score.now.columns) }
+    ensures value { IfSome result (λ penalty. penalty ≡ penalty_of ex.now sheet.now score.now.columns) }
 {
     let columns = 8 * ex.bars as usize;
     score.kept();
     if score.voices() != ex.voices || score.len() != columns {
         return None;
     }
-    let mut sum = 0u64;
-    for i in 0..columns {
-        let charge = tolls_of(ex, sheet, score, i) + prices_of(ex, score, i);
-        sum += charge;
-    }
-    Some(sum)
+    Some(charges_of(ex, sheet, score) + lines_of(ex, sheet, score))
 }

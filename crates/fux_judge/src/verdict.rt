@@ -53,7 +53,7 @@ impl Verdict {
 
 /// Whether one of these rules is in a set.
 #[inline]
-fn any_of(rules: &[u8], set: RuleSet) -> bool
+pub(crate) fn any_of(rules: &[u8], set: RuleSet) -> bool
     ensures { result ≡ list_any (has_rule set.bits) rules.now }
 {
     rules.iter().any(|rule| set.has(*rule))
@@ -90,7 +90,7 @@ fn prices_of(rules: &[u8], m: &Moment<'_>) -> u64
 }
 
 /// The state after a column.
-fn next_state(ex: &Exercise, state: &State, col: &Column) -> State
+pub(crate) fn next_state(ex: &Exercise, state: &State, col: &Column) -> State
     requires valid { IsValid ex.now }
     requires room { state.now.newest.len < columns_in ex.now }
     requires full { length col.now.items ≡ ex.now.voices }
@@ -127,7 +127,7 @@ pub(crate) fn moment_of<'a>(ex: &'a Exercise, state: &'a State, col: &'a Column)
 
 /// The rules settled at once that the column breaks strictly, and what it costs of them and of such tolls. Where nothing begins,
 /// nothing is read.
-fn readings(sheet: &Sheet, m: &Moment<'_>) -> (RuleSet, u64)
+pub(crate) fn readings(sheet: &Sheet, m: &Moment<'_>) -> (RuleSet, u64)
     requires { IsReadable m.now }
     ensures broken { (p : List (List ACell)) → IsAfter p m.now → (r : ℕ) → has_rule result.0.bits r ≡ list_any (λ rule. is_strictly_broken_then all_sets rule p m.now && r == rule) rules_at_once }
     ensures paid { (p : List (List ACell)) → IsAfter p m.now → result.1 ≡ sum_by (toll_then sheet.now p m.now) tolls_at_once + sum_by (λ rule. prices_then all_sets rule p m.now) rules_at_once }

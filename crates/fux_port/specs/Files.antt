@@ -1,5 +1,5 @@
 -- What is told of a shelf's files: nothing, or for each name the bytes of its file or that there is none.
-use Rattle.std.specs.Prelude.{◌≡◌, ℕ, List, Option, Some, None}
+use Rattle.std.specs.Prelude.{◌≡◌, ℕ, ◌⊎◌, List, Option, Some, None}
 
 -- what is told of one name: nothing, or the bytes of its file or that there is none
 abbrev pub file_of : Option (List ℕ → Option (List ℕ)) → List ℕ → Option (Option (List ℕ))
@@ -13,3 +13,7 @@ HasFile files name file = file_of files name ≡ Some (Some file)
 -- the files are told, and none has this name
 abbrev pub IsMissing : Option (List ℕ → Option (List ℕ)) → List ℕ → Type 0
 IsMissing files name = file_of files name ≡ Some None
+
+-- the file of a name has these bytes, where the shelf tells its files
+abbrev pub MayHave : Option (List ℕ → Option (List ℕ)) → List ℕ → List ℕ → Type 0
+MayHave files name bytes = (file_of files name ≡ None) ⊎ HasFile files name bytes

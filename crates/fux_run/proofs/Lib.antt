@@ -1,5 +1,6 @@
 pub mod BestLemmas
 pub mod ContentLemmas
+pub mod FrontLemmas
 pub mod MakeLemmas
 pub mod RunLemmas
 pub mod SimpleForms

@@ -5,9 +5,8 @@ use Rattle.fux_grid.specs.declared.cell.Cell.{Cell}
 use Rattle.fux_grid.specs.declared.exercise.Exercise.{Exercise}
 use Rattle.fux_grid.specs.Exercises.{HasCantus}
 use Rattle.penalty_sheet.specs.declared.sheet.Sheet.{Sheet}
-use Rattle.fux_judge.specs.Lawful.{IsBest, HasNoLawful}
-use Rattle.fux_judge.specs.Penalties.{penalty_of}
 use Rattle.fux_text.specs.Lines.{setting_text}
+use Rattle.species_space.specs.Loads.{IsBestWithin, IsNothingWithin}
 use Rattle.fux_run.specs.declared.work.Output.{Output}
 use Rattle.fux_run.specs.declared.work.Verdict.{Verdict}
 use Rattle.fux_run.specs.declared.work.Verdict.TheVariants.{Favorable, Unfavorable, Spent}
@@ -26,19 +25,20 @@ bound_line bound = codes "spent, at least " ++ decimal bound ++ 10 ∷ []
 abbrev pub none_line : List ℕ
 none_line = codes "none" ++ 10 ∷ []
 
--- the text is the exercise with its best setting, over the cantus as it is, and the penalty of that
-pub record TellsBest (ex : Exercise) (sheet : Sheet) (text : List ℕ) : Type 0 where
+-- the text is the exercise with its best setting, over the cantus as it is, and the penalty of that; its load is within the budget
+pub record TellsBest (ex : Exercise) (sheet : Sheet) (budget : ℕ) (text : List ℕ) : Type 0 where
   pub setting : List (List Cell)
-  pub best : IsBest ex sheet setting
+  pub penalty : ℕ
+  pub best : IsBestWithin ex sheet budget setting penalty
   pub cantus : HasCantus ex setting
-  pub spelled : text ≡ setting_text ex setting ++ penalty_line (penalty_of ex sheet setting)
+  pub spelled : text ≡ setting_text ex setting ++ penalty_line penalty
 
--- the text tells that no setting is lawful
-pub record TellsNone (ex : Exercise) (text : List ℕ) : Type 0 where
-  pub lawless : HasNoLawful ex
+-- the text tells that no setting is lawful; all live prefixes are within the budget
+pub record TellsNone (ex : Exercise) (sheet : Sheet) (budget : ℕ) (text : List ℕ) : Type 0 where
+  pub none : IsNothingWithin ex sheet budget
   pub spelled : text ≡ none_line
 
--- the text tells a bound that the penalty of every lawful setting reaches, since the budget was spent
+-- the text tells the least number whose load is above the budget
 pub record TellsBound (ex : Exercise) (sheet : Sheet) (budget : ℕ) (text : List ℕ) : Type 0 where
   pub bound : ℕ
   pub is_bound : IsBound ex sheet budget bound
@@ -46,8 +46,8 @@ pub record TellsBound (ex : Exercise) (sheet : Sheet) (budget : ℕ) (text : Lis
 
 -- what a text tells of an exercise, by its verdict
 abbrev pub Tells : Exercise → Sheet → ℕ → Verdict → List ℕ → Type 0
-Tells ex sheet budget Favorable text = TellsBest ex sheet text
-Tells ex sheet budget Unfavorable text = TellsNone ex text
+Tells ex sheet budget Favorable text = TellsBest ex sheet budget text
+Tells ex sheet budget Unfavorable text = TellsNone ex sheet budget text
 Tells ex sheet budget Spent text = TellsBound ex sheet budget text
 
 -- an output on an exercise none of whose menus is too wide

@@ -4,10 +4,9 @@ use Rattle.std.specs.Fmt.{decimal}
 use Rattle.fux_pitch.specs.Names.{name_of}
 use Rattle.fux_grid.specs.declared.cell.Cell.{Cell}
 use Rattle.fux_grid.specs.declared.exercise.Exercise.{Exercise}
-use Rattle.fux_judge.specs.Lawful.{IsBest}
-use Rattle.fux_judge.specs.Penalties.{penalty_of}
 use Rattle.fux_text.specs.Words.{spaced}
 use Rattle.drill_exercise.specs.Drill.{IsDrill}
+use Rattle.species_space.specs.Loads.{IsBestWithin}
 use Rattle.score_marker.specs.declared.mark.Mark.{Mark}
 use Rattle.score_marker.specs.Marks.{AreMarks}
 use Rattle.fux_run.specs.declared.work.Output.{Output}
@@ -26,18 +25,19 @@ drill_heading number ex =
 abbrev pub best_line : ℕ → ℕ → List ℕ
 best_line penalty marks = codes "best " ++ decimal penalty ++ codes " marks " ++ decimal marks ++ 10 ∷ []
 
--- the line tells the penalty of the best setting, and how many marks that has
+-- the line tells the penalty of the best setting, whose load is within the budget, and how many marks that setting has
 pub record TellsBestMarks (ex : Exercise) (text : List ℕ) : Type 0 where
   pub setting : List (List Cell)
-  pub best : IsBest ex usual_sheet setting
+  pub penalty : ℕ
+  pub best : IsBestWithin ex usual_sheet 200000 setting penalty
   pub marks : List Mark
   pub exact : AreMarks ex setting marks
-  pub spelled : text ≡ best_line (penalty_of ex usual_sheet setting) (length marks)
+  pub spelled : text ≡ best_line penalty (length marks)
 
 -- what the last line tells of an exercise, by its verdict
 abbrev pub TellsDrill : Exercise → Verdict → List ℕ → Type 0
 TellsDrill ex Favorable text = TellsBestMarks ex text
-TellsDrill ex Unfavorable text = TellsNone ex text
+TellsDrill ex Unfavorable text = TellsNone ex usual_sheet 200000 text
 TellsDrill ex Spent text = TellsBound ex usual_sheet 200000 text
 
 -- a text has a line more, of which a fact holds

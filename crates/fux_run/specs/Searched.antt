@@ -1,13 +1,12 @@
 -- What a search for the best setting of an exercise finds, over a sheet of weights.
-use Rattle.std.specs.Prelude.{◌≡◌, ℕ, ◌+◌, ◌<◌, ◌≤◌, Result, Ok, Err, length}
+use Rattle.std.specs.Prelude.{ℕ, ◌<◌, ◌≤◌, Result, Ok, Err, length}
 use Rattle.fux_grid.specs.declared.exercise.Exercise.{Exercise}
 use Rattle.fux_grid.specs.Exercises.{HasCantus, IsComplete, columns_in}
 use Rattle.fux_grid.specs.Grid.{Grid}
 use Rattle.fux_grid.specs.Menus.{menu_of}
 use Rattle.penalty_sheet.specs.declared.sheet.Sheet.{Sheet}
 use Rattle.penalty_sheet.specs.Weights.{default_weights}
-use Rattle.fux_judge.specs.Lawful.{IsBest, HasNoLawful, BoundsLawful, HasLive, HasLiveAtMost}
-use Rattle.fux_judge.specs.Penalties.{penalty_of}
+use Rattle.species_space.specs.Loads.{IsBestWithin, IsLeastOver, IsNothingWithin, IsOverBudget}
 use Rattle.species_space.specs.Task.{IsTooWide}
 use Rattle.fux_run.specs.declared.refusal.Refusal.{Refusal}
 use Rattle.fux_run.specs.declared.refusal.Refusal.TheVariants.{TooWide}
@@ -20,23 +19,22 @@ use Rattle.fux_run.specs.declared.work.Stop.TheVariants.{Refused, Memory}
 abbrev pub usual_sheet : Sheet
 usual_sheet = record { weights = default_weights }
 
--- the best setting, over the cantus as it is, with its penalty
-pub record IsBestFound (ex : Exercise) (sheet : Sheet) (score : Grid) (penalty : ℕ) : Type 0 where
-  pub best : IsBest ex sheet score.columns
+-- the best setting, over the cantus as it is, with its penalty, whose load is within the budget
+pub record IsBestFound (ex : Exercise) (sheet : Sheet) (budget : ℕ) (score : Grid) (penalty : ℕ) : Type 0 where
+  pub best : IsBestWithin ex sheet budget score.columns penalty
   pub cantus : HasCantus ex score.columns
   pub complete : IsComplete ex score
-  pub charged : penalty ≡ penalty_of ex sheet score.columns
 
--- a bound that the penalty of every lawful setting reaches; there are more live prefixes than the budget has units
+-- the least number whose load is above the budget, which isn't enough for the load of the least penalty either, or where nothing is
+-- lawful, for all live prefixes
 pub record IsBound (ex : Exercise) (sheet : Sheet) (budget bound : ℕ) : Type 0 where
-  pub reached : BoundsLawful ex sheet bound
-  pub many : HasLive ex (budget + 1)
-  pub scarce : HasLiveAtMost ex budget → ⊥
+  pub least : IsLeastOver ex sheet budget bound
+  pub over : IsOverBudget ex sheet budget
 
 -- what was found is so
 abbrev pub IsFound : Exercise → Sheet → ℕ → Found → Type 0
-IsFound ex sheet budget (Best score penalty) = IsBestFound ex sheet score penalty
-IsFound ex sheet budget Nothing = HasNoLawful ex
+IsFound ex sheet budget (Best score penalty) = IsBestFound ex sheet budget score penalty
+IsFound ex sheet budget Nothing = IsNothingWithin ex sheet budget
 IsFound ex sheet budget (Spent bound) = IsBound ex sheet budget bound
 
 -- a setting that was found has the exercise's voices and all columns

@@ -1,9 +1,11 @@
 //! The search for the best setting of an exercise.
 
-ghost use Rattle.std.specs.Prelude.{◌≡◌, IfOk};
+ghost use Rattle.std.specs.Prelude.{ℕ, IfOk};
 ghost use Rattle.fux_grid.specs.Exercises.{IsValid, columns_in};
-ghost use Rattle.species_space.specs.Paths.{live_at};
+ghost use Rattle.species_space.specs.Loads.{IsBestWithin, IsExact};
+ghost use Rattle.species_space.specs.Paths.{live_at, prefix_at};
 ghost use Rattle.tree_search.specs.Answer.{IsFirstLeast};
+ghost use Rattle.tree_search.specs.Outcomes.{IfFound};
 ghost use Rattle.fux_run.specs.Searched.{Finds, IsBestFound, IsFound};
 
 use crate::refusal::Refusal;
@@ -14,7 +16,7 @@ use penalty_sheet::Sheet;
 use species_space::{SpeciesSpace, TableFault, score_of};
 use std::alloc::Global;
 use std::thread::Threads;
-use tree_search::{Outcome, search_depth};
+use tree_search::{Outcome, search_front};
 
 /// What a search comes to.
 #[derive(Drop)]
@@ -23,7 +25,7 @@ pub enum Found {
     Best { score: Score, penalty: u64 },
     /// No setting is lawful.
     Nothing,
-    /// The budget was spent: no lawful setting has a penalty below the bound.
+    /// The budget is not enough: the bound is the least number whose load is above it.
     Spent { bound: u64 },
 }
 
@@ -46,24 +48,17 @@ pub fn best_setting<R: Threads + Sync>(
             count,
         })),
     };
-    Ok(search(alloc, exercise, sheet, &space, budget)?)
+    Ok(search(alloc, &space, budget)?)
 }
 
 /// Searches the settings of an exercise.
-fn search(
-    alloc: Global,
-    exercise: &Exercise,
-    sheet: &Sheet,
-    space: &SpeciesSpace<'_>,
-    budget: u32,
-) -> Result<Found, Memory>
-    requires valid { IsValid exercise.now }
-    requires space { space.now ≡ record { exercise = exercise.now; sheet = sheet.now } }
-    ensures { IfOk result (IsFound exercise.now sheet.now budget) }
+fn search(alloc: Global, space: &SpeciesSpace<'_>, budget: u32) -> Result<Found, Memory>
+    requires { IsValid space.now.exercise }
+    ensures { IfOk result (IsFound space.now.exercise space.now.sheet budget) }
 {
-    match search_depth(alloc, space, budget)? {
+    match first_of_least(alloc, space, budget)? {
         Outcome::Found { path, value } => Ok(Found::Best {
-            score: setting_at(alloc, exercise, sheet, space, path.as_slice(), value)?,
+            score: setting_at(alloc, space, path.as_slice(), value)?,
             penalty: value,
         }),
         Outcome::Nothing => Ok(Found::Nothing),
@@ -71,19 +66,27 @@ fn search(
     }
 }
 
+/// The first path to a setting of least penalty, if the budget is enough.
+fn first_of_least(alloc: Global, space: &SpeciesSpace<'_>, budget: u32) -> Result<Outcome, Memory>
+    requires { IsValid space.now.exercise }
+    ensures first { IfOk result (λ outcome. IfFound outcome
+        (IsFirstLeast (live_at space.now.exercise space.now.sheet) (columns_in space.now.exercise))) }
+    ensures exact { IfOk result (IsExact space.now.exercise space.now.sheet budget) }
+{
+    search_front(alloc, space, budget)
+}
+
 /// The setting that a path leads to: the best one, where that is the first of the least.
 fn setting_at(
     alloc: Global,
-    exercise: &Exercise,
-    sheet: &Sheet,
     space: &SpeciesSpace<'_>,
     path: &[u16],
     penalty: u64,
 ) -> Result<Score, Memory>
-    requires valid { IsValid exercise.now }
-    requires space { space.now ≡ record { exercise = exercise.now; sheet = sheet.now } }
-    requires first { IsFirstLeast (live_at exercise.now sheet.now) (columns_in exercise.now) path.now penalty }
-    ensures { IfOk result (λ score. IsBestFound exercise.now sheet.now score penalty) }
+    requires valid { IsValid space.now.exercise }
+    requires first { IsFirstLeast (live_at space.now.exercise space.now.sheet) (columns_in space.now.exercise) path.now penalty }
+    ensures { (budget : ℕ) → IsBestWithin space.now.exercise space.now.sheet budget (prefix_at space.now.exercise path.now) penalty
+        → IfOk result (λ score. IsBestFound space.now.exercise space.now.sheet budget score penalty) }
 {
     score_of(alloc, space, path)
 }

@@ -118,7 +118,7 @@ words-follow bars bar cells at (w ∷ ws) out f e =
     let step = bind_ok (sung_word bars bar cells w) (λ so_far. sung_words bars so_far.0 so_far.1 at ws) out e in
     words-follow bars step.0.0 step.0.1 at ws out (word-follows bars bar cells w step.0 f step.1) step.2
 
-line-follows : (bars v : ℕ) (text : TextLines) (out : List Cell × TextLines) → sing_line_in bars v text ≡ Ok out → FollowsFrom Rest out.0
+pub line-follows : (bars v : ℕ) (text : TextLines) (out : List Cell × TextLines) → sing_line_in bars v text ≡ Ok out → FollowsFrom Rest out.0
 unfolding sing_line_in sung_in
 line-follows bars v text out e =
     let line = bind_ok (headed kinds.Sing (codes "sing") text) _ out e in

@@ -34,7 +34,7 @@ with_line after l ws others = record { after = after; lines = laid l ws ∷ othe
 abbrev pub left : ℕ → List LineWords → TextLines
 left after others = record { after = after; lines = others }
 
-set_out-own : (ws : List PlacedWord) → set_out (places_of ws) (map (λ w. w.text) ws) ≡ ws
+pub set_out-own : (ws : List PlacedWord) → set_out (places_of ws) (map (λ w. w.text) ws) ≡ ws
 set_out-own [] = refl
 set_out-own (w ∷ ws) = ap (λ more. w ∷ more) (set_out-own ws)
 

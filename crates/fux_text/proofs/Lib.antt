@@ -35,4 +35,11 @@ pub mod OnlyRanges
 pub mod OnlySing
 pub mod OnlySetting
 pub mod OnlyText
+pub mod FaultSteps
+pub mod FaultyHead
+pub mod FaultyRanges
+pub mod FaultyRelaxes
+pub mod FaultyItems
+pub mod FaultySing
+pub mod FaultyText
 pub mod ReadTexts

@@ -29,7 +29,7 @@ use Rattle.fux_text.proofs.ValidSetting.{sung-valid, voices-keep}
 
 -- ---- the voices
 
-cantus-only : (ex : Exercise) (v : ℕ) (text : TextLines) (x : List Cell × TextLines) → (v == ex.cantus_voice) ≡ true
+pub cantus-only : (ex : Exercise) (v : ℕ) (text : TextLines) (x : List Cell × TextLines) → (v == ex.cantus_voice) ≡ true
     → voice_in ex v text ≡ Ok x → text ≡ x.1
 unfolding voice_in
 cantus-only ex v text x same e = by (v == ex.cantus_voice) same e

@@ -223,7 +223,7 @@ bar_line-only count bar next done w e =
       sym (value_is (bar + 1) next _ refl more.2),
     )
 
-item_cells-length : (c : Cell) (n : ℕ) → 1 ≤ n → length (item_cells c n) ≡ n
+pub item_cells-length : (c : Cell) (n : ℕ) → 1 ≤ n → length (item_cells c n) ≡ n
 item_cells-length c n some = ap suc (length-replicate (n - 1) (held c)) ∙ omega (arith, some)
 
 no_hold : (c : Cell) → (is_hold c ≡ true → ⊥) → is_hold c ≡ false
@@ -312,7 +312,7 @@ sung_words-only count bar done at (w ∷ ws) cells low e =
     word-only count bar done w (map (λ x. x.text) ws) cells step.0 low step.1
     (λ long. sung_words-only count step.0.0 step.0.1 at ws cells long step.2)
 
-sung_in-only : (count v : ℕ) (at : LineWords) (cells : List Cell) → sung_in count at ≡ Ok cells
+pub sung_in-only : (count v : ℕ) (at : LineWords) (cells : List Cell) → sung_in count at ≡ Ok cells
     → IsSung count v (codes "sing" ∷ decimal v ∷ texts at) cells
 unfolding sung_in
 sung_in-only count v at cells e =

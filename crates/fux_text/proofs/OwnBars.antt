@@ -30,7 +30,7 @@ follows-parts : (before : Cell) (xs ys : List Cell) → FollowsFrom before (xs +
 follows-parts before [] ys f = (tt, f)
 follows-parts before (x ∷ xs) ys f = let rest = follows-parts x xs ys f.1 in ((f.0, rest.0), rest.1)
 
-latest-append : (before : Cell) (xs ys : List Cell) → latest before (xs ++ ys) ≡ latest (latest before xs) ys
+pub latest-append : (before : Cell) (xs ys : List Cell) → latest before (xs ++ ys) ≡ latest (latest before xs) ys
 latest-append before [] ys = refl
 latest-append before (x ∷ xs) ys = latest-append x xs ys
 

@@ -1,13 +1,15 @@
--- A text is read just where its lines have the words of what is read (`texts-read`, `sing_texts-read`).
-use Rattle.std.proofs.Common.{◌≡◌, ℕ, List, Result, Ok, Err, ◌⊎◌, inl, inr, refl, arith}
+-- A text is read just where its lines have the words of what is read (`texts-read`, `sing_texts-read`), and told to have a
+-- fault just where it is its first one (`faults-read`, `sing_faults-read`).
+use Rattle.std.proofs.Common.{◌≡◌, ℕ, List, Result, Ok, Err, ◌⊎◌, inl, inr, refl, ap, arith}
 use Rattle.fux_grid.specs.declared.exercise.Exercise.{Exercise}
 use Rattle.fux_grid.specs.Exercises.{IsValid}
 use Rattle.fux_grid.specs.Grid.{Grid}
 use Rattle.text_lines.specs.declared.fault.TextKind.{TextKind}
 use Rattle.text_lines.specs.Faults.{Fault}
-use Rattle.fux_text.specs.ReadBack.{NoteTextsAreOfOne, NoteTextsAreRead, NoteTextsHaveNoFault, NoteTextsOrFaults, SingLinesAreRead}
+use Rattle.fux_text.specs.ReadBack.{FaultsAreRead, NoteTextsHaveOneFault, SingFaultsAreRead, NoteTextsAreOfOne, NoteTextsAreRead, NoteTextsHaveNoFault, NoteTextsOrFaults, SingLinesAreRead}
 use Rattle.fux_text.specs.Reading.{exercise_in, setting_alone}
-use Rattle.fux_text.specs.Texts.{AreSingLinesOf, HasFault, IsTextOf}
+use Rattle.fux_text.specs.Texts.{AreSingLinesOf, HasFault, HasSingFault, IsTextOf}
+use Rattle.fux_text.proofs.FaultyText.{alone-fails, alone-faulty, text-fails, text-faulty}
 use Rattle.fux_text.proofs.OnlyText.{note_text-only, setting_lines-only}
 use Rattle.fux_text.proofs.OwnText.{note_text-read, setting_lines-read}
 
@@ -35,11 +37,53 @@ texts-read bytes ex = (text-read bytes ex, read-text bytes ex)
 pub sing_texts-read : SingLinesAreRead
 sing_texts-read ex bytes score valid = (lines-read ex bytes score valid, read-lines ex bytes score valid)
 
+-- a fault of three parts
+abbrev fault : TextKind → ℕ → ℕ → Fault
+fault kind line column = record { kind = kind; line = line; column = column }
+
+pub fault-read : (bytes : List ℕ) (kind : TextKind) (line column : ℕ) → HasFault bytes kind line column
+    → exercise_in bytes ≡ Err (record { kind = kind; line = line; column = column })
+unfolding HasFault
+fault-read bytes kind line column has = text-fails bytes (fault kind line column) has
+
+pub read-fault : (bytes : List ℕ) (kind : TextKind) (line column : ℕ)
+    → exercise_in bytes ≡ Err (record { kind = kind; line = line; column = column })
+    → HasFault bytes kind line column
+unfolding HasFault
+read-fault bytes kind line column e = text-faulty bytes (fault kind line column) e
+
+pub sing_fault-read : (ex : Exercise) (bytes : List ℕ) (kind : TextKind) (line column : ℕ) → IsValid ex
+    → HasSingFault ex bytes kind line column
+    → setting_alone ex bytes ≡ Err (record { kind = kind; line = line; column = column })
+unfolding HasSingFault
+sing_fault-read ex bytes kind line column valid has = alone-fails ex bytes (fault kind line column) valid has
+
+pub read-sing_fault : (ex : Exercise) (bytes : List ℕ) (kind : TextKind) (line column : ℕ)
+    → setting_alone ex bytes ≡ Err (record { kind = kind; line = line; column = column })
+    → HasSingFault ex bytes kind line column
+unfolding HasSingFault
+read-sing_fault ex bytes kind line column e = alone-faulty ex bytes (fault kind line column) e
+
+pub faults-read : FaultsAreRead
+faults-read bytes kind line column = (fault-read bytes kind line column, read-fault bytes kind line column)
+
+pub sing_faults-read : SingFaultsAreRead
+sing_faults-read ex bytes kind line column valid =
+    (sing_fault-read ex bytes kind line column valid, read-sing_fault ex bytes kind line column)
+
+one_error : (read : Result Exercise Fault) (f g : Fault) → read ≡ Err f → read ≡ Err g → f ≡ g
+one_error read f g h k = grind (arith, h, k)
+
+pub texts-one_fault : NoteTextsHaveOneFault
+texts-one_fault bytes kind other line column l c has its =
+    let same = one_error (exercise_in bytes) (fault kind line column) (fault other l c)
+    (fault-read bytes kind line column has) (fault-read bytes other l c its) in
+    (ap (λ f. f.kind) same, ap (λ f. f.line) same, ap (λ f. f.column) same)
+
 each : (bytes : List ℕ) (read : Result Exercise Fault) → exercise_in bytes ≡ read
     → ((ex : Exercise) × IsTextOf bytes ex) ⊎ ((kind : TextKind) × (line : ℕ) × (column : ℕ) × HasFault bytes kind line column)
-unfolding HasFault
 each bytes (Ok ex) e = inl (ex, read-text bytes ex e)
-each bytes (Err f) e = inr (f.kind, f.line, f.column, e)
+each bytes (Err f) e = inr (f.kind, f.line, f.column, read-fault bytes f.kind f.line f.column e)
 
 pub texts-or_faults : NoteTextsOrFaults
 texts-or_faults bytes = each bytes (exercise_in bytes) refl
@@ -55,6 +99,6 @@ no_value : (read : Result Exercise Fault) (a : Exercise) (f : Fault) → read �
 no_value read a f h k = grind (arith, h, k)
 
 pub texts-faultless : NoteTextsHaveNoFault
-unfolding HasFault
 texts-faultless bytes ex kind line column is has =
-    no_value (exercise_in bytes) ex (record { kind = kind; line = line; column = column }) (text-read bytes ex is) has
+    no_value (exercise_in bytes) ex (fault kind line column) (text-read bytes ex is)
+    (fault-read bytes kind line column has)

@@ -1,5 +1,5 @@
 -- What is written is read back: the laws that tie the two directions of the note text to one another.
-use Rattle.std.specs.Prelude.{◌⊎◌, ◌≡◌, ◌↔◌, ℕ, Ok, ◌≤◌, List, Option, IfSome, length}
+use Rattle.std.specs.Prelude.{◌⊎◌, ◌≡◌, ◌↔◌, ℕ, Ok, Err, ◌≤◌, List, Option, IfSome, length}
 use Rattle.std.specs.List.{flat_map}
 use Rattle.fux_grid.specs.declared.cell.Cell.{Cell}
 use Rattle.fux_grid.specs.declared.exercise.Exercise.{Exercise}
@@ -9,7 +9,7 @@ use Rattle.text_lines.specs.declared.fault.TextKind.{TextKind}
 use Rattle.fux_text.specs.Grammar.{IsSettingOf}
 use Rattle.fux_text.specs.Lines.{free_voices, note_text, sing_text}
 use Rattle.fux_text.specs.Reading.{exercise_in, setting_alone}
-use Rattle.fux_text.specs.Texts.{AreSingLinesOf, HasFault, IsTextOf}
+use Rattle.fux_text.specs.Texts.{AreSingLinesOf, HasFault, HasSingFault, IsTextOf}
 
 -- what is written of an exercise, with a setting or without, is a note text of that exercise with that setting, where
 -- it isn't too long to be read
@@ -47,3 +47,20 @@ NoteTextsHaveNoFault = (bytes : List ℕ) (ex : Exercise) (kind : TextKind) (lin
 abbrev pub SingLinesAreRead : Type 0
 SingLinesAreRead = (ex : Exercise) (bytes : List ℕ) (score : Grid) → IsValid ex
     → AreSingLinesOf ex bytes score ↔ (setting_alone ex bytes ≡ Ok score)
+
+-- a fault is a text's first one just where reading tells it
+abbrev pub FaultsAreRead : Type 0
+FaultsAreRead = (bytes : List ℕ) (kind : TextKind) (line column : ℕ)
+    → HasFault bytes kind line column ↔ (exercise_in bytes ≡ Err (record { kind = kind; line = line; column = column }))
+
+-- so there is one at most
+abbrev pub NoteTextsHaveOneFault : Type 0
+NoteTextsHaveOneFault = (bytes : List ℕ) (kind other : TextKind) (line column l c : ℕ) → HasFault bytes kind line column
+    → HasFault bytes other l c
+    → (kind ≡ other) × (line ≡ l) × (column ≡ c)
+
+-- and so it is with `sing` lines alone
+abbrev pub SingFaultsAreRead : Type 0
+SingFaultsAreRead = (ex : Exercise) (bytes : List ℕ) (kind : TextKind) (line column : ℕ) → IsValid ex
+    → HasSingFault ex bytes kind line column
+    ↔ (setting_alone ex bytes ≡ Err (record { kind = kind; line = line; column = column }))

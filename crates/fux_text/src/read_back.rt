@@ -10,7 +10,7 @@ ghost use Rattle.fux_pitch.specs.Names.{name_of};
 ghost use Rattle.text_lines.specs.Numbers.{number_of};
 ghost use Rattle.fux_text.specs.Lines.{mode_name, voices_word};
 ghost use Rattle.fux_text.specs.Names.{mode_named, pitch_named};
-ghost use Rattle.fux_text.specs.ReadBack.{NoteTextReadsBack, NoteTextsAreOfOne, NoteTextsAreRead, NoteTextsHaveNoFault, NoteTextsOrFaults, SingLinesAreRead, SingLinesReadBack};
+ghost use Rattle.fux_text.specs.ReadBack.{FaultsAreRead, NoteTextReadsBack, NoteTextsAreOfOne, NoteTextsAreRead, NoteTextsHaveNoFault, NoteTextsHaveOneFault, NoteTextsOrFaults, SingFaultsAreRead, SingLinesAreRead, SingLinesReadBack};
 ghost use Rattle.fux_text.specs.Relaxing.{rule_named, voices_named};
 
 /// A law, and nothing to run: a word that is written is read as what it was written of.
@@ -24,13 +24,17 @@ pub fn words_read_back()
 {}
 
 /// A law, and nothing to run: a text is read as an exercise just where its lines have the exercise's words, so it is of one
-/// exercise at most. Lines of a setting alone are read so, too.
+/// exercise at most; and a fault is told just where it is the text's first one, so there is one at most, and none where the
+/// text is of an exercise. Lines of a setting alone are read so, too.
 pub fn texts_are_read()
     ensures texts { NoteTextsAreRead }
     ensures each { NoteTextsOrFaults }
     ensures one { NoteTextsAreOfOne }
     ensures faultless { NoteTextsHaveNoFault }
+    ensures faults { FaultsAreRead }
+    ensures one_fault { NoteTextsHaveOneFault }
     ensures sing_lines { SingLinesAreRead }
+    ensures sing_faults { SingFaultsAreRead }
 {}
 
 /// A law, and nothing to run: the text that [`crate::write`] writes is a note text of its exercise with its setting, and

@@ -58,6 +58,14 @@ fn a_shelf_gives_the_bytes_of_its_files(rt: HostRuntime) -> Result<(), Fail> {
     Ok(())
 }
 
+/// How many bytes were read.
+fn length_of(read: Result<Vec<u8>, WholeFault>) -> Result<usize, WholeFault> {
+    match read {
+        Ok(bytes) => Ok(bytes.len()),
+        Err(fault) => Err(fault),
+    }
+}
+
 #[test]
 fn whole_files_within_the_limit_are_read(rt: HostRuntime) -> Result<(), Fail> {
     let long = vec![in rt.alloc(); 7u8; 40_000]?;
@@ -72,20 +80,16 @@ fn whole_files_within_the_limit_are_read(rt: HostRuntime) -> Result<(), Fail> {
     ];
     for (name, limit, want) in cases {
         let read = read_whole(rt.alloc(), &mut shelf, name, limit);
-        assert_eq!(rt;
-            read.map(|bytes| bytes.len()),
-            want,
-            "{name} within {limit}"
-        );
+        assert_eq!(rt; length_of(read), want, "{name} within {limit}");
     }
     let mut slow = MemShelf::with_piece(rt.alloc(), 7, &[])?;
     slow.put("long", &long)?;
     let read = read_whole(rt.alloc(), &mut slow, "long", 40_000);
-    assert_eq!(rt; read.map(|bytes| bytes.len()), Ok(40_000));
+    assert_eq!(rt; length_of(read), Ok(40_000));
     let mut failing = MemShelf::new(rt.alloc(), &[2])?;
     failing.put("long", &long)?;
     let read = read_whole(rt.alloc(), &mut failing, "long", 40_000);
-    assert_eq!(rt; read.map(|bytes| bytes.len()), Err(WholeFault::Failed));
+    assert_eq!(rt; length_of(read), Err(WholeFault::Failed));
     Ok(())
 }
 
@@ -93,7 +97,7 @@ fn whole_files_within_the_limit_are_read(rt: HostRuntime) -> Result<(), Fail> {
 fn a_file_without_end_is_given_up_at_the_limit(rt: HostRuntime) {
     let mut zeros = Zeros { given: 0 };
     let read = read_whole(rt.alloc(), &mut zeros, "zeros", 65_536);
-    assert_eq!(rt; read.map(|bytes| bytes.len()), Err(WholeFault::TooLong));
+    assert_eq!(rt; length_of(read), Err(WholeFault::TooLong));
     assert_eq!(rt; zeros.given, 65_537);
 }
 

@@ -18,7 +18,10 @@ fn pair(low: Cell, high: Cell) -> Column
 }
 
 fn span(note: Option<Note>) -> Option<(usize, usize)> {
-    note.map(|note| (note.start, note.len))
+    match note {
+        Some(note) => Some((note.start, note.len)),
+        None => None,
+    }
 }
 
 #[test]

@@ -2,13 +2,13 @@
 
 ghost use Rattle.std.specs.Prelude.{pos, negsuc, ◌≤ℤ◌};
 
+use crate::menus::is_shared;
 use fux_pitch::{
     Interval, Label, List, Memory, Mode, Pitch, final_letter, in_gamut, interval_of, is_consonant,
     is_imperfect, is_perfect, leading, name, parse_pitch, reduce, semitone, spell,
 };
 use std::alloc::Global;
 use std::test::Fail;
-use std::thread::{Threads, join};
 
 #[test]
 fn pitches_have_keys(rt: HostRuntime) {
@@ -32,11 +32,11 @@ fn pitches_have_keys(rt: HostRuntime) {
         (255, 0, None),
     ];
     for (degree, alter, key) in rows {
-        assert_eq!(rt;
-            Pitch::new(degree, alter).map(|pitch| semitone(pitch)),
-            key,
-            "degree {degree}, alteration {alter}"
-        );
+        let found = match Pitch::new(degree, alter) {
+            Some(pitch) => Some(semitone(pitch)),
+            None => None,
+        };
+        assert_eq!(rt; found, key, "degree {degree}, alteration {alter}");
     }
 }
 
@@ -223,29 +223,16 @@ fn made(alloc: Global) -> Result<(List<u8>, Label), Memory> {
     Ok((List::new(items), Label::new(String::from_str(alloc, "C4")?)))
 }
 
+/// Threads may share the values.
 #[test]
 fn lists_and_labels_hold_what_they_are_made_of(rt: HostRuntime) -> Result<(), Fail> {
     let (list, label) = made(rt.alloc())?;
     assert_eq!(rt; list.as_slice(), [7].as_slice());
     assert_eq!(rt; label.as_str(), "C4");
+    is_shared(&list);
+    is_shared(&label);
+    is_shared(&spell(60));
+    is_shared(&interval_of(spell(60).ok_or("no C4")?, spell(62).ok_or("no D4")?));
+    is_shared(&Mode::Dorian);
     Ok(())
-}
-
-/// The values of this crate, all in one.
-type Values = (List<Pitch>, Label, Pitch, Interval, Mode);
-
-/// Lends the values to another thread, which reads them. The type of `join` asks for values that threads may share.
-fn read_elsewhere<R: Threads>(rt: &R, lent: &Values) -> usize {
-    let (read, ()) = join(
-        rt,
-        || lent.0.as_slice().len() + lent.1.as_str().len(),
-        || (),
-    );
-    read
-}
-
-/// Gives the values to another thread, and takes them back.
-fn carry<R: Threads>(rt: &R, given: Values) -> Values {
-    let (back, ()) = join(rt, move || given, || ());
-    back
 }

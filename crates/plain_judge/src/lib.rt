@@ -5,8 +5,6 @@
 mod breaks;
 mod charges;
 mod place;
-#[cfg(test)]
-mod tests;
 
 pub use breaks::{newly_broken, settled_breaks};
 pub use charges::{newly_paid, settled_charges};

@@ -8,3 +8,4 @@ pub mod PartLemmas
 pub mod PatternReadings
 pub mod QuaverReadings
 pub mod ShapeSets
+pub mod ShapeLeft

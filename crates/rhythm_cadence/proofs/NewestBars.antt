@@ -38,7 +38,7 @@ newest_columns-more : (p : List (List Cell)) (col : List Cell) → newest_column
 newest_columns-more p col = ap (bar_columns (p ++ col ∷ [])) (newest_bar-more p col) ∙ bar_columns-newest p col
 
 -- within a bar the newest bar is the one that goes on
-newest_bar-within : (p : List (List Cell)) → (slot_of (length p) ≡ 0 → ⊥) → newest_bar p ≡ bar_of (length p)
+pub newest_bar-within : (p : List (List Cell)) → (slot_of (length p) ≡ 0 → ⊥) → newest_bar p ≡ bar_of (length p)
 newest_bar-within p h = within (length p) h
   where
     within : (n : ℕ) → (n % 8 ≡ 0 → ⊥) → (n - 1) / 8 + 1 ≡ n / 8 + 1

@@ -1,12 +1,16 @@
 //! The part of a state that reads bar shapes.
 
-ghost use Rattle.std.specs.Prelude.{◌≡◌, ◌==◌, ◌&&◌, ◌^◌, ◌<◌, ◌≤◌, ◌∷◌, ◌++◌, [], ℕ, List, length, nat_lt};
+ghost use Rattle.std.specs.Prelude.{◌≡◌, ◌==◌, ◌&&◌, ◌||◌, ◌^◌, ◌<◌, ◌≤◌, ◌∷◌, ◌++◌, [], ℕ, List, length, nat_lt, not, true};
+ghost use Rattle.std.specs.Bool.{OnTrue};
 ghost use Rattle.fux_grid.specs.declared.cell.Cell.{Cell};
 ghost use Rattle.fux_grid.specs.declared.exercise.Exercise.{Exercise};
 ghost use Rattle.fux_grid.specs.Cells.{cell_in};
-ghost use Rattle.fux_grid.specs.Exercises.{IsValid, columns_in};
+ghost use Rattle.fux_grid.specs.Exercises.{IsFree, IsValid, columns_in};
+ghost use Rattle.rule_law.specs.Bars as bars;
 ghost use Rattle.rule_law.specs.Places.{reading_of};
+ghost use Rattle.rule_law.specs.Rulebooks.{newly_breaks};
 ghost use Rattle.rule_law.specs.Voices as voices_words;
+ghost use Rattle.rhythm_cadence.specs.Book.{shape_rule};
 ghost use Rattle.rhythm_cadence.specs.Parts.{IsShapesOf, newest_start, shapes_after};
 ghost use Rattle.rhythm_cadence.specs.Rows.{broken_in};
 
@@ -43,6 +47,19 @@ fn kept(possible: u16, ex: &Exercise, i: usize, cell: Cell, v: u8) -> u16
     }
 }
 
+/// The same of a free voice of the exercise; nothing is meant of another.
+#[inline]
+fn kept_if_free(possible: u16, ex: &Exercise, i: usize, cell: Cell, v: u8) -> u16
+    requires valid { IsValid ex.now }
+    requires place { i < columns_in ex.now }
+    ensures { IsFree ex.now v → result ≡ shapes_after ex.now v i possible cell }
+{
+    if v >= ex.voices || !is_free(ex, v) {
+        return 0;
+    }
+    kept(possible, ex, i, cell, v)
+}
+
 /// The part with one more column, which stands at place i.
 pub fn noted(part: &BarShapes, ex: &Exercise, i: usize, col: &[Cell]) -> BarShapes
     requires valid { IsValid ex.now }
@@ -52,12 +69,39 @@ pub fn noted(part: &BarShapes, ex: &Exercise, i: usize, col: &[Cell]) -> BarShap
     let [first, second, third, fourth] = part.possible;
     BarShapes {
         possible: [
-            kept(first, ex, i, cell_of(col, 0), 0),
-            kept(second, ex, i, cell_of(col, 1), 1),
-            kept(third, ex, i, cell_of(col, 2), 2),
-            kept(fourth, ex, i, cell_of(col, 3), 3),
+            kept_if_free(first, ex, i, cell_of(col, 0), 0),
+            kept_if_free(second, ex, i, cell_of(col, 1), 1),
+            kept_if_free(third, ex, i, cell_of(col, 2), 2),
+            kept_if_free(fourth, ex, i, cell_of(col, 3), 3),
         ],
     }
+}
+
+/// Whether column `i` begins a bar, or some shapes are still possible before it.
+#[inline]
+fn has_begun_shapes(i: usize, possible: u16) -> bool
+    ensures { result ≡ (bars.begins_bar i || not (possible == 0)) }
+{
+    begins_bar(i) || possible != 0
+}
+
+/// Whether a free voice leaves the last of the shapes that it may still have in its bar with a cell at column `i`: then it breaks S3 in any
+/// column with that cell, and it didn't before.
+pub fn leaves_last_shape(part: &BarShapes, ex: &Exercise, i: usize, cell: Cell, v: u8) -> bool
+    requires voice { v < 4 }
+    requires valid { IsValid ex.now }
+    requires place { i < columns_in ex.now }
+    ensures { OnTrue result ((p : List (List Cell)) (col : List Cell) → length p ≡ i → IsShapesOf ex.now p part.now
+        → cell_in col v ≡ cell → newly_breaks shape_rule ex.now (2 ^ v) p col (newest_start (p ++ col ∷ [])) ≡ true) }
+{
+    if v >= ex.voices || !is_free(ex, v) {
+        return false;
+    }
+    let possible = part.possible[v as usize];
+    if !has_begun_shapes(i, possible) || kept(possible, ex, i, cell, v) != 0 {
+        return false;
+    }
+    true
 }
 
 /// Whether a free voice of the exercise has no shape left.

@@ -18,13 +18,18 @@ const SETTING: &str =
 /// is a line feed and `!` is `|`.
 fn cases() -> &'static str {
     "\
-compose A|@|0|@sing 1 D5:8 ! C#5:8 ! D5:8/; penalty 0/|
-compose A --budget 112|@|0|@sing 1 D5:8 ! C#5:8 ! D5:8/; penalty 0/|
-compose A --budget 4000000|@|0|@sing 1 D5:8 ! C#5:8 ! D5:8/; penalty 0/|
+compose A|@|0|@sing 1 D5:8 ! C#5:8 ! D5:8/; penalty 7/|
+compose A --budget 112|@|0|@sing 1 D5:8 ! C#5:8 ! D5:8/; penalty 7/|
+compose A --budget 4000000|@|0|@sing 1 D5:8 ! C#5:8 ! D5:8/; penalty 7/|
 compose A --budget 1|@|6|spent, at least 0/|
+compose A --budget 26|@|6|spent, at least 0/|
+compose A --budget 27|@|6|spent, at least 3/|
+compose A --budget 50|@|6|spent, at least 5/|
+compose A --budget 64|@|6|spent, at least 7/|
+compose A --budget 65|@|0|@sing 1 D5:8 ! C#5:8 ! D5:8/; penalty 7/|
 compose --budget=1 A|@|6|spent, at least 0/|
-compose -- A|@|0|@sing 1 D5:8 ! C#5:8 ! D5:8/; penalty 0/|
-compose A --|@|0|@sing 1 D5:8 ! C#5:8 ! D5:8/; penalty 0/|
+compose -- A|@|0|@sing 1 D5:8 ! C#5:8 ! D5:8/; penalty 7/|
+compose A --|@|0|@sing 1 D5:8 ! C#5:8 ! D5:8/; penalty 7/|
 compose A|fux 1/mode dorian/voices 2/bars 3/species 1 voice 1/cantus 0 D4 E4 D4/range 1 A4 B4/|1|none/|
 mark A|&B4:8 ! C5:8 ! C5:8 ! B4:8 ! D5:8 ! C#5:8 ! D5:8/|0|marks 0/|
 mark A|&D5:8 ! C5:8 ! C5:8 ! B4:8 ! D5:8 ! C#5:8 ! D5:8/|1|bar 5 slot 0 S16 voices 0 1/bar 5 slot 0 S17 voices 0 1/bar 6 slot 0 S16 voices 0 1/bar 6 slot 0 S17 voices 0 1/marks 4/|
@@ -67,7 +72,7 @@ compose A|@sing 1 D5:8 ! C#5:7 ! D5:8/|3||fux: A:8:21: length/
 compose A|@sing 1 D5:8 ! C#5:8 ! H5:8/|3||fux: A:8:23: pitch/
 compose A|fux 1/mode dorian/voices 2/bars 3/species 6 voice 1/cantus 0 D4 E4 D4/range 1 A4 D5/|3||fux: A:5:9: word/
 compose A|@range 1 A4 C5 2 2/|1|none/|
-compose A|fux 1/mode dorian/voices 2/bars 3/species 1 voice 0/cantus 1 D4 E4 D4/range 0 C4 D4/|0|fux 1/mode dorian/voices 2/bars 3/species 1 voice 0/cantus 1 D4 E4 D4/range 0 C4 D4/sing 0 D4:8 ! C#4:8 ! D4:8/; penalty 0/|"
+compose A|fux 1/mode dorian/voices 2/bars 3/species 1 voice 0/cantus 1 D4 E4 D4/range 0 C4 D4/|0|fux 1/mode dorian/voices 2/bars 3/species 1 voice 0/cantus 1 D4 E4 D4/range 0 C4 D4/sing 0 D4:8 ! C#4:8 ! D4:8/; penalty 7/|"
 }
 
 /// A field with what its signs stand for.

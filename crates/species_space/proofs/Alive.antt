@@ -1,6 +1,5 @@
 -- What a step reads of a column that comes after a live path is exact, since its prefix is orderly.
-use Rattle.std.proofs.Common.{◌≡◌, ℕ, ◌+◌, ◌<◌, ◌≤◌, Bool, true, ◌&&◌, List, [], ◌∷◌, ◌++◌, length, reverse, slice_index_or, refl, sym, ◌∙◌, subst, inl, inr, arith}
-use Rattle.std.specs.List.{list_any}
+use Rattle.std.proofs.Common.{◌≡◌, ℕ, ◌+◌, ◌<◌, ◌≤◌, true, List, [], ◌∷◌, ◌++◌, length, reverse, slice_index_or, sym, subst, inl, inr, arith}
 use Rattle.std.proofs.Math.ListN.{get_or-append}
 use Rattle.std.proofs.Math.Seq.{get_or-append_seam}
 use Rattle.std.proofs.lemmas.Bool.{cases_lt}
@@ -12,14 +11,11 @@ use Rattle.fux_grid.specs.Columns.{ColumnFollows, HistoryFollows, newest_column}
 use Rattle.fux_grid.specs.Exercises.{columns_in}
 use Rattle.fux_grid.specs.Menus.{IsInMenu, menu_of}
 use Rattle.fux_grid.proofs.Histories.{reverse-push}
-use Rattle.rule_law.specs.Growth.{list_any-same}
 use Rattle.rule_law.specs.Prefixes.{GoesOn, IsPrefix}
 use Rattle.fux_judge.specs.Alive.{alive_orderly}
-use Rattle.fux_judge.specs.Lawful.{IsLive}
-use Rattle.fux_judge.specs.Rules.{rules_read, is_read}
 use Rattle.species_space.specs.Exact.{menus_are_exact}
-use Rattle.species_space.specs.Leaves.{prefix_is_live}
-use Rattle.species_space.specs.Paths.{column_at, is_live_path, length-columns_on, prefix_at, width_at}
+use Rattle.species_space.specs.Leaves.{prefix_is_alive}
+use Rattle.species_space.specs.Paths.{column_at, is_alive_path, length-columns_on, prefix_at, width_at}
 
 -- a prefix with a column more
 prefix_with : (ex : Exercise) (p : List (List Cell)) (col : List Cell) → IsPrefix ex p → length p < columns_in ex → IsInMenu ex (length p) col → ColumnFollows (newest_column (reverse p)) col → IsPrefix ex (p ++ col ∷ [])
@@ -40,9 +36,9 @@ prefix_with ex p col prefix room menu follows =
     }
 
 -- a column of the menu that follows a live path's prefix goes on from an orderly one
-pub goes_on_from : (ex : Exercise) (path : List ℕ) (k : ℕ) → ex.voices ≤ 4 → is_live_path ex path ≡ true → length path < columns_in ex → k < width_at ex path → ColumnFollows (newest_column (reverse (prefix_at ex path))) (column_at ex path k) → GoesOn ex (prefix_at ex path) (column_at ex path k ∷ [])
+pub goes_on_from : (ex : Exercise) (path : List ℕ) (k : ℕ) → ex.voices ≤ 4 → is_alive_path ex path ≡ true → length path < columns_in ex → k < width_at ex path → ColumnFollows (newest_column (reverse (prefix_at ex path))) (column_at ex path k) → GoesOn ex (prefix_at ex path) (column_at ex path k ∷ [])
 goes_on_from ex path k few live room within follows =
-    let alive = prefix_is_live ex (menus_are_exact ex) path live in
+    let alive = prefix_is_alive ex (menus_are_exact ex) path live in
     let size : length (prefix_at ex path) ≡ length path = length-columns_on ex 0 path in
     let M : ℕ → Type 0 = λ n. IsInMenu ex n (column_at ex path k) in
     record {
@@ -52,11 +48,3 @@ goes_on_from ex path k few live room within follows =
           (subst M (sym size) ((menus_are_exact ex (length path)).only (column_at ex path k) (Contains-get_or (menu_of ex (length path)) k [] within)))
           follows;
     }
-
-read_only : (f : ℕ → Bool) → list_any (λ r. is_read r && f r) rules_read ≡ list_any f rules_read
-unfolding rules_read
-read_only f = refl
-
--- a set that has exactly the rules read that pass a test has one of those read where one passes
-pub any_read : (has f : ℕ → Bool) → ((r : ℕ) → has r ≡ (is_read r && f r)) → list_any has rules_read ≡ list_any f rules_read
-any_read has f h = list_any-same has (λ r. is_read r && f r) rules_read h ∙ read_only f

@@ -1,21 +1,30 @@
--- Which children of a live path are live.
+-- Which children of an alive path are live, and which are no better than the best leaf so far.
 use Rattle.std.specs.Prelude.{IsSomeAnd}
-use Rattle.std.proofs.Common.{◌≡◌, ◌+◌, ◌≤◌, ◌⊎◌, inl, inr, Option, Some, subst, ℕ, ◌<◌, Bool, true, false, not, ◌&&◌, nat_lt, nat_le, List, [], ◌∷◌, ◌++◌, None, length, reverse, refl, sym, ◌∙◌, true≢false, arith}
+use Rattle.std.proofs.Common.{◌≡◌, ◌+◌, ◌≤◌, Option, Some, None, ℕ, ◌<◌, Bool, true, false, not, ◌&&◌, nat_lt, nat_le, List, [], ◌∷◌, ◌++◌, length, reverse, refl, ap, sym, ◌∙◌, subst, true≢false, arith}
 use Rattle.std.specs.List.{list_any}
 use Rattle.std.proofs.lemmas.Bool.Decides.{nat_tests}
 use Rattle.fux_grid.specs.declared.cell.Cell.{Cell}
 use Rattle.fux_grid.specs.declared.exercise.Exercise.{Exercise}
 use Rattle.fux_grid.specs.Columns.{newest_column, ColumnFollows}
-use Rattle.fux_grid.specs.Exercises.{columns_in}
-use Rattle.rule_law.specs.Law.{test_from_below}
+use Rattle.fux_grid.specs.Exercises.{IsValid, columns_in}
+use Rattle.rule_law.specs.Law.{both_true, test_from_below}
+use Rattle.rule_law.specs.Prefixes.{IsPrefix}
 use Rattle.penalty_sheet.specs.declared.sheet.Sheet.{Sheet}
+use Rattle.fux_judge.specs.Gauges.{least_of}
+use Rattle.fux_judge.specs.Grows.{paid_grows}
+use Rattle.fux_judge.specs.Least.{least_grows}
 use Rattle.fux_judge.specs.Rules.{rules_read}
 use Rattle.fux_judge.specs.Penalties.{newly_broken, newly_paid, paid}
+use Rattle.floor_tables.specs.Floors.{rest_of}
+use Rattle.floor_tables.specs.Tables.{IsRest}
+use Rattle.floor_tables.proofs.RestLemmas.{rest_is}
 use Rattle.species_space.specs.declared.node.Node.{Node}
-use Rattle.species_space.specs.Grows.{live_none, live_value, paid_on}
-use Rattle.species_space.specs.Leaves.{follows_from_test, test_from_follows}
+use Rattle.species_space.specs.Exact.{menus_are_exact}
+use Rattle.species_space.specs.Grows.{live_none, live_some, live_value}
+use Rattle.species_space.specs.Leaves.{follows_from_test, prefix_is_alive, test_from_follows}
+use Rattle.species_space.specs.FloorLaws.{floor_parts, no_floor}
 use Rattle.species_space.specs.Nodes.{IsNodeOf}
-use Rattle.species_space.specs.Paths.{IsPassedAfter, prefix_at, column_at, width_at, column_follows, is_live_path, live_at, live_goes_on, live_from_parts, length-columns_on}
+use Rattle.species_space.specs.Paths.{IsNoBetter, prefix_at, column_at, width_at, column_follows, is_alive_path, live_at, alive_goes_on, alive_from_parts, length-columns_on, prefix_at-append}
 
 third_false : (a b c d : Bool) → c ≡ false → (a && b && c && d) ≡ false
 third_false true true c d e = rw e refl
@@ -35,13 +44,18 @@ all_four a b c d e f g h = rw (e, f, g, h) refl
 pub as_long : (ex : Exercise) (sheet : Sheet) (node : Node) (path : List ℕ) → IsNodeOf ex sheet node path → node.state.newest.len ≡ length path
 as_long ex sheet node path at = at.state.newest.count ∙ length-columns_on ex 0 path
 
-module _ (ex : Exercise) (path : List ℕ) (k : ℕ) (live : is_live_path ex path ≡ true) where
+-- what is at most one number is at most a greater one
+pub some_lower : (best : Option ℕ) (n m : ℕ) → n ≤ m → IsSomeAnd best (λ value. value ≤ n) → IsSomeAnd best (λ value. value ≤ m)
+some_lower None n m h is = is
+some_lower (Some value) n m h is = omega (arith, h, is)
+
+module _ (ex : Exercise) (path : List ℕ) (k : ℕ) (alive : is_alive_path ex path ≡ true) where
   abbrev before : List Cell
   before = newest_column (reverse (prefix_at ex path))
 
   -- one whose column doesn't follow is dead
   pub strays : (sheet : Sheet) → (ColumnFollows before (column_at ex path k) → ⊥) → live_at ex sheet (path ++ k ∷ []) ≡ None
-  strays sheet h = live_none ex sheet (path ++ k ∷ []) (live_goes_on ex path k live ∙ third_false (nat_lt (length path) (columns_in ex)) (nat_lt k (width_at ex path)) (column_follows before (column_at ex path k)) _ (at (column_follows before (column_at ex path k)) refl))
+  strays sheet h = live_none ex sheet (path ++ k ∷ []) (alive_goes_on ex path k alive ∙ third_false (nat_lt (length path) (columns_in ex)) (nat_lt k (width_at ex path)) (column_follows before (column_at ex path k)) _ (at (column_follows before (column_at ex path k)) refl))
     where
       at : (b : Bool) → column_follows before (column_at ex path k) ≡ b → b ≡ false
       at true e = absurd (h (follows_from_test before (column_at ex path k) e))
@@ -49,37 +63,81 @@ module _ (ex : Exercise) (path : List ℕ) (k : ℕ) (live : is_live_path ex pat
 
   -- one that settles a strict break is dead
   pub breaks : (sheet : Sheet) → list_any (newly_broken ex (prefix_at ex path) (column_at ex path k)) rules_read ≡ true → live_at ex sheet (path ++ k ∷ []) ≡ None
-  breaks sheet h = live_none ex sheet (path ++ k ∷ []) (live_goes_on ex path k live ∙ last_false (nat_lt (length path) (columns_in ex)) (nat_lt k (width_at ex path)) (column_follows before (column_at ex path k)) _ h)
+  breaks sheet h = live_none ex sheet (path ++ k ∷ []) (alive_goes_on ex path k alive ∙ last_false (nat_lt (length path) (columns_in ex)) (nat_lt k (width_at ex path)) (column_follows before (column_at ex path k)) _ h)
 
-  -- one that is passed over is dead, or no better than the best leaf
-  pub no_better : (sheet : Sheet) (best : Option ℕ) (floor : ℕ) → IsPassedAfter ex sheet (prefix_at ex path) best (column_at ex path k) → live_at ex sheet (path ++ k ∷ []) ≡ Some floor → IsSomeAnd best (λ value. value ≤ floor)
-  no_better sheet best floor passed there = at (column_follows before (column_at ex path k)) refl
-    where
-      own : paid ex sheet (prefix_at ex path) + newly_paid ex sheet (prefix_at ex path) (column_at ex path k) ≡ floor
-      own = sym (paid_on ex sheet path k) ∙ (live_value ex sheet (path ++ k ∷ []) floor there).1
-
-      not_both : (o : Option ℕ) → o ≡ None → o ≡ Some floor → IsSomeAnd best (λ value. value ≤ floor)
-      not_both None e f = cc
-      not_both (Some n) e f = cc
-
-      after : (list_any (newly_broken ex (prefix_at ex path) (column_at ex path k)) rules_read ≡ true) ⊎ IsSomeAnd best (λ value. value ≤ paid ex sheet (prefix_at ex path) + newly_paid ex sheet (prefix_at ex path) (column_at ex path k)) → IsSomeAnd best (λ value. value ≤ floor)
-      after (inl broken) = not_both (live_at ex sheet (path ++ k ∷ [])) (breaks sheet broken) there
-      after (inr costly) = subst (λ n. IsSomeAnd best (λ value. value ≤ n)) own costly
-
-      at : (b : Bool) → column_follows before (column_at ex path k) ≡ b → IsSomeAnd best (λ value. value ≤ floor)
-      at true e = after (passed (follows_from_test before (column_at ex path k) e))
-      at false e = not_both (live_at ex sheet (path ++ k ∷ [])) (strays sheet (λ follows. true≢false (sym (test_from_follows before (column_at ex path k) follows) ∙ e))) there
-
-  -- every other one is live
-  pub goes : length path < columns_in ex → k < width_at ex path → ColumnFollows before (column_at ex path k) → list_any (newly_broken ex (prefix_at ex path) (column_at ex path k)) rules_read ≡ false → is_live_path ex (path ++ k ∷ []) ≡ true
+  -- every other one is alive
+  pub goes : length path < columns_in ex → k < width_at ex path → ColumnFollows before (column_at ex path k) → list_any (newly_broken ex (prefix_at ex path) (column_at ex path k)) rules_read ≡ false → is_alive_path ex (path ++ k ∷ []) ≡ true
   goes room within follows unbroken =
-      live_goes_on ex path k live
+      alive_goes_on ex path k alive
       ∙ all_four (nat_lt (length path) (columns_in ex)) (nat_lt k (width_at ex path)) (column_follows before (column_at ex path k)) _
       (test_from_below (length path) (columns_in ex) room) (test_from_below k (width_at ex path) within) (test_from_follows before (column_at ex path k) follows) unbroken
 
--- the empty path is live
-pub begun_live : (ex : Exercise) → is_live_path ex [] ≡ true
-begun_live ex = live_from_parts ex [] record { room = least (columns_in ex); menus = refl; follows = refl; alive = refl }
+  module _ (sheet : Sheet) where
+    not_both : (o : Option ℕ) (floor : ℕ) → o ≡ None → o ≡ Some floor → ⊥
+    not_both None floor e f = cc
+    not_both (Some n) floor e f = cc
+
+    -- a dead one is no better
+    pub no_better_if_dead : (best : Option ℕ) → (ColumnFollows before (column_at ex path k) → list_any (newly_broken ex (prefix_at ex path) (column_at ex path k)) rules_read ≡ true) → IsNoBetter ex sheet path best k
+    no_better_if_dead best dead floor there = at (column_follows before (column_at ex path k)) refl
+      where
+        at : (b : Bool) → column_follows before (column_at ex path k) ≡ b → IsSomeAnd best (λ value. value ≤ floor)
+        at true e = absurd (not_both (live_at ex sheet (path ++ k ∷ [])) floor (breaks sheet (dead (follows_from_test before (column_at ex path k) e))) there)
+        at false e = absurd (not_both (live_at ex sheet (path ++ k ∷ [])) floor (strays sheet (λ follows. true≢false (sym (test_from_follows before (column_at ex path k) follows) ∙ e))) there)
+
+    -- the rest of its prefix is that of its column
+    pub rest_there : (rest : Option ℕ) → length path < columns_in ex → IsRest ex sheet (length path) (column_at ex path k) rest → rest ≡ rest_of ex sheet (prefix_at ex (path ++ k ∷ []))
+    rest_there rest room is =
+        let size : length (prefix_at ex path) ≡ length path = length-columns_on ex 0 path in
+        rest_is ex sheet (prefix_at ex path) (column_at ex path k) rest (omega (arith, size, room)) (subst (λ n. IsRest ex sheet n (column_at ex path k) rest) (sym size) is)
+        ∙ sym (ap (rest_of ex sheet) (prefix_at-append ex path k))
+
+    -- one without a rest is dead
+    pub ends : rest_of ex sheet (prefix_at ex (path ++ k ∷ [])) ≡ None → live_at ex sheet (path ++ k ∷ []) ≡ None
+    ends none = at (is_alive_path ex (path ++ k ∷ [])) refl
+      where
+        at : (b : Bool) → is_alive_path ex (path ++ k ∷ []) ≡ b → live_at ex sheet (path ++ k ∷ []) ≡ None
+        at true e = live_some ex sheet (path ++ k ∷ []) e ∙ no_floor ex sheet (prefix_at ex (path ++ k ∷ [])) none
+        at false e = live_none ex sheet (path ++ k ∷ []) e
+
+    -- what a live one costs at least
+    pub record Costs (floor : ℕ) : Type 0 where
+      pub rest : ℕ
+      pub is_rest : rest_of ex sheet (prefix_at ex (path ++ k ∷ [])) ≡ Some rest
+      pub low : paid ex sheet (prefix_at ex path) + newly_paid ex sheet (prefix_at ex path) (column_at ex path k) + least_of ex sheet (prefix_at ex path) + rest ≤ floor
+
+    pub costs : (floor : ℕ) → live_at ex sheet (path ++ k ∷ []) ≡ Some floor → Costs floor
+    costs floor there =
+        let p = prefix_at ex path in
+        let col = column_at ex path k in
+        let own = live_value ex sheet (path ++ k ∷ []) floor there in
+        let parts = floor_parts ex sheet (prefix_at ex (path ++ k ∷ [])) floor own.1 in
+        let next : prefix_at ex (path ++ k ∷ []) ≡ p ++ col ∷ [] = prefix_at-append ex path k in
+        let longer : IsPrefix ex (p ++ col ∷ []) = subst (λ q. IsPrefix ex q) next (prefix_is_alive ex (menus_are_exact ex) (path ++ k ∷ []) own.0).prefix in
+        let more = least_grows ex sheet p col longer in
+        let pays : paid ex sheet (prefix_at ex (path ++ k ∷ [])) ≡ paid ex sheet p + newly_paid ex sheet p col = ap (paid ex sheet) next ∙ paid_grows ex p col sheet in
+        let lines : least_of ex sheet (prefix_at ex (path ++ k ∷ [])) ≡ least_of ex sheet (p ++ col ∷ []) = ap (least_of ex sheet) next in
+        record { rest = parts.rest; is_rest = parts.is_rest; low = sum_of _ _ _ _ _ _ parts.rest floor parts.sum pays lines more }
+      where
+        sum_of : (a b c d e f rest floor : ℕ) → a + b + rest ≡ floor → a ≡ c + d → b ≡ e → f ≤ e → c + d + f + rest ≤ floor
+        sum_of a b c d e f rest floor s p l m = omega (arith, s, p, l, m)
+
+    -- one that costs too much is no better
+    pub no_better_if_costly : (best : Option ℕ) → IsSomeAnd best (λ value. value ≤ paid ex sheet (prefix_at ex path) + least_of ex sheet (prefix_at ex path) + newly_paid ex sheet (prefix_at ex path) (column_at ex path k)) → IsNoBetter ex sheet path best k
+    no_better_if_costly best costly floor there =
+        let all = costs floor there in
+        some_lower best _ floor (omega (arith, all.low)) costly
+
+    -- one without a rest is no better, nor is one whose rest costs too much
+    pub no_better_by_rest : (rest best : Option ℕ) → length path < columns_in ex → IsRest ex sheet (length path) (column_at ex path k) rest
+        → ((x : ℕ) → rest ≡ Some x → IsSomeAnd best (λ value. value ≤ paid ex sheet (prefix_at ex path) + least_of ex sheet (prefix_at ex path) + x)) → IsNoBetter ex sheet path best k
+    no_better_by_rest rest best room is costly floor there =
+        let all = costs floor there in
+        some_lower best _ floor (omega (arith, all.low)) (costly all.rest (rest_there rest room is ∙ all.is_rest))
+
+-- the empty path is alive
+pub begun_alive : (ex : Exercise) → IsValid ex → is_alive_path ex [] ≡ true
+begun_alive ex valid = alive_from_parts ex [] record { voices = both_true (nat_le ex.voices 4) (nat_lt ex.cantus_voice ex.voices) (test ex.voices 4 valid.most_voices) (test_from_below ex.cantus_voice ex.voices valid.cantus_there); room = test 0 (columns_in ex) (omega arith); menus = refl; follows = refl; alive = refl }
   where
-    least : (n : ℕ) → nat_le 0 n ≡ true
-    least n = grind (arith, nat_tests)
+    test : (n m : ℕ) → n ≤ m → nat_le n m ≡ true
+    test n m h = grind (arith, nat_tests)

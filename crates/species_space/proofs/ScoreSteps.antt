@@ -1,5 +1,5 @@
 -- Each column of a live path may be pushed behind those before it (`column_fits`).
-use Rattle.std.proofs.Common.{◌≡◌, ℕ, zero, suc, ◌+◌, ◌<◌, ◌≤◌, true, List, [], ◌∷◌, length, reverse, take, slice_index_or, refl, sym, ap, ◌∙◌, subst, arith}
+use Rattle.std.proofs.Common.{◌≡◌, ℕ, zero, suc, ◌+◌, ◌<◌, true, List, [], ◌∷◌, length, reverse, take, slice_index_or, refl, sym, ap, ◌∙◌, subst, arith}
 use Rattle.std.proofs.lemmas.List.{take_all, length-take-le}
 use Rattle.fux_grid.specs.declared.cell.Cell.{Cell}
 use Rattle.fux_grid.specs.declared.exercise.Exercise.{Exercise}
@@ -8,8 +8,8 @@ use Rattle.fux_grid.specs.Exercises.{columns_in}
 use Rattle.fux_grid.specs.Menus.{menu_of}
 use Rattle.fux_grid.proofs.NoteLemmas.{follows-at}
 use Rattle.species_space.specs.Exact.{menus_are_exact}
-use Rattle.species_space.specs.Leaves.{prefix_is_live}
-use Rattle.species_space.specs.Paths.{columns_on, prefix_at, is_live_path, length-columns_on}
+use Rattle.species_space.specs.Leaves.{prefix_is_alive}
+use Rattle.species_space.specs.Paths.{columns_on, prefix_at, is_alive_path, length-columns_on}
 
 -- the column that a path chooses at a place
 abbrev pub chosen_column : Exercise → List ℕ → ℕ → List Cell
@@ -36,12 +36,12 @@ pub record Fits (ex : Exercise) (before : List (List Cell)) (col : List Cell) : 
   pub full : length col ≡ ex.voices
   pub follows : ColumnFollows (newest_column (reverse before)) col
 
-pub column_fits : (ex : Exercise) (path : List ℕ) → is_live_path ex path ≡ true → (i : ℕ) → i < length path
+pub column_fits : (ex : Exercise) (path : List ℕ) → is_alive_path ex path ≡ true → (i : ℕ) → i < length path
     → Fits ex (prefix_at ex (take i path)) (chosen_column ex path i)
 unfolding earlier
 column_fits ex path h i within =
     let s = prefix_at ex path in
-    let live = prefix_is_live ex (menus_are_exact ex) path h in
+    let live = prefix_is_alive ex (menus_are_exact ex) path h in
     let size : length s ≡ length path = length-columns_on ex 0 path in
     let e : 0 + i ≡ i = omega arith in
     let col : slice_index_or s i [] ≡ chosen_column ex path i =

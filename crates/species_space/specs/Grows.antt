@@ -1,31 +1,37 @@
--- Counterpoint is a tree whose floors don't fall.
-use Rattle.std.specs.Prelude.{◌≡◌, ℕ, ◌+◌, ◌<◌, Bool, true, false, ◌&&◌, nat_lt, List, [], ◌∷◌, ◌++◌, Some, None, length, if◌then◌else◌, refl}
-use Rattle.std.proofs.Common.{ap, sym, ◌∙◌, arith}
+-- Counterpoint is a tree whose floors don't fall (`paths_grow`).
+use Rattle.std.specs.Prelude.{◌≡◌, ℕ, ◌<◌, ◌≤◌, Bool, true, false, ◌&&◌, nat_lt, nat_le, List, [], ◌∷◌, ◌++◌, Option, Some, None, IsSomeAnd, length, if◌then◌else◌, refl}
+use Rattle.std.proofs.Common.{ap, sym, ◌∙◌, subst, arith}
+use Rattle.std.proofs.lemmas.Bool.Decides.{nat_tests}
+use Rattle.fux_grid.specs.declared.cell.Cell.{Cell}
 use Rattle.fux_grid.specs.declared.exercise.Exercise.{Exercise}
 use Rattle.fux_grid.specs.Exercises.{columns_in}
-use Rattle.rule_law.specs.Law.{below_from_test}
+use Rattle.rule_law.specs.Law.{below_from_test, first_true, second_true}
 use Rattle.penalty_sheet.specs.declared.sheet.Sheet.{Sheet}
-use Rattle.fux_judge.specs.Penalties.{newly_paid, paid}
-use Rattle.fux_judge.specs.Grows.{paid_grows}
-use Rattle.tree_search.specs.Space.{FloorsGrow}
-use Rattle.species_space.specs.Paths.{prefix_at, column_at, is_live_path, goes_on, live_at, width_at, live_goes_on, live_parent, prefix_at-append}
+use Rattle.fux_judge.specs.Lawful.{IsAlive}
+use Rattle.floor_tables.specs.Floors.{floor_of}
+use Rattle.tree_search.specs.Space.{FloorsGrow, IsParent}
+use Rattle.species_space.specs.Exact.{menus_are_exact}
+use Rattle.species_space.specs.FloorLaws.{floor_grows}
+use Rattle.species_space.specs.Leaves.{prefix_is_alive}
+use Rattle.species_space.specs.Paths.{prefix_at, column_at, is_alive_path, goes_on, live_at, width_at, alive_parts, alive_goes_on, alive_parent, prefix_at-append}
 
--- a chosen value is there where the test holds
-chosen : {A : Type 0} (b : Bool) (x y : A) → (if b then Some x else None) ≡ Some y → (b ≡ true) × (x ≡ y)
-chosen true x y h = (refl, cc)
+-- what is chosen is there where the test holds
+chosen : (b : Bool) (x : Option ℕ) (y : ℕ) → (if b then x else None) ≡ Some y → (b ≡ true) × (x ≡ Some y)
+chosen true x y h = (refl, h)
 chosen false x y h = cc
 
-pub live_value : (ex : Exercise) (sheet : Sheet) (path : List ℕ) (value : ℕ) → live_at ex sheet path ≡ Some value → (is_live_path ex path ≡ true) × (paid ex sheet (prefix_at ex path) ≡ value)
+pub live_value : (ex : Exercise) (sheet : Sheet) (path : List ℕ) (value : ℕ) → live_at ex sheet path ≡ Some value
+    → (is_alive_path ex path ≡ true) × (floor_of ex sheet (prefix_at ex path) ≡ Some value)
 unfolding live_at
-live_value ex sheet path value h = chosen (is_live_path ex path) (paid ex sheet (prefix_at ex path)) value h
+live_value ex sheet path value h = chosen (is_alive_path ex path) (floor_of ex sheet (prefix_at ex path)) value h
 
-pub live_some : (ex : Exercise) (sheet : Sheet) (path : List ℕ) → is_live_path ex path ≡ true → live_at ex sheet path ≡ Some (paid ex sheet (prefix_at ex path))
+pub live_some : (ex : Exercise) (sheet : Sheet) (path : List ℕ) → is_alive_path ex path ≡ true → live_at ex sheet path ≡ floor_of ex sheet (prefix_at ex path)
 unfolding live_at
-live_some ex sheet path h = ap (λ b. if b then Some (paid ex sheet (prefix_at ex path)) else None) h
+live_some ex sheet path h = ap (λ b. if b then floor_of ex sheet (prefix_at ex path) else None) h
 
-pub live_none : (ex : Exercise) (sheet : Sheet) (path : List ℕ) → is_live_path ex path ≡ false → live_at ex sheet path ≡ None
+pub live_none : (ex : Exercise) (sheet : Sheet) (path : List ℕ) → is_alive_path ex path ≡ false → live_at ex sheet path ≡ None
 unfolding live_at
-live_none ex sheet path h = ap (λ b. if b then Some (paid ex sheet (prefix_at ex path)) else None) h
+live_none ex sheet path h = ap (λ b. if b then floor_of ex sheet (prefix_at ex path) else None) h
 
 -- the tests of one step
 pub record GoesOn (ex : Exercise) (path : List ℕ) (k : ℕ) : Type 0 where
@@ -40,18 +46,37 @@ goes_on_parts ex path k h = five (nat_lt (length path) (columns_in ex)) (nat_lt 
     five true false c d h e f = cc
     five false b c d h e f = cc
 
-pub paid_on : (ex : Exercise) (sheet : Sheet) (path : List ℕ) (k : ℕ) → paid ex sheet (prefix_at ex (path ++ k ∷ [])) ≡ paid ex sheet (prefix_at ex path) + newly_paid ex sheet (prefix_at ex path) (column_at ex path k)
-paid_on ex sheet path k = ap (paid ex sheet) (prefix_at-append ex path k) ∙ paid_grows ex (prefix_at ex path) (column_at ex path k) sheet
+four_at_most : (n : ℕ) → nat_le n 4 ≡ true → n ≤ 4
+four_at_most n h = grind (arith, nat_tests)
 
+-- an exercise with an alive path has at most four voices, one of which has the cantus
+at_most_four : (ex : Exercise) (path : List ℕ) → is_alive_path ex path ≡ true → ex.voices ≤ 4
+at_most_four ex path h =
+    four_at_most ex.voices (first_true (nat_le ex.voices 4) (nat_lt ex.cantus_voice ex.voices) (alive_parts ex path h).voices)
+
+cantus_among : (ex : Exercise) (path : List ℕ) → is_alive_path ex path ≡ true → ex.cantus_voice < ex.voices
+cantus_among ex path h =
+    below_from_test ex.cantus_voice ex.voices (second_true (nat_le ex.voices 4) (nat_lt ex.cantus_voice ex.voices) (alive_parts ex path h).voices)
+
+-- the parent of a live path is live, and its floor is no higher
 pub paths_grow : (ex : Exercise) (sheet : Sheet) → FloorsGrow (live_at ex sheet) (width_at ex) (columns_in ex)
 paths_grow ex sheet path k floor h =
     let here = live_value ex sheet (path ++ k ∷ []) floor h in
-    let before = live_parent ex path k here.0 in
-    let steps = goes_on_parts ex path k (sym (live_goes_on ex path k before) ∙ here.0) in
-    record {
-      own_floor = paid ex sheet (prefix_at ex path);
-      is_live = live_some ex sheet path before;
-      no_higher = omega (arith, paid_on ex sheet path k, here.1);
+    let before = alive_parent ex path k here.0 in
+    let steps = goes_on_parts ex path k (sym (alive_goes_on ex path k before) ∙ here.0) in
+    let A : List (List Cell) → Type 0 = λ p. IsAlive ex p in
+    let alive = subst A (prefix_at-append ex path k) (prefix_is_alive ex (menus_are_exact ex) (path ++ k ∷ []) here.0) in
+    let grown = floor_grows ex sheet (prefix_at ex path) (column_at ex path k) (at_most_four ex path before) (cantus_among ex path before) alive floor
+    (sym (ap (floor_of ex sheet) (prefix_at-append ex path k)) ∙ here.1) in
+    parent steps before (floor_of ex sheet (prefix_at ex path)) refl grown
+  where
+    parent : GoesOn ex path k → is_alive_path ex path ≡ true → (own : Option ℕ) → floor_of ex sheet (prefix_at ex path) ≡ own
+        → IsSomeAnd own (λ value. value ≤ floor) → IsParent (live_at ex sheet) (width_at ex) (columns_in ex) path k floor
+    parent steps before None e low = absurd low
+    parent steps before (Some own) e low = record {
+      own_floor = own;
+      is_live = live_some ex sheet path before ∙ e;
+      no_higher = low;
       within = steps.within;
       above = steps.above;
     }

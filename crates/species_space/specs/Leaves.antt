@@ -1,4 +1,5 @@
--- Live paths are live prefixes, and leaves are lawful settings, in reading order.
+-- Alive paths lead to the prefixes in which no strict break is settled (`prefix_is_alive`), and each of these is at the end of one
+-- (`path_to_alive`).
 use Rattle.std.specs.Prelude.{◌≡◌, ℕ, zero, suc, ◌+◌, ◌<◌, ◌≤◌, Bool, true, false, not, nat_lt, nat_le, List, [], ◌∷◌, IsTrue, Contains, length, reverse, slice_index_or, refl}
 use Rattle.std.specs.List.{AllPairs}
 use Rattle.std.proofs.Common.{ap, sym, ◌∙◌, subst, arith}
@@ -10,15 +11,15 @@ use Rattle.fux_grid.specs.declared.cell.Cell.TheVariants.{Rest}
 use Rattle.fux_grid.specs.declared.exercise.Exercise.{Exercise}
 use Rattle.fux_grid.specs.Cells.{cell_in, cell_follows}
 use Rattle.fux_grid.specs.Columns.{newest_column, ColumnFollows, HistoryFollows}
-use Rattle.fux_grid.specs.Exercises.{columns_in}
+use Rattle.fux_grid.specs.Exercises.{IsValid, columns_in}
 use Rattle.fux_grid.specs.Menus.{menu_of, IsInMenu}
 use Rattle.fux_grid.specs.Order.{column_order}
 use Rattle.rule_law.specs.Growth.{any_below}
 use Rattle.rule_law.specs.Law.{first_true, second_true, both_true, below_from_test, test_from_below}
 use Rattle.fux_judge.specs.Penalties.{has_strict_break}
 use Rattle.fux_judge.specs.Ends.{none_below, from_none_below}
-use Rattle.fux_judge.specs.Lawful.{IsLive}
-use Rattle.species_space.specs.Paths.{columns_on, prefix_at, is_in_menus, column_follows, history_follows, is_live_path, live_parts, live_from_parts, length-columns_on}
+use Rattle.fux_judge.specs.Lawful.{IsAlive}
+use Rattle.species_space.specs.Paths.{columns_on, prefix_at, is_in_menus, column_follows, history_follows, is_alive_path, alive_parts, alive_from_parts, length-columns_on}
 
 not_false : (b : Bool) → not b ≡ false → IsTrue b
 not_false true h = refl
@@ -72,11 +73,11 @@ pub record LeadsTo (ex : Exercise) (i : ℕ) (p : List (List Cell)) : Type 0 whe
   pub there : columns_on ex i path ≡ p
   pub menus : is_in_menus ex i path ≡ true
 
--- a live path to a prefix
+-- an alive path to a prefix
 pub record PathTo (ex : Exercise) (p : List (List Cell)) : Type 0 where
   pub path : List ℕ
   pub there : prefix_at ex path ≡ p
-  pub is_live : is_live_path ex path ≡ true
+  pub alive : is_alive_path ex path ≡ true
 
 module _ (ex : Exercise) (exact : (i : ℕ) → IsExactMenu ex i) where
   in_its_menu : (i : ℕ) (path : List ℕ) → is_in_menus ex i path ≡ true → (j : ℕ) → j < length path → Contains (menu_of ex (i + j)) (slice_index_or (columns_on ex i path) j [])
@@ -91,10 +92,10 @@ module _ (ex : Exercise) (exact : (i : ℕ) → IsExactMenu ex i) where
       let P : ℕ → Type 0 = λ m. Contains (menu_of ex m) (slice_index_or (columns_on ex (suc i) path) j []) in
       subst P e (in_its_menu (suc i) path (second_true (nat_lt l (length (menu_of ex i))) (is_in_menus ex (suc i) path) h) j (omega arith))
 
-  -- a live path leads to a live prefix
-  pub prefix_is_live : (path : List ℕ) → is_live_path ex path ≡ true → IsLive ex (prefix_at ex path)
-  prefix_is_live path h =
-      let live = live_parts ex path h in
+  -- in the prefix that an alive path leads to no strict break is settled
+  pub prefix_is_alive : (path : List ℕ) → is_alive_path ex path ≡ true → IsAlive ex (prefix_at ex path)
+  prefix_is_alive path h =
+      let live = alive_parts ex path h in
       let same : length (prefix_at ex path) ≡ length path = length-columns_on ex 0 path in
       record {
         prefix = record {
@@ -139,11 +140,11 @@ module _ (ex : Exercise) (exact : (i : ℕ) → IsExactMenu ex i) where
       other_default (x ∷ xs) zero d d' h = refl
       other_default (x ∷ xs) (suc k) d d' h = other_default xs k d d' (omega arith)
 
-  -- each live prefix is at the end of a live path
-  pub path_to_live : (p : List (List Cell)) → IsLive ex p → PathTo ex p
-  path_to_live p live =
+  -- each prefix in which no strict break is settled is at the end of an alive path
+  pub path_to_alive : IsValid ex → (p : List (List Cell)) → IsAlive ex p → PathTo ex p
+  path_to_alive valid p live =
       let way = lead 0 p (λ j k. at_zero j (live.prefix.menus j k)) in
-      record { path = way.path; there = way.there; is_live = whole way.path way.there way.menus }
+      record { path = way.path; there = way.there; alive = whole way.path way.there way.menus }
     where
       at_zero : (j : ℕ) → IsInMenu ex j (slice_index_or p j []) → IsInMenu ex (0 + j) (slice_index_or p j [])
       at_zero j m =
@@ -154,10 +155,11 @@ module _ (ex : Exercise) (exact : (i : ℕ) → IsExactMenu ex i) where
       room_test : (n m : ℕ) → n ≤ m → nat_le n m ≡ true
       room_test n m h = grind (arith, nat_tests)
 
-      whole : (path : List ℕ) → prefix_at ex path ≡ p → is_in_menus ex 0 path ≡ true → is_live_path ex path ≡ true
+      whole : (path : List ℕ) → prefix_at ex path ≡ p → is_in_menus ex 0 path ≡ true → is_alive_path ex path ≡ true
       whole path e menus =
           let size : length path ≡ length p = sym (length-columns_on ex 0 path) ∙ ap length e in
-          live_from_parts ex path record {
+          alive_from_parts ex path record {
+            voices = both_true (nat_le ex.voices 4) (nat_lt ex.cantus_voice ex.voices) (room_test ex.voices 4 valid.most_voices) (test_from_below ex.cantus_voice ex.voices valid.cantus_there);
             room = room_test (length path) (columns_in ex) (omega (arith, live.prefix.few));
             menus = menus;
             follows = ap (λ q. history_follows (reverse q)) e ∙ test_from_history (reverse p) live.prefix.follows;

@@ -2,14 +2,17 @@
 use Rattle.std.specs.Prelude.{◌≡◌, ℕ, ◌*◌, ◌≤◌, true, List, length}
 use Rattle.fux_grid.specs.declared.exercise.Exercise.{Exercise}
 use Rattle.penalty_sheet.specs.declared.sheet.Sheet.{Sheet}
+use Rattle.fux_judge.specs.Gauges.{least_of}
 use Rattle.fux_judge.specs.Penalties.{paid}
 use Rattle.fux_judge.specs.States.{IsStateOf}
 use Rattle.species_space.specs.declared.node.Node.{Node}
-use Rattle.species_space.specs.Paths.{prefix_at, is_live_path}
+use Rattle.species_space.specs.Paths.{prefix_at, is_alive_path}
 
--- the node is of a live path: its state is of the prefix, and it knows what is paid
+-- the node is of an alive path: its state is of the prefix, and it knows what is paid of it and what its lines cost at least
 pub record IsNodeOf (ex : Exercise) (sheet : Sheet) (node : Node) (path : List ℕ) : Type 0 where
   pub state : IsStateOf ex (prefix_at ex path) node.state
-  pub is_live : is_live_path ex path ≡ true
+  pub alive : is_alive_path ex path ≡ true
   pub paid : node.paid ≡ paid ex sheet (prefix_at ex path)
-  pub small : node.paid ≤ 134217728 * length path
+  pub least : node.least ≡ least_of ex sheet (prefix_at ex path)
+  pub few : node.paid ≤ 134217728 * length path
+  pub little : node.least ≤ 334490640

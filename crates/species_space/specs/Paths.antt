@@ -1,5 +1,5 @@
 -- Paths of child numbers, and the prefixes that they lead to.
-use Rattle.std.specs.Prelude.{◌≡◌, ◌≤◌, ◌⊎◌, ℕ, suc, ◌+◌, Bool, true, false, not, ◌&&◌, ◌||◌, nat_lt, nat_le, List, [], ◌∷◌, ◌++◌, Option, Some, None, IsSomeAnd, IsTrue, length, reverse, slice_index_or, if◌then◌else◌, refl}
+use Rattle.std.specs.Prelude.{◌≡◌, ◌<◌, ◌≤◌, ℕ, suc, ◌+◌, Bool, true, false, not, ◌&&◌, ◌||◌, nat_lt, nat_le, List, [], ◌∷◌, ◌++◌, Option, Some, None, IsSomeAnd, IsTrue, length, reverse, slice_index_or, if◌then◌else◌, refl}
 use Rattle.std.specs.List.{list_any}
 use Rattle.std.proofs.Common.{ap, sym, ◌∙◌, arith}
 use Rattle.std.proofs.lemmas.List.{length-append}
@@ -7,7 +7,7 @@ use Rattle.std.proofs.lemmas.Bool.Decides.{nat_tests}
 use Rattle.fux_grid.specs.declared.cell.Cell.{Cell}
 use Rattle.fux_grid.specs.declared.exercise.Exercise.{Exercise}
 use Rattle.fux_grid.specs.Cells.{cell_in, cell_follows}
-use Rattle.fux_grid.specs.Columns.{newest_column, ColumnFollows}
+use Rattle.fux_grid.specs.Columns.{newest_column}
 use Rattle.fux_grid.specs.Exercises.{columns_in}
 use Rattle.fux_grid.specs.Menus.{menu_of}
 use Rattle.fux_grid.proofs.Histories.{reverse-push}
@@ -15,8 +15,9 @@ use Rattle.rule_law.specs.Growth.{any_below}
 use Rattle.rule_law.specs.Law.{first_true, second_true}
 use Rattle.penalty_sheet.specs.declared.sheet.Sheet.{Sheet}
 use Rattle.fux_judge.specs.Rules.{rules_read}
-use Rattle.fux_judge.specs.Penalties.{has_strict_break, newly_broken, newly_paid, paid}
+use Rattle.fux_judge.specs.Penalties.{has_strict_break, newly_broken}
 use Rattle.fux_judge.specs.Grows.{strict_break_grows}
+use Rattle.floor_tables.specs.Floors.{floor_of}
 
 -- the columns on a path from column i on: each number chooses one of the column's menu
 abbrev pub columns_on : Exercise → ℕ → List ℕ → List (List Cell)
@@ -41,15 +42,19 @@ abbrev pub history_follows : List (List Cell) → Bool
 history_follows [] = true
 history_follows (col ∷ cols) = column_follows (newest_column cols) col && history_follows cols
 
--- the path leads to a live prefix
-abbrev pub is_live_path : Exercise → List ℕ → Bool
-is_live_path ex path =
-    nat_le (length path) (columns_in ex) && is_in_menus ex 0 path
+-- at most four voices, one of which has the cantus
+abbrev pub has_voices : Exercise → Bool
+has_voices ex = nat_le ex.voices 4 && nat_lt ex.cantus_voice ex.voices
+
+-- the path leads to a prefix in which no strict break is settled; there is none where the exercise's voices aren't such
+abbrev pub is_alive_path : Exercise → List ℕ → Bool
+is_alive_path ex path =
+    has_voices ex && nat_le (length path) (columns_in ex) && is_in_menus ex 0 path
     && history_follows (reverse (prefix_at ex path)) && not (has_strict_break ex (prefix_at ex path))
 
--- what is paid of the prefix that a path leads to, where it is live
+-- the floor of the prefix that a path leads to, where it is live: no strict break is settled in it, and a chain goes on from it
 unfoldable pub live_at : Exercise → Sheet → List ℕ → Option ℕ
-live_at ex sheet path = if is_live_path ex path then Some (paid ex sheet (prefix_at ex path)) else None
+live_at ex sheet path = if is_alive_path ex path then floor_of ex sheet (prefix_at ex path) else None
 
 -- how many columns there are to go on with
 abbrev pub width_at : Exercise → List ℕ → ℕ
@@ -93,22 +98,26 @@ is_in_menus-append ex i (l ∷ path) k =
     ap (λ b. nat_lt l (length (menu_of ex i)) && b) (is_in_menus-append ex (suc i) path k ∙ ap (λ j. is_in_menus ex (suc i) path && nat_lt k (length (menu_of ex j))) e)
     ∙ sym (and_right (nat_lt l (length (menu_of ex i))) (is_in_menus ex (suc i) path) (nat_lt k (length (menu_of ex (i + suc (length path))))))
 
--- a column that may not follow a prefix, settles a strict break after it, or makes it no better than the best leaf, if there is one
-abbrev pub IsPassedAfter : Exercise → Sheet → List (List Cell) → Option ℕ → List Cell → Type 0
-IsPassedAfter ex sheet p best col =
-    ColumnFollows (newest_column (reverse p)) col
-    → (list_any (newly_broken ex p col) rules_read ≡ true) ⊎ IsSomeAnd best (λ value. value ≤ paid ex sheet p + newly_paid ex sheet p col)
+-- the child of this number is dead, or no better than the best leaf so far: its floor is no lower than that leaf's value
+abbrev pub IsNoBetter : Exercise → Sheet → List ℕ → Option ℕ → ℕ → Type 0
+IsNoBetter ex sheet path best k =
+    (floor : ℕ) → live_at ex sheet (path ++ k ∷ []) ≡ Some floor → IsSomeAnd best (λ value. value ≤ floor)
 
--- a path that is longer by a number leads to a live prefix where the path does, it has room, the number is in the menu, and its
--- column follows and settles no strict break
+-- and so is each from one number up to another
+abbrev pub ArePassed : Exercise → Sheet → List ℕ → Option ℕ → ℕ → ℕ → Type 0
+ArePassed ex sheet path best from to = (k : ℕ) → from ≤ k → k < to → IsNoBetter ex sheet path best k
+
+-- a path that is longer by a number is alive where the path is, it has room, the number is in the menu, and its column follows
+-- and settles no strict break
 abbrev pub goes_on : Exercise → List ℕ → ℕ → Bool
 goes_on ex path k =
     nat_lt (length path) (columns_in ex) && nat_lt k (width_at ex path)
     && column_follows (newest_column (reverse (prefix_at ex path))) (column_at ex path k)
     && not (list_any (newly_broken ex (prefix_at ex path) (column_at ex path k)) rules_read)
 
--- what makes a path lead to a live prefix, test by test
-pub record IsLivePath (ex : Exercise) (path : List ℕ) : Type 0 where
+-- what makes a path alive, test by test
+pub record IsAlivePath (ex : Exercise) (path : List ℕ) : Type 0 where
+  pub voices : has_voices ex ≡ true
   pub room : nat_le (length path) (columns_in ex) ≡ true
   pub menus : is_in_menus ex 0 path ≡ true
   pub follows : history_follows (reverse (prefix_at ex path)) ≡ true
@@ -118,23 +127,26 @@ not_true : (b : Bool) → not b ≡ true → b ≡ false
 not_true true h = cc
 not_true false h = refl
 
-pub live_parts : (ex : Exercise) (path : List ℕ) → is_live_path ex path ≡ true → IsLivePath ex path
-live_parts ex path h =
+pub alive_parts : (ex : Exercise) (path : List ℕ) → is_alive_path ex path ≡ true → IsAlivePath ex path
+alive_parts ex path h =
+    let few = has_voices ex in
     let room = nat_le (length path) (columns_in ex) in
     let menus = is_in_menus ex 0 path in
     let follows = history_follows (reverse (prefix_at ex path)) in
     let alive = not (has_strict_break ex (prefix_at ex path)) in
-    let three : IsTrue (room && menus && follows) = first_true (room && menus && follows) alive h in
-    let two : IsTrue (room && menus) = first_true (room && menus) follows three in
+    let four : IsTrue (few && room && menus && follows) = first_true (few && room && menus && follows) alive h in
+    let three : IsTrue (few && room && menus) = first_true (few && room && menus) follows four in
+    let two : IsTrue (few && room) = first_true (few && room) menus three in
     record {
-      room = first_true room menus two;
-      menus = second_true room menus two;
-      follows = second_true (room && menus) follows three;
-      alive = not_true (has_strict_break ex (prefix_at ex path)) (second_true (room && menus && follows) alive h);
+      voices = first_true few room two;
+      room = second_true few room two;
+      menus = second_true (few && room) menus three;
+      follows = second_true (few && room && menus) follows four;
+      alive = not_true (has_strict_break ex (prefix_at ex path)) (second_true (few && room && menus && follows) alive h);
     }
 
-pub live_from_parts : (ex : Exercise) (path : List ℕ) → IsLivePath ex path → is_live_path ex path ≡ true
-live_from_parts ex path live = rw (live.room, live.menus, live.follows, live.alive) refl
+pub alive_from_parts : (ex : Exercise) (path : List ℕ) → IsAlivePath ex path → is_alive_path ex path ≡ true
+alive_from_parts ex path live = rw (live.voices, live.room, live.menus, live.follows, live.alive) refl
 
 below_test : (n m : ℕ) → nat_le (n + 1) m ≡ nat_lt n m
 below_test n m = grind (arith, nat_tests)
@@ -167,18 +179,19 @@ module _ (ex : Exercise) (path : List ℕ) (k : ℕ) where
   longer_breaks : has_strict_break ex (prefix_at ex (path ++ k ∷ [])) ≡ (has_strict_break ex (prefix_at ex path) || list_any (newly_broken ex (prefix_at ex path) (column_at ex path k)) rules_read)
   longer_breaks = ap (has_strict_break ex) (prefix_at-append ex path k) ∙ strict_break_grows ex (prefix_at ex path) (column_at ex path k)
 
-  -- after a live path, the next is live where it goes on
-  pub live_goes_on : is_live_path ex path ≡ true → is_live_path ex (path ++ k ∷ []) ≡ goes_on ex path k
-  live_goes_on h =
-      let live = live_parts ex path h in
-      rw (longer_room, longer_menus, longer_follows, longer_breaks, live.menus, live.follows, live.alive)
+  -- after an alive path, the next is alive where it goes on
+  pub alive_goes_on : is_alive_path ex path ≡ true → is_alive_path ex (path ++ k ∷ []) ≡ goes_on ex path k
+  alive_goes_on h =
+      let live = alive_parts ex path h in
+      rw (live.voices, longer_room, longer_menus, longer_follows, longer_breaks, live.menus, live.follows, live.alive)
       (four_tests (nat_lt (length path) (columns_in ex)) (nat_lt k (length (menu_of ex (length path)))) (column_follows (newest_column (reverse (prefix_at ex path))) (column_at ex path k)) (list_any (newly_broken ex (prefix_at ex path) (column_at ex path k)) rules_read))
 
-  -- the parent of a live path is live
-  pub live_parent : is_live_path ex (path ++ k ∷ []) ≡ true → is_live_path ex path ≡ true
-  live_parent h =
-      let live = live_parts ex (path ++ k ∷ []) h in
-      live_from_parts ex path record {
+  -- the parent of an alive path is alive
+  pub alive_parent : is_alive_path ex (path ++ k ∷ []) ≡ true → is_alive_path ex path ≡ true
+  alive_parent h =
+      let live = alive_parts ex (path ++ k ∷ []) h in
+      alive_from_parts ex path record {
+        voices = live.voices;
         room = shorter_test (length path) (columns_in ex) (sym longer_room ∙ live.room);
         menus = first_true (is_in_menus ex 0 path) (nat_lt k (length (menu_of ex (length path)))) (sym longer_menus ∙ live.menus);
         follows = second_true (column_follows (newest_column (reverse (prefix_at ex path))) (column_at ex path k)) (history_follows (reverse (prefix_at ex path))) (sym longer_follows ∙ live.follows);

@@ -1,20 +1,12 @@
--- What a space is of, and what it keeps.
-use Rattle.std.specs.Prelude.{◌≡◌, ℕ, ◌<◌, ◌≤◌, List, All, length, slice_index_or, ⊤}
+-- What a space keeps.
+use Rattle.std.specs.Prelude.{◌≡◌, ℕ, ◌<◌, ◌≤◌, List, All, length, slice_index_or}
 use Rattle.fux_grid.specs.declared.exercise.Exercise.{Exercise}
-use Rattle.fux_grid.specs.declared.exercise.Place.{Place}
-use Rattle.fux_grid.specs.Exercises.{IsValid, columns_in, bar_of, slot_of}
+use Rattle.fux_grid.specs.Exercises.{IsValid, columns_in}
 use Rattle.fux_grid.specs.Grid.{items_of}
 use Rattle.fux_grid.specs.Menus.{menu_of}
+pub use Rattle.floor_tables.specs.Tables.{Task}
 use Rattle.species_space.specs.Blocks.{IsBlockMenu, SkipDead}
 use Rattle.species_space.specs.declared.blocks.BlockMenu.{BlockMenu}
-use Rattle.species_space.specs.declared.space.TableFault.{TableFault}
-use Rattle.species_space.specs.declared.space.TableFault.TheVariants.{TooWide, Memory}
-use Rattle.penalty_sheet.specs.declared.sheet.Sheet.{Sheet}
-
--- an exercise and a sheet
-pub record Task : Type 0 where
-  pub exercise : Exercise
-  pub sheet : Sheet
 
 -- a menu knows for each of its columns how many are dead after every prefix from it on
 pub record SkipsDead (ex : Exercise) (i : ℕ) (menu : BlockMenu) : Type 0 where
@@ -34,18 +26,3 @@ pub record IsReady (ex : Exercise) (menus : List BlockMenu) (numbers : List ℕ)
   pub valid : IsValid ex
   pub counted : length numbers ≡ columns_in ex
   pub kept : AreMenus ex menus numbers
-
--- the place of the first column whose menu is too wide, and how many columns that menu has
-pub record IsTooWide (ex : Exercise) (place : Place) (count : ℕ) : Type 0 where
-  pub column : ℕ
-  pub bar : place.bar ≡ bar_of column
-  pub slot : place.slot ≡ slot_of column
-  pub within : column < columns_in ex
-  pub width : count ≡ length (menu_of ex column)
-  pub wide : 8192 < count
-  pub first : (earlier : ℕ) → earlier < column → length (menu_of ex earlier) ≤ 8192
-
--- a fault about width tells the first menu that is too wide
-abbrev pub TellsWidth : Exercise → TableFault → Type 0
-TellsWidth ex (TooWide place count) = IsTooWide ex place count
-TellsWidth ex Memory = ⊤

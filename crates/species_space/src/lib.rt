@@ -6,10 +6,10 @@ mod law;
 mod node;
 mod score;
 mod space;
-#[cfg(test)]
-mod tests;
+mod walk;
 
-pub use law::is_counterpoint;
+pub use floor_tables::TableFault;
+pub use law::{has_floors, is_counterpoint};
 pub use node::Node;
 pub use score::score_of;
-pub use space::{SpeciesSpace, TableFault};
+pub use space::SpeciesSpace;

@@ -1,7 +1,7 @@
 //! The setting at the end of a path.
 
 ghost use Rattle.std.specs.Prelude.{◌≡◌, true, IfOk};
-ghost use Rattle.species_space.specs.Paths.{prefix_at, is_live_path};
+ghost use Rattle.species_space.specs.Paths.{prefix_at, is_alive_path};
 
 use crate::space::SpeciesSpace;
 use fux_grid::Score;
@@ -10,7 +10,7 @@ use std::alloc::Global;
 
 /// The columns that a live path of the space leads to.
 pub fn score_of(alloc: Global, space: &SpeciesSpace<'_>, path: &[u16]) -> Result<Score, Memory>
-    requires { is_live_path space.now.exercise path.now ≡ true }
+    requires { is_alive_path space.now.exercise path.now ≡ true }
     ensures { IfOk result (λ score. score ≡ record { voices = space.now.exercise.voices; columns = prefix_at space.now.exercise path.now }) }
 {
     let mut score = Score::new(alloc, space.voices())?;

@@ -1,46 +1,38 @@
 //! The tree of the settings of an exercise.
 
-ghost use Rattle.std.specs.Prelude.{◌≡◌, ◌<◌, ◌≤◌, ◌+◌, ℕ, List, [], ◌∷◌, ◌++◌, OnOk, IfOk, IfErr, IsSomeAnd, MatchOption, length, slice_index_or, All, vec_capacity, ◌-◌};
-ghost use Rattle.fux_grid.specs.declared.cell.Cell.{Cell as ACell};
-ghost use Rattle.fux_grid.specs.declared.exercise.Exercise.{Exercise as AnExercise};
-ghost use Rattle.fux_grid.specs.Exercises.{IsValid, columns_in, bar_of, slot_of};
+ghost use Rattle.std.specs.Prelude.{◌≡◌, ◌<◌, ◌≤◌, ◌+◌, ◌^◌, ℕ, List, [], ◌∷◌, ◌++◌, Some, None, OnOk, IfOk, IfErr, MatchOption, length, slice_index_or, All, vec_capacity, ◌-◌};
+ghost use Rattle.fux_grid.specs.Exercises.{IsValid, columns_in};
 ghost use Rattle.fux_grid.specs.Grid.{items_of};
 ghost use Rattle.fux_grid.specs.Menus.{menu_of, IsAscending};
-ghost use Rattle.species_space.specs.Blocks.{IsBlockMenu, SkipDead, StraysOrDies, HasOneWidth, IsMadeOf};
-ghost use Rattle.fux_judge.specs.Penalties.{paid};
+ghost use Rattle.species_space.specs.Blocks.{IsBlockMenu, SkipDead, HasOneWidth, IsMadeOf};
 ghost use Rattle.species_space.specs.declared.blocks.BlockMenu.{BlockMenu as ABlockMenu};
-ghost use Rattle.fux_judge.specs.States.{IsStateOf};
+ghost use Rattle.floor_tables.specs.Tables.{AreNarrow, IsRest, TellsWidth};
 ghost use Rattle.species_space.specs.Grows.{paths_grow};
 ghost use Rattle.species_space.specs.Nodes.{IsNodeOf};
-ghost use Rattle.species_space.specs.Paths.{IsPassedAfter, live_at, width_at};
-ghost use Rattle.species_space.specs.Task.{SkipsDead, TellsWidth};
+ghost use Rattle.species_space.specs.Paths.{live_at, width_at};
+ghost use Rattle.species_space.specs.Task.{IsReady, SkipsDead};
 ghost use Rattle.tree_search.specs.Space.{HasChild};
 
 use crate::blocks::{BlockMenu, column_at};
 use crate::node::Node;
-use fux_grid::{Cell, Column, Exercise, MenuFault, Place, cells_follow, menu};
-use fux_judge::{State, is_always_dead, pruned_within, step};
+use crate::walk::next_unpruned;
+use floor_tables::{TableFault, Tables, fill_tables};
+use fux_grid::{Column, Exercise, cells_follow, menu};
+use fux_judge::{State, is_always_dead, least, step_unbroken};
 use fux_pitch::Memory;
 use penalty_sheet::Sheet;
-use std::alloc::{AllocFailed, Global};
+use std::alloc::Global;
 use std::marker::Model;
 use std::thread::Threads;
 use tree_search::Space;
 
-/// Why there are no tables for an exercise.
-#[derive(Clone, Copy, Debug, PartialEq, Eq)]
-pub enum TableFault {
-    /// A menu has more than 8,192 columns: the first such place, and how many it has.
-    TooWide { place: Place, count: u64 },
-    Memory,
-}
-
-/// The settings of an exercise as a tree: a child adds the column of its number, counted from 0, in the menu of the next column. A child is dead where
-/// its column doesn't follow, or where a strict break is settled by it.
+/// The settings of an exercise as a tree: a child adds the column of its number, counted from 0, in the menu of the next column. A
+/// child is dead where its column doesn't follow, where a strict break is settled by it, or where no chain goes on from it to the end.
 #[derive(Drop)]
 pub struct SpeciesSpace<'a> {
     exercise: &'a Exercise,
     sheet: &'a Sheet,
+    tables: Tables<'a>,
     /// Where the menus of one column after the other are equal, one stands for them all.
     pub(crate) menus: Vec<BlockMenu>,
     /// For each column the number of its menu.
@@ -48,66 +40,40 @@ pub struct SpeciesSpace<'a> {
 }
 
 impl<'a> Model for SpeciesSpace<'a> {
+    ghost use Rattle.std.specs.Prelude.{◌≡◌};
     ghost use Rattle.species_space.specs.Task.{Task, IsReady};
 
     ghost Value = { Task };
 
     ghost view = { λ s. record { exercise = s.exercise.now; sheet = s.sheet.now } };
 
-    ghost invariant = { λ s. IsReady s.exercise.now s.menus.items s.menu_of_column.items };
-}
-
-/// The place of a column.
-fn place_of(i: usize) -> Place
-    requires { i < 192 }
-    ensures bar { result.bar ≡ bar_of i }
-    ensures slot { result.slot ≡ slot_of i }
-{
-    Place {
-        bar: (i / 8 + 1) as u8,
-        slot: (i % 8) as u8,
-    }
+    ghost invariant = { λ s. IsReady s.exercise.now s.menus.items s.menu_of_column.items
+        × (s.tables ≡ record { exercise = s.exercise.now; sheet = s.sheet.now }) };
 }
 
 impl<'a> SpeciesSpace<'a> {
-    /// The space of an exercise by a sheet. It keeps the menus, so that nothing after it takes memory.
+    /// The space of an exercise by a sheet. It keeps the menus and the tables of floors, so that nothing after it takes memory.
     pub fn new<R: Threads + Sync>(
-        _rt: &R,
+        rt: &R,
         alloc: Global,
         exercise: &'a Exercise,
         sheet: &'a Sheet,
     ) -> Result<SpeciesSpace<'a>, TableFault>
         requires { IsValid exercise.now }
         ensures made { IfOk result (λ space. space ≡ record { exercise = exercise.entry.now; sheet = sheet.entry.now }) }
-        ensures narrow { OnOk result ((i : ℕ) → i < columns_in exercise.entry.now → length (menu_of exercise.entry.now i) ≤ 8192) }
+        ensures narrow { OnOk result (AreNarrow exercise.entry.now) }
         ensures wide { IfErr result (TellsWidth exercise.entry.now) }
     {
-        SpeciesSpace::in_one_thread(alloc, exercise, sheet)
-    }
-
-    /// The same, made in one thread.
-    pub fn in_one_thread(
-        alloc: Global,
-        exercise: &'a Exercise,
-        sheet: &'a Sheet,
-    ) -> Result<SpeciesSpace<'a>, TableFault>
-        requires { IsValid exercise.now }
-        ensures made { IfOk result (λ space. space ≡ record { exercise = exercise.entry.now; sheet = sheet.entry.now }) }
-        ensures narrow { OnOk result ((i : ℕ) → i < columns_in exercise.entry.now → length (menu_of exercise.entry.now i) ≤ 8192) }
-        ensures wide { IfErr result (TellsWidth exercise.entry.now) }
-    {
-        let columns = 8 * exercise.bars as usize;
-        let mut menus = Vec::with_capacity(alloc, columns).map_err(|_| TableFault::Memory)?;
-        let mut numbers = Vec::with_capacity(alloc, columns).map_err(|_| TableFault::Memory)?;
-        for i in 0..columns {
-            let (choices, undead) = choices_at(alloc, exercise, i)?;
-            numbers.push_reserved(number_of(&mut menus, choices, undead));
-        }
+        let tables = fill_tables(rt, alloc, exercise, sheet)?;
+        let Ok((menus, menu_of_column)) = menus_of(alloc, exercise) else {
+            return Err(TableFault::Memory);
+        };
         Ok(SpeciesSpace {
             exercise,
             sheet,
+            tables,
             menus,
-            menu_of_column: numbers,
+            menu_of_column,
         })
     }
 
@@ -117,6 +83,7 @@ impl<'a> SpeciesSpace<'a> {
         ensures fewest { 2 ≤ result }
         ensures most { result ≤ 4 }
         ensures short { columns_in self.now.exercise ≤ 192 }
+        ensures valid { IsValid self.now.exercise }
     {
         self.exercise.voices
     }
@@ -159,13 +126,16 @@ impl<'a> Space for SpeciesSpace<'a> {
     }
 
     fn root(&self) -> Option<(Node, u64)> {
+        let start = self.tables.start()?;
         let state = State::start(self.exercise);
+        let least = least(self.exercise, self.sheet, &state);
         let root = Node {
             state,
             paid: 0,
+            least,
             hint: 0,
         };
-        Some((root, 0))
+        Some((root, least + start))
     }
 
     fn count(&self, node: &Node) -> usize {
@@ -173,13 +143,23 @@ impl<'a> Space for SpeciesSpace<'a> {
     }
 
     fn child(&self, node: &Node, k: usize) -> Option<(Node, u64)> {
-        let column = self.column(node.state.len(), k);
-        child_by(self.exercise, self.sheet, node, k, column)
+        let i = node.state.len();
+        let rest = self.tables.rest_of_number(i, k)?;
+        let column = self.column(i, k);
+        child_by(self.exercise, self.sheet, node, k, column, rest)
     }
 
     fn next_child(&self, node: &Node, from: usize, best: Option<u64>) -> usize {
         let menu = self.menu(node.state.len());
-        next_unpruned(self.exercise, self.sheet, node, menu, from, best)
+        next_unpruned(
+            self.exercise,
+            self.sheet,
+            &self.tables,
+            node,
+            menu,
+            from,
+            best,
+        )
     }
 }
 
@@ -188,30 +168,36 @@ fn choices_at(
     alloc: Global,
     exercise: &Exercise,
     i: usize,
-) -> Result<(Vec<Column>, Vec<u16>), TableFault>
+) -> Result<(Vec<Column>, Vec<u16>), Memory>
     requires valid { IsValid exercise.now }
     requires place { i < columns_in exercise.now }
-    requires first { (earlier : ℕ) → earlier < i → length (menu_of exercise.now earlier) ≤ 8192 }
+    requires narrow { length (menu_of exercise.now i) ≤ 8192 }
     ensures value { IfOk result (λ found. items_of found.0.items ≡ menu_of exercise.now i) }
-    ensures narrow { IfOk result (λ found. length found.0.items ≤ 8192) }
     ensures order { IfOk result (λ found. IsAscending (items_of found.0.items)) }
     ensures counted { IfOk result (λ found. length found.1.items ≡ length found.0.items) }
     ensures skip { IfOk result (λ found. SkipDead exercise.now i (items_of found.0.items) found.1.items) }
-    ensures wide { IfErr result (TellsWidth exercise.now) }
 {
-    match menu(alloc, exercise, i) {
-        Ok(choices) => {
-            let Ok(undead) = undead_numbers(alloc, exercise, i, &choices) else {
-                return Err(TableFault::Memory);
-            };
-            Ok((choices, undead))
-        }
-        Err(MenuFault::TooWide { count }) => Err(TableFault::TooWide {
-            place: place_of(i),
-            count,
-        }),
-        Err(MenuFault::Memory) => Err(TableFault::Memory),
+    let Ok(choices) = menu(alloc, exercise, i) else {
+        return Err(Memory);
+    };
+    let undead = undead_numbers(alloc, exercise, i, &choices)?;
+    Ok((choices, undead))
+}
+
+/// The menus of all columns, and for each column the number of its own.
+fn menus_of(alloc: Global, exercise: &Exercise) -> Result<(Vec<BlockMenu>, Vec<u8>), Memory>
+    requires valid { IsValid exercise.now }
+    requires narrow { AreNarrow exercise.now }
+    ensures { IfOk result (λ made. IsReady exercise.now made.0.items made.1.items) }
+{
+    let columns = 8 * exercise.bars as usize;
+    let mut menus = Vec::with_capacity(alloc, columns)?;
+    let mut numbers = Vec::with_capacity(alloc, columns)?;
+    for i in 0..columns {
+        let (choices, undead) = choices_at(alloc, exercise, i)?;
+        numbers.push_reserved(number_of(&mut menus, choices, undead));
     }
+    Ok((menus, numbers))
 }
 
 /// The number of the menu of these columns, which is put behind the others unless it is the last one over again.
@@ -238,17 +224,20 @@ fn number_of(menus: &mut Vec<BlockMenu>, columns: Vec<Column>, undead: Vec<u16>)
     count as u8
 }
 
-/// The child of this number and column, with its floor, where it is live.
+/// The child of this number and column, with its floor, where no strict break is settled by it: a chain whose sum is `rest` goes on.
 fn child_by(
     exercise: &Exercise,
     sheet: &Sheet,
     node: &Node,
     k: usize,
     column: &Column,
+    rest: u64,
 ) -> Option<(Node, u64)>
     requires valid { IsValid exercise.now }
     requires child { HasChild (IsNodeOf exercise.now sheet.now node.now) (columns_in exercise.now) (width_at exercise.now) k }
     requires column { column.now.items ≡ slice_index_or (menu_of exercise.now node.now.state.newest.len) k [] }
+    requires rest { IsRest exercise.now sheet.now node.now.state.newest.len column.now.items (Some rest) }
+    requires small { rest ≤ 2 ^ 61 }
     ensures { (path : List ℕ) → IsNodeOf exercise.now sheet.now node.now path → MatchOption result
         (live_at exercise.now sheet.now (path ++ k ∷ []) ≡ None)
         (λ entry. IsNodeOf exercise.now sheet.now entry.0 (path ++ k ∷ []) × (live_at exercise.now sheet.now (path ++ k ∷ []) ≡ Some entry.1)) }
@@ -257,17 +246,17 @@ fn child_by(
     if !cells_follow(before, column.as_slice()) {
         return None;
     }
-    let verdict = step(exercise, sheet, &node.state, column);
-    if verdict.breaks() {
+    let Some(verdict) = step_unbroken(exercise, sheet, &node.state, column) else {
         return None;
-    }
+    };
     let paid = node.paid + verdict.paid;
     let child = Node {
         state: verdict.state,
         paid,
+        least: verdict.least,
         hint: k,
     };
-    Some((child, paid))
+    Some((child, paid + verdict.least + rest))
 }
 
 /// For each column of a menu the number of the first one, from it on, that isn't dead after every prefix; the menu's length where there is none.
@@ -291,75 +280,4 @@ fn undead_numbers(
     }
     numbers.resize(columns.len(), columns.len() as u16)?;
     Ok(numbers)
-}
-
-/// The first number, from this one on, of a column that may follow and isn't dead after every prefix; the menu's length where there is none.
-fn next_choice(menu: &BlockMenu, before: &[Cell], from: usize, hint: usize) -> usize
-    requires cut { IsBlockMenu menu.now }
-    requires counted { length menu.now.undead.items ≡ length menu.now.columns.items }
-    requires bounded { (k : ℕ) → k < length menu.now.undead.items → slice_index_or menu.now.undead.items k 0 ≤ length (items_of menu.now.columns.items) }
-    requires within { from ≤ length menu.now.columns.items }
-    ensures onward { from ≤ result }
-    ensures within { result ≤ length menu.now.columns.items }
-    ensures passed { (exercise : AnExercise) (i : ℕ) → SkipDead exercise i (items_of menu.now.columns.items) menu.now.undead.items → (k : ℕ) → from ≤ k → k < result → StraysOrDies exercise i before.now (slice_index_or (items_of menu.now.columns.items) k []) }
-{
-    let mut k = menu.next_that_follows(before, from, hint);
-    while k < menu.columns.len() {
-        let undead = menu.undead_from(k);
-        if undead <= k {
-            return k;
-        }
-        k = menu.next_that_follows(before, undead, hint);
-    }
-    k
-}
-
-/// What a child must cost to be no better than the best leaf, where there is one: so much or more.
-#[inline]
-fn limit_of(best: Option<u64>, paid: u64) -> Option<u64>
-    ensures { (cost : ℕ) → IsSomeAnd result (λ limit. limit ≤ cost) → IsSomeAnd best (λ value. value ≤ paid + cost) }
-{
-    match best {
-        Some(value) => Some(value.saturating_sub(paid)),
-        None => None,
-    }
-}
-
-/// The first number, from this one on, of a column that may follow and isn't pruned by the cells of its lowest voices: they settle no strict
-/// break and don't cost too much to be better than the best. The menu's length where there is none.
-fn next_unpruned(
-    exercise: &Exercise,
-    sheet: &Sheet,
-    node: &Node,
-    menu: &BlockMenu,
-    from: usize,
-    best: Option<u64>,
-) -> usize
-    requires valid { IsValid exercise.now }
-    requires room { node.now.state.newest.len < columns_in exercise.now }
-    requires menu { items_of menu.now.columns.items ≡ menu_of exercise.now node.now.state.newest.len }
-    requires cut { IsBlockMenu menu.now }
-    requires skips { SkipsDead exercise.now node.now.state.newest.len menu.now }
-    requires within { from ≤ length menu.now.columns.items }
-    ensures onward { from ≤ result }
-    ensures within { result ≤ length menu.now.columns.items }
-    ensures passed { (p : List (List ACell)) → IsStateOf exercise.now p node.now.state → node.now.paid ≡ paid exercise.now sheet.now p → (k : ℕ) → from ≤ k → k < result → IsPassedAfter exercise.now sheet.now p best (slice_index_or (items_of menu.now.columns.items) k []) }
-{
-    let before = node.state.before(exercise);
-    let limit = limit_of(best, node.paid);
-    let mut k = next_choice(menu, before, from, node.hint);
-    let mut tried = menu.lowest_alike(from.saturating_sub(1), k);
-    if from == 0 {
-        tried = 0;
-    }
-    while k < menu.columns.len() {
-        let column = menu.column(k);
-        let Some(voices) = pruned_within(exercise, sheet, &node.state, column, tried, limit) else {
-            return k;
-        };
-        let pruned = k;
-        k = next_choice(menu, before, menu.end_of_agreement(k, voices), node.hint);
-        tried = menu.lowest_alike(pruned, k).min(voices - 1);
-    }
-    k
 }

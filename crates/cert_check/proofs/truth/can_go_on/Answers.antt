@@ -1,4 +1,4 @@
-use Rattle.std.proofs.Common.{◌≡◌, ◌<◌, ◌≤◌, length, ap, sym, ◌∙◌, subst, arith, refl, ℕ, true≢false, Bool, true, false, not}
+use Rattle.std.proofs.Common.{◌<◌, ◌≤◌, length, ap, sym, ◌∙◌, arith, not}
 use Rattle.std.proofs.lemmas.Bool.{not-true}
 use Rattle.cert_check.proofs.BreakLemmas.{shapes_unbroken, unbroken_shapes}
 use Rattle.fux_grid.specs.Exercises.{columns_in}

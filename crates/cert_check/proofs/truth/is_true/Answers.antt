@@ -1,4 +1,4 @@
-use Rattle.std.proofs.Common.{◌≡◌, IsTrue, ap, sym, ◌∙◌, subst, refl, false}
+use Rattle.std.proofs.Common.{IsTrue, sym, subst, refl, false}
 use Rattle.std.specs.Prelude.{◌↔◌}
 use Rattle.cert_text.specs.declared.claim.Claim.{Claim}
 use Rattle.cert_law.specs.Claims.{IsTrueOf}

@@ -1,4 +1,4 @@
-use Rattle.std.proofs.Common.{◌≡◌, ◌<◌, ap, sym, ◌∙◌, subst, arith, false, true≢false}
+use Rattle.std.proofs.Common.{◌≡◌, ◌<◌, sym, ◌∙◌, arith, false, true≢false}
 use Rattle.std.proofs.lemmas.Bool.{false_from_ne_true}
 use Rattle.chain_sums.specs.Sums.{column_follows}
 use Rattle.cert_check.proofs.NumberLemmas.{follow_from, follow_test, passing_here, passing_later}

@@ -1,8 +1,8 @@
 use Rattle.fux_grid.specs.Exercises.{IsValid}
 use Rattle.fux_text.specs.Reading.{exercise_in}
-use Rattle.fux_text.specs.Texts.{HasFault, IsTextOf}
+use Rattle.fux_text.specs.Texts.{IsTextOf}
 use Rattle.fux_text.proofs.Answered.{given-both, given-fault, given-only, given-first}
-use Rattle.fux_text.proofs.ReadTexts.{read-text, text-read}
+use Rattle.fux_text.proofs.ReadTexts.{fault-read, read-fault, read-text, text-read}
 use Rattle.fux_text.proofs.ValidText.{exercise-valid}
 use Rattle.fux_text.proofs.reading.read.Goals as goal
 
@@ -12,15 +12,15 @@ returns-clause-ok c =
     (read-text c.args.bytes.now) (exercise-valid c.args.bytes.now)
 
 pub returns-clause-fault : goal.returns-clause-fault
-unfolding HasFault
 returns-clause-fault c = λ kind line column e.
-    given-fault c.exercise_in.result (exercise_in c.args.bytes.now) kind line column e c.exercise_in.ensures
+    read-fault c.args.bytes.now kind line column
+    (given-fault c.exercise_in.result (exercise_in c.args.bytes.now) kind line column e c.exercise_in.ensures)
 
 pub returns-clause-only : goal.returns-clause-only
 returns-clause-only c = λ ex is.
     given-only c.exercise_in.result (exercise_in c.args.bytes.now) ex (text-read c.args.bytes.now ex is) c.exercise_in.ensures
 
 pub returns-clause-first : goal.returns-clause-first
-unfolding HasFault
 returns-clause-first c = λ kind line column has.
-    given-first c.exercise_in.result (exercise_in c.args.bytes.now) kind line column has c.exercise_in.ensures
+    given-first c.exercise_in.result (exercise_in c.args.bytes.now) kind line column
+    (fault-read c.args.bytes.now kind line column has) c.exercise_in.ensures

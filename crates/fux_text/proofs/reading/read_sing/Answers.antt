@@ -1,8 +1,8 @@
 use Rattle.fux_grid.specs.Exercises.{IsGiven}
 use Rattle.fux_text.specs.Reading.{setting_alone}
-use Rattle.fux_text.specs.Texts.{HasSingFault, AreSingLinesOf}
+use Rattle.fux_text.specs.Texts.{AreSingLinesOf}
 use Rattle.fux_text.proofs.Answered.{given-both, given-fault, given-only, given-first}
-use Rattle.fux_text.proofs.ReadTexts.{lines-read, read-lines}
+use Rattle.fux_text.proofs.ReadTexts.{lines-read, read-lines, read-sing_fault, sing_fault-read}
 use Rattle.fux_text.proofs.ValidText.{alone-valid}
 use Rattle.fux_text.proofs.reading.read_sing.Goals as goal
 
@@ -14,9 +14,10 @@ returns-clause-ok c =
     (λ score. read-lines ex lines score c.requires) (λ score. alone-valid ex lines score c.requires)
 
 pub returns-clause-fault : goal.returns-clause-fault
-unfolding HasSingFault
 returns-clause-fault c = λ kind line column e.
-    given-fault c.setting_alone.result (setting_alone c.args.ex.now c.args.lines.now) kind line column e c.setting_alone.ensures
+    read-sing_fault c.args.ex.now c.args.lines.now kind line column
+    (given-fault c.setting_alone.result (setting_alone c.args.ex.now c.args.lines.now) kind line column e
+    c.setting_alone.ensures)
 
 pub returns-clause-only : goal.returns-clause-only
 returns-clause-only c = λ score are.
@@ -24,6 +25,6 @@ returns-clause-only c = λ score are.
     (lines-read c.args.ex.now c.args.lines.now score c.requires are) c.setting_alone.ensures
 
 pub returns-clause-first : goal.returns-clause-first
-unfolding HasSingFault
 returns-clause-first c = λ kind line column has.
-    given-first c.setting_alone.result (setting_alone c.args.ex.now c.args.lines.now) kind line column has c.setting_alone.ensures
+    given-first c.setting_alone.result (setting_alone c.args.ex.now c.args.lines.now) kind line column
+    (sing_fault-read c.args.ex.now c.args.lines.now kind line column c.requires has) c.setting_alone.ensures

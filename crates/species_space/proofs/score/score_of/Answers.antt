@@ -1,6 +1,6 @@
 use Rattle.std.proofs.Common.{◌≡◌, ◌++◌, ◌∷◌, [], take, ap, sym, ◌∙◌, IsOk, arith}
 use Rattle.std.proofs.lemmas.List.Elements.{same_from_all_zip}
-use Rattle.species_space.specs.Paths.{prefix_at, live_parts}
+use Rattle.species_space.specs.Paths.{prefix_at, alive_parts}
 use Rattle.species_space.proofs.PathSteps.{number_in_menu, one_more_column}
 use Rattle.species_space.proofs.ScoreSteps.{chosen_column, column_fits}
 use Rattle.species_space.proofs.score.score_of.Goals as goal
@@ -8,7 +8,7 @@ use Rattle.species_space.proofs.score.score_of.Goals as goal
 pub column-column-requires-clause-within : goal.column-column-requires-clause-within
 column-column-requires-clause-within c =
     let ex = c.args.space.now.exercise in
-    number_in_menu ex c.args.path.now (live_parts ex c.args.path.now c.requires).menus c.loop-i.i c.loop-i-test.true
+    number_in_menu ex c.args.path.now (alive_parts ex c.args.path.now c.requires).menus c.loop-i.i c.loop-i-test.true
 
 pub loop-i-preserved : goal.loop-i-preserved
 loop-i-preserved c =

@@ -7,15 +7,17 @@ use Rattle.fux_grid.specs.Columns.{ColumnFollows}
 use Rattle.fux_grid.specs.Exercises.{columns_in}
 use Rattle.fux_grid.specs.Menus.{menu_of}
 use Rattle.fux_grid.proofs.MenuLemmas.{menu_of-full}
-use Rattle.rule_law.specs.Voices.{has_rule}
 use Rattle.fux_judge.specs.Rules.{rules_read}
+use Rattle.fux_judge.specs.Gauges.{least_of}
 use Rattle.fux_judge.specs.Penalties.{newly_broken, paid}
+use Rattle.floor_tables.specs.Tables.{IsRest}
+use Rattle.species_space.specs.FloorLaws.{floor_of_rest}
 use Rattle.fux_judge.specs.States.{IsStateOf}
 use Rattle.species_space.specs.Grows.{live_some}
 use Rattle.species_space.specs.Paths.{prefix_at, column_at, width_at, prefix_at-append}
 use Rattle.rule_law.specs.Prefixes.{GoesOn}
-use Rattle.species_space.proofs.Alive.{goes_on_from, any_read}
-use Rattle.species_space.proofs.Children.{as_long, strays, breaks, goes}
+use Rattle.species_space.proofs.Alive.{goes_on_from}
+use Rattle.species_space.proofs.Children.{as_long, strays, breaks, goes, rest_there}
 use Rattle.species_space.proofs.space.child_by.Goals as goal
 
 -- the column is the one that the number chooses after the path
@@ -27,31 +29,30 @@ returns-then-not-cells_follow c = λ path at.
     let ex = c.args.exercise.now in
     let k = c.args.k in
     let same = c.as_slice.ensures.value ∙ chosen ex path k c.args.node.now.state.newest.len c.args.column.now.items (as_long ex c.args.sheet.now c.args.node.now path at) c.requires.column in
-    strays ex path k at.is_live c.args.sheet.now
+    strays ex path k at.alive c.args.sheet.now
     (λ follows.
     let P : List Cell → List Cell → Type 0 = λ b n. ColumnFollows b n in
     let there : ColumnFollows c.before-before.result.now c.as_slice.result.now = subst (P c.before-before.result.now) (sym same) (subst (λ b. P b (column_at ex path k)) (sym (c.before-before.ensures (prefix_at ex path) at.state)) follows) in
     true≢false (sym (c.cells_follow.ensures.1 there) ∙ c.if-not-cells_follow.true))
 
-pub step-verdict-requires-clause-room : goal.step-verdict-requires-clause-room
-step-verdict-requires-clause-room c =
+pub step_unbroken-requires-clause-room : goal.step_unbroken-requires-clause-room
+step_unbroken-requires-clause-room c =
     let child = c.requires.child in
     omega (arith, as_long c.args.exercise.now c.args.sheet.now c.args.node.now child.path child.at, child.above)
 
-pub step-verdict-requires-clause-full : goal.step-verdict-requires-clause-full
-step-verdict-requires-clause-full c =
+pub step_unbroken-requires-clause-full : goal.step_unbroken-requires-clause-full
+step_unbroken-requires-clause-full c =
     let ex = c.args.exercise.now in
     let child = c.requires.child in
     let same = chosen ex child.path c.args.k c.args.node.now.state.newest.len c.args.column.now.items (as_long ex c.args.sheet.now c.args.node.now child.path child.at) c.requires.column in
     ap length same ∙ menu_of-full ex (length child.path) c.args.k [] child.within
 
-pub returns-then-breaks : goal.returns-then-breaks
-returns-then-breaks c = λ path at.
+pub returns-in_default : goal.returns-in_default
+returns-in_default c = λ path at.
     let ex = c.args.exercise.now in
     let k = c.args.k in
     let p = prefix_at ex path in
     let same = chosen ex path k c.args.node.now.state.newest.len c.args.column.now.items (as_long ex c.args.sheet.now c.args.node.now path at) c.requires.column in
-    let broken = c.step-verdict.result.broken.bits in
     let child = c.requires.child in
     let long = as_long ex c.args.sheet.now c.args.node.now path at in
     let longer = as_long ex c.args.sheet.now c.args.node.now child.path child.at in
@@ -59,11 +60,9 @@ returns-then-breaks c = λ path at.
     let same_length : length child.path ≡ length path = sym longer ∙ long in
     let within : k < width_at ex path = subst (λ n. k < length (menu_of ex n)) same_length child.within in
     let there = subst (λ b. ColumnFollows b (column_at ex path k)) (c.before-before.ensures p at.state) (subst (ColumnFollows c.before-before.result.now) (c.as_slice.ensures.value ∙ same) (c.cells_follow.ensures.0 c.if-not-cells_follow.false)) in
-    let comes = subst (λ col. GoesOn ex p (col ∷ [])) (sym same) (goes_on_from ex path k c.requires.valid.most_voices at.is_live room within there) in
-    breaks ex path k at.is_live c.args.sheet.now
-    (ap (λ col. list_any (newly_broken ex p col) rules_read) (sym same)
-    ∙ sym (any_read (has_rule broken) (newly_broken ex p c.args.column.now.items) (c.step-verdict.ensures.broken p at.state comes))
-    ∙ sym c.breaks.ensures ∙ c.if-breaks.true)
+    let comes = subst (λ col. GoesOn ex p (col ∷ [])) (sym same) (goes_on_from ex path k c.requires.valid.most_voices at.alive room within there) in
+    breaks ex path k at.alive c.args.sheet.now
+    (ap (λ col. list_any (newly_broken ex p col) rules_read) (sym same) ∙ c.in_default.ensures.broken p at.state comes)
 
 pub returns : goal.returns
 returns c = λ path at.
@@ -78,23 +77,30 @@ returns c = λ path at.
     let same_length : length child.path ≡ length path = sym longer ∙ long in
     let within : k < width_at ex path = subst (λ n. k < length (menu_of ex n)) same_length child.within in
     let same = chosen ex path k c.args.node.now.state.newest.len c.args.column.now.items long c.requires.column in
-    let broken = c.step-verdict.result.broken.bits in
+    let broken = c.in-Some.verdict.broken.bits in
     let before = c.before-before.ensures p at.state in
     let there = subst (λ b. ColumnFollows b (column_at ex path k)) before (subst (ColumnFollows c.before-before.result.now) (c.as_slice.ensures.value ∙ same) (c.cells_follow.ensures.0 c.if-not-cells_follow.false)) in
-    let comes = subst (λ col. GoesOn ex p (col ∷ [])) (sym same) (goes_on_from ex path k c.requires.valid.most_voices at.is_live room within there) in
-    let unbroken =
-    ap (λ col. list_any (newly_broken ex p col) rules_read) (sym same)
-    ∙ sym (any_read (has_rule broken) (newly_broken ex p c.args.column.now.items) (c.step-verdict.ensures.broken p at.state comes))
-    ∙ sym c.breaks.ensures ∙ c.if-breaks.false in
-    let live = goes ex path k at.is_live room within there unbroken in
+    let comes = subst (λ col. GoesOn ex p (col ∷ [])) (sym same) (goes_on_from ex path k c.requires.valid.most_voices at.alive room within there) in
+    let unbroken = ap (λ col. list_any (newly_broken ex p col) rules_read) (sym same) ∙ c.in-Some.ensures.unbroken p at.state comes in
+    let live = goes ex path k at.alive room within there unbroken in
     let next : p ++ c.args.column.now.items ∷ [] ≡ prefix_at ex (path ++ k ∷ []) = ap (λ col. p ++ col ∷ []) same ∙ sym (prefix_at-append ex path k) in
-    let cost : c.args.node.now.paid + c.step-verdict.result.paid ≡ paid ex sheet (prefix_at ex (path ++ k ∷ [])) =
-    ap (λ n. n + c.step-verdict.result.paid) at.paid ∙ sym (c.step-verdict.ensures.paid p at.state comes) ∙ ap (paid ex sheet) next in (
+    let cost : c.args.node.now.paid + c.in-Some.verdict.paid ≡ paid ex sheet (prefix_at ex (path ++ k ∷ [])) =
+    ap (λ n. n + c.in-Some.verdict.paid) at.paid ∙ sym (c.in-Some.ensures.paid p at.state comes) ∙ ap (paid ex sheet) next in
+    let lines : c.in-Some.verdict.least ≡ least_of ex sheet (prefix_at ex (path ++ k ∷ [])) =
+    c.in-Some.ensures.least p at.state comes.longer ∙ ap (least_of ex sheet) next in
+    let is : IsRest ex sheet (length path) (column_at ex path k) (Some c.args.rest) =
+    subst (λ (n : ℕ). IsRest ex sheet n (column_at ex path k) (Some c.args.rest)) long
+    (subst (λ (col : List Cell). IsRest ex sheet c.args.node.now.state.newest.len col (Some c.args.rest)) same c.requires.rest) in
+    let rest = sym (rest_there ex path k at.alive sheet (Some c.args.rest) room is) in
+    let sum : paid ex sheet (prefix_at ex (path ++ k ∷ [])) + least_of ex sheet (prefix_at ex (path ++ k ∷ [])) + c.args.rest ≡ c.args.node.now.paid + c.in-Some.verdict.paid + c.in-Some.verdict.least + c.args.rest =
+    omega (arith, cost, lines) in (
       record {
-        state = subst (λ q. IsStateOf ex q c.step-verdict.result.state) next (c.step-verdict.ensures.state p at.state);
-        is_live = live;
+        state = subst (λ q. IsStateOf ex q c.in-Some.verdict.state) next (c.in-Some.ensures.state p at.state);
+        alive = live;
         paid = cost;
-        small = omega (arith, at.small, c.step-verdict.ensures.bound, length-append path (k ∷ []));
+        least = lines;
+        few = omega (arith, at.few, c.in-Some.ensures.bound, length-append path (k ∷ []));
+        little = c.in-Some.ensures.least_bound;
       },
-      live_some ex sheet (path ++ k ∷ []) live ∙ ap Some (sym cost),
+      live_some ex sheet (path ++ k ∷ []) live ∙ floor_of_rest ex sheet (prefix_at ex (path ++ k ∷ [])) c.args.rest rest ∙ ap Some sum,
     )

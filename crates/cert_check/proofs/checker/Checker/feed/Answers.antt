@@ -1,4 +1,4 @@
-use Rattle.std.proofs.Common.{◌≡◌, ℕ, ◌+◌, ◌++◌, ◌∷◌, [], List, Option, Some, None, IsTrue, reverse, ap, sym, ◌∙◌, subst, arith, refl, true≢false}
+use Rattle.std.proofs.Common.{◌≡◌, ◌+◌, ◌++◌, ◌∷◌, List, Option, reverse, ap, sym, ◌∙◌, subst, true≢false}
 use Rattle.std.specs.Prelude.{IfSome}
 use Rattle.cert_check.specs.Cases.{Matter}
 use Rattle.cert_check.specs.Checking.{Checking}
@@ -6,7 +6,8 @@ use Rattle.cert_check.specs.Prefixes.{IsJudged}
 use Rattle.cert_check.specs.Walks.{owed_at, owed_later, prefix_of}
 use Rattle.cert_check.specs.declared.judged.Judged.{Judged}
 use Rattle.cert_check.proofs.CheckingLemmas.{owed-taken, refuses_seen, takes_seen}
-use Rattle.cert_law.specs.Certificates.{OwesRefuting, owed_by}
+use Rattle.cert_law.specs.Certificates.{OwesRefuting}
+use Rattle.cert_law.proofs.FloorFacts.{floors_hold}
 use Rattle.cert_law.proofs.Valid.{claim_kept}
 use Rattle.fux_grid.specs.declared.cell.Cell.{Cell}
 use Rattle.cert_check.proofs.checker.Checker.feed.Goals as goal
@@ -36,12 +37,12 @@ invariant_of-self c =
       case = c.self.invariant.case;
       has = c.self.invariant.has;
       is = c.go_on.ensures.walk;
-      owes = λ unrefused floors.
-          let before = subst (λ (ps : List (List (List Cell))). OwesRefuting t.exercise t.sheet t.head ps) owed (c.self.invariant.owes unrefused floors) in
+      owes = λ unrefused.
+          let before = subst (λ (ps : List (List (List Cell))). OwesRefuting t.exercise t.sheet t.head ps) owed (c.self.invariant.owes unrefused) in
           let holds = (c.is_true.ensures p judged c.rest-rest.ensures).0 c.if-not-is_true.false in
           subst (λ (ps : List (List (List Cell))). OwesRefuting t.exercise t.sheet t.head ps)
           (sym (c.go_on.ensures.owed ∙ ap (λ ps. ps ++ later) (owed-taken t.exercise p c.args.claim c.is_open.result c.is_open.ensures)))
-          (claim_kept t.exercise t.sheet c.self.invariant.case.valid.most_voices floors t.head c.args.claim p later c.self.invariant.case.sound holds before);
+          (claim_kept t.exercise t.sheet c.self.invariant.case.valid.most_voices (floors_hold t.exercise c.self.invariant.case.valid t.sheet) t.head c.args.claim p later c.self.invariant.case.sound holds before);
     }
 
 pub returns-clause-taken : goal.returns-clause-taken

@@ -1,9 +1,7 @@
-use Rattle.std.proofs.Common.{◌≡◌, ◌||◌, ◌&&◌, ◌∷◌, [], ap, sym, ◌∙◌, arith}
+use Rattle.std.proofs.Common.{◌||◌, ◌∷◌, [], ap, sym, ◌∙◌, arith}
 use Rattle.std.proofs.lemmas.List.{length-append}
 use Rattle.cert_law.specs.Claims.{has_break_of}
 use Rattle.cert_check.proofs.BreakLemmas.{breaks-push}
-use Rattle.fux_judge.specs.Penalties.{newly_broken}
-use Rattle.fux_judge.specs.Rules.{is_read}
 use Rattle.rule_law.specs.Voices.{has_rule}
 use Rattle.cert_check.proofs.judged.Judged.after.Goals as goal
 

@@ -1,14 +1,10 @@
-use Rattle.std.proofs.Common.{◌≡◌, ◌<◌, ℕ, ◌∷◌, ◌++◌, [], List, length, slice_index_or, ap, sym, ◌∙◌, subst, arith}
+use Rattle.std.proofs.Common.{◌≡◌, ◌<◌, ◌∷◌, ◌++◌, [], length, slice_index_or, ap, sym, ◌∙◌, subst, arith}
 use Rattle.std.specs.Ordering.{ordering_then}
 use Rattle.cert_text.specs.declared.answers.CertHead.{CertHead}
-use Rattle.cert_text.specs.declared.answers.CertHead.TheVariants.{Best}
 use Rattle.cert_law.specs.Certificates.{IsHeadSound}
 use Rattle.cert_law.specs.Writer.{columns_order}
 use Rattle.cert_law.proofs.Orders.{order-push}
 use Rattle.cert_check.specs.Prefixes.{order_with}
-use Rattle.fux_grid.specs.declared.cell.Cell.{Cell}
-use Rattle.fux_grid.specs.Exercises.{columns_in}
-use Rattle.fux_grid.specs.Menus.{IsInMenu}
 use Rattle.fux_grid.specs.Order.{column_order}
 use Rattle.cert_check.proofs.judged.Judged.order_after.Goals as goal
 

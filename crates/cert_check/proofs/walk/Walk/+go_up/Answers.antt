@@ -1,8 +1,7 @@
-use Rattle.std.proofs.Common.{◌≡◌, ◌+◌, ◌≤◌, ap, sym, ◌∙◌, subst, arith, reverse, length}
+use Rattle.std.proofs.Common.{arith, reverse, length}
 use Rattle.cert_check.specs.Cases.{matter_of}
 use Rattle.cert_check.proofs.LevelLemmas.{level_parts}
 use Rattle.cert_check.specs.Walks.{prefix_of}
-use Rattle.fux_grid.specs.Menus.{menu_of}
 use Rattle.cert_check.proofs.walk.Walk.+go_up.Goals as goal
 
 pub overflow_add-level : goal.overflow_add-level

@@ -1,14 +1,12 @@
-use Rattle.std.proofs.Common.{◌≡◌, ◌<◌, ◌≤◌, ◌*◌, ◌++◌, ◌∷◌, [], List, Some, ap, sym, ◌∙◌, subst, arith, length, reverse, slice_index_or}
+use Rattle.std.proofs.Common.{◌≡◌, ◌≤◌, ◌++◌, ◌∷◌, [], List, Some, ap, sym, ◌∙◌, subst, arith, length, reverse, slice_index_or}
 use Rattle.cert_check.specs.Cases.{matter_of}
 use Rattle.cert_check.specs.declared.walk.Level.{Level}
 use Rattle.cert_check.specs.Prefixes.{IsJudged}
-use Rattle.cert_check.specs.Walks.{AreLevels, IsNextNumber, IsWalk, column_after, prefix_of}
+use Rattle.cert_check.specs.Walks.{AreLevels, column_after, prefix_of}
 use Rattle.cert_check.proofs.LevelLemmas.{goes_on_by, length-levels, owed-entered, reverse-level}
 use Rattle.cert_check.proofs.NumberLemmas.{number_moved}
 use Rattle.fux_grid.specs.declared.cell.Cell.{Cell}
 use Rattle.fux_grid.specs.declared.exercise.Exercise.{Exercise}
-use Rattle.fux_grid.specs.Columns.{newest_column}
-use Rattle.fux_grid.specs.Exercises.{columns_in}
 use Rattle.fux_grid.specs.Menus.{menu_of}
 use Rattle.fux_grid.proofs.MenuLemmas.{menu_of-full}
 use Rattle.cert_check.proofs.walk.Walk.enter.Goals as goal

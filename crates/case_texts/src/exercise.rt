@@ -1,0 +1,175 @@
+//! Exercises by lines.
+
+ghost use Rattle.std.specs.Prelude.{◌≡◌, ◌≤◌, IfOk, length};
+ghost use Rattle.fux_grid.specs.Exercises.{IsValid, columns_in};
+
+use crate::score::{pitch_of, pitches_of, score_of};
+use fux_grid::{Exercise, RangeLine, Relax, Score, VoiceSet};
+use fux_pitch::{List, Mode, Pitch};
+use std::alloc::Global;
+use std::test::Fail;
+
+/// An exercise, and a score of its voices.
+#[derive(Drop)]
+pub struct Case {
+    pub exercise: Exercise,
+    pub score: Score,
+}
+
+/// The mode of a name.
+pub fn mode_of(name: &str) -> Result<Mode, Fail> {
+    Ok(match name {
+        "dorian" => Mode::Dorian,
+        "phrygian" => Mode::Phrygian,
+        "lydian" => Mode::Lydian,
+        "mixolydian" => Mode::Mixolydian,
+        "aeolian" => Mode::Aeolian,
+        "ionian" => Mode::Ionian,
+        _ => return Err("no mode".into()),
+    })
+}
+
+fn number(word: Option<&str>) -> Result<u8, Fail> {
+    Ok(word.ok_or("no number")?.parse::<u8>()?)
+}
+
+/// A line as `1 C4 C5`, or `1 C4 C5 2 3` for these bars alone.
+fn range_line(line: &str) -> Result<RangeLine, Fail> {
+    let mut words = line.split(' ');
+    let voice = number(words.next())?;
+    let low = pitch_of(words.next().ok_or("no low end")?)?;
+    let high = pitch_of(words.next().ok_or("no high end")?)?;
+    let mut bars = None;
+    if let Some(from) = words.next() {
+        bars = Some((from.parse::<u8>()?, number(words.next())?));
+    }
+    Ok(RangeLine {
+        voice,
+        low,
+        high,
+        bars,
+    })
+}
+
+fn has_line(lines: &[RangeLine], voice: u8) -> bool {
+    for line in lines {
+        if line.voice == voice {
+            return true;
+        }
+    }
+    false
+}
+
+/// The lines that begin with `range`, and a wide one for each voice that has none, but for that of the cantus.
+fn ranges(alloc: Global, text: &str, voices: u8, cantus_voice: u8) -> Result<Vec<RangeLine>, Fail> {
+    let (low, high) = (pitch_of("C3")?, pitch_of("D6")?);
+    let mut ranges = Vec::new(alloc);
+    for line in text.lines() {
+        if let Some(line) = line.strip_prefix("range ") {
+            ranges.push(range_line(line)?)?;
+        }
+    }
+    for voice in 0..voices {
+        if voice != cantus_voice && !has_line(&ranges, voice) {
+            ranges.push(RangeLine {
+                voice,
+                low,
+                high,
+                bars: None,
+            })?;
+        }
+    }
+    Ok(ranges)
+}
+
+/// A line for all bars as `16 3 30`: a rule, the bits of its voices or 0 for all sets of them, and a price.
+fn relax_line(line: &str, bars: u8) -> Result<Relax, Fail> {
+    let mut words = line.split(' ');
+    let rule = number(words.next())?;
+    let bits = number(words.next())?;
+    let price = words.next().ok_or("no price")?.parse::<u16>()?;
+    Ok(Relax {
+        rule,
+        voices: if bits == 0 {
+            None
+        } else {
+            Some(VoiceSet { bits })
+        },
+        from: 1,
+        to: bars,
+        price,
+    })
+}
+
+/// The lines that begin with `relax`.
+fn relaxed(alloc: Global, text: &str, bars: u8) -> Result<Vec<Relax>, Fail> {
+    let mut relaxed = Vec::new(alloc);
+    for line in text.lines() {
+        if let Some(line) = line.strip_prefix("relax ") {
+            relaxed.push(relax_line(line, bars)?)?;
+        }
+    }
+    Ok(relaxed)
+}
+
+/// The line that begins with `cantus`.
+fn cantus(alloc: Global, text: &str) -> Result<Vec<Pitch>, Fail> {
+    for line in text.lines() {
+        if let Some(names) = line.strip_prefix("cantus ") {
+            return pitches_of(alloc, names);
+        }
+    }
+    Err("no cantus".into())
+}
+
+/// The exercise of a text, for so many voices: a line with the mode, the species, the voice that has it and the voice of the cantus, and
+/// then a line that begins with `cantus`, and lines that begin with `range` or `relax`. Other lines are passed over.
+pub fn exercise_of(alloc: Global, text: &str, voices: u8) -> Result<Exercise, Fail>
+    ensures { IfOk result (λ exercise. IsValid exercise) }
+{
+    let mut words = text.lines().next().ok_or("no line")?.split(' ');
+    let mode = mode_of(words.next().ok_or("no mode")?)?;
+    let species = number(words.next())?;
+    let species_voice = number(words.next())?;
+    let cantus_voice = number(words.next())?;
+    let cantus = cantus(alloc, text)?;
+    let bars = u8::try_from(cantus.len())?;
+    let ranges = ranges(alloc, text, voices, cantus_voice)?;
+    let relaxed = relaxed(alloc, text, bars)?;
+    let exercise = Exercise {
+        mode,
+        voices,
+        bars,
+        species,
+        species_voice,
+        cantus_voice,
+        cantus: List::new(cantus),
+        ranges: List::new(ranges),
+        relax: List::new(relaxed),
+        setting: None,
+    };
+    if !exercise.is_valid() {
+        return Err("no valid exercise".into());
+    }
+    Ok(exercise)
+}
+
+/// The exercise of a text, and the score of its lines that have a colon: the voices, the lowest first.
+pub fn case_of(alloc: Global, text: &str) -> Result<Case, Fail>
+    ensures valid { IfOk result (λ case. IsValid case.exercise) }
+    ensures voices { IfOk result (λ case. case.score.voices ≡ case.exercise.voices) }
+    ensures few { IfOk result (λ case. length case.score.columns ≤ columns_in case.exercise) }
+{
+    let mut lines = Vec::new(alloc);
+    for line in text.lines() {
+        if line.contains(':') {
+            lines.push(line)?;
+        }
+    }
+    let score = score_of(alloc, &lines)?;
+    let exercise = exercise_of(alloc, text, score.voices())?;
+    if score.voices() != exercise.voices || score.len() > 8 * usize::from(exercise.bars) {
+        return Err("a score of another size".into());
+    }
+    Ok(Case { exercise, score })
+}

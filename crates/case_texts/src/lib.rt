@@ -1,0 +1,8 @@
+//! Exercises and scores from short texts, for the crates of worked cases.
+#![tactic(auto)]
+
+mod exercise;
+mod score;
+
+pub use exercise::{Case, case_of, exercise_of, mode_of};
+pub use score::{pitch_of, pitches_of, score_of};

@@ -1,0 +1,33 @@
+-- Columns that hold all they sound, and menus of no others.
+use Rattle.std.specs.Prelude.{◌≡◌, ℕ, ◌+◌, ◌*◌, ◌^◌, ◌<◌, Bool, true, false, List, [], length, slice_index_or}
+use Rattle.std.specs.List.{list_all}
+use Rattle.fux_grid.specs.declared.cell.Cell.{Cell}
+use Rattle.fux_grid.specs.declared.cell.Cell.TheVariants.{Rest, Hold, Start}
+use Rattle.fux_grid.specs.Cells.{cell_in}
+use Rattle.chain_sums.specs.Packed.{packed_cell}
+
+-- the cell that goes on with what a cell sounds
+abbrev pub held : Cell → Cell
+held Rest = Rest
+held (Hold p) = Hold p
+held (Start p) = Hold p
+
+-- a cell holds a note
+abbrev pub is_hold : Cell → Bool
+is_hold Rest = false
+is_hold (Hold p) = true
+is_hold (Start p) = false
+
+-- each cell of a column does
+abbrev pub all_hold : List Cell → Bool
+all_hold = list_all is_hold
+
+-- and each of each column
+abbrev pub IsStill : List (List Cell) → Type 0
+IsStill columns = (k : ℕ) → k < length columns → all_hold (slice_index_or columns k []) ≡ true
+
+-- the number of the column that goes on with all that a column of at most four cells sounds
+abbrev pub packed_held : List Cell → ℕ
+packed_held col =
+    2 ^ 48 * packed_cell (held (cell_in col 0))
+    + (2 ^ 32 * packed_cell (held (cell_in col 1)) + (2 ^ 16 * packed_cell (held (cell_in col 2)) + packed_cell (held (cell_in col 3))))

@@ -1,0 +1,109 @@
+//! How far back the newest columns tell what a note is: S15 is settled at all places before.
+
+ghost use Rattle.std.specs.Prelude.{◌≡◌, ◌<◌, ◌≤◌, ◌+◌, ◌-◌, ◌∷◌, ◌++◌, [], ℕ, List, IsTrue, true, drop, length, slice_index_or, take};
+ghost use Rattle.fux_grid.specs.declared.cell.Cell.{Cell as ACell};
+ghost use Rattle.fux_grid.specs.Cells.{cell_in};
+ghost use Rattle.fux_grid.specs.Exercises.{IsValid, columns_in, species_in};
+ghost use Rattle.rule_law.specs.Newest.{AreNewestOf};
+ghost use Rattle.rule_law.specs.Prefixes.{GoesOn};
+ghost use Rattle.rule_law.specs.Rulebooks.{IsAmong, newly_breaks};
+ghost use Rattle.rule_law.specs.Terms as terms;
+ghost use Rattle.rule_law.specs.Voices as voices_words;
+ghost use Rattle.dissonance_rules.specs.Book.{rule_row};
+ghost use Rattle.dissonance_rules.specs.Passing as passing;
+ghost use Rattle.dissonance_rules.specs.Passing.{has_notes_after};
+
+use fux_grid::{Exercise, cell_of, species_of};
+use rule_law::{LatePlaces, NewestColumns, is_free, starts};
+
+/// How many notes after a clash tell what it is, for a voice of a species.
+fn notes_needed(species: u8) -> usize
+    ensures value { result ≡ passing.notes_needed species }
+    ensures some { 1 ≤ result }
+{
+    if species == 3 || species == 5 { 2 } else { 1 }
+}
+
+/// Whether a voice starts a note in column `j`.
+#[inline]
+fn starts_at(newest: &NewestColumns, ex: &Exercise, v: u8, j: usize) -> bool
+    requires { ex.now.voices ≤ 4 }
+    ensures { (s : List (List ACell)) → AreNewestOf ex.now.voices s newest.now → length s ≤ j + 24
+        → result ≡ terms.starts (cell_in (slice_index_or s j []) v) }
+{
+    starts(cell_of(newest.at(j, usize::from(ex.voices)), v as usize))
+}
+
+/// A place up to which, from a first one on, a voice has as many later notes in the first `end` columns as tell what the note there is.
+fn told_until(newest: &NewestColumns, ex: &Exercise, v: u8, first: usize, end: usize) -> usize
+    requires voices { ex.now.voices ≤ 4 }
+    requires order { first ≤ end }
+    requires within { end ≤ newest.now.len }
+    requires near { newest.now.len ≤ first + 24 }
+    ensures from { first ≤ result }
+    ensures to { result ≤ end }
+    ensures told { (s : List (List ACell)) → AreNewestOf ex.now.voices s newest.now
+        → (i : ℕ) → first ≤ i → i < result
+        → has_notes_after (species_in ex.now v) i v (drop (i + 1) (take end s)) ≡ true }
+{
+    let mut left = notes_needed(species_of(ex, v));
+    for k in 0..end - first {
+        left -= usize::from(starts_at(newest, ex, v, end - 1 - k));
+        if left == 0 {
+            return end - 1 - k;
+        }
+    }
+    first
+}
+
+/// The same for each free voice.
+fn all_told_until(newest: &NewestColumns, ex: &Exercise, first: usize, end: usize) -> usize
+    requires voices { ex.now.voices ≤ 4 }
+    requires order { first ≤ end }
+    requires within { end ≤ newest.now.len }
+    requires near { newest.now.len ≤ first + 24 }
+    ensures from { first ≤ result }
+    ensures to { result ≤ end }
+    ensures told { (s : List (List ACell)) → AreNewestOf ex.now.voices s newest.now
+        → (v : ℕ) → v < ex.now.voices → voices_words.is_free ex.now v ≡ true → (i : ℕ) → first ≤ i → i < result
+        → has_notes_after (species_in ex.now v) i v (drop (i + 1) (take end s)) ≡ true }
+{
+    let mut told = end;
+    for v in 0..ex.voices {
+        if is_free(ex, v) {
+            told = told.min(told_until(newest, ex, v, first, end));
+        }
+    }
+    told
+}
+
+/// Those of a late rule's places at which, as the newest columns tell, the newest one may settle a break. They are given as the rule's
+/// places at that column; for all rules but S15 they stay as they are.
+pub fn places_left(
+    newest: &NewestColumns,
+    rule: u8,
+    ex: &Exercise,
+    places: LatePlaces,
+) -> LatePlaces
+    requires late { IsTrue (rule_row rule).late }
+    requires valid { IsValid ex.now }
+    requires begun { 0 < newest.now.len }
+    requires room { newest.now.len ≤ columns_in ex.now }
+    requires first { places.first ≡ (rule_row rule).first ex.now (newest.now.len - 1) }
+    requires count { places.count ≡ (rule_row rule).count ex.now (newest.now.len - 1) }
+    ensures from { places.first ≤ result.first }
+    ensures to { result.first + result.count ≤ places.first + places.count }
+    ensures left { (p : List (List ACell)) (col : List ACell)
+        → AreNewestOf ex.now.voices (p ++ col ∷ []) newest.now → GoesOn ex.now p (col ∷ [])
+        → (voices i : ℕ) → newly_breaks (rule_row rule) ex.now voices p col i ≡ true
+        → IsAmong result.first result.count i }
+{
+    if rule != 15 || places.count == 0 {
+        return places;
+    }
+    let first = all_told_until(newest, ex, places.first, newest.len - 1);
+    LatePlaces {
+        first,
+        count: newest.len - first,
+    }
+}

@@ -1,0 +1,70 @@
+//! The chains of an exercise.
+
+ghost use Rattle.std.specs.Prelude.{◌≡◌};
+ghost use Rattle.fux_grid.specs.Exercises.{IsValid};
+ghost use Rattle.floor_tables.specs.Tables.{Task};
+
+use chain_sums::Links;
+use fux_grid::{Column, Exercise, MenuFault, menu, width};
+use fux_judge::{column_cost, link_cost};
+use penalty_sheet::Sheet;
+use std::alloc::Global;
+use std::marker::Model;
+
+/// The columns of an exercise's menus, and what two neighbors cost by a sheet.
+#[derive(Drop)]
+pub(crate) struct ColumnLinks<'a> {
+    exercise: &'a Exercise,
+    sheet: &'a Sheet,
+}
+
+impl<'a> Model for ColumnLinks<'a> {
+    ghost use Rattle.fux_grid.specs.Exercises.{IsValid};
+    ghost use Rattle.floor_tables.specs.Tables.{Task};
+
+    ghost Value = { Task };
+
+    ghost view = { λ l. record { exercise = l.exercise.now; sheet = l.sheet.now } };
+
+    ghost invariant = { λ l. IsValid l.exercise.now };
+}
+
+impl<'a> ColumnLinks<'a> {
+    /// Those of this exercise by this sheet.
+    pub(crate) fn new(exercise: &'a Exercise, sheet: &'a Sheet) -> ColumnLinks<'a>
+        requires { IsValid exercise.now }
+        ensures { result ≡ record { exercise = exercise.entry.now; sheet = sheet.entry.now } }
+    {
+        ColumnLinks { exercise, sheet }
+    }
+}
+
+impl<'a> Links for ColumnLinks<'a> {
+    ghost use Rattle.floor_tables.specs.Floors.{chains_of};
+
+    ghost chains = { λ task. chains_of task.exercise task.sheet };
+
+    fn places(&self) -> usize {
+        8 * self.exercise.bars as usize
+    }
+
+    fn voices(&self) -> usize {
+        self.exercise.voices as usize
+    }
+
+    fn width(&self, i: usize) -> u64 {
+        width(self.exercise, i)
+    }
+
+    fn menu(&self, alloc: Global, i: usize) -> Result<Vec<Column>, MenuFault> {
+        menu(alloc, self.exercise, i)
+    }
+
+    fn cost(&self, i: usize, prev: Option<&Column>, next: &Column) -> Option<u64> {
+        link_cost(self.exercise, self.sheet, i, prev, next)
+    }
+
+    fn least_cost(&self, i: usize, next: &Column) -> Option<u64> {
+        column_cost(self.exercise, self.sheet, i, next)
+    }
+}

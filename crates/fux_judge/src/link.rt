@@ -1,0 +1,234 @@
+//! What a column decides by itself, and with the one before it.
+
+ghost use Rattle.std.specs.Prelude.{◌≡◌, ◌≤◌, ◌<◌, ◌+◌, ◌*◌, ◌^◌, ◌&&◌, true, ℕ, List, Option, IsTrue, IfSome, IsSomeAnd, Some, length, nat_le, nat_lt};
+ghost use Rattle.std.specs.List.{list_all, list_any, sum_by};
+ghost use Rattle.fux_grid.specs.declared.cell.Cell.{Cell as ACell};
+ghost use Rattle.fux_grid.specs.Exercises.{IsValid, columns_in};
+ghost use Rattle.fux_judge.specs.Links.{column_of, given, is_of_neighbors, is_rule_between, is_toll_between, link_of, pair_of};
+ghost use Rattle.fux_judge.specs.Neighbors.{IsLink, breaks_at_link, breaks_strictly_at_link, charge_at_link, cost_at_link, is_strict_for};
+ghost use Rattle.fux_judge.specs.Penalties.{is_strict_at};
+
+use crate::numbers::{
+    RuleCrate, column_rules, column_tolls, crate_of, crate_of_toll, form_of, pair_rules, pair_tolls,
+};
+use fux_grid::{Cell, Column, Exercise, VoiceSet};
+use penalty_sheet::{Sheet, price_at, weight};
+use rule_law::{Latest, cells_of, latest_of_column, sets_of};
+
+/// A column of a setting, and the one before it.
+#[derive(Clone, Copy)]
+pub(crate) struct Link<'a> {
+    exercise: &'a Exercise,
+    /// The column's number.
+    place: usize,
+    /// The column before it; none where it is the setting's first.
+    prev: Option<&'a Column>,
+    /// The cells of that one.
+    before: &'a [Cell],
+    /// What each voice sounds there.
+    latest: Latest,
+    /// The cells of the column.
+    next: &'a [Cell],
+}
+
+/// The link of two columns.
+fn link_between<'a>(
+    ex: &'a Exercise,
+    i: usize,
+    prev: Option<&'a Column>,
+    next: &'a Column,
+) -> Link<'a>
+    requires valid { IsValid ex.now }
+    requires place { i < columns_in ex.now }
+    ensures link { IsLink result }
+    ensures exercise { result.exercise ≡ ex.entry }
+    ensures number { result.place ≡ i }
+    ensures prev { result.prev ≡ prev.entry }
+    ensures next { result.next.now ≡ next.now.items }
+{
+    let before = cells_of(prev);
+    Link {
+        exercise: ex,
+        place: i,
+        prev,
+        before,
+        latest: latest_of_column(before),
+        next: next.as_slice(),
+    }
+}
+
+/// Whether a rule of neighbors is broken there for a set of voices.
+fn is_broken(rule: u8, voices: VoiceSet, link: &Link<'_>) -> bool
+    requires rule { is_rule_between rule ≡ true }
+    requires link { IsLink link.now }
+    ensures { result ≡ breaks_at_link link.now rule voices.bits }
+{
+    let (ex, i, before, next) = (link.exercise, link.place, link.before, link.next);
+    let latest = &link.latest;
+    match crate_of(rule) {
+        Some(RuleCrate::Melody) => {
+            melody_rules::breaks(rule, ex, voices, i, before, latest, next)
+        }
+        Some(RuleCrate::Motion) => {
+            motion_rules::breaks(rule, ex, voices, i, before, latest, next)
+        }
+        Some(RuleCrate::Dissonance) => {
+            dissonance_rules::breaks(rule, ex, voices, i, before, latest, next)
+        }
+        Some(RuleCrate::Rhythm) => {
+            rhythm_cadence::breaks(rule, ex, voices, i, before, latest, next)
+        }
+        Some(RuleCrate::Doubling) => doubling_rules::doubling_breaks(ex, voices, i, next),
+        None => false,
+    }
+}
+
+/// Whether it is strictly broken there for a set of voices.
+fn is_strictly_broken(rule: u8, voices: VoiceSet, link: &Link<'_>) -> bool
+    requires rule { is_rule_between rule ≡ true }
+    requires link { IsLink link.now }
+    ensures { result ≡ (breaks_at_link link.now rule voices.bits
+        && is_strict_at rule link.now.exercise.now voices.bits link.now.place) }
+{
+    if !is_broken(rule, voices, link) {
+        return false;
+    }
+    let bar = (link.place / 8 + 1) as u8;
+    price_at(link.exercise, rule, voices, bar).is_strict()
+}
+
+/// Whether it is strictly broken there for one of these sets of voices.
+fn is_strictly_broken_for(sets: &[u8], rule: u8, link: &Link<'_>) -> bool
+    requires rule { is_rule_between rule ≡ true }
+    requires link { IsLink link.now }
+    ensures { result ≡ is_strict_for link.now rule sets.now }
+{
+    for bits in sets {
+        if is_strictly_broken(rule, VoiceSet { bits: *bits }, link) {
+            return true;
+        }
+    }
+    false
+}
+
+/// Whether it is strictly broken there.
+fn breaks_rule(rule: u8, link: &Link<'_>) -> bool
+    requires rule { is_rule_between rule ≡ true }
+    requires link { IsLink link.now }
+    ensures { result ≡ breaks_strictly_at_link link.now rule }
+{
+    is_strictly_broken_for(sets_of(form_of(rule), link.exercise.voices), rule, link)
+}
+
+/// Whether one of these rules of neighbors is strictly broken there.
+fn breaks_one(rules: &[u8], link: &Link<'_>) -> bool
+    requires numbers { IsTrue (list_all is_rule_between rules.now) }
+    requires link { IsLink link.now }
+    ensures { result ≡ list_any (breaks_strictly_at_link link.now) rules.now }
+{
+    for rule in rules {
+        if breaks_rule(*rule, link) {
+            return true;
+        }
+    }
+    false
+}
+
+/// What a toll of neighbors costs there, without its weight.
+fn cost(toll: u8, link: &Link<'_>) -> u32
+    requires toll { is_toll_between toll ≡ true }
+    requires link { IsLink link.now }
+    ensures value { result ≡ cost_at_link link.now toll }
+    ensures bound { result ≤ 6 }
+{
+    let (ex, i, before, next) = (link.exercise, link.place, link.before, link.next);
+    let latest = &link.latest;
+    match crate_of_toll(toll) {
+        Some(RuleCrate::Melody) => melody_rules::cost(toll, ex, i, before, latest, next),
+        Some(RuleCrate::Motion) => {
+            if toll == 12 {
+                motion_rules::inner_moves(ex, before, next)
+            } else {
+                motion_rules::cost(toll, ex, i, before, latest, next)
+            }
+        }
+        Some(RuleCrate::Dissonance) => { dissonance_rules::cost(toll, ex, i, before, latest, next) }
+        Some(RuleCrate::Rhythm) => 0,
+        Some(RuleCrate::Doubling) => doubling_rules::doubling_cost(toll, ex, i, next),
+        None => 0,
+    }
+}
+
+/// What these tolls of neighbors cost there together, by weight.
+fn charges(tolls: &[u8], sheet: &Sheet, link: &Link<'_>) -> u64
+    requires kinds { IsTrue (list_all is_toll_between tolls.now) }
+    requires numbers { IsTrue (list_all (λ toll. nat_le 1 toll && nat_le toll 20) tolls.now) }
+    requires few { length tolls.now ≤ 20 }
+    requires link { IsLink link.now }
+    ensures value { result ≡ sum_by (charge_at_link sheet.now link.now) tolls.now }
+    ensures bound { result ≤ 2 ^ 24 }
+{
+    let mut sum = 0u64;
+    for toll in tolls {
+        let charge = u64::from(cost(*toll, link)) * u64::from(weight(sheet, *toll));
+        sum += charge;
+    }
+    sum
+}
+
+/// What a column costs by itself at place `i`, whatever stands before it: the tolls of a column, by weight. None exactly where
+/// it makes a strict break of a rule of a column.
+pub fn column_cost<'a>(ex: &'a Exercise, sheet: &Sheet, i: usize, next: &'a Column) -> Option<u64>
+    requires valid { IsValid ex.now }
+    requires place { i < columns_in ex.now }
+    ensures value { result ≡ column_of ex.now sheet.now i next.now.items }
+    ensures least { (before : Option (List ACell)) (x : ℕ)
+        → link_of ex.now sheet.now i before next.now.items ≡ Some x → IsSomeAnd result (λ y. y ≤ x) }
+    ensures bound { IfSome result (λ cost. cost ≤ 2 ^ 24) }
+{
+    let link = link_between(ex, i, None, next);
+    if breaks_one(column_rules(), &link) {
+        return None;
+    }
+    Some(charges(column_tolls(), sheet, &link))
+}
+
+/// What a column costs at place `i` behind `prev`, by the rules and tolls of pairs alone. None exactly where the two make a
+/// strict break of one of these rules.
+pub fn pair_cost<'a>(
+    ex: &'a Exercise,
+    sheet: &Sheet,
+    i: usize,
+    prev: Option<&'a Column>,
+    next: &'a Column,
+) -> Option<u64>
+    requires valid { IsValid ex.now }
+    requires place { i < columns_in ex.now }
+    ensures value { result ≡ pair_of ex.now sheet.now i (given prev.entry) next.now.items }
+    ensures bound { IfSome result (λ cost. cost ≤ 2 ^ 24) }
+{
+    let link = link_between(ex, i, prev, next);
+    if breaks_one(pair_rules(), &link) {
+        return None;
+    }
+    Some(charges(pair_tolls(), sheet, &link))
+}
+
+/// What a column costs at place `i` behind `prev` by the rules and tolls that read two neighbors alone: the tolls of a column
+/// and of a pair, by weight. None exactly where the two make a strict break of such a rule.
+pub fn link_cost<'a>(
+    ex: &'a Exercise,
+    sheet: &Sheet,
+    i: usize,
+    prev: Option<&'a Column>,
+    next: &'a Column,
+) -> Option<u64>
+    requires valid { IsValid ex.now }
+    requires place { i < columns_in ex.now }
+    ensures value { result ≡ link_of ex.now sheet.now i (given prev.entry) next.now.items }
+    ensures bound { IfSome result (λ cost. cost ≤ 2 ^ 53) }
+{
+    let own = column_cost(ex, sheet, i, next)?;
+    let pair = pair_cost(ex, sheet, i, prev, next)?;
+    Some(own + pair)
+}

@@ -1,0 +1,14 @@
+//! Worked cases of marks and of the judge, with answers that were worked out by hand, and settings that are judged column by column, beside
+//! a plain reading of every rule and toll. They stand in a crate above those that they try, so that what carries the proofs is proved once.
+#![tactic(auto)]
+
+#[cfg(test)]
+mod marks;
+#[cfg(test)]
+mod parts;
+#[cfg(test)]
+mod plain;
+#[cfg(test)]
+mod pruning;
+#[cfg(test)]
+mod tables;

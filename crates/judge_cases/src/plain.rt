@@ -1,0 +1,136 @@
+//! Settings that are judged column by column, beside a plain reading of every rule and toll over the whole score.
+
+ghost use Rattle.fux_grid.specs.Exercises.{IsValid};
+
+use crate::parts::parts;
+use crate::tables::JUDGED;
+use case_texts::case_of;
+use fux_grid::{Exercise, Score};
+use fux_judge::{State, Verdict, penalty, step};
+use penalty_sheet::{Sheet, default_sheet};
+use plain_judge::{newly_broken, newly_paid, settled_breaks, settled_charges};
+use rule_law::RuleSet;
+use std::alloc::Global;
+use std::process::Abort;
+use std::test::Fail;
+
+/// The rules and tolls that are read among the newest columns.
+const LATE_RULES: [u8; 9] = [3, 15, 18, 19, 20, 21, 22, 23, 25];
+
+/// Compares the judge's verdict of a longer score's last column with the plain reading, and answers the rules that are
+/// newly broken. Where a break of S3 is settled before it, the judge promises nothing of late rules and of costs, so it isn't asked.
+fn compare(
+    rt: &impl Abort,
+    ex: &Exercise,
+    sheet: &Sheet,
+    verdict: &Verdict,
+    prefix: &Score,
+    longer: &Score,
+    orderly: bool,
+) -> RuleSet
+    requires valid { IsValid ex.now }
+{
+    let columns = 8 * usize::from(ex.bars);
+    assert!(rt; prefix.voices() == ex.voices && prefix.len() <= columns);
+    assert!(rt; longer.voices() == ex.voices && longer.len() <= columns);
+    assert!(rt; longer.len() == prefix.len() + 1);
+    let broken = newly_broken(ex, prefix, longer);
+    let paid = newly_paid(ex, sheet, prefix, longer);
+    if orderly {
+        assert_eq!(rt; verdict.paid, paid, "column {}", prefix.len());
+    }
+    for rule in 0..32u8 {
+        if orderly || !LATE_RULES.contains(&rule) {
+            let (found, wanted) = (verdict.broken.has(rule), broken.has(rule));
+            assert_eq!(rt; found, wanted, "S{rule} at {}", prefix.len());
+        }
+    }
+    broken
+}
+
+/// Compares what the judge found and charged of a score, column by column, with the plain reading of all of it.
+fn compare_sums(
+    rt: &impl Abort,
+    ex: &Exercise,
+    sheet: &Sheet,
+    score: &Score,
+    broken: RuleSet,
+    paid: u64,
+)
+    requires valid { IsValid ex.now }
+{
+    assert!(rt; score.voices() == ex.voices && score.len() <= 8 * usize::from(ex.bars));
+    assert_eq!(rt;
+        settled_breaks(ex, score),
+        broken,
+        "{} columns",
+        score.len()
+    );
+    assert_eq!(rt;
+        settled_charges(ex, sheet, score),
+        paid,
+        "{} columns",
+        score.len()
+    );
+}
+
+/// Judges a score column by column, each as the plain reading of the scores without it and with it does, and answers what
+/// is paid of it; nothing where it breaks S3.
+fn walk(
+    rt: &impl Abort,
+    alloc: Global,
+    ex: &Exercise,
+    sheet: &Sheet,
+    score: &Score,
+) -> Result<Option<u64>, Fail>
+    requires valid { IsValid ex.now }
+{
+    assert!(rt; score.voices() == ex.voices && score.len() == 8 * usize::from(ex.bars));
+    let mut state = State::start(ex);
+    let mut prefix = Score::new(alloc, ex.voices)?;
+    let mut longer = Score::new(alloc, ex.voices)?;
+    let mut broken = RuleSet::EMPTY;
+    let mut sum = 0u64;
+    for i in 0..score.len() {
+        assert!(rt; state.len() == i && i < 8 * usize::from(ex.bars));
+        let verdict = step(ex, sheet, &state, score.column(i));
+        longer.push(score.column(i).clone()?)?;
+        let orderly = !broken.has(3);
+        let new = compare(rt, ex, sheet, &verdict, &prefix, &longer, orderly);
+        prefix.push(score.column(i).clone()?)?;
+        broken = RuleSet {
+            bits: broken.bits | new.bits,
+        };
+        sum = sum.saturating_add(verdict.paid);
+        if i % 8 == 7 && !broken.has(3) {
+            compare_sums(rt, ex, sheet, &longer, broken, sum);
+        }
+        state = verdict.state;
+    }
+    if broken.has(3) {
+        return Ok(None);
+    }
+    Ok(Some(sum))
+}
+
+/// Each setting is judged as the whole score. Where it breaks S3 no penalty is asked.
+#[test]
+fn settings_are_judged_as_the_whole_score(rt: HostRuntime) -> Result<(), Fail> {
+    let sheet = default_sheet();
+    for text in JUDGED.split("\n\n") {
+        let (text, wanted) = parts(text)?;
+        let case = case_of(rt.alloc(), text)?;
+        let paid = walk(&rt, rt.alloc(), &case.exercise, &sheet, &case.score)?;
+        if let Some(paid) = paid {
+            assert_eq!(rt;
+                penalty(&case.exercise, &sheet, &case.score),
+                Some(paid),
+                "{text}"
+            );
+            if !wanted.is_empty() {
+                assert_eq!(rt; wanted.trim().parse::<u64>()?, paid, "{text}");
+            }
+        }
+    }
+    Ok(())
+}

@@ -1,0 +1,57 @@
+use Rattle.std.proofs.Common.{ℕ, ◌<◌, [], length, slice_index_or, arith}
+use Rattle.std.proofs.lemmas.List.{length-map}
+use Rattle.fux_grid.specs.Grid.{items_of}
+use Rattle.species_space.specs.Blocks.{StraysOrDies}
+use Rattle.species_space.proofs.Passing.{passed_on}
+use Rattle.species_space.proofs.walk.next_choice.Goals as goal
+
+pub loop-k-init : goal.loop-k-init
+loop-k-init c =
+    let next = c.next_that_follows-k.ensures in
+    record {
+      onward = next.onward;
+      within = omega (arith, next.within, length-map c.args.menu.now.columns.items (λ col. col.items));
+      passed = λ ex i skip j le lt follows. absurd (next.passed j le lt follows);
+    }
+
+pub returns-then-undead-k-clause-onward : goal.returns-then-undead-k-clause-onward
+returns-then-undead-k-clause-onward c = c.loop-k.invariant.onward
+
+pub returns-then-undead-k-clause-passed : goal.returns-then-undead-k-clause-passed
+returns-then-undead-k-clause-passed c = c.loop-k.invariant.passed
+
+pub next_that_follows-k-requires-in-loop-k-clause-within : goal.next_that_follows-k-requires-in-loop-k-clause-within
+next_that_follows-k-requires-in-loop-k-clause-within c =
+    let k = c.loop-k.k in
+    let long = length-map c.args.menu.now.columns.items (λ col. col.items) in
+    omega (arith, long, c.undead_from-undead.ensures, c.requires.bounded k (omega (arith, c.loop-k-test.true, c.len.ensures, c.args.menu.now.columns.ok.0, c.requires.counted)))
+
+pub loop-k-smaller : goal.loop-k-smaller
+loop-k-smaller c =
+    omega (arith, c.loop-k-test.true, c.len.ensures, c.args.menu.now.columns.ok.0, c.if-undead-k.false, c.next_that_follows-k-in-loop-k.ensures.onward)
+
+pub loop-k-preserved : goal.loop-k-preserved
+loop-k-preserved c =
+    let columns = c.args.menu.now.columns.items in
+    let menu = items_of columns in
+    let k = c.loop-k.k in
+    let undead = c.undead_from-undead.result in
+    let next = c.next_that_follows-k-in-loop-k.ensures in
+    let to = c.next_that_follows-k-in-loop-k.result in
+    let there : k < length c.args.menu.now.undead.items = omega (arith, c.loop-k-test.true, c.len.ensures, c.args.menu.now.columns.ok.0, c.requires.counted) in
+    record {
+      onward = omega (arith, c.loop-k.invariant.onward, c.if-undead-k.false, next.onward);
+      within = omega (arith, next.within, length-map columns (λ col. col.items));
+      passed = λ ex i skip.
+          let P : ℕ → Type 0 = λ j. StraysOrDies ex i c.args.before.now (slice_index_or menu j []) in
+          passed_on P c.args.from k to (c.loop-k.invariant.passed ex i skip)
+          (passed_on P k undead to
+          (λ j le lt follows. skip.dead k there j le (omega (arith, lt, c.undead_from-undead.ensures)))
+          (λ j le lt follows. absurd (next.passed j le lt follows)));
+    }
+
+pub returns-clause-within : goal.returns-clause-within
+returns-clause-within c = c.loop-k.invariant.within
+
+pub returns-clause-passed : goal.returns-clause-passed
+returns-clause-passed c = c.loop-k.invariant.passed

@@ -1,0 +1,143 @@
+//! A walk over the columns of a menu that passes over the dead ones, and over those that are no better than the best leaf.
+
+ghost use Rattle.std.specs.Prelude.{◌≡◌, ◌<◌, ◌≤◌, ◌+◌, ◌^◌, ℕ, List, [], IfSome, IsSomeAnd, length, slice_index_or};
+ghost use Rattle.std.specs.Bool.{OnFalse};
+ghost use Rattle.fux_grid.specs.declared.exercise.Exercise.{Exercise as AnExercise};
+ghost use Rattle.fux_grid.specs.Exercises.{IsValid, columns_in};
+ghost use Rattle.fux_grid.specs.Grid.{items_of};
+ghost use Rattle.fux_grid.specs.Menus.{menu_of};
+ghost use Rattle.species_space.specs.Blocks.{IsBlockMenu, SkipDead, StraysOrDies};
+ghost use Rattle.species_space.specs.Nodes.{IsNodeOf};
+ghost use Rattle.species_space.specs.Paths.{ArePassed, IsNoBetter};
+ghost use Rattle.species_space.specs.Task.{SkipsDead};
+ghost use Rattle.tree_search.specs.Space.{IsInner};
+
+use crate::blocks::BlockMenu;
+use crate::node::Node;
+use floor_tables::Tables;
+use fux_grid::{Cell, Exercise};
+use fux_judge::pruned_within;
+use penalty_sheet::Sheet;
+
+/// The first number, from this one on, of a column that may follow and isn't dead after every prefix; the menu's length where there is none.
+fn next_choice(menu: &BlockMenu, before: &[Cell], from: usize, hint: usize) -> usize
+    requires cut { IsBlockMenu menu.now }
+    requires counted { length menu.now.undead.items ≡ length menu.now.columns.items }
+    requires bounded { (k : ℕ) → k < length menu.now.undead.items → slice_index_or menu.now.undead.items k 0 ≤ length (items_of menu.now.columns.items) }
+    requires within { from ≤ length menu.now.columns.items }
+    ensures onward { from ≤ result }
+    ensures within { result ≤ length menu.now.columns.items }
+    ensures passed { (exercise : AnExercise) (i : ℕ) → SkipDead exercise i (items_of menu.now.columns.items) menu.now.undead.items → (k : ℕ) → from ≤ k → k < result → StraysOrDies exercise i before.now (slice_index_or (items_of menu.now.columns.items) k []) }
+{
+    let mut k = menu.next_that_follows(before, from, hint);
+    while k < menu.columns.len() {
+        let undead = menu.undead_from(k);
+        if undead <= k {
+            return k;
+        }
+        k = menu.next_that_follows(before, undead, hint);
+    }
+    k
+}
+
+/// What a column must cost to be no better than the best leaf, where there is one and the rest costs so much at least: so much or more.
+#[inline]
+fn limit_of(best: Option<u64>, at_least: u64) -> Option<u64>
+    ensures { (cost : ℕ) → IsSomeAnd result (λ limit. limit ≤ cost) → IsSomeAnd best (λ value. value ≤ at_least + cost) }
+{
+    match best {
+        Some(value) => Some(value.saturating_sub(at_least)),
+        None => None,
+    }
+}
+
+/// Whether a child may be better than the best leaf so far, where there is one: by what is paid, what the lines cost at least, and
+/// the rest of its column.
+#[inline]
+fn may_be_better(tables: &Tables<'_>, node: &Node, k: usize, best: Option<u64>) -> bool
+    requires valid { IsValid tables.now.exercise }
+    requires node { IsInner (IsNodeOf tables.now.exercise tables.now.sheet node.now) (columns_in tables.now.exercise) }
+    requires number { k < length (menu_of tables.now.exercise node.now.state.newest.len) }
+    ensures { OnFalse result ((path : List ℕ) → IsNodeOf tables.now.exercise tables.now.sheet node.now path
+        → IsNoBetter tables.now.exercise tables.now.sheet path best k) }
+{
+    let Some(rest) = tables.rest_of_number(node.state.len(), k) else {
+        return false;
+    };
+    match best {
+        Some(value) => node.paid + node.least + rest < value,
+        None => true,
+    }
+}
+
+/// The number after the columns that are passed over from this one on, and how many of the lowest voices are known to break no rule;
+/// none where the column has to be tried.
+fn passed_over(
+    exercise: &Exercise,
+    sheet: &Sheet,
+    tables: &Tables<'_>,
+    node: &Node,
+    menu: &BlockMenu,
+    k: usize,
+    tried: usize,
+    best: Option<u64>,
+) -> Option<(usize, usize)>
+    requires valid { IsValid exercise.now }
+    requires tables { tables.now ≡ record { exercise = exercise.now; sheet = sheet.now } }
+    requires node { IsInner (IsNodeOf exercise.now sheet.now node.now) (columns_in exercise.now) }
+    requires menu { items_of menu.now.columns.items ≡ menu_of exercise.now node.now.state.newest.len }
+    requires cut { IsBlockMenu menu.now }
+    requires within { k < length menu.now.columns.items }
+    ensures onward { IfSome result (λ end. k < end.0) }
+    ensures within { IfSome result (λ end. end.0 ≤ length menu.now.columns.items) }
+    ensures passed { IfSome result (λ end. (path : List ℕ) → IsNodeOf exercise.now sheet.now node.now path
+        → ArePassed exercise.now sheet.now path best k end.0) }
+{
+    if !may_be_better(tables, node, k, best) {
+        return Some((k + 1, tried));
+    }
+    let limit = limit_of(best, node.paid + node.least);
+    let voices = pruned_within(exercise, sheet, &node.state, menu.column(k), tried, limit)?;
+    Some((menu.end_of_agreement(k, voices), voices - 1))
+}
+
+/// The first number, from this one on, of a column that may follow, has a rest, and isn't pruned by the cells of its lowest voices:
+/// they settle no strict break and don't cost too much to be better than the best. The menu's length where there is none.
+pub(crate) fn next_unpruned(
+    exercise: &Exercise,
+    sheet: &Sheet,
+    tables: &Tables<'_>,
+    node: &Node,
+    menu: &BlockMenu,
+    from: usize,
+    best: Option<u64>,
+) -> usize
+    requires valid { IsValid exercise.now }
+    requires tables { tables.now ≡ record { exercise = exercise.now; sheet = sheet.now } }
+    requires node { IsInner (IsNodeOf exercise.now sheet.now node.now) (columns_in exercise.now) }
+    requires menu { items_of menu.now.columns.items ≡ menu_of exercise.now node.now.state.newest.len }
+    requires cut { IsBlockMenu menu.now }
+    requires skips { SkipsDead exercise.now node.now.state.newest.len menu.now }
+    requires within { from ≤ length menu.now.columns.items }
+    ensures onward { from ≤ result }
+    ensures within { result ≤ length menu.now.columns.items }
+    ensures passed { (path : List ℕ) → IsNodeOf exercise.now sheet.now node.now path
+        → ArePassed exercise.now sheet.now path best from result }
+{
+    let before = node.state.before(exercise);
+    let mut k = next_choice(menu, before, from, node.hint);
+    let mut tried = menu.lowest_alike(from.saturating_sub(1), k);
+    if from == 0 {
+        tried = 0;
+    }
+    while k < menu.columns.len() {
+        let passed = passed_over(exercise, sheet, tables, node, menu, k, tried, best);
+        let Some((end, sound)) = passed else {
+            return k;
+        };
+        let last = k;
+        k = next_choice(menu, before, end, node.hint);
+        tried = menu.lowest_alike(last, k).min(sound);
+    }
+    k
+}
