@@ -5,7 +5,6 @@ use Rattle.cert_check.specs.Cases.{HasTables, IsCase, Matter}
 use Rattle.cert_check.specs.Walks.{IsWalk, owed_by_walk}
 use Rattle.cert_check.specs.declared.walk.Walk.{Walk}
 use Rattle.cert_law.specs.Certificates.{Holds}
-use Rattle.cert_law.specs.Floors.{FloorsHold}
 use Rattle.cert_law.specs.Writer.{claims_from, claims_of}
 use Rattle.cert_text.specs.Lines.{claim_line}
 use Rattle.cert_text.specs.declared.claim.Claim.{Claim}
@@ -17,7 +16,6 @@ use Rattle.fux_grid.specs.Exercises.{columns_in}
 pub record IsTask (t : Matter) (tables : Task) : Type 0 where
   pub case : IsCase t
   pub has : HasTables t tables
-  pub floors : FloorsHold t.exercise t.sheet
   pub holds : Holds t.exercise t.sheet t.head
 
 -- the claims of a prefix and of all that it owes

@@ -7,6 +7,7 @@ use Rattle.cert_check.specs.Walks.{longer_from, owed_at, owed_later, prefix_of}
 use Rattle.cert_check.specs.declared.judged.Judged.{Judged}
 use Rattle.cert_law.specs.Claims.{IsTrueOf}
 use Rattle.cert_law.specs.Writer.{is_open}
+use Rattle.cert_law.proofs.FloorFacts.{floors_hold}
 use Rattle.cert_law.proofs.WrittenClaims.{first_claim_true}
 use Rattle.cert_text.specs.declared.claim.Claim.{Claim}
 use Rattle.cert_writer.specs.Writing.{claims_at}
@@ -18,7 +19,7 @@ go_on-requires-clause-parent c =
     let t = matter_of c.args.case.now in
     let p = prefix_of t.exercise (reverse c.args.walk.now.levels.items) in
     let judged : IsJudged t p c.in_ok-next.next = subst (λ (next : Option Judged). IfSome next (IsJudged t p)) c.in_ok-next.was c.requires.walk.next in
-    let true_claim = first_claim_true t.exercise t.sheet c.requires.task.case.valid.most_voices c.requires.task.floors t.head c.requires.task.holds p judged.prefix in
+    let true_claim = first_claim_true t.exercise t.sheet c.requires.task.case.valid.most_voices (floors_hold t.exercise c.requires.task.case.valid t.sheet) t.head c.requires.task.holds p judged.prefix in
     let holds = subst (λ (claim : Claim). IsTrueOf t.exercise t.sheet t.head p claim) (sym (c.first_claim-claim.ensures.value p judged c.rest.ensures)) true_claim in
     record {
       orderly = λ h. (open_true t.exercise t.sheet t.head p c.first_claim-claim.result (sym c.is_open.ensures ∙ h) holds).1;
@@ -34,7 +35,7 @@ returns-clause-claims c =
     let claim = c.first_claim-claim.result in
     let judged : IsJudged t p c.in_ok-next.next = subst (λ (next : Option Judged). IfSome next (IsJudged t p)) c.in_ok-next.was c.requires.walk.next in
     let value = c.first_claim-claim.ensures.value p judged c.rest.ensures in
-    let true_claim = first_claim_true t.exercise t.sheet c.requires.task.case.valid.most_voices c.requires.task.floors t.head c.requires.task.holds p judged.prefix in
+    let true_claim = first_claim_true t.exercise t.sheet c.requires.task.case.valid.most_voices (floors_hold t.exercise c.requires.task.case.valid t.sheet) t.head c.requires.task.holds p judged.prefix in
     let holds = subst (λ (k : Claim). IsTrueOf t.exercise t.sheet t.head p k) (sym value) true_claim in
     ap (λ next. flat_map (claims_at t) (owed_at t.exercise levels next)) c.in_ok-next.was
     ∙ claims_step t p claim later value (λ o. (open_true t.exercise t.sheet t.head p claim o holds).0)
