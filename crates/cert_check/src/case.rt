@@ -6,8 +6,8 @@ use penalty_sheet::Sheet;
 
 /// An exercise and a sheet, and the head of a certificate.
 #[derive(Clone, Copy)]
-pub(crate) struct Case<'a> {
-    pub(crate) exercise: &'a Exercise,
-    pub(crate) sheet: &'a Sheet,
-    pub(crate) head: &'a CertHead,
+pub struct Case<'a> {
+    pub exercise: &'a Exercise,
+    pub sheet: &'a Sheet,
+    pub head: &'a CertHead,
 }

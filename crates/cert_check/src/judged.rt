@@ -21,12 +21,12 @@ use std::cmp::Ordering;
 /// its lines cost at least, and
 /// how the head's setting goes against it by the first column at which they differ.
 #[derive(Clone, Copy)]
-pub(crate) struct Judged {
-    pub(crate) state: State,
-    pub(crate) broken: RuleSet,
-    pub(crate) paid: u64,
-    pub(crate) least: u64,
-    pub(crate) order: Ordering,
+pub struct Judged {
+    pub state: State,
+    pub broken: RuleSet,
+    pub paid: u64,
+    pub least: u64,
+    pub order: Ordering,
 }
 
 /// The rules of either set.
@@ -40,7 +40,7 @@ fn joined(a: RuleSet, b: RuleSet) -> RuleSet
 
 impl Judged {
     /// What is known of the empty prefix.
-    pub(crate) fn start(ex: &Exercise, sheet: &Sheet) -> Judged
+    pub fn start(ex: &Exercise, sheet: &Sheet) -> Judged
         requires { IsValid ex.now }
         ensures { (t : Matter) → t.exercise ≡ ex.now → t.sheet ≡ sheet.now → IsJudged t [] result }
     {
@@ -72,7 +72,7 @@ impl Judged {
     }
 
     /// What is known of the prefix with a column more.
-    pub(crate) fn after(&self, case: &Case<'_>, column: &Column) -> Judged
+    pub fn after(&self, case: &Case<'_>, column: &Column) -> Judged
         requires case { IsCase (matter_of case.now) }
         requires room { self.now.state.newest.len < columns_in case.now.exercise.now }
         requires full { length column.now.items ≡ case.now.exercise.now.voices }

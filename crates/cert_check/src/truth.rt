@@ -37,7 +37,7 @@ fn is_equal(order: Ordering) -> bool
 }
 
 /// Whether the floor of a prefix with this rest is no better than the head's setting.
-fn is_no_better(case: &Case<'_>, judged: &Judged, rest: u64) -> bool
+pub fn is_no_better(case: &Case<'_>, judged: &Judged, rest: u64) -> bool
     requires { IsSmall judged.now }
     ensures { (p : List (List ACell)) → IsJudged (matter_of case.now) p judged.now
         → result ≡ words.is_no_better case.now.head.now p (judged.now.paid + judged.now.least + rest) }
@@ -67,7 +67,7 @@ fn equals(most: u64, spent: u64, rest: u64) -> bool
 }
 
 /// Whether a prefix is the head's setting.
-fn is_setting(case: &Case<'_>, judged: &Judged) -> bool
+pub fn is_setting(case: &Case<'_>, judged: &Judged) -> bool
     ensures { (p : List (List ACell)) → IsJudged (matter_of case.now) p judged.now
         → result ≡ words.is_setting_of case.now.head.now p }
 {
@@ -89,7 +89,7 @@ fn can_go_on(ex: &Exercise, judged: &Judged) -> bool
 }
 
 /// Whether a claim is that the prefix is open.
-pub(crate) fn is_open(claim: Claim) -> bool
+pub fn is_open(claim: Claim) -> bool
     ensures { result ≡ words.is_open claim }
 {
     match claim {

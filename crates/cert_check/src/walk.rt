@@ -15,17 +15,17 @@ use fux_grid::{Cell, cells_follow};
 
 /// An open prefix, and the number of the column by which it goes on to the prefix that is owed next.
 #[derive(Clone, Copy)]
-pub(crate) struct Level {
-    pub(crate) parent: Judged,
-    pub(crate) number: usize,
+pub struct Level {
+    pub parent: Judged,
+    pub number: usize,
 }
 
 /// The open prefixes that begin the one owed next, the shortest first, and what is known of that one. Where nothing is owed, it is
 /// none.
 #[derive(Drop)]
-pub(crate) struct Walk {
-    pub(crate) levels: Vec<Level>,
-    pub(crate) next: Option<Judged>,
+pub struct Walk {
+    pub levels: Vec<Level>,
+    pub next: Option<Judged>,
 }
 
 /// The number of the first column of a place's menu, from this number on, that follows these cells.
@@ -46,7 +46,7 @@ fn next_number(tables: &Tables<'_>, i: usize, before: &[Cell], from: usize) -> O
 
 impl Walk {
     /// The least sum behind the last column of the prefix that is owed next; over all chains, where that is the empty one.
-    pub(crate) fn rest(&self, case: &Case<'_>, tables: &Tables<'_>) -> Option<u64>
+    pub fn rest(&self, case: &Case<'_>, tables: &Tables<'_>) -> Option<u64>
         requires case { IsCase (matter_of case.now) }
         requires tables { HasTables (matter_of case.now) tables.now }
         requires walk { IsWalk (matter_of case.now) self.now }
@@ -106,13 +106,7 @@ impl Walk {
     }
 
     /// Goes on from the prefix that was owed next: where it is open, to those that are longer by a column first.
-    pub(crate) fn go_on(
-        &mut self,
-        case: &Case<'_>,
-        tables: &Tables<'_>,
-        next: Judged,
-        is_open: bool,
-    )
+    pub fn go_on(&mut self, case: &Case<'_>, tables: &Tables<'_>, next: Judged, is_open: bool)
         requires case { IsCase (matter_of case.now) }
         requires tables { HasTables (matter_of case.now) tables.now }
         requires walk { IsWalk (matter_of case.now) self.old }

@@ -1,0 +1,4 @@
+pub mod Certificates
+pub mod ClaimLemmas
+pub mod FirstLemmas
+pub mod Stands

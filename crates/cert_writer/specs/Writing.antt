@@ -1,0 +1,41 @@
+-- What is still to be written of a certificate.
+use Rattle.std.specs.Prelude.{◌≡◌, ℕ, ◌-◌, List, [], ◌∷◌, Option, Some, None, length}
+use Rattle.std.specs.List.{flat_map}
+use Rattle.cert_check.specs.Cases.{HasTables, IsCase, Matter}
+use Rattle.cert_check.specs.Walks.{IsWalk, owed_by_walk}
+use Rattle.cert_check.specs.declared.walk.Walk.{Walk}
+use Rattle.cert_law.specs.Certificates.{Holds}
+use Rattle.cert_law.specs.Writer.{claims_from, claims_of}
+use Rattle.cert_text.specs.Lines.{claim_line}
+use Rattle.cert_text.specs.declared.claim.Claim.{Claim}
+use Rattle.floor_tables.specs.Tables.{Task}
+use Rattle.fux_grid.specs.declared.cell.Cell.{Cell}
+use Rattle.fux_grid.specs.Exercises.{columns_in}
+
+-- the exercise is within the limits, the tables are of it and the sheet, and the head holds
+pub record IsTask (t : Matter) (tables : Task) : Type 0 where
+  pub case : IsCase t
+  pub has : HasTables t tables
+  pub holds : Holds t.exercise t.sheet t.head
+
+-- the claims of a prefix and of all that it owes
+abbrev pub claims_at : Matter → List (List Cell) → List Claim
+claims_at t p = claims_from t.exercise t.sheet t.head (columns_in t.exercise - length p) p
+
+-- the claims that are still to come, the next one first
+abbrev pub claims_to_come : Matter → Walk → List Claim
+claims_to_come t walk = flat_map (claims_at t) (owed_by_walk t.exercise walk)
+
+-- claims behind one, if there is one
+abbrev pub claims_with : Option Claim → List Claim → List Claim
+claims_with None later = []
+claims_with (Some claim) later = claim ∷ later
+
+-- the lines of claims
+abbrev pub claim_lines : List Claim → List ℕ
+claim_lines claims = flat_map claim_line claims
+
+-- a walk from the empty prefix: all claims of the certificate are still to come
+pub record Begins (t : Matter) (begun : Walk) : Type 0 where
+  pub walk : IsWalk t begun
+  pub claims : claims_to_come t begun ≡ claims_of t.exercise t.sheet t.head

@@ -1,0 +1,65 @@
+//! Writing a whole certificate.
+
+ghost use Rattle.std.specs.Prelude.{◌≡◌, ◌<◌, ◌≤◌, ◌⊎◌, Err, OnOk, length};
+ghost use Rattle.cert_law.specs.Writer.{written_certificate};
+ghost use Rattle.cert_writer.specs.Writing.{IsTask};
+ghost use Rattle.fux_port.specs.Counts.{Rose};
+ghost use Rattle.fux_port.specs.Written.{StopsShort, appended};
+
+use crate::begin::{begin, room_for_walk};
+use crate::head::head_text;
+use crate::write::{is_within, write_parts};
+use cert_check::Case;
+use cert_text::{CertHead, CertWrite};
+use floor_tables::Tables;
+use fux_grid::Exercise;
+use fux_port::Sink;
+use penalty_sheet::Sheet;
+use std::alloc::Global;
+
+/// Writes the certificate of a head that holds. Its length is counted before its first byte is written, and all memory is taken before
+/// that; then each prefix is judged once more, so that a certificate of any length takes no memory.
+pub fn write_certificate<K: Sink>(
+    alloc: Global,
+    ex: &Exercise,
+    sheet: &Sheet,
+    tables: &Tables<'_>,
+    head: &CertHead,
+    sink: &mut K,
+) -> Result<(), CertWrite>
+    requires task { IsTask (record { exercise = ex.now; sheet = sheet.now; head = head.now }) tables.now }
+    ensures ok { OnOk result (K.written sink.new ≡ appended (K.written sink.old) (written_certificate ex.now sheet.now head.now)) }
+
+    // A fault of writing is the sink's, and less than the certificate was written.
+    ensures cause { result ≡ Err CertWrite.WriteFault → Rose (K.faults sink.old) (K.faults sink.new) }
+    ensures short { result ≡ Err CertWrite.WriteFault
+        → StopsShort (K.written sink.old) (K.written sink.new) (written_certificate ex.now sheet.now head.now) }
+
+    // Nothing is written of a certificate that is too long, nor where there is not enough memory.
+    ensures too_long { result ≡ Err CertWrite.TooLong → 1073741824 < length (written_certificate ex.now sheet.now head.now) }
+    ensures fits { 1073741824 < length (written_certificate ex.now sheet.now head.now)
+        → (result ≡ Err CertWrite.TooLong) ⊎ (result ≡ Err CertWrite.Memory) }
+    ensures unwritten { (result ≡ Err CertWrite.TooLong) ⊎ (result ≡ Err CertWrite.Memory) → K.written sink.new ≡ K.written sink.old }
+    ensures faults { K.faults sink.old ≤ K.faults sink.new }
+{
+    let Ok(text) = head_text(alloc, ex, sheet, head) else {
+        return Err(CertWrite::Memory);
+    };
+    let Ok(mut walk) = room_for_walk(alloc) else {
+        return Err(CertWrite::Memory);
+    };
+    let case = Case {
+        exercise: ex,
+        sheet,
+        head,
+    };
+    begin(&mut walk, ex, sheet);
+    if !is_within(&mut walk, &case, tables, text.len()) {
+        return Err(CertWrite::TooLong);
+    }
+    begin(&mut walk, ex, sheet);
+    match write_parts(&mut walk, &case, tables, text.as_str(), sink) {
+        Ok(()) => Ok(()),
+        Err(_) => Err(CertWrite::WriteFault),
+    }
+}

@@ -1,0 +1,76 @@
+//! The text of a certificate's head.
+
+ghost use Rattle.std.specs.Prelude.{◌≡◌, ◌==◌, ◌<◌, ◌%◌, ◌++◌, [], ◌∷◌, not, filter, IfOk, OnOk, string_bytes, length};
+ghost use Rattle.std.specs.List.{flat_map};
+ghost use Rattle.cert_law.specs.Certificates.{IsHeadSound};
+ghost use Rattle.cert_law.specs.Writer as words;
+ghost use Rattle.fux_grid.specs.Exercises.{IsValid};
+ghost use Rattle.fux_text.specs.Lines.{sing_text};
+ghost use Rattle.fux_text.specs.ReadBack.{sing_lines};
+
+use cert_text::CertHead;
+use fux_grid::{Exercise, Score};
+use fux_pitch::Memory;
+use fux_text::sing_line;
+use penalty_sheet::Sheet;
+use std::alloc::Global;
+
+/// Appends the line of a voice, if it is free.
+fn put_free(
+    out: &mut String,
+    alloc: Global,
+    ex: &Exercise,
+    score: &Score,
+    v: u8,
+) -> Result<(), Memory>
+    requires voice { v < score.now.voices }
+    requires whole { length score.now.columns % 8 ≡ 0 }
+    requires some { 0 < length score.now.columns }
+    ensures { OnOk result (string_bytes out.new ≡ string_bytes out.old
+        ++ flat_map (λ w. sing_text w score.now.columns) (filter (λ w. not (w == ex.now.cantus_voice)) (v ∷ []))) }
+{
+    if v == ex.cantus_voice {
+        return Ok(());
+    }
+    let line = sing_line(alloc, score, v)?;
+    out.push_str(line.as_str())?;
+    Ok(())
+}
+
+/// Appends the line of each free voice, from the lowest.
+fn put_lines(out: &mut String, alloc: Global, ex: &Exercise, score: &Score) -> Result<(), Memory>
+    requires voices { score.now.voices ≡ ex.now.voices }
+    requires whole { length score.now.columns % 8 ≡ 0 }
+    requires some { 0 < length score.now.columns }
+    ensures { OnOk result (string_bytes out.new ≡ string_bytes out.old ++ sing_lines ex.now score.now.columns) }
+{
+    for v in 0..ex.voices {
+        put_free(out, alloc, ex, score, v)?;
+    }
+    Ok(())
+}
+
+/// The text of a head.
+pub(crate) fn head_text(
+    alloc: Global,
+    ex: &Exercise,
+    sheet: &Sheet,
+    head: &CertHead,
+) -> Result<String, Memory>
+    requires valid { IsValid ex.now }
+    requires sound { IsHeadSound ex.now sheet.now head.now }
+    ensures { IfOk result (λ text. string_bytes text ≡ words.head_text ex.now head.now) }
+{
+    let _ = sheet;
+    let mut out = String::new(alloc);
+    match head {
+        CertHead::Nothing => out.push_str("fux-cert 1\nnone\nclaims\n")?,
+        CertHead::Best { penalty, score } => {
+            score.kept();
+            write!(out, "fux-cert 1\nbest {penalty}\n")?;
+            put_lines(&mut out, alloc, ex, score)?;
+            out.push_str("claims\n")?;
+        }
+    }
+    Ok(out)
+}

@@ -1,0 +1,11 @@
+//! The writer of certificates: for each prefix that is owed it writes the first claim that is true of it.
+#![tactic(auto)]
+
+mod begin;
+mod certificate;
+mod first;
+mod head;
+mod next;
+mod write;
+
+pub use certificate::write_certificate;
