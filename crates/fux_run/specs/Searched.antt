@@ -7,7 +7,7 @@ use Rattle.fux_grid.specs.Menus.{menu_of}
 use Rattle.penalty_sheet.specs.declared.sheet.Sheet.{Sheet}
 use Rattle.penalty_sheet.specs.Weights.{default_weights}
 use Rattle.species_space.specs.Loads.{IsBestWithin, IsLeastOver, IsNothingWithin, IsOverBudget}
-use Rattle.species_space.specs.Task.{IsTooWide}
+use Rattle.floor_tables.specs.Tables.{IsTooWide}
 use Rattle.fux_run.specs.declared.refusal.Refusal.{Refusal}
 use Rattle.fux_run.specs.declared.refusal.Refusal.TheVariants.{TooWide}
 use Rattle.fux_run.specs.declared.searching.Found.{Found}
