@@ -1,6 +1,6 @@
 -- Bytes that are put together before they are written: where a writer stands (`stands_start`, `stands_put`), that nothing is lost at its
 -- end (`stands_end`), and what was written where it stops (`stands_stop`).
-use Rattle.std.proofs.Common.{◌≡◌, ℕ, ◌+◌, ◌<◌, ◌≤◌, List, [], ◌∷◌, ◌++◌, Option, Some, None, length, take, refl, ap, sym, ◌∙◌, subst, arith, append_assoc, length-append}
+use Rattle.std.proofs.Common.{◌≡◌, ℕ, List, [], ◌∷◌, ◌++◌, Option, Some, None, refl, ap, sym, ◌∙◌, subst, arith, append_assoc, length-append}
 use Rattle.std.specs.Prelude.{Err, Ok, OnErr, Result}
 use Rattle.std.proofs.lemmas.List.{take-append-le}
 use Rattle.fux_port.specs.Written.{StopsShort, appended}
