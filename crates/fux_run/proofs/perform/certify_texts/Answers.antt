@@ -6,4 +6,4 @@ pub returns : goal.returns
 returns g c = λ bytes sheets text weights.
     of_sheet c.args.budget sheets bytes c.in_ok-exercise.exercise c.in_ok-sheet.sheet
     (Rose (g.K.Sink.faults c.args.out.now) (g.K.Sink.faults c.certify.new.out)) _ _ c.certify.result
-    (c.in_ok-exercise.ensures bytes text) (c.in_ok-sheet.ensures sheets weights) c.certify.ensures
+    (c.in_ok-exercise.ensures.reads bytes text) (c.in_ok-sheet.ensures sheets weights) c.certify.ensures
