@@ -1,4 +1,5 @@
 pub mod Cases
 pub mod Checking
+pub mod Opening
 pub mod Prefixes
 pub mod Walks
