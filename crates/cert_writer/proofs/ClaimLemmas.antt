@@ -1,10 +1,10 @@
 -- The claims of a prefix and of all that it owes are its first claim, and the claims of what that owes in its place (`claims_go_on`).
-use Rattle.std.proofs.Common.{◌≡◌, ℕ, zero, suc, ◌+◌, ◌-◌, ◌<◌, Bool, true, false, List, [], ◌∷◌, ◌++◌, length, map, reverse, drop, refl, ap, sym, ◌∙◌, subst, arith, append_assoc, true≢false, if◌then◌else◌}
-use Rattle.std.specs.List.{filter, flat_map}
+use Rattle.std.proofs.Common.{◌≡◌, ℕ, zero, suc, ◌+◌, ◌-◌, ◌<◌, Bool, true, false, List, [], ◌∷◌, ◌++◌, length, map, refl, ap, sym, ◌∙◌, arith, true≢false, if◌then◌else◌}
+use Rattle.std.specs.List.{flat_map}
 use Rattle.std.proofs.lemmas.Grind.{flat_map-append}
 use Rattle.std.proofs.lemmas.List.{length-append}
 use Rattle.cert_check.specs.Cases.{Matter}
-use Rattle.cert_check.specs.Walks.{longer_from, next_from}
+use Rattle.cert_check.specs.Walks.{longer_from}
 use Rattle.cert_law.specs.Claims.{IsTrueOf, longer_prefixes, next_columns}
 use Rattle.cert_law.specs.Writer.{claims_from, first_claim, is_open}
 use Rattle.cert_text.specs.declared.answers.CertHead.{CertHead}

@@ -1,6 +1,6 @@
 -- Bytes that are put together before they are written: where a writer stands (`stands_start`, `stands_put`), that nothing is lost at its
 -- end (`stands_end`), and what was written where it stops (`stands_stop`).
-use Rattle.std.proofs.Common.{◌≡◌, ℕ, ◌+◌, ◌<◌, ◌≤◌, List, [], ◌∷◌, ◌++◌, Option, Some, None, length, take, refl, ap, sym, ◌∙◌, subst, arith, append_assoc, length-append}
+use Rattle.std.proofs.Common.{◌≡◌, ℕ, List, [], ◌∷◌, ◌++◌, Option, Some, None, refl, ap, sym, ◌∙◌, subst, arith, append_assoc, length-append}
 use Rattle.std.specs.Prelude.{Err, Ok, OnErr, Result}
 use Rattle.std.proofs.lemmas.List.{take-append-le}
 use Rattle.fux_port.specs.Written.{StopsShort, appended}
@@ -20,9 +20,6 @@ pub record Stands (start now : Option (List ℕ)) (waiting later bytes : List �
   pub done : List ℕ
   pub told : now ≡ appended start done
   pub whole : done ++ (waiting ++ later) ≡ bytes
-
-pub stands_start : (start : Option (List ℕ)) (waiting bytes : List ℕ) → waiting ≡ [] → Stands start start waiting bytes bytes
-stands_start start waiting bytes e = record { done = []; told = appended-none start; whole = ap (λ ws. ws ++ bytes) e }
 
 pub stands_put : (start old new : Option (List ℕ)) (waiting next line later whole bytes : List ℕ) → Puts old new waiting next line
     → whole ≡ line ++ later → Stands start old waiting whole bytes → Stands start new next later bytes
@@ -53,8 +50,3 @@ stands_stop start told new waiting later bytes stands stop =
 pub with_err : {X E : Type 0} (result : Result X E) (P : Type 0) → P → OnErr result P
 with_err (Ok x) P h = tt
 with_err (Err e) P h = h
-
-pub stands_end : (start told new : Option (List ℕ)) (waiting later bytes : List ℕ) → Stands start told waiting later bytes → later ≡ [] → new ≡ appended told waiting → new ≡ appended start bytes
-stands_end start told new waiting later bytes stands e is =
-    is ∙ ap (λ t. appended t waiting) stands.told ∙ appended-append start stands.done waiting
-    ∙ ap (appended start) (ap (λ ws. stands.done ++ ws) (sym (ap (λ ls. waiting ++ ls) e ∙ append_none waiting)) ∙ stands.whole)

@@ -3,6 +3,7 @@
 
 mod begin;
 mod certificate;
+mod copy;
 mod first;
 mod head;
 mod next;

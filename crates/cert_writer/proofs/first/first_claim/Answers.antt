@@ -1,10 +1,7 @@
-use Rattle.std.proofs.Common.{◌≡◌, ◌+◌, ℕ, List, Option, Some, None, ap, sym, ◌∙◌, false, if◌then◌else◌}
+use Rattle.std.proofs.Common.{◌≡◌, ◌+◌, None, ap, sym, ◌∙◌, if◌then◌else◌}
 use Rattle.cert_check.specs.Cases.{matter_of}
-use Rattle.cert_check.specs.Prefixes.{IsJudged}
 use Rattle.cert_law.specs.Writer.{is_no_better, least_break}
 use Rattle.cert_text.specs.declared.claim.Claim.TheVariants.{Open, Floor}
-use Rattle.fux_grid.specs.declared.cell.Cell.{Cell}
-use Rattle.fux_judge.specs.Gauges.{least_of}
 use Rattle.fux_judge.specs.Penalties.{paid}
 use Rattle.fux_judge.specs.Rules.{rules_read}
 use Rattle.rule_law.specs.Voices.{has_rule}

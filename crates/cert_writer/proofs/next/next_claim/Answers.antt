@@ -1,4 +1,4 @@
-use Rattle.std.proofs.Common.{◌≡◌, ◌∷◌, ◌++◌, [], List, Option, Some, reverse, if◌then◌else◌, ap, sym, ◌∙◌, subst, IsTrue, true}
+use Rattle.std.proofs.Common.{◌∷◌, ◌++◌, [], Option, reverse, if◌then◌else◌, ap, sym, ◌∙◌, subst}
 use Rattle.std.specs.Prelude.{IfSome}
 use Rattle.std.specs.List.{flat_map}
 use Rattle.cert_check.specs.Cases.{matter_of}
@@ -6,7 +6,6 @@ use Rattle.cert_check.specs.Prefixes.{IsJudged}
 use Rattle.cert_check.specs.Walks.{longer_from, owed_at, owed_later, prefix_of}
 use Rattle.cert_check.specs.declared.judged.Judged.{Judged}
 use Rattle.cert_law.specs.Claims.{IsTrueOf}
-use Rattle.cert_law.specs.Writer.{is_open}
 use Rattle.cert_law.proofs.FloorFacts.{floors_hold}
 use Rattle.cert_law.proofs.WrittenClaims.{first_claim_true}
 use Rattle.cert_text.specs.declared.claim.Claim.{Claim}

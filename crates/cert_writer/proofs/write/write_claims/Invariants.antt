@@ -1,4 +1,4 @@
-use Rattle.std.proofs.Common.{◌≡◌, ◌≤◌, length}
+use Rattle.std.proofs.Common.{◌≤◌, length}
 use Rattle.cert_check.specs.Cases.{matter_of}
 use Rattle.cert_check.specs.Walks.{IsWalk}
 use Rattle.cert_writer.specs.Writing.{claim_lines, claims_to_come}

@@ -1,10 +1,9 @@
-use Rattle.std.proofs.Common.{◌≡◌, ◌++◌, ℕ, List, string_bytes, ap, sym, ◌∙◌, subst, refl, arith}
+use Rattle.std.proofs.Common.{◌++◌, ℕ, List, string_bytes, ap, ◌∙◌, subst, refl, arith}
 use Rattle.cert_check.specs.Cases.{Matter}
-use Rattle.cert_law.specs.Writer.{written_certificate}
 use Rattle.cert_writer.specs.Writing.{claim_lines, claims_to_come}
 use Rattle.cert_writer.proofs.Certificates.{whole_text, whole_too_long, whole_within}
 use Rattle.fux_port.specs.Written.{StopsShort, appended}
-use Rattle.cert_writer.proofs.certificate.write_certificate.Goals as goal
+use Rattle.cert_writer.proofs.certificate.write_for_head.Goals as goal
 
 pub is_within-requires-clause-walk : goal.is_within-requires-clause-walk
 is_within-requires-clause-walk g c =
