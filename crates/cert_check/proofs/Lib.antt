@@ -4,4 +4,5 @@ pub mod CheckingLemmas
 pub mod HeadLemmas
 pub mod LevelLemmas
 pub mod NumberLemmas
+pub mod RunLemmas
 pub mod TruthLemmas

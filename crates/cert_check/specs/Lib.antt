@@ -2,4 +2,5 @@ pub mod Cases
 pub mod Checking
 pub mod Opening
 pub mod Prefixes
+pub mod Runs
 pub mod Walks

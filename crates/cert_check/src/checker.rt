@@ -1,12 +1,14 @@
 //! The checker of certificates.
 
-ghost use Rattle.std.specs.Prelude.{◌≡◌, ◌≢◌, ◌+◌, ◌^◌, ◌<◌, ◌≤◌, [], ◌∷◌, None, Some, Ok, Err, IfErr, IfOk, OnOk};
+ghost use Rattle.std.specs.Prelude.{◌≡◌, ◌≢◌, ◌+◌, ◌^◌, ◌<◌, ◌≤◌, [], ◌∷◌, None, Some, Ok, Err, IfErr, IfOk, List, OnErr, OnOk};
 ghost use Rattle.cert_text.specs.declared.answers.Refused.{Refused as ARefused};
 ghost use Rattle.cert_text.specs.declared.answers.Why.TheVariants as whys;
-ghost use Rattle.cert_law.specs.Certificates.{Holds, IsHeadSound};
+ghost use Rattle.cert_text.specs.declared.claim.Claim.{Claim as AClaim};
+ghost use Rattle.cert_law.specs.Certificates.{Holds, IsCertificate, IsHeadSound};
 ghost use Rattle.cert_check.specs.Cases.{HasTables, IsCase};
 ghost use Rattle.cert_check.specs.Checking.{Refuses, Takes, accepted_of};
 ghost use Rattle.cert_check.specs.Opening.{TellsWhy};
+ghost use Rattle.cert_check.specs.Runs.{AreFed, opened_for};
 ghost use Rattle.floor_tables.specs.Tables.{AreNarrow};
 ghost use Rattle.fux_grid.specs.Exercises.{IsValid};
 
@@ -79,14 +81,7 @@ impl<'a> Checker<'a> {
         head: CertHead,
     ) -> Result<Checker<'a>, OpenFault>
         requires { IsValid ex.now }
-        ensures opened { IfOk result (λ c. c ≡ record {
-          exercise = ex.entry.now;
-          sheet = sheet.entry.now;
-          head = head;
-          owed = [] ∷ [];
-          count = 0;
-          refusal = None;
-        }) }
+        ensures opened { IfOk result (λ c. c ≡ opened_for ex.entry.now sheet.entry.now head) }
 
         // Width comes first; then the head is judged, before any claim.
         ensures narrow { OnOk result (AreNarrow ex.entry.now) }
@@ -122,14 +117,7 @@ impl<'a> Checker<'a> {
     ) -> Result<Checker<'a>, Memory>
         requires case { IsCase (record { exercise = exercise.now; sheet = sheet.now; head = head }) }
         requires tables { HasTables (record { exercise = exercise.now; sheet = sheet.now; head = head }) tables }
-        ensures { IfOk result (λ c. c ≡ record {
-          exercise = exercise.entry.now;
-          sheet = sheet.entry.now;
-          head = head;
-          owed = [] ∷ [];
-          count = 0;
-          refusal = None;
-        }) }
+        ensures { IfOk result (λ c. c ≡ opened_for exercise.entry.now sheet.entry.now head) }
     {
         let levels = Vec::with_capacity(alloc, MOST_LEVELS)?;
         let next = Some(Judged::start(exercise, sheet));
@@ -193,6 +181,14 @@ impl<'a> Checker<'a> {
             result ≡ Err (record { number = self.now.count + 1; why = whys.Short }) }
         ensures again { (refused : ARefused) → self.now.refusal ≡ Some refused → result ≡ Err refused }
         ensures shown { IfOk result (λ _. Holds self.now.exercise self.now.sheet self.now.head) }
+
+        // Where all claims since the checker was opened were fed to it: they are a certificate with its head, or not.
+        ensures certified { OnOk result ((claims : List AClaim) →
+            AreFed (opened_for self.now.exercise self.now.sheet self.now.head) claims self.now →
+            IsCertificate self.now.exercise self.now.sheet self.now.head claims) }
+        ensures uncertified { OnErr result ((claims : List AClaim) →
+            AreFed (opened_for self.now.exercise self.now.sheet self.now.head) claims self.now →
+            IsCertificate self.now.exercise self.now.sheet self.now.head claims → ⊥) }
     {
         if let Some(refused) = self.refusal {
             return Err(refused);
