@@ -27,7 +27,7 @@ use Rattle.fux_port.specs.Files.{MayHave}
 use Rattle.penalty_sheet.specs.declared.sheet.Sheet.{Sheet}
 
 -- bytes that begin with more begin with its front
-begins_front : (bytes xs ys : List ℕ) → StartsWith bytes (xs ++ ys) → StartsWith bytes xs
+pub begins_front : (bytes xs ys : List ℕ) → StartsWith bytes (xs ++ ys) → StartsWith bytes xs
 begins_front bytes xs ys begins =
     sym (take-take (length xs) (length (xs ++ ys)) bytes (omega (arith, length-append xs ys)))
     ∙ ap (λ zs. take (length xs) zs) begins ∙ take-append_seam xs ys
