@@ -1,4 +1,5 @@
 pub mod BestLemmas
+pub mod CertifyLemmas
 pub mod ContentLemmas
 pub mod FrontLemmas
 pub mod MakeLemmas

@@ -19,12 +19,12 @@ use Rattle.fux_run.specs.Works.{AllMayHave, Answers, AreContents, AreRead, Files
 use Rattle.fux_run.proofs.WorkLemmas.{not_missing}
 
 -- the bytes of files that were read
-record HaveBytes (limit : ℕ) (files : Files) (names : List (List ℕ)) (contents : List Content) : Type 0 where
-  bytes : List (List ℕ)
-  had : AllMayHave files names bytes
-  content : AreContents limit contents bytes
+pub record HaveBytes (limit : ℕ) (files : Files) (names : List (List ℕ)) (contents : List Content) : Type 0 where
+  pub bytes : List (List ℕ)
+  pub had : AllMayHave files names bytes
+  pub content : AreContents limit contents bytes
 
-have_bytes : (limit : ℕ) (files : Files) (names : List (List ℕ)) (contents : List Content)
+pub have_bytes : (limit : ℕ) (files : Files) (names : List (List ℕ)) (contents : List Content)
     → AreRead limit files names contents → HaveBytes limit files names contents
 have_bytes limit files [] [] read = record { bytes = []; had = tt; content = tt }
 have_bytes limit files [] (content ∷ contents) read = absurd read
@@ -103,17 +103,19 @@ second_missing files first second file rose is here cause = record {
 }
 
 -- the shelf that tells the files of the second read tells the same ones
-pub sheet_unread : (first : List ℕ) (sheet : Option (List ℕ)) (job : Job) (files later_files : Files) (rose later : Type 0) (limit : ℕ)
-    (text : Content) (complaint : Complaint) → IsRead limit files first text → later_files ≡ files → (later → rose)
-    → ReadsSheetFile later_files later sheet (Err complaint) → IsMade (on_exercise first sheet job) files rose (Err complaint)
-sheet_unread first None job files later_files rose later limit text complaint read same so known = absurd known
-sheet_unread first (Some second) job files later_files rose later limit text (Unreadable file) read same so known =
-    second_missing files first second file.now rose known.0 (not_missing files first read.bytes read.had)
-    (elim known.1 [ inl failed ↦ inl (so failed) | inr missing ↦ inr (rw same at missing) ])
-sheet_unread first (Some second) job files later_files rose later limit text OutOfMemory read same so known = tt
-sheet_unread first (Some second) job files later_files rose later limit text Usage read same so known = absurd known
-sheet_unread first (Some second) job files later_files rose later limit text (Refused said) read same so known = absurd known
-sheet_unread first (Some second) job files later_files rose later limit text Unwritable read same so known = absurd known
+pub sheet_unread : (first : List ℕ) (sheet : Option (List ℕ)) (files later_files : Files) (rose later : Type 0) (limit : ℕ)
+    (text : Content) (complaint : Complaint) (Tells : Complaint → Type 0)
+    → ((file : Bor (List ℕ)) → IsUnread files rose (first ∷ as_list sheet) file.now → Tells (Unreadable file)) → Tells OutOfMemory
+    → IsRead limit files first text → later_files ≡ files → (later → rose)
+    → ReadsSheetFile later_files later sheet (Err complaint) → Tells complaint
+sheet_unread first None files later_files rose later limit text complaint Tells unread memory read same so known = absurd known
+sheet_unread first (Some second) files later_files rose later limit text (Unreadable file) Tells unread memory read same so known =
+    unread file (second_missing files first second file.now rose known.0 (not_missing files first read.bytes read.had)
+    (elim known.1 [ inl failed ↦ inl (so failed) | inr missing ↦ inr (rw same at missing) ]))
+sheet_unread first (Some second) files later_files rose later limit text OutOfMemory Tells unread memory read same so known = memory
+sheet_unread first (Some second) files later_files rose later limit text Usage Tells unread memory read same so known = absurd known
+sheet_unread first (Some second) files later_files rose later limit text (Refused said) Tells unread memory read same so known = absurd known
+sheet_unread first (Some second) files later_files rose later limit text Unwritable Tells unread memory read same so known = absurd known
 
 pub read_same : (limit : ℕ) (files later_files : Files) (names : List (List ℕ)) (contents : List Content) → later_files ≡ files
     → AreRead limit later_files names contents → AreRead limit files names contents

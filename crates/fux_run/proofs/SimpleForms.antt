@@ -2,11 +2,11 @@
 use Rattle.std.proofs.Common.{◌≡◌, true, refl}
 use Rattle.clap.specs.Words.{Text, is_simple_and_free}
 use Rattle.clap.proofs.OnLiterals.{clap_on_literals}
-use Rattle.fux_run.specs.Commands.{compose_words, drill_words, exercise_words, fromsmf_words}
+use Rattle.fux_run.specs.Commands.{drill_words, exercise_words, fromsmf_words, search_words}
 
-pub compose_is_simple : is_simple_and_free compose_words ≡ true
+pub search_is_simple : (name : Text) → is_simple_and_free (search_words name) ≡ true
 unfolding clap_on_literals
-compose_is_simple = refl
+search_is_simple name = refl
 
 pub exercise_is_simple : (name : Text) → is_simple_and_free (exercise_words name) ≡ true
 unfolding clap_on_literals

@@ -10,9 +10,11 @@ use Rattle.fux_text.specs.Names.{mode_named}
 use Rattle.smf_score.specs.Heads.{IsHead}
 use Rattle.text_lines.specs.Numbers.{number_within}
 use Rattle.fux_run.specs.declared.command.Command.{Command}
-use Rattle.fux_run.specs.declared.command.Command.TheVariants.{OnExercise, FromSmf, Drill}
+use Rattle.fux_run.specs.declared.command.Command.TheVariants.{Certify, Make}
 use Rattle.fux_run.specs.declared.command.Job.{Job}
 use Rattle.fux_run.specs.declared.command.Job.TheVariants.{Compose, Mark, Cantus, Print, ToSmf}
+use Rattle.fux_run.specs.declared.command.Making.{Making}
+use Rattle.fux_run.specs.declared.command.Making.TheVariants.{OnExercise, FromSmf, Drill}
 
 -- words as their bytes
 abbrev pub texts : {Y : Type 0} → List (String Y) → List Text
@@ -21,19 +23,28 @@ texts words = map string_bytes words
 -- a command, with the names of its files
 pub data Task : Type 0 where
   on_exercise : (name : Text) (sheet : Option Text) (job : Job) → Task
+  certify : (name : Text) (sheet : Option Text) (budget : ℕ) → Task
   fromsmf : (name : Text) (head : Head) → Task
   drill : (number : ℕ) → Task
 
 -- what a command asks for
+abbrev pub making_task : Making → Task
+making_task (OnExercise name sheet job) = on_exercise name.now (option_map (λ text. text.now) sheet) job
+making_task (FromSmf name head) = fromsmf name.now head
+making_task (Drill number) = drill number
+
 abbrev pub task_of : Command → Task
-task_of (OnExercise name sheet job) = on_exercise name.now (option_map (λ text. text.now) sheet) job
-task_of (FromSmf name head) = fromsmf name.now head
-task_of (Drill number) = drill number
+task_of (Make making) = making_task making
+task_of (Certify name sheet budget) = certify name.now (option_map (λ text. text.now) sheet) budget
 
 -- the head of a command is one that an exercise may have
+abbrev pub HasMidiHead : Making → Type 0
+HasMidiHead (FromSmf name head) = IsHead head
+HasMidiHead _ = Unit {0}
+
 abbrev pub HasHead : Command → Type 0
-HasHead (FromSmf name head) = IsHead head
-HasHead _ = Unit {0}
+HasHead (Make making) = HasMidiHead making
+HasHead (Certify name sheet budget) = Unit {0}
 
 -- ---- the words behind the first, as `clap` takes them: one that must be there, options, each once at most, and flags
 
@@ -57,9 +68,10 @@ one_word name word = with_rule (words_of name) (needed_word word)
 abbrev pub exercise_words : Text → App
 exercise_words name = one_word name (codes "EX")
 
-abbrev pub compose_words : App
-compose_words =
-    with_rule (with_rule (exercise_words (codes "compose")) (option_word false (codes "sheet")))
+-- a command that searches, on an exercise
+abbrev pub search_words : Text → App
+search_words name =
+    with_rule (with_rule (exercise_words name) (option_word false (codes "sheet")))
     (option_word false (codes "budget"))
 
 abbrev pub drill_words : App
@@ -128,6 +140,12 @@ compose_asked rows = do
   budget ← budget_in (first_of (codes "budget") rows)
   Some (on_exercise name (first_of (codes "sheet") rows) (Compose budget))
 
+abbrev pub certify_asked : List Row → Option Task
+certify_asked rows = do
+  name ← first_of (codes "EX") rows
+  budget ← budget_in (first_of (codes "budget") rows)
+  Some (certify name (first_of (codes "sheet") rows) budget)
+
 -- a job that needs nothing but an exercise
 abbrev pub job_asked : Job → List Row → Option Task
 job_asked job rows = first_of (codes "EX") rows >>= λ name. Some (on_exercise name None job)
@@ -155,20 +173,22 @@ job_in name job = asked_by (exercise_words name) (job_asked job)
 abbrev pub asked : List Text → Option Task
 asked [] = None
 asked (word ∷ rest) =
-    if bytes_eq word (codes "compose") then asked_by compose_words compose_asked rest
+    if bytes_eq word (codes "compose") then asked_by (search_words (codes "compose")) compose_asked rest
+    else (if bytes_eq word (codes "certify") then asked_by (search_words (codes "certify")) certify_asked rest
     else (if bytes_eq word (codes "mark") then job_in (codes "mark") Mark rest
     else (if bytes_eq word (codes "cantus") then job_in (codes "cantus") Cantus rest
     else (if bytes_eq word (codes "print") then job_in (codes "print") Print rest
     else (if bytes_eq word (codes "tosmf") then job_in (codes "tosmf") ToSmf rest
     else (if bytes_eq word (codes "fromsmf") then asked_by fromsmf_words fromsmf_asked rest
     else (if bytes_eq word (codes "drill") then asked_by drill_words drill_asked rest
-    else None))))))
+    else None)))))))
 
 -- ---- the files
 
 -- the name that a line about a refused file tells, where it tells one
 abbrev pub name_in : Task → Text
 name_in (on_exercise name sheet job) = name
+name_in (certify name sheet budget) = name
 name_in (fromsmf name head) = name
 name_in (drill number) = []
 
@@ -180,11 +200,13 @@ as_list (Some x) = x ∷ []
 -- the names of the files that a command reads before its work, in the order of reading
 abbrev pub names_in : Task → List Text
 names_in (on_exercise name sheet job) = name ∷ as_list sheet
+names_in (certify name sheet budget) = name ∷ as_list sheet
 names_in (fromsmf name head) = name ∷ []
 names_in (drill number) = []
 
 -- how many bytes of each of them are read at most
 abbrev pub limit_in : Task → ℕ
 limit_in (on_exercise name sheet job) = 65536
+limit_in (certify name sheet budget) = 65536
 limit_in (fromsmf name head) = 1048576
 limit_in (drill number) = 65536

@@ -5,7 +5,7 @@ use Rattle.fux_grid.specs.declared.exercise.Place.{Place}
 use Rattle.fux_run.specs.declared.complaint.Complaint.{Complaint}
 use Rattle.fux_run.specs.declared.complaint.Complaint.TheVariants.{Usage, Refused, Unreadable, Unwritable, OutOfMemory}
 use Rattle.fux_run.specs.declared.refusal.Refusal.{Refusal}
-use Rattle.fux_run.specs.declared.refusal.Refusal.TheVariants.{Text, NoSetting, TooWide, Sheet, Midi}
+use Rattle.fux_run.specs.declared.refusal.Refusal.TheVariants.{Text, NoSetting, TooWide, LongCertificate, Sheet, Midi}
 use Rattle.fux_run.specs.declared.status.Status.{Status}
 use Rattle.penalty_sheet.specs.Sheets.{fault_text}
 use Rattle.smf_bytes.specs.declared.fault.ByteFault.{ByteFault}
@@ -73,6 +73,7 @@ refusal_text name (Text kind line column) =
     name ++ codes ":" ++ decimal line ++ codes ":" ++ decimal column ++ codes ": " ++ kind_word kind
 refusal_text name NoSetting = codes "no setting"
 refusal_text name (TooWide place count) = width_text place count
+refusal_text name LongCertificate = codes "certificate too long"
 refusal_text name (Sheet fault) = codes "sheet: " ++ fault_text fault
 refusal_text name (Midi fault) = codes "midi: " ++ midi_text fault
 

@@ -44,6 +44,11 @@ pub record TellsBound (ex : Exercise) (sheet : Sheet) (budget : ℕ) (text : Lis
   pub is_bound : IsBound ex sheet budget bound
   pub spelled : text ≡ bound_line bound
 
+-- the output is the line that tells a bound
+abbrev pub IsBoundText : ℕ → Work → Type 0
+IsBoundText bound (Ok output) = (output.verdict ≡ Spent) × (output.bytes ≡ bound_line bound)
+IsBoundText bound (Err refusal) = ⊥
+
 -- what a text tells of an exercise, by its verdict
 abbrev pub Tells : Exercise → Sheet → ℕ → Verdict → List ℕ → Type 0
 Tells ex sheet budget Favorable text = TellsBest ex sheet budget text

@@ -6,6 +6,9 @@ use Rattle.fux_run.specs.declared.complaint.Complaint.TheVariants as complaint
 use Rattle.fux_run.specs.declared.status.Status.{Status}
 use Rattle.fux_run.specs.declared.status.Status.TheVariants.{Favorable, Unfavorable, Usage, Refused, Unreadable, Unwritable, Spent, OutOfMemory}
 use Rattle.fux_run.specs.declared.refusal.Refusal.{Refusal}
+use Rattle.fux_run.specs.declared.work.Halt.{Halt}
+use Rattle.fux_run.specs.declared.work.Halt.TheVariants as halt
+use Rattle.fux_run.specs.declared.work.Halt.TheVariants.{Stopped}
 use Rattle.fux_run.specs.declared.work.Output.{Output}
 use Rattle.fux_run.specs.declared.work.Stop.{Stop}
 use Rattle.fux_run.specs.declared.work.Stop.TheVariants as stop
@@ -78,6 +81,19 @@ IsMade task files rose (Err (complaint.Unreadable name)) = IsUnread files rose (
 IsMade task files rose (Err complaint.OutOfMemory) = Unit {0}
 IsMade task files rose (Err _) = ⊥
 
+-- work of which two facts hold
+pub record Does (Made Holds : Work → Type 0) : Type 0 where
+  pub work : Work
+  pub made : Made work
+  pub holds : Holds work
+
+-- the answer of a command that writes while it works: all was written, or nothing of work that is refused, or a front of the output
+abbrev pub Writes : (Work → Type 0) → Type 0 → Option (List ℕ) → Option (List ℕ) → Result Verdict Halt → Type 0
+Writes Made cut old new (Ok verdict) = Does Made (IsWritten old new verdict)
+Writes Made cut old new (Err (Stopped (stop.Refused refusal))) = (new ≡ old) × Made (Err refusal)
+Writes Made cut old new (Err (Stopped stop.Memory)) = new ≡ old
+Writes Made cut old new (Err halt.Unwritable) = cut × Does Made (λ work. StopsShort old new (work_output work))
+
 -- how a command's work on its files ended, with the cause: what was written to standard output, and what is to be said
 abbrev pub Ended : Task → Files → Type 0 → Type 0 → Option (List ℕ) → Option (List ℕ) → Result Verdict Complaint → Type 0
 Ended task files rose cut old new (Ok verdict) = Works task files (IsWritten old new verdict)
@@ -120,3 +136,11 @@ result_status (Err complaint) = complaint_status complaint
 abbrev pub result_line : Result Verdict Complaint → List ℕ
 result_line (Ok verdict) = []
 result_line (Err complaint) = fux_line (complaint_text complaint)
+
+-- an answer of a command that writes while it works, as a run tells it
+abbrev pub SaysWritten : List ℕ → Result Verdict Halt → Result Verdict Complaint → Type 0
+SaysWritten name (Ok verdict) told = told ≡ Ok verdict
+SaysWritten name (Err (Stopped (stop.Refused refusal))) (Err complaint) = SaysRefusal (refusal_text name refusal) complaint
+SaysWritten name (Err (Stopped (stop.Refused refusal))) (Ok verdict) = ⊥
+SaysWritten name (Err (Stopped stop.Memory)) told = told ≡ Err complaint.OutOfMemory
+SaysWritten name (Err halt.Unwritable) told = told ≡ Err complaint.Unwritable

@@ -12,7 +12,8 @@ use Rattle.fux_run.specs.declared.work.Stop.TheVariants.{Refused, Memory}
 use Rattle.fux_run.specs.declared.command.Job.{Job}
 use Rattle.fux_run.specs.declared.command.Job.TheVariants.{Compose, Mark, Cantus, Print, ToSmf}
 use Rattle.penalty_sheet.specs.declared.sheet.Sheet.{Sheet}
-use Rattle.fux_run.specs.Commands.{Task, on_exercise, fromsmf, drill, as_list, names_in}
+use Rattle.fux_run.specs.Certified.{Certifies}
+use Rattle.fux_run.specs.Commands.{Task, on_exercise, certify, fromsmf, drill, as_list, names_in}
 use Rattle.fux_run.specs.Composed.{Composes}
 use Rattle.fux_run.specs.Drilled.{Drills}
 use Rattle.fux_run.specs.Marked.{Marks, CantusMarks}
@@ -33,9 +34,14 @@ MakesOf ToSmf sheet ex = WritesSmf ex
 abbrev pub MakesOfText : Job → List (List ℕ) → List ℕ → Work → Type 0
 MakesOfText job sheets text = OnText (λ ex. OnSheet (λ sheet. MakesOf job sheet ex) sheets) text
 
+-- `certify` makes this of the text of an exercise, and of the file of a sheet where one is given
+abbrev pub CertifiesText : ℕ → List (List ℕ) → List ℕ → Work → Type 0
+CertifiesText budget sheets text = OnText (λ ex. OnSheet (λ sheet. Certifies budget sheet ex) sheets) text
+
 -- a command makes this of files with these bytes, in the order of reading
 abbrev pub Makes : Task → List (List ℕ) → Work → Type 0
 Makes (on_exercise name sheet job) (text ∷ sheets) work = MakesOfText job sheets text work
+Makes (certify name sheet budget) (text ∷ sheets) work = CertifiesText budget sheets text work
 Makes (fromsmf name head) (file ∷ []) work = ReadsMidi head file work
 Makes (drill number) [] work = Drills number work
 Makes _ _ work = ⊥

@@ -1,11 +1,11 @@
 //! The words on the command line.
 
-ghost use Rattle.std.specs.Prelude.{◌≡◌, IfOk, IfSome, option_map, true};
+ghost use Rattle.std.specs.Prelude.{◌≡◌, IfOk, IfSome, codes, option_map, true};
 ghost use Rattle.clap.specs.Words.{app_of, found_of, is_simple_and_free, rows_of};
-ghost use Rattle.fux_run.specs.Commands.{HasHead, asked, asked_by, compose_asked, compose_words, drill_asked, drill_words, found_in, fromsmf_asked, fromsmf_words, job_in, task_of, texts};
+ghost use Rattle.fux_run.specs.Commands.{HasHead, asked, asked_by, certify_asked, compose_asked, drill_asked, drill_words, found_in, fromsmf_asked, fromsmf_words, job_in, search_words, task_of, texts};
 
-use crate::forms::{compose_form, drill_form, exercise_form, from_smf_form};
-use crate::values::{composing, drilling, job_on, smf_reading};
+use crate::forms::{drill_form, exercise_form, from_smf_form, search_form};
+use crate::values::{certifying, composing, drilling, job_on, smf_reading};
 use clap::ArgMatches;
 use clap::error::ErrorKind;
 use fux_grid::Head;
@@ -27,9 +27,9 @@ pub enum Job {
     ToSmf,
 }
 
-/// What the words ask for, and the names of the files that it is to be made of.
+/// What is to be made whole before any of it is written, and the names of the files that it is to be made of.
 #[derive(Clone, Copy, Debug, PartialEq, Eq)]
-pub enum Command<'a> {
+pub enum Making<'a> {
     /// Something made of the exercise in a file, over the sheet of weights in another where one is named.
     OnExercise {
         name: &'a str,
@@ -47,6 +47,20 @@ pub enum Command<'a> {
     },
 }
 
+/// What the words ask for.
+#[derive(Clone, Copy, Debug, PartialEq, Eq)]
+pub enum Command<'a> {
+    /// What is made whole before any of it is written.
+    Make(Making<'a>),
+    /// The certificate of the best setting of the exercise in a file, found within this budget, over the sheet of weights in another
+    /// where one is named. It is written while it is made, for it may be longer than memory holds.
+    Certify {
+        name: &'a str,
+        sheet: Option<&'a str>,
+        budget: u32,
+    },
+}
+
 /// The command that the words after the program's name ask for, or none where they are of no command's form.
 pub fn parse(alloc: Global, words: &[String]) -> Result<Option<Command<'_>>, Memory>
     ensures asked { IfOk result (λ found. option_map task_of found ≡ asked (texts words.now)) }
@@ -57,6 +71,7 @@ pub fn parse(alloc: Global, words: &[String]) -> Result<Option<Command<'_>>, Mem
     };
     match word.as_str() {
         "compose" => parse_compose(alloc, rest),
+        "certify" => parse_certify(alloc, rest),
         "mark" => parse_job(alloc, "mark", Job::Mark, rest),
         "cantus" => parse_job(alloc, "cantus", Job::Cantus, rest),
         "print" => parse_job(alloc, "print", Job::Print, rest),
@@ -70,13 +85,25 @@ pub fn parse(alloc: Global, words: &[String]) -> Result<Option<Command<'_>>, Mem
 /// The words behind `compose`.
 fn parse_compose(alloc: Global, words: &[String]) -> Result<Option<Command<'_>>, Memory>
     ensures asked { IfOk result (λ found. option_map task_of found
-        ≡ asked_by compose_words compose_asked (texts words.now)) }
+        ≡ asked_by (search_words (codes "compose")) compose_asked (texts words.now)) }
     ensures head { IfOk result (λ found. IfSome found HasHead) }
 {
-    let Some(matches) = taken(compose_form(alloc)?, words)? else {
+    let Some(matches) = taken(search_form(alloc, "compose")?, words)? else {
         return Ok(None);
     };
     Ok(composing(&matches))
+}
+
+/// The words behind `certify`.
+fn parse_certify(alloc: Global, words: &[String]) -> Result<Option<Command<'_>>, Memory>
+    ensures asked { IfOk result (λ found. option_map task_of found
+        ≡ asked_by (search_words (codes "certify")) certify_asked (texts words.now)) }
+    ensures head { IfOk result (λ found. IfSome found HasHead) }
+{
+    let Some(matches) = taken(search_form(alloc, "certify")?, words)? else {
+        return Ok(None);
+    };
+    Ok(certifying(&matches))
 }
 
 /// The words behind the name of a job that needs nothing but an exercise.

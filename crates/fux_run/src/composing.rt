@@ -79,7 +79,7 @@ fn none_text(alloc: Global) -> Result<String, Memory>
 }
 
 /// A bound.
-fn bound_text(alloc: Global, bound: u64) -> Result<String, Memory>
+pub fn bound_text(alloc: Global, bound: u64) -> Result<String, Memory>
     ensures { IfOk result (λ text. string_bytes text ≡ bound_line bound) }
 {
     let mut text = String::new(alloc);

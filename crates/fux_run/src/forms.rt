@@ -2,7 +2,7 @@
 
 ghost use Rattle.std.specs.Prelude.{◌≡◌, IfOk, codes};
 ghost use Rattle.clap.specs.Words.{app_of, with_rule};
-ghost use Rattle.fux_run.specs.Commands.{compose_words, drill_words, exercise_words, flag_word, fromsmf_words, head_words, one_word, option_word};
+ghost use Rattle.fux_run.specs.Commands.{drill_words, exercise_words, flag_word, fromsmf_words, head_words, one_word, option_word, search_words};
 
 use clap::{Arg, ArgAction, Command};
 use std::alloc::{AllocError, Global};
@@ -47,11 +47,11 @@ pub fn exercise_form<'a>(alloc: Global, name: &'a str) -> Result<Command<'a>, Al
     one_word(alloc, name, "EX")
 }
 
-/// `compose EX [--sheet S] [--budget N]`.
-pub fn compose_form<'a>(alloc: Global) -> Result<Command<'a>, AllocError>
-    ensures { IfOk result (λ command. app_of command ≡ compose_words) }
+/// `NAME EX [--sheet S] [--budget N]`.
+pub fn search_form<'a>(alloc: Global, name: &'a str) -> Result<Command<'a>, AllocError>
+    ensures { IfOk result (λ command. app_of command ≡ search_words name.entry.now) }
 {
-    let command = exercise_form(alloc, "compose")?;
+    let command = exercise_form(alloc, name)?;
     let command = with_option(alloc, command, "sheet", false)?;
     with_option(alloc, command, "budget", false)
 }

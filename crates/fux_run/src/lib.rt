@@ -1,6 +1,7 @@
 //! Runs the program: the words on the command line, the work that they ask for, and how it ends.
 #![tactic(auto)]
 
+mod certifying;
 mod command;
 mod complaint;
 mod composing;
@@ -21,7 +22,7 @@ mod values;
 mod weighing;
 mod work;
 
-pub use command::{Command, Job, parse};
+pub use command::{Command, Job, Making, parse};
 pub use complaint::Complaint;
 pub use status::Status;
 pub use top_call::run;

@@ -3,12 +3,12 @@
 ghost use Rattle.std.specs.Prelude.{◌≡◌, ◌≤◌, ℕ, List, option_map};
 ghost use Rattle.fux_grid.specs.Exercises.{IsValid};
 ghost use Rattle.fux_port.specs.Counts.{Rose};
-ghost use Rattle.fux_run.specs.Commands.{HasHead, as_list, task_of};
+ghost use Rattle.fux_run.specs.Commands.{HasMidiHead, as_list, making_task};
 ghost use Rattle.fux_run.specs.Complaints.{refusal_text};
 ghost use Rattle.fux_run.specs.Runs.{IsMade, Says, SaysRefusal};
 ghost use Rattle.fux_run.specs.Works.{Answers, AreContents, IsContent, MakesOf, MakesOfText, ReadsSheetFile};
 
-use crate::command::{Command, Job};
+use crate::command::{Job, Making};
 use crate::complaint::Complaint;
 use crate::composing::compose;
 use crate::content::{Content, read_content};
@@ -31,30 +31,30 @@ use std::thread::Threads;
 pub fn make<'a, F: Shelf, R: Threads + Sync>(
     rt: &R,
     alloc: Global,
-    command: Command<'a>,
+    making: Making<'a>,
     shelf: &mut F,
 ) -> Result<Output, Complaint<'a>>
-    requires { HasHead command }
-    ensures made { IsMade (task_of command.entry) (F.files shelf.old)
+    requires { HasMidiHead making }
+    ensures made { IsMade (making_task making.entry) (F.files shelf.old)
         (Rose (F.faults shelf.old) (F.faults shelf.new)) result }
     ensures files { F.files shelf.new ≡ F.files shelf.old }
 {
-    match command {
-        Command::OnExercise { name, sheet, job } => {
+    match making {
+        Making::OnExercise { name, sheet, job } => {
             let text = read_content(alloc, shelf, name, LONGEST_TEXT)?;
             let weights = read_weights(alloc, shelf, sheet)?;
             said(alloc, name, of_texts(rt, alloc, &text, &weights, job))
         }
-        Command::FromSmf { name, head } => {
+        Making::FromSmf { name, head } => {
             let file = read_content(alloc, shelf, name, LONGEST_MIDI)?;
             said(alloc, name, from_smf(alloc, &file, &head))
         }
-        Command::Drill { number } => said(alloc, "", drill(rt, alloc, number)),
+        Making::Drill { number } => said(alloc, "", drill(rt, alloc, number)),
     }
 }
 
 /// Reads the file of the sheet, where one is named.
-fn read_weights<'a, F: Shelf>(
+pub fn read_weights<'a, F: Shelf>(
     alloc: Global,
     shelf: &mut F,
     name: Option<&'a str>,
@@ -122,7 +122,7 @@ fn said(
 }
 
 /// The complaint about a refused file of this name.
-fn refused(alloc: Global, name: &str, refusal: &Refusal) -> Complaint<'static>
+pub fn refused(alloc: Global, name: &str, refusal: &Refusal) -> Complaint<'static>
     ensures { SaysRefusal (refusal_text name.now refusal.now) result }
 {
     match refusal_text(alloc, name, refusal) {

@@ -1,19 +1,24 @@
 //! The work of a command on its files.
 
-ghost use Rattle.std.specs.Prelude.{◌≡◌};
+ghost use Rattle.std.specs.Prelude.{◌≡◌, ℕ, List, option_map};
 ghost use Rattle.fux_port.specs.Counts.{Rose};
-ghost use Rattle.fux_run.specs.Commands.{HasHead, task_of};
-ghost use Rattle.fux_run.specs.Runs.{Ended};
+ghost use Rattle.fux_run.specs.Commands.{HasHead, HasMidiHead, as_list, certify, making_task, task_of};
+ghost use Rattle.fux_run.specs.Runs.{Ended, SaysWritten, Writes};
+ghost use Rattle.fux_run.specs.Works.{AreContents, CertifiesText, IsContent};
 
-use crate::command::Command;
+use crate::certifying::certify;
+use crate::command::{Command, Making};
 use crate::complaint::Complaint;
-use crate::making::make;
-use crate::work::Verdict;
+use crate::content::{Content, read_content};
+use crate::exercise::{LONGEST_TEXT, exercise_of};
+use crate::making::{make, read_weights, refused};
+use crate::weighing::sheet_of;
+use crate::work::{Halt, Stop, Verdict};
 use fux_port::{Failed, Shelf, Sink, write_all};
 use std::alloc::Global;
 use std::thread::Threads;
 
-/// Does the work of a command, and writes what comes of it. All of the output is made before any of it is written.
+/// Does the work of a command, and writes what comes of it.
 pub fn perform<'a, F: Shelf, K: Sink, R: Threads + Sync>(
     rt: &R,
     alloc: Global,
@@ -27,9 +32,91 @@ pub fn perform<'a, F: Shelf, K: Sink, R: Threads + Sync>(
         (K.written out.old) (K.written out.new) result }
     ensures files { F.files shelf.new ≡ F.files shelf.old }
 {
-    let output = make(rt, alloc, command, shelf)?;
+    match command {
+        Command::Make(making) => perform_making(rt, alloc, making, shelf, out),
+        Command::Certify {
+            name,
+            sheet,
+            budget,
+        } => perform_certify(rt, alloc, name, sheet, budget, shelf, out),
+    }
+}
+
+/// Makes something, and writes it. All of the output is made before any of it is written.
+fn perform_making<'a, F: Shelf, K: Sink, R: Threads + Sync>(
+    rt: &R,
+    alloc: Global,
+    making: Making<'a>,
+    shelf: &mut F,
+    out: &mut K,
+) -> Result<Verdict, Complaint<'a>>
+    requires { HasMidiHead making }
+    ensures ended { Ended (making_task making.entry) (F.files shelf.old)
+        (Rose (F.faults shelf.old) (F.faults shelf.new)) (Rose (K.faults out.old) (K.faults out.new))
+        (K.written out.old) (K.written out.new) result }
+    ensures files { F.files shelf.new ≡ F.files shelf.old }
+{
+    let output = make(rt, alloc, making, shelf)?;
     match write_all(out, output.bytes.as_slice()) {
         Ok(()) => Ok(output.verdict),
         Err(Failed) => Err(Complaint::Unwritable),
+    }
+}
+
+/// Writes the certificate of the exercise in a file, over the sheet in another where one is named.
+fn perform_certify<'a, F: Shelf, K: Sink, R: Threads + Sync>(
+    rt: &R,
+    alloc: Global,
+    name: &'a str,
+    sheet: Option<&'a str>,
+    budget: u32,
+    shelf: &mut F,
+    out: &mut K,
+) -> Result<Verdict, Complaint<'a>>
+    ensures ended { Ended (certify name.entry.now (option_map (λ text. text.now) sheet.entry) budget) (F.files shelf.old)
+        (Rose (F.faults shelf.old) (F.faults shelf.new)) (Rose (K.faults out.old) (K.faults out.new))
+        (K.written out.old) (K.written out.new) result }
+    ensures files { F.files shelf.new ≡ F.files shelf.old }
+{
+    let text = read_content(alloc, shelf, name, LONGEST_TEXT)?;
+    let weights = read_weights(alloc, shelf, sheet)?;
+    said_of(
+        alloc,
+        name,
+        certify_texts(rt, alloc, &text, &weights, budget, out),
+    )
+}
+
+/// Writes the certificate of the exercise of a text, over the sheet of a file where one is given.
+fn certify_texts<K: Sink, R: Threads + Sync>(
+    rt: &R,
+    alloc: Global,
+    text: &Content,
+    weights: &Option<Content>,
+    budget: u32,
+    out: &mut K,
+) -> Result<Verdict, Halt>
+    ensures { (bytes : List ℕ) (sheets : List (List ℕ)) → IsContent 65536 text.now bytes
+        → AreContents 65536 (as_list weights.now) sheets → Writes (CertifiesText budget sheets bytes)
+        (Rose (K.faults out.old) (K.faults out.new)) (K.written out.old) (K.written out.new) result }
+{
+    let exercise = exercise_of(alloc, text)?;
+    let sheet = sheet_of(alloc, weights)?;
+    certify(rt, alloc, &exercise, &sheet, budget, out)
+}
+
+/// What is said of a command that wrote while it worked, with this name for a text that is refused.
+fn said_of(
+    alloc: Global,
+    name: &str,
+    answer: Result<Verdict, Halt>,
+) -> Result<Verdict, Complaint<'static>>
+    ensures { SaysWritten name.now answer result }
+{
+    match answer {
+        Ok(verdict) => Ok(verdict),
+        Err(Halt::Stopped(Stop::Refused(refusal))) => Err(refused(alloc, name, &refusal)),
+        Err(Halt::Stopped(Stop::Memory)) => Err(Complaint::OutOfMemory),
+        Err(Halt::Unwritable) => Err(Complaint::Unwritable),
     }
 }

@@ -28,6 +28,8 @@ pub enum Refusal {
         place: Place,
         count: u64,
     },
+    /// The certificate has more than 1,073,741,824 bytes.
+    LongCertificate,
     /// The file is no sheet of weights: its first fault.
     Sheet {
         fault: SheetFault,
@@ -58,6 +60,7 @@ fn put_refusal(text: &mut String, name: &str, refusal: &Refusal) -> Result<(), M
         }
         Refusal::NoSetting => Ok(text.push_str("no setting")?),
         Refusal::TooWide { place, count } => put_width(text, *place, *count),
+        Refusal::LongCertificate => Ok(text.push_str("certificate too long")?),
         Refusal::Sheet { fault } => Ok(write!(text, "sheet: {fault}")?),
         Refusal::Midi { fault } => {
             text.push_str("midi: ")?;

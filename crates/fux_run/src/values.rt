@@ -7,9 +7,9 @@ ghost use Rattle.fux_text.specs.Names.{mode_named};
 ghost use Rattle.smf_score.specs.Heads.{IsHead};
 ghost use Rattle.text_lines.specs.Numbers.{number_within};
 ghost use Rattle.fux_pitch.specs.declared.mode.Mode.{Mode as AMode};
-ghost use Rattle.fux_run.specs.Commands.{HasHead, budget_in, compose_asked, drill_asked, fromsmf_asked, head_in, is_set, job_asked, number_at, task_of};
+ghost use Rattle.fux_run.specs.Commands.{HasHead, budget_in, certify_asked, compose_asked, drill_asked, fromsmf_asked, head_in, is_set, job_asked, number_at, task_of};
 
-use crate::command::{Command, Job};
+use crate::command::{Command, Job, Making};
 use clap::ArgMatches;
 use fux_grid::Head;
 use fux_pitch::Mode;
@@ -125,7 +125,22 @@ pub fn composing<'a>(matches: &ArgMatches<'a>) -> Option<Command<'a>>
     let budget = budget_of(value(matches, "budget"))?;
     let sheet = value(matches, "sheet");
     let job = Job::Compose { budget };
-    Some(Command::OnExercise { name, sheet, job })
+    Some(Command::Make(Making::OnExercise { name, sheet, job }))
+}
+
+/// `certify`, on the exercise of a file.
+pub fn certifying<'a>(matches: &ArgMatches<'a>) -> Option<Command<'a>>
+    ensures asked { option_map task_of result ≡ certify_asked (rows_of (found_of matches.now)) }
+    ensures head { IfSome result HasHead }
+{
+    let name = value(matches, "EX")?;
+    let budget = budget_of(value(matches, "budget"))?;
+    let sheet = value(matches, "sheet");
+    Some(Command::Certify {
+        name,
+        sheet,
+        budget,
+    })
 }
 
 /// A job that needs nothing but the exercise of a file.
@@ -135,7 +150,7 @@ pub fn job_on<'a>(matches: &ArgMatches<'a>, job: Job) -> Option<Command<'a>>
 {
     let name = value(matches, "EX")?;
     let sheet = None;
-    Some(Command::OnExercise { name, sheet, job })
+    Some(Command::Make(Making::OnExercise { name, sheet, job }))
 }
 
 /// `fromsmf`, on a MIDI file.
@@ -145,7 +160,7 @@ pub fn smf_reading<'a>(matches: &ArgMatches<'a>) -> Option<Command<'a>>
 {
     let name = value(matches, "FILE")?;
     let head = head_of(matches)?;
-    Some(Command::FromSmf { name, head })
+    Some(Command::Make(Making::FromSmf { name, head }))
 }
 
 /// `drill`, of a number.
@@ -154,5 +169,5 @@ pub fn drilling<'a>(matches: &ArgMatches<'a>) -> Option<Command<'a>>
     ensures head { IfSome result HasHead }
 {
     let number = number_at(matches, "N", 0, LAST_DRILL)?;
-    Some(Command::Drill { number })
+    Some(Command::Make(Making::Drill { number }))
 }

@@ -1,6 +1,7 @@
 //! What the commands make of an exercise.
 
 ghost use Rattle.std.specs.Prelude.{◌≡◌, string_bytes};
+ghost use Rattle.fux_run.specs.declared.work.Halt.TheVariants as halt;
 ghost use Rattle.fux_run.specs.declared.work.Stop.TheVariants as stop;
 
 use crate::refusal::Refusal;
@@ -66,5 +67,30 @@ impl From<AllocError> for Stop {
 
     fn from(_: AllocError) -> Self {
         Stop::Memory
+    }
+}
+
+/// Why a command that writes while it works doesn't write its whole output.
+#[derive(Drop)]
+pub enum Halt {
+    /// There is no output.
+    Stopped(Stop),
+    /// Standard output cannot be written.
+    Unwritable,
+}
+
+impl From<Stop> for Halt {
+    ghost from_gives = { λ stop found. found ≡ halt.Stopped stop };
+
+    fn from(stop: Stop) -> Self {
+        Halt::Stopped(stop)
+    }
+}
+
+impl From<AllocError> for Halt {
+    ghost from_gives = { λ _ found. found ≡ halt.Stopped stop.Memory };
+
+    fn from(_: AllocError) -> Self {
+        Halt::Stopped(Stop::Memory)
     }
 }

@@ -1,8 +1,9 @@
-use Rattle.std.proofs.Common.{◌∷◌, []}
+use Rattle.std.proofs.Common.{◌∷◌, [], Err}
 use Rattle.std.proofs.lemmas.Result.{err_from_is_err_and}
 use Rattle.fux_port.specs.Counts.{Rose}
 use Rattle.fux_port.proofs.Rises.{rose_later}
 use Rattle.fux_run.specs.Commands.{as_list, drill, fromsmf, on_exercise}
+use Rattle.fux_run.specs.Runs.{IsMade}
 use Rattle.fux_run.proofs.MakeLemmas.{made_said, of_none, of_one, of_two, read_same, sheet_named, sheet_unread}
 use Rattle.fux_run.proofs.making.make.Goals as goal
 
@@ -11,11 +12,14 @@ pub returns-in_err-weights-in-OnExercise-clause-made :
 returns-in_err-weights-in-OnExercise-clause-made g c =
     let files = g.F.Shelf.files in
     let faults = g.F.Shelf.faults in
+    let task = on_exercise c.in-OnExercise.name.now (sheet_named c.in-OnExercise.sheet) c.in-OnExercise.job in
     let told = err_from_is_err_and c.from_residual-in_err-weights-in-OnExercise.result
     c.from_residual-in_err-weights-in-OnExercise.ensures.1 in
-    rw (c.in-OnExercise.is, told.1, told.2) (sheet_unread c.in-OnExercise.name.now (sheet_named c.in-OnExercise.sheet) c.in-OnExercise.job
+    rw (c.in-OnExercise.is, told.1, told.2) (sheet_unread c.in-OnExercise.name.now (sheet_named c.in-OnExercise.sheet)
     (files c.args.shelf.now) (files c.read_content.new.shelf) (Rose (faults c.args.shelf.now) (faults c.read_weights.new.shelf))
     (Rose (faults c.read_content.new.shelf) (faults c.read_weights.new.shelf)) 65536 c.in_ok-text-in-OnExercise.text _
+    (λ complaint. IsMade task (files c.args.shelf.now) (Rose (faults c.args.shelf.now) (faults c.read_weights.new.shelf)) (Err complaint))
+    (λ file is. is) tt
     c.in_ok-text-in-OnExercise.ensures.reads c.in_ok-text-in-OnExercise.ensures.files
     (rose_later _ _ _ c.in_ok-text-in-OnExercise.ensures.faults) c.in_err-weights-in-OnExercise.ensures.reads)
 
