@@ -14,6 +14,7 @@ use Rattle.cert_check.specs.Checking.{Checking, IsFault, Refuses, Takes, TakesOf
 use Rattle.cert_check.specs.Cases.{IsCase, Matter}
 use Rattle.cert_check.specs.Walks.{longer_from, owed_at, owed_by_walk}
 use Rattle.cert_check.specs.declared.judged.Judged.{Judged}
+use Rattle.cert_check.specs.declared.walk.Level.{Level}
 use Rattle.cert_check.specs.declared.walk.Walk.{Walk}
 use Rattle.fux_grid.specs.declared.cell.Cell.{Cell}
 use Rattle.fux_grid.specs.declared.exercise.Exercise.{Exercise}
@@ -59,6 +60,11 @@ refuses_seen old seen p owed claim new result same are fails answer kept =
 pub none_from : {X : Type 0} (o : Option X) → is_some o ≡ false → o ≡ None
 none_from None h = refl
 none_from (Some x) h = absurd (true≢false h)
+
+-- where there is a next prefix, it is owed
+pub owes_next : (ex : Exercise) (levels : List Level) (next : Option Judged) → is_some next ≡ true → owed_at ex levels next ≡ [] → ⊥
+owes_next ex levels None h e = absurd (true≢false (sym h))
+owes_next ex levels (Some judged) h e = cc
 
 -- where none is owed and none was refused, the head holds
 pub shown : (t : Matter) (walk : Walk) → IsCase t → OwesRefuting t.exercise t.sheet t.head (owed_by_walk t.exercise walk) → walk.next ≡ None

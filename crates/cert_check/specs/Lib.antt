@@ -1,4 +1,6 @@
 pub mod Cases
 pub mod Checking
+pub mod Opening
 pub mod Prefixes
+pub mod Runs
 pub mod Walks

@@ -1,23 +1,40 @@
 //! The checker of certificates.
 
-ghost use Rattle.std.specs.Prelude.{◌≡◌, ◌≢◌, ◌+◌, ◌^◌, ◌<◌, ◌≤◌, [], ◌∷◌, None, Some, Ok, Err, IfErr, IfOk, OnOk};
+ghost use Rattle.std.specs.Prelude.{◌≡◌, ◌≢◌, ◌+◌, ◌^◌, ◌<◌, ◌≤◌, [], ◌∷◌, None, Some, Ok, Err, IfErr, IfOk, List, OnErr, OnOk};
 ghost use Rattle.cert_text.specs.declared.answers.Refused.{Refused as ARefused};
 ghost use Rattle.cert_text.specs.declared.answers.Why.TheVariants as whys;
-ghost use Rattle.cert_law.specs.Certificates.{Holds};
+ghost use Rattle.cert_text.specs.declared.claim.Claim.{Claim as AClaim};
+ghost use Rattle.cert_law.specs.Certificates.{Holds, IsCertificate, IsHeadSound};
 ghost use Rattle.cert_check.specs.Cases.{HasTables, IsCase};
 ghost use Rattle.cert_check.specs.Checking.{Refuses, Takes, accepted_of};
+ghost use Rattle.cert_check.specs.Opening.{TellsWhy};
+ghost use Rattle.cert_check.specs.Runs.{AreFed, opened_for};
+ghost use Rattle.floor_tables.specs.Tables.{AreNarrow};
+ghost use Rattle.fux_grid.specs.Exercises.{IsValid};
 
 use crate::case::Case;
+use crate::head::is_sound;
 use crate::judged::Judged;
 use crate::truth::{is_open, is_true};
 use crate::walk::Walk;
 use cert_text::{Accepted, CertHead, Claim, Refused, Why};
-use floor_tables::Tables;
-use fux_grid::Exercise;
+use floor_tables::{TableFault, Tables, fill_tables};
+use fux_grid::{Exercise, Place};
 use fux_pitch::Memory;
 use penalty_sheet::Sheet;
 use std::alloc::Global;
 use std::marker::Model;
+use std::thread::Threads;
+
+/// Why a checker isn't opened.
+#[derive(Clone, Copy, Debug, PartialEq, Eq)]
+pub enum OpenFault {
+    /// A menu has more than 8,192 columns: the first such place, and how many it has.
+    TooWide { place: Place, count: u64 },
+    /// The head's score isn't a lawful setting that has the head's penalty.
+    Refused(Refused),
+    Memory,
+}
 
 /// Room for 24 bars of eight columns.
 const MOST_LEVELS: usize = 192;
@@ -55,6 +72,41 @@ impl<'a> Model for Checker<'a> {
 }
 
 impl<'a> Checker<'a> {
+    /// A checker of the claims of a certificate with this head. All memory is taken here.
+    pub fn open<R: Threads + Sync>(
+        rt: &R,
+        alloc: Global,
+        ex: &'a Exercise,
+        sheet: &'a Sheet,
+        head: CertHead,
+    ) -> Result<Checker<'a>, OpenFault>
+        requires { IsValid ex.now }
+        ensures opened { IfOk result (λ c. c ≡ opened_for ex.entry.now sheet.entry.now head) }
+
+        // Width comes first; then the head is judged, before any claim.
+        ensures narrow { OnOk result (AreNarrow ex.entry.now) }
+        ensures sound { OnOk result (IsHeadSound ex.entry.now sheet.entry.now head) }
+        ensures fault { IfErr result (TellsWhy ex.entry.now sheet.entry.now head) }
+    {
+        let tables = match fill_tables(rt, alloc, ex, sheet) {
+            Ok(tables) => tables,
+            Err(TableFault::TooWide { place, count }) => {
+                return Err(OpenFault::TooWide { place, count });
+            }
+            Err(TableFault::Memory) => return Err(OpenFault::Memory),
+        };
+        if !is_sound(ex, sheet, &head) {
+            return Err(OpenFault::Refused(Refused {
+                number: 0,
+                why: Why::Head,
+            }));
+        }
+        match Checker::opened(alloc, ex, sheet, head, tables) {
+            Ok(checker) => Ok(checker),
+            Err(Memory) => Err(OpenFault::Memory),
+        }
+    }
+
     /// A checker for which the empty prefix is owed. It takes all its memory here.
     pub(crate) fn opened(
         alloc: Global,
@@ -65,14 +117,7 @@ impl<'a> Checker<'a> {
     ) -> Result<Checker<'a>, Memory>
         requires case { IsCase (record { exercise = exercise.now; sheet = sheet.now; head = head }) }
         requires tables { HasTables (record { exercise = exercise.now; sheet = sheet.now; head = head }) tables }
-        ensures { IfOk result (λ c. c ≡ record {
-          exercise = exercise.entry.now;
-          sheet = sheet.entry.now;
-          head = head;
-          owed = [] ∷ [];
-          count = 0;
-          refusal = None;
-        }) }
+        ensures { IfOk result (λ c. c ≡ opened_for exercise.entry.now sheet.entry.now head) }
     {
         let levels = Vec::with_capacity(alloc, MOST_LEVELS)?;
         let next = Some(Judged::start(exercise, sheet));
@@ -136,6 +181,14 @@ impl<'a> Checker<'a> {
             result ≡ Err (record { number = self.now.count + 1; why = whys.Short }) }
         ensures again { (refused : ARefused) → self.now.refusal ≡ Some refused → result ≡ Err refused }
         ensures shown { IfOk result (λ _. Holds self.now.exercise self.now.sheet self.now.head) }
+
+        // Where all claims since the checker was opened were fed to it: they are a certificate with its head, or not.
+        ensures certified { OnOk result ((claims : List AClaim) →
+            AreFed (opened_for self.now.exercise self.now.sheet self.now.head) claims self.now →
+            IsCertificate self.now.exercise self.now.sheet self.now.head claims) }
+        ensures uncertified { OnErr result ((claims : List AClaim) →
+            AreFed (opened_for self.now.exercise self.now.sheet self.now.head) claims self.now →
+            IsCertificate self.now.exercise self.now.sheet self.now.head claims → ⊥) }
     {
         if let Some(refused) = self.refusal {
             return Err(refused);

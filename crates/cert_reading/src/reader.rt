@@ -71,6 +71,10 @@ impl Reader {
     pub fn next<F: Shelf>(&mut self, shelf: &mut F, name: &str) -> Result<Option<Claim>, ReadFault>
         ensures gives { (front : List ℕ) → IsAt (F.files shelf.old) name.now front self.old
             → Gives (F.files shelf.old) name.now (Rose (F.faults shelf.old) (F.faults shelf.new)) front self.new result }
+
+        // Every reader has read no more than a certificate may have.
+        ensures limit { self.old.offset ≤ 1073741824 }
+
         ensures files { F.files shelf.new ≡ F.files shelf.old }
         ensures faults { F.faults shelf.old ≤ F.faults shelf.new }
     {
@@ -91,6 +95,7 @@ impl Reader {
         ensures takes { (files : Files) (name front : List ℕ) → IsAt files name front self.old
             → TakesLine files name front self.new result }
         ensures offset { self.new.offset ≡ self.old.offset }
+        ensures limit { self.old.offset ≤ 1073741824 }
     {
         match self.claims.take(&self.piece[self.from..self.to]) {
             Ok(Taken { used, claim }) => {

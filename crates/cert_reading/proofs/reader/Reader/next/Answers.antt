@@ -58,4 +58,22 @@ loop-claim-preserved g c = (
       c.take_line.new.self.claims.begun c.read_on.new.self (Ok b)) c.if-not-branch.false reads,
   c.read_on.ensures.files ∙ c.loop-claim.invariant.1,
   omega (arith, c.loop-claim.invariant.2, c.read_on.ensures.faults),
+  omega (
+    arith,
+    c.loop-claim.invariant.3,
+    c.take_line.ensures.offset,
+    c.read_on.ensures.grows (c.in_ok-read_on.was ∙ ap Ok c.if-not-branch.false),
+  ),
 )
+
+pub returns-in-Ok-Some-clause-limit : goal.returns-in-Ok-Some-clause-limit
+returns-in-Ok-Some-clause-limit g c = omega (arith, c.loop-claim.invariant.3, c.take_line.ensures.limit)
+
+pub returns-in-Err-clause-limit : goal.returns-in-Err-clause-limit
+returns-in-Err-clause-limit g c = omega (arith, c.loop-claim.invariant.3, c.take_line.ensures.limit)
+
+pub returns-in_err-read_on-clause-limit : goal.returns-in_err-read_on-clause-limit
+returns-in_err-read_on-clause-limit g c = omega (arith, c.loop-claim.invariant.3, c.take_line.ensures.limit)
+
+pub returns-then-not-branch-clause-limit : goal.returns-then-not-branch-clause-limit
+returns-then-not-branch-clause-limit g c = omega (arith, c.loop-claim.invariant.3, c.take_line.ensures.limit)

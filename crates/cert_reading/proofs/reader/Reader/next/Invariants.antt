@@ -8,6 +8,7 @@ invariant-loop-claim g l =
     → IsAt (g.F.Shelf.files l.initial.shelf) l.name front l.self)
     × (g.F.Shelf.files l.shelf ≡ g.F.Shelf.files l.initial.shelf)
     × (g.F.Shelf.faults l.initial.shelf ≤ g.F.Shelf.faults l.shelf)
+    × (l.initial.self.offset ≤ l.self.offset)
 
 abbrev pub decreases-loop-claim : goal.decreases-loop-claim
 decreases-loop-claim g l = 1073741824 - l.self.offset

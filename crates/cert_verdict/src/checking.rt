@@ -1,0 +1,79 @@
+//! The file of a certificate, from its name to the verdict.
+
+ghost use Rattle.std.specs.Prelude.{◌≡◌, ◌≤◌};
+ghost use Rattle.cert_verdict.specs.Answers.{Answers, unopened, unstarted};
+ghost use Rattle.fux_grid.specs.Exercises.{IsValid};
+ghost use Rattle.fux_port.specs.Counts.{Rose};
+
+use crate::judging::judge;
+use crate::verdict::Verdict;
+use cert_check::{Checker, OpenFault};
+use cert_reading::{ReadFault, start};
+use cert_text::CertFault;
+use fux_grid::{Exercise, Place};
+use fux_port::{Failed, Shelf};
+use penalty_sheet::Sheet;
+use std::alloc::Global;
+use std::thread::Threads;
+
+/// Why a certificate's file gets no verdict.
+#[derive(Clone, Copy, Debug, PartialEq, Eq)]
+pub enum CheckFault {
+    /// A read failed, or no file has the name.
+    Unreadable,
+    /// A menu has more than 8,192 columns: the first such place, and how many it has.
+    TooWide { place: Place, count: u64 },
+    /// There was not enough memory.
+    Memory,
+}
+
+/// Judges the file of a certificate, read in pieces of at most 65,536 bytes. All memory is taken before the first claim is judged.
+pub fn check_file<R: Threads + Sync, F: Shelf>(
+    rt: &R,
+    alloc: Global,
+    ex: &Exercise,
+    sheet: &Sheet,
+    shelf: &mut F,
+    name: &str,
+) -> Result<Verdict, CheckFault>
+    requires valid { IsValid ex.now }
+    ensures answers { Answers ex.now sheet.now (F.files shelf.old) name.now
+        (Rose (F.faults shelf.old) (F.faults shelf.new)) result }
+    ensures files { F.files shelf.new ≡ F.files shelf.old }
+    ensures faults { F.faults shelf.old ≤ F.faults shelf.new }
+{
+    let (head, mut reader) = match start(alloc, ex, shelf, name) {
+        Ok(started) => started,
+        Err(fault) => return not_started(fault),
+    };
+    let checker = match Checker::open(rt, alloc, ex, sheet, head) {
+        Ok(checker) => checker,
+        Err(fault) => return not_opened(fault),
+    };
+    match judge(shelf, name, &mut reader, checker) {
+        Ok(verdict) => Ok(verdict),
+        Err(Failed) => Err(CheckFault::Unreadable),
+    }
+}
+
+/// The answer where no head was read.
+fn not_started(fault: ReadFault) -> Result<Verdict, CheckFault>
+    ensures { result ≡ unstarted fault }
+{
+    match fault {
+        ReadFault::Unreadable => Err(CheckFault::Unreadable),
+        ReadFault::Text(CertFault::Memory) => Err(CheckFault::Memory),
+        ReadFault::Text(fault) => Ok(Verdict::Text(fault)),
+    }
+}
+
+/// The answer where the checker isn't opened behind a head.
+fn not_opened(fault: OpenFault) -> Result<Verdict, CheckFault>
+    ensures { result ≡ unopened fault }
+{
+    match fault {
+        OpenFault::TooWide { place, count } => Err(CheckFault::TooWide { place, count }),
+        OpenFault::Refused(refused) => Ok(Verdict::Claim(refused)),
+        OpenFault::Memory => Err(CheckFault::Memory),
+    }
+}
