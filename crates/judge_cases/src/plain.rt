@@ -75,14 +75,14 @@ fn compare_sums(
 }
 
 /// Judges a score column by column, each as the plain reading of the scores without it and with it does, and answers what
-/// is paid of it; nothing where it breaks S3.
+/// is paid of it and what its lines cost; nothing where it breaks S3.
 fn walk(
     rt: &impl Abort,
     alloc: Global,
     ex: &Exercise,
     sheet: &Sheet,
     score: &Score,
-) -> Result<Option<u64>, Fail>
+) -> Result<Option<(u64, u64)>, Fail>
     requires valid { IsValid ex.now }
 {
     assert!(rt; score.voices() == ex.voices && score.len() == 8 * usize::from(ex.bars));
@@ -91,6 +91,7 @@ fn walk(
     let mut longer = Score::new(alloc, ex.voices)?;
     let mut broken = RuleSet::EMPTY;
     let mut sum = 0u64;
+    let mut least = 0u64;
     for i in 0..score.len() {
         assert!(rt; state.len() == i && i < 8 * usize::from(ex.bars));
         let verdict = step(ex, sheet, &state, score.column(i));
@@ -102,6 +103,7 @@ fn walk(
             bits: broken.bits | new.bits,
         };
         sum = sum.saturating_add(verdict.paid);
+        least = verdict.least;
         if i % 8 == 7 && !broken.has(3) {
             compare_sums(rt, ex, sheet, &longer, broken, sum);
         }
@@ -110,7 +112,7 @@ fn walk(
     if broken.has(3) {
         return Ok(None);
     }
-    Ok(Some(sum))
+    Ok(Some((sum, least)))
 }
 
 /// Each setting is judged as the whole score. Where it breaks S3 no penalty is asked.
@@ -121,10 +123,10 @@ fn settings_are_judged_as_the_whole_score(rt: HostRuntime) -> Result<(), Fail> {
         let (text, wanted) = parts(text)?;
         let case = case_of(rt.alloc(), text)?;
         let paid = walk(&rt, rt.alloc(), &case.exercise, &sheet, &case.score)?;
-        if let Some(paid) = paid {
+        if let Some((paid, lines)) = paid {
             assert_eq!(rt;
                 penalty(&case.exercise, &sheet, &case.score),
-                Some(paid),
+                Some(paid.saturating_add(lines)),
                 "{text}"
             );
             if !wanted.is_empty() {
