@@ -1,4 +1,4 @@
-use Rattle.std.proofs.Common.{◌∷◌, [], Err}
+use Rattle.std.proofs.Common.{◌∷◌, [], Err, inl}
 use Rattle.std.proofs.lemmas.Result.{err_from_is_err_and}
 use Rattle.fux_port.specs.Counts.{Rose}
 use Rattle.fux_port.proofs.Rises.{rose_later}
@@ -19,7 +19,7 @@ returns-in_err-weights-in-OnExercise-clause-made g c =
     (files c.args.shelf.now) (files c.read_content.new.shelf) (Rose (faults c.args.shelf.now) (faults c.read_weights.new.shelf))
     (Rose (faults c.read_content.new.shelf) (faults c.read_weights.new.shelf)) 65536 c.in_ok-text-in-OnExercise.text _
     (λ complaint. IsMade task (files c.args.shelf.now) (Rose (faults c.args.shelf.now) (faults c.read_weights.new.shelf)) (Err complaint))
-    (λ file is. is) tt
+    (λ file is. inl is) tt
     c.in_ok-text-in-OnExercise.ensures.reads c.in_ok-text-in-OnExercise.ensures.files
     (rose_later _ _ _ c.in_ok-text-in-OnExercise.ensures.faults) c.in_err-weights-in-OnExercise.ensures.reads)
 
@@ -36,7 +36,7 @@ returns-in_ok-weights-in-OnExercise-clause-made g c =
       read_same 65536 (g.F.Shelf.files c.args.shelf.now) _ (as_list sheet) (as_list weights) c.in_ok-text-in-OnExercise.ensures.files
           c.in_ok-weights-in-OnExercise.ensures.reads,
     )
-    (of_two name sheet job text weights c.of_texts.result c.of_texts.ensures) c.said.ensures)
+    (of_two (g.F.Shelf.files c.args.shelf.now) name sheet job text weights c.of_texts.result c.of_texts.ensures) c.said.ensures)
 
 pub returns-in_ok-file-in-FromSmf-clause-made : goal.returns-in_ok-file-in-FromSmf-clause-made
 returns-in_ok-file-in-FromSmf-clause-made g c =
@@ -45,9 +45,9 @@ returns-in_ok-file-in-FromSmf-clause-made g c =
     let file = c.in_ok-file-in-FromSmf.file in
     rw c.in-FromSmf.is (made_said (fromsmf name head) (g.F.Shelf.files c.args.shelf.now) _ (file ∷ []) c.from_smf.result
     c.said-in-FromSmf.result (c.in_ok-file-in-FromSmf.ensures.reads, tt)
-    (of_one name head file c.from_smf.result c.from_smf.ensures) c.said-in-FromSmf.ensures)
+    (of_one (g.F.Shelf.files c.args.shelf.now) name head file c.from_smf.result c.from_smf.ensures) c.said-in-FromSmf.ensures)
 
 pub returns-in-Drill-clause-made : goal.returns-in-Drill-clause-made
 returns-in-Drill-clause-made g c =
     rw c.in-Drill.is (made_said (drill c.in-Drill.number) (g.F.Shelf.files c.args.shelf.now) _ [] c.drill.result
-    c.said-in-Drill.result tt (of_none c.in-Drill.number c.drill.result c.drill.ensures) c.said-in-Drill.ensures)
+    c.said-in-Drill.result tt (of_none (g.F.Shelf.files c.args.shelf.now) c.in-Drill.number c.drill.result c.drill.ensures) c.said-in-Drill.ensures)
