@@ -25,6 +25,7 @@ use Rattle.fux_run.specs.declared.refusal.Refusal.TheVariants as refusal
 use Rattle.fux_run.specs.declared.work.Halt.{Halt}
 use Rattle.fux_run.specs.declared.work.Halt.TheVariants as halt
 use Rattle.fux_run.specs.declared.work.Output.{Output}
+use Rattle.fux_run.specs.declared.work.Stop.{Stop}
 use Rattle.fux_run.specs.declared.work.Stop.TheVariants as stop
 use Rattle.fux_run.specs.declared.work.Verdict.{Verdict}
 use Rattle.fux_run.specs.declared.work.Verdict.TheVariants.{Favorable, Unfavorable, Spent}
@@ -32,7 +33,8 @@ use Rattle.fux_run.specs.Certified.{Certifies, CertifiesHead, IsCertificateOf, R
 use Rattle.fux_run.specs.Composed.{IsBoundText, bound_line}
 use Rattle.fux_run.specs.Runs.{Does, Ended, IsWritten, SaysWritten, Writes, work_output}
 use Rattle.fux_run.specs.Searched.{IsBestFound, IsBound, IsNarrow, RefusesWidth}
-use Rattle.fux_run.specs.Texts.{Work}
+use Rattle.fux_run.specs.Sheets.{ReadsSheet, sheet_said}
+use Rattle.fux_run.specs.Texts.{IsTheText, ReadsText, Work}
 
 within : (bytes : List ℕ) → (1073741824 < length bytes → ⊥) → length bytes ≤ 1073741824
 within bytes short = elim (leb_tells (length bytes) 1073741824) [ inl few ↦ few.1 | inr many ↦ absurd (short many.1) ]
@@ -189,3 +191,23 @@ pub of_texts : (files : Files) (name : List ℕ) (sheet : Option (List ℕ)) (bu
     → (all : List (List ℕ)) → AreContents 65536 (text ∷ as_list weights) all → Writes (Makes (certify name sheet budget) files all) cut old new answer
 of_texts files name sheet budget text weights cut old new answer wrote (bytes ∷ sheets) content = wrote bytes sheets content.0 content.1
 of_texts files name sheet budget text weights cut old new answer wrote [] content = absurd content
+
+-- ---- the texts of an exercise and of a sheet
+
+pub no_text : (budget : ℕ) (sheets : List (List ℕ)) (bytes : List ℕ) (cut : Type 0) (old : Option (List ℕ)) (why : Stop)
+    → ReadsText bytes (Err why) → Writes (CertifiesText budget sheets bytes) cut old old (Err (halt.Stopped why))
+no_text budget sheets bytes cut old (stop.Refused said) reads = (refl, inr record { refusal = said; is = refl; cause = reads })
+no_text budget sheets bytes cut old stop.Memory reads = refl
+
+pub no_sheet : (budget : ℕ) (sheets : List (List ℕ)) (bytes : List ℕ) (ex : Exercise) (cut : Type 0) (old : Option (List ℕ)) (why : Stop)
+    → IsTheText bytes ex → ReadsSheet sheets (Err why) → Writes (CertifiesText budget sheets bytes) cut old old (Err (halt.Stopped why))
+no_sheet budget sheets bytes ex cut old (stop.Refused said) text reads =
+    (refl, inl record { exercise = ex; text = text; made = inr record { refusal = said; is = refl; cause = reads } })
+no_sheet budget sheets bytes ex cut old stop.Memory text reads = refl
+
+pub of_sheet : (budget : ℕ) (sheets : List (List ℕ)) (bytes : List ℕ) (ex : Exercise) (sheet : Sheet) (cut : Type 0)
+    (old new : Option (List ℕ)) (answer : Result Verdict Halt) → IsTheText bytes ex → sheet_said sheets ≡ Ok sheet
+    → Writes (Certifies budget sheet ex) cut old new answer → Writes (CertifiesText budget sheets bytes) cut old new answer
+of_sheet budget sheets bytes ex sheet cut old new answer text said =
+    writes_so (Certifies budget sheet ex) (CertifiesText budget sheets bytes) cut old new answer
+    (λ work made. inl record { exercise = ex; text = text; made = inl record { sheet = sheet; said = said; made = made } })
