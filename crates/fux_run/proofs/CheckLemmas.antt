@@ -50,7 +50,7 @@ judged_is_there ex sheet files name (Text (CertWord at)) found missing = may_be_
 judged_is_there ex sheet files name (Text (CertEnd at)) found missing = may_be_there files name _ found.finds missing
 judged_is_there ex sheet files name (Text Memory) found missing = may_be_there files name _ found.finds missing
 
-the_one : (one name : List ℕ) (k : ℕ) → k < 1 → get_or (one ∷ []) k ≡ name → one ≡ name
+the_one : (one name : List ℕ) (k : ℕ) → k < 1 → get_or (one ∷ []) k name ≡ name → one ≡ name
 the_one one name zero within is = is
 the_one one name (suc k) within is = omega (arith, within)
 
@@ -59,14 +59,14 @@ checked_is_there : (files : Files) (certificate : List ℕ) (sheets : List (List
 checked_is_there files certificate sheets text output (inl on) missing =
     elim on.made [
       | inl over ↦ judged_is_there on.exercise over.sheet files certificate over.made.said over.made.judges missing
-      | inr no ↦ cc no.is
+      | inr none ↦ cc none.is
     ]
-checked_is_there files certificate sheets text output (inr no) missing = cc no.is
+checked_is_there files certificate sheets text output (inr none) missing = cc none.is
 
 output_is_there : (task : Task) (files : Files) (name : List ℕ) (bytes : List (List ℕ)) (output : Output)
     → Makes task files bytes (Ok output) → Contains (names_within task) name → IsMissing files name → ⊥
 output_is_there (check ex certificate sheet) files name (text ∷ sheets) output made one missing =
-    checked_is_there files certificate sheets text output made (rw the_one certificate name one.0 one.1 one.2 missing)
+    checked_is_there files certificate sheets text output made (rw (the_one certificate name one.0 one.1 one.2) missing)
 output_is_there (check ex certificate sheet) files name [] output made one missing = absurd made
 output_is_there (on_exercise ex sheet job) files name bytes output made one missing = omega (arith, one.1)
 output_is_there (certify ex sheet budget) files name bytes output made one missing = omega (arith, one.1)
