@@ -52,7 +52,7 @@ judged_is_there ex sheet files name (Text Memory) found missing = may_be_there f
 
 the_one : (one name : List ℕ) (k : ℕ) → k < 1 → get_or (one ∷ []) k name ≡ name → one ≡ name
 the_one one name zero within is = is
-the_one one name (suc k) within is = omega (arith, within)
+the_one one name (suc k) within is = let none : ⊥ = omega (arith, within) in absurd none
 
 checked_is_there : (files : Files) (certificate : List ℕ) (sheets : List (List ℕ)) (text : List ℕ) (output : Output)
     → ChecksText files certificate sheets text (Ok output) → IsMissing files certificate → ⊥
