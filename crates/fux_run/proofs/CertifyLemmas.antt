@@ -155,12 +155,12 @@ bound_part bound cut old new rose part = (
 -- ---- how the run of it ends
 
 does_works : (task : Task) (files : Files) (bytes : List (List ℕ)) (Holds : Work → Type 0) → AllMayHave files (names_in task) bytes
-    → Does (Makes task bytes) Holds → Works task files Holds
+    → Does (Makes task files bytes) Holds → Works task files Holds
 does_works task files bytes Holds had does = record { bytes = bytes; had = had; work = does.work; made = does.made; holds = does.holds }
 
 pub ended_said : (task : Task) (files : Files) (rose cut : Type 0) (contents : List Content) (old new : Option (List ℕ))
     (answer : Result Verdict Halt) (told : Result Verdict Complaint) → AreRead (limit_in task) files (names_in task) contents
-    → ((bytes : List (List ℕ)) → AreContents (limit_in task) contents bytes → Writes (Makes task bytes) cut old new answer)
+    → ((bytes : List (List ℕ)) → AreContents (limit_in task) contents bytes → Writes (Makes task files bytes) cut old new answer)
     → SaysWritten (name_in task) answer told → Ended task files rose cut old new told
 ended_said task files rose cut contents old new (Ok verdict) told read wrote says =
     let known = have_bytes (limit_in task) files (names_in task) contents read in
@@ -184,13 +184,13 @@ ended_said task files rose cut contents old new (Err halt.Unwritable) told read 
     let part = wrote known.bytes known.content in
     rw says (part.0, does_works task files known.bytes (λ work. StopsShort old new (work_output work)) known.had part.1)
 
-pub of_texts : (name : List ℕ) (sheet : Option (List ℕ)) (budget : ℕ) (text : Content) (weights : Option Content) (cut : Type 0)
+pub of_texts : (files : Files) (name : List ℕ) (sheet : Option (List ℕ)) (budget : ℕ) (text : Content) (weights : Option Content) (cut : Type 0)
     (old new : Option (List ℕ)) (answer : Result Verdict Halt)
     → ((bytes : List ℕ) (sheets : List (List ℕ)) → IsContent 65536 text bytes → AreContents 65536 (as_list weights) sheets
     → Writes (CertifiesText budget sheets bytes) cut old new answer)
-    → (all : List (List ℕ)) → AreContents 65536 (text ∷ as_list weights) all → Writes (Makes (certify name sheet budget) all) cut old new answer
-of_texts name sheet budget text weights cut old new answer wrote (bytes ∷ sheets) content = wrote bytes sheets content.0 content.1
-of_texts name sheet budget text weights cut old new answer wrote [] content = absurd content
+    → (all : List (List ℕ)) → AreContents 65536 (text ∷ as_list weights) all → Writes (Makes (certify name sheet budget) files all) cut old new answer
+of_texts files name sheet budget text weights cut old new answer wrote (bytes ∷ sheets) content = wrote bytes sheets content.0 content.1
+of_texts files name sheet budget text weights cut old new answer wrote [] content = absurd content
 
 -- ---- the texts of an exercise and of a sheet
 

@@ -1,5 +1,6 @@
 pub mod BestLemmas
 pub mod CertifyLemmas
+pub mod CheckLemmas
 pub mod ContentLemmas
 pub mod FrontLemmas
 pub mod MakeLemmas

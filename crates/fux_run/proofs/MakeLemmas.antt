@@ -34,9 +34,9 @@ have_bytes limit files (name ∷ names) (content ∷ contents) read =
     record { bytes = read.0.bytes ∷ more.bytes; had = (read.0.had, more.had); content = (read.0.content, more.content) }
 
 -- the work that is answered, of which a fact holds
-works_on : (task : Task) (files : Files) (contents : List Content) (work : Work) (Holds : Work → Type 0)
+pub works_on : (task : Task) (files : Files) (contents : List Content) (work : Work) (Holds : Work → Type 0)
     → AreRead (limit_in task) files (names_in task) contents
-    → ((bytes : List (List ℕ)) → AreContents (limit_in task) contents bytes → Makes task bytes work) → Holds work
+    → ((bytes : List (List ℕ)) → AreContents (limit_in task) contents bytes → Makes task files bytes work) → Holds work
     → Works task files Holds
 works_on task files contents work Holds read made holds =
     let known = have_bytes (limit_in task) files (names_in task) contents read in
@@ -44,7 +44,7 @@ works_on task files contents work Holds read made holds =
 
 pub made_said : (task : Task) (files : Files) (rose : Type 0) (contents : List Content) (answer : Result Output Stop)
     (told : Result Output Complaint) → AreRead (limit_in task) files (names_in task) contents
-    → ((bytes : List (List ℕ)) → AreContents (limit_in task) contents bytes → Answers (Makes task bytes) answer)
+    → ((bytes : List (List ℕ)) → AreContents (limit_in task) contents bytes → Answers (Makes task files bytes) answer)
     → Says (name_in task) answer told → IsMade task files rose told
 made_said task files rose contents (Ok output) told read made says =
     rw says (works_on task files contents (Ok output) (λ work. work ≡ Ok output) read made refl)
@@ -60,34 +60,34 @@ made_said task files rose contents (Err stop.Memory) told read made says = rw sa
 
 -- ---- what the answers say of the lists of bytes
 
-pub of_two : (name : List ℕ) (sheet : Option (List ℕ)) (job : Job) (text : Content) (weights : Option Content) (answer : Result Output Stop)
+pub of_two : (files : Files) (name : List ℕ) (sheet : Option (List ℕ)) (job : Job) (text : Content) (weights : Option Content) (answer : Result Output Stop)
     → ((bytes : List ℕ) (sheets : List (List ℕ)) → IsContent 65536 text bytes → AreContents 65536 (as_list weights) sheets
     → Answers (MakesOfText job sheets bytes) answer)
-    → (all : List (List ℕ)) → AreContents 65536 (text ∷ as_list weights) all → Answers (Makes (on_exercise name sheet job) all) answer
-of_two name sheet job text weights (Ok output) made (bytes ∷ sheets) content = made bytes sheets content.0 content.1
-of_two name sheet job text weights (Err (stop.Refused refusal)) made (bytes ∷ sheets) content = made bytes sheets content.0 content.1
-of_two name sheet job text weights (Err stop.Memory) made all content = tt
-of_two name sheet job text weights (Ok output) made [] content = absurd content
-of_two name sheet job text weights (Err (stop.Refused refusal)) made [] content = absurd content
+    → (all : List (List ℕ)) → AreContents 65536 (text ∷ as_list weights) all → Answers (Makes (on_exercise name sheet job) files all) answer
+of_two files name sheet job text weights (Ok output) made (bytes ∷ sheets) content = made bytes sheets content.0 content.1
+of_two files name sheet job text weights (Err (stop.Refused refusal)) made (bytes ∷ sheets) content = made bytes sheets content.0 content.1
+of_two files name sheet job text weights (Err stop.Memory) made all content = tt
+of_two files name sheet job text weights (Ok output) made [] content = absurd content
+of_two files name sheet job text weights (Err (stop.Refused refusal)) made [] content = absurd content
 
-pub of_one : (name : List ℕ) (head : Head) (file : Content) (answer : Result Output Stop)
+pub of_one : (files : Files) (name : List ℕ) (head : Head) (file : Content) (answer : Result Output Stop)
     → ((bytes : List ℕ) → IsContent 1048576 file bytes → Answers (ReadsMidi head bytes) answer)
-    → (all : List (List ℕ)) → AreContents 1048576 (file ∷ []) all → Answers (Makes (fromsmf name head) all) answer
-of_one name head file (Ok output) made (bytes ∷ []) content = made bytes content.0
-of_one name head file (Err (stop.Refused refusal)) made (bytes ∷ []) content = made bytes content.0
-of_one name head file (Err stop.Memory) made all content = tt
-of_one name head file (Ok output) made [] content = absurd content
-of_one name head file (Err (stop.Refused refusal)) made [] content = absurd content
-of_one name head file (Ok output) made (bytes ∷ more ∷ all) content = absurd content.1
-of_one name head file (Err (stop.Refused refusal)) made (bytes ∷ more ∷ all) content = absurd content.1
+    → (all : List (List ℕ)) → AreContents 1048576 (file ∷ []) all → Answers (Makes (fromsmf name head) files all) answer
+of_one files name head file (Ok output) made (bytes ∷ []) content = made bytes content.0
+of_one files name head file (Err (stop.Refused refusal)) made (bytes ∷ []) content = made bytes content.0
+of_one files name head file (Err stop.Memory) made all content = tt
+of_one files name head file (Ok output) made [] content = absurd content
+of_one files name head file (Err (stop.Refused refusal)) made [] content = absurd content
+of_one files name head file (Ok output) made (bytes ∷ more ∷ all) content = absurd content.1
+of_one files name head file (Err (stop.Refused refusal)) made (bytes ∷ more ∷ all) content = absurd content.1
 
-pub of_none : (number : ℕ) (answer : Result Output Stop) → Answers (Drills number) answer
-    → (all : List (List ℕ)) → AreContents 65536 [] all → Answers (Makes (drill number) all) answer
-of_none number (Ok output) made [] content = made
-of_none number (Err (stop.Refused refusal)) made [] content = made
-of_none number (Err stop.Memory) made all content = tt
-of_none number (Ok output) made (bytes ∷ all) content = absurd content
-of_none number (Err (stop.Refused refusal)) made (bytes ∷ all) content = absurd content
+pub of_none : (files : Files) (number : ℕ) (answer : Result Output Stop) → Answers (Drills number) answer
+    → (all : List (List ℕ)) → AreContents 65536 [] all → Answers (Makes (drill number) files all) answer
+of_none files number (Ok output) made [] content = made
+of_none files number (Err (stop.Refused refusal)) made [] content = made
+of_none files number (Err stop.Memory) made all content = tt
+of_none files number (Ok output) made (bytes ∷ all) content = absurd content
+of_none files number (Err (stop.Refused refusal)) made (bytes ∷ all) content = absurd content
 
 -- the name of a sheet, as its bytes
 abbrev pub sheet_named : Option (Bor (List ℕ)) → Option (List ℕ)

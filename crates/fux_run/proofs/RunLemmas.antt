@@ -7,13 +7,14 @@ use Rattle.fux_run.specs.declared.complaint.Complaint.{Complaint}
 use Rattle.fux_run.specs.declared.complaint.Complaint.TheVariants.{Usage, Refused, Unreadable, Unwritable, OutOfMemory}
 use Rattle.fux_run.specs.declared.work.Verdict.{Verdict}
 use Rattle.fux_run.specs.declared.work.Verdict.TheVariants.{Favorable, Unfavorable, Spent}
-use Rattle.fux_run.specs.Commands.{Task, name_in, names_in}
+use Rattle.fux_run.specs.Commands.{Task, name_in, names_in, names_within}
 use Rattle.fux_run.specs.Complaints.{complaint_status, fux_line}
 use Rattle.fux_run.specs.declared.status.Status.{Status}
 use Rattle.fux_run.specs.declared.status.Status.TheVariants as status
-use Rattle.fux_run.specs.Runs.{Ended, EndedAs, EndsAs, EndsUnread, IsDone, IsStopped, IsWritten, IsRefused, work_output, result_status, result_line}
+use Rattle.fux_run.specs.Runs.{Ended, EndedAs, EndsAs, EndsUnread, IsDone, IsStopped, IsUnread, IsWritten, IsRefused, work_output, result_status, result_line}
 use Rattle.fux_run.specs.Statuses.{code_of, verdict_status}
 use Rattle.fux_run.specs.Works.{Files, Works}
+use Rattle.fux_run.proofs.CheckLemmas.{part_is_there, written_is_there}
 use Rattle.fux_run.proofs.SinkLemmas.{appended-none}
 use Rattle.fux_run.proofs.WorkLemmas.{works_so, none_missing, first_is_missing}
 
@@ -58,7 +59,7 @@ module _ (task : Task) (files : Files) (rose cut : Type 0) (old new : Option (Li
   ran_works (Err Usage) ran read room = absurd ran.ended
 
   pub ran_unreadable : (result : Result Verdict Complaint) → Ran task files rose cut old new result code Complains → code ≡ 4
-      → EndsUnread files rose (names_in task) Complains
+      → EndsUnread task files rose Complains
   ran_unreadable (Ok verdict) ran four = absurd (done_not_stopped 4 (rw four at (done verdict ran)) (inr (inr (inl refl))))
   ran_unreadable (Err (Unreadable name)) ran four = record { name = name.now; unread = ran.ended.1; told = ran.told }
   ran_unreadable (Err (Refused text)) ran four = cc (ran.status, four)
@@ -74,6 +75,15 @@ module _ (task : Task) (files : Files) (rose cut : Type 0) (old new : Option (Li
   ran_missing (Err (Unreadable file)) ran name one missing room = ran.status
   ran_missing (Err OutOfMemory) ran name one missing room = absurd (room ran.status)
   ran_missing (Err Usage) ran name one missing room = absurd ran.ended
+
+  pub ran_missing_within : (result : Result Verdict Complaint) → Ran task files rose cut old new result code Complains
+      → (name : List ℕ) → Contains (names_within task) name → IsMissing files name → code ≢ 7 → (code ≡ 4) ⊎ (code ≡ 3)
+  ran_missing_within (Ok verdict) ran name one missing room = absurd (written_is_there task files name old new verdict ran.ended one missing)
+  ran_missing_within (Err (Refused text)) ran name one missing room = inr ran.status
+  ran_missing_within (Err Unwritable) ran name one missing room = absurd (part_is_there task files name old new ran.ended.1 one missing)
+  ran_missing_within (Err (Unreadable file)) ran name one missing room = inl ran.status
+  ran_missing_within (Err OutOfMemory) ran name one missing room = absurd (room ran.status)
+  ran_missing_within (Err Usage) ran name one missing room = absurd ran.ended
 
   pub ran_of_form : (result : Result Verdict Complaint) → Ran task files rose cut old new result code Complains → code ≢ 2
   ran_of_form (Ok verdict) ran two = done_is_none 2 Usage (rw two at (done verdict ran)) refl
@@ -101,21 +111,31 @@ module _ (task : Task) (files : Files) (rose cut : Type 0) (old new : Option (Li
   ran_memory (Err (Unreadable name)) ran seven = cc (ran.status, seven)
   ran_memory (Err Usage) ran seven = absurd ran.ended
 
-  pub ran_complete : (result : Result Verdict Complaint) → Ran task files rose cut old new result code Complains
-      → All (λ name. (file : List ℕ) × HasFile files name file) (names_in task) → (rose → ⊥) → (cut → ⊥)
-      → IsDone code ⊎ ((code ≡ 3) ⊎ (code ≡ 7))
-  ran_complete (Ok verdict) ran there reads writes = inl (done verdict ran)
-  ran_complete (Err (Refused text)) ran there reads writes = inr (inl ran.status)
-  ran_complete (Err Unwritable) ran there reads writes = absurd (writes ran.ended.0)
-  ran_complete (Err OutOfMemory) ran there reads writes = inr (inr ran.status)
-  ran_complete (Err Usage) ran there reads writes = absurd ran.ended
-  ran_complete (Err (Unreadable name)) ran there reads writes =
-      elim ran.ended.1.cause [
-        | inl rose ↦ absurd (reads rose)
+  -- files that are there can be read where no read fails
+  unread_rose : (names : List (List ℕ)) (name : List ℕ) → All (λ n. (file : List ℕ) × HasFile files n file) names → (rose → ⊥)
+      → IsUnread files rose names name → ⊥
+  unread_rose names name there reads unread =
+      elim unread.cause [
+        | inl rose ↦ reads rose
         | inr first ↦
-            let file = All-contains (λ n. (file : List ℕ) × HasFile files n file) (names_in task) name.now there ran.ended.1.asked in
-            let missing = first_is_missing files (names_in task) name.now first in
-            absurd (cc (file.1, missing))
+            let file = All-contains (λ n. (file : List ℕ) × HasFile files n file) names name there unread.asked in
+            let missing = first_is_missing files names name first in
+            cc (file.1, missing)
+      ]
+
+  pub ran_complete : (result : Result Verdict Complaint) → Ran task files rose cut old new result code Complains
+      → All (λ name. (file : List ℕ) × HasFile files name file) (names_in task)
+      → All (λ name. (file : List ℕ) × HasFile files name file) (names_within task) → (rose → ⊥) → (cut → ⊥)
+      → IsDone code ⊎ ((code ≡ 3) ⊎ (code ≡ 7))
+  ran_complete (Ok verdict) ran there within reads writes = inl (done verdict ran)
+  ran_complete (Err (Refused text)) ran there within reads writes = inr (inl ran.status)
+  ran_complete (Err Unwritable) ran there within reads writes = absurd (writes ran.ended.0)
+  ran_complete (Err OutOfMemory) ran there within reads writes = inr (inr ran.status)
+  ran_complete (Err Usage) ran there within reads writes = absurd ran.ended
+  ran_complete (Err (Unreadable name)) ran there within reads writes =
+      elim ran.ended.1 [
+        | inl before ↦ absurd (unread_rose (names_in task) name.now there reads before)
+        | inr later ↦ absurd (unread_rose (names_within task) name.now within reads later.unread)
       ]
 
   pub ran_unwritten : (result : Result Verdict Complaint) → Ran task files rose cut old new result code Complains → IsStopped code → new ≡ old

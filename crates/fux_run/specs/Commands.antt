@@ -14,7 +14,7 @@ use Rattle.fux_run.specs.declared.command.Command.TheVariants.{Certify, Make}
 use Rattle.fux_run.specs.declared.command.Job.{Job}
 use Rattle.fux_run.specs.declared.command.Job.TheVariants.{Compose, Mark, Cantus, Print, ToSmf}
 use Rattle.fux_run.specs.declared.command.Making.{Making}
-use Rattle.fux_run.specs.declared.command.Making.TheVariants.{OnExercise, FromSmf, Drill}
+use Rattle.fux_run.specs.declared.command.Making.TheVariants.{OnExercise, Check, FromSmf, Drill}
 
 -- words as their bytes
 abbrev pub texts : {Y : Type 0} → List (String Y) → List Text
@@ -24,12 +24,14 @@ texts words = map string_bytes words
 pub data Task : Type 0 where
   on_exercise : (name : Text) (sheet : Option Text) (job : Job) → Task
   certify : (name : Text) (sheet : Option Text) (budget : ℕ) → Task
+  check : (name certificate : Text) (sheet : Option Text) → Task
   fromsmf : (name : Text) (head : Head) → Task
   drill : (number : ℕ) → Task
 
 -- what a command asks for
 abbrev pub making_task : Making → Task
 making_task (OnExercise name sheet job) = on_exercise name.now (option_map (λ text. text.now) sheet) job
+making_task (Check name certificate sheet) = check name.now certificate.now (option_map (λ text. text.now) sheet)
 making_task (FromSmf name head) = fromsmf name.now head
 making_task (Drill number) = drill number
 
@@ -73,6 +75,10 @@ abbrev pub search_words : Text → App
 search_words name =
     with_rule (with_rule (exercise_words name) (option_word false (codes "sheet")))
     (option_word false (codes "budget"))
+
+abbrev pub check_words : App
+check_words =
+    with_rule (with_rule (exercise_words (codes "check")) (needed_word (codes "CERT"))) (option_word false (codes "sheet"))
 
 abbrev pub drill_words : App
 drill_words = one_word (codes "drill") (codes "N")
@@ -146,6 +152,12 @@ certify_asked rows = do
   budget ← budget_in (first_of (codes "budget") rows)
   Some (certify name (first_of (codes "sheet") rows) budget)
 
+abbrev pub check_asked : List Row → Option Task
+check_asked rows = do
+  name ← first_of (codes "EX") rows
+  certificate ← first_of (codes "CERT") rows
+  Some (check name certificate (first_of (codes "sheet") rows))
+
 -- a job that needs nothing but an exercise
 abbrev pub job_asked : Job → List Row → Option Task
 job_asked job rows = first_of (codes "EX") rows >>= λ name. Some (on_exercise name None job)
@@ -175,13 +187,14 @@ asked [] = None
 asked (word ∷ rest) =
     if bytes_eq word (codes "compose") then asked_by (search_words (codes "compose")) compose_asked rest
     else (if bytes_eq word (codes "certify") then asked_by (search_words (codes "certify")) certify_asked rest
+    else (if bytes_eq word (codes "check") then asked_by check_words check_asked rest
     else (if bytes_eq word (codes "mark") then job_in (codes "mark") Mark rest
     else (if bytes_eq word (codes "cantus") then job_in (codes "cantus") Cantus rest
     else (if bytes_eq word (codes "print") then job_in (codes "print") Print rest
     else (if bytes_eq word (codes "tosmf") then job_in (codes "tosmf") ToSmf rest
     else (if bytes_eq word (codes "fromsmf") then asked_by fromsmf_words fromsmf_asked rest
     else (if bytes_eq word (codes "drill") then asked_by drill_words drill_asked rest
-    else None)))))))
+    else None))))))))
 
 -- ---- the files
 
@@ -189,6 +202,7 @@ asked (word ∷ rest) =
 abbrev pub name_in : Task → Text
 name_in (on_exercise name sheet job) = name
 name_in (certify name sheet budget) = name
+name_in (check name certificate sheet) = name
 name_in (fromsmf name head) = name
 name_in (drill number) = []
 
@@ -201,12 +215,19 @@ as_list (Some x) = x ∷ []
 abbrev pub names_in : Task → List Text
 names_in (on_exercise name sheet job) = name ∷ as_list sheet
 names_in (certify name sheet budget) = name ∷ as_list sheet
+names_in (check name certificate sheet) = name ∷ as_list sheet
 names_in (fromsmf name head) = name ∷ []
 names_in (drill number) = []
 
--- how many bytes of each of them are read at most
+-- the names of the files that a command reads while it works
+abbrev pub names_within : Task → List Text
+names_within (check name certificate sheet) = certificate ∷ []
+names_within _ = []
+
+-- how many bytes of each file before its work are read at most
 abbrev pub limit_in : Task → ℕ
 limit_in (on_exercise name sheet job) = 65536
 limit_in (certify name sheet budget) = 65536
+limit_in (check name certificate sheet) = 65536
 limit_in (fromsmf name head) = 1048576
 limit_in (drill number) = 65536

@@ -1,4 +1,5 @@
 pub mod Certified
+pub mod Checked
 pub mod Commands
 pub mod Complaints
 pub mod Composed

@@ -12,12 +12,14 @@ use Rattle.fux_run.specs.declared.work.Halt.TheVariants.{Stopped}
 use Rattle.fux_run.specs.declared.work.Output.{Output}
 use Rattle.fux_run.specs.declared.work.Stop.{Stop}
 use Rattle.fux_run.specs.declared.work.Stop.TheVariants as stop
+use Rattle.fux_run.specs.declared.work.Unmade.{Unmade}
+use Rattle.fux_run.specs.declared.work.Unmade.TheVariants as unmade
 use Rattle.fux_run.specs.declared.work.Verdict.{Verdict}
-use Rattle.fux_run.specs.Commands.{Task, name_in, names_in}
+use Rattle.fux_run.specs.Commands.{Task, name_in, names_in, names_within}
 use Rattle.fux_run.specs.Complaints.{complaint_status, complaint_text, fux_line, refusal_text}
 use Rattle.fux_run.specs.Statuses.{code_of, verdict_status}
 use Rattle.fux_run.specs.Texts.{Work}
-use Rattle.fux_run.specs.Works.{Works, Files, IsFirstMissing}
+use Rattle.fux_run.specs.Works.{Works, Files, IsFirstMissing, ReadsOn}
 
 -- the status of work
 abbrev pub work_status : Work → Status
@@ -46,10 +48,19 @@ pub record IsUnread (files : Files) (rose : Type 0) (names : List (List ℕ)) (n
   pub asked : Contains names name
   pub cause : rose ⊎ IsFirstMissing files names name
 
+-- a file that a command reads within its work cannot be read
+pub record IsUnreadWithin (task : Task) (files : Files) (rose : Type 0) (name : List ℕ) : Type 0 where
+  pub unread : IsUnread files rose (names_within task) name
+  pub reads_on : ReadsOn task files
+
+-- a file of a command cannot be read, before its work or within it
+abbrev pub IsUnreadOf : Task → Files → Type 0 → List ℕ → Type 0
+IsUnreadOf task files rose name = IsUnread files rose (names_in task) name ⊎ IsUnreadWithin task files rose name
+
 -- a run ends as one whose file cannot be read
-pub record EndsUnread (files : Files) (rose : Type 0) (names : List (List ℕ)) (Complains : List ℕ → Type 0) : Type 0 where
+pub record EndsUnread (task : Task) (files : Files) (rose : Type 0) (Complains : List ℕ → Type 0) : Type 0 where
   pub name : List ℕ
-  pub unread : IsUnread files rose names name
+  pub unread : IsUnreadOf task files rose name
   pub told : Complains (fux_line (codes "cannot read " ++ name))
 
 -- the statuses of a run that wrote its output
@@ -77,7 +88,7 @@ pub record IsRefused (name text : List ℕ) (work : Work) : Type 0 where
 abbrev pub IsMade : Task → Files → Type 0 → Result Output Complaint → Type 0
 IsMade task files rose (Ok output) = Works task files (λ work. work ≡ Ok output)
 IsMade task files rose (Err (complaint.Refused text)) = Works task files (IsRefused (name_in task) text)
-IsMade task files rose (Err (complaint.Unreadable name)) = IsUnread files rose (names_in task) name.now
+IsMade task files rose (Err (complaint.Unreadable name)) = IsUnreadOf task files rose name.now
 IsMade task files rose (Err complaint.OutOfMemory) = Unit {0}
 IsMade task files rose (Err _) = ⊥
 
@@ -98,7 +109,7 @@ Writes Made cut old new (Err halt.Unwritable) = cut × Does Made (λ work. Stops
 abbrev pub Ended : Task → Files → Type 0 → Type 0 → Option (List ℕ) → Option (List ℕ) → Result Verdict Complaint → Type 0
 Ended task files rose cut old new (Ok verdict) = Works task files (IsWritten old new verdict)
 Ended task files rose cut old new (Err (complaint.Refused text)) = (new ≡ old) × Works task files (IsRefused (name_in task) text)
-Ended task files rose cut old new (Err (complaint.Unreadable name)) = (new ≡ old) × IsUnread files rose (names_in task) name.now
+Ended task files rose cut old new (Err (complaint.Unreadable name)) = (new ≡ old) × IsUnreadOf task files rose name.now
 Ended task files rose cut old new (Err complaint.Unwritable) = cut × Works task files (λ work. StopsShort old new (work_output work))
 Ended task files rose cut old new (Err complaint.OutOfMemory) = new ≡ old
 Ended task files rose cut old new (Err complaint.Usage) = ⊥
@@ -126,6 +137,13 @@ Says name (Ok output) told = told ≡ Ok output
 Says name (Err (stop.Refused refusal)) (Err complaint) = SaysRefusal (refusal_text name refusal) complaint
 Says name (Err (stop.Refused refusal)) (Ok output) = ⊥
 Says name (Err stop.Memory) told = told ≡ Err complaint.OutOfMemory
+
+-- the same of an answer of a command that reads this file within its work
+abbrev pub SaysWithin : List ℕ → List ℕ → Result Output Unmade → Result Output Complaint → Type 0
+SaysWithin name within (Ok output) told = told ≡ Ok output
+SaysWithin name within (Err (unmade.Stopped stop)) told = Says name (Err stop) told
+SaysWithin name within (Err unmade.Unreadable) (Err (complaint.Unreadable file)) = file.now ≡ within
+SaysWithin name within (Err unmade.Unreadable) _ = ⊥
 
 -- the status that a run ends with
 abbrev pub result_status : Result Verdict Complaint → Status

@@ -13,14 +13,16 @@ use Rattle.fux_run.specs.declared.command.Job.{Job}
 use Rattle.fux_run.specs.declared.command.Job.TheVariants.{Compose, Mark, Cantus, Print, ToSmf}
 use Rattle.penalty_sheet.specs.declared.sheet.Sheet.{Sheet}
 use Rattle.fux_run.specs.Certified.{Certifies}
-use Rattle.fux_run.specs.Commands.{Task, on_exercise, certify, fromsmf, drill, as_list, names_in}
+use Rattle.fux_run.specs.Checked.{Checks}
+use Rattle.fux_run.specs.Commands.{Task, on_exercise, certify, check, fromsmf, drill, as_list, names_in}
 use Rattle.fux_run.specs.Composed.{Composes}
 use Rattle.fux_run.specs.Drilled.{Drills}
 use Rattle.fux_run.specs.Marked.{Marks, CantusMarks}
 use Rattle.fux_run.specs.Played.{ReadsMidi}
 use Rattle.fux_run.specs.Rendered.{Prints, WritesSmf}
-use Rattle.fux_run.specs.Sheets.{OnSheet}
-use Rattle.fux_run.specs.Texts.{Work, OnText}
+use Rattle.fux_run.specs.Searched.{IsNarrow}
+use Rattle.fux_run.specs.Sheets.{OnSheet, sheet_said}
+use Rattle.fux_run.specs.Texts.{IsTheText, Work, OnText}
 
 -- a job makes this of an exercise, over the sheet in use
 abbrev pub MakesOf : Job → Sheet → Exercise → Work → Type 0
@@ -38,23 +40,41 @@ MakesOfText job sheets text = OnText (λ ex. OnSheet (λ sheet. MakesOf job shee
 abbrev pub CertifiesText : ℕ → List (List ℕ) → List ℕ → Work → Type 0
 CertifiesText budget sheets text = OnText (λ ex. OnSheet (λ sheet. Certifies budget sheet ex) sheets) text
 
+-- the files that a shelf tells, if it does
+abbrev pub Files : Type 0
+Files = Option (List ℕ → Option (List ℕ))
+
+-- `check` makes this of the text of an exercise, and of the file of a sheet where one is given, with the certificate in another file
+abbrev pub ChecksText : Files → List ℕ → List (List ℕ) → List ℕ → Work → Type 0
+ChecksText files certificate sheets text = OnText (λ ex. OnSheet (λ sheet. Checks files certificate sheet ex) sheets) text
+
 -- a command makes this of files with these bytes, in the order of reading
-abbrev pub Makes : Task → List (List ℕ) → Work → Type 0
-Makes (on_exercise name sheet job) (text ∷ sheets) work = MakesOfText job sheets text work
-Makes (certify name sheet budget) (text ∷ sheets) work = CertifiesText budget sheets text work
-Makes (fromsmf name head) (file ∷ []) work = ReadsMidi head file work
-Makes (drill number) [] work = Drills number work
-Makes _ _ work = ⊥
+abbrev pub Makes : Task → Files → List (List ℕ) → Work → Type 0
+Makes (on_exercise name sheet job) files (text ∷ sheets) work = MakesOfText job sheets text work
+Makes (certify name sheet budget) files (text ∷ sheets) work = CertifiesText budget sheets text work
+Makes (check name certificate sheet) files (text ∷ sheets) work = ChecksText files certificate sheets text work
+Makes (fromsmf name head) files (file ∷ []) work = ReadsMidi head file work
+Makes (drill number) files [] work = Drills number work
+Makes _ _ _ work = ⊥
+
+-- the text is that of an exercise none of whose menus is too wide, and the file of the sheet is one where it is given
+pub record IsReadyText (sheets : List (List ℕ)) (text : List ℕ) : Type 0 where
+  pub exercise : Exercise
+  pub is : IsTheText text exercise
+  pub sheet : Sheet
+  pub said : sheet_said sheets ≡ Ok sheet
+  pub narrow : IsNarrow exercise
+
+-- nothing in the files with these bytes keeps a command from reading on within its work
+abbrev pub IsReadyFor : Task → List (List ℕ) → Type 0
+IsReadyFor (check name certificate sheet) (text ∷ sheets) = IsReadyText sheets text
+IsReadyFor _ _ = ⊥
 
 -- an answer is of such work, or memory is wanting
 abbrev pub Answers : (Work → Type 0) → Result Output Stop → Type 0
 Answers Made (Ok output) = Made (Ok output)
 Answers Made (Err (Refused refusal)) = Made (Err refusal)
 Answers Made (Err Memory) = Unit {0}
-
--- the files that a shelf tells, if it does
-abbrev pub Files : Type 0
-Files = Option (List ℕ → Option (List ℕ))
 
 -- the file of a name has these bytes, where the shelf tells its files
 abbrev pub MayHave : Files → List ℕ → List ℕ → Type 0
@@ -71,8 +91,14 @@ pub record Works (task : Task) (files : Files) (Holds : Work → Type 0) : Type 
   pub bytes : List (List ℕ)
   pub had : AllMayHave files (names_in task) bytes
   pub work : Work
-  pub made : Makes task bytes work
+  pub made : Makes task files bytes work
   pub holds : Holds work
+
+-- a command reads on within its work: the files before it can be read, and none of them keeps it from that
+pub record ReadsOn (task : Task) (files : Files) : Type 0 where
+  pub bytes : List (List ℕ)
+  pub had : AllMayHave files (names_in task) bytes
+  pub ready : IsReadyFor task bytes
 
 -- a name is the first of these that is missing
 abbrev pub IsFirstMissing : Files → List (List ℕ) → List ℕ → Type 0

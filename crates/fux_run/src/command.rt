@@ -2,10 +2,10 @@
 
 ghost use Rattle.std.specs.Prelude.{◌≡◌, IfOk, IfSome, codes, option_map, true};
 ghost use Rattle.clap.specs.Words.{app_of, found_of, is_simple_and_free, rows_of};
-ghost use Rattle.fux_run.specs.Commands.{HasHead, asked, asked_by, certify_asked, compose_asked, drill_asked, drill_words, found_in, fromsmf_asked, fromsmf_words, job_in, search_words, task_of, texts};
+ghost use Rattle.fux_run.specs.Commands.{HasHead, asked, asked_by, certify_asked, check_asked, check_words, compose_asked, drill_asked, drill_words, found_in, fromsmf_asked, fromsmf_words, job_in, search_words, task_of, texts};
 
-use crate::forms::{drill_form, exercise_form, from_smf_form, search_form};
-use crate::values::{certifying, composing, drilling, job_on, smf_reading};
+use crate::forms::{check_form, drill_form, exercise_form, from_smf_form, search_form};
+use crate::values::{certifying, checking, composing, drilling, job_on, smf_reading};
 use clap::ArgMatches;
 use clap::error::ErrorKind;
 use fux_grid::Head;
@@ -35,6 +35,12 @@ pub enum Making<'a> {
         name: &'a str,
         sheet: Option<&'a str>,
         job: Job,
+    },
+    /// The verdict on the certificate in a file, for the exercise in another and the sheet of weights in a third where one is named.
+    Check {
+        name: &'a str,
+        certificate: &'a str,
+        sheet: Option<&'a str>,
     },
     /// The note text of a MIDI file.
     FromSmf {
@@ -72,6 +78,7 @@ pub fn parse(alloc: Global, words: &[String]) -> Result<Option<Command<'_>>, Mem
     match word.as_str() {
         "compose" => parse_compose(alloc, rest),
         "certify" => parse_certify(alloc, rest),
+        "check" => parse_check(alloc, rest),
         "mark" => parse_job(alloc, "mark", Job::Mark, rest),
         "cantus" => parse_job(alloc, "cantus", Job::Cantus, rest),
         "print" => parse_job(alloc, "print", Job::Print, rest),
@@ -104,6 +111,18 @@ fn parse_certify(alloc: Global, words: &[String]) -> Result<Option<Command<'_>>,
         return Ok(None);
     };
     Ok(certifying(&matches))
+}
+
+/// The words behind `check`.
+fn parse_check(alloc: Global, words: &[String]) -> Result<Option<Command<'_>>, Memory>
+    ensures asked { IfOk result (λ found. option_map task_of found
+        ≡ asked_by check_words check_asked (texts words.now)) }
+    ensures head { IfOk result (λ found. IfSome found HasHead) }
+{
+    let Some(matches) = taken(check_form(alloc)?, words)? else {
+        return Ok(None);
+    };
+    Ok(checking(&matches))
 }
 
 /// The words behind the name of a job that needs nothing but an exercise.

@@ -2,7 +2,7 @@
 
 ghost use Rattle.std.specs.Prelude.{◌≡◌, IfOk, codes};
 ghost use Rattle.clap.specs.Words.{app_of, with_rule};
-ghost use Rattle.fux_run.specs.Commands.{drill_words, exercise_words, flag_word, fromsmf_words, head_words, one_word, option_word, search_words};
+ghost use Rattle.fux_run.specs.Commands.{check_words, drill_words, needed_word, exercise_words, flag_word, fromsmf_words, head_words, one_word, option_word, search_words};
 
 use clap::{Arg, ArgAction, Command};
 use std::alloc::{AllocError, Global};
@@ -13,6 +13,18 @@ fn one_word<'a>(alloc: Global, name: &'a str, word: &'a str) -> Result<Command<'
 {
     let needed = Arg::new(alloc, word).required(true);
     Command::new(alloc, name).no_binary_name(true).arg(needed)
+}
+
+/// The command with one word more that must be there.
+fn with_word<'a>(
+    alloc: Global,
+    command: Command<'a>,
+    word: &'a str,
+) -> Result<Command<'a>, AllocError>
+    ensures { IfOk result (λ longer. app_of longer ≡ with_rule (app_of command.entry) (needed_word word.entry.now)) }
+{
+    let needed = Arg::new(alloc, word).required(true);
+    command.arg(needed)
 }
 
 /// The command with an option more.
@@ -54,6 +66,15 @@ pub fn search_form<'a>(alloc: Global, name: &'a str) -> Result<Command<'a>, Allo
     let command = exercise_form(alloc, name)?;
     let command = with_option(alloc, command, "sheet", false)?;
     with_option(alloc, command, "budget", false)
+}
+
+/// `check EX CERT [--sheet S]`.
+pub fn check_form<'a>(alloc: Global) -> Result<Command<'a>, AllocError>
+    ensures { IfOk result (λ command. app_of command ≡ check_words) }
+{
+    let command = exercise_form(alloc, "check")?;
+    let command = with_word(alloc, command, "CERT")?;
+    with_option(alloc, command, "sheet", false)
 }
 
 /// `drill N`.

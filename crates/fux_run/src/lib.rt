@@ -2,6 +2,7 @@
 #![tactic(auto)]
 
 mod certifying;
+mod checking;
 mod command;
 mod complaint;
 mod composing;

@@ -1,13 +1,16 @@
 //! What a command makes of its files.
 
-ghost use Rattle.std.specs.Prelude.{◌≡◌, ◌≤◌, ℕ, List, option_map};
+ghost use Rattle.std.specs.Prelude.{◌≡◌, ◌≤◌, ◌⊎◌, ℕ, List, option_map};
 ghost use Rattle.fux_grid.specs.Exercises.{IsValid};
 ghost use Rattle.fux_port.specs.Counts.{Rose};
+ghost use Rattle.fux_port.specs.Files.{IsMissing};
+ghost use Rattle.fux_run.specs.Checked.{AnswersWithin};
 ghost use Rattle.fux_run.specs.Commands.{HasMidiHead, as_list, making_task};
 ghost use Rattle.fux_run.specs.Complaints.{refusal_text};
-ghost use Rattle.fux_run.specs.Runs.{IsMade, Says, SaysRefusal};
-ghost use Rattle.fux_run.specs.Works.{Answers, AreContents, IsContent, MakesOf, MakesOfText, ReadsSheetFile};
+ghost use Rattle.fux_run.specs.Runs.{IsMade, Says, SaysRefusal, SaysWithin};
+ghost use Rattle.fux_run.specs.Works.{Answers, AreContents, ChecksText, IsContent, IsReadyText, MakesOf, MakesOfText, ReadsSheetFile};
 
+use crate::checking::check;
 use crate::command::{Job, Making};
 use crate::complaint::Complaint;
 use crate::composing::compose;
@@ -19,7 +22,7 @@ use crate::playing::{LONGEST_MIDI, from_smf};
 use crate::refusal::{Refusal, refusal_text};
 use crate::rendering::{print, to_smf};
 use crate::weighing::sheet_of;
-use crate::work::{Output, Stop};
+use crate::work::{Output, Stop, Unmade};
 use fux_grid::Exercise;
 use fux_pitch::Memory;
 use fux_port::Shelf;
@@ -44,6 +47,20 @@ pub fn make<'a, F: Shelf, R: Threads + Sync>(
             let text = read_content(alloc, shelf, name, LONGEST_TEXT)?;
             let weights = read_weights(alloc, shelf, sheet)?;
             said(alloc, name, of_texts(rt, alloc, &text, &weights, job))
+        }
+        Making::Check {
+            name,
+            certificate,
+            sheet,
+        } => {
+            let text = read_content(alloc, shelf, name, LONGEST_TEXT)?;
+            let weights = read_weights(alloc, shelf, sheet)?;
+            said_within(
+                alloc,
+                name,
+                certificate,
+                check_texts(rt, alloc, &text, &weights, shelf, certificate),
+            )
         }
         Making::FromSmf { name, head } => {
             let file = read_content(alloc, shelf, name, LONGEST_MIDI)?;
@@ -86,6 +103,28 @@ fn of_texts<R: Threads + Sync>(
     of_exercise(rt, alloc, &exercise, &sheet, job)
 }
 
+/// The verdict on the certificate in a file for the exercise of a text, over the file of a sheet where one is given.
+fn check_texts<F: Shelf, R: Threads + Sync>(
+    rt: &R,
+    alloc: Global,
+    text: &Content,
+    weights: &Option<Content>,
+    shelf: &mut F,
+    certificate: &str,
+) -> Result<Output, Unmade>
+    ensures checks { (bytes : List ℕ) (sheets : List (List ℕ)) → IsContent 65536 text.now bytes
+        → AreContents 65536 (as_list weights.now) sheets
+        → AnswersWithin (ChecksText (F.files shelf.old) certificate.now sheets bytes)
+        (IsReadyText sheets bytes
+        × (Rose (F.faults shelf.old) (F.faults shelf.new) ⊎ IsMissing (F.files shelf.old) certificate.now)) result }
+    ensures files { F.files shelf.new ≡ F.files shelf.old }
+    ensures faults { F.faults shelf.old ≤ F.faults shelf.new }
+{
+    let exercise = exercise_of(alloc, text)?;
+    let sheet = sheet_of(alloc, weights)?;
+    check(rt, alloc, &exercise, &sheet, shelf, certificate)
+}
+
 /// What a job makes of an exercise, over a sheet of weights.
 fn of_exercise<R: Threads + Sync>(
     rt: &R,
@@ -107,11 +146,11 @@ fn of_exercise<R: Threads + Sync>(
 }
 
 /// The output of an answer, or what is said where there is none, with this name for a text that is refused.
-fn said(
+fn said<'a>(
     alloc: Global,
     name: &str,
     answer: Result<Output, Stop>,
-) -> Result<Output, Complaint<'static>>
+) -> Result<Output, Complaint<'a>>
     ensures { Says name.now answer result }
 {
     match answer {
@@ -121,8 +160,25 @@ fn said(
     }
 }
 
+/// The output of an answer of a command that reads while it works, or what is said where there is none, with this name for a text
+/// that is refused, and that of the file which is read then.
+fn said_within<'a>(
+    alloc: Global,
+    name: &str,
+    within: &'a str,
+    answer: Result<Output, Unmade>,
+) -> Result<Output, Complaint<'a>>
+    ensures { SaysWithin name.now within.entry.now answer result }
+{
+    match answer {
+        Ok(output) => Ok(output),
+        Err(Unmade::Stopped(stop)) => said(alloc, name, Err(stop)),
+        Err(Unmade::Unreadable) => Err(Complaint::Unreadable { name: within }),
+    }
+}
+
 /// The complaint about a refused file of this name.
-pub fn refused(alloc: Global, name: &str, refusal: &Refusal) -> Complaint<'static>
+pub fn refused<'a>(alloc: Global, name: &str, refusal: &Refusal) -> Complaint<'a>
     ensures { SaysRefusal (refusal_text name.now refusal.now) result }
 {
     match refusal_text(alloc, name, refusal) {

@@ -3,7 +3,7 @@
 ghost use Rattle.std.specs.Prelude.{◌≡◌, ◌≢◌, ℕ, ◌<◌, ◌⊎◌, All, Contains, List, None, Some, codes};
 ghost use Rattle.fux_port.specs.Counts.{Rose};
 ghost use Rattle.fux_port.specs.Files.{HasFile, IsMissing};
-ghost use Rattle.fux_run.specs.Commands.{Task, asked, name_in, names_in, texts};
+ghost use Rattle.fux_run.specs.Commands.{Task, asked, name_in, names_in, names_within, texts};
 ghost use Rattle.fux_run.specs.Complaints.{fux_line};
 ghost use Rattle.fux_run.specs.Runs.{EndedAs, EndsAs, EndsUnread, IsDone, IsStopped, result_line, result_status};
 ghost use Rattle.fux_run.specs.Sinks.{Gets};
@@ -40,11 +40,15 @@ pub fn run<F: Shelf, K: Sink, E: Sink, R: Threads + Sync>(
     // A read failed by the shelf's fault, or a file is missing; the line names it.
     ensures unreadable { (task : Task) → asked (texts words.now) ≡ Some task
         → result ≡ code_of Status.Unreadable
-        → EndsUnread (F.files shelf.old) (Rose (F.faults shelf.old) (F.faults shelf.new))
-        (names_in task) (Gets E.written E.faults err.old err.new) }
+        → EndsUnread task (F.files shelf.old) (Rose (F.faults shelf.old) (F.faults shelf.new))
+        (Gets E.written E.faults err.old err.new) }
     ensures missing { (task : Task) → asked (texts words.now) ≡ Some task
         → (name : List ℕ) → Contains (names_in task) name → IsMissing (F.files shelf.old) name
         → result ≢ code_of Status.OutOfMemory → result ≡ code_of Status.Unreadable }
+    ensures missing_within { (task : Task) → asked (texts words.now) ≡ Some task
+        → (name : List ℕ) → Contains (names_within task) name → IsMissing (F.files shelf.old) name
+        → result ≢ code_of Status.OutOfMemory
+        → (result ≡ code_of Status.Unreadable) ⊎ (result ≡ code_of Status.Refused) }
 
     // A write to standard output failed. What was written is a front of the output.
     ensures unwritable { result ≡ code_of Status.Unwritable
@@ -59,6 +63,7 @@ pub fn run<F: Shelf, K: Sink, E: Sink, R: Threads + Sync>(
     // Where nothing fails, the work is done or a file refused.
     ensures complete { (task : Task) → asked (texts words.now) ≡ Some task
         → All (λ name. (file : List ℕ) × HasFile (F.files shelf.old) name file) (names_in task)
+        → All (λ name. (file : List ℕ) × HasFile (F.files shelf.old) name file) (names_within task)
         → (Rose (F.faults shelf.old) (F.faults shelf.new) → ⊥)
         → (Rose (K.faults out.old) (K.faults out.new) → ⊥)
         → IsDone result ⊎ ((result ≡ code_of Status.Refused) ⊎ (result ≡ code_of Status.OutOfMemory)) }

@@ -7,7 +7,7 @@ ghost use Rattle.fux_text.specs.Names.{mode_named};
 ghost use Rattle.smf_score.specs.Heads.{IsHead};
 ghost use Rattle.text_lines.specs.Numbers.{number_within};
 ghost use Rattle.fux_pitch.specs.declared.mode.Mode.{Mode as AMode};
-ghost use Rattle.fux_run.specs.Commands.{HasHead, budget_in, certify_asked, compose_asked, drill_asked, fromsmf_asked, head_in, is_set, job_asked, number_at, task_of};
+ghost use Rattle.fux_run.specs.Commands.{HasHead, budget_in, certify_asked, check_asked, compose_asked, drill_asked, fromsmf_asked, head_in, is_set, job_asked, number_at, task_of};
 
 use crate::command::{Command, Job, Making};
 use clap::ArgMatches;
@@ -141,6 +141,21 @@ pub fn certifying<'a>(matches: &ArgMatches<'a>) -> Option<Command<'a>>
         sheet,
         budget,
     })
+}
+
+/// `check`, on the exercise and the certificate of two files.
+pub fn checking<'a>(matches: &ArgMatches<'a>) -> Option<Command<'a>>
+    ensures asked { option_map task_of result ≡ check_asked (rows_of (found_of matches.now)) }
+    ensures head { IfSome result HasHead }
+{
+    let name = value(matches, "EX")?;
+    let certificate = value(matches, "CERT")?;
+    let sheet = value(matches, "sheet");
+    Some(Command::Make(Making::Check {
+        name,
+        certificate,
+        sheet,
+    }))
 }
 
 /// A job that needs nothing but the exercise of a file.

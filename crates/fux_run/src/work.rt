@@ -3,6 +3,7 @@
 ghost use Rattle.std.specs.Prelude.{◌≡◌, string_bytes};
 ghost use Rattle.fux_run.specs.declared.work.Halt.TheVariants as halt;
 ghost use Rattle.fux_run.specs.declared.work.Stop.TheVariants as stop;
+ghost use Rattle.fux_run.specs.declared.work.Unmade.TheVariants as unmade;
 
 use crate::refusal::Refusal;
 use fux_pitch::{List, Memory};
@@ -92,5 +93,30 @@ impl From<AllocError> for Halt {
 
     fn from(_: AllocError) -> Self {
         Halt::Stopped(Stop::Memory)
+    }
+}
+
+/// Why a command that reads while it works makes no output.
+#[derive(Drop)]
+pub enum Unmade {
+    /// There is no output.
+    Stopped(Stop),
+    /// The file that it reads while it works cannot be read.
+    Unreadable,
+}
+
+impl From<Stop> for Unmade {
+    ghost from_gives = { λ stop found. found ≡ unmade.Stopped stop };
+
+    fn from(stop: Stop) -> Self {
+        Unmade::Stopped(stop)
+    }
+}
+
+impl From<Memory> for Unmade {
+    ghost from_gives = { λ _ found. found ≡ unmade.Stopped stop.Memory };
+
+    fn from(_: Memory) -> Self {
+        Unmade::Stopped(Stop::Memory)
     }
 }

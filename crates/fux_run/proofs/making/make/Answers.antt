@@ -1,9 +1,10 @@
-use Rattle.std.proofs.Common.{◌∷◌, [], Err}
+use Rattle.std.proofs.Common.{◌∷◌, [], Err, inl, ◌∙◌}
 use Rattle.std.proofs.lemmas.Result.{err_from_is_err_and}
 use Rattle.fux_port.specs.Counts.{Rose}
 use Rattle.fux_port.proofs.Rises.{rose_later}
-use Rattle.fux_run.specs.Commands.{as_list, drill, fromsmf, on_exercise}
+use Rattle.fux_run.specs.Commands.{as_list, check, drill, fromsmf, on_exercise}
 use Rattle.fux_run.specs.Runs.{IsMade}
+use Rattle.fux_run.proofs.CheckLemmas.{checked_said, of_check}
 use Rattle.fux_run.proofs.MakeLemmas.{made_said, of_none, of_one, of_two, read_same, sheet_named, sheet_unread}
 use Rattle.fux_run.proofs.making.make.Goals as goal
 
@@ -19,7 +20,7 @@ returns-in_err-weights-in-OnExercise-clause-made g c =
     (files c.args.shelf.now) (files c.read_content.new.shelf) (Rose (faults c.args.shelf.now) (faults c.read_weights.new.shelf))
     (Rose (faults c.read_content.new.shelf) (faults c.read_weights.new.shelf)) 65536 c.in_ok-text-in-OnExercise.text _
     (λ complaint. IsMade task (files c.args.shelf.now) (Rose (faults c.args.shelf.now) (faults c.read_weights.new.shelf)) (Err complaint))
-    (λ file is. is) tt
+    (λ file is. inl is) tt
     c.in_ok-text-in-OnExercise.ensures.reads c.in_ok-text-in-OnExercise.ensures.files
     (rose_later _ _ _ c.in_ok-text-in-OnExercise.ensures.faults) c.in_err-weights-in-OnExercise.ensures.reads)
 
@@ -36,7 +37,45 @@ returns-in_ok-weights-in-OnExercise-clause-made g c =
       read_same 65536 (g.F.Shelf.files c.args.shelf.now) _ (as_list sheet) (as_list weights) c.in_ok-text-in-OnExercise.ensures.files
           c.in_ok-weights-in-OnExercise.ensures.reads,
     )
-    (of_two name sheet job text weights c.of_texts.result c.of_texts.ensures) c.said.ensures)
+    (of_two (g.F.Shelf.files c.args.shelf.now) name sheet job text weights c.of_texts.result c.of_texts.ensures) c.said.ensures)
+
+pub returns-in_err-weights-in-Check-clause-made :
+    goal.returns-in_err-weights-in-Check-clause-made
+returns-in_err-weights-in-Check-clause-made g c =
+    let files = g.F.Shelf.files in
+    let faults = g.F.Shelf.faults in
+    let task = check c.in-Check.name.now c.in-Check.certificate.now (sheet_named c.in-Check.sheet) in
+    let told = err_from_is_err_and c.from_residual-in_err-weights-in-Check.result
+    c.from_residual-in_err-weights-in-Check.ensures.1 in
+    rw (c.in-Check.is, told.1, told.2) (sheet_unread c.in-Check.name.now (sheet_named c.in-Check.sheet)
+    (files c.args.shelf.now) (files c.read_content-in-Check.new.shelf) (Rose (faults c.args.shelf.now) (faults c.read_weights-in-Check.new.shelf))
+    (Rose (faults c.read_content-in-Check.new.shelf) (faults c.read_weights-in-Check.new.shelf)) 65536 c.in_ok-text-in-Check.text _
+    (λ complaint. IsMade task (files c.args.shelf.now) (Rose (faults c.args.shelf.now) (faults c.read_weights-in-Check.new.shelf)) (Err complaint))
+    (λ file is. inl is) tt
+    c.in_ok-text-in-Check.ensures.reads c.in_ok-text-in-Check.ensures.files
+    (rose_later _ _ _ c.in_ok-text-in-Check.ensures.faults) c.in_err-weights-in-Check.ensures.reads)
+
+pub returns-in_ok-weights-in-Check-clause-made : goal.returns-in_ok-weights-in-Check-clause-made
+returns-in_ok-weights-in-Check-clause-made g c =
+    let files = g.F.Shelf.files in
+    let faults = g.F.Shelf.faults in
+    let name = c.in-Check.name.now in
+    let certificate = c.in-Check.certificate.now in
+    let sheet = sheet_named c.in-Check.sheet in
+    let text = c.in_ok-text-in-Check.text in
+    let weights = c.in_ok-weights-in-Check.weights in
+    let rose = Rose (faults c.args.shelf.now) (faults c.check_texts.new.shelf) in
+    let same = c.in_ok-text-in-Check.ensures.files in
+    rw c.in-Check.is (checked_said name certificate sheet (files c.args.shelf.now) rose
+    (text ∷ as_list weights) c.check_texts.result c.said_within.result (
+      c.in_ok-text-in-Check.ensures.reads,
+      read_same 65536 (files c.args.shelf.now) _ (as_list sheet) (as_list weights) same c.in_ok-weights-in-Check.ensures.reads,
+    )
+    (of_check name certificate sheet (files c.args.shelf.now) rose (files c.read_weights-in-Check.new.shelf)
+    (Rose (faults c.read_weights-in-Check.new.shelf) (faults c.check_texts.new.shelf)) text weights c.check_texts.result
+    (c.in_ok-weights-in-Check.ensures.files ∙ same)
+    (λ later. rose_later _ _ _ c.in_ok-text-in-Check.ensures.faults (rose_later _ _ _ c.in_ok-weights-in-Check.ensures.faults later))
+    c.check_texts.ensures.checks) c.said_within.ensures)
 
 pub returns-in_ok-file-in-FromSmf-clause-made : goal.returns-in_ok-file-in-FromSmf-clause-made
 returns-in_ok-file-in-FromSmf-clause-made g c =
@@ -45,9 +84,9 @@ returns-in_ok-file-in-FromSmf-clause-made g c =
     let file = c.in_ok-file-in-FromSmf.file in
     rw c.in-FromSmf.is (made_said (fromsmf name head) (g.F.Shelf.files c.args.shelf.now) _ (file ∷ []) c.from_smf.result
     c.said-in-FromSmf.result (c.in_ok-file-in-FromSmf.ensures.reads, tt)
-    (of_one name head file c.from_smf.result c.from_smf.ensures) c.said-in-FromSmf.ensures)
+    (of_one (g.F.Shelf.files c.args.shelf.now) name head file c.from_smf.result c.from_smf.ensures) c.said-in-FromSmf.ensures)
 
 pub returns-in-Drill-clause-made : goal.returns-in-Drill-clause-made
 returns-in-Drill-clause-made g c =
     rw c.in-Drill.is (made_said (drill c.in-Drill.number) (g.F.Shelf.files c.args.shelf.now) _ [] c.drill.result
-    c.said-in-Drill.result tt (of_none c.in-Drill.number c.drill.result c.drill.ensures) c.said-in-Drill.ensures)
+    c.said-in-Drill.result tt (of_none (g.F.Shelf.files c.args.shelf.now) c.in-Drill.number c.drill.result c.drill.ensures) c.said-in-Drill.ensures)

@@ -1,4 +1,4 @@
-use Rattle.std.proofs.Common.{Err, refl, ◌∷◌}
+use Rattle.std.proofs.Common.{Err, inl, refl, ◌∷◌}
 use Rattle.std.proofs.lemmas.Result.{err_from_is_err_and}
 use Rattle.fux_port.specs.Counts.{Rose}
 use Rattle.fux_port.proofs.Rises.{rose_later}
@@ -20,7 +20,7 @@ returns-in_err-weights-clause-ended g c =
     65536 c.in_ok-text.text _
     (λ complaint. Ended (certify name sheet c.args.budget) (files c.args.shelf.now) (Rose (faults c.args.shelf.now) (faults c.read_weights.new.shelf))
     (Rose (g.K.Sink.faults c.args.out.now) (g.K.Sink.faults c.args.out.now)) (g.K.Sink.written c.args.out.now) (g.K.Sink.written c.args.out.now) (Err complaint))
-    (λ file is. (refl, is)) refl
+    (λ file is. (refl, inl is)) refl
     c.in_ok-text.ensures.reads c.in_ok-text.ensures.files (rose_later _ _ _ c.in_ok-text.ensures.faults) c.in_err-weights.ensures.reads)
 
 pub returns-clause-ended : goal.returns-clause-ended
@@ -36,4 +36,4 @@ returns-clause-ended g c =
       c.in_ok-text.ensures.reads,
       read_same 65536 (files c.args.shelf.now) _ (as_list sheet) (as_list weights) c.in_ok-text.ensures.files c.in_ok-weights.ensures.reads,
     )
-    (of_texts name sheet c.args.budget text weights cut _ _ c.certify_texts.result c.certify_texts.ensures) c.said_of.ensures
+    (of_texts (files c.args.shelf.now) name sheet c.args.budget text weights cut _ _ c.certify_texts.result c.certify_texts.ensures) c.said_of.ensures

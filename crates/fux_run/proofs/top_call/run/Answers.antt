@@ -1,7 +1,7 @@
 use Rattle.fux_port.specs.Counts.{Rose}
 use Rattle.fux_run.specs.Commands.{asked, texts}
 use Rattle.fux_run.specs.Sinks.{Gets}
-use Rattle.fux_run.proofs.RunLemmas.{RanAs, of_task, ran_complete, ran_missing, ran_unreadable, ran_works, run_form, run_known, run_memory_line, run_silent, run_unwritable, run_unwritten, run_usage, run_usage_line}
+use Rattle.fux_run.proofs.RunLemmas.{RanAs, of_task, ran_complete, ran_missing, ran_missing_within, ran_unreadable, ran_works, run_form, run_known, run_memory_line, run_silent, run_unwritable, run_unwritten, run_usage, run_usage_line}
 use Rattle.fux_run.proofs.SinkLemmas.{gets_none}
 use Rattle.fux_run.proofs.top_call.run.Goals as goal
 use Rattle.fux_run.proofs.top_call.run.Goals.{Joined-ended}
@@ -29,6 +29,9 @@ returns-clause-unreadable g c = λ task is four. ran_unreadable task _ _ _ _ _ _
 pub returns-clause-missing : goal.returns-clause-missing
 returns-clause-missing g c = λ task is name one missing room. ran_missing task _ _ _ _ _ _ _ _ (of_task _ _ _ _ _ _ _ _ task _ is (ran g c)) name one missing room
 
+pub returns-clause-missing_within : goal.returns-clause-missing_within
+returns-clause-missing_within g c = λ task is name one missing room. ran_missing_within task _ _ _ _ _ _ _ _ (of_task _ _ _ _ _ _ _ _ task _ is (ran g c)) name one missing room
+
 pub returns-clause-unwritable : goal.returns-clause-unwritable
 returns-clause-unwritable g c = λ five. (run_unwritable _ _ _ _ _ _ _ _ _ (ran g c) five).0
 
@@ -36,7 +39,7 @@ pub returns-clause-works : goal.returns-clause-works
 returns-clause-works g c = λ task is read room. ran_works task _ _ _ _ _ _ _ _ (of_task _ _ _ _ _ _ _ _ task _ is (ran g c)) read room
 
 pub returns-clause-complete : goal.returns-clause-complete
-returns-clause-complete g c = λ task is there reads writes. ran_complete task _ _ _ _ _ _ _ _ (of_task _ _ _ _ _ _ _ _ task _ is (ran g c)) there reads writes
+returns-clause-complete g c = λ task is there within reads writes. ran_complete task _ _ _ _ _ _ _ _ (of_task _ _ _ _ _ _ _ _ task _ is (ran g c)) there within reads writes
 
 pub returns-clause-unwritten : goal.returns-clause-unwritten
 returns-clause-unwritten g c = λ stopped. run_unwritten _ _ _ _ _ _ _ _ _ (ran g c) stopped

@@ -1,0 +1,146 @@
+-- What `check` makes of its files (`checked_said`), and that no certificate whose verdict is told is missing (`written_is_there`,
+-- `part_is_there`).
+use Rattle.std.proofs.Common.{◌≡◌, ◌⊎◌, ℕ, zero, suc, ◌<◌, List, [], ◌∷◌, Contains, Option, Result, Ok, Err, get_or, inl, inr, refl, sym, subst, arith}
+use Rattle.cert_reading.specs.Readings.{MayBe}
+use Rattle.cert_text.specs.declared.answers.CertFault.TheVariants.{CertHead, CertWord, CertEnd, Memory}
+use Rattle.cert_verdict.specs.Answers.{Answers}
+use Rattle.cert_verdict.specs.declared.verdict.Verdict.{Verdict as CertVerdict}
+use Rattle.cert_verdict.specs.declared.verdict.Verdict.TheVariants.{Accepted, Claim, Text}
+use Rattle.fux_grid.specs.declared.exercise.Exercise.{Exercise}
+use Rattle.fux_port.specs.Files.{IsMissing}
+use Rattle.fux_port.specs.Written.{StopsShort}
+use Rattle.penalty_sheet.specs.declared.sheet.Sheet.{Sheet}
+use Rattle.fux_run.specs.declared.complaint.Complaint.{Complaint}
+use Rattle.fux_run.specs.declared.complaint.Complaint.TheVariants.{Usage, Refused, Unreadable, Unwritable, OutOfMemory}
+use Rattle.fux_run.specs.declared.content.Content.{Content}
+use Rattle.fux_run.specs.declared.work.Output.{Output}
+use Rattle.fux_run.specs.declared.work.Stop.TheVariants as stop
+use Rattle.fux_run.specs.declared.work.Unmade.{Unmade}
+use Rattle.fux_run.specs.declared.work.Unmade.TheVariants as unmade
+use Rattle.fux_run.specs.declared.work.Verdict.{Verdict}
+use Rattle.fux_run.specs.Checked.{AnswersWithin, Judges}
+use Rattle.fux_run.specs.Commands.{Task, as_list, certify, check, drill, fromsmf, limit_in, name_in, names_in, names_within, on_exercise}
+use Rattle.fux_run.specs.Runs.{IsMade, IsRefused, IsWritten, SaysWithin, work_output}
+use Rattle.fux_run.specs.Texts.{Work}
+use Rattle.fux_run.specs.Works.{AreContents, AreRead, ChecksText, Files, IsContent, IsReadyFor, IsReadyText, Makes, Works}
+use Rattle.fux_run.proofs.MakeLemmas.{have_bytes, works_on}
+use Rattle.fux_run.proofs.WorkLemmas.{not_missing}
+
+-- a verdict doesn't depend on the shelf's faults
+pub judged : (ex : Exercise) (sheet : Sheet) (files : Files) (name : List ℕ) (rose : Type 0) (it : CertVerdict)
+    → Answers ex sheet files name rose (Ok it) → Judges ex sheet files name it
+judged ex sheet files name rose (Accepted answer) found = found
+judged ex sheet files name rose (Claim refused) found = found
+judged ex sheet files name rose (Text (CertHead at)) found = found
+judged ex sheet files name rose (Text (CertWord at)) found = found
+judged ex sheet files name rose (Text (CertEnd at)) found = found
+judged ex sheet files name rose (Text Memory) found = found
+
+-- ---- the file of a verdict isn't missing
+
+may_be_there : (files : Files) (name : List ℕ) (Such : List ℕ → Type 0) → MayBe files name Such → IsMissing files name → ⊥
+may_be_there files name Such found missing = not_missing files name found.bytes found.had missing
+
+judged_is_there : (ex : Exercise) (sheet : Sheet) (files : Files) (name : List ℕ) (it : CertVerdict) → Judges ex sheet files name it
+    → IsMissing files name → ⊥
+judged_is_there ex sheet files name (Accepted answer) found missing = may_be_there files name _ found.finds.1 missing
+judged_is_there ex sheet files name (Claim refused) found missing = may_be_there files name _ found.finds missing
+judged_is_there ex sheet files name (Text (CertHead at)) found missing = may_be_there files name _ found missing
+judged_is_there ex sheet files name (Text (CertWord at)) found missing = may_be_there files name _ found.finds missing
+judged_is_there ex sheet files name (Text (CertEnd at)) found missing = may_be_there files name _ found.finds missing
+judged_is_there ex sheet files name (Text Memory) found missing = may_be_there files name _ found.finds missing
+
+the_one : (one name : List ℕ) (k : ℕ) → k < 1 → get_or (one ∷ []) k name ≡ name → one ≡ name
+the_one one name zero within is = is
+the_one one name (suc k) within is = let none : ⊥ = omega (arith, within) in absurd none
+
+checked_is_there : (files : Files) (certificate : List ℕ) (sheets : List (List ℕ)) (text : List ℕ) (output : Output)
+    → ChecksText files certificate sheets text (Ok output) → IsMissing files certificate → ⊥
+checked_is_there files certificate sheets text output (inl on) missing =
+    elim on.made [
+      | inl over ↦ judged_is_there on.exercise over.sheet files certificate over.made.said over.made.judges missing
+      | inr none ↦ cc none.is
+    ]
+checked_is_there files certificate sheets text output (inr none) missing = cc none.is
+
+output_is_there : (task : Task) (files : Files) (name : List ℕ) (bytes : List (List ℕ)) (output : Output)
+    → Makes task files bytes (Ok output) → Contains (names_within task) name → IsMissing files name → ⊥
+output_is_there (check ex certificate sheet) files name (text ∷ sheets) output made one missing =
+    checked_is_there files certificate sheets text output made (rw (the_one certificate name one.0 one.1 one.2) missing)
+output_is_there (check ex certificate sheet) files name [] output made one missing = absurd made
+output_is_there (on_exercise ex sheet job) files name bytes output made one missing = omega (arith, one.1)
+output_is_there (certify ex sheet budget) files name bytes output made one missing = omega (arith, one.1)
+output_is_there (fromsmf file head) files name bytes output made one missing = omega (arith, one.1)
+output_is_there (drill number) files name bytes output made one missing = omega (arith, one.1)
+
+pub written_is_there : (task : Task) (files : Files) (name : List ℕ) (old new : Option (List ℕ)) (verdict : Verdict)
+    → Works task files (IsWritten old new verdict) → Contains (names_within task) name → IsMissing files name → ⊥
+written_is_there task files name old new verdict on one missing =
+    output_is_there task files name on.bytes on.holds.output (subst (Makes task files on.bytes) on.holds.is on.made) one missing
+
+short_is_there : (task : Task) (files : Files) (name : List ℕ) (old new : Option (List ℕ)) (bytes : List (List ℕ)) (work : Work)
+    → Makes task files bytes work → StopsShort old new (work_output work) → Contains (names_within task) name → IsMissing files name → ⊥
+short_is_there task files name old new bytes (Ok output) made short one missing = output_is_there task files name bytes output made one missing
+short_is_there task files name old new bytes (Err refusal) made short one missing = omega (arith, short.short)
+
+pub part_is_there : (task : Task) (files : Files) (name : List ℕ) (old new : Option (List ℕ))
+    → Works task files (λ work. StopsShort old new (work_output work)) → Contains (names_within task) name → IsMissing files name → ⊥
+part_is_there task files name old new on one missing = short_is_there task files name old new on.bytes on.work on.made on.holds one missing
+
+-- ---- what is made of the files
+
+more_rose : (Made : Work → Type 0) (Ready Missing later rose : Type 0) (answer : Result Output Unmade) → (later → rose)
+    → AnswersWithin Made (Ready × (later ⊎ Missing)) answer → AnswersWithin Made (Ready × (rose ⊎ Missing)) answer
+more_rose Made Ready Missing later rose (Ok output) so made = made
+more_rose Made Ready Missing later rose (Err (unmade.Stopped (stop.Refused refusal))) so made = made
+more_rose Made Ready Missing later rose (Err (unmade.Stopped stop.Memory)) so made = made
+more_rose Made Ready Missing later rose (Err unmade.Unreadable) so made =
+    (made.0, elim made.1 [ inl failed ↦ inl (so failed) | inr missing ↦ inr missing ])
+
+module _ (name certificate : List ℕ) (sheet : Option (List ℕ)) (files : Files) (rose : Type 0) where
+  abbrev task : Task
+  task = check name certificate sheet
+
+  -- the shelf that tells the files of the certificate tells the same ones
+  pub of_check : (later_files : Files) (later : Type 0) (text : Content) (weights : Option Content) (answer : Result Output Unmade)
+      → later_files ≡ files → (later → rose)
+      → ((bytes : List ℕ) (sheets : List (List ℕ)) → IsContent 65536 text bytes → AreContents 65536 (as_list weights) sheets
+      → AnswersWithin (ChecksText later_files certificate sheets bytes) (IsReadyText sheets bytes × (later ⊎ IsMissing later_files certificate)) answer)
+      → (all : List (List ℕ)) → AreContents 65536 (text ∷ as_list weights) all
+      → AnswersWithin (Makes task files all) (IsReadyFor task all × (rose ⊎ IsMissing files certificate)) answer
+  of_check later_files later text weights answer same so made [] content = absurd content
+  of_check later_files later text weights answer same so made (bytes ∷ sheets) content =
+      more_rose (Makes task files (bytes ∷ sheets)) (IsReadyText sheets bytes) (IsMissing files certificate) later rose answer so
+      (subst (λ told. AnswersWithin (ChecksText told certificate sheets bytes) (IsReadyText sheets bytes × (later ⊎ IsMissing told certificate)) answer)
+      same (made bytes sheets content.0 content.1))
+
+  pub checked_said : (contents : List Content) (answer : Result Output Unmade) (told : Result Output Complaint)
+      → AreRead 65536 files (names_in task) contents
+      → ((bytes : List (List ℕ)) → AreContents 65536 contents bytes
+      → AnswersWithin (Makes task files bytes) (IsReadyFor task bytes × (rose ⊎ IsMissing files certificate)) answer)
+      → SaysWithin name certificate answer told → IsMade task files rose told
+  checked_said contents (Ok output) told read made says =
+      rw says (works_on task files contents (Ok output) (λ work. work ≡ Ok output) read made refl)
+  checked_said contents (Err (unmade.Stopped (stop.Refused refusal))) (Err (Refused text)) read made says =
+      works_on task files contents (Err refusal) (IsRefused name text) read made record { refusal = refusal; is = refl; told = says }
+  checked_said contents (Err (unmade.Stopped (stop.Refused refusal))) (Err OutOfMemory) read made says = tt
+  checked_said contents (Err (unmade.Stopped (stop.Refused refusal))) (Err Usage) read made says = absurd says
+  checked_said contents (Err (unmade.Stopped (stop.Refused refusal))) (Err (Unreadable file)) read made says = absurd says
+  checked_said contents (Err (unmade.Stopped (stop.Refused refusal))) (Err Unwritable) read made says = absurd says
+  checked_said contents (Err (unmade.Stopped (stop.Refused refusal))) (Ok output) read made says = absurd says
+  checked_said contents (Err (unmade.Stopped stop.Memory)) told read made says = rw says tt
+  checked_said contents (Err unmade.Unreadable) (Err (Unreadable file)) read made says =
+      let known = have_bytes 65536 files (names_in task) contents read in
+      let unread = made known.bytes known.content in
+      inr record {
+        unread = record {
+          asked = (0, omega arith, sym says);
+          cause = elim unread.1 [ inl failed ↦ inl failed | inr missing ↦ inr (inl (sym says, missing)) ];
+        };
+        reads_on = record { bytes = known.bytes; had = known.had; ready = unread.0 };
+      }
+  checked_said contents (Err unmade.Unreadable) (Err Usage) read made says = absurd says
+  checked_said contents (Err unmade.Unreadable) (Err (Refused text)) read made says = absurd says
+  checked_said contents (Err unmade.Unreadable) (Err Unwritable) read made says = absurd says
+  checked_said contents (Err unmade.Unreadable) (Err OutOfMemory) read made says = absurd says
+  checked_said contents (Err unmade.Unreadable) (Ok output) read made says = absurd says

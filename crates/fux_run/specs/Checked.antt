@@ -1,0 +1,51 @@
+-- What `check` makes of an exercise and the file of a certificate, over a sheet of weights.
+use Rattle.std.specs.Prelude.{◌≡◌, ℕ, List, Result, Ok, Err}
+use Rattle.cert_reading.specs.Readings.{Files}
+use Rattle.cert_verdict.specs.Answers.{Answers}
+use Rattle.cert_verdict.specs.declared.verdict.Verdict.{Verdict as CertVerdict}
+use Rattle.cert_verdict.specs.declared.verdict.Verdict.TheVariants.{Accepted, Claim, Text}
+use Rattle.cert_verdict.specs.Verdicts.{verdict_line}
+use Rattle.fux_grid.specs.declared.exercise.Exercise.{Exercise}
+use Rattle.penalty_sheet.specs.declared.sheet.Sheet.{Sheet}
+use Rattle.fux_run.specs.declared.work.Output.{Output}
+use Rattle.fux_run.specs.declared.work.Stop.TheVariants.{Refused, Memory}
+use Rattle.fux_run.specs.declared.work.Unmade.{Unmade}
+use Rattle.fux_run.specs.declared.work.Unmade.TheVariants.{Stopped, Unreadable}
+use Rattle.fux_run.specs.declared.work.Verdict.{Verdict}
+use Rattle.fux_run.specs.declared.work.Verdict.TheVariants.{Favorable, Unfavorable}
+use Rattle.fux_run.specs.Searched.{IsNarrow, RefusesWidth}
+use Rattle.fux_run.specs.Texts.{Work}
+
+-- what a verdict on a certificate says all in all
+abbrev pub verdict_on : CertVerdict → Verdict
+verdict_on (Accepted answer) = Favorable
+verdict_on (Claim refused) = Unfavorable
+verdict_on (Text fault) = Unfavorable
+
+-- the output that tells it: its line
+abbrev pub told : CertVerdict → Output
+told said = record { verdict = verdict_on said; bytes = verdict_line said }
+
+-- the verdict is that on the certificate in the file of this name: the file is the text of a valid certificate whose head then holds, or
+-- the verdict tells the first thing that is wrong with it
+abbrev pub Judges : Exercise → Sheet → Files → List ℕ → CertVerdict → Type 0
+Judges ex sheet files certificate said = Answers ex sheet files certificate ⊥ (Ok said)
+
+-- an output on an exercise none of whose menus is too wide: the line of the verdict
+pub record IsChecked (files : Files) (certificate : List ℕ) (sheet : Sheet) (ex : Exercise) (output : Output) : Type 0 where
+  pub narrow : IsNarrow ex
+  pub said : CertVerdict
+  pub judges : Judges ex sheet files certificate said
+  pub told : output ≡ told said
+
+-- `check` makes this of an exercise and the certificate in the file of this name, over the sheet in use
+abbrev pub Checks : Files → List ℕ → Sheet → Exercise → Work → Type 0
+Checks files certificate sheet ex (Ok output) = IsChecked files certificate sheet ex output
+Checks files certificate sheet ex (Err refusal) = RefusesWidth ex refusal
+
+-- an answer is of such work, or a file that is read within it cannot be read, where this holds, or memory is wanting
+abbrev pub AnswersWithin : (Work → Type 0) → Type 0 → Result Output Unmade → Type 0
+AnswersWithin Made Unread (Ok output) = Made (Ok output)
+AnswersWithin Made Unread (Err (Stopped (Refused refusal))) = Made (Err refusal)
+AnswersWithin Made Unread (Err (Stopped Memory)) = Unit {0}
+AnswersWithin Made Unread (Err Unreadable) = Unread
