@@ -1,5 +1,5 @@
 -- Where the rules S10, S16 and S17 are broken, and what the tolls Q11 and Q14 cost.
-use Rattle.std.specs.Prelude.{ℕ, ◌+◌, ◌==◌, Bool, false, ◌&&◌, ◌||◌, nat_le, int_lt, List, [], ◌∷◌, Option, Some, None, if◌then◌else◌, pos, slice_index_or}
+use Rattle.std.specs.Prelude.{ℕ, ◌+◌, ◌-◌, ◌*◌, ◌==◌, Bool, false, ◌&&◌, ◌||◌, nat_le, int_lt, List, [], ◌∷◌, Option, Some, None, if◌then◌else◌, pos, slice_index_or}
 use Rattle.std.specs.List.{list_all}
 use Rattle.std.specs.Ordering.{int_eq}
 use Rattle.fux_pitch.specs.declared.interval.Interval.{Interval}
@@ -50,9 +50,13 @@ is_imperfect_of degrees i = is_imperfect_size i && int_eq (reduced i).degrees (p
 abbrev pub sound_imperfect : ℕ → List Cell → ℕ → ℕ → Bool
 sound_imperfect degrees col v w = holds_of (is_imperfect_of degrees) (interval_in col v w)
 
+-- the column at the beginning of the bar that begins so many bars before a place, of the columns behind it
+abbrev pub bars_before : ℕ → List (List Cell) → List Cell
+bars_before bars behind = slice_index_or behind (8 * bars - 1) []
+
 -- the column at the beginning of a bar, and those of the three bars before
 abbrev pub four_bar_lines : List (List Cell) → List Cell → List (List Cell)
-four_bar_lines behind now = now ∷ slice_index_or behind 7 [] ∷ slice_index_or behind 15 [] ∷ slice_index_or behind 23 [] ∷ []
+four_bar_lines behind now = now ∷ bars_before 1 behind ∷ bars_before 2 behind ∷ bars_before 3 behind ∷ []
 
 -- two voices sound thirds in all of the columns, or sixths in all of them
 abbrev pub keep_on : List (List Cell) → ℕ → ℕ → Bool
