@@ -1,6 +1,6 @@
 -- What the gauges keep of a line that grows by a note.
-use Rattle.std.proofs.Common.{◌≡◌, ℕ, suc, ◌+◌, ◌<◌, ◌≤◌, Bool, true, false, cond, Some, List, [], ◌∷◌, map, length, refl, ap, sym, ◌∙◌, subst, arith}
-use Rattle.std.specs.Prelude.{ℤ, pos, ◌<ℤ◌, ◌≤ℤ◌}
+use Rattle.std.proofs.Common.{◌≡◌, ℕ, suc, ◌+◌, ◌<◌, ◌≤◌, true, false, cond, Some, List, [], ◌∷◌, map, length, refl, ap, sym, ◌∙◌, arith}
+use Rattle.std.specs.Prelude.{ℤ, pos, ◌-ℤ◌, ◌<ℤ◌, ◌≤ℤ◌, int_lt, not, ◌&&◌}
 use Rattle.std.specs.Int.{int_max}
 use Rattle.std.specs.Ordering.{int_eq}
 use Rattle.std.proofs.lemmas.Bool.Decides.{Decides-int_eq}
@@ -14,10 +14,12 @@ use Rattle.fux_grid.specs.Cells.{notes_from}
 use Rattle.rule_law.specs.Terms.{holds_of, interval_of_pitches, is_leap}
 use Rattle.rule_law.proofs.MenuStarts.{as_number-bound}
 use Rattle.melody_rules.specs.declared.gauges.climax.Climax.{Climax}
-use Rattle.melody_rules.specs.GaugeParts.{IsClimaxOf, IsLeapsOf}
-use Rattle.melody_rules.specs.Gauges.{leaps_in, notes_at}
+use Rattle.melody_rules.specs.declared.gauges.compass.Compass.{Compass}
+use Rattle.melody_rules.specs.GaugeParts.{IsClimaxOf, IsCompassOf}
+use Rattle.melody_rules.specs.Gauges.{has_notes, is_narrow, leaps_in, notes_at}
 use Rattle.melody_rules.specs.GaugeLaws.{max_keeps}
-use Rattle.melody_rules.specs.Rows.{greatest_key, last_of, pitches}
+use Rattle.melody_rules.specs.Keys.{greatest_key, least_key, span_is}
+use Rattle.melody_rules.specs.Rows.{last_of, pitches}
 
 -- a line has no more notes than cells
 notes_held : (h : ℕ) (cells : List Cell) → length (map (λ n. n.pitch) (notes_from h cells)) ≤ length cells
@@ -98,3 +100,11 @@ climax_again p ps key kept e h r =
 -- a climax has no more notes than the line
 pub climax-bound : (ps : List Pitch) (kept : Climax) → IsClimaxOf ps kept → kept.count ≤ length ps
 climax-bound ps kept r = omega (arith, r.count, count_by-le-length (λ p. int_eq (key_of p) (greatest_key ps)) ps)
+
+-- a compass is narrow by its greatest key and its least
+pub narrow_is : (ps : List Pitch) (kept : Compass) → IsCompassOf ps kept → is_narrow ps ≡ (kept.any && not (int_lt (pos 6) (pos kept.greatest -ℤ pos kept.least)))
+narrow_is ps kept r =
+    ap (λ b. has_notes ps && not b) (span_is 6 ps)
+    ∙ ap (λ g. has_notes ps && not (int_lt (pos 6) (g -ℤ least_key ps))) (sym r.greatest)
+    ∙ ap (λ l. has_notes ps && not (int_lt (pos 6) (pos kept.greatest -ℤ l))) (sym r.least)
+    ∙ ap (λ a. a && not (int_lt (pos 6) (pos kept.greatest -ℤ pos kept.least))) (sym r.any)

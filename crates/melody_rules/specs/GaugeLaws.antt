@@ -1,29 +1,30 @@
 -- From a prefix of a setting to a longer one no gauge's least value falls, and in a setting it is the gauge's value.
-use Rattle.std.specs.Prelude.{◌≡◌, ℕ, zero, suc, ◌+◌, ◌-◌, ◌*◌, ◌<◌, ◌≤◌, ◌==◌, ℤ, pos, ◌≤ℤ◌, int_le, Bool, true, false, not, cond, ◌&&◌, ◌||◌, List, [], ◌∷◌, Contains, count_by, length, Option, Some, None, if◌then◌else◌, refl}
+use Rattle.std.specs.Prelude.{◌≡◌, ℕ, zero, suc, ◌+◌, ◌-◌, ◌*◌, ◌<◌, ◌≤◌, ◌==◌, ℤ, ◌≤ℤ◌, int_le, Bool, true, false, not, cond, ◌&&◌, ◌||◌, List, ◌∷◌, length, Option, Some, None, if◌then◌else◌, refl}
 use Rattle.std.specs.Int.{from_bool, int_max}
 use Rattle.std.specs.List.{list_all, range_with_len}
 use Rattle.std.specs.Option.{option_map_or}
 use Rattle.std.specs.Ordering.{int_eq}
-use Rattle.std.proofs.Common.{ap, sym, ◌∙◌, subst, arith, inl, inr}
+use Rattle.std.proofs.Common.{ap, sym, ◌∙◌, subst, arith}
 use Rattle.std.proofs.lemmas.Bool.{and_parts}
 use Rattle.std.proofs.lemmas.Bool.Decides.{nat_tests}
 use Rattle.std.proofs.lemmas.Int.{ints, clamps}
 use Rattle.std.proofs.lemmas.List.Sums.{sum_by-cons}
 use Rattle.fux_pitch.specs.declared.pitch.Pitch.{Pitch}
-use Rattle.fux_pitch.specs.Pitch.{key_of, same_pitch}
+use Rattle.fux_pitch.specs.Pitch.{key_of}
 use Rattle.fux_grid.specs.declared.cell.Cell.{Cell}
 use Rattle.fux_grid.specs.declared.cell.Cell.TheVariants.{Rest, Hold, Start}
 use Rattle.fux_grid.specs.declared.exercise.Exercise.{Exercise}
 use Rattle.fux_grid.specs.Cells.{cell_in}
-use Rattle.fux_grid.specs.Exercises.{IsFree, bar_of, columns_in}
-use Rattle.fux_grid.specs.Menus.{cells_at, is_between, range_of}
-use Rattle.rule_law.specs.Gauges.{EndsAtValue, IsNextCell, NeverFalls, columns_from, menu_starts, starts_ahead}
-use Rattle.rule_law.specs.Terms.{holds_of, interval_of_pitches, is_leap, starts}
+use Rattle.fux_grid.specs.Exercises.{bar_of, columns_in}
+use Rattle.fux_grid.specs.Menus.{is_between, range_of}
+use Rattle.rule_law.specs.Gauges.{EndsAtValue, IsNextCell, NeverFalls, menu_starts, starts_ahead}
+use Rattle.rule_law.specs.Terms.{starts}
 use Rattle.rule_law.proofs.NextPitch.{next_in_range}
 use Rattle.rule_law.proofs.MenuStarts.{any_from, starts_ahead-more, starts_ahead-none}
 use Rattle.melody_rules.specs.Gauges.{beyond_fourth, climax_least, climax_repeats, climax_value, compass_least, compass_value, is_at_top, is_final_climax, is_narrow, is_topped, leaps_in, leaps_least, leaps_value, moves_in, notes_at, strikes_least, strikes_value}
 use Rattle.melody_rules.specs.Held.{pitches-hold}
-use Rattle.melody_rules.specs.Rows.{greatest_key, last_of, pitches}
+use Rattle.melody_rules.specs.Keys.{greatest_key}
+use Rattle.melody_rules.specs.Rows.{pitches}
 
 -- a start of the next cell is one that the menu has
 next_starts : (ex : Exercise) (v : ℕ) (cells col : List Cell) (p : Pitch) → IsNextCell ex v cells col → cell_in col v ≡ Start p → menu_starts ex v (length cells) ≡ true

@@ -8,7 +8,8 @@ use Rattle.melody_rules.specs.declared.gauges.compass.Compass.{Compass}
 use Rattle.melody_rules.specs.declared.gauges.leaps.Leaps.{Leaps}
 use Rattle.melody_rules.specs.declared.gauges.strikes.Strikes.{Strikes}
 use Rattle.melody_rules.specs.Gauges.{beyond_fourth, has_notes, leaps_in, notes_at}
-use Rattle.melody_rules.specs.Rows.{greatest_key, last_of, least_key}
+use Rattle.melody_rules.specs.Keys.{greatest_key, least_key}
+use Rattle.melody_rules.specs.Rows.{last_of}
 
 pub record IsClimaxOf (ps : List Pitch) (kept : Climax) : Type 0 where
   pub greatest : pos kept.greatest ≡ greatest_key ps

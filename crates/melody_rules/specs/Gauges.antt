@@ -1,18 +1,18 @@
 -- The gauges Q17 to Q20: what a whole line of a free voice costs, over the pitches of its notes, the latest first, and what each line costs
 -- at least that begins with given notes.
-use Rattle.std.specs.Prelude.{ℕ, ◌+◌, ◌-◌, ◌*◌, ◌==◌, ℤ, pos, ◌-ℤ◌, int_lt, int_le, Bool, true, false, not, ◌&&◌, ◌||◌, nat_le, List, [], ◌∷◌, count_by, length, Option, Some, None, if◌then◌else◌}
+use Rattle.std.specs.Prelude.{ℕ, ◌+◌, ◌-◌, ◌*◌, ◌==◌, ℤ, int_le, Bool, true, false, not, ◌&&◌, ◌||◌, nat_le, List, [], ◌∷◌, count_by, length, Option, Some, None, if◌then◌else◌}
 use Rattle.std.specs.Int.{from_bool}
 use Rattle.std.specs.List.{list_all}
 use Rattle.std.specs.Ordering.{int_eq}
 use Rattle.fux_pitch.specs.declared.pitch.Pitch.{Pitch}
 use Rattle.fux_pitch.specs.Pitch.{key_of, same_pitch}
-use Rattle.fux_grid.specs.declared.cell.Cell.{Cell}
 use Rattle.fux_grid.specs.declared.exercise.Exercise.{Exercise}
 use Rattle.fux_grid.specs.Exercises.{bar_of}
 use Rattle.fux_grid.specs.Menus.{range_of}
 use Rattle.rule_law.specs.Gauges.{LeastValue, LineValue, columns_from, menu_starts, starts_ahead}
 use Rattle.rule_law.specs.Terms.{holds_of, interval_of_pitches, is_leap}
-use Rattle.melody_rules.specs.Rows.{greatest_key, last_of, least_key, pitches}
+use Rattle.melody_rules.specs.Keys.{greatest_key}
+use Rattle.melody_rules.specs.Rows.{last_of, pitches, spans_over}
 
 -- the notes of a key
 abbrev pub notes_at : ℤ → List Pitch → ℕ
@@ -48,9 +48,9 @@ abbrev pub has_notes : List Pitch → Bool
 has_notes [] = false
 has_notes (p ∷ ps) = true
 
--- Q18, a narrow compass: there are notes, and the greatest key less the least is below 7
+-- Q18, a narrow compass: there are notes, and no note's key is more than 6 semitones above another's
 abbrev pub is_narrow : List Pitch → Bool
-is_narrow ps = has_notes ps && int_lt (greatest_key ps -ℤ least_key ps) (pos 7)
+is_narrow ps = has_notes ps && not (spans_over 6 ps)
 
 abbrev pub compass_value : LineValue
 compass_value cells = from_bool (is_narrow (pitches cells))

@@ -3,7 +3,8 @@ use Rattle.std.specs.Prelude.{◌≡◌, ℕ, pos, List, Some, slice_get}
 use Rattle.fux_grid.specs.declared.cell.Cell.{Cell}
 use Rattle.fux_grid.specs.Columns.{line}
 use Rattle.melody_rules.specs.declared.notes.VoiceNotes.{VoiceNotes}
-use Rattle.melody_rules.specs.Rows.{pitches, last_of, before_last, latest_turning, greatest_key, least_key}
+use Rattle.melody_rules.specs.Keys.{greatest_key, least_key}
+use Rattle.melody_rules.specs.Rows.{pitches, last_of, before_last, latest_turning}
 
 -- the notes are those of a line, whose cells go from the newest to the oldest
 pub record IsNotesOf (cells : List Cell) (notes : VoiceNotes) : Type 0 where

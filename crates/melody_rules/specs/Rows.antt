@@ -1,7 +1,7 @@
 -- The rules and tolls of melody: how a voice moves from note to note.
-use Rattle.std.specs.Prelude.{ℕ, ◌+◌, ◌==◌, ℤ, pos, ◌-ℤ◌, int_lt, Bool, false, not, ◌&&◌, ◌||◌, nat_le, List, [], ◌∷◌, map, slice_get, Option, Some, None, if◌then◌else◌}
+use Rattle.std.specs.Prelude.{ℕ, ◌+◌, ◌==◌, pos, ◌-ℤ◌, int_lt, Bool, false, not, ◌&&◌, ◌||◌, nat_le, List, [], ◌∷◌, map, slice_get, Option, Some, None, if◌then◌else◌}
 use Rattle.std.specs.List.{list_any}
-use Rattle.std.specs.Int.{int_signum, int_max, int_min}
+use Rattle.std.specs.Int.{int_signum}
 use Rattle.std.specs.Ordering.{int_eq}
 use Rattle.fux_pitch.specs.declared.pitch.Pitch.{Pitch}
 use Rattle.fux_pitch.specs.declared.interval.Interval.{Interval}
@@ -51,7 +51,7 @@ leaves_sharp previous (Hold q) = false
 leaves_sharp None (Start q) = false
 leaves_sharp (Some p) (Start q) = int_eq (alter_of p) (pos 1) && not (degree_of q == degree_of p + 1)
 
--- the pitches of the notes of a line, the latest first
+-- the pitches of the notes of a line, the latest first: those that start in its cells (`Held.pitches_are`)
 abbrev pub pitches : List Cell → List Pitch
 pitches cells = map (λ n. n.pitch) (notes_from 0 cells)
 
@@ -92,7 +92,7 @@ goes_on_after_leap = on_moves (λ i j. nat_le 5 (degrees_without_sign i) && not 
 abbrev pub turns : Option Pitch → Option Pitch → Cell → Bool
 turns = on_moves opposite_ways
 
--- the latest turning note
+-- the latest turning note: the relation is `Turning.IsLatestTurning`
 abbrev pub latest_turning : List Pitch → Option Pitch
 latest_turning [] = None
 latest_turning (c ∷ ps) = if turns (before_last ps) (last_of ps) (Start c) then last_of ps else latest_turning ps
@@ -102,18 +102,14 @@ abbrev pub turns_at_tritone : Option Pitch → Option Pitch → Option Pitch →
 turns_at_tritone turning before last now =
     turns before last now && holds_of (λ k. semitones_without_sign k == 6) (interval_of_pitches turning last)
 
--- the greatest key of the notes, 0 without notes, and the least, 127 without notes: the ends of what MIDI has
-abbrev pub greatest_key : List Pitch → ℤ
-greatest_key [] = pos 0
-greatest_key (p ∷ ps) = int_max (key_of p) (greatest_key ps)
-
-abbrev pub least_key : List Pitch → ℤ
-least_key [] = pos 127
-least_key (p ∷ ps) = int_min (key_of p) (least_key ps)
+-- a note's key is more than so many semitones above another's
+abbrev pub spans_over : ℕ → List Pitch → Bool
+spans_over semitones ps =
+    list_any (λ high. list_any (λ low. int_lt (pos semitones) (key_of high -ℤ key_of low)) ps) ps
 
 -- the notes span more than a tenth, 16 semitones
 abbrev pub is_wide : List Pitch → Bool
-is_wide ps = int_lt (pos 16) (greatest_key ps -ℤ least_key ps)
+is_wide = spans_over 16
 
 -- S9: a note starts with which the notes span more than a tenth, as they didn't before
 abbrev pub widens : List Pitch → Cell → Bool

@@ -9,7 +9,7 @@ ghost use Rattle.melody_rules.specs.Notes.{IsNotesOf};
 ghost use Rattle.melody_rules.specs.Rows as rows;
 
 use crate::windows::{
-    goes_on_after_leap, is_wide, leaves_leap_open, outlines_badly, turns, turns_at_tritone,
+    goes_on_after_leap, leaves_leap_open, outlines_badly, spans_over, turns, turns_at_tritone,
 };
 use fux_grid::{Cell, Score};
 use fux_pitch::{Pitch, semitone};
@@ -24,6 +24,9 @@ pub struct VoiceNotes {
     pub greatest: u8,
     pub least: u8,
 }
+
+/// A tenth in semitones.
+const TENTH: u8 = 16;
 
 /// No notes.
 pub fn silent() -> VoiceNotes
@@ -110,8 +113,8 @@ pub(crate) fn widens(notes: &VoiceNotes, now: Cell) -> bool
     match now {
         Cell::Start(pitch) => {
             let key = semitone(pitch);
-            is_wide(higher(key, notes.greatest), lower(key, notes.least))
-                && !is_wide(notes.greatest, notes.least)
+            spans_over(TENTH, higher(key, notes.greatest), lower(key, notes.least))
+                && !spans_over(TENTH, notes.greatest, notes.least)
         }
         _ => false,
     }

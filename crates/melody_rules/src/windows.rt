@@ -110,10 +110,10 @@ pub(crate) fn leaves_leap_open(before: Option<Pitch>, last: Option<Pitch>, now: 
     }
 }
 
-/// Whether two keys are more than a tenth apart.
+/// Whether one key is more than so many semitones above another.
 #[inline]
-pub(crate) fn is_wide(greatest: u8, least: u8) -> bool
-    ensures { result ≡ int_lt (pos 16) (pos greatest -ℤ pos least) }
+pub(crate) fn spans_over(semitones: u8, greatest: u8, least: u8) -> bool
+    ensures { result ≡ int_lt (pos semitones) (pos greatest -ℤ pos least) }
 {
-    i16::from(greatest) - i16::from(least) > 16
+    i16::from(greatest) - i16::from(least) > i16::from(semitones)
 }

@@ -8,6 +8,7 @@ ghost use Rattle.melody_rules.specs.GaugeParts.{IsCompassOf};
 ghost use Rattle.melody_rules.specs.Rows.{pitches};
 
 use crate::notes::{higher, lower};
+use crate::windows::spans_over;
 use fux_grid::{Cell, Exercise};
 use fux_pitch::{Pitch, semitone};
 use rule_law::{Gauge, starts_ahead};
@@ -20,7 +21,7 @@ pub struct Compass {
     pub least: u8,
 }
 
-/// A narrow compass: the greatest key less the least is below 7.
+/// A narrow compass: the greatest key is 6 semitones above the least at most.
 #[derive(Clone, Copy, Debug, PartialEq, Eq)]
 pub struct Q18;
 
@@ -37,10 +38,11 @@ fn with_note(kept: Compass, pitch: Pitch) -> Compass
 }
 
 /// Whether the compass is narrow.
+#[tactic(auto, using(crate::proofs::GaugeLemmas::narrow_is))]
 pub fn is_narrow(kept: Compass) -> bool
     ensures { (ps : List APitch) → IsCompassOf ps kept → result ≡ words.is_narrow ps }
 {
-    kept.any && i16::from(kept.greatest) - i16::from(kept.least) < 7
+    kept.any && !spans_over(6, kept.greatest, kept.least)
 }
 
 impl Gauge for Q18 {
