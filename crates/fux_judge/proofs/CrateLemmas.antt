@@ -20,7 +20,7 @@ use Rattle.fux_judge.specs.declared.numbers.RuleCrate.{RuleCrate}
 use Rattle.fux_judge.specs.declared.numbers.RuleCrate.TheVariants.{Melody, Motion, Dissonance, Rhythm, Doubling}
 use Rattle.fux_judge.specs.Crates.{crate_with, crate_with_toll, rule_by, toll_by}
 use Rattle.fux_judge.specs.Ends.{none_below}
-use Rattle.fux_judge.specs.Rules.{breaks, enough, is_late, is_late_toll, is_melodic, rule_at, toll_at}
+use Rattle.fux_judge.specs.Rules.{breaks, enough, is_late, is_late_toll, is_of_melody, rule_at, toll_at}
 
 first : {A : Type 0} (b : Bool) (x y : A) → b ≡ true → (if b then x else y) ≡ x
 first true x y h = refl
@@ -89,8 +89,8 @@ module _ (toll : ℕ) (crate : Option RuleCrate) (its : crate_with_toll toll ≡
   toll_count_by_crate ex i = ap (λ (it : TollRow). it.count ex i) toll_of_crate
 
 -- a rule of melody is in the crate of melody
-pub in_melody : (rule : ℕ) → is_melodic rule ≡ true → crate_with rule ≡ Some Melody
-in_melody rule h = first (is_melodic rule) (Some Melody) _ h
+pub in_melody : (rule : ℕ) → is_of_melody rule ≡ true → crate_with rule ≡ Some Melody
+in_melody rule h = first (is_of_melody rule) (Some Melody) _ h
 
 -- a toll that none of them has is in none
 pub in_none : (toll : ℕ) → melody.has_toll toll ≡ false → motion.has_toll toll ≡ false → dissonance.has_toll toll ≡ false → rhythm.has_toll toll ≡ false → doubling.has_toll toll ≡ false → crate_with_toll toll ≡ None

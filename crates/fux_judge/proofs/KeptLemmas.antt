@@ -22,7 +22,7 @@ use Rattle.rhythm_cadence.specs.Rows.{begins_last_bar, fits_ending, holds_of_pit
 use Rattle.fux_judge.specs.declared.moment.Moment.{Moment}
 use Rattle.fux_judge.specs.declared.numbers.RuleCrate.TheVariants.{Motion}
 use Rattle.fux_judge.specs.Crates.{crate_with}
-use Rattle.fux_judge.specs.Rules.{all_sets, is_late, is_melodic, rule_at, rules_at_once}
+use Rattle.fux_judge.specs.Rules.{all_sets, is_late, is_of_melody, rule_at, rules_at_once}
 use Rattle.fux_judge.specs.Kept.{is_close, is_moving, is_of_ending, is_of_place, rules_at_a_bar, rules_at_the_end, rules_within_bars}
 use Rattle.fux_judge.specs.Penalties.{is_strict_at}
 use Rattle.fux_judge.specs.Moments.{IsAfter, is_broken_then, is_strictly_broken_then}
@@ -79,7 +79,7 @@ module _ (p : List (List Cell)) (m : Moment) where
       (λ voices. ap (λ b. b && is_strict_at rule m.exercise.now voices (length p)) (kept voices))
 
   -- a smooth column keeps the rules of melody
-  melody_kept : some_rough m.exercise.now (reverse p) m.column.now ≡ false → (rule : ℕ) → is_melodic rule ≡ true → is_strictly_broken_then all_sets rule p m ≡ false
+  melody_kept : some_rough m.exercise.now (reverse p) m.column.now ≡ false → (rule : ℕ) → is_of_melody rule ≡ true → is_strictly_broken_then all_sets rule p m ≡ false
   melody_kept smooth rule melodic = kept_by_all rule (λ voices. at voices (melody.looks_back rule) refl)
     where
       at : (voices : ℕ) (b : Bool) → melody.looks_back rule ≡ b → is_broken_then rule voices p m ≡ false
@@ -139,9 +139,9 @@ module _ (p : List (List Cell)) (m : Moment) where
     unfolding rules_at_the_end
     at_the_end rules e =
         ap found_in e
-        ∙ left_out strict is_of_place (filter (λ rule. not (is_moving rule)) (filter (λ rule. not (is_melodic rule)) rules_at_once)) r (place_kept fair.placed)
-        ∙ left_out strict is_moving (filter (λ rule. not (is_melodic rule)) rules_at_once) r (motion_kept fair.clear)
-        ∙ left_out strict is_melodic rules_at_once r (melody_kept fair.smooth)
+        ∙ left_out strict is_of_place (filter (λ rule. not (is_moving rule)) (filter (λ rule. not (is_of_melody rule)) rules_at_once)) r (place_kept fair.placed)
+        ∙ left_out strict is_moving (filter (λ rule. not (is_of_melody rule)) rules_at_once) r (motion_kept fair.clear)
+        ∙ left_out strict is_of_melody rules_at_once r (melody_kept fair.smooth)
 
     pub at_a_bar : begins_last_bar m.exercise.now (length p) ≡ false → (rules : List ℕ) → rules ≡ rules_at_a_bar → found_in rules ≡ found_in rules_at_once
     unfolding rules_at_a_bar

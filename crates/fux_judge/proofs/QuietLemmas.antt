@@ -14,7 +14,7 @@ use Rattle.rule_law.specs.Law.{reading-at_end}
 use Rattle.fux_judge.specs.Facts.{rule_keeps, toll_keeps}
 use Rattle.fux_judge.specs.Rules.{all_sets, breaks, costs, cost_at, is_late, is_late_toll, tolls_at_once}
 use Rattle.fux_judge.specs.Steps.{tolls_all_at_once}
-use Rattle.fux_judge.specs.Penalties.{is_strict_at, price_at}
+use Rattle.fux_judge.specs.Penalties.{is_strict_at, price_at_place}
 use Rattle.fux_judge.specs.Moments.{is_broken_then, is_strictly_broken_then, prices_then, toll_then, with_column}
 
 pub none_passes : {X : Type 0} (test : X → Bool) (xs : List X) → ((x : X) → test x ≡ false) → list_any test xs ≡ false
@@ -42,8 +42,8 @@ module _ (p : List (List Cell)) (m : Moment) (place : m.state.now.newest.len ≡
 
   no_price : (rule : ℕ) → is_late rule ≡ false → prices_then all_sets rule p m ≡ 0
   no_price rule other =
-      sum_by-none (λ voices. if is_broken_then rule voices p m then price_at rule m.exercise.now voices (length p) else 0) all_sets
-      (λ voices. ap (λ b. if b then price_at rule m.exercise.now voices (length p) else 0) (unbroken rule voices other))
+      sum_by-none (λ voices. if is_broken_then rule voices p m then price_at_place rule m.exercise.now voices (length p) else 0) all_sets
+      (λ voices. ap (λ b. if b then price_at_place rule m.exercise.now voices (length p) else 0) (unbroken rule voices other))
 
   settled_at_once : (rule : ℕ) → (nat_lt rule 32 && not (is_late rule)) ≡ true → is_late rule ≡ false
   settled_at_once rule h = not_from (is_late rule) (and_parts (nat_lt rule 32) (not (is_late rule)) h).1

@@ -12,7 +12,7 @@ use Rattle.penalty_sheet.specs.declared.sheet.Sheet.{Sheet}
 use Rattle.fux_judge.specs.declared.moment.Moment.{Moment}
 use Rattle.fux_judge.specs.Parts.{list_any-parted}
 use Rattle.fux_judge.specs.Rules.{all_sets, is_broken, is_late, is_read, late_rules, late_tolls, rule_at, rules_at_once, rules_read, tolls_at_once}
-use Rattle.fux_judge.specs.Penalties.{is_strict_at, price_at, newly_broken, newly_paid}
+use Rattle.fux_judge.specs.Penalties.{is_strict_at, price_at_place, newly_broken, newly_paid}
 use Rattle.fux_judge.specs.Moments.{is_strictly_broken_then, prices_then, toll_then}
 use Rattle.fux_judge.specs.Steps.{all_at_once, all_late, breaks_late, is_strictly_broken_at_end, newly_broken-at_once, newly_broken-late, newly_paid-parts, prices_at_end, prices_late, toll_at_end, toll_late, tolls_at_end}
 use Rattle.fux_judge.proofs.PruningLemmas.{one_of}
@@ -102,7 +102,7 @@ module _ (ex : Exercise) (p : List (List Cell)) (col : List Cell) where
     strictly_then rule = ap (λ e. list_any (λ voices. is_broken rule e voices (p ++ m.column.now ∷ []) (length p) && is_strict_at rule e voices (length p)) all_sets) same ∙ ap (λ c. list_any (λ voices. is_broken rule ex voices (p ++ c ∷ []) (length p) && is_strict_at rule ex voices (length p)) all_sets) its
 
     prices_then_are : (rule : ℕ) → prices_then all_sets rule p m ≡ prices_at_end ex p col rule
-    prices_then_are rule = ap (λ e. sum_by (λ voices. if is_broken rule e voices (p ++ m.column.now ∷ []) (length p) then price_at rule e voices (length p) else 0) all_sets) same ∙ ap (λ c. sum_by (λ voices. if is_broken rule ex voices (p ++ c ∷ []) (length p) then price_at rule ex voices (length p) else 0) all_sets) its
+    prices_then_are rule = ap (λ e. sum_by (λ voices. if is_broken rule e voices (p ++ m.column.now ∷ []) (length p) then price_at_place rule e voices (length p) else 0) all_sets) same ∙ ap (λ c. sum_by (λ voices. if is_broken rule ex voices (p ++ c ∷ []) (length p) then price_at_place rule ex voices (length p) else 0) all_sets) its
 
     tolls_then_are : sum_by (toll_then sheet p m) tolls_at_once ≡ tolls_at_end ex sheet p col
     tolls_then_are = ap (λ e. sum_by (toll_at_end e sheet p m.column.now) tolls_at_once) same ∙ ap (λ c. sum_by (toll_at_end ex sheet p c) tolls_at_once) its

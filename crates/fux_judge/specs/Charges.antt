@@ -8,7 +8,7 @@ use Rattle.fux_grid.specs.Columns.{line}
 use Rattle.rule_law.specs.Growth.{sum_below}
 use Rattle.rule_law.specs.Terms.{holds_of, move_from, previous_pitch}
 use Rattle.rule_law.specs.Voices.{is_free}
-use Rattle.melody_rules.specs.Rows.{before_last, costs, last_of, leaves_leap_open, pitches}
+use Rattle.melody_rules.specs.Rows.{before_last, charges_move, last_of, leaves_leap_open, pitches}
 use Rattle.penalty_sheet.specs.declared.sheet.Sheet.{Sheet}
 use Rattle.penalty_sheet.specs.Weights.{weight_of}
 
@@ -31,7 +31,7 @@ is_clashing_toll toll = (toll == 1) || (toll == 2)
 abbrev pub stands : ℕ → List Cell → Cell → Bool
 stands toll cells now =
     if toll == 13 then leaves_leap_open (before_last (pitches cells)) (last_of (pitches cells)) now
-    else holds_of (costs toll) (move_from (previous_pitch cells) now)
+    else holds_of (charges_move toll) (move_from (previous_pitch cells) now)
 
 -- what it costs a voice in the column that comes after a prefix: the toll's weight where it stands for a free voice
 abbrev pub voice_toll : Exercise → Sheet → List (List Cell) → List Cell → ℕ → ℕ → ℕ

@@ -11,7 +11,7 @@ use Rattle.rule_law.specs.Growth.{any_below, sum_below-same, list_any-same, sum_
 use Rattle.penalty_sheet.specs.declared.sheet.Sheet.{Sheet}
 use Rattle.penalty_sheet.specs.Weights.{weight_of}
 use Rattle.fux_judge.specs.Rules.{rules_read, tolls_read, all_sets, is_broken, is_settled, cost_at, is_cost_settled}
-use Rattle.fux_judge.specs.Penalties.{is_strict_at, price_at, is_strictly_broken, has_break_settled_in, settled_tolls, settled_prices, charges_settled_in, tolls_at, prices_at, charges_of}
+use Rattle.fux_judge.specs.Penalties.{is_strict_at, price_at_place, is_strictly_broken, has_break_settled_in, settled_tolls, settled_prices, charges_settled_in, tolls_at, prices_at, charges_of}
 use Rattle.fux_judge.specs.Lawful.{breaks_strictly}
 use Rattle.fux_judge.specs.Facts.{rule_settles_at_end, toll_settles_at_end}
 
@@ -62,6 +62,6 @@ module _ (ex : Exercise) (s : List (List Cell)) (whole : length s ≡ columns_in
       (sum_by-same (λ toll. if is_cost_settled toll ex s i then cost_at toll ex s i * weight_of sheet toll else 0) (λ toll. cost_at toll ex s i * weight_of sheet toll) tolls_read
       (λ toll. ap (λ b. if b then cost_at toll ex s i * weight_of sheet toll else 0) (toll_settles_at_end toll ex s i whole h)))
       ∙ ap (λ n. tolls_at ex sheet s i + n)
-      (sum_by-same (λ rule. sum_by (λ voices. if is_settled rule ex voices s i then (if is_broken rule ex voices s i then price_at rule ex voices i else 0) else 0) all_sets) (λ rule. sum_by (λ voices. if is_broken rule ex voices s i then price_at rule ex voices i else 0) all_sets) rules_read
-      (λ rule. sum_by-same (λ voices. if is_settled rule ex voices s i then (if is_broken rule ex voices s i then price_at rule ex voices i else 0) else 0) (λ voices. if is_broken rule ex voices s i then price_at rule ex voices i else 0) all_sets
-      (λ voices. ap (λ b. if b then (if is_broken rule ex voices s i then price_at rule ex voices i else 0) else 0) (rule_settles_at_end rule ex voices s i whole h)))))
+      (sum_by-same (λ rule. sum_by (λ voices. if is_settled rule ex voices s i then (if is_broken rule ex voices s i then price_at_place rule ex voices i else 0) else 0) all_sets) (λ rule. sum_by (λ voices. if is_broken rule ex voices s i then price_at_place rule ex voices i else 0) all_sets) rules_read
+      (λ rule. sum_by-same (λ voices. if is_settled rule ex voices s i then (if is_broken rule ex voices s i then price_at_place rule ex voices i else 0) else 0) (λ voices. if is_broken rule ex voices s i then price_at_place rule ex voices i else 0) all_sets
+      (λ voices. ap (λ b. if b then (if is_broken rule ex voices s i then price_at_place rule ex voices i else 0) else 0) (rule_settles_at_end rule ex voices s i whole h)))))

@@ -16,7 +16,7 @@ use Rattle.rule_law.specs.Growth.{any_below, sum_below, newly, any_below-same, a
 use Rattle.penalty_sheet.specs.declared.sheet.Sheet.{Sheet}
 use Rattle.penalty_sheet.specs.Weights.{weight_of}
 use Rattle.fux_judge.specs.Rules.{rules_read, tolls_read, all_sets, is_broken, is_settled, cost_at, is_cost_settled}
-use Rattle.fux_judge.specs.Penalties.{is_strict_at, price_at, is_strictly_broken, newly_broken_at, newly_broken, new_tolls, new_prices, newly_paid, breaks_by_column, has_strict_break, paid_by_column, paid, has_break_settled_in, settled_tolls, settled_prices, charges_settled_in}
+use Rattle.fux_judge.specs.Penalties.{is_strict_at, price_at_place, is_strictly_broken, newly_broken_at, newly_broken, new_tolls, new_prices, newly_paid, breaks_by_column, has_strict_break, paid_by_column, paid, has_break_settled_in, settled_tolls, settled_prices, charges_settled_in}
 use Rattle.fux_judge.specs.Facts.{rule_is_local, rule_stays, rule_needs_place, toll_is_local, toll_stays, toll_needs_place}
 
 module _ (ex : Exercise) (p : List (List Cell)) (col : List Cell) where
@@ -101,8 +101,8 @@ module _ (ex : Exercise) (sheet : Sheet) (p : List (List Cell)) (col : List Cell
   weighed : (toll : ℕ) → IsLocal ex (λ s i. cost_at toll ex s i * weight_of sheet toll) (is_cost_settled toll ex)
   weighed toll q t i on h = ap (λ c. c * weight_of sheet toll) (toll_is_local toll ex q t i on h)
 
-  priced : (rule voices : ℕ) → IsLocal ex (λ s i. if is_broken rule ex voices s i then price_at rule ex voices i else 0) (is_settled rule ex voices)
-  priced rule voices q t i on h = ap (λ b. if b then price_at rule ex voices i else 0) (rule_is_local rule ex voices q t i on h)
+  priced : (rule voices : ℕ) → IsLocal ex (λ s i. if is_broken rule ex voices s i then price_at_place rule ex voices i else 0) (is_settled rule ex voices)
+  priced rule voices q t i on h = ap (λ b. if b then price_at_place rule ex voices i else 0) (rule_is_local rule ex voices q t i on h)
 
   tolls_grow : GoesOn ex p (col ∷ []) → (i : ℕ) → settled_tolls ex sheet (p ++ col ∷ []) i ≡ settled_tolls ex sheet p i + new_tolls ex sheet p col i
   tolls_grow on i =
@@ -115,13 +115,13 @@ module _ (ex : Exercise) (sheet : Sheet) (p : List (List Cell)) (col : List Cell
 
   prices_grow : GoesOn ex p (col ∷ []) → (i : ℕ) → settled_prices ex (p ++ col ∷ []) i ≡ settled_prices ex p i + new_prices ex p col i
   prices_grow on i =
-      let before : ℕ → ℕ → ℕ = λ rule voices. if is_settled rule ex voices p i then (if is_broken rule ex voices p i then price_at rule ex voices i else 0) else 0 in
-      let after : ℕ → ℕ → ℕ = λ rule voices. if is_settled rule ex voices (p ++ col ∷ []) i then (if is_broken rule ex voices (p ++ col ∷ []) i then price_at rule ex voices i else 0) else 0 in
-      let fresh : ℕ → ℕ → ℕ = λ rule voices. if newly (is_settled rule ex voices) p col i then (if is_broken rule ex voices (p ++ col ∷ []) i then price_at rule ex voices i else 0) else 0 in
+      let before : ℕ → ℕ → ℕ = λ rule voices. if is_settled rule ex voices p i then (if is_broken rule ex voices p i then price_at_place rule ex voices i else 0) else 0 in
+      let after : ℕ → ℕ → ℕ = λ rule voices. if is_settled rule ex voices (p ++ col ∷ []) i then (if is_broken rule ex voices (p ++ col ∷ []) i then price_at_place rule ex voices i else 0) else 0 in
+      let fresh : ℕ → ℕ → ℕ = λ rule voices. if newly (is_settled rule ex voices) p col i then (if is_broken rule ex voices (p ++ col ∷ []) i then price_at_place rule ex voices i else 0) else 0 in
       sum_by-same (λ rule. sum_by (after rule) all_sets) (λ rule. sum_by (before rule) all_sets + sum_by (fresh rule) all_sets) rules_read
       (λ rule.
       sum_by-same (after rule) (λ voices. before rule voices + fresh rule voices) all_sets
-      (λ voices. charge_grows (is_settled rule ex voices) (rule_stays rule ex voices) (rule_needs_place rule ex voices) p col ex (λ s i. if is_broken rule ex voices s i then price_at rule ex voices i else 0) (priced rule voices) on i)
+      (λ voices. charge_grows (is_settled rule ex voices) (rule_stays rule ex voices) (rule_needs_place rule ex voices) p col ex (λ s i. if is_broken rule ex voices s i then price_at_place rule ex voices i else 0) (priced rule voices) on i)
       ∙ sum_by-plus (before rule) (fresh rule) all_sets)
       ∙ sum_by-plus (λ rule. sum_by (before rule) all_sets) (λ rule. sum_by (fresh rule) all_sets) rules_read
 
@@ -131,9 +131,9 @@ module _ (ex : Exercise) (sheet : Sheet) (p : List (List Cell)) (col : List Cell
       sum_by-none (λ toll. if is_cost_settled toll ex p (length p) then cost_at toll ex p (length p) * weight_of sheet toll else 0) tolls_read
       (λ toll. ap (λ s. if s then cost_at toll ex p (length p) * weight_of sheet toll else 0) (unsettled_at_end (is_cost_settled toll ex) (toll_stays toll ex) (toll_needs_place toll ex) p col)) in
       let b : settled_prices ex p (length p) ≡ 0 =
-      sum_by-none (λ rule. sum_by (λ voices. if is_settled rule ex voices p (length p) then (if is_broken rule ex voices p (length p) then price_at rule ex voices (length p) else 0) else 0) all_sets) rules_read
-      (λ rule. sum_by-none (λ voices. if is_settled rule ex voices p (length p) then (if is_broken rule ex voices p (length p) then price_at rule ex voices (length p) else 0) else 0) all_sets
-      (λ voices. ap (λ s. if s then (if is_broken rule ex voices p (length p) then price_at rule ex voices (length p) else 0) else 0) (unsettled_at_end (is_settled rule ex voices) (rule_stays rule ex voices) (rule_needs_place rule ex voices) p col))) in
+      sum_by-none (λ rule. sum_by (λ voices. if is_settled rule ex voices p (length p) then (if is_broken rule ex voices p (length p) then price_at_place rule ex voices (length p) else 0) else 0) all_sets) rules_read
+      (λ rule. sum_by-none (λ voices. if is_settled rule ex voices p (length p) then (if is_broken rule ex voices p (length p) then price_at_place rule ex voices (length p) else 0) else 0) all_sets
+      (λ voices. ap (λ s. if s then (if is_broken rule ex voices p (length p) then price_at_place rule ex voices (length p) else 0) else 0) (unsettled_at_end (is_settled rule ex voices) (rule_stays rule ex voices) (rule_needs_place rule ex voices) p col))) in
       ap (λ n. n + settled_prices ex p (length p)) a ∙ ap (λ n. 0 + n) b
 
   -- and so of the charges

@@ -1,7 +1,7 @@
 -- Rules that one test tells of for a whole column, and those that are left to read where it passes.
 use Rattle.std.specs.Prelude.{ℕ, ◌==◌, ◌||◌, not, Bool, List}
 use Rattle.std.specs.List.{filter}
-use Rattle.fux_judge.specs.Rules.{is_melodic, rules_at_once}
+use Rattle.fux_judge.specs.Rules.{is_of_melody, rules_at_once}
 
 -- the rules of motion that one test tells of, those of dissonance, and those of one free voice that aren't of melody
 abbrev pub is_moving : ℕ → Bool
@@ -20,7 +20,7 @@ is_of_ending rule = (rule == 13) || (rule == 24)
 -- of the rules that are settled at once, those that are left in a column that is smooth, clear and in place
 unfoldable pub rules_at_the_end : List ℕ
 rules_at_the_end =
-    filter (λ rule. not (is_of_place rule)) (filter (λ rule. not (is_moving rule)) (filter (λ rule. not (is_melodic rule)) rules_at_once))
+    filter (λ rule. not (is_of_place rule)) (filter (λ rule. not (is_moving rule)) (filter (λ rule. not (is_of_melody rule)) rules_at_once))
 
 -- those of them that are left before the last bar, and where no two voices come close or no bar begins
 unfoldable pub rules_at_a_bar : List ℕ

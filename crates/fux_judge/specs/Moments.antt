@@ -9,7 +9,7 @@ use Rattle.penalty_sheet.specs.declared.sheet.Sheet.{Sheet}
 use Rattle.penalty_sheet.specs.Weights.{weight_of}
 use Rattle.fux_judge.specs.declared.moment.Moment.{Moment}
 use Rattle.fux_judge.specs.Rules.{is_broken, cost_at}
-use Rattle.fux_judge.specs.Penalties.{is_strict_at, price_at}
+use Rattle.fux_judge.specs.Penalties.{is_strict_at, price_at_place}
 use Rattle.fux_judge.specs.States.{IsStateOf}
 
 -- the moment can be read: its exercise is valid, and its column is one of a setting
@@ -37,7 +37,7 @@ is_strictly_broken_then sets rule p m = list_any (λ voices. is_broken_then rule
 
 -- the prices of its relaxed breaks there
 abbrev pub prices_then : List ℕ → ℕ → List (List Cell) → Moment → ℕ
-prices_then sets rule p m = sum_by (λ voices. if is_broken_then rule voices p m then price_at rule m.exercise.now voices (length p) else 0) sets
+prices_then sets rule p m = sum_by (λ voices. if is_broken_then rule voices p m then price_at_place rule m.exercise.now voices (length p) else 0) sets
 
 -- what a toll costs there, by its weight
 abbrev pub toll_then : Sheet → List (List Cell) → Moment → ℕ → ℕ

@@ -35,8 +35,8 @@ abbrev pub all_sets : List ℕ
 all_sets = forms.all_sets
 
 -- which crate has a rule, or a toll
-abbrev pub is_melodic : ℕ → Bool
-is_melodic = melody.has_rule
+abbrev pub is_of_melody : ℕ → Bool
+is_of_melody = melody.has_rule
 
 abbrev pub is_of_motion : ℕ → Bool
 is_of_motion = motion.has_rule

@@ -19,7 +19,7 @@ use Rattle.penalty_sheet.specs.declared.sheet.Sheet.{Sheet}
 use Rattle.penalty_sheet.specs.Weights.{weight_of}
 use Rattle.fux_judge.specs.Rules.{rules_read, tolls_read, all_sets, rule_at, toll_at, enough, cost_enough, is_broken, is_settled, cost_at, is_cost_settled, is_late, is_late_toll, rules_at_once, late_rules, tolls_at_once, late_tolls}
 use Rattle.fux_judge.specs.Facts.{rule_keeps, toll_keeps}
-use Rattle.fux_judge.specs.Penalties.{is_strict_at, price_at, newly_broken_at, newly_broken, new_toll, new_price, new_tolls, new_prices, newly_paid}
+use Rattle.fux_judge.specs.Penalties.{is_strict_at, price_at_place, newly_broken_at, newly_broken, new_toll, new_price, new_tolls, new_prices, newly_paid}
 use Rattle.fux_judge.specs.Ends.{from_none_below}
 use Rattle.fux_judge.specs.Parts.{list_all-kept, sum_by-parted}
 
@@ -29,7 +29,7 @@ is_strictly_broken_at_end ex p col rule = list_any (λ voices. is_broken rule ex
 
 -- the prices of its relaxed breaks there
 abbrev pub prices_at_end : Exercise → List (List Cell) → List Cell → ℕ → ℕ
-prices_at_end ex p col rule = sum_by (λ voices. if is_broken rule ex voices (p ++ col ∷ []) (length p) then price_at rule ex voices (length p) else 0) all_sets
+prices_at_end ex p col rule = sum_by (λ voices. if is_broken rule ex voices (p ++ col ∷ []) (length p) then price_at_place rule ex voices (length p) else 0) all_sets
 
 -- what a toll costs there, by its weight, and what those cost that are settled at once
 abbrev pub toll_at_end : Exercise → Sheet → List (List Cell) → List Cell → ℕ → ℕ
@@ -201,9 +201,9 @@ module _ (ex : Exercise) (p : List (List Cell)) (col : List Cell) where
   prices-at_once rule n =
       last_alone (prices_of_rule rule) (length p)
       (λ i h. sum_by-none (new_price ex p col i rule) all_sets
-      (λ voices. ap (λ b. if b then (if is_broken rule ex voices (p ++ col ∷ []) i then price_at rule ex voices i else 0) else 0) (newly_before (enough rule ex voices) (enough_at_once rule n voices) p col i h)))
-      ∙ sum_by-same (new_price ex p col (length p) rule) (λ voices. if is_broken rule ex voices (p ++ col ∷ []) (length p) then price_at rule ex voices (length p) else 0) all_sets
-      (λ voices. ap (λ b. if b then (if is_broken rule ex voices (p ++ col ∷ []) (length p) then price_at rule ex voices (length p) else 0) else 0) (newly_at_end (enough rule ex voices) (enough_at_once rule n voices) p col))
+      (λ voices. ap (λ b. if b then (if is_broken rule ex voices (p ++ col ∷ []) i then price_at_place rule ex voices i else 0) else 0) (newly_before (enough rule ex voices) (enough_at_once rule n voices) p col i h)))
+      ∙ sum_by-same (new_price ex p col (length p) rule) (λ voices. if is_broken rule ex voices (p ++ col ∷ []) (length p) then price_at_place rule ex voices (length p) else 0) all_sets
+      (λ voices. ap (λ b. if b then (if is_broken rule ex voices (p ++ col ∷ []) (length p) then price_at_place rule ex voices (length p) else 0) else 0) (newly_at_end (enough rule ex voices) (enough_at_once rule n voices) p col))
 
   -- for no sets but those of its form is a rule newly broken
   module _ (rule i : ℕ) where
@@ -220,10 +220,10 @@ module _ (ex : Exercise) (p : List (List Cell)) (col : List Cell) where
 
     prices_of_form : sum_by (new_price ex p col i rule) all_sets ≡ sum_by (new_price ex p col i rule) (sets_of_rule rule ex)
     prices_of_form =
-        let price : ℕ → ℕ = λ voices. if newly (is_settled rule ex voices) p col i then price_at rule ex voices i else 0 in
+        let price : ℕ → ℕ = λ voices. if newly (is_settled rule ex voices) p col i then price_at_place rule ex voices i else 0 in
         let turn : (sets : List ℕ) → sum_by (new_price ex p col i rule) sets ≡ sum_by (λ voices. if is_broken rule ex voices (p ++ col ∷ []) i then price voices else 0) sets =
         λ sets. sum_by-same (new_price ex p col i rule) (λ voices. if is_broken rule ex voices (p ++ col ∷ []) i then price voices else 0) sets
-        (λ voices. turned_price (newly (is_settled rule ex voices) p col i) (is_broken rule ex voices (p ++ col ∷ []) i) (price_at rule ex voices i)) in
+        (λ voices. turned_price (newly (is_settled rule ex voices) p col i) (is_broken rule ex voices (p ++ col ∷ []) i) (price_at_place rule ex voices i)) in
         turn all_sets ∙ of_form.sum price ∙ sym (turn (sets_of_rule rule ex))
 
   -- of a late rule, after an orderly prefix, all is at its places
@@ -249,7 +249,7 @@ module _ (ex : Exercise) (p : List (List Cell)) (col : List Cell) where
     free : (voices i : ℕ) → (IsAmong ((rule_at rule).first ex (length p)) ((rule_at rule).count ex (length p)) i → ⊥) → new_price ex p col i rule voices ≡ 0
     free voices i out = at (newly (is_settled rule ex voices) p col i) (is_broken rule ex voices (p ++ col ∷ []) i) (λ h. out (among voices i h))
       where
-        at : (n b : Bool) → ((n && b) ≡ true → ⊥) → (if n then (if b then price_at rule ex voices i else 0) else 0) ≡ 0
+        at : (n b : Bool) → ((n && b) ≡ true → ⊥) → (if n then (if b then price_at_place rule ex voices i else 0) else 0) ≡ 0
         at true true h = absurd (h refl)
         at true false h = refl
         at false b h = refl

@@ -167,8 +167,8 @@ pub(crate) fn pair_tolls() -> &'static [u8]
 
 /// Whether a rule is of melody.
 #[inline(always)]
-fn is_melodic(rule: u8) -> bool
-    ensures { result ≡ rules.is_melodic rule }
+fn is_of_melody(rule: u8) -> bool
+    ensures { result ≡ rules.is_of_melody rule }
 {
     rule == 4 || rule == 5 || rule == 6 || rule == 7 || rule == 8 || rule == 9 || rule == 26
 }
@@ -210,7 +210,7 @@ fn is_of_doubling(rule: u8) -> bool
 pub(crate) fn crate_of(rule: u8) -> Option<RuleCrate>
     ensures { result ≡ crate_with rule }
 {
-    if is_melodic(rule) {
+    if is_of_melody(rule) {
         return Some(RuleCrate::Melody);
     }
     if is_of_motion(rule) {
@@ -234,7 +234,7 @@ pub(crate) fn crate_of(rule: u8) -> Option<RuleCrate>
 pub(crate) fn form_of(rule: u8) -> Form
     ensures { result ≡ (rule_at rule).form }
 {
-    if is_melodic(rule) {
+    if is_of_melody(rule) {
         return Form::OneVoice;
     }
     if is_of_motion(rule) {

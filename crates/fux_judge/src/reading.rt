@@ -7,7 +7,7 @@ ghost use Rattle.fux_grid.specs.Exercises.{bar_of};
 ghost use Rattle.fux_judge.specs.declared.numbers.RuleCrate.TheVariants.{Melody};
 ghost use Rattle.fux_judge.specs.Crates.{crate_with};
 ghost use Rattle.fux_judge.specs.Rules.{all_sets, is_late};
-ghost use Rattle.fux_judge.specs.Penalties.{is_strict_at, price_at as price_at_place};
+ghost use Rattle.fux_judge.specs.Penalties.{is_strict_at, price_at_place};
 ghost use Rattle.fux_judge.specs.Moments.{IsReadable, IsAfter, is_broken_then, is_strictly_broken_then, prices_then, with_column};
 
 use crate::moment::Moment;

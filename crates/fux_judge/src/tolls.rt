@@ -65,7 +65,7 @@ pub(crate) fn charges_of_pairs(sheet: &Sheet, m: &Moment<'_>) -> u64
 
 /// The weight of the toll that a move to a cell pays by its size: Q7, Q8, Q9 or Q10.
 fn charge_of_move(sheet: &Sheet, previous: Option<Pitch>, now: Cell) -> u64
-    ensures value { result ≡ (if holds_of (melody.costs 7) (move_from previous now) then weight_of sheet.now 7 else 0) + (if holds_of (melody.costs 8) (move_from previous now) then weight_of sheet.now 8 else 0) + (if holds_of (melody.costs 9) (move_from previous now) then weight_of sheet.now 9 else 0) + (if holds_of (melody.costs 10) (move_from previous now) then weight_of sheet.now 10 else 0) }
+    ensures value { result ≡ (if holds_of (melody.charges_move 7) (move_from previous now) then weight_of sheet.now 7 else 0) + (if holds_of (melody.charges_move 8) (move_from previous now) then weight_of sheet.now 8 else 0) + (if holds_of (melody.charges_move 9) (move_from previous now) then weight_of sheet.now 9 else 0) + (if holds_of (melody.charges_move 10) (move_from previous now) then weight_of sheet.now 10 else 0) }
     ensures bound { result ≤ 65535 }
 {
     match toll_of_move(previous, now) {

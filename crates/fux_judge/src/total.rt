@@ -39,7 +39,7 @@ fn price_of(rule: u8, ex: &Exercise, score: &Score, i: usize, voices: VoiceSet) 
     requires valid { IsValid ex.now }
     requires complete { IsComplete ex.now score.now }
     requires place { i < length score.now.columns }
-    ensures value { result ≡ (if is_broken rule ex.now voices.bits score.now.columns i then penalties.price_at rule ex.now voices.bits i else 0) }
+    ensures value { result ≡ (if is_broken rule ex.now voices.bits score.now.columns i then penalties.price_at_place rule ex.now voices.bits i else 0) }
     ensures bound { result ≤ 10000 }
 {
     if !is_broken_in(rule, ex, score, i, voices) {
@@ -53,7 +53,7 @@ fn prices_of_rule(rule: u8, ex: &Exercise, score: &Score, i: usize) -> u64
     requires valid { IsValid ex.now }
     requires complete { IsComplete ex.now score.now }
     requires place { i < length score.now.columns }
-    ensures value { result ≡ sum_by (λ voices. if is_broken rule ex.now voices score.now.columns i then penalties.price_at rule ex.now voices i else 0) all_sets }
+    ensures value { result ≡ sum_by (λ voices. if is_broken rule ex.now voices score.now.columns i then penalties.price_at_place rule ex.now voices i else 0) all_sets }
     ensures bound { result ≤ 60000 }
 {
     let mut sum = 0u64;

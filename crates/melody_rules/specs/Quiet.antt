@@ -12,7 +12,7 @@ use Rattle.fux_grid.specs.Exercises.{species_in}
 use Rattle.rule_law.specs.Nearby.{Pitches, pitch_at}
 use Rattle.rule_law.specs.Quiet.{and_none, count_free-none, either_none, on_free_voice-none}
 use Rattle.rule_law.specs.Terms.{starts, degrees_without_sign, holds_of, interval_of_pitches, is_step, move_from, opposite_ways, semitones_without_sign}
-use Rattle.melody_rules.specs.Rows.{bars_repetitions, before_last, costs, holds_of_both, last_of, latest_turning, leaves_leap_open, near_rows, on_moves, open_leaps, pitches, toll_rows, voice_rule, window_rows, window_rule}
+use Rattle.melody_rules.specs.Rows.{bars_repetitions, before_last, charges_move, holds_of_both, last_of, latest_turning, leaves_leap_open, near_rows, on_moves, open_leaps, pitches, toll_rows, voice_rule, window_rows, window_rule}
 
 -- no second of two moves
 no_second : (test : Interval → Interval → Bool) (i : Option Interval) → holds_of_both test i None ≡ false
@@ -60,7 +60,7 @@ module _ (ex : Exercise) (now : List Cell) (still : (v : ℕ) → starts (cell_i
   pub still_tolls : (toll i : ℕ) (before : List Cell) (previous : Pitches) → toll_rows toll ex i before previous now ≡ 0
   unfolding toll_rows
   still_tolls toll i before previous =
-      count_free-none ex _ (λ v. no_move (costs toll) (pitch_at previous v) (cell_in now v) (still v))
+      count_free-none ex _ (λ v. no_move (charges_move toll) (pitch_at previous v) (cell_in now v) (still v))
 
   pub still_leaps : (i : ℕ) (behind ahead : List (List Cell)) → open_leaps ex i behind now ahead ≡ 0
   unfolding open_leaps

@@ -151,9 +151,9 @@ broken_in rule ex voices = if looks_back rule then window_rows rule ex voices el
 abbrev pub enough_after : ℕ → Exercise → ℕ → Row Bool
 enough_after rule ex voices = at_once
 
--- Q7: by a repetition. Q8: by a third. Q9: by a fourth or a fifth. Q10: by a sixth or more
-abbrev pub costs : ℕ → Interval → Bool
-costs toll i =
+-- a toll charges a move. Q7: by a repetition. Q8: by a third. Q9: by a fourth or a fifth. Q10: by a sixth or more
+abbrev pub charges_move : ℕ → Interval → Bool
+charges_move toll i =
     if toll == 7 then is_repetition i
     else (if toll == 8 then degrees_without_sign i == 2
     else (if toll == 9 then (degrees_without_sign i == 3) || (degrees_without_sign i == 4)
@@ -162,7 +162,7 @@ costs toll i =
 -- in how many free voices a note starts by such a move
 unfoldable pub toll_rows : ℕ → Exercise → NearRow ℕ
 toll_rows toll ex i before previous now =
-    count_free ex (λ v. holds_of (costs toll) (move_from (pitch_at previous v) (cell_in now v)))
+    count_free ex (λ v. holds_of (charges_move toll) (move_from (pitch_at previous v) (cell_in now v)))
 
 -- Q13: a note starts after a move of a fourth or more, and not by a step the other way
 abbrev pub leaves_leap_open : Option Pitch → Option Pitch → Cell → Bool

@@ -17,8 +17,8 @@ use rule_law::{Latest, Toll, is_free, is_repetition, latest_before, move_from};
 
 /// Whether a toll stands for a move.
 #[inline]
-fn costs(toll: u8, i: Interval) -> bool
-    ensures { result ≡ rows.costs toll i }
+fn charges_move(toll: u8, i: Interval) -> bool
+    ensures { result ≡ rows.charges_move toll i }
 {
     let degrees = i.degrees.unsigned_abs();
     match toll {
@@ -34,7 +34,7 @@ fn costs(toll: u8, i: Interval) -> bool
 fn toll_of_interval(i: Interval) -> Option<u8>
     ensures first { IfSome result (λ toll. 7 ≤ toll) }
     ensures last { IfSome result (λ toll. toll ≤ 10) }
-    ensures stands { (toll : ℕ) → 7 ≤ toll → toll ≤ 10 → rows.costs toll i ≡ is_this toll result }
+    ensures stands { (toll : ℕ) → 7 ≤ toll → toll ≤ 10 → rows.charges_move toll i ≡ is_this toll result }
 {
     match i.degrees.unsigned_abs() {
         0 if i.semitones == 0 => Some(7),
@@ -50,7 +50,7 @@ fn toll_of_interval(i: Interval) -> Option<u8>
 pub fn toll_of_move(previous: Option<Pitch>, now: Cell) -> Option<u8>
     ensures first { IfSome result (λ toll. 7 ≤ toll) }
     ensures last { IfSome result (λ toll. toll ≤ 10) }
-    ensures stands { (toll : ℕ) → 7 ≤ toll → toll ≤ 10 → holds_of (rows.costs toll) (terms.move_from previous now) ≡ is_this toll result }
+    ensures stands { (toll : ℕ) → 7 ≤ toll → toll ≤ 10 → holds_of (rows.charges_move toll) (terms.move_from previous now) ≡ is_this toll result }
 {
     match move_from(previous, now) {
         Some(step) => toll_of_interval(step),
@@ -61,14 +61,14 @@ pub fn toll_of_move(previous: Option<Pitch>, now: Cell) -> Option<u8>
 /// 1 where a toll stands for a free voice, else 0.
 #[inline]
 fn cost_of_voice(toll: u8, ex: &Exercise, latest: &Latest, now: &[Cell], v: u8) -> u32
-    ensures value { result ≡ (if voices_words.is_free ex.now v && holds_of (rows.costs toll) (terms.move_from (pitch_at latest.now.pitches v) (cell_in now.now v)) then 1 else 0) }
+    ensures value { result ≡ (if voices_words.is_free ex.now v && holds_of (rows.charges_move toll) (terms.move_from (pitch_at latest.now.pitches v) (cell_in now.now v)) then 1 else 0) }
     ensures bound { result ≤ 1 }
 {
     if !is_free(ex, v) {
         return 0;
     }
     match move_from(latest.of(v as usize), cell_of(now, v as usize)) {
-        Some(step) => u32::from(costs(toll, step)),
+        Some(step) => u32::from(charges_move(toll, step)),
         None => 0,
     }
 }

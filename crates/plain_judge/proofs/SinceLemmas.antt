@@ -10,7 +10,7 @@ use Rattle.rule_law.specs.Growth.{any_below, any_below-same, any_below-list_any,
 use Rattle.penalty_sheet.specs.declared.sheet.Sheet.{Sheet}
 use Rattle.penalty_sheet.specs.Weights.{weight_of}
 use Rattle.fux_judge.specs.Rules.{all_sets, rules_read, tolls_read, enough, cost_enough, is_broken, is_settled, cost_at, is_cost_settled}
-use Rattle.fux_judge.specs.Penalties.{is_strict_at, is_strictly_broken, price_at, charges_settled_in, newly_broken, newly_broken_at, newly_paid, new_tolls, new_prices, settled_tolls, settled_prices}
+use Rattle.fux_judge.specs.Penalties.{is_strict_at, is_strictly_broken, price_at_place, charges_settled_in, newly_broken, newly_broken_at, newly_paid, new_tolls, new_prices, settled_tolls, settled_prices}
 use Rattle.fux_judge.specs.Grows.{one_more}
 use Rattle.plain_judge.specs.Between.{broken_since, charges_since, paid_since, price_since, prices_since, settled_since, some_broken_since, toll_since}
 
@@ -41,9 +41,9 @@ module _ (ex : Exercise) (s : List (List Cell)) where
 
     prices_since_nothing : (i : ℕ) → prices_since ex [] s i ≡ settled_prices ex s i
     prices_since_nothing i =
-        sum_by-same (λ rule. sum_by (price_since ex [] s i rule) all_sets) (λ rule. sum_by (λ voices. if is_settled rule ex voices s i then (if is_broken rule ex voices s i then price_at rule ex voices i else 0) else 0) all_sets) rules_read
-        (λ rule. sum_by-same (price_since ex [] s i rule) (λ voices. if is_settled rule ex voices s i then (if is_broken rule ex voices s i then price_at rule ex voices i else 0) else 0) all_sets
-        (λ voices. ap (λ b. if b then (if is_broken rule ex voices s i then price_at rule ex voices i else 0) else 0) (since_nothing (enough rule ex voices) s i)))
+        sum_by-same (λ rule. sum_by (price_since ex [] s i rule) all_sets) (λ rule. sum_by (λ voices. if is_settled rule ex voices s i then (if is_broken rule ex voices s i then price_at_place rule ex voices i else 0) else 0) all_sets) rules_read
+        (λ rule. sum_by-same (price_since ex [] s i rule) (λ voices. if is_settled rule ex voices s i then (if is_broken rule ex voices s i then price_at_place rule ex voices i else 0) else 0) all_sets
+        (λ voices. ap (λ b. if b then (if is_broken rule ex voices s i then price_at_place rule ex voices i else 0) else 0) (since_nothing (enough rule ex voices) s i)))
 
     pub paid_since_nothing : paid_since ex sheet [] s ≡ charges_settled_in ex sheet s
     paid_since_nothing =

@@ -99,7 +99,7 @@ pub(crate) fn is_strict(rule: u8, ex: &Exercise, i: usize, voices: VoiceSet) -> 
 pub(crate) fn amount(rule: u8, ex: &Exercise, i: usize, voices: VoiceSet) -> u64
     requires valid { IsValid ex.now }
     requires place { i < 192 }
-    ensures value { result ≡ penalties.price_at rule ex.now voices.bits i }
+    ensures value { result ≡ penalties.price_at_place rule ex.now voices.bits i }
     ensures bound { result ≤ 10000 }
 {
     u64::from(price(rule, ex, i, voices).amount())
