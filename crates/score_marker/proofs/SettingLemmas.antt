@@ -14,7 +14,7 @@ use Rattle.fux_judge.specs.Rules.{all_sets, rules_read}
 use Rattle.score_marker.specs.declared.mark.Mark.{Mark}
 use Rattle.score_marker.specs.Lists.{marks_of_places}
 use Rattle.score_marker.specs.Marks.{AreMarks, IsBreak, voices_in}
-use Rattle.score_marker.specs.Setting.{broken_in, sets_in_order}
+use Rattle.score_marker.specs.Setting.{breaks_of, sets_in_order}
 use Rattle.score_marker.proofs.ListLemmas.{AllPairs-by_test, AllPairs-range, Contains-range, Contains-range_only, within_by_test}
 use Rattle.score_marker.proofs.MarkLemmas.{IsSetBefore, break_is_made, made_in_order, made_of_break, mark-eta}
 
@@ -41,9 +41,9 @@ unfolding sets_in_order forms.all_sets
 only_sets = within_by_test sets_in_order all_sets refl
 
 module _ (ex : Exercise) (s : List (List Cell)) where
-  only_breaks : (mark : Mark) → Contains (marks_of_places (broken_in ex s) sets_in_order rules_read (range_with_len 0 (length s))) mark → IsBreak ex s mark
+  only_breaks : (mark : Mark) → Contains (marks_of_places (breaks_of ex s) sets_in_order rules_read (range_with_len 0 (length s))) mark → IsBreak ex s mark
   only_breaks mark h =
-      let made = made_of_break (broken_in ex s) sets_in_order rules_read (range_with_len 0 (length s)) mark h in
+      let made = made_of_break (breaks_of ex s) sets_in_order rules_read (range_with_len 0 (length s)) mark h in
       subst (IsBreak ex s) made.is
       (record {
         place = made.place;
@@ -55,14 +55,14 @@ module _ (ex : Exercise) (s : List (List Cell)) where
         broken = made.holds;
       })
 
-  each_break : (mark : Mark) → IsBreak ex s mark → Contains (marks_of_places (broken_in ex s) sets_in_order rules_read (range_with_len 0 (length s))) mark
+  each_break : (mark : Mark) → IsBreak ex s mark → Contains (marks_of_places (breaks_of ex s) sets_in_order rules_read (range_with_len 0 (length s))) mark
   each_break mark b =
-      let P : Mark → Type 0 = Contains (marks_of_places (broken_in ex s) sets_in_order rules_read (range_with_len 0 (length s))) in
+      let P : Mark → Type 0 = Contains (marks_of_places (breaks_of ex s) sets_in_order rules_read (range_with_len 0 (length s))) in
       subst P (mark-eta mark b.place b.bar b.slot)
-      (break_is_made (broken_in ex s) sets_in_order rules_read (range_with_len 0 (length s)) b.place mark.rule mark.voices.bits (Contains-range (length s) b.place b.there) b.rule (each_set mark.voices.bits b.voices) b.broken)
+      (break_is_made (breaks_of ex s) sets_in_order rules_read (range_with_len 0 (length s)) b.place mark.rule mark.voices.bits (Contains-range (length s) b.place b.there) b.rule (each_set mark.voices.bits b.voices) b.broken)
 
-  pub are_marks : AreMarks ex s (marks_of_places (broken_in ex s) sets_in_order rules_read (range_with_len 0 (length s)))
+  pub are_marks : AreMarks ex s (marks_of_places (breaks_of ex s) sets_in_order rules_read (range_with_len 0 (length s)))
   are_marks = record {
     each = λ mark. (only_breaks mark, each_break mark);
-    ascend = made_in_order (broken_in ex s) sets_in_order rules_read (range_with_len 0 (length s)) sets_ascend rules_ascend (AllPairs-range (length s));
+    ascend = made_in_order (breaks_of ex s) sets_in_order rules_read (range_with_len 0 (length s)) sets_ascend rules_ascend (AllPairs-range (length s));
   }

@@ -10,5 +10,5 @@ unfoldable pub sets_in_order : List ℕ
 sets_in_order = 1 ∷ 3 ∷ 7 ∷ 15 ∷ 11 ∷ 5 ∷ 13 ∷ 9 ∷ 2 ∷ 6 ∷ 14 ∷ 10 ∷ 4 ∷ 12 ∷ 8 ∷ []
 
 -- a rule is broken at a place for a set of voices
-abbrev pub broken_in : Exercise → List (List Cell) → Test
-broken_in ex s i rule voices = is_broken rule ex voices s i
+abbrev pub breaks_of : Exercise → List (List Cell) → Test
+breaks_of ex s i rule voices = is_broken rule ex voices s i

@@ -5,7 +5,7 @@ ghost use Rattle.fux_grid.specs.Exercises.{IsComplete, IsValid};
 ghost use Rattle.fux_judge.specs.Rules.{rules_read};
 ghost use Rattle.score_marker.specs.Lists.{marks_of_rule, marks_of_place};
 ghost use Rattle.score_marker.specs.Marks.{AreMarks};
-ghost use Rattle.score_marker.specs.Setting.{broken_in, sets_in_order};
+ghost use Rattle.score_marker.specs.Setting.{breaks_of, sets_in_order};
 
 use crate::mark::{Mark, mark_if};
 use fux_grid::{Exercise, Score, VoiceSet};
@@ -34,7 +34,7 @@ fn mark_rule(
     requires complete { IsComplete ex.now score.now }
     requires place { i < length score.now.columns }
     ensures { OnOk result (marks.new.items
-        ≡ marks.old.items ++ marks_of_rule (broken_in ex.now score.now.columns) sets_in_order i rule) }
+        ≡ marks.old.items ++ marks_of_rule (breaks_of ex.now score.now.columns) sets_in_order i rule) }
 {
     for bits in voice_sets() {
         let voices = VoiceSet { bits: *bits };
@@ -55,7 +55,7 @@ fn mark_place(marks: &mut Vec<Mark>, ex: &Exercise, score: &Score, i: usize) -> 
     requires complete { IsComplete ex.now score.now }
     requires place { i < length score.now.columns }
     ensures { OnOk result (marks.new.items
-        ≡ marks.old.items ++ marks_of_place (broken_in ex.now score.now.columns) sets_in_order rules_read i) }
+        ≡ marks.old.items ++ marks_of_place (breaks_of ex.now score.now.columns) sets_in_order rules_read i) }
 {
     for rule in every_rule() {
         mark_rule(marks, ex, score, i, *rule)?;
