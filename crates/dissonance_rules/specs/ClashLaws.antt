@@ -17,7 +17,7 @@ use Rattle.fux_grid.specs.Menus.{IsInMenu}
 use Rattle.rule_law.specs.After.{next_onset, onset_pitch, onsets_after, second_next_onset, second_of}
 use Rattle.rule_law.specs.Bars.{begins_bar}
 use Rattle.rule_law.specs.Growth.{EnoughStays}
-use Rattle.rule_law.specs.LateLaw.{StaysAhead, ends_when_whole, local_from_ahead, local_or_whole, whole_stays}
+use Rattle.rule_law.proofs.LateLaw.{StaysAhead, ends_when_whole, local_from_ahead, local_or_whole, whole_stays}
 use Rattle.rule_law.specs.Law.{local_from_row}
 use Rattle.rule_law.specs.Places.{IsLocal, IsUndisturbed, SettlesAtEnd, reading_of, settled_by}
 use Rattle.rule_law.specs.Prefixes.{GoesOn}

@@ -19,7 +19,7 @@ use Rattle.doubling_rules.specs.Locality as doubling_law
 use Rattle.fux_judge.specs.declared.numbers.RuleCrate.{RuleCrate}
 use Rattle.fux_judge.specs.declared.numbers.RuleCrate.TheVariants.{Melody, Motion, Dissonance, Rhythm, Doubling}
 use Rattle.fux_judge.specs.Crates.{crate_with, crate_with_toll, rule_by, toll_by}
-use Rattle.fux_judge.specs.Ends.{none_below}
+use Rattle.fux_judge.proofs.Ends.{none_below}
 use Rattle.fux_judge.specs.Rules.{breaks, enough, is_late, is_late_toll, is_melodic, rule_at, toll_at}
 
 first : {A : Type 0} (b : Bool) (x y : A) → b ≡ true → (if b then x else y) ≡ x

@@ -12,11 +12,12 @@ use Rattle.rule_law.specs.Law.{first_true}
 use Rattle.rule_law.specs.Prefixes.{GoesOn}
 use Rattle.rule_law.specs.Rulebooks.{IsAmong, newly_breaks}
 use Rattle.fux_judge.specs.declared.state.State.{State}
-use Rattle.fux_judge.specs.Facts.{rule_keeps}
+use Rattle.fux_judge.proofs.Facts.{rule_keeps}
 use Rattle.fux_judge.specs.Penalties.{is_strict_at, new_price, newly_broken_at}
 use Rattle.fux_judge.specs.Rules.{is_late, late_rules, rule_at}
 use Rattle.fux_judge.specs.States.{HasCome}
-use Rattle.fux_judge.specs.Steps.{any_among, any_among-alone, breaks_late, prices_late, sets_of_rule, zero_below}
+use Rattle.fux_judge.specs.Steps.{any_among, breaks_late, prices_late, sets_of_rule}
+use Rattle.fux_judge.proofs.StepPlaces.{any_among-alone, zero_below}
 use Rattle.fux_judge.proofs.SetLemmas.{priceless}
 
 -- the place before the newest column is as far as the prefix goes

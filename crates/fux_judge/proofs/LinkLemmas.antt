@@ -35,7 +35,7 @@ use Rattle.fux_judge.specs.declared.link.Link.{Link}
 use Rattle.fux_judge.specs.declared.numbers.RuleCrate.{RuleCrate}
 use Rattle.fux_judge.specs.declared.numbers.RuleCrate.TheVariants.{Melody, Motion, Dissonance, Rhythm, Doubling}
 use Rattle.fux_judge.specs.Crates.{crate_with, crate_with_toll, rule_by, toll_by}
-use Rattle.fux_judge.specs.Facts.{rule_keeps}
+use Rattle.fux_judge.proofs.Facts.{rule_keeps}
 use Rattle.fux_judge.specs.Links.{behind_of, begun, breaks_between, breaks_strictly, column_of, column_rules, column_tolls, cost_between, given, is_of_column, is_of_neighbors, is_of_pair, is_rule_between, is_toll_between, link_of, pair_of, pair_rules, pair_tolls, together}
 use Rattle.fux_judge.specs.Neighbors.{IsLink, breaks_at_link, breaks_strictly_at_link, charge_at_link, cost_at_link}
 use Rattle.fux_judge.specs.Penalties.{is_strict_at}

@@ -11,9 +11,9 @@ use Rattle.penalty_sheet.specs.declared.sheet.Sheet.{Sheet}
 use Rattle.penalty_sheet.specs.Weights.{weight_of}
 use Rattle.fux_judge.specs.declared.moment.Moment.{Moment}
 use Rattle.rule_law.specs.Law.{reading-at_end}
-use Rattle.fux_judge.specs.Facts.{rule_keeps, toll_keeps}
+use Rattle.fux_judge.proofs.Facts.{rule_keeps, toll_keeps}
 use Rattle.fux_judge.specs.Rules.{all_sets, breaks, costs, cost_at, is_late, is_late_toll, tolls_at_once}
-use Rattle.fux_judge.specs.Steps.{tolls_all_at_once}
+use Rattle.fux_judge.proofs.StepPlaces.{tolls_all_at_once}
 use Rattle.fux_judge.specs.Penalties.{is_strict_at, price_at}
 use Rattle.fux_judge.specs.Moments.{is_broken_then, is_strictly_broken_then, prices_then, toll_then, with_column}
 

@@ -10,11 +10,12 @@ use Rattle.rule_law.specs.Law.{first_true, second_true}
 use Rattle.rule_law.specs.Prefixes.{GoesOn}
 use Rattle.penalty_sheet.specs.declared.sheet.Sheet.{Sheet}
 use Rattle.fux_judge.specs.declared.moment.Moment.{Moment}
-use Rattle.fux_judge.specs.Parts.{list_any-parted}
+use Rattle.fux_judge.proofs.Parts.{list_any-parted}
 use Rattle.fux_judge.specs.Rules.{all_sets, is_broken, is_late, is_read, late_rules, late_tolls, rule_at, rules_at_once, rules_read, tolls_at_once}
 use Rattle.fux_judge.specs.Penalties.{is_strict_at, price_at, newly_broken, newly_paid}
 use Rattle.fux_judge.specs.Moments.{is_strictly_broken_then, prices_then, toll_then}
-use Rattle.fux_judge.specs.Steps.{all_at_once, all_late, breaks_late, is_strictly_broken_at_end, newly_broken-at_once, newly_broken-late, newly_paid-parts, prices_at_end, prices_late, toll_at_end, toll_late, tolls_at_end}
+use Rattle.fux_judge.specs.Steps.{breaks_late, is_strictly_broken_at_end, prices_at_end, prices_late, toll_at_end, toll_late, tolls_at_end}
+use Rattle.fux_judge.proofs.StepPlaces.{all_at_once, all_late, newly_broken-at_once, newly_broken-late, newly_paid-parts}
 use Rattle.fux_judge.proofs.PruningLemmas.{one_of}
 
 and_false : (x : Bool) → (x && false) ≡ false

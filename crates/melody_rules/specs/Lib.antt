@@ -4,8 +4,6 @@ pub mod GaugeParts
 pub mod Gauges
 pub mod Held
 pub mod Locality
-pub mod LowerVoices
 pub mod Notes
-pub mod Quiet
 pub mod Rows
 pub mod Smooth

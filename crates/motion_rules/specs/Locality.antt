@@ -3,13 +3,13 @@ use Rattle.std.specs.Prelude.{◌≡◌, ℕ, ◌+◌, ◌^◌, ◌==◌, Bool, 
 use Rattle.std.proofs.Common.{subst, sym, ◌∙◌}
 use Rattle.std.proofs.lemmas.Bool.{eqb-true}
 use Rattle.fux_grid.specs.declared.exercise.Exercise.{Exercise}
-use Rattle.rule_law.specs.AtOnce.{AlwaysEnough}
 use Rattle.rule_law.specs.BothLaw.{RuleReading, AreLocal, SettleAtEnd}
 use Rattle.rule_law.specs.Law.{at_once_settles, both_true, local_from_row, test_from_below}
 use Rattle.rule_law.specs.NearLaw.{IsNear, near_from_whole}
 use Rattle.rule_law.specs.Nearby.{whole_of}
 use Rattle.rule_law.specs.Places.{IsLocal, IsUndisturbed, Row, SettlesAtEnd, at_once, reading_of, settled_by}
 use Rattle.rule_law.specs.Voices.{has_rule}
+use Rattle.rule_law.specs.Growth.{AlwaysEnough}
 use Rattle.motion_rules.specs.Book.{at_once_row, is_late, late_row, rule_row}
 use Rattle.motion_rules.specs.InnerVoices.{inner_toll}
 use Rattle.motion_rules.specs.Rows.{cost_enough, cost_in, imperfect_runs, near_rows, toll_rows}

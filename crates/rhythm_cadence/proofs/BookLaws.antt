@@ -11,7 +11,7 @@ use Rattle.fux_grid.specs.declared.exercise.Exercise.{Exercise}
 use Rattle.fux_grid.specs.Cells.{cell_in, pitch_of}
 use Rattle.fux_grid.specs.Columns.{earlier, newest_column}
 use Rattle.fux_grid.specs.Exercises.{columns_in, slot_of}
-use Rattle.rule_law.specs.AtOnce.{breaks_at_own_place, costs_at_own_place, newly_breaks-at_once, newly_costs-at_once}
+use Rattle.rule_law.proofs.AtOnce.{breaks_at_own_place, costs_at_own_place, newly_breaks-at_once, newly_costs-at_once}
 use Rattle.rule_law.specs.Bars.{begins_bar, begins_inner_bar}
 use Rattle.rule_law.specs.Forms.{IsOf, all_form, may_stand, pair_form, set_of_all, sets_of, voice_form}
 use Rattle.rule_law.specs.Growth.{newly}
@@ -30,7 +30,7 @@ use Rattle.rhythm_cadence.specs.Locality.{rhythm_breaks, rhythm_is_local, rhythm
 use Rattle.rhythm_cadence.specs.Parts.{newest_start}
 use Rattle.rhythm_cadence.specs.Patterns.{pattern_enough, repeats_bar, settles_pattern}
 use Rattle.rhythm_cadence.specs.Quavers.{quaver_enough, quaver_row}
-use Rattle.rhythm_cadence.specs.Quiet.{quiet_rows}
+use Rattle.rhythm_cadence.proofs.Quiet.{quiet_rows}
 use Rattle.rhythm_cadence.specs.Rows.{begins_last_bar, broken_in, enough_after, fits_ending, holds_of_pitch, is_final, may_go_on, near_rows, open_row, shape_row}
 use Rattle.rhythm_cadence.proofs.NewestBars.{newest_bar-more}
 use Rattle.rhythm_cadence.proofs.OrderlyReadings.{newly_broken}

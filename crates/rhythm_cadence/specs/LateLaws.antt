@@ -19,7 +19,7 @@ use Rattle.fux_grid.proofs.OrderlyLemmas.{orderly-fewer}
 use Rattle.rule_law.specs.After.{onset_pitch}
 use Rattle.rule_law.specs.Bars.{begins_bar}
 use Rattle.rule_law.specs.Growth.{EnoughStays}
-use Rattle.rule_law.specs.LateLaw.{StaysAhead, by_either, ends_when_whole, local_from_ahead, whole_same, whole_stays}
+use Rattle.rule_law.proofs.LateLaw.{StaysAhead, by_either, ends_when_whole, local_from_ahead, whole_same, whole_stays}
 use Rattle.rule_law.specs.Law.{both_true, local_from_row, test_from_below}
 use Rattle.rule_law.specs.Nearby.{RestsFirst}
 use Rattle.rule_law.specs.OrderlyLaw.{free_rests}

@@ -7,8 +7,8 @@ use Rattle.fux_grid.specs.declared.cell.Cell.{Cell}
 use Rattle.fux_grid.specs.declared.exercise.Exercise.{Exercise}
 use Rattle.fux_grid.specs.Exercises.{IsValid}
 use Rattle.penalty_sheet.specs.declared.sheet.Sheet.{Sheet}
-use Rattle.fux_judge.specs.Alive.{alive_if_unbroken, prefix_before}
-use Rattle.fux_judge.specs.Grows.{strict_break_grows}
+use Rattle.fux_judge.proofs.Alive.{alive_if_unbroken, prefix_before}
+use Rattle.fux_judge.proofs.Grows.{strict_break_grows}
 use Rattle.fux_judge.specs.Lawful.{IsAlive, IsLawful}
 use Rattle.fux_judge.specs.Penalties.{has_strict_break, newly_broken, penalty_of}
 use Rattle.fux_judge.specs.Rules.{rules_read}

@@ -8,10 +8,10 @@ use Rattle.rule_law.specs.Prefixes.{IsSetting}
 use Rattle.penalty_sheet.specs.declared.sheet.Sheet.{Sheet}
 use Rattle.fux_judge.specs.Gauges.{least_of}
 use Rattle.fux_judge.specs.Lawful.{IsAlive}
-use Rattle.fux_judge.specs.Least.{least_grows, paid_and_least_at_end}
+use Rattle.fux_judge.proofs.LeastLaws.{least_grows, paid_and_least_at_end}
 use Rattle.fux_judge.specs.Penalties.{paid, penalty_of}
 use Rattle.floor_tables.specs.Floors.{IsLive, floor_of, rest_of}
-use Rattle.floor_tables.specs.Grows as grows
+use Rattle.floor_tables.proofs.Grows as grows
 
 mapped_if_some : (f : ℕ → ℕ) (o : Option ℕ) → IsSome o → IsSome (option_map f o)
 mapped_if_some f None h = cc

@@ -17,7 +17,7 @@ use Rattle.fux_grid.specs.Order.{column_order}
 use Rattle.rule_law.specs.Growth.{any_below}
 use Rattle.rule_law.specs.Law.{first_true, second_true, both_true, below_from_test, test_from_below}
 use Rattle.fux_judge.specs.Penalties.{has_strict_break}
-use Rattle.fux_judge.specs.Ends.{none_below, from_none_below}
+use Rattle.fux_judge.proofs.Ends.{none_below, from_none_below}
 use Rattle.fux_judge.specs.Lawful.{IsAlive}
 use Rattle.species_space.specs.Paths.{columns_on, prefix_at, is_in_menus, column_follows, history_follows, is_alive_path, alive_parts, alive_from_parts, length-columns_on}
 

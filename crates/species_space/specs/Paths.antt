@@ -16,7 +16,7 @@ use Rattle.rule_law.specs.Law.{first_true, second_true}
 use Rattle.penalty_sheet.specs.declared.sheet.Sheet.{Sheet}
 use Rattle.fux_judge.specs.Rules.{rules_read}
 use Rattle.fux_judge.specs.Penalties.{has_strict_break, newly_broken}
-use Rattle.fux_judge.specs.Grows.{strict_break_grows}
+use Rattle.fux_judge.proofs.Grows.{strict_break_grows}
 use Rattle.floor_tables.specs.Floors.{floor_of}
 
 -- the columns on a path from column i on: each number chooses one of the column's menu

@@ -13,9 +13,9 @@ use Rattle.fux_grid.proofs.Histories.{reverse-push}
 use Rattle.fux_grid.proofs.MenuLemmas.{menu_of-contains}
 use Rattle.rule_law.specs.Prefixes.{GoesOn, IsPrefix}
 use Rattle.penalty_sheet.specs.declared.sheet.Sheet.{Sheet}
-use Rattle.fux_judge.specs.Alive.{alive_orderly, prefix_before}
+use Rattle.fux_judge.proofs.Alive.{alive_orderly, prefix_before}
 use Rattle.fux_judge.specs.Gauges.{least_of}
-use Rattle.fux_judge.specs.Grows.{paid_grows, strict_break_grows}
+use Rattle.fux_judge.proofs.Grows.{paid_grows, strict_break_grows}
 use Rattle.fux_judge.specs.Links.{last_column, link_of, newest_of}
 use Rattle.fux_judge.specs.Penalties.{has_strict_break, newly_broken, newly_paid, paid}
 use Rattle.fux_judge.specs.Rules.{rules_read}

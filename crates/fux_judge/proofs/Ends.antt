@@ -13,7 +13,7 @@ use Rattle.penalty_sheet.specs.Weights.{weight_of}
 use Rattle.fux_judge.specs.Rules.{rules_read, tolls_read, all_sets, is_broken, is_settled, cost_at, is_cost_settled}
 use Rattle.fux_judge.specs.Penalties.{is_strict_at, price_at, is_strictly_broken, has_break_settled_in, settled_tolls, settled_prices, charges_settled_in, tolls_at, prices_at, charges_of}
 use Rattle.fux_judge.specs.Lawful.{breaks_strictly}
-use Rattle.fux_judge.specs.Facts.{rule_settles_at_end, toll_settles_at_end}
+use Rattle.fux_judge.proofs.Facts.{rule_settles_at_end, toll_settles_at_end}
 
 below_other : (i n : ℕ) → i < suc n → (i == n) ≡ false → i < n
 below_other i n k q = grind (arith, nat_tests)

@@ -24,8 +24,8 @@ use Rattle.rule_law.specs.Forms as forms
 use Rattle.rule_law.specs.Growth.{newly}
 use Rattle.fux_judge.specs.Penalties.{has_strict_break, has_break_settled_in, newly_broken, newly_broken_at, newly_paid, paid, charges_settled_in, charges_of, is_strict_at}
 use Rattle.fux_judge.specs.Lawful.{breaks_strictly}
-use Rattle.fux_judge.specs.Ends.{none_below, unbroken_if_none_settled, none_settled_if_unbroken, settled_at_end}
-use Rattle.fux_judge.specs.Grows.{strict_break_grows, paid_grows, break_settled_grows, charges_settled_grow}
+use Rattle.fux_judge.proofs.Ends.{none_below, unbroken_if_none_settled, none_settled_if_unbroken, settled_at_end}
+use Rattle.fux_judge.proofs.Grows.{strict_break_grows, paid_grows, break_settled_grows, charges_settled_grow}
 
 -- a prefix without its last column, and with a column more
 pub prefix_before : (ex : Exercise) (p : List (List Cell)) (col : List Cell) → IsPrefix ex (p ++ col ∷ []) → IsPrefix ex p
