@@ -78,11 +78,6 @@ any_below-found f k (suc n) h e = at (k == n) refl (λ q. any_below-found f k n 
     at true q later = ap (λ b. any_below f n || b) (sym (ap f (eqb-true k n q)) ∙ e) ∙ or_true (any_below f n)
     at false q later = ap (λ b. b || f n) (later (below q))
 
--- a price of what is newly broken, in other words
-pub price_where : (n b : Bool) (x : ℕ) → (if n && b then x else 0) ≡ (if n then (if b then x else 0) else 0)
-price_where true b x = refl
-price_where false b x = refl
-
 -- without relax lines no late rule has a price
 pub no_late_prices : (ex : Exercise) (p : List (List Cell)) (col : List Cell) → ex.relax ≡ [] → 0 ≡ sum_by (prices_late ex p col) late_rules
 no_late_prices ex p col e =

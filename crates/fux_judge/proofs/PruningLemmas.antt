@@ -2,7 +2,7 @@
 use Rattle.std.proofs.Common.{◌≡◌, ℕ, ◌==◌, ◌&&◌, ◌||◌, Bool, true, false, Option, Some, None, List, [], ◌∷◌, ◌++◌, length, reverse, refl, ap, sym, ◌∙◌}
 use Rattle.std.specs.Prelude.{if◌then◌else◌, not}
 use Rattle.std.specs.List.{list_any, list_all}
-use Rattle.std.proofs.lemmas.Bool.{eqb-true}
+use Rattle.std.proofs.lemmas.Bool.{eqb-true, not-true}
 use Rattle.fux_grid.specs.declared.cell.Cell.{Cell}
 use Rattle.fux_grid.specs.declared.exercise.Exercise.{Exercise}
 use Rattle.fux_grid.specs.Columns.{newest_column}
@@ -66,11 +66,7 @@ unfolding rule_at
 all_settled_at_once = refl
 
 pub settled_at_once : (rule : ℕ) → reads_below rule ≡ true → is_late rule ≡ false
-settled_at_once rule h = not_from (is_late rule) (one_of (λ r. not (is_late r)) rule rules_below all_settled_at_once h)
-  where
-    not_from : (b : Bool) → not b ≡ true → b ≡ false
-    not_from true h = cc
-    not_from false h = refl
+settled_at_once rule h = not-true (is_late rule) (one_of (λ r. not (is_late r)) rule rules_below all_settled_at_once h)
 
 is_rhythmic : Option RuleCrate → Bool
 is_rhythmic (Some Rhythm) = true

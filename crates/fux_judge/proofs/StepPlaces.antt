@@ -3,7 +3,7 @@
 use Rattle.std.specs.Prelude.{◌≡◌, ℕ, zero, suc, ◌+◌, ◌-◌, ◌*◌, ◌<◌, ◌≤◌, Bool, true, false, not, ◌&&◌, ◌||◌, nat_lt, List, [], ◌∷◌, ◌++◌, length, if◌then◌else◌, refl}
 use Rattle.std.specs.List.{list_all, list_any, sum_by}
 use Rattle.std.proofs.Common.{ap, sym, ◌∙◌, arith, add-one}
-use Rattle.std.proofs.lemmas.Bool.{false_from_ne_true}
+use Rattle.std.proofs.lemmas.Bool.{false_from_ne_true, not-true}
 use Rattle.std.proofs.lemmas.Bool.Decides.{nat_tests}
 use Rattle.std.proofs.lemmas.List.{length-append}
 use Rattle.std.proofs.lemmas.List.Sums.{sum_by-cons}
@@ -236,10 +236,6 @@ module _ (ex : Exercise) (p : List (List Cell)) (col : List Cell) where
       sum_by-cons f x xs ∙ ap (λ n. n + sum_by f xs) (e x (first_true (test x) (list_all test xs) h))
       ∙ ap (λ n. g x + n) (sum_where test f g xs (second_true (test x) (list_all test xs) h) e) ∙ sym (sum_by-cons g x xs)
 
-  not_false : (b : Bool) → not b ≡ true → b ≡ false
-  not_false true h = cc
-  not_false false h = refl
-
   pub all_at_once : list_all (λ rule. not (is_late rule)) rules_at_once ≡ true
   unfolding rules_at_once
   all_at_once = list_all-kept (λ rule. not (is_late rule)) rules_read
@@ -256,7 +252,7 @@ module _ (ex : Exercise) (p : List (List Cell)) (col : List Cell) where
   prices_settled on =
       let of : ℕ → ℕ = λ rule. sum_below (prices_of_rule rule) (length p + 1) in
       prices_by_rules ∙ split_rules of
-      ∙ ap (λ n. n + sum_by of late_rules) (sum_where (λ rule. not (is_late rule)) of (prices_at_end ex p col) rules_at_once all_at_once (λ rule h. prices-at_once rule (not_false (is_late rule) h)))
+      ∙ ap (λ n. n + sum_by of late_rules) (sum_where (λ rule. not (is_late rule)) of (prices_at_end ex p col) rules_at_once all_at_once (λ rule h. prices-at_once rule (not-true (is_late rule) h)))
       ∙ ap (λ n. sum_by (prices_at_end ex p col) rules_at_once + n) (sum_where is_late of (prices_late ex p col) late_rules all_late (λ rule h. prices-late rule h on))
 
   pub tolls_all_at_once : list_all (λ toll. not (is_late_toll toll)) tolls_at_once ≡ true
@@ -317,7 +313,7 @@ module _ (ex : Exercise) (p : List (List Cell)) (col : List Cell) where
     tolls_by_number = sum_below-sum_by (λ toll i. new_toll ex sheet p col i toll) tolls_read (length p + 1)
 
     tolls_soon : sum_by toll_settled tolls_at_once ≡ tolls_at_end ex sheet p col
-    tolls_soon = sum_where (λ toll. not (is_late_toll toll)) toll_settled (toll_at_end ex sheet p col) tolls_at_once tolls_all_at_once (λ toll h. toll-at_once toll (not_false (is_late_toll toll) h))
+    tolls_soon = sum_where (λ toll. not (is_late_toll toll)) toll_settled (toll_at_end ex sheet p col) tolls_at_once tolls_all_at_once (λ toll h. toll-at_once toll (not-true (is_late_toll toll) h))
 
     tolls_parts : sum_below (new_tolls ex sheet p col) (length p + 1) ≡ tolls_at_end ex sheet p col + sum_by toll_settled late_tolls
     tolls_parts = tolls_by_number ∙ split_tolls toll_settled ∙ ap (λ n. n + sum_by toll_settled late_tolls) tolls_soon

@@ -4,7 +4,7 @@ use Rattle.std.proofs.Common.{arith}
 use Rattle.fux_grid.specs.declared.cell.Cell.{Cell}
 use Rattle.fux_grid.specs.declared.exercise.Exercise.{Exercise}
 use Rattle.fux_grid.specs.Columns.{newest_column}
-use Rattle.rule_law.specs.Forms.{IsOf, choose_form, voice_form, voice_sets_of}
+use Rattle.rule_law.specs.Forms.{IsOf, voice_form, voice_sets_of}
 use Rattle.rule_law.specs.Nearby.{previous_pitches, whole_of}
 use Rattle.rule_law.specs.Quiet.{is_quiet, quiet_cell, either_none}
 use Rattle.rule_law.specs.Rulebooks.{KeepsLaws, KeepsRuleLaws, KeepsTollLaws}

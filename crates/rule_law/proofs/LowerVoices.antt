@@ -93,9 +93,6 @@ same_below n a b e = record {
 
 -- so the words of two voices are the same of the first ones
 module _ (n : ℕ) (a b : List Cell) (same : IsSameBelow n a b) (v w : ℕ) (h : v < n) (k : w < n) where
-  pub starts-same : starts (cell_in a v) ≡ starts (cell_in b v)
-  starts-same = ap starts (same.cells v h)
-
   pub one_starts-same : one_starts a v w ≡ one_starts b v w
   one_starts-same = ap (λ c. starts c || starts (cell_in a w)) (same.cells v h) ∙ ap (λ c. starts (cell_in b v) || starts c) (same.cells w k)
 

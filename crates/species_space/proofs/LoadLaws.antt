@@ -111,11 +111,6 @@ module _ (ex : Exercise) (Kind : List ℕ → Type 0) (Of : List (List Cell) →
       subst (λ n. n ≤ count) (sym (length-map ways.paths (prefix_at ex)) ∙ ap length ways.there)
       (few ways.paths (paths-differ ways.paths (subst AllDiffer (sym ways.there) differ)) ways.kind)
 
-  pub few_paths : (count : ℕ) → HasAtMost Of count → tree.AtMost Kind count
-  few_paths count few paths differ kind =
-      subst (λ n. n ≤ count) (length-map paths (prefix_at ex))
-      (few (map (prefix_at ex) paths) (prefixes-differ paths kind differ) (all_lead paths kind))
-
 begun : (ex : Exercise) (path : List ℕ) → path ≢ [] → prefix_at ex path ≢ []
 begun ex [] h e = h refl
 begun ex (k ∷ path) h e = cc

@@ -6,6 +6,7 @@ use Rattle.std.proofs.Common.{ap, sym, ◌∙◌, subst, arith}
 use Rattle.std.proofs.lemmas.List.Elements.{Contains-get_or}
 use Rattle.std.proofs.lemmas.Bool.Decides.{nat_tests}
 use Rattle.std.specs.declared.cmp.Ordering.TheVariants.{Less}
+use Rattle.std.proofs.lemmas.Bool.{not-true, not-false}
 use Rattle.fux_grid.specs.declared.cell.Cell.{Cell}
 use Rattle.fux_grid.specs.declared.cell.Cell.TheVariants.{Rest}
 use Rattle.fux_grid.specs.declared.exercise.Exercise.{Exercise}
@@ -21,17 +22,9 @@ use Rattle.fux_judge.proofs.Ends.{none_below, from_none_below}
 use Rattle.fux_judge.specs.Lawful.{IsAlive}
 use Rattle.species_space.specs.Paths.{columns_on, prefix_at, is_in_menus, column_follows, history_follows, is_alive_path, alive_parts, alive_from_parts, length-columns_on}
 
-not_false : (b : Bool) → not b ≡ false → IsTrue b
-not_false true h = refl
-not_false false h = cc
-
 true_not : (b : Bool) → IsTrue b → not b ≡ false
 true_not true h = refl
 true_not false h = cc
-
-not_not : (b : Bool) → not b ≡ true → b ≡ false
-not_not true h = cc
-not_not false h = refl
 
 -- a cell that a column lacks is a rest
 past_end : (col : List Cell) (v : ℕ) → length col ≤ v → cell_in col v ≡ Rest
@@ -43,7 +36,7 @@ pub follows_from_test : (before next : List Cell) → column_follows before next
 follows_from_test before next h v = at (nat_lt v (length next)) refl
   where
     at : (b : Bool) → nat_lt v (length next) ≡ b → IsTrue (cell_follows (cell_in before v) (cell_in next v))
-    at true e = not_false (cell_follows (cell_in before v) (cell_in next v)) (none_below (λ v. not (cell_follows (cell_in before v) (cell_in next v))) (length next) (not_not (any_below (λ v. not (cell_follows (cell_in before v) (cell_in next v))) (length next)) h) v (below_from_test v (length next) e))
+    at true e = not-false (cell_follows (cell_in before v) (cell_in next v)) (none_below (λ v. not (cell_follows (cell_in before v) (cell_in next v))) (length next) (not-true (any_below (λ v. not (cell_follows (cell_in before v) (cell_in next v))) (length next)) h) v (below_from_test v (length next) e))
     at false e =
         let P : Cell → Type 0 = λ c. IsTrue (cell_follows (cell_in before v) c) in
         subst P (sym (past_end next v (grind (arith, nat_tests)))) refl

@@ -4,6 +4,7 @@ use Rattle.std.specs.List.{list_any}
 use Rattle.std.proofs.Common.{ap, sym, ◌∙◌, arith}
 use Rattle.std.proofs.lemmas.List.{length-append}
 use Rattle.std.proofs.lemmas.Bool.Decides.{nat_tests}
+use Rattle.std.proofs.lemmas.Bool.{or_parts, not-true}
 use Rattle.fux_grid.specs.declared.cell.Cell.{Cell}
 use Rattle.fux_grid.specs.declared.exercise.Exercise.{Exercise}
 use Rattle.fux_grid.specs.Cells.{cell_in, cell_follows}
@@ -123,10 +124,6 @@ pub record IsAlivePath (ex : Exercise) (path : List ℕ) : Type 0 where
   pub follows : history_follows (reverse (prefix_at ex path)) ≡ true
   pub alive : has_strict_break ex (prefix_at ex path) ≡ false
 
-not_true : (b : Bool) → not b ≡ true → b ≡ false
-not_true true h = cc
-not_true false h = refl
-
 pub alive_parts : (ex : Exercise) (path : List ℕ) → is_alive_path ex path ≡ true → IsAlivePath ex path
 alive_parts ex path h =
     let few = has_voices ex in
@@ -142,7 +139,7 @@ alive_parts ex path h =
       room = second_true few room two;
       menus = second_true (few && room) menus three;
       follows = second_true (few && room && menus) follows four;
-      alive = not_true (has_strict_break ex (prefix_at ex path)) (second_true (few && room && menus && follows) alive h);
+      alive = not-true (has_strict_break ex (prefix_at ex path)) (second_true (few && room && menus && follows) alive h);
     }
 
 pub alive_from_parts : (ex : Exercise) (path : List ℕ) → IsAlivePath ex path → is_alive_path ex path ≡ true
@@ -153,10 +150,6 @@ below_test n m = grind (arith, nat_tests)
 
 shorter_test : (n m : ℕ) → nat_lt n m ≡ true → nat_le n m ≡ true
 shorter_test n m h = grind (arith, nat_tests)
-
-or_false : (a b : Bool) → (a || b) ≡ false → (a ≡ false) × (b ≡ false)
-or_false true b h = cc
-or_false false b h = (refl, h)
 
 four_tests : (r w f b : Bool) → (r && (true && w) && (f && true) && not (false || b)) ≡ (r && w && f && not b)
 four_tests true true true b = refl
@@ -195,5 +188,5 @@ module _ (ex : Exercise) (path : List ℕ) (k : ℕ) where
         room = shorter_test (length path) (columns_in ex) (sym longer_room ∙ live.room);
         menus = first_true (is_in_menus ex 0 path) (nat_lt k (length (menu_of ex (length path)))) (sym longer_menus ∙ live.menus);
         follows = second_true (column_follows (newest_column (reverse (prefix_at ex path))) (column_at ex path k)) (history_follows (reverse (prefix_at ex path))) (sym longer_follows ∙ live.follows);
-        alive = (or_false (has_strict_break ex (prefix_at ex path)) (list_any (newly_broken ex (prefix_at ex path) (column_at ex path k)) rules_read) (sym longer_breaks ∙ live.alive)).0;
+        alive = (or_parts (has_strict_break ex (prefix_at ex path)) (list_any (newly_broken ex (prefix_at ex path) (column_at ex path k)) rules_read) (sym longer_breaks ∙ live.alive)).0;
       }
