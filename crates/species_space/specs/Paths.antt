@@ -65,6 +65,33 @@ width_at ex path = length (menu_of ex (length path))
 abbrev pub column_at : Exercise → List ℕ → ℕ → List Cell
 column_at ex path k = slice_index_or (menu_of ex (length path)) k []
 
+-- the child of this number is dead, or no better than the best leaf so far: its floor is no lower than that leaf's value
+abbrev pub IsNoBetter : Exercise → Sheet → List ℕ → Option ℕ → ℕ → Type 0
+IsNoBetter ex sheet path best k =
+    (floor : ℕ) → live_at ex sheet (path ++ k ∷ []) ≡ Some floor → IsSomeAnd best (λ value. value ≤ floor)
+
+-- and so is each from one number up to another
+abbrev pub ArePassed : Exercise → Sheet → List ℕ → Option ℕ → ℕ → ℕ → Type 0
+ArePassed ex sheet path best from to = (k : ℕ) → from ≤ k → k < to → IsNoBetter ex sheet path best k
+
+-- a path that is longer by a number is alive where the path is, it has room, the number is in the menu, and its column follows
+-- and settles no strict break
+abbrev pub goes_on : Exercise → List ℕ → ℕ → Bool
+goes_on ex path k =
+    nat_lt (length path) (columns_in ex) && nat_lt k (width_at ex path)
+    && column_follows (newest_column (reverse (prefix_at ex path))) (column_at ex path k)
+    && not (list_any (newly_broken ex (prefix_at ex path) (column_at ex path k)) rules_read)
+
+-- what makes a path alive, test by test
+pub record IsAlivePath (ex : Exercise) (path : List ℕ) : Type 0 where
+  pub voices : has_voices ex ≡ true
+  pub room : nat_le (length path) (columns_in ex) ≡ true
+  pub menus : is_in_menus ex 0 path ≡ true
+  pub follows : history_follows (reverse (prefix_at ex path)) ≡ true
+  pub alive : has_strict_break ex (prefix_at ex path) ≡ false
+
+-- ---- what holds of them
+
 columns_on-append : (ex : Exercise) (i : ℕ) (path : List ℕ) (k : ℕ) → columns_on ex i (path ++ k ∷ []) ≡ columns_on ex i path ++ slice_index_or (menu_of ex (i + length path)) k [] ∷ []
 columns_on-append ex i [] k =
     let e : i ≡ i + 0 = omega arith in
@@ -98,31 +125,6 @@ is_in_menus-append ex i (l ∷ path) k =
     let e : suc i + length path ≡ i + suc (length path) = omega arith in
     ap (λ b. nat_lt l (length (menu_of ex i)) && b) (is_in_menus-append ex (suc i) path k ∙ ap (λ j. is_in_menus ex (suc i) path && nat_lt k (length (menu_of ex j))) e)
     ∙ sym (and_right (nat_lt l (length (menu_of ex i))) (is_in_menus ex (suc i) path) (nat_lt k (length (menu_of ex (i + suc (length path))))))
-
--- the child of this number is dead, or no better than the best leaf so far: its floor is no lower than that leaf's value
-abbrev pub IsNoBetter : Exercise → Sheet → List ℕ → Option ℕ → ℕ → Type 0
-IsNoBetter ex sheet path best k =
-    (floor : ℕ) → live_at ex sheet (path ++ k ∷ []) ≡ Some floor → IsSomeAnd best (λ value. value ≤ floor)
-
--- and so is each from one number up to another
-abbrev pub ArePassed : Exercise → Sheet → List ℕ → Option ℕ → ℕ → ℕ → Type 0
-ArePassed ex sheet path best from to = (k : ℕ) → from ≤ k → k < to → IsNoBetter ex sheet path best k
-
--- a path that is longer by a number is alive where the path is, it has room, the number is in the menu, and its column follows
--- and settles no strict break
-abbrev pub goes_on : Exercise → List ℕ → ℕ → Bool
-goes_on ex path k =
-    nat_lt (length path) (columns_in ex) && nat_lt k (width_at ex path)
-    && column_follows (newest_column (reverse (prefix_at ex path))) (column_at ex path k)
-    && not (list_any (newly_broken ex (prefix_at ex path) (column_at ex path k)) rules_read)
-
--- what makes a path alive, test by test
-pub record IsAlivePath (ex : Exercise) (path : List ℕ) : Type 0 where
-  pub voices : has_voices ex ≡ true
-  pub room : nat_le (length path) (columns_in ex) ≡ true
-  pub menus : is_in_menus ex 0 path ≡ true
-  pub follows : history_follows (reverse (prefix_at ex path)) ≡ true
-  pub alive : has_strict_break ex (prefix_at ex path) ≡ false
 
 pub alive_parts : (ex : Exercise) (path : List ℕ) → is_alive_path ex path ≡ true → IsAlivePath ex path
 alive_parts ex path h =
