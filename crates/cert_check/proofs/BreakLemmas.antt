@@ -11,8 +11,8 @@ use Rattle.fux_grid.specs.declared.cell.Cell.{Cell}
 use Rattle.fux_grid.specs.declared.exercise.Exercise.{Exercise}
 use Rattle.fux_grid.specs.Orderly.{IsOrderly}
 use Rattle.fux_grid.proofs.OrderlyLemmas.{orderly-fewer}
-use Rattle.fux_judge.specs.Alive.{in_shape}
-use Rattle.fux_judge.specs.Ends.{from_none_below}
+use Rattle.fux_judge.proofs.Alive.{in_shape}
+use Rattle.fux_judge.proofs.Ends.{from_none_below}
 use Rattle.fux_judge.specs.Penalties.{is_strict_at, newly_broken, newly_broken_at}
 use Rattle.fux_judge.specs.Rules.{all_sets, is_broken, is_read, is_settled, rule_at, rules_read}
 use Rattle.rhythm_cadence.proofs.OrderlyReadings.{orderly-unbroken}

@@ -4,14 +4,14 @@ use Rattle.std.proofs.Common.{◌≡◌, ℕ, ◌+◌, ◌≤◌, false, List, [
 use Rattle.std.specs.Prelude.{IsSome, IsSomeAnd, option_map}
 use Rattle.cert_law.proofs.Prefixes.{append-middle}
 use Rattle.floor_tables.specs.Floors.{IsLive, floor_of}
-use Rattle.floor_tables.specs.Grows.{floor_grows, live_before, rest_at_end}
+use Rattle.floor_tables.proofs.Grows.{floor_grows, live_before, rest_at_end}
 use Rattle.fux_grid.specs.declared.cell.Cell.{Cell}
 use Rattle.fux_grid.specs.declared.exercise.Exercise.{Exercise}
 use Rattle.fux_grid.specs.Exercises.{IsValid}
-use Rattle.fux_judge.specs.Alive.{alive_if_unbroken}
+use Rattle.fux_judge.proofs.Alive.{alive_if_unbroken}
 use Rattle.fux_judge.specs.Gauges.{least_of}
 use Rattle.fux_judge.specs.Lawful.{IsLawful}
-use Rattle.fux_judge.specs.Least.{least_grows, paid_and_least_at_end}
+use Rattle.fux_judge.proofs.LeastLaws.{least_grows, paid_and_least_at_end}
 use Rattle.fux_judge.specs.Penalties.{has_strict_break, paid, penalty_of}
 use Rattle.penalty_sheet.specs.declared.sheet.Sheet.{Sheet}
 

@@ -17,8 +17,8 @@ use Rattle.fux_grid.specs.Exercises.{columns_in}
 use Rattle.fux_grid.specs.Menus.{IsInMenu, menu_of}
 use Rattle.fux_grid.proofs.Histories.{reverse-push}
 use Rattle.fux_grid.proofs.MenuLemmas.{menu_of-contains}
-use Rattle.fux_judge.specs.Alive.{alive_if_unbroken}
-use Rattle.fux_judge.specs.Ends.{from_none_below, none_below}
+use Rattle.fux_judge.proofs.Alive.{alive_if_unbroken}
+use Rattle.fux_judge.proofs.Ends.{from_none_below, none_below}
 use Rattle.fux_judge.specs.Lawful.{IsLawful}
 use Rattle.fux_judge.specs.Penalties.{breaks_by_column, has_strict_break, newly_broken}
 use Rattle.fux_judge.specs.Rules.{is_read, rules_read}

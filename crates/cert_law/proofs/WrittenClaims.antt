@@ -31,7 +31,7 @@ use Rattle.fux_grid.specs.Menus.{IsInMenu, menu_of}
 use Rattle.fux_grid.specs.Order.{IsEarlier}
 use Rattle.fux_grid.proofs.MenuLemmas.{menu_of-contains}
 use Rattle.fux_grid.proofs.OrderLemmas.{earlier-cases, earlier-itself}
-use Rattle.fux_judge.specs.Alive.{alive_orderly, unbroken_if_alive}
+use Rattle.fux_judge.proofs.Alive.{alive_orderly, unbroken_if_alive}
 use Rattle.fux_judge.specs.Lawful.{IsLawful}
 use Rattle.fux_judge.specs.Penalties.{has_strict_break, newly_broken, penalty_of}
 use Rattle.fux_judge.specs.Rules.{is_read, rules_read}

@@ -22,7 +22,7 @@ use Rattle.dissonance_rules.specs.Book.{at_once_row, book, is_late, late_count, 
 use Rattle.dissonance_rules.specs.ClashLaws.{passing_enough_stays, resolution_enough_stays}
 use Rattle.dissonance_rules.specs.Clashes.{clash_enough, clash_row, clash_rule}
 use Rattle.dissonance_rules.specs.Locality.{at_once_is_local, clash_is_local, clash_settles_at_end, cost_is_local, cost_settles_at_end}
-use Rattle.dissonance_rules.specs.Quiet.{quiet_rows, quiet_tolls}
+use Rattle.dissonance_rules.proofs.Quiet.{quiet_rows, quiet_tolls}
 use Rattle.dissonance_rules.specs.Rows.{broken_in}
 use Rattle.rule_law.specs.Law.{at_once_settles}
 use Rattle.dissonance_rules.proofs.LatePlaces.{clash_places}

@@ -11,7 +11,7 @@ use Rattle.fux_grid.specs.Exercises.{columns_in, slot_of, species_in}
 use Rattle.fux_grid.specs.Cells.{cell_in, first_of, onsets_from}
 use Rattle.fux_grid.specs.Menus.{IsInMenu}
 use Rattle.rule_law.specs.After.{onsets_after, second_of}
-use Rattle.rule_law.specs.AtOnce.{breaks_at_own_place}
+use Rattle.rule_law.proofs.AtOnce.{breaks_at_own_place}
 use Rattle.rule_law.specs.Bars.{begins_bar}
 use Rattle.rule_law.specs.Growth.{newly}
 use Rattle.rule_law.specs.Places.{reading_of, settled_by}

@@ -14,7 +14,7 @@ use Rattle.fux_grid.specs.Exercises.{columns_in, slot_of}
 use Rattle.fux_grid.specs.Orderly.{IsOrderly}
 use Rattle.fux_grid.proofs.Histories.{earlier-append, get_or-earlier}
 use Rattle.fux_grid.proofs.OrderlyLemmas.{orderly-fewer}
-use Rattle.rule_law.specs.AtOnce.{newly_there}
+use Rattle.rule_law.proofs.AtOnce.{newly_there}
 use Rattle.rule_law.specs.Bars.{begins_bar}
 use Rattle.rule_law.specs.Growth.{newly}
 use Rattle.rule_law.specs.Newest.{AreNewestOf}

@@ -3,7 +3,9 @@ pub mod KeptLemmas
 pub mod KeptReadings
 pub mod LatePlaces
 pub mod LateReadings
+pub mod LowerVoices
 pub mod NotesAhead
 pub mod OffBar
+pub mod Quiet
 pub mod ToldNotes
 pub mod ToldPlaces

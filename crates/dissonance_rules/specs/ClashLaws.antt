@@ -1,8 +1,8 @@
 -- S15 and S20 wait for later columns. Once settled they read the same in each prefix that goes on, and so in each setting; S19 and S21 do at once.
-use Rattle.std.specs.Prelude.{◌≡◌, ◌≢◌, ℕ, suc, ◌+◌, ◌-◌, ◌*◌, ◌<◌, ◌≤◌, Bool, true, false, not, ◌&&◌, ◌||◌, nat_le, nat_lt, List, [], ◌∷◌, ◌++◌, Option, Some, None, is_some, IsTrue, length, drop, slice_index_or, if◌then◌else◌, refl}
+use Rattle.std.specs.Prelude.{◌≡◌, ◌≢◌, ℕ, suc, ◌+◌, ◌-◌, ◌*◌, ◌<◌, ◌≤◌, Bool, true, false, not, ◌&&◌, ◌||◌, nat_le, nat_lt, List, [], ◌∷◌, ◌++◌, Option, Some, None, is_some, length, drop, slice_index_or, if◌then◌else◌, refl}
 use Rattle.std.proofs.Common.{ap, sym, ◌∙◌, subst, arith}
 use Rattle.std.proofs.Math.ListN.{get_or-append}
-use Rattle.std.proofs.lemmas.Bool.{or_parts}
+use Rattle.std.proofs.lemmas.Bool.{or_parts, not-true, or_right}
 use Rattle.std.proofs.lemmas.Bool.Decides.{nat_tests}
 use Rattle.std.proofs.lemmas.List.{append-nil, get_or-append-add, length-append, length-drop, map-append}
 use Rattle.fux_pitch.specs.declared.pitch.Pitch.{Pitch}
@@ -17,8 +17,7 @@ use Rattle.fux_grid.specs.Menus.{IsInMenu}
 use Rattle.rule_law.specs.After.{next_onset, onset_pitch, onsets_after, second_next_onset, second_of}
 use Rattle.rule_law.specs.Bars.{begins_bar}
 use Rattle.rule_law.specs.Growth.{EnoughStays}
-use Rattle.rule_law.specs.LateLaw.{StaysAhead, ends_when_whole, local_from_ahead, local_or_whole, whole_stays}
-use Rattle.rule_law.specs.Law.{local_from_row}
+use Rattle.rule_law.proofs.LateLaw.{StaysAhead, ends_when_whole, local_from_ahead, local_or_whole, whole_stays}
 use Rattle.rule_law.specs.Places.{IsLocal, IsUndisturbed, SettlesAtEnd, reading_of, settled_by}
 use Rattle.rule_law.specs.Prefixes.{GoesOn}
 use Rattle.rule_law.specs.Terms.{is_clean, previous_pitch, starts}
@@ -26,7 +25,7 @@ use Rattle.rule_law.specs.Voices.{holds_of_pair, is_free, pair_of}
 use Rattle.rule_law.specs.Ways.{holds_some_way, on_some_way}
 use Rattle.rule_law.specs.Whole.{is_whole}
 use Rattle.rule_law.proofs.NextPitch.{last_bar_holds}
-use Rattle.dissonance_rules.specs.Clashes.{clash_enough, clash_row, passing_enough, resolution_enough}
+use Rattle.dissonance_rules.specs.Clashes.{clash_row, passing_enough, resolution_enough}
 use Rattle.dissonance_rules.specs.Ligatures.{is_suspended, resolves}
 use Rattle.dissonance_rules.specs.Passing.{clashes_badly, has_notes_after, has_ornaments, is_cambiata, is_good, is_good_note, is_neighbor, is_open_clash, is_passing, next_is_clean, reaches_last_bar, starts_clean, starts_in_clash}
 
@@ -223,13 +222,9 @@ two_ways true true false o1 o2 x1 y1 x2 y2 h f g = ap (λ b. b || false) (f refl
 two_ways true true true o1 o2 x1 y1 x2 y2 h f g =
     ap (λ b. b || x2) (f refl (or_parts o1 o2 h).0) ∙ ap (λ b. y1 || b) (g refl (or_parts o1 o2 h).1)
 
-closed_from : (b : Bool) → IsTrue (not b) → b ≡ false
-closed_from true h = cc
-closed_from false h = refl
-
 passing_stays_ahead : (ex : Exercise) (voices : ℕ) → StaysAhead ex (clash_row 15 ex voices) (passing_enough ex voices)
 passing_stays_ahead ex voices p t i on here h =
-    at (pair_of voices) (closed_from (on_some_way ex (is_open_clash ex i (slice_index_or p i []) (drop (i + 1) p)) voices) h)
+    at (pair_of voices) (not-true (on_some_way ex (is_open_clash ex i (slice_index_or p i []) (drop (i + 1) p)) voices) h)
   where
     at : (pair : Option (ℕ × ℕ)) → holds_of_pair ex (holds_some_way ex (is_open_clash ex i (slice_index_or p i []) (drop (i + 1) p))) pair ≡ false → holds_of_pair ex (holds_some_way ex (clashes_badly ex i (earlier p i) (slice_index_or p i []) (drop (i + 1) p ++ t))) pair ≡ holds_of_pair ex (holds_some_way ex (clashes_badly ex i (earlier p i) (slice_index_or p i []) (drop (i + 1) p))) pair
     at None k = refl
@@ -240,22 +235,11 @@ passing_stays_ahead ex voices p t i on here h =
 pub passing_is_local : (ex : Exercise) (voices : ℕ) → IsLocal ex (reading_of (clash_row 15 ex voices)) (settled_by (passing_enough ex voices))
 passing_is_local ex voices = local_from_ahead ex (clash_row 15 ex voices) (passing_enough ex voices) (passing_stays_ahead ex voices)
 
--- the others are settled at once
-pub preparation_is_local : (ex : Exercise) (voices : ℕ) → IsLocal ex (reading_of (clash_row 19 ex voices)) (settled_by (clash_enough 19 ex voices))
-preparation_is_local ex voices = local_from_row ex (clash_row 19 ex voices) (clash_enough 19 ex voices) (λ i behind now ahead t h. refl)
-
-pub suspension_is_local : (ex : Exercise) (voices : ℕ) → IsLocal ex (reading_of (clash_row 21 ex voices)) (settled_by (clash_enough 21 ex voices))
-suspension_is_local ex voices = local_from_row ex (clash_row 21 ex voices) (clash_enough 21 ex voices) (λ i behind now ahead t h. refl)
-
 -- ---- what is settled stays so, and in a list of all columns each is settled
-
-or_second : (a b : Bool) → b ≡ true → (a || b) ≡ true
-or_second true b h = refl
-or_second false b h = h
 
 or_each : (a b c d : Bool) → (a ≡ true → c ≡ true) → (b ≡ true → d ≡ true) → (a || b) ≡ true → (c || d) ≡ true
 or_each true b c d f g h = ap (λ x. x || d) (f refl)
-or_each false b c d f g h = or_second c d (g h)
+or_each false b c d f g h = or_right c d (g h)
 
 four_stay : (ahead t : List (List Cell)) → nat_le 4 (length ahead) ≡ true → nat_le 4 (length (ahead ++ t)) ≡ true
 four_stay ahead t h =
@@ -269,7 +253,7 @@ resolution_enough_stays ex i behind now ahead t h =
 
 pub resolution_settles_at_end : (ex : Exercise) → SettlesAtEnd ex (settled_by (resolution_enough ex))
 resolution_settles_at_end ex =
-    ends_when_whole ex (resolution_enough ex) (λ i behind now ahead whole. or_second (nat_le 4 (length ahead)) (is_whole ex i ahead) whole)
+    ends_when_whole ex (resolution_enough ex) (λ i behind now ahead whole. or_right (nat_le 4 (length ahead)) (is_whole ex i ahead) whole)
 
 -- a clash that isn't open stays so
 some-append : (xs ys : List Onset) → is_some (first_of xs) ≡ true → is_some (first_of (xs ++ ys)) ≡ true
@@ -302,7 +286,7 @@ closed_stays ex i now ahead t v w h =
     at : (c n l n' l' : Bool) → (n ≡ true → n' ≡ true) → (l ≡ true → l' ≡ true) → (c && not (n || l)) ≡ false → (c && not (n' || l')) ≡ false
     at false n l n' l' f g k = refl
     at true true l n' l' f g k = ap (λ b. not (b || l')) (f refl)
-    at true false true n' l' f g k = ap not (or_second n' l' (g refl))
+    at true false true n' l' f g k = ap not (or_right n' l' (g refl))
     at true false false n' l' f g k = cc
 
 ways_stay : (there fv fw o1 o2 x1 x2 : Bool) → (o1 ≡ false → x1 ≡ false) → (o2 ≡ false → x2 ≡ false) → (there && ((fv && o1) || (fw && o2))) ≡ false → (there && ((fv && x1) || (fw && x2))) ≡ false
@@ -318,7 +302,7 @@ ways_stay there fv fw o1 o2 x1 x2 f g h =
 
 pub passing_enough_stays : (ex : Exercise) (voices : ℕ) → EnoughStays (passing_enough ex voices)
 passing_enough_stays ex voices i behind now ahead t h =
-    ap not (at (pair_of voices) (closed_from (on_some_way ex (is_open_clash ex i now ahead) voices) h))
+    ap not (at (pair_of voices) (not-true (on_some_way ex (is_open_clash ex i now ahead) voices) h))
   where
     at : (pair : Option (ℕ × ℕ)) → holds_of_pair ex (holds_some_way ex (is_open_clash ex i now ahead)) pair ≡ false → holds_of_pair ex (holds_some_way ex (is_open_clash ex i now (ahead ++ t))) pair ≡ false
     at None k = refl
@@ -338,7 +322,7 @@ closed_at_end ex i now ahead v w h = at (starts_in_clash now v w) (has_notes_aft
   where
     at : (c n l : Bool) → l ≡ true → (c && not (n || l)) ≡ false
     at false n l e = refl
-    at true n l e = ap not (or_second n l e)
+    at true n l e = ap not (or_right n l e)
 
 pub passing_settles_at_end : (ex : Exercise) (voices : ℕ) → SettlesAtEnd ex (settled_by (passing_enough ex voices))
 passing_settles_at_end ex voices =

@@ -5,7 +5,5 @@ pub mod Clashes
 pub mod Kept
 pub mod Ligatures
 pub mod Locality
-pub mod LowerVoices
 pub mod Passing
-pub mod Quiet
 pub mod Rows

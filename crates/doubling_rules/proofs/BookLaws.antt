@@ -5,7 +5,7 @@ use Rattle.std.proofs.Common.{ap, arith}
 use Rattle.fux_grid.specs.declared.cell.Cell.{Cell}
 use Rattle.fux_grid.specs.declared.exercise.Exercise.{Exercise}
 use Rattle.fux_grid.specs.Cells.{cell_in}
-use Rattle.rule_law.specs.AtOnce.{breaks_where_it_may, costs_where_it_may}
+use Rattle.rule_law.proofs.AtOnce.{breaks_where_it_may, costs_where_it_may}
 use Rattle.rule_law.specs.Bars.{begins_bar, begins_inner_bar}
 use Rattle.rule_law.specs.Forms.{pair_form}
 use Rattle.rule_law.specs.Pairs.{one_starts}

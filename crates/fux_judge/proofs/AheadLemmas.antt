@@ -2,7 +2,7 @@
 use Rattle.std.proofs.Common.{◌≡◌, ℕ, zero, suc, ◌+◌, ◌<◌, ◌≤◌, Bool, true, false, ◌&&◌, ◌||◌, cond, List, refl, ap, sym, ◌∙◌, subst, arith, inl, inr}
 use Rattle.std.specs.Prelude.{pos, int_le, not, count_by, Contains}
 use Rattle.std.specs.List.{list_all, range_with_len}
-use Rattle.std.proofs.lemmas.Bool.{and_from, cases_lt}
+use Rattle.std.proofs.lemmas.Bool.{and_from, cases_lt, and_right}
 use Rattle.std.proofs.lemmas.Bool.Decides.{nat_tests}
 use Rattle.std.proofs.lemmas.Int.{ints}
 use Rattle.std.proofs.lemmas.List.Sums.{sum_by-cons}
@@ -21,10 +21,6 @@ use Rattle.rule_law.specs.Gauges.{menu_starts}
 use Rattle.rule_law.specs.Terms.{starts}
 use Rattle.rule_law.proofs.MenuStarts.{any_only}
 use Rattle.rule_law.proofs.NextPitch.{start_allowed}
-
-pub second_true : (a b : Bool) → b ≡ true → (a || b) ≡ true
-second_true true b h = refl
-second_true false b h = h
 
 -- each of some numbers passes where all below the limit do
 pub all_from : (test : ℕ → Bool) (i n limit : ℕ) → i + n ≤ limit → ((j : ℕ) → j < limit → test j ≡ true) → list_all test (range_with_len i n) ≡ true
@@ -55,15 +51,11 @@ pub not_all : (test : ℕ → Bool) (i n j : ℕ) → i ≤ j → j < i + n → 
 not_all test i zero j low high e = absurd (omega (arith, low, high))
 not_all test i (suc n) j low high e =
     elim (cases_lt i j) [
-      | inl before ↦ second_false (test i) (list_all test (range_with_len (i + 1) n)) (not_all test (i + 1) n j (omega (arith, before)) (omega (arith, high)) e)
+      | inl before ↦ and_right (test i) (list_all test (range_with_len (i + 1) n)) (not_all test (i + 1) n j (omega (arith, before)) (omega (arith, high)) e)
       | inr here ↦
           let same : i ≡ j = omega (arith, low, here) in
           ap (λ b. b && list_all test (range_with_len (i + 1) n)) (ap test same ∙ e)
     ]
-  where
-    second_false : (a b : Bool) → b ≡ false → (a && b) ≡ false
-    second_false true b h = h
-    second_false false b h = refl
 
 -- a key below the high end, and one that isn't
 pub under_end : (key high : ℕ) (p : Pitch) → pos high ≡ key_of p → key < high → int_le (key_of p) (pos key) ≡ false

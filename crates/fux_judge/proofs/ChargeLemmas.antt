@@ -8,7 +8,7 @@ use Rattle.fux_grid.specs.Cells.{cell_in}
 use Rattle.fux_grid.specs.Columns.{line}
 use Rattle.rule_law.specs.Growth.{sum_below, sum_below-same}
 use Rattle.rule_law.specs.Law.{reading-at_end}
-use Rattle.rule_law.specs.LowerVoices.{same_below}
+use Rattle.rule_law.proofs.LowerVoices.{same_below}
 use Rattle.rule_law.specs.Nearby.{pitch_at, previous_pitches}
 use Rattle.rule_law.specs.Terms.{previous_pitch}
 use Rattle.rule_law.specs.Voices.{is_free}
@@ -18,7 +18,8 @@ use Rattle.penalty_sheet.specs.Weights.{weight_of}
 use Rattle.fux_judge.specs.Charges.{stands, tolls_of_melody, tolls_of_pairs, voice_charge, voice_charges, voice_toll}
 use Rattle.fux_judge.specs.Penalties.{newly_paid}
 use Rattle.fux_judge.specs.Rules.{costs, cost_at, toll_at, tolls_at_once, tolls_read}
-use Rattle.fux_judge.specs.Steps.{toll_at_end, tolls_at_end, tolls_within}
+use Rattle.fux_judge.specs.Steps.{toll_at_end, tolls_at_end}
+use Rattle.fux_judge.proofs.StepPlaces.{tolls_within}
 
 -- so many of four, by a weight, is the weight for each of them
 weighed : (a b c d : Bool) (w : ℕ) → (0 + (if a then 1 else 0) + (if b then 1 else 0) + (if c then 1 else 0) + (if d then 1 else 0)) * w ≡ (if a then w else 0) + (if b then w else 0) + (if c then w else 0) + (if d then w else 0)

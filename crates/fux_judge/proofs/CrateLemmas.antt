@@ -1,7 +1,7 @@
 -- A number is read as the crate that has it reads it.
 use Rattle.std.proofs.Common.{◌≡◌, ℕ, ◌<◌, ◌==◌, Bool, true, false, Option, Some, None, refl, ap, sym, ◌∙◌, subst}
 use Rattle.std.specs.Prelude.{if◌then◌else◌, not}
-use Rattle.std.proofs.lemmas.Bool.{eqb-true}
+use Rattle.std.proofs.lemmas.Bool.{eqb-true, cond-true, not-false}
 use Rattle.fux_grid.specs.declared.exercise.Exercise.{Exercise}
 use Rattle.rule_law.specs.Growth.{any_below}
 use Rattle.rule_law.specs.Rulebooks.{RuleRow, TollRow, no_rule, no_toll}
@@ -19,12 +19,8 @@ use Rattle.doubling_rules.specs.Locality as doubling_law
 use Rattle.fux_judge.specs.declared.numbers.RuleCrate.{RuleCrate}
 use Rattle.fux_judge.specs.declared.numbers.RuleCrate.TheVariants.{Melody, Motion, Dissonance, Rhythm, Doubling}
 use Rattle.fux_judge.specs.Crates.{crate_with, crate_with_toll, rule_by, toll_by}
-use Rattle.fux_judge.specs.Ends.{none_below}
+use Rattle.fux_judge.proofs.Ends.{none_below}
 use Rattle.fux_judge.specs.Rules.{breaks, enough, is_late, is_late_toll, is_of_melody, rule_at, toll_at}
-
-first : {A : Type 0} (b : Bool) (x y : A) → b ≡ true → (if b then x else y) ≡ x
-first true x y h = refl
-first false x y h = cc
 
 -- the books as one read a number as its crate does
 rule_by_crate : (rule : ℕ) → rule_at rule ≡ rule_by (crate_with rule) rule
@@ -90,7 +86,7 @@ module _ (toll : ℕ) (crate : Option RuleCrate) (its : crate_with_toll toll ≡
 
 -- a rule of melody is in the crate of melody
 pub in_melody : (rule : ℕ) → is_of_melody rule ≡ true → crate_with rule ≡ Some Melody
-in_melody rule h = first (is_of_melody rule) (Some Melody) _ h
+in_melody rule h = cond-true (is_of_melody rule) (Some Melody) _ h
 
 -- a toll that none of them has is in none
 pub in_none : (toll : ℕ) → melody.has_toll toll ≡ false → motion.has_toll toll ≡ false → dissonance.has_toll toll ≡ false → rhythm.has_toll toll ≡ false → doubling.has_toll toll ≡ false → crate_with_toll toll ≡ None
@@ -166,8 +162,4 @@ none_uncovered = refl
 
 -- a crate covers the rules that its book has
 pub covers : (rule : ℕ) (crate : Option RuleCrate) → rule < 256 → crate_with rule ≡ crate → covered_by crate rule ≡ true
-covers rule crate h its = sym (ap (λ c. covered_by c rule) its) ∙ not_not (covered_by (crate_with rule) rule) (none_below (λ r. not (covered_by (crate_with r) r)) 256 none_uncovered rule h)
-  where
-    not_not : (b : Bool) → not b ≡ false → b ≡ true
-    not_not true e = refl
-    not_not false e = cc
+covers rule crate h its = sym (ap (λ c. covered_by c rule) its) ∙ not-false (covered_by (crate_with rule) rule) (none_below (λ r. not (covered_by (crate_with r) r)) 256 none_uncovered rule h)

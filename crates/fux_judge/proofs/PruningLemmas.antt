@@ -2,24 +2,25 @@
 use Rattle.std.proofs.Common.{◌≡◌, ℕ, ◌==◌, ◌&&◌, ◌||◌, Bool, true, false, Option, Some, None, List, [], ◌∷◌, ◌++◌, length, reverse, refl, ap, sym, ◌∙◌}
 use Rattle.std.specs.Prelude.{if◌then◌else◌, not}
 use Rattle.std.specs.List.{list_any, list_all}
-use Rattle.std.proofs.lemmas.Bool.{eqb-true}
+use Rattle.std.proofs.lemmas.Bool.{eqb-true, not-true}
 use Rattle.fux_grid.specs.declared.cell.Cell.{Cell}
 use Rattle.fux_grid.specs.declared.exercise.Exercise.{Exercise}
 use Rattle.fux_grid.specs.Columns.{newest_column}
 use Rattle.rule_law.specs.Law.{first_true, second_true, reading-at_end}
-use Rattle.rule_law.specs.LowerVoices.{IsSameBelow, is_below, same_below}
+use Rattle.rule_law.proofs.LowerVoices.{IsSameBelow, same_below}
 use Rattle.rule_law.specs.Nearby.{previous_pitches, whole_of}
 use Rattle.rule_law.specs.Places.{Row}
 use Rattle.melody_rules.specs.Rows as melody
 use Rattle.motion_rules.specs.Rows as motion
 use Rattle.dissonance_rules.specs.Rows as dissonance
 use Rattle.rhythm_cadence.specs.Rows as rhythm
-use Rattle.melody_rules.specs.LowerVoices as melody_below
-use Rattle.motion_rules.specs.LowerVoices as motion_below
-use Rattle.dissonance_rules.specs.LowerVoices as dissonance_below
-use Rattle.rhythm_cadence.specs.LowerVoices as rhythm_below
+use Rattle.melody_rules.proofs.LowerVoices as melody_below
+use Rattle.motion_rules.proofs.LowerVoices as motion_below
+use Rattle.dissonance_rules.proofs.LowerVoices as dissonance_below
+use Rattle.rhythm_cadence.proofs.LowerVoices as rhythm_below
 use Rattle.rule_law.specs.Forms as forms
 use Rattle.rule_law.specs.Rulebooks.{RuleRow, no_rule}
+use Rattle.rule_law.specs.Voices.{is_below}
 use Rattle.melody_rules.specs.Book as melody_book
 use Rattle.motion_rules.specs.Book as motion_book
 use Rattle.dissonance_rules.specs.Book as dissonance_book
@@ -30,7 +31,7 @@ use Rattle.fux_judge.specs.Crates.{crate_with}
 use Rattle.fux_judge.specs.Rules.{rules_read, all_sets, is_late, is_read, rule_at, breaks, is_broken}
 use Rattle.fux_judge.proofs.CrateLemmas.{late_by_crate, not_shape, rule_of_crate, soon_in_dissonance, soon_in_motion, soon_in_rhythm}
 use Rattle.fux_judge.specs.Penalties.{is_strict_at, newly_broken}
-use Rattle.fux_judge.specs.Steps.{newly_broken-at_once}
+use Rattle.fux_judge.proofs.StepPlaces.{newly_broken-at_once}
 use Rattle.fux_judge.specs.Pruning.{AllBreak, is_set_below, reads_below, rules_below, sets_below}
 
 -- what each of a list passes, one of them passes
@@ -65,11 +66,7 @@ unfolding rule_at
 all_settled_at_once = refl
 
 pub settled_at_once : (rule : ℕ) → reads_below rule ≡ true → is_late rule ≡ false
-settled_at_once rule h = not_from (is_late rule) (one_of (λ r. not (is_late r)) rule rules_below all_settled_at_once h)
-  where
-    not_from : (b : Bool) → not b ≡ true → b ≡ false
-    not_from true h = cc
-    not_from false h = refl
+settled_at_once rule h = not-true (is_late rule) (one_of (λ r. not (is_late r)) rule rules_below all_settled_at_once h)
 
 is_rhythmic : Option RuleCrate → Bool
 is_rhythmic (Some Rhythm) = true

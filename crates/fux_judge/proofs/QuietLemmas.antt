@@ -2,7 +2,7 @@
 use Rattle.std.proofs.Common.{◌≡◌, ℕ, ◌+◌, ◌*◌, ◌==◌, ◌&&◌, Bool, true, false, not, List, [], ◌∷◌, length, reverse, refl, ap, sym, ◌∙◌, arith}
 use Rattle.std.specs.Prelude.{if◌then◌else◌, nat_lt}
 use Rattle.std.specs.List.{list_all, list_any, sum_by}
-use Rattle.std.proofs.lemmas.Bool.{and_parts}
+use Rattle.std.proofs.lemmas.Bool.{and_parts, not-true}
 use Rattle.std.proofs.lemmas.List.Sums.{sum_by-cons}
 use Rattle.fux_grid.specs.declared.cell.Cell.{Cell}
 use Rattle.rule_law.specs.Growth.{sum_by-none}
@@ -11,9 +11,9 @@ use Rattle.penalty_sheet.specs.declared.sheet.Sheet.{Sheet}
 use Rattle.penalty_sheet.specs.Weights.{weight_of}
 use Rattle.fux_judge.specs.declared.moment.Moment.{Moment}
 use Rattle.rule_law.specs.Law.{reading-at_end}
-use Rattle.fux_judge.specs.Facts.{rule_keeps, toll_keeps}
+use Rattle.fux_judge.proofs.Facts.{rule_keeps, toll_keeps}
 use Rattle.fux_judge.specs.Rules.{all_sets, breaks, costs, cost_at, is_late, is_late_toll, tolls_at_once}
-use Rattle.fux_judge.specs.Steps.{tolls_all_at_once}
+use Rattle.fux_judge.proofs.StepPlaces.{tolls_all_at_once}
 use Rattle.fux_judge.specs.Penalties.{is_strict_at, price_at_place}
 use Rattle.fux_judge.specs.Moments.{is_broken_then, is_strictly_broken_then, prices_then, toll_then, with_column}
 
@@ -46,11 +46,7 @@ module _ (p : List (List Cell)) (m : Moment) (place : m.state.now.newest.len ≡
       (λ voices. ap (λ b. if b then price_at_place rule m.exercise.now voices (length p) else 0) (unbroken rule voices other))
 
   settled_at_once : (rule : ℕ) → (nat_lt rule 32 && not (is_late rule)) ≡ true → is_late rule ≡ false
-  settled_at_once rule h = not_from (is_late rule) (and_parts (nat_lt rule 32) (not (is_late rule)) h).1
-    where
-      not_from : (b : Bool) → not b ≡ true → b ≡ false
-      not_from true h = cc
-      not_from false h = refl
+  settled_at_once rule h = not-true (is_late rule) (and_parts (nat_lt rule 32) (not (is_late rule)) h).1
 
   -- none of these rules
   pub none_broken : (rules : List ℕ) → list_all (λ rule. nat_lt rule 32 && not (is_late rule)) rules ≡ true → (r : ℕ) → list_any (λ rule. is_strictly_broken_then all_sets rule p m && r == rule) rules ≡ false
@@ -77,16 +73,12 @@ module _ (p : List (List Cell)) (m : Moment) (place : m.state.now.newest.len ≡
           none : (w : ℕ) → 0 * w ≡ 0
           none w = omega arith
 
-      from : (b : Bool) → not b ≡ true → b ≡ false
-      from true h = cc
-      from false h = refl
-
       none_of : (tolls : List ℕ) → list_all (λ toll. not (is_late_toll toll)) tolls ≡ true → sum_by (toll_then sheet p m) tolls ≡ 0
       none_of [] h = refl
       none_of (toll ∷ tolls) h =
           let both = and_parts (not (is_late_toll toll)) (list_all (λ toll. not (is_late_toll toll)) tolls) h in
           sum_of_none (toll_then sheet p m toll) (sum_by (toll_then sheet p m) tolls) _ (sum_by-cons (toll_then sheet p m) toll tolls)
-          (nothing toll (cost_at toll m.exercise.now (with_column p m) (length p)) (costless toll (from (is_late_toll toll) both.0))) (none_of tolls both.1)
+          (nothing toll (cost_at toll m.exercise.now (with_column p m) (length p)) (costless toll (not-true (is_late_toll toll) both.0))) (none_of tolls both.1)
         where
           sum_of_none : (a b s : ℕ) → s ≡ a + b → a ≡ 0 → b ≡ 0 → s ≡ 0
           sum_of_none a b s e f g = omega arith

@@ -7,7 +7,7 @@ use Rattle.fux_grid.specs.declared.exercise.Exercise.{Exercise}
 use Rattle.rule_law.specs.Growth.{list_any-same, sum_by-same, sum_by-none}
 use Rattle.rule_law.specs.Law.{reading-at_end}
 use Rattle.fux_judge.specs.declared.moment.Moment.{Moment}
-use Rattle.fux_judge.specs.Facts.{rule_keeps}
+use Rattle.fux_judge.proofs.Facts.{rule_keeps}
 use Rattle.fux_judge.specs.Rules.{breaks, all_sets}
 use Rattle.fux_judge.specs.Steps.{sets_of_rule}
 use Rattle.fux_judge.specs.Moments.{is_broken_then, is_strictly_broken_then, prices_then}

@@ -2,7 +2,7 @@
 use Rattle.std.proofs.Common.{◌≡◌, ℕ, ◌+◌, ◌==◌, ◌&&◌, ◌||◌, Bool, true, false, List, [], ◌∷◌, ◌++◌, length, refl, ap, sym, ◌∙◌, arith}
 use Rattle.std.specs.Prelude.{if◌then◌else◌, not}
 use Rattle.std.specs.List.{list_all, list_any, sum_by}
-use Rattle.std.proofs.lemmas.Bool.{eqb-true}
+use Rattle.std.proofs.lemmas.Bool.{eqb-true, not-true}
 use Rattle.fux_grid.specs.declared.cell.Cell.{Cell}
 use Rattle.fux_grid.specs.declared.exercise.Exercise.{Exercise}
 use Rattle.rule_law.specs.Growth.{list_any-same, sum_by-same}
@@ -10,11 +10,12 @@ use Rattle.rule_law.specs.Law.{first_true, second_true}
 use Rattle.rule_law.specs.Prefixes.{GoesOn}
 use Rattle.penalty_sheet.specs.declared.sheet.Sheet.{Sheet}
 use Rattle.fux_judge.specs.declared.moment.Moment.{Moment}
-use Rattle.fux_judge.specs.Parts.{list_any-parted}
+use Rattle.fux_judge.proofs.Parts.{list_any-parted}
 use Rattle.fux_judge.specs.Rules.{all_sets, is_broken, is_late, is_read, late_rules, late_tolls, rule_at, rules_at_once, rules_read, tolls_at_once}
 use Rattle.fux_judge.specs.Penalties.{is_strict_at, price_at_place, newly_broken, newly_paid}
 use Rattle.fux_judge.specs.Moments.{is_strictly_broken_then, prices_then, toll_then}
-use Rattle.fux_judge.specs.Steps.{all_at_once, all_late, breaks_late, is_strictly_broken_at_end, newly_broken-at_once, newly_broken-late, newly_paid-parts, prices_at_end, prices_late, toll_at_end, toll_late, tolls_at_end}
+use Rattle.fux_judge.specs.Steps.{breaks_late, is_strictly_broken_at_end, prices_at_end, prices_late, toll_at_end, toll_late, tolls_at_end}
+use Rattle.fux_judge.proofs.StepPlaces.{all_at_once, all_late, newly_broken-at_once, newly_broken-late, newly_paid-parts}
 use Rattle.fux_judge.proofs.PruningLemmas.{one_of}
 
 and_false : (x : Bool) → (x && false) ≡ false
@@ -59,10 +60,6 @@ for_both true false x y n h k = rw (h refl) (alone n)
 for_both false true x y n h k = k refl
 for_both false false x y n h k = refl
 
-not_from : (b : Bool) → not b ≡ true → b ≡ false
-not_from true h = cc
-not_from false h = refl
-
 -- tests that agree where a third one holds, agree on a list of which each passes that one
 any_where : (test f g : ℕ → Bool) (xs : List ℕ) → list_all test xs ≡ true → ((x : ℕ) → test x ≡ true → f x ≡ g x) → list_any f xs ≡ list_any g xs
 any_where test f g [] h e = refl
@@ -86,7 +83,7 @@ module _ (ex : Exercise) (p : List (List Cell)) (col : List Cell) where
   breaks_by_parts on =
       read_in_parts (newly_broken ex p col)
       ∙ ap (λ b. b || list_any (newly_broken ex p col) late_rules)
-      (any_where (λ rule. not (is_late rule)) (newly_broken ex p col) (is_strictly_broken_at_end ex p col) rules_at_once (all_at_once ex p col) (λ r h. newly_broken-at_once ex p col r (not_from (is_late r) h)))
+      (any_where (λ rule. not (is_late rule)) (newly_broken ex p col) (is_strictly_broken_at_end ex p col) rules_at_once (all_at_once ex p col) (λ r h. newly_broken-at_once ex p col r (not-true (is_late r) h)))
       ∙ ap (λ b. list_any (is_strictly_broken_at_end ex p col) rules_at_once || b)
       (any_where is_late (newly_broken ex p col) (breaks_late ex p col) late_rules (all_late ex p col) (λ r h. newly_broken-late ex p col r h on))
 
@@ -117,7 +114,7 @@ module _ (ex : Exercise) (p : List (List Cell)) (col : List Cell) where
         ∙ picked (is_strictly_broken_at_end ex p col) r rules_at_once)
         ∙ ap (λ b. (settled_soon && is_strictly_broken_at_end ex p col r) || b) (picked (breaks_late ex p col) r late_rules)
         ∙ for_both settled_soon settled_late (is_strictly_broken_at_end ex p col r) (breaks_late ex p col r) (newly_broken ex p col r)
-        (λ e. sym (newly_broken-at_once ex p col r (not_from (is_late r) (one_of (λ rule. not (is_late rule)) r rules_at_once (all_at_once ex p col) e))))
+        (λ e. sym (newly_broken-at_once ex p col r (not-true (is_late r) (one_of (λ rule. not (is_late rule)) r rules_at_once (all_at_once ex p col) e))))
         (λ e. sym (newly_broken-late ex p col r (one_of is_late r late_rules (all_late ex p col) e) on))
         ∙ ap (λ b. b && newly_broken ex p col r) (sym (read_by_parts r))
 

@@ -1,17 +1,11 @@
--- A sum over a list, item by item.
-use Rattle.std.proofs.Common.{◌≡◌, ℕ, zero, suc, ◌+◌, ◌<◌, ◌&&◌, Bool, true, IsTrue, List, [], ◌∷◌, length, take, get_or, ap, ◌∙◌, arith, false, refl}
+-- The rules of a list are in range where a test of the whole list says so (`rule_in_range`).
+use Rattle.std.proofs.Common.{◌≡◌, ℕ, zero, suc, ◌+◌, ◌<◌, ◌&&◌, Bool, true, IsTrue, List, [], ◌∷◌, length, get_or, ◌∙◌, arith, false}
 use Rattle.std.specs.Prelude.{nat_lt, not}
 use Rattle.std.specs.List.{list_all}
 use Rattle.std.proofs.lemmas.Bool.Decides.{nat_tests}
 use Rattle.rule_law.specs.Law.{first_true, second_true}
 use Rattle.fux_judge.specs.Rules.{is_late}
-use Rattle.std.specs.List.{sum_by}
-use Rattle.std.proofs.lemmas.List.Sums.{sum_by_push}
-use Rattle.std.proofs.lemmas.List.{take_more}
-
--- one more item
-pub sum_by_more : {X : Type 0} (f : X → ℕ) (xs : List X) (i : ℕ) (d : X) → i < length xs → sum_by f (take (i + 1) xs) ≡ sum_by f (take i xs) + f (get_or xs i d)
-sum_by_more f xs i d h = ap (sum_by f) (take_more xs i d h) ∙ sum_by_push f (take i xs) (get_or xs i d)
+use Rattle.std.proofs.lemmas.Bool.{not-true}
 
 -- what each item of a list passes, one of them passes
 pub passes : (test : ℕ → Bool) (xs : List ℕ) (i : ℕ) → list_all test xs ≡ true → i < length xs → test (get_or xs i 0) ≡ true
@@ -23,24 +17,7 @@ pub rule_in_range : (rules : List ℕ) (i : ℕ) → IsTrue (list_all (λ rule. 
 rule_in_range rules i h k = both (get_or rules i 0) (passes (λ rule. nat_lt rule 32 && not (is_late rule)) rules i h k)
   where
     both : (rule : ℕ) → (nat_lt rule 32 && not (is_late rule)) ≡ true → (rule < 32) × (is_late rule ≡ false)
-    both rule e = (below rule (first_true (nat_lt rule 32) (not (is_late rule)) e), other rule (second_true (nat_lt rule 32) (not (is_late rule)) e))
-      where
-        below : (rule : ℕ) → nat_lt rule 32 ≡ true → rule < 32
-        below rule e = grind (arith, nat_tests)
-
-        other : (rule : ℕ) → not (is_late rule) ≡ true → is_late rule ≡ false
-        other rule e = not_from (is_late rule) e
-          where
-            not_from : (b : Bool) → not b ≡ true → b ≡ false
-            not_from true h = cc
-            not_from false h = refl
-
--- and of late ones
-pub late_in_range : (rules : List ℕ) (i : ℕ) → IsTrue (list_all (λ rule. nat_lt rule 32 && is_late rule) rules) → i < length rules → (get_or rules i 0 < 32) × (is_late (get_or rules i 0) ≡ true)
-late_in_range rules i h k = both (get_or rules i 0) (passes (λ rule. nat_lt rule 32 && is_late rule) rules i h k)
-  where
-    both : (rule : ℕ) → (nat_lt rule 32 && is_late rule) ≡ true → (rule < 32) × (is_late rule ≡ true)
-    both rule e = (below rule (first_true (nat_lt rule 32) (is_late rule) e), second_true (nat_lt rule 32) (is_late rule) e)
+    both rule e = (below rule (first_true (nat_lt rule 32) (not (is_late rule)) e), not-true (is_late rule) (second_true (nat_lt rule 32) (not (is_late rule)) e))
       where
         below : (rule : ℕ) → nat_lt rule 32 ≡ true → rule < 32
         below rule e = grind (arith, nat_tests)

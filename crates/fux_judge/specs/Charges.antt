@@ -1,6 +1,7 @@
 -- What each voice pays by its own move.
-use Rattle.std.specs.Prelude.{ℕ, ◌==◌, Bool, ◌&&◌, ◌||◌, List, [], ◌∷◌, reverse, if◌then◌else◌}
+use Rattle.std.specs.Prelude.{ℕ, ◌==◌, ◌+◌, Bool, ◌&&◌, ◌||◌, List, [], ◌∷◌, Option, reverse, if◌then◌else◌}
 use Rattle.std.specs.List.{sum_by}
+use Rattle.fux_pitch.specs.declared.pitch.Pitch.{Pitch}
 use Rattle.fux_grid.specs.declared.cell.Cell.{Cell}
 use Rattle.fux_grid.specs.declared.exercise.Exercise.{Exercise}
 use Rattle.fux_grid.specs.Cells.{cell_in}
@@ -36,6 +37,20 @@ stands toll cells now =
 -- what it costs a voice in the column that comes after a prefix: the toll's weight where it stands for a free voice
 abbrev pub voice_toll : Exercise → Sheet → List (List Cell) → List Cell → ℕ → ℕ → ℕ
 voice_toll ex sheet p col v toll = if is_free ex v && stands toll (line v (reverse p)) (cell_in col v) then weight_of sheet toll else 0
+
+-- what a move to a cell costs by its size: the weight of each of Q7 to Q10 that stands for it
+abbrev pub size_charge : Sheet → Option Pitch → Cell → ℕ → ℕ
+size_charge sheet previous now toll = if holds_of (costs toll) (move_from previous now) then weight_of sheet toll else 0
+
+abbrev pub move_charge : Sheet → Option Pitch → Cell → ℕ
+move_charge sheet previous now =
+    size_charge sheet previous now 7 + size_charge sheet previous now 8
+    + size_charge sheet previous now 9 + size_charge sheet previous now 10
+
+-- what it costs a line that its next cell leaves a leap open: the weight of Q13
+abbrev pub leap_charge : Sheet → List Cell → Cell → ℕ
+leap_charge sheet cells now =
+    if leaves_leap_open (before_last (pitches cells)) (last_of (pitches cells)) now then weight_of sheet 13 else 0
 
 -- what all tolls of melody cost it
 abbrev pub voice_charge : Exercise → Sheet → List (List Cell) → List Cell → ℕ → ℕ

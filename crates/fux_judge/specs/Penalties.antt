@@ -20,6 +20,10 @@ is_strict_at rule ex voices i = is_strict (price_in ex rule voices (bar_of i))
 abbrev pub price_at_place : ℕ → Exercise → ℕ → ℕ → ℕ
 price_at_place rule ex voices i = amount_of (price_in ex rule voices (bar_of i))
 
+-- what a rule costs for a set of voices at a place: the price of a relaxed break, where it is broken
+abbrev pub price_read : ℕ → Exercise → ℕ → Reading ℕ
+price_read rule ex voices s i = if is_broken rule ex voices s i then price_at_place rule ex voices i else 0
+
 -- a strict break of a rule is settled at a place of a prefix
 abbrev pub is_strictly_broken : ℕ → Exercise → ℕ → Reading Bool
 is_strictly_broken rule ex voices p i = is_settled rule ex voices p i && is_broken rule ex voices p i && is_strict_at rule ex voices i
@@ -40,7 +44,7 @@ new_toll ex sheet p col i toll =
 
 abbrev pub new_price : Exercise → List (List Cell) → List Cell → ℕ → ℕ → ℕ → ℕ
 new_price ex p col i rule voices =
-    if newly (is_settled rule ex voices) p col i then (if is_broken rule ex voices (p ++ col ∷ []) i then price_at_place rule ex voices i else 0) else 0
+    if newly (is_settled rule ex voices) p col i then price_read rule ex voices (p ++ col ∷ []) i else 0
 
 -- what it settles of all of them at a place
 abbrev pub new_tolls : Exercise → Sheet → List (List Cell) → List Cell → ℕ → ℕ
@@ -73,7 +77,7 @@ tolls_at ex sheet s i = sum_by (λ toll. cost_at toll ex s i * weight_of sheet t
 
 -- the prices of the relaxed breaks at a place
 abbrev pub prices_at : Exercise → Reading ℕ
-prices_at ex s i = sum_by (λ rule. sum_by (λ voices. if is_broken rule ex voices s i then price_at_place rule ex voices i else 0) all_sets) rules_read
+prices_at ex s i = sum_by (λ rule. sum_by (λ voices. price_read rule ex voices s i) all_sets) rules_read
 
 -- what a list of columns costs by tolls and prices, over all its places
 abbrev pub charges_of : Exercise → Sheet → List (List Cell) → ℕ
@@ -93,7 +97,7 @@ settled_tolls ex sheet p i = sum_by (λ toll. if is_cost_settled toll ex p i the
 
 abbrev pub settled_prices : Exercise → Reading ℕ
 settled_prices ex p i =
-    sum_by (λ rule. sum_by (λ voices. if is_settled rule ex voices p i then (if is_broken rule ex voices p i then price_at_place rule ex voices i else 0) else 0) all_sets) rules_read
+    sum_by (λ rule. sum_by (λ voices. if is_settled rule ex voices p i then price_read rule ex voices p i else 0) all_sets) rules_read
 
 abbrev pub charges_settled_in : Exercise → Sheet → List (List Cell) → ℕ
 charges_settled_in ex sheet p = sum_below (λ i. settled_tolls ex sheet p i + settled_prices ex p i) (length p)

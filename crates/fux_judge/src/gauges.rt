@@ -82,7 +82,8 @@ pub(crate) fn all_gauged(
 /// The values of the four gauges, each by its weight.
 pub(crate) fn weighed(sheet: &Sheet, climax: u8, compass: bool, leaps: u32, strikes: u8) -> u64
     requires { leaps ≤ 765 }
-    ensures value { result ≡ 0 + climax * weight_of sheet.now 17 + from_bool compass * weight_of sheet.now 18 + leaps * weight_of sheet.now 19 + strikes * weight_of sheet.now 20 }
+    ensures value { result ≡ 0 + climax * weight_of sheet.now 17 + from_bool compass * weight_of sheet.now 18
+        + leaps * weight_of sheet.now 19 + strikes * weight_of sheet.now 20 }
     ensures bound { result ≤ 83622660 }
 {
     u64::from(climax) * u64::from(weight(sheet, 17))

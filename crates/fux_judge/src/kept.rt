@@ -1,10 +1,10 @@
 //! Rules that a column keeps, as can be told for many of them at once.
 
-ghost use Rattle.std.specs.Prelude.{◌≡◌, ◌&&◌, ◌==◌, not, nat_lt, ℕ, List, IsTrue};
-ghost use Rattle.std.specs.List.{list_all, list_any};
+ghost use Rattle.std.specs.Prelude.{◌≡◌, ◌&&◌, not, nat_lt, ℕ, List, IsTrue};
+ghost use Rattle.std.specs.List.{list_all};
 ghost use Rattle.fux_grid.specs.declared.cell.Cell.{Cell as ACell};
-ghost use Rattle.fux_judge.specs.Rules.{all_sets, is_late, rules_at_once};
-ghost use Rattle.fux_judge.specs.Moments.{IsReadable, IsAfter, is_strictly_broken_then};
+ghost use Rattle.fux_judge.specs.Rules.{is_late, rules_at_once};
+ghost use Rattle.fux_judge.specs.Moments.{IsReadable, IsAfter, breaks_one_of};
 
 use crate::moment::Moment;
 use crate::numbers::{all_at_once, left_at_a_bar, left_at_the_end, left_within_bars};
@@ -18,7 +18,8 @@ use rule_law::begins_bar;
 pub(crate) fn rules_left(m: &Moment<'_>) -> &'static [u8]
     requires { IsReadable m.now }
     ensures numbers { IsTrue (list_all (λ rule. nat_lt rule 32 && not (is_late rule)) result.now) }
-    ensures kept { (p : List (List ACell)) → IsAfter p m.now → (r : ℕ) → list_any (λ rule. is_strictly_broken_then all_sets rule p m.now && r == rule) result.now ≡ list_any (λ rule. is_strictly_broken_then all_sets rule p m.now && r == rule) rules_at_once }
+    ensures kept { (p : List (List ACell)) → IsAfter p m.now → (r : ℕ) →
+        breaks_one_of result.now p m.now r ≡ breaks_one_of rules_at_once p m.now r }
 {
     if !are_smooth(m.exercise, &m.state.melody, m.column) {
         return all_at_once();

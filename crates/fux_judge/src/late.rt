@@ -275,7 +275,8 @@ pub(crate) fn late_prices(ex: &Exercise, next: &State) -> u64
     requires valid { IsValid ex.now }
     requires begun { 0 < next.now.newest.len }
     requires room { next.now.newest.len ≤ columns_in ex.now }
-    ensures value { (p : List (List ACell)) (col : List ACell) → HasCome ex.now next.now p col → result ≡ sum_by (steps.prices_late ex.now p col) late_rules }
+    ensures value { (p : List (List ACell)) (col : List ACell) → HasCome ex.now next.now p col →
+        result ≡ sum_by (steps.prices_late ex.now p col) late_rules }
     ensures bound { result ≤ 17280000 }
 {
     if ex.relax.as_slice().is_empty() {

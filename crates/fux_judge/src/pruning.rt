@@ -173,7 +173,8 @@ fn charge_for(limit: Option<u64>, sheet: &Sheet, m: &Moment<'_>, voice: usize) -
 /// Whether what all voices cost and what they cost together reach the limit, where there is one.
 fn costs_too_much(limit: Option<u64>, least: u64, sheet: &Sheet, m: &Moment<'_>) -> bool
     requires { least ≤ 524280 }
-    ensures { OnTrue result (IsSomeAnd limit (λ most. (p : List (List ACell)) → IsAfter p m.now → most ≤ least + sum_by (toll_then sheet.now p m.now) tolls_of_pairs)) }
+    ensures { OnTrue result (IsSomeAnd limit (λ most. (p : List (List ACell)) → IsAfter p m.now →
+        most ≤ least + sum_by (toll_then sheet.now p m.now) tolls_of_pairs)) }
 {
     match limit {
         Some(most) => least + charges_of_pairs(sheet, m) >= most,
@@ -198,7 +199,9 @@ pub fn pruned_within(
     requires full { length col.now.items ≡ ex.now.voices }
     ensures some { IfSome result (λ n. 1 ≤ n) }
     ensures few { IfSome result (λ n. n ≤ ex.now.voices) }
-    ensures pruned { IfSome result (λ n. (p : List (List ACell)) → IsStateOf ex.now p state.now → (other : List ACell) → length other ≡ ex.now.voices → take n other ≡ take n col.now.items → IsPruned ex.now sheet.now p limit other) }
+    ensures pruned { IfSome result (λ n. (p : List (List ACell)) → IsStateOf ex.now p state.now →
+        (other : List ACell) → length other ≡ ex.now.voices → take n other ≡ take n col.now.items →
+        IsPruned ex.now sheet.now p limit other) }
 {
     if is_quiet(state.newest.len, col.as_slice()) {
         return None;

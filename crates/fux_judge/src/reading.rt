@@ -1,14 +1,13 @@
 //! Rules and tolls, read at a moment.
 
-ghost use Rattle.std.specs.Prelude.{◌≡◌, Some, false, ◌&&◌, if◌then◌else◌, ◌<◌, ◌≤◌, ◌*◌, ◌+◌, ◌^◌, List, [], IsTrue, length};
+ghost use Rattle.std.specs.Prelude.{◌≡◌, Some, false, ◌<◌, ◌≤◌, ◌*◌, ◌+◌, ◌^◌, List, [], IsTrue, length};
 ghost use Rattle.fux_grid.specs.declared.cell.Cell.{Cell as ACell};
 ghost use Rattle.melody_rules.specs.Rows as melody;
 ghost use Rattle.fux_grid.specs.Exercises.{bar_of};
 ghost use Rattle.fux_judge.specs.declared.numbers.RuleCrate.TheVariants.{Melody};
 ghost use Rattle.fux_judge.specs.Crates.{crate_with};
 ghost use Rattle.fux_judge.specs.Rules.{all_sets, is_late};
-ghost use Rattle.fux_judge.specs.Penalties.{is_strict_at, price_at_place};
-ghost use Rattle.fux_judge.specs.Moments.{IsReadable, IsAfter, is_broken_then, is_strictly_broken_then, prices_then, with_column};
+ghost use Rattle.fux_judge.specs.Moments.{IsReadable, IsAfter, is_broken_then, is_strict_break_then, is_strictly_broken_then, price_then, prices_then, with_column};
 
 use crate::moment::Moment;
 use crate::numbers::{RuleCrate, crate_of, form_of};
@@ -81,7 +80,7 @@ fn bar_at(m: &Moment<'_>) -> u8
 pub(crate) fn is_strictly_broken(rule: u8, voices: VoiceSet, m: &Moment<'_>) -> bool
     requires rule { is_late rule ≡ false }
     requires readable { IsReadable m.now }
-    ensures { (p : List (List ACell)) → IsAfter p m.now → result ≡ (is_broken_then rule voices.bits p m.now && is_strict_at rule m.now.exercise.now voices.bits (length p)) }
+    ensures { (p : List (List ACell)) → IsAfter p m.now → result ≡ is_strict_break_then rule voices.bits p m.now }
 {
     if !is_broken(rule, voices, m) {
         return false;
@@ -93,7 +92,7 @@ pub(crate) fn is_strictly_broken(rule: u8, voices: VoiceSet, m: &Moment<'_>) -> 
 fn price_of(rule: u8, voices: VoiceSet, m: &Moment<'_>) -> u64
     requires rule { is_late rule ≡ false }
     requires readable { IsReadable m.now }
-    ensures value { (p : List (List ACell)) → IsAfter p m.now → result ≡ (if is_broken_then rule voices.bits p m.now then price_at_place rule m.now.exercise.now voices.bits (length p) else 0) }
+    ensures value { (p : List (List ACell)) → IsAfter p m.now → result ≡ price_then rule voices.bits p m.now }
     ensures bound { result ≤ 10000 }
 {
     if !is_broken(rule, voices, m) {

@@ -1,14 +1,11 @@
 //! Tolls that are settled at once, read at a moment.
 
-ghost use Rattle.std.specs.Prelude.{◌≡◌, ◌≤◌, ◌<◌, ◌+◌, ◌||◌, List, IsTrue, if◌then◌else◌, length};
+ghost use Rattle.std.specs.Prelude.{◌≡◌, ◌≤◌, ◌<◌, ◌+◌, ◌||◌, List, IsTrue, length};
 ghost use Rattle.std.specs.List.{sum_by};
 ghost use Rattle.fux_grid.specs.declared.cell.Cell.{Cell as ACell};
 ghost use Rattle.fux_grid.specs.Columns.{line};
-ghost use Rattle.rule_law.specs.Terms.{holds_of, move_from};
 ghost use Rattle.melody_rules.specs.Notes.{AreNotesOf};
-ghost use Rattle.melody_rules.specs.Rows as melody;
-ghost use Rattle.penalty_sheet.specs.Weights.{weight_of};
-ghost use Rattle.fux_judge.specs.Charges.{is_clashing_toll, is_moving_toll, tolls_of_pairs, voice_charge};
+ghost use Rattle.fux_judge.specs.Charges.{is_clashing_toll, is_moving_toll, leap_charge, move_charge, tolls_of_pairs, voice_charge};
 ghost use Rattle.fux_judge.specs.Rules.{cost_at, tolls_at_once};
 ghost use Rattle.fux_judge.specs.Moments.{IsAfter, toll_then, with_column};
 
@@ -65,7 +62,7 @@ pub(crate) fn charges_of_pairs(sheet: &Sheet, m: &Moment<'_>) -> u64
 
 /// The weight of the toll that a move to a cell pays by its size: Q7, Q8, Q9 or Q10.
 fn charge_of_move(sheet: &Sheet, previous: Option<Pitch>, now: Cell) -> u64
-    ensures value { result ≡ (if holds_of (melody.charges_move 7) (move_from previous now) then weight_of sheet.now 7 else 0) + (if holds_of (melody.charges_move 8) (move_from previous now) then weight_of sheet.now 8 else 0) + (if holds_of (melody.charges_move 9) (move_from previous now) then weight_of sheet.now 9 else 0) + (if holds_of (melody.charges_move 10) (move_from previous now) then weight_of sheet.now 10 else 0) }
+    ensures value { result ≡ move_charge sheet.now previous now }
     ensures bound { result ≤ 65535 }
 {
     match toll_of_move(previous, now) {
@@ -77,7 +74,7 @@ fn charge_of_move(sheet: &Sheet, previous: Option<Pitch>, now: Cell) -> u64
 /// The weight of Q13, where it stands for a cell of a voice that comes after these notes.
 fn charge_of_leap(sheet: &Sheet, voices: &[VoiceNotes; 4], voice: usize, now: Cell) -> u64
     requires { voice < 4 }
-    ensures value { (behind : List (List ACell)) → AreNotesOf behind voices.now → result ≡ (if melody.leaves_leap_open (melody.before_last (melody.pitches (line voice behind))) (melody.last_of (melody.pitches (line voice behind))) now then weight_of sheet.now 13 else 0) }
+    ensures value { (behind : List (List ACell)) → AreNotesOf behind voices.now → result ≡ leap_charge sheet.now (line voice behind) now }
     ensures bound { result ≤ 65535 }
 {
     if leap_open_after(&voices[voice], now) {

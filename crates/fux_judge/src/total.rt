@@ -9,7 +9,7 @@ ghost use Rattle.rule_law.specs.Voices as voices_words;
 ghost use Rattle.fux_judge.specs.Gauges as words;
 ghost use Rattle.fux_judge.specs.Gauges.{cells_of_voice};
 ghost use Rattle.fux_judge.specs.Penalties.{penalty_of, prices_at, tolls_at};
-ghost use Rattle.fux_judge.specs.Rules.{all_sets, cost_at, is_broken};
+ghost use Rattle.fux_judge.specs.Rules.{all_sets, cost_at};
 
 use crate::gauges::{cost_of_line, line_gauges};
 use crate::numbers::{every_rule, every_toll, form_of};
@@ -39,7 +39,7 @@ fn price_of(rule: u8, ex: &Exercise, score: &Score, i: usize, voices: VoiceSet) 
     requires valid { IsValid ex.now }
     requires complete { IsComplete ex.now score.now }
     requires place { i < length score.now.columns }
-    ensures value { result ≡ (if is_broken rule ex.now voices.bits score.now.columns i then penalties.price_at_place rule ex.now voices.bits i else 0) }
+    ensures value { result ≡ penalties.price_read rule ex.now voices.bits score.now.columns i }
     ensures bound { result ≤ 10000 }
 {
     if !is_broken_in(rule, ex, score, i, voices) {
@@ -53,7 +53,7 @@ fn prices_of_rule(rule: u8, ex: &Exercise, score: &Score, i: usize) -> u64
     requires valid { IsValid ex.now }
     requires complete { IsComplete ex.now score.now }
     requires place { i < length score.now.columns }
-    ensures value { result ≡ sum_by (λ voices. if is_broken rule ex.now voices score.now.columns i then penalties.price_at_place rule ex.now voices i else 0) all_sets }
+    ensures value { result ≡ sum_by (λ voices. penalties.price_read rule ex.now voices score.now.columns i) all_sets }
     ensures bound { result ≤ 60000 }
 {
     let mut sum = 0u64;

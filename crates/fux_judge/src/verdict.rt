@@ -7,9 +7,9 @@ ghost use Rattle.fux_grid.specs.Exercises.{IsValid, columns_in};
 ghost use Rattle.rule_law.specs.Prefixes.{GoesOn, IsPrefix};
 ghost use Rattle.rule_law.specs.Voices.{has_rule};
 ghost use Rattle.fux_judge.specs.Gauges.{least_of};
-ghost use Rattle.fux_judge.specs.Rules.{all_sets, is_late, rules_at_once, rules_read, tolls_at_once, is_read};
+ghost use Rattle.fux_judge.specs.Rules.{all_sets, is_late, rules_at_once, rules_read, is_read};
 ghost use Rattle.fux_judge.specs.Penalties.{newly_broken, newly_paid, paid};
-ghost use Rattle.fux_judge.specs.Moments.{IsReadable, IsAfter, is_strictly_broken_then, prices_then, toll_then};
+ghost use Rattle.fux_judge.specs.Moments.{IsReadable, IsAfter, breaks_one_of, paid_at_once, prices_then};
 ghost use Rattle.fux_judge.specs.States.{IsStateOf};
 
 use crate::ahead::all_ahead_after;
@@ -63,7 +63,7 @@ pub(crate) fn any_of(rules: &[u8], set: RuleSet) -> bool
 fn broken_of(rules: &[u8], m: &Moment<'_>) -> RuleSet
     requires numbers { IsTrue (list_all (λ rule. nat_lt rule 32 && not (is_late rule)) rules.now) }
     requires readable { IsReadable m.now }
-    ensures { (p : List (List ACell)) → IsAfter p m.now → (r : ℕ) → has_rule result.bits r ≡ list_any (λ rule. is_strictly_broken_then all_sets rule p m.now && r == rule) rules.now }
+    ensures { (p : List (List ACell)) → IsAfter p m.now → (r : ℕ) → has_rule result.bits r ≡ breaks_one_of rules.now p m.now r }
 {
     let mut set = RuleSet::EMPTY;
     for rule in rules {
@@ -129,8 +129,8 @@ pub(crate) fn moment_of<'a>(ex: &'a Exercise, state: &'a State, col: &'a Column)
 /// nothing is read.
 pub(crate) fn readings(sheet: &Sheet, m: &Moment<'_>) -> (RuleSet, u64)
     requires { IsReadable m.now }
-    ensures broken { (p : List (List ACell)) → IsAfter p m.now → (r : ℕ) → has_rule result.0.bits r ≡ list_any (λ rule. is_strictly_broken_then all_sets rule p m.now && r == rule) rules_at_once }
-    ensures paid { (p : List (List ACell)) → IsAfter p m.now → result.1 ≡ sum_by (toll_then sheet.now p m.now) tolls_at_once + sum_by (λ rule. prices_then all_sets rule p m.now) rules_at_once }
+    ensures broken { (p : List (List ACell)) → IsAfter p m.now → (r : ℕ) → has_rule result.0.bits r ≡ breaks_one_of rules_at_once p m.now r }
+    ensures paid { (p : List (List ACell)) → IsAfter p m.now → result.1 ≡ paid_at_once sheet.now p m.now }
     ensures bound { result.1 ≤ 9784200 }
 {
     if is_quiet(m.state.newest.len, m.column) {
@@ -149,9 +149,12 @@ pub fn step(ex: &Exercise, sheet: &Sheet, state: &State, col: &Column) -> Verdic
 
     // After an orderly prefix, the rules of which this column, and none before it, settles a strict break, and what it settles
     // of tolls and prices.
-    ensures broken { (p : List (List ACell)) → IsStateOf ex.now p state.now → GoesOn ex.now p (col.now.items ∷ []) → (r : ℕ) → has_rule result.broken.bits r ≡ (is_read r && newly_broken ex.now p col.now.items r) }
-    ensures settled { (p : List (List ACell)) → IsStateOf ex.now p state.now → GoesOn ex.now p (col.now.items ∷ []) → result.paid ≡ newly_paid ex.now sheet.now p col.now.items }
-    ensures paid { (p : List (List ACell)) → IsStateOf ex.now p state.now → GoesOn ex.now p (col.now.items ∷ []) → paid ex.now sheet.now (p ++ col.now.items ∷ []) ≡ paid ex.now sheet.now p + result.paid }
+    ensures broken { (p : List (List ACell)) → IsStateOf ex.now p state.now → GoesOn ex.now p (col.now.items ∷ []) → (r : ℕ) →
+        has_rule result.broken.bits r ≡ (is_read r && newly_broken ex.now p col.now.items r) }
+    ensures settled { (p : List (List ACell)) → IsStateOf ex.now p state.now → GoesOn ex.now p (col.now.items ∷ []) →
+        result.paid ≡ newly_paid ex.now sheet.now p col.now.items }
+    ensures paid { (p : List (List ACell)) → IsStateOf ex.now p state.now → GoesOn ex.now p (col.now.items ∷ []) →
+        paid ex.now sheet.now (p ++ col.now.items ∷ []) ≡ paid ex.now sheet.now p + result.paid }
     ensures bound { result.paid ≤ 134217728 }
     ensures least { (p : List (List ACell)) → IsStateOf ex.now p state.now → IsPrefix ex.now (p ++ col.now.items ∷ []) →
         result.least ≡ least_of ex.now sheet.now (p ++ col.now.items ∷ []) }

@@ -4,7 +4,8 @@ use Rattle.fux_grid.specs.declared.exercise.Exercise.{Exercise}
 use Rattle.fux_grid.specs.Exercises.{IsValid, columns_in}
 use Rattle.fux_pitch.specs.declared.memory.Memory.{Memory}
 use Rattle.penalty_sheet.specs.declared.sheet.Sheet.{Sheet}
-use Rattle.species_space.specs.Loads.{IsExact, answers_exactly}
+use Rattle.species_space.specs.Loads.{IsExact}
+use Rattle.species_space.proofs.LoadLaws.{answers_exactly}
 use Rattle.species_space.specs.Paths.{live_at}
 use Rattle.tree_search.specs.Answer.{AtMost, BoundsLeaves, HasNoLeaf, IsFirstLeast, IsLiveBelowRoot, IsLoaded, IsOverBudget, Many}
 use Rattle.tree_search.specs.Outcomes.{IfFound, IfSpent, IsSpent, OnNothing}

@@ -1,5 +1,7 @@
 pub mod BookLaws
 pub mod GaugeLemmas
 pub mod LineLemmas
+pub mod LowerVoices
+pub mod Quiet
 pub mod StrikeLemmas
 pub mod VoiceLemmas

@@ -5,9 +5,7 @@ pub mod Gauges
 pub mod Held
 pub mod Keys
 pub mod Locality
-pub mod LowerVoices
 pub mod Notes
-pub mod Quiet
 pub mod Rows
 pub mod Smooth
 pub mod Turning

@@ -1,7 +1,7 @@
 -- What the rules and tolls of melody read is settled, and what two neighbors decide they decide.
 use Rattle.std.specs.Prelude.{◌≡◌, ℕ, ◌+◌, ◌^◌, ◌==◌, Bool, true, false, IsTrue, if◌then◌else◌, refl}
 use Rattle.std.proofs.Common.{sym, subst}
-use Rattle.std.proofs.lemmas.Bool.{eqb-true}
+use Rattle.std.proofs.lemmas.Bool.{eqb-true, false_from_ne_true}
 use Rattle.fux_grid.specs.declared.exercise.Exercise.{Exercise}
 use Rattle.rule_law.specs.Places.{Row, IsLocal, IsUndisturbed, SettlesAtEnd, reading_of, settled_by, at_once}
 use Rattle.rule_law.specs.Law.{local_from_row, at_once_settles}
@@ -41,10 +41,6 @@ melody_is_local rule ex voices =
 pub melody_settles_at_end : SettleAtEnd melody_settles
 melody_settles_at_end rule ex voices = at_once_settles ex
 
-false_from : (b : Bool) → (b ≡ true → ⊥) → b ≡ false
-false_from true f = absurd (f refl)
-false_from false f = refl
-
 second_choice : {R : Type 0} (b : Bool) (x y : Row R) → b ≡ false → (if b then x else y) ≡ y
 second_choice true x y e = cc
 second_choice false x y e = refl
@@ -52,7 +48,7 @@ second_choice false x y e = refl
 -- a number that isn't in a set of bits is no rule of it
 not_in : (bits rule other : ℕ) → has_rule bits other ≡ false → IsTrue (has_rule bits rule) → (rule == other) ≡ false
 not_in bits rule other out h =
-    false_from (rule == other) (λ e. let P : ℕ → Type 0 = λ r. has_rule bits r ≡ true in let k : has_rule bits other ≡ true = subst P (eqb-true rule other e) h in cc)
+    false_from_ne_true (rule == other) (λ e. let P : ℕ → Type 0 = λ r. has_rule bits r ≡ true in let k : has_rule bits other ≡ true = subst P (eqb-true rule other e) h in cc)
 
 -- no rule of neighbors looks further back
 sees_neighbors : (rule : ℕ) → IsTrue (has_rule near_bits rule) → looks_back rule ≡ false

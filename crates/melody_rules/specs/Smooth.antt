@@ -2,6 +2,7 @@
 use Rattle.std.specs.Prelude.{◌≡◌, ℕ, ◌==◌, Bool, false, ◌&&◌, ◌||◌, nat_lt, List, [], ◌∷◌, map, Option, refl}
 use Rattle.std.specs.List.{list_any}
 use Rattle.std.proofs.Common.{ap, ◌∙◌}
+use Rattle.std.proofs.lemmas.Bool.{or_parts}
 use Rattle.fux_pitch.specs.declared.pitch.Pitch.{Pitch}
 use Rattle.fux_grid.specs.declared.cell.Cell.{Cell}
 use Rattle.fux_grid.specs.declared.cell.Note.{Note}
@@ -10,7 +11,7 @@ use Rattle.fux_grid.specs.Cells.{cell_in, first_of, notes_from}
 use Rattle.fux_grid.specs.Columns.{line}
 use Rattle.fux_grid.specs.Exercises.{species_in}
 use Rattle.rule_law.specs.Nearby.{previous_pitches, pitch_at}
-use Rattle.rule_law.specs.Quiet.{either_none, neither, on_free_voice-kept}
+use Rattle.rule_law.specs.Quiet.{either_none, on_free_voice-kept}
 use Rattle.rule_law.specs.Terms.{note_pitch}
 use Rattle.rule_law.specs.Voices.{is_free}
 use Rattle.melody_rules.specs.Rows.{before_last, goes_on_after_leap, last_of, latest_turning, leaves_sharp, moves_unmelodically, near_rows, outlines_badly, pitches, repeats, turns_at_tritone, voice_rule, widens, window_rows, window_rule}
@@ -44,8 +45,8 @@ some_rough ex behind now = list_any (is_rough_at ex behind now) (0 ∷ 1 ∷ 2 �
 -- then each rule of melody is kept
 near_kept : (rule species : ℕ) (previous : Option Pitch) (c : Cell) → is_rough_move species previous c ≡ false → voice_rule rule species previous c ≡ false
 near_kept rule species previous c h =
-    let a = neither (moves_unmelodically previous c) (repeats species previous c || leaves_sharp previous c) h in
-    let b = neither (repeats species previous c) (leaves_sharp previous c) a.1 in
+    let a = or_parts (moves_unmelodically previous c) (repeats species previous c || leaves_sharp previous c) h in
+    let b = or_parts (repeats species previous c) (leaves_sharp previous c) a.1 in
     either_none (rule == 4) _ _ false a.0 (either_none (rule == 5) _ _ false b.0 b.1)
 
 back_kept : (rule : ℕ) (ps : List Pitch) (c : Cell) → is_rough_line ps c ≡ false → window_rule rule ps c ≡ false
@@ -53,9 +54,9 @@ back_kept rule ps c h =
     let outline : Bool = outlines_badly (before_last ps) (last_of ps) c in
     let leap : Bool = goes_on_after_leap (before_last ps) (last_of ps) c in
     let tritone : Bool = turns_at_tritone (latest_turning ps) (before_last ps) (last_of ps) c in
-    let a = neither outline (leap || (tritone || widens ps c)) h in
-    let b = neither leap (tritone || widens ps c) a.1 in
-    let d = neither tritone (widens ps c) b.1 in
+    let a = or_parts outline (leap || (tritone || widens ps c)) h in
+    let b = or_parts leap (tritone || widens ps c) a.1 in
+    let d = or_parts tritone (widens ps c) b.1 in
     either_none (rule == 6) _ _ false a.0 (either_none (rule == 7) _ _ false b.0 (either_none (rule == 8) _ _ false d.0 d.1))
 
 -- the pitch of the latest note, of four voices
@@ -71,7 +72,7 @@ module _ (ex : Exercise) (behind : List (List Cell)) (now : List Cell) (kept : s
     where
       moved : (v : ℕ) → is_rough (species_in ex v) (pitches (line v behind)) (cell_in now v) ≡ false → voice_rule rule (species_in ex v) (note_pitch (first_of (notes_from 0 (line v behind)))) (cell_in now v) ≡ false
       moved v h =
-          let near = (neither (is_rough_move (species_in ex v) (last_of (pitches (line v behind))) (cell_in now v)) (is_rough_line (pitches (line v behind)) (cell_in now v)) h).0 in
+          let near = (or_parts (is_rough_move (species_in ex v) (last_of (pitches (line v behind))) (cell_in now v)) (is_rough_line (pitches (line v behind)) (cell_in now v)) h).0 in
           ap (λ q. voice_rule rule (species_in ex v) q (cell_in now v)) (first_pitch (notes_from 0 (line v behind)))
           ∙ near_kept rule (species_in ex v) (last_of (pitches (line v behind))) (cell_in now v) near
 
@@ -83,4 +84,4 @@ module _ (ex : Exercise) (behind : List (List Cell)) (now : List Cell) (kept : s
       moved : (v : ℕ) → is_rough (species_in ex v) (pitches (line v behind)) (cell_in now v) ≡ false → window_rule rule (pitches (line v behind)) (cell_in now v) ≡ false
       moved v h =
           back_kept rule (pitches (line v behind)) (cell_in now v)
-          (neither (is_rough_move (species_in ex v) (last_of (pitches (line v behind))) (cell_in now v)) (is_rough_line (pitches (line v behind)) (cell_in now v)) h).1
+          (or_parts (is_rough_move (species_in ex v) (last_of (pitches (line v behind))) (cell_in now v)) (is_rough_line (pitches (line v behind)) (cell_in now v)) h).1

@@ -4,7 +4,7 @@ use Rattle.std.proofs.Common.{arith}
 use Rattle.fux_grid.specs.declared.cell.Cell.{Cell}
 use Rattle.fux_grid.specs.declared.exercise.Exercise.{Exercise}
 use Rattle.fux_grid.specs.Columns.{newest_column}
-use Rattle.rule_law.specs.AtOnce.{breaks_where_it_may, costs_where_it_may}
+use Rattle.rule_law.proofs.AtOnce.{breaks_where_it_may, costs_where_it_may}
 use Rattle.rule_law.specs.Bars.{begins_bar}
 use Rattle.rule_law.specs.Forms.{IsOf, pair_form, pair_sets_of}
 use Rattle.rule_law.specs.Nearby.{previous_pitches, whole_of}
@@ -15,7 +15,7 @@ use Rattle.rule_law.specs.Rulebooks.{KeepsLaws, KeepsRuleLaws, KeepsTollLaws}
 use Rattle.motion_rules.specs.Afterbeats.{afterbeat_enough, afterbeat_row, has_species_voice, moves_within_bars}
 use Rattle.motion_rules.specs.InnerVoices.{inner_move_into_perfect}
 use Rattle.motion_rules.specs.Locality.{cost_is_local, cost_settles_at_end, inner_is_local, inner_settles_at_end}
-use Rattle.motion_rules.specs.Quiet.{quiet_rows, quiet_runs, quiet_tolls, within_a_bar}
+use Rattle.motion_rules.proofs.Quiet.{quiet_rows, quiet_runs, quiet_tolls, within_a_bar}
 use Rattle.motion_rules.specs.Rows.{broken_in, cost_in, enough_after, imperfect_runs, toll_rows}
 use Rattle.motion_rules.specs.Book.{at_once_row, at_once_toll, book, is_late, is_late_toll, late_row, late_toll, may_be_bare, rule_row, toll_row}
 

@@ -3,7 +3,7 @@ use Rattle.std.specs.Prelude.{◌≡◌, ℕ, Bool, true, false, List, [], ◌�
 use Rattle.fux_grid.specs.declared.cell.Cell.{Cell}
 use Rattle.fux_grid.specs.declared.exercise.Exercise.{Exercise}
 use Rattle.fux_grid.specs.Columns.{earlier, newest_column}
-use Rattle.rule_law.specs.AtOnce.{among_own, newly_costs-there}
+use Rattle.rule_law.proofs.AtOnce.{among_own, newly_costs-there}
 use Rattle.rule_law.specs.Rulebooks.{IsAmong, TollRow, newly_costs}
 use Rattle.motion_rules.specs.Book.{at_once_toll, is_late_toll, late_toll, toll_row}
 use Rattle.motion_rules.specs.InnerVoices.{inner_moves}

@@ -1,4 +1,6 @@
 pub mod AfterbeatLemmas
-pub mod BookLaws
 pub mod BarLineLemmas
+pub mod BookLaws
 pub mod LateLemmas
+pub mod LowerVoices
+pub mod Quiet

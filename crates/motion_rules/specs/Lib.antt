@@ -4,6 +4,4 @@ pub mod Book
 pub mod Clear
 pub mod InnerVoices
 pub mod Locality
-pub mod LowerVoices
-pub mod Quiet
 pub mod Rows

@@ -1,15 +1,15 @@
 -- The readings of the rules S10 and S16 to S18 and of the tolls Q11, Q12 and Q14 are local, and two neighbors decide all but S18 and Q14.
 use Rattle.std.specs.Prelude.{◌≡◌, ℕ, ◌+◌, ◌^◌, ◌==◌, Bool, true, false, IsTrue, ◌++◌, length, nat_lt, if◌then◌else◌, refl}
 use Rattle.std.proofs.Common.{subst, sym, ◌∙◌}
-use Rattle.std.proofs.lemmas.Bool.{eqb-true}
+use Rattle.std.proofs.lemmas.Bool.{eqb-true, false_from_ne_true}
 use Rattle.fux_grid.specs.declared.exercise.Exercise.{Exercise}
-use Rattle.rule_law.specs.AtOnce.{AlwaysEnough}
 use Rattle.rule_law.specs.BothLaw.{RuleReading, AreLocal, SettleAtEnd}
 use Rattle.rule_law.specs.Law.{at_once_settles, both_true, local_from_row, test_from_below}
 use Rattle.rule_law.specs.NearLaw.{IsNear, near_from_whole}
 use Rattle.rule_law.specs.Nearby.{whole_of}
 use Rattle.rule_law.specs.Places.{IsLocal, IsUndisturbed, Row, SettlesAtEnd, at_once, reading_of, settled_by}
 use Rattle.rule_law.specs.Voices.{has_rule}
+use Rattle.rule_law.specs.Growth.{AlwaysEnough}
 use Rattle.motion_rules.specs.Book.{at_once_row, is_late, late_row, rule_row}
 use Rattle.motion_rules.specs.InnerVoices.{inner_toll}
 use Rattle.motion_rules.specs.Rows.{cost_enough, cost_in, imperfect_runs, near_rows, toll_rows}
@@ -56,11 +56,7 @@ motion_settles_at_end rule ex voices s i whole here = both_true (nat_lt i (lengt
 
 -- where one number has a bit and the other has none, they differ
 differs_by : (bits n k : ℕ) → has_rule bits k ≡ false → IsTrue (has_rule bits n) → (n == k) ≡ false
-differs_by bits n k none h = from (n == k) (λ e. let P : ℕ → Type 0 = λ q. IsTrue (has_rule bits q) in let both : false ≡ true = sym none ∙ subst P (eqb-true n k e) h in cc)
-  where
-    from : (b : Bool) → (b ≡ true → ⊥) → b ≡ false
-    from true f = absurd (f refl)
-    from false f = refl
+differs_by bits n k none h = false_from_ne_true (n == k) (λ e. let P : ℕ → Type 0 = λ q. IsTrue (has_rule bits q) in let both : false ≡ true = sym none ∙ subst P (eqb-true n k e) h in cc)
 
 -- where a rule isn't S18, two neighbors decide it
 pub motion_is_near : (rule : ℕ) (ex : Exercise) (voices : ℕ) → IsTrue (has_rule near_bits rule) → IsNear ex (motion_breaks rule ex voices) (near_rows rule ex voices)

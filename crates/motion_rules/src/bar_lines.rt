@@ -93,7 +93,8 @@ fn pairs_going_on(kept: &BarLines, now: &[Cell]) -> u32
 
 /// For how many pairs Q14 stands at column `i`, whose cells are `now`.
 pub fn imperfect_runs_after(kept: &BarLines, i: usize, now: &[Cell]) -> u32
-    ensures value { (ex : Exercise) (p : List (List Cell)) → length p ≡ i → IsBarLinesOf p kept.now → result ≡ reading_of (cost_in 14 ex) (p ++ now.now ∷ []) i }
+    ensures value { (ex : Exercise) (p : List (List Cell)) → length p ≡ i → IsBarLinesOf p kept.now →
+        result ≡ reading_of (cost_in 14 ex) (p ++ now.now ∷ []) i }
     ensures bound { result ≤ 6 }
 {
     if !begins_bar(i) || i / 8 < 3 {

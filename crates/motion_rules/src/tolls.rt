@@ -85,7 +85,8 @@ pub struct Q14;
 /// Whether two voices sound imperfect intervals of so many degrees at column `i` and at the beginnings of the three bars before.
 fn sound_four(score: &Score, i: usize, degrees: u8, v: usize, w: usize) -> bool
     requires { i < length score.now.columns }
-    ensures { result ≡ list_all (λ col. rows.sound_imperfect degrees col v w) (four_bar_lines (earlier score.now.columns i) (slice_index_or score.now.columns i [])) }
+    ensures { result ≡ list_all (λ col. rows.sound_imperfect degrees col v w)
+        (four_bar_lines (earlier score.now.columns i) (slice_index_or score.now.columns i [])) }
 {
     sound_imperfect(score.column(i).as_slice(), degrees, v, w)
         && sound_imperfect(score.behind(i, 7), degrees, v, w)

@@ -6,7 +6,7 @@ use Rattle.std.proofs.lemmas.Bool.{eqb-true}
 use Rattle.rule_law.specs.Growth.{any_below}
 use Rattle.rule_law.specs.Law.{below_from_test, first_true, second_true}
 use Rattle.fux_judge.specs.Rules.{rules_read}
-use Rattle.fux_judge.specs.Ends.{none_below}
+use Rattle.fux_judge.proofs.Ends.{none_below}
 
 -- one number that passes
 pub some_below : (f : ℕ → Bool) (n i : ℕ) → i < n → f i ≡ true → true ≡ any_below f n

@@ -11,7 +11,7 @@ use Rattle.penalty_sheet.specs.declared.sheet.Sheet.{Sheet}
 use Rattle.penalty_sheet.specs.Weights.{weight_of}
 use Rattle.fux_judge.specs.Rules.{all_sets, rules_read, tolls_read, enough, cost_enough, is_broken, is_settled, cost_at, is_cost_settled}
 use Rattle.fux_judge.specs.Penalties.{is_strict_at, is_strictly_broken, price_at_place, charges_settled_in, newly_broken, newly_broken_at, newly_paid, new_tolls, new_prices, settled_tolls, settled_prices}
-use Rattle.fux_judge.specs.Grows.{one_more}
+use Rattle.fux_judge.proofs.Grows.{one_more}
 use Rattle.plain_judge.specs.Between.{broken_since, charges_since, paid_since, price_since, prices_since, settled_since, some_broken_since, toll_since}
 
 none_below_zero : (i : ℕ) → nat_lt i 0 ≡ false

@@ -10,7 +10,7 @@ use Rattle.rule_law.specs.Growth.{any_below, sum_below}
 use Rattle.penalty_sheet.specs.declared.sheet.Sheet.{Sheet}
 use Rattle.penalty_sheet.specs.Weights.{weight_of}
 use Rattle.fux_judge.specs.Rules.{all_sets, rules_read, tolls_read, is_broken, is_settled, cost_at, is_cost_settled}
-use Rattle.fux_judge.specs.Penalties.{is_strict_at, price_at_place}
+use Rattle.fux_judge.specs.Penalties.{is_strict_at, price_read}
 
 -- a score may be one of an exercise, whole or in part
 pub record IsPart (ex : Exercise) (score : Grid) : Type 0 where
@@ -40,7 +40,7 @@ toll_since ex sheet p s i toll = if settled_since (is_cost_settled toll ex) p s 
 
 -- the price of a relaxed break of a rule at a place for a set of voices, where it is settled in s, and not in p
 abbrev pub price_since : Exercise → List (List Cell) → List (List Cell) → ℕ → ℕ → ℕ → ℕ
-price_since ex p s i rule voices = if settled_since (is_settled rule ex voices) p s i then (if is_broken rule ex voices s i then price_at_place rule ex voices i else 0) else 0
+price_since ex p s i rule voices = if settled_since (is_settled rule ex voices) p s i then price_read rule ex voices s i else 0
 
 -- what all of them come to at a place
 abbrev pub prices_since : Exercise → List (List Cell) → List (List Cell) → ℕ → ℕ

@@ -52,7 +52,9 @@ fn is_broken_somewhere(
     requires valid { IsValid ex.now }
     requires earlier { ForSome before (λ score. IsPart ex.now score.now) }
     requires part { IsPart ex.now score.now }
-    ensures { result ≡ any_below (broken_since rule ex.now voices.bits (columns_of (option_copied before.entry)) score.now.columns) (length score.now.columns) }
+    ensures { result ≡ any_below
+        (broken_since rule ex.now voices.bits (columns_of (option_copied before.entry)) score.now.columns)
+        (length score.now.columns) }
 {
     for i in 0..score.len() {
         if is_broken_at(rule, ex, before, score, i, voices) {
@@ -82,7 +84,8 @@ fn breaks_since(ex: &Exercise, before: Option<&Score>, score: &Score) -> RuleSet
     requires valid { IsValid ex.now }
     requires earlier { ForSome before (λ score. IsPart ex.now score.now) }
     requires part { IsPart ex.now score.now }
-    ensures { (r : ℕ) → has_rule result.bits r ≡ (is_read r && some_broken_since ex.now (columns_of (option_copied before.entry)) score.now.columns r) }
+    ensures { (r : ℕ) → has_rule result.bits r ≡
+        (is_read r && some_broken_since ex.now (columns_of (option_copied before.entry)) score.now.columns r) }
 {
     let mut set = RuleSet::EMPTY;
     for rule in every_rule() {
@@ -97,7 +100,9 @@ pub fn settled_breaks(ex: &Exercise, score: &Score) -> RuleSet
     requires valid { IsValid ex.now }
     requires part { IsPart ex.now score.now }
     ensures { (r : ℕ) → has_rule result.bits r ≡
-        (is_read r && any_below (λ i. list_any (λ voices. is_strictly_broken r ex.now voices score.now.columns i) all_sets) (length score.now.columns)) }
+        (is_read r && any_below
+        (λ i. list_any (λ voices. is_strictly_broken r ex.now voices score.now.columns i) all_sets)
+        (length score.now.columns)) }
 {
     breaks_since(ex, None, score)
 }

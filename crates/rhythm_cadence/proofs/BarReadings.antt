@@ -57,18 +57,6 @@ reading-within_bar ex voices s i h =
     never ex None = refl
     never ex (Some v) = fails (nat_lt v ex.voices) (is_free ex v)
 
--- there it is open where the bar is no whole one and its letters begin a shape
-open-bar : (ex : Exercise) (voices : ℕ) (s : List (List Cell)) (bar : ℕ) → HasBegun s bar → reading_of (open_row ex voices) s (8 * (bar - 1)) ≡ on_free_voice ex (λ v. nat_lt (length (drop (8 * (bar - 1) + 1) s)) 7 && keeps_shapes ex s bar v) voices
-open-bar ex voices s bar begun =
-    holds_of_voice-same ex _ (λ v. nat_lt (length (drop (8 * (bar - 1) + 1) s)) 7 && keeps_shapes ex s bar v) (voice_of voices)
-    (λ v. ap (λ b. b && nat_lt (length (drop (8 * (bar - 1) + 1) s)) 7 && may_go_on ex v (8 * (bar - 1)) (get_or s (8 * (bar - 1)) []) (drop (8 * (bar - 1) + 1) s)) (begins_bar-start bar)
-    ∙ ap (λ b. nat_lt (length (drop (8 * (bar - 1) + 1) s)) 7 && b) (may_go_on-bar ex v s bar begun))
-
-pub settled-bar : (ex : Exercise) (voices : ℕ) (s : List (List Cell)) (bar : ℕ) → HasBegun s bar → settled_by (enough_after 3 ex voices) s (8 * (bar - 1)) ≡ not (on_free_voice ex (λ v. nat_lt (length (drop (8 * (bar - 1) + 1) s)) 7 && keeps_shapes ex s bar v) voices)
-settled-bar ex voices s bar begun =
-    ap (λ b. b && not (reading_of (open_row ex voices) s (8 * (bar - 1)))) (lt-ltb (8 * (bar - 1)) (length s) begun.1)
-    ∙ ap not (open-bar ex voices s bar begun)
-
 -- a break of S3 is settled wherever it stands
 not_open : (slot part goes : Bool) → (slot && not goes) ≡ true → (slot && part && goes) ≡ false
 not_open true true true h = sym h

@@ -3,7 +3,7 @@ use Rattle.std.specs.Prelude.{◌≡◌, ℕ, ◌+◌, ◌-◌, ◌*◌, ◌/◌
 use Rattle.std.specs.Int.{from_bool}
 use Rattle.std.specs.List.{list_any}
 use Rattle.std.proofs.Common.{ap, sym, ◌∙◌, subst, arith}
-use Rattle.std.proofs.lemmas.Bool.{and_from, and_parts, both_ways, eq-eqb, eqb-true, ne_eqb, or_parts}
+use Rattle.std.proofs.lemmas.Bool.{and_from, and_parts, both_ways, eq-eqb, eqb-true, ne_eqb, or_parts, true_from_ne_false}
 use Rattle.std.proofs.lemmas.Bool.Decides.{nat_tests}
 use Rattle.std.proofs.lemmas.List.{length-append, length-drop}
 use Rattle.fux_grid.specs.declared.cell.Cell.{Cell}
@@ -11,7 +11,7 @@ use Rattle.fux_grid.specs.declared.exercise.Exercise.{Exercise}
 use Rattle.fux_grid.specs.Cells.{cell_in, pitch_of}
 use Rattle.fux_grid.specs.Columns.{earlier, newest_column}
 use Rattle.fux_grid.specs.Exercises.{columns_in, slot_of}
-use Rattle.rule_law.specs.AtOnce.{breaks_at_own_place, costs_at_own_place, newly_breaks-at_once, newly_costs-at_once}
+use Rattle.rule_law.proofs.AtOnce.{breaks_at_own_place, costs_at_own_place, newly_breaks-at_once, newly_costs-at_once}
 use Rattle.rule_law.specs.Bars.{begins_bar, begins_inner_bar}
 use Rattle.rule_law.specs.Forms.{IsOf, all_form, may_stand, pair_form, set_of_all, sets_of, voice_form}
 use Rattle.rule_law.specs.Growth.{newly}
@@ -20,24 +20,20 @@ use Rattle.rule_law.specs.Nearby.{previous_pitches, whole_of}
 use Rattle.rule_law.specs.Places.{reading_of, settled_by}
 use Rattle.rule_law.specs.Prefixes.{GoesOn}
 use Rattle.rule_law.specs.Quiet.{is_quiet, and_none, on_free_voice-none, on_pair-none, on_voice-none}
-use Rattle.rule_law.specs.Rulebooks.{IsAmong, KeepsLaws, KeepsRuleLaws, KeepsTollLaws, RuleRow, TollRow, newly_breaks, newly_costs, no_toll, nothing_keeps}
+use Rattle.rule_law.specs.Rulebooks.{IsAmong, KeepsLaws, KeepsRuleLaws, KeepsTollLaws, newly_breaks, newly_costs, no_toll, nothing_keeps}
 use Rattle.rule_law.specs.Terms.{holds_of, interval_in, starts}
 use Rattle.rhythm_cadence.specs.AllRules.{by_row, ligature_is_local, ligature_settles_at_end}
-use Rattle.rhythm_cadence.specs.Book.{at_once_row, book, cadence_rule, is_late, is_late_toll, late_row, late_toll, ligature_row, pattern_row, quaver_rule, quavers_settled, rule_row, shape_rule, toll_row}
+use Rattle.rhythm_cadence.specs.Book.{at_once_row, book, cadence_rule, is_late, is_late_toll, ligature_row, pattern_row, quaver_rule, quavers_settled, rule_row, shape_rule, toll_row}
 use Rattle.rhythm_cadence.specs.Cadence.{cadence_enough, cadence_row, lacks_cadence, shows_cadence}
 use Rattle.rhythm_cadence.specs.LateLaws.{pattern_enough_stays, pattern_is_local, pattern_settles_at_end, quaver_enough_stays, quaver_is_local, quaver_settles_at_end}
 use Rattle.rhythm_cadence.specs.Locality.{rhythm_breaks, rhythm_is_local, rhythm_settles_at_end, rhythm_stays}
 use Rattle.rhythm_cadence.specs.Parts.{newest_start}
 use Rattle.rhythm_cadence.specs.Patterns.{pattern_enough, repeats_bar, settles_pattern}
 use Rattle.rhythm_cadence.specs.Quavers.{quaver_enough, quaver_row}
-use Rattle.rhythm_cadence.specs.Quiet.{quiet_rows}
+use Rattle.rhythm_cadence.proofs.Quiet.{quiet_rows}
 use Rattle.rhythm_cadence.specs.Rows.{begins_last_bar, broken_in, enough_after, fits_ending, holds_of_pitch, is_final, may_go_on, near_rows, open_row, shape_row}
 use Rattle.rhythm_cadence.proofs.NewestBars.{newest_bar-more}
 use Rattle.rhythm_cadence.proofs.OrderlyReadings.{newly_broken}
-
-true_from_ne_false : (b : Bool) → (b ≡ false → ⊥) → b ≡ true
-true_from_ne_false true f = refl
-true_from_ne_false false f = absurd (f refl)
 
 -- ---- the rules that are read at once
 
@@ -405,18 +401,3 @@ tolls_keep n = at (is_late_toll n) (n == 15)
 
 pub keeps_laws : KeepsLaws book
 keeps_laws = record { rules = λ n h. rules_keep n; tolls = λ n h. tolls_keep n }
-
--- a number's rule is late if its row says so, and so is a toll
-late_row_of : (b : Bool) (x y : RuleRow) → y.late ≡ false → (if b then x else y).late ≡ true → b ≡ true
-late_row_of true x y e h = refl
-late_row_of false x y e h = cc
-
-pub is_late_from : (n : ℕ) → (rule_row n).late ≡ true → is_late n ≡ true
-is_late_from n h = late_row_of (is_late n) (late_row n) (at_once_row n) refl h
-
-late_toll_of : (b : Bool) (x y : TollRow) → y.late ≡ false → (if b then x else y).late ≡ true → b ≡ true
-late_toll_of true x y e h = refl
-late_toll_of false x y e h = cc
-
-pub is_late_toll_from : (n : ℕ) → (toll_row n).late ≡ true → is_late_toll n ≡ true
-is_late_toll_from n h = late_toll_of (is_late_toll n) (late_toll n) no_toll refl h

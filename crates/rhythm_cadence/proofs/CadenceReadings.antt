@@ -15,7 +15,7 @@ use Rattle.fux_grid.specs.Cells.{cell_follows, cell_in, first_of, is_hold, newes
 use Rattle.fux_grid.specs.Columns.{HistoryFollows, cell_at, earlier, line, newest_column}
 use Rattle.fux_grid.specs.Exercises.{IsValid, species_in}
 use Rattle.fux_grid.proofs.Histories.{earlier-all, earlier-append, line-more}
-use Rattle.rule_law.specs.AtOnce.{newly_breaks-at_once}
+use Rattle.rule_law.proofs.AtOnce.{newly_breaks-at_once}
 use Rattle.rule_law.specs.Degrees.{lies_above}
 use Rattle.rule_law.specs.Bars.{begins_bar}
 use Rattle.rule_law.specs.Forms.{set_of_all}

@@ -1,11 +1,13 @@
 pub mod BarReadings
 pub mod BookLaws
 pub mod CadenceReadings
+pub mod LowerVoices
 pub mod NewestBars
 pub mod NewestReadings
 pub mod OrderlyReadings
 pub mod PartLemmas
 pub mod PatternReadings
 pub mod QuaverReadings
-pub mod ShapeSets
+pub mod Quiet
 pub mod ShapeLeft
+pub mod ShapeSets

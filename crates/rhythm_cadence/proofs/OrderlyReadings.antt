@@ -1,7 +1,7 @@
 -- Orderly lists are those in which S3 is nowhere broken, and what a column more settles of it.
 use Rattle.std.proofs.Common.{◌≡◌, ℕ, ◌+◌, ◌-◌, ◌*◌, ◌/◌, ◌%◌, ◌^◌, ◌<◌, ◌≤◌, ◌==◌, Bool, true, false, ◌&&◌, List, [], ◌∷◌, ◌++◌, length, IsTrue, refl, ap, sym, ◌∙◌, subst, inl, inr, arith}
 use Rattle.std.specs.Prelude.{Option, Some, None, not, nat_lt}
-use Rattle.std.proofs.lemmas.Bool.{eqb-true, eq-eqb, ne_eqb, lt-ltb, not-false, and_from, cases_Bool, cases_eq, false_from_ne_true, both_ways}
+use Rattle.std.proofs.lemmas.Bool.{eqb-true, eq-eqb, ne_eqb, lt-ltb, not-false, cases_Bool, cases_eq, false_from_ne_true, both_ways}
 use Rattle.std.proofs.lemmas.List.{length-append}
 use Rattle.fux_grid.specs.declared.cell.Cell.{Cell}
 use Rattle.fux_grid.specs.declared.exercise.Exercise.{Exercise}
@@ -120,21 +120,3 @@ newly_broken ex p col orderly voices i =
           ap (λ b. b && not (rhythm_settles 3 ex voices p i)) (not_newly ex p col orderly voices i other broken)
           ∙ sym (ne_eqb i (newest_start (p ++ col ∷ [])) other)
     ])
-
--- no break of S3 is settled in an orderly list
-pub orderly-settles_none : (ex : Exercise) (p : List (List Cell)) → IsOrderly ex p → (voices i : ℕ) → (rhythm_settles 3 ex voices p i && rhythm_breaks 3 ex voices p i) ≡ false
-orderly-settles_none ex p orderly voices i =
-    settled_means (rhythm_settles 3 ex voices p i) (rhythm_breaks 3 ex voices p i) (λ s.
-    orderly-unbroken ex p orderly voices i (below_from_test i (length p) (first_true (nat_lt i (length p)) (reading_of (enough_after 3 ex voices) p i) s)))
-  where
-    settled_means : (s b : Bool) → (s ≡ true → b ≡ false) → (s && b) ≡ false
-    settled_means true b f = f refl
-    settled_means false b f = refl
-
--- and a list in which none is settled is orderly
-pub settles_none-orderly : (ex : Exercise) (p : List (List Cell)) → ex.voices ≤ 4 → ((voices i : ℕ) → (rhythm_settles 3 ex voices p i && rhythm_breaks 3 ex voices p i) ≡ false) → IsOrderly ex p
-settles_none-orderly ex p four none =
-    unbroken-orderly ex p four (λ v bar below begun.
-    false_from_ne_true (rhythm_breaks 3 ex (2 ^ v) p (8 * (bar - 1))) (λ broken.
-    both_ways (rhythm_settles 3 ex (2 ^ v) p (8 * (bar - 1)) && rhythm_breaks 3 ex (2 ^ v) p (8 * (bar - 1))) (none (2 ^ v) (8 * (bar - 1)))
-    (and_from (rhythm_settles 3 ex (2 ^ v) p (8 * (bar - 1))) (rhythm_breaks 3 ex (2 ^ v) p (8 * (bar - 1))) (break_is_settled ex (2 ^ v) p (8 * (bar - 1)) begun.1 broken) broken)))

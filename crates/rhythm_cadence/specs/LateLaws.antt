@@ -4,7 +4,7 @@ use Rattle.std.specs.Int.{from_bool}
 use Rattle.std.specs.List.{list_all}
 use Rattle.std.proofs.Common.{ap, sym, ◌∙◌, subst, arith, drop-cons}
 use Rattle.std.proofs.Math.ListN.{get_or-append}
-use Rattle.std.proofs.lemmas.Bool.{eqb-true}
+use Rattle.std.proofs.lemmas.Bool.{eqb-true, or_right}
 use Rattle.std.proofs.lemmas.Bool.Decides.{nat_tests}
 use Rattle.std.proofs.lemmas.List.{length-append, length-drop, reverse-reverse, take-append-drop}
 use Rattle.fux_grid.specs.declared.cell.Cell.{Cell}
@@ -19,7 +19,7 @@ use Rattle.fux_grid.proofs.OrderlyLemmas.{orderly-fewer}
 use Rattle.rule_law.specs.After.{onset_pitch}
 use Rattle.rule_law.specs.Bars.{begins_bar}
 use Rattle.rule_law.specs.Growth.{EnoughStays}
-use Rattle.rule_law.specs.LateLaw.{StaysAhead, by_either, ends_when_whole, local_from_ahead, whole_same, whole_stays}
+use Rattle.rule_law.proofs.LateLaw.{StaysAhead, by_either, ends_when_whole, local_from_ahead, whole_same, whole_stays}
 use Rattle.rule_law.specs.Law.{both_true, local_from_row, test_from_below}
 use Rattle.rule_law.specs.Nearby.{RestsFirst}
 use Rattle.rule_law.specs.OrderlyLaw.{free_rests}
@@ -107,13 +107,9 @@ quaver_stays_ahead ex voices p t i on here h =
 pub quaver_is_local : (ex : Exercise) (voices : ℕ) → IsLocal ex (reading_of (quaver_row ex voices)) (settled_by (quaver_enough ex voices))
 quaver_is_local ex voices = local_from_ahead ex (quaver_row ex voices) (quaver_enough ex voices) (quaver_stays_ahead ex voices)
 
-or_second : (a b : Bool) → b ≡ true → (a || b) ≡ true
-or_second true b h = refl
-or_second false b h = h
-
 or_each : (a b c d : Bool) → (a ≡ true → c ≡ true) → (b ≡ true → d ≡ true) → (a || b) ≡ true → (c || d) ≡ true
 or_each true b c d f g h = ap (λ x. x || d) (f refl)
-or_each false b c d f g h = or_second c d (g h)
+or_each false b c d f g h = or_right c d (g h)
 
 more_ahead : (n : ℕ) (ahead t : List (List Cell)) → nat_le n (length ahead) ≡ true → nat_le n (length (ahead ++ t)) ≡ true
 more_ahead n ahead t h =
@@ -132,7 +128,7 @@ quaver_enough_stays ex voices i behind now ahead t h =
 
 pub quaver_settles_at_end : (ex : Exercise) (voices : ℕ) → SettlesAtEnd ex (settled_by (quaver_enough ex voices))
 quaver_settles_at_end ex voices =
-    ends_when_whole ex (quaver_enough ex voices) (λ i behind now ahead whole. or_second (nat_lt 0 (length ahead)) (is_whole ex i ahead) whole)
+    ends_when_whole ex (quaver_enough ex voices) (λ i behind now ahead whole. or_right (nat_lt 0 (length ahead)) (is_whole ex i ahead) whole)
 
 -- ---- Q16
 

@@ -4,10 +4,8 @@ pub mod Cadence
 pub mod InPlace
 pub mod LateLaws
 pub mod Locality
-pub mod LowerVoices
 pub mod NewestCells
 pub mod Parts
 pub mod Patterns
 pub mod Quavers
-pub mod Quiet
 pub mod Rows

@@ -1,10 +1,10 @@
 -- A rule added to a set, and the union of two sets.
-use Rattle.std.proofs.Common.{◌≡◌, ℕ, ◌*◌, ◌%◌, ◌^◌, ◌<◌, ◌≤◌, max, min, IsTrue, ◌==◌, ◌||◌, Bool, true, false, bit_and, bit_or, refl, ap, sym, ◌∙◌, subst, w32, arith}
+use Rattle.std.proofs.Common.{◌≡◌, ℕ, ◌*◌, ◌%◌, ◌^◌, ◌<◌, ◌≤◌, max, IsTrue, ◌==◌, ◌||◌, Bool, true, false, bit_or, refl, ap, sym, ◌∙◌, subst, w32, arith}
 use Rattle.std.proofs.lemmas.Bool.{eqb-true, eq-eqb}
-use Rattle.std.proofs.lemmas.Nat.Bits.{bit_at_set_same, bit_at_set_other, bit_at_above, bit_at_and, bit_at_or, bit_at-lt, bit_at-zero}
+use Rattle.std.proofs.lemmas.Nat.Bits.{bit_at_set_same, bit_at_set_other, bit_at_above, bit_at_or, bit_at-lt}
 use Rattle.std.proofs.lemmas.Bool.Decides.{nat_tests}
 use Rattle.std.specs.Int.{bit_at}
-use Rattle.rule_law.specs.BothLaw.{AreApart, IsUnion}
+use Rattle.rule_law.specs.BothLaw.{IsUnion}
 use Rattle.rule_law.specs.Voices.{has_rule}
 
 or_true : (a : Bool) → true ≡ (a || true)
@@ -44,11 +44,3 @@ either_has x y h k = grind (arith, nat_tests)
 
 pub union_has : (a b : ℕ) → IsUnion (bit_or a b) a b
 union_has a b rule = ap (λ n. n == 1) (bit_at_or a b rule) ∙ either_has (bit_at a rule) (bit_at b rule) (bit_at-lt a rule) (bit_at-lt b rule)
-
--- sets that have no bit together have no rule together
-none_in_both : (x y : ℕ) → x < 2 → y < 2 → min x y ≡ 0 → (x == 1) ≡ true → (y == 1) ≡ false
-none_in_both x y h k e f = grind (arith, nat_tests)
-
-pub apart_from_bits : (a b : ℕ) → bit_and a b ≡ 0 → AreApart a b
-apart_from_bits a b e rule h =
-    none_in_both (bit_at a rule) (bit_at b rule) (bit_at-lt a rule) (bit_at-lt b rule) (sym (bit_at_and a b rule) ∙ ap (λ n. bit_at n rule) e ∙ bit_at-zero rule) h

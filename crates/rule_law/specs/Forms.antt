@@ -75,8 +75,3 @@ all_form ex test = at (ex.voices == 2) (ex.voices == 3) refl refl
     at true c e f = rw e (record { any = λ also. refl; sum = λ price. omega arith })
     at false true e f = rw (e, f) (record { any = λ also. refl; sum = λ price. omega arith })
     at false false e f = rw (e, f) (record { any = λ also. refl; sum = λ price. omega arith })
-
--- of two tests of one form a choice is of it
-pub choose_form : (b : Bool) (sets : List ℕ) (x y : ℕ → Bool) → IsOf sets x → IsOf sets y → IsOf sets (λ voices. if b then x voices else y voices)
-choose_form true sets x y h k = h
-choose_form false sets x y h k = k

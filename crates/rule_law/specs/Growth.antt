@@ -37,6 +37,10 @@ newly settles p col i = settles (p ++ col ∷ []) i && not (settles p i)
 abbrev pub EnoughStays : Row Bool → Type 0
 EnoughStays enough = (i : ℕ) (behind : List (List Cell)) (now : List Cell) (ahead t : List (List Cell)) → IsTrue (enough i behind now ahead) → IsTrue (enough i behind now (ahead ++ t))
 
+-- at each place any columns are enough
+abbrev pub AlwaysEnough : Row Bool → Type 0
+AlwaysEnough enough = (i : ℕ) (behind : List (List Cell)) (now : List Cell) (ahead : List (List Cell)) → enough i behind now ahead ≡ true
+
 pub stays_from_enough : (enough : Row Bool) → EnoughStays enough → Stays (settled_by enough)
 stays_from_enough enough more p t i h =
     let here : i < length p = below_from_test i (length p) (first_true (nat_lt i (length p)) (reading_of enough p i) h) in

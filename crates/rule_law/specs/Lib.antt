@@ -1,15 +1,12 @@
 pub mod After
-pub mod AtOnce
 pub mod Bars
 pub mod BothLaw
 pub mod Degrees
 pub mod Forms
 pub mod Gauges
 pub mod Growth
-pub mod LateLaw
 pub mod Law
 pub mod Leading
-pub mod LowerVoices
 pub mod NearLaw
 pub mod Nearby
 pub mod Newest

@@ -2,7 +2,7 @@
 use Rattle.std.specs.Prelude.{◌≡◌, ℕ, zero, suc, ◌==◌, Bool, true, false, not, ◌&&◌, ◌||◌, cond, nat_le, nat_lt, List, [], ◌∷◌, Option, Some, None, if◌then◌else◌, refl}
 use Rattle.std.specs.List.{list_any}
 use Rattle.std.proofs.Common.{ap}
-use Rattle.std.proofs.lemmas.Bool.{and_parts}
+use Rattle.std.proofs.lemmas.Bool.{and_parts, not-true, or_parts}
 use Rattle.fux_grid.specs.declared.cell.Cell.{Cell}
 use Rattle.fux_grid.specs.declared.exercise.Exercise.{Exercise}
 use Rattle.fux_grid.specs.Cells.{cell_in}
@@ -17,28 +17,20 @@ use Rattle.rule_law.specs.Voices.{count_free, holds_of_pair, holds_of_voice, is_
 abbrev pub is_quiet : ℕ → List Cell → Bool
 is_quiet i now = not (begins_bar i) && not (list_any starts now)
 
-not_from : (b : Bool) → not b ≡ true → b ≡ false
-not_from true h = cc
-not_from false h = refl
-
-pub neither : (a b : Bool) → (a || b) ≡ false → (a ≡ false) × (b ≡ false)
-neither true b h = cc
-neither false b h = (refl, h)
-
 none_starts : (now : List Cell) → list_any starts now ≡ false → (v : ℕ) → starts (cell_in now v) ≡ false
 none_starts [] h v = refl
-none_starts (c ∷ now) h zero = (neither (starts c) (list_any starts now) h).0
-none_starts (c ∷ now) h (suc v) = none_starts now (neither (starts c) (list_any starts now) h).1 v
+none_starts (c ∷ now) h zero = (or_parts (starts c) (list_any starts now) h).0
+none_starts (c ∷ now) h (suc v) = none_starts now (or_parts (starts c) (list_any starts now) h).1 v
 
 -- at a quiet column no bar begins, and no voice starts a note
 pub quiet_slot : (i : ℕ) (now : List Cell) → is_quiet i now ≡ true → begins_bar i ≡ false
-quiet_slot i now h = not_from (begins_bar i) (and_parts (not (begins_bar i)) (not (list_any starts now)) h).0
+quiet_slot i now h = not-true (begins_bar i) (and_parts (not (begins_bar i)) (not (list_any starts now)) h).0
 
 pub quiet_inner : (ex : Exercise) (i : ℕ) (now : List Cell) → is_quiet i now ≡ true → begins_inner_bar ex i ≡ false
 quiet_inner ex i now h = ap (λ b. b && nat_le 2 (bar_of i) && nat_lt (bar_of i) ex.bars) (quiet_slot i now h)
 
 pub quiet_cell : (i : ℕ) (now : List Cell) → is_quiet i now ≡ true → (v : ℕ) → starts (cell_in now v) ≡ false
-quiet_cell i now h = none_starts now (not_from (list_any starts now) (and_parts (not (begins_bar i)) (not (list_any starts now)) h).1)
+quiet_cell i now h = none_starts now (not-true (list_any starts now) (and_parts (not (begins_bar i)) (not (list_any starts now)) h).1)
 
 pub quiet_pair : (i : ℕ) (now : List Cell) → is_quiet i now ≡ true → (v w : ℕ) → one_starts now v w ≡ false
 quiet_pair i now h v w = rw (quiet_cell i now h v, quiet_cell i now h w) refl
@@ -88,10 +80,10 @@ either_none false x y n h k = k
 pub on_free_voice-kept : (ex : Exercise) (rough test : ℕ → Bool) (voices : ℕ) → list_any (λ v. nat_lt v ex.voices && (is_free ex v && rough v)) (0 ∷ 1 ∷ 2 ∷ 3 ∷ []) ≡ false → (rough 0 ≡ false → test 0 ≡ false) → (rough 1 ≡ false → test 1 ≡ false) → (rough 2 ≡ false → test 2 ≡ false) → (rough 3 ≡ false → test 3 ≡ false) → on_free_voice ex test voices ≡ false
 on_free_voice-kept ex rough test voices h k0 k1 k2 k3 =
     let here : ℕ → Bool = λ v. nat_lt v ex.voices && (is_free ex v && rough v) in
-    let a = neither (here 0) (here 1 || (here 2 || (here 3 || false))) h in
-    let b = neither (here 1) (here 2 || (here 3 || false)) a.1 in
-    let d = neither (here 2) (here 3 || false) b.1 in
-    let e = neither (here 3) false d.1 in
+    let a = or_parts (here 0) (here 1 || (here 2 || (here 3 || false))) h in
+    let b = or_parts (here 1) (here 2 || (here 3 || false)) a.1 in
+    let d = or_parts (here 2) (here 3 || false) b.1 in
+    let e = or_parts (here 3) false d.1 in
     chosen (voices == 1) (Some 0) _ (one (nat_lt 0 ex.voices) (is_free ex 0) (rough 0) (test 0) a.0 k0)
     (chosen (voices == 2) (Some 1) _ (one (nat_lt 1 ex.voices) (is_free ex 1) (rough 1) (test 1) b.0 k1)
     (chosen (voices == 4) (Some 2) _ (one (nat_lt 2 ex.voices) (is_free ex 2) (rough 2) (test 2) d.0 k2)

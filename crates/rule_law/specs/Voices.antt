@@ -1,5 +1,5 @@
 -- Sets of voices and of rules, as bits.
-use Rattle.std.specs.Prelude.{ℕ, ◌==◌, ◌/◌, ◌%◌, ◌^◌, Bool, false, not, ◌&&◌, nat_lt, count_by, List, [], ◌∷◌, Option, Some, None, if◌then◌else◌}
+use Rattle.std.specs.Prelude.{ℕ, ◌==◌, ◌/◌, ◌%◌, ◌^◌, Bool, true, false, not, ◌&&◌, nat_lt, count_by, List, [], ◌∷◌, Option, Some, None, if◌then◌else◌}
 use Rattle.fux_grid.specs.declared.exercise.Exercise.{Exercise}
 
 -- the one voice of a set of bits
@@ -9,6 +9,18 @@ voice_of bits = if bits == 1 then Some 0 else (if bits == 2 then Some 1 else (if
 -- the two voices of a set of bits, the lower first
 abbrev pub pair_of : ℕ → Option (ℕ × ℕ)
 pair_of bits = if bits == 3 then Some (0, 1) else (if bits == 5 then Some (0, 2) else (if bits == 9 then Some (0, 3) else (if bits == 6 then Some (1, 2) else (if bits == 10 then Some (1, 3) else (if bits == 12 then Some (2, 3) else None)))))
+
+-- the voices of a set are all among the first ones
+abbrev pub voice_is_below : ℕ → Option ℕ → Bool
+voice_is_below n None = true
+voice_is_below n (Some v) = nat_lt v n
+
+abbrev pub pair_is_below : ℕ → Option (ℕ × ℕ) → Bool
+pair_is_below n None = true
+pair_is_below n (Some pair) = nat_lt pair.0 n && nat_lt pair.1 n
+
+abbrev pub is_below : ℕ → ℕ → Bool
+is_below n voices = voice_is_below n (voice_of voices) && pair_is_below n (pair_of voices)
 
 -- the sets of one voice and of two, of four voices at most
 abbrev pub voice_sets : List ℕ

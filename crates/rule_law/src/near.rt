@@ -67,7 +67,8 @@ pub trait Near: Rule {
         requires valid { IsValid ex.now }
         requires place { i < columns_in ex.now }
         requires full { length next.now.items ≡ ex.now.voices }
-        ensures read { IsTrue (has_rule (near_tolls self.now) toll) → result ≡ near_of (toll_row self.now toll ex.now) i (cells_before prev.entry) next.now.items }
+        ensures read { IsTrue (has_rule (near_tolls self.now) toll) →
+            result ≡ near_of (toll_row self.now toll ex.now) i (cells_before prev.entry) next.now.items }
         ensures other { has_rule (near_tolls self.now) toll ≡ false → result ≡ 0 };
 
     /// After an orderly prefix a rule's reading of neighbors is its reading of the whole list.

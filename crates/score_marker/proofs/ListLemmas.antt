@@ -1,7 +1,7 @@
 -- Lists that are made from lists: what they contain, and in which order.
 use Rattle.std.proofs.Common.{◌≡◌, inl, inr, ℕ, zero, suc, ◌+◌, ◌==◌, ◌<◌, Bool, true, false, ◌&&◌, ◌||◌, List, [], ◌∷◌, ◌++◌, length, get_or, map, refl, ap, sym, ◌∙◌, subst, arith}
 use Rattle.std.specs.List.{AllPairs, Contains, flat_map, list_all, list_any, range_with_len}
-use Rattle.std.proofs.lemmas.Bool.{eqb-true}
+use Rattle.std.proofs.lemmas.Bool.{eqb-true, and_parts}
 use Rattle.std.proofs.lemmas.List.{get_or-map, length-map}
 use Rattle.std.proofs.lemmas.List.Elements.{Contains-append_cases, Contains-append_left, Contains-append_right, Contains-get_or}
 use Rattle.std.proofs.lemmas.List.FromFn.{get_or-range_with_len, length-range_with_len}
@@ -67,15 +67,11 @@ tested (y ∷ ys) x h = by_test (y == x) refl h (tested ys x)
     by_test true e k below = (0, omega arith, eqb-true y x e)
     by_test false e k below = Contains-behind y ys x (below k)
 
-both : (a b : Bool) → (a && b) ≡ true → (a ≡ true) × (b ≡ true)
-both true b h = (refl, h)
-both false b h = cc
-
 all_passes : {X : Type 0} (test : X → Bool) (xs : List X) (x : X) → list_all test xs ≡ true → Contains xs x → test x ≡ true
 all_passes test [] x h k = absurd (Contains-nil x k)
 all_passes test (y ∷ ys) x h k = elim (Contains-cons_cases y ys x k) [
-  | inl e ↦ ap test (sym e) ∙ (both (test y) (list_all test ys) h).0
-  | inr l ↦ all_passes test ys x (both (test y) (list_all test ys) h).1 l
+  | inl e ↦ ap test (sym e) ∙ (and_parts (test y) (list_all test ys) h).0
+  | inr l ↦ all_passes test ys x (and_parts (test y) (list_all test ys) h).1 l
 ]
 
 -- each number of a list stands in another
@@ -92,8 +88,8 @@ AllPairs-by_test test [] h i j d k l = absurd (omega arith)
 AllPairs-by_test test (x ∷ xs) h zero zero d k l = absurd (omega arith)
 AllPairs-by_test test (x ∷ xs) h (suc i) zero d k l = absurd (omega arith)
 AllPairs-by_test test (x ∷ xs) h zero (suc j) d k l =
-    all_passes (test x) xs (get_or xs j d) (both (list_all (test x) xs) (passes_pairwise test xs) h).0 (Contains-get_or xs j d (omega arith))
-AllPairs-by_test test (x ∷ xs) h (suc i) (suc j) d k l = AllPairs-by_test test xs (both (list_all (test x) xs) (passes_pairwise test xs) h).1 i j d (omega arith) (omega arith)
+    all_passes (test x) xs (get_or xs j d) (and_parts (list_all (test x) xs) (passes_pairwise test xs) h).0 (Contains-get_or xs j d (omega arith))
+AllPairs-by_test test (x ∷ xs) h (suc i) (suc j) d k l = AllPairs-by_test test xs (and_parts (list_all (test x) xs) (passes_pairwise test xs) h).1 i j d (omega arith) (omega arith)
 
 -- ---- the numbers below n
 

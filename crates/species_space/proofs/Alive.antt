@@ -12,7 +12,7 @@ use Rattle.fux_grid.specs.Exercises.{columns_in}
 use Rattle.fux_grid.specs.Menus.{IsInMenu, menu_of}
 use Rattle.fux_grid.proofs.Histories.{reverse-push}
 use Rattle.rule_law.specs.Prefixes.{GoesOn, IsPrefix}
-use Rattle.fux_judge.specs.Alive.{alive_orderly}
+use Rattle.fux_judge.proofs.Alive.{alive_orderly}
 use Rattle.species_space.specs.Exact.{menus_are_exact}
 use Rattle.species_space.specs.Leaves.{prefix_is_alive}
 use Rattle.species_space.specs.Paths.{column_at, is_alive_path, length-columns_on, prefix_at, width_at}

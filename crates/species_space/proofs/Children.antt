@@ -11,8 +11,8 @@ use Rattle.rule_law.specs.Law.{both_true, test_from_below}
 use Rattle.rule_law.specs.Prefixes.{IsPrefix}
 use Rattle.penalty_sheet.specs.declared.sheet.Sheet.{Sheet}
 use Rattle.fux_judge.specs.Gauges.{least_of}
-use Rattle.fux_judge.specs.Grows.{paid_grows}
-use Rattle.fux_judge.specs.Least.{least_grows}
+use Rattle.fux_judge.proofs.Grows.{paid_grows}
+use Rattle.fux_judge.proofs.LeastLaws.{least_grows}
 use Rattle.fux_judge.specs.Rules.{rules_read}
 use Rattle.fux_judge.specs.Penalties.{newly_broken, newly_paid, paid}
 use Rattle.floor_tables.specs.Floors.{rest_of}

@@ -1,24 +1,21 @@
 -- From the end of a lawful setting back to its beginning floors don't rise (`floors_hold`).
-use Rattle.std.proofs.Common.{◌≡◌, ℕ, ◌≤◌, Bool, true, false, ◌||◌, List, [], ◌∷◌, ◌++◌, Option, Some, None, refl, sym, ◌∙◌, subst, arith}
+use Rattle.std.proofs.Common.{◌≡◌, ℕ, ◌≤◌, ◌||◌, List, [], ◌∷◌, ◌++◌, Option, Some, None, refl, sym, ◌∙◌, subst, arith}
 use Rattle.std.specs.Prelude.{IsSome, IsSomeAnd}
 use Rattle.std.specs.List.{list_any}
 use Rattle.std.proofs.lemmas.List.{append_assoc, append-nil}
+use Rattle.std.proofs.lemmas.Bool.{or_parts}
 use Rattle.fux_grid.specs.declared.cell.Cell.{Cell}
 use Rattle.fux_grid.specs.declared.exercise.Exercise.{Exercise}
 use Rattle.fux_grid.specs.Exercises.{IsValid}
 use Rattle.penalty_sheet.specs.declared.sheet.Sheet.{Sheet}
-use Rattle.fux_judge.specs.Alive.{alive_if_unbroken, prefix_before}
-use Rattle.fux_judge.specs.Grows.{strict_break_grows}
+use Rattle.fux_judge.proofs.Alive.{alive_if_unbroken, prefix_before}
+use Rattle.fux_judge.proofs.Grows.{strict_break_grows}
 use Rattle.fux_judge.specs.Lawful.{IsAlive, IsLawful}
 use Rattle.fux_judge.specs.Penalties.{has_strict_break, newly_broken, penalty_of}
 use Rattle.fux_judge.specs.Rules.{rules_read}
 use Rattle.floor_tables.specs.Floors.{IsLive, floor_of}
 use Rattle.species_space.specs.FloorLaws.{floor_at_end, floor_grows, floor_parts}
 use Rattle.species_space.specs.Floors.{HasFloors}
-
-or_false : (a b : Bool) → (a || b) ≡ false → a ≡ false
-or_false true b h = cc
-or_false false b h = refl
 
 module _ (ex : Exercise) (sheet : Sheet) (valid : IsValid ex) where
   -- in the prefix no strict break is settled, and its floor is at most so much
@@ -29,7 +26,7 @@ module _ (ex : Exercise) (sheet : Sheet) (valid : IsValid ex) where
   alive_before : (p : List (List Cell)) (col : List Cell) → IsAlive ex (p ++ col ∷ []) → IsAlive ex p
   alive_before p col alive = record {
     prefix = prefix_before ex p col alive.prefix;
-    unbroken = or_false (has_strict_break ex p) (list_any (newly_broken ex p col) rules_read) (sym (strict_break_grows ex p col) ∙ alive.unbroken);
+    unbroken = (or_parts (has_strict_break ex p) (list_any (newly_broken ex p col) rules_read) (sym (strict_break_grows ex p col) ∙ alive.unbroken)).0;
   }
 
   low_before : (most : ℕ) (p : List (List Cell)) (col : List Cell) → IsLow most (p ++ col ∷ []) → IsLow most p

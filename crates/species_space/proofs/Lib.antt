@@ -1,6 +1,9 @@
 pub mod Alive
+pub mod Best
 pub mod Children
 pub mod FloorSteps
+pub mod Live
+pub mod LoadLaws
 pub mod MenuSteps
 pub mod Passing
 pub mod PathSteps

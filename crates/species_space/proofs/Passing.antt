@@ -2,7 +2,6 @@
 use Rattle.std.proofs.Common.{◌≡◌, nat_lt, ℕ, zero, suc, ◌+◌, ◌*◌, ◌/◌, ◌<◌, ◌≤◌, Bool, true, false, not, All, List, [], ◌∷◌, ◌++◌, replicate, IsTrue, length, slice_index_or, take, refl, ap, sym, ◌∙◌, subst, arith, true≢false}
 use Rattle.std.specs.declared.cmp.Ordering.{Ordering}
 use Rattle.std.specs.declared.cmp.Ordering.TheVariants.{Less, Equal}
-use Rattle.std.proofs.Math.Nat.{div-lt_iff_lt-mul, div-mul-le_self, div-one, le-div_iff_mul-le, lt-div-mul-add}
 use Rattle.std.proofs.lemmas.List.{length-map, length-replicate, same_lists, get_or_default, get_or-replicate}
 use Rattle.std.proofs.lemmas.Bool.Decides.{nat_tests}
 use Rattle.arrayvec.specs.ArrayVec.{ArrayVec}
@@ -31,29 +30,6 @@ same_from_test (Hold p) Rest h = cc
 same_from_test (Hold p) (Start q) h = cc
 same_from_test (Start p) Rest h = cc
 same_from_test (Start p) (Hold q) h = cc
-
--- the end of a block
-pub block_ends : (k size : ℕ) → 1 ≤ size → IsBlockEnd k size (k / size * size + size)
-block_ends k size some = record {
-  onward = lt-div-mul-add some;
-  one_block = λ j le lt.
-      let below : j < (k / size + 1) * size = omega (arith, ends, lt) in
-      let high : j / size < k / size + 1 = (div-lt_iff_lt-mul some).1 below in
-      let low : k / size ≤ j / size = (le-div_iff_mul-le some).1 (omega (arith, div-mul-le_self k size, le)) in
-      omega (arith, high, low);
-}
-  where
-    ends : (k / size + 1) * size ≡ k / size * size + size
-    ends = more (k / size)
-      where
-        more : (q : ℕ) → (q + 1) * size ≡ q * size + size
-        more q = omega arith
-
--- each column is a block of its own
-pub one_column_blocks : (menu : List (List Cell)) (v : ℕ) → KeepsCell menu v 1
-one_column_blocks menu v k lt =
-    let e : k ≡ k / 1 * 1 = omega (arith, div-one k) in
-    ap (λ n. cell_in (slice_index_or menu n []) v) e
 
 -- within a block a voice has one cell
 pub one_cell : (menu : List (List Cell)) (v size j k : ℕ) → KeepsCell menu v size → j < length menu → k < length menu → j / size ≡ k / size → cell_in (slice_index_or menu j []) v ≡ cell_in (slice_index_or menu k []) v

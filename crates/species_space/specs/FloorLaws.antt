@@ -8,20 +8,22 @@ use Rattle.rule_law.specs.Prefixes.{IsSetting}
 use Rattle.penalty_sheet.specs.declared.sheet.Sheet.{Sheet}
 use Rattle.fux_judge.specs.Gauges.{least_of}
 use Rattle.fux_judge.specs.Lawful.{IsAlive}
-use Rattle.fux_judge.specs.Least.{least_grows, paid_and_least_at_end}
+use Rattle.fux_judge.proofs.LeastLaws.{least_grows, paid_and_least_at_end}
 use Rattle.fux_judge.specs.Penalties.{paid, penalty_of}
 use Rattle.floor_tables.specs.Floors.{IsLive, floor_of, rest_of}
-use Rattle.floor_tables.specs.Grows as grows
-
-mapped_if_some : (f : ℕ → ℕ) (o : Option ℕ) → IsSome o → IsSome (option_map f o)
-mapped_if_some f None h = cc
-mapped_if_some f (Some x) h = refl
+use Rattle.floor_tables.proofs.Grows as grows
 
 -- what a floor is of
 pub record FloorParts (ex : Exercise) (sheet : Sheet) (p : List (List Cell)) (floor : ℕ) : Type 0 where
   pub rest : ℕ
   pub is_rest : rest_of ex sheet p ≡ Some rest
   pub sum : paid ex sheet p + least_of ex sheet p + rest ≡ floor
+
+-- ---- what holds of them
+
+mapped_if_some : (f : ℕ → ℕ) (o : Option ℕ) → IsSome o → IsSome (option_map f o)
+mapped_if_some f None h = cc
+mapped_if_some f (Some x) h = refl
 
 module _ (ex : Exercise) (sheet : Sheet) where
   -- a prefix has a floor exactly where a chain goes on from it

@@ -15,6 +15,13 @@ use Rattle.species_space.specs.FloorLaws.{floor_grows}
 use Rattle.species_space.specs.Leaves.{prefix_is_alive}
 use Rattle.species_space.specs.Paths.{prefix_at, column_at, is_alive_path, goes_on, live_at, width_at, alive_parts, alive_goes_on, alive_parent, prefix_at-append}
 
+-- the tests of one step
+pub record GoesOn (ex : Exercise) (path : List ℕ) (k : ℕ) : Type 0 where
+  pub above : length path < columns_in ex
+  pub within : k < width_at ex path
+
+-- ---- what holds of them
+
 -- what is chosen is there where the test holds
 chosen : (b : Bool) (x : Option ℕ) (y : ℕ) → (if b then x else None) ≡ Some y → (b ≡ true) × (x ≡ Some y)
 chosen true x y h = (refl, h)
@@ -32,11 +39,6 @@ live_some ex sheet path h = ap (λ b. if b then floor_of ex sheet (prefix_at ex 
 pub live_none : (ex : Exercise) (sheet : Sheet) (path : List ℕ) → is_alive_path ex path ≡ false → live_at ex sheet path ≡ None
 unfolding live_at
 live_none ex sheet path h = ap (λ b. if b then floor_of ex sheet (prefix_at ex path) else None) h
-
--- the tests of one step
-pub record GoesOn (ex : Exercise) (path : List ℕ) (k : ℕ) : Type 0 where
-  pub above : length path < columns_in ex
-  pub within : k < width_at ex path
 
 pub goes_on_parts : (ex : Exercise) (path : List ℕ) (k : ℕ) → goes_on ex path k ≡ true → GoesOn ex path k
 goes_on_parts ex path k h = five (nat_lt (length path) (columns_in ex)) (nat_lt k (width_at ex path)) _ _ h refl refl

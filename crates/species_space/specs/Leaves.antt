@@ -6,6 +6,7 @@ use Rattle.std.proofs.Common.{ap, sym, ◌∙◌, subst, arith}
 use Rattle.std.proofs.lemmas.List.Elements.{Contains-get_or}
 use Rattle.std.proofs.lemmas.Bool.Decides.{nat_tests}
 use Rattle.std.specs.declared.cmp.Ordering.TheVariants.{Less}
+use Rattle.std.proofs.lemmas.Bool.{not-true, not-false, not_from_true}
 use Rattle.fux_grid.specs.declared.cell.Cell.{Cell}
 use Rattle.fux_grid.specs.declared.cell.Cell.TheVariants.{Rest}
 use Rattle.fux_grid.specs.declared.exercise.Exercise.{Exercise}
@@ -17,49 +18,9 @@ use Rattle.fux_grid.specs.Order.{column_order}
 use Rattle.rule_law.specs.Growth.{any_below}
 use Rattle.rule_law.specs.Law.{first_true, second_true, both_true, below_from_test, test_from_below}
 use Rattle.fux_judge.specs.Penalties.{has_strict_break}
-use Rattle.fux_judge.specs.Ends.{none_below, from_none_below}
+use Rattle.fux_judge.proofs.Ends.{none_below, from_none_below}
 use Rattle.fux_judge.specs.Lawful.{IsAlive}
 use Rattle.species_space.specs.Paths.{columns_on, prefix_at, is_in_menus, column_follows, history_follows, is_alive_path, alive_parts, alive_from_parts, length-columns_on}
-
-not_false : (b : Bool) → not b ≡ false → IsTrue b
-not_false true h = refl
-not_false false h = cc
-
-true_not : (b : Bool) → IsTrue b → not b ≡ false
-true_not true h = refl
-true_not false h = cc
-
-not_not : (b : Bool) → not b ≡ true → b ≡ false
-not_not true h = cc
-not_not false h = refl
-
--- a cell that a column lacks is a rest
-past_end : (col : List Cell) (v : ℕ) → length col ≤ v → cell_in col v ≡ Rest
-past_end [] v h = refl
-past_end (c ∷ col) zero h = absurd (omega arith)
-past_end (c ∷ col) (suc v) h = past_end col v (omega arith)
-
-pub follows_from_test : (before next : List Cell) → column_follows before next ≡ true → ColumnFollows before next
-follows_from_test before next h v = at (nat_lt v (length next)) refl
-  where
-    at : (b : Bool) → nat_lt v (length next) ≡ b → IsTrue (cell_follows (cell_in before v) (cell_in next v))
-    at true e = not_false (cell_follows (cell_in before v) (cell_in next v)) (none_below (λ v. not (cell_follows (cell_in before v) (cell_in next v))) (length next) (not_not (any_below (λ v. not (cell_follows (cell_in before v) (cell_in next v))) (length next)) h) v (below_from_test v (length next) e))
-    at false e =
-        let P : Cell → Type 0 = λ c. IsTrue (cell_follows (cell_in before v) c) in
-        subst P (sym (past_end next v (grind (arith, nat_tests)))) refl
-
-pub test_from_follows : (before next : List Cell) → ColumnFollows before next → column_follows before next ≡ true
-test_from_follows before next h =
-    ap not (from_none_below (λ v. not (cell_follows (cell_in before v) (cell_in next v))) (length next) (λ v k. true_not (cell_follows (cell_in before v) (cell_in next v)) (h v)))
-
-history_from_test : (h : List (List Cell)) → history_follows h ≡ true → HistoryFollows h
-history_from_test [] e = tt
-history_from_test (col ∷ h) e =
-    (follows_from_test (newest_column h) col (first_true (column_follows (newest_column h) col) (history_follows h) e), history_from_test h (second_true (column_follows (newest_column h) col) (history_follows h) e))
-
-test_from_history : (h : List (List Cell)) → HistoryFollows h → history_follows h ≡ true
-test_from_history [] f = refl
-test_from_history (col ∷ h) f = both_true (column_follows (newest_column h) col) (history_follows h) (test_from_follows (newest_column h) col f.0) (test_from_history h f.1)
 
 -- what is known of each menu: it has exactly its columns, and they ascend
 pub record IsExactMenu (ex : Exercise) (i : ℕ) : Type 0 where
@@ -78,6 +39,36 @@ pub record PathTo (ex : Exercise) (p : List (List Cell)) : Type 0 where
   pub path : List ℕ
   pub there : prefix_at ex path ≡ p
   pub alive : is_alive_path ex path ≡ true
+
+-- ---- what holds of them
+
+-- a cell that a column lacks is a rest
+past_end : (col : List Cell) (v : ℕ) → length col ≤ v → cell_in col v ≡ Rest
+past_end [] v h = refl
+past_end (c ∷ col) zero h = absurd (omega arith)
+past_end (c ∷ col) (suc v) h = past_end col v (omega arith)
+
+pub follows_from_test : (before next : List Cell) → column_follows before next ≡ true → ColumnFollows before next
+follows_from_test before next h v = at (nat_lt v (length next)) refl
+  where
+    at : (b : Bool) → nat_lt v (length next) ≡ b → IsTrue (cell_follows (cell_in before v) (cell_in next v))
+    at true e = not-false (cell_follows (cell_in before v) (cell_in next v)) (none_below (λ v. not (cell_follows (cell_in before v) (cell_in next v))) (length next) (not-true (any_below (λ v. not (cell_follows (cell_in before v) (cell_in next v))) (length next)) h) v (below_from_test v (length next) e))
+    at false e =
+        let P : Cell → Type 0 = λ c. IsTrue (cell_follows (cell_in before v) c) in
+        subst P (sym (past_end next v (grind (arith, nat_tests)))) refl
+
+pub test_from_follows : (before next : List Cell) → ColumnFollows before next → column_follows before next ≡ true
+test_from_follows before next h =
+    ap not (from_none_below (λ v. not (cell_follows (cell_in before v) (cell_in next v))) (length next) (λ v k. not_from_true (cell_follows (cell_in before v) (cell_in next v)) (h v)))
+
+history_from_test : (h : List (List Cell)) → history_follows h ≡ true → HistoryFollows h
+history_from_test [] e = tt
+history_from_test (col ∷ h) e =
+    (follows_from_test (newest_column h) col (first_true (column_follows (newest_column h) col) (history_follows h) e), history_from_test h (second_true (column_follows (newest_column h) col) (history_follows h) e))
+
+test_from_history : (h : List (List Cell)) → HistoryFollows h → history_follows h ≡ true
+test_from_history [] f = refl
+test_from_history (col ∷ h) f = both_true (column_follows (newest_column h) col) (history_follows h) (test_from_follows (newest_column h) col f.0) (test_from_history h f.1)
 
 module _ (ex : Exercise) (exact : (i : ℕ) → IsExactMenu ex i) where
   in_its_menu : (i : ℕ) (path : List ℕ) → is_in_menus ex i path ≡ true → (j : ℕ) → j < length path → Contains (menu_of ex (i + j)) (slice_index_or (columns_on ex i path) j [])

@@ -1,11 +1,9 @@
-pub mod Best
 pub mod Blocks
 pub mod Exact
 pub mod FloorLaws
 pub mod Floors
 pub mod Grows
 pub mod Leaves
-pub mod Live
 pub mod Loads
 pub mod Nodes
 pub mod Paths

@@ -4,6 +4,7 @@ use Rattle.std.specs.List.{list_any}
 use Rattle.std.proofs.Common.{ap, sym, ◌∙◌, arith}
 use Rattle.std.proofs.lemmas.List.{length-append}
 use Rattle.std.proofs.lemmas.Bool.Decides.{nat_tests}
+use Rattle.std.proofs.lemmas.Bool.{or_parts, not-true}
 use Rattle.fux_grid.specs.declared.cell.Cell.{Cell}
 use Rattle.fux_grid.specs.declared.exercise.Exercise.{Exercise}
 use Rattle.fux_grid.specs.Cells.{cell_in, cell_follows}
@@ -16,7 +17,7 @@ use Rattle.rule_law.specs.Law.{first_true, second_true}
 use Rattle.penalty_sheet.specs.declared.sheet.Sheet.{Sheet}
 use Rattle.fux_judge.specs.Rules.{rules_read}
 use Rattle.fux_judge.specs.Penalties.{has_strict_break, newly_broken}
-use Rattle.fux_judge.specs.Grows.{strict_break_grows}
+use Rattle.fux_judge.proofs.Grows.{strict_break_grows}
 use Rattle.floor_tables.specs.Floors.{floor_of}
 
 -- the columns on a path from column i on: each number chooses one of the column's menu
@@ -64,6 +65,33 @@ width_at ex path = length (menu_of ex (length path))
 abbrev pub column_at : Exercise → List ℕ → ℕ → List Cell
 column_at ex path k = slice_index_or (menu_of ex (length path)) k []
 
+-- the child of this number is dead, or no better than the best leaf so far: its floor is no lower than that leaf's value
+abbrev pub IsNoBetter : Exercise → Sheet → List ℕ → Option ℕ → ℕ → Type 0
+IsNoBetter ex sheet path best k =
+    (floor : ℕ) → live_at ex sheet (path ++ k ∷ []) ≡ Some floor → IsSomeAnd best (λ value. value ≤ floor)
+
+-- and so is each from one number up to another
+abbrev pub ArePassed : Exercise → Sheet → List ℕ → Option ℕ → ℕ → ℕ → Type 0
+ArePassed ex sheet path best from to = (k : ℕ) → from ≤ k → k < to → IsNoBetter ex sheet path best k
+
+-- a path that is longer by a number is alive where the path is, it has room, the number is in the menu, and its column follows
+-- and settles no strict break
+abbrev pub goes_on : Exercise → List ℕ → ℕ → Bool
+goes_on ex path k =
+    nat_lt (length path) (columns_in ex) && nat_lt k (width_at ex path)
+    && column_follows (newest_column (reverse (prefix_at ex path))) (column_at ex path k)
+    && not (list_any (newly_broken ex (prefix_at ex path) (column_at ex path k)) rules_read)
+
+-- what makes a path alive, test by test
+pub record IsAlivePath (ex : Exercise) (path : List ℕ) : Type 0 where
+  pub voices : has_voices ex ≡ true
+  pub room : nat_le (length path) (columns_in ex) ≡ true
+  pub menus : is_in_menus ex 0 path ≡ true
+  pub follows : history_follows (reverse (prefix_at ex path)) ≡ true
+  pub alive : has_strict_break ex (prefix_at ex path) ≡ false
+
+-- ---- what holds of them
+
 columns_on-append : (ex : Exercise) (i : ℕ) (path : List ℕ) (k : ℕ) → columns_on ex i (path ++ k ∷ []) ≡ columns_on ex i path ++ slice_index_or (menu_of ex (i + length path)) k [] ∷ []
 columns_on-append ex i [] k =
     let e : i ≡ i + 0 = omega arith in
@@ -98,35 +126,6 @@ is_in_menus-append ex i (l ∷ path) k =
     ap (λ b. nat_lt l (length (menu_of ex i)) && b) (is_in_menus-append ex (suc i) path k ∙ ap (λ j. is_in_menus ex (suc i) path && nat_lt k (length (menu_of ex j))) e)
     ∙ sym (and_right (nat_lt l (length (menu_of ex i))) (is_in_menus ex (suc i) path) (nat_lt k (length (menu_of ex (i + suc (length path))))))
 
--- the child of this number is dead, or no better than the best leaf so far: its floor is no lower than that leaf's value
-abbrev pub IsNoBetter : Exercise → Sheet → List ℕ → Option ℕ → ℕ → Type 0
-IsNoBetter ex sheet path best k =
-    (floor : ℕ) → live_at ex sheet (path ++ k ∷ []) ≡ Some floor → IsSomeAnd best (λ value. value ≤ floor)
-
--- and so is each from one number up to another
-abbrev pub ArePassed : Exercise → Sheet → List ℕ → Option ℕ → ℕ → ℕ → Type 0
-ArePassed ex sheet path best from to = (k : ℕ) → from ≤ k → k < to → IsNoBetter ex sheet path best k
-
--- a path that is longer by a number is alive where the path is, it has room, the number is in the menu, and its column follows
--- and settles no strict break
-abbrev pub goes_on : Exercise → List ℕ → ℕ → Bool
-goes_on ex path k =
-    nat_lt (length path) (columns_in ex) && nat_lt k (width_at ex path)
-    && column_follows (newest_column (reverse (prefix_at ex path))) (column_at ex path k)
-    && not (list_any (newly_broken ex (prefix_at ex path) (column_at ex path k)) rules_read)
-
--- what makes a path alive, test by test
-pub record IsAlivePath (ex : Exercise) (path : List ℕ) : Type 0 where
-  pub voices : has_voices ex ≡ true
-  pub room : nat_le (length path) (columns_in ex) ≡ true
-  pub menus : is_in_menus ex 0 path ≡ true
-  pub follows : history_follows (reverse (prefix_at ex path)) ≡ true
-  pub alive : has_strict_break ex (prefix_at ex path) ≡ false
-
-not_true : (b : Bool) → not b ≡ true → b ≡ false
-not_true true h = cc
-not_true false h = refl
-
 pub alive_parts : (ex : Exercise) (path : List ℕ) → is_alive_path ex path ≡ true → IsAlivePath ex path
 alive_parts ex path h =
     let few = has_voices ex in
@@ -142,7 +141,7 @@ alive_parts ex path h =
       room = second_true few room two;
       menus = second_true (few && room) menus three;
       follows = second_true (few && room && menus) follows four;
-      alive = not_true (has_strict_break ex (prefix_at ex path)) (second_true (few && room && menus && follows) alive h);
+      alive = not-true (has_strict_break ex (prefix_at ex path)) (second_true (few && room && menus && follows) alive h);
     }
 
 pub alive_from_parts : (ex : Exercise) (path : List ℕ) → IsAlivePath ex path → is_alive_path ex path ≡ true
@@ -153,10 +152,6 @@ below_test n m = grind (arith, nat_tests)
 
 shorter_test : (n m : ℕ) → nat_lt n m ≡ true → nat_le n m ≡ true
 shorter_test n m h = grind (arith, nat_tests)
-
-or_false : (a b : Bool) → (a || b) ≡ false → (a ≡ false) × (b ≡ false)
-or_false true b h = cc
-or_false false b h = (refl, h)
 
 four_tests : (r w f b : Bool) → (r && (true && w) && (f && true) && not (false || b)) ≡ (r && w && f && not b)
 four_tests true true true b = refl
@@ -195,5 +190,5 @@ module _ (ex : Exercise) (path : List ℕ) (k : ℕ) where
         room = shorter_test (length path) (columns_in ex) (sym longer_room ∙ live.room);
         menus = first_true (is_in_menus ex 0 path) (nat_lt k (length (menu_of ex (length path)))) (sym longer_menus ∙ live.menus);
         follows = second_true (column_follows (newest_column (reverse (prefix_at ex path))) (column_at ex path k)) (history_follows (reverse (prefix_at ex path))) (sym longer_follows ∙ live.follows);
-        alive = (or_false (has_strict_break ex (prefix_at ex path)) (list_any (newly_broken ex (prefix_at ex path) (column_at ex path k)) rules_read) (sym longer_breaks ∙ live.alive)).0;
+        alive = (or_parts (has_strict_break ex (prefix_at ex path)) (list_any (newly_broken ex (prefix_at ex path) (column_at ex path k)) rules_read) (sym longer_breaks ∙ live.alive)).0;
       }

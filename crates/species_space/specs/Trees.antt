@@ -8,9 +8,14 @@ use Rattle.fux_judge.specs.Lawful.{IsLawful}
 use Rattle.floor_tables.specs.Floors.{IsLive, floor_of}
 use Rattle.fux_judge.specs.Penalties.{penalty_of}
 use Rattle.penalty_sheet.specs.declared.sheet.Sheet.{Sheet}
-use Rattle.species_space.specs.Live.{LivePath}
 use Rattle.species_space.specs.Paths.{prefix_at, live_at}
 use Rattle.tree_search.specs.Answer.{IsBefore, IsLeaf}
+
+-- a live path to a list of columns
+pub record LivePath (ex : Exercise) (sheet : Sheet) (p : List (List Cell)) : Type 0 where
+  pub path : List ℕ
+  pub there : prefix_at ex path ≡ p
+  pub is_live : IsSome (live_at ex sheet path)
 
 -- a leaf at the end of a list of columns, whose value is the penalty
 pub record LeafAt (ex : Exercise) (sheet : Sheet) (s : List (List Cell)) : Type 0 where

@@ -127,7 +127,8 @@ impl BlockMenu {
 
     /// Whether this column, in a menu of holds, may follow.
     fn is_held(&self, before: &[Cell], k: usize) -> bool
-        ensures { IsTrue result → (k < length self.now.columns.items) × IsTrue self.now.only_holds × ColumnFollows before.now (slice_index_or (items_of self.now.columns.items) k []) }
+        ensures { IsTrue result → (k < length self.now.columns.items) × IsTrue self.now.only_holds
+            × ColumnFollows before.now (slice_index_or (items_of self.now.columns.items) k []) }
     {
         if !self.only_holds || k >= self.columns.len() {
             return false;

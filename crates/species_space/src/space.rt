@@ -212,9 +212,12 @@ fn number_of(menus: &mut Vec<BlockMenu>, columns: Vec<Column>, undead: Vec<u16>)
     ensures within { result < length menus.new.items }
     ensures made { (d : ABlockMenu) → IsMadeOf (slice_index_or menus.new.items result d) columns.items undead.items }
     ensures cut { All IsBlockMenu menus.new.items }
-    ensures kept { (k : ℕ) (d : ABlockMenu) → k < length menus.old.items → slice_index_or menus.new.items k d ≡ slice_index_or menus.old.items k d }
+    ensures kept { (k : ℕ) (d : ABlockMenu) → k < length menus.old.items →
+        slice_index_or menus.new.items k d ≡ slice_index_or menus.old.items k d }
     ensures more { (length menus.old.items ≤ length menus.new.items) × (length menus.new.items ≤ length menus.old.items + 1) }
-    ensures once { (d : ABlockMenu) → 0 < length menus.old.items → IsMadeOf (slice_index_or menus.old.items (length menus.old.items - 1) d) columns.items undead.items → menus.new.items ≡ menus.old.items }
+    ensures once { (d : ABlockMenu) → 0 < length menus.old.items →
+        IsMadeOf (slice_index_or menus.old.items (length menus.old.items - 1) d) columns.items undead.items →
+        menus.new.items ≡ menus.old.items }
 {
     let count = menus.len();
     if count > 0 && menus[count - 1].is_made_of(&columns, &undead) {
@@ -240,7 +243,8 @@ fn child_by(
     requires small { rest ≤ 2 ^ 61 }
     ensures { (path : List ℕ) → IsNodeOf exercise.now sheet.now node.now path → MatchOption result
         (live_at exercise.now sheet.now (path ++ k ∷ []) ≡ None)
-        (λ entry. IsNodeOf exercise.now sheet.now entry.0 (path ++ k ∷ []) × (live_at exercise.now sheet.now (path ++ k ∷ []) ≡ Some entry.1)) }
+        (λ entry. IsNodeOf exercise.now sheet.now entry.0 (path ++ k ∷ [])
+        × (live_at exercise.now sheet.now (path ++ k ∷ []) ≡ Some entry.1)) }
 {
     let before = node.state.before(exercise);
     if !cells_follow(before, column.as_slice()) {

@@ -23,11 +23,14 @@ use penalty_sheet::Sheet;
 fn next_choice(menu: &BlockMenu, before: &[Cell], from: usize, hint: usize) -> usize
     requires cut { IsBlockMenu menu.now }
     requires counted { length menu.now.undead.items ≡ length menu.now.columns.items }
-    requires bounded { (k : ℕ) → k < length menu.now.undead.items → slice_index_or menu.now.undead.items k 0 ≤ length (items_of menu.now.columns.items) }
+    requires bounded { (k : ℕ) → k < length menu.now.undead.items →
+        slice_index_or menu.now.undead.items k 0 ≤ length (items_of menu.now.columns.items) }
     requires within { from ≤ length menu.now.columns.items }
     ensures onward { from ≤ result }
     ensures within { result ≤ length menu.now.columns.items }
-    ensures passed { (exercise : AnExercise) (i : ℕ) → SkipDead exercise i (items_of menu.now.columns.items) menu.now.undead.items → (k : ℕ) → from ≤ k → k < result → StraysOrDies exercise i before.now (slice_index_or (items_of menu.now.columns.items) k []) }
+    ensures passed { (exercise : AnExercise) (i : ℕ) → SkipDead exercise i (items_of menu.now.columns.items) menu.now.undead.items →
+        (k : ℕ) → from ≤ k → k < result →
+        StraysOrDies exercise i before.now (slice_index_or (items_of menu.now.columns.items) k []) }
 {
     let mut k = menu.next_that_follows(before, from, hint);
     while k < menu.columns.len() {

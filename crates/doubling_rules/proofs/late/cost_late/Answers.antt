@@ -1,7 +1,7 @@
 use Rattle.std.specs.Prelude.{◌≡◌, ◌≤◌, ◌+◌, [], ◌∷◌, ◌++◌, length, refl}
 use Rattle.std.proofs.Common.{ap, sym, ◌∙◌, arith}
 use Rattle.std.proofs.lemmas.List.{length-append}
-use Rattle.rule_law.specs.AtOnce.{among_own, newly_costs-there}
+use Rattle.rule_law.proofs.AtOnce.{among_own, newly_costs-there}
 use Rattle.doubling_rules.specs.Book.{may_cost, toll_row}
 use Rattle.doubling_rules.specs.Rows.{cost_of_column}
 use Rattle.doubling_rules.proofs.late.cost_late.Goals as goal

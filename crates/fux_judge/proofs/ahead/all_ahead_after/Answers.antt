@@ -3,9 +3,9 @@ use Rattle.std.proofs.lemmas.List.{length-append}
 use Rattle.fux_grid.specs.Exercises.{IsFree}
 use Rattle.fux_grid.specs.Menus.{IsInMenu}
 use Rattle.fux_judge.specs.declared.ahead.LineAhead.{LineAhead}
-use Rattle.fux_judge.specs.Alive.{prefix_before}
+use Rattle.fux_judge.proofs.Alive.{prefix_before}
 use Rattle.fux_judge.specs.GaugeStates.{IsAheadOf}
-use Rattle.fux_judge.specs.Least.{last_in_menu}
+use Rattle.fux_judge.proofs.LeastLaws.{last_in_menu}
 use Rattle.fux_judge.proofs.FourLemmas.{each_of_four, one_of_four}
 use Rattle.fux_judge.proofs.ahead.all_ahead_after.Goals as goal
 

@@ -1,5 +1,5 @@
 use Rattle.std.proofs.Common.{arith, ◌-◌}
-use Rattle.fux_judge.specs.Facts.{rule_keeps}
+use Rattle.fux_judge.proofs.Facts.{rule_keeps}
 use Rattle.fux_judge.proofs.late.places_of.Goals as goal
 
 pub returns-clause-within : goal.returns-clause-within

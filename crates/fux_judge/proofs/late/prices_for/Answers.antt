@@ -1,7 +1,7 @@
 use Rattle.std.proofs.Common.{◌+◌, ℕ, take, ap, sym, ◌∙◌, arith}
 use Rattle.std.specs.List.{sum_by}
+use Rattle.std.proofs.lemmas.List.Sums.{sum_by_more}
 use Rattle.fux_judge.specs.Penalties.{new_price}
-use Rattle.fux_judge.proofs.SumLemmas.{sum_by_more}
 use Rattle.fux_judge.proofs.late.prices_for.Goals as goal
 
 pub loop-bits-preserved : goal.loop-bits-preserved

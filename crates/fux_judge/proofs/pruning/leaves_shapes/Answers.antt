@@ -1,6 +1,6 @@
 use Rattle.std.proofs.Common.{◌+◌, sym, ◌∙◌, arith}
 use Rattle.std.proofs.lemmas.Bool.{OnTrue_at}
-use Rattle.rule_law.specs.LowerVoices.{same_below}
+use Rattle.rule_law.proofs.LowerVoices.{same_below}
 use Rattle.fux_judge.proofs.ShapeLemmas.{leaves_in_all}
 use Rattle.fux_judge.proofs.pruning.leaves_shapes.Goals as goal
 

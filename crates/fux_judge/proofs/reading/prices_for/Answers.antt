@@ -1,9 +1,9 @@
 use Rattle.std.proofs.Common.{◌+◌, ℕ, length, take, ap, sym, ◌∙◌, arith}
 use Rattle.std.specs.Prelude.{if◌then◌else◌}
 use Rattle.std.specs.List.{sum_by}
+use Rattle.std.proofs.lemmas.List.Sums.{sum_by_more}
 use Rattle.fux_judge.specs.Penalties.{price_at_place}
 use Rattle.fux_judge.specs.Moments.{is_broken_then}
-use Rattle.fux_judge.proofs.SumLemmas.{sum_by_more}
 use Rattle.fux_judge.proofs.reading.prices_for.Goals as goal
 
 pub loop-bits-preserved : goal.loop-bits-preserved

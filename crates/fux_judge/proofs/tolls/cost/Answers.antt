@@ -1,8 +1,9 @@
 use Rattle.std.proofs.Common.{◌≡◌, ◌||◌, Bool, true, false, sym, ◌∙◌}
+use Rattle.std.proofs.lemmas.Bool.{ne_eqb}
 use Rattle.motion_rules.specs.Rows as motion
 use Rattle.dissonance_rules.specs.Rows as dissonance
 use Rattle.fux_judge.specs.Charges.{is_clashing_toll, is_moving_toll}
-use Rattle.fux_judge.proofs.MomentLemmas.{near_then, bar_line_cost, motion_cost, dissonance_cost, not_equal}
+use Rattle.fux_judge.proofs.MomentLemmas.{near_then, bar_line_cost, motion_cost, dissonance_cost}
 use Rattle.fux_judge.proofs.tolls.cost.Goals as goal
 
 other : (x y : Bool) → (x || y) ≡ true → x ≡ false → y ≡ true
@@ -22,4 +23,4 @@ returns-then-toll-eq14-clause-value c = λ p after.
 pub returns-clause-value : goal.returns-clause-value
 returns-clause-value c = λ p after.
     c.cost-2.ensures.value ∙ near_then (motion.toll_rows c.args.toll c.args.m.now.exercise.now) p c.args.m.now after
-    ∙ motion_cost c.args.toll p c.args.m.now (sym c.if-not-is_moving.ensures) (not_equal c.args.toll 14 c.if-toll-eq14.false)
+    ∙ motion_cost c.args.toll p c.args.m.now (sym c.if-not-is_moving.ensures) (ne_eqb c.args.toll 14 c.if-toll-eq14.false)

@@ -2,9 +2,9 @@ use Rattle.std.proofs.Common.{◌+◌, ℕ, ap, sym, ◌∙◌, take, arith}
 use Rattle.std.specs.Prelude.{if◌then◌else◌}
 use Rattle.std.specs.List.{sum_by}
 use Rattle.std.proofs.lemmas.List.{take_all}
+use Rattle.std.proofs.lemmas.List.Sums.{sum_by_more}
 use Rattle.fux_judge.specs.Penalties.{price_at_place}
 use Rattle.fux_judge.specs.Rules.{all_sets, is_broken}
-use Rattle.fux_judge.proofs.SumLemmas.{sum_by_more}
 use Rattle.fux_judge.proofs.total.prices_of.Goals as goal
 
 pub loop-rule-preserved : goal.loop-rule-preserved

@@ -3,7 +3,7 @@ use Rattle.std.specs.Prelude.{if◌then◌else◌}
 use Rattle.std.specs.List.{sum_by}
 use Rattle.std.proofs.lemmas.List.{take_all}
 use Rattle.rule_law.specs.Forms.{sets_of}
-use Rattle.fux_judge.specs.Facts.{rule_keeps}
+use Rattle.fux_judge.proofs.Facts.{rule_keeps}
 use Rattle.fux_judge.specs.Penalties.{price_at_place}
 use Rattle.fux_judge.specs.Rules.{is_broken}
 use Rattle.fux_judge.proofs.total.prices_of_rule.Goals as goal

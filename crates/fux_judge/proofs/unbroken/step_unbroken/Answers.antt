@@ -1,6 +1,6 @@
 use Rattle.std.proofs.Common.{◌+◌, ◌++◌, ◌∷◌, [], ap, sym, ◌∙◌}
 use Rattle.rule_law.specs.Voices.{has_rule}
-use Rattle.fux_judge.specs.Grows.{paid_grows}
+use Rattle.fux_judge.proofs.Grows.{paid_grows}
 use Rattle.fux_judge.specs.Moments.{is_strictly_broken_then}
 use Rattle.fux_judge.specs.Penalties.{paid}
 use Rattle.fux_judge.specs.Rules.{all_sets}

@@ -1,8 +1,9 @@
 use Rattle.std.proofs.Common.{◌+◌, ℕ, take, ap, sym, ◌∙◌, arith}
 use Rattle.std.specs.List.{sum_by}
+use Rattle.std.proofs.lemmas.List.Sums.{sum_by_more}
 use Rattle.fux_judge.specs.Rules.{all_sets}
 use Rattle.fux_judge.specs.Moments.{prices_then}
-use Rattle.fux_judge.proofs.SumLemmas.{sum_by_more, rule_in_range}
+use Rattle.fux_judge.proofs.SumLemmas.{rule_in_range}
 use Rattle.fux_judge.proofs.verdict.prices_of.Goals as goal
 
 pub prices_now-price-requires-clause-rule : goal.prices_now-price-requires-clause-rule

@@ -1,7 +1,7 @@
 use Rattle.std.proofs.Common.{◌++◌, ◌∷◌, [], ◌+◌, ◌||◌, ◌==◌, ◌&&◌, ap, sym, ◌∙◌}
 use Rattle.std.specs.List.{list_any}
 use Rattle.fux_judge.specs.Penalties.{paid}
-use Rattle.fux_judge.specs.Grows.{paid_grows}
+use Rattle.fux_judge.proofs.Grows.{paid_grows}
 use Rattle.fux_judge.specs.Rules.{late_rules}
 use Rattle.fux_judge.specs.Steps.{breaks_late}
 use Rattle.fux_judge.proofs.StepLemmas.{step_breaks, step_pays}

@@ -1,5 +1,5 @@
 use Rattle.std.proofs.Common.{◌≡◌, ◌≢◌, ℕ, Bool, None, true, ◌||◌, ◌==◌, false, ap, sym, ◌∙◌}
-use Rattle.std.proofs.lemmas.Bool.{ne_eqb}
+use Rattle.std.proofs.lemmas.Bool.{ne_eqb, or_from}
 use Rattle.rule_law.specs.Places.{reading_of}
 use Rattle.rule_law.specs.Rulebooks.{TollRow}
 use Rattle.fux_judge.proofs.CrateLemmas.{in_none, toll_of_crate}
@@ -70,18 +70,14 @@ pub returns-then-toll-eq16 : goal.returns-then-toll-eq16
 unfolding toll_at
 returns-then-toll-eq16 c = c.cost-then-toll-eq16.ensures ∙ sym (ap (λ toll. cost_at toll c.args.ex.now c.args.score.now.columns c.args.i) c.if-toll-eq16.true)
 
-or_both : (a b : Bool) → a ≡ false → b ≡ false → (a || b) ≡ false
-or_both true b h k = cc
-or_both false b h k = k
-
 pub returns : goal.returns
 returns c =
     let is : (n : ℕ) → c.args.toll ≢ n → (c.args.toll == n) ≡ false = λ n h. ne_eqb c.args.toll n h in
     sym (ap (λ (it : TollRow). reading_of (it.cost c.args.ex.now) c.args.score.now.columns c.args.i)
     (toll_of_crate c.args.toll None
     (in_none c.args.toll
-    (or_both _ _ (or_both _ _ (or_both _ _ (or_both _ _ (is 7 c.if-toll-eq7.false) (is 8 c.if-toll-eq8.false)) (is 9 c.if-toll-eq9.false)) (is 10 c.if-toll-eq10.false)) (is 13 c.if-toll-eq13.false))
-    (or_both _ _ (or_both _ _ (is 11 c.if-toll-eq11.false) (is 12 c.if-toll-eq12.false)) (is 14 c.if-toll-eq14.false))
-    (or_both _ _ (is 1 c.if-toll-eq1.false) (is 2 c.if-toll-eq2.false))
-    (or_both _ _ (is 15 c.if-toll-eq15.false) (is 16 c.if-toll-eq16.false))
-    (or_both _ _ (or_both _ _ (or_both _ _ (is 3 c.if-toll-eq3.false) (is 4 c.if-toll-eq4.false)) (is 5 c.if-toll-eq5.false)) (is 6 c.if-toll-eq6.false)))))
+    (or_from _ _ (or_from _ _ (or_from _ _ (or_from _ _ (is 7 c.if-toll-eq7.false) (is 8 c.if-toll-eq8.false)) (is 9 c.if-toll-eq9.false)) (is 10 c.if-toll-eq10.false)) (is 13 c.if-toll-eq13.false))
+    (or_from _ _ (or_from _ _ (is 11 c.if-toll-eq11.false) (is 12 c.if-toll-eq12.false)) (is 14 c.if-toll-eq14.false))
+    (or_from _ _ (is 1 c.if-toll-eq1.false) (is 2 c.if-toll-eq2.false))
+    (or_from _ _ (is 15 c.if-toll-eq15.false) (is 16 c.if-toll-eq16.false))
+    (or_from _ _ (or_from _ _ (or_from _ _ (is 3 c.if-toll-eq3.false) (is 4 c.if-toll-eq4.false)) (is 5 c.if-toll-eq5.false)) (is 6 c.if-toll-eq6.false)))))

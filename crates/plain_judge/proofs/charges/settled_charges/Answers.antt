@@ -1,5 +1,5 @@
 use Rattle.std.proofs.Common.{◌∙◌}
-use Rattle.fux_judge.specs.Ends.{settled_at_end}
+use Rattle.fux_judge.proofs.Ends.{settled_at_end}
 use Rattle.plain_judge.proofs.SinceLemmas.{paid_since_nothing}
 use Rattle.plain_judge.proofs.charges.settled_charges.Goals as goal
 

@@ -1,6 +1,6 @@
-use Rattle.species_space.specs.Best.{before_is_earlier, leaf_is_lawful, lawful_is_leaf, same_path}
+use Rattle.species_space.proofs.Best.{before_is_earlier, leaf_is_lawful, lawful_is_leaf, same_path}
 use Rattle.species_space.specs.Grows.{live_value}
-use Rattle.species_space.specs.Live.{live_prefix, path_is_alive, path_to_live}
+use Rattle.species_space.proofs.Live.{live_prefix, path_is_alive, path_to_live}
 use Rattle.species_space.specs.Paths.{alive_parts}
 use Rattle.species_space.proofs.law.is_counterpoint.Goals as goal
 

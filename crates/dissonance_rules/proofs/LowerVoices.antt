@@ -5,9 +5,10 @@ use Rattle.fux_grid.specs.declared.cell.Cell.{Cell}
 use Rattle.fux_grid.specs.declared.exercise.Exercise.{Exercise}
 use Rattle.fux_grid.specs.Cells.{cell_in}
 use Rattle.rule_law.specs.Bars.{begins_bar, begins_inner_bar}
-use Rattle.rule_law.specs.LowerVoices.{IsSameBelow, is_below, on_pair-same, same_key-same, clash-same}
+use Rattle.rule_law.proofs.LowerVoices.{IsSameBelow, on_pair-same, same_key-same, clash-same}
 use Rattle.rule_law.specs.Nearby.{Pitches}
 use Rattle.rule_law.specs.Terms.{clash, starts}
+use Rattle.rule_law.specs.Voices.{is_below}
 use Rattle.dissonance_rules.specs.Rows.{meet_in_unison, clash_at_start, near_rows}
 
 module _ (n : ℕ) (a b : List Cell) (same : IsSameBelow n a b) where

@@ -13,7 +13,7 @@ use Rattle.rule_law.specs.Law.{first_true, second_true, below_from_test}
 use Rattle.rule_law.specs.Prefixes.{IsSetting}
 use Rattle.penalty_sheet.specs.declared.sheet.Sheet.{Sheet}
 use Rattle.fux_judge.specs.Penalties.{penalty_of}
-use Rattle.fux_judge.specs.Alive.{unbroken_if_alive, alive_if_unbroken}
+use Rattle.fux_judge.proofs.Alive.{unbroken_if_alive, alive_if_unbroken}
 use Rattle.fux_judge.specs.Lawful.{IsAlive, IsLawful, IsBest, HasNoLawful, BoundsLawful}
 use Rattle.floor_tables.specs.Floors.{floor_of}
 use Rattle.tree_search.specs.Answer as tree

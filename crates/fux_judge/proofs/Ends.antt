@@ -2,7 +2,7 @@
 use Rattle.std.specs.Prelude.{◌≡◌, ℕ, zero, suc, ◌+◌, ◌*◌, ◌<◌, Bool, true, false, ◌&&◌, ◌||◌, List, ◌==◌, length, if◌then◌else◌, refl}
 use Rattle.std.specs.List.{list_any, sum_by}
 use Rattle.std.proofs.Common.{ap, sym, ◌∙◌, arith}
-use Rattle.std.proofs.lemmas.Bool.{eqb-true}
+use Rattle.std.proofs.lemmas.Bool.{eqb-true, or_parts}
 use Rattle.std.proofs.lemmas.Bool.Decides.{nat_tests}
 use Rattle.fux_grid.specs.declared.cell.Cell.{Cell}
 use Rattle.fux_grid.specs.declared.exercise.Exercise.{Exercise}
@@ -13,14 +13,10 @@ use Rattle.penalty_sheet.specs.Weights.{weight_of}
 use Rattle.fux_judge.specs.Rules.{rules_read, tolls_read, all_sets, is_broken, is_settled, cost_at, is_cost_settled}
 use Rattle.fux_judge.specs.Penalties.{is_strict_at, price_at_place, is_strictly_broken, has_break_settled_in, settled_tolls, settled_prices, charges_settled_in, tolls_at, prices_at, charges_of}
 use Rattle.fux_judge.specs.Lawful.{breaks_strictly}
-use Rattle.fux_judge.specs.Facts.{rule_settles_at_end, toll_settles_at_end}
+use Rattle.fux_judge.proofs.Facts.{rule_settles_at_end, toll_settles_at_end}
 
 below_other : (i n : ℕ) → i < suc n → (i == n) ≡ false → i < n
 below_other i n k q = grind (arith, nat_tests)
-
-split_or : (a b : Bool) → (a || b) ≡ false → (a ≡ false) × (b ≡ false)
-split_or true b h = cc
-split_or false b h = (refl, h)
 
 at_or_below : (f : ℕ → Bool) (n i : ℕ) (t : Bool) → (i == n) ≡ t → f n ≡ false → ((i == n) ≡ false → f i ≡ false) → f i ≡ false
 at_or_below f n i true q here below = ap f (eqb-true i n q) ∙ here
@@ -30,7 +26,7 @@ at_or_below f n i false q here below = below q
 pub none_below : (f : ℕ → Bool) (n : ℕ) → any_below f n ≡ false → (i : ℕ) → i < n → f i ≡ false
 none_below f zero h i k = absurd (omega arith)
 none_below f (suc n) h i k =
-    let both = split_or (any_below f n) (f n) h in
+    let both = or_parts (any_below f n) (f n) h in
     at_or_below f n i (i == n) refl both.1 (λ q. none_below f n both.0 i (below_other i n k q))
 
 pub from_none_below : (f : ℕ → Bool) (n : ℕ) → ((i : ℕ) → i < n → f i ≡ false) → any_below f n ≡ false

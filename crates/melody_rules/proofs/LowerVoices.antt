@@ -6,8 +6,9 @@ use Rattle.fux_grid.specs.declared.exercise.Exercise.{Exercise}
 use Rattle.fux_grid.specs.Cells.{cell_in}
 use Rattle.fux_grid.specs.Columns.{line}
 use Rattle.fux_grid.specs.Exercises.{species_in}
-use Rattle.rule_law.specs.LowerVoices.{IsSameBelow, is_below, on_free_voice-same}
+use Rattle.rule_law.proofs.LowerVoices.{IsSameBelow, on_free_voice-same}
 use Rattle.rule_law.specs.Nearby.{Pitches, pitch_at}
+use Rattle.rule_law.specs.Voices.{is_below}
 use Rattle.melody_rules.specs.Rows.{pitches, window_rule, window_rows, voice_rule, near_rows}
 
 module _ (n : ℕ) (a b : List Cell) (same : IsSameBelow n a b) (rule : ℕ) (ex : Exercise) (voices i : ℕ) (within : is_below n voices ≡ true) where

@@ -11,12 +11,7 @@ use Rattle.species_space.specs.Exact.{menus_are_exact}
 use Rattle.species_space.specs.Grows.{live_some, live_value}
 use Rattle.species_space.specs.Leaves.{path_to_alive, prefix_is_alive}
 use Rattle.species_space.specs.Paths.{is_alive_path, live_at, prefix_at}
-
--- a live path to a list of columns
-pub record LivePath (ex : Exercise) (sheet : Sheet) (p : List (List Cell)) : Type 0 where
-  pub path : List ℕ
-  pub there : prefix_at ex path ≡ p
-  pub is_live : IsSome (live_at ex sheet path)
+use Rattle.species_space.specs.Trees.{LivePath}
 
 module _ (ex : Exercise) (sheet : Sheet) where
   pub path_is_alive : (path : List ℕ) → IsSome (live_at ex sheet path) → is_alive_path ex path ≡ true

@@ -1,9 +1,10 @@
 -- Floors don't fall: where a live prefix is longer by a column than another, that one is live too (`live_before`), and its floor is
 -- no higher (`floor_grows`). At the end nothing is left to pay (`rest_at_end`).
-use Rattle.std.specs.Prelude.{◌≡◌, ℕ, suc, ◌+◌, ◌-◌, ◌<◌, ◌≤◌, Bool, true, false, ◌||◌, List, [], ◌∷◌, ◌++◌, Option, Some, None, IsSome, IsSomeAnd, length, option_map, reverse, refl}
+use Rattle.std.specs.Prelude.{◌≡◌, ℕ, suc, ◌+◌, ◌-◌, ◌<◌, ◌≤◌, false, ◌||◌, List, [], ◌∷◌, ◌++◌, Option, Some, None, IsSome, IsSomeAnd, length, option_map, reverse, refl}
 use Rattle.std.specs.List.{Contains, list_any}
 use Rattle.std.proofs.Common.{ap, sym, ◌∙◌, subst, arith}
 use Rattle.std.proofs.lemmas.List.{get_or_push, length-append}
+use Rattle.std.proofs.lemmas.Bool.{or_parts}
 use Rattle.fux_grid.specs.declared.cell.Cell.{Cell}
 use Rattle.fux_grid.specs.declared.exercise.Exercise.{Exercise}
 use Rattle.fux_grid.specs.Columns.{ColumnFollows, HistoryFollows, newest_column}
@@ -13,9 +14,9 @@ use Rattle.fux_grid.proofs.Histories.{reverse-push}
 use Rattle.fux_grid.proofs.MenuLemmas.{menu_of-contains}
 use Rattle.rule_law.specs.Prefixes.{GoesOn, IsPrefix}
 use Rattle.penalty_sheet.specs.declared.sheet.Sheet.{Sheet}
-use Rattle.fux_judge.specs.Alive.{alive_orderly, prefix_before}
+use Rattle.fux_judge.proofs.Alive.{alive_orderly, prefix_before}
 use Rattle.fux_judge.specs.Gauges.{least_of}
-use Rattle.fux_judge.specs.Grows.{paid_grows, strict_break_grows}
+use Rattle.fux_judge.proofs.Grows.{paid_grows, strict_break_grows}
 use Rattle.fux_judge.specs.Links.{last_column, link_of, newest_of}
 use Rattle.fux_judge.specs.Penalties.{has_strict_break, newly_broken, newly_paid, paid}
 use Rattle.fux_judge.specs.Rules.{rules_read}
@@ -29,10 +30,6 @@ use Rattle.floor_tables.specs.Floors.{IsLive, chains_of, floor_of, rest_of}
 newest_cells : (h : List (List Cell)) → cells_of (newest_of h) ≡ newest_column h
 newest_cells [] = refl
 newest_cells (col ∷ cols) = refl
-
-or_false : (a b : Bool) → (a || b) ≡ false → (a ≡ false) × (b ≡ false)
-or_false true b h = cc
-or_false false b h = (refl, h)
 
 -- at the end the one chain is empty
 pub rest_at_end : (ex : Exercise) (sheet : Sheet) (s : List (List Cell)) → length s ≡ columns_in ex → rest_of ex sheet s ≡ Some 0
@@ -67,7 +64,7 @@ module _ (ex : Exercise) (few : ex.voices ≤ 4) (there : ex.cantus_voice < ex.v
 
   -- no strict break is settled in the prefix, nor by the column
   tests : (has_strict_break ex p ≡ false) × (list_any (newly_broken ex p col) rules_read ≡ false)
-  tests = or_false (has_strict_break ex p) (list_any (newly_broken ex p col) rules_read) (sym (strict_break_grows ex p col) ∙ alive)
+  tests = or_parts (has_strict_break ex p) (list_any (newly_broken ex p col) rules_read) (sym (strict_break_grows ex p col) ∙ alive)
 
   on : GoesOn ex p (col ∷ [])
   on = record { orderly = alive_orderly ex few p tests.0; longer = prefix }

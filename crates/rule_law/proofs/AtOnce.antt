@@ -5,14 +5,10 @@ use Rattle.std.proofs.lemmas.Bool.Decides.{nat_tests}
 use Rattle.std.proofs.lemmas.List.{length-append}
 use Rattle.fux_grid.specs.declared.cell.Cell.{Cell}
 use Rattle.fux_grid.specs.declared.exercise.Exercise.{Exercise}
-use Rattle.rule_law.specs.Growth.{newly}
+use Rattle.rule_law.specs.Growth.{newly, AlwaysEnough}
 use Rattle.rule_law.specs.Law.{below_from_test, first_true, reading-at_end, second_true, test_from_below}
 use Rattle.rule_law.specs.Places.{Row, reading_of, settled_by}
 use Rattle.rule_law.specs.Rulebooks.{IsAmong, RuleRow, TollRow, newly_breaks, newly_costs}
-
--- at each place any columns are enough
-abbrev pub AlwaysEnough : Row Bool → Type 0
-AlwaysEnough enough = (i : ℕ) (behind : List (List Cell)) (now : List Cell) (ahead : List (List Cell)) → enough i behind now ahead ≡ true
 
 module _ (enough : Row Bool) (always : AlwaysEnough enough) (p : List (List Cell)) (col : List Cell) where
   settled_there : (s : List (List Cell)) (i : ℕ) → i < length s → settled_by enough s i ≡ true

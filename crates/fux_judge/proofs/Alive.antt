@@ -5,7 +5,7 @@ use Rattle.std.specs.Prelude.{◌≡◌, ℕ, zero, suc, ◌+◌, ◌-◌, ◌*�
 use Rattle.std.specs.List.{list_any}
 use Rattle.std.proofs.Common.{ap, sym, ◌∙◌, subst, arith}
 use Rattle.std.proofs.Math.ListN.{get_or-append}
-use Rattle.std.proofs.lemmas.Bool.{eq-eqb, eqb-true}
+use Rattle.std.proofs.lemmas.Bool.{eq-eqb, eqb-true, or_parts}
 use Rattle.std.proofs.lemmas.List.{length-append, reverse-append, reverse-reverse}
 use Rattle.fux_grid.specs.declared.cell.Cell.{Cell}
 use Rattle.fux_grid.specs.declared.exercise.Exercise.{Exercise}
@@ -24,8 +24,8 @@ use Rattle.rule_law.specs.Forms as forms
 use Rattle.rule_law.specs.Growth.{newly}
 use Rattle.fux_judge.specs.Penalties.{has_strict_break, has_break_settled_in, newly_broken, newly_broken_at, newly_paid, paid, charges_settled_in, charges_of, is_strict_at}
 use Rattle.fux_judge.specs.Lawful.{breaks_strictly}
-use Rattle.fux_judge.specs.Ends.{none_below, unbroken_if_none_settled, none_settled_if_unbroken, settled_at_end}
-use Rattle.fux_judge.specs.Grows.{strict_break_grows, paid_grows, break_settled_grows, charges_settled_grow}
+use Rattle.fux_judge.proofs.Ends.{none_below, unbroken_if_none_settled, none_settled_if_unbroken, settled_at_end}
+use Rattle.fux_judge.proofs.Grows.{strict_break_grows, paid_grows, break_settled_grows, charges_settled_grow}
 
 -- a prefix without its last column, and with a column more
 pub prefix_before : (ex : Exercise) (p : List (List Cell)) (col : List Cell) → IsPrefix ex (p ++ col ∷ []) → IsPrefix ex p
@@ -38,20 +38,16 @@ prefix_before ex p col longer =
       follows = (subst H (reverse-push p col) longer.follows).1;
     }
 
-or_false : (a b : Bool) → (a || b) ≡ false → (a ≡ false) × (b ≡ false)
-or_false true b h = cc
-or_false false b h = (refl, h)
-
 -- where no element of a list passes, the one at a place doesn't
 not_any : {X : Type 0} (f : X → Bool) (xs : List X) (d : X) → list_any f xs ≡ false → (k : ℕ) → k < length xs → f (slice_index_or xs k d) ≡ false
 not_any f [] d h k lt = absurd (omega arith)
-not_any f (x ∷ xs) d h zero lt = (or_false (f x) (list_any f xs) h).0
-not_any f (x ∷ xs) d h (suc k) lt = not_any f xs d (or_false (f x) (list_any f xs) h).1 k (omega arith)
+not_any f (x ∷ xs) d h zero lt = (or_parts (f x) (list_any f xs) h).0
+not_any f (x ∷ xs) d h (suc k) lt = not_any f xs d (or_parts (f x) (list_any f xs) h).1 k (omega arith)
 
 -- nor does one that is among them
 not_this : (f : ℕ → Bool) (n : ℕ) (xs : List ℕ) → list_any f xs ≡ false → list_any (λ x. n == x) xs ≡ true → f n ≡ false
 not_this f n [] h there = cc
-not_this f n (x ∷ xs) h there = at (n == x) refl there (or_false (f x) (list_any f xs) h) (not_this f n xs)
+not_this f n (x ∷ xs) h there = at (n == x) refl there (or_parts (f x) (list_any f xs) h) (not_this f n xs)
   where
     at : (b : Bool) → (n == x) ≡ b → (b || list_any (λ y. n == y) xs) ≡ true → (f x ≡ false) × (list_any f xs ≡ false) → (list_any f xs ≡ false → list_any (λ y. n == y) xs ≡ true → f n ≡ false) → f n ≡ false
     at true e m both later = ap f (eqb-true n x e) ∙ both.0
@@ -98,7 +94,7 @@ module _ (ex : Exercise) (few : ex.voices ≤ 4) where
   orderly_history [] alive = λ v bar free begun. absurd (omega (arith, begun.1))
   orderly_history (col ∷ h) alive =
       let longer : reverse (col ∷ h) ≡ reverse h ++ col ∷ [] = reverse-append (col ∷ []) h in
-      let parts = or_false (has_strict_break ex (reverse h)) (list_any (newly_broken ex (reverse h) col) rules_read) (sym (strict_break_grows ex (reverse h) col) ∙ sym (ap (has_strict_break ex) longer) ∙ alive) in
+      let parts = or_parts (has_strict_break ex (reverse h)) (list_any (newly_broken ex (reverse h) col) rules_read) (sym (strict_break_grows ex (reverse h) col) ∙ sym (ap (has_strict_break ex) longer) ∙ alive) in
       let P : List (List Cell) → Type 0 = λ p. IsOrderly ex p in
       subst P (sym longer) (in_shape (reverse h) col (orderly_history h parts.0) (rule_three (newly_broken ex (reverse h) col) parts.1))
 

@@ -5,9 +5,10 @@ use Rattle.std.proofs.lemmas.Bool.Decides.{nat_tests}
 use Rattle.fux_grid.specs.declared.cell.Cell.{Cell}
 use Rattle.fux_grid.specs.declared.exercise.Exercise.{Exercise}
 use Rattle.fux_grid.specs.Cells.{pitch_of}
-use Rattle.rule_law.specs.LowerVoices.{IsSameBelow, is_below, on_voice-same, on_pair-same, interval-same}
+use Rattle.rule_law.proofs.LowerVoices.{IsSameBelow, on_voice-same, on_pair-same, interval-same}
 use Rattle.rule_law.specs.Nearby.{Pitches}
 use Rattle.rule_law.specs.Terms.{holds_of}
+use Rattle.rule_law.specs.Voices.{is_below}
 use Rattle.rhythm_cadence.specs.Rows.{holds_of_pitch, begins_last_bar, is_final, fits_ending, ends_badly, lacks_final, near_rows}
 
 -- the rules of endings

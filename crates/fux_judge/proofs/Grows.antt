@@ -17,7 +17,7 @@ use Rattle.penalty_sheet.specs.declared.sheet.Sheet.{Sheet}
 use Rattle.penalty_sheet.specs.Weights.{weight_of}
 use Rattle.fux_judge.specs.Rules.{rules_read, tolls_read, all_sets, is_broken, is_settled, cost_at, is_cost_settled}
 use Rattle.fux_judge.specs.Penalties.{is_strict_at, price_at_place, is_strictly_broken, newly_broken_at, newly_broken, new_tolls, new_prices, newly_paid, breaks_by_column, has_strict_break, paid_by_column, paid, has_break_settled_in, settled_tolls, settled_prices, charges_settled_in}
-use Rattle.fux_judge.specs.Facts.{rule_is_local, rule_stays, rule_needs_place, toll_is_local, toll_stays, toll_needs_place}
+use Rattle.fux_judge.proofs.Facts.{rule_is_local, rule_stays, rule_needs_place, toll_is_local, toll_stays, toll_needs_place}
 
 module _ (ex : Exercise) (p : List (List Cell)) (col : List Cell) where
   pub one_more : length (p ++ col ∷ []) ≡ length p + 1

@@ -25,8 +25,8 @@ use Rattle.penalty_sheet.specs.declared.sheet.Sheet.{Sheet}
 use Rattle.penalty_sheet.specs.Weights.{weight_of}
 use Rattle.fux_judge.specs.Gauges.{cells_of_voice, free_voices, gauge_least, gauge_value, gauges_of, gauges_read, least_of}
 use Rattle.fux_judge.specs.Penalties.{charges_of, has_strict_break, paid, penalty_of}
-use Rattle.fux_judge.specs.Alive.{paid_at_end}
-use Rattle.fux_judge.specs.Grows.{column_at_end}
+use Rattle.fux_judge.proofs.Alive.{paid_at_end}
+use Rattle.fux_judge.proofs.Grows.{column_at_end}
 
 -- each gauge keeps both laws
 gauge_grows : (gauge : ℕ) → NeverFalls (gauge_least gauge)

@@ -4,10 +4,11 @@ use Rattle.std.proofs.Common.{ap, ◌∙◌}
 use Rattle.fux_grid.specs.declared.cell.Cell.{Cell}
 use Rattle.fux_grid.specs.declared.exercise.Exercise.{Exercise}
 use Rattle.fux_grid.specs.Cells.{cell_in, pitch_of}
-use Rattle.rule_law.specs.LowerVoices.{IsSameBelow, is_below, on_pair-same, one_starts-same, interval-same, both_move-same, into_perfect-same}
+use Rattle.rule_law.proofs.LowerVoices.{IsSameBelow, on_pair-same, one_starts-same, interval-same, both_move-same, into_perfect-same}
 use Rattle.rule_law.specs.Nearby.{Pitches}
 use Rattle.rule_law.specs.Pairs.{both_move, one_starts}
 use Rattle.rule_law.specs.Terms.{equal_perfects, interval_in}
+use Rattle.rule_law.specs.Voices.{is_below}
 use Rattle.motion_rules.specs.Rows.{is_above, cross, move_in_parallel, are_outer, outer_move_into_perfect, near_rows}
 
 module _ (n : ℕ) (a b : List Cell) (same : IsSameBelow n a b) where

@@ -12,19 +12,7 @@ use Rattle.rule_law.specs.Law.{first_true, second_true, below_from_test, test_fr
 use Rattle.rule_law.specs.Pairs.{one_starts, sound_same_key, sound_perfect, both_move, move_alike, move_into_perfect, go_same_way}
 use Rattle.rule_law.specs.Terms.{starts, moves, sounds, is_this, is_lowest, clash, holds_of, interval_in, interval_of_cells, is_same_key}
 use Rattle.fux_pitch.specs.Size.{is_consonant_size, is_perfect_size}
-use Rattle.rule_law.specs.Voices.{voice_of, pair_of, holds_of_voice, holds_of_pair, on_voice, on_free_voice, on_pair, is_free}
-
--- the voices of a set are all among the first ones
-abbrev pub voice_is_below : ℕ → Option ℕ → Bool
-voice_is_below n None = true
-voice_is_below n (Some v) = nat_lt v n
-
-abbrev pub pair_is_below : ℕ → Option (ℕ × ℕ) → Bool
-pair_is_below n None = true
-pair_is_below n (Some pair) = nat_lt pair.0 n && nat_lt pair.1 n
-
-abbrev pub is_below : ℕ → ℕ → Bool
-is_below n voices = voice_is_below n (voice_of voices) && pair_is_below n (pair_of voices)
+use Rattle.rule_law.specs.Voices.{voice_of, pair_of, holds_of_voice, holds_of_pair, on_voice, on_free_voice, on_pair, is_free, voice_is_below, pair_is_below, is_below}
 
 -- a test of voices answers the same of all the first ones
 abbrev pub SameBelow : {R : Type 0} → ℕ → (ℕ → R) → (ℕ → R) → Type 0
@@ -105,9 +93,6 @@ same_below n a b e = record {
 
 -- so the words of two voices are the same of the first ones
 module _ (n : ℕ) (a b : List Cell) (same : IsSameBelow n a b) (v w : ℕ) (h : v < n) (k : w < n) where
-  pub starts-same : starts (cell_in a v) ≡ starts (cell_in b v)
-  starts-same = ap starts (same.cells v h)
-
   pub one_starts-same : one_starts a v w ≡ one_starts b v w
   one_starts-same = ap (λ c. starts c || starts (cell_in a w)) (same.cells v h) ∙ ap (λ c. starts (cell_in b v) || starts c) (same.cells w k)
 
