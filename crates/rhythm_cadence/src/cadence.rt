@@ -160,10 +160,7 @@ pub fn breaks_cadence(ex: &Exercise, score: &Score, i: usize, voices: VoiceSet) 
     if !begins_last_bar(ex, i) || !has_all_voices(ex, voices) {
         return false;
     }
-    !(is_shown_by(ex, score, i, 0)
-        || is_shown_by(ex, score, i, 1)
-        || is_shown_by(ex, score, i, 2)
-        || is_shown_by(ex, score, i, 3))
+    !(0..4).any(|v| is_shown_by(ex, score, i, v))
 }
 
 /// Whether all these cells hold a note.
@@ -216,16 +213,12 @@ fn some_ends_well(newest: &NewestColumns, ex: &Exercise, i: usize) -> bool
     ensures { (s : List (List ACell)) → AreNewestOf ex.now.voices s newest.now → length s ≤ i + 1
         → result ≡ words.some_ends_well ex.now s i }
 {
-    if ends_well(newest, ex, i, 0) {
-        return true;
+    for v in 0..4 {
+        if ends_well(newest, ex, i, v) {
+            return true;
+        }
     }
-    if ends_well(newest, ex, i, 1) {
-        return true;
-    }
-    if ends_well(newest, ex, i, 2) {
-        return true;
-    }
-    ends_well(newest, ex, i, 3)
+    false
 }
 
 /// S22, read from the newest columns, at the newest.
