@@ -20,11 +20,19 @@ fn move_badly(ex: &Exercise, before: &[Cell], now: &[Cell], v: u8, w: u8) -> boo
         || outer_move_into_perfect(ex, before, now, v, w)
 }
 
+/// Whether some two voices of a column do.
+#[inline]
+fn some_move_badly(ex: &Exercise, before: &[Cell], now: &[Cell]) -> bool
+    ensures { result ≡ clear.some_move_badly ex.now before.now now.now }
+{
+    voice_pairs()
+        .iter()
+        .any(|pair| move_badly(ex, before, now, pair.0, pair.1))
+}
+
 /// Whether no two voices of a column break a rule of motion: none of S10, S16 and S17.
 pub fn are_clear(ex: &Exercise, before: &[Cell], now: &[Cell]) -> bool
     ensures { result ≡ not (clear.some_move_badly ex.now before.now now.now) }
 {
-    !voice_pairs()
-        .iter()
-        .any(|pair| move_badly(ex, before, now, pair.0, pair.1))
+    !some_move_badly(ex, before, now)
 }

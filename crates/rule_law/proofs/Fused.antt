@@ -1,12 +1,12 @@
 -- A test of four voices, gone through one by one: some voice passes it once one does (`some_passes`), and none passes it where no
 -- voice so far does and the next one doesn't (`none_yet`).
-use Rattle.std.proofs.Common.{◌≡◌, ℕ, suc, ◌+◌, ◌<◌, Bool, true, false, ◌||◌, List, [], ◌∷◌, ◌++◌, refl, ap, ◌∙◌, arith}
+use Rattle.std.proofs.Common.{◌≡◌, ℕ, zero, suc, ◌+◌, ◌<◌, Bool, true, false, ◌||◌, [], ◌∷◌, ◌++◌, ap, ◌∙◌, arith}
 use Rattle.std.specs.List.{list_any, range_with_len}
 use Rattle.std.proofs.lemmas.List.Folds.{list_any-append, list_any_at}
 use Rattle.std.proofs.lemmas.List.FromFn.{get_or-range_with_len}
 
 range_from-more : (a n : ℕ) → range_with_len a (suc n) ≡ range_with_len a n ++ (a + n) ∷ []
-range_from-more a 0 = let e : a ≡ a + 0 = omega arith in ap (λ k. k ∷ []) e
+range_from-more a zero = let e : a ≡ a + 0 = omega arith in ap (λ k. k ∷ []) e
 range_from-more a (suc n) =
     let e : a + 1 + n ≡ a + suc n = omega arith in
     ap (λ ks. a ∷ ks) (range_from-more (a + 1) n) ∙ ap (λ k. a ∷ (range_with_len (a + 1) n ++ k ∷ [])) e
@@ -25,5 +25,5 @@ module _ (test : ℕ → Bool) (v : ℕ) where
   pub some_passes : v < 4 → test v ≡ true → list_any test (range_with_len 0 4) ≡ true
   some_passes below here =
       let f : 0 + v ≡ v = omega arith in
-      list_any_at test (range_with_len 0 4) v 0 (omega arith)
+      list_any_at test (range_with_len 0 4) v 0 below
       (ap test (get_or-range_with_len 0 4 v 0 below ∙ f) ∙ here)
