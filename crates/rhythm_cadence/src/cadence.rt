@@ -160,7 +160,10 @@ pub fn breaks_cadence(ex: &Exercise, score: &Score, i: usize, voices: VoiceSet) 
     if !begins_last_bar(ex, i) || !has_all_voices(ex, voices) {
         return false;
     }
-    !(0..4).any(|v| is_shown_by(ex, score, i, v))
+    !(is_shown_by(ex, score, i, 0)
+        || is_shown_by(ex, score, i, 1)
+        || is_shown_by(ex, score, i, 2)
+        || is_shown_by(ex, score, i, 3))
 }
 
 /// Whether all these cells hold a note.

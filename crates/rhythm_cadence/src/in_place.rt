@@ -30,5 +30,10 @@ pub fn are_in_place(ex: &Exercise, i: usize, latest: &Latest, now: &[Cell]) -> b
     requires place { i < columns_in ex.now }
     ensures { result ≡ not (place.some_out_of_place ex.now i latest.now.pitches now.now) }
 {
-    !(0..4).any(|v| is_out_of_place(ex, i, latest, now, v))
+    for v in 0..4 {
+        if is_out_of_place(ex, i, latest, now, v) {
+            return false;
+        }
+    }
+    true
 }
