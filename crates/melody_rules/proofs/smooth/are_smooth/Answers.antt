@@ -14,11 +14,13 @@ rough false h = cc
 
 pub loop-v-preserved : goal.loop-v-preserved
 loop-v-preserved c = λ behind are.
-    none_yet (is_rough_at c.args.ex.now behind c.args.now.now) c.loop-v.v (c.loop-v.invariant behind are) (smooth _ (c.if-not-is_smooth_in.ensures behind are))
+    none_yet (is_rough_at c.args.ex.now behind c.args.now.now) c.loop-v.v
+    (c.loop-v.invariant behind are) (smooth _ (c.if-not-is_smooth_in.ensures behind are))
 
 pub returns-then-not-is_smooth_in : goal.returns-then-not-is_smooth_in
 returns-then-not-is_smooth_in c = λ behind are.
-    ap not (sym (some_passes (is_rough_at c.args.ex.now behind c.args.now.now) c.loop-v.v (omega arith) (rough _ (c.if-not-is_smooth_in.ensures behind are))))
+    ap not (sym (some_passes (is_rough_at c.args.ex.now behind c.args.now.now) c.loop-v.v
+    (omega arith) (rough _ (c.if-not-is_smooth_in.ensures behind are))))
 
 pub returns : goal.returns
 returns c = λ behind are.

@@ -6,11 +6,13 @@ use Rattle.rhythm_cadence.proofs.cadence.some_ends_well.Goals as goal
 
 pub loop-v-preserved : goal.loop-v-preserved
 loop-v-preserved c = λ s newest few.
-    none_yet (ends_well_at c.args.ex.now s c.args.i) c.loop-v.v (c.loop-v.invariant s newest few) (sym (c.ends_well.ensures s newest few) ∙ c.if-ends_well.false)
+    none_yet (ends_well_at c.args.ex.now s c.args.i) c.loop-v.v
+    (c.loop-v.invariant s newest few) (sym (c.ends_well.ensures s newest few) ∙ c.if-ends_well.false)
 
 pub returns-then-ends_well : goal.returns-then-ends_well
 returns-then-ends_well c = λ s newest few.
-    sym (some_passes (ends_well_at c.args.ex.now s c.args.i) c.loop-v.v (omega arith) (sym (c.ends_well.ensures s newest few) ∙ c.if-ends_well.true))
+    sym (some_passes (ends_well_at c.args.ex.now s c.args.i) c.loop-v.v
+    (omega arith) (sym (c.ends_well.ensures s newest few) ∙ c.if-ends_well.true))
 
 pub returns : goal.returns
 returns c = λ s newest few.

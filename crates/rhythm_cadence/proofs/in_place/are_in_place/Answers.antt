@@ -11,7 +11,8 @@ loop-v-preserved c =
 
 pub returns-then-is_out_of_place : goal.returns-then-is_out_of_place
 returns-then-is_out_of_place c =
-    ap not (sym (some_passes (is_out_of_place_at c.args.ex.now c.args.i c.args.latest.now.pitches c.args.now.now) c.loop-v.v
+    ap not (sym
+    (some_passes (is_out_of_place_at c.args.ex.now c.args.i c.args.latest.now.pitches c.args.now.now) c.loop-v.v
     (omega arith) (sym c.is_out_of_place.ensures ∙ c.if-is_out_of_place.true)))
 
 pub returns : goal.returns
