@@ -7,7 +7,7 @@ ghost use Rattle.dissonance_rules.specs.Rows as rows;
 use fux_grid::{Cell, Exercise, VoiceSet, cell_of};
 use rule_law::{
     Latest, begins_bar, begins_inner_bar, is_clash, one_starts, pair_of, sound_perfect,
-    sound_same_key, starts,
+    sound_same_key, starts, voice_pairs,
 };
 
 /// S11.
@@ -51,12 +51,10 @@ fn struck_unisons(i: usize, now: &[Cell]) -> u32
     if begins_bar(i) {
         return 0;
     }
-    u32::from(strike_unison(now, 0, 1))
-        + u32::from(strike_unison(now, 0, 2))
-        + u32::from(strike_unison(now, 0, 3))
-        + u32::from(strike_unison(now, 1, 2))
-        + u32::from(strike_unison(now, 1, 3))
-        + u32::from(strike_unison(now, 2, 3))
+    voice_pairs()
+        .iter()
+        .filter(|pair| strike_unison(now, pair.0 as usize, pair.1 as usize))
+        .count() as u32
 }
 
 /// Whether a rule is broken at column `i`, whose cells are `now`.

@@ -72,14 +72,10 @@ pub fn is_smooth_in(ex: &Exercise, voices: &[VoiceNotes; 4], now: &[Cell], v: u8
 pub fn are_smooth(ex: &Exercise, voices: &[VoiceNotes; 4], now: &[Cell]) -> bool
     ensures { (behind : List (List Cell)) → AreNotesOf behind voices.now → result ≡ not (smooth.some_rough ex.now behind now.now) }
 {
-    if !is_smooth_at(ex, &voices[0], now, 0) {
-        return false;
+    for v in 0..4 {
+        if !is_smooth_in(ex, voices, now, v) {
+            return false;
+        }
     }
-    if !is_smooth_at(ex, &voices[1], now, 1) {
-        return false;
-    }
-    if !is_smooth_at(ex, &voices[2], now, 2) {
-        return false;
-    }
-    is_smooth_at(ex, &voices[3], now, 3)
+    true
 }

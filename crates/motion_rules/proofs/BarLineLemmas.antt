@@ -2,6 +2,7 @@
 use Rattle.std.proofs.Common.{◌≡◌, ℕ, ◌+◌, ◌-◌, ◌%◌, ◌≤◌, min, Bool, true, false, ◌&&◌, ◌||◌, cond, nat_le, List, [], ◌∷◌, ◌++◌, length, get_or, drop, reverse, refl, ap, sym, ◌∙◌, subst, arith, if◌then◌else◌, length-drop}
 use Rattle.std.proofs.lemmas.Bool.Decides.{nat_tests}
 use Rattle.std.proofs.lemmas.List.{length-reverse, get_or-drop}
+use Rattle.std.specs.Int.{from_bool}
 use Rattle.std.specs.List.{list_all, prefix_len}
 use Rattle.fux_grid.specs.declared.cell.Cell.{Cell}
 use Rattle.fux_grid.specs.declared.exercise.Exercise.{Exercise}
@@ -10,6 +11,8 @@ use Rattle.rule_law.specs.Bars.{begins_bar}
 use Rattle.rule_law.specs.Law.{reading-at_end}
 use Rattle.rule_law.specs.Pairs.{count_pairs}
 use Rattle.rule_law.specs.Places.{reading_of}
+use Rattle.rule_law.specs.Voices.{voice_pairs}
+use Rattle.rule_law.proofs.MenuStarts.{as_number}
 use Rattle.motion_rules.specs.BarLines.{bar_lines, goes_on, longer_run, longer_runs, pairs_going_on, run_of, runs_of}
 use Rattle.motion_rules.specs.Rows.{cost_in, four_bar_lines, keep_on, sound_imperfect}
 
@@ -98,9 +101,31 @@ goes_on-four degrees h now v w l z =
     ap (λ lines. nat_le 3 (min 3 (prefix_len sounds lines)) && sounds now) (three_bar_lines h l z)
     ∙ four (sounds now) (sounds (get_or h 7 [])) (sounds (get_or h 15 [])) (sounds (get_or h 23 [])) (prefix_len sounds (bar_lines (drop 8 (drop 8 (drop 8 h)))))
 
+-- how many pairs of voices pass a test, added up one by one
+count_pairs-written : (test : ℕ → ℕ → Bool)
+    → from_bool (test 0 1) + from_bool (test 0 2) + from_bool (test 0 3) + from_bool (test 1 2) + from_bool (test 1 3)
+    + from_bool (test 2 3) ≡ count_pairs test
+unfolding voice_pairs
+count_pairs-written test =
+    let counted : count_pairs test
+    ≡ 0 + cond (test 0 1) 1 0 + cond (test 0 2) 1 0 + cond (test 0 3) 1 0 + cond (test 1 2) 1 0 + cond (test 1 3) 1 0
+    + cond (test 2 3) 1 0 = refl in
+    omega (
+      arith,
+      counted,
+      as_number (test 0 1),
+      as_number (test 0 2),
+      as_number (test 0 3),
+      as_number (test 1 2),
+      as_number (test 1 3),
+      as_number (test 2 3),
+    )
+
 -- the pairs that go on with runs of three are those of Q14
 pairs_going_on-four : (h : List (List Cell)) (now : List Cell) → 24 ≤ length h → length h % 8 ≡ 0 → pairs_going_on (runs_of 2 h) (runs_of 5 h) now ≡ count_pairs (keep_on (four_bar_lines h now))
-pairs_going_on-four h now l z = rw (alike 0 1, alike 0 2, alike 0 3, alike 1 2, alike 1 3, alike 2 3) refl
+pairs_going_on-four h now l z =
+    rw (alike 0 1, alike 0 2, alike 0 3, alike 1 2, alike 1 3, alike 2 3)
+    (count_pairs-written (keep_on (four_bar_lines h now)))
   where
     alike : (v w : ℕ) → goes_on (run_of 2 h v w) (run_of 5 h v w) now v w ≡ keep_on (four_bar_lines h now) v w
     alike v w = ap (λ b. b || (nat_le 3 (run_of 5 h v w) && sound_imperfect 5 now v w)) (goes_on-four 2 h now v w l z) ∙ ap (λ b. list_all (λ col. sound_imperfect 2 col v w) (four_bar_lines h now) || b) (goes_on-four 5 h now v w l z)

@@ -5,7 +5,7 @@ ghost use Rattle.motion_rules.specs.InnerVoices as words;
 
 use crate::rows::are_outer;
 use fux_grid::{Cell, Exercise};
-use rule_law::move_into_perfect;
+use rule_law::{move_into_perfect, voice_pairs};
 
 /// Whether two voices, but not the lowest with the highest, both rise or both fall into a perfect interval.
 fn inner_move_into_perfect(ex: &Exercise, before: &[Cell], now: &[Cell], v: u8, w: u8) -> bool
@@ -23,10 +23,8 @@ pub fn inner_moves(ex: &Exercise, before: &[Cell], now: &[Cell]) -> u32
     if ex.voices < 3 {
         return 0;
     }
-    u32::from(inner_move_into_perfect(ex, before, now, 0, 1))
-        + u32::from(inner_move_into_perfect(ex, before, now, 0, 2))
-        + u32::from(inner_move_into_perfect(ex, before, now, 0, 3))
-        + u32::from(inner_move_into_perfect(ex, before, now, 1, 2))
-        + u32::from(inner_move_into_perfect(ex, before, now, 1, 3))
-        + u32::from(inner_move_into_perfect(ex, before, now, 2, 3))
+    voice_pairs()
+        .iter()
+        .filter(|pair| inner_move_into_perfect(ex, before, now, pair.0, pair.1))
+        .count() as u32
 }

@@ -8,7 +8,7 @@ use fux_grid::{Cell, Exercise, VoiceSet, cell_of};
 use fux_pitch::{Interval, is_imperfect, reduce, semitone};
 use rule_law::{
     Latest, both_move, equal_perfects, interval_of_cells, move_alike, move_into_perfect,
-    one_starts, pair_of,
+    one_starts, pair_of, voice_pairs,
 };
 
 /// S10.
@@ -70,12 +70,10 @@ fn pairs_alike(before: &[Cell], now: &[Cell]) -> u32
     ensures value { result ≡ rows.pairs_alike before.now now.now }
     ensures bound { result ≤ 6 }
 {
-    u32::from(move_alike(before, now, 0, 1))
-        + u32::from(move_alike(before, now, 0, 2))
-        + u32::from(move_alike(before, now, 0, 3))
-        + u32::from(move_alike(before, now, 1, 2))
-        + u32::from(move_alike(before, now, 1, 3))
-        + u32::from(move_alike(before, now, 2, 3))
+    voice_pairs()
+        .iter()
+        .filter(|pair| move_alike(before, now, pair.0 as usize, pair.1 as usize))
+        .count() as u32
 }
 
 /// Whether the interval is imperfect and has so many degrees without its octaves: a third has 2, a sixth has 5.

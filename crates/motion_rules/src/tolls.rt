@@ -13,7 +13,7 @@ ghost use Rattle.motion_rules.specs.Rows.{cost_enough, cost_in, four_bar_lines};
 use crate::inner_voices::inner_moves;
 use crate::rows::{cost, sound_imperfect};
 use fux_grid::{Cell, Exercise, Score};
-use rule_law::{Latest, Toll, begins_bar};
+use rule_law::{Latest, Toll, begins_bar, voice_pairs};
 
 /// Two voices that move, both rising or both falling.
 #[derive(Clone, Copy, Debug, PartialEq, Eq)]
@@ -121,12 +121,10 @@ impl Toll for Q14 {
         if !begins_bar(i) || i / 8 < 3 {
             return 0;
         }
-        u32::from(keep_on(score, i, 0, 1))
-            + u32::from(keep_on(score, i, 0, 2))
-            + u32::from(keep_on(score, i, 0, 3))
-            + u32::from(keep_on(score, i, 1, 2))
-            + u32::from(keep_on(score, i, 1, 3))
-            + u32::from(keep_on(score, i, 2, 3))
+        voice_pairs()
+            .iter()
+            .filter(|pair| keep_on(score, i, pair.0 as usize, pair.1 as usize))
+            .count() as u32
     }
 
     fn settled(&self, _ex: &Exercise, _prefix: &Score, _i: usize) -> bool {

@@ -216,16 +216,12 @@ fn some_ends_well(newest: &NewestColumns, ex: &Exercise, i: usize) -> bool
     ensures { (s : List (List ACell)) → AreNewestOf ex.now.voices s newest.now → length s ≤ i + 1
         → result ≡ words.some_ends_well ex.now s i }
 {
-    if ends_well(newest, ex, i, 0) {
-        return true;
+    for v in 0..4 {
+        if ends_well(newest, ex, i, v) {
+            return true;
+        }
     }
-    if ends_well(newest, ex, i, 1) {
-        return true;
-    }
-    if ends_well(newest, ex, i, 2) {
-        return true;
-    }
-    ends_well(newest, ex, i, 3)
+    false
 }
 
 /// S22, read from the newest columns, at the newest.

@@ -8,21 +8,20 @@ use crate::rows::{leaves_gamut, leaves_range, opens_badly};
 use fux_grid::{Cell, Exercise, cell_of};
 use rule_law::{Latest, is_free};
 
-/// Whether a voice of a column is the cantus, or isn't there, or breaks none of S1, S2 and S12.
+/// Whether a free voice of a column breaks one of S1, S2 and S12.
 #[inline]
-fn is_in_place(ex: &Exercise, i: usize, latest: &Latest, now: &[Cell], v: u8) -> bool
+fn is_out_of_place(ex: &Exercise, i: usize, latest: &Latest, now: &[Cell], v: u8) -> bool
     requires valid { IsValid ex.now }
     requires place { i < columns_in ex.now }
-    ensures { result ≡ not (place.is_out_of_place_at ex.now i latest.now.pitches now.now v) }
+    ensures { result ≡ place.is_out_of_place_at ex.now i latest.now.pitches now.now v }
 {
     if v >= ex.voices || !is_free(ex, v) {
-        return true;
-    }
-    let cell = cell_of(now, v as usize);
-    if leaves_range(ex, v, i, cell) || leaves_gamut(ex, i, cell) {
         return false;
     }
-    !opens_badly(ex, latest.of(v as usize), now, v)
+    let cell = cell_of(now, v as usize);
+    leaves_range(ex, v, i, cell)
+        || leaves_gamut(ex, i, cell)
+        || opens_badly(ex, latest.of(v as usize), now, v)
 }
 
 /// Whether a column breaks none of S1, S2 and S12 in any voice, from the pitch of each voice's latest note before it.
@@ -31,14 +30,10 @@ pub fn are_in_place(ex: &Exercise, i: usize, latest: &Latest, now: &[Cell]) -> b
     requires place { i < columns_in ex.now }
     ensures { result ≡ not (place.some_out_of_place ex.now i latest.now.pitches now.now) }
 {
-    if !is_in_place(ex, i, latest, now, 0) {
-        return false;
+    for v in 0..4 {
+        if is_out_of_place(ex, i, latest, now, v) {
+            return false;
+        }
     }
-    if !is_in_place(ex, i, latest, now, 1) {
-        return false;
-    }
-    if !is_in_place(ex, i, latest, now, 2) {
-        return false;
-    }
-    is_in_place(ex, i, latest, now, 3)
+    true
 }

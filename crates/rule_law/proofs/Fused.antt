@@ -1,15 +1,29 @@
--- Tests of which one fails, or none: by the answer to the opposite of each.
-use Rattle.std.proofs.Common.{◌≡◌, Bool, true, false, not, ◌||◌, refl}
+-- A test of four voices, gone through one by one: some voice passes it once one does (`some_passes`), and none passes it where no
+-- voice so far does and the next one doesn't (`none_yet`).
+use Rattle.std.proofs.Common.{◌≡◌, ℕ, zero, suc, ◌+◌, ◌<◌, Bool, true, false, ◌||◌, [], ◌∷◌, ◌++◌, ap, ◌∙◌, arith}
+use Rattle.std.specs.List.{list_any, range_with_len}
+use Rattle.std.proofs.lemmas.List.Folds.{list_any-append, list_any_at}
+use Rattle.std.proofs.lemmas.List.FromFn.{get_or-range_with_len}
 
--- the first fails, or a later one, or the last
-pub fails_here : (fails later : Bool) → false ≡ not fails → false ≡ not (fails || later)
-fails_here true later h = refl
-fails_here false later h = cc
+range_from-more : (a n : ℕ) → range_with_len a (suc n) ≡ range_with_len a n ++ (a + n) ∷ []
+range_from-more a zero = let e : a ≡ a + 0 = omega arith in ap (λ k. k ∷ []) e
+range_from-more a (suc n) =
+    let e : a + 1 + n ≡ a + suc n = omega arith in
+    ap (λ ks. a ∷ ks) (range_from-more (a + 1) n) ∙ ap (λ k. a ∷ (range_with_len (a + 1) n ++ k ∷ [])) e
 
-pub fails_later : (fails later result : Bool) → true ≡ not fails → result ≡ not later → result ≡ not (fails || later)
-fails_later true later result h k = cc
-fails_later false later result h k = k
+module _ (test : ℕ → Bool) (v : ℕ) where
+  pub none_yet : list_any test (range_with_len 0 v) ≡ false → test v ≡ false
+      → list_any test (range_with_len 0 (v + 1)) ≡ false
+  none_yet before here =
+      let e : v + 1 ≡ suc v = omega arith in
+      let f : 0 + v ≡ v = omega arith in
+      ap (λ n. list_any test (range_with_len 0 n)) e ∙ ap (list_any test) (range_from-more 0 v)
+      ∙ ap (λ k. list_any test (range_with_len 0 v ++ k ∷ [])) f
+      ∙ list_any-append test (range_with_len 0 v) (v ∷ []) ∙ ap (λ b. b || (test v || false)) before
+      ∙ ap (λ b. b || false) here
 
-pub fails_last : (fails result : Bool) → result ≡ not fails → result ≡ not (fails || false)
-fails_last true result h = h
-fails_last false result h = h
+  pub some_passes : v < 4 → test v ≡ true → list_any test (range_with_len 0 4) ≡ true
+  some_passes below here =
+      let f : 0 + v ≡ v = omega arith in
+      list_any_at test (range_with_len 0 4) v 0 below
+      (ap test (get_or-range_with_len 0 4 v 0 below ∙ f) ∙ here)

@@ -1,15 +1,20 @@
 -- The words of the rules for two voices, in one column and in two neighbors.
-use Rattle.std.specs.Prelude.{ℕ, ◌+◌, Bool, false, ◌&&◌, ◌||◌, List, Option, Some, None}
-use Rattle.std.specs.Int.{from_bool}
+use Rattle.std.specs.Prelude.{ℕ, Bool, false, ◌&&◌, ◌||◌, count_by, List, Option, Some, None}
+use Rattle.std.specs.List.{list_any}
 use Rattle.fux_pitch.specs.declared.interval.Interval.{Interval}
 use Rattle.fux_pitch.specs.Size.{is_perfect_size}
 use Rattle.fux_grid.specs.declared.cell.Cell.{Cell}
 use Rattle.fux_grid.specs.Cells.{cell_in}
 use Rattle.rule_law.specs.Terms.{starts, moves, holds_of, interval_of_cells, interval_in, is_same_key, same_way}
+use Rattle.rule_law.specs.Voices.{voice_pairs}
 
 -- how many pairs of voices pass the test, of four voices at most
 abbrev pub count_pairs : (ℕ → ℕ → Bool) → ℕ
-count_pairs test = from_bool (test 0 1) + from_bool (test 0 2) + from_bool (test 0 3) + from_bool (test 1 2) + from_bool (test 1 3) + from_bool (test 2 3)
+count_pairs test = count_by (λ pair. test pair.0 pair.1) voice_pairs
+
+-- some pair does
+abbrev pub some_pair : (ℕ → ℕ → Bool) → Bool
+some_pair test = list_any (λ pair. test pair.0 pair.1) voice_pairs
 
 -- a note starts in one of two voices, or in both
 abbrev pub one_starts : List Cell → ℕ → ℕ → Bool

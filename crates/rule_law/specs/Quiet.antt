@@ -9,9 +9,9 @@ use Rattle.fux_grid.specs.Cells.{cell_in}
 use Rattle.fux_grid.specs.Exercises.{bar_of}
 use Rattle.rule_law.specs.Bars.{begins_bar, begins_inner_bar}
 use Rattle.rule_law.specs.Growth.{sum_by-none}
-use Rattle.rule_law.specs.Pairs.{both_move, count_pairs, go_same_way, move_alike, one_starts}
+use Rattle.rule_law.specs.Pairs.{both_move, count_pairs, go_same_way, move_alike, one_starts, some_pair}
 use Rattle.rule_law.specs.Terms.{starts, interval_of_cells}
-use Rattle.rule_law.specs.Voices.{count_free, holds_of_pair, holds_of_voice, is_free, on_free_voice, on_pair, on_voice, pair_of, voice_of}
+use Rattle.rule_law.specs.Voices.{count_free, holds_of_pair, holds_of_voice, is_free, on_free_voice, on_pair, on_voice, pair_of, voice_of, voice_pairs}
 
 -- no bar begins at the column, and no note starts in it
 abbrev pub is_quiet : ℕ → List Cell → Bool
@@ -64,7 +64,7 @@ on_pair-none ex test voices none = at (pair_of voices)
     at (Some pair) = and_none (nat_lt pair.1 ex.voices) (test pair.0 pair.1) (none pair.0 pair.1)
 
 pub count_pairs-none : (test : ℕ → ℕ → Bool) → ((v w : ℕ) → test v w ≡ false) → count_pairs test ≡ 0
-count_pairs-none test none = rw (none 0 1, none 0 2, none 0 3, none 1 2, none 1 3, none 2 3) refl
+count_pairs-none test none = sum_by-none (λ pair. cond (test pair.0 pair.1) 1 0) voice_pairs (λ pair. ap (λ b. cond b 1 0) (none pair.0 pair.1))
 
 pub count_free-none : (ex : Exercise) (test : ℕ → Bool) → ((v : ℕ) → test v ≡ false) → count_free ex test ≡ 0
 count_free-none ex test none =
@@ -98,20 +98,30 @@ on_free_voice-kept ex rough test voices h k0 k1 k2 k3 =
     chosen true x y h k = h
     chosen false x y h k = k
 
--- a test of the two voices of a set, where it fails for each two of four
-pub on_pair-kept : (ex : Exercise) (bad test : ℕ → ℕ → Bool) (voices : ℕ) → ((v w : ℕ) → bad v w ≡ false → test v w ≡ false) → (nat_lt 1 ex.voices && bad 0 1) ≡ false → (nat_lt 2 ex.voices && bad 0 2) ≡ false → (nat_lt 3 ex.voices && bad 0 3) ≡ false → (nat_lt 2 ex.voices && bad 1 2) ≡ false → (nat_lt 3 ex.voices && bad 1 3) ≡ false → (nat_lt 3 ex.voices && bad 2 3) ≡ false → on_pair ex test voices ≡ false
-on_pair-kept ex bad test voices kept h01 h02 h03 h12 h13 h23 =
-    chosen (voices == 3) (Some (0, 1)) _ (one (nat_lt 1 ex.voices) (bad 0 1) (test 0 1) h01 (kept 0 1))
-    (chosen (voices == 5) (Some (0, 2)) _ (one (nat_lt 2 ex.voices) (bad 0 2) (test 0 2) h02 (kept 0 2))
-    (chosen (voices == 9) (Some (0, 3)) _ (one (nat_lt 3 ex.voices) (bad 0 3) (test 0 3) h03 (kept 0 3))
-    (chosen (voices == 6) (Some (1, 2)) _ (one (nat_lt 2 ex.voices) (bad 1 2) (test 1 2) h12 (kept 1 2))
-    (chosen (voices == 10) (Some (1, 3)) _ (one (nat_lt 3 ex.voices) (bad 1 3) (test 1 3) h13 (kept 1 3))
-    (chosen (voices == 12) (Some (2, 3)) None (one (nat_lt 3 ex.voices) (bad 2 3) (test 2 3) h23 (kept 2 3)) refl)))))
+-- a test of the two voices of a set, where none of four voices' pairs passes a test that it implies
+pub on_pair-kept : (ex : Exercise) (bad test : ℕ → ℕ → Bool) (voices : ℕ)
+    → some_pair (λ v w. nat_lt w ex.voices && bad v w) ≡ false
+    → ((v w : ℕ) → bad v w ≡ false → test v w ≡ false) → on_pair ex test voices ≡ false
+unfolding voice_pairs
+on_pair-kept ex bad test voices none kept =
+    let here : ℕ → ℕ → Bool = λ v w. nat_lt w ex.voices && bad v w in
+    let a = neither (here 0 1) _ none in
+    let b = neither (here 0 2) _ a.1 in
+    let c = neither (here 0 3) _ b.1 in
+    let d = neither (here 1 2) _ c.1 in
+    let e = neither (here 1 3) _ d.1 in
+    chosen (voices == 3) (0, 1) _ a.0
+    (chosen (voices == 5) (0, 2) _ b.0
+    (chosen (voices == 9) (0, 3) _ c.0
+    (chosen (voices == 6) (1, 2) _ d.0
+    (chosen (voices == 10) (1, 3) _ e.0
+    (chosen (voices == 12) (2, 3) None (neither (here 2 3) false e.1).0 refl)))))
   where
     one : (there breaks fails : Bool) → (there && breaks) ≡ false → (breaks ≡ false → fails ≡ false) → (there && fails) ≡ false
     one true breaks fails h k = k h
     one false breaks fails h k = refl
 
-    chosen : (b : Bool) (x y : Option (ℕ × ℕ)) → holds_of_pair ex test x ≡ false → holds_of_pair ex test y ≡ false → holds_of_pair ex test (if b then x else y) ≡ false
-    chosen true x y h k = h
+    chosen : (b : Bool) (x : ℕ × ℕ) (y : Option (ℕ × ℕ)) → (nat_lt x.1 ex.voices && bad x.0 x.1) ≡ false
+        → holds_of_pair ex test y ≡ false → holds_of_pair ex test (if b then Some x else y) ≡ false
+    chosen true x y h k = one (nat_lt x.1 ex.voices) (bad x.0 x.1) (test x.0 x.1) h (kept x.0 x.1)
     chosen false x y h k = k

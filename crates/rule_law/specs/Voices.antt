@@ -29,6 +29,10 @@ voice_sets = 1 ∷ 2 ∷ 4 ∷ 8 ∷ []
 abbrev pub pair_sets : List ℕ
 pair_sets = 3 ∷ 5 ∷ 6 ∷ 9 ∷ 10 ∷ 12 ∷ []
 
+-- the pairs of four voices, the lower voice first
+unfoldable pub voice_pairs : List (ℕ × ℕ)
+voice_pairs = (0, 1) ∷ (0, 2) ∷ (0, 3) ∷ (1, 2) ∷ (1, 3) ∷ (2, 3) ∷ []
+
 -- the voice isn't the cantus
 abbrev pub is_free : Exercise → ℕ → Bool
 is_free ex v = not (v == ex.cantus_voice)

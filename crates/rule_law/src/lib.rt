@@ -30,7 +30,7 @@ pub use pairs::{
     both_move, move_alike, move_into_perfect, one_starts, sound_perfect, sound_same_key,
 };
 pub use rule::Rule;
-pub use sets::{RuleSet, is_free, pair_of, voice_of};
+pub use sets::{RuleSet, is_free, pair_of, voice_of, voice_pairs};
 pub use table::{Form, Kind, LatePlaces, Stands, sets_of};
 pub use terms::{
     equal_perfects, falls, interval_in, interval_of_cells, is_clash, is_clean, is_leap,

@@ -1,6 +1,6 @@
 //! Sets of rules and of voices.
 
-ghost use Rattle.std.specs.Prelude.{◌≡◌, ◌==◌, ◌||◌, ◌&&◌, ◌<◌, ◌↔◌, ℕ, IsTrue};
+ghost use Rattle.std.specs.Prelude.{◌≡◌, ◌==◌, ◌||◌, ◌&&◌, ◌<◌, ◌↔◌, ℕ, IsTrue, length};
 ghost use Rattle.rule_law.specs.Voices as voices_words;
 ghost use Rattle.rule_law.specs.Voices.{has_rule};
 
@@ -71,6 +71,18 @@ pub fn pair_of(voices: VoiceSet) -> Option<(u8, u8)>
         12 => Some((2, 3)),
         _ => None,
     }
+}
+
+/// The pairs of four voices, the lower voice first.
+const VOICE_PAIRS: [(u8, u8); 6] = [(0, 1), (0, 2), (0, 3), (1, 2), (1, 3), (2, 3)];
+
+/// The pairs of four voices, the lower voice first: a pair of which an exercise lacks a voice is among them.
+#[inline]
+pub fn voice_pairs() -> &'static [(u8, u8)]
+    ensures value { result.now ≡ voices_words.voice_pairs }
+    ensures six { length result.now ≡ 6 }
+{
+    &VOICE_PAIRS
 }
 
 /// Whether a voice is free: it isn't the cantus.

@@ -1,27 +1,29 @@
-use Rattle.std.proofs.Common.{arith}
-use Rattle.fux_grid.specs.Columns.{line}
-use Rattle.rule_law.proofs.Fused.{fails_here, fails_last, fails_later}
-use Rattle.melody_rules.proofs.VoiceLemmas.{notes_at}
+use Rattle.std.proofs.Common.{◌≡◌, ℕ, Bool, true, false, not, refl, ap, sym, ◌∙◌, arith}
+use Rattle.std.specs.List.{list_any, range_with_len}
+use Rattle.rule_law.proofs.Fused.{none_yet, some_passes}
+use Rattle.melody_rules.specs.Smooth.{is_rough_at}
 use Rattle.melody_rules.proofs.smooth.are_smooth.Goals as goal
 
-pub returns-then-not-is_smooth_at : goal.returns-then-not-is_smooth_at
-returns-then-not-is_smooth_at c = λ behind are.
-    fails_here _ _ (c.if-not-is_smooth_at.ensures (line 0 behind) (notes_at behind c.args.voices.now 0 c.index-voices-0.result are c.told-voices (omega arith)))
+smooth : (rough : Bool) → true ≡ not rough → rough ≡ false
+smooth true h = cc
+smooth false h = refl
 
-pub returns-then-not-is_smooth_at-2 : goal.returns-then-not-is_smooth_at-2
-returns-then-not-is_smooth_at-2 c = λ behind are.
-    fails_later _ _ _ (c.if-not-is_smooth_at.ensures (line 0 behind) (notes_at behind c.args.voices.now 0 c.index-voices-0.result are c.told-voices (omega arith)))
-    (fails_here _ _ (c.if-not-is_smooth_at-2.ensures (line 1 behind) (notes_at behind c.args.voices.now 1 c.index-voices-1.result are c.told-voices (omega arith))))
+rough : (rough : Bool) → false ≡ not rough → rough ≡ true
+rough true h = refl
+rough false h = cc
 
-pub returns-then-not-is_smooth_at-3 : goal.returns-then-not-is_smooth_at-3
-returns-then-not-is_smooth_at-3 c = λ behind are.
-    fails_later _ _ _ (c.if-not-is_smooth_at.ensures (line 0 behind) (notes_at behind c.args.voices.now 0 c.index-voices-0.result are c.told-voices (omega arith)))
-    (fails_later _ _ _ (c.if-not-is_smooth_at-2.ensures (line 1 behind) (notes_at behind c.args.voices.now 1 c.index-voices-1.result are c.told-voices (omega arith)))
-    (fails_here _ _ (c.if-not-is_smooth_at-3.ensures (line 2 behind) (notes_at behind c.args.voices.now 2 c.index-voices-2.result are c.told-voices (omega arith)))))
+pub loop-v-preserved : goal.loop-v-preserved
+loop-v-preserved c = λ behind are.
+    none_yet (is_rough_at c.args.ex.now behind c.args.now.now) c.loop-v.v
+    (c.loop-v.invariant behind are) (smooth _ (c.if-not-is_smooth_in.ensures behind are))
+
+pub returns-then-not-is_smooth_in : goal.returns-then-not-is_smooth_in
+returns-then-not-is_smooth_in c = λ behind are.
+    ap not (sym (some_passes (is_rough_at c.args.ex.now behind c.args.now.now) c.loop-v.v
+    (omega arith) (rough _ (c.if-not-is_smooth_in.ensures behind are))))
 
 pub returns : goal.returns
 returns c = λ behind are.
-    fails_later _ _ _ (c.if-not-is_smooth_at.ensures (line 0 behind) (notes_at behind c.args.voices.now 0 c.index-voices-0.result are c.told-voices (omega arith)))
-    (fails_later _ _ _ (c.if-not-is_smooth_at-2.ensures (line 1 behind) (notes_at behind c.args.voices.now 1 c.index-voices-1.result are c.told-voices (omega arith)))
-    (fails_later _ _ _ (c.if-not-is_smooth_at-3.ensures (line 2 behind) (notes_at behind c.args.voices.now 2 c.index-voices-2.result are c.told-voices (omega arith)))
-    (fails_last _ _ (c.is_smooth_at-4.ensures (line 3 behind) (notes_at behind c.args.voices.now 3 c.index-voices-3.result are c.told-voices (omega arith))))))
+    let all : c.loop-v.v ≡ 4 = omega arith in
+    let test : ℕ → Bool = is_rough_at c.args.ex.now behind c.args.now.now in
+    ap not (sym (ap (λ n. list_any test (range_with_len 0 n)) (sym all) ∙ c.loop-v.invariant behind are))

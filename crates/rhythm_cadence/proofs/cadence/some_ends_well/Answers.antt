@@ -1,21 +1,21 @@
-use Rattle.std.proofs.Common.{sym, ◌∙◌}
-use Rattle.rhythm_cadence.proofs.NewestReadings.{fourth_decides, second_passes, third_passes}
+use Rattle.std.proofs.Common.{◌≡◌, ℕ, Bool, ap, sym, ◌∙◌, arith}
+use Rattle.std.specs.List.{list_any, range_with_len}
+use Rattle.rule_law.proofs.Fused.{none_yet, some_passes}
+use Rattle.rhythm_cadence.specs.Cadence.{ends_well_at}
 use Rattle.rhythm_cadence.proofs.cadence.some_ends_well.Goals as goal
 
-pub returns-then-ends_well-2 : goal.returns-then-ends_well-2
-returns-then-ends_well-2 c = λ s newest few.
-    second_passes _ _ _ (sym (c.ends_well.ensures s newest few) ∙ c.if-ends_well.false)
-    (sym c.if-ends_well-2.true ∙ c.ends_well-2.ensures s newest few)
+pub loop-v-preserved : goal.loop-v-preserved
+loop-v-preserved c = λ s newest few.
+    none_yet (ends_well_at c.args.ex.now s c.args.i) c.loop-v.v
+    (c.loop-v.invariant s newest few) (sym (c.ends_well.ensures s newest few) ∙ c.if-ends_well.false)
 
-pub returns-then-ends_well-3 : goal.returns-then-ends_well-3
-returns-then-ends_well-3 c = λ s newest few.
-    third_passes _ _ _ _ (sym (c.ends_well.ensures s newest few) ∙ c.if-ends_well.false)
-    (sym (c.ends_well-2.ensures s newest few) ∙ c.if-ends_well-2.false)
-    (sym c.if-ends_well-3.true ∙ c.ends_well-3.ensures s newest few)
+pub returns-then-ends_well : goal.returns-then-ends_well
+returns-then-ends_well c = λ s newest few.
+    sym (some_passes (ends_well_at c.args.ex.now s c.args.i) c.loop-v.v
+    (omega arith) (sym (c.ends_well.ensures s newest few) ∙ c.if-ends_well.true))
 
 pub returns : goal.returns
 returns c = λ s newest few.
-    fourth_decides _ _ _ _ _ (sym (c.ends_well.ensures s newest few) ∙ c.if-ends_well.false)
-    (sym (c.ends_well-2.ensures s newest few) ∙ c.if-ends_well-2.false)
-    (sym (c.ends_well-3.ensures s newest few) ∙ c.if-ends_well-3.false)
-    (c.ends_well-4.ensures s newest few)
+    let all : c.loop-v.v ≡ 4 = omega arith in
+    let test : ℕ → Bool = ends_well_at c.args.ex.now s c.args.i in
+    sym (ap (λ n. list_any test (range_with_len 0 n)) (sym all) ∙ c.loop-v.invariant s newest few)
