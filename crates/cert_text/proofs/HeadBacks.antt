@@ -165,11 +165,12 @@ lines-short ex sung (v ∷ voices) few fits =
 
 kept-few : (keep : ℕ → Bool) (xs : List ℕ) → length (filter keep xs) ≤ length xs
 kept-few keep [] = omega arith
-kept-few keep (x ∷ xs) = by (keep x)
+kept-few keep (x ∷ xs) = by (keep x) (kept-few keep xs)
   where
-    by : (b : Bool) → length (if b then x ∷ filter keep xs else filter keep xs) ≤ length (x ∷ xs)
-    by true = omega (arith, kept-few keep xs)
-    by false = omega (arith, kept-few keep xs)
+    by : (b : Bool) → length (filter keep xs) ≤ length xs
+        → length (if b then x ∷ filter keep xs else filter keep xs) ≤ length (x ∷ xs)
+    by true few = omega (arith, few)
+    by false few = omega (arith, few)
 
 -- the lines of a head have at most 4,828 bytes, four lines of 1,207
 pub item_lines-short : (ex : Exercise) (lines : List ℕ) → IsValid ex → AreLines ex lines → length lines ≤ 4828
