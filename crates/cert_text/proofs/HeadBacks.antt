@@ -1,7 +1,7 @@
 -- One head at most stands at the front of bytes (`heads_are_one`), whatever stands behind it (`heads_before`,
 -- `heads_within`), and its text is short (`heads_are_short`), so that a long front of bytes tells where none goes on
 -- (`stops_whole`).
-use Rattle.std.proofs.Common.{◌≡◌, ℕ, zero, suc, ◌+◌, ◌*◌, ◌/◌, ◌%◌, ◌≤◌, ◌<◌, ◌^◌, Bool, true, false, List, [], ◌∷◌, ◌++◌, length, length-append, take, Option, Some, None, Result, Ok, refl, sym, ap, subst, ◌∙◌, arith}
+use Rattle.std.proofs.Common.{◌≡◌, ℕ, ◌+◌, ◌*◌, ◌/◌, ◌%◌, ◌≤◌, ◌<◌, ◌^◌, Bool, true, false, List, [], ◌∷◌, ◌++◌, length, length-append, take, Option, Some, None, Result, Ok, refl, sym, ap, subst, ◌∙◌, arith}
 use Rattle.std.specs.Prelude.{◌==◌, not, codes, filter, if◌then◌else◌}
 use Rattle.std.specs.Fmt.{decimal}
 use Rattle.std.specs.List.{range_with_len}
@@ -26,7 +26,7 @@ use Rattle.cert_text.specs.declared.answers.CertHead.{CertHead}
 use Rattle.cert_text.specs.declared.answers.CertHead.TheVariants.{Best, Nothing}
 use Rattle.cert_text.specs.HeadTexts.{BeginsText, HasLines, Heads, TextStops, penalty_of}
 use Rattle.cert_text.specs.Places.{sing_bytes}
-use Rattle.cert_text.specs.SingItems.{AreLines, Fits, IsBestText, IsHeadText, behind_text, best_text, claims_text, item_text, items_text, line_text, lines_text, opening_text}
+use Rattle.cert_text.specs.SingItems.{AreLines, Fits, IsHeadText, behind_text, best_text, claims_text, item_text, items_text, line_text, lines_text, opening_text}
 use Rattle.cert_text.specs.WrittenLines.{HeadTextsAreShort, HeadsAreOne}
 use Rattle.cert_text.proofs.Stopping.{same-head}
 
@@ -41,12 +41,14 @@ pub lines_are_of_one : (ex : Exercise) (lines : List ℕ) (s t : Grid) → IsVal
 lines_are_of_one ex lines s t valid are also =
     one_read (setting_alone ex lines) s t (lines-read ex lines s valid are) (lines-read ex lines t valid also)
 
-same_lines : (penalty : ℕ) (lines others : List ℕ) → best_text penalty lines ≡ best_text penalty others → lines ≡ others
+pub same_lines : (penalty : ℕ) (lines others : List ℕ) → best_text penalty lines ≡ best_text penalty others
+    → lines ≡ others
 same_lines penalty lines others e =
     let xs = decimal penalty ++ 10 ∷ (lines ++ claims_text) in
     let ys = decimal penalty ++ 10 ∷ (others ++ claims_text) in
-    let numbered : xs ≡ ys =
-    append_cancel_left (codes "best ") xs ys (append_cancel_left opening_text (codes "best " ++ xs) (codes "best " ++ ys) e) in
+    let kinds : codes "best " ++ xs ≡ codes "best " ++ ys =
+    append_cancel_left opening_text (codes "best " ++ xs) (codes "best " ++ ys) e in
+    let numbered : xs ≡ ys = append_cancel_left (codes "best ") xs ys kinds in
     let fed : 10 ∷ (lines ++ claims_text) ≡ 10 ∷ (others ++ claims_text) =
     append_cancel_left (decimal penalty) (10 ∷ (lines ++ claims_text)) (10 ∷ (others ++ claims_text)) numbered in
     let behind : lines ++ claims_text ≡ others ++ claims_text = cc in
@@ -64,10 +66,11 @@ same_setting ex bytes (Best p s) (Best q t) valid e x y =
     let score : s ≡ t = lines_are_of_one ex y.0 s t valid (subst (λ l. AreSingLinesOf ex l s) lines x.2) y.2 in
     ap (λ n. Best n s) same ∙ ap (λ g. Best q g) score
 
-pub heads_are_one : (ex : Exercise) (bytes : List ℕ) (h k : CertHead) (n m : ℕ) → IsValid ex → Heads ex bytes h n → Heads ex bytes k m
-    → (h ≡ k) × (n ≡ m)
+pub heads_are_one : (ex : Exercise) (bytes : List ℕ) (h k : CertHead) (n m : ℕ) → IsValid ex
+    → Heads ex bytes h n → Heads ex bytes k m → (h ≡ k) × (n ≡ m)
 heads_are_one ex bytes h k n m valid one other =
-    let same = same-head ex bytes n m (penalty_of h) (penalty_of k) valid one.within other.within one.text other.text in (
+    let same =
+    same-head ex bytes n m (penalty_of h) (penalty_of k) valid one.within other.within one.text other.text in (
       same_setting ex (take n bytes) h k valid same.1 one.setting
           (subst (λ i. HasLines ex (take i bytes) k) (sym same.0) other.setting),
       same.0,
@@ -86,7 +89,8 @@ heads_before ex front rest h heads =
       setting = subst (λ xs. HasLines ex xs h) same heads.setting;
     }
 
-pub heads_within : (ex : Exercise) (bytes : List ℕ) (h : CertHead) (n m : ℕ) → Heads ex bytes h n → n ≤ m → Heads ex (take m bytes) h n
+pub heads_within : (ex : Exercise) (bytes : List ℕ) (h : CertHead) (n m : ℕ) → Heads ex bytes h n → n ≤ m
+    → Heads ex (take m bytes) h n
 heads_within ex bytes h n m heads more =
     let same : take n bytes ≡ take n (take m bytes) = sym (take-take n m bytes more) in
     record {
@@ -122,20 +126,24 @@ items-short bars i before (item ∷ items) fits =
 
     by : (last : Bool) → (j == 8 * bars) ≡ last → (whole : Bool) → (j % 8 == 0) ≡ whole
         → length rest + 6 * j + 2 * (j / 8) ≤ 50 * bars
-        → length (item_text item ++ ((if j == 8 * bars then 10 ∷ [] else (if j % 8 == 0 then codes " | " else codes " ")) ++ rest)) + 6 * i + 2 * (i / 8)
-        ≤ 50 * bars
+        → length (item_text item ++ (behind_text bars j ++ rest)) + 6 * i + 2 * (i / 8) ≤ 50 * bars
     by true e whole f more =
-        rw e (omega (arith, length-append (item_text item) (10 ∷ rest), item-short item, fits.1, more))
+        let long = length-append (item_text item) (10 ∷ rest) in
+        rw e (omega (arith, long, item-short item, fits.1, more))
     by false e true f more =
         let end : (i + item.1) % 8 ≡ 0 = grind (arith, nat_tests) in
-        rw (e, f) (omega (arith, length-append (item_text item) (codes " | " ++ rest), item-short item, fits.1, end, more))
+        let long = length-append (item_text item) (codes " | " ++ rest) in
+        rw (e, f) (omega (arith, long, item-short item, fits.1, end, more))
     by false e false f more =
-        rw (e, f) (omega (arith, length-append (item_text item) (codes " " ++ rest), item-short item, fits.1, more))
+        let long = length-append (item_text item) (codes " " ++ rest) in
+        rw (e, f) (omega (arith, long, item-short item, fits.1, more))
 
 sing-short : (v : ℕ) → length (sing_bytes v) ≤ 7
 sing-short v = by (v == 0) (v == 1) (v == 2)
   where
-    by : (a b c : Bool) → length (if a then codes "sing 0 " else (if b then codes "sing 1 " else (if c then codes "sing 2 " else codes "sing 3 "))) ≤ 7
+    by : (a b c : Bool) → length
+        (if a then codes "sing 0 " else
+        (if b then codes "sing 1 " else (if c then codes "sing 2 " else codes "sing 3 "))) ≤ 7
     by true b c = omega arith
     by false true c = omega arith
     by false false true = omega arith
@@ -186,13 +194,15 @@ item_lines-short ex lines valid are =
 
 best-short : (penalty : ℕ) (lines : List ℕ) → penalty < 2 ^ 64 → length (best_text penalty lines) ≤ 44 + length lines
 best-short penalty lines below =
-    let number : length (decimal penalty) ≤ 20 = length-decimal-le 20 penalty (omega arith) (omega (arith, below)) below in
+    let number : length (decimal penalty) ≤ 20 =
+    length-decimal-le 20 penalty (omega arith) (omega (arith, below)) below in
     let behind = length-append (decimal penalty) (10 ∷ (lines ++ claims_text)) in
     let last = length-append lines claims_text in
     omega (arith, number, behind, last)
 
 -- so it has at most 4,872 bytes
-pub heads_are_brief : (ex : Exercise) (text : List ℕ) (penalty : Option ℕ) → IsValid ex → IsHeadText ex text penalty → length text ≤ 4872
+pub heads_are_brief : (ex : Exercise) (text : List ℕ) (penalty : Option ℕ) → IsValid ex → IsHeadText ex text penalty
+    → length text ≤ 4872
 heads_are_brief ex text None valid is = omega (arith, ap length is)
 heads_are_brief ex text (Some penalty) valid is =
     omega (
@@ -202,12 +212,14 @@ heads_are_brief ex text (Some penalty) valid is =
       item_lines-short ex is.lines valid is.canonical,
     )
 
-pub heads_are_short : (ex : Exercise) (text : List ℕ) (penalty : Option ℕ) → IsValid ex → IsHeadText ex text penalty → length text ≤ 65536
+pub heads_are_short : (ex : Exercise) (text : List ℕ) (penalty : Option ℕ) → IsValid ex → IsHeadText ex text penalty
+    → length text ≤ 65536
 heads_are_short ex text penalty valid is = omega (arith, heads_are_brief ex text penalty valid is)
 
 -- ---- a front as long as a head can be
 
-begun-short : (ex : Exercise) (bytes : List ℕ) (n : ℕ) → IsValid ex → n ≤ length bytes → BeginsText ex (take n bytes) → n < 5000
+begun-short : (ex : Exercise) (bytes : List ℕ) (n : ℕ) → IsValid ex → n ≤ length bytes → BeginsText ex (take n bytes)
+    → n < 5000
 begun-short ex bytes n valid within begins =
     omega (
       arith,
@@ -222,8 +234,8 @@ whole-short ex bytes n penalty valid within is =
     omega (arith, heads_are_brief ex (take n bytes) penalty valid is, length-take-le n bytes within)
 
 -- where a front of bytes is as long as a head can be, no head goes on farther by all of them
-pub stops_whole : (ex : Exercise) (bytes : List ℕ) (limit at : ℕ) → IsValid ex → 5000 ≤ limit → TextStops ex (take limit bytes) at
-    → TextStops ex bytes at
+pub stops_whole : (ex : Exercise) (bytes : List ℕ) (limit at : ℕ) → IsValid ex → 5000 ≤ limit
+    → TextStops ex (take limit bytes) at → TextStops ex bytes at
 stops_whole ex bytes limit at valid large stop =
     let size = length-take limit bytes in
     let same = λ (n : ℕ) (few : n ≤ limit). take-take n limit bytes few in

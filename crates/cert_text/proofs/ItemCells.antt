@@ -1,10 +1,9 @@
 -- Items that fit have cells that follow one another (`fits-follow`), as many as a line has (`fits-long`), and no other
 -- items that fit have the same cells (`fits-same`).
-use Rattle.std.proofs.Common.{◌≡◌, ◌≢◌, ℕ, zero, suc, ◌+◌, ◌-◌, ◌*◌, ◌%◌, ◌<◌, ◌≤◌, Bool, true, false, List, [], ◌∷◌, ◌++◌, length, length-append, replicate, refl, sym, ap, subst, ◌∙◌, ⊎_elim, arith}
+use Rattle.std.proofs.Common.{◌≡◌, ℕ, zero, suc, ◌+◌, ◌-◌, ◌*◌, ◌%◌, ◌<◌, ◌≤◌, Bool, true, false, List, [], ◌∷◌, ◌++◌, length, length-append, replicate, refl, sym, ap, subst, ◌∙◌, ⊎_elim, arith}
 use Rattle.std.specs.Prelude.{◌==◌, ◌||◌, IsTrue}
 use Rattle.std.proofs.lemmas.Bool.{and_parts, cases_lt}
 use Rattle.std.proofs.lemmas.Bool.Decides.{nat_tests}
-use Rattle.fux_pitch.specs.declared.pitch.Pitch.{Pitch}
 use Rattle.fux_grid.specs.declared.cell.Cell.{Cell}
 use Rattle.fux_grid.specs.declared.cell.Cell.TheVariants.{Rest, Hold, Start}
 use Rattle.fux_grid.specs.Cells.{cell_follows}
@@ -13,7 +12,7 @@ use Rattle.fux_text.specs.Grammar.{cells_of}
 use Rattle.fux_text.specs.Sing.{FollowsFrom, held, item_cells}
 use Rattle.fux_text.proofs.Following.{rest-follows}
 use Rattle.fux_text.proofs.OnlySing.{item_cells-length}
-use Rattle.cert_text.specs.SingItems.{Fits, can_stand, sounds}
+use Rattle.cert_text.specs.SingItems.{Fits, can_stand}
 
 -- ---- their number
 
@@ -49,7 +48,8 @@ follows-held (Start p) (Rest ∷ ds) f = f
 follows-held (Start p) (Hold q ∷ ds) f = f
 follows-held (Start p) (Start q ∷ ds) f = f
 
-pub run-follows : (c : Cell) (m : ℕ) (cs : List Cell) → FollowsFrom (held c) cs → FollowsFrom c (replicate m (held c) ++ cs)
+pub run-follows : (c : Cell) (m : ℕ) (cs : List Cell) → FollowsFrom (held c) cs
+    → FollowsFrom c (replicate m (held c) ++ cs)
 run-follows c zero cs f = follows-held c cs f
 run-follows c (suc m) cs f = (
   held-follows c,
@@ -128,7 +128,8 @@ fits-same bars i before ((c, n) ∷ xs) ((d, m) ∷ ys) fits also e =
     let least : m ≤ n = ⊎_elim
     (λ lt. absurd (not_shorter bars i n m c xs (cells_of ys) fits.1 lt also.2 fits.3 rest)) (λ h. h) (cases_lt n m) in
     let most : n ≤ m = ⊎_elim
-    (λ lt. absurd (not_shorter bars i m n c ys (cells_of xs) also.1 lt fits.2 others (sym rest))) (λ h. h) (cases_lt m n) in
+    (λ lt. absurd (not_shorter bars i m n c ys (cells_of xs) also.1 lt fits.2 others (sym rest))) (λ h. h)
+    (cases_lt m n) in
     let same : n ≡ m = omega (arith, least, most) in
     let tail : cells_of xs ≡ cells_of ys =
     fewer (held c) (n - 1) 0 (m - 1) (cells_of xs) (cells_of ys) (omega (arith, same)) rest in

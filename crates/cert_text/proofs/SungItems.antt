@@ -1,7 +1,7 @@
 -- The items of a voice's cells, bar by bar, fit (`voice-fits`), and the text of its line is that of these items
 -- (`voice-text`).
 use Rattle.std.proofs.Common.{◌≡◌, ℕ, zero, suc, ◌+◌, ◌-◌, ◌*◌, ◌/◌, ◌%◌, ◌<◌, ◌≤◌, Bool, true, false, List, [], ◌∷◌, ◌++◌, length, length-drop, map, replicate, take, drop, refl, sym, ap, subst, ◌∙◌, append_assoc, append-nil, arith}
-use Rattle.std.specs.Prelude.{◌==◌, ◌&&◌, ◌||◌, IsTrue, ⊤, codes}
+use Rattle.std.specs.Prelude.{◌==◌, ◌||◌, IsTrue, ⊤, codes}
 use Rattle.std.specs.Fmt.{decimal}
 use Rattle.std.specs.List.{AllByRecursion, flat_map, range_with_len}
 use Rattle.std.proofs.lemmas.Bool.{and_from}
@@ -12,7 +12,6 @@ use Rattle.std.proofs.lemmas.List.{drop_all, drop-drop, length-map, length-take-
 use Rattle.std.proofs.lemmas.List.FromFn.{length-map-range_with_len}
 use Rattle.std.proofs.lemmas.List.Sums.{sum_by-cons}
 use Rattle.std.proofs.lemmas.Simd.{map-map}
-use Rattle.fux_pitch.specs.declared.pitch.Pitch.{Pitch}
 use Rattle.fux_grid.specs.declared.cell.Cell.{Cell}
 use Rattle.fux_grid.specs.declared.cell.Cell.TheVariants.{Rest, Hold, Start}
 use Rattle.fux_grid.specs.declared.exercise.Exercise.{Exercise}
@@ -21,14 +20,14 @@ use Rattle.fux_grid.specs.Columns.{line}
 use Rattle.fux_grid.specs.Letters.{bar_columns}
 use Rattle.fux_text.specs.Grammar.{IsBar, cells_of, cells_of_bars}
 use Rattle.fux_text.specs.Items.{goes_on, item_name, item_word, items_of_cells, with_run}
-use Rattle.fux_text.specs.Lines.{bar_words, bars_of, between_bar_lines, sing_text}
+use Rattle.fux_text.specs.Lines.{bars_of, between_bar_lines, sing_text}
 use Rattle.fux_text.specs.Sing.{FollowsFrom, held, item_cells, latest}
 use Rattle.fux_text.specs.Words.{spaced, text_line}
 use Rattle.fux_text.proofs.OwnBars.{latest-append}
 use Rattle.fux_text.proofs.OwnItems.{items-of_bar, lengths}
 use Rattle.fux_text.proofs.WordLemmas.{text_line-cons}
 use Rattle.cert_text.specs.Places.{sing_bytes}
-use Rattle.cert_text.specs.SingItems.{Fits, behind_text, can_stand, item_text, items_text, line_text, sounds}
+use Rattle.cert_text.specs.SingItems.{Fits, behind_text, can_stand, item_text, items_text, line_text}
 
 -- bars of items one after the other
 abbrev pub joined : List (List (Cell × ℕ)) → List (Cell × ℕ)
@@ -51,8 +50,8 @@ abbrev behind_bar : ℕ → ℕ → List (Cell × ℕ) → List ℕ
 behind_bar bars i items = behind_text bars i ++ items_text bars i items
 
 -- the items that are left of a bar, with a space before each
-bar-text : (bars k i : ℕ) (x : Cell × ℕ) (xs ys : List (Cell × ℕ)) → k < bars → 8 * k ≤ i → i + lengths (x ∷ xs) ≡ 8 * k + 8
-    → AllByRecursion (λ item. 1 ≤ item.1) (x ∷ xs)
+bar-text : (bars k i : ℕ) (x : Cell × ℕ) (xs ys : List (Cell × ℕ)) → k < bars → 8 * k ≤ i
+    → i + lengths (x ∷ xs) ≡ 8 * k + 8 → AllByRecursion (λ item. 1 ≤ item.1) (x ∷ xs)
     → 32 ∷ items_text bars i ((x ∷ xs) ++ ys) ≡ spaced (map item_word (x ∷ xs)) ++ behind_bar bars (8 * k + 8) ys
 bar-text bars k i x [] ys more low sum some =
     let count : lengths (x ∷ []) ≡ x.1 + lengths [] = sum_by-cons (λ (item : Cell × ℕ). item.1) x [] in
@@ -121,7 +120,8 @@ line-written ex v bs few some long whole =
     text_line-cons (codes "sing") (decimal v ∷ words)
     ∙ ap (λ t. codes "sing" ++ t) (append_assoc (32 ∷ decimal v) (spaced words) (10 ∷ [])
     ∙ ap (λ t. (32 ∷ decimal v) ++ t) (sym (bars-text ex.bars bs some long whole)))
-    ∙ sym (ap (λ s. s ++ items) (sing-written v few) ∙ ap (λ t. codes "sing " ++ t) (append_assoc (decimal v) (32 ∷ []) items))
+    ∙ sym (ap (λ s. s ++ items) (sing-written v few)
+    ∙ ap (λ t. codes "sing " ++ t) (append_assoc (decimal v) (32 ∷ []) items))
 
 -- ---- items that are apart
 
@@ -215,7 +215,8 @@ held-latest c (suc m) = run (held c) m ∙ twice c
     run d (suc m) = run d m
 
 -- what is held behind the cells of items
-latest-held : (before : Cell) (items : List (Cell × ℕ)) → held (latest before (cells_of items)) ≡ last_held (held before) items
+latest-held : (before : Cell) (items : List (Cell × ℕ))
+    → held (latest before (cells_of items)) ≡ last_held (held before) items
 latest-held before [] = refl
 latest-held before (item ∷ items) =
     ap held (latest-append before (item_cells item.0 item.1) (cells_of items))
@@ -250,15 +251,16 @@ bars-fit bars k before ((x ∷ xs) ∷ bs) last whole apart f =
     let count : lengths (x ∷ xs) ≡ x.1 + lengths xs = sum_by-cons (λ (item : Cell × ℕ). item.1) x xs in
     let parts = follows-parts before (cells_of (x ∷ xs)) (cells_of_bars bs) f in
     let next : 8 * (k + 1) ≡ 8 * k + 8 = omega arith in
-    let rest = bars-fit bars (k + 1) (latest before (cells_of (x ∷ xs))) bs (omega (arith, last)) whole.1 apart.1 parts.1 in
+    let rest =
+    bars-fit bars (k + 1) (latest before (cells_of (x ∷ xs))) bs (omega (arith, last)) whole.1 apart.1 parts.1 in
     let behind : Fits bars (8 * k + 8) (last_held (held x.0) xs) (joined bs) =
     subst (λ j. Fits bars j (last_held (held x.0) xs) (joined bs)) next
     (subst (λ c. Fits bars (8 * (k + 1)) c (joined bs)) (latest-held before (x ∷ xs)) rest) in (
       follows-stands k before x.0 parts.0.0,
       whole.0.some.0,
       omega (arith, count, whole.0.whole),
-      left-fit bars k (8 * k + x.1) x.0 xs (joined bs) (omega arith) (omega (arith, count, whole.0.whole)) whole.0.some.1
-          whole.0.ties apart.0 behind,
+      left-fit bars k (8 * k + x.1) x.0 xs (joined bs) (omega arith) (omega (arith, count, whole.0.whole))
+          whole.0.some.1 whole.0.ties apart.0 behind,
     )
 
 -- ---- the items of a voice
@@ -278,7 +280,8 @@ abbrev bars_from : ℕ → List (List Cell) → ℕ → ℕ → List (List (Cell
 bars_from v columns b n = map (λ bar. items_of_cells (line v bar)) (map (bar_columns columns) (range_with_len b n))
 
 bars-are : (v : ℕ) (columns : List (List Cell)) (n a b : ℕ) (before : Cell) → b ≡ a + 1 → length columns ≡ 8 * (a + n)
-    → FollowsFrom before (line v (drop (8 * a) columns)) → AreBarsOf (line v (drop (8 * a) columns)) (bars_from v columns b n)
+    → FollowsFrom before (line v (drop (8 * a) columns))
+    → AreBarsOf (line v (drop (8 * a) columns)) (bars_from v columns b n)
 bars-are v columns zero a b before same long f =
     record { whole = tt; apart = tt; cells = sym (ap (line v) (drop_all (8 * a) columns (omega (arith, long)))) }
 bars-are v columns (suc n) a b before same long f =
@@ -296,7 +299,8 @@ bars-are v columns (suc n) a b before same long f =
     ∙ ap (λ cols. bar ++ line v cols) later in
     let parts = follows-parts before bar (line v (drop (8 * (a + 1)) columns)) (subst (FollowsFrom before) split f) in
     let one = items-of_bar before bar eight parts.0 in
-    let rest = bars-are v columns n (a + 1) (b + 1) (latest before bar) (omega (arith, same)) (omega (arith, long)) parts.1 in
+    let rest =
+    bars-are v columns n (a + 1) (b + 1) (latest before bar) (omega (arith, same)) (omega (arith, long)) parts.1 in
     subst (λ cols. AreBarsOf (line v here) (items_of_cells (line v cols) ∷ bars_from v columns (b + 1) n)) (sym at)
     (record {
       whole = (one.bar, rest.whole);
@@ -330,20 +334,21 @@ joined-cells [] = refl
 joined-cells (b ∷ bs) =
     flat_map-append (λ item. item_cells item.0 item.1) b (joined bs) ∙ ap (λ cs. cells_of b ++ cs) (joined-cells bs)
 
-pub voice-cells : (bars v : ℕ) (columns : List (List Cell)) → length columns ≡ 8 * bars → FollowsFrom Rest (line v columns)
-    → cells_of (voice_items v columns) ≡ line v columns
+pub voice-cells : (bars v : ℕ) (columns : List (List Cell)) → length columns ≡ 8 * bars
+    → FollowsFrom Rest (line v columns) → cells_of (voice_items v columns) ≡ line v columns
 voice-cells bars v columns long f =
     joined-cells (voice_bars v columns) ∙ (items-are bars v columns long f).bars_are.cells
 
-pub voice-fits : (bars v : ℕ) (columns : List (List Cell)) → length columns ≡ 8 * bars → FollowsFrom Rest (line v columns)
-    → Fits bars 0 Rest (voice_items v columns)
+pub voice-fits : (bars v : ℕ) (columns : List (List Cell)) → length columns ≡ 8 * bars
+    → FollowsFrom Rest (line v columns) → Fits bars 0 Rest (voice_items v columns)
 voice-fits bars v columns long f =
     let are = items-are bars v columns long f in
     bars-fit bars 0 Rest (voice_bars v columns) (omega (arith, are.count)) are.bars_are.whole are.bars_are.apart
     (subst (FollowsFrom Rest) (sym are.bars_are.cells) f)
 
-pub voice-text : (ex : Exercise) (v : ℕ) (columns : List (List Cell)) → v < 4 → 1 ≤ ex.bars → length columns ≡ 8 * ex.bars
-    → FollowsFrom Rest (line v columns) → sing_text v columns ≡ line_text ex v (voice_items v columns)
+pub voice-text : (ex : Exercise) (v : ℕ) (columns : List (List Cell)) → v < 4 → 1 ≤ ex.bars
+    → length columns ≡ 8 * ex.bars → FollowsFrom Rest (line v columns)
+    → sing_text v columns ≡ line_text ex v (voice_items v columns)
 unfolding sing_text
 voice-text ex v columns few some long f =
     let are = items-are ex.bars v columns long f in

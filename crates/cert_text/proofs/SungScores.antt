@@ -1,5 +1,5 @@
--- Lines of items are those that are written of a setting, and no others are (`item-lines_written`), and they are read as
--- that setting (`written-lines_read`).
+-- Lines of items are those that are written of a setting, and no others are (`item-lines_written`), and they are read
+-- as that setting (`written-lines_read`).
 use Rattle.std.proofs.Common.{◌≡◌, ℕ, zero, suc, ◌+◌, ◌*◌, ◌<◌, ◌≤◌, Bool, true, false, List, [], ◌∷◌, ◌++◌, get_or, length, map, reverse, Some, refl, sym, ap, subst, ◌∙◌, append_assoc, append-nil, arith}
 use Rattle.std.specs.Prelude.{◌==◌, if◌then◌else◌}
 use Rattle.std.specs.List.{AllByRecursion, flat_map, range_with_len}
@@ -45,7 +45,8 @@ line-follows_from v (col ∷ cols) older h =
     let same : HistoryFollows (reverse cols ++ col ∷ older) = subst HistoryFollows turned h in
     ((older-follow (reverse cols) (col ∷ older) same).0 v, line-follows_from v cols (col ∷ older) same)
 
-line-follows : (v : ℕ) (columns : List (List Cell)) → HistoryFollows (reverse columns) → FollowsFrom Rest (line v columns)
+line-follows : (v : ℕ) (columns : List (List Cell)) → HistoryFollows (reverse columns)
+    → FollowsFrom Rest (line v columns)
 line-follows v columns h = line-follows_from v columns [] (subst HistoryFollows (sym (append-nil (reverse columns))) h)
 
 -- ---- texts of the free voices
@@ -55,7 +56,8 @@ each-free : (ex : Exercise) (f g : ℕ → List ℕ)
     → ((v : ℕ) → v < ex.voices → (v == ex.cantus_voice) ≡ false → f v ≡ g v)
     → (n a : ℕ) → a + n ≤ ex.voices → flat_map f (free_of ex a n) ≡ flat_map g (free_of ex a n)
 each-free ex f g same zero a low = refl
-each-free ex f g same (suc n) a low = by (a == ex.cantus_voice) refl (each-free ex f g same n (a + 1) (omega (arith, low)))
+each-free ex f g same (suc n) a low =
+    by (a == ex.cantus_voice) refl (each-free ex f g same n (a + 1) (omega (arith, low)))
   where
     Same : List ℕ → Type 0
     Same voices = flat_map f voices ≡ flat_map g voices
@@ -78,13 +80,14 @@ own-text ex score v valid setting there =
     voice-text ex v score.columns (omega (arith, there, valid.most_voices)) (omega (arith, valid.fewest_bars))
     setting.given.complete.whole (own-follows ex score v setting)
 
-written-are_items : (ex : Exercise) (score : Grid) (lines : List ℕ) → IsValid ex → AreWrittenOf ex score lines
+pub written-are_items : (ex : Exercise) (score : Grid) (lines : List ℕ) → IsValid ex → AreWrittenOf ex score lines
     → AreLines ex lines
 written-are_items ex score lines valid written =
     let columns = score.columns in
+    let long = written.setting.given.complete.whole in
     record {
       sung = λ v. voice_items v columns;
-      fits = λ v. voice-fits ex.bars v columns written.setting.given.complete.whole (own-follows ex score v written.setting);
+      fits = λ v. voice-fits ex.bars v columns long (own-follows ex score v written.setting);
       text = written.written
           ∙ each-free ex (λ v. sing_text v columns) (λ v. line_text ex v (voice_items v columns))
           (λ v there free. own-text ex score v valid written.setting there) ex.voices 0 (omega arith);
@@ -136,7 +139,8 @@ score-given ex lines whole long cantus = record {
 }
 
 score-setting : (ex : Exercise) (lines : List (List Cell)) → length lines ≡ ex.voices
-    → AllByRecursion (FollowsFrom Rest) lines → IsGiven ex (score_of ex.bars lines) → IsSettingOf ex (score_of ex.bars lines)
+    → AllByRecursion (FollowsFrom Rest) lines → IsGiven ex (score_of ex.bars lines)
+    → IsSettingOf ex (score_of ex.bars lines)
 unfolding score_of
 score-setting ex lines long follow given = record {
   given = given;
@@ -147,7 +151,8 @@ score-setting ex lines long follow given = record {
   follows = columns-follow lines (8 * ex.bars) follow;
 }
 
-cantus-follow : (before : Cell) (cantus : List Pitch) → FollowsFrom before (flat_map (λ p. item_cells (Start p) 8) cantus)
+cantus-follow : (before : Cell) (cantus : List Pitch)
+    → FollowsFrom before (flat_map (λ p. item_cells (Start p) 8) cantus)
 cantus-follow before [] = tt
 cantus-follow before (p ∷ ps) = (
   stands-follows 0 before (Start p) refl,
@@ -189,7 +194,9 @@ module _ (ex : Exercise) (sung : ℕ → List (Cell × ℕ)) (fits : (v : ℕ) �
   cantus-line valid = line-at ex.cantus_voice valid.cantus_there ∙ own
     where
       own : cells_for ex.cantus_voice ≡ cantus_cells ex.cantus
-      own = let same : (ex.cantus_voice == ex.cantus_voice) ≡ true = eq-eqb ex.cantus_voice ex.cantus_voice refl in rw same refl
+      own =
+          let same : (ex.cantus_voice == ex.cantus_voice) ≡ true = eq-eqb ex.cantus_voice ex.cantus_voice refl in
+          rw same refl
 
   setting : IsValid ex → IsSettingOf ex score_for
   setting valid =
@@ -223,7 +230,7 @@ module _ (ex : Exercise) (sung : ℕ → List (Cell × ℕ)) (fits : (v : ℕ) �
       each-free ex (λ v. sing_text v score_for.columns) (λ v. line_text ex v (sung v))
       (λ v there free. free-text v valid there free) ex.voices 0 (omega arith)
 
-items-are_written : (ex : Exercise) (lines : List ℕ) → IsValid ex → AreLines ex lines
+pub items-are_written : (ex : Exercise) (lines : List ℕ) → IsValid ex → AreLines ex lines
     → (score : Grid) × AreWrittenOf ex score lines
 items-are_written ex lines valid are = (
   score_for ex are.sung are.fits,

@@ -7,7 +7,7 @@ ghost use Rattle.cert_text.specs.declared.answers.CertHead.{CertHead};
 ghost use Rattle.cert_text.specs.HeadTexts.{Heads, TextStops, penalty_of};
 ghost use Rattle.cert_text.specs.HeadRuns.{ScanTells, first_part};
 ghost use Rattle.cert_text.specs.SingItems.{IsBestText, IsHeadText, best_text};
-ghost use Rattle.cert_text.specs.WrittenLines.{HeadTextsAreShort, HeadsAreOne, ItemLinesAreWritten, TextsAreOfHeads, WrittenLinesAreRead};
+ghost use Rattle.cert_text.specs.WrittenLines.{BestHeadsAreWritten, BestTextsAreWritten, HeadTextsAreShort, HeadsAreOne, ItemLinesAreWritten, TextsAreOfHeads, WrittenLinesAreRead};
 
 use crate::answers::{CertFault, CertHead};
 use crate::place::{Fixed, Part, Place};
@@ -85,9 +85,9 @@ fn best_head(
 /// The head at the front of a certificate, and its length.
 ///
 /// It is refused at the first byte by which no head goes on, or at the end of bytes that end within a head. Whether its
-/// setting is lawful, and has the penalty, isn't judged here. What stands behind a head isn't looked at, and no head is as
-/// long as its limit of 65,536 bytes ([`heads_are_of_settings`]): a bar has at most eight items, of at most six bytes with
-/// the space before each, so that a head has fewer than 5,000.
+/// setting is lawful, and has the penalty, isn't judged here. What stands behind a head isn't looked at, and no head is
+/// as long as its limit of 65,536 bytes: a bar has at most eight items, of at most six bytes with the space before each,
+/// so that a head has fewer than 5,000 ([`heads_are_of_settings`]).
 pub fn head(alloc: Global, ex: &Exercise, bytes: &[u8]) -> Result<(CertHead, usize), CertFault>
     requires { IsValid ex.now }
 
@@ -111,11 +111,14 @@ pub fn head(alloc: Global, ex: &Exercise, bytes: &[u8]) -> Result<(CertHead, usi
     }
 }
 
-/// A law, and nothing to run: one head at most stands at the front of bytes, no head is long, and the lines of a head by
-/// their items are those that [`fux_text::sing_line`] writes of a setting, one for each free voice, and no others.
+/// A law, and nothing to run: the lines of a head by their items are those that [`fux_text::sing_line`] writes of a
+/// setting, one for each free voice, and no others; so a head stands at the front of bytes just where its text as it is
+/// written stands there. One at most does, and none is long.
 pub fn heads_are_of_settings()
     ensures lines { ItemLinesAreWritten }
     ensures read { WrittenLinesAreRead }
+    ensures best { BestTextsAreWritten }
+    ensures heads { BestHeadsAreWritten }
     ensures texts { TextsAreOfHeads }
     ensures one { HeadsAreOne }
     ensures short { HeadTextsAreShort }

@@ -55,7 +55,8 @@ returns-in-Ok-default-Some-clause-texts c = λ n penalty within text.
 
 pub returns-in-Err-clause-only : goal.returns-in-Err-clause-only
 returns-in-Err-clause-only c = λ head n heads.
-    absurd ((stops-from c.args.ex.now c.args.bytes.now c.in-Err.at c.requires c.in-Err.ensures).unfinished n (penalty_of head) heads.within heads.text)
+    let stop = stops-from c.args.ex.now c.args.bytes.now c.in-Err.at c.requires c.in-Err.ensures in
+    absurd (stop.unfinished n (penalty_of head) heads.within heads.text)
 
 pub returns-in-Ok-default-None-clause-only : goal.returns-in-Ok-default-None-clause-only
 returns-in-Ok-default-None-clause-only c = λ head n heads.
@@ -85,5 +86,6 @@ returns-in-Ok-default-Some-clause-only c = λ head n heads.
     (subst (RunsTo ex front) c.in-Ok-default-Some.field-0-1-is c.in-Ok-default-Some.ensures.1)) heads.text in
     let Answers : ℕ → Option ℕ → Type 0 = λ k q. MatchResult c.best_head.result
     (λ found. (found.1 ≡ k) × (penalty_of found.0 ≡ q)) (λ fault. fault ≡ Memory) in
-    answers-one ex bytes c.best_head.result head n c.requires c.best_head.ensures.ok
-    (subst (λ k. Answers k (penalty_of head)) same.0 (subst (λ q. Answers used q) same.1 c.best_head.ensures.same)) heads
+    let answered : Answers n (penalty_of head) =
+    subst (λ k. Answers k (penalty_of head)) same.0 (subst (λ q. Answers used q) same.1 c.best_head.ensures.same) in
+    answers-one ex bytes c.best_head.result head n c.requires c.best_head.ensures.ok answered heads
