@@ -105,17 +105,17 @@ pub on_pair-kept : (ex : Exercise) (bad test : ℕ → ℕ → Bool) (voices : �
 unfolding voice_pairs
 on_pair-kept ex bad test voices none kept =
     let here : ℕ → ℕ → Bool = λ v w. nat_lt w ex.voices && bad v w in
-    let a = neither (here 0 1) _ none in
-    let b = neither (here 0 2) _ a.1 in
-    let c = neither (here 0 3) _ b.1 in
-    let d = neither (here 1 2) _ c.1 in
-    let e = neither (here 1 3) _ d.1 in
+    let a = or_parts (here 0 1) _ none in
+    let b = or_parts (here 0 2) _ a.1 in
+    let c = or_parts (here 0 3) _ b.1 in
+    let d = or_parts (here 1 2) _ c.1 in
+    let e = or_parts (here 1 3) _ d.1 in
     chosen (voices == 3) (0, 1) _ a.0
     (chosen (voices == 5) (0, 2) _ b.0
     (chosen (voices == 9) (0, 3) _ c.0
     (chosen (voices == 6) (1, 2) _ d.0
     (chosen (voices == 10) (1, 3) _ e.0
-    (chosen (voices == 12) (2, 3) None (neither (here 2 3) false e.1).0 refl)))))
+    (chosen (voices == 12) (2, 3) None (or_parts (here 2 3) false e.1).0 refl)))))
   where
     one : (there breaks fails : Bool) → (there && breaks) ≡ false → (breaks ≡ false → fails ≡ false) → (there && fails) ≡ false
     one true breaks fails h k = k h
