@@ -11,6 +11,7 @@ mod LateLemmas
 pub mod MomentLemmas
 pub mod PruningLemmas
 pub mod QuietLemmas
+pub mod QuietLinks
 pub mod RoughLemmas
 pub mod SetLemmas
 pub mod StepLemmas
