@@ -9,7 +9,9 @@ use Rattle.fux_judge.proofs.QuietLinks.{column_quiet}
 use Rattle.fux_judge.proofs.link.column_cost.Goals as goal
 
 pub returns-then-is_quiet-clause-value : goal.returns-then-is_quiet-clause-value
-returns-then-is_quiet-clause-value c = column_quiet c.args.ex.now c.args.i c.args.next.now.items (ap (is_quiet c.args.i) (sym c.as_slice.ensures.value) ∙ sym c.if-is_quiet.ensures) c.args.sheet.now
+returns-then-is_quiet-clause-value c =
+    column_quiet c.args.ex.now c.args.i c.args.next.now.items
+    (ap (is_quiet c.args.i) (sym c.as_slice.ensures.value) ∙ sym c.if-is_quiet.ensures) c.args.sheet.now
 
 pub returns-then-is_quiet-clause-least : goal.returns-then-is_quiet-clause-least
 returns-then-is_quiet-clause-least c = λ before x e.
