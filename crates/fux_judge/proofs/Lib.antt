@@ -17,6 +17,7 @@ pub mod MomentLemmas
 pub mod Parts
 pub mod PruningLemmas
 pub mod QuietLemmas
+pub mod QuietLinks
 pub mod RoughLemmas
 pub mod SetLemmas
 pub mod ShapeLemmas

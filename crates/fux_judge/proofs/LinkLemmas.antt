@@ -105,13 +105,13 @@ module _ (rule : ℕ) (between : is_rule_between rule ≡ true) where
   between_by : (crate : Option RuleCrate) → crate_with rule ≡ crate → is_of_neighbors (rule_by crate rule).kind ≡ true
   between_by crate its = sym (ap (λ (r : RuleRow). is_of_neighbors r.kind) (rule_of_crate rule crate its)) ∙ between
 
-  soon_motion : crate_with rule ≡ Some Motion → rule_at rule ≡ motion_book.at_once_row rule
+  pub soon_motion : crate_with rule ≡ Some Motion → rule_at rule ≡ motion_book.at_once_row rule
   soon_motion its =
       rule_of_crate rule (Some Motion) its
       ∙ cond-false (motion_book.is_late rule) (motion_book.late_row rule) (motion_book.at_once_row rule)
       (other_row (motion_book.is_late rule) (motion_book.late_row rule) (motion_book.at_once_row rule) refl (between_by (Some Motion) its))
 
-  soon_dissonance : crate_with rule ≡ Some Dissonance → rule_at rule ≡ dissonance_book.at_once_row rule
+  pub soon_dissonance : crate_with rule ≡ Some Dissonance → rule_at rule ≡ dissonance_book.at_once_row rule
   soon_dissonance its =
       rule_of_crate rule (Some Dissonance) its
       ∙ cond-false (dissonance_book.is_late rule) (dissonance_book.late_row rule) (dissonance_book.at_once_row rule)
@@ -121,7 +121,7 @@ module _ (rule : ℕ) (between : is_rule_between rule ≡ true) where
   not_late_rhythm its =
       other_row (rhythm_book.is_late rule) (rhythm_book.late_row rule) (rhythm_book.at_once_row rule) (rhythm_windows rule) (between_by (Some Rhythm) its)
 
-  soon_rhythm : crate_with rule ≡ Some Rhythm → rule_at rule ≡ rhythm_book.at_once_row rule
+  pub soon_rhythm : crate_with rule ≡ Some Rhythm → rule_at rule ≡ rhythm_book.at_once_row rule
   soon_rhythm its =
       rule_of_crate rule (Some Rhythm) its
       ∙ cond-false (rhythm_book.is_late rule) (rhythm_book.late_row rule) (rhythm_book.at_once_row rule) (not_late_rhythm its)

@@ -13,7 +13,7 @@ use crate::numbers::{
 };
 use fux_grid::{Cell, Column, Exercise, VoiceSet};
 use penalty_sheet::{Sheet, price_at, weight};
-use rule_law::{Latest, cells_of, latest_of_column, sets_of};
+use rule_law::{Latest, cells_of, is_quiet, latest_of_column, sets_of};
 
 /// A column of a setting, and the one before it.
 #[derive(Clone, Copy)]
@@ -192,6 +192,9 @@ pub fn column_cost<'a>(ex: &'a Exercise, sheet: &Sheet, i: usize, next: &'a Colu
         → link_of ex.now sheet.now i before next.now.items ≡ Some x → IsSomeAnd result (λ y. y ≤ x) }
     ensures bound { IfSome result (λ cost. cost ≤ 2 ^ 24) }
 {
+    if is_quiet(i, next.as_slice()) {
+        return Some(0);
+    }
     let link = link_between(ex, i, None, next);
     if breaks_one(column_rules(), &link) {
         return None;
@@ -213,6 +216,9 @@ pub fn pair_cost<'a>(
     ensures value { result ≡ pair_of ex.now sheet.now i (given prev.entry) next.now.items }
     ensures bound { IfSome result (λ cost. cost ≤ 2 ^ 24) }
 {
+    if is_quiet(i, next.as_slice()) {
+        return Some(0);
+    }
     let link = link_between(ex, i, prev, next);
     if breaks_one(pair_rules(), &link) {
         return None;

@@ -1,10 +1,17 @@
-use Rattle.std.proofs.Common.{◌*◌, ap, ◌∙◌}
+use Rattle.std.proofs.Common.{◌*◌, ap, sym, ◌∙◌}
 use Rattle.std.specs.Prelude.{Some}
 use Rattle.std.specs.List.{list_any, sum_by}
+use Rattle.rule_law.specs.Quiet.{is_quiet}
 use Rattle.penalty_sheet.specs.Weights.{weight_of}
 use Rattle.fux_judge.specs.Links.{breaks_strictly, cost_between, given}
 use Rattle.fux_judge.proofs.LinkLemmas.{link_breaks, link_charges, pair_broken, pair_whole}
+use Rattle.fux_judge.proofs.QuietLinks.{pair_quiet}
 use Rattle.fux_judge.proofs.link.pair_cost.Goals as goal
+
+pub returns-then-is_quiet-clause-value : goal.returns-then-is_quiet-clause-value
+returns-then-is_quiet-clause-value c =
+    pair_quiet c.args.ex.now c.args.i (given c.args.prev) c.args.next.now.items
+    (ap (is_quiet c.args.i) (sym c.as_slice.ensures.value) ∙ sym c.if-is_quiet.ensures) c.args.sheet.now
 
 pub returns-then-breaks_one-clause-value : goal.returns-then-breaks_one-clause-value
 returns-then-breaks_one-clause-value c =
