@@ -21,7 +21,7 @@ use Rattle.rule_law.specs.Rulebooks.{RuleRow, TollRow, no_rule, no_toll}
 use Rattle.rule_law.specs.Terms.{sounds, starts}
 use Rattle.motion_rules.specs.Book as motion_book
 use Rattle.motion_rules.specs.InnerVoices.{inner_moves}
-use Rattle.motion_rules.specs.Quiet as motion_quiet
+use Rattle.motion_rules.proofs.Quiet as motion_quiet
 use Rattle.motion_rules.specs.Rows.{are_outer}
 use Rattle.dissonance_rules.specs.Book as dissonance_book
 use Rattle.rhythm_cadence.specs.Book as rhythm_book
@@ -33,7 +33,7 @@ use Rattle.penalty_sheet.specs.Weights.{weight_of}
 use Rattle.fux_judge.specs.declared.numbers.RuleCrate.{RuleCrate}
 use Rattle.fux_judge.specs.declared.numbers.RuleCrate.TheVariants.{Melody, Motion, Dissonance, Rhythm, Doubling}
 use Rattle.fux_judge.specs.Crates.{crate_with, crate_with_toll, rule_by, toll_by}
-use Rattle.fux_judge.specs.Facts.{rule_keeps, toll_keeps}
+use Rattle.fux_judge.proofs.Facts.{rule_keeps, toll_keeps}
 use Rattle.fux_judge.specs.Links.{behind_of, breaks_between, breaks_strictly, column_of, column_rules, column_tolls}
 use Rattle.fux_judge.specs.Links.{cost_between, is_of_neighbors, is_rule_between, is_toll_between}
 use Rattle.fux_judge.specs.Links.{pair_of, pair_rules, pair_tolls}
