@@ -98,7 +98,7 @@ module _ (budget : ℕ) (sheet : Sheet) (ex : Exercise) (narrow : IsNarrow ex) w
     shows = record { score = score; penalty = penalty; best = best; certificate = made.0 };
     long = made.1;
   }
-  of_best score penalty best (Err (refusal.TooWide place count)) made = made
+  of_best score penalty best (Err (refusal.TooWide place count)) made = absurd made
   of_best score penalty best (Err (refusal.Text kind line column)) made = absurd made
   of_best score penalty best (Err refusal.NoSetting) made = absurd made
   of_best score penalty best (Err (refusal.Sheet fault)) made = absurd made
@@ -119,7 +119,7 @@ module _ (budget : ℕ) (sheet : Sheet) (ex : Exercise) (narrow : IsNarrow ex) w
     shows = record { none = none; certificate = made.0 };
     long = made.1;
   }
-  of_none none (Err (refusal.TooWide place count)) made = made
+  of_none none (Err (refusal.TooWide place count)) made = absurd made
   of_none none (Err (refusal.Text kind line column)) made = absurd made
   of_none none (Err refusal.NoSetting) made = absurd made
   of_none none (Err (refusal.Sheet fault)) made = absurd made

@@ -65,10 +65,10 @@ abbrev pub Certifies : ℕ → Sheet → Exercise → Work → Type 0
 Certifies budget sheet ex (Ok output) = IsCertification budget sheet ex output
 Certifies budget sheet ex (Err refusal) = RefusesCertifying budget sheet ex refusal
 
--- the certificate of a head is the output, with this verdict, or it is too long, or a menu is too wide
+-- the certificate of a head is the output, with this verdict, or it is too long
 abbrev pub CertifiesHead : Exercise → Sheet → CertHead → Verdict → Work → Type 0
 CertifiesHead ex sheet head verdict (Ok output) =
     (output.verdict ≡ verdict) × IsCertificateOf ex sheet head output.bytes × (length output.bytes ≤ 1073741824)
 CertifiesHead ex sheet head verdict (Err LongCertificate) =
     IsCertificateOf ex sheet head (written_certificate ex sheet head) × (1073741824 < length (written_certificate ex sheet head))
-CertifiesHead ex sheet head verdict (Err refusal) = RefusesWidth ex refusal
+CertifiesHead ex sheet head verdict (Err refusal) = ⊥

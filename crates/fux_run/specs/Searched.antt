@@ -1,5 +1,5 @@
 -- What a search for the best setting of an exercise finds, over a sheet of weights.
-use Rattle.std.specs.Prelude.{ℕ, ◌<◌, ◌≤◌, Result, Ok, Err, length}
+use Rattle.std.specs.Prelude.{◌≡◌, ℕ, ◌<◌, ◌≤◌, Result, Ok, Err, length}
 use Rattle.fux_grid.specs.declared.exercise.Exercise.{Exercise}
 use Rattle.fux_grid.specs.Exercises.{HasCantus, IsComplete, columns_in}
 use Rattle.fux_grid.specs.Grid.{Grid}
@@ -7,7 +7,7 @@ use Rattle.fux_grid.specs.Menus.{menu_of}
 use Rattle.penalty_sheet.specs.declared.sheet.Sheet.{Sheet}
 use Rattle.penalty_sheet.specs.Weights.{default_weights}
 use Rattle.species_space.specs.Loads.{IsBestWithin, IsLeastOver, IsNothingWithin, IsOverBudget}
-use Rattle.floor_tables.specs.Tables.{IsTooWide}
+use Rattle.floor_tables.specs.Tables.{IsTooWide, Task}
 use Rattle.fux_run.specs.declared.refusal.Refusal.{Refusal}
 use Rattle.fux_run.specs.declared.refusal.Refusal.TheVariants.{TooWide}
 use Rattle.fux_run.specs.declared.searching.Found.{Found}
@@ -50,6 +50,15 @@ IsNarrow ex = (i : ℕ) → i < columns_in ex → length (menu_of ex i) ≤ 8192
 abbrev pub RefusesWidth : Exercise → Refusal → Type 0
 RefusesWidth ex (TooWide place count) = IsTooWide ex place count
 RefusesWidth ex _ = ⊥
+
+-- the space is that of the exercise by the sheet, and no menu is too wide
+abbrev pub IsSpaceOf : Exercise → Sheet → Task → Type 0
+IsSpaceOf ex sheet space = (space ≡ record { exercise = ex; sheet = sheet }) × IsNarrow ex
+
+-- why there is no space: a menu is too wide, or memory is wanting
+abbrev pub StopsAtWidth : Exercise → Stop → Type 0
+StopsAtWidth ex (Refused refusal) = RefusesWidth ex refusal
+StopsAtWidth ex Memory = Unit {0}
 
 -- what a search over an exercise answers
 abbrev pub Finds : Exercise → Sheet → ℕ → Result Found Stop → Type 0

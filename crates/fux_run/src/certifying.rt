@@ -10,14 +10,13 @@ ghost use Rattle.fux_run.specs.Runs.{Writes};
 
 use crate::composing::bound_text;
 use crate::refusal::Refusal;
-use crate::searching::{Found, best_setting};
+use crate::searching::{Found, search, space_of};
 use crate::work::{Halt, Stop, Verdict};
 use cert_text::CertWrite;
-use cert_writer::write_certificate;
-use floor_tables::{TableFault, fill_tables};
 use fux_grid::{Exercise, Score};
 use fux_port::{Failed, Sink, write_all};
 use penalty_sheet::Sheet;
+use species_space::SpeciesSpace;
 use std::alloc::Global;
 use std::thread::Threads;
 
@@ -34,46 +33,33 @@ pub fn certify<K: Sink, R: Threads + Sync>(
     ensures { Writes (Certifies budget sheet.now exercise.now) (Rose (K.faults out.old) (K.faults out.new))
         (K.written out.old) (K.written out.new) result }
 {
-    match best_setting(rt, alloc, exercise, sheet, budget)? {
-        Found::Best { score, penalty } => put_certificate(
-            rt,
-            alloc,
-            exercise,
-            sheet,
-            Some((&score, penalty)),
-            Verdict::Favorable,
-            out,
-        ),
-        Found::Nothing => {
-            put_certificate(rt, alloc, exercise, sheet, None, Verdict::Unfavorable, out)
+    let space = space_of(rt, alloc, exercise, sheet)?;
+    let Ok(found) = search(alloc, &space, budget) else {
+        return Err(Halt::Stopped(Stop::Memory));
+    };
+    match found {
+        Found::Best { score, penalty } => {
+            put_certificate(alloc, &space, Some((&score, penalty)), Verdict::Favorable, out)
         }
+        Found::Nothing => put_certificate(alloc, &space, None, Verdict::Unfavorable, out),
         Found::Spent { bound } => put_bound(alloc, bound, out),
     }
 }
 
 /// Writes the certificate of the best setting with its penalty, or the one that says that no setting is lawful.
-fn put_certificate<K: Sink, R: Threads + Sync>(
-    rt: &R,
+fn put_certificate<K: Sink>(
     alloc: Global,
-    exercise: &Exercise,
-    sheet: &Sheet,
+    space: &SpeciesSpace<'_>,
     best: Option<(&Score, u64)>,
     verdict: Verdict,
     out: &mut K,
 ) -> Result<Verdict, Halt>
-    requires valid { IsValid exercise.now }
-    requires holds { Holds exercise.now sheet.now (head_with best) }
-    ensures { Writes (CertifiesHead exercise.now sheet.now (head_with best.entry) verdict)
+    requires valid { IsValid space.now.exercise }
+    requires holds { Holds space.now.exercise space.now.sheet (head_with best) }
+    ensures { Writes (CertifiesHead space.now.exercise space.now.sheet (head_with best.entry) verdict)
         (Rose (K.faults out.old) (K.faults out.new)) (K.written out.old) (K.written out.new) result }
 {
-    let tables = match fill_tables(rt, alloc, exercise, sheet) {
-        Ok(tables) => tables,
-        Err(TableFault::Memory) => return Err(Halt::Stopped(Stop::Memory)),
-        Err(TableFault::TooWide { place, count }) => {
-            return Err(Halt::Stopped(Stop::Refused(Refusal::TooWide { place, count })));
-        }
-    };
-    match write_certificate(alloc, exercise, sheet, &tables, best, out) {
+    match species_space::certify(alloc, space, best, out) {
         Ok(()) => Ok(verdict),
         Err(CertWrite::WriteFault) => Err(Halt::Unwritable),
         Err(CertWrite::TooLong) => Err(Halt::Stopped(Stop::Refused(Refusal::LongCertificate))),

@@ -1,12 +1,12 @@
 //! The search for the best setting of an exercise.
 
-ghost use Rattle.std.specs.Prelude.{ℕ, IfOk};
+ghost use Rattle.std.specs.Prelude.{ℕ, IfErr, IfOk};
 ghost use Rattle.fux_grid.specs.Exercises.{IsValid, columns_in};
 ghost use Rattle.species_space.specs.Loads.{IsBestWithin, IsExact};
 ghost use Rattle.species_space.specs.Paths.{live_at, prefix_at};
 ghost use Rattle.tree_search.specs.Answer.{IsFirstLeast};
 ghost use Rattle.tree_search.specs.Outcomes.{IfFound};
-ghost use Rattle.fux_run.specs.Searched.{Finds, IsBestFound, IsFound};
+ghost use Rattle.fux_run.specs.Searched.{Finds, IsBestFound, IsFound, IsSpaceOf, StopsAtWidth};
 
 use crate::refusal::Refusal;
 use crate::work::Stop;
@@ -40,19 +40,32 @@ pub fn best_setting<R: Threads + Sync>(
     requires { IsValid exercise.now }
     ensures { Finds exercise.now sheet.now budget result }
 {
-    let space = match SpeciesSpace::new(rt, alloc, exercise, sheet) {
-        Ok(space) => space,
-        Err(TableFault::Memory) => return Err(Stop::Memory),
-        Err(TableFault::TooWide { place, count }) => return Err(Stop::Refused(Refusal::TooWide {
-            place,
-            count,
-        })),
-    };
+    let space = space_of(rt, alloc, exercise, sheet)?;
     Ok(search(alloc, &space, budget)?)
 }
 
+/// The space of the settings of an exercise, or a refusal of its first menu that is too wide.
+pub fn space_of<'a, R: Threads + Sync>(
+    rt: &R,
+    alloc: Global,
+    exercise: &'a Exercise,
+    sheet: &'a Sheet,
+) -> Result<SpeciesSpace<'a>, Stop>
+    requires { IsValid exercise.now }
+    ensures made { IfOk result (IsSpaceOf exercise.entry.now sheet.entry.now) }
+    ensures stopped { IfErr result (StopsAtWidth exercise.entry.now) }
+{
+    match SpeciesSpace::new(rt, alloc, exercise, sheet) {
+        Ok(space) => Ok(space),
+        Err(TableFault::Memory) => Err(Stop::Memory),
+        Err(TableFault::TooWide { place, count }) => {
+            Err(Stop::Refused(Refusal::TooWide { place, count }))
+        }
+    }
+}
+
 /// Searches the settings of an exercise.
-fn search(alloc: Global, space: &SpeciesSpace<'_>, budget: u32) -> Result<Found, Memory>
+pub fn search(alloc: Global, space: &SpeciesSpace<'_>, budget: u32) -> Result<Found, Memory>
     requires { IsValid space.now.exercise }
     ensures { IfOk result (IsFound space.now.exercise space.now.sheet budget) }
 {

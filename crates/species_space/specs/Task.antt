@@ -1,5 +1,7 @@
 -- What a space keeps.
 use Rattle.std.specs.Prelude.{◌≡◌, ℕ, ◌<◌, ◌≤◌, List, All, length, slice_index_or}
+use Rattle.cert_law.specs.Writer.{written_certificate}
+use Rattle.cert_text.specs.declared.answers.CertHead.{CertHead}
 use Rattle.fux_grid.specs.declared.exercise.Exercise.{Exercise}
 use Rattle.fux_grid.specs.Exercises.{IsValid, columns_in}
 use Rattle.fux_grid.specs.Grid.{items_of}
@@ -26,3 +28,7 @@ pub record IsReady (ex : Exercise) (menus : List BlockMenu) (numbers : List ℕ)
   pub valid : IsValid ex
   pub counted : length numbers ≡ columns_in ex
   pub kept : AreMenus ex menus numbers
+
+-- the certificate of a head, of the exercise of a space by its sheet
+abbrev pub certificate_of : Task → CertHead → List ℕ
+certificate_of space head = written_certificate space.exercise space.sheet head

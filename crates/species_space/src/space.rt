@@ -30,9 +30,9 @@ use tree_search::Space;
 /// child is dead where its column doesn't follow, where a strict break is settled by it, or where no chain goes on from it to the end.
 #[derive(Drop)]
 pub struct SpeciesSpace<'a> {
-    exercise: &'a Exercise,
-    sheet: &'a Sheet,
-    tables: Tables<'a>,
+    pub(crate) exercise: &'a Exercise,
+    pub(crate) sheet: &'a Sheet,
+    pub(crate) tables: Tables<'a>,
     /// Where the menus of one column after the other are equal, one stands for them all.
     pub(crate) menus: Vec<BlockMenu>,
     /// For each column the number of its menu.
