@@ -4,6 +4,7 @@
 mod cantus;
 mod mark;
 mod mark_lines;
+mod place;
 mod setting;
 
 pub use cantus::cantus_marks;

@@ -2,15 +2,21 @@
 
 ghost use Rattle.std.specs.Prelude.{◌≡◌, ◌<◌, ◌++◌, IfOk, OnOk, length};
 ghost use Rattle.fux_grid.specs.Exercises.{IsComplete, IsValid};
+ghost use Rattle.fux_grid.specs.Columns.{earlier};
+ghost use Rattle.rule_law.specs.Nearby.{previous_pitches};
+ghost use Rattle.melody_rules.specs.Notes.{AreNotesOf};
 ghost use Rattle.fux_judge.specs.Rules.{rules_read};
 ghost use Rattle.score_marker.specs.Lists.{marks_of_rule, marks_of_place};
 ghost use Rattle.score_marker.specs.Marks.{AreMarks};
 ghost use Rattle.score_marker.specs.Setting.{breaks_of, sets_in_order};
 
 use crate::mark::{Mark, mark_if};
+use crate::place::is_broken_after;
 use fux_grid::{Exercise, Score, VoiceSet};
-use fux_judge::{every_rule, is_broken_in};
+use fux_judge::every_rule;
 use fux_pitch::Memory;
+use melody_rules::{VoiceNotes, all_noted, all_silent, latest_of_notes};
+use rule_law::Latest;
 use std::alloc::Global;
 
 /// Every set of voices, by the ascending lists of their voices: 0, 0 1, 0 1 2, 0 1 2 3, 0 1 3, 0 2, and so on.
@@ -22,24 +28,28 @@ fn voice_sets() -> &'static [u8]
     &VOICE_SETS
 }
 
-/// Appends the marks of one rule at column `i`.
+/// Appends the marks of one rule at column `i`, after these notes.
 fn mark_rule(
     marks: &mut Vec<Mark>,
     ex: &Exercise,
     score: &Score,
     i: usize,
+    notes: &[VoiceNotes; 4],
+    latest: &Latest,
     rule: u8,
 ) -> Result<(), Memory>
     requires valid { IsValid ex.now }
     requires complete { IsComplete ex.now score.now }
     requires place { i < length score.now.columns }
+    requires notes { AreNotesOf (earlier score.now.columns i) notes.now }
+    requires latest { latest.now.pitches ≡ previous_pitches (earlier score.now.columns i) }
     ensures { OnOk result (marks.new.items
         ≡ marks.old.items ++ marks_of_rule (breaks_of ex.now score.now.columns) sets_in_order i rule) }
 {
     for bits in voice_sets() {
         let voices = VoiceSet { bits: *bits };
         mark_if(
-            is_broken_in(rule, ex, score, i, voices),
+            is_broken_after(rule, ex, score, i, notes, latest, voices),
             marks,
             i,
             rule,
@@ -49,16 +59,24 @@ fn mark_rule(
     Ok(())
 }
 
-/// Appends the marks of column `i`.
-fn mark_place(marks: &mut Vec<Mark>, ex: &Exercise, score: &Score, i: usize) -> Result<(), Memory>
+/// Appends the marks of column `i`, after these notes.
+fn mark_place(
+    marks: &mut Vec<Mark>,
+    ex: &Exercise,
+    score: &Score,
+    i: usize,
+    notes: &[VoiceNotes; 4],
+) -> Result<(), Memory>
     requires valid { IsValid ex.now }
     requires complete { IsComplete ex.now score.now }
     requires place { i < length score.now.columns }
+    requires notes { AreNotesOf (earlier score.now.columns i) notes.now }
     ensures { OnOk result (marks.new.items
         ≡ marks.old.items ++ marks_of_place (breaks_of ex.now score.now.columns) sets_in_order rules_read i) }
 {
+    let latest = latest_of_notes(notes);
     for rule in every_rule() {
-        mark_rule(marks, ex, score, i, *rule)?;
+        mark_rule(marks, ex, score, i, notes, &latest, *rule)?;
     }
     Ok(())
 }
@@ -71,8 +89,10 @@ pub fn marks(alloc: Global, ex: &Exercise, score: &Score) -> Result<Vec<Mark>, M
     ensures { IfOk result (λ marks. AreMarks ex.now score.now.columns marks.items) }
 {
     let mut marks = Vec::new(alloc);
+    let mut notes = all_silent();
     for i in 0..score.len() {
-        mark_place(&mut marks, ex, score, i)?;
+        mark_place(&mut marks, ex, score, i, &notes)?;
+        notes = all_noted(&notes, score.column(i).as_slice());
     }
     Ok(marks)
 }
