@@ -63,9 +63,12 @@ fn leap(before: Cell, next: Cell) -> Option<u64>
 }
 
 impl<'a> Links for Leaps<'a> {
+    ghost use Rattle.std.specs.Prelude.{Some};
     ghost use Rattle.chain_cases.specs.Leaps.{chains_of};
 
     ghost chains = { chains_of };
+
+    ghost own = { λ _ _ _. Some 0 };
 
     fn places(&self) -> usize {
         8 * self.exercise.bars as usize
@@ -89,5 +92,19 @@ impl<'a> Links for Leaps<'a> {
             None => Cell::Rest,
         };
         leap(before, cell_of(next, 1))
+    }
+
+    fn own_cost(&self, _i: usize, _next: &Column) -> Option<u64> {
+        Some(0)
+    }
+
+    fn cost_from(
+        &self,
+        i: usize,
+        prev: Option<&Column>,
+        next: &Column,
+        _known: u64,
+    ) -> Option<u64> {
+        self.cost(i, prev, next)
     }
 }

@@ -10,62 +10,81 @@ use Rattle.std.proofs.lemmas.List.Sorted.{All-permutation, Contains-permutation}
 use Rattle.fux_grid.specs.declared.cell.Cell.{Cell}
 use Rattle.chain_sums.specs.declared.candidates.Candidate.{Candidate}
 use Rattle.chain_sums.specs.Candidates.{AreCandidates, GoByBounds, HasBound}
-use Rattle.chain_sums.specs.Chains.{Chains, IsLeastOf, plus}
+use Rattle.chain_sums.specs.Chains.{Chains, IsKnown, IsLeastOf}
 use Rattle.chain_sums.specs.Rows.{IsSumAt, IsSumWithin}
 use Rattle.chain_sums.specs.Sums.{lesser}
 use Rattle.chain_sums.proofs.LeastLemmas.{at_most, below_or_at, least_more}
 
--- ---- bounds
-
-pub bound_low : (a b own : Option ℕ) (x y z : ℕ) → IsSomeAnd a (λ l. l ≤ x) → b ≡ Some y → x + y ≡ z → IsSomeAnd (plus a b) (λ l. l ≤ z)
-bound_low None b own x y z h e f = absurd h
-bound_low (Some u) None own x y z h e f = cc
-bound_low (Some u) (Some v) own x y z h e f = let k : v ≡ y = cc in let l : u + v ≤ z = omega (arith, h) in l
-
 -- ---- one column more
 
 has_bound_later : (found more : List Candidate) (k sum : ℕ) → HasBound found k sum → HasBound (found ++ more) k sum
-has_bound_later found more k sum h = record { bound = h.bound; one = Contains-append_left found more (record { bound = h.bound; number = k }) h.one; low = h.low }
+has_bound_later found more k sum h = record { bound = h.bound; own = h.own; one = Contains-append_left found more (record { bound = h.bound; number = k; own = h.own }) h.one; low = h.low }
 
-pub candidates_none : (c : Chains) (i : ℕ) (row : List (Option ℕ)) → AreCandidates c i row 0 []
-candidates_none c i row = record { within = λ k d h. absurd (omega (arith, h)); enough = λ before k sum h s. absurd (omega (arith, h)) }
+module _ (c : Chains) (own : List Cell → Option ℕ) (i : ℕ) (row : List (Option ℕ)) where
+  pub candidates_none : AreCandidates c own i row 0 []
+  candidates_none = record {
+    within = λ k d h. absurd (omega (arith, h));
+    known = λ k d h. absurd (omega (arith, h));
+    enough = λ before k sum h s. absurd (omega (arith, h));
+  }
 
-pub candidates_more : (c : Chains) (i : ℕ) (row : List (Option ℕ)) (count : ℕ) (found : List Candidate) (bound : ℕ) → AreCandidates c i row count found
-    → ((before : Option (List Cell)) (x : ℕ) → IsSumAt c i before row count x → bound ≤ x)
-    → AreCandidates c i row (count + 1) (found ++ record { bound = bound; number = count } ∷ [])
-candidates_more c i row count found bound are low = record { within = within; enough = λ before k sum h s. enough before k sum (below_or_at k count h) s }
-  where
-    within : All (λ (e : Candidate). e.number < count + 1) (found ++ record { bound = bound; number = count } ∷ [])
-    within k d h = at (below_or_at k (length found) (omega (arith, length_push found (record { bound = bound; number = count }))))
+  module _ (count : ℕ) (found : List Candidate) (are : AreCandidates c own i row count found) where
+    -- a candidate for the next column
+    pub candidates_more : (next : Candidate) → next.number ≡ count → IsKnown (own (get_or (c.menu i) count [])) next.own
+        → ((before : Option (List Cell)) (x : ℕ) → IsSumAt c i before row count x → next.bound ≤ x)
+        → AreCandidates c own i row (count + 1) (found ++ next ∷ [])
+    candidates_more next here is low = record {
+      within = each (λ e. e.number < count + 1) (λ k d l. let n = are.within k d l in omega (arith, n)) (omega (arith, here));
+      known = each (λ e. IsKnown (own (get_or (c.menu i) e.number [])) e.own) are.known (subst (λ (k : ℕ). IsKnown (own (get_or (c.menu i) k [])) next.own) (sym here) is);
+      enough = λ before k sum h s. enough before k sum (below_or_at k count h) s;
+    }
       where
-        at : (k < length found) ⊎ (k ≡ length found) → (get_or (found ++ record { bound = bound; number = count } ∷ []) k d).number < count + 1
-        at (inl l) = let e = get_or_append_left found (record { bound = bound; number = count } ∷ []) d k l in let n = are.within k d l in omega (arith, n, ap (λ (x : Candidate). x.number) e)
-        at (inr f) = let e = get_or_push found (record { bound = bound; number = count }) d k (sym f) in omega (arith, ap (λ (x : Candidate). x.number) e)
+        each : (P : Candidate → Type 0) → All P found → P next → All P (found ++ next ∷ [])
+        each P all last k d h = at (below_or_at k (length found) (omega (arith, length_push found next)))
+          where
+            at : (k < length found) ⊎ (k ≡ length found) → P (get_or (found ++ next ∷ []) k d)
+            at (inl l) = subst P (sym (get_or_append_left found (next ∷ []) d k l)) (all k d l)
+            at (inr f) = subst P (sym (get_or_push found next d k (sym f))) last
 
-    enough : (before : Option (List Cell)) (k sum : ℕ) → (k < count) ⊎ (k ≡ count) → IsSumAt c i before row k sum → HasBound (found ++ record { bound = bound; number = count } ∷ []) k sum
-    enough before k sum (inl l) s = has_bound_later found (record { bound = bound; number = count } ∷ []) k sum (are.enough before k sum l s)
-    enough before k sum (inr e) s =
-        subst (λ (j : ℕ). HasBound (found ++ record { bound = bound; number = count } ∷ []) j sum) (sym e)
-        (record { bound = bound; one = Contains-push found (record { bound = bound; number = count }); low = low before sum (subst (λ (j : ℕ). IsSumAt c i before row j sum) e s) })
+        one : record { bound = next.bound; number = count; own = next.own } ≡ next
+        one = ap (λ (n : ℕ). let e : Candidate = record { bound = next.bound; number = n; own = next.own } in e) (sym here)
 
-pub candidates_skip : (c : Chains) (i : ℕ) (row : List (Option ℕ)) (count : ℕ) (found : List Candidate) → AreCandidates c i row count found
-    → ((before : Option (List Cell)) (x : ℕ) → IsSumAt c i before row count x → ⊥)
-    → AreCandidates c i row (count + 1) found
-candidates_skip c i row count found are no_sum = record { within = λ k d h. omega (arith, are.within k d h); enough = λ before k sum h s. enough before k sum (below_or_at k count h) s }
-  where
-    enough : (before : Option (List Cell)) (k sum : ℕ) → (k < count) ⊎ (k ≡ count) → IsSumAt c i before row k sum → HasBound found k sum
-    enough before k sum (inl l) s = are.enough before k sum l s
-    enough before k sum (inr e) s = absurd (no_sum before sum (subst (λ (j : ℕ). IsSumAt c i before row j sum) e s))
+        enough : (before : Option (List Cell)) (k sum : ℕ) → (k < count) ⊎ (k ≡ count) → IsSumAt c i before row k sum → HasBound (found ++ next ∷ []) k sum
+        enough before k sum (inl l) s = has_bound_later found (next ∷ []) k sum (are.enough before k sum l s)
+        enough before k sum (inr e) s =
+            subst (λ (j : ℕ). HasBound (found ++ next ∷ []) j sum) (sym e)
+            (record {
+              bound = next.bound;
+              own = next.own;
+              one = subst (Contains (found ++ next ∷ [])) (sym one) (Contains-push found next);
+              low = low before sum (subst (λ (j : ℕ). IsSumAt c i before row j sum) e s);
+            })
 
-pub candidates_sorted : (c : Chains) (i : ℕ) (row : List (Option ℕ)) (count : ℕ) (found sorted : List Candidate) → IsPermutation found sorted
-    → AreCandidates c i row count found → AreCandidates c i row count sorted
-candidates_sorted c i row count found sorted moved are = record {
-  within = All-permutation (λ (e : Candidate). e.number < count) found sorted moved are.within;
-  enough = λ before k sum h s. enough k sum (are.enough before k sum h s);
-}
-  where
-    enough : (k sum : ℕ) → HasBound found k sum → HasBound sorted k sum
-    enough k sum h = record { bound = h.bound; one = Contains-permutation found sorted (record { bound = h.bound; number = k }) moved h.one; low = h.low }
+    pub candidates_skip : ((before : Option (List Cell)) (x : ℕ) → IsSumAt c i before row count x → ⊥) → AreCandidates c own i row (count + 1) found
+    candidates_skip no_sum = record {
+      within = λ k d h. omega (arith, are.within k d h);
+      known = are.known;
+      enough = λ before k sum h s. enough before k sum (below_or_at k count h) s;
+    }
+      where
+        enough : (before : Option (List Cell)) (k sum : ℕ) → (k < count) ⊎ (k ≡ count) → IsSumAt c i before row k sum → HasBound found k sum
+        enough before k sum (inl l) s = are.enough before k sum l s
+        enough before k sum (inr e) s = absurd (no_sum before sum (subst (λ (j : ℕ). IsSumAt c i before row j sum) e s))
+
+    pub candidates_sorted : (sorted : List Candidate) → IsPermutation found sorted → AreCandidates c own i row count sorted
+    candidates_sorted sorted moved = record {
+      within = All-permutation (λ (e : Candidate). e.number < count) found sorted moved are.within;
+      known = All-permutation (λ (e : Candidate). IsKnown (own (get_or (c.menu i) e.number [])) e.own) found sorted moved are.known;
+      enough = λ before k sum h s. enough k sum (are.enough before k sum h s);
+    }
+      where
+        enough : (k sum : ℕ) → HasBound found k sum → HasBound sorted k sum
+        enough k sum h = record {
+          bound = h.bound;
+          own = h.own;
+          one = Contains-permutation found sorted (record { bound = h.bound; number = k; own = h.own }) moved h.one;
+          low = h.low;
+        }
 
 -- ---- what is tried
 
@@ -106,14 +125,14 @@ tried_more c i before row candidates count candidate least other within here old
             inr (subst (λ (k : Candidate). IsSumAt c i before row k.number x) (ap (λ n. get_or candidates n candidate) f ∙ same candidate) (s candidate))
 
 -- where no candidate from some place on has a lesser sum, those before it are enough
-pub tried_are_enough : (c : Chains) (i : ℕ) (before : Option (List Cell)) (row : List (Option ℕ)) (width : ℕ) (candidates : List Candidate) (count : ℕ) (least : Option ℕ)
-    → count ≤ length candidates → AreCandidates c i row width candidates → IsLeastOf (IsSumTried c i before row candidates count) least
+pub tried_are_enough : (c : Chains) (own : List Cell → Option ℕ) (i : ℕ) (before : Option (List Cell)) (row : List (Option ℕ)) (width : ℕ) (candidates : List Candidate) (count : ℕ) (least : Option ℕ)
+    → count ≤ length candidates → AreCandidates c own i row width candidates → IsLeastOf (IsSumTried c i before row candidates count) least
     → ((e : ℕ) (d : Candidate) → count ≤ e → e < length candidates → IsSomeAnd least (λ y. y ≤ (get_or candidates e d).bound))
     → IsLeastOf (IsSumWithin c i before row width) least
-tried_are_enough c i before row width candidates count least short are old later = record { reached = λ x e. reached x (old.reached x e); lowest = lowest }
+tried_are_enough c own i before row width candidates count least short are old later = record { reached = λ x e. reached x (old.reached x e); lowest = lowest }
   where
     reached : (x : ℕ) → IsSumTried c i before row candidates count x → IsSumWithin c i before row width x
-    reached x (e, h, s) = let d : Candidate = record { bound = 0; number = 0 } in ((get_or candidates e d).number, are.within e d (omega (arith, h)), s d)
+    reached x (e, h, s) = let d : Candidate = record { bound = 0; number = 0; own = 0 } in ((get_or candidates e d).number, are.within e d (omega (arith, h)), s d)
 
     lowest : (x : ℕ) → IsSumWithin c i before row width x → IsSomeAnd least (λ y. y ≤ x)
     lowest x (k, h, s) = with_bound (are.enough before k x h s)
@@ -122,7 +141,7 @@ tried_are_enough c i before row width candidates count least short are old later
         with_bound b = at b.one
           where
             one : Candidate
-            one = record { bound = b.bound; number = k }
+            one = record { bound = b.bound; number = k; own = b.own }
 
             at : Contains candidates one → IsSomeAnd least (λ y. y ≤ x)
             at (e, l, f) = by (cases_lt e count)

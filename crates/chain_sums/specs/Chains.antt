@@ -1,5 +1,5 @@
 -- Chains of columns to the end of a setting, and the least sum of their costs.
-use Rattle.std.specs.Prelude.{◌≡◌, ℕ, suc, ◌+◌, ◌≤◌, List, [], ◌∷◌, length, Option, Some, None, option_map, IsSomeAnd, ⊤}
+use Rattle.std.specs.Prelude.{◌≡◌, ℕ, suc, ◌+◌, ◌^◌, ◌≤◌, List, [], ◌∷◌, length, Option, Some, None, option_map, IsSomeAnd, ⊤}
 use Rattle.std.specs.List.{All, Contains}
 use Rattle.std.specs.Borrow.{Bor}
 use Rattle.arrayvec.specs.ArrayVec.{ArrayVec}
@@ -54,6 +54,10 @@ IsLeast c i before = IsLeastOf (HasSum c i before)
 -- the cells of a column that may be lacking
 abbrev pub given : Option (Bor (ArrayVec Cell)) → Option (List Cell)
 given prev = option_map (λ col. col.now.items) prev
+
+-- a cost is there, and this is it
+abbrev pub IsKnown : Option ℕ → ℕ → Type 0
+IsKnown cost known = (cost ≡ Some known) × (known ≤ 2 ^ 52)
 
 -- each column of a menu has a cell for each voice
 abbrev pub AreFull : ℕ → List (List Cell) → Type 0

@@ -5,11 +5,11 @@ ghost use Rattle.std.specs.Bool.{OnTrue};
 ghost use Rattle.std.specs.List.{Contains};
 ghost use Rattle.fux_grid.specs.declared.cell.Cell.{Cell as ACell};
 ghost use Rattle.chain_sums.specs.Candidates.{AreAllCandidates, GoByBounds};
-ghost use Rattle.chain_sums.specs.Chains.{IsLeast, given};
+ghost use Rattle.chain_sums.specs.Chains.{IsKnown, IsLeast, given};
 ghost use Rattle.chain_sums.specs.Menus.{IsMenuOf};
 ghost use Rattle.chain_sums.specs.Rows.{AllAtMost, IsAtMost, IsRow, IsSumOf};
 
-use crate::least::{lesser, plus, sum_of};
+use crate::least::{lesser, plus, sum_from};
 use crate::links::Links;
 use crate::menu::Menu;
 use fux_grid::Column;
@@ -23,18 +23,29 @@ pub(crate) struct Candidate {
     pub(crate) bound: u64,
     /// Its number in the menu.
     pub(crate) number: usize,
+    /// What it costs at least, whatever stands before it.
+    pub(crate) own: u64,
 }
 
-/// What the sum of a column is at least, whatever stands before it. None only where it has none.
-fn bound_of<L: Links>(links: &L, i: usize, next: &Column, rest: Option<u64>) -> Option<u64>
+/// The candidate for the column of a number. None only where the column has no sum, whatever stands before it.
+fn candidate_of<L: Links>(
+    links: &L,
+    i: usize,
+    number: usize,
+    next: &Column,
+    rest: Option<u64>,
+) -> Option<Candidate>
     requires place { i < (L.chains links.now).places }
     requires choice { Contains ((L.chains links.now).menu i) next.now.items }
     requires small { IsAtMost (2 ^ 62) rest }
-    ensures { (before : Option (List ACell)) (x : ℕ)
-        → IsSumOf (L.chains links.now) i before next.now.items rest x → IsSomeAnd result (λ y. y ≤ x) }
+    ensures number { IfSome result (λ e. e.number ≡ number) }
+    ensures known { IfSome result (λ e. IsKnown (L.own links.now i next.now.items) e.own) }
+    ensures low { (before : Option (List ACell)) (x : ℕ)
+        → IsSumOf (L.chains links.now) i before next.now.items rest x → IsSomeAnd result (λ e. e.bound ≤ x) }
 {
-    let own = links.least_cost(i, next);
-    plus(own, rest)
+    let own = links.own_cost(i, next)?;
+    let bound = plus(Some(own), rest)?;
+    Some(Candidate { bound, number, own })
 }
 
 /// The columns of a menu that may have a sum, in reading order.
@@ -49,14 +60,14 @@ fn some_candidates<L: Links>(
     requires menu { IsMenuOf ((L.chains links.now).menu i) menu.now }
     requires beside { length row.now ≡ length ((L.chains links.now).menu i) }
     requires small { AllAtMost (2 ^ 62) row.now }
-    ensures { IfOk result (λ found. AreAllCandidates (L.chains links.now) i row.now found.items) }
+    ensures { IfOk result (λ found. AreAllCandidates (L.chains links.now) (L.own links.now i) i row.now found.items) }
 {
     let mut found = Vec::with_capacity(alloc, menu.len())?;
     for k in 0..menu.len() {
-        let Some(bound) = bound_of(links, i, menu.column(k), row[k]) else {
+        let Some(candidate) = candidate_of(links, i, k, menu.column(k), row[k]) else {
             continue;
         };
-        found.push_reserved(Candidate { bound, number: k });
+        found.push_reserved(candidate);
     }
     Ok(found)
 }
@@ -73,7 +84,7 @@ pub(crate) fn candidates<L: Links>(
     requires menu { IsMenuOf ((L.chains links.now).menu i) menu.now }
     requires beside { length row.now ≡ length ((L.chains links.now).menu i) }
     requires small { AllAtMost (2 ^ 62) row.now }
-    ensures all { IfOk result (λ found. AreAllCandidates (L.chains links.now) i row.now found.items) }
+    ensures all { IfOk result (λ found. AreAllCandidates (L.chains links.now) (L.own links.now i) i row.now found.items) }
     ensures order { IfOk result (λ found. GoByBounds found.items) }
 {
     let mut found = some_candidates(alloc, links, i, menu, row)?;
@@ -105,7 +116,7 @@ pub(crate) fn least_of_candidates<L: Links>(
     requires menu { IsMenuOf ((L.chains links.now).menu i) menu.now }
     requires row { IsRow (L.chains links.now) i row.now }
     requires small { AllAtMost (2 ^ 62) row.now }
-    requires candidates { AreAllCandidates (L.chains links.now) i row.now candidates.now }
+    requires candidates { AreAllCandidates (L.chains links.now) (L.own links.now i) i row.now candidates.now }
     requires order { GoByBounds candidates.now }
     ensures least { IsLeast (L.chains links.now) i (given prev.entry) result }
     ensures bound { (most : ℕ) → AllAtMost most row.now → IsAtMost (most + 2 ^ 53) result }
@@ -116,7 +127,7 @@ pub(crate) fn least_of_candidates<L: Links>(
             return least;
         }
         let k = candidate.number;
-        let sum = sum_of(links, i, prev, menu.column(k), row[k]);
+        let sum = sum_from(links, i, prev, menu.column(k), candidate.own, row[k]);
         least = lesser(least, sum);
     }
     least

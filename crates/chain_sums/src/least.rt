@@ -2,7 +2,7 @@
 
 ghost use Rattle.std.specs.Prelude.{◌≡◌, ◌≤◌, ◌<◌, ◌+◌, ◌^◌, ◌↔◌, ℕ, length, IfSome};
 ghost use Rattle.std.specs.List.{Contains};
-ghost use Rattle.chain_sums.specs.Chains.{IsLeast, given};
+ghost use Rattle.chain_sums.specs.Chains.{IsKnown, IsLeast, given};
 ghost use Rattle.chain_sums.specs.Chains as chains;
 ghost use Rattle.chain_sums.specs.Menus.{IsMenuOf};
 ghost use Rattle.chain_sums.specs.Rows.{AllAtMost, IsAtMost, IsRow, IsSumOf, IsSumWithin};
@@ -58,6 +58,30 @@ pub(crate) fn sum_of<L: Links>(
         return None;
     }
     let own = links.cost(i, prev, next);
+    plus(own, rest)
+}
+
+/// The same, where it is known what the column costs at least.
+pub(crate) fn sum_from<L: Links>(
+    links: &L,
+    i: usize,
+    prev: Option<&Column>,
+    column: &Column,
+    known: u64,
+    rest: Option<u64>,
+) -> Option<u64>
+    requires place { i < (L.chains links.now).places }
+    requires choice { Contains ((L.chains links.now).menu i) column.now.items }
+    requires known { IsKnown (L.own links.now i column.now.items) known }
+    requires small { IsAtMost (2 ^ 62) rest }
+    ensures value { (x : ℕ) → (result ≡ Some x)
+        ↔ IsSumOf (L.chains links.now) i (given prev.entry) column.now.items rest x }
+    ensures bound { (most : ℕ) → IsAtMost most rest → IsAtMost (most + 2 ^ 53) result }
+{
+    if !follows(prev, column) {
+        return None;
+    }
+    let own = links.cost_from(i, prev, column, known);
     plus(own, rest)
 }
 

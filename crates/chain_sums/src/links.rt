@@ -5,7 +5,7 @@ ghost use Rattle.std.specs.List.{Contains};
 ghost use Rattle.fux_grid.specs.declared.cell.Cell.{Cell as ACell};
 ghost use Rattle.fux_grid.specs.Grid.{items_of};
 ghost use Rattle.fux_grid.specs.Menus.{IsAscending};
-ghost use Rattle.chain_sums.specs.Chains.{AreFull, Chains, given};
+ghost use Rattle.chain_sums.specs.Chains.{AreFull, Chains, IsKnown, given};
 
 use fux_grid::{Column, MenuFault};
 use std::alloc::Global;
@@ -13,6 +13,9 @@ use std::alloc::Global;
 /// Columns that may stand side by side: the menu of each place, and what a column costs there behind another.
 pub trait Links {
     ghost chains: { Self → Chains };
+
+    /// What a column costs at a place at least, whatever stands before it.
+    ghost own: { Self → ℕ → List ACell → Option ℕ };
 
     /// How many places there are.
     fn places(&self) -> usize
@@ -46,15 +49,19 @@ pub trait Links {
 
     /// What `next` costs at a place at least, whatever stands before it. None only where it may stand behind no column. A
     /// higher answer spares more work, and changes no sum.
-    fn least_cost(&self, i: usize, next: &Column) -> Option<u64>
+    fn own_cost(&self, i: usize, next: &Column) -> Option<u64>
         requires place { i < (chains self.now).places }
         requires choice { Contains ((chains self.now).menu i) next.now.items }
+        ensures value { result ≡ own self.now i next.now.items }
         ensures least { (before : Option (List ACell)) (x : ℕ)
             → (chains self.now).cost i before next.now.items ≡ Some x → IsSomeAnd result (λ y. y ≤ x) }
-        ensures bound { IfSome result (λ cost. cost ≤ 2 ^ 53) }
-    {
-        let _ = i;
-        let _ = next;
-        Some(0)
-    }
+        ensures bound { IfSome result (λ cost. cost ≤ 2 ^ 52) };
+
+    /// The same as `cost`, where it is known what `next` costs at least: that needn't be found again.
+    fn cost_from(&self, i: usize, prev: Option<&Column>, next: &Column, known: u64) -> Option<u64>
+        requires place { i < (chains self.now).places }
+        requires choice { Contains ((chains self.now).menu i) next.now.items }
+        requires known { IsKnown (own self.now i next.now.items) known }
+        ensures value { result ≡ (chains self.now).cost i (given prev.entry) next.now.items }
+        ensures bound { IfSome result (λ cost. cost ≤ 2 ^ 53) };
 }

@@ -91,7 +91,7 @@ fn sums_in_order<L: Links>(
     requires next { IsMenuOf ((L.chains links.now).menu (i + 1)) next.now }
     requires row { IsRow (L.chains links.now) (i + 1) sums.now }
     requires small { AllAtMost (2 ^ 62) sums.now }
-    requires candidates { AreAllCandidates (L.chains links.now) (i + 1) sums.now order.now }
+    requires candidates { AreAllCandidates (L.chains links.now) (L.own links.now (i + 1)) (i + 1) sums.now order.now }
     requires order { GoByBounds order.now }
     ensures row { IfOk result (λ row. IsRow (L.chains links.now) i row.items) }
     ensures small { IfOk result (λ row. (most : ℕ)

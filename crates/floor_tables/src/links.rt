@@ -6,7 +6,7 @@ ghost use Rattle.floor_tables.specs.Tables.{Task};
 
 use chain_sums::Links;
 use fux_grid::{Column, Exercise, MenuFault, menu, width};
-use fux_judge::{column_cost, link_cost};
+use fux_judge::{column_cost, link_cost, pair_cost};
 use penalty_sheet::Sheet;
 use std::alloc::Global;
 use std::marker::Model;
@@ -40,9 +40,12 @@ impl<'a> ColumnLinks<'a> {
 }
 
 impl<'a> Links for ColumnLinks<'a> {
+    ghost use Rattle.fux_judge.specs.Links.{column_of};
     ghost use Rattle.floor_tables.specs.Floors.{chains_of};
 
     ghost chains = { λ task. chains_of task.exercise task.sheet };
+
+    ghost own = { λ task. column_of task.exercise task.sheet };
 
     fn places(&self) -> usize {
         8 * self.exercise.bars as usize
@@ -64,7 +67,18 @@ impl<'a> Links for ColumnLinks<'a> {
         link_cost(self.exercise, self.sheet, i, prev, next)
     }
 
-    fn least_cost(&self, i: usize, next: &Column) -> Option<u64> {
+    fn own_cost(&self, i: usize, next: &Column) -> Option<u64> {
         column_cost(self.exercise, self.sheet, i, next)
+    }
+
+    fn cost_from(
+        &self,
+        i: usize,
+        prev: Option<&Column>,
+        next: &Column,
+        known: u64,
+    ) -> Option<u64> {
+        let pair = pair_cost(self.exercise, self.sheet, i, prev, next)?;
+        Some(known + pair)
     }
 }

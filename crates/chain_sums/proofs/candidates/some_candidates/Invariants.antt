@@ -7,5 +7,5 @@ abbrev pub invariant-loop-k : goal.invariant-loop-k
 invariant-loop-k g l = record {
   room : length l.menu.columns.items ≤ vec_capacity l.found;
   few : vec_len l.found ≤ l.k;
-  are : AreCandidates (g.L.Links.chains l.links) l.i l.row l.k l.found.items;
+  are : AreCandidates (g.L.Links.chains l.links) (g.L.Links.own l.links l.i) l.i l.row l.k l.found.items;
 }

@@ -3,7 +3,7 @@ use Rattle.std.specs.Prelude.{IsSomeAnd}
 use Rattle.fux_grid.specs.declared.cell.Cell.{Cell}
 use Rattle.fux_judge.specs.Links.{link_of}
 use Rattle.floor_tables.specs.Tables.{Task}
-use Rattle.floor_tables.proofs.links.ColumnLinksLinks.least_cost.Goals as goal
+use Rattle.floor_tables.proofs.links.ColumnLinksLinks.own_cost.Goals as goal
 
 pub returns-clause-least : goal.returns-clause-least
 returns-clause-least c =
