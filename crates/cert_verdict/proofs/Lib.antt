@@ -1,3 +1,5 @@
 pub mod AnswerLemmas
+pub mod HeadBacks
 pub mod JudgingLemmas
+pub mod OneVerdict
 pub mod TextLemmas
