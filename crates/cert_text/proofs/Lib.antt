@@ -1,6 +1,9 @@
 pub mod Completions
 pub mod FourthOctave
+pub mod HeadBacks
+pub mod HeadLaws
 pub mod ItemBacks
+pub mod ItemCells
 pub mod ItemRuns
 pub mod LineBacks
 pub mod LineLemmas
@@ -9,4 +12,6 @@ pub mod PartLemmas
 pub mod RunLemmas
 pub mod StopLemmas
 pub mod Stopping
+pub mod SungItems
+pub mod SungScores
 pub mod TakeLemmas

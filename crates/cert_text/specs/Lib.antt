@@ -6,3 +6,4 @@ pub mod Places
 pub mod Reading
 pub mod SingItems
 pub mod Takes
+pub mod WrittenLines

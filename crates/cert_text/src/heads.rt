@@ -3,15 +3,18 @@
 ghost use Rattle.std.specs.Prelude.{◌≡◌, ◌⊎◌, ◌+◌, ◌≤◌, ℕ, IfErr, IfOk, List, MatchResult, Option, Some, length, take};
 ghost use Rattle.std.specs.Fmt.{decimal};
 ghost use Rattle.fux_grid.specs.Exercises.{IsValid};
+ghost use Rattle.cert_text.specs.declared.answers.CertHead.{CertHead};
 ghost use Rattle.cert_text.specs.HeadTexts.{Heads, TextStops, penalty_of};
 ghost use Rattle.cert_text.specs.HeadRuns.{ScanTells, first_part};
 ghost use Rattle.cert_text.specs.SingItems.{IsBestText, IsHeadText, best_text};
+ghost use Rattle.cert_text.specs.WrittenLines.{BestHeadsAreWritten, BestTextsAreWritten, HeadTextsAreShort, HeadsAreOne, ItemLinesAreWritten, TextsAreOfHeads, WrittenLinesAreRead};
 
 use crate::answers::{CertFault, CertHead};
 use crate::place::{Fixed, Part, Place};
 use fux_grid::Exercise;
 use fux_text::read_sing;
 use std::alloc::Global;
+use text_lines::TextFault;
 
 /// What is read where no byte was.
 fn first_part() -> Part
@@ -74,16 +77,17 @@ fn best_head(
 {
     match read_sing(alloc, ex, lines_in(bytes, penalty, used)) {
         Ok(score) => Ok((CertHead::Best { penalty, score }, used)),
-        // Canonical lines are always read, so that nothing but memory can be wanting here. No clause says so yet.
-        Err(_) => Err(CertFault::Memory),
+        Err(TextFault::Memory) => Err(CertFault::Memory),
+        Err(TextFault::At { .. }) => unreachable!(),
     }
 }
 
 /// The head at the front of a certificate, and its length.
 ///
 /// It is refused at the first byte by which no head goes on, or at the end of bytes that end within a head. Whether its
-/// setting is lawful, and has the penalty, isn't judged here. What stands behind a head isn't looked at, and no head is as
-/// long as its limit of 65,536 bytes: a bar has at most eight items, of at most six bytes with the space before each.
+/// setting is lawful, and has the penalty, isn't judged here. What stands behind a head isn't looked at, and no head is
+/// as long as its limit of 65,536 bytes: a bar has at most eight items, of at most six bytes with the space before each,
+/// so that a head has fewer than 5,000 ([`heads_are_of_settings`]).
 pub fn head(alloc: Global, ex: &Exercise, bytes: &[u8]) -> Result<(CertHead, usize), CertFault>
     requires { IsValid ex.now }
 
@@ -92,8 +96,10 @@ pub fn head(alloc: Global, ex: &Exercise, bytes: &[u8]) -> Result<(CertHead, usi
     ensures fault { IfErr result (λ fault. (fault ≡ CertFault.Memory)
         ⊎ ((at : ℕ) × (fault ≡ CertFault.CertHead at) × TextStops ex.now bytes.now at)) }
 
-    // Where a head stands at the front, it is answered, unless memory runs out.
-    ensures only { (n : ℕ) (penalty : Option ℕ) → n ≤ length bytes.now
+    // Where a head or its text stands at the front, it is answered, unless memory runs out.
+    ensures only { (head : CertHead) (n : ℕ) → Heads ex.now bytes.now head n
+        → MatchResult result (λ found. found ≡ (head, n)) (λ fault. fault ≡ CertFault.Memory) }
+    ensures texts { (n : ℕ) (penalty : Option ℕ) → n ≤ length bytes.now
         → IsHeadText ex.now (take n bytes.now) penalty
         → MatchResult result (λ found. (found.1 ≡ n) × (penalty_of found.0 ≡ penalty))
         (λ fault. fault ≡ CertFault.Memory) }
@@ -104,3 +110,16 @@ pub fn head(alloc: Global, ex: &Exercise, bytes: &[u8]) -> Result<(CertHead, usi
         Ok((used, Some(penalty))) => best_head(alloc, ex, bytes, penalty, used),
     }
 }
+
+/// A law, and nothing to run: the lines of a head by their items are those that [`fux_text::sing_line`] writes of a
+/// setting, one for each free voice, and no others; so a head stands at the front of bytes just where its text as it is
+/// written stands there. One at most does, and none is long.
+pub fn heads_are_of_settings()
+    ensures lines { ItemLinesAreWritten }
+    ensures read { WrittenLinesAreRead }
+    ensures best { BestTextsAreWritten }
+    ensures heads { BestHeadsAreWritten }
+    ensures texts { TextsAreOfHeads }
+    ensures one { HeadsAreOne }
+    ensures short { HeadTextsAreShort }
+{}

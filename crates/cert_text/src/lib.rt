@@ -12,4 +12,4 @@ mod place;
 pub use answers::{Accepted, CertFault, CertHead, CertWrite, Refused, Why};
 pub use claim::{Claim, write_claim};
 pub use claims::{Claims, Taken};
-pub use heads::head;
+pub use heads::{head, heads_are_of_settings};

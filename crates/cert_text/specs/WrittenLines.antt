@@ -1,0 +1,58 @@
+-- A text that is one of a head by its items is that of one head, and its lines are those that are written of a setting.
+use Rattle.std.specs.Prelude.{◌≡◌, ◌↔◌, ℕ, ◌≤◌, ◌<◌, ◌^◌, List, Option, length, take}
+use Rattle.fux_grid.specs.declared.exercise.Exercise.{Exercise}
+use Rattle.fux_grid.specs.Exercises.{IsValid}
+use Rattle.fux_grid.specs.Grid.{Grid}
+use Rattle.fux_text.specs.Grammar.{IsSettingOf}
+use Rattle.fux_text.specs.ReadBack.{sing_lines}
+use Rattle.fux_text.specs.Texts.{AreSingLinesOf}
+use Rattle.cert_text.specs.declared.answers.CertHead.{CertHead}
+use Rattle.cert_text.specs.declared.answers.CertHead.TheVariants.{Best}
+use Rattle.cert_text.specs.HeadTexts.{Heads, penalty_of}
+use Rattle.cert_text.specs.SingItems.{AreLines, IsBestText, IsHeadText, best_text}
+
+-- the lines are those that are written of this setting of the exercise, one for each free voice
+pub record AreWrittenOf (ex : Exercise) (score : Grid) (lines : List ℕ) : Type 0 where
+  pub setting : IsSettingOf ex score
+  pub written : lines ≡ sing_lines ex score.columns
+
+-- the text is the one that is written of a head of this penalty and this setting
+pub record IsBestOf (ex : Exercise) (penalty : ℕ) (score : Grid) (text : List ℕ) : Type 0 where
+  pub setting : IsSettingOf ex score
+  pub written : text ≡ best_text penalty (sing_lines ex score.columns)
+
+-- lines of items are those that are written of a setting, and no others are
+abbrev pub ItemLinesAreWritten : Type 0
+ItemLinesAreWritten = (ex : Exercise) (lines : List ℕ) → IsValid ex
+    → AreLines ex lines ↔ ((score : Grid) × AreWrittenOf ex score lines)
+
+-- they are read as that setting
+abbrev pub WrittenLinesAreRead : Type 0
+WrittenLinesAreRead = (ex : Exercise) (lines : List ℕ) (score : Grid) → IsValid ex
+    → AreWrittenOf ex score lines → AreSingLinesOf ex lines score
+
+-- so a text of a head with a penalty is one that is written of a setting
+abbrev pub BestTextsAreWritten : Type 0
+BestTextsAreWritten = (ex : Exercise) (text : List ℕ) (penalty : ℕ) → IsValid ex
+    → IsBestText ex text penalty ↔ ((penalty < 2 ^ 64) × (score : Grid) × IsBestOf ex penalty score text)
+
+-- and a head with a penalty stands at the front of bytes just where its text as it is written stands there
+abbrev pub BestHeadsAreWritten : Type 0
+BestHeadsAreWritten = (ex : Exercise) (bytes : List ℕ) (penalty : ℕ) (score : Grid) (n : ℕ) → IsValid ex
+    → Heads ex bytes (Best penalty score) n
+    ↔ ((n ≤ length bytes) × (penalty < 2 ^ 64) × IsBestOf ex penalty score (take n bytes))
+
+-- a text of a head at the front of bytes is that of a head of this penalty
+abbrev pub TextsAreOfHeads : Type 0
+TextsAreOfHeads = (ex : Exercise) (bytes : List ℕ) (n : ℕ) (penalty : Option ℕ) → IsValid ex → n ≤ length bytes
+    → IsHeadText ex (take n bytes) penalty → (head : CertHead) × (penalty_of head ≡ penalty) × Heads ex bytes head n
+
+-- and one head at most stands there
+abbrev pub HeadsAreOne : Type 0
+HeadsAreOne = (ex : Exercise) (bytes : List ℕ) (head other : CertHead) (n m : ℕ) → IsValid ex
+    → Heads ex bytes head n → Heads ex bytes other m → (head ≡ other) × (n ≡ m)
+
+-- no text of a head is long
+abbrev pub HeadTextsAreShort : Type 0
+HeadTextsAreShort = (ex : Exercise) (text : List ℕ) (penalty : Option ℕ) → IsValid ex → IsHeadText ex text penalty
+    → length text < 5000
