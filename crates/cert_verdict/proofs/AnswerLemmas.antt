@@ -1,6 +1,6 @@
 -- What is answered where no head stands at the front (`starts_answer`), where the head isn't sound (`unsound_answer`), and
 -- where claims are judged (`finds_answer`); and where a menu is too wide (`unopened_headless`) or none is (`unopened_other`).
-use Rattle.std.proofs.Common.{◌≡◌, ◌≤◌, ◌⊎◌, inl, inr, arith, ℕ, List, Ok, Err, refl, ap, subst, sym}
+use Rattle.std.proofs.Common.{◌≡◌, ◌≤◌, ◌⊎◌, inl, inr, arith, ℕ, List, Result, Ok, Err, refl, ap, subst, sym}
 use Rattle.std.specs.Prelude.{IfErr, IfOk}
 use Rattle.cert_check.specs.declared.checker.OpenFault.{OpenFault}
 use Rattle.cert_check.specs.declared.checker.OpenFault.TheVariants as opening
@@ -81,10 +81,11 @@ unstarted_headless ex files name rose (Text (CertWord at)) starts = absurd start
 unstarted_headless ex files name rose (Text (CertEnd at)) starts = absurd starts
 unstarted_headless ex files name rose (Text Memory) starts = tt
 
-pub unstarted_missing : (fault : ReadFault) → (fault ≡ Unreadable) ⊎ (fault ≡ Text Memory)
+pub unstarted_missing : (read : Result (CertHead × Reading) ReadFault) (fault : ReadFault) → read ≡ Err fault
+    → (read ≡ Err Unreadable) ⊎ (read ≡ Err (Text Memory))
     → (unstarted fault ≡ Err check.Unreadable) ⊎ (unstarted fault ≡ Err check.Memory)
-unstarted_missing fault (inl e) = inl (ap unstarted e)
-unstarted_missing fault (inr e) = inr (ap unstarted e)
+unstarted_missing read fault is (inl e) = let same : fault ≡ Unreadable = cc in inl (ap unstarted same)
+unstarted_missing read fault is (inr e) = let same : fault ≡ Text Memory = cc in inr (ap unstarted same)
 
 not_too_wide : (ex : Exercise) (place : Place) (count : ℕ) → AreNarrow ex → IsTooWide ex place count → ⊥
 not_too_wide ex place count narrow wide = omega (arith, narrow wide.column wide.within, wide.width, wide.wide)

@@ -1,9 +1,9 @@
 -- Of a file that is the text of a valid certificate each verdict is that it is accepted (`one_verdict`), by whatever head
 -- the verdict goes: one head stands at its front, and the lines of its claims read one way only.
-use Rattle.std.proofs.Common.{◌≡◌, ◌≤◌, ℕ, List, [], ◌++◌, Result, Ok, Err, length, take, drop}
+use Rattle.std.proofs.Common.{◌≡◌, ℕ, List, [], ◌++◌, Result, Ok, Err, length, take, drop}
 use Rattle.std.proofs.Common.{inl, inr, sym, ap, subst, ◌∙◌, arith, append_assoc, append-nil}
 use Rattle.std.specs.Prelude.{IfOk}
-use Rattle.std.proofs.lemmas.List.{length-take-le, take-append-drop}
+use Rattle.std.proofs.lemmas.List.{take-append-drop}
 use Rattle.std.specs.List.{flat_map}
 use Rattle.cert_check.specs.Checking.{accepted_of}
 use Rattle.cert_reading.specs.Readings.{FaultAt, Files}
@@ -16,12 +16,12 @@ use Rattle.cert_text.specs.declared.answers.Why.TheVariants.{Head, False, Over, 
 use Rattle.cert_text.specs.declared.claim.Claim.{Claim}
 use Rattle.cert_text.specs.HeadTexts.{Heads, TextStops, penalty_of}
 use Rattle.cert_text.specs.Lines.{claim_line}
+use Rattle.cert_text.proofs.HeadBacks.{heads_are_one, stops_whole}
 use Rattle.cert_verdict.specs.Answers.{Answers}
 use Rattle.cert_verdict.specs.Judgments.{AcceptsValid, Finds, IsCertificateText, IsTextOf, RefusesFor}
 use Rattle.cert_verdict.specs.declared.checking.CheckFault.{CheckFault}
 use Rattle.cert_verdict.specs.declared.verdict.Verdict.{Verdict}
 use Rattle.cert_verdict.specs.declared.verdict.Verdict.TheVariants as verdicts
-use Rattle.cert_verdict.proofs.HeadBacks.{heads_are_one, heads_are_short, heads_within}
 use Rattle.cert_verdict.proofs.TextLemmas.{at_front, finds_accepted, such_of}
 use Rattle.fux_grid.specs.declared.exercise.Exercise.{Exercise}
 use Rattle.fux_grid.specs.Exercises.{IsValid}
@@ -72,11 +72,8 @@ module _ (ex : Exercise) (sheet : Sheet) (head : CertHead) (valid : IsValid ex) 
 
   none_stops : (at : ℕ) → TextStops ex (take 65536 bytes) at → ⊥
   none_stops at stops =
-      let n = length is.text.front in
-      let size : length (take n bytes) ≡ n = length-take-le n bytes its_head.within in
-      let short = heads_are_short ex (take n bytes) (penalty_of head) valid its_head.text in
-      let heads = heads_within ex bytes head n 65536 its_head (omega (arith, size, short)) in
-      stops.unfinished n (penalty_of head) heads.within heads.text
+      let nowhere = stops_whole ex bytes 65536 at valid (omega arith) stops in
+      nowhere.unfinished (length is.text.front) (penalty_of head) its_head.within its_head.text
 
   module _ (files : Files) (name : List ℕ) (has : HasFile files name bytes) where
     of_verdict : (other : CertHead) (it : Verdict) → Finds ex sheet other files name it → other ≡ head

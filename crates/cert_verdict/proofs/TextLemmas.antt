@@ -20,9 +20,9 @@ use Rattle.cert_text.specs.declared.claim.Claim.{Claim}
 use Rattle.cert_text.specs.declared.claim.Claim.TheVariants.{Open, Broken, NoChain, Floor, TheScore}
 use Rattle.cert_text.specs.HeadTexts.{Heads}
 use Rattle.cert_text.specs.Lines.{BeginsClaim, HasNoFeed, IsClaim, claim_line, claim_word, line_part}
+use Rattle.cert_text.proofs.HeadBacks.{heads_are_one, heads_before}
 use Rattle.cert_text.proofs.LineLemmas.{word_has_no_feed}
 use Rattle.cert_text.proofs.PartLemmas.{line_part-goes}
-use Rattle.cert_verdict.proofs.HeadBacks.{heads_are_one, heads_before}
 use Rattle.cert_verdict.specs.declared.verdict.Verdict.{Verdict}
 use Rattle.cert_verdict.specs.declared.verdict.Verdict.TheVariants as verdicts
 use Rattle.cert_verdict.specs.Judgments.{Finds, IsCertificateText, IsTaken, Leaves, RefusesFor}
