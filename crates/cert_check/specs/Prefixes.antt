@@ -1,5 +1,5 @@
 -- What is known of a prefix of which a claim is judged.
-use Rattle.std.specs.Prelude.{◌≡◌, ℕ, ◌*◌, ◌^◌, ◌≤◌, List}
+use Rattle.std.specs.Prelude.{◌≡◌, ℕ, ◌*◌, ◌^◌, ◌≤◌, List, [], ◌∷◌, ◌++◌}
 use Rattle.std.specs.declared.cmp.Ordering.{Ordering}
 use Rattle.std.specs.declared.cmp.Ordering.TheVariants.{Equal}
 use Rattle.cert_text.specs.declared.answers.CertHead.{CertHead}
@@ -12,7 +12,7 @@ use Rattle.fux_grid.specs.declared.cell.Cell.{Cell}
 use Rattle.fux_judge.specs.Gauges.{least_of}
 use Rattle.fux_judge.specs.Penalties.{paid}
 use Rattle.fux_judge.specs.States.{IsStateOf}
-use Rattle.rule_law.specs.Prefixes.{IsPrefix}
+use Rattle.rule_law.specs.Prefixes.{GoesOn, IsPrefix}
 use Rattle.rule_law.specs.Voices.{has_rule}
 
 -- how the head's setting goes against a prefix
@@ -30,6 +30,16 @@ pub record IsJudged (t : Matter) (p : List (List Cell)) (judged : Judged) : Type
   pub low : judged.least ≤ 334490640
   pub small : judged.paid ≤ judged.state.newest.len * 134217728
   pub order : judged.order ≡ order_with t.head p
+
+-- how the head's setting goes against each prefix of which this is known, with a column more
+abbrev pub IsOrderAfter : Matter → Judged → List Cell → Ordering → Type 0
+IsOrderAfter t judged col order =
+    (p : List (List Cell)) → IsJudged t p judged → order ≡ order_with t.head (p ++ col ∷ [])
+
+-- what is known of each prefix of which this is known, with a column more that may come next
+abbrev pub IsJudgedAfter : Matter → Judged → List Cell → Judged → Type 0
+IsJudgedAfter t judged col longer =
+    (p : List (List Cell)) → IsJudged t p judged → GoesOn t.exercise p (col ∷ []) → IsJudged t (p ++ col ∷ []) longer
 
 -- what is paid, and what the lines cost at least, are small
 pub record IsSmall (judged : Judged) : Type 0 where

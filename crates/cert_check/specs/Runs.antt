@@ -5,6 +5,7 @@ use Rattle.cert_text.specs.declared.answers.CertHead.{CertHead}
 use Rattle.cert_text.specs.declared.answers.Refused.{Refused}
 use Rattle.cert_text.specs.declared.claim.Claim.{Claim}
 use Rattle.cert_check.specs.Checking.{Checking, Refuses, Takes}
+use Rattle.cert_law.specs.Certificates.{IsCertificate}
 use Rattle.fux_grid.specs.declared.exercise.Exercise.{Exercise}
 use Rattle.penalty_sheet.specs.declared.sheet.Sheet.{Sheet}
 
@@ -28,6 +29,16 @@ pub record IsFed (old : Checking) (claim : Claim) (new : Checking) : Type 0 wher
 abbrev pub AreFed : Checking → List Claim → Checking → Type 0
 AreFed old [] new = new ≡ old
 AreFed old (claim ∷ claims) new = (next : Checking) × IsFed old claim next × AreFed next claims new
+
+-- where all claims since a checker was opened were fed to it: they are a certificate with its head
+abbrev pub IsFedCertificate : Checking → Type 0
+IsFedCertificate c = (claims : List Claim) → AreFed (opened_for c.exercise c.sheet c.head) claims c
+    → IsCertificate c.exercise c.sheet c.head claims
+
+-- they are none
+abbrev pub IsFedNone : Checking → Type 0
+IsFedNone c = (claims : List Claim) → AreFed (opened_for c.exercise c.sheet c.head) claims c
+    → IsCertificate c.exercise c.sheet c.head claims → ⊥
 
 -- what `feed` answers and keeps is that
 pub fed : (old : Checking) (claim : Claim) (new : Checking) (result : Result (Unit {0}) Refused)

@@ -1,5 +1,5 @@
 -- Where a checker stands: the open prefixes that begin the one owed next, as the number of the column by which each goes on.
-use Rattle.std.specs.Prelude.{◌≡◌, ℕ, ◌+◌, ◌<◌, Bool, IsTrue, List, [], ◌∷◌, ◌++◌, Option, Some, None, IfSome, drop, length, map, reverse, slice_index_or, vec_capacity, ⊤}
+use Rattle.std.specs.Prelude.{◌≡◌, ℕ, ◌+◌, ◌<◌, Bool, IsTrue, List, [], ◌∷◌, ◌++◌, Option, Some, None, IfSome, drop, length, map, reverse, slice_index_or, vec_capacity, ⊤, if◌then◌else◌}
 use Rattle.std.specs.List.{filter}
 use Rattle.cert_check.specs.declared.judged.Judged.{Judged}
 use Rattle.cert_check.specs.declared.walk.Level.{Level}
@@ -43,6 +43,19 @@ prefix_of ex (level ∷ older) = prefix_of ex older ++ column_after ex (prefix_o
 abbrev pub owed_later : Exercise → List Level → List (List (List Cell))
 owed_later ex [] = []
 owed_later ex (level ∷ older) = longer_from ex (prefix_of ex older) (level.number + 1) ++ owed_later ex older
+
+-- the levels of a walk, the newest first
+abbrev pub levels_of : Walk → List Level
+levels_of walk = reverse walk.levels.items
+
+-- what is owed of the prefix to which levels lead, by its columns from a number on, and behind that
+abbrev pub owed_from : Exercise → List Level → ℕ → List (List (List Cell))
+owed_from ex levels from = longer_from ex (prefix_of ex levels) from ++ owed_later ex levels
+
+-- what is owed after a claim of that prefix: where it is open, each one that is longer by a column comes first
+abbrev pub owed_after : Exercise → List Level → Bool → List (List (List Cell))
+owed_after ex levels is_open =
+    (if is_open then longer_from ex (prefix_of ex levels) 0 else []) ++ owed_later ex levels
 
 -- what is owed, where the next prefix is there
 abbrev pub owed_at : Exercise → List Level → Option Judged → List (List (List Cell))

@@ -1,14 +1,13 @@
 //! The checker of certificates.
 
-ghost use Rattle.std.specs.Prelude.{◌≡◌, ◌≢◌, ◌+◌, ◌^◌, ◌<◌, ◌≤◌, [], ◌∷◌, None, Some, Ok, Err, IfErr, IfOk, List, OnErr, OnOk};
+ghost use Rattle.std.specs.Prelude.{◌≡◌, ◌≢◌, ◌+◌, ◌^◌, ◌<◌, ◌≤◌, [], ◌∷◌, None, Some, Ok, Err, IfErr, IfOk, OnErr, OnOk};
 ghost use Rattle.cert_text.specs.declared.answers.Refused.{Refused as ARefused};
 ghost use Rattle.cert_text.specs.declared.answers.Why.TheVariants as whys;
-ghost use Rattle.cert_text.specs.declared.claim.Claim.{Claim as AClaim};
-ghost use Rattle.cert_law.specs.Certificates.{Holds, IsCertificate, IsHeadSound};
+ghost use Rattle.cert_law.specs.Certificates.{Holds, IsHeadSound};
 ghost use Rattle.cert_check.specs.Cases.{HasTables, IsCase};
 ghost use Rattle.cert_check.specs.Checking.{Refuses, Takes, accepted_of};
 ghost use Rattle.cert_check.specs.Opening.{TellsWhy};
-ghost use Rattle.cert_check.specs.Runs.{AreFed, opened_for};
+ghost use Rattle.cert_check.specs.Runs.{IsFedCertificate, IsFedNone, opened_for};
 ghost use Rattle.floor_tables.specs.Tables.{AreNarrow};
 ghost use Rattle.fux_grid.specs.Exercises.{IsValid};
 
@@ -183,12 +182,8 @@ impl<'a> Checker<'a> {
         ensures shown { IfOk result (λ _. Holds self.now.exercise self.now.sheet self.now.head) }
 
         // Where all claims since the checker was opened were fed to it: they are a certificate with its head, or not.
-        ensures certified { OnOk result ((claims : List AClaim) →
-            AreFed (opened_for self.now.exercise self.now.sheet self.now.head) claims self.now →
-            IsCertificate self.now.exercise self.now.sheet self.now.head claims) }
-        ensures uncertified { OnErr result ((claims : List AClaim) →
-            AreFed (opened_for self.now.exercise self.now.sheet self.now.head) claims self.now →
-            IsCertificate self.now.exercise self.now.sheet self.now.head claims → ⊥) }
+        ensures certified { OnOk result (IsFedCertificate self.now) }
+        ensures uncertified { OnErr result (IsFedNone self.now) }
     {
         if let Some(refused) = self.refusal {
             return Err(refused);

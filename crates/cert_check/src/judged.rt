@@ -1,12 +1,9 @@
 //! What is known of a prefix of which a claim is judged.
 
-ghost use Rattle.std.specs.Prelude.{◌≡◌, ◌<◌, ◌≤◌, ◌*◌, ◌+◌, ℕ, ◌||◌, List, [], ◌∷◌, ◌++◌, length};
-ghost use Rattle.std.specs.Ordering.{ordering_then};
+ghost use Rattle.std.specs.Prelude.{◌≡◌, ◌<◌, ◌≤◌, ◌*◌, ℕ, ◌||◌, [], length};
 ghost use Rattle.cert_check.specs.Cases.{IsCase, Matter, matter_of};
-ghost use Rattle.cert_check.specs.Prefixes.{IsJudged, order_with};
-ghost use Rattle.fux_grid.specs.declared.cell.Cell.{Cell as ACell};
+ghost use Rattle.cert_check.specs.Prefixes.{IsJudged, IsJudgedAfter, IsOrderAfter};
 ghost use Rattle.fux_grid.specs.Exercises.{IsValid, columns_in};
-ghost use Rattle.rule_law.specs.Prefixes.{GoesOn};
 ghost use Rattle.rule_law.specs.Voices.{has_rule};
 
 use crate::case::Case;
@@ -18,8 +15,7 @@ use rule_law::RuleSet;
 use std::cmp::Ordering;
 
 /// What is known of a prefix: what the judge keeps of it, the rules of which a strict break is settled in it, what is paid of it, what
-/// its lines cost at least, and
-/// how the head's setting goes against it by the first column at which they differ.
+/// its lines cost at least, and how the head's setting goes against it by the first column at which they differ.
 #[derive(Clone, Copy)]
 pub struct Judged {
     pub state: State,
@@ -59,8 +55,7 @@ impl Judged {
         requires case { IsCase (matter_of case.now) }
         requires room { self.now.state.newest.len < columns_in case.now.exercise.now }
         requires full { length column.now.items ≡ case.now.exercise.now.voices }
-        ensures { (p : List (List ACell)) → IsJudged (matter_of case.now) p self.now
-            → result ≡ order_with case.now.head.now (p ++ column.now.items ∷ []) }
+        ensures { IsOrderAfter (matter_of case.now) self.now column.now.items result }
     {
         match case.head {
             CertHead::Nothing => Ordering::Equal,
@@ -77,8 +72,7 @@ impl Judged {
         requires room { self.now.state.newest.len < columns_in case.now.exercise.now }
         requires full { length column.now.items ≡ case.now.exercise.now.voices }
         requires small { self.now.paid ≤ self.now.state.newest.len * 134217728 }
-        ensures { (p : List (List ACell)) → IsJudged (matter_of case.now) p self.now → GoesOn case.now.exercise.now p (column.now.items ∷ [])
-            → IsJudged (matter_of case.now) (p ++ column.now.items ∷ []) result }
+        ensures { IsJudgedAfter (matter_of case.now) self.now column.now.items result }
     {
         let verdict = step(case.exercise, case.sheet, &self.state, column);
         Judged {

@@ -1,12 +1,10 @@
 //! Whether a claim is true of a prefix.
 
-ghost use Rattle.std.specs.Prelude.{◌≡◌, ◌↔◌, ◌≤◌, ◌+◌, ◌^◌, ◌==◌, nat_lt, List, IsTrue};
-ghost use Rattle.cert_text.specs.declared.claim.Claim.TheVariants as claims;
-ghost use Rattle.cert_law.specs.Claims.{IsTrueOf};
+ghost use Rattle.std.specs.Prelude.{◌≡◌, ◌+◌, ◌==◌, nat_lt, List};
 ghost use Rattle.cert_law.specs.Writer as words;
-ghost use Rattle.cert_check.specs.Cases.{IsCase, Matter, matter_of};
+ghost use Rattle.cert_check.specs.Cases.{IsCase, matter_of};
 ghost use Rattle.cert_check.specs.Prefixes.{IsJudged, IsSmall};
-ghost use Rattle.floor_tables.specs.Floors.{rest_of};
+ghost use Rattle.cert_check.specs.Truths.{TellsNoBetter, TellsOpen, TellsTruth};
 ghost use Rattle.fux_grid.specs.declared.cell.Cell.{Cell as ACell};
 ghost use Rattle.fux_grid.specs.Exercises.{IsValid};
 
@@ -39,8 +37,7 @@ fn is_equal(order: Ordering) -> bool
 /// Whether the floor of a prefix with this rest is no better than the head's setting.
 pub fn is_no_better(case: &Case<'_>, judged: &Judged, rest: u64) -> bool
     requires { IsSmall judged.now }
-    ensures { (p : List (List ACell)) → IsJudged (matter_of case.now) p judged.now
-        → result ≡ words.is_no_better case.now.head.now p (judged.now.paid + judged.now.least + rest) }
+    ensures { TellsNoBetter (matter_of case.now) judged.now rest result }
 {
     match case.head {
         CertHead::Nothing => false,
@@ -82,8 +79,7 @@ pub fn is_setting(case: &Case<'_>, judged: &Judged) -> bool
 /// Whether a prefix isn't complete, and is orderly.
 fn can_go_on(ex: &Exercise, judged: &Judged) -> bool
     requires { IsValid ex.now }
-    ensures { (t : Matter) (p : List (List ACell)) → t.exercise ≡ ex.now → IsJudged t p judged.now
-        → IsTrue result ↔ IsTrueOf t.exercise t.sheet t.head p claims.Open }
+    ensures { TellsOpen ex.now judged.now result }
 {
     judged.state.newest.len < 8 * ex.bars as usize && !judged.broken.has(3)
 }
@@ -105,9 +101,7 @@ pub fn is_open(claim: Claim) -> bool
 pub(crate) fn is_true(case: &Case<'_>, judged: &Judged, rest: Option<u64>, claim: Claim) -> bool
     requires case { IsCase (matter_of case.now) }
     requires small { IsSmall judged.now }
-    ensures { (p : List (List ACell)) → IsJudged (matter_of case.now) p judged.now
-        → rest ≡ rest_of case.now.exercise.now case.now.sheet.now p
-        → IsTrue result ↔ IsTrueOf case.now.exercise.now case.now.sheet.now case.now.head.now p claim }
+    ensures { TellsTruth (matter_of case.now) judged.now rest claim result }
 {
     match claim {
         Claim::Open => can_go_on(case.exercise, judged),

@@ -1,9 +1,9 @@
 //! Where a checker stands among the prefixes that are owed.
 
-ghost use Rattle.std.specs.Prelude.{◌≡◌, ◌<◌, ◌≤◌, ◌+◌, ◌++◌, [], length, reverse, vec_capacity, Some, if◌then◌else◌};
+ghost use Rattle.std.specs.Prelude.{◌≡◌, ◌<◌, [], vec_capacity, Some};
 ghost use Rattle.std.specs.Bool.{OnFalse, OnTrue};
 ghost use Rattle.cert_check.specs.Cases.{HasTables, IsCase, matter_of};
-ghost use Rattle.cert_check.specs.Walks.{AreLevels, CanGoOn, IsNextNumber, IsOpen, IsWalk, longer_from, owed_by_walk, owed_later, prefix_of};
+ghost use Rattle.cert_check.specs.Walks.{AreLevels, CanGoOn, IsNextNumber, IsOpen, IsWalk, levels_of, longer_from, owed_after, owed_by_walk, owed_from, owed_later, prefix_of};
 ghost use Rattle.floor_tables.specs.Floors.{rest_of};
 ghost use Rattle.fux_grid.specs.Exercises.{columns_in};
 ghost use Rattle.fux_grid.specs.Menus.{menu_of};
@@ -51,7 +51,7 @@ impl Walk {
         requires tables { HasTables (matter_of case.now) tables.now }
         requires walk { IsWalk (matter_of case.now) self.now }
         ensures { result ≡ rest_of case.now.exercise.now case.now.sheet.now
-            (prefix_of case.now.exercise.now (reverse self.now.levels.items)) }
+            (prefix_of case.now.exercise.now (levels_of self.now)) }
     {
         let _ = case;
         let count = self.levels.len();
@@ -67,14 +67,14 @@ impl Walk {
     fn enter(&mut self, case: &Case<'_>, tables: &Tables<'_>, parent: Judged, from: usize) -> bool
         requires case { IsCase (matter_of case.now) }
         requires tables { HasTables (matter_of case.now) tables.now }
-        requires levels { AreLevels (matter_of case.now) (reverse self.old.levels.items) }
+        requires levels { AreLevels (matter_of case.now) (levels_of self.old) }
         requires room { vec_capacity self.old.levels ≡ 192 }
-        requires parent { IsOpen (matter_of case.now) (prefix_of case.now.exercise.now (reverse self.old.levels.items)) parent }
+        requires parent { IsOpen (matter_of case.now) (prefix_of case.now.exercise.now (levels_of self.old)) parent }
         ensures walk { OnTrue result (IsWalk (matter_of case.now) self.new) }
-        ensures owed { let levels = reverse self.old.levels.items in let ex = case.now.exercise.now in OnTrue result
-            (owed_by_walk ex self.new ≡ longer_from ex (prefix_of ex levels) from ++ owed_later ex levels) }
-        ensures none { let levels = reverse self.old.levels.items in let ex = case.now.exercise.now in OnFalse result
-            (longer_from ex (prefix_of ex levels) from ≡ []) }
+        ensures owed { OnTrue result
+            (owed_by_walk case.now.exercise.now self.new ≡ owed_from case.now.exercise.now (levels_of self.old) from) }
+        ensures none { OnFalse result
+            (longer_from case.now.exercise.now (prefix_of case.now.exercise.now (levels_of self.old)) from ≡ []) }
         ensures same { OnFalse result (self.new.levels ≡ self.old.levels) }
     {
         let i = parent.state.newest.len;
@@ -91,10 +91,11 @@ impl Walk {
     fn go_up(&mut self, case: &Case<'_>, tables: &Tables<'_>)
         requires case { IsCase (matter_of case.now) }
         requires tables { HasTables (matter_of case.now) tables.now }
-        requires levels { AreLevels (matter_of case.now) (reverse self.old.levels.items) }
+        requires levels { AreLevels (matter_of case.now) (levels_of self.old) }
         requires room { vec_capacity self.old.levels ≡ 192 }
         ensures walk { IsWalk (matter_of case.now) self.new }
-        ensures owed { owed_by_walk case.now.exercise.now self.new ≡ owed_later case.now.exercise.now (reverse self.old.levels.items) }
+        ensures owed { owed_by_walk case.now.exercise.now self.new
+            ≡ owed_later case.now.exercise.now (levels_of self.old) }
     {
         let Some(level) = self.levels.pop() else {
             self.next = None;
@@ -111,10 +112,10 @@ impl Walk {
         requires tables { HasTables (matter_of case.now) tables.now }
         requires walk { IsWalk (matter_of case.now) self.old }
         requires next { self.old.next ≡ Some next }
-        requires parent { CanGoOn (matter_of case.now) (prefix_of case.now.exercise.now (reverse self.old.levels.items)) is_open }
+        requires parent { CanGoOn (matter_of case.now) (prefix_of case.now.exercise.now (levels_of self.old)) is_open }
         ensures walk { IsWalk (matter_of case.now) self.new }
-        ensures owed { let levels = reverse self.old.levels.items in let ex = case.now.exercise.now in
-            owed_by_walk ex self.new ≡ (if is_open then longer_from ex (prefix_of ex levels) 0 else []) ++ owed_later ex levels }
+        ensures owed { owed_by_walk case.now.exercise.now self.new
+            ≡ owed_after case.now.exercise.now (levels_of self.old) is_open }
     {
         if is_open && self.enter(case, tables, next, 0) {
             return;

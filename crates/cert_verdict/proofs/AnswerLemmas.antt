@@ -1,24 +1,26 @@
--- What is answered where no head stands at the front (`starts_answer`), where the head isn't sound (`unsound_answer`), and where claims
--- are judged (`finds_answer`).
-use Rattle.std.proofs.Common.{◌≡◌, ◌≤◌, inl, inr, arith, ℕ, List, Ok, Err, refl, subst, sym}
+-- What is answered where no head stands at the front (`starts_answer`), where the head isn't sound (`unsound_answer`), and
+-- where claims are judged (`finds_answer`); and where a menu is too wide (`unopened_headless`) or none is (`unopened_other`).
+use Rattle.std.proofs.Common.{◌≡◌, ◌≤◌, ◌⊎◌, inl, inr, arith, ℕ, List, Result, Ok, Err, refl, ap, subst, sym}
+use Rattle.std.specs.Prelude.{IfErr, IfOk}
 use Rattle.cert_check.specs.declared.checker.OpenFault.{OpenFault}
 use Rattle.cert_check.specs.declared.checker.OpenFault.TheVariants as opening
 use Rattle.cert_check.specs.Opening.{TellsWhy}
-use Rattle.cert_law.specs.Certificates.{Holds}
 use Rattle.cert_reading.specs.declared.fault.ReadFault.TheVariants.{Text, Unreadable}
 use Rattle.cert_reading.specs.declared.fault.ReadFault.{ReadFault}
 use Rattle.cert_reading.specs.Readings.{Files, Reading}
 use Rattle.cert_reading.specs.Starts.{IsStarted, Starts}
-use Rattle.cert_text.specs.declared.answers.Accepted.{Accepted}
 use Rattle.cert_text.specs.declared.answers.CertFault.TheVariants.{CertHead as WrongHead, CertWord, CertEnd, Memory}
 use Rattle.cert_text.specs.declared.answers.CertHead.{CertHead}
 use Rattle.cert_text.specs.declared.answers.Refused.{Refused}
-use Rattle.cert_verdict.specs.Answers.{Answers, FindsBehind, unopened, unstarted}
-use Rattle.cert_verdict.specs.Judgments.{Finds, RefusesFor}
+use Rattle.cert_verdict.specs.Answers.{Answers, FindsBehind, IsHeadless, unopened, unstarted}
+use Rattle.cert_verdict.specs.Judgments.{Finds, RefusesFor, Shows}
+use Rattle.cert_verdict.specs.declared.checking.CheckFault.TheVariants as check
 use Rattle.cert_verdict.specs.declared.verdict.Verdict.{Verdict}
 use Rattle.cert_verdict.specs.declared.verdict.Verdict.TheVariants as verdict
 use Rattle.cert_verdict.proofs.JudgingLemmas.{begins_front}
+use Rattle.floor_tables.specs.Tables.{AreNarrow, IsTooWide}
 use Rattle.fux_grid.specs.declared.exercise.Exercise.{Exercise}
+use Rattle.fux_grid.specs.declared.exercise.Place.{Place}
 use Rattle.fux_port.specs.Counts.{Rose}
 use Rattle.penalty_sheet.specs.declared.sheet.Sheet.{Sheet}
 
@@ -62,6 +64,45 @@ module _ (ex : Exercise) (sheet : Sheet) (files : Files) (name : List ℕ) (rose
   opening_answer head reader (opening.Refused refused) started why = unsound_answer head reader refused started why
   opening_answer head reader opening.Memory started why = tt
 
+-- ---- which answers come where no menu is too wide, and where one is
+
+pub unstarted_other : (fault : ReadFault) → IfErr (unstarted fault) (λ f. (f ≡ check.Unreadable) ⊎ (f ≡ check.Memory))
+unstarted_other Unreadable = inl refl
+unstarted_other (Text (WrongHead at)) = tt
+unstarted_other (Text (CertWord at)) = tt
+unstarted_other (Text (CertEnd at)) = tt
+unstarted_other (Text Memory) = inr refl
+
+pub unstarted_headless : (ex : Exercise) (files : Files) (name : List ℕ) (rose : Type 0) (fault : ReadFault)
+    → Starts ex files name rose (Err fault) → IfOk (unstarted fault) IsHeadless
+unstarted_headless ex files name rose Unreadable starts = tt
+unstarted_headless ex files name rose (Text (WrongHead at)) starts = (at, refl)
+unstarted_headless ex files name rose (Text (CertWord at)) starts = absurd starts
+unstarted_headless ex files name rose (Text (CertEnd at)) starts = absurd starts
+unstarted_headless ex files name rose (Text Memory) starts = tt
+
+pub unstarted_missing : (read : Result (CertHead × Reading) ReadFault) (fault : ReadFault) → read ≡ Err fault
+    → (read ≡ Err Unreadable) ⊎ (read ≡ Err (Text Memory))
+    → (unstarted fault ≡ Err check.Unreadable) ⊎ (unstarted fault ≡ Err check.Memory)
+unstarted_missing read fault is (inl e) = let same : fault ≡ Unreadable = cc in inl (ap unstarted same)
+unstarted_missing read fault is (inr e) = let same : fault ≡ Text Memory = cc in inr (ap unstarted same)
+
+not_too_wide : (ex : Exercise) (place : Place) (count : ℕ) → AreNarrow ex → IsTooWide ex place count → ⊥
+not_too_wide ex place count narrow wide = omega (arith, narrow wide.column wide.within, wide.width, wide.wide)
+
+module _ (ex : Exercise) (sheet : Sheet) (head : CertHead) where
+  pub unopened_other : (fault : OpenFault) → TellsWhy ex sheet head fault → AreNarrow ex
+      → IfErr (unopened fault) (λ f. (f ≡ check.Unreadable) ⊎ (f ≡ check.Memory))
+  unopened_other (opening.TooWide place count) why narrow = absurd (not_too_wide ex place count narrow why)
+  unopened_other (opening.Refused refused) why narrow = tt
+  unopened_other opening.Memory why narrow = inr refl
+
+  pub unopened_headless : (fault : OpenFault) → TellsWhy ex sheet head fault → (AreNarrow ex → ⊥)
+      → IfOk (unopened fault) IsHeadless
+  unopened_headless (opening.TooWide place count) why wide = tt
+  unopened_headless (opening.Refused refused) why wide = absurd (wide why.0)
+  unopened_headless opening.Memory why wide = tt
+
 -- a count that rose later rose
 pub rose_since : (old mid new : ℕ) → old ≤ mid → Rose mid new → Rose old new
 rose_since old mid new order (inl less) = inl (omega (arith, order, less))
@@ -69,7 +110,6 @@ rose_since old mid new order (inr last) = inr last
 
 -- what judging found is the answer
 pub judged_answer : (ex : Exercise) (sheet : Sheet) (head : CertHead) (files : Files) (name : List ℕ) (rose : Type 0) (it : Verdict)
-    → Finds ex sheet head files name it → ((answer : Accepted) → it ≡ verdict.Accepted answer → Holds ex sheet head)
-    → Answers ex sheet files name rose (Ok it)
+    → Finds ex sheet head files name it → Shows ex sheet head it → Answers ex sheet files name rose (Ok it)
 judged_answer ex sheet head files name rose it finds shown =
     finds_answer ex sheet files name rose it record { head = head; finds = finds; shown = shown }

@@ -1,3 +1,4 @@
 pub mod AnswerLemmas
 pub mod JudgingLemmas
+pub mod OneVerdict
 pub mod TextLemmas

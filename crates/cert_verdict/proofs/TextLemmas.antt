@@ -2,7 +2,7 @@
 -- certificate, the claims behind them are certified too (`valid_behind`). So no such text is refused (`finds_accepted`).
 use Rattle.std.proofs.Common.{◌≡◌, ◌≢◌, ℕ, inl, inr, List, [], ◌∷◌, ◌++◌, length, take, get_or, decimal, codes, refl, sym, ap, subst, ◌∙◌, arith, append_assoc, append-nil, length-append}
 use Rattle.std.proofs.lemmas.Fmt.{decimal_injective}
-use Rattle.std.proofs.lemmas.List.{append_cancel_left, take_all}
+use Rattle.std.proofs.lemmas.List.{append_cancel_left}
 use Rattle.std.proofs.Math.Seq.{take-append_seam}
 use Rattle.std.specs.List.{AllByRecursion, flat_map}
 use Rattle.cert_check.specs.Checking.{accepted_of}
@@ -18,12 +18,11 @@ use Rattle.cert_text.specs.declared.answers.Why.{Why}
 use Rattle.cert_text.specs.declared.answers.Why.TheVariants.{Head, False, Over, Short}
 use Rattle.cert_text.specs.declared.claim.Claim.{Claim}
 use Rattle.cert_text.specs.declared.claim.Claim.TheVariants.{Open, Broken, NoChain, Floor, TheScore}
-use Rattle.cert_text.specs.HeadTexts.{Heads, penalty_of}
+use Rattle.cert_text.specs.HeadTexts.{Heads}
 use Rattle.cert_text.specs.Lines.{BeginsClaim, HasNoFeed, IsClaim, claim_line, claim_word, line_part}
-use Rattle.cert_text.specs.SingItems.{IsHeadText}
+use Rattle.cert_text.proofs.HeadBacks.{heads_are_one, heads_before}
 use Rattle.cert_text.proofs.LineLemmas.{word_has_no_feed}
 use Rattle.cert_text.proofs.PartLemmas.{line_part-goes}
-use Rattle.cert_text.proofs.Stopping.{same-head}
 use Rattle.cert_verdict.specs.declared.verdict.Verdict.{Verdict}
 use Rattle.cert_verdict.specs.declared.verdict.Verdict.TheVariants as verdicts
 use Rattle.cert_verdict.specs.Judgments.{Finds, IsCertificateText, IsTaken, Leaves, RefusesFor}
@@ -101,6 +100,21 @@ line_begins c xs fits =
     subst BeginsClaim (sym (ap line_part (line_split c xs) ∙ first_line (claim_word c) xs (word_has_no_feed c fits)))
     record { claim = c; fits = fits; rest = []; whole = append-nil (claim_line c) }
 
+-- what the file of a name may be, it is, where the shelf tells it
+pub such_of : (files : Files) (name bytes : List ℕ) → HasFile files name bytes → (Such : List ℕ → Type 0) → MayBe files name Such
+    → Such bytes
+such_of files name bytes has Such known = at known.had
+  where
+    at : MayHave files name known.bytes → Such bytes
+    at (inl untold) = cc
+    at (inr other) = let same : known.bytes ≡ bytes = cc in subst Such same known.such
+
+-- a head that a front is stands at the front of all bytes
+pub at_front : (ex : Exercise) (head : CertHead) (bytes front rest : List ℕ) → bytes ≡ front ++ rest
+    → Heads ex front head (length front) → Heads ex bytes head (length front)
+at_front ex head bytes front rest e heads =
+    subst (λ xs. Heads ex xs head (length front)) (sym e) (heads_before ex front rest head heads)
+
 module _ (ex : Exercise) (sheet : Sheet) (head : CertHead) where
   -- behind bytes stand the lines of claims by which nothing is owed in the end
   record IsCertifiedBehind (left : List (List (List Cell))) (rest : List ℕ) : Type 0 where
@@ -140,19 +154,14 @@ module _ (ex : Exercise) (sheet : Sheet) (head : CertHead) where
         first : (xs ys : List ℕ) → bytes ≡ xs ++ ys → take (length xs) bytes ≡ xs
         first xs ys whole = ap (λ zs. take (length xs) zs) whole ∙ take-append_seam xs ys
 
-        text : (xs ys : List ℕ) → bytes ≡ xs ++ ys → Heads ex xs head (length xs) → IsHeadText ex (take (length xs) bytes) (penalty_of head)
-        text xs ys whole heads =
-            subst (λ zs. IsHeadText ex zs (penalty_of head)) (take_all (length xs) xs (omega arith) ∙ sym (first xs ys whole)) heads.text
-
         same : is.text.front ≡ taken.text.front
         same =
-            let lengths = same-head ex bytes (length is.text.front) (length taken.text.front) (penalty_of head) (penalty_of head) valid
-            (omega (arith, ap length is.text.is, length-append is.text.front (flat_map claim_line is.claims)))
-            (omega (arith, ap length other, length-append taken.text.front (flat_map claim_line taken.claims ++ rest)))
-            (text is.text.front (flat_map claim_line is.claims) is.text.is is.text.heads)
-            (text taken.text.front (flat_map claim_line taken.claims ++ rest) other taken.text.heads) in
-            sym (first is.text.front (flat_map claim_line is.claims) is.text.is) ∙ ap (λ n. take n bytes) lengths.0
-            ∙ first taken.text.front (flat_map claim_line taken.claims ++ rest) other
+            let lines = flat_map claim_line is.claims in
+            let more = flat_map claim_line taken.claims ++ rest in
+            let lengths = heads_are_one ex bytes head head (length is.text.front) (length taken.text.front) valid
+            (at_front ex head bytes is.text.front lines is.text.is is.text.heads)
+            (at_front ex head bytes taken.text.front more other taken.text.heads) in
+            sym (first is.text.front lines is.text.is) ∙ ap (λ n. take n bytes) lengths.1 ∙ first taken.text.front more other
 
     -- no claim of it is refused
     next_is : (p : List (List Cell)) (owed : List (List (List Cell))) (claim : Claim) (more : List ℕ) → IsClaim claim
@@ -220,16 +229,10 @@ module _ (ex : Exercise) (sheet : Sheet) (head : CertHead) where
     faultless count owed front Memory taken it = it
 
     module _ (files : Files) (name : List ℕ) (has : HasFile files name bytes) where
-      never : (Such : List ℕ → Type 0) → MayBe files name Such → (Such bytes → ⊥) → ⊥
-      never Such known none = at known.had
-        where
-          at : MayHave files name known.bytes → ⊥
-          at (inl untold) = cc
-          at (inr other) = let same : known.bytes ≡ bytes = cc in none (subst Such same known.such)
-
       pub finds_accepted : (verdict : Verdict) → Finds ex sheet head files name verdict
           → verdict ≡ verdicts.Accepted (accepted_of head)
       finds_accepted (verdicts.Accepted answer) found = ap (λ a. verdicts.Accepted a) found.0
-      finds_accepted (verdicts.Claim refused) found = absurd (never _ found (unrefused_for refused.number refused.why))
+      finds_accepted (verdicts.Claim refused) found =
+          absurd (unrefused_for refused.number refused.why (such_of files name bytes has _ found))
       finds_accepted (verdicts.Text fault) found =
-          absurd (never _ found (λ it. faultless it.count it.owed it.front fault it.taken it.fault_at))
+          let it = such_of files name bytes has _ found in absurd (faultless it.count it.owed it.front fault it.taken it.fault_at)

@@ -3,9 +3,10 @@ use Rattle.std.specs.Prelude.{◌≡◌, ℕ, ◌+◌, ◌≤◌, List, [], ◌�
 use Rattle.std.specs.Io.{StartsWith}
 use Rattle.std.specs.List.{AllByRecursion, flat_map}
 use Rattle.cert_check.specs.Checking.{Checking, accepted_of}
-use Rattle.cert_law.specs.Certificates.{IsCertificate, IsHeadSound, owed_by}
+use Rattle.cert_law.specs.Certificates.{Holds, IsCertificate, IsHeadSound, owed_by}
 use Rattle.cert_law.specs.Claims.{IsTrueOf}
 use Rattle.cert_reading.specs.Readings.{FaultAt, Files, MayBe}
+use Rattle.cert_text.specs.declared.answers.Accepted.{Accepted}
 use Rattle.cert_text.specs.declared.answers.CertFault.{CertFault}
 use Rattle.cert_text.specs.declared.answers.CertHead.{CertHead}
 use Rattle.cert_text.specs.declared.answers.Why.{Why}
@@ -17,6 +18,7 @@ use Rattle.cert_verdict.specs.declared.verdict.Verdict.{Verdict}
 use Rattle.cert_verdict.specs.declared.verdict.Verdict.TheVariants as verdict
 use Rattle.fux_grid.specs.declared.cell.Cell.{Cell}
 use Rattle.fux_grid.specs.declared.exercise.Exercise.{Exercise}
+use Rattle.fux_port.specs.Files.{HasFile}
 use Rattle.penalty_sheet.specs.declared.sheet.Sheet.{Sheet}
 
 -- the text of a head and of the lines of claims
@@ -109,6 +111,16 @@ Finds ex sheet head files name (verdict.Accepted answer) =
 Finds ex sheet head files name (verdict.Claim refused) =
     MayBe files name (RefusesFor ex sheet head refused.number refused.why)
 Finds ex sheet head files name (verdict.Text fault) = MayBe files name (HasFault ex sheet head fault)
+
+-- a verdict that accepts shows that what the head says holds
+abbrev pub Shows : Exercise → Sheet → CertHead → Verdict → Type 0
+Shows ex sheet head it = (answer : Accepted) → it ≡ verdict.Accepted answer → Holds ex sheet head
+
+-- a verdict accepts the file with a head, where it is the text of a valid certificate
+abbrev pub AcceptsValid : Exercise → Sheet → CertHead → Files → List ℕ → Verdict → Type 0
+AcceptsValid ex sheet head files name it =
+    (bytes : List ℕ) → HasFile files name bytes → IsCertificateText ex sheet head bytes
+    → it ≡ verdict.Accepted (accepted_of head)
 
 -- a checker to which no claim was fed: the empty prefix is owed
 pub record IsFresh (c : Checking) : Type 0 where

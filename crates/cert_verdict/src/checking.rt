@@ -1,9 +1,13 @@
 //! The file of a certificate, from its name to the verdict.
 
-ghost use Rattle.std.specs.Prelude.{◌≡◌, ◌≤◌};
-ghost use Rattle.cert_verdict.specs.Answers.{Answers, unopened, unstarted};
+ghost use Rattle.std.specs.Prelude.{◌≡◌, ◌≤◌, ◌⊎◌, Err, IfErr, IfOk};
+ghost use Rattle.cert_text.specs.declared.answers.CertHead.{CertHead as AHead};
+ghost use Rattle.cert_verdict.specs.Answers.{Answers, IsHeadless, unopened, unstarted};
+ghost use Rattle.cert_verdict.specs.Judgments.{AcceptsValid};
+ghost use Rattle.floor_tables.specs.Tables.{AreNarrow};
 ghost use Rattle.fux_grid.specs.Exercises.{IsValid};
 ghost use Rattle.fux_port.specs.Counts.{Rose};
+ghost use Rattle.fux_port.specs.Files.{IsMissing};
 
 use crate::judging::judge;
 use crate::verdict::Verdict;
@@ -39,6 +43,20 @@ pub fn check_file<R: Threads + Sync, F: Shelf>(
     requires valid { IsValid ex.now }
     ensures answers { Answers ex.now sheet.now (F.files shelf.old) name.now
         (Rose (F.faults shelf.old) (F.faults shelf.new)) result }
+
+    // Each valid certificate is accepted.
+    ensures accepts { IfOk result
+        (λ it. (head : AHead) → AcceptsValid ex.now sheet.now head (F.files shelf.old) name.now it) }
+
+    // Where there is no file of the name, there is no verdict.
+    ensures missing { IsMissing (F.files shelf.old) name.now
+        → (result ≡ Err CheckFault.Unreadable) ⊎ (result ≡ Err CheckFault.Memory) }
+
+    // A menu that is too wide keeps the claims from being judged, and nothing else is told to be too wide.
+    ensures narrow { AreNarrow ex.now
+        → IfErr result (λ fault. (fault ≡ CheckFault.Unreadable) ⊎ (fault ≡ CheckFault.Memory)) }
+    ensures wide { (AreNarrow ex.now → ⊥) → IfOk result IsHeadless }
+
     ensures files { F.files shelf.new ≡ F.files shelf.old }
     ensures faults { F.faults shelf.old ≤ F.faults shelf.new }
 {

@@ -1,16 +1,13 @@
 //! A certificate's claims, read and judged one by one.
 
-ghost use Rattle.std.specs.Prelude.{◌≡◌, ◌≢◌, ◌+◌, ◌^◌, ◌≤◌, ℕ, [], List, None, Ok, IfOk, OnErr};
+ghost use Rattle.std.specs.Prelude.{◌≡◌, ◌≢◌, ◌+◌, ◌^◌, ◌≤◌, [], None, IfOk, OnErr};
 ghost use Rattle.cert_check.specs.Checking.{accepted_of};
-ghost use Rattle.cert_law.specs.Certificates.{Holds};
 ghost use Rattle.cert_reading.specs.Starts.{IsStarted};
-ghost use Rattle.cert_text.specs.declared.answers.Accepted.{Accepted as Answer};
 ghost use Rattle.cert_text.specs.declared.answers.Why.TheVariants as whys;
-ghost use Rattle.cert_verdict.specs.Judgments.{Finds, IsCertificateText, IsFresh};
+ghost use Rattle.cert_verdict.specs.Judgments.{AcceptsValid, Finds, IsFresh, Shows};
 ghost use Rattle.cert_verdict.specs.declared.verdict.Verdict.TheVariants as verdicts;
 ghost use Rattle.fux_grid.specs.Exercises.{IsValid};
 ghost use Rattle.fux_port.specs.Counts.{Rose};
-ghost use Rattle.fux_port.specs.Files.{HasFile};
 
 use crate::verdict::Verdict;
 use cert_check::Checker;
@@ -29,11 +26,9 @@ pub fn judge<F: Shelf>(
     requires started { IsStarted checker.exercise (F.files shelf.old) name.now checker.head reader.old }
     ensures finds { IfOk result
         (Finds checker.entry.exercise checker.entry.sheet checker.entry.head (F.files shelf.old) name.now) }
-    ensures shown { (answer : Answer) → result ≡ Ok (verdicts.Accepted answer)
-        → Holds checker.entry.exercise checker.entry.sheet checker.entry.head }
-    ensures accepts { (bytes : List ℕ) → HasFile (F.files shelf.old) name.now bytes
-        → IsCertificateText checker.entry.exercise checker.entry.sheet checker.entry.head bytes
-        → IfOk result (λ verdict. verdict ≡ verdicts.Accepted (accepted_of checker.entry.head)) }
+    ensures shown { IfOk result (Shows checker.entry.exercise checker.entry.sheet checker.entry.head) }
+    ensures accepts { IfOk result
+        (AcceptsValid checker.entry.exercise checker.entry.sheet checker.entry.head (F.files shelf.old) name.now) }
     ensures cause { OnErr result (Rose (F.faults shelf.old) (F.faults shelf.new)) }
     ensures files { F.files shelf.new ≡ F.files shelf.old }
     ensures faults { F.faults shelf.old ≤ F.faults shelf.new }
@@ -59,8 +54,7 @@ fn at_end(checker: &Checker<'_>) -> Verdict
     ensures accepted { checker.now.owed ≡ [] → result ≡ verdicts.Accepted (accepted_of checker.now.head) }
     ensures short { checker.now.owed ≢ [] →
         result ≡ verdicts.Claim (record { number = checker.now.count + 1; why = whys.Short }) }
-    ensures shown { (answer : Answer) → result ≡ verdicts.Accepted answer
-        → Holds checker.now.exercise checker.now.sheet checker.now.head }
+    ensures shown { Shows checker.now.exercise checker.now.sheet checker.now.head result }
 {
     match checker.finish() {
         Ok(answer) => Verdict::Accepted(answer),

@@ -2,12 +2,15 @@
 use Rattle.std.specs.Prelude.{◌≡◌, ℕ, ◌-◌, List, [], ◌∷◌, Option, Some, None, length}
 use Rattle.std.specs.List.{flat_map}
 use Rattle.cert_check.specs.Cases.{HasTables, IsCase, Matter}
+use Rattle.cert_check.specs.Prefixes.{IsJudged}
 use Rattle.cert_check.specs.Walks.{IsWalk, owed_by_walk}
+use Rattle.cert_check.specs.declared.judged.Judged.{Judged}
 use Rattle.cert_check.specs.declared.walk.Walk.{Walk}
 use Rattle.cert_law.specs.Certificates.{Holds}
-use Rattle.cert_law.specs.Writer.{claims_from, claims_of}
+use Rattle.cert_law.specs.Writer.{claims_from, claims_of, first_claim}
 use Rattle.cert_text.specs.Lines.{claim_line}
 use Rattle.cert_text.specs.declared.claim.Claim.{Claim}
+use Rattle.floor_tables.specs.Floors.{rest_of}
 use Rattle.floor_tables.specs.Tables.{Task}
 use Rattle.fux_grid.specs.declared.cell.Cell.{Cell}
 use Rattle.fux_grid.specs.Exercises.{columns_in}
@@ -34,6 +37,16 @@ claims_with (Some claim) later = claim ∷ later
 -- the lines of claims
 abbrev pub claim_lines : List Claim → List ℕ
 claim_lines claims = flat_map claim_line claims
+
+-- their lines
+abbrev pub lines_left : Matter → Walk → List ℕ
+lines_left t walk = claim_lines (claims_to_come t walk)
+
+-- the claim is the first one that is true of each prefix of which this is known, and that has this rest
+abbrev pub IsFirstClaim : Matter → Judged → Option ℕ → Claim → Type 0
+IsFirstClaim t judged rest claim =
+    (p : List (List Cell)) → IsJudged t p judged → rest ≡ rest_of t.exercise t.sheet p
+    → claim ≡ first_claim t.exercise t.sheet t.head p
 
 -- a walk from the empty prefix: all claims of the certificate are still to come
 pub record Begins (t : Matter) (begun : Walk) : Type 0 where

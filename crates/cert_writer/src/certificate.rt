@@ -1,11 +1,12 @@
 //! Writing a whole certificate.
 
-ghost use Rattle.std.specs.Prelude.{◌≡◌, ◌<◌, ◌≤◌, ◌⊎◌, Err, OnOk, length};
+ghost use Rattle.std.specs.Prelude.{◌≡◌, ◌<◌, ◌≤◌, Err, OnOk, length};
 ghost use Rattle.cert_law.specs.Writer.{written_certificate};
-ghost use Rattle.cert_writer.specs.Heads.{head_with};
+ghost use Rattle.cert_writer.specs.Ends.{EndsUnwritten, FailsShort};
+ghost use Rattle.cert_writer.specs.Heads.{certificate_with, head_with};
 ghost use Rattle.cert_writer.specs.Writing.{IsTask};
 ghost use Rattle.fux_port.specs.Counts.{Rose};
-ghost use Rattle.fux_port.specs.Written.{StopsShort, appended};
+ghost use Rattle.fux_port.specs.Written.{appended};
 
 use crate::begin::{begin, room_for_walk};
 use crate::copy::head_of;
@@ -29,18 +30,19 @@ pub(crate) fn write_for_head<K: Sink>(
     sink: &mut K,
 ) -> Result<(), CertWrite>
     requires task { IsTask (record { exercise = ex.now; sheet = sheet.now; head = head.now }) tables.now }
-    ensures ok { OnOk result (K.written sink.new ≡ appended (K.written sink.old) (written_certificate ex.now sheet.now head.now)) }
+    ensures ok { OnOk result (K.written sink.new
+        ≡ appended (K.written sink.old) (written_certificate ex.now sheet.now head.now)) }
 
     // A fault of writing is the sink's, and less than the certificate was written.
     ensures cause { result ≡ Err CertWrite.WriteFault → Rose (K.faults sink.old) (K.faults sink.new) }
-    ensures short { result ≡ Err CertWrite.WriteFault
-        → StopsShort (K.written sink.old) (K.written sink.new) (written_certificate ex.now sheet.now head.now) }
+    ensures short { FailsShort (K.written sink.old) (K.written sink.new)
+        (written_certificate ex.now sheet.now head.now) result }
 
     // Nothing is written of a certificate that is too long, nor where there is not enough memory.
-    ensures too_long { result ≡ Err CertWrite.TooLong → 1073741824 < length (written_certificate ex.now sheet.now head.now) }
-    ensures fits { 1073741824 < length (written_certificate ex.now sheet.now head.now)
-        → (result ≡ Err CertWrite.TooLong) ⊎ (result ≡ Err CertWrite.Memory) }
-    ensures unwritten { (result ≡ Err CertWrite.TooLong) ⊎ (result ≡ Err CertWrite.Memory) → K.written sink.new ≡ K.written sink.old }
+    ensures too_long { result ≡ Err CertWrite.TooLong
+        → 1073741824 < length (written_certificate ex.now sheet.now head.now) }
+    ensures fits { 1073741824 < length (written_certificate ex.now sheet.now head.now) → EndsUnwritten result }
+    ensures unwritten { EndsUnwritten result → K.written sink.new ≡ K.written sink.old }
     ensures faults { K.faults sink.old ≤ K.faults sink.new }
 {
     let Ok(text) = head_text(alloc, ex, sheet, head) else {
@@ -78,20 +80,18 @@ pub fn write_certificate<K: Sink>(
 ) -> Result<(), CertWrite>
     requires task { IsTask (record { exercise = ex.now; sheet = sheet.now; head = head_with best }) tables.now }
     ensures ok { OnOk result (K.written sink.new
-        ≡ appended (K.written sink.old) (written_certificate ex.now sheet.now (head_with best.entry))) }
+        ≡ appended (K.written sink.old) (certificate_with ex.now sheet.now best.entry)) }
 
     // A fault of writing is the sink's, and less than the certificate was written.
     ensures cause { result ≡ Err CertWrite.WriteFault → Rose (K.faults sink.old) (K.faults sink.new) }
-    ensures short { result ≡ Err CertWrite.WriteFault → StopsShort (K.written sink.old) (K.written sink.new)
-        (written_certificate ex.now sheet.now (head_with best.entry)) }
+    ensures short { FailsShort (K.written sink.old) (K.written sink.new)
+        (certificate_with ex.now sheet.now best.entry) result }
 
     // Nothing is written of a certificate that is too long, nor where there is not enough memory.
     ensures too_long { result ≡ Err CertWrite.TooLong
-        → 1073741824 < length (written_certificate ex.now sheet.now (head_with best.entry)) }
-    ensures fits { 1073741824 < length (written_certificate ex.now sheet.now (head_with best.entry))
-        → (result ≡ Err CertWrite.TooLong) ⊎ (result ≡ Err CertWrite.Memory) }
-    ensures unwritten { (result ≡ Err CertWrite.TooLong) ⊎ (result ≡ Err CertWrite.Memory)
-        → K.written sink.new ≡ K.written sink.old }
+        → 1073741824 < length (certificate_with ex.now sheet.now best.entry) }
+    ensures fits { 1073741824 < length (certificate_with ex.now sheet.now best.entry) → EndsUnwritten result }
+    ensures unwritten { EndsUnwritten result → K.written sink.new ≡ K.written sink.old }
     ensures faults { K.faults sink.old ≤ K.faults sink.new }
 {
     let Ok(head) = head_of(alloc, best) else {

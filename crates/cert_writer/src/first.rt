@@ -1,13 +1,11 @@
 //! The first claim that is true of a prefix.
 
-ghost use Rattle.std.specs.Prelude.{◌≡◌, ◌≤◌, IfSome, List};
+ghost use Rattle.std.specs.Prelude.{◌≡◌, ◌≤◌, IfSome};
 ghost use Rattle.std.specs.List.{find};
 ghost use Rattle.cert_check.specs.Cases.{matter_of};
-ghost use Rattle.cert_check.specs.Prefixes.{IsJudged, IsSmall};
-ghost use Rattle.cert_law.specs.Writer as words;
+ghost use Rattle.cert_check.specs.Prefixes.{IsSmall};
 ghost use Rattle.cert_text.specs.Lines.{IsClaim};
-ghost use Rattle.floor_tables.specs.Floors.{rest_of};
-ghost use Rattle.fux_grid.specs.declared.cell.Cell.{Cell as ACell};
+ghost use Rattle.cert_writer.specs.Writing.{IsFirstClaim};
 ghost use Rattle.fux_judge.specs.Rules.{rules_read};
 ghost use Rattle.rule_law.specs.Voices.{has_rule};
 
@@ -36,9 +34,7 @@ fn least_rule(broken: RuleSet) -> Option<u8>
 pub(crate) fn first_claim(case: &Case<'_>, judged: &Judged, rest: Option<u64>) -> Claim
     requires small { IsSmall judged.now }
     ensures claim { IsClaim result }
-    ensures value { (p : List (List ACell)) → IsJudged (matter_of case.now) p judged.now
-        → rest ≡ rest_of case.now.exercise.now case.now.sheet.now p
-        → result ≡ words.first_claim case.now.exercise.now case.now.sheet.now case.now.head.now p }
+    ensures value { IsFirstClaim (matter_of case.now) judged.now rest result }
 {
     if is_setting(case, judged) {
         return Claim::TheScore;

@@ -1,11 +1,10 @@
 //! The text of a certificate's head.
 
-ghost use Rattle.std.specs.Prelude.{◌≡◌, ◌==◌, ◌<◌, ◌%◌, ◌++◌, [], ◌∷◌, not, filter, IfOk, OnOk, string_bytes, length};
-ghost use Rattle.std.specs.List.{flat_map};
+ghost use Rattle.std.specs.Prelude.{◌≡◌, ◌<◌, ◌%◌, ◌++◌, IfOk, OnOk, string_bytes, length};
 ghost use Rattle.cert_law.specs.Certificates.{IsHeadSound};
 ghost use Rattle.cert_law.specs.Writer as words;
 ghost use Rattle.fux_grid.specs.Exercises.{IsValid};
-ghost use Rattle.fux_text.specs.Lines.{sing_text};
+ghost use Rattle.cert_writer.specs.Heads.{line_if_free};
 ghost use Rattle.fux_text.specs.ReadBack.{sing_lines};
 
 use cert_text::CertHead;
@@ -26,8 +25,7 @@ fn put_free(
     requires voice { v < score.now.voices }
     requires whole { length score.now.columns % 8 ≡ 0 }
     requires some { 0 < length score.now.columns }
-    ensures { OnOk result (string_bytes out.new ≡ string_bytes out.old
-        ++ flat_map (λ w. sing_text w score.now.columns) (filter (λ w. not (w == ex.now.cantus_voice)) (v ∷ []))) }
+    ensures { OnOk result (string_bytes out.new ≡ string_bytes out.old ++ line_if_free ex.now score.now v) }
 {
     if v == ex.cantus_voice {
         return Ok(());

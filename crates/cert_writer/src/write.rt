@@ -4,7 +4,7 @@ ghost use Rattle.std.specs.Prelude.{◌≡◌, ◌≤◌, ◌↔◌, ◌+◌, �
 ghost use Rattle.cert_check.specs.Cases.{matter_of};
 ghost use Rattle.cert_check.specs.Walks.{IsWalk};
 ghost use Rattle.cert_writer.specs.Waiting.{Puts};
-ghost use Rattle.cert_writer.specs.Writing.{IsTask, claim_lines, claims_to_come};
+ghost use Rattle.cert_writer.specs.Writing.{IsTask, lines_left};
 ghost use Rattle.fux_port.specs.Counts.{Rose};
 ghost use Rattle.fux_port.specs.Written.{StopsShort, appended};
 
@@ -23,7 +23,7 @@ fn fit(walk: &mut Walk, case: &Case<'_>, tables: &Tables<'_>, room: usize) -> bo
     requires task { IsTask (matter_of case.now) tables.now }
     requires walk { IsWalk (matter_of case.now) walk.old }
     ensures walk { IsWalk (matter_of case.now) walk.new }
-    ensures fits { IsTrue result ↔ (length (claim_lines (claims_to_come (matter_of case.now) walk.old)) ≤ room) }
+    ensures fits { IsTrue result ↔ (length (lines_left (matter_of case.now) walk.old) ≤ room) }
 {
     let mut left = room;
     while let Some(claim) = next_claim(walk, case, tables) {
@@ -41,7 +41,7 @@ pub(crate) fn is_within(walk: &mut Walk, case: &Case<'_>, tables: &Tables<'_>, s
     requires task { IsTask (matter_of case.now) tables.now }
     requires walk { IsWalk (matter_of case.now) walk.old }
     ensures walk { IsWalk (matter_of case.now) walk.new }
-    ensures fits { IsTrue result ↔ (size + length (claim_lines (claims_to_come (matter_of case.now) walk.old)) ≤ 1073741824) }
+    ensures fits { IsTrue result ↔ (size + length (lines_left (matter_of case.now) walk.old) ≤ 1073741824) }
 {
     size <= MOST_BYTES && fit(walk, case, tables, MOST_BYTES - size)
 }
@@ -75,9 +75,11 @@ pub(crate) fn write_claims<K: Sink>(
 ) -> Result<(), Failed>
     requires task { IsTask (matter_of case.now) tables.now }
     requires walk { IsWalk (matter_of case.now) walk.old }
-    ensures ok { OnOk result (K.written sink.new ≡ appended (K.written sink.old) (claim_lines (claims_to_come (matter_of case.now) walk.old))) }
+    ensures ok { OnOk result
+        (K.written sink.new ≡ appended (K.written sink.old) (lines_left (matter_of case.now) walk.old)) }
     ensures cause { OnErr result (Rose (K.faults sink.old) (K.faults sink.new)) }
-    ensures err { OnErr result (StopsShort (K.written sink.old) (K.written sink.new) (claim_lines (claims_to_come (matter_of case.now) walk.old))) }
+    ensures err { OnErr result
+        (StopsShort (K.written sink.old) (K.written sink.new) (lines_left (matter_of case.now) walk.old)) }
     ensures faults { K.faults sink.old ≤ K.faults sink.new }
 {
     let mut waiting: ArrayString<4096> = ArrayString::new();
@@ -97,9 +99,11 @@ pub(crate) fn write_parts<K: Sink>(
 ) -> Result<(), Failed>
     requires task { IsTask (matter_of case.now) tables.now }
     requires walk { IsWalk (matter_of case.now) walk.old }
-    ensures ok { OnOk result (K.written sink.new ≡ appended (K.written sink.old) (text.now ++ claim_lines (claims_to_come (matter_of case.now) walk.old))) }
+    ensures ok { OnOk result
+        (K.written sink.new ≡ appended (K.written sink.old) (text.now ++ lines_left (matter_of case.now) walk.old)) }
     ensures cause { OnErr result (Rose (K.faults sink.old) (K.faults sink.new)) }
-    ensures err { OnErr result (StopsShort (K.written sink.old) (K.written sink.new) (text.now ++ claim_lines (claims_to_come (matter_of case.now) walk.old))) }
+    ensures err { OnErr result
+        (StopsShort (K.written sink.old) (K.written sink.new) (text.now ++ lines_left (matter_of case.now) walk.old)) }
     ensures faults { K.faults sink.old ≤ K.faults sink.new }
 {
     write_all(sink, text.as_bytes())?;

@@ -1,9 +1,11 @@
 -- What `check` makes of its files (`checked_said`), and that no certificate whose verdict is told is missing (`written_is_there`,
 -- `part_is_there`).
-use Rattle.std.proofs.Common.{◌≡◌, ◌⊎◌, ℕ, zero, suc, ◌<◌, List, [], ◌∷◌, Contains, Option, Result, Ok, Err, get_or, inl, inr, refl, sym, subst, arith}
+use Rattle.std.proofs.Common.{◌≡◌, ◌⊎◌, ℕ, zero, suc, ◌<◌, List, [], ◌∷◌, Contains, Option, Result, Ok, Err, get_or, inl, inr, refl, ap, sym, subst, ◌∙◌, arith}
 use Rattle.cert_reading.specs.Readings.{MayBe}
-use Rattle.cert_text.specs.declared.answers.CertFault.TheVariants.{CertHead, CertWord, CertEnd, Memory}
+use Rattle.cert_text.specs.declared.answers.CertFault.TheVariants.{CertHead as WrongHead, CertWord, CertEnd, Memory}
+use Rattle.cert_text.specs.declared.answers.CertHead.{CertHead}
 use Rattle.cert_verdict.specs.Answers.{Answers}
+use Rattle.cert_verdict.specs.Judgments as cert
 use Rattle.cert_verdict.specs.declared.verdict.Verdict.{Verdict as CertVerdict}
 use Rattle.cert_verdict.specs.declared.verdict.Verdict.TheVariants.{Accepted, Claim, Text}
 use Rattle.fux_grid.specs.declared.exercise.Exercise.{Exercise}
@@ -18,9 +20,11 @@ use Rattle.fux_run.specs.declared.work.Stop.TheVariants as stop
 use Rattle.fux_run.specs.declared.work.Unmade.{Unmade}
 use Rattle.fux_run.specs.declared.work.Unmade.TheVariants as unmade
 use Rattle.fux_run.specs.declared.work.Verdict.{Verdict}
-use Rattle.fux_run.specs.Checked.{AnswersWithin, Judges}
+use Rattle.fux_run.specs.declared.work.Verdict.TheVariants.{Favorable, Unfavorable}
+use Rattle.fux_run.specs.Checked.{AnswersWithin, IsAccepted, IsChecked, Judges, told}
 use Rattle.fux_run.specs.Commands.{Task, as_list, certify, check, drill, fromsmf, limit_in, name_in, names_in, names_within, on_exercise}
 use Rattle.fux_run.specs.Runs.{IsMade, IsRefused, IsWritten, SaysWithin, work_output}
+use Rattle.fux_run.specs.Searched.{IsNarrow}
 use Rattle.fux_run.specs.Texts.{Work}
 use Rattle.fux_run.specs.Works.{AreContents, AreRead, ChecksText, Files, IsContent, IsReadyFor, IsReadyText, Makes, Works}
 use Rattle.fux_run.proofs.MakeLemmas.{have_bytes, works_on}
@@ -31,10 +35,38 @@ pub judged : (ex : Exercise) (sheet : Sheet) (files : Files) (name : List ℕ) (
     → Answers ex sheet files name rose (Ok it) → Judges ex sheet files name it
 judged ex sheet files name rose (Accepted answer) found = found
 judged ex sheet files name rose (Claim refused) found = found
-judged ex sheet files name rose (Text (CertHead at)) found = found
+judged ex sheet files name rose (Text (WrongHead at)) found = found
 judged ex sheet files name rose (Text (CertWord at)) found = found
 judged ex sheet files name rose (Text (CertEnd at)) found = found
 judged ex sheet files name rose (Text Memory) found = found
+
+-- ---- what is told of a verdict
+
+module _ (ex : Exercise) (sheet : Sheet) (files : Files) (name : List ℕ) (output : Output) where
+  -- what is favorable accepts a valid certificate
+  only_valid : (it : CertVerdict) → Judges ex sheet files name it → output ≡ told it → output.verdict ≡ Favorable
+      → IsAccepted ex sheet files name output
+  only_valid (Accepted answer) found e good = record {
+    head = found.head;
+    valid = found.finds.1;
+    told = e ∙ ap (λ a. told (Accepted a)) found.finds.0;
+    holds = found.shown answer refl;
+  }
+  only_valid (Claim refused) found e good = let no : Unfavorable ≡ Favorable = sym (ap (λ (o : Output). o.verdict) e) ∙ good in cc
+  only_valid (Text fault) found e good = let no : Unfavorable ≡ Favorable = sym (ap (λ (o : Output). o.verdict) e) ∙ good in cc
+
+  pub checked : (it : CertVerdict) → IsNarrow ex → Judges ex sheet files name it
+      → ((head : CertHead) → cert.AcceptsValid ex sheet head files name it) → output ≡ told it → IsChecked files name sheet ex output
+  checked it narrow judges accepts e = record {
+    narrow = narrow;
+    said = it;
+    judges = judges;
+    told = e;
+    exact = record {
+      only = only_valid it judges e;
+      each = λ bytes head has is. e ∙ ap told (accepts head bytes has is);
+    };
+  }
 
 -- ---- the file of a verdict isn't missing
 
@@ -45,7 +77,7 @@ judged_is_there : (ex : Exercise) (sheet : Sheet) (files : Files) (name : List �
     → IsMissing files name → ⊥
 judged_is_there ex sheet files name (Accepted answer) found missing = may_be_there files name _ found.finds.1 missing
 judged_is_there ex sheet files name (Claim refused) found missing = may_be_there files name _ found.finds missing
-judged_is_there ex sheet files name (Text (CertHead at)) found missing = may_be_there files name _ found missing
+judged_is_there ex sheet files name (Text (WrongHead at)) found missing = may_be_there files name _ found missing
 judged_is_there ex sheet files name (Text (CertWord at)) found missing = may_be_there files name _ found.finds missing
 judged_is_there ex sheet files name (Text (CertEnd at)) found missing = may_be_there files name _ found.finds missing
 judged_is_there ex sheet files name (Text Memory) found missing = may_be_there files name _ found.finds missing
