@@ -1,10 +1,12 @@
 //! Tables against the plain listing.
 
 use crate::leaps::Leaps;
-use crate::listing::least_of_list;
+use crate::listing::{least_of_list, least_of_settings};
 use chain_sums::{Links, Tables};
-use fux_grid::{Exercise, RangeLine};
+use floor_tables::fill_tables;
+use fux_grid::{Exercise, RangeLine, Relax, menu};
 use fux_pitch::{List, Mode, Pitch, parse_pitch};
+use penalty_sheet::{Sheet, default_sheet};
 use std::alloc::Global;
 use std::test::Fail;
 
@@ -75,6 +77,94 @@ fn tables_agree_with_the_listing(rt: HostRuntime) -> Result<(), Fail> {
         assert_eq!(rt; least_of_list(rt.alloc(), &links, 0, None)?, *want);
         for i in 12..24 {
             assert!(rt; agree_at(rt.alloc(), &links, &tables, i)?);
+        }
+    }
+    Ok(())
+}
+
+/// Exercises over the cantus firmus D3 E3 D3: the species of voice 1, the ranges of the free voices from the lowest, and rules that
+/// are relaxed: those of pairs (4, 5, 12, 16, 17) and of columns (10, 11, 13, 14, 23, 24).
+const SETTINGS: [(u8, &[(&str, &str)], &[u8]); 8] = [
+    (1, &[("A3", "D4")], &[]),
+    (2, &[("B3", "C4")], &[4, 5]),
+    (3, &[("C4", "D4")], &[4, 11, 13, 14]),
+    (4, &[("B3", "D4")], &[12, 24]),
+    (1, &[("F3", "A3"), ("C4", "E4")], &[]),
+    (1, &[("D3", "F3"), ("D3", "F3")], &[10, 16, 17]),
+    (1, &[("F3", "G3"), ("A3", "B3"), ("D4", "E4")], &[]),
+    (
+        1,
+        &[("F3", "G3"), ("A3", "B3"), ("C4", "D4")],
+        &[13, 14, 16, 17, 23, 24],
+    ),
+];
+
+/// The exercise, with the rules relaxed at a price.
+fn setting(
+    alloc: Global,
+    species: u8,
+    ends: &[(&str, &str)],
+    relaxed: &[u8],
+) -> Result<Exercise, Fail> {
+    let mut ranges = Vec::new(alloc);
+    let mut voice = 1;
+    for (low, high) in ends {
+        let (low, high) = (pitch(low)?, pitch(high)?);
+        ranges.push(RangeLine {
+            voice,
+            low,
+            high,
+            bars: None,
+        })?;
+        voice = voice.saturating_add(1);
+    }
+    let mut relax = Vec::new(alloc);
+    for rule in relaxed {
+        relax.push(Relax {
+            rule: *rule,
+            voices: None,
+            from: 1,
+            to: 3,
+            price: 7,
+        })?;
+    }
+    let (d, e) = (pitch("D3")?, pitch("E3")?);
+    Ok(Exercise {
+        mode: Mode::Dorian,
+        voices: voice,
+        bars: 3,
+        species,
+        species_voice: 1,
+        cantus_voice: 0,
+        cantus: List::new(vec![in alloc; d, e, d]?),
+        ranges: List::new(ranges),
+        relax: List::new(relax),
+        setting: None,
+    })
+}
+
+#[test]
+fn tables_agree_with_the_listing_of_settings(rt: HostRuntime) -> Result<(), Fail> {
+    let alloc = rt.alloc();
+    let sheet: Sheet = default_sheet();
+    for (species, ends, relaxed) in &SETTINGS {
+        let exercise = setting(alloc, *species, ends, relaxed)?;
+        assert!(rt; exercise.is_valid());
+        let Ok(tables) = fill_tables(&rt, alloc, &exercise, &sheet) else {
+            return Err("no tables".into());
+        };
+        assert_eq!(rt;
+            tables.start(),
+            least_of_settings(alloc, &exercise, &sheet, 0, None)?
+        );
+        for i in 14..24 {
+            let Ok(columns) = menu(alloc, &exercise, i) else {
+                return Err("no menu".into());
+            };
+            for column in &columns {
+                let rest = least_of_settings(alloc, &exercise, &sheet, i + 1, Some(column))?;
+                assert_eq!(rt; tables.rest(i, column), rest);
+            }
         }
     }
     Ok(())
