@@ -3,6 +3,8 @@
 #![tactic(auto)]
 
 #[cfg(test)]
+mod four_voices;
+#[cfg(test)]
 mod marks;
 #[cfg(test)]
 mod parts;
@@ -12,3 +14,7 @@ mod plain;
 mod pruning;
 #[cfg(test)]
 mod tables;
+#[cfg(test)]
+mod three_voices;
+#[cfg(test)]
+mod two_voices;

@@ -1,9 +1,16 @@
 //! Settings that are judged column by column, beside a plain reading of every rule and toll over the whole score.
+//!
+//! For two, three and four voices alike, the tables have each species in each voice, and the cantus firmus in each voice
+//! with the species in each of the others. Of each rule from S4 on they have, for each voice or each two that it may
+//! stand for, a strict break with no other strict one of that rule settled by the same column, and a relaxed one with a
+//! price; of S1 to S3 a strict one, and of each toll a cost. Where the two voices play different parts, as in S15 and in
+//! S18 to S21, that is so for either order of them. S21 can't stand for two voices above voice 0, since neither is the
+//! lowest one where a bar begins with a tie, and S3 is tried in the voice of the species: no menu breaks it elsewhere.
 
 ghost use Rattle.fux_grid.specs.Exercises.{IsValid};
 
 use crate::parts::parts;
-use crate::tables::JUDGED;
+use crate::{four_voices, tables, three_voices, two_voices};
 use case_texts::case_of;
 use fux_grid::{Exercise, Score};
 use fux_judge::{State, Verdict, penalty, step};
@@ -115,14 +122,13 @@ fn walk(
     Ok(Some((sum, least)))
 }
 
-/// Each setting is judged as the whole score. Where it breaks S3 no penalty is asked.
-#[test]
-fn settings_are_judged_as_the_whole_score(rt: HostRuntime) -> Result<(), Fail> {
+/// Each setting of a table is judged as the whole score. Where it breaks S3 no penalty is asked.
+fn judge_all(rt: &impl Abort, alloc: Global, table: &str) -> Result<(), Fail> {
     let sheet = default_sheet();
-    for text in JUDGED.split("\n\n") {
+    for text in table.split("\n\n") {
         let (text, wanted) = parts(text)?;
-        let case = case_of(rt.alloc(), text)?;
-        let paid = walk(&rt, rt.alloc(), &case.exercise, &sheet, &case.score)?;
+        let case = case_of(alloc, text)?;
+        let paid = walk(rt, alloc, &case.exercise, &sheet, &case.score)?;
         if let Some((paid, lines)) = paid {
             assert_eq!(rt;
                 penalty(&case.exercise, &sheet, &case.score),
@@ -135,4 +141,24 @@ fn settings_are_judged_as_the_whole_score(rt: HostRuntime) -> Result<(), Fail> {
         }
     }
     Ok(())
+}
+
+#[test]
+fn settings_are_judged_as_the_whole_score(rt: HostRuntime) -> Result<(), Fail> {
+    judge_all(&rt, rt.alloc(), tables::JUDGED)
+}
+
+#[test]
+fn two_voices_are_judged_as_the_whole_score(rt: HostRuntime) -> Result<(), Fail> {
+    judge_all(&rt, rt.alloc(), two_voices::JUDGED)
+}
+
+#[test]
+fn three_voices_are_judged_as_the_whole_score(rt: HostRuntime) -> Result<(), Fail> {
+    judge_all(&rt, rt.alloc(), three_voices::JUDGED)
+}
+
+#[test]
+fn four_voices_are_judged_as_the_whole_score(rt: HostRuntime) -> Result<(), Fail> {
+    judge_all(&rt, rt.alloc(), four_voices::JUDGED)
 }

@@ -147,7 +147,257 @@ relax 16 0 0
 2 0 S11 6
 2 0 S11 10
 2 0 S11 12
-3 0 S22 15";
+3 0 S22 15
+
+; first species in voice 2 of three
+ionian 1 2 0
+cantus C3 D3 C3
+C3:8 D3:8 C3:8
+B3:8 C4:8 A3:8
+A4:8 D5:8 G5:8
+=
+1 0 S12 2
+1 0 S12 4
+1 0 S14 3
+1 0 S14 6
+2 0 S14 3
+2 0 S14 6
+2 0 S17 5
+3 0 S6 4
+3 0 S13 3
+3 0 S14 6
+3 0 S22 7
+
+; second species in voice 1 of three
+lydian 2 1 2
+cantus F4 G4 F4
+G3:8 E3:8 F3:8
+r:4 F3:4 G3:4 E3:4 F3:8
+F4:8 G4:8 F4:8
+range 0 F2 E4
+range 1 B2 C5
+=
+1 0 S12 1
+1 0 S14 5
+1 4 S10 3
+1 4 S12 2
+1 4 S15 3
+2 0 S16 6
+2 4 S23 3
+3 0 S16 3
+3 0 S18 6
+
+; third species in voice 2 of three
+ionian 3 2 1
+cantus B4 D4 E3
+C3:8 G3:8 A3:8
+B4:8 D4:8 E3:8
+E5:2 E5:2 G5:2 F5:2 D5:2 E5:2 E5:2 F5:2 E5:8
+range 0 G2 G4
+=
+1 0 S12 1
+1 0 S12 4
+1 0 S14 3
+1 2 S5 4
+2 2 S15 6
+2 4 S5 4
+2 4 S15 6
+3 0 S10 3
+3 0 S13 3
+3 0 S14 3
+3 0 S18 5
+3 0 S18 6
+3 0 S22 7
+3 0 S24 1
+
+; fourth species in voice 1 of three
+lydian 4 1 0
+cantus F3 G3 F3
+F3:8 G3:8 F3:8
+r:4 C4:4 G3:4 A3:4 D3:8
+D5:8 B4:8 G4:8
+range 1 C3 C5
+range 2 G3 G5
+=
+1 0 S12 4
+1 4 S15 6
+2 0 S11 3
+2 4 S15 3
+2 4 S15 6
+3 0 S10 3
+3 0 S13 3
+3 0 S13 5
+3 0 S14 5
+3 0 S22 7
+
+; fifth species in voice 1 of three
+dorian 5 1 2
+cantus D4 E4 D4
+E3:8 E3:8 D3:8
+B3:4 D4:6 B3:1 C#4:1 C#4:4 D4:8
+D4:8 E4:8 D4:8
+range 0 F2 E4
+range 1 D3 D5
+=
+1 0 S12 1
+1 0 S14 5
+1 4 S15 3
+2 0 S19 3
+2 0 S19 6
+2 2 S25 2
+2 3 S25 2
+2 4 S5 2
+2 4 S26 2
+3 0 S16 5
+3 0 S17 5
+
+; first species in voice 0 of four
+aeolian 1 0 2
+cantus A3 G#3 A3
+D3:8 G#2:8 A2:8
+C3:8 G#2:8 A2:8
+A3:8 G#3:8 A3:8
+D5:8 E5:8 C5:8
+range 0 D2 C4
+range 1 F2 G4
+=
+1 0 S10 3
+1 0 S12 1
+1 0 S12 2
+1 0 S14 3
+1 0 S14 10
+2 0 S4 1
+2 0 S4 2
+2 0 S11 3
+2 0 S23 3
+2 0 S23 5
+2 0 S23 6
+3 0 S13 9
+3 0 S16 3
+3 0 S16 5
+3 0 S16 6
+
+; second species in voice 0 of four
+aeolian 2 0 3
+cantus B4 F4 A4
+D3:4 C3:4 F3:4 G#3:4 A3:8
+F3:8 F#3:8 F#3:8
+A3:8 C4:8 A3:8
+B4:8 F4:8 A4:8
+range 0 C2 D4
+=
+1 0 S12 1
+1 0 S12 2
+1 0 S14 12
+1 4 S15 3
+1 4 S15 9
+2 0 S4 2
+2 0 S14 3
+2 0 S14 10
+2 0 S18 5
+2 4 S4 1
+2 4 S10 3
+3 0 S10 3
+3 0 S13 3
+3 0 S17 9
+3 0 S18 9
+3 0 S26 2
+
+; fourth species in voice 2 of four
+dorian 4 2 3
+cantus C4 E4 D4
+F2:8 C#4:8 G3:8
+F3:8 G3:8 G3:8
+r:4 D4:8 C#4:4 D4:8
+C4:8 E4:8 D4:8
+range 0 E2 D4
+range 2 B2 D5
+=
+1 0 S12 1
+1 4 S10 12
+1 4 S12 4
+1 4 S15 12
+2 0 S4 1
+2 0 S9 1
+2 0 S10 3
+2 0 S14 3
+2 0 S19 5
+2 0 S19 12
+2 0 S21 5
+2 4 S23 5
+3 0 S4 1
+3 0 S17 9
+3 0 S24 1
+3 0 S26 1
+
+; fifth species in voice 2 of four
+lydian 5 2 3
+cantus F4 G4 F4
+F2:8 E2:8 F2:8
+F3:8 E3:8 F3:8
+F4:4 E4:8 B4:2 C5:2 B4:8
+F4:8 G4:8 F4:8
+range 0 D2 E4
+range 1 F2 G4
+range 2 B2 D5
+=
+1 4 S15 5
+1 4 S15 6
+1 4 S15 12
+2 0 S16 3
+2 0 S18 5
+2 0 S18 6
+2 0 S23 3
+2 0 S23 5
+2 0 S23 6
+2 4 S10 12
+2 6 S10 12
+3 0 S10 12
+3 0 S13 5
+3 0 S14 5
+3 0 S16 3
+
+; a quaver at the end of the list
+mixolydian 5 1 0
+cantus G3 F#3 G3
+G3:8 F#3:8 G3:8
+F4:2 E4:1 D4:1 E4:4 F4:2 E4:2 C4:2 D4:2 B3:7 C4:1
+=
+1 0 S12 2
+1 0 S14 3
+2 0 S14 3
+2 2 S15 3
+2 4 S15 3
+3 0 S3 2
+3 0 S13 3
+3 7 S15 3
+3 7 S25 2
+
+; a quaver at the end of the list, in an inner voice
+dorian 5 1 0
+cantus D3 C#3 D3
+D3:8 C#3:8 D3:8
+F3:6 E3:6 D3:2 F3:2 G3:7 A3:1
+C4:8 E4:8 C4:8
+A4:8 G4:8 C4:8
+=
+1 0 S12 2
+1 0 S12 4
+1 0 S14 5
+2 0 S14 9
+2 4 S15 3
+2 4 S15 6
+2 6 S15 3
+2 6 S15 6
+2 6 S15 10
+3 0 S3 2
+3 0 S13 3
+3 0 S13 5
+3 0 S13 9
+3 0 S14 3
+3 0 S14 5
+3 0 S14 9
+3 7 S25 2";
 
 /// Cantus firmi and theirs.
 pub const CANTUS_FIRMI: &str = "\
