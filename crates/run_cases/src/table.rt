@@ -1,14 +1,11 @@
 //! Runs over one file.
 
+use crate::answers::EXERCISE;
 use crate::words::words_of;
 use fux_port::{MemShelf, MemSink};
 use fux_run::run;
 use std::alloc::{AllocError, Global};
 use std::test::Fail;
-
-/// The text that `@` stands for.
-const EXERCISE: &str =
-    "fux 1\nmode dorian\nvoices 2\nbars 3\nspecies 1 voice 1\ncantus 0 D4 E4 D4\nrange 1 A4 D5\n";
 
 /// The beginning of a longer one, which `&` stands for, with the range and the first bars of a setting.
 const SETTING: &str =
