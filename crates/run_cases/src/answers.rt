@@ -4,6 +4,7 @@ use crate::words::words_of;
 use fux_port::{MemSink, Shelf};
 use fux_run::run;
 use std::alloc::Global;
+use std::process::Abort;
 use std::str;
 use std::test::Fail;
 use std::thread::Threads;
@@ -26,4 +27,9 @@ pub fn said<F: Shelf, R: Threads + Sync>(
     let output = str::from_utf8(out.bytes())?;
     let complaint = str::from_utf8(err.bytes())?;
     Ok(format!(in alloc; "{status} {output}{complaint}")?)
+}
+
+/// Ends the test where a text is another one than is wanted.
+pub fn agree(rt: &impl Abort, got: &str, wanted: &str) {
+    assert_eq!(rt; got, wanted);
 }

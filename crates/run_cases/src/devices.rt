@@ -3,7 +3,7 @@
 ghost use Rattle.std.specs.Prelude.{Some};
 ghost use Rattle.fux_port.specs.MemShelf.{file_at};
 
-use crate::answers::{EXERCISE, said};
+use crate::answers::{EXERCISE, agree, said};
 use crate::words::words_of;
 use fux_port::{Failed, MemShelf, MemSink, Shelf};
 use fux_run::run;
@@ -21,27 +21,27 @@ MTrk\x00\x00\x00\x1f\x00\xff\x03\x01\x43\x00\x90\x3e\x50\x8e\x7f\x3e\x00\
 MTrk\x00\x00\x00\x1a\x00\x91\x4a\x50\x8e\x7f\x4a\x00\
 \x01\x49\x50\x8e\x7f\x49\x00\x01\x4a\x50\x8e\x7f\x4a\x00\x00\xff\x2f\x00";
 
-/// The certificate of the best setting.
-const CERTIFICATE: &str = "fux-cert 1\nbest 7\nsing 1 D5:8 | C#5:8 | D5:8\nclaims\n\
+/// What `certify` says of the exercise: the status, and the certificate of the best setting.
+const CERTIFIED: &str = "0 fux-cert 1\nbest 7\nsing 1 D5:8 | C#5:8 | D5:8\nclaims\n\
 o\no\no\no\no\no\no\no\no\nb 14\nb 14\nb 16\no\no\no\no\no\no\no\no\nb 13\nb 13\nb 13\nb 13\nb 4\nb 22\n\
 o\no\no\no\no\no\no\no\nb 13\nb 4\nb 13\nb 4\nb 13\nf\nb 14\nb 12\nb 12\nb 12\no\no\no\no\no\no\no\no\nb 14\nb 14\n\
 o\no\no\no\no\no\no\no\nb 13\nb 4\nb 13\nb 13\nb 13\nb 22\no\no\no\no\no\no\no\no\nb 13\nb 13\nb 13\nb 13\nb 4\nb 22\n\
 o\no\no\no\no\no\no\no\nb 13\nb 4\nb 13\nb 4\nb 13\no\no\no\no\no\no\no\ns\nb 14\n";
 
-/// Runs, with how many bytes each reads, and all that it writes, where nothing fails.
+/// Runs, with how many bytes each reads, and its status with all that it writes, where nothing fails.
 const RUNS: [(&str, u64, &str); 4] = [
     (
         "compose A --sheet S",
         101,
-        "fux 1\nmode dorian\nvoices 2\nbars 3\nspecies 1 voice 1\ncantus 0 D4 E4 D4\nrange 1 A4 D5\n\
+        "0 fux 1\nmode dorian\nvoices 2\nbars 3\nspecies 1 voice 1\ncantus 0 D4 E4 D4\nrange 1 A4 D5\n\
         sing 1 D5:8 | C#5:8 | D5:8\n; penalty 7\n",
     ),
-    ("certify A --sheet S", 101, CERTIFICATE),
-    ("check A C --sheet S", 468, "accepted: best 7\n"),
+    ("certify A --sheet S", 101, CERTIFIED),
+    ("check A C --sheet S", 468, "0 accepted: best 7\n"),
     (
         "fromsmf M --mode dorian --species 1 --voice 1 --cantus 0",
         106,
-        "fux 1\nmode dorian\nvoices 2\nbars 3\nspecies 1 voice 1\ncantus 0 D4 E4 D4\nrange 1 C#5 D5\n\
+        "0 fux 1\nmode dorian\nvoices 2\nbars 3\nspecies 1 voice 1\ncantus 0 D4 E4 D4\nrange 1 C#5 D5\n\
         sing 1 D5:8 | C#5:8 | D5:8\n",
     ),
 ];
@@ -72,7 +72,8 @@ fn files_of_runs(alloc: Global, failing: u64) -> Result<Watched, Fail> {
     let mut shelf = MemShelf::with_piece(alloc, 7, &[failing])?;
     shelf.put("A", EXERCISE.as_bytes())?;
     shelf.put("S", SHEET.as_bytes())?;
-    shelf.put("C", CERTIFICATE.as_bytes())?;
+    let (_, certificate) = CERTIFIED.split_once(' ').ok_or("no status")?;
+    shelf.put("C", certificate.as_bytes())?;
     shelf.put("M", MIDI)?;
     Ok(Watched {
         shelf,
@@ -89,13 +90,13 @@ fn each_read_that_fails_ends_the_run(rt: HostRuntime) -> Result<(), Fail> {
             let out = MemSink::new(alloc, 1000, 1000, &[])?;
             let got = said(&rt, alloc, line, &mut shelf, out)?;
             let Some(name) = shelf.failed else {
+                agree(&rt, got.as_str(), expected);
                 // Each read was one that fails: the files take no fewer.
-                assert!(rt; failing > *length / 7, "{line}");
-                assert_eq!(rt; got.as_str().strip_prefix("0 "), Some(*expected), "{line}");
+                assert!(rt; failing > *length / 7);
                 break;
             };
             let complaint = format!(in alloc; "4 fux: cannot read {}\n", char::from(name))?;
-            assert_eq!(rt; got.as_str(), complaint.as_str(), "{line}");
+            agree(&rt, got.as_str(), complaint.as_str());
         }
     }
     Ok(())
@@ -103,10 +104,10 @@ fn each_read_that_fails_ends_the_run(rt: HostRuntime) -> Result<(), Fail> {
 
 /// The text says status 5, and a front of the output that is shorter than all of it.
 fn tells_front(text: &str, output: &str) -> bool {
-    let Some(rest) = text.strip_prefix("5 ") else {
+    let Some(front) = text.strip_suffix("fux: cannot write\n") else {
         return false;
     };
-    let Some(front) = rest.strip_suffix("fux: cannot write\n") else {
+    let (Some(front), Some(output)) = (front.strip_prefix("5 "), output.strip_prefix("0 ")) else {
         return false;
     };
     output.starts_with(front) && front.len() < output.len()
@@ -120,12 +121,12 @@ fn each_write_that_fails_leaves_a_front(rt: HostRuntime) -> Result<(), Fail> {
             let mut shelf = files_of_runs(alloc, 0)?;
             let out = MemSink::new(alloc, 1000, 16, &[failing])?;
             let got = said(&rt, alloc, line, &mut shelf, out)?;
-            if got.as_str().strip_prefix("0 ") == Some(*expected) {
-                // Each write was one that fails: the output takes no fewer.
-                assert!(rt; failing > expected.len() as u64 / 16, "{line}");
+            if got.as_str() == *expected {
+                // Each write was one that fails: the output, which stands behind a status, takes no fewer.
+                assert!(rt; failing > (expected.len() as u64).saturating_sub(2) / 16);
                 break;
             }
-            assert!(rt; tells_front(got.as_str(), expected), "{line}");
+            assert!(rt; tells_front(got.as_str(), expected), "{got}");
         }
     }
     Ok(())

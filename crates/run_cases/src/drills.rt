@@ -1,6 +1,6 @@
 //! A drill is the same each time, and composes what its definition says.
 
-use crate::answers::said;
+use crate::answers::{agree, said};
 use fux_port::{MemShelf, MemSink};
 use std::alloc::Global;
 use std::test::Fail;
@@ -39,7 +39,7 @@ fn a_drill_composes_its_exercise_each_time(rt: HostRuntime) -> Result<(), Fail> 
     let expected = drilled(alloc, composed.as_str())?;
     for _ in 0..2 {
         let got = said_of(&rt, alloc, "drill 1")?;
-        assert_eq!(rt; got.as_str(), expected.as_str());
+        agree(&rt, got.as_str(), expected.as_str());
     }
     Ok(())
 }
