@@ -13,7 +13,23 @@ use std::thread::Threads;
 pub const EXERCISE: &str =
     "fux 1\nmode dorian\nvoices 2\nbars 3\nspecies 1 voice 1\ncantus 0 D4 E4 D4\nrange 1 A4 D5\n";
 
-/// The status of a run over the files of a shelf, a space, and what it wrote to this sink and to standard error.
+/// The status of a run over the files of a shelf, a space, and all that these sinks have taken by then.
+pub fn said_into<F: Shelf, R: Threads + Sync>(
+    rt: &R,
+    alloc: Global,
+    line: &str,
+    shelf: &mut F,
+    out: &mut MemSink,
+    err: &mut MemSink,
+) -> Result<String, Fail> {
+    let words = words_of(alloc, line)?;
+    let status = run(rt, alloc, &words, shelf, out, err);
+    let output = str::from_utf8(out.bytes())?;
+    let complaint = str::from_utf8(err.bytes())?;
+    Ok(format!(in alloc; "{status} {output}{complaint}")?)
+}
+
+/// The same, where this sink is standard output, and standard error takes all that comes.
 pub fn said<F: Shelf, R: Threads + Sync>(
     rt: &R,
     alloc: Global,
@@ -21,12 +37,8 @@ pub fn said<F: Shelf, R: Threads + Sync>(
     shelf: &mut F,
     mut out: MemSink,
 ) -> Result<String, Fail> {
-    let words = words_of(alloc, line)?;
     let mut err = MemSink::new(alloc, 1000, 1000, &[])?;
-    let status = run(rt, alloc, &words, shelf, &mut out, &mut err);
-    let output = str::from_utf8(out.bytes())?;
-    let complaint = str::from_utf8(err.bytes())?;
-    Ok(format!(in alloc; "{status} {output}{complaint}")?)
+    said_into(rt, alloc, line, shelf, &mut out, &mut err)
 }
 
 /// Ends the test where a text is another one than is wanted.

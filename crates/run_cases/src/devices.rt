@@ -3,10 +3,8 @@
 ghost use Rattle.std.specs.Prelude.{Some};
 ghost use Rattle.fux_port.specs.MemShelf.{file_at};
 
-use crate::answers::{EXERCISE, agree, said};
-use crate::words::words_of;
+use crate::answers::{EXERCISE, agree, said, said_into};
 use fux_port::{Failed, MemShelf, MemSink, Shelf};
-use fux_run::run;
 use std::alloc::Global;
 use std::test::Fail;
 
@@ -140,20 +138,19 @@ fn a_failed_device_shows_in_the_status_or_not(rt: HostRuntime) -> Result<(), Fai
     shelf.put("bytes", b"\xff\xfe")?;
     let mut out = MemSink::new(alloc, 1000, 16, &[2])?;
     let mut err = MemSink::new(alloc, 1000, 16, &[7])?;
-    for (line, status, complaint) in [
-        ("compose A", 5, "fux: cannot write\n"),
-        ("cantus A", 4, "fux: cannot write\nfux: cannot read A"),
+    for (line, wanted) in [
+        ("compose A", "5 fux 1\nmode doriafux: cannot write\n"),
+        (
+            "cantus A",
+            "4 fux 1\nmode doriafux: cannot write\nfux: cannot read A",
+        ),
         (
             "mark bytes",
-            3,
-            "fux: cannot write\nfux: cannot read Afux: bytes:1:1: notutf8\n",
+            "3 fux 1\nmode doriafux: cannot write\nfux: cannot read Afux: bytes:1:1: notutf8\n",
         ),
     ] {
-        let words = words_of(alloc, line)?;
-        let got = run(&rt, alloc, &words, &mut shelf, &mut out, &mut err);
-        assert_eq!(rt; got, status, "{line}");
-        assert_eq!(rt; out.bytes(), b"fux 1\nmode doria".as_slice(), "{line}");
-        assert_eq!(rt; err.bytes(), complaint.as_bytes(), "{line}");
+        let got = said_into(&rt, alloc, line, &mut shelf, &mut out, &mut err)?;
+        agree(&rt, got.as_str(), wanted);
     }
     Ok(())
 }
