@@ -2,7 +2,13 @@
 #![tactic(auto)]
 
 #[cfg(test)]
+mod answers;
+#[cfg(test)]
+mod certificates;
+#[cfg(test)]
 mod devices;
+#[cfg(test)]
+mod drills;
 #[cfg(test)]
 mod long_files;
 #[cfg(test)]

@@ -2,9 +2,8 @@
 
 ghost use Rattle.std.specs.Prelude.{◌∷◌, [], Some, replicate};
 
-use crate::words::words_of;
+use crate::answers::{agree, said};
 use fux_port::{Failed, MemSink, Shelf};
-use fux_run::run;
 use std::test::Fail;
 
 /// A file of so many zeros, under any name. It counts the bytes that it gave.
@@ -30,20 +29,16 @@ impl Shelf for Zeros {
 
 #[test]
 fn a_file_of_any_length_is_given_up_past_the_limit(rt: HostRuntime) -> Result<(), Fail> {
-    let words = words_of(rt.alloc(), "compose zeros")?;
     for length in [65_536, 65_537, 4_294_967_296, u64::MAX] {
         let mut shelf = Zeros { length, given: 0 };
-        let mut out = MemSink::new(rt.alloc(), 1000, 1000, &[])?;
-        let mut err = MemSink::new(rt.alloc(), 1000, 1000, &[])?;
-        let status = run(&rt, rt.alloc(), &words, &mut shelf, &mut out, &mut err);
-        assert_eq!(rt; status, 3, "{length}");
-        assert_eq!(rt; out.bytes(), b"".as_slice(), "{length}");
-        let complaint = if length > 65_536 {
-            "fux: zeros:1:1: toolong\n"
+        let out = MemSink::new(rt.alloc(), 1000, 1000, &[])?;
+        let got = said(&rt, rt.alloc(), "compose zeros", &mut shelf, out)?;
+        let wanted = if length > 65_536 {
+            "3 fux: zeros:1:1: toolong\n"
         } else {
-            "fux: zeros:1:1: head\n"
+            "3 fux: zeros:1:1: head\n"
         };
-        assert_eq!(rt; err.bytes(), complaint.as_bytes(), "{length}");
+        agree(&rt, got.as_str(), wanted);
         assert_eq!(rt; shelf.given, length.min(65_537), "{length}");
     }
     Ok(())

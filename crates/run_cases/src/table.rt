@@ -1,21 +1,16 @@
 //! Runs over one file.
 
-use crate::words::words_of;
+use crate::answers::{EXERCISE, agree, said};
 use fux_port::{MemShelf, MemSink};
-use fux_run::run;
 use std::alloc::{AllocError, Global};
 use std::test::Fail;
-
-/// The text that `@` stands for.
-const EXERCISE: &str =
-    "fux 1\nmode dorian\nvoices 2\nbars 3\nspecies 1 voice 1\ncantus 0 D4 E4 D4\nrange 1 A4 D5\n";
 
 /// The beginning of a longer one, which `&` stands for, with the range and the first bars of a setting.
 const SETTING: &str =
     "fux 1\nmode dorian\nvoices 2\nbars 11\nspecies 1 voice 1\ncantus 0 D4 F4 E4 D4 G4 F4 A4 G4 F4 E4 D4\nrange 1 G4 D5\nsing 1 A4:8 | A4:8 | G4:8 | A4:8 | ";
 
-/// A line for each run: the words, the file `A`, the status, and what is written to standard output and to standard error. In these `/`
-/// is a line feed and `!` is `|`.
+/// A line for each run: the words, the file `A`, the status, and what is written to standard output and to standard
+/// error. In these `@` is the exercise of three bars, `/` is a line feed and `!` is `|`.
 fn cases() -> &'static str {
     "\
 compose A|@|0|@sing 1 D5:8 ! C#5:8 ! D5:8/; penalty 7/|
@@ -95,19 +90,17 @@ fn a_run_answers_as_the_table_says(rt: HostRuntime) -> Result<(), Fail> {
     let alloc = rt.alloc();
     for line in cases().lines() {
         let mut fields = line.split('|');
-        let words = words_of(alloc, fields.next().ok_or("no words")?)?;
+        let words = fields.next().ok_or("no words")?;
         let file = text_of(alloc, fields.next().ok_or("no file")?)?;
-        let status: u8 = fields.next().ok_or("no status")?.parse()?;
+        let status = fields.next().ok_or("no status")?;
         let output = text_of(alloc, fields.next().ok_or("no output")?)?;
         let complaint = text_of(alloc, fields.next().ok_or("no complaint")?)?;
         let mut shelf = MemShelf::new(alloc, &[])?;
         shelf.put("A", file.as_bytes())?;
-        let mut out = MemSink::new(alloc, 1000, 1000, &[])?;
-        let mut err = MemSink::new(alloc, 1000, 1000, &[])?;
-        let got = run(&rt, alloc, &words, &mut shelf, &mut out, &mut err);
-        assert_eq!(rt; err.bytes(), complaint.as_bytes(), "{line}");
-        assert_eq!(rt; out.bytes(), output.as_bytes(), "{line}");
-        assert_eq!(rt; got, status, "{line}");
+        let out = MemSink::new(alloc, 1000, 1000, &[])?;
+        let got = said(&rt, alloc, words, &mut shelf, out)?;
+        let wanted = format!(in alloc; "{status} {output}{complaint}")?;
+        agree(&rt, got.as_str(), wanted.as_str());
     }
     Ok(())
 }
