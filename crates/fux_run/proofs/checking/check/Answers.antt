@@ -2,8 +2,8 @@ use Rattle.fux_port.specs.Counts.{Rose}
 use Rattle.fux_run.proofs.CheckLemmas.{checked, judged}
 use Rattle.fux_run.proofs.checking.check.Goals as goal
 
-pub returns-in-Ok-clause-checks : goal.returns-in-Ok-clause-checks
-returns-in-Ok-clause-checks g c =
+pub returns-in_ok-output_on-in-Ok-clause-checks : goal.returns-in_ok-output_on-in-Ok-clause-checks
+returns-in_ok-output_on-in-Ok-clause-checks g c =
     let ex = c.args.exercise.now in
     let sheet = c.args.sheet.now in
     let files = g.F.Shelf.files c.args.shelf.now in
