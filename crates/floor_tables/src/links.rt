@@ -71,13 +71,7 @@ impl<'a> Links for ColumnLinks<'a> {
         column_cost(self.exercise, self.sheet, i, next)
     }
 
-    fn cost_from(
-        &self,
-        i: usize,
-        prev: Option<&Column>,
-        next: &Column,
-        known: u64,
-    ) -> Option<u64> {
+    fn cost_from(&self, i: usize, prev: Option<&Column>, next: &Column, known: u64) -> Option<u64> {
         let pair = pair_cost(self.exercise, self.sheet, i, prev, next)?;
         Some(known + pair)
     }

@@ -1,4 +1,4 @@
-use Rattle.std.proofs.Common.{◌≡◌, ◌+◌, Option, Some, None, sym, ◌∙◌, subst}
+use Rattle.std.proofs.Common.{◌≡◌, ◌+◌, Some, None, sym, ◌∙◌, subst}
 use Rattle.fux_judge.specs.Links.{column_of, given, link_of}
 use Rattle.fux_judge.proofs.LinkLemmas.{link_from_parts}
 use Rattle.floor_tables.specs.Tables.{Task}
