@@ -4,24 +4,27 @@ use Rattle.cert_writer.specs.Heads.{head_with}
 use Rattle.fux_run.proofs.CertifyLemmas.{all_written, part_written, too_long}
 use Rattle.fux_run.proofs.certifying.put_certificate.Goals as goal
 
-pub returns-in-Ok-write_certificate : goal.returns-in-Ok-write_certificate
-returns-in-Ok-write_certificate g c =
-    all_written c.args.exercise.now c.args.sheet.now (head_with c.args.best) c.args.verdict c.requires.valid c.requires.holds
-    (Rose (g.K.Sink.faults c.args.out.now) (g.K.Sink.faults c.write_certificate.new.sink)) _ _
-    (λ long. elim (c.write_certificate.ensures.fits long) [ inl is ↦ cc (is, c.in-Ok-write_certificate.is) | inr is ↦ cc (is, c.in-Ok-write_certificate.is) ])
-    c.in-Ok-write_certificate.ensures.ok
+pub returns-in-Ok : goal.returns-in-Ok
+returns-in-Ok g c =
+    let space = c.args.space.now in
+    all_written space.exercise space.sheet (head_with c.args.best) c.args.verdict c.requires.valid c.requires.holds
+    (Rose (g.K.Sink.faults c.args.out.now) (g.K.Sink.faults c.certify.new.sink)) _ _
+    (λ long. elim (c.certify.ensures.fits long) [ inl is ↦ cc (is, c.in-Ok.is) | inr is ↦ cc (is, c.in-Ok.is) ])
+    c.in-Ok.ensures.ok
 
 pub returns-in-Err-WriteFault : goal.returns-in-Err-WriteFault
 returns-in-Err-WriteFault g c =
+    let space = c.args.space.now in
     let fault = c.in-Err-WriteFault.is ∙ ap Err c.in-Err-WriteFault.field-0-is in
-    part_written c.args.exercise.now c.args.sheet.now (head_with c.args.best) c.args.verdict c.requires.valid c.requires.holds
-    (Rose (g.K.Sink.faults c.args.out.now) (g.K.Sink.faults c.write_certificate.new.sink)) _ _
-    (λ long. elim (c.write_certificate.ensures.fits long) [ inl is ↦ cc (is, fault) | inr is ↦ cc (is, fault) ])
-    (c.write_certificate.ensures.cause fault) (c.write_certificate.ensures.short fault)
+    part_written space.exercise space.sheet (head_with c.args.best) c.args.verdict c.requires.valid c.requires.holds
+    (Rose (g.K.Sink.faults c.args.out.now) (g.K.Sink.faults c.certify.new.sink)) _ _
+    (λ long. elim (c.certify.ensures.fits long) [ inl is ↦ cc (is, fault) | inr is ↦ cc (is, fault) ])
+    (c.certify.ensures.cause fault) (c.certify.ensures.short fault)
 
 pub returns-in-Err-TooLong : goal.returns-in-Err-TooLong
 returns-in-Err-TooLong g c =
+    let space = c.args.space.now in
     let fault = c.in-Err-TooLong.is ∙ ap Err c.in-Err-TooLong.field-0-is in
-    too_long c.args.exercise.now c.args.sheet.now (head_with c.args.best) c.args.verdict c.requires.valid c.requires.holds
-    (Rose (g.K.Sink.faults c.args.out.now) (g.K.Sink.faults c.write_certificate.new.sink)) _ _
-    (c.write_certificate.ensures.too_long fault) (c.write_certificate.ensures.unwritten (inl fault))
+    too_long space.exercise space.sheet (head_with c.args.best) c.args.verdict c.requires.valid c.requires.holds
+    (Rose (g.K.Sink.faults c.args.out.now) (g.K.Sink.faults c.certify.new.sink)) _ _
+    (c.certify.ensures.too_long fault) (c.certify.ensures.unwritten (inl fault))
