@@ -39,7 +39,13 @@ pub fn certify<K: Sink, R: Threads + Sync>(
     };
     match found {
         Found::Best { score, penalty } => {
-            put_certificate(alloc, &space, Some((&score, penalty)), Verdict::Favorable, out)
+            put_certificate(
+                alloc,
+                &space,
+                Some((&score, penalty)),
+                Verdict::Favorable,
+                out,
+            )
         }
         Found::Nothing => put_certificate(alloc, &space, None, Verdict::Unfavorable, out),
         Found::Spent { bound } => put_bound(alloc, bound, out),

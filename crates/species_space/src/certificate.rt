@@ -37,5 +37,12 @@ pub fn certify<K: Sink>(
     ensures unwritten { (result ≡ Err CertWrite.TooLong) ⊎ (result ≡ Err CertWrite.Memory) → K.written sink.new ≡ K.written sink.old }
     ensures faults { K.faults sink.old ≤ K.faults sink.new }
 {
-    write_certificate(alloc, space.exercise, space.sheet, &space.tables, best, sink)
+    write_certificate(
+        alloc,
+        space.exercise,
+        space.sheet,
+        &space.tables,
+        best,
+        sink,
+    )
 }
