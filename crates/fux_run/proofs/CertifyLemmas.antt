@@ -1,6 +1,6 @@
 -- What `certify` writes: the certificate of a head that holds (`all_written`, `part_written`, `too_long`), and what it is of the
 -- exercise's best setting (`of_best`, `of_none`, `of_bound`).
-use Rattle.std.proofs.Common.{◌≡◌, ℕ, ◌<◌, ◌≤◌, List, [], ◌∷◌, Option, Result, Ok, Err, length, inl, inr, refl, sym, arith}
+use Rattle.std.proofs.Common.{◌≡◌, ℕ, ◌<◌, ◌≤◌, List, [], ◌∷◌, Option, Result, Ok, Err, length, inl, inr, refl, subst, sym, arith}
 use Rattle.std.proofs.lemmas.Bool.Decides.{leb_tells}
 use Rattle.cert_law.specs.Certificates.{Holds}
 use Rattle.cert_law.specs.Writer.{written_certificate}
@@ -11,6 +11,7 @@ use Rattle.cert_text.specs.declared.answers.CertHead.TheVariants.{Best, Nothing}
 use Rattle.fux_grid.specs.declared.exercise.Exercise.{Exercise}
 use Rattle.fux_grid.specs.Exercises.{IsValid}
 use Rattle.fux_grid.specs.Grid.{Grid}
+use Rattle.floor_tables.specs.Tables.{Task as Searched}
 use Rattle.fux_port.specs.Written.{StopsShort, appended}
 use Rattle.penalty_sheet.specs.declared.sheet.Sheet.{Sheet}
 use Rattle.species_space.specs.Loads.{IsNothingWithin}
@@ -32,7 +33,8 @@ use Rattle.fux_run.specs.declared.work.Verdict.TheVariants.{Favorable, Unfavorab
 use Rattle.fux_run.specs.Certified.{Certifies, CertifiesHead, IsCertificateOf, RefusesCertifying}
 use Rattle.fux_run.specs.Composed.{IsBoundText, bound_line}
 use Rattle.fux_run.specs.Runs.{Does, Ended, IsWritten, SaysWritten, Writes, work_output}
-use Rattle.fux_run.specs.Searched.{IsBestFound, IsBound, IsNarrow, RefusesWidth}
+use Rattle.fux_run.specs.declared.searching.Found.TheVariants as found
+use Rattle.fux_run.specs.Searched.{IsBestFound, IsBound, IsFound, IsNarrow, IsSpaceOf, RefusesWidth}
 use Rattle.fux_run.specs.Sheets.{ReadsSheet, sheet_said}
 use Rattle.fux_run.specs.Texts.{IsTheText, ReadsText, Work}
 
@@ -132,6 +134,28 @@ module _ (budget : ℕ) (sheet : Sheet) (ex : Exercise) (narrow : IsNarrow ex) w
     fits = λ other. absurd (other made.0);
   }
   of_bound bound is (Err refusal) made = absurd made
+
+-- what is written of a space that was searched is written of its exercise
+module _ (budget : ℕ) (sheet : Sheet) (ex : Exercise) (space : Searched) where
+  pub none_certified : (cut : Type 0) (old new : Option (List ℕ)) (result : Result Verdict Halt) → IsSpaceOf ex sheet space
+      → IsFound space.exercise space.sheet budget found.Nothing
+      → Writes (CertifiesHead space.exercise space.sheet Nothing Unfavorable) cut old new result → Writes (Certifies budget sheet ex) cut old new result
+  none_certified cut old new result is =
+      subst
+      (λ s. IsFound s.exercise s.sheet budget found.Nothing → Writes (CertifiesHead s.exercise s.sheet Nothing Unfavorable) cut old new result
+      → Writes (Certifies budget sheet ex) cut old new result)
+      (sym is.0)
+      (λ none. writes_so (CertifiesHead ex sheet Nothing Unfavorable) (Certifies budget sheet ex) cut old new result (of_none budget sheet ex is.1 none))
+
+  pub bound_told : (bound : ℕ) (cut : Type 0) (old new : Option (List ℕ)) (result : Result Verdict Halt) → IsSpaceOf ex sheet space
+      → IsFound space.exercise space.sheet budget (found.Spent bound)
+      → Writes (IsBoundText bound) cut old new result → Writes (Certifies budget sheet ex) cut old new result
+  bound_told bound cut old new result is =
+      subst
+      (λ s. IsFound s.exercise s.sheet budget (found.Spent bound) → Writes (IsBoundText bound) cut old new result
+      → Writes (Certifies budget sheet ex) cut old new result)
+      (sym is.0)
+      (λ told. writes_so (IsBoundText bound) (Certifies budget sheet ex) cut old new result (of_bound budget sheet ex is.1 bound told))
 
 pub bound_written : (bound : ℕ) (cut : Type 0) (old new : Option (List ℕ)) → new ≡ appended old (bound_line bound)
     → Writes (IsBoundText bound) cut old new (Ok Spent)
