@@ -1,0 +1,5 @@
+//! Each call on certificates that takes memory, called with ample memory.
+#![tactic(auto)]
+
+#[cfg(test)]
+mod calls;
