@@ -96,7 +96,7 @@ fn breaks_one_way(newest: &NewestColumns, rule: u8, ex: &Exercise, i: usize, v: 
     requires voices { ex.now.voices ≤ 4 }
     requires room { newest.now.len ≤ 192 }
     requires place { i < newest.now.len }
-    ensures { (s : Columns) → IsKept ex.now newest.now s i → 
+    ensures { (s : Columns) → IsKept ex.now newest.now s i →
         result ≡ (voices.is_free ex.now v && reading_of (clash_rule rule ex.now) s i v w) }
 {
     if !is_free(ex, v) {
@@ -138,7 +138,7 @@ fn is_open_one_way(
     requires valid { IsValid ex.now }
     requires within { end ≤ newest.now.len }
     requires place { i < end }
-    ensures { (s : Columns) → IsKept ex.now newest.now s i → 
+    ensures { (s : Columns) → IsKept ex.now newest.now s i →
         result ≡ (voices.is_free ex.now v && is_open_within ex.now s end i v w) }
 {
     is_free(ex, v) && is_open_kept(newest, ex, i, end, v, w)
@@ -155,7 +155,7 @@ fn is_passing_open(
     requires valid { IsValid ex.now }
     requires within { end ≤ newest.now.len }
     requires place { i < end }
-    ensures { (s : Columns) → IsKept ex.now newest.now s i → 
+    ensures { (s : Columns) → IsKept ex.now newest.now s i →
         result ≡ on_some_way ex.now (is_open_within ex.now s end i) voices.bits }
 {
     let Some((v, w)) = pair_of(voices) else {
