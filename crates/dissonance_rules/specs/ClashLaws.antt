@@ -14,6 +14,7 @@ use Rattle.fux_grid.specs.Cells.{cell_in, first_of, onsets_from, pitch_of}
 use Rattle.fux_grid.specs.Columns.{earlier, line}
 use Rattle.fux_grid.specs.Exercises.{bar_of, slot_of, species_in}
 use Rattle.fux_grid.specs.Menus.{IsInMenu}
+use Rattle.rule_law.specs.Law.{or_each}
 use Rattle.rule_law.specs.After.{next_onset, onset_pitch, onsets_after, second_next_onset, second_of}
 use Rattle.rule_law.specs.Bars.{begins_bar}
 use Rattle.rule_law.specs.Growth.{EnoughStays}
@@ -236,10 +237,6 @@ pub passing_is_local : (ex : Exercise) (voices : ℕ) → IsLocal ex (reading_of
 passing_is_local ex voices = local_from_ahead ex (clash_row 15 ex voices) (passing_enough ex voices) (passing_stays_ahead ex voices)
 
 -- ---- what is settled stays so, and in a list of all columns each is settled
-
-or_each : (a b c d : Bool) → (a ≡ true → c ≡ true) → (b ≡ true → d ≡ true) → (a || b) ≡ true → (c || d) ≡ true
-or_each true b c d f g h = ap (λ x. x || d) (f refl)
-or_each false b c d f g h = or_right c d (g h)
 
 four_stay : (ahead t : List (List Cell)) → nat_le 4 (length ahead) ≡ true → nat_le 4 (length (ahead ++ t)) ≡ true
 four_stay ahead t h =

@@ -2,7 +2,8 @@
 use Rattle.std.specs.Prelude.{ℕ, ◌==◌, Bool, not, ◌||◌, nat_le, List, length, if◌then◌else◌}
 use Rattle.fux_grid.specs.declared.cell.Cell.{Cell}
 use Rattle.fux_grid.specs.declared.exercise.Exercise.{Exercise}
-use Rattle.rule_law.specs.Places.{Row, at_once}
+use Rattle.rule_law.specs.Growth.{newly}
+use Rattle.rule_law.specs.Places.{Row, at_once, settled_by}
 use Rattle.rule_law.specs.Whole.{is_whole}
 use Rattle.rule_law.specs.Ways.{on_some_way}
 use Rattle.dissonance_rules.specs.Ligatures.{is_bad_suspension, lacks_preparation, lacks_resolution}
@@ -23,6 +24,10 @@ clash_row rule ex voices i behind now ahead = on_some_way ex (clash_rule rule ex
 -- S15 is settled where it is open for no way to name the voices
 abbrev pub passing_enough : Exercise → ℕ → Row Bool
 passing_enough ex voices i behind now ahead = not (on_some_way ex (is_open_clash ex i now ahead) voices)
+
+-- the last column settles it at a place, and none before it did
+abbrev pub newly_passing : Exercise → ℕ → List (List Cell) → List Cell → ℕ → Bool
+newly_passing ex voices = newly (settled_by (passing_enough ex voices))
 
 -- S20 is settled at the fourth column from the place, and in a list of all columns
 abbrev pub resolution_enough : Exercise → Row Bool

@@ -1,5 +1,5 @@
 -- Places of a list that the newest columns tell of.
-use Rattle.std.specs.Prelude.{◌≡◌, ℕ, ◌+◌, ◌<◌, ◌≤◌, true, List, drop, take, length}
+use Rattle.std.specs.Prelude.{◌≡◌, ℕ, ◌+◌, ◌<◌, ◌≤◌, true, List, ◌∷◌, drop, take, length}
 use Rattle.fux_grid.specs.declared.cell.Cell.{Cell}
 use Rattle.fux_grid.specs.declared.cell.Onset.{Onset}
 use Rattle.fux_grid.specs.declared.exercise.Exercise.{Exercise}
@@ -13,6 +13,10 @@ use Rattle.rule_law.specs.Voices.{is_free}
 -- the notes that a voice starts from column n on, in the first columns of a list
 abbrev pub notes_within : List (List Cell) → ℕ → ℕ → ℕ → List Onset
 notes_within s end v n = onsets_from n (line v (drop n (take end s)))
+
+-- a note is the first of them, and the others are those after it
+abbrev pub IsFirstWithin : List (List Cell) → ℕ → ℕ → ℕ → Onset → Type 0
+IsFirstWithin s end v n onset = notes_within s end v n ≡ onset ∷ notes_within s end v (onset.start + 1)
 
 -- the newest columns of the list are kept, among them those from the third before the place on; the previous pitch of a free voice there
 -- is the one that it sounds in the column before

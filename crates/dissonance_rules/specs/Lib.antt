@@ -7,3 +7,4 @@ pub mod Ligatures
 pub mod Locality
 pub mod Passing
 pub mod Rows
+pub mod Told

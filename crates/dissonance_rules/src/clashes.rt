@@ -1,8 +1,7 @@
 //! The rules of a free voice that clashes with another one: S15, S19, S20 and S21.
 
-ghost use Rattle.std.specs.Prelude.{◌≡◌, ◌+◌, ◌<◌, ◌≤◌, [], length, drop, slice_index_or};
-ghost use Rattle.fux_grid.specs.Columns.{earlier};
-ghost use Rattle.fux_grid.specs.Exercises.{IsValid, columns_in};
+ghost use Rattle.std.specs.Prelude.{◌≡◌, ◌<◌, length};
+ghost use Rattle.fux_grid.specs.Exercises.{IsValid};
 ghost use Rattle.rule_law.specs.Places.{reading_of, settled_by};
 ghost use Rattle.dissonance_rules.specs.Clashes as words;
 ghost use Rattle.dissonance_rules.specs.Clashes.{clash_enough, clash_row};
@@ -15,8 +14,7 @@ use rule_law::{is_free, pair_of};
 /// Whether a rule is broken for one way to name the voices.
 fn breaks_one_way(rule: u8, ex: &Exercise, score: &Score, i: usize, v: u8, w: u8) -> bool
     requires { i < length score.now.columns }
-    ensures { result ≡ words.clash_rule rule ex.now i (earlier score.now.columns i)
-        (slice_index_or score.now.columns i []) (drop (i + 1) score.now.columns) v w }
+    ensures { result ≡ reading_of (words.clash_rule rule ex.now) score.now.columns i v w }
 {
     match rule {
         15 => clashes_badly(ex, score, i, v, w),

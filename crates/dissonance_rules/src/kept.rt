@@ -1,10 +1,9 @@
 //! Columns and notes of a list, read from its newest columns.
 
-ghost use Rattle.std.specs.Prelude.{◌≡◌, ◌≤◌, ◌<◌, ◌+◌, ◌∷◌, [], ℕ, List, IfSome, length, drop, slice_index_or};
-ghost use Rattle.fux_grid.specs.declared.cell.Cell.{Cell as ACell};
+ghost use Rattle.std.specs.Prelude.{◌≡◌, ◌≤◌, ◌<◌, ◌+◌, [], ℕ, IfSome, length, drop, slice_index_or};
 ghost use Rattle.fux_grid.specs.Cells.{first_of};
-ghost use Rattle.fux_grid.specs.Columns.{earlier};
-ghost use Rattle.dissonance_rules.specs.Kept.{IsKept, notes_within};
+ghost use Rattle.fux_grid.specs.Columns.{Columns, earlier};
+ghost use Rattle.dissonance_rules.specs.Kept.{IsFirstWithin, IsKept, notes_within};
 
 use fux_grid::{Cell, Exercise, Onset, cell_of};
 use rule_law::NewestColumns;
@@ -13,8 +12,7 @@ use rule_law::NewestColumns;
 #[inline]
 pub(crate) fn column_at<'a>(newest: &'a NewestColumns, ex: &Exercise, i: usize) -> &'a [Cell]
     requires { ex.now.voices ≤ 4 }
-    ensures { (s : List (List ACell)) → IsKept ex.now newest.now s i
-        → result.now ≡ slice_index_or s i [] }
+    ensures { (s : Columns) → IsKept ex.now newest.now s i → result.now ≡ slice_index_or s i [] }
 {
     newest.at(i, usize::from(ex.voices))
 }
@@ -29,8 +27,7 @@ pub(crate) fn column_behind<'a>(
 ) -> &'a [Cell]
     requires voices { ex.now.voices ≤ 4 }
     requires near { k ≤ 2 }
-    ensures { (s : List (List ACell)) → IsKept ex.now newest.now s i
-        → result.now ≡ slice_index_or (earlier s i) k [] }
+    ensures { (s : Columns) → IsKept ex.now newest.now s i → result.now ≡ slice_index_or (earlier s i) k [] }
 {
     if k >= i {
         return &[];
@@ -50,8 +47,7 @@ pub(crate) fn column_ahead<'a>(
     requires place { i < newest.now.len }
     requires room { newest.now.len ≤ 192 }
     requires near { k ≤ 192 }
-    ensures { (s : List (List ACell)) → IsKept ex.now newest.now s i
-        → result.now ≡ slice_index_or (drop (i + 1) s) k [] }
+    ensures { (s : Columns) → IsKept ex.now newest.now s i → result.now ≡ slice_index_or (drop (i + 1) s) k [] }
 {
     newest.at(i + 1 + k, usize::from(ex.voices))
 }
@@ -67,12 +63,12 @@ pub(crate) fn note_within(
     requires voices { ex.now.voices ≤ 4 }
     requires within { end ≤ newest.now.len }
     requires order { n ≤ end }
-    ensures value { (s : List (List ACell)) (i : ℕ) → IsKept ex.now newest.now s i → i < n
-        → result ≡ first_of (notes_within s end v n) }
+    ensures value { (s : Columns) (i : ℕ) → IsKept ex.now newest.now s i → i < n →
+        result ≡ first_of (notes_within s end v n) }
     ensures from { IfSome result (λ onset. n ≤ onset.start) }
     ensures start { IfSome result (λ onset. onset.start < end) }
-    ensures rest { (s : List (List ACell)) (i : ℕ) → IsKept ex.now newest.now s i → i < n
-        → IfSome result (λ onset. notes_within s end v n ≡ onset ∷ notes_within s end v (onset.start + 1)) }
+    ensures rest { (s : Columns) (i : ℕ) → IsKept ex.now newest.now s i → i < n →
+        IfSome result (IsFirstWithin s end v n) }
 {
     for j in n..end {
         if let Cell::Start(pitch) = cell_of(newest.at(j, usize::from(ex.voices)), v as usize) {

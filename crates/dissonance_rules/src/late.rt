@@ -1,21 +1,18 @@
 //! Breaks of the late rules that the newest column settles, read from the newest columns.
 
-ghost use Rattle.std.specs.Prelude.{◌≡◌, ◌≤◌, ◌<◌, ◌+◌, ◌&&◌, ◌∷◌, ◌++◌, [], ℕ, List, IsTrue, true, length, drop, take, slice_index_or};
+ghost use Rattle.std.specs.Prelude.{◌≡◌, ◌≤◌, ◌<◌, ◌+◌, ◌&&◌, ◌∷◌, ◌++◌, [], List, IsTrue};
 ghost use Rattle.fux_grid.specs.declared.cell.Cell.{Cell as ACell};
-ghost use Rattle.fux_grid.specs.Columns.{earlier};
+ghost use Rattle.fux_grid.specs.Columns.{Columns};
 ghost use Rattle.fux_grid.specs.Exercises.{IsValid, columns_in};
-ghost use Rattle.rule_law.specs.Newest.{AreNewestOf};
-ghost use Rattle.rule_law.specs.Growth.{newly};
-ghost use Rattle.rule_law.specs.Places.{reading_of, settled_by};
-ghost use Rattle.rule_law.specs.Prefixes.{GoesOn};
-ghost use Rattle.rule_law.specs.Rulebooks.{IsAmong, newly_breaks};
+ghost use Rattle.rule_law.specs.Late.{TellsBreak};
+ghost use Rattle.rule_law.specs.Places.{reading_of};
 ghost use Rattle.rule_law.specs.Voices as voices;
 ghost use Rattle.rule_law.specs.Ways.{on_some_way};
 ghost use Rattle.dissonance_rules.specs.Book as book;
 ghost use Rattle.dissonance_rules.specs.Book.{rule_row};
-ghost use Rattle.dissonance_rules.specs.Clashes.{clash_row, clash_rule, passing_enough};
+ghost use Rattle.dissonance_rules.specs.Clashes.{clash_row, clash_rule, newly_passing};
 ghost use Rattle.dissonance_rules.specs.Kept.{IsKept};
-ghost use Rattle.dissonance_rules.specs.Passing as passing;
+ghost use Rattle.dissonance_rules.specs.Told.{is_open_within};
 
 use crate::kept::column_at;
 use crate::ligatures::{is_bad_suspension, lacks_preparation_kept, lacks_resolution_kept};
@@ -99,9 +96,8 @@ fn breaks_one_way(newest: &NewestColumns, rule: u8, ex: &Exercise, i: usize, v: 
     requires voices { ex.now.voices ≤ 4 }
     requires room { newest.now.len ≤ 192 }
     requires place { i < newest.now.len }
-    ensures { (s : List (List ACell)) → IsKept ex.now newest.now s i
-        → result ≡ (voices.is_free ex.now v
-        && clash_rule rule ex.now i (earlier s i) (slice_index_or s i []) (drop (i + 1) s) v w) }
+    ensures { (s : Columns) → IsKept ex.now newest.now s i →
+        result ≡ (voices.is_free ex.now v && reading_of (clash_rule rule ex.now) s i v w) }
 {
     if !is_free(ex, v) {
         return false;
@@ -119,8 +115,7 @@ fn breaks_kept(newest: &NewestColumns, rule: u8, ex: &Exercise, i: usize, voices
     requires voices { ex.now.voices ≤ 4 }
     requires room { newest.now.len ≤ 192 }
     requires place { i < newest.now.len }
-    ensures { (s : List (List ACell)) → IsKept ex.now newest.now s i
-        → result ≡ reading_of (clash_row rule ex.now voices.bits) s i }
+    ensures { (s : Columns) → IsKept ex.now newest.now s i → result ≡ reading_of (clash_row rule ex.now voices.bits) s i }
 {
     let Some((v, w)) = pair_of(voices) else {
         return false;
@@ -143,9 +138,8 @@ fn is_open_one_way(
     requires valid { IsValid ex.now }
     requires within { end ≤ newest.now.len }
     requires place { i < end }
-    ensures { (s : List (List ACell)) → IsKept ex.now newest.now s i
-        → result ≡ (voices.is_free ex.now v
-        && passing.is_open_clash ex.now i (slice_index_or s i []) (drop (i + 1) (take end s)) v w) }
+    ensures { (s : Columns) → IsKept ex.now newest.now s i →
+        result ≡ (voices.is_free ex.now v && is_open_within ex.now s end i v w) }
 {
     is_free(ex, v) && is_open_kept(newest, ex, i, end, v, w)
 }
@@ -161,9 +155,8 @@ fn is_passing_open(
     requires valid { IsValid ex.now }
     requires within { end ≤ newest.now.len }
     requires place { i < end }
-    ensures { (s : List (List ACell)) → IsKept ex.now newest.now s i
-        → result ≡ on_some_way ex.now (passing.is_open_clash ex.now i (slice_index_or s i [])
-        (drop (i + 1) (take end s))) voices.bits }
+    ensures { (s : Columns) → IsKept ex.now newest.now s i →
+        result ≡ on_some_way ex.now (is_open_within ex.now s end i) voices.bits }
 {
     let Some((v, w)) = pair_of(voices) else {
         return false;
@@ -178,9 +171,8 @@ fn is_passing_open(
 fn settles_passing(newest: &NewestColumns, ex: &Exercise, voices: VoiceSet, place: usize) -> bool
     requires valid { IsValid ex.now }
     requires place { place < newest.now.len }
-    ensures { (p : List (List ACell)) (col : List ACell)
-        → IsKept ex.now newest.now (p ++ col ∷ []) place
-        → result ≡ newly (settled_by (passing_enough ex.now voices.bits)) p col place }
+    ensures { (p : Columns) (col : List ACell) → IsKept ex.now newest.now (p ++ col ∷ []) place →
+        result ≡ newly_passing ex.now voices.bits p col place }
 {
     if is_passing_open(newest, ex, place, newest.len, voices) {
         return false;
@@ -203,10 +195,7 @@ pub fn breaks_late(
     requires valid { IsValid ex.now }
     requires begun { 0 < newest.now.len }
     requires room { newest.now.len ≤ columns_in ex.now }
-    ensures { (p : List (List ACell)) (col : List ACell)
-        → AreNewestOf ex.now.voices (p ++ col ∷ []) newest.now → GoesOn ex.now p (col ∷ [])
-        → IsAmong ((rule_row rule).first ex.now (length p)) ((rule_row rule).count ex.now (length p)) place
-        → result ≡ newly_breaks (rule_row rule) ex.now voices.bits p col place }
+    ensures { TellsBreak (rule_row rule) ex.now voices.bits newest.now place result }
 {
     if place >= newest.len {
         return false;

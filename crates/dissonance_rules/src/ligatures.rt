@@ -1,8 +1,8 @@
 //! S19, S20 and S21: a voice that holds a note over a bar line and clashes there.
 
-ghost use Rattle.std.specs.Prelude.{◌≡◌, ◌+◌, ◌<◌, ◌≤◌, [], List, length, drop, slice_index_or};
-ghost use Rattle.fux_grid.specs.declared.cell.Cell.{Cell as ACell};
-ghost use Rattle.fux_grid.specs.Columns.{earlier};
+ghost use Rattle.std.specs.Prelude.{◌≡◌, ◌<◌, ◌≤◌, length};
+ghost use Rattle.fux_grid.specs.Columns.{Columns};
+ghost use Rattle.rule_law.specs.Places.{reading_ahead, reading_back};
 ghost use Rattle.rule_law.specs.Terms as terms;
 ghost use Rattle.dissonance_rules.specs.Kept.{IsKept};
 ghost use Rattle.dissonance_rules.specs.Ligatures as words;
@@ -34,8 +34,7 @@ pub fn is_unprepared(newest: &[Cell], second: &[Cell], third: &[Cell], v: usize)
 /// it wasn't clean in the last of them.
 pub(crate) fn lacks_preparation(score: &Score, i: usize, v: u8, w: u8) -> bool
     requires { i < length score.now.columns }
-    ensures { result ≡ words.lacks_preparation i (earlier score.now.columns i)
-        (slice_index_or score.now.columns i []) v w }
+    ensures { result ≡ reading_back words.lacks_preparation score.now.columns i v w }
 {
     if !is_suspended(i, score.column(i).as_slice(), v as usize, w as usize) {
         return false;
@@ -57,8 +56,7 @@ pub(crate) fn lacks_preparation_kept(
     w: u8,
 ) -> bool
     requires { ex.now.voices ≤ 4 }
-    ensures { (s : List (List ACell)) → IsKept ex.now newest.now s i
-        → result ≡ words.lacks_preparation i (earlier s i) (slice_index_or s i []) v w }
+    ensures { (s : Columns) → IsKept ex.now newest.now s i → result ≡ reading_back words.lacks_preparation s i v w }
 {
     if !is_suspended(i, column_at(newest, ex, i), v as usize, w as usize) {
         return false;
@@ -85,8 +83,7 @@ pub fn resolves(now: &[Cell], next: &[Cell], fourth: &[Cell], v: usize) -> bool
 /// S20, for one way to name the voices: whether `v` is suspended over `w` and doesn't resolve.
 pub(crate) fn lacks_resolution(score: &Score, i: usize, v: u8, w: u8) -> bool
     requires { i < length score.now.columns }
-    ensures { result ≡ words.lacks_resolution i (slice_index_or score.now.columns i [])
-        (drop (i + 1) score.now.columns) v w }
+    ensures { result ≡ reading_ahead words.lacks_resolution score.now.columns i v w }
 {
     let now = score.column(i).as_slice();
     if !is_suspended(i, now, v as usize, w as usize) {
@@ -106,8 +103,7 @@ pub(crate) fn lacks_resolution_kept(
     requires voices { ex.now.voices ≤ 4 }
     requires room { newest.now.len ≤ 192 }
     requires place { i < newest.now.len }
-    ensures { (s : List (List ACell)) → IsKept ex.now newest.now s i
-        → result ≡ words.lacks_resolution i (slice_index_or s i []) (drop (i + 1) s) v w }
+    ensures { (s : Columns) → IsKept ex.now newest.now s i → result ≡ reading_ahead words.lacks_resolution s i v w }
 {
     let now = column_at(newest, ex, i);
     if !is_suspended(i, now, v as usize, w as usize) {

@@ -1,15 +1,16 @@
 //! S15: notes that start within a bar and clash, and what makes them good: passing notes, neighbors and the cambiata.
 
-ghost use Rattle.std.specs.Prelude.{◌≡◌, ◌+◌, ◌-◌, ◌*◌, ◌<◌, ◌≤◌, ◌&&◌, [], ℕ, List, IfSome, true, not, nat_lt, length, drop, take, slice_index_or};
-ghost use Rattle.fux_grid.specs.declared.cell.Cell.{Cell as ACell};
+ghost use Rattle.std.specs.Prelude.{◌≡◌, ◌+◌, ◌-◌, ◌*◌, ◌<◌, ◌≤◌, ◌&&◌, IfSome, true, not, nat_lt, length, drop};
 ghost use Rattle.fux_grid.specs.Cells.{first_of};
-ghost use Rattle.fux_grid.specs.Columns.{earlier};
+ghost use Rattle.fux_grid.specs.Columns.{Columns};
 ghost use Rattle.fux_grid.specs.Exercises.{IsValid, columns_in, species_in};
 ghost use Rattle.rule_law.specs.After.{second_of};
 ghost use Rattle.rule_law.specs.Bars as terms;
+ghost use Rattle.rule_law.specs.Places.{reading_ahead, reading_of};
 ghost use Rattle.rule_law.specs.Voices.{is_free};
 ghost use Rattle.dissonance_rules.specs.Kept.{IsKept, notes_within};
 ghost use Rattle.dissonance_rules.specs.Passing as words;
+ghost use Rattle.dissonance_rules.specs.Told.{is_open_within};
 
 use crate::kept::{column_ahead, column_at, column_behind, note_within};
 use fux_grid::{Cell, Exercise, Onset, Score, cell_of, species_of};
@@ -113,8 +114,7 @@ fn next_is_clean(score: &Score, i: usize, v: u8) -> bool
 /// Whether the note of a voice that starts at column `i` is good.
 fn is_good_note(score: &Score, species: u8, i: usize, v: u8) -> bool
     requires { i < length score.now.columns }
-    ensures { result ≡ words.is_good_note species i (earlier score.now.columns i)
-        (slice_index_or score.now.columns i []) (drop (i + 1) score.now.columns) v }
+    ensures { result ≡ reading_of (words.is_good_note species) score.now.columns i v }
 {
     is_good(
         species,
@@ -144,8 +144,7 @@ fn clashes_within_bar(i: usize, now: &[Cell], v: usize, w: usize) -> bool
 /// S15, for one way to name the voices: whether a note of `v` starts within a bar and clashes with `w`, and isn't good.
 pub(crate) fn clashes_badly(ex: &Exercise, score: &Score, i: usize, v: u8, w: u8) -> bool
     requires { i < length score.now.columns }
-    ensures { result ≡ words.clashes_badly ex.now i (earlier score.now.columns i)
-        (slice_index_or score.now.columns i []) (drop (i + 1) score.now.columns) v w }
+    ensures { result ≡ reading_of (words.clashes_badly ex.now) score.now.columns i v w }
 {
     if !clashes_within_bar(i, score.column(i).as_slice(), v as usize, w as usize) {
         return false;
@@ -178,8 +177,7 @@ fn has_notes_after(score: &Score, species: u8, i: usize, v: u8) -> bool
 pub(crate) fn is_open_clash(ex: &Exercise, score: &Score, i: usize, v: u8, w: u8) -> bool
     requires valid { IsValid ex.now }
     requires place { i < length score.now.columns }
-    ensures { result ≡ words.is_open_clash ex.now i (slice_index_or score.now.columns i [])
-        (drop (i + 1) score.now.columns) v w }
+    ensures { result ≡ reading_ahead (words.is_open_clash ex.now) score.now.columns i v w }
 {
     if !starts_in_clash(score.column(i).as_slice(), v as usize, w as usize) {
         return false;
@@ -199,10 +197,8 @@ fn next_notes(newest: &NewestColumns, ex: &Exercise, i: usize, v: u8, end: usize
     requires voices { ex.now.voices ≤ 4 }
     requires within { end ≤ newest.now.len }
     requires place { i < end }
-    ensures first { (s : List (List ACell)) → IsKept ex.now newest.now s i
-        → result.first ≡ first_of (notes_within s end v (i + 1)) }
-    ensures second { (s : List (List ACell)) → IsKept ex.now newest.now s i
-        → result.second ≡ second_of (notes_within s end v (i + 1)) }
+    ensures first { (s : Columns) → IsKept ex.now newest.now s i → result.first ≡ first_of (notes_within s end v (i + 1)) }
+    ensures second { (s : Columns) → IsKept ex.now newest.now s i → result.second ≡ second_of (notes_within s end v (i + 1)) }
     ensures later { IfSome result.first (λ onset. i < onset.start) }
     ensures there { IfSome result.first (λ onset. onset.start < end) }
 {
@@ -221,8 +217,7 @@ fn is_clean_at(newest: &NewestColumns, ex: &Exercise, i: usize, v: u8, note: Opt
     requires place { i < newest.now.len }
     requires later { IfSome note (λ onset. i < onset.start) }
     requires there { IfSome note (λ onset. onset.start < newest.now.len) }
-    ensures { (s : List (List ACell)) → IsKept ex.now newest.now s i
-        → result ≡ words.starts_clean i (drop (i + 1) s) v note }
+    ensures { (s : Columns) → IsKept ex.now newest.now s i → result ≡ words.starts_clean i (drop (i + 1) s) v note }
 {
     match note {
         Some(onset) => is_clean(
@@ -238,9 +233,8 @@ fn is_good_kept(newest: &NewestColumns, ex: &Exercise, i: usize, v: u8) -> bool
     requires voices { ex.now.voices ≤ 4 }
     requires room { newest.now.len ≤ 192 }
     requires place { i < newest.now.len }
-    ensures { (s : List (List ACell)) → IsKept ex.now newest.now s i → is_free ex.now v ≡ true
-        → result ≡ words.is_good_note (species_in ex.now v) i (earlier s i) (slice_index_or s i [])
-        (drop (i + 1) s) v }
+    ensures { (s : Columns) → IsKept ex.now newest.now s i → is_free ex.now v ≡ true →
+        result ≡ reading_of (words.is_good_note (species_in ex.now v)) s i v }
 {
     let next = next_notes(newest, ex, i, v, newest.len);
     is_good(
@@ -264,9 +258,8 @@ pub(crate) fn clashes_badly_kept(
     requires voices { ex.now.voices ≤ 4 }
     requires room { newest.now.len ≤ 192 }
     requires place { i < newest.now.len }
-    ensures { (s : List (List ACell)) → IsKept ex.now newest.now s i → is_free ex.now v ≡ true
-        → result ≡ words.clashes_badly ex.now i (earlier s i) (slice_index_or s i [])
-        (drop (i + 1) s) v w }
+    ensures { (s : Columns) → IsKept ex.now newest.now s i → is_free ex.now v ≡ true →
+        result ≡ reading_of (words.clashes_badly ex.now) s i v w }
 {
     if !clashes_within_bar(i, column_at(newest, ex, i), v as usize, w as usize) {
         return false;
@@ -286,9 +279,7 @@ pub(crate) fn is_open_kept(
     requires valid { IsValid ex.now }
     requires within { end ≤ newest.now.len }
     requires place { i < end }
-    ensures { (s : List (List ACell)) → IsKept ex.now newest.now s i
-        → result ≡ words.is_open_clash ex.now i (slice_index_or s i [])
-        (drop (i + 1) (take end s)) v w }
+    ensures { (s : Columns) → IsKept ex.now newest.now s i → result ≡ is_open_within ex.now s end i v w }
 {
     if !starts_in_clash(column_at(newest, ex, i), v as usize, w as usize) {
         return false;

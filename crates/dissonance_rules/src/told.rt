@@ -1,17 +1,14 @@
 //! How far back the newest columns tell what a note is: S15 is settled at all places before.
 
-ghost use Rattle.std.specs.Prelude.{◌≡◌, ◌<◌, ◌≤◌, ◌+◌, ◌-◌, ◌∷◌, ◌++◌, [], ℕ, List, IsTrue, true, drop, length, slice_index_or, take};
-ghost use Rattle.fux_grid.specs.declared.cell.Cell.{Cell as ACell};
-ghost use Rattle.fux_grid.specs.Cells.{cell_in};
-ghost use Rattle.fux_grid.specs.Exercises.{IsValid, columns_in, species_in};
+ghost use Rattle.std.specs.Prelude.{◌≡◌, ◌<◌, ◌≤◌, ◌+◌, ◌-◌, IsTrue, length};
+ghost use Rattle.fux_grid.specs.Columns.{Columns, cell_at};
+ghost use Rattle.fux_grid.specs.Exercises.{IsValid, columns_in};
+ghost use Rattle.rule_law.specs.Late.{SettlesAmong};
 ghost use Rattle.rule_law.specs.Newest.{AreNewestOf};
-ghost use Rattle.rule_law.specs.Prefixes.{GoesOn};
-ghost use Rattle.rule_law.specs.Rulebooks.{IsAmong, newly_breaks};
 ghost use Rattle.rule_law.specs.Terms as terms;
-ghost use Rattle.rule_law.specs.Voices as voices_words;
 ghost use Rattle.dissonance_rules.specs.Book.{rule_row};
 ghost use Rattle.dissonance_rules.specs.Passing as passing;
-ghost use Rattle.dissonance_rules.specs.Passing.{has_notes_after};
+ghost use Rattle.dissonance_rules.specs.Told.{AreAllTold, AreTold};
 
 use fux_grid::{Exercise, cell_of, species_of};
 use rule_law::{LatePlaces, NewestColumns, is_free, starts};
@@ -28,8 +25,8 @@ fn notes_needed(species: u8) -> usize
 #[inline]
 fn starts_at(newest: &NewestColumns, ex: &Exercise, v: u8, j: usize) -> bool
     requires { ex.now.voices ≤ 4 }
-    ensures { (s : List (List ACell)) → AreNewestOf ex.now.voices s newest.now → length s ≤ j + 24
-        → result ≡ terms.starts (cell_in (slice_index_or s j []) v) }
+    ensures { (s : Columns) → AreNewestOf ex.now.voices s newest.now → length s ≤ j + 24 →
+        result ≡ terms.starts (cell_at s v j) }
 {
     starts(cell_of(newest.at(j, usize::from(ex.voices)), v as usize))
 }
@@ -42,9 +39,7 @@ fn told_until(newest: &NewestColumns, ex: &Exercise, v: u8, first: usize, end: u
     requires near { newest.now.len ≤ first + 24 }
     ensures from { first ≤ result }
     ensures to { result ≤ end }
-    ensures told { (s : List (List ACell)) → AreNewestOf ex.now.voices s newest.now
-        → (i : ℕ) → first ≤ i → i < result
-        → has_notes_after (species_in ex.now v) i v (drop (i + 1) (take end s)) ≡ true }
+    ensures told { (s : Columns) → AreNewestOf ex.now.voices s newest.now → AreTold ex.now s end first result v }
 {
     let mut left = notes_needed(species_of(ex, v));
     for k in 0..end - first {
@@ -64,9 +59,7 @@ fn all_told_until(newest: &NewestColumns, ex: &Exercise, first: usize, end: usiz
     requires near { newest.now.len ≤ first + 24 }
     ensures from { first ≤ result }
     ensures to { result ≤ end }
-    ensures told { (s : List (List ACell)) → AreNewestOf ex.now.voices s newest.now
-        → (v : ℕ) → v < ex.now.voices → voices_words.is_free ex.now v ≡ true → (i : ℕ) → first ≤ i → i < result
-        → has_notes_after (species_in ex.now v) i v (drop (i + 1) (take end s)) ≡ true }
+    ensures told { (s : Columns) → AreNewestOf ex.now.voices s newest.now → AreAllTold ex.now s end first result }
 {
     let mut told = end;
     for v in 0..ex.voices {
@@ -93,10 +86,7 @@ pub fn places_left(
     requires count { places.count ≡ (rule_row rule).count ex.now (newest.now.len - 1) }
     ensures from { places.first ≤ result.first }
     ensures to { result.first + result.count ≤ places.first + places.count }
-    ensures left { (p : List (List ACell)) (col : List ACell)
-        → AreNewestOf ex.now.voices (p ++ col ∷ []) newest.now → GoesOn ex.now p (col ∷ [])
-        → (voices i : ℕ) → newly_breaks (rule_row rule) ex.now voices p col i ≡ true
-        → IsAmong result.first result.count i }
+    ensures left { SettlesAmong (rule_row rule) ex.now newest.now result.first result.count }
 {
     if rule != 15 || places.count == 0 {
         return places;

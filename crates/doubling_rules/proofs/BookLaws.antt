@@ -1,11 +1,11 @@
 -- S23 and the tolls Q3 to Q6 keep the laws of a crate's book.
-use Rattle.std.specs.Prelude.{◌≡◌, ◌≤◌, ◌+◌, ℕ, ◌==◌, Bool, true, false, ◌&&◌, nat_le, List, length, if◌then◌else◌, refl}
+use Rattle.std.specs.Prelude.{◌≡◌, ℕ, ◌==◌, Bool, true, false, ◌&&◌, nat_le, List, length, if◌then◌else◌, refl}
 use Rattle.std.specs.Int.{from_bool}
-use Rattle.std.proofs.Common.{ap, arith}
+use Rattle.std.proofs.Common.{ap}
 use Rattle.fux_grid.specs.declared.cell.Cell.{Cell}
 use Rattle.fux_grid.specs.declared.exercise.Exercise.{Exercise}
 use Rattle.fux_grid.specs.Cells.{cell_in}
-use Rattle.rule_law.proofs.AtOnce.{breaks_where_it_may, costs_where_it_may}
+use Rattle.rule_law.proofs.AtOnce.{breaks_where_it_may, costs_where_it_may, own_within}
 use Rattle.rule_law.specs.Bars.{begins_bar, begins_inner_bar}
 use Rattle.rule_law.specs.Forms.{pair_form}
 use Rattle.rule_law.specs.Pairs.{one_starts}
@@ -37,10 +37,6 @@ free n ex i now = at (n == 3) (n == 4) (n == 5)
     at false false true h = ap (λ t. from_bool (t && nat_le 2 (count_thirds now))) h
     at false false false h = cc
 
-most : (b : Bool) (i : ℕ) → i + (if b then 1 else 0) ≤ i + 1
-most true i = omega arith
-most false i = omega arith
-
 pub rules_keep : (n : ℕ) → KeepsRuleLaws (rule_row n)
 rules_keep n = record {
   local = doubling_is_local n;
@@ -52,7 +48,7 @@ rules_keep n = record {
   quiet = λ e. cc;
   places = λ e ex voices p col i on h. breaks_where_it_may (rule_row n) ex voices (λ i behind now ahead. refl) p col
       (is_before_last_bar ex (length p)) (elsewhere ex voices (length p) col) i h;
-  within = λ ex i. most (is_before_last_bar ex i) i;
+  within = λ ex i. own_within (is_before_last_bar ex i) i;
 }
 
 pub tolls_keep : (n : ℕ) → KeepsTollLaws (toll_row n)
@@ -64,7 +60,7 @@ tolls_keep n = record {
   quiet = λ e. cc;
   places = λ e ex p col i on h. costs_where_it_may (toll_row n) ex (λ i behind now ahead. refl) p col
       (may_cost n ex (length p)) (free n ex (length p) col) i h;
-  within = λ ex i. most (may_cost n ex i) i;
+  within = λ ex i. own_within (may_cost n ex i) i;
 }
 
 pub keeps_laws : KeepsLaws book

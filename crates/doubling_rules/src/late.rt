@@ -1,11 +1,8 @@
 //! The rule and the tolls, read among the newest columns.
 
-ghost use Rattle.std.specs.Prelude.{◌≡◌, ◌<◌, ◌≤◌, ◌∷◌, ◌++◌, [], List, IsTrue, if◌then◌else◌, length};
-ghost use Rattle.fux_grid.specs.declared.cell.Cell.{Cell as ACell};
+ghost use Rattle.std.specs.Prelude.{◌≡◌, ◌<◌, ◌≤◌, IsTrue, if◌then◌else◌};
 ghost use Rattle.fux_grid.specs.Exercises.{IsValid, columns_in};
-ghost use Rattle.rule_law.specs.Newest.{AreNewestOf};
-ghost use Rattle.rule_law.specs.Prefixes.{GoesOn};
-ghost use Rattle.rule_law.specs.Rulebooks.{IsAmong, newly_breaks, newly_costs};
+ghost use Rattle.rule_law.specs.Late.{TellsBreak, TellsCost};
 ghost use Rattle.doubling_rules.specs.Book as book;
 ghost use Rattle.doubling_rules.specs.Book.{rule_row, toll_row};
 
@@ -48,10 +45,7 @@ pub fn breaks_late(
     requires valid { IsValid ex.now }
     requires begun { 0 < newest.now.len }
     requires room { newest.now.len ≤ columns_in ex.now }
-    ensures { (p : List (List ACell)) (col : List ACell)
-        → AreNewestOf ex.now.voices (p ++ col ∷ []) newest.now → GoesOn ex.now p (col ∷ [])
-        → IsAmong ((rule_row rule).first ex.now (length p)) ((rule_row rule).count ex.now (length p)) place
-        → result ≡ newly_breaks (rule_row rule) ex.now voices.bits p col place }
+    ensures { TellsBreak (rule_row rule) ex.now voices.bits newest.now place result }
 {
     doubling_breaks(ex, voices, place, newest.at(place, ex.voices as usize))
 }
@@ -86,10 +80,7 @@ pub fn cost_late(newest: &NewestColumns, toll: u8, ex: &Exercise, place: usize) 
     requires valid { IsValid ex.now }
     requires begun { 0 < newest.now.len }
     requires room { newest.now.len ≤ columns_in ex.now }
-    ensures value { (p : List (List ACell)) (col : List ACell)
-        → AreNewestOf ex.now.voices (p ++ col ∷ []) newest.now → GoesOn ex.now p (col ∷ [])
-        → IsAmong ((toll_row toll).first ex.now (length p)) ((toll_row toll).count ex.now (length p)) place
-        → result ≡ newly_costs (toll_row toll) ex.now p col place }
+    ensures value { TellsCost (toll_row toll) ex.now newest.now place result }
     ensures bound { result ≤ 6 }
 {
     if place >= newest.len {

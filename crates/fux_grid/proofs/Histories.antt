@@ -86,10 +86,6 @@ notes-start s v j held p h e =
     ∙ ap (λ (n : ℕ). record { start = n; len = suc held; pitch = p } ∷ notes_from 0 (line v (earlier s j))) (length-line s v j (omega arith))
     ∙ ap (λ (n : ℕ). record { start = j; len = n; pitch = p } ∷ notes_from 0 (line v (earlier s j))) (sym (add-one held))
 
-pub newest-none : (s : List (List Cell)) → length s ≡ 0 → newest_column (reverse s) ≡ []
-newest-none [] e = refl
-newest-none (c ∷ cs) e = absurd (omega arith)
-
 -- the first columns up to the length are all
 pub earlier-all : (s : List (List Cell)) (n : ℕ) → length s ≤ n → earlier s n ≡ reverse s
 unfolding earlier

@@ -139,8 +139,3 @@ earlier-append (c ∷ s) (d ∷ t) u w (inl h) = inl h
 earlier-append (c ∷ s) (d ∷ t) u w (inr h) = inr (h.0, earlier-append s t u w h.1)
 earlier-append s [] u w h = absurd h
 earlier-append [] (d ∷ t) u w h = absurd h
-
--- nor what comes before, where both have it
-pub earlier-after : (p s t : List (List Cell)) → IsEarlier s t → IsEarlier (p ++ s) (p ++ t)
-earlier-after [] s t h = h
-earlier-after (c ∷ p) s t h = inr (refl, earlier-after p s t h)

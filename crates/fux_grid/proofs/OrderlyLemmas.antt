@@ -10,9 +10,6 @@ use Rattle.fux_grid.specs.Orderly.{voice_shapes, IsOrderly}
 use Rattle.fux_grid.specs.Shapes.{begins_shape}
 use Rattle.fux_grid.proofs.ShapeBeginnings.{begins_shape-fewer, letters_of-append, take-append}
 
-pub orderly-none : (ex : Exercise) → IsOrderly ex []
-orderly-none ex v bar free begun = absurd (omega (arith, begun.1))
-
 -- a bar that is whole isn't changed by what comes after it
 pub bar_columns-whole : (p t : List (List Cell)) (bar : ℕ) → 1 ≤ bar → 8 * bar ≤ length p → bar_columns (p ++ t) bar ≡ bar_columns p bar
 bar_columns-whole p t bar h k =

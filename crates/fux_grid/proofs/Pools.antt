@@ -3,7 +3,7 @@ use Rattle.std.proofs.Common.{◌≡◌, ◌↔◌, inl, inr, ℕ, zero, suc, �
 use Rattle.std.specs.List.{All, AllPairs, Contains, cons_option, filter_map, range_with_len}
 use Rattle.std.specs.Option.{option_map_or}
 use Rattle.std.proofs.Math.Bool.{not, and-true, and-false}
-use Rattle.std.proofs.lemmas.Bool.{cases_eq}
+use Rattle.std.proofs.lemmas.Bool.{and_parts, cases_eq}
 use Rattle.std.proofs.lemmas.Bool.Decides.{nat_tests}
 use Rattle.std.proofs.lemmas.Int.{ints}
 use Rattle.std.proofs.lemmas.List.Elements.{All-nil, All-cons, All-filter, All-contains, All-weaker, filter_passes}
@@ -19,10 +19,6 @@ use Rattle.fux_grid.specs.Menus.{is_between, is_in_pool, is_in_range, pool_of, r
 use Rattle.fux_grid.proofs.Combinations.{AllPairs-cons, AllPairs-tail}
 
 -- ---- lists
-
-both_true : (a b : Bool) → (a && b) ≡ true → (a ≡ true) × (b ≡ true)
-both_true true b h = (refl, h)
-both_true false b h = absurd (cc)
 
 Contains-cons : {X : Type 0} (x : X) (xs : List X) (y : X) → Contains xs y → Contains (x ∷ xs) y
 Contains-cons x xs y (k, h, e) = (suc k, omega arith, e)
@@ -105,7 +101,7 @@ pool_of-contains ex v bar p =
     let key = key_of-number p in
     pitches_from-contains 24 73 key.0 p key.2 (omega (arith, key.3)) (spelled-own ex.mode bar ex.bars p key.0 key.1 h) in (
       λ h. All-contains (λ q. is_in_pool ex v bar q ≡ true) (pool_of ex v bar) p (filter_passes (is_in_pool ex v bar) (pitches_from 24 73)) h,
-      λ h. Contains-filter (is_in_pool ex v bar) (pitches_from 24 73) p (spelt (both_true (is_in_gamut ex.mode bar ex.bars p) (is_in_range ex v bar p) h).0) h,
+      λ h. Contains-filter (is_in_pool ex v bar) (pitches_from 24 73) p (spelt (and_parts (is_in_gamut ex.mode bar ex.bars p) (is_in_range ex v bar p) h).0) h,
     )
 
 -- its keys ascend, so that no two pitches of it have one key

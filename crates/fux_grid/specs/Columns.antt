@@ -1,11 +1,12 @@
 -- Lists of columns.
-use Rattle.std.specs.Prelude.{ℕ, ◌+◌, List, [], ◌∷◌, Option, Some, None, slice_index_or, reverse, take, map, IsTrue, ⊤}
+use Rattle.std.specs.Prelude.{ℕ, ◌+◌, List, [], ◌∷◌, Option, Some, None, slice_index_or, reverse, take, drop, map, IsTrue, ⊤}
 use Rattle.std.specs.Borrow.{Bor}
 use Rattle.arrayvec.specs.ArrayVec.{ArrayVec}
 use Rattle.fux_pitch.specs.declared.pitch.Pitch.{Pitch}
 use Rattle.fux_grid.specs.declared.cell.Cell.{Cell}
 use Rattle.fux_grid.specs.declared.cell.Note.{Note}
-use Rattle.fux_grid.specs.Cells.{pitch_of, cell_in, cell_follows, notes_from, before_note, first_of}
+use Rattle.fux_grid.specs.declared.cell.Onset.{Onset}
+use Rattle.fux_grid.specs.Cells.{pitch_of, cell_in, cell_follows, notes_from, onsets_from, before_note, first_of}
 
 -- each cell may follow the one of its voice; an empty column stands before the first one
 abbrev pub ColumnFollows : List Cell → List Cell → Type 0
@@ -26,6 +27,10 @@ abbrev pub HistoryFollows : List (List Cell) → Type 0
 HistoryFollows [] = ⊤
 HistoryFollows (col ∷ cols) = ColumnFollows (newest_column cols) col × HistoryFollows cols
 
+-- a column follows the last one of a list
+abbrev pub FollowsLast : List (List Cell) → List Cell → Type 0
+FollowsLast s col = ColumnFollows (newest_column (reverse s)) col
+
 -- the first j columns of a list, from the newest to the oldest
 unfoldable pub earlier : List (List Cell) → ℕ → List (List Cell)
 earlier s j = reverse (take j s)
@@ -45,3 +50,11 @@ sound_at s v i = pitch_of (cell_at s v i)
 -- the latest note of a voice before the note at column i, or before i where it rests there
 abbrev pub note_before : List (List Cell) → ℕ → ℕ → Option Note
 note_before s v i = first_of (notes_from 0 (before_note (line v (earlier s (i + 1)))))
+
+-- the notes of a voice that start in the first n columns, from the newest to the oldest
+abbrev pub notes_up_to : List (List Cell) → ℕ → ℕ → List Note
+notes_up_to s v n = notes_from 0 (line v (earlier s n))
+
+-- where notes of a voice start in the columns from n on
+abbrev pub onsets_since : List (List Cell) → ℕ → ℕ → List Onset
+onsets_since s v n = onsets_from n (line v (drop n s))

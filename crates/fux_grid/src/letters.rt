@@ -1,7 +1,7 @@
 //! The letters of a voice in a bar.
 
-ghost use Rattle.std.specs.Prelude.{◌≡◌, ◌+◌, ◌*◌, ◌<◌, ◌≤◌, ◌∷◌, length, slice_index_or, take, drop, []};
-ghost use Rattle.fux_grid.specs.Letters.{letters_of, bar_columns};
+ghost use Rattle.std.specs.Prelude.{◌≡◌, ◌*◌, ◌<◌, ◌≤◌, length, take, drop};
+ghost use Rattle.fux_grid.specs.Letters.{letters_of, bar_columns, bar_from};
 
 use crate::score::Score;
 use arrayvec::ArrayVec;
@@ -10,8 +10,7 @@ use arrayvec::ArrayVec;
 pub fn letters_from(score: &Score, v: u8, i: usize) -> ArrayVec<u8, 8>
     requires { i ≤ length score.now.columns }
     ensures value { result.items ≡ letters_of v (take 8 (drop i score.now.columns)) }
-    ensures cut { i < length score.now.columns →
-        result.items ≡ letters_of v (slice_index_or score.now.columns i [] ∷ take 7 (drop (i + 1) score.now.columns)) }
+    ensures cut { i < length score.now.columns → result.items ≡ letters_of v (bar_from score.now.columns i) }
 {
     let count = (score.len() - i).min(8);
     let mut letters = ArrayVec::new();

@@ -1,10 +1,10 @@
 //! The notes of a voice. A voice that the score doesn't have rests.
 
-ghost use Rattle.std.specs.Prelude.{◌≡◌, ◌+◌, ◌<◌, ◌≤◌, ◌↔◌, ◌∷◌, ℕ, false, length, drop, IfSome, IfNone, IsTrue, MatchOption};
+ghost use Rattle.std.specs.Prelude.{◌≡◌, ◌+◌, ◌<◌, ◌≤◌, ◌↔◌, ◌∷◌, ℕ, false, length, IfSome, IfNone, IsTrue, MatchOption};
 ghost use Rattle.fux_grid.specs.declared.cell.Cell.{Cell};
 ghost use Rattle.fux_grid.specs.declared.cell.Note.{Note};
-ghost use Rattle.fux_grid.specs.Cells.{is_hold, before_note, notes_from, onsets_from, first_of};
-ghost use Rattle.fux_grid.specs.Columns.{cell_at, sound_at, earlier, note_before, line};
+ghost use Rattle.fux_grid.specs.Cells.{is_hold, before_note, first_of};
+ghost use Rattle.fux_grid.specs.Columns.{cell_at, sound_at, earlier, note_before, line, notes_up_to, onsets_since};
 ghost use Rattle.fux_grid.specs.Notes.{IsNote, IsNoteAt, IsPreviousNote, IsNextNote, IsFirstOnset, NoStart};
 
 use crate::cell::{Cell, Note, Onset};
@@ -59,10 +59,10 @@ fn note_end(score: &Score, v: u8, i: usize) -> usize
 /// The latest note of a voice that starts in the first n columns, as far as these have it.
 pub fn note_behind(score: &Score, v: u8, n: usize) -> Option<Note>
     requires { n ≤ length score.now.columns }
-    ensures value { result ≡ first_of (notes_from 0 (line v (earlier score.now.columns n))) }
+    ensures value { result ≡ first_of (notes_up_to score.now.columns v n) }
     ensures start { IfSome result (λ note. note.start < n) }
-    ensures rest { IfSome result (λ note. notes_from 0 (line v (earlier score.now.columns n)) ≡
-        note ∷ notes_from 0 (line v (earlier score.now.columns note.start))) }
+    ensures rest { IfSome result (λ note. notes_up_to score.now.columns v n ≡
+        note ∷ notes_up_to score.now.columns v note.start) }
 {
     let mut j = n;
     let mut held = 0;
@@ -86,10 +86,10 @@ pub fn note_behind(score: &Score, v: u8, n: usize) -> Option<Note>
 /// The first place at column n or later where a note of a voice starts.
 pub fn onset_ahead(score: &Score, v: u8, n: usize) -> Option<Onset>
     requires { n ≤ length score.now.columns }
-    ensures value { result ≡ first_of (onsets_from n (line v (drop n score.now.columns))) }
+    ensures value { result ≡ first_of (onsets_since score.now.columns v n) }
     ensures start { IfSome result (λ onset. onset.start < length score.now.columns) }
-    ensures rest { IfSome result (λ onset. onsets_from n (line v (drop n score.now.columns)) ≡
-        onset ∷ onsets_from (onset.start + 1) (line v (drop (onset.start + 1) score.now.columns))) }
+    ensures rest { IfSome result (λ onset. onsets_since score.now.columns v n ≡
+        onset ∷ onsets_since score.now.columns v (onset.start + 1)) }
     ensures first { IfSome result (IsFirstOnset score.now.columns v n) }
     ensures none { IfNone result (NoStart score.now.columns v n (length score.now.columns)) }
 {

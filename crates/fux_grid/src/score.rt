@@ -4,7 +4,7 @@ ghost use Rattle.std.specs.Prelude.{◌≡◌, ◌+◌, ◌==◌, ◌<◌, ◌�
 ghost use Rattle.std.specs.Result.{result_err};
 ghost use Rattle.fux_grid.specs.Cells.{cell_in};
 ghost use Rattle.fux_grid.specs.Faults.{hold_fault, lowest_misfit, push_fault};
-ghost use Rattle.fux_grid.specs.Columns.{ColumnFollows, HistoryFollows, cells_before, newest_column, earlier};
+ghost use Rattle.fux_grid.specs.Columns.{ColumnFollows, FollowsLast, HistoryFollows, cells_before, newest_column, earlier};
 
 use crate::cell::{Cell, Column};
 use fux_pitch::Memory;
@@ -144,7 +144,7 @@ impl Score {
     fn misfit(&self, col: &Column) -> Option<u8>
         ensures value { result ≡ lowest_misfit (newest_column (reverse self.now.columns)) col.now.items }
         ensures fits { length col.now.items ≤ 4 → result ≡ None →
-            ColumnFollows (newest_column (reverse self.now.columns)) col.now.items }
+            FollowsLast self.now.columns col.now.items }
     {
         let newest = self.newest();
         for v in 0..4u8 {
@@ -176,9 +176,9 @@ impl Score {
 
         // What a taken column has, and that such a column is taken where there is room.
         ensures width { IsOk result → length col.items ≡ self.old.voices }
-        ensures follows { IsOk result → ColumnFollows (newest_column (reverse self.old.columns)) col.items }
+        ensures follows { IsOk result → FollowsLast self.old.columns col.items }
         ensures taken { length self.old.columns < 192 → length col.items ≡ self.old.voices →
-            ColumnFollows (newest_column (reverse self.old.columns)) col.items → IsOk result }
+            FollowsLast self.old.columns col.items → IsOk result }
     {
         if self.len() == MOST_COLUMNS {
             return Err(GridFault::Full);

@@ -1,8 +1,9 @@
 -- A strict break in what a column sounds is one after every prefix.
 use Rattle.std.proofs.Common.{◌≡◌, ℕ, true, List, [], ◌∷◌, ◌++◌, length, reverse, refl, ap, sym, ◌∙◌, subst}
+use Rattle.std.proofs.lemmas.Bool.{and_from}
 use Rattle.fux_grid.specs.declared.cell.Cell.{Cell}
 use Rattle.fux_grid.specs.declared.exercise.Exercise.{Exercise}
-use Rattle.rule_law.specs.Law.{both_true, reading-at_end}
+use Rattle.rule_law.specs.Law.{reading-at_end}
 use Rattle.rule_law.specs.Nearby.{Pitches}
 use Rattle.motion_rules.specs.Rows as motion
 use Rattle.dissonance_rules.specs.Rows as dissonance
@@ -19,7 +20,7 @@ module _ (ex : Exercise) (voices i : ℕ) (col : List Cell) where
   always rule reads set broken strict p long =
       let there : breaks rule ex voices (length p) (reverse p) col [] ≡ true = subst (λ n. breaks rule ex voices n (reverse p) col [] ≡ true) (sym long) (broken (reverse p)) in
       breaks_in_all rule voices 4 ex p col reads set
-      (both_true (is_broken rule ex voices (reading p) (length p)) (is_strict_at rule ex voices (length p)) (reading-at_end (breaks rule ex voices) p col ∙ there) (ap (is_strict_at rule ex voices) long ∙ strict))
+      (and_from (is_broken rule ex voices (reading p) (length p)) (is_strict_at rule ex voices (length p)) (reading-at_end (breaks rule ex voices) p col ∙ there) (ap (is_strict_at rule ex voices) long ∙ strict))
       col refl
     where
       reading : List (List Cell) → List (List Cell)

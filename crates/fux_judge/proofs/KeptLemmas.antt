@@ -2,7 +2,7 @@
 use Rattle.std.proofs.Common.{◌≡◌, ℕ, ◌==◌, ◌&&◌, ◌||◌, Bool, true, false, not, Some, List, [], ◌∷◌, length, reverse, refl, ap, sym, ◌∙◌, subst}
 use Rattle.std.specs.Prelude.{nat_le, nat_lt}
 use Rattle.std.specs.List.{filter, list_all, list_any}
-use Rattle.std.proofs.lemmas.Bool.{eqb-true}
+use Rattle.std.proofs.lemmas.Bool.{and_right, eqb-true}
 use Rattle.std.proofs.lemmas.Map.Views.{any-filter_same}
 use Rattle.fux_grid.specs.declared.cell.Cell.{Cell}
 use Rattle.fux_grid.specs.Cells.{cell_in, pitch_of}
@@ -11,7 +11,7 @@ use Rattle.fux_grid.specs.Exercises.{bar_of}
 use Rattle.rule_law.specs.Bars.{begins_bar}
 use Rattle.rule_law.specs.Nearby.{previous_pitches}
 use Rattle.rule_law.specs.Pairs.{sound_same_key}
-use Rattle.rule_law.specs.Quiet.{and_none, on_pair-none, on_voice-none}
+use Rattle.rule_law.specs.Quiet.{on_pair-none, on_voice-none}
 use Rattle.rule_law.specs.Terms.{clash, holds_of, interval_in, starts}
 use Rattle.melody_rules.specs.Rows as melody
 use Rattle.melody_rules.specs.Smooth.{some_rough, smooth_near_rows, smooth_window_rows}
@@ -104,9 +104,9 @@ module _ (p : List (List Cell)) (m : Moment) where
   endings_kept : begins_last_bar m.exercise.now (length p) ≡ false → (rule : ℕ) → is_of_ending rule ≡ true → is_strictly_broken_then all_sets rule p m ≡ false
   endings_kept before rule = of_two (λ rule. is_strictly_broken_then all_sets rule p m ≡ false) 13 24 rule
       (kept_by_all 13 (λ voices. sym (rhythm_then 13 voices p m (at_once 13 refl) refl)
-      ∙ on_pair-none m.exercise.now _ voices (λ v w. and_none (v == 0) _ (ap (λ b. b && not (holds_of (fits_ending m.exercise.now) (interval_in m.column.now 0 w))) before))))
+      ∙ on_pair-none m.exercise.now _ voices (λ v w. and_right (v == 0) _ (ap (λ b. b && not (holds_of (fits_ending m.exercise.now) (interval_in m.column.now 0 w))) before))))
       (kept_by_all 24 (λ voices. sym (rhythm_then 24 voices p m (at_once 24 refl) refl)
-      ∙ on_voice-none m.exercise.now _ voices (λ v. and_none (v == 0) _ (ap (λ b. b && not (holds_of_pitch (is_final m.exercise.now) (pitch_of (cell_in m.column.now 0)))) before))))
+      ∙ on_voice-none m.exercise.now _ voices (λ v. and_right (v == 0) _ (ap (λ b. b && not (holds_of_pitch (is_final m.exercise.now) (pitch_of (cell_in m.column.now 0)))) before))))
 
   -- within a bar no rule of dissonance is broken
   dissonance_kept : begins_bar (length p) ≡ false → (rule : ℕ) → is_close rule ≡ true → is_strictly_broken_then all_sets rule p m ≡ false

@@ -5,6 +5,7 @@ use Rattle.std.proofs.Common.{List, [], Option, Some, None, refl, ap, sym, ◌�
 use Rattle.std.specs.Prelude.{not, nat_le, nat_lt}
 use Rattle.std.specs.Int.{from_bool}
 use Rattle.std.specs.List.{list_any, sum_by}
+use Rattle.std.proofs.lemmas.Bool.{and_right}
 use Rattle.fux_grid.specs.declared.cell.Cell.{Cell}
 use Rattle.fux_grid.specs.declared.cell.Cell.TheVariants.{Rest, Hold, Start}
 use Rattle.fux_grid.specs.declared.exercise.Exercise.{Exercise}
@@ -16,7 +17,7 @@ use Rattle.rule_law.specs.Nearby.{previous_pitches}
 use Rattle.rule_law.specs.Pairs.{one_starts, sound_perfect}
 use Rattle.rule_law.specs.Places.{Row}
 use Rattle.rule_law.specs.Quiet.{is_quiet, quiet_alike, quiet_cell, quiet_inner, quiet_pair, quiet_slot}
-use Rattle.rule_law.specs.Quiet.{and_none, count_free-none, count_pairs-none, either_none, on_pair-none}
+use Rattle.rule_law.specs.Quiet.{count_free-none, count_pairs-none, either_none, on_pair-none}
 use Rattle.rule_law.specs.Rulebooks.{RuleRow, TollRow, no_rule, no_toll}
 use Rattle.rule_law.specs.Terms.{sounds, starts}
 use Rattle.motion_rules.specs.Book as motion_book
@@ -59,7 +60,7 @@ module _ (ex : Exercise) (i : ℕ) (before : Option (List Cell)) (next : List Ce
     undoubled =
         on_pair-none ex _ voices
         (λ v w.
-        and_none (is_before_last_bar ex i && sounds_leading ex next v && sounds_leading ex next w) (one_starts next v w)
+        and_right (is_before_last_bar ex i && sounds_leading ex next v && sounds_leading ex next w) (one_starts next v w)
         (quiet_pair i next quiet v w))
 
     unbroken : read (breaks rule ex voices) ≡ false
@@ -99,14 +100,14 @@ module _ (ex : Exercise) (i : ℕ) (before : Option (List Cell)) (next : List Ce
   none_stray =
       count_free-none ex _
       (λ v.
-      and_none (nat_lt v ex.voices) (strays ex v i (cell_in next v))
+      and_right (nat_lt v ex.voices) (strays ex v i (cell_in next v))
       (in_range v (cell_in next v) (quiet_cell i next quiet v)))
 
   no_doubling : (toll : ℕ) → cost_of_column toll ex i next ≡ 0
   no_doubling toll =
       either_none (toll == 3) _ _ 0
       (ap (λ b. from_bool (b && sounds (cell_in next 0) && (count_thirds next == 0)))
-      (and_none (nat_le 3 ex.voices) (begins_inner_bar ex i) (quiet_inner ex i next quiet)))
+      (and_right (nat_le 3 ex.voices) (begins_inner_bar ex i) (quiet_inner ex i next quiet)))
       (either_none (toll == 4) _ _ 0
       (ap
       (λ b.
@@ -116,20 +117,20 @@ module _ (ex : Exercise) (i : ℕ) (before : Option (List Cell)) (next : List Ce
       (quiet_slot i next quiet))
       (either_none (toll == 5) _ _ 0
       (ap (λ b. from_bool (b && nat_le 2 (count_thirds next)))
-      (and_none (nat_le 3 ex.voices) (begins_bar i) (quiet_slot i next quiet)))
+      (and_right (nat_le 3 ex.voices) (begins_bar i) (quiet_slot i next quiet)))
       none_stray))
 
   no_ligature : from_bool (lacks_ligature ex i next) ≡ 0
   no_ligature =
       ap (λ b. from_bool (b && starts (cell_in next ex.species_voice)))
-      (and_none (ex.species == 4) (begins_inner_bar ex i) (quiet_inner ex i next quiet))
+      (and_right (ex.species == 4) (begins_inner_bar ex i) (quiet_inner ex i next quiet))
 
   no_inner_moves : inner_moves ex (newest_column (behind_of before)) next ≡ 0
   no_inner_moves =
       either_none (nat_le 3 ex.voices) _ _ 0
       (count_pairs-none _
       (λ v w.
-      and_none (not (are_outer ex v w)) _
+      and_right (not (are_outer ex v w)) _
       (ap (λ b. b && sound_perfect next v w) (quiet_alike i (newest_column (behind_of before)) next quiet v w)))) refl
 
   module _ (toll : ℕ) (between : is_toll_between toll ≡ true) where

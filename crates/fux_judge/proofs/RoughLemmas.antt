@@ -1,12 +1,13 @@
 -- A voice that breaks a rule of melody breaks one strictly, where nothing is relaxed.
 use Rattle.std.proofs.Common.{◌≡◌, ℕ, ◌<◌, ◌&&◌, ◌||◌, Bool, true, false, List, [], ◌∷◌, ◌++◌, Some, length, reverse, refl, ap, sym, ◌∙◌}
 use Rattle.std.specs.Prelude.{nat_lt}
+use Rattle.std.proofs.lemmas.Bool.{and_from}
 use Rattle.fux_grid.specs.declared.cell.Cell.{Cell}
 use Rattle.fux_grid.specs.declared.exercise.Exercise.{Exercise}
 use Rattle.fux_grid.specs.Cells.{cell_in, notes_from}
 use Rattle.fux_grid.specs.Columns.{line}
 use Rattle.fux_grid.specs.Exercises.{species_in}
-use Rattle.rule_law.specs.Law.{below_from_test, both_true, first_true, reading-at_end, second_true}
+use Rattle.rule_law.specs.Law.{below_from_test, first_true, reading-at_end, second_true}
 use Rattle.rule_law.specs.Nearby.{pitch_at, previous_pitches}
 use Rattle.rule_law.specs.Voices.{is_free, on_free_voice, voice_of}
 use Rattle.melody_rules.specs.Rows as melody
@@ -34,7 +35,7 @@ module _ (ex : Exercise) (voices v n : ℕ) (p : List (List Cell)) (col : List C
   strictly : (rule : ℕ) → reads_below rule ≡ true → breaks rule ex voices (length p) (reverse p) col [] ≡ true → AllBreak n ex p col
   strictly rule reads broken =
       breaks_in_all rule voices n ex p col reads below
-      (both_true (is_broken rule ex voices (p ++ col ∷ []) (length p)) (is_strict_at rule ex voices (length p)) (reading-at_end (breaks rule ex voices) p col ∙ broken) (strict rule))
+      (and_from (is_broken rule ex voices (p ++ col ∷ []) (length p)) (is_strict_at rule ex voices (length p)) (reading-at_end (breaks rule ex voices) p col ∙ broken) (strict rule))
 
   tested : (test : ℕ → Bool) → on_free_voice ex test voices ≡ test v
   tested test = on_free_voice-test ex test voices v (sym one) there free

@@ -1,9 +1,10 @@
 -- The names of pitches: each is the name of one pitch, and has two or three bytes of a few.
-use Rattle.std.proofs.Common.{◌≡◌, ℕ, zero, suc, ◌+◌, ◌/◌, ◌%◌, ◌<◌, ◌≤◌, ℤ, pos, negsuc, ◌≤ℤ◌, Bool, true, false, List, length, refl, sym, ◌∙◌, ap, subst, arith}
-use Rattle.std.specs.Prelude.{slice_index, slice_index_or, ◌≢◌, ◌==◌, not, ◌&&◌, All, codes}
+use Rattle.std.proofs.Common.{◌≡◌, ℕ, zero, suc, ◌+◌, ◌/◌, ◌%◌, ◌<◌, ◌≤◌, ℤ, pos, negsuc, ◌≤ℤ◌, Bool, true, List, length, refl, subst, arith}
+use Rattle.std.specs.Prelude.{slice_index, slice_index_or, codes}
 use Rattle.std.specs.List.{list_all}
 use Rattle.std.proofs.lemmas.List.Sums.{AllPass-from_list_all}
-use Rattle.std.proofs.lemmas.Bool.Decides.{Decides-eqb, nat_tests}
+use Rattle.std.proofs.lemmas.Bool.{and_from}
+use Rattle.std.proofs.lemmas.Bool.Decides.{nat_tests}
 use Rattle.std.proofs.lemmas.Int.{ints}
 use Rattle.fux_pitch.specs.Pitch.{degree_of, alter_of}
 use Rattle.fux_pitch.specs.Names.{letter_byte, name_of}
@@ -52,14 +53,11 @@ no_sign bytes (with_flat e f) h not_sharp not_flat = not_flat f
 pub name_of-length : (p : Pitch) → (2 ≤ length (name_of p)) × (length (name_of p) ≤ 3)
 name_of-length p = shaped-length (name_of p) (name_of-shape p)
 
-both_pass : (x y : Bool) → x ≡ true → y ≡ true → (x && y) ≡ true
-both_pass x y e f = rw (e, f) refl
-
 spelled_out-passes : (test : ℕ → Bool) (letter : ℕ) (alter : ℤ) (digit : ℕ) → negsuc 0 ≤ℤ alter → alter ≤ℤ pos 1 → test 35 ≡ true → test 98 ≡ true → test letter ≡ true → test digit ≡ true → list_all test (spelled_out letter alter digit) ≡ true
-spelled_out-passes test letter (pos zero) digit l h sharp flat first last = both_pass _ _ first (both_pass _ _ last refl)
-spelled_out-passes test letter (pos (suc zero)) digit l h sharp flat first last = both_pass _ _ first (both_pass _ _ sharp (both_pass _ _ last refl))
+spelled_out-passes test letter (pos zero) digit l h sharp flat first last = and_from _ _ first (and_from _ _ last refl)
+spelled_out-passes test letter (pos (suc zero)) digit l h sharp flat first last = and_from _ _ first (and_from _ _ sharp (and_from _ _ last refl))
 spelled_out-passes test letter (pos (suc (suc n))) digit l h sharp flat first last = absurd (omega (arith, ints))
-spelled_out-passes test letter (negsuc zero) digit l h sharp flat first last = both_pass _ _ first (both_pass _ _ flat (both_pass _ _ last refl))
+spelled_out-passes test letter (negsuc zero) digit l h sharp flat first last = and_from _ _ first (and_from _ _ flat (and_from _ _ last refl))
 spelled_out-passes test letter (negsuc (suc n)) digit l h sharp flat first last = absurd (omega (arith, ints))
 
 -- the bytes that names are written with
@@ -83,14 +81,3 @@ name_of-passes test h p =
     (each 0 0 (omega arith)) (each 15 0 (omega arith))
     (subst P (letter_byte-among (degree_of p % 7) (omega arith)) (each (8 + degree_of p % 7) 0 (omega arith)))
     (subst P (digit-among (degree_of p / 7) octaves.0 octaves.1) (each (degree_of p / 7) 0 (omega arith)))
-
-no_true : false ≡ true → ⊥
-no_true e = cc
-
-other-from_test : (b byte : ℕ) → not (b == byte) ≡ true → b ≢ byte
-other-from_test b byte h e = let same : (b == byte) ≡ true = (Decides-eqb b byte).1 e in absurd (no_true (sym (ap not same) ∙ h))
-
--- no name has a byte that names are not written with
-pub name_of-excludes : (byte : ℕ) → list_all (λ b. not (b == byte)) name_bytes ≡ true → (p : Pitch) → All (λ b. b ≢ byte) (name_of p)
-name_of-excludes byte h p k d less =
-    other-from_test (slice_index_or (name_of p) k d) byte (AllPass-from_list_all (λ b. not (b == byte)) (name_of p) (name_of-passes (λ b. not (b == byte)) h p) k d less)

@@ -1,6 +1,6 @@
 -- The spelling of keys.
-use Rattle.std.proofs.Common.{◌≡◌, ℕ, zero, suc, ◌+◌, ◌-◌, ◌*◌, ◌/◌, ◌%◌, ◌<◌, ◌≤◌, ℤ, pos, negsuc, ◌+ℤ◌, ◌≤ℤ◌, Bool, true, false, ◌&&◌, ◌==◌, refl, sym, ◌∙◌, ap, subst, arith, inl, inr, ◌||◌}
-use Rattle.std.proofs.lemmas.Bool.{or_cases}
+use Rattle.std.proofs.Common.{◌≡◌, ℕ, zero, suc, ◌+◌, ◌-◌, ◌*◌, ◌/◌, ◌%◌, ◌<◌, ◌≤◌, ℤ, pos, negsuc, ◌+ℤ◌, ◌≤ℤ◌, Bool, true, ◌&&◌, ◌==◌, refl, sym, ◌∙◌, ap, subst, arith, inl, inr, ◌||◌}
+use Rattle.std.proofs.lemmas.Bool.{and_parts, or_cases}
 use Rattle.std.specs.Prelude.{nat_le, Option, Some, None, IsSome, IfSome, ◌↔◌}
 use Rattle.std.proofs.lemmas.Bool.Decides.{Decides-below_and, Decides-int_eq, Decides-eqb, nat_tests}
 use Rattle.std.proofs.lemmas.Int.{ints}
@@ -111,10 +111,6 @@ raised-spelled Mixolydian letter h = grind (arith, nat_tests)
 raised-spelled Aeolian letter h = grind (arith, nat_tests)
 raised-spelled Ionian letter h = absurd (cc)
 
-both_parts : (x y : Bool) → (x && y) ≡ true → (x ≡ true) × (y ≡ true)
-both_parts true y h = (refl, h)
-both_parts false y h = absurd (cc)
-
 -- a pitch of a gamut has one of the spellings
 gamut-spelled : (mode : Mode) (bar bars : ℕ) (p : Pitch) → is_in_gamut mode bar bars p ≡ true → (class : ℕ) × IsSpelledAt (degree_of p % 7) (alter_of p) class
 gamut-spelled mode bar bars p h =
@@ -127,10 +123,10 @@ gamut-spelled mode bar bars p h =
     elim (or_cases (natural || flat) (raised && last) h) [
       | inl x ↦ elim (or_cases natural flat x) [
         | inl y ↦ subst P (sym ((Decides-int_eq (alter_of p) (pos 0)).0 y)) (letter_key letter, natural-spelled letter (omega arith))
-        | inr y ↦ let parts : (int_eq (alter_of p) (negsuc 0) ≡ true) × ((letter == 6) ≡ true) = both_parts _ _ y in
+        | inr y ↦ let parts : (int_eq (alter_of p) (negsuc 0) ≡ true) × ((letter == 6) ≡ true) = and_parts _ _ y in
             subst P (sym ((Decides-int_eq (alter_of p) (negsuc 0)).0 parts.0)) (10, flat-spelled letter ((Decides-eqb letter 6).0 parts.1))
       ]
-      | inr x ↦ let parts : (int_eq (alter_of p) (pos 1) ≡ true) × (raises mode letter ≡ true) = both_parts _ _ (both_parts raised last x).0 in
+      | inr x ↦ let parts : (int_eq (alter_of p) (pos 1) ≡ true) × (raises mode letter ≡ true) = and_parts _ _ (and_parts raised last x).0 in
           subst P (sym ((Decides-int_eq (alter_of p) (pos 1)).0 parts.0)) (letter_key letter + 1, raised-spelled mode letter parts.1)
     ]
 

@@ -1,16 +1,16 @@
 -- The rules and tolls of melody keep the laws of a crate's book.
-use Rattle.std.specs.Prelude.{◌≡◌, ℕ, ◌==◌, Bool, true, false, List, [], ◌∷◌, if◌then◌else◌, refl}
+use Rattle.std.specs.Prelude.{◌≡◌, ℕ, ◌==◌, Bool, true, false, List, [], if◌then◌else◌, refl}
 use Rattle.std.proofs.Common.{arith}
 use Rattle.fux_grid.specs.declared.cell.Cell.{Cell}
 use Rattle.fux_grid.specs.declared.exercise.Exercise.{Exercise}
 use Rattle.fux_grid.specs.Columns.{newest_column}
 use Rattle.rule_law.specs.Forms.{IsOf, voice_form, voice_sets_of}
 use Rattle.rule_law.specs.Nearby.{previous_pitches, whole_of}
-use Rattle.rule_law.specs.Quiet.{is_quiet, quiet_cell, either_none}
+use Rattle.rule_law.specs.Quiet.{is_quiet, quiet_cell}
 use Rattle.rule_law.specs.Rulebooks.{KeepsLaws, KeepsRuleLaws, KeepsTollLaws}
 use Rattle.melody_rules.specs.Locality.{melody_is_local, melody_settles_at_end, melody_tolls_are_local, melody_tolls_settle_at_end}
 use Rattle.melody_rules.proofs.Quiet.{still_leaps, still_near_rows, still_tolls, still_window_rows}
-use Rattle.melody_rules.specs.Rows.{broken_in, cost_enough, cost_in, enough_after, looks_back, near_rows, open_leaps, toll_rows, window_rows}
+use Rattle.melody_rules.specs.Rows.{broken_in, cost_in, looks_back, near_rows, open_leaps, toll_rows, window_rows}
 use Rattle.melody_rules.specs.Book.{book, rule_row, toll_row}
 
 rule_form : (n : ℕ) (ex : Exercise) (i : ℕ) (behind : List (List Cell)) (now : List Cell) (ahead : List (List Cell)) → IsOf (voice_sets_of ex.voices) (λ voices. broken_in n ex voices i behind now ahead)

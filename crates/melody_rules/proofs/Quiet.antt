@@ -1,6 +1,7 @@
 -- Where no note starts, no rule of melody is broken, and no toll of melody costs anything.
 use Rattle.std.specs.Prelude.{◌≡◌, ℕ, ◌==◌, Bool, false, not, ◌&&◌, nat_le, List, Option, Some, None, refl}
 use Rattle.std.proofs.Common.{ap}
+use Rattle.std.proofs.lemmas.Bool.{and_right}
 use Rattle.fux_pitch.specs.declared.pitch.Pitch.{Pitch}
 use Rattle.fux_pitch.specs.declared.interval.Interval.{Interval}
 use Rattle.fux_grid.specs.declared.cell.Cell.{Cell}
@@ -10,7 +11,7 @@ use Rattle.fux_grid.specs.Cells.{cell_in}
 use Rattle.fux_grid.specs.Columns.{line}
 use Rattle.fux_grid.specs.Exercises.{species_in}
 use Rattle.rule_law.specs.Nearby.{Pitches, pitch_at}
-use Rattle.rule_law.specs.Quiet.{and_none, count_free-none, either_none, on_free_voice-none}
+use Rattle.rule_law.specs.Quiet.{count_free-none, either_none, on_free_voice-none}
 use Rattle.rule_law.specs.Terms.{starts, degrees_without_sign, holds_of, interval_of_pitches, is_step, move_from, opposite_ways, semitones_without_sign}
 use Rattle.melody_rules.specs.Rows.{bars_repetitions, before_last, charges_move, holds_of_both, last_of, latest_turning, leaves_leap_open, near_rows, on_moves, open_leaps, pitches, toll_rows, voice_rule, window_rows, window_rule}
 
@@ -27,9 +28,9 @@ still_moves test before last (Start p) h = cc
 -- a cell in which no note starts breaks nothing
 still_near : (rule species : ℕ) (previous : Option Pitch) (c : Cell) → starts c ≡ false → voice_rule rule species previous c ≡ false
 still_near rule species previous Rest h =
-    either_none (rule == 4) _ _ false refl (either_none (rule == 5) _ _ false (and_none (bars_repetitions species) false refl) refl)
+    either_none (rule == 4) _ _ false refl (either_none (rule == 5) _ _ false (and_right (bars_repetitions species) false refl) refl)
 still_near rule species previous (Hold p) h =
-    either_none (rule == 4) _ _ false refl (either_none (rule == 5) _ _ false (and_none (bars_repetitions species) false refl) refl)
+    either_none (rule == 4) _ _ false refl (either_none (rule == 5) _ _ false (and_right (bars_repetitions species) false refl) refl)
 still_near rule species previous (Start p) h = cc
 
 no_move : (test : Interval → Bool) (previous : Option Pitch) (c : Cell) → starts c ≡ false → holds_of test (move_from previous c) ≡ false
@@ -39,11 +40,11 @@ no_move test previous (Start p) h = cc
 
 still_back : (rule : ℕ) (ps : List Pitch) (c : Cell) → starts c ≡ false → window_rule rule ps c ≡ false
 still_back rule ps Rest h =
-    either_none (rule == 6) _ _ false (and_none _ false refl)
+    either_none (rule == 6) _ _ false (and_right _ false refl)
     (either_none (rule == 7) _ _ false (no_second _ (interval_of_pitches (before_last ps) (last_of ps)))
     (either_none (rule == 8) _ _ false (ap (λ b. b && holds_of (λ k. semitones_without_sign k == 6) (interval_of_pitches (latest_turning ps) (last_of ps))) (no_second _ (interval_of_pitches (before_last ps) (last_of ps)))) refl))
 still_back rule ps (Hold p) h =
-    either_none (rule == 6) _ _ false (and_none _ false refl)
+    either_none (rule == 6) _ _ false (and_right _ false refl)
     (either_none (rule == 7) _ _ false (no_second _ (interval_of_pitches (before_last ps) (last_of ps)))
     (either_none (rule == 8) _ _ false (ap (λ b. b && holds_of (λ k. semitones_without_sign k == 6) (interval_of_pitches (latest_turning ps) (last_of ps))) (no_second _ (interval_of_pitches (before_last ps) (last_of ps)))) refl))
 still_back rule ps (Start p) h = cc

@@ -1,7 +1,6 @@
 -- The rules and tolls of melody as a crate's book.
-use Rattle.std.specs.Prelude.{ℕ, Bool, ◌==◌, ◌||◌, true, false, if◌then◌else◌}
+use Rattle.std.specs.Prelude.{ℕ, Bool, ◌==◌, ◌||◌, false, if◌then◌else◌}
 use Rattle.rule_law.specs.declared.table.Form.TheVariants.{OneVoice}
-use Rattle.rule_law.specs.declared.table.Kind.{Kind}
 use Rattle.rule_law.specs.declared.table.Kind.TheVariants.{Pair, Window}
 use Rattle.rule_law.specs.declared.table.Stands.TheVariants.{Anywhere}
 use Rattle.rule_law.specs.Rulebooks.{RuleRow, Rulebook, TollRow}

@@ -1,18 +1,13 @@
 -- The pitches of a line's notes are those that start in its cells (`pitches_are`), so a held cell adds none.
-use Rattle.std.specs.Prelude.{◌≡◌, ℕ, suc, List, [], ◌∷◌, map, Option, Some, None, refl}
+use Rattle.std.specs.Prelude.{◌≡◌, ℕ, suc, List, [], ◌∷◌, map, refl}
 use Rattle.std.specs.List.{filter_map}
 use Rattle.std.proofs.Common.{ap, sym, ◌∙◌}
 use Rattle.fux_pitch.specs.declared.pitch.Pitch.{Pitch}
 use Rattle.fux_grid.specs.declared.cell.Cell.{Cell}
 use Rattle.fux_grid.specs.declared.cell.Cell.TheVariants.{Rest, Hold, Start}
 use Rattle.fux_grid.specs.Cells.{notes_from}
+use Rattle.rule_law.specs.Terms.{started_pitch}
 use Rattle.melody_rules.specs.Rows.{pitches}
-
--- the pitch that starts in a cell
-abbrev pub started_pitch : Cell → Option Pitch
-started_pitch Rest = None
-started_pitch (Hold p) = None
-started_pitch (Start p) = Some p
 
 -- how long the newest note has been held changes no pitch
 held_starts : (h : ℕ) (cells : List Cell) → map (λ n. n.pitch) (notes_from h cells) ≡ filter_map started_pitch cells

@@ -1,7 +1,7 @@
 -- What the rules and tolls of melody read is settled, and what two neighbors decide they decide.
 use Rattle.std.specs.Prelude.{◌≡◌, ℕ, ◌+◌, ◌^◌, ◌==◌, Bool, true, false, IsTrue, if◌then◌else◌, refl}
 use Rattle.std.proofs.Common.{sym, subst}
-use Rattle.std.proofs.lemmas.Bool.{eqb-true, false_from_ne_true}
+use Rattle.std.proofs.lemmas.Bool.{cond-false, eqb-true, false_from_ne_true}
 use Rattle.fux_grid.specs.declared.exercise.Exercise.{Exercise}
 use Rattle.rule_law.specs.Places.{Row, IsLocal, IsUndisturbed, SettlesAtEnd, reading_of, settled_by, at_once}
 use Rattle.rule_law.specs.Law.{local_from_row, at_once_settles}
@@ -41,10 +41,6 @@ melody_is_local rule ex voices =
 pub melody_settles_at_end : SettleAtEnd melody_settles
 melody_settles_at_end rule ex voices = at_once_settles ex
 
-second_choice : {R : Type 0} (b : Bool) (x y : Row R) → b ≡ false → (if b then x else y) ≡ y
-second_choice true x y e = cc
-second_choice false x y e = refl
-
 -- a number that isn't in a set of bits is no rule of it
 not_in : (bits rule other : ℕ) → has_rule bits other ≡ false → IsTrue (has_rule bits rule) → (rule == other) ≡ false
 not_in bits rule other out h =
@@ -57,7 +53,7 @@ sees_neighbors rule h = rw (not_in near_bits rule 6 refl h, not_in near_bits rul
 pub melody_is_near : (rule : ℕ) (ex : Exercise) (voices : ℕ) → IsTrue (has_rule near_bits rule) → IsNear ex (melody_breaks rule ex voices) (near_rows rule ex voices)
 melody_is_near rule ex voices covered =
     let P : Row Bool → Type 0 = λ row. IsNear ex (reading_of row) (near_rows rule ex voices) in
-    subst P (sym (second_choice (looks_back rule) (window_rows rule ex voices) (whole_of (near_rows rule ex voices)) (sees_neighbors rule covered))) (near_from_whole ex (near_rows rule ex voices))
+    subst P (sym (cond-false (looks_back rule) (window_rows rule ex voices) (whole_of (near_rows rule ex voices)) (sees_neighbors rule covered))) (near_from_whole ex (near_rows rule ex voices))
 
 open_leaps_undisturbed : (ex : Exercise) → IsUndisturbed (open_leaps ex) at_once
 unfolding open_leaps
@@ -75,4 +71,4 @@ melody_tolls_settle_at_end toll ex = at_once_settles ex
 pub melody_tolls_are_near : (toll : ℕ) (ex : Exercise) → IsTrue (has_rule toll_bits toll) → IsNear ex (reading_of (cost_in toll ex)) (toll_rows toll ex)
 melody_tolls_are_near toll ex covered =
     let P : Row ℕ → Type 0 = λ row. IsNear ex (reading_of row) (toll_rows toll ex) in
-    subst P (sym (second_choice (toll == 13) (open_leaps ex) (whole_of (toll_rows toll ex)) (not_in toll_bits toll 13 refl covered))) (near_from_whole ex (toll_rows toll ex))
+    subst P (sym (cond-false (toll == 13) (open_leaps ex) (whole_of (toll_rows toll ex)) (not_in toll_bits toll 13 refl covered))) (near_from_whole ex (toll_rows toll ex))

@@ -16,7 +16,7 @@ use Rattle.fux_grid.specs.Exercises.{species_in}
 use Rattle.rule_law.specs.Places.{Row, at_once}
 use Rattle.rule_law.specs.Nearby.{NearRow, pitch_at, whole_of}
 use Rattle.rule_law.specs.Terms.{holds_of, interval_of_pitches, move_from, is_repetition, is_step, is_leap, rises, same_way, opposite_ways, degrees_without_sign, semitones_without_sign}
-use Rattle.rule_law.specs.Voices.{on_free_voice, count_free}
+use Rattle.rule_law.specs.Voices.{on_free_voice, count_free, is_free}
 
 -- the degrees and semitones of the moves that go up and down: the unison, seconds, thirds, the fourth, the fifth and the octave
 abbrev pub melodic_sizes : List (ℕ × ℕ)
@@ -159,19 +159,35 @@ charges_move toll i =
     else (if toll == 9 then (degrees_without_sign i == 3) || (degrees_without_sign i == 4)
     else nat_le 5 (degrees_without_sign i)))
 
--- in how many free voices a note starts by such a move
+-- a note starts by such a move
+abbrev pub pays_move : ℕ → Option Pitch → Cell → Bool
+pays_move toll previous now = holds_of (charges_move toll) (move_from previous now)
+
+-- 1 where one does in a free voice, else 0
+abbrev pub move_cost : ℕ → Exercise → ℕ → Option Pitch → Cell → ℕ
+move_cost toll ex v previous now = if is_free ex v && pays_move toll previous now then 1 else 0
+
+-- in how many free voices one does
 unfoldable pub toll_rows : ℕ → Exercise → NearRow ℕ
 toll_rows toll ex i before previous now =
-    count_free ex (λ v. holds_of (charges_move toll) (move_from (pitch_at previous v) (cell_in now v)))
+    count_free ex (λ v. pays_move toll (pitch_at previous v) (cell_in now v))
 
 -- Q13: a note starts after a move of a fourth or more, and not by a step the other way
 abbrev pub leaves_leap_open : Option Pitch → Option Pitch → Cell → Bool
 leaves_leap_open = on_moves (λ i j. nat_le 3 (degrees_without_sign i) && not (is_step j && opposite_ways i j))
 
--- in how many free voices one does
+-- the same of the note that starts after notes of these pitches, the latest first
+abbrev pub leaves_open : List Pitch → Cell → Bool
+leaves_open ps = leaves_leap_open (before_last ps) (last_of ps)
+
+-- 1 where it stands for a free voice after these cells, else 0
+abbrev pub open_leap : Exercise → ℕ → List Cell → Cell → ℕ
+open_leap ex v cells now = if is_free ex v && leaves_open (pitches cells) now then 1 else 0
+
+-- in how many free voices it stands
 unfoldable pub open_leaps : Exercise → Row ℕ
 open_leaps ex i behind now ahead =
-    count_free ex (λ v. leaves_leap_open (before_last (pitches (line v behind))) (last_of (pitches (line v behind))) (cell_in now v))
+    count_free ex (λ v. leaves_open (pitches (line v behind)) (cell_in now v))
 
 -- what a toll costs
 abbrev pub cost_in : ℕ → Exercise → Row ℕ

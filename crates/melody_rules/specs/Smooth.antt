@@ -33,10 +33,14 @@ is_rough_line ps now =
 abbrev pub is_rough : ℕ → List Pitch → Cell → Bool
 is_rough species ps now = is_rough_move species (last_of ps) now || is_rough_line ps now
 
--- one is, in this voice, if it is there and free
+-- one is, by a cell of this voice after these cells, if it is there and free
+abbrev pub is_rough_in : Exercise → ℕ → List Cell → Cell → Bool
+is_rough_in ex v cells now =
+    nat_lt v ex.voices && (is_free ex v && is_rough (species_in ex v) (pitches cells) now)
+
+-- the same of a column
 abbrev pub is_rough_at : Exercise → List (List Cell) → List Cell → ℕ → Bool
-is_rough_at ex behind now v =
-    nat_lt v ex.voices && (is_free ex v && is_rough (species_in ex v) (pitches (line v behind)) (cell_in now v))
+is_rough_at ex behind now v = is_rough_in ex v (line v behind) (cell_in now v)
 
 -- or in some voice
 abbrev pub some_rough : Exercise → List (List Cell) → List Cell → Bool

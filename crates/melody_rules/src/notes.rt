@@ -134,7 +134,7 @@ pub fn breaks_after(rule: u8, notes: &VoiceNotes, now: Cell) -> bool
 
 /// Whether Q13 stands for a cell of a voice with these notes.
 pub fn leap_open_after(notes: &VoiceNotes, now: Cell) -> bool
-    ensures { (cells : List Cell) → IsNotesOf cells notes.now → result ≡ rows.leaves_leap_open (rows.before_last (rows.pitches cells)) (rows.last_of (rows.pitches cells)) now }
+    ensures { (cells : List Cell) → IsNotesOf cells notes.now → result ≡ rows.leaves_open (rows.pitches cells) now }
 {
     leaves_leap_open(notes.before, notes.last, now)
 }

@@ -1,10 +1,8 @@
 //! All rules of melody at once: a note mostly breaks none of them.
 
-ghost use Rattle.std.specs.Prelude.{◌≡◌, ◌<◌, ◌&&◌, ◌||◌, not, nat_lt, List};
+ghost use Rattle.std.specs.Prelude.{◌≡◌, ◌<◌, not, List};
 ghost use Rattle.fux_grid.specs.declared.cell.Cell.{Cell};
 ghost use Rattle.fux_grid.specs.Cells.{cell_in};
-ghost use Rattle.fux_grid.specs.Exercises.{species_in};
-ghost use Rattle.rule_law.specs.Voices as voices_words;
 ghost use Rattle.melody_rules.specs.Notes.{AreNotesOf, IsNotesOf};
 ghost use Rattle.melody_rules.specs.Rows as rows;
 ghost use Rattle.melody_rules.specs.Smooth as smooth;
@@ -51,7 +49,7 @@ fn is_smooth(species: u8, notes: &VoiceNotes, now: Cell) -> bool
 /// Whether a voice of a column is the cantus, or isn't there, or breaks no rule of melody.
 #[inline]
 fn is_smooth_at(ex: &Exercise, notes: &VoiceNotes, now: &[Cell], v: u8) -> bool
-    ensures { (cells : List Cell) → IsNotesOf cells notes.now → result ≡ not (nat_lt v ex.now.voices && (voices_words.is_free ex.now v && smooth.is_rough (species_in ex.now v) (rows.pitches cells) (cell_in now.now v))) }
+    ensures { (cells : List Cell) → IsNotesOf cells notes.now → result ≡ not (smooth.is_rough_in ex.now v cells (cell_in now.now v)) }
 {
     if v >= ex.voices || !is_free(ex, v) {
         return true;

@@ -1,10 +1,8 @@
 //! Tolls on the moves of free voices: Q7 to Q10 and Q13.
 
-ghost use Rattle.std.specs.Prelude.{◌≡◌, ◌<◌, ◌≤◌, ◌&&◌, ℕ, IfSome, if◌then◌else◌, length};
+ghost use Rattle.std.specs.Prelude.{◌≡◌, ◌<◌, ◌≤◌, ℕ, IfSome, length};
 ghost use Rattle.fux_grid.specs.Cells.{cell_in};
-ghost use Rattle.rule_law.specs.Terms as terms;
-ghost use Rattle.rule_law.specs.Terms.{holds_of, is_this};
-ghost use Rattle.rule_law.specs.Voices as voices_words;
+ghost use Rattle.rule_law.specs.Terms.{is_this};
 ghost use Rattle.rule_law.specs.Places.{reading_of, settled_by};
 ghost use Rattle.rule_law.specs.Nearby.{pitch_at, whole_of};
 ghost use Rattle.melody_rules.specs.Locality as law;
@@ -50,7 +48,7 @@ fn toll_of_interval(i: Interval) -> Option<u8>
 pub fn toll_of_move(previous: Option<Pitch>, now: Cell) -> Option<u8>
     ensures first { IfSome result (λ toll. 7 ≤ toll) }
     ensures last { IfSome result (λ toll. toll ≤ 10) }
-    ensures stands { (toll : ℕ) → 7 ≤ toll → toll ≤ 10 → holds_of (rows.charges_move toll) (terms.move_from previous now) ≡ is_this toll result }
+    ensures stands { (toll : ℕ) → 7 ≤ toll → toll ≤ 10 → rows.pays_move toll previous now ≡ is_this toll result }
 {
     match move_from(previous, now) {
         Some(step) => toll_of_interval(step),
@@ -61,7 +59,7 @@ pub fn toll_of_move(previous: Option<Pitch>, now: Cell) -> Option<u8>
 /// 1 where a toll stands for a free voice, else 0.
 #[inline]
 fn cost_of_voice(toll: u8, ex: &Exercise, latest: &Latest, now: &[Cell], v: u8) -> u32
-    ensures value { result ≡ (if voices_words.is_free ex.now v && holds_of (rows.charges_move toll) (terms.move_from (pitch_at latest.now.pitches v) (cell_in now.now v)) then 1 else 0) }
+    ensures value { result ≡ rows.move_cost toll ex.now v (pitch_at latest.now.pitches v) (cell_in now.now v) }
     ensures bound { result ≤ 1 }
 {
     if !is_free(ex, v) {

@@ -1,12 +1,11 @@
 //! The notes of all voices, and what is read from them.
 
-ghost use Rattle.std.specs.Prelude.{◌≡◌, ◌≤◌, ◌&&◌, ◌∷◌, [], ℕ, List, length, if◌then◌else◌};
+ghost use Rattle.std.specs.Prelude.{◌≡◌, ◌≤◌, ◌∷◌, [], List, length};
 ghost use Rattle.fux_grid.specs.declared.cell.Cell.{Cell};
 ghost use Rattle.fux_grid.specs.Cells.{cell_in};
 ghost use Rattle.fux_grid.specs.Columns.{line, earlier};
 ghost use Rattle.rule_law.specs.Nearby.{previous_pitches};
-ghost use Rattle.rule_law.specs.Voices as voices_words;
-ghost use Rattle.melody_rules.specs.Notes.{AreNotesOf, IsNotesOf};
+ghost use Rattle.melody_rules.specs.Notes.{AnswersAfter, AreNotesOf, IsNotesOf};
 ghost use Rattle.melody_rules.specs.Rows as rows;
 
 use crate::notes::{VoiceNotes, breaks_after, leap_open_after, noted, notes_before, silent};
@@ -67,7 +66,7 @@ pub fn breaks_looking_back(
     voices: &[VoiceNotes; 4],
     now: &[Cell],
 ) -> bool
-    ensures { (i : ℕ) (behind ahead : List (List Cell)) → AreNotesOf behind voices.now → result ≡ rows.window_rows rule ex.now set.bits i behind now.now ahead }
+    ensures { AnswersAfter (rows.window_rows rule ex.now set.bits) voices.now now.now result }
 {
     match voice_of(set) {
         Some(v) => {
@@ -83,7 +82,7 @@ pub fn breaks_looking_back(
 /// 1 where Q13 stands for a free voice, else 0.
 #[inline]
 fn open_leap(ex: &Exercise, notes: &VoiceNotes, now: &[Cell], v: u8) -> u32
-    ensures value { (cells : List Cell) → IsNotesOf cells notes.now → result ≡ (if voices_words.is_free ex.now v && rows.leaves_leap_open (rows.before_last (rows.pitches cells)) (rows.last_of (rows.pitches cells)) (cell_in now.now v) then 1 else 0) }
+    ensures value { (cells : List Cell) → IsNotesOf cells notes.now → result ≡ rows.open_leap ex.now v cells (cell_in now.now v) }
     ensures bound { result ≤ 1 }
 {
     u32::from(is_free(ex, v) && leap_open_after(notes, cell_of(now, v as usize)))
@@ -92,7 +91,7 @@ fn open_leap(ex: &Exercise, notes: &VoiceNotes, now: &[Cell], v: u8) -> u32
 /// In how many free voices Q13 stands in a column that comes after these notes.
 #[tactic(auto, unfolding(crate::specs::Rows::open_leaps))]
 pub fn open_leaps(ex: &Exercise, voices: &[VoiceNotes; 4], now: &[Cell]) -> u32
-    ensures value { (i : ℕ) (behind ahead : List (List Cell)) → AreNotesOf behind voices.now → result ≡ rows.open_leaps ex.now i behind now.now ahead }
+    ensures value { AnswersAfter (rows.open_leaps ex.now) voices.now now.now result }
     ensures bound { result ≤ 4 }
 {
     open_leap(ex, &voices[0], now, 0)

@@ -1,6 +1,7 @@
 -- S18 is read in two parts: two voices arrive, and the notes of the species voice between stay near.
-use Rattle.std.specs.Prelude.{◌≡◌, ℕ, Bool, true, false, ◌&&◌, nat_lt, List, [], ◌∷◌, Option, Some, None, slice_index_or, refl}
-use Rattle.std.proofs.Common.{ap, ◌∙◌}
+use Rattle.std.specs.Prelude.{◌≡◌, ℕ, Bool, false, ◌&&◌, nat_lt, List, [], ◌∷◌, Option, Some, None, slice_index_or, refl}
+use Rattle.std.proofs.Common.{ap, sym, ◌∙◌}
+use Rattle.std.proofs.Math.Bool.{and_assoc}
 use Rattle.fux_grid.specs.declared.cell.Cell.{Cell}
 use Rattle.fux_grid.specs.declared.exercise.Exercise.{Exercise}
 use Rattle.fux_grid.specs.Columns.{newest_column}
@@ -12,13 +13,9 @@ on_pair-and : (ex : Exercise) (test : ℕ → ℕ → Bool) (also : Bool) (voice
     → on_pair ex (λ v w. test v w && also) voices ≡ (on_pair ex test voices && also)
 on_pair-and ex test also voices = at (pair_of voices)
   where
-    three : (a b c : Bool) → (a && (b && c)) ≡ ((a && b) && c)
-    three true b c = refl
-    three false b c = refl
-
     at : (pair : Option (ℕ × ℕ)) → holds_of_pair ex (λ v w. test v w && also) pair ≡ (holds_of_pair ex test pair && also)
     at None = refl
-    at (Some pair) = three (nat_lt pair.1 ex.voices) (test pair.0 pair.1) also
+    at (Some pair) = sym (and_assoc (nat_lt pair.1 ex.voices) (test pair.0 pair.1) also)
 
 module _ (ex : Exercise) (voices i : ℕ) (behind : List (List Cell)) (now : List Cell) (ahead : List (List Cell)) where
   pub kept_if_apart : on_pair ex (arrive_at_bar ex i (slice_index_or behind 7 []) now) voices ≡ false

@@ -1,10 +1,10 @@
 -- The rules and tolls of motion keep the laws of a crate's book.
-use Rattle.std.specs.Prelude.{◌≡◌, ◌≤◌, ℕ, ◌+◌, ◌==◌, Bool, true, false, ◌&&◌, nat_le, List, [], length, reverse, if◌then◌else◌, refl}
+use Rattle.std.specs.Prelude.{◌≡◌, ℕ, ◌==◌, Bool, true, false, ◌&&◌, nat_le, List, [], length, reverse, if◌then◌else◌, refl}
 use Rattle.std.proofs.Common.{arith}
 use Rattle.fux_grid.specs.declared.cell.Cell.{Cell}
 use Rattle.fux_grid.specs.declared.exercise.Exercise.{Exercise}
 use Rattle.fux_grid.specs.Columns.{newest_column}
-use Rattle.rule_law.proofs.AtOnce.{breaks_where_it_may, costs_where_it_may}
+use Rattle.rule_law.proofs.AtOnce.{breaks_where_it_may, costs_where_it_may, own_within}
 use Rattle.rule_law.specs.Bars.{begins_bar}
 use Rattle.rule_law.specs.Forms.{IsOf, pair_form, pair_sets_of}
 use Rattle.rule_law.specs.Nearby.{previous_pitches, whole_of}
@@ -49,10 +49,6 @@ elsewhere ex voices i behind now none =
     at true false c false y z h = refl
     at false b c x y z h = refl
 
-most : (b : Bool) (i : ℕ) → i + (if b then 1 else 0) ≤ i + 1
-most true i = omega arith
-most false i = omega arith
-
 late_rules_keep : (n : ℕ) → KeepsRuleLaws (late_row n)
 late_rules_keep n = record {
   local = λ ex voices. local_from_row ex (afterbeat_row ex voices) (afterbeat_enough ex voices) (λ i behind now ahead t h. refl);
@@ -64,7 +60,7 @@ late_rules_keep n = record {
   quiet = λ e. cc;
   places = λ e ex voices p col i on h. breaks_where_it_may (late_row n) ex voices (λ i behind now ahead. refl) p col
       (may_be_bare ex (length p)) (elsewhere ex voices (length p) (reverse p) col) i h;
-  within = λ ex i. most (may_be_bare ex i) i;
+  within = λ ex i. own_within (may_be_bare ex i) i;
 }
 
 rules_at_once_keep : (n : ℕ) → KeepsRuleLaws (at_once_row n)
@@ -101,7 +97,7 @@ late_tolls_keep n = record {
   quiet = λ e. cc;
   places = λ e ex p col i on h. costs_where_it_may (late_toll n) ex (λ i behind now ahead. refl) p col
       (nat_le 3 ex.voices) (two_voices ex (newest_column (reverse p)) col) i h;
-  within = λ ex i. most (nat_le 3 ex.voices) i;
+  within = λ ex i. own_within (nat_le 3 ex.voices) i;
 }
 
 tolls_at_once_keep : (n : ℕ) → KeepsTollLaws (at_once_toll n)

@@ -1,6 +1,7 @@
 -- At a quiet column no rule of motion is broken, and no toll of motion costs anything.
 use Rattle.std.specs.Prelude.{◌≡◌, ℕ, ◌==◌, true, false, ◌&&◌, List, [], nat_le, slice_index_or, if◌then◌else◌}
 use Rattle.std.proofs.Common.{ap}
+use Rattle.std.proofs.lemmas.Bool.{and_right}
 use Rattle.fux_grid.specs.declared.cell.Cell.{Cell}
 use Rattle.fux_grid.specs.declared.exercise.Exercise.{Exercise}
 use Rattle.fux_grid.specs.Cells.{cell_in, pitch_of}
@@ -8,7 +9,7 @@ use Rattle.fux_grid.specs.Exercises.{bar_of}
 use Rattle.rule_law.specs.Bars.{begins_bar}
 use Rattle.rule_law.specs.Nearby.{Pitches}
 use Rattle.rule_law.specs.Pairs.{count_pairs, move_alike, sound_perfect}
-use Rattle.rule_law.specs.Quiet.{is_quiet, quiet_alike, quiet_moves, quiet_pair, quiet_slot, and_none, count_pairs-none, either_none, on_pair-none}
+use Rattle.rule_law.specs.Quiet.{is_quiet, quiet_alike, quiet_moves, quiet_pair, quiet_slot, count_pairs-none, either_none, on_pair-none}
 use Rattle.rule_law.specs.Terms.{equal_perfects, interval_in}
 use Rattle.motion_rules.specs.Afterbeats.{afterbeat_row, arrive_in_parallel, has_species_voice, moves_within_bars, stays_since_bar}
 use Rattle.motion_rules.specs.Rows.{are_outer, four_bar_lines, imperfect_runs, is_above, keep_on, near_rows, toll_rows}
@@ -19,7 +20,7 @@ pub within_a_bar : (ex : Exercise) (voices i : ℕ) (behind : List (List Cell)) 
 within_a_bar ex voices i behind now within =
     on_pair-none ex _ voices
     (λ v w. ap (λ b. b && nat_le 8 i && arrive_in_parallel (slice_index_or behind 7 []) now v w && stays_since_bar behind ex.species_voice)
-    (and_none (moves_within_bars ex.species && has_species_voice ex v w) (begins_bar i) within))
+    (and_right (moves_within_bars ex.species && has_species_voice ex v w) (begins_bar i) within))
 
 module _ (ex : Exercise) (i : ℕ) (now : List Cell) (quiet : is_quiet i now ≡ true) where
   pub quiet_rows : (rule voices : ℕ) (before : List Cell) (previous : Pitches) → near_rows rule ex voices i before previous now ≡ false
@@ -28,7 +29,7 @@ module _ (ex : Exercise) (i : ℕ) (now : List Cell) (quiet : is_quiet i now ≡
       (on_pair-none ex _ voices (λ v w. ap (λ b. b && is_above (pitch_of (cell_in now v)) (pitch_of (cell_in now w))) (quiet_pair i now quiet v w)))
       (either_none (rule == 16) _ _ false
       (on_pair-none ex _ voices (λ v w. ap (λ b. b && equal_perfects (interval_in before v w) (interval_in now v w)) (quiet_moves i before now quiet v w)))
-      (on_pair-none ex _ voices (λ v w. and_none (are_outer ex v w) _ (ap (λ b. b && sound_perfect now v w) (quiet_alike i before now quiet v w)))))
+      (on_pair-none ex _ voices (λ v w. and_right (are_outer ex v w) _ (ap (λ b. b && sound_perfect now v w) (quiet_alike i before now quiet v w)))))
 
   pub quiet_tolls : (toll : ℕ) (before : List Cell) (previous : Pitches) → toll_rows toll ex i before previous now ≡ 0
   quiet_tolls toll before previous = count_pairs-none (move_alike before now) (quiet_alike i before now quiet)

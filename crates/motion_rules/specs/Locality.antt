@@ -1,10 +1,10 @@
 -- The readings of the rules S10 and S16 to S18 and of the tolls Q11, Q12 and Q14 are local, and two neighbors decide all but S18 and Q14.
 use Rattle.std.specs.Prelude.{◌≡◌, ℕ, ◌+◌, ◌^◌, ◌==◌, Bool, true, false, IsTrue, ◌++◌, length, nat_lt, if◌then◌else◌, refl}
 use Rattle.std.proofs.Common.{subst, sym, ◌∙◌}
-use Rattle.std.proofs.lemmas.Bool.{eqb-true, false_from_ne_true}
+use Rattle.std.proofs.lemmas.Bool.{and_from, eqb-true, false_from_ne_true}
 use Rattle.fux_grid.specs.declared.exercise.Exercise.{Exercise}
 use Rattle.rule_law.specs.BothLaw.{RuleReading, AreLocal, SettleAtEnd}
-use Rattle.rule_law.specs.Law.{at_once_settles, both_true, local_from_row, test_from_below}
+use Rattle.rule_law.specs.Law.{at_once_settles, local_from_row, test_from_below}
 use Rattle.rule_law.specs.NearLaw.{IsNear, near_from_whole}
 use Rattle.rule_law.specs.Nearby.{whole_of}
 use Rattle.rule_law.specs.Places.{IsLocal, IsUndisturbed, Row, SettlesAtEnd, at_once, reading_of, settled_by}
@@ -52,7 +52,7 @@ pub motion_is_local : AreLocal motion_breaks motion_settles
 motion_is_local rule ex voices = local_from_row ex ((rule_row rule).broken ex voices) ((rule_row rule).enough ex voices) (rows_look_back rule ex voices)
 
 pub motion_settles_at_end : SettleAtEnd motion_settles
-motion_settles_at_end rule ex voices s i whole here = both_true (nat_lt i (length s)) _ (test_from_below i (length s) here) (rules_at_once rule ex voices _ _ _ _)
+motion_settles_at_end rule ex voices s i whole here = and_from (nat_lt i (length s)) _ (test_from_below i (length s) here) (rules_at_once rule ex voices _ _ _ _)
 
 -- where one number has a bit and the other has none, they differ
 differs_by : (bits n k : ℕ) → has_rule bits k ≡ false → IsTrue (has_rule bits n) → (n == k) ≡ false

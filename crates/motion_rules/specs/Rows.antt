@@ -13,7 +13,7 @@ use Rattle.fux_grid.specs.Exercises.{bar_of}
 use Rattle.rule_law.specs.Bars.{begins_bar}
 use Rattle.rule_law.specs.Nearby.{NearRow, whole_of}
 use Rattle.rule_law.specs.Pairs.{both_move, count_pairs, move_alike, move_into_perfect, one_starts}
-use Rattle.rule_law.specs.Places.{Row, at_once}
+use Rattle.rule_law.specs.Places.{Row, at_once, reading_back}
 use Rattle.rule_law.specs.Terms.{equal_perfects, holds_of, interval_in}
 use Rattle.rule_law.specs.Voices.{on_pair}
 
@@ -57,6 +57,10 @@ bars_before bars behind = slice_index_or behind (8 * bars - 1) []
 -- the column at the beginning of a bar, and those of the three bars before
 abbrev pub four_bar_lines : List (List Cell) → List Cell → List (List Cell)
 four_bar_lines behind now = now ∷ bars_before 1 behind ∷ bars_before 2 behind ∷ bars_before 3 behind ∷ []
+
+-- those up to a column of a list
+abbrev pub four_bar_lines_at : List (List Cell) → ℕ → List (List Cell)
+four_bar_lines_at = reading_back (λ i. four_bar_lines)
 
 -- two voices sound thirds in all of the columns, or sixths in all of them
 abbrev pub keep_on : List (List Cell) → ℕ → ℕ → Bool

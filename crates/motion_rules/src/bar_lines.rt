@@ -3,7 +3,8 @@
 ghost use Rattle.std.specs.Prelude.{◌≡◌, ◌≤◌, ◌<◌, ◌∷◌, ◌++◌, [], List, length, slice_index};
 ghost use Rattle.fux_grid.specs.declared.cell.Cell.{Cell};
 ghost use Rattle.fux_grid.specs.declared.exercise.Exercise.{Exercise};
-ghost use Rattle.rule_law.specs.Places.{reading_of};
+ghost use Rattle.fux_grid.specs.Columns.{Columns};
+ghost use Rattle.rule_law.specs.Places.{reading_with};
 ghost use Rattle.motion_rules.specs.BarLines as lines;
 ghost use Rattle.motion_rules.specs.BarLines.{IsBarLinesOf, goes_on, longer_run, longer_runs};
 ghost use Rattle.motion_rules.specs.Rows.{cost_in};
@@ -93,8 +94,8 @@ fn pairs_going_on(kept: &BarLines, now: &[Cell]) -> u32
 
 /// For how many pairs Q14 stands at column `i`, whose cells are `now`.
 pub fn imperfect_runs_after(kept: &BarLines, i: usize, now: &[Cell]) -> u32
-    ensures value { (ex : Exercise) (p : List (List Cell)) → length p ≡ i → IsBarLinesOf p kept.now →
-        result ≡ reading_of (cost_in 14 ex) (p ++ now.now ∷ []) i }
+    ensures value { (ex : Exercise) (p : Columns) → length p ≡ i → IsBarLinesOf p kept.now →
+        result ≡ reading_with (cost_in 14 ex) p now.now i }
     ensures bound { result ≤ 6 }
 {
     if !begins_bar(i) || i / 8 < 3 {

@@ -1,14 +1,11 @@
 //! S18 and Q12, read among the newest columns.
 
-ghost use Rattle.std.specs.Prelude.{◌≡◌, ◌+◌, ◌<◌, ◌≤◌, ◌∷◌, ◌++◌, [], List, IsTrue, if◌then◌else◌, length, slice_index_or};
-ghost use Rattle.fux_grid.specs.declared.cell.Cell.{Cell as ACell};
-ghost use Rattle.fux_grid.specs.Cells.{cell_in};
-ghost use Rattle.fux_grid.specs.Columns.{earlier};
+ghost use Rattle.std.specs.Prelude.{◌≡◌, ◌<◌, ◌≤◌, [], IsTrue, if◌then◌else◌, slice_index_or};
+ghost use Rattle.fux_grid.specs.Columns.{Columns, cell_at, earlier};
 ghost use Rattle.fux_grid.specs.Exercises.{IsValid, columns_in};
-ghost use Rattle.rule_law.specs.Newest.{AreNewestOf};
+ghost use Rattle.rule_law.specs.Late.{TellsBreak, TellsCost};
+ghost use Rattle.rule_law.specs.Newest.{EndsAt};
 ghost use Rattle.rule_law.specs.Places.{reading_of};
-ghost use Rattle.rule_law.specs.Prefixes.{GoesOn};
-ghost use Rattle.rule_law.specs.Rulebooks.{IsAmong, newly_breaks, newly_costs};
 ghost use Rattle.motion_rules.specs.Afterbeats as words;
 ghost use Rattle.motion_rules.specs.Afterbeats.{afterbeat_row};
 ghost use Rattle.motion_rules.specs.Book as book;
@@ -23,8 +20,7 @@ use rule_law::{LatePlaces, NewestColumns, begins_bar};
 fn behind<'a>(newest: &'a NewestColumns, ex: &Exercise, i: usize, k: usize) -> &'a [Cell]
     requires valid { IsValid ex.now }
     requires near { k < 8 }
-    ensures { (s : List (List ACell)) → AreNewestOf ex.now.voices s newest.now → length s ≡ i + 1
-        → result.now ≡ slice_index_or (earlier s i) k [] }
+    ensures { (s : Columns) → EndsAt ex.now newest.now s i → result.now ≡ slice_index_or (earlier s i) k [] }
 {
     if k >= i {
         return &[];
@@ -36,8 +32,7 @@ fn behind<'a>(newest: &'a NewestColumns, ex: &Exercise, i: usize, k: usize) -> &
 fn species_cell(newest: &NewestColumns, ex: &Exercise, i: usize, k: usize) -> Cell
     requires valid { IsValid ex.now }
     requires near { k < 8 }
-    ensures { (s : List (List ACell)) → AreNewestOf ex.now.voices s newest.now → length s ≡ i + 1
-        → result ≡ cell_in (slice_index_or (earlier s i) k []) ex.now.species_voice }
+    ensures { (s : Columns) → EndsAt ex.now newest.now s i → result ≡ cell_at (earlier s i) ex.now.species_voice k }
 {
     cell_of(behind(newest, ex, i, k), ex.species_voice as usize)
 }
@@ -45,8 +40,7 @@ fn species_cell(newest: &NewestColumns, ex: &Exercise, i: usize, k: usize) -> Ce
 /// The cells of the species voice in the seven columns before column `i`, the newest; from the newest one on.
 fn species_cells(newest: &NewestColumns, ex: &Exercise, i: usize) -> [Cell; 7]
     requires { IsValid ex.now }
-    ensures { (s : List (List ACell)) → AreNewestOf ex.now.voices s newest.now → length s ≡ i + 1
-        → result ≡ words.newest_cells (earlier s i) ex.now.species_voice }
+    ensures { (s : Columns) → EndsAt ex.now newest.now s i → result ≡ words.newest_cells (earlier s i) ex.now.species_voice }
 {
     [
         species_cell(newest, ex, i, 0),
@@ -62,8 +56,7 @@ fn species_cells(newest: &NewestColumns, ex: &Exercise, i: usize) -> [Cell; 7]
 /// S18 at column `i`, the newest.
 fn breaks_newest(newest: &NewestColumns, ex: &Exercise, voices: VoiceSet, i: usize) -> bool
     requires { IsValid ex.now }
-    ensures { (s : List (List ACell)) → AreNewestOf ex.now.voices s newest.now → length s ≡ i + 1
-        → result ≡ reading_of (afterbeat_row ex.now voices.bits) s i }
+    ensures { (s : Columns) → EndsAt ex.now newest.now s i → result ≡ reading_of (afterbeat_row ex.now voices.bits) s i }
 {
     let bar_line = behind(newest, ex, i, 7);
     if !two_arrive_at_bar(ex, voices, i, bar_line, newest.at(i, ex.voices as usize)) {
@@ -115,10 +108,7 @@ pub fn breaks_late(
     requires valid { IsValid ex.now }
     requires begun { 0 < newest.now.len }
     requires room { newest.now.len ≤ columns_in ex.now }
-    ensures { (p : List (List ACell)) (col : List ACell)
-        → AreNewestOf ex.now.voices (p ++ col ∷ []) newest.now → GoesOn ex.now p (col ∷ [])
-        → IsAmong ((rule_row rule).first ex.now (length p)) ((rule_row rule).count ex.now (length p)) place
-        → result ≡ newly_breaks (rule_row rule) ex.now voices.bits p col place }
+    ensures { TellsBreak (rule_row rule) ex.now voices.bits newest.now place result }
 {
     breaks_newest(newest, ex, voices, place)
 }
@@ -141,10 +131,7 @@ pub fn cost_late(newest: &NewestColumns, toll: u8, ex: &Exercise, place: usize) 
     requires valid { IsValid ex.now }
     requires begun { 0 < newest.now.len }
     requires room { newest.now.len ≤ columns_in ex.now }
-    ensures value { (p : List (List ACell)) (col : List ACell)
-        → AreNewestOf ex.now.voices (p ++ col ∷ []) newest.now → GoesOn ex.now p (col ∷ [])
-        → IsAmong ((toll_row toll).first ex.now (length p)) ((toll_row toll).count ex.now (length p)) place
-        → result ≡ newly_costs (toll_row toll) ex.now p col place }
+    ensures value { TellsCost (toll_row toll) ex.now newest.now place result }
     ensures bound { result ≤ 6 }
 {
     let now = newest.at(place, ex.voices as usize);

@@ -1,14 +1,13 @@
 //! The tolls.
 
-ghost use Rattle.std.specs.Prelude.{◌≡◌, ◌<◌, [], length, slice_index_or};
+ghost use Rattle.std.specs.Prelude.{◌≡◌, ◌<◌, length};
 ghost use Rattle.std.specs.List.{list_all};
-ghost use Rattle.fux_grid.specs.Columns.{earlier};
 ghost use Rattle.rule_law.specs.Nearby.{whole_of};
 ghost use Rattle.rule_law.specs.Places.{at_once, reading_of, settled_by};
 ghost use Rattle.motion_rules.specs.InnerVoices.{inner_toll};
 ghost use Rattle.motion_rules.specs.Locality.{cost_is_local, cost_settles_at_end, inner_is_local, inner_settles_at_end};
 ghost use Rattle.motion_rules.specs.Rows as rows;
-ghost use Rattle.motion_rules.specs.Rows.{cost_enough, cost_in, four_bar_lines};
+ghost use Rattle.motion_rules.specs.Rows.{cost_enough, cost_in, four_bar_lines_at};
 
 use crate::inner_voices::inner_moves;
 use crate::rows::{cost, sound_imperfect};
@@ -85,8 +84,7 @@ pub struct Q14;
 /// Whether two voices sound imperfect intervals of so many degrees at column `i` and at the beginnings of the three bars before.
 fn sound_four(score: &Score, i: usize, degrees: u8, v: usize, w: usize) -> bool
     requires { i < length score.now.columns }
-    ensures { result ≡ list_all (λ col. rows.sound_imperfect degrees col v w)
-        (four_bar_lines (earlier score.now.columns i) (slice_index_or score.now.columns i [])) }
+    ensures { result ≡ list_all (λ col. rows.sound_imperfect degrees col v w) (four_bar_lines_at score.now.columns i) }
 {
     sound_imperfect(score.column(i).as_slice(), degrees, v, w)
         && sound_imperfect(score.behind(i, 7), degrees, v, w)
@@ -97,7 +95,7 @@ fn sound_four(score: &Score, i: usize, degrees: u8, v: usize, w: usize) -> bool
 /// Whether two voices sound thirds there, or sixths.
 fn keep_on(score: &Score, i: usize, v: usize, w: usize) -> bool
     requires { i < length score.now.columns }
-    ensures { result ≡ rows.keep_on (four_bar_lines (earlier score.now.columns i) (slice_index_or score.now.columns i [])) v w }
+    ensures { result ≡ rows.keep_on (four_bar_lines_at score.now.columns i) v w }
 {
     sound_four(score, i, 2, v, w) || sound_four(score, i, 5, v, w)
 }

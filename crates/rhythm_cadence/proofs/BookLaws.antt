@@ -3,7 +3,7 @@ use Rattle.std.specs.Prelude.{◌≡◌, ℕ, ◌+◌, ◌-◌, ◌*◌, ◌/◌
 use Rattle.std.specs.Int.{from_bool}
 use Rattle.std.specs.List.{list_any}
 use Rattle.std.proofs.Common.{ap, sym, ◌∙◌, subst, arith}
-use Rattle.std.proofs.lemmas.Bool.{and_from, and_parts, both_ways, eq-eqb, eqb-true, ne_eqb, or_parts, true_from_ne_false}
+use Rattle.std.proofs.lemmas.Bool.{and_from, and_parts, and_right, both_ways, eq-eqb, eqb-true, ne_eqb, or_from, or_parts, true_from_ne_false}
 use Rattle.std.proofs.lemmas.Bool.Decides.{nat_tests}
 use Rattle.std.proofs.lemmas.List.{length-append, length-drop}
 use Rattle.fux_grid.specs.declared.cell.Cell.{Cell}
@@ -11,7 +11,7 @@ use Rattle.fux_grid.specs.declared.exercise.Exercise.{Exercise}
 use Rattle.fux_grid.specs.Cells.{cell_in, pitch_of}
 use Rattle.fux_grid.specs.Columns.{earlier, newest_column}
 use Rattle.fux_grid.specs.Exercises.{columns_in, slot_of}
-use Rattle.rule_law.proofs.AtOnce.{breaks_at_own_place, costs_at_own_place, newly_breaks-at_once, newly_costs-at_once}
+use Rattle.rule_law.proofs.AtOnce.{breaks_at_own_place, costs_at_own_place, newly_breaks-at_once, newly_costs-at_once, own_within}
 use Rattle.rule_law.specs.Bars.{begins_bar, begins_inner_bar}
 use Rattle.rule_law.specs.Forms.{IsOf, all_form, may_stand, pair_form, set_of_all, sets_of, voice_form}
 use Rattle.rule_law.specs.Growth.{newly}
@@ -19,7 +19,7 @@ use Rattle.rule_law.specs.Law.{at_once_settles, first_true, local_from_row}
 use Rattle.rule_law.specs.Nearby.{previous_pitches, whole_of}
 use Rattle.rule_law.specs.Places.{reading_of, settled_by}
 use Rattle.rule_law.specs.Prefixes.{GoesOn}
-use Rattle.rule_law.specs.Quiet.{is_quiet, and_none, on_free_voice-none, on_pair-none, on_voice-none}
+use Rattle.rule_law.specs.Quiet.{is_quiet, on_free_voice-none, on_pair-none, on_voice-none}
 use Rattle.rule_law.specs.Rulebooks.{IsAmong, KeepsLaws, KeepsRuleLaws, KeepsTollLaws, newly_breaks, newly_costs, no_toll, nothing_keeps}
 use Rattle.rule_law.specs.Terms.{holds_of, interval_in, starts}
 use Rattle.rhythm_cadence.specs.AllRules.{by_row, ligature_is_local, ligature_settles_at_end}
@@ -65,17 +65,12 @@ module _ (n : ℕ) (ex : Exercise) (other : (n == 3) ≡ false) where
       → begins_last_bar ex i ≡ false → broken_in n ex voices i behind now [] ≡ false
   not_ending voices i behind now h slot = at (n == 13) (n == 24) refl refl
     where
-      one_is : (s t : Bool) → (s || t) ≡ true → s ≡ false → t ≡ false → ⊥
-      one_is true t h e f = cc
-      one_is false true h e f = cc
-      one_is false false h e f = cc
-
       at : (b c : Bool) → (n == 13) ≡ b → (n == 24) ≡ c → broken_in n ex voices i behind now [] ≡ false
       at true c f g =
-          rw (other, f) (on_pair-none ex _ voices (λ v w. and_none (v == 0) _ (ap (λ b. b && not (holds_of (fits_ending ex) (interval_in now 0 w))) slot)))
+          rw (other, f) (on_pair-none ex _ voices (λ v w. and_right (v == 0) _ (ap (λ b. b && not (holds_of (fits_ending ex) (interval_in now 0 w))) slot)))
       at false true f g =
-          rw (other, f, g) (on_voice-none ex _ voices (λ v. and_none (v == 0) _ (ap (λ b. b && not (holds_of_pitch (is_final ex) (pitch_of (cell_in now 0)))) slot)))
-      at false false f g = absurd (one_is (n == 13) (n == 24) h f g)
+          rw (other, f, g) (on_voice-none ex _ voices (λ v. and_right (v == 0) _ (ap (λ b. b && not (holds_of_pitch (is_final ex) (pitch_of (cell_in now 0)))) slot)))
+      at false false f g = absurd (both_ways ((n == 13) || (n == 24)) (or_from (n == 13) (n == 24) f g) h)
 
   early_stands : (voices i : ℕ) (behind : List (List Cell)) (now : List Cell)
       → may_stand (at_once_row n).stands ex i ≡ false → broken_in n ex voices i behind now [] ≡ false
@@ -152,7 +147,7 @@ longer p col = omega (arith, length-append p (col ∷ []))
 only_at_end : (ex : Exercise) (voices i : ℕ) (behind : List (List Cell)) (now : List Cell) (ahead : List (List Cell))
     → begins_last_bar ex i ≡ false → cadence_row ex voices i behind now ahead ≡ false
 only_at_end ex voices i behind now ahead e =
-    and_none (voices == set_of_all ex.voices) _
+    and_right (voices == set_of_all ex.voices) _
     (ap (λ b. b && not (list_any (λ v. nat_lt v ex.voices && shows_cadence ex i behind now v) (0 ∷ 1 ∷ 2 ∷ 3 ∷ []))) e)
 
 at_end_alone : (ex : Exercise) (n i : ℕ) → begins_last_bar ex n ≡ true → IsAmong n 1 i
@@ -171,10 +166,6 @@ cadence_places ex voices p col i on h =
     at_end_alone ex (length p) i (true_from_ne_false (begins_last_bar ex (length p)) (λ e.
     both_ways (cadence_row ex voices (length p) (reverse p) col []) (only_at_end ex voices (length p) (reverse p) col [] e) there)) own
 
-cadence_within : (b : Bool) (i : ℕ) → i + (if b then 1 else 0) ≤ i + 1
-cadence_within true i = omega arith
-cadence_within false i = omega arith
-
 cadence_keeps : KeepsRuleLaws cadence_rule
 cadence_keeps = record {
   local = λ ex voices. local_from_row ex (cadence_row ex voices) (cadence_enough ex voices) (λ i behind now ahead t h. refl);
@@ -185,7 +176,7 @@ cadence_keeps = record {
   at_once = λ late. cc;
   quiet = λ late. cc;
   places = λ late. cadence_places;
-  within = λ ex i. cadence_within (begins_last_bar ex i) i;
+  within = λ ex i. own_within (begins_last_bar ex i) i;
 }
 
 -- ---- S25
@@ -314,7 +305,7 @@ ligature_keeps = record {
   at_once = λ late. cc;
   quiet = λ late. cc;
   places = λ late. ligature_places;
-  within = λ ex i. cadence_within ((ex.species == 4) && begins_inner_bar ex i) i;
+  within = λ ex i. own_within ((ex.species == 4) && begins_inner_bar ex i) i;
 }
 
 -- ---- Q16

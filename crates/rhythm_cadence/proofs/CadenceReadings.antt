@@ -24,9 +24,9 @@ use Rattle.rule_law.specs.Leading.{is_leading}
 use Rattle.rule_law.specs.Nearby.{LineFollows, line_follows}
 use Rattle.rule_law.specs.Prefixes.{GoesOn}
 use Rattle.rule_law.specs.Rulebooks.{IsAmong, newly_breaks}
-use Rattle.rule_law.specs.Terms.{note_pitch, sounds}
+use Rattle.rule_law.specs.Terms.{note_pitch, sounds, started_pitch}
 use Rattle.rhythm_cadence.specs.Book.{cadence_rule}
-use Rattle.rhythm_cadence.specs.Cadence.{ends_well, has_suspension, held_pitch, holds_suspension, is_lead, lacks_cadence_at, leading_slot, leads_to, shows_cadence, some_ends_well, sounding_note, started_pitch, starts_final}
+use Rattle.rhythm_cadence.specs.Cadence.{ends_well, has_suspension, held_pitch, holds_suspension, is_lead, lacks_cadence_at, leading_slot, leads_to, shows_cadence, some_ends_well, sounding_note, starts_final}
 use Rattle.rhythm_cadence.specs.NewestCells.{bar_behind}
 use Rattle.rhythm_cadence.specs.Rows.{begins_last_bar}
 use Rattle.rhythm_cadence.proofs.QuaverReadings.{follows_earlier}

@@ -2,6 +2,7 @@
 use Rattle.std.specs.Prelude.{◌≡◌, ℕ, zero, suc, ◌<◌, ◌==◌, Bool, true, false, not, ◌&&◌, ◌||◌, List, refl}
 use Rattle.std.proofs.Common.{ap, arith}
 use Rattle.std.proofs.lemmas.Bool.Decides.{nat_tests}
+use Rattle.std.proofs.lemmas.Bool.{both_ways, or_from}
 use Rattle.fux_grid.specs.declared.cell.Cell.{Cell}
 use Rattle.fux_grid.specs.declared.exercise.Exercise.{Exercise}
 use Rattle.fux_grid.specs.Cells.{pitch_of}
@@ -14,11 +15,6 @@ use Rattle.rhythm_cadence.specs.Rows.{holds_of_pitch, begins_last_bar, is_final,
 -- the rules of endings
 abbrev pub is_of_ending : ℕ → Bool
 is_of_ending rule = (rule == 13) || (rule == 24)
-
-neither : (s t : Bool) → (s || t) ≡ true → s ≡ false → t ≡ false → ⊥
-neither true t h e f = cc
-neither false true h e f = cc
-neither false false h e f = cc
 
 not_first : (v : ℕ) → (suc v == 0) ≡ false
 not_first v = grind (arith, nat_tests)
@@ -38,4 +34,4 @@ module _ (n : ℕ) (a b : List Cell) (same : IsSameBelow n a b) (ex : Exercise) 
       at : (s t : Bool) → (rule == 13) ≡ s → (rule == 24) ≡ t → near_rows rule ex voices i before previous a ≡ near_rows rule ex voices i before previous b
       at true t e f = rw e (on_pair-same ex n voices (λ v w. (v == 0) && ends_badly ex i a w) (λ v w. (v == 0) && ends_badly ex i b w) h ending-same)
       at false true e f = rw (e, f) (on_voice-same ex n voices (λ v. (v == 0) && lacks_final ex i a) (λ v. (v == 0) && lacks_final ex i b) h final-same)
-      at false false e f = absurd (neither (rule == 13) (rule == 24) ending e f)
+      at false false e f = absurd (both_ways (is_of_ending rule) (or_from (rule == 13) (rule == 24) e f) ending)

@@ -1,6 +1,7 @@
 -- At a quiet column no rule of rhythm and cadence but S3 is broken.
 use Rattle.std.specs.Prelude.{◌≡◌, ℕ, ◌==◌, true, false, not, ◌&&◌, List, Option, Some, None, is_none, if◌then◌else◌, refl}
 use Rattle.std.proofs.Common.{ap}
+use Rattle.std.proofs.lemmas.Bool.{and_right}
 use Rattle.fux_pitch.specs.declared.pitch.Pitch.{Pitch}
 use Rattle.fux_grid.specs.declared.cell.Cell.{Cell}
 use Rattle.fux_grid.specs.declared.cell.Cell.TheVariants.{Rest, Hold, Start}
@@ -9,7 +10,7 @@ use Rattle.fux_grid.specs.Cells.{cell_in, pitch_of}
 use Rattle.fux_grid.specs.Exercises.{bar_of}
 use Rattle.rule_law.specs.Bars.{begins_bar}
 use Rattle.rule_law.specs.Nearby.{Pitches, pitch_at}
-use Rattle.rule_law.specs.Quiet.{is_quiet, quiet_cell, quiet_slot, and_none, either_none, on_free_voice-none, on_pair-none, on_voice-none}
+use Rattle.rule_law.specs.Quiet.{is_quiet, quiet_cell, quiet_slot, either_none, on_free_voice-none, on_pair-none, on_voice-none}
 use Rattle.rule_law.specs.Terms.{starts, holds_of, interval_in, lowest_voice}
 use Rattle.rhythm_cadence.specs.Rows.{fits_ending, fits_opening, holds_of_pitch, is_final, near_rows, pitch_brought, voice_rule}
 
@@ -30,7 +31,7 @@ module _ (ex : Exercise) (i : ℕ) (now : List Cell) (quiet : is_quiet i now ≡
   pub quiet_rows : (rule voices : ℕ) (before : List Cell) (previous : Pitches) → near_rows rule ex voices i before previous now ≡ false
   quiet_rows rule voices before previous =
       either_none (rule == 13) _ _ false
-      (on_pair-none ex _ voices (λ v w. and_none (v == 0) _ (ap (λ b. (b && bar_of i == ex.bars) && not (holds_of (fits_ending ex) (interval_in now 0 w))) (quiet_slot i now quiet))))
+      (on_pair-none ex _ voices (λ v w. and_right (v == 0) _ (ap (λ b. (b && bar_of i == ex.bars) && not (holds_of (fits_ending ex) (interval_in now 0 w))) (quiet_slot i now quiet))))
       (either_none (rule == 24) _ _ false
-      (on_voice-none ex _ voices (λ v. and_none (v == 0) _ (ap (λ b. (b && bar_of i == ex.bars) && not (holds_of_pitch (is_final ex) (pitch_of (cell_in now 0)))) (quiet_slot i now quiet))))
+      (on_voice-none ex _ voices (λ v. and_right (v == 0) _ (ap (λ b. (b && bar_of i == ex.bars) && not (holds_of_pitch (is_final ex) (pitch_of (cell_in now 0)))) (quiet_slot i now quiet))))
       (on_free_voice-none ex _ voices (λ v. voice_unbroken rule v (pitch_at previous v))))

@@ -3,6 +3,7 @@ use Rattle.std.proofs.Common.{◌≡◌, ℕ, zero, suc, ◌+◌, ◌*◌, ◌/�
 use Rattle.std.specs.Prelude.{nat_eq, not, slice_index, if◌then◌else◌}
 use Rattle.std.specs.List.{list_any, starts_with}
 use Rattle.std.specs.Int.{bit_at}
+use Rattle.std.proofs.Math.Bool.{and-true, and_assoc}
 use Rattle.std.proofs.lemmas.Bool.{ne_eqb, eqb-true, eq-eqb}
 use Rattle.std.proofs.lemmas.Nat.Bits.{bit_at_and, bit_at_lowest, bit_at-suc, same_from_bits}
 use Rattle.rhythm_cadence.specs.Parts.{shape_set}
@@ -16,21 +17,13 @@ same_test a b = decide (a == b) (b == a) (λ e. eq-eqb b a (sym (eqb-true a b e)
     decide false true f g = g refl
     decide false false f g = refl
 
-and_true : (b : Bool) → (b && true) ≡ b
-and_true true = refl
-and_true false = refl
-
-and_assoc : (a b c : Bool) → (a && (b && c)) ≡ ((a && b) && c)
-and_assoc true b c = refl
-and_assoc false b c = refl
-
 pub starts_with-more : (shape letters : List ℕ) (l : ℕ) → 0 < l → starts_with nat_eq shape (letters ++ l ∷ []) ≡ (starts_with nat_eq shape letters && (slice_index shape (length letters) == l))
 starts_with-more [] [] l h = sym (ne_eqb 0 l (λ e. omega arith))
-starts_with-more (s ∷ shape) [] l h = and_true (nat_eq l s) ∙ same_test l s
+starts_with-more (s ∷ shape) [] l h = and-true (nat_eq l s) ∙ same_test l s
 starts_with-more [] (x ∷ letters) l h = refl
 starts_with-more (s ∷ shape) (x ∷ letters) l h =
     ap (λ b. nat_eq x s && b) (starts_with-more shape letters l h)
-    ∙ and_assoc (nat_eq x s) (starts_with nat_eq shape letters) (slice_index shape (length letters) == l)
+    ∙ sym (and_assoc (nat_eq x s) (starts_with nat_eq shape letters) (slice_index shape (length letters) == l))
 
 -- tests that agree pick the same set
 pub shape_set-same : (f g : List ℕ → Bool) (shapes : List (List ℕ)) → ((shape : List ℕ) → f shape ≡ g shape) → shape_set f shapes ≡ shape_set g shapes

@@ -3,7 +3,7 @@ use Rattle.std.specs.Prelude.{ℕ, ◌+◌, ◌-◌, ◌%◌, ◌==◌, Bool, tr
 use Rattle.std.specs.List.{list_all, list_any}
 use Rattle.fux_pitch.specs.declared.pitch.Pitch.{Pitch}
 use Rattle.fux_grid.specs.declared.cell.Cell.{Cell}
-use Rattle.fux_grid.specs.declared.cell.Cell.TheVariants.{Rest, Hold, Start}
+use Rattle.fux_grid.specs.declared.cell.Cell.TheVariants.{Rest}
 use Rattle.fux_grid.specs.declared.cell.Note.{Note}
 use Rattle.fux_grid.specs.declared.exercise.Exercise.{Exercise}
 use Rattle.fux_grid.specs.Cells.{cell_in, first_of, is_hold, notes_from, pitch_of}
@@ -13,7 +13,7 @@ use Rattle.rule_law.specs.Degrees.{lies_above}
 use Rattle.rule_law.specs.Forms.{set_of_all}
 use Rattle.rule_law.specs.Leading.{is_leading}
 use Rattle.rule_law.specs.Places.{Row, at_once}
-use Rattle.rule_law.specs.Terms.{degrees_without_sign, holds_of, interval_in, note_pitch, sounds, starts}
+use Rattle.rule_law.specs.Terms.{degrees_without_sign, holds_of, interval_in, note_pitch, sounds, started_pitch, starts}
 use Rattle.rhythm_cadence.specs.NewestCells.{bar_behind}
 use Rattle.rhythm_cadence.specs.Rows.{begins_last_bar, holds_of_pitch, is_final}
 
@@ -78,12 +78,6 @@ abbrev pub cadence_enough : Exercise → ℕ → Row Bool
 cadence_enough ex voices = at_once
 
 -- ---- the same from cells that stand among the newest ones
-
--- the pitch that starts in a cell
-abbrev pub started_pitch : Cell → Option Pitch
-started_pitch Rest = None
-started_pitch (Hold p) = None
-started_pitch (Start p) = Some p
 
 -- the pitch of the note that is held in exactly so many of the newest cells, and started before them
 abbrev pub held_pitch : ℕ → List Cell → Option Pitch

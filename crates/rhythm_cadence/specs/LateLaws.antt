@@ -4,7 +4,7 @@ use Rattle.std.specs.Int.{from_bool}
 use Rattle.std.specs.List.{list_all}
 use Rattle.std.proofs.Common.{ap, sym, ◌∙◌, subst, arith, drop-cons}
 use Rattle.std.proofs.Math.ListN.{get_or-append}
-use Rattle.std.proofs.lemmas.Bool.{eqb-true, or_right}
+use Rattle.std.proofs.lemmas.Bool.{and_from, eqb-true, or_right}
 use Rattle.std.proofs.lemmas.Bool.Decides.{nat_tests}
 use Rattle.std.proofs.lemmas.List.{length-append, length-drop, reverse-reverse, take-append-drop}
 use Rattle.fux_grid.specs.declared.cell.Cell.{Cell}
@@ -20,7 +20,7 @@ use Rattle.rule_law.specs.After.{onset_pitch}
 use Rattle.rule_law.specs.Bars.{begins_bar}
 use Rattle.rule_law.specs.Growth.{EnoughStays}
 use Rattle.rule_law.proofs.LateLaw.{StaysAhead, by_either, ends_when_whole, local_from_ahead, whole_same, whole_stays}
-use Rattle.rule_law.specs.Law.{both_true, local_from_row, test_from_below}
+use Rattle.rule_law.specs.Law.{or_each, local_from_row, test_from_below}
 use Rattle.rule_law.specs.Nearby.{RestsFirst}
 use Rattle.rule_law.specs.OrderlyLaw.{free_rests}
 use Rattle.rule_law.specs.Places.{IsLocal, IsUndisturbed, SettlesAtEnd, reading_of, settled_by}
@@ -107,10 +107,6 @@ quaver_stays_ahead ex voices p t i on here h =
 pub quaver_is_local : (ex : Exercise) (voices : ℕ) → IsLocal ex (reading_of (quaver_row ex voices)) (settled_by (quaver_enough ex voices))
 quaver_is_local ex voices = local_from_ahead ex (quaver_row ex voices) (quaver_enough ex voices) (quaver_stays_ahead ex voices)
 
-or_each : (a b c d : Bool) → (a ≡ true → c ≡ true) → (b ≡ true → d ≡ true) → (a || b) ≡ true → (c || d) ≡ true
-or_each true b c d f g h = ap (λ x. x || d) (f refl)
-or_each false b c d f g h = or_right c d (g h)
-
 more_ahead : (n : ℕ) (ahead t : List (List Cell)) → nat_le n (length ahead) ≡ true → nat_le n (length (ahead ++ t)) ≡ true
 more_ahead n ahead t h =
     let reached : n ≤ length (ahead ++ t) = grind (arith, nat_tests, length-append ahead t) in
@@ -175,7 +171,7 @@ pattern_enough_stays ex i behind now ahead t h =
 
 pub pattern_settles_at_end : (ex : Exercise) → SettlesAtEnd ex (settled_by (pattern_enough ex))
 pattern_settles_at_end ex s i whole here =
-    both_true (nat_lt i (length s)) (reading_of (pattern_enough ex) s i) (test_from_below i (length s) here)
+    and_from (nat_lt i (length s)) (reading_of (pattern_enough ex) s i) (test_from_below i (length s) here)
     (at (begins_bar i) refl)
   where
     at : (b : Bool) → begins_bar i ≡ b → (not b || nat_le 7 (length (drop (i + 1) s))) ≡ true

@@ -9,3 +9,4 @@ pub mod Parts
 pub mod Patterns
 pub mod Quavers
 pub mod Rows
+pub mod Told

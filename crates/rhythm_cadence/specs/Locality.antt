@@ -2,7 +2,7 @@
 use Rattle.std.specs.Prelude.{◌≡◌, ℕ, ◌+◌, ◌-◌, ◌*◌, ◌%◌, ◌^◌, ◌<◌, ◌≤◌, ◌==◌, Bool, true, false, not, ◌&&◌, nat_lt, List, ◌∷◌, ◌++◌, Option, Some, None, IsTrue, if◌then◌else◌, length, drop, take, refl}
 use Rattle.std.proofs.Common.{ap, sym, ◌∙◌, subst, arith}
 use Rattle.std.proofs.lemmas.List.{length-append, length-drop, take-append-le}
-use Rattle.std.proofs.lemmas.Bool.{eqb-true, ltb-false, le-ltb, false_from_ne_true, both_ways}
+use Rattle.std.proofs.lemmas.Bool.{and_from, both_ways, cond-false, eqb-true, false_from_ne_true, le-ltb, ltb-false}
 use Rattle.fux_grid.specs.declared.cell.Cell.{Cell}
 use Rattle.fux_grid.specs.declared.exercise.Exercise.{Exercise}
 use Rattle.fux_grid.specs.Exercises.{bar_of, slot_of}
@@ -13,7 +13,7 @@ use Rattle.fux_grid.proofs.ShapeBeginnings.{begins_shape-fewer, letters_of-appen
 use Rattle.rule_law.specs.Bars.{begins_bar}
 use Rattle.rule_law.specs.Places.{IsUndisturbed, reading_of, settled_by}
 use Rattle.rule_law.specs.Growth.{EnoughStays}
-use Rattle.rule_law.specs.Law.{local_from_row, reads_on, both_true, test_from_below}
+use Rattle.rule_law.specs.Law.{local_from_row, reads_on, test_from_below}
 use Rattle.rule_law.specs.BothLaw.{RuleReading, AreLocal, SettleAtEnd}
 use Rattle.rule_law.specs.NearLaw.{IsNear, near_from_whole}
 use Rattle.rule_law.specs.Nearby.{whole_of}
@@ -151,7 +151,7 @@ seven_after s i bars whole here slot = omega (arith, length-drop (i + 1) s)
 
 pub rhythm_settles_at_end : SettleAtEnd rhythm_settles
 rhythm_settles_at_end rule ex voices s i whole here =
-    both_true (nat_lt i (length s)) (reading_of (enough_after rule ex voices) s i) (test_from_below i (length s) here)
+    and_from (nat_lt i (length s)) (reading_of (enough_after rule ex voices) s i) (test_from_below i (length s) here)
     (no_more (rule == 3) (reading_of (λ i behind now ahead. on_free_voice ex (λ v. is_open ex v i now ahead) voices) s i)
     (none_open ex _ (voice_of voices)
     (λ v. closed (begins_bar i) (nat_lt (length (drop (i + 1) s)) 7) _
@@ -161,10 +161,6 @@ rhythm_settles_at_end rule ex voices s i whole here =
 not_3 : (rule : ℕ) → IsTrue (has_rule near_bits rule) → (rule == 3) ≡ false
 not_3 rule h = false_from_ne_true (rule == 3) (λ e. let P : ℕ → Type 0 = λ r. IsTrue (has_rule near_bits r) in let k : false ≡ true = subst P (eqb-true rule 3 e) h in cc)
 
-second_choice : (b x y : Bool) → b ≡ false → (if b then x else y) ≡ y
-second_choice true x y e = cc
-second_choice false x y e = refl
-
 pub rhythm_is_near : (rule : ℕ) (ex : Exercise) (voices : ℕ) → IsTrue (has_rule near_bits rule) → IsNear ex (rhythm_breaks rule ex voices) (near_rows rule ex voices)
 rhythm_is_near rule ex voices h p next prefix =
-    second_choice (rule == 3) _ _ (not_3 rule h) ∙ near_from_whole ex (near_rows rule ex voices) p next prefix
+    cond-false (rule == 3) _ _ (not_3 rule h) ∙ near_from_whole ex (near_rows rule ex voices) p next prefix

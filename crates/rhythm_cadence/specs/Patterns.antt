@@ -19,6 +19,10 @@ abbrev pub lacks_ligature : Exercise → ℕ → List Cell → Bool
 lacks_ligature ex i now =
     (ex.species == 4) && begins_inner_bar ex i && starts (cell_in now ex.species_voice)
 
+-- at column i of a list
+abbrev pub lacks_ligature_at : Exercise → List (List Cell) → ℕ → Bool
+lacks_ligature_at ex s i = lacks_ligature ex i (slice_index_or s i [])
+
 abbrev pub ligature_toll : Exercise → NearRow ℕ
 ligature_toll ex i before previous now = from_bool (lacks_ligature ex i now)
 

@@ -1,16 +1,15 @@
 //! S22: the cadence at the beginning of the last bar.
 
-ghost use Rattle.std.specs.Prelude.{◌≡◌, ◌+◌, ◌-◌, ◌==◌, ◌<◌, ◌≤◌, ◌&&◌, [], List, nat_lt, length, slice_index_or};
+ghost use Rattle.std.specs.Prelude.{◌≡◌, ◌+◌, ◌-◌, ◌==◌, ◌<◌, ◌≤◌, ◌&&◌, nat_lt, length};
 ghost use Rattle.std.specs.List.{list_all};
-ghost use Rattle.fux_grid.specs.declared.cell.Cell.{Cell as ACell};
 ghost use Rattle.fux_grid.specs.Cells.{is_hold};
 ghost use Rattle.fux_grid.specs.Exercises.{IsValid};
-ghost use Rattle.fux_grid.specs.Columns.{earlier};
+ghost use Rattle.fux_grid.specs.Columns.{Columns, earlier};
 ghost use Rattle.rule_law.specs.Forms.{set_of_all};
 ghost use Rattle.rule_law.specs.Newest.{AreNewestOf};
-ghost use Rattle.rule_law.specs.Places.{reading_of};
+ghost use Rattle.rule_law.specs.Places.{reading_back, reading_of};
 ghost use Rattle.rhythm_cadence.specs.Cadence as words;
-ghost use Rattle.rhythm_cadence.specs.Cadence.{cadence_row};
+ghost use Rattle.rhythm_cadence.specs.Cadence.{cadence_row, lacks_cadence_at};
 ghost use Rattle.rhythm_cadence.specs.NewestCells.{bar_behind};
 
 use crate::newest::{bar_behind, cell_at};
@@ -107,8 +106,7 @@ fn holds_suspension(ex: &Exercise, column: &[Cell], lead: Option<Pitch>, v: u8) 
 /// species 3, the fifth for the others. In species 4 and 5 a suspension came before it.
 pub fn shows_cadence(ex: &Exercise, score: &Score, i: usize, v: u8) -> bool
     requires { i < length score.now.columns }
-    ensures { result ≡ words.shows_cadence ex.now i (earlier score.now.columns i)
-        (slice_index_or score.now.columns i []) v }
+    ensures { result ≡ reading_back (words.shows_cadence ex.now) score.now.columns i v }
 {
     score.kept();
     let cell = score.cell(v as usize, i);
@@ -132,9 +130,8 @@ pub fn shows_cadence(ex: &Exercise, score: &Score, i: usize, v: u8) -> bool
 /// Whether a voice is there and shows its cadence.
 fn is_shown_by(ex: &Exercise, score: &Score, i: usize, v: u8) -> bool
     requires { i < length score.now.columns }
-    ensures { result ≡ (nat_lt v ex.now.voices
-        && words.shows_cadence ex.now i (earlier score.now.columns i)
-        (slice_index_or score.now.columns i []) v) }
+    ensures { result ≡ (nat_lt v ex.now.voices &&
+        reading_back (words.shows_cadence ex.now) score.now.columns i v) }
 {
     v < ex.voices && shows_cadence(ex, score, i, v)
 }
@@ -191,7 +188,7 @@ fn held_pitch(cells: &[Cell], held: usize) -> Option<Pitch>
 fn ends_well(newest: &NewestColumns, ex: &Exercise, i: usize, v: u8) -> bool
     requires voices { ex.now.voices ≤ 4 }
     requires place { 8 ≤ i }
-    ensures { (s : List (List ACell)) → AreNewestOf ex.now.voices s newest.now → length s ≤ i + 1
+    ensures { (s : Columns) → AreNewestOf ex.now.voices s newest.now → length s ≤ i + 1
         → result ≡ words.ends_well_at ex.now s i v }
 {
     if v >= ex.voices {
@@ -213,7 +210,7 @@ fn ends_well(newest: &NewestColumns, ex: &Exercise, i: usize, v: u8) -> bool
 fn some_ends_well(newest: &NewestColumns, ex: &Exercise, i: usize) -> bool
     requires voices { ex.now.voices ≤ 4 }
     requires place { 8 ≤ i }
-    ensures { (s : List (List ACell)) → AreNewestOf ex.now.voices s newest.now → length s ≤ i + 1
+    ensures { (s : Columns) → AreNewestOf ex.now.voices s newest.now → length s ≤ i + 1
         → result ≡ words.some_ends_well ex.now s i }
 {
     for v in 0..4 {
@@ -228,8 +225,8 @@ fn some_ends_well(newest: &NewestColumns, ex: &Exercise, i: usize) -> bool
 pub(crate) fn lacks_cadence(newest: &NewestColumns, ex: &Exercise, voices: VoiceSet) -> bool
     requires valid { IsValid ex.now }
     requires begun { 0 < newest.now.len }
-    ensures { (s : List (List ACell)) → AreNewestOf ex.now.voices s newest.now
-        → result ≡ words.lacks_cadence_at ex.now s (newest.now.len - 1) voices.bits }
+    ensures { (s : Columns) → AreNewestOf ex.now.voices s newest.now →
+        result ≡ lacks_cadence_at ex.now s (newest.now.len - 1) voices.bits }
 {
     let i = newest.len - 1;
     if !begins_last_bar(ex, i) {

@@ -1,13 +1,10 @@
 //! Rules and tolls that are read from what a state keeps of the newest columns.
 
-ghost use Rattle.std.specs.Prelude.{◌≡◌, ◌<◌, ◌≤◌, ◌∷◌, ◌++◌, [], List, IsTrue, length};
-ghost use Rattle.fux_grid.specs.declared.cell.Cell.{Cell as ACell};
+ghost use Rattle.std.specs.Prelude.{◌≡◌, ◌<◌, ◌≤◌, IsTrue};
 ghost use Rattle.fux_grid.specs.Exercises.{IsValid, columns_in};
-ghost use Rattle.rule_law.specs.Newest.{AreNewestOf};
-ghost use Rattle.rule_law.specs.Prefixes.{GoesOn};
-ghost use Rattle.rule_law.specs.Rulebooks.{IsAmong, newly_breaks, newly_costs};
+ghost use Rattle.rule_law.specs.Late.{TellsCost};
 ghost use Rattle.rhythm_cadence.specs.Book.{is_late, is_late_toll, quaver_rule, rule_row, toll_row};
-ghost use Rattle.rhythm_cadence.specs.Parts.{IsShapesOf};
+ghost use Rattle.rhythm_cadence.specs.Told.{TellsBreak};
 
 use crate::cadence::lacks_cadence;
 use crate::part::{BarShapes, breaks_shapes};
@@ -71,10 +68,7 @@ pub fn breaks_late(
     requires valid { IsValid ex.now }
     requires begun { 0 < newest.now.len }
     requires room { newest.now.len ≤ columns_in ex.now }
-    ensures { (p : List (List ACell)) (col : List ACell) → IsShapesOf ex.now (p ++ col ∷ []) part.now
-        → AreNewestOf ex.now.voices (p ++ col ∷ []) newest.now → GoesOn ex.now p (col ∷ [])
-        → IsAmong ((rule_row rule).first ex.now (length p)) ((rule_row rule).count ex.now (length p)) place
-        → result ≡ newly_breaks (rule_row rule) ex.now voices.bits p col place }
+    ensures { TellsBreak rule ex.now voices.bits part.now newest.now place result }
 {
     if rule == 3 {
         return breaks_shapes(part, ex, voices);
@@ -113,10 +107,7 @@ pub fn cost_late(newest: &NewestColumns, toll: u8, ex: &Exercise, place: usize) 
     requires valid { IsValid ex.now }
     requires begun { 0 < newest.now.len }
     requires room { newest.now.len ≤ columns_in ex.now }
-    ensures value { (p : List (List ACell)) (col : List ACell)
-        → AreNewestOf ex.now.voices (p ++ col ∷ []) newest.now → GoesOn ex.now p (col ∷ [])
-        → IsAmong ((toll_row toll).first ex.now (length p)) ((toll_row toll).count ex.now (length p)) place
-        → result ≡ newly_costs (toll_row toll) ex.now p col place }
+    ensures value { TellsCost (toll_row toll) ex.now newest.now place result }
     ensures bound { result ≤ 6 }
 {
     let _ = place;

@@ -1,18 +1,15 @@
 //! The part of a state that reads bar shapes.
 
-ghost use Rattle.std.specs.Prelude.{◌≡◌, ◌==◌, ◌&&◌, ◌||◌, ◌^◌, ◌<◌, ◌≤◌, ◌∷◌, ◌++◌, [], ℕ, List, length, nat_lt, not, true};
+ghost use Rattle.std.specs.Prelude.{◌≡◌, ◌==◌, ◌&&◌, ◌||◌, ◌^◌, ◌<◌, ◌≤◌, ◌∷◌, ◌++◌, [], List, length, nat_lt, not};
 ghost use Rattle.std.specs.Bool.{OnTrue};
 ghost use Rattle.fux_grid.specs.declared.cell.Cell.{Cell};
 ghost use Rattle.fux_grid.specs.declared.exercise.Exercise.{Exercise};
-ghost use Rattle.fux_grid.specs.Cells.{cell_in};
+ghost use Rattle.fux_grid.specs.Columns.{Columns};
 ghost use Rattle.fux_grid.specs.Exercises.{IsFree, IsValid, columns_in};
 ghost use Rattle.rule_law.specs.Bars as bars;
-ghost use Rattle.rule_law.specs.Places.{reading_of};
-ghost use Rattle.rule_law.specs.Rulebooks.{newly_breaks};
 ghost use Rattle.rule_law.specs.Voices as voices_words;
-ghost use Rattle.rhythm_cadence.specs.Book.{shape_rule};
-ghost use Rattle.rhythm_cadence.specs.Parts.{IsShapesOf, newest_start, shapes_after};
-ghost use Rattle.rhythm_cadence.specs.Rows.{broken_in};
+ghost use Rattle.rhythm_cadence.specs.Parts.{IsShapesOf, shapes_after};
+ghost use Rattle.rhythm_cadence.specs.Told.{LeavesShapes, have_left};
 
 use crate::letter_sets::fitting_shapes;
 use fux_grid::{Cell, Exercise, VoiceSet, cell_of, species_of};
@@ -91,8 +88,7 @@ pub fn leaves_last_shape(part: &BarShapes, ex: &Exercise, i: usize, cell: Cell, 
     requires voice { v < 4 }
     requires valid { IsValid ex.now }
     requires place { i < columns_in ex.now }
-    ensures { OnTrue result ((p : List (List Cell)) (col : List Cell) → length p ≡ i → IsShapesOf ex.now p part.now
-        → cell_in col v ≡ cell → newly_breaks shape_rule ex.now (2 ^ v) p col (newest_start (p ++ col ∷ [])) ≡ true) }
+    ensures { OnTrue result (LeavesShapes ex.now part.now i v cell) }
 {
     if v >= ex.voices || !is_free(ex, v) {
         return false;
@@ -115,8 +111,8 @@ fn has_none_left(possible: u16, ex: &Exercise, v: u8) -> bool
 /// S3 of one voice: whether it has left the shapes of the newest bar.
 fn breaks_shape(part: &BarShapes, ex: &Exercise, v: u8) -> bool
     requires { v < 4 }
-    ensures { (p : List (List Cell)) → 0 < length p → IsShapesOf ex.now p part.now →
-        result ≡ reading_of (broken_in 3 ex.now (2 ^ v)) p (newest_start p) }
+    ensures { (p : Columns) → 0 < length p → IsShapesOf ex.now p part.now →
+        result ≡ have_left ex.now (2 ^ v) p }
 {
     let possible = part.possible;
     has_none_left(possible[v as usize], ex, v)
@@ -124,8 +120,8 @@ fn breaks_shape(part: &BarShapes, ex: &Exercise, v: u8) -> bool
 
 /// S3: whether the one voice of a set has left the shapes of the newest bar.
 pub(crate) fn breaks_shapes(part: &BarShapes, ex: &Exercise, voices: VoiceSet) -> bool
-    ensures { (p : List (List Cell)) → 0 < length p → IsShapesOf ex.now p part.now →
-        result ≡ reading_of (broken_in 3 ex.now voices.bits) p (newest_start p) }
+    ensures { (p : Columns) → 0 < length p → IsShapesOf ex.now p part.now →
+        result ≡ have_left ex.now voices.bits p }
 {
     match voices.bits {
         1 => breaks_shape(part, ex, 0),

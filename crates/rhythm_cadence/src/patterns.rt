@@ -1,9 +1,8 @@
 //! The tolls Q15 and Q16: ligatures that are missing, and bars that repeat the bar before.
 
-ghost use Rattle.std.specs.Prelude.{◌≡◌, ◌+◌, ◌-◌, ◌<◌, ◌≤◌, [], List, length, drop, slice_index_or};
-ghost use Rattle.fux_grid.specs.declared.cell.Cell.{Cell as ACell};
+ghost use Rattle.std.specs.Prelude.{◌≡◌, ◌-◌, ◌<◌, ◌≤◌, length};
 ghost use Rattle.fux_grid.specs.Exercises.{IsValid, columns_in};
-ghost use Rattle.fux_grid.specs.Columns.{earlier};
+ghost use Rattle.fux_grid.specs.Columns.{Columns};
 ghost use Rattle.rule_law.specs.Newest.{AreNewestOf};
 ghost use Rattle.rule_law.specs.Places.{reading_of, settled_by};
 ghost use Rattle.rhythm_cadence.specs.Patterns as words;
@@ -35,8 +34,7 @@ fn same_cell(c: Cell, d: Cell) -> bool
 /// Whether a voice has at the beginning of a bar the cell that it had at the beginning of the bar before.
 fn repeats_first_slot(score: &Score, i: usize, v: usize) -> bool
     requires { i < length score.now.columns }
-    ensures { result ≡ words.repeats_slot v (earlier score.now.columns i)
-        (slice_index_or score.now.columns i []) (drop (i + 1) score.now.columns) 0 }
+    ensures { result ≡ reading_of (λ _. words.repeats_slot v) score.now.columns i 0 }
 {
     same_cell(cell_of(score.behind(i, 7), v), score.cell(v, i))
 }
@@ -46,8 +44,7 @@ fn repeats_slot(score: &Score, i: usize, v: usize, slot: usize) -> bool
     requires place { i < length score.now.columns }
     requires first { 1 ≤ slot }
     requires last { slot ≤ 7 }
-    ensures { result ≡ words.repeats_slot v (earlier score.now.columns i)
-        (slice_index_or score.now.columns i []) (drop (i + 1) score.now.columns) slot }
+    ensures { result ≡ reading_of (λ _. words.repeats_slot v) score.now.columns i slot }
 {
     same_cell(
         cell_of(score.behind(i, 7 - slot), v),
@@ -58,8 +55,7 @@ fn repeats_slot(score: &Score, i: usize, v: usize, slot: usize) -> bool
 /// Whether the bar that begins at column `i` is whole and repeats the bar before.
 fn repeats_bar(score: &Score, i: usize, v: usize) -> bool
     requires { i < length score.now.columns }
-    ensures { result ≡ words.repeats_bar v (earlier score.now.columns i)
-        (slice_index_or score.now.columns i []) (drop (i + 1) score.now.columns) }
+    ensures { result ≡ reading_of (λ _. words.repeats_bar v) score.now.columns i }
 {
     score.kept();
     i + 7 < score.len()
@@ -97,9 +93,8 @@ pub fn is_pattern_settled(ex: &Exercise, score: &Score, i: usize) -> bool
 pub(crate) fn lacks_ligature_now(newest: &NewestColumns, ex: &Exercise) -> bool
     requires valid { IsValid ex.now }
     requires begun { 0 < newest.now.len }
-    ensures { (s : List (List ACell)) → AreNewestOf ex.now.voices s newest.now
-        → result ≡ words.lacks_ligature ex.now (newest.now.len - 1)
-        (slice_index_or s (newest.now.len - 1) []) }
+    ensures { (s : Columns) → AreNewestOf ex.now.voices s newest.now →
+        result ≡ words.lacks_ligature_at ex.now s (newest.now.len - 1) }
 {
     let i = newest.len - 1;
     lacks_ligature(ex, i, newest.at(i, ex.voices as usize))
@@ -131,7 +126,7 @@ pub(crate) fn ends_pattern(newest: &NewestColumns, ex: &Exercise) -> bool
     requires valid { IsValid ex.now }
     requires begun { 0 < newest.now.len }
     requires room { newest.now.len ≤ columns_in ex.now }
-    ensures { (s : List (List ACell)) → AreNewestOf ex.now.voices s newest.now
+    ensures { (s : Columns) → AreNewestOf ex.now.voices s newest.now
         → result ≡ words.pattern_at ex.now s (newest.now.len - 1) }
 {
     let i = newest.len - 1;

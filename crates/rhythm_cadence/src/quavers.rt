@@ -1,13 +1,11 @@
 //! S25: notes of one slot.
 
-ghost use Rattle.std.specs.Prelude.{◌≡◌, ◌+◌, ◌<◌, ◌≤◌, [], List, length, drop, slice_index_or};
-ghost use Rattle.fux_grid.specs.declared.cell.Cell.{Cell as ACell};
+ghost use Rattle.std.specs.Prelude.{◌≡◌, ◌<◌, ◌≤◌, length};
 ghost use Rattle.fux_grid.specs.Exercises.{IsValid};
-ghost use Rattle.fux_grid.specs.Columns.{earlier};
-ghost use Rattle.rule_law.specs.Newest.{AreNewestOf};
-ghost use Rattle.rule_law.specs.Places.{reading_of, settled_by};
+ghost use Rattle.rule_law.specs.Places.{reading_ahead, reading_of, settled_by};
 ghost use Rattle.rhythm_cadence.specs.Quavers as words;
 ghost use Rattle.rhythm_cadence.specs.Quavers.{quaver_row, quaver_enough};
+ghost use Rattle.rhythm_cadence.specs.Told.{TellsQuaver};
 
 use crate::newest::{cell_at, cell_before};
 use crate::rhythm::free_voice;
@@ -20,8 +18,7 @@ use rule_law::{
 /// Whether a note of exactly one slot starts.
 fn starts_quaver(score: &Score, i: usize, v: u8) -> bool
     requires { i < length score.now.columns }
-    ensures { result ≡ words.starts_quaver (slice_index_or score.now.columns i [])
-        (drop (i + 1) score.now.columns) v }
+    ensures { result ≡ reading_ahead (λ _. words.starts_quaver) score.now.columns i v }
 {
     starts(score.cell(v as usize, i)) && !cell_of(score.later(i, 0), v as usize).is_hold()
 }
@@ -39,8 +36,7 @@ fn is_step_apart(p: Option<Pitch>, q: Option<Pitch>) -> bool
 /// Whether the note at column `i` is entered and left by a step.
 fn is_stepwise(score: &Score, i: usize, v: u8) -> bool
     requires { i < length score.now.columns }
-    ensures { result ≡ words.is_stepwise i (earlier score.now.columns i)
-        (slice_index_or score.now.columns i []) (drop (i + 1) score.now.columns) v }
+    ensures { result ≡ reading_of words.is_stepwise score.now.columns i v }
 {
     let here = score.cell(v as usize, i).pitch();
     if !is_step_apart(previous_pitch(score, v, i), here) {
@@ -93,8 +89,7 @@ pub(crate) fn has_bad_quaver(
     place: usize,
 ) -> bool
     requires { ex.now.voices ≤ 4 }
-    ensures { (s : List (List ACell)) → AreNewestOf ex.now.voices s newest.now → place < length s
-        → length s ≤ place + 2 → result ≡ words.quaver_at ex.now s place voices.bits }
+    ensures { TellsQuaver ex.now voices.bits newest.now place result }
 {
     if place >= newest.len {
         return false;

@@ -43,6 +43,11 @@ pub among_own : (stands : Bool) (i n : ℕ) → IsAmong n (if stands then 1 else
 among_own true i n h = omega (arith, h.from, h.to)
 among_own false i n h = absurd (omega (arith, h.from, h.to))
 
+-- and no place behind it
+pub own_within : (stands : Bool) (i : ℕ) → i + (if stands then 1 else 0) ≤ i + 1
+own_within true i = omega arith
+own_within false i = omega arith
+
 -- a break that is settled at once
 module _ (it : RuleRow) (ex : Exercise) (voices : ℕ) (always : AlwaysEnough (it.enough ex voices)) (p : List (List Cell)) (col : List Cell) where
   pub breaks_at_own_place : (i : ℕ) → newly_breaks it ex voices p col i ≡ true → IsAmong (length p) 1 i

@@ -1,14 +1,14 @@
 -- The law of locality for rows that wait for later columns, and what holds of lists of all columns.
-use Rattle.std.specs.Prelude.{◌≡◌, ℕ, ◌+◌, ◌<◌, ◌≤◌, Bool, true, false, ◌&&◌, ◌||◌, nat_le, nat_lt, List, [], ◌++◌, IsTrue, length, drop, slice_index_or, refl}
-use Rattle.std.proofs.Common.{ap, sym, ◌∙◌, subst, arith}
+use Rattle.std.specs.Prelude.{◌≡◌, ℕ, ◌+◌, ◌<◌, ◌≤◌, Bool, true, false, ◌||◌, nat_lt, List, [], ◌++◌, IsTrue, length, drop, slice_index_or, refl}
+use Rattle.std.proofs.Common.{ap, ◌∙◌, arith}
 use Rattle.std.proofs.lemmas.Bool.Decides.{nat_tests}
 use Rattle.std.proofs.lemmas.List.{append-nil, length-append, length-drop, nil_from_length}
+use Rattle.std.proofs.lemmas.Bool.{and_from}
 use Rattle.fux_grid.specs.declared.cell.Cell.{Cell}
 use Rattle.fux_grid.specs.declared.exercise.Exercise.{Exercise}
 use Rattle.fux_grid.specs.Columns.{earlier}
 use Rattle.fux_grid.specs.Exercises.{columns_in}
-use Rattle.rule_law.specs.Growth.{EnoughStays}
-use Rattle.rule_law.specs.Law.{first_true, second_true, both_true, below_from_test, test_from_below, reading-append}
+use Rattle.rule_law.specs.Law.{first_true, second_true, below_from_test, test_from_below, reading-append}
 use Rattle.rule_law.specs.Places.{Row, IsLocal, IsUndisturbed, SettlesAtEnd, reading_of, settled_by}
 use Rattle.rule_law.specs.Prefixes.{GoesOn}
 use Rattle.rule_law.specs.Whole.{is_whole}
@@ -63,7 +63,7 @@ whole_at_end ex s i whole here =
 -- what is enough in whole lists settles at their end
 pub ends_when_whole : (ex : Exercise) (enough : Row Bool) → ((i : ℕ) (behind : List (List Cell)) (now : List Cell) (ahead : List (List Cell)) → is_whole ex i ahead ≡ true → IsTrue (enough i behind now ahead)) → SettlesAtEnd ex (settled_by enough)
 ends_when_whole ex enough f s i whole here =
-    both_true (nat_lt i (length s)) (reading_of enough s i) (test_from_below i (length s) here)
+    and_from (nat_lt i (length s)) (reading_of enough s i) (test_from_below i (length s) here)
     (f i (earlier s i) (slice_index_or s i []) (drop (i + 1) s) (whole_at_end ex s i whole here))
 
 -- a whole list is whole with more columns

@@ -1,8 +1,9 @@
 -- The menu has a start of a voice exactly where some column of it starts a note there.
-use Rattle.std.specs.Prelude.{◌≡◌, ℕ, suc, ◌+◌, ◌-◌, ◌<◌, ◌≤◌, Bool, true, false, cond, ◌||◌, List, [], ◌∷◌, ◌++◌, Contains, count_by, refl}
+use Rattle.std.specs.Prelude.{◌≡◌, ℕ, suc, ◌+◌, ◌-◌, ◌<◌, ◌≤◌, Bool, true, false, cond, ◌||◌, List, [], ◌∷◌, Contains, count_by, refl}
 use Rattle.std.specs.Int.{from_bool}
 use Rattle.std.specs.List.{list_any, range_with_len}
 use Rattle.std.proofs.Common.{◌∙◌, ap, inl, inr, sym, arith}
+use Rattle.std.proofs.lemmas.Bool.{or_left, or_right}
 use Rattle.std.proofs.lemmas.List.Elements.{Contains-append_right}
 use Rattle.std.proofs.lemmas.List.Sums.{sum_by-cons}
 use Rattle.fux_grid.specs.declared.cell.Cell.{Cell}
@@ -15,21 +16,13 @@ use Rattle.fux_grid.proofs.Combinations.{Contains-cons_cases}
 use Rattle.rule_law.specs.Gauges.{menu_starts, starts_ahead}
 use Rattle.rule_law.specs.Terms.{starts}
 
-or_first : (a b : Bool) → a ≡ true → (a || b) ≡ true
-or_first true b h = refl
-or_first false b h = cc
-
-or_second : (a b : Bool) → b ≡ true → (a || b) ≡ true
-or_second true b h = refl
-or_second false b h = h
-
 -- what one of a list passes, some of it do
 pub any_from : {X : Type 0} (test : X → Bool) (xs : List X) (x : X) → Contains xs x → test x ≡ true → list_any test xs ≡ true
 any_from test [] x h e = absurd (omega (arith, h.1))
 any_from test (y ∷ xs) x h e =
     elim (Contains-cons_cases y xs x h) [
-      | inl same ↦ or_first (test y) (list_any test xs) (ap test same ∙ e)
-      | inr more ↦ or_second (test y) (list_any test xs) (any_from test xs x more e)
+      | inl same ↦ or_left (test y) (list_any test xs) (ap test same ∙ e)
+      | inr more ↦ or_right (test y) (list_any test xs) (any_from test xs x more e)
     ]
 
 -- and the other way round

@@ -1,7 +1,7 @@
 -- What a free voice starts next lies within its range in that bar.
 use Rattle.std.specs.Prelude.{◌≡◌, ◌≢◌, ℕ, zero, suc, ◌<◌, ◌==◌, Bool, true, false, ◌||◌, List, [], ◌∷◌, ◌++◌, map, length, Contains, if◌then◌else◌, refl}
 use Rattle.std.proofs.Common.{ap, sym, ◌∙◌, subst, arith, inl, inr}
-use Rattle.std.proofs.lemmas.Bool.{and_parts, cases_lt, false≢true}
+use Rattle.std.proofs.lemmas.Bool.{and_parts, cases_lt, cond-true, false≢true, or_right}
 use Rattle.std.proofs.lemmas.Bool.Decides.{nat_tests}
 use Rattle.std.proofs.lemmas.List.{get_or_past}
 use Rattle.std.proofs.lemmas.List.Elements.{Contains-append_cases}
@@ -101,14 +101,6 @@ whole_note-slot (suc (suc (suc (suc (suc (suc zero)))))) within other = refl
 whole_note-slot (suc (suc (suc (suc (suc (suc (suc zero))))))) within other = refl
 whole_note-slot (suc (suc (suc (suc (suc (suc (suc (suc n)))))))) within other = absurd (omega (arith, within))
 
-or_true : (a b : Bool) → b ≡ true → (a || b) ≡ true
-or_true true b h = refl
-or_true false b h = h
-
-chosen_first : {X : Type 0} (b : Bool) (x y : X) → b ≡ true → (if b then x else y) ≡ x
-chosen_first true x y e = refl
-chosen_first false x y e = cc
-
 -- in the last bar, but for its beginning, no free voice starts a note
 pub last_bar_holds : (ex : Exercise) (v i : ℕ) (col : List Cell) → v ≢ ex.cantus_voice → bar_of i ≡ ex.bars → slot_of i ≢ 0 → IsInMenu ex i col → starts (cell_in col v) ≡ false
 last_bar_holds ex v i col free last slot menu =
@@ -118,7 +110,7 @@ last_bar_holds ex v i col free last slot menu =
     ]
   where
     whole : shapes_in (species_in ex v) (bar_of i) ex.bars ≡ whole_note
-    whole = chosen_first ((species_in ex v == 1) || (bar_of i == ex.bars)) whole_note _ (or_true (species_in ex v == 1) (bar_of i == ex.bars) (grind (arith, nat_tests, last)))
+    whole = cond-true ((species_in ex v == 1) || (bar_of i == ex.bars)) whole_note _ (or_right (species_in ex v == 1) (bar_of i == ex.bars) (grind (arith, nat_tests, last)))
 
     at : (c : Cell) → Contains (cells_at ex i v) c → starts c ≡ false
     at Rest h = refl

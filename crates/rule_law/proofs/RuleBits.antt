@@ -1,19 +1,12 @@
 -- A rule added to a set, and the union of two sets.
 use Rattle.std.proofs.Common.{◌≡◌, ℕ, ◌*◌, ◌%◌, ◌^◌, ◌<◌, ◌≤◌, max, IsTrue, ◌==◌, ◌||◌, Bool, true, false, bit_or, refl, ap, sym, ◌∙◌, subst, w32, arith}
+use Rattle.std.proofs.Math.Bool.{or-false, or-true}
 use Rattle.std.proofs.lemmas.Bool.{eqb-true, eq-eqb}
 use Rattle.std.proofs.lemmas.Nat.Bits.{bit_at_set_same, bit_at_set_other, bit_at_above, bit_at_or, bit_at-lt}
 use Rattle.std.proofs.lemmas.Bool.Decides.{nat_tests}
 use Rattle.std.specs.Int.{bit_at}
 use Rattle.rule_law.specs.BothLaw.{IsUnion}
 use Rattle.rule_law.specs.Voices.{has_rule}
-
-or_true : (a : Bool) → true ≡ (a || true)
-or_true true = refl
-or_true false = refl
-
-or_false : (a : Bool) → a ≡ (a || false)
-or_false true = refl
-or_false false = refl
 
 by_test : (b : Bool) (P : Bool → Type 0) → (b ≡ true → P true) → ((b ≡ true → ⊥) → P false) → P b
 by_test true P f g = f refl
@@ -24,8 +17,8 @@ with_rule bits rule r h =
     by_test (r == rule) (λ b. has_rule (bit_or bits (1 * 2 ^ rule % 4294967296)) r ≡ (has_rule bits r || b))
     (λ e. let same : r ≡ rule = eqb-true r rule e in
     let P : ℕ → Type 0 = λ k. has_rule (bit_or bits (1 * 2 ^ rule % 4294967296)) k ≡ true in
-    subst P (sym same) (ap (λ n. n == 1) (bit_at_set_same w32 bits rule h)) ∙ or_true (has_rule bits r))
-    (λ n. ap (λ k. k == 1) (bit_at_set_other w32 bits rule h r (λ e. n (eq-eqb r rule e))) ∙ or_false (has_rule bits r))
+    subst P (sym same) (ap (λ n. n == 1) (bit_at_set_same w32 bits rule h)) ∙ sym (or-true (has_rule bits r)))
+    (λ n. ap (λ k. k == 1) (bit_at_set_other w32 bits rule h r (λ e. n (eq-eqb r rule e))) ∙ sym (or-false (has_rule bits r)))
 
 -- a number of 32 bits has no rule from 32 on
 pub no_rule_above : (bits rule : ℕ) → bits < 2 ^ 32 → 32 ≤ rule → has_rule bits rule ≡ false

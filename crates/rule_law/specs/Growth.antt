@@ -2,6 +2,8 @@
 use Rattle.std.specs.Prelude.{◌≡◌, ℕ, zero, suc, ◌+◌, ◌<◌, ◌≤◌, Bool, true, false, not, ◌&&◌, ◌||◌, nat_lt, List, [], ◌∷◌, ◌++◌, IsTrue, length, drop, slice_index_or, if◌then◌else◌, refl}
 use Rattle.std.specs.List.{list_any, sum_by}
 use Rattle.std.proofs.Common.{ap, sym, ◌∙◌, subst, arith}
+use Rattle.std.proofs.Math.Bool.{or-false}
+use Rattle.std.proofs.lemmas.Bool.{and_from}
 use Rattle.std.proofs.lemmas.List.Sums.{sum_by-cons}
 use Rattle.std.proofs.lemmas.List.{length-append}
 use Rattle.fux_grid.specs.declared.cell.Cell.{Cell}
@@ -9,7 +11,7 @@ use Rattle.fux_grid.specs.declared.exercise.Exercise.{Exercise}
 use Rattle.fux_grid.specs.Columns.{earlier}
 use Rattle.rule_law.specs.Prefixes.{GoesOn}
 use Rattle.rule_law.specs.Places.{Reading, Row, IsLocal, reading_of, settled_by}
-use Rattle.rule_law.specs.Law.{first_true, second_true, both_true, below_from_test, test_from_below, reading-append}
+use Rattle.rule_law.specs.Law.{first_true, second_true, below_from_test, test_from_below, reading-append}
 
 -- some number below n passes the test
 abbrev pub any_below : (ℕ → Bool) → ℕ → Bool
@@ -45,7 +47,7 @@ pub stays_from_enough : (enough : Row Bool) → EnoughStays enough → Stays (se
 stays_from_enough enough more p t i h =
     let here : i < length p = below_from_test i (length p) (first_true (nat_lt i (length p)) (reading_of enough p i) h) in
     let P : Bool → Type 0 = λ b. IsTrue b in
-    both_true (nat_lt i (length (p ++ t))) (reading_of enough (p ++ t) i) (test_from_below i (length (p ++ t)) (omega (arith, length-append p t)))
+    and_from (nat_lt i (length (p ++ t))) (reading_of enough (p ++ t) i) (test_from_below i (length (p ++ t)) (omega (arith, length-append p t)))
     (subst P (sym (reading-append enough p t i here)) (more i (earlier p i) (slice_index_or p i []) (drop (i + 1) p) t (second_true (nat_lt i (length p)) (reading_of enough p i) h)))
 
 pub needs_place : (enough : Row Bool) → NeedsPlace (settled_by enough)
@@ -109,11 +111,7 @@ any_below-list_any f xs (suc n) = ap (λ b. b || list_any (λ x. f x n) xs) (any
 
 module _ (settles : Reading Bool) (stays : Stays settles) (needs : NeedsPlace settles) (p : List (List Cell)) (col : List Cell) where
   split : (s' s b b' x : Bool) → (IsTrue s → s' ≡ true) → (IsTrue s → b' ≡ b) → (s' && b' && x) ≡ ((s && b && x) || ((s' && not s) && b' && x))
-  split s' true b b' x f g = rw (f refl, g refl) (or_false (b && x))
-    where
-      or_false : (y : Bool) → y ≡ (y || false)
-      or_false true = refl
-      or_false false = refl
+  split s' true b b' x f g = rw (f refl, g refl) (sym (or-false (b && x)))
   split true false b b' x f g = refl
   split false false b b' x f g = refl
 

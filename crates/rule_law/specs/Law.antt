@@ -1,9 +1,10 @@
 -- A row that what comes later does not disturb is read locally.
-use Rattle.std.specs.Prelude.{◌≡◌, ℕ, ◌+◌, ◌<◌, Bool, true, false, ◌&&◌, List, [], ◌∷◌, ◌++◌, IsTrue, nat_lt, length, drop, reverse, slice_index_or, refl}
+use Rattle.std.specs.Prelude.{◌≡◌, ℕ, ◌+◌, ◌<◌, Bool, true, false, ◌&&◌, ◌||◌, List, [], ◌∷◌, ◌++◌, IsTrue, nat_lt, length, drop, reverse, slice_index_or, refl}
 use Rattle.std.proofs.Common.{ap, ◌∙◌, arith}
 use Rattle.std.proofs.Math.ListN.{get_or-append}
 use Rattle.std.proofs.Math.Seq.{get_or-append_seam}
 use Rattle.std.proofs.lemmas.List.{drop-append-le, drop_all, length-append}
+use Rattle.std.proofs.lemmas.Bool.{and_from, or_left, or_right}
 use Rattle.std.proofs.lemmas.Bool.Decides.{nat_tests}
 use Rattle.fux_grid.specs.declared.cell.Cell.{Cell}
 use Rattle.fux_grid.specs.declared.exercise.Exercise.{Exercise}
@@ -19,9 +20,9 @@ pub second_true : (a b : Bool) → IsTrue (a && b) → IsTrue b
 second_true true b h = h
 second_true false b h = cc
 
-pub both_true : (a b : Bool) → IsTrue a → IsTrue b → IsTrue (a && b)
-both_true true b h k = k
-both_true false b h k = h
+pub or_each : (a b c d : Bool) → (a ≡ true → c ≡ true) → (b ≡ true → d ≡ true) → (a || b) ≡ true → (c || d) ≡ true
+or_each true b c d f g h = or_left c d (f refl)
+or_each false b c d f g h = or_right c d (g h)
 
 pub below_from_test : (i n : ℕ) → IsTrue (nat_lt i n) → i < n
 below_from_test i n h = grind (arith, nat_tests)
@@ -48,7 +49,7 @@ local_from_row ex row enough u p t i on settled = reads_on row enough u p t i se
 
 -- what is settled at once is settled in every list that has the place
 pub at_once_settles : (ex : Exercise) → SettlesAtEnd ex (settled_by at_once)
-at_once_settles ex s i whole here = both_true (nat_lt i (length s)) true (test_from_below i (length s) here) refl
+at_once_settles ex s i whole here = and_from (nat_lt i (length s)) true (test_from_below i (length s) here) refl
 
 drop-at_end : (p : List (List Cell)) (next : List Cell) → drop (length p + 1) (p ++ next ∷ []) ≡ []
 drop-at_end p next = drop_all (length p + 1) (p ++ next ∷ []) (omega (arith, length-append p (next ∷ [])))

@@ -5,6 +5,7 @@ pub mod Degrees
 pub mod Forms
 pub mod Gauges
 pub mod Growth
+pub mod Late
 pub mod Law
 pub mod Leading
 pub mod NearLaw

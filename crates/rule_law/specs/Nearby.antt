@@ -8,6 +8,7 @@ use Rattle.fux_pitch.proofs.PitchLemmas.{equal_from_test}
 use Rattle.fux_grid.specs.declared.cell.Cell.{Cell}
 use Rattle.fux_grid.specs.declared.cell.Cell.TheVariants.{Rest, Hold, Start}
 use Rattle.fux_grid.specs.Cells.{pitch_of, cell_in, cell_follows, newest, notes_from, first_of}
+pub use Rattle.fux_grid.specs.Columns.{cells_before}
 use Rattle.fux_grid.specs.Columns.{HistoryFollows, newest_column, line}
 use Rattle.rule_law.specs.Terms.{note_pitch, previous_pitch}
 use Rattle.rule_law.specs.Places.{Row, reading_of}
@@ -42,10 +43,9 @@ whole_of row i behind now ahead = row i (newest_column behind) (previous_pitches
 abbrev pub near_of : {R : Type 0} → NearRow R → ℕ → List Cell → List Cell → R
 near_of row i before now = row i before (sounding_pitches before) now
 
--- the cells of a column, where it is given
-abbrev pub cells_before : Option (Bor (ArrayVec Cell)) → List Cell
-cells_before None = []
-cells_before (Some col) = col.now.items
+-- the same of a column and the one before it, which may be lacking
+abbrev pub near_at : {R : Type 0} → NearRow R → ℕ → Option (Bor (ArrayVec Cell)) → ArrayVec Cell → R
+near_at row i prev next = near_of row i (cells_before prev) next.items
 
 -- rests stand only before a voice's first note
 abbrev pub AllRests : List Cell → Type 0

@@ -1,5 +1,5 @@
 -- What a rule or a toll answers at the places of a list of columns, and how much of the list settles it.
-use Rattle.std.specs.Prelude.{◌≡◌, ℕ, ◌+◌, ◌<◌, Bool, true, ◌&&◌, nat_lt, List, [], ◌++◌, IsTrue, length, drop, slice_index_or}
+use Rattle.std.specs.Prelude.{◌≡◌, ℕ, ◌+◌, ◌<◌, Bool, true, ◌&&◌, nat_lt, List, [], ◌∷◌, ◌++◌, IsTrue, length, drop, slice_index_or}
 use Rattle.fux_grid.specs.declared.cell.Cell.{Cell}
 use Rattle.fux_grid.specs.declared.exercise.Exercise.{Exercise}
 use Rattle.fux_grid.specs.Columns.{earlier}
@@ -17,6 +17,17 @@ Row R = ℕ → List (List Cell) → List Cell → List (List Cell) → R
 -- the row, read at each place of a list
 abbrev pub reading_of : {R : Type 0} → Row R → Reading R
 reading_of row s i = row i (earlier s i) (slice_index_or s i []) (drop (i + 1) s)
+
+-- the same of a row that looks at no column after its own, and of one that looks at none before it
+abbrev pub reading_back : {R : Type 0} → (ℕ → List (List Cell) → List Cell → R) → Reading R
+reading_back row s i = row i (earlier s i) (slice_index_or s i [])
+
+abbrev pub reading_ahead : {R : Type 0} → (ℕ → List Cell → List (List Cell) → R) → Reading R
+reading_ahead row s i = row i (slice_index_or s i []) (drop (i + 1) s)
+
+-- the row, read at a place of the list with one column more
+abbrev pub reading_with : {R : Type 0} → Row R → List (List Cell) → List Cell → ℕ → R
+reading_with row p col = reading_of row (p ++ col ∷ [])
 
 -- settled where the list has the place, and enough columns with it and after it
 abbrev pub settled_by : Row Bool → Reading Bool

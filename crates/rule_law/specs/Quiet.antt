@@ -2,7 +2,7 @@
 use Rattle.std.specs.Prelude.{◌≡◌, ℕ, zero, suc, ◌==◌, Bool, true, false, not, ◌&&◌, ◌||◌, cond, nat_le, nat_lt, List, [], ◌∷◌, Option, Some, None, if◌then◌else◌, refl}
 use Rattle.std.specs.List.{list_any}
 use Rattle.std.proofs.Common.{ap}
-use Rattle.std.proofs.lemmas.Bool.{and_parts, not-true, or_parts}
+use Rattle.std.proofs.lemmas.Bool.{and_parts, and_right, not-true, or_parts}
 use Rattle.fux_grid.specs.declared.cell.Cell.{Cell}
 use Rattle.fux_grid.specs.declared.exercise.Exercise.{Exercise}
 use Rattle.fux_grid.specs.Cells.{cell_in}
@@ -42,26 +42,22 @@ pub quiet_alike : (i : ℕ) (before now : List Cell) → is_quiet i now ≡ true
 quiet_alike i before now h v w = ap (λ b. b && go_same_way (interval_of_cells (cell_in before v) (cell_in now v)) (interval_of_cells (cell_in before w) (cell_in now w))) (quiet_moves i before now h v w)
 
 -- a test that fails always
-pub and_none : (a b : Bool) → b ≡ false → (a && b) ≡ false
-and_none true b h = h
-and_none false b h = refl
-
 pub on_voice-none : (ex : Exercise) (test : ℕ → Bool) (voices : ℕ) → ((v : ℕ) → test v ≡ false) → on_voice ex test voices ≡ false
 on_voice-none ex test voices none = at (voice_of voices)
   where
     at : (voice : Option ℕ) → holds_of_voice ex test voice ≡ false
     at None = refl
-    at (Some v) = and_none (nat_lt v ex.voices) (test v) (none v)
+    at (Some v) = and_right (nat_lt v ex.voices) (test v) (none v)
 
 pub on_free_voice-none : (ex : Exercise) (test : ℕ → Bool) (voices : ℕ) → ((v : ℕ) → test v ≡ false) → on_free_voice ex test voices ≡ false
-on_free_voice-none ex test voices none = on_voice-none ex (λ v. is_free ex v && test v) voices (λ v. and_none (is_free ex v) (test v) (none v))
+on_free_voice-none ex test voices none = on_voice-none ex (λ v. is_free ex v && test v) voices (λ v. and_right (is_free ex v) (test v) (none v))
 
 pub on_pair-none : (ex : Exercise) (test : ℕ → ℕ → Bool) (voices : ℕ) → ((v w : ℕ) → test v w ≡ false) → on_pair ex test voices ≡ false
 on_pair-none ex test voices none = at (pair_of voices)
   where
     at : (pair : Option (ℕ × ℕ)) → holds_of_pair ex test pair ≡ false
     at None = refl
-    at (Some pair) = and_none (nat_lt pair.1 ex.voices) (test pair.0 pair.1) (none pair.0 pair.1)
+    at (Some pair) = and_right (nat_lt pair.1 ex.voices) (test pair.0 pair.1) (none pair.0 pair.1)
 
 pub count_pairs-none : (test : ℕ → ℕ → Bool) → ((v w : ℕ) → test v w ≡ false) → count_pairs test ≡ 0
 count_pairs-none test none = sum_by-none (λ pair. cond (test pair.0 pair.1) 1 0) voice_pairs (λ pair. ap (λ b. cond b 1 0) (none pair.0 pair.1))
@@ -69,7 +65,7 @@ count_pairs-none test none = sum_by-none (λ pair. cond (test pair.0 pair.1) 1 0
 pub count_free-none : (ex : Exercise) (test : ℕ → Bool) → ((v : ℕ) → test v ≡ false) → count_free ex test ≡ 0
 count_free-none ex test none =
     sum_by-none (λ v. cond (is_free ex v && test v) 1 0) (0 ∷ 1 ∷ 2 ∷ 3 ∷ [])
-    (λ v. ap (λ b. cond b 1 0) (and_none (is_free ex v) (test v) (none v)))
+    (λ v. ap (λ b. cond b 1 0) (and_right (is_free ex v) (test v) (none v)))
 
 -- of two readings the one that a test chooses
 pub either_none : {X : Type 0} (chosen : Bool) (x y n : X) → x ≡ n → y ≡ n → (if chosen then x else y) ≡ n

@@ -1,6 +1,6 @@
 -- What a crate of rules gives to those above it and owes them, and how two crates are read as one.
 use Rattle.std.specs.Prelude.{◌≡◌, ℕ, ◌+◌, ◌<◌, ◌≤◌, Bool, true, false, ◌&&◌, ◌||◌, List, [], ◌∷◌, ◌++◌, length, if◌then◌else◌, refl}
-use Rattle.std.specs.List.{list_any, sum_by}
+use Rattle.std.specs.List.{list_any}
 use Rattle.std.proofs.Common.{sym, ◌∙◌, arith}
 use Rattle.fux_grid.specs.declared.cell.Cell.{Cell}
 use Rattle.fux_grid.specs.declared.exercise.Exercise.{Exercise}
@@ -10,10 +10,10 @@ use Rattle.rule_law.specs.declared.table.Kind.{Kind}
 use Rattle.rule_law.specs.declared.table.Kind.TheVariants.{Column}
 use Rattle.rule_law.specs.declared.table.Stands.{Stands}
 use Rattle.rule_law.specs.declared.table.Stands.TheVariants.{AtTheEnd}
-use Rattle.rule_law.specs.Forms.{IsOf, all_sets, sets_of, may_stand, voice_form}
-use Rattle.rule_law.specs.Growth.{EnoughStays, newly, list_any-same, sum_by-none}
+use Rattle.rule_law.specs.Forms.{IsOf, all_sets, sets_of, may_stand}
+use Rattle.rule_law.specs.Growth.{EnoughStays, newly, sum_by-none}
 use Rattle.rule_law.specs.Law.{at_once_settles}
-use Rattle.rule_law.specs.Places.{Reading, Row, IsLocal, SettlesAtEnd, reading_of, settled_by, at_once}
+use Rattle.rule_law.specs.Places.{Row, IsLocal, SettlesAtEnd, reading_of, settled_by, at_once}
 use Rattle.rule_law.specs.Prefixes.{GoesOn}
 use Rattle.rule_law.specs.Quiet.{is_quiet}
 

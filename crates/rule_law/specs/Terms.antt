@@ -17,6 +17,12 @@ starts Rest = false
 starts (Hold p) = false
 starts (Start p) = true
 
+-- the pitch that starts in a cell
+abbrev pub started_pitch : Cell → Option Pitch
+started_pitch Rest = None
+started_pitch (Hold p) = None
+started_pitch (Start p) = Some p
+
 -- the interval from one pitch to another, where there are both
 abbrev pub interval_of_pitches : Option Pitch → Option Pitch → Option Interval
 interval_of_pitches None q = None

@@ -6,7 +6,7 @@ ghost use Rattle.fux_grid.specs.declared.exercise.Exercise.{Exercise};
 ghost use Rattle.fux_grid.specs.Exercises.{IsValid, columns_in};
 ghost use Rattle.rule_law.specs.Voices.{has_rule};
 ghost use Rattle.rule_law.specs.Places.{Reading};
-ghost use Rattle.rule_law.specs.Nearby.{NearRow, near_of, cells_before};
+ghost use Rattle.rule_law.specs.Nearby.{NearRow, near_at, cells_before};
 ghost use Rattle.rule_law.specs.NearLaw.{IsNear};
 
 use crate::rule::Rule;
@@ -53,7 +53,7 @@ pub trait Near: Rule {
         requires valid { IsValid ex.now }
         requires place { i < columns_in ex.now }
         requires full { length next.now.items ≡ ex.now.voices }
-        ensures { result ≡ near_of (row self.now rule ex.now voices.bits) i (cells_before prev.entry) next.now.items };
+        ensures { result ≡ near_at (row self.now rule ex.now voices.bits) i prev.entry next.now };
 
     /// What a toll costs at column `i`, without its weight; nothing for a toll that it doesn't read from neighbors.
     fn cost_near(
@@ -68,7 +68,7 @@ pub trait Near: Rule {
         requires place { i < columns_in ex.now }
         requires full { length next.now.items ≡ ex.now.voices }
         ensures read { IsTrue (has_rule (near_tolls self.now) toll) →
-            result ≡ near_of (toll_row self.now toll ex.now) i (cells_before prev.entry) next.now.items }
+            result ≡ near_at (toll_row self.now toll ex.now) i prev.entry next.now }
         ensures other { has_rule (near_tolls self.now) toll ≡ false → result ≡ 0 };
 
     /// After an orderly prefix a rule's reading of neighbors is its reading of the whole list.

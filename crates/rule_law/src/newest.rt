@@ -1,8 +1,8 @@
 //! The newest columns of a list of columns.
 
-ghost use Rattle.std.specs.Prelude.{◌≡◌, ◌==◌, ◌≤◌, ◌<◌, ◌+◌, ◌∷◌, ◌++◌, [], ℕ, List, length, take, slice_index_or};
+ghost use Rattle.std.specs.Prelude.{◌≡◌, ◌==◌, ◌≤◌, ◌<◌, ◌+◌, [], ℕ, List, length, take, slice_index_or};
 ghost use Rattle.fux_grid.specs.declared.cell.Cell.{Cell as ACell};
-ghost use Rattle.rule_law.specs.Newest.{AreNewestOf};
+ghost use Rattle.rule_law.specs.Newest.{AreNewestOf, GrowBy};
 
 use fux_grid::{Cell, cell_of};
 
@@ -74,8 +74,7 @@ impl NewestColumns {
     #[inline]
     pub fn with(&self, column: &[Cell]) -> NewestColumns
         requires room { self.now.len < 192 }
-        ensures newest { (voices : ℕ) (s : List (List ACell)) → voices ≤ 4 → length column.now ≡ voices
-            → AreNewestOf voices s self.now → AreNewestOf voices (s ++ column.now ∷ []) result }
+        ensures newest { GrowBy column.now self.now result }
         ensures count { result.len ≡ self.now.len + 1 }
     {
         let mut next = *self;

@@ -3,11 +3,12 @@ use Rattle.std.specs.Prelude.{IsSomeAnd}
 use Rattle.std.proofs.Common.{◌≡◌, ◌+◌, ◌≤◌, Option, Some, None, ℕ, ◌<◌, Bool, true, false, not, ◌&&◌, nat_lt, nat_le, List, [], ◌∷◌, ◌++◌, length, reverse, refl, ap, sym, ◌∙◌, subst, true≢false, arith}
 use Rattle.std.specs.List.{list_any}
 use Rattle.std.proofs.lemmas.Bool.Decides.{nat_tests}
+use Rattle.std.proofs.lemmas.Bool.{and_from}
 use Rattle.fux_grid.specs.declared.cell.Cell.{Cell}
 use Rattle.fux_grid.specs.declared.exercise.Exercise.{Exercise}
 use Rattle.fux_grid.specs.Columns.{newest_column, ColumnFollows}
 use Rattle.fux_grid.specs.Exercises.{IsValid, columns_in}
-use Rattle.rule_law.specs.Law.{both_true, test_from_below}
+use Rattle.rule_law.specs.Law.{test_from_below}
 use Rattle.rule_law.specs.Prefixes.{IsPrefix}
 use Rattle.penalty_sheet.specs.declared.sheet.Sheet.{Sheet}
 use Rattle.fux_judge.specs.Gauges.{least_of}
@@ -137,7 +138,7 @@ module _ (ex : Exercise) (path : List ℕ) (k : ℕ) (alive : is_alive_path ex p
 
 -- the empty path is alive
 pub begun_alive : (ex : Exercise) → IsValid ex → is_alive_path ex [] ≡ true
-begun_alive ex valid = alive_from_parts ex [] record { voices = both_true (nat_le ex.voices 4) (nat_lt ex.cantus_voice ex.voices) (test ex.voices 4 valid.most_voices) (test_from_below ex.cantus_voice ex.voices valid.cantus_there); room = test 0 (columns_in ex) (omega arith); menus = refl; follows = refl; alive = refl }
+begun_alive ex valid = alive_from_parts ex [] record { voices = and_from (nat_le ex.voices 4) (nat_lt ex.cantus_voice ex.voices) (test ex.voices 4 valid.most_voices) (test_from_below ex.cantus_voice ex.voices valid.cantus_there); room = test 0 (columns_in ex) (omega arith); menus = refl; follows = refl; alive = refl }
   where
     test : (n m : ℕ) → n ≤ m → nat_le n m ≡ true
     test n m h = grind (arith, nat_tests)

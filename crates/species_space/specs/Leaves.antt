@@ -6,7 +6,7 @@ use Rattle.std.proofs.Common.{ap, sym, ◌∙◌, subst, arith}
 use Rattle.std.proofs.lemmas.List.Elements.{Contains-get_or}
 use Rattle.std.proofs.lemmas.Bool.Decides.{nat_tests}
 use Rattle.std.specs.declared.cmp.Ordering.TheVariants.{Less}
-use Rattle.std.proofs.lemmas.Bool.{not-true, not-false, not_from_true}
+use Rattle.std.proofs.lemmas.Bool.{and_from, not-false, not-true, not_from_true}
 use Rattle.fux_grid.specs.declared.cell.Cell.{Cell}
 use Rattle.fux_grid.specs.declared.cell.Cell.TheVariants.{Rest}
 use Rattle.fux_grid.specs.declared.exercise.Exercise.{Exercise}
@@ -16,7 +16,7 @@ use Rattle.fux_grid.specs.Exercises.{IsValid, columns_in}
 use Rattle.fux_grid.specs.Menus.{menu_of, IsInMenu}
 use Rattle.fux_grid.specs.Order.{column_order}
 use Rattle.rule_law.specs.Growth.{any_below}
-use Rattle.rule_law.specs.Law.{first_true, second_true, both_true, below_from_test, test_from_below}
+use Rattle.rule_law.specs.Law.{first_true, second_true, below_from_test, test_from_below}
 use Rattle.fux_judge.specs.Penalties.{has_strict_break}
 use Rattle.fux_judge.proofs.Ends.{none_below, from_none_below}
 use Rattle.fux_judge.specs.Lawful.{IsAlive}
@@ -68,7 +68,7 @@ history_from_test (col ∷ h) e =
 
 test_from_history : (h : List (List Cell)) → HistoryFollows h → history_follows h ≡ true
 test_from_history [] f = refl
-test_from_history (col ∷ h) f = both_true (column_follows (newest_column h) col) (history_follows h) (test_from_follows (newest_column h) col f.0) (test_from_history h f.1)
+test_from_history (col ∷ h) f = and_from (column_follows (newest_column h) col) (history_follows h) (test_from_follows (newest_column h) col f.0) (test_from_history h f.1)
 
 module _ (ex : Exercise) (exact : (i : ℕ) → IsExactMenu ex i) where
   in_its_menu : (i : ℕ) (path : List ℕ) → is_in_menus ex i path ≡ true → (j : ℕ) → j < length path → Contains (menu_of ex (i + j)) (slice_index_or (columns_on ex i path) j [])
@@ -117,7 +117,7 @@ module _ (ex : Exercise) (exact : (i : ℕ) → IsExactMenu ex i) where
       record {
         path = place.0 ∷ rest.path;
         there = ap (λ c. c ∷ columns_on ex (suc i) rest.path) (other_default (menu_of ex i) place.0 [] col place.1 ∙ place.2) ∙ ap (λ cols. col ∷ cols) rest.there;
-        menus = both_true (nat_lt place.0 (length (menu_of ex i))) (is_in_menus ex (suc i) rest.path) (test_from_below place.0 (length (menu_of ex i)) place.1) rest.menus;
+        menus = and_from (nat_lt place.0 (length (menu_of ex i))) (is_in_menus ex (suc i) rest.path) (test_from_below place.0 (length (menu_of ex i)) place.1) rest.menus;
       }
     where
       later : (j : ℕ) → IsInMenu ex (i + suc j) (slice_index_or p j []) → IsInMenu ex (suc i + j) (slice_index_or p j [])
@@ -150,7 +150,7 @@ module _ (ex : Exercise) (exact : (i : ℕ) → IsExactMenu ex i) where
       whole path e menus =
           let size : length path ≡ length p = sym (length-columns_on ex 0 path) ∙ ap length e in
           alive_from_parts ex path record {
-            voices = both_true (nat_le ex.voices 4) (nat_lt ex.cantus_voice ex.voices) (room_test ex.voices 4 valid.most_voices) (test_from_below ex.cantus_voice ex.voices valid.cantus_there);
+            voices = and_from (nat_le ex.voices 4) (nat_lt ex.cantus_voice ex.voices) (room_test ex.voices 4 valid.most_voices) (test_from_below ex.cantus_voice ex.voices valid.cantus_there);
             room = room_test (length path) (columns_in ex) (omega (arith, live.prefix.few));
             menus = menus;
             follows = ap (λ q. history_follows (reverse q)) e ∙ test_from_history (reverse p) live.prefix.follows;

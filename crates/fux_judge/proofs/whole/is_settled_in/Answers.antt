@@ -1,6 +1,7 @@
 use Rattle.std.proofs.Common.{Bool, Some, None, ap, sym, ◌∙◌, arith}
 use Rattle.std.specs.Prelude.{nat_lt, true, length, refl}
-use Rattle.rule_law.specs.Law.{both_true, test_from_below}
+use Rattle.std.proofs.lemmas.Bool.{and_from}
+use Rattle.rule_law.specs.Law.{test_from_below}
 use Rattle.rule_law.specs.Places.{Row, settled_by}
 use Rattle.fux_judge.specs.declared.numbers.RuleCrate.TheVariants.{Melody, Motion, Dissonance, Rhythm, Doubling}
 use Rattle.fux_judge.proofs.CrateLemmas.{enough_by_crate, covers}
@@ -48,5 +49,5 @@ returns-in-Some-Doubling c =
 
 pub returns-in-None : goal.returns-in-None
 returns-in-None c =
-    sym (both_true (nat_lt c.args.i (length c.args.prefix.now.columns)) true (test_from_below c.args.i (length c.args.prefix.now.columns) c.requires.place) refl)
+    sym (and_from (nat_lt c.args.i (length c.args.prefix.now.columns)) true (test_from_below c.args.i (length c.args.prefix.now.columns) c.requires.place) refl)
     ∙ sym (ap (λ (row : Row Bool). settled_by row c.args.prefix.now.columns c.args.i) (enough_by_crate c.args.rule None (sym c.crate_of.ensures ∙ c.in-None.is) c.args.ex.now c.args.voices.bits))

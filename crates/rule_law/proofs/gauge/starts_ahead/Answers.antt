@@ -1,7 +1,7 @@
 use Rattle.std.proofs.Common.{◌≡◌, ◌≤◌, ◌<◌, ◌*◌, cond, ap, ◌∙◌, arith}
 use Rattle.std.specs.Int.{from_bool}
 use Rattle.fux_grid.specs.Exercises.{columns_in}
-use Rattle.rule_law.specs.Gauges.{menu_starts, starts_ahead}
+use Rattle.rule_law.specs.Gauges.{menu_starts}
 use Rattle.rule_law.proofs.MenuStarts.{as_number, as_number-bound, starts_ahead-more, starts_ahead-none}
 use Rattle.rule_law.proofs.gauge.starts_ahead.Goals as goal
 

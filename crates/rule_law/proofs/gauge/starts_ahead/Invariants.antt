@@ -1,7 +1,5 @@
-use Rattle.std.proofs.Common.{◌≡◌, ◌+◌, ◌-◌, ◌≤◌}
-use Rattle.std.specs.Prelude.{count_by}
-use Rattle.std.specs.List.{range_with_len}
-use Rattle.rule_law.specs.Gauges.{menu_starts, starts_ahead}
+use Rattle.std.proofs.Common.{◌≡◌, ◌+◌, ◌≤◌}
+use Rattle.rule_law.specs.Gauges.{starts_ahead}
 use Rattle.rule_law.proofs.gauge.starts_ahead.Given as goal
 
 abbrev pub invariant-loop-j : goal.invariant-loop-j

@@ -1,7 +1,7 @@
 use Rattle.std.proofs.Common.{◌≡◌, ◌<◌, ◌≤◌, ◌*◌, ◌+◌, ◌&&◌, ap, sym, ◌∙◌, arith}
 use Rattle.std.specs.Prelude.{pos}
 use Rattle.fux_grid.specs.Exercises.{columns_in}
-use Rattle.melody_rules.specs.Gauges.{is_final_climax, is_topped}
+use Rattle.melody_rules.specs.Gauges.{is_final_climax}
 use Rattle.melody_rules.specs.GaugeLaws.{final_more, final_none}
 use Rattle.melody_rules.proofs.gauges.climax.is_final_climax.Goals as goal
 

@@ -1,5 +1,4 @@
-use Rattle.std.proofs.Common.{◌≡◌, ℕ, ◌+◌, ◌∷◌, List, length, ap, arith, subst, sym}
-use Rattle.fux_pitch.specs.declared.pitch.Pitch.{Pitch}
+use Rattle.std.proofs.Common.{◌≡◌, ℕ, ◌+◌, ◌∷◌, arith, subst, sym}
 use Rattle.melody_rules.specs.GaugeParts.{IsClimaxOf}
 use Rattle.melody_rules.proofs.GaugeLemmas.{climax-bound, climax_again, climax_new}
 use Rattle.melody_rules.proofs.gauges.climax.with_note.Goals as goal

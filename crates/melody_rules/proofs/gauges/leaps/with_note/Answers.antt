@@ -2,7 +2,6 @@ use Rattle.std.proofs.Common.{◌≡◌, ◌≤◌, Some, ap, ◌∙◌, refl, a
 use Rattle.std.specs.Int.{from_bool}
 use Rattle.rule_law.specs.Terms.{holds_of, interval_of_pitches, is_leap}
 use Rattle.rule_law.proofs.MenuStarts.{as_number-bound}
-use Rattle.melody_rules.specs.GaugeParts.{IsLeapsOf}
 use Rattle.melody_rules.specs.Rows.{last_of}
 use Rattle.melody_rules.proofs.GaugeLemmas.{leaps-bound}
 use Rattle.melody_rules.proofs.gauges.leaps.with_note.Goals as goal

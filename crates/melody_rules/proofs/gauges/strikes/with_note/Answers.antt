@@ -1,10 +1,8 @@
-use Rattle.std.proofs.Common.{◌≡◌, ◌≤◌, ◌<◌, ◌+◌, length, rules, ap, sym, ◌∙◌, arith}
+use Rattle.std.proofs.Common.{◌≡◌, ◌<◌, ◌+◌, length, rules, ap, ◌∙◌, arith}
 use Rattle.std.specs.Prelude.{count_by, nat_le, slice_index}
 use Rattle.std.specs.Int.{from_bool}
 use Rattle.fux_pitch.specs.Pitch.{same_pitch}
 use Rattle.rule_law.proofs.MenuStarts.{as_number-bound}
-use Rattle.melody_rules.specs.Gauges.{beyond_fourth}
-use Rattle.melody_rules.specs.GaugeParts.{place_in}
 use Rattle.melody_rules.proofs.StrikeLemmas.{beyond-bound, count-bound, strike}
 use Rattle.melody_rules.proofs.gauges.strikes.with_note.Goals as goal
 

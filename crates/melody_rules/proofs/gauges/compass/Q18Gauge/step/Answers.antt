@@ -1,4 +1,4 @@
-use Rattle.std.proofs.Common.{◌≡◌, ◌∷◌, sym, subst, arith}
+use Rattle.std.proofs.Common.{◌∷◌, sym, subst}
 use Rattle.fux_grid.specs.declared.cell.Cell.{Cell}
 use Rattle.melody_rules.specs.GaugeParts.{IsCompassOf}
 use Rattle.melody_rules.specs.Held.{pitches-hold}

@@ -1,0 +1,40 @@
+-- What is read of the newest columns and of the shapes of the newest bar, which a state keeps: breaks of S3, S22 and S25.
+use Rattle.std.specs.Prelude.{◌≡◌, ℕ, ◌+◌, ◌^◌, ◌<◌, ◌≤◌, Bool, true, List, [], ◌∷◌, ◌++◌, length}
+use Rattle.fux_grid.specs.declared.cell.Cell.{Cell}
+use Rattle.fux_grid.specs.declared.exercise.Exercise.{Exercise}
+use Rattle.fux_grid.specs.Cells.{cell_in}
+use Rattle.fux_grid.specs.Columns.{Columns}
+use Rattle.rule_law.specs.Newest.{AreNewestOf}
+use Rattle.rule_law.specs.Places.{reading_of}
+use Rattle.rule_law.specs.Prefixes.{GoesOn}
+use Rattle.rule_law.specs.Rulebooks.{IsAmong, newly_breaks}
+use Rattle.rule_law.specs.declared.newest.NewestColumns.{NewestColumns}
+use Rattle.rhythm_cadence.specs.declared.part.BarShapes.{BarShapes}
+use Rattle.rhythm_cadence.specs.Book.{rule_row, shape_rule}
+use Rattle.rhythm_cadence.specs.Parts.{IsShapesOf, newest_start}
+use Rattle.rhythm_cadence.specs.Quavers.{quaver_at}
+use Rattle.rhythm_cadence.specs.Rows.{broken_in}
+
+-- a set of voices has left the shapes of the newest bar: S3 is broken where that bar begins
+abbrev pub have_left : Exercise → ℕ → Columns → Bool
+have_left ex voices p = reading_of (broken_in 3 ex voices) p (newest_start p)
+
+-- any column at place i in which the voice has this cell settles a break of S3 for the voice
+abbrev pub LeavesShapes : Exercise → BarShapes → ℕ → ℕ → Cell → Type 0
+LeavesShapes ex part i v cell =
+    (p : Columns) (col : List Cell) → length p ≡ i → IsShapesOf ex p part → cell_in col v ≡ cell
+    → newly_breaks shape_rule ex (2 ^ v) p col (newest_start (p ++ col ∷ [])) ≡ true
+
+-- at one of a late rule's places: whether the last column, which comes after an orderly prefix, settles a break of it there
+abbrev pub TellsBreak : ℕ → Exercise → ℕ → BarShapes → NewestColumns → ℕ → Bool → Type 0
+TellsBreak rule ex voices part kept place told =
+    (p : Columns) (col : List Cell) → IsShapesOf ex (p ++ col ∷ []) part
+    → AreNewestOf ex.voices (p ++ col ∷ []) kept → GoesOn ex p (col ∷ [])
+    → IsAmong ((rule_row rule).first ex (length p)) ((rule_row rule).count ex (length p)) place
+    → told ≡ newly_breaks (rule_row rule) ex voices p col place
+
+-- at one of the two newest places: whether S25 is broken there
+abbrev pub TellsQuaver : Exercise → ℕ → NewestColumns → ℕ → Bool → Type 0
+TellsQuaver ex voices kept place told =
+    (s : Columns) → AreNewestOf ex.voices s kept → place < length s → length s ≤ place + 2
+    → told ≡ quaver_at ex s place voices
