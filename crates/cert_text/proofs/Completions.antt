@@ -9,6 +9,7 @@ use Rattle.fux_grid.specs.declared.cell.Cell.{Cell}
 use Rattle.fux_grid.specs.declared.cell.Cell.TheVariants.{Rest, Start}
 use Rattle.fux_grid.specs.declared.exercise.Exercise.{Exercise}
 use Rattle.text_lines.specs.Numbers.{is_digit}
+use Rattle.fux_text.proofs.OwnSetting.{free_of}
 use Rattle.cert_text.specs.declared.place.Fixed.{Fixed}
 use Rattle.cert_text.specs.declared.place.Fixed.TheVariants.{BarLine, Best, Claims, Colon, Feed, Nothing, Opening, Sing, Space}
 use Rattle.cert_text.specs.declared.place.Part.{Part}
@@ -23,7 +24,7 @@ use Rattle.cert_text.proofs.ItemBacks.{Ends}
 use Rattle.cert_text.specs.SingItems.{behind_text, claims_text, items_text, lines_text, sounds}
 use Rattle.cert_text.proofs.ItemRuns.{behind-run, count-run, items-run, natural-run, signed-run}
 use Rattle.cert_text.proofs.LineBacks.{sample, sample-fits}
-use Rattle.cert_text.proofs.LineRuns.{free_among, lines-run, number-run, sing-long}
+use Rattle.cert_text.proofs.LineRuns.{lines-run, number-run, sing-long}
 use Rattle.cert_text.proofs.RunLemmas.{at, fixed-run}
 
 -- ---- what each place keeps
@@ -211,7 +212,7 @@ GoesOn ex penalty place = (y : List ℕ) × (total : Option ℕ) × Ends ex pena
 module _ (ex : Exercise) (p : Pitch) (some : 1 ≤ ex.bars) (few : ex.bars ≤ 24) where
   line-goes : (penalty : Option ℕ) (v : ℕ) → v ≤ ex.voices → GoesOn ex penalty (line_from ex v)
   line-goes penalty v most = (
-    lines_text ex (λ w. sample p (8 * ex.bars)) (free_among ex v (ex.voices - v)) ++ claims_text,
+    lines_text ex (λ w. sample p (8 * ex.bars)) (free_of ex v (ex.voices - v)) ++ claims_text,
     penalty,
     lines-run ex penalty (λ w. sample p (8 * ex.bars)) some few (λ w. sample-fits ex.bars p (8 * ex.bars) 0 Rest (omega arith)) (ex.voices - v) v
         (omega (arith, most)),

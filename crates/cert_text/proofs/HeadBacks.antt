@@ -1,6 +1,5 @@
--- One head at most stands at the front of bytes (`heads_are_one`), whatever stands behind it (`heads_before`,
--- `heads_within`), and its text is short (`heads_are_short`), so that a long front of bytes tells where none goes on
--- (`stops_whole`).
+-- One head at most stands at the front of bytes (`heads_are_one`), whatever stands behind it (`heads_before`), and its
+-- text is short (`heads_are_brief`), so that a long front of bytes tells where none goes on (`stops_whole`).
 use Rattle.std.proofs.Common.{◌≡◌, ℕ, ◌+◌, ◌*◌, ◌/◌, ◌%◌, ◌≤◌, ◌<◌, ◌^◌, Bool, true, false, List, [], ◌∷◌, ◌++◌, length, length-append, take, Option, Some, None, Result, Ok, refl, sym, ap, subst, ◌∙◌, arith}
 use Rattle.std.specs.Prelude.{◌==◌, not, codes, filter, if◌then◌else◌}
 use Rattle.std.specs.Fmt.{decimal}
@@ -9,6 +8,7 @@ use Rattle.std.proofs.lemmas.Bool.Decides.{nat_tests}
 use Rattle.std.proofs.lemmas.Fmt.{length-decimal-le}
 use Rattle.std.proofs.lemmas.List.{append_cancel_left, append_cancel_right, length-take, length-take-le, take-append-le, take-take}
 use Rattle.std.proofs.lemmas.List.FromFn.{length-range_with_len}
+use Rattle.std.proofs.lemmas.List.Sums.{count_by-le-length, length-filter}
 use Rattle.fux_pitch.proofs.NameLemmas.{name_of-length}
 use Rattle.fux_grid.specs.declared.cell.Cell.{Cell}
 use Rattle.fux_grid.specs.declared.cell.Cell.TheVariants.{Rest, Hold, Start}
@@ -89,16 +89,6 @@ heads_before ex front rest h heads =
       setting = subst (λ xs. HasLines ex xs h) same heads.setting;
     }
 
-pub heads_within : (ex : Exercise) (bytes : List ℕ) (h : CertHead) (n m : ℕ) → Heads ex bytes h n → n ≤ m
-    → Heads ex (take m bytes) h n
-heads_within ex bytes h n m heads more =
-    let same : take n bytes ≡ take n (take m bytes) = sym (take-take n m bytes more) in
-    record {
-      within = omega (arith, length-take m bytes, heads.within, more);
-      text = subst (λ xs. IsHeadText ex xs (penalty_of h)) same heads.text;
-      setting = subst (λ xs. HasLines ex xs h) same heads.setting;
-    }
-
 -- ---- how long a head is
 
 name-short : (c : Cell) → length (item_name c) ≤ 3
@@ -171,15 +161,6 @@ lines-short ex sung (v ∷ voices) few fits =
       lines-short ex sung voices few fits,
     )
 
-kept-few : (keep : ℕ → Bool) (xs : List ℕ) → length (filter keep xs) ≤ length xs
-kept-few keep [] = omega arith
-kept-few keep (x ∷ xs) = by (keep x) (kept-few keep xs)
-  where
-    by : (b : Bool) → length (filter keep xs) ≤ length xs
-        → length (if b then x ∷ filter keep xs else filter keep xs) ≤ length (x ∷ xs)
-    by true few = omega (arith, few)
-    by false few = omega (arith, few)
-
 -- the lines of a head have at most 4,828 bytes, four lines of 1,207
 pub item_lines-short : (ex : Exercise) (lines : List ℕ) → IsValid ex → AreLines ex lines → length lines ≤ 4828
 item_lines-short ex lines valid are =
@@ -187,7 +168,8 @@ item_lines-short ex lines valid are =
       arith,
       ap length are.text,
       lines-short ex are.sung (free_voices ex) valid.most_bars are.fits,
-      kept-few (λ v. not (v == ex.cantus_voice)) (range_with_len 0 ex.voices),
+      length-filter (λ v. not (v == ex.cantus_voice)) (range_with_len 0 ex.voices),
+      count_by-le-length (λ v. not (v == ex.cantus_voice)) (range_with_len 0 ex.voices),
       length-range_with_len 0 ex.voices,
       valid.most_voices,
     )
@@ -211,10 +193,6 @@ heads_are_brief ex text (Some penalty) valid is =
       best-short penalty is.lines is.below,
       item_lines-short ex is.lines valid is.canonical,
     )
-
-pub heads_are_short : (ex : Exercise) (text : List ℕ) (penalty : Option ℕ) → IsValid ex → IsHeadText ex text penalty
-    → length text ≤ 65536
-heads_are_short ex text penalty valid is = omega (arith, heads_are_brief ex text penalty valid is)
 
 -- ---- a front as long as a head can be
 

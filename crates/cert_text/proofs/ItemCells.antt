@@ -7,11 +7,11 @@ use Rattle.std.proofs.lemmas.Bool.Decides.{nat_tests}
 use Rattle.fux_grid.specs.declared.cell.Cell.{Cell}
 use Rattle.fux_grid.specs.declared.cell.Cell.TheVariants.{Rest, Hold, Start}
 use Rattle.fux_grid.specs.Cells.{cell_follows}
-use Rattle.fux_grid.proofs.PitchTests.{same_pitch-from_equal}
 use Rattle.fux_text.specs.Grammar.{cells_of}
 use Rattle.fux_text.specs.Sing.{FollowsFrom, held, item_cells}
-use Rattle.fux_text.proofs.Following.{rest-follows}
+use Rattle.fux_text.proofs.Following.{held-follows, rest-follows}
 use Rattle.fux_text.proofs.OnlySing.{item_cells-length}
+use Rattle.fux_text.proofs.OwnItems.{follows-held}
 use Rattle.cert_text.specs.SingItems.{Fits, can_stand}
 
 -- ---- their number
@@ -29,32 +29,13 @@ fits-long bars i before (item ∷ items) fits =
 
 -- ---- each follows the one before it
 
-held-held : (c : Cell) → held (held c) ≡ held c
-held-held Rest = refl
-held-held (Hold p) = refl
-held-held (Start p) = refl
-
-held-follows : (c : Cell) → IsTrue (cell_follows c (held c))
-held-follows Rest = refl
-held-follows (Hold p) = same_pitch-from_equal p p refl
-held-follows (Start p) = same_pitch-from_equal p p refl
-
--- what follows a held cell follows the cell
-follows-held : (c : Cell) (ds : List Cell) → FollowsFrom (held c) ds → FollowsFrom c ds
-follows-held c [] f = tt
-follows-held Rest (d ∷ ds) f = f
-follows-held (Hold p) (d ∷ ds) f = f
-follows-held (Start p) (Rest ∷ ds) f = f
-follows-held (Start p) (Hold q ∷ ds) f = f
-follows-held (Start p) (Start q ∷ ds) f = f
-
 pub run-follows : (c : Cell) (m : ℕ) (cs : List Cell) → FollowsFrom (held c) cs
     → FollowsFrom c (replicate m (held c) ++ cs)
 run-follows c zero cs f = follows-held c cs f
 run-follows c (suc m) cs f = (
-  held-follows c,
-  subst (λ h. FollowsFrom (held c) (replicate m h ++ cs)) (held-held c)
-      (run-follows (held c) m cs (subst (λ h. FollowsFrom h cs) (sym (held-held c)) f)),
+  (held-follows c).0,
+  subst (λ h. FollowsFrom (held c) (replicate m h ++ cs)) (held-follows c).1
+      (run-follows (held c) m cs (subst (λ h. FollowsFrom h cs) (sym (held-follows c).1) f)),
 )
 
 pub stands-follows : (i : ℕ) (before c : Cell) → IsTrue (can_stand i before c) → IsTrue (cell_follows before c)

@@ -11,6 +11,7 @@ use Rattle.fux_grid.specs.declared.cell.Cell.{Cell}
 use Rattle.fux_grid.specs.declared.cell.Cell.TheVariants.{Rest, Start}
 use Rattle.fux_grid.specs.declared.exercise.Exercise.{Exercise}
 use Rattle.text_lines.specs.Numbers.{is_digit}
+use Rattle.fux_text.proofs.OwnSetting.{free_of}
 use Rattle.cert_text.specs.declared.place.Fixed.TheVariants.{Best, Claims, Feed, Nothing, Opening, Sing}
 use Rattle.cert_text.specs.declared.place.Part.{Part}
 use Rattle.cert_text.specs.declared.place.Place.TheVariants.{Digits, Kind, Whole, Within}
@@ -18,7 +19,7 @@ use Rattle.cert_text.specs.HeadRuns.{first_part, run}
 use Rattle.cert_text.specs.Places.{behind_fixed, line_from, sing_bytes}
 use Rattle.cert_text.proofs.ItemBacks.{Ends, Leads, fixed-from, items-from, not_done}
 use Rattle.cert_text.specs.SingItems.{Fits, claims_text, items_text, line_text, lines_text, nothing_text, opening_text}
-use Rattle.cert_text.proofs.LineRuns.{free_among, has-line, sing-long, skips-cantus}
+use Rattle.cert_text.proofs.LineRuns.{has-line, sing-long, skips-cantus}
 use Rattle.cert_text.proofs.RunLemmas.{at}
 
 -- ---- a line of quavers
@@ -51,7 +52,7 @@ with_line-own v items sung = let same : (v == v) ≡ true = grind (arith, nat_te
 
 -- the later lines stay
 with_line-later : (ex : Exercise) (v : ℕ) (items : List (Cell × ℕ)) (sung : ℕ → List (Cell × ℕ)) (count a : ℕ) → v < a
-    → lines_text ex (with_line v items sung) (free_among ex a count) ≡ lines_text ex sung (free_among ex a count)
+    → lines_text ex (with_line v items sung) (free_of ex a count) ≡ lines_text ex sung (free_of ex a count)
 with_line-later ex v items sung zero a later = refl
 with_line-later ex v items sung (suc count) a later =
     by (a == ex.cantus_voice) (with_line-later ex v items sung count (a + 1) (omega (arith, later)))
@@ -60,7 +61,7 @@ with_line-later ex v items sung (suc count) a later =
     other = let apart : (a == v) ≡ false = grind (arith, nat_tests) in rw apart refl
 
     vs : List ℕ
-    vs = free_among ex (a + 1) count
+    vs = free_of ex (a + 1) count
 
     by : (b : Bool) → lines_text ex (with_line v items sung) vs ≡ lines_text ex sung vs
         → lines_text ex (with_line v items sung) (if not b then a ∷ vs else vs) ≡ lines_text ex sung (if not b then a ∷ vs else vs)
@@ -73,7 +74,7 @@ with_line-later ex v items sung (suc count) a later =
 pub record LinesFrom (ex : Exercise) (penalty : Option ℕ) (v count : ℕ) (y : List ℕ) (total : Option ℕ) : Type 0 where
   pub sung : ℕ → List (Cell × ℕ)
   pub fits : (w : ℕ) → Fits ex.bars 0 Rest (sung w)
-  pub text : y ≡ lines_text ex sung (free_among ex v count) ++ claims_text
+  pub text : y ≡ lines_text ex sung (free_of ex v count) ++ claims_text
   pub same : penalty ≡ total
 
 whole-from : (ex : Exercise) (penalty total : Option ℕ) (y : List ℕ) → Ends ex penalty Whole y total → (y ≡ []) × (penalty ≡ total)
@@ -112,7 +113,7 @@ lines-from ex penalty total p some (suc count) v y all e =
           sung = lines.sung;
           fits = lines.fits;
           text =
-              lines.text ∙ ap (λ (b : Bool). lines_text ex lines.sung (if not b then v ∷ free_among ex (v + 1) count else free_among ex (v + 1) count) ++ claims_text) (sym f);
+              lines.text ∙ ap (λ (b : Bool). lines_text ex lines.sung (if not b then v ∷ free_of ex (v + 1) count else free_of ex (v + 1) count) ++ claims_text) (sym f);
           same = lines.same;
         }
     by false f later =
@@ -124,7 +125,7 @@ lines-from ex penalty total p some (suc count) v y all e =
         let next : behind_fixed ex (Feed v) ≡ line_from ex (v + 1) = rw inside refl in
         let lines = later items.rest (subst (λ place. Ends ex penalty place items.rest total) next items.ends) in
         let own = with_line-own v items.items lines.sung in
-        let after = lines_text ex lines.sung (free_among ex (v + 1) count) in
+        let after = lines_text ex lines.sung (free_of ex (v + 1) count) in
         record {
           sung = with_line v items.items lines.sung;
           fits = with_line-fits ex.bars v items.items lines.sung items.fits lines.fits;
@@ -135,7 +136,7 @@ lines-from ex penalty total p some (suc count) v y all e =
               ∙ ap (λ t. (line_text ex v t ++ after) ++ claims_text) (sym own)
               ∙ ap (λ t. (line_text ex v (with_line v items.items lines.sung v) ++ t) ++ claims_text)
               (sym (with_line-later ex v items.items lines.sung count (v + 1) (omega arith)))
-              ∙ ap (λ (b : Bool). lines_text ex (with_line v items.items lines.sung) (if not b then v ∷ free_among ex (v + 1) count else free_among ex (v + 1) count) ++ claims_text) (sym f);
+              ∙ ap (λ (b : Bool). lines_text ex (with_line v items.items lines.sung) (if not b then v ∷ free_of ex (v + 1) count else free_of ex (v + 1) count) ++ claims_text) (sym f);
           same = lines.same;
         }
 
@@ -148,10 +149,6 @@ pub record NumberFrom (ex : Exercise) (front y : List ℕ) (total : Option ℕ) 
   pub fits : number < 2 ^ 64
   pub text : front ++ y ≡ decimal number ++ 10 ∷ rest
   pub ends : Ends ex (Some number) (line_from ex 0) rest total
-
-abbrev LeadsOn : Exercise → Option ℕ → List ℕ → Option ℕ → Type 0
-LeadsOn ex found y total =
-    option_and_then (λ next. run ex next y) (option_map (λ longer. at (Some longer) Digits) found) ≡ Some (at total Whole)
 
 more-from : (ex : Exercise) (total : Option ℕ) (y : List ℕ) (n : ℕ) → n < 2 ^ 64 → Ends ex (Some n) Digits y total
     → NumberFrom ex (decimal n) y total
@@ -226,7 +223,7 @@ pub record BestFrom (ex : Exercise) (y : List ℕ) (total : Option ℕ) : Type 0
   pub same : Some penalty ≡ total
   pub sung : ℕ → List (Cell × ℕ)
   pub lines : (w : ℕ) → Fits ex.bars 0 Rest (sung w)
-  pub text : y ≡ opening_text ++ (codes "best " ++ (decimal penalty ++ 10 ∷ (lines_text ex sung (free_among ex 0 ex.voices) ++ claims_text)))
+  pub text : y ≡ opening_text ++ (codes "best " ++ (decimal penalty ++ 10 ∷ (lines_text ex sung (free_of ex 0 ex.voices) ++ claims_text)))
 
 kind-from : (ex : Exercise) (total : Option ℕ) (p : Pitch) → 1 ≤ ex.bars → (y : List ℕ) → Ends ex None Kind y total
     → ((y ≡ codes "none" ++ 10 ∷ claims_text) × (None ≡ total)) ⊎ BestFrom ex (opening_text ++ y) total

@@ -1,14 +1,14 @@
 -- The text of a head is read to its end (`best-run`, `nothing-run`).
 use Rattle.std.proofs.Common.{◌≡◌, ℕ, zero, suc, ◌+◌, ◌-◌, ◌*◌, ◌/◌, ◌%◌, ◌<◌, ◌≤◌, ◌^◌, Bool, true, false, List, [], ◌∷◌, ◌++◌, Option, Some, None, length, refl, ap, ◌∙◌, append_assoc, arith}
-use Rattle.std.specs.Prelude.{◌==◌, not, codes, filter, nat_le, nat_lt, if◌then◌else◌}
+use Rattle.std.specs.Prelude.{◌==◌, codes, nat_le, nat_lt, if◌then◌else◌}
 use Rattle.std.specs.Fmt.{decimal}
-use Rattle.std.specs.List.{range_with_len}
 use Rattle.std.proofs.lemmas.Bool.Decides.{nat_tests}
 use Rattle.std.proofs.lemmas.Fmt.{decimal_by_steps}
 use Rattle.fux_grid.specs.declared.cell.Cell.{Cell}
 use Rattle.fux_grid.specs.declared.cell.Cell.TheVariants.{Rest}
 use Rattle.fux_grid.specs.declared.exercise.Exercise.{Exercise}
 use Rattle.text_lines.specs.Numbers.{is_digit}
+use Rattle.fux_text.proofs.OwnSetting.{free_of}
 use Rattle.cert_text.specs.declared.place.Fixed.TheVariants.{Sing}
 use Rattle.cert_text.specs.declared.place.Place.TheVariants.{Digits, Name, Whole, Within}
 use Rattle.cert_text.specs.HeadRuns.{first_part, run}
@@ -18,10 +18,6 @@ use Rattle.cert_text.proofs.ItemRuns.{items-run}
 use Rattle.cert_text.proofs.RunLemmas.{at, fixed-run}
 
 -- ---- lines
-
--- the free voices among so many from one on
-abbrev pub free_among : Exercise → ℕ → ℕ → List ℕ
-free_among ex v count = filter (λ w. not (w == ex.cantus_voice)) (range_with_len v count)
 
 pub sing-long : (v : ℕ) → 0 < length (sing_bytes v)
 sing-long v = by (v == 0) (v == 1) (v == 2)
@@ -58,18 +54,18 @@ has-line ex v here e =
 -- the lines that are left, and the last line
 pub lines-run : (ex : Exercise) (penalty : Option ℕ) (sung : ℕ → List (Cell × ℕ)) → 1 ≤ ex.bars → ex.bars ≤ 24
     → ((v : ℕ) → Fits ex.bars 0 Rest (sung v)) → (count v : ℕ) → v + count ≡ ex.voices
-    → run ex (at penalty (line_from ex v)) (lines_text ex sung (free_among ex v count) ++ claims_text) ≡ Some (at penalty Whole)
+    → run ex (at penalty (line_from ex v)) (lines_text ex sung (free_of ex v count) ++ claims_text) ≡ Some (at penalty Whole)
 lines-run ex penalty sung some few fits zero v all =
     let past : nat_le ex.voices v ≡ true = grind (arith, nat_tests) in rw past refl
 lines-run ex penalty sung some few fits (suc count) v all =
     by (v == ex.cantus_voice) refl (lines-run ex penalty sung some few fits count (v + 1) (omega (arith, all)))
   where
     later : List ℕ
-    later = lines_text ex sung (free_among ex (v + 1) count)
+    later = lines_text ex sung (free_of ex (v + 1) count)
 
     by : (b : Bool) → (v == ex.cantus_voice) ≡ b
         → run ex (at penalty (line_from ex (v + 1))) (later ++ claims_text) ≡ Some (at penalty Whole)
-        → run ex (at penalty (line_from ex v)) (lines_text ex sung (free_among ex v (suc count)) ++ claims_text) ≡ Some (at penalty Whole)
+        → run ex (at penalty (line_from ex v)) (lines_text ex sung (free_of ex v (suc count)) ++ claims_text) ≡ Some (at penalty Whole)
     by true e rest =
         let skip : line_from ex v ≡ line_from ex (v + 1) = skips-cantus ex v (omega (arith, all)) e in
         rw (skip, e) rest

@@ -23,8 +23,9 @@ use Rattle.fux_text.specs.Items.{goes_on, item_name, item_word, items_of_cells, 
 use Rattle.fux_text.specs.Lines.{bars_of, between_bar_lines, sing_text}
 use Rattle.fux_text.specs.Sing.{FollowsFrom, held, item_cells, latest}
 use Rattle.fux_text.specs.Words.{spaced, text_line}
-use Rattle.fux_text.proofs.OwnBars.{latest-append}
-use Rattle.fux_text.proofs.OwnItems.{items-of_bar, lengths}
+use Rattle.fux_text.proofs.Following.{held-follows}
+use Rattle.fux_text.proofs.OwnBars.{follows-parts, latest-append}
+use Rattle.fux_text.proofs.OwnItems.{goes_on-same, items-of_bar, lengths}
 use Rattle.fux_text.proofs.WordLemmas.{text_line-cons}
 use Rattle.cert_text.specs.Places.{sing_bytes}
 use Rattle.cert_text.specs.SingItems.{Fits, behind_text, can_stand, item_text, items_text, line_text}
@@ -134,19 +135,6 @@ abbrev AreApart : List (Cell × ℕ) → Type 0
 AreApart [] = ⊤
 AreApart (item ∷ items) = ApartFrom item.0 items
 
-goes_on-same : (c d x : Cell) → goes_on c d ≡ true → goes_on d x ≡ goes_on c x
-goes_on-same Rest Rest x e = refl
-goes_on-same Rest (Hold p) x e = absurd (grind (arith, e))
-goes_on-same Rest (Start p) x e = absurd (grind (arith, e))
-goes_on-same (Hold q) Rest x e = absurd (grind (arith, e))
-goes_on-same (Hold q) (Hold p) x e = refl
-goes_on-same (Hold q) (Start p) x e = absurd (grind (arith, e))
-goes_on-same (Start q) Rest x e = absurd (grind (arith, e))
-goes_on-same (Start q) (Hold p) Rest e = refl
-goes_on-same (Start q) (Hold p) (Hold x) e = refl
-goes_on-same (Start q) (Hold p) (Start x) e = refl
-goes_on-same (Start q) (Start p) x e = absurd (grind (arith, e))
-
 apart-same : (c d : Cell) (items : List (Cell × ℕ)) → goes_on c d ≡ true → ApartFrom d items → ApartFrom c items
 apart-same c d [] e a = tt
 apart-same c d (item ∷ items) e a = (sym (goes_on-same c d item.0 e) ∙ a.0, a.1)
@@ -203,13 +191,8 @@ left-fit bars k i before (x ∷ xs) ys low sum some starts apart rest =
 
 held-latest : (c : Cell) (m : ℕ) → held (latest c (replicate m (held c))) ≡ held c
 held-latest c zero = refl
-held-latest c (suc m) = run (held c) m ∙ twice c
+held-latest c (suc m) = run (held c) m ∙ (held-follows c).1
   where
-    twice : (c : Cell) → held (held c) ≡ held c
-    twice Rest = refl
-    twice (Hold p) = refl
-    twice (Start p) = refl
-
     run : (d : Cell) (m : ℕ) → held (latest d (replicate m d)) ≡ held d
     run d zero = refl
     run d (suc m) = run d m
@@ -237,11 +220,6 @@ follows-stands k before (Hold p) f =
     holds Rest f = f
     holds (Hold q) f = f
     holds (Start q) f = f
-
-follows-parts : (before : Cell) (xs ys : List Cell) → FollowsFrom before (xs ++ ys)
-    → FollowsFrom before xs × FollowsFrom (latest before xs) ys
-follows-parts before [] ys f = (tt, f)
-follows-parts before (x ∷ xs) ys f = let rest = follows-parts x xs ys f.1 in ((f.0, rest.0), rest.1)
 
 bars-fit : (bars k : ℕ) (before : Cell) (bs : List (List (Cell × ℕ))) → k + length bs ≡ bars → AllByRecursion IsBar bs
     → AllByRecursion AreApart bs → FollowsFrom before (cells_of_bars bs) → Fits bars (8 * k) (held before) (joined bs)

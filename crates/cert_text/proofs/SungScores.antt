@@ -1,53 +1,31 @@
 -- Lines of items are those that are written of a setting, and no others are (`item-lines_written`), and they are read
 -- as that setting (`written-lines_read`).
-use Rattle.std.proofs.Common.{◌≡◌, ℕ, zero, suc, ◌+◌, ◌*◌, ◌<◌, ◌≤◌, Bool, true, false, List, [], ◌∷◌, ◌++◌, get_or, length, map, reverse, Some, refl, sym, ap, subst, ◌∙◌, append_assoc, append-nil, arith}
+use Rattle.std.proofs.Common.{◌≡◌, ℕ, zero, suc, ◌+◌, ◌*◌, ◌<◌, ◌≤◌, Bool, true, false, List, [], ◌∷◌, ◌++◌, get_or, length, map, refl, sym, ap, subst, ◌∙◌, arith}
 use Rattle.std.specs.Prelude.{◌==◌, if◌then◌else◌}
 use Rattle.std.specs.List.{AllByRecursion, flat_map, range_with_len}
 use Rattle.std.proofs.lemmas.Bool.{eq-eqb}
-use Rattle.std.proofs.lemmas.List.{length-map, reverse-append}
-use Rattle.std.proofs.lemmas.List.FromFn.{get_or-map-range_with_len, length-map-range_with_len, map-range_with_len_more}
-use Rattle.fux_pitch.specs.declared.pitch.Pitch.{Pitch}
+use Rattle.std.proofs.lemmas.List.FromFn.{get_or-map-range_with_len, length-map-range_with_len}
 use Rattle.fux_grid.specs.declared.cell.Cell.{Cell}
-use Rattle.fux_grid.specs.declared.cell.Cell.TheVariants.{Rest, Hold, Start}
+use Rattle.fux_grid.specs.declared.cell.Cell.TheVariants.{Rest}
 use Rattle.fux_grid.specs.declared.exercise.Exercise.{Exercise}
-use Rattle.fux_grid.specs.Cells.{cell_in}
-use Rattle.fux_grid.specs.Columns.{HistoryFollows, line, newest_column}
-use Rattle.fux_grid.specs.Exercises.{IsGiven, IsValid}
+use Rattle.fux_grid.specs.Columns.{line}
+use Rattle.fux_grid.specs.Exercises.{IsValid}
 use Rattle.fux_grid.specs.Grid.{Grid}
-use Rattle.fux_grid.proofs.Histories.{reverse-push}
 use Rattle.fux_text.specs.Grammar.{IsSettingOf, cells_of}
 use Rattle.fux_text.specs.Lines.{free_voices, sing_text}
 use Rattle.fux_text.specs.ReadBack.{sing_lines}
-use Rattle.fux_text.specs.Sing.{FollowsFrom, cantus_cells, column_of, item_cells, score_of}
+use Rattle.fux_text.specs.Sing.{FollowsFrom, cantus_cells, score_of}
 use Rattle.fux_text.specs.Texts.{AreSingLinesOf}
-use Rattle.fux_text.proofs.OwnSetting.{cells-of_column, free-cantus, free-other, free_of}
+use Rattle.fux_text.proofs.Following.{start-follows}
+use Rattle.fux_text.proofs.OnlySetting.{line-of_score, score-setting}
+use Rattle.fux_text.proofs.OwnSetting.{free-cantus, free-other, free_of, line-follows_own}
 use Rattle.fux_text.proofs.OwnText.{sing_lines-back}
-use Rattle.fux_text.proofs.ScoreLoops.{column-cell, next-follows}
-use Rattle.fux_text.proofs.ValidSetting.{cantus_cells-at}
+use Rattle.fux_text.proofs.ValidSetting.{score-given}
 use Rattle.cert_text.specs.SingItems.{AreLines, Fits, line_text, lines_text}
 use Rattle.cert_text.specs.WrittenLines.{AreWrittenOf, ItemLinesAreWritten, WrittenLinesAreRead}
 use Rattle.cert_text.proofs.HeadBacks.{item_lines-short}
-use Rattle.cert_text.proofs.ItemCells.{fits-follow, fits-long, fits-same, run-follows, stands-follows}
+use Rattle.cert_text.proofs.ItemCells.{fits-follow, fits-long, fits-same}
 use Rattle.cert_text.proofs.SungItems.{voice-cells, voice-fits, voice-text, voice_items}
-
--- ---- the cells of a voice follow one another
-
-older-follow : (xs ys : List (List Cell)) → HistoryFollows (xs ++ ys) → HistoryFollows ys
-older-follow [] ys h = h
-older-follow (x ∷ xs) ys h = older-follow xs ys h.1
-
-line-follows_from : (v : ℕ) (cols older : List (List Cell)) → HistoryFollows (reverse cols ++ older)
-    → FollowsFrom (cell_in (newest_column older) v) (line v cols)
-line-follows_from v [] older h = tt
-line-follows_from v (col ∷ cols) older h =
-    let turned : reverse (col ∷ cols) ++ older ≡ reverse cols ++ col ∷ older =
-    ap (λ s. s ++ older) (reverse-append (col ∷ []) cols) ∙ append_assoc (reverse cols) (col ∷ []) older in
-    let same : HistoryFollows (reverse cols ++ col ∷ older) = subst HistoryFollows turned h in
-    ((older-follow (reverse cols) (col ∷ older) same).0 v, line-follows_from v cols (col ∷ older) same)
-
-line-follows : (v : ℕ) (columns : List (List Cell)) → HistoryFollows (reverse columns)
-    → FollowsFrom Rest (line v columns)
-line-follows v columns h = line-follows_from v columns [] (subst HistoryFollows (sym (append-nil (reverse columns))) h)
 
 -- ---- texts of the free voices
 
@@ -72,7 +50,7 @@ each-free ex f g same (suc n) a low =
 
 -- the cells of a voice of a setting follow one another
 own-follows : (ex : Exercise) (score : Grid) (v : ℕ) → IsSettingOf ex score → FollowsFrom Rest (line v score.columns)
-own-follows ex score v setting = line-follows v score.columns setting.follows
+own-follows ex score v setting = line-follows_own v score.columns setting.follows
 
 own-text : (ex : Exercise) (score : Grid) (v : ℕ) → IsValid ex → IsSettingOf ex score → v < ex.voices
     → sing_text v score.columns ≡ line_text ex v (voice_items v score.columns)
@@ -92,72 +70,6 @@ written-are_items ex score lines valid written =
           ∙ each-free ex (λ v. sing_text v columns) (λ v. line_text ex v (voice_items v columns))
           (λ v there free. own-text ex score v valid written.setting there) ex.voices 0 (omega arith);
     }
-
--- ---- the score of lines of cells
-
--- a voice of the score has the cells of its line
-line-of_score : (bars v : ℕ) (lines : List (List Cell)) → length (get_or lines v []) ≡ 8 * bars
-    → line v (score_of bars lines).columns ≡ get_or lines v []
-unfolding score_of
-line-of_score bars v lines long =
-    cells-at (range_with_len 0 (8 * bars))
-    ∙ ap (λ n. map (λ i. cell_in (get_or lines v []) i) (range_with_len 0 n)) (sym long)
-    ∙ cells-of_column (get_or lines v [])
-  where
-    cells-at : (is : List ℕ) → line v (map (column_of lines) is) ≡ map (λ i. cell_in (get_or lines v []) i) is
-    cells-at [] = refl
-    cells-at (i ∷ is) =
-        ap (λ c. c ∷ line v (map (column_of lines) is)) (column-cell lines i v)
-        ∙ ap (λ cs. cell_in (get_or lines v []) i ∷ cs) (cells-at is)
-
-columns-follow : (lines : List (List Cell)) (n : ℕ) → AllByRecursion (FollowsFrom Rest) lines
-    → HistoryFollows (reverse (map (column_of lines) (range_with_len 0 n)))
-columns-follow lines zero f = tt
-columns-follow lines (suc n) f =
-    let columns = map (column_of lines) (range_with_len 0 n) in
-    let one : suc n ≡ n + 1 = omega arith in
-    let more : map (column_of lines) (range_with_len 0 (suc n)) ≡ columns ++ column_of lines n ∷ [] =
-    ap (λ k. map (column_of lines) (range_with_len 0 k)) one ∙ map-range_with_len_more (column_of lines) 0 n n
-    (omega arith) in
-    subst HistoryFollows (sym (ap reverse more ∙ reverse-push columns (column_of lines n)))
-    (next-follows lines n f, columns-follow lines n f)
-
-score-given : (ex : Exercise) (lines : List (List Cell)) → length ex.cantus ≡ ex.bars → length lines ≡ ex.voices
-    → get_or lines ex.cantus_voice [] ≡ cantus_cells ex.cantus → IsGiven ex (score_of ex.bars lines)
-unfolding score_of
-score-given ex lines whole long cantus = record {
-  complete = record { voices = long; whole = length-map-range_with_len (column_of lines) 0 (8 * ex.bars) };
-  cantus = λ i lt.
-      let low : i < 8 * ex.bars = omega (arith, lt, length-map-range_with_len (column_of lines) 0 (8 * ex.bars)) in
-      let col : get_or (map (column_of lines) (range_with_len 0 (8 * ex.bars))) i [] ≡ column_of lines i =
-      get_or-map-range_with_len (column_of lines) 0 (8 * ex.bars) i i [] low (omega arith) in
-      let cell : cell_in (column_of lines i) ex.cantus_voice ≡ cell_in (cantus_cells ex.cantus) i =
-      column-cell lines i ex.cantus_voice ∙ ap (λ cells. cell_in cells i) cantus in
-      cantus_cells-at ex.cantus i (omega (arith, low, whole))
-      ∙ ap Some (sym cell)
-      ∙ ap (λ c. Some (cell_in c ex.cantus_voice)) (sym col);
-}
-
-score-setting : (ex : Exercise) (lines : List (List Cell)) → length lines ≡ ex.voices
-    → AllByRecursion (FollowsFrom Rest) lines → IsGiven ex (score_of ex.bars lines)
-    → IsSettingOf ex (score_of ex.bars lines)
-unfolding score_of
-score-setting ex lines long follow given = record {
-  given = given;
-  full = λ k d lt.
-      let there : k < 8 * ex.bars = omega (arith, lt, length-map-range_with_len (column_of lines) 0 (8 * ex.bars)) in
-      ap length (get_or-map-range_with_len (column_of lines) 0 (8 * ex.bars) k k d there (omega arith))
-      ∙ length-map lines (λ cells. cell_in cells k) ∙ long;
-  follows = columns-follow lines (8 * ex.bars) follow;
-}
-
-cantus-follow : (before : Cell) (cantus : List Pitch)
-    → FollowsFrom before (flat_map (λ p. item_cells (Start p) 8) cantus)
-cantus-follow before [] = tt
-cantus-follow before (p ∷ ps) = (
-  stands-follows 0 before (Start p) refl,
-  run-follows (Start p) 7 (flat_map (λ q. item_cells (Start q) 8) ps) (cantus-follow (Hold p) ps),
-)
 
 -- ---- the score of items
 
@@ -180,7 +92,7 @@ module _ (ex : Exercise) (sung : ℕ → List (Cell × ℕ)) (fits : (v : ℕ) �
   cells-follow v = by (v == ex.cantus_voice)
     where
       by : (b : Bool) → FollowsFrom Rest (if b then cantus_cells ex.cantus else cells_of (sung v))
-      by true = cantus-follow Rest ex.cantus
+      by true = start-follows Rest ex.cantus
       by false = fits-follow ex.bars 0 Rest (sung v) (fits v)
 
   all-follow : (vs : List ℕ) → AllByRecursion (FollowsFrom Rest) (map cells_for vs)

@@ -16,6 +16,10 @@ pub record Reading : Type 0 where
 abbrev pub line_start : Reading → ℕ
 line_start reading = reading.next - length reading.begun
 
+-- a reader after so many bytes more, where these are the bytes of the line that was begun
+abbrev pub read_on : Reading → ℕ → List ℕ → Reading
+read_on old used begun = record old { next = old.next + used; used = old.used + used; begun = begun }
+
 -- what each reader keeps
 pub record IsReading (next used : ℕ) (begun : Begun) : Type 0 where
   pub least_rule : 1 ≤ begun_rule begun

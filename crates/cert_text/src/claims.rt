@@ -2,7 +2,7 @@
 
 ghost use Rattle.std.specs.Prelude.{◌≡◌, ◌≢◌, ◌+◌, ◌^◌, ◌≤◌, [], ℕ, None, Some, Err, IfOk, IfErr, IsOk, length};
 ghost use Rattle.cert_text.specs.Begun.{IsBegun, begun_bytes};
-ghost use Rattle.cert_text.specs.Reading.{line_start};
+ghost use Rattle.cert_text.specs.Reading.{line_start, read_on};
 ghost use Rattle.cert_text.specs.Takes.{Refuses, Takes};
 
 use crate::answers::CertFault;
@@ -95,12 +95,7 @@ impl Claims {
         requires begun { IsBegun begun }
         requires limit { self.old.used + used ≤ 2 ^ 40 }
         requires within { length (begun_bytes begun) ≤ self.old.used + used }
-        ensures { self.new ≡ record {
-          next = self.old.next + used;
-          used = self.old.used + used;
-          begun = begun_bytes begun;
-          refused = self.old.refused;
-        } }
+        ensures { self.new ≡ read_on self.old used (begun_bytes begun) }
     {
         self.begun = begun;
         self.next += used as u64;

@@ -1,12 +1,12 @@
 //! Reading the head of a certificate.
 
-ghost use Rattle.std.specs.Prelude.{◌≡◌, ◌⊎◌, ◌+◌, ◌≤◌, ℕ, IfErr, IfOk, List, MatchResult, Option, Some, length, take};
+ghost use Rattle.std.specs.Prelude.{◌≡◌, ◌+◌, ◌≤◌, ℕ, IfErr, IfOk, List, Some, length, take};
 ghost use Rattle.std.specs.Fmt.{decimal};
 ghost use Rattle.fux_grid.specs.Exercises.{IsValid};
 ghost use Rattle.cert_text.specs.declared.answers.CertHead.{CertHead};
-ghost use Rattle.cert_text.specs.HeadTexts.{Heads, TextStops, penalty_of};
+ghost use Rattle.cert_text.specs.HeadTexts.{AnswersTexts, Heads, IsHeadFault, UnlessMemory, penalty_of};
 ghost use Rattle.cert_text.specs.HeadRuns.{ScanTells, first_part};
-ghost use Rattle.cert_text.specs.SingItems.{IsBestText, IsHeadText, best_text};
+ghost use Rattle.cert_text.specs.SingItems.{IsBestText, best_text};
 ghost use Rattle.cert_text.specs.WrittenLines.{BestHeadsAreWritten, BestTextsAreWritten, HeadTextsAreShort, HeadsAreOne, ItemLinesAreWritten, TextsAreOfHeads, WrittenLinesAreRead};
 
 use crate::answers::{CertFault, CertHead};
@@ -72,8 +72,7 @@ fn best_head(
     requires within { used ≤ length bytes.now }
     requires text { IsBestText ex.now (take used bytes.now) penalty }
     ensures ok { IfOk result (λ found. Heads ex.now bytes.now found.0 found.1) }
-    ensures same { MatchResult result (λ found. (found.1 ≡ used) × (penalty_of found.0 ≡ Some penalty))
-        (λ fault. fault ≡ CertFault.Memory) }
+    ensures same { UnlessMemory result (λ found. (found.1 ≡ used) × (penalty_of found.0 ≡ Some penalty)) }
 {
     match read_sing(alloc, ex, lines_in(bytes, penalty, used)) {
         Ok(score) => Ok((CertHead::Best { penalty, score }, used)),
@@ -93,16 +92,12 @@ pub fn head(alloc: Global, ex: &Exercise, bytes: &[u8]) -> Result<(CertHead, usi
 
     // A head that is answered stands at the front, and a fault is where no head goes on.
     ensures ok { IfOk result (λ found. Heads ex.now bytes.now found.0 found.1) }
-    ensures fault { IfErr result (λ fault. (fault ≡ CertFault.Memory)
-        ⊎ ((at : ℕ) × (fault ≡ CertFault.CertHead at) × TextStops ex.now bytes.now at)) }
+    ensures fault { IfErr result (IsHeadFault ex.now bytes.now) }
 
     // Where a head or its text stands at the front, it is answered, unless memory runs out.
     ensures only { (head : CertHead) (n : ℕ) → Heads ex.now bytes.now head n
-        → MatchResult result (λ found. found ≡ (head, n)) (λ fault. fault ≡ CertFault.Memory) }
-    ensures texts { (n : ℕ) (penalty : Option ℕ) → n ≤ length bytes.now
-        → IsHeadText ex.now (take n bytes.now) penalty
-        → MatchResult result (λ found. (found.1 ≡ n) × (penalty_of found.0 ≡ penalty))
-        (λ fault. fault ≡ CertFault.Memory) }
+        → UnlessMemory result (λ found. found ≡ (head, n)) }
+    ensures texts { AnswersTexts ex.now bytes.now result }
 {
     match scan(ex, bytes) {
         Err(at) => Err(CertFault::CertHead { at: at as u64 }),

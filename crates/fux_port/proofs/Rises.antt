@@ -5,7 +5,3 @@ use Rattle.fux_port.specs.Counts.{Rose}
 -- it rose in a later call
 pub rose_later : (old mid new : ℕ) → old ≤ mid → Rose mid new → Rose old new
 rose_later old mid new before rose = grind arith
-
--- it rose in an earlier call
-pub rose_earlier : (old mid new : ℕ) → Rose old mid → mid ≤ new → new < 2 ^ 64 → Rose old new
-rose_earlier old mid new rose after fits = grind arith

@@ -1,5 +1,5 @@
 -- What contracts see of a shelf in memory.
-use Rattle.std.specs.Prelude.{◌≡◌, ◌≢◌, ℕ, Bool, ◌&&◌, List, String, Option, Some, None, is_some, min, if◌then◌else◌, map, string_bytes}
+use Rattle.std.specs.Prelude.{◌≡◌, ◌≢◌, ℕ, Bool, ◌&&◌, ◌-◌, ◌++◌, List, String, Option, Some, None, IfSome, is_some, min, if◌then◌else◌, length, map, take, drop, string_bytes}
 use Rattle.std.specs.Map.{lookup}
 use Rattle.std.specs.Str.{bytes_eq}
 use Rattle.fux_port.specs.Counts.{next_count, is_next_in}
@@ -21,10 +21,22 @@ named_files files = map (λ file. (string_bytes file.0, file.1)) files
 abbrev pub file_at : List (List ℕ × List ℕ) → List ℕ → Option (List ℕ)
 file_at files name = lookup (bytes_eq name) files
 
+-- what holds of the file of this name, if there is one
+abbrev pub IfFile : ShelfState → List ℕ → (List ℕ → Type 0) → Type 0
+IfFile shelf name Holds = IfSome (file_at shelf.files name) Holds
+
 -- a count, or the limit if there is a lesser one
 abbrev pub at_most : Option ℕ → ℕ → ℕ
 at_most None count = count
 at_most (Some most) count = min count most
+
+-- how many bytes of a file from the offset on a read gives, where a buffer has room for so many
+abbrev pub given_from : ℕ → List ℕ → Option ℕ → ℕ → ℕ
+given_from offset file piece room = at_most piece (min room (length file - offset))
+
+-- a buffer with so many bytes of a file from the offset on at its front
+abbrev pub filled_from : ℕ → List ℕ → ℕ → List ℕ → List ℕ
+filled_from offset file count buf = take count (drop offset file) ++ drop count buf
 
 -- the name has these bytes, and all else is as it was
 pub record PutsFile (old new : ShelfState) (name file : List ℕ) : Type 0 where

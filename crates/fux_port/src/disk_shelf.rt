@@ -79,6 +79,18 @@ impl<'a> Shelf for DiskShelf<'a> {
     }
 }
 
+/// The file that is open, where it is the one of this name, and else the one of this name.
+fn file_of(host: &HostRuntime, open: &mut Option<OpenFile>, name: &str) -> io::Result<OpenFile> {
+    match open.take() {
+        Some(reader) if reader.name.as_str() == name => Ok(reader),
+        _ => Ok(OpenFile {
+            name: String::from_str(host.alloc(), name)?,
+            file: File::open(host, name)?,
+            at: 0,
+        }),
+    }
+}
+
 /// Reads from this offset on: of the open file, where it is the one of this name.
 fn read_on(
     host: &HostRuntime,
@@ -89,14 +101,7 @@ fn read_on(
 ) -> io::Result<usize>
     ensures { IfOk result (λ count. count ≤ length buf.old) }
 {
-    let mut reader = match open.take() {
-        Some(reader) if reader.name.as_str() == name => reader,
-        _ => OpenFile {
-            name: String::from_str(host.alloc(), name)?,
-            file: File::open(host, name)?,
-            at: 0,
-        },
-    };
+    let mut reader = file_of(host, open, name)?;
     if reader.at != offset {
         reader.file.seek(SeekFrom::Start(offset))?;
     }

@@ -1,11 +1,11 @@
 //! A shelf in memory, whose reads fail where its maker wants.
 
-ghost use Rattle.std.specs.Prelude.{◌≡◌, ℕ, List, ◌<◌, ◌≤◌, ◌^◌, ◌-◌, ◌++◌, ◌⊎◌, ◌↔◌, [], Some, None, length, min, take, drop, IsTrue, IsErr, IfOk, IfSome, OnOk, OnErr};
+ghost use Rattle.std.specs.Prelude.{◌≡◌, ℕ, List, ◌<◌, ◌≤◌, ◌^◌, ◌⊎◌, ◌↔◌, [], Some, None, length, take, drop, IsTrue, IsErr, IfOk, IfSome, OnOk, OnErr};
 ghost use Rattle.std.specs.Option.{option_copied};
 ghost use Rattle.std.specs.Io.{StartsWith};
 ghost use Rattle.fux_port.specs.Counts.{is_next_in};
-ghost use Rattle.fux_port.specs.Files.{HasFile};
-ghost use Rattle.fux_port.specs.MemShelf.{PutsFile, named_files, file_at, after_read, at_most};
+ghost use Rattle.fux_port.specs.Files.{EndsBy, StandAt};
+ghost use Rattle.fux_port.specs.MemShelf.{IfFile, PutsFile, named_files, file_at, after_read, at_most, filled_from, given_from};
 
 use crate::{Failed, Shelf};
 use fux_pitch::{List as Bytes, Memory};
@@ -112,16 +112,15 @@ impl Shelf for MemShelf {
         ensures fails { IsErr result ↔ (file_at self.old.files name.now ≡ None
             ⊎ IsTrue (is_next_in self.old.fail_at self.old.calls)) }
         ensures fits { IfOk result (λ count. count ≤ length buf.old) }
-        ensures starts { IfOk result (λ count. (file : List ℕ)
-            → HasFile (Some (file_at self.old.files)) name.now file
-            → StartsWith (drop offset file) (take count buf.new)) }
+        ensures starts { IfOk result (λ count.
+            StandAt (Some (file_at self.old.files)) name.now offset (take count buf.new)) }
         ensures rest { IfOk result (λ count. drop count buf.new ≡ drop count buf.old) }
-        ensures end { IfOk result (λ count. count ≡ 0 → 0 < length buf.old → (file : List ℕ)
-            → HasFile (Some (file_at self.old.files)) name.now file → length file ≤ offset) }
-        ensures count { IfOk result (λ count. IfSome (file_at self.old.files name.now) (λ file.
-            count ≡ at_most self.old.piece (min (length buf.old) (length file - offset)))) }
-        ensures placed { IfOk result (λ count. IfSome (file_at self.old.files name.now) (λ file.
-            buf.new ≡ take count (drop offset file) ++ drop count buf.old)) }
+        ensures end { IfOk result (λ count.
+            count ≡ 0 → 0 < length buf.old → EndsBy (Some (file_at self.old.files)) name.now offset) }
+        ensures count { IfOk result (λ count. IfFile self.old name.now (λ file.
+            count ≡ given_from offset file self.old.piece (length buf.old))) }
+        ensures placed { IfOk result (λ count. IfFile self.old name.now (λ file.
+            buf.new ≡ filled_from offset file count buf.old)) }
         ensures err { OnErr result (buf.new ≡ buf.old) }
         ensures after { self.new ≡ after_read self.old name.now }
         ensures faults { self.old.faults ≤ self.new.faults }
@@ -151,12 +150,12 @@ fn find_file<'a>(files: &'a BTreeMap<String, Bytes<u8>>, name: &str) -> Option<&
 /// It answers how many bytes.
 fn copy_from(file: &[u8], offset: u64, piece: Option<usize>, buf: &mut [u8]) -> usize
     requires { IfSome piece (λ piece. 0 < piece) }
-    ensures count { result ≡ at_most piece (min (length buf.old) (length file.now - offset)) }
+    ensures count { result ≡ given_from offset file.now piece (length buf.old) }
     ensures fits { result ≤ length buf.old }
     ensures starts { StartsWith (drop offset file.now) (take result buf.new) }
     ensures rest { drop result buf.new ≡ drop result buf.old }
     ensures end { result ≡ 0 → 0 < length buf.old → length file.now ≤ offset }
-    ensures placed { buf.new ≡ take result (drop offset file.now) ++ drop result buf.old }
+    ensures placed { buf.new ≡ filled_from offset file.now result buf.old }
 {
     if offset >= file.len() as u64 {
         return 0;

@@ -1,9 +1,8 @@
 //! What gives the bytes of named files.
 
 ghost use Rattle.std.specs.Prelude.{◌≡◌, ℕ, ◌<◌, ◌≤◌, ◌^◌, ◌⊎◌, List, Option, length, take, drop, IsErr, IfOk, OnErr};
-ghost use Rattle.std.specs.Io.{StartsWith};
 ghost use Rattle.fux_port.specs.Counts.{Rose};
-ghost use Rattle.fux_port.specs.Files.{HasFile, IsMissing};
+ghost use Rattle.fux_port.specs.Files.{EndsBy, IsMissing, StandAt};
 
 use crate::Failed;
 
@@ -19,13 +18,13 @@ pub trait Shelf {
     /// Reads bytes of the file from this offset on into the front of the buffer, and answers how many.
     fn read_at(&mut self, name: &str, offset: u64, buf: &mut [u8]) -> Result<usize, Failed>
         ensures fits { IfOk result (λ count. count ≤ length buf.old) }
-        ensures placed { IfOk result (λ count. (file : List ℕ) → HasFile (files self.old) name.now file
-            → StartsWith (drop offset file) (take count buf.new)) }
+        ensures placed { IfOk result (λ count.
+            StandAt (files self.old) name.now offset (take count buf.new)) }
         ensures rest { IfOk result (λ count. drop count buf.new ≡ drop count buf.old) }
 
         // Nothing is read into a buffer with room only at the end of the file.
-        ensures end { IfOk result (λ count. count ≡ 0 → 0 < length buf.old
-            → (file : List ℕ) → HasFile (files self.old) name.now file → length file ≤ offset) }
+        ensures end { IfOk result (λ count.
+            count ≡ 0 → 0 < length buf.old → EndsBy (files self.old) name.now offset) }
 
         // A failed read is the shelf's fault, or the name is missing, which is nobody's fault.
         ensures cause { OnErr result (Rose (faults self.old) (faults self.new)

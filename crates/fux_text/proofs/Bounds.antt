@@ -2,6 +2,7 @@
 use Rattle.std.proofs.Common.{◌≡◌, ◌≢◌, ℕ, ◌-◌, ◌≤◌, Bool, true, false, Option, Some, None, Ok, refl, subst, arith}
 use Rattle.std.specs.Prelude.{◌==◌, ◌&&◌, nat_le, if◌then◌else◌}
 use Rattle.std.specs.Option.{ok_or, option_and_then}
+use Rattle.std.proofs.lemmas.Bool.{leb-true}
 use Rattle.text_lines.specs.declared.fault.TextKind.{TextKind}
 use Rattle.text_lines.specs.Numbers.{if_within, number_of, number_within}
 use Rattle.text_lines.specs.Reading.{fault_at, next, number_in}
@@ -15,9 +16,6 @@ pub record IsWithin (least most n : ℕ) : Type 0 where
   pub above : least ≤ n
   pub below : n ≤ most
 
-le-true : (a b : ℕ) → nat_le a b ≡ true → a ≤ b
-le-true a b e = grind (arith, e)
-
 if_within-bounds : (least most m n : ℕ) → if_within least most m ≡ Some n → IsWithin least most n
 if_within-bounds least most m n e = by (nat_le least m) refl (nat_le m most) refl e
   where
@@ -25,7 +23,7 @@ if_within-bounds least most m n e = by (nat_le least m) refl (nat_le m most) ref
         → IsWithin least most n
     by true d true f e =
         let same : m ≡ n = grind (arith, e) in
-        record { above = omega (arith, same, le-true least m d); below = omega (arith, same, le-true m most f) }
+        record { above = omega (arith, same, leb-true least m d); below = omega (arith, same, leb-true m most f) }
     by true d false f e = absurd (grind (arith, e))
     by false d b f e = absurd (grind (arith, e))
 

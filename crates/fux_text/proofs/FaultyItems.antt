@@ -2,7 +2,7 @@
 use Rattle.std.proofs.Common.{◌≡◌, ◌≢◌, inl, inr, ℕ, ◌+◌, ◌*◌, ◌≤◌, Bool, true, false, List, [], ◌∷◌, ◌++◌, length, length-append, Option, Some, None, Result, Ok, Err, refl, sym, ap, subst, ◌∙◌, arith}
 use Rattle.std.specs.Prelude.{◌==◌, ◌&&◌, nat_le, not, codes, if◌then◌else◌}
 use Rattle.std.specs.Option.{ok_or}
-use Rattle.std.proofs.lemmas.Bool.{eq-eqb, eqb-true, le-leb, ne_eqb}
+use Rattle.std.proofs.lemmas.Bool.{eq-eqb, eqb-true, le-leb, ne_eqb, eqb-false}
 use Rattle.fux_grid.specs.declared.cell.Cell.{Cell}
 use Rattle.fux_grid.specs.declared.cell.Cell.TheVariants.{Rest}
 use Rattle.text_lines.specs.declared.fault.TextKind.TheVariants as kinds
@@ -153,12 +153,6 @@ bar-more cells before taken last t full = record { long = omega (arith, t.long, 
 
 -- ---- bar lines and ends
 
-eq-of : (m n : ℕ) → (m == n) ≡ true → m ≡ n
-eq-of m n e = eqb-true m n e
-
-ne-of : (m n : ℕ) → (m == n) ≡ false → m ≢ n
-ne-of m n e = λ same. grind (arith, e, same)
-
 bar_line-faulty : (bars before taken : ℕ) (last : Cell) (cells : List Cell) (w : PlacedWord) (f : Fault)
     → Tell cells before taken last
     → bar_line_in bars before cells w ≡ Err f → IsBarLineFault bars before taken w f
@@ -178,10 +172,10 @@ bar_line-faulty bars before taken last cells w f t e =
         → IsBarLineFault bars before taken w f
     by false a b c e =
         let same : fault_at kinds.Length w ≡ f = grind (arith, e) in
-        inl (ne-of taken 8 a, sym same)
+        inl (eqb-false taken 8 a, sym same)
     by true a true b e =
         let same : fault_at kinds.BarLine w ≡ f = grind (arith, e) in
-        inr (eq-of taken 8 a, eq-of (before + 1) bars b, sym same)
+        inr (eqb-true taken 8 a, eqb-true (before + 1) bars b, sym same)
     by true a false b e = absurd (grind (arith, e))
 
 -- a bar line that may stand
@@ -210,8 +204,8 @@ bar_line-lawful bars before taken next last cells w t e =
     by false a b c e = absurd (grind (arith, e))
     by true a true b e = absurd (grind (arith, e))
     by true a false b e = record {
-      full = eq-of taken 8 a;
-      more = ne-of (before + 1) bars b;
+      full = eqb-true taken 8 a;
+      more = eqb-false (before + 1) bars b;
       next_is = sym (value_is (before + 1) next _ refl e);
     }
 
@@ -250,10 +244,10 @@ end-faulty bars before taken last cells at f t e =
         → IsEndFault bars before taken at f
     by false a b c e =
         let same : fault_beyond kinds.Length at ≡ f = grind (arith, e) in
-        inl (ne-of taken 8 a, sym same)
+        inl (eqb-false taken 8 a, sym same)
     by true a false b e =
         let same : fault_beyond kinds.BarLine at ≡ f = grind (arith, e) in
-        inr (eq-of taken 8 a, ne-of (before + 1) bars b, sym same)
+        inr (eqb-true taken 8 a, eqb-false (before + 1) bars b, sym same)
     by true a true b e = absurd (grind (arith, e))
 
 end-fails : (bars before taken : ℕ) (last : Cell) (cells : List Cell) (at : LineWords) (f : Fault)

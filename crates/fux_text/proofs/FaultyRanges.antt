@@ -3,6 +3,7 @@
 use Rattle.std.proofs.Common.{◌≡◌, ◌⊎◌, inl, inr, ℕ, ◌<◌, Bool, true, false, List, [], ◌∷◌, ◌++◌, length, Option, Some, None, Result, Ok, Err, refl, sym, ap, subst, ◌∙◌, append_assoc, arith}
 use Rattle.std.specs.Prelude.{codes, int_lt, not, if◌then◌else◌}
 use Rattle.std.specs.Option.{ok_or}
+use Rattle.std.proofs.lemmas.Bool.{not-true, not-false}
 use Rattle.std.proofs.lemmas.List.{append-nil}
 use Rattle.fux_pitch.specs.declared.pitch.Pitch.{Pitch}
 use Rattle.fux_pitch.specs.Pitch.{key_of}
@@ -20,10 +21,11 @@ use Rattle.fux_text.specs.LineFaults.{IsExtra, IsLine, IsLineFault, Lacks, NextI
 use Rattle.fux_text.specs.Names.{pitch_named}
 use Rattle.fux_text.specs.RangeFaults.{AreRangeLines, BeginsWithRanges, HasVoiceAndLow, IsFreeVoice, IsHigh, IsMisfit, IsPitch, IsRangeFault, IsRangeRight, IsRangesFault, NextBegins, bars_places, bars_told, wrong_high}
 use Rattle.fux_text.specs.Ranges.{all_ranged, bars_in, bars_of_later, has_line, high_in, misfits, misfits_from_low, range_in, range_line, ranges_in, ranges_on, refused_if}
-use Rattle.fux_text.proofs.FaultSteps.{Reads, Tells, extra_at_end, fails_at_end, faulty, gives_at_end, lawful, name_given, name_lacks, none_at_end, number-reads, number_given, number_lacks, one_some, same_next}
+use Rattle.fux_text.proofs.FaultSteps.{Reads, Tells, extra_at_end, fails_at_end, faulty, gives_at_end, lawful, name_given, name_lacks, none_at_end, number-reads, number_given, number_lacks, one_some}
 use Rattle.fux_text.proofs.FaultyHead.{bind_faulty, pitch-reads, voice-faulty, voice-gives, voice-lacks, voice-lawful}
 use Rattle.fux_text.proofs.Following.{value_is}
 use Rattle.fux_text.proofs.Named.{same_from, text_from}
+use Rattle.fux_text.proofs.ValidRanges.{not_refused}
 
 -- ---- how a line goes on behind its voice
 
@@ -100,12 +102,6 @@ high-reads low = record {
         >>= λ high. refused_if (int_lt (key_of high) (key_of low)) (fault_at kinds.Range w.0) >>= λ rises. Ok (high, w.1))
     by at None e = Lacks.missing e refl
     by at (Some (w, rest)) e = found at w rest e (pitch_named w.text) refl
-
-high-one : (low : Pitch) (at r s : LineWords) (x y : Pitch) → Stands (IsHigh low x) at r → Stands (IsHigh low y) at s
-    → x ≡ y
-high-one low at r s x y a b =
-    let same = same_next _ a.word b.word r s a.next b.next in
-    one_some (pitch_named b.word.text) x y (subst (λ z. pitch_named z.text ≡ Some x) same.word a.right.0) b.right.0
 
 -- ---- the bars of a line
 
@@ -198,10 +194,6 @@ refused-misfit : (bad : Bool) (g f : Fault) → refused_if bad g ≡ Err f → (
 refused-misfit true g f e = (refl, grind (arith, e))
 refused-misfit false g f e = absurd (grind (arith, e))
 
-not-refused : (bad : Bool) (g : Fault) (x : Unit {0}) → refused_if bad g ≡ Ok x → bad ≡ false
-not-refused true g x e = absurd (grind (arith, e))
-not-refused false g x e = refl
-
 range-faulty : (ex : Exercise) (before : List RangeLine) (at : LineWords) (f : Fault) → range_in ex before at ≡ Err f
     → IsRangeFault ex before at f
 unfolding range_in
@@ -212,7 +204,7 @@ range-faulty ex before at f e =
     let bad = refused-misfit (misfits (has_line before v.0) v.2) (fault_at kinds.Range v.1) f e in
     IsRangeFault.misfit v.0 v.2 voice (misfit-told (has_line before v.0) v.2 bad.0) (sym bad.1)) (λ y r e.
     let fits = fit-told (has_line before v.0) v.2
-    (not-refused (misfits (has_line before v.0) v.2) (fault_at kinds.Range v.1) y r) in
+    (not_refused (misfits (has_line before v.0) v.2) (fault_at kinds.Range v.1) y r) in
     faulty (pitch-reads kinds.Range) e (λ l. IsRangeFault.no_low v.0 v.2 voice fits l) (λ low s e.
     let front : HasVoiceAndLow ex before v.0 low.0 at low.1 =
     record { behind = v.2; voice = voice; fits = fits; low_stands = s } in
@@ -232,7 +224,7 @@ range-lawful ex before at line e =
     let voice : Stands (IsFreeVoice ex v.0) at v.2 = record { word = v.1; next = is.next; right = is.right } in
     let ok = bind_ok (refused_if (misfits (has_line before v.0) v.2) (fault_at kinds.Range v.1)) _ line e in
     let fits = fit-told (has_line before v.0) v.2
-    (not-refused (misfits (has_line before v.0) v.2) (fault_at kinds.Range v.1) ok.0 ok.1) in
+    (not_refused (misfits (has_line before v.0) v.2) (fault_at kinds.Range v.1) ok.0 ok.1) in
     lawful (pitch-reads kinds.Range) ok.2 (λ low s e.
     lawful (high-reads low.0) e (λ high t e.
     let x = bind_ok (bars_of_later (has_line before v.0) ex.bars high.1) _ line e in
@@ -571,14 +563,6 @@ on-wrong ex before here rest words f h wrong = by here.after here.lines h
 
 -- ---- all of them
 
-true_of : (b : Bool) → not b ≡ true → b ≡ false
-true_of true e = absurd (grind (arith, e))
-true_of false e = refl
-
-false_of : (b : Bool) → not b ≡ false → b ≡ true
-false_of true e = refl
-false_of false e = absurd (grind (arith, e))
-
 pub ranges-faulty : (ex : Exercise) (text : TextLines) (f : Fault) → ranges_in ex text ≡ Err f
     → IsRangesFault ex text f
 unfolding ranges_in
@@ -590,7 +574,7 @@ ranges-faulty ex text f e =
     bind_faulty (refused_if (not (all_ranged ex x.0)) (fault_here kinds.Range x.1)) _ f e (λ e.
     let bad = refused-misfit (not (all_ranged ex x.0)) (fault_here kinds.Range x.1) f e in
     IsRangesFault.no_line g.lines x.1 g.stand g.no_more
-    (subst (λ rs. all_ranged ex rs ≡ false) g.all (true_of (all_ranged ex x.0) bad.0)) (sym bad.1))
+    (subst (λ rs. all_ranged ex rs ≡ false) g.all (not-true (all_ranged ex x.0) bad.0)) (sym bad.1))
     (λ y r e. absurd (grind (arith, e))))
 
 pub ranges-lawful : (ex : Exercise) (text : TextLines) (x : List RangeLine × TextLines) → ranges_in ex text ≡ Ok x
@@ -600,8 +584,8 @@ ranges-lawful ex text x e =
     let y = bind_ok (ranges_on ex [] text.after text.lines) _ x e in
     let g = on-lawful ex [] text.after text.lines y.0 y.1 in
     let ok = bind_ok (refused_if (not (all_ranged ex y.0.0)) (fault_here kinds.Range y.0.1)) _ x y.2 in
-    let whole = false_of (all_ranged ex y.0.0)
-    (not-refused (not (all_ranged ex y.0.0)) (fault_here kinds.Range y.0.1) ok.0 ok.1) in
+    let whole = not-false (all_ranged ex y.0.0)
+    (not_refused (not (all_ranged ex y.0.0)) (fault_here kinds.Range y.0.1) ok.0 ok.1) in
     subst (λ (z : List RangeLine × TextLines). BeginsWithRanges ex z.0 text z.1) (value_is y.0 x _ refl ok.2)
     (record {
       lines_stand = subst (λ rs. AreRangeLines ex [] rs text y.0.1) (sym g.all) g.stand;

@@ -2,7 +2,7 @@
 -- there (`relaxes-lawful`, `relaxes-gives`).
 use Rattle.std.proofs.Common.{◌≡◌, ◌⊎◌, inl, inr, ℕ, zero, suc, ◌+◌, ◌<◌, ◌≤◌, Bool, true, false, List, [], ◌∷◌, ◌++◌, length, length-append, Option, Some, None, Ok, Err, refl, sym, ap, subst, ◌∙◌, arith}
 use Rattle.std.specs.Prelude.{◌&&◌, codes, nat_lt, if◌then◌else◌}
-use Rattle.std.proofs.lemmas.Bool.{ltb-false, lt-ltb, le-ltb}
+use Rattle.std.proofs.lemmas.Bool.{ltb-false, lt-ltb, le-ltb, and_parts, ltb-true}
 use Rattle.fux_grid.specs.declared.exercise.Exercise.{Exercise}
 use Rattle.fux_grid.specs.declared.exercise.Relax.{Relax}
 use Rattle.fux_grid.specs.declared.exercise.VoiceSet.{VoiceSet}
@@ -134,14 +134,6 @@ relax_line-words : (ex : Exercise) (text rest : TextLines) (words : LineWords)
 unfolding relax_line
 relax_line-words ex text rest words h = rw (headed_given kinds.Head (codes "relax") text rest words h) refl
 
--- one line more may stand, and does
-more-stands : (a b : Bool) → (a && b) ≡ true → (a ≡ true) × (b ≡ true)
-more-stands true b e = (refl, e)
-more-stands false b e = absurd (grind (arith, e))
-
-few-stand : (before : List Relax) → nat_lt (length before) most_relax ≡ true → length before < most_relax
-few-stand before e = grind (arith, e)
-
 longer : (before : List Relax) (r : Relax) → length (before ++ r ∷ []) ≡ length before + 1
 longer before r = length-append before (r ∷ [])
 
@@ -166,8 +158,8 @@ on-faulty ex before after (line ∷ others) f e =
         else Ok (before, text)) ≡ Err f
         → (d : IsRelaxFault ex text f) × (d.count + length before < most_relax)
     by true b later e =
-        let two = more-stands (nat_lt (length before) most_relax) (begins (codes "relax") text) b in
-        let few = few-stand before two.0 in
+        let two = and_parts (nat_lt (length before) most_relax) (begins (codes "relax") text) b in
+        let few = ltb-true (length before) most_relax two.0 in
         let h = begun (codes "relax") after line others two.1 in
         bind_faulty (relax_line ex text) _ f e (λ e.
         bind_faulty (relax_in ex h.0) _ f (sym (relax_line-words ex text rest h.0 h.1) ∙ e) (λ e.
@@ -255,8 +247,8 @@ on-lawful ex before after (line ∷ others) x few e =
         else Ok (before, text)) ≡ Ok x
         → ReadBehind ex (length before) text x.1
     by true b later e =
-        let two = more-stands (nat_lt (length before) most_relax) (begins (codes "relax") text) b in
-        let few = few-stand before two.0 in
+        let two = and_parts (nat_lt (length before) most_relax) (begins (codes "relax") text) b in
+        let few = ltb-true (length before) most_relax two.0 in
         let h = begun (codes "relax") after line others two.1 in
         let y = bind_ok (relax_line ex text) (λ relax. relax_on ex (before ++ relax.0 ∷ []) after others) x e in
         let z = bind_ok (relax_in ex h.0) _ y.0 (sym (relax_line-words ex text rest h.0 h.1) ∙ y.1) in

@@ -3,7 +3,7 @@
 use Rattle.std.proofs.Common.{◌≡◌, ℕ, ◌<◌, Bool, true, false, List, [], ◌∷◌, ◌++◌, length, Result, Ok, Err, refl, sym, ap, arith}
 use Rattle.std.specs.Prelude.{codes, nat_lt, if◌then◌else◌}
 use Rattle.std.specs.Str.{IsUtf8, is_utf8}
-use Rattle.std.proofs.lemmas.Bool.{ltb-false, lt-ltb}
+use Rattle.std.proofs.lemmas.Bool.{ltb-false, lt-ltb, ltb-true}
 use Rattle.std.proofs.lemmas.Str.{IsUtf8-from_is_utf8, is_utf8-from_IsUtf8}
 use Rattle.fux_pitch.specs.declared.pitch.Pitch.{Pitch}
 use Rattle.fux_grid.specs.declared.exercise.Exercise.{Exercise}
@@ -36,9 +36,6 @@ use Rattle.fux_text.proofs.FaultySing.{setting-faulty, setting-fails, sung-fault
 
 -- ---- bytes
 
-is_long : (bytes : List ℕ) → nat_lt 65536 (length bytes) ≡ true → 65536 < length bytes
-is_long bytes e = grind (arith, e)
-
 bytes-faulty : {A : Type 0} (InLines : TextLines → Fault → Type 0) (read : TextLines → Result A Fault) (bytes : List ℕ)
     (f : Fault)
     → (text_in bytes >>= read) ≡ Err f → ((text : TextLines) → read text ≡ Err f → InLines text f)
@@ -56,7 +53,7 @@ bytes-faulty {A = A} InLines read bytes f e wrong =
         → IsFaultOfText InLines bytes f
     by true l u v e =
         let same : record { kind = TooLong; line = 1; column = 1 } ≡ f = grind (arith, e) in
-        IsFaultOfText.too_long (is_long bytes l) (sym same)
+        IsFaultOfText.too_long (ltb-true 65536 (length bytes) l) (sym same)
     by false l true u e =
         IsFaultOfText.in_lines (ltb-false 65536 (length bytes) l) (IsUtf8-from_is_utf8 bytes u) (wrong (lines_in bytes) e)
     by false l false u e =

@@ -31,7 +31,8 @@ follows-append : (before : Cell) (xs ys : List Cell) → FollowsFrom before xs �
 follows-append before [] ys f g = g
 follows-append before (x ∷ xs) ys f g = (f.0, follows-append x xs ys f.1 g)
 
-held-follows : (c : Cell) → IsTrue (cell_follows c (held c)) × (held (held c) ≡ held c)
+-- what is held of a cell follows it, and is held of itself
+pub held-follows : (c : Cell) → IsTrue (cell_follows c (held c)) × (held (held c) ≡ held c)
 held-follows Rest = (search rules, refl)
 held-follows (Hold p) = (same_pitch-from_equal p p refl, refl)
 held-follows (Start p) = (same_pitch-from_equal p p refl, refl)
@@ -127,7 +128,8 @@ line-follows bars v text out e =
     subst (λ x. FollowsFrom Rest x.0) (value_is (cells.0, line.0.1) out _ refl cells.2)
     (words-follow bars 0 [] voice.0.1 voice.0.1.words cells.0 tt cells.1)
 
-start-follows : (before : Cell) (cantus : List Pitch) → FollowsFrom before (flat_map (λ p. item_cells (Start p) 8) cantus)
+-- the cells of the cantus follow one another
+pub start-follows : (before : Cell) (cantus : List Pitch) → FollowsFrom before (flat_map (λ p. item_cells (Start p) 8) cantus)
 start-follows before [] = tt
 start-follows before (p ∷ ps) =
     follows-append before (item_cells (Start p) 8) (flat_map (λ q. item_cells (Start q) 8) ps)

@@ -3,23 +3,13 @@ use Rattle.std.proofs.Common.{◌≡◌, ℕ, zero, suc, ◌+◌, ◌*◌, ◌/�
 use Rattle.std.specs.Prelude.{◌-◌, ◌^◌, ◌==◌, ◌&&◌, not, nat_le, if◌then◌else◌}
 use Rattle.std.specs.Fmt.{decimal}
 use Rattle.std.specs.Option.{option_and_then}
+use Rattle.std.proofs.lemmas.Bool.{le-leb, and_from}
 use Rattle.std.proofs.lemmas.Fmt.{decimal_by_steps, decimal_digit, first_decimal}
 use Rattle.text_lines.specs.Numbers.{digits_after, if_within, is_digit, number_of, number_within}
 
 digit_is : (d : ℕ) → d < 10 → is_digit (48 + d) ≡ true
-digit_is d h = by (nat_le 48 (48 + d)) refl (nat_le (48 + d) 57) refl
-  where
-    by : (a : Bool) → nat_le 48 (48 + d) ≡ a → (b : Bool) → nat_le (48 + d) 57 ≡ b → (a && b) ≡ true
-    by true e true f = refl
-    by true e false f = absurd (grind (arith, f, h))
-    by false e b f = absurd (grind (arith, e))
-
-le_true : (a b : ℕ) → a ≤ b → nat_le a b ≡ true
-le_true a b h = by (nat_le a b) refl
-  where
-    by : (t : Bool) → nat_le a b ≡ t → t ≡ true
-    by true e = refl
-    by false e = absurd (grind (arith, e, h))
+digit_is d h =
+    and_from (nat_le 48 (48 + d)) (nat_le (48 + d) 57) (le-leb 48 (48 + d) (omega arith)) (le-leb (48 + d) 57 (omega (arith, h)))
 
 -- one digit more
 more-digits : (m : ℕ) (ds : List ℕ) (k d : ℕ) → digits_after m ds ≡ Some k → k ≤ 999999 → d < 10
@@ -27,7 +17,7 @@ more-digits : (m : ℕ) (ds : List ℕ) (k d : ℕ) → digits_after m ds ≡ So
 more-digits m [] k d e few h =
     let same : m ≡ k = grind (arith, e) in
     let step : digits_after m ((48 + d) ∷ []) ≡ Some (10 * m + d) =
-    rw (digit_is d h, le_true m 999999 (omega (arith, same, few))) (ap Some (omega arith)) in
+    rw (digit_is d h, le-leb m 999999 (omega (arith, same, few))) (ap Some (omega arith)) in
     step ∙ ap (λ n. Some (10 * n + d)) same
 more-digits m (b ∷ bs) k d e few h = by (is_digit b && nat_le m 999999) (λ f. more-digits (10 * m + (b - 48)) bs k d f few h) e
   where
@@ -62,7 +52,7 @@ number-own (suc n) h =
     first-not_zero (suc n) (decimal (suc n)) (digits-own (suc n) (omega arith) h) (first_decimal (suc n) (omega arith) (omega arith))
 
 pub if_within-own : (least most n : ℕ) → least ≤ n → n ≤ most → if_within least most n ≡ Some n
-if_within-own least most n low high = rw (le_true least n low, le_true n most high) refl
+if_within-own least most n low high = rw (le-leb least n low, le-leb n most high) refl
 
 -- and where it lies within bounds, so does what is read
 pub within-own : (least most n : ℕ) → n ≤ 9999999 → least ≤ n → n ≤ most → number_within least most (decimal n) ≡ Some n

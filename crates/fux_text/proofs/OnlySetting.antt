@@ -25,7 +25,7 @@ use Rattle.fux_text.proofs.OnlyWords.{line_texts, no_line-only}
 use Rattle.fux_text.proofs.OwnBars.{cells-length}
 use Rattle.fux_text.proofs.OwnSetting.{cells-of_column, free-cantus, free-other, free_of}
 use Rattle.fux_text.proofs.ScoreLoops.{column-cell, next-follows}
-use Rattle.fux_text.proofs.ValidSetting.{sung-valid, voices-keep}
+use Rattle.fux_text.proofs.ValidSetting.{get_or-end, sung-valid, voices-keep}
 
 -- ---- the voices
 
@@ -55,10 +55,6 @@ record HaveLines (ex : Exercise) (a n : ℕ) (text : TextLines) (x : List (List 
   pub lines : line_texts text ≡ words ++ line_texts x.1
   pub sung : AreSung ex.bars (λ v. get_or x.0 v []) (free_of ex a n) words
 
-get_or-seam : (xs : List (List Cell)) (y : List Cell) → get_or (xs ++ y ∷ []) (length xs) [] ≡ y
-get_or-seam [] y = refl
-get_or-seam (x ∷ xs) y = get_or-seam xs y
-
 voices-only : (ex : Exercise) (n a : ℕ) (before : List (List Cell)) (text : TextLines)
     (x : List (List Cell) × TextLines)
     → length before ≡ a → voices_in ex (range_with_len a n) before text ≡ Ok x → HaveLines ex a n text x
@@ -73,7 +69,7 @@ voices-only ex (suc n) a before text x long e =
     let rest = voices-only ex n (a + 1) more cells.0.1 x long_more cells.2 in
     let kept = voices-keep ex n (a + 1) more cells.0.1 x long_more cells.2 in
     let own : get_or x.0 a [] ≡ cells.0.0 = kept.kept a (omega arith) ∙ ap (λ k. get_or more k []) (sym long)
-    ∙ get_or-seam before cells.0.0 in
+    ∙ get_or-end before cells.0.0 in
     by (a == ex.cantus_voice) refl cells.0 cells.1 own rest
   where
     Sung : List ℕ → List (List (List ℕ)) → Type 0
@@ -109,7 +105,7 @@ sung-length : (count v : ℕ) (words : List (List ℕ)) (cells : List Cell) → 
 sung-length count v words cells s = ap length s.sounds ∙ bars-length s.items s.whole ∙ ap (λ n. 8 * n) s.count
 
 -- a voice of the score has the cells of its line
-line-of_score : (bars v : ℕ) (lines : List (List Cell)) → length (get_or lines v []) ≡ 8 * bars
+pub line-of_score : (bars v : ℕ) (lines : List (List Cell)) → length (get_or lines v []) ≡ 8 * bars
     → line v (score_of bars lines).columns ≡ get_or lines v []
 unfolding score_of
 line-of_score bars v lines long =
@@ -146,7 +142,8 @@ columns-follow lines (suc n) f =
     subst HistoryFollows (sym (ap reverse more ∙ reverse-push columns (column_of lines n)))
     (next-follows lines n f, columns-follow lines n f)
 
-score-setting : (ex : Exercise) (lines : List (List Cell)) → length lines ≡ ex.voices
+-- lines with the cantus among them, in each of which the cells follow one another, are a setting
+pub score-setting : (ex : Exercise) (lines : List (List Cell)) → length lines ≡ ex.voices
     → AllByRecursion (FollowsFrom Rest) lines
     → IsGiven ex (score_of ex.bars lines) → IsSettingOf ex (score_of ex.bars lines)
 unfolding score_of

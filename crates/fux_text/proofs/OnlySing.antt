@@ -4,7 +4,7 @@ use Rattle.std.specs.Prelude.{◌==◌, ◌&&◌, nat_le, not, codes, option_map
 use Rattle.std.specs.Fmt.{decimal}
 use Rattle.std.specs.List.{AllByRecursion, after_first, before_first, flat_map, position_or_len}
 use Rattle.std.specs.Option.{ok_or}
-use Rattle.std.proofs.lemmas.Bool.{eqb-true}
+use Rattle.std.proofs.lemmas.Bool.{eqb-true, not-false}
 use Rattle.std.proofs.lemmas.List.{append-nil, length-replicate}
 use Rattle.std.proofs.lemmas.List.Sums.{sum_by-cons}
 use Rattle.fux_pitch.specs.declared.pitch.Pitch.{Pitch}
@@ -183,12 +183,8 @@ record AreLeft (count bar : ℕ) (done : List Cell) (words : List (List ℕ)) (c
   pub starts : 8 * bar < length done → AllByRecursion (λ item. is_hold item.0 ≡ false) items
   pub whole : AllByRecursion IsBar more
 
-not_not : (b : Bool) → not b ≡ false → b ≡ true
-not_not true e = refl
-not_not false e = absurd (grind (arith, e))
-
 full-only : (bar : ℕ) (done : List Cell) → not (is_full bar done) ≡ false → length done ≡ 8 * bar + 8
-full-only bar done e = eqb-true (length done) (8 * bar + 8) (not_not (is_full bar done) e)
+full-only bar done e = eqb-true (length done) (8 * bar + 8) (not-false (is_full bar done) e)
 
 end-only : (count bar : ℕ) (done : List Cell) (at : LineWords) (cells : List Cell) → sung_end count bar done at
     ≡ Ok cells
@@ -198,7 +194,7 @@ end-only count bar done at cells e =
     let full = bind_ok (refused_if (not (is_full bar done)) (fault_beyond kinds.Length at)) _ cells e in
     let whole = bind_ok (refused_if (not (bar + 1 == count)) (fault_beyond kinds.BarLine at)) _ cells full.2 in
     let long = full-only bar done (not_refused (not (is_full bar done)) (fault_beyond kinds.Length at) full.0 full.1) in
-    let same = eqb-true (bar + 1) count (not_not (bar + 1 == count)
+    let same = eqb-true (bar + 1) count (not-false (bar + 1 == count)
     (not_refused (not (bar + 1 == count)) (fault_beyond kinds.BarLine at) whole.0 whole.1)) in
     record {
       items = [];

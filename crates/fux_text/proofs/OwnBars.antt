@@ -25,7 +25,8 @@ use Rattle.fux_text.proofs.NumberWords.{within-own}
 use Rattle.fux_text.proofs.Layouts.{at_words, left, places_of, with_line}
 use Rattle.fux_text.proofs.OwnItems.{GoesOn, bar-own, items-of_bar, lengths}
 
-follows-parts : (before : Cell) (xs ys : List Cell) → FollowsFrom before (xs ++ ys)
+-- cells that follow one another, in two parts
+pub follows-parts : (before : Cell) (xs ys : List Cell) → FollowsFrom before (xs ++ ys)
     → FollowsFrom before xs × FollowsFrom (latest before xs) ys
 follows-parts before [] ys f = (tt, f)
 follows-parts before (x ∷ xs) ys f = let rest = follows-parts x xs ys f.1 in ((f.0, rest.0), rest.1)

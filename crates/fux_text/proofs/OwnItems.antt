@@ -123,14 +123,13 @@ sung_item-own bars bar done line column c n least most can =
 abbrev pub run : Cell → ℕ → List Cell
 run c m = c ∷ replicate m (held c)
 
-goes_on-same : (c d x : Cell) → goes_on c d ≡ true → goes_on d x ≡ goes_on c x
+-- what goes on with a cell that goes on with another one goes on with that one, too
+pub goes_on-same : (c d x : Cell) → goes_on c d ≡ true → goes_on d x ≡ goes_on c x
 goes_on-same Rest Rest x e = refl
 goes_on-same Rest (Hold p) x e = absurd (grind (arith, e))
 goes_on-same Rest (Start p) x e = absurd (grind (arith, e))
 goes_on-same (Hold q) Rest x e = absurd (grind (arith, e))
-goes_on-same (Hold q) (Hold p) Rest e = refl
-goes_on-same (Hold q) (Hold p) (Hold x) e = refl
-goes_on-same (Hold q) (Hold p) (Start x) e = refl
+goes_on-same (Hold q) (Hold p) x e = refl
 goes_on-same (Hold q) (Start p) x e = absurd (grind (arith, e))
 goes_on-same (Start q) Rest x e = absurd (grind (arith, e))
 goes_on-same (Start q) (Hold p) Rest e = refl
@@ -165,7 +164,8 @@ held-goes_on (Start q) Rest e h = absurd (grind (arith, e))
 held-goes_on (Start q) (Hold p) e h = ap Hold (sym (equal_from_test q p h))
 held-goes_on (Start q) (Start p) e h = absurd (grind (arith, e))
 
-follows-held : (c : Cell) (ds : List Cell) → FollowsFrom (held c) ds → FollowsFrom c ds
+-- what follows a held cell follows the cell
+pub follows-held : (c : Cell) (ds : List Cell) → FollowsFrom (held c) ds → FollowsFrom c ds
 follows-held c [] f = tt
 follows-held Rest (d ∷ ds) f = f
 follows-held (Hold p) (d ∷ ds) f = f

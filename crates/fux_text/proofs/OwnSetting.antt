@@ -5,6 +5,7 @@ use Rattle.std.specs.List.{flat_map, range_with_len}
 use Rattle.std.proofs.lemmas.Bool.{eqb-true, ne_eqb}
 use Rattle.std.proofs.lemmas.List.{append-nil, ext_get_or, get_or-map, length-append, length-map, reverse-append}
 use Rattle.std.proofs.lemmas.List.FromFn.{get_or-map-range_with_len, length-map-range_with_len}
+use Rattle.std.proofs.lemmas.Option.{same_Some}
 use Rattle.fux_pitch.specs.declared.pitch.Pitch.{Pitch}
 use Rattle.fux_grid.specs.declared.cell.Cell.{Cell}
 use Rattle.fux_grid.specs.declared.cell.Cell.TheVariants.{Rest, Start}
@@ -44,7 +45,7 @@ line-follows_from v (col ∷ cols) older h =
     ((older-follow (reverse cols) (col ∷ older) same).0 v, line-follows_from v cols (col ∷ older) same)
 
 -- the cells of a voice follow one another
-line-follows_own : (v : ℕ) (columns : List (List Cell)) → HistoryFollows (reverse columns)
+pub line-follows_own : (v : ℕ) (columns : List (List Cell)) → HistoryFollows (reverse columns)
     → FollowsFrom Rest (line v columns)
 line-follows_own v columns h = line-follows_from v columns []
     (subst HistoryFollows (sym (append-nil (reverse columns))) h)
@@ -62,9 +63,6 @@ line-cell : (v i : ℕ) (columns : List (List Cell)) → i < length columns → 
     ≡ cell_in (get_or columns i []) v
 line-cell v i columns lt = get_or-map (λ col. cell_in col v) columns i [] Rest lt
 
-some_same : (c d : Cell) → Some c ≡ Some d → c ≡ d
-some_same c d e = grind (arith, e)
-
 -- the cells of the cantus voice are those of the cantus
 cantus_line-cells : (ex : Exercise) (columns : List (List Cell)) → length columns ≡ 8 * length ex.cantus
     → HasCantus ex columns
@@ -74,7 +72,7 @@ cantus_line-cells ex columns long has =
     (cantus_cells-length ex.cantus ∙ sym long ∙ sym (length-map columns (λ col. cell_in col ex.cantus_voice)))
     (λ i lt.
     let there : i < length columns = omega (arith, lt, cantus_cells-length ex.cantus, long) in
-    some_same _ _ (sym (cantus_cells-at ex.cantus i (omega (arith, there, long))) ∙ has i there)
+    same_Some _ _ (sym (cantus_cells-at ex.cantus i (omega (arith, there, long))) ∙ has i there)
     ∙ sym (line-cell ex.cantus_voice i columns there))
 
 -- ---- the voices, one after the other

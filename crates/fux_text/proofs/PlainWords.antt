@@ -4,7 +4,7 @@ use Rattle.std.specs.Prelude.{◌==◌, ◌&&◌, not, All, nat_lt, slice_index}
 use Rattle.std.specs.List.{join_with_byte, list_all, slice_split}
 use Rattle.std.specs.Str.{IsAscii, IsUtf8}
 use Rattle.std.specs.Str.Lines.{lines, lines_of_parts, strip_carriage_return}
-use Rattle.std.proofs.lemmas.Bool.{and_parts, and_from}
+use Rattle.std.proofs.lemmas.Bool.{and_parts, and_from, not-true}
 use Rattle.std.proofs.lemmas.List.Folds.{list_all-append}
 use Rattle.std.proofs.lemmas.List.Splits.{length-slice_split, slice_split_at, slice_split_none}
 use Rattle.std.proofs.lemmas.List.Sums.{AllPass-from_list_all}
@@ -100,11 +100,7 @@ words_from-own line w ws e =
 
 -- a line is no comment and has words, so it isn't skipped
 inked_kept : (b : ℕ) (bs : List ℕ) → not (b == 59) ≡ true → is_ink b ≡ true → is_skipped (b ∷ bs) ≡ false
-inked_kept b bs n i = rw (not_true (b == 59) n, ink_no_blank b i) refl
-  where
-    not_true : (t : Bool) → not t ≡ true → t ≡ false
-    not_true true e = grind (arith, e)
-    not_true false e = refl
+inked_kept b bs n i = rw (not-true (b == 59) n, ink_no_blank b i) refl
 
 line_kept : (w : List ℕ) (ws : List (List ℕ)) → not (is_comment w) ≡ true → is_word w ≡ true
     → is_skipped (join_with_byte 32 (w ∷ ws)) ≡ false

@@ -1,6 +1,5 @@
 -- Reading the words of a `sing` line one after the other, as a loop does.
-use Rattle.std.proofs.Common.{◌≡◌, ℕ, suc, ◌+◌, ◌-◌, ◌<◌, ◌≤◌, List, [], ◌∷◌, length, get_or, take, drop, Option, Some, None, Result, Ok, Err, refl, sym, ap, subst, ◌∙◌, arith}
-use Rattle.std.specs.Prelude.{option_map}
+use Rattle.std.proofs.Common.{◌≡◌, ℕ, suc, ◌+◌, ◌-◌, ◌<◌, ◌≤◌, List, [], ◌∷◌, length, get_or, drop, Option, Some, None, Result, Err, refl, sym, ap, ◌∙◌, arith}
 use Rattle.std.specs.List.{position, position_or_len}
 use Rattle.std.proofs.lemmas.List.{drop_all}
 use Rattle.fux_grid.specs.declared.cell.Cell.{Cell}
@@ -9,7 +8,7 @@ use Rattle.text_lines.specs.declared.fault.TextFault.TheVariants as faults
 use Rattle.text_lines.specs.Faults.{Fault, Fails}
 use Rattle.text_lines.specs.Numbers.{number_of}
 use Rattle.text_lines.specs.Words.{LineWords, PlacedWord, first_of}
-use Rattle.text_lines.proofs.Parts.{at_first, beyond}
+use Rattle.text_lines.proofs.Parts.{beyond}
 use Rattle.fux_text.specs.Sing.{is_colon, item_parts, latest, sung_end, sung_word, sung_words}
 
 -- a word without a colon is no item
@@ -20,29 +19,9 @@ colon-none text h =
     let none : drop (position_or_len is_colon text + 1) text ≡ [] = drop_all (position_or_len is_colon text + 1) text (omega arith) in
     rw none refl
 
--- the parts of an item
-pub colon-some : (text : List ℕ) (i : ℕ) → position is_colon text ≡ Some i
-    → item_parts text ≡ option_map (λ n. (take i text, n)) (number_of (drop (i + 1) text))
-unfolding item_parts
-colon-some text i h = ap (λ k. option_map (λ n. (take k text, n)) (number_of (drop (k + 1) text))) (at_first is_colon text i h).0
-
 parts_of : (w v : PlacedWord) (rest left : LineWords) (o : Option (PlacedWord × LineWords)) → Some (w, rest) ≡ o → o ≡ Some (v, left)
     → (w ≡ v) × (rest ≡ left)
 parts_of w v rest left o d e = (grind (arith, d, e), grind (arith, d, e))
-
--- the words that are left behind the first one
-pub sung-more : (bars bar : ℕ) (cells : List Cell) (line at : LineWords) (ws : List PlacedWord) (w : PlacedWord) (rest : LineWords)
-    (next : ℕ) (more : List Cell) (total : Result (List Cell) Fault) → Some (w, rest) ≡ first_of at ws
-    → sung_word bars bar cells w ≡ Ok (next, more) → sung_words bars bar cells line ws ≡ total
-    → (sung_words bars next more line rest.words ≡ total) × (length rest.words < length ws)
-sung-more bars bar cells line at [] w rest next more total first h so_far = absurd (grind (arith, first))
-sung-more bars bar cells line at (v ∷ vs) w rest next more total first h so_far =
-    let left : LineWords = record at { past = v.column + length v.text; words = vs } in
-    let same = parts_of w v rest left (first_of at (v ∷ vs)) first refl in
-    let read : sung_word bars bar cells v ≡ Ok (next, more) = ap (sung_word bars bar cells) (sym same.0) ∙ h in
-    let one : sung_words bars bar cells line (v ∷ vs) ≡ sung_words bars next more line vs = rw read refl in
-    let P : LineWords → Type 0 = λ r. (sung_words bars next more line r.words ≡ total) × (length r.words < length (v ∷ vs)) in
-    subst P (sym same.1) (sym one ∙ so_far, omega arith)
 
 -- a word at fault
 pub sung-fail : (e : TextFault) (bars bar : ℕ) (cells : List Cell) (line at : LineWords) (ws : List PlacedWord) (w : PlacedWord)

@@ -3,6 +3,7 @@ use Rattle.std.proofs.Common.{◌≡◌, ℕ, ◌≤◌, ◌≤ℤ◌, Bool, tru
 use Rattle.std.specs.Prelude.{◌==◌, ◌||◌, not, All, filter, IfSome, IsSome, int_lt, codes, if◌then◌else◌, ⊤}
 use Rattle.std.specs.List.{range_with_len}
 use Rattle.std.specs.Option.{ok_or}
+use Rattle.std.proofs.lemmas.Bool.{not-false}
 use Rattle.std.proofs.lemmas.Int.{ints}
 use Rattle.std.proofs.lemmas.List.{append-nil}
 use Rattle.std.proofs.lemmas.List.Elements.{All-append, filter-append}
@@ -214,10 +215,6 @@ ranges-valid ex text x some e =
     subst (λ y. AreValidRanges ex y.0) (value_is found.0 x _ refl whole.2)
     (record { fit = valid.fit; each = λ v free. whole-from v found.0.0 _ refl (has found.0.0 v free test) (valid.begun v) })
   where
-    not_not : (b : Bool) → not b ≡ false → b ≡ true
-    not_not true e = refl
-    not_not false e = grind (arith, e)
-
     or-right : (a b : Bool) → (a || b) ≡ true → (a ≡ true → ⊥) → b ≡ true
     or-right true b e n = absurd (n refl)
     or-right false b e n = e
@@ -225,7 +222,7 @@ ranges-valid ex text x some e =
     has : (lines : List RangeLine) (v : ℕ) → IsFree ex v → not (all_ranged ex lines) ≡ false → has_line lines v ≡ true
     has lines v free test =
         let all = AllPass-from_list_all (λ w. (w == ex.cantus_voice) || has_line lines w) (range_with_len 0 ex.voices)
-        (not_not _ test) v 0 (omega (arith, length-range_with_len 0 ex.voices, free.there)) in
+        (not-false _ test) v 0 (omega (arith, length-range_with_len 0 ex.voices, free.there)) in
         let at : get_or (range_with_len 0 ex.voices) v 0 ≡ v = get_or-range_with_len 0 ex.voices v 0 free.there ∙ omega arith in
         or-right (v == ex.cantus_voice) (has_line lines v)
         (subst (λ w. ((w == ex.cantus_voice) || has_line lines w) ≡ true) at all)

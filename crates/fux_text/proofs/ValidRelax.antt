@@ -1,8 +1,9 @@
 -- Relax lines that are read fit the exercise, and there are at most 64 (`relaxes-valid`).
 use Rattle.std.proofs.Common.{◌≡◌, ℕ, zero, suc, ◌+◌, ◌-◌, ◌<◌, ◌≤◌, Bool, true, false, List, [], ◌∷◌, ◌++◌, get_or, length, length-append, Option, Some, None, Ok, refl, subst, arith}
-use Rattle.std.specs.Prelude.{◌^◌, ◌==◌, ◌&&◌, All, IfSome, codes, find, nat_lt, option_map, if◌then◌else◌}
+use Rattle.std.specs.Prelude.{◌^◌, ◌==◌, All, IfSome, codes, find, nat_lt, option_map, if◌then◌else◌}
 use Rattle.std.specs.List.{range_with_len}
 use Rattle.std.specs.Option.{ok_or}
+use Rattle.std.proofs.lemmas.Bool.{and_parts, ltb-true}
 use Rattle.std.proofs.lemmas.List.Elements.{All-append}
 use Rattle.fux_grid.specs.declared.exercise.Exercise.{Exercise}
 use Rattle.fux_grid.specs.declared.exercise.Relax.{Relax}
@@ -123,12 +124,12 @@ relax-push : (ex : Exercise) (before : List Relax) (text : TextLines) (line : Re
     → goes_on before text ≡ true → AreRelaxes ex (before ++ line ∷ [])
 relax-push ex before text line one so_far go = record {
   fit = All-append (IsRelax ex) before (line ∷ []) so_far.fit (one-relax ex line one);
-  few = omega (arith, length-append before (line ∷ []), by (nat_lt (length before) 64) refl go);
+  few = omega (
+    arith,
+    length-append before (line ∷ []),
+    ltb-true (length before) 64 (and_parts (nat_lt (length before) 64) (begins (codes "relax") text) go).0,
+  );
 }
-  where
-    by : (b : Bool) → nat_lt (length before) 64 ≡ b → (b && begins (codes "relax") text) ≡ true → length before < 64
-    by true d e = grind (arith, d)
-    by false d e = absurd (grind (arith, e))
 
 relax_on-valid : (ex : Exercise) (before : List Relax) (after : ℕ) (lines : List LineWords) (x : List Relax × TextLines)
     → AreRelaxes ex before → relax_on ex before after lines ≡ Ok x → AreRelaxes ex x.0

@@ -54,7 +54,7 @@ get_or-left [] y k lt = absurd (omega arith)
 get_or-left (x ∷ xs) y zero lt = refl
 get_or-left (x ∷ xs) y (suc k) lt = get_or-left xs y k (omega arith)
 
-get_or-end : (xs : List (List Cell)) (y : List Cell) → get_or (xs ++ y ∷ []) (length xs) [] ≡ y
+pub get_or-end : (xs : List (List Cell)) (y : List Cell) → get_or (xs ++ y ∷ []) (length xs) [] ≡ y
 get_or-end [] y = refl
 get_or-end (x ∷ xs) y = get_or-end xs y
 
@@ -94,17 +94,18 @@ voices-keep ex (suc n) a before text x long e =
     eq_or_more : (a b : ℕ) → a ≤ b → (a ≡ b) ⊎ (a < b)
     eq_or_more a b h = grind (arith, h)
 
-score-given : (ex : Exercise) (lines : List (List Cell)) → ex.cantus_voice < ex.voices → length ex.cantus ≡ ex.bars
-    → length lines ≡ ex.voices → KeepsLines ex 0 ex.voices [] lines → IsGiven ex (score_of ex.bars lines)
+-- lines of which one has the cells of the cantus are a score with the cantus
+pub score-given : (ex : Exercise) (lines : List (List Cell)) → length ex.cantus ≡ ex.bars → length lines ≡ ex.voices
+    → get_or lines ex.cantus_voice [] ≡ cantus_cells ex.cantus → IsGiven ex (score_of ex.bars lines)
 unfolding score_of
-score-given ex lines there whole long keeps = record {
+score-given ex lines whole long cantus = record {
   complete = record { voices = long; whole = length-map-range_with_len (column_of lines) 0 (8 * ex.bars) };
   cantus = λ i lt.
       let low : i < 8 * ex.bars = omega (arith, lt, length-map-range_with_len (column_of lines) 0 (8 * ex.bars)) in
       let col : get_or (map (column_of lines) (range_with_len 0 (8 * ex.bars))) i [] ≡ column_of lines i =
       get_or-map-range_with_len (column_of lines) 0 (8 * ex.bars) i i [] low (omega arith) in
       let cell : cell_in (column_of lines i) ex.cantus_voice ≡ cell_in (cantus_cells ex.cantus) i =
-      column-cell lines i ex.cantus_voice ∙ ap (λ cells. cell_in cells i) (keeps.cantus (omega arith) (omega (arith, there))) in
+      column-cell lines i ex.cantus_voice ∙ ap (λ cells. cell_in cells i) cantus in
       cantus_cells-at ex.cantus i (omega (arith, low, whole))
       ∙ ap Some (sym cell)
       ∙ ap (λ c. Some (cell_in c ex.cantus_voice)) (sym col);
@@ -118,8 +119,9 @@ sung-valid ex text score there whole e =
     let end = bind_ok (no_line lines.0.1) _ score lines.2 in
     let long : length lines.0.0 ≡ ex.voices =
     omega (arith, voices-length ex (range_with_len 0 ex.voices) [] text lines.0 lines.1, length-range_with_len 0 ex.voices) in
+    let keeps = voices-keep ex ex.voices 0 [] text lines.0 refl lines.1 in
     subst (IsGiven ex) (value_is (score_of ex.bars lines.0.0) score _ refl end.2)
-    (score-given ex lines.0.0 there whole long (voices-keep ex ex.voices 0 [] text lines.0 refl lines.1))
+    (score-given ex lines.0.0 whole long (keeps.cantus (omega arith) (omega (arith, there))))
 
 pub setting-valid : (ex : Exercise) (text : TextLines) (o : Option Grid) → ex.cantus_voice < ex.voices → length ex.cantus ≡ ex.bars
     → setting_in ex text ≡ Ok o → IfSome o (IsGiven ex)

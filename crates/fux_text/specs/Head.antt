@@ -86,20 +86,16 @@ cantus_line voices species_voice bars text = do
   end ← done kinds.Cantus pitches.1
   Ok (v.0, pitches.0, line.1)
 
--- the lines before the ranges
-unfoldable pub head_in : TextLines → Result (Exercise × TextLines) Fault
-head_in text = do
-  version ← version_line text
-  mode ← mode_line version
-  voices ← number_line (codes "voices") kinds.Word 2 most_voices mode.1
-  bars ← number_line (codes "bars") kinds.Bars 3 24 voices.1
-  species ← species_line voices.0 bars.1
-  cantus ← cantus_line voices.0 species.1 bars.0 species.2
+-- the lines behind the number of bars, in an exercise of this mode, with so many voices and bars
+abbrev pub parts_in : Mode → ℕ → ℕ → TextLines → Result (Exercise × TextLines) Fault
+parts_in mode voices bars text = do
+  species ← species_line voices text
+  cantus ← cantus_line voices species.1 bars species.2
   Ok (
     record {
-      mode = mode.0;
-      voices = voices.0;
-      bars = bars.0;
+      mode = mode;
+      voices = voices;
+      bars = bars;
       species = species.0;
       species_voice = species.1;
       cantus_voice = cantus.0;
@@ -110,3 +106,12 @@ head_in text = do
     },
     cantus.2,
   )
+
+-- the lines before the ranges
+unfoldable pub head_in : TextLines → Result (Exercise × TextLines) Fault
+head_in text = do
+  version ← version_line text
+  mode ← mode_line version
+  voices ← number_line (codes "voices") kinds.Word 2 most_voices mode.1
+  bars ← number_line (codes "bars") kinds.Bars 3 24 voices.1
+  parts_in mode.0 voices.0 bars.0 bars.1

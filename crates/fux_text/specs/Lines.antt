@@ -1,5 +1,5 @@
 -- The lines of the canonical note text.
-use Rattle.std.specs.Prelude.{ℕ, ◌/◌, ◌%◌, ◌^◌, ◌==◌, List, [], ◌∷◌, ◌++◌, Bool, not, Option, Some, None, codes, filter, map, length}
+use Rattle.std.specs.Prelude.{ℕ, ◌-◌, ◌/◌, ◌%◌, ◌^◌, ◌==◌, List, [], ◌∷◌, ◌++◌, Bool, not, Option, Some, None, codes, filter, map, length}
 use Rattle.std.specs.List.{flat_map, join_with_byte, range_with_len}
 use Rattle.std.specs.Fmt.{decimal}
 use Rattle.fux_pitch.specs.declared.mode.Mode.{Mode}
@@ -14,7 +14,7 @@ use Rattle.fux_grid.specs.Columns.{line}
 use Rattle.fux_grid.specs.Grid.{Grid}
 use Rattle.fux_grid.specs.Letters.{bar_columns}
 use Rattle.fux_text.specs.Items.{items_of_cells, item_word}
-use Rattle.fux_text.specs.Words.{text_line, text_of}
+use Rattle.fux_text.specs.Words.{spaced, text_line, text_of}
 
 -- the name of a mode
 abbrev pub mode_name : Mode → List ℕ
@@ -82,13 +82,26 @@ between_bar_lines (bar ∷ bars) = bar ++ flat_map (λ other. codes "|" ∷ othe
 abbrev pub sing_words : ℕ → List (List Cell) → List (List ℕ)
 sing_words v columns = codes "sing" ∷ decimal v ∷ between_bar_lines (map (bar_words v) (bars_of columns))
 
+-- those of these voices that are free
+abbrev pub free_among : Exercise → List ℕ → List ℕ
+free_among ex voices = filter (λ v. not (v == ex.cantus_voice)) voices
+
 -- the free voices, from the lowest
 abbrev pub free_voices : Exercise → List ℕ
-free_voices ex = filter (λ v. not (v == ex.cantus_voice)) (range_with_len 0 ex.voices)
+free_voices ex = free_among ex (range_with_len 0 ex.voices)
+
+-- a bar line and the words of a voice for each bar but the first, with a space before each
+abbrev pub later_bars_text : ℕ → List (List Cell) → List ℕ
+later_bars_text v columns =
+    flat_map (λ bar. spaced (codes "|" ∷ bar_words v (bar_columns columns bar))) (range_with_len 2 (length columns / 8 - 1))
 
 -- the `sing` line of a voice
 unfoldable pub sing_text : ℕ → List (List Cell) → List ℕ
 sing_text v columns = text_line (sing_words v columns)
+
+-- the `sing` lines of these voices
+abbrev pub sing_texts : List (List Cell) → List ℕ → List ℕ
+sing_texts columns voices = flat_map (λ v. sing_text v columns) voices
 
 -- the text of an exercise, without a setting
 unfoldable pub exercise_text : Exercise → List ℕ
@@ -96,7 +109,7 @@ exercise_text ex = text_of (exercise_lines ex)
 
 -- the text of an exercise with a setting
 unfoldable pub setting_text : Exercise → List (List Cell) → List ℕ
-setting_text ex columns = exercise_text ex ++ flat_map (λ v. sing_text v columns) (free_voices ex)
+setting_text ex columns = exercise_text ex ++ sing_texts columns (free_voices ex)
 
 -- the text of an exercise, with a setting or without
 abbrev pub note_text : Exercise → Option Grid → List ℕ

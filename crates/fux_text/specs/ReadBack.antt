@@ -1,15 +1,21 @@
 -- What is written is read back: the laws that tie the two directions of the note text to one another.
-use Rattle.std.specs.Prelude.{◌⊎◌, ◌≡◌, ◌↔◌, ℕ, Ok, Err, ◌≤◌, List, Option, IfSome, length}
-use Rattle.std.specs.List.{flat_map}
+use Rattle.std.specs.Prelude.{◌⊎◌, ◌≡◌, ◌↔◌, ℕ, Ok, Err, ◌<◌, ◌≤◌, ◌^◌, List, Option, Some, IfSome, length}
 use Rattle.fux_grid.specs.declared.cell.Cell.{Cell}
 use Rattle.fux_grid.specs.declared.exercise.Exercise.{Exercise}
+use Rattle.fux_grid.specs.declared.exercise.VoiceSet.{VoiceSet}
 use Rattle.fux_grid.specs.Exercises.{IsValid}
 use Rattle.fux_grid.specs.Grid.{Grid}
 use Rattle.text_lines.specs.declared.fault.TextKind.{TextKind}
 use Rattle.fux_text.specs.Grammar.{IsSettingOf}
-use Rattle.fux_text.specs.Lines.{free_voices, note_text, sing_text}
+use Rattle.fux_text.specs.Lines.{free_voices, note_text, sing_texts, voices_word}
 use Rattle.fux_text.specs.Reading.{exercise_in, setting_alone}
+use Rattle.fux_text.specs.Relaxing.{voices_named}
 use Rattle.fux_text.specs.Texts.{AreSingLinesOf, HasFault, HasSingFault, IsTextOf}
+
+-- the word of a set of voices, or of all of them, is read as that set
+abbrev pub SetsReadBack : Type 0
+SetsReadBack = (voices : ℕ) (set : Option VoiceSet) → 1 ≤ voices → voices ≤ 4
+    → IfSome set (λ s. (1 ≤ s.bits) × (s.bits < 2 ^ voices)) → voices_named voices (voices_word set) ≡ Some set
 
 -- what is written of an exercise, with a setting or without, is a note text of that exercise with that setting, where
 -- it isn't too long to be read
@@ -19,7 +25,7 @@ NoteTextReadsBack = (ex : Exercise) (score : Option Grid) → IsValid ex → IfS
 
 -- the `sing` lines of a setting, one for each free voice
 abbrev pub sing_lines : Exercise → List (List Cell) → List ℕ
-sing_lines ex columns = flat_map (λ v. sing_text v columns) (free_voices ex)
+sing_lines ex columns = sing_texts columns (free_voices ex)
 
 -- and they are read back as that setting
 abbrev pub SingLinesReadBack : Type 0

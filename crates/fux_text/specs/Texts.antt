@@ -1,5 +1,5 @@
 -- Which texts are note texts, and where a text is at fault.
-use Rattle.std.specs.Prelude.{◌≡◌, ◌⊎◌, ℕ, List}
+use Rattle.std.specs.Prelude.{◌≡◌, ◌⊎◌, ℕ, List, Result, Err, MatchResult}
 use Rattle.fux_grid.specs.declared.exercise.Exercise.{Exercise}
 use Rattle.fux_grid.specs.Grid.{Grid}
 use Rattle.text_lines.specs.declared.fault.TextKind.{TextKind}
@@ -28,3 +28,16 @@ HasSingFault ex bytes kind line column = IsFirstSingFault ex bytes (record { kin
 -- the answer is this one, or tells of want of memory
 abbrev pub IsEither : TextFault → TextFault → Type 0
 IsEither answer fault = (answer ≡ fault) ⊎ (answer ≡ faults.Memory)
+
+-- what is found is this value, unless memory runs out
+abbrev pub Finds : {A : Type 0} → Result A TextFault → A → Type 0
+Finds result value = MatchResult result (λ found. found ≡ value) (λ fault. fault ≡ faults.Memory)
+
+-- each fault that is told, but for want of memory, is one of these
+abbrev pub TellsOnly : {A : Type 0} → Result A TextFault → (TextKind → ℕ → ℕ → Type 0) → Type 0
+TellsOnly result Has = (kind : TextKind) (line column : ℕ) → result ≡ Err (faults.At kind line column) → Has kind line column
+
+-- and each of these is told, unless memory runs out
+abbrev pub TellsEach : {A : Type 0} → Result A TextFault → (TextKind → ℕ → ℕ → Type 0) → Type 0
+TellsEach result Has = (kind : TextKind) (line column : ℕ) → Has kind line column
+    → MatchResult result (λ _. ⊥) (λ fault. IsEither fault (faults.At kind line column))

@@ -4,7 +4,7 @@ ghost use Rattle.std.specs.Prelude.{◌≡◌, ◌≤◌, [], IfOk};
 ghost use Rattle.text_lines.specs.Faults.{Gives};
 ghost use Rattle.text_lines.specs.Lines.{lines_of};
 ghost use Rattle.text_lines.specs.Words.{word_of, words_of};
-ghost use Rattle.fux_text.specs.Head.{cantus_line, head_in, mode_line, number_line, other_voice, other_voice_in, pitch_in, pitches_in, species_line, version_line};
+ghost use Rattle.fux_text.specs.Head.{cantus_line, head_in, mode_line, number_line, other_voice, other_voice_in, parts_in, pitch_in, pitches_in, species_line, version_line};
 ghost use Rattle.fux_text.specs.Limits.{most_species, most_voices};
 
 use crate::limits::{MOST_SPECIES, MOST_VOICES};
@@ -146,19 +146,24 @@ fn cantus_line(
     Ok((voice, List::new(pitches), text))
 }
 
-/// Reads the lines before the ranges.
-#[tactic(auto, unfolding(crate::specs::Head::head_in))]
-pub fn head_in(alloc: Global, text: Lines<'_>) -> Result<(Exercise, Lines<'_>), TextFault>
-    ensures value { Gives (λ x. (x.0, lines_of x.1)) result (head_in (lines_of text.entry)) }
+/// Reads the lines behind the number of bars.
+fn parts_in(
+    alloc: Global,
+    text: Lines<'_>,
+    mode: Mode,
+    voices: u8,
+    bars: u8,
+) -> Result<(Exercise, Lines<'_>), TextFault>
+    requires fewest_voices { 2 ≤ voices }
+    requires most_voices { voices ≤ 4 }
+    requires fewest_bars { 3 ≤ bars }
+    requires most_bars { bars ≤ 24 }
+    ensures value { Gives (λ x. (x.0, lines_of x.1)) result (parts_in mode voices bars (lines_of text.entry)) }
     ensures fewest_voices { IfOk result (λ x. 2 ≤ x.0.voices) }
     ensures most_voices { IfOk result (λ x. x.0.voices ≤ 4) }
     ensures fewest_bars { IfOk result (λ x. 3 ≤ x.0.bars) }
     ensures most_bars { IfOk result (λ x. x.0.bars ≤ 24) }
 {
-    let text = version_line(text)?;
-    let (mode, text) = mode_line(text)?;
-    let (voices, text) = number_line(text, b"voices", TextKind::Word, 2, MOST_VOICES)?;
-    let (bars, text) = number_line(text, b"bars", TextKind::Bars, 3, 24)?;
     let (species, species_voice, text) = species_line(text, voices)?;
     let (cantus_voice, cantus, text) = cantus_line(alloc, text, voices, species_voice, bars)?;
     let ex = Exercise {
@@ -174,4 +179,20 @@ pub fn head_in(alloc: Global, text: Lines<'_>) -> Result<(Exercise, Lines<'_>), 
         setting: None,
     };
     Ok((ex, text))
+}
+
+/// Reads the lines before the ranges.
+#[tactic(auto, unfolding(crate::specs::Head::head_in))]
+pub fn head_in(alloc: Global, text: Lines<'_>) -> Result<(Exercise, Lines<'_>), TextFault>
+    ensures value { Gives (λ x. (x.0, lines_of x.1)) result (head_in (lines_of text.entry)) }
+    ensures fewest_voices { IfOk result (λ x. 2 ≤ x.0.voices) }
+    ensures most_voices { IfOk result (λ x. x.0.voices ≤ 4) }
+    ensures fewest_bars { IfOk result (λ x. 3 ≤ x.0.bars) }
+    ensures most_bars { IfOk result (λ x. x.0.bars ≤ 24) }
+{
+    let text = version_line(text)?;
+    let (mode, text) = mode_line(text)?;
+    let (voices, text) = number_line(text, b"voices", TextKind::Word, 2, MOST_VOICES)?;
+    let (bars, text) = number_line(text, b"bars", TextKind::Bars, 3, 24)?;
+    parts_in(alloc, text, mode, voices, bars)
 }

@@ -1,33 +1,31 @@
 //! The modes and the pitches that words name.
 
-ghost use Rattle.std.specs.Prelude.{◌≡◌, IfSome};
-ghost use Rattle.fux_pitch.specs.declared.mode.Mode.{Mode};
-ghost use Rattle.fux_text.specs.Lines.{mode_name};
+ghost use Rattle.std.specs.Prelude.{◌≡◌};
 ghost use Rattle.fux_text.specs.Names.{mode_named, pitch_named};
 
 use fux_pitch::{Mode, Pitch};
+use text_lines::is_same;
 
 /// The mode of a name.
-fn mode_of(word: &[u8]) -> Option<Mode>
-    ensures named { IfSome result (λ mode. mode_name mode ≡ word.now) }
-    ensures every { (mode : Mode) → mode_name mode ≡ word.now → result ≡ Some mode }
-{
-    match word {
-        b"dorian" => Some(Mode::Dorian),
-        b"phrygian" => Some(Mode::Phrygian),
-        b"lydian" => Some(Mode::Lydian),
-        b"mixolydian" => Some(Mode::Mixolydian),
-        b"aeolian" => Some(Mode::Aeolian),
-        b"ionian" => Some(Mode::Ionian),
-        _ => None,
-    }
-}
-
-/// The mode of a name.
+#[tactic(auto, unfolding(crate::specs::Names::mode_named))]
 pub fn parse_mode(word: &[u8]) -> Option<Mode>
     ensures { result ≡ mode_named word.now }
 {
-    mode_of(word)
+    if is_same(b"dorian", word) {
+        Some(Mode::Dorian)
+    } else if is_same(b"phrygian", word) {
+        Some(Mode::Phrygian)
+    } else if is_same(b"lydian", word) {
+        Some(Mode::Lydian)
+    } else if is_same(b"mixolydian", word) {
+        Some(Mode::Mixolydian)
+    } else if is_same(b"aeolian", word) {
+        Some(Mode::Aeolian)
+    } else if is_same(b"ionian", word) {
+        Some(Mode::Ionian)
+    } else {
+        None
+    }
 }
 
 /// The pitch of a name.

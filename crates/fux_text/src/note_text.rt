@@ -1,10 +1,9 @@
 //! Writing the note text.
 
-ghost use Rattle.std.specs.Prelude.{◌≡◌, ◌==◌, ◌<◌, ◌%◌, ◌++◌, [], ◌∷◌, not, filter, IfOk, OnOk, string_bytes, length};
+ghost use Rattle.std.specs.Prelude.{◌≡◌, ◌<◌, ◌%◌, ◌++◌, [], ◌∷◌, IfOk, OnOk, string_bytes, length};
 ghost use Rattle.std.specs.Option.{ForSome, option_copied};
-ghost use Rattle.std.specs.List.{flat_map};
 ghost use Rattle.fux_grid.specs.Exercises.{IsComplete, IsValid};
-ghost use Rattle.fux_text.specs.Lines.{free_voices, note_text, sing_text};
+ghost use Rattle.fux_text.specs.Lines.{free_among, free_voices, note_text, sing_text, sing_texts};
 
 use crate::exercise_lines::put_exercise;
 use crate::sing_lines::put_sing;
@@ -17,7 +16,7 @@ fn put_free(out: &mut String, ex: &Exercise, score: &Score, v: u8) -> Result<(),
     requires whole { length score.now.columns % 8 ≡ 0 }
     requires some { 0 < length score.now.columns }
     ensures { OnOk result (string_bytes out.new ≡ string_bytes out.old
-        ++ flat_map (λ w. sing_text w score.now.columns) (filter (λ w. not (w == ex.now.cantus_voice)) (v ∷ []))) }
+        ++ sing_texts score.now.columns (free_among ex.now (v ∷ []))) }
 {
     if v == ex.cantus_voice {
         return Ok(());
@@ -29,7 +28,8 @@ fn put_free(out: &mut String, ex: &Exercise, score: &Score, v: u8) -> Result<(),
 fn put_setting(out: &mut String, ex: &Exercise, score: &Score) -> Result<(), Memory>
     requires whole { length score.now.columns % 8 ≡ 0 }
     requires some { 0 < length score.now.columns }
-    ensures { OnOk result (string_bytes out.new ≡ string_bytes out.old ++ flat_map (λ v. sing_text v score.now.columns) (free_voices ex.now)) }
+    ensures { OnOk result (string_bytes out.new ≡ string_bytes out.old
+        ++ sing_texts score.now.columns (free_voices ex.now)) }
 {
     for v in 0..ex.voices {
         put_free(out, ex, score, v)?;

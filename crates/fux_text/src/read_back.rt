@@ -1,17 +1,15 @@
 //! What is written is read back.
 
-ghost use Rattle.std.specs.Prelude.{◌≡◌, ℕ, ◌<◌, ◌≤◌, ◌^◌, ◌++◌, IfSome, Some, codes};
+ghost use Rattle.std.specs.Prelude.{◌≡◌, ℕ, ◌≤◌, ◌++◌, Some, codes};
 ghost use Rattle.std.specs.Fmt.{decimal};
-ghost use Rattle.std.specs.Prelude.{Option};
-ghost use Rattle.fux_grid.specs.declared.exercise.VoiceSet.{VoiceSet};
 ghost use Rattle.fux_pitch.specs.declared.mode.Mode.{Mode};
 ghost use Rattle.fux_pitch.specs.declared.pitch.Pitch.{Pitch};
 ghost use Rattle.fux_pitch.specs.Names.{name_of};
 ghost use Rattle.text_lines.specs.Numbers.{number_of};
-ghost use Rattle.fux_text.specs.Lines.{mode_name, voices_word};
+ghost use Rattle.fux_text.specs.Lines.{mode_name};
 ghost use Rattle.fux_text.specs.Names.{mode_named, pitch_named};
-ghost use Rattle.fux_text.specs.ReadBack.{FaultsAreRead, NoteTextReadsBack, NoteTextsAreOfOne, NoteTextsAreRead, NoteTextsHaveNoFault, NoteTextsHaveOneFault, NoteTextsOrFaults, SingFaultsAreRead, SingLinesAreRead, SingLinesReadBack};
-ghost use Rattle.fux_text.specs.Relaxing.{rule_named, voices_named};
+ghost use Rattle.fux_text.specs.ReadBack.{FaultsAreRead, NoteTextReadsBack, NoteTextsAreOfOne, NoteTextsAreRead, NoteTextsHaveNoFault, NoteTextsHaveOneFault, NoteTextsOrFaults, SetsReadBack, SingFaultsAreRead, SingLinesAreRead, SingLinesReadBack};
+ghost use Rattle.fux_text.specs.Relaxing.{rule_named};
 
 /// A law, and nothing to run: a word that is written is read as what it was written of.
 pub fn words_read_back()
@@ -19,8 +17,7 @@ pub fn words_read_back()
     ensures pitches { (p : Pitch) → pitch_named (name_of p) ≡ Some p }
     ensures numbers { (n : ℕ) → n ≤ 9999999 → number_of (decimal n) ≡ Some n }
     ensures rules { (rule : ℕ) → 4 ≤ rule → rule ≤ 26 → rule_named (codes "S" ++ decimal rule) ≡ Some rule }
-    ensures sets { (voices : ℕ) (set : Option VoiceSet) → 1 ≤ voices → voices ≤ 4
-        → IfSome set (λ s. (1 ≤ s.bits) × (s.bits < 2 ^ voices)) → voices_named voices (voices_word set) ≡ Some set }
+    ensures sets { SetsReadBack }
 {}
 
 /// A law, and nothing to run: a text is read as an exercise just where its lines have the exercise's words, so it is of one

@@ -1,13 +1,12 @@
 //! Reading the note text.
 
-ghost use Rattle.std.specs.Prelude.{◌≡◌, ◌≤◌, ℕ, IfOk, MatchResult};
+ghost use Rattle.std.specs.Prelude.{IfOk};
 ghost use Rattle.fux_grid.specs.Exercises.{IsGiven, IsValid};
 ghost use Rattle.fux_grid.specs.Grid.{Grid};
 ghost use Rattle.fux_grid.specs.declared.exercise.Exercise.{Exercise};
 ghost use Rattle.text_lines.specs.Faults.{Gives};
-ghost use Rattle.text_lines.specs.declared.fault.TextKind.{TextKind};
 ghost use Rattle.fux_text.specs.Reading.{exercise_in, setting_alone};
-ghost use Rattle.fux_text.specs.Texts.{AreSingLinesOf, HasFault, HasSingFault, IsEither, IsTextOf};
+ghost use Rattle.fux_text.specs.Texts.{AreSingLinesOf, Finds, HasFault, HasSingFault, IsTextOf, TellsEach, TellsOnly};
 
 use crate::head::head_in;
 use crate::ranges::ranges_in;
@@ -38,14 +37,11 @@ fn exercise_in(alloc: Global, bytes: &[u8]) -> Result<Exercise, TextFault>
 pub fn read(alloc: Global, bytes: &[u8]) -> Result<Exercise, TextFault>
     // What is read is a valid exercise and has this text, and a fault is the text's first one.
     ensures ok { IfOk result (λ ex. IsTextOf bytes.now ex × IsValid ex) }
-    ensures fault { (kind : TextKind) (line column : ℕ) → result ≡ Err (TextFault.At kind line column)
-        → HasFault bytes.now kind line column }
+    ensures fault { TellsOnly result (HasFault bytes.now) }
 
     // A note text is read, and a text with a fault is answered by that fault, unless memory runs out.
-    ensures only { (ex : Exercise) → IsTextOf bytes.now ex
-        → MatchResult result (λ found. found ≡ ex) (λ fault. fault ≡ TextFault.Memory) }
-    ensures first { (kind : TextKind) (line column : ℕ) → HasFault bytes.now kind line column
-        → MatchResult result (λ _. ⊥) (λ fault. IsEither fault (TextFault.At kind line column)) }
+    ensures only { (ex : Exercise) → IsTextOf bytes.now ex → Finds result ex }
+    ensures first { TellsEach result (HasFault bytes.now) }
 {
     exercise_in(alloc, bytes)
 }
@@ -67,14 +63,11 @@ pub fn read_sing(alloc: Global, ex: &Exercise, lines: &[u8]) -> Result<Score, Te
 
     // What is read is a setting with the cantus and has these lines, and a fault is their first one.
     ensures ok { IfOk result (λ score. AreSingLinesOf ex.now lines.now score × IsGiven ex.now score) }
-    ensures fault { (kind : TextKind) (line column : ℕ) → result ≡ Err (TextFault.At kind line column)
-        → HasSingFault ex.now lines.now kind line column }
+    ensures fault { TellsOnly result (HasSingFault ex.now lines.now) }
 
     // Lines of a setting are read, and lines with a fault are answered by that fault, unless memory runs out.
-    ensures only { (score : Grid) → AreSingLinesOf ex.now lines.now score
-        → MatchResult result (λ found. found ≡ score) (λ fault. fault ≡ TextFault.Memory) }
-    ensures first { (kind : TextKind) (line column : ℕ) → HasSingFault ex.now lines.now kind line column
-        → MatchResult result (λ _. ⊥) (λ fault. IsEither fault (TextFault.At kind line column)) }
+    ensures only { (score : Grid) → AreSingLinesOf ex.now lines.now score → Finds result score }
+    ensures first { TellsEach result (HasSingFault ex.now lines.now) }
 {
     setting_alone(alloc, ex, lines)
 }

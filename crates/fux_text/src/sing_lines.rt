@@ -1,10 +1,9 @@
 //! The lines of a setting.
 
-ghost use Rattle.std.specs.Prelude.{◌≡◌, ◌<◌, ◌≤◌, ◌+◌, ◌-◌, ◌*◌, ◌/◌, ◌%◌, ◌++◌, ◌∷◌, [], OnOk, string_bytes, map, length, codes};
-ghost use Rattle.std.specs.List.{flat_map, range_with_len};
+ghost use Rattle.std.specs.Prelude.{◌≡◌, ◌<◌, ◌≤◌, ◌*◌, ◌%◌, ◌++◌, OnOk, string_bytes, length};
 ghost use Rattle.fux_grid.specs.Columns.{line};
 ghost use Rattle.fux_grid.specs.Letters.{bar_columns};
-ghost use Rattle.fux_text.specs.Lines.{bar_words, sing_text};
+ghost use Rattle.fux_text.specs.Lines.{bar_words, later_bars_text, sing_text};
 ghost use Rattle.fux_text.specs.Words.{spaced};
 
 use crate::items::put_items;
@@ -40,7 +39,7 @@ fn put_bar(out: &mut String, score: &Score, v: u8, bar: usize) -> Result<(), Mem
 /// Appends a bar line and the words of a voice for each bar but the first.
 fn put_later_bars(out: &mut String, score: &Score, v: u8) -> Result<(), Memory>
     ensures { OnOk result (string_bytes out.new ≡ string_bytes out.old
-        ++ flat_map (λ bar. spaced (codes "|" ∷ bar_words v (bar_columns score.now.columns bar))) (range_with_len 2 (length score.now.columns / 8 - 1))) }
+        ++ later_bars_text v score.now.columns) }
 {
     let bars = score.len() / 8;
     for bar in 2..bars + 1 {

@@ -122,6 +122,15 @@ later_tracks events =
 abbrev pub to_come : Events → Answers
 to_come events = followed_by (events_left (option_map left_seen events.track)) (later_tracks events)
 
+-- what is to come of this track, and then of those behind it
+abbrev pub with_track : Track → Events → Answers
+with_track track events = followed_by (events_left (Some (left_seen track))) (later_tracks events)
+
+-- this was to come: a track and what stands behind it, or a fault
+abbrev pub ComesWith : Answers → Result Track ByteFault → Events → Type 0
+ComesWith before (Ok track) after = before ≡ with_track track after
+ComesWith before (Err fault) after = before ≡ Err fault ∷ []
+
 abbrev pub file_seen : Events → File
 file_seen events = record { header = events.header; answers = to_come events }
 

@@ -1,6 +1,6 @@
 //! The events of a file, one after the other.
 
-ghost use Rattle.std.specs.Prelude.{◌≡◌, ◌+◌, ◌*◌, ◌^◌, ◌≤◌, ◌<◌, [], ◌∷◌, length, MatchResult, IfErr, IfOk, IfNone, IfSome};
+ghost use Rattle.std.specs.Prelude.{◌≡◌, ◌+◌, ◌*◌, ◌^◌, ◌≤◌, ◌<◌, [], ◌∷◌, length, IfErr, IfOk, IfNone, IfSome};
 
 use crate::chunks::{Header, track_of};
 use crate::fault::ByteFault;
@@ -84,7 +84,7 @@ impl<'a> Track<'a> {
 }
 
 impl<'a> Events<'a> {
-    ghost use Rattle.smf_bytes.specs.Events.{IsWithinBounds, TakesFirst, answer_seen, events_left, file_seen, followed_by, later_tracks, left_seen, to_come, tracks_in};
+    ghost use Rattle.smf_bytes.specs.Events.{ComesWith, IsWithinBounds, TakesFirst, answer_seen, file_seen, later_tracks, to_come, tracks_in, with_track};
 
     /// What comes behind the header of a file of so many bytes.
     pub(crate) fn behind(header: Header, size: usize, rest: &'a [u8]) -> Events<'a>
@@ -127,8 +127,7 @@ impl<'a> Events<'a> {
         requires counted { self.old.begun < self.old.header.tracks }
         requires fits { self.old.begun + 1 < 2 ^ 16 }
         ensures kept { self.new.header ≡ self.old.header }
-        ensures begun { IfOk result (λ track.
-            later_tracks self.old ≡ followed_by (events_left (Some (left_seen track))) (later_tracks self.new)) }
+        ensures begun { IfOk result (λ track. later_tracks self.old ≡ with_track track self.new) }
         ensures fault { IfErr result (λ fault. later_tracks self.old ≡ Err fault ∷ []) }
     {
         let chunk = track_of(self.size, self.rest)?;
@@ -148,9 +147,7 @@ impl<'a> Events<'a> {
     fn current(&mut self) -> Option<Result<Track<'a>, ByteFault>>
         ensures kept { self.new.header ≡ self.old.header }
         ensures none { IfNone result ((to_come self.old ≡ []) × (to_come self.new ≡ [])) }
-        ensures track { IfSome result (λ answer. MatchResult answer
-            (λ track. to_come self.old ≡ followed_by (events_left (Some (left_seen track))) (later_tracks self.new))
-            (λ fault. to_come self.old ≡ Err fault ∷ [])) }
+        ensures track { IfSome result (λ answer. ComesWith (to_come self.old) answer self.new) }
     {
         if let Some(track) = self.track {
             return Some(Ok(track));
@@ -173,8 +170,7 @@ impl<'a> Events<'a> {
 
     /// The next event of a track that is being read, or the fault that stands in its place.
     fn step(&mut self, track: Track<'a>) -> Result<Event<'a>, ByteFault>
-        ensures first { followed_by (events_left (Some (left_seen track.entry))) (later_tracks self.old)
-            ≡ answer_seen result ∷ to_come self.new }
+        ensures first { with_track track.entry self.old ≡ answer_seen result ∷ to_come self.new }
         ensures bounds { IfOk result IsWithinBounds }
         ensures kept { self.new.header ≡ self.old.header }
     {

@@ -34,7 +34,7 @@ impl Kind<'_> {
 }
 
 /// An event, the status that holds after it, and the bytes behind it.
-#[derive(Clone, Copy, Debug)]
+#[derive(Clone, Copy)]
 pub(crate) struct Taken<'a> {
     pub(crate) kind: Kind<'a>,
     pub(crate) running: Option<u8>,

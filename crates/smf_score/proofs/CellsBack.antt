@@ -2,10 +2,10 @@
 use Rattle.std.proofs.Common.{◌≡◌, ◌≢◌, ℕ, zero, suc, ◌+◌, ◌-◌, ◌<◌, ◌≤◌, ◌⊎◌, inl, inr, IsTrue, List, [], ◌∷◌, ◌++◌, length, get_or, map, Option, Some, refl, sym, ◌∙◌, ap, subst, arith, ne_eqb}
 use Rattle.std.specs.Bool.{⊤}
 use Rattle.std.specs.Prelude.{reverse, All}
-use Rattle.std.specs.List.{range_with_len}
 use Rattle.std.proofs.lemmas.Bool.{cases_lt, eq-eqb}
 use Rattle.std.proofs.lemmas.List.{append-nil, append_assoc, get_or-map, length-map, reverse-append}
 use Rattle.std.proofs.lemmas.List.Elements.{All-get_or}
+use Rattle.std.proofs.lemmas.List.FromFn.{fill_by_all}
 use Rattle.fux_pitch.specs.declared.pitch.Pitch.{Pitch}
 use Rattle.fux_grid.proofs.PitchTests.{equal_by_test}
 use Rattle.fux_pitch.specs.Pitch.{same_pitch}
@@ -203,23 +203,6 @@ cell_back columns voices w i follows low within =
 
 -- ---- the columns
 
--- a function of the places of a list that gives its elements
-map_places : {X : Type 0} (f : ℕ → X) (a : ℕ) (xs : List X) (d : X)
-    → ((k : ℕ) → k < length xs → f (a + k) ≡ get_or xs k d)
-    → map f (range_with_len a (length xs)) ≡ xs
-map_places f a [] d h = refl
-map_places f a (x ∷ xs) d h =
-    let here : a + 0 ≡ a = omega arith in
-    let first : f a ≡ x = ap f (sym here) ∙ h 0 (omega arith) in
-    ap (λ (y : _). y ∷ map f (range_with_len (a + 1) (length xs))) first
-    ∙ ap (λ (ys : List _). x ∷ ys) (map_places f (a + 1) xs d (λ k within.
-    let next : a + 1 + k ≡ a + suc k = omega arith in
-    ap f next ∙ h (suc k) (omega arith)))
-
-map_all : {X : Type 0} (f : ℕ → X) (xs : List X) (d : X) → ((k : ℕ) → k < length xs → f k ≡ get_or xs k d)
-    → map f (range_with_len 0 (length xs)) ≡ xs
-map_all f xs d h = map_places f 0 xs d (λ k within. let same : 0 + k ≡ k = omega arith in ap f same ∙ h k within)
-
 column_back : (columns : List (List Cell)) (voices i : ℕ) → HistoryFollows (reverse columns)
     → All (λ col. length col ≡ voices) columns
     → i < length columns
@@ -229,11 +212,9 @@ column_back columns voices i follows full within =
     let width : length col ≡ voices = All-get_or (λ col. length col ≡ voices) columns i [] within full in
     let wide : length (map respelled_cell col) ≡ voices = length-map col respelled_cell ∙ width in
     let cell : ℕ → Cell = λ v. cell_on (voices_placed columns 0 voices) v i in
-    ap (λ n. map cell (range_with_len 0 n)) (sym wide)
-    ∙ map_all cell (map respelled_cell col) Rest (λ k low.
-    let there : k < length col = omega (arith, length-map col respelled_cell) in
-    cell_back columns voices k i follows (omega (arith, wide)) within
-    ∙ sym (get_or-map respelled_cell col k Rest Rest there))
+    sym (fill_by_all cell (map respelled_cell col) voices Rest wide (λ k low.
+    let there : k < length col = omega (arith, width) in
+    get_or-map respelled_cell col k Rest Rest there ∙ sym (cell_back columns voices k i follows low within)))
 
 pub columns_back : (columns : List (List Cell)) (voices n : ℕ) → HistoryFollows (reverse columns)
     → All (λ col. length col ≡ voices) columns
@@ -241,8 +222,6 @@ pub columns_back : (columns : List (List Cell)) (voices n : ℕ) → HistoryFoll
 columns_back columns voices n follows full whole =
     let long : length (map (map respelled_cell) columns) ≡ n = length-map columns (map respelled_cell) ∙ whole in
     let column : ℕ → List Cell = column_on (voices_placed columns 0 voices) voices in
-    ap (λ k. map column (range_with_len 0 k)) (sym long)
-    ∙ map_all column (map (map respelled_cell) columns) [] (λ k low.
-    let there : k < length columns = omega (arith, length-map columns (map respelled_cell)) in
-    column_back columns voices k follows full there
-    ∙ sym (get_or-map (map respelled_cell) columns k [] [] there))
+    sym (fill_by_all column (map (map respelled_cell) columns) n [] long (λ k low.
+    let there : k < length columns = omega (arith, whole) in
+    get_or-map (map respelled_cell) columns k [] [] there ∙ sym (column_back columns voices k follows full there)))

@@ -1,11 +1,11 @@
 -- Notes have one order (`one_order`).
 use Rattle.std.proofs.Common.{◌≡◌, ℕ, zero, suc, ◌+◌, ◌<◌, ◌≤◌, ◌⊎◌, inl, inr, Bool, true, false, List, [], ◌∷◌, length, get_or, refl, sym, ◌∙◌, ap, arith, add-one, cond}
-use Rattle.std.specs.Prelude.{◌&&◌, not, filter}
+use Rattle.std.specs.Prelude.{not, filter}
 use Rattle.std.specs.Ordering.{is_lt, nat_cmp, ordering_then}
 use Rattle.std.specs.Cmp.{nat_cmp_is}
 use Rattle.std.specs.declared.cmp.Ordering.TheVariants.{Less, Equal, Greater}
 use Rattle.std.specs.List.Sorted.{IsSortedBy, ties}
-use Rattle.std.proofs.lemmas.Bool.{cases_lt}
+use Rattle.std.proofs.lemmas.Bool.{cases_lt, and_parts, not-true}
 use Rattle.smf_score.specs.declared.played.Played.{Played}
 use Rattle.smf_score.specs.Order.{IsInOrder, is_before}
 
@@ -119,16 +119,12 @@ not_own a = not_before_from a a (inr (refl, omega arith))
 not_before_then : (x y z : Played) → is_before y x ≡ false → is_before z y ≡ false → is_before z x ≡ false
 not_before_then x y z h k = not_before_from z x (not_later_then x y z (not_before_is y x h) (not_before_is z y k))
 
-both_false : (a b : Bool) → (not a && not b) ≡ true → (a ≡ false) × (b ≡ false)
-both_false true b h = absurd cc
-both_false false true h = absurd cc
-both_false false false h = (refl, refl)
-
 -- what is before one of two that tie is before the other
 ties_before : (x z y : Played) → is_before x y ≡ true → ties is_before x z ≡ true → is_before z y ≡ true
 ties_before x z y before tie =
+    let neither = and_parts (not (is_before x z)) (not (is_before z x)) tie in
     before_from z y (earlier_then z x y
-    (not_before_is x z (both_false (is_before x z) (is_before z x) tie).0) (before_is x y before))
+    (not_before_is x z (not-true (is_before x z) neither.0)) (before_is x y before))
 
 abbrev Sorted : List Played → Type 0
 Sorted xs = IsSortedBy is_before xs

@@ -4,7 +4,7 @@ use Rattle.std.proofs.Common.{◌≡◌, ◌≢◌, ℕ, zero, suc, pos, ◌≤�
 use Rattle.std.specs.Prelude.{◌&&◌, All, IsSome, option_map, slice_get, filter}
 use Rattle.std.specs.Option.{option_to_list}
 use Rattle.std.proofs.lemmas.Int.{ints}
-use Rattle.std.proofs.lemmas.Bool.{ltb-true, leb-true, leb-false, eq-eqb, cases_lt}
+use Rattle.std.proofs.lemmas.Bool.{ltb-true, leb-true, leb-false, eq-eqb, cases_lt, and_parts}
 use Rattle.std.proofs.lemmas.List.Elements.{All-append, All-nil, All-cons, filter-append}
 use Rattle.std.proofs.lemmas.List.FromFn.{get_or-map-range_with_len}
 use Rattle.fux_pitch.specs.declared.pitch.Pitch.{Pitch}
@@ -118,20 +118,16 @@ cantus_at notes v bar (suc n) ps e k within =
           whole = ap (λ b. whole_at notes v b) next ∙ rest.whole;
         }
 
-both_true : (a b : Bool) → (a && b) ≡ true → (a ≡ true) × (b ≡ true)
-both_true true b h = (refl, h)
-both_true false b h = absurd cc
-
 held_at : (notes : List Placed) (v : ℕ) (p : Pitch) (slot n : ℕ) → held_from notes v p slot n ≡ true
     → (k : ℕ) → k < n → holds p (cell_on notes v (slot + k)) ≡ true
 held_at notes v p slot zero h k within = absurd (omega arith)
 held_at notes v p slot (suc n) h zero within =
     ap (λ i. holds p (cell_on notes v i)) (add-zero slot)
-    ∙ (both_true (holds p (cell_on notes v slot)) (held_from notes v p (slot + 1) n) h).0
+    ∙ (and_parts (holds p (cell_on notes v slot)) (held_from notes v p (slot + 1) n) h).0
 held_at notes v p slot (suc n) h (suc j) within =
     let next : slot + suc j ≡ slot + 1 + j = omega arith in
     ap (λ i. holds p (cell_on notes v i)) next
-    ∙ held_at notes v p (slot + 1) n (both_true (holds p (cell_on notes v slot)) (held_from notes v p (slot + 1) n) h).1 j (omega arith)
+    ∙ held_at notes v p (slot + 1) n (and_parts (holds p (cell_on notes v slot)) (held_from notes v p (slot + 1) n) h).1 j (omega arith)
 
 holds_is : (p : Pitch) (c : Cell) → holds p c ≡ true → c ≡ Hold p
 holds_is p Rest h = absurd cc
@@ -317,9 +313,9 @@ record NamesVoices (head : Head) (voices : ℕ) : Type 0 where
 names_voices : (head : Head) (voices count : ℕ) → voices_in head voices ≡ Ok count → NamesVoices head voices × (voices ≡ count)
 names_voices head voices count e =
     let parts = pass_ok (leb 2 voices && (leb voices 4 && (ltb head.cantus_voice voices && ltb head.species_voice voices))) _ voices count e in
-    let first = both_true (leb 2 voices) _ parts.0 in
-    let second = both_true (leb voices 4) _ first.1 in
-    let third = both_true (ltb head.cantus_voice voices) _ second.1 in (
+    let first = and_parts (leb 2 voices) _ parts.0 in
+    let second = and_parts (leb voices 4) _ first.1 in
+    let third = and_parts (ltb head.cantus_voice voices) _ second.1 in (
       record {
         fewest = leb-true _ _ first.0;
         most = leb-true _ _ second.0;
@@ -332,7 +328,7 @@ names_voices head voices count e =
 few_bars : (count bars : ℕ) → bars_within count ≡ Ok bars → (3 ≤ bars) × (bars ≤ 24)
 few_bars count bars e =
     let parts = pass_ok (leb 3 count && leb count 24) _ count bars e in
-    let both = both_true (leb 3 count) (leb count 24) parts.0 in
+    let both = and_parts (leb 3 count) (leb count 24) parts.0 in
     (omega (arith, leb-true _ _ both.0, parts.1), omega (arith, leb-true _ _ both.1, parts.1))
 
 key_is : (p : Pitch) → key_of p ≡ pos (midi_key p)

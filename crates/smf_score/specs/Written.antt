@@ -1,5 +1,5 @@
 -- The bytes of a written file.
-use Rattle.std.specs.Prelude.{ℕ, zero, suc, ◌+◌, ◌-◌, ◌*◌, ◌/◌, ◌%◌, List, [], ◌∷◌, ◌++◌, length, nat_lt, unsigned_abs, if◌then◌else◌}
+use Rattle.std.specs.Prelude.{ℕ, zero, suc, ◌+◌, ◌-◌, ◌*◌, ◌/◌, ◌%◌, List, [], ◌∷◌, ◌++◌, drop, length, nat_lt, unsigned_abs, if◌then◌else◌}
 use Rattle.std.specs.Int.{w16, w32, to_be_bytes}
 use Rattle.fux_pitch.specs.declared.pitch.Pitch.{Pitch}
 use Rattle.fux_pitch.specs.Pitch.{key_of}
@@ -37,6 +37,10 @@ notes_bytes v ended [] = []
 notes_bytes v ended (note ∷ notes) =
     note_bytes v (note.start - ended) note.len (midi_key note.pitch)
     ++ notes_bytes v (note.start + note.len) notes
+
+-- the notes of a voice from a column on, of which the one before ends at another column
+abbrev pub notes_from : List (List Cell) → ℕ → ℕ → ℕ → List ℕ
+notes_from columns v i ended = notes_bytes v ended (notes_of i (drop i (line v columns)))
 
 -- the end of a track, at once
 abbrev pub end_bytes : List ℕ

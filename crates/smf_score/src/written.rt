@@ -4,7 +4,7 @@ ghost use Rattle.std.specs.Prelude.{◌≡◌, ◌≤◌, ◌<◌, ◌+◌, ◌^
 ghost use Rattle.fux_grid.specs.Columns.{line};
 ghost use Rattle.fux_grid.specs.Exercises.{IsComplete};
 ghost use Rattle.smf_score.specs.Lines.{holds_ahead, notes_of};
-ghost use Rattle.smf_score.specs.Written.{chunk_bytes, end_bytes, note_bytes, notes_bytes, header_bytes, quantity, smf_of, tempo_bytes, track_bytes};
+ghost use Rattle.smf_score.specs.Written.{chunk_bytes, end_bytes, note_bytes, notes_bytes, notes_from, header_bytes, quantity, smf_of, tempo_bytes, track_bytes};
 
 use fux_grid::{Cell, Exercise, Score};
 use fux_pitch::{Memory, semitone};
@@ -91,9 +91,8 @@ fn push_cell(
     requires place { i < length score.now.columns }
     requires few { length score.now.columns ≤ 192 }
     requires ended { ended ≤ i + holds_ahead (drop i (line v score.now.columns)) }
-    ensures bytes { IfOk result (λ after.
-        out.new.items ++ notes_bytes v after (notes_of (i + 1) (drop (i + 1) (line v score.now.columns)))
-        ≡ out.old.items ++ notes_bytes v ended (notes_of i (drop i (line v score.now.columns)))) }
+    ensures bytes { IfOk result (λ after. out.new.items ++ notes_from score.now.columns v (i + 1) after
+        ≡ out.old.items ++ notes_from score.now.columns v i ended) }
     ensures ended { IfOk result (λ after.
         after ≤ i + 1 + holds_ahead (drop (i + 1) (line v score.now.columns))) }
     ensures short { OnOk result (length out.new.items ≤ length out.old.items + 12) }

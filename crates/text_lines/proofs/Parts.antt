@@ -3,7 +3,7 @@ use Rattle.std.proofs.Common.{◌≡◌, ℕ, zero, suc, ◌+◌, ◌-◌, ◌<�
 use Rattle.std.specs.Prelude.{nat_lt, ◌==◌, not, if◌then◌else◌, unwrap_or}
 use Rattle.std.specs.List.{slice_split, position, position_or_len}
 use Rattle.std.specs.Str.Lines.{lines, lines_of_parts, strip_carriage_return}
-use Rattle.std.proofs.lemmas.Bool.{ltb-false, cases_lt}
+use Rattle.std.proofs.lemmas.Bool.{ltb-false, cases_lt, not-false}
 use Rattle.std.proofs.lemmas.List.{length-take-le, length-drop, take_all, drop_all, get_or-drop}
 use Rattle.std.proofs.lemmas.List.Quantifiers.{position-Some}
 use Rattle.std.proofs.lemmas.List.Sums.{fails_before_first, prefix_len-le-length, prefix_len_stops}
@@ -94,10 +94,6 @@ with_piece-some : (line column : ℕ) (piece : List ℕ) (words : List PlacedWor
 with_piece-some line column [] words some = absurd (omega arith)
 with_piece-some line column (b ∷ bs) words some = refl
 
-not_false : (b : Bool) → not b ≡ false → b ≡ true
-not_false true e = refl
-not_false false e = grind arith
-
 -- a blank stands where the first part ends
 blank_next : (line column : ℕ) (xs : List ℕ) → position_or_len is_blank xs < length xs
     → words_from line column (drop (position_or_len is_blank xs) xs)
@@ -108,7 +104,7 @@ blank_next line column xs lt =
     let split : drop k xs ≡ get_or xs k 0 ∷ drop (suc k) xs = drop-cons xs k 0 lt in
     ap (λ ys. words_from line column ys) split
     ∙ after_blank line column (get_or xs k 0) (drop (suc k) xs)
-    (not_false _ (prefix_len_stops (λ b. not (is_blank b)) xs 0 lt))
+    (not-false _ (prefix_len_stops (λ b. not (is_blank b)) xs 0 lt))
     ∙ ap (λ n. words_from line (column + 1) (drop n xs)) same
 
 first_piece : (line column : ℕ) (piece : List ℕ) (pieces : List (List ℕ)) (xs : List ℕ) → 0 < length piece
@@ -170,7 +166,7 @@ at_first p xs i h =
 inked_end : (k : ℕ) (xs : List ℕ) → position_or_len is_blank xs ≡ k → 0 < length xs → is_inked (get_or xs 0 0) ≡ true → 0 < k
 inked_end zero xs e some inked =
     let blank : is_blank (get_or xs 0 0) ≡ true =
-    not_false _ (subst (λ n. not (is_blank (get_or xs n 0)) ≡ false) e (prefix_len_stops (λ b. not (is_blank b)) xs 0 (omega (arith, e)))) in
+    not-false _ (subst (λ n. not (is_blank (get_or xs n 0)) ≡ false) e (prefix_len_stops (λ b. not (is_blank b)) xs 0 (omega (arith, e)))) in
     absurd (grind (arith, blank, inked))
 inked_end (suc k) xs e some inked = omega arith
 

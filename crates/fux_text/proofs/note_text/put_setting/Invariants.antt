@@ -1,10 +1,10 @@
-use Rattle.std.proofs.Common.{◌≡◌, ◌-◌, ◌==◌, ◌++◌, not, string_bytes, filter}
-use Rattle.std.specs.List.{flat_map, range_with_len}
-use Rattle.fux_text.specs.Lines.{sing_text, free_voices}
+use Rattle.std.proofs.Common.{◌≡◌, ◌-◌, ◌++◌, string_bytes}
+use Rattle.std.specs.List.{range_with_len}
+use Rattle.fux_text.specs.Lines.{free_among, free_voices, sing_texts}
 use Rattle.fux_text.proofs.note_text.put_setting.Given as goal
 
 -- what is written so far, and the lines that are left, are what is to be written
 abbrev pub invariant-loop-v : goal.invariant-loop-v
 invariant-loop-v l =
-    string_bytes l.out ++ flat_map (λ v. sing_text v l.score.columns) (filter (λ v. not (v == l.ex.cantus_voice)) (range_with_len l.v (l.ex.voices - l.v)))
-    ≡ string_bytes l.fn.out ++ flat_map (λ v. sing_text v l.score.columns) (free_voices l.ex)
+    string_bytes l.out ++ sing_texts l.score.columns (free_among l.ex (range_with_len l.v (l.ex.voices - l.v)))
+    ≡ string_bytes l.fn.out ++ sing_texts l.score.columns (free_voices l.ex)
