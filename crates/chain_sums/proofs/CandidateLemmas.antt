@@ -93,12 +93,6 @@ abbrev pub IsSumTried : Chains → ℕ → Option (List Cell) → List (Option �
 IsSumTried c i before row candidates count sum =
     (e : ℕ) × (e < count) × ((d : Candidate) → IsSumAt c i before row (get_or candidates e d).number sum)
 
-pub tried_none : (c : Chains) (i : ℕ) (before : Option (List Cell)) (row : List (Option ℕ)) (candidates : List Candidate) → IsLeastOf (IsSumTried c i before row candidates 0) None
-tried_none c i before row candidates = record { reached = λ x e. cc; lowest = none }
-  where
-    none : (x : ℕ) → IsSumTried c i before row candidates 0 x → IsSomeAnd None (λ (y : ℕ). y ≤ x)
-    none x (e, h, s) = absurd (omega (arith, h))
-
 pub tried_more : (c : Chains) (i : ℕ) (before : Option (List Cell)) (row : List (Option ℕ)) (candidates : List Candidate) (count : ℕ) (candidate : Candidate) (least other : Option ℕ)
     → count < length candidates → candidate ≡ get_or candidates count candidate
     → IsLeastOf (IsSumTried c i before row candidates count) least

@@ -107,13 +107,6 @@ least_within_more c i before row count least other old is =
         by (inl l) = inl (k, l, s)
         by (inr e) = inr (subst (λ (j : ℕ). IsSumAt c i before row j x) e s)
 
--- no column yet
-pub least_within_none : (c : Chains) (i : ℕ) (before : Option (List Cell)) (row : List (Option ℕ)) → IsLeastOf (IsSumWithin c i before row 0) None
-least_within_none c i before row = record { reached = λ x e. cc; lowest = none }
-  where
-    none : (x : ℕ) → IsSumWithin c i before row 0 x → IsSomeAnd None (λ (y : ℕ). y ≤ x)
-    none x (k, h, s) = absurd (omega (arith, h))
-
 -- ---- chains
 
 pub at_most : (a : Option ℕ) (x y : ℕ) → x ≤ y → IsSomeAnd a (λ z. z ≤ x) → IsSomeAnd a (λ z. z ≤ y)
@@ -189,13 +182,6 @@ ends_at_nothing c before = record { reached = reached; lowest = lowest }
 -- the columns of a menu, as lists of cells
 pub length-columns : (menu : List (ArrayVec Cell)) (columns : List (List Cell)) → items_of menu ≡ columns → length menu ≡ length columns
 length-columns menu columns e = sym (length-map menu (λ col. col.items)) ∙ ap length e
-
-pub column-at : (menu : List (ArrayVec Cell)) (columns : List (List Cell)) (k : ℕ) (col : ArrayVec Cell) → items_of menu ≡ columns → k < length menu
-    → col ≡ get_or menu k col → col.items ≡ get_or columns k []
-column-at menu columns k col e h is =
-    ap (λ (x : ArrayVec Cell). x.items) is
-    ∙ sym (get_or-map (λ (x : ArrayVec Cell). x.items) menu k col [] h)
-    ∙ ap (λ xs. get_or xs k []) e
 
 -- what the code sums is what is to be summed
 pub sum_of_both : (c : Chains) (i : ℕ) (before : Option (List Cell)) (d : List Cell) (rest own : Option ℕ) → ColumnFollows (cells_of before) d → own ≡ c.cost i before d
