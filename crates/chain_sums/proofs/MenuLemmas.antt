@@ -1,8 +1,8 @@
--- Menus whose numbers rise are searched by them (`found_by_number`).
+-- Menus whose numbers rise are searched by them (`found_by_number`), and with equal numbers they have equal columns (`same_columns`).
 use Rattle.std.proofs.Common.{◌≡◌, ◌⊎◌, inl, inr, ℕ, ◌<◌, ◌≤◌, List, [], length, map, get_or, ap, sym, ◌∙◌, arith}
 use Rattle.std.specs.List.{Contains}
 use Rattle.std.proofs.lemmas.Bool.{cases_order}
-use Rattle.std.proofs.lemmas.List.{get_or-map, get_or_default, length-map}
+use Rattle.std.proofs.lemmas.List.{ext_get_or, get_or-map, get_or_default, length-map}
 use Rattle.std.proofs.lemmas.List.Elements.{All-contains, Contains-get_or}
 use Rattle.fux_grid.specs.declared.cell.Cell.{Cell}
 use Rattle.fux_grid.specs.Menus.{IsAscending}
@@ -17,6 +17,19 @@ number-at columns k h = get_or-map packed columns k [] 0 h
 
 full-at : (voices : ℕ) (columns : List (List Cell)) (k : ℕ) → AreFull voices columns → k < length columns → length (get_or columns k []) ≡ voices
 full-at voices columns k full h = All-contains (λ col. length col ≡ voices) columns (get_or columns k []) full (Contains-get_or columns k [] h)
+
+-- columns with equal numbers
+pub same_columns : (voices : ℕ) (columns others : List (List Cell)) → voices ≤ 4 → AreFull voices columns → AreFull voices others
+    → map packed columns ≡ map packed others → columns ≡ others
+same_columns voices columns others few full full_too e =
+    ext_get_or [] columns others (sym (length-map columns packed) ∙ ap length e ∙ length-map others packed) at
+  where
+    at : (k : ℕ) → k < length columns → get_or columns k [] ≡ get_or others k []
+    at k h =
+        let there : k < length others = omega (arith, h, length-map columns packed, ap length e, length-map others packed) in
+        let own = full-at voices columns k full h in
+        packed-same (get_or columns k []) (get_or others k []) (own ∙ sym (full-at voices others k full_too there)) (omega (arith, own))
+        (sym (number-at columns k h) ∙ ap (λ xs. get_or xs k 0) e ∙ number-at others k there)
 
 -- columns in reading order have rising numbers
 pub numbers-rise : (voices : ℕ) (columns : List (List Cell)) → voices ≤ 4 → AreFull voices columns → IsAscending columns → IsRising (map packed columns)
