@@ -1,5 +1,5 @@
 -- Menus whose numbers rise are searched by them (`found_by_number`), and with equal numbers they have equal columns (`same_columns`).
-use Rattle.std.proofs.Common.{◌≡◌, ◌⊎◌, inl, inr, ℕ, ◌<◌, ◌≤◌, List, [], length, map, get_or, ap, sym, ◌∙◌, arith}
+use Rattle.std.proofs.Common.{◌≡◌, ◌⊎◌, inl, inr, ℕ, ◌<◌, ◌≤◌, List, [], length, map, get_or, refl, ap, sym, ◌∙◌, arith}
 use Rattle.std.specs.List.{Contains}
 use Rattle.std.proofs.lemmas.Bool.{cases_order}
 use Rattle.std.proofs.lemmas.List.{ext_get_or, get_or-map, get_or_default, length-map}
@@ -7,7 +7,9 @@ use Rattle.std.proofs.lemmas.List.Elements.{All-contains, Contains-get_or}
 use Rattle.fux_grid.specs.declared.cell.Cell.{Cell}
 use Rattle.fux_grid.specs.Menus.{IsAscending}
 use Rattle.chain_sums.specs.Chains.{AreFull}
-use Rattle.chain_sums.specs.Menus.{IsRising}
+use Rattle.chain_sums.specs.declared.menu.Menu.{Menu}
+use Rattle.chain_sums.specs.Menus.{IsNumberOf, IsPacked, IsRising, columns_of}
+use Rattle.chain_sums.proofs.LeastLemmas.{length-columns}
 use Rattle.chain_sums.specs.Packed.{packed}
 use Rattle.chain_sums.proofs.PackedLemmas.{packed-less, packed-same}
 
@@ -58,6 +60,15 @@ found_by_number voices columns k d few full there h e =
     let own = full-at voices columns k full h in
     packed-same (get_or columns k []) d (own ∙ sym (All-contains (λ col. length col ≡ voices) columns d full there)) (omega (arith, own))
     (sym (number-at columns k h) ∙ e)
+
+-- where the number of a packed menu's column stands, the column does
+pub number_found : (menu : Menu) (voices k : ℕ) (d : List Cell) → IsPacked voices menu → Contains (columns_of menu) d → k < length menu.numbers.items
+    → get_or menu.numbers.items k 0 ≡ packed d → IsNumberOf menu d k
+number_found menu voices k d is there h e =
+    let within : k < length (columns_of menu) = omega (arith, h, ap length is.numbers, length-map (columns_of menu) packed) in (
+      omega (arith, within, length-columns menu.columns.items (columns_of menu) refl),
+      found_by_number voices (columns_of menu) k d is.few is.full there within (ap (λ xs. get_or xs k 0) (sym is.numbers) ∙ e),
+    )
 
 -- a column of the menu has one of its numbers
 pub number_there : (columns : List (List Cell)) (d : List Cell) → Contains columns d → (k : ℕ) × (k < length columns) × (get_or (map packed columns) k 0 ≡ packed d)

@@ -48,10 +48,12 @@ pub(crate) fn is_still(menu: &Menu) -> bool
 }
 
 /// The least sum over the chains that begin at a place, behind a column, where each column of the place's menu holds all it sounds.
+/// The one that follows is looked for first under a number that is likely to be its own, as that of `prev` in the menu before.
 pub(crate) fn least_of_held<L: Links>(
     links: &L,
     i: usize,
     prev: &Column,
+    likely: usize,
     menu: &Menu,
     row: &[Option<u64>],
 ) -> Option<u64>
@@ -65,7 +67,7 @@ pub(crate) fn least_of_held<L: Links>(
     ensures least { IsLeast (L.chains links.now) i (Some prev.now.items) result }
     ensures bound { IsOneCostAboveRow row.now result }
 {
-    let k = menu.place_of_held(prev)?;
+    let k = menu.place_of_held(prev, likely)?;
     if k >= menu.len() {
         return None;
     }

@@ -133,7 +133,7 @@ fn sums_held<L: Links>(
     let mut row = Vec::with_capacity(alloc, width)?;
     for k in 0..width {
         let prev = menu.column(k);
-        let least = least_of_held(links, i + 1, prev, next, sums);
+        let least = least_of_held(links, i + 1, prev, k, next, sums);
         row.push_reserved(least);
     }
     Ok(row)
