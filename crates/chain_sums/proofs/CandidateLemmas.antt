@@ -1,5 +1,5 @@
 -- The candidates that are tried are enough: no later one has a lesser sum (`tried_are_enough`).
-use Rattle.std.proofs.Common.{◌≡◌, ◌⊎◌, inl, inr, ℕ, ◌+◌, ◌<◌, ◌≤◌, List, [], ◌∷◌, ◌++◌, length, get_or, Option, Some, None, ap, sym, ◌∙◌, subst, arith}
+use Rattle.std.proofs.Common.{◌≡◌, ◌⊎◌, inl, inr, ℕ, ◌+◌, ◌<◌, ◌≤◌, List, [], ◌∷◌, ◌++◌, length, get_or, Option, Some, ap, sym, ◌∙◌, subst, arith}
 use Rattle.std.specs.Prelude.{IsSomeAnd, ◌↔◌}
 use Rattle.std.specs.List.{All, Contains}
 use Rattle.std.proofs.lemmas.Bool.{cases_lt}
@@ -92,12 +92,6 @@ module _ (c : Chains) (own : List Cell → Option ℕ) (i : ℕ) (row : List (Op
 abbrev pub IsSumTried : Chains → ℕ → Option (List Cell) → List (Option ℕ) → List Candidate → ℕ → ℕ → Type 0
 IsSumTried c i before row candidates count sum =
     (e : ℕ) × (e < count) × ((d : Candidate) → IsSumAt c i before row (get_or candidates e d).number sum)
-
-pub tried_none : (c : Chains) (i : ℕ) (before : Option (List Cell)) (row : List (Option ℕ)) (candidates : List Candidate) → IsLeastOf (IsSumTried c i before row candidates 0) None
-tried_none c i before row candidates = record { reached = λ x e. cc; lowest = none }
-  where
-    none : (x : ℕ) → IsSumTried c i before row candidates 0 x → IsSomeAnd None (λ (y : ℕ). y ≤ x)
-    none x (e, h, s) = absurd (omega (arith, h))
 
 pub tried_more : (c : Chains) (i : ℕ) (before : Option (List Cell)) (row : List (Option ℕ)) (candidates : List Candidate) (count : ℕ) (candidate : Candidate) (least other : Option ℕ)
     → count < length candidates → candidate ≡ get_or candidates count candidate

@@ -4,13 +4,14 @@ use Rattle.std.specs.Prelude.{nat_le, IsSomeAnd, ◌↔◌}
 use Rattle.std.specs.List.{Contains}
 use Rattle.std.proofs.lemmas.Bool.{cases_lt}
 use Rattle.std.proofs.lemmas.Bool.Decides.{nat_tests}
-use Rattle.std.proofs.lemmas.List.{get_or_default, get_or-map, length-map}
+use Rattle.std.proofs.lemmas.List.{get_or_default, length-map}
 use Rattle.std.proofs.lemmas.List.Elements.{Contains-get_or}
 use Rattle.fux_grid.specs.declared.cell.Cell.{Cell}
-use Rattle.fux_grid.specs.Columns.{ColumnFollows}
+use Rattle.std.specs.Borrow.{Bor}
+use Rattle.fux_grid.specs.Columns.{ColumnFollows, cells_before}
 use Rattle.fux_grid.specs.Grid.{items_of}
 use Rattle.arrayvec.specs.ArrayVec.{ArrayVec}
-use Rattle.chain_sums.specs.Chains.{Chains, AreLinked, HasSum, IsLeast, IsLeastOf, cells_of, chain_sum, plus}
+use Rattle.chain_sums.specs.Chains.{Chains, AreLinked, HasSum, IsLeast, IsLeastOf, cells_of, chain_sum, given, plus}
 use Rattle.chain_sums.specs.Rows.{IsRow, IsSumAt, IsSumOf, IsSumWithin}
 use Rattle.chain_sums.specs.Sums.{lesser}
 
@@ -107,13 +108,6 @@ least_within_more c i before row count least other old is =
         by (inl l) = inl (k, l, s)
         by (inr e) = inr (subst (λ (j : ℕ). IsSumAt c i before row j x) e s)
 
--- no column yet
-pub least_within_none : (c : Chains) (i : ℕ) (before : Option (List Cell)) (row : List (Option ℕ)) → IsLeastOf (IsSumWithin c i before row 0) None
-least_within_none c i before row = record { reached = λ x e. cc; lowest = none }
-  where
-    none : (x : ℕ) → IsSumWithin c i before row 0 x → IsSomeAnd None (λ (y : ℕ). y ≤ x)
-    none x (k, h, s) = absurd (omega (arith, h))
-
 -- ---- chains
 
 pub at_most : (a : Option ℕ) (x y : ℕ) → x ≤ y → IsSomeAnd a (λ z. z ≤ x) → IsSomeAnd a (λ z. z ≤ y)
@@ -190,12 +184,9 @@ ends_at_nothing c before = record { reached = reached; lowest = lowest }
 pub length-columns : (menu : List (ArrayVec Cell)) (columns : List (List Cell)) → items_of menu ≡ columns → length menu ≡ length columns
 length-columns menu columns e = sym (length-map menu (λ col. col.items)) ∙ ap length e
 
-pub column-at : (menu : List (ArrayVec Cell)) (columns : List (List Cell)) (k : ℕ) (col : ArrayVec Cell) → items_of menu ≡ columns → k < length menu
-    → col ≡ get_or menu k col → col.items ≡ get_or columns k []
-column-at menu columns k col e h is =
-    ap (λ (x : ArrayVec Cell). x.items) is
-    ∙ sym (get_or-map (λ (x : ArrayVec Cell). x.items) menu k col [] h)
-    ∙ ap (λ xs. get_or xs k []) e
+pub given-cells : (prev : Option (Bor (ArrayVec Cell))) → cells_before prev ≡ cells_of (given prev)
+given-cells None = refl
+given-cells (Some col) = refl
 
 -- what the code sums is what is to be summed
 pub sum_of_both : (c : Chains) (i : ℕ) (before : Option (List Cell)) (d : List Cell) (rest own : Option ℕ) → ColumnFollows (cells_of before) d → own ≡ c.cost i before d

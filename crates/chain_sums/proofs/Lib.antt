@@ -1,4 +1,5 @@
 pub mod CandidateLemmas
+pub mod FreshLemmas
 pub mod LeastLemmas
 pub mod MenuLemmas
 pub mod PackedLemmas

@@ -1,41 +1,53 @@
--- Tables grow by a row at a time (`rows_more`).
-use Rattle.std.proofs.Common.{◌≡◌, ◌⊎◌, inl, inr, ℕ, ◌+◌, ◌-◌, ◌*◌, ◌^◌, ◌<◌, ◌≤◌, List, [], ◌∷◌, ◌++◌, length, get_or, suc, Option, Some, None, ap, sym, ◌∙◌, subst, arith}
-use Rattle.std.proofs.lemmas.List.{get_or_append_left, get_or_push, length_push}
-use Rattle.std.specs.List.{Contains}
+-- Tables grow by a row at a time (`rows_more`), whose menu may be one of another row (`number_of_other`).
+use Rattle.std.proofs.Common.{◌≡◌, ◌⊎◌, inl, inr, ℕ, ◌+◌, ◌-◌, ◌*◌, ◌^◌, ◌<◌, ◌≤◌, List, [], ◌∷◌, ◌++◌, length, get_or, suc, Option, Some, None, refl, ap, sym, ◌∙◌, subst, arith}
+use Rattle.std.proofs.lemmas.List.{get_or_append_left, get_or_default, get_or_push, length_push}
+use Rattle.std.specs.List.{All, Contains}
 use Rattle.fux_grid.specs.declared.cell.Cell.{Cell}
 use Rattle.fux_grid.specs.Grid.{items_of}
 use Rattle.chain_sums.specs.declared.menu.Menu.{Menu}
 use Rattle.chain_sums.specs.declared.tables.Row.{Row}
 use Rattle.chain_sums.specs.declared.tables.Tables.{Tables}
 use Rattle.chain_sums.specs.Chains.{Chains, IsLeast}
-use Rattle.chain_sums.specs.Menus.{IsMenuOf, IsPacked}
+use Rattle.chain_sums.specs.Menus.{HaveSameColumns, IsMenuOf, IsPacked, columns_of}
 use Rattle.chain_sums.specs.Rows.{AllAtMost, IsAtMost, IsRow}
-use Rattle.chain_sums.specs.Tables.{AreRows, AreTablesOf, IsRowAt}
+use Rattle.chain_sums.specs.Tables.{AreRows, AreTablesOf, IsNumberFor, IsRowAt, KeepNumbers}
 use Rattle.chain_sums.proofs.LeastLemmas.{below_or_at, length-columns}
 
--- the menus that were there stay where they are
-pub record KeepMenus (menus more : List Menu) : Type 0 where
-  pub longer : length menus ≤ length more
-  pub same : (k : ℕ) (d : Menu) → k < length menus → get_or more k d ≡ get_or menus k d
-
-pub menus_pushed : (menus : List Menu) (menu : Menu) → KeepMenus menus (menus ++ menu ∷ [])
-menus_pushed menus menu = record {
-  longer = omega (arith, length_push menus menu);
-  same = λ k d h. get_or_append_left menus (menu ∷ []) d k h;
+-- a menu may be kept under the number of another that has the same columns
+pub number_of_other : (menus : List Menu) (menu : Menu) (number : ℕ) → number < length menus → HaveSameColumns (get_or menus number menu) menu → IsNumberFor menus menus menu number
+number_of_other menus menu number h same voices are is = record {
+  keep = record { longer = omega arith; same = λ k d l. refl };
+  packed = are;
+  within = h;
+  columns = λ d. ap columns_of (get_or_default menus number d menu h) ∙ same voices (are number menu h) is;
 }
 
-row_kept : (c : Chains) (i : ℕ) (menus more : List Menu) (row : Row) → KeepMenus menus more → IsRowAt c i menus row → IsRowAt c i more row
+-- and behind the others
+pub number_of_last : (menus : List Menu) (menu : Menu) (number : ℕ) → number ≡ length menus → IsNumberFor menus (menus ++ menu ∷ []) menu number
+number_of_last menus menu number e voices are is = record {
+  keep = record { longer = omega (arith, length_push menus menu); same = λ k d h. get_or_append_left menus (menu ∷ []) d k h };
+  packed = λ k d h. packed k d (below_or_at k (length menus) (omega (arith, length_push menus menu)));
+  within = omega (arith, length_push menus menu);
+  columns = λ d. ap columns_of (get_or_push menus menu d number (sym e));
+}
+  where
+    packed : (k : ℕ) (d : Menu) → (k < length menus) ⊎ (k ≡ length menus) → IsPacked voices (get_or (menus ++ menu ∷ []) k d)
+    packed k d (inl h) = subst (IsPacked voices) (sym (get_or_append_left menus (menu ∷ []) d k h)) (are k d h)
+    packed k d (inr f) = subst (IsPacked voices) (sym (get_or_push menus menu d k (sym f))) is
+
+row_kept : (c : Chains) (i : ℕ) (menus more : List Menu) (row : Row) → KeepNumbers menus more → IsRowAt c i menus row → IsRowAt c i more row
 row_kept c i menus more row keep at = record {
   named = omega (arith, keep.longer, at.named);
   menu = λ d. subst (λ (m : Menu). IsMenuOf (c.menu i) m) (sym (keep.same row.menu d at.named)) (at.menu d);
-  packed = λ d. subst (λ (m : Menu). IsPacked c.voices m) (sym (keep.same row.menu d at.named)) (at.packed d);
   sums = at.sums;
 }
 
-pub rows_more : (c : Chains) (i : ℕ) (menus more : List Menu) (rows : List Row) (row : Row) → KeepMenus menus more → AreRows c menus rows
-    → i + 1 + length rows ≡ c.places → IsRowAt c i more row → AllAtMost (length rows * 2 ^ 53) row.sums.items → AreRows c more (rows ++ row ∷ [])
-rows_more c i menus more rows row keep are place here small = record {
+pub rows_more : (c : Chains) (i : ℕ) (menus more : List Menu) (rows : List Row) (row : Row) → KeepNumbers menus more → All (IsPacked c.voices) more
+    → AreRows c menus rows → i + 1 + length rows ≡ c.places → IsRowAt c i more row → AllAtMost (length rows * 2 ^ 53) row.sums.items
+    → AreRows c more (rows ++ row ∷ [])
+rows_more c i menus more rows row keep packed are place here small = record {
   few = omega (arith, length_push rows row);
+  packed = packed;
   at = λ j d h. at j d (below_or_at j (length rows) (omega (arith, length_push rows row)));
   small = λ j d h. small_at j d (below_or_at j (length rows) (omega (arith, length_push rows row)));
 }
@@ -79,7 +91,7 @@ pub record IsAsked (c : Chains) (i : ℕ) (row : Row) (menu : Menu) (col : List 
 pub is_asked : (c : Chains) (t : Tables) (i last : ℕ) (row : Row) (menu : Menu) (col : List Cell) → AreTablesOf c t → i < c.places
     → last ≡ length t.rows.items → row ≡ get_or t.rows.items (last - 1 - i) row → menu ≡ get_or t.menus.items row.menu menu → Contains (c.menu i) col → IsAsked c i row menu col
 is_asked c t i last row menu col are h e is is_menu there = record {
-  packed = subst (λ (m : Menu). IsPacked c.voices m) (sym is_menu) (here.packed menu);
+  packed = subst (λ (m : Menu). IsPacked c.voices m) (sym is_menu) (are.rows.packed row.menu menu here.named);
   are = same;
   there = subst (λ (columns : List (List Cell)). Contains columns col) (sym same) there;
   sums = here.sums;

@@ -1,11 +1,15 @@
 -- The columns of a menu that may have a sum, with what it is at least.
-use Rattle.std.specs.Prelude.{ℕ, ◌<◌, ◌≤◌, List, [], Option, length, slice_index_or}
+use Rattle.std.specs.Prelude.{ℕ, ◌<◌, ◌≤◌, List, [], Option, length, slice_index_or, IsSomeAnd}
 use Rattle.std.specs.List.{All, Contains}
 use Rattle.std.specs.List.Sorted.{IsNonDecreasingBy}
 use Rattle.fux_grid.specs.declared.cell.Cell.{Cell}
 use Rattle.chain_sums.specs.declared.candidates.Candidate.{Candidate}
 use Rattle.chain_sums.specs.Chains.{Chains, IsKnown}
-use Rattle.chain_sums.specs.Rows.{IsSumAt}
+use Rattle.chain_sums.specs.Rows.{IsSumAt, IsSumOf}
+
+-- a column's sum reaches the bound of its candidate, whatever stands before it; there is no candidate only where there is no sum
+abbrev pub ReachesBound : Chains → ℕ → List Cell → Option ℕ → Option Candidate → Type 0
+ReachesBound c i d rest candidate = (before : Option (List Cell)) (x : ℕ) → IsSumOf c i before d rest x → IsSomeAnd candidate (λ e. e.bound ≤ x)
 
 -- a candidate stands for the column, with a bound that its sum reaches
 pub record HasBound (candidates : List Candidate) (k sum : ℕ) : Type 0 where

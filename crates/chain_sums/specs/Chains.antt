@@ -55,6 +55,10 @@ IsLeast c i before = IsLeastOf (HasSum c i before)
 abbrev pub given : Option (Bor (ArrayVec Cell)) → Option (List Cell)
 given prev = option_map (λ col. col.now.items) prev
 
+-- a column costs at least so much at a place, whatever stands before it; there is no such cost only where it may stand behind no column
+abbrev pub IsLeastCost : Chains → ℕ → List Cell → Option ℕ → Type 0
+IsLeastCost c i d own = (before : Option (List Cell)) (x : ℕ) → c.cost i before d ≡ Some x → IsSomeAnd own (λ y. y ≤ x)
+
 -- a cost is there, and this is it
 abbrev pub IsKnown : Option ℕ → ℕ → Type 0
 IsKnown cost known = (cost ≡ Some known) × (known ≤ 2 ^ 52)

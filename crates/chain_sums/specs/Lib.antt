@@ -1,5 +1,6 @@
 pub mod Candidates
 pub mod Chains
+pub mod Fresh
 pub mod Menus
 pub mod Packed
 pub mod Rows

@@ -1,5 +1,5 @@
 -- Rows of least sums, and the least over one of them.
-use Rattle.std.specs.Prelude.{◌≡◌, ℕ, suc, ◌+◌, ◌<◌, ◌≤◌, List, [], length, slice_index_or, Option, Some, None, IfSome}
+use Rattle.std.specs.Prelude.{◌≡◌, ℕ, suc, ◌+◌, ◌^◌, ◌<◌, ◌≤◌, List, [], length, slice_index_or, Option, Some, None, IfSome}
 use Rattle.fux_grid.specs.declared.cell.Cell.{Cell}
 use Rattle.fux_grid.specs.Columns.{ColumnFollows}
 use Rattle.chain_sums.specs.Chains.{Chains, IsLeast, cells_of}
@@ -33,3 +33,15 @@ IsAtMost most sum = IfSome sum (λ x. x ≤ most)
 -- and so is each of a row
 abbrev pub AllAtMost : ℕ → List (Option ℕ) → Type 0
 AllAtMost most row = (k : ℕ) → k < length row → IsAtMost most (slice_index_or row k None)
+
+-- a sum is above another by one cost at most
+abbrev pub IsOneCostAbove : Option ℕ → Option ℕ → Type 0
+IsOneCostAbove other sum = (most : ℕ) → IsAtMost most other → IsAtMost (most + 2 ^ 53) sum
+
+-- a sum is above those of a row by one cost at most
+abbrev pub IsOneCostAboveRow : List (Option ℕ) → Option ℕ → Type 0
+IsOneCostAboveRow row sum = (most : ℕ) → AllAtMost most row → IsAtMost (most + 2 ^ 53) sum
+
+-- and so is each sum of another row
+abbrev pub AreOneCostAbove : List (Option ℕ) → List (Option ℕ) → Type 0
+AreOneCostAbove row more = (most : ℕ) → AllAtMost most row → AllAtMost (most + 2 ^ 53) more

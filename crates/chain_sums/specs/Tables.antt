@@ -1,5 +1,9 @@
 -- What tables keep of chains.
-use Rattle.std.specs.Prelude.{◌≡◌, ℕ, ◌-◌, ◌*◌, ◌^◌, ◌<◌, ◌≤◌, List, length, slice_index_or, None}
+use Rattle.std.specs.Prelude.{◌≡◌, ℕ, suc, ◌-◌, ◌*◌, ◌^◌, ◌<◌, ◌≤◌, List, [], length, slice_index_or, Option, Some, None, IsSomeAnd}
+use Rattle.std.specs.Borrow.{Bor}
+use Rattle.std.specs.List.{All, Contains}
+use Rattle.arrayvec.specs.ArrayVec.{ArrayVec}
+use Rattle.fux_grid.specs.declared.cell.Cell.{Cell}
 use Rattle.fux_grid.specs.declared.exercise.Place.{Place}
 use Rattle.fux_grid.specs.Exercises.{bar_of, slot_of}
 use Rattle.chain_sums.specs.declared.menu.Menu.{Menu}
@@ -8,21 +12,38 @@ use Rattle.chain_sums.specs.declared.tables.Tables.{Tables}
 use Rattle.chain_sums.specs.declared.tables.TableFault.{TableFault}
 use Rattle.chain_sums.specs.declared.tables.TableFault.TheVariants.{TooWide, Memory}
 use Rattle.chain_sums.specs.Chains.{Chains, IsLeast}
-use Rattle.chain_sums.specs.Menus.{IsMenuOf, IsPacked}
+use Rattle.chain_sums.specs.Menus.{IsMenuOf, IsPacked, columns_of}
 use Rattle.chain_sums.specs.Rows.{AllAtMost, IsAtMost, IsRow}
 
 -- a row has the least sums of a place, beside the menu of the place
 pub record IsRowAt (c : Chains) (i : ℕ) (menus : List Menu) (row : Row) : Type 0 where
   pub named : row.menu < length menus
   pub menu : (d : Menu) → IsMenuOf (c.menu i) (slice_index_or menus row.menu d)
-  pub packed : (d : Menu) → IsPacked c.voices (slice_index_or menus row.menu d)
   pub sums : IsRow c i row.sums.items
 
 -- the rows are those of the last places, that of the last place first
 pub record AreRows (c : Chains) (menus : List Menu) (rows : List Row) : Type 0 where
   pub few : length rows ≤ c.places
+  pub packed : All (IsPacked c.voices) menus
   pub at : (j : ℕ) (d : Row) → j < length rows → IsRowAt c (c.places - 1 - j) menus (slice_index_or rows j d)
   pub small : (j : ℕ) (d : Row) → j < length rows → AllAtMost (j * 2 ^ 53) (slice_index_or rows j d).sums.items
+
+-- menus keep their numbers among more of them
+pub record KeepNumbers (menus more : List Menu) : Type 0 where
+  pub longer : length menus ≤ length more
+  pub same : (k : ℕ) (d : Menu) → k < length menus → slice_index_or more k d ≡ slice_index_or menus k d
+
+-- packed menus, with another one or without it, have the columns of that one under a number
+pub record HaveColumnsAt (voices : ℕ) (menus more : List Menu) (menu : Menu) (number : ℕ) : Type 0 where
+  pub keep : KeepNumbers menus more
+  pub packed : All (IsPacked voices) more
+  pub within : number < length more
+  pub columns : (d : Menu) → IsMenuOf (columns_of menu) (slice_index_or more number d)
+
+-- so they do, where each of them was packed before
+abbrev pub IsNumberFor : List Menu → List Menu → Menu → ℕ → Type 0
+IsNumberFor menus more menu number =
+    (voices : ℕ) → All (IsPacked voices) menus → IsPacked voices menu → HaveColumnsAt voices menus more menu number
 
 -- the tables have a row for each place, and the least sum over all chains
 pub record AreTablesOf (c : Chains) (t : Tables) : Type 0 where
@@ -30,6 +51,20 @@ pub record AreTablesOf (c : Chains) (t : Tables) : Type 0 where
   pub rows : AreRows c t.menus.items t.rows.items
   pub start : IsLeast c 0 None t.start
   pub small_start : IsAtMost (c.places * 2 ^ 53) t.start
+
+-- whatever chains tables are of: this is the least sum behind a column of a place's menu
+abbrev pub IsRestBehind : Tables → ℕ → List Cell → Option ℕ → Type 0
+IsRestBehind t i d rest = (c : Chains) → AreTablesOf c t → i < c.places → Contains (c.menu i) d → IsLeast c (suc i) (Some d) rest
+
+-- this is the least sum behind the column that has a number there
+abbrev pub IsRestAt : Tables → ℕ → ℕ → Option ℕ → Type 0
+IsRestAt t i k rest =
+    (c : Chains) → AreTablesOf c t → i < c.places → k < length (c.menu i) → IsLeast c (suc i) (Some (slice_index_or (c.menu i) k [])) rest
+
+-- this column has the number there
+abbrev pub IsColumnAt : Tables → ℕ → ℕ → Option (Bor (ArrayVec Cell)) → Type 0
+IsColumnAt t i k found =
+    (c : Chains) → AreTablesOf c t → i < c.places → k < length (c.menu i) → IsSomeAnd found (λ column. column.now.items ≡ slice_index_or (c.menu i) k [])
 
 -- no menu is too wide
 abbrev pub AreNarrow : Chains → Type 0

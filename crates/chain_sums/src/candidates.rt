@@ -1,13 +1,13 @@
 //! The columns of a menu by what they cost at least with the least sum behind them, so that few of them are tried.
 
-ghost use Rattle.std.specs.Prelude.{◌≡◌, ◌≤◌, ◌<◌, ◌+◌, ◌^◌, ℕ, List, Option, length, IfOk, IfSome, IsSomeAnd};
+ghost use Rattle.std.specs.Prelude.{◌≡◌, ◌≤◌, ◌<◌, ◌^◌, length, IfOk, IfSome, IsSomeAnd};
 ghost use Rattle.std.specs.Bool.{OnTrue};
 ghost use Rattle.std.specs.List.{Contains};
-ghost use Rattle.fux_grid.specs.declared.cell.Cell.{Cell as ACell};
-ghost use Rattle.chain_sums.specs.Candidates.{AreAllCandidates, GoByBounds};
+ghost use Rattle.chain_sums.specs.Candidates.{AreAllCandidates, GoByBounds, ReachesBound};
 ghost use Rattle.chain_sums.specs.Chains.{IsKnown, IsLeast, given};
+ghost use Rattle.chain_sums.specs.Fresh.{AllFollowAll};
 ghost use Rattle.chain_sums.specs.Menus.{IsMenuOf};
-ghost use Rattle.chain_sums.specs.Rows.{AllAtMost, IsAtMost, IsRow, IsSumOf};
+ghost use Rattle.chain_sums.specs.Rows.{AllAtMost, IsAtMost, IsOneCostAboveRow, IsRow};
 
 use crate::least::{lesser, plus, sum_from};
 use crate::links::Links;
@@ -40,8 +40,7 @@ fn candidate_of<L: Links>(
     requires small { IsAtMost (2 ^ 62) rest }
     ensures number { IfSome result (λ e. e.number ≡ number) }
     ensures known { IfSome result (λ e. IsKnown (L.own links.now i next.now.items) e.own) }
-    ensures low { (before : Option (List ACell)) (x : ℕ)
-        → IsSumOf (L.chains links.now) i before next.now.items rest x → IsSomeAnd result (λ e. e.bound ≤ x) }
+    ensures low { ReachesBound (L.chains links.now) i next.now.items rest result }
 {
     let own = links.own_cost(i, next)?;
     let bound = plus(Some(own), rest)?;
@@ -103,7 +102,7 @@ fn is_reached(least: Option<u64>, bound: u64) -> bool
 }
 
 /// The least sum over the chains that begin at a place, behind a column or behind none: the candidates are tried until no
-/// later one can have a lesser sum.
+/// later one can have a lesser sum. Whether each follows isn't asked where it is known that each follows every column.
 pub(crate) fn least_of_candidates<L: Links>(
     links: &L,
     i: usize,
@@ -111,6 +110,7 @@ pub(crate) fn least_of_candidates<L: Links>(
     menu: &Menu,
     row: &[Option<u64>],
     candidates: &[Candidate],
+    always: bool,
 ) -> Option<u64>
     requires place { i < (L.chains links.now).places }
     requires menu { IsMenuOf ((L.chains links.now).menu i) menu.now }
@@ -118,8 +118,9 @@ pub(crate) fn least_of_candidates<L: Links>(
     requires small { AllAtMost (2 ^ 62) row.now }
     requires candidates { AreAllCandidates (L.chains links.now) (L.own links.now i) i row.now candidates.now }
     requires order { GoByBounds candidates.now }
+    requires always { OnTrue always (AllFollowAll ((L.chains links.now).menu i)) }
     ensures least { IsLeast (L.chains links.now) i (given prev.entry) result }
-    ensures bound { (most : ℕ) → AllAtMost most row.now → IsAtMost (most + 2 ^ 53) result }
+    ensures bound { IsOneCostAboveRow row.now result }
 {
     let mut least = None;
     for candidate in candidates {
@@ -127,7 +128,8 @@ pub(crate) fn least_of_candidates<L: Links>(
             return least;
         }
         let k = candidate.number;
-        let sum = sum_from(links, i, prev, menu.column(k), candidate.own, row[k]);
+        let column = menu.column(k);
+        let sum = sum_from(links, i, prev, column, candidate.own, always, row[k]);
         least = lesser(least, sum);
     }
     least

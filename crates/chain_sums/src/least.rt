@@ -1,12 +1,14 @@
 //! Least sums over chains, behind one column from the row of the place that comes next.
 
-ghost use Rattle.std.specs.Prelude.{◌≡◌, ◌≤◌, ◌<◌, ◌+◌, ◌^◌, ◌↔◌, ℕ, length, IfSome};
+ghost use Rattle.std.specs.Prelude.{◌≡◌, ◌<◌, ◌^◌, ◌↔◌, ℕ, IsTrue};
+ghost use Rattle.std.specs.Bool.{OnTrue};
 ghost use Rattle.std.specs.List.{Contains};
-ghost use Rattle.chain_sums.specs.Chains.{IsKnown, IsLeast, given};
+ghost use Rattle.fux_grid.specs.Columns.{ColumnFollows};
+ghost use Rattle.chain_sums.specs.Chains.{IsKnown, IsLeast, cells_of, given};
 ghost use Rattle.chain_sums.specs.Chains as chains;
+ghost use Rattle.chain_sums.specs.Fresh.{FollowsAll};
 ghost use Rattle.chain_sums.specs.Menus.{IsMenuOf};
-ghost use Rattle.chain_sums.specs.Rows.{AllAtMost, IsAtMost, IsRow, IsSumOf, IsSumWithin};
-ghost use Rattle.chain_sums.specs.Rows as rows;
+ghost use Rattle.chain_sums.specs.Rows.{AllAtMost, IsAtMost, IsOneCostAbove, IsOneCostAboveRow, IsRow, IsSumOf};
 ghost use Rattle.chain_sums.specs.Sums as sums;
 
 use crate::links::Links;
@@ -30,7 +32,7 @@ pub(crate) fn plus(a: Option<u64>, b: Option<u64>) -> Option<u64>
     requires first { IsAtMost (2 ^ 53) a }
     requires second { IsAtMost (2 ^ 62) b }
     ensures value { result ≡ chains.plus a b }
-    ensures bound { (most : ℕ) → IsAtMost most b → IsAtMost (most + 2 ^ 53) result }
+    ensures bound { IsOneCostAbove b result }
 {
     match (a, b) {
         (Some(x), Some(y)) => Some(x + y),
@@ -52,7 +54,7 @@ pub(crate) fn sum_of<L: Links>(
     requires small { IsAtMost (2 ^ 62) rest }
     ensures value { (x : ℕ) → (result ≡ Some x)
         ↔ IsSumOf (L.chains links.now) i (given prev.entry) next.now.items rest x }
-    ensures bound { (most : ℕ) → IsAtMost most rest → IsAtMost (most + 2 ^ 53) result }
+    ensures bound { IsOneCostAbove rest result }
 {
     if !follows(prev, next) {
         return None;
@@ -61,24 +63,34 @@ pub(crate) fn sum_of<L: Links>(
     plus(own, rest)
 }
 
-/// The same, where it is known what the column costs at least.
+/// Whether a column follows another, or may come first. One that follows every column isn't looked at.
+fn may_follow(always: bool, prev: Option<&Column>, column: &Column) -> bool
+    requires { OnTrue always (FollowsAll column.now.items) }
+    ensures { IsTrue result ↔ ColumnFollows (cells_of (given prev.entry)) column.now.items }
+{
+    always || follows(prev, column)
+}
+
+/// The same as `sum_of`, where it is known what the column costs at least, and maybe that it follows every column.
 pub(crate) fn sum_from<L: Links>(
     links: &L,
     i: usize,
     prev: Option<&Column>,
     column: &Column,
     known: u64,
+    always: bool,
     rest: Option<u64>,
 ) -> Option<u64>
     requires place { i < (L.chains links.now).places }
     requires choice { Contains ((L.chains links.now).menu i) column.now.items }
     requires known { IsKnown (L.own links.now i column.now.items) known }
+    requires always { OnTrue always (FollowsAll column.now.items) }
     requires small { IsAtMost (2 ^ 62) rest }
     ensures value { (x : ℕ) → (result ≡ Some x)
         ↔ IsSumOf (L.chains links.now) i (given prev.entry) column.now.items rest x }
-    ensures bound { (most : ℕ) → IsAtMost most rest → IsAtMost (most + 2 ^ 53) result }
+    ensures bound { IsOneCostAbove rest result }
 {
-    if !follows(prev, column) {
+    if !may_follow(always, prev, column) {
         return None;
     }
     let own = links.cost_from(i, prev, column, known);
@@ -99,7 +111,7 @@ pub(crate) fn least_behind<L: Links>(
     requires row { IsRow (L.chains links.now) i row.now }
     requires small { AllAtMost (2 ^ 62) row.now }
     ensures least { IsLeast (L.chains links.now) i (given prev.entry) result }
-    ensures bound { (most : ℕ) → AllAtMost most row.now → IsAtMost (most + 2 ^ 53) result }
+    ensures bound { IsOneCostAboveRow row.now result }
 {
     let mut least = None;
     for k in 0..menu.len() {

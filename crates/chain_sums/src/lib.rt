@@ -2,6 +2,7 @@
 #![tactic(auto)]
 
 mod candidates;
+mod fresh;
 mod least;
 mod links;
 mod menu;

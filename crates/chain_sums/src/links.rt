@@ -1,11 +1,11 @@
 //! What chains are made of.
 
-ghost use Rattle.std.specs.Prelude.{◌≡◌, ◌≤◌, ◌<◌, ◌^◌, ℕ, length, IfOk, IfSome, IsSomeAnd, List, Option};
+ghost use Rattle.std.specs.Prelude.{◌≡◌, ◌≤◌, ◌<◌, ◌^◌, ℕ, length, IfOk, IfSome, List, Option};
 ghost use Rattle.std.specs.List.{Contains};
 ghost use Rattle.fux_grid.specs.declared.cell.Cell.{Cell as ACell};
 ghost use Rattle.fux_grid.specs.Grid.{items_of};
 ghost use Rattle.fux_grid.specs.Menus.{IsAscending};
-ghost use Rattle.chain_sums.specs.Chains.{AreFull, Chains, IsKnown, given};
+ghost use Rattle.chain_sums.specs.Chains.{AreFull, Chains, IsKnown, IsLeastCost, given};
 
 use fux_grid::{Column, MenuFault};
 use std::alloc::Global;
@@ -53,8 +53,7 @@ pub trait Links {
         requires place { i < (chains self.now).places }
         requires choice { Contains ((chains self.now).menu i) next.now.items }
         ensures value { result ≡ own self.now i next.now.items }
-        ensures least { (before : Option (List ACell)) (x : ℕ)
-            → (chains self.now).cost i before next.now.items ≡ Some x → IsSomeAnd result (λ y. y ≤ x) }
+        ensures least { IsLeastCost (chains self.now) i next.now.items result }
         ensures bound { IfSome result (λ cost. cost ≤ 2 ^ 52) };
 
     /// The same as `cost`, where it is known what `next` costs at least: that needn't be found again.

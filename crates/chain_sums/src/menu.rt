@@ -1,12 +1,12 @@
 //! A menu, as the tables keep it.
 
-ghost use Rattle.std.specs.Prelude.{◌≡◌, ◌<◌, ◌≤◌, ℕ, List, [], length, map, slice_index_or, IfOk, IsSomeAnd};
-ghost use Rattle.std.specs.List.{Contains};
+ghost use Rattle.std.specs.Prelude.{◌≡◌, ◌<◌, ◌≤◌, List, [], length, map, slice_index_or, IfOk};
+ghost use Rattle.std.specs.Bool.{OnTrue};
 ghost use Rattle.fux_grid.specs.declared.cell.Cell.{Cell as ACell};
 ghost use Rattle.fux_grid.specs.Grid.{items_of};
 ghost use Rattle.fux_grid.specs.Menus.{IsAscending};
 ghost use Rattle.chain_sums.specs.Chains.{AreFull};
-ghost use Rattle.chain_sums.specs.Menus.{IsMenuOf, IsNumberOf, IsPacked};
+ghost use Rattle.chain_sums.specs.Menus.{FindsColumn, HaveSameColumns, IsMenuOf, IsPacked, columns_of};
 ghost use Rattle.chain_sums.specs.Packed as specs;
 ghost use Rattle.chain_sums.specs.Still.{held};
 
@@ -57,31 +57,44 @@ impl Menu {
     /// The column of a number.
     pub(crate) fn column(&self, k: usize) -> &Column
         requires { k < length self.now.columns.items }
-        ensures { result.now.items ≡ slice_index_or (items_of self.now.columns.items) k [] }
+        ensures { result.now.items ≡ slice_index_or (columns_of self.now) k [] }
     {
         &self.columns[k]
     }
 
-    /// Where a column of the menu stands in it; none only for another column.
-    pub(crate) fn place_of(&self, column: &Column) -> Option<usize>
-        ensures { (voices : ℕ) → IsPacked voices self.now → Contains (items_of self.now.columns.items) column.now.items
-            → IsSomeAnd result (IsNumberOf self.now column.now.items) }
+    /// Whether another menu has the same columns: their numbers tell.
+    pub(crate) fn has_columns_of(&self, other: &Menu) -> bool
+        ensures { OnTrue result (HaveSameColumns self.now other.now) }
     {
-        match self.numbers.binary_search(&packed(column.as_slice())) {
+        self.numbers.as_slice() == other.numbers.as_slice()
+    }
+
+    /// Where the column of a number stands; none only where no column has it. One place where it may well stand is looked at
+    /// first.
+    fn place_of_number(&self, number: u64, likely: usize) -> Option<usize>
+        ensures { (d : List ACell) → specs.packed d ≡ number → FindsColumn self.now d result }
+    {
+        if likely < self.numbers.len() && self.numbers[likely] == number {
+            return Some(likely);
+        }
+        match self.numbers.binary_search(&number) {
             Ok(k) => Some(k),
             Err(_) => None,
         }
     }
 
-    /// Where the column stands that goes on with all that a column sounds; none only where the menu hasn't got it.
-    pub(crate) fn place_of_held(&self, column: &Column) -> Option<usize>
-        ensures { (voices : ℕ) → IsPacked voices self.now
-            → Contains (items_of self.now.columns.items) (map held column.now.items)
-            → IsSomeAnd result (IsNumberOf self.now (map held column.now.items)) }
+    /// Where a column of the menu stands in it; none only for another column.
+    pub(crate) fn place_of(&self, column: &Column) -> Option<usize>
+        ensures { FindsColumn self.now column.now.items result }
     {
-        match self.numbers.binary_search(&packed_held(column.as_slice())) {
-            Ok(k) => Some(k),
-            Err(_) => None,
-        }
+        self.place_of_number(packed(column.as_slice()), 0)
+    }
+
+    /// Where the column stands that goes on with all that a column sounds, at the likely place or at another; none only where the
+    /// menu hasn't got it.
+    pub(crate) fn place_of_held(&self, column: &Column, likely: usize) -> Option<usize>
+        ensures { FindsColumn self.now (map held column.now.items) result }
+    {
+        self.place_of_number(packed_held(column.as_slice()), likely)
     }
 }

@@ -1,11 +1,10 @@
 //! Menus whose columns hold all they sound: at most one column of such a menu follows another, and it is found by its number.
 
-ghost use Rattle.std.specs.Prelude.{◌≡◌, ◌≤◌, ◌<◌, ◌+◌, ◌^◌, ℕ, Some, length};
+ghost use Rattle.std.specs.Prelude.{◌≡◌, ◌<◌, ◌^◌, Some, length};
 ghost use Rattle.std.specs.Bool.{OnTrue};
-ghost use Rattle.fux_grid.specs.Grid.{items_of};
 ghost use Rattle.chain_sums.specs.Chains.{IsLeast};
-ghost use Rattle.chain_sums.specs.Menus.{IsMenuOf, IsPacked};
-ghost use Rattle.chain_sums.specs.Rows.{AllAtMost, IsAtMost, IsRow};
+ghost use Rattle.chain_sums.specs.Menus.{IsMenuOf, IsPacked, columns_of};
+ghost use Rattle.chain_sums.specs.Rows.{AllAtMost, IsOneCostAboveRow, IsRow};
 ghost use Rattle.chain_sums.specs.Still as specs;
 ghost use Rattle.chain_sums.specs.Still.{IsStill, all_hold};
 
@@ -38,7 +37,7 @@ fn all_cells_hold(column: &[Cell]) -> bool
 
 /// Whether each column of a menu holds all it sounds, and sounds in each voice.
 pub(crate) fn is_still(menu: &Menu) -> bool
-    ensures { OnTrue result (IsStill (items_of menu.now.columns.items)) }
+    ensures { OnTrue result (IsStill (columns_of menu.now)) }
 {
     for k in 0..menu.len() {
         if !all_cells_hold(menu.column(k).as_slice()) {
@@ -49,10 +48,12 @@ pub(crate) fn is_still(menu: &Menu) -> bool
 }
 
 /// The least sum over the chains that begin at a place, behind a column, where each column of the place's menu holds all it sounds.
+/// The one that follows is looked for first under a number that is likely to be its own, as that of `prev` in the menu before.
 pub(crate) fn least_of_held<L: Links>(
     links: &L,
     i: usize,
     prev: &Column,
+    likely: usize,
     menu: &Menu,
     row: &[Option<u64>],
 ) -> Option<u64>
@@ -64,9 +65,9 @@ pub(crate) fn least_of_held<L: Links>(
     requires row { IsRow (L.chains links.now) i row.now }
     requires small { AllAtMost (2 ^ 62) row.now }
     ensures least { IsLeast (L.chains links.now) i (Some prev.now.items) result }
-    ensures bound { (most : ℕ) → AllAtMost most row.now → IsAtMost (most + 2 ^ 53) result }
+    ensures bound { IsOneCostAboveRow row.now result }
 {
-    let k = menu.place_of_held(prev)?;
+    let k = menu.place_of_held(prev, likely)?;
     if k >= menu.len() {
         return None;
     }

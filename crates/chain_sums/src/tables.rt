@@ -1,16 +1,17 @@
 //! Tables of least sums over chains.
 
-ghost use Rattle.std.specs.Prelude.{◌≡◌, ◌<◌, ◌≤◌, ◌+◌, ◌-◌, ℕ, List, [], ◌*◌, ◌^◌, Some, length, suc, replicate, IfOk, IfErr, OnOk, OnErr, IsSomeAnd, slice_index_or};
+ghost use Rattle.std.specs.Prelude.{◌≡◌, ◌<◌, ◌≤◌, ◌+◌, ◌-◌, ℕ, List, [], ◌*◌, ◌^◌, Some, length, suc, replicate, IfOk, IfErr, IfSome, OnOk, OnErr, IsSomeAnd, slice_index_or};
 ghost use Rattle.std.specs.List.{Contains};
 ghost use Rattle.fux_grid.specs.Exercises.{bar_of, slot_of};
 ghost use Rattle.chain_sums.specs.Candidates.{AreAllCandidates, GoByBounds};
 ghost use Rattle.chain_sums.specs.Chains.{AreFull, Chains, IsLeast};
-ghost use Rattle.chain_sums.specs.Menus.{IsMenuOf, IsPacked};
-ghost use Rattle.chain_sums.specs.Rows.{AllAtMost, IsAtMost, IsRow};
+ghost use Rattle.chain_sums.specs.Menus.{HaveSameColumns, IsMenuOf, IsPacked};
+ghost use Rattle.chain_sums.specs.Rows.{AllAtMost, AreOneCostAbove, IsAtMost, IsRow};
 ghost use Rattle.chain_sums.specs.Still.{IsStill};
-ghost use Rattle.chain_sums.specs.Tables.{AreNarrow, AreRows, AreTablesOf, TellsWidth};
+ghost use Rattle.chain_sums.specs.Tables.{AreNarrow, AreRows, AreTablesOf, IsColumnAt, IsNumberFor, IsRestAt, IsRestBehind, TellsWidth};
 
 use crate::candidates::{Candidate, candidates, least_of_candidates};
+use crate::fresh::are_fresh;
 use crate::least::least_behind;
 use crate::links::Links;
 use crate::menu::Menu;
@@ -94,14 +95,14 @@ fn sums_in_order<L: Links>(
     requires candidates { AreAllCandidates (L.chains links.now) (L.own links.now (i + 1)) (i + 1) sums.now order.now }
     requires order { GoByBounds order.now }
     ensures row { IfOk result (λ row. IsRow (L.chains links.now) i row.items) }
-    ensures small { IfOk result (λ row. (most : ℕ)
-        → AllAtMost most sums.now → AllAtMost (most + 2 ^ 53) row.items) }
+    ensures small { IfOk result (λ row. AreOneCostAbove sums.now row.items) }
 {
     let width = menu.len();
+    let always = are_fresh(next);
     let mut row = Vec::with_capacity(alloc, width)?;
     for k in 0..width {
         let prev = menu.column(k);
-        let least = least_of_candidates(links, i + 1, Some(prev), next, sums, order);
+        let least = least_of_candidates(links, i + 1, Some(prev), next, sums, order, always);
         row.push_reserved(least);
     }
     Ok(row)
@@ -126,14 +127,13 @@ fn sums_held<L: Links>(
     requires row { IsRow (L.chains links.now) (i + 1) sums.now }
     requires small { AllAtMost (2 ^ 62) sums.now }
     ensures row { IfOk result (λ row. IsRow (L.chains links.now) i row.items) }
-    ensures small { IfOk result (λ row. (most : ℕ)
-        → AllAtMost most sums.now → AllAtMost (most + 2 ^ 53) row.items) }
+    ensures small { IfOk result (λ row. AreOneCostAbove sums.now row.items) }
 {
     let width = menu.len();
     let mut row = Vec::with_capacity(alloc, width)?;
     for k in 0..width {
         let prev = menu.column(k);
-        let least = least_of_held(links, i + 1, prev, next, sums);
+        let least = least_of_held(links, i + 1, prev, k, next, sums);
         row.push_reserved(least);
     }
     Ok(row)
@@ -157,8 +157,7 @@ fn sums_before<L: Links>(
     requires row { IsRow (L.chains links.now) (i + 1) sums.now }
     requires small { AllAtMost (2 ^ 62) sums.now }
     ensures row { IfOk result (λ row. IsRow (L.chains links.now) i row.items) }
-    ensures small { IfOk result (λ row. (most : ℕ)
-        → AllAtMost most sums.now → AllAtMost (most + 2 ^ 53) row.items) }
+    ensures small { IfOk result (λ row. AreOneCostAbove sums.now row.items) }
 {
     if is_still(next) {
         return sums_held(alloc, links, i, menu, next, sums);
@@ -198,6 +197,31 @@ fn sums_of<L: Links>(
     sums_before(alloc, links, i, menu, &menus[next.menu], &next.sums)
 }
 
+/// The number of a menu that has the same columns as this one.
+fn number_of_same(menus: &[Menu], menu: &Menu) -> Option<usize>
+    ensures within { IfSome result (λ number. number < length menus.now) }
+    ensures same { IfSome result (λ number. HaveSameColumns (slice_index_or menus.now number menu.now) menu.now) }
+{
+    for number in 0..menus.len() {
+        if menus[number].has_columns_of(menu) {
+            return Some(number);
+        }
+    }
+    None
+}
+
+/// The number of a menu's columns. A menu is put behind the others only where none of them has the same ones.
+fn number_of(menus: &mut Vec<Menu>, menu: Menu) -> Result<usize, Memory>
+    ensures { IfOk result (IsNumberFor menus.old.items menus.new.items menu) }
+{
+    if let Some(number) = number_of_same(menus, &menu) {
+        return Ok(number);
+    }
+    let number = menus.len();
+    menus.push(menu)?;
+    Ok(number)
+}
+
 impl Tables {
     /// Adds the row of place `i`, the last one that has none yet.
     fn add_row<L: Links>(&mut self, alloc: Global, links: &L, i: usize) -> Result<(), Memory>
@@ -212,8 +236,7 @@ impl Tables {
         };
         let menu = Menu::new(alloc, links.voices(), columns)?;
         let sums = sums_of(alloc, links, i, &menu, &self.menus, &self.rows)?;
-        let number = self.menus.len();
-        self.menus.push(menu)?;
+        let number = number_of(&mut self.menus, menu)?;
         self.rows.push(Row { menu: number, sums })?;
         Ok(())
     }
@@ -258,8 +281,7 @@ impl Tables {
     /// The least sum over the chains that begin behind a column of a place's menu and go on to the last place. None exactly
     /// where no chain does.
     pub fn rest(&self, i: usize, column: &Column) -> Option<u64>
-        ensures least { (c : Chains) → AreTablesOf c self.now → i < c.places → Contains (c.menu i) column.now.items
-            → IsLeast c (suc i) (Some column.now.items) result }
+        ensures least { IsRestBehind self.now i column.now.items result }
         ensures small { (c : Chains) → AreTablesOf c self.now → i < c.places → IsAtMost (c.places * 2 ^ 53) result }
     {
         if i >= self.rows.len() {
@@ -279,8 +301,7 @@ impl Tables {
     /// The same behind the column that has a number in the place's menu: nothing is searched.
     #[inline]
     pub fn rest_of_number(&self, i: usize, k: usize) -> Option<u64>
-        ensures least { (c : Chains) → AreTablesOf c self.now → i < c.places → k < length (c.menu i)
-            → IsLeast c (suc i) (Some (slice_index_or (c.menu i) k [])) result }
+        ensures least { IsRestAt self.now i k result }
         ensures small { (c : Chains) → AreTablesOf c self.now → i < c.places → IsAtMost (c.places * 2 ^ 53) result }
     {
         if i >= self.rows.len() {
@@ -316,8 +337,7 @@ impl Tables {
 
     /// The column of a number in the menu of a place.
     pub fn column(&self, i: usize, k: usize) -> Option<&Column>
-        ensures { (c : Chains) → AreTablesOf c self.now → i < c.places → k < length (c.menu i)
-            → IsSomeAnd result (λ column. column.now.items ≡ slice_index_or (c.menu i) k []) }
+        ensures { IsColumnAt self.now i k result }
     {
         let menu = self.menu_at(i)?;
         if k < menu.len() {

@@ -16,7 +16,7 @@ loop-candidate-preserved g c =
     let within : here.number < length (chains.menu c.args.i) = c.requires.candidates.within c.loop-candidate.candidate-index none c.loop-candidate-test.true in
     let sum : (x : ℕ) → (c.sum_from-sum.result ≡ Some x) ↔ IsSumAt chains c.args.i (given c.args.prev) c.args.row.now here.number x =
     subst (λ (d : List Cell). (x : ℕ) → (c.sum_from-sum.result ≡ Some x) ↔ IsSumOf chains c.args.i (given c.args.prev) d (get_or c.args.row.now here.number None) x)
-    (c.column.ensures ∙ ap (λ xs. get_or xs here.number []) c.requires.menu) c.sum_from-sum.ensures.value in
+    (c.column-column.ensures ∙ ap (λ xs. get_or xs here.number []) c.requires.menu) c.sum_from-sum.ensures.value in
     record {
       least = rw c.lesser-least.ensures.value
           (tried_more chains c.args.i (given c.args.prev) c.args.row.now c.args.candidates.now c.loop-candidate.candidate-index here c.loop-candidate.least c.sum_from-sum.result
