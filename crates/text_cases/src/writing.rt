@@ -90,17 +90,20 @@ const EXERCISE: &str =
 /// The lines of the ties in the two free voices.
 const TIES: &str = "sing 0 A3:8 | A3:8 | A3:8\nsing 2 r:4 D5:4 | _:4 D5:4 | _:8\n";
 
-/// The text of an exercise, with a setting where one is given.
-fn written(alloc: Global, ex: &Exercise, score: Option<&Score>) -> Result<String, Fail> {
+/// The text of an exercise without a setting.
+fn written(alloc: Global, ex: &Exercise) -> Result<String, Fail> {
     if !ex.is_valid() {
         return Err("no valid exercise".into());
     }
-    if let Some(score) = score
-        && (score.voices() != ex.voices || score.len() != 8 * usize::from(ex.bars))
-    {
-        return Err("a setting of another size".into());
+    Ok(write(alloc, ex, None)?)
+}
+
+/// The text of an exercise with this setting.
+fn written_with(alloc: Global, ex: &Exercise, score: &Score) -> Result<String, Fail> {
+    if !ex.is_valid() || ex.voices != score.voices() || score.len() != 8 * usize::from(ex.bars) {
+        return Err("another size".into());
     }
-    Ok(write(alloc, ex, score)?)
+    Ok(write(alloc, ex, Some(score))?)
 }
 
 /// The line of a voice, as it is written.
@@ -122,23 +125,27 @@ fn exercise_of(alloc: Global, text: &str) -> Result<Exercise, Fail> {
 #[test]
 fn writes_each_kind_of_line(rt: HostRuntime) -> Result<(), Fail> {
     let ex = trio(rt.alloc())?;
-    let text = written(rt.alloc(), &ex, None)?;
+    let text = written(rt.alloc(), &ex)?;
     agree(&rt, "without a setting", text.as_str(), EXERCISE);
     Ok(())
 }
 
 /// The text of the exercise with the ties, and a line of them alone behind it.
 fn text_of_ties(alloc: Global, ex: &Exercise, score: &Score) -> Result<String, Fail> {
-    let mut text = written(alloc, ex, Some(score))?;
+    let mut text = written_with(alloc, ex, score)?;
     text.push_str(line_of(alloc, score, 2)?.as_str())?;
     Ok(text)
 }
 
+fn trio_with_ties(alloc: Global) -> Result<String, Fail> {
+    let ex = trio(alloc)?;
+    let score = ties(alloc)?;
+    text_of_ties(alloc, &ex, &score)
+}
+
 #[test]
 fn writes_settings(rt: HostRuntime) -> Result<(), Fail> {
-    let ex = trio(rt.alloc())?;
-    let score = ties(rt.alloc())?;
-    let text = text_of_ties(rt.alloc(), &ex, &score)?;
+    let text = trio_with_ties(rt.alloc())?;
     let lines = text
         .as_str()
         .strip_prefix(EXERCISE)
@@ -168,7 +175,7 @@ fn columns_sung(alloc: Global, ex: &Exercise, score: &Score) -> Result<usize, Fa
 fn reads_back_what_is_written(rt: HostRuntime) -> Result<(), Fail> {
     let ex = exercise_of(rt.alloc(), READ)?;
     let score = ex.setting.as_ref().ok_or("no setting")?;
-    let again = written(rt.alloc(), &ex, Some(score))?;
+    let again = written_with(rt.alloc(), &ex, score)?;
     agree(&rt, "written again", again.as_str(), READ);
     assert!(rt; columns_sung(rt.alloc(), &ex, score)? == 24);
     Ok(())
