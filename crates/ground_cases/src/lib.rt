@@ -10,3 +10,5 @@ mod menus;
 mod notes;
 #[cfg(test)]
 mod pitches;
+#[cfg(test)]
+mod tables;

@@ -1,7 +1,10 @@
 //! Worked exercises: which are valid, and the menus of two of them.
 
-use case_texts::{exercise_of, pitch_of};
-use fux_grid::{Cell, Column, MenuFault, can_start, is_free, menu, range, width};
+ghost use Rattle.fux_grid.specs.Exercises.{IsValid};
+
+use crate::tables::{compare, number};
+use case_texts::exercise_of;
+use fux_grid::{Cell, Column, Exercise, MenuFault, can_start, is_free, menu, range, width};
 use std::alloc::Global;
 use std::fmt::Write;
 use std::test::Fail;
@@ -27,9 +30,10 @@ range 3 C3 B4";
 
 pub fn is_shared<T: Send + Sync>(_: &T) {}
 
-/// A column, as the names of its pitches behind `+` where they start, and behind `-` where they are held.
-fn shown(alloc: Global, column: &Column) -> Result<String, Fail> {
-    let mut text = String::new(alloc);
+/// Adds a column behind a space, as the names of its pitches behind `+` where they start, and behind `-` where they are
+/// held.
+fn add_column(text: &mut String, column: &Column) -> Result<(), Fail> {
+    text.push(' ')?;
     for cell in column.as_slice() {
         match cell {
             Cell::Start(pitch) => write!(text, "+{pitch}")?,
@@ -37,50 +41,90 @@ fn shown(alloc: Global, column: &Column) -> Result<String, Fail> {
             Cell::Rest => text.push('r')?,
         }
     }
+    Ok(())
+}
+
+/// The columns of a menu.
+fn shown(alloc: Global, columns: &[Column]) -> Result<String, Fail> {
+    let mut text = String::new(alloc);
+    for column in columns {
+        add_column(&mut text, column)?;
+    }
     Ok(text)
 }
 
-/// The menus of the small exercise, from the column of this number on. In the last two bars there is C#5 too.
-const MENUS: [(usize, &str); 4] = [
-    (0, "+D4+A4 +D4+Bb4 +D4+B4 +D4+C5 +D4+D5"),
-    (1, "-D4-A4 -D4-Bb4 -D4-B4 -D4-C5 -D4-D5"),
-    (7, "-D4-A4 -D4-Bb4 -D4-B4 -D4-C5 -D4-D5"),
-    (8, "+E4+A4 +E4+Bb4 +E4+B4 +E4+C5 +E4+C#5 +E4+D5"),
-];
+/// Numbers of columns of the small exercise, and their menus, each column behind a space. In the last two bars there is C#5
+/// too.
+const MENUS: &str = "\
+column 0 =  +D4+A4 +D4+Bb4 +D4+B4 +D4+C5 +D4+D5
+column 1 =  -D4-A4 -D4-Bb4 -D4-B4 -D4-C5 -D4-D5
+column 7 =  -D4-A4 -D4-Bb4 -D4-B4 -D4-C5 -D4-D5
+column 8 =  +E4+A4 +E4+Bb4 +E4+B4 +E4+C5 +E4+C#5 +E4+D5";
+
+/// The menu of a column.
+fn menu_text(alloc: Global, ex: &Exercise, i: usize) -> Result<String, Fail>
+    requires { IsValid ex.now }
+{
+    if i >= 8 * usize::from(ex.bars) {
+        return Err("no such column".into());
+    }
+    let columns = menu(alloc, ex, i)?;
+    shown(alloc, &columns)
+}
+
+fn menu_at(alloc: Global, case: &str) -> Result<String, Fail> {
+    let i = usize::from(number(case, 1)?);
+    let ex = exercise_of(alloc, SMALL, 2)?;
+    is_shared(&ex);
+    menu_text(alloc, &ex, i)
+}
 
 #[test]
 fn lists_the_menus_of_a_small_exercise(rt: HostRuntime) -> Result<(), Fail> {
-    let ex = exercise_of(rt.alloc(), SMALL, 2)?;
-    is_shared(&ex);
-    for (i, wanted) in MENUS {
-        let columns = menu(rt.alloc(), &ex, i)?;
-        let mut wanted = wanted.split(' ');
-        for column in &columns {
-            let found = shown(rt.alloc(), column)?;
-            assert_eq!(rt; Some(found.as_str()), wanted.next(), "at column {i}");
-        }
-        assert_eq!(rt; wanted.next(), None, "at column {i}");
+    compare(&rt, rt.alloc(), MENUS, menu_at)
+}
+
+/// How many columns a menu has, with the first and the last of them.
+fn ends(alloc: Global, columns: &[Column]) -> Result<String, Fail> {
+    let mut text = format!(in alloc; "{} columns", columns.len())?;
+    if !columns.is_empty() {
+        add_column(&mut text, &columns[0])?;
+        add_column(&mut text, &columns[columns.len() - 1])?;
     }
-    Ok(())
+    Ok(text)
+}
+
+/// What is said of the first menu of an exercise.
+fn first_menu(alloc: Global, ex: &Exercise) -> Result<String, Fail>
+    requires { IsValid ex.now }
+{
+    match menu(alloc, ex, 0) {
+        Ok(columns) => ends(alloc, &columns),
+        Err(MenuFault::TooWide { count }) => Ok(format!(in alloc; "too wide, {count}")?),
+        Err(MenuFault::Memory) => Ok(String::from_str(alloc, "out of memory")?),
+    }
+}
+
+/// How wide the first menu of an exercise would be, and what is said of it.
+const WIDTHS: &str = "\
+whole = width 8192, 8192 columns +C1+C3+C4+C3 +B4+B4+C4+B4
+wider = width 8448, too wide, 8448
+sharp = width 0, 0 columns";
+
+fn width_of(alloc: Global, case: &str) -> Result<String, Fail> {
+    let text = match case {
+        "whole" => WIDE,
+        "wider" => WIDER,
+        _ => SHARP,
+    };
+    let ex = exercise_of(alloc, text, 4)?;
+    let menu = first_menu(alloc, &ex)?;
+    Ok(format!(in alloc; "width {}, {menu}", width(&ex, 0))?)
 }
 
 #[test]
 fn refuses_a_menu_that_is_too_wide(rt: HostRuntime) -> Result<(), Fail> {
-    let ex = exercise_of(rt.alloc(), WIDE, 4)?;
-    assert_eq!(rt; width(&ex, 0), 8192);
-    let columns = menu(rt.alloc(), &ex, 0)?;
-    assert_eq!(rt; columns.len(), 8192);
-    let first = shown(rt.alloc(), &columns[0])?;
-    assert_eq!(rt; first.as_str(), "+C1+C3+C4+C3");
-    let last = shown(rt.alloc(), &columns[8191])?;
-    assert_eq!(rt; last.as_str(), "+B4+B4+C4+B4");
-
-    let wider = exercise_of(rt.alloc(), WIDER, 4)?;
-    match menu(rt.alloc(), &wider, 0) {
-        Ok(_) => panic!(rt; "there is no such menu"),
-        Err(fault) => assert_eq!(rt; fault, MenuFault::TooWide { count: 8448 }),
-    }
-    Ok(())
+    compare(&rt, rt.alloc(), WIDTHS, width_of)
 }
 
 /// The wide exercise in second species, and with one key alone, D#3, which no gamut has.
@@ -96,26 +140,40 @@ range 0 D#3 D#3
 range 1 D#3 D#3
 range 3 D#3 D#3";
 
+/// Voices of that exercise and columns, and whether all voices from that one on can start there.
+const STARTS: &str = "\
+voice 3 at column 0 = true
+voice 3 at column 4 = true
+voice 3 at column 1 = false
+voice 0 at column 0 = true
+voice 0 at column 4 = false
+voice 2 at column 8 = true
+voice 2 at column 9 = false
+voice 2 at column 0 with D#3 = false";
+
+/// Whether they can, where there are such a voice and such a column.
+fn start_at(ex: &Exercise, voice: u8, column: u8) -> bool
+    requires { IsValid ex.now }
+{
+    let i = usize::from(column);
+    voice < ex.voices && i < 8 * usize::from(ex.bars) && can_start(ex, voice, i)
+}
+
+fn starts(alloc: Global, case: &str) -> Result<String, Fail> {
+    let (voice, column) = (number(case, 1)?, number(case, 4)?);
+    let text = if case.ends_with("D#3") { SHARP } else { SECOND };
+    let ex = exercise_of(alloc, text, 4)?;
+    let can = if start_at(&ex, voice, column) {
+        "true"
+    } else {
+        "false"
+    };
+    Ok(String::from_str(alloc, can)?)
+}
+
 #[test]
 fn starts_only_where_all_voices_have_a_cell(rt: HostRuntime) -> Result<(), Fail> {
-    let ex = exercise_of(rt.alloc(), SECOND, 4)?;
-    for (voice, column, starts) in [
-        (3, 0, true),
-        (3, 4, true),
-        (3, 1, false),
-        (0, 0, true),
-        (0, 4, false),
-        (2, 8, true),
-        (2, 9, false),
-    ] {
-        let can = voice < ex.voices && can_start(&ex, voice, column);
-        assert_eq!(rt; can, starts, "voice {voice} at column {column}");
-    }
-    let ex = exercise_of(rt.alloc(), SHARP, 4)?;
-    assert!(rt; ex.voices == 4 && !can_start(&ex, 2, 0));
-    assert_eq!(rt; width(&ex, 0), 0);
-    assert_eq!(rt; menu(rt.alloc(), &ex, 0)?.len(), 0);
-    Ok(())
+    compare(&rt, rt.alloc(), STARTS, starts)
 }
 
 /// Ranges of bars, of which the last one that covers a bar counts.
@@ -125,13 +183,29 @@ range 1 A4 D5
 range 1 A4 C5 2 3
 range 1 B4 C5 2 2";
 
+/// Bars of that exercise, and the range of voice 1 in each.
+const BARS: &str = "\
+bar 1 = from A4 to D5
+bar 2 = from B4 to C5
+bar 3 = from A4 to C5";
+
+fn range_text(alloc: Global, ex: &Exercise, bar: u8) -> Result<String, Fail>
+    requires { IsValid ex.now }
+{
+    if !is_free(ex, 1) {
+        return Err("the cantus".into());
+    }
+    let (low, high) = range(ex, 1, bar);
+    Ok(format!(in alloc; "from {low} to {high}")?)
+}
+
+fn range_in(alloc: Global, case: &str) -> Result<String, Fail> {
+    let bar = number(case, 1)?;
+    let ex = exercise_of(alloc, RANGES, 2)?;
+    range_text(alloc, &ex, bar)
+}
+
 #[test]
 fn finds_the_last_range_that_covers_a_bar(rt: HostRuntime) -> Result<(), Fail> {
-    let ex = exercise_of(rt.alloc(), RANGES, 2)?;
-    assert!(rt; is_free(&ex, 1));
-    for (bar, low, high) in [(1, "A4", "D5"), (2, "B4", "C5"), (3, "A4", "C5")] {
-        let wanted = (pitch_of(low)?, pitch_of(high)?);
-        assert_eq!(rt; range(&ex, 1, bar), wanted, "in bar {bar}");
-    }
-    Ok(())
+    compare(&rt, rt.alloc(), BARS, range_in)
 }

@@ -1,105 +1,213 @@
 //! Worked lines, scores and orders.
 
-ghost use Rattle.std.specs.Prelude.{◌≡◌, length};
+ghost use Rattle.std.specs.Prelude.{◌≡◌, IfOk, length};
 
+use crate::tables::{compare, number, word};
+use case_texts::pitch_of;
 use fux_grid::{
     Cell, Column, GridFault, Note, Score, next_note, note_at, order, prev_note, shape, sounding,
 };
 use fux_pitch::Pitch;
+use std::alloc::Global;
+use std::cmp::Ordering;
+use std::fmt::Write;
+use std::str;
 use std::test::Fail;
 
-fn pair(low: Cell, high: Cell) -> Column
-    ensures { length result.items ≡ 2 }
-{
+/// A line in voice 0 of two voices: rests, starts and holds of one pitch.
+const LINE: &[u8] = b"RRSHHHHHHHSHRRSSH";
+
+fn column_of(letter: u8, pitch: Pitch) -> Column {
     let mut column = Column::new();
-    column.push(low);
-    column.push(high);
+    column.push(match letter {
+        b'S' => Cell::Start(pitch),
+        b'H' => Cell::Hold(pitch),
+        _ => Cell::Rest,
+    });
+    column.push(Cell::Rest);
     column
 }
 
-fn span(note: Option<Note>) -> Option<(usize, usize)> {
-    match note {
-        Some(note) => Some((note.start, note.len)),
-        None => None,
+fn line(alloc: Global) -> Result<Score, Fail> {
+    let pitch = pitch_of("C4")?;
+    let mut score = Score::new(alloc, 2)?;
+    for letter in LINE {
+        score.push(column_of(*letter, pitch))?;
     }
+    Ok(score)
+}
+
+/// Columns of that line, with the note that sounds there, the one before it and the one behind it: where each begins, and
+/// how many columns it has.
+const NOTES: &str = "\
+column 0 = silent, at none, before none, after 2+8
+column 2 = sounds, at 2+8, before none, after 10+2
+column 9 = sounds, at 2+8, before none, after 10+2
+column 11 = sounds, at 10+2, before 2+8, after 14+1
+column 12 = silent, at none, before 10+2, after 14+1
+column 14 = sounds, at 14+1, before 10+2, after 15+2
+column 16 = sounds, at 15+2, before 14+1, after none";
+
+fn add_note(text: &mut String, word: &str, note: Option<Note>) -> Result<(), Fail> {
+    match note {
+        Some(note) => write!(text, ", {word} {}+{}", note.start, note.len)?,
+        None => write!(text, ", {word} none")?,
+    }
+    Ok(())
+}
+
+fn notes_text(alloc: Global, score: &Score, i: usize) -> Result<String, Fail> {
+    if i >= score.len() {
+        return Err("no such column".into());
+    }
+    let sounds = sounding(score, 0, i).is_some();
+    let mut text = String::from_str(alloc, if sounds { "sounds" } else { "silent" })?;
+    add_note(&mut text, "at", note_at(score, 0, i))?;
+    add_note(&mut text, "before", prev_note(score, 0, i))?;
+    add_note(&mut text, "after", next_note(score, 0, i))?;
+    Ok(text)
+}
+
+fn notes_at(alloc: Global, case: &str) -> Result<String, Fail> {
+    let i = usize::from(number(case, 1)?);
+    let score = line(alloc)?;
+    notes_text(alloc, &score, i)
+}
+
+/// Bars of that line, and their letters.
+const SHAPES: &str = "\
+bar 1 = RRSHHHHH
+bar 2 = HHSHRRSS";
+
+fn shape_text(alloc: Global, score: &Score, bar: u8) -> Result<String, Fail> {
+    if bar == 0 || score.voices() == 0 || score.len() < 8 * usize::from(bar) {
+        return Err("no such bar".into());
+    }
+    let letters = shape(score, 0, bar);
+    Ok(String::from_str(alloc, str::from_utf8(&letters)?)?)
+}
+
+fn shape_of(alloc: Global, case: &str) -> Result<String, Fail> {
+    let bar = number(case, 1)?;
+    let score = line(alloc)?;
+    shape_text(alloc, &score, bar)
 }
 
 #[test]
 fn finds_the_notes_of_a_line(rt: HostRuntime) -> Result<(), Fail> {
-    let pitch = Pitch::new(28, 0).ok_or("no C4")?;
-    let mut score = Score::new(rt.alloc(), 2)?;
-    for letter in b"RRSHHHHHHHSHRRSSH" {
-        let mut column = Column::new();
-        column.push(match letter {
-            b'S' => Cell::Start(pitch),
-            b'H' => Cell::Hold(pitch),
-            _ => Cell::Rest,
-        });
-        column.push(Cell::Rest);
-        score.push(column)?;
+    compare(&rt, rt.alloc(), NOTES, notes_at)?;
+    compare(&rt, rt.alloc(), SHAPES, shape_of)
+}
+
+/// The cell of a word: `r`, `default`, or a pitch behind `+` where it starts and behind `-` where it is held.
+fn cell(word: &str) -> Result<Cell, Fail> {
+    if let Some(name) = word.strip_prefix('+') {
+        return Ok(Cell::Start(pitch_of(name)?));
     }
-    let rows = [
-        (0, None, None, Some((2, 8))),
-        (2, Some((2, 8)), None, Some((10, 2))),
-        (9, Some((2, 8)), None, Some((10, 2))),
-        (11, Some((10, 2)), Some((2, 8)), Some((14, 1))),
-        (12, None, Some((10, 2)), Some((14, 1))),
-        (14, Some((14, 1)), Some((10, 2)), Some((15, 2))),
-        (16, Some((15, 2)), Some((14, 1)), None),
-    ];
-    for (i, here, before, after) in rows {
-        assert!(rt; i < score.len());
-        assert_eq!(rt; span(note_at(&score, 0, i)), here, "at {i}");
-        assert_eq!(rt; span(prev_note(&score, 0, i)), before, "before {i}");
-        assert_eq!(rt; span(next_note(&score, 0, i)), after, "after {i}");
-        assert_eq!(rt; sounding(&score, 0, i).is_some(), here.is_some(), "at {i}");
+    if let Some(name) = word.strip_prefix('-') {
+        return Ok(Cell::Hold(pitch_of(name)?));
     }
-    assert!(rt; score.len() >= 16);
-    assert_eq!(rt; shape(&score, 0, 1), *b"RRSHHHHH");
-    assert_eq!(rt; shape(&score, 0, 2), *b"HHSHRRSS");
-    Ok(())
+    Ok(if word == "default" {
+        Cell::default()
+    } else {
+        Cell::Rest
+    })
+}
+
+/// The column of two words.
+fn column(case: &str) -> Result<Column, Fail>
+    ensures { IfOk result (λ column. length column.items ≡ 2) }
+{
+    let mut column = Column::new();
+    column.push(cell(word(case, 0)?)?);
+    column.push(cell(word(case, 1)?)?);
+    Ok(column)
+}
+
+/// Columns that are added to a score of two voices, one after another, and what is said of each.
+const PUSHES: &str = "\
+r -C4 = hold at start in voice 1
+default +C4 = taken
+-C4 -D4 = hold after rest in voice 0
++D4 -D4 = hold moved in voice 1
+none = not as many cells";
+
+fn told(alloc: Global, fault: GridFault) -> Result<String, Fail> {
+    let (words, voice) = match fault {
+        GridFault::Full => return Ok(String::from_str(alloc, "full")?),
+        GridFault::Voices => return Ok(String::from_str(alloc, "not as many cells")?),
+        GridFault::HoldAtStart { voice } => ("at start", voice),
+        GridFault::HoldAfterRest { voice } => ("after rest", voice),
+        GridFault::HoldMoved { voice } => ("moved", voice),
+    };
+    Ok(format!(in alloc; "hold {words} in voice {voice}")?)
+}
+
+fn push_of(alloc: Global, case: &str, score: &mut Score) -> Result<String, Fail> {
+    let next = if case == "none" {
+        Column::new()
+    } else {
+        column(case)?
+    };
+    match score.push(next) {
+        Ok(()) => Ok(String::from_str(alloc, "taken")?),
+        Err(fault) => told(alloc, fault),
+    }
 }
 
 #[test]
 fn names_the_lowest_voice_at_fault(rt: HostRuntime) -> Result<(), Fail> {
-    let c = Pitch::new(28, 0).ok_or("no C4")?;
-    let d = Pitch::new(29, 0).ok_or("no D4")?;
     let mut score = Score::new(rt.alloc(), 2)?;
-    let held_at_start = score.push(pair(Cell::Rest, Cell::Hold(c)));
-    assert_eq!(rt; held_at_start, Err(GridFault::HoldAtStart { voice: 1 }));
-    score.push(pair(Cell::default(), Cell::Start(c)))?;
-    let both_at_fault = score.push(pair(Cell::Hold(c), Cell::Hold(d)));
-    assert_eq!(rt; both_at_fault, Err(GridFault::HoldAfterRest { voice: 0 }));
-    let moved = score.push(pair(Cell::Start(d), Cell::Hold(d)));
-    assert_eq!(rt; moved, Err(GridFault::HoldMoved { voice: 1 }));
-    assert_eq!(rt; score.push(Column::new()), Err(GridFault::Voices));
+    compare(
+        &rt,
+        rt.alloc(),
+        PUSHES,
+        |alloc, case| push_of(alloc, case, &mut score),
+    )?;
     for _ in 1..192 {
-        score.push(pair(Cell::Rest, Cell::Hold(c)))?;
+        score.push(column("r -C4")?)?;
     }
-    assert_eq!(rt; score.push(Column::new()), Err(GridFault::Full));
-    assert_eq!(rt; score.len(), 192);
+    compare(
+        &rt,
+        rt.alloc(),
+        "none = full",
+        |alloc, case| push_of(alloc, case, &mut score),
+    )?;
+    assert!(rt; score.len() == 192);
     Ok(())
+}
+
+/// Columns in reading order: by the lowest voice, its kind of cell, its key, its degree, and then by the voice above. Each
+/// has a sign for each of them, `<` where that one is later, `=` where it is the same, `>` where it is earlier.
+const ASCENDING: &str = "\
+r +D4 = =<<<<<
+-C#4 r = >=<<<<
+-C#4 -D4 = >>=<<<
+-Db4 r = >>>=<<
+-D4 r = >>>>=<
++C#4 r = >>>>>=";
+
+/// The sign of a column beside another one.
+fn sign(here: &Column, other: &Column) -> char
+    requires { length here.now.items ≡ length other.now.items }
+{
+    match order(here, other) {
+        Ordering::Less => '<',
+        Ordering::Equal => '=',
+        Ordering::Greater => '>',
+    }
+}
+
+fn orders(alloc: Global, case: &str) -> Result<String, Fail> {
+    let here = column(case)?;
+    let mut signs = String::new(alloc);
+    for line in ASCENDING.lines() {
+        signs.push(sign(&here, &column(line)?))?;
+    }
+    Ok(signs)
 }
 
 #[test]
 fn compares_the_lowest_voice_first(rt: HostRuntime) -> Result<(), Fail> {
-    let c_sharp = Pitch::new(28, 1).ok_or("no C#4")?;
-    let d_flat = Pitch::new(29, -1).ok_or("no Db4")?;
-    let d = Pitch::new(29, 0).ok_or("no D4")?;
-    // In reading order: by the lowest voice, its kind of cell, its key, its degree, and then by the voice above.
-    let ascending = [
-        (Cell::Rest, Cell::Start(d)),
-        (Cell::Hold(c_sharp), Cell::Rest),
-        (Cell::Hold(c_sharp), Cell::Hold(d)),
-        (Cell::Hold(d_flat), Cell::Rest),
-        (Cell::Hold(d), Cell::Rest),
-        (Cell::Start(c_sharp), Cell::Rest),
-    ];
-    for (i, (low, high)) in ascending.into_iter().enumerate() {
-        for (j, (other_low, other_high)) in ascending.into_iter().enumerate() {
-            let found = order(&pair(low, high), &pair(other_low, other_high));
-            assert_eq!(rt; found, i.cmp(&j), "{i} and {j}");
-        }
-    }
-    Ok(())
+    compare(&rt, rt.alloc(), ASCENDING, orders)
 }

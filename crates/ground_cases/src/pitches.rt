@@ -1,219 +1,327 @@
 //! Worked values: the keys of pitches, the classes of intervals, the modes, names and spellings.
 
-ghost use Rattle.std.specs.Prelude.{pos, negsuc, ◌≤ℤ◌};
+ghost use Rattle.std.specs.Prelude.{pos, negsuc, ◌≤ℤ◌, ◌<◌};
 
 use crate::menus::is_shared;
+use crate::tables::{compare, number, word};
+use case_texts::{mode_of, pitch_of};
 use fux_pitch::{
     Interval, Label, List, Memory, Mode, Pitch, final_letter, in_gamut, interval_of, is_consonant,
     is_imperfect, is_perfect, leading, name, parse_pitch, reduce, semitone, spell,
 };
 use std::alloc::Global;
+use std::fmt::Write;
 use std::test::Fail;
 
-#[test]
-fn pitches_have_keys(rt: HostRuntime) {
-    let rows = [
-        (7, 0, Some(24)),
-        (28, 0, Some(60)),
-        (28, 1, Some(61)),
-        (28, -1, Some(59)),
-        (27, 1, Some(60)),
-        (30, 1, Some(65)),
-        (31, -1, Some(64)),
-        (33, 0, Some(69)),
-        (49, 0, Some(96)),
-        (48, 1, Some(96)),
-        (6, 1, None),
-        (7, -1, None),
-        (49, 1, None),
-        (50, -1, None),
-        (28, 2, None),
-        (28, -2, None),
-        (255, 0, None),
-    ];
-    for (degree, alter, key) in rows {
-        let found = match Pitch::new(degree, alter) {
-            Some(pitch) => Some(semitone(pitch)),
-            None => None,
-        };
-        assert_eq!(rt; found, key, "degree {degree}, alteration {alter}");
+/// The word of this place in a case, as a number that may be below 0.
+fn signed(case: &str, place: usize) -> Result<i8, Fail> {
+    Ok(word(case, place)?.parse::<i8>()?)
+}
+
+/// Degrees with alterations, and the keys of those that are pitches.
+const KEYS: &str = "\
+degree 7 altered by 0 = key 24
+degree 28 altered by 0 = key 60
+degree 28 altered by 1 = key 61
+degree 28 altered by -1 = key 59
+degree 27 altered by 1 = key 60
+degree 30 altered by 1 = key 65
+degree 31 altered by -1 = key 64
+degree 33 altered by 0 = key 69
+degree 49 altered by 0 = key 96
+degree 48 altered by 1 = key 96
+degree 6 altered by 1 = no pitch
+degree 7 altered by -1 = no pitch
+degree 49 altered by 1 = no pitch
+degree 50 altered by -1 = no pitch
+degree 28 altered by 2 = no pitch
+degree 28 altered by -2 = no pitch
+degree 255 altered by 0 = no pitch";
+
+fn key_of(alloc: Global, case: &str) -> Result<String, Fail> {
+    match Pitch::new(number(case, 1)?, signed(case, 4)?) {
+        Some(pitch) => Ok(format!(in alloc; "key {}", semitone(pitch))?),
+        None => Ok(String::from_str(alloc, "no pitch")?),
     }
 }
 
 #[test]
-fn keys_are_spelled(rt: HostRuntime) {
-    let rows = [
-        (24, "C1"),
-        (60, "C4"),
-        (61, "C#4"),
-        (62, "D4"),
-        (63, "Eb4"),
-        (64, "E4"),
-        (65, "F4"),
-        (66, "F#4"),
-        (67, "G4"),
-        (68, "G#4"),
-        (69, "A4"),
-        (70, "Bb4"),
-        (71, "B4"),
-        (96, "C7"),
-    ];
-    for (key, text) in rows {
-        assert_eq!(rt; spell(key), parse_pitch(text.as_bytes()), "key {key}");
-        assert!(rt; spell(key).is_some(), "key {key}");
-    }
-    for key in [0, 11, 12, 23, 97, 255] {
-        assert_eq!(rt; spell(key), None, "key {key}");
-    }
+fn pitches_have_keys(rt: HostRuntime) -> Result<(), Fail> {
+    compare(&rt, rt.alloc(), KEYS, key_of)
+}
+
+/// A pitch, and its name.
+fn told(alloc: Global, pitch: Option<Pitch>) -> Result<String, Fail> {
+    let Some(pitch) = pitch else {
+        return Ok(String::from_str(alloc, "no pitch")?);
+    };
+    let (degree, alter, name) = (pitch.degree(), pitch.alter(), name(pitch));
+    let name = name.as_str();
+    Ok(format!(in alloc; "{name}, degree {degree} altered by {alter}")?)
+}
+
+/// Keys, and what they are spelled as.
+const SPELLINGS: &str = "\
+key 24 = C1, degree 7 altered by 0
+key 60 = C4, degree 28 altered by 0
+key 61 = C#4, degree 28 altered by 1
+key 62 = D4, degree 29 altered by 0
+key 63 = Eb4, degree 30 altered by -1
+key 64 = E4, degree 30 altered by 0
+key 65 = F4, degree 31 altered by 0
+key 66 = F#4, degree 31 altered by 1
+key 67 = G4, degree 32 altered by 0
+key 68 = G#4, degree 32 altered by 1
+key 69 = A4, degree 33 altered by 0
+key 70 = Bb4, degree 34 altered by -1
+key 71 = B4, degree 34 altered by 0
+key 96 = C7, degree 49 altered by 0
+key 0 = no pitch
+key 11 = no pitch
+key 12 = no pitch
+key 23 = no pitch
+key 97 = no pitch
+key 255 = no pitch";
+
+fn spelling_of(alloc: Global, case: &str) -> Result<String, Fail> {
+    told(alloc, spell(number(case, 1)?))
+}
+
+#[test]
+fn keys_are_spelled(rt: HostRuntime) -> Result<(), Fail> {
+    compare(&rt, rt.alloc(), SPELLINGS, spelling_of)
+}
+
+/// Texts in quotes, and the pitches that they name.
+const NAMES: &str = "\
+'C1' = C1, degree 7 altered by 0
+'Bb2' = Bb2, degree 20 altered by -1
+'A3' = A3, degree 26 altered by 0
+'B#3' = B#3, degree 27 altered by 1
+'C4' = C4, degree 28 altered by 0
+'Cb4' = Cb4, degree 28 altered by -1
+'F#5' = F#5, degree 38 altered by 1
+'B#6' = B#6, degree 48 altered by 1
+'C7' = C7, degree 49 altered by 0
+'' = no pitch
+'C' = no pitch
+'4' = no pitch
+'c4' = no pitch
+'H4' = no pitch
+'C0' = no pitch
+'C8' = no pitch
+'Cb1' = no pitch
+'C#7' = no pitch
+'E7' = no pitch
+'C##4' = no pitch
+'C 4' = no pitch
+'C4 ' = no pitch
+'CB4' = no pitch
+'C44' = no pitch
+'Cn4' = no pitch";
+
+fn named(alloc: Global, case: &str) -> Result<String, Fail> {
+    told(alloc, parse_pitch(case.trim_matches('\'').as_bytes()))
+}
+
+/// A pitch in four columns, and as it is.
+fn twice(alloc: Global, case: &str) -> Result<String, Fail> {
+    let pitch = pitch_of(case)?;
+    Ok(format!(in alloc; "{pitch:>4} and {pitch}")?)
 }
 
 #[test]
 fn pitches_have_names(rt: HostRuntime) -> Result<(), Fail> {
-    let rows = [
-        ("C1", 7, 0),
-        ("Bb2", 20, -1),
-        ("A3", 26, 0),
-        ("B#3", 27, 1),
-        ("C4", 28, 0),
-        ("Cb4", 28, -1),
-        ("F#5", 38, 1),
-        ("B#6", 48, 1),
-        ("C7", 49, 0),
-    ];
-    for (text, degree, alter) in rows {
-        let pitch = parse_pitch(text.as_bytes());
-        assert_eq!(rt; pitch, Pitch::new(degree, alter), "{text}");
-        let pitch = pitch.expect(&rt, "a pitch");
-        assert!(rt;
-            name(pitch).as_str().as_bytes() == text.as_bytes(),
-            "{text}"
-        );
-    }
-    for text in [
-        "", "C", "4", "c4", "H4", "C0", "C8", "Cb1", "C#7", "E7", "C##4", "C 4", "C4 ", "CB4",
-        "C44", "Cn4",
-    ] {
-        assert_eq!(rt; parse_pitch(text.as_bytes()), None, "{text:?}");
-    }
-    let middle = spell(60).expect(&rt, "a pitch");
-    let shown = format!(in rt.alloc(); "{middle:>4} and {middle}")?;
-    assert_eq!(rt; shown.as_str(), "  C4 and C4");
-    Ok(())
+    compare(&rt, rt.alloc(), NAMES, named)?;
+    compare(&rt, rt.alloc(), "C4 =   C4 and C4", twice)
+}
+
+/// An interval, as `7 degrees, 12 semitones`.
+fn interval_text(alloc: Global, size: Interval) -> Result<String, Fail> {
+    let (degrees, semitones) = (size.degrees, size.semitones);
+    Ok(format!(in alloc; "{degrees} degrees, {semitones} semitones")?)
+}
+
+/// Intervals, and what they are reduced to.
+const REDUCED: &str = "\
+0 degrees, 0 semitones = 0 degrees, 0 semitones
+7 degrees, 12 semitones = 0 degrees, 0 semitones
+9 degrees, 16 semitones = 2 degrees, 4 semitones
+-2 degrees, -3 semitones = 2 degrees, 3 semitones
+-11 degrees, -19 semitones = 4 degrees, 7 semitones
+0 degrees, -1 semitones = 0 degrees, 1 semitones
+1 degrees, 0 semitones = 1 degrees, 0 semitones
+-1 degrees, 0 semitones = 1 degrees, 0 semitones
+7 degrees, 11 semitones = 0 degrees, -1 semitones
+-7 degrees, -11 semitones = 0 degrees, -1 semitones
+24 degrees, 41 semitones = 3 degrees, 5 semitones";
+
+fn reduced_text(alloc: Global, degrees: i8, semitones: i8) -> Result<String, Fail> {
+    let size = reduce(Interval {
+        degrees: i16::from(degrees),
+        semitones: i16::from(semitones),
+    });
+    interval_text(alloc, size)
+}
+
+fn reduced(alloc: Global, case: &str) -> Result<String, Fail> {
+    reduced_text(alloc, signed(case, 0)?, signed(case, 2)?)
 }
 
 #[test]
-fn intervals_are_reduced(rt: HostRuntime) {
-    let rows = [
-        ((0, 0), (0, 0)),
-        ((7, 12), (0, 0)),
-        ((9, 16), (2, 4)),
-        ((-2, -3), (2, 3)),
-        ((-11, -19), (4, 7)),
-        ((0, -1), (0, 1)),
-        ((1, 0), (1, 0)),
-        ((-1, 0), (1, 0)),
-        ((7, 11), (0, -1)),
-        ((-7, -11), (0, -1)),
-        ((24, 41), (3, 5)),
-    ];
-    for ((degrees, semitones), (steps, keys)) in rows {
-        let size = reduce(Interval { degrees, semitones });
-        assert_eq!(rt;
-            size,
-            Interval {
-                degrees: steps,
-                semitones: keys
-            },
-            "{degrees} degrees, {semitones} semitones"
-        );
-    }
+fn intervals_are_reduced(rt: HostRuntime) -> Result<(), Fail> {
+    compare(&rt, rt.alloc(), REDUCED, reduced)
 }
 
-/// Whether the interval is perfect, imperfect, consonant with the lowest voice, consonant between others.
-fn classes(degrees: i16, semitones: i16) -> [bool; 4]
+/// What an interval is: `p` a perfect consonance, `i` an imperfect one, `f` consonant but with the lowest voice, `.` a
+/// dissonance, and `?` where it would be two of these.
+fn class_of(degrees: i16, semitones: i16) -> char
     requires least_degrees { negsuc 127 ≤ℤ degrees }
     requires most_degrees { degrees ≤ℤ pos 127 }
     requires least_semitones { negsuc 127 ≤ℤ semitones }
     requires most_semitones { semitones ≤ℤ pos 127 }
 {
     let i = Interval { degrees, semitones };
-    [
-        is_perfect(i),
-        is_imperfect(i),
-        is_consonant(i, true),
-        is_consonant(i, false),
-    ]
+    let consonant = (is_consonant(i, true), is_consonant(i, false));
+    match (is_perfect(i), is_imperfect(i), consonant) {
+        (true, false, (true, true)) => 'p',
+        (false, true, (true, true)) => 'i',
+        (false, false, (false, true)) => 'f',
+        (false, false, (false, false)) => '.',
+        _ => '?',
+    }
+}
+
+/// The same of the interval with none, one and two octaves more, and of each of these downwards; `?` where they differ.
+fn class_of_all(degrees: u8, semitones: u8) -> char
+    requires degrees { degrees < 8 }
+    requires semitones { semitones < 16 }
+{
+    let class = class_of(i16::from(degrees), i16::from(semitones));
+    for octaves in 0..3u8 {
+        let up = i16::from(degrees + 7 * octaves);
+        let keys = i16::from(semitones + 12 * octaves);
+        if class_of(up, keys) != class || class_of(-up, -keys) != class {
+            return '?';
+        }
+    }
+    class
+}
+
+/// Numbers of degrees, and what the intervals with 0 to 15 semitones are.
+const CLASSES: &str = "\
+0 degrees = p...............
+1 degrees = ................
+2 degrees = ...ii...........
+3 degrees = .....ff.........
+4 degrees = ......fp........
+5 degrees = ........ii......
+6 degrees = ................";
+
+fn classes_of(alloc: Global, case: &str) -> Result<String, Fail> {
+    let degrees = number(case, 0)?;
+    let mut classes = String::new(alloc);
+    for semitones in 0..16 {
+        classes.push(class_of_all(degrees.min(7), semitones))?;
+    }
+    Ok(classes)
 }
 
 #[test]
-fn intervals_have_classes(rt: HostRuntime) {
-    for degrees in 0..7u8 {
-        for semitones in 0..16u8 {
-            let want = match (degrees, semitones) {
-                (0, 0) | (4, 7) => [true, false, true, true],
-                (2, 3) | (2, 4) | (5, 8) | (5, 9) => [false, true, true, true],
-                (3, 5) | (3, 6) | (4, 6) => [false, false, false, true],
-                _ => [false; 4],
-            };
-            for octaves in 0..3 {
-                let up = i16::from(degrees + 7 * octaves);
-                let keys = i16::from(semitones + 12 * octaves);
-                assert!(rt; classes(up, keys) == want, "{up} degrees, {keys} semitones");
-                assert!(rt;
-                    classes(-up, -keys) == want,
-                    "{up} degrees, {keys} semitones, downwards"
-                );
-            }
-        }
-    }
+fn intervals_have_classes(rt: HostRuntime) -> Result<(), Fail> {
+    compare(&rt, rt.alloc(), CLASSES, classes_of)
+}
+
+/// Two pitches, and the interval from the first to the second.
+const BETWEEN: &str = "\
+from C4 to E4 = 2 degrees, 4 semitones
+from E4 to C4 = -2 degrees, -4 semitones
+from B#3 to C4 = 1 degrees, 0 semitones
+from F4 to B4 = 3 degrees, 6 semitones
+from B4 to F5 = 4 degrees, 6 semitones
+from C1 to C7 = 42 degrees, 72 semitones";
+
+fn between(alloc: Global, case: &str) -> Result<String, Fail> {
+    let (from, to) = (pitch_of(word(case, 1)?)?, pitch_of(word(case, 3)?)?);
+    interval_text(alloc, interval_of(from, to))
 }
 
 #[test]
 fn intervals_lie_between_pitches(rt: HostRuntime) -> Result<(), Fail> {
-    let rows = [
-        ("C4", "E4", 2, 4),
-        ("E4", "C4", -2, -4),
-        ("B#3", "C4", 1, 0),
-        ("F4", "B4", 3, 6),
-        ("B4", "F5", 4, 6),
-        ("C1", "C7", 42, 72),
-    ];
-    for (from, to, degrees, semitones) in rows {
-        let from = parse_pitch(from.as_bytes()).expect(&rt, "a pitch");
-        let to = parse_pitch(to.as_bytes()).expect(&rt, "a pitch");
-        assert_eq!(rt; interval_of(from, to), Interval { degrees, semitones });
+    compare(&rt, rt.alloc(), BETWEEN, between)
+}
+
+/// Modes, their last letter, and the letter before it with its alteration.
+const FINALS: &str = "\
+dorian = final 1, leading 0 altered by 1
+phrygian = final 2, leading 1 altered by 0
+lydian = final 3, leading 2 altered by 0
+mixolydian = final 4, leading 3 altered by 1
+aeolian = final 5, leading 4 altered by 1
+ionian = final 0, leading 6 altered by 0";
+
+fn final_of(alloc: Global, case: &str) -> Result<String, Fail> {
+    let mode = mode_of(case)?;
+    let (last, (before, alter)) = (final_letter(mode), leading(mode));
+    Ok(format!(in alloc; "final {last}, leading {before} altered by {alter}")?)
+}
+
+/// Modes and bars of eight, and the pitches of the gamut from C4 on, of all that are sharp, flat or neither.
+const GAMUTS: &str = "\
+dorian in the bars 1 to 6 = C4 D4 E4 F4 G4 A4 Bb4 B4
+dorian in the bars 7 to 8 = C4 C#4 D4 E4 F4 G4 A4 Bb4 B4
+phrygian in the bars 1 to 8 = C4 D4 E4 F4 G4 A4 Bb4 B4
+lydian in the bars 1 to 8 = C4 D4 E4 F4 G4 A4 Bb4 B4
+mixolydian in the bars 1 to 6 = C4 D4 E4 F4 G4 A4 Bb4 B4
+mixolydian in the bars 7 to 8 = C4 D4 E4 F4 F#4 G4 A4 Bb4 B4
+aeolian in the bars 1 to 6 = C4 D4 E4 F4 G4 A4 Bb4 B4
+aeolian in the bars 7 to 8 = C4 D4 E4 F4 F#4 G4 G#4 A4 Bb4 B4
+ionian in the bars 1 to 8 = C4 D4 E4 F4 G4 A4 Bb4 B4";
+
+/// Adds the pitch behind a space, if it is one of the bar.
+fn add_pitch(names: &mut String, mode: Mode, bar: u8, degree: u8, alter: i8) -> Result<(), Fail> {
+    let pitch = Pitch::new(degree, alter).ok_or("no pitch")?;
+    if 1 <= bar && bar <= 8 && in_gamut(mode, bar, 8, pitch) {
+        write!(names, " {pitch}")?;
     }
     Ok(())
 }
 
-#[test]
-fn modes_have_gamuts(rt: HostRuntime) {
-    let rows: [(Mode, u8, (u8, i8), &[u8]); 6] = [
-        (Mode::Dorian, 1, (0, 1), &[0]),
-        (Mode::Phrygian, 2, (1, 0), &[]),
-        (Mode::Lydian, 3, (2, 0), &[]),
-        (Mode::Mixolydian, 4, (3, 1), &[3]),
-        (Mode::Aeolian, 5, (4, 1), &[3, 4]),
-        (Mode::Ionian, 0, (6, 0), &[]),
-    ];
-    for (mode, last, before, raised) in rows {
-        assert_eq!(rt; final_letter(mode), last, "{mode:?}");
-        assert_eq!(rt; leading(mode), before, "{mode:?}");
-        for bar in 1..9 {
-            for letter in 0..7 {
-                for alter in -1..2 {
-                    let pitch = Pitch::new(28 + letter, alter).expect(&rt, "a pitch");
-                    let want = alter == 0
-                        || alter == -1 && letter == 6
-                        || alter == 1 && bar >= 7 && raised.contains(&letter);
-                    assert!(rt;
-                        in_gamut(mode, bar, 8, pitch) == want,
-                        "{mode:?}, bar {bar}, {pitch}"
-                    );
-                }
-            }
+/// The pitches of one bar, each behind a space.
+fn gamut(alloc: Global, mode: Mode, bar: u8) -> Result<String, Fail> {
+    let mut names = String::new(alloc);
+    for degree in 28..35 {
+        for alter in [-1, 0, 1] {
+            add_pitch(&mut names, mode, bar, degree, alter)?;
         }
     }
+    Ok(names)
+}
+
+fn has_gamut(alloc: Global, mode: Mode, bar: u8, names: &str) -> Result<bool, Fail> {
+    Ok(gamut(alloc, mode, bar)?.as_str() == names)
+}
+
+/// The pitches that each of these bars has.
+fn common_gamut(alloc: Global, mode: Mode, first: u8, last: u8) -> Result<String, Fail> {
+    let names = gamut(alloc, mode, first)?;
+    for bar in first..=last {
+        if !has_gamut(alloc, mode, bar, names.as_str())? {
+            return Ok(String::from_str(alloc, "not the same in all")?);
+        }
+    }
+    Ok(String::from_str(alloc, names.as_str().trim_start())?)
+}
+
+fn gamut_of(alloc: Global, case: &str) -> Result<String, Fail> {
+    let mode = mode_of(word(case, 0)?)?;
+    common_gamut(alloc, mode, number(case, 4)?, number(case, 6)?)
+}
+
+#[test]
+fn modes_have_gamuts(rt: HostRuntime) -> Result<(), Fail> {
+    compare(&rt, rt.alloc(), FINALS, final_of)?;
+    compare(&rt, rt.alloc(), GAMUTS, gamut_of)
 }
 
 /// A list, a label and the answer for want of memory, whichever of its two forms std gives.
@@ -227,12 +335,11 @@ fn made(alloc: Global) -> Result<(List<u8>, Label), Memory> {
 #[test]
 fn lists_and_labels_hold_what_they_are_made_of(rt: HostRuntime) -> Result<(), Fail> {
     let (list, label) = made(rt.alloc())?;
-    assert_eq!(rt; list.as_slice(), [7].as_slice());
-    assert_eq!(rt; label.as_str(), "C4");
+    assert!(rt; list.as_slice() == [7].as_slice() && label.as_str() == "C4");
     is_shared(&list);
     is_shared(&label);
     is_shared(&spell(60));
-    is_shared(&interval_of(spell(60).ok_or("no C4")?, spell(62).ok_or("no D4")?));
+    is_shared(&interval_of(pitch_of("C4")?, pitch_of("D4")?));
     is_shared(&Mode::Dorian);
     Ok(())
 }

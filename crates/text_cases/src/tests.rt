@@ -1,7 +1,11 @@
+//! Note texts, and what reading answers of each.
+
+use crate::agree::agree;
 use crate::cases::CASES;
 use fux_text::{TextFault, TextKind, read};
 use std::alloc::Global;
 use std::fmt::Write;
+use std::str;
 use std::test::Fail;
 
 /// A kind in the words of a refusal.
@@ -36,17 +40,26 @@ fn told(alloc: Global, text: &[u8]) -> Result<String, Fail> {
     Ok(told)
 }
 
+/// What reading answers of a case, and its own answer before that.
+fn answers(alloc: Global, case: &[u8]) -> Result<(&str, String), Fail> {
+    let end = case.iter().position(|byte| *byte == 1).ok_or("no answer")?;
+    let (answer, text) = case.split_at(end);
+    let found = told(alloc, text.get(1..).ok_or("no text")?)?;
+    Ok((str::from_utf8(answer)?, found))
+}
+
 #[test]
 fn reads_each_case(rt: HostRuntime) -> Result<(), Fail> {
     let mut count = 0u32;
     for case in CASES.split(|byte| *byte == 0) {
-        let end = case.iter().position(|byte| *byte == 1).ok_or("no answer")?;
-        let (answer, text) = case.split_at(end);
-        let found = told(rt.alloc(), text.get(1..).ok_or("no text")?)?;
-        assert_eq!(rt; found.as_bytes(), answer);
+        let (answer, found) = answers(rt.alloc(), case)?;
+        assert!(rt;
+            found.as_str() == answer,
+            "case {count}: {found}, not {answer}"
+        );
         count = count.saturating_add(1);
     }
-    assert_eq!(rt; count, 197);
+    assert!(rt; count == 197);
     Ok(())
 }
 
@@ -62,11 +75,16 @@ fn padded(alloc: Global, len: usize) -> Result<Vec<u8>, Fail> {
     Ok(text)
 }
 
+fn told_of_length(alloc: Global, len: usize) -> Result<String, Fail> {
+    let text = padded(alloc, len)?;
+    told(alloc, &text)
+}
+
 #[test]
 fn reads_texts_up_to_the_limit(rt: HostRuntime) -> Result<(), Fail> {
-    let whole = padded(rt.alloc(), 65_536)?;
-    assert_eq!(rt; told(rt.alloc(), &whole)?.as_str(), "ok");
-    let longer = padded(rt.alloc(), 65_537)?;
-    assert_eq!(rt; told(rt.alloc(), &longer)?.as_str(), "toolong 1 1");
+    let whole = told_of_length(rt.alloc(), 65_536)?;
+    agree(&rt, "65,536 bytes", whole.as_str(), "ok");
+    let longer = told_of_length(rt.alloc(), 65_537)?;
+    agree(&rt, "65,537 bytes", longer.as_str(), "toolong 1 1");
     Ok(())
 }

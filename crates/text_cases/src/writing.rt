@@ -1,5 +1,6 @@
 //! The canonical text of exercises of three voices, and settings that are read back.
 
+use crate::agree::agree;
 use fux_grid::{Cell, Column, Exercise, RangeLine, Relax, Score, VoiceSet};
 use fux_pitch::{List, Mode, Pitch};
 use fux_text::{read, read_sing, sing_line, write};
@@ -86,56 +87,96 @@ const EXERCISE: &str =
     "fux 1\nmode dorian\nvoices 3\nbars 3\nspecies 4 voice 2\ncantus 1 D4 E4 D4\n\
     range 0 A3 D4\nrange 2 D4 D5\nrange 2 D5 Eb5 2 3\nrelax S16 0,2 1 2 0\nrelax S7 all 3 3 10000\n";
 
+/// The lines of the ties in the two free voices.
+const TIES: &str = "sing 0 A3:8 | A3:8 | A3:8\nsing 2 r:4 D5:4 | _:4 D5:4 | _:8\n";
+
+/// The text of an exercise without a setting.
+fn written(alloc: Global, ex: &Exercise) -> Result<String, Fail> {
+    if !ex.is_valid() {
+        return Err("no valid exercise".into());
+    }
+    Ok(write(alloc, ex, None)?)
+}
+
+/// The text of an exercise with this setting.
+fn written_with(alloc: Global, ex: &Exercise, score: &Score) -> Result<String, Fail> {
+    if !ex.is_valid() || ex.voices != score.voices() || score.len() != 8 * usize::from(ex.bars) {
+        return Err("another size".into());
+    }
+    Ok(write(alloc, ex, Some(score))?)
+}
+
+/// The line of a voice, as it is written.
+fn line_of(alloc: Global, score: &Score, v: u8) -> Result<String, Fail> {
+    if v >= score.voices() || score.is_empty() || score.len() % 8 > 0 {
+        return Err("no such line".into());
+    }
+    Ok(sing_line(alloc, score, v)?)
+}
+
+/// The exercise of a text.
+fn exercise_of(alloc: Global, text: &str) -> Result<Exercise, Fail> {
+    match read(alloc, text.as_bytes()) {
+        Ok(ex) => Ok(ex),
+        Err(_) => Err("not read".into()),
+    }
+}
+
 #[test]
 fn writes_each_kind_of_line(rt: HostRuntime) -> Result<(), Fail> {
     let ex = trio(rt.alloc())?;
-    assert!(rt; ex.is_valid());
-    let text = write(rt.alloc(), &ex, None)?;
-    assert_eq!(rt; text.as_str(), EXERCISE);
+    let text = written(rt.alloc(), &ex)?;
+    agree(&rt, "without a setting", text.as_str(), EXERCISE);
     Ok(())
+}
+
+/// The text of the exercise with the ties, and a line of them alone behind it.
+fn text_of_ties(alloc: Global, ex: &Exercise, score: &Score) -> Result<String, Fail> {
+    let mut text = written_with(alloc, ex, score)?;
+    text.push_str(line_of(alloc, score, 2)?.as_str())?;
+    Ok(text)
+}
+
+fn trio_with_ties(alloc: Global) -> Result<String, Fail> {
+    let ex = trio(alloc)?;
+    let score = ties(alloc)?;
+    text_of_ties(alloc, &ex, &score)
 }
 
 #[test]
 fn writes_settings(rt: HostRuntime) -> Result<(), Fail> {
-    let ex = trio(rt.alloc())?;
-    let score = ties(rt.alloc())?;
-    assert!(rt; ex.is_valid());
-    assert!(rt; ex.voices == score.voices() && score.len() == 8 * ex.bars as usize);
-    let text = write(rt.alloc(), &ex, Some(&score))?;
+    let text = trio_with_ties(rt.alloc())?;
     let lines = text
         .as_str()
         .strip_prefix(EXERCISE)
         .ok_or("another beginning")?;
-    assert_eq!(rt;
-        lines,
-        "sing 0 A3:8 | A3:8 | A3:8\nsing 2 r:4 D5:4 | _:4 D5:4 | _:8\n"
-    );
-    assert!(rt; score.len() == 24 && score.voices() == 3);
-    let line = sing_line(rt.alloc(), &score, 2)?;
-    assert_eq!(rt; line.as_str(), "sing 2 r:4 D5:4 | _:4 D5:4 | _:8\n");
+    let alone = lines.strip_prefix(TIES).ok_or("other lines")?;
+    agree(&rt, "one line", alone, "sing 2 r:4 D5:4 | _:4 D5:4 | _:8\n");
     Ok(())
+}
+
+const READ: &str =
+    "fux 1\nmode dorian\nvoices 2\nbars 3\nspecies 1 voice 0\ncantus 1 D4 E4 D4\nrange 0 A2 D4\n\
+    range 0 A3 A3 2 3\nsing 0 r:4 D3:4 | _:4 Bb3:4 | _:8\n";
+
+/// How many columns a setting has that is read from the line of voice 0.
+fn columns_sung(alloc: Global, ex: &Exercise, score: &Score) -> Result<usize, Fail> {
+    let line = line_of(alloc, score, 0)?;
+    if !ex.is_valid() {
+        return Err("no valid exercise".into());
+    }
+    match read_sing(alloc, ex, line.as_str().as_bytes()) {
+        Ok(sung) => Ok(sung.len()),
+        Err(_) => Err("not sung".into()),
+    }
 }
 
 #[test]
 fn reads_back_what_is_written(rt: HostRuntime) -> Result<(), Fail> {
-    let text =
-        "fux 1\nmode dorian\nvoices 2\nbars 3\nspecies 1 voice 0\ncantus 1 D4 E4 D4\nrange 0 A2 D4\nrange 0 A3 A3 2 3\n\
-        sing 0 r:4 D3:4 | _:4 Bb3:4 | _:8\n";
-    let Ok(ex) = read(rt.alloc(), text.as_bytes()) else {
-        return Err(Fail::from("not read"));
-    };
-    assert!(rt; ex.is_valid());
-    let Some(score) = &ex.setting else {
-        return Err(Fail::from("no setting"));
-    };
-    assert!(rt; ex.voices == score.voices() && score.len() == 8 * ex.bars as usize);
-    let again = write(rt.alloc(), &ex, Some(score))?;
-    assert_eq!(rt; again.as_str(), text);
-    assert!(rt; score.len() == 24 && score.voices() == 2);
-    let line = sing_line(rt.alloc(), score, 0)?;
-    let Ok(sung) = read_sing(rt.alloc(), &ex, line.as_bytes()) else {
-        return Err(Fail::from("not read"));
-    };
-    assert_eq!(rt; sung.len(), 24);
+    let ex = exercise_of(rt.alloc(), READ)?;
+    let score = ex.setting.as_ref().ok_or("no setting")?;
+    let again = written_with(rt.alloc(), &ex, score)?;
+    agree(&rt, "written again", again.as_str(), READ);
+    assert!(rt; columns_sung(rt.alloc(), &ex, score)? == 24);
     Ok(())
 }

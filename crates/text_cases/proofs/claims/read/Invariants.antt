@@ -1,5 +1,5 @@
 use Rattle.std.proofs.Common.{◌≡◌, ◌≤◌, None, length}
-use Rattle.edge_cases.proofs.claims.read.Given as goal
+use Rattle.text_cases.proofs.claims.read.Given as goal
 
 -- no line was refused, and so many bytes were used
 abbrev pub invariant-loop : goal.invariant-loop

@@ -1,5 +1,6 @@
 //! Scores, as they are printed.
 
+use crate::agree::agree;
 use fux_grid::{Cell, Column, Exercise, RangeLine, Score};
 use fux_pitch::{List, Mode, parse_pitch};
 use score_print::print;
@@ -90,20 +91,34 @@ fn score(alloc: Global, low: &[Cell], high: &[Cell]) -> Result<Score, Fail> {
     Ok(score)
 }
 
+/// The score of two printed lines, the higher one first.
+fn score_of(alloc: Global, lines: &str) -> Result<Score, Fail> {
+    let (high, low) = lines.split_once('\n').ok_or("one line")?;
+    let low = cells(alloc, low)?;
+    let high = cells(alloc, high)?;
+    score(alloc, &low, &high)
+}
+
+/// What is printed of a score.
+fn printed(alloc: Global, ex: &Exercise, score: &Score) -> Result<String, Fail> {
+    if !ex.is_valid() || ex.voices != score.voices() || score.len() != 8 * usize::from(ex.bars) {
+        return Err("another size".into());
+    }
+    Ok(print(alloc, ex, score)?)
+}
+
+/// The lines, read and printed again.
+fn printed_again(alloc: Global, lines: &str) -> Result<String, Fail> {
+    let score = score_of(alloc, lines)?;
+    let ex = exercise(alloc, u8::try_from(score.len() / 8)?)?;
+    printed(alloc, &ex, &score)
+}
+
 #[test]
 fn scores_are_printed(rt: HostRuntime) -> Result<(), Fail> {
-    for expected in &PRINTS {
-        let (high, low) = expected.split_once('\n').ok_or("one line")?;
-        let low = cells(rt.alloc(), low)?;
-        let high = cells(rt.alloc(), high)?;
-        let score = score(rt.alloc(), &low, &high)?;
-        let bars = score.len() / 8;
-        assert!(rt; bars <= 24);
-        let ex = exercise(rt.alloc(), bars as u8)?;
-        assert!(rt; ex.is_valid());
-        assert!(rt; ex.voices == score.voices() && score.len() == 8 * ex.bars as usize);
-        let printed = print(rt.alloc(), &ex, &score)?;
-        assert_eq!(rt; printed.as_str(), *expected);
+    for lines in &PRINTS {
+        let printed = printed_again(rt.alloc(), lines)?;
+        agree(&rt, "printed again", printed.as_str(), lines);
     }
     Ok(())
 }

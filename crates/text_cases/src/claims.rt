@@ -2,6 +2,7 @@
 
 ghost use Rattle.std.specs.Prelude.{◌<◌, length};
 
+use crate::agree::agree;
 use cert_text::{CertFault, Claims, write_claim};
 use std::alloc::Global;
 use std::fmt::Write;
@@ -67,12 +68,11 @@ fn read(alloc: Global, bytes: &[u8], size: usize) -> Result<String, Fail>
 #[test]
 fn claims_are_the_same_in_all_pieces(rt: HostRuntime) -> Result<(), Fail> {
     for (lines, claims, end) in &LINES {
-        let mut expected = String::from_str(rt.alloc(), claims)?;
-        expected.push_str(end)?;
+        let expected = format!(in rt.alloc(); "{claims}{end}")?;
         assert!(rt; lines.len() < 1000);
         for size in [1, 7, 64] {
             let said = read(rt.alloc(), lines.as_bytes(), size)?;
-            assert_eq!(rt; said.as_str(), expected.as_str());
+            agree(&rt, lines, said.as_str(), expected.as_str());
         }
     }
     Ok(())

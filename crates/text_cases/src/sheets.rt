@@ -1,5 +1,6 @@
 //! Sheets, and what is said of them.
 
+use crate::agree::agree;
 use penalty_sheet::{default_sheet, read_sheet, weight};
 use std::alloc::Global;
 use std::fmt::Write;
@@ -132,38 +133,46 @@ fn said(alloc: Global, bytes: &[u8]) -> Result<String, Fail> {
 fn sheets_are_read_or_refused(rt: HostRuntime) -> Result<(), Fail> {
     for (sheet, expected) in &SHEETS {
         let said = said(rt.alloc(), sheet.as_bytes())?;
-        assert_eq!(rt; said.as_str(), *expected);
+        agree(&rt, sheet, said.as_str(), expected);
     }
     Ok(())
 }
 
+/// A sheet that is one comment of so many bytes.
+fn comment(alloc: Global, length: usize) -> Result<String, Fail> {
+    let sheet = vec![in alloc; b'#'; length]?;
+    said(alloc, &sheet)
+}
+
 #[test]
 fn the_longest_sheet_is_read(rt: HostRuntime) -> Result<(), Fail> {
-    let mut sheet = vec![in rt.alloc(); b'#'; 65_536]?;
-    let longest = said(rt.alloc(), &sheet)?;
-    assert_eq!(rt; longest.as_str(), "read");
-    sheet.push(b'#')?;
-    let longer = said(rt.alloc(), &sheet)?;
-    assert_eq!(rt; longer.as_str(), "too long");
+    let longest = comment(rt.alloc(), 65_536)?;
+    agree(&rt, "65,536 bytes", longest.as_str(), "read");
+    let longer = comment(rt.alloc(), 65_537)?;
+    agree(&rt, "65,537 bytes", longer.as_str(), "too long");
     let no_text = said(rt.alloc(), b"#\xff")?;
-    assert_eq!(rt; no_text.as_str(), "not toml");
+    agree(&rt, "no UTF-8", no_text.as_str(), "not toml");
     Ok(())
 }
 
 fn is_shared<T: Send + Sync>(_: &T) {}
 
+/// Some weights of a sheet that gives two of them.
+fn weights(alloc: Global) -> Result<String, Fail> {
+    match read_sheet(alloc, b"weights = {Q2 = 7, Q10 = 10000}") {
+        Ok(sheet) => {
+            let (first, second) = (weight(&sheet, 1), weight(&sheet, 2));
+            let (tenth, last) = (weight(&sheet, 10), weight(&sheet, 20));
+            Ok(format!(in alloc; "Q1 {first} Q2 {second} Q10 {tenth} Q20 {last}")?)
+        }
+        Err(_) => Err("refused".into()),
+    }
+}
+
 #[test]
 fn weights_are_kept(rt: HostRuntime) -> Result<(), Fail> {
     is_shared(&default_sheet());
-    let text = "weights = {Q2 = 7, Q10 = 10000}";
-    match read_sheet(rt.alloc(), text.as_bytes()) {
-        Ok(sheet) => {
-            assert_eq!(rt; weight(&sheet, 1), 2);
-            assert_eq!(rt; weight(&sheet, 2), 7);
-            assert_eq!(rt; weight(&sheet, 10), 10_000);
-            assert_eq!(rt; weight(&sheet, 20), 3);
-        }
-        Err(_) => return Err(Fail::from("refused")),
-    }
+    let found = weights(rt.alloc())?;
+    agree(&rt, "weights", found.as_str(), "Q1 2 Q2 7 Q10 10000 Q20 3");
     Ok(())
 }
