@@ -13,6 +13,7 @@ use Rattle.fux_grid.specs.Exercises.{species_in}
 use Rattle.rule_law.specs.After.{next_onset, onset_pitch, second_next_onset}
 use Rattle.rule_law.specs.Bars.{begins_bar}
 use Rattle.rule_law.specs.Degrees.{lies_above}
+use Rattle.rule_law.specs.Places.{reading_of}
 use Rattle.rule_law.specs.Terms.{clash, falls, holds_of, interval_of_pitches, is_clean, is_step, previous_pitch, same_way, starts}
 
 -- the test holds of the move from a first pitch to a second and of the move from the second to a third, where there are all three
@@ -74,6 +75,10 @@ is_good_note species i behind now ahead v =
     (previous_pitch (line v behind)) (pitch_of (cell_in now v)) (onset_pitch (next_onset i v ahead))
     (next_is_clean i ahead v) (onset_pitch (second_next_onset i v ahead))
 
+-- the same of a voice of an exercise
+abbrev pub is_good_in : Exercise → ℕ → List (List Cell) → List Cell → List (List Cell) → ℕ → Bool
+is_good_in ex i behind now ahead v = is_good_note (species_in ex v) i behind now ahead v
+
 -- a note of v starts, and it clashes with w
 abbrev pub starts_in_clash : List Cell → ℕ → ℕ → Bool
 starts_in_clash now v w = starts (cell_in now v) && clash now v w
@@ -81,7 +86,11 @@ starts_in_clash now v w = starts (cell_in now v) && clash now v w
 -- S15, for one way to name the voices: a note of v starts within a bar and clashes with w, and isn't good
 abbrev pub clashes_badly : Exercise → ℕ → List (List Cell) → List Cell → List (List Cell) → ℕ → ℕ → Bool
 clashes_badly ex i behind now ahead v w =
-    not (begins_bar i) && starts_in_clash now v w && not (is_good_note (species_in ex v) i behind now ahead v)
+    not (begins_bar i) && starts_in_clash now v w && not (is_good_in ex i behind now ahead v)
+
+-- at column i of a list
+abbrev pub clashes_badly_at : Exercise → List (List Cell) → ℕ → ℕ → ℕ → Bool
+clashes_badly_at ex = reading_of (clashes_badly ex)
 
 -- the list has a column of the last bar
 abbrev pub reaches_last_bar : Exercise → ℕ → List (List Cell) → Bool

@@ -1,7 +1,6 @@
 //! Breaks of the late rules that the newest column settles, read from the newest columns.
 
-ghost use Rattle.std.specs.Prelude.{◌≡◌, ◌≤◌, ◌<◌, ◌+◌, ◌&&◌, ◌∷◌, ◌++◌, [], List, IsTrue};
-ghost use Rattle.fux_grid.specs.declared.cell.Cell.{Cell as ACell};
+ghost use Rattle.std.specs.Prelude.{◌≡◌, ◌≤◌, ◌<◌, ◌+◌, ◌&&◌, IsTrue};
 ghost use Rattle.fux_grid.specs.Columns.{Columns};
 ghost use Rattle.fux_grid.specs.Exercises.{IsValid, columns_in};
 ghost use Rattle.rule_law.specs.Late.{TellsBreak};
@@ -10,9 +9,9 @@ ghost use Rattle.rule_law.specs.Voices as voices;
 ghost use Rattle.rule_law.specs.Ways.{on_some_way};
 ghost use Rattle.dissonance_rules.specs.Book as book;
 ghost use Rattle.dissonance_rules.specs.Book.{rule_row};
-ghost use Rattle.dissonance_rules.specs.Clashes.{clash_row, clash_rule, newly_passing};
+ghost use Rattle.dissonance_rules.specs.Clashes.{clash_row, clash_rule};
 ghost use Rattle.dissonance_rules.specs.Kept.{IsKept};
-ghost use Rattle.dissonance_rules.specs.Told.{is_open_within};
+ghost use Rattle.dissonance_rules.specs.Told.{TellsPassing, is_open_within};
 
 use crate::kept::column_at;
 use crate::ligatures::{is_bad_suspension, lacks_preparation_kept, lacks_resolution_kept};
@@ -171,8 +170,7 @@ fn is_passing_open(
 fn settles_passing(newest: &NewestColumns, ex: &Exercise, voices: VoiceSet, place: usize) -> bool
     requires valid { IsValid ex.now }
     requires place { place < newest.now.len }
-    ensures { (p : Columns) (col : List ACell) → IsKept ex.now newest.now (p ++ col ∷ []) place →
-        result ≡ newly_passing ex.now voices.bits p col place }
+    ensures { TellsPassing ex.now voices.bits newest.now place result }
 {
     if is_passing_open(newest, ex, place, newest.len, voices) {
         return false;

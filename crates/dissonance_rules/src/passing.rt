@@ -144,7 +144,7 @@ fn clashes_within_bar(i: usize, now: &[Cell], v: usize, w: usize) -> bool
 /// S15, for one way to name the voices: whether a note of `v` starts within a bar and clashes with `w`, and isn't good.
 pub(crate) fn clashes_badly(ex: &Exercise, score: &Score, i: usize, v: u8, w: u8) -> bool
     requires { i < length score.now.columns }
-    ensures { result ≡ reading_of (words.clashes_badly ex.now) score.now.columns i v w }
+    ensures { result ≡ words.clashes_badly_at ex.now score.now.columns i v w }
 {
     if !clashes_within_bar(i, score.column(i).as_slice(), v as usize, w as usize) {
         return false;
@@ -234,7 +234,7 @@ fn is_good_kept(newest: &NewestColumns, ex: &Exercise, i: usize, v: u8) -> bool
     requires room { newest.now.len ≤ 192 }
     requires place { i < newest.now.len }
     ensures { (s : Columns) → IsKept ex.now newest.now s i → is_free ex.now v ≡ true →
-        result ≡ reading_of (words.is_good_note (species_in ex.now v)) s i v }
+        result ≡ reading_of (words.is_good_in ex.now) s i v }
 {
     let next = next_notes(newest, ex, i, v, newest.len);
     is_good(
@@ -259,7 +259,7 @@ pub(crate) fn clashes_badly_kept(
     requires room { newest.now.len ≤ 192 }
     requires place { i < newest.now.len }
     ensures { (s : Columns) → IsKept ex.now newest.now s i → is_free ex.now v ≡ true →
-        result ≡ reading_of (words.clashes_badly ex.now) s i v w }
+        result ≡ words.clashes_badly_at ex.now s i v w }
 {
     if !clashes_within_bar(i, column_at(newest, ex, i), v as usize, w as usize) {
         return false;

@@ -8,6 +8,10 @@ use Rattle.fux_grid.specs.declared.cell.Note.{Note}
 use Rattle.fux_grid.specs.declared.cell.Onset.{Onset}
 use Rattle.fux_grid.specs.Cells.{pitch_of, cell_in, cell_follows, notes_from, onsets_from, before_note, first_of}
 
+-- the columns of a score, from the oldest to the newest
+abbrev pub Columns : Type 0
+Columns = List (List Cell)
+
 -- each cell may follow the one of its voice; an empty column stands before the first one
 abbrev pub ColumnFollows : List Cell → List Cell → Type 0
 ColumnFollows before next = (v : ℕ) → IsTrue (cell_follows (cell_in before v) (cell_in next v))

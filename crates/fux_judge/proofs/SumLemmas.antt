@@ -1,5 +1,5 @@
 -- The rules of a list are in range where a test of the whole list says so (`rule_in_range`).
-use Rattle.std.proofs.Common.{◌≡◌, ℕ, zero, suc, ◌+◌, ◌<◌, ◌&&◌, Bool, true, IsTrue, List, [], ◌∷◌, length, get_or, ◌∙◌, arith, false}
+use Rattle.std.proofs.Common.{◌≡◌, ℕ, zero, suc, ◌<◌, ◌&&◌, Bool, true, IsTrue, List, [], ◌∷◌, length, get_or, arith, false}
 use Rattle.std.specs.Prelude.{nat_lt, not}
 use Rattle.std.specs.List.{list_all}
 use Rattle.std.proofs.lemmas.Bool.Decides.{nat_tests}

@@ -17,11 +17,12 @@ use Rattle.fux_grid.specs.declared.exercise.Exercise.{Exercise}
 use Rattle.fux_grid.specs.Cells.{cell_in}
 use Rattle.fux_grid.specs.Exercises.{bar_of, columns_in}
 use Rattle.fux_grid.specs.Menus.{is_between, range_of}
-use Rattle.rule_law.specs.Gauges.{EndsAtValue, IsNextCell, NeverFalls, menu_starts, starts_ahead}
+use Rattle.rule_law.specs.Gauges.{EndsAtValue, IsNextCell, LeastValue, LineValue, NeverFalls, menu_starts, starts_ahead}
 use Rattle.rule_law.specs.Terms.{starts}
 use Rattle.rule_law.proofs.NextPitch.{next_in_range}
 use Rattle.rule_law.proofs.MenuStarts.{any_from, starts_ahead-more, starts_ahead-none}
-use Rattle.melody_rules.specs.Gauges.{beyond_fourth, climax_least, climax_repeats, climax_value, compass_least, compass_value, is_at_top, is_final_climax, is_narrow, is_topped, leaps_in, leaps_least, leaps_value, moves_in, notes_at, strikes_least, strikes_value}
+use Rattle.melody_rules.specs.ClimaxKeys.{climax_is, least_by_key, least_is}
+use Rattle.melody_rules.specs.Gauges.{beyond_fourth, climax_least, climax_value, compass_least, compass_value, is_at_top, is_final_climax, is_narrow, is_topped, leaps_in, leaps_least, leaps_value, moves_in, notes_at, strikes_least, strikes_value}
 use Rattle.melody_rules.specs.Held.{pitches-hold}
 use Rattle.melody_rules.specs.Keys.{greatest_key}
 use Rattle.melody_rules.specs.Rows.{pitches}
@@ -176,17 +177,24 @@ if_less : (b : Bool) (x y : ℕ) → (b ≡ true → x ≤ y) → (if b then x e
 if_less true x y f = f refl
 if_less false x y f = omega arith
 
-climax_start : (ex : Exercise) (v : ℕ) (cells col : List Cell) (p : Pitch) → cell_in col v ≡ Start p → IsNextCell ex v cells col → climax_least ex v cells ≤ climax_least ex v (Start p ∷ cells)
+-- the value and the least value by the greatest key
+abbrev value_by_key : LineValue
+value_by_key cells = notes_at (greatest_key (pitches cells)) (pitches cells) - 1
+
+abbrev by_key : LeastValue
+by_key ex v cells = least_by_key ex v (length cells) (pitches cells)
+
+climax_start : (ex : Exercise) (v : ℕ) (cells col : List Cell) (p : Pitch) → cell_in col v ≡ Start p → IsNextCell ex v cells col → by_key ex v cells ≤ by_key ex v (Start p ∷ cells)
 climax_start ex v cells col p e next =
     let i : ℕ = length cells in
     let key : ℤ = greatest_key (pitches cells) in
-    if_less (is_final_climax ex v i key) (climax_value cells) (climax_least ex v (Start p ∷ cells)) (λ final.
+    if_less (is_final_climax ex v i key) (value_by_key cells) (by_key ex v (Start p ∷ cells)) (λ final.
     let top = topped (menu_starts ex v i) (is_at_top key (range_of ex v (bar_of i))) (next_starts ex v cells col p next e) (final_parts ex v i key next.room final).0 in
     let same : greatest_key (p ∷ pitches cells) ≡ key = max_keeps (key_of p) key (below_top key (range_of ex v (bar_of i)) p top (next_in_range ex v cells col p next e)) in
-    let P : ℤ → Type 0 = λ k. climax_value cells ≤ (if is_final_climax ex v (suc i) k then notes_at k (p ∷ pitches cells) - 1 else 0) in
+    let P : ℤ → Type 0 = λ k. value_by_key cells ≤ (if is_final_climax ex v (suc i) k then notes_at k (p ∷ pitches cells) - 1 else 0) in
     subst P (sym same) (grown (final_later ex v i key next.room final)))
   where
-    grown : is_final_climax ex v (suc (length cells)) (greatest_key (pitches cells)) ≡ true → climax_value cells ≤ (if is_final_climax ex v (suc (length cells)) (greatest_key (pitches cells)) then notes_at (greatest_key (pitches cells)) (p ∷ pitches cells) - 1 else 0)
+    grown : is_final_climax ex v (suc (length cells)) (greatest_key (pitches cells)) ≡ true → value_by_key cells ≤ (if is_final_climax ex v (suc (length cells)) (greatest_key (pitches cells)) then notes_at (greatest_key (pitches cells)) (p ∷ pitches cells) - 1 else 0)
     grown final =
         omega (
           arith,
@@ -194,21 +202,27 @@ climax_start ex v cells col p e next =
           if_true (is_final_climax ex v (suc (length cells)) (greatest_key (pitches cells))) (notes_at (greatest_key (pitches cells)) (p ∷ pitches cells) - 1) final,
         )
 
-climax_other : (ex : Exercise) (v : ℕ) (cells : List Cell) (c : Cell) → starts c ≡ false → length cells < columns_in ex → climax_least ex v cells ≤ climax_least ex v (c ∷ cells)
+climax_other : (ex : Exercise) (v : ℕ) (cells : List Cell) (c : Cell) → starts c ≡ false → length cells < columns_in ex → by_key ex v cells ≤ by_key ex v (c ∷ cells)
 climax_other ex v cells c k room =
-    let P : List Pitch → Type 0 = λ ps. climax_least ex v cells ≤ (if is_final_climax ex v (suc (length cells)) (greatest_key ps) then climax_repeats ps else 0) in
+    let P : List Pitch → Type 0 = λ ps. by_key ex v cells ≤ (if is_final_climax ex v (suc (length cells)) (greatest_key ps) then notes_at (greatest_key ps) ps - 1 else 0) in
     subst P (sym (same_pitches c cells k))
-    (if_less (is_final_climax ex v (length cells) (greatest_key (pitches cells))) (climax_value cells) _ (λ final.
-    if_true (is_final_climax ex v (suc (length cells)) (greatest_key (pitches cells))) (climax_value cells) (final_later ex v (length cells) (greatest_key (pitches cells)) room final)))
+    (if_less (is_final_climax ex v (length cells) (greatest_key (pitches cells))) (value_by_key cells) _ (λ final.
+    if_true (is_final_climax ex v (suc (length cells)) (greatest_key (pitches cells))) (value_by_key cells) (final_later ex v (length cells) (greatest_key (pitches cells)) room final)))
 
-climax_cell : (ex : Exercise) (v : ℕ) (cells col : List Cell) (c : Cell) → cell_in col v ≡ c → IsNextCell ex v cells col → climax_least ex v cells ≤ climax_least ex v (c ∷ cells)
+climax_cell : (ex : Exercise) (v : ℕ) (cells col : List Cell) (c : Cell) → cell_in col v ≡ c → IsNextCell ex v cells col → by_key ex v cells ≤ by_key ex v (c ∷ cells)
 climax_cell ex v cells col Rest e next = climax_other ex v cells Rest refl next.room
 climax_cell ex v cells col (Hold p) e next = climax_other ex v cells (Hold p) refl next.room
 climax_cell ex v cells col (Start p) e next = climax_start ex v cells col p e next
 
+by_key_grows : NeverFalls by_key
+by_key_grows ex v cells col next = climax_cell ex v cells col (cell_in col v) refl next
+
 pub climax_grows : NeverFalls climax_least
-climax_grows ex v cells col next = climax_cell ex v cells col (cell_in col v) refl next
+climax_grows ex v cells col next =
+    omega (arith, least_is ex v cells, least_is ex v (cell_in col v ∷ cells), by_key_grows ex v cells col next)
 
 pub climax_ends : EndsAtValue climax_least climax_value
 climax_ends ex v cells whole =
-    ap (λ b. if b then climax_value cells else 0) (final_none ex v (length cells) (greatest_key (pitches cells)) whole)
+    least_is ex v cells
+    ∙ ap (λ b. if b then value_by_key cells else 0) (final_none ex v (length cells) (greatest_key (pitches cells)) whole)
+    ∙ ap (λ n. n - 1) (sym (climax_is (pitches cells)))

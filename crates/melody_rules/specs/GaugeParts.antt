@@ -7,13 +7,13 @@ use Rattle.melody_rules.specs.declared.gauges.climax.Climax.{Climax}
 use Rattle.melody_rules.specs.declared.gauges.compass.Compass.{Compass}
 use Rattle.melody_rules.specs.declared.gauges.leaps.Leaps.{Leaps}
 use Rattle.melody_rules.specs.declared.gauges.strikes.Strikes.{Strikes}
-use Rattle.melody_rules.specs.Gauges.{beyond_fourth, has_notes, leaps_in, notes_at}
+use Rattle.melody_rules.specs.Gauges.{beyond_fourth, has_notes, leaps_in, climax_notes}
 use Rattle.melody_rules.specs.Keys.{greatest_key, least_key}
 use Rattle.melody_rules.specs.Rows.{last_of}
 
 pub record IsClimaxOf (ps : List Pitch) (kept : Climax) : Type 0 where
   pub greatest : pos kept.greatest ≡ greatest_key ps
-  pub count : kept.count ≡ notes_at (greatest_key ps) ps
+  pub count : kept.count ≡ climax_notes ps
 
 pub record IsCompassOf (ps : List Pitch) (kept : Compass) : Type 0 where
   pub any : kept.any ≡ has_notes ps

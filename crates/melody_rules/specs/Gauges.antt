@@ -2,7 +2,7 @@
 -- at least that begins with given notes.
 use Rattle.std.specs.Prelude.{ℕ, ◌+◌, ◌-◌, ◌*◌, ◌==◌, ℤ, int_le, Bool, true, false, not, ◌&&◌, ◌||◌, nat_le, List, [], ◌∷◌, count_by, length, Option, Some, None, if◌then◌else◌}
 use Rattle.std.specs.Int.{from_bool}
-use Rattle.std.specs.List.{list_all}
+use Rattle.std.specs.List.{list_all, list_any}
 use Rattle.std.specs.Ordering.{int_eq}
 use Rattle.fux_pitch.specs.declared.pitch.Pitch.{Pitch}
 use Rattle.fux_pitch.specs.Pitch.{key_of, same_pitch}
@@ -11,16 +11,23 @@ use Rattle.fux_grid.specs.Exercises.{bar_of}
 use Rattle.fux_grid.specs.Menus.{range_of}
 use Rattle.rule_law.specs.Gauges.{LeastValue, LineValue, columns_from, menu_starts, starts_ahead}
 use Rattle.rule_law.specs.Terms.{holds_of, interval_of_pitches, is_leap}
-use Rattle.melody_rules.specs.Keys.{greatest_key}
 use Rattle.melody_rules.specs.Rows.{last_of, pitches, spans_over}
 
 -- the notes of a key
 abbrev pub notes_at : ℤ → List Pitch → ℕ
 notes_at key = count_by (λ p. int_eq (key_of p) key)
 
--- Q17, the climax struck again: the notes at the greatest key, less one, and 0 without notes
+-- a note is at the climax of the notes: none of them has a greater key
+abbrev pub is_climax : List Pitch → Pitch → Bool
+is_climax ps p = list_all (λ q. int_le (key_of q) (key_of p)) ps
+
+-- how many of the notes are
+abbrev pub climax_notes : List Pitch → ℕ
+climax_notes ps = count_by (is_climax ps) ps
+
+-- Q17, the climax struck again: the notes at the climax, less one, and 0 without notes
 abbrev pub climax_repeats : List Pitch → ℕ
-climax_repeats ps = notes_at (greatest_key ps) ps - 1
+climax_repeats ps = climax_notes ps - 1
 
 -- a key is no lower than the high end of a range, where there is one
 abbrev pub is_at_top : ℤ → Option (Pitch × Pitch) → Bool
@@ -35,13 +42,17 @@ is_topped ex v key j = not (menu_starts ex v j) || is_at_top key (range_of ex v 
 abbrev pub is_final_climax : Exercise → ℕ → ℕ → ℤ → Bool
 is_final_climax ex v i key = list_all (is_topped ex v key) (columns_from ex i)
 
+-- the key of one of the notes is, so that no note above all of them can come
+abbrev pub is_last_climax : Exercise → ℕ → ℕ → List Pitch → Bool
+is_last_climax ex v i = list_any (λ p. is_final_climax ex v i (key_of p))
+
 abbrev pub climax_value : LineValue
 climax_value cells = climax_repeats (pitches cells)
 
 -- then it is the value so far, else nothing
 abbrev pub climax_least : LeastValue
 climax_least ex v cells =
-    if is_final_climax ex v (length cells) (greatest_key (pitches cells)) then climax_value cells else 0
+    if is_last_climax ex v (length cells) (pitches cells) then climax_value cells else 0
 
 -- there are notes
 abbrev pub has_notes : List Pitch → Bool

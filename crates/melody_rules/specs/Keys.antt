@@ -74,11 +74,11 @@ least_key_is p ps =
     record { reached = has_least p ps; least = at_least (p ∷ ps) (least_key (p ∷ ps)) (omega (arith, ints)) }
 
 -- of two tests of which one is true where the other is
-second_wins : (x y : Bool) → (x ≡ true → y ≡ true) → (x || y) ≡ y
+pub second_wins : (x y : Bool) → (x ≡ true → y ≡ true) → (x || y) ≡ y
 second_wins true y f = sym (f refl)
 second_wins false y f = refl
 
-first_wins : (x y : Bool) → (y ≡ true → x ≡ true) → (x || y) ≡ x
+pub first_wins : (x y : Bool) → (y ≡ true → x ≡ true) → (x || y) ≡ x
 first_wins true y f = refl
 first_wins false true f = sym (f refl)
 first_wins false false f = refl

@@ -1,4 +1,5 @@
 pub mod Book
+pub mod ClimaxKeys
 pub mod GaugeLaws
 pub mod GaugeParts
 pub mod Gauges

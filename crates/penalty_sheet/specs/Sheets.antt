@@ -1,5 +1,5 @@
 -- What a text says of the weights: a sheet, or what is wrong with it. A document is what the crate `toml` says one is.
-use Rattle.std.specs.Prelude.{◌≡◌, ℕ, ◌+◌, ◌-◌, Bool, true, ◌&&◌, length, List, [], ◌∷◌, ◌++◌, ℤ, pos, negsuc, nat_le, nat_lt, if◌then◌else◌, map, codes, slice_index, slice_index_or, Option, Some, None, Result, Ok, Err}
+use Rattle.std.specs.Prelude.{◌≡◌, ℕ, ◌+◌, ◌-◌, ◌≤◌, Bool, true, ◌&&◌, length, List, [], ◌∷◌, ◌++◌, ℤ, pos, negsuc, nat_le, nat_lt, if◌then◌else◌, map, codes, slice_index, slice_index_or, Option, Some, None, Result, Ok, Err}
 use Rattle.std.specs.Option.{option_and_then}
 use Rattle.std.specs.Fmt.{signed_decimal}
 use Rattle.std.specs.List.{list_any, range_with_len}
@@ -115,6 +115,10 @@ document_said top = unless_wrong (first_fault top_fault top) (weights_said (get_
 -- the document that bytes are, if they are one
 abbrev pub document_of : List ℕ → Option Members
 document_of bytes = if is_utf8 bytes then parse_document bytes else None
+
+-- the document that bytes are, where they aren't too many for a sheet, stands in order
+abbrev pub AreInOrder : List ℕ → Type 0
+AreInOrder bytes = (top : Members) → document_of bytes ≡ Some top → length bytes ≤ 65536 → IsInOrder top
 
 -- what is said by a document, if there is one
 abbrev pub said_by : Option Members → Result Sheet SheetFault

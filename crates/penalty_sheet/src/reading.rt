@@ -1,9 +1,9 @@
 //! Reading a sheet of weights.
 
-ghost use Rattle.std.specs.Prelude.{◌≡◌, ◌≢◌, ◌≤◌, true, length, IfErr, IfOk, None, Some, Err, Ok, option_map};
-ghost use Rattle.toml.specs.Data.{Members, get_member};
+ghost use Rattle.std.specs.Prelude.{◌≡◌, ◌≢◌, true, IfErr, IfOk, None, Some, Err, Ok, option_map};
+ghost use Rattle.toml.specs.Data.{get_member};
 ghost use Rattle.toml.specs.View.{table_view, view};
-ghost use Rattle.penalty_sheet.specs.Sheets.{document_of, document_said, HasSheetFault, IsInOrder, IsSheetOf, weights_ascend, weights_said};
+ghost use Rattle.penalty_sheet.specs.Sheets.{AreInOrder, document_of, document_said, HasSheetFault, IsInOrder, IsSheetOf, weights_ascend, weights_said};
 
 use crate::entries::{check_keys, check_weights, label, sheet_in};
 use crate::fault::SheetFault;
@@ -79,8 +79,7 @@ pub fn read_sheet(alloc: Global, bytes: &[u8]) -> Result<Sheet, SheetFault>
     ensures only { (sheet : Sheet) → IsSheetOf bytes.now sheet →
         IfErr result (λ fault. fault ≡ SheetFault.Memory) }
     // The first entry at fault is the first in the order of the keys' bytes.
-    ensures by_bytes { (top : Members) → document_of bytes.now ≡ Some top → length bytes.now ≤ 65536 →
-        result ≢ Err SheetFault.Memory → IsInOrder top }
+    ensures by_bytes { result ≢ Err SheetFault.Memory → AreInOrder bytes.now }
 {
     if bytes.len() > MOST_BYTES {
         return Err(SheetFault::TooLong);

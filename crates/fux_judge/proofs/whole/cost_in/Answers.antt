@@ -1,4 +1,4 @@
-use Rattle.std.proofs.Common.{◌≡◌, ◌≢◌, ℕ, Bool, None, true, ◌||◌, ◌==◌, false, ap, sym, ◌∙◌}
+use Rattle.std.proofs.Common.{◌≡◌, ◌≢◌, ℕ, None, ◌==◌, false, ap, sym, ◌∙◌}
 use Rattle.std.proofs.lemmas.Bool.{ne_eqb, or_from}
 use Rattle.rule_law.specs.Places.{reading_of}
 use Rattle.rule_law.specs.Rulebooks.{TollRow}

@@ -1,10 +1,13 @@
 use Rattle.std.proofs.Common.{◌≡◌, ℕ, ◌+◌, ◌∷◌, arith, subst, sym}
 use Rattle.melody_rules.specs.GaugeParts.{IsClimaxOf}
-use Rattle.melody_rules.proofs.GaugeLemmas.{climax-bound, climax_again, climax_new}
+use Rattle.melody_rules.proofs.GaugeLemmas.{climax-bound, climax_again, climax_new, climax_under}
 use Rattle.melody_rules.proofs.gauges.climax.with_note.Goals as goal
 
 pub returns-then-key-kept : goal.returns-then-key-kept
 returns-then-key-kept c = λ ps few r. climax_new c.args.pitch ps c.semitone-key.result c.args.kept c.semitone-key.ensures.value c.if-key-kept.true r
+
+pub returns-then-key-kept-2 : goal.returns-then-key-kept-2
+returns-then-key-kept-2 c = λ ps few r. climax_under c.args.pitch ps c.semitone-key.result c.args.kept c.semitone-key.ensures.value c.if-key-kept-2.true r
 
 pub returns : goal.returns
 returns c = λ ps few r.
