@@ -1,7 +1,7 @@
 -- One head at most stands at the front of bytes (`heads_are_one`), whatever stands behind it (`heads_before`), and its
 -- text is short (`heads_are_brief`), so that a long front of bytes tells where none goes on (`stops_whole`).
 use Rattle.std.proofs.Common.{◌≡◌, ℕ, ◌+◌, ◌*◌, ◌/◌, ◌%◌, ◌≤◌, ◌<◌, ◌^◌, Bool, true, false, List, [], ◌∷◌, ◌++◌, length, length-append, take, Option, Some, None, Result, Ok, refl, sym, ap, subst, ◌∙◌, arith}
-use Rattle.std.specs.Prelude.{◌==◌, not, codes, filter, if◌then◌else◌}
+use Rattle.std.specs.Prelude.{◌==◌, not, codes, if◌then◌else◌}
 use Rattle.std.specs.Fmt.{decimal}
 use Rattle.std.specs.List.{range_with_len}
 use Rattle.std.proofs.lemmas.Bool.Decides.{nat_tests}

@@ -1,5 +1,5 @@
 -- A count that rose in one of several calls.
-use Rattle.std.proofs.Common.{ℕ, ◌<◌, ◌≤◌, ◌^◌, arith}
+use Rattle.std.proofs.Common.{ℕ, ◌≤◌, arith}
 use Rattle.fux_port.specs.Counts.{Rose}
 
 -- it rose in a later call

@@ -1,9 +1,9 @@
 -- The list that the marker of a cantus makes is that of its marks: they stand at slot 0 alone.
-use Rattle.std.proofs.Common.{◌≡◌, ◌≢◌, inl, inr, ℕ, suc, ◌+◌, ◌*◌, ◌/◌, ◌^◌, ◌<◌, ◌==◌, Bool, true, false, ◌&&◌, List, [], ◌∷◌, ◌++◌, map, Option, Some, None, refl, ap, sym, ◌∙◌, subst, arith, eq-eqb}
+use Rattle.std.proofs.Common.{◌≡◌, ◌≢◌, inl, inr, ℕ, suc, ◌+◌, ◌*◌, ◌/◌, ◌^◌, ◌<◌, ◌==◌, Bool, true, false, List, [], ◌∷◌, ◌++◌, map, Option, Some, None, refl, ap, sym, ◌∙◌, subst, arith, eq-eqb}
 use Rattle.std.specs.Prelude.{if◌then◌else◌, nat_lt, slice_get}
 use Rattle.std.specs.List.{AllPairs, Contains, flat_map, range_with_len}
 use Rattle.std.specs.Option.{option_map_or}
-use Rattle.std.proofs.lemmas.Bool.{cases_eq, eqb-true, ne_eqb, false_from_ne_true}
+use Rattle.std.proofs.lemmas.Bool.{cases_eq, eqb-true, ne_eqb, false_from_ne_true, and_left}
 use Rattle.std.proofs.lemmas.List.{flat_map_more, map-append}
 use Rattle.fux_pitch.specs.declared.pitch.Pitch.{Pitch}
 use Rattle.fux_pitch.specs.declared.interval.Interval.{Interval}
@@ -23,8 +23,8 @@ use Rattle.score_marker.specs.declared.mark.Mark.{Mark}
 use Rattle.score_marker.specs.Cantus as cantus
 use Rattle.score_marker.specs.Cantus.{AreCantusMarks, IsCantusBreak, cantus_at, cantus_before, cantus_rule, cantus_rules, is_cantus_broken}
 use Rattle.score_marker.specs.Lists.{Test, marks_of_place, marks_of_places}
-use Rattle.score_marker.proofs.ListLemmas.{AllPairs-by_test, AllPairs-map, AllPairs-range, Contains-map, Contains-one, Contains-range, Contains-range_only, range-more}
-use Rattle.fux_grid.proofs.Combinations.{Contains-map_only}
+use Rattle.score_marker.proofs.ListLemmas.{AllPairs-by_test, AllPairs-range, Contains-map, Contains-one, Contains-range, Contains-range_only, range-more}
+use Rattle.fux_grid.proofs.Combinations.{AllPairs-map, Contains-map_only}
 use Rattle.score_marker.proofs.MarkLemmas.{IsSetBefore, break_is_made, made_in_order, made_of_break, mark-eta}
 
 -- ---- where no note starts, no rule is broken
@@ -37,30 +37,27 @@ neither : (b : Bool) {x y : Bool} → x ≡ false → y ≡ false → (if b then
 neither true h k = h
 neither false h k = k
 
-first_fails : {a : Bool} (b : Bool) → a ≡ false → (a && b) ≡ false
-first_fails b h = ap (λ a. a && b) h
-
 module _ (ex : Exercise) (i : ℕ) (inside : begins_bar i ≡ false) where
   not_first : (i == 0) ≡ false
   not_first = false_from_ne_true (i == 0) (λ e. let at : begins_bar i ≡ true = ap begins_bar (eqb-true i 0 e) in cc)
 
   own_forms : (rule : ℕ) (previous : Option Pitch) (now : Cell) (others : Bool) → others ≡ false → (if rule == 31 then cantus.begins_elsewhere ex i now else (if rule == 32 then cantus.ends_elsewhere ex i now else (if rule == 33 then cantus.ends_without_step ex i previous now else others))) ≡ false
   own_forms rule previous now others h =
-      neither (rule == 31) (first_fails (cantus.is_not_final ex now) not_first)
-      (neither (rule == 32) (first_fails _ (first_fails _ inside))
-      (neither (rule == 33) (first_fails _ (first_fails _ inside)) h))
+      neither (rule == 31) (and_left _ (cantus.is_not_final ex now) not_first)
+      (neither (rule == 32) (and_left _ _ (and_left _ _ inside))
+      (neither (rule == 33) (and_left _ _ (and_left _ _ inside)) h))
 
   quiet_rest : (rule : ℕ) (before : List Cell) → cantus_rule rule ex i before Rest ≡ false
   quiet_rest rule before =
       neither (rule == 2) refl (neither (rule == 4) refl
       (own_forms rule (previous_pitch before) Rest (melody.window_rule rule (melody.pitches before) Rest)
-      (neither (rule == 6) (first_fails _ (no_moves _ _)) (neither (rule == 7) (no_moves _ _) (neither (rule == 8) (first_fails _ (no_moves _ _)) refl)))))
+      (neither (rule == 6) (and_left _ _ (no_moves _ _)) (neither (rule == 7) (no_moves _ _) (neither (rule == 8) (and_left _ _ (no_moves _ _)) refl)))))
 
   quiet_hold : (rule : ℕ) (before : List Cell) (p : Pitch) → cantus_rule rule ex i before (Hold p) ≡ false
   quiet_hold rule before p =
       neither (rule == 2) (rw inside refl) (neither (rule == 4) refl
       (own_forms rule (previous_pitch before) (Hold p) (melody.window_rule rule (melody.pitches before) (Hold p))
-      (neither (rule == 6) (first_fails _ (no_moves _ _)) (neither (rule == 7) (no_moves _ _) (neither (rule == 8) (first_fails _ (no_moves _ _)) refl)))))
+      (neither (rule == 6) (and_left _ _ (no_moves _ _)) (neither (rule == 7) (no_moves _ _) (neither (rule == 8) (and_left _ _ (no_moves _ _)) refl)))))
 
   quiet_at : (rule : ℕ) (before : List Cell) (o : Option Pitch) → cantus_rule rule ex i before (option_map_or (cantus_cell i) o Rest) ≡ false
   quiet_at rule before None = quiet_rest rule before
@@ -173,5 +170,5 @@ module _ (ex : Exercise) where
   are_cantus_marks = record {
     each = λ mark. (only_breaks mark, each_break mark);
     ascend = made_in_order (cantus_test ex) (2 ^ ex.cantus_voice ∷ []) cantus_rules (bar_lines ex.bars) (one_set (2 ^ ex.cantus_voice)) rules_ascend
-        (AllPairs-map (λ bar. 8 * bar) (λ a b. a < b) (λ a b. a < b) (range_with_len 0 ex.bars) (λ a b h. omega arith) (AllPairs-range ex.bars));
+        (AllPairs-map (λ a b. a < b) (λ a b. a < b) (λ bar. 8 * bar) (λ a b h. omega arith) (range_with_len 0 ex.bars) (AllPairs-range ex.bars));
   }

@@ -1,11 +1,10 @@
 -- Lists that are made from lists: what they contain, and in which order.
-use Rattle.std.proofs.Common.{◌≡◌, inl, inr, ℕ, zero, suc, ◌+◌, ◌==◌, ◌<◌, Bool, true, false, ◌&&◌, ◌||◌, List, [], ◌∷◌, ◌++◌, length, get_or, map, refl, ap, sym, ◌∙◌, subst, arith}
+use Rattle.std.proofs.Common.{◌≡◌, inl, inr, ℕ, zero, suc, ◌+◌, ◌==◌, ◌<◌, Bool, true, false, ◌&&◌, ◌||◌, List, [], ◌∷◌, ◌++◌, get_or, map, refl, ap, sym, ◌∙◌, subst, arith}
 use Rattle.std.specs.List.{AllPairs, Contains, flat_map, list_all, list_any, range_with_len}
 use Rattle.std.proofs.lemmas.Bool.{eqb-true, and_parts}
-use Rattle.std.proofs.lemmas.List.{get_or-map, length-map}
 use Rattle.std.proofs.lemmas.List.Elements.{Contains-append_cases, Contains-append_left, Contains-append_right, Contains-get_or}
 use Rattle.std.proofs.lemmas.List.FromFn.{get_or-range_with_len, length-range_with_len}
-use Rattle.fux_grid.proofs.Combinations.{AllPairs-append, AllPairs-tail, Contains-cons_cases}
+use Rattle.fux_grid.proofs.Combinations.{AllPairs-append, AllPairs-head, AllPairs-tail, Contains-cons_cases}
 
 pub Contains-head : {X : Type 0} (x : X) (xs : List X) → Contains (x ∷ xs) x
 Contains-head x xs = (0, omega arith, refl)
@@ -27,10 +26,6 @@ Contains-map f (z ∷ zs) x h = elim (Contains-cons_cases z zs x h) [
   | inl e ↦ (0, omega arith, ap f e)
   | inr k ↦ Contains-behind (f z) (map f zs) (f x) (Contains-map f zs x k)
 ]
-
--- what holds of the first item and each later one
-pub head_before : {X : Type 0} (R : X → X → Type 0) (x : X) (xs : List X) (y : X) → AllPairs R (x ∷ xs) → Contains xs y → R x y
-head_before {X} R x xs y h (k, l, e) = let P : X → Type 0 = λ z. R x z in subst P e (h 0 (suc k) y (omega arith) (omega arith))
 
 module _ {X Y : Type 0} (f : X → List Y) where
   pub Contains-flat_map : (xs : List X) (x : X) (y : Y) → Contains xs x → Contains (f x) y → Contains (flat_map f xs) y
@@ -55,7 +50,7 @@ module _ {X Y : Type 0} (f : X → List Y) where
       AllPairs-append S (f x) (flat_map f xs) (each x) (AllPairs-flat_map R S xs (AllPairs-tail R x xs h) each across)
       (λ y y' in_first in_others.
       let found = Contains-flat_map_only xs y' in_others in
-      across x found.0 y y' (head_before R x xs found.0 h found.1) in_first found.2)
+      across x found.0 y y' (AllPairs-head R x xs found.0 h found.1) in_first found.2)
 
 -- ---- lists whose items can be tried
 
@@ -110,9 +105,3 @@ range_from-more a (suc n) = let e : a + 1 + n ≡ a + suc n = omega arith in ap 
 
 pub range-more : (n : ℕ) → range_with_len 0 (n + 1) ≡ range_with_len 0 n ++ n ∷ []
 range-more n = let e : n + 1 ≡ suc n = omega arith in let f : 0 + n ≡ n = omega arith in ap (range_with_len 0) e ∙ range_from-more 0 n ∙ ap (λ k. range_with_len 0 n ++ k ∷ []) f
-
-pub AllPairs-map : {X Y : Type 0} (f : X → Y) (R : X → X → Type 0) (S : Y → Y → Type 0) (xs : List X) → ((x y : X) → R x y → S (f x) (f y)) → AllPairs R xs → AllPairs S (map f xs)
-AllPairs-map f R S [] across h i j d k l = absurd (omega arith)
-AllPairs-map f R S (x ∷ xs) across h i j d k l =
-    let long : length (map f (x ∷ xs)) ≡ length (x ∷ xs) = length-map (x ∷ xs) f in
-    rw (get_or-map f (x ∷ xs) i x d (omega (arith, long)), get_or-map f (x ∷ xs) j x d (omega (arith, long))) (across _ _ (h i j x k (omega (arith, long))))

@@ -7,11 +7,11 @@ use Rattle.std.specs.declared.cmp.Ordering.TheVariants.{Equal}
 use Rattle.std.proofs.lemmas.Cmp.{nat_list_cmp_total, tied_itself}
 use Rattle.fux_grid.specs.declared.cell.Cell.{Cell}
 use Rattle.fux_grid.specs.declared.exercise.Exercise.{Exercise}
-use Rattle.fux_grid.proofs.Combinations.{AllPairs-tail, Contains-cons_cases}
+use Rattle.fux_grid.proofs.Combinations.{AllPairs-head, AllPairs-tail, Contains-cons_cases}
 use Rattle.score_marker.specs.declared.mark.Mark.{Mark}
 use Rattle.score_marker.specs.Cantus.{AreCantusMarks}
 use Rattle.score_marker.specs.Marks.{AreMarks, IsBefore, mark_key}
-use Rattle.score_marker.proofs.ListLemmas.{Contains-behind, Contains-head, Contains-nil, head_before}
+use Rattle.score_marker.proofs.ListLemmas.{Contains-behind, Contains-head, Contains-nil}
 
 not_before_itself : (mark : Mark) → IsBefore mark mark → ⊥
 not_before_itself mark h = let e : slice_cmp nat_cmp (mark_key mark) (mark_key mark) ≡ Equal = tied_itself nat_list_cmp_total (mark_key mark) in cc
@@ -25,14 +25,14 @@ module _ (x y : Mark) (xs ys : List Mark) (first : AllPairs IsBefore (x ∷ xs))
     | inl e ↦ sym e
     | inr in_ys ↦ elim (Contains-cons_cases x xs y k) [
       | inl e ↦ e
-      | inr in_xs ↦ absurd (not_both_ways x y (head_before IsBefore x xs y first in_xs) (head_before IsBefore y ys x second in_ys))
+      | inr in_xs ↦ absurd (not_both_ways x y (AllPairs-head IsBefore x xs y first in_xs) (AllPairs-head IsBefore y ys x second in_ys))
     ]
   ]
 
   -- what comes behind the one head comes behind the other
   behind : x ≡ y → (mark : Mark) → Contains xs mark → Contains (y ∷ ys) mark → Contains ys mark
   behind e mark in_xs h = elim (Contains-cons_cases y ys mark h) [
-    | inl f ↦ let P : Mark → Type 0 = IsBefore x in absurd (not_before_itself x (subst P (sym f ∙ sym e) (head_before IsBefore x xs mark first in_xs)))
+    | inl f ↦ let P : Mark → Type 0 = IsBefore x in absurd (not_before_itself x (subst P (sym f ∙ sym e) (AllPairs-head IsBefore x xs mark first in_xs)))
     | inr k ↦ k
   ]
 

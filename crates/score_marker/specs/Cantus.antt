@@ -8,9 +8,12 @@ use Rattle.fux_grid.specs.declared.exercise.Exercise.{Exercise}
 use Rattle.fux_grid.specs.Cells.{pitch_of}
 use Rattle.fux_grid.specs.Exercises.{bar_of, slot_of, columns_in, cantus_cell}
 use Rattle.rule_law.specs.Terms.{holds_of, move_from, previous_pitch, is_step, falls}
+use Rattle.melody_rules.specs.declared.notes.VoiceNotes.{VoiceNotes}
+use Rattle.melody_rules.specs.Notes.{IsNotesOf}
 use Rattle.melody_rules.specs.Rows.{moves_unmelodically, window_rule, pitches}
 use Rattle.rhythm_cadence.specs.Rows.{holds_of_pitch, begins_last_bar, is_final, leaves_gamut}
 use Rattle.score_marker.specs.declared.mark.Mark.{Mark}
+use Rattle.score_marker.specs.Lists.{marks_of_place}
 use Rattle.score_marker.specs.Marks.{IsBefore}
 
 -- the cell of the cantus at a column: its pitch of the bar starts at slot 0 and is held elsewhere
@@ -52,6 +55,15 @@ cantus_rule rule ex i before now =
     else (if rule == 33 then ends_without_step ex i (previous_pitch before) now
     else window_rule rule (pitches before) now))))
 
+-- the marks of the cantus at a column with the line before it and its cell
+abbrev pub cantus_marks_at : Exercise → ℕ → List Cell → Cell → List Mark
+cantus_marks_at ex i before now =
+    marks_of_place (λ j rule voices. cantus_rule rule ex j before now) (2 ^ ex.cantus_voice ∷ []) cantus_rules i
+
+-- this holds of each line of which these are the notes
+abbrev pub OfEachLine : VoiceNotes → (List Cell → Type 0) → Type 0
+OfEachLine notes Holds = (cells : List Cell) → IsNotesOf cells notes → Holds cells
+
 -- the cantus breaks the rule at a column
 abbrev pub is_cantus_broken : ℕ → Exercise → ℕ → Bool
 is_cantus_broken rule ex i = cantus_rule rule ex i (cantus_before ex i) (cantus_at ex i)
@@ -70,3 +82,7 @@ pub record IsCantusBreak (ex : Exercise) (mark : Mark) : Type 0 where
 pub record AreCantusMarks (ex : Exercise) (marks : List Mark) : Type 0 where
   pub each : (mark : Mark) → Contains marks mark ↔ IsCantusBreak ex mark
   pub ascend : AllPairs IsBefore marks
+
+-- no two lists are the marks of one cantus
+abbrev pub CantusMarksAreOne : Type 0
+CantusMarksAreOne = (ex : Exercise) (a b : List Mark) → AreCantusMarks ex a → AreCantusMarks ex b → a ≡ b

@@ -17,9 +17,13 @@ rule_name rule =
     else (if rule == 33 then codes "K3"
     else codes "S" ++ decimal rule))
 
--- the voices of a set in ascending order, each behind a space
+-- numbers, each behind a space
+abbrev pub numbers_text : List ℕ → List ℕ
+numbers_text numbers = flat_map (λ n. codes " " ++ decimal n) numbers
+
+-- the voices of a set in ascending order
 abbrev pub voices_text : ℕ → List ℕ
-voices_text bits = flat_map (λ v. codes " " ++ decimal v) (voices_in bits)
+voices_text bits = numbers_text (voices_in bits)
 
 -- the price of a relaxed break, and nothing for a strict one
 abbrev pub price_text : Price → List ℕ

@@ -43,3 +43,7 @@ pub record IsBreak (ex : Exercise) (s : List (List Cell)) (mark : Mark) : Type 0
 pub record AreMarks (ex : Exercise) (s : List (List Cell)) (marks : List Mark) : Type 0 where
   pub each : (mark : Mark) → Contains marks mark ↔ IsBreak ex s mark
   pub ascend : AllPairs IsBefore marks
+
+-- no two lists are the marks of one list of columns
+abbrev pub MarksAreOne : Type 0
+MarksAreOne = (ex : Exercise) (s : List (List Cell)) (a b : List Mark) → AreMarks ex s a → AreMarks ex s b → a ≡ b

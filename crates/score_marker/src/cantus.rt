@@ -1,12 +1,9 @@
 //! The marks of a cantus firmus.
 
-ghost use Rattle.std.specs.Prelude.{◌≡◌, ◌<◌, ◌++◌, ◌∷◌, ◌^◌, [], List, IfOk, OnOk};
-ghost use Rattle.fux_grid.specs.declared.cell.Cell.{Cell as ACell};
+ghost use Rattle.std.specs.Prelude.{◌≡◌, ◌<◌, ◌++◌, IfOk, OnOk};
 ghost use Rattle.fux_grid.specs.Exercises.{IsValid, columns_in};
-ghost use Rattle.melody_rules.specs.Notes.{IsNotesOf};
 ghost use Rattle.score_marker.specs.Cantus as rows;
-ghost use Rattle.score_marker.specs.Cantus.{AreCantusMarks, cantus_rule, cantus_rules};
-ghost use Rattle.score_marker.specs.Lists.{marks_of_place};
+ghost use Rattle.score_marker.specs.Cantus.{AreCantusMarks, OfEachLine, cantus_marks_at, cantus_rule, cantus_rules};
 
 use crate::mark::{Mark, mark_if};
 use fux_grid::{Cell, Exercise, VoiceSet};
@@ -66,8 +63,7 @@ fn ends_without_step(ex: &Exercise, i: usize, previous: Option<Pitch>, now: Cell
 fn is_broken(rule: u8, ex: &Exercise, i: usize, notes: &VoiceNotes, now: Cell) -> bool
     requires valid { IsValid ex.now }
     requires place { i < columns_in ex.now }
-    ensures { (cells : List ACell) → IsNotesOf cells notes.now →
-        result ≡ cantus_rule rule ex.now i cells now }
+    ensures { OfEachLine notes.now (λ cells. result ≡ cantus_rule rule ex.now i cells now) }
 {
     match rule {
         2 => leaves_gamut(ex, i, now),
@@ -89,11 +85,8 @@ fn mark_place(
 ) -> Result<(), Memory>
     requires valid { IsValid ex.now }
     requires place { i < columns_in ex.now }
-    ensures { OnOk result ((cells : List ACell) → IsNotesOf cells notes.now →
-        marks.new.items
-        ≡ marks.old.items
-        ++ marks_of_place (λ i rule voices. cantus_rule rule ex.now i cells now)
-        (2 ^ ex.now.cantus_voice ∷ []) cantus_rules i) }
+    ensures { OnOk result (OfEachLine notes.now (λ cells.
+        marks.new.items ≡ marks.old.items ++ cantus_marks_at ex.now i cells now)) }
 {
     let cantus = VoiceSet {
         bits: 1 << ex.cantus_voice,

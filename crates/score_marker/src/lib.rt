@@ -4,10 +4,12 @@
 mod cantus;
 mod mark;
 mod mark_lines;
+mod one_list;
 mod place;
 mod setting;
 
 pub use cantus::cantus_marks;
 pub use mark::Mark;
 pub use mark_lines::marks_text;
+pub use one_list::marks_are_one;
 pub use setting::marks;

@@ -1,9 +1,7 @@
 //! The lines that tell marks.
 
 ghost use Rattle.std.specs.Prelude.{◌≡◌, ◌<◌, ◌++◌, ◌∷◌, [], IfOk, OnOk, filter, string_bytes};
-ghost use Rattle.std.specs.Fmt.{decimal};
-ghost use Rattle.std.specs.List.{flat_map};
-ghost use Rattle.score_marker.specs.MarkLines.{count_line, mark_line, mark_lines, marks_text, price_of, price_text, rule_name, voices_text};
+ghost use Rattle.score_marker.specs.MarkLines.{count_line, mark_line, mark_lines, marks_text, numbers_text, price_of, price_text, rule_name, voices_text};
 ghost use Rattle.score_marker.specs.Marks.{has_voice};
 
 use crate::mark::Mark;
@@ -39,7 +37,7 @@ fn has_voice(set: VoiceSet, v: u8) -> bool
 fn put_voice(out: &mut String, set: VoiceSet, v: u8) -> Result<(), Memory>
     requires { v < 8 }
     ensures { OnOk result (string_bytes out.new ≡ string_bytes out.old
-        ++ flat_map (λ w. 32 ∷ decimal w) (filter (has_voice set.bits) (v ∷ []))) }
+        ++ numbers_text (filter (has_voice set.bits) (v ∷ []))) }
 {
     if has_voice(set, v) {
         write!(out, " {v}")?;

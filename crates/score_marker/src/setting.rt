@@ -5,10 +5,9 @@ ghost use Rattle.fux_grid.specs.Exercises.{IsComplete, IsValid};
 ghost use Rattle.fux_grid.specs.Columns.{earlier};
 ghost use Rattle.rule_law.specs.Nearby.{previous_pitches};
 ghost use Rattle.melody_rules.specs.Notes.{AreNotesOf};
-ghost use Rattle.fux_judge.specs.Rules.{rules_read};
-ghost use Rattle.score_marker.specs.Lists.{marks_of_rule, marks_of_place};
+ghost use Rattle.score_marker.specs.Lists.{marks_of_rule};
 ghost use Rattle.score_marker.specs.Marks.{AreMarks};
-ghost use Rattle.score_marker.specs.Setting.{breaks_of, sets_in_order};
+ghost use Rattle.score_marker.specs.Setting.{breaks_of, marks_at, sets_in_order};
 
 use crate::mark::{Mark, mark_if};
 use crate::place::is_broken_after;
@@ -71,8 +70,7 @@ fn mark_place(
     requires complete { IsComplete ex.now score.now }
     requires place { i < length score.now.columns }
     requires notes { AreNotesOf (earlier score.now.columns i) notes.now }
-    ensures { OnOk result (marks.new.items
-        ≡ marks.old.items ++ marks_of_place (breaks_of ex.now score.now.columns) sets_in_order rules_read i) }
+    ensures { OnOk result (marks.new.items ≡ marks.old.items ++ marks_at ex.now score.now.columns i) }
 {
     let latest = latest_of_notes(notes);
     for rule in every_rule() {
