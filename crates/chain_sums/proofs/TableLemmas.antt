@@ -1,17 +1,21 @@
--- Tables grow by a row at a time (`rows_more`), whose menu may be one of another row (`number_of_other`).
+-- Tables grow by a row at a time (`rows_more`), whose menu may be one of another row (`number_of_other`), and which may be the one before over again (`row_of_other`).
 use Rattle.std.proofs.Common.{◌≡◌, ◌⊎◌, inl, inr, ℕ, ◌+◌, ◌-◌, ◌*◌, ◌^◌, ◌<◌, ◌≤◌, List, [], ◌∷◌, ◌++◌, length, get_or, suc, Option, Some, None, refl, ap, sym, ◌∙◌, subst, arith}
 use Rattle.std.proofs.lemmas.List.{get_or_append_left, get_or_default, get_or_push, length_push}
+use Rattle.std.specs.Borrow.{Bor}
 use Rattle.std.specs.List.{All, Contains}
+use Rattle.std.specs.Prelude.{IsSomeAnd, MatchOption, ◌==◌}
+use Rattle.std.specs.Option.{option_eq}
+use Rattle.std.proofs.Common.{Decides}
+use Rattle.std.proofs.lemmas.Bool.Decides.{Decides-eqb}
 use Rattle.fux_grid.specs.declared.cell.Cell.{Cell}
-use Rattle.fux_grid.specs.Grid.{items_of}
 use Rattle.chain_sums.specs.declared.menu.Menu.{Menu}
 use Rattle.chain_sums.specs.declared.tables.Row.{Row}
 use Rattle.chain_sums.specs.declared.tables.Tables.{Tables}
 use Rattle.chain_sums.specs.Chains.{Chains, IsLeast}
 use Rattle.chain_sums.specs.Menus.{HaveSameColumns, IsMenuOf, IsPacked, columns_of}
 use Rattle.chain_sums.specs.Rows.{AllAtMost, IsAtMost, IsRow}
-use Rattle.chain_sums.specs.Tables.{AreRows, AreTablesOf, IsNumberFor, IsRowAt, KeepNumbers}
-use Rattle.chain_sums.proofs.LeastLemmas.{below_or_at, length-columns}
+use Rattle.chain_sums.specs.Tables.{AreRows, AreSameRows, HaveRowAt, AreTablesOf, IsNumberFor, IsNumbered, IsRowAt, KeepNumbers}
+use Rattle.chain_sums.proofs.LeastLemmas.{below_or_at, length-columns, same_value}
 
 -- a menu may be kept under the number of another that has the same columns
 pub number_of_other : (menus : List Menu) (menu : Menu) (number : ℕ) → number < length menus → HaveSameColumns (get_or menus number menu) menu → IsNumberFor menus menus menu number
@@ -40,73 +44,130 @@ row_kept c i menus more row keep at = record {
   named = omega (arith, keep.longer, at.named);
   menu = λ d. subst (λ (m : Menu). IsMenuOf (c.menu i) m) (sym (keep.same row.menu d at.named)) (at.menu d);
   sums = at.sums;
+  small = at.small;
 }
 
-pub rows_more : (c : Chains) (i : ℕ) (menus more : List Menu) (rows : List Row) (row : Row) → KeepNumbers menus more → All (IsPacked c.voices) more
-    → AreRows c menus rows → i + 1 + length rows ≡ c.places → IsRowAt c i more row → AllAtMost (length rows * 2 ^ 53) row.sums.items
-    → AreRows c more (rows ++ row ∷ [])
-rows_more c i menus more rows row keep packed are place here small = record {
-  few = omega (arith, length_push rows row);
-  packed = packed;
-  at = λ j d h. at j d (below_or_at j (length rows) (omega (arith, length_push rows row)));
-  small = λ j d h. small_at j d (below_or_at j (length rows) (omega (arith, length_push rows row)));
+-- a row that is the same as that of a place is one of the place
+row_same : (c : Chains) (i : ℕ) (menus : List Menu) (row other : Row) → AreSameRows other row → IsRowAt c i menus row → IsRowAt c i menus other
+row_same c i menus row other same at = record {
+  named = omega (arith, at.named, same.0);
+  menu = λ d. subst (λ (n : ℕ). IsMenuOf (c.menu i) (get_or menus n d)) (sym same.0) (at.menu d);
+  sums = subst (λ (xs : List (Option ℕ)). IsRow c i xs) (sym same.1) at.sums;
+  small = subst (λ (xs : List (Option ℕ)). AllAtMost ((c.places - 1 - i) * 2 ^ 53) xs) (sym same.1) at.small;
 }
+
+pub sums-Decides : (a b : Option ℕ) → Decides (option_eq (λ (n m : ℕ). n == m) a b) (a ≡ b)
+sums-Decides None None = (λ h. refl, λ e. refl)
+sums-Decides None (Some y) = (λ h. cc, λ e. cc)
+sums-Decides (Some x) None = (λ h. cc, λ e. cc)
+sums-Decides (Some x) (Some y) = let test = Decides-eqb x y in (λ h. ap Some (test.0 h), λ e. test.1 (same_value x y e))
+
+-- a row may be the last one over again
+pub row_of_other : (rows : List Row) (row : Row) (number : ℕ) → number < length rows → AreSameRows (get_or rows number row) row → HaveRowAt rows rows row number
+row_of_other rows row number h same = record {
+  keep = record { longer = omega arith; same = λ k d l. refl };
+  within = h;
+  same = λ d. subst (λ (r : Row). AreSameRows r row) (get_or_default rows number row d h) same;
+}
+
+-- and it may be put behind the others
+pub row_of_last : (rows : List Row) (row : Row) (number : ℕ) → number ≡ length rows → HaveRowAt rows (rows ++ row ∷ []) row number
+row_of_last rows row number e = record {
+  keep = record { longer = omega (arith, length_push rows row); same = λ k d h. get_or_append_left rows (row ∷ []) d k h };
+  within = omega (arith, length_push rows row);
+  same = λ d. subst (λ (r : Row). AreSameRows r row) (sym (get_or_push rows row d number (sym e))) (refl, refl);
+}
+
+module _ (c : Chains) (i number : ℕ) (menus more : List Menu) (rows others : List Row) (row : Row) (places : List ℕ)
+    (keep : KeepNumbers menus more) (packed : All (IsPacked c.voices) more) (have : HaveRowAt rows others row number)
+    (are : AreRows c menus rows places) (place : i + 1 + length places ≡ c.places) (here : IsRowAt c i more row) where
+  named : (j d : ℕ) → (j < length places) ⊎ (j ≡ length places) → get_or (places ++ number ∷ []) j d < length others
+  named j d (inl h) = omega (arith, get_or_append_left places (number ∷ []) d j h, are.named j d h, have.keep.longer)
+  named j d (inr e) = omega (arith, get_or_push places number d j (sym e), have.within)
+
+  at : (j : ℕ) (d : Row) → (j < length places) ⊎ (j ≡ length places) → IsRowAt c (c.places - 1 - j) more (get_or others (get_or (places ++ number ∷ []) j 0) d)
+  at j d (inl h) =
+      let old : ℕ = get_or places j 0 in
+      let same : get_or others old d ≡ get_or rows old d = have.keep.same old d (are.named j 0 h) in
+      subst (λ (n : ℕ). IsRowAt c (c.places - 1 - j) more (get_or others n d)) (sym (get_or_append_left places (number ∷ []) 0 j h))
+      (subst (λ (r : Row). IsRowAt c (c.places - 1 - j) more r) (sym same) (row_kept c (c.places - 1 - j) menus more (get_or rows old d) keep (are.at j d h)))
+  at j d (inr e) =
+      let last : i ≡ c.places - 1 - j = omega arith in
+      subst (λ (n : ℕ). IsRowAt c (c.places - 1 - j) more (get_or others n d)) (sym (get_or_push places number 0 j (sym e)))
+      (subst (λ (k : ℕ). IsRowAt c k more (get_or others number d)) last (row_same c i more row (get_or others number d) (have.same d) here))
+
+  pub rows_more : AreRows c more others (places ++ number ∷ [])
+  rows_more = record {
+    few = omega (arith, length_push places number);
+    packed = packed;
+    named = λ j d h. named j d (below_or_at j (length places) (omega (arith, length_push places number)));
+    at = λ j d h. at j d (below_or_at j (length places) (omega (arith, length_push places number)));
+  }
+
+-- the row under a place's number
+module _ (c : Chains) (menus : List Menu) (rows : List Row) (places : List ℕ) (j n : ℕ) (are : AreRows c menus rows places) (h : j < length places)
+    (is : n ≡ get_or places j n) where
+  number_within : n < length rows
+  number_within = subst (λ (m : ℕ). m < length rows) (sym is) (are.named j n h)
+
+  row_at : (row : Row) → row ≡ get_or rows n row → IsRowAt c (c.places - 1 - j) menus row
+  row_at row same =
+      let e : n ≡ get_or places j 0 = is ∙ get_or_default places j n 0 h in
+      subst (λ (r : Row). IsRowAt c (c.places - 1 - j) menus r) (sym (same ∙ ap (λ m. get_or rows m row) e)) (are.at j row h)
+
+  pub row_found : (found : Option (Bor Row)) → IsNumbered rows n found → IsSomeAnd found (λ row. IsRowAt c (c.places - 1 - j) menus row.now)
+  row_found None is_found = absurd (is_found number_within)
+  row_found (Some row) is_found = row_at row.now (is_found number_within)
+
+pub latest_found : (c : Chains) (menus : List Menu) (rows : List Row) (places : List ℕ) (last n : ℕ) (found : Option (Bor Row)) → AreRows c menus rows places
+    → last ≡ length places → 0 < length places → n ≡ get_or places (last - 1) n → IsNumbered rows n found
+    → MatchOption found (length places ≡ 0) (λ row. (0 < length places) × IsRowAt c (c.places - length places) menus row.now)
+latest_found c menus rows places last n found are e some is is_found = by found (row_found c menus rows places (last - 1) n are (omega (arith, e, some)) is found is_found)
   where
-    at : (j : ℕ) (d : Row) → (j < length rows) ⊎ (j ≡ length rows) → IsRowAt c (c.places - 1 - j) more (get_or (rows ++ row ∷ []) j d)
-    at j d (inl h) =
-        subst (λ (r : Row). IsRowAt c (c.places - 1 - j) more r) (sym (get_or_append_left rows (row ∷ []) d j h))
-        (row_kept c (c.places - 1 - j) menus more (get_or rows j d) keep (are.at j d h))
-    at j d (inr e) =
-        let last : i ≡ c.places - 1 - j = omega arith in
-        subst (λ (r : Row). IsRowAt c (c.places - 1 - j) more r) (sym (get_or_push rows row d j (sym e)))
-        (subst (λ (k : ℕ). IsRowAt c k more row) last here)
+    here : c.places - 1 - (last - 1) ≡ c.places - length places
+    here = omega (arith, e, some, are.few)
 
-    small_at : (j : ℕ) (d : Row) → (j < length rows) ⊎ (j ≡ length rows) → AllAtMost (j * 2 ^ 53) (get_or (rows ++ row ∷ []) j d).sums.items
-    small_at j d (inl h) = subst (λ (r : Row). AllAtMost (j * 2 ^ 53) r.sums.items) (sym (get_or_append_left rows (row ∷ []) d j h)) (are.small j d h)
-    small_at j d (inr e) =
-        subst (λ (r : Row). AllAtMost (j * 2 ^ 53) r.sums.items) (sym (get_or_push rows row d j (sym e)))
-        (subst (λ (k : ℕ). AllAtMost (k * 2 ^ 53) row.sums.items) (sym e) small)
+    by : (o : Option (Bor Row)) → IsSomeAnd o (λ row. IsRowAt c (c.places - 1 - (last - 1)) menus row.now)
+        → MatchOption o (length places ≡ 0) (λ row. (0 < length places) × IsRowAt c (c.places - length places) menus row.now)
+    by None none = absurd none
+    by (Some row) own = (some, subst (λ (i : ℕ). IsRowAt c i menus row.now) here own)
 
--- the row of a place
-pub row_for : (c : Chains) (t : Tables) (i : ℕ) (d : Row) → AreTablesOf c t → i < c.places → IsRowAt c i t.menus.items (get_or t.rows.items (length t.rows.items - 1 - i) d)
-row_for c t i d are h =
-    let e : c.places - 1 - (length t.rows.items - 1 - i) ≡ i = omega (arith, are.whole) in
-    subst (λ (j : ℕ). IsRowAt c j t.menus.items (get_or t.rows.items (length t.rows.items - 1 - i) d)) e
-    (are.rows.at (length t.rows.items - 1 - i) d (omega (arith, are.whole)))
+pub place_found : (c : Chains) (t : Tables) (i last n : ℕ) (found : Option (Bor Row)) → AreTablesOf c t → i < c.places → last ≡ length t.places.items
+    → n ≡ get_or t.places.items (last - 1 - i) n → IsNumbered t.rows.items n found → IsSomeAnd found (λ row. IsRowAt c i t.menus.items row.now)
+place_found c t i last n found are h e is is_found =
+    let here : c.places - 1 - (last - 1 - i) ≡ i = omega (arith, are.whole, e) in
+    subst (λ (k : ℕ). IsSomeAnd found (λ row. IsRowAt c k t.menus.items row.now)) here
+    (row_found c t.menus.items t.rows.items t.places.items (last - 1 - i) n are.rows (omega (arith, are.whole, e)) is found is_found)
 
-pub row_is : (c : Chains) (t : Tables) (i last : ℕ) (row : Row) → AreTablesOf c t → i < c.places
-    → last ≡ length t.rows.items → row ≡ get_or t.rows.items (last - 1 - i) row → IsRow c i row.sums.items
-row_is c t i last row are h e is =
-    let here : IsRowAt c i t.menus.items row =
-    subst (λ (r : Row). IsRowAt c i t.menus.items r) (sym (is ∙ ap (λ n. get_or t.rows.items (n - 1 - i) row) e)) (row_for c t i row are h) in
-    here.sums
+-- the sums of the latest row, behind which one place more comes
+pub latest_small : (c : Chains) (menus : List Menu) (places : List ℕ) (row : Row) → length places ≤ c.places → 0 < length places
+    → IsRowAt c (c.places - length places) menus row → AllAtMost ((length places - 1) * 2 ^ 53) row.sums.items
+latest_small c menus places row few some at =
+    let e : c.places - 1 - (c.places - length places) ≡ length places - 1 = omega (arith, few, some) in
+    subst (λ (n : ℕ). AllAtMost (n * 2 ^ 53) row.sums.items) e at.small
 
 -- what a look into the tables finds: the row of the place, and its menu, which has the column
 pub record IsAsked (c : Chains) (i : ℕ) (row : Row) (menu : Menu) (col : List Cell) : Type 0 where
   pub packed : IsPacked c.voices menu
   pub are : IsMenuOf (c.menu i) menu
-  pub there : Contains (items_of menu.columns.items) col
+  pub there : Contains (columns_of menu) col
   pub sums : IsRow c i row.sums.items
 
-pub is_asked : (c : Chains) (t : Tables) (i last : ℕ) (row : Row) (menu : Menu) (col : List Cell) → AreTablesOf c t → i < c.places
-    → last ≡ length t.rows.items → row ≡ get_or t.rows.items (last - 1 - i) row → menu ≡ get_or t.menus.items row.menu menu → Contains (c.menu i) col → IsAsked c i row menu col
-is_asked c t i last row menu col are h e is is_menu there = record {
-  packed = subst (λ (m : Menu). IsPacked c.voices m) (sym is_menu) (are.rows.packed row.menu menu here.named);
+pub is_asked : (c : Chains) (menus : List Menu) (i : ℕ) (row : Row) (menu : Menu) (col : List Cell) → All (IsPacked c.voices) menus → IsRowAt c i menus row
+    → menu ≡ get_or menus row.menu menu → Contains (c.menu i) col → IsAsked c i row menu col
+is_asked c menus i row menu col packed here is_menu there = record {
+  packed = subst (λ (m : Menu). IsPacked c.voices m) (sym is_menu) (packed row.menu menu here.named);
   are = same;
   there = subst (λ (columns : List (List Cell)). Contains columns col) (sym same) there;
   sums = here.sums;
 }
   where
-    here : IsRowAt c i t.menus.items row
-    here =
-        subst (λ (r : Row). IsRowAt c i t.menus.items r) (sym (is ∙ ap (λ n. get_or t.rows.items (n - 1 - i) row) e)) (row_for c t i row are h)
-
-    same : items_of menu.columns.items ≡ c.menu i
+    same : columns_of menu ≡ c.menu i
     same = subst (λ (m : Menu). IsMenuOf (c.menu i) m) (sym is_menu) (here.menu menu)
 
 -- the least sum of the place's column
 pub least_at : (c : Chains) (i k : ℕ) (row : Row) (menu : Menu) (col : List Cell) → IsAsked c i row menu col → k < length menu.columns.items
-    → get_or (items_of menu.columns.items) k [] ≡ col → IsLeast c (suc i) (Some col) (get_or row.sums.items k None)
+    → get_or (columns_of menu) k [] ≡ col → IsLeast c (suc i) (Some col) (get_or row.sums.items k None)
 least_at c i k row menu col asked h e =
     subst (λ (d : List Cell). IsLeast c (suc i) (Some d) (get_or row.sums.items k None)) (ap (λ xs. get_or xs k []) (sym asked.are) ∙ e)
     (asked.sums.least k (omega (arith, length-columns menu.columns.items (c.menu i) asked.are)))
@@ -119,15 +180,10 @@ at_most_more most more None h is = tt
 at_most_more most more (Some x) h is = omega (arith, h, is)
 
 -- each sum of a row of the tables is small
-pub small_in : (c : Chains) (t : Tables) (i last : ℕ) (row : Row) (k : ℕ) → AreTablesOf c t → i < c.places → last ≡ length t.rows.items
-    → row ≡ get_or t.rows.items (last - 1 - i) row → k < length row.sums.items → IsAtMost (c.places * 2 ^ 53) (get_or row.sums.items k None)
-small_in c t i last row k are h e is within =
-    at_most_more ((last - 1 - i) * 2 ^ 53) (c.places * 2 ^ 53) (get_or row.sums.items k None) (omega (arith, are.whole, e)) (here k within)
-  where
-    here : AllAtMost ((last - 1 - i) * 2 ^ 53) row.sums.items
-    here =
-        subst (λ (r : Row). AllAtMost ((last - 1 - i) * 2 ^ 53) r.sums.items) (sym is)
-        (are.rows.small (last - 1 - i) row (omega (arith, are.whole, e, h)))
+pub small_in : (c : Chains) (menus : List Menu) (i k : ℕ) (row : Row) → IsRowAt c i menus row → k < length row.sums.items
+    → IsAtMost (c.places * 2 ^ 53) (get_or row.sums.items k None)
+small_in c menus i k row here h =
+    at_most_more ((c.places - 1 - i) * 2 ^ 53) (c.places * 2 ^ 53) (get_or row.sums.items k None) (omega arith) (here.small k h)
 
 -- ---- a row grows by a sum at a time
 

@@ -1,5 +1,5 @@
 -- What tables keep of chains.
-use Rattle.std.specs.Prelude.{◌≡◌, ℕ, suc, ◌-◌, ◌*◌, ◌^◌, ◌<◌, ◌≤◌, List, [], length, slice_index_or, Option, Some, None, IsSomeAnd}
+use Rattle.std.specs.Prelude.{◌≡◌, ℕ, suc, ◌-◌, ◌*◌, ◌^◌, ◌<◌, ◌≤◌, List, [], length, slice_index_or, Option, Some, None, IsSomeAnd, MatchOption}
 use Rattle.std.specs.Borrow.{Bor}
 use Rattle.std.specs.List.{All, Contains}
 use Rattle.arrayvec.specs.ArrayVec.{ArrayVec}
@@ -20,18 +20,19 @@ pub record IsRowAt (c : Chains) (i : ℕ) (menus : List Menu) (row : Row) : Type
   pub named : row.menu < length menus
   pub menu : (d : Menu) → IsMenuOf (c.menu i) (slice_index_or menus row.menu d)
   pub sums : IsRow c i row.sums.items
+  pub small : AllAtMost ((c.places - 1 - i) * 2 ^ 53) row.sums.items
 
--- the rows are those of the last places, that of the last place first
-pub record AreRows (c : Chains) (menus : List Menu) (rows : List Row) : Type 0 where
-  pub few : length rows ≤ c.places
+-- places have these numbers of rows, the last place first
+pub record AreRows (c : Chains) (menus : List Menu) (rows : List Row) (places : List ℕ) : Type 0 where
+  pub few : length places ≤ c.places
   pub packed : All (IsPacked c.voices) menus
-  pub at : (j : ℕ) (d : Row) → j < length rows → IsRowAt c (c.places - 1 - j) menus (slice_index_or rows j d)
-  pub small : (j : ℕ) (d : Row) → j < length rows → AllAtMost (j * 2 ^ 53) (slice_index_or rows j d).sums.items
+  pub named : All (λ number. number < length rows) places
+  pub at : (j : ℕ) (d : Row) → j < length places → IsRowAt c (c.places - 1 - j) menus (slice_index_or rows (slice_index_or places j 0) d)
 
--- menus keep their numbers among more of them
-pub record KeepNumbers (menus more : List Menu) : Type 0 where
-  pub longer : length menus ≤ length more
-  pub same : (k : ℕ) (d : Menu) → k < length menus → slice_index_or more k d ≡ slice_index_or menus k d
+-- items keep their numbers among more of them
+pub record KeepNumbers {X : Type 0} (items more : List X) : Type 0 where
+  pub longer : length items ≤ length more
+  pub same : (k : ℕ) (d : X) → k < length items → slice_index_or more k d ≡ slice_index_or items k d
 
 -- packed menus, with another one or without it, have the columns of that one under a number
 pub record HaveColumnsAt (voices : ℕ) (menus more : List Menu) (menu : Menu) (number : ℕ) : Type 0 where
@@ -45,14 +46,38 @@ abbrev pub IsNumberFor : List Menu → List Menu → Menu → ℕ → Type 0
 IsNumberFor menus more menu number =
     (voices : ℕ) → All (IsPacked voices) menus → IsPacked voices menu → HaveColumnsAt voices menus more menu number
 
+-- two rows have the same menu and the same sums
+abbrev pub AreSameRows : Row → Row → Type 0
+AreSameRows row other = (row.menu ≡ other.menu) × (row.sums.items ≡ other.sums.items)
+
+-- rows, with another one or without it, have the same as that one under a number
+pub record HaveRowAt (rows more : List Row) (row : Row) (number : ℕ) : Type 0 where
+  pub keep : KeepNumbers rows more
+  pub within : number < length more
+  pub same : (d : Row) → AreSameRows (slice_index_or more number d) row
+
 -- the tables have a row for each place, and the least sum over all chains
 pub record AreTablesOf (c : Chains) (t : Tables) : Type 0 where
-  pub whole : length t.rows.items ≡ c.places
-  pub rows : AreRows c t.menus.items t.rows.items
+  pub whole : length t.places.items ≡ c.places
+  pub rows : AreRows c t.menus.items t.rows.items t.places.items
   pub start : IsLeast c 0 None t.start
   pub small_start : IsAtMost (c.places * 2 ^ 53) t.start
 
--- whatever chains tables are of: this is the least sum behind a column of a place's menu
+-- this row has the number, where any has
+abbrev pub IsNumbered : List Row → ℕ → Option (Bor Row) → Type 0
+IsNumbered rows number found = number < length rows → IsSomeAnd found (λ row. row.now ≡ slice_index_or rows number row.now)
+
+-- whatever chains rows are of: this is the row of the first place that has one; none only where no place has one
+abbrev pub IsLatestRow : Tables → Option (Bor Row) → Type 0
+IsLatestRow t found =
+    (c : Chains) → AreRows c t.menus.items t.rows.items t.places.items → MatchOption found (length t.places.items ≡ 0)
+    (λ row. (0 < length t.places.items) × IsRowAt c (c.places - length t.places.items) t.menus.items row.now)
+
+-- whatever chains tables are of: this is the row of a place
+abbrev pub IsRowOfPlace : Tables → ℕ → Option (Bor Row) → Type 0
+IsRowOfPlace t i found = (c : Chains) → AreTablesOf c t → i < c.places → IsSomeAnd found (λ row. IsRowAt c i t.menus.items row.now)
+
+-- this is the least sum behind a column of a place's menu
 abbrev pub IsRestBehind : Tables → ℕ → List Cell → Option ℕ → Type 0
 IsRestBehind t i d rest = (c : Chains) → AreTablesOf c t → i < c.places → Contains (c.menu i) d → IsLeast c (suc i) (Some d) rest
 

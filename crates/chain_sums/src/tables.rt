@@ -1,14 +1,14 @@
 //! Tables of least sums over chains.
 
 ghost use Rattle.std.specs.Prelude.{◌≡◌, ◌<◌, ◌≤◌, ◌+◌, ◌-◌, ℕ, List, [], ◌*◌, ◌^◌, Some, length, suc, replicate, IfOk, IfErr, IfSome, OnOk, OnErr, IsSomeAnd, slice_index_or};
-ghost use Rattle.std.specs.List.{Contains};
+ghost use Rattle.std.specs.Bool.{OnTrue};
 ghost use Rattle.fux_grid.specs.Exercises.{bar_of, slot_of};
 ghost use Rattle.chain_sums.specs.Candidates.{AreAllCandidates, GoByBounds};
 ghost use Rattle.chain_sums.specs.Chains.{AreFull, Chains, IsLeast};
 ghost use Rattle.chain_sums.specs.Menus.{HaveSameColumns, IsMenuOf, IsPacked};
 ghost use Rattle.chain_sums.specs.Rows.{AllAtMost, AreOneCostAbove, IsAtMost, IsRow};
 ghost use Rattle.chain_sums.specs.Still.{IsStill};
-ghost use Rattle.chain_sums.specs.Tables.{AreNarrow, AreRows, AreTablesOf, IsColumnAt, IsNumberFor, IsRestAt, IsRestBehind, TellsWidth};
+ghost use Rattle.chain_sums.specs.Tables.{AreNarrow, AreRows, AreSameRows, AreTablesOf, HaveRowAt, IsColumnAt, IsNumberFor, IsRestAt, IsLatestRow, IsNumbered, IsRestBehind, IsRowOfPlace, TellsWidth};
 
 use crate::candidates::{Candidate, candidates, least_of_candidates};
 use crate::fresh::are_fresh;
@@ -28,7 +28,7 @@ pub enum TableFault {
     Memory,
 }
 
-/// The least sums of a place.
+/// The least sums of a place, or of several that have the same ones.
 #[derive(Drop)]
 struct Row {
     /// The number of the place's menu.
@@ -41,8 +41,9 @@ struct Row {
 #[derive(Drop)]
 pub struct Tables {
     menus: Vec<Menu>,
-    /// The row of the last place comes first.
     rows: Vec<Row>,
+    /// The number of each place's row. That of the last place comes first.
+    places: Vec<usize>,
     start: Option<u64>,
 }
 
@@ -179,22 +180,20 @@ fn sums_of<L: Links>(
     links: &L,
     i: usize,
     menu: &Menu,
-    menus: &[Menu],
-    rows: &[Row],
+    tables: &Tables,
 ) -> Result<Vec<Option<u64>>, Memory>
-    requires place { i + 1 + length rows.now ≡ (L.chains links.now).places }
+    requires place { i + 1 + length tables.now.places.items ≡ (L.chains links.now).places }
     requires short { (L.chains links.now).places ≤ 192 }
     requires menu { IsMenuOf ((L.chains links.now).menu i) menu.now }
     requires full { AreFull (L.chains links.now).voices ((L.chains links.now).menu i) }
-    requires rows { AreRows (L.chains links.now) menus.now rows.now }
+    requires rows { AreRows (L.chains links.now) tables.now.menus.items tables.now.rows.items tables.now.places.items }
     ensures row { IfOk result (λ row. IsRow (L.chains links.now) i row.items) }
-    ensures small { IfOk result (λ row. AllAtMost (length rows.now * 2 ^ 53) row.items) }
+    ensures small { IfOk result (λ row. AllAtMost (length tables.now.places.items * 2 ^ 53) row.items) }
 {
-    if rows.is_empty() {
+    let Some(next) = tables.latest() else {
         return sums_at_end(alloc, menu.len());
-    }
-    let next = &rows[rows.len() - 1];
-    sums_before(alloc, links, i, menu, &menus[next.menu], &next.sums)
+    };
+    sums_before(alloc, links, i, menu, &tables.menus[next.menu], &next.sums)
 }
 
 /// The number of a menu that has the same columns as this one.
@@ -222,37 +221,92 @@ fn number_of(menus: &mut Vec<Menu>, menu: Menu) -> Result<usize, Memory>
     Ok(number)
 }
 
+/// Whether two rows are the same.
+fn are_same_rows(row: &Row, other: &Row) -> bool
+    ensures { OnTrue result (AreSameRows row.now other.now) }
+{
+    row.menu == other.menu && row.sums.as_slice() == other.sums.as_slice()
+}
+
+/// The number of a row. It is put behind the others unless it is the last one over again.
+fn number_of_row(rows: &mut Vec<Row>, row: Row) -> Result<usize, Memory>
+    ensures { IfOk result (HaveRowAt rows.old.items rows.new.items row) }
+{
+    let count = rows.len();
+    if count > 0 && are_same_rows(&rows[count - 1], &row) {
+        return Ok(count - 1);
+    }
+    rows.push(row)?;
+    Ok(count)
+}
+
 impl Tables {
+    /// The row of a number.
+    #[inline]
+    fn numbered(&self, number: usize) -> Option<&Row>
+        ensures { IsNumbered self.now.rows.items number result }
+    {
+        if number < self.rows.len() {
+            Some(&self.rows[number])
+        } else {
+            None
+        }
+    }
+
+    /// The row of the first place that has one; none only where no place has one.
+    fn latest(&self) -> Option<&Row>
+        ensures { IsLatestRow self.now result }
+    {
+        let count = self.places.len();
+        if count == 0 {
+            return None;
+        }
+        self.numbered(self.places[count - 1])
+    }
+
+    /// The row of place `i`.
+    #[inline]
+    fn row_of(&self, i: usize) -> Option<&Row>
+        ensures { IsRowOfPlace self.now i result }
+    {
+        if i >= self.places.len() {
+            return None;
+        }
+        self.numbered(self.places[self.places.len() - 1 - i])
+    }
+
     /// Adds the row of place `i`, the last one that has none yet.
     fn add_row<L: Links>(&mut self, alloc: Global, links: &L, i: usize) -> Result<(), Memory>
-        requires place { i + 1 + length self.old.rows.items ≡ (L.chains links.now).places }
+        requires place { i + 1 + length self.old.places.items ≡ (L.chains links.now).places }
         requires short { (L.chains links.now).places ≤ 192 }
-        requires rows { AreRows (L.chains links.now) self.old.menus.items self.old.rows.items }
-        ensures rows { OnOk result (AreRows (L.chains links.now) self.new.menus.items self.new.rows.items) }
-        ensures longer { OnOk result (length self.new.rows.items ≡ length self.old.rows.items + 1) }
+        requires rows { AreRows (L.chains links.now) self.old.menus.items self.old.rows.items self.old.places.items }
+        ensures rows { OnOk result
+            (AreRows (L.chains links.now) self.new.menus.items self.new.rows.items self.new.places.items) }
+        ensures longer { OnOk result (length self.new.places.items ≡ length self.old.places.items + 1) }
     {
         let Ok(columns) = links.menu(alloc, i) else {
             return Err(Memory);
         };
         let menu = Menu::new(alloc, links.voices(), columns)?;
-        let sums = sums_of(alloc, links, i, &menu, &self.menus, &self.rows)?;
+        let sums = sums_of(alloc, links, i, &menu, self)?;
         let number = number_of(&mut self.menus, menu)?;
-        self.rows.push(Row { menu: number, sums })?;
+        let row = Row { menu: number, sums };
+        let place = number_of_row(&mut self.rows, row)?;
+        self.places.push(place)?;
         Ok(())
     }
 
     /// The least sum over all chains, where each place has its row.
     fn least_of_all<L: Links>(&self, links: &L) -> Option<u64>
-        requires whole { length self.now.rows.items ≡ (L.chains links.now).places }
+        requires whole { length self.now.places.items ≡ (L.chains links.now).places }
         requires short { (L.chains links.now).places ≤ 192 }
-        requires rows { AreRows (L.chains links.now) self.now.menus.items self.now.rows.items }
+        requires rows { AreRows (L.chains links.now) self.now.menus.items self.now.rows.items self.now.places.items }
         ensures least { IsLeast (L.chains links.now) 0 None result }
         ensures small { IsAtMost ((L.chains links.now).places * 2 ^ 53) result }
     {
-        if self.rows.is_empty() {
+        let Some(first) = self.latest() else {
             return Some(0);
-        }
-        let first = &self.rows[self.rows.len() - 1];
+        };
         least_behind(links, 0, None, &self.menus[first.menu], &first.sums)
     }
 
@@ -266,6 +320,7 @@ impl Tables {
         let mut tables = Tables {
             menus: Vec::new(alloc),
             rows: Vec::new(alloc),
+            places: Vec::new(alloc),
             start: None,
         };
         let places = links.places();
@@ -284,10 +339,7 @@ impl Tables {
         ensures least { IsRestBehind self.now i column.now.items result }
         ensures small { (c : Chains) → AreTablesOf c self.now → i < c.places → IsAtMost (c.places * 2 ^ 53) result }
     {
-        if i >= self.rows.len() {
-            return None;
-        }
-        let row = &self.rows[self.rows.len() - 1 - i];
+        let row = self.row_of(i)?;
         if row.menu >= self.menus.len() {
             return None;
         }
@@ -304,10 +356,7 @@ impl Tables {
         ensures least { IsRestAt self.now i k result }
         ensures small { (c : Chains) → AreTablesOf c self.now → i < c.places → IsAtMost (c.places * 2 ^ 53) result }
     {
-        if i >= self.rows.len() {
-            return None;
-        }
-        let row = &self.rows[self.rows.len() - 1 - i];
+        let row = self.row_of(i)?;
         if k >= row.sums.len() {
             return None;
         }
@@ -319,10 +368,8 @@ impl Tables {
         ensures { (c : Chains) → AreTablesOf c self.now → i < c.places
             → IsSomeAnd result (λ menu. IsMenuOf (c.menu i) menu.now) }
     {
-        if i >= self.rows.len() {
-            return None;
-        }
-        self.menus.get(self.rows[self.rows.len() - 1 - i].menu)
+        let row = self.row_of(i)?;
+        self.menus.get(row.menu)
     }
 
     /// How many columns the menu of a place has.
