@@ -97,7 +97,7 @@ pub(crate) fn sound_imperfect(column: &[Cell], degrees: u8, v: usize, w: usize) 
 }
 
 /// Whether a rule is broken at a column, whose cells are `now`, after the column whose cells are `before`.
-#[inline]
+#[inline(always)]
 pub fn breaks(
     rule: u8,
     ex: &Exercise,
