@@ -59,7 +59,7 @@ pub fn toll_of_move(previous: Option<Pitch>, now: Cell) -> Option<u8>
 }
 
 /// 1 where a toll stands for a free voice, else 0.
-#[inline]
+#[inline(always)]
 fn cost_of_voice(toll: u8, ex: &Exercise, latest: &Latest, now: &[Cell], v: u8) -> u32
     ensures value { result ≡ (if voices_words.is_free ex.now v && holds_of (rows.charges_move toll) (terms.move_from (pitch_at latest.now.pitches v) (cell_in now.now v)) then 1 else 0) }
     ensures bound { result ≤ 1 }
@@ -74,6 +74,7 @@ fn cost_of_voice(toll: u8, ex: &Exercise, latest: &Latest, now: &[Cell], v: u8) 
 }
 
 /// In how many free voices Q7, Q8, Q9 or Q10 stands in a column, from the pitch of each voice's latest note before it.
+#[inline(always)]
 #[tactic(auto, unfolding(crate::specs::Rows::toll_rows))]
 pub fn cost(
     toll: u8,
