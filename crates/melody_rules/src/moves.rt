@@ -31,7 +31,7 @@ fn goes_far(degrees: u16) -> bool
     degrees == 6 || degrees > 7
 }
 
-/// Whether a line may move from one pitch to another. By most that it may not it would go too far, and their degrees tell that.
+/// Whether a line may move from one pitch to another. Most moves that it may not make go too far, which degrees alone tell.
 #[inline]
 #[tactic(auto, using(crate::proofs::MoveLemmas::far_is_unmelodic))]
 fn leads_to(p: Pitch, q: Pitch) -> bool
