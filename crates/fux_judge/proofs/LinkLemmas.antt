@@ -3,8 +3,8 @@
 use Rattle.std.proofs.Common.{◌≡◌, ◌≢◌, ℕ, ◌+◌, ◌*◌, ◌==◌, ◌≤◌, ◌&&◌, ◌||◌, Bool, true, false, if◌then◌else◌, List, [], ◌∷◌, map, Option, Some, None, zero, suc, refl, ap, sym, ◌∙◌, subst, arith}
 use Rattle.std.specs.Prelude.{IsSomeAnd}
 use Rattle.std.specs.Borrow.{Bor}
-use Rattle.std.specs.List.{filter, list_any, sum_by}
-use Rattle.std.proofs.lemmas.Bool.{eqb-true, or_parts, cond-false, ne_eqb}
+use Rattle.std.specs.List.{filter, list_all, list_any, sum_by}
+use Rattle.std.proofs.lemmas.Bool.{and_parts, eqb-true, or_parts, cond-false, ne_eqb}
 use Rattle.std.proofs.lemmas.List.Sums.{sum_by-cons}
 use Rattle.arrayvec.specs.ArrayVec.{ArrayVec}
 use Rattle.fux_grid.specs.declared.cell.Cell.{Cell}
@@ -12,13 +12,16 @@ use Rattle.fux_grid.specs.declared.cell.Cell.TheVariants.{Rest, Hold, Start}
 use Rattle.fux_grid.specs.declared.exercise.Exercise.{Exercise}
 use Rattle.fux_grid.specs.Cells.{cell_in, pitch_of}
 use Rattle.fux_grid.specs.Columns.{line}
+use Rattle.rule_law.specs.declared.table.Form.{Form}
+use Rattle.rule_law.specs.declared.table.Form.TheVariants.{OneVoice, TwoVoices}
 use Rattle.rule_law.specs.declared.table.Kind.{Kind}
 use Rattle.rule_law.specs.declared.table.Kind.TheVariants.{Column, Pair, Window}
 use Rattle.rule_law.specs.Forms as forms
-use Rattle.rule_law.specs.Nearby.{NearRow, whole_of, cells_before, previous_pitches, sounding_pitches}
+use Rattle.rule_law.specs.Nearby.{NearRow, Pitches, whole_of, cells_before, previous_pitches, sounding_pitches}
 use Rattle.rule_law.specs.Places.{Row}
 use Rattle.rule_law.specs.Rulebooks.{RuleRow, TollRow, no_rule, no_toll}
 use Rattle.rule_law.specs.Terms.{previous_pitch}
+use Rattle.rule_law.specs.Voices.{pair_sets, voice_sets}
 use Rattle.melody_rules.specs.Rows as melody
 use Rattle.motion_rules.specs.Book as motion_book
 use Rattle.motion_rules.specs.InnerVoices.{inner_toll}
@@ -68,11 +71,11 @@ near_between : {R : Type 0} (row : NearRow R) (i : ℕ) (prev : Option (Bor (Arr
 near_between row i None next = refl
 near_between row i (Some col) next = ap (λ pitches. row i col.now.items pitches next) (sym (all_sound col.now.items))
 
--- a row of neighbors, read from what a link has
-near_at : {R : Type 0} (row : NearRow R) (l : Link) → IsLink l
-    → row l.place l.before.now l.latest.pitches l.next.now ≡ whole_of row l.place (behind_of (given l.prev)) l.next.now []
-near_at row l link =
-    ap (λ pitches. row l.place l.before.now pitches l.next.now) link.latest
+-- a row of neighbors, read from what a link has and from the pitches that sound in its first column
+near_at : {R : Type 0} (row : NearRow R) (l : Link) → IsLink l → (pitches : Pitches) → pitches ≡ sounding_pitches l.before.now
+    → row l.place l.before.now pitches l.next.now ≡ whole_of row l.place (behind_of (given l.prev)) l.next.now []
+near_at row l link pitches heard =
+    ap (λ latest. row l.place l.before.now latest l.next.now) heard
     ∙ ap (λ cells. row l.place cells (sounding_pitches cells) l.next.now) link.before
     ∙ near_between row l.place l.prev l.next.now
 
@@ -193,27 +196,28 @@ module _ (rule : ℕ) (between : is_rule_between rule ≡ true) where
         at (Some Doubling) its = record { row = doubling.doubling_rows ex voices; is = doubling_row its }
 
 -- so what a link reads is what the table says
-module _ (rule voices : ℕ) (l : Link) (link : IsLink l) (between : is_rule_between rule ≡ true) where
-  broken_at : (row : NearRow Bool) → breaks rule l.exercise.now voices ≡ whole_of row → row l.place l.before.now l.latest.pitches l.next.now ≡ breaks_at_link l rule voices
+module _ (rule voices : ℕ) (l : Link) (link : IsLink l) (pitches : Pitches) (heard : pitches ≡ sounding_pitches l.before.now)
+    (between : is_rule_between rule ≡ true) where
+  broken_at : (row : NearRow Bool) → breaks rule l.exercise.now voices ≡ whole_of row → row l.place l.before.now pitches l.next.now ≡ breaks_at_link l rule voices
   broken_at row e =
-      near_at row l link
+      near_at row l link pitches heard
       ∙ sym (ap (λ (r : Row Bool). r l.place (behind_of (given l.prev)) l.next.now []) e)
       ∙ sym (ap (λ b. b && breaks rule l.exercise.now voices l.place (behind_of (given l.prev)) l.next.now []) between)
 
   pub melody_at : crate_with rule ≡ Some Melody
-      → melody.near_rows rule l.exercise.now voices l.place l.before.now l.latest.pitches l.next.now ≡ breaks_at_link l rule voices
+      → melody.near_rows rule l.exercise.now voices l.place l.before.now pitches l.next.now ≡ breaks_at_link l rule voices
   melody_at its = broken_at (melody.near_rows rule l.exercise.now voices) (melody_row rule between l.exercise.now voices its)
 
   pub motion_at : crate_with rule ≡ Some Motion
-      → motion.near_rows rule l.exercise.now voices l.place l.before.now l.latest.pitches l.next.now ≡ breaks_at_link l rule voices
+      → motion.near_rows rule l.exercise.now voices l.place l.before.now pitches l.next.now ≡ breaks_at_link l rule voices
   motion_at its = broken_at (motion.near_rows rule l.exercise.now voices) (motion_row rule between l.exercise.now voices its)
 
   pub dissonance_at : crate_with rule ≡ Some Dissonance
-      → dissonance.near_rows rule l.exercise.now voices l.place l.before.now l.latest.pitches l.next.now ≡ breaks_at_link l rule voices
+      → dissonance.near_rows rule l.exercise.now voices l.place l.before.now pitches l.next.now ≡ breaks_at_link l rule voices
   dissonance_at its = broken_at (dissonance.near_rows rule l.exercise.now voices) (dissonance_row rule between l.exercise.now voices its)
 
   pub rhythm_at : crate_with rule ≡ Some Rhythm
-      → rhythm.near_rows rule l.exercise.now voices l.place l.before.now l.latest.pitches l.next.now ≡ breaks_at_link l rule voices
+      → rhythm.near_rows rule l.exercise.now voices l.place l.before.now pitches l.next.now ≡ breaks_at_link l rule voices
   rhythm_at its = broken_at (rhythm.near_rows rule l.exercise.now voices) (rhythm_row rule between l.exercise.now voices its)
 
   pub doubling_at : crate_with rule ≡ Some Doubling → doubling.breaks_in_column l.exercise.now voices l.place l.next.now ≡ breaks_at_link l rule voices
@@ -234,6 +238,72 @@ for_all_sets ex i before next rule = at (is_of_neighbors (rule_at rule).kind)
     at : (b : Bool) → list_any (λ v. (b && breaks rule ex v i (behind_of before) next []) && is_strict_at rule ex v i) (sets_of_rule rule ex) ≡ list_any (λ v. (b && breaks rule ex v i (behind_of before) next []) && is_strict_at rule ex v i) all_sets
     at true = sym (((rule_keeps rule).form ex i (behind_of before) next []).any (λ v. is_strict_at rule ex v i))
     at false = none (sets_of_rule rule ex) ∙ sym (none all_sets)
+
+-- a test that passes for a number passes for one of any that have it
+passes_within : (test : ℕ → Bool) (x : ℕ) (ys : List ℕ) → list_any (λ y. y == x) ys ≡ true → test x ≡ true → list_any test ys ≡ true
+passes_within test x [] here passes = let both : false ≡ true = here in cc
+passes_within test x (y ∷ ys) here passes = at (y == x) refl here (λ h. passes_within test x ys h passes)
+  where
+    later : (a : Bool) → list_any test ys ≡ true → (a || list_any test ys) ≡ true
+    later true h = refl
+    later false h = h
+
+    at : (b : Bool) → (y == x) ≡ b → (b || list_any (λ y. y == x) ys) ≡ true → (list_any (λ y. y == x) ys ≡ true → list_any test ys ≡ true)
+        → (test y || list_any test ys) ≡ true
+    at true e h more = ap (λ b. b || list_any test ys) (ap test (eqb-true y x e) ∙ passes)
+    at false e h more = later (test y) (more h)
+
+-- and one that passes for one of some numbers passes for one of any that have them all
+any_within : (test : ℕ → Bool) (few many : List ℕ) → list_all (λ x. list_any (λ y. y == x) many) few ≡ true
+    → list_any test few ≡ true → list_any test many ≡ true
+any_within test [] many within some = let both : false ≡ true = some in cc
+any_within test (x ∷ few) many within some =
+    let parts = and_parts (list_any (λ y. y == x) many) (list_all (λ x. list_any (λ y. y == x) many) few) within in
+    at (test x) refl some (passes_within test x many parts.0) (any_within test few many parts.1)
+  where
+    at : (b : Bool) → test x ≡ b → (b || list_any test few) ≡ true → (test x ≡ true → list_any test many ≡ true)
+        → (list_any test few ≡ true → list_any test many ≡ true) → list_any test many ≡ true
+    at true e h this more = this e
+    at false e h this more = more h
+
+between_two : (a b c : Bool) → (a ≡ true → b ≡ true) → (b ≡ true → c ≡ true) → a ≡ c → b ≡ c
+between_two a true c less more e = sym (more refl)
+between_two true false c less more e = let both : false ≡ true = less refl in cc
+between_two false false c less more e = e
+
+-- or those of its form in four voices: the sets of one voice, or of two
+module _ (ex : Exercise) (i : ℕ) (before : Option (List Cell)) (next : List Cell) (rule : ℕ) where
+  abbrev pub strictly : ℕ → Bool
+  strictly v = breaks_between ex i before next rule v && is_strict_at rule ex v i
+
+  of_form : (form : Form) → (rule_at rule).form ≡ form
+      → list_any strictly (forms.sets_of form ex.voices) ≡ breaks_strictly ex i before next rule
+  of_form form e =
+      ap (λ form. list_any strictly (forms.sets_of form ex.voices)) (sym e) ∙ for_all_sets ex i before next rule
+
+  pub for_each_voice : (rule_at rule).form ≡ OneVoice → list_any strictly voice_sets ≡ breaks_strictly ex i before next rule
+  unfolding forms.all_sets
+  for_each_voice e =
+      between_two (list_any strictly (forms.voice_sets_of ex.voices)) (list_any strictly voice_sets) (breaks_strictly ex i before next rule)
+      (any_within strictly (forms.voice_sets_of ex.voices) voice_sets (at (ex.voices == 2)))
+      (any_within strictly voice_sets all_sets refl)
+      (of_form OneVoice e)
+    where
+      at : (b : Bool) → list_all (λ x. list_any (λ y. y == x) voice_sets) (if b then 1 ∷ 2 ∷ [] else voice_sets) ≡ true
+      at true = refl
+      at false = refl
+
+  pub for_each_pair : (rule_at rule).form ≡ TwoVoices → list_any strictly pair_sets ≡ breaks_strictly ex i before next rule
+  unfolding forms.all_sets
+  for_each_pair e =
+      between_two (list_any strictly (forms.pair_sets_of ex.voices)) (list_any strictly pair_sets) (breaks_strictly ex i before next rule)
+      (any_within strictly (forms.pair_sets_of ex.voices) pair_sets (at (ex.voices == 2)))
+      (any_within strictly pair_sets all_sets refl)
+      (of_form TwoVoices e)
+    where
+      at : (b : Bool) → list_all (λ x. list_any (λ y. y == x) pair_sets) (if b then 3 ∷ [] else pair_sets) ≡ true
+      at true = refl
+      at false = refl
 
 -- what is read of a link is what is read of its columns
 module _ (l : Link) (ex : Bor Exercise) (i : ℕ) (prev : Option (Bor (ArrayVec Cell))) (next : List Cell)
@@ -338,31 +408,32 @@ module _ (toll : ℕ) (between : is_toll_between toll ≡ true) where
             of_rhythm its false e = record { row = λ i before previous now. 0; is = other_rhythm_toll its e }
         at (Some Doubling) its b e = record { row = doubling.doubling_tolls toll ex; is = doubling_toll its }
 
-module _ (toll : ℕ) (l : Link) (link : IsLink l) (between : is_toll_between toll ≡ true) where
-  cost_by : (row : NearRow ℕ) → costs toll l.exercise.now ≡ whole_of row → row l.place l.before.now l.latest.pitches l.next.now ≡ cost_at_link l toll
+module _ (toll : ℕ) (l : Link) (link : IsLink l) (pitches : Pitches) (heard : pitches ≡ sounding_pitches l.before.now)
+    (between : is_toll_between toll ≡ true) where
+  cost_by : (row : NearRow ℕ) → costs toll l.exercise.now ≡ whole_of row → row l.place l.before.now pitches l.next.now ≡ cost_at_link l toll
   cost_by row e =
-      near_at row l link
+      near_at row l link pitches heard
       ∙ sym (ap (λ (r : Row ℕ). r l.place (behind_of (given l.prev)) l.next.now []) e)
       ∙ sym (ap (λ b. if b then costs toll l.exercise.now l.place (behind_of (given l.prev)) l.next.now [] else 0) between)
 
   pub melody_costs : crate_with_toll toll ≡ Some Melody
-      → melody.toll_rows toll l.exercise.now l.place l.before.now l.latest.pitches l.next.now ≡ cost_at_link l toll
+      → melody.toll_rows toll l.exercise.now l.place l.before.now pitches l.next.now ≡ cost_at_link l toll
   melody_costs its = cost_by (melody.toll_rows toll l.exercise.now) (melody_toll toll between l.exercise.now its)
 
   pub inner_costs : crate_with_toll toll ≡ Some Motion → toll ≡ 12
-      → inner_toll l.exercise.now l.place l.before.now l.latest.pitches l.next.now ≡ cost_at_link l toll
+      → inner_toll l.exercise.now l.place l.before.now pitches l.next.now ≡ cost_at_link l toll
   inner_costs its is = cost_by (inner_toll l.exercise.now) (inner_toll_row toll between l.exercise.now its (ap (λ t. t == 12) is))
 
   pub motion_costs : crate_with_toll toll ≡ Some Motion → toll ≢ 12
-      → motion.toll_rows toll l.exercise.now l.place l.before.now l.latest.pitches l.next.now ≡ cost_at_link l toll
+      → motion.toll_rows toll l.exercise.now l.place l.before.now pitches l.next.now ≡ cost_at_link l toll
   motion_costs its other = cost_by (motion.toll_rows toll l.exercise.now) (motion_toll toll between l.exercise.now its (ne_eqb toll 12 other))
 
   pub dissonance_costs : crate_with_toll toll ≡ Some Dissonance
-      → dissonance.toll_rows toll l.exercise.now l.place l.before.now l.latest.pitches l.next.now ≡ cost_at_link l toll
+      → dissonance.toll_rows toll l.exercise.now l.place l.before.now pitches l.next.now ≡ cost_at_link l toll
   dissonance_costs its = cost_by (dissonance.toll_rows toll l.exercise.now) (dissonance_toll toll between l.exercise.now its)
 
   pub ligature_costs : crate_with_toll toll ≡ Some Rhythm → toll ≡ 15
-      → ligature_toll l.exercise.now l.place l.before.now l.latest.pitches l.next.now ≡ cost_at_link l toll
+      → ligature_toll l.exercise.now l.place l.before.now pitches l.next.now ≡ cost_at_link l toll
   ligature_costs its is = cost_by (ligature_toll l.exercise.now) (ligature_toll_row toll between l.exercise.now its (ap (λ t. t == 15) is))
 
   pub other_rhythm_costs : crate_with_toll toll ≡ Some Rhythm → toll ≢ 15 → 0 ≡ cost_at_link l toll

@@ -2,19 +2,18 @@
 use Rattle.std.specs.Prelude.{◌≡◌, ℕ, ◌<◌, ◌*◌, Bool, ◌&&◌, List}
 use Rattle.std.specs.List.{list_any}
 use Rattle.fux_grid.specs.Exercises.{IsValid, columns_in}
-use Rattle.rule_law.specs.Nearby.{cells_before, sounding_pitches}
+use Rattle.rule_law.specs.Nearby.{cells_before}
 use Rattle.penalty_sheet.specs.declared.sheet.Sheet.{Sheet}
 use Rattle.penalty_sheet.specs.Weights.{weight_of}
 use Rattle.fux_judge.specs.declared.link.Link.{Link}
 use Rattle.fux_judge.specs.Links.{breaks_between, breaks_strictly, cost_between, given}
 use Rattle.fux_judge.specs.Penalties.{is_strict_at}
 
--- its column is one of a setting, and what is kept of the one before it is its own
+-- its column is one of a setting, and the cells of the one before it are its own
 pub record IsLink (l : Link) : Type 0 where
   pub valid : IsValid l.exercise.now
   pub place : l.place < columns_in l.exercise.now
   pub before : l.before.now ≡ cells_before l.prev
-  pub latest : l.latest.pitches ≡ sounding_pitches l.before.now
 
 -- a rule is broken there for a set of voices, and strictly for one of some sets, or of all
 abbrev pub breaks_at_link : Link → ℕ → ℕ → Bool

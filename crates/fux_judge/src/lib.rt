@@ -11,6 +11,7 @@ mod lines;
 mod link;
 mod moment;
 mod numbers;
+mod pairs;
 mod pruning;
 mod reading;
 mod state;

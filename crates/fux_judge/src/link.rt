@@ -8,12 +8,11 @@ ghost use Rattle.fux_judge.specs.Links.{column_of, given, is_of_neighbors, is_ru
 ghost use Rattle.fux_judge.specs.Neighbors.{IsLink, breaks_at_link, breaks_strictly_at_link, charge_at_link, cost_at_link, is_strict_for};
 ghost use Rattle.fux_judge.specs.Penalties.{is_strict_at};
 
-use crate::numbers::{
-    RuleCrate, column_rules, column_tolls, crate_of, crate_of_toll, form_of, pair_rules, pair_tolls,
-};
+use crate::numbers::{RuleCrate, column_rules, column_tolls, crate_of, crate_of_toll, form_of};
+use crate::pairs::{breaks_pair_rule, pair_charges};
 use fux_grid::{Cell, Column, Exercise, VoiceSet};
 use penalty_sheet::{Sheet, price_at, weight};
-use rule_law::{Latest, cells_of, is_quiet, latest_of_column, sets_of};
+use rule_law::{cells_of, is_quiet, latest_of_column, sets_of};
 
 /// A column of a setting, and the one before it.
 #[derive(Clone, Copy)]
@@ -25,13 +24,12 @@ pub(crate) struct Link<'a> {
     prev: Option<&'a Column>,
     /// The cells of that one.
     before: &'a [Cell],
-    /// What each voice sounds there.
-    latest: Latest,
     /// The cells of the column.
     next: &'a [Cell],
 }
 
 /// The link of two columns.
+#[inline]
 fn link_between<'a>(
     ex: &'a Exercise,
     i: usize,
@@ -46,25 +44,24 @@ fn link_between<'a>(
     ensures prev { result.prev ≡ prev.entry }
     ensures next { result.next.now ≡ next.now.items }
 {
-    let before = cells_of(prev);
     Link {
         exercise: ex,
         place: i,
         prev,
-        before,
-        latest: latest_of_column(before),
+        before: cells_of(prev),
         next: next.as_slice(),
     }
 }
 
 /// Whether a rule of neighbors is broken there for a set of voices.
+#[inline(always)]
 fn is_broken(rule: u8, voices: VoiceSet, link: &Link<'_>) -> bool
     requires rule { is_rule_between rule ≡ true }
     requires link { IsLink link.now }
     ensures { result ≡ breaks_at_link link.now rule voices.bits }
 {
     let (ex, i, before, next) = (link.exercise, link.place, link.before, link.next);
-    let latest = &link.latest;
+    let latest = &latest_of_column(before);
     match crate_of(rule) {
         Some(RuleCrate::Melody) => {
             melody_rules::breaks(rule, ex, voices, i, before, latest, next)
@@ -84,7 +81,8 @@ fn is_broken(rule: u8, voices: VoiceSet, link: &Link<'_>) -> bool
 }
 
 /// Whether it is strictly broken there for a set of voices.
-fn is_strictly_broken(rule: u8, voices: VoiceSet, link: &Link<'_>) -> bool
+#[inline(always)]
+pub(crate) fn is_strictly_broken(rule: u8, voices: VoiceSet, link: &Link<'_>) -> bool
     requires rule { is_rule_between rule ≡ true }
     requires link { IsLink link.now }
     ensures { result ≡ (breaks_at_link link.now rule voices.bits
@@ -135,6 +133,7 @@ fn breaks_one(rules: &[u8], link: &Link<'_>) -> bool
 }
 
 /// What a toll of neighbors costs there, without its weight.
+#[inline(always)]
 fn cost(toll: u8, link: &Link<'_>) -> u32
     requires toll { is_toll_between toll ≡ true }
     requires link { IsLink link.now }
@@ -142,7 +141,7 @@ fn cost(toll: u8, link: &Link<'_>) -> u32
     ensures bound { result ≤ 6 }
 {
     let (ex, i, before, next) = (link.exercise, link.place, link.before, link.next);
-    let latest = &link.latest;
+    let latest = &latest_of_column(before);
     match crate_of_toll(toll) {
         Some(RuleCrate::Melody) => melody_rules::cost(toll, ex, i, before, latest, next),
         Some(RuleCrate::Motion) => {
@@ -165,6 +164,19 @@ fn cost(toll: u8, link: &Link<'_>) -> u32
     }
 }
 
+/// What a toll of neighbors costs there, by its weight.
+#[inline(always)]
+pub(crate) fn charge(toll: u8, sheet: &Sheet, link: &Link<'_>) -> u64
+    requires kind { is_toll_between toll ≡ true }
+    requires first { 1 ≤ toll }
+    requires last { toll ≤ 20 }
+    requires link { IsLink link.now }
+    ensures value { result ≡ charge_at_link sheet.now link.now toll }
+    ensures bound { result ≤ 393210 }
+{
+    u64::from(cost(toll, link)) * u64::from(weight(sheet, toll))
+}
+
 /// What these tolls of neighbors cost there together, by weight.
 fn charges(tolls: &[u8], sheet: &Sheet, link: &Link<'_>) -> u64
     requires kinds { IsTrue (list_all is_toll_between tolls.now) }
@@ -176,8 +188,7 @@ fn charges(tolls: &[u8], sheet: &Sheet, link: &Link<'_>) -> u64
 {
     let mut sum = 0u64;
     for toll in tolls {
-        let charge = u64::from(cost(*toll, link)) * u64::from(weight(sheet, *toll));
-        sum += charge;
+        sum += charge(*toll, sheet, link);
     }
     sum
 }
@@ -220,10 +231,10 @@ pub fn pair_cost<'a>(
         return Some(0);
     }
     let link = link_between(ex, i, prev, next);
-    if breaks_one(pair_rules(), &link) {
+    if breaks_pair_rule(&link) {
         return None;
     }
-    Some(charges(pair_tolls(), sheet, &link))
+    Some(pair_charges(sheet, &link))
 }
 
 /// What a column costs at place `i` behind `prev` by the rules and tolls that read two neighbors alone: the tolls of a column

@@ -45,17 +45,11 @@ const WITHIN_BARS: [u8; 0] = [];
 /// The rules that a column decides by itself.
 const COLUMN_RULES: [u8; 6] = [10, 11, 13, 14, 23, 24];
 
-/// Those that need the column before it too.
-const PAIR_RULES: [u8; 6] = [4, 5, 12, 16, 17, 26];
-
 /// All tolls that are read.
 const TOLLS: [u8; 16] = [1, 2, 3, 4, 5, 6, 7, 8, 9, 10, 11, 12, 13, 14, 15, 16];
 
 /// The tolls that a column decides by itself.
 const COLUMN_TOLLS: [u8; 7] = [1, 2, 3, 4, 5, 6, 15];
-
-/// Those that need the column before it too.
-const PAIR_TOLLS: [u8; 6] = [7, 8, 9, 10, 11, 12];
 
 /// All rules that are read, by ascending numbers: those of all crates.
 #[tactic(auto, unfolding(crate::specs::Rules::rules_read))]
@@ -123,15 +117,6 @@ pub(crate) fn column_rules() -> &'static [u8]
     &COLUMN_RULES
 }
 
-/// Those that need the column before it too.
-#[tactic(auto, unfolding(crate::specs::Links::pair_rules, crate::specs::Rules::rules_read, crate::specs::Rules::rule_at))]
-pub(crate) fn pair_rules() -> &'static [u8]
-    ensures value { result.now ≡ links.pair_rules }
-    ensures kinds { IsTrue (list_all is_rule_between result.now) }
-{
-    &PAIR_RULES
-}
-
 /// All tolls that are read, by ascending numbers: those of all crates.
 #[tactic(auto, unfolding(crate::specs::Rules::tolls_read))]
 pub fn every_toll() -> &'static [u8]
@@ -152,17 +137,6 @@ pub(crate) fn column_tolls() -> &'static [u8]
     ensures few { length result.now ≤ 20 }
 {
     &COLUMN_TOLLS
-}
-
-/// Those that need the column before it too.
-#[tactic(auto, unfolding(crate::specs::Links::pair_tolls, crate::specs::Rules::tolls_read, crate::specs::Rules::toll_at))]
-pub(crate) fn pair_tolls() -> &'static [u8]
-    ensures value { result.now ≡ links.pair_tolls }
-    ensures kinds { IsTrue (list_all is_toll_between result.now) }
-    ensures numbers { IsTrue (list_all (λ toll. nat_le 1 toll && nat_le toll 20) result.now) }
-    ensures few { length result.now ≤ 20 }
-{
-    &PAIR_TOLLS
 }
 
 /// Whether a rule is of melody.

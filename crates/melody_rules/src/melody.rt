@@ -16,7 +16,7 @@ use rule_law::{
 };
 
 /// A rule of neighbors for one voice.
-#[inline]
+#[inline(always)]
 fn breaks_in_voice(rule: u8, species: u8, previous: Option<Pitch>, now: Cell) -> bool
     ensures { result ≡ rows.voice_rule rule species previous now }
 {
@@ -28,6 +28,7 @@ fn breaks_in_voice(rule: u8, species: u8, previous: Option<Pitch>, now: Cell) ->
 }
 
 /// Whether S4, S5 or S26 is broken in a column, from the pitch of each voice's latest note before it.
+#[inline(always)]
 pub fn breaks(
     rule: u8,
     ex: &Exercise,

@@ -1,10 +1,11 @@
 //! Rules on the move to a note: S4, S5 and S26.
 
-ghost use Rattle.std.specs.Prelude.{◌≡◌};
+ghost use Rattle.std.specs.Prelude.{◌≡◌, ◌==◌, ◌||◌, nat_lt};
+ghost use Rattle.fux_pitch.specs.Size.{interval_between};
 ghost use Rattle.melody_rules.specs.Rows as rows;
 
 use fux_grid::Cell;
-use fux_pitch::{Interval, Pitch};
+use fux_pitch::{Interval, Pitch, interval_of};
 use rule_law::{is_repetition, move_from, rises};
 
 /// Whether a line may move so: by a second, a third, a fourth, a fifth, an octave, or a minor sixth up.
@@ -22,14 +23,35 @@ fn is_melodic(i: Interval) -> bool
     }
 }
 
+/// Whether a move of so many degrees is a seventh, or wider than an octave.
+#[inline]
+fn goes_far(degrees: u16) -> bool
+    ensures { result ≡ ((degrees == 6) || nat_lt 7 degrees) }
+{
+    degrees == 6 || degrees > 7
+}
+
+/// Whether a line may move from one pitch to another. Most moves that it may not make go too far, which degrees alone tell.
+#[inline]
+#[tactic(auto, using(crate::proofs::MoveLemmas::far_is_unmelodic))]
+fn leads_to(p: Pitch, q: Pitch) -> bool
+    ensures { result ≡ rows.is_melodic (interval_between p q) }
+{
+    let degrees = (i16::from(q.degree()) - i16::from(p.degree())).unsigned_abs();
+    if goes_far(degrees) {
+        return false;
+    }
+    is_melodic(interval_of(p, q))
+}
+
 /// S4: a note starts by a move that a line may not make. A first note is never a break.
 #[inline]
 pub fn moves_unmelodically(previous: Option<Pitch>, now: Cell) -> bool
     ensures { result ≡ rows.moves_unmelodically previous now }
 {
-    match move_from(previous, now) {
-        Some(step) => !is_melodic(step),
-        None => false,
+    match (previous, now) {
+        (Some(p), Cell::Start(q)) => !leads_to(p, q),
+        _ => false,
     }
 }
 

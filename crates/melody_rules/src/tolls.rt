@@ -57,7 +57,7 @@ pub fn toll_of_move(previous: Option<Pitch>, now: Cell) -> Option<u8>
 }
 
 /// 1 where a toll stands for a free voice, else 0.
-#[inline]
+#[inline(always)]
 fn cost_of_voice(toll: u8, ex: &Exercise, latest: &Latest, now: &[Cell], v: u8) -> u32
     ensures value { result ≡ rows.move_cost toll ex.now v (pitch_at latest.now.pitches v) (cell_in now.now v) }
     ensures bound { result ≤ 1 }
@@ -72,6 +72,7 @@ fn cost_of_voice(toll: u8, ex: &Exercise, latest: &Latest, now: &[Cell], v: u8) 
 }
 
 /// In how many free voices Q7, Q8, Q9 or Q10 stands in a column, from the pitch of each voice's latest note before it.
+#[inline(always)]
 #[tactic(auto, unfolding(crate::specs::Rows::toll_rows))]
 pub fn cost(
     toll: u8,

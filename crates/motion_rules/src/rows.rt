@@ -1,14 +1,15 @@
 //! Each rule and toll over the columns that it reads.
 
-ghost use Rattle.std.specs.Prelude.{◌≡◌, ◌≤◌, ◌∷◌, []};
+ghost use Rattle.std.specs.Prelude.{◌≡◌, ◌≤◌, ◌∷◌, [], if◌then◌else◌};
 ghost use Rattle.fux_pitch.specs.Size.{IsShort};
+ghost use Rattle.rule_law.specs.Pairs as pairs;
 ghost use Rattle.motion_rules.specs.Rows as rows;
 
 use fux_grid::{Cell, Exercise, VoiceSet, cell_of};
 use fux_pitch::{Interval, is_imperfect, reduce, semitone};
 use rule_law::{
     Latest, both_move, equal_perfects, interval_of_cells, move_alike, move_into_perfect,
-    one_starts, pair_of, voice_pairs,
+    one_starts, pair_of,
 };
 
 /// S10.
@@ -26,7 +27,7 @@ pub(crate) fn cross(now: &[Cell], v: usize, w: usize) -> bool
 }
 
 /// S16.
-#[inline]
+#[inline(always)]
 pub(crate) fn move_in_parallel(before: &[Cell], now: &[Cell], v: usize, w: usize) -> bool
     ensures { result ≡ rows.move_in_parallel before.now now.now v w }
 {
@@ -51,7 +52,7 @@ pub(crate) fn are_outer(ex: &Exercise, v: u8, w: u8) -> bool
 }
 
 /// S17.
-#[inline]
+#[inline(always)]
 pub(crate) fn outer_move_into_perfect(
     ex: &Exercise,
     before: &[Cell],
@@ -64,16 +65,28 @@ pub(crate) fn outer_move_into_perfect(
     are_outer(ex, v, w) && move_into_perfect(before, now, v as usize, w as usize)
 }
 
+/// 1 where Q11 stands for two voices, else 0.
+#[inline(always)]
+fn alike(before: &[Cell], now: &[Cell], v: usize, w: usize) -> u32
+    ensures value { result ≡ (if pairs.move_alike before.now now.now v w then 1 else 0) }
+    ensures bound { result ≤ 1 }
+{
+    u32::from(move_alike(before, now, v, w))
+}
+
 /// Q11.
-#[inline]
+#[inline(always)]
+#[tactic(auto, unfolding(rule_law::specs::Voices::voice_pairs))]
 fn pairs_alike(before: &[Cell], now: &[Cell]) -> u32
     ensures value { result ≡ rows.pairs_alike before.now now.now }
     ensures bound { result ≤ 6 }
 {
-    voice_pairs()
-        .iter()
-        .filter(|pair| move_alike(before, now, pair.0 as usize, pair.1 as usize))
-        .count() as u32
+    alike(before, now, 0, 1)
+        + alike(before, now, 0, 2)
+        + alike(before, now, 0, 3)
+        + alike(before, now, 1, 2)
+        + alike(before, now, 1, 3)
+        + alike(before, now, 2, 3)
 }
 
 /// Whether the interval is imperfect and has so many degrees without its octaves: a third has 2, a sixth has 5.
@@ -97,7 +110,7 @@ pub(crate) fn sound_imperfect(column: &[Cell], degrees: u8, v: usize, w: usize) 
 }
 
 /// Whether a rule is broken at a column, whose cells are `now`, after the column whose cells are `before`.
-#[inline]
+#[inline(always)]
 pub fn breaks(
     rule: u8,
     ex: &Exercise,
@@ -123,7 +136,7 @@ pub fn breaks(
 }
 
 /// For how many pairs Q11 stands at a column, whose cells are `now`, after the column whose cells are `before`.
-#[inline]
+#[inline(always)]
 pub fn cost(
     toll: u8,
     ex: &Exercise,
