@@ -25,6 +25,11 @@ abbrev pub IsFoundAt : {N : Type 0} → (N → List ℕ → Type 0) → (List �
 IsFoundAt is_at live path found =
     MatchOption found (live path ≡ None) (λ entry. is_at entry.0 path × (live path ≡ Some entry.1))
 
+-- what was found is the child of this number, whatever path the node stands for
+abbrev pub IsFoundChild : {N : Type 0} → (N → List ℕ → Type 0) → (List ℕ → Option ℕ) → ℕ → N → Option (N × ℕ) → Type 0
+IsFoundChild is_at live child node found =
+    (path : List ℕ) → is_at node path → IsFoundAt is_at live (path ++ child ∷ []) found
+
 -- wherever the child of this number is live, its node stands for it
 abbrev pub IsChildOf : {N : Type 0} → (N → List ℕ → Type 0) → (List ℕ → Option ℕ) → ℕ → N → N → Type 0
 IsChildOf is_at live child node its_node =
