@@ -1,12 +1,12 @@
 -- The test for equal cells, and whether a cell is among others (`cell_among`).
-use Rattle.std.proofs.Common.{◌≡◌, inl, inr, Bool, true, false, ◌||◌, IsTrue, List, [], ◌∷◌, suc, ◌⊎◌, refl, ap, sym, ◌∙◌, arith, true≢false}
+use Rattle.std.proofs.Common.{◌≡◌, Bool, true, IsTrue, List, refl, ap, sym, ◌∙◌}
 use Rattle.std.specs.Prelude.{◌↔◌}
 use Rattle.std.specs.List.{Contains, list_any}
-use Rattle.std.proofs.lemmas.Bool.{cases_Bool}
+use Rattle.std.proofs.lemmas.List.Folds.{list_any_at}
+use Rattle.std.proofs.lemmas.Map.Views.{Contains-from_any}
 use Rattle.fux_grid.specs.declared.cell.Cell.{Cell}
 use Rattle.fux_grid.specs.declared.cell.Cell.TheVariants.{Rest, Hold, Start}
 use Rattle.fux_grid.specs.contracts.cell.CellPartialEq.TheImpl.{ghosts}
-use Rattle.fux_grid.proofs.Combinations.{Contains-cons_cases}
 use Rattle.fux_grid.proofs.PitchTests.{same_pitch-from_equal}
 use Rattle.fux_pitch.proofs.PitchLemmas.{equal_from_test}
 
@@ -27,26 +27,11 @@ equal_to_itself (Hold p) = same_pitch-from_equal p p refl
 equal_to_itself (Start p) = same_pitch-from_equal p p refl
 
 among_from_test : (cells : List Cell) (cell : Cell) → list_any (λ c. ghosts.eq c cell) cells ≡ true → Contains cells cell
-among_from_test [] cell h = absurd (true≢false (sym h))
-among_from_test (c ∷ cells) cell h = at (cases_Bool (ghosts.eq c cell)) (among_from_test cells cell)
-  where
-    at : (ghosts.eq c cell ≡ true) ⊎ (ghosts.eq c cell ≡ false) → (list_any (λ d. ghosts.eq d cell) cells ≡ true → Contains cells cell) → Contains (c ∷ cells) cell
-    at (inl t) later = (0, omega arith, equal_cells c cell t)
-    at (inr f) later =
-        let rest = later (sym (ap (λ b. b || list_any (λ d. ghosts.eq d cell) cells) f) ∙ h) in
-        (suc rest.0, omega (arith, rest.1), rest.2)
+among_from_test cells cell h = Contains-from_any {eq = λ c d. ghosts.eq d c} (λ c d same. sym (equal_cells d c same)) cell cells h
 
 test_from_among : (cells : List Cell) (cell : Cell) → Contains cells cell → list_any (λ c. ghosts.eq c cell) cells ≡ true
-test_from_among [] cell (k, h, e) = absurd (omega arith)
-test_from_among (c ∷ cells) cell h = at (Contains-cons_cases c cells cell h) (test_from_among cells cell)
-  where
-    either : (a b : Bool) → b ≡ true → (a || b) ≡ true
-    either true b e = refl
-    either false b e = e
-
-    at : (c ≡ cell) ⊎ Contains cells cell → (Contains cells cell → list_any (λ d. ghosts.eq d cell) cells ≡ true) → list_any (λ d. ghosts.eq d cell) (c ∷ cells) ≡ true
-    at (inl e) later = ap (λ b. b || list_any (λ d. ghosts.eq d cell) cells) (ap (λ d. ghosts.eq c d) (sym e) ∙ equal_to_itself c)
-    at (inr k) later = either (ghosts.eq c cell) (list_any (λ d. ghosts.eq d cell) cells) (later k)
+test_from_among cells cell (k, h, e) =
+    list_any_at (λ c. ghosts.eq c cell) cells k cell h (ap (λ c. ghosts.eq c cell) e ∙ equal_to_itself cell)
 
 pub cell_among : (cells others : List Cell) (cell : Cell) (answer : Bool) → others ≡ cells → answer ≡ list_any (λ c. ghosts.eq c cell) others → IsTrue answer ↔ Contains cells cell
 cell_among cells others cell answer same e =

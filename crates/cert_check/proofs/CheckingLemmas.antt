@@ -27,14 +27,6 @@ owed-taken ex p NoChain b e = ap (λ x. if x then longer_from ex p 0 else []) e
 owed-taken ex p Floor b e = ap (λ x. if x then longer_from ex p 0 else []) e
 owed-taken ex p TheScore b e = ap (λ x. if x then longer_from ex p 0 else []) e
 
--- only an open prefix goes on
-pub open_claim : (claim : Claim) (b : Bool) → b ≡ is_open claim → b ≡ true → claim ≡ Open
-open_claim Open b e h = refl
-open_claim (Broken rule) b e h = let no : false ≡ true = sym e ∙ h in cc
-open_claim NoChain b e h = let no : false ≡ true = sym e ∙ h in cc
-open_claim Floor b e h = let no : false ≡ true = sym e ∙ h in cc
-open_claim TheScore b e h = let no : false ≡ true = sym e ∙ h in cc
-
 module _ (old : Checking) (p : List (List Cell)) (owed : List (List (List Cell))) (claim : Claim) (new : Checking) (are : old.owed ≡ p ∷ owed) where
   pub takes_true : IsTrueOf old.exercise old.sheet old.head p claim → new ≡ record old { owed = owed_by old.exercise p claim ++ owed; count = old.count + 1 } → Takes old claim new
   takes_true holds is = subst (λ (ps : List (List (List Cell))). TakesOf old ps claim new) (sym are) (holds, is)

@@ -1,9 +1,7 @@
--- The columns that pass from a number on: where the column of the number passes or not (`passing_here`, `passing_later`), and at the end
--- (`passing_none`).
-use Rattle.std.proofs.Common.{◌≡◌, ℕ, suc, ◌+◌, ◌<◌, ◌≤◌, Bool, true, false, List, [], ◌∷◌, Option, drop, length, reverse, slice_index_or, ap, sym, ◌∙◌, subst, add-one, if◌then◌else◌}
+-- The columns that pass from a number on, where the column of the number passes or not (`passing_here`, `passing_later`).
+use Rattle.std.proofs.Common.{◌≡◌, ℕ, suc, ◌+◌, ◌<◌, Bool, true, false, List, [], ◌∷◌, Option, drop, length, reverse, slice_index_or, ap, sym, ◌∙◌, subst, add-one, if◌then◌else◌}
 use Rattle.std.specs.List.{filter}
 use Rattle.std.proofs.Math.Seq.{drop-cons}
-use Rattle.std.proofs.lemmas.List.{drop_all}
 use Rattle.cert_check.specs.Walks.{IsNextNumber}
 use Rattle.chain_sums.specs.Sums.{column_follows}
 use Rattle.chain_sums.proofs.SumLemmas.{column_follows_is}
@@ -25,9 +23,6 @@ passing_later test menu k h t =
     ap (filter test) (drop-cons menu k [] h)
     ∙ ap (λ b. if b then slice_index_or menu k [] ∷ filter test (drop (suc k) menu) else filter test (drop (suc k) menu)) t
     ∙ ap (λ n. filter test (drop n menu)) (sym (add-one k))
-
-pub passing_none : (test : List Cell → Bool) (menu : List (List Cell)) (k : ℕ) → length menu ≤ k → filter test (drop k menu) ≡ []
-passing_none test menu k h = ap (filter test) (drop_all k menu h)
 
 -- the test of a column that is equal
 pub follow_test : (before next col : List Cell) → next ≡ col → ColumnFollows before next → column_follows before col ≡ true

@@ -1,5 +1,5 @@
 -- How the reading of a file starts: behind its head (`started`), or where a head stops (`head_stops`).
-use Rattle.std.proofs.Common.{◌≡◌, ℕ, ◌+◌, ◌-◌, ◌≤◌, ◌⊎◌, inl, inr, [], ◌++◌, None, Err, List, length, take, drop, refl, sym, ap, subst, ◌∙◌, arith, length-drop}
+use Rattle.std.proofs.Common.{◌≡◌, ℕ, ◌+◌, ◌-◌, ◌≤◌, ◌⊎◌, inl, inr, ◌++◌, Err, List, length, take, drop, refl, sym, ap, subst, ◌∙◌, arith, length-drop}
 use Rattle.std.proofs.lemmas.List.{drop-take, length-take-le, take-append-drop, take-append-le, take-take, take_all}
 use Rattle.fux_grid.specs.declared.exercise.Exercise.{Exercise}
 use Rattle.cert_text.specs.declared.answers.CertFault.{CertFault}
@@ -7,31 +7,31 @@ use Rattle.cert_text.specs.declared.answers.CertFault.TheVariants.{CertHead, Mem
 use Rattle.cert_text.specs.declared.answers.CertHead.{CertHead as Head}
 use Rattle.cert_text.specs.HeadTexts.{HasLines, Heads, TextStops, penalty_of}
 use Rattle.cert_text.specs.SingItems.{IsHeadText}
+use Rattle.cert_text.proofs.HeadBacks.{stops_whole}
+use Rattle.fux_grid.specs.Exercises.{IsValid}
 use Rattle.cert_reading.specs.declared.fault.ReadFault.TheVariants.{Text}
-use Rattle.cert_reading.specs.Readings.{Begins, Files, MayBe}
+use Rattle.cert_reading.specs.Readings.{Begins, Files, MayBe, longest_piece, reading_from}
 use Rattle.cert_reading.specs.Starts.{IsStarted, Starts}
 use Rattle.cert_reading.proofs.FileLemmas.{first_begins}
 use Rattle.cert_reading.proofs.PieceLemmas.{nothing_begins}
 
-module _ (ex : Exercise) (files : Files) (name bytes : List ℕ) (known : MayBe files name (λ all. bytes ≡ take 65536 all)) where
-  pub head_stops : (rose : Type 0) (fault : CertFault)
+module _ (ex : Exercise) (files : Files) (name bytes : List ℕ) (known : MayBe files name (λ all. bytes ≡ take longest_piece all)) where
+  -- a head is shorter than a piece, so one that stops in the first piece stops so in the whole file
+  pub head_stops : IsValid ex → (rose : Type 0) (fault : CertFault)
       → (fault ≡ Memory) ⊎ ((at : ℕ) × (fault ≡ CertHead at) × TextStops ex bytes at) → Starts ex files name rose (Err (Text fault))
-  head_stops rose fault cause = elim cause [
+  head_stops valid rose fault cause = elim cause [
     | inl e ↦ subst (λ it. Starts ex files name rose (Err (Text it))) (sym e) tt
     | inr stops ↦ subst (λ it. Starts ex files name rose (Err (Text it))) (sym stops.1) (record {
       bytes = known.bytes;
       had = known.had;
-      such = subst (λ xs. TextStops ex xs stops.0) known.such stops.2;
+      such = stops_whole ex known.bytes longest_piece stops.0 valid (omega arith)
+          (subst (λ xs. TextStops ex xs stops.0) known.such stops.2);
     })
   ]
 
   pub started : (head : Head) (used offset : ℕ) (ahead : List ℕ) → Heads ex bytes head used → offset ≡ length bytes
       → ahead ≡ drop used bytes
-      → IsStarted ex files name head (record {
-        claims = record { next = used; used = 0; begun = []; refused = None };
-        ahead = ahead;
-        offset = offset;
-      })
+      → IsStarted ex files name head (reading_from used ahead offset)
   started head used offset ahead heads far is =
       let size = length-take-le used bytes heads.within in
       let same : take (length (take used bytes)) (take used bytes) ≡ take used bytes = take_all (length (take used bytes)) (take used bytes) (omega arith) in
@@ -44,7 +44,7 @@ module _ (ex : Exercise) (files : Files) (name bytes : List ℕ) (known : MayBe 
         };
         at = record {
           begins = subst (λ xs. MayBe files name (Begins xs))
-              (sym (take-append-drop used bytes) ∙ ap (λ xs. take used bytes ++ xs) (sym is)) (first_begins files name bytes 65536 known);
+              (sym (take-append-drop used bytes) ∙ ap (λ xs. take used bytes ++ xs) (sym is)) (first_begins files name bytes longest_piece known);
           next = omega (arith, size);
           clear = refl;
           line = nothing_begins;

@@ -1,7 +1,7 @@
 -- Where the reading of a certificate's file stands, and what comes next: a claim's line, the file's end, or a line that is none.
 use Rattle.std.specs.Prelude.{◌≡◌, ◌≢◌, ℕ, ◌+◌, ◌-◌, ◌<◌, ◌≤◌, ◌⊎◌, Bool, true, false, List, [], ◌++◌, Option, Some, None, Result, Ok, Err, length}
 use Rattle.std.specs.Io.{StartsWith}
-use Rattle.fux_port.specs.Files.{MayHave}
+use Rattle.fux_port.specs.Files.{HasFile, MayHave}
 use Rattle.cert_text.specs.declared.answers.CertFault.{CertFault}
 use Rattle.cert_text.specs.declared.answers.CertFault.TheVariants.{CertHead, CertWord, CertEnd, Memory}
 use Rattle.cert_text.specs.declared.claim.Claim.{Claim}
@@ -16,11 +16,23 @@ pub record Reading : Type 0 where
   pub ahead : List ℕ
   pub offset : ℕ
 
+-- a reader that goes on at a byte where a line begins, with these bytes read and not used
+abbrev pub reading_from : ℕ → List ℕ → ℕ → Reading
+reading_from next ahead offset = record {
+  claims = record { next = next; used = 0; begun = []; refused = None };
+  ahead = ahead;
+  offset = offset;
+}
+
+-- how many bytes a piece has at most
+abbrev pub longest_piece : ℕ
+longest_piece = 65536
+
 -- what each reader keeps
 pub record IsReading (piece : List ℕ) (from to offset : ℕ) (claims : text.Reading) : Type 0 where
-  pub long : length piece ≡ 65536
+  pub long : length piece ≡ longest_piece
   pub used : from ≤ to
-  pub within : to ≤ 65536
+  pub within : to ≤ longest_piece
   pub limit : offset ≤ 1073741824
   pub taken : claims.used + (to - from) ≤ offset
 
@@ -33,6 +45,10 @@ pub record MayBe (files : Files) (name : List ℕ) (Such : List ℕ → Type 0) 
   pub bytes : List ℕ
   pub had : MayHave files name bytes
   pub such : Such bytes
+
+-- a fact of the file of a name, where the shelf tells of one
+abbrev pub IfThere : Files → List ℕ → (List ℕ → Type 0) → Type 0
+IfThere files name Such = (file : List ℕ) → HasFile files name file → Such file
 
 -- bytes begin with these
 abbrev pub Begins : List ℕ → List ℕ → Type 0
@@ -88,7 +104,12 @@ Gives files name rose front after (Ok None) = MayHave files name front
 Gives files name rose front after (Err Unreadable) = rose
 Gives files name rose front after (Err (Text fault)) = MayBe files name (FaultAt front fault)
 
--- the same of the piece alone
+-- the same, wherever in the file the reader stands
+abbrev pub GivesNext : Files → List ℕ → Type 0 → Reading → Reading → Result (Option Claim) ReadFault → Type 0
+GivesNext files name rose before after result =
+    (front : List ℕ) → IsAt files name front before → Gives files name rose front after result
+
+-- what a reader gives of the piece alone
 abbrev pub TakesLine : Files → List ℕ → List ℕ → Reading → Result (Option Claim) CertFault → Type 0
 TakesLine files name front after (Ok (Some claim)) = IsClaim claim × IsAt files name (front ++ claim_line claim) after
 TakesLine files name front after (Ok None) = IsAt files name front after × (after.ahead ≡ [])
@@ -102,9 +123,21 @@ ReadsOn files name rose front begun after (Ok false) =
 ReadsOn files name rose front begun after (Err Unreadable) = rose
 ReadsOn files name rose front begun after (Err (Text fault)) = MayBe files name (FaultAt front fault)
 
+-- the same, wherever in the file a reader stands whose piece is used up
+abbrev pub ReadsNext : Files → List ℕ → Type 0 → Reading → Reading → Result Bool ReadFault → Type 0
+ReadsNext files name rose before after result =
+    (front : List ℕ) → IsAt files name front before → before.ahead ≡ []
+    → ReadsOn files name rose front before.claims.begun after result
+
 -- what a reader gives at the end of the file
 abbrev pub EndGives : Files → List ℕ → List ℕ → Result (Option Claim) ReadFault → Type 0
 EndGives files name front (Ok (Some claim)) = ⊥
 EndGives files name front (Ok None) = MayHave files name front
 EndGives files name front (Err Unreadable) = ⊥
 EndGives files name front (Err (Text fault)) = MayBe files name (FaultAt front fault)
+
+-- the same of any file whose last line is the one that the reader has begun
+abbrev pub GivesEnd : Reading → Result (Option Claim) ReadFault → Type 0
+GivesEnd reader result =
+    (files : Files) (name front : List ℕ) → IsAt files name front reader
+    → MayHave files name (front ++ reader.claims.begun) → EndGives files name front result

@@ -1,5 +1,5 @@
 -- The head at the front of a certificate's file.
-use Rattle.std.specs.Prelude.{ℕ, ◌⊎◌, List, Result, Ok, Err, length, take}
+use Rattle.std.specs.Prelude.{◌≡◌, ℕ, ◌⊎◌, List, Result, Ok, Err, length}
 use Rattle.fux_grid.specs.declared.exercise.Exercise.{Exercise}
 use Rattle.fux_port.specs.Files.{IsMissing}
 use Rattle.cert_text.specs.declared.answers.CertFault.TheVariants as fault
@@ -19,6 +19,10 @@ pub record IsStarted (ex : Exercise) (files : Files) (name : List ℕ) (head : C
 abbrev pub Starts : Exercise → Files → List ℕ → Type 0 → Result (CertHead × Reading) ReadFault → Type 0
 Starts ex files name rose (Ok found) = IsStarted ex files name found.0 found.1
 Starts ex files name rose (Err Unreadable) = rose ⊎ IsMissing files name
-Starts ex files name rose (Err (Text (fault.CertHead at))) = MayBe files name (λ bytes. TextStops ex (take 65536 bytes) at)
+Starts ex files name rose (Err (Text (fault.CertHead at))) = MayBe files name (λ bytes. TextStops ex bytes at)
 Starts ex files name rose (Err (Text fault.Memory)) = Unit {0}
 Starts ex files name rose (Err (Text fault)) = ⊥
+
+-- nothing was read: there is no file, or there was not enough memory
+abbrev pub IsUnread : Result (CertHead × Reading) ReadFault → Type 0
+IsUnread result = (result ≡ Err Unreadable) ⊎ (result ≡ Err (Text fault.Memory))

@@ -1,9 +1,10 @@
 //! The first bytes of a file.
 
-ghost use Rattle.std.specs.Prelude.{◌≡◌, ℕ, ◌≤◌, ◌<◌, ◌⊎◌, List, length, take, drop, IfOk, IsErr, OnErr};
+ghost use Rattle.std.specs.Prelude.{◌≡◌, ◌≤◌, ◌<◌, ◌⊎◌, length, take, drop, IfOk, IsErr, OnErr};
 ghost use Rattle.std.specs.Io.{StartsWith};
 ghost use Rattle.fux_port.specs.Counts.{Rose};
-ghost use Rattle.fux_port.specs.Files.{HasFile, IsMissing};
+ghost use Rattle.fux_port.specs.Files.{IsMissing};
+ghost use Rattle.cert_reading.specs.Readings.{IfThere};
 
 use fux_port::{Failed, Shelf};
 
@@ -18,10 +19,10 @@ pub fn read_piece<F: Shelf>(
     requires { wanted ≤ length buf.old }
     ensures long { length buf.new ≡ length buf.old }
     ensures fits { IfOk result (λ count. count ≤ wanted) }
-    ensures placed { IfOk result (λ count. (file : List ℕ) → HasFile (F.files shelf.old) name.now file
-        → StartsWith (drop offset file) (take count buf.new)) }
-    ensures end { IfOk result (λ count. count ≡ 0 → 0 < wanted → (file : List ℕ)
-        → HasFile (F.files shelf.old) name.now file → length file ≤ offset) }
+    ensures placed { IfOk result (λ count. IfThere (F.files shelf.old) name.now (λ file.
+        StartsWith (drop offset file) (take count buf.new))) }
+    ensures end { IfOk result (λ count. count ≡ 0 → 0 < wanted
+        → IfThere (F.files shelf.old) name.now (λ file. length file ≤ offset)) }
     ensures cause { OnErr result (Rose (F.faults shelf.old) (F.faults shelf.new)
         ⊎ IsMissing (F.files shelf.old) name.now) }
     ensures files { F.files shelf.new ≡ F.files shelf.old }
@@ -34,8 +35,8 @@ pub fn read_piece<F: Shelf>(
 pub fn fill<F: Shelf>(shelf: &mut F, name: &str, buf: &mut [u8]) -> Result<usize, Failed>
     ensures long { length buf.new ≡ length buf.old }
     ensures fits { IfOk result (λ count. count ≤ length buf.old) }
-    ensures front { IfOk result (λ count. (file : List ℕ) → HasFile (F.files shelf.old) name.now file
-        → take count buf.new ≡ take (length buf.old) file) }
+    ensures front { IfOk result (λ count. IfThere (F.files shelf.old) name.now (λ file.
+        take count buf.new ≡ take (length buf.old) file)) }
 
     // A failed read is the shelf's fault, or the name is missing.
     ensures cause { OnErr result (Rose (F.faults shelf.old) (F.faults shelf.new)

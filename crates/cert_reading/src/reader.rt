@@ -1,9 +1,8 @@
 //! Claims from a certificate's file.
 
-ghost use Rattle.std.specs.Prelude.{◌≡◌, ℕ, ◌-◌, ◌<◌, ◌≤◌, true, [], ◌++◌, List, None, Ok, drop, length, take};
+ghost use Rattle.std.specs.Prelude.{◌≡◌, ℕ, ◌-◌, ◌<◌, ◌≤◌, true, List, Ok, drop, length, take};
 ghost use Rattle.fux_port.specs.Counts.{Rose};
-ghost use Rattle.fux_port.specs.Files.{MayHave};
-ghost use Rattle.cert_reading.specs.Readings.{EndGives, Files, Gives, IsAt, ReadsOn, TakesLine};
+ghost use Rattle.cert_reading.specs.Readings.{Files, GivesEnd, GivesNext, IsAt, ReadsNext, TakesLine, longest_piece, reading_from};
 
 use crate::fault::ReadFault;
 use crate::filling::read_piece;
@@ -49,14 +48,10 @@ impl Model for Reader {
 impl Reader {
     /// A reader that goes on at a byte of the first piece, at which a line begins.
     pub(crate) fn new(piece: Vec<u8>, from: usize, to: usize) -> Reader
-        requires long { length piece.items ≡ 65536 }
+        requires long { length piece.items ≡ longest_piece }
         requires from { from ≤ to }
-        requires to { to ≤ 65536 }
-        ensures { result ≡ record {
-          claims = record { next = from; used = 0; begun = []; refused = None };
-          ahead = take (to - from) (drop from piece.items);
-          offset = to;
-        } }
+        requires to { to ≤ longest_piece }
+        ensures { result ≡ reading_from from (take (to - from) (drop from piece.items)) to }
     {
         Reader {
             piece,
@@ -69,8 +64,8 @@ impl Reader {
 
     /// The next claim, or none at the end of the file.
     pub fn next<F: Shelf>(&mut self, shelf: &mut F, name: &str) -> Result<Option<Claim>, ReadFault>
-        ensures gives { (front : List ℕ) → IsAt (F.files shelf.old) name.now front self.old
-            → Gives (F.files shelf.old) name.now (Rose (F.faults shelf.old) (F.faults shelf.new)) front self.new result }
+        ensures gives { GivesNext (F.files shelf.old) name.now
+            (Rose (F.faults shelf.old) (F.faults shelf.new)) self.old self.new result }
 
         // Every reader has read no more than a certificate may have.
         ensures limit { self.old.offset ≤ 1073741824 }
@@ -108,8 +103,7 @@ impl Reader {
 
     /// What the end of the file is: it is wrong within a line.
     fn end(&self) -> Result<Option<Claim>, ReadFault>
-        ensures { (files : Files) (name front : List ℕ) → IsAt files name front self.now
-            → MayHave files name (front ++ self.now.claims.begun) → EndGives files name front result }
+        ensures { GivesEnd self.now result }
     {
         match self.claims.end() {
             Ok(()) => Ok(None),
@@ -119,9 +113,8 @@ impl Reader {
 
     /// Reads the next piece, where one is used up. It answers whether there is one.
     fn read_on<F: Shelf>(&mut self, shelf: &mut F, name: &str) -> Result<bool, ReadFault>
-        ensures reads { (front : List ℕ) → IsAt (F.files shelf.old) name.now front self.old → self.old.ahead ≡ []
-            → ReadsOn (F.files shelf.old) name.now (Rose (F.faults shelf.old) (F.faults shelf.new)) front
-            self.old.claims.begun self.new result }
+        ensures reads { ReadsNext (F.files shelf.old) name.now
+            (Rose (F.faults shelf.old) (F.faults shelf.new)) self.old self.new result }
         ensures grows { result ≡ Ok true → self.old.offset < self.new.offset }
         ensures limit { self.new.offset ≤ 1073741824 }
         ensures files { F.files shelf.new ≡ F.files shelf.old }

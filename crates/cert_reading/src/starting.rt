@@ -1,10 +1,10 @@
 //! The head of a certificate's file.
 
-ghost use Rattle.std.specs.Prelude.{◌≡◌, ◌≤◌, ◌⊎◌, Err};
+ghost use Rattle.std.specs.Prelude.{◌≡◌, ◌≤◌};
 ghost use Rattle.fux_grid.specs.Exercises.{IsValid};
 ghost use Rattle.fux_port.specs.Counts.{Rose};
 ghost use Rattle.fux_port.specs.Files.{IsMissing};
-ghost use Rattle.cert_reading.specs.Starts.{Starts};
+ghost use Rattle.cert_reading.specs.Starts.{IsUnread, Starts};
 
 use crate::fault::ReadFault;
 use crate::filling::fill;
@@ -24,8 +24,7 @@ pub fn start<F: Shelf>(
 ) -> Result<(CertHead, Reader), ReadFault>
     requires { IsValid ex.now }
     ensures starts { Starts ex.now (F.files shelf.old) name.now (Rose (F.faults shelf.old) (F.faults shelf.new)) result }
-    ensures missing { IsMissing (F.files shelf.old) name.now
-        → (result ≡ Err ReadFault.Unreadable) ⊎ (result ≡ Err (ReadFault.Text CertFault.Memory)) }
+    ensures missing { IsMissing (F.files shelf.old) name.now → IsUnread result }
     ensures files { F.files shelf.new ≡ F.files shelf.old }
     ensures faults { F.faults shelf.old ≤ F.faults shelf.new }
 {

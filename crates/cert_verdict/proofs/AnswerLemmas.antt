@@ -1,6 +1,6 @@
 -- What is answered where no head stands at the front (`starts_answer`), where the head isn't sound (`unsound_answer`), and
 -- where claims are judged (`finds_answer`); and where a menu is too wide (`unopened_headless`) or none is (`unopened_other`).
-use Rattle.std.proofs.Common.{◌≡◌, ◌≤◌, ◌⊎◌, inl, inr, arith, ℕ, List, Result, Ok, Err, refl, ap, subst, sym}
+use Rattle.std.proofs.Common.{◌≡◌, ◌⊎◌, inl, inr, arith, ℕ, List, Result, Ok, Err, refl, ap, subst, sym}
 use Rattle.std.specs.Prelude.{IfErr, IfOk}
 use Rattle.cert_check.specs.declared.checker.OpenFault.{OpenFault}
 use Rattle.cert_check.specs.declared.checker.OpenFault.TheVariants as opening
@@ -21,7 +21,6 @@ use Rattle.cert_verdict.proofs.JudgingLemmas.{begins_front}
 use Rattle.floor_tables.specs.Tables.{AreNarrow, IsTooWide}
 use Rattle.fux_grid.specs.declared.exercise.Exercise.{Exercise}
 use Rattle.fux_grid.specs.declared.exercise.Place.{Place}
-use Rattle.fux_port.specs.Counts.{Rose}
 use Rattle.penalty_sheet.specs.declared.sheet.Sheet.{Sheet}
 
 module _ (ex : Exercise) (sheet : Sheet) (files : Files) (name : List ℕ) (rose : Type 0) where
@@ -66,21 +65,6 @@ module _ (ex : Exercise) (sheet : Sheet) (files : Files) (name : List ℕ) (rose
 
 -- ---- which answers come where no menu is too wide, and where one is
 
-pub unstarted_other : (fault : ReadFault) → IfErr (unstarted fault) (λ f. (f ≡ check.Unreadable) ⊎ (f ≡ check.Memory))
-unstarted_other Unreadable = inl refl
-unstarted_other (Text (WrongHead at)) = tt
-unstarted_other (Text (CertWord at)) = tt
-unstarted_other (Text (CertEnd at)) = tt
-unstarted_other (Text Memory) = inr refl
-
-pub unstarted_headless : (ex : Exercise) (files : Files) (name : List ℕ) (rose : Type 0) (fault : ReadFault)
-    → Starts ex files name rose (Err fault) → IfOk (unstarted fault) IsHeadless
-unstarted_headless ex files name rose Unreadable starts = tt
-unstarted_headless ex files name rose (Text (WrongHead at)) starts = (at, refl)
-unstarted_headless ex files name rose (Text (CertWord at)) starts = absurd starts
-unstarted_headless ex files name rose (Text (CertEnd at)) starts = absurd starts
-unstarted_headless ex files name rose (Text Memory) starts = tt
-
 pub unstarted_missing : (read : Result (CertHead × Reading) ReadFault) (fault : ReadFault) → read ≡ Err fault
     → (read ≡ Err Unreadable) ⊎ (read ≡ Err (Text Memory))
     → (unstarted fault ≡ Err check.Unreadable) ⊎ (unstarted fault ≡ Err check.Memory)
@@ -102,11 +86,6 @@ module _ (ex : Exercise) (sheet : Sheet) (head : CertHead) where
   unopened_headless (opening.TooWide place count) why wide = tt
   unopened_headless (opening.Refused refused) why wide = absurd (wide why.0)
   unopened_headless opening.Memory why wide = tt
-
--- a count that rose later rose
-pub rose_since : (old mid new : ℕ) → old ≤ mid → Rose mid new → Rose old new
-rose_since old mid new order (inl less) = inl (omega (arith, order, less))
-rose_since old mid new order (inr last) = inr last
 
 -- what judging found is the answer
 pub judged_answer : (ex : Exercise) (sheet : Sheet) (head : CertHead) (files : Files) (name : List ℕ) (rose : Type 0) (it : Verdict)

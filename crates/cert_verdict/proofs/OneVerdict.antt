@@ -1,7 +1,7 @@
 -- Of a file that is the text of a valid certificate each verdict is that it is accepted (`one_verdict`), by whatever head
 -- the verdict goes: one head stands at its front, and the lines of its claims read one way only.
-use Rattle.std.proofs.Common.{◌≡◌, ℕ, List, [], ◌++◌, Result, Ok, Err, length, take, drop}
-use Rattle.std.proofs.Common.{inl, inr, sym, ap, subst, ◌∙◌, arith, append_assoc, append-nil}
+use Rattle.std.proofs.Common.{◌≡◌, ℕ, List, [], ◌++◌, Result, Ok, Err, length, drop}
+use Rattle.std.proofs.Common.{inl, inr, sym, ap, subst, ◌∙◌, append_assoc, append-nil}
 use Rattle.std.specs.Prelude.{IfOk}
 use Rattle.std.proofs.lemmas.List.{take-append-drop}
 use Rattle.std.specs.List.{flat_map}
@@ -16,7 +16,7 @@ use Rattle.cert_text.specs.declared.answers.Why.TheVariants.{Head, False, Over, 
 use Rattle.cert_text.specs.declared.claim.Claim.{Claim}
 use Rattle.cert_text.specs.HeadTexts.{Heads, TextStops, penalty_of}
 use Rattle.cert_text.specs.Lines.{claim_line}
-use Rattle.cert_text.proofs.HeadBacks.{heads_are_one, stops_whole}
+use Rattle.cert_text.proofs.HeadBacks.{heads_are_one}
 use Rattle.cert_verdict.specs.Answers.{Answers}
 use Rattle.cert_verdict.specs.Judgments.{AcceptsValid, Finds, IsCertificateText, IsTextOf, RefusesFor}
 use Rattle.cert_verdict.specs.declared.checking.CheckFault.{CheckFault}
@@ -70,10 +70,9 @@ module _ (ex : Exercise) (sheet : Sheet) (head : CertHead) (valid : IsValid ex) 
 
   -- ---- nor can a head stop there
 
-  none_stops : (at : ℕ) → TextStops ex (take 65536 bytes) at → ⊥
+  none_stops : (at : ℕ) → TextStops ex bytes at → ⊥
   none_stops at stops =
-      let nowhere = stops_whole ex bytes 65536 at valid (omega arith) stops in
-      nowhere.unfinished (length is.text.front) (penalty_of head) its_head.within its_head.text
+      stops.unfinished (length is.text.front) (penalty_of head) its_head.within its_head.text
 
   module _ (files : Files) (name : List ℕ) (has : HasFile files name bytes) where
     of_verdict : (other : CertHead) (it : Verdict) → Finds ex sheet other files name it → other ≡ head

@@ -1,5 +1,5 @@
 -- What is answered of a certificate's file.
-use Rattle.std.specs.Prelude.{◌≡◌, ◌⊎◌, ℕ, List, Result, Ok, Err, ⊤, take}
+use Rattle.std.specs.Prelude.{◌≡◌, ◌⊎◌, ℕ, List, Result, Ok, Err, ⊤}
 use Rattle.cert_check.specs.declared.checker.OpenFault.{OpenFault}
 use Rattle.cert_check.specs.declared.checker.OpenFault.TheVariants as opening
 use Rattle.cert_reading.specs.declared.fault.ReadFault.{ReadFault}
@@ -27,7 +27,7 @@ pub record FindsBehind (ex : Exercise) (sheet : Sheet) (files : Files) (name : L
 -- how a file is answered: a verdict, of which one is that no head stands at its front; or why there is none
 abbrev pub Answers : Exercise → Sheet → Files → List ℕ → Type 0 → Result Verdict CheckFault → Type 0
 Answers ex sheet files name rose (Ok (verdict.Text (WrongHead at))) =
-    MayBe files name (λ bytes. TextStops ex (take 65536 bytes) at)
+    MayBe files name (λ bytes. TextStops ex bytes at)
 Answers ex sheet files name rose (Ok it) = FindsBehind ex sheet files name it
 Answers ex sheet files name rose (Err Unreadable) = rose ⊎ IsMissing files name
 Answers ex sheet files name rose (Err (TooWide place count)) = IsTooWide ex place count

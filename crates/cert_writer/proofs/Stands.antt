@@ -1,19 +1,11 @@
 -- Bytes that are put together before they are written: where a writer stands (`stands_start`, `stands_put`), that nothing is lost at its
 -- end (`stands_end`), and what was written where it stops (`stands_stop`).
-use Rattle.std.proofs.Common.{◌≡◌, ℕ, List, [], ◌∷◌, ◌++◌, Option, Some, None, refl, ap, sym, ◌∙◌, subst, arith, append_assoc, length-append}
+use Rattle.std.proofs.Common.{◌≡◌, ℕ, List, ◌++◌, Option, ap, sym, ◌∙◌, subst, arith, append_assoc, length-append}
 use Rattle.std.specs.Prelude.{Err, Ok, OnErr, Result}
 use Rattle.std.proofs.lemmas.List.{take-append-le}
 use Rattle.fux_port.specs.Written.{StopsShort, appended}
 use Rattle.fux_port.proofs.Pieces.{appended-append, stops_after}
 use Rattle.cert_writer.specs.Waiting.{Puts}
-
-append_none : (xs : List ℕ) → xs ++ [] ≡ xs
-append_none [] = refl
-append_none (x ∷ xs) = ap (λ ys. x ∷ ys) (append_none xs)
-
-pub appended-none : (told : Option (List ℕ)) → told ≡ appended told []
-appended-none None = refl
-appended-none (Some taken) = ap Some (sym (append_none taken))
 
 -- of the bytes some were written, some wait, and some are still to come
 pub record Stands (start now : Option (List ℕ)) (waiting later bytes : List ℕ) : Type 0 where

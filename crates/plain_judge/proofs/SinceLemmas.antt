@@ -12,7 +12,7 @@ use Rattle.penalty_sheet.specs.Weights.{weight_of}
 use Rattle.fux_judge.specs.Rules.{all_sets, rules_read, tolls_read, enough, cost_enough, is_broken, is_settled, cost_at, is_cost_settled}
 use Rattle.fux_judge.specs.Penalties.{is_strict_at, is_strictly_broken, price_at_place, charges_settled_in, newly_broken, newly_broken_at, newly_paid, new_tolls, new_prices, settled_tolls, settled_prices}
 use Rattle.fux_judge.proofs.Grows.{one_more}
-use Rattle.plain_judge.specs.Between.{broken_since, charges_since, paid_since, price_since, prices_since, settled_since, some_broken_since, toll_since}
+use Rattle.plain_judge.specs.Between.{broken_since, charges_since, paid_since, price_since, prices_since, settled_since, some_broken, some_broken_since, toll_since}
 
 none_below_zero : (i : ℕ) → nat_lt i 0 ≡ false
 none_below_zero i = grind (arith, nat_tests)
@@ -26,7 +26,7 @@ since_nothing : (e : Row Bool) (s : List (List Cell)) (i : ℕ) → settled_sinc
 since_nothing e s i = kept (settled_by e s i) (settled_by e [] i) (ap (λ b. b && reading_of e [] i) (none_below_zero i))
 
 module _ (ex : Exercise) (s : List (List Cell)) where
-  pub broken_since_nothing : (rule : ℕ) → some_broken_since ex [] s rule ≡ any_below (λ i. list_any (λ voices. is_strictly_broken rule ex voices s i) all_sets) (length s)
+  pub broken_since_nothing : (rule : ℕ) → some_broken_since ex [] s rule ≡ some_broken ex s rule
   broken_since_nothing rule =
       sym (any_below-list_any (λ voices. broken_since rule ex voices [] s) all_sets (length s))
       ∙ any_below-same (λ i. list_any (λ voices. broken_since rule ex voices [] s i) all_sets) (λ i. list_any (λ voices. is_strictly_broken rule ex voices s i) all_sets) (length s)

@@ -1,16 +1,10 @@
 //! The rules of which a strict break is settled.
 
-ghost use Rattle.std.specs.Prelude.{◌≡◌, ◌<◌, ◌≤◌, ◌&&◌, ◌∷◌, ◌++◌, [], ℕ, List, length};
-ghost use Rattle.std.specs.List.{list_any};
+ghost use Rattle.std.specs.Prelude.{◌≡◌, ◌<◌, ◌≤◌, length};
 ghost use Rattle.std.specs.Option.{ForSome, option_copied};
-ghost use Rattle.fux_grid.specs.declared.cell.Cell.{Cell as ACell};
 ghost use Rattle.fux_grid.specs.Exercises.{IsValid};
-ghost use Rattle.rule_law.specs.Growth.{any_below};
-ghost use Rattle.rule_law.specs.Voices.{has_rule};
 ghost use Rattle.fux_judge.specs.Penalties as grows;
-ghost use Rattle.fux_judge.specs.Penalties.{is_strictly_broken};
-ghost use Rattle.fux_judge.specs.Rules.{all_sets, is_read};
-ghost use Rattle.plain_judge.specs.Between.{IsPart, broken_since, columns_of, some_broken_since};
+ghost use Rattle.plain_judge.specs.Between.{HasRules, IfGrown, IsPart, broken_since, columns_of, some_broken, some_broken_since, somewhere_broken_since};
 
 use crate::place::{every_set, is_settled_since, is_strict};
 use fux_grid::{Exercise, Score, VoiceSet};
@@ -52,9 +46,7 @@ fn is_broken_somewhere(
     requires valid { IsValid ex.now }
     requires earlier { ForSome before (λ score. IsPart ex.now score.now) }
     requires part { IsPart ex.now score.now }
-    ensures { result ≡ any_below
-        (broken_since rule ex.now voices.bits (columns_of (option_copied before.entry)) score.now.columns)
-        (length score.now.columns) }
+    ensures { result ≡ somewhere_broken_since rule ex.now voices.bits (columns_of (option_copied before.entry)) score.now.columns }
 {
     for i in 0..score.len() {
         if is_broken_at(rule, ex, before, score, i, voices) {
@@ -84,8 +76,7 @@ fn breaks_since(ex: &Exercise, before: Option<&Score>, score: &Score) -> RuleSet
     requires valid { IsValid ex.now }
     requires earlier { ForSome before (λ score. IsPart ex.now score.now) }
     requires part { IsPart ex.now score.now }
-    ensures { (r : ℕ) → has_rule result.bits r ≡
-        (is_read r && some_broken_since ex.now (columns_of (option_copied before.entry)) score.now.columns r) }
+    ensures { HasRules result.bits (some_broken_since ex.now (columns_of (option_copied before.entry)) score.now.columns) }
 {
     let mut set = RuleSet::EMPTY;
     for rule in every_rule() {
@@ -99,10 +90,7 @@ fn breaks_since(ex: &Exercise, before: Option<&Score>, score: &Score) -> RuleSet
 pub fn settled_breaks(ex: &Exercise, score: &Score) -> RuleSet
     requires valid { IsValid ex.now }
     requires part { IsPart ex.now score.now }
-    ensures { (r : ℕ) → has_rule result.bits r ≡
-        (is_read r && any_below
-        (λ i. list_any (λ voices. is_strictly_broken r ex.now voices score.now.columns i) all_sets)
-        (length score.now.columns)) }
+    ensures { HasRules result.bits (some_broken ex.now score.now.columns) }
 {
     breaks_since(ex, None, score)
 }
@@ -113,8 +101,8 @@ pub fn newly_broken(ex: &Exercise, prefix: &Score, longer: &Score) -> RuleSet
     requires valid { IsValid ex.now }
     requires prefix { IsPart ex.now prefix.now }
     requires longer { IsPart ex.now longer.now }
-    ensures { (col : List ACell) → longer.now.columns ≡ prefix.now.columns ++ col ∷ [] →
-        (r : ℕ) → has_rule result.bits r ≡ (is_read r && grows.newly_broken ex.now prefix.now.columns col r) }
+    ensures { IfGrown prefix.now.columns longer.now.columns (λ col.
+        HasRules result.bits (grows.newly_broken ex.now prefix.now.columns col)) }
 {
     breaks_since(ex, Some(prefix), longer)
 }

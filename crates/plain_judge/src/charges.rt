@@ -1,15 +1,14 @@
 //! What is paid of a score so far: its settled tolls, by their weights, and the prices of its settled relaxed breaks.
 
-ghost use Rattle.std.specs.Prelude.{◌≡◌, ◌<◌, ◌≤◌, ◌*◌, ◌+◌, ◌∷◌, ◌++◌, [], ℕ, List, if◌then◌else◌, length};
+ghost use Rattle.std.specs.Prelude.{◌≡◌, ◌<◌, ◌≤◌, ◌*◌, ◌+◌, if◌then◌else◌, length};
 ghost use Rattle.std.specs.List.{sum_by};
 ghost use Rattle.std.specs.Option.{ForSome, option_copied};
-ghost use Rattle.fux_grid.specs.declared.cell.Cell.{Cell as ACell};
 ghost use Rattle.fux_grid.specs.Exercises.{IsValid, columns_in};
 ghost use Rattle.penalty_sheet.specs.Weights.{weight_of};
 ghost use Rattle.fux_judge.specs.Penalties as grows;
 ghost use Rattle.fux_judge.specs.Penalties.{charges_settled_in, charges_of};
 ghost use Rattle.fux_judge.specs.Rules.{all_sets, is_cost_settled, tolls_read};
-ghost use Rattle.plain_judge.specs.Between.{IsPart, charges_since, columns_of, paid_since, price_since, prices_since, toll_since};
+ghost use Rattle.plain_judge.specs.Between.{IfGrown, IsPart, charges_since, columns_of, paid_since, price_since, prices_since, toll_since};
 
 use crate::place::{amount, every_set, is_settled_since};
 use fux_grid::{Exercise, Score, VoiceSet};
@@ -181,8 +180,8 @@ pub fn newly_paid(ex: &Exercise, sheet: &Sheet, prefix: &Score, longer: &Score) 
     requires valid { IsValid ex.now }
     requires prefix { IsPart ex.now prefix.now }
     requires longer { IsPart ex.now longer.now }
-    ensures { (col : List ACell) → longer.now.columns ≡ prefix.now.columns ++ col ∷ [] →
-        result ≡ grows.newly_paid ex.now sheet.now prefix.now.columns col }
+    ensures { IfGrown prefix.now.columns longer.now.columns (λ col.
+        result ≡ grows.newly_paid ex.now sheet.now prefix.now.columns col) }
 {
     charges_of(ex, sheet, Some(prefix), longer)
 }

@@ -4,7 +4,7 @@ use Rattle.fux_grid.specs.declared.exercise.Exercise.{Exercise}
 use Rattle.fux_grid.specs.Grid.{items_of}
 use Rattle.fux_grid.specs.Menus.{menu_of}
 use Rattle.species_space.specs.declared.blocks.BlockMenu.{BlockMenu}
-use Rattle.species_space.specs.Blocks.{IsBlockMenu}
+use Rattle.species_space.specs.Blocks.{IsBlockMenu, KeepNumbers}
 use Rattle.species_space.specs.Task.{AreMenus, SkipsDead}
 
 each_more : (P : ℕ → ℕ → Type 0) (numbers : List ℕ) (number : ℕ) → ((i : ℕ) → i < length numbers → P i (slice_index_or numbers i 0)) → P (length numbers) number → (i : ℕ) → i < length (numbers ++ number ∷ []) → P i (slice_index_or (numbers ++ number ∷ []) i 0)
@@ -12,10 +12,6 @@ each_more P [] number h last zero lt = last
 each_more P [] number h last (suc i) lt = absurd (omega (arith, lt))
 each_more P (n ∷ numbers) number h last zero lt = h 0 (omega arith)
 each_more P (n ∷ numbers) number h last (suc i) lt = each_more (λ j. P (suc j)) numbers number (λ j b. h (suc j) (omega (arith, b))) last i (omega (arith, lt))
-
--- the menus that were there keep their numbers
-abbrev pub KeepNumbers : List BlockMenu → List BlockMenu → Type 0
-KeepNumbers menus more = (k : ℕ) (d : BlockMenu) → k < length menus → slice_index_or more k d ≡ slice_index_or menus k d
 
 -- with the number of the next column's menu there are the menus of one column more
 pub menus_more : (ex : Exercise) (menus more : List BlockMenu) (numbers : List ℕ) (number : ℕ) → AreMenus ex menus numbers → KeepNumbers menus more → length menus ≤ length more → number < length more → ((d : BlockMenu) → items_of (slice_index_or more number d).columns.items ≡ menu_of ex (length numbers)) → All IsBlockMenu more → ((d : BlockMenu) → SkipsDead ex (length numbers) (slice_index_or more number d)) → length (menu_of ex (length numbers)) ≤ 8192 → AreMenus ex more (numbers ++ number ∷ [])

@@ -1,5 +1,5 @@
 -- Menus in blocks, over which voices keep their cells.
-use Rattle.std.specs.Prelude.{◌≡◌, ℕ, ◌*◌, ◌/◌, ◌<◌, ◌≤◌, Bool, true, false, not, List, [], All, IsTrue, length, slice_index_or, take}
+use Rattle.std.specs.Prelude.{◌≡◌, ℕ, ◌-◌, ◌*◌, ◌/◌, ◌<◌, ◌≤◌, Bool, true, false, not, List, [], All, IsTrue, length, slice_index_or, take}
 use Rattle.arrayvec.specs.ArrayVec.{ArrayVec}
 use Rattle.fux_pitch.specs.Pitch.{same_pitch}
 use Rattle.fux_grid.specs.declared.cell.Cell.{Cell}
@@ -60,6 +60,12 @@ pub record IsBlockEnd (k size end : ℕ) : Type 0 where
   pub onward : k < end
   pub one_block : (j : ℕ) → k ≤ j → j < end → j / size ≡ k / size
 
+-- in a menu of holds, the column of this number may follow
+abbrev pub IsHeldNext : BlockMenu → List Cell → ℕ → Type 0
+IsHeldNext menu before k =
+    (k < length menu.columns.items) × IsTrue menu.only_holds
+    × ColumnFollows before (slice_index_or (items_of menu.columns.items) k [])
+
 -- the first column of a menu, from a number on, that may follow; the menu's length where there is none
 pub record IsNext (menu : List (List Cell)) (before : List Cell) (from next : ℕ) : Type 0 where
   pub onward : from ≤ next
@@ -77,11 +83,31 @@ pub record Agree (menu : List (List Cell)) (voices k end : ℕ) : Type 0 where
 abbrev pub AreAlwaysDead : Exercise → ℕ → List (List Cell) → ℕ → ℕ → Type 0
 AreAlwaysDead ex i menu from to = (j : ℕ) → from ≤ j → j < to → IsAlwaysDead ex i (slice_index_or menu j [])
 
+-- no number of a list is higher than this one
+abbrev pub AreWithin : List ℕ → ℕ → Type 0
+AreWithin numbers most = (k : ℕ) → k < length numbers → slice_index_or numbers k 0 ≤ most
+
 -- for each number of a menu one from it on, before which all columns are dead so
 pub record SkipDead (ex : Exercise) (i : ℕ) (menu : List (List Cell)) (numbers : List ℕ) : Type 0 where
-  pub within : (k : ℕ) → k < length numbers → slice_index_or numbers k 0 ≤ length menu
+  pub within : AreWithin numbers (length menu)
   pub dead : (k : ℕ) → k < length numbers → AreAlwaysDead ex i menu k (slice_index_or numbers k 0)
 
 -- a column that doesn't follow, or is dead after every prefix
 abbrev pub StraysOrDies : Exercise → ℕ → List Cell → List Cell → Type 0
 StraysOrDies ex i before col = ColumnFollows before col → IsAlwaysDead ex i col
+
+-- each column of a menu from one number up to another doesn't follow, or is dead, wherever the menu's numbers skip dead columns
+abbrev pub PassesDead : BlockMenu → List Cell → ℕ → ℕ → Type 0
+PassesDead menu before from to =
+    (ex : Exercise) (i : ℕ) → SkipDead ex i (items_of menu.columns.items) menu.undead.items
+    → (k : ℕ) → from ≤ k → k < to → StraysOrDies ex i before (slice_index_or (items_of menu.columns.items) k [])
+
+-- the menus that were there have their numbers still
+abbrev pub KeepNumbers : List BlockMenu → List BlockMenu → Type 0
+KeepNumbers menus more =
+    (k : ℕ) (d : BlockMenu) → k < length menus → slice_index_or more k d ≡ slice_index_or menus k d
+
+-- no menu is added where the last one is made of these columns and numbers
+abbrev pub KeepsLast : List BlockMenu → List BlockMenu → List (ArrayVec Cell) → List ℕ → Type 0
+KeepsLast menus more cols numbers =
+    (d : BlockMenu) → 0 < length menus → IsMadeOf (slice_index_or menus (length menus - 1) d) cols numbers → more ≡ menus

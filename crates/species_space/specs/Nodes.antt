@@ -1,12 +1,12 @@
 -- What stands for a path while a search is there.
-use Rattle.std.specs.Prelude.{◌≡◌, ℕ, ◌*◌, ◌≤◌, true, List, length}
+use Rattle.std.specs.Prelude.{◌≡◌, ℕ, ◌*◌, ◌≤◌, true, List, Option, length}
 use Rattle.fux_grid.specs.declared.exercise.Exercise.{Exercise}
 use Rattle.penalty_sheet.specs.declared.sheet.Sheet.{Sheet}
 use Rattle.fux_judge.specs.Gauges.{least_of}
 use Rattle.fux_judge.specs.Penalties.{paid}
 use Rattle.fux_judge.specs.States.{IsStateOf}
 use Rattle.species_space.specs.declared.node.Node.{Node}
-use Rattle.species_space.specs.Paths.{prefix_at, is_alive_path}
+use Rattle.species_space.specs.Paths.{ArePassed, IsNoBetter, prefix_at, is_alive_path}
 
 -- the node is of an alive path: its state is of the prefix, and it knows what is paid of it and what its lines cost at least
 pub record IsNodeOf (ex : Exercise) (sheet : Sheet) (node : Node) (path : List ℕ) : Type 0 where
@@ -16,3 +16,12 @@ pub record IsNodeOf (ex : Exercise) (sheet : Sheet) (node : Node) (path : List �
   pub least : node.least ≡ least_of ex sheet (prefix_at ex path)
   pub few : node.paid ≤ 134217728 * length path
   pub little : node.least ≤ 334490640
+
+-- the child of this number is no better than the best leaf so far, at whatever path the node stands
+abbrev pub HasNoBetter : Exercise → Sheet → Node → Option ℕ → ℕ → Type 0
+HasNoBetter ex sheet node best k = (path : List ℕ) → IsNodeOf ex sheet node path → IsNoBetter ex sheet path best k
+
+-- and so is each from one number up to another
+abbrev pub PassesOver : Exercise → Sheet → Node → Option ℕ → ℕ → ℕ → Type 0
+PassesOver ex sheet node best from to =
+    (path : List ℕ) → IsNodeOf ex sheet node path → ArePassed ex sheet path best from to

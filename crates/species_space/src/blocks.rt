@@ -5,7 +5,7 @@ ghost use Rattle.fux_grid.specs.Cells.{cell_follows, cell_in, is_hold};
 ghost use Rattle.fux_grid.specs.Columns.{ColumnFollows};
 ghost use Rattle.fux_grid.specs.Grid.{items_of};
 ghost use Rattle.fux_grid.specs.Menus.{IsAscending};
-ghost use Rattle.species_space.specs.Blocks.{Agree, AreOnlyHolds, AreWithoutHolds, HasOneWidth, IsBlockEnd, IsBlockMenu, IsNext, KeepsCell, same_cell, IsMadeOf};
+ghost use Rattle.species_space.specs.Blocks.{Agree, AreOnlyHolds, AreWithoutHolds, HasOneWidth, IsBlockEnd, IsBlockMenu, IsHeldNext, IsNext, KeepsCell, same_cell, IsMadeOf};
 
 use fux_grid::{Cell, Column, cell_of, cells_follow};
 
@@ -127,8 +127,7 @@ impl BlockMenu {
 
     /// Whether this column, in a menu of holds, may follow.
     fn is_held(&self, before: &[Cell], k: usize) -> bool
-        ensures { IsTrue result → (k < length self.now.columns.items) × IsTrue self.now.only_holds
-            × ColumnFollows before.now (slice_index_or (items_of self.now.columns.items) k []) }
+        ensures { IsTrue result → IsHeldNext self.now before.now k }
     {
         if !self.only_holds || k >= self.columns.len() {
             return false;

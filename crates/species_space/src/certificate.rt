@@ -1,11 +1,11 @@
 //! The certificate of what a search of the space found.
 
-ghost use Rattle.std.specs.Prelude.{◌≡◌, ◌<◌, ◌≤◌, ◌⊎◌, Err, OnOk, length};
+ghost use Rattle.std.specs.Prelude.{◌≡◌, ◌<◌, ◌≤◌, Err, OnOk, length};
 ghost use Rattle.cert_law.specs.Certificates.{Holds};
 ghost use Rattle.cert_writer.specs.Heads.{head_with};
 ghost use Rattle.fux_port.specs.Counts.{Rose};
 ghost use Rattle.fux_port.specs.Written.{StopsShort, appended};
-ghost use Rattle.species_space.specs.Task.{certificate_of};
+ghost use Rattle.species_space.specs.Task.{IsUnwritten, found_text};
 
 use crate::space::SpeciesSpace;
 use cert_text::CertWrite;
@@ -23,18 +23,18 @@ pub fn certify<K: Sink>(
     sink: &mut K,
 ) -> Result<(), CertWrite>
     requires holds { Holds space.now.exercise space.now.sheet (head_with best) }
-    ensures ok { OnOk result (K.written sink.new ≡ appended (K.written sink.old) (certificate_of space.now (head_with best.entry))) }
+    ensures ok { OnOk result (K.written sink.new ≡ appended (K.written sink.old) (found_text space.now best.entry)) }
 
     // A fault of writing is the sink's, and less than the certificate was written.
     ensures cause { result ≡ Err CertWrite.WriteFault → Rose (K.faults sink.old) (K.faults sink.new) }
     ensures short { result ≡ Err CertWrite.WriteFault
-        → StopsShort (K.written sink.old) (K.written sink.new) (certificate_of space.now (head_with best.entry)) }
+        → StopsShort (K.written sink.old) (K.written sink.new) (found_text space.now best.entry) }
 
     // Nothing is written of a certificate that is too long, nor where there is not enough memory.
-    ensures too_long { result ≡ Err CertWrite.TooLong → 1073741824 < length (certificate_of space.now (head_with best.entry)) }
-    ensures fits { 1073741824 < length (certificate_of space.now (head_with best.entry))
-        → (result ≡ Err CertWrite.TooLong) ⊎ (result ≡ Err CertWrite.Memory) }
-    ensures unwritten { (result ≡ Err CertWrite.TooLong) ⊎ (result ≡ Err CertWrite.Memory) → K.written sink.new ≡ K.written sink.old }
+    ensures too_long { result ≡ Err CertWrite.TooLong → 1073741824 < length (found_text space.now best.entry) }
+    ensures fits { 1073741824 < length (found_text space.now best.entry)
+        → IsUnwritten result }
+    ensures unwritten { IsUnwritten result → K.written sink.new ≡ K.written sink.old }
     ensures faults { K.faults sink.old ≤ K.faults sink.new }
 {
     write_certificate(

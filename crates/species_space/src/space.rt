@@ -1,17 +1,17 @@
 //! The tree of the settings of an exercise.
 
-ghost use Rattle.std.specs.Prelude.{◌≡◌, ◌<◌, ◌≤◌, ◌+◌, ◌^◌, ℕ, List, [], ◌∷◌, ◌++◌, Some, None, OnOk, IfOk, IfErr, MatchOption, length, slice_index_or, All, vec_capacity, ◌-◌};
+ghost use Rattle.std.specs.Prelude.{◌≡◌, ◌<◌, ◌≤◌, ◌+◌, ◌^◌, [], Some, OnOk, IfOk, IfErr, length, slice_index_or, All, vec_capacity};
 ghost use Rattle.fux_grid.specs.Exercises.{IsValid, columns_in};
 ghost use Rattle.fux_grid.specs.Grid.{items_of};
 ghost use Rattle.fux_grid.specs.Menus.{menu_of, IsAscending};
-ghost use Rattle.species_space.specs.Blocks.{IsBlockMenu, SkipDead, HasOneWidth, IsMadeOf};
+ghost use Rattle.species_space.specs.Blocks.{IsBlockMenu, KeepNumbers, KeepsLast, SkipDead, HasOneWidth, IsMadeOf};
 ghost use Rattle.species_space.specs.declared.blocks.BlockMenu.{BlockMenu as ABlockMenu};
 ghost use Rattle.floor_tables.specs.Tables.{AreNarrow, IsRest, TellsWidth};
 ghost use Rattle.species_space.specs.Grows.{paths_grow};
 ghost use Rattle.species_space.specs.Nodes.{IsNodeOf};
 ghost use Rattle.species_space.specs.Paths.{live_at, width_at};
 ghost use Rattle.species_space.specs.Task.{IsReady, SkipsDead};
-ghost use Rattle.tree_search.specs.Space.{HasChild};
+ghost use Rattle.tree_search.specs.Space.{HasChild, IsFoundChild};
 
 use crate::blocks::{BlockMenu, column_at};
 use crate::node::Node;
@@ -212,12 +212,9 @@ fn number_of(menus: &mut Vec<BlockMenu>, columns: Vec<Column>, undead: Vec<u16>)
     ensures within { result < length menus.new.items }
     ensures made { (d : ABlockMenu) → IsMadeOf (slice_index_or menus.new.items result d) columns.items undead.items }
     ensures cut { All IsBlockMenu menus.new.items }
-    ensures kept { (k : ℕ) (d : ABlockMenu) → k < length menus.old.items →
-        slice_index_or menus.new.items k d ≡ slice_index_or menus.old.items k d }
+    ensures kept { KeepNumbers menus.old.items menus.new.items }
     ensures more { (length menus.old.items ≤ length menus.new.items) × (length menus.new.items ≤ length menus.old.items + 1) }
-    ensures once { (d : ABlockMenu) → 0 < length menus.old.items →
-        IsMadeOf (slice_index_or menus.old.items (length menus.old.items - 1) d) columns.items undead.items →
-        menus.new.items ≡ menus.old.items }
+    ensures once { KeepsLast menus.old.items menus.new.items columns.items undead.items }
 {
     let count = menus.len();
     if count > 0 && menus[count - 1].is_made_of(&columns, &undead) {
@@ -241,10 +238,7 @@ fn child_by(
     requires column { column.now.items ≡ slice_index_or (menu_of exercise.now node.now.state.newest.len) k [] }
     requires rest { IsRest exercise.now sheet.now node.now.state.newest.len column.now.items (Some rest) }
     requires small { rest ≤ 2 ^ 61 }
-    ensures { (path : List ℕ) → IsNodeOf exercise.now sheet.now node.now path → MatchOption result
-        (live_at exercise.now sheet.now (path ++ k ∷ []) ≡ None)
-        (λ entry. IsNodeOf exercise.now sheet.now entry.0 (path ++ k ∷ [])
-        × (live_at exercise.now sheet.now (path ++ k ∷ []) ≡ Some entry.1)) }
+    ensures { IsFoundChild (IsNodeOf exercise.now sheet.now) (live_at exercise.now sheet.now) k node.now result }
 {
     let before = node.state.before(exercise);
     if !cells_follow(before, column.as_slice()) {

@@ -1,14 +1,12 @@
 //! A walk over the columns of a menu that passes over the dead ones, and over those that are no better than the best leaf.
 
-ghost use Rattle.std.specs.Prelude.{◌≡◌, ◌<◌, ◌≤◌, ◌+◌, ◌^◌, ℕ, List, [], IfSome, IsSomeAnd, length, slice_index_or};
+ghost use Rattle.std.specs.Prelude.{◌≡◌, ◌<◌, ◌≤◌, ◌+◌, ◌^◌, ℕ, IfSome, IsSomeAnd, length};
 ghost use Rattle.std.specs.Bool.{OnFalse};
-ghost use Rattle.fux_grid.specs.declared.exercise.Exercise.{Exercise as AnExercise};
 ghost use Rattle.fux_grid.specs.Exercises.{IsValid, columns_in};
 ghost use Rattle.fux_grid.specs.Grid.{items_of};
 ghost use Rattle.fux_grid.specs.Menus.{menu_of};
-ghost use Rattle.species_space.specs.Blocks.{IsBlockMenu, SkipDead, StraysOrDies};
-ghost use Rattle.species_space.specs.Nodes.{IsNodeOf};
-ghost use Rattle.species_space.specs.Paths.{ArePassed, IsNoBetter};
+ghost use Rattle.species_space.specs.Blocks.{AreWithin, IsBlockMenu, PassesDead};
+ghost use Rattle.species_space.specs.Nodes.{HasNoBetter, IsNodeOf, PassesOver};
 ghost use Rattle.species_space.specs.Task.{SkipsDead};
 ghost use Rattle.tree_search.specs.Space.{IsInner};
 
@@ -23,14 +21,11 @@ use penalty_sheet::Sheet;
 fn next_choice(menu: &BlockMenu, before: &[Cell], from: usize, hint: usize) -> usize
     requires cut { IsBlockMenu menu.now }
     requires counted { length menu.now.undead.items ≡ length menu.now.columns.items }
-    requires bounded { (k : ℕ) → k < length menu.now.undead.items →
-        slice_index_or menu.now.undead.items k 0 ≤ length (items_of menu.now.columns.items) }
+    requires bounded { AreWithin menu.now.undead.items (length (items_of menu.now.columns.items)) }
     requires within { from ≤ length menu.now.columns.items }
     ensures onward { from ≤ result }
     ensures within { result ≤ length menu.now.columns.items }
-    ensures passed { (exercise : AnExercise) (i : ℕ) → SkipDead exercise i (items_of menu.now.columns.items) menu.now.undead.items →
-        (k : ℕ) → from ≤ k → k < result →
-        StraysOrDies exercise i before.now (slice_index_or (items_of menu.now.columns.items) k []) }
+    ensures passed { PassesDead menu.now before.now from result }
 {
     let mut k = menu.next_that_follows(before, from, hint);
     while k < menu.columns.len() {
@@ -61,8 +56,7 @@ fn may_be_better(tables: &Tables<'_>, node: &Node, k: usize, best: Option<u64>) 
     requires valid { IsValid tables.now.exercise }
     requires node { IsInner (IsNodeOf tables.now.exercise tables.now.sheet node.now) (columns_in tables.now.exercise) }
     requires number { k < length (menu_of tables.now.exercise node.now.state.newest.len) }
-    ensures { OnFalse result ((path : List ℕ) → IsNodeOf tables.now.exercise tables.now.sheet node.now path
-        → IsNoBetter tables.now.exercise tables.now.sheet path best k) }
+    ensures { OnFalse result (HasNoBetter tables.now.exercise tables.now.sheet node.now best k) }
 {
     let Some(rest) = tables.rest_of_number(node.state.len(), k) else {
         return false;
@@ -93,8 +87,7 @@ fn passed_over(
     requires within { k < length menu.now.columns.items }
     ensures onward { IfSome result (λ end. k < end.0) }
     ensures within { IfSome result (λ end. end.0 ≤ length menu.now.columns.items) }
-    ensures passed { IfSome result (λ end. (path : List ℕ) → IsNodeOf exercise.now sheet.now node.now path
-        → ArePassed exercise.now sheet.now path best k end.0) }
+    ensures passed { IfSome result (λ end. PassesOver exercise.now sheet.now node.now best k end.0) }
 {
     if !may_be_better(tables, node, k, best) {
         return Some((k + 1, tried));
@@ -124,8 +117,7 @@ pub(crate) fn next_unpruned(
     requires within { from ≤ length menu.now.columns.items }
     ensures onward { from ≤ result }
     ensures within { result ≤ length menu.now.columns.items }
-    ensures passed { (path : List ℕ) → IsNodeOf exercise.now sheet.now node.now path
-        → ArePassed exercise.now sheet.now path best from result }
+    ensures passed { PassesOver exercise.now sheet.now node.now best from result }
 {
     let before = node.state.before(exercise);
     let mut k = next_choice(menu, before, from, node.hint);

@@ -64,6 +64,10 @@ pub record IsLoaded (live : List ℕ → Option ℕ) (floor : ℕ) (path : List 
   pub parent_live : live parent ≡ Some own_floor
   pub low : own_floor ≤ floor
 
+-- the load of each floor below the bound is within the budget
+abbrev pub AreLowerLoadsWithin : (List ℕ → Option ℕ) → ℕ → ℕ → Type 0
+AreLowerLoadsWithin live budget bound = (floor : ℕ) → floor < bound → AtMost (IsLoaded live floor) budget
+
 -- more than this many are in the load of the least value, or where there is no leaf, are live below the root
 pub record IsOverBudget (live : List ℕ → Option ℕ) (height budget : ℕ) : Type 0 where
   pub load : (path : List ℕ) (value : ℕ)

@@ -10,6 +10,10 @@ use Rattle.tree_search.specs.Links.{path_in}
 abbrev pub Entry : Type 0
 Entry = Reverse ℕ × ℕ
 
+-- the floor with the number
+abbrev pub entry_of : ℕ → ℕ → Entry
+entry_of floor number = (record { 0 = floor }, number)
+
 -- the least floor is greatest, and of equal floors the latest entry
 abbrev pub entry_cmp : Entry → Entry → Ordering
 entry_cmp x y = ordering_then (nat_cmp y.0.0 x.0.0) (nat_cmp x.1 y.1)

@@ -1,7 +1,7 @@
 -- How far a search of the front has come. Lemmas see a front as n entries, of paths P and floors F.
 use Rattle.std.specs.Prelude.{◌≡◌, ℕ, ◌+◌, ◌<◌, ◌≤◌, ◌⊎◌, ◌++◌, [], ◌∷◌, List, Option, Some, None, IsSome, length, cond, ◌==◌, vec_capacity}
 use Rattle.std.specs.BinaryHeap.{heap_items, heap_capacity, IsHeap}
-use Rattle.tree_search.specs.Answer.{IsLeaf, IsBefore}
+use Rattle.tree_search.specs.Answer.{IsLeaf, IsBefore, Many, IsLoaded}
 use Rattle.tree_search.specs.Links.{path_in, IsLinked}
 use Rattle.tree_search.specs.Entries.{Entry, entry_cmp, numbers, HaveFloors}
 use Rattle.tree_search.specs.declared.links.Link.{Link}
@@ -16,6 +16,12 @@ times i (x ∷ xs) = cond (x == i) (1 + times i xs) (times i xs)
 abbrev pub Covers : Option ℕ → List ℕ → List ℕ → ℕ → Type 0
 Covers None best_path path value = ⊥
 Covers (Some best) best_path path value = (best ≤ value) × (best ≡ value → IsBefore path best_path → ⊥)
+
+-- what the best leaf of the first front covers, that of the second does too
+abbrev pub KeepsCovered : Front → Front → Type 0
+KeepsCovered old new =
+    (path : List ℕ) (value : ℕ) → Covers old.best old.best_path.items path value
+    → Covers new.best new.best_path.items path value
 
 -- the best leaf is one, and its value the floor that is reached
 abbrev pub IsBestLeaf : (List ℕ → Option ℕ) → ℕ → ℕ → Option ℕ → List ℕ → Type 0
@@ -67,6 +73,14 @@ floor_of (Some floor) = floor
 abbrev pub floor_in : (List ℕ → Option ℕ) → List Link → ℕ → ℕ
 floor_in live links entry = floor_of (live (path_in links entry))
 
+-- more than the budget are in the load of the entry's floor
+abbrev pub IsLoadAbove : (List ℕ → Option ℕ) → Front → ℕ → ℕ → Type 0
+IsLoadAbove live front entry budget = Many (IsLoaded live (floor_in live front.links.items entry)) (budget + 1)
+
+-- the number of the entry that is added next
+abbrev pub next_number : Front → ℕ
+next_number front = length front.links.items + 1
+
 -- links, what waits and the best leaf make a front
 pub record IsSearch (live : List ℕ → Option ℕ) (height : ℕ) (links : List Link) (waiting : List Entry)
     (best : Option ℕ) (best_path : List ℕ) (Spared : ℕ → Type 0) (reached : ℕ) : Type 0 where
@@ -83,6 +97,10 @@ abbrev pub IsClosed : (List ℕ → Option ℕ) → ℕ → Front → ℕ → Ty
 IsClosed live height front reached =
     IsSearch live height front.links.items (heap_items front.waiting) front.best front.best_path.items
     (λ _. ⊥) reached
+
+-- a front that has come as far as the floor of an entry of an earlier one, each entry of which waits or is done
+abbrev pub IsClosedAt : (List ℕ → Option ℕ) → ℕ → Front → ℕ → Front → Type 0
+IsClosedAt live height old entry new = IsClosed live height new (floor_in live old.links.items entry)
 
 -- a front, one entry of which is open: its children before k are entries
 abbrev pub IsOpen : (List ℕ → Option ℕ) → ℕ → Front → ℕ → ℕ → Type 0

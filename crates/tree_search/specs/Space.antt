@@ -1,5 +1,5 @@
 -- What a search may take for granted of a tree.
-use Rattle.std.specs.Prelude.{◌≡◌, ℕ, ◌<◌, ◌≤◌, ◌++◌, ◌∷◌, [], List, Option, Some, IsSome, IsSomeAnd, length}
+use Rattle.std.specs.Prelude.{◌≡◌, ℕ, ◌<◌, ◌≤◌, ◌++◌, ◌∷◌, [], List, Option, Some, None, IsSome, IsSomeAnd, MatchOption, length}
 
 -- the node is at a path to no leaf
 pub record IsInner (is_at : List ℕ → Type 0) (height : ℕ) : Type 0 where
@@ -19,6 +19,21 @@ pub record HasLiveChild (is_at : List ℕ → Type 0) (live : List ℕ → Optio
   pub path : List ℕ
   pub at : is_at path
   pub is_live : IsSome (live (path ++ child ∷ []))
+
+-- what was found at a path: a node that stands for it, with its floor, or nothing where no live node is
+abbrev pub IsFoundAt : {N : Type 0} → (N → List ℕ → Type 0) → (List ℕ → Option ℕ) → List ℕ → Option (N × ℕ) → Type 0
+IsFoundAt is_at live path found =
+    MatchOption found (live path ≡ None) (λ entry. is_at entry.0 path × (live path ≡ Some entry.1))
+
+-- what was found is the child of this number, whatever path the node stands for
+abbrev pub IsFoundChild : {N : Type 0} → (N → List ℕ → Type 0) → (List ℕ → Option ℕ) → ℕ → N → Option (N × ℕ) → Type 0
+IsFoundChild is_at live child node found =
+    (path : List ℕ) → is_at node path → IsFoundAt is_at live (path ++ child ∷ []) found
+
+-- wherever the child of this number is live, its node stands for it
+abbrev pub IsChildOf : {N : Type 0} → (N → List ℕ → Type 0) → (List ℕ → Option ℕ) → ℕ → N → N → Type 0
+IsChildOf is_at live child node its_node =
+    (path : List ℕ) → is_at node path → IsSome (live (path ++ child ∷ [])) → is_at its_node (path ++ child ∷ [])
 
 -- each child from one number up to another is dead or no better than the best leaf so far: its floor is no
 -- lower than that leaf's value

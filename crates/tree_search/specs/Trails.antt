@@ -1,6 +1,7 @@
 -- The nodes of one path.
 use Rattle.std.specs.Prelude.{◌≡◌, ℕ, ◌+◌, ◌≤◌, List, length, take, slice_index_or}
 use Rattle.tree_search.specs.declared.links.Link.{Link}
+use Rattle.tree_search.specs.declared.trail.Trail.{Trail}
 use Rattle.tree_search.specs.Links.{path_in}
 
 -- as far as the level, each node stands for the path that leads to it
@@ -17,3 +18,12 @@ pub record IsTrailTo {N : Type 0} (is_at : N → List ℕ → Type 0) (height : 
   pub trail : IsTrail is_at height path nodes level
   pub entry_within : entry ≤ length links
   pub leads : take level path ≡ path_in links entry
+
+-- as far as the level, the trail leads to this entry
+abbrev pub LeadsTo : {N : Type 0} → (N → List ℕ → Type 0) → ℕ → List Link → Trail N → ℕ → ℕ → Type 0
+LeadsTo is_at height links trail level entry =
+    IsTrailTo is_at height links trail.path.items trail.nodes.items level entry
+
+-- the trail leads to its own entry
+abbrev pub Leads : {N : Type 0} → (N → List ℕ → Type 0) → ℕ → List Link → Trail N → Type 0
+Leads is_at height links trail = LeadsTo is_at height links trail trail.level trail.entry

@@ -1,6 +1,7 @@
 -- How far a walk in depth has come.
-use Rattle.std.specs.Prelude.{◌≡◌, ℕ, ◌-◌, ◌<◌, ◌≤◌, ◌⊎◌, ◌++◌, [], ◌∷◌, List, Option, Some, None, length}
+use Rattle.std.specs.Prelude.{◌≡◌, ℕ, ◌+◌, ◌-◌, ◌<◌, ◌≤◌, ◌⊎◌, ◌++◌, [], ◌∷◌, List, Option, Some, None, length, take}
 use Rattle.tree_search.specs.Answer.{IsLeaf, IsBefore, Many, IsOpened}
+use Rattle.tree_search.specs.declared.depth.Walk.{Walk}
 
 -- the path begins with this start
 abbrev pub BeginsWith : List ℕ → List ℕ → Type 0
@@ -44,3 +45,41 @@ HasOpened Kind old new = (new ≤ old) × Exactly Kind (old - new)
 -- two lists of this length
 abbrev pub HaveLength : ℕ → List ℕ → List ℕ → Type 0
 HaveLength n path other = (length path ≡ n) × (length other ≡ n)
+
+-- the path down to a level
+abbrev pub path_to : Walk → ℕ → List ℕ
+path_to walk level = take level walk.path.items
+
+-- the walk has the best of the leaves before a path, or there is none of them
+abbrev pub HasBestBefore : (List ℕ → Option ℕ) → ℕ → List ℕ → Walk → Type 0
+HasBestBefore live height bound walk = IsBestBefore live height bound walk.best walk.best_path.items
+
+-- a later walk has the best of the leaves down to the last one below the node at a level, or there is none of them
+abbrev pub HasBestAfter : (List ℕ → Option ℕ) → ℕ → (List ℕ → ℕ) → ℕ → Walk → Walk → Type 0
+HasBestAfter live height width level old new =
+    HasBestBefore live height (path_to old level ++ width (path_to old level) ∷ []) new
+
+-- an opened path below the node at a level
+abbrev pub IsOpenedUnder : (List ℕ → Option ℕ) → ℕ → (List ℕ → ℕ) → ℕ → Walk → List ℕ → Type 0
+IsOpenedUnder live height width level walk =
+    IsOpenedBelow live height (path_to walk level) (width (path_to walk level))
+
+-- a later walk has opened what was to be opened below the node at a level, and nothing else
+abbrev pub OpensUnder : (List ℕ → Option ℕ) → ℕ → (List ℕ → ℕ) → ℕ → Walk → Walk → Type 0
+OpensUnder live height width level old new = HasOpened (IsOpenedUnder live height width level old) old.left new.left
+
+-- a later walk has opened what was to be opened from this start on, and nothing else
+abbrev pub OpensFrom : (List ℕ → Option ℕ) → ℕ → List ℕ → Walk → Walk → Type 0
+OpensFrom live height start old new = HasOpened (IsOpenedFrom live height start) old.left new.left
+
+-- more is to be opened below the node at a level than the walk may still open
+abbrev pub LacksUnder : (List ℕ → Option ℕ) → ℕ → (List ℕ → ℕ) → ℕ → Walk → Type 0
+LacksUnder live height width level walk = Many (IsOpenedUnder live height width level walk) (walk.left + 1)
+
+-- more is to be opened from this start on than the walk may still open
+abbrev pub LacksFrom : (List ℕ → Option ℕ) → ℕ → List ℕ → Walk → Type 0
+LacksFrom live height start walk = Many (IsOpenedFrom live height start) (walk.left + 1)
+
+-- the walk's paths have this length
+abbrev pub HasLengths : ℕ → Walk → Type 0
+HasLengths n walk = HaveLength n walk.path.items walk.best_path.items

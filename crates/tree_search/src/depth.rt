@@ -1,9 +1,9 @@
 //! Depth first: the children of a node in their order, and nothing that cannot be better.
-ghost use Rattle.std.specs.Prelude.{◌≡◌, ℕ, ◌<◌, ◌≤◌, ◌+◌, ◌^◌, ◌++◌, ◌∷◌, ◌↔◌, [], take, length, IfOk, IsSomeAnd};
+ghost use Rattle.std.specs.Prelude.{◌≡◌, ℕ, ◌<◌, ◌≤◌, ◌+◌, ◌^◌, ◌++◌, ◌∷◌, ◌↔◌, [], IfOk, Some, IsSomeAnd};
 ghost use Rattle.std.specs.Bool.{OnTrue, OnFalse};
 ghost use Rattle.tree_search.specs.Answer.{IsFirstLeast, HasNoLeaf, BoundsLeaves, Many, AtMost, IsLiveBelowRoot, IsOpened};
 ghost use Rattle.tree_search.specs.Outcomes.{IfFound, OnNothing, IfSpent, IsSpent};
-ghost use Rattle.tree_search.specs.Walks.{IsOpenedFrom, IsOpenedBelow, IsBestBefore, HasOpened, HaveLength};
+ghost use Rattle.tree_search.specs.Walks.{path_to, HasBestBefore, HasBestAfter, OpensUnder, OpensFrom, LacksUnder, LacksFrom, HasLengths};
 
 use crate::outcome::Outcome;
 use crate::space::Space;
@@ -12,7 +12,7 @@ use std::alloc::Global;
 
 /// The walk so far.
 #[derive(Drop)]
-struct Walk {
+pub struct Walk {
     /// The child numbers down to the node, and then some that mean nothing.
     path: Vec<u16>,
     /// The path to the best leaf, where there is one.
@@ -38,18 +38,18 @@ fn is_no_better(floor: u64, best: Option<u64>) -> bool
 /// Goes through what is below a node. It answers whether the budget was enough.
 #[cycle(walk)]
 fn descend<S: Space>(space: &S, node: &S::Node, level: usize, walk: &mut Walk) -> bool
-    requires node { S.is_at space.now node.now (take level walk.old.path.items) }
+    requires node { S.is_at space.now node.now (path_to walk.old level) }
     requires above { level < S.height space.now }
-    requires lengths { HaveLength (S.height space.now) walk.old.path.items walk.old.best_path.items }
-    requires best { IsBestBefore (S.live space.now) (S.height space.now) (take level walk.old.path.items) walk.old.best walk.old.best_path.items }
-    ensures path { take level walk.new.path.items ≡ take level walk.old.path.items }
-    ensures lengths { HaveLength (S.height space.now) walk.new.path.items walk.new.best_path.items }
-    ensures best { let path = take level walk.old.path.items in OnTrue result
-        (IsBestBefore (S.live space.now) (S.height space.now) (path ++ S.width space.now path ∷ []) walk.new.best walk.new.best_path.items) }
-    ensures opened { let path = take level walk.old.path.items in OnTrue result
-        (HasOpened (IsOpenedBelow (S.live space.now) (S.height space.now) path (S.width space.now path)) walk.old.left walk.new.left) }
-    ensures spent { let path = take level walk.old.path.items in OnFalse result
-        (Many (IsOpenedBelow (S.live space.now) (S.height space.now) path (S.width space.now path)) (walk.old.left + 1)) }
+    requires lengths { HasLengths (S.height space.now) walk.old }
+    requires best { HasBestBefore (S.live space.now) (S.height space.now) (path_to walk.old level) walk.old }
+    ensures path { path_to walk.new level ≡ path_to walk.old level }
+    ensures lengths { HasLengths (S.height space.now) walk.new }
+    ensures best { OnTrue result
+        (HasBestAfter (S.live space.now) (S.height space.now) (S.width space.now) level walk.old walk.new) }
+    ensures opened { OnTrue result
+        (OpensUnder (S.live space.now) (S.height space.now) (S.width space.now) level walk.old walk.new) }
+    ensures spent { OnFalse result
+        (LacksUnder (S.live space.now) (S.height space.now) (S.width space.now) level walk.old) }
 {
     let count = space.count(node);
     let mut from = 0;
@@ -70,20 +70,20 @@ fn descend<S: Space>(space: &S, node: &S::Node, level: usize, walk: &mut Walk) -
 #[cycle(walk)]
 #[inline]
 fn enter<S: Space>(space: &S, node: &S::Node, level: usize, k: usize, walk: &mut Walk) -> bool
-    requires node { S.is_at space.now node.now (take level walk.old.path.items) }
+    requires node { S.is_at space.now node.now (path_to walk.old level) }
     requires above { level < S.height space.now }
-    requires within { k < S.width space.now (take level walk.old.path.items) }
+    requires within { k < S.width space.now (path_to walk.old level) }
     requires small { k < 2 ^ 16 }
-    requires lengths { HaveLength (S.height space.now) walk.old.path.items walk.old.best_path.items }
-    requires best { IsBestBefore (S.live space.now) (S.height space.now) (take level walk.old.path.items ++ k ∷ []) walk.old.best walk.old.best_path.items }
-    ensures path { take level walk.new.path.items ≡ take level walk.old.path.items }
-    ensures lengths { HaveLength (S.height space.now) walk.new.path.items walk.new.best_path.items }
+    requires lengths { HasLengths (S.height space.now) walk.old }
+    requires best { HasBestBefore (S.live space.now) (S.height space.now) (path_to walk.old level ++ k ∷ []) walk.old }
+    ensures path { path_to walk.new level ≡ path_to walk.old level }
+    ensures lengths { HasLengths (S.height space.now) walk.new }
     ensures best { OnTrue result
-        (IsBestBefore (S.live space.now) (S.height space.now) (take level walk.old.path.items ++ (k + 1) ∷ []) walk.new.best walk.new.best_path.items) }
+        (HasBestBefore (S.live space.now) (S.height space.now) (path_to walk.old level ++ (k + 1) ∷ []) walk.new) }
     ensures opened { OnTrue result
-        (HasOpened (IsOpenedFrom (S.live space.now) (S.height space.now) (take level walk.old.path.items ++ k ∷ [])) walk.old.left walk.new.left) }
+        (OpensFrom (S.live space.now) (S.height space.now) (path_to walk.old level ++ k ∷ []) walk.old walk.new) }
     ensures spent { OnFalse result
-        (Many (IsOpenedFrom (S.live space.now) (S.height space.now) (take level walk.old.path.items ++ k ∷ [])) (walk.old.left + 1)) }
+        (LacksFrom (S.live space.now) (S.height space.now) (path_to walk.old level ++ k ∷ []) walk.old) }
 {
     let Some((child, floor)) = space.child(node, k) else {
         return true;

@@ -2,12 +2,12 @@
 ghost use Rattle.std.specs.Prelude.{◌≡◌, ℕ, ◌<◌, ◌≤◌, ◌+◌, ◌^◌, ◌++◌, ◌∷◌, ◌↔◌, ◌⊎◌, [], List, IsSome, Some, length, IfOk, IfSome, IfNone, All, IsPermutation, vec_capacity};
 ghost use Rattle.std.specs.BinaryHeap.{heap_items, heap_capacity, IsHeap};
 ghost use Rattle.std.specs.Bool.{OnTrue, OnFalse};
-ghost use Rattle.tree_search.specs.Answer.{IsBefore, IsFirstLeast, HasNoLeaf, BoundsLeaves, Many, AtMost, IsLoaded, IsLiveBelowRoot, IsOverBudget};
+ghost use Rattle.tree_search.specs.Answer.{IsBefore, IsFirstLeast, HasNoLeaf, BoundsLeaves, Many, AtMost, IsLoaded, IsLiveBelowRoot, AreLowerLoadsWithin, IsOverBudget};
 ghost use Rattle.tree_search.specs.Outcomes.{IfFound, OnNothing, IfSpent, IsSpent};
 ghost use Rattle.tree_search.specs.Links.{path_in, IsLinked};
-ghost use Rattle.tree_search.specs.Entries.{entry_cmp};
-ghost use Rattle.tree_search.specs.Trails.{IsTrail, IsTrailTo};
-ghost use Rattle.tree_search.specs.Fronts.{Covers, floor_in, IsClosed, IsOpen, HasRoom, SameTaken};
+ghost use Rattle.tree_search.specs.Entries.{entry_of, entry_cmp};
+ghost use Rattle.tree_search.specs.Trails.{LeadsTo, Leads};
+ghost use Rattle.tree_search.specs.Fronts.{Covers, KeepsCovered, IsLoadAbove, IsClosedAt, next_number, IsOpen, HasRoom, SameTaken};
 
 use crate::links::Link;
 use crate::outcome::Outcome;
@@ -64,7 +64,7 @@ fn beats(path: &[u16], best: Option<u64>, best_path: &[u16]) -> bool
 fn pop_least(waiting: &mut Waiting) -> Option<(u64, u32)>
     requires { IsHeap entry_cmp (heap_items waiting.old) }
     ensures taken { IfSome result (λ entry. IsPermutation (heap_items waiting.old)
-        ((record { 0 = entry.0 }, entry.1) ∷ heap_items waiting.new)) }
+        (entry_of entry.0 entry.1 ∷ heap_items waiting.new)) }
     ensures least { IfSome result (λ entry. All (λ other. entry.0 ≤ other.0.0) (heap_items waiting.new)) }
     ensures heap { IfSome result (λ _. IsHeap entry_cmp (heap_items waiting.new)) }
     ensures capacity { heap_capacity waiting.new ≡ heap_capacity waiting.old }
@@ -80,7 +80,7 @@ fn pop_least(waiting: &mut Waiting) -> Option<(u64, u32)>
 fn start_front(alloc: Global, floor: u64, depth: usize, budget: u32) -> Result<Front, Memory>
     ensures links { IfOk result (λ front. front.links.items ≡ []) }
     ensures waiting { IfOk result (λ front.
-        IsPermutation ((record { 0 = floor }, 0) ∷ []) (heap_items front.waiting)) }
+        IsPermutation (entry_of floor 0 ∷ []) (heap_items front.waiting)) }
     ensures heap { IfOk result (λ front. IsHeap entry_cmp (heap_items front.waiting)) }
     ensures best { IfOk result (λ front. front.best ≡ None) }
     ensures long { IfOk result (λ front. length front.best_path.items ≡ depth) }
@@ -104,8 +104,7 @@ fn add(front: &mut Front, floor: u64, link: Link, budget: u32)
     requires left { length front.old.links.items < budget }
     ensures links { front.new.links.items ≡ front.old.links.items ++ link ∷ [] }
     ensures waiting { IsPermutation
-        ((record { 0 = floor }, length front.old.links.items + 1) ∷ heap_items front.old.waiting)
-        (heap_items front.new.waiting) }
+        (entry_of floor (next_number front.old) ∷ heap_items front.old.waiting) (heap_items front.new.waiting) }
     ensures heap { IsHeap entry_cmp (heap_items front.new.waiting) }
     ensures best { front.new.best ≡ front.old.best }
     ensures best_path { front.new.best_path ≡ front.old.best_path }
@@ -127,9 +126,7 @@ fn meet(front: &mut Front, path: &[u16], value: u64)
     ensures one { (front.new.best_path.items ≡ path.now)
         ⊎ (IsSome front.old.best × (front.new.best_path.items ≡ front.old.best_path.items)) }
     ensures covers { Covers front.new.best front.new.best_path.items path.now value }
-    ensures keeps { (other : List ℕ) (its : ℕ)
-        → Covers front.old.best front.old.best_path.items other its
-        → Covers front.new.best front.new.best_path.items other its }
+    ensures keeps { KeepsCovered front.old front.new }
 {
     if beats(path, front.best, &front.best_path) {
         front.best = Some(value);
@@ -149,24 +146,19 @@ fn take_child<S: Space>(
     budget: u32,
 ) -> bool
     requires open { IsOpen (S.live space.now) (S.height space.now) front.old entry k }
-    requires parent { IsTrailTo (S.is_at space.now) (S.height space.now) front.old.links.items
-        trail.old.path.items trail.old.nodes.items level entry }
-    requires trail { IsTrailTo (S.is_at space.now) (S.height space.now) front.old.links.items
-        trail.old.path.items trail.old.nodes.items trail.old.level trail.old.entry }
+    requires parent { LeadsTo (S.is_at space.now) (S.height space.now) front.old.links.items trail.old level entry }
+    requires trail { Leads (S.is_at space.now) (S.height space.now) front.old.links.items trail.old }
     requires above { level < S.height space.now }
     requires within { k < S.width space.now (path_in front.old.links.items entry) }
     requires small { k < 2 ^ 16 }
     requires room { HasRoom budget front.old }
     ensures open { OnTrue result (IsOpen (S.live space.now) (S.height space.now) front.new entry (k + 1)) }
     ensures path { path_in front.new.links.items entry ≡ path_in front.old.links.items entry }
-    ensures parent { IsTrailTo (S.is_at space.now) (S.height space.now) front.new.links.items
-        trail.new.path.items trail.new.nodes.items level entry }
-    ensures trail { IsTrailTo (S.is_at space.now) (S.height space.now) front.new.links.items
-        trail.new.path.items trail.new.nodes.items trail.new.level trail.new.entry }
+    ensures parent { LeadsTo (S.is_at space.now) (S.height space.now) front.new.links.items trail.new level entry }
+    ensures trail { Leads (S.is_at space.now) (S.height space.now) front.new.links.items trail.new }
     ensures room { HasRoom budget front.new }
     ensures taken { SameTaken front.old front.new }
-    ensures spent { OnFalse result
-        (Many (IsLoaded (S.live space.now) (floor_in (S.live space.now) front.old.links.items entry)) (budget + 1)) }
+    ensures spent { OnFalse result (IsLoadAbove (S.live space.now) front.old entry budget) }
 {
     let Some((child, floor)) = space.child(&trail.nodes[level], k) else {
         return true;
@@ -188,19 +180,14 @@ fn take_child<S: Space>(
 /// which is the next entry of its floor. It answers whether the budget was enough.
 fn open<S: Space>(space: &S, front: &mut Front, trail: &mut Trail<S::Node>, budget: u32) -> bool
     requires open { IsOpen (S.live space.now) (S.height space.now) front.old trail.old.entry 0 }
-    requires trail { IsTrailTo (S.is_at space.now) (S.height space.now) front.old.links.items
-        trail.old.path.items trail.old.nodes.items trail.old.level trail.old.entry }
+    requires trail { Leads (S.is_at space.now) (S.height space.now) front.old.links.items trail.old }
     requires above { trail.old.level < S.height space.now }
     requires room { HasRoom budget front.old }
-    ensures closed { OnTrue result (IsClosed (S.live space.now) (S.height space.now) front.new
-        (floor_in (S.live space.now) front.old.links.items trail.old.entry)) }
-    ensures trail { IsTrailTo (S.is_at space.now) (S.height space.now) front.new.links.items
-        trail.new.path.items trail.new.nodes.items trail.new.level trail.new.entry }
+    ensures closed { OnTrue result (IsClosedAt (S.live space.now) (S.height space.now) front.old trail.old.entry front.new) }
+    ensures trail { Leads (S.is_at space.now) (S.height space.now) front.new.links.items trail.new }
     ensures room { HasRoom budget front.new }
     ensures taken { SameTaken front.old front.new }
-    ensures spent { OnFalse result (Many
-        (IsLoaded (S.live space.now) (floor_in (S.live space.now) front.old.links.items trail.old.entry))
-        (budget + 1)) }
+    ensures spent { OnFalse result (IsLoadAbove (S.live space.now) front.old trail.old.entry budget) }
 {
     let level = trail.level;
     let entry = trail.entry;
@@ -247,8 +234,7 @@ pub fn search_front<S: Space>(alloc: Global, space: &S, budget: u32) -> Result<O
     // The bound is the least floor whose load is above the budget, and no leaf's value is lower.
     ensures spent { IfOk result (λ outcome. IfSpent outcome (λ bound.
         Many (IsLoaded (S.live space.now) bound) (budget + 1))) }
-    ensures least { IfOk result (λ outcome. IfSpent outcome (λ bound. (floor : ℕ) → floor < bound
-        → AtMost (IsLoaded (S.live space.now) floor) budget)) }
+    ensures least { IfOk result (λ outcome. IfSpent outcome (AreLowerLoadsWithin (S.live space.now) budget)) }
     ensures bound { IfOk result (λ outcome. IfSpent outcome (BoundsLeaves (S.live space.now) (S.height space.now))) }
 {
     let depth = space.depth();

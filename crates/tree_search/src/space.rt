@@ -1,6 +1,6 @@
 //! Trees that are made as they are searched.
-ghost use Rattle.std.specs.Prelude.{◌≡◌, ℕ, ◌<◌, ◌≤◌, ◌++◌, ◌∷◌, [], List, Option, None, Some, MatchOption, length};
-ghost use Rattle.tree_search.specs.Space.{IsInner, HasChild, AreNoBetter, FloorsGrow};
+ghost use Rattle.std.specs.Prelude.{◌≡◌, ℕ, ◌≤◌, [], List, Option};
+ghost use Rattle.tree_search.specs.Space.{IsInner, HasChild, IsFoundAt, IsFoundChild, AreNoBetter, FloorsGrow};
 
 /// A tree of bounded depth, whose live nodes have floors. A node is named by its path, the child numbers from the root
 /// to it. A node at `depth` is a leaf, and its floor is its value.
@@ -27,9 +27,7 @@ pub trait Space {
 
     /// The root with its floor, if it is live.
     fn root(&self) -> Option<(Self::Node, u64)>
-        ensures { MatchOption result
-            (live self.now [] ≡ None)
-            (λ entry. is_at self.now entry.0 [] × (live self.now [] ≡ Some entry.1)) };
+        ensures { IsFoundAt (is_at self.now) (live self.now) [] result };
 
     /// How many children a node has, dead ones too.
     fn count(&self, node: &Self::Node) -> usize
@@ -40,9 +38,7 @@ pub trait Space {
     /// A child with its floor, if it is live.
     fn child(&self, node: &Self::Node, k: usize) -> Option<(Self::Node, u64)>
         requires { HasChild (is_at self.now node.now) (height self.now) (width self.now) k }
-        ensures { (path : List ℕ) → is_at self.now node.now path → MatchOption result
-            (live self.now (path ++ k ∷ []) ≡ None)
-            (λ entry. is_at self.now entry.0 (path ++ k ∷ []) × (live self.now (path ++ k ∷ []) ≡ Some entry.1)) };
+        ensures { IsFoundChild (is_at self.now) (live self.now) k node.now result };
 
     /// The least number, from this one on, of a child that may be live and better than the best leaf so far, or a number
     /// that no child has where none of the rest may be. A search tries only such children, so a space that can tell

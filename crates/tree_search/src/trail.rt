@@ -1,8 +1,8 @@
 //! The nodes of one path, so that a path that shares its beginning is soon made.
 ghost use Rattle.std.specs.Prelude.{◌≡◌, ℕ, ◌+◌, ◌<◌, ◌≤◌, ◌++◌, ◌∷◌, [], List, IsSome, IfOk, length, take, slice_index_or, slice_set};
-ghost use Rattle.tree_search.specs.Space.{HasLiveChild};
+ghost use Rattle.tree_search.specs.Space.{HasLiveChild, IsChildOf};
 ghost use Rattle.tree_search.specs.Links.{path_in, IsLinked};
-ghost use Rattle.tree_search.specs.Trails.{IsTrail, IsTrailTo};
+ghost use Rattle.tree_search.specs.Trails.{IsTrail, Leads};
 
 use crate::links::{Link, write_path};
 use crate::space::Space;
@@ -41,8 +41,7 @@ pub fn start_trail<S: Space>(
     root: S::Node,
 ) -> Result<Trail<S::Node>, Memory>
     requires { S.is_at space.now root [] }
-    ensures { IfOk result (λ trail. IsTrailTo (S.is_at space.now) (S.height space.now) []
-        trail.path.items trail.nodes.items trail.level trail.entry) }
+    ensures { IfOk result (Leads (S.is_at space.now) (S.height space.now) []) }
 {
     let depth = space.depth();
     Ok(Trail {
@@ -83,8 +82,7 @@ fn shared(path: &[u16], other: &[u16]) -> usize
 /// A child that is live.
 fn live_child<S: Space>(space: &S, node: &S::Node, k: usize) -> S::Node
     requires { HasLiveChild (S.is_at space.now node.now) (S.live space.now) k }
-    ensures { (path : List ℕ) → S.is_at space.now node.now path → IsSome (S.live space.now (path ++ k ∷ []))
-        → S.is_at space.now result (path ++ k ∷ []) }
+    ensures { IsChildOf (S.is_at space.now) (S.live space.now) k node.now result }
 {
     match space.child(node, k) {
         Some((child, _)) => child,
@@ -136,10 +134,8 @@ pub fn go_to<S: Space>(
     requires within { entry ≤ length links.now }
     requires live { IsSome (S.live space.now (path_in links.now entry)) }
     requires fits { length (path_in links.now entry) ≤ length list.old }
-    requires trail { IsTrailTo (S.is_at space.now) (S.height space.now) links.now
-        trail.old.path.items trail.old.nodes.items trail.old.level trail.old.entry }
-    ensures trail { IsTrailTo (S.is_at space.now) (S.height space.now) links.now
-        trail.new.path.items trail.new.nodes.items trail.new.level trail.new.entry }
+    requires trail { Leads (S.is_at space.now) (S.height space.now) links.now trail.old }
+    ensures trail { Leads (S.is_at space.now) (S.height space.now) links.now trail.new }
     ensures entry { trail.new.entry ≡ entry }
 {
     if trail.entry == entry {
