@@ -46,6 +46,7 @@ fn breaks_in_voice(
 }
 
 /// Whether S1, S2, S12, S13 or S24 is broken in a column, from the pitch of each voice's latest note before it.
+#[inline]
 pub fn breaks(
     rule: u8,
     ex: &Exercise,

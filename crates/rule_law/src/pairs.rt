@@ -38,7 +38,7 @@ pub fn sound_perfect(column: &[Cell], v: usize, w: usize) -> bool
 }
 
 /// Whether two voices both move from one column to the next: each starts a note of another pitch than it sounds before.
-#[inline]
+#[inline(always)]
 pub fn both_move(before: &[Cell], now: &[Cell], v: usize, w: usize) -> bool
     ensures { result ≡ pairs.both_move before.now now.now v w }
 {
@@ -46,7 +46,7 @@ pub fn both_move(before: &[Cell], now: &[Cell], v: usize, w: usize) -> bool
 }
 
 /// Whether two voices both move, and both rise or both fall.
-#[inline]
+#[inline(always)]
 pub fn move_alike(before: &[Cell], now: &[Cell], v: usize, w: usize) -> bool
     ensures { result ≡ pairs.move_alike before.now now.now v w }
 {

@@ -108,6 +108,7 @@ pub fn is_repetition(i: Interval) -> bool
 }
 
 /// Whether both are equal perfect intervals.
+#[inline]
 pub fn equal_perfects(i: Interval, j: Interval) -> bool
     requires first { IsShort i }
     requires second { IsShort j }
