@@ -22,7 +22,8 @@ pub breaks-push : (ex : Exercise) (p : List (List Cell)) (col : List Cell) (rule
     → has_break_of ex (p ++ col ∷ []) rule ≡ (has_break_of ex p rule || (is_read rule && newly_broken ex p col rule))
 breaks-push ex p col rule =
     ap (λ n. is_read rule && any_below after n) size ∙ ap (λ b. is_read rule && (b || after (length p))) earlier
-    ∙ ap (λ b. is_read rule && (any_below before (length p) || b)) last ∙ shared (is_read rule) (any_below before (length p)) (newly_broken ex p col rule)
+    ∙ ap (λ b. is_read rule && (any_below before (length p) || b)) last
+    ∙ shared (is_read rule) (any_below before (length p)) (newly_broken ex p col rule)
   where
     after : ℕ → Bool
     after k = newly_broken ex (take k (p ++ col ∷ [])) (slice_index_or (p ++ col ∷ []) k []) rule
@@ -62,7 +63,8 @@ three_read : is_read 3 ≡ true
 unfolding rules_read
 three_read = refl
 
-shape_unbroken : (ex : Exercise) (s : List (List Cell)) → IsOrderly ex s → (voices i : ℕ) → i < length s → is_broken 3 ex voices s i ≡ false
+shape_unbroken : (ex : Exercise) (s : List (List Cell)) → IsOrderly ex s → (voices i : ℕ) → i < length s
+    → is_broken 3 ex voices s i ≡ false
 unfolding rule_at
 shape_unbroken ex s orderly voices i here = orderly-unbroken ex s orderly voices i here
 
@@ -71,11 +73,13 @@ none_of test [] h = refl
 none_of test (x ∷ xs) h = ap (λ b. b || list_any test xs) (h x) ∙ none_of test xs h
 
 -- a column by which a list is orderly settles no break of S3
-in_shape_unbroken : (ex : Exercise) (p : List (List Cell)) (col : List Cell) → IsOrderly ex (p ++ col ∷ []) → newly_broken ex p col 3 ≡ false
+in_shape_unbroken : (ex : Exercise) (p : List (List Cell)) (col : List Cell) → IsOrderly ex (p ++ col ∷ [])
+    → newly_broken ex p col 3 ≡ false
 in_shape_unbroken ex p col orderly =
     none_of (λ voices. any_below (newly_broken_at 3 ex voices p col) (length p + 1)) all_sets
     (λ voices. from_none_below (newly_broken_at 3 ex voices p col) (length p + 1)
-    (λ i h. middle (newly (is_settled 3 ex voices) p col i) (is_broken 3 ex voices (p ++ col ∷ []) i) (is_strict_at 3 ex voices i)
+    (λ i h. middle (newly (is_settled 3 ex voices) p col i) (is_broken 3 ex voices (p ++ col ∷ []) i)
+    (is_strict_at 3 ex voices i)
     (shape_unbroken ex (p ++ col ∷ []) orderly voices i (omega (arith, length-append p (col ∷ []))))))
   where
     middle : (a b c : Bool) → b ≡ false → (a && b && c) ≡ false
@@ -88,9 +92,11 @@ module _ (ex : Exercise) (few : ex.voices ≤ 4) where
   shapes_history [] orderly = breaks-none ex 3
   shapes_history (col ∷ h) orderly =
       let longer : reverse (col ∷ h) ≡ reverse h ++ col ∷ [] = reverse-append (col ∷ []) h in
-      let whole : IsOrderly ex (reverse h ++ col ∷ []) = subst (λ (p : List (List Cell)). IsOrderly ex p) longer orderly in
+      let whole : IsOrderly ex (reverse h ++ col ∷ []) = subst (λ (p : List (List Cell)). IsOrderly ex p) longer orderly
+      in
       ap (λ p. has_break_of ex p 3) longer ∙ breaks-push ex (reverse h) col 3
-      ∙ ap (λ b. b || (is_read 3 && newly_broken ex (reverse h) col 3)) (shapes_history h (orderly-fewer ex (reverse h) (col ∷ []) whole))
+      ∙ ap (λ b. b || (is_read 3 && newly_broken ex (reverse h) col 3))
+      (shapes_history h (orderly-fewer ex (reverse h) (col ∷ []) whole))
       ∙ ap (λ b. is_read 3 && b) (in_shape_unbroken ex (reverse h) col whole) ∙ none (is_read 3)
     where
       none : (b : Bool) → (b && false) ≡ false
@@ -101,9 +107,11 @@ module _ (ex : Exercise) (few : ex.voices ≤ 4) where
   unbroken_history [] unbroken = λ v bar free begun. absurd (omega (arith, begun.1))
   unbroken_history (col ∷ h) unbroken =
       let longer : reverse (col ∷ h) ≡ reverse h ++ col ∷ [] = reverse-append (col ∷ []) h in
-      let parts = or_parts (has_break_of ex (reverse h) 3) (is_read 3 && newly_broken ex (reverse h) col 3) (sym (breaks-push ex (reverse h) col 3) ∙ sym (ap (λ p. has_break_of ex p 3) longer) ∙ unbroken) in
+      let parts = or_parts (has_break_of ex (reverse h) 3) (is_read 3 && newly_broken ex (reverse h) col 3)
+      (sym (breaks-push ex (reverse h) col 3) ∙ sym (ap (λ p. has_break_of ex p 3) longer) ∙ unbroken) in
       subst (λ (p : List (List Cell)). IsOrderly ex p) (sym longer)
-      (in_shape ex few (reverse h) col (unbroken_history h parts.0) (sym (ap (λ b. b && newly_broken ex (reverse h) col 3) three_read) ∙ parts.1))
+      (in_shape ex few (reverse h) col (unbroken_history h parts.0)
+      (sym (ap (λ b. b && newly_broken ex (reverse h) col 3) three_read) ∙ parts.1))
 
   pub shapes_unbroken : (p : List (List Cell)) → IsOrderly ex p → has_break_of ex p 3 ≡ false
   shapes_unbroken p orderly =

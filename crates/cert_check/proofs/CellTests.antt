@@ -26,14 +26,18 @@ equal_to_itself Rest = refl
 equal_to_itself (Hold p) = same_pitch-from_equal p p refl
 equal_to_itself (Start p) = same_pitch-from_equal p p refl
 
-among_from_test : (cells : List Cell) (cell : Cell) → list_any (λ c. ghosts.eq c cell) cells ≡ true → Contains cells cell
-among_from_test cells cell h = Contains-from_any {eq = λ c d. ghosts.eq d c} (λ c d same. sym (equal_cells d c same)) cell cells h
+among_from_test : (cells : List Cell) (cell : Cell) → list_any (λ c. ghosts.eq c cell) cells ≡ true
+    → Contains cells cell
+among_from_test cells cell h =
+    Contains-from_any {eq = λ c d. ghosts.eq d c} (λ c d same. sym (equal_cells d c same)) cell cells h
 
-test_from_among : (cells : List Cell) (cell : Cell) → Contains cells cell → list_any (λ c. ghosts.eq c cell) cells ≡ true
+test_from_among : (cells : List Cell) (cell : Cell) → Contains cells cell → list_any (λ c. ghosts.eq c cell) cells
+    ≡ true
 test_from_among cells cell (k, h, e) =
     list_any_at (λ c. ghosts.eq c cell) cells k cell h (ap (λ c. ghosts.eq c cell) e ∙ equal_to_itself cell)
 
-pub cell_among : (cells others : List Cell) (cell : Cell) (answer : Bool) → others ≡ cells → answer ≡ list_any (λ c. ghosts.eq c cell) others → IsTrue answer ↔ Contains cells cell
+pub cell_among : (cells others : List Cell) (cell : Cell) (answer : Bool) → others ≡ cells → answer
+    ≡ list_any (λ c. ghosts.eq c cell) others → IsTrue answer ↔ Contains cells cell
 cell_among cells others cell answer same e =
     let test : answer ≡ list_any (λ c. ghosts.eq c cell) cells = e ∙ ap (list_any (λ c. ghosts.eq c cell)) same in
     (λ h. among_from_test cells cell (sym test ∙ h), λ h. test ∙ test_from_among cells cell h)

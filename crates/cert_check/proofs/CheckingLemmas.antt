@@ -20,31 +20,45 @@ use Rattle.fux_grid.specs.declared.cell.Cell.{Cell}
 use Rattle.fux_grid.specs.declared.exercise.Exercise.{Exercise}
 
 -- what a claim owes, by whether it is open
-pub owed-taken : (ex : Exercise) (p : List (List Cell)) (claim : Claim) (b : Bool) → b ≡ is_open claim → (if b then longer_from ex p 0 else []) ≡ owed_by ex p claim
+pub owed-taken : (ex : Exercise) (p : List (List Cell)) (claim : Claim) (b : Bool) → b ≡ is_open claim
+    → (if b then longer_from ex p 0 else []) ≡ owed_by ex p claim
 owed-taken ex p Open b e = ap (λ x. if x then longer_from ex p 0 else []) e
 owed-taken ex p (Broken rule) b e = ap (λ x. if x then longer_from ex p 0 else []) e
 owed-taken ex p NoChain b e = ap (λ x. if x then longer_from ex p 0 else []) e
 owed-taken ex p Floor b e = ap (λ x. if x then longer_from ex p 0 else []) e
 owed-taken ex p TheScore b e = ap (λ x. if x then longer_from ex p 0 else []) e
 
-module _ (old : Checking) (p : List (List Cell)) (owed : List (List (List Cell))) (claim : Claim) (new : Checking) (are : old.owed ≡ p ∷ owed) where
-  pub takes_true : IsTrueOf old.exercise old.sheet old.head p claim → new ≡ record old { owed = owed_by old.exercise p claim ++ owed; count = old.count + 1 } → Takes old claim new
+module _ (old : Checking) (p : List (List Cell)) (owed : List (List (List Cell))) (claim : Claim) (new : Checking)
+    (are : old.owed ≡ p ∷ owed) where
+  pub takes_true : IsTrueOf old.exercise old.sheet old.head p claim → new
+      ≡ record old { owed = owed_by old.exercise p claim ++ owed; count = old.count + 1 } → Takes old claim new
   takes_true holds is = subst (λ (ps : List (List (List Cell))). TakesOf old ps claim new) (sym are) (holds, is)
 
-  pub refuses_false : (result : Result (Unit {0}) Refused) → (IsTrueOf old.exercise old.sheet old.head p claim → ⊥) → result ≡ Err (record { number = old.count + 1; why = False }) → new ≡ record old { refusal = Some (record { number = old.count + 1; why = False }) } → IfErr result (λ refused. Refuses old claim refused new)
+  pub refuses_false : (result : Result (Unit {0}) Refused) → (IsTrueOf old.exercise old.sheet old.head p claim → ⊥)
+      → result ≡ Err (record { number = old.count + 1; why = False }) → new
+      ≡ record old { refusal = Some (record { number = old.count + 1; why = False }) }
+      → IfErr result (λ refused. Refuses old claim refused new)
   refuses_false result fails is kept =
-      subst (λ (r : Result (Unit {0}) Refused). IfErr r (λ refused. Refuses old claim refused new)) (sym is)
-      (subst (λ (ps : List (List (List Cell))). IsFault old ps claim (record { number = old.count + 1; why = False })) (sym are) (fails, refl), kept)
+      subst (λ (r : Result (Unit {0}) Refused). IfErr r (λ refused. Refuses old claim refused new)) (sym is) (
+        subst (λ (ps : List (List (List Cell))). IsFault old ps claim (record { number = old.count + 1; why = False }))
+            (sym are) (fails, refl),
+        kept,
+      )
 
 -- the same, where what contracts see of a checker is another reading of it
-pub takes_seen : (old seen : Checking) (p : List (List Cell)) (owed : List (List (List Cell))) (claim : Claim) (new : Checking) → old ≡ seen → seen.owed ≡ p ∷ owed
-    → IsTrueOf seen.exercise seen.sheet seen.head p claim → new ≡ record seen { owed = owed_by seen.exercise p claim ++ owed; count = seen.count + 1 } → Takes old claim new
+pub takes_seen : (old seen : Checking) (p : List (List Cell)) (owed : List (List (List Cell))) (claim : Claim)
+    (new : Checking) → old ≡ seen → seen.owed ≡ p ∷ owed
+    → IsTrueOf seen.exercise seen.sheet seen.head p claim → new
+    ≡ record seen { owed = owed_by seen.exercise p claim ++ owed; count = seen.count + 1 } → Takes old claim new
 takes_seen old seen p owed claim new same are holds is =
     subst (λ (s : Checking). Takes s claim new) (sym same) (takes_true seen p owed claim new are holds is)
 
-pub refuses_seen : (old seen : Checking) (p : List (List Cell)) (owed : List (List (List Cell))) (claim : Claim) (new : Checking) (result : Result (Unit {0}) Refused) → old ≡ seen → seen.owed ≡ p ∷ owed
-    → (IsTrueOf seen.exercise seen.sheet seen.head p claim → ⊥) → result ≡ Err (record { number = old.count + 1; why = False })
-    → new ≡ record old { refusal = Some (record { number = old.count + 1; why = False }) } → IfErr result (λ refused. Refuses old claim refused new)
+pub refuses_seen : (old seen : Checking) (p : List (List Cell)) (owed : List (List (List Cell))) (claim : Claim)
+    (new : Checking) (result : Result (Unit {0}) Refused) → old ≡ seen → seen.owed ≡ p ∷ owed
+    → (IsTrueOf seen.exercise seen.sheet seen.head p claim → ⊥) → result
+    ≡ Err (record { number = old.count + 1; why = False })
+    → new ≡ record old { refusal = Some (record { number = old.count + 1; why = False }) }
+    → IfErr result (λ refused. Refuses old claim refused new)
 refuses_seen old seen p owed claim new result same are fails answer kept =
     refuses_false old p owed claim new (ap (λ (s : Checking). s.owed) same ∙ are) result
     (subst (λ (s : Checking). IsTrueOf s.exercise s.sheet s.head p claim → ⊥) (sym same) fails) answer kept
@@ -54,13 +68,17 @@ none_from None h = refl
 none_from (Some x) h = absurd (true≢false h)
 
 -- where there is a next prefix, it is owed
-pub owes_next : (ex : Exercise) (levels : List Level) (next : Option Judged) → is_some next ≡ true → owed_at ex levels next ≡ [] → ⊥
+pub owes_next : (ex : Exercise) (levels : List Level) (next : Option Judged) → is_some next ≡ true
+    → owed_at ex levels next ≡ [] → ⊥
 owes_next ex levels None h e = absurd (true≢false (sym h))
 owes_next ex levels (Some judged) h e = cc
 
 -- where none is owed and none was refused, the head holds
-pub shown : (t : Matter) (walk : Walk) → IsCase t → OwesRefuting t.exercise t.sheet t.head (owed_by_walk t.exercise walk) → walk.next ≡ None
+pub shown : (t : Matter) (walk : Walk) → IsCase t
+    → OwesRefuting t.exercise t.sheet t.head (owed_by_walk t.exercise walk) → walk.next ≡ None
     → Holds t.exercise t.sheet t.head
 shown t walk case owes none =
-    unrefuted_holds t.exercise t.sheet case.valid.most_voices (floors_hold t.exercise case.valid t.sheet) t.head case.sound
-    (λ s refutes. subst (λ (next : Option Judged). IsBegunByOne (owed_at t.exercise (reverse walk.levels.items) next) s) none (owes s refutes))
+    unrefuted_holds t.exercise t.sheet case.valid.most_voices (floors_hold t.exercise case.valid t.sheet) t.head
+    case.sound
+    (λ s refutes. subst (λ (next : Option Judged). IsBegunByOne (owed_at t.exercise (reverse walk.levels.items) next) s)
+    none (owes s refutes))

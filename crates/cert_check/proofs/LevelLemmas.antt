@@ -32,7 +32,8 @@ length-history (x ∷ xs) =
 pub length-levels : (ex : Exercise) (levels : List Level) → length levels ≡ length (prefix_of ex (reverse levels))
 length-levels ex levels = sym (length-prefix_of ex (reverse levels) ∙ length-history levels)
 
-pub level_parts : (t : Matter) (old new : List Level) (level : Level) → old ≡ new ++ level ∷ [] → AreLevels t (reverse old)
+pub level_parts : (t : Matter) (old new : List Level) (level : Level) → old ≡ new ++ level ∷ []
+    → AreLevels t (reverse old)
     → IsLevel t (prefix_of t.exercise (reverse new)) level × AreLevels t (reverse new)
 level_parts t old new level e are =
     subst (λ (levels : List Level). AreLevels t levels) (ap reverse e ∙ reverse-append new (level ∷ [])) are
@@ -41,19 +42,25 @@ pub reverse-level : (old new : List Level) (level : Level) → new ≡ old ++ le
 reverse-level old new level e = ap reverse e ∙ reverse-append old (level ∷ [])
 
 -- an open prefix goes on by the column of a number
-pub goes_on_by : (t : Matter) (p : List (List Cell)) (parent : Judged) (from k : ℕ) (col : List Cell) → IsOpen t p parent
-    → IsNextNumber (menu_of t.exercise (length p)) (newest_column (reverse p)) from (Some k) → col ≡ column_after t.exercise p k
+pub goes_on_by : (t : Matter) (p : List (List Cell)) (parent : Judged) (from k : ℕ) (col : List Cell)
+    → IsOpen t p parent
+    → IsNextNumber (menu_of t.exercise (length p)) (newest_column (reverse p)) from (Some k) → col
+    ≡ column_after t.exercise p k
     → GoesOn t.exercise p (col ∷ [])
 goes_on_by t p parent from k col is_open next e =
     let ex = t.exercise in
-    let chosen : IsInMenu ex (length p) (column_after ex p k) = (menu_of-contains ex (length p) (column_after ex p k)).0 (Contains-get_or (menu_of ex (length p)) k [] next.0) in
+    let chosen : IsInMenu ex (length p) (column_after ex p k) = (menu_of-contains ex (length p) (column_after ex p k)).0
+    (Contains-get_or (menu_of ex (length p)) k [] next.0) in
     record {
       orderly = is_open.orderly;
-      longer = subst (λ (c : List Cell). IsPrefix ex (p ++ c ∷ [])) (sym e) (prefix-push ex p (column_after ex p k) is_open.known.prefix is_open.shorter chosen ((column_follows_is (newest_column (reverse p)) (column_after ex p k)).0 next.1));
+      longer = subst (λ (c : List Cell). IsPrefix ex (p ++ c ∷ [])) (sym e)
+          (prefix-push ex p (column_after ex p k) is_open.known.prefix is_open.shorter chosen
+          ((column_follows_is (newest_column (reverse p)) (column_after ex p k)).0 next.1));
     }
 
 pub owed-entered : (ex : Exercise) (older new : List Level) (level : Level) (from : ℕ) → new ≡ level ∷ older
-    → IsNextNumber (menu_of ex (length (prefix_of ex older))) (newest_column (reverse (prefix_of ex older))) from (Some level.number)
+    → IsNextNumber (menu_of ex (length (prefix_of ex older))) (newest_column (reverse (prefix_of ex older))) from
+    (Some level.number)
     → prefix_of ex new ∷ owed_later ex new ≡ longer_from ex (prefix_of ex older) from ++ owed_later ex older
 owed-entered ex older new level from e next =
     ap (λ levels. prefix_of ex levels ∷ owed_later ex levels) e
@@ -65,15 +72,19 @@ no_levels ex [] e = refl
 no_levels ex (level ∷ levels) e = absurd (omega arith)
 
 -- the last level is the newest one
-pub newest_level : (levels : List Level) (level : Level) (i : ℕ) → i + 1 ≡ length levels → level ≡ slice_index_or levels i level → (older : List Level) × (reverse levels ≡ level ∷ older)
+pub newest_level : (levels : List Level) (level : Level) (i : ℕ) → i + 1 ≡ length levels → level
+    ≡ slice_index_or levels i level → (older : List Level) × (reverse levels ≡ level ∷ older)
 newest_level levels level i size is = at (reverse levels) refl
   where
     at : (history : List Level) → reverse levels ≡ history → (older : List Level) × (reverse levels ≡ level ∷ older)
     at [] e = absurd (omega (arith, size, length-history levels, ap length e))
     at (newest ∷ older) e =
-        let back : levels ≡ reverse older ++ newest ∷ [] = sym (reverse-reverse levels) ∙ ap reverse e ∙ reverse-append (newest ∷ []) older in
-        let place : i ≡ length (reverse older) = omega (arith, size, ap length back, length-append (reverse older) (newest ∷ [])) in
+        let back : levels ≡ reverse older ++ newest ∷ [] = sym (reverse-reverse levels) ∙ ap reverse e
+        ∙ reverse-append (newest ∷ []) older in
+        let place : i ≡ length (reverse older) = omega
+        (arith, size, ap length back, length-append (reverse older) (newest ∷ [])) in
         let same : level ≡ newest =
-        is ∙ ap (λ ls. slice_index_or ls i level) back ∙ ap (λ k. slice_index_or (reverse older ++ newest ∷ []) k level) place
+        is ∙ ap (λ ls. slice_index_or ls i level) back
+        ∙ ap (λ k. slice_index_or (reverse older ++ newest ∷ []) k level) place
         ∙ get_or-append_seam (reverse older) newest [] level in
         (older, e ∙ ap (λ l. l ∷ older) (sym same))

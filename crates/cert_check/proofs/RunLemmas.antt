@@ -14,7 +14,8 @@ record IsDone (s : Checking) : Type 0 where
   pub none : s.owed ≡ []
 
 -- a refusal is kept
-stays_refused : (claims : List Claim) (old new : Checking) (refused : Refused) → old.refusal ≡ Some refused → AreFed old claims new → new.refusal ≡ Some refused
+stays_refused : (claims : List Claim) (old new : Checking) (refused : Refused) → old.refusal ≡ Some refused
+    → AreFed old claims new → new.refusal ≡ Some refused
 stays_refused [] old new refused kept are = ap (λ (s : Checking). s.refusal) are ∙ kept
 stays_refused (claim ∷ claims) old new refused kept are =
     stays_refused claims are.0 new refused (ap (λ (s : Checking). s.refusal) (are.1.again refused kept) ∙ kept) are.2
@@ -23,16 +24,19 @@ pub some_none : (refused : Refused) → Some refused ≡ None → ⊥
 some_none refused e = cc
 
 -- so after one no checker is done
-refused_not_done : (old next new : Checking) (claim : Claim) (claims : List Claim) (refused : Refused) → Refuses old claim refused next → AreFed next claims new → IsDone new → ⊥
+refused_not_done : (old next new : Checking) (claim : Claim) (claims : List Claim) (refused : Refused)
+    → Refuses old claim refused next → AreFed next claims new → IsDone new → ⊥
 refused_not_done old next new claim claims refused is are done =
-    some_none refused (sym (stays_refused claims next new refused (ap (λ (s : Checking). s.refusal) is.1) are) ∙ done.unrefused)
+    some_none refused (sym (stays_refused claims next new refused (ap (λ (s : Checking). s.refusal) is.1) are)
+    ∙ done.unrefused)
 
 -- claims of the prefixes that are owed
 abbrev Certified : Checking → List (List (List Cell)) → List Claim → Type 0
 Certified s owed claims = IsCertified s.exercise s.sheet s.head owed claims
 
 -- what is known of a checker whose claim was taken
-taken_certified : (old next : Checking) (p : List (List Cell)) (owed : List (List (List Cell))) (claim : Claim) (claims : List Claim)
+taken_certified : (old next : Checking) (p : List (List Cell)) (owed : List (List (List Cell))) (claim : Claim)
+    (claims : List Claim)
     → next ≡ record old { owed = owed_by old.exercise p claim ++ owed; count = old.count + 1 }
     → Certified next next.owed claims ≡ Certified old (owed_by old.exercise p claim ++ owed) claims
 taken_certified old next p owed claim claims is = ap (λ (s : Checking). Certified s s.owed claims) is
@@ -40,8 +44,12 @@ taken_certified old next p owed claim claims is = ap (λ (s : Checking). Certifi
 run_done : (claims : List Claim) (old new : Checking) → old.refusal ≡ None → AreFed old claims new
     → (IsDone new → Certified old old.owed claims) × (Certified old old.owed claims → IsDone new)
 run_done [] old new unrefused are = (
-  λ done. subst (λ (ps : List (List (List Cell))). Certified old ps []) (sym (sym (ap (λ (s : Checking). s.owed) are) ∙ done.none)) tt,
-  λ certified. record { unrefused = ap (λ (s : Checking). s.refusal) are ∙ unrefused; none = ap (λ (s : Checking). s.owed) are ∙ none old.owed certified },
+  λ done. subst (λ (ps : List (List (List Cell))). Certified old ps [])
+      (sym (sym (ap (λ (s : Checking). s.owed) are) ∙ done.none)) tt,
+  λ certified. record {
+    unrefused = ap (λ (s : Checking). s.refusal) are ∙ unrefused;
+    none = ap (λ (s : Checking). s.owed) are ∙ none old.owed certified;
+  },
 )
   where
     none : (ps : List (List (List Cell))) → Certified old ps [] → ps ≡ []
@@ -52,9 +60,12 @@ run_done (claim ∷ claims) old new unrefused are = at old.owed refl (are.1.judg
     next : Checking
     next = are.0
 
-    at : (ps : List (List (List Cell))) → old.owed ≡ ps → Takes old claim next ⊎ ((refused : Refused) × Refuses old claim refused next)
-        → (next.refusal ≡ None → AreFed next claims new → (IsDone new → Certified next next.owed claims) × (Certified next next.owed claims → IsDone new))
-        → (IsDone new → Certified old old.owed (claim ∷ claims)) × (Certified old old.owed (claim ∷ claims) → IsDone new)
+    at : (ps : List (List (List Cell))) → old.owed ≡ ps → Takes old claim next
+        ⊎ ((refused : Refused) × Refuses old claim refused next)
+        → (next.refusal ≡ None → AreFed next claims new → (IsDone new → Certified next next.owed claims)
+        × (Certified next next.owed claims → IsDone new))
+        → (IsDone new → Certified old old.owed (claim ∷ claims))
+        × (Certified old old.owed (claim ∷ claims) → IsDone new)
     at [] e (inl takes) later = absurd (subst (λ (qs : List (List (List Cell))). TakesOf old qs claim next) e takes)
     at [] e (inr refuses) later = (
       λ done. absurd (refused_not_done old next new claim claims refuses.0 refuses.1 are.2 done),
@@ -64,7 +75,8 @@ run_done (claim ∷ claims) old new unrefused are = at old.owed refl (are.1.judg
         let is = subst (λ (qs : List (List (List Cell))). TakesOf old qs claim next) e takes in
         let rest = later (ap (λ (s : Checking). s.refusal) is.1 ∙ unrefused) are.2 in
         let same = taken_certified old next p ps claim claims is.1 in (
-          λ done. subst (λ (qs : List (List (List Cell))). Certified old qs (claim ∷ claims)) (sym e) (is.0, subst (λ (T : Type 0). T) same (rest.0 done)),
+          λ done. subst (λ (qs : List (List (List Cell))). Certified old qs (claim ∷ claims)) (sym e)
+              (is.0, subst (λ (T : Type 0). T) same (rest.0 done)),
           λ certified.
               let parts = subst (λ (qs : List (List (List Cell))). Certified old qs (claim ∷ claims)) e certified in
               rest.1 (subst (λ (T : Type 0). T) (sym same) parts.1),
@@ -79,7 +91,8 @@ run_done (claim ∷ claims) old new unrefused are = at old.owed refl (are.1.judg
 -- the same of a checker, by what it holds
 module _ (s inside : Checking) (same : inside ≡ s) where
   pub are_certificate : IsHeadSound inside.exercise inside.sheet inside.head → inside.refusal ≡ None → inside.owed ≡ []
-      → (claims : List Claim) → AreFed (opened_for s.exercise s.sheet s.head) claims s → IsCertificate s.exercise s.sheet s.head claims
+      → (claims : List Claim) → AreFed (opened_for s.exercise s.sheet s.head) claims s
+      → IsCertificate s.exercise s.sheet s.head claims
   are_certificate sound unrefused none claims are = record {
     sound = subst (λ (c : Checking). IsHeadSound c.exercise c.sheet c.head) same sound;
     certified =
@@ -90,7 +103,8 @@ module _ (s inside : Checking) (same : inside ≡ s) where
   }
 
   pub are_no_certificate : (inside.refusal ≡ None → inside.owed ≡ [] → ⊥)
-      → (claims : List Claim) → AreFed (opened_for s.exercise s.sheet s.head) claims s → IsCertificate s.exercise s.sheet s.head claims → ⊥
+      → (claims : List Claim) → AreFed (opened_for s.exercise s.sheet s.head) claims s
+      → IsCertificate s.exercise s.sheet s.head claims → ⊥
   are_no_certificate undone claims are is =
       let done = (run_done claims (opened_for s.exercise s.sheet s.head) s refl are).1 is.certified in
       undone (ap (λ (c : Checking). c.refusal) same ∙ done.unrefused) (ap (λ (c : Checking). c.owed) same ∙ done.none)

@@ -19,7 +19,8 @@ unfolding floor_of
 floor-rest ex sheet p rest e = ap (option_map (λ r. paid ex sheet p + least_of ex sheet p + r)) (sym e)
 
 module _ (ex : Exercise) (sheet : Sheet) (head : CertHead) (p : List (List Cell)) where
-  pub floor_truth : (b : Bool) (rest : Option ℕ) (r spent cost : ℕ) → rest ≡ rest_of ex sheet p → rest ≡ Some r → spent ≡ paid ex sheet p → cost ≡ least_of ex sheet p
+  pub floor_truth : (b : Bool) (rest : Option ℕ) (r spent cost : ℕ) → rest ≡ rest_of ex sheet p → rest ≡ Some r → spent
+      ≡ paid ex sheet p → cost ≡ least_of ex sheet p
       → b ≡ is_no_better head p (spent + cost + r) → IsTrue b ↔ IsTrueOf ex sheet head p Floor
   floor_truth b rest r spent cost is some pays costs test = (there, back)
     where
@@ -29,12 +30,15 @@ module _ (ex : Exercise) (sheet : Sheet) (head : CertHead) (p : List (List Cell)
           ∙ ap (λ n. Some (n + least_of ex sheet p + r)) (sym pays) ∙ ap (λ n. Some (spent + n + r)) (sym costs)
 
       there : IsTrue b → IsSomeAnd (floor_of ex sheet p) (IsNoBetter head p)
-      there h = subst (λ (f : Option ℕ). IsSomeAnd f (IsNoBetter head p)) (sym floor) (no_better_from_test head p (spent + cost + r) (sym test ∙ h))
+      there h = subst (λ (f : Option ℕ). IsSomeAnd f (IsNoBetter head p)) (sym floor)
+          (no_better_from_test head p (spent + cost + r) (sym test ∙ h))
 
       back : IsSomeAnd (floor_of ex sheet p) (IsNoBetter head p) → IsTrue b
-      back h = test ∙ test_from_no_better head p (spent + cost + r) (subst (λ (f : Option ℕ). IsSomeAnd f (IsNoBetter head p)) floor h)
+      back h = test ∙ test_from_no_better head p (spent + cost + r)
+          (subst (λ (f : Option ℕ). IsSomeAnd f (IsNoBetter head p)) floor h)
 
-  pub no_floor_truth : (rest : Option ℕ) → rest ≡ rest_of ex sheet p → rest ≡ None → IsTrue false ↔ IsTrueOf ex sheet head p Floor
+  pub no_floor_truth : (rest : Option ℕ) → rest ≡ rest_of ex sheet p → rest ≡ None → IsTrue false
+      ↔ IsTrueOf ex sheet head p Floor
   no_floor_truth rest is none = (there, back)
     where
       floor : floor_of ex sheet p ≡ None

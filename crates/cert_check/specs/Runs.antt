@@ -42,12 +42,17 @@ IsFedNone c = (claims : List Claim) → AreFed (opened_for c.exercise c.sheet c.
 
 -- what `feed` answers and keeps is that
 pub fed : (old : Checking) (claim : Claim) (new : Checking) (result : Result (Unit {0}) Refused)
-    → (old.refusal ≡ None → OnOk result (Takes old claim new)) → (old.refusal ≡ None → IfErr result (λ refused. Refuses old claim refused new))
+    → (old.refusal ≡ None → OnOk result (Takes old claim new))
+    → (old.refusal ≡ None → IfErr result (λ refused. Refuses old claim refused new))
     → ((refused : Refused) → old.refusal ≡ Some refused → (result ≡ Err refused) × (new ≡ old)) → IsFed old claim new
-fed old claim new (Ok done) taken refused again = record { judged = λ none. inl (taken none); again = λ why some. (again why some).1 }
-fed old claim new (Err why) taken refused again = record { judged = λ none. inr (why, refused none); again = λ why some. (again why some).1 }
+fed old claim new (Ok done) taken refused again =
+    record { judged = λ none. inl (taken none); again = λ why some. (again why some).1 }
+fed old claim new (Err why) taken refused again =
+    record { judged = λ none. inr (why, refused none); again = λ why some. (again why some).1 }
 
 -- and one claim more
-pub fed_more : (old next new : Checking) (claims : List Claim) (claim : Claim) → AreFed old claims next → IsFed next claim new → AreFed old (claims ++ claim ∷ []) new
+pub fed_more : (old next new : Checking) (claims : List Claim) (claim : Claim) → AreFed old claims next
+    → IsFed next claim new → AreFed old (claims ++ claim ∷ []) new
 fed_more old next new [] claim before last = (new, subst (λ (s : Checking). IsFed s claim new) before last, refl)
-fed_more old next new (first ∷ claims) claim before last = (before.0, before.1, fed_more before.0 next new claims claim before.2 last)
+fed_more old next new (first ∷ claims) claim before last =
+    (before.0, before.1, fed_more before.0 next new claims claim before.2 last)

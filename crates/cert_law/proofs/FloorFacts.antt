@@ -35,24 +35,29 @@ module _ (ex : Exercise) (valid : IsValid ex) (sheet : Sheet) where
       let sum : paid ex sheet s + least_of ex sheet s ≡ penalty_of ex sheet s =
       paid_and_least_at_end ex valid.most_voices sheet s lawful.setting (alive s lawful) in
       let all : paid ex sheet s + least_of ex sheet s + 0 ≡ penalty_of ex sheet s = omega (arith, sum) in
-      ap (option_map (λ rest. paid ex sheet s + least_of ex sheet s + rest)) (rest_at_end ex sheet s lawful.setting.whole) ∙ ap Some all
+      ap (option_map (λ rest. paid ex sheet s + least_of ex sheet s + rest))
+      (rest_at_end ex sheet s lawful.setting.whole) ∙ ap Some all
 
   -- the floor of the shorter prefix is no higher
-  shorter : (most : ℕ) (p : List (List Cell)) (col : List Cell) → IsBelow ex sheet most (p ++ col ∷ []) → IsBelow ex sheet most p
+  shorter : (most : ℕ) (p : List (List Cell)) (col : List Cell) → IsBelow ex sheet most (p ++ col ∷ [])
+      → IsBelow ex sheet most p
   shorter most p col below = record {
     live = live_before ex valid.most_voices valid.cantus_there sheet p col below.live;
     low = at (floor_of ex sheet (p ++ col ∷ [])) refl below.low;
   }
     where
-      lower : (o : Option ℕ) (floor : ℕ) → floor ≤ most → IsSomeAnd o (λ own. own ≤ floor) → IsSomeAnd o (λ own. own ≤ most)
+      lower : (o : Option ℕ) (floor : ℕ) → floor ≤ most → IsSomeAnd o (λ own. own ≤ floor)
+          → IsSomeAnd o (λ own. own ≤ most)
       lower None floor h low = low
       lower (Some own) floor h low = omega (arith, h, low)
 
-      at : (o : Option ℕ) → floor_of ex sheet (p ++ col ∷ []) ≡ o → IsSomeAnd o (λ floor. floor ≤ most) → IsSomeAnd (floor_of ex sheet p) (λ floor. floor ≤ most)
+      at : (o : Option ℕ) → floor_of ex sheet (p ++ col ∷ []) ≡ o → IsSomeAnd o (λ floor. floor ≤ most)
+          → IsSomeAnd (floor_of ex sheet p) (λ floor. floor ≤ most)
       at None e low = absurd low
       at (Some floor) e low =
           lower (floor_of ex sheet p) floor low
-          (floor_grows ex valid.most_voices valid.cantus_there sheet p col below.live (least_grows ex sheet p col below.live.prefix) floor e)
+          (floor_grows ex valid.most_voices valid.cantus_there sheet p col below.live
+          (least_grows ex sheet p col below.live.prefix) floor e)
 
   back : (most : ℕ) (p rest : List (List Cell)) → IsBelow ex sheet most (p ++ rest) → IsBelow ex sheet most p
   back most p [] below = subst (λ (q : List (List Cell)). IsBelow ex sheet most q) (append_none p) below
@@ -61,7 +66,8 @@ module _ (ex : Exercise) (valid : IsValid ex) (sheet : Sheet) where
       append_none [] = refl
       append_none (c ∷ s) = ap (λ t. c ∷ t) (append_none s)
   back most p (col ∷ rest) below =
-      shorter most p col (back most (p ++ col ∷ []) rest (subst (λ (q : List (List Cell)). IsBelow ex sheet most q) (sym (append-middle p col rest)) below))
+      shorter most p col (back most (p ++ col ∷ []) rest
+      (subst (λ (q : List (List Cell)). IsBelow ex sheet most q) (sym (append-middle p col rest)) below))
 
   whole : (s : List (List Cell)) → IsLawful ex s → IsBelow ex sheet (penalty_of ex sheet s) s
   whole s lawful = record {
@@ -70,7 +76,8 @@ module _ (ex : Exercise) (valid : IsValid ex) (sheet : Sheet) where
       unbroken = alive s lawful;
       goes_on = subst (λ (o : Option ℕ). IsSome o) (sym (rest_at_end ex sheet s lawful.setting.whole)) refl;
     };
-    low = subst (λ (o : Option ℕ). IsSomeAnd o (λ floor. floor ≤ penalty_of ex sheet s)) (sym (at_end s lawful)) (omega arith);
+    low = subst (λ (o : Option ℕ). IsSomeAnd o (λ floor. floor ≤ penalty_of ex sheet s)) (sym (at_end s lawful))
+        (omega arith);
   }
 
   pub floors_hold : FloorsHold ex sheet

@@ -25,7 +25,8 @@ less-order s [] h = absurd h
 less-order [] (d ∷ t) h = absurd h
 less-order (c ∷ s) (d ∷ t) (inl h) = ap (λ o. ordering_then o (columns_order s t)) h
 less-order (c ∷ s) (d ∷ t) (inr h) =
-    ap (λ o. ordering_then o (columns_order s t)) (ap (column_order c) (sym h.0) ∙ column_order-itself c) ∙ less-order s t h.1
+    ap (λ o. ordering_then o (columns_order s t)) (ap (column_order c) (sym h.0) ∙ column_order-itself c)
+    ∙ less-order s t h.1
 
 pub order-equal : (s t : List (List Cell)) → length s ≡ length t → columns_order s t ≡ Equal → s ≡ t
 order-equal [] [] e h = refl
@@ -45,7 +46,8 @@ order-itself (c ∷ s) = ap (λ o. ordering_then o (columns_order s s)) (column_
 
 -- with one column more, the first difference is that of before, or else that of the column
 pub order-push : (s p : List (List Cell)) (col : List Cell) → length p < length s
-    → columns_order s (p ++ col ∷ []) ≡ ordering_then (columns_order s p) (column_order (slice_index_or s (length p) []) col)
+    → columns_order s (p ++ col ∷ []) ≡ ordering_then (columns_order s p)
+    (column_order (slice_index_or s (length p) []) col)
 order-push [] p col h = absurd (omega arith)
 order-push (c ∷ s) [] col h = last (column_order c col) s
   where

@@ -52,7 +52,8 @@ none_found : (test : ℕ → Bool) (xs : List ℕ) → find test xs ≡ None →
 none_found test [] h = refl
 none_found test (y ∷ ys) h = at (cases_Bool (test y)) (none_found test ys)
   where
-    at : (test y ≡ true) ⊎ (test y ≡ false) → (find test ys ≡ None → list_any test ys ≡ false) → list_any test (y ∷ ys) ≡ false
+    at : (test y ≡ true) ⊎ (test y ≡ false) → (find test ys ≡ None → list_any test ys ≡ false) → list_any test (y ∷ ys)
+        ≡ false
     at (inl t) later = let same : Some y ≡ None = rw t at h in cc
     at (inr f) later = rw f (later (rw f at h))
 
@@ -61,17 +62,20 @@ all_read : list_all is_read rules_read ≡ true
 unfolding rules_read
 all_read = refl
 
-read-any : (test : ℕ → Bool) (xs : List ℕ) → list_all is_read xs ≡ true → list_any (λ rule. is_read rule && test rule) xs ≡ list_any test xs
+read-any : (test : ℕ → Bool) (xs : List ℕ) → list_all is_read xs ≡ true
+    → list_any (λ rule. is_read rule && test rule) xs ≡ list_any test xs
 read-any test [] h = refl
 read-any test (x ∷ xs) h =
     let parts = and_parts (is_read x) (list_all is_read xs) h in
-    ap (λ b. (b && test x) || list_any (λ rule. is_read rule && test rule) xs) parts.0 ∙ ap (λ b. test x || b) (read-any test xs parts.1)
+    ap (λ b. (b && test x) || list_any (λ rule. is_read rule && test rule) xs) parts.0
+    ∙ ap (λ b. test x || b) (read-any test xs parts.1)
 
 -- where no rule is found broken, no strict break is settled
 unbroken_if_none : (ex : Exercise) (p : List (List Cell)) → least_break ex p ≡ None → has_strict_break ex p ≡ false
 unbroken_if_none ex p h =
     any_below-list_any (λ rule k. newly_broken ex (take k p) (slice_index_or p k []) rule) rules_read (length p)
-    ∙ sym (read-any (λ rule. any_below (λ k. newly_broken ex (take k p) (slice_index_or p k []) rule) (length p)) rules_read all_read)
+    ∙ sym (read-any (λ rule. any_below (λ k. newly_broken ex (take k p) (slice_index_or p k []) rule) (length p))
+    rules_read all_read)
     ∙ none_found (has_break_of ex p) rules_read h
 
 less_from_test : (o : Ordering) → is_less o ≡ true → o ≡ Less
@@ -95,10 +99,12 @@ pub test_from_setting : (head : CertHead) (p : List (List Cell)) → IsSettingOf
 test_from_setting Nothing p h = absurd h
 test_from_setting (Best penalty score) p h =
     ap (λ q. (length q == length score.columns) && is_equal (columns_order score.columns q)) h
-    ∙ ap (λ b. b && is_equal (columns_order score.columns score.columns)) (eq-eqb (length score.columns) (length score.columns) refl)
+    ∙ ap (λ b. b && is_equal (columns_order score.columns score.columns))
+    (eq-eqb (length score.columns) (length score.columns) refl)
     ∙ ap is_equal (order-itself score.columns)
 
-pub no_better_from_test : (head : CertHead) (p : List (List Cell)) (floor : ℕ) → is_no_better head p floor ≡ true → IsNoBetter head p floor
+pub no_better_from_test : (head : CertHead) (p : List (List Cell)) (floor : ℕ) → is_no_better head p floor ≡ true
+    → IsNoBetter head p floor
 no_better_from_test Nothing p floor h = cc
 no_better_from_test (Best penalty score) p floor h = at (cases_Bool (nat_lt penalty floor))
   where
@@ -107,29 +113,39 @@ no_better_from_test (Best penalty score) p floor h = at (cases_Bool (nat_lt pena
     at (inr f) =
         let rest : ((floor == penalty) && is_less (columns_order score.columns p)) ≡ true = rw f at h in
         let parts = and_parts (floor == penalty) (is_less (columns_order score.columns p)) rest in
-        inr (eqb-true floor penalty parts.0, order-less score.columns p (less_from_test (columns_order score.columns p) parts.1))
+        inr (
+          eqb-true floor penalty parts.0,
+          order-less score.columns p
+              (less_from_test (columns_order score.columns p) parts.1),
+        )
 
-floor_from_test : (head : CertHead) (p : List (List Cell)) (floor : Option ℕ) → option_map_or (is_no_better head p) floor false ≡ true → IsSomeAnd floor (IsNoBetter head p)
+floor_from_test : (head : CertHead) (p : List (List Cell)) (floor : Option ℕ)
+    → option_map_or (is_no_better head p) floor false ≡ true → IsSomeAnd floor (IsNoBetter head p)
 floor_from_test head p None h = absurd (true≢false (sym h))
 floor_from_test head p (Some floor) h = no_better_from_test head p floor h
 
 -- ---- each first claim is true
 
-module _ (ex : Exercise) (sheet : Sheet) (few : ex.voices ≤ 4) (floors : FloorsHold ex sheet) (head : CertHead) (holds : Holds ex sheet head) where
+module _ (ex : Exercise) (sheet : Sheet) (few : ex.voices ≤ 4) (floors : FloorsHold ex sheet) (head : CertHead)
+    (holds : Holds ex sheet head) where
   -- a lawful setting is the head's, or no better
-  whole_is_closed : (head : CertHead) → Holds ex sheet head → (p : List (List Cell)) → IsLawful ex p → is_setting_of head p ≡ false → option_map_or (is_no_better head p) (floor_of ex sheet p) false ≡ false → ⊥
+  whole_is_closed : (head : CertHead) → Holds ex sheet head → (p : List (List Cell)) → IsLawful ex p
+      → is_setting_of head p ≡ false → option_map_or (is_no_better head p) (floor_of ex sheet p) false ≡ false → ⊥
   whole_is_closed Nothing holds p lawful other better = holds p lawful
-  whole_is_closed (Best penalty score) holds p lawful other better = at (earlier-cases score.columns p (holds.0.lawful.setting.whole ∙ sym lawful.setting.whole))
+  whole_is_closed (Best penalty score) holds p lawful other better =
+      at (earlier-cases score.columns p (holds.0.lawful.setting.whole ∙ sym lawful.setting.whole))
     where
       value : ℕ
       value = penalty_of ex sheet p
 
       fails : (nat_lt penalty value || ((value == penalty) && is_less (columns_order score.columns p))) ≡ false
-      fails = sym (ap (λ floor. option_map_or (is_no_better (Best penalty score) p) floor false) (floors.at_end p lawful)) ∙ better
+      fails = sym (ap (λ floor. option_map_or (is_no_better (Best penalty score) p) floor false)
+          (floors.at_end p lawful)) ∙ better
 
       same : value ≡ penalty
       same =
-          let most = (or_parts (nat_lt penalty value) ((value == penalty) && is_less (columns_order score.columns p)) fails).0 in
+          let most = (or_parts (nat_lt penalty value) ((value == penalty) && is_less (columns_order score.columns p))
+          fails).0 in
           let least = holds.0.least p lawful in
           exactly penalty value (penalty_of ex sheet score.columns) most least holds.1
         where
@@ -138,42 +154,55 @@ module _ (ex : Exercise) (sheet : Sheet) (few : ex.voices ≤ 4) (floors : Floor
 
       not_less : columns_order score.columns p ≡ Less → ⊥
       not_less h =
-          let second = (or_parts (nat_lt penalty value) ((value == penalty) && is_less (columns_order score.columns p)) fails).1 in
-          true≢false (sym (ap (λ b. b && is_less (columns_order score.columns p)) (eq-eqb value penalty same) ∙ ap is_less h) ∙ second)
+          let second = (or_parts (nat_lt penalty value) ((value == penalty) && is_less (columns_order score.columns p))
+          fails).1 in
+          true≢false (sym (ap (λ b. b && is_less (columns_order score.columns p)) (eq-eqb value penalty same)
+          ∙ ap is_less h) ∙ second)
 
       at : IsEarlier score.columns p ⊎ ((score.columns ≡ p) ⊎ IsEarlier p score.columns) → ⊥
       at (inl h) = not_less (less-order score.columns p h)
       at (inr (inl h)) = true≢false (sym (test_from_setting (Best penalty score) p (sym h)) ∙ other)
       at (inr (inr h)) =
-          let differ : score.columns ≢ p = λ e. earlier-itself p (subst (λ (s : List (List Cell)). IsEarlier p s) e h) in
+          let differ : score.columns ≢ p = λ e. earlier-itself p (subst (λ (s : List (List Cell)). IsEarlier p s) e h)
+          in
           not_less (less-order score.columns p (holds.0.first p lawful (same ∙ sym holds.1) differ))
 
   pub first_claim_true : (p : List (List Cell)) → IsPrefix ex p → IsTrueOf ex sheet head p (first_claim ex sheet head p)
   first_claim_true p prefix = setting (is_setting_of head p) refl
     where
-      open_claim : has_strict_break ex p ≡ false → is_setting_of head p ≡ false → option_map_or (is_no_better head p) (floor_of ex sheet p) false ≡ false → IsTrueOf ex sheet head p Open
+      open_claim : has_strict_break ex p ≡ false → is_setting_of head p ≡ false
+          → option_map_or (is_no_better head p) (floor_of ex sheet p) false ≡ false → IsTrueOf ex sheet head p Open
       open_claim alive other better = (at (cases_lt (length p) (columns_in ex)), alive_orderly ex few p alive)
         where
           at : (length p < columns_in ex) ⊎ (columns_in ex ≤ length p) → length p < columns_in ex
           at (inl h) = h
           at (inr h) =
               let setting : IsSetting ex p = record { prefix = prefix; whole = omega (arith, h, prefix.few) } in
-              let lawful : IsLawful ex p = record { setting = setting; unbroken = unbroken_if_alive ex few p setting alive } in
+              let lawful : IsLawful ex p = record
+              { setting = setting; unbroken = unbroken_if_alive ex few p setting alive } in
               absurd (whole_is_closed head holds p lawful other better)
 
-      floor : (b : Bool) → option_map_or (is_no_better head p) (floor_of ex sheet p) false ≡ b → has_strict_break ex p ≡ false → is_setting_of head p ≡ false → IsTrueOf ex sheet head p (if b then Floor else Open)
+      floor : (b : Bool) → option_map_or (is_no_better head p) (floor_of ex sheet p) false ≡ b → has_strict_break ex p
+          ≡ false → is_setting_of head p ≡ false → IsTrueOf ex sheet head p (if b then Floor else Open)
       floor true e alive other = floor_from_test head p (floor_of ex sheet p) e
       floor false e alive other = open_claim alive other e
 
-      chain : (rest : Option ℕ) → rest_of ex sheet p ≡ rest → has_strict_break ex p ≡ false → is_setting_of head p ≡ false → IsTrueOf ex sheet head p (if is_none rest then NoChain else (if option_map_or (is_no_better head p) (floor_of ex sheet p) false then Floor else Open))
+      chain : (rest : Option ℕ) → rest_of ex sheet p ≡ rest → has_strict_break ex p ≡ false → is_setting_of head p
+          ≡ false → IsTrueOf ex sheet head p
+          (if is_none rest then NoChain else
+          (if option_map_or (is_no_better head p) (floor_of ex sheet p) false then Floor else Open))
       chain None e alive other = e
-      chain (Some rest) e alive other = floor (option_map_or (is_no_better head p) (floor_of ex sheet p) false) refl alive other
+      chain (Some rest) e alive other =
+          floor (option_map_or (is_no_better head p) (floor_of ex sheet p) false) refl alive other
 
-      rule : (o : Option ℕ) → least_break ex p ≡ o → is_setting_of head p ≡ false → IsTrueOf ex sheet head p (option_map_or Broken o (unbroken_claim ex sheet head p))
+      rule : (o : Option ℕ) → least_break ex p ≡ o → is_setting_of head p ≡ false
+          → IsTrueOf ex sheet head p (option_map_or Broken o (unbroken_claim ex sheet head p))
       rule (Some r) e other = find_passes (has_break_of ex p) rules_read r e
       rule None e other = chain (rest_of ex sheet p) refl (unbroken_if_none ex p e) other
 
-      setting : (b : Bool) → is_setting_of head p ≡ b → IsTrueOf ex sheet head p (if b then TheScore else option_map_or Broken (least_break ex p) (unbroken_claim ex sheet head p))
+      setting : (b : Bool) → is_setting_of head p ≡ b
+          → IsTrueOf ex sheet head p (if b then TheScore
+          else option_map_or Broken (least_break ex p) (unbroken_claim ex sheet head p))
       setting true e = setting_from_test head p e
       setting false e = rule (least_break ex p) refl e
 
@@ -184,7 +213,9 @@ module _ (ex : Exercise) (sheet : Sheet) (few : ex.voices ≤ 4) (floors : Floor
     pub prefix : IsPrefix ex p
     pub size : length p + count ≡ columns_in ex
 
-  longer : (count : ℕ) (p : List (List Cell)) (col : List Cell) → IsPrefixBefore (suc count) p → IsInMenu ex (length p) col → ColumnFollows (newest_column (reverse p)) col → IsPrefixBefore count (p ++ col ∷ [])
+  longer : (count : ℕ) (p : List (List Cell)) (col : List Cell) → IsPrefixBefore (suc count) p
+      → IsInMenu ex (length p) col → ColumnFollows (newest_column (reverse p)) col
+      → IsPrefixBefore count (p ++ col ∷ [])
   longer count p col before chosen follows =
       let size : length (p ++ col ∷ []) ≡ length p + 1 = length-append p (col ∷ []) in
       record {
@@ -192,32 +223,51 @@ module _ (ex : Exercise) (sheet : Sheet) (few : ex.voices ≤ 4) (floors : Floor
         size = omega (arith, size, before.size);
       }
 
-  all_longer : (count : ℕ) (p : List (List Cell)) → IsPrefixBefore (suc count) p → (cols : List (List Cell)) → AllByRecursion (IsInMenu ex (length p)) cols → AllByRecursion (IsPrefixBefore count) (map (λ c. p ++ c ∷ []) (filter (column_follows (newest_column (reverse p))) cols))
+  all_longer : (count : ℕ) (p : List (List Cell)) → IsPrefixBefore (suc count) p → (cols : List (List Cell))
+      → AllByRecursion (IsInMenu ex (length p)) cols
+      → AllByRecursion (IsPrefixBefore count)
+      (map (λ c. p ++ c ∷ []) (filter (column_follows (newest_column (reverse p))) cols))
   all_longer count p before [] chosen = tt
-  all_longer count p before (col ∷ cols) chosen = at (cases_Bool (column_follows (newest_column (reverse p)) col)) (all_longer count p before cols chosen.1)
+  all_longer count p before (col ∷ cols) chosen =
+      at (cases_Bool (column_follows (newest_column (reverse p)) col)) (all_longer count p before cols chosen.1)
     where
-      at : (column_follows (newest_column (reverse p)) col ≡ true) ⊎ (column_follows (newest_column (reverse p)) col ≡ false) → AllByRecursion (IsPrefixBefore count) (map (λ c. p ++ c ∷ []) (filter (column_follows (newest_column (reverse p))) cols)) → AllByRecursion (IsPrefixBefore count) (map (λ c. p ++ c ∷ []) (filter (column_follows (newest_column (reverse p))) (col ∷ cols)))
-      at (inl t) later = rw t (longer count p col before chosen.0 ((column_follows_is (newest_column (reverse p)) col).0 t), later)
+      at : (column_follows (newest_column (reverse p)) col ≡ true)
+          ⊎ (column_follows (newest_column (reverse p)) col ≡ false)
+          → AllByRecursion (IsPrefixBefore count)
+          (map (λ c. p ++ c ∷ []) (filter (column_follows (newest_column (reverse p))) cols))
+          → AllByRecursion (IsPrefixBefore count)
+          (map (λ c. p ++ c ∷ []) (filter (column_follows (newest_column (reverse p))) (col ∷ cols)))
+      at (inl t) later =
+          rw t (longer count p col before chosen.0 ((column_follows_is (newest_column (reverse p)) col).0 t), later)
       at (inr f) later = rw f later
 
-  each_longer : (count : ℕ) (p : List (List Cell)) → IsPrefixBefore (suc count) p → AllByRecursion (IsPrefixBefore count) (longer_prefixes ex p)
+  each_longer : (count : ℕ) (p : List (List Cell)) → IsPrefixBefore (suc count) p
+      → AllByRecursion (IsPrefixBefore count) (longer_prefixes ex p)
   each_longer count p before =
       all_longer count p before (menu_of ex (length p))
-      (recursion_from_All (IsInMenu ex (length p)) (menu_of ex (length p)) (λ k d h. (menu_of-contains ex (length p) (slice_index_or (menu_of ex (length p)) k d)).0 (Contains-get_or (menu_of ex (length p)) k d h)))
+      (recursion_from_All (IsInMenu ex (length p)) (menu_of ex (length p))
+      (λ k d h. (menu_of-contains ex (length p) (slice_index_or (menu_of ex (length p)) k d)).0
+      (Contains-get_or (menu_of ex (length p)) k d h)))
 
   -- a certified list stays so with a prefix more, and the claims of it and of what it owes
   Extends : (List (List Cell) → List Claim) → List (List Cell) → Type 0
-  Extends f p = (owed : List (List (List Cell))) (claims : List Claim) → IsCertified ex sheet head owed claims → IsCertified ex sheet head (p ∷ owed) (f p ++ claims)
+  Extends f p = (owed : List (List (List Cell))) (claims : List Claim) → IsCertified ex sheet head owed claims
+      → IsCertified ex sheet head (p ∷ owed) (f p ++ claims)
 
-  extends_all : (count : ℕ) (f : List (List Cell) → List Claim) → ((q : List (List Cell)) → IsPrefixBefore count q → Extends f q) → (qs : List (List (List Cell))) → AllByRecursion (IsPrefixBefore count) qs → (owed : List (List (List Cell))) (claims : List Claim) → IsCertified ex sheet head owed claims → IsCertified ex sheet head (qs ++ owed) (flat_map f qs ++ claims)
+  extends_all : (count : ℕ) (f : List (List Cell) → List Claim)
+      → ((q : List (List Cell)) → IsPrefixBefore count q → Extends f q) → (qs : List (List (List Cell)))
+      → AllByRecursion (IsPrefixBefore count) qs → (owed : List (List (List Cell))) (claims : List Claim)
+      → IsCertified ex sheet head owed claims → IsCertified ex sheet head (qs ++ owed) (flat_map f qs ++ claims)
   unfolding Extends
   extends_all count f each [] before owed claims h = h
   extends_all count f each (q ∷ qs) before owed claims h =
-      let whole : (f q ++ flat_map f qs) ++ claims ≡ f q ++ (flat_map f qs ++ claims) = append_assoc (f q) (flat_map f qs) claims in
+      let whole : (f q ++ flat_map f qs) ++ claims ≡ f q
+      ++ (flat_map f qs ++ claims) = append_assoc (f q) (flat_map f qs) claims in
       subst (λ (all : List Claim). IsCertified ex sheet head (q ∷ (qs ++ owed)) all) (sym whole)
       (each q before.0 (qs ++ owed) (flat_map f qs ++ claims) (extends_all count f each qs before.1 owed claims h))
 
-  closed : (p : List (List Cell)) (claim : Claim) → columns_in ex ≤ length p → IsTrueOf ex sheet head p claim → owed_by ex p claim ≡ []
+  closed : (p : List (List Cell)) (claim : Claim) → columns_in ex ≤ length p → IsTrueOf ex sheet head p claim
+      → owed_by ex p claim ≡ []
   closed p Open whole h = absurd (omega (arith, whole, h.0))
   closed p (Broken rule) whole h = refl
   closed p NoChain whole h = refl
@@ -227,12 +277,22 @@ module _ (ex : Exercise) (sheet : Sheet) (few : ex.voices ≤ 4) (floors : Floor
   extends : (count : ℕ) (p : List (List Cell)) → IsPrefixBefore count p → Extends (claims_from ex sheet head count) p
   unfolding claims_from Extends
   extends zero p before owed claims h =
-      let holds_of = first_claim_true p before.prefix in
-      (holds_of, subst (λ (qs : List (List (List Cell))). IsCertified ex sheet head (qs ++ owed) claims) (sym (closed p (first_claim ex sheet head p) (omega (arith, before.size)) holds_of)) h)
-  extends (suc count) p before owed claims h =
-      (first_claim_true p before.prefix, behind (first_claim ex sheet head p) (extends_all count (claims_from ex sheet head count) (extends count) (longer_prefixes ex p) (each_longer count p before) owed claims h))
+      let holds_of = first_claim_true p before.prefix in (
+        holds_of,
+        subst (λ (qs : List (List (List Cell))). IsCertified ex sheet head (qs ++ owed) claims)
+            (sym (closed p (first_claim ex sheet head p) (omega (arith, before.size)) holds_of)) h,
+      )
+  extends (suc count) p before owed claims h = (
+    first_claim_true p before.prefix,
+    behind (first_claim ex sheet head p)
+        (extends_all count (claims_from ex sheet head count) (extends count) (longer_prefixes ex p)
+        (each_longer count p before) owed claims h),
+  )
     where
-      behind : (claim : Claim) → IsCertified ex sheet head (longer_prefixes ex p ++ owed) (flat_map (claims_from ex sheet head count) (longer_prefixes ex p) ++ claims) → IsCertified ex sheet head (owed_by ex p claim ++ owed) ((if is_open claim then flat_map (claims_from ex sheet head count) (longer_prefixes ex p) else []) ++ claims)
+      behind : (claim : Claim) → IsCertified ex sheet head (longer_prefixes ex p ++ owed)
+          (flat_map (claims_from ex sheet head count) (longer_prefixes ex p) ++ claims)
+          → IsCertified ex sheet head (owed_by ex p claim ++ owed)
+          ((if is_open claim then flat_map (claims_from ex sheet head count) (longer_prefixes ex p) else []) ++ claims)
       behind Open all = all
       behind (Broken rule) all = h
       behind NoChain all = h
@@ -244,7 +304,8 @@ module _ (ex : Exercise) (sheet : Sheet) (few : ex.voices ≤ 4) (floors : Floor
   claims_certified =
       let empty : IsPrefix ex [] = record { few = omega arith; menus = λ i h. absurd (omega arith); follows = tt } in
       let before : IsPrefixBefore (columns_in ex) [] = record { prefix = empty; size = omega arith } in
-      subst (λ (claims : List Claim). IsCertified ex sheet head ([] ∷ []) claims) (append_none (claims_of ex sheet head)) (extends (columns_in ex) [] before [] [] tt)
+      subst (λ (claims : List Claim). IsCertified ex sheet head ([] ∷ []) claims)
+      (append_none (claims_of ex sheet head)) (extends (columns_in ex) [] before [] [] tt)
     where
       append_none : (claims : List Claim) → claims ++ [] ≡ claims
       append_none [] = refl
@@ -255,13 +316,15 @@ sound : (ex : Exercise) (sheet : Sheet) (head : CertHead) → Holds ex sheet hea
 sound ex sheet Nothing holds = tt
 sound ex sheet (Best penalty score) holds = (holds.0.lawful, holds.1)
 
-pub written_is_valid : (ex : Exercise) (sheet : Sheet) (few : ex.voices ≤ 4) (floors : FloorsHold ex sheet) (head : CertHead) → Holds ex sheet head → IsCertificate ex sheet head (claims_of ex sheet head)
+pub written_is_valid : (ex : Exercise) (sheet : Sheet) (few : ex.voices ≤ 4) (floors : FloorsHold ex sheet)
+    (head : CertHead) → Holds ex sheet head → IsCertificate ex sheet head (claims_of ex sheet head)
 written_is_valid ex sheet few floors head holds =
     record { sound = sound ex sheet head holds; certified = claims_certified ex sheet few floors head holds }
 
 -- ---- tests of claims
 
-pub test_from_no_better : (head : CertHead) (p : List (List Cell)) (floor : ℕ) → IsNoBetter head p floor → is_no_better head p floor ≡ true
+pub test_from_no_better : (head : CertHead) (p : List (List Cell)) (floor : ℕ) → IsNoBetter head p floor
+    → is_no_better head p floor ≡ true
 test_from_no_better Nothing p floor h = absurd h
 test_from_no_better (Best penalty score) p floor (inl h) =
     ap (λ b. b || ((floor == penalty) && is_less (columns_order score.columns p))) (lt-ltb penalty floor h)

@@ -76,7 +76,8 @@ unfoldable pub claims_from : Exercise → Sheet → CertHead → ℕ → List (L
 claims_from ex sheet head zero p = first_claim ex sheet head p ∷ []
 claims_from ex sheet head (suc count) p =
     first_claim ex sheet head p
-    ∷ (if is_open (first_claim ex sheet head p) then flat_map (claims_from ex sheet head count) (longer_prefixes ex p) else [])
+    ∷ (if is_open (first_claim ex sheet head p) then flat_map (claims_from ex sheet head count) (longer_prefixes ex p)
+    else [])
 
 -- all claims of a certificate
 abbrev pub claims_of : Exercise → Sheet → CertHead → List Claim

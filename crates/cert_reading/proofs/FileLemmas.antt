@@ -34,7 +34,8 @@ module _ (files : Files) (name : List ℕ) where
       }
 
   -- a file whose end was met
-  pub ends : (xs : List ℕ) → MayBe files name (Begins xs) → ((file : List ℕ) → HasFile files name file → length file ≤ length xs)
+  pub ends : (xs : List ℕ) → MayBe files name (Begins xs)
+      → ((file : List ℕ) → HasFile files name file → length file ≤ length xs)
       → MayHave files name xs
   ends xs known short = at known.had
     where
@@ -45,7 +46,8 @@ module _ (files : Files) (name : List ℕ) where
           inr (subst (λ bytes. HasFile files name bytes) whole has)
 
   -- a file that has more bytes
-  pub goes_on : (xs : List ℕ) → MayBe files name (Begins xs) → ((file : List ℕ) → HasFile files name file → length xs < length file)
+  pub goes_on : (xs : List ℕ) → MayBe files name (Begins xs)
+      → ((file : List ℕ) → HasFile files name file → length xs < length file)
       → MayBe files name (λ bytes. Begins xs bytes × (length xs < length bytes))
   goes_on xs known long = at known.had
     where
@@ -81,10 +83,12 @@ pub filled : (file buf piece post : List ℕ) (done count : ℕ) → done ≤ le
 filled file buf piece post done count within fits p q =
     let size = length-take-le done buf within in
     let front : take (done + count) (take done buf ++ (piece ++ post)) ≡ take done buf ++ take count piece =
-    ap (λ n. take (n + count) (take done buf ++ (piece ++ post))) (sym size) ∙ take-append-add (take done buf) (piece ++ post) count
+    ap (λ n. take (n + count) (take done buf ++ (piece ++ post))) (sym size)
+    ∙ take-append-add (take done buf) (piece ++ post) count
     ∙ ap (λ xs. take done buf ++ xs) (take-append-le count piece post fits) in
     subst (λ xs. StartsWith file xs) (sym front)
-    (begins_more file (take done buf) (take count piece) p (subst (λ n. StartsWith (drop n file) (take count piece)) (sym size) q))
+    (begins_more file (take done buf) (take count piece) p
+    (subst (λ n. StartsWith (drop n file) (take count piece)) (sym size) q))
 
 -- the first bytes of a file that is there
 pub first_known : (files : Files) (name bytes : List ℕ) (most : ℕ) → length bytes ≤ most → (IsMissing files name → ⊥)
@@ -115,7 +119,8 @@ first_begins files name bytes most known = record {
 }
 
 -- what holds of a value that is there, and what follows
-pub if_ok : {X Y : Type 0} (result : Result X Y) (Known Told : X → Type 0) → IfOk result Known → ((x : X) → Known x → Told x)
+pub if_ok : {X Y : Type 0} (result : Result X Y) (Known Told : X → Type 0) → IfOk result Known
+    → ((x : X) → Known x → Told x)
     → IfOk result Told
 if_ok (Ok x) Known Told known tells = tells x known
 if_ok (Err y) Known Told known tells = tt

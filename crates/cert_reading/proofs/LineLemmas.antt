@@ -21,7 +21,8 @@ line_part-front [] ys = (line_part ys, refl)
 line_part-front (x ∷ xs) ys = at (x == 10) (line_part-front xs ys)
   where
     at : (b : Bool) → (zs : List ℕ) × (line_part (xs ++ ys) ≡ line_part xs ++ zs)
-        → (zs : List ℕ) × ((if b then x ∷ [] else x ∷ line_part (xs ++ ys)) ≡ (if b then x ∷ [] else x ∷ line_part xs) ++ zs)
+        → (zs : List ℕ) × ((if b then x ∷ [] else x ∷ line_part (xs ++ ys)) ≡ (if b then x ∷ [] else x ∷ line_part xs)
+        ++ zs)
     at true more = ([], refl)
     at false more = (more.0, ap (λ zs. x ∷ zs) more.1)
 
@@ -55,7 +56,14 @@ module _ (files : Files) (name front begun : List ℕ) (unended : HasNoFeed begu
   unended_line at here some begins had = record {
     bytes = front ++ begun;
     had = had;
-    such = inl (here, record { rest = begun; is = refl; such = record { some = some; begins = begins; unended = unended } });
+    such = inl (
+      here,
+      record {
+        rest = begun;
+        is = refl;
+        such = record { some = some; begins = begins; unended = unended };
+      },
+    );
   }
 
   -- the file goes beyond what a certificate may have
@@ -64,7 +72,8 @@ module _ (files : Files) (name front begun : List ℕ) (unended : HasNoFeed begu
       → MayBe files name (FaultAt front (CertEnd 1073741824))
   beyond_line begins full known =
       let rest = behind front begun known.bytes known.such.0 in
-      let size : length known.bytes ≡ length front + length (begun ++ rest.0) = ap length rest.1 ∙ length-append front (begun ++ rest.0) in
+      let size : length known.bytes ≡ length front + length (begun ++ rest.0) = ap length rest.1
+      ∙ length-append front (begun ++ rest.0) in
       record {
         bytes = known.bytes;
         had = known.had;

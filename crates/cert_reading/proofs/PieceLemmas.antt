@@ -38,7 +38,8 @@ module _ (files : Files) (name front : List ℕ) (before : Reading) (at : IsAt f
         ≡ (front ++ line_if taken.claim) ++ (new.begun ++ drop taken.used before.ahead)
     split =
         let rest = drop taken.used before.ahead in
-        ap (λ xs. front ++ (before.claims.begun ++ xs)) (sym (take-append-drop taken.used before.ahead) ∙ ap (λ xs. xs ++ rest) (sym line_is))
+        ap (λ xs. front ++ (before.claims.begun ++ xs))
+        (sym (take-append-drop taken.used before.ahead) ∙ ap (λ xs. xs ++ rest) (sym line_is))
         ∙ ap (λ xs. front ++ xs) (sym (append_assoc before.claims.begun (line_part before.ahead) rest))
         ∙ ap (λ xs. front ++ (xs ++ rest)) takes.bytes
         ∙ ap (λ xs. front ++ xs) (append_assoc (line_if taken.claim) new.begun rest)
@@ -47,15 +48,18 @@ module _ (files : Files) (name front : List ℕ) (before : Reading) (at : IsAt f
     sizes : length before.claims.begun + taken.used ≡ length (line_if taken.claim) + length new.begun
     sizes = omega (
       arith,
-      sym (length-append before.claims.begun (line_part before.ahead)) ∙ ap length takes.bytes ∙ length-append (line_if taken.claim) new.begun,
+      sym (length-append before.claims.begun (line_part before.ahead)) ∙ ap length takes.bytes
+          ∙ length-append (line_if taken.claim) new.begun,
       ap length line_is ∙ length-take-le taken.used before.ahead takes.within,
     )
 
     taken_at : (ahead : List ℕ) → ahead ≡ drop taken.used before.ahead → length ahead + taken.used ≡ length before.ahead
         → BeginsClaim new.begun → HasNoFeed new.begun
-        → IsAt files name (front ++ line_if taken.claim) (record { claims = new; ahead = ahead; offset = before.offset })
+        → IsAt files name (front ++ line_if taken.claim)
+        (record { claims = new; ahead = ahead; offset = before.offset })
     taken_at ahead is size line unended = record {
-      begins = subst (λ xs. MayBe files name (Begins xs)) (split ∙ ap (λ xs. (front ++ line_if taken.claim) ++ (new.begun ++ xs)) (sym is)) at.begins;
+      begins = subst (λ xs. MayBe files name (Begins xs))
+          (split ∙ ap (λ xs. (front ++ line_if taken.claim) ++ (new.begun ++ xs)) (sym is)) at.begins;
       next = omega (arith, takes.next, at.next, sizes, length-append front (line_if taken.claim));
       clear = takes.refused;
       line = line;
@@ -64,18 +68,22 @@ module _ (files : Files) (name front : List ℕ) (before : Reading) (at : IsAt f
     }
 
     -- a line is taken, or the piece is used up
-    pub line_taken : (ahead : List ℕ) → ahead ≡ drop taken.used before.ahead → length ahead + taken.used ≡ length before.ahead
+    pub line_taken : (ahead : List ℕ) → ahead ≡ drop taken.used before.ahead → length ahead + taken.used
+        ≡ length before.ahead
         → TakesLine files name front (record { claims = new; ahead = ahead; offset = before.offset }) (Ok taken.claim)
     line_taken ahead is size = by taken.claim refl
       where
-        by : (claim : Option Claim) → taken.claim ≡ claim → TakesLine files name front (record { claims = new; ahead = ahead; offset = before.offset }) (Ok claim)
+        by : (claim : Option Claim) → taken.claim ≡ claim
+            → TakesLine files name front (record { claims = new; ahead = ahead; offset = before.offset }) (Ok claim)
         by None none =
             let unended = subst (λ c. IfNone c (HasNoFeed new.begun)) none takes.unended in
-            let whole : before.claims.begun ++ line_part before.ahead ≡ new.begun = takes.bytes ∙ ap (λ c. line_if c ++ new.begun) none in
+            let whole : before.claims.begun ++ line_part before.ahead ≡ new.begun = takes.bytes
+            ∙ ap (λ c. line_if c ++ new.begun) none in
             let line = subst BeginsClaim whole takes.begins in
             let stands = taken_at ahead is size line unended in
             let nowhere : front ++ line_if taken.claim ≡ front = ap (λ c. front ++ line_if c) none ∙ append-nil front in (
-              subst (λ xs. IsAt files name xs (record { claims = new; ahead = ahead; offset = before.offset })) nowhere stands,
+              subst (λ xs. IsAt files name xs (record { claims = new; ahead = ahead; offset = before.offset })) nowhere
+                  stands,
               none_left ahead (omega (arith, size, takes.all none)),
             )
           where
@@ -88,15 +96,18 @@ module _ (files : Files) (name front : List ℕ) (before : Reading) (at : IsAt f
             let unended = subst HasNoFeed (sym ended.1) tt in
             let stands = taken_at ahead is size line unended in (
               ended.0,
-              subst (λ c. IsAt files name (front ++ line_if c) (record { claims = new; ahead = ahead; offset = before.offset })) some stands,
+              subst (λ c. IsAt files name (front ++ line_if c)
+                  (record { claims = new; ahead = ahead; offset = before.offset })) some stands,
             )
 
   -- a line is refused
-  pub line_refused : (fault : CertFault) (new : text.Reading) (after : Reading) → Refuses before.claims before.ahead fault new
+  pub line_refused : (fault : CertFault) (new : text.Reading) (after : Reading)
+      → Refuses before.claims before.ahead fault new
       → TakesLine files name front after (Err fault)
   line_refused fault new after refuses =
       subst (λ it. MayBe files name (FaultAt front it)) (sym refuses.named)
-      (wrong_line files name front before.claims.begun at.unended before.ahead (text.line_start before.claims) here at.begins refuses.wrong)
+      (wrong_line files name front before.claims.begun at.unended before.ahead (text.line_start before.claims) here
+      at.begins refuses.wrong)
 
   -- the end of the file
   pub end_gives : (end : ℕ) → end ≡ text.line_start before.claims → before.claims.begun ≢ []
@@ -104,13 +115,15 @@ module _ (files : Files) (name front : List ℕ) (before : Reading) (at : IsAt f
   end_gives end is some had =
       unended_line files name front before.claims.begun at.unended end (is ∙ here) some at.line had
 
-  pub end_whole : before.claims.begun ≡ [] → MayHave files name (front ++ before.claims.begun) → MayHave files name front
+  pub end_whole : before.claims.begun ≡ [] → MayHave files name (front ++ before.claims.begun)
+      → MayHave files name front
   end_whole none had = subst (MayHave files name) (ap (λ xs. front ++ xs) none ∙ append-nil front) had
 
   module _ (used_up : before.ahead ≡ []) where
     known : MayBe files name (Begins (front ++ before.claims.begun))
     known = subst (λ xs. MayBe files name (Begins xs))
-        (ap (λ xs. front ++ (before.claims.begun ++ xs)) used_up ∙ ap (λ xs. front ++ xs) (append-nil before.claims.begun)) at.begins
+        (ap (λ xs. front ++ (before.claims.begun ++ xs)) used_up
+        ∙ ap (λ xs. front ++ xs) (append-nil before.claims.begun)) at.begins
 
     far : before.offset ≡ length (front ++ before.claims.begun)
     far = omega (arith, at.offset, ap length used_up, length-append front before.claims.begun)
@@ -125,7 +138,8 @@ module _ (files : Files) (name front : List ℕ) (before : Reading) (at : IsAt f
         (goes_on files name (front ++ before.claims.begun) known (λ file has. omega (arith, far, more file has)))
 
     -- the next piece
-    pub reads_on : (buf ahead begun : List ℕ) (count : ℕ) (more : Bool) (rose : Type 0) → before.claims.begun ≡ begun → more ≡ nat_lt 0 count → ahead ≡ take count buf
+    pub reads_on : (buf ahead begun : List ℕ) (count : ℕ) (more : Bool) (rose : Type 0) → before.claims.begun ≡ begun
+        → more ≡ nat_lt 0 count → ahead ≡ take count buf
         → count ≤ length buf
         → ((file : List ℕ) → HasFile files name file → StartsWith (drop before.offset file) (take count buf))
         → (count ≡ 0 → (file : List ℕ) → HasFile files name file → length file ≤ before.offset)
@@ -133,10 +147,12 @@ module _ (files : Files) (name front : List ℕ) (before : Reading) (at : IsAt f
         (record { claims = before.claims; ahead = ahead; offset = before.offset + count }) (Ok more)
     reads_on buf ahead begun count more rose its is same fits placed end =
         subst
-        (λ xs. ReadsOn files name rose front xs (record { claims = before.claims; ahead = ahead; offset = before.offset + count }) (Ok more))
+        (λ xs. ReadsOn files name rose front xs
+        (record { claims = before.claims; ahead = ahead; offset = before.offset + count }) (Ok more))
         its (by more is)
       where
-        stands : IsAt files name front (record { claims = before.claims; ahead = ahead; offset = before.offset + count })
+        stands : IsAt files name front (record
+            { claims = before.claims; ahead = ahead; offset = before.offset + count })
         stands = record {
           begins = subst (λ xs. MayBe files name (Begins xs)) (append_assoc front before.claims.begun ahead)
               (longer files name (front ++ before.claims.begun) ahead known
@@ -166,7 +182,12 @@ module _ (files : Files) (name front : List ℕ) (before : Reading) (at : IsAt f
 pub reaches : (file piece : List ℕ) (offset count : ℕ) → count ≤ length piece → 0 < count
     → StartsWith (drop offset file) (take count piece) → offset < length file
 reaches file piece offset count fits some placed =
-    omega (arith, starts_with_length (drop offset file) (take count piece) placed, length-take-le count piece fits, length-drop offset file)
+    omega (
+      arith,
+      starts_with_length (drop offset file) (take count piece) placed,
+      length-take-le count piece fits,
+      length-drop offset file,
+    )
 
 -- what is left of a piece of which more was used
 pub piece_left : (piece : List ℕ) (from to used : ℕ) → from ≤ to → to ≤ length piece → used ≤ to - from
@@ -177,12 +198,14 @@ piece_left piece from to used order within fits =
     ∙ sym (drop-take used (to - (from + used)) (drop from piece))
     ∙ ap (λ n. drop used (take n (drop from piece))) size
 
-pub length-piece : (piece : List ℕ) (from to : ℕ) → from ≤ to → to ≤ length piece → length (take (to - from) (drop from piece)) ≡ to - from
+pub length-piece : (piece : List ℕ) (from to : ℕ) → from ≤ to → to ≤ length piece
+    → length (take (to - from) (drop from piece)) ≡ to - from
 length-piece piece from to order within =
     length-take-le (to - from) (drop from piece) (omega (arith, length-drop from piece, order, within))
 
 -- what the end gives is what the reader gives
-pub gives_at_end : (files : Files) (name front : List ℕ) (rose : Type 0) (after : Reading) (result : Result (Option Claim) ReadFault)
+pub gives_at_end : (files : Files) (name front : List ℕ) (rose : Type 0) (after : Reading)
+    (result : Result (Option Claim) ReadFault)
     → EndGives files name front result → Gives files name rose front after result
 gives_at_end files name front rose after (Ok None) it = it
 gives_at_end files name front rose after (Ok (Some claim)) it = absurd it
@@ -194,4 +217,5 @@ pub written : (buf rest : List ℕ) (len count : ℕ) → count ≤ length buf �
     → take (count - 0) (take len (buf ++ rest)) ≡ take count buf
 written buf rest len count fits room =
     let same : count - 0 ≡ count = omega arith in
-    ap (λ n. take n (take len (buf ++ rest))) same ∙ take-take count len (buf ++ rest) room ∙ take-append-le count buf rest fits
+    ap (λ n. take n (take len (buf ++ rest))) same ∙ take-take count len (buf ++ rest) room
+    ∙ take-append-le count buf rest fits

@@ -15,10 +15,12 @@ use Rattle.cert_reading.specs.Starts.{IsStarted, Starts}
 use Rattle.cert_reading.proofs.FileLemmas.{first_begins}
 use Rattle.cert_reading.proofs.PieceLemmas.{nothing_begins}
 
-module _ (ex : Exercise) (files : Files) (name bytes : List ℕ) (known : MayBe files name (λ all. bytes ≡ take longest_piece all)) where
+module _ (ex : Exercise) (files : Files) (name bytes : List ℕ)
+    (known : MayBe files name (λ all. bytes ≡ take longest_piece all)) where
   -- a head is shorter than a piece, so one that stops in the first piece stops so in the whole file
   pub head_stops : IsValid ex → (rose : Type 0) (fault : CertFault)
-      → (fault ≡ Memory) ⊎ ((at : ℕ) × (fault ≡ CertHead at) × TextStops ex bytes at) → Starts ex files name rose (Err (Text fault))
+      → (fault ≡ Memory) ⊎ ((at : ℕ) × (fault ≡ CertHead at) × TextStops ex bytes at)
+      → Starts ex files name rose (Err (Text fault))
   head_stops valid rose fault cause = elim cause [
     | inl e ↦ subst (λ it. Starts ex files name rose (Err (Text it))) (sym e) tt
     | inr stops ↦ subst (λ it. Starts ex files name rose (Err (Text it))) (sym stops.1) (record {
@@ -34,7 +36,8 @@ module _ (ex : Exercise) (files : Files) (name bytes : List ℕ) (known : MayBe 
       → IsStarted ex files name head (reading_from used ahead offset)
   started head used offset ahead heads far is =
       let size = length-take-le used bytes heads.within in
-      let same : take (length (take used bytes)) (take used bytes) ≡ take used bytes = take_all (length (take used bytes)) (take used bytes) (omega arith) in
+      let same : take (length (take used bytes)) (take used bytes)
+      ≡ take used bytes = take_all (length (take used bytes)) (take used bytes) (omega arith) in
       record {
         front = take used bytes;
         heads = record {
@@ -44,7 +47,8 @@ module _ (ex : Exercise) (files : Files) (name bytes : List ℕ) (known : MayBe 
         };
         at = record {
           begins = subst (λ xs. MayBe files name (Begins xs))
-              (sym (take-append-drop used bytes) ∙ ap (λ xs. take used bytes ++ xs) (sym is)) (first_begins files name bytes longest_piece known);
+              (sym (take-append-drop used bytes) ∙ ap (λ xs. take used bytes ++ xs) (sym is))
+              (first_begins files name bytes longest_piece known);
           next = omega (arith, size);
           clear = refl;
           line = nothing_begins;

@@ -64,7 +64,8 @@ IsPart ex part = IsPlace ex part.place × IfSome part.penalty (λ n. n < 2 ^ 64)
 line_from-place : (ex : Exercise) (v : ℕ) → IsPlace ex (line_from ex v)
 line_from-place ex v = by (nat_le ex.voices v) (nat_lt (free_from ex v) ex.voices)
   where
-    by : (a b : Bool) → IsPlace ex (if a then Within Claims 0 else (if b then Within (Sing (free_from ex v)) 0 else Within Claims 0))
+    by : (a b : Bool) → IsPlace ex (if a then Within Claims 0
+        else (if b then Within (Sing (free_from ex v)) 0 else Within Claims 0))
     by true b = (omega arith, tt)
     by false true = (sing-long (free_from ex v), tt)
     by false false = (omega arith, tt)
@@ -89,10 +90,13 @@ item-place : (ex : Exercise) (spot : Spot) → spot.column ≤ 8 * ex.bars → I
 item-place ex spot most = by (spot.column == 8 * ex.bars) (spot.column % 8 == 0) refl
   where
     by : (a b : Bool) → (spot.column == 8 * ex.bars) ≡ a
-        → IsPlace ex (if a then Within (Feed spot.voice) 0 else (if b then Within (BarLine spot) 0 else Within (Space spot) 0))
+        → IsPlace ex (if a then Within (Feed spot.voice) 0
+        else (if b then Within (BarLine spot) 0 else Within (Space spot) 0))
     by true b e = (omega arith, tt)
-    by false true e = let other : spot.column ≡ 8 * ex.bars → ⊥ = grind (arith, nat_tests) in (omega arith, omega (arith, other, most))
-    by false false e = let other : spot.column ≡ 8 * ex.bars → ⊥ = grind (arith, nat_tests) in (omega arith, omega (arith, other, most))
+    by false true e = let other : spot.column ≡ 8 * ex.bars → ⊥ = grind (arith, nat_tests) in
+        (omega arith, omega (arith, other, most))
+    by false false e = let other : spot.column ≡ 8 * ex.bars → ⊥ = grind (arith, nat_tests) in
+        (omega arith, omega (arith, other, most))
 
 -- ---- one byte more
 
@@ -100,7 +104,8 @@ item-place ex spot most = by (spot.column == 8 * ex.bars) (spot.column % 8 == 0)
 abbrev Keeps : Exercise → Option Place → Type 0
 Keeps ex o = IfSome o (IsPlace ex)
 
-within-keeps : (ex : Exercise) (fixed : Fixed) (read byte : ℕ) → 1 ≤ ex.bars → read < length (fixed_bytes fixed) → IsFixed ex fixed
+within-keeps : (ex : Exercise) (fixed : Fixed) (read byte : ℕ) → 1 ≤ ex.bars → read < length (fixed_bytes fixed)
+    → IsFixed ex fixed
     → (e l : Bool) → (read + 1 == length (fixed_bytes fixed)) ≡ l
     → Keeps ex (if e then Some (if l then behind_fixed ex fixed else Within fixed (read + 1)) else None)
 within-keeps ex fixed read byte some here f false l g = tt
@@ -108,13 +113,16 @@ within-keeps ex fixed read byte some here f true true g = behind-place ex fixed 
 within-keeps ex fixed read byte some here f true false g =
     let other : read + 1 ≡ length (fixed_bytes fixed) → ⊥ = grind (arith, nat_tests) in (omega (arith, other, here), f)
 
-kind-keeps : (ex : Exercise) (a b : Bool) → Keeps ex (if a then Some (Within Best 0) else (if b then Some (Within Nothing 0) else None))
+kind-keeps : (ex : Exercise) (a b : Bool) → Keeps ex
+    (if a then Some (Within Best 0) else (if b then Some (Within Nothing 0) else None))
 kind-keeps ex true b = (omega arith, tt)
 kind-keeps ex false true = (omega arith, tt)
 kind-keeps ex false false = tt
 
-name-keeps : (ex : Exercise) (spot : Spot) (byte : ℕ) → IsSpot ex spot → (a b c : Bool) → (nat_le 65 byte && nat_le byte 71) ≡ c
-    → Keeps ex (if a then Some (behind_name spot false) else (if b then Some (behind_name spot true) else (if c then Some (Letter spot byte) else None)))
+name-keeps : (ex : Exercise) (spot : Spot) (byte : ℕ) → IsSpot ex spot → (a b c : Bool)
+    → (nat_le 65 byte && nat_le byte 71) ≡ c
+    → Keeps ex (if a then Some (behind_name spot false)
+    else (if b then Some (behind_name spot true) else (if c then Some (Letter spot byte) else None)))
 name-keeps ex spot byte s true b c e = (omega arith, s)
 name-keeps ex spot byte s false true c e = (omega arith, s)
 name-keeps ex spot byte s false false true e =
@@ -124,14 +132,16 @@ name-keeps ex spot byte s false false true e =
     (s, (low, high))
 name-keeps ex spot byte s false false false e = tt
 
-letter-keeps : (ex : Exercise) (spot : Spot) (letter byte : ℕ) → IsSpot ex spot → IsLetter letter → (a b c : Bool) → (byte == 35) ≡ a → (byte == 98) ≡ b
+letter-keeps : (ex : Exercise) (spot : Spot) (letter byte : ℕ) → IsSpot ex spot → IsLetter letter → (a b c : Bool)
+    → (byte == 35) ≡ a → (byte == 98) ≡ b
     → Keeps ex (if a || b then Some (Sign spot letter byte) else (if c then Some (behind_name spot true) else None))
 letter-keeps ex spot letter byte s l true b c e f = (s, l, inl (eqb-true byte 35 e))
 letter-keeps ex spot letter byte s l false true c e f = (s, l, inr (eqb-true byte 98 f))
 letter-keeps ex spot letter byte s l false false true e f = (omega arith, s)
 letter-keeps ex spot letter byte s l false false false e f = tt
 
-sign-keeps : (ex : Exercise) (spot : Spot) → IsSpot ex spot → (a : Bool) → Keeps ex (if a then Some (behind_name spot true) else None)
+sign-keeps : (ex : Exercise) (spot : Spot) → IsSpot ex spot → (a : Bool)
+    → Keeps ex (if a then Some (behind_name spot true) else None)
 sign-keeps ex spot s true = (omega arith, s)
 sign-keeps ex spot s false = tt
 
@@ -153,11 +163,13 @@ kept ex penalty None fits k = tt
 kept ex penalty (Some place) fits k = (k, fits)
 
 digits-keep : (ex : Exercise) (penalty : Option ℕ) (byte : ℕ) → IfSome penalty (λ n. n < 2 ^ 64) → (feed : Bool)
-    → IfSome (if feed && is_some penalty then Some (at penalty (line_from ex 0)) else option_map (λ longer. at (Some longer) Digits) (digit_after penalty byte)) (IsPart ex)
+    → IfSome (if feed && is_some penalty then Some (at penalty (line_from ex 0))
+    else option_map (λ longer. at (Some longer) Digits) (digit_after penalty byte)) (IsPart ex)
 digits-keep ex None byte fits feed = by feed (is_digit byte) refl
   where
     by : (f d : Bool) → is_digit byte ≡ d
-        → IfSome (if f && false then Some (at None (line_from ex 0)) else option_map (λ longer. at (Some longer) Digits) (if d then Some (byte - 48) else None)) (IsPart ex)
+        → IfSome (if f && false then Some (at None (line_from ex 0))
+        else option_map (λ longer. at (Some longer) Digits) (if d then Some (byte - 48) else None)) (IsPart ex)
     by true false e = tt
     by false false e = tt
     by true true e =
@@ -171,34 +183,42 @@ digits-keep ex (Some n) byte fits false =
     by (is_digit byte && (not (n == 0) && nat_lt (10 * n + (byte - 48)) (2 ^ 64))) refl
   where
     by : (d : Bool) → (is_digit byte && (not (n == 0) && nat_lt (10 * n + (byte - 48)) (2 ^ 64))) ≡ d
-        → IfSome (option_map (λ longer. at (Some longer) Digits) (if d then Some (10 * n + (byte - 48)) else None)) (IsPart ex)
+        → IfSome (option_map (λ longer. at (Some longer) Digits) (if d then Some (10 * n + (byte - 48)) else None))
+        (IsPart ex)
     by false e = tt
     by true e =
         let p = and_parts (is_digit byte) (not (n == 0) && nat_lt (10 * n + (byte - 48)) (2 ^ 64)) e in
         let q = and_parts (not (n == 0)) (nat_lt (10 * n + (byte - 48)) (2 ^ 64)) p.1 in
         let below : 10 * n + (byte - 48) < 2 ^ 64 = let t = q.1 in grind (arith, nat_tests) in (tt, below)
 
-step-keeps : (ex : Exercise) (penalty : Option ℕ) (place : Place) (byte : ℕ) → 1 ≤ ex.bars → IsPlace ex place → IfSome penalty (λ n. n < 2 ^ 64)
+step-keeps : (ex : Exercise) (penalty : Option ℕ) (place : Place) (byte : ℕ) → 1 ≤ ex.bars → IsPlace ex place
+    → IfSome penalty (λ n. n < 2 ^ 64)
     → IfSome (after_at ex penalty place byte) (IsPart ex)
 step-keeps ex penalty (Within fixed read) byte some p fits =
-    kept ex penalty _ fits (within-keeps ex fixed read byte some p.0 p.1 (is_expected fixed read byte) (read + 1 == length (fixed_bytes fixed)) refl)
+    kept ex penalty _ fits (within-keeps ex fixed read byte some p.0 p.1 (is_expected fixed read byte)
+    (read + 1 == length (fixed_bytes fixed)) refl)
 step-keeps ex penalty Kind byte some p fits = kept ex penalty _ fits (kind-keeps ex (byte == 98) (byte == 110))
 step-keeps ex penalty Digits byte some p fits = digits-keep ex penalty byte fits (byte == 10)
 step-keeps ex penalty (Name spot) byte some p fits =
-    kept ex penalty _ fits (name-keeps ex spot byte p ((byte == 114) && may_rest spot) ((byte == 95) && may_hold spot) (nat_le 65 byte && nat_le byte 71) refl)
+    kept ex penalty _ fits (name-keeps ex spot byte p ((byte == 114) && may_rest spot) ((byte == 95) && may_hold spot)
+    (nat_le 65 byte && nat_le byte 71) refl)
 step-keeps ex penalty (Letter spot letter) byte some p fits =
-    kept ex penalty _ fits (letter-keeps ex spot letter byte p.0 p.1 (byte == 35) (byte == 98) (is_pitch (letter ∷ byte ∷ [])) refl refl)
+    kept ex penalty _ fits (letter-keeps ex spot letter byte p.0 p.1 (byte == 35) (byte == 98)
+    (is_pitch (letter ∷ byte ∷ [])) refl refl)
 step-keeps ex penalty (Sign spot letter sign) byte some p fits =
     kept ex penalty _ fits (sign-keeps ex spot p.0 (is_pitch (letter ∷ sign ∷ byte ∷ [])))
 step-keeps ex penalty (Count spot) byte some p fits = kept ex penalty _ fits (count-keeps ex spot byte p _ refl)
 step-keeps ex penalty Whole byte some p fits = tt
 
-pub run-keeps : (ex : Exercise) (part : Part) (bytes : List ℕ) → 1 ≤ ex.bars → IsPart ex part → IfSome (run ex part bytes) (IsPart ex)
+pub run-keeps : (ex : Exercise) (part : Part) (bytes : List ℕ) → 1 ≤ ex.bars → IsPart ex part
+    → IfSome (run ex part bytes) (IsPart ex)
 run-keeps ex part [] some p = p
 run-keeps ex part (b ∷ bytes) some p =
-    by (part_after ex part b) (step-keeps ex part.penalty part.place b some p.0 p.1) (λ next k. run-keeps ex next bytes some k)
+    by (part_after ex part b) (step-keeps ex part.penalty part.place b some p.0 p.1)
+    (λ next k. run-keeps ex next bytes some k)
   where
-    by : (o : Option Part) → IfSome o (IsPart ex) → ((next : Part) → IsPart ex next → IfSome (run ex next bytes) (IsPart ex))
+    by : (o : Option Part) → IfSome o (IsPart ex)
+        → ((next : Part) → IsPart ex next → IfSome (run ex next bytes) (IsPart ex))
         → IfSome (option_and_then (λ next. run ex next bytes) o) (IsPart ex)
     by None k rest = tt
     by (Some next) k rest = rest next k
@@ -214,7 +234,8 @@ module _ (ex : Exercise) (p : Pitch) (some : 1 ≤ ex.bars) (few : ex.bars ≤ 2
   line-goes penalty v most = (
     lines_text ex (λ w. sample p (8 * ex.bars)) (free_of ex v (ex.voices - v)) ++ claims_text,
     penalty,
-    lines-run ex penalty (λ w. sample p (8 * ex.bars)) some few (λ w. sample-fits ex.bars p (8 * ex.bars) 0 Rest (omega arith)) (ex.voices - v) v
+    lines-run ex penalty (λ w. sample p (8 * ex.bars)) some few
+        (λ w. sample-fits ex.bars p (8 * ex.bars) 0 Rest (omega arith)) (ex.voices - v) v
         (omega (arith, most)),
   )
 
@@ -222,12 +243,14 @@ module _ (ex : Exercise) (p : Pitch) (some : 1 ≤ ex.bars) (few : ex.bars ≤ 2
   feed-goes penalty v = by (nat_lt v ex.voices) refl
     where
       by : (b : Bool) → nat_lt v ex.voices ≡ b → GoesOn ex penalty (if b then line_from ex (v + 1) else Within Claims 0)
-      by true e = let below : v < ex.voices = grind (arith, nat_tests) in line-goes penalty (v + 1) (omega (arith, below))
+      by true e =
+          let below : v < ex.voices = grind (arith, nat_tests) in line-goes penalty (v + 1) (omega (arith, below))
       by false e = (claims_text, penalty, refl)
 
   -- bytes before those that lead to the end
   before : (penalty penalty' : Option ℕ) (place next : Place) (front : List ℕ)
-      → ((y : List ℕ) → run ex (at penalty place) (front ++ y) ≡ run ex (at penalty' next) y) → GoesOn ex penalty' next → GoesOn ex penalty place
+      → ((y : List ℕ) → run ex (at penalty place) (front ++ y) ≡ run ex (at penalty' next) y) → GoesOn ex penalty' next
+      → GoesOn ex penalty place
   before penalty penalty' place next front step goes = (front ++ goes.0, goes.1, step goes.0 ∙ goes.2)
 
   abbrev cell_of : Bool → Cell
@@ -241,7 +264,8 @@ module _ (ex : Exercise) (p : Pitch) (some : 1 ≤ ex.bars) (few : ex.bars ≤ 2
   name-goes : (penalty : Option ℕ) (spot : Spot) → IsSpot ex spot → GoesOn ex penalty (Name spot)
   name-goes penalty spot s =
       let left = 8 * ex.bars - spot.column in
-      before penalty penalty (Name spot) (behind_fixed ex (Feed spot.voice)) (items_text ex.bars spot.column (sample p left))
+      before penalty penalty (Name spot) (behind_fixed ex (Feed spot.voice))
+      (items_text ex.bars spot.column (sample p left))
       (λ y. items-run ex penalty spot (cell_of spot.sounds) (sample p left) y few (sounds-cell_of spot.sounds) s
       (sample-fits ex.bars p left spot.column (cell_of spot.sounds) (omega (arith, s))))
       (feed-goes penalty spot.voice)
@@ -250,18 +274,22 @@ module _ (ex : Exercise) (p : Pitch) (some : 1 ≤ ex.bars) (few : ex.bars ≤ 2
       → GoesOn ex penalty (behind_fixed ex fixed) → GoesOn ex penalty (Within fixed read)
   fixed-goes penalty fixed read here goes =
       before penalty penalty (Within fixed read) (behind_fixed ex fixed) (drop read (fixed_bytes fixed))
-      (λ y. fixed-run ex penalty fixed read (drop read (fixed_bytes fixed)) y refl (omega (arith, length-drop read (fixed_bytes fixed), here)))
+      (λ y. fixed-run ex penalty fixed read (drop read (fixed_bytes fixed)) y refl
+      (omega (arith, length-drop read (fixed_bytes fixed), here)))
       goes
 
   item-goes : (penalty : Option ℕ) (spot : Spot) → spot.column ≤ 8 * ex.bars → GoesOn ex penalty (behind_item ex spot)
   item-goes penalty spot most =
-      before penalty penalty (behind_item ex spot) (if spot.column == 8 * ex.bars then behind_fixed ex (Feed spot.voice) else Name spot)
+      before penalty penalty (behind_item ex spot)
+      (if spot.column == 8 * ex.bars then behind_fixed ex (Feed spot.voice) else Name spot)
       (behind_text ex.bars spot.column) (λ y. behind-run ex penalty spot y)
       (by (spot.column == 8 * ex.bars) refl)
     where
-      by : (b : Bool) → (spot.column == 8 * ex.bars) ≡ b → GoesOn ex penalty (if b then behind_fixed ex (Feed spot.voice) else Name spot)
+      by : (b : Bool) → (spot.column == 8 * ex.bars) ≡ b
+          → GoesOn ex penalty (if b then behind_fixed ex (Feed spot.voice) else Name spot)
       by true e = feed-goes penalty spot.voice
-      by false e = let other : spot.column ≡ 8 * ex.bars → ⊥ = grind (arith, nat_tests) in name-goes penalty spot (omega (arith, other, most))
+      by false e = let other : spot.column ≡ 8 * ex.bars → ⊥ = grind (arith, nat_tests) in
+          name-goes penalty spot (omega (arith, other, most))
 
   count-goes : (penalty : Option ℕ) (spot : Spot) → IsSpot ex spot → GoesOn ex penalty (Count spot)
   count-goes penalty spot s =
@@ -270,20 +298,25 @@ module _ (ex : Exercise) (p : Pitch) (some : 1 ≤ ex.bars) (few : ex.bars ≤ 2
       (item-goes penalty (record spot { column = spot.column + 1 }) (omega (arith, s)))
 
   called-goes : (penalty : Option ℕ) (spot : Spot) → IsSpot ex spot → GoesOn ex penalty (behind_name spot true)
-  called-goes penalty spot s = fixed-goes penalty (Colon (record spot { sounds = true })) 0 (omega arith) (count-goes penalty (record spot { sounds = true }) s)
+  called-goes penalty spot s = fixed-goes penalty (Colon (record spot { sounds = true })) 0 (omega arith)
+      (count-goes penalty (record spot { sounds = true }) s)
 
-  letter-goes : (penalty : Option ℕ) (spot : Spot) (letter : ℕ) → IsSpot ex spot → IsLetter letter → GoesOn ex penalty (Letter spot letter)
+  letter-goes : (penalty : Option ℕ) (spot : Spot) (letter : ℕ) → IsSpot ex spot → IsLetter letter
+      → GoesOn ex penalty (Letter spot letter)
   letter-goes penalty spot letter s l =
       before penalty penalty (Letter spot letter) (behind_name spot true) (52 ∷ [])
-      (λ y. natural-run ex penalty spot letter 52 y (omega arith) (omega arith) (natural-four letter l.0 l.1)) (called-goes penalty spot s)
+      (λ y. natural-run ex penalty spot letter 52 y (omega arith) (omega arith) (natural-four letter l.0 l.1))
+      (called-goes penalty spot s)
 
-  sign-goes : (penalty : Option ℕ) (spot : Spot) (letter sign : ℕ) → IsSpot ex spot → is_pitch (letter ∷ sign ∷ 52 ∷ []) ≡ true
+  sign-goes : (penalty : Option ℕ) (spot : Spot) (letter sign : ℕ) → IsSpot ex spot → is_pitch (letter ∷ sign ∷ 52 ∷ [])
+      ≡ true
       → GoesOn ex penalty (Sign spot letter sign)
   sign-goes penalty spot letter sign s e =
       before penalty penalty (Sign spot letter sign) (behind_name spot true) (52 ∷ [])
       (λ y. signed-run ex penalty spot letter sign 52 y e) (called-goes penalty spot s)
 
-  either-goes : (penalty : Option ℕ) (spot : Spot) (letter sign : ℕ) → IsSpot ex spot → IsLetter letter → (sign ≡ 35) ⊎ (sign ≡ 98)
+  either-goes : (penalty : Option ℕ) (spot : Spot) (letter sign : ℕ) → IsSpot ex spot → IsLetter letter → (sign ≡ 35)
+      ⊎ (sign ≡ 98)
       → GoesOn ex penalty (Sign spot letter sign)
   either-goes penalty spot letter sign s l (inl e) =
       sign-goes penalty spot letter sign s (ap (λ c. is_pitch (letter ∷ c ∷ 52 ∷ [])) e ∙ sharp-four letter l.0 l.1)
@@ -293,8 +326,10 @@ module _ (ex : Exercise) (p : Pitch) (some : 1 ≤ ex.bars) (few : ex.bars ≤ 2
   digits-go : (penalty : Option ℕ) → GoesOn ex penalty Digits
   digits-go None =
       before None (Some 0) Digits (line_from ex 0) (decimal 0 ++ 10 ∷ [])
-      (λ y. ap (run ex (at None Digits)) (append_assoc (decimal 0) (10 ∷ []) y) ∙ number-run ex 0 (omega arith) y) (line-goes (Some 0) 0 (omega arith))
-  digits-go (Some n) = before (Some n) (Some n) Digits (line_from ex 0) (10 ∷ []) (λ y. refl) (line-goes (Some n) 0 (omega arith))
+      (λ y. ap (run ex (at None Digits)) (append_assoc (decimal 0) (10 ∷ []) y) ∙ number-run ex 0 (omega arith) y)
+      (line-goes (Some 0) 0 (omega arith))
+  digits-go (Some n) =
+      before (Some n) (Some n) Digits (line_from ex 0) (10 ∷ []) (λ y. refl) (line-goes (Some n) 0 (omega arith))
 
   kind-goes : (penalty : Option ℕ) → GoesOn ex penalty Kind
   kind-goes penalty = (codes "none" ++ 10 ∷ claims_text, penalty, refl)
@@ -303,7 +338,8 @@ module _ (ex : Exercise) (p : Pitch) (some : 1 ≤ ex.bars) (few : ex.bars ≤ 2
   behind-goes penalty Opening f = kind-goes penalty
   behind-goes penalty Nothing f = ([], penalty, refl)
   behind-goes penalty Best f = digits-go penalty
-  behind-goes penalty (Sing v) f = name-goes penalty (record { voice = v; column = 0; sounds = false }) (omega (arith, some))
+  behind-goes penalty (Sing v) f =
+      name-goes penalty (record { voice = v; column = 0; sounds = false }) (omega (arith, some))
   behind-goes penalty (Space spot) f = name-goes penalty spot f
   behind-goes penalty (BarLine spot) f = name-goes penalty spot f
   behind-goes penalty (Colon spot) f = count-goes penalty spot f

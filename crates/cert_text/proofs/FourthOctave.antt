@@ -10,7 +10,8 @@ use Rattle.cert_text.specs.Places.{is_pitch}
 abbrev pitch_from : (degree : ℕ) (alter : ℤ) → has_pitch degree alter ≡ true → Pitch
 pitch_from degree alter e = record { degree = degree; alter = alter; is_pitch = IsPitch-from_test degree alter e }
 
-spelled : (degree : ℕ) (alter : ℤ) (e : has_pitch degree alter ≡ true) → is_pitch (name_of (pitch_from degree alter e)) ≡ true
+spelled : (degree : ℕ) (alter : ℤ) (e : has_pitch degree alter ≡ true) → is_pitch (name_of (pitch_from degree alter e))
+    ≡ true
 unfolding is_pitch
 spelled degree alter e = ap is_some (pitch-own (pitch_from degree alter e))
 

@@ -61,12 +61,14 @@ Leads ex penalty o y total =
 
 -- ---- fixed bytes
 
-pub fixed-from : (ex : Exercise) (penalty total : Option ℕ) (fixed : Fixed) (y : List ℕ) (read : ℕ) → read < length (fixed_bytes fixed)
+pub fixed-from : (ex : Exercise) (penalty total : Option ℕ) (fixed : Fixed) (y : List ℕ) (read : ℕ)
+    → read < length (fixed_bytes fixed)
     → Ends ex penalty (Within fixed read) y total
     → (z : List ℕ) × (y ≡ drop read (fixed_bytes fixed) ++ z) × Ends ex penalty (behind_fixed ex fixed) z total
 fixed-from ex penalty total fixed [] read here e = not_done (Some (at penalty (Within fixed read))) total refl e
 fixed-from ex penalty total fixed (b ∷ y) read here e =
-    by (is_expected fixed read b) (read + 1 == length (fixed_bytes fixed)) refl refl (fixed-from ex penalty total fixed y (read + 1)) e
+    by (is_expected fixed read b) (read + 1 == length (fixed_bytes fixed)) refl refl
+    (fixed-from ex penalty total fixed y (read + 1)) e
   where
     bytes : List ℕ
     bytes = fixed_bytes fixed
@@ -82,7 +84,8 @@ fixed-from ex penalty total fixed (b ∷ y) read here e =
     by : (expected last : Bool) → is_expected fixed read b ≡ expected → (read + 1 == length bytes) ≡ last
         → (read + 1 < length bytes → Ends ex penalty (Within fixed (read + 1)) y total
         → (z : List ℕ) × (y ≡ drop (read + 1) bytes ++ z) × Ends ex penalty (behind_fixed ex fixed) z total)
-        → Leads ex penalty (if expected then Some (if last then behind_fixed ex fixed else Within fixed (read + 1)) else None) y total
+        → Leads ex penalty (if expected then Some (if last then behind_fixed ex fixed else Within fixed (read + 1))
+        else None) y total
         → Goal
     by false last f g on h = not_done None total refl h
     by true true f g on h =
@@ -124,7 +127,8 @@ sign-from ex penalty total spot letter sign [] e = not_done (Some (at penalty (S
 sign-from ex penalty total spot letter sign (b ∷ y) e = by (is_pitch (letter ∷ sign ∷ b ∷ [])) refl e
   where
     by : (t : Bool) → is_pitch (letter ∷ sign ∷ b ∷ []) ≡ t
-        → Leads ex penalty (if t then Some (behind_name spot true) else None) y total → NamesPitch ex penalty spot (letter ∷ sign ∷ b ∷ y) total
+        → Leads ex penalty (if t then Some (behind_name spot true) else None) y total
+        → NamesPitch ex penalty spot (letter ∷ sign ∷ b ∷ y) total
     by false f h = not_done None total refl h
     by true f h = let p = pitch-from (letter ∷ sign ∷ b ∷ []) f in (p.0, y, ap (λ t. t ++ y) (sym p.1), h)
 
@@ -134,14 +138,16 @@ letter-from ex penalty total spot letter [] e = not_done (Some (at penalty (Lett
 letter-from ex penalty total spot letter (b ∷ y) e = by ((b == 35) || (b == 98)) (is_pitch (letter ∷ b ∷ [])) refl e
   where
     by : (s t : Bool) → is_pitch (letter ∷ b ∷ []) ≡ t
-        → Leads ex penalty (if s then Some (Sign spot letter b) else (if t then Some (behind_name spot true) else None)) y total
+        → Leads ex penalty (if s then Some (Sign spot letter b) else (if t then Some (behind_name spot true) else None))
+        y total
         → NamesPitch ex penalty spot (letter ∷ b ∷ y) total
     by true t f h = sign-from ex penalty total spot letter b y h
     by false false f h = not_done None total refl h
     by false true f h = let p = pitch-from (letter ∷ b ∷ []) f in (p.0, y, ap (λ t. t ++ y) (sym p.1), h)
 
 -- what an item is called, where it can stand
-record NameFrom (ex : Exercise) (penalty : Option ℕ) (spot : Spot) (before : Cell) (y : List ℕ) (total : Option ℕ) : Type 0 where
+record NameFrom (ex : Exercise) (penalty : Option ℕ) (spot : Spot) (before : Cell) (y : List ℕ)
+    (total : Option ℕ) : Type 0 where
   cell : Cell
   rest : List ℕ
   stands : IsTrue (can_stand spot.column before cell)
@@ -150,7 +156,8 @@ record NameFrom (ex : Exercise) (penalty : Option ℕ) (spot : Spot) (before : C
 
 same_pitch-refl : (p : Pitch) → same_pitch p p ≡ true
 same_pitch-refl p =
-    (Decides-and (p.degree == p.degree) (int_eq p.alter p.alter) (Decides-eqb p.degree p.degree) (Decides-int_eq p.alter p.alter)).1 (refl, refl)
+    (Decides-and (p.degree == p.degree) (int_eq p.alter p.alter) (Decides-eqb p.degree p.degree)
+    (Decides-int_eq p.alter p.alter)).1 (refl, refl)
 
 -- what is held of a cell that sounds
 hold-of : (before : Cell) → sounds before ≡ true → (p : Pitch) × (can_stand 0 before (Hold p) ≡ true)
@@ -158,14 +165,16 @@ hold-of Rest e = absurd (false≢true e)
 hold-of (Hold q) e = (q, same_pitch-refl q)
 hold-of (Start q) e = (q, same_pitch-refl q)
 
-name-from : (ex : Exercise) (penalty total : Option ℕ) (spot : Spot) (before : Cell) (y : List ℕ) → spot.sounds ≡ sounds before
+name-from : (ex : Exercise) (penalty total : Option ℕ) (spot : Spot) (before : Cell) (y : List ℕ) → spot.sounds
+    ≡ sounds before
     → Ends ex penalty (Name spot) y total → NameFrom ex penalty spot before y total
 name-from ex penalty total spot before [] same e = not_done (Some (at penalty (Name spot))) total refl e
 name-from ex penalty total spot before (b ∷ y) same e =
     by ((b == 114) && may_rest spot) ((b == 95) && may_hold spot) (nat_le 65 b && nat_le b 71) refl refl e
   where
     by : (r h l : Bool) → ((b == 114) && may_rest spot) ≡ r → ((b == 95) && may_hold spot) ≡ h
-        → Leads ex penalty (if r then Some (behind_name spot false) else (if h then Some (behind_name spot true) else (if l then Some (Letter spot b) else None))) y total
+        → Leads ex penalty (if r then Some (behind_name spot false)
+        else (if h then Some (behind_name spot true) else (if l then Some (Letter spot b) else None))) y total
         → NameFrom ex penalty spot before (b ∷ y) total
     by true h l f g k =
         let p = and_parts (b == 114) (may_rest spot) f in
@@ -202,14 +211,16 @@ record CountFrom (ex : Exercise) (penalty : Option ℕ) (spot : Spot) (y : List 
   text : y ≡ (48 + count) ∷ rest
   ends : Ends ex penalty (behind_item ex (record spot { column = spot.column + count })) rest total
 
-count-from : (ex : Exercise) (penalty total : Option ℕ) (spot : Spot) (y : List ℕ) → Ends ex penalty (Count spot) y total
+count-from : (ex : Exercise) (penalty total : Option ℕ) (spot : Spot) (y : List ℕ)
+    → Ends ex penalty (Count spot) y total
     → CountFrom ex penalty spot y total
 count-from ex penalty total spot [] e = not_done (Some (at penalty (Count spot))) total refl e
 count-from ex penalty total spot (b ∷ y) e =
     by (nat_lt spot.column 192 && (nat_le 49 b && nat_le (b + spot.column % 8) 56)) refl e
   where
     by : (t : Bool) → (nat_lt spot.column 192 && (nat_le 49 b && nat_le (b + spot.column % 8) 56)) ≡ t
-        → Leads ex penalty (if t then Some (behind_item ex (record spot { column = spot.column + (b - 48) })) else None) y total
+        → Leads ex penalty (if t then Some (behind_item ex (record spot { column = spot.column + (b - 48) })) else None)
+        y total
         → CountFrom ex penalty spot (b ∷ y) total
     by false f h = not_done None total refl h
     by true f h =
@@ -229,13 +240,15 @@ count-from ex penalty total spot (b ∷ y) e =
 
 -- ---- what stands behind an item
 
-behind-from : (ex : Exercise) (penalty total : Option ℕ) (spot : Spot) (y : List ℕ) → Ends ex penalty (behind_item ex spot) y total
+behind-from : (ex : Exercise) (penalty total : Option ℕ) (spot : Spot) (y : List ℕ)
+    → Ends ex penalty (behind_item ex spot) y total
     → (z : List ℕ) × (y ≡ behind_text ex.bars spot.column ++ z)
     × Ends ex penalty (if spot.column == 8 * ex.bars then behind_fixed ex (Feed spot.voice) else Name spot) z total
 behind-from ex penalty total spot y e = by (spot.column == 8 * ex.bars) (spot.column % 8 == 0) e
   where
     by : (full bar : Bool)
-        → Ends ex penalty (if full then Within (Feed spot.voice) 0 else (if bar then Within (BarLine spot) 0 else Within (Space spot) 0)) y total
+        → Ends ex penalty (if full then Within (Feed spot.voice) 0
+        else (if bar then Within (BarLine spot) 0 else Within (Space spot) 0)) y total
         → (z : List ℕ) × (y ≡ (if full then 10 ∷ [] else (if bar then codes " | " else codes " ")) ++ z)
         × Ends ex penalty (if full then behind_fixed ex (Feed spot.voice) else Name spot) z total
     by true bar h = fixed-from ex penalty total (Feed spot.voice) y 0 (omega arith) h
@@ -244,7 +257,8 @@ behind-from ex penalty total spot y e = by (spot.column == 8 * ex.bars) (spot.co
 
 -- ---- items
 
-pub record ItemsFrom (ex : Exercise) (penalty : Option ℕ) (spot : Spot) (before : Cell) (y : List ℕ) (total : Option ℕ) : Type 0 where
+pub record ItemsFrom (ex : Exercise) (penalty : Option ℕ) (spot : Spot) (before : Cell) (y : List ℕ)
+    (total : Option ℕ) : Type 0 where
   pub items : List (Cell × ℕ)
   pub rest : List ℕ
   pub fits : Fits ex.bars spot.column before items
@@ -252,7 +266,8 @@ pub record ItemsFrom (ex : Exercise) (penalty : Option ℕ) (spot : Spot) (befor
   pub ends : Ends ex penalty (behind_fixed ex (Feed spot.voice)) rest total
 
 -- the end of the line, or its other items
-rest-from : (ex : Exercise) (penalty total : Option ℕ) (spot : Spot) (before : Cell) (y : List ℕ) (full : Bool) → spot.column ≤ 8 * ex.bars
+rest-from : (ex : Exercise) (penalty total : Option ℕ) (spot : Spot) (before : Cell) (y : List ℕ) (full : Bool)
+    → spot.column ≤ 8 * ex.bars
     → (spot.column == 8 * ex.bars) ≡ full
     → Ends ex penalty (if full then behind_fixed ex (Feed spot.voice) else Name spot) y total
     → (spot.column < 8 * ex.bars → Ends ex penalty (Name spot) y total → ItemsFrom ex penalty spot before y total)
@@ -275,7 +290,8 @@ items-from (suc fuel) ex penalty total spot before y here enough same e =
     let behind = behind-from ex penalty total next count.rest count.ends in
     let more = rest-from ex penalty total next (held name.cell) behind.0 (next.column == 8 * ex.bars)
     (omega (arith, here, count.within)) refl behind.2
-    (λ within ends. items-from fuel ex penalty total next (held name.cell) behind.0 within (omega (arith, enough, count.some))
+    (λ within ends. items-from fuel ex penalty total next (held name.cell) behind.0 within
+    (omega (arith, enough, count.some))
     (sym (held-sounds name.cell)) ends) in
     let mid = behind_text ex.bars next.column in
     let tail = items_text ex.bars next.column more.items in

@@ -48,7 +48,8 @@ letter-run ex penalty spot letter y least most =
     let high : nat_le letter 71 ≡ true = grind (arith, nat_tests) in
     rw (r, h, low, high) refl
 
-pub natural-run : (ex : Exercise) (penalty : Option ℕ) (spot : Spot) (letter digit : ℕ) (y : List ℕ) → 48 ≤ digit → digit ≤ 57
+pub natural-run : (ex : Exercise) (penalty : Option ℕ) (spot : Spot) (letter digit : ℕ) (y : List ℕ) → 48 ≤ digit
+    → digit ≤ 57
     → is_pitch (letter ∷ digit ∷ []) ≡ true
     → run ex (at penalty (Letter spot letter)) (digit ∷ y) ≡ run ex (at penalty (behind_name spot true)) y
 natural-run ex penalty spot letter digit y least most named =
@@ -64,7 +65,8 @@ signed-run ex penalty spot letter sign digit y named = rw named refl
 spelled-run : (ex : Exercise) (penalty : Option ℕ) (spot : Spot) (letter : ℕ) (alter : ℤ) (digit : ℕ) (y : List ℕ)
     → 65 ≤ letter → letter ≤ 71 → 48 ≤ digit → digit ≤ 57 → negsuc 0 ≤ℤ alter → alter ≤ℤ pos 1
     → is_pitch (letter ∷ accidental alter ++ digit ∷ []) ≡ true
-    → run ex (at penalty (Name spot)) ((letter ∷ accidental alter ++ digit ∷ []) ++ y) ≡ run ex (at penalty (behind_name spot true)) y
+    → run ex (at penalty (Name spot)) ((letter ∷ accidental alter ++ digit ∷ []) ++ y)
+    ≡ run ex (at penalty (behind_name spot true)) y
 spelled-run ex penalty spot letter (pos zero) digit y l h d e low high named =
     letter-run ex penalty spot letter (digit ∷ y) l h ∙ natural-run ex penalty spot letter digit y d e named
 spelled-run ex penalty spot letter (pos (suc zero)) digit y l h d e low high named =
@@ -84,7 +86,8 @@ unfolding name_of
 pitch-run ex penalty spot p y =
     let octaves = octave-range p in
     let letters = letter-range (degree_of p % 7) (omega arith) in
-    spelled-run ex penalty spot (letter_byte (degree_of p % 7)) (alter_of p) (48 + degree_of p / 7) y letters.0 letters.1
+    spelled-run ex penalty spot (letter_byte (degree_of p % 7)) (alter_of p) (48 + degree_of p / 7) y letters.0
+    letters.1
     (omega arith) (omega (arith, octaves)) p.is_pitch.flat p.is_pitch.sharp (own_is_pitch p)
 
 -- ---- items
@@ -94,7 +97,8 @@ sounds-follows Rest p e = e
 sounds-follows (Hold q) p e = refl
 sounds-follows (Start q) p e = refl
 
-name-run : (ex : Exercise) (penalty : Option ℕ) (spot : Spot) (before c : Cell) (y : List ℕ) → spot.sounds ≡ sounds before
+name-run : (ex : Exercise) (penalty : Option ℕ) (spot : Spot) (before c : Cell) (y : List ℕ) → spot.sounds
+    ≡ sounds before
     → IsTrue (can_stand spot.column before c)
     → run ex (at penalty (Name spot)) (item_name c ++ y) ≡ run ex (at penalty (behind_name spot (sounds c))) y
 name-run ex penalty spot before Rest y same stands =
@@ -115,7 +119,8 @@ count-run ex penalty spot n y few some within =
     let least : nat_le 49 (48 + n) ≡ true = grind (arith, nat_tests) in
     let most : nat_le (48 + n + spot.column % 8) 56 ≡ true = grind (arith, nat_tests) in
     let digit : 48 + n - 48 ≡ n = omega arith in
-    rw (column, least, most) (ap (λ k. run ex (at penalty (behind_item ex (record spot { column = spot.column + k }))) y) digit)
+    rw (column, least, most) (ap (λ k. run ex (at penalty (behind_item ex (record spot { column = spot.column + k })))
+    y) digit)
 
 -- behind an item the line ends, or another one follows
 pub behind-run : (ex : Exercise) (penalty : Option ℕ) (spot : Spot) (y : List ℕ)
@@ -124,7 +129,8 @@ pub behind-run : (ex : Exercise) (penalty : Option ℕ) (spot : Spot) (y : List 
 behind-run ex penalty spot y = by (spot.column == 8 * ex.bars) (spot.column % 8 == 0)
   where
     by : (e f : Bool)
-        → run ex (at penalty (if e then Within (Feed spot.voice) 0 else (if f then Within (BarLine spot) 0 else Within (Space spot) 0)))
+        → run ex (at penalty (if e then Within (Feed spot.voice) 0
+        else (if f then Within (BarLine spot) 0 else Within (Space spot) 0)))
         ((if e then 10 ∷ [] else (if f then codes " | " else codes " ")) ++ y)
         ≡ run ex (at penalty (if e then behind_fixed ex (Feed spot.voice) else Name spot)) y
     by true f = refl
@@ -137,10 +143,13 @@ held-sounds (Hold p) = refl
 held-sounds (Start p) = refl
 
 -- the end of a line, or the items that are left
-line-ends : (ex : Exercise) (penalty : Option ℕ) (spot : Spot) (before : Cell) (items : List (Cell × ℕ)) (y : List ℕ) (b : Bool)
+line-ends : (ex : Exercise) (penalty : Option ℕ) (spot : Spot) (before : Cell) (items : List (Cell × ℕ)) (y : List ℕ)
+    (b : Bool)
     → (spot.column == 8 * ex.bars) ≡ b → Fits ex.bars spot.column before items
-    → (spot.column < 8 * ex.bars → run ex (at penalty (Name spot)) (items_text ex.bars spot.column items ++ y) ≡ run ex (at penalty (behind_fixed ex (Feed spot.voice))) y)
-    → run ex (at penalty (if b then behind_fixed ex (Feed spot.voice) else Name spot)) (items_text ex.bars spot.column items ++ y)
+    → (spot.column < 8 * ex.bars → run ex (at penalty (Name spot)) (items_text ex.bars spot.column items ++ y)
+    ≡ run ex (at penalty (behind_fixed ex (Feed spot.voice))) y)
+    → run ex (at penalty (if b then behind_fixed ex (Feed spot.voice) else Name spot))
+    (items_text ex.bars spot.column items ++ y)
     ≡ run ex (at penalty (behind_fixed ex (Feed spot.voice))) y
 line-ends ex penalty spot before [] y true e f rest = refl
 line-ends ex penalty spot before (item ∷ items) y true e f rest =
@@ -153,9 +162,11 @@ line-ends ex penalty spot before items y false e f rest =
     rest (omega (arith, other, within))
 
 -- the items that are left of a line are read to its end
-pub items-run : (ex : Exercise) (penalty : Option ℕ) (spot : Spot) (before : Cell) (items : List (Cell × ℕ)) (y : List ℕ)
+pub items-run : (ex : Exercise) (penalty : Option ℕ) (spot : Spot) (before : Cell) (items : List (Cell × ℕ))
+    (y : List ℕ)
     → ex.bars ≤ 24 → spot.sounds ≡ sounds before → spot.column < 8 * ex.bars → Fits ex.bars spot.column before items
-    → run ex (at penalty (Name spot)) (items_text ex.bars spot.column items ++ y) ≡ run ex (at penalty (behind_fixed ex (Feed spot.voice))) y
+    → run ex (at penalty (Name spot)) (items_text ex.bars spot.column items ++ y)
+    ≡ run ex (at penalty (behind_fixed ex (Feed spot.voice))) y
 items-run ex penalty spot before [] y few same here f = absurd (omega (arith, f, here))
 items-run ex penalty spot before (item ∷ items) y few same here f =
     let c = item.0 in

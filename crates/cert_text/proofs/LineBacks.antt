@@ -31,7 +31,8 @@ sample p (suc n) = (Start p, 1) ∷ sample p n
 
 pub sample-fits : (bars : ℕ) (p : Pitch) (n i : ℕ) (before : Cell) → i + n ≡ 8 * bars → Fits bars i before (sample p n)
 sample-fits bars p zero i before e = omega (arith, e)
-sample-fits bars p (suc n) i before e = (refl, omega arith, omega arith, sample-fits bars p n (i + 1) _ (omega (arith, e)))
+sample-fits bars p (suc n) i before e =
+    (refl, omega arith, omega arith, sample-fits bars p n (i + 1) _ (omega (arith, e)))
 
 -- ---- lines
 
@@ -64,7 +65,8 @@ with_line-later ex v items sung (suc count) a later =
     vs = free_of ex (a + 1) count
 
     by : (b : Bool) → lines_text ex (with_line v items sung) vs ≡ lines_text ex sung vs
-        → lines_text ex (with_line v items sung) (if not b then a ∷ vs else vs) ≡ lines_text ex sung (if not b then a ∷ vs else vs)
+        → lines_text ex (with_line v items sung) (if not b then a ∷ vs else vs)
+        ≡ lines_text ex sung (if not b then a ∷ vs else vs)
     by true rest = rest
     by false rest =
         ap (λ own. line_text ex a own ++ lines_text ex (with_line v items sung) vs) other
@@ -77,8 +79,10 @@ pub record LinesFrom (ex : Exercise) (penalty : Option ℕ) (v count : ℕ) (y :
   pub text : y ≡ lines_text ex sung (free_of ex v count) ++ claims_text
   pub same : penalty ≡ total
 
-whole-from : (ex : Exercise) (penalty total : Option ℕ) (y : List ℕ) → Ends ex penalty Whole y total → (y ≡ []) × (penalty ≡ total)
-whole-from ex penalty total [] e = let same : at penalty Whole ≡ at total Whole = cc in (refl, ap (λ (p : Part). p.penalty) same)
+whole-from : (ex : Exercise) (penalty total : Option ℕ) (y : List ℕ) → Ends ex penalty Whole y total → (y ≡ [])
+    × (penalty ≡ total)
+whole-from ex penalty total [] e =
+    let same : at penalty Whole ≡ at total Whole = cc in (refl, ap (λ (p : Part). p.penalty) same)
 whole-from ex penalty total (b ∷ y) e = not_done None total refl e
 
 pub claims-from : (ex : Exercise) (penalty total : Option ℕ) (y : List ℕ) → Ends ex penalty (Within Claims 0) y total
@@ -113,13 +117,16 @@ lines-from ex penalty total p some (suc count) v y all e =
           sung = lines.sung;
           fits = lines.fits;
           text =
-              lines.text ∙ ap (λ (b : Bool). lines_text ex lines.sung (if not b then v ∷ free_of ex (v + 1) count else free_of ex (v + 1) count) ++ claims_text) (sym f);
+              lines.text ∙ ap (λ (b : Bool). lines_text ex lines.sung
+              (if not b then v ∷ free_of ex (v + 1) count else free_of ex (v + 1) count) ++ claims_text) (sym f);
           same = lines.same;
         }
     by false f later =
         let place : line_from ex v ≡ Within (Sing v) 0 = has-line ex v (omega (arith, all)) f in
-        let head = fixed-from ex penalty total (Sing v) y 0 (sing-long v) (subst (λ place. Ends ex penalty place y total) place e) in
-        let items = items-from (8 * ex.bars) ex penalty total (record { voice = v; column = 0; sounds = false }) Rest head.0
+        let head = fixed-from ex penalty total (Sing v) y 0 (sing-long v)
+        (subst (λ place. Ends ex penalty place y total) place e) in
+        let items = items-from (8 * ex.bars) ex penalty total (record { voice = v; column = 0; sounds = false }) Rest
+        head.0
         (omega (arith, some)) (omega arith) refl head.2 in
         let inside : nat_lt v ex.voices ≡ true = grind (arith, nat_tests) in
         let next : behind_fixed ex (Feed v) ≡ line_from ex (v + 1) = rw inside refl in
@@ -130,13 +137,15 @@ lines-from ex penalty total p some (suc count) v y all e =
           sung = with_line v items.items lines.sung;
           fits = with_line-fits ex.bars v items.items lines.sung items.fits lines.fits;
           text =
-              head.1 ∙ ap (λ t. sing_bytes v ++ t) (items.text ∙ ap (λ t. items_text ex.bars 0 items.items ++ t) lines.text)
+              head.1 ∙ ap (λ t. sing_bytes v ++ t)
+              (items.text ∙ ap (λ t. items_text ex.bars 0 items.items ++ t) lines.text)
               ∙ sym (append_assoc (line_text ex v items.items) after claims_text
               ∙ append_assoc (sing_bytes v) (items_text ex.bars 0 items.items) (after ++ claims_text))
               ∙ ap (λ t. (line_text ex v t ++ after) ++ claims_text) (sym own)
               ∙ ap (λ t. (line_text ex v (with_line v items.items lines.sung v) ++ t) ++ claims_text)
               (sym (with_line-later ex v items.items lines.sung count (v + 1) (omega arith)))
-              ∙ ap (λ (b : Bool). lines_text ex (with_line v items.items lines.sung) (if not b then v ∷ free_of ex (v + 1) count else free_of ex (v + 1) count) ++ claims_text) (sym f);
+              ∙ ap (λ (b : Bool). lines_text ex (with_line v items.items lines.sung)
+              (if not b then v ∷ free_of ex (v + 1) count else free_of ex (v + 1) count) ++ claims_text) (sym f);
           same = lines.same;
         }
 
@@ -157,9 +166,14 @@ more-from ex total (b ∷ y) n fits e =
     by (b == 10) (is_digit b && (not (n == 0) && nat_lt (10 * n + (b - 48)) (2 ^ 64))) refl refl
     (more-from ex total y (10 * n + (b - 48))) e
   where
-    by : (feed digit : Bool) → (b == 10) ≡ feed → (is_digit b && (not (n == 0) && nat_lt (10 * n + (b - 48)) (2 ^ 64))) ≡ digit
-        → (10 * n + (b - 48) < 2 ^ 64 → Ends ex (Some (10 * n + (b - 48))) Digits y total → NumberFrom ex (decimal (10 * n + (b - 48))) y total)
-        → option_and_then (λ next. run ex next y) (if feed && true then Some (at (Some n) (line_from ex 0)) else option_map (λ longer. at (Some longer) Digits) (if digit then Some (10 * n + (b - 48)) else None)) ≡ Some (at total Whole)
+    by : (feed digit : Bool) → (b == 10) ≡ feed → (is_digit b && (not (n == 0) && nat_lt (10 * n + (b - 48)) (2 ^ 64)))
+        ≡ digit
+        → (10 * n + (b - 48) < 2 ^ 64 → Ends ex (Some (10 * n + (b - 48))) Digits y total
+        → NumberFrom ex (decimal (10 * n + (b - 48))) y total)
+        → option_and_then (λ next. run ex next y)
+        (if feed && true then Some (at (Some n) (line_from ex 0))
+        else option_map (λ longer. at (Some longer) Digits) (if digit then Some (10 * n + (b - 48)) else None))
+        ≡ Some (at total Whole)
         → NumberFrom ex (decimal n) (b ∷ y) total
     by true digit f g on h =
         record { number = n; rest = y; fits = fits; text = ap (λ c. decimal n ++ c ∷ y) (eqb-true b 10 f); ends = h }
@@ -186,7 +200,8 @@ more-from ex total (b ∷ y) n fits e =
           ends = more.ends;
         }
 
-pub number-from : (ex : Exercise) (total : Option ℕ) (y : List ℕ) → Ends ex None Digits y total → NumberFrom ex [] y total
+pub number-from : (ex : Exercise) (total : Option ℕ) (y : List ℕ) → Ends ex None Digits y total
+    → NumberFrom ex [] y total
 number-from ex total [] e = not_done (Some (at None Digits)) total refl e
 number-from ex total (b ∷ y) e = by (b == 10) (is_digit b) refl e
   where
@@ -207,7 +222,10 @@ number-from ex total (b ∷ y) e = by (b == 10) (is_digit b) refl e
         }
 
     by : (feed digit : Bool) → is_digit b ≡ digit
-        → option_and_then (λ next. run ex next y) (if feed && false then Some (at None (line_from ex 0)) else option_map (λ longer. at (Some longer) Digits) (if digit then Some (b - 48) else None)) ≡ Some (at total Whole)
+        → option_and_then (λ next. run ex next y)
+        (if feed && false then Some (at None (line_from ex 0))
+        else option_map (λ longer. at (Some longer) Digits) (if digit then Some (b - 48) else None))
+        ≡ Some (at total Whole)
         → NumberFrom ex [] (b ∷ y) total
     by true false g h = not_done None total refl h
     by false false g h = not_done None total refl h
@@ -223,7 +241,8 @@ pub record BestFrom (ex : Exercise) (y : List ℕ) (total : Option ℕ) : Type 0
   pub same : Some penalty ≡ total
   pub sung : ℕ → List (Cell × ℕ)
   pub lines : (w : ℕ) → Fits ex.bars 0 Rest (sung w)
-  pub text : y ≡ opening_text ++ (codes "best " ++ (decimal penalty ++ 10 ∷ (lines_text ex sung (free_of ex 0 ex.voices) ++ claims_text)))
+  pub text : y ≡ opening_text ++ (codes "best "
+      ++ (decimal penalty ++ 10 ∷ (lines_text ex sung (free_of ex 0 ex.voices) ++ claims_text)))
 
 kind-from : (ex : Exercise) (total : Option ℕ) (p : Pitch) → 1 ≤ ex.bars → (y : List ℕ) → Ends ex None Kind y total
     → ((y ≡ codes "none" ++ 10 ∷ claims_text) × (None ≡ total)) ⊎ BestFrom ex (opening_text ++ y) total
@@ -231,7 +250,8 @@ kind-from ex total p some [] e = not_done (Some (at None Kind)) total refl e
 kind-from ex total p some (b ∷ y) e = by (b == 98) (b == 110) refl refl e
   where
     by : (best none : Bool) → (b == 98) ≡ best → (b == 110) ≡ none
-        → Leads ex None (if best then Some (Within Best 0) else (if none then Some (Within Nothing 0) else None)) y total
+        → Leads ex None (if best then Some (Within Best 0) else (if none then Some (Within Nothing 0) else None)) y
+        total
         → ((b ∷ y ≡ codes "none" ++ 10 ∷ claims_text) × (None ≡ total)) ⊎ BestFrom ex (opening_text ++ b ∷ y) total
     by true none f g h =
         let word = fixed-from ex None total Best y 0 (omega arith) h in
@@ -266,7 +286,8 @@ head-from ex total p some y e =
     ⊎-cases opening (kind-from ex total p some opening.0 opening.2)
   where
     ⊎-cases : (opening : (z : List ℕ) × (y ≡ opening_text ++ z) × Ends ex None Kind z total)
-        → ((opening.0 ≡ codes "none" ++ 10 ∷ claims_text) × (None ≡ total)) ⊎ BestFrom ex (opening_text ++ opening.0) total
+        → ((opening.0 ≡ codes "none" ++ 10 ∷ claims_text) × (None ≡ total))
+        ⊎ BestFrom ex (opening_text ++ opening.0) total
         → ((y ≡ nothing_text) × (None ≡ total)) ⊎ BestFrom ex y total
     ⊎-cases opening (inl (none, same)) = inl (opening.1 ∙ ap (λ t. opening_text ++ t) none, same)
     ⊎-cases opening (inr best) = inr (subst (λ t. BestFrom ex t total) (sym opening.1) best)

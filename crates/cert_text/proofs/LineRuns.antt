@@ -22,7 +22,8 @@ use Rattle.cert_text.proofs.RunLemmas.{at, fixed-run}
 pub sing-long : (v : ℕ) → 0 < length (sing_bytes v)
 sing-long v = by (v == 0) (v == 1) (v == 2)
   where
-    by : (a b c : Bool) → 0 < length (if a then codes "sing 0 " else (if b then codes "sing 1 " else (if c then codes "sing 2 " else codes "sing 3 ")))
+    by : (a b c : Bool) → 0 < length (if a then codes "sing 0 "
+        else (if b then codes "sing 1 " else (if c then codes "sing 2 " else codes "sing 3 ")))
     by true b c = omega arith
     by false true c = omega arith
     by false false true = omega arith
@@ -34,7 +35,8 @@ sing-run : (ex : Exercise) (penalty : Option ℕ) (v : ℕ) (y : List ℕ)
 sing-run ex penalty v y = fixed-run ex penalty (Sing v) 0 (sing_bytes v) y refl (sing-long v)
 
 -- the cantus has no line
-pub skips-cantus : (ex : Exercise) (v : ℕ) → v < ex.voices → (v == ex.cantus_voice) ≡ true → line_from ex v ≡ line_from ex (v + 1)
+pub skips-cantus : (ex : Exercise) (v : ℕ) → v < ex.voices → (v == ex.cantus_voice) ≡ true → line_from ex v
+    ≡ line_from ex (v + 1)
 skips-cantus ex v here e =
     let inside : nat_le ex.voices v ≡ false = grind (arith, nat_tests) in
     let other : (v + 1 == ex.cantus_voice) ≡ false = grind (arith, nat_tests) in
@@ -42,10 +44,13 @@ skips-cantus ex v here e =
   where
     by : (b : Bool) → nat_lt (v + 1) ex.voices ≡ b → nat_le ex.voices v ≡ false → (v + 1 == ex.cantus_voice) ≡ false
         → line_from ex v ≡ line_from ex (v + 1)
-    by true f inside other = let more : nat_le ex.voices (v + 1) ≡ false = grind (arith, nat_tests) in rw (inside, e, f, more, other) (rw f refl)
-    by false f inside other = let past : nat_le ex.voices (v + 1) ≡ true = grind (arith, nat_tests) in rw (inside, e, f, past) refl
+    by true f inside other = let more : nat_le ex.voices (v + 1) ≡ false = grind (arith, nat_tests) in
+        rw (inside, e, f, more, other) (rw f refl)
+    by false f inside other =
+        let past : nat_le ex.voices (v + 1) ≡ true = grind (arith, nat_tests) in rw (inside, e, f, past) refl
 
-pub has-line : (ex : Exercise) (v : ℕ) → v < ex.voices → (v == ex.cantus_voice) ≡ false → line_from ex v ≡ Within (Sing v) 0
+pub has-line : (ex : Exercise) (v : ℕ) → v < ex.voices → (v == ex.cantus_voice) ≡ false → line_from ex v
+    ≡ Within (Sing v) 0
 has-line ex v here e =
     let inside : nat_le ex.voices v ≡ false = grind (arith, nat_tests) in
     let below : nat_lt v ex.voices ≡ true = grind (arith, nat_tests) in
@@ -54,7 +59,8 @@ has-line ex v here e =
 -- the lines that are left, and the last line
 pub lines-run : (ex : Exercise) (penalty : Option ℕ) (sung : ℕ → List (Cell × ℕ)) → 1 ≤ ex.bars → ex.bars ≤ 24
     → ((v : ℕ) → Fits ex.bars 0 Rest (sung v)) → (count v : ℕ) → v + count ≡ ex.voices
-    → run ex (at penalty (line_from ex v)) (lines_text ex sung (free_of ex v count) ++ claims_text) ≡ Some (at penalty Whole)
+    → run ex (at penalty (line_from ex v)) (lines_text ex sung (free_of ex v count) ++ claims_text)
+    ≡ Some (at penalty Whole)
 lines-run ex penalty sung some few fits zero v all =
     let past : nat_le ex.voices v ≡ true = grind (arith, nat_tests) in rw past refl
 lines-run ex penalty sung some few fits (suc count) v all =
@@ -65,7 +71,8 @@ lines-run ex penalty sung some few fits (suc count) v all =
 
     by : (b : Bool) → (v == ex.cantus_voice) ≡ b
         → run ex (at penalty (line_from ex (v + 1))) (later ++ claims_text) ≡ Some (at penalty Whole)
-        → run ex (at penalty (line_from ex v)) (lines_text ex sung (free_of ex v (suc count)) ++ claims_text) ≡ Some (at penalty Whole)
+        → run ex (at penalty (line_from ex v)) (lines_text ex sung (free_of ex v (suc count)) ++ claims_text)
+        ≡ Some (at penalty Whole)
     by true e rest =
         let skip : line_from ex v ≡ line_from ex (v + 1) = skips-cantus ex v (omega (arith, all)) e in
         rw (skip, e) rest
@@ -77,7 +84,8 @@ lines-run ex penalty sung some few fits (suc count) v all =
         (append_assoc (line_text ex v (sung v)) later claims_text
         ∙ append_assoc (sing_bytes v) (items_text ex.bars 0 (sung v)) (later ++ claims_text))
         ∙ sing-run ex penalty v (items_text ex.bars 0 (sung v) ++ (later ++ claims_text))
-        ∙ items-run ex penalty (record { voice = v; column = 0; sounds = false }) Rest (sung v) (later ++ claims_text) few refl (omega (arith, some)) (fits v)
+        ∙ items-run ex penalty (record { voice = v; column = 0; sounds = false }) Rest (sung v) (later ++ claims_text)
+        few refl (omega (arith, some)) (fits v)
         ∙ rw inside rest)
 
 -- ---- the penalty
@@ -93,7 +101,8 @@ one-digit ex n small fits y =
     let value : 48 + n - 48 ≡ n = omega arith in
     rw (feed, digit) (ap (λ k. run ex (at (Some k) Digits) y) value)
 
-more-digits : (ex : Exercise) (n : ℕ) (ds : List ℕ) → 10 ≤ n → ReadsNumber ex (n / 10) ds → ReadsNumber ex n (ds ++ (48 + n % 10) ∷ [])
+more-digits : (ex : Exercise) (n : ℕ) (ds : List ℕ) → 10 ≤ n → ReadsNumber ex (n / 10) ds
+    → ReadsNumber ex n (ds ++ (48 + n % 10) ∷ [])
 more-digits ex n ds large before fits y =
     let digit : is_digit (48 + n % 10) ≡ true = grind (arith, nat_tests) in
     let feed : (48 + n % 10 == 10) ≡ false = grind (arith, nat_tests) in
@@ -111,9 +120,11 @@ number-run ex n fits y =
 
 -- ---- heads
 
-pub nothing-run : (ex : Exercise) → run ex first_part (opening_text ++ codes "none" ++ 10 ∷ claims_text) ≡ Some (at None Whole)
+pub nothing-run : (ex : Exercise) → run ex first_part (opening_text ++ codes "none" ++ 10 ∷ claims_text)
+    ≡ Some (at None Whole)
 nothing-run ex = refl
 
 pub best-run : (ex : Exercise) (penalty : ℕ) (y : List ℕ) → penalty < 2 ^ 64
-    → run ex first_part (opening_text ++ codes "best " ++ decimal penalty ++ 10 ∷ y) ≡ run ex (at (Some penalty) (line_from ex 0)) y
+    → run ex first_part (opening_text ++ codes "best " ++ decimal penalty ++ 10 ∷ y)
+    ≡ run ex (at (Some penalty) (line_from ex 0)) y
 best-run ex penalty y fits = number-run ex penalty fits y

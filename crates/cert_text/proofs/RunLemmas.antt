@@ -12,8 +12,10 @@ use Rattle.cert_text.specs.declared.place.Part.{Part}
 use Rattle.cert_text.specs.HeadRuns.{run}
 use Rattle.cert_text.specs.Places.{behind_fixed, fixed_bytes, part_after}
 
-on_option : (ex : Exercise) (xs ys : List ℕ) → ((p : Part) → run ex p (xs ++ ys) ≡ option_and_then (λ q. run ex q ys) (run ex p xs))
-    → (o : Option Part) → option_and_then (λ q. run ex q (xs ++ ys)) o ≡ option_and_then (λ q. run ex q ys) (option_and_then (λ q. run ex q xs) o)
+on_option : (ex : Exercise) (xs ys : List ℕ)
+    → ((p : Part) → run ex p (xs ++ ys) ≡ option_and_then (λ q. run ex q ys) (run ex p xs))
+    → (o : Option Part) → option_and_then (λ q. run ex q (xs ++ ys)) o
+    ≡ option_and_then (λ q. run ex q ys) (option_and_then (λ q. run ex q xs) o)
 on_option ex xs ys rest None = refl
 on_option ex xs ys rest (Some p) = rest p
 
@@ -31,7 +33,8 @@ one None ex = refl
 one (Some q) ex = refl
 
 -- one more byte of a list
-pub run-more : (ex : Exercise) (p q : Part) (bytes : List ℕ) (i : ℕ) → i < length bytes → run ex p (take i bytes) ≡ Some q
+pub run-more : (ex : Exercise) (p q : Part) (bytes : List ℕ) (i : ℕ) → i < length bytes → run ex p (take i bytes)
+    ≡ Some q
     → run ex p (take (i + 1) bytes) ≡ part_after ex q (get_or bytes i 0)
 run-more ex p q bytes i here e =
     ap (λ t. run ex p t) (take_more bytes i 0 here)
@@ -69,13 +72,16 @@ fixed-run ex penalty fixed read (b ∷ left) y e some =
     same = let h = first in let byte : get_or bytes read 0 ≡ b = cc in eq-eqb (slice_index bytes read) b byte
 
     by : (ls : List ℕ) → drop (read + 1) bytes ≡ ls
-        → (0 < length ls → run ex (at penalty (Within fixed (read + 1))) (ls ++ y) ≡ run ex (at penalty (behind_fixed ex fixed)) y)
+        → (0 < length ls → run ex (at penalty (Within fixed (read + 1))) (ls ++ y)
+        ≡ run ex (at penalty (behind_fixed ex fixed)) y)
         → run ex (at penalty (Within fixed read)) (b ∷ ls ++ y) ≡ run ex (at penalty (behind_fixed ex fixed)) y
     by [] f on =
         let n = ap length f in
-        let last : (read + 1 == length bytes) ≡ true = eq-eqb (read + 1) (length bytes) (omega (arith, length-drop (read + 1) bytes, n, long)) in
+        let last : (read + 1 == length bytes)
+        ≡ true = eq-eqb (read + 1) (length bytes) (omega (arith, length-drop (read + 1) bytes, n, long)) in
         rw (here, same, last) refl
     by (c ∷ ls) f on =
         let n = ap length f in
-        let more : (read + 1 == length bytes) ≡ false = ne_eqb (read + 1) (length bytes) (λ eq. omega (arith, length-drop (read + 1) bytes, n, eq)) in
+        let more : (read + 1 == length bytes)
+        ≡ false = ne_eqb (read + 1) (length bytes) (λ eq. omega (arith, length-drop (read + 1) bytes, n, eq)) in
         rw (here, same, more) (on (omega arith))

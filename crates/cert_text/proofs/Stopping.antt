@@ -28,7 +28,8 @@ text-runs ex bytes (Some penalty) valid best =
     let lines = best.canonical in
     ap (run ex first_part) (best.text ∙ ap (best_text penalty) lines.text)
     ∙ best-run ex penalty (lines_text ex lines.sung (free_voices ex) ++ claims_text) best.below
-    ∙ lines-run ex (Some penalty) lines.sung (omega (arith, valid.fewest_bars)) valid.most_bars lines.fits ex.voices 0 (omega arith)
+    ∙ lines-run ex (Some penalty) lines.sung (omega (arith, valid.fewest_bars)) valid.most_bars lines.fits ex.voices 0
+    (omega arith)
 
 first_of : (ps : List Pitch) → 1 ≤ length ps → Pitch
 first_of [] h = absurd (omega (arith, h))
@@ -71,7 +72,8 @@ no_more ex bytes rest n m q h none e =
     absurd (grind (arith, same))
 
 -- nothing stands behind a whole head
-whole_ends : (ex : Exercise) (penalty : Option ℕ) (more : List ℕ) (q : Part) → run ex (at penalty Whole) more ≡ Some q → q.place ≡ Whole
+whole_ends : (ex : Exercise) (penalty : Option ℕ) (more : List ℕ) (q : Part) → run ex (at penalty Whole) more ≡ Some q
+    → q.place ≡ Whole
 whole_ends ex penalty [] q e = let same : at penalty Whole ≡ q = cc in ap (λ (p : Part). p.place) (sym same)
 whole_ends ex penalty (b ∷ more) q e = absurd (grind (arith, e))
 
@@ -80,7 +82,8 @@ pub stops-from : (ex : Exercise) (bytes : List ℕ) (n : ℕ) → IsValid ex →
 stops-from ex bytes n valid stop =
     let some : 1 ≤ ex.bars = omega (arith, valid.fewest_bars) in
     let kept : IfSome (Some stop.part) (IsPart ex) =
-    subst (λ o. IfSome o (IsPart ex)) stop.reached (run-keeps ex first_part (take n bytes) some ((omega arith, tt), tt)) in
+    subst (λ o. IfSome o (IsPart ex)) stop.reached (run-keeps ex first_part (take n bytes) some ((omega arith, tt), tt))
+    in
     let goes = goes-on ex (some_pitch ex valid) some valid.most_bars stop.part.penalty stop.part.place kept.0 in
     record {
       within = stop.within;
@@ -93,7 +96,8 @@ stops-from ex bytes n valid stop =
       };
       longest = λ m within begins. ⊎_elim
           (λ more. absurd (no_more ex bytes begins.rest (n + 1) m (at begins.penalty Whole) (omega (arith, more))
-          (stop.ends (omega (arith, more, within))) (text-runs ex (take m bytes ++ begins.rest) begins.penalty valid begins.whole)))
+          (stop.ends (omega (arith, more, within)))
+          (text-runs ex (take m bytes ++ begins.rest) begins.penalty valid begins.whole)))
           (λ h. h) (cases_lt n m);
       unfinished = λ m penalty within text.
           let runs = text-runs ex (take m bytes) penalty valid text in
@@ -114,7 +118,8 @@ front penalty = opening_text ++ (codes "best " ++ (decimal penalty ++ 10 ∷ [])
 
 best-parts : (penalty : ℕ) (lines : List ℕ) → best_text penalty lines ≡ front penalty ++ (lines ++ claims_text)
 best-parts penalty lines =
-    ap (λ t. opening_text ++ (codes "best " ++ t)) (sym (append_assoc (decimal penalty) (10 ∷ []) (lines ++ claims_text)))
+    ap (λ t. opening_text ++ (codes "best " ++ t))
+    (sym (append_assoc (decimal penalty) (10 ∷ []) (lines ++ claims_text)))
 
 front-length : (penalty : ℕ) → length (front penalty) ≡ 17 + length (decimal penalty)
 front-length penalty = let two = length-append (decimal penalty) (10 ∷ []) in omega (arith, two)
@@ -124,7 +129,8 @@ pub record LinesAt (bytes : List ℕ) (used digits : ℕ) (lines : List ℕ) : T
   pub first : 17 + digits + 7 ≤ used
   pub slice : take (used - 7 - (17 + digits)) (drop (17 + digits) bytes) ≡ lines
 
-pub lines-at : (bytes : List ℕ) (used penalty digits : ℕ) (lines : List ℕ) → used ≤ length bytes → digits ≡ length (decimal penalty)
+pub lines-at : (bytes : List ℕ) (used penalty digits : ℕ) (lines : List ℕ) → used ≤ length bytes → digits
+    ≡ length (decimal penalty)
     → take used bytes ≡ best_text penalty lines → LinesAt bytes used digits lines
 lines-at bytes used penalty digits lines within counted text =
     let total : used ≡ length (best_text penalty lines) = sym (length-take-le used bytes within) ∙ ap length text in
@@ -143,7 +149,8 @@ lines-at bytes used penalty digits lines within counted text =
       slice =
           ap (λ k. take (used - 7 - (17 + digits)) (drop k bytes)) at_front
           ∙ ap (λ t. take (used - 7 - (17 + digits)) (drop (length (front penalty)) t)) whole
-          ∙ ap (take (used - 7 - (17 + digits))) (drop-append_seam (front penalty) (lines ++ (claims_text ++ drop used bytes)))
+          ∙ ap (take (used - 7 - (17 + digits)))
+          (drop-append_seam (front penalty) (lines ++ (claims_text ++ drop used bytes)))
           ∙ ap (λ k. take k (lines ++ (claims_text ++ drop used bytes))) count
           ∙ take-append_seam lines (claims_text ++ drop used bytes);
     }
@@ -163,21 +170,28 @@ after_whole ex penalty (b ∷ more) total some e = absurd (grind (arith, e))
 
 -- a head doesn't go on behind its end
 no_longer : (ex : Exercise) (bytes : List ℕ) (n m : ℕ) (penalty total : Option ℕ) → n < m → m ≤ length bytes
-    → run ex first_part (take n bytes) ≡ Some (at penalty Whole) → run ex first_part (take m bytes) ≡ Some (at total Whole) → ⊥
+    → run ex first_part (take n bytes) ≡ Some (at penalty Whole) → run ex first_part (take m bytes)
+    ≡ Some (at total Whole) → ⊥
 no_longer ex bytes n m penalty total lt within e f =
     let more = take (m - n) (drop n bytes) in
-    let long : length more ≡ m - n = length-take-le (m - n) (drop n bytes) (omega (arith, length-drop n bytes, within)) in
+    let long : length more ≡ m - n = length-take-le (m - n) (drop n bytes) (omega (arith, length-drop n bytes, within))
+    in
     after_whole ex penalty more total (omega (arith, long, lt))
-    (sym (ap (run ex first_part) (split n m bytes (omega (arith, lt))) ∙ run-on ex first_part (at penalty Whole) (take n bytes) more e) ∙ f)
+    (sym (ap (run ex first_part) (split n m bytes (omega (arith, lt)))
+    ∙ run-on ex first_part (at penalty Whole) (take n bytes) more e) ∙ f)
 
-pub same-head : (ex : Exercise) (bytes : List ℕ) (n m : ℕ) (penalty total : Option ℕ) → IsValid ex → n ≤ length bytes → m ≤ length bytes
+pub same-head : (ex : Exercise) (bytes : List ℕ) (n m : ℕ) (penalty total : Option ℕ) → IsValid ex → n ≤ length bytes
+    → m ≤ length bytes
     → IsHeadText ex (take n bytes) penalty → IsHeadText ex (take m bytes) total → (n ≡ m) × (penalty ≡ total)
 same-head ex bytes n m penalty total valid within within' text text' =
     let e = text-runs ex (take n bytes) penalty valid text in
     let f = text-runs ex (take m bytes) total valid text' in
-    let least : m ≤ n = ⊎_elim (λ lt. absurd (no_longer ex bytes n m penalty total lt within' e f)) (λ h. h) (cases_lt n m) in
-    let most : n ≤ m = ⊎_elim (λ lt. absurd (no_longer ex bytes m n total penalty lt within f e)) (λ h. h) (cases_lt m n) in
+    let least : m ≤ n = ⊎_elim (λ lt. absurd (no_longer ex bytes n m penalty total lt within' e f)) (λ h. h)
+    (cases_lt n m) in
+    let most : n ≤ m = ⊎_elim (λ lt. absurd (no_longer ex bytes m n total penalty lt within f e)) (λ h. h)
+    (cases_lt m n) in
     let same : n ≡ m = omega (arith, least, most) in
-    let ends : Some (at penalty Whole) ≡ Some (at total Whole) = sym e ∙ ap (λ k. run ex first_part (take k bytes)) same ∙ f in
+    let ends : Some (at penalty Whole) ≡ Some (at total Whole) = sym e ∙ ap (λ k. run ex first_part (take k bytes)) same
+    ∙ f in
     let parts : at penalty Whole ≡ at total Whole = cc in
     (same, ap (λ (p : Part). p.penalty) parts)

@@ -28,7 +28,8 @@ penalty_of Nothing = None
 
 -- its lines are those of its setting
 abbrev pub HasLines : Exercise → List ℕ → CertHead → Type 0
-HasLines ex bytes (Best penalty score) = (lines : List ℕ) × (bytes ≡ best_text penalty lines) × AreSingLinesOf ex lines score
+HasLines ex bytes (Best penalty score) =
+    (lines : List ℕ) × (bytes ≡ best_text penalty lines) × AreSingLinesOf ex lines score
 HasLines ex bytes Nothing = ⊤
 
 -- a head stands at the front of the bytes, and has so many of them

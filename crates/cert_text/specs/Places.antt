@@ -114,7 +114,8 @@ count_after ex spot byte =
 abbrev pub digit_after : Option ℕ → ℕ → Option ℕ
 digit_after None byte = if is_digit byte then Some (byte - 48) else None
 digit_after (Some n) byte =
-    if is_digit byte && (not (n == 0) && nat_lt (10 * n + (byte - 48)) (2 ^ 64)) then Some (10 * n + (byte - 48)) else None
+    if is_digit byte && (not (n == 0) && nat_lt (10 * n + (byte - 48)) (2 ^ 64)) then Some (10 * n + (byte - 48))
+    else None
 
 -- the digits end by a line feed, if there are some
 abbrev pub penalty_after : Exercise → Option ℕ → ℕ → Option Part
@@ -135,12 +136,17 @@ place_after ex Whole byte = None
 -- what a byte makes of what was read
 abbrev pub after_at : Exercise → Option ℕ → Place → ℕ → Option Part
 after_at ex penalty Digits byte = penalty_after ex penalty byte
-after_at ex penalty (Within fixed read) byte = option_map (λ next. record { penalty = penalty; place = next }) (within_after ex fixed read byte)
+after_at ex penalty (Within fixed read) byte =
+    option_map (λ next. record { penalty = penalty; place = next }) (within_after ex fixed read byte)
 after_at ex penalty Kind byte = option_map (λ next. record { penalty = penalty; place = next }) (kind_after byte)
-after_at ex penalty (Name spot) byte = option_map (λ next. record { penalty = penalty; place = next }) (name_after spot byte)
-after_at ex penalty (Letter spot letter) byte = option_map (λ next. record { penalty = penalty; place = next }) (letter_after spot letter byte)
-after_at ex penalty (Sign spot letter sign) byte = option_map (λ next. record { penalty = penalty; place = next }) (sign_after spot letter sign byte)
-after_at ex penalty (Count spot) byte = option_map (λ next. record { penalty = penalty; place = next }) (count_after ex spot byte)
+after_at ex penalty (Name spot) byte =
+    option_map (λ next. record { penalty = penalty; place = next }) (name_after spot byte)
+after_at ex penalty (Letter spot letter) byte =
+    option_map (λ next. record { penalty = penalty; place = next }) (letter_after spot letter byte)
+after_at ex penalty (Sign spot letter sign) byte =
+    option_map (λ next. record { penalty = penalty; place = next }) (sign_after spot letter sign byte)
+after_at ex penalty (Count spot) byte =
+    option_map (λ next. record { penalty = penalty; place = next }) (count_after ex spot byte)
 after_at ex penalty Whole byte = None
 
 abbrev pub part_after : Exercise → Part → ℕ → Option Part

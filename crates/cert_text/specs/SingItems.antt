@@ -28,7 +28,8 @@ can_stand i before (Start p) = true
 abbrev pub Fits : ℕ → ℕ → Cell → List (Cell × ℕ) → Type 0
 Fits bars i before [] = i ≡ 8 * bars
 Fits bars i before (item ∷ items) =
-    IsTrue (can_stand i before item.0) × (1 ≤ item.1) × (i % 8 + item.1 ≤ 8) × Fits bars (i + item.1) (held item.0) items
+    IsTrue (can_stand i before item.0) × (1 ≤ item.1) × (i % 8 + item.1 ≤ 8)
+    × Fits bars (i + item.1) (held item.0) items
 
 -- what stands behind an item, behind so many columns: the end of the line, a bar line, or a space
 abbrev pub behind_text : ℕ → ℕ → List ℕ

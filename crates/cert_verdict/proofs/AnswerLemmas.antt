@@ -32,7 +32,8 @@ module _ (ex : Exercise) (sheet : Sheet) (files : Files) (name : List ℕ) (rose
   finds_answer (verdict.Text (CertEnd at)) found = found
   finds_answer (verdict.Text Memory) found = found
 
-  pub starts_answer : (fault : ReadFault) → Starts ex files name rose (Err fault) → Answers ex sheet files name rose (unstarted fault)
+  pub starts_answer : (fault : ReadFault) → Starts ex files name rose (Err fault)
+      → Answers ex sheet files name rose (unstarted fault)
   starts_answer Unreadable starts = starts
   starts_answer (Text (WrongHead at)) starts = starts
   starts_answer (Text (CertWord at)) starts = absurd starts
@@ -46,13 +47,14 @@ module _ (ex : Exercise) (sheet : Sheet) (files : Files) (name : List ℕ) (rose
     finds = record {
       bytes = started.at.begins.bytes;
       had = started.at.begins.had;
-      such = subst (λ (r : Refused). RefusesFor ex sheet head r.number r.why started.at.begins.bytes) (sym why.2) record {
-        numbered = refl;
-        front = started.front;
-        begins = begins_front started.at.begins.bytes started.front _ started.at.begins.such;
-        heads = started.heads;
-        unsound = why.1;
-      };
+      such =
+          subst (λ (r : Refused). RefusesFor ex sheet head r.number r.why started.at.begins.bytes) (sym why.2) record {
+            numbered = refl;
+            front = started.front;
+            begins = begins_front started.at.begins.bytes started.front _ started.at.begins.such;
+            heads = started.heads;
+            unsound = why.1;
+          };
     };
     shown = λ answer e. cc;
   }
@@ -88,7 +90,8 @@ module _ (ex : Exercise) (sheet : Sheet) (head : CertHead) where
   unopened_headless opening.Memory why wide = tt
 
 -- what judging found is the answer
-pub judged_answer : (ex : Exercise) (sheet : Sheet) (head : CertHead) (files : Files) (name : List ℕ) (rose : Type 0) (it : Verdict)
+pub judged_answer : (ex : Exercise) (sheet : Sheet) (head : CertHead) (files : Files) (name : List ℕ) (rose : Type 0)
+    (it : Verdict)
     → Finds ex sheet head files name it → Shows ex sheet head it → Answers ex sheet files name rose (Ok it)
 judged_answer ex sheet head files name rose it finds shown =
     finds_answer ex sheet files name rose it record { head = head; finds = finds; shown = shown }

@@ -33,20 +33,23 @@ begins_front bytes xs ys begins =
     ∙ ap (λ zs. take (length xs) zs) begins ∙ take-append_seam xs ys
 
 -- what stands between two claims: the reader is behind those that the checker took, and the checker keeps no refusal
-pub record IsOn (files : Files) (name : List ℕ) (start : Checking) (reader : Reading) (checker : Checking) : Type 0 where
-  pub now : List ℕ
-  pub at : IsAt files name now reader
-  pub taken : IsTaken start.exercise start.sheet start.head checker.count checker.owed now
-  pub same : checker ≡ record start { owed = checker.owed; count = checker.count }
-  pub clear : start.refusal ≡ None
+pub record IsOn (files : Files) (name : List ℕ) (start : Checking) (reader : Reading) (checker : Checking) : Type 0
+  where
+    pub now : List ℕ
+    pub at : IsAt files name now reader
+    pub taken : IsTaken start.exercise start.sheet start.head checker.count checker.owed now
+    pub same : checker ≡ record start { owed = checker.owed; count = checker.count }
+    pub clear : start.refusal ≡ None
 
 module _ (ex : Exercise) (sheet : Sheet) (head : CertHead) where
   -- one more true claim
-  leaves_more : (owed : List (List (List Cell))) (claims : List Claim) (p : List (List Cell)) (later : List (List (List Cell))) (claim : Claim)
+  leaves_more : (owed : List (List (List Cell))) (claims : List Claim) (p : List (List Cell))
+      (later : List (List (List Cell))) (claim : Claim)
       → Leaves ex sheet head owed claims (p ∷ later) → IsTrueOf ex sheet head p claim
       → Leaves ex sheet head owed (claims ++ claim ∷ []) (owed_by ex p claim ++ later)
   leaves_more owed [] p later claim left holds =
-      subst (λ (ps : List (List (List Cell))). Leaves ex sheet head ps (claim ∷ []) (owed_by ex p claim ++ later)) (sym left) (holds, refl)
+      subst (λ (ps : List (List (List Cell))). Leaves ex sheet head ps (claim ∷ []) (owed_by ex p claim ++ later))
+      (sym left) (holds, refl)
   leaves_more [] (other ∷ claims) p later claim left holds = absurd left
   leaves_more (q ∷ owed) (other ∷ claims) p later claim left holds =
       (left.0, leaves_more (owed_by ex q other ++ owed) claims p later claim left.1 holds)
@@ -69,7 +72,8 @@ module _ (ex : Exercise) (sheet : Sheet) (head : CertHead) where
       front = taken.text.front;
       heads = taken.text.heads;
       fits = all_more taken.claims taken.text.fits;
-      is = ap (λ xs. xs ++ claim_line claim) taken.text.is ∙ flat_map_more claim_line taken.text.front taken.claims claim;
+      is = ap (λ xs. xs ++ claim_line claim) taken.text.is
+          ∙ flat_map_more claim_line taken.text.front taken.claims claim;
     };
     left = leaves_more ([] ∷ []) taken.claims p later claim taken.left holds;
   }
@@ -79,9 +83,17 @@ module _ (ex : Exercise) (sheet : Sheet) (head : CertHead) where
       all_more (other ∷ claims) all = (all.0, all_more claims all.1)
 
   -- there are no more claims than bytes
-  pub few : (count : ℕ) (owed : List (List (List Cell))) (bytes : List ℕ) → IsTaken ex sheet head count owed bytes → count ≤ length bytes
+  pub few : (count : ℕ) (owed : List (List (List Cell))) (bytes : List ℕ) → IsTaken ex sheet head count owed bytes
+      → count ≤ length bytes
   few count owed bytes taken =
-      omega (arith, taken.counted, lines taken.claims, ap length taken.text.is, length-append taken.text.front (flat_map claim_line taken.claims))
+      omega (
+        arith,
+        taken.counted,
+        lines taken.claims,
+        ap length taken.text.is,
+        length-append taken.text.front
+            (flat_map claim_line taken.claims),
+      )
     where
       lines : (claims : List Claim) → length claims ≤ length (flat_map claim_line claims)
       lines [] = omega arith
@@ -123,10 +135,17 @@ module _ (files : Files) (name : List ℕ) (start : Checking) where
 
     -- a reader that has read no more than a certificate may have has given no more claims
     pub counted : reader.offset ≤ 1073741824 → checker.count ≤ 1073741824
-    counted limit = omega (arith, limit, on.at.offset, few start.exercise start.sheet start.head checker.count checker.owed on.now on.taken)
+    counted limit = omega (
+      arith,
+      limit,
+      on.at.offset,
+      few start.exercise start.sheet start.head checker.count
+          checker.owed on.now on.taken,
+    )
 
     -- what the reader gives, over the files that stood at the start
-    pub given : (rose : Type 0) (after : Reading) (result : Result (Option Claim) ReadFault) (files_now : Files) → files_now ≡ files
+    pub given : (rose : Type 0) (after : Reading) (result : Result (Option Claim) ReadFault) (files_now : Files)
+        → files_now ≡ files
         → ((front : List ℕ) → IsAt files_now name front reader → Gives files_now name rose front after result)
         → Gives files name rose on.now after result
     given rose after result files_now same gives =
@@ -140,22 +159,27 @@ module _ (files : Files) (name : List ℕ) (start : Checking) where
         by [] it = absurd it
         by (p ∷ later) it = ap (λ (c : Checking). c.count) it.1
 
-    pub takes_on : (claim : Claim) (new : Checking) (after : Reading) → IsClaim claim → IsAt files name (on.now ++ claim_line claim) after
+    pub takes_on : (claim : Claim) (new : Checking) (after : Reading) → IsClaim claim
+        → IsAt files name (on.now ++ claim_line claim) after
         → Takes checker claim new → IsOn files name start after new
     takes_on claim new after fits at takes =
         by checker.owed refl (subst (λ (c : Checking). TakesOf c c.owed claim new) on.same takes)
       where
         by : (owed : List (List (List Cell))) → checker.owed ≡ owed
-            → TakesOf (record start { owed = checker.owed; count = checker.count }) owed claim new → IsOn files name start after new
+            → TakesOf (record start { owed = checker.owed; count = checker.count }) owed claim new
+            → IsOn files name start after new
         by [] are it = absurd it
         by (p ∷ later) are it =
-            let taken = subst (λ ps. IsTaken start.exercise start.sheet start.head checker.count ps on.now) are on.taken in
+            let taken = subst (λ ps. IsTaken start.exercise start.sheet start.head checker.count ps on.now) are on.taken
+            in
             record {
               now = on.now ++ claim_line claim;
               at = at;
               taken = subst
-                  (λ (c : Checking). IsTaken start.exercise start.sheet start.head c.count c.owed (on.now ++ claim_line claim))
-                  (sym it.1) (taken_more start.exercise start.sheet start.head checker.count p later on.now claim taken fits it.0);
+                  (λ (c : Checking). IsTaken start.exercise start.sheet start.head c.count c.owed
+                  (on.now ++ claim_line claim))
+                  (sym it.1) (taken_more start.exercise start.sheet start.head checker.count p later on.now claim taken
+                  fits it.0);
               same = subst (λ (c : Checking). c ≡ record start { owed = c.owed; count = c.count }) (sym it.1) refl;
               clear = on.clear;
             }
@@ -175,31 +199,33 @@ module _ (files : Files) (name : List ℕ) (start : Checking) where
         by [] are it = record {
           bytes = at.begins.bytes;
           had = at.begins.had;
-          such = subst (λ (r : Refused). RefusesFor start.exercise start.sheet start.head r.number r.why at.begins.bytes) (sym it) record {
-            count = checker.count;
-            numbered = refl;
-            front = on.now;
-            taken = subst (λ ps. IsTaken start.exercise start.sheet start.head checker.count ps on.now) are on.taken;
-            claim = claim;
-            fits = fits;
-            begins = line;
-          };
+          such = subst (λ (r : Refused). RefusesFor start.exercise start.sheet start.head r.number r.why
+              at.begins.bytes) (sym it) record {
+                count = checker.count;
+                numbered = refl;
+                front = on.now;
+                taken = subst (λ ps. IsTaken start.exercise start.sheet start.head checker.count ps on.now) are on.taken;
+                claim = claim;
+                fits = fits;
+                begins = line;
+              };
         }
         by (p ∷ later) are it = record {
           bytes = at.begins.bytes;
           had = at.begins.had;
-          such = subst (λ (r : Refused). RefusesFor start.exercise start.sheet start.head r.number r.why at.begins.bytes) (sym it.1) record {
-            count = checker.count;
-            numbered = refl;
-            next = p;
-            owed = later;
-            front = on.now;
-            taken = subst (λ ps. IsTaken start.exercise start.sheet start.head checker.count ps on.now) are on.taken;
-            claim = claim;
-            fits = fits;
-            begins = line;
-            untrue = it.0;
-          };
+          such = subst (λ (r : Refused). RefusesFor start.exercise start.sheet start.head r.number r.why
+              at.begins.bytes) (sym it.1) record {
+                count = checker.count;
+                numbered = refl;
+                next = p;
+                owed = later;
+                front = on.now;
+                taken = subst (λ ps. IsTaken start.exercise start.sheet start.head checker.count ps on.now) are on.taken;
+                claim = claim;
+                fits = fits;
+                begins = line;
+                untrue = it.0;
+              };
         }
 
     pub finds_fault : (fault : CertFault) → MayBe files name (FaultAt on.now fault)
@@ -207,7 +233,13 @@ module _ (files : Files) (name : List ℕ) (start : Checking) where
     finds_fault fault known = record {
       bytes = known.bytes;
       had = known.had;
-      such = record { count = checker.count; owed = checker.owed; front = on.now; taken = on.taken; fault_at = known.such };
+      such = record {
+        count = checker.count;
+        owed = checker.owed;
+        front = on.now;
+        taken = on.taken;
+        fault_at = known.such;
+      };
     }
 
     pub finds_end : (verdict : Verdict) → reader.offset ≤ 1073741824 → MayHave files name on.now
@@ -217,11 +249,14 @@ module _ (files : Files) (name : List ℕ) (start : Checking) where
         → Finds start.exercise start.sheet start.head files name verdict
     finds_end verdict limit had accepted short shown = by checker.owed refl
       where
-        by : (owed : List (List (List Cell))) → checker.owed ≡ owed → Finds start.exercise start.sheet start.head files name verdict
+        by : (owed : List (List (List Cell))) → checker.owed ≡ owed
+            → Finds start.exercise start.sheet start.head files name verdict
         by [] are =
-            let taken = subst (λ ps. IsTaken start.exercise start.sheet start.head checker.count ps on.now) are on.taken in
+            let taken = subst (λ ps. IsTaken start.exercise start.sheet start.head checker.count ps on.now) are on.taken
+            in
             let holds : Holds start.exercise start.sheet start.head =
-            subst (λ (c : Checking). Holds c.exercise c.sheet c.head) on.same (shown (accepted_of checker.head) (accepted are)) in
+            subst (λ (c : Checking). Holds c.exercise c.sheet c.head) on.same
+            (shown (accepted_of checker.head) (accepted are)) in
             subst (Finds start.exercise start.sheet start.head files name) (sym (accepted are)) (
               ap (λ (c : Checking). accepted_of c.head) on.same,
               record {
@@ -248,6 +283,7 @@ module _ (files : Files) (name : List ℕ) (start : Checking) where
                 numbered = refl;
                 next = p;
                 owed = later;
-                taken = subst (λ ps. IsTaken start.exercise start.sheet start.head checker.count ps on.now) are on.taken;
+                taken =
+                    subst (λ ps. IsTaken start.exercise start.sheet start.head checker.count ps on.now) are on.taken;
               };
             }

@@ -33,7 +33,8 @@ use Rattle.fux_port.specs.Files.{HasFile, MayHave}
 use Rattle.penalty_sheet.specs.declared.sheet.Sheet.{Sheet}
 
 -- the first line feed splits bytes in one way
-feed_splits : (xs ys us vs : List ℕ) → HasNoFeed xs → HasNoFeed us → xs ++ 10 ∷ ys ≡ us ++ 10 ∷ vs → (xs ≡ us) × (ys ≡ vs)
+feed_splits : (xs ys us vs : List ℕ) → HasNoFeed xs → HasNoFeed us → xs ++ 10 ∷ ys ≡ us ++ 10 ∷ vs → (xs ≡ us)
+    × (ys ≡ vs)
 feed_splits [] ys [] vs p q e = (refl, cc)
 feed_splits [] ys (u ∷ us) vs p q e = let feed : u ≡ 10 = cc in absurd (q.0 feed)
 feed_splits (x ∷ xs) ys [] vs p q e = let feed : x ≡ 10 = cc in absurd (p.0 feed)
@@ -76,7 +77,8 @@ same_word TheScore TheScore p q e = refl
 line_split : (c : Claim) (xs : List ℕ) → claim_line c ++ xs ≡ claim_word c ++ 10 ∷ xs
 line_split c xs = append_assoc (claim_word c) (10 ∷ []) xs
 
-same_line : (c d : Claim) (xs ys : List ℕ) → IsClaim c → IsClaim d → claim_line c ++ xs ≡ claim_line d ++ ys → (c ≡ d) × (xs ≡ ys)
+same_line : (c d : Claim) (xs ys : List ℕ) → IsClaim c → IsClaim d → claim_line c ++ xs ≡ claim_line d ++ ys → (c ≡ d)
+    × (xs ≡ ys)
 same_line c d xs ys p q e =
     let both = feed_splits (claim_word c) xs (claim_word d) ys (word_has_no_feed c p) (word_has_no_feed d q)
     (sym (line_split c xs) ∙ e ∙ line_split d ys) in
@@ -101,7 +103,8 @@ line_begins c xs fits =
     record { claim = c; fits = fits; rest = []; whole = append-nil (claim_line c) }
 
 -- what the file of a name may be, it is, where the shelf tells it
-pub such_of : (files : Files) (name bytes : List ℕ) → HasFile files name bytes → (Such : List ℕ → Type 0) → MayBe files name Such
+pub such_of : (files : Files) (name bytes : List ℕ) → HasFile files name bytes → (Such : List ℕ → Type 0)
+    → MayBe files name Such
     → Such bytes
 such_of files name bytes has Such known = at known.had
   where
@@ -123,7 +126,8 @@ module _ (ex : Exercise) (sheet : Sheet) (head : CertHead) where
     pub is : rest ≡ flat_map claim_line claims
     pub certified : IsCertified ex sheet head left claims
 
-  certified_behind : (owed left : List (List (List Cell))) (claims all : List Claim) (rest : List ℕ) → AllByRecursion IsClaim claims
+  certified_behind : (owed left : List (List (List Cell))) (claims all : List Claim) (rest : List ℕ)
+      → AllByRecursion IsClaim claims
       → AllByRecursion IsClaim all → Leaves ex sheet head owed claims left → IsCertified ex sheet head owed all
       → flat_map claim_line all ≡ flat_map claim_line claims ++ rest → IsCertifiedBehind left rest
   certified_behind owed left [] all rest p q leaves certified e = record {
@@ -141,15 +145,18 @@ module _ (ex : Exercise) (sheet : Sheet) (head : CertHead) where
       (subst (λ (claim : Claim). IsCertified ex sheet head (owed_by ex o claim ++ owed) all) both.0 certified.1) both.1
 
   module _ (valid : IsValid ex) (bytes : List ℕ) (is : IsCertificateText ex sheet head bytes) where
-    valid_behind : (count : ℕ) (owed : List (List (List Cell))) (front rest : List ℕ) → IsTaken ex sheet head count owed front
+    valid_behind : (count : ℕ) (owed : List (List (List Cell))) (front rest : List ℕ)
+        → IsTaken ex sheet head count owed front
         → bytes ≡ front ++ rest → IsCertifiedBehind owed rest
     valid_behind count owed front rest taken e =
-        certified_behind ([] ∷ []) owed taken.claims is.claims rest taken.text.fits is.text.fits taken.left is.valid.certified
+        certified_behind ([] ∷ []) owed taken.claims is.claims rest taken.text.fits is.text.fits taken.left
+        is.valid.certified
         (append_cancel_left is.text.front (flat_map claim_line is.claims) (flat_map claim_line taken.claims ++ rest)
         (sym is.text.is ∙ other ∙ ap (λ xs. xs ++ (flat_map claim_line taken.claims ++ rest)) (sym same)))
       where
         other : bytes ≡ taken.text.front ++ (flat_map claim_line taken.claims ++ rest)
-        other = e ∙ ap (λ xs. xs ++ rest) taken.text.is ∙ append_assoc taken.text.front (flat_map claim_line taken.claims) rest
+        other = e ∙ ap (λ xs. xs ++ rest) taken.text.is
+            ∙ append_assoc taken.text.front (flat_map claim_line taken.claims) rest
 
         first : (xs ys : List ℕ) → bytes ≡ xs ++ ys → take (length xs) bytes ≡ xs
         first xs ys whole = ap (λ zs. take (length xs) zs) whole ∙ take-append_seam xs ys
@@ -161,7 +168,8 @@ module _ (ex : Exercise) (sheet : Sheet) (head : CertHead) where
             let lengths = heads_are_one ex bytes head head (length is.text.front) (length taken.text.front) valid
             (at_front ex head bytes is.text.front lines is.text.is is.text.heads)
             (at_front ex head bytes taken.text.front more other taken.text.heads) in
-            sym (first is.text.front lines is.text.is) ∙ ap (λ n. take n bytes) lengths.1 ∙ first taken.text.front more other
+            sym (first is.text.front lines is.text.is) ∙ ap (λ n. take n bytes) lengths.1
+            ∙ first taken.text.front more other
 
     -- no claim of it is refused
     next_is : (p : List (List Cell)) (owed : List (List (List Cell))) (claim : Claim) (more : List ℕ) → IsClaim claim
@@ -178,7 +186,8 @@ module _ (ex : Exercise) (sheet : Sheet) (head : CertHead) where
     none_over : (claim : Claim) (more : List ℕ) → IsCertifiedBehind [] (claim_line claim ++ more) → ⊥
     none_over claim more there = by there.claims there.is there.certified
       where
-        by : (all : List Claim) → claim_line claim ++ more ≡ flat_map claim_line all → IsCertified ex sheet head [] all → ⊥
+        by : (all : List Claim) → claim_line claim ++ more ≡ flat_map claim_line all → IsCertified ex sheet head [] all
+            → ⊥
         by [] e certified = no_line claim more e
         by (d ∷ all) e certified = certified
 
@@ -199,30 +208,38 @@ module _ (ex : Exercise) (sheet : Sheet) (head : CertHead) where
         let line = behind it.front (claim_line it.claim) bytes it.begins in
         none_over it.claim line.0 (valid_behind it.count [] it.front (claim_line it.claim ++ line.0) it.taken line.1)
     unrefused_for number Short it =
-        none_short it.next it.owed (valid_behind it.count (it.next ∷ it.owed) bytes [] it.taken (sym (append-nil bytes)))
+        none_short it.next it.owed (valid_behind it.count (it.next ∷ it.owed) bytes [] it.taken
+        (sym (append-nil bytes)))
 
     -- nor any of its lines
-    lines_right : (owed : List (List (List Cell))) (rest : List ℕ) → IsCertifiedBehind owed rest → BeginsClaim (line_part rest)
+    lines_right : (owed : List (List (List Cell))) (rest : List ℕ) → IsCertifiedBehind owed rest
+        → BeginsClaim (line_part rest)
     lines_right owed rest there = by there.claims there.fits there.is
       where
-        by : (all : List Claim) → AllByRecursion IsClaim all → rest ≡ flat_map claim_line all → BeginsClaim (line_part rest)
+        by : (all : List Claim) → AllByRecursion IsClaim all → rest ≡ flat_map claim_line all
+            → BeginsClaim (line_part rest)
         by [] q e = subst (λ xs. BeginsClaim (line_part xs)) (sym e) nothing_begins
-        by (d ∷ all) q e = subst (λ xs. BeginsClaim (line_part xs)) (sym e) (line_begins d (flat_map claim_line all) q.0)
+        by (d ∷ all) q e =
+            subst (λ xs. BeginsClaim (line_part xs)) (sym e) (line_begins d (flat_map claim_line all) q.0)
 
-    lines_end : (owed : List (List (List Cell))) (rest : List ℕ) → IsCertifiedBehind owed rest → rest ≢ [] → HasNoFeed rest → ⊥
+    lines_end : (owed : List (List (List Cell))) (rest : List ℕ) → IsCertifiedBehind owed rest → rest ≢ []
+        → HasNoFeed rest → ⊥
     lines_end owed rest there some none = by there.claims there.is
       where
         by : (all : List Claim) → rest ≡ flat_map claim_line all → ⊥
         by [] e = some e
         by (d ∷ all) e =
-            has_feed (claim_word d) (flat_map claim_line all) (subst HasNoFeed (e ∙ line_split d (flat_map claim_line all)) none)
+            has_feed (claim_word d) (flat_map claim_line all)
+            (subst HasNoFeed (e ∙ line_split d (flat_map claim_line all)) none)
 
-    faultless : (count : ℕ) (owed : List (List (List Cell))) (front : List ℕ) (fault : CertFault) → IsTaken ex sheet head count owed front
+    faultless : (count : ℕ) (owed : List (List (List Cell))) (front : List ℕ) (fault : CertFault)
+        → IsTaken ex sheet head count owed front
         → FaultAt front fault bytes → ⊥
     faultless count owed front (CertWord at) taken it =
         it.1.such (lines_right owed it.1.rest (valid_behind count owed front it.1.rest taken it.1.is))
     faultless count owed front (CertEnd at) taken (inl it) =
-        lines_end owed it.1.rest (valid_behind count owed front it.1.rest taken it.1.is) it.1.such.some it.1.such.unended
+        lines_end owed it.1.rest (valid_behind count owed front it.1.rest taken it.1.is) it.1.such.some
+        it.1.such.unended
     faultless count owed front (CertEnd at) taken (inr it) =
         omega (arith, is.short, it.1.such.full, it.1.such.more, ap length it.1.is, length-append front it.1.rest)
     faultless count owed front (HeadFault at) taken it = it
@@ -235,4 +252,5 @@ module _ (ex : Exercise) (sheet : Sheet) (head : CertHead) where
       finds_accepted (verdicts.Claim refused) found =
           absurd (unrefused_for refused.number refused.why (such_of files name bytes has _ found))
       finds_accepted (verdicts.Text fault) found =
-          let it = such_of files name bytes has _ found in absurd (faultless it.count it.owed it.front fault it.taken it.fault_at)
+          let it = such_of files name bytes has _ found in
+          absurd (faultless it.count it.owed it.front fault it.taken it.fault_at)

@@ -36,7 +36,8 @@ pub record IsCertificateText (ex : Exercise) (sheet : Sheet) (head : CertHead) (
   pub valid : IsCertificate ex sheet head claims
 
 -- each of the claims is true of the prefix that is owed next, and they leave these owed
-abbrev pub Leaves : Exercise → Sheet → CertHead → List (List (List Cell)) → List Claim → List (List (List Cell)) → Type 0
+abbrev pub Leaves : Exercise → Sheet → CertHead → List (List (List Cell)) → List Claim → List (List (List Cell))
+    → Type 0
 Leaves ex sheet head owed [] left = owed ≡ left
 Leaves ex sheet head [] (claim ∷ claims) left = ⊥
 Leaves ex sheet head (p ∷ owed) (claim ∷ claims) left =
@@ -90,12 +91,13 @@ pub record IsShort (ex : Exercise) (sheet : Sheet) (head : CertHead) (number : �
   pub taken : IsTaken ex sheet head count (next ∷ owed) bytes
 
 -- behind claims that are taken stands a line that is none
-pub record HasFault (ex : Exercise) (sheet : Sheet) (head : CertHead) (fault : CertFault) (bytes : List ℕ) : Type 0 where
-  pub count : ℕ
-  pub owed : List (List (List Cell))
-  pub front : List ℕ
-  pub taken : IsTaken ex sheet head count owed front
-  pub fault_at : FaultAt front fault bytes
+pub record HasFault (ex : Exercise) (sheet : Sheet) (head : CertHead) (fault : CertFault) (bytes : List ℕ) : Type 0
+  where
+    pub count : ℕ
+    pub owed : List (List (List Cell))
+    pub front : List ℕ
+    pub taken : IsTaken ex sheet head count owed front
+    pub fault_at : FaultAt front fault bytes
 
 -- why a claim is refused, or the head as claim 0
 abbrev pub RefusesFor : Exercise → Sheet → CertHead → ℕ → Why → List ℕ → Type 0

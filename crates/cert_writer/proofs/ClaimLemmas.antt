@@ -17,7 +17,8 @@ use Rattle.fux_grid.specs.Exercises.{columns_in}
 use Rattle.fux_grid.specs.Orderly.{IsOrderly}
 use Rattle.penalty_sheet.specs.declared.sheet.Sheet.{Sheet}
 
-pub open_true : (ex : Exercise) (sheet : Sheet) (head : CertHead) (p : List (List Cell)) (claim : Claim) → is_open claim ≡ true → IsTrueOf ex sheet head p claim
+pub open_true : (ex : Exercise) (sheet : Sheet) (head : CertHead) (p : List (List Cell)) (claim : Claim) → is_open claim
+    ≡ true → IsTrueOf ex sheet head p claim
     → (length p < columns_in ex) × IsOrderly ex p
 open_true ex sheet head p Open o h = h
 open_true ex sheet head p (Broken rule) o h = absurd (true≢false (sym o))
@@ -34,33 +35,43 @@ module _ (t : Matter) (p : List (List Cell)) where
       ap (λ n. claims_from t.exercise t.sheet t.head n (p ++ col ∷ [])) (omega (arith, size, left))
 
   all_longer_claims : (count : ℕ) (cols : List (List Cell)) → columns_in t.exercise - length p ≡ suc count
-      → flat_map (claims_from t.exercise t.sheet t.head count) (map (λ col. p ++ col ∷ []) cols) ≡ flat_map (claims_at t) (map (λ col. p ++ col ∷ []) cols)
+      → flat_map (claims_from t.exercise t.sheet t.head count) (map (λ col. p ++ col ∷ []) cols)
+      ≡ flat_map (claims_at t) (map (λ col. p ++ col ∷ []) cols)
   all_longer_claims count [] left = refl
   all_longer_claims count (col ∷ cols) left =
-      ap (λ claims. claims ++ flat_map (claims_from t.exercise t.sheet t.head count) (map (λ c. p ++ c ∷ []) cols)) (longer_claims count col left)
+      ap (λ claims. claims ++ flat_map (claims_from t.exercise t.sheet t.head count) (map (λ c. p ++ c ∷ []) cols))
+      (longer_claims count col left)
       ∙ ap (λ claims. claims_at t (p ++ col ∷ []) ++ claims) (all_longer_claims count cols left)
 
-  claims_go_on : (claim : Claim) → claim ≡ first_claim t.exercise t.sheet t.head p → (is_open claim ≡ true → length p < columns_in t.exercise)
+  claims_go_on : (claim : Claim) → claim ≡ first_claim t.exercise t.sheet t.head p
+      → (is_open claim ≡ true → length p < columns_in t.exercise)
       → claims_at t p ≡ claim ∷ flat_map (claims_at t) (if is_open claim then longer_from t.exercise p 0 else [])
   unfolding claims_from
   claims_go_on claim e shorter = at (columns_in t.exercise - length p) refl (is_open claim) refl
     where
       at : (count : ℕ) → columns_in t.exercise - length p ≡ count → (b : Bool) → is_open claim ≡ b
-          → claims_from t.exercise t.sheet t.head count p ≡ claim ∷ flat_map (claims_at t) (if b then longer_from t.exercise p 0 else [])
+          → claims_from t.exercise t.sheet t.head count p ≡ claim
+          ∷ flat_map (claims_at t) (if b then longer_from t.exercise p 0 else [])
       at zero left true o = absurd (omega (arith, left, shorter o))
       at zero left false o = ap (λ c. c ∷ []) (sym e)
       at (suc count) left true o =
-          ap (λ c. c ∷ (if is_open c then flat_map (claims_from t.exercise t.sheet t.head count) (longer_prefixes t.exercise p) else [])) (sym e)
-          ∙ ap (λ b. claim ∷ (if b then flat_map (claims_from t.exercise t.sheet t.head count) (longer_prefixes t.exercise p) else [])) o
+          ap (λ c. c ∷ (if is_open c then flat_map (claims_from t.exercise t.sheet t.head count)
+          (longer_prefixes t.exercise p) else [])) (sym e)
+          ∙ ap (λ b. claim ∷ (if b then flat_map (claims_from t.exercise t.sheet t.head count)
+          (longer_prefixes t.exercise p) else [])) o
           ∙ ap (λ claims. claim ∷ claims) (all_longer_claims count (next_columns t.exercise p) left)
       at (suc count) left false o =
-          ap (λ c. c ∷ (if is_open c then flat_map (claims_from t.exercise t.sheet t.head count) (longer_prefixes t.exercise p) else [])) (sym e)
-          ∙ ap (λ b. claim ∷ (if b then flat_map (claims_from t.exercise t.sheet t.head count) (longer_prefixes t.exercise p) else [])) o
+          ap (λ c. c ∷ (if is_open c then flat_map (claims_from t.exercise t.sheet t.head count)
+          (longer_prefixes t.exercise p) else [])) (sym e)
+          ∙ ap (λ b. claim ∷ (if b then flat_map (claims_from t.exercise t.sheet t.head count)
+          (longer_prefixes t.exercise p) else [])) o
 
   -- so it is with what is owed later
   pub claims_step : (claim : Claim) (later : List (List (List Cell))) → claim ≡ first_claim t.exercise t.sheet t.head p
       → (is_open claim ≡ true → length p < columns_in t.exercise)
-      → flat_map (claims_at t) (p ∷ later) ≡ claim ∷ flat_map (claims_at t) ((if is_open claim then longer_from t.exercise p 0 else []) ++ later)
+      → flat_map (claims_at t) (p ∷ later) ≡ claim
+      ∷ flat_map (claims_at t) ((if is_open claim then longer_from t.exercise p 0 else []) ++ later)
   claims_step claim later e shorter =
       ap (λ claims. claims ++ flat_map (claims_at t) later) (claims_go_on claim e shorter)
-      ∙ ap (λ claims. claim ∷ claims) (sym (flat_map-append (claims_at t) (if is_open claim then longer_from t.exercise p 0 else []) later))
+      ∙ ap (λ claims. claim ∷ claims) (sym
+      (flat_map-append (claims_at t) (if is_open claim then longer_from t.exercise p 0 else []) later))

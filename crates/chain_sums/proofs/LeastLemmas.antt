@@ -36,7 +36,8 @@ pub record PartsOf (a b : Option ℕ) (x : ℕ) : Type 0 where
 pub plus_parts : (a b : Option ℕ) (x : ℕ) → plus a b ≡ Some x → PartsOf a b x
 plus_parts None b x e = cc
 plus_parts (Some u) None x e = cc
-plus_parts (Some u) (Some v) x e = record { first = u; second = v; is_first = refl; is_second = refl; both = same_value (u + v) x e }
+plus_parts (Some u) (Some v) x e =
+    record { first = u; second = v; is_first = refl; is_second = refl; both = same_value (u + v) x e }
 
 pub plus_from : (a b : Option ℕ) (u v x : ℕ) → a ≡ Some u → b ≡ Some v → u + v ≡ x → plus a b ≡ Some x
 plus_from a b u v x e f h = ap (λ s. plus s b) e ∙ ap (plus (Some u)) f ∙ ap Some h
@@ -48,9 +49,11 @@ pub least_more : (IsOne IsOther IsNext : ℕ → Type 0) (least other : Option �
     → ((x : ℕ) → (other ≡ Some x) ↔ IsOther x)
     → ((x : ℕ) → IsOne x → IsNext x) → ((x : ℕ) → IsOther x → IsNext x) → ((x : ℕ) → IsNext x → IsOne x ⊎ IsOther x)
     → IsLeastOf IsNext (lesser least other)
-least_more IsOne IsOther IsNext least other old is one two cases = record { reached = reached least other old.reached (λ x. (is x).0); lowest = lowest }
+least_more IsOne IsOther IsNext least other old is one two cases =
+    record { reached = reached least other old.reached (λ x. (is x).0); lowest = lowest }
   where
-    reached : (a b : Option ℕ) → ((x : ℕ) → a ≡ Some x → IsOne x) → ((x : ℕ) → b ≡ Some x → IsOther x) → (x : ℕ) → lesser a b ≡ Some x → IsNext x
+    reached : (a b : Option ℕ) → ((x : ℕ) → a ≡ Some x → IsOne x) → ((x : ℕ) → b ≡ Some x → IsOther x) → (x : ℕ)
+        → lesser a b ≡ Some x → IsNext x
     reached None b f g x e = two x (g x e)
     reached (Some u) None f g x e = one x (f x e)
     reached (Some u) (Some v) f g x e = either (nat_le u v) refl
@@ -88,12 +91,14 @@ below_or_at k count h = by (cases_lt k count)
     by (inl l) = inl l
     by (inr l) = inr (omega arith)
 
-pub least_within_more : (c : Chains) (i : ℕ) (before : Option (List Cell)) (row : List (Option ℕ)) (count : ℕ) (least other : Option ℕ)
+pub least_within_more : (c : Chains) (i : ℕ) (before : Option (List Cell)) (row : List (Option ℕ)) (count : ℕ)
+    (least other : Option ℕ)
     → IsLeastOf (IsSumWithin c i before row count) least
     → ((x : ℕ) → (other ≡ Some x) ↔ IsSumAt c i before row count x)
     → IsLeastOf (IsSumWithin c i before row (count + 1)) (lesser least other)
 least_within_more c i before row count least other old is =
-    least_more (IsSumWithin c i before row count) (IsSumAt c i before row count) (IsSumWithin c i before row (count + 1)) least other old is kept here cases
+    least_more (IsSumWithin c i before row count) (IsSumAt c i before row count)
+    (IsSumWithin c i before row (count + 1)) least other old is kept here cases
   where
     kept : (x : ℕ) → IsSumWithin c i before row count x → IsSumWithin c i before row (count + 1) x
     kept x (k, h, s) = (k, omega (arith, h), s)
@@ -101,7 +106,8 @@ least_within_more c i before row count least other old is =
     here : (x : ℕ) → IsSumAt c i before row count x → IsSumWithin c i before row (count + 1) x
     here x s = (count, omega arith, s)
 
-    cases : (x : ℕ) → IsSumWithin c i before row (count + 1) x → IsSumWithin c i before row count x ⊎ IsSumAt c i before row count x
+    cases : (x : ℕ) → IsSumWithin c i before row (count + 1) x → IsSumWithin c i before row count x
+        ⊎ IsSumAt c i before row count x
     cases x (k, h, s) = by (below_or_at k count h)
       where
         by : (k < count) ⊎ (k ≡ count) → IsSumWithin c i before row count x ⊎ IsSumAt c i before row count x
@@ -114,9 +120,11 @@ pub at_most : (a : Option ℕ) (x y : ℕ) → x ≤ y → IsSomeAnd a (λ z. z 
 at_most None x y l h = h
 at_most (Some z) x y l h = let k : z ≤ y = omega (arith, h, l) in k
 
-pub row_is_enough : (c : Chains) (i : ℕ) (before : Option (List Cell)) (row : List (Option ℕ)) (least : Option ℕ) → i < c.places → IsRow c i row
+pub row_is_enough : (c : Chains) (i : ℕ) (before : Option (List Cell)) (row : List (Option ℕ)) (least : Option ℕ)
+    → i < c.places → IsRow c i row
     → IsLeastOf (IsSumWithin c i before row (length (c.menu i))) least → IsLeast c i before least
-row_is_enough c i before row least here is old = record { reached = λ x e. reached x (old.reached x e); lowest = lowest }
+row_is_enough c i before row least here is old =
+    record { reached = λ x e. reached x (old.reached x e); lowest = lowest }
   where
     reached : (x : ℕ) → IsSumWithin c i before row (length (c.menu i)) x → HasSum c i before x
     reached x (k, h, s) = with_chain ((is.least k h).reached s.behind s.is_rest)
@@ -132,7 +140,8 @@ row_is_enough c i before row least here is old = record { reached = λ x e. reac
     lowest : (x : ℕ) → HasSum c i before x → IsSomeAnd least (λ y. y ≤ x)
     lowest x h = by h.chain h.linked h.whole h.is
       where
-        by : (chain : List (List Cell)) → AreLinked c i before chain → i + length chain ≡ c.places → chain_sum c i before chain ≡ Some x → IsSomeAnd least (λ y. y ≤ x)
+        by : (chain : List (List Cell)) → AreLinked c i before chain → i + length chain ≡ c.places
+            → chain_sum c i before chain ≡ Some x → IsSomeAnd least (λ y. y ≤ x)
         by [] linked whole e = absurd (omega arith)
         by (d ∷ chain) linked whole e = at linked.0
           where
@@ -142,10 +151,12 @@ row_is_enough c i before row least here is old = record { reached = λ x e. reac
             rest : HasSum c (suc i) (Some d) parts.second
             rest = record { chain = chain; linked = linked.2; whole = omega arith; is = parts.is_second }
 
-            no_more : (z : ℕ) → z ≤ parts.second → IsSomeAnd least (λ y. y ≤ parts.first + z) → IsSomeAnd least (λ y. y ≤ x)
+            no_more : (z : ℕ) → z ≤ parts.second → IsSomeAnd least (λ y. y ≤ parts.first + z)
+                → IsSomeAnd least (λ y. y ≤ x)
             no_more z l h = at_most least (parts.first + z) x (omega (arith, parts.both)) h
 
-            with_rest : (k : ℕ) → k < length (c.menu i) → get_or (c.menu i) k [] ≡ d → (o : Option ℕ) → get_or row k None ≡ o
+            with_rest : (k : ℕ) → k < length (c.menu i) → get_or (c.menu i) k [] ≡ d → (o : Option ℕ)
+                → get_or row k None ≡ o
                 → IsSomeAnd o (λ y. y ≤ parts.second) → IsSomeAnd least (λ y. y ≤ x)
             with_rest k h same None f l = absurd l
             with_rest k h same (Some z) f l =
@@ -166,7 +177,8 @@ row_is_enough c i before row least here is old = record { reached = λ x e. reac
             at (k, h, f) =
                 let same : get_or (c.menu i) k [] ≡ d = get_or_default (c.menu i) k [] d h ∙ f in
                 with_rest k h same (get_or row k None) refl
-                ((is.least k h).lowest parts.second (subst (λ (b : List Cell). HasSum c (suc i) (Some b) parts.second) (sym same) rest))
+                ((is.least k h).lowest parts.second
+                (subst (λ (b : List Cell). HasSum c (suc i) (Some b) parts.second) (sym same) rest))
 
 -- behind the last place the one chain is empty, and costs nothing
 pub ends_at_nothing : (c : Chains) (before : Option (List Cell)) → IsLeast c c.places before (Some 0)
@@ -181,7 +193,8 @@ ends_at_nothing c before = record { reached = reached; lowest = lowest }
 -- ---- what the code reads
 
 -- the columns of a menu, as lists of cells
-pub length-columns : (menu : List (ArrayVec Cell)) (columns : List (List Cell)) → items_of menu ≡ columns → length menu ≡ length columns
+pub length-columns : (menu : List (ArrayVec Cell)) (columns : List (List Cell)) → items_of menu ≡ columns → length menu
+    ≡ length columns
 length-columns menu columns e = sym (length-map menu (λ col. col.items)) ∙ ap length e
 
 pub given-cells : (prev : Option (Bor (ArrayVec Cell))) → cells_before prev ≡ cells_of (given prev)
@@ -189,11 +202,20 @@ given-cells None = refl
 given-cells (Some col) = refl
 
 -- what the code sums is what is to be summed
-pub sum_of_both : (c : Chains) (i : ℕ) (before : Option (List Cell)) (d : List Cell) (rest own : Option ℕ) → ColumnFollows (cells_of before) d → own ≡ c.cost i before d
+pub sum_of_both : (c : Chains) (i : ℕ) (before : Option (List Cell)) (d : List Cell) (rest own : Option ℕ)
+    → ColumnFollows (cells_of before) d → own ≡ c.cost i before d
     → (x : ℕ) → (plus own rest ≡ Some x) ↔ IsSumOf c i before d rest x
-sum_of_both c i before d rest own follows is x = (there, λ s. plus_from own rest s.own s.behind x (is ∙ s.is_own) s.is_rest s.both)
+sum_of_both c i before d rest own follows is x =
+    (there, λ s. plus_from own rest s.own s.behind x (is ∙ s.is_own) s.is_rest s.both)
   where
     there : plus own rest ≡ Some x → IsSumOf c i before d rest x
     there e =
         let parts = plus_parts own rest x e in
-        record { follows = follows; own = parts.first; is_own = sym is ∙ parts.is_first; behind = parts.second; is_rest = parts.is_second; both = parts.both }
+        record {
+          follows = follows;
+          own = parts.first;
+          is_own = sym is ∙ parts.is_first;
+          behind = parts.second;
+          is_rest = parts.is_second;
+          both = parts.both;
+        }

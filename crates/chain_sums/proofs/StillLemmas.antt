@@ -35,7 +35,8 @@ goes_on Rest (Hold p) f h = cc
 goes_on (Hold q) (Hold p) f h = ap Hold (sym (equal_from_test q p f))
 goes_on (Start q) (Hold p) f h = ap Hold (sym (equal_from_test q p f))
 
-follower_is_held : (before next : List Cell) → length before ≡ length next → ColumnFollows before next → all_hold next ≡ true → next ≡ map held before
+follower_is_held : (before next : List Cell) → length before ≡ length next → ColumnFollows before next → all_hold next
+    ≡ true → next ≡ map held before
 follower_is_held [] [] e f h = refl
 follower_is_held [] (c ∷ next) e f h = absurd (omega (arith, e))
 follower_is_held (b ∷ before) [] e f h = absurd (omega (arith, e))
@@ -44,19 +45,25 @@ follower_is_held (b ∷ before) (c ∷ next) e f h =
     ap (λ d. d ∷ next) (goes_on b c (f 0) both.0)
     ∙ ap (λ cells. held b ∷ cells) (follower_is_held before next (omega (arith, e)) (λ v. f (suc v)) both.1)
 
-module _ (c : Chains) (i : ℕ) (before : List Cell) (row : List (Option ℕ)) (full : AreFull c.voices (c.menu i)) (own : length before ≡ c.voices)
+module _ (c : Chains) (i : ℕ) (before : List Cell) (row : List (Option ℕ)) (full : AreFull c.voices (c.menu i))
+    (own : length before ≡ c.voices)
     (still : IsStill (c.menu i)) where
   -- a column that has a sum behind another goes on with it
-  has_sum_held : (k x : ℕ) → k < length (c.menu i) → IsSumAt c i (Some before) row k x → get_or (c.menu i) k [] ≡ map held before
+  has_sum_held : (k x : ℕ) → k < length (c.menu i) → IsSumAt c i (Some before) row k x → get_or (c.menu i) k []
+      ≡ map held before
   has_sum_held k x h s =
-      let size : length (get_or (c.menu i) k []) ≡ c.voices = All-contains (λ col. length col ≡ c.voices) (c.menu i) (get_or (c.menu i) k []) full (Contains-get_or (c.menu i) k [] h) in
+      let size : length (get_or (c.menu i) k [])
+      ≡ c.voices = All-contains (λ col. length col ≡ c.voices) (c.menu i) (get_or (c.menu i) k []) full
+      (Contains-get_or (c.menu i) k [] h) in
       follower_is_held before (get_or (c.menu i) k []) (own ∙ sym size) s.follows (still k h)
 
-  pub none_held : (Contains (c.menu i) (map held before) → ⊥) → IsLeastOf (IsSumWithin c i (Some before) row (length (c.menu i))) None
+  pub none_held : (Contains (c.menu i) (map held before) → ⊥)
+      → IsLeastOf (IsSumWithin c i (Some before) row (length (c.menu i))) None
   none_held out = record { reached = λ x e. cc; lowest = lowest }
     where
       lowest : (x : ℕ) → IsSumWithin c i (Some before) row (length (c.menu i)) x → IsSomeAnd None (λ (y : ℕ). y ≤ x)
-      lowest x (k, h, s) = absurd (out (subst (Contains (c.menu i)) (has_sum_held k x h s) (Contains-get_or (c.menu i) k [] h)))
+      lowest x (k, h, s) =
+          absurd (out (subst (Contains (c.menu i)) (has_sum_held k x h s) (Contains-get_or (c.menu i) k [] h)))
 
   pub one_held : (n : ℕ) (sum : Option ℕ) → IsRow c i row → n < length (c.menu i)
       → (Contains (c.menu i) (map held before) → get_or (c.menu i) n [] ≡ map held before)
@@ -70,10 +77,12 @@ module _ (c : Chains) (i : ℕ) (before : List Cell) (row : List (Option ℕ)) (
       lowest : (x : ℕ) → IsSumWithin c i (Some before) row (length (c.menu i)) x → IsSomeAnd sum (λ y. y ≤ x)
       lowest x (k, h, s) =
           let other : get_or (c.menu i) k [] ≡ map held before = has_sum_held k x h s in
-          let same : get_or (c.menu i) k [] ≡ get_or (c.menu i) n [] = other ∙ sym (here (subst (Contains (c.menu i)) other (Contains-get_or (c.menu i) k [] h))) in
+          let same : get_or (c.menu i) k [] ≡ get_or (c.menu i) n [] = other
+          ∙ sym (here (subst (Contains (c.menu i)) other (Contains-get_or (c.menu i) k [] h))) in
           let rests : get_or row k None ≡ get_or row n None =
           least_is_one (HasSum c (suc i) (Some (get_or (c.menu i) n []))) (get_or row k None) (get_or row n None)
-          (subst (λ (d : List Cell). IsLeast c (suc i) (Some d) (get_or row k None)) same (is.least k h)) (is.least n within) in
+          (subst (λ (d : List Cell). IsLeast c (suc i) (Some d) (get_or row k None)) same (is.least k h))
+          (is.least n within) in
           reached_by sum x ((value x).1
           (subst (λ (o : Option ℕ). IsSumOf c i (Some before) (get_or (c.menu i) n []) o x) rests
           (subst (λ (d : List Cell). IsSumOf c i (Some before) d (get_or row k None) x) same s)))

@@ -22,7 +22,8 @@ cells_of (Some col) = col
 -- each column stands in the menu of its place, the first one of the list at the given place, and follows the one before it
 abbrev pub AreLinked : Chains → ℕ → Option (List Cell) → List (List Cell) → Type 0
 AreLinked c i before [] = ⊤
-AreLinked c i before (d ∷ chain) = Contains (c.menu i) d × ColumnFollows (cells_of before) d × AreLinked c (suc i) (Some d) chain
+AreLinked c i before (d ∷ chain) =
+    Contains (c.menu i) d × ColumnFollows (cells_of before) d × AreLinked c (suc i) (Some d) chain
 
 -- two costs together; none where one of them is none
 abbrev pub plus : Option ℕ → Option ℕ → Option ℕ

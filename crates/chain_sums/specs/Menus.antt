@@ -32,8 +32,10 @@ IsNumberOf menu d k = (k < length menu.columns.items) × (slice_index_or (column
 
 -- where a packed menu has a column, this is its number
 abbrev pub FindsColumn : Menu → List Cell → Option ℕ → Type 0
-FindsColumn menu d found = (voices : ℕ) → IsPacked voices menu → Contains (columns_of menu) d → IsSomeAnd found (IsNumberOf menu d)
+FindsColumn menu d found =
+    (voices : ℕ) → IsPacked voices menu → Contains (columns_of menu) d → IsSomeAnd found (IsNumberOf menu d)
 
 -- two packed menus have the same columns
 abbrev pub HaveSameColumns : Menu → Menu → Type 0
-HaveSameColumns menu other = (voices : ℕ) → IsPacked voices menu → IsPacked voices other → columns_of menu ≡ columns_of other
+HaveSameColumns menu other =
+    (voices : ℕ) → IsPacked voices menu → IsPacked voices other → columns_of menu ≡ columns_of other

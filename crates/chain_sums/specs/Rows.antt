@@ -7,10 +7,12 @@ use Rattle.chain_sums.specs.Chains.{Chains, IsLeast, cells_of}
 -- a row has beside each column of a menu the least sum behind it
 pub record IsRow (c : Chains) (i : ℕ) (row : List (Option ℕ)) : Type 0 where
   pub beside : length row ≡ length (c.menu i)
-  pub least : (k : ℕ) → k < length (c.menu i) → IsLeast c (suc i) (Some (slice_index_or (c.menu i) k [])) (slice_index_or row k None)
+  pub least : (k : ℕ) → k < length (c.menu i)
+      → IsLeast c (suc i) (Some (slice_index_or (c.menu i) k [])) (slice_index_or row k None)
 
 -- a column costs so much, together with a sum behind it
-pub record IsSumOf (c : Chains) (i : ℕ) (before : Option (List Cell)) (d : List Cell) (rest : Option ℕ) (sum : ℕ) : Type 0 where
+pub record IsSumOf (c : Chains) (i : ℕ) (before : Option (List Cell)) (d : List Cell) (rest : Option ℕ) (sum : ℕ) : Type
+    0 where
   pub follows : ColumnFollows (cells_of before) d
   pub own : ℕ
   pub is_own : c.cost i before d ≡ Some own

@@ -30,4 +30,5 @@ IsStill columns = (k : ℕ) → k < length columns → all_hold (slice_index_or 
 abbrev pub packed_held : List Cell → ℕ
 packed_held col =
     2 ^ 48 * packed_cell (held (cell_in col 0))
-    + (2 ^ 32 * packed_cell (held (cell_in col 1)) + (2 ^ 16 * packed_cell (held (cell_in col 2)) + packed_cell (held (cell_in col 3))))
+    + (2 ^ 32 * packed_cell (held (cell_in col 1)) +
+    (2 ^ 16 * packed_cell (held (cell_in col 2)) + packed_cell (held (cell_in col 3))))

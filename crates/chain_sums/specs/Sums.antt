@@ -19,10 +19,12 @@ least_in (x ∷ xs) = lesser x (least_in xs)
 
 -- each cell of a column may follow the one of its voice
 abbrev pub column_follows : List Cell → List Cell → Bool
-column_follows before next = list_all (λ v. cell_follows (cell_in before v) (cell_in next v)) (range_with_len 0 (length next))
+column_follows before next =
+    list_all (λ v. cell_follows (cell_in before v) (cell_in next v)) (range_with_len 0 (length next))
 
 -- the least sum over chains of so many columns, from a place on, behind a column or behind none
 abbrev pub least_sum : Chains → ℕ → ℕ → Option (List Cell) → Option ℕ
 least_sum c zero i before = Some 0
 least_sum c (suc count) i before =
-    least_in (map (λ d. if column_follows (cells_of before) d then plus (c.cost i before d) (least_sum c count (suc i) (Some d)) else None) (c.menu i))
+    least_in (map (λ d. if column_follows (cells_of before) d
+    then plus (c.cost i before d) (least_sum c count (suc i) (Some d)) else None) (c.menu i))

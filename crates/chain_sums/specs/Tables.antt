@@ -27,7 +27,8 @@ pub record AreRows (c : Chains) (menus : List Menu) (rows : List Row) (places : 
   pub few : length places ≤ c.places
   pub packed : All (IsPacked c.voices) menus
   pub named : All (λ number. number < length rows) places
-  pub at : (j : ℕ) (d : Row) → j < length places → IsRowAt c (c.places - 1 - j) menus (slice_index_or rows (slice_index_or places j 0) d)
+  pub at : (j : ℕ) (d : Row) → j < length places
+      → IsRowAt c (c.places - 1 - j) menus (slice_index_or rows (slice_index_or places j 0) d)
 
 -- items keep their numbers among more of them
 pub record KeepNumbers {X : Type 0} (items more : List X) : Type 0 where
@@ -65,7 +66,8 @@ pub record AreTablesOf (c : Chains) (t : Tables) : Type 0 where
 
 -- this row has the number, where any has
 abbrev pub IsNumbered : List Row → ℕ → Option (Bor Row) → Type 0
-IsNumbered rows number found = number < length rows → IsSomeAnd found (λ row. row.now ≡ slice_index_or rows number row.now)
+IsNumbered rows number found =
+    number < length rows → IsSomeAnd found (λ row. row.now ≡ slice_index_or rows number row.now)
 
 -- whatever chains rows are of: this is the row of the first place that has one; none only where no place has one
 abbrev pub IsLatestRow : Tables → Option (Bor Row) → Type 0
@@ -75,21 +77,25 @@ IsLatestRow t found =
 
 -- whatever chains tables are of: this is the row of a place
 abbrev pub IsRowOfPlace : Tables → ℕ → Option (Bor Row) → Type 0
-IsRowOfPlace t i found = (c : Chains) → AreTablesOf c t → i < c.places → IsSomeAnd found (λ row. IsRowAt c i t.menus.items row.now)
+IsRowOfPlace t i found =
+    (c : Chains) → AreTablesOf c t → i < c.places → IsSomeAnd found (λ row. IsRowAt c i t.menus.items row.now)
 
 -- this is the least sum behind a column of a place's menu
 abbrev pub IsRestBehind : Tables → ℕ → List Cell → Option ℕ → Type 0
-IsRestBehind t i d rest = (c : Chains) → AreTablesOf c t → i < c.places → Contains (c.menu i) d → IsLeast c (suc i) (Some d) rest
+IsRestBehind t i d rest =
+    (c : Chains) → AreTablesOf c t → i < c.places → Contains (c.menu i) d → IsLeast c (suc i) (Some d) rest
 
 -- this is the least sum behind the column that has a number there
 abbrev pub IsRestAt : Tables → ℕ → ℕ → Option ℕ → Type 0
 IsRestAt t i k rest =
-    (c : Chains) → AreTablesOf c t → i < c.places → k < length (c.menu i) → IsLeast c (suc i) (Some (slice_index_or (c.menu i) k [])) rest
+    (c : Chains) → AreTablesOf c t → i < c.places → k < length (c.menu i)
+    → IsLeast c (suc i) (Some (slice_index_or (c.menu i) k [])) rest
 
 -- this column has the number there
 abbrev pub IsColumnAt : Tables → ℕ → ℕ → Option (Bor (ArrayVec Cell)) → Type 0
 IsColumnAt t i k found =
-    (c : Chains) → AreTablesOf c t → i < c.places → k < length (c.menu i) → IsSomeAnd found (λ column. column.now.items ≡ slice_index_or (c.menu i) k [])
+    (c : Chains) → AreTablesOf c t → i < c.places → k < length (c.menu i)
+    → IsSomeAnd found (λ column. column.now.items ≡ slice_index_or (c.menu i) k [])
 
 -- no menu is too wide
 abbrev pub AreNarrow : Chains → Type 0

@@ -29,7 +29,8 @@ use Rattle.dissonance_rules.proofs.LatePlaces.{clash_places}
 
 -- ---- S11 and S14
 
-rule_form : (n : ℕ) (ex : Exercise) (i : ℕ) (behind : List (List Cell)) (now : List Cell) (ahead : List (List Cell)) → IsOf (pair_sets_of ex.voices) (λ voices. broken_in n ex voices i behind now ahead)
+rule_form : (n : ℕ) (ex : Exercise) (i : ℕ) (behind : List (List Cell)) (now : List Cell) (ahead : List (List Cell))
+    → IsOf (pair_sets_of ex.voices) (λ voices. broken_in n ex voices i behind now ahead)
 rule_form n ex i behind now ahead = at (n == 11) refl
   where
     at : (b : Bool) → (n == 11) ≡ b → IsOf (pair_sets_of ex.voices) (λ voices. broken_in n ex voices i behind now ahead)
@@ -37,11 +38,14 @@ rule_form n ex i behind now ahead = at (n == 11) refl
     at false e = rw e (pair_form ex _)
 
 -- within a bar neither rule is broken
-within_bar : (n : ℕ) (ex : Exercise) (voices i : ℕ) (behind : List (List Cell)) (now : List Cell) → begins_bar i ≡ false → broken_in n ex voices i behind now [] ≡ false
+within_bar : (n : ℕ) (ex : Exercise) (voices i : ℕ) (behind : List (List Cell)) (now : List Cell) → begins_bar i ≡ false
+    → broken_in n ex voices i behind now [] ≡ false
 within_bar n ex voices i behind now slot =
     either_none (n == 11) _ _ false
-    (on_pair-none ex _ voices (λ v w. ap (λ b. (b && nat_le 2 (bar_of i) && nat_lt (bar_of i) ex.bars) && sound_same_key now v w) slot))
-    (on_pair-none ex _ voices (λ v w. ap (λ b. b && starts (cell_in now v) && starts (cell_in now w) && clash now v w) slot))
+    (on_pair-none ex _ voices (λ v w. ap (λ b. (b && nat_le 2 (bar_of i) && nat_lt (bar_of i) ex.bars)
+    && sound_same_key now v w) slot))
+    (on_pair-none ex _ voices (λ v w. ap (λ b. b && starts (cell_in now v) && starts (cell_in now w) && clash now v w)
+    slot))
 
 at_once_keeps : (n : ℕ) → KeepsRuleLaws (at_once_row n)
 at_once_keeps n = record {
@@ -74,10 +78,13 @@ module _ (n : ℕ) (ex : Exercise) where
   none false false = refl
 
   -- within a bar nothing is suspended
-  suspended_at_bars : (voices i : ℕ) (behind : List (List Cell)) (now : List Cell) → may_stand (late_row n).stands ex i ≡ false → clash_row n ex voices i behind now [] ≡ false
-  suspended_at_bars voices i behind now h = on_pair-none ex _ voices (λ v w. rw (one_way v w, one_way w v) (none (is_free ex v) (is_free ex w)))
+  suspended_at_bars : (voices i : ℕ) (behind : List (List Cell)) (now : List Cell) → may_stand (late_row n).stands ex i
+      ≡ false → clash_row n ex voices i behind now [] ≡ false
+  suspended_at_bars voices i behind now h =
+      on_pair-none ex _ voices (λ v w. rw (one_way v w, one_way w v) (none (is_free ex v) (is_free ex w)))
     where
-      at : (v w : ℕ) (a b c : Bool) → (n == 15) ≡ a → (n == 19) ≡ b → (n == 20) ≡ c → may_stand (if a then Anywhere else AtBars) ex i ≡ false → clash_rule n ex i behind now [] v w ≡ false
+      at : (v w : ℕ) (a b c : Bool) → (n == 15) ≡ a → (n == 19) ≡ b → (n == 20) ≡ c
+          → may_stand (if a then Anywhere else AtBars) ex i ≡ false → clash_rule n ex i behind now [] v w ≡ false
       at v w true b c e f g k = cc
       at v w false true c e f g k = rw (e, f, k) refl
       at v w false false true e f g k = rw (e, f, g, k) refl
@@ -89,7 +96,9 @@ module _ (n : ℕ) (ex : Exercise) where
   late_within : (i : ℕ) → late_first n ex i + late_count n ex i ≤ i + 1
   late_within i = at (n == 15) (n == 20) (may_settle ex.species i) (slot_of i == 4) (begins_bar i)
     where
-      at : (a b c d e : Bool) → (if a then i - reach ex.species else (if b then i - 4 else i)) + (if a then (if c then i + 1 - (i - reach ex.species) else 0) else (if b then (if d then 1 else 0) else (if e then 1 else 0))) ≤ i + 1
+      at : (a b c d e : Bool) → (if a then i - reach ex.species else (if b then i - 4 else i)) +
+          (if a then (if c then i + 1 - (i - reach ex.species) else 0)
+          else (if b then (if d then 1 else 0) else (if e then 1 else 0))) ≤ i + 1
       at true b true d e = omega arith
       at true b false d e = omega arith
       at false true c true e = omega arith
@@ -111,7 +120,8 @@ late_keeps n = record {
 }
 
 pub rules_keep : (n : ℕ) → KeepsRuleLaws (rule_row n)
-rules_keep n = cond_both (is_late n) (late_row n) (at_once_row n) KeepsRuleLaws (λ _. late_keeps n) (λ _. at_once_keeps n)
+rules_keep n =
+    cond_both (is_late n) (late_row n) (at_once_row n) KeepsRuleLaws (λ _. late_keeps n) (λ _. at_once_keeps n)
 
 pub tolls_keep : (n : ℕ) → KeepsTollLaws (toll_row n)
 tolls_keep n = record {

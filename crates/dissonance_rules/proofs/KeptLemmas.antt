@@ -15,43 +15,58 @@ use Rattle.dissonance_rules.specs.Kept.{IsKept, notes_within}
 
 -- a column is the list's wherever it's that of every list whose newest columns these are
 abbrev pub Tells : ℕ → NewestColumns → ℕ → List Cell → Type 0
-Tells voices kept j col = (s : List (List Cell)) → AreNewestOf voices s kept → length s ≤ j + 24 → col ≡ slice_index_or s j []
+Tells voices kept j col =
+    (s : List (List Cell)) → AreNewestOf voices s kept → length s ≤ j + 24 → col ≡ slice_index_or s j []
 
-pub told : (ex : Exercise) (kept : NewestColumns) (s : List (List Cell)) (i j voices : ℕ) (col : List Cell) → voices ≡ ex.voices → IsKept ex kept s i → i ≤ j + 3 → Tells voices kept j col → col ≡ slice_index_or s j []
+pub told : (ex : Exercise) (kept : NewestColumns) (s : List (List Cell)) (i j voices : ℕ) (col : List Cell) → voices
+    ≡ ex.voices → IsKept ex kept s i → i ≤ j + 3 → Tells voices kept j col → col ≡ slice_index_or s j []
 told ex kept s i j voices col same is near tells =
     let P : ℕ → Type 0 = λ n. AreNewestOf n s kept in
     tells s (subst P (sym same) is.newest) (omega (arith, near, is.near))
 
-pub behind_told : (ex : Exercise) (kept : NewestColumns) (s : List (List Cell)) (i k voices : ℕ) (col : List Cell) → voices ≡ ex.voices → IsKept ex kept s i → k < i → k ≤ 2 → Tells voices kept (i - 1 - k) col → col ≡ slice_index_or (earlier s i) k []
+pub behind_told : (ex : Exercise) (kept : NewestColumns) (s : List (List Cell)) (i k voices : ℕ) (col : List Cell)
+    → voices ≡ ex.voices → IsKept ex kept s i → k < i → k ≤ 2 → Tells voices kept (i - 1 - k) col → col
+    ≡ slice_index_or (earlier s i) k []
 behind_told ex kept s i k voices col same is before near tells =
-    told ex kept s i (i - 1 - k) voices col same is (omega (arith, near, before)) tells ∙ sym (get_or-earlier s i k before (omega (arith, is.here)))
+    told ex kept s i (i - 1 - k) voices col same is (omega (arith, near, before)) tells
+    ∙ sym (get_or-earlier s i k before (omega (arith, is.here)))
 
-pub behind_none : (ex : Exercise) (kept : NewestColumns) (s : List (List Cell)) (i k : ℕ) → IsKept ex kept s i → i ≤ k → [] ≡ slice_index_or (earlier s i) k []
+pub behind_none : (ex : Exercise) (kept : NewestColumns) (s : List (List Cell)) (i k : ℕ) → IsKept ex kept s i → i ≤ k
+    → [] ≡ slice_index_or (earlier s i) k []
 behind_none ex kept s i k is past = sym (get_or-earlier_past s i k past (omega (arith, is.here)))
 
 -- ---- the notes within a list's first columns
 
-notes-first : (n : ℕ) (c : Cell) (p : Pitch) (cells : List Cell) → c ≡ Start p → onsets_from n (c ∷ cells) ≡ record { start = n; pitch = p } ∷ onsets_from (n + 1) cells
+notes-first : (n : ℕ) (c : Cell) (p : Pitch) (cells : List Cell) → c ≡ Start p → onsets_from n (c ∷ cells)
+    ≡ record { start = n; pitch = p } ∷ onsets_from (n + 1) cells
 notes-first n c p cells e =
     let next : suc n ≡ n + 1 = omega arith in
     ap (λ d. onsets_from n (d ∷ cells)) e ∙ ap (λ k. record { start = n; pitch = p } ∷ onsets_from k cells) next
 
-notes-later : (n : ℕ) (c : Cell) (cells : List Cell) → ((p : Pitch) → c ≡ Start p → ⊥) → onsets_from n (c ∷ cells) ≡ onsets_from (n + 1) cells
+notes-later : (n : ℕ) (c : Cell) (cells : List Cell) → ((p : Pitch) → c ≡ Start p → ⊥) → onsets_from n (c ∷ cells)
+    ≡ onsets_from (n + 1) cells
 notes-later n Rest cells other = let next : suc n ≡ n + 1 = omega arith in ap (λ k. onsets_from k cells) next
 notes-later n (Hold p) cells other = let next : suc n ≡ n + 1 = omega arith in ap (λ k. onsets_from k cells) next
 notes-later n (Start p) cells other = absurd (other p refl)
 
 module _ (s : List (List Cell)) (end v : ℕ) (fits : end ≤ length s) where
-  notes-cell : (j : ℕ) → j < end → notes_within s end v j ≡ onsets_from j (cell_in (slice_index_or s j []) v ∷ line v (drop (j + 1) (take end s)))
+  notes-cell : (j : ℕ) → j < end → notes_within s end v j
+      ≡ onsets_from j (cell_in (slice_index_or s j []) v ∷ line v (drop (j + 1) (take end s)))
   notes-cell j h =
-      ap (λ cols. onsets_from j (line v cols)) (drop_more (take end s) j [] (omega (arith, h, length-take-le end s fits)))
+      ap (λ cols. onsets_from j (line v cols))
+      (drop_more (take end s) j [] (omega (arith, h, length-take-le end s fits)))
       ∙ ap (λ col. onsets_from j (cell_in col v ∷ line v (drop (j + 1) (take end s)))) (get_or-take end s j [] h)
 
-  pub notes-start : (j : ℕ) (c : Cell) (p : Pitch) → j < end → c ≡ cell_in (slice_index_or s j []) v → c ≡ Start p → notes_within s end v j ≡ record { start = j; pitch = p } ∷ notes_within s end v (j + 1)
-  notes-start j c p h e f = notes-cell j h ∙ notes-first j (cell_in (slice_index_or s j []) v) p (line v (drop (j + 1) (take end s))) (sym e ∙ f)
+  pub notes-start : (j : ℕ) (c : Cell) (p : Pitch) → j < end → c ≡ cell_in (slice_index_or s j []) v → c ≡ Start p
+      → notes_within s end v j ≡ record { start = j; pitch = p } ∷ notes_within s end v (j + 1)
+  notes-start j c p h e f = notes-cell j h
+      ∙ notes-first j (cell_in (slice_index_or s j []) v) p (line v (drop (j + 1) (take end s))) (sym e ∙ f)
 
-  pub notes-no_start : (j : ℕ) (c : Cell) → j < end → c ≡ cell_in (slice_index_or s j []) v → ((p : Pitch) → c ≡ Start p → ⊥) → notes_within s end v j ≡ notes_within s end v (j + 1)
-  notes-no_start j c h e other = notes-cell j h ∙ notes-later j (cell_in (slice_index_or s j []) v) (line v (drop (j + 1) (take end s))) (λ p f. other p (e ∙ f))
+  pub notes-no_start : (j : ℕ) (c : Cell) → j < end → c ≡ cell_in (slice_index_or s j []) v
+      → ((p : Pitch) → c ≡ Start p → ⊥) → notes_within s end v j ≡ notes_within s end v (j + 1)
+  notes-no_start j c h e other = notes-cell j h
+      ∙ notes-later j (cell_in (slice_index_or s j []) v) (line v (drop (j + 1) (take end s))) (λ p f. other p (e ∙ f))
 
   pub notes-none : (j : ℕ) → end ≤ j → notes_within s end v j ≡ []
-  notes-none j h = ap (λ cols. onsets_from j (line v cols)) (drop_all j (take end s) (omega (arith, h, length-take-le end s fits)))
+  notes-none j h =
+      ap (λ cols. onsets_from j (line v cols)) (drop_all j (take end s) (omega (arith, h, length-take-le end s fits)))

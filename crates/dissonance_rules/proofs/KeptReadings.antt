@@ -20,7 +20,8 @@ pub no_second : {X : Type 0} (xs : List X) → None ≡ first_of xs → None ≡
 no_second [] h = refl
 no_second (x ∷ xs) h = cc
 
-good_same : (sp sp' : ℕ) (p p' h h' n n' : Option Pitch) (c c' : Bool) (a a' : Option Pitch) → sp ≡ sp' → p ≡ p' → h ≡ h' → n ≡ n' → c ≡ c' → a ≡ a' → is_good sp p h n c a ≡ is_good sp' p' h' n' c' a'
+good_same : (sp sp' : ℕ) (p p' h h' n n' : Option Pitch) (c c' : Bool) (a a' : Option Pitch) → sp ≡ sp' → p ≡ p' → h
+    ≡ h' → n ≡ n' → c ≡ c' → a ≡ a' → is_good sp p h n c a ≡ is_good sp' p' h' n' c' a'
 good_same sp sp' p p' h h' n n' c c' a a' e1 e2 e3 e4 e5 e6 =
     ap (λ x. is_good x p h n c a) e1
     ∙ ap (λ x. is_good sp' x h n c a) e2
@@ -34,14 +35,19 @@ newest_is_first [] = refl
 newest_is_first (col ∷ cols) = refl
 
 -- what is found of the notes ahead and of the columns there and before, of a place that is kept
-pub record IsFound (ex : Exercise) (s : List (List Cell)) (i v end : ℕ) (behind now : List Cell) (next second : Option Onset) (clean : Bool) : Type 0 where
+pub record IsFound (ex : Exercise) (s : List (List Cell)) (i v end : ℕ) (behind now : List Cell)
+    (next second : Option Onset) (clean : Bool) : Type 0 where
   pub behind_is : behind ≡ slice_index_or (earlier s i) 0 []
   pub now_is : now ≡ slice_index_or s i []
   pub next_is : next ≡ first_of (notes_within s end v (i + 1))
   pub second_is : second ≡ second_of (notes_within s end v (i + 1))
   pub clean_is : clean ≡ starts_clean i (drop (i + 1) s) v next
 
-pub good_found : (ex : Exercise) (kept : NewestColumns) (s : List (List Cell)) (i v : ℕ) (behind now : List Cell) (next second : Option Onset) (clean : Bool) → IsKept ex kept s i → is_free ex v ≡ true → IsFound ex s i v kept.len behind now next second clean → is_good (species_in ex v) (pitch_of (cell_in behind v)) (pitch_of (cell_in now v)) (onset_pitch next) clean (onset_pitch second) ≡ is_good_note (species_in ex v) i (earlier s i) (slice_index_or s i []) (drop (i + 1) s) v
+pub good_found : (ex : Exercise) (kept : NewestColumns) (s : List (List Cell)) (i v : ℕ) (behind now : List Cell)
+    (next second : Option Onset) (clean : Bool) → IsKept ex kept s i → is_free ex v ≡ true
+    → IsFound ex s i v kept.len behind now next second clean
+    → is_good (species_in ex v) (pitch_of (cell_in behind v)) (pitch_of (cell_in now v)) (onset_pitch next) clean
+    (onset_pitch second) ≡ is_good_note (species_in ex v) i (earlier s i) (slice_index_or s i []) (drop (i + 1) s) v
 good_found ex kept s i v behind now next second clean is free found =
     good_same (species_in ex v) (species_in ex v) _ _ _ _ _ _ _ _ _ _ refl
     (ap (λ col. pitch_of (cell_in col v)) (found.behind_is ∙ newest_is_first (earlier s i)) ∙ sym (is.previous v free))
@@ -68,16 +74,20 @@ module _ (ex : Exercise) (s : List (List Cell)) (i end v w : ℕ) (here : i < en
       size : i + 1 + length (drop (i + 1) (take end s)) ≡ end
       size = omega (arith, length-drop (i + 1) (take end s), length-take-le end s fits, here)
 
-  closed_by_end : (now : List Cell) → nat_lt (8 * (ex.bars - 1)) end ≡ true → is_open_clash ex i now first_columns v w ≡ false
-  closed_by_end now h = none (starts_in_clash now v w) (has_notes_after (species_in ex v) i v first_columns) (reaches_last_bar ex i first_columns) (reaches ∙ h)
+  closed_by_end : (now : List Cell) → nat_lt (8 * (ex.bars - 1)) end ≡ true → is_open_clash ex i now first_columns v w
+      ≡ false
+  closed_by_end now h = none (starts_in_clash now v w) (has_notes_after (species_in ex v) i v first_columns)
+      (reaches_last_bar ex i first_columns) (reaches ∙ h)
     where
       none : (a b c : Bool) → c ≡ true → (a && not (b || c)) ≡ false
       none true true c h = refl
       none true false c h = ap not h
       none false b c h = refl
 
-  open_by_notes : (now : List Cell) → starts_in_clash now v w ≡ true → nat_lt (8 * (ex.bars - 1)) end ≡ false → is_open_clash ex i now first_columns v w ≡ not (has_notes_after (species_in ex v) i v first_columns)
-  open_by_notes now e f = rest (starts_in_clash now v w) (has_notes_after (species_in ex v) i v first_columns) (reaches_last_bar ex i first_columns) e (reaches ∙ f)
+  open_by_notes : (now : List Cell) → starts_in_clash now v w ≡ true → nat_lt (8 * (ex.bars - 1)) end ≡ false
+      → is_open_clash ex i now first_columns v w ≡ not (has_notes_after (species_in ex v) i v first_columns)
+  open_by_notes now e f = rest (starts_in_clash now v w) (has_notes_after (species_in ex v) i v first_columns)
+      (reaches_last_bar ex i first_columns) e (reaches ∙ f)
     where
       rest : (a b c : Bool) → a ≡ true → c ≡ false → (a && not (b || c)) ≡ not b
       rest true true c h k = refl
@@ -88,21 +98,29 @@ module _ (ex : Exercise) (s : List (List Cell)) (i end v w : ℕ) (here : i < en
   not_some o true h = ap not (sym h)
   not_some o false h = ap not (sym h)
 
-  pub closed_last : (now : List Cell) → now ≡ slice_index_or s i [] → true ≡ nat_lt (8 * (ex.bars - 1)) end → false ≡ is_open_clash ex i (slice_index_or s i []) first_columns v w
+  pub closed_last : (now : List Cell) → now ≡ slice_index_or s i [] → true ≡ nat_lt (8 * (ex.bars - 1)) end → false
+      ≡ is_open_clash ex i (slice_index_or s i []) first_columns v w
   closed_last now e h = sym (closed_by_end (slice_index_or s i []) (sym h))
 
-  module _ (now : List Cell) (e : now ≡ slice_index_or s i []) (clashing : starts_in_clash now v w ≡ true) (unended : nat_lt (8 * (ex.bars - 1)) end ≡ false) where
+  module _ (now : List Cell) (e : now ≡ slice_index_or s i []) (clashing : starts_in_clash now v w ≡ true)
+      (unended : nat_lt (8 * (ex.bars - 1)) end ≡ false) where
     clashing_there : starts_in_clash (slice_index_or s i []) v w ≡ true
     clashing_there = sym (ap (λ col. starts_in_clash col v w) e) ∙ clashing
 
-    pub open_ornament : (second : Option Onset) → second ≡ second_of (notes_within s end v (i + 1)) → has_ornaments (species_in ex v) ≡ true → (r : Bool) → is_some second ≡ not r → r ≡ is_open_clash ex i (slice_index_or s i []) first_columns v w
+    pub open_ornament : (second : Option Onset) → second ≡ second_of (notes_within s end v (i + 1))
+        → has_ornaments (species_in ex v) ≡ true → (r : Bool) → is_some second ≡ not r → r
+        ≡ is_open_clash ex i (slice_index_or s i []) first_columns v w
     open_ornament second f h r n =
         not_some second r n ∙ ap (λ o. not (is_some o)) f
         ∙ sym (open_by_notes (slice_index_or s i []) clashing_there unended
-        ∙ ap (λ b. not (if b then is_some (second_next_onset i v first_columns) else is_some (next_onset i v first_columns))) h)
+        ∙ ap (λ b. not (if b then is_some (second_next_onset i v first_columns)
+        else is_some (next_onset i v first_columns))) h)
 
-    pub open_plain : (next : Option Onset) → next ≡ first_of (notes_within s end v (i + 1)) → has_ornaments (species_in ex v) ≡ false → (r : Bool) → is_some next ≡ not r → r ≡ is_open_clash ex i (slice_index_or s i []) first_columns v w
+    pub open_plain : (next : Option Onset) → next ≡ first_of (notes_within s end v (i + 1))
+        → has_ornaments (species_in ex v) ≡ false → (r : Bool) → is_some next ≡ not r → r
+        ≡ is_open_clash ex i (slice_index_or s i []) first_columns v w
     open_plain next f h r n =
         not_some next r n ∙ ap (λ o. not (is_some o)) f
         ∙ sym (open_by_notes (slice_index_or s i []) clashing_there unended
-        ∙ ap (λ b. not (if b then is_some (second_next_onset i v first_columns) else is_some (next_onset i v first_columns))) h)
+        ∙ ap (λ b. not (if b then is_some (second_next_onset i v first_columns)
+        else is_some (next_onset i v first_columns))) h)

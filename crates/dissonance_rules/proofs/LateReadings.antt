@@ -48,7 +48,8 @@ row_is n h = cond-true (is_late n) (late_row n) (at_once_row n) (late_from n h)
 
 -- ---- settled columns of S15
 
-module _ (ex : Exercise) (voices : ℕ) (p : List (List Cell)) (col : List Cell) (i len : ℕ) (count : len ≡ length (p ++ col ∷ [])) (here : i < len) where
+module _ (ex : Exercise) (voices : ℕ) (p : List (List Cell)) (col : List Cell) (i len : ℕ)
+    (count : len ≡ length (p ++ col ∷ [])) (here : i < len) where
   abbrev grown : List (List Cell)
   grown = p ++ col ∷ []
 
@@ -66,7 +67,8 @@ module _ (ex : Exercise) (voices : ℕ) (p : List (List Cell)) (col : List Cell)
 
   pub open_still : true ≡ opens grown (take len grown) → false ≡ newly (settled_by (passing_enough ex voices)) p col i
   open_still h =
-      sym (ap (λ b. b && not (settled_by (passing_enough ex voices) p i)) (settled_now ∙ ap not (sym (h ∙ ap (opens grown) whole))))
+      sym (ap (λ b. b && not (settled_by (passing_enough ex voices) p i))
+      (settled_now ∙ ap not (sym (h ∙ ap (opens grown) whole))))
 
   module _ (closed : false ≡ opens grown (take len grown)) where
     now_true : settled_by (passing_enough ex voices) grown i ≡ true
@@ -75,14 +77,17 @@ module _ (ex : Exercise) (voices : ℕ) (p : List (List Cell)) (col : List Cell)
     pub settled_newest : i + 1 ≡ len → true ≡ newly (settled_by (passing_enough ex voices)) p col i
     settled_newest last =
         sym (ap (λ b. b && not (settled_by (passing_enough ex voices) p i)) now_true
-        ∙ ap (λ b. not (b && reading_of (passing_enough ex voices) p i)) (le-ltb i (length p) (omega (arith, last, size))))
+        ∙ ap (λ b. not (b && reading_of (passing_enough ex voices) p i))
+        (le-ltb i (length p) (omega (arith, last, size))))
 
-    pub settled_then : i + 1 ≢ len → opens grown (take (len - 1) grown) ≡ newly (settled_by (passing_enough ex voices)) p col i
+    pub settled_then : i + 1 ≢ len → opens grown (take (len - 1) grown)
+        ≡ newly (settled_by (passing_enough ex voices)) p col i
     settled_then earlier_place =
         let before : i < length p = omega (arith, earlier_place, size, here) in
         let prefix : take (len - 1) grown ≡ p = take_at p (col ∷ []) (len - 1) (omega (arith, size)) in
         ap (opens grown) prefix
-        ∙ ap (λ c. on_some_way ex (is_open_clash ex i c (drop (i + 1) p)) voices) (get_or-append p (col ∷ []) [] i before)
+        ∙ ap (λ c. on_some_way ex (is_open_clash ex i c (drop (i + 1) p)) voices)
+        (get_or-append p (col ∷ []) [] i before)
         ∙ twice (opens p p)
         ∙ sym (ap (λ b. b && not (settled_by (passing_enough ex voices) p i)) now_true
         ∙ ap (λ b. not (b && not (opens p p))) (lt-ltb i (length p) before))
@@ -100,7 +105,8 @@ module _ (n : ℕ) (ex : Exercise) (p : List (List Cell)) (col : List Cell) (i :
   first_near : length p ≤ late_first n ex (length p) + 19
   first_near = at (n == 15) (n == 20) ((ex.species == 2) || (ex.species == 3)) (ex.species == 4)
     where
-      at : (a b c d : Bool) → length p ≤ (if a then length p - (if c then 4 else (if d then 8 else 19)) else (if b then length p - 4 else length p)) + 19
+      at : (a b c d : Bool) → length p ≤ (if a then length p - (if c then 4 else (if d then 8 else 19))
+          else (if b then length p - 4 else length p)) + 19
       at true b true d = omega arith
       at true b false true = omega arith
       at true b false false = omega arith
@@ -115,7 +121,8 @@ module _ (n : ℕ) (ex : Exercise) (p : List (List Cell)) (col : List Cell) (i :
   unfolding earlier
   orderly_before =
       let P : List (List Cell) → Type 0 = λ s. IsOrderly ex s in
-      subst P (sym (reverse-reverse (take i p))) (orderly-fewer ex (take i p) (drop i p) (subst P (sym (take-append-drop i p)) on.orderly))
+      subst P (sym (reverse-reverse (take i p)))
+      (orderly-fewer ex (take i p) (drop i p) (subst P (sym (take-append-drop i p)) on.orderly))
 
   follows_fewer : (xs ys : List (List Cell)) → HistoryFollows (xs ++ ys) → HistoryFollows ys
   follows_fewer [] ys f = f
@@ -126,19 +133,26 @@ module _ (n : ℕ) (ex : Exercise) (p : List (List Cell)) (col : List Cell) (i :
   follows_before =
       let P : List (List Cell) → Type 0 = λ s. HistoryFollows s in
       follows_fewer (reverse (drop i p ++ col ∷ [])) (reverse (take i p))
-      (subst P (ap reverse (sym (ap (λ s. s ++ col ∷ []) (take-append-drop i p)) ∙ append_assoc (take i p) (drop i p) (col ∷ [])) ∙ reverse-append (take i p) (drop i p ++ col ∷ [])) on.longer.follows)
+      (subst P (ap reverse (sym (ap (λ s. s ++ col ∷ []) (take-append-drop i p))
+      ∙ append_assoc (take i p) (drop i p) (col ∷ [])) ∙ reverse-append (take i p) (drop i p ++ col ∷ []))
+      on.longer.follows)
 
   -- a voice that the exercise lacks has no notes
-  silent_pitch : (v : ℕ) (cols : List (List Cell)) → ((k : ℕ) → k < length cols → cell_in (slice_index_or cols k []) v ≡ Rest) → previous_pitch (line v cols) ≡ pitch_of (cell_in (newest_column cols) v)
+  silent_pitch : (v : ℕ) (cols : List (List Cell))
+      → ((k : ℕ) → k < length cols → cell_in (slice_index_or cols k []) v ≡ Rest) → previous_pitch (line v cols)
+      ≡ pitch_of (cell_in (newest_column cols) v)
   silent_pitch v cols rests = none cols rests ∙ sym (newest_none cols rests)
     where
-      none : (cols : List (List Cell)) → ((k : ℕ) → k < length cols → cell_in (slice_index_or cols k []) v ≡ Rest) → previous_pitch (line v cols) ≡ None
+      none : (cols : List (List Cell)) → ((k : ℕ) → k < length cols → cell_in (slice_index_or cols k []) v ≡ Rest)
+          → previous_pitch (line v cols) ≡ None
       none [] rests = refl
       none (col ∷ cols) rests =
           ap (λ c. note_pitch (first_of (notes_from 0 (c ∷ line v cols)))) (rests 0 (omega arith))
           ∙ none cols (λ k h. rests (suc k) (omega (arith, h)))
 
-      newest_none : (cols : List (List Cell)) → ((k : ℕ) → k < length cols → cell_in (slice_index_or cols k []) v ≡ Rest) → pitch_of (cell_in (newest_column cols) v) ≡ None
+      newest_none : (cols : List (List Cell))
+          → ((k : ℕ) → k < length cols → cell_in (slice_index_or cols k []) v ≡ Rest)
+          → pitch_of (cell_in (newest_column cols) v) ≡ None
       newest_none [] rests = refl
       newest_none (col ∷ cols) rests = ap pitch_of (rests 0 (omega arith))
 
@@ -150,7 +164,8 @@ module _ (n : ℕ) (ex : Exercise) (p : List (List Cell)) (col : List Cell) (i :
   unfolding earlier
   count_before h = length-reverse (take i p) ∙ length-take-le i p h
 
-  previous_is : i ≤ length p → (v : ℕ) → is_free ex v ≡ true → previous_pitch (line v (earlier p i)) ≡ pitch_of (cell_in (newest_column (earlier p i)) v)
+  previous_is : i ≤ length p → (v : ℕ) → is_free ex v ≡ true → previous_pitch (line v (earlier p i))
+      ≡ pitch_of (cell_in (newest_column (earlier p i)) v)
   previous_is h v free =
       elim (cases_lt v ex.voices) [
         | inl there ↦
@@ -165,21 +180,28 @@ module _ (n : ℕ) (ex : Exercise) (p : List (List Cell)) (col : List Cell) (i :
 
       width : (j : ℕ) → j < length p → length (slice_index_or p j []) ≡ ex.voices
       width j here =
-          ap length (sym (get_or-append p (col ∷ []) [] j here)) ∙ (on.longer.menus j (omega (arith, here, size_of))).full
+          ap length (sym (get_or-append p (col ∷ []) [] j here))
+          ∙ (on.longer.menus j (omega (arith, here, size_of))).full
 
-      rests_beyond : ex.voices ≤ v → (k : ℕ) → k < length (earlier p i) → cell_in (slice_index_or (earlier p i) k []) v ≡ Rest
+      rests_beyond : ex.voices ≤ v → (k : ℕ) → k < length (earlier p i) → cell_in (slice_index_or (earlier p i) k []) v
+          ≡ Rest
       rests_beyond beyond k here =
           let within : k < i = omega (arith, here, count_before h) in
           ap (λ c. cell_in c v) (get_or-earlier p i k within h)
-          ∙ get_or_past (slice_index_or p (i - 1 - k) []) v Rest (omega (arith, width (i - 1 - k) (omega (arith, within, h)), beyond))
+          ∙ get_or_past (slice_index_or p (i - 1 - k) []) v Rest
+          (omega (arith, width (i - 1 - k) (omega (arith, within, h)), beyond))
 
-  pub placed : IsTrue (rule_row n).late → IsAmong ((rule_row n).first ex (length p)) ((rule_row n).count ex (length p)) i → i ≤ length p
+  pub placed : IsTrue (rule_row n).late → IsAmong ((rule_row n).first ex (length p)) ((rule_row n).count ex (length p))
+      i → i ≤ length p
   placed late among = omega (arith, among.to, (rules_keep n).within ex (length p))
 
-  pub kept_after : (kept : NewestColumns) → AreNewestOf ex.voices (p ++ col ∷ []) kept → IsTrue (rule_row n).late → IsAmong ((rule_row n).first ex (length p)) ((rule_row n).count ex (length p)) i → IsKept ex kept (p ++ col ∷ []) i
+  pub kept_after : (kept : NewestColumns) → AreNewestOf ex.voices (p ++ col ∷ []) kept → IsTrue (rule_row n).late
+      → IsAmong ((rule_row n).first ex (length p)) ((rule_row n).count ex (length p)) i
+      → IsKept ex kept (p ++ col ∷ []) i
   kept_after kept newest late among =
       let here : i ≤ length p = placed late among in
-      let first : (rule_row n).first ex (length p) ≡ late_first n ex (length p) = ap (λ (r : RuleRow). r.first ex (length p)) (row_is n late) in
+      let first : (rule_row n).first ex (length p)
+      ≡ late_first n ex (length p) = ap (λ (r : RuleRow). r.first ex (length p)) (row_is n late) in
       record {
         newest = newest;
         here = omega (arith, here, size_of);
@@ -190,13 +212,16 @@ module _ (n : ℕ) (ex : Exercise) (p : List (List Cell)) (col : List Cell) (i :
       }
 
   -- what S19, S20 and S21 may settle at their places is settled there by the newest column
-  newly_at_place : (voices : ℕ) → (n == 15) ≡ false → IsAmong (late_first n ex (length p)) (late_count n ex (length p)) i → newly (settled_by (clash_enough n ex voices)) p col i ≡ true
+  newly_at_place : (voices : ℕ) → (n == 15) ≡ false
+      → IsAmong (late_first n ex (length p)) (late_count n ex (length p)) i
+      → newly (settled_by (clash_enough n ex voices)) p col i ≡ true
   newly_at_place voices other = at (n == 20) refl
     where
       at_four : IsAmong (length p - 4) (if slot_of (length p) == 4 then 1 else 0) i → length p ≡ i + 4
       at_four among = pick (slot_of (length p) == 4) refl among
         where
-          pick : (b : Bool) → (slot_of (length p) == 4) ≡ b → IsAmong (length p - 4) (if b then 1 else 0) i → length p ≡ i + 4
+          pick : (b : Bool) → (slot_of (length p) == 4) ≡ b → IsAmong (length p - 4) (if b then 1 else 0) i → length p
+              ≡ i + 4
           pick true e k = omega (arith, eqb-true (slot_of (length p)) 4 e, k.from, k.to)
           pick false e k = absurd (omega (arith, k.from, k.to))
 
@@ -209,17 +234,26 @@ module _ (n : ℕ) (ex : Exercise) (p : List (List Cell)) (col : List Cell) (i :
 
       at_fourth : length p ≡ i + 4 → newly (settled_by (resolution_enough ex)) p col i ≡ true
       at_fourth e =
-          let now_there : nat_lt i (length (p ++ col ∷ [])) ≡ true = lt-ltb i (length (p ++ col ∷ [])) (omega (arith, e, size_of)) in
-          let four : nat_le 4 (length (drop (i + 1) (p ++ col ∷ []))) ≡ true = le-leb 4 (length (drop (i + 1) (p ++ col ∷ []))) (omega (arith, e, size_of, length-drop (i + 1) (p ++ col ∷ []))) in
-          let three : nat_le 4 (length (drop (i + 1) p)) ≡ false = lt-leb 4 (length (drop (i + 1) p)) (omega (arith, e, length-drop (i + 1) p)) in
-          let part : is_whole ex i (drop (i + 1) p) ≡ false = lt-leb (columns_in ex) (i + 1 + length (drop (i + 1) p)) (omega (arith, e, size_of, length-drop (i + 1) p, on.longer.few)) in
-          ap (λ b. (b && reading_of (resolution_enough ex) (p ++ col ∷ []) i) && not (settled_by (resolution_enough ex) p i)) now_there
-          ∙ ap (λ b. (b || is_whole ex i (drop (i + 1) (p ++ col ∷ []))) && not (settled_by (resolution_enough ex) p i)) four
+          let now_there : nat_lt i (length (p ++ col ∷ []))
+          ≡ true = lt-ltb i (length (p ++ col ∷ [])) (omega (arith, e, size_of)) in
+          let four : nat_le 4 (length (drop (i + 1) (p ++ col ∷ [])))
+          ≡ true = le-leb 4 (length (drop (i + 1) (p ++ col ∷ [])))
+          (omega (arith, e, size_of, length-drop (i + 1) (p ++ col ∷ []))) in
+          let three : nat_le 4 (length (drop (i + 1) p))
+          ≡ false = lt-leb 4 (length (drop (i + 1) p)) (omega (arith, e, length-drop (i + 1) p)) in
+          let part : is_whole ex i (drop (i + 1) p)
+          ≡ false = lt-leb (columns_in ex) (i + 1 + length (drop (i + 1) p))
+          (omega (arith, e, size_of, length-drop (i + 1) p, on.longer.few)) in
+          ap (λ b. (b && reading_of (resolution_enough ex) (p ++ col ∷ []) i)
+          && not (settled_by (resolution_enough ex) p i)) now_there
+          ∙ ap (λ b. (b || is_whole ex i (drop (i + 1) (p ++ col ∷ []))) && not (settled_by (resolution_enough ex) p i))
+          four
           ∙ ap (λ b. not (nat_lt i (length p) && (b || is_whole ex i (drop (i + 1) p)))) three
           ∙ ap (λ b. not (nat_lt i (length p) && b)) part
           ∙ ap not (and_right (nat_lt i (length p)) false refl)
 
-      at : (b : Bool) → (n == 20) ≡ b → IsAmong (late_first n ex (length p)) (late_count n ex (length p)) i → newly (settled_by (clash_enough n ex voices)) p col i ≡ true
+      at : (b : Bool) → (n == 20) ≡ b → IsAmong (late_first n ex (length p)) (late_count n ex (length p)) i
+          → newly (settled_by (clash_enough n ex voices)) p col i ≡ true
       at true e = rw (other, e) (λ among. at_fourth (at_four among))
       at false e =
           rw (other, e) (λ among.
@@ -238,15 +272,21 @@ module _ (n : ℕ) (ex : Exercise) (p : List (List Cell)) (col : List Cell) (i :
     pub unbroken : false ≡ there → false ≡ Breaks
     unbroken h = sym (as_late ∙ and_right (newly (settled_by (clash_enough n ex voices)) p col i) there (sym h))
 
-    pub broken_at_place : true ≡ there → n ≢ 15 → IsAmong ((rule_row n).first ex (length p)) ((rule_row n).count ex (length p)) i → true ≡ Breaks
+    pub broken_at_place : true ≡ there → n ≢ 15
+        → IsAmong ((rule_row n).first ex (length p)) ((rule_row n).count ex (length p)) i → true ≡ Breaks
     broken_at_place h other among =
         let P : RuleRow → Type 0 = λ r. IsAmong (r.first ex (length p)) (r.count ex (length p)) i in
-        sym (as_late ∙ and_from (newly (settled_by (clash_enough n ex voices)) p col i) there (newly_at_place voices (ne_eqb n 15 other) (subst P (row_is n late) among)) (sym h))
+        sym (as_late ∙ and_from (newly (settled_by (clash_enough n ex voices)) p col i) there
+        (newly_at_place voices (ne_eqb n 15 other) (subst P (row_is n late) among)) (sym h))
 
-    pub broken_if_newly : (r : Bool) → true ≡ there → n ≡ 15 → r ≡ newly (settled_by (passing_enough ex voices)) p col i → r ≡ Breaks
+    pub broken_if_newly : (r : Bool) → true ≡ there → n ≡ 15 → r ≡ newly (settled_by (passing_enough ex voices)) p col i
+        → r ≡ Breaks
     broken_if_newly r h is newly_is =
-        let same : newly (settled_by (clash_enough n ex voices)) p col i ≡ newly (settled_by (passing_enough ex voices)) p col i = ap (λ k. newly (settled_by (clash_enough k ex voices)) p col i) is in
-        newly_is ∙ sym same ∙ with_true (newly (settled_by (clash_enough n ex voices)) p col i) there (sym h) ∙ sym as_late
+        let same : newly (settled_by (clash_enough n ex voices)) p col i
+        ≡ newly (settled_by (passing_enough ex voices)) p col i = ap
+        (λ k. newly (settled_by (clash_enough k ex voices)) p col i) is in
+        newly_is ∙ sym same ∙ with_true (newly (settled_by (clash_enough n ex voices)) p col i) there (sym h)
+        ∙ sym as_late
       where
         with_true : (a b : Bool) → b ≡ true → a ≡ (a && b)
         with_true true b e = sym e
@@ -254,7 +294,8 @@ module _ (n : ℕ) (ex : Exercise) (p : List (List Cell)) (col : List Cell) (i :
 
 -- ---- ways to name two voices
 
-pub ways : (ex : Exercise) (test : ℕ → ℕ → Bool) (voices v w : ℕ) → Some (v, w) ≡ pair_of voices → w < ex.voices → on_some_way ex test voices ≡ ((is_free ex v && test v w) || (is_free ex w && test w v))
+pub ways : (ex : Exercise) (test : ℕ → ℕ → Bool) (voices v w : ℕ) → Some (v, w) ≡ pair_of voices → w < ex.voices
+    → on_some_way ex test voices ≡ ((is_free ex v && test v w) || (is_free ex w && test w v))
 ways ex test voices v w e there =
     sym (ap (holds_of_pair ex (holds_some_way ex test)) e)
     ∙ ap (λ b. b && ((is_free ex v && test v w) || (is_free ex w && test w v))) (lt-ltb w ex.voices there)

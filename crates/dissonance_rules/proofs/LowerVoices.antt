@@ -18,10 +18,14 @@ module _ (n : ℕ) (a b : List Cell) (same : IsSameBelow n a b) where
       ∙ ap (λ c. begins_bar i && starts (cell_in b v) && starts c && clash a v w) (same.cells w k)
       ∙ ap (λ t. begins_bar i && starts (cell_in b v) && starts (cell_in b w) && t) (clash-same n a b same v w h k)
 
-  pub near_rows-same : (rule : ℕ) (ex : Exercise) (voices i : ℕ) (before : List Cell) (previous : Pitches) → is_below n voices ≡ true → near_rows rule ex voices i before previous a ≡ near_rows rule ex voices i before previous b
+  pub near_rows-same : (rule : ℕ) (ex : Exercise) (voices i : ℕ) (before : List Cell) (previous : Pitches)
+      → is_below n voices ≡ true → near_rows rule ex voices i before previous a
+      ≡ near_rows rule ex voices i before previous b
   near_rows-same rule ex voices i before previous h = at (rule == 11) refl
     where
-      at : (t : Bool) → (rule == 11) ≡ t → near_rows rule ex voices i before previous a ≡ near_rows rule ex voices i before previous b
+      at : (t : Bool) → (rule == 11) ≡ t → near_rows rule ex voices i before previous a
+          ≡ near_rows rule ex voices i before previous b
       at true e =
-          rw e (on_pair-same ex n voices (meet_in_unison ex i a) (meet_in_unison ex i b) h (λ v w j k. ap (λ t. begins_inner_bar ex i && t) (same_key-same n a b same v w j k)))
+          rw e (on_pair-same ex n voices (meet_in_unison ex i a) (meet_in_unison ex i b) h
+          (λ v w j k. ap (λ t. begins_inner_bar ex i && t) (same_key-same n a b same v w j k)))
       at false e = rw e (on_pair-same ex n voices (clash_at_start i a) (clash_at_start i b) h (starts_and_clash i))

@@ -21,15 +21,19 @@ module _ (s : List (List Cell)) (end v : ℕ) (fits : end ≤ length s) where
   abbrev count_from : ℕ → ℕ
   count_from = notes_from s end v
 
-  pub count-start : (j : ℕ) → j < end → starts (cell_in (slice_index_or s j []) v) ≡ true → count_from j ≡ count_from (j + 1) + 1
+  pub count-start : (j : ℕ) → j < end → starts (cell_in (slice_index_or s j []) v) ≡ true → count_from j
+      ≡ count_from (j + 1) + 1
   count-start j here h = at (cell_in (slice_index_or s j []) v) refl h
     where
       at : (c : Cell) → c ≡ cell_in (slice_index_or s j []) v → starts c ≡ true → count_from j ≡ count_from (j + 1) + 1
       at Rest e k = cc
       at (Hold p) e k = cc
-      at (Start p) e k = let one : count_from j ≡ length (record { start = j; pitch = p } ∷ notes_within s end v (j + 1)) = ap length (notes-start s end v fits j (Start p) p here e refl) in omega (arith, one)
+      at (Start p) e k = let one : count_from j
+          ≡ length (record { start = j; pitch = p } ∷ notes_within s end v (j + 1)) = ap length
+          (notes-start s end v fits j (Start p) p here e refl) in omega (arith, one)
 
-  pub count-no_start : (j : ℕ) → j < end → starts (cell_in (slice_index_or s j []) v) ≡ false → count_from j ≡ count_from (j + 1)
+  pub count-no_start : (j : ℕ) → j < end → starts (cell_in (slice_index_or s j []) v) ≡ false → count_from j
+      ≡ count_from (j + 1)
   count-no_start j here h = at (cell_in (slice_index_or s j []) v) refl h
     where
       at : (c : Cell) → c ≡ cell_in (slice_index_or s j []) v → starts c ≡ false → count_from j ≡ count_from (j + 1)
@@ -37,7 +41,8 @@ module _ (s : List (List Cell)) (end v : ℕ) (fits : end ≤ length s) where
       at (Hold q) e k = ap length (notes-no_start s end v fits j (Hold q) here e (λ p f. cc))
       at (Start p) e k = cc
 
-  pub count-cell : (j : ℕ) (b : Bool) → j < end → b ≡ starts (cell_in (slice_index_or s j []) v) → count_from j ≡ count_from (j + 1) + from_bool b
+  pub count-cell : (j : ℕ) (b : Bool) → j < end → b ≡ starts (cell_in (slice_index_or s j []) v) → count_from j
+      ≡ count_from (j + 1) + from_bool b
   count-cell j true here e = count-start j here (sym e)
   count-cell j false here e = let same = count-no_start j here (sym e) in omega (arith, same)
 
@@ -58,27 +63,32 @@ module _ (s : List (List Cell)) (end v : ℕ) (fits : end ≤ length s) where
       at false e here = omega (arith, count-no_start j here e)
 
   count-before : (n j : ℕ) → count_from (j + n) ≤ count_from j
-  count-before zero j = let same : count_from (j + 0) ≡ count_from j = ap count_from (plus_none j) in omega (arith, same)
+  count-before zero j =
+      let same : count_from (j + 0) ≡ count_from j = ap count_from (plus_none j) in omega (arith, same)
     where
       plus_none : (j : ℕ) → j + 0 ≡ j
       plus_none j = omega arith
-  count-before (suc n) j = let same : count_from (j + suc n) ≡ count_from (j + n + 1) = ap count_from (plus_one j n) in omega (arith, same, count-next (j + n), count-before n j)
+  count-before (suc n) j = let same : count_from (j + suc n) ≡ count_from (j + n + 1) = ap count_from (plus_one j n) in
+      omega (arith, same, count-next (j + n), count-before n j)
     where
       plus_one : (j n : ℕ) → j + suc n ≡ j + n + 1
       plus_one j n = omega arith
 
   -- no fewer notes start from an earlier column on
   pub count-earlier : (i j : ℕ) → i ≤ j → count_from j ≤ count_from i
-  count-earlier i j h = let same : count_from (i + (j - i)) ≡ count_from j = ap count_from (back i j h) in omega (arith, same, count-before (j - i) i)
+  count-earlier i j h = let same : count_from (i + (j - i)) ≡ count_from j = ap count_from (back i j h) in
+      omega (arith, same, count-before (j - i) i)
     where
       back : (i j : ℕ) → i ≤ j → i + (j - i) ≡ j
       back i j h = omega (arith, h)
 
   -- as many as are needed tell what the note is
-  pub tells : (species i : ℕ) → notes_needed species ≤ count_from (i + 1) → has_notes_after species i v (drop (i + 1) (take end s)) ≡ true
+  pub tells : (species i : ℕ) → notes_needed species ≤ count_from (i + 1)
+      → has_notes_after species i v (drop (i + 1) (take end s)) ≡ true
   tells species i h = at (has_ornaments species) (notes_within s end v (i + 1)) h
     where
-      at : (b : Bool) (notes : List Onset) → (if b then 2 else 1) ≤ length notes → (if b then is_some (second_of notes) else is_some (first_of notes)) ≡ true
+      at : (b : Bool) (notes : List Onset) → (if b then 2 else 1) ≤ length notes
+          → (if b then is_some (second_of notes) else is_some (first_of notes)) ≡ true
       at true [] h = absurd (omega (arith, h))
       at true (x ∷ []) h = absurd (omega (arith, h))
       at true (x ∷ y ∷ notes) h = refl

@@ -19,7 +19,8 @@ use Rattle.dissonance_rules.specs.Clashes.{passing_enough}
 use Rattle.dissonance_rules.specs.Passing.{has_notes_after, is_open_clash, reaches_last_bar, starts_in_clash}
 use Rattle.dissonance_rules.proofs.LatePlaces.{way_of}
 
-module _ (ex : Exercise) (voices : ℕ) (p : List (List Cell)) (col : List Cell) (i : ℕ) (on : GoesOn ex p (col ∷ [])) (here : i < length p) where
+module _ (ex : Exercise) (voices : ℕ) (p : List (List Cell)) (col : List Cell) (i : ℕ) (on : GoesOn ex p (col ∷ []))
+    (here : i < length p) where
   abbrev Opens : ℕ → ℕ → Bool
   Opens = is_open_clash ex i (slice_index_or p i []) (drop (i + 1) p)
 
@@ -34,15 +35,20 @@ module _ (ex : Exercise) (voices : ℕ) (p : List (List Cell)) (col : List Cell)
       elim (cases_lt v ex.voices) [
         | inl there ↦ there
         | inr beyond ↦
-            let rest : cell_in (slice_index_or p i []) v ≡ Rest = get_or_past (slice_index_or p i []) v Rest (omega (arith, width, beyond)) in
+            let rest : cell_in (slice_index_or p i []) v
+            ≡ Rest = get_or_past (slice_index_or p i []) v Rest (omega (arith, width, beyond)) in
             let no : true ≡ false = sym h ∙ ap starts rest in cc
       ]
 
-  module _ (told : (v : ℕ) → v < ex.voices → is_free ex v ≡ true → has_notes_after (species_in ex v) i v (drop (i + 1) p) ≡ true) where
+  module _ (told : (v : ℕ) → v < ex.voices → is_free ex v ≡ true
+      → has_notes_after (species_in ex v) i v (drop (i + 1) p) ≡ true) where
     never_open : (v w : ℕ) → is_free ex v ≡ true → Opens v w ≡ true → true ≡ false
     never_open v w free h =
-        let parts = and_parts (starts_in_clash (slice_index_or p i []) v w) (not (has_notes_after (species_in ex v) i v (drop (i + 1) p) || reaches_last_bar ex i (drop (i + 1) p))) h in
-        let start = (and_parts (starts (cell_in (slice_index_or p i []) v)) (clash (slice_index_or p i []) v w) parts.0).0 in
+        let parts = and_parts (starts_in_clash (slice_index_or p i []) v w)
+        (not (has_notes_after (species_in ex v) i v (drop (i + 1) p) || reaches_last_bar ex i (drop (i + 1) p))) h
+        in
+        let start = (and_parts (starts (cell_in (slice_index_or p i []) v)) (clash (slice_index_or p i []) v w)
+        parts.0).0 in
         sym parts.1 ∙ ap (λ b. not (b || reaches_last_bar ex i (drop (i + 1) p))) (told v (is_there v start) free)
 
     closed : on_some_way ex Opens voices ≡ false
@@ -56,5 +62,8 @@ module _ (ex : Exercise) (voices : ℕ) (p : List (List Cell)) (col : List Cell)
 
     pub told_settles : newly (settled_by (passing_enough ex voices)) p col i ≡ false
     told_settles =
-        let settled : settled_by (passing_enough ex voices) p i ≡ true = and_from (nat_lt i (length p)) (not (on_some_way ex Opens voices)) (lt-ltb i (length p) here) (ap not closed) in
-        and_right (settled_by (passing_enough ex voices) (p ++ col ∷ []) i) (not (settled_by (passing_enough ex voices) p i)) (ap not settled)
+        let settled : settled_by (passing_enough ex voices) p i
+        ≡ true = and_from (nat_lt i (length p)) (not (on_some_way ex Opens voices)) (lt-ltb i (length p) here)
+        (ap not closed) in
+        and_right (settled_by (passing_enough ex voices) (p ++ col ∷ []) i)
+        (not (settled_by (passing_enough ex voices) p i)) (ap not settled)

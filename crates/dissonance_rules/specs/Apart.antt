@@ -25,8 +25,13 @@ some_come_close ex now = some_pair (come_close ex now)
 
 module _ (ex : Exercise) (now : List Cell) (apart : some_come_close ex now ≡ false) where
   -- then each rule of dissonance is kept
-  pub apart_rows : (rule voices i : ℕ) (before : List Cell) (previous : Pitches) → near_rows rule ex voices i before previous now ≡ false
+  pub apart_rows : (rule voices i : ℕ) (before : List Cell) (previous : Pitches)
+      → near_rows rule ex voices i before previous now ≡ false
   apart_rows rule voices i before previous =
       either_none (rule == 11) _ _ false
-      (on_pair-kept ex (are_close now) (meet_in_unison ex i now) voices apart (λ v w h. and_right (begins_inner_bar ex i) (sound_same_key now v w) (or_parts (sound_same_key now v w) (clash now v w) h).0))
-      (on_pair-kept ex (are_close now) (clash_at_start i now) voices apart (λ v w h. and_right (begins_bar i && starts (cell_in now v) && starts (cell_in now w)) (clash now v w) (or_parts (sound_same_key now v w) (clash now v w) h).1))
+      (on_pair-kept ex (are_close now) (meet_in_unison ex i now) voices apart
+      (λ v w h. and_right (begins_inner_bar ex i) (sound_same_key now v w)
+      (or_parts (sound_same_key now v w) (clash now v w) h).0))
+      (on_pair-kept ex (are_close now) (clash_at_start i now) voices apart
+      (λ v w h. and_right (begins_bar i && starts (cell_in now v) && starts (cell_in now w)) (clash now v w)
+      (or_parts (sound_same_key now v w) (clash now v w) h).1))

@@ -37,28 +37,36 @@ resolution_row : Exercise → ℕ → ℕ → List Cell → List Cell → List C
 resolution_row ex voices i now next fourth =
     on_some_way ex (λ v w. is_suspended i now v w && not (resolves now next fourth v)) voices
 
-four_ahead : (ex : Exercise) (voices : ℕ) → IsUndisturbed (clash_row 20 ex voices) (λ i behind now ahead. nat_le 4 (length ahead))
+four_ahead : (ex : Exercise) (voices : ℕ) → IsUndisturbed (clash_row 20 ex voices)
+    (λ i behind now ahead. nat_le 4 (length ahead))
 unfolding resolution_row
 four_ahead ex voices i behind now ahead t h =
     let four : 4 ≤ length ahead = grind (arith, nat_tests, h) in
-    ap (λ col. resolution_row ex voices i now col (slice_index_or (ahead ++ t) 3 [])) (get_or-append ahead t [] 0 (omega (arith, four)))
-    ∙ ap (λ col. resolution_row ex voices i now (slice_index_or ahead 0 []) col) (get_or-append ahead t [] 3 (omega (arith, four)))
+    ap (λ col. resolution_row ex voices i now col (slice_index_or (ahead ++ t) 3 []))
+    (get_or-append ahead t [] 0 (omega (arith, four)))
+    ∙ ap (λ col. resolution_row ex voices i now (slice_index_or ahead 0 []) col)
+    (get_or-append ahead t [] 3 (omega (arith, four)))
 
-pub resolution_is_local : (ex : Exercise) (voices : ℕ) → IsLocal ex (reading_of (clash_row 20 ex voices)) (settled_by (resolution_enough ex))
-resolution_is_local ex voices = local_or_whole ex (clash_row 20 ex voices) (λ i behind now ahead. nat_le 4 (length ahead)) (four_ahead ex voices)
+pub resolution_is_local : (ex : Exercise) (voices : ℕ)
+    → IsLocal ex (reading_of (clash_row 20 ex voices)) (settled_by (resolution_enough ex))
+resolution_is_local ex voices =
+    local_or_whole ex (clash_row 20 ex voices) (λ i behind now ahead. nat_le 4 (length ahead)) (four_ahead ex voices)
 
 -- ---- S15: the notes of a voice in a longer list
 
-onsets-append : (n : ℕ) (xs ys : List Cell) → onsets_from n (xs ++ ys) ≡ onsets_from n xs ++ onsets_from (n + length xs) ys
+onsets-append : (n : ℕ) (xs ys : List Cell) → onsets_from n (xs ++ ys) ≡ onsets_from n xs
+    ++ onsets_from (n + length xs) ys
 onsets-append n [] ys = ap (λ k. onsets_from k ys) (n_plus n)
   where
     n_plus : (k : ℕ) → k ≡ k + 0
     n_plus k = omega arith
-onsets-append n (Rest ∷ xs) ys = onsets-append (suc n) xs ys ∙ ap (λ k. onsets_from (suc n) xs ++ onsets_from k ys) (next n (length xs))
+onsets-append n (Rest ∷ xs) ys =
+    onsets-append (suc n) xs ys ∙ ap (λ k. onsets_from (suc n) xs ++ onsets_from k ys) (next n (length xs))
   where
     next : (k m : ℕ) → suc k + m ≡ k + suc m
     next k m = omega arith
-onsets-append n (Hold p ∷ xs) ys = onsets-append (suc n) xs ys ∙ ap (λ k. onsets_from (suc n) xs ++ onsets_from k ys) (next n (length xs))
+onsets-append n (Hold p ∷ xs) ys =
+    onsets-append (suc n) xs ys ∙ ap (λ k. onsets_from (suc n) xs ++ onsets_from k ys) (next n (length xs))
   where
     next : (k m : ℕ) → suc k + m ≡ k + suc m
     next k m = omega arith
@@ -70,7 +78,8 @@ onsets-append n (Start p ∷ xs) ys =
     next k m = omega arith
 
 -- the first note of a list stands within it
-first-within : (n : ℕ) (xs : List Cell) (o : Onset) → first_of (onsets_from n xs) ≡ Some o → (n ≤ o.start) × (o.start < n + length xs)
+first-within : (n : ℕ) (xs : List Cell) (o : Onset) → first_of (onsets_from n xs) ≡ Some o → (n ≤ o.start)
+    × (o.start < n + length xs)
 first-within n [] o e = cc
 first-within n (Rest ∷ xs) o e = let h = first-within (suc n) xs o e in (omega (arith, h.0), omega (arith, h.1))
 first-within n (Hold p ∷ xs) o e = let h = first-within (suc n) xs o e in (omega (arith, h.0), omega (arith, h.1))
@@ -94,26 +103,33 @@ first_from_second [] h = cc
 first_from_second (x ∷ xs) h = refl
 
 -- the notes of a voice ahead, and those of the columns after
-pub onsets_after-append : (i v : ℕ) (ahead t : List (List Cell)) → onsets_after i v (ahead ++ t) ≡ onsets_after i v ahead ++ onsets_from (i + 1 + length (line v ahead)) (line v t)
+pub onsets_after-append : (i v : ℕ) (ahead t : List (List Cell)) → onsets_after i v (ahead ++ t)
+    ≡ onsets_after i v ahead ++ onsets_from (i + 1 + length (line v ahead)) (line v t)
 onsets_after-append i v ahead t =
-    ap (onsets_from (i + 1)) (map-append (λ col. cell_in col v) ahead t) ∙ onsets-append (i + 1) (line v ahead) (line v t)
+    ap (onsets_from (i + 1)) (map-append (λ col. cell_in col v) ahead t)
+    ∙ onsets-append (i + 1) (line v ahead) (line v t)
 
 length-line : (w : ℕ) (cols : List (List Cell)) → length (line w cols) ≡ length cols
 length-line w [] = refl
 length-line w (col ∷ cols) = ap suc (length-line w cols)
 
 -- a note of a longer list that is one of the list starts as clean as there
-clean_same : (i v : ℕ) (ahead t : List (List Cell)) → next_onset i v (ahead ++ t) ≡ next_onset i v ahead → next_is_clean i (ahead ++ t) v ≡ next_is_clean i ahead v
+clean_same : (i v : ℕ) (ahead t : List (List Cell)) → next_onset i v (ahead ++ t) ≡ next_onset i v ahead
+    → next_is_clean i (ahead ++ t) v ≡ next_is_clean i ahead v
 clean_same i v ahead t e = ap (starts_clean i (ahead ++ t) v) e ∙ at (next_onset i v ahead) refl
   where
     at : (o : Option Onset) → next_onset i v ahead ≡ o → starts_clean i (ahead ++ t) v o ≡ starts_clean i ahead v o
     at None k = refl
     at (Some o) k =
         let within = first-within (i + 1) (line v ahead) o k in
-        ap (λ col. is_clean col v) (get_or-append ahead t [] (o.start - (i + 1)) (omega (arith, within.0, within.1, length-line v ahead)))
+        ap (λ col. is_clean col v) (get_or-append ahead t [] (o.start - (i + 1))
+        (omega (arith, within.0, within.1, length-line v ahead)))
 
 -- where the next notes are the same, a note is as good
-good_same : (species i : ℕ) (behind : List (List Cell)) (now : List Cell) (ahead t : List (List Cell)) (v : ℕ) → next_onset i v (ahead ++ t) ≡ next_onset i v ahead → (has_ornaments species ≡ true → second_next_onset i v (ahead ++ t) ≡ second_next_onset i v ahead) → is_good_note species i behind now (ahead ++ t) v ≡ is_good_note species i behind now ahead v
+good_same : (species i : ℕ) (behind : List (List Cell)) (now : List Cell) (ahead t : List (List Cell)) (v : ℕ)
+    → next_onset i v (ahead ++ t) ≡ next_onset i v ahead
+    → (has_ornaments species ≡ true → second_next_onset i v (ahead ++ t) ≡ second_next_onset i v ahead)
+    → is_good_note species i behind now (ahead ++ t) v ≡ is_good_note species i behind now ahead v
 good_same species i behind now ahead t v first second = at (has_ornaments species) refl
   where
     before : Option Pitch
@@ -122,18 +138,30 @@ good_same species i behind now ahead t v first second = at (has_ornaments specie
     here : Option Pitch
     here = pitch_of (cell_in now v)
 
-    at : (b : Bool) → has_ornaments species ≡ b → is_good_note species i behind now (ahead ++ t) v ≡ is_good_note species i behind now ahead v
+    at : (b : Bool) → has_ornaments species ≡ b → is_good_note species i behind now (ahead ++ t) v
+        ≡ is_good_note species i behind now ahead v
     at true e =
-        ap (λ n. is_good species before here (onset_pitch n) (next_is_clean i (ahead ++ t) v) (onset_pitch (second_next_onset i v (ahead ++ t)))) first
-        ∙ ap (λ c. is_good species before here (onset_pitch (next_onset i v ahead)) c (onset_pitch (second_next_onset i v (ahead ++ t)))) (clean_same i v ahead t first)
-        ∙ ap (λ n. is_good species before here (onset_pitch (next_onset i v ahead)) (next_is_clean i ahead v) (onset_pitch n)) (second e)
+        ap (λ n. is_good species before here (onset_pitch n) (next_is_clean i (ahead ++ t) v)
+        (onset_pitch (second_next_onset i v (ahead ++ t)))) first
+        ∙ ap (λ c. is_good species before here (onset_pitch (next_onset i v ahead)) c
+        (onset_pitch (second_next_onset i v (ahead ++ t)))) (clean_same i v ahead t first)
+        ∙ ap (λ n. is_good species before here (onset_pitch (next_onset i v ahead)) (next_is_clean i ahead v)
+        (onset_pitch n)) (second e)
     at false e =
-        ap (λ b. is_passing before here (onset_pitch (next_onset i v (ahead ++ t))) || (b && (is_neighbor before here (onset_pitch (next_onset i v (ahead ++ t))) || is_cambiata before here (onset_pitch (next_onset i v (ahead ++ t))) (next_is_clean i (ahead ++ t) v) (onset_pitch (second_next_onset i v (ahead ++ t)))))) e
+        ap (λ b. is_passing before here (onset_pitch (next_onset i v (ahead ++ t)))
+        || (b && (is_neighbor before here (onset_pitch (next_onset i v (ahead ++ t)))
+        || is_cambiata before here (onset_pitch (next_onset i v (ahead ++ t))) (next_is_clean i (ahead ++ t) v)
+        (onset_pitch (second_next_onset i v (ahead ++ t)))))) e
         ∙ ap (λ n. is_passing before here (onset_pitch n) || false) first
-        ∙ ap (λ b. is_passing before here (onset_pitch (next_onset i v ahead)) || (b && (is_neighbor before here (onset_pitch (next_onset i v ahead)) || is_cambiata before here (onset_pitch (next_onset i v ahead)) (next_is_clean i ahead v) (onset_pitch (second_next_onset i v ahead))))) (sym e)
+        ∙ ap (λ b. is_passing before here (onset_pitch (next_onset i v ahead))
+        || (b && (is_neighbor before here (onset_pitch (next_onset i v ahead))
+        || is_cambiata before here (onset_pitch (next_onset i v ahead)) (next_is_clean i ahead v)
+        (onset_pitch (second_next_onset i v ahead))))) (sym e)
 
 -- where enough notes came, they are those of a longer list
-notes_same : (species i : ℕ) (behind : List (List Cell)) (now : List Cell) (ahead t : List (List Cell)) (v : ℕ) → has_notes_after species i v ahead ≡ true → is_good_note species i behind now (ahead ++ t) v ≡ is_good_note species i behind now ahead v
+notes_same : (species i : ℕ) (behind : List (List Cell)) (now : List Cell) (ahead t : List (List Cell)) (v : ℕ)
+    → has_notes_after species i v ahead ≡ true → is_good_note species i behind now (ahead ++ t) v
+    ≡ is_good_note species i behind now ahead v
 notes_same species i behind now ahead t v h = at (has_ornaments species) refl
   where
     more : List Onset
@@ -145,28 +173,38 @@ notes_same species i behind now ahead t v h = at (has_ornaments species) refl
     first : is_some (next_onset i v ahead) ≡ true → next_onset i v (ahead ++ t) ≡ next_onset i v ahead
     first k = ap first_of (onsets_after-append i v ahead t) ∙ first_of-append (onsets_after i v ahead) more k
 
-    at : (b : Bool) → has_ornaments species ≡ b → is_good_note species i behind now (ahead ++ t) v ≡ is_good_note species i behind now ahead v
+    at : (b : Bool) → has_ornaments species ≡ b → is_good_note species i behind now (ahead ++ t) v
+        ≡ is_good_note species i behind now ahead v
     at true e =
-        let two : is_some (second_next_onset i v ahead) ≡ true = sym (ap (λ b. if b then is_some (second_next_onset i v ahead) else is_some (next_onset i v ahead)) e) ∙ h in
+        let two : is_some (second_next_onset i v ahead)
+        ≡ true = sym (ap (λ b. if b then is_some (second_next_onset i v ahead) else is_some (next_onset i v ahead))
+        e) ∙ h in
         good_same species i behind now ahead t v (first (first_from_second (onsets_after i v ahead) two))
         (λ k. ap second_of (onsets_after-append i v ahead t) ∙ second_of-append (onsets_after i v ahead) more two)
     at false e =
-        let one : is_some (next_onset i v ahead) ≡ true = sym (ap (λ b. if b then is_some (second_next_onset i v ahead) else is_some (next_onset i v ahead)) e) ∙ h in
+        let one : is_some (next_onset i v ahead)
+        ≡ true = sym (ap (λ b. if b then is_some (second_next_onset i v ahead) else is_some (next_onset i v ahead))
+        e) ∙ h in
         good_same species i behind now ahead t v (first one) (λ k. no_way (sym e ∙ k))
 
 -- columns without a start have no notes
-pub no_onsets : (n v : ℕ) (t : List (List Cell)) → ((k : ℕ) → k < length t → starts (cell_in (slice_index_or t k []) v) ≡ false) → onsets_from n (line v t) ≡ []
+pub no_onsets : (n v : ℕ) (t : List (List Cell))
+    → ((k : ℕ) → k < length t → starts (cell_in (slice_index_or t k []) v) ≡ false) → onsets_from n (line v t) ≡ []
 no_onsets n v [] none = refl
 no_onsets n v (col ∷ t) none =
-    no_first n (cell_in col v) (line v t) (none 0 (omega arith)) (no_onsets (suc n) v t (λ k here. none (suc k) (omega (arith, here))))
+    no_first n (cell_in col v) (line v t) (none 0 (omega arith))
+    (no_onsets (suc n) v t (λ k here. none (suc k) (omega (arith, here))))
   where
-    no_first : (m : ℕ) (c : Cell) (cells : List Cell) → starts c ≡ false → onsets_from (suc m) cells ≡ [] → onsets_from m (c ∷ cells) ≡ []
+    no_first : (m : ℕ) (c : Cell) (cells : List Cell) → starts c ≡ false → onsets_from (suc m) cells ≡ []
+        → onsets_from m (c ∷ cells) ≡ []
     no_first m Rest cells e later = later
     no_first m (Hold p) cells e later = later
     no_first m (Start p) cells e later = cc
 
 -- once the last bar has begun no note starts later
-nothing_later : (ex : Exercise) (p t : List (List Cell)) (i v : ℕ) → GoesOn ex p t → i < length p → v ≢ ex.cantus_voice → reaches_last_bar ex i (drop (i + 1) p) ≡ true → (k : ℕ) → k < length t → starts (cell_in (slice_index_or t k []) v) ≡ false
+nothing_later : (ex : Exercise) (p t : List (List Cell)) (i v : ℕ) → GoesOn ex p t → i < length p → v ≢ ex.cantus_voice
+    → reaches_last_bar ex i (drop (i + 1) p) ≡ true → (k : ℕ) → k < length t
+    → starts (cell_in (slice_index_or t k []) v) ≡ false
 nothing_later ex p t i v on here free last k within =
     let begun : 8 * (ex.bars - 1) < i + 1 + length (drop (i + 1) p) = grind (arith, nat_tests, last) in
     let past : 8 * (ex.bars - 1) < length p = omega (arith, begun, length-drop (i + 1) p, here) in
@@ -176,20 +214,30 @@ nothing_later ex p t i v on here free last k within =
     let slot : slot_of (length p + k) ≢ 0 = λ e. omega (arith, e, past, few) in
     let col : slice_index_or (p ++ t) (length p + k) [] ≡ slice_index_or t k [] = get_or-append-add p t k [] in
     let P : List Cell → Type 0 = λ c. IsInMenu ex (length p + k) c in
-    last_bar_holds ex v (length p + k) (slice_index_or t k []) free bar slot (subst P col (on.longer.menus (length p + k) place))
+    last_bar_holds ex v (length p + k) (slice_index_or t k []) free bar slot
+    (subst P col (on.longer.menus (length p + k) place))
 
-last_bar_same : (ex : Exercise) (p t : List (List Cell)) (i v species : ℕ) → GoesOn ex p t → i < length p → v ≢ ex.cantus_voice → reaches_last_bar ex i (drop (i + 1) p) ≡ true → is_good_note species i (earlier p i) (slice_index_or p i []) (drop (i + 1) p ++ t) v ≡ is_good_note species i (earlier p i) (slice_index_or p i []) (drop (i + 1) p) v
+last_bar_same : (ex : Exercise) (p t : List (List Cell)) (i v species : ℕ) → GoesOn ex p t → i < length p
+    → v ≢ ex.cantus_voice → reaches_last_bar ex i (drop (i + 1) p) ≡ true
+    → is_good_note species i (earlier p i) (slice_index_or p i []) (drop (i + 1) p ++ t) v
+    ≡ is_good_note species i (earlier p i) (slice_index_or p i []) (drop (i + 1) p) v
 last_bar_same ex p t i v species on here free last =
     let ahead : List (List Cell) = drop (i + 1) p in
-    let none : onsets_from (i + 1 + length (line v ahead)) (line v t) ≡ [] = no_onsets (i + 1 + length (line v ahead)) v t (nothing_later ex p t i v on here free last) in
+    let none : onsets_from (i + 1 + length (line v ahead)) (line v t)
+    ≡ [] = no_onsets (i + 1 + length (line v ahead)) v t (nothing_later ex p t i v on here free last) in
     let all : onsets_after i v (ahead ++ t) ≡ onsets_after i v ahead =
-    onsets_after-append i v ahead t ∙ ap (λ more. onsets_after i v ahead ++ more) none ∙ append-nil (onsets_after i v ahead) in
+    onsets_after-append i v ahead t ∙ ap (λ more. onsets_after i v ahead ++ more) none
+    ∙ append-nil (onsets_after i v ahead) in
     good_same species i (earlier p i) (slice_index_or p i []) ahead t v (ap first_of all) (λ k. ap second_of all)
 
 -- S15 for one way to name the voices, where it isn't open
-way_same : (ex : Exercise) (p t : List (List Cell)) (i v w : ℕ) → GoesOn ex p t → i < length p → is_free ex v ≡ true → is_open_clash ex i (slice_index_or p i []) (drop (i + 1) p) v w ≡ false → clashes_badly ex i (earlier p i) (slice_index_or p i []) (drop (i + 1) p ++ t) v w ≡ clashes_badly ex i (earlier p i) (slice_index_or p i []) (drop (i + 1) p) v w
+way_same : (ex : Exercise) (p t : List (List Cell)) (i v w : ℕ) → GoesOn ex p t → i < length p → is_free ex v ≡ true
+    → is_open_clash ex i (slice_index_or p i []) (drop (i + 1) p) v w ≡ false
+    → clashes_badly ex i (earlier p i) (slice_index_or p i []) (drop (i + 1) p ++ t) v w
+    ≡ clashes_badly ex i (earlier p i) (slice_index_or p i []) (drop (i + 1) p) v w
 way_same ex p t i v w on here free closed =
-    at (starts_in_clash now v w) (has_notes_after (species_in ex v) i v ahead) (reaches_last_bar ex i ahead) refl refl refl closed
+    at (starts_in_clash now v w) (has_notes_after (species_in ex v) i v ahead) (reaches_last_bar ex i ahead) refl refl
+    refl closed
   where
     ahead : List (List Cell)
     ahead = drop (i + 1) p
@@ -200,7 +248,9 @@ way_same ex p t i v w on here free closed =
     other : v ≢ ex.cantus_voice
     other e = grind (arith, nat_tests, free, e)
 
-    with_good : is_good_note (species_in ex v) i (earlier p i) now (ahead ++ t) v ≡ is_good_note (species_in ex v) i (earlier p i) now ahead v → clashes_badly ex i (earlier p i) now (ahead ++ t) v w ≡ clashes_badly ex i (earlier p i) now ahead v w
+    with_good : is_good_note (species_in ex v) i (earlier p i) now (ahead ++ t) v
+        ≡ is_good_note (species_in ex v) i (earlier p i) now ahead v
+        → clashes_badly ex i (earlier p i) now (ahead ++ t) v w ≡ clashes_badly ex i (earlier p i) now ahead v w
     with_good e = ap (λ g. not (begins_bar i) && starts_in_clash now v w && not g) e
 
     quiet : (b c x y : Bool) → c ≡ false → (b && c && x) ≡ (b && c && y)
@@ -208,14 +258,18 @@ way_same ex p t i v w on here free closed =
     quiet true false x y e = refl
     quiet false c x y e = refl
 
-    at : (c n l : Bool) → starts_in_clash now v w ≡ c → has_notes_after (species_in ex v) i v ahead ≡ n → reaches_last_bar ex i ahead ≡ l → (c && not (n || l)) ≡ false → clashes_badly ex i (earlier p i) now (ahead ++ t) v w ≡ clashes_badly ex i (earlier p i) now ahead v w
+    at : (c n l : Bool) → starts_in_clash now v w ≡ c → has_notes_after (species_in ex v) i v ahead ≡ n
+        → reaches_last_bar ex i ahead ≡ l → (c && not (n || l)) ≡ false
+        → clashes_badly ex i (earlier p i) now (ahead ++ t) v w ≡ clashes_badly ex i (earlier p i) now ahead v w
     at false n l e f g k = quiet (not (begins_bar i)) (starts_in_clash now v w) _ _ e
     at true true l e f g k = with_good (notes_same (species_in ex v) i (earlier p i) now ahead t v f)
     at true false true e f g k = with_good (last_bar_same ex p t i v (species_in ex v) on here other g)
     at true false false e f g k = cc
 
 -- two tests that agree for each way where a third one fails
-two_ways : (there fv fw o1 o2 x1 y1 x2 y2 : Bool) → (there && ((fv && o1) || (fw && o2))) ≡ false → (fv ≡ true → o1 ≡ false → x1 ≡ y1) → (fw ≡ true → o2 ≡ false → x2 ≡ y2) → (there && ((fv && x1) || (fw && x2))) ≡ (there && ((fv && y1) || (fw && y2)))
+two_ways : (there fv fw o1 o2 x1 y1 x2 y2 : Bool) → (there && ((fv && o1) || (fw && o2))) ≡ false
+    → (fv ≡ true → o1 ≡ false → x1 ≡ y1) → (fw ≡ true → o2 ≡ false → x2 ≡ y2) → (there && ((fv && x1) || (fw && x2)))
+    ≡ (there && ((fv && y1) || (fw && y2)))
 two_ways false fv fw o1 o2 x1 y1 x2 y2 h f g = refl
 two_ways true false false o1 o2 x1 y1 x2 y2 h f g = refl
 two_ways true false true o1 o2 x1 y1 x2 y2 h f g = g refl h
@@ -225,16 +279,24 @@ two_ways true true true o1 o2 x1 y1 x2 y2 h f g =
 
 passing_stays_ahead : (ex : Exercise) (voices : ℕ) → StaysAhead ex (clash_row 15 ex voices) (passing_enough ex voices)
 passing_stays_ahead ex voices p t i on here h =
-    at (pair_of voices) (not-true (on_some_way ex (is_open_clash ex i (slice_index_or p i []) (drop (i + 1) p)) voices) h)
+    at (pair_of voices) (not-true (on_some_way ex (is_open_clash ex i (slice_index_or p i []) (drop (i + 1) p)) voices)
+    h)
   where
-    at : (pair : Option (ℕ × ℕ)) → holds_of_pair ex (holds_some_way ex (is_open_clash ex i (slice_index_or p i []) (drop (i + 1) p))) pair ≡ false → holds_of_pair ex (holds_some_way ex (clashes_badly ex i (earlier p i) (slice_index_or p i []) (drop (i + 1) p ++ t))) pair ≡ holds_of_pair ex (holds_some_way ex (clashes_badly ex i (earlier p i) (slice_index_or p i []) (drop (i + 1) p))) pair
+    at : (pair : Option (ℕ × ℕ)) → holds_of_pair ex
+        (holds_some_way ex (is_open_clash ex i (slice_index_or p i []) (drop (i + 1) p))) pair ≡ false
+        → holds_of_pair ex (holds_some_way ex
+        (clashes_badly ex i (earlier p i) (slice_index_or p i []) (drop (i + 1) p ++ t))) pair
+        ≡ holds_of_pair ex (holds_some_way ex
+        (clashes_badly ex i (earlier p i) (slice_index_or p i []) (drop (i + 1) p))) pair
     at None k = refl
     at (Some pair) k =
         two_ways (nat_lt pair.1 ex.voices) (is_free ex pair.0) (is_free ex pair.1) _ _ _ _ _ _ k
         (way_same ex p t i pair.0 pair.1 on here) (way_same ex p t i pair.1 pair.0 on here)
 
-pub passing_is_local : (ex : Exercise) (voices : ℕ) → IsLocal ex (reading_of (clash_row 15 ex voices)) (settled_by (passing_enough ex voices))
-passing_is_local ex voices = local_from_ahead ex (clash_row 15 ex voices) (passing_enough ex voices) (passing_stays_ahead ex voices)
+pub passing_is_local : (ex : Exercise) (voices : ℕ)
+    → IsLocal ex (reading_of (clash_row 15 ex voices)) (settled_by (passing_enough ex voices))
+passing_is_local ex voices =
+    local_from_ahead ex (clash_row 15 ex voices) (passing_enough ex voices) (passing_stays_ahead ex voices)
 
 -- ---- what is settled stays so, and in a list of all columns each is settled
 
@@ -245,12 +307,14 @@ four_stay ahead t h =
 
 pub resolution_enough_stays : (ex : Exercise) → EnoughStays (resolution_enough ex)
 resolution_enough_stays ex i behind now ahead t h =
-    or_each (nat_le 4 (length ahead)) (is_whole ex i ahead) (nat_le 4 (length (ahead ++ t))) (is_whole ex i (ahead ++ t))
+    or_each (nat_le 4 (length ahead)) (is_whole ex i ahead) (nat_le 4 (length (ahead ++ t)))
+    (is_whole ex i (ahead ++ t))
     (four_stay ahead t) (whole_stays ex i ahead t) h
 
 pub resolution_settles_at_end : (ex : Exercise) → SettlesAtEnd ex (settled_by (resolution_enough ex))
 resolution_settles_at_end ex =
-    ends_when_whole ex (resolution_enough ex) (λ i behind now ahead whole. or_right (nat_le 4 (length ahead)) (is_whole ex i ahead) whole)
+    ends_when_whole ex (resolution_enough ex)
+    (λ i behind now ahead whole. or_right (nat_le 4 (length ahead)) (is_whole ex i ahead) whole)
 
 -- a clash that isn't open stays so
 some-append : (xs ys : List Onset) → is_some (first_of xs) ≡ true → is_some (first_of (xs ++ ys)) ≡ true
@@ -259,34 +323,42 @@ some-append xs ys h = ap is_some (first_of-append xs ys h) ∙ h
 some_second-append : (xs ys : List Onset) → is_some (second_of xs) ≡ true → is_some (second_of (xs ++ ys)) ≡ true
 some_second-append xs ys h = ap is_some (second_of-append xs ys h) ∙ h
 
-notes_stay : (species i v : ℕ) (ahead t : List (List Cell)) → has_notes_after species i v ahead ≡ true → has_notes_after species i v (ahead ++ t) ≡ true
+notes_stay : (species i v : ℕ) (ahead t : List (List Cell)) → has_notes_after species i v ahead ≡ true
+    → has_notes_after species i v (ahead ++ t) ≡ true
 notes_stay species i v ahead t h = at (has_ornaments species) h
   where
     more : List Onset
     more = onsets_from (i + 1 + length (line v ahead)) (line v t)
 
-    at : (b : Bool) → (if b then is_some (second_next_onset i v ahead) else is_some (next_onset i v ahead)) ≡ true → (if b then is_some (second_next_onset i v (ahead ++ t)) else is_some (next_onset i v (ahead ++ t))) ≡ true
-    at true k = ap (λ os. is_some (second_of os)) (onsets_after-append i v ahead t) ∙ some_second-append (onsets_after i v ahead) more k
-    at false k = ap (λ os. is_some (first_of os)) (onsets_after-append i v ahead t) ∙ some-append (onsets_after i v ahead) more k
+    at : (b : Bool) → (if b then is_some (second_next_onset i v ahead) else is_some (next_onset i v ahead)) ≡ true
+        → (if b then is_some (second_next_onset i v (ahead ++ t)) else is_some (next_onset i v (ahead ++ t))) ≡ true
+    at true k = ap (λ os. is_some (second_of os)) (onsets_after-append i v ahead t)
+        ∙ some_second-append (onsets_after i v ahead) more k
+    at false k =
+        ap (λ os. is_some (first_of os)) (onsets_after-append i v ahead t) ∙ some-append (onsets_after i v ahead) more k
 
-last_bar_stays : (ex : Exercise) (i : ℕ) (ahead t : List (List Cell)) → reaches_last_bar ex i ahead ≡ true → reaches_last_bar ex i (ahead ++ t) ≡ true
+last_bar_stays : (ex : Exercise) (i : ℕ) (ahead t : List (List Cell)) → reaches_last_bar ex i ahead ≡ true
+    → reaches_last_bar ex i (ahead ++ t) ≡ true
 last_bar_stays ex i ahead t h =
     let begun : 8 * (ex.bars - 1) < i + 1 + length ahead = grind (arith, nat_tests, h) in
     let reached : 8 * (ex.bars - 1) < i + 1 + length (ahead ++ t) = omega (arith, begun, length-append ahead t) in
     grind (arith, nat_tests)
 
-closed_stays : (ex : Exercise) (i : ℕ) (now : List Cell) (ahead t : List (List Cell)) (v w : ℕ) → is_open_clash ex i now ahead v w ≡ false → is_open_clash ex i now (ahead ++ t) v w ≡ false
+closed_stays : (ex : Exercise) (i : ℕ) (now : List Cell) (ahead t : List (List Cell)) (v w : ℕ)
+    → is_open_clash ex i now ahead v w ≡ false → is_open_clash ex i now (ahead ++ t) v w ≡ false
 closed_stays ex i now ahead t v w h =
     at (starts_in_clash now v w) (has_notes_after (species_in ex v) i v ahead) (reaches_last_bar ex i ahead) _ _
     (notes_stay (species_in ex v) i v ahead t) (last_bar_stays ex i ahead t) h
   where
-    at : (c n l n' l' : Bool) → (n ≡ true → n' ≡ true) → (l ≡ true → l' ≡ true) → (c && not (n || l)) ≡ false → (c && not (n' || l')) ≡ false
+    at : (c n l n' l' : Bool) → (n ≡ true → n' ≡ true) → (l ≡ true → l' ≡ true) → (c && not (n || l)) ≡ false
+        → (c && not (n' || l')) ≡ false
     at false n l n' l' f g k = refl
     at true true l n' l' f g k = ap (λ b. not (b || l')) (f refl)
     at true false true n' l' f g k = ap not (or_right n' l' (g refl))
     at true false false n' l' f g k = cc
 
-ways_stay : (there fv fw o1 o2 x1 x2 : Bool) → (o1 ≡ false → x1 ≡ false) → (o2 ≡ false → x2 ≡ false) → (there && ((fv && o1) || (fw && o2))) ≡ false → (there && ((fv && x1) || (fw && x2))) ≡ false
+ways_stay : (there fv fw o1 o2 x1 x2 : Bool) → (o1 ≡ false → x1 ≡ false) → (o2 ≡ false → x2 ≡ false)
+    → (there && ((fv && o1) || (fw && o2))) ≡ false → (there && ((fv && x1) || (fw && x2))) ≡ false
 ways_stay there fv fw o1 o2 x1 x2 f g h =
     two_ways there fv fw o1 o2 x1 false x2 false h (λ _. f) (λ _. g) ∙ none there fv fw
   where
@@ -301,21 +373,25 @@ pub passing_enough_stays : (ex : Exercise) (voices : ℕ) → EnoughStays (passi
 passing_enough_stays ex voices i behind now ahead t h =
     ap not (at (pair_of voices) (not-true (on_some_way ex (is_open_clash ex i now ahead) voices) h))
   where
-    at : (pair : Option (ℕ × ℕ)) → holds_of_pair ex (holds_some_way ex (is_open_clash ex i now ahead)) pair ≡ false → holds_of_pair ex (holds_some_way ex (is_open_clash ex i now (ahead ++ t))) pair ≡ false
+    at : (pair : Option (ℕ × ℕ)) → holds_of_pair ex (holds_some_way ex (is_open_clash ex i now ahead)) pair ≡ false
+        → holds_of_pair ex (holds_some_way ex (is_open_clash ex i now (ahead ++ t))) pair ≡ false
     at None k = refl
     at (Some pair) k =
         ways_stay (nat_lt pair.1 ex.voices) (is_free ex pair.0) (is_free ex pair.1) _ _ _ _
         (closed_stays ex i now ahead t pair.0 pair.1) (closed_stays ex i now ahead t pair.1 pair.0) k
 
 -- a list of all columns has one of the last bar
-whole_reaches : (ex : Exercise) (i : ℕ) (ahead : List (List Cell)) → is_whole ex i ahead ≡ true → reaches_last_bar ex i ahead ≡ true
+whole_reaches : (ex : Exercise) (i : ℕ) (ahead : List (List Cell)) → is_whole ex i ahead ≡ true
+    → reaches_last_bar ex i ahead ≡ true
 whole_reaches ex i ahead h =
     let all : 8 * ex.bars ≤ i + 1 + length ahead = grind (arith, nat_tests, h) in
     let reached : 8 * (ex.bars - 1) < i + 1 + length ahead = omega (arith, all) in
     grind (arith, nat_tests)
 
-closed_at_end : (ex : Exercise) (i : ℕ) (now : List Cell) (ahead : List (List Cell)) (v w : ℕ) → is_whole ex i ahead ≡ true → is_open_clash ex i now ahead v w ≡ false
-closed_at_end ex i now ahead v w h = at (starts_in_clash now v w) (has_notes_after (species_in ex v) i v ahead) _ (whole_reaches ex i ahead h)
+closed_at_end : (ex : Exercise) (i : ℕ) (now : List Cell) (ahead : List (List Cell)) (v w : ℕ) → is_whole ex i ahead
+    ≡ true → is_open_clash ex i now ahead v w ≡ false
+closed_at_end ex i now ahead v w h =
+    at (starts_in_clash now v w) (has_notes_after (species_in ex v) i v ahead) _ (whole_reaches ex i ahead h)
   where
     at : (c n l : Bool) → l ≡ true → (c && not (n || l)) ≡ false
     at false n l e = refl
@@ -323,7 +399,8 @@ closed_at_end ex i now ahead v w h = at (starts_in_clash now v w) (has_notes_aft
 
 pub passing_settles_at_end : (ex : Exercise) (voices : ℕ) → SettlesAtEnd ex (settled_by (passing_enough ex voices))
 passing_settles_at_end ex voices =
-    ends_when_whole ex (passing_enough ex voices) (λ i behind now ahead whole. ap not (at i now ahead whole (pair_of voices)))
+    ends_when_whole ex (passing_enough ex voices)
+    (λ i behind now ahead whole. ap not (at i now ahead whole (pair_of voices)))
   where
     none : (a b c x y : Bool) → x ≡ false → y ≡ false → (a && ((b && x) || (c && y))) ≡ false
     none a b c true y e f = cc
@@ -334,7 +411,8 @@ passing_settles_at_end ex voices =
     none true false true false false e f = refl
     none true false false false false e f = refl
 
-    at : (i : ℕ) (now : List Cell) (ahead : List (List Cell)) → is_whole ex i ahead ≡ true → (pair : Option (ℕ × ℕ)) → holds_of_pair ex (holds_some_way ex (is_open_clash ex i now ahead)) pair ≡ false
+    at : (i : ℕ) (now : List Cell) (ahead : List (List Cell)) → is_whole ex i ahead ≡ true → (pair : Option (ℕ × ℕ))
+        → holds_of_pair ex (holds_some_way ex (is_open_clash ex i now ahead)) pair ≡ false
     at i now ahead whole None = refl
     at i now ahead whole (Some pair) =
         none (nat_lt pair.1 ex.voices) (is_free ex pair.0) (is_free ex pair.1) _ _

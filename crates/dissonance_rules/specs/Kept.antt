@@ -24,4 +24,5 @@ pub record IsKept (ex : Exercise) (kept : NewestColumns) (s : List (List Cell)) 
   pub newest : AreNewestOf ex.voices s kept
   pub here : i < length s
   pub near : length s ≤ i + 20
-  pub previous : (v : ℕ) → is_free ex v ≡ true → previous_pitch (line v (earlier s i)) ≡ pitch_of (cell_in (newest_column (earlier s i)) v)
+  pub previous : (v : ℕ) → is_free ex v ≡ true → previous_pitch (line v (earlier s i))
+      ≡ pitch_of (cell_in (newest_column (earlier s i)) v)

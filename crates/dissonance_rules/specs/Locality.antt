@@ -35,26 +35,35 @@ abbrev pub dissonance_settles : RuleReading
 dissonance_settles rule ex voices = settled_by ((rule_row rule).enough ex voices)
 
 -- S11 and S14
-pub at_once_is_local : (rule : ℕ) (ex : Exercise) (voices : ℕ) → IsLocal ex (reading_of (broken_in rule ex voices)) (settled_by (enough_after rule ex voices))
-at_once_is_local rule ex voices = local_from_row ex (broken_in rule ex voices) (enough_after rule ex voices) (λ i behind now ahead t h. refl)
+pub at_once_is_local : (rule : ℕ) (ex : Exercise) (voices : ℕ)
+    → IsLocal ex (reading_of (broken_in rule ex voices)) (settled_by (enough_after rule ex voices))
+at_once_is_local rule ex voices =
+    local_from_row ex (broken_in rule ex voices) (enough_after rule ex voices) (λ i behind now ahead t h. refl)
 
 -- S15, S19, S20 and S21; but for S15 and S20 they read no columns ahead
-some_way-same : (ex : Exercise) (voices : ℕ) (f g : ℕ → ℕ → Bool) → ((v w : ℕ) → f v w ≡ g v w) → on_some_way ex f voices ≡ on_some_way ex g voices
+some_way-same : (ex : Exercise) (voices : ℕ) (f g : ℕ → ℕ → Bool) → ((v w : ℕ) → f v w ≡ g v w)
+    → on_some_way ex f voices ≡ on_some_way ex g voices
 some_way-same ex voices f g same = at (pair_of voices)
   where
-    at : (pair : Option (ℕ × ℕ)) → holds_of_pair ex (holds_some_way ex f) pair ≡ holds_of_pair ex (holds_some_way ex g) pair
+    at : (pair : Option (ℕ × ℕ)) → holds_of_pair ex (holds_some_way ex f) pair
+        ≡ holds_of_pair ex (holds_some_way ex g) pair
     at None = refl
     at (Some pair) =
-        ap (λ b. nat_lt pair.1 ex.voices && ((is_free ex pair.0 && b) || (is_free ex pair.1 && f pair.1 pair.0))) (same pair.0 pair.1)
-        ∙ ap (λ b. nat_lt pair.1 ex.voices && ((is_free ex pair.0 && g pair.0 pair.1) || (is_free ex pair.1 && b))) (same pair.1 pair.0)
+        ap (λ b. nat_lt pair.1 ex.voices && ((is_free ex pair.0 && b) || (is_free ex pair.1 && f pair.1 pair.0)))
+        (same pair.0 pair.1)
+        ∙ ap (λ b. nat_lt pair.1 ex.voices && ((is_free ex pair.0 && g pair.0 pair.1) || (is_free ex pair.1 && b)))
+        (same pair.1 pair.0)
 
-pub clash_is_local : (rule : ℕ) (ex : Exercise) (voices : ℕ) → IsLocal ex (reading_of (clash_row rule ex voices)) (settled_by (clash_enough rule ex voices))
+pub clash_is_local : (rule : ℕ) (ex : Exercise) (voices : ℕ)
+    → IsLocal ex (reading_of (clash_row rule ex voices)) (settled_by (clash_enough rule ex voices))
 clash_is_local rule ex voices = at (rule == 15) (rule == 20) refl refl
   where
     Local : ℕ → Type 0
     Local r = IsLocal ex (reading_of (clash_row r ex voices)) (settled_by (clash_enough r ex voices))
 
-    blind : (rule == 15) ≡ false → (rule == 20) ≡ false → (i : ℕ) (behind : List (List Cell)) (now : List Cell) (ahead t : List (List Cell)) (v w : ℕ) → clash_rule rule ex i behind now (ahead ++ t) v w ≡ clash_rule rule ex i behind now ahead v w
+    blind : (rule == 15) ≡ false → (rule == 20) ≡ false
+        → (i : ℕ) (behind : List (List Cell)) (now : List Cell) (ahead t : List (List Cell)) (v w : ℕ)
+        → clash_rule rule ex i behind now (ahead ++ t) v w ≡ clash_rule rule ex i behind now ahead v w
     blind e g i behind now ahead t v w = rw (e, g) refl
 
     at : (a b : Bool) → (rule == 15) ≡ a → (rule == 20) ≡ b → Local rule
@@ -62,9 +71,11 @@ clash_is_local rule ex voices = at (rule == 15) (rule == 20) refl refl
     at false true e g = subst Local (sym (eqb-true rule 20 g)) (resolution_is_local ex voices)
     at false false e g =
         local_from_row ex (clash_row rule ex voices) (clash_enough rule ex voices) (λ i behind now ahead t h.
-        some_way-same ex voices (clash_rule rule ex i behind now (ahead ++ t)) (clash_rule rule ex i behind now ahead) (blind e g i behind now ahead t))
+        some_way-same ex voices (clash_rule rule ex i behind now (ahead ++ t)) (clash_rule rule ex i behind now ahead)
+        (blind e g i behind now ahead t))
 
-pub clash_settles_at_end : (rule : ℕ) (ex : Exercise) (voices : ℕ) → SettlesAtEnd ex (settled_by (clash_enough rule ex voices))
+pub clash_settles_at_end : (rule : ℕ) (ex : Exercise) (voices : ℕ)
+    → SettlesAtEnd ex (settled_by (clash_enough rule ex voices))
 clash_settles_at_end rule ex voices = at (rule == 15) (rule == 20) refl refl
   where
     at : (a c : Bool) → (rule == 15) ≡ a → (rule == 20) ≡ c → SettlesAtEnd ex (settled_by (clash_enough rule ex voices))
@@ -93,19 +104,22 @@ near_is_no_late rule h = at (rule == 15) (rule == 19) (rule == 20) (rule == 21) 
         let P : ℕ → Type 0 = λ r. IsTrue (has_rule near_bits r) in
         let t : true ≡ false = sym (subst P same h) ∙ none in cc
 
-    at : (a b c d : Bool) → (rule == 15) ≡ a → (rule == 19) ≡ b → (rule == 20) ≡ c → (rule == 21) ≡ d → is_late rule ≡ false
+    at : (a b c d : Bool) → (rule == 15) ≡ a → (rule == 19) ≡ b → (rule == 20) ≡ c → (rule == 21) ≡ d → is_late rule
+        ≡ false
     at true b c d e f g k = no 15 (eqb-true rule 15 e) refl
     at false true c d e f g k = no 19 (eqb-true rule 19 f) refl
     at false false true d e f g k = no 20 (eqb-true rule 20 g) refl
     at false false false true e f g k = no 21 (eqb-true rule 21 k) refl
     at false false false false e f g k = rw (e, f, g, k) refl
 
-pub dissonance_is_near : (rule : ℕ) (ex : Exercise) (voices : ℕ) → IsTrue (has_rule near_bits rule) → IsNear ex (dissonance_breaks rule ex voices) (near_rows rule ex voices)
+pub dissonance_is_near : (rule : ℕ) (ex : Exercise) (voices : ℕ) → IsTrue (has_rule near_bits rule)
+    → IsNear ex (dissonance_breaks rule ex voices) (near_rows rule ex voices)
 dissonance_is_near rule ex voices h =
     rw (near_is_no_late rule h) (near_from_whole ex (near_rows rule ex voices))
 
 -- the same of a toll
-pub cost_is_local : (toll : ℕ) (ex : Exercise) → IsLocal ex (reading_of (cost_in toll ex)) (settled_by (cost_enough toll ex))
+pub cost_is_local : (toll : ℕ) (ex : Exercise)
+    → IsLocal ex (reading_of (cost_in toll ex)) (settled_by (cost_enough toll ex))
 cost_is_local toll ex = local_from_row ex (cost_in toll ex) (cost_enough toll ex) (λ i behind now ahead t h. refl)
 
 pub cost_settles_at_end : (toll : ℕ) (ex : Exercise) → SettlesAtEnd ex (settled_by (cost_enough toll ex))

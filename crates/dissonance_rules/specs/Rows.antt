@@ -43,7 +43,8 @@ enough_after rule ex voices = at_once
 
 -- the tolls 1 and 2, which look at one column alone
 abbrev pub toll_rows : ℕ → Exercise → NearRow ℕ
-toll_rows toll ex i before previous now = if toll == 1 then from_bool (is_outer_perfect ex i now) else struck_unisons i now
+toll_rows toll ex i before previous now =
+    if toll == 1 then from_bool (is_outer_perfect ex i now) else struck_unisons i now
 
 -- what a toll costs at a place, without its weight
 abbrev pub cost_in : ℕ → Exercise → Row ℕ

@@ -30,8 +30,11 @@ free : (n : ℕ) (ex : Exercise) (i : ℕ) (now : List Cell) → may_cost n ex i
 free n ex i now = at (n == 3) (n == 4) (n == 5)
   where
     at : (a b c : Bool)
-        → (if a then nat_le 3 ex.voices && begins_inner_bar ex i else (if b then begins_bar i else (if c then nat_le 3 ex.voices && begins_bar i else true))) ≡ false
-        → (if a then from_bool (lacks_third ex i now) else (if b then wide_pairs i now else (if c then from_bool (doubles_third ex i now) else straying_notes ex i now))) ≡ 0
+        → (if a then nat_le 3 ex.voices && begins_inner_bar ex i
+        else (if b then begins_bar i else (if c then nat_le 3 ex.voices && begins_bar i else true))) ≡ false
+        → (if a then from_bool (lacks_third ex i now)
+        else (if b then wide_pairs i now
+        else (if c then from_bool (doubles_third ex i now) else straying_notes ex i now))) ≡ 0
     at true b c h = ap (λ t. from_bool (t && sounds (cell_in now 0) && (count_thirds now == 0))) h
     at false true c h = rw h refl
     at false false true h = ap (λ t. from_bool (t && nat_le 2 (count_thirds now))) h

@@ -22,16 +22,19 @@ abbrev pub doubling_settles : RuleReading
 doubling_settles rule ex voices = settled_by (enough_after rule ex voices)
 
 pub doubling_is_local : AreLocal doubling_breaks doubling_settles
-doubling_is_local rule ex voices = local_from_row ex (broken_in rule ex voices) (enough_after rule ex voices) (λ i behind now ahead t h. refl)
+doubling_is_local rule ex voices =
+    local_from_row ex (broken_in rule ex voices) (enough_after rule ex voices) (λ i behind now ahead t h. refl)
 
 pub doubling_settles_at_end : SettleAtEnd doubling_settles
 doubling_settles_at_end rule ex voices = at_once_settles ex
 
-pub doubling_is_near : (rule : ℕ) (ex : Exercise) (voices : ℕ) → IsNear ex (doubling_breaks rule ex voices) (doubling_rows ex voices)
+pub doubling_is_near : (rule : ℕ) (ex : Exercise) (voices : ℕ)
+    → IsNear ex (doubling_breaks rule ex voices) (doubling_rows ex voices)
 doubling_is_near rule ex voices = near_from_whole ex (doubling_rows ex voices)
 
 -- the same of a toll
-pub cost_is_local : (toll : ℕ) (ex : Exercise) → IsLocal ex (reading_of (cost_in toll ex)) (settled_by (cost_enough toll ex))
+pub cost_is_local : (toll : ℕ) (ex : Exercise)
+    → IsLocal ex (reading_of (cost_in toll ex)) (settled_by (cost_enough toll ex))
 cost_is_local toll ex = local_from_row ex (cost_in toll ex) (cost_enough toll ex) (λ i behind now ahead t h. refl)
 
 pub cost_settles_at_end : (toll : ℕ) (ex : Exercise) → SettlesAtEnd ex (settled_by (cost_enough toll ex))

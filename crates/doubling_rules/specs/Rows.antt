@@ -71,7 +71,8 @@ are_far_apart most now v w = holds_of (λ k. nat_lt most (degrees_without_sign k
 abbrev pub wide_pairs : ℕ → List Cell → ℕ
 wide_pairs i now =
     if begins_bar i
-    then from_bool (are_far_apart 11 now 0 1) + from_bool (are_far_apart 7 now 1 2) + from_bool (are_far_apart 7 now 2 3)
+    then from_bool (are_far_apart 11 now 0 1) + from_bool (are_far_apart 7 now 1 2) + from_bool
+    (are_far_apart 7 now 2 3)
     else 0
 
 -- the middle of a range: the half, rounded down, of the sum of the degrees of its ends

@@ -5,9 +5,13 @@ use Rattle.falling_paths.specs.declared.Spot.{Spot}
 use Rattle.falling_paths.specs.Grid.{spot_after, start, spot_from, floor_at}
 use Rattle.falling_paths.specs.Law.{spot_from-append}
 
-pub spot_from-end : (grid : Grid) (path : List ℕ) (spot : Spot) (column : ℕ) → spot_from grid start path ≡ Some spot → spot_from grid start (path ++ column ∷ []) ≡ spot_after grid spot column
-spot_from-end grid path spot column at = spot_from-append grid path start column ∙ ap (option_and_then (λ end. spot_after grid end column)) at
+pub spot_from-end : (grid : Grid) (path : List ℕ) (spot : Spot) (column : ℕ) → spot_from grid start path ≡ Some spot
+    → spot_from grid start (path ++ column ∷ []) ≡ spot_after grid spot column
+spot_from-end grid path spot column at =
+    spot_from-append grid path start column ∙ ap (option_and_then (λ end. spot_after grid end column)) at
 
 -- where no step may be made, nothing is there
-pub floor_at-dead : (grid : Grid) (path : List ℕ) (spot : Spot) (column : ℕ) → spot_from grid start path ≡ Some spot → spot_after grid spot column ≡ None → floor_at grid (path ++ column ∷ []) ≡ None
-floor_at-dead grid path spot column at none = ap (option_map (λ (spot : Spot). spot.cost)) (spot_from-end grid path spot column at ∙ none)
+pub floor_at-dead : (grid : Grid) (path : List ℕ) (spot : Spot) (column : ℕ) → spot_from grid start path ≡ Some spot
+    → spot_after grid spot column ≡ None → floor_at grid (path ++ column ∷ []) ≡ None
+floor_at-dead grid path spot column at none =
+    ap (option_map (λ (spot : Spot). spot.cost)) (spot_from-end grid path spot column at ∙ none)

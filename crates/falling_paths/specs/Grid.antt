@@ -10,13 +10,19 @@ cost_at grid row column = slice_index_or (slice_index_or grid.costs.items row []
 
 -- there is a next row, with this column, and it is near enough
 abbrev pub is_near : Grid → Spot → ℕ → Bool
-is_near grid spot column = nat_lt spot.row (length grid.costs.items) && (nat_lt column COLUMNS && (nat_le spot.low column && nat_le column spot.high))
+is_near grid spot column = nat_lt spot.row (length grid.costs.items)
+    && (nat_lt column COLUMNS && (nat_le spot.low column && nat_le column spot.high))
 
 -- the spot after a step into a column, if it may be entered
 abbrev pub spot_after : Grid → Spot → ℕ → Option Spot
 spot_after grid spot column =
     if is_near grid spot column
-    then option_map (λ cost. record { row = spot.row + 1; low = column - 1; high = column + 1; cost = spot.cost + cost }) (cost_at grid spot.row column)
+    then option_map (λ cost. record {
+      row = spot.row + 1;
+      low = column - 1;
+      high = column + 1;
+      cost = spot.cost + cost;
+    }) (cost_at grid spot.row column)
     else None
 
 -- the spot above the first row

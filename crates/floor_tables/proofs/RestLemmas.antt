@@ -18,17 +18,21 @@ last_column-push p col = ap newest_of (reverse-push p col)
 
 -- the rest of a prefix that is longer by a column
 pub rest-push : (ex : Exercise) (sheet : Sheet) (p : List (List Cell)) (col : List Cell)
-    → rest_of ex sheet (p ++ col ∷ []) ≡ least_sum (chains_of ex sheet) (columns_in ex - suc (length p)) (suc (length p)) (Some col)
+    → rest_of ex sheet (p ++ col ∷ []) ≡ least_sum (chains_of ex sheet) (columns_in ex - suc (length p))
+    (suc (length p)) (Some col)
 unfolding rest_of
 rest-push ex sheet p col =
     let size : length (p ++ col ∷ []) ≡ suc (length p) = omega (arith, length-append p (col ∷ [])) in
     ap (λ n. least_sum (chains_of ex sheet) (columns_in ex - n) n (last_column (p ++ col ∷ []))) size
-    ∙ ap (λ last. least_sum (chains_of ex sheet) (columns_in ex - suc (length p)) (suc (length p)) last) (last_column-push p col)
+    ∙ ap (λ last. least_sum (chains_of ex sheet) (columns_in ex - suc (length p)) (suc (length p)) last)
+    (last_column-push p col)
 
-pub rest_is : (ex : Exercise) (sheet : Sheet) (p : List (List Cell)) (col : List Cell) (rest : Option ℕ) → length p + 1 ≤ columns_in ex
+pub rest_is : (ex : Exercise) (sheet : Sheet) (p : List (List Cell)) (col : List Cell) (rest : Option ℕ)
+    → length p + 1 ≤ columns_in ex
     → IsRest ex sheet (length p) col rest → rest ≡ rest_of ex sheet (p ++ col ∷ [])
 rest_is ex sheet p col rest room is =
-    least_is_sum (chains_of ex sheet) (suc (length p)) (Some col) rest (omega (arith, room)) is ∙ sym (rest-push ex sheet p col)
+    least_is_sum (chains_of ex sheet) (suc (length p)) (Some col) rest (omega (arith, room)) is
+    ∙ sym (rest-push ex sheet p col)
 
 pub start_is : (ex : Exercise) (sheet : Sheet) (start : Option ℕ) → IsStart ex sheet start → start ≡ rest_of ex sheet []
 unfolding rest_of

@@ -27,10 +27,13 @@ pub cells_at-cantus : (ex : Exercise) (i v : ℕ) → v ≡ ex.cantus_voice → 
 unfolding cells_at
 cells_at-cantus ex i v e = rw (eq-eqb v ex.cantus_voice e) refl
 
-pub cantus_cells-one : (ex : Exercise) (i : ℕ) (p : Pitch) → i / 8 < length ex.cantus → p ≡ get_or ex.cantus (i / 8) p → cantus_cells ex i ≡ cantus_cell i p ∷ []
-cantus_cells-one ex i p h e = ap (λ o. option_to_list (option_map (cantus_cell i) o)) (slice_get_read ex.cantus (length ex.cantus) (i / 8) p refl h e)
+pub cantus_cells-one : (ex : Exercise) (i : ℕ) (p : Pitch) → i / 8 < length ex.cantus → p ≡ get_or ex.cantus (i / 8) p
+    → cantus_cells ex i ≡ cantus_cell i p ∷ []
+cantus_cells-one ex i p h e = ap (λ o. option_to_list (option_map (cantus_cell i) o))
+    (slice_get_read ex.cantus (length ex.cantus) (i / 8) p refl h e)
 
-pub cells_at-free : (ex : Exercise) (i v : ℕ) → v ≢ ex.cantus_voice → cells_at ex i v ≡ free_cells (shapes_in (species_in ex v) (bar_of i) ex.bars) (slot_of i) (pool_of ex v (bar_of i))
+pub cells_at-free : (ex : Exercise) (i v : ℕ) → v ≢ ex.cantus_voice → cells_at ex i v
+    ≡ free_cells (shapes_in (species_in ex v) (bar_of i) ex.bars) (slot_of i) (pool_of ex v (bar_of i))
 unfolding cells_at
 cells_at-free ex i v e = rw (ne_eqb v ex.cantus_voice e) refl
 
@@ -38,12 +41,24 @@ pub length-chosen : {X : Type 0} (allowed : Bool) (xs : List X) → length (cond
 length-chosen true xs = omega arith
 length-chosen false xs = omega arith
 
-length-free_cells : (shapes : List (List ℕ)) (slot : ℕ) (pool : List Pitch) → length (free_cells shapes slot pool) ≤ 1 + (length pool + length pool)
+length-free_cells : (shapes : List (List ℕ)) (slot : ℕ) (pool : List Pitch)
+    → length (free_cells shapes slot pool) ≤ 1 + (length pool + length pool)
 length-free_cells shapes slot pool =
     let rest : List Cell = cond (allows shapes slot 82) (Rest ∷ []) [] in
     let holds : List Cell = cond (allows shapes slot 72) (map Hold pool) [] in
     let starts : List Cell = cond (allows shapes slot 83) (map Start pool) [] in
-    omega (arith, length-append (rest ++ holds) starts, length-append rest holds, length-chosen (allows shapes slot 82) (Rest ∷ []), length-chosen (allows shapes slot 72) (map Hold pool), length-chosen (allows shapes slot 83) (map Start pool), length-map pool Hold, length-map pool Start)
+    omega (
+      arith,
+      length-append (rest ++ holds) starts,
+      length-append rest holds,
+      length-chosen (allows shapes slot 82)
+          (Rest ∷ []),
+      length-chosen (allows shapes slot 72) (map Hold pool),
+      length-chosen (allows shapes slot 83)
+          (map Start pool),
+      length-map pool Hold,
+      length-map pool Start,
+    )
 
 pub length-cantus_cells : (o : Option Cell) → length (option_to_list o) ≤ 1
 length-cantus_cells None = omega arith
@@ -52,8 +67,20 @@ length-cantus_cells (Some c) = omega arith
 -- a voice has at most a rest, and a hold and a start of each of 73 pitches
 pub length-cells_at : (ex : Exercise) (i v : ℕ) → length (cells_at ex i v) ≤ 147
 length-cells_at ex i v = elim (cases_eq v ex.cantus_voice) [
-  | inl same ↦ omega (arith, ap length (cells_at-cantus ex i v same), length-cantus_cells (option_map (cantus_cell i) (slice_get ex.cantus (i / 8))))
-  | inr other ↦ omega (arith, ap length (cells_at-free ex i v other), length-free_cells (shapes_in (species_in ex v) (bar_of i) ex.bars) (slot_of i) (pool_of ex v (bar_of i)), length-pool_of ex v (bar_of i))
+  | inl same ↦ omega (
+    arith,
+    ap length (cells_at-cantus ex i v same),
+    length-cantus_cells
+        (option_map (cantus_cell i) (slice_get ex.cantus (i / 8))),
+  )
+  | inr other ↦ omega (
+    arith,
+    ap length (cells_at-free ex i v other),
+    length-free_cells
+        (shapes_in (species_in ex v) (bar_of i) ex.bars) (slot_of i) (pool_of ex v (bar_of i)),
+    length-pool_of ex v
+        (bar_of i),
+  )
 ]
 
 -- ---- in which order
@@ -68,9 +95,11 @@ int_cmp-less x y h = by_answer (int_cmp x y) (int_ranked x y (int_cmp x y) refl)
 
 -- a pitch with a lower key is read first
 pitch_order-lower : (p q : Pitch) → IsLower p q → pitch_order p q ≡ Less
-pitch_order-lower p q h = ap (λ o. ordering_then o (nat_cmp (degree_of p) (degree_of q))) (int_cmp-less (key_of p) (key_of q) h)
+pitch_order-lower p q h =
+    ap (λ o. ordering_then o (nat_cmp (degree_of p) (degree_of q))) (int_cmp-less (key_of p) (key_of q) h)
 
-chosen-ascends : (allowed : Bool) (cells : List Cell) → AllPairs IsBefore cells → AllPairs IsBefore (cond allowed cells [])
+chosen-ascends : (allowed : Bool) (cells : List Cell) → AllPairs IsBefore cells
+    → AllPairs IsBefore (cond allowed cells [])
 chosen-ascends true cells h = h
 chosen-ascends false cells h = AllPairs-short IsBefore [] (omega arith)
 
@@ -79,28 +108,36 @@ chosen-only true cells c h = h
 chosen-only false cells c (k, h, e) = absurd (omega arith)
 
 -- rests come first, then what is held, then what starts
-free_cells-ascend : (shapes : List (List ℕ)) (slot : ℕ) (pool : List Pitch) → AllPairs IsLower pool → AllPairs IsBefore (free_cells shapes slot pool)
+free_cells-ascend : (shapes : List (List ℕ)) (slot : ℕ) (pool : List Pitch) → AllPairs IsLower pool
+    → AllPairs IsBefore (free_cells shapes slot pool)
 free_cells-ascend shapes slot pool h =
     let rest : List Cell = cond (allows shapes slot 82) (Rest ∷ []) [] in
     let holds : List Cell = cond (allows shapes slot 72) (map Hold pool) [] in
     let starts : List Cell = cond (allows shapes slot 83) (map Start pool) [] in
-    let a : AllPairs IsBefore rest = chosen-ascends (allows shapes slot 82) (Rest ∷ []) (AllPairs-short IsBefore (Rest ∷ []) (omega arith)) in
-    let b : AllPairs IsBefore holds = chosen-ascends (allows shapes slot 72) (map Hold pool) (AllPairs-map IsLower IsBefore Hold pitch_order-lower pool h) in
-    let c : AllPairs IsBefore starts = chosen-ascends (allows shapes slot 83) (map Start pool) (AllPairs-map IsLower IsBefore Start pitch_order-lower pool h) in
-    AllPairs-append IsBefore (rest ++ holds) starts (AllPairs-append IsBefore rest holds a b (λ x y i j. before_hold x y (is_rest x i) (is_hold y j))) c
+    let a : AllPairs IsBefore rest = chosen-ascends (allows shapes slot 82) (Rest ∷ [])
+    (AllPairs-short IsBefore (Rest ∷ []) (omega arith)) in
+    let b : AllPairs IsBefore holds = chosen-ascends (allows shapes slot 72) (map Hold pool)
+    (AllPairs-map IsLower IsBefore Hold pitch_order-lower pool h) in
+    let c : AllPairs IsBefore starts = chosen-ascends (allows shapes slot 83) (map Start pool)
+    (AllPairs-map IsLower IsBefore Start pitch_order-lower pool h) in
+    AllPairs-append IsBefore (rest ++ holds) starts
+    (AllPairs-append IsBefore rest holds a b (λ x y i j. before_hold x y (is_rest x i) (is_hold y j))) c
     (λ x y i j. elim (Contains-append_cases rest holds x i) [
       | inl k ↦ rest_before_start x y (is_rest x k) (is_start y j)
       | inr k ↦ hold_before_start x y (is_hold x k) (is_start y j)
     ])
   where
     is_rest : (x : Cell) → Contains (cond (allows shapes slot 82) (Rest ∷ []) []) x → Rest ≡ x
-    is_rest x i = elim (Contains-cons_cases Rest [] x (chosen-only (allows shapes slot 82) (Rest ∷ []) x i)) [ inl e ↦ e | inr k ↦ absurd (omega (arith, k.1)) ]
+    is_rest x i = elim (Contains-cons_cases Rest [] x (chosen-only (allows shapes slot 82) (Rest ∷ []) x i))
+        [ inl e ↦ e | inr k ↦ absurd (omega (arith, k.1)) ]
 
     is_hold : (x : Cell) → Contains (cond (allows shapes slot 72) (map Hold pool) []) x → (p : Pitch) × (Hold p ≡ x)
-    is_hold x i = let held = Contains-map_only Hold pool x (chosen-only (allows shapes slot 72) (map Hold pool) x i) in (held.0, held.2)
+    is_hold x i = let held = Contains-map_only Hold pool x (chosen-only (allows shapes slot 72) (map Hold pool) x i) in
+        (held.0, held.2)
 
     is_start : (x : Cell) → Contains (cond (allows shapes slot 83) (map Start pool) []) x → (p : Pitch) × (Start p ≡ x)
-    is_start x i = let started = Contains-map_only Start pool x (chosen-only (allows shapes slot 83) (map Start pool) x i) in (started.0, started.2)
+    is_start x i = let started = Contains-map_only Start pool x
+        (chosen-only (allows shapes slot 83) (map Start pool) x i) in (started.0, started.2)
 
     before_hold : (x y : Cell) → Rest ≡ x → (p : Pitch) × (Hold p ≡ y) → IsBefore x y
     before_hold x y e (p, f) = rw (← e, ← f) refl
@@ -114,6 +151,9 @@ free_cells-ascend shapes slot pool h =
 -- the cells of a voice ascend, so that none stands twice
 pub cells_at-ascend : (ex : Exercise) (i v : ℕ) → AllPairs IsBefore (cells_at ex i v)
 cells_at-ascend ex i v = elim (cases_eq v ex.cantus_voice) [
-  | inl same ↦ rw (cells_at-cantus ex i v same) (AllPairs-short IsBefore _ (length-cantus_cells (option_map (cantus_cell i) (slice_get ex.cantus (i / 8)))))
-  | inr other ↦ rw (cells_at-free ex i v other) (free_cells-ascend (shapes_in (species_in ex v) (bar_of i) ex.bars) (slot_of i) (pool_of ex v (bar_of i)) (pool_of-ascends ex v (bar_of i)))
+  | inl same ↦ rw (cells_at-cantus ex i v same)
+      (AllPairs-short IsBefore _ (length-cantus_cells (option_map (cantus_cell i) (slice_get ex.cantus (i / 8)))))
+  | inr other ↦ rw (cells_at-free ex i v other)
+      (free_cells-ascend (shapes_in (species_in ex v) (bar_of i) ex.bars) (slot_of i) (pool_of ex v (bar_of i))
+      (pool_of-ascends ex v (bar_of i)))
 ]

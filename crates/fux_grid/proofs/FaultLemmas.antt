@@ -8,10 +8,14 @@ find_voice : (p : ℕ → Bool) (v : ℕ) → v < 4 → ((k : ℕ) → k < v →
 find_voice p zero few below here = rw here
 find_voice p (suc zero) few below here = rw (below 0 (omega arith), here)
 find_voice p (suc (suc zero)) few below here = rw (below 0 (omega arith), below 1 (omega arith), here)
-find_voice p (suc (suc (suc zero))) few below here = rw (below 0 (omega arith), below 1 (omega arith), below 2 (omega arith), here)
+find_voice p (suc (suc (suc zero))) few below here =
+    rw (below 0 (omega arith), below 1 (omega arith), below 2 (omega arith), here)
 find_voice p (suc (suc (suc (suc v)))) few below here = absurd (omega arith)
 
 -- a voice is the lowest misfit where it may not follow and all voices below it may
-pub lowest_misfit-some : (before next : List Cell) (v : ℕ) → v < 4 → ((k : ℕ) → k < v → IsTrue (cell_follows (cell_in before k) (cell_in next k))) → cell_follows (cell_in before v) (cell_in next v) ≡ false → lowest_misfit before next ≡ Some v
+pub lowest_misfit-some : (before next : List Cell) (v : ℕ) → v < 4
+    → ((k : ℕ) → k < v → IsTrue (cell_follows (cell_in before k) (cell_in next k)))
+    → cell_follows (cell_in before v) (cell_in next v) ≡ false → lowest_misfit before next ≡ Some v
 lowest_misfit-some before next v few below here =
-    find_voice (λ k. not (cell_follows (cell_in before k) (cell_in next k))) v few (λ k h. ap not (below k h)) (ap not here)
+    find_voice (λ k. not (cell_follows (cell_in before k) (cell_in next k))) v few (λ k h. ap not (below k h))
+    (ap not here)

@@ -28,8 +28,10 @@ pitch_order-equal p q h =
     let both = both_equal (int_cmp (key_of p) (key_of q)) (nat_cmp (degree_of p) (degree_of q)) h in
     let keys : key_of p ≡ key_of q = int_cmp-IsAntisymmetric _ _ both.0 in
     let degrees : degree_of p ≡ degree_of q = nat_cmp-IsAntisymmetric _ _ both.1 in
-    let naturals : pos (natural_key (degree_of p)) ≡ pos (natural_key (degree_of q)) = ap (λ d. pos (natural_key d)) degrees in
-    pitch_ext p q degrees (cancelled (pos (natural_key (degree_of p))) (alter_of p) (alter_of q) (keys ∙ ap (λ n. n +ℤ alter_of q) (sym naturals)))
+    let naturals : pos (natural_key (degree_of p))
+    ≡ pos (natural_key (degree_of q)) = ap (λ d. pos (natural_key d)) degrees in
+    pitch_ext p q degrees (cancelled (pos (natural_key (degree_of p))) (alter_of p) (alter_of q)
+    (keys ∙ ap (λ n. n +ℤ alter_of q) (sym naturals)))
   where
     cancelled : (n a b : ℤ) → n +ℤ a ≡ n +ℤ b → a ≡ b
     cancelled n a b h = omega (arith, ints)
@@ -98,7 +100,8 @@ column_order-itself = tied_itself column_order-total
 pub column_order-reversed : (c d : List Cell) → column_order c d ≡ ordering_reverse (column_order d c)
 column_order-reversed = column_order-total.antisymm
 
-pub column_order-chained : (c d e : List Cell) → column_order c d ≡ Less → column_order d e ≡ Less → column_order c e ≡ Less
+pub column_order-chained : (c d e : List Cell) → column_order c d ≡ Less → column_order d e ≡ Less → column_order c e
+    ≡ Less
 column_order-chained = column_order-total.trans
 
 not_less : (c d : List Cell) → c ≡ d → column_order c d ≡ Less → ⊥
@@ -126,7 +129,8 @@ earlier-cases [] (d ∷ t) e = absurd (omega arith)
 earlier-cases (c ∷ s) [] e = absurd (omega arith)
 earlier-cases (c ∷ s) (d ∷ t) e = at (column_order c d) refl (earlier-cases s t (omega arith))
   where
-    at : (o : Ordering) → column_order c d ≡ o → IsEarlier s t ⊎ ((s ≡ t) ⊎ IsEarlier t s) → IsEarlier (c ∷ s) (d ∷ t) ⊎ ((c ∷ s ≡ d ∷ t) ⊎ IsEarlier (d ∷ t) (c ∷ s))
+    at : (o : Ordering) → column_order c d ≡ o → IsEarlier s t ⊎ ((s ≡ t) ⊎ IsEarlier t s) → IsEarlier (c ∷ s) (d ∷ t)
+        ⊎ ((c ∷ s ≡ d ∷ t) ⊎ IsEarlier (d ∷ t) (c ∷ s))
     at Less h rest = inl (inl h)
     at Greater h rest = inr (inr (inl (column_order-reversed d c ∙ ap ordering_reverse h)))
     at Equal h (inl k) = inl (inr (column_order-equal c d h, k))

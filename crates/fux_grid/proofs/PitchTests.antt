@@ -8,7 +8,8 @@ use Rattle.fux_pitch.proofs.PitchLemmas.{equal_from_test}
 
 pub same_pitch-from_equal : (p q : Pitch) → p ≡ q → same_pitch p q ≡ true
 same_pitch-from_equal p q e =
-    (Decides-and (p.degree == q.degree) (int_eq p.alter q.alter) (Decides-eqb p.degree q.degree) (Decides-int_eq p.alter q.alter)).1 (ap (λ (r : Pitch). r.degree) e, ap (λ (r : Pitch). r.alter) e)
+    (Decides-and (p.degree == q.degree) (int_eq p.alter q.alter) (Decides-eqb p.degree q.degree)
+    (Decides-int_eq p.alter q.alter)).1 (ap (λ (r : Pitch). r.degree) e, ap (λ (r : Pitch). r.alter) e)
 
 -- an answer of the test tells whether the pitches are one
 pub equal_by_test : (p q : Pitch) (answer : Bool) → answer ≡ same_pitch p q → IsTrue answer ↔ (p ≡ q)

@@ -20,7 +20,10 @@ abbrev pub all_rest : List ℕ → Bool
 all_rest = list_all (λ l. l == 82)
 
 -- what holds of each table holds of the shapes of every species
-of_tables : (test : List ℕ → Bool) (species bar bars : ℕ) → list_all test whole_note ≡ true → list_all test (second_shapes bar) ≡ true → list_all test (third_shapes bar) ≡ true → list_all test (fourth_shapes bar) ≡ true → list_all test (fifth_shapes bar) ≡ true → list_all test (shapes_in species bar bars) ≡ true
+of_tables : (test : List ℕ → Bool) (species bar bars : ℕ) → list_all test whole_note ≡ true
+    → list_all test (second_shapes bar) ≡ true → list_all test (third_shapes bar) ≡ true
+    → list_all test (fourth_shapes bar) ≡ true → list_all test (fifth_shapes bar) ≡ true
+    → list_all test (shapes_in species bar bars) ≡ true
 of_tables test species bar bars a b c d e =
     let P : List (List ℕ) → Type 0 = λ shapes. list_all test shapes ≡ true in
     cond_both ((species == 1) || (bar == bars)) _ _ P (λ _. a)
@@ -32,22 +35,30 @@ of_tables test species bar bars a b c d e =
 shapes_lead : (species bar bars : ℕ) → list_all rests_lead (shapes_in species bar bars) ≡ true
 shapes_lead species bar bars =
     of_tables rests_lead species bar bars refl
-    (cond_both (bar == 1) _ _ (λ others. list_all rests_lead (codes "SHHHSHHH" ∷ others) ≡ true) (λ _. refl) (λ _. refl))
-    (cond_both (bar == 1) _ _ (λ others. list_all rests_lead (codes "SHSHSHSH" ∷ others) ≡ true) (λ _. refl) (λ _. refl))
+    (cond_both (bar == 1) _ _ (λ others. list_all rests_lead (codes "SHHHSHHH" ∷ others) ≡ true) (λ _. refl)
+    (λ _. refl))
+    (cond_both (bar == 1) _ _ (λ others. list_all rests_lead (codes "SHSHSHSH" ∷ others) ≡ true) (λ _. refl)
+    (λ _. refl))
     (cond_both (bar == 1) _ _ (λ shapes. list_all rests_lead shapes ≡ true) (λ _. refl) (λ _. refl))
     (cond_both (bar == 1) _ _ (λ others. list_all rests_lead (florid_starts ++ others) ≡ true) (λ _. refl) (λ _. refl))
 
 -- behind the first bar no shape rests
-later_shapes_sound : (species bar bars : ℕ) → (bar == 1) ≡ false → list_all has_no_rest (shapes_in species bar bars) ≡ true
+later_shapes_sound : (species bar bars : ℕ) → (bar == 1) ≡ false → list_all has_no_rest (shapes_in species bar bars)
+    ≡ true
 later_shapes_sound species bar bars later =
     of_tables has_no_rest species bar bars refl
-    (cond_both (bar == 1) _ _ (λ others. list_all has_no_rest (codes "SHHHSHHH" ∷ others) ≡ true) (λ e. absurd (both_ways (bar == 1) later e)) (λ _. refl))
-    (cond_both (bar == 1) _ _ (λ others. list_all has_no_rest (codes "SHSHSHSH" ∷ others) ≡ true) (λ e. absurd (both_ways (bar == 1) later e)) (λ _. refl))
-    (cond_both (bar == 1) _ _ (λ shapes. list_all has_no_rest shapes ≡ true) (λ e. absurd (both_ways (bar == 1) later e)) (λ _. refl))
-    (cond_both (bar == 1) _ _ (λ others. list_all has_no_rest (florid_starts ++ others) ≡ true) (λ e. absurd (both_ways (bar == 1) later e)) (λ _. refl))
+    (cond_both (bar == 1) _ _ (λ others. list_all has_no_rest (codes "SHHHSHHH" ∷ others) ≡ true)
+    (λ e. absurd (both_ways (bar == 1) later e)) (λ _. refl))
+    (cond_both (bar == 1) _ _ (λ others. list_all has_no_rest (codes "SHSHSHSH" ∷ others) ≡ true)
+    (λ e. absurd (both_ways (bar == 1) later e)) (λ _. refl))
+    (cond_both (bar == 1) _ _ (λ shapes. list_all has_no_rest shapes ≡ true)
+    (λ e. absurd (both_ways (bar == 1) later e)) (λ _. refl))
+    (cond_both (bar == 1) _ _ (λ others. list_all has_no_rest (florid_starts ++ others) ≡ true)
+    (λ e. absurd (both_ways (bar == 1) later e)) (λ _. refl))
 
 -- a shape without rests begins with no letters that end with one
-no_rest_in : (shape letters : List ℕ) → has_no_rest shape ≡ true → starts_with nat_eq shape (letters ++ 82 ∷ []) ≡ true → ⊥
+no_rest_in : (shape letters : List ℕ) → has_no_rest shape ≡ true → starts_with nat_eq shape (letters ++ 82 ∷ []) ≡ true
+    → ⊥
 no_rest_in [] [] sound h = cc
 no_rest_in [] (l ∷ letters) sound h = cc
 no_rest_in (s ∷ shape) [] sound h =
@@ -55,24 +66,30 @@ no_rest_in (s ∷ shape) [] sound h =
     let P : ℕ → Type 0 = λ n. (not (n == 82) && has_no_rest shape) ≡ true in
     let e : false ≡ true = subst P (sym same) sound in cc
 no_rest_in (s ∷ shape) (l ∷ letters) sound h =
-    no_rest_in shape letters (and_parts (not (s == 82)) (has_no_rest shape) sound).1 (and_parts (nat_eq l s) (starts_with nat_eq shape (letters ++ 82 ∷ [])) h).1
+    no_rest_in shape letters (and_parts (not (s == 82)) (has_no_rest shape) sound).1
+    (and_parts (nat_eq l s) (starts_with nat_eq shape (letters ++ 82 ∷ [])) h).1
 
 -- where rests lead, all letters before a rest are rests'
-led_by_rests : (shape letters : List ℕ) → rests_lead shape ≡ true → starts_with nat_eq shape (letters ++ 82 ∷ []) ≡ true → all_rest letters ≡ true
+led_by_rests : (shape letters : List ℕ) → rests_lead shape ≡ true → starts_with nat_eq shape (letters ++ 82 ∷ []) ≡ true
+    → all_rest letters ≡ true
 led_by_rests shape [] lead h = refl
 led_by_rests [] (l ∷ letters) lead h = cc
 led_by_rests (s ∷ shape) (l ∷ letters) lead h =
     let both = and_parts (nat_eq l s) (starts_with nat_eq shape (letters ++ 82 ∷ [])) h in
     let P : ℕ → Type 0 = λ n. (if n == 82 then rests_lead shape else has_no_rest shape) ≡ true in
-    rest_or_not (l == 82) (rests_lead shape) (has_no_rest shape) (all_rest letters) (subst P (sym (eqb-true l s both.0)) lead)
+    rest_or_not (l == 82) (rests_lead shape) (has_no_rest shape) (all_rest letters)
+    (subst P (sym (eqb-true l s both.0)) lead)
     (λ lead. led_by_rests shape letters lead both.1) (λ sound. no_rest_in shape letters sound both.1)
   where
-    rest_or_not : (b x y all : Bool) → (if b then x else y) ≡ true → (x ≡ true → all ≡ true) → (y ≡ true → ⊥) → (b && all) ≡ true
+    rest_or_not : (b x y all : Bool) → (if b then x else y) ≡ true → (x ≡ true → all ≡ true) → (y ≡ true → ⊥)
+        → (b && all) ≡ true
     rest_or_not true x y all e f g = f e
     rest_or_not false x y all e f g = absurd (g e)
 
 -- what each shape that begins so shows, the letters show
-from_some_shape : (test : List ℕ → Bool) (shapes : List (List ℕ)) (letters : List ℕ) (P : Type 0) → list_all test shapes ≡ true → begins_shape shapes letters ≡ true → ((shape : List ℕ) → test shape ≡ true → starts_with nat_eq shape letters ≡ true → P) → P
+from_some_shape : (test : List ℕ → Bool) (shapes : List (List ℕ)) (letters : List ℕ) (P : Type 0) → list_all test shapes
+    ≡ true → begins_shape shapes letters ≡ true
+    → ((shape : List ℕ) → test shape ≡ true → starts_with nat_eq shape letters ≡ true → P) → P
 from_some_shape test [] letters P all h f = cc
 from_some_shape test (shape ∷ shapes) letters P all h f =
     let parts = and_parts (test shape) (list_all test shapes) all in
@@ -82,11 +99,15 @@ from_some_shape test (shape ∷ shapes) letters P all h f =
     ]
 
 -- in no bar but the first do letters that begin a shape end with a rest
-pub no_later_rest : (species bar bars : ℕ) (letters : List ℕ) → (bar == 1) ≡ false → begins_shape (shapes_in species bar bars) (letters ++ 82 ∷ []) ≡ true → ⊥
+pub no_later_rest : (species bar bars : ℕ) (letters : List ℕ) → (bar == 1) ≡ false
+    → begins_shape (shapes_in species bar bars) (letters ++ 82 ∷ []) ≡ true → ⊥
 no_later_rest species bar bars letters later h =
-    from_some_shape has_no_rest (shapes_in species bar bars) (letters ++ 82 ∷ []) ⊥ (later_shapes_sound species bar bars later) h (λ shape. no_rest_in shape letters)
+    from_some_shape has_no_rest (shapes_in species bar bars) (letters ++ 82 ∷ []) ⊥
+    (later_shapes_sound species bar bars later) h (λ shape. no_rest_in shape letters)
 
 -- where letters that begin a shape end with a rest, all of them are rests'
-pub rests_before_rest : (species bar bars : ℕ) (letters : List ℕ) → begins_shape (shapes_in species bar bars) (letters ++ 82 ∷ []) ≡ true → all_rest letters ≡ true
+pub rests_before_rest : (species bar bars : ℕ) (letters : List ℕ)
+    → begins_shape (shapes_in species bar bars) (letters ++ 82 ∷ []) ≡ true → all_rest letters ≡ true
 rests_before_rest species bar bars letters h =
-    from_some_shape rests_lead (shapes_in species bar bars) (letters ++ 82 ∷ []) (all_rest letters ≡ true) (shapes_lead species bar bars) h (λ shape. led_by_rests shape letters)
+    from_some_shape rests_lead (shapes_in species bar bars) (letters ++ 82 ∷ []) (all_rest letters ≡ true)
+    (shapes_lead species bar bars) h (λ shape. led_by_rests shape letters)

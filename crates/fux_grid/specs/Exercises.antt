@@ -63,7 +63,8 @@ cantus_cell i p = if slot_of i == 0 then Start p else Hold p
 
 -- at this column of a list, the cell of the cantus voice is that of the bar's pitch
 abbrev pub HasCantusAt : Exercise → List (List Cell) → ℕ → Type 0
-HasCantusAt ex s i = option_map (cantus_cell i) (slice_get ex.cantus (i / 8)) ≡ Some (cell_in (slice_index_or s i []) ex.cantus_voice)
+HasCantusAt ex s i =
+    option_map (cantus_cell i) (slice_get ex.cantus (i / 8)) ≡ Some (cell_in (slice_index_or s i []) ex.cantus_voice)
 
 -- a list of columns has the cantus
 abbrev pub HasCantus : Exercise → List (List Cell) → Type 0

@@ -31,5 +31,6 @@ hold_fault (col ∷ cols) v = hold_fault_after (cell_in col v) v
 abbrev pub push_fault : Grid → List Cell → Option GridFault
 push_fault score col =
     if length score.columns == 192 then Some Full
-    else (if length col == score.voices then option_map (hold_fault (reverse score.columns)) (lowest_misfit (newest_column (reverse score.columns)) col)
+    else (if length col == score.voices then option_map (hold_fault (reverse score.columns))
+    (lowest_misfit (newest_column (reverse score.columns)) col)
     else Some Voices)

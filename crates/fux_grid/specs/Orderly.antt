@@ -16,4 +16,5 @@ HasBegun p bar = (1 ≤ bar) × (8 * (bar - 1) < length p)
 
 -- in each bar that has begun, the letters of each free voice begin a shape
 abbrev pub IsOrderly : Exercise → List (List Cell) → Type 0
-IsOrderly ex p = (v bar : ℕ) → IsFree ex v → HasBegun p bar → IsTrue (begins_shape (voice_shapes ex v bar) (letters_of v (bar_columns p bar)))
+IsOrderly ex p = (v bar : ℕ) → IsFree ex v → HasBegun p bar
+    → IsTrue (begins_shape (voice_shapes ex v bar) (letters_of v (bar_columns p bar)))

@@ -30,11 +30,13 @@ fourth_shapes bar = if bar == 1 then codes "RRRRSHHH" ∷ [] else (codes "HHHHSH
 -- florid bars: those that start on the bar line, then those that begin with a rest or with a held note
 abbrev pub florid_starts : List (List ℕ)
 florid_starts =
-    codes "SHHHSHHH" ∷ codes "SHHHSHSH" ∷ codes "SHHHHHSH" ∷ codes "SHSHSHHH" ∷ codes "SHSHSHSH" ∷ codes "SHSHSHSS" ∷ codes "SHSSSHSH" ∷ codes "SHSSSHHH" ∷ []
+    codes "SHHHSHHH" ∷ codes "SHHHSHSH" ∷ codes "SHHHHHSH" ∷ codes "SHSHSHHH" ∷ codes "SHSHSHSH" ∷ codes "SHSHSHSS"
+    ∷ codes "SHSSSHSH" ∷ codes "SHSSSHHH" ∷ []
 
 abbrev pub florid_holds : List (List ℕ)
 florid_holds =
-    codes "HHHHSHHH" ∷ codes "HHHHSHSH" ∷ codes "HHHHSHSS" ∷ codes "HHSSSHSH" ∷ codes "HHSSSHHH" ∷ codes "HHSHSHSH" ∷ codes "HHSHSHHH" ∷ []
+    codes "HHHHSHHH" ∷ codes "HHHHSHSH" ∷ codes "HHHHSHSS" ∷ codes "HHSSSHSH" ∷ codes "HHSSSHHH" ∷ codes "HHSHSHSH"
+    ∷ codes "HHSHSHHH" ∷ []
 
 abbrev pub fifth_shapes : ℕ → List (List ℕ)
 fifth_shapes bar = florid_starts ++ (if bar == 1 then codes "RRRRSHHH" ∷ [] else florid_holds)

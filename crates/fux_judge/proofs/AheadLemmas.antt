@@ -23,35 +23,44 @@ use Rattle.rule_law.proofs.MenuStarts.{any_only}
 use Rattle.rule_law.proofs.NextPitch.{start_allowed}
 
 -- each of some numbers passes where all below the limit do
-pub all_from : (test : ℕ → Bool) (i n limit : ℕ) → i + n ≤ limit → ((j : ℕ) → j < limit → test j ≡ true) → list_all test (range_with_len i n) ≡ true
+pub all_from : (test : ℕ → Bool) (i n limit : ℕ) → i + n ≤ limit → ((j : ℕ) → j < limit → test j ≡ true)
+    → list_all test (range_with_len i n) ≡ true
 all_from test i zero limit h each = refl
 all_from test i (suc n) limit h each =
-    and_from (test i) (list_all test (range_with_len (i + 1) n)) (each i (omega (arith, h))) (all_from test (i + 1) n limit (omega (arith, h)) each)
+    and_from (test i) (list_all test (range_with_len (i + 1) n)) (each i (omega (arith, h)))
+    (all_from test (i + 1) n limit (omega (arith, h)) each)
 
 abbrev number : Bool → ℕ
 number b = cond b 1 0
 
 -- where none of them starts a note, none is a place for a higher one
-pub none_starts : (starting top : ℕ → Bool) (i n : ℕ) → count_by starting (range_with_len i n) ≡ 0 → list_all (λ j. not (starting j) || top j) (range_with_len i n) ≡ true
+pub none_starts : (starting top : ℕ → Bool) (i n : ℕ) → count_by starting (range_with_len i n) ≡ 0
+    → list_all (λ j. not (starting j) || top j) (range_with_len i n) ≡ true
 none_starts starting top i zero h = refl
 none_starts starting top i (suc n) h =
-    at (starting i) refl (sym (sum_by-cons (λ j. cond (starting j) 1 0) i (range_with_len (i + 1) n)) ∙ h) (none_starts starting top (i + 1) n)
+    at (starting i) refl (sym (sum_by-cons (λ j. cond (starting j) 1 0) i (range_with_len (i + 1) n)) ∙ h)
+    (none_starts starting top (i + 1) n)
   where
     rest : List ℕ
     rest = range_with_len (i + 1) n
 
-    at : (b : Bool) → starting i ≡ b → number (starting i) + count_by starting rest ≡ 0 → (count_by starting rest ≡ 0 → list_all (λ j. not (starting j) || top j) rest ≡ true) → ((not (starting i) || top i) && list_all (λ j. not (starting j) || top j) rest) ≡ true
+    at : (b : Bool) → starting i ≡ b → number (starting i) + count_by starting rest ≡ 0
+        → (count_by starting rest ≡ 0 → list_all (λ j. not (starting j) || top j) rest ≡ true)
+        → ((not (starting i) || top i) && list_all (λ j. not (starting j) || top j) rest) ≡ true
     at true e k later = let one : number (starting i) ≡ 1 = ap number e in absurd (omega (arith, one, k))
     at false e k later =
         let none : number (starting i) ≡ 0 = ap number e in
-        and_from (not (starting i) || top i) (list_all (λ j. not (starting j) || top j) rest) (ap (λ b. not b || top i) e) (later (omega (arith, none, k)))
+        and_from (not (starting i) || top i) (list_all (λ j. not (starting j) || top j) rest)
+        (ap (λ b. not b || top i) e) (later (omega (arith, none, k)))
 
 -- where one of them doesn't pass, not all do
-pub not_all : (test : ℕ → Bool) (i n j : ℕ) → i ≤ j → j < i + n → test j ≡ false → list_all test (range_with_len i n) ≡ false
+pub not_all : (test : ℕ → Bool) (i n j : ℕ) → i ≤ j → j < i + n → test j ≡ false → list_all test (range_with_len i n)
+    ≡ false
 not_all test i zero j low high e = absurd (omega (arith, low, high))
 not_all test i (suc n) j low high e =
     elim (cases_lt i j) [
-      | inl before ↦ and_right (test i) (list_all test (range_with_len (i + 1) n)) (not_all test (i + 1) n j (omega (arith, before)) (omega (arith, high)) e)
+      | inl before ↦ and_right (test i) (list_all test (range_with_len (i + 1) n))
+          (not_all test (i + 1) n j (omega (arith, before)) (omega (arith, high)) e)
       | inr here ↦
           let same : i ≡ j = omega (arith, low, here) in
           ap (λ b. b && list_all test (range_with_len (i + 1) n)) (ap test same ∙ e)
@@ -71,19 +80,23 @@ over_end key high p e h = ap (λ k. int_le k (pos key)) (sym e) ∙ within
     within = grind (arith, nat_tests, ints, h)
 
 -- the menu has a start of a free voice only where a shape allows one
-pub starts_allowed : (ex : Exercise) (v i : ℕ) → IsFree ex v → menu_starts ex v i ≡ true → allows (shapes_in (species_in ex v) (bar_of i) ex.bars) (slot_of i) 83 ≡ true
+pub starts_allowed : (ex : Exercise) (v i : ℕ) → IsFree ex v → menu_starts ex v i ≡ true
+    → allows (shapes_in (species_in ex v) (bar_of i) ex.bars) (slot_of i) 83 ≡ true
 starts_allowed ex v i free e =
     let found = any_only (λ col. starts (cell_in col v)) (menu_of ex i) e in
     at (cell_in found.0 v) (((menu_of-contains ex i found.0).0 found.1).cells v free.there) found.2
   where
-    at : (c : Cell) → Contains (cells_at ex i v) c → starts c ≡ true → allows (shapes_in (species_in ex v) (bar_of i) ex.bars) (slot_of i) 83 ≡ true
+    at : (c : Cell) → Contains (cells_at ex i v) c → starts c ≡ true
+        → allows (shapes_in (species_in ex v) (bar_of i) ex.bars) (slot_of i) 83 ≡ true
     at Rest h s = cc
     at (Hold p) h s = cc
     at (Start p) h s =
         let P : List Cell → Type 0 = λ cells. Contains cells (Start p) in
-        start_allowed (shapes_in (species_in ex v) (bar_of i) ex.bars) (slot_of i) (pool_of ex v (bar_of i)) p (subst P (cells_at-free ex i v free.no_cantus) h)
+        start_allowed (shapes_in (species_in ex v) (bar_of i) ex.bars) (slot_of i) (pool_of ex v (bar_of i)) p
+        (subst P (cells_at-free ex i v free.no_cantus) h)
 
-pub none_allowed : (ex : Exercise) (v i : ℕ) → IsFree ex v → allows (shapes_in (species_in ex v) (bar_of i) ex.bars) (slot_of i) 83 ≡ false → menu_starts ex v i ≡ false
+pub none_allowed : (ex : Exercise) (v i : ℕ) → IsFree ex v
+    → allows (shapes_in (species_in ex v) (bar_of i) ex.bars) (slot_of i) 83 ≡ false → menu_starts ex v i ≡ false
 none_allowed ex v i free e = at (menu_starts ex v i) refl
   where
     at : (b : Bool) → menu_starts ex v i ≡ b → b ≡ false

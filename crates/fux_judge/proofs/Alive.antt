@@ -28,18 +28,21 @@ use Rattle.fux_judge.proofs.Ends.{none_below, unbroken_if_none_settled, none_set
 use Rattle.fux_judge.proofs.Grows.{strict_break_grows, paid_grows, break_settled_grows, charges_settled_grow}
 
 -- a prefix without its last column, and with a column more
-pub prefix_before : (ex : Exercise) (p : List (List Cell)) (col : List Cell) → IsPrefix ex (p ++ col ∷ []) → IsPrefix ex p
+pub prefix_before : (ex : Exercise) (p : List (List Cell)) (col : List Cell) → IsPrefix ex (p ++ col ∷ [])
+    → IsPrefix ex p
 prefix_before ex p col longer =
     let size : length (p ++ col ∷ []) ≡ length p + 1 = length-append p (col ∷ []) in
     let H : List (List Cell) → Type 0 = λ h. HistoryFollows h in
     record {
       few = omega (arith, size, longer.few);
-      menus = λ i h. let M : List Cell → Type 0 = λ c. IsInMenu ex i c in subst M (get_or-append p (col ∷ []) [] i h) (longer.menus i (omega (arith, size)));
+      menus = λ i h. let M : List Cell → Type 0 = λ c. IsInMenu ex i c in
+          subst M (get_or-append p (col ∷ []) [] i h) (longer.menus i (omega (arith, size)));
       follows = (subst H (reverse-push p col) longer.follows).1;
     }
 
 -- where no element of a list passes, the one at a place doesn't
-not_any : {X : Type 0} (f : X → Bool) (xs : List X) (d : X) → list_any f xs ≡ false → (k : ℕ) → k < length xs → f (slice_index_or xs k d) ≡ false
+not_any : {X : Type 0} (f : X → Bool) (xs : List X) (d : X) → list_any f xs ≡ false → (k : ℕ) → k < length xs
+    → f (slice_index_or xs k d) ≡ false
 not_any f [] d h k lt = absurd (omega arith)
 not_any f (x ∷ xs) d h zero lt = (or_parts (f x) (list_any f xs) h).0
 not_any f (x ∷ xs) d h (suc k) lt = not_any f xs d (or_parts (f x) (list_any f xs) h).1 k (omega arith)
@@ -49,7 +52,8 @@ not_this : (f : ℕ → Bool) (n : ℕ) (xs : List ℕ) → list_any f xs ≡ fa
 not_this f n [] h there = cc
 not_this f n (x ∷ xs) h there = at (n == x) refl there (or_parts (f x) (list_any f xs) h) (not_this f n xs)
   where
-    at : (b : Bool) → (n == x) ≡ b → (b || list_any (λ y. n == y) xs) ≡ true → (f x ≡ false) × (list_any f xs ≡ false) → (list_any f xs ≡ false → list_any (λ y. n == y) xs ≡ true → f n ≡ false) → f n ≡ false
+    at : (b : Bool) → (n == x) ≡ b → (b || list_any (λ y. n == y) xs) ≡ true → (f x ≡ false) × (list_any f xs ≡ false)
+        → (list_any f xs ≡ false → list_any (λ y. n == y) xs ≡ true → f n ≡ false) → f n ≡ false
     at true e m both later = ap f (eqb-true n x e) ∙ both.0
     at false e m both later = later both.1 m
 
@@ -74,7 +78,8 @@ both_strict false b h = refl
 
 module _ (ex : Exercise) (few : ex.voices ≤ 4) where
   -- where a column settles no break of S3 the list stays orderly
-  pub in_shape : (p : List (List Cell)) (col : List Cell) → IsOrderly ex p → newly_broken ex p col 3 ≡ false → IsOrderly ex (p ++ col ∷ [])
+  pub in_shape : (p : List (List Cell)) (col : List Cell) → IsOrderly ex p → newly_broken ex p col 3 ≡ false
+      → IsOrderly ex (p ++ col ∷ [])
   unfolding rule_at
   in_shape p col orderly h =
       orderly-step ex p col few orderly
@@ -82,10 +87,13 @@ module _ (ex : Exercise) (few : ex.voices ≤ 4) where
       let start : ℕ = newest_start (p ++ col ∷ []) in
       let size : length (p ++ col ∷ []) ≡ length p + 1 = length-append p (col ∷ []) in
       let within : start < length p + 1 = starts (length p) (length (p ++ col ∷ [])) size in
-      let none : newly_broken_at 3 ex (2 ^ v) p col start ≡ false = none_below (newly_broken_at 3 ex (2 ^ v) p col) (length p + 1) (one_voice _ h v four) start within in
+      let none : newly_broken_at 3 ex (2 ^ v) p col start
+      ≡ false = none_below (newly_broken_at 3 ex (2 ^ v) p col) (length p + 1) (one_voice _ h v four) start within
+      in
       ap (λ b. b && rhythm_breaks 3 ex (2 ^ v) (p ++ col ∷ []) start) (sym (eq-eqb start start refl))
       ∙ sym (newly_out_of_shape ex p col orderly (2 ^ v) start)
-      ∙ both_strict (newly (rhythm_settles 3 ex (2 ^ v)) p col start) (rhythm_breaks 3 ex (2 ^ v) (p ++ col ∷ []) start) none)
+      ∙ both_strict (newly (rhythm_settles 3 ex (2 ^ v)) p col start) (rhythm_breaks 3 ex (2 ^ v) (p ++ col ∷ []) start)
+      none)
     where
       starts : (n m : ℕ) → m ≡ n + 1 → 8 * ((m - 1) / 8 + 1 - 1) < n + 1
       starts n m e = omega arith
@@ -94,9 +102,11 @@ module _ (ex : Exercise) (few : ex.voices ≤ 4) where
   orderly_history [] alive = λ v bar free begun. absurd (omega (arith, begun.1))
   orderly_history (col ∷ h) alive =
       let longer : reverse (col ∷ h) ≡ reverse h ++ col ∷ [] = reverse-append (col ∷ []) h in
-      let parts = or_parts (has_strict_break ex (reverse h)) (list_any (newly_broken ex (reverse h) col) rules_read) (sym (strict_break_grows ex (reverse h) col) ∙ sym (ap (has_strict_break ex) longer) ∙ alive) in
+      let parts = or_parts (has_strict_break ex (reverse h)) (list_any (newly_broken ex (reverse h) col) rules_read)
+      (sym (strict_break_grows ex (reverse h) col) ∙ sym (ap (has_strict_break ex) longer) ∙ alive) in
       let P : List (List Cell) → Type 0 = λ p. IsOrderly ex p in
-      subst P (sym longer) (in_shape (reverse h) col (orderly_history h parts.0) (rule_three (newly_broken ex (reverse h) col) parts.1))
+      subst P (sym longer) (in_shape (reverse h) col (orderly_history h parts.0)
+      (rule_three (newly_broken ex (reverse h) col) parts.1))
 
   pub alive_orderly : (p : List (List Cell)) → has_strict_break ex p ≡ false → IsOrderly ex p
   alive_orderly p alive =
@@ -108,7 +118,8 @@ pub record Agrees (ex : Exercise) (p : List (List Cell)) : Type 0 where
   pub breaks : has_strict_break ex p ≡ has_break_settled_in ex p
   pub pays : (sheet : Sheet) → paid ex sheet p ≡ charges_settled_in ex sheet p
 
-agree_history : (ex : Exercise) (h : List (List Cell)) → IsPrefix ex (reverse h) → IsOrderly ex (reverse h) → Agrees ex (reverse h)
+agree_history : (ex : Exercise) (h : List (List Cell)) → IsPrefix ex (reverse h) → IsOrderly ex (reverse h)
+    → Agrees ex (reverse h)
 agree_history ex [] prefix orderly = record { breaks = refl; pays = λ sheet. refl }
 agree_history ex (col ∷ h) prefix orderly =
     let longer : reverse (col ∷ h) ≡ reverse h ++ col ∷ [] = reverse-append (col ∷ []) h in
@@ -121,7 +132,8 @@ agree_history ex (col ∷ h) prefix orderly =
     let on : GoesOn ex (reverse h) (col ∷ []) = record { orderly = before; longer = whole } in
     subst A (sym longer) record {
       breaks =
-          strict_break_grows ex (reverse h) col ∙ ap (λ b. b || list_any (newly_broken ex (reverse h) col) rules_read) rest.breaks
+          strict_break_grows ex (reverse h) col
+          ∙ ap (λ b. b || list_any (newly_broken ex (reverse h) col) rules_read) rest.breaks
           ∙ sym (break_settled_grows ex (reverse h) col on);
       pays = λ sheet.
           paid_grows ex (reverse h) col sheet ∙ ap (λ n. n + newly_paid ex sheet (reverse h) col) (rest.pays sheet)
@@ -140,14 +152,16 @@ module _ (ex : Exercise) (few : ex.voices ≤ 4) (s : List (List Cell)) (setting
   -- a setting in which no strict break is settled has none
   pub unbroken_if_alive : has_strict_break ex s ≡ false → (i : ℕ) → i < length s → breaks_strictly ex s i ≡ false
   unbroken_if_alive alive =
-      unbroken_if_none_settled ex s setting.whole (sym (agree ex s setting.prefix (alive_orderly ex few s alive)).breaks ∙ alive)
+      unbroken_if_none_settled ex s setting.whole
+      (sym (agree ex s setting.prefix (alive_orderly ex few s alive)).breaks ∙ alive)
 
   -- what is paid of it is its penalty
   pub paid_at_end : has_strict_break ex s ≡ false → (sheet : Sheet) → paid ex sheet s ≡ charges_of ex sheet s
   paid_at_end alive sheet =
       (agree ex s setting.prefix (alive_orderly ex few s alive)).pays sheet ∙ settled_at_end ex s setting.whole sheet
 
-  unbroken_three : (voices i : ℕ) → (is_broken 3 ex voices s i && is_strict_at 3 ex voices i) ≡ false → rhythm_breaks 3 ex voices s i ≡ false
+  unbroken_three : (voices i : ℕ) → (is_broken 3 ex voices s i && is_strict_at 3 ex voices i) ≡ false
+      → rhythm_breaks 3 ex voices s i ≡ false
   unfolding rule_at
   unbroken_three voices i h = from (rhythm_breaks 3 ex voices s i) h
     where
@@ -163,5 +177,6 @@ module _ (ex : Exercise) (few : ex.voices ≤ 4) (s : List (List Cell)) (setting
       (λ v bar four begun.
       unbroken_three (2 ^ v) (8 * (bar - 1))
       (one_voice (λ voices. is_broken 3 ex voices s (8 * (bar - 1)) && is_strict_at 3 ex voices (8 * (bar - 1)))
-      (rule_three (λ rule. list_any (λ voices. is_broken rule ex voices s (8 * (bar - 1)) && is_strict_at rule ex voices (8 * (bar - 1))) all_sets) (h (8 * (bar - 1)) begun.1)) v four)) in
+      (rule_three (λ rule. list_any (λ voices. is_broken rule ex voices s (8 * (bar - 1))
+      && is_strict_at rule ex voices (8 * (bar - 1))) all_sets) (h (8 * (bar - 1)) begun.1)) v four)) in
       (agree ex s setting.prefix orderly).breaks ∙ none_settled_if_unbroken ex s setting.whole h

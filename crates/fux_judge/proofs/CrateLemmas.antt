@@ -25,11 +25,17 @@ use Rattle.fux_judge.specs.Rules.{breaks, enough, is_late, is_late_toll, is_of_m
 -- the books as one read a number as its crate does
 rule_by_crate : (rule : ℕ) → rule_at rule ≡ rule_by (crate_with rule) rule
 unfolding rule_at
-rule_by_crate rule = at (melody.has_rule rule) (motion.has_rule rule) (dissonance.has_rule rule) (rhythm.has_rule rule) (doubling.has_rule rule)
+rule_by_crate rule = at (melody.has_rule rule) (motion.has_rule rule) (dissonance.has_rule rule) (rhythm.has_rule rule)
+    (doubling.has_rule rule)
   where
     at : (a b c d e : Bool)
-        → (if a then melody.rule_row rule else (if b then motion.rule_row rule else (if c then dissonance.rule_row rule else (if d then rhythm.rule_row rule else (if e then doubling.rule_row rule else no_rule)))))
-        ≡ rule_by (if a then Some Melody else (if b then Some Motion else (if c then Some Dissonance else (if d then Some Rhythm else (if e then Some Doubling else None))))) rule
+        → (if a then melody.rule_row rule else
+        (if b then motion.rule_row rule
+        else (if c then dissonance.rule_row rule
+        else (if d then rhythm.rule_row rule else (if e then doubling.rule_row rule else no_rule)))))
+        ≡ rule_by (if a then Some Melody else
+        (if b then Some Motion else (if c then Some Dissonance
+        else (if d then Some Rhythm else (if e then Some Doubling else None))))) rule
     at true b c d e = refl
     at false true c d e = refl
     at false false true d e = refl
@@ -39,11 +45,17 @@ rule_by_crate rule = at (melody.has_rule rule) (motion.has_rule rule) (dissonanc
 
 toll_by_crate : (toll : ℕ) → toll_at toll ≡ toll_by (crate_with_toll toll) toll
 unfolding toll_at
-toll_by_crate toll = at (melody.has_toll toll) (motion.has_toll toll) (dissonance.has_toll toll) (rhythm.has_toll toll) (doubling.has_toll toll)
+toll_by_crate toll = at (melody.has_toll toll) (motion.has_toll toll) (dissonance.has_toll toll) (rhythm.has_toll toll)
+    (doubling.has_toll toll)
   where
     at : (a b c d e : Bool)
-        → (if a then melody.toll_row toll else (if b then motion.toll_row toll else (if c then dissonance.toll_row toll else (if d then rhythm.toll_row toll else (if e then doubling.toll_row toll else no_toll)))))
-        ≡ toll_by (if a then Some Melody else (if b then Some Motion else (if c then Some Dissonance else (if d then Some Rhythm else (if e then Some Doubling else None))))) toll
+        → (if a then melody.toll_row toll else
+        (if b then motion.toll_row toll
+        else (if c then dissonance.toll_row toll
+        else (if d then rhythm.toll_row toll else (if e then doubling.toll_row toll else no_toll)))))
+        ≡ toll_by (if a then Some Melody else
+        (if b then Some Motion else (if c then Some Dissonance
+        else (if d then Some Rhythm else (if e then Some Doubling else None))))) toll
     at true b c d e = refl
     at false true c d e = refl
     at false false true d e = refl
@@ -89,7 +101,8 @@ pub in_melody : (rule : ℕ) → is_of_melody rule ≡ true → crate_with rule 
 in_melody rule h = cond-true (is_of_melody rule) (Some Melody) _ h
 
 -- a toll that none of them has is in none
-pub in_none : (toll : ℕ) → melody.has_toll toll ≡ false → motion.has_toll toll ≡ false → dissonance.has_toll toll ≡ false → rhythm.has_toll toll ≡ false → doubling.has_toll toll ≡ false → crate_with_toll toll ≡ None
+pub in_none : (toll : ℕ) → melody.has_toll toll ≡ false → motion.has_toll toll ≡ false → dissonance.has_toll toll
+    ≡ false → rhythm.has_toll toll ≡ false → doubling.has_toll toll ≡ false → crate_with_toll toll ≡ None
 in_none toll a b c d e =
     past (melody.has_toll toll) _ _ a ∙ past (motion.has_toll toll) _ _ b ∙ past (dissonance.has_toll toll) _ _ c
     ∙ past (rhythm.has_toll toll) _ _ d ∙ past (doubling.has_toll toll) (Some Doubling) None e
@@ -99,7 +112,8 @@ in_none toll a b c d e =
     past false x y h = refl
 
 -- of a choice between a late row and another, where the row isn't late it is the other
-not_late_row : (b : Bool) (late soon : RuleRow) → late.late ≡ true → (if b then late else soon).late ≡ false → (if b then late else soon) ≡ soon
+not_late_row : (b : Bool) (late soon : RuleRow) → late.late ≡ true → (if b then late else soon).late ≡ false
+    → (if b then late else soon) ≡ soon
 not_late_row true late soon l h = let no : true ≡ false = sym l ∙ h in cc
 not_late_row false late soon l h = refl
 
@@ -115,7 +129,8 @@ late_in_rhythm rule h = late_chosen (rhythm.is_late rule) (rhythm.late_row rule)
 rhythm_late : (rule : ℕ) → (rhythm.late_row rule).late ≡ true
 rhythm_late rule = at (rule == 3) (rule == 22)
   where
-    at : (a b : Bool) → (if a then rhythm.shape_rule else (if b then rhythm.cadence_rule else rhythm.quaver_rule)).late ≡ true
+    at : (a b : Bool) → (if a then rhythm.shape_rule else (if b then rhythm.cadence_rule else rhythm.quaver_rule)).late
+        ≡ true
     at true b = refl
     at false true = refl
     at false false = refl
@@ -125,17 +140,20 @@ module _ (rule : ℕ) (soon : is_late rule ≡ false) where
   pub soon_in_motion : crate_with rule ≡ Some Motion → rule_at rule ≡ motion.at_once_row rule
   soon_in_motion e =
       rule_of_crate rule (Some Motion) e
-      ∙ not_late_row (motion.is_late rule) (motion.late_row rule) (motion.at_once_row rule) refl (late_by_crate rule (Some Motion) e false soon)
+      ∙ not_late_row (motion.is_late rule) (motion.late_row rule) (motion.at_once_row rule) refl
+      (late_by_crate rule (Some Motion) e false soon)
 
   pub soon_in_dissonance : crate_with rule ≡ Some Dissonance → rule_at rule ≡ dissonance.at_once_row rule
   soon_in_dissonance e =
       rule_of_crate rule (Some Dissonance) e
-      ∙ not_late_row (dissonance.is_late rule) (dissonance.late_row rule) (dissonance.at_once_row rule) refl (late_by_crate rule (Some Dissonance) e false soon)
+      ∙ not_late_row (dissonance.is_late rule) (dissonance.late_row rule) (dissonance.at_once_row rule) refl
+      (late_by_crate rule (Some Dissonance) e false soon)
 
   pub soon_in_rhythm : crate_with rule ≡ Some Rhythm → rule_at rule ≡ rhythm.at_once_row rule
   soon_in_rhythm e =
       rule_of_crate rule (Some Rhythm) e
-      ∙ not_late_row (rhythm.is_late rule) (rhythm.late_row rule) (rhythm.at_once_row rule) (rhythm_late rule) (late_by_crate rule (Some Rhythm) e false soon)
+      ∙ not_late_row (rhythm.is_late rule) (rhythm.late_row rule) (rhythm.at_once_row rule) (rhythm_late rule)
+      (late_by_crate rule (Some Rhythm) e false soon)
 
   -- and S3 is late
   pub not_shape : crate_with rule ≡ Some Rhythm → (rule == 3) ≡ false
@@ -162,4 +180,6 @@ none_uncovered = refl
 
 -- a crate covers the rules that its book has
 pub covers : (rule : ℕ) (crate : Option RuleCrate) → rule < 256 → crate_with rule ≡ crate → covered_by crate rule ≡ true
-covers rule crate h its = sym (ap (λ c. covered_by c rule) its) ∙ not-false (covered_by (crate_with rule) rule) (none_below (λ r. not (covered_by (crate_with r) r)) 256 none_uncovered rule h)
+covers rule crate h its = sym (ap (λ c. covered_by c rule) its)
+    ∙ not-false (covered_by (crate_with rule) rule)
+    (none_below (λ r. not (covered_by (crate_with r) r)) 256 none_uncovered rule h)

@@ -18,8 +18,10 @@ use Rattle.fux_judge.specs.Rules.{all_rules, rule_at, toll_at, enough, cost_enou
 
 all_keep : KeepsAllLaws all_rules
 all_keep =
-    joined_keeps melody.book (joined motion.book (joined dissonance.book (joined rhythm.book (joined doubling.book nothing)))) melody_laws.keeps_laws
-    (joined_keeps motion.book (joined dissonance.book (joined rhythm.book (joined doubling.book nothing))) motion_laws.keeps_laws
+    joined_keeps melody.book (joined motion.book
+    (joined dissonance.book (joined rhythm.book (joined doubling.book nothing)))) melody_laws.keeps_laws
+    (joined_keeps motion.book (joined dissonance.book (joined rhythm.book (joined doubling.book nothing)))
+    motion_laws.keeps_laws
     (joined_keeps dissonance.book (joined rhythm.book (joined doubling.book nothing)) dissonance_laws.keeps_laws
     (joined_keeps rhythm.book (joined doubling.book nothing) rhythm_laws.keeps_laws
     (joined_keeps doubling.book nothing doubling_laws.keeps_laws nothing_keeps))))

@@ -37,12 +37,14 @@ module _ (ex : Exercise) (p : List (List Cell)) (col : List Cell) where
   column_at_end = get_or-append_seam p col [] []
 
   -- a strict break is settled in the longer prefix where one was before, or where the column settles one
-  pub strict_break_grows : has_strict_break ex (p ++ col ∷ []) ≡ (has_strict_break ex p || list_any (newly_broken ex p col) rules_read)
+  pub strict_break_grows : has_strict_break ex (p ++ col ∷ [])
+      ≡ (has_strict_break ex p || list_any (newly_broken ex p col) rules_read)
   strict_break_grows =
       ap (any_below (breaks_by_column ex (p ++ col ∷ []))) (one_more ∙ add-one (length p))
       ∙ ap (λ b. b || breaks_by_column ex (p ++ col ∷ []) (length p))
       (any_below-same (breaks_by_column ex (p ++ col ∷ [])) (breaks_by_column ex p) (length p)
-      (λ k h. ap (λ q. list_any (newly_broken ex q (slice_index_or (p ++ col ∷ []) k [])) rules_read) (same_start k (omega arith))
+      (λ k h. ap (λ q. list_any (newly_broken ex q (slice_index_or (p ++ col ∷ []) k [])) rules_read)
+      (same_start k (omega arith))
       ∙ ap (λ c. list_any (newly_broken ex (take k p) c) rules_read) (same_column k h)))
       ∙ ap (λ b. has_strict_break ex p || b)
       (ap (λ q. list_any (newly_broken ex q (slice_index_or (p ++ col ∷ []) (length p) [])) rules_read) start_at_end
@@ -60,89 +62,135 @@ module _ (ex : Exercise) (p : List (List Cell)) (col : List Cell) where
       (ap (λ q. newly_paid ex sheet q (slice_index_or (p ++ col ∷ []) (length p) [])) start_at_end
       ∙ ap (newly_paid ex sheet p) column_at_end)
 
-  broken_grows : GoesOn ex p (col ∷ []) → (i : ℕ) → list_any (λ rule. list_any (λ voices. is_strictly_broken rule ex voices (p ++ col ∷ []) i) all_sets) rules_read ≡ (list_any (λ rule. list_any (λ voices. is_strictly_broken rule ex voices p i) all_sets) rules_read || list_any (λ rule. list_any (λ voices. newly_broken_at rule ex voices p col i) all_sets) rules_read)
+  broken_grows : GoesOn ex p (col ∷ []) → (i : ℕ)
+      → list_any (λ rule. list_any (λ voices. is_strictly_broken rule ex voices (p ++ col ∷ []) i) all_sets) rules_read
+      ≡ (list_any (λ rule. list_any (λ voices. is_strictly_broken rule ex voices p i) all_sets) rules_read
+      || list_any (λ rule. list_any (λ voices. newly_broken_at rule ex voices p col i) all_sets) rules_read)
   broken_grows on i =
-      list_any-same (λ rule. list_any (λ voices. is_strictly_broken rule ex voices (p ++ col ∷ []) i) all_sets) (λ rule. list_any (λ voices. is_strictly_broken rule ex voices p i) all_sets || list_any (λ voices. newly_broken_at rule ex voices p col i) all_sets) rules_read
+      list_any-same (λ rule. list_any (λ voices. is_strictly_broken rule ex voices (p ++ col ∷ []) i) all_sets)
+      (λ rule. list_any (λ voices. is_strictly_broken rule ex voices p i) all_sets
+      || list_any (λ voices. newly_broken_at rule ex voices p col i) all_sets) rules_read
       (λ rule.
-      list_any-same (λ voices. is_strictly_broken rule ex voices (p ++ col ∷ []) i) (λ voices. is_strictly_broken rule ex voices p i || newly_broken_at rule ex voices p col i) all_sets
-      (λ voices. test_grows (is_settled rule ex voices) (rule_stays rule ex voices) (rule_needs_place rule ex voices) p col ex (is_broken rule ex voices) (is_strict_at rule ex voices) (rule_is_local rule ex voices) on i)
-      ∙ list_any-or (λ voices. is_strictly_broken rule ex voices p i) (λ voices. newly_broken_at rule ex voices p col i) all_sets)
-      ∙ list_any-or (λ rule. list_any (λ voices. is_strictly_broken rule ex voices p i) all_sets) (λ rule. list_any (λ voices. newly_broken_at rule ex voices p col i) all_sets) rules_read
+      list_any-same (λ voices. is_strictly_broken rule ex voices (p ++ col ∷ []) i)
+      (λ voices. is_strictly_broken rule ex voices p i || newly_broken_at rule ex voices p col i) all_sets
+      (λ voices. test_grows (is_settled rule ex voices) (rule_stays rule ex voices) (rule_needs_place rule ex voices) p
+      col ex (is_broken rule ex voices) (is_strict_at rule ex voices) (rule_is_local rule ex voices) on i)
+      ∙ list_any-or (λ voices. is_strictly_broken rule ex voices p i) (λ voices. newly_broken_at rule ex voices p col i)
+      all_sets)
+      ∙ list_any-or (λ rule. list_any (λ voices. is_strictly_broken rule ex voices p i) all_sets)
+      (λ rule. list_any (λ voices. newly_broken_at rule ex voices p col i) all_sets) rules_read
 
-  none_at_end : list_any (λ rule. list_any (λ voices. is_strictly_broken rule ex voices p (length p)) all_sets) rules_read ≡ false
+  none_at_end : list_any (λ rule. list_any (λ voices. is_strictly_broken rule ex voices p (length p)) all_sets)
+      rules_read ≡ false
   unfolding forms.all_sets rules_read
   none_at_end =
-      list_any-same (λ rule. list_any (λ voices. is_strictly_broken rule ex voices p (length p)) all_sets) (λ rule. false) rules_read
+      list_any-same (λ rule. list_any (λ voices. is_strictly_broken rule ex voices p (length p)) all_sets)
+      (λ rule. false) rules_read
       (λ rule. list_any-same (λ voices. is_strictly_broken rule ex voices p (length p)) (λ voices. false) all_sets
-      (λ voices. ap (λ s. s && is_broken rule ex voices p (length p) && is_strict_at rule ex voices (length p)) (unsettled_at_end (is_settled rule ex voices) (rule_stays rule ex voices) (rule_needs_place rule ex voices) p col)))
+      (λ voices. ap (λ s. s && is_broken rule ex voices p (length p) && is_strict_at rule ex voices (length p))
+      (unsettled_at_end (is_settled rule ex voices) (rule_stays rule ex voices) (rule_needs_place rule ex voices) p
+      col)))
 
   or_none : (a b : Bool) → b ≡ false → (a || b) ≡ a
   or_none true b h = refl
   or_none false b h = h
 
   -- after an orderly prefix the same holds of what is settled in the list itself
-  pub break_settled_grows : GoesOn ex p (col ∷ []) → has_break_settled_in ex (p ++ col ∷ []) ≡ (has_break_settled_in ex p || list_any (newly_broken ex p col) rules_read)
+  pub break_settled_grows : GoesOn ex p (col ∷ []) → has_break_settled_in ex (p ++ col ∷ [])
+      ≡ (has_break_settled_in ex p || list_any (newly_broken ex p col) rules_read)
   break_settled_grows on =
-      let before : ℕ → Bool = λ i. list_any (λ rule. list_any (λ voices. is_strictly_broken rule ex voices p i) all_sets) rules_read in
-      let after : ℕ → Bool = λ i. list_any (λ rule. list_any (λ voices. is_strictly_broken rule ex voices (p ++ col ∷ []) i) all_sets) rules_read in
-      let fresh : ℕ → Bool = λ i. list_any (λ rule. list_any (λ voices. newly_broken_at rule ex voices p col i) all_sets) rules_read in
+      let before : ℕ → Bool = λ i. list_any
+      (λ rule. list_any (λ voices. is_strictly_broken rule ex voices p i) all_sets) rules_read in
+      let after : ℕ → Bool = λ i. list_any
+      (λ rule. list_any (λ voices. is_strictly_broken rule ex voices (p ++ col ∷ []) i) all_sets) rules_read in
+      let fresh : ℕ → Bool = λ i. list_any
+      (λ rule. list_any (λ voices. newly_broken_at rule ex voices p col i) all_sets) rules_read in
       let n : length p + 1 ≡ suc (length p) = add-one (length p) in
       ap (any_below after) one_more
       ∙ any_below-same after (λ i. before i || fresh i) (length p + 1) (λ i h. broken_grows on i)
       ∙ any_below-or before fresh (length p + 1)
       ∙ ap (λ k. any_below before k || any_below fresh (length p + 1)) n
-      ∙ ap (λ b. b || any_below fresh (length p + 1)) (or_none (any_below before (length p)) (before (length p)) none_at_end)
+      ∙ ap (λ b. b || any_below fresh (length p + 1))
+      (or_none (any_below before (length p)) (before (length p)) none_at_end)
       ∙ ap (λ b. any_below before (length p) || b)
-      (any_below-list_any (λ rule i. list_any (λ voices. newly_broken_at rule ex voices p col i) all_sets) rules_read (length p + 1)
-      ∙ list_any-same (λ rule. any_below (λ i. list_any (λ voices. newly_broken_at rule ex voices p col i) all_sets) (length p + 1)) (newly_broken ex p col) rules_read
+      (any_below-list_any (λ rule i. list_any (λ voices. newly_broken_at rule ex voices p col i) all_sets) rules_read
+      (length p + 1)
+      ∙ list_any-same (λ rule. any_below (λ i. list_any (λ voices. newly_broken_at rule ex voices p col i) all_sets)
+      (length p + 1)) (newly_broken ex p col) rules_read
       (λ rule. any_below-list_any (λ voices. newly_broken_at rule ex voices p col) all_sets (length p + 1)))
 
 module _ (ex : Exercise) (sheet : Sheet) (p : List (List Cell)) (col : List Cell) where
   weighed : (toll : ℕ) → IsLocal ex (λ s i. cost_at toll ex s i * weight_of sheet toll) (is_cost_settled toll ex)
   weighed toll q t i on h = ap (λ c. c * weight_of sheet toll) (toll_is_local toll ex q t i on h)
 
-  priced : (rule voices : ℕ) → IsLocal ex (λ s i. if is_broken rule ex voices s i then price_at_place rule ex voices i else 0) (is_settled rule ex voices)
-  priced rule voices q t i on h = ap (λ b. if b then price_at_place rule ex voices i else 0) (rule_is_local rule ex voices q t i on h)
+  priced : (rule voices : ℕ) → IsLocal ex (λ s i. if is_broken rule ex voices s i then price_at_place rule ex voices i
+      else 0) (is_settled rule ex voices)
+  priced rule voices q t i on h =
+      ap (λ b. if b then price_at_place rule ex voices i else 0) (rule_is_local rule ex voices q t i on h)
 
-  tolls_grow : GoesOn ex p (col ∷ []) → (i : ℕ) → settled_tolls ex sheet (p ++ col ∷ []) i ≡ settled_tolls ex sheet p i + new_tolls ex sheet p col i
+  tolls_grow : GoesOn ex p (col ∷ []) → (i : ℕ) → settled_tolls ex sheet (p ++ col ∷ []) i
+      ≡ settled_tolls ex sheet p i + new_tolls ex sheet p col i
   tolls_grow on i =
-      let before : ℕ → ℕ = λ toll. if is_cost_settled toll ex p i then cost_at toll ex p i * weight_of sheet toll else 0 in
-      let after : ℕ → ℕ = λ toll. if is_cost_settled toll ex (p ++ col ∷ []) i then cost_at toll ex (p ++ col ∷ []) i * weight_of sheet toll else 0 in
-      let fresh : ℕ → ℕ = λ toll. if newly (is_cost_settled toll ex) p col i then cost_at toll ex (p ++ col ∷ []) i * weight_of sheet toll else 0 in
+      let before : ℕ → ℕ = λ toll. if is_cost_settled toll ex p i then cost_at toll ex p i * weight_of sheet toll
+      else 0 in
+      let after : ℕ → ℕ = λ toll. if is_cost_settled toll ex (p ++ col ∷ []) i
+      then cost_at toll ex (p ++ col ∷ []) i * weight_of sheet toll else 0 in
+      let fresh : ℕ → ℕ = λ toll. if newly (is_cost_settled toll ex) p col i
+      then cost_at toll ex (p ++ col ∷ []) i * weight_of sheet toll else 0 in
       sum_by-same after (λ toll. before toll + fresh toll) tolls_read
-      (λ toll. charge_grows (is_cost_settled toll ex) (toll_stays toll ex) (toll_needs_place toll ex) p col ex (λ s i. cost_at toll ex s i * weight_of sheet toll) (weighed toll) on i)
+      (λ toll. charge_grows (is_cost_settled toll ex) (toll_stays toll ex) (toll_needs_place toll ex) p col ex
+      (λ s i. cost_at toll ex s i * weight_of sheet toll) (weighed toll) on i)
       ∙ sum_by-plus before fresh tolls_read
 
-  prices_grow : GoesOn ex p (col ∷ []) → (i : ℕ) → settled_prices ex (p ++ col ∷ []) i ≡ settled_prices ex p i + new_prices ex p col i
+  prices_grow : GoesOn ex p (col ∷ []) → (i : ℕ) → settled_prices ex (p ++ col ∷ []) i
+      ≡ settled_prices ex p i + new_prices ex p col i
   prices_grow on i =
-      let before : ℕ → ℕ → ℕ = λ rule voices. if is_settled rule ex voices p i then (if is_broken rule ex voices p i then price_at_place rule ex voices i else 0) else 0 in
-      let after : ℕ → ℕ → ℕ = λ rule voices. if is_settled rule ex voices (p ++ col ∷ []) i then (if is_broken rule ex voices (p ++ col ∷ []) i then price_at_place rule ex voices i else 0) else 0 in
-      let fresh : ℕ → ℕ → ℕ = λ rule voices. if newly (is_settled rule ex voices) p col i then (if is_broken rule ex voices (p ++ col ∷ []) i then price_at_place rule ex voices i else 0) else 0 in
-      sum_by-same (λ rule. sum_by (after rule) all_sets) (λ rule. sum_by (before rule) all_sets + sum_by (fresh rule) all_sets) rules_read
+      let before : ℕ → ℕ → ℕ = λ rule voices. if is_settled rule ex voices p i
+      then (if is_broken rule ex voices p i then price_at_place rule ex voices i else 0) else 0 in
+      let after : ℕ → ℕ → ℕ = λ rule voices. if is_settled rule ex voices (p ++ col ∷ []) i
+      then (if is_broken rule ex voices (p ++ col ∷ []) i then price_at_place rule ex voices i else 0) else 0 in
+      let fresh : ℕ → ℕ → ℕ = λ rule voices. if newly (is_settled rule ex voices) p col i
+      then (if is_broken rule ex voices (p ++ col ∷ []) i then price_at_place rule ex voices i else 0) else 0 in
+      sum_by-same (λ rule. sum_by (after rule) all_sets)
+      (λ rule. sum_by (before rule) all_sets + sum_by (fresh rule) all_sets) rules_read
       (λ rule.
       sum_by-same (after rule) (λ voices. before rule voices + fresh rule voices) all_sets
-      (λ voices. charge_grows (is_settled rule ex voices) (rule_stays rule ex voices) (rule_needs_place rule ex voices) p col ex (λ s i. if is_broken rule ex voices s i then price_at_place rule ex voices i else 0) (priced rule voices) on i)
+      (λ voices. charge_grows (is_settled rule ex voices) (rule_stays rule ex voices) (rule_needs_place rule ex voices)
+      p col ex (λ s i. if is_broken rule ex voices s i then price_at_place rule ex voices i else 0)
+      (priced rule voices) on i)
       ∙ sum_by-plus (before rule) (fresh rule) all_sets)
       ∙ sum_by-plus (λ rule. sum_by (before rule) all_sets) (λ rule. sum_by (fresh rule) all_sets) rules_read
 
   none_due : settled_tolls ex sheet p (length p) + settled_prices ex p (length p) ≡ 0
   none_due =
       let a : settled_tolls ex sheet p (length p) ≡ 0 =
-      sum_by-none (λ toll. if is_cost_settled toll ex p (length p) then cost_at toll ex p (length p) * weight_of sheet toll else 0) tolls_read
-      (λ toll. ap (λ s. if s then cost_at toll ex p (length p) * weight_of sheet toll else 0) (unsettled_at_end (is_cost_settled toll ex) (toll_stays toll ex) (toll_needs_place toll ex) p col)) in
+      sum_by-none (λ toll. if is_cost_settled toll ex p (length p)
+      then cost_at toll ex p (length p) * weight_of sheet toll else 0) tolls_read
+      (λ toll. ap (λ s. if s then cost_at toll ex p (length p) * weight_of sheet toll else 0)
+      (unsettled_at_end (is_cost_settled toll ex) (toll_stays toll ex) (toll_needs_place toll ex) p col)) in
       let b : settled_prices ex p (length p) ≡ 0 =
-      sum_by-none (λ rule. sum_by (λ voices. if is_settled rule ex voices p (length p) then (if is_broken rule ex voices p (length p) then price_at_place rule ex voices (length p) else 0) else 0) all_sets) rules_read
-      (λ rule. sum_by-none (λ voices. if is_settled rule ex voices p (length p) then (if is_broken rule ex voices p (length p) then price_at_place rule ex voices (length p) else 0) else 0) all_sets
-      (λ voices. ap (λ s. if s then (if is_broken rule ex voices p (length p) then price_at_place rule ex voices (length p) else 0) else 0) (unsettled_at_end (is_settled rule ex voices) (rule_stays rule ex voices) (rule_needs_place rule ex voices) p col))) in
+      sum_by-none (λ rule. sum_by (λ voices. if is_settled rule ex voices p (length p)
+      then (if is_broken rule ex voices p (length p) then price_at_place rule ex voices (length p) else 0) else 0)
+      all_sets) rules_read
+      (λ rule. sum_by-none (λ voices. if is_settled rule ex voices p (length p)
+      then (if is_broken rule ex voices p (length p) then price_at_place rule ex voices (length p) else 0) else 0)
+      all_sets
+      (λ voices. ap (λ s. if s then (if is_broken rule ex voices p (length p)
+      then price_at_place rule ex voices (length p) else 0) else 0)
+      (unsettled_at_end (is_settled rule ex voices) (rule_stays rule ex voices) (rule_needs_place rule ex voices) p
+      col))) in
       ap (λ n. n + settled_prices ex p (length p)) a ∙ ap (λ n. 0 + n) b
 
   -- and so of the charges
-  pub charges_settled_grow : GoesOn ex p (col ∷ []) → charges_settled_in ex sheet (p ++ col ∷ []) ≡ charges_settled_in ex sheet p + newly_paid ex sheet p col
+  pub charges_settled_grow : GoesOn ex p (col ∷ []) → charges_settled_in ex sheet (p ++ col ∷ [])
+      ≡ charges_settled_in ex sheet p + newly_paid ex sheet p col
   charges_settled_grow on =
       let before : ℕ → ℕ = λ i. settled_tolls ex sheet p i + settled_prices ex p i in
       let after : ℕ → ℕ = λ i. settled_tolls ex sheet (p ++ col ∷ []) i + settled_prices ex (p ++ col ∷ []) i in
       let fresh : ℕ → ℕ = λ i. new_tolls ex sheet p col i + new_prices ex p col i in
-      let grows : (i : ℕ) → after i ≡ before i + fresh i = λ i. four (settled_tolls ex sheet (p ++ col ∷ []) i) (settled_prices ex (p ++ col ∷ []) i) (settled_tolls ex sheet p i) (settled_prices ex p i) (new_tolls ex sheet p col i) (new_prices ex p col i) (tolls_grow on i) (prices_grow on i) in
+      let grows : (i : ℕ) → after i ≡ before i + fresh i = λ i. four (settled_tolls ex sheet (p ++ col ∷ []) i)
+      (settled_prices ex (p ++ col ∷ []) i) (settled_tolls ex sheet p i) (settled_prices ex p i)
+      (new_tolls ex sheet p col i) (new_prices ex p col i) (tolls_grow on i) (prices_grow on i) in
       ap (sum_below after) (one_more ex p col)
       ∙ sum_below-same after (λ i. before i + fresh i) (length p + 1) (λ i h. grows i)
       ∙ sum_below-plus before fresh (length p + 1)

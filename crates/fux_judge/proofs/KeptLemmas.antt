@@ -40,8 +40,11 @@ of_two P a b rule pa pb = at (rule == a) refl
     at false e h = subst P (sym (eqb-true rule b h)) pb
 
 -- rules that are never found broken may be left out
-left_out : (broken out : ℕ → Bool) (rules : List ℕ) (r : ℕ) → ((rule : ℕ) → out rule ≡ true → broken rule ≡ false) → list_any (λ rule. broken rule && r == rule) (filter (λ rule. not (out rule)) rules) ≡ list_any (λ rule. broken rule && r == rule) rules
-left_out broken out rules r kept = any-filter_same (λ rule. broken rule && r == rule) (λ rule. not (out rule)) true (λ rule found. at (out rule) (broken rule) (r == rule) found (kept rule)) rules
+left_out : (broken out : ℕ → Bool) (rules : List ℕ) (r : ℕ) → ((rule : ℕ) → out rule ≡ true → broken rule ≡ false)
+    → list_any (λ rule. broken rule && r == rule) (filter (λ rule. not (out rule)) rules)
+    ≡ list_any (λ rule. broken rule && r == rule) rules
+left_out broken out rules r kept = any-filter_same (λ rule. broken rule && r == rule) (λ rule. not (out rule)) true
+    (λ rule found. at (out rule) (broken rule) (r == rule) found (kept rule)) rules
   where
     at : (leaves breaks this : Bool) → (breaks && this) ≡ true → (leaves ≡ true → breaks ≡ false) → not leaves ≡ true
     at true true this h k = let e : true ≡ false = k refl in cc
@@ -65,7 +68,8 @@ at_once : (rule : ℕ) → list_any (λ other. rule == other) told_of ≡ true �
 at_once rule h = not_rough (is_late rule) (sym (one_of (λ r. not (is_late r)) rule told_of all_of_them h))
 
 -- likewise of three
-of_three : (P : ℕ → Type 0) (a b c rule : ℕ) → P a → P b → P c → (((rule == a) || (rule == b)) || (rule == c)) ≡ true → P rule
+of_three : (P : ℕ → Type 0) (a b c rule : ℕ) → P a → P b → P c → (((rule == a) || (rule == b)) || (rule == c)) ≡ true
+    → P rule
 of_three P a b c rule pa pb pc = at ((rule == a) || (rule == b)) refl
   where
     at : (t : Bool) → ((rule == a) || (rule == b)) ≡ t → (t || (rule == c)) ≡ true → P rule
@@ -73,54 +77,84 @@ of_three P a b c rule pa pb pc = at ((rule == a) || (rule == b)) refl
     at false e h = subst P (sym (eqb-true rule c h)) pc
 
 module _ (p : List (List Cell)) (m : Moment) where
-  kept_by_all : (rule : ℕ) → ((voices : ℕ) → is_broken_then rule voices p m ≡ false) → is_strictly_broken_then all_sets rule p m ≡ false
+  kept_by_all : (rule : ℕ) → ((voices : ℕ) → is_broken_then rule voices p m ≡ false)
+      → is_strictly_broken_then all_sets rule p m ≡ false
   kept_by_all rule kept =
-      none_passes (λ voices. is_broken_then rule voices p m && is_strict_at rule m.exercise.now voices (length p)) all_sets
+      none_passes (λ voices. is_broken_then rule voices p m && is_strict_at rule m.exercise.now voices (length p))
+      all_sets
       (λ voices. ap (λ b. b && is_strict_at rule m.exercise.now voices (length p)) (kept voices))
 
   -- a smooth column keeps the rules of melody
-  melody_kept : some_rough m.exercise.now (reverse p) m.column.now ≡ false → (rule : ℕ) → is_of_melody rule ≡ true → is_strictly_broken_then all_sets rule p m ≡ false
+  melody_kept : some_rough m.exercise.now (reverse p) m.column.now ≡ false → (rule : ℕ) → is_of_melody rule ≡ true
+      → is_strictly_broken_then all_sets rule p m ≡ false
   melody_kept smooth rule melodic = kept_by_all rule (λ voices. at voices (melody.looks_back rule) refl)
     where
       at : (voices : ℕ) (b : Bool) → melody.looks_back rule ≡ b → is_broken_then rule voices p m ≡ false
-      at voices true e = sym (window_then rule voices p m (in_melody rule melodic) e) ∙ smooth_window_rows m.exercise.now (reverse p) m.column.now smooth rule voices (length p) []
-      at voices false e = sym (melodic_then rule voices p m (in_melody rule melodic) e) ∙ smooth_near_rows m.exercise.now (reverse p) m.column.now smooth rule voices (length p) (newest_column (reverse p))
+      at voices true e = sym (window_then rule voices p m (in_melody rule melodic) e)
+          ∙ smooth_window_rows m.exercise.now (reverse p) m.column.now smooth rule voices (length p) []
+      at voices false e = sym (melodic_then rule voices p m (in_melody rule melodic) e)
+          ∙ smooth_near_rows m.exercise.now (reverse p) m.column.now smooth rule voices (length p)
+          (newest_column (reverse p))
 
   -- a column in which no two voices move badly keeps the rules of motion
-  motion_kept : some_move_badly m.exercise.now (newest_column (reverse p)) m.column.now ≡ false → (rule : ℕ) → is_moving rule ≡ true → is_strictly_broken_then all_sets rule p m ≡ false
-  motion_kept clear rule = of_three (λ rule. is_strictly_broken_then all_sets rule p m ≡ false) 10 16 17 rule (one 10 refl refl) (one 16 refl refl) (one 17 refl refl)
+  motion_kept : some_move_badly m.exercise.now (newest_column (reverse p)) m.column.now ≡ false → (rule : ℕ)
+      → is_moving rule ≡ true → is_strictly_broken_then all_sets rule p m ≡ false
+  motion_kept clear rule = of_three (λ rule. is_strictly_broken_then all_sets rule p m ≡ false) 10 16 17 rule
+      (one 10 refl refl) (one 16 refl refl) (one 17 refl refl)
     where
-      one : (rule : ℕ) → list_any (λ other. rule == other) told_of ≡ true → crate_with rule ≡ Some Motion → is_strictly_broken_then all_sets rule p m ≡ false
-      one rule soon e = kept_by_all rule (λ voices. sym (motion_then rule voices p m (at_once rule soon) e) ∙ clear_rows m.exercise.now (newest_column (reverse p)) m.column.now clear rule voices (length p) (previous_pitches (reverse p)))
+      one : (rule : ℕ) → list_any (λ other. rule == other) told_of ≡ true → crate_with rule ≡ Some Motion
+          → is_strictly_broken_then all_sets rule p m ≡ false
+      one rule soon e = kept_by_all rule (λ voices. sym (motion_then rule voices p m (at_once rule soon) e)
+          ∙ clear_rows m.exercise.now (newest_column (reverse p)) m.column.now clear rule voices (length p)
+          (previous_pitches (reverse p)))
 
   -- a column in which every voice is in place keeps those of one voice
-  place_kept : some_out_of_place m.exercise.now (length p) (previous_pitches (reverse p)) m.column.now ≡ false → (rule : ℕ) → is_of_place rule ≡ true → is_strictly_broken_then all_sets rule p m ≡ false
+  place_kept : some_out_of_place m.exercise.now (length p) (previous_pitches (reverse p)) m.column.now ≡ false
+      → (rule : ℕ) → is_of_place rule ≡ true → is_strictly_broken_then all_sets rule p m ≡ false
   place_kept within rule = of_three (λ rule. is_strictly_broken_then all_sets rule p m ≡ false) 1 2 12 rule
-      (kept_by_all 1 (λ voices. sym (rhythm_then 1 voices p m (at_once 1 refl) refl) ∙ in_place_rows m.exercise.now (length p) (previous_pitches (reverse p)) m.column.now within 1 voices))
-      (kept_by_all 2 (λ voices. sym (rhythm_then 2 voices p m (at_once 2 refl) refl) ∙ in_place_rows m.exercise.now (length p) (previous_pitches (reverse p)) m.column.now within 2 voices))
-      (kept_by_all 12 (λ voices. sym (rhythm_then 12 voices p m (at_once 12 refl) refl) ∙ in_place_rows m.exercise.now (length p) (previous_pitches (reverse p)) m.column.now within 12 voices))
+      (kept_by_all 1 (λ voices. sym (rhythm_then 1 voices p m (at_once 1 refl) refl)
+      ∙ in_place_rows m.exercise.now (length p) (previous_pitches (reverse p)) m.column.now within 1 voices))
+      (kept_by_all 2 (λ voices. sym (rhythm_then 2 voices p m (at_once 2 refl) refl)
+      ∙ in_place_rows m.exercise.now (length p) (previous_pitches (reverse p)) m.column.now within 2 voices))
+      (kept_by_all 12 (λ voices. sym (rhythm_then 12 voices p m (at_once 12 refl) refl)
+      ∙ in_place_rows m.exercise.now (length p) (previous_pitches (reverse p)) m.column.now within 12 voices))
 
   -- away from the beginning of the last bar there is no ending
-  endings_kept : begins_last_bar m.exercise.now (length p) ≡ false → (rule : ℕ) → is_of_ending rule ≡ true → is_strictly_broken_then all_sets rule p m ≡ false
+  endings_kept : begins_last_bar m.exercise.now (length p) ≡ false → (rule : ℕ) → is_of_ending rule ≡ true
+      → is_strictly_broken_then all_sets rule p m ≡ false
   endings_kept before rule = of_two (λ rule. is_strictly_broken_then all_sets rule p m ≡ false) 13 24 rule
       (kept_by_all 13 (λ voices. sym (rhythm_then 13 voices p m (at_once 13 refl) refl)
-      ∙ on_pair-none m.exercise.now _ voices (λ v w. and_right (v == 0) _ (ap (λ b. b && not (holds_of (fits_ending m.exercise.now) (interval_in m.column.now 0 w))) before))))
+      ∙ on_pair-none m.exercise.now _ voices
+      (λ v w. and_right (v == 0) _ (ap
+      (λ b. b && not (holds_of (fits_ending m.exercise.now) (interval_in m.column.now 0 w))) before))))
       (kept_by_all 24 (λ voices. sym (rhythm_then 24 voices p m (at_once 24 refl) refl)
-      ∙ on_voice-none m.exercise.now _ voices (λ v. and_right (v == 0) _ (ap (λ b. b && not (holds_of_pitch (is_final m.exercise.now) (pitch_of (cell_in m.column.now 0)))) before))))
+      ∙ on_voice-none m.exercise.now _ voices
+      (λ v. and_right (v == 0) _ (ap (λ b. b
+      && not (holds_of_pitch (is_final m.exercise.now) (pitch_of (cell_in m.column.now 0)))) before))))
 
   -- within a bar no rule of dissonance is broken
-  dissonance_kept : begins_bar (length p) ≡ false → (rule : ℕ) → is_close rule ≡ true → is_strictly_broken_then all_sets rule p m ≡ false
+  dissonance_kept : begins_bar (length p) ≡ false → (rule : ℕ) → is_close rule ≡ true
+      → is_strictly_broken_then all_sets rule p m ≡ false
   dissonance_kept within rule = of_two (λ rule. is_strictly_broken_then all_sets rule p m ≡ false) 11 14 rule
       (kept_by_all 11 (λ voices. sym (dissonance_then 11 voices p m (at_once 11 refl) refl)
-      ∙ on_pair-none m.exercise.now _ voices (λ v w. ap (λ b. (b && nat_le 2 (bar_of (length p)) && nat_lt (bar_of (length p)) m.exercise.now.bars) && sound_same_key m.column.now v w) within)))
+      ∙ on_pair-none m.exercise.now _ voices
+      (λ v w. ap (λ b. (b && nat_le 2 (bar_of (length p)) && nat_lt (bar_of (length p)) m.exercise.now.bars)
+      && sound_same_key m.column.now v w) within)))
       (kept_by_all 14 (λ voices. sym (dissonance_then 14 voices p m (at_once 14 refl) refl)
-      ∙ on_pair-none m.exercise.now _ voices (λ v w. ap (λ b. b && starts (cell_in m.column.now v) && starts (cell_in m.column.now w) && clash m.column.now v w) within)))
+      ∙ on_pair-none m.exercise.now _ voices
+      (λ v w. ap (λ b. b && starts (cell_in m.column.now v) && starts (cell_in m.column.now w)
+      && clash m.column.now v w) within)))
 
   -- nor where no two voices come close
-  closeness_kept : some_come_close m.exercise.now m.column.now ≡ false → (rule : ℕ) → is_close rule ≡ true → is_strictly_broken_then all_sets rule p m ≡ false
+  closeness_kept : some_come_close m.exercise.now m.column.now ≡ false → (rule : ℕ) → is_close rule ≡ true
+      → is_strictly_broken_then all_sets rule p m ≡ false
   closeness_kept apart rule = of_two (λ rule. is_strictly_broken_then all_sets rule p m ≡ false) 11 14 rule
-      (kept_by_all 11 (λ voices. sym (dissonance_then 11 voices p m (at_once 11 refl) refl) ∙ apart_rows m.exercise.now m.column.now apart 11 voices (length p) (newest_column (reverse p)) (previous_pitches (reverse p))))
-      (kept_by_all 14 (λ voices. sym (dissonance_then 14 voices p m (at_once 14 refl) refl) ∙ apart_rows m.exercise.now m.column.now apart 14 voices (length p) (newest_column (reverse p)) (previous_pitches (reverse p))))
+      (kept_by_all 11 (λ voices. sym (dissonance_then 11 voices p m (at_once 11 refl) refl)
+      ∙ apart_rows m.exercise.now m.column.now apart 11 voices (length p) (newest_column (reverse p))
+      (previous_pitches (reverse p))))
+      (kept_by_all 14 (λ voices. sym (dissonance_then 14 voices p m (at_once 14 refl) refl)
+      ∙ apart_rows m.exercise.now m.column.now apart 14 voices (length p) (newest_column (reverse p))
+      (previous_pitches (reverse p))))
 
   -- what a column keeps whose voices are smooth, clear of one another and in place
   pub record IsFair : Type 0 where
@@ -139,33 +173,44 @@ module _ (p : List (List Cell)) (m : Moment) where
     unfolding rules_at_the_end
     at_the_end rules e =
         ap found_in e
-        ∙ left_out strict is_of_place (filter (λ rule. not (is_moving rule)) (filter (λ rule. not (is_of_melody rule)) rules_at_once)) r (place_kept fair.placed)
+        ∙ left_out strict is_of_place (filter (λ rule. not (is_moving rule))
+        (filter (λ rule. not (is_of_melody rule)) rules_at_once)) r (place_kept fair.placed)
         ∙ left_out strict is_moving (filter (λ rule. not (is_of_melody rule)) rules_at_once) r (motion_kept fair.clear)
         ∙ left_out strict is_of_melody rules_at_once r (melody_kept fair.smooth)
 
-    pub at_a_bar : begins_last_bar m.exercise.now (length p) ≡ false → (rules : List ℕ) → rules ≡ rules_at_a_bar → found_in rules ≡ found_in rules_at_once
+    pub at_a_bar : begins_last_bar m.exercise.now (length p) ≡ false → (rules : List ℕ) → rules ≡ rules_at_a_bar
+        → found_in rules ≡ found_in rules_at_once
     unfolding rules_at_a_bar
     at_a_bar before rules e =
-        ap found_in e ∙ left_out strict is_of_ending rules_at_the_end r (endings_kept before) ∙ at_the_end rules_at_the_end refl
+        ap found_in e ∙ left_out strict is_of_ending rules_at_the_end r (endings_kept before)
+        ∙ at_the_end rules_at_the_end refl
 
-    pub within_a_bar : begins_bar (length p) ≡ false → (rules : List ℕ) → rules ≡ rules_within_bars → found_in rules ≡ found_in rules_at_once
+    pub within_a_bar : begins_bar (length p) ≡ false → (rules : List ℕ) → rules ≡ rules_within_bars → found_in rules
+        ≡ found_in rules_at_once
     unfolding rules_within_bars
     within_a_bar within rules e =
         ap found_in e ∙ left_out strict is_close rules_at_a_bar r (dissonance_kept within)
         ∙ at_a_bar (ap (λ b. b && (bar_of (length p) == m.exercise.now.bars)) within) rules_at_a_bar refl
 
-    pub where_apart : begins_last_bar m.exercise.now (length p) ≡ false → some_come_close m.exercise.now m.column.now ≡ false → (rules : List ℕ) → rules ≡ rules_within_bars → found_in rules ≡ found_in rules_at_once
+    pub where_apart : begins_last_bar m.exercise.now (length p) ≡ false → some_come_close m.exercise.now m.column.now
+        ≡ false → (rules : List ℕ) → rules ≡ rules_within_bars → found_in rules ≡ found_in rules_at_once
     unfolding rules_within_bars
     where_apart before apart rules e =
-        ap found_in e ∙ left_out strict is_close rules_at_a_bar r (closeness_kept apart) ∙ at_a_bar before rules_at_a_bar refl
+        ap found_in e ∙ left_out strict is_close rules_at_a_bar r (closeness_kept apart)
+        ∙ at_a_bar before rules_at_a_bar refl
 
 -- by the answers of the three tests
-pub fair_by_tests : (p : List (List Cell)) (m : Moment) → IsAfter p m → true ≡ not (some_rough m.exercise.now (reverse p) m.column.now) → true ≡ not (some_move_badly m.exercise.now m.before.now m.column.now) → true ≡ not (some_out_of_place m.exercise.now m.state.now.newest.len m.latest.pitches m.column.now) → IsFair p m
+pub fair_by_tests : (p : List (List Cell)) (m : Moment) → IsAfter p m → true
+    ≡ not (some_rough m.exercise.now (reverse p) m.column.now) → true
+    ≡ not (some_move_badly m.exercise.now m.before.now m.column.now) → true
+    ≡ not (some_out_of_place m.exercise.now m.state.now.newest.len m.latest.pitches m.column.now) → IsFair p m
 fair_by_tests p m after smooth clear placed = record {
   smooth = not_rough (some_rough m.exercise.now (reverse p) m.column.now) smooth;
-  clear = ap (λ b. some_move_badly m.exercise.now b m.column.now) (sym after.before) ∙ not_rough (some_move_badly m.exercise.now m.before.now m.column.now) clear;
+  clear = ap (λ b. some_move_badly m.exercise.now b m.column.now) (sym after.before)
+      ∙ not_rough (some_move_badly m.exercise.now m.before.now m.column.now) clear;
   placed =
-      ap (λ i. some_out_of_place m.exercise.now i (previous_pitches (reverse p)) m.column.now) (sym after.state.newest.count)
+      ap (λ i. some_out_of_place m.exercise.now i (previous_pitches (reverse p)) m.column.now)
+      (sym after.state.newest.count)
       ∙ ap (λ l. some_out_of_place m.exercise.now m.state.now.newest.len l m.column.now) (sym after.latest)
       ∙ not_rough (some_out_of_place m.exercise.now m.state.now.newest.len m.latest.pitches m.column.now) placed;
 }

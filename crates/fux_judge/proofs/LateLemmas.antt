@@ -21,11 +21,14 @@ use Rattle.fux_judge.proofs.StepPlaces.{any_among-alone, zero_below}
 use Rattle.fux_judge.proofs.SetLemmas.{priceless}
 
 -- the place before the newest column is as far as the prefix goes
-pub as_far : (ex : Exercise) (next : State) (p : List (List Cell)) (col : List Cell) → HasCome ex next p col → next.newest.len - 1 ≡ length p
+pub as_far : (ex : Exercise) (next : State) (p : List (List Cell)) (col : List Cell) → HasCome ex next p col
+    → next.newest.len - 1 ≡ length p
 as_far ex next p col come = omega (arith, come.reached.newest.count, length-append p (col ∷ []))
 
 -- the places of a rule or a toll, by its first and its count
-module _ (first_of count_of : Exercise → ℕ → ℕ) (ex : Exercise) (next : State) (p : List (List Cell)) (col : List Cell) (come : HasCome ex next p col) (first count : ℕ) (f : first ≡ first_of ex (next.newest.len - 1)) (c : count ≡ count_of ex (next.newest.len - 1)) where
+module _ (first_of count_of : Exercise → ℕ → ℕ) (ex : Exercise) (next : State) (p : List (List Cell)) (col : List Cell)
+    (come : HasCome ex next p col) (first count : ℕ) (f : first ≡ first_of ex (next.newest.len - 1))
+    (c : count ≡ count_of ex (next.newest.len - 1)) where
   pub first_is : first ≡ first_of ex (length p)
   first_is = f ∙ ap (first_of ex) (as_far ex next p col come)
 
@@ -43,24 +46,37 @@ module _ (rule : ℕ) (ex : Exercise) (p : List (List Cell)) (col : List Cell) w
   abbrev pub some_at : ℕ → Bool
   some_at i = list_any (λ voices. newly_broken_at rule ex voices p col i) (sets_of_rule rule ex)
 
-  fresh_among : (first count i : ℕ) → ((voices : ℕ) → Newly voices i → IsAmong first count i) → (sets : List ℕ) → list_any (λ voices. newly_broken_at rule ex voices p col i) sets ≡ true → IsAmong first count i
+  fresh_among : (first count i : ℕ) → ((voices : ℕ) → Newly voices i → IsAmong first count i) → (sets : List ℕ)
+      → list_any (λ voices. newly_broken_at rule ex voices p col i) sets ≡ true → IsAmong first count i
   fresh_among first count i all [] h = cc
-  fresh_among first count i all (voices ∷ sets) h = at (newly_broken_at rule ex voices p col i) refl h (fresh_among first count i all sets)
+  fresh_among first count i all (voices ∷ sets) h =
+      at (newly_broken_at rule ex voices p col i) refl h (fresh_among first count i all sets)
     where
-      at : (b : Bool) → newly_broken_at rule ex voices p col i ≡ b → (b || list_any (λ voices. newly_broken_at rule ex voices p col i) sets) ≡ true → (list_any (λ voices. newly_broken_at rule ex voices p col i) sets ≡ true → IsAmong first count i) → IsAmong first count i
-      at true e k later = all voices (first_true (newly_breaks (rule_at rule) ex voices p col i) (is_strict_at rule ex voices i) e)
+      at : (b : Bool) → newly_broken_at rule ex voices p col i ≡ b
+          → (b || list_any (λ voices. newly_broken_at rule ex voices p col i) sets) ≡ true
+          → (list_any (λ voices. newly_broken_at rule ex voices p col i) sets ≡ true → IsAmong first count i)
+          → IsAmong first count i
+      at true e k later =
+          all voices (first_true (newly_breaks (rule_at rule) ex voices p col i) (is_strict_at rule ex voices i) e)
       at false e k later = later k
 
-  among_alone : (first count : ℕ) → first + count ≤ length p + 1 → ((voices i : ℕ) → Newly voices i → IsAmong first count i) → any_below some_at (length p + 1) ≡ any_among first count some_at
-  among_alone first count within all = any_among-alone some_at first count (length p + 1) within (λ i h. fresh_among first count i (λ voices. all voices i) (sets_of_rule rule ex) h)
+  among_alone : (first count : ℕ) → first + count ≤ length p + 1
+      → ((voices i : ℕ) → Newly voices i → IsAmong first count i) → any_below some_at (length p + 1)
+      ≡ any_among first count some_at
+  among_alone first count within all = any_among-alone some_at first count (length p + 1) within
+      (λ i h. fresh_among first count i (λ voices. all voices i) (sets_of_rule rule ex) h)
 
-  pub among_places : is_late rule ≡ true → GoesOn ex p (col ∷ []) → (voices i : ℕ) → Newly voices i → IsAmong ((rule_at rule).first ex (length p)) ((rule_at rule).count ex (length p)) i
+  pub among_places : is_late rule ≡ true → GoesOn ex p (col ∷ []) → (voices i : ℕ) → Newly voices i
+      → IsAmong ((rule_at rule).first ex (length p)) ((rule_at rule).count ex (length p)) i
   among_places late on voices i h = (rule_keeps rule).places late ex voices p col i on h
 
-  pub breaks_among : is_late rule ≡ true → GoesOn ex p (col ∷ []) → (first count : ℕ) → first + count ≤ length p + 1 → ((voices i : ℕ) → Newly voices i → IsAmong first count i) → any_among first count some_at ≡ breaks_late ex p col rule
+  pub breaks_among : is_late rule ≡ true → GoesOn ex p (col ∷ []) → (first count : ℕ) → first + count ≤ length p + 1
+      → ((voices i : ℕ) → Newly voices i → IsAmong first count i) → any_among first count some_at
+      ≡ breaks_late ex p col rule
   breaks_among late on first count within all =
       sym (among_alone first count within all)
-      ∙ among_alone ((rule_at rule).first ex (length p)) ((rule_at rule).count ex (length p)) ((rule_keeps rule).within ex (length p)) (among_places late on)
+      ∙ among_alone ((rule_at rule).first ex (length p)) ((rule_at rule).count ex (length p))
+      ((rule_keeps rule).within ex (length p)) (among_places late on)
 
 -- what is found below a number is found
 pub any_below-found : (f : ℕ → Bool) (k n : ℕ) → k < n → f k ≡ true → any_below f n ≡ true
@@ -79,10 +95,12 @@ any_below-found f k (suc n) h e = at (k == n) refl (λ q. any_below-found f k n 
     at false q later = ap (λ b. b || f n) (later (below q))
 
 -- without relax lines no late rule has a price
-pub no_late_prices : (ex : Exercise) (p : List (List Cell)) (col : List Cell) → ex.relax ≡ [] → 0 ≡ sum_by (prices_late ex p col) late_rules
+pub no_late_prices : (ex : Exercise) (p : List (List Cell)) (col : List Cell) → ex.relax ≡ [] → 0
+    ≡ sum_by (prices_late ex p col) late_rules
 no_late_prices ex p col e =
     sym (sum_by-none (prices_late ex p col) late_rules
-    (λ rule. zero_below (λ k. sum_by (new_price ex p col ((rule_at rule).first ex (length p) + k) rule) (sets_of_rule rule ex)) ((rule_at rule).count ex (length p))
+    (λ rule. zero_below (λ k. sum_by (new_price ex p col ((rule_at rule).first ex (length p) + k) rule)
+    (sets_of_rule rule ex)) ((rule_at rule).count ex (length p))
     (λ k h. sum_by-none (new_price ex p col ((rule_at rule).first ex (length p) + k) rule) (sets_of_rule rule ex)
     (λ voices. free _ _ (priceless rule ex voices ((rule_at rule).first ex (length p) + k) e)))))
   where

@@ -5,7 +5,8 @@ use Rattle.std.specs.List.{filter, range_with_len, sum_by}
 use Rattle.std.proofs.lemmas.List.Sums.{sum_by-cons}
 
 -- of the numbers that are kept from one on, the first is that one, if it's kept
-sum_kept-more : (f : ℕ → ℕ) (keep : ℕ → Bool) (v n : ℕ) → v < n → sum_by f (filter keep (range_with_len v (n - v))) ≡ (if keep v then f v else 0) + sum_by f (filter keep (range_with_len (v + 1) (n - (v + 1))))
+sum_kept-more : (f : ℕ → ℕ) (keep : ℕ → Bool) (v n : ℕ) → v < n → sum_by f (filter keep (range_with_len v (n - v)))
+    ≡ (if keep v then f v else 0) + sum_by f (filter keep (range_with_len (v + 1) (n - (v + 1))))
 sum_kept-more f keep v n h =
     let more : n - v ≡ suc (n - (v + 1)) = omega (arith, h) in
     ap (λ k. sum_by f (filter keep (range_with_len v k))) more ∙ at (keep v)

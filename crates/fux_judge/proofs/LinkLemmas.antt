@@ -67,12 +67,14 @@ pub all_sound : (col : List Cell) → previous_pitches (behind_of (Some col)) �
 all_sound col = rw (sounds col 0, sounds col 1, sounds col 2, sounds col 3) refl
 
 near_between : {R : Type 0} (row : NearRow R) (i : ℕ) (prev : Option (Bor (ArrayVec Cell))) (next : List Cell)
-    → row i (cells_before prev) (sounding_pitches (cells_before prev)) next ≡ whole_of row i (behind_of (given prev)) next []
+    → row i (cells_before prev) (sounding_pitches (cells_before prev)) next
+    ≡ whole_of row i (behind_of (given prev)) next []
 near_between row i None next = refl
 near_between row i (Some col) next = ap (λ pitches. row i col.now.items pitches next) (sym (all_sound col.now.items))
 
 -- a row of neighbors, read from what a link has and from the pitches that sound in its first column
-near_at : {R : Type 0} (row : NearRow R) (l : Link) → IsLink l → (pitches : Pitches) → pitches ≡ sounding_pitches l.before.now
+near_at : {R : Type 0} (row : NearRow R) (l : Link) → IsLink l → (pitches : Pitches) → pitches
+    ≡ sounding_pitches l.before.now
     → row l.place l.before.now pitches l.next.now ≡ whole_of row l.place (behind_of (given l.prev)) l.next.now []
 near_at row l link pitches heard =
     ap (λ latest. row l.place l.before.now latest l.next.now) heard
@@ -87,18 +89,21 @@ pub record HasNearRow {R : Type 0} (reads : Row R) : Type 0 where
 -- ---- a rule of neighbors, in the crate that has it
 
 -- a choice of which the first is of more columns
-other_kind : (b : Bool) (x y : Kind) → is_of_neighbors x ≡ false → is_of_neighbors (if b then x else y) ≡ true → b ≡ false
+other_kind : (b : Bool) (x y : Kind) → is_of_neighbors x ≡ false → is_of_neighbors (if b then x else y) ≡ true → b
+    ≡ false
 other_kind true x y out h = let both : false ≡ true = sym out ∙ h in cc
 other_kind false x y out h = refl
 
-other_row : (b : Bool) (x y : RuleRow) → is_of_neighbors x.kind ≡ false → is_of_neighbors (if b then x else y).kind ≡ true → b ≡ false
+other_row : (b : Bool) (x y : RuleRow) → is_of_neighbors x.kind ≡ false → is_of_neighbors (if b then x else y).kind
+    ≡ true → b ≡ false
 other_row true x y out h = let both : false ≡ true = sym out ∙ h in cc
 other_row false x y out h = refl
 
 rhythm_windows : (rule : ℕ) → is_of_neighbors (rhythm_book.late_row rule).kind ≡ false
 rhythm_windows rule = at (rule == 3) (rule == 22)
   where
-    at : (a b : Bool) → is_of_neighbors (if a then rhythm_book.shape_rule else (if b then rhythm_book.cadence_rule else rhythm_book.quaver_rule)).kind ≡ false
+    at : (a b : Bool) → is_of_neighbors (if a then rhythm_book.shape_rule
+        else (if b then rhythm_book.cadence_rule else rhythm_book.quaver_rule)).kind ≡ false
     at true b = refl
     at false true = refl
     at false false = refl
@@ -112,33 +117,40 @@ module _ (rule : ℕ) (between : is_rule_between rule ≡ true) where
   soon_motion its =
       rule_of_crate rule (Some Motion) its
       ∙ cond-false (motion_book.is_late rule) (motion_book.late_row rule) (motion_book.at_once_row rule)
-      (other_row (motion_book.is_late rule) (motion_book.late_row rule) (motion_book.at_once_row rule) refl (between_by (Some Motion) its))
+      (other_row (motion_book.is_late rule) (motion_book.late_row rule) (motion_book.at_once_row rule) refl
+      (between_by (Some Motion) its))
 
   pub soon_dissonance : crate_with rule ≡ Some Dissonance → rule_at rule ≡ dissonance_book.at_once_row rule
   soon_dissonance its =
       rule_of_crate rule (Some Dissonance) its
       ∙ cond-false (dissonance_book.is_late rule) (dissonance_book.late_row rule) (dissonance_book.at_once_row rule)
-      (other_row (dissonance_book.is_late rule) (dissonance_book.late_row rule) (dissonance_book.at_once_row rule) refl (between_by (Some Dissonance) its))
+      (other_row (dissonance_book.is_late rule) (dissonance_book.late_row rule) (dissonance_book.at_once_row rule) refl
+      (between_by (Some Dissonance) its))
 
   not_late_rhythm : crate_with rule ≡ Some Rhythm → rhythm_book.is_late rule ≡ false
   not_late_rhythm its =
-      other_row (rhythm_book.is_late rule) (rhythm_book.late_row rule) (rhythm_book.at_once_row rule) (rhythm_windows rule) (between_by (Some Rhythm) its)
+      other_row (rhythm_book.is_late rule) (rhythm_book.late_row rule) (rhythm_book.at_once_row rule)
+      (rhythm_windows rule) (between_by (Some Rhythm) its)
 
   pub soon_rhythm : crate_with rule ≡ Some Rhythm → rule_at rule ≡ rhythm_book.at_once_row rule
   soon_rhythm its =
       rule_of_crate rule (Some Rhythm) its
-      ∙ cond-false (rhythm_book.is_late rule) (rhythm_book.late_row rule) (rhythm_book.at_once_row rule) (not_late_rhythm its)
+      ∙ cond-false (rhythm_book.is_late rule) (rhythm_book.late_row rule) (rhythm_book.at_once_row rule)
+      (not_late_rhythm its)
 
   -- so it is settled at its own column
-  soon_enough : (it : RuleRow) → rule_at rule ≡ it → it.late ≡ false → (ex : Exercise) (voices i : ℕ) (behind : List (List Cell)) (now : List Cell) (ahead : List (List Cell))
+  soon_enough : (it : RuleRow) → rule_at rule ≡ it → it.late ≡ false
+      → (ex : Exercise) (voices i : ℕ) (behind : List (List Cell)) (now : List Cell) (ahead : List (List Cell))
       → enough rule ex voices i behind now ahead ≡ true
   soon_enough it e soon = (rule_keeps rule).at_once (ap (λ (r : RuleRow). r.late) e ∙ soon)
 
-  pub settled_soon : (ex : Exercise) (voices i : ℕ) (behind : List (List Cell)) (now : List Cell) (ahead : List (List Cell))
+  pub settled_soon : (ex : Exercise) (voices i : ℕ) (behind : List (List Cell)) (now : List Cell)
+      (ahead : List (List Cell))
       → enough rule ex voices i behind now ahead ≡ true
   settled_soon = at (crate_with rule) refl
     where
-      at : (crate : Option RuleCrate) → crate_with rule ≡ crate → (ex : Exercise) (voices i : ℕ) (behind : List (List Cell)) (now : List Cell) (ahead : List (List Cell))
+      at : (crate : Option RuleCrate) → crate_with rule ≡ crate
+          → (ex : Exercise) (voices i : ℕ) (behind : List (List Cell)) (now : List Cell) (ahead : List (List Cell))
           → enough rule ex voices i behind now ahead ≡ true
       at None its = soon_enough no_rule (rule_of_crate rule None its) refl
       at (Some Melody) its = soon_enough (rule_by (Some Melody) rule) (rule_of_crate rule (Some Melody) its) refl
@@ -155,18 +167,21 @@ module _ (rule : ℕ) (between : is_rule_between rule ≡ true) where
     pub melody_row : crate_with rule ≡ Some Melody → breaks rule ex voices ≡ whole_of (melody.near_rows rule ex voices)
     melody_row its =
         of_row (rule_by (Some Melody) rule) (rule_of_crate rule (Some Melody) its)
-        ∙ cond-false (melody.looks_back rule) (melody.window_rows rule ex voices) (whole_of (melody.near_rows rule ex voices))
+        ∙ cond-false (melody.looks_back rule) (melody.window_rows rule ex voices)
+        (whole_of (melody.near_rows rule ex voices))
         (other_kind (melody.looks_back rule) Window Pair refl (between_by (Some Melody) its))
 
     pub motion_row : crate_with rule ≡ Some Motion → breaks rule ex voices ≡ whole_of (motion.near_rows rule ex voices)
     motion_row its = of_row (motion_book.at_once_row rule) (soon_motion its)
 
-    pub dissonance_row : crate_with rule ≡ Some Dissonance → breaks rule ex voices ≡ whole_of (dissonance.near_rows rule ex voices)
+    pub dissonance_row : crate_with rule ≡ Some Dissonance → breaks rule ex voices
+        ≡ whole_of (dissonance.near_rows rule ex voices)
     dissonance_row its = of_row (dissonance_book.at_once_row rule) (soon_dissonance its)
 
     pub rhythm_row : crate_with rule ≡ Some Rhythm → breaks rule ex voices ≡ whole_of (rhythm.near_rows rule ex voices)
     rhythm_row its =
-        let other : (rule == 3) ≡ false = (or_parts (rule == 3) ((rule == 22) || (rule == 25)) (grouped (rule == 3) (rule == 22) (rule == 25) (not_late_rhythm its))).0 in
+        let other : (rule == 3) ≡ false = (or_parts (rule == 3) ((rule == 22) || (rule == 25))
+        (grouped (rule == 3) (rule == 22) (rule == 25) (not_late_rhythm its))).0 in
         of_row (rhythm_book.at_once_row rule) (soon_rhythm its) ∙ ap (λ b. chosen b) other
       where
         grouped : (a b c : Bool) → (a || b || c) ≡ false → (a || (b || c)) ≡ false
@@ -178,7 +193,8 @@ module _ (rule : ℕ) (between : is_rule_between rule ≡ true) where
             if b then rhythm.shape_row ex voices i behind now ahead
             else whole_of (rhythm.near_rows rule ex voices) i behind now ahead
 
-    pub doubling_row : crate_with rule ≡ Some Doubling → breaks rule ex voices ≡ whole_of (doubling.doubling_rows ex voices)
+    pub doubling_row : crate_with rule ≡ Some Doubling → breaks rule ex voices
+        ≡ whole_of (doubling.doubling_rows ex voices)
     doubling_row its = of_row (rule_by (Some Doubling) rule) (rule_of_crate rule (Some Doubling) its)
 
     pub none_row : crate_with rule ≡ None → breaks rule ex voices ≡ whole_of (λ i before previous now. false)
@@ -196,51 +212,67 @@ module _ (rule : ℕ) (between : is_rule_between rule ≡ true) where
         at (Some Doubling) its = record { row = doubling.doubling_rows ex voices; is = doubling_row its }
 
 -- so what a link reads is what the table says
-module _ (rule voices : ℕ) (l : Link) (link : IsLink l) (pitches : Pitches) (heard : pitches ≡ sounding_pitches l.before.now)
+module _ (rule voices : ℕ) (l : Link) (link : IsLink l) (pitches : Pitches)
+    (heard : pitches ≡ sounding_pitches l.before.now)
     (between : is_rule_between rule ≡ true) where
-  broken_at : (row : NearRow Bool) → breaks rule l.exercise.now voices ≡ whole_of row → row l.place l.before.now pitches l.next.now ≡ breaks_at_link l rule voices
+  broken_at : (row : NearRow Bool) → breaks rule l.exercise.now voices ≡ whole_of row
+      → row l.place l.before.now pitches l.next.now ≡ breaks_at_link l rule voices
   broken_at row e =
       near_at row l link pitches heard
       ∙ sym (ap (λ (r : Row Bool). r l.place (behind_of (given l.prev)) l.next.now []) e)
       ∙ sym (ap (λ b. b && breaks rule l.exercise.now voices l.place (behind_of (given l.prev)) l.next.now []) between)
 
   pub melody_at : crate_with rule ≡ Some Melody
-      → melody.near_rows rule l.exercise.now voices l.place l.before.now pitches l.next.now ≡ breaks_at_link l rule voices
-  melody_at its = broken_at (melody.near_rows rule l.exercise.now voices) (melody_row rule between l.exercise.now voices its)
+      → melody.near_rows rule l.exercise.now voices l.place l.before.now pitches l.next.now
+      ≡ breaks_at_link l rule voices
+  melody_at its =
+      broken_at (melody.near_rows rule l.exercise.now voices) (melody_row rule between l.exercise.now voices its)
 
   pub motion_at : crate_with rule ≡ Some Motion
-      → motion.near_rows rule l.exercise.now voices l.place l.before.now pitches l.next.now ≡ breaks_at_link l rule voices
-  motion_at its = broken_at (motion.near_rows rule l.exercise.now voices) (motion_row rule between l.exercise.now voices its)
+      → motion.near_rows rule l.exercise.now voices l.place l.before.now pitches l.next.now
+      ≡ breaks_at_link l rule voices
+  motion_at its =
+      broken_at (motion.near_rows rule l.exercise.now voices) (motion_row rule between l.exercise.now voices its)
 
   pub dissonance_at : crate_with rule ≡ Some Dissonance
-      → dissonance.near_rows rule l.exercise.now voices l.place l.before.now pitches l.next.now ≡ breaks_at_link l rule voices
-  dissonance_at its = broken_at (dissonance.near_rows rule l.exercise.now voices) (dissonance_row rule between l.exercise.now voices its)
+      → dissonance.near_rows rule l.exercise.now voices l.place l.before.now pitches l.next.now
+      ≡ breaks_at_link l rule voices
+  dissonance_at its = broken_at (dissonance.near_rows rule l.exercise.now voices)
+      (dissonance_row rule between l.exercise.now voices its)
 
   pub rhythm_at : crate_with rule ≡ Some Rhythm
-      → rhythm.near_rows rule l.exercise.now voices l.place l.before.now pitches l.next.now ≡ breaks_at_link l rule voices
-  rhythm_at its = broken_at (rhythm.near_rows rule l.exercise.now voices) (rhythm_row rule between l.exercise.now voices its)
+      → rhythm.near_rows rule l.exercise.now voices l.place l.before.now pitches l.next.now
+      ≡ breaks_at_link l rule voices
+  rhythm_at its =
+      broken_at (rhythm.near_rows rule l.exercise.now voices) (rhythm_row rule between l.exercise.now voices its)
 
-  pub doubling_at : crate_with rule ≡ Some Doubling → doubling.breaks_in_column l.exercise.now voices l.place l.next.now ≡ breaks_at_link l rule voices
-  doubling_at its = broken_at (doubling.doubling_rows l.exercise.now voices) (doubling_row rule between l.exercise.now voices its)
+  pub doubling_at : crate_with rule ≡ Some Doubling → doubling.breaks_in_column l.exercise.now voices l.place l.next.now
+      ≡ breaks_at_link l rule voices
+  doubling_at its =
+      broken_at (doubling.doubling_rows l.exercise.now voices) (doubling_row rule between l.exercise.now voices its)
 
   pub none_at : crate_with rule ≡ None → false ≡ breaks_at_link l rule voices
   none_at its = broken_at (λ i before previous now. false) (none_row rule between l.exercise.now voices its)
 
 -- only the sets of its form need be tried
 pub for_all_sets : (ex : Exercise) (i : ℕ) (before : Option (List Cell)) (next : List Cell) (rule : ℕ)
-    → list_any (λ v. breaks_between ex i before next rule v && is_strict_at rule ex v i) (sets_of_rule rule ex) ≡ breaks_strictly ex i before next rule
+    → list_any (λ v. breaks_between ex i before next rule v && is_strict_at rule ex v i) (sets_of_rule rule ex)
+    ≡ breaks_strictly ex i before next rule
 for_all_sets ex i before next rule = at (is_of_neighbors (rule_at rule).kind)
   where
     none : (sets : List ℕ) → list_any (λ v. false) sets ≡ false
     none [] = refl
     none (v ∷ sets) = none sets
 
-    at : (b : Bool) → list_any (λ v. (b && breaks rule ex v i (behind_of before) next []) && is_strict_at rule ex v i) (sets_of_rule rule ex) ≡ list_any (λ v. (b && breaks rule ex v i (behind_of before) next []) && is_strict_at rule ex v i) all_sets
+    at : (b : Bool) → list_any (λ v. (b && breaks rule ex v i (behind_of before) next []) && is_strict_at rule ex v i)
+        (sets_of_rule rule ex) ≡ list_any (λ v. (b && breaks rule ex v i (behind_of before) next [])
+        && is_strict_at rule ex v i) all_sets
     at true = sym (((rule_keeps rule).form ex i (behind_of before) next []).any (λ v. is_strict_at rule ex v i))
     at false = none (sets_of_rule rule ex) ∙ sym (none all_sets)
 
 -- a test that passes for a number passes for one of any that have it
-passes_within : (test : ℕ → Bool) (x : ℕ) (ys : List ℕ) → list_any (λ y. y == x) ys ≡ true → test x ≡ true → list_any test ys ≡ true
+passes_within : (test : ℕ → Bool) (x : ℕ) (ys : List ℕ) → list_any (λ y. y == x) ys ≡ true → test x ≡ true
+    → list_any test ys ≡ true
 passes_within test x [] here passes = let both : false ≡ true = here in cc
 passes_within test x (y ∷ ys) here passes = at (y == x) refl here (λ h. passes_within test x ys h passes)
   where
@@ -248,7 +280,8 @@ passes_within test x (y ∷ ys) here passes = at (y == x) refl here (λ h. passe
     later true h = refl
     later false h = h
 
-    at : (b : Bool) → (y == x) ≡ b → (b || list_any (λ y. y == x) ys) ≡ true → (list_any (λ y. y == x) ys ≡ true → list_any test ys ≡ true)
+    at : (b : Bool) → (y == x) ≡ b → (b || list_any (λ y. y == x) ys) ≡ true
+        → (list_any (λ y. y == x) ys ≡ true → list_any test ys ≡ true)
         → (test y || list_any test ys) ≡ true
     at true e h more = ap (λ b. b || list_any test ys) (ap test (eqb-true y x e) ∙ passes)
     at false e h more = later (test y) (more h)
@@ -281,10 +314,12 @@ module _ (ex : Exercise) (i : ℕ) (before : Option (List Cell)) (next : List Ce
   of_form form e =
       ap (λ form. list_any strictly (forms.sets_of form ex.voices)) (sym e) ∙ for_all_sets ex i before next rule
 
-  pub for_each_voice : (rule_at rule).form ≡ OneVoice → list_any strictly voice_sets ≡ breaks_strictly ex i before next rule
+  pub for_each_voice : (rule_at rule).form ≡ OneVoice → list_any strictly voice_sets
+      ≡ breaks_strictly ex i before next rule
   unfolding forms.all_sets
   for_each_voice e =
-      between_two (list_any strictly (forms.voice_sets_of ex.voices)) (list_any strictly voice_sets) (breaks_strictly ex i before next rule)
+      between_two (list_any strictly (forms.voice_sets_of ex.voices)) (list_any strictly voice_sets)
+      (breaks_strictly ex i before next rule)
       (any_within strictly (forms.voice_sets_of ex.voices) voice_sets (at (ex.voices == 2)))
       (any_within strictly voice_sets all_sets refl)
       (of_form OneVoice e)
@@ -293,10 +328,12 @@ module _ (ex : Exercise) (i : ℕ) (before : Option (List Cell)) (next : List Ce
       at true = refl
       at false = refl
 
-  pub for_each_pair : (rule_at rule).form ≡ TwoVoices → list_any strictly pair_sets ≡ breaks_strictly ex i before next rule
+  pub for_each_pair : (rule_at rule).form ≡ TwoVoices → list_any strictly pair_sets
+      ≡ breaks_strictly ex i before next rule
   unfolding forms.all_sets
   for_each_pair e =
-      between_two (list_any strictly (forms.pair_sets_of ex.voices)) (list_any strictly pair_sets) (breaks_strictly ex i before next rule)
+      between_two (list_any strictly (forms.pair_sets_of ex.voices)) (list_any strictly pair_sets)
+      (breaks_strictly ex i before next rule)
       (any_within strictly (forms.pair_sets_of ex.voices) pair_sets (at (ex.voices == 2)))
       (any_within strictly pair_sets all_sets refl)
       (of_form TwoVoices e)
@@ -308,7 +345,8 @@ module _ (ex : Exercise) (i : ℕ) (before : Option (List Cell)) (next : List Ce
 -- what is read of a link is what is read of its columns
 module _ (l : Link) (ex : Bor Exercise) (i : ℕ) (prev : Option (Bor (ArrayVec Cell))) (next : List Cell)
     (e : l.exercise ≡ ex) (f : l.place ≡ i) (g : l.prev ≡ prev) (h : l.next.now ≡ next) where
-  pub link_breaks : (rules : List ℕ) → list_any (breaks_strictly_at_link l) rules ≡ list_any (breaks_strictly ex.now i (given prev) next) rules
+  pub link_breaks : (rules : List ℕ) → list_any (breaks_strictly_at_link l) rules
+      ≡ list_any (breaks_strictly ex.now i (given prev) next) rules
   link_breaks rules =
       ap (λ (x : Bor Exercise). list_any (breaks_strictly x.now l.place (given l.prev) l.next.now) rules) e
       ∙ ap (λ n. list_any (breaks_strictly ex.now n (given l.prev) l.next.now) rules) f
@@ -316,9 +354,11 @@ module _ (l : Link) (ex : Bor Exercise) (i : ℕ) (prev : Option (Bor (ArrayVec 
       ∙ ap (λ cells. list_any (breaks_strictly ex.now i (given prev) cells) rules) h
 
   pub link_charges : (sheet : Sheet) (tolls : List ℕ)
-      → sum_by (charge_at_link sheet l) tolls ≡ sum_by (λ toll. cost_between ex.now i (given prev) next toll * weight_of sheet toll) tolls
+      → sum_by (charge_at_link sheet l) tolls
+      ≡ sum_by (λ toll. cost_between ex.now i (given prev) next toll * weight_of sheet toll) tolls
   link_charges sheet tolls =
-      ap (λ (x : Bor Exercise). sum_by (λ toll. cost_between x.now l.place (given l.prev) l.next.now toll * weight_of sheet toll) tolls) e
+      ap (λ (x : Bor Exercise). sum_by (λ toll. cost_between x.now l.place (given l.prev) l.next.now toll * weight_of
+      sheet toll) tolls) e
       ∙ ap (λ n. sum_by (λ toll. cost_between ex.now n (given l.prev) l.next.now toll * weight_of sheet toll) tolls) f
       ∙ ap (λ p. sum_by (λ toll. cost_between ex.now i (given p) l.next.now toll * weight_of sheet toll) tolls) g
       ∙ ap (λ cells. sum_by (λ toll. cost_between ex.now i (given prev) cells toll * weight_of sheet toll) tolls) h
@@ -326,8 +366,10 @@ module _ (l : Link) (ex : Bor Exercise) (i : ℕ) (prev : Option (Bor (ArrayVec 
 -- ---- a toll of neighbors, in the crate that has it
 
 module _ (toll : ℕ) (between : is_toll_between toll ≡ true) where
-  toll_between_by : (crate : Option RuleCrate) → crate_with_toll toll ≡ crate → is_of_neighbors (toll_by crate toll).kind ≡ true
-  toll_between_by crate its = sym (ap (λ (t : TollRow). is_of_neighbors t.kind) (toll_of_crate toll crate its)) ∙ between
+  toll_between_by : (crate : Option RuleCrate) → crate_with_toll toll ≡ crate
+      → is_of_neighbors (toll_by crate toll).kind ≡ true
+  toll_between_by crate its =
+      sym (ap (λ (t : TollRow). is_of_neighbors t.kind) (toll_of_crate toll crate its)) ∙ between
 
   -- it isn't Q16, so it is settled at its own column
   not_pattern : (toll == 16) ≡ false
@@ -335,10 +377,12 @@ module _ (toll : ℕ) (between : is_toll_between toll ≡ true) where
   not_pattern = at (toll == 16) refl
     where
       at : (b : Bool) → (toll == 16) ≡ b → b ≡ false
-      at true e = let P : ℕ → Type 0 = λ t. is_toll_between t ≡ true in let both : false ≡ true = subst P (eqb-true toll 16 e) between in cc
+      at true e = let P : ℕ → Type 0 = λ t. is_toll_between t ≡ true in let both : false
+          ≡ true = subst P (eqb-true toll 16 e) between in cc
       at false e = refl
 
-  pub toll_settled_soon : (ex : Exercise) (i : ℕ) (behind : List (List Cell)) (now : List Cell) (ahead : List (List Cell)) → cost_enough toll ex i behind now ahead ≡ true
+  pub toll_settled_soon : (ex : Exercise) (i : ℕ) (behind : List (List Cell)) (now : List Cell)
+      (ahead : List (List Cell)) → cost_enough toll ex i behind now ahead ≡ true
   toll_settled_soon = cost_settled_soon toll not_pattern
 
   module _ (ex : Exercise) where
@@ -351,42 +395,55 @@ module _ (toll : ℕ) (between : is_toll_between toll ≡ true) where
         ∙ cond-false (toll == 13) (melody.open_leaps ex) (whole_of (melody.toll_rows toll ex))
         (other_kind (toll == 13) Window Pair refl (toll_between_by (Some Melody) its))
 
-    motion_choice : (b : Bool) → (toll == 12) ≡ b → crate_with_toll toll ≡ Some Motion → toll_at toll ≡ (if b then motion_book.late_toll toll else motion_book.at_once_toll toll)
-    motion_choice b e its = toll_of_crate toll (Some Motion) its ∙ ap (λ b. if b then motion_book.late_toll toll else motion_book.at_once_toll toll) e
+    motion_choice : (b : Bool) → (toll == 12) ≡ b → crate_with_toll toll ≡ Some Motion → toll_at toll
+        ≡ (if b then motion_book.late_toll toll else motion_book.at_once_toll toll)
+    motion_choice b e its = toll_of_crate toll (Some Motion) its
+        ∙ ap (λ b. if b then motion_book.late_toll toll else motion_book.at_once_toll toll) e
 
     -- Q12, and the others
-    pub inner_toll_row : crate_with_toll toll ≡ Some Motion → (toll == 12) ≡ true → costs toll ex ≡ whole_of (inner_toll ex)
+    pub inner_toll_row : crate_with_toll toll ≡ Some Motion → (toll == 12) ≡ true → costs toll ex
+        ≡ whole_of (inner_toll ex)
     inner_toll_row its is = of_toll (motion_book.late_toll toll) (motion_choice true is its)
 
-    pub motion_toll : crate_with_toll toll ≡ Some Motion → (toll == 12) ≡ false → costs toll ex ≡ whole_of (motion.toll_rows toll ex)
+    pub motion_toll : crate_with_toll toll ≡ Some Motion → (toll == 12) ≡ false → costs toll ex
+        ≡ whole_of (motion.toll_rows toll ex)
     motion_toll its other =
         let row : toll_at toll ≡ motion_book.at_once_toll toll = motion_choice false other its in
-        let near : (toll == 14) ≡ false = other_kind (toll == 14) Window Pair refl (sym (ap (λ (t : TollRow). is_of_neighbors t.kind) row) ∙ between) in
+        let near : (toll == 14) ≡ false = other_kind (toll == 14) Window Pair refl
+        (sym (ap (λ (t : TollRow). is_of_neighbors t.kind) row) ∙ between) in
         of_toll (motion_book.at_once_toll toll) row ∙ ap (λ b. chosen b) near
       where
         chosen : Bool → Row ℕ
-        chosen b i behind now ahead = if b then motion.imperfect_runs i behind now else whole_of (motion.toll_rows toll ex) i behind now ahead
+        chosen b i behind now ahead =
+            if b then motion.imperfect_runs i behind now else whole_of (motion.toll_rows toll ex) i behind now ahead
 
-    pub dissonance_toll : crate_with_toll toll ≡ Some Dissonance → costs toll ex ≡ whole_of (dissonance.toll_rows toll ex)
+    pub dissonance_toll : crate_with_toll toll ≡ Some Dissonance → costs toll ex
+        ≡ whole_of (dissonance.toll_rows toll ex)
     dissonance_toll its = of_toll (toll_by (Some Dissonance) toll) (toll_of_crate toll (Some Dissonance) its)
 
     -- Q15, and no other
     rhythm_choice : Bool → Bool → TollRow
     rhythm_choice ligature pattern =
-        if ligature || pattern then (if ligature then rhythm_book.ligature_row else rhythm_book.pattern_row) else no_toll
+        if ligature || pattern then (if ligature then rhythm_book.ligature_row else rhythm_book.pattern_row)
+        else no_toll
 
-    pub ligature_toll_row : crate_with_toll toll ≡ Some Rhythm → (toll == 15) ≡ true → costs toll ex ≡ whole_of (ligature_toll ex)
+    pub ligature_toll_row : crate_with_toll toll ≡ Some Rhythm → (toll == 15) ≡ true → costs toll ex
+        ≡ whole_of (ligature_toll ex)
     unfolding rhythm_choice
     ligature_toll_row its is =
-        of_toll rhythm_book.ligature_row (toll_of_crate toll (Some Rhythm) its ∙ ap (λ b. rhythm_choice b (toll == 16)) is)
+        of_toll rhythm_book.ligature_row (toll_of_crate toll (Some Rhythm) its
+        ∙ ap (λ b. rhythm_choice b (toll == 16)) is)
 
-    pub other_rhythm_toll : crate_with_toll toll ≡ Some Rhythm → (toll == 15) ≡ false → costs toll ex ≡ whole_of (λ i before previous now. 0)
+    pub other_rhythm_toll : crate_with_toll toll ≡ Some Rhythm → (toll == 15) ≡ false → costs toll ex
+        ≡ whole_of (λ i before previous now. 0)
     unfolding rhythm_choice
     other_rhythm_toll its other =
         of_toll no_toll
-        (toll_of_crate toll (Some Rhythm) its ∙ ap (λ b. rhythm_choice b (toll == 16)) other ∙ ap (rhythm_choice false) not_pattern)
+        (toll_of_crate toll (Some Rhythm) its ∙ ap (λ b. rhythm_choice b (toll == 16)) other
+        ∙ ap (rhythm_choice false) not_pattern)
 
-    pub doubling_toll : crate_with_toll toll ≡ Some Doubling → costs toll ex ≡ whole_of (doubling.doubling_tolls toll ex)
+    pub doubling_toll : crate_with_toll toll ≡ Some Doubling → costs toll ex
+        ≡ whole_of (doubling.doubling_tolls toll ex)
     doubling_toll its = of_toll (toll_by (Some Doubling) toll) (toll_of_crate toll (Some Doubling) its)
 
     pub none_toll : crate_with_toll toll ≡ None → costs toll ex ≡ whole_of (λ i before previous now. 0)
@@ -395,7 +452,8 @@ module _ (toll : ℕ) (between : is_toll_between toll ≡ true) where
     pub has_toll_row : HasNearRow (costs toll ex)
     has_toll_row = at (crate_with_toll toll) refl (toll == 12) refl
       where
-        at : (crate : Option RuleCrate) → crate_with_toll toll ≡ crate → (b : Bool) → (toll == 12) ≡ b → HasNearRow (costs toll ex)
+        at : (crate : Option RuleCrate) → crate_with_toll toll ≡ crate → (b : Bool) → (toll == 12) ≡ b
+            → HasNearRow (costs toll ex)
         at None its b e = record { row = λ i before previous now. 0; is = none_toll its }
         at (Some Melody) its b e = record { row = melody.toll_rows toll ex; is = melody_toll its }
         at (Some Motion) its true e = record { row = inner_toll ex; is = inner_toll_row its e }
@@ -410,11 +468,13 @@ module _ (toll : ℕ) (between : is_toll_between toll ≡ true) where
 
 module _ (toll : ℕ) (l : Link) (link : IsLink l) (pitches : Pitches) (heard : pitches ≡ sounding_pitches l.before.now)
     (between : is_toll_between toll ≡ true) where
-  cost_by : (row : NearRow ℕ) → costs toll l.exercise.now ≡ whole_of row → row l.place l.before.now pitches l.next.now ≡ cost_at_link l toll
+  cost_by : (row : NearRow ℕ) → costs toll l.exercise.now ≡ whole_of row → row l.place l.before.now pitches l.next.now
+      ≡ cost_at_link l toll
   cost_by row e =
       near_at row l link pitches heard
       ∙ sym (ap (λ (r : Row ℕ). r l.place (behind_of (given l.prev)) l.next.now []) e)
-      ∙ sym (ap (λ b. if b then costs toll l.exercise.now l.place (behind_of (given l.prev)) l.next.now [] else 0) between)
+      ∙ sym (ap (λ b. if b then costs toll l.exercise.now l.place (behind_of (given l.prev)) l.next.now [] else 0)
+      between)
 
   pub melody_costs : crate_with_toll toll ≡ Some Melody
       → melody.toll_rows toll l.exercise.now l.place l.before.now pitches l.next.now ≡ cost_at_link l toll
@@ -422,26 +482,32 @@ module _ (toll : ℕ) (l : Link) (link : IsLink l) (pitches : Pitches) (heard : 
 
   pub inner_costs : crate_with_toll toll ≡ Some Motion → toll ≡ 12
       → inner_toll l.exercise.now l.place l.before.now pitches l.next.now ≡ cost_at_link l toll
-  inner_costs its is = cost_by (inner_toll l.exercise.now) (inner_toll_row toll between l.exercise.now its (ap (λ t. t == 12) is))
+  inner_costs its is =
+      cost_by (inner_toll l.exercise.now) (inner_toll_row toll between l.exercise.now its (ap (λ t. t == 12) is))
 
   pub motion_costs : crate_with_toll toll ≡ Some Motion → toll ≢ 12
       → motion.toll_rows toll l.exercise.now l.place l.before.now pitches l.next.now ≡ cost_at_link l toll
-  motion_costs its other = cost_by (motion.toll_rows toll l.exercise.now) (motion_toll toll between l.exercise.now its (ne_eqb toll 12 other))
+  motion_costs its other = cost_by (motion.toll_rows toll l.exercise.now)
+      (motion_toll toll between l.exercise.now its (ne_eqb toll 12 other))
 
   pub dissonance_costs : crate_with_toll toll ≡ Some Dissonance
       → dissonance.toll_rows toll l.exercise.now l.place l.before.now pitches l.next.now ≡ cost_at_link l toll
-  dissonance_costs its = cost_by (dissonance.toll_rows toll l.exercise.now) (dissonance_toll toll between l.exercise.now its)
+  dissonance_costs its =
+      cost_by (dissonance.toll_rows toll l.exercise.now) (dissonance_toll toll between l.exercise.now its)
 
   pub ligature_costs : crate_with_toll toll ≡ Some Rhythm → toll ≡ 15
       → ligature_toll l.exercise.now l.place l.before.now pitches l.next.now ≡ cost_at_link l toll
-  ligature_costs its is = cost_by (ligature_toll l.exercise.now) (ligature_toll_row toll between l.exercise.now its (ap (λ t. t == 15) is))
+  ligature_costs its is =
+      cost_by (ligature_toll l.exercise.now) (ligature_toll_row toll between l.exercise.now its (ap (λ t. t == 15) is))
 
   pub other_rhythm_costs : crate_with_toll toll ≡ Some Rhythm → toll ≢ 15 → 0 ≡ cost_at_link l toll
   other_rhythm_costs its other =
       cost_by (λ i before previous now. 0) (other_rhythm_toll toll between l.exercise.now its (ne_eqb toll 15 other))
 
-  pub doubling_costs : crate_with_toll toll ≡ Some Doubling → doubling.cost_of_column toll l.exercise.now l.place l.next.now ≡ cost_at_link l toll
-  doubling_costs its = cost_by (doubling.doubling_tolls toll l.exercise.now) (doubling_toll toll between l.exercise.now its)
+  pub doubling_costs : crate_with_toll toll ≡ Some Doubling
+      → doubling.cost_of_column toll l.exercise.now l.place l.next.now ≡ cost_at_link l toll
+  doubling_costs its =
+      cost_by (doubling.doubling_tolls toll l.exercise.now) (doubling_toll toll between l.exercise.now its)
 
   pub none_costs : crate_with_toll toll ≡ None → 0 ≡ cost_at_link l toll
   none_costs its = cost_by (λ i before previous now. 0) (none_toll toll between l.exercise.now its)
@@ -450,10 +516,12 @@ module _ (toll : ℕ) (l : Link) (link : IsLink l) (pitches : Pitches) (heard : 
 
 module _ (kind : ℕ → Kind) where
   any_by_kind : (test : ℕ → Bool) → ((x : ℕ) → kind x ≡ Window → test x ≡ false) → (xs : List ℕ)
-      → list_any test xs ≡ (list_any test (filter (λ x. is_of_column (kind x)) xs) || list_any test (filter (λ x. is_of_pair (kind x)) xs))
+      → list_any test xs ≡ (list_any test (filter (λ x. is_of_column (kind x)) xs)
+      || list_any test (filter (λ x. is_of_pair (kind x)) xs))
   any_by_kind test none [] = refl
   any_by_kind test none (x ∷ xs) =
-      any_more (kind x) (test x) (list_any test xs) (filter (λ x. is_of_column (kind x)) xs) (filter (λ x. is_of_pair (kind x)) xs) refl (none x) (any_by_kind test none xs)
+      any_more (kind x) (test x) (list_any test xs) (filter (λ x. is_of_column (kind x)) xs)
+      (filter (λ x. is_of_pair (kind x)) xs) refl (none x) (any_by_kind test none xs)
     where
       front : (t a b : Bool) → (t || (a || b)) ≡ ((t || a) || b)
       front true a b = refl
@@ -464,18 +532,24 @@ module _ (kind : ℕ → Kind) where
       middle true false b = refl
       middle false a b = refl
 
-      any_more : (k : Kind) (t r : Bool) (cs ps : List ℕ) → t ≡ test x → (k ≡ Window → test x ≡ false) → r ≡ (list_any test cs || list_any test ps)
-          → (t || r) ≡ (list_any test (if is_of_column k then x ∷ cs else cs) || list_any test (if is_of_pair k then x ∷ ps else ps))
-      any_more Column t r cs ps same out e = ap (λ b. t || b) e ∙ front t (list_any test cs) (list_any test ps) ∙ ap (λ b. (b || list_any test cs) || list_any test ps) same
-      any_more Pair t r cs ps same out e = ap (λ b. t || b) e ∙ middle t (list_any test cs) (list_any test ps) ∙ ap (λ b. list_any test cs || (b || list_any test ps)) same
+      any_more : (k : Kind) (t r : Bool) (cs ps : List ℕ) → t ≡ test x → (k ≡ Window → test x ≡ false) → r
+          ≡ (list_any test cs || list_any test ps)
+          → (t || r) ≡ (list_any test (if is_of_column k then x ∷ cs else cs)
+          || list_any test (if is_of_pair k then x ∷ ps else ps))
+      any_more Column t r cs ps same out e = ap (λ b. t || b) e ∙ front t (list_any test cs) (list_any test ps)
+          ∙ ap (λ b. (b || list_any test cs) || list_any test ps) same
+      any_more Pair t r cs ps same out e = ap (λ b. t || b) e ∙ middle t (list_any test cs) (list_any test ps)
+          ∙ ap (λ b. list_any test cs || (b || list_any test ps)) same
       any_more Window t r cs ps same out e = ap (λ b. b || r) (same ∙ out refl) ∙ e
 
   sum_by_kind : (f : ℕ → ℕ) → ((x : ℕ) → kind x ≡ Window → f x ≡ 0) → (xs : List ℕ)
-      → sum_by f xs ≡ sum_by f (filter (λ x. is_of_column (kind x)) xs) + sum_by f (filter (λ x. is_of_pair (kind x)) xs)
+      → sum_by f xs ≡ sum_by f (filter (λ x. is_of_column (kind x)) xs) + sum_by f
+      (filter (λ x. is_of_pair (kind x)) xs)
   sum_by_kind f none [] = refl
   sum_by_kind f none (x ∷ xs) =
       sum_by-cons f x xs
-      ∙ sum_more (kind x) (sum_by f xs) (filter (λ x. is_of_column (kind x)) xs) (filter (λ x. is_of_pair (kind x)) xs) (none x) (sum_by_kind f none xs)
+      ∙ sum_more (kind x) (sum_by f xs) (filter (λ x. is_of_column (kind x)) xs) (filter (λ x. is_of_pair (kind x)) xs)
+      (none x) (sum_by_kind f none xs)
     where
       sum_more : (k : Kind) (r : ℕ) (cs ps : List ℕ) → (k ≡ Window → f x ≡ 0) → r ≡ sum_by f cs + sum_by f ps
           → f x + r ≡ sum_by f (if is_of_column k then x ∷ cs else cs) + sum_by f (if is_of_pair k then x ∷ ps else ps)
@@ -489,15 +563,18 @@ module _ (ex : Exercise) (i : ℕ) (before : Option (List Cell)) (next : List Ce
   window_unbroken : (rule : ℕ) → (rule_at rule).kind ≡ Window → breaks_strictly ex i before next rule ≡ false
   unfolding forms.all_sets
   window_unbroken rule e =
-      ap (λ k. list_any (λ voices. (is_of_neighbors k && breaks rule ex voices i (behind_of before) next []) && is_strict_at rule ex voices i) all_sets) e
+      ap (λ k. list_any (λ voices. (is_of_neighbors k && breaks rule ex voices i (behind_of before) next [])
+      && is_strict_at rule ex voices i) all_sets) e
 
   -- what a column decides by itself it decides behind any other
-  columns_break : list_any (breaks_strictly ex i before next) column_rules ≡ list_any (breaks_strictly ex i None next) column_rules
+  columns_break : list_any (breaks_strictly ex i before next) column_rules
+      ≡ list_any (breaks_strictly ex i None next) column_rules
   unfolding column_rules rules_read rule_at
   columns_break = refl
 
   breaks_parts : list_any (breaks_strictly ex i before next) rules_read
-      ≡ (list_any (breaks_strictly ex i None next) column_rules || list_any (breaks_strictly ex i before next) pair_rules)
+      ≡ (list_any (breaks_strictly ex i None next) column_rules
+      || list_any (breaks_strictly ex i before next) pair_rules)
   unfolding column_rules pair_rules
   breaks_parts =
       any_by_kind (λ rule. (rule_at rule).kind) (breaks_strictly ex i before next) window_unbroken rules_read
@@ -509,7 +586,8 @@ module _ (ex : Exercise) (i : ℕ) (before : Option (List Cell)) (next : List Ce
 
     window_free : (toll : ℕ) → (toll_at toll).kind ≡ Window → charge before toll ≡ 0
     window_free toll e =
-        ap (λ k. (if is_of_neighbors k then costs toll ex i (behind_of before) next [] else 0) * weight_of sheet toll) e ∙ nothing (weight_of sheet toll)
+        ap (λ k. (if is_of_neighbors k then costs toll ex i (behind_of before) next [] else 0) * weight_of sheet toll) e
+        ∙ nothing (weight_of sheet toll)
       where
         nothing : (w : ℕ) → 0 * w ≡ 0
         nothing w = omega arith
@@ -518,29 +596,36 @@ module _ (ex : Exercise) (i : ℕ) (before : Option (List Cell)) (next : List Ce
     unfolding column_tolls tolls_read toll_at
     columns_cost = refl
 
-    costs_parts : sum_by (charge before) tolls_read ≡ sum_by (charge None) column_tolls + sum_by (charge before) pair_tolls
+    costs_parts : sum_by (charge before) tolls_read
+        ≡ sum_by (charge None) column_tolls + sum_by (charge before) pair_tolls
     unfolding column_tolls pair_tolls
     costs_parts =
         sum_by_kind (λ toll. (toll_at toll).kind) (charge before) window_free tolls_read
         ∙ ap (λ n. n + sum_by (charge before) pair_tolls) columns_cost
 
-    pub link_parts : link_of ex sheet i before next ≡ together (column_of ex sheet i next) (pair_of ex sheet i before next)
+    pub link_parts : link_of ex sheet i before next
+        ≡ together (column_of ex sheet i next) (pair_of ex sheet i before next)
     unfolding link_of column_of pair_of
     link_parts =
         ap (λ b. if b then None else Some (sum_by (charge before) tolls_read)) breaks_parts
-        ∙ at (list_any (breaks_strictly ex i None next) column_rules) (list_any (breaks_strictly ex i before next) pair_rules)
+        ∙ at (list_any (breaks_strictly ex i None next) column_rules)
+        (list_any (breaks_strictly ex i before next) pair_rules)
       where
         at : (a b : Bool) → (if a || b then None else Some (sum_by (charge before) tolls_read))
-            ≡ together (if a then None else Some (sum_by (charge None) column_tolls)) (if b then None else Some (sum_by (charge before) pair_tolls))
+            ≡ together (if a then None else Some (sum_by (charge None) column_tolls))
+            (if b then None else Some (sum_by (charge before) pair_tolls))
         at true b = refl
         at false true = refl
         at false false = ap Some costs_parts
 
-    pub link_from_parts : (own pair : Option ℕ) → own ≡ column_of ex sheet i next → pair ≡ pair_of ex sheet i before next → together own pair ≡ link_of ex sheet i before next
-    link_from_parts own pair e f = ap (λ o. together o pair) e ∙ ap (together (column_of ex sheet i next)) f ∙ sym link_parts
+    pub link_from_parts : (own pair : Option ℕ) → own ≡ column_of ex sheet i next → pair
+        ≡ pair_of ex sheet i before next → together own pair ≡ link_of ex sheet i before next
+    link_from_parts own pair e f =
+        ap (λ o. together o pair) e ∙ ap (together (column_of ex sheet i next)) f ∙ sym link_parts
 
     -- so a column costs by itself no more than any link of it
-    pub column_within : (x : ℕ) → link_of ex sheet i before next ≡ Some x → IsSomeAnd (column_of ex sheet i next) (λ y. y ≤ x)
+    pub column_within : (x : ℕ) → link_of ex sheet i before next ≡ Some x
+        → IsSomeAnd (column_of ex sheet i next) (λ y. y ≤ x)
     column_within x e = at (column_of ex sheet i next) (pair_of ex sheet i before next) (sym link_parts ∙ e)
       where
         value_of : Option ℕ → ℕ
@@ -557,14 +642,17 @@ module _ (ex : Exercise) (i : ℕ) (before : Option (List Cell)) (next : List Ce
     unfolding column_of
     column_broken h = ap (λ b. if b then None else Some (sum_by (charge None) column_tolls)) h
 
-    pub column_whole : false ≡ list_any (breaks_strictly ex i None next) column_rules → Some (sum_by (charge None) column_tolls) ≡ column_of ex sheet i next
+    pub column_whole : false ≡ list_any (breaks_strictly ex i None next) column_rules
+        → Some (sum_by (charge None) column_tolls) ≡ column_of ex sheet i next
     unfolding column_of
     column_whole h = ap (λ b. if b then None else Some (sum_by (charge None) column_tolls)) h
 
-    pub pair_broken : true ≡ list_any (breaks_strictly ex i before next) pair_rules → None ≡ pair_of ex sheet i before next
+    pub pair_broken : true ≡ list_any (breaks_strictly ex i before next) pair_rules → None
+        ≡ pair_of ex sheet i before next
     unfolding pair_of
     pair_broken h = ap (λ b. if b then None else Some (sum_by (charge before) pair_tolls)) h
 
-    pub pair_whole : false ≡ list_any (breaks_strictly ex i before next) pair_rules → Some (sum_by (charge before) pair_tolls) ≡ pair_of ex sheet i before next
+    pub pair_whole : false ≡ list_any (breaks_strictly ex i before next) pair_rules
+        → Some (sum_by (charge before) pair_tolls) ≡ pair_of ex sheet i before next
     unfolding pair_of
     pair_whole h = ap (λ b. if b then None else Some (sum_by (charge before) pair_tolls)) h

@@ -43,19 +43,22 @@ known row i h next =
 
 -- ---- an orderly prefix
 
-orderly_prefix : (ex : Exercise) → ex.cantus_voice < ex.voices → (p : List (List Cell)) (col : List Cell) → GoesOn ex p (col ∷ []) → IsOrderlyPrefix ex p
+orderly_prefix : (ex : Exercise) → ex.cantus_voice < ex.voices → (p : List (List Cell)) (col : List Cell)
+    → GoesOn ex p (col ∷ []) → IsOrderlyPrefix ex p
 orderly_prefix ex there p col on =
     let prefix : IsPrefix ex p = prefix_before ex p col on.longer in
     record {
       follows = prefix.follows;
-      full = λ k d within. let P : List Cell → Type 0 = λ c. length c ≡ ex.voices in subst P (get_or_default p k [] d within) (prefix.menus k within).full;
+      full = λ k d within. let P : List Cell → Type 0 = λ c. length c ≡ ex.voices in
+          subst P (get_or_default p k [] d within) (prefix.menus k within).full;
       cantus = λ i within. menu_of-cantus ex i _ there ((menu_of-contains ex i _).1 (prefix.menus i within));
       orderly = on.orderly;
     }
 
 -- what is read of the last column and the new one is what is read of the new one in the whole list
 module _ (ex : Exercise) (p : List (List Cell)) (col : List Cell) (prefix : IsOrderlyPrefix ex p) where
-  read_near : {R : Type 0} (reads : Row R) → HasNearRow reads → reads (length p) (behind_of (last_column p)) col [] ≡ reading_of reads (p ++ col ∷ []) (length p)
+  read_near : {R : Type 0} (reads : Row R) → HasNearRow reads → reads (length p) (behind_of (last_column p)) col []
+      ≡ reading_of reads (p ++ col ∷ []) (length p)
   read_near reads near =
       ap (λ (r : Row _). r (length p) (behind_of (last_column p)) col []) near.is
       ∙ known near.row (length p) (reverse p) col
@@ -64,21 +67,25 @@ module _ (ex : Exercise) (p : List (List Cell)) (col : List Cell) (prefix : IsOr
 
 -- ---- where none of a list passes, none passes that passes less often
 
-any_fewer : (f g : ℕ → Bool) (xs : List ℕ) → ((x : ℕ) → f x ≡ true → g x ≡ true) → list_any g xs ≡ false → list_any f xs ≡ false
+any_fewer : (f g : ℕ → Bool) (xs : List ℕ) → ((x : ℕ) → f x ≡ true → g x ≡ true) → list_any g xs ≡ false → list_any f xs
+    ≡ false
 any_fewer f g [] more none = refl
 any_fewer f g (x ∷ xs) more none = at (f x) (g x) (more x) none (any_fewer f g xs more)
   where
-    at : (a b : Bool) → (a ≡ true → b ≡ true) → (b || list_any g xs) ≡ false → (list_any g xs ≡ false → list_any f xs ≡ false) → (a || list_any f xs) ≡ false
+    at : (a b : Bool) → (a ≡ true → b ≡ true) → (b || list_any g xs) ≡ false
+        → (list_any g xs ≡ false → list_any f xs ≡ false) → (a || list_any f xs) ≡ false
     at true true m h later = cc
     at true false m h later = let both : false ≡ true = m refl in cc
     at false true m h later = cc
     at false false m h later = later h
 
-any_more : (f g : ℕ → Bool) (xs : List ℕ) → ((x : ℕ) → f x ≡ true → g x ≡ true) → list_any f xs ≡ true → list_any g xs ≡ true
+any_more : (f g : ℕ → Bool) (xs : List ℕ) → ((x : ℕ) → f x ≡ true → g x ≡ true) → list_any f xs ≡ true → list_any g xs
+    ≡ true
 any_more f g [] more some = some
 any_more f g (x ∷ xs) more some = at (f x) (g x) (more x) some (any_more f g xs more)
   where
-    at : (a b : Bool) → (a ≡ true → b ≡ true) → (a || list_any f xs) ≡ true → (list_any f xs ≡ true → list_any g xs ≡ true) → (b || list_any g xs) ≡ true
+    at : (a b : Bool) → (a ≡ true → b ≡ true) → (a || list_any f xs) ≡ true
+        → (list_any f xs ≡ true → list_any g xs ≡ true) → (b || list_any g xs) ≡ true
     at a true m h later = refl
     at true false m h later = let both : false ≡ true = m refl in cc
     at false false m h later = later h
@@ -101,27 +108,37 @@ last_within f n = let e : sum_below f (n + 1) ≡ sum_below f n + f n = ap (sum_
 
 module _ (ex : Exercise) (p : List (List Cell)) (col : List Cell) (prefix : IsOrderlyPrefix ex p) where
   -- what it breaks strictly the column settles
-  strict_between : (rule voices : ℕ) → (breaks_between ex (length p) (last_column p) col rule voices && is_strict_at rule ex voices (length p)) ≡ true
+  strict_between : (rule voices : ℕ) → (breaks_between ex (length p) (last_column p) col rule voices
+      && is_strict_at rule ex voices (length p)) ≡ true
       → newly_broken_at rule ex voices p col (length p) ≡ true
   strict_between rule voices h =
-      let parts = and_parts (breaks_between ex (length p) (last_column p) col rule voices) (is_strict_at rule ex voices (length p)) h in
-      let both = and_parts (is_rule_between rule) (breaks rule ex voices (length p) (behind_of (last_column p)) col []) parts.0 in
-      let settled : newly (is_settled rule ex voices) p col (length p) ≡ true = newly_at_end (enough rule ex voices) (settled_soon rule both.0 ex voices) p col in
-      let broken : is_broken rule ex voices (p ++ col ∷ []) (length p) ≡ true = sym (read_near ex p col prefix (breaks rule ex voices) (has_row rule both.0 ex voices)) ∙ both.1 in
+      let parts = and_parts (breaks_between ex (length p) (last_column p) col rule voices)
+      (is_strict_at rule ex voices (length p)) h in
+      let both = and_parts (is_rule_between rule) (breaks rule ex voices (length p) (behind_of (last_column p)) col [])
+      parts.0 in
+      let settled : newly (is_settled rule ex voices) p col (length p)
+      ≡ true = newly_at_end (enough rule ex voices) (settled_soon rule both.0 ex voices) p col in
+      let broken : is_broken rule ex voices (p ++ col ∷ []) (length p)
+      ≡ true = sym (read_near ex p col prefix (breaks rule ex voices) (has_row rule both.0 ex voices)) ∙ both.1 in
       rw (settled, broken, parts.1) refl
 
-  breaks_settled : (rule : ℕ) → breaks_strictly ex (length p) (last_column p) col rule ≡ true → newly_broken ex p col rule ≡ true
+  breaks_settled : (rule : ℕ) → breaks_strictly ex (length p) (last_column p) col rule ≡ true
+      → newly_broken ex p col rule ≡ true
   breaks_settled rule =
-      any_more (λ voices. breaks_between ex (length p) (last_column p) col rule voices && is_strict_at rule ex voices (length p))
+      any_more (λ voices. breaks_between ex (length p) (last_column p) col rule voices
+      && is_strict_at rule ex voices (length p))
       (λ voices. any_below (newly_broken_at rule ex voices p col) (length p + 1)) all_sets
       (λ voices h. last_below (newly_broken_at rule ex voices p col) (length p) (strict_between rule voices h))
 
-  unbroken_link : list_any (newly_broken ex p col) rules_read ≡ false → list_any (breaks_strictly ex (length p) (last_column p) col) rules_read ≡ false
-  unbroken_link none = any_fewer (breaks_strictly ex (length p) (last_column p) col) (newly_broken ex p col) rules_read breaks_settled none
+  unbroken_link : list_any (newly_broken ex p col) rules_read ≡ false
+      → list_any (breaks_strictly ex (length p) (last_column p) col) rules_read ≡ false
+  unbroken_link none = any_fewer (breaks_strictly ex (length p) (last_column p) col) (newly_broken ex p col) rules_read
+      breaks_settled none
 
   module _ (sheet : Sheet) where
     -- and what a toll costs in it the column settles
-    toll_settles : (toll : ℕ) → cost_between ex (length p) (last_column p) col toll * weight_of sheet toll ≤ new_toll ex sheet p col (length p) toll
+    toll_settles : (toll : ℕ) → cost_between ex (length p) (last_column p) col toll * weight_of sheet toll ≤ new_toll ex
+        sheet p col (length p) toll
     toll_settles toll = at (is_toll_between toll) refl
       where
         nothing : (w n : ℕ) → 0 * w ≤ n
@@ -130,15 +147,20 @@ module _ (ex : Exercise) (p : List (List Cell)) (col : List Cell) (prefix : IsOr
         same : (a b : ℕ) → a ≡ b → a ≤ b
         same a b e = omega (arith, e)
 
-        at : (b : Bool) → is_toll_between toll ≡ b → (if b then costs toll ex (length p) (behind_of (last_column p)) col [] else 0) * weight_of sheet toll ≤ new_toll ex sheet p col (length p) toll
+        at : (b : Bool) → is_toll_between toll ≡ b
+            → (if b then costs toll ex (length p) (behind_of (last_column p)) col [] else 0) * weight_of sheet toll ≤
+            new_toll ex sheet p col (length p) toll
         at false e = nothing (weight_of sheet toll) (new_toll ex sheet p col (length p) toll)
         at true e =
-            let settled : newly (is_cost_settled toll ex) p col (length p) ≡ true = newly_at_end (cost_enough toll ex) (toll_settled_soon toll e ex) p col in
+            let settled : newly (is_cost_settled toll ex) p col (length p)
+            ≡ true = newly_at_end (cost_enough toll ex) (toll_settled_soon toll e ex) p col in
             same _ _
             (ap (λ n. n * weight_of sheet toll) (read_near ex p col prefix (costs toll ex) (has_toll_row toll e ex))
-            ∙ sym (ap (λ b. if b then cost_at toll ex (p ++ col ∷ []) (length p) * weight_of sheet toll else 0) settled))
+            ∙ sym (ap (λ b. if b then cost_at toll ex (p ++ col ∷ []) (length p) * weight_of sheet toll else 0)
+            settled))
 
-    link_within : sum_by (λ toll. cost_between ex (length p) (last_column p) col toll * weight_of sheet toll) tolls_read ≤ newly_paid ex sheet p col
+    link_within : sum_by (λ toll. cost_between ex (length p) (last_column p) col toll * weight_of sheet toll) tolls_read
+        ≤ newly_paid ex sheet p col
     link_within =
         no_more _ _ _ _ (sum_no_more _ (new_toll ex sheet p col (length p)) tolls_read toll_settles)
         (last_within (λ i. new_tolls ex sheet p col i + new_prices ex p col i) (length p))
@@ -146,13 +168,18 @@ module _ (ex : Exercise) (p : List (List Cell)) (col : List Cell) (prefix : IsOr
         no_more : (a b c d : ℕ) → a ≤ b → b + c ≤ d → a ≤ d
         no_more a b c d h k = omega arith
 
-    pub link_at_most : list_any (newly_broken ex p col) rules_read ≡ false → IsSomeAnd (link_of ex sheet (length p) (last_column p) col) (λ cost. cost ≤ newly_paid ex sheet p col)
+    pub link_at_most : list_any (newly_broken ex p col) rules_read ≡ false
+        → IsSomeAnd (link_of ex sheet (length p) (last_column p) col) (λ cost. cost ≤ newly_paid ex sheet p col)
     unfolding link_of
     link_at_most none =
-        let P : Bool → Type 0 = λ b. IsSomeAnd (if b then None else Some (sum_by (λ toll. cost_between ex (length p) (last_column p) col toll * weight_of sheet toll) tolls_read)) (λ cost. cost ≤ newly_paid ex sheet p col) in
+        let P : Bool → Type 0 = λ b. IsSomeAnd
+        (if b then None else Some (sum_by
+        (λ toll. cost_between ex (length p) (last_column p) col toll * weight_of sheet toll) tolls_read))
+        (λ cost. cost ≤ newly_paid ex sheet p col) in
         subst P (sym (unbroken_link none)) link_within
 
-pub link_is_paid : (ex : Exercise) → ex.cantus_voice < ex.voices → (sheet : Sheet) (p : List (List Cell)) (col : List Cell) → GoesOn ex p (col ∷ [])
+pub link_is_paid : (ex : Exercise) → ex.cantus_voice < ex.voices
+    → (sheet : Sheet) (p : List (List Cell)) (col : List Cell) → GoesOn ex p (col ∷ [])
     → list_any (newly_broken ex p col) rules_read ≡ false
     → IsSomeAnd (link_of ex sheet (length p) (last_column p) col) (λ cost. cost ≤ newly_paid ex sheet p col)
 link_is_paid ex there sheet p col on none = link_at_most ex p col (orderly_prefix ex there p col on) sheet none

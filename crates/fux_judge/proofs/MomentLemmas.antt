@@ -27,43 +27,65 @@ use Rattle.fux_judge.specs.Moments.{IsAfter, is_broken_then, with_column}
 use Rattle.fux_judge.proofs.CrateLemmas.{breaks_by_crate, late_by_crate, not_shape, rule_of_crate, soon_in_dissonance, soon_in_motion, soon_in_rhythm}
 
 -- a row of neighbors reads the column before and each voice's previous pitch
-pub near_then : {R : Type 0} (row : NearRow R) (p : List (List Cell)) (m : Moment) → IsAfter p m → row m.state.now.newest.len m.before.now m.latest.pitches m.column.now ≡ whole_of row (length p) (reverse p) m.column.now []
+pub near_then : {R : Type 0} (row : NearRow R) (p : List (List Cell)) (m : Moment) → IsAfter p m
+    → row m.state.now.newest.len m.before.now m.latest.pitches m.column.now
+    ≡ whole_of row (length p) (reverse p) m.column.now []
 near_then row p m after =
     ap (λ i. row i m.before.now m.latest.pitches m.column.now) after.state.newest.count
     ∙ ap (λ b. row (length p) b m.latest.pitches m.column.now) after.before
     ∙ ap (λ l. row (length p) (newest_column (reverse p)) l m.column.now) after.latest
 
 module _ (rule : ℕ) (voices : ℕ) (p : List (List Cell)) (m : Moment) where
-  broken_then : (row : Row Bool) → breaks rule m.exercise.now voices ≡ row → row (length p) (reverse p) m.column.now [] ≡ is_broken_then rule voices p m
-  broken_then row e = sym (reading-at_end (breaks rule m.exercise.now voices) p m.column.now ∙ ap (λ (r : Row Bool). r (length p) (reverse p) m.column.now []) e)
+  broken_then : (row : Row Bool) → breaks rule m.exercise.now voices ≡ row → row (length p) (reverse p) m.column.now []
+      ≡ is_broken_then rule voices p m
+  broken_then row e = sym (reading-at_end (breaks rule m.exercise.now voices) p m.column.now
+      ∙ ap (λ (r : Row Bool). r (length p) (reverse p) m.column.now []) e)
 
   -- the same of a row that the rule is read by
-  broken_by : (it : RuleRow) → rule_at rule ≡ it → it.broken m.exercise.now voices (length p) (reverse p) m.column.now [] ≡ is_broken_then rule voices p m
-  broken_by it e = broken_then (it.broken m.exercise.now voices) (ap (λ (r : RuleRow). r.broken m.exercise.now voices) e)
+  broken_by : (it : RuleRow) → rule_at rule ≡ it
+      → it.broken m.exercise.now voices (length p) (reverse p) m.column.now [] ≡ is_broken_then rule voices p m
+  broken_by it e =
+      broken_then (it.broken m.exercise.now voices) (ap (λ (r : RuleRow). r.broken m.exercise.now voices) e)
 
-  pub window_then : crate_with rule ≡ Some Melody → melody.looks_back rule ≡ true → melody.window_rows rule m.exercise.now voices (length p) (reverse p) m.column.now [] ≡ is_broken_then rule voices p m
+  pub window_then : crate_with rule ≡ Some Melody → melody.looks_back rule ≡ true
+      → melody.window_rows rule m.exercise.now voices (length p) (reverse p) m.column.now []
+      ≡ is_broken_then rule voices p m
   window_then e l =
       broken_then (melody.window_rows rule m.exercise.now voices)
-      (breaks_by_crate rule (Some Melody) e m.exercise.now voices ∙ cond-true (melody.looks_back rule) (melody.window_rows rule m.exercise.now voices) (whole_of (melody.near_rows rule m.exercise.now voices)) l)
+      (breaks_by_crate rule (Some Melody) e m.exercise.now voices
+      ∙ cond-true (melody.looks_back rule) (melody.window_rows rule m.exercise.now voices)
+      (whole_of (melody.near_rows rule m.exercise.now voices)) l)
 
-  pub melodic_then : crate_with rule ≡ Some Melody → melody.looks_back rule ≡ false → whole_of (melody.near_rows rule m.exercise.now voices) (length p) (reverse p) m.column.now [] ≡ is_broken_then rule voices p m
+  pub melodic_then : crate_with rule ≡ Some Melody → melody.looks_back rule ≡ false
+      → whole_of (melody.near_rows rule m.exercise.now voices) (length p) (reverse p) m.column.now []
+      ≡ is_broken_then rule voices p m
   melodic_then e l =
       broken_then (whole_of (melody.near_rows rule m.exercise.now voices))
-      (breaks_by_crate rule (Some Melody) e m.exercise.now voices ∙ cond-false (melody.looks_back rule) (melody.window_rows rule m.exercise.now voices) (whole_of (melody.near_rows rule m.exercise.now voices)) l)
+      (breaks_by_crate rule (Some Melody) e m.exercise.now voices
+      ∙ cond-false (melody.looks_back rule) (melody.window_rows rule m.exercise.now voices)
+      (whole_of (melody.near_rows rule m.exercise.now voices)) l)
 
   pub none_then : crate_with rule ≡ None → false ≡ is_broken_then rule voices p m
   none_then e = broken_by no_rule (rule_of_crate rule None e)
 
   module _ (soon : is_late rule ≡ false) where
-    pub motion_then : crate_with rule ≡ Some Motion → whole_of (motion.near_rows rule m.exercise.now voices) (length p) (reverse p) m.column.now [] ≡ is_broken_then rule voices p m
+    pub motion_then : crate_with rule ≡ Some Motion
+        → whole_of (motion.near_rows rule m.exercise.now voices) (length p) (reverse p) m.column.now []
+        ≡ is_broken_then rule voices p m
     motion_then e = broken_by (motion_book.at_once_row rule) (soon_in_motion rule soon e)
 
-    pub dissonance_then : crate_with rule ≡ Some Dissonance → whole_of (dissonance.near_rows rule m.exercise.now voices) (length p) (reverse p) m.column.now [] ≡ is_broken_then rule voices p m
+    pub dissonance_then : crate_with rule ≡ Some Dissonance
+        → whole_of (dissonance.near_rows rule m.exercise.now voices) (length p) (reverse p) m.column.now []
+        ≡ is_broken_then rule voices p m
     dissonance_then e = broken_by (dissonance_book.at_once_row rule) (soon_in_dissonance rule soon e)
 
-    pub rhythm_then : crate_with rule ≡ Some Rhythm → whole_of (rhythm.near_rows rule m.exercise.now voices) (length p) (reverse p) m.column.now [] ≡ is_broken_then rule voices p m
+    pub rhythm_then : crate_with rule ≡ Some Rhythm
+        → whole_of (rhythm.near_rows rule m.exercise.now voices) (length p) (reverse p) m.column.now []
+        ≡ is_broken_then rule voices p m
     rhythm_then e =
-        sym (ap (λ b. if b then rhythm.shape_row m.exercise.now voices (length p) (reverse p) m.column.now [] else whole_of (rhythm.near_rows rule m.exercise.now voices) (length p) (reverse p) m.column.now []) (not_shape rule soon e))
+        sym (ap (λ b. if b then rhythm.shape_row m.exercise.now voices (length p) (reverse p) m.column.now []
+        else whole_of (rhythm.near_rows rule m.exercise.now voices) (length p) (reverse p) m.column.now [])
+        (not_shape rule soon e))
         ∙ broken_by (rhythm_book.at_once_row rule) (soon_in_rhythm rule soon e)
 
     -- each rule of what voices double is late
@@ -71,21 +93,30 @@ module _ (rule : ℕ) (voices : ℕ) (p : List (List Cell)) (m : Moment) where
     doubling_then e = let no : true ≡ false = late_by_crate rule (Some Doubling) e false soon in cc
 
 -- but for Q16 each toll is settled at its own column
-module _ (toll : ℕ) (other : (toll == 16) ≡ false) (ex : Exercise) (i : ℕ) (behind : List (List Cell)) (now : List Cell) (ahead : List (List Cell)) where
-  of_motion : (b : Bool) → (if b then motion_book.late_toll toll else motion_book.at_once_toll toll).enough ex i behind now ahead ≡ true
+module _ (toll : ℕ) (other : (toll == 16) ≡ false) (ex : Exercise) (i : ℕ) (behind : List (List Cell)) (now : List Cell)
+    (ahead : List (List Cell)) where
+  of_motion : (b : Bool) → (if b then motion_book.late_toll toll else motion_book.at_once_toll toll).enough ex i behind
+      now ahead ≡ true
   of_motion true = refl
   of_motion false = refl
 
-  of_rhythm : (a b : Bool) → b ≡ false → (if a || b then (if a then rhythm_book.ligature_row else rhythm_book.pattern_row) else no_toll).enough ex i behind now ahead ≡ true
+  of_rhythm : (a b : Bool) → b ≡ false → (if a || b
+      then (if a then rhythm_book.ligature_row else rhythm_book.pattern_row) else no_toll).enough ex i behind now ahead
+      ≡ true
   of_rhythm a true e = cc
   of_rhythm true false e = refl
   of_rhythm false false e = refl
 
   pub cost_settled_soon : cost_enough toll ex i behind now ahead ≡ true
   unfolding toll_at
-  cost_settled_soon = at (is_toll_of_melody toll) (is_toll_of_motion toll) (is_toll_of_dissonance toll) (is_toll_of_rhythm toll) (is_toll_of_doubling toll)
+  cost_settled_soon = at (is_toll_of_melody toll) (is_toll_of_motion toll) (is_toll_of_dissonance toll)
+      (is_toll_of_rhythm toll) (is_toll_of_doubling toll)
     where
-      at : (a b c d e : Bool) → (if a then melody_book.toll_row toll else (if b then motion_book.toll_row toll else (if c then dissonance_book.toll_row toll else (if d then rhythm_book.toll_row toll else (if e then doubling_book.toll_row toll else no_toll))))).enough ex i behind now ahead ≡ true
+      at : (a b c d e : Bool) → (if a then melody_book.toll_row toll
+          else (if b then motion_book.toll_row toll
+          else (if c then dissonance_book.toll_row toll
+          else (if d then rhythm_book.toll_row toll else (if e then doubling_book.toll_row toll else no_toll))))).enough
+          ex i behind now ahead ≡ true
       at true b c d e = refl
       at false true c d e = of_motion (motion_book.is_late_toll toll)
       at false false true d e = refl
@@ -94,8 +125,10 @@ module _ (toll : ℕ) (other : (toll == 16) ≡ false) (ex : Exercise) (i : ℕ)
       at false false false false false = refl
 
 module _ (toll : ℕ) (p : List (List Cell)) (m : Moment) where
-  cost_by : (row : Row ℕ) → costs toll m.exercise.now ≡ row → row (length p) (reverse p) m.column.now [] ≡ cost_at toll m.exercise.now (with_column p m) (length p)
-  cost_by row e = sym (reading-at_end (costs toll m.exercise.now) p m.column.now ∙ ap (λ (r : Row ℕ). r (length p) (reverse p) m.column.now []) e)
+  cost_by : (row : Row ℕ) → costs toll m.exercise.now ≡ row → row (length p) (reverse p) m.column.now []
+      ≡ cost_at toll m.exercise.now (with_column p m) (length p)
+  cost_by row e = sym (reading-at_end (costs toll m.exercise.now) p m.column.now
+      ∙ ap (λ (r : Row ℕ). r (length p) (reverse p) m.column.now []) e)
 
   -- what holds of two numbers holds of one of them
   one_of_two : (P : ℕ → Type 0) (a b : ℕ) → P a → P b → ((toll == a) || (toll == b)) ≡ true → P toll
@@ -109,20 +142,29 @@ module _ (toll : ℕ) (p : List (List Cell)) (m : Moment) where
   unfolding toll_at
   costs_of_motion = one_of_two (λ t. costs t m.exercise.now ≡ motion.cost_in t m.exercise.now) 11 14 refl refl
 
-  costs_of_dissonance : is_clashing_toll toll ≡ true → costs toll m.exercise.now ≡ dissonance.cost_in toll m.exercise.now
+  costs_of_dissonance : is_clashing_toll toll ≡ true → costs toll m.exercise.now
+      ≡ dissonance.cost_in toll m.exercise.now
   unfolding toll_at
   costs_of_dissonance = one_of_two (λ t. costs t m.exercise.now ≡ dissonance.cost_in t m.exercise.now) 1 2 refl refl
 
-  pub bar_line_cost : toll ≡ 14 → m.state.now.newest.len ≡ length p → reading_of (motion.cost_in 14 m.exercise.now) (p ++ m.column.now ∷ []) m.state.now.newest.len ≡ cost_at toll m.exercise.now (with_column p m) (length p)
+  pub bar_line_cost : toll ≡ 14 → m.state.now.newest.len ≡ length p
+      → reading_of (motion.cost_in 14 m.exercise.now) (p ++ m.column.now ∷ []) m.state.now.newest.len
+      ≡ cost_at toll m.exercise.now (with_column p m) (length p)
   bar_line_cost e here =
       ap (reading_of (motion.cost_in 14 m.exercise.now) (p ++ m.column.now ∷ [])) here
       ∙ ap (λ t. reading_of (motion.cost_in t m.exercise.now) (p ++ m.column.now ∷ []) (length p)) (sym e)
-      ∙ sym (ap (λ (r : Row ℕ). reading_of r (p ++ m.column.now ∷ []) (length p)) (costs_of_motion (ap is_moving_toll e)))
+      ∙ sym (ap (λ (r : Row ℕ). reading_of r (p ++ m.column.now ∷ []) (length p))
+      (costs_of_motion (ap is_moving_toll e)))
 
-  pub motion_cost : is_moving_toll toll ≡ true → (toll == 14) ≡ false → whole_of (motion.toll_rows toll m.exercise.now) (length p) (reverse p) m.column.now [] ≡ cost_at toll m.exercise.now (with_column p m) (length p)
+  pub motion_cost : is_moving_toll toll ≡ true → (toll == 14) ≡ false
+      → whole_of (motion.toll_rows toll m.exercise.now) (length p) (reverse p) m.column.now []
+      ≡ cost_at toll m.exercise.now (with_column p m) (length p)
   motion_cost e f =
-      sym (cond-false (toll == 14) (motion.imperfect_runs (length p) (reverse p) m.column.now) (whole_of (motion.toll_rows toll m.exercise.now) (length p) (reverse p) m.column.now []) f)
+      sym (cond-false (toll == 14) (motion.imperfect_runs (length p) (reverse p) m.column.now)
+      (whole_of (motion.toll_rows toll m.exercise.now) (length p) (reverse p) m.column.now []) f)
       ∙ cost_by (motion.cost_in toll m.exercise.now) (costs_of_motion e)
 
-  pub dissonance_cost : is_clashing_toll toll ≡ true → whole_of (dissonance.toll_rows toll m.exercise.now) (length p) (reverse p) m.column.now [] ≡ cost_at toll m.exercise.now (with_column p m) (length p)
+  pub dissonance_cost : is_clashing_toll toll ≡ true
+      → whole_of (dissonance.toll_rows toll m.exercise.now) (length p) (reverse p) m.column.now []
+      ≡ cost_at toll m.exercise.now (with_column p m) (length p)
   dissonance_cost e = cost_by (dissonance.cost_in toll m.exercise.now) (costs_of_dissonance e)

@@ -21,7 +21,8 @@ pub none_passes : {X : Type 0} (test : X → Bool) (xs : List X) → ((x : X) �
 none_passes test [] none = refl
 none_passes test (x ∷ xs) none = rw (none x) (none_passes test xs none)
 
-module _ (p : List (List Cell)) (m : Moment) (place : m.state.now.newest.len ≡ length p) (quiet : is_quiet m.state.now.newest.len m.column.now ≡ true) where
+module _ (p : List (List Cell)) (m : Moment) (place : m.state.now.newest.len ≡ length p)
+    (quiet : is_quiet m.state.now.newest.len m.column.now ≡ true) where
   here : is_quiet (length p) m.column.now ≡ true
   here = sym (ap (λ i. is_quiet i m.column.now) place) ∙ quiet
 
@@ -37,29 +38,38 @@ module _ (p : List (List Cell)) (m : Moment) (place : m.state.now.newest.len ≡
 
   no_strict_break : (rule : ℕ) → is_late rule ≡ false → is_strictly_broken_then all_sets rule p m ≡ false
   no_strict_break rule other =
-      none_passes (λ voices. is_broken_then rule voices p m && is_strict_at rule m.exercise.now voices (length p)) all_sets
+      none_passes (λ voices. is_broken_then rule voices p m && is_strict_at rule m.exercise.now voices (length p))
+      all_sets
       (λ voices. ap (λ b. b && is_strict_at rule m.exercise.now voices (length p)) (unbroken rule voices other))
 
   no_price : (rule : ℕ) → is_late rule ≡ false → prices_then all_sets rule p m ≡ 0
   no_price rule other =
-      sum_by-none (λ voices. if is_broken_then rule voices p m then price_at_place rule m.exercise.now voices (length p) else 0) all_sets
-      (λ voices. ap (λ b. if b then price_at_place rule m.exercise.now voices (length p) else 0) (unbroken rule voices other))
+      sum_by-none (λ voices. if is_broken_then rule voices p m then price_at_place rule m.exercise.now voices (length p)
+      else 0) all_sets
+      (λ voices. ap (λ b. if b then price_at_place rule m.exercise.now voices (length p) else 0)
+      (unbroken rule voices other))
 
   settled_at_once : (rule : ℕ) → (nat_lt rule 32 && not (is_late rule)) ≡ true → is_late rule ≡ false
   settled_at_once rule h = not-true (is_late rule) (and_parts (nat_lt rule 32) (not (is_late rule)) h).1
 
   -- none of these rules
-  pub none_broken : (rules : List ℕ) → list_all (λ rule. nat_lt rule 32 && not (is_late rule)) rules ≡ true → (r : ℕ) → list_any (λ rule. is_strictly_broken_then all_sets rule p m && r == rule) rules ≡ false
+  pub none_broken : (rules : List ℕ) → list_all (λ rule. nat_lt rule 32 && not (is_late rule)) rules ≡ true → (r : ℕ)
+      → list_any (λ rule. is_strictly_broken_then all_sets rule p m && r == rule) rules ≡ false
   none_broken [] h r = refl
   none_broken (rule ∷ rules) h r =
-      let both = and_parts (nat_lt rule 32 && not (is_late rule)) (list_all (λ rule. nat_lt rule 32 && not (is_late rule)) rules) h in
+      let both = and_parts (nat_lt rule 32 && not (is_late rule))
+      (list_all (λ rule. nat_lt rule 32 && not (is_late rule)) rules) h in
       rw (no_strict_break rule (settled_at_once rule both.0)) (none_broken rules both.1 r)
 
-  pub none_priced : (rules : List ℕ) → list_all (λ rule. nat_lt rule 32 && not (is_late rule)) rules ≡ true → sum_by (λ rule. prices_then all_sets rule p m) rules ≡ 0
+  pub none_priced : (rules : List ℕ) → list_all (λ rule. nat_lt rule 32 && not (is_late rule)) rules ≡ true
+      → sum_by (λ rule. prices_then all_sets rule p m) rules ≡ 0
   none_priced [] h = refl
   none_priced (rule ∷ rules) h =
-      let both = and_parts (nat_lt rule 32 && not (is_late rule)) (list_all (λ rule. nat_lt rule 32 && not (is_late rule)) rules) h in
-      sum_of_none (prices_then all_sets rule p m) (sum_by (λ rule. prices_then all_sets rule p m) rules) _ (sum_by-cons (λ rule. prices_then all_sets rule p m) rule rules) (no_price rule (settled_at_once rule both.0)) (none_priced rules both.1)
+      let both = and_parts (nat_lt rule 32 && not (is_late rule))
+      (list_all (λ rule. nat_lt rule 32 && not (is_late rule)) rules) h in
+      sum_of_none (prices_then all_sets rule p m) (sum_by (λ rule. prices_then all_sets rule p m) rules) _
+      (sum_by-cons (λ rule. prices_then all_sets rule p m) rule rules) (no_price rule (settled_at_once rule both.0))
+      (none_priced rules both.1)
     where
       sum_of_none : (a b s : ℕ) → s ≡ a + b → a ≡ 0 → b ≡ 0 → s ≡ 0
       sum_of_none a b s e f g = omega arith
@@ -73,12 +83,15 @@ module _ (p : List (List Cell)) (m : Moment) (place : m.state.now.newest.len ≡
           none : (w : ℕ) → 0 * w ≡ 0
           none w = omega arith
 
-      none_of : (tolls : List ℕ) → list_all (λ toll. not (is_late_toll toll)) tolls ≡ true → sum_by (toll_then sheet p m) tolls ≡ 0
+      none_of : (tolls : List ℕ) → list_all (λ toll. not (is_late_toll toll)) tolls ≡ true
+          → sum_by (toll_then sheet p m) tolls ≡ 0
       none_of [] h = refl
       none_of (toll ∷ tolls) h =
           let both = and_parts (not (is_late_toll toll)) (list_all (λ toll. not (is_late_toll toll)) tolls) h in
-          sum_of_none (toll_then sheet p m toll) (sum_by (toll_then sheet p m) tolls) _ (sum_by-cons (toll_then sheet p m) toll tolls)
-          (nothing toll (cost_at toll m.exercise.now (with_column p m) (length p)) (costless toll (not-true (is_late_toll toll) both.0))) (none_of tolls both.1)
+          sum_of_none (toll_then sheet p m toll) (sum_by (toll_then sheet p m) tolls) _
+          (sum_by-cons (toll_then sheet p m) toll tolls)
+          (nothing toll (cost_at toll m.exercise.now (with_column p m) (length p))
+          (costless toll (not-true (is_late_toll toll) both.0))) (none_of tolls both.1)
         where
           sum_of_none : (a b s : ℕ) → s ≡ a + b → a ≡ 0 → b ≡ 0 → s ≡ 0
           sum_of_none a b s e f g = omega arith

@@ -60,7 +60,8 @@ module _ (ex : Exercise) (i : ℕ) (before : Option (List Cell)) (next : List Ce
     undoubled =
         on_pair-none ex _ voices
         (λ v w.
-        and_right (is_before_last_bar ex i && sounds_leading ex next v && sounds_leading ex next w) (one_starts next v w)
+        and_right (is_before_last_bar ex i && sounds_leading ex next v && sounds_leading ex next w)
+        (one_starts next v w)
         (quiet_pair i next quiet v w))
 
     unbroken : read (breaks rule ex voices) ≡ false
@@ -112,7 +113,8 @@ module _ (ex : Exercise) (i : ℕ) (before : Option (List Cell)) (next : List Ce
       (ap
       (λ b.
       if b
-      then from_bool (are_far_apart 11 next 0 1) + from_bool (are_far_apart 7 next 1 2) + from_bool (are_far_apart 7 next 2 3)
+      then from_bool (are_far_apart 11 next 0 1) + from_bool (are_far_apart 7 next 1 2) + from_bool
+      (are_far_apart 7 next 2 3)
       else 0)
       (quiet_slot i next quiet))
       (either_none (toll == 5) _ _ 0

@@ -28,12 +28,16 @@ alone_is_there : (v : ℕ) → v < 4 → list_any (λ other. 2 ^ v == other) all
 unfolding forms.all_sets
 alone_is_there = each_of_four (λ v. list_any (λ other. 2 ^ v == other) all_sets ≡ true) refl refl refl refl
 
-pub leaves_in_all : (ex : Exercise) (p : List (List Cell)) (col : List Cell) (v : ℕ) → v < 4 → newly_breaks shape_rule ex (2 ^ v) p col (newest_start (p ++ col ∷ [])) ≡ true → list_any (newly_broken ex p col) rules_read ≡ true
+pub leaves_in_all : (ex : Exercise) (p : List (List Cell)) (col : List Cell) (v : ℕ) → v < 4
+    → newly_breaks shape_rule ex (2 ^ v) p col (newest_start (p ++ col ∷ [])) ≡ true
+    → list_any (newly_broken ex p col) rules_read ≡ true
 leaves_in_all ex p col v four h =
     let start = newest_start (p ++ col ∷ []) in
     let placed : start < length p + 1 = omega (arith, length-append p (col ∷ [])) in
     let here : newly_broken_at 3 ex (2 ^ v) p col start ≡ true =
-    and_from (newly_breaks (rule_at 3) ex (2 ^ v) p col start) (is_strict_at 3 ex (2 ^ v) start) (ap (λ (it : RuleRow). newly_breaks it ex (2 ^ v) p col start) shape_row_is ∙ h) refl in
+    and_from (newly_breaks (rule_at 3) ex (2 ^ v) p col start) (is_strict_at 3 ex (2 ^ v) start)
+    (ap (λ (it : RuleRow). newly_breaks it ex (2 ^ v) p col start) shape_row_is ∙ h) refl in
     some_of (newly_broken ex p col) 3 rules_read shape_is_read
-    (some_of (λ voices. any_below (newly_broken_at 3 ex voices p col) (length p + 1)) (2 ^ v) all_sets (alone_is_there v four)
+    (some_of (λ voices. any_below (newly_broken_at 3 ex voices p col) (length p + 1)) (2 ^ v) all_sets
+    (alone_is_there v four)
     (any_below-found (newly_broken_at 3 ex (2 ^ v) p col) start (length p + 1) placed here))

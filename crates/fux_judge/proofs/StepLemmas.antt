@@ -27,22 +27,26 @@ absorbs true y = refl
 absorbs false true = refl
 absorbs false false = refl
 
-picked_one : (X : ℕ → Bool) (r k : ℕ) (some others : Bool) (t : Bool) → (r == k) ≡ t → some ≡ (others && X r) → ((X k && t) || some) ≡ ((t || others) && X r)
+picked_one : (X : ℕ → Bool) (r k : ℕ) (some others : Bool) (t : Bool) → (r == k) ≡ t → some ≡ (others && X r)
+    → ((X k && t) || some) ≡ ((t || others) && X r)
 picked_one X r k some others true e h =
     ap (λ b. (b && true) || some) (ap X (sym (eqb-true r k e))) ∙ ap (λ b. (X r && true) || b) h ∙ absorbs (X r) others
 picked_one X r k some others false e h = ap (λ b. b || some) (and_false (X k)) ∙ h
 
 -- what is asked of some rules one by one, and of one number, is asked of that number
-picked : (X : ℕ → Bool) (r : ℕ) (rules : List ℕ) → list_any (λ rule. X rule && r == rule) rules ≡ (list_any (λ rule. r == rule) rules && X r)
+picked : (X : ℕ → Bool) (r : ℕ) (rules : List ℕ) → list_any (λ rule. X rule && r == rule) rules
+    ≡ (list_any (λ rule. r == rule) rules && X r)
 picked X r [] = refl
-picked X r (k ∷ rules) = picked_one X r k (list_any (λ rule. X rule && r == rule) rules) (list_any (λ rule. r == rule) rules) (r == k) refl (picked X r rules)
+picked X r (k ∷ rules) = picked_one X r k (list_any (λ rule. X rule && r == rule) rules)
+    (list_any (λ rule. r == rule) rules) (r == k) refl (picked X r rules)
 
 -- the rules that are read are those that are settled at once, and the late ones
 read_in_parts : (test : ℕ → Bool) → list_any test rules_read ≡ (list_any test rules_at_once || list_any test late_rules)
 unfolding rules_at_once late_rules
 read_in_parts test = list_any-parted test is_late rules_read
 
-read_by_parts : (r : ℕ) → is_read r ≡ (list_any (λ rule. r == rule) rules_at_once || list_any (λ rule. r == rule) late_rules)
+read_by_parts : (r : ℕ) → is_read r ≡ (list_any (λ rule. r == rule) rules_at_once
+    || list_any (λ rule. r == rule) late_rules)
 read_by_parts r = read_in_parts (λ rule. r == rule)
 
 -- two answers for two kinds are one for both
@@ -61,7 +65,8 @@ for_both false true x y n h k = k refl
 for_both false false x y n h k = refl
 
 -- tests that agree where a third one holds, agree on a list of which each passes that one
-any_where : (test f g : ℕ → Bool) (xs : List ℕ) → list_all test xs ≡ true → ((x : ℕ) → test x ≡ true → f x ≡ g x) → list_any f xs ≡ list_any g xs
+any_where : (test f g : ℕ → Bool) (xs : List ℕ) → list_all test xs ≡ true → ((x : ℕ) → test x ≡ true → f x ≡ g x)
+    → list_any f xs ≡ list_any g xs
 any_where test f g [] h e = refl
 any_where test f g (x ∷ xs) h e =
     ap (λ b. b || list_any f xs) (e x (first_true (test x) (list_all test xs) h))
@@ -72,23 +77,29 @@ unfolding rules_at_once rules_read rule_at
 each_is_there = refl
 
 -- a set of the rules settled at once that pass a test has some of them where some passes
-pub some_at_once : (has test : ℕ → Bool) → ((r : ℕ) → has r ≡ list_any (λ rule. test rule && r == rule) rules_at_once) → list_any has rules_at_once ≡ list_any test rules_at_once
+pub some_at_once : (has test : ℕ → Bool) → ((r : ℕ) → has r ≡ list_any (λ rule. test rule && r == rule) rules_at_once)
+    → list_any has rules_at_once ≡ list_any test rules_at_once
 some_at_once has test same =
     any_where (λ r. list_any (λ rule. r == rule) rules_at_once) has test rules_at_once each_is_there
     (λ r there. same r ∙ picked test r rules_at_once ∙ ap (λ b. b && test r) there)
 
 module _ (ex : Exercise) (p : List (List Cell)) (col : List Cell) where
   -- a strict break is of a rule that is settled at once, or of a late one
-  breaks_by_parts : GoesOn ex p (col ∷ []) → list_any (newly_broken ex p col) rules_read ≡ (list_any (is_strictly_broken_at_end ex p col) rules_at_once || list_any (breaks_late ex p col) late_rules)
+  breaks_by_parts : GoesOn ex p (col ∷ []) → list_any (newly_broken ex p col) rules_read
+      ≡ (list_any (is_strictly_broken_at_end ex p col) rules_at_once || list_any (breaks_late ex p col) late_rules)
   breaks_by_parts on =
       read_in_parts (newly_broken ex p col)
       ∙ ap (λ b. b || list_any (newly_broken ex p col) late_rules)
-      (any_where (λ rule. not (is_late rule)) (newly_broken ex p col) (is_strictly_broken_at_end ex p col) rules_at_once (all_at_once ex p col) (λ r h. newly_broken-at_once ex p col r (not-true (is_late r) h)))
+      (any_where (λ rule. not (is_late rule)) (newly_broken ex p col) (is_strictly_broken_at_end ex p col) rules_at_once
+      (all_at_once ex p col) (λ r h. newly_broken-at_once ex p col r (not-true (is_late r) h)))
       ∙ ap (λ b. list_any (is_strictly_broken_at_end ex p col) rules_at_once || b)
-      (any_where is_late (newly_broken ex p col) (breaks_late ex p col) late_rules (all_late ex p col) (λ r h. newly_broken-late ex p col r h on))
+      (any_where is_late (newly_broken ex p col) (breaks_late ex p col) late_rules (all_late ex p col)
+      (λ r h. newly_broken-late ex p col r h on))
 
-  pub broken_late : GoesOn ex p (col ∷ []) → list_any (breaks_late ex p col) late_rules ≡ true → list_any (newly_broken ex p col) rules_read ≡ true
-  broken_late on h = breaks_by_parts on ∙ ap (λ b. list_any (is_strictly_broken_at_end ex p col) rules_at_once || b) h ∙ either (list_any (is_strictly_broken_at_end ex p col) rules_at_once)
+  pub broken_late : GoesOn ex p (col ∷ []) → list_any (breaks_late ex p col) late_rules ≡ true
+      → list_any (newly_broken ex p col) rules_read ≡ true
+  broken_late on h = breaks_by_parts on ∙ ap (λ b. list_any (is_strictly_broken_at_end ex p col) rules_at_once || b) h
+      ∙ either (list_any (is_strictly_broken_at_end ex p col) rules_at_once)
     where
       either : (b : Bool) → (b || true) ≡ true
       either true = refl
@@ -96,45 +107,70 @@ module _ (ex : Exercise) (p : List (List Cell)) (col : List Cell) where
 
   module _ (sheet : Sheet) (m : Moment) (same : m.exercise.now ≡ ex) (its : m.column.now ≡ col) where
     strictly_then : (rule : ℕ) → is_strictly_broken_then all_sets rule p m ≡ is_strictly_broken_at_end ex p col rule
-    strictly_then rule = ap (λ e. list_any (λ voices. is_broken rule e voices (p ++ m.column.now ∷ []) (length p) && is_strict_at rule e voices (length p)) all_sets) same ∙ ap (λ c. list_any (λ voices. is_broken rule ex voices (p ++ c ∷ []) (length p) && is_strict_at rule ex voices (length p)) all_sets) its
+    strictly_then rule = ap (λ e. list_any
+        (λ voices. is_broken rule e voices (p ++ m.column.now ∷ []) (length p) && is_strict_at rule e voices (length p))
+        all_sets) same ∙ ap (λ c. list_any
+        (λ voices. is_broken rule ex voices (p ++ c ∷ []) (length p) && is_strict_at rule ex voices (length p))
+        all_sets) its
 
     prices_then_are : (rule : ℕ) → prices_then all_sets rule p m ≡ prices_at_end ex p col rule
-    prices_then_are rule = ap (λ e. sum_by (λ voices. if is_broken rule e voices (p ++ m.column.now ∷ []) (length p) then price_at_place rule e voices (length p) else 0) all_sets) same ∙ ap (λ c. sum_by (λ voices. if is_broken rule ex voices (p ++ c ∷ []) (length p) then price_at_place rule ex voices (length p) else 0) all_sets) its
+    prices_then_are rule = ap (λ e. sum_by
+        (λ voices. if is_broken rule e voices (p ++ m.column.now ∷ []) (length p)
+        then price_at_place rule e voices (length p) else 0) all_sets) same
+        ∙ ap (λ c. sum_by (λ voices. if is_broken rule ex voices (p ++ c ∷ []) (length p)
+        then price_at_place rule ex voices (length p) else 0) all_sets) its
 
     tolls_then_are : sum_by (toll_then sheet p m) tolls_at_once ≡ tolls_at_end ex sheet p col
-    tolls_then_are = ap (λ e. sum_by (toll_at_end e sheet p m.column.now) tolls_at_once) same ∙ ap (λ c. sum_by (toll_at_end ex sheet p c) tolls_at_once) its
+    tolls_then_are = ap (λ e. sum_by (toll_at_end e sheet p m.column.now) tolls_at_once) same
+        ∙ ap (λ c. sum_by (toll_at_end ex sheet p c) tolls_at_once) its
 
     -- what a step says of the rules
-    pub step_breaks : GoesOn ex p (col ∷ []) → (r : ℕ) → (list_any (λ rule. is_strictly_broken_then all_sets rule p m && r == rule) rules_at_once || list_any (λ rule. breaks_late ex p col rule && r == rule) late_rules) ≡ (is_read r && newly_broken ex p col r)
+    pub step_breaks : GoesOn ex p (col ∷ []) → (r : ℕ)
+        → (list_any (λ rule. is_strictly_broken_then all_sets rule p m && r == rule) rules_at_once
+        || list_any (λ rule. breaks_late ex p col rule && r == rule) late_rules)
+        ≡ (is_read r && newly_broken ex p col r)
     step_breaks on r =
         let settled_soon = list_any (λ rule. r == rule) rules_at_once in
         let settled_late = list_any (λ rule. r == rule) late_rules in
         ap (λ b. b || list_any (λ rule. breaks_late ex p col rule && r == rule) late_rules)
-        (list_any-same (λ rule. is_strictly_broken_then all_sets rule p m && r == rule) (λ rule. is_strictly_broken_at_end ex p col rule && r == rule) rules_at_once (λ rule. ap (λ b. b && r == rule) (strictly_then rule))
+        (list_any-same (λ rule. is_strictly_broken_then all_sets rule p m && r == rule)
+        (λ rule. is_strictly_broken_at_end ex p col rule && r == rule) rules_at_once
+        (λ rule. ap (λ b. b && r == rule) (strictly_then rule))
         ∙ picked (is_strictly_broken_at_end ex p col) r rules_at_once)
-        ∙ ap (λ b. (settled_soon && is_strictly_broken_at_end ex p col r) || b) (picked (breaks_late ex p col) r late_rules)
-        ∙ for_both settled_soon settled_late (is_strictly_broken_at_end ex p col r) (breaks_late ex p col r) (newly_broken ex p col r)
-        (λ e. sym (newly_broken-at_once ex p col r (not-true (is_late r) (one_of (λ rule. not (is_late rule)) r rules_at_once (all_at_once ex p col) e))))
+        ∙ ap (λ b. (settled_soon && is_strictly_broken_at_end ex p col r) || b)
+        (picked (breaks_late ex p col) r late_rules)
+        ∙ for_both settled_soon settled_late (is_strictly_broken_at_end ex p col r) (breaks_late ex p col r)
+        (newly_broken ex p col r)
+        (λ e. sym (newly_broken-at_once ex p col r
+        (not-true (is_late r) (one_of (λ rule. not (is_late rule)) r rules_at_once (all_at_once ex p col) e))))
         (λ e. sym (newly_broken-late ex p col r (one_of is_late r late_rules (all_late ex p col) e) on))
         ∙ ap (λ b. b && newly_broken ex p col r) (sym (read_by_parts r))
 
     -- a column that breaks no late rule strictly breaks some rule where it breaks one that is settled at once
-    pub broken_at_once : GoesOn ex p (col ∷ []) → list_any (breaks_late ex p col) late_rules ≡ false → list_any (newly_broken ex p col) rules_read ≡ list_any (λ rule. is_strictly_broken_then all_sets rule p m) rules_at_once
+    pub broken_at_once : GoesOn ex p (col ∷ []) → list_any (breaks_late ex p col) late_rules ≡ false
+        → list_any (newly_broken ex p col) rules_read
+        ≡ list_any (λ rule. is_strictly_broken_then all_sets rule p m) rules_at_once
     broken_at_once on h =
         breaks_by_parts on
         ∙ ap (λ b. list_any (is_strictly_broken_at_end ex p col) rules_at_once || b) h
         ∙ alone (list_any (is_strictly_broken_at_end ex p col) rules_at_once)
-        ∙ sym (list_any-same (λ rule. is_strictly_broken_then all_sets rule p m) (is_strictly_broken_at_end ex p col) rules_at_once strictly_then)
+        ∙ sym (list_any-same (λ rule. is_strictly_broken_then all_sets rule p m) (is_strictly_broken_at_end ex p col)
+        rules_at_once strictly_then)
       where
         alone : (b : Bool) → (b || false) ≡ b
         alone true = refl
         alone false = refl
 
     -- what a step says of the charges
-    pub step_pays : GoesOn ex p (col ∷ []) → (charges tolls later : ℕ) → charges ≡ sum_by (toll_then sheet p m) tolls_at_once + sum_by (λ rule. prices_then all_sets rule p m) rules_at_once → tolls ≡ sum_by (toll_late ex sheet p col) late_tolls → later ≡ sum_by (prices_late ex p col) late_rules → charges + tolls + later ≡ newly_paid ex sheet p col
+    pub step_pays : GoesOn ex p (col ∷ []) → (charges tolls later : ℕ) → charges
+        ≡ sum_by (toll_then sheet p m) tolls_at_once + sum_by (λ rule. prices_then all_sets rule p m) rules_at_once
+        → tolls ≡ sum_by (toll_late ex sheet p col) late_tolls → later ≡ sum_by (prices_late ex p col) late_rules
+        → charges + tolls + later ≡ newly_paid ex sheet p col
     step_pays on charges tolls later e t f =
-        together _ _ _ _ _ _ e t f tolls_then_are (sum_by-same (λ rule. prices_then all_sets rule p m) (prices_at_end ex p col) rules_at_once prices_then_are)
+        together _ _ _ _ _ _ e t f tolls_then_are
+        (sum_by-same (λ rule. prices_then all_sets rule p m) (prices_at_end ex p col) rules_at_once prices_then_are)
         ∙ sym (newly_paid-parts ex p col sheet on)
       where
-        together : (a b c d e x : ℕ) → charges ≡ a + b → tolls ≡ x → later ≡ c → a ≡ d → b ≡ e → charges + tolls + later ≡ d + x + (e + c)
+        together : (a b c d e x : ℕ) → charges ≡ a + b → tolls ≡ x → later ≡ c → a ≡ d → b ≡ e → charges + tolls + later
+            ≡ d + x + (e + c)
         together a b c d e x h t k g i = omega arith

@@ -36,11 +36,13 @@ stands toll cells now =
 
 -- what it costs a voice in the column that comes after a prefix: the toll's weight where it stands for a free voice
 abbrev pub voice_toll : Exercise → Sheet → List (List Cell) → List Cell → ℕ → ℕ → ℕ
-voice_toll ex sheet p col v toll = if is_free ex v && stands toll (line v (reverse p)) (cell_in col v) then weight_of sheet toll else 0
+voice_toll ex sheet p col v toll =
+    if is_free ex v && stands toll (line v (reverse p)) (cell_in col v) then weight_of sheet toll else 0
 
 -- what a move to a cell costs by its size: the weight of each of Q7 to Q10 that stands for it
 abbrev pub size_charge : Sheet → Option Pitch → Cell → ℕ → ℕ
-size_charge sheet previous now toll = if holds_of (charges_move toll) (move_from previous now) then weight_of sheet toll else 0
+size_charge sheet previous now toll =
+    if holds_of (charges_move toll) (move_from previous now) then weight_of sheet toll else 0
 
 abbrev pub move_charge : Sheet → Option Pitch → Cell → ℕ
 move_charge sheet previous now =

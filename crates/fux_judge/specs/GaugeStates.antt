@@ -21,7 +21,8 @@ pub record IsGaugesOf (cells : List Cell) (kept : LineGauges) : Type 0 where
 
 -- of each voice's line in a history of columns
 abbrev pub AreGaugesOf : List (List Cell) → List LineGauges → Type 0
-AreGaugesOf behind voices = (v : ℕ) (kept : LineGauges) → slice_get voices v ≡ Some kept → IsGaugesOf (line v behind) kept
+AreGaugesOf behind voices =
+    (v : ℕ) (kept : LineGauges) → slice_get voices v ≡ Some kept → IsGaugesOf (line v behind) kept
 
 -- from column i on: the starts ahead of the voice, the last bar's place for a note above a lower key, and a key above which no column has one
 pub record IsAheadOf (ex : Exercise) (v i : ℕ) (ahead : LineAhead) : Type 0 where

@@ -20,7 +20,8 @@ is_of_ending rule = (rule == 13) || (rule == 24)
 -- of the rules that are settled at once, those that are left in a column that is smooth, clear and in place
 unfoldable pub rules_at_the_end : List ℕ
 rules_at_the_end =
-    filter (λ rule. not (is_of_place rule)) (filter (λ rule. not (is_moving rule)) (filter (λ rule. not (is_of_melody rule)) rules_at_once))
+    filter (λ rule. not (is_of_place rule))
+    (filter (λ rule. not (is_moving rule)) (filter (λ rule. not (is_of_melody rule)) rules_at_once))
 
 -- those of them that are left before the last bar, and where no two voices come close or no bar begins
 unfoldable pub rules_at_a_bar : List ℕ

@@ -12,7 +12,8 @@ use Rattle.fux_judge.specs.Penalties.{is_strict_at, has_strict_break, penalty_of
 
 -- some rule is strictly broken at a place, for some set of voices
 abbrev pub breaks_strictly : Exercise → Reading Bool
-breaks_strictly ex s i = list_any (λ rule. list_any (λ voices. is_broken rule ex voices s i && is_strict_at rule ex voices i) all_sets) rules_read
+breaks_strictly ex s i = list_any (λ rule. list_any
+    (λ voices. is_broken rule ex voices s i && is_strict_at rule ex voices i) all_sets) rules_read
 
 -- a lawful setting has no strict break
 pub record IsLawful (ex : Exercise) (s : List (List Cell)) : Type 0 where
@@ -23,7 +24,8 @@ pub record IsLawful (ex : Exercise) (s : List (List Cell)) : Type 0 where
 pub record IsBest (ex : Exercise) (sheet : Sheet) (s : List (List Cell)) : Type 0 where
   pub lawful : IsLawful ex s
   pub least : (t : List (List Cell)) → IsLawful ex t → penalty_of ex sheet s ≤ penalty_of ex sheet t
-  pub first : (t : List (List Cell)) → IsLawful ex t → penalty_of ex sheet t ≡ penalty_of ex sheet s → s ≢ t → IsEarlier s t
+  pub first : (t : List (List Cell)) → IsLawful ex t → penalty_of ex sheet t ≡ penalty_of ex sheet s → s ≢ t
+      → IsEarlier s t
 
 -- no setting is lawful
 abbrev pub HasNoLawful : Exercise → Type 0

@@ -33,7 +33,8 @@ is_broken_then rule voices p m = is_broken rule m.exercise.now voices (with_colu
 
 -- it is strictly broken for the set
 abbrev pub is_strict_break_then : ℕ → ℕ → List (List Cell) → Moment → Bool
-is_strict_break_then rule voices p m = is_broken_then rule voices p m && is_strict_at rule m.exercise.now voices (length p)
+is_strict_break_then rule voices p m =
+    is_broken_then rule voices p m && is_strict_at rule m.exercise.now voices (length p)
 
 -- so it is for one of the sets
 abbrev pub is_strictly_broken_then : List ℕ → ℕ → List (List Cell) → Moment → Bool
@@ -56,4 +57,5 @@ toll_then sheet p m toll = cost_at toll m.exercise.now (with_column p m) (length
 
 -- what the column pays of the tolls and rules that are settled at once
 abbrev pub paid_at_once : Sheet → List (List Cell) → Moment → ℕ
-paid_at_once sheet p m = sum_by (toll_then sheet p m) tolls_at_once + sum_by (λ rule. prices_then all_sets rule p m) rules_at_once
+paid_at_once sheet p m =
+    sum_by (toll_then sheet p m) tolls_at_once + sum_by (λ rule. prices_then all_sets rule p m) rules_at_once

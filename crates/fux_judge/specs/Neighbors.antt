@@ -20,7 +20,8 @@ abbrev pub breaks_at_link : Link → ℕ → ℕ → Bool
 breaks_at_link l rule voices = breaks_between l.exercise.now l.place (given l.prev) l.next.now rule voices
 
 abbrev pub is_strict_for : Link → ℕ → List ℕ → Bool
-is_strict_for l rule sets = list_any (λ voices. breaks_at_link l rule voices && is_strict_at rule l.exercise.now voices l.place) sets
+is_strict_for l rule sets =
+    list_any (λ voices. breaks_at_link l rule voices && is_strict_at rule l.exercise.now voices l.place) sets
 
 abbrev pub breaks_strictly_at_link : Link → ℕ → Bool
 breaks_strictly_at_link l rule = breaks_strictly l.exercise.now l.place (given l.prev) l.next.now rule

@@ -26,16 +26,19 @@ price_read rule ex voices s i = if is_broken rule ex voices s i then price_at_pl
 
 -- a strict break of a rule is settled at a place of a prefix
 abbrev pub is_strictly_broken : ℕ → Exercise → ℕ → Reading Bool
-is_strictly_broken rule ex voices p i = is_settled rule ex voices p i && is_broken rule ex voices p i && is_strict_at rule ex voices i
+is_strictly_broken rule ex voices p i =
+    is_settled rule ex voices p i && is_broken rule ex voices p i && is_strict_at rule ex voices i
 
 -- a column settles a strict break of a rule, for a set of voices, at a place: none before it did
 abbrev pub newly_broken_at : ℕ → Exercise → ℕ → List (List Cell) → List Cell → ℕ → Bool
 newly_broken_at rule ex voices p col i =
-    newly (is_settled rule ex voices) p col i && is_broken rule ex voices (p ++ col ∷ []) i && is_strict_at rule ex voices i
+    newly (is_settled rule ex voices) p col i && is_broken rule ex voices (p ++ col ∷ []) i
+    && is_strict_at rule ex voices i
 
 -- the column settles a strict break of a rule, for some set of voices, at some place
 abbrev pub newly_broken : Exercise → List (List Cell) → List Cell → ℕ → Bool
-newly_broken ex p col rule = list_any (λ voices. any_below (newly_broken_at rule ex voices p col) (length p + 1)) all_sets
+newly_broken ex p col rule =
+    list_any (λ voices. any_below (newly_broken_at rule ex voices p col) (length p + 1)) all_sets
 
 -- what the column settles of a toll at a place, by its weight, and of the prices of a rule
 abbrev pub new_toll : Exercise → Sheet → List (List Cell) → List Cell → ℕ → ℕ → ℕ
@@ -90,14 +93,17 @@ penalty_of ex sheet s = charges_of ex sheet s + gauges_of ex sheet s
 -- the same readings in the list itself: of an orderly prefix, and of a setting that begins with none but orderly ones, they are those above
 abbrev pub has_break_settled_in : Exercise → List (List Cell) → Bool
 has_break_settled_in ex p =
-    any_below (λ i. list_any (λ rule. list_any (λ voices. is_strictly_broken rule ex voices p i) all_sets) rules_read) (length p)
+    any_below (λ i. list_any (λ rule. list_any (λ voices. is_strictly_broken rule ex voices p i) all_sets) rules_read)
+    (length p)
 
 abbrev pub settled_tolls : Exercise → Sheet → Reading ℕ
-settled_tolls ex sheet p i = sum_by (λ toll. if is_cost_settled toll ex p i then cost_at toll ex p i * weight_of sheet toll else 0) tolls_read
+settled_tolls ex sheet p i =
+    sum_by (λ toll. if is_cost_settled toll ex p i then cost_at toll ex p i * weight_of sheet toll else 0) tolls_read
 
 abbrev pub settled_prices : Exercise → Reading ℕ
 settled_prices ex p i =
-    sum_by (λ rule. sum_by (λ voices. if is_settled rule ex voices p i then price_read rule ex voices p i else 0) all_sets) rules_read
+    sum_by (λ rule. sum_by (λ voices. if is_settled rule ex voices p i then price_read rule ex voices p i else 0)
+    all_sets) rules_read
 
 abbrev pub charges_settled_in : Exercise → Sheet → List (List Cell) → ℕ
 charges_settled_in ex sheet p = sum_below (λ i. settled_tolls ex sheet p i + settled_prices ex p i) (length p)

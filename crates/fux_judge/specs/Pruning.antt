@@ -27,7 +27,8 @@ is_set_below n voices = list_any (λ other. voices == other) sets_below && is_be
 
 -- after the prefix each column with the same cells in the first voices settles a strict break
 abbrev pub AllBreak : ℕ → Exercise → List (List Cell) → List Cell → Type 0
-AllBreak n ex p col = (other : List Cell) → take n other ≡ take n col → list_any (newly_broken ex p other) rules_read ≡ true
+AllBreak n ex p col =
+    (other : List Cell) → take n other ≡ take n col → list_any (newly_broken ex p other) rules_read ≡ true
 
 -- at the moment, after each prefix that it may come after
 abbrev pub IsDeadWithin : ℕ → Moment → Type 0
@@ -39,4 +40,5 @@ IsDeadBy voices m = (n : ℕ) → IsTrue (is_set_below n voices) → IsDeadWithi
 
 -- after the prefix the column settles a strict break, or costs no less than a limit, where there is one
 abbrev pub IsPruned : Exercise → Sheet → List (List Cell) → Option ℕ → List Cell → Type 0
-IsPruned ex sheet p limit col = (list_any (newly_broken ex p col) rules_read ≡ true) ⊎ IsSomeAnd limit (λ cost. cost ≤ newly_paid ex sheet p col)
+IsPruned ex sheet p limit col =
+    (list_any (newly_broken ex p col) rules_read ≡ true) ⊎ IsSomeAnd limit (λ cost. cost ≤ newly_paid ex sheet p col)

@@ -13,7 +13,8 @@ use Rattle.doubling_rules.specs.Book as doubling
 
 -- the crates' books as one
 abbrev pub all_rules : Rulebook
-all_rules = joined melody.book (joined motion.book (joined dissonance.book (joined rhythm.book (joined doubling.book nothing))))
+all_rules =
+    joined melody.book (joined motion.book (joined dissonance.book (joined rhythm.book (joined doubling.book nothing))))
 
 -- the rule of a number, and the toll; a number that no crate has is never broken, and costs nothing
 unfoldable pub rule_at : ℕ → RuleRow

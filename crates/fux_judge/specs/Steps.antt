@@ -12,11 +12,13 @@ use Rattle.fux_judge.specs.Penalties.{is_strict_at, price_at_place, newly_broken
 
 -- a rule is strictly broken at the column that comes after a prefix
 abbrev pub is_strictly_broken_at_end : Exercise → List (List Cell) → List Cell → ℕ → Bool
-is_strictly_broken_at_end ex p col rule = list_any (λ voices. is_broken rule ex voices (p ++ col ∷ []) (length p) && is_strict_at rule ex voices (length p)) all_sets
+is_strictly_broken_at_end ex p col rule = list_any
+    (λ voices. is_broken rule ex voices (p ++ col ∷ []) (length p) && is_strict_at rule ex voices (length p)) all_sets
 
 -- the prices of its relaxed breaks there
 abbrev pub prices_at_end : Exercise → List (List Cell) → List Cell → ℕ → ℕ
-prices_at_end ex p col rule = sum_by (λ voices. if is_broken rule ex voices (p ++ col ∷ []) (length p) then price_at_place rule ex voices (length p) else 0) all_sets
+prices_at_end ex p col rule = sum_by (λ voices. if is_broken rule ex voices (p ++ col ∷ []) (length p)
+    then price_at_place rule ex voices (length p) else 0) all_sets
 
 -- what a toll costs there, by its weight, and what those cost that are settled at once
 abbrev pub toll_at_end : Exercise → Sheet → List (List Cell) → List Cell → ℕ → ℕ
@@ -50,4 +52,5 @@ prices_late ex p col rule =
 -- what the column settles of a late toll at the toll's places
 abbrev pub toll_late : Exercise → Sheet → List (List Cell) → List Cell → ℕ → ℕ
 toll_late ex sheet p col toll =
-    sum_among ((toll_at toll).first ex (length p)) ((toll_at toll).count ex (length p)) (λ i. new_toll ex sheet p col i toll)
+    sum_among ((toll_at toll).first ex (length p)) ((toll_at toll).count ex (length p))
+    (λ i. new_toll ex sheet p col i toll)

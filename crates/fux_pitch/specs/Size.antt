@@ -26,7 +26,10 @@ upward i = if points_down i then record { degrees = neg_ℤ i.degrees; semitones
 
 -- an interval that points up, less 7 degrees and 12 semitones as often as 7 goes into the degrees
 abbrev pub within_octave : Interval → Interval
-within_octave up = record { degrees = pos (unsigned_abs up.degrees % 7); semitones = up.semitones -ℤ pos (12 * (unsigned_abs up.degrees / 7)) }
+within_octave up = record {
+  degrees = pos (unsigned_abs up.degrees % 7);
+  semitones = up.semitones -ℤ pos (12 * (unsigned_abs up.degrees / 7));
+}
 
 -- the reduced size
 abbrev pub reduced : Interval → Interval
@@ -42,8 +45,10 @@ is_perfect_size i = has_size 0 0 (reduced i) || has_size 4 7 (reduced i)
 
 -- third or sixth
 abbrev pub is_imperfect_size : Interval → Bool
-is_imperfect_size i = has_size 2 3 (reduced i) || has_size 2 4 (reduced i) || has_size 5 8 (reduced i) || has_size 5 9 (reduced i)
+is_imperfect_size i =
+    has_size 2 3 (reduced i) || has_size 2 4 (reduced i) || has_size 5 8 (reduced i) || has_size 5 9 (reduced i)
 
 -- consonant, where one of the two voices is the lowest, or where neither is
 abbrev pub is_consonant_size : Interval → Bool → Bool
-is_consonant_size i lowest = is_perfect_size i || is_imperfect_size i || (if lowest then false else (has_size 3 5 (reduced i) || has_size 3 6 (reduced i) || has_size 4 6 (reduced i)))
+is_consonant_size i lowest = is_perfect_size i || is_imperfect_size i
+    || (if lowest then false else (has_size 3 5 (reduced i) || has_size 3 6 (reduced i) || has_size 4 6 (reduced i)))

@@ -14,9 +14,11 @@ use Rattle.fux_port.specs.MemShelf.{named_files, file_at}
 
 -- a look-up of a name
 pub lookup-named_files : {Y : Type 0} (name : List ℕ) (entries : List (String Y × List ℕ))
-    → lookup (bytes_eq name) (named_files entries) ≡ lookup (λ k. is_at (slice_cmp nat_cmp name) (string_bytes k)) entries
+    → lookup (bytes_eq name) (named_files entries)
+    ≡ lookup (λ k. is_at (slice_cmp nat_cmp name) (string_bytes k)) entries
 lookup-named_files name [] = refl
-lookup-named_files name (e ∷ entries) = rw (← is_eq-slice_cmp name (string_bytes e.0), lookup-named_files name entries) refl
+lookup-named_files name (e ∷ entries) =
+    rw (← is_eq-slice_cmp name (string_bytes e.0), lookup-named_files name entries) refl
 
 pub file_at-named_files : {Y : Type 0} (files : BTreeMap (String Y) (List ℕ)) (name : List ℕ)
     → file_at (named_files files.entries) name ≡ get_by_text files name
@@ -25,9 +27,11 @@ file_at-named_files files name = lookup-named_files name files.entries
 -- a look-up after a file was put under a name
 pub file_at-put : {Y : Type 0} (old new : BTreeMap (String Y) (List ℕ)) (name file : List ℕ)
     → UpdatesBy string_cmp (λ k. slice_cmp nat_cmp name (string_bytes k)) old new (Some file)
-    → (other : List ℕ) → file_at (named_files new.entries) other ≡ cond (bytes_eq name other) (Some file) (file_at (named_files old.entries) other)
+    → (other : List ℕ) → file_at (named_files new.entries) other
+    ≡ cond (bytes_eq name other) (Some file) (file_at (named_files old.entries) other)
 file_at-put old new name file updates other =
-    rw (file_at-named_files new other, file_at-named_files old other) (btree_map_updates_text name old new (Some file) updates other)
+    rw (file_at-named_files new other, file_at-named_files old other)
+    (btree_map_updates_text name old new (Some file) updates other)
 
 -- what was put is found
 pub file_at-put_same : {Y : Type 0} (old new : BTreeMap (String Y) (List ℕ)) (name file : List ℕ)
@@ -40,7 +44,8 @@ file_at-put_same old new name file updates =
 -- what was not put is found as before
 pub file_at-put_other : {Y : Type 0} (old new : BTreeMap (String Y) (List ℕ)) (name file : List ℕ)
     → UpdatesBy string_cmp (λ k. slice_cmp nat_cmp name (string_bytes k)) old new (Some file)
-    → (other : List ℕ) → other ≢ name → file_at (named_files new.entries) other ≡ file_at (named_files old.entries) other
+    → (other : List ℕ) → other ≢ name → file_at (named_files new.entries) other
+    ≡ file_at (named_files old.entries) other
 file_at-put_other old new name file updates other apart =
     file_at-put old new name file updates other
     ∙ ap (λ b. cond b (Some file) (file_at (named_files old.entries) other))

@@ -23,7 +23,8 @@ stops_after old new first next stop = record {
 
 -- a piece after the front that was read
 pub starts_with_more : (file front buf rest : List ℕ) (at count : ℕ) → at ≡ length front → count ≤ length buf
-    → StartsWith file front → StartsWith (drop at file) (take count buf) → StartsWith file (front ++ take count (buf ++ rest))
+    → StartsWith file front → StartsWith (drop at file) (take count buf)
+    → StartsWith file (front ++ take count (buf ++ rest))
 starts_with_more file front buf rest at count here fits p q =
     let piece = take count buf in
     let next : take (length piece) (drop (length front) file) ≡ piece = rw (← here) q in
@@ -37,4 +38,10 @@ whole_front file front p long = sym p ∙ take_all (length front) file long
 pub past_limit : (file buf : List ℕ) (at count limit : ℕ) → count ≤ length buf → limit - at < count
     → StartsWith (drop at file) (take count buf) → limit < length file
 past_limit file buf at count limit fits past placed =
-    omega (arith, starts_with_length (drop at file) (take count buf) placed, length-take-le count buf fits, length-drop at file)
+    omega (
+      arith,
+      starts_with_length (drop at file) (take count buf) placed,
+      length-take-le count buf fits,
+      length-drop
+          at file,
+    )

@@ -41,7 +41,8 @@ use Rattle.fux_run.specs.Texts.{IsTheText, ReadsText, Work}
 within : (bytes : List ℕ) → (1073741824 < length bytes → ⊥) → length bytes ≤ 1073741824
 within bytes short = elim (leb_tells (length bytes) 1073741824) [ inl few ↦ few.1 | inr many ↦ absurd (short many.1) ]
 
-module _ (ex : Exercise) (sheet : Sheet) (head : CertHead) (verdict : Verdict) (valid : IsValid ex) (holds : Holds ex sheet head)
+module _ (ex : Exercise) (sheet : Sheet) (head : CertHead) (verdict : Verdict) (valid : IsValid ex)
+    (holds : Holds ex sheet head)
     (cut : Type 0) (old new : Option (List ℕ)) where
   its_certificate : IsCertificateOf ex sheet head (written_certificate ex sheet head)
   its_certificate = record {
@@ -52,15 +53,22 @@ module _ (ex : Exercise) (sheet : Sheet) (head : CertHead) (verdict : Verdict) (
   abbrev whole : Work
   whole = Ok record { verdict = verdict; bytes = written_certificate ex sheet head }
 
-  pub all_written : (1073741824 < length (written_certificate ex sheet head) → ⊥) → new ≡ appended old (written_certificate ex sheet head)
+  pub all_written : (1073741824 < length (written_certificate ex sheet head) → ⊥) → new
+      ≡ appended old (written_certificate ex sheet head)
       → Writes (CertifiesHead ex sheet head verdict) cut old new (Ok verdict)
   all_written short all = record {
     work = whole;
     made = (refl, its_certificate, within (written_certificate ex sheet head) short);
-    holds = record { output = record { verdict = verdict; bytes = written_certificate ex sheet head }; is = refl; verdict = refl; written = all };
+    holds = record {
+      output = record { verdict = verdict; bytes = written_certificate ex sheet head };
+      is = refl;
+      verdict = refl;
+      written = all;
+    };
   }
 
-  pub part_written : (1073741824 < length (written_certificate ex sheet head) → ⊥) → cut → StopsShort old new (written_certificate ex sheet head)
+  pub part_written : (1073741824 < length (written_certificate ex sheet head) → ⊥) → cut
+      → StopsShort old new (written_certificate ex sheet head)
       → Writes (CertifiesHead ex sheet head verdict) cut old new (Err halt.Unwritable)
   part_written short rose part = (
     rose,
@@ -72,13 +80,15 @@ module _ (ex : Exercise) (sheet : Sheet) (head : CertHead) (verdict : Verdict) (
   )
 
   pub too_long : 1073741824 < length (written_certificate ex sheet head) → new ≡ old
-      → Writes (CertifiesHead ex sheet head verdict) cut old new (Err (halt.Stopped (stop.Refused refusal.LongCertificate)))
+      → Writes (CertifiesHead ex sheet head verdict) cut old new
+      (Err (halt.Stopped (stop.Refused refusal.LongCertificate)))
   too_long long none = (none, (its_certificate, long))
 
 -- what is written so is written of other work too, where all of the one is of the other
 pub writes_so : (Made Made' : Work → Type 0) (cut : Type 0) (old new : Option (List ℕ)) (result : Result Verdict Halt)
     → ((work : Work) → Made work → Made' work) → Writes Made cut old new result → Writes Made' cut old new result
-writes_so Made Made' cut old new (Ok verdict) so wrote = record { work = wrote.work; made = so wrote.work wrote.made; holds = wrote.holds }
+writes_so Made Made' cut old new (Ok verdict) so wrote =
+    record { work = wrote.work; made = so wrote.work wrote.made; holds = wrote.holds }
 writes_so Made Made' cut old new (Err (halt.Stopped (stop.Refused said))) so wrote = (wrote.0, so (Err said) wrote.1)
 writes_so Made Made' cut old new (Err (halt.Stopped stop.Memory)) so wrote = wrote
 writes_so Made Made' cut old new (Err halt.Unwritable) so wrote =
@@ -127,7 +137,8 @@ module _ (budget : ℕ) (sheet : Sheet) (ex : Exercise) (narrow : IsNarrow ex) w
   of_none none (Err (refusal.Sheet fault)) made = absurd made
   of_none none (Err (refusal.Midi fault)) made = absurd made
 
-  pub of_bound : (bound : ℕ) → IsBound ex sheet budget bound → (work : Work) → IsBoundText bound work → Certifies budget sheet ex work
+  pub of_bound : (bound : ℕ) → IsBound ex sheet budget bound → (work : Work) → IsBoundText bound work
+      → Certifies budget sheet ex work
   of_bound bound is (Ok output) made = record {
     narrow = narrow;
     shows = rw made.0 record { bound = bound; is_bound = is; spelled = made.1 };
@@ -137,17 +148,22 @@ module _ (budget : ℕ) (sheet : Sheet) (ex : Exercise) (narrow : IsNarrow ex) w
 
 -- what is written of a space that was searched is written of its exercise
 module _ (budget : ℕ) (sheet : Sheet) (ex : Exercise) (space : Searched) where
-  pub none_certified : (cut : Type 0) (old new : Option (List ℕ)) (result : Result Verdict Halt) → IsSpaceOf ex sheet space
+  pub none_certified : (cut : Type 0) (old new : Option (List ℕ)) (result : Result Verdict Halt)
+      → IsSpaceOf ex sheet space
       → IsFound space.exercise space.sheet budget found.Nothing
-      → Writes (CertifiesHead space.exercise space.sheet Nothing Unfavorable) cut old new result → Writes (Certifies budget sheet ex) cut old new result
+      → Writes (CertifiesHead space.exercise space.sheet Nothing Unfavorable) cut old new result
+      → Writes (Certifies budget sheet ex) cut old new result
   none_certified cut old new result is =
       subst
-      (λ s. IsFound s.exercise s.sheet budget found.Nothing → Writes (CertifiesHead s.exercise s.sheet Nothing Unfavorable) cut old new result
+      (λ s. IsFound s.exercise s.sheet budget found.Nothing
+      → Writes (CertifiesHead s.exercise s.sheet Nothing Unfavorable) cut old new result
       → Writes (Certifies budget sheet ex) cut old new result)
       (sym is.0)
-      (λ none. writes_so (CertifiesHead ex sheet Nothing Unfavorable) (Certifies budget sheet ex) cut old new result (of_none budget sheet ex is.1 none))
+      (λ none. writes_so (CertifiesHead ex sheet Nothing Unfavorable) (Certifies budget sheet ex) cut old new result
+      (of_none budget sheet ex is.1 none))
 
-  pub bound_told : (bound : ℕ) (cut : Type 0) (old new : Option (List ℕ)) (result : Result Verdict Halt) → IsSpaceOf ex sheet space
+  pub bound_told : (bound : ℕ) (cut : Type 0) (old new : Option (List ℕ)) (result : Result Verdict Halt)
+      → IsSpaceOf ex sheet space
       → IsFound space.exercise space.sheet budget (found.Spent bound)
       → Writes (IsBoundText bound) cut old new result → Writes (Certifies budget sheet ex) cut old new result
   bound_told bound cut old new result is =
@@ -155,14 +171,20 @@ module _ (budget : ℕ) (sheet : Sheet) (ex : Exercise) (space : Searched) where
       (λ s. IsFound s.exercise s.sheet budget (found.Spent bound) → Writes (IsBoundText bound) cut old new result
       → Writes (Certifies budget sheet ex) cut old new result)
       (sym is.0)
-      (λ told. writes_so (IsBoundText bound) (Certifies budget sheet ex) cut old new result (of_bound budget sheet ex is.1 bound told))
+      (λ told. writes_so (IsBoundText bound) (Certifies budget sheet ex) cut old new result
+      (of_bound budget sheet ex is.1 bound told))
 
 pub bound_written : (bound : ℕ) (cut : Type 0) (old new : Option (List ℕ)) → new ≡ appended old (bound_line bound)
     → Writes (IsBoundText bound) cut old new (Ok Spent)
 bound_written bound cut old new all = record {
   work = Ok record { verdict = Spent; bytes = bound_line bound };
   made = (refl, refl);
-  holds = record { output = record { verdict = Spent; bytes = bound_line bound }; is = refl; verdict = refl; written = all };
+  holds = record {
+    output = record { verdict = Spent; bytes = bound_line bound };
+    is = refl;
+    verdict = refl;
+    written = all;
+  };
 }
 
 pub bound_part : (bound : ℕ) (cut : Type 0) (old new : Option (List ℕ)) → cut → StopsShort old new (bound_line bound)
@@ -178,28 +200,46 @@ bound_part bound cut old new rose part = (
 
 -- ---- how the run of it ends
 
-does_works : (task : Task) (files : Files) (bytes : List (List ℕ)) (Holds : Work → Type 0) → AllMayHave files (names_in task) bytes
+does_works : (task : Task) (files : Files) (bytes : List (List ℕ)) (Holds : Work → Type 0)
+    → AllMayHave files (names_in task) bytes
     → Does (Makes task files bytes) Holds → Works task files Holds
-does_works task files bytes Holds had does = record { bytes = bytes; had = had; work = does.work; made = does.made; holds = does.holds }
+does_works task files bytes Holds had does =
+    record { bytes = bytes; had = had; work = does.work; made = does.made; holds = does.holds }
 
 pub ended_said : (task : Task) (files : Files) (rose cut : Type 0) (contents : List Content) (old new : Option (List ℕ))
-    (answer : Result Verdict Halt) (told : Result Verdict Complaint) → AreRead (limit_in task) files (names_in task) contents
-    → ((bytes : List (List ℕ)) → AreContents (limit_in task) contents bytes → Writes (Makes task files bytes) cut old new answer)
+    (answer : Result Verdict Halt) (told : Result Verdict Complaint)
+    → AreRead (limit_in task) files (names_in task) contents
+    → ((bytes : List (List ℕ)) → AreContents (limit_in task) contents bytes
+    → Writes (Makes task files bytes) cut old new answer)
     → SaysWritten (name_in task) answer told → Ended task files rose cut old new told
 ended_said task files rose cut contents old new (Ok verdict) told read wrote says =
     let known = have_bytes (limit_in task) files (names_in task) contents read in
     rw says (does_works task files known.bytes (IsWritten old new verdict) known.had (wrote known.bytes known.content))
-ended_said task files rose cut contents old new (Err (halt.Stopped (stop.Refused refusal))) (Err (Refused text)) read wrote says =
+ended_said task files rose cut contents old new (Err (halt.Stopped (stop.Refused refusal))) (Err (Refused text)) read
+    wrote says =
     let known = have_bytes (limit_in task) files (names_in task) contents read in
-    let none = wrote known.bytes known.content in
-    (none.0, record { bytes = known.bytes; had = known.had; work = Err refusal; made = none.1; holds = record { refusal = refusal; is = refl; told = says } })
-ended_said task files rose cut contents old new (Err (halt.Stopped (stop.Refused refusal))) (Err OutOfMemory) read wrote says =
+    let none = wrote known.bytes known.content in (
+      none.0,
+      record {
+        bytes = known.bytes;
+        had = known.had;
+        work = Err refusal;
+        made = none.1;
+        holds = record { refusal = refusal; is = refl; told = says };
+      },
+    )
+ended_said task files rose cut contents old new (Err (halt.Stopped (stop.Refused refusal))) (Err OutOfMemory) read wrote
+    says =
     let known = have_bytes (limit_in task) files (names_in task) contents read in
     (wrote known.bytes known.content).0
-ended_said task files rose cut contents old new (Err (halt.Stopped (stop.Refused refusal))) (Err Usage) read wrote says = absurd says
-ended_said task files rose cut contents old new (Err (halt.Stopped (stop.Refused refusal))) (Err (Unreadable name)) read wrote says = absurd says
-ended_said task files rose cut contents old new (Err (halt.Stopped (stop.Refused refusal))) (Err Unwritable) read wrote says = absurd says
-ended_said task files rose cut contents old new (Err (halt.Stopped (stop.Refused refusal))) (Ok verdict) read wrote says = absurd says
+ended_said task files rose cut contents old new (Err (halt.Stopped (stop.Refused refusal))) (Err Usage) read wrote
+    says = absurd says
+ended_said task files rose cut contents old new (Err (halt.Stopped (stop.Refused refusal))) (Err (Unreadable name)) read
+    wrote says = absurd says
+ended_said task files rose cut contents old new (Err (halt.Stopped (stop.Refused refusal))) (Err Unwritable) read wrote
+    says = absurd says
+ended_said task files rose cut contents old new (Err (halt.Stopped (stop.Refused refusal))) (Ok verdict) read wrote
+    says = absurd says
 ended_said task files rose cut contents old new (Err (halt.Stopped stop.Memory)) told read wrote says =
     let known = have_bytes (limit_in task) files (names_in task) contents read in
     rw says (wrote known.bytes known.content)
@@ -208,30 +248,42 @@ ended_said task files rose cut contents old new (Err halt.Unwritable) told read 
     let part = wrote known.bytes known.content in
     rw says (part.0, does_works task files known.bytes (λ work. StopsShort old new (work_output work)) known.had part.1)
 
-pub of_texts : (files : Files) (name : List ℕ) (sheet : Option (List ℕ)) (budget : ℕ) (text : Content) (weights : Option Content) (cut : Type 0)
+pub of_texts : (files : Files) (name : List ℕ) (sheet : Option (List ℕ)) (budget : ℕ) (text : Content)
+    (weights : Option Content) (cut : Type 0)
     (old new : Option (List ℕ)) (answer : Result Verdict Halt)
-    → ((bytes : List ℕ) (sheets : List (List ℕ)) → IsContent 65536 text bytes → AreContents 65536 (as_list weights) sheets
+    → ((bytes : List ℕ) (sheets : List (List ℕ)) → IsContent 65536 text bytes
+    → AreContents 65536 (as_list weights) sheets
     → Writes (CertifiesText budget sheets bytes) cut old new answer)
-    → (all : List (List ℕ)) → AreContents 65536 (text ∷ as_list weights) all → Writes (Makes (certify name sheet budget) files all) cut old new answer
-of_texts files name sheet budget text weights cut old new answer wrote (bytes ∷ sheets) content = wrote bytes sheets content.0 content.1
+    → (all : List (List ℕ)) → AreContents 65536 (text ∷ as_list weights) all
+    → Writes (Makes (certify name sheet budget) files all) cut old new answer
+of_texts files name sheet budget text weights cut old new answer wrote (bytes ∷ sheets) content =
+    wrote bytes sheets content.0 content.1
 of_texts files name sheet budget text weights cut old new answer wrote [] content = absurd content
 
 -- ---- the texts of an exercise and of a sheet
 
 pub no_text : (budget : ℕ) (sheets : List (List ℕ)) (bytes : List ℕ) (cut : Type 0) (old : Option (List ℕ)) (why : Stop)
     → ReadsText bytes (Err why) → Writes (CertifiesText budget sheets bytes) cut old old (Err (halt.Stopped why))
-no_text budget sheets bytes cut old (stop.Refused said) reads = (refl, inr record { refusal = said; is = refl; cause = reads })
+no_text budget sheets bytes cut old (stop.Refused said) reads =
+    (refl, inr record { refusal = said; is = refl; cause = reads })
 no_text budget sheets bytes cut old stop.Memory reads = refl
 
-pub no_sheet : (budget : ℕ) (sheets : List (List ℕ)) (bytes : List ℕ) (ex : Exercise) (cut : Type 0) (old : Option (List ℕ)) (why : Stop)
-    → IsTheText bytes ex → ReadsSheet sheets (Err why) → Writes (CertifiesText budget sheets bytes) cut old old (Err (halt.Stopped why))
+pub no_sheet : (budget : ℕ) (sheets : List (List ℕ)) (bytes : List ℕ) (ex : Exercise) (cut : Type 0)
+    (old : Option (List ℕ)) (why : Stop)
+    → IsTheText bytes ex → ReadsSheet sheets (Err why)
+    → Writes (CertifiesText budget sheets bytes) cut old old (Err (halt.Stopped why))
 no_sheet budget sheets bytes ex cut old (stop.Refused said) text reads =
     (refl, inl record { exercise = ex; text = text; made = inr record { refusal = said; is = refl; cause = reads } })
 no_sheet budget sheets bytes ex cut old stop.Memory text reads = refl
 
 pub of_sheet : (budget : ℕ) (sheets : List (List ℕ)) (bytes : List ℕ) (ex : Exercise) (sheet : Sheet) (cut : Type 0)
     (old new : Option (List ℕ)) (answer : Result Verdict Halt) → IsTheText bytes ex → sheet_said sheets ≡ Ok sheet
-    → Writes (Certifies budget sheet ex) cut old new answer → Writes (CertifiesText budget sheets bytes) cut old new answer
+    → Writes (Certifies budget sheet ex) cut old new answer
+    → Writes (CertifiesText budget sheets bytes) cut old new answer
 of_sheet budget sheets bytes ex sheet cut old new answer text said =
     writes_so (Certifies budget sheet ex) (CertifiesText budget sheets bytes) cut old new answer
-    (λ work made. inl record { exercise = ex; text = text; made = inl record { sheet = sheet; said = said; made = made } })
+    (λ work made. inl record {
+      exercise = ex;
+      text = text;
+      made = inl record { sheet = sheet; said = said; made = made };
+    })

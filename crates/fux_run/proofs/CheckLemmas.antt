@@ -52,11 +52,14 @@ module _ (ex : Exercise) (sheet : Sheet) (files : Files) (name : List ℕ) (outp
     told = e ∙ ap (λ a. told (Accepted a)) found.finds.0;
     holds = found.shown answer refl;
   }
-  only_valid (Claim refused) found e good = let no : Unfavorable ≡ Favorable = sym (ap (λ (o : Output). o.verdict) e) ∙ good in cc
-  only_valid (Text fault) found e good = let no : Unfavorable ≡ Favorable = sym (ap (λ (o : Output). o.verdict) e) ∙ good in cc
+  only_valid (Claim refused) found e good =
+      let no : Unfavorable ≡ Favorable = sym (ap (λ (o : Output). o.verdict) e) ∙ good in cc
+  only_valid (Text fault) found e good =
+      let no : Unfavorable ≡ Favorable = sym (ap (λ (o : Output). o.verdict) e) ∙ good in cc
 
   pub checked : (it : CertVerdict) → IsNarrow ex → Judges ex sheet files name it
-      → ((head : CertHead) → cert.AcceptsValid ex sheet head files name it) → output ≡ told it → IsChecked files name sheet ex output
+      → ((head : CertHead) → cert.AcceptsValid ex sheet head files name it) → output ≡ told it
+      → IsChecked files name sheet ex output
   checked it narrow judges accepts e = record {
     narrow = narrow;
     said = it;
@@ -70,10 +73,12 @@ module _ (ex : Exercise) (sheet : Sheet) (files : Files) (name : List ℕ) (outp
 
 -- ---- the file of a verdict isn't missing
 
-may_be_there : (files : Files) (name : List ℕ) (Such : List ℕ → Type 0) → MayBe files name Such → IsMissing files name → ⊥
+may_be_there : (files : Files) (name : List ℕ) (Such : List ℕ → Type 0) → MayBe files name Such → IsMissing files name
+    → ⊥
 may_be_there files name Such found missing = not_missing files name found.bytes found.had missing
 
-judged_is_there : (ex : Exercise) (sheet : Sheet) (files : Files) (name : List ℕ) (it : CertVerdict) → Judges ex sheet files name it
+judged_is_there : (ex : Exercise) (sheet : Sheet) (files : Files) (name : List ℕ) (it : CertVerdict)
+    → Judges ex sheet files name it
     → IsMissing files name → ⊥
 judged_is_there ex sheet files name (Accepted answer) found missing = may_be_there files name _ found.finds.1 missing
 judged_is_there ex sheet files name (Claim refused) found missing = may_be_there files name _ found.finds missing
@@ -108,16 +113,22 @@ output_is_there (drill number) files name bytes output made one missing = omega 
 pub written_is_there : (task : Task) (files : Files) (name : List ℕ) (old new : Option (List ℕ)) (verdict : Verdict)
     → Works task files (IsWritten old new verdict) → Contains (names_within task) name → IsMissing files name → ⊥
 written_is_there task files name old new verdict on one missing =
-    output_is_there task files name on.bytes on.holds.output (subst (Makes task files on.bytes) on.holds.is on.made) one missing
+    output_is_there task files name on.bytes on.holds.output (subst (Makes task files on.bytes) on.holds.is on.made) one
+    missing
 
-short_is_there : (task : Task) (files : Files) (name : List ℕ) (old new : Option (List ℕ)) (bytes : List (List ℕ)) (work : Work)
-    → Makes task files bytes work → StopsShort old new (work_output work) → Contains (names_within task) name → IsMissing files name → ⊥
-short_is_there task files name old new bytes (Ok output) made short one missing = output_is_there task files name bytes output made one missing
+short_is_there : (task : Task) (files : Files) (name : List ℕ) (old new : Option (List ℕ)) (bytes : List (List ℕ))
+    (work : Work)
+    → Makes task files bytes work → StopsShort old new (work_output work) → Contains (names_within task) name
+    → IsMissing files name → ⊥
+short_is_there task files name old new bytes (Ok output) made short one missing =
+    output_is_there task files name bytes output made one missing
 short_is_there task files name old new bytes (Err refusal) made short one missing = omega (arith, short.short)
 
 pub part_is_there : (task : Task) (files : Files) (name : List ℕ) (old new : Option (List ℕ))
-    → Works task files (λ work. StopsShort old new (work_output work)) → Contains (names_within task) name → IsMissing files name → ⊥
-part_is_there task files name old new on one missing = short_is_there task files name old new on.bytes on.work on.made on.holds one missing
+    → Works task files (λ work. StopsShort old new (work_output work)) → Contains (names_within task) name
+    → IsMissing files name → ⊥
+part_is_there task files name old new on one missing =
+    short_is_there task files name old new on.bytes on.work on.made on.holds one missing
 
 -- ---- what is made of the files
 
@@ -134,16 +145,21 @@ module _ (name certificate : List ℕ) (sheet : Option (List ℕ)) (files : File
   task = check name certificate sheet
 
   -- the shelf that tells the files of the certificate tells the same ones
-  pub of_check : (later_files : Files) (later : Type 0) (text : Content) (weights : Option Content) (answer : Result Output Unmade)
+  pub of_check : (later_files : Files) (later : Type 0) (text : Content) (weights : Option Content)
+      (answer : Result Output Unmade)
       → later_files ≡ files → (later → rose)
-      → ((bytes : List ℕ) (sheets : List (List ℕ)) → IsContent 65536 text bytes → AreContents 65536 (as_list weights) sheets
-      → AnswersWithin (ChecksText later_files certificate sheets bytes) (IsReadyText sheets bytes × (later ⊎ IsMissing later_files certificate)) answer)
+      → ((bytes : List ℕ) (sheets : List (List ℕ)) → IsContent 65536 text bytes
+      → AreContents 65536 (as_list weights) sheets
+      → AnswersWithin (ChecksText later_files certificate sheets bytes)
+      (IsReadyText sheets bytes × (later ⊎ IsMissing later_files certificate)) answer)
       → (all : List (List ℕ)) → AreContents 65536 (text ∷ as_list weights) all
       → AnswersWithin (Makes task files all) (IsReadyFor task all × (rose ⊎ IsMissing files certificate)) answer
   of_check later_files later text weights answer same so made [] content = absurd content
   of_check later_files later text weights answer same so made (bytes ∷ sheets) content =
-      more_rose (Makes task files (bytes ∷ sheets)) (IsReadyText sheets bytes) (IsMissing files certificate) later rose answer so
-      (subst (λ told. AnswersWithin (ChecksText told certificate sheets bytes) (IsReadyText sheets bytes × (later ⊎ IsMissing told certificate)) answer)
+      more_rose (Makes task files (bytes ∷ sheets)) (IsReadyText sheets bytes) (IsMissing files certificate) later rose
+      answer so
+      (subst (λ told. AnswersWithin (ChecksText told certificate sheets bytes)
+      (IsReadyText sheets bytes × (later ⊎ IsMissing told certificate)) answer)
       same (made bytes sheets content.0 content.1))
 
   pub checked_said : (contents : List Content) (answer : Result Output Unmade) (told : Result Output Complaint)
@@ -154,10 +170,12 @@ module _ (name certificate : List ℕ) (sheet : Option (List ℕ)) (files : File
   checked_said contents (Ok output) told read made says =
       rw says (works_on task files contents (Ok output) (λ work. work ≡ Ok output) read made refl)
   checked_said contents (Err (unmade.Stopped (stop.Refused refusal))) (Err (Refused text)) read made says =
-      works_on task files contents (Err refusal) (IsRefused name text) read made record { refusal = refusal; is = refl; told = says }
+      works_on task files contents (Err refusal) (IsRefused name text) read made record
+      { refusal = refusal; is = refl; told = says }
   checked_said contents (Err (unmade.Stopped (stop.Refused refusal))) (Err OutOfMemory) read made says = tt
   checked_said contents (Err (unmade.Stopped (stop.Refused refusal))) (Err Usage) read made says = absurd says
-  checked_said contents (Err (unmade.Stopped (stop.Refused refusal))) (Err (Unreadable file)) read made says = absurd says
+  checked_said contents (Err (unmade.Stopped (stop.Refused refusal))) (Err (Unreadable file)) read made says =
+      absurd says
   checked_said contents (Err (unmade.Stopped (stop.Refused refusal))) (Err Unwritable) read made says = absurd says
   checked_said contents (Err (unmade.Stopped (stop.Refused refusal))) (Ok output) read made says = absurd says
   checked_said contents (Err (unmade.Stopped stop.Memory)) told read made says = rw says tt

@@ -60,12 +60,17 @@ made_said task files rose contents (Err stop.Memory) told read made says = rw sa
 
 -- ---- what the answers say of the lists of bytes
 
-pub of_two : (files : Files) (name : List ℕ) (sheet : Option (List ℕ)) (job : Job) (text : Content) (weights : Option Content) (answer : Result Output Stop)
-    → ((bytes : List ℕ) (sheets : List (List ℕ)) → IsContent 65536 text bytes → AreContents 65536 (as_list weights) sheets
+pub of_two : (files : Files) (name : List ℕ) (sheet : Option (List ℕ)) (job : Job) (text : Content)
+    (weights : Option Content) (answer : Result Output Stop)
+    → ((bytes : List ℕ) (sheets : List (List ℕ)) → IsContent 65536 text bytes
+    → AreContents 65536 (as_list weights) sheets
     → Answers (MakesOfText job sheets bytes) answer)
-    → (all : List (List ℕ)) → AreContents 65536 (text ∷ as_list weights) all → Answers (Makes (on_exercise name sheet job) files all) answer
-of_two files name sheet job text weights (Ok output) made (bytes ∷ sheets) content = made bytes sheets content.0 content.1
-of_two files name sheet job text weights (Err (stop.Refused refusal)) made (bytes ∷ sheets) content = made bytes sheets content.0 content.1
+    → (all : List (List ℕ)) → AreContents 65536 (text ∷ as_list weights) all
+    → Answers (Makes (on_exercise name sheet job) files all) answer
+of_two files name sheet job text weights (Ok output) made (bytes ∷ sheets) content =
+    made bytes sheets content.0 content.1
+of_two files name sheet job text weights (Err (stop.Refused refusal)) made (bytes ∷ sheets) content =
+    made bytes sheets content.0 content.1
 of_two files name sheet job text weights (Err stop.Memory) made all content = tt
 of_two files name sheet job text weights (Ok output) made [] content = absurd content
 of_two files name sheet job text weights (Err (stop.Refused refusal)) made [] content = absurd content
@@ -95,7 +100,8 @@ sheet_named = option_map (λ name. name.now)
 
 -- ---- files that can't be read
 
-second_missing : (files : Files) (first second file : List ℕ) (rose : Type 0) → file ≡ second → (IsMissing files first → ⊥)
+second_missing : (files : Files) (first second file : List ℕ) (rose : Type 0) → file ≡ second
+    → (IsMissing files first → ⊥)
     → rose ⊎ IsMissing files second → IsUnread files rose (first ∷ second ∷ []) file
 second_missing files first second file rose is here cause = record {
   asked = (1, omega arith, sym is);
@@ -103,20 +109,29 @@ second_missing files first second file rose is here cause = record {
 }
 
 -- the shelf that tells the files of the second read tells the same ones
-pub sheet_unread : (first : List ℕ) (sheet : Option (List ℕ)) (files later_files : Files) (rose later : Type 0) (limit : ℕ)
+pub sheet_unread : (first : List ℕ) (sheet : Option (List ℕ)) (files later_files : Files) (rose later : Type 0)
+    (limit : ℕ)
     (text : Content) (complaint : Complaint) (Tells : Complaint → Type 0)
-    → ((file : Bor (List ℕ)) → IsUnread files rose (first ∷ as_list sheet) file.now → Tells (Unreadable file)) → Tells OutOfMemory
+    → ((file : Bor (List ℕ)) → IsUnread files rose (first ∷ as_list sheet) file.now → Tells (Unreadable file))
+    → Tells OutOfMemory
     → IsRead limit files first text → later_files ≡ files → (later → rose)
     → ReadsSheetFile later_files later sheet (Err complaint) → Tells complaint
-sheet_unread first None files later_files rose later limit text complaint Tells unread memory read same so known = absurd known
-sheet_unread first (Some second) files later_files rose later limit text (Unreadable file) Tells unread memory read same so known =
+sheet_unread first None files later_files rose later limit text complaint Tells unread memory read same so known =
+    absurd known
+sheet_unread first (Some second) files later_files rose later limit text (Unreadable file) Tells unread memory read same
+    so known =
     unread file (second_missing files first second file.now rose known.0 (not_missing files first read.bytes read.had)
     (elim known.1 [ inl failed ↦ inl (so failed) | inr missing ↦ inr (rw same at missing) ]))
-sheet_unread first (Some second) files later_files rose later limit text OutOfMemory Tells unread memory read same so known = memory
-sheet_unread first (Some second) files later_files rose later limit text Usage Tells unread memory read same so known = absurd known
-sheet_unread first (Some second) files later_files rose later limit text (Refused said) Tells unread memory read same so known = absurd known
-sheet_unread first (Some second) files later_files rose later limit text Unwritable Tells unread memory read same so known = absurd known
+sheet_unread first (Some second) files later_files rose later limit text OutOfMemory Tells unread memory read same so
+    known = memory
+sheet_unread first (Some second) files later_files rose later limit text Usage Tells unread memory read same so known =
+    absurd known
+sheet_unread first (Some second) files later_files rose later limit text (Refused said) Tells unread memory read same so
+    known = absurd known
+sheet_unread first (Some second) files later_files rose later limit text Unwritable Tells unread memory read same so
+    known = absurd known
 
-pub read_same : (limit : ℕ) (files later_files : Files) (names : List (List ℕ)) (contents : List Content) → later_files ≡ files
+pub read_same : (limit : ℕ) (files later_files : Files) (names : List (List ℕ)) (contents : List Content) → later_files
+    ≡ files
     → AreRead limit later_files names contents → AreRead limit files names contents
 read_same limit files later_files names contents same read = subst (λ told. AreRead limit told names contents) same read

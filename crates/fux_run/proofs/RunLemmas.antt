@@ -36,31 +36,45 @@ done_not_stopped : (code : ℕ) → IsDone code → IsStopped code → ⊥
 done_not_stopped code done stopped = grind arith
 
 -- a run whose command ended so, with its status and its line
-pub record Ran (task : Task) (files : Files) (rose cut : Type 0) (old new : Option (List ℕ)) (result : Result Verdict Complaint)
+pub record Ran (task : Task) (files : Files) (rose cut : Type 0) (old new : Option (List ℕ))
+    (result : Result Verdict Complaint)
     (code : ℕ) (Complains : List ℕ → Type 0) : Type 0 where
   pub ended : Ended task files rose cut old new result
   pub status : code ≡ code_of (result_status result)
   pub told : Complains (result_line result)
 
-module _ (task : Task) (files : Files) (rose cut : Type 0) (old new : Option (List ℕ)) (code : ℕ) (Complains : List ℕ → Type 0) where
+module _ (task : Task) (files : Files) (rose cut : Type 0) (old new : Option (List ℕ)) (code : ℕ)
+    (Complains : List ℕ → Type 0) where
   done : (verdict : Verdict) → Ran task files rose cut old new (Ok verdict) code Complains → IsDone code
   done verdict ran = subst IsDone (sym ran.status) (verdict_is_done verdict)
 
-  pub ran_works : (result : Result Verdict Complaint) → Ran task files rose cut old new result code Complains → code ≢ 4 → code ≢ 7
+  pub ran_works : (result : Result Verdict Complaint) → Ran task files rose cut old new result code Complains → code ≢ 4
+      → code ≢ 7
       → Works task files (EndsAs (name_in task) code old new Complains)
-  ran_works (Ok verdict) ran read room = works_so task files (IsWritten old new verdict) (EndsAs (name_in task) code old new Complains)
-      (λ work on. rw on.is (inl (ran.status ∙ ap (λ v. code_of (verdict_status v)) (sym on.verdict), on.written, ran.told))) ran.ended
-  ran_works (Err (Refused text)) ran read room = works_so task files (IsRefused (name_in task) text) (EndsAs (name_in task) code old new Complains)
-      (λ work on. rw on.is (inl (ran.status, ran.ended.0 ∙ sym (appended-none old), rw (← on.told) ran.told))) ran.ended.1
-  ran_works (Err Unwritable) ran read room = works_so task files (λ work. StopsShort old new (work_output work)) (EndsAs (name_in task) code old new Complains)
+  ran_works (Ok verdict) ran read room =
+      works_so task files (IsWritten old new verdict) (EndsAs (name_in task) code old new Complains)
+      (λ work on. rw on.is (inl (
+        ran.status
+            ∙ ap (λ v. code_of (verdict_status v)) (sym on.verdict),
+        on.written,
+        ran.told,
+      ))) ran.ended
+  ran_works (Err (Refused text)) ran read room =
+      works_so task files (IsRefused (name_in task) text) (EndsAs (name_in task) code old new Complains)
+      (λ work on. rw on.is (inl (ran.status, ran.ended.0 ∙ sym (appended-none old), rw (← on.told) ran.told)))
+      ran.ended.1
+  ran_works (Err Unwritable) ran read room =
+      works_so task files (λ work. StopsShort old new (work_output work)) (EndsAs (name_in task) code old new Complains)
       (λ work short. inr (ran.status, short, ran.told)) ran.ended.1
   ran_works (Err (Unreadable name)) ran read room = absurd (read ran.status)
   ran_works (Err OutOfMemory) ran read room = absurd (room ran.status)
   ran_works (Err Usage) ran read room = absurd ran.ended
 
-  pub ran_unreadable : (result : Result Verdict Complaint) → Ran task files rose cut old new result code Complains → code ≡ 4
+  pub ran_unreadable : (result : Result Verdict Complaint) → Ran task files rose cut old new result code Complains
+      → code ≡ 4
       → EndsUnread task files rose Complains
-  ran_unreadable (Ok verdict) ran four = absurd (done_not_stopped 4 (rw four at (done verdict ran)) (inr (inr (inl refl))))
+  ran_unreadable (Ok verdict) ran four =
+      absurd (done_not_stopped 4 (rw four at (done verdict ran)) (inr (inr (inl refl))))
   ran_unreadable (Err (Unreadable name)) ran four = record { name = name.now; unread = ran.ended.1; told = ran.told }
   ran_unreadable (Err (Refused text)) ran four = cc (ran.status, four)
   ran_unreadable (Err Unwritable) ran four = cc (ran.status, four)
@@ -69,23 +83,29 @@ module _ (task : Task) (files : Files) (rose cut : Type 0) (old new : Option (Li
 
   pub ran_missing : (result : Result Verdict Complaint) → Ran task files rose cut old new result code Complains
       → (name : List ℕ) → Contains (names_in task) name → IsMissing files name → code ≢ 7 → code ≡ 4
-  ran_missing (Ok verdict) ran name one missing room = absurd (none_missing task files (IsWritten old new verdict) name ran.ended one missing)
-  ran_missing (Err (Refused text)) ran name one missing room = absurd (none_missing task files (IsRefused (name_in task) text) name ran.ended.1 one missing)
-  ran_missing (Err Unwritable) ran name one missing room = absurd (none_missing task files (λ work. StopsShort old new (work_output work)) name ran.ended.1 one missing)
+  ran_missing (Ok verdict) ran name one missing room =
+      absurd (none_missing task files (IsWritten old new verdict) name ran.ended one missing)
+  ran_missing (Err (Refused text)) ran name one missing room =
+      absurd (none_missing task files (IsRefused (name_in task) text) name ran.ended.1 one missing)
+  ran_missing (Err Unwritable) ran name one missing room =
+      absurd (none_missing task files (λ work. StopsShort old new (work_output work)) name ran.ended.1 one missing)
   ran_missing (Err (Unreadable file)) ran name one missing room = ran.status
   ran_missing (Err OutOfMemory) ran name one missing room = absurd (room ran.status)
   ran_missing (Err Usage) ran name one missing room = absurd ran.ended
 
   pub ran_missing_within : (result : Result Verdict Complaint) → Ran task files rose cut old new result code Complains
       → (name : List ℕ) → Contains (names_within task) name → IsMissing files name → code ≢ 7 → (code ≡ 4) ⊎ (code ≡ 3)
-  ran_missing_within (Ok verdict) ran name one missing room = absurd (written_is_there task files name old new verdict ran.ended one missing)
+  ran_missing_within (Ok verdict) ran name one missing room =
+      absurd (written_is_there task files name old new verdict ran.ended one missing)
   ran_missing_within (Err (Refused text)) ran name one missing room = inr ran.status
-  ran_missing_within (Err Unwritable) ran name one missing room = absurd (part_is_there task files name old new ran.ended.1 one missing)
+  ran_missing_within (Err Unwritable) ran name one missing room =
+      absurd (part_is_there task files name old new ran.ended.1 one missing)
   ran_missing_within (Err (Unreadable file)) ran name one missing room = inl ran.status
   ran_missing_within (Err OutOfMemory) ran name one missing room = absurd (room ran.status)
   ran_missing_within (Err Usage) ran name one missing room = absurd ran.ended
 
-  pub ran_of_form : (result : Result Verdict Complaint) → Ran task files rose cut old new result code Complains → code ≢ 2
+  pub ran_of_form : (result : Result Verdict Complaint) → Ran task files rose cut old new result code Complains
+      → code ≢ 2
   ran_of_form (Ok verdict) ran two = done_is_none 2 Usage (rw two at (done verdict ran)) refl
   ran_of_form (Err (Refused text)) ran two = cc (ran.status, two)
   ran_of_form (Err (Unreadable name)) ran two = cc (ran.status, two)
@@ -93,7 +113,8 @@ module _ (task : Task) (files : Files) (rose cut : Type 0) (old new : Option (Li
   ran_of_form (Err OutOfMemory) ran two = cc (ran.status, two)
   ran_of_form (Err Usage) ran two = ran.ended
 
-  pub ran_unwritable : (result : Result Verdict Complaint) → Ran task files rose cut old new result code Complains → code ≡ 5
+  pub ran_unwritable : (result : Result Verdict Complaint) → Ran task files rose cut old new result code Complains
+      → code ≡ 5
       → cut × Complains (fux_line (codes "cannot write"))
   ran_unwritable (Ok verdict) ran five = absurd (done_is_none 5 Unwritable (rw five at (done verdict ran)) refl)
   ran_unwritable (Err Unwritable) ran five = (ran.ended.0, ran.told)
@@ -102,7 +123,8 @@ module _ (task : Task) (files : Files) (rose cut : Type 0) (old new : Option (Li
   ran_unwritable (Err OutOfMemory) ran five = cc (ran.status, five)
   ran_unwritable (Err Usage) ran five = absurd ran.ended
 
-  pub ran_memory : (result : Result Verdict Complaint) → Ran task files rose cut old new result code Complains → code ≡ 7
+  pub ran_memory : (result : Result Verdict Complaint) → Ran task files rose cut old new result code Complains → code
+      ≡ 7
       → Complains (fux_line (codes "out of memory"))
   ran_memory (Ok verdict) ran seven = absurd (done_is_none 7 OutOfMemory (rw seven at (done verdict ran)) refl)
   ran_memory (Err OutOfMemory) ran seven = ran.told
@@ -112,7 +134,8 @@ module _ (task : Task) (files : Files) (rose cut : Type 0) (old new : Option (Li
   ran_memory (Err Usage) ran seven = absurd ran.ended
 
   -- files that are there can be read where no read fails
-  unread_rose : (names : List (List ℕ)) (name : List ℕ) → All (λ n. (file : List ℕ) × HasFile files n file) names → (rose → ⊥)
+  unread_rose : (names : List (List ℕ)) (name : List ℕ) → All (λ n. (file : List ℕ) × HasFile files n file) names
+      → (rose → ⊥)
       → IsUnread files rose names name → ⊥
   unread_rose names name there reads unread =
       elim unread.cause [
@@ -138,7 +161,8 @@ module _ (task : Task) (files : Files) (rose cut : Type 0) (old new : Option (Li
         | inr later ↦ absurd (unread_rose (names_within task) name.now within reads later.unread)
       ]
 
-  pub ran_unwritten : (result : Result Verdict Complaint) → Ran task files rose cut old new result code Complains → IsStopped code → new ≡ old
+  pub ran_unwritten : (result : Result Verdict Complaint) → Ran task files rose cut old new result code Complains
+      → IsStopped code → new ≡ old
   ran_unwritten (Ok verdict) ran stopped = absurd (done_not_stopped code (done verdict ran) stopped)
   ran_unwritten (Err (Refused text)) ran stopped = ran.ended.0
   ran_unwritten (Err (Unreadable name)) ran stopped = ran.ended.0
@@ -149,14 +173,16 @@ module _ (task : Task) (files : Files) (rose cut : Type 0) (old new : Option (Li
       not_cut five stopped = grind arith
   ran_unwritten (Err Usage) ran stopped = absurd ran.ended
 
-  pub ran_silent : (result : Result Verdict Complaint) → Ran task files rose cut old new result code Complains → IsDone code → Complains []
+  pub ran_silent : (result : Result Verdict Complaint) → Ran task files rose cut old new result code Complains
+      → IsDone code → Complains []
   ran_silent (Ok verdict) ran is = ran.told
   ran_silent (Err complaint) ran is = absurd (done_is_none code complaint is ran.status)
 
 -- ---- the same of a run on any words
 
 -- a run on words that ask for this, or for nothing, with its status and its line
-pub record RanAs (found : Option Task) (files : Files) (rose cut : Type 0) (old new : Option (List ℕ)) (result : Result Verdict Complaint)
+pub record RanAs (found : Option Task) (files : Files) (rose cut : Type 0) (old new : Option (List ℕ))
+    (result : Result Verdict Complaint)
     (code : ℕ) (Complains : List ℕ → Type 0) : Type 0 where
   pub ended : EndedAs found files rose cut old new result
   pub status : code ≡ code_of (result_status result)
@@ -177,19 +203,24 @@ module _ (files : Files) (rose cut : Type 0) (old new : Option (List ℕ)) (code
       → RanAs found files rose cut old new result code Complains → Ran task files rose cut old new result code Complains
   of_task found task result is ran = record { ended = rw is at ran.ended; status = ran.status; told = ran.told }
 
-  some : (task : Task) (result : Result Verdict Complaint) → RanAs (Some task) files rose cut old new result code Complains
+  some : (task : Task) (result : Result Verdict Complaint)
+      → RanAs (Some task) files rose cut old new result code Complains
       → Ran task files rose cut old new result code Complains
   some task result ran = record { ended = ran.ended; status = ran.status; told = ran.told }
 
-  pub run_known : (found : Option Task) (result : Result Verdict Complaint) → RanAs found files rose cut old new result code Complains → code < 8
+  pub run_known : (found : Option Task) (result : Result Verdict Complaint)
+      → RanAs found files rose cut old new result code Complains → code < 8
   run_known found result ran = rw ran.status (code_is_small (result_status result))
 
-  pub run_usage : (found : Option Task) (result : Result Verdict Complaint) → RanAs found files rose cut old new result code Complains
+  pub run_usage : (found : Option Task) (result : Result Verdict Complaint)
+      → RanAs found files rose cut old new result code Complains
       → code ≡ 2 → found ≡ None
   run_usage None result ran two = refl
-  run_usage (Some task) result ran two = absurd (ran_of_form task files rose cut old new code Complains result (some task result ran) two)
+  run_usage (Some task) result ran two =
+      absurd (ran_of_form task files rose cut old new code Complains result (some task result ran) two)
 
-  pub run_form : (found : Option Task) (result : Result Verdict Complaint) → RanAs found files rose cut old new result code Complains
+  pub run_form : (found : Option Task) (result : Result Verdict Complaint)
+      → RanAs found files rose cut old new result code Complains
       → found ≡ None → code ≢ 7 → code ≡ 2
   run_form (Some task) result ran is room = cc
   run_form None (Err Usage) ran is room = ran.status
@@ -199,9 +230,11 @@ module _ (files : Files) (rose cut : Type 0) (old new : Option (List ℕ)) (code
   run_form None (Err (Unreadable name)) ran is room = absurd ran.ended.1
   run_form None (Err Unwritable) ran is room = absurd ran.ended.1
 
-  pub run_usage_line : (found : Option Task) (result : Result Verdict Complaint) → RanAs found files rose cut old new result code Complains
+  pub run_usage_line : (found : Option Task) (result : Result Verdict Complaint)
+      → RanAs found files rose cut old new result code Complains
       → code ≡ 2 → Complains (fux_line (codes "usage"))
-  run_usage_line (Some task) result ran two = absurd (ran_of_form task files rose cut old new code Complains result (some task result ran) two)
+  run_usage_line (Some task) result ran two =
+      absurd (ran_of_form task files rose cut old new code Complains result (some task result ran) two)
   run_usage_line None (Err Usage) ran two = ran.told
   run_usage_line None (Err OutOfMemory) ran two = cc (ran.status, two)
   run_usage_line None (Ok verdict) ran two = absurd ran.ended.1
@@ -209,9 +242,11 @@ module _ (files : Files) (rose cut : Type 0) (old new : Option (List ℕ)) (code
   run_usage_line None (Err (Unreadable name)) ran two = absurd ran.ended.1
   run_usage_line None (Err Unwritable) ran two = absurd ran.ended.1
 
-  pub run_memory_line : (found : Option Task) (result : Result Verdict Complaint) → RanAs found files rose cut old new result code Complains
+  pub run_memory_line : (found : Option Task) (result : Result Verdict Complaint)
+      → RanAs found files rose cut old new result code Complains
       → code ≡ 7 → Complains (fux_line (codes "out of memory"))
-  run_memory_line (Some task) result ran seven = ran_memory task files rose cut old new code Complains result (some task result ran) seven
+  run_memory_line (Some task) result ran seven =
+      ran_memory task files rose cut old new code Complains result (some task result ran) seven
   run_memory_line None (Err OutOfMemory) ran seven = ran.told
   run_memory_line None (Err Usage) ran seven = cc (ran.status, seven)
   run_memory_line None (Ok verdict) ran seven = absurd ran.ended.1
@@ -219,9 +254,11 @@ module _ (files : Files) (rose cut : Type 0) (old new : Option (List ℕ)) (code
   run_memory_line None (Err (Unreadable name)) ran seven = absurd ran.ended.1
   run_memory_line None (Err Unwritable) ran seven = absurd ran.ended.1
 
-  pub run_unwritable : (found : Option Task) (result : Result Verdict Complaint) → RanAs found files rose cut old new result code Complains
+  pub run_unwritable : (found : Option Task) (result : Result Verdict Complaint)
+      → RanAs found files rose cut old new result code Complains
       → code ≡ 5 → cut × Complains (fux_line (codes "cannot write"))
-  run_unwritable (Some task) result ran five = ran_unwritable task files rose cut old new code Complains result (some task result ran) five
+  run_unwritable (Some task) result ran five =
+      ran_unwritable task files rose cut old new code Complains result (some task result ran) five
   run_unwritable None (Err OutOfMemory) ran five = cc (ran.status, five)
   run_unwritable None (Err Usage) ran five = cc (ran.status, five)
   run_unwritable None (Ok verdict) ran five = absurd ran.ended.1
@@ -229,13 +266,17 @@ module _ (files : Files) (rose cut : Type 0) (old new : Option (List ℕ)) (code
   run_unwritable None (Err (Unreadable name)) ran five = absurd ran.ended.1
   run_unwritable None (Err Unwritable) ran five = absurd ran.ended.1
 
-  pub run_unwritten : (found : Option Task) (result : Result Verdict Complaint) → RanAs found files rose cut old new result code Complains
+  pub run_unwritten : (found : Option Task) (result : Result Verdict Complaint)
+      → RanAs found files rose cut old new result code Complains
       → IsStopped code → new ≡ old
-  run_unwritten (Some task) result ran stopped = ran_unwritten task files rose cut old new code Complains result (some task result ran) stopped
+  run_unwritten (Some task) result ran stopped =
+      ran_unwritten task files rose cut old new code Complains result (some task result ran) stopped
   run_unwritten None result ran stopped = ran.ended.0
 
-  pub run_silent : (found : Option Task) (result : Result Verdict Complaint) → RanAs found files rose cut old new result code Complains
+  pub run_silent : (found : Option Task) (result : Result Verdict Complaint)
+      → RanAs found files rose cut old new result code Complains
       → IsDone code → Complains []
-  run_silent (Some task) result ran is = ran_silent task files rose cut old new code Complains result (some task result ran) is
+  run_silent (Some task) result ran is =
+      ran_silent task files rose cut old new code Complains result (some task result ran) is
   run_silent None (Ok verdict) ran is = ran.told
   run_silent None (Err complaint) ran is = absurd (done_is_none code complaint is ran.status)

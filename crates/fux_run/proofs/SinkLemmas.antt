@@ -13,7 +13,8 @@ appended-none None = refl
 appended-none (Some taken) = ap Some (append-nil taken)
 
 -- a write that stopped short of the first bytes, of more
-pub stops_before : (old new : Option (List ℕ)) (first next : List ℕ) → StopsShort old new first → StopsShort old new (first ++ next)
+pub stops_before : (old new : Option (List ℕ)) (first next : List ℕ) → StopsShort old new first
+    → StopsShort old new (first ++ next)
 stops_before old new first next stop =
     let within : stop.count ≤ length first = omega (arith, stop.short) in
     record {
@@ -26,23 +27,32 @@ stops_before old new first next stop =
 pub gets_more : {S : Type 0} (written : S → Option (List ℕ)) (faults : S → ℕ) (old mid new : S) (first next : List ℕ)
     → written mid ≡ appended (written old) first → faults old ≤ faults mid
     → Gets written faults mid new next → Gets written faults old new (first ++ next)
-gets_more written faults old mid new first next wrote before (inl all) = inl (all ∙ (ap (λ told. appended told next) wrote ∙ appended-append (written old) first next))
+gets_more written faults old mid new first next wrote before (inl all) =
+    inl (all ∙ (ap (λ told. appended told next) wrote ∙ appended-append (written old) first next))
 gets_more written faults old mid new first next wrote before (inr part) =
-    inr (rose_later (faults old) (faults mid) (faults new) before part.0, stops_after (written old) (written new) first next (rw (← wrote) part.1))
+    inr (
+      rose_later (faults old) (faults mid) (faults new) before part.0,
+      stops_after (written old) (written new) first
+          next (rw (← wrote) part.1),
+    )
 
 -- what a sink got by one whole write
-pub gets_written : {S T E : Type 0} (written : S → Option (List ℕ)) (faults : S → ℕ) (old new : S) (bytes : List ℕ) (result : Result T E)
+pub gets_written : {S T E : Type 0} (written : S → Option (List ℕ)) (faults : S → ℕ) (old new : S) (bytes : List ℕ)
+    (result : Result T E)
     → OnOk result (written new ≡ appended (written old) bytes) → OnErr result (Rose (faults old) (faults new))
     → OnErr result (StopsShort (written old) (written new) bytes) → Gets written faults old new bytes
 gets_written written faults old new bytes (Ok x) all rose part = inl all
 gets_written written faults old new bytes (Err e) all rose part = inr (rose, part)
 
 -- a sink that got nothing is as it was
-pub gets_none : {S : Type 0} (written : S → Option (List ℕ)) (faults : S → ℕ) (old new : S) → Gets written faults old new [] → written new ≡ written old
+pub gets_none : {S : Type 0} (written : S → Option (List ℕ)) (faults : S → ℕ) (old new : S)
+    → Gets written faults old new [] → written new ≡ written old
 gets_none written faults old new (inl all) = all ∙ appended-none (written old)
 gets_none written faults old new (inr part) = absurd (omega (arith, part.1.short))
 
 -- what a sink got by a write that failed, of more
 pub gets_part : {S : Type 0} (written : S → Option (List ℕ)) (faults : S → ℕ) (old new : S) (first next : List ℕ)
-    → Rose (faults old) (faults new) → StopsShort (written old) (written new) first → Gets written faults old new (first ++ next)
-gets_part written faults old new first next rose short = inr (rose, stops_before (written old) (written new) first next short)
+    → Rose (faults old) (faults new) → StopsShort (written old) (written new) first
+    → Gets written faults old new (first ++ next)
+gets_part written faults old new first next rose short =
+    inr (rose, stops_before (written old) (written new) first next short)

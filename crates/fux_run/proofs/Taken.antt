@@ -6,16 +6,19 @@ use Rattle.clap.specs.declared.error.kind.ErrorKind.{ErrorKind}
 use Rattle.fux_run.specs.Commands.{Task, asked_by, found_in, if_faultless}
 
 -- words in which nothing is at fault have these rows
-pub rows_found : (app : App) (words : List Text) (rows : List Row) → fault_of app words ≡ [] → rows ≡ matches_of app words
+pub rows_found : (app : App) (words : List Text) (rows : List Row) → fault_of app words ≡ [] → rows
+    ≡ matches_of app words
     → Some rows ≡ found_in app words
 rows_found app words rows clean is = rw (clean, is) refl
 
-none_if_faulty : {X : Type 0} (kind : ErrorKind) (kinds : Kinds) (x : X) → IsAmong kind kinds → None ≡ if_faultless kinds x
+none_if_faulty : {X : Type 0} (kind : ErrorKind) (kinds : Kinds) (x : X) → IsAmong kind kinds → None
+    ≡ if_faultless kinds x
 none_if_faulty kind [] x among = absurd among
 none_if_faulty kind (other ∷ kinds) x among = refl
 
 -- words in which something is at fault have none
-pub none_found : (app : App) (words : List Text) (kind : ErrorKind) → IsAmong kind (fault_of app words) → None ≡ found_in app words
+pub none_found : (app : App) (words : List Text) (kind : ErrorKind) → IsAmong kind (fault_of app words) → None
+    ≡ found_in app words
 none_found app words kind among = none_if_faulty kind (fault_of app words) (matches_of app words) among
 
 -- a simple command whose arguments have no rule on another is simple
@@ -23,7 +26,8 @@ pub simple_of : (app : App) → is_simple_and_free app ≡ true → is_simple ap
 simple_of app both = (and_parts (is_simple app) _ both).0
 
 -- what is asked by the rows that were found
-pub asked_so : (asks : List Row → Option Task) (form other : App) (words : List Text) (rows : List Row) (task : Option Task)
+pub asked_so : (asks : List Row → Option Task) (form other : App) (words : List Text) (rows : List Row)
+    (task : Option Task)
     → Some rows ≡ found_in form words → form ≡ other → task ≡ asks rows → task ≡ asked_by other asks words
 asked_so asks form other words rows task found same is = rw (← same, ← found) is
 

@@ -24,7 +24,8 @@ refuses_text Made bytes Memory cause = tt
 pub answers_sheet : (Made : Sheet → Work → Type 0) (files : List (List ℕ)) (sheet : Sheet) → sheet_said files ≡ Ok sheet
     → (answer : Result Output Stop) → Answers (Made sheet) answer → Answers (OnSheet Made files) answer
 answers_sheet Made files sheet said (Ok output) made = inl (record { sheet = sheet; said = said; made = made })
-answers_sheet Made files sheet said (Err (Refused refusal)) made = inl (record { sheet = sheet; said = said; made = made })
+answers_sheet Made files sheet said (Err (Refused refusal)) made =
+    inl (record { sheet = sheet; said = said; made = made })
 answers_sheet Made files sheet said (Err Memory) made = tt
 
 pub refuses_sheet : (Made : Sheet → Work → Type 0) (files : List (List ℕ)) (stop : Stop) → ReadsSheet files (Err stop)

@@ -26,7 +26,8 @@ in_neither : (first name : List ℕ) (names : List (List ℕ)) → (first ≡ na
 in_neither first name names head tail zero within is = head is
 in_neither first name names head tail (suc k) within is = tail (k, omega arith, is)
 
-all_there : (files : Files) (names bytes : List (List ℕ)) (name : List ℕ) → AllMayHave files names bytes → Contains names name
+all_there : (files : Files) (names bytes : List (List ℕ)) (name : List ℕ) → AllMayHave files names bytes
+    → Contains names name
     → IsMissing files name → ⊥
 all_there files [] [] name had one missing = omega (arith, one.1)
 all_there files [] (text ∷ more) name had one missing = absurd had
@@ -41,7 +42,8 @@ pub none_missing : (task : Task) (files : Files) (Holds : Work → Type 0) (name
 none_missing task files Holds name on one missing = all_there files (names_in task) on.bytes name on.had one missing
 
 -- the first missing name is missing
-pub first_is_missing : (files : Files) (names : List (List ℕ)) (name : List ℕ) → IsFirstMissing files names name → IsMissing files name
+pub first_is_missing : (files : Files) (names : List (List ℕ)) (name : List ℕ) → IsFirstMissing files names name
+    → IsMissing files name
 first_is_missing files [] name first = absurd first
 first_is_missing files (other ∷ names) name (inl here) = rw (← here.0) here.1
 first_is_missing files (other ∷ names) name (inr later) = first_is_missing files names name later.1

@@ -70,5 +70,6 @@ abbrev pub CertifiesHead : Exercise → Sheet → CertHead → Verdict → Work 
 CertifiesHead ex sheet head verdict (Ok output) =
     (output.verdict ≡ verdict) × IsCertificateOf ex sheet head output.bytes × (length output.bytes ≤ 1073741824)
 CertifiesHead ex sheet head verdict (Err LongCertificate) =
-    IsCertificateOf ex sheet head (written_certificate ex sheet head) × (1073741824 < length (written_certificate ex sheet head))
+    IsCertificateOf ex sheet head (written_certificate ex sheet head)
+    × (1073741824 < length (written_certificate ex sheet head))
 CertifiesHead ex sheet head verdict (Err refusal) = ⊥

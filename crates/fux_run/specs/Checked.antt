@@ -37,27 +37,31 @@ abbrev pub Judges : Exercise → Sheet → Files → List ℕ → CertVerdict �
 Judges ex sheet files certificate said = Answers ex sheet files certificate ⊥ (Ok said)
 
 -- the file of this name is the text of a valid certificate, the output tells what it shows, and this holds
-pub record IsAccepted (ex : Exercise) (sheet : Sheet) (files : Files) (certificate : List ℕ) (output : Output) : Type 0 where
-  pub head : CertHead
-  pub valid : MayBe files certificate (IsCertificateText ex sheet head)
-  pub told : output ≡ told (Accepted (accepted_of head))
-  pub holds : Holds ex sheet head
+pub record IsAccepted (ex : Exercise) (sheet : Sheet) (files : Files) (certificate : List ℕ) (output : Output) : Type 0
+  where
+    pub head : CertHead
+    pub valid : MayBe files certificate (IsCertificateText ex sheet head)
+    pub told : output ≡ told (Accepted (accepted_of head))
+    pub holds : Holds ex sheet head
 
 -- exactly a valid certificate is accepted: an output that is favorable accepts one, and where the file of this name is the text of one,
 -- the output tells what its head says
-pub record AcceptsValid (ex : Exercise) (sheet : Sheet) (files : Files) (certificate : List ℕ) (output : Output) : Type 0 where
+pub record AcceptsValid (ex : Exercise) (sheet : Sheet) (files : Files) (certificate : List ℕ) (output : Output) : Type
+    0 where
   pub only : output.verdict ≡ Favorable → IsAccepted ex sheet files certificate output
-  pub each : (bytes : List ℕ) (head : CertHead) → HasFile files certificate bytes → IsCertificateText ex sheet head bytes
+  pub each : (bytes : List ℕ) (head : CertHead) → HasFile files certificate bytes
+      → IsCertificateText ex sheet head bytes
       → output ≡ told (Accepted (accepted_of head))
 
 -- an output on an exercise none of whose menus is too wide: the line of the verdict, which is that of an accepted certificate exactly
 -- where the certificate is valid
-pub record IsChecked (files : Files) (certificate : List ℕ) (sheet : Sheet) (ex : Exercise) (output : Output) : Type 0 where
-  pub narrow : IsNarrow ex
-  pub said : CertVerdict
-  pub judges : Judges ex sheet files certificate said
-  pub told : output ≡ told said
-  pub exact : AcceptsValid ex sheet files certificate output
+pub record IsChecked (files : Files) (certificate : List ℕ) (sheet : Sheet) (ex : Exercise) (output : Output) : Type 0
+  where
+    pub narrow : IsNarrow ex
+    pub said : CertVerdict
+    pub judges : Judges ex sheet files certificate said
+    pub told : output ≡ told said
+    pub exact : AcceptsValid ex sheet files certificate output
 
 -- `check` makes this of an exercise and the certificate in the file of this name, over the sheet in use
 abbrev pub Checks : Files → List ℕ → Sheet → Exercise → Work → Type 0

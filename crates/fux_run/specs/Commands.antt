@@ -78,7 +78,8 @@ search_words name =
 
 abbrev pub check_words : App
 check_words =
-    with_rule (with_rule (exercise_words (codes "check")) (needed_word (codes "CERT"))) (option_word false (codes "sheet"))
+    with_rule (with_rule (exercise_words (codes "check")) (needed_word (codes "CERT")))
+    (option_word false (codes "sheet"))
 
 abbrev pub drill_words : App
 drill_words = one_word (codes "drill") (codes "N")
@@ -86,7 +87,8 @@ drill_words = one_word (codes "drill") (codes "N")
 -- what says how a file is to be read, each of which must be there
 abbrev pub head_words : App → App
 head_words app =
-    with_rule (with_rule (with_rule (with_rule app (option_word true (codes "mode"))) (option_word true (codes "species")))
+    with_rule (with_rule (with_rule (with_rule app (option_word true (codes "mode")))
+    (option_word true (codes "species")))
     (option_word true (codes "voice"))) (option_word true (codes "cantus"))
 
 abbrev pub fromsmf_words : App

@@ -41,7 +41,8 @@ work_line name (Err refusal) = fux_line (refusal_text name refusal)
 abbrev pub EndsAs : List ℕ → ℕ → Option (List ℕ) → Option (List ℕ) → (List ℕ → Type 0) → Work → Type 0
 EndsAs name code old new Complains work =
     ((code ≡ code_of (work_status work)) × (new ≡ appended old (work_output work)) × Complains (work_line name work))
-    ⊎ ((code ≡ code_of Unwritable) × StopsShort old new (work_output work) × Complains (fux_line (codes "cannot write")))
+    ⊎ ((code ≡ code_of Unwritable) × StopsShort old new (work_output work)
+    × Complains (fux_line (codes "cannot write")))
 
 -- one of these names cannot be read: a read failed by the shelf's fault, or it is the first that is missing
 pub record IsUnread (files : Files) (rose : Type 0) (names : List (List ℕ)) (name : List ℕ) : Type 0 where
@@ -69,7 +70,8 @@ IsDone code = (code ≡ code_of Favorable) ⊎ ((code ≡ code_of Unfavorable) �
 
 -- the statuses of a run that wrote nothing to standard output
 abbrev pub IsStopped : ℕ → Type 0
-IsStopped code = (code ≡ code_of Usage) ⊎ ((code ≡ code_of Refused) ⊎ ((code ≡ code_of Unreadable) ⊎ (code ≡ code_of OutOfMemory)))
+IsStopped code =
+    (code ≡ code_of Usage) ⊎ ((code ≡ code_of Refused) ⊎ ((code ≡ code_of Unreadable) ⊎ (code ≡ code_of OutOfMemory)))
 
 -- work whose output was written
 pub record IsWritten (old new : Option (List ℕ)) (said : Verdict) (work : Work) : Type 0 where
@@ -106,11 +108,14 @@ Writes Made cut old new (Err (Stopped stop.Memory)) = new ≡ old
 Writes Made cut old new (Err halt.Unwritable) = cut × Does Made (λ work. StopsShort old new (work_output work))
 
 -- how a command's work on its files ended, with the cause: what was written to standard output, and what is to be said
-abbrev pub Ended : Task → Files → Type 0 → Type 0 → Option (List ℕ) → Option (List ℕ) → Result Verdict Complaint → Type 0
+abbrev pub Ended : Task → Files → Type 0 → Type 0 → Option (List ℕ) → Option (List ℕ) → Result Verdict Complaint
+    → Type 0
 Ended task files rose cut old new (Ok verdict) = Works task files (IsWritten old new verdict)
-Ended task files rose cut old new (Err (complaint.Refused text)) = (new ≡ old) × Works task files (IsRefused (name_in task) text)
+Ended task files rose cut old new (Err (complaint.Refused text)) =
+    (new ≡ old) × Works task files (IsRefused (name_in task) text)
 Ended task files rose cut old new (Err (complaint.Unreadable name)) = (new ≡ old) × IsUnreadOf task files rose name.now
-Ended task files rose cut old new (Err complaint.Unwritable) = cut × Works task files (λ work. StopsShort old new (work_output work))
+Ended task files rose cut old new (Err complaint.Unwritable) =
+    cut × Works task files (λ work. StopsShort old new (work_output work))
 Ended task files rose cut old new (Err complaint.OutOfMemory) = new ≡ old
 Ended task files rose cut old new (Err complaint.Usage) = ⊥
 
@@ -121,7 +126,8 @@ IsNoTask (Err complaint.OutOfMemory) = Unit {0}
 IsNoTask _ = ⊥
 
 -- how a run on words that ask for this, or for nothing, ended
-abbrev pub EndedAs : Option Task → Files → Type 0 → Type 0 → Option (List ℕ) → Option (List ℕ) → Result Verdict Complaint → Type 0
+abbrev pub EndedAs : Option Task → Files → Type 0 → Type 0 → Option (List ℕ) → Option (List ℕ)
+    → Result Verdict Complaint → Type 0
 EndedAs None files rose cut old new result = (new ≡ old) × IsNoTask result
 EndedAs (Some task) files rose cut old new result = Ended task files rose cut old new result
 
@@ -158,7 +164,8 @@ result_line (Err complaint) = fux_line (complaint_text complaint)
 -- an answer of a command that writes while it works, as a run tells it
 abbrev pub SaysWritten : List ℕ → Result Verdict Halt → Result Verdict Complaint → Type 0
 SaysWritten name (Ok verdict) told = told ≡ Ok verdict
-SaysWritten name (Err (Stopped (stop.Refused refusal))) (Err complaint) = SaysRefusal (refusal_text name refusal) complaint
+SaysWritten name (Err (Stopped (stop.Refused refusal))) (Err complaint) =
+    SaysRefusal (refusal_text name refusal) complaint
 SaysWritten name (Err (Stopped (stop.Refused refusal))) (Ok verdict) = ⊥
 SaysWritten name (Err (Stopped stop.Memory)) told = told ≡ Err complaint.OutOfMemory
 SaysWritten name (Err halt.Unwritable) told = told ≡ Err complaint.Unwritable

@@ -46,7 +46,8 @@ Files = Option (List ℕ → Option (List ℕ))
 
 -- `check` makes this of the text of an exercise, and of the file of a sheet where one is given, with the certificate in another file
 abbrev pub ChecksText : Files → List ℕ → List (List ℕ) → List ℕ → Work → Type 0
-ChecksText files certificate sheets text = OnText (λ ex. OnSheet (λ sheet. Checks files certificate sheet ex) sheets) text
+ChecksText files certificate sheets text =
+    OnText (λ ex. OnSheet (λ sheet. Checks files certificate sheet ex) sheets) text
 
 -- a command makes this of files with these bytes, in the order of reading
 abbrev pub Makes : Task → Files → List (List ℕ) → Work → Type 0

@@ -27,18 +27,21 @@ if_within-bounds least most m n e = by (nat_le least m) refl (nat_le m most) ref
     by true d false f e = absurd (grind (arith, e))
     by false d b f e = absurd (grind (arith, e))
 
-pub within-bounds : (least most : ℕ) (o : Option ℕ) (n : ℕ) → option_and_then (if_within least most) o ≡ Some n → IsWithin least most n
+pub within-bounds : (least most : ℕ) (o : Option ℕ) (n : ℕ) → option_and_then (if_within least most) o ≡ Some n
+    → IsWithin least most n
 within-bounds least most None n e = absurd (grind (arith, e))
 within-bounds least most (Some m) n e = if_within-bounds least most m n e
 
-pub number-bounds : (kind : TextKind) (least most : ℕ) (at : LineWords) (x : ℕ × LineWords) → number_in kind least most at ≡ Ok x
+pub number-bounds : (kind : TextKind) (least most : ℕ) (at : LineWords) (x : ℕ × LineWords)
+    → number_in kind least most at ≡ Ok x
     → IsWithin least most x.0
 unfolding number_in
 number-bounds kind least most at x e =
     let w = bind_ok (next kind at) _ x e in
     let n = bind_ok (ok_or (number_within least most w.0.0.text) (fault_at kind w.0.0)) _ x w.2 in
     let found = ok_or_ok (number_within least most w.0.0.text) (fault_at kind w.0.0) n.0 n.1 in
-    subst (λ y. IsWithin least most y.0) (value_is (n.0, w.0.1) x _ refl n.2) (within-bounds least most (number_of w.0.0.text) n.0 found)
+    subst (λ y. IsWithin least most y.0) (value_is (n.0, w.0.1) x _ refl n.2)
+    (within-bounds least most (number_of w.0.0.text) n.0 found)
 
 -- another voice than this one
 pub record IsOther (other voices v : ℕ) : Type 0 where

@@ -12,7 +12,8 @@ range-next a b h =
 
 -- where the text for a number was appended, the rest of the range is still to be written
 pub written-next : (f : ℕ → List ℕ) (before after whole : List ℕ) (a b : ℕ) → a < b → after ≡ before ++ f a
-    → before ++ flat_map f (range_with_len a (b - a)) ≡ whole → after ++ flat_map f (range_with_len (a + 1) (b - (a + 1))) ≡ whole
+    → before ++ flat_map f (range_with_len a (b - a)) ≡ whole → after
+    ++ flat_map f (range_with_len (a + 1) (b - (a + 1))) ≡ whole
 written-next f before after whole a b h e so_far =
     ap (λ t. t ++ flat_map f (range_with_len (a + 1) (b - (a + 1)))) e
     ∙ append_assoc before (f a) (flat_map f (range_with_len (a + 1) (b - (a + 1))))
@@ -20,24 +21,29 @@ written-next f before after whole a b h e so_far =
     ∙ so_far
 
 -- the same where only some numbers have a text
-pub kept_written-next : (f : ℕ → List ℕ) (p : ℕ → Bool) (before after whole : List ℕ) (a b : ℕ) → a < b → after ≡ before ++ flat_map f (filter p (a ∷ []))
-    → before ++ flat_map f (filter p (range_with_len a (b - a))) ≡ whole → after ++ flat_map f (filter p (range_with_len (a + 1) (b - (a + 1)))) ≡ whole
+pub kept_written-next : (f : ℕ → List ℕ) (p : ℕ → Bool) (before after whole : List ℕ) (a b : ℕ) → a < b → after ≡ before
+    ++ flat_map f (filter p (a ∷ []))
+    → before ++ flat_map f (filter p (range_with_len a (b - a))) ≡ whole → after
+    ++ flat_map f (filter p (range_with_len (a + 1) (b - (a + 1)))) ≡ whole
 kept_written-next f p before after whole a b h e so_far =
     ap (λ t. t ++ flat_map f (filter p (range_with_len (a + 1) (b - (a + 1))))) e
-    ∙ append_assoc before (flat_map f (filter p (a ∷ []))) (flat_map f (filter p (range_with_len (a + 1) (b - (a + 1)))))
+    ∙ append_assoc before (flat_map f (filter p (a ∷ [])))
+    (flat_map f (filter p (range_with_len (a + 1) (b - (a + 1)))))
     ∙ ap (λ t. before ++ t) (sym (one_first (p a) refl))
     ∙ so_far
   where
     others : List ℕ
     others = range_with_len (a + 1) (b - (a + 1))
 
-    one_first : (b' : Bool) → p a ≡ b' → flat_map f (filter p (range_with_len a (b - a))) ≡ flat_map f (filter p (a ∷ [])) ++ flat_map f (filter p others)
+    one_first : (b' : Bool) → p a ≡ b' → flat_map f (filter p (range_with_len a (b - a)))
+        ≡ flat_map f (filter p (a ∷ [])) ++ flat_map f (filter p others)
     one_first true t = rw (range-next a b h, t) (ap (λ x. x ++ flat_map f (filter p others)) (sym (append-nil (f a))))
     one_first false t = rw (range-next a b h, t) refl
 
 -- what is kept of a range, with its first number or without
 pub kept-next : (p : ℕ → Bool) (before after whole : List ℕ) (a b : ℕ) → a < b → after ≡ before ++ a ∷ [] → p a ≡ true
-    → before ++ filter p (range_with_len a (b - a)) ≡ whole → after ++ filter p (range_with_len (a + 1) (b - (a + 1))) ≡ whole
+    → before ++ filter p (range_with_len a (b - a)) ≡ whole → after ++ filter p (range_with_len (a + 1) (b - (a + 1)))
+    ≡ whole
 kept-next p before after whole a b h e t so_far =
     ap (λ kept. kept ++ filter p (range_with_len (a + 1) (b - (a + 1)))) e
     ∙ append_assoc before (a ∷ []) (filter p (range_with_len (a + 1) (b - (a + 1))))
@@ -47,15 +53,19 @@ kept-next p before after whole a b h e t so_far =
     one = rw (range-next a b h, t) refl
 
 pub left_out-next : (p : ℕ → Bool) (before after whole : List ℕ) (a b : ℕ) → a < b → after ≡ before → p a ≡ false
-    → before ++ filter p (range_with_len a (b - a)) ≡ whole → after ++ filter p (range_with_len (a + 1) (b - (a + 1))) ≡ whole
-left_out-next p before after whole a b h e t so_far = ap (λ kept. kept ++ filter p (range_with_len (a + 1) (b - (a + 1)))) e ∙ ap (λ kept. before ++ kept) (sym one) ∙ so_far
+    → before ++ filter p (range_with_len a (b - a)) ≡ whole → after ++ filter p (range_with_len (a + 1) (b - (a + 1)))
+    ≡ whole
+left_out-next p before after whole a b h e t so_far = ap
+    (λ kept. kept ++ filter p (range_with_len (a + 1) (b - (a + 1)))) e ∙ ap (λ kept. before ++ kept) (sym one) ∙ so_far
   where
     one : filter p (range_with_len a (b - a)) ≡ filter p (range_with_len (a + 1) (b - (a + 1)))
     one = rw (range-next a b h, t) refl
 
 -- the search of a range goes on behind its first number, where that isn't it
-pub find-next : (p : ℕ → Bool) (a b : ℕ) (whole : Option ℕ) → a < b → p a ≡ false → find p (range_with_len a (b - a)) ≡ whole
+pub find-next : (p : ℕ → Bool) (a b : ℕ) (whole : Option ℕ) → a < b → p a ≡ false → find p (range_with_len a (b - a))
+    ≡ whole
     → find p (range_with_len (a + 1) (b - (a + 1))) ≡ whole
 find-next p a b whole h fails so_far =
-    let one : find p (range_with_len a (b - a)) ≡ find p (range_with_len (a + 1) (b - (a + 1))) = rw (range-next a b h, fails) refl in
+    let one : find p (range_with_len a (b - a))
+    ≡ find p (range_with_len (a + 1) (b - (a + 1))) = rw (range-next a b h, fails) refl in
     sym one ∙ so_far

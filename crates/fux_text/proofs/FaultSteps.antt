@@ -37,7 +37,8 @@ pub faulty : {R B Q : Type 0} {read : LineWords → Result R Fault} {missing : T
     → {at : LineWords} {k : R → Result B Fault} {f : Fault}
     → (read at >>= k) ≡ Err f → (Lacks missing refuses at f → Q)
     → ((x : R) → Stands (Right x) at (rest x) → k x ≡ Err f → Q) → Q
-faulty {R = R} {B = B} {Q = Q} {read = read} {missing = missing} {refuses = refuses} {Right = Right} {rest = rest} reads {at = at} {k = k} {f = f} e here behind =
+faulty {R = R} {B = B} {Q = Q} {read = read} {missing = missing} {refuses = refuses} {Right = Right} {rest = rest} reads
+    {at = at} {k = k} {f = f} e here behind =
     by (read at) (reads.tells at) e
   where
     by : (r : Result R Fault) → Tells missing refuses Right rest at r → (r >>= k) ≡ Err f → Q
@@ -52,7 +53,8 @@ pub lawful : {R B Q : Type 0} {read : LineWords → Result R Fault} {missing : T
     {rest : R → LineWords} → Reads read missing refuses Right rest
     → {at : LineWords} {k : R → Result B Fault} {y : B}
     → (read at >>= k) ≡ Ok y → ((x : R) → Stands (Right x) at (rest x) → k x ≡ Ok y → Q) → Q
-lawful {R = R} {B = B} {Q = Q} {read = read} {missing = missing} {refuses = refuses} {Right = Right} {rest = rest} reads {at = at} {k = k} {y = y} e behind =
+lawful {R = R} {B = B} {Q = Q} {read = read} {missing = missing} {refuses = refuses} {Right = Right} {rest = rest} reads
+    {at = at} {k = k} {y = y} e behind =
     by (read at) (reads.tells at) e
   where
     by : (r : Result R Fault) → Tells missing refuses Right rest at r → (r >>= k) ≡ Ok y → Q
@@ -109,7 +111,8 @@ pub gives : {R B : Type 0} {read : LineWords → Result R Fault} {missing : Text
     → Stands IsRight at behind → ((text : List ℕ) → IsRight text → refuses text ≡ None)
     → ((y : R) → Stands IsRight at (rest y) → Stands (Right y) at (rest y) → behind ≡ rest y → k y ≡ r)
     → (read at >>= k) ≡ r
-gives {R = R} {B = B} {read = read} {missing = missing} {refuses = refuses} {Right = Right} {rest = rest} reads {IsRight = IsRight} {at = at} {behind = behind} {k = k} {r = r} stands clean go =
+gives {R = R} {B = B} {read = read} {missing = missing} {refuses = refuses} {Right = Right} {rest = rest} reads
+    {IsRight = IsRight} {at = at} {behind = behind} {k = k} {r = r} stands clean go =
     by (read at) (reads.tells at)
   where
     by : (found : Result R Fault) → Tells missing refuses Right rest at found → (found >>= k) ≡ r
@@ -126,7 +129,8 @@ pub fails : {R B : Type 0} {P : LineWords → Type 0} {read : LineWords → Resu
     → ((text : List ℕ) → IsRight text → refuses text ≡ None)
     → ((y : R) → Stands IsRight at (rest y) → Stands (Right y) at (rest y) → P (rest y) → k y ≡ Err f)
     → (read at >>= k) ≡ Err f
-fails {R = R} {B = B} {P = P} {read = read} {missing = missing} {refuses = refuses} {Right = Right} {rest = rest} reads {IsRight = IsRight} {at = at} {k = k} {f = f} (inl l) clean go =
+fails {R = R} {B = B} {P = P} {read = read} {missing = missing} {refuses = refuses} {Right = Right} {rest = rest} reads
+    {IsRight = IsRight} {at = at} {k = k} {f = f} (inl l) clean go =
     by (read at) (reads.tells at)
   where
     by : (found : Result R Fault) → Tells missing refuses Right rest at found → (found >>= k) ≡ Err f
@@ -322,7 +326,8 @@ word_lacks kind word at f (Lacks.refused w rest wrong n r e) = rw n (found (same
     Fails : Result LineWords Fault → Type 0
     Fails r = r ≡ Err f
 
-    found : (b : Bool) → (if b then None else Some kind) ≡ Some wrong → Fails (if b then Ok rest else Err (fault_at kind w))
+    found : (b : Bool) → (if b then None else Some kind) ≡ Some wrong
+        → Fails (if b then Ok rest else Err (fault_at kind w))
     found true r = absurd (grind (arith, r))
     found false r =
         let same : kind ≡ wrong = grind (arith, r) in

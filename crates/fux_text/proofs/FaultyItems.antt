@@ -323,7 +323,8 @@ words-faulty bars before taken last cells at (w ∷ ws) f t e =
         (λ x r e. absurd (grind (arith, e)))) (λ x r e.
         let item = bind_ok (item_in before cells w) _ x (sym (item_word_read bars before cells w none) ∙ r) in
         let is : IsItem taken last w.text item.0.0 item.0.1 =
-        subst (ItemTells taken last w) (sym (item-tell cells before taken last w t) ∙ item.1) (item-tells taken last w) in
+        subst (ItemTells taken last w) (sym (item-tell cells before taken last w t) ∙ item.1) (item-tells taken last w)
+        in
         let out : (before, cells ++ item_cells item.0.0 item.0.1) ≡ x =
         value_is (before, cells ++ item_cells item.0.0 item.0.1) x _ refl item.2 in
         GoesWrongFrom.behind_item none item.0.0 item.0.1 is

@@ -80,7 +80,8 @@ high-reads low = record {
 }
   where
     TellsHigh : LineWords → Result (Pitch × LineWords) Fault → Type 0
-    TellsHigh at r = Tells kinds.Range (λ text. wrong_high low (pitch_named text)) (λ y text. IsHigh low y.0 text) (λ y. y.1) at r
+    TellsHigh at r =
+        Tells kinds.Range (λ text. wrong_high low (pitch_named text)) (λ y text. IsHigh low y.0 text) (λ y. y.1) at r
 
     rises : (at : LineWords) (w : PlacedWord) (rest : LineWords) → first_word at ≡ Some (w, rest) → (p : Pitch)
         → pitch_named w.text ≡ Some p
@@ -92,14 +93,16 @@ high-reads low = record {
     found : (at : LineWords) (w : PlacedWord) (rest : LineWords) → first_word at ≡ Some (w, rest) → (o : Option Pitch)
         → pitch_named w.text ≡ o
         → TellsHigh at (ok_or o (fault_at kinds.Pitch w)
-        >>= λ high. refused_if (int_lt (key_of high) (key_of low)) (fault_at kinds.Range w) >>= λ rises. Ok (high, rest))
+        >>= λ high. refused_if (int_lt (key_of high) (key_of low)) (fault_at kinds.Range w) >>= λ rises. Ok
+        (high, rest))
     found at w rest n None e = Lacks.refused w rest kinds.Pitch n (ap (wrong_high low) e) refl
     found at w rest n (Some p) e = rises at w rest n p e (int_lt (key_of p) (key_of low)) refl
 
     by : (at : LineWords) (o : Option (PlacedWord × LineWords)) → first_word at ≡ o
         → TellsHigh at (ok_or o (fault_past kinds.Range at)
         >>= λ w. ok_or (pitch_named w.0.text) (fault_at kinds.Pitch w.0)
-        >>= λ high. refused_if (int_lt (key_of high) (key_of low)) (fault_at kinds.Range w.0) >>= λ rises. Ok (high, w.1))
+        >>= λ high. refused_if (int_lt (key_of high) (key_of low)) (fault_at kinds.Range w.0) >>= λ rises. Ok
+        (high, w.1))
     by at None e = Lacks.missing e refl
     by at (Some (w, rest)) e = found at w rest e (pitch_named w.text) refl
 
@@ -167,7 +170,8 @@ unfolding bars_of_later bars_in
 bars-gives false bars from to at h = record { rest = at; read = refl; end = h }
 bars-gives true bars from to at h = record {
   rest = h.2.0;
-  read = rw (number_given kinds.Range 1 bars at h.0 from h.1, number_given kinds.Range from bars h.0 h.2.0 to h.2.1) refl;
+  read =
+      rw (number_given kinds.Range 1 bars at h.0 from h.1, number_given kinds.Range from bars h.0 h.2.0 to h.2.1) refl;
   end = h.2.2;
 }
 
@@ -340,7 +344,12 @@ range-gives ex before at line h =
       pitch_given kinds.Range h.front.behind h.rest line.low h.front.low_stands,
       high_given line.low line.high h.rest h.behind h.high,
       b.read,
-    ) (gives_at_end kinds.Word b.rest (record { voice = line.voice; low = line.low; high = line.high; bars = bars_told (has_line before line.voice) h.from h.to }) b.end
+    ) (gives_at_end kinds.Word b.rest (record {
+      voice = line.voice;
+      low = line.low;
+      high = line.high;
+      bars = bars_told (has_line before line.voice) h.from h.to;
+    }) b.end
     ∙ ap (λ bars. Ok (record { voice = line.voice; low = line.low; high = line.high; bars = bars })) (sym h.told)))
 
 -- ---- the lines
@@ -357,8 +366,14 @@ begun name after line others e = by (first_word line) refl e
         → (words : LineWords) × NextBegins name (record { after = after; lines = line ∷ others }) words
         (record { after = after; lines = others })
     by None n e = absurd (grind (arith, e))
-    by (Some (w, words)) n e =
-        (words, record { line = line; next = refl; first = record { word = w; next = n; right = text_from w.text name e } })
+    by (Some (w, words)) n e = (
+      words,
+      record {
+        line = line;
+        next = refl;
+        first = record { word = w; next = n; right = text_from w.text name e };
+      },
+    )
 
 pub begins_true : (name : List ℕ) (text rest : TextLines) (words : LineWords) → NextBegins name text words rest
     → begins name text ≡ true
@@ -374,14 +389,19 @@ headed_given kind name text rest words h =
 
 -- what stands behind the next line
 pub rest_is : (after : ℕ) (line : LineWords) (others : List LineWords) (first : LineWords) (rest : TextLines)
-    → NextIs (record { after = after; lines = line ∷ others }) first rest → rest ≡ record { after = after; lines = others }
+    → NextIs (record { after = after; lines = line ∷ others }) first rest → rest
+    ≡ record { after = after; lines = others }
 rest_is after line others first rest n =
-    ap (λ (z : LineWords × TextLines). z.1) (sym (one_some (first_line (record { after = after; lines = line ∷ others })) (line, record { after = after; lines = others }) (first, rest) refl n))
+    ap (λ (z : LineWords × TextLines). z.1)
+    (sym (one_some (first_line (record { after = after; lines = line ∷ others }))
+    (line, record { after = after; lines = others }) (first, rest) refl n))
 
 pub line_is : (after : ℕ) (line : LineWords) (others : List LineWords) (first : LineWords) (rest : TextLines)
     → NextIs (record { after = after; lines = line ∷ others }) first rest → first ≡ line
 line_is after line others first rest n =
-    ap (λ (z : LineWords × TextLines). z.0) (sym (one_some (first_line (record { after = after; lines = line ∷ others })) (line, record { after = after; lines = others }) (first, rest) refl n))
+    ap (λ (z : LineWords × TextLines). z.0)
+    (sym (one_some (first_line (record { after = after; lines = line ∷ others }))
+    (line, record { after = after; lines = others }) (first, rest) refl n))
 
 pub no-next : (after : ℕ) (first : LineWords) (rest : TextLines)
     → NextIs (record { after = after; lines = [] }) first rest → ⊥
@@ -452,11 +472,12 @@ on-faulty ex before after (line ∷ others) f e =
     by false b later e = absurd (grind (arith, e))
 
 -- the lines that are read behind those before, and no others
-record ReadBehind (ex : Exercise) (before : List RangeLine) (text : TextLines) (x : List RangeLine × TextLines) : Type 0 where
-  pub lines : List RangeLine
-  pub all : x.0 ≡ before ++ lines
-  pub stand : AreRangeLines ex before lines text x.1
-  pub no_more : begins (codes "range") x.1 ≡ false
+record ReadBehind (ex : Exercise) (before : List RangeLine) (text : TextLines) (x : List RangeLine × TextLines) : Type 0
+  where
+    pub lines : List RangeLine
+    pub all : x.0 ≡ before ++ lines
+    pub stand : AreRangeLines ex before lines text x.1
+    pub no_more : begins (codes "range") x.1 ≡ false
 
 none-read : (ex : Exercise) (before : List RangeLine) (text : TextLines) (x : List RangeLine × TextLines)
     → (before, text) ≡ x
@@ -477,7 +498,8 @@ on-lawful : (ex : Exercise) (before : List RangeLine) (after : ℕ) (lines : Lis
     → ranges_on ex before after lines ≡ Ok x → ReadBehind ex before (record { after = after; lines = lines }) x
 unfolding ranges_on
 on-lawful ex before after [] x e =
-    none-read ex before (record { after = after; lines = [] }) x (value_is _ x _ refl e) (no-begins (codes "range") after)
+    none-read ex before (record { after = after; lines = [] }) x (value_is _ x _ refl e)
+    (no-begins (codes "range") after)
 on-lawful ex before after (line ∷ others) x e =
     by (begins (codes "range") text) refl (λ r. on-lawful ex (before ++ r ∷ []) after others x) e
   where

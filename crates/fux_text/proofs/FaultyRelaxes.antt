@@ -271,7 +271,8 @@ on-lawful ex before after (line ∷ others) x few e =
         (value_is (before, text) x _ refl e) (none-read ex (length before) text few b)
 
 -- reading goes on behind relax lines
-record GoesOnBehind (ex : Exercise) (count : ℕ) (before : List Relax) (after : ℕ) (ls : List LineWords) (here : TextLines)
+record GoesOnBehind (ex : Exercise) (count : ℕ) (before : List Relax) (after : ℕ) (ls : List LineWords)
+    (here : TextLines)
     : Type 0 where
   pub lines : List Relax
   pub long : length lines ≡ count + length before
@@ -379,6 +380,7 @@ relaxes-gives ex text others h =
     let g = on-gives ex h.count [] text.after text.lines others (most h.count h.no_more) h.stand in
     (g.lines, g.read ∙ on-end ex g.lines others (no-more-goes g.lines others h.count (omega (arith, g.long)) h.no_more))
   where
-    most : (n : ℕ) → (n ≡ most_relax) ⊎ ((n < most_relax) × (begins (codes "relax") others ≡ false)) → n + 0 ≤ most_relax
+    most : (n : ℕ) → (n ≡ most_relax) ⊎ ((n < most_relax) × (begins (codes "relax") others ≡ false))
+        → n + 0 ≤ most_relax
     most n (inl h) = omega (arith, h)
     most n (inr h) = omega (arith, h.0)

@@ -203,7 +203,8 @@ voices-fails ex zero a before text k f some few h last = last (before, text) h
 voices-fails {B = B} ex (suc n) a before text k f some few h last =
     in_row (voice_in ex a text) (λ x. voices_in ex (range_with_len (a + 1) n) (before ++ x.0 ∷ []) x.1) k
     ∙ by (a == ex.cantus_voice) refl
-    (λ (x : List Cell × TextLines) h. voices-fails ex n (a + 1) (before ++ x.0 ∷ []) x.1 k f some (omega (arith, few)) h last)
+    (λ (x : List Cell × TextLines) h. voices-fails ex n (a + 1) (before ++ x.0 ∷ []) x.1 k f some (omega (arith, few)) h
+    last)
   where
     Fails : Result B Fault → Type 0
     Fails r = r ≡ Err f

@@ -55,7 +55,8 @@ bytes-faulty {A = A} InLines read bytes f e wrong =
         let same : record { kind = TooLong; line = 1; column = 1 } ≡ f = grind (arith, e) in
         IsFaultOfText.too_long (ltb-true 65536 (length bytes) l) (sym same)
     by false l true u e =
-        IsFaultOfText.in_lines (ltb-false 65536 (length bytes) l) (IsUtf8-from_is_utf8 bytes u) (wrong (lines_in bytes) e)
+        IsFaultOfText.in_lines (ltb-false 65536 (length bytes) l) (IsUtf8-from_is_utf8 bytes u)
+        (wrong (lines_in bytes) e)
     by false l false u e =
         let same : fault_of_utf8 bytes ≡ f = grind (arith, e) in
         IsFaultOfText.not_utf8 (ltb-false 65536 (length bytes) l) (not_text u) (sym same)

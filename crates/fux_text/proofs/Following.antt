@@ -46,7 +46,8 @@ run-follows c (suc n) =
 item-follows : (before c : Cell) (n : ℕ) → IsTrue (cell_follows before c) → FollowsFrom before (item_cells c n)
 item-follows before c n h = (h, run-follows c (n - 1))
 
-tie-follows : (before c : Cell) (o : Option Pitch) → pitch_of before ≡ o → option_map Hold o ≡ Some c → IsTrue (cell_follows before c)
+tie-follows : (before c : Cell) (o : Option Pitch) → pitch_of before ≡ o → option_map Hold o ≡ Some c
+    → IsTrue (cell_follows before c)
 tie-follows before c None d e = absurd (grind (arith, e))
 tie-follows Rest c (Some p) d e = absurd (grind (arith, d))
 tie-follows (Hold q) c (Some p) d e =
@@ -84,8 +85,10 @@ item_in-follows bar cells w item e =
     let parts = bind_ok (ok_or (item_parts w.text) (fault_at kinds.Word w)) _ item e in
     let name = bind_ok (ok_or (item_named parts.0.0) (fault_at kinds.Pitch w)) _ item parts.2 in
     let count = bind_ok (ok_or (if_within 1 8 parts.0.1) (fault_at kinds.Length w)) _ item name.2 in
-    let cell = bind_ok (ok_or (first_cell (length cells == 8 * bar) (latest Rest cells) name.0) (fault_at kinds.Tie w)) _ item count.2 in
-    let found = ok_or_ok (first_cell (length cells == 8 * bar) (latest Rest cells) name.0) (fault_at kinds.Tie w) cell.0 cell.1 in
+    let cell = bind_ok (ok_or (first_cell (length cells == 8 * bar) (latest Rest cells) name.0) (fault_at kinds.Tie w))
+    _ item count.2 in
+    let found = ok_or_ok (first_cell (length cells == 8 * bar) (latest Rest cells) name.0) (fault_at kinds.Tie w) cell.0
+    cell.1 in
     subst (λ x. IsTrue (cell_follows (latest Rest cells) x.0)) (value_is (cell.0, count.0) item _ refl cell.2)
     (first-follows (length cells == 8 * bar) (latest Rest cells) cell.0 name.0 found)
 
@@ -95,7 +98,8 @@ unfolding sung_word
 word-follows bars bar cells w out f e = by (same_text w.text (codes "|")) e
   where
     by : (b : Bool) → (if b then (bar_line_in bars bar cells w >>= λ next. Ok (next, cells))
-        else (item_in bar cells w >>= λ item. Ok (bar, cells ++ item_cells item.0 item.1))) ≡ Ok out → FollowsFrom Rest out.1
+        else (item_in bar cells w >>= λ item. Ok (bar, cells ++ item_cells item.0 item.1))) ≡ Ok out
+        → FollowsFrom Rest out.1
     by true e =
         let next = bind_ok (bar_line_in bars bar cells w) _ out e in
         subst (λ x. FollowsFrom Rest x.1) (value_is (next.0, cells) out _ refl next.2) f
@@ -105,21 +109,24 @@ word-follows bars bar cells w out f e = by (same_text w.text (codes "|")) e
         (follows-append Rest cells (item_cells item.0.0 item.0.1) f
         (item-follows (latest Rest cells) item.0.0 item.0.1 (item_in-follows bar cells w item.0 item.1)))
 
-end-same : (bars bar : ℕ) (cells : List Cell) (at : LineWords) (out : List Cell) → sung_end bars bar cells at ≡ Ok out → cells ≡ out
+end-same : (bars bar : ℕ) (cells : List Cell) (at : LineWords) (out : List Cell) → sung_end bars bar cells at ≡ Ok out
+    → cells ≡ out
 unfolding sung_end
 end-same bars bar cells at out e =
     let full = bind_ok (refused_if (not (is_full bar cells)) (fault_beyond kinds.Length at)) _ out e in
     let whole = bind_ok (refused_if (not (bar + 1 == bars)) (fault_beyond kinds.BarLine at)) _ out full.2 in
     value_is cells out _ refl whole.2
 
-words-follow : (bars bar : ℕ) (cells : List Cell) (at : LineWords) (ws : List PlacedWord) (out : List Cell) → FollowsFrom Rest cells
+words-follow : (bars bar : ℕ) (cells : List Cell) (at : LineWords) (ws : List PlacedWord) (out : List Cell)
+    → FollowsFrom Rest cells
     → sung_words bars bar cells at ws ≡ Ok out → FollowsFrom Rest out
 words-follow bars bar cells at [] out f e = subst (FollowsFrom Rest) (end-same bars bar cells at out e) f
 words-follow bars bar cells at (w ∷ ws) out f e =
     let step = bind_ok (sung_word bars bar cells w) (λ so_far. sung_words bars so_far.0 so_far.1 at ws) out e in
     words-follow bars step.0.0 step.0.1 at ws out (word-follows bars bar cells w step.0 f step.1) step.2
 
-pub line-follows : (bars v : ℕ) (text : TextLines) (out : List Cell × TextLines) → sing_line_in bars v text ≡ Ok out → FollowsFrom Rest out.0
+pub line-follows : (bars v : ℕ) (text : TextLines) (out : List Cell × TextLines) → sing_line_in bars v text ≡ Ok out
+    → FollowsFrom Rest out.0
 unfolding sing_line_in sung_in
 line-follows bars v text out e =
     let line = bind_ok (headed kinds.Sing (codes "sing") text) _ out e in
@@ -129,28 +136,35 @@ line-follows bars v text out e =
     (words-follow bars 0 [] voice.0.1 voice.0.1.words cells.0 tt cells.1)
 
 -- the cells of the cantus follow one another
-pub start-follows : (before : Cell) (cantus : List Pitch) → FollowsFrom before (flat_map (λ p. item_cells (Start p) 8) cantus)
+pub start-follows : (before : Cell) (cantus : List Pitch)
+    → FollowsFrom before (flat_map (λ p. item_cells (Start p) 8) cantus)
 start-follows before [] = tt
 start-follows before (p ∷ ps) =
     follows-append before (item_cells (Start p) 8) (flat_map (λ q. item_cells (Start q) 8) ps)
     (item-follows before (Start p) 8 (start-any before p)) (start-follows (latest before (item_cells (Start p) 8)) ps)
 
-voice-follows : (ex : Exercise) (v : ℕ) (text : TextLines) (out : List Cell × TextLines) → voice_in ex v text ≡ Ok out → FollowsFrom Rest out.0
+voice-follows : (ex : Exercise) (v : ℕ) (text : TextLines) (out : List Cell × TextLines) → voice_in ex v text ≡ Ok out
+    → FollowsFrom Rest out.0
 unfolding voice_in cantus_cells
 voice-follows ex v text out e = by (v == ex.cantus_voice) e
   where
-    by : (b : Bool) → (if b then Ok (cantus_cells ex.cantus, text) else sing_line_in ex.bars v text) ≡ Ok out → FollowsFrom Rest out.0
-    by true e = subst (λ x. FollowsFrom Rest x.0) (value_is (cantus_cells ex.cantus, text) out _ refl e) (start-follows Rest ex.cantus)
+    by : (b : Bool) → (if b then Ok (cantus_cells ex.cantus, text) else sing_line_in ex.bars v text) ≡ Ok out
+        → FollowsFrom Rest out.0
+    by true e = subst (λ x. FollowsFrom Rest x.0) (value_is (cantus_cells ex.cantus, text) out _ refl e)
+        (start-follows Rest ex.cantus)
     by false e = line-follows ex.bars v text out e
 
-all-push : (lines : List (List Cell)) (line : List Cell) → AllByRecursion (FollowsFrom Rest) lines → FollowsFrom Rest line
+all-push : (lines : List (List Cell)) (line : List Cell) → AllByRecursion (FollowsFrom Rest) lines
+    → FollowsFrom Rest line
     → AllByRecursion (FollowsFrom Rest) (lines ++ line ∷ [])
 all-push [] line h f = (f, tt)
 all-push (l ∷ ls) line h f = (h.0, all-push ls line h.1 f)
 
 -- the cells of each voice follow one another
-pub voices-follow : (ex : Exercise) (vs : List ℕ) (before : List (List Cell)) (text : TextLines) (out : List (List Cell) × TextLines)
-    → AllByRecursion (FollowsFrom Rest) before → voices_in ex vs before text ≡ Ok out → AllByRecursion (FollowsFrom Rest) out.0
+pub voices-follow : (ex : Exercise) (vs : List ℕ) (before : List (List Cell)) (text : TextLines)
+    (out : List (List Cell) × TextLines)
+    → AllByRecursion (FollowsFrom Rest) before → voices_in ex vs before text ≡ Ok out
+    → AllByRecursion (FollowsFrom Rest) out.0
 unfolding voices_in
 voices-follow ex [] before text out f e =
     subst (λ x. AllByRecursion (FollowsFrom Rest) x.0) (value_is (before, text) out _ refl e) f
@@ -160,7 +174,8 @@ voices-follow ex (v ∷ vs) before text out f e =
     (all-push before cells.0.0 f (voice-follows ex v text cells.0 cells.1)) cells.2
 
 -- each voice has its cells
-pub voices-length : (ex : Exercise) (vs : List ℕ) (before : List (List Cell)) (text : TextLines) (out : List (List Cell) × TextLines)
+pub voices-length : (ex : Exercise) (vs : List ℕ) (before : List (List Cell)) (text : TextLines)
+    (out : List (List Cell) × TextLines)
     → voices_in ex vs before text ≡ Ok out → length out.0 ≡ length before + length vs
 unfolding voices_in
 voices-length ex [] before text out e =

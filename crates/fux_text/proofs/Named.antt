@@ -49,14 +49,16 @@ unfolding Has
 has-more None xs x h = h
 has-more (Some z) xs x h = inr h
 
-has-filter_map : {A B : Type 0} (f : A → Option B) (xs : List A) (a : A) (x : B) → f a ≡ Some x → Has xs a → Has (filter_map f xs) x
+has-filter_map : {A B : Type 0} (f : A → Option B) (xs : List A) (a : A) (x : B) → f a ≡ Some x → Has xs a
+    → Has (filter_map f xs) x
 unfolding Has
 has-filter_map f [] a x e h = absurd h
 has-filter_map f (y ∷ ys) a x e (inl same) =
     subst (λ o. Has (cons_option o (filter_map f ys)) x) (sym (ap f same ∙ e)) (inl refl)
 has-filter_map f (y ∷ ys) a x e (inr h) = has-more (f y) (filter_map f ys) x (has-filter_map f ys a x e h)
 
-has-flat_map : {A B : Type 0} (f : A → List B) (xs : List A) (a : A) (x : B) → Has (f a) x → Has xs a → Has (flat_map f xs) x
+has-flat_map : {A B : Type 0} (f : A → List B) (xs : List A) (a : A) (x : B) → Has (f a) x → Has xs a
+    → Has (flat_map f xs) x
 unfolding Has
 has-flat_map f [] a x here h = absurd h
 has-flat_map f (y ∷ ys) a x here (inl same) =
@@ -66,13 +68,15 @@ has-flat_map f (y ∷ ys) a x here (inr h) = has-right (f y) (flat_map f ys) x (
 has-range : (n a i : ℕ) → a ≤ i → i < a + n → Has (range_with_len a n) i
 unfolding Has
 has-range zero a i low high = absurd (omega arith)
-has-range (suc n) a i low high = elim (eq_or_more a i low) [ inl e ↦ inl e | inr lt ↦ inr (has-range n (a + 1) i (omega arith) (omega arith)) ]
+has-range (suc n) a i low high =
+    elim (eq_or_more a i low) [ inl e ↦ inl e | inr lt ↦ inr (has-range n (a + 1) i (omega arith) (omega arith)) ]
   where
     eq_or_more : (a i : ℕ) → a ≤ i → (a ≡ i) ⊎ (a < i)
     eq_or_more a i h = grind arith
 
 -- what is found has the name
-pub found_name : {A : Type 0} (name : A → List ℕ) (xs : List A) (text : List ℕ) (x : A) → named name xs text ≡ Some x → name x ≡ text
+pub found_name : {A : Type 0} (name : A → List ℕ) (xs : List A) (text : List ℕ) (x : A) → named name xs text ≡ Some x
+    → name x ≡ text
 found_name name [] text x e = grind arith
 found_name name (y ∷ ys) text x e = by (same_text (name y) text) refl (found_name name ys text x) e
   where

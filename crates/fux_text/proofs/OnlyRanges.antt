@@ -197,7 +197,8 @@ relax_in-only ex at r e =
     (number_in-only kinds.Word 0 10000 to.0.1 price.0 price.1
     ∙ ap (λ ws. decimal price.0.0 ∷ ws) (done-only kinds.Word price.0.1 end.0 end.1))))))
     ∙ ap relax_words
-    (value_is (record { rule = rule.0.0; voices = set.0.0; from = from.0.0; to = to.0.0; price = price.0.0 }) r _ refl end.2)
+    (value_is (record { rule = rule.0.0; voices = set.0.0; from = from.0.0; to = to.0.0; price = price.0.0 }) r _ refl
+    end.2)
 
 relax_line-only : (ex : Exercise) (text : TextLines) (x : Relax × TextLines) → relax_line ex text ≡ Ok x
     → line_texts text ≡ relax_words x.0 ∷ line_texts x.1

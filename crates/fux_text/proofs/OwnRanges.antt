@@ -67,7 +67,8 @@ later-own : (ex : Exercise) (before : List RangeLine) (line past end : ℕ) (pla
     (at_words line past end place (decimal voice ∷ name_of low ∷ name_of high ∷ decimal from ∷ decimal to ∷ []))
     ≡ Ok (record { voice = voice; low = low; high = high; bars = Some (from, to) })
 unfolding range_in other_voice_in misfits pitch_in high_in bars_of_later bars_in number_in next done
-later-own ex before line past end place voice low high from to few there differs rises some few_bars least in_order most =
+later-own ex before line past end place voice low high from to few there differs rises some few_bars least in_order
+    most =
     rw (
       other_voice-own ex.cantus_voice ex.voices voice few there differs,
       some,
@@ -108,13 +109,15 @@ range_in-own ex before r line past end place small behind = by r.bars refl
     by : (o : Option (ℕ × ℕ)) → r.bars ≡ o → reads r.bars
     by None e =
         subst reads (sym e)
-        (first-own ex before line past end place r.voice r.low r.high few behind.fits.free.there behind.fits.free.no_cantus
+        (first-own ex before line past end place r.voice r.low r.high few behind.fits.free.there
+        behind.fits.free.no_cantus
         behind.fits.rises (some_if_none _ refl e))
     by (Some (from, to)) e =
         let within =
         subst (λ o. IfSome o (λ bars. (1 ≤ bars.0) × (bars.0 ≤ bars.1) × (bars.1 ≤ ex.bars))) e behind.fits.within in
         subst reads (sym e)
-        (later-own ex before line past end place r.voice r.low r.high from to few behind.fits.free.there behind.fits.free.no_cantus
+        (later-own ex before line past end place r.voice r.low r.high from to few behind.fits.free.there
+        behind.fits.free.no_cantus
         behind.fits.rises (later_if_some _ (from, to) refl e) (omega (arith, small.bars)) within.0 within.1 within.2)
 
 range_line-own : (ex : Exercise) (before : List RangeLine) (r : RangeLine) (after : ℕ) (l : LineWords)

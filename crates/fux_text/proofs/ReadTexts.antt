@@ -81,7 +81,8 @@ texts-one_fault bytes kind other line column l c has its =
     (ap (λ f. f.kind) same, ap (λ f. f.line) same, ap (λ f. f.column) same)
 
 each : (bytes : List ℕ) (read : Result Exercise Fault) → exercise_in bytes ≡ read
-    → ((ex : Exercise) × IsTextOf bytes ex) ⊎ ((kind : TextKind) × (line : ℕ) × (column : ℕ) × HasFault bytes kind line column)
+    → ((ex : Exercise) × IsTextOf bytes ex)
+    ⊎ ((kind : TextKind) × (line : ℕ) × (column : ℕ) × HasFault bytes kind line column)
 each bytes (Ok ex) e = inl (ex, read-text bytes ex e)
 each bytes (Err f) e = inr (f.kind, f.line, f.column, read-fault bytes f.kind f.line f.column e)
 

@@ -23,7 +23,8 @@ relax_line-rest ex after line others r rest e =
     let head = bind_ok (headed kinds.Head (codes "relax") text)
     (λ at. relax_in ex at.0 >>= λ relax. Ok (relax, at.1)) (r, rest) e in
     let body = bind_ok (relax_in ex head.0.0) (λ relax. Ok (relax, head.0.1)) (r, rest) head.2 in
-    pair_rest body.0 head.0.1 (r, rest) _ refl body.2 ∙ headed-rest kinds.Head (codes "relax") after line others head.0 head.1
+    pair_rest body.0 head.0.1 (r, rest) _ refl body.2
+    ∙ headed-rest kinds.Head (codes "relax") after line others head.0 head.1
 
 -- no line is left where none goes on
 none-goes-on : (before : List Relax) (after : ℕ) → true ≡ goes_on before (record { after = after; lines = [] }) → ⊥
@@ -35,7 +36,8 @@ none-goes-on before after b = by (nat_lt (length before) 64) b
     by false e = grind (arith, e)
 
 -- one relax line more
-pub relax-more : (ex : Exercise) (before : List Relax) (after : ℕ) (lines : List LineWords) (r : Relax) (rest : TextLines)
+pub relax-more : (ex : Exercise) (before : List Relax) (after : ℕ) (lines : List LineWords) (r : Relax)
+    (rest : TextLines)
     (total : Result (List Relax × TextLines) Fault) → true ≡ goes_on before (record { after = after; lines = lines })
     → relax_line ex (record { after = after; lines = lines }) ≡ Ok (r, rest) → relax_on ex before after lines ≡ total
     → (relax_on ex (before ++ r ∷ []) rest.after rest.lines ≡ total) × (length rest.lines < length lines)
@@ -43,8 +45,10 @@ unfolding relax_on
 relax-more ex before after [] r rest total b h so_far = absurd (none-goes-on before after b)
 relax-more ex before after (line ∷ others) r rest total b h so_far =
     let same : rest ≡ record { after = after; lines = others } = relax_line-rest ex after line others r rest h in
-    let one : relax_on ex before after (line ∷ others) ≡ relax_on ex (before ++ r ∷ []) after others = rw (sym b, h) refl in
-    let P : TextLines → Type 0 = λ t. (relax_on ex (before ++ r ∷ []) t.after t.lines ≡ total) × (length t.lines < length (line ∷ others)) in
+    let one : relax_on ex before after (line ∷ others)
+    ≡ relax_on ex (before ++ r ∷ []) after others = rw (sym b, h) refl in
+    let P : TextLines → Type 0 = λ t. (relax_on ex (before ++ r ∷ []) t.after t.lines ≡ total)
+    × (length t.lines < length (line ∷ others)) in
     subst P (sym same) (sym one ∙ so_far, omega arith)
 
 -- no more where a relax line is wrong
@@ -56,7 +60,8 @@ unfolding relax_on
 relax-fail faults.Memory ex before after lines total b h so_far = tt
 relax-fail (faults.At kind line column) ex before after [] total b h so_far = absurd (none-goes-on before after b)
 relax-fail (faults.At kind l column) ex before after (line ∷ others) total b h so_far =
-    let one : relax_on ex before after (line ∷ others) ≡ Err (record { kind = kind; line = l; column = column }) = rw (sym b, h) refl in
+    let one : relax_on ex before after (line ∷ others)
+    ≡ Err (record { kind = kind; line = l; column = column }) = rw (sym b, h) refl in
     sym so_far ∙ one
 
 -- all relax lines
@@ -66,5 +71,6 @@ pub relax-all : (ex : Exercise) (before : List Relax) (after : ℕ) (lines : Lis
 unfolding relax_on
 relax-all ex before after [] total b so_far = sym so_far
 relax-all ex before after (line ∷ others) total b so_far =
-    let one : relax_on ex before after (line ∷ others) ≡ Ok (before, record { after = after; lines = line ∷ others }) = rw (sym b) refl in
+    let one : relax_on ex before after (line ∷ others)
+    ≡ Ok (before, record { after = after; lines = line ∷ others }) = rw (sym b) refl in
     sym so_far ∙ one

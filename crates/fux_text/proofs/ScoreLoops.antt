@@ -23,13 +23,15 @@ follows-at before [] k f = rest-follows (get_or (before ∷ []) k Rest)
 follows-at before (c ∷ cs) zero f = f.0
 follows-at before (c ∷ cs) (suc k) f = follows-at c cs k f.1
 
-line-at : (lines : List (List Cell)) (v : ℕ) → AllByRecursion (FollowsFrom Rest) lines → FollowsFrom Rest (get_or lines v [])
+line-at : (lines : List (List Cell)) (v : ℕ) → AllByRecursion (FollowsFrom Rest) lines
+    → FollowsFrom Rest (get_or lines v [])
 line-at [] v f = tt
 line-at (l ∷ ls) zero f = f.0
 line-at (l ∷ ls) (suc v) f = line-at ls v f.1
 
 newest-cell : (lines : List (List Cell)) (i v : ℕ)
-    → cell_in (newest_column (reverse (map (column_of lines) (range_with_len 0 i)))) v ≡ get_or (Rest ∷ get_or lines v []) i Rest
+    → cell_in (newest_column (reverse (map (column_of lines) (range_with_len 0 i)))) v
+    ≡ get_or (Rest ∷ get_or lines v []) i Rest
 newest-cell lines zero v = refl
 newest-cell lines (suc j) v =
     let s : List (List Cell) = map (column_of lines) (range_with_len 0 (suc j)) in
@@ -48,10 +50,12 @@ next-follows lines i f = λ v.
 
 -- a score with one column more
 pub grown : (score : Grid) (lines : List (List Cell)) (col : List Cell) (i : ℕ)
-    → score ≡ record { voices = length lines; columns = map (column_of lines) (range_with_len 0 i) } → col ≡ column_of lines i
+    → score ≡ record { voices = length lines; columns = map (column_of lines) (range_with_len 0 i) } → col
+    ≡ column_of lines i
     → record score { columns = score.columns ++ col ∷ [] }
     ≡ record { voices = length lines; columns = map (column_of lines) (range_with_len 0 (i + 1)) }
 grown score lines col i e same =
     ap (λ (s : Grid). record s { columns = s.columns ++ col ∷ [] }) e
     ∙ ap (λ x. record { voices = length lines; columns = map (column_of lines) (range_with_len 0 i) ++ x ∷ [] }) same
-    ∙ ap (λ cs. record { voices = length lines; columns = cs }) (sym (map-range_with_len_more (column_of lines) 0 i i (omega arith)))
+    ∙ ap (λ cs. record { voices = length lines; columns = cs })
+    (sym (map-range_with_len_more (column_of lines) 0 i i (omega arith)))

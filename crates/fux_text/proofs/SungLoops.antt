@@ -16,19 +16,23 @@ pub colon-none : (text : List ℕ) → position is_colon text ≡ None → None 
 unfolding item_parts number_of
 colon-none text h =
     let le : length text ≤ position_or_len is_colon text = beyond is_colon text h in
-    let none : drop (position_or_len is_colon text + 1) text ≡ [] = drop_all (position_or_len is_colon text + 1) text (omega arith) in
+    let none : drop (position_or_len is_colon text + 1) text
+    ≡ [] = drop_all (position_or_len is_colon text + 1) text (omega arith) in
     rw none refl
 
-parts_of : (w v : PlacedWord) (rest left : LineWords) (o : Option (PlacedWord × LineWords)) → Some (w, rest) ≡ o → o ≡ Some (v, left)
+parts_of : (w v : PlacedWord) (rest left : LineWords) (o : Option (PlacedWord × LineWords)) → Some (w, rest) ≡ o → o
+    ≡ Some (v, left)
     → (w ≡ v) × (rest ≡ left)
 parts_of w v rest left o d e = (grind (arith, d, e), grind (arith, d, e))
 
 -- a word at fault
-pub sung-fail : (e : TextFault) (bars bar : ℕ) (cells : List Cell) (line at : LineWords) (ws : List PlacedWord) (w : PlacedWord)
+pub sung-fail : (e : TextFault) (bars bar : ℕ) (cells : List Cell) (line at : LineWords) (ws : List PlacedWord)
+    (w : PlacedWord)
     (rest : LineWords) (total : Result (List Cell) Fault) → Some (w, rest) ≡ first_of at ws
     → Fails e (sung_word bars bar cells w) → sung_words bars bar cells line ws ≡ total → Fails e total
 sung-fail faults.Memory bars bar cells line at ws w rest total first h so_far = tt
-sung-fail (faults.At kind l column) bars bar cells line at [] w rest total first h so_far = absurd (grind (arith, first))
+sung-fail (faults.At kind l column) bars bar cells line at [] w rest total first h so_far =
+    absurd (grind (arith, first))
 sung-fail (faults.At kind l column) bars bar cells line at (v ∷ vs) w rest total first h so_far =
     let left : LineWords = record at { past = v.column + length v.text; words = vs } in
     let same = parts_of w v rest left (first_of at (v ∷ vs)) first refl in
@@ -38,13 +42,15 @@ sung-fail (faults.At kind l column) bars bar cells line at (v ∷ vs) w rest tot
     sym so_far ∙ one
 
 -- no word is left
-pub sung-done : (bars bar : ℕ) (cells : List Cell) (line at : LineWords) (ws : List PlacedWord) (total : Result (List Cell) Fault)
+pub sung-done : (bars bar : ℕ) (cells : List Cell) (line at : LineWords) (ws : List PlacedWord)
+    (total : Result (List Cell) Fault)
     → None ≡ first_of at ws → sung_words bars bar cells line ws ≡ total → total ≡ sung_end bars bar cells line
 sung-done bars bar cells line at [] total first so_far = sym so_far
 sung-done bars bar cells line at (v ∷ vs) total first so_far = absurd (grind (arith, first))
 
 -- the last cell stands at the end
-pub latest-last : (before : Cell) (cells : List Cell) (d : Cell) → 0 < length cells → latest before cells ≡ get_or cells (length cells - 1) d
+pub latest-last : (before : Cell) (cells : List Cell) (d : Cell) → 0 < length cells → latest before cells
+    ≡ get_or cells (length cells - 1) d
 latest-last before [] d h = absurd (omega arith)
 latest-last before (c ∷ []) d h = refl
 latest-last before (x ∷ y ∷ ys) d h =

@@ -21,14 +21,16 @@ number_line-bounds name kind least most text x e =
     let line = bind_ok (headed kinds.Head name text) _ x e in
     let n = bind_ok (number_in kind least most line.0.0) _ x line.2 in
     let end = bind_ok (done kinds.Word n.0.1) _ x n.2 in
-    subst (λ y. IsWithin least most y.0) (value_is (n.0.0, line.0.1) x _ refl end.2) (number-bounds kind least most line.0.0 n.0 n.1)
+    subst (λ y. IsWithin least most y.0) (value_is (n.0.0, line.0.1) x _ refl end.2)
+    (number-bounds kind least most line.0.0 n.0 n.1)
 
 -- a species and its voice
 record IsSpecies (voices n v : ℕ) : Type 0 where
   pub species : IsWithin 1 most_species n
   pub voice : v ≤ voices - 1
 
-species-bounds : (voices : ℕ) (text : TextLines) (x : ℕ × ℕ × TextLines) → species_line voices text ≡ Ok x → IsSpecies voices x.0 x.1
+species-bounds : (voices : ℕ) (text : TextLines) (x : ℕ × ℕ × TextLines) → species_line voices text ≡ Ok x
+    → IsSpecies voices x.0 x.1
 unfolding species_line
 species-bounds voices text x e =
     let line = bind_ok (headed kinds.Head (codes "species") text) _ x e in
@@ -42,7 +44,8 @@ species-bounds voices text x e =
       voice = (number-bounds kinds.Word 0 (voices - 1) rest.0 v.0 v.1).below;
     })
 
-pitches-length : (n : ℕ) (before : List Pitch) (at : LineWords) (x : List Pitch × LineWords) → pitches_in n before at ≡ Ok x
+pitches-length : (n : ℕ) (before : List Pitch) (at : LineWords) (x : List Pitch × LineWords) → pitches_in n before at
+    ≡ Ok x
     → length x.0 ≡ length before + n
 unfolding pitches_in
 pitches-length zero before at x e =

@@ -58,11 +58,13 @@ abbrev AreBarsOf : Bool → ℕ → Option (ℕ × ℕ) → Type 0
 AreBarsOf later bars o =
     (later ≡ false → o ≡ None) × (later ≡ true → IsSome o) × IfSome o (λ b. (1 ≤ b.0) × (b.0 ≤ b.1) × (b.1 ≤ bars))
 
-later-bars : (later : Bool) (bars : ℕ) (at : LineWords) (x : Option (ℕ × ℕ) × LineWords) → bars_of_later later bars at ≡ Ok x
+later-bars : (later : Bool) (bars : ℕ) (at : LineWords) (x : Option (ℕ × ℕ) × LineWords) → bars_of_later later bars at
+    ≡ Ok x
     → AreBarsOf later bars x.0
 unfolding bars_of_later
 later-bars false bars at x e =
-    subst (λ y. AreBarsOf false bars y.0) (value_is (None, at) x _ refl e) ((λ _. refl), (λ h. absurd (grind (arith, h))), tt)
+    subst (λ y. AreBarsOf false bars y.0) (value_is (None, at) x _ refl e)
+    ((λ _. refl), (λ h. absurd (grind (arith, h))), tt)
 later-bars true bars at x e =
     let found = bind_ok (bars_in bars at) _ x e in
     subst (λ y. AreBarsOf true bars y.0) (value_is (Some found.0.0, found.0.1) x _ refl found.2)
@@ -74,7 +76,8 @@ record IsNext (ex : Exercise) (before : List RangeLine) (line : RangeLine) : Typ
   pub rises : key_of line.low ≤ℤ key_of line.high
   pub bars : AreBarsOf (has_line before line.voice) ex.bars line.bars
 
-range-next : (ex : Exercise) (before : List RangeLine) (at : LineWords) (line : RangeLine) → range_in ex before at ≡ Ok line
+range-next : (ex : Exercise) (before : List RangeLine) (at : LineWords) (line : RangeLine) → range_in ex before at
+    ≡ Ok line
     → IsNext ex before line
 unfolding range_in
 range-next ex before at line e =
@@ -97,7 +100,8 @@ unfolding range_line
 range_line-next ex before text x e =
     let line = bind_ok (headed kinds.Head (codes "range") text) _ x e in
     let range = bind_ok (range_in ex before line.0.0) _ x line.2 in
-    subst (λ y. IsNext ex before y.0) (value_is (range.0, line.0.1) x _ refl range.2) (range-next ex before line.0.0 range.0 range.1)
+    subst (λ y. IsNext ex before y.0) (value_is (range.0, line.0.1) x _ refl range.2)
+    (range-next ex before line.0.0 range.0 range.1)
 
 -- the lines of a voice: none yet, or first one for all bars and then such for some
 abbrev Begun : List RangeLine → Type 0
@@ -112,12 +116,14 @@ pub any-none : (v : ℕ) (lines : List RangeLine) → of_voice v lines ≡ [] �
 any-none v [] e = refl
 any-none v (l ∷ ls) e = by (l.voice == v) (any-none v ls) e
   where
-    by : (b : Bool) → (of_voice v ls ≡ [] → has_line ls v ≡ false) → (if b then l ∷ of_voice v ls else of_voice v ls) ≡ []
+    by : (b : Bool) → (of_voice v ls ≡ [] → has_line ls v ≡ false) → (if b then l ∷ of_voice v ls else of_voice v ls)
+        ≡ []
         → (b || has_line ls v) ≡ false
     by true rest e = absurd (grind (arith, e))
     by false rest e = rest e
 
-pub any-some : (v : ℕ) (lines : List RangeLine) (first : RangeLine) (others : List RangeLine) → of_voice v lines ≡ first ∷ others
+pub any-some : (v : ℕ) (lines : List RangeLine) (first : RangeLine) (others : List RangeLine) → of_voice v lines ≡ first
+    ∷ others
     → has_line lines v ≡ true
 any-some v [] first others e = absurd (grind (arith, e))
 any-some v (l ∷ ls) first others e = by (l.voice == v) (any-some v ls first others) e
@@ -133,13 +139,15 @@ single line some = λ k d lt.
     subst (λ n. IsSome (get_or (line ∷ []) n d).bars) first some
 
 begun-push : (v : ℕ) (lines : List RangeLine) (line : RangeLine) → Begun lines
-    → (lines ≡ [] → line.bars ≡ None) → ((first : RangeLine) (others : List RangeLine) → lines ≡ first ∷ others → IsSome line.bars)
+    → (lines ≡ [] → line.bars ≡ None) → ((first : RangeLine) (others : List RangeLine) → lines ≡ first ∷ others
+    → IsSome line.bars)
     → Begun (lines ++ line ∷ [])
 begun-push v [] line begun first later = (first refl, λ k d lt. absurd (omega arith))
 begun-push v (l ∷ ls) line begun first later =
     (begun.0, All-append (λ other. IsSome other.bars) ls (line ∷ []) begun.1 (single line (later l ls refl)))
 
-begun-next : (ex : Exercise) (before : List RangeLine) (line : RangeLine) (v : ℕ) → IsNext ex before line → Begun (of_voice v before)
+begun-next : (ex : Exercise) (before : List RangeLine) (line : RangeLine) (v : ℕ) → IsNext ex before line
+    → Begun (of_voice v before)
     → Begun (of_voice v (before ++ line ∷ []))
 begun-next ex before line v next begun =
     subst Begun (sym (filter-append (λ l. l.voice == v) before (line ∷ []))) (by (line.voice == v) refl)
@@ -157,7 +165,8 @@ record AreRanges (ex : Exercise) (lines : List RangeLine) : Type 0 where
   pub fit : All (IsRangeLine ex) lines
   pub begun : (v : ℕ) → Begun (of_voice v lines)
 
-next-fits : (ex : Exercise) (before : List RangeLine) (line : RangeLine) → 2 ≤ ex.voices → IsNext ex before line → IsRangeLine ex line
+next-fits : (ex : Exercise) (before : List RangeLine) (line : RangeLine) → 2 ≤ ex.voices → IsNext ex before line
+    → IsRangeLine ex line
 next-fits ex before line some next = record {
   free = record { there = omega (arith, next.voice.within); no_cantus = next.voice.differs };
   rises = next.rises;
@@ -174,7 +183,8 @@ ranges-push ex before line some next so_far = record {
   begun = λ v. begun-next ex before line v next (so_far.begun v);
 }
 
-ranges_on-valid : (ex : Exercise) (before : List RangeLine) (after : ℕ) (lines : List LineWords) (x : List RangeLine × TextLines)
+ranges_on-valid : (ex : Exercise) (before : List RangeLine) (after : ℕ) (lines : List LineWords)
+    (x : List RangeLine × TextLines)
     → 2 ≤ ex.voices → AreRanges ex before → ranges_on ex before after lines ≡ Ok x → AreRanges ex x.0
 unfolding ranges_on
 ranges_on-valid ex before after [] x some so_far e =
@@ -185,15 +195,20 @@ ranges_on-valid ex before after (line ∷ others) x some so_far e =
     text : TextLines
     text = record { after = after; lines = line ∷ others }
 
-    by : (b : Bool) → ((r : RangeLine) → AreRanges ex (before ++ r ∷ []) → ranges_on ex (before ++ r ∷ []) after others ≡ Ok x → AreRanges ex x.0)
-        → (if b then (range_line ex before text >>= λ range. ranges_on ex (before ++ range.0 ∷ []) after others) else Ok (before, text)) ≡ Ok x
+    by : (b : Bool) → ((r : RangeLine) → AreRanges ex (before ++ r ∷ []) → ranges_on ex (before ++ r ∷ []) after others
+        ≡ Ok x → AreRanges ex x.0)
+        → (if b then (range_line ex before text >>= λ range. ranges_on ex (before ++ range.0 ∷ []) after others)
+        else Ok (before, text)) ≡ Ok x
         → AreRanges ex x.0
     by true rest e =
-        let range = bind_ok (range_line ex before text) (λ range. ranges_on ex (before ++ range.0 ∷ []) after others) x e in
-        rest range.0.0 (ranges-push ex before range.0.0 some (range_line-next ex before text range.0 range.1) so_far) range.2
+        let range = bind_ok (range_line ex before text) (λ range. ranges_on ex (before ++ range.0 ∷ []) after others) x
+        e in
+        rest range.0.0 (ranges-push ex before range.0.0 some (range_line-next ex before text range.0 range.1) so_far)
+        range.2
     by false rest e = subst (λ y. AreRanges ex y.0) (value_is (before, text) x _ refl e) so_far
 
-whole-from : (v : ℕ) (lines : List RangeLine) (own : List RangeLine) → of_voice v lines ≡ own → has_line lines v ≡ true → Begun own
+whole-from : (v : ℕ) (lines : List RangeLine) (own : List RangeLine) → of_voice v lines ≡ own → has_line lines v ≡ true
+    → Begun own
     → BeginsWithWhole own
 whole-from v lines [] e has begun = absurd (grind (arith, has, any-none v lines e))
 whole-from v lines (l ∷ ls) e has begun = begun
@@ -203,7 +218,8 @@ pub record AreValidRanges (ex : Exercise) (lines : List RangeLine) : Type 0 wher
   pub fit : All (IsRangeLine ex) lines
   pub each : (v : ℕ) → IsFree ex v → BeginsWithWhole (filter (λ line. line.voice == v) lines)
 
-pub ranges-valid : (ex : Exercise) (text : TextLines) (x : List RangeLine × TextLines) → 2 ≤ ex.voices → ranges_in ex text ≡ Ok x
+pub ranges-valid : (ex : Exercise) (text : TextLines) (x : List RangeLine × TextLines) → 2 ≤ ex.voices
+    → ranges_in ex text ≡ Ok x
     → AreValidRanges ex x.0
 unfolding ranges_in all_ranged
 ranges-valid ex text x some e =
@@ -213,7 +229,11 @@ ranges-valid ex text x some e =
     let valid = ranges_on-valid ex [] text.after text.lines found.0 some
     (record { fit = λ k d lt. absurd (omega arith); begun = λ v. tt }) found.1 in
     subst (λ y. AreValidRanges ex y.0) (value_is found.0 x _ refl whole.2)
-    (record { fit = valid.fit; each = λ v free. whole-from v found.0.0 _ refl (has found.0.0 v free test) (valid.begun v) })
+    (record {
+      fit = valid.fit;
+      each = λ v free. whole-from v found.0.0 _ refl (has found.0.0 v free test)
+          (valid.begun v);
+    })
   where
     or-right : (a b : Bool) → (a || b) ≡ true → (a ≡ true → ⊥) → b ≡ true
     or-right true b e n = absurd (n refl)
@@ -223,7 +243,8 @@ ranges-valid ex text x some e =
     has lines v free test =
         let all = AllPass-from_list_all (λ w. (w == ex.cantus_voice) || has_line lines w) (range_with_len 0 ex.voices)
         (not-false _ test) v 0 (omega (arith, length-range_with_len 0 ex.voices, free.there)) in
-        let at : get_or (range_with_len 0 ex.voices) v 0 ≡ v = get_or-range_with_len 0 ex.voices v 0 free.there ∙ omega arith in
+        let at : get_or (range_with_len 0 ex.voices) v 0 ≡ v = get_or-range_with_len 0 ex.voices v 0 free.there
+        ∙ omega arith in
         or-right (v == ex.cantus_voice) (has_line lines v)
         (subst (λ w. ((w == ex.cantus_voice) || has_line lines w) ≡ true) at all)
         (λ same. free.no_cantus (grind (arith, same)))

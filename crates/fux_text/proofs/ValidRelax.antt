@@ -66,14 +66,16 @@ unfolding voices_named
 voices-bounds voices text x e = by (same_text (voices_word None) text) e
   where
     by : (t : Bool)
-        → (if t then Some None else option_map (λ bits. Some (record { bits = bits })) (find (is_set text) (range_with_len 1 (2 ^ voices - 1)))) ≡ Some x
+        → (if t then Some None else option_map (λ bits. Some (record { bits = bits }))
+        (find (is_set text) (range_with_len 1 (2 ^ voices - 1)))) ≡ Some x
         → IsSet voices x
     by true e = let same : None ≡ x = grind (arith, e) in subst (IsSet voices) same tt
     by false e =
         set-found voices (find (is_set text) (range_with_len 1 (2 ^ voices - 1))) x e
         (λ b f. find-bounds (is_set text) (2 ^ voices - 1) 1 b f)
 
-set_in-bounds : (voices : ℕ) (at : LineWords) (x : Option VoiceSet × LineWords) → set_in voices at ≡ Ok x → IsSet voices x.0
+set_in-bounds : (voices : ℕ) (at : LineWords) (x : Option VoiceSet × LineWords) → set_in voices at ≡ Ok x
+    → IsSet voices x.0
 unfolding set_in
 set_in-bounds voices at x e =
     let w = bind_ok (next kinds.Word at) _ x e in
@@ -103,12 +105,14 @@ relax_in-valid ex at line e =
       price = p.below;
     })
 
-relax_line-valid : (ex : Exercise) (text : TextLines) (x : Relax × TextLines) → relax_line ex text ≡ Ok x → IsRelax ex x.0
+relax_line-valid : (ex : Exercise) (text : TextLines) (x : Relax × TextLines) → relax_line ex text ≡ Ok x
+    → IsRelax ex x.0
 unfolding relax_line
 relax_line-valid ex text x e =
     let line = bind_ok (headed kinds.Head (codes "relax") text) _ x e in
     let relax = bind_ok (relax_in ex line.0.0) _ x line.2 in
-    subst (λ y. IsRelax ex y.0) (value_is (relax.0, line.0.1) x _ refl relax.2) (relax_in-valid ex line.0.0 relax.0 relax.1)
+    subst (λ y. IsRelax ex y.0) (value_is (relax.0, line.0.1) x _ refl relax.2)
+    (relax_in-valid ex line.0.0 relax.0 relax.1)
 
 -- relax lines of an exercise
 pub record AreRelaxes (ex : Exercise) (lines : List Relax) : Type 0 where
@@ -120,7 +124,8 @@ one-relax ex line one = λ k d lt.
     let first : 0 ≡ k = omega arith in
     subst (λ n. IsRelax ex (get_or (line ∷ []) n d)) first one
 
-relax-push : (ex : Exercise) (before : List Relax) (text : TextLines) (line : Relax) → IsRelax ex line → AreRelaxes ex before
+relax-push : (ex : Exercise) (before : List Relax) (text : TextLines) (line : Relax) → IsRelax ex line
+    → AreRelaxes ex before
     → goes_on before text ≡ true → AreRelaxes ex (before ++ line ∷ [])
 relax-push ex before text line one so_far go = record {
   fit = All-append (IsRelax ex) before (line ∷ []) so_far.fit (one-relax ex line one);
@@ -143,14 +148,18 @@ relax_on-valid ex before after (line ∷ others) x so_far e =
     text = record { after = after; lines = line ∷ others }
 
     by : (b : Bool) → goes_on before text ≡ b
-        → ((r : Relax) → AreRelaxes ex (before ++ r ∷ []) → relax_on ex (before ++ r ∷ []) after others ≡ Ok x → AreRelaxes ex x.0)
-        → (if b then (relax_line ex text >>= λ relax. relax_on ex (before ++ relax.0 ∷ []) after others) else Ok (before, text)) ≡ Ok x
+        → ((r : Relax) → AreRelaxes ex (before ++ r ∷ []) → relax_on ex (before ++ r ∷ []) after others ≡ Ok x
+        → AreRelaxes ex x.0)
+        → (if b then (relax_line ex text >>= λ relax. relax_on ex (before ++ relax.0 ∷ []) after others)
+        else Ok (before, text)) ≡ Ok x
         → AreRelaxes ex x.0
     by true go rest e =
         let relax = bind_ok (relax_line ex text) (λ relax. relax_on ex (before ++ relax.0 ∷ []) after others) x e in
-        rest relax.0.0 (relax-push ex before text relax.0.0 (relax_line-valid ex text relax.0 relax.1) so_far go) relax.2
+        rest relax.0.0 (relax-push ex before text relax.0.0 (relax_line-valid ex text relax.0 relax.1) so_far go)
+        relax.2
     by false go rest e = subst (λ y. AreRelaxes ex y.0) (value_is (before, text) x _ refl e) so_far
 
-pub relaxes-valid : (ex : Exercise) (text : TextLines) (x : List Relax × TextLines) → relaxes_in ex text ≡ Ok x → AreRelaxes ex x.0
+pub relaxes-valid : (ex : Exercise) (text : TextLines) (x : List Relax × TextLines) → relaxes_in ex text ≡ Ok x
+    → AreRelaxes ex x.0
 relaxes-valid ex text x e =
     relax_on-valid ex [] text.after text.lines x (record { fit = λ k d lt. absurd (omega arith); few = omega arith }) e

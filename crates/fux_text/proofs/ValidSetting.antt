@@ -29,7 +29,8 @@ cell_at-later p ps j =
     ap (λ k. option_map (cantus_cell (8 + j)) (slice_get (p ∷ ps) k)) q
     ∙ ap (λ m. option_map (λ x. if m == 0 then Start x else Hold x) (slice_get ps (j / 8))) r
 
-pub cantus_cells-at : (cantus : List Pitch) (i : ℕ) → i < 8 * length cantus → cell_at cantus i ≡ Some (cell_in (cantus_cells cantus) i)
+pub cantus_cells-at : (cantus : List Pitch) (i : ℕ) → i < 8 * length cantus → cell_at cantus i
+    ≡ Some (cell_in (cantus_cells cantus) i)
 unfolding cantus_cells
 cantus_cells-at [] i lt = absurd (omega arith)
 cantus_cells-at (p ∷ ps) zero lt = refl
@@ -49,7 +50,8 @@ pub record KeepsLines (ex : Exercise) (a n : ℕ) (before lines : List (List Cel
   pub kept : (k : ℕ) → k < a → get_or lines k [] ≡ get_or before k []
   pub cantus : a ≤ ex.cantus_voice → ex.cantus_voice < a + n → get_or lines ex.cantus_voice [] ≡ cantus_cells ex.cantus
 
-get_or-left : (xs : List (List Cell)) (y : List Cell) (k : ℕ) → k < length xs → get_or (xs ++ y ∷ []) k [] ≡ get_or xs k []
+get_or-left : (xs : List (List Cell)) (y : List Cell) (k : ℕ) → k < length xs → get_or (xs ++ y ∷ []) k []
+    ≡ get_or xs k []
 get_or-left [] y k lt = absurd (omega arith)
 get_or-left (x ∷ xs) y zero lt = refl
 get_or-left (x ∷ xs) y (suc k) lt = get_or-left xs y k (omega arith)
@@ -63,12 +65,14 @@ voice-cantus : (ex : Exercise) (v : ℕ) (text : TextLines) (x : List Cell × Te
 unfolding voice_in
 voice-cantus ex v text x same e = by (v == ex.cantus_voice) refl e
   where
-    by : (b : Bool) → (v == ex.cantus_voice) ≡ b → (if b then Ok (cantus_cells ex.cantus, text) else sing_line_in ex.bars v text) ≡ Ok x
+    by : (b : Bool) → (v == ex.cantus_voice) ≡ b
+        → (if b then Ok (cantus_cells ex.cantus, text) else sing_line_in ex.bars v text) ≡ Ok x
         → x.0 ≡ cantus_cells ex.cantus
     by true d e = sym (ap (λ y. y.0) (value_is (cantus_cells ex.cantus, text) x _ refl e))
     by false d e = absurd (grind (arith, d, same))
 
-pub voices-keep : (ex : Exercise) (n a : ℕ) (before : List (List Cell)) (text : TextLines) (x : List (List Cell) × TextLines)
+pub voices-keep : (ex : Exercise) (n a : ℕ) (before : List (List Cell)) (text : TextLines)
+    (x : List (List Cell) × TextLines)
     → length before ≡ a → voices_in ex (range_with_len a n) before text ≡ Ok x → KeepsLines ex a n before x.0
 unfolding voices_in
 voices-keep ex zero a before text x long e =
@@ -78,9 +82,11 @@ voices-keep ex zero a before text x long e =
       cantus = λ low high. absurd (omega (arith, low, high));
     }
 voices-keep ex (suc n) a before text x long e =
-    let cells = bind_ok (voice_in ex a text) (λ found. voices_in ex (range_with_len (a + 1) n) (before ++ found.0 ∷ []) found.1) x e in
+    let cells = bind_ok (voice_in ex a text)
+    (λ found. voices_in ex (range_with_len (a + 1) n) (before ++ found.0 ∷ []) found.1) x e in
     let more = before ++ cells.0.0 ∷ [] in
-    let rest = voices-keep ex n (a + 1) more cells.0.1 x (omega (arith, long, length-append before (cells.0.0 ∷ []))) cells.2 in
+    let rest = voices-keep ex n (a + 1) more cells.0.1 x (omega (arith, long, length-append before (cells.0.0 ∷ [])))
+    cells.2 in
     let last : get_or x.0 a [] ≡ cells.0.0 =
     rest.kept a (omega arith) ∙ ap (λ k. get_or more k []) (sym long) ∙ get_or-end before cells.0.0 in
     record {
@@ -111,28 +117,37 @@ score-given ex lines whole long cantus = record {
       ∙ ap (λ c. Some (cell_in c ex.cantus_voice)) (sym col);
 }
 
-pub sung-valid : (ex : Exercise) (text : TextLines) (score : Grid) → ex.cantus_voice < ex.voices → length ex.cantus ≡ ex.bars
+pub sung-valid : (ex : Exercise) (text : TextLines) (score : Grid) → ex.cantus_voice < ex.voices → length ex.cantus
+    ≡ ex.bars
     → sung_score ex text ≡ Ok score → IsGiven ex score
 unfolding sung_score
 sung-valid ex text score there whole e =
     let lines = bind_ok (voices_in ex (range_with_len 0 ex.voices) [] text) _ score e in
     let end = bind_ok (no_line lines.0.1) _ score lines.2 in
     let long : length lines.0.0 ≡ ex.voices =
-    omega (arith, voices-length ex (range_with_len 0 ex.voices) [] text lines.0 lines.1, length-range_with_len 0 ex.voices) in
+    omega (
+      arith,
+      voices-length ex (range_with_len 0 ex.voices) [] text lines.0 lines.1,
+      length-range_with_len 0
+          ex.voices,
+    ) in
     let keeps = voices-keep ex ex.voices 0 [] text lines.0 refl lines.1 in
     subst (IsGiven ex) (value_is (score_of ex.bars lines.0.0) score _ refl end.2)
     (score-given ex lines.0.0 whole long (keeps.cantus (omega arith) (omega (arith, there))))
 
-pub setting-valid : (ex : Exercise) (text : TextLines) (o : Option Grid) → ex.cantus_voice < ex.voices → length ex.cantus ≡ ex.bars
+pub setting-valid : (ex : Exercise) (text : TextLines) (o : Option Grid) → ex.cantus_voice < ex.voices
+    → length ex.cantus ≡ ex.bars
     → setting_in ex text ≡ Ok o → IfSome o (IsGiven ex)
 unfolding setting_in
 setting-valid ex text o there whole e = by (begins (codes "sing") text) e
   where
-    by : (b : Bool) → (if b then (sung_score ex text >>= λ score. Ok (Some score)) else (no_line text >>= λ end. Ok None)) ≡ Ok o
+    by : (b : Bool) → (if b then (sung_score ex text >>= λ score. Ok (Some score))
+        else (no_line text >>= λ end. Ok None)) ≡ Ok o
         → IfSome o (IsGiven ex)
     by true e =
         let score = bind_ok (sung_score ex text) (λ score. Ok (Some score)) o e in
-        subst (λ p. IfSome p (IsGiven ex)) (value_is (Some score.0) o _ refl score.2) (sung-valid ex text score.0 there whole score.1)
+        subst (λ p. IfSome p (IsGiven ex)) (value_is (Some score.0) o _ refl score.2)
+        (sung-valid ex text score.0 there whole score.1)
     by false e =
         let end = bind_ok (no_line text) (λ end. Ok None) o e in
         subst (λ p. IfSome p (IsGiven ex)) (value_is None o _ refl end.2) tt

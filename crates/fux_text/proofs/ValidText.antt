@@ -81,10 +81,12 @@ exercise-valid bytes ex e =
     let h = head-valid text.0 head.0 head.1 in
     subst IsValid (value_is _ ex _ refl setting.2)
     (all-valid head.0.0 ranges.0.0 relax.0.0 setting.0 h
-    (ranges-valid head.0.0 head.0.1 ranges.0 h.voices.above ranges.1) (relaxes-valid head.0.0 ranges.0.1 relax.0 relax.1)
+    (ranges-valid head.0.0 head.0.1 ranges.0 h.voices.above ranges.1)
+    (relaxes-valid head.0.0 ranges.0.1 relax.0 relax.1)
     (setting-valid head.0.0 relax.0.1 setting.0 h.cantus_there h.whole setting.1))
 
-pub alone-valid : (ex : Exercise) (bytes : List ℕ) (score : Grid) → IsValid ex → setting_alone ex bytes ≡ Ok score → IsGiven ex score
+pub alone-valid : (ex : Exercise) (bytes : List ℕ) (score : Grid) → IsValid ex → setting_alone ex bytes ≡ Ok score
+    → IsGiven ex score
 unfolding setting_alone
 alone-valid ex bytes score valid e =
     let text = bind_ok (text_in bytes) _ score e in

@@ -13,7 +13,8 @@ use Rattle.fux_text.specs.Names.{mode_named, pitch_named}
 
 -- `fux 1`: another version is `word`
 abbrev pub version_form : Form
-version_form = record { extra = kinds.Word; places = word_place kinds.Head (codes "fux") ∷ word_place kinds.Word (codes "1") ∷ [] }
+version_form =
+    record { extra = kinds.Word; places = word_place kinds.Head (codes "fux") ∷ word_place kinds.Word (codes "1") ∷ [] }
 
 -- `mode M`: M is the name of a mode
 abbrev pub mode_form : Mode → Form

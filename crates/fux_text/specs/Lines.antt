@@ -59,7 +59,8 @@ voices_word (Some set) = join_with_byte 44 (map decimal (filter (has_voice set.b
 
 -- the words of a relax line
 abbrev pub relax_words : Relax → List (List ℕ)
-relax_words line = codes "relax" ∷ (codes "S" ++ decimal line.rule) ∷ voices_word line.voices ∷ decimal line.from ∷ decimal line.to ∷ decimal line.price ∷ []
+relax_words line = codes "relax" ∷ (codes "S" ++ decimal line.rule) ∷ voices_word line.voices ∷ decimal line.from
+    ∷ decimal line.to ∷ decimal line.price ∷ []
 
 -- the lines of an exercise, without a setting
 abbrev pub exercise_lines : Exercise → List (List (List ℕ))
@@ -93,7 +94,8 @@ free_voices ex = free_among ex (range_with_len 0 ex.voices)
 -- a bar line and the words of a voice for each bar but the first, with a space before each
 abbrev pub later_bars_text : ℕ → List (List Cell) → List ℕ
 later_bars_text v columns =
-    flat_map (λ bar. spaced (codes "|" ∷ bar_words v (bar_columns columns bar))) (range_with_len 2 (length columns / 8 - 1))
+    flat_map (λ bar. spaced (codes "|" ∷ bar_words v (bar_columns columns bar)))
+    (range_with_len 2 (length columns / 8 - 1))
 
 -- the `sing` line of a voice
 unfoldable pub sing_text : ℕ → List (List Cell) → List ℕ

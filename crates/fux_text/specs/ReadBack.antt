@@ -39,7 +39,8 @@ NoteTextsAreRead = (bytes : List ℕ) (ex : Exercise) → IsTextOf bytes ex ↔ 
 -- so it is of an exercise or has a fault
 abbrev pub NoteTextsOrFaults : Type 0
 NoteTextsOrFaults = (bytes : List ℕ)
-    → ((ex : Exercise) × IsTextOf bytes ex) ⊎ ((kind : TextKind) × (line : ℕ) × (column : ℕ) × HasFault bytes kind line column)
+    → ((ex : Exercise) × IsTextOf bytes ex)
+    ⊎ ((kind : TextKind) × (line : ℕ) × (column : ℕ) × HasFault bytes kind line column)
 
 -- it is of one exercise at most, and has no fault if it is of one
 abbrev pub NoteTextsAreOfOne : Type 0

@@ -117,7 +117,8 @@ voice_in ex v text =
     if v == ex.cantus_voice then Ok (cantus_cells ex.cantus, text) else sing_line_in ex.bars v text
 
 -- the cells of voices behind those before
-unfoldable pub voices_in : Exercise → List ℕ → List (List Cell) → TextLines → Result (List (List Cell) × TextLines) Fault
+unfoldable pub voices_in : Exercise → List ℕ → List (List Cell) → TextLines
+    → Result (List (List Cell) × TextLines) Fault
 voices_in ex [] before text = Ok (before, text)
 voices_in ex (v ∷ vs) before text = do
   cells ← voice_in ex v text

@@ -23,7 +23,8 @@ AreSingLinesOf ex bytes score = AreSettingLines ex bytes score
 
 -- the bytes are no such lines, and this is their first fault
 unfoldable pub HasSingFault : Exercise → List ℕ → TextKind → ℕ → ℕ → Type 0
-HasSingFault ex bytes kind line column = IsFirstSingFault ex bytes (record { kind = kind; line = line; column = column })
+HasSingFault ex bytes kind line column =
+    IsFirstSingFault ex bytes (record { kind = kind; line = line; column = column })
 
 -- the answer is this one, or tells of want of memory
 abbrev pub IsEither : TextFault → TextFault → Type 0
@@ -35,7 +36,8 @@ Finds result value = MatchResult result (λ found. found ≡ value) (λ fault. f
 
 -- each fault that is told, but for want of memory, is one of these
 abbrev pub TellsOnly : {A : Type 0} → Result A TextFault → (TextKind → ℕ → ℕ → Type 0) → Type 0
-TellsOnly result Has = (kind : TextKind) (line column : ℕ) → result ≡ Err (faults.At kind line column) → Has kind line column
+TellsOnly result Has =
+    (kind : TextKind) (line column : ℕ) → result ≡ Err (faults.At kind line column) → Has kind line column
 
 -- and each of these is told, unless memory runs out
 abbrev pub TellsEach : {A : Type 0} → Result A TextFault → (TextKind → ℕ → ℕ → Type 0) → Type 0

@@ -13,21 +13,25 @@ use Rattle.melody_rules.proofs.Quiet.{still_leaps, still_near_rows, still_tolls,
 use Rattle.melody_rules.specs.Rows.{broken_in, cost_in, looks_back, near_rows, open_leaps, toll_rows, window_rows}
 use Rattle.melody_rules.specs.Book.{book, rule_row, toll_row}
 
-rule_form : (n : ℕ) (ex : Exercise) (i : ℕ) (behind : List (List Cell)) (now : List Cell) (ahead : List (List Cell)) → IsOf (voice_sets_of ex.voices) (λ voices. broken_in n ex voices i behind now ahead)
+rule_form : (n : ℕ) (ex : Exercise) (i : ℕ) (behind : List (List Cell)) (now : List Cell) (ahead : List (List Cell))
+    → IsOf (voice_sets_of ex.voices) (λ voices. broken_in n ex voices i behind now ahead)
 rule_form n ex i behind now ahead = at (looks_back n)
   where
-    at : (b : Bool) → IsOf (voice_sets_of ex.voices) (λ voices. (if b then window_rows n ex voices else whole_of (near_rows n ex voices)) i behind now ahead)
+    at : (b : Bool) → IsOf (voice_sets_of ex.voices)
+        (λ voices. (if b then window_rows n ex voices else whole_of (near_rows n ex voices)) i behind now ahead)
     at true = voice_form ex _
     at false = voice_form ex _
 
-rule_quiet : (n : ℕ) (ex : Exercise) (voices i : ℕ) (behind : List (List Cell)) (now : List Cell) → is_quiet i now ≡ true → broken_in n ex voices i behind now [] ≡ false
+rule_quiet : (n : ℕ) (ex : Exercise) (voices i : ℕ) (behind : List (List Cell)) (now : List Cell) → is_quiet i now
+    ≡ true → broken_in n ex voices i behind now [] ≡ false
 rule_quiet n ex voices i behind now h = at (looks_back n)
   where
     at : (b : Bool) → (if b then window_rows n ex voices else whole_of (near_rows n ex voices)) i behind now [] ≡ false
     at true = still_window_rows ex now (quiet_cell i now h) n voices i behind []
     at false = still_near_rows ex now (quiet_cell i now h) n voices i (newest_column behind) (previous_pitches behind)
 
-toll_quiet : (n : ℕ) (ex : Exercise) (i : ℕ) (behind : List (List Cell)) (now : List Cell) → is_quiet i now ≡ true → cost_in n ex i behind now [] ≡ 0
+toll_quiet : (n : ℕ) (ex : Exercise) (i : ℕ) (behind : List (List Cell)) (now : List Cell) → is_quiet i now ≡ true
+    → cost_in n ex i behind now [] ≡ 0
 toll_quiet n ex i behind now h = at (n == 13)
   where
     at : (b : Bool) → (if b then open_leaps ex else whole_of (toll_rows n ex)) i behind now [] ≡ 0

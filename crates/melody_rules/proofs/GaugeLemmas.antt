@@ -35,7 +35,8 @@ length-pitches cells = notes_held 0 cells
 
 pub leaps-bound : (ps : List Pitch) → leaps_in ps ≤ length ps
 leaps-bound [] = omega arith
-leaps-bound (p ∷ ps) = omega (arith, leaps-bound ps, as_number-bound (holds_of is_leap (interval_of_pitches (last_of ps) (Some p))))
+leaps-bound (p ∷ ps) =
+    omega (arith, leaps-bound ps, as_number-bound (holds_of is_leap (interval_of_pitches (last_of ps) (Some p))))
 
 max_rises : (k g : ℤ) → g <ℤ k → int_max k g ≡ k
 max_rises k g h = omega (arith, ints, clamps, h)
@@ -65,7 +66,8 @@ none_above key (p ∷ ps) h =
     ∙ none_above key ps (under_second (key_of p) (greatest_key ps) key h)
 
 -- a note above all others is the climax
-pub climax_new : (p : Pitch) (ps : List Pitch) (key : ℕ) (kept : Climax) → pos key ≡ key_of p → kept.greatest < key → IsClimaxOf ps kept → IsClimaxOf (p ∷ ps) (record { greatest = key; count = 1 })
+pub climax_new : (p : Pitch) (ps : List Pitch) (key : ℕ) (kept : Climax) → pos key ≡ key_of p → kept.greatest < key
+    → IsClimaxOf ps kept → IsClimaxOf (p ∷ ps) (record { greatest = key; count = 1 })
 climax_new p ps key kept e h r =
     let below : pos kept.greatest <ℤ pos key = grind (arith, ints, h) in
     let above : greatest_key ps <ℤ key_of p = rw (← r.greatest, ← e) below in
@@ -81,7 +83,8 @@ climax_new p ps key kept e h r =
     }
 
 -- a note at the climax is one more of it
-pub climax_again : (p : Pitch) (ps : List Pitch) (key : ℕ) (kept : Climax) → pos key ≡ key_of p → kept.greatest ≡ key → IsClimaxOf ps kept → IsClimaxOf (p ∷ ps) (record { greatest = key; count = kept.count + 1 })
+pub climax_again : (p : Pitch) (ps : List Pitch) (key : ℕ) (kept : Climax) → pos key ≡ key_of p → kept.greatest ≡ key
+    → IsClimaxOf ps kept → IsClimaxOf (p ∷ ps) (record { greatest = key; count = kept.count + 1 })
 climax_again p ps key kept e h r =
     let same : greatest_key ps ≡ key_of p = sym r.greatest ∙ ap pos h ∙ e in
     let level : key_of p ≤ℤ greatest_key ps = rw same (omega (arith, ints)) in
@@ -102,11 +105,13 @@ climax_again p ps key kept e h r =
     one_first n = omega arith
 
 -- a note below the climax leaves it as it is
-pub climax_under : (p : Pitch) (ps : List Pitch) (key : ℕ) (kept : Climax) → pos key ≡ key_of p → key < kept.greatest → IsClimaxOf ps kept → IsClimaxOf (p ∷ ps) kept
+pub climax_under : (p : Pitch) (ps : List Pitch) (key : ℕ) (kept : Climax) → pos key ≡ key_of p → key < kept.greatest
+    → IsClimaxOf ps kept → IsClimaxOf (p ∷ ps) kept
 climax_under p ps key kept e h r =
     let under : pos key <ℤ pos kept.greatest = grind (arith, ints, h) in
     let below : key_of p <ℤ greatest_key ps = rw (← r.greatest, ← e) under in
-    let top : greatest_key (p ∷ ps) ≡ greatest_key ps = max_keeps (key_of p) (greatest_key ps) (omega (arith, ints, below)) in
+    let top : greatest_key (p ∷ ps) ≡ greatest_key ps = max_keeps (key_of p) (greatest_key ps)
+    (omega (arith, ints, below)) in
     record {
       greatest = r.greatest ∙ sym top;
       count =
@@ -123,16 +128,20 @@ pub climax-bound : (ps : List Pitch) (kept : Climax) → IsClimaxOf ps kept → 
 climax-bound ps kept r = omega (arith, r.count, count_by-le-length (is_climax ps) ps)
 
 -- what Q17 says at least, by what is kept
-pub least_kept : (ex : Exercise) (v i : ℕ) (cells : List Cell) (kept : Climax) → length cells ≡ i → IsClimaxOf (pitches cells) kept
+pub least_kept : (ex : Exercise) (v i : ℕ) (cells : List Cell) (kept : Climax) → length cells ≡ i
+    → IsClimaxOf (pitches cells) kept
     → climax_least ex v cells ≡ (if is_final_climax ex v i (pos kept.greatest) then kept.count - 1 else 0)
 least_kept ex v i cells kept long r =
     least_is ex v cells
     ∙ ap (λ n. least_by_key ex v n (pitches cells)) long
-    ∙ ap (λ k. if is_final_climax ex v i k then notes_at (greatest_key (pitches cells)) (pitches cells) - 1 else 0) (sym r.greatest)
-    ∙ ap (λ n. if is_final_climax ex v i (pos kept.greatest) then n - 1 else 0) (sym (r.count ∙ climax_is (pitches cells)))
+    ∙ ap (λ k. if is_final_climax ex v i k then notes_at (greatest_key (pitches cells)) (pitches cells) - 1 else 0)
+    (sym r.greatest)
+    ∙ ap (λ n. if is_final_climax ex v i (pos kept.greatest) then n - 1 else 0)
+    (sym (r.count ∙ climax_is (pitches cells)))
 
 -- a compass is narrow by its greatest key and its least
-pub narrow_is : (ps : List Pitch) (kept : Compass) → IsCompassOf ps kept → is_narrow ps ≡ (kept.any && not (int_lt (pos 6) (pos kept.greatest -ℤ pos kept.least)))
+pub narrow_is : (ps : List Pitch) (kept : Compass) → IsCompassOf ps kept → is_narrow ps
+    ≡ (kept.any && not (int_lt (pos 6) (pos kept.greatest -ℤ pos kept.least)))
 narrow_is ps kept r =
     ap (λ b. has_notes ps && not b) (span_is 6 ps)
     ∙ ap (λ g. has_notes ps && not (int_lt (pos 6) (g -ℤ least_key ps))) (sym r.greatest)

@@ -26,7 +26,8 @@ wide n m up h =
 
 -- by so many degrees and semitones, whatever their signs
 far : (same : Bool) (n m : ℕ) (up : Bool) → (n == 6 || nat_lt 7 n) ≡ true
-    → (same && (list_any (λ size. (n == size.0) && (m == size.1)) melodic_sizes || (((n == 5) && (m == 8)) && up))) ≡ false
+    → (same && (list_any (λ size. (n == size.0) && (m == size.1)) melodic_sizes || (((n == 5) && (m == 8)) && up)))
+    ≡ false
 far false n m up h = refl
 far true zero m up h = cc
 far true (suc zero) m up h = cc
@@ -36,8 +37,11 @@ far true (suc (suc (suc (suc zero)))) m up h = cc
 far true (suc (suc (suc (suc (suc zero))))) m up h = cc
 far true (suc (suc (suc (suc (suc (suc zero)))))) m up h = refl
 far true (suc (suc (suc (suc (suc (suc (suc zero))))))) m up h = cc
-far true (suc (suc (suc (suc (suc (suc (suc (suc n)))))))) m up h = wide (suc (suc (suc (suc (suc (suc (suc (suc n)))))))) m up (omega arith)
+far true (suc (suc (suc (suc (suc (suc (suc (suc n)))))))) m up h =
+    wide (suc (suc (suc (suc (suc (suc (suc (suc n)))))))) m up (omega arith)
 
-pub far_is_unmelodic : (i : Interval) → (degrees_without_sign i == 6 || nat_lt 7 (degrees_without_sign i)) ≡ true → is_melodic i ≡ false
+pub far_is_unmelodic : (i : Interval) → (degrees_without_sign i == 6 || nat_lt 7 (degrees_without_sign i)) ≡ true
+    → is_melodic i ≡ false
 far_is_unmelodic i h =
-    far (int_eq (int_signum i.degrees) (int_signum i.semitones)) (degrees_without_sign i) (semitones_without_sign i) (rises i) h
+    far (int_eq (int_signum i.degrees) (int_signum i.semitones)) (degrees_without_sign i) (semitones_without_sign i)
+    (rises i) h

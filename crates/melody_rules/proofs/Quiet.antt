@@ -20,20 +20,25 @@ no_second : (test : Interval → Interval → Bool) (i : Option Interval) → ho
 no_second test None = refl
 no_second test (Some i) = refl
 
-still_moves : (test : Interval → Interval → Bool) (before last : Option Pitch) (c : Cell) → starts c ≡ false → on_moves test before last c ≡ false
+still_moves : (test : Interval → Interval → Bool) (before last : Option Pitch) (c : Cell) → starts c ≡ false
+    → on_moves test before last c ≡ false
 still_moves test before last Rest h = no_second test (interval_of_pitches before last)
 still_moves test before last (Hold p) h = no_second test (interval_of_pitches before last)
 still_moves test before last (Start p) h = cc
 
 -- a cell in which no note starts breaks nothing
-still_near : (rule species : ℕ) (previous : Option Pitch) (c : Cell) → starts c ≡ false → voice_rule rule species previous c ≡ false
+still_near : (rule species : ℕ) (previous : Option Pitch) (c : Cell) → starts c ≡ false
+    → voice_rule rule species previous c ≡ false
 still_near rule species previous Rest h =
-    either_none (rule == 4) _ _ false refl (either_none (rule == 5) _ _ false (and_right (bars_repetitions species) false refl) refl)
+    either_none (rule == 4) _ _ false refl
+    (either_none (rule == 5) _ _ false (and_right (bars_repetitions species) false refl) refl)
 still_near rule species previous (Hold p) h =
-    either_none (rule == 4) _ _ false refl (either_none (rule == 5) _ _ false (and_right (bars_repetitions species) false refl) refl)
+    either_none (rule == 4) _ _ false refl
+    (either_none (rule == 5) _ _ false (and_right (bars_repetitions species) false refl) refl)
 still_near rule species previous (Start p) h = cc
 
-no_move : (test : Interval → Bool) (previous : Option Pitch) (c : Cell) → starts c ≡ false → holds_of test (move_from previous c) ≡ false
+no_move : (test : Interval → Bool) (previous : Option Pitch) (c : Cell) → starts c ≡ false
+    → holds_of test (move_from previous c) ≡ false
 no_move test previous Rest h = refl
 no_move test previous (Hold p) h = refl
 no_move test previous (Start p) h = cc
@@ -42,19 +47,26 @@ still_back : (rule : ℕ) (ps : List Pitch) (c : Cell) → starts c ≡ false �
 still_back rule ps Rest h =
     either_none (rule == 6) _ _ false (and_right _ false refl)
     (either_none (rule == 7) _ _ false (no_second _ (interval_of_pitches (before_last ps) (last_of ps)))
-    (either_none (rule == 8) _ _ false (ap (λ b. b && holds_of (λ k. semitones_without_sign k == 6) (interval_of_pitches (latest_turning ps) (last_of ps))) (no_second _ (interval_of_pitches (before_last ps) (last_of ps)))) refl))
+    (either_none (rule == 8) _ _ false (ap
+    (λ b. b && holds_of (λ k. semitones_without_sign k == 6) (interval_of_pitches (latest_turning ps) (last_of ps)))
+    (no_second _ (interval_of_pitches (before_last ps) (last_of ps)))) refl))
 still_back rule ps (Hold p) h =
     either_none (rule == 6) _ _ false (and_right _ false refl)
     (either_none (rule == 7) _ _ false (no_second _ (interval_of_pitches (before_last ps) (last_of ps)))
-    (either_none (rule == 8) _ _ false (ap (λ b. b && holds_of (λ k. semitones_without_sign k == 6) (interval_of_pitches (latest_turning ps) (last_of ps))) (no_second _ (interval_of_pitches (before_last ps) (last_of ps)))) refl))
+    (either_none (rule == 8) _ _ false (ap
+    (λ b. b && holds_of (λ k. semitones_without_sign k == 6) (interval_of_pitches (latest_turning ps) (last_of ps)))
+    (no_second _ (interval_of_pitches (before_last ps) (last_of ps)))) refl))
 still_back rule ps (Start p) h = cc
 
 module _ (ex : Exercise) (now : List Cell) (still : (v : ℕ) → starts (cell_in now v) ≡ false) where
-  pub still_near_rows : (rule voices i : ℕ) (before : List Cell) (previous : Pitches) → near_rows rule ex voices i before previous now ≡ false
+  pub still_near_rows : (rule voices i : ℕ) (before : List Cell) (previous : Pitches)
+      → near_rows rule ex voices i before previous now ≡ false
   still_near_rows rule voices i before previous =
-      on_free_voice-none ex _ voices (λ v. still_near rule (species_in ex v) (pitch_at previous v) (cell_in now v) (still v))
+      on_free_voice-none ex _ voices (λ v. still_near rule (species_in ex v) (pitch_at previous v) (cell_in now v)
+      (still v))
 
-  pub still_window_rows : (rule voices i : ℕ) (behind ahead : List (List Cell)) → window_rows rule ex voices i behind now ahead ≡ false
+  pub still_window_rows : (rule voices i : ℕ) (behind ahead : List (List Cell))
+      → window_rows rule ex voices i behind now ahead ≡ false
   still_window_rows rule voices i behind ahead =
       on_free_voice-none ex _ voices (λ v. still_back rule (pitches (line v behind)) (cell_in now v) (still v))
 
@@ -66,5 +78,7 @@ module _ (ex : Exercise) (now : List Cell) (still : (v : ℕ) → starts (cell_i
   pub still_leaps : (i : ℕ) (behind ahead : List (List Cell)) → open_leaps ex i behind now ahead ≡ 0
   unfolding open_leaps
   still_leaps i behind ahead =
-      count_free-none ex (λ v. leaves_leap_open (before_last (pitches (line v behind))) (last_of (pitches (line v behind))) (cell_in now v))
-      (λ v. still_moves (λ i j. nat_le 3 (degrees_without_sign i) && not (is_step j && opposite_ways i j)) (before_last (pitches (line v behind))) (last_of (pitches (line v behind))) (cell_in now v) (still v))
+      count_free-none ex (λ v. leaves_leap_open (before_last (pitches (line v behind)))
+      (last_of (pitches (line v behind))) (cell_in now v))
+      (λ v. still_moves (λ i j. nat_le 3 (degrees_without_sign i) && not (is_step j && opposite_ways i j))
+      (before_last (pitches (line v behind))) (last_of (pitches (line v behind))) (cell_in now v) (still v))

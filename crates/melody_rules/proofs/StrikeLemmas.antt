@@ -33,7 +33,8 @@ alter_place-bound : (a : ℤ) → alter_place a < 3
 alter_place-bound a = grind arith
 
 same-self : (p : Pitch) → same_pitch p p ≡ true
-same-self p = and_from (degree_of p == degree_of p) (int_eq (alter_of p) (alter_of p)) (grind (arith, nat_tests)) (equal (alter_of p))
+same-self p = and_from (degree_of p == degree_of p) (int_eq (alter_of p) (alter_of p)) (grind (arith, nat_tests))
+    (equal (alter_of p))
 
 -- two pitches of one place are one
 place-one : (p q : Pitch) → place_in q ≡ place_in p → q ≡ p
@@ -45,7 +46,8 @@ place-one p q e =
     let degrees : degree_of q ≡ degree_of p = omega (arith, e, a, b, least, other) in
     let places : alter_place (alter_of q) ≡ alter_place (alter_of p) = omega (arith, e, a, b, least, other) in
     pitch_ext q p degrees
-    (sym (alter_at-place (alter_of q) q.is_pitch.flat q.is_pitch.sharp) ∙ ap alter_at places ∙ alter_at-place (alter_of p) p.is_pitch.flat p.is_pitch.sharp)
+    (sym (alter_at-place (alter_of q) q.is_pitch.flat q.is_pitch.sharp) ∙ ap alter_at places
+    ∙ alter_at-place (alter_of p) p.is_pitch.flat p.is_pitch.sharp)
 
 place-other : (p q : Pitch) → same_pitch q p ≡ false → place_in q ≢ place_in p
 place-other p q h e =
@@ -54,20 +56,26 @@ place-other p q h e =
     cc
 
 -- the counts after one strike more
-pub strike : (ps : List Pitch) (counts : List ℕ) (p q : Pitch) (place n : ℕ) → place ≡ place_in p → place < length counts → n ≡ count_by (same_pitch p) ps + 1 → slice_index counts (place_in q) ≡ count_by (same_pitch q) ps → slice_index (slice_set counts place n) (place_in q) ≡ count_by (same_pitch q) (p ∷ ps)
+pub strike : (ps : List Pitch) (counts : List ℕ) (p q : Pitch) (place n : ℕ) → place ≡ place_in p
+    → place < length counts → n ≡ count_by (same_pitch p) ps + 1 → slice_index counts (place_in q)
+    ≡ count_by (same_pitch q) ps → slice_index (slice_set counts place n) (place_in q)
+    ≡ count_by (same_pitch q) (p ∷ ps)
 strike ps counts p q place n at within more before =
     elim (cases_Bool (same_pitch q p)) [
       | inl same ↦
           let one : q ≡ p = equal_from_test q p same in
           let here : place_in q ≡ place = ap place_in one ∙ sym at in
-          let found : slice_index (slice_set counts place n) (place_in q) ≡ n = ap (slice_index (slice_set counts place n)) here ∙ get_or-set_same counts place n 0 within in
-          let counted : count_by (same_pitch q) ps ≡ count_by (same_pitch p) ps = ap (λ x. count_by (same_pitch x) ps) one in
+          let found : slice_index (slice_set counts place n) (place_in q)
+          ≡ n = ap (slice_index (slice_set counts place n)) here ∙ get_or-set_same counts place n 0 within in
+          let counted : count_by (same_pitch q) ps
+          ≡ count_by (same_pitch p) ps = ap (λ x. count_by (same_pitch x) ps) one in
           let step : count_by (same_pitch q) (p ∷ ps) ≡ 1 + count_by (same_pitch q) ps =
           sum_by-cons (λ x. cond (same_pitch q x) 1 0) p ps ∙ ap (λ b. cond b 1 0 + count_by (same_pitch q) ps) same in
           omega (arith, found, more, counted, step)
       | inr other ↦
           let apart : place_in q ≢ place = λ e. place-other p q other (e ∙ at) in
-          let found : slice_index (slice_set counts place n) (place_in q) ≡ slice_index counts (place_in q) = get_or-set_other counts place (place_in q) n 0 apart in
+          let found : slice_index (slice_set counts place n) (place_in q)
+          ≡ slice_index counts (place_in q) = get_or-set_other counts place (place_in q) n 0 apart in
           let step : count_by (same_pitch q) (p ∷ ps) ≡ 0 + count_by (same_pitch q) ps =
           sum_by-cons (λ x. cond (same_pitch q x) 1 0) p ps ∙ ap (λ b. cond b 1 0 + count_by (same_pitch q) ps) other in
           omega (arith, found, before, step)

@@ -15,11 +15,14 @@ use Rattle.melody_rules.specs.Notes.{AreNotesOf, IsNotesOf}
 use Rattle.melody_rules.specs.Rows.{last_of}
 
 -- the notes that are read at a voice are those of its line
-pub notes_at : (behind : List (List Cell)) (voices : List VoiceNotes) (v : ℕ) (default : VoiceNotes) → AreNotesOf behind voices → length voices ≡ 4 → v < 4 → IsNotesOf (line v behind) (get_or voices v default)
-notes_at behind voices v default are four here = are v (get_or voices v default) (slice_get-get_or voices v default (omega arith))
+pub notes_at : (behind : List (List Cell)) (voices : List VoiceNotes) (v : ℕ) (default : VoiceNotes)
+    → AreNotesOf behind voices → length voices ≡ 4 → v < 4 → IsNotesOf (line v behind) (get_or voices v default)
+notes_at behind voices v default are four here =
+    are v (get_or voices v default) (slice_get-get_or voices v default (omega arith))
 
 -- what holds of four holds of each of them
-pub each_of_four : (P : ℕ → VoiceNotes → Type 0) (a b c d : VoiceNotes) → P 0 a → P 1 b → P 2 c → P 3 d → (v : ℕ) (notes : VoiceNotes) → slice_get (a ∷ b ∷ c ∷ d ∷ []) v ≡ Some notes → P v notes
+pub each_of_four : (P : ℕ → VoiceNotes → Type 0) (a b c d : VoiceNotes) → P 0 a → P 1 b → P 2 c → P 3 d
+    → (v : ℕ) (notes : VoiceNotes) → slice_get (a ∷ b ∷ c ∷ d ∷ []) v ≡ Some notes → P v notes
 each_of_four P a b c d pa pb pc pd zero notes e = let same : a ≡ notes = cc in subst (P 0) same pa
 each_of_four P a b c d pa pb pc pd (suc zero) notes e = let same : b ≡ notes = cc in subst (P 1) same pb
 each_of_four P a b c d pa pb pc pd (suc (suc zero)) notes e = let same : c ≡ notes = cc in subst (P 2) same pc
@@ -43,7 +46,8 @@ both : (a b x : Bool) → a ≡ true → b ≡ true → (a && (b && x)) ≡ x
 both a b x ha hb = rw (ha, hb) refl
 
 -- a test of the free voice of a set
-pub on_free_voice-test : (ex : Exercise) (test : ℕ → Bool) (bits v : ℕ) → Some v ≡ voice_of bits → v < ex.voices → is_free ex v ≡ true → on_free_voice ex test bits ≡ test v
+pub on_free_voice-test : (ex : Exercise) (test : ℕ → Bool) (bits v : ℕ) → Some v ≡ voice_of bits → v < ex.voices
+    → is_free ex v ≡ true → on_free_voice ex test bits ≡ test v
 on_free_voice-test ex test bits v one there free =
     ap (holds_of_voice ex (λ w. is_free ex w && test w)) (sym one)
     ∙ both (nat_lt v ex.voices) (is_free ex v) (test v) (test_from_below v ex.voices there) free

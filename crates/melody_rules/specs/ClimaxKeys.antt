@@ -88,7 +88,8 @@ all_rise ex v a b [] h e = refl
 all_rise ex v a b (j ∷ js) h e =
     let parts = and_parts (is_topped ex v a j) (list_all (is_topped ex v a) js) e in
     and_from (is_topped ex v b j) (list_all (is_topped ex v b) js)
-    (or_each (not (menu_starts ex v j)) (is_at_top a (range_of ex v (bar_of j))) (not (menu_starts ex v j)) (is_at_top b (range_of ex v (bar_of j)))
+    (or_each (not (menu_starts ex v j)) (is_at_top a (range_of ex v (bar_of j))) (not (menu_starts ex v j))
+    (is_at_top b (range_of ex v (bar_of j)))
     (λ k. k) (top_rises a b (range_of ex v (bar_of j)) h) parts.0)
     (all_rise ex v a b js h parts.1)
 

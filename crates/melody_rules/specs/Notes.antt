@@ -17,7 +17,8 @@ pub record IsNotesOf (cells : List Cell) (notes : VoiceNotes) : Type 0 where
 
 -- the notes of each voice are those of its line in a history of columns
 abbrev pub AreNotesOf : List (List Cell) → List VoiceNotes → Type 0
-AreNotesOf behind voices = (v : ℕ) (notes : VoiceNotes) → slice_get voices v ≡ Some notes → IsNotesOf (line v behind) notes
+AreNotesOf behind voices =
+    (v : ℕ) (notes : VoiceNotes) → slice_get voices v ≡ Some notes → IsNotesOf (line v behind) notes
 
 -- in each column that comes after these notes, it is what the row answers
 abbrev pub AnswersAfter : {R : Type 0} → Row R → List VoiceNotes → List Cell → R → Type 0

@@ -47,7 +47,8 @@ abbrev pub some_rough : Exercise → List (List Cell) → List Cell → Bool
 some_rough ex behind now = list_any (is_rough_at ex behind now) (0 ∷ 1 ∷ 2 ∷ 3 ∷ [])
 
 -- then each rule of melody is kept
-near_kept : (rule species : ℕ) (previous : Option Pitch) (c : Cell) → is_rough_move species previous c ≡ false → voice_rule rule species previous c ≡ false
+near_kept : (rule species : ℕ) (previous : Option Pitch) (c : Cell) → is_rough_move species previous c ≡ false
+    → voice_rule rule species previous c ≡ false
 near_kept rule species previous c h =
     let a = or_parts (moves_unmelodically previous c) (repeats species previous c || leaves_sharp previous c) h in
     let b = or_parts (repeats species previous c) (leaves_sharp previous c) a.1 in
@@ -61,7 +62,8 @@ back_kept rule ps c h =
     let a = or_parts outline (leap || (tritone || widens ps c)) h in
     let b = or_parts leap (tritone || widens ps c) a.1 in
     let d = or_parts tritone (widens ps c) b.1 in
-    either_none (rule == 6) _ _ false a.0 (either_none (rule == 7) _ _ false b.0 (either_none (rule == 8) _ _ false d.0 d.1))
+    either_none (rule == 6) _ _ false a.0 (either_none (rule == 7) _ _ false b.0
+    (either_none (rule == 8) _ _ false d.0 d.1))
 
 -- the pitch of the latest note, of four voices
 first_pitch : (ns : List Note) → note_pitch (first_of ns) ≡ last_of (map (λ n. n.pitch) ns)
@@ -69,23 +71,32 @@ first_pitch [] = refl
 first_pitch (n ∷ ns) = refl
 
 module _ (ex : Exercise) (behind : List (List Cell)) (now : List Cell) (kept : some_rough ex behind now ≡ false) where
-  pub smooth_near_rows : (rule voices i : ℕ) (before : List Cell) → near_rows rule ex voices i before (previous_pitches behind) now ≡ false
+  pub smooth_near_rows : (rule voices i : ℕ) (before : List Cell)
+      → near_rows rule ex voices i before (previous_pitches behind) now ≡ false
   smooth_near_rows rule voices i before =
-      on_free_voice-kept ex (λ v. is_rough (species_in ex v) (pitches (line v behind)) (cell_in now v)) (λ v. voice_rule rule (species_in ex v) (pitch_at (previous_pitches behind) v) (cell_in now v)) voices kept
+      on_free_voice-kept ex (λ v. is_rough (species_in ex v) (pitches (line v behind)) (cell_in now v))
+      (λ v. voice_rule rule (species_in ex v) (pitch_at (previous_pitches behind) v) (cell_in now v)) voices kept
       (moved 0) (moved 1) (moved 2) (moved 3)
     where
-      moved : (v : ℕ) → is_rough (species_in ex v) (pitches (line v behind)) (cell_in now v) ≡ false → voice_rule rule (species_in ex v) (note_pitch (first_of (notes_from 0 (line v behind)))) (cell_in now v) ≡ false
+      moved : (v : ℕ) → is_rough (species_in ex v) (pitches (line v behind)) (cell_in now v) ≡ false
+          → voice_rule rule (species_in ex v) (note_pitch (first_of (notes_from 0 (line v behind)))) (cell_in now v)
+          ≡ false
       moved v h =
-          let near = (or_parts (is_rough_move (species_in ex v) (last_of (pitches (line v behind))) (cell_in now v)) (is_rough_line (pitches (line v behind)) (cell_in now v)) h).0 in
+          let near = (or_parts (is_rough_move (species_in ex v) (last_of (pitches (line v behind))) (cell_in now v))
+          (is_rough_line (pitches (line v behind)) (cell_in now v)) h).0 in
           ap (λ q. voice_rule rule (species_in ex v) q (cell_in now v)) (first_pitch (notes_from 0 (line v behind)))
           ∙ near_kept rule (species_in ex v) (last_of (pitches (line v behind))) (cell_in now v) near
 
-  pub smooth_window_rows : (rule voices i : ℕ) (ahead : List (List Cell)) → window_rows rule ex voices i behind now ahead ≡ false
+  pub smooth_window_rows : (rule voices i : ℕ) (ahead : List (List Cell))
+      → window_rows rule ex voices i behind now ahead ≡ false
   smooth_window_rows rule voices i ahead =
-      on_free_voice-kept ex (λ v. is_rough (species_in ex v) (pitches (line v behind)) (cell_in now v)) (λ v. window_rule rule (pitches (line v behind)) (cell_in now v)) voices kept
+      on_free_voice-kept ex (λ v. is_rough (species_in ex v) (pitches (line v behind)) (cell_in now v))
+      (λ v. window_rule rule (pitches (line v behind)) (cell_in now v)) voices kept
       (moved 0) (moved 1) (moved 2) (moved 3)
     where
-      moved : (v : ℕ) → is_rough (species_in ex v) (pitches (line v behind)) (cell_in now v) ≡ false → window_rule rule (pitches (line v behind)) (cell_in now v) ≡ false
+      moved : (v : ℕ) → is_rough (species_in ex v) (pitches (line v behind)) (cell_in now v) ≡ false
+          → window_rule rule (pitches (line v behind)) (cell_in now v) ≡ false
       moved v h =
           back_kept rule (pitches (line v behind)) (cell_in now v)
-          (or_parts (is_rough_move (species_in ex v) (last_of (pitches (line v behind))) (cell_in now v)) (is_rough_line (pitches (line v behind)) (cell_in now v)) h).1
+          (or_parts (is_rough_move (species_in ex v) (last_of (pitches (line v behind))) (cell_in now v))
+          (is_rough_line (pitches (line v behind)) (cell_in now v)) h).1

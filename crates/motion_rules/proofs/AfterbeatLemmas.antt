@@ -13,7 +13,8 @@ on_pair-and : (ex : Exercise) (test : ℕ → ℕ → Bool) (also : Bool) (voice
     → on_pair ex (λ v w. test v w && also) voices ≡ (on_pair ex test voices && also)
 on_pair-and ex test also voices = at (pair_of voices)
   where
-    at : (pair : Option (ℕ × ℕ)) → holds_of_pair ex (λ v w. test v w && also) pair ≡ (holds_of_pair ex test pair && also)
+    at : (pair : Option (ℕ × ℕ)) → holds_of_pair ex (λ v w. test v w && also) pair
+        ≡ (holds_of_pair ex test pair && also)
     at None = refl
     at (Some pair) = sym (and_assoc (nat_lt pair.1 ex.voices) (test pair.0 pair.1) also)
 
@@ -21,7 +22,8 @@ module _ (ex : Exercise) (voices i : ℕ) (behind : List (List Cell)) (now : Lis
   pub kept_if_apart : on_pair ex (arrive_at_bar ex i (slice_index_or behind 7 []) now) voices ≡ false
       → afterbeat_row ex voices i behind now ahead ≡ false
   kept_if_apart e =
-      on_pair-and ex (arrive_at_bar ex i (slice_index_or behind 7 []) now) (stays_since_bar behind ex.species_voice) voices
+      on_pair-and ex (arrive_at_bar ex i (slice_index_or behind 7 []) now) (stays_since_bar behind ex.species_voice)
+      voices
       ∙ ap (λ b. b && stays_since_bar behind ex.species_voice) e
 
 -- the newest column is the first one

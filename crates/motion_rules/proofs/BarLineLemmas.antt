@@ -21,17 +21,22 @@ grown true n = omega arith
 grown false n = refl
 
 -- at a bar line a run grows or ends
-run-more : (degrees : ℕ) (col : List Cell) (h : List (List Cell)) (v w : ℕ) → begins_bar (length h) ≡ true → longer_run degrees (run_of degrees h v w) col v w ≡ run_of degrees (col ∷ h) v w
+run-more : (degrees : ℕ) (col : List Cell) (h : List (List Cell)) (v w : ℕ) → begins_bar (length h) ≡ true
+    → longer_run degrees (run_of degrees h v w) col v w ≡ run_of degrees (col ∷ h) v w
 run-more degrees col h v w e =
     grown (sound_imperfect degrees col v w) (prefix_len (λ c. sound_imperfect degrees c v w) (bar_lines h))
-    ∙ ap (λ b. min 3 (prefix_len (λ c. sound_imperfect degrees c v w) (if b then col ∷ bar_lines h else bar_lines h))) (sym e)
+    ∙ ap (λ b. min 3 (prefix_len (λ c. sound_imperfect degrees c v w) (if b then col ∷ bar_lines h else bar_lines h)))
+    (sym e)
 
-pub runs-more : (degrees : ℕ) (runs : List ℕ) (col : List Cell) (h : List (List Cell)) → begins_bar (length h) ≡ true → runs ≡ runs_of degrees h → longer_runs degrees runs col ≡ runs_of degrees (col ∷ h)
+pub runs-more : (degrees : ℕ) (runs : List ℕ) (col : List Cell) (h : List (List Cell)) → begins_bar (length h) ≡ true
+    → runs ≡ runs_of degrees h → longer_runs degrees runs col ≡ runs_of degrees (col ∷ h)
 runs-more degrees runs col h e same =
     ap (λ xs. longer_runs degrees xs col) same
-    ∙ six (run-more degrees col h 0 1 e) (run-more degrees col h 0 2 e) (run-more degrees col h 0 3 e) (run-more degrees col h 1 2 e) (run-more degrees col h 1 3 e) (run-more degrees col h 2 3 e)
+    ∙ six (run-more degrees col h 0 1 e) (run-more degrees col h 0 2 e) (run-more degrees col h 0 3 e)
+    (run-more degrees col h 1 2 e) (run-more degrees col h 1 3 e) (run-more degrees col h 2 3 e)
   where
-    six : {a b c d e f a' b' c' d' e' f' : ℕ} → a ≡ a' → b ≡ b' → c ≡ c' → d ≡ d' → e ≡ e' → f ≡ f' → (a ∷ b ∷ c ∷ d ∷ e ∷ f ∷ []) ≡ (a' ∷ b' ∷ c' ∷ d' ∷ e' ∷ f' ∷ [])
+    six : {a b c d e f a' b' c' d' e' f' : ℕ} → a ≡ a' → b ≡ b' → c ≡ c' → d ≡ d' → e ≡ e' → f ≡ f'
+        → (a ∷ b ∷ c ∷ d ∷ e ∷ f ∷ []) ≡ (a' ∷ b' ∷ c' ∷ d' ∷ e' ∷ f' ∷ [])
     six p q r s t u = cc
 
 off_bar : (n k m : ℕ) → n ≡ k + m → m % 8 ≡ 0 → 1 ≤ k → k ≤ 7 → begins_bar n ≡ false
@@ -43,11 +48,13 @@ on_bar n e = grind (arith, nat_tests)
 skipped : (col : List Cell) (h : List (List Cell)) → begins_bar (length h) ≡ false → bar_lines (col ∷ h) ≡ bar_lines h
 skipped col h e = ap (λ b. if b then col ∷ bar_lines h else bar_lines h) e
 
-taken : (col : List Cell) (h : List (List Cell)) → begins_bar (length h) ≡ true → bar_lines (col ∷ h) ≡ col ∷ bar_lines h
+taken : (col : List Cell) (h : List (List Cell)) → begins_bar (length h) ≡ true → bar_lines (col ∷ h) ≡ col
+    ∷ bar_lines h
 taken col h e = ap (λ b. if b then col ∷ bar_lines h else bar_lines h) e
 
 -- before a bar line the newest bar line is the eighth column
-newest_bar_line : (h : List (List Cell)) → 8 ≤ length h → length h % 8 ≡ 0 → bar_lines h ≡ get_or h 7 [] ∷ bar_lines (drop 8 h)
+newest_bar_line : (h : List (List Cell)) → 8 ≤ length h → length h % 8 ≡ 0 → bar_lines h ≡ get_or h 7 []
+    ∷ bar_lines (drop 8 h)
 newest_bar_line (a ∷ b ∷ c ∷ d ∷ e ∷ f ∷ g ∷ k ∷ h) l z =
     let whole : length h % 8 ≡ 0 = omega arith in
     skipped a (b ∷ c ∷ d ∷ e ∷ f ∷ g ∷ k ∷ h) (off_bar _ 7 (length h) (omega arith) whole (omega arith) (omega arith))
@@ -68,7 +75,8 @@ newest_bar_line (a ∷ b ∷ c ∷ d ∷ e ∷ f ∷ []) l z = absurd (omega ari
 newest_bar_line (a ∷ b ∷ c ∷ d ∷ e ∷ f ∷ g ∷ []) l z = absurd (omega arith)
 
 -- before a bar line the newest three are the eighth, the sixteenth and the twenty-fourth column
-three_bar_lines : (h : List (List Cell)) → 24 ≤ length h → length h % 8 ≡ 0 → bar_lines h ≡ get_or h 7 [] ∷ get_or h 15 [] ∷ get_or h 23 [] ∷ bar_lines (drop 8 (drop 8 (drop 8 h)))
+three_bar_lines : (h : List (List Cell)) → 24 ≤ length h → length h % 8 ≡ 0 → bar_lines h ≡ get_or h 7 []
+    ∷ get_or h 15 [] ∷ get_or h 23 [] ∷ bar_lines (drop 8 (drop 8 (drop 8 h)))
 three_bar_lines h l z =
     let once = drop 8 h in
     let twice = drop 8 once in
@@ -84,7 +92,8 @@ three_more : (m : ℕ) → nat_le 3 (min 3 (1 + (1 + (1 + m)))) ≡ true
 three_more m = grind (arith, nat_tests)
 
 -- three bar lines in a row and one more
-four : (n a b c : Bool) (m : ℕ) → (nat_le 3 (min 3 (cond a (1 + cond b (1 + cond c (1 + m) 0) 0) 0)) && n) ≡ (n && (a && (b && (c && true))))
+four : (n a b c : Bool) (m : ℕ) → (nat_le 3 (min 3 (cond a (1 + cond b (1 + cond c (1 + m) 0) 0) 0)) && n)
+    ≡ (n && (a && (b && (c && true))))
 four true true true true m = ap (λ x. x && true) (three_more m)
 four false true true true m = ap (λ x. x && false) (three_more m)
 four true false b c m = refl
@@ -95,11 +104,14 @@ four true true true false m = refl
 four false true true false m = refl
 
 -- a run of three and a column more are four bar lines
-goes_on-four : (degrees : ℕ) (h : List (List Cell)) (now : List Cell) (v w : ℕ) → 24 ≤ length h → length h % 8 ≡ 0 → (nat_le 3 (run_of degrees h v w) && sound_imperfect degrees now v w) ≡ list_all (λ col. sound_imperfect degrees col v w) (four_bar_lines h now)
+goes_on-four : (degrees : ℕ) (h : List (List Cell)) (now : List Cell) (v w : ℕ) → 24 ≤ length h → length h % 8 ≡ 0
+    → (nat_le 3 (run_of degrees h v w) && sound_imperfect degrees now v w)
+    ≡ list_all (λ col. sound_imperfect degrees col v w) (four_bar_lines h now)
 goes_on-four degrees h now v w l z =
     let sounds : List Cell → Bool = λ col. sound_imperfect degrees col v w in
     ap (λ lines. nat_le 3 (min 3 (prefix_len sounds lines)) && sounds now) (three_bar_lines h l z)
-    ∙ four (sounds now) (sounds (get_or h 7 [])) (sounds (get_or h 15 [])) (sounds (get_or h 23 [])) (prefix_len sounds (bar_lines (drop 8 (drop 8 (drop 8 h)))))
+    ∙ four (sounds now) (sounds (get_or h 7 [])) (sounds (get_or h 15 [])) (sounds (get_or h 23 []))
+    (prefix_len sounds (bar_lines (drop 8 (drop 8 (drop 8 h)))))
 
 -- how many pairs of voices pass a test, added up one by one
 count_pairs-written : (test : ℕ → ℕ → Bool)
@@ -122,23 +134,29 @@ count_pairs-written test =
     )
 
 -- the pairs that go on with runs of three are those of Q14
-pairs_going_on-four : (h : List (List Cell)) (now : List Cell) → 24 ≤ length h → length h % 8 ≡ 0 → pairs_going_on (runs_of 2 h) (runs_of 5 h) now ≡ count_pairs (keep_on (four_bar_lines h now))
+pairs_going_on-four : (h : List (List Cell)) (now : List Cell) → 24 ≤ length h → length h % 8 ≡ 0
+    → pairs_going_on (runs_of 2 h) (runs_of 5 h) now ≡ count_pairs (keep_on (four_bar_lines h now))
 pairs_going_on-four h now l z =
     rw (alike 0 1, alike 0 2, alike 0 3, alike 1 2, alike 1 3, alike 2 3)
     (count_pairs-written (keep_on (four_bar_lines h now)))
   where
     alike : (v w : ℕ) → goes_on (run_of 2 h v w) (run_of 5 h v w) now v w ≡ keep_on (four_bar_lines h now) v w
-    alike v w = ap (λ b. b || (nat_le 3 (run_of 5 h v w) && sound_imperfect 5 now v w)) (goes_on-four 2 h now v w l z) ∙ ap (λ b. list_all (λ col. sound_imperfect 2 col v w) (four_bar_lines h now) || b) (goes_on-four 5 h now v w l z)
+    alike v w = ap (λ b. b || (nat_le 3 (run_of 5 h v w) && sound_imperfect 5 now v w)) (goes_on-four 2 h now v w l z)
+        ∙ ap (λ b. list_all (λ col. sound_imperfect 2 col v w) (four_bar_lines h now) || b)
+        (goes_on-four 5 h now v w l z)
 
 -- Q14 at a column after a list, from what is kept of the list
-pub imperfect_runs-after : (ex : Exercise) (p : List (List Cell)) (now : List Cell) (thirds sixths : List ℕ) → 24 ≤ length p → length p % 8 ≡ 0 → thirds ≡ runs_of 2 (reverse p) → sixths ≡ runs_of 5 (reverse p) → pairs_going_on thirds sixths now ≡ reading_of (cost_in 14 ex) (p ++ now ∷ []) (length p)
+pub imperfect_runs-after : (ex : Exercise) (p : List (List Cell)) (now : List Cell) (thirds sixths : List ℕ)
+    → 24 ≤ length p → length p % 8 ≡ 0 → thirds ≡ runs_of 2 (reverse p) → sixths ≡ runs_of 5 (reverse p)
+    → pairs_going_on thirds sixths now ≡ reading_of (cost_in 14 ex) (p ++ now ∷ []) (length p)
 imperfect_runs-after ex p now thirds sixths l z of_thirds of_sixths =
     let whole : length (reverse p) ≡ length p = length-reverse p in
     let P : ℕ → Type 0 = λ n. n % 8 ≡ 0 in
     ap (λ xs. pairs_going_on xs sixths now) of_thirds
     ∙ ap (λ xs. pairs_going_on (runs_of 2 (reverse p)) xs now) of_sixths
     ∙ pairs_going_on-four (reverse p) now (omega arith) (subst P (sym whole) z)
-    ∙ ap (λ b. if b then count_pairs (keep_on (four_bar_lines (reverse p) now)) else 0) (sym (from_fourth (length p) l z))
+    ∙ ap (λ b. if b then count_pairs (keep_on (four_bar_lines (reverse p) now)) else 0)
+    (sym (from_fourth (length p) l z))
     ∙ sym (reading-at_end (cost_in 14 ex) p now)
   where
     from_fourth : (n : ℕ) → 24 ≤ n → n % 8 ≡ 0 → (begins_bar n && nat_le 4 (bar_of n)) ≡ true

@@ -19,15 +19,18 @@ use Rattle.motion_rules.proofs.Quiet.{quiet_rows, quiet_runs, quiet_tolls, withi
 use Rattle.motion_rules.specs.Rows.{broken_in, cost_in, enough_after, imperfect_runs, toll_rows}
 use Rattle.motion_rules.specs.Book.{at_once_row, at_once_toll, book, is_late, is_late_toll, late_row, late_toll, may_be_bare, rule_row, toll_row}
 
-rule_form : (n : ℕ) (ex : Exercise) (i : ℕ) (behind : List (List Cell)) (now : List Cell) (ahead : List (List Cell)) → IsOf (pair_sets_of ex.voices) (λ voices. broken_in n ex voices i behind now ahead)
+rule_form : (n : ℕ) (ex : Exercise) (i : ℕ) (behind : List (List Cell)) (now : List Cell) (ahead : List (List Cell))
+    → IsOf (pair_sets_of ex.voices) (λ voices. broken_in n ex voices i behind now ahead)
 rule_form n ex i behind now ahead = at (n == 10) (n == 16) refl refl
   where
-    at : (b c : Bool) → (n == 10) ≡ b → (n == 16) ≡ c → IsOf (pair_sets_of ex.voices) (λ voices. broken_in n ex voices i behind now ahead)
+    at : (b c : Bool) → (n == 10) ≡ b → (n == 16) ≡ c
+        → IsOf (pair_sets_of ex.voices) (λ voices. broken_in n ex voices i behind now ahead)
     at true c e f = rw e (pair_form ex _)
     at false true e f = rw (e, f) (pair_form ex _)
     at false false e f = rw (e, f) (pair_form ex _)
 
-toll_quiet : (n : ℕ) (ex : Exercise) (i : ℕ) (behind : List (List Cell)) (now : List Cell) → is_quiet i now ≡ true → cost_in n ex i behind now [] ≡ 0
+toll_quiet : (n : ℕ) (ex : Exercise) (i : ℕ) (behind : List (List Cell)) (now : List Cell) → is_quiet i now ≡ true
+    → cost_in n ex i behind now [] ≡ 0
 toll_quiet n ex i behind now h = at (n == 14)
   where
     at : (b : Bool) → (if b then imperfect_runs i behind now else whole_of (toll_rows n ex) i behind now []) ≡ 0
@@ -51,7 +54,8 @@ elsewhere ex voices i behind now none =
 
 late_rules_keep : (n : ℕ) → KeepsRuleLaws (late_row n)
 late_rules_keep n = record {
-  local = λ ex voices. local_from_row ex (afterbeat_row ex voices) (afterbeat_enough ex voices) (λ i behind now ahead t h. refl);
+  local = λ ex voices. local_from_row ex (afterbeat_row ex voices) (afterbeat_enough ex voices)
+      (λ i behind now ahead t h. refl);
   stays = λ ex voices i behind now ahead t h. refl;
   ends = λ ex voices. at_once_settles ex;
   form = λ ex i behind now ahead. pair_form ex _;
@@ -65,7 +69,8 @@ late_rules_keep n = record {
 
 rules_at_once_keep : (n : ℕ) → KeepsRuleLaws (at_once_row n)
 rules_at_once_keep n = record {
-  local = λ ex voices. local_from_row ex (broken_in n ex voices) (enough_after n ex voices) (λ i behind now ahead t h. refl);
+  local = λ ex voices. local_from_row ex (broken_in n ex voices) (enough_after n ex voices)
+      (λ i behind now ahead t h. refl);
   stays = λ ex voices i behind now ahead t h. refl;
   ends = λ ex voices. at_once_settles ex;
   form = rule_form n;

@@ -18,17 +18,23 @@ module _ (n : ℕ) (a b : List Cell) (same : IsSameBelow n a b) where
       ∙ ap (λ c. one_starts b v w && is_above (pitch_of c) (pitch_of (cell_in a w))) (same.cells v h)
       ∙ ap (λ c. one_starts b v w && is_above (pitch_of (cell_in b v)) (pitch_of c)) (same.cells w k)
 
-  parallel-same : (before : List Cell) (v w : ℕ) → v < n → w < n → move_in_parallel before a v w ≡ move_in_parallel before b v w
+  parallel-same : (before : List Cell) (v w : ℕ) → v < n → w < n → move_in_parallel before a v w
+      ≡ move_in_parallel before b v w
   parallel-same before v w h k =
-      ap (λ t. t && equal_perfects (interval_in before v w) (interval_in a v w)) (both_move-same n a b same v w h k before)
+      ap (λ t. t && equal_perfects (interval_in before v w) (interval_in a v w))
+      (both_move-same n a b same v w h k before)
       ∙ ap (λ i. both_move before b v w && equal_perfects (interval_in before v w) i) (interval-same n a b same v w h k)
 
-  pub near_rows-same : (rule : ℕ) (ex : Exercise) (voices i : ℕ) (before : List Cell) (previous : Pitches) → is_below n voices ≡ true → near_rows rule ex voices i before previous a ≡ near_rows rule ex voices i before previous b
+  pub near_rows-same : (rule : ℕ) (ex : Exercise) (voices i : ℕ) (before : List Cell) (previous : Pitches)
+      → is_below n voices ≡ true → near_rows rule ex voices i before previous a
+      ≡ near_rows rule ex voices i before previous b
   near_rows-same rule ex voices i before previous h = at (rule == 10) (rule == 16) refl refl
     where
-      at : (s t : Bool) → (rule == 10) ≡ s → (rule == 16) ≡ t → near_rows rule ex voices i before previous a ≡ near_rows rule ex voices i before previous b
+      at : (s t : Bool) → (rule == 10) ≡ s → (rule == 16) ≡ t → near_rows rule ex voices i before previous a
+          ≡ near_rows rule ex voices i before previous b
       at true t e f = rw e (on_pair-same ex n voices (cross a) (cross b) h cross-same)
-      at false true e f = rw (e, f) (on_pair-same ex n voices (move_in_parallel before a) (move_in_parallel before b) h (parallel-same before))
+      at false true e f = rw (e, f) (on_pair-same ex n voices (move_in_parallel before a) (move_in_parallel before b) h
+          (parallel-same before))
       at false false e f =
           rw (e, f)
           (on_pair-same ex n voices (outer_move_into_perfect ex before a) (outer_move_into_perfect ex before b) h

@@ -19,20 +19,26 @@ pub within_a_bar : (ex : Exercise) (voices i : ℕ) (behind : List (List Cell)) 
     → begins_bar i ≡ false → afterbeat_row ex voices i behind now [] ≡ false
 within_a_bar ex voices i behind now within =
     on_pair-none ex _ voices
-    (λ v w. ap (λ b. b && nat_le 8 i && arrive_in_parallel (slice_index_or behind 7 []) now v w && stays_since_bar behind ex.species_voice)
+    (λ v w. ap (λ b. b && nat_le 8 i && arrive_in_parallel (slice_index_or behind 7 []) now v w
+    && stays_since_bar behind ex.species_voice)
     (and_right (moves_within_bars ex.species && has_species_voice ex v w) (begins_bar i) within))
 
 module _ (ex : Exercise) (i : ℕ) (now : List Cell) (quiet : is_quiet i now ≡ true) where
-  pub quiet_rows : (rule voices : ℕ) (before : List Cell) (previous : Pitches) → near_rows rule ex voices i before previous now ≡ false
+  pub quiet_rows : (rule voices : ℕ) (before : List Cell) (previous : Pitches)
+      → near_rows rule ex voices i before previous now ≡ false
   quiet_rows rule voices before previous =
       either_none (rule == 10) _ _ false
-      (on_pair-none ex _ voices (λ v w. ap (λ b. b && is_above (pitch_of (cell_in now v)) (pitch_of (cell_in now w))) (quiet_pair i now quiet v w)))
+      (on_pair-none ex _ voices (λ v w. ap (λ b. b && is_above (pitch_of (cell_in now v)) (pitch_of (cell_in now w)))
+      (quiet_pair i now quiet v w)))
       (either_none (rule == 16) _ _ false
-      (on_pair-none ex _ voices (λ v w. ap (λ b. b && equal_perfects (interval_in before v w) (interval_in now v w)) (quiet_moves i before now quiet v w)))
-      (on_pair-none ex _ voices (λ v w. and_right (are_outer ex v w) _ (ap (λ b. b && sound_perfect now v w) (quiet_alike i before now quiet v w)))))
+      (on_pair-none ex _ voices (λ v w. ap (λ b. b && equal_perfects (interval_in before v w) (interval_in now v w))
+      (quiet_moves i before now quiet v w)))
+      (on_pair-none ex _ voices (λ v w. and_right (are_outer ex v w) _
+      (ap (λ b. b && sound_perfect now v w) (quiet_alike i before now quiet v w)))))
 
   pub quiet_tolls : (toll : ℕ) (before : List Cell) (previous : Pitches) → toll_rows toll ex i before previous now ≡ 0
   quiet_tolls toll before previous = count_pairs-none (move_alike before now) (quiet_alike i before now quiet)
 
   pub quiet_runs : (behind : List (List Cell)) → imperfect_runs i behind now ≡ 0
-  quiet_runs behind = ap (λ b. if b && nat_le 4 (bar_of i) then count_pairs (keep_on (four_bar_lines behind now)) else 0) (quiet_slot i now quiet)
+  quiet_runs behind = ap (λ b. if b && nat_le 4 (bar_of i) then count_pairs (keep_on (four_bar_lines behind now))
+      else 0) (quiet_slot i now quiet)

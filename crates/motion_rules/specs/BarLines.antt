@@ -34,7 +34,8 @@ longer_runs degrees runs col =
 
 -- with thirds, or with sixths, a column goes on with a run of three
 abbrev pub goes_on : ℕ → ℕ → List Cell → ℕ → ℕ → Bool
-goes_on thirds sixths col v w = (nat_le 3 thirds && sound_imperfect 2 col v w) || (nat_le 3 sixths && sound_imperfect 5 col v w)
+goes_on thirds sixths col v w =
+    (nat_le 3 thirds && sound_imperfect 2 col v w) || (nat_le 3 sixths && sound_imperfect 5 col v w)
 
 -- the pairs that do, where the runs are those of each pair
 abbrev pub pairs_going_on : List ℕ → List ℕ → List Cell → ℕ

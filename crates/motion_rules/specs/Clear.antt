@@ -25,7 +25,15 @@ module _ (ex : Exercise) (before now : List Cell) (kept : some_move_badly ex bef
   pub clear_rows : (rule voices i : ℕ) (previous : Pitches) → near_rows rule ex voices i before previous now ≡ false
   clear_rows rule voices i previous =
       either_none (rule == 10) _ _ false
-      (on_pair-kept ex (breaks_motion ex before now) (cross now) voices kept (λ v w h. (or_parts (cross now v w) (move_in_parallel before now v w || outer_move_into_perfect ex before now v w) h).0))
+      (on_pair-kept ex (breaks_motion ex before now) (cross now) voices kept
+      (λ v w h. (or_parts (cross now v w)
+      (move_in_parallel before now v w || outer_move_into_perfect ex before now v w) h).0))
       (either_none (rule == 16) _ _ false
-      (on_pair-kept ex (breaks_motion ex before now) (move_in_parallel before now) voices kept (λ v w h. (or_parts (move_in_parallel before now v w) (outer_move_into_perfect ex before now v w) (or_parts (cross now v w) (move_in_parallel before now v w || outer_move_into_perfect ex before now v w) h).1).0))
-      (on_pair-kept ex (breaks_motion ex before now) (outer_move_into_perfect ex before now) voices kept (λ v w h. (or_parts (move_in_parallel before now v w) (outer_move_into_perfect ex before now v w) (or_parts (cross now v w) (move_in_parallel before now v w || outer_move_into_perfect ex before now v w) h).1).1)))
+      (on_pair-kept ex (breaks_motion ex before now) (move_in_parallel before now) voices kept
+      (λ v w h. (or_parts (move_in_parallel before now v w) (outer_move_into_perfect ex before now v w)
+      (or_parts (cross now v w) (move_in_parallel before now v w || outer_move_into_perfect ex before now v w)
+      h).1).0))
+      (on_pair-kept ex (breaks_motion ex before now) (outer_move_into_perfect ex before now) voices kept
+      (λ v w h. (or_parts (move_in_parallel before now v w) (outer_move_into_perfect ex before now v w)
+      (or_parts (cross now v w) (move_in_parallel before now v w || outer_move_into_perfect ex before now v w)
+      h).1).1)))

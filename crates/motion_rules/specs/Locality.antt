@@ -41,44 +41,55 @@ rules_at_once rule ex voices i behind now ahead = at (is_late rule)
     at true = refl
     at false = refl
 
-pub rows_look_back : (rule : ℕ) (ex : Exercise) (voices : ℕ) → IsUndisturbed ((rule_row rule).broken ex voices) ((rule_row rule).enough ex voices)
+pub rows_look_back : (rule : ℕ) (ex : Exercise) (voices : ℕ)
+    → IsUndisturbed ((rule_row rule).broken ex voices) ((rule_row rule).enough ex voices)
 rows_look_back rule ex voices i behind now ahead t h = at (is_late rule)
   where
-    at : (b : Bool) → (if b then late_row rule else at_once_row rule).broken ex voices i behind now (ahead ++ t) ≡ (if b then late_row rule else at_once_row rule).broken ex voices i behind now ahead
+    at : (b : Bool) → (if b then late_row rule else at_once_row rule).broken ex voices i behind now (ahead ++ t)
+        ≡ (if b then late_row rule else at_once_row rule).broken ex voices i behind now ahead
     at true = refl
     at false = refl
 
 pub motion_is_local : AreLocal motion_breaks motion_settles
-motion_is_local rule ex voices = local_from_row ex ((rule_row rule).broken ex voices) ((rule_row rule).enough ex voices) (rows_look_back rule ex voices)
+motion_is_local rule ex voices = local_from_row ex ((rule_row rule).broken ex voices) ((rule_row rule).enough ex voices)
+    (rows_look_back rule ex voices)
 
 pub motion_settles_at_end : SettleAtEnd motion_settles
-motion_settles_at_end rule ex voices s i whole here = and_from (nat_lt i (length s)) _ (test_from_below i (length s) here) (rules_at_once rule ex voices _ _ _ _)
+motion_settles_at_end rule ex voices s i whole here =
+    and_from (nat_lt i (length s)) _ (test_from_below i (length s) here) (rules_at_once rule ex voices _ _ _ _)
 
 -- where one number has a bit and the other has none, they differ
 differs_by : (bits n k : ℕ) → has_rule bits k ≡ false → IsTrue (has_rule bits n) → (n == k) ≡ false
-differs_by bits n k none h = false_from_ne_true (n == k) (λ e. let P : ℕ → Type 0 = λ q. IsTrue (has_rule bits q) in let both : false ≡ true = sym none ∙ subst P (eqb-true n k e) h in cc)
+differs_by bits n k none h = false_from_ne_true (n == k)
+    (λ e. let P : ℕ → Type 0 = λ q. IsTrue (has_rule bits q) in let both : false ≡ true = sym none
+    ∙ subst P (eqb-true n k e) h in cc)
 
 -- where a rule isn't S18, two neighbors decide it
-pub motion_is_near : (rule : ℕ) (ex : Exercise) (voices : ℕ) → IsTrue (has_rule near_bits rule) → IsNear ex (motion_breaks rule ex voices) (near_rows rule ex voices)
+pub motion_is_near : (rule : ℕ) (ex : Exercise) (voices : ℕ) → IsTrue (has_rule near_bits rule)
+    → IsNear ex (motion_breaks rule ex voices) (near_rows rule ex voices)
 motion_is_near rule ex voices h =
-    let near : Bool → Type 0 = λ b. IsNear ex (reading_of ((if b then late_row rule else at_once_row rule).broken ex voices)) (near_rows rule ex voices) in
+    let near : Bool → Type 0 = λ b. IsNear ex
+    (reading_of ((if b then late_row rule else at_once_row rule).broken ex voices)) (near_rows rule ex voices) in
     subst near (sym (differs_by near_bits rule 18 refl h)) (near_from_whole ex (near_rows rule ex voices))
 
 -- the same of a toll
-pub cost_is_local : (toll : ℕ) (ex : Exercise) → IsLocal ex (reading_of (cost_in toll ex)) (settled_by (cost_enough toll ex))
+pub cost_is_local : (toll : ℕ) (ex : Exercise)
+    → IsLocal ex (reading_of (cost_in toll ex)) (settled_by (cost_enough toll ex))
 cost_is_local toll ex = local_from_row ex (cost_in toll ex) (cost_enough toll ex) (λ i behind now ahead t h. refl)
 
 pub cost_settles_at_end : (toll : ℕ) (ex : Exercise) → SettlesAtEnd ex (settled_by (cost_enough toll ex))
 cost_settles_at_end toll ex = at_once_settles ex
 
 -- where a toll isn't Q14, two neighbors decide it
-pub cost_is_near : (toll : ℕ) (ex : Exercise) → IsTrue (has_rule toll_bits toll) → IsNear ex (reading_of (cost_in toll ex)) (toll_rows toll ex)
+pub cost_is_near : (toll : ℕ) (ex : Exercise) → IsTrue (has_rule toll_bits toll)
+    → IsNear ex (reading_of (cost_in toll ex)) (toll_rows toll ex)
 cost_is_near toll ex h =
     let near : Bool → Type 0 = λ b. IsNear ex (reading_of (chosen b)) (toll_rows toll ex) in
     subst near (sym (differs_by toll_bits toll 14 refl h)) (near_from_whole ex (toll_rows toll ex))
   where
     chosen : Bool → Row ℕ
-    chosen b i behind now ahead = if b then imperfect_runs i behind now else whole_of (toll_rows toll ex) i behind now ahead
+    chosen b i behind now ahead =
+        if b then imperfect_runs i behind now else whole_of (toll_rows toll ex) i behind now ahead
 
 -- Q12 too
 pub inner_is_local : (ex : Exercise) → IsLocal ex (reading_of (whole_of (inner_toll ex))) (settled_by at_once)

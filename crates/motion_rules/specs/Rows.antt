@@ -29,7 +29,8 @@ cross now v w = one_starts now v w && is_above (pitch_of (cell_in now v)) (pitch
 
 -- S16: both voices move, and their intervals before and now are equal perfect ones
 abbrev pub move_in_parallel : List Cell → List Cell → ℕ → ℕ → Bool
-move_in_parallel before now v w = both_move before now v w && equal_perfects (interval_in before v w) (interval_in now v w)
+move_in_parallel before now v w =
+    both_move before now v w && equal_perfects (interval_in before v w) (interval_in now v w)
 
 -- the two are the lowest and the highest voice of the exercise
 abbrev pub are_outer : Exercise → ℕ → ℕ → Bool
@@ -64,11 +65,13 @@ four_bar_lines_at = reading_back (λ i. four_bar_lines)
 
 -- two voices sound thirds in all of the columns, or sixths in all of them
 abbrev pub keep_on : List (List Cell) → ℕ → ℕ → Bool
-keep_on columns v w = list_all (λ col. sound_imperfect 2 col v w) columns || list_all (λ col. sound_imperfect 5 col v w) columns
+keep_on columns v w =
+    list_all (λ col. sound_imperfect 2 col v w) columns || list_all (λ col. sound_imperfect 5 col v w) columns
 
 -- Q14: at the beginning of a bar from the fourth on, the pairs that sound thirds, or sixths, there and at the three bars before
 abbrev pub imperfect_runs : ℕ → List (List Cell) → List Cell → ℕ
-imperfect_runs i behind now = if begins_bar i && nat_le 4 (bar_of i) then count_pairs (keep_on (four_bar_lines behind now)) else 0
+imperfect_runs i behind now =
+    if begins_bar i && nat_le 4 (bar_of i) then count_pairs (keep_on (four_bar_lines behind now)) else 0
 
 -- the rules 10, 16 and 17, which look at a column and the one before it
 abbrev pub near_rows : ℕ → Exercise → ℕ → NearRow Bool
@@ -91,7 +94,8 @@ toll_rows toll ex i before previous now = pairs_alike before now
 
 -- what a toll costs at a place, without its weight
 abbrev pub cost_in : ℕ → Exercise → Row ℕ
-cost_in toll ex i behind now ahead = if toll == 14 then imperfect_runs i behind now else whole_of (toll_rows toll ex) i behind now ahead
+cost_in toll ex i behind now ahead =
+    if toll == 14 then imperfect_runs i behind now else whole_of (toll_rows toll ex) i behind now ahead
 
 -- both tolls are settled at once
 abbrev pub cost_enough : ℕ → Exercise → Row Bool

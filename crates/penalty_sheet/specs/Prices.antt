@@ -23,7 +23,8 @@ is_for (Some set) voices = set.bits == voices
 
 -- a relax line is for the rule, for the bits of the set of voices, and for the bar
 abbrev pub relaxes : ℕ → ℕ → ℕ → Relax → Bool
-relaxes rule voices bar line = (line.rule == rule) && is_for line.voices voices && nat_le line.from bar && nat_le bar line.to
+relaxes rule voices bar line =
+    (line.rule == rule) && is_for line.voices voices && nat_le line.from bar && nat_le bar line.to
 
 -- the price of a line, where there is one
 abbrev pub line_price : Option Relax → Price

@@ -21,7 +21,8 @@ pub none_more : (f : ℕ → Bool) (n : ℕ) → any_below f n ≡ false → f n
 none_more f n h e = ap (any_below f) (add-one n) ∙ ap (λ b. b || f n) h ∙ e
 
 -- of the items that pass, some is this one
-pub this_one : (f : ℕ → Bool) (r : ℕ) (xs : List ℕ) → list_any (λ x. f x && r == x) xs ≡ (list_any (λ x. r == x) xs && f r)
+pub this_one : (f : ℕ → Bool) (r : ℕ) (xs : List ℕ) → list_any (λ x. f x && r == x) xs
+    ≡ (list_any (λ x. r == x) xs && f r)
 this_one f r [] = refl
 this_one f r (x ∷ xs) = at (r == x) refl (this_one f r xs)
   where
@@ -34,7 +35,8 @@ this_one f r (x ∷ xs) = at (r == x) refl (this_one f r xs)
     none true b = refl
     none false b = refl
 
-    at : (t : Bool) → (r == x) ≡ t → list_any (λ x. f x && r == x) xs ≡ (list_any (λ x. r == x) xs && f r) → ((f x && r == x) || list_any (λ x. f x && r == x) xs) ≡ (((r == x) || list_any (λ x. r == x) xs) && f r)
+    at : (t : Bool) → (r == x) ≡ t → list_any (λ x. f x && r == x) xs ≡ (list_any (λ x. r == x) xs && f r)
+        → ((f x && r == x) || list_any (λ x. f x && r == x) xs) ≡ (((r == x) || list_any (λ x. r == x) xs) && f r)
     at true e others =
         ap (λ y. (f y && r == x) || list_any (λ x. f x && r == x) xs) (sym (eqb-true r x e))
         ∙ ap (λ t. (f r && t) || list_any (λ x. f x && r == x) xs) e

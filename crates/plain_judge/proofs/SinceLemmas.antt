@@ -29,26 +29,39 @@ module _ (ex : Exercise) (s : List (List Cell)) where
   pub broken_since_nothing : (rule : ℕ) → some_broken_since ex [] s rule ≡ some_broken ex s rule
   broken_since_nothing rule =
       sym (any_below-list_any (λ voices. broken_since rule ex voices [] s) all_sets (length s))
-      ∙ any_below-same (λ i. list_any (λ voices. broken_since rule ex voices [] s i) all_sets) (λ i. list_any (λ voices. is_strictly_broken rule ex voices s i) all_sets) (length s)
-      (λ i h. list_any-same (λ voices. broken_since rule ex voices [] s i) (λ voices. is_strictly_broken rule ex voices s i) all_sets
-      (λ voices. ap (λ b. b && is_broken rule ex voices s i && is_strict_at rule ex voices i) (since_nothing (enough rule ex voices) s i)))
+      ∙ any_below-same (λ i. list_any (λ voices. broken_since rule ex voices [] s i) all_sets)
+      (λ i. list_any (λ voices. is_strictly_broken rule ex voices s i) all_sets) (length s)
+      (λ i h. list_any-same (λ voices. broken_since rule ex voices [] s i)
+      (λ voices. is_strictly_broken rule ex voices s i) all_sets
+      (λ voices. ap (λ b. b && is_broken rule ex voices s i && is_strict_at rule ex voices i)
+      (since_nothing (enough rule ex voices) s i)))
 
   module _ (sheet : Sheet) where
     tolls_since_nothing : (i : ℕ) → sum_by (toll_since ex sheet [] s i) tolls_read ≡ settled_tolls ex sheet s i
     tolls_since_nothing i =
-        sum_by-same (toll_since ex sheet [] s i) (λ toll. if is_cost_settled toll ex s i then cost_at toll ex s i * weight_of sheet toll else 0) tolls_read
-        (λ toll. ap (λ b. if b then cost_at toll ex s i * weight_of sheet toll else 0) (since_nothing (cost_enough toll ex) s i))
+        sum_by-same (toll_since ex sheet [] s i)
+        (λ toll. if is_cost_settled toll ex s i then cost_at toll ex s i * weight_of sheet toll else 0) tolls_read
+        (λ toll. ap (λ b. if b then cost_at toll ex s i * weight_of sheet toll else 0)
+        (since_nothing (cost_enough toll ex) s i))
 
     prices_since_nothing : (i : ℕ) → prices_since ex [] s i ≡ settled_prices ex s i
     prices_since_nothing i =
-        sum_by-same (λ rule. sum_by (price_since ex [] s i rule) all_sets) (λ rule. sum_by (λ voices. if is_settled rule ex voices s i then (if is_broken rule ex voices s i then price_at_place rule ex voices i else 0) else 0) all_sets) rules_read
-        (λ rule. sum_by-same (price_since ex [] s i rule) (λ voices. if is_settled rule ex voices s i then (if is_broken rule ex voices s i then price_at_place rule ex voices i else 0) else 0) all_sets
-        (λ voices. ap (λ b. if b then (if is_broken rule ex voices s i then price_at_place rule ex voices i else 0) else 0) (since_nothing (enough rule ex voices) s i)))
+        sum_by-same (λ rule. sum_by (price_since ex [] s i rule) all_sets)
+        (λ rule. sum_by (λ voices. if is_settled rule ex voices s i
+        then (if is_broken rule ex voices s i then price_at_place rule ex voices i else 0) else 0) all_sets)
+        rules_read
+        (λ rule. sum_by-same (price_since ex [] s i rule)
+        (λ voices. if is_settled rule ex voices s i
+        then (if is_broken rule ex voices s i then price_at_place rule ex voices i else 0) else 0) all_sets
+        (λ voices. ap (λ b. if b then (if is_broken rule ex voices s i then price_at_place rule ex voices i else 0)
+        else 0) (since_nothing (enough rule ex voices) s i)))
 
     pub paid_since_nothing : paid_since ex sheet [] s ≡ charges_settled_in ex sheet s
     paid_since_nothing =
-        sum_below-same (charges_since ex sheet [] s) (λ i. settled_tolls ex sheet s i + settled_prices ex s i) (length s)
-        (λ i h. ap (λ n. n + prices_since ex [] s i) (tolls_since_nothing i) ∙ ap (λ n. settled_tolls ex sheet s i + n) (prices_since_nothing i))
+        sum_below-same (charges_since ex sheet [] s) (λ i. settled_tolls ex sheet s i + settled_prices ex s i)
+        (length s)
+        (λ i h. ap (λ n. n + prices_since ex [] s i) (tolls_since_nothing i)
+        ∙ ap (λ n. settled_tolls ex sheet s i + n) (prices_since_nothing i))
 
 module _ (ex : Exercise) (p s : List (List Cell)) (col : List Cell) (grown : s ≡ p ++ col ∷ []) where
   pub newly_broken_since : (rule : ℕ) → some_broken_since ex p s rule ≡ newly_broken ex p col rule

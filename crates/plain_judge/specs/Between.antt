@@ -37,7 +37,8 @@ settled_since settles p s i = settles s i && not (settles p i)
 
 -- a strict break of a rule at a place for a set of voices is settled in s, and not in p
 abbrev pub broken_since : ℕ → Exercise → ℕ → List (List Cell) → List (List Cell) → ℕ → Bool
-broken_since rule ex voices p s i = settled_since (is_settled rule ex voices) p s i && is_broken rule ex voices s i && is_strict_at rule ex voices i
+broken_since rule ex voices p s i =
+    settled_since (is_settled rule ex voices) p s i && is_broken rule ex voices s i && is_strict_at rule ex voices i
 
 -- the same at some place
 abbrev pub somewhere_broken_since : ℕ → Exercise → ℕ → List (List Cell) → List (List Cell) → Bool
@@ -53,11 +54,13 @@ some_broken ex s rule = any_below (λ i. list_any (λ voices. is_strictly_broken
 
 -- what a toll costs at a place, by its weight, where that is settled in s, and not in p
 abbrev pub toll_since : Exercise → Sheet → List (List Cell) → List (List Cell) → ℕ → ℕ → ℕ
-toll_since ex sheet p s i toll = if settled_since (is_cost_settled toll ex) p s i then cost_at toll ex s i * weight_of sheet toll else 0
+toll_since ex sheet p s i toll =
+    if settled_since (is_cost_settled toll ex) p s i then cost_at toll ex s i * weight_of sheet toll else 0
 
 -- the price of a relaxed break of a rule at a place for a set of voices, where it is settled in s, and not in p
 abbrev pub price_since : Exercise → List (List Cell) → List (List Cell) → ℕ → ℕ → ℕ → ℕ
-price_since ex p s i rule voices = if settled_since (is_settled rule ex voices) p s i then price_read rule ex voices s i else 0
+price_since ex p s i rule voices =
+    if settled_since (is_settled rule ex voices) p s i then price_read rule ex voices s i else 0
 
 -- what all of them come to at a place
 abbrev pub prices_since : Exercise → List (List Cell) → List (List Cell) → ℕ → ℕ

@@ -58,7 +58,8 @@ module _ (n : ℕ) (ex : Exercise) (other : (n == 3) ≡ false) where
   early_quiet : (voices i : ℕ) (behind : List (List Cell)) (now : List Cell) → is_quiet i now ≡ true
       → broken_in n ex voices i behind now [] ≡ false
   early_quiet voices i behind now h =
-      ap (λ b. if b then shape_row ex voices i behind now [] else whole_of (near_rows n ex voices) i behind now []) other
+      ap (λ b. if b then shape_row ex voices i behind now [] else whole_of (near_rows n ex voices) i behind now [])
+      other
       ∙ quiet_rows ex i now h n voices (newest_column behind) (previous_pitches behind)
 
   not_ending : (voices i : ℕ) (behind : List (List Cell)) (now : List Cell) → ((n == 13) || (n == 24)) ≡ true
@@ -67,9 +68,12 @@ module _ (n : ℕ) (ex : Exercise) (other : (n == 3) ≡ false) where
     where
       at : (b c : Bool) → (n == 13) ≡ b → (n == 24) ≡ c → broken_in n ex voices i behind now [] ≡ false
       at true c f g =
-          rw (other, f) (on_pair-none ex _ voices (λ v w. and_right (v == 0) _ (ap (λ b. b && not (holds_of (fits_ending ex) (interval_in now 0 w))) slot)))
+          rw (other, f) (on_pair-none ex _ voices
+          (λ v w. and_right (v == 0) _ (ap (λ b. b && not (holds_of (fits_ending ex) (interval_in now 0 w))) slot)))
       at false true f g =
-          rw (other, f, g) (on_voice-none ex _ voices (λ v. and_right (v == 0) _ (ap (λ b. b && not (holds_of_pitch (is_final ex) (pitch_of (cell_in now 0)))) slot)))
+          rw (other, f, g) (on_voice-none ex _ voices
+          (λ v. and_right (v == 0) _ (ap (λ b. b && not (holds_of_pitch (is_final ex) (pitch_of (cell_in now 0))))
+          slot)))
       at false false f g = absurd (both_ways ((n == 13) || (n == 24)) (or_from (n == 13) (n == 24) f g) h)
 
   early_stands : (voices i : ℕ) (behind : List (List Cell)) (now : List Cell)
@@ -108,8 +112,11 @@ bar_start n h = omega (arith, h)
 shape_places : (ex : Exercise) (voices : ℕ) (p : List (List Cell)) (col : List Cell) (i : ℕ) → GoesOn ex p (col ∷ [])
     → newly_breaks shape_rule ex voices p col i ≡ true → IsAmong (8 * (length p / 8)) 1 i
 shape_places ex voices p col i on h =
-    let own : (i == newest_start (p ++ col ∷ [])) ≡ true = (and_parts (i == newest_start (p ++ col ∷ [])) (rhythm_breaks 3 ex voices (p ++ col ∷ []) i) (sym (newly_broken ex p col on.orderly voices i) ∙ h)).0 in
-    let at : i ≡ 8 * (length p / 8) = eqb-true i (newest_start (p ++ col ∷ [])) own ∙ bar_start (length p) (newest_bar-more p col) in
+    let own : (i == newest_start (p ++ col ∷ []))
+    ≡ true = (and_parts (i == newest_start (p ++ col ∷ [])) (rhythm_breaks 3 ex voices (p ++ col ∷ []) i)
+    (sym (newly_broken ex p col on.orderly voices i) ∙ h)).0 in
+    let at : i ≡ 8 * (length p / 8) = eqb-true i (newest_start (p ++ col ∷ [])) own
+    ∙ bar_start (length p) (newest_bar-more p col) in
     record { from = omega (arith, at); to = omega (arith, at) }
 
 shape_keeps : KeepsRuleLaws shape_rule
@@ -126,16 +133,19 @@ shape_keeps = record {
 }
 
 -- what a column settles of S3 at its place is the reading at the beginning of its bar
-pub late_shapes : (ex : Exercise) (voices : ℕ) (p : List (List Cell)) (col : List Cell) (place : ℕ) → GoesOn ex p (col ∷ [])
+pub late_shapes : (ex : Exercise) (voices : ℕ) (p : List (List Cell)) (col : List Cell) (place : ℕ)
+    → GoesOn ex p (col ∷ [])
     → IsAmong (8 * (length p / 8)) 1 place
-    → newly_breaks shape_rule ex voices p col place ≡ rhythm_breaks 3 ex voices (p ++ col ∷ []) (newest_start (p ++ col ∷ []))
+    → newly_breaks shape_rule ex voices p col place
+    ≡ rhythm_breaks 3 ex voices (p ++ col ∷ []) (newest_start (p ++ col ∷ []))
 late_shapes ex voices p col place on among =
     let at : place ≡ newest_start (p ++ col ∷ []) = here (newest_bar-more p col) among.from among.to in
     newly_broken ex p col on.orderly voices place
     ∙ ap (λ b. b && rhythm_breaks 3 ex voices (p ++ col ∷ []) place) (eq-eqb place (newest_start (p ++ col ∷ [])) at)
     ∙ ap (rhythm_breaks 3 ex voices (p ++ col ∷ [])) at
   where
-    here : {b : ℕ} → b ≡ length p / 8 + 1 → 8 * (length p / 8) ≤ place → place < 8 * (length p / 8) + 1 → place ≡ 8 * (b - 1)
+    here : {b : ℕ} → b ≡ length p / 8 + 1 → 8 * (length p / 8) ≤ place → place < 8 * (length p / 8) + 1 → place
+        ≡ 8 * (b - 1)
     here h from to = omega (arith, h)
 
 pub longer : (p : List (List Cell)) (col : List Cell) → 0 < length (p ++ col ∷ [])
@@ -158,17 +168,20 @@ cadence_places : (ex : Exercise) (voices : ℕ) (p : List (List Cell)) (col : Li
     → newly_breaks cadence_rule ex voices p col i ≡ true
     → IsAmong (length p) (if begins_last_bar ex (length p) then 1 else 0) i
 cadence_places ex voices p col i on h =
-    let own : IsAmong (length p) 1 i = breaks_at_own_place cadence_rule ex voices (λ i behind now ahead. refl) p col i h in
+    let own : IsAmong (length p) 1 i = breaks_at_own_place cadence_rule ex voices (λ i behind now ahead. refl) p col i h
+    in
     let same : i ≡ length p = omega (arith, own.from, own.to) in
     let P : ℕ → Type 0 = λ k. newly_breaks cadence_rule ex voices p col k ≡ true in
     let there : cadence_row ex voices (length p) (reverse p) col [] ≡ true =
     sym (newly_breaks-at_once cadence_rule ex voices (λ i behind now ahead. refl) p col) ∙ subst P same h in
     at_end_alone ex (length p) i (true_from_ne_false (begins_last_bar ex (length p)) (λ e.
-    both_ways (cadence_row ex voices (length p) (reverse p) col []) (only_at_end ex voices (length p) (reverse p) col [] e) there)) own
+    both_ways (cadence_row ex voices (length p) (reverse p) col [])
+    (only_at_end ex voices (length p) (reverse p) col [] e) there)) own
 
 cadence_keeps : KeepsRuleLaws cadence_rule
 cadence_keeps = record {
-  local = λ ex voices. local_from_row ex (cadence_row ex voices) (cadence_enough ex voices) (λ i behind now ahead t h. refl);
+  local = λ ex voices. local_from_row ex (cadence_row ex voices) (cadence_enough ex voices)
+      (λ i behind now ahead t h. refl);
   stays = λ ex voices i behind now ahead t h. refl;
   ends = λ ex voices. at_once_settles ex;
   form = λ ex i behind now ahead. all_form ex (lacks_cadence ex i behind now);
@@ -217,7 +230,8 @@ quaver_newly : (ex : Exercise) (voices : ℕ) (p : List (List Cell)) (col : List
     ≡ (settled_among (columns_in ex) (length p + 1) i && not (settled_among (columns_in ex) (length p) i))
 quaver_newly ex voices p col i =
     ap (λ b. b && not (settled_by (quaver_enough ex voices) p i))
-    (quaver_settled ex voices i (p ++ col ∷ []) ∙ ap (λ n. settled_among (columns_in ex) n i) (length-append p (col ∷ [])))
+    (quaver_settled ex voices i (p ++ col ∷ [])
+    ∙ ap (λ n. settled_among (columns_in ex) n i) (length-append p (col ∷ [])))
     ∙ ap (λ b. settled_among (columns_in ex) (length p + 1) i && not b) (quaver_settled ex voices i p)
 
 module _ (columns n i : ℕ) (room : n + 1 ≤ columns) (more : columns ≡ 1 → ⊥) where
@@ -229,7 +243,8 @@ module _ (columns n i : ℕ) (room : n + 1 ≤ columns) (more : columns ≡ 1 �
       → (settled_among columns (n + 1) i && not (settled_among columns n i)) ≡ true
   among_newly h = grind (arith, nat_tests, h.from, h.to)
 
-quaver_room : (ex : Exercise) (p : List (List Cell)) (col : List Cell) → GoesOn ex p (col ∷ []) → length p + 1 ≤ columns_in ex
+quaver_room : (ex : Exercise) (p : List (List Cell)) (col : List Cell) → GoesOn ex p (col ∷ [])
+    → length p + 1 ≤ columns_in ex
 quaver_room ex p col on = omega (arith, on.longer.few, length-append p (col ∷ []))
 
 not_one : (bars : ℕ) → 8 * bars ≡ 1 → ⊥
@@ -243,12 +258,14 @@ quaver_places ex voices p col i on h =
     (sym (quaver_newly ex voices p col i) ∙ first_true (newly (settled_by (quaver_enough ex voices)) p col i) _ h)
 
 -- at its places a column settles it
-pub quaver_newly-among : (ex : Exercise) (voices : ℕ) (p : List (List Cell)) (col : List Cell) (i : ℕ) → GoesOn ex p (col ∷ [])
+pub quaver_newly-among : (ex : Exercise) (voices : ℕ) (p : List (List Cell)) (col : List Cell) (i : ℕ)
+    → GoesOn ex p (col ∷ [])
     → IsAmong (length p - 1) (quavers_settled (columns_in ex) (length p)) i
     → newly_breaks quaver_rule ex voices p col i ≡ reading_of (quaver_row ex voices) (p ++ col ∷ []) i
 quaver_newly-among ex voices p col i on among =
     ap (λ b. b && reading_of (quaver_row ex voices) (p ++ col ∷ []) i)
-    (quaver_newly ex voices p col i ∙ among_newly (columns_in ex) (length p) i (quaver_room ex p col on) (not_one ex.bars) among)
+    (quaver_newly ex voices p col i ∙ among_newly (columns_in ex) (length p) i (quaver_room ex p col on)
+    (not_one ex.bars) among)
 
 -- such a place is the newest one or the one before it
 pub quavers_bounds : (columns n i : ℕ) → IsAmong (n - 1) (quavers_settled columns n) i → (i ≤ n) × (n ≤ i + 1)
@@ -295,7 +312,8 @@ ligature_places ex p col i on h =
     let Q : ℕ → Type 0 = λ k. 0 < k in
     let there : 0 < ligature_row.cost ex (length p) (reverse p) col [] =
     subst Q (newly_costs-at_once ligature_row ex (λ i behind now ahead. refl) p col) (subst P same h) in
-    rw (due ((ex.species == 4) && begins_inner_bar ex (length p)) _ (only_inner ex (length p) (reverse p) col []) there) own
+    rw (due ((ex.species == 4) && begins_inner_bar ex (length p)) _ (only_inner ex (length p) (reverse p) col []) there)
+    own
 
 ligature_keeps : KeepsTollLaws ligature_row
 ligature_keeps = record {
@@ -331,7 +349,8 @@ pattern_settled ex s i slot =
     within n = grind (arith, nat_tests)
 
 pub pattern_newly : (ex : Exercise) (p : List (List Cell)) (col : List Cell) (i : ℕ) → begins_bar i ≡ true
-    → newly (settled_by (pattern_enough ex)) p col i ≡ (nat_lt (i + 7) (length p + 1) && not (nat_lt (i + 7) (length p)))
+    → newly (settled_by (pattern_enough ex)) p col i
+    ≡ (nat_lt (i + 7) (length p + 1) && not (nat_lt (i + 7) (length p)))
 pattern_newly ex p col i slot =
     ap (λ b. b && not (settled_by (pattern_enough ex) p i))
     (pattern_settled ex (p ++ col ∷ []) i slot ∙ ap (nat_lt (i + 7)) (length-append p (col ∷ [])))
@@ -346,7 +365,8 @@ cost_parts false cost h = absurd (omega (arith, h))
 bar_ends : (n i : ℕ) → (nat_lt (i + 7) (n + 1) && not (nat_lt (i + 7) n)) ≡ true → i + 7 ≡ n
 bar_ends n i h = grind (arith, nat_tests)
 
-settles_there : (ex : Exercise) (n i : ℕ) → i + 7 ≡ n → nat_le 2 ex.species ≡ true → begins_bar i ≡ true → nat_le 8 i ≡ true
+settles_there : (ex : Exercise) (n i : ℕ) → i + 7 ≡ n → nat_le 2 ex.species ≡ true → begins_bar i ≡ true → nat_le 8 i
+    ≡ true
     → settles_pattern ex n ≡ true
 settles_there ex n i e species slot later =
     let eight : 8 ≤ i = grind (arith, nat_tests, later) in
@@ -359,13 +379,17 @@ settles_there ex n i e species slot later =
 pattern_places : (ex : Exercise) (p : List (List Cell)) (col : List Cell) (i : ℕ) → GoesOn ex p (col ∷ [])
     → 0 < newly_costs pattern_row ex p col i → IsAmong (length p - 7) (pattern_row.count ex (length p)) i
 pattern_places ex p col i on h =
-    let both = cost_parts (newly (settled_by (pattern_enough ex)) p col i) (reading_of (pattern_row.cost ex) (p ++ col ∷ []) i) h in
+    let both = cost_parts (newly (settled_by (pattern_enough ex)) p col i)
+    (reading_of (pattern_row.cost ex) (p ++ col ∷ []) i) h in
     let needs : (nat_le 2 ex.species && begins_bar i && nat_le 8 i) ≡ true =
-    due (nat_le 2 ex.species && begins_bar i && nat_le 8 i) (reading_of (pattern_row.cost ex) (p ++ col ∷ []) i) (λ e. pattern_needs ex i (earlier (p ++ col ∷ []) i) (slice_index_or (p ++ col ∷ []) i []) (drop (i + 1) (p ++ col ∷ [])) e) both.1 in
+    due (nat_le 2 ex.species && begins_bar i && nat_le 8 i) (reading_of (pattern_row.cost ex) (p ++ col ∷ []) i)
+    (λ e. pattern_needs ex i (earlier (p ++ col ∷ []) i) (slice_index_or (p ++ col ∷ []) i [])
+    (drop (i + 1) (p ++ col ∷ [])) e) both.1 in
     let outer = and_parts (nat_le 2 ex.species && begins_bar i) (nat_le 8 i) needs in
     let inner = and_parts (nat_le 2 ex.species) (begins_bar i) outer.0 in
     let at : i + 7 ≡ length p = bar_ends (length p) i (sym (pattern_newly ex p col i inner.1) ∙ both.0) in
-    rw (settles_there ex (length p) i at inner.0 inner.1 outer.1) (record { from = omega (arith, at); to = omega (arith, at) })
+    rw (settles_there ex (length p) i at inner.0 inner.1 outer.1)
+    (record { from = omega (arith, at); to = omega (arith, at) })
 
 pattern_keeps : KeepsTollLaws pattern_row
 pattern_keeps = record {

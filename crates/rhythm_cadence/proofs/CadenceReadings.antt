@@ -59,8 +59,10 @@ note_held m h (Rest ∷ cells) f within s = cc
 note_held zero h (Start p ∷ cells) f within s =
     sym (ap (λ b. if b then Some p else None) (eq-eqb (length cells) (suc (length cells) - 1 - 0) (omega arith)))
 note_held (suc m) h (Start p ∷ cells) f within s =
-    sym (ap (λ b. if b then Some p else None) (ne_eqb (length cells) (suc (length cells) - 1 - suc m) (λ e. omega (arith, e, within))))
-note_held zero h (Hold p ∷ cells) f within s = sym (started_later (suc (length cells) - 1 - 0) (suc h) cells (omega arith))
+    sym (ap (λ b. if b then Some p else None)
+    (ne_eqb (length cells) (suc (length cells) - 1 - suc m) (λ e. omega (arith, e, within))))
+note_held zero h (Hold p ∷ cells) f within s =
+    sym (started_later (suc (length cells) - 1 - 0) (suc h) cells (omega arith))
 note_held (suc m) h (Hold p ∷ cells) f within s =
     note_held m (suc h) cells f.1 (omega (arith, within)) (sounds_before (newest cells) p f.0)
     ∙ ap (λ k. pitch_from k (first_of (notes_from (suc h) cells))) (omega arith)
@@ -87,18 +89,22 @@ note_found m v behind follows within = at (sounds (cell_in (newest_column behind
     same = length-map behind (λ col. cell_in col v)
 
     at : (b : Bool) → sounds (cell_in (newest_column behind) v) ≡ b
-        → held_pitch m (line v behind) ≡ pitch_from (length behind - 1 - m) (if b then first_of (notes_from 0 (line v behind)) else None)
+        → held_pitch m (line v behind) ≡ pitch_from (length behind - 1 - m)
+        (if b then first_of (notes_from 0 (line v behind)) else None)
     at true e =
-        note_held m 0 (line v behind) (line_follows v behind follows) (omega (arith, within, same)) (ap sounds (newest_of_line v behind) ∙ e)
+        note_held m 0 (line v behind) (line_follows v behind follows) (omega (arith, within, same))
+        (ap sounds (newest_of_line v behind) ∙ e)
         ∙ ap (λ n. pitch_from (n - 1 - m) (first_of (notes_from 0 (line v behind)))) same
     at false e = none_held m (line v behind) (ap sounds (newest_of_line v behind) ∙ e)
 
 -- ---- the bar before
 
-one_more : (s : List (List Cell)) (v j k : ℕ) → j ≡ k + 1 → k < length s → line v (earlier s j) ≡ cell_at s v k ∷ line v (earlier s k)
+one_more : (s : List (List Cell)) (v j k : ℕ) → j ≡ k + 1 → k < length s → line v (earlier s j) ≡ cell_at s v k
+    ∷ line v (earlier s k)
 one_more s v j k e h = ap (λ n. line v (earlier s n)) e ∙ line-more s v k h
 
-line-bar : (s : List (List Cell)) (v i : ℕ) → 8 ≤ i → i ≤ length s → line v (earlier s i) ≡ bar_behind s v i ++ line v (earlier s (i - 8))
+line-bar : (s : List (List Cell)) (v i : ℕ) → 8 ≤ i → i ≤ length s → line v (earlier s i) ≡ bar_behind s v i
+    ++ line v (earlier s (i - 8))
 line-bar s v i h k =
     one_more s v i (i - 1) (omega (arith, h)) (omega (arith, h, k))
     ∙ ap (λ cs. cell_at s v (i - 1) ∷ cs) (one_more s v (i - 1) (i - 2) (omega (arith, h)) (omega (arith, h, k))
@@ -111,7 +117,8 @@ line-bar s v i h k =
 
 held-append : (m : ℕ) (xs ys : List Cell) → m < length xs → held_pitch m (xs ++ ys) ≡ held_pitch m xs
 held-append m xs ys h =
-    ap (λ cs. if list_all is_hold cs then started_pitch (slice_index_or (xs ++ ys) m Rest) else None) (take-append-le m xs ys (omega (arith, h)))
+    ap (λ cs. if list_all is_hold cs then started_pitch (slice_index_or (xs ++ ys) m Rest) else None)
+    (take-append-le m xs ys (omega (arith, h)))
     ∙ ap (λ c. if list_all is_hold (take m xs) then started_pitch c else None) (get_or-append xs ys Rest m h)
 
 -- ---- S22
@@ -125,75 +132,91 @@ slot_bound species = at (species == 1) (species == 3)
     at false false = omega arith
 
 -- the tests of a voice are the same of its note and of the pitch that was found
-voice_same : (ex : Exercise) (i species : ℕ) (final : Option Pitch) (f x : Bool) (g : Option Pitch → Bool) (note : Option Note) (lead : Option Pitch)
+voice_same : (ex : Exercise) (i species : ℕ) (final : Option Pitch) (f x : Bool) (g : Option Pitch → Bool)
+    (note : Option Note) (lead : Option Pitch)
     → lead ≡ pitch_from (i - 8 + leading_slot species) note
     → ((f && leads_to ex i species final note) && (if x then g (note_pitch note) else true))
     ≡ ((f && is_lead ex final lead) && (if x then g lead else true))
 voice_same ex i species final f x g None lead e = rw e (neither f)
   where
-    neither : (f : Bool) → ((f && false) && (if x then g None else true)) ≡ ((f && false) && (if x then g None else true))
+    neither : (f : Bool) → ((f && false) && (if x then g None else true))
+        ≡ ((f && false) && (if x then g None else true))
     neither f = refl
 voice_same ex i species final f x g (Some note) lead e = at (note.start == (i - 8 + leading_slot species)) e
   where
     at : (b : Bool) → lead ≡ (if b then Some note.pitch else None)
-        → ((f && ((is_leading ex.mode note.pitch && lies_above 1 final (Some note.pitch)) && b)) && (if x then g (Some note.pitch) else true))
+        → ((f && ((is_leading ex.mode note.pitch && lies_above 1 final (Some note.pitch)) && b))
+        && (if x then g (Some note.pitch) else true))
         ≡ ((f && is_lead ex final lead) && (if x then g lead else true))
-    at true h = rw h (passes f (is_leading ex.mode note.pitch && lies_above 1 final (Some note.pitch)) (if x then g (Some note.pitch) else true))
+    at true h = rw h (passes f (is_leading ex.mode note.pitch && lies_above 1 final (Some note.pitch))
+        (if x then g (Some note.pitch) else true))
       where
         passes : (f a y : Bool) → ((f && (a && true)) && y) ≡ ((f && a) && y)
         passes true true y = refl
         passes true false y = refl
         passes false a y = refl
-    at false h = rw h (fails f (is_leading ex.mode note.pitch && lies_above 1 final (Some note.pitch)) (if x then g (Some note.pitch) else true) (if x then g None else true))
+    at false h = rw h (fails f (is_leading ex.mode note.pitch && lies_above 1 final (Some note.pitch))
+        (if x then g (Some note.pitch) else true) (if x then g None else true))
       where
         fails : (f a y z : Bool) → ((f && (a && false)) && y) ≡ ((f && false) && z)
         fails true true y z = refl
         fails true false y z = refl
         fails false a y z = refl
 
-module _ (ex : Exercise) (p : List (List Cell)) (col : List Cell) (on : GoesOn ex p (col ∷ [])) (far : 8 ≤ length p) where
-  behind-earlier : earlier (p ++ col ∷ []) (length p) ≡ reverse p
-  behind-earlier = earlier-append p (col ∷ []) (length p) (omega arith) ∙ earlier-all p (length p) (omega arith)
+module _ (ex : Exercise) (p : List (List Cell)) (col : List Cell) (on : GoesOn ex p (col ∷ [])) (far : 8 ≤ length p)
+  where
+    behind-earlier : earlier (p ++ col ∷ []) (length p) ≡ reverse p
+    behind-earlier = earlier-append p (col ∷ []) (length p) (omega arith) ∙ earlier-all p (length p) (omega arith)
 
-  behind_follows : HistoryFollows (reverse p)
-  behind_follows =
-      let P : List (List Cell) → Type 0 = λ t. HistoryFollows t in
-      subst P behind-earlier (follows_earlier (p ++ col ∷ []) (length p) (omega (arith, length-append p (col ∷ []))) on.longer.follows)
+    behind_follows : HistoryFollows (reverse p)
+    behind_follows =
+        let P : List (List Cell) → Type 0 = λ t. HistoryFollows t in
+        subst P behind-earlier (follows_earlier (p ++ col ∷ []) (length p) (omega (arith, length-append p (col ∷ [])))
+        on.longer.follows)
 
-  eighth : slice_index_or (reverse p) 7 [] ≡ slice_index_or (p ++ col ∷ []) (length p - 8) []
-  eighth =
-      get_or-reverse p 7 [] (omega (arith, far))
-      ∙ ap (λ n. slice_index_or p n []) (omega (arith, far))
-      ∙ sym (get_or-append p (col ∷ []) [] (length p - 8) (omega (arith, far)))
+    eighth : slice_index_or (reverse p) 7 [] ≡ slice_index_or (p ++ col ∷ []) (length p - 8) []
+    eighth =
+        get_or-reverse p 7 [] (omega (arith, far))
+        ∙ ap (λ n. slice_index_or p n []) (omega (arith, far))
+        ∙ sym (get_or-append p (col ∷ []) [] (length p - 8) (omega (arith, far)))
 
-  lead_found : (v species : ℕ)
-      → held_pitch (7 - leading_slot species) (bar_behind (p ++ col ∷ []) v (length p))
-      ≡ pitch_from (length p - 8 + leading_slot species) (sounding_note v (reverse p))
-  lead_found v species =
-      let bound : leading_slot species ≤ 6 = slot_bound species in
-      sym (held-append (7 - leading_slot species) (bar_behind (p ++ col ∷ []) v (length p)) (line v (earlier (p ++ col ∷ []) (length p - 8))) (omega arith))
-      ∙ ap (held_pitch (7 - leading_slot species)) (sym (line-bar (p ++ col ∷ []) v (length p) far (omega (arith, length-append p (col ∷ [])))) ∙ ap (line v) behind-earlier)
-      ∙ note_found (7 - leading_slot species) v (reverse p) behind_follows (omega (arith, far, length-reverse p))
-      ∙ ap (λ k. pitch_from k (sounding_note v (reverse p))) (omega (arith, far, bound, length-reverse p))
+    lead_found : (v species : ℕ)
+        → held_pitch (7 - leading_slot species) (bar_behind (p ++ col ∷ []) v (length p))
+        ≡ pitch_from (length p - 8 + leading_slot species) (sounding_note v (reverse p))
+    lead_found v species =
+        let bound : leading_slot species ≤ 6 = slot_bound species in
+        sym (held-append (7 - leading_slot species) (bar_behind (p ++ col ∷ []) v (length p))
+        (line v (earlier (p ++ col ∷ []) (length p - 8))) (omega arith))
+        ∙ ap (held_pitch (7 - leading_slot species))
+        (sym (line-bar (p ++ col ∷ []) v (length p) far (omega (arith, length-append p (col ∷ []))))
+        ∙ ap (line v) behind-earlier)
+        ∙ note_found (7 - leading_slot species) v (reverse p) behind_follows (omega (arith, far, length-reverse p))
+        ∙ ap (λ k. pitch_from k (sounding_note v (reverse p))) (omega (arith, far, bound, length-reverse p))
 
-  voice_reading : (v : ℕ) → shows_cadence ex (length p) (reverse p) col v
-      ≡ ends_well ex (slice_index_or (p ++ col ∷ []) (length p - 8) []) (bar_behind (p ++ col ∷ []) v (length p)) (slice_index_or (p ++ col ∷ []) (length p) []) v
-  voice_reading v =
-      voice_same ex (length p) (species_in ex v) (pitch_of (cell_in col v)) (starts_final ex (cell_in col v)) (has_suspension (species_in ex v))
-      (λ lead. holds_suspension ex (slice_index_or (reverse p) 7 []) lead v) (sounding_note v (reverse p))
-      (held_pitch (7 - leading_slot (species_in ex v)) (bar_behind (p ++ col ∷ []) v (length p))) (lead_found v (species_in ex v))
-      ∙ ap (λ start. ends_well ex start (bar_behind (p ++ col ∷ []) v (length p)) col v) eighth
-      ∙ ap (λ now. ends_well ex (slice_index_or (p ++ col ∷ []) (length p - 8) []) (bar_behind (p ++ col ∷ []) v (length p)) now v)
-      (sym (get_or-append_seam p col [] []))
+    voice_reading : (v : ℕ) → shows_cadence ex (length p) (reverse p) col v
+        ≡ ends_well ex (slice_index_or (p ++ col ∷ []) (length p - 8) []) (bar_behind (p ++ col ∷ []) v (length p))
+        (slice_index_or (p ++ col ∷ []) (length p) []) v
+    voice_reading v =
+        voice_same ex (length p) (species_in ex v) (pitch_of (cell_in col v)) (starts_final ex (cell_in col v))
+        (has_suspension (species_in ex v))
+        (λ lead. holds_suspension ex (slice_index_or (reverse p) 7 []) lead v) (sounding_note v (reverse p))
+        (held_pitch (7 - leading_slot (species_in ex v)) (bar_behind (p ++ col ∷ []) v (length p)))
+        (lead_found v (species_in ex v))
+        ∙ ap (λ start. ends_well ex start (bar_behind (p ++ col ∷ []) v (length p)) col v) eighth
+        ∙ ap (λ now. ends_well ex (slice_index_or (p ++ col ∷ []) (length p - 8) [])
+        (bar_behind (p ++ col ∷ []) v (length p)) now v)
+        (sym (get_or-append_seam p col [] []))
 
-  some_reading : list_any (λ v. nat_lt v ex.voices && shows_cadence ex (length p) (reverse p) col v) (0 ∷ 1 ∷ 2 ∷ 3 ∷ [])
-      ≡ some_ends_well ex (p ++ col ∷ []) (length p)
-  some_reading = list_any-same _ _ (0 ∷ 1 ∷ 2 ∷ 3 ∷ []) (λ v. ap (λ x. nat_lt v ex.voices && x) (voice_reading v))
+    some_reading : list_any (λ v. nat_lt v ex.voices && shows_cadence ex (length p) (reverse p) col v)
+        (0 ∷ 1 ∷ 2 ∷ 3 ∷ [])
+        ≡ some_ends_well ex (p ++ col ∷ []) (length p)
+    some_reading = list_any-same _ _ (0 ∷ 1 ∷ 2 ∷ 3 ∷ []) (λ v. ap (λ x. nat_lt v ex.voices && x) (voice_reading v))
 
 last_bar_far : (n bars : ℕ) → 3 ≤ bars → n / 8 + 1 ≡ bars → 8 ≤ n
 last_bar_far n bars h e = omega arith
 
-pub cadence_reading : (ex : Exercise) (voices : ℕ) (p : List (List Cell)) (col : List Cell) (i : ℕ) → IsValid ex → GoesOn ex p (col ∷ [])
+pub cadence_reading : (ex : Exercise) (voices : ℕ) (p : List (List Cell)) (col : List Cell) (i : ℕ) → IsValid ex
+    → GoesOn ex p (col ∷ [])
     → IsAmong (length p) (if begins_last_bar ex (length p) then 1 else 0) i
     → newly_breaks cadence_rule ex voices p col i ≡ lacks_cadence_at ex (p ++ col ∷ []) (length p) voices
 cadence_reading ex voices p col i valid on among = at (begins_last_bar ex (length p)) refl among
@@ -209,7 +232,10 @@ cadence_reading ex voices p col i valid on among = at (begins_last_bar ex (lengt
     at false e a = absurd (omega (arith, a.from, a.to))
     at true e a =
         let here : i ≡ length p = omega (arith, a.from, a.to) in
-        let far : 8 ≤ length p = last_bar_far (length p) ex.bars valid.fewest_bars (eqb-true (length p / 8 + 1) ex.bars (and_parts (begins_bar (length p)) (length p / 8 + 1 == ex.bars) e).1) in
+        let far : 8 ≤ length p = last_bar_far (length p) ex.bars valid.fewest_bars
+        (eqb-true (length p / 8 + 1) ex.bars (and_parts (begins_bar (length p)) (length p / 8 + 1 == ex.bars) e).1)
+        in
         ap (newly_breaks cadence_rule ex voices p col) here
         ∙ newly_breaks-at_once cadence_rule ex voices (λ i behind now ahead. refl) p col
-        ∙ order (voices == set_of_all ex.voices) (begins_last_bar ex (length p)) _ _ (ap not (some_reading ex p col on far))
+        ∙ order (voices == set_of_all ex.voices) (begins_last_bar ex (length p)) _ _
+        (ap not (some_reading ex p col on far))

@@ -25,15 +25,21 @@ each_of_four P a b c d (suc (suc (suc zero))) h = d
 each_of_four P a b c d (suc (suc (suc (suc v)))) h = absurd (omega arith)
 
 -- the set of a voice with one more column
-pub set-more : (ex : Exercise) (p : List (List Cell)) (col : List Cell) (v i possible : ℕ) → length p ≡ i → (0 < length p → possible ≡ shapes_begun ex v p) → shapes_after ex v i possible (cell_in col v) ≡ shapes_begun ex v (p ++ col ∷ [])
-set-more ex [] col v i possible e same = ap (λ n. shapes_after ex v n possible (cell_in col v)) (sym e) ∙ sym (shapes_begun-more ex v [] col)
+pub set-more : (ex : Exercise) (p : List (List Cell)) (col : List Cell) (v i possible : ℕ) → length p ≡ i
+    → (0 < length p → possible ≡ shapes_begun ex v p) → shapes_after ex v i possible (cell_in col v)
+    ≡ shapes_begun ex v (p ++ col ∷ [])
+set-more ex [] col v i possible e same =
+    ap (λ n. shapes_after ex v n possible (cell_in col v)) (sym e) ∙ sym (shapes_begun-more ex v [] col)
 set-more ex (c ∷ p) col v i possible e same =
     ap (λ n. shapes_after ex v n possible (cell_in col v)) (sym e)
     ∙ ap (λ n. shapes_after ex v (length (c ∷ p)) n (cell_in col v)) (same (omega arith))
     ∙ sym (shapes_begun-more ex v (c ∷ p) col)
 
 pub free_voice : (ex : Exercise) (v : ℕ) → nat_lt v ex.voices ≡ true → is_free ex v ≡ true → IsFree ex v
-free_voice ex v there free = record { there = ltb-true v ex.voices there; no_cantus = eqb-false v ex.cantus_voice (not-true (v == ex.cantus_voice) free) }
+free_voice ex v there free = record {
+  there = ltb-true v ex.voices there;
+  no_cantus = eqb-false v ex.cantus_voice (not-true (v == ex.cantus_voice) free);
+}
 
 pub voice_of-alone : (v : ℕ) → v < 4 → voice_of (2 ^ v) ≡ Some v
 voice_of-alone = each_of_four (λ v. voice_of (2 ^ v) ≡ Some v) refl refl refl refl
@@ -44,9 +50,14 @@ only_free true false x y f = refl
 only_free false free x y f = refl
 
 -- a voice has left the shapes of the newest bar where none is left
-pub none_left : (ex : Exercise) (p : List (List Cell)) (v possible : ℕ) → v < 4 → 0 < length p → (IsFree ex v → possible ≡ shapes_begun ex v p) → (nat_lt v ex.voices && (is_free ex v && (possible == 0))) ≡ reading_of (broken_in 3 ex (2 ^ v)) p (newest_start p)
+pub none_left : (ex : Exercise) (p : List (List Cell)) (v possible : ℕ) → v < 4 → 0 < length p
+    → (IsFree ex v → possible ≡ shapes_begun ex v p) → (nat_lt v ex.voices && (is_free ex v && (possible == 0)))
+    ≡ reading_of (broken_in 3 ex (2 ^ v)) p (newest_start p)
 none_left ex p v possible four some same =
     only_free (nat_lt v ex.voices) (is_free ex v) (possible == 0) (not (keeps_shapes ex p (newest_bar p) v))
-    (λ there free. ap (λ n. n == 0) (same (free_voice ex v there free)) ∙ empty_set (λ shape. starts_with nat_eq shape (letters_of v (newest_columns p))) (voice_shapes ex v (newest_bar p)))
-    ∙ ap (holds_of_voice ex (λ v. is_free ex v && not (keeps_shapes ex p (newest_bar p) v))) (sym (voice_of-alone v four))
+    (λ there free. ap (λ n. n == 0) (same (free_voice ex v there free))
+    ∙ empty_set (λ shape. starts_with nat_eq shape (letters_of v (newest_columns p)))
+    (voice_shapes ex v (newest_bar p)))
+    ∙ ap (holds_of_voice ex (λ v. is_free ex v && not (keeps_shapes ex p (newest_bar p) v)))
+    (sym (voice_of-alone v four))
     ∙ sym (reading-bar ex (2 ^ v) p (newest_bar p) (omega arith, omega arith))

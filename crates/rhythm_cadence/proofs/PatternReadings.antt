@@ -25,7 +25,8 @@ module _ (s : List (List Cell)) (v i : ℕ) (second : 8 ≤ i) (whole : i + 8 �
   columns = ap (λ k. slice_index_or s i [] ∷ drop k s) (add-one i) ∙ sym (drop-cons s i [] (omega (arith, whole)))
 
   slot_reading : (k a b : ℕ) → k ≤ 7 → a + 8 ≡ i + k → b ≡ i + k
-      → repeats_slot v (earlier s i) (slice_index_or s i []) (drop (i + 1) s) k ≡ same_cell (cell_at s v a) (cell_at s v b)
+      → repeats_slot v (earlier s i) (slice_index_or s i []) (drop (i + 1) s) k
+      ≡ same_cell (cell_at s v a) (cell_at s v b)
   slot_reading k a b h e f =
       let far : i - 1 - (7 - k) ≡ a = omega (arith, e, second, h) in
       ap (λ c. same_cell (cell_in c v) (cell_in (slice_index_or (slice_index_or s i [] ∷ drop (i + 1) s) k []) v))
@@ -33,9 +34,11 @@ module _ (s : List (List Cell)) (v i : ℕ) (second : 8 ≤ i) (whole : i + 8 �
       ∙ ap (λ c. same_cell (cell_at s v a) (cell_in c v))
       (ap (λ cs. slice_index_or cs k []) columns ∙ get_or-drop i s k [] ∙ ap (λ n. slice_index_or s n []) (sym f))
 
-  bar_reading : repeats_bar v (earlier s i) (slice_index_or s i []) (drop (i + 1) s) ≡ same_cells (bar_behind s v i) (bar_behind s v (i + 8))
+  bar_reading : repeats_bar v (earlier s i) (slice_index_or s i []) (drop (i + 1) s)
+      ≡ same_cells (bar_behind s v i) (bar_behind s v (i + 8))
   bar_reading =
-      let seven : nat_le 7 (length (drop (i + 1) s)) ≡ true = enough (length (drop (i + 1) s)) (omega (arith, whole, length-drop (i + 1) s)) in
+      let seven : nat_le 7 (length (drop (i + 1) s))
+      ≡ true = enough (length (drop (i + 1) s)) (omega (arith, whole, length-drop (i + 1) s)) in
       rw (
         seven,
         slot_reading 0 (i - 8) (i + 8 - 8) (omega arith) (omega (arith, second)) (omega arith),
@@ -53,7 +56,8 @@ module _ (s : List (List Cell)) (v i : ℕ) (second : 8 ≤ i) (whole : i + 8 �
 
 -- where a bar begins, and where the newest column ends it
 bar_facts : (ex : Exercise) (n : ℕ) → settles_pattern ex n ≡ true
-    → (nat_le 2 ex.species ≡ true) × (begins_bar (n - 7) ≡ true) × (nat_le 8 (n - 7) ≡ true) × (8 ≤ n - 7) × (n - 7 + 7 ≡ n)
+    → (nat_le 2 ex.species ≡ true) × (begins_bar (n - 7) ≡ true) × (nat_le 8 (n - 7) ≡ true) × (8 ≤ n - 7)
+    × (n - 7 + 7 ≡ n)
 bar_facts ex n e =
     let outer = and_parts (nat_le 2 ex.species && (slot_of n == 7)) (nat_le 15 n) e in
     let inner = and_parts (nat_le 2 ex.species) (slot_of n == 7) outer.0 in
@@ -82,8 +86,12 @@ pattern_reading ex p col i = at (settles_pattern ex (length p)) refl
         ap (newly_costs pattern_row ex p col) here
         ∙ ap (λ b. if b then reading_of (pattern_row.cost ex) (p ++ col ∷ []) (length p - 7) else 0)
         (pattern_newly ex p col (length p - 7) facts.1 ∙ within (length p - 7) (length p) ends)
-        ∙ ap (λ b. from_bool (b && repeats_bar ex.species_voice (earlier (p ++ col ∷ []) (length p - 7)) (slice_index_or (p ++ col ∷ []) (length p - 7) []) (drop (length p - 7 + 1) (p ++ col ∷ []))))
-        (and_from (nat_le 2 ex.species && begins_bar (length p - 7)) (nat_le 8 (length p - 7)) (and_from (nat_le 2 ex.species) (begins_bar (length p - 7)) facts.0 facts.1) facts.2)
+        ∙ ap (λ b. from_bool (b && repeats_bar ex.species_voice (earlier (p ++ col ∷ []) (length p - 7))
+        (slice_index_or (p ++ col ∷ []) (length p - 7) []) (drop (length p - 7 + 1) (p ++ col ∷ []))))
+        (and_from (nat_le 2 ex.species && begins_bar (length p - 7)) (nat_le 8 (length p - 7))
+        (and_from (nat_le 2 ex.species) (begins_bar (length p - 7)) facts.0 facts.1) facts.2)
         ∙ ap from_bool (bar_reading (p ++ col ∷ []) ex.species_voice (length p - 7) facts.3 whole)
-        ∙ ap (λ n. from_bool (same_cells (bar_behind (p ++ col ∷ []) ex.species_voice (length p - 7)) (bar_behind (p ++ col ∷ []) ex.species_voice n))) next
-        ∙ sym (ap (λ b. from_bool (b && same_cells (bar_behind (p ++ col ∷ []) ex.species_voice (length p - 7)) (bar_behind (p ++ col ∷ []) ex.species_voice (length p + 1)))) e)
+        ∙ ap (λ n. from_bool (same_cells (bar_behind (p ++ col ∷ []) ex.species_voice (length p - 7))
+        (bar_behind (p ++ col ∷ []) ex.species_voice n))) next
+        ∙ sym (ap (λ b. from_bool (b && same_cells (bar_behind (p ++ col ∷ []) ex.species_voice (length p - 7))
+        (bar_behind (p ++ col ∷ []) ex.species_voice (length p + 1)))) e)

@@ -23,15 +23,21 @@ brings_none i (Start p) slot still = cc
 module _ (ex : Exercise) (i : ℕ) (now : List Cell) (quiet : is_quiet i now ≡ true) where
   voice_unbroken : (rule v : ℕ) (previous : Option Pitch) → voice_rule rule ex v i previous now ≡ false
   voice_unbroken rule v previous =
-      let none : pitch_brought i (cell_in now v) ≡ None = brings_none i (cell_in now v) (quiet_slot i now quiet) (quiet_cell i now quiet v) in
+      let none : pitch_brought i (cell_in now v)
+      ≡ None = brings_none i (cell_in now v) (quiet_slot i now quiet) (quiet_cell i now quiet v) in
       either_none (rule == 1) _ _ false (ap (holds_of_pitch _) none)
       (either_none (rule == 2) _ _ false (ap (holds_of_pitch _) none)
       (ap (λ b. b && is_none previous && not (fits_opening ex now v (lowest_voice now))) (quiet_cell i now quiet v)))
 
-  pub quiet_rows : (rule voices : ℕ) (before : List Cell) (previous : Pitches) → near_rows rule ex voices i before previous now ≡ false
+  pub quiet_rows : (rule voices : ℕ) (before : List Cell) (previous : Pitches)
+      → near_rows rule ex voices i before previous now ≡ false
   quiet_rows rule voices before previous =
       either_none (rule == 13) _ _ false
-      (on_pair-none ex _ voices (λ v w. and_right (v == 0) _ (ap (λ b. (b && bar_of i == ex.bars) && not (holds_of (fits_ending ex) (interval_in now 0 w))) (quiet_slot i now quiet))))
+      (on_pair-none ex _ voices (λ v w. and_right (v == 0) _
+      (ap (λ b. (b && bar_of i == ex.bars) && not (holds_of (fits_ending ex) (interval_in now 0 w)))
+      (quiet_slot i now quiet))))
       (either_none (rule == 24) _ _ false
-      (on_voice-none ex _ voices (λ v. and_right (v == 0) _ (ap (λ b. (b && bar_of i == ex.bars) && not (holds_of_pitch (is_final ex) (pitch_of (cell_in now 0)))) (quiet_slot i now quiet))))
+      (on_voice-none ex _ voices (λ v. and_right (v == 0) _
+      (ap (λ b. (b && bar_of i == ex.bars) && not (holds_of_pitch (is_final ex) (pitch_of (cell_in now 0))))
+      (quiet_slot i now quiet))))
       (on_free_voice-none ex _ voices (λ v. voice_unbroken rule v (pitch_at previous v))))

@@ -44,7 +44,8 @@ pub book_is_local : AreLocal book_breaks book_settles
 book_is_local rule ex voices =
     by_row (λ it. IsLocal ex (reading_of (it.broken ex voices)) (settled_by (it.enough ex voices)))
     (λ n e. rhythm_is_local n ex voices) (rhythm_is_local 3 ex voices)
-    (λ p t i on settled. local_from_row ex (cadence_rule.broken ex voices) (cadence_rule.enough ex voices) (λ i behind now ahead t h. refl) p t i on settled)
+    (λ p t i on settled. local_from_row ex (cadence_rule.broken ex voices) (cadence_rule.enough ex voices)
+    (λ i behind now ahead t h. refl) p t i on settled)
     (quaver_is_local ex voices) rule
 
 pub book_settles_at_end : SettleAtEnd book_settles
@@ -58,22 +59,27 @@ not_late : (rule : ℕ) → IsTrue (has_rule near_bits rule) → is_late rule �
 not_late rule h =
     false_from_ne_true (is_late rule) (λ e.
     by (rule == 3) (rule == 22) (rule == 25) e
-    (λ f. other 3 (eqb-true rule 3 f) refl) (λ f. other 22 (eqb-true rule 22 f) refl) (λ f. other 25 (eqb-true rule 25 f) refl))
+    (λ f. other 3 (eqb-true rule 3 f) refl) (λ f. other 22 (eqb-true rule 22 f) refl)
+    (λ f. other 25 (eqb-true rule 25 f) refl))
   where
     other : (n : ℕ) → rule ≡ n → has_rule near_bits n ≡ false → ⊥
-    other n e none = let P : ℕ → Type 0 = λ r. IsTrue (has_rule near_bits r) in let k : has_rule near_bits n ≡ true = subst P e h in cc
+    other n e none = let P : ℕ → Type 0 = λ r. IsTrue (has_rule near_bits r) in let k : has_rule near_bits n
+        ≡ true = subst P e h in cc
 
     by : (a b c : Bool) → (a || b || c) ≡ true → (a ≡ true → ⊥) → (b ≡ true → ⊥) → (c ≡ true → ⊥) → ⊥
     by true b c e f g k = f refl
     by false true c e f g k = g refl
     by false false c e f g k = k e
 
-pub book_is_near : (rule : ℕ) (ex : Exercise) (voices : ℕ) → IsTrue (has_rule near_bits rule) → IsNear ex (book_breaks rule ex voices) (near_rows rule ex voices)
+pub book_is_near : (rule : ℕ) (ex : Exercise) (voices : ℕ) → IsTrue (has_rule near_bits rule)
+    → IsNear ex (book_breaks rule ex voices) (near_rows rule ex voices)
 book_is_near rule ex voices h = rw (not_late rule h) (rhythm_is_near rule ex voices h)
 
 -- the tolls
-pub ligature_is_local : (ex : Exercise) → IsLocal ex (reading_of (ligature_row.cost ex)) (settled_by (ligature_row.enough ex))
-ligature_is_local ex = local_from_row ex (ligature_row.cost ex) (ligature_row.enough ex) (λ i behind now ahead t h. refl)
+pub ligature_is_local : (ex : Exercise) → IsLocal ex (reading_of (ligature_row.cost ex))
+    (settled_by (ligature_row.enough ex))
+ligature_is_local ex =
+    local_from_row ex (ligature_row.cost ex) (ligature_row.enough ex) (λ i behind now ahead t h. refl)
 
 pub ligature_settles_at_end : (ex : Exercise) → SettlesAtEnd ex (settled_by (ligature_row.enough ex))
 ligature_settles_at_end ex = at_once_settles ex

@@ -25,15 +25,20 @@ is_out_of_place_at ex i previous now v =
 abbrev pub some_out_of_place : Exercise → ℕ → Pitches → List Cell → Bool
 some_out_of_place ex i previous now = list_any (is_out_of_place_at ex i previous now) (0 ∷ 1 ∷ 2 ∷ 3 ∷ [])
 
-module _ (ex : Exercise) (i : ℕ) (previous : Pitches) (now : List Cell) (kept : some_out_of_place ex i previous now ≡ false) where
-  rule_kept : (rule v : ℕ) → is_out_of_place ex i (pitch_at previous v) now v ≡ false → voice_rule rule ex v i (pitch_at previous v) now ≡ false
+module _ (ex : Exercise) (i : ℕ) (previous : Pitches) (now : List Cell)
+    (kept : some_out_of_place ex i previous now ≡ false) where
+  rule_kept : (rule v : ℕ) → is_out_of_place ex i (pitch_at previous v) now v ≡ false
+      → voice_rule rule ex v i (pitch_at previous v) now ≡ false
   rule_kept rule v h =
-      let a = or_parts (leaves_range ex v i (cell_in now v)) (leaves_gamut ex i (cell_in now v) || opens_badly ex (pitch_at previous v) now v) h in
+      let a = or_parts (leaves_range ex v i (cell_in now v))
+      (leaves_gamut ex i (cell_in now v) || opens_badly ex (pitch_at previous v) now v) h in
       let b = or_parts (leaves_gamut ex i (cell_in now v)) (opens_badly ex (pitch_at previous v) now v) a.1 in
       either_none (rule == 1) _ _ false a.0 (either_none (rule == 2) _ _ false b.0 b.1)
 
   -- then each of them is kept
-  pub in_place_rows : (rule voices : ℕ) → on_free_voice ex (λ v. voice_rule rule ex v i (pitch_at previous v) now) voices ≡ false
+  pub in_place_rows : (rule voices : ℕ) → on_free_voice ex (λ v. voice_rule rule ex v i (pitch_at previous v) now)
+      voices ≡ false
   in_place_rows rule voices =
-      on_free_voice-kept ex (λ v. is_out_of_place ex i (pitch_at previous v) now v) (λ v. voice_rule rule ex v i (pitch_at previous v) now) voices kept
+      on_free_voice-kept ex (λ v. is_out_of_place ex i (pitch_at previous v) now v)
+      (λ v. voice_rule rule ex v i (pitch_at previous v) now) voices kept
       (rule_kept rule 0) (rule_kept rule 1) (rule_kept rule 2) (rule_kept rule 3)

@@ -41,19 +41,25 @@ after_rest (Hold p) Rest cells r e = refl
 after_rest (Start p) Rest cells r e = absurd r
 
 -- its line up to a place has rests first
-pub rests_earlier : (ex : Exercise) (p : List (List Cell)) (n v : ℕ) → IsFree ex v → IsOrderly ex p → RestsFirst (line v (earlier p n))
+pub rests_earlier : (ex : Exercise) (p : List (List Cell)) (n v : ℕ) → IsFree ex v → IsOrderly ex p
+    → RestsFirst (line v (earlier p n))
 unfolding earlier
 rests_earlier ex p n v free orderly =
     let O : List (List Cell) → Type 0 = λ s. IsOrderly ex s in
-    let fewer : IsOrderly ex (take n p) = orderly-fewer ex (take n p) (drop n p) (subst O (sym (take-append-drop n p)) orderly) in
+    let fewer : IsOrderly ex (take n p) = orderly-fewer ex (take n p) (drop n p)
+    (subst O (sym (take-append-drop n p)) orderly) in
     free_rests ex v free (reverse (take n p)) (subst O (sym (reverse-reverse (take n p))) fewer)
 
-rest_after : (ex : Exercise) (p : List (List Cell)) (i v : ℕ) → IsFree ex v → IsOrderly ex p → i + 1 < length p → cell_in (slice_index_or p (i + 1) []) v ≡ Rest → starts (cell_in (slice_index_or p i []) v) ≡ false
+rest_after : (ex : Exercise) (p : List (List Cell)) (i v : ℕ) → IsFree ex v → IsOrderly ex p → i + 1 < length p
+    → cell_in (slice_index_or p (i + 1) []) v ≡ Rest → starts (cell_in (slice_index_or p i []) v) ≡ false
 rest_after ex p i v free orderly here rest =
     let R : List Cell → Type 0 = λ cells. RestsFirst cells in
-    let cells : line v (earlier p (i + 1 + 1)) ≡ cell_in (slice_index_or p (i + 1) []) v ∷ cell_in (slice_index_or p i []) v ∷ line v (earlier p i) =
-    line-more p v (i + 1) here ∙ ap (λ cs. cell_in (slice_index_or p (i + 1) []) v ∷ cs) (line-more p v i (omega (arith, here))) in
-    after_rest (cell_in (slice_index_or p i []) v) (cell_in (slice_index_or p (i + 1) []) v) (line v (earlier p i)) (subst R cells (rests_earlier ex p (i + 1 + 1) v free orderly)) rest
+    let cells : line v (earlier p (i + 1 + 1)) ≡ cell_in (slice_index_or p (i + 1) []) v
+    ∷ cell_in (slice_index_or p i []) v ∷ line v (earlier p i) =
+    line-more p v (i + 1) here ∙ ap (λ cs. cell_in (slice_index_or p (i + 1) []) v ∷ cs)
+    (line-more p v i (omega (arith, here))) in
+    after_rest (cell_in (slice_index_or p i []) v) (cell_in (slice_index_or p (i + 1) []) v) (line v (earlier p i))
+    (subst R cells (rests_earlier ex p (i + 1 + 1) v free orderly)) rest
 
 -- the row of one voice, from its next cell and those after it
 from_next : ℕ → List (List Cell) → List Cell → ℕ → Cell → List Cell → Bool
@@ -63,7 +69,9 @@ from_next i behind now v next cells =
     && is_step_apart (pitch_of (cell_in now v)) (onset_pitch (first_of (onsets_from (i + 1) (next ∷ cells)))))
 
 -- the next cell tells all, if it isn't a rest after a note
-next_tells : (i : ℕ) (behind : List (List Cell)) (now : List Cell) (v : ℕ) (next : Cell) (xs ys : List Cell) → (next ≡ Rest → starts (cell_in now v) ≡ false) → from_next i behind now v next xs ≡ from_next i behind now v next ys
+next_tells : (i : ℕ) (behind : List (List Cell)) (now : List Cell) (v : ℕ) (next : Cell) (xs ys : List Cell)
+    → (next ≡ Rest → starts (cell_in now v) ≡ false) → from_next i behind now v next xs
+    ≡ from_next i behind now v next ys
 unfolding from_next
 next_tells i behind now v (Start p) xs ys f = refl
 next_tells i behind now v (Hold p) xs ys f = held (starts (cell_in now v)) _ _
@@ -77,17 +85,23 @@ next_tells i behind now v Rest xs ys f = silent (starts (cell_in now v)) _ _ (f 
     silent true x y e = cc
     silent false x y e = refl
 
-voice_same : (i : ℕ) (behind : List (List Cell)) (now : List Cell) (ahead t : List (List Cell)) (v : ℕ) → 0 < length ahead → (cell_in (newest_column ahead) v ≡ Rest → starts (cell_in now v) ≡ false) → (starts_quaver now (ahead ++ t) v && not (is_stepwise i behind now (ahead ++ t) v)) ≡ (starts_quaver now ahead v && not (is_stepwise i behind now ahead v))
+voice_same : (i : ℕ) (behind : List (List Cell)) (now : List Cell) (ahead t : List (List Cell)) (v : ℕ)
+    → 0 < length ahead → (cell_in (newest_column ahead) v ≡ Rest → starts (cell_in now v) ≡ false)
+    → (starts_quaver now (ahead ++ t) v && not (is_stepwise i behind now (ahead ++ t) v))
+    ≡ (starts_quaver now ahead v && not (is_stepwise i behind now ahead v))
 unfolding from_next
 voice_same i behind now [] t v some f = absurd (omega (arith, some))
-voice_same i behind now (col ∷ ahead) t v some f = next_tells i behind now v (cell_in col v) (line v (ahead ++ t)) (line v ahead) f
+voice_same i behind now (col ∷ ahead) t v some f =
+    next_tells i behind now v (cell_in col v) (line v (ahead ++ t)) (line v ahead) f
 
 -- two tests that agree for each free voice agree for the voice of a set
-pub same_on_voice : (ex : Exercise) (f g : ℕ → Bool) (voice : Option ℕ) → ((v : ℕ) → IsFree ex v → f v ≡ g v) → holds_of_voice ex (λ v. is_free ex v && f v) voice ≡ holds_of_voice ex (λ v. is_free ex v && g v) voice
+pub same_on_voice : (ex : Exercise) (f g : ℕ → Bool) (voice : Option ℕ) → ((v : ℕ) → IsFree ex v → f v ≡ g v)
+    → holds_of_voice ex (λ v. is_free ex v && f v) voice ≡ holds_of_voice ex (λ v. is_free ex v && g v) voice
 same_on_voice ex f g None same = refl
 same_on_voice ex f g (Some v) same = at (nat_lt v ex.voices) (v == ex.cantus_voice) refl refl
   where
-    at : (there cantus : Bool) → nat_lt v ex.voices ≡ there → (v == ex.cantus_voice) ≡ cantus → (there && (not cantus && f v)) ≡ (there && (not cantus && g v))
+    at : (there cantus : Bool) → nat_lt v ex.voices ≡ there → (v == ex.cantus_voice) ≡ cantus
+        → (there && (not cantus && f v)) ≡ (there && (not cantus && g v))
     at false cantus e k = refl
     at true true e k = refl
     at true false e k = same v (record { there = grind (arith, nat_tests, e); no_cantus = grind (arith, nat_tests, k) })
@@ -98,16 +112,20 @@ quaver_stays_ahead ex voices p t i on here h =
     (λ k.
     let some : 0 < length (drop (i + 1) p) = grind (arith, nat_tests, k) in
     let within : i + 1 < length p = omega (arith, some, length-drop (i + 1) p) in
-    let newest : newest_column (drop (i + 1) p) ≡ slice_index_or p (i + 1) [] = ap newest_column (drop-cons p (i + 1) [] within) in
+    let newest : newest_column (drop (i + 1) p)
+    ≡ slice_index_or p (i + 1) [] = ap newest_column (drop-cons p (i + 1) [] within) in
     same_on_voice ex _ _ (voice_of voices) (λ v free.
     voice_same i (earlier p i) (slice_index_or p i []) (drop (i + 1) p) t v some
     (λ e. rest_after ex p i v free on.orderly within (sym (ap (λ col. cell_in col v) newest) ∙ e))))
     (λ k. whole_same ex (quaver_row ex voices) p t i on here k)
 
-pub quaver_is_local : (ex : Exercise) (voices : ℕ) → IsLocal ex (reading_of (quaver_row ex voices)) (settled_by (quaver_enough ex voices))
-quaver_is_local ex voices = local_from_ahead ex (quaver_row ex voices) (quaver_enough ex voices) (quaver_stays_ahead ex voices)
+pub quaver_is_local : (ex : Exercise) (voices : ℕ)
+    → IsLocal ex (reading_of (quaver_row ex voices)) (settled_by (quaver_enough ex voices))
+quaver_is_local ex voices =
+    local_from_ahead ex (quaver_row ex voices) (quaver_enough ex voices) (quaver_stays_ahead ex voices)
 
-more_ahead : (n : ℕ) (ahead t : List (List Cell)) → nat_le n (length ahead) ≡ true → nat_le n (length (ahead ++ t)) ≡ true
+more_ahead : (n : ℕ) (ahead t : List (List Cell)) → nat_le n (length ahead) ≡ true → nat_le n (length (ahead ++ t))
+    ≡ true
 more_ahead n ahead t h =
     let reached : n ≤ length (ahead ++ t) = grind (arith, nat_tests, length-append ahead t) in
     grind (arith, nat_tests)
@@ -119,12 +137,14 @@ some_ahead ahead t h =
 
 pub quaver_enough_stays : (ex : Exercise) (voices : ℕ) → EnoughStays (quaver_enough ex voices)
 quaver_enough_stays ex voices i behind now ahead t h =
-    or_each (nat_lt 0 (length ahead)) (is_whole ex i ahead) (nat_lt 0 (length (ahead ++ t))) (is_whole ex i (ahead ++ t))
+    or_each (nat_lt 0 (length ahead)) (is_whole ex i ahead) (nat_lt 0 (length (ahead ++ t)))
+    (is_whole ex i (ahead ++ t))
     (some_ahead ahead t) (whole_stays ex i ahead t) h
 
 pub quaver_settles_at_end : (ex : Exercise) (voices : ℕ) → SettlesAtEnd ex (settled_by (quaver_enough ex voices))
 quaver_settles_at_end ex voices =
-    ends_when_whole ex (quaver_enough ex voices) (λ i behind now ahead whole. or_right (nat_lt 0 (length ahead)) (is_whole ex i ahead) whole)
+    ends_when_whole ex (quaver_enough ex voices)
+    (λ i behind now ahead whole. or_right (nat_lt 0 (length ahead)) (is_whole ex i ahead) whole)
 
 -- ---- Q16
 
@@ -132,7 +152,8 @@ abbrev slots : List ℕ
 slots = 0 ∷ 1 ∷ 2 ∷ 3 ∷ 4 ∷ 5 ∷ 6 ∷ 7 ∷ []
 
 -- a whole bar isn't changed by the columns after it
-bar_same : (v : ℕ) (behind : List (List Cell)) (now : List Cell) (ahead t : List (List Cell)) → 7 ≤ length ahead → repeats_bar v behind now (ahead ++ t) ≡ repeats_bar v behind now ahead
+bar_same : (v : ℕ) (behind : List (List Cell)) (now : List Cell) (ahead t : List (List Cell)) → 7 ≤ length ahead
+    → repeats_bar v behind now (ahead ++ t) ≡ repeats_bar v behind now ahead
 bar_same v behind now ahead t h =
     let whole : nat_le 7 (length ahead) ≡ true = grind (arith, nat_tests) in
     let longer : nat_le 7 (length (ahead ++ t)) ≡ true = more_ahead 7 ahead t whole in
@@ -146,7 +167,16 @@ bar_same v behind now ahead t h =
         (get_or-append (now ∷ ahead) t [] slot (omega (arith, h, k)))
 
     each : list_all (repeats_slot v behind now (ahead ++ t)) slots ≡ list_all (repeats_slot v behind now ahead) slots
-    each = rw (one 0 (omega arith), one 1 (omega arith), one 2 (omega arith), one 3 (omega arith), one 4 (omega arith), one 5 (omega arith), one 6 (omega arith), one 7 (omega arith)) refl
+    each = rw (
+      one 0 (omega arith),
+      one 1 (omega arith),
+      one 2 (omega arith),
+      one 3 (omega arith),
+      one 4 (omega arith),
+      one 5 (omega arith),
+      one 6 (omega arith),
+      one 7 (omega arith),
+    ) refl
 
 pattern_undisturbed : (ex : Exercise) → IsUndisturbed (pattern_toll ex) (pattern_enough ex)
 pattern_undisturbed ex i behind now ahead t h =
@@ -154,7 +184,8 @@ pattern_undisturbed ex i behind now ahead t h =
     (λ k. ap from_bool (no_bar (nat_le 2 ex.species) (begins_bar i) (nat_le 8 i) _ _ k))
     (λ k.
     let whole : 7 ≤ length ahead = grind (arith, nat_tests, k) in
-    ap (λ b. from_bool (nat_le 2 ex.species && begins_bar i && nat_le 8 i && b)) (bar_same ex.species_voice behind now ahead t whole))
+    ap (λ b. from_bool (nat_le 2 ex.species && begins_bar i && nat_le 8 i && b))
+    (bar_same ex.species_voice behind now ahead t whole))
   where
     no_bar : (a b c x y : Bool) → IsTrue (not b) → (a && b && c && x) ≡ (a && b && c && y)
     no_bar a true c x y e = cc

@@ -41,60 +41,79 @@ agree true true f g o same h = same h
 agree true false f g o same h = refl
 agree false b f g o same h = refl
 
-agree_on : (ex : Exercise) (f g o : ℕ → Bool) (voice : Option ℕ) → ((v : ℕ) → o v ≡ false → f v ≡ g v) → holds_of_voice ex (λ v. is_free ex v && o v) voice ≡ false → holds_of_voice ex (λ v. is_free ex v && f v) voice ≡ holds_of_voice ex (λ v. is_free ex v && g v) voice
+agree_on : (ex : Exercise) (f g o : ℕ → Bool) (voice : Option ℕ) → ((v : ℕ) → o v ≡ false → f v ≡ g v)
+    → holds_of_voice ex (λ v. is_free ex v && o v) voice ≡ false → holds_of_voice ex (λ v. is_free ex v && f v) voice
+    ≡ holds_of_voice ex (λ v. is_free ex v && g v) voice
 agree_on ex f g o None same h = refl
 agree_on ex f g o (Some v) same h = agree (nat_lt v ex.voices) (is_free ex v) (f v) (g v) (o v) (same v) h
 
 -- letters that begin no shape begin none with more behind them
-stays : (ex : Exercise) (v i : ℕ) (now : List Cell) (ahead t : List (List Cell)) → may_go_on ex v i now ahead ≡ false → may_go_on ex v i now (ahead ++ t) ≡ false
+stays : (ex : Exercise) (v i : ℕ) (now : List Cell) (ahead t : List (List Cell)) → may_go_on ex v i now ahead ≡ false
+    → may_go_on ex v i now (ahead ++ t) ≡ false
 stays ex v i now ahead t h =
-    let longer : letters_of v (now ∷ take 7 (ahead ++ t)) ≡ letters_of v (now ∷ take 7 ahead) ++ letters_of v (take (7 - length ahead) t) =
-    ap (λ cols. letters_of v (now ∷ cols)) (take-append 7 ahead t) ∙ letters_of-append v (now ∷ take 7 ahead) (take (7 - length ahead) t) in
+    let longer : letters_of v (now ∷ take 7 (ahead ++ t)) ≡ letters_of v (now ∷ take 7 ahead)
+    ++ letters_of v (take (7 - length ahead) t) =
+    ap (λ cols. letters_of v (now ∷ cols)) (take-append 7 ahead t)
+    ∙ letters_of-append v (now ∷ take 7 ahead) (take (7 - length ahead) t) in
     false_from_ne_true (may_go_on ex v i now (ahead ++ t)) (λ e.
     both_ways (may_go_on ex v i now ahead) h
-    (begins_shape-fewer (voice_shapes ex v (bar_of i)) (letters_of v (now ∷ take 7 ahead)) (letters_of v (take (7 - length ahead) t))
+    (begins_shape-fewer (voice_shapes ex v (bar_of i)) (letters_of v (now ∷ take 7 ahead))
+    (letters_of v (take (7 - length ahead) t))
     (sym (ap (begins_shape (voice_shapes ex v (bar_of i))) longer) ∙ e)))
 
 -- a whole bar isn't changed by what comes after it
-whole_stays : (ex : Exercise) (v i : ℕ) (now : List Cell) (ahead t : List (List Cell)) → 7 ≤ length ahead → may_go_on ex v i now (ahead ++ t) ≡ may_go_on ex v i now ahead
+whole_stays : (ex : Exercise) (v i : ℕ) (now : List Cell) (ahead t : List (List Cell)) → 7 ≤ length ahead
+    → may_go_on ex v i now (ahead ++ t) ≡ may_go_on ex v i now ahead
 whole_stays ex v i now ahead t h =
     ap (λ cols. begins_shape (voice_shapes ex v (bar_of i)) (letters_of v (now ∷ cols))) (take-append-le 7 ahead t h)
 
-undisturbed_bar : (slot part goes more : Bool) → (part ≡ false → more ≡ goes) → (goes ≡ false → more ≡ false) → (slot && part && goes) ≡ false → (slot && not more) ≡ (slot && not goes)
+undisturbed_bar : (slot part goes more : Bool) → (part ≡ false → more ≡ goes) → (goes ≡ false → more ≡ false)
+    → (slot && part && goes) ≡ false → (slot && not more) ≡ (slot && not goes)
 undisturbed_bar false part goes more f g h = refl
 undisturbed_bar true false goes more f g h = ap not (f refl)
 undisturbed_bar true true true more f g h = cc
 undisturbed_bar true true false more f g h = ap not (g refl)
 
-undisturbed_voice : (ex : Exercise) (v i : ℕ) (now : List Cell) (ahead t : List (List Cell)) → is_open ex v i now ahead ≡ false → leaves_shapes ex v i now (ahead ++ t) ≡ leaves_shapes ex v i now ahead
+undisturbed_voice : (ex : Exercise) (v i : ℕ) (now : List Cell) (ahead t : List (List Cell)) → is_open ex v i now ahead
+    ≡ false → leaves_shapes ex v i now (ahead ++ t) ≡ leaves_shapes ex v i now ahead
 undisturbed_voice ex v i now ahead t h =
-    undisturbed_bar (begins_bar i) (nat_lt (length ahead) 7) (may_go_on ex v i now ahead) (may_go_on ex v i now (ahead ++ t))
+    undisturbed_bar (begins_bar i) (nat_lt (length ahead) 7) (may_go_on ex v i now ahead)
+    (may_go_on ex v i now (ahead ++ t))
     (λ e. whole_stays ex v i now ahead t (ltb-false (length ahead) 7 e))
     (stays ex v i now ahead t) h
 
-by_rule : (b o x x' y : Bool) → (o ≡ false → x ≡ x') → IsTrue (not (b && o)) → (if b then x else y) ≡ (if b then x' else y)
+by_rule : (b o x x' y : Bool) → (o ≡ false → x ≡ x') → IsTrue (not (b && o)) → (if b then x else y)
+    ≡ (if b then x' else y)
 by_rule true true x x' y f h = cc
 by_rule true false x x' y f h = f refl
 by_rule false o x x' y f h = refl
 
-undisturbed : (rule : ℕ) (ex : Exercise) (voices : ℕ) → IsUndisturbed (broken_in rule ex voices) (enough_after rule ex voices)
+undisturbed : (rule : ℕ) (ex : Exercise) (voices : ℕ)
+    → IsUndisturbed (broken_in rule ex voices) (enough_after rule ex voices)
 undisturbed rule ex voices i behind now ahead t enough =
     by_rule (rule == 3) (on_free_voice ex (λ v. is_open ex v i now ahead) voices)
-    (on_free_voice ex (λ v. leaves_shapes ex v i now (ahead ++ t)) voices) (on_free_voice ex (λ v. leaves_shapes ex v i now ahead) voices)
+    (on_free_voice ex (λ v. leaves_shapes ex v i now (ahead ++ t)) voices)
+    (on_free_voice ex (λ v. leaves_shapes ex v i now ahead) voices)
     (whole_of (near_rows rule ex voices) i behind now ahead)
-    (agree_on ex (λ v. leaves_shapes ex v i now (ahead ++ t)) (λ v. leaves_shapes ex v i now ahead) (λ v. is_open ex v i now ahead) (voice_of voices)
+    (agree_on ex (λ v. leaves_shapes ex v i now (ahead ++ t)) (λ v. leaves_shapes ex v i now ahead)
+    (λ v. is_open ex v i now ahead) (voice_of voices)
     (λ v. undisturbed_voice ex v i now ahead t))
     enough
 
 -- so what is settled of them stays in every list
-pub rhythm_reads_on : (rule : ℕ) (ex : Exercise) (voices : ℕ) (p t : List (List Cell)) (i : ℕ) → IsTrue (rhythm_settles rule ex voices p i) → rhythm_breaks rule ex voices (p ++ t) i ≡ rhythm_breaks rule ex voices p i
-rhythm_reads_on rule ex voices = reads_on (broken_in rule ex voices) (enough_after rule ex voices) (undisturbed rule ex voices)
+pub rhythm_reads_on : (rule : ℕ) (ex : Exercise) (voices : ℕ) (p t : List (List Cell)) (i : ℕ)
+    → IsTrue (rhythm_settles rule ex voices p i) → rhythm_breaks rule ex voices (p ++ t) i
+    ≡ rhythm_breaks rule ex voices p i
+rhythm_reads_on rule ex voices =
+    reads_on (broken_in rule ex voices) (enough_after rule ex voices) (undisturbed rule ex voices)
 
 pub rhythm_is_local : AreLocal rhythm_breaks rhythm_settles
-rhythm_is_local rule ex voices = local_from_row ex (broken_in rule ex voices) (enough_after rule ex voices) (undisturbed rule ex voices)
+rhythm_is_local rule ex voices =
+    local_from_row ex (broken_in rule ex voices) (enough_after rule ex voices) (undisturbed rule ex voices)
 
 -- a bar that isn't open is closed for good
-closed_stays : (slot part goes part' goes' : Bool) → (part ≡ false → part' ≡ false) → (goes ≡ false → goes' ≡ false) → (slot && part && goes) ≡ false → (slot && part' && goes') ≡ false
+closed_stays : (slot part goes part' goes' : Bool) → (part ≡ false → part' ≡ false) → (goes ≡ false → goes' ≡ false)
+    → (slot && part && goes) ≡ false → (slot && part' && goes') ≡ false
 closed_stays false part goes part' goes' f g h = refl
 closed_stays true false goes part' goes' f g h = let e : part' ≡ false = f refl in rw e refl
 closed_stays true true true part' goes' f g h = cc
@@ -106,12 +125,15 @@ both_fail true true o o' f h = f h
 both_fail true false o o' f h = refl
 both_fail false b o o' f h = refl
 
-fails_on : (ex : Exercise) (o o' : ℕ → Bool) (voice : Option ℕ) → ((v : ℕ) → o v ≡ false → o' v ≡ false) → holds_of_voice ex (λ v. is_free ex v && o v) voice ≡ false → holds_of_voice ex (λ v. is_free ex v && o' v) voice ≡ false
+fails_on : (ex : Exercise) (o o' : ℕ → Bool) (voice : Option ℕ) → ((v : ℕ) → o v ≡ false → o' v ≡ false)
+    → holds_of_voice ex (λ v. is_free ex v && o v) voice ≡ false → holds_of_voice ex (λ v. is_free ex v && o' v) voice
+    ≡ false
 fails_on ex o o' None f h = refl
 fails_on ex o o' (Some v) f h = both_fail (nat_lt v ex.voices) (is_free ex v) (o v) (o' v) (f v) h
 
 never_shorter : (ahead t : List (List Cell)) → nat_lt (length ahead) 7 ≡ false → nat_lt (length (ahead ++ t)) 7 ≡ false
-never_shorter ahead t h = le-ltb (length (ahead ++ t)) 7 (omega (arith, ltb-false (length ahead) 7 h, length-append ahead t))
+never_shorter ahead t h =
+    le-ltb (length (ahead ++ t)) 7 (omega (arith, ltb-false (length ahead) 7 h, length-append ahead t))
 
 rule_stays : (b o o' : Bool) → (o ≡ false → o' ≡ false) → IsTrue (not (b && o)) → IsTrue (not (b && o'))
 rule_stays true true o' f h = cc
@@ -121,9 +143,11 @@ rule_stays false o o' f h = refl
 -- what is enough stays enough when more columns come
 pub rhythm_stays : (rule : ℕ) (ex : Exercise) (voices : ℕ) → EnoughStays (enough_after rule ex voices)
 rhythm_stays rule ex voices i behind now ahead t h =
-    rule_stays (rule == 3) (on_free_voice ex (λ v. is_open ex v i now ahead) voices) (on_free_voice ex (λ v. is_open ex v i now (ahead ++ t)) voices)
+    rule_stays (rule == 3) (on_free_voice ex (λ v. is_open ex v i now ahead) voices)
+    (on_free_voice ex (λ v. is_open ex v i now (ahead ++ t)) voices)
     (fails_on ex (λ v. is_open ex v i now ahead) (λ v. is_open ex v i now (ahead ++ t)) (voice_of voices)
-    (λ v. closed_stays (begins_bar i) (nat_lt (length ahead) 7) (may_go_on ex v i now ahead) (nat_lt (length (ahead ++ t)) 7) (may_go_on ex v i now (ahead ++ t))
+    (λ v. closed_stays (begins_bar i) (nat_lt (length ahead) 7) (may_go_on ex v i now ahead)
+    (nat_lt (length (ahead ++ t)) 7) (may_go_on ex v i now (ahead ++ t))
     (never_shorter ahead t) (stays ex v i now ahead t)))
     h
 
@@ -132,7 +156,8 @@ closed : (slot part goes : Bool) → (slot ≡ true → part ≡ false) → (slo
 closed false part goes f = refl
 closed true part goes f = let e : part ≡ false = f refl in rw e refl
 
-none_open : (ex : Exercise) (o : ℕ → Bool) (voice : Option ℕ) → ((v : ℕ) → o v ≡ false) → holds_of_voice ex (λ v. is_free ex v && o v) voice ≡ false
+none_open : (ex : Exercise) (o : ℕ → Bool) (voice : Option ℕ) → ((v : ℕ) → o v ≡ false)
+    → holds_of_voice ex (λ v. is_free ex v && o v) voice ≡ false
 none_open ex o None h = refl
 none_open ex o (Some v) h = fails (nat_lt v ex.voices) (is_free ex v) (o v) (h v)
   where
@@ -146,21 +171,26 @@ no_more true o e = ap not e
 no_more false o e = refl
 
 -- at slot 0 of a list of whole bars, seven columns and more come after
-seven_after : (s : List (List Cell)) (i bars : ℕ) → length s ≡ 8 * bars → i < length s → i % 8 ≡ 0 → 7 ≤ length (drop (i + 1) s)
+seven_after : (s : List (List Cell)) (i bars : ℕ) → length s ≡ 8 * bars → i < length s → i % 8 ≡ 0
+    → 7 ≤ length (drop (i + 1) s)
 seven_after s i bars whole here slot = omega (arith, length-drop (i + 1) s)
 
 pub rhythm_settles_at_end : SettleAtEnd rhythm_settles
 rhythm_settles_at_end rule ex voices s i whole here =
     and_from (nat_lt i (length s)) (reading_of (enough_after rule ex voices) s i) (test_from_below i (length s) here)
-    (no_more (rule == 3) (reading_of (λ i behind now ahead. on_free_voice ex (λ v. is_open ex v i now ahead) voices) s i)
+    (no_more (rule == 3) (reading_of (λ i behind now ahead. on_free_voice ex (λ v. is_open ex v i now ahead) voices) s
+    i)
     (none_open ex _ (voice_of voices)
     (λ v. closed (begins_bar i) (nat_lt (length (drop (i + 1) s)) 7) _
     (λ e. le-ltb (length (drop (i + 1) s)) 7 (seven_after s i ex.bars whole here (eqb-true (slot_of i) 0 e))))))
 
 -- the rules of neighbors aren't S3
 not_3 : (rule : ℕ) → IsTrue (has_rule near_bits rule) → (rule == 3) ≡ false
-not_3 rule h = false_from_ne_true (rule == 3) (λ e. let P : ℕ → Type 0 = λ r. IsTrue (has_rule near_bits r) in let k : false ≡ true = subst P (eqb-true rule 3 e) h in cc)
+not_3 rule h = false_from_ne_true (rule == 3)
+    (λ e. let P : ℕ → Type 0 = λ r. IsTrue (has_rule near_bits r) in let k : false
+    ≡ true = subst P (eqb-true rule 3 e) h in cc)
 
-pub rhythm_is_near : (rule : ℕ) (ex : Exercise) (voices : ℕ) → IsTrue (has_rule near_bits rule) → IsNear ex (rhythm_breaks rule ex voices) (near_rows rule ex voices)
+pub rhythm_is_near : (rule : ℕ) (ex : Exercise) (voices : ℕ) → IsTrue (has_rule near_bits rule)
+    → IsNear ex (rhythm_breaks rule ex voices) (near_rows rule ex voices)
 rhythm_is_near rule ex voices h p next prefix =
     cond-false (rule == 3) _ _ (not_3 rule h) ∙ near_from_whole ex (near_rows rule ex voices) p next prefix

@@ -22,10 +22,12 @@ shapes_with slot letter = shape_set (λ shape. slice_index shape slot == letter)
 
 -- three rows of eight sets, for the letters S, H and R: at each slot the shapes that have the letter there
 abbrev pub holds_letter : List ℕ → ℕ → List (List ℕ) → Bool
-holds_letter sets letter shapes = list_all (λ slot. slice_index sets slot == shapes_with slot letter shapes) (0 ∷ 1 ∷ 2 ∷ 3 ∷ 4 ∷ 5 ∷ 6 ∷ 7 ∷ [])
+holds_letter sets letter shapes =
+    list_all (λ slot. slice_index sets slot == shapes_with slot letter shapes) (0 ∷ 1 ∷ 2 ∷ 3 ∷ 4 ∷ 5 ∷ 6 ∷ 7 ∷ [])
 
 abbrev pub AreSetsOf : List (List ℕ) → LetterSets → Type 0
-AreSetsOf shapes sets = IsTrue (holds_letter sets.starts 83 shapes && holds_letter sets.holds 72 shapes && holds_letter sets.rests 82 shapes)
+AreSetsOf shapes sets = IsTrue (holds_letter sets.starts 83 shapes && holds_letter sets.holds 72 shapes
+    && holds_letter sets.rests 82 shapes)
 
 -- the bar of the newest column, counted from 1
 abbrev pub newest_bar : List (List Cell) → ℕ
@@ -41,7 +43,8 @@ newest_columns p = bar_columns p (newest_bar p)
 
 -- the shapes that the letters of a voice in the newest bar begin
 abbrev pub shapes_begun : Exercise → ℕ → List (List Cell) → ℕ
-shapes_begun ex v p = shape_set (λ shape. starts_with nat_eq shape (letters_of v (newest_columns p))) (voice_shapes ex v (newest_bar p))
+shapes_begun ex v p =
+    shape_set (λ shape. starts_with nat_eq shape (letters_of v (newest_columns p))) (voice_shapes ex v (newest_bar p))
 
 -- the part has these for each free voice, where there is a newest column
 abbrev pub IsShapesOf : Exercise → List (List Cell) → BarShapes → Type 0

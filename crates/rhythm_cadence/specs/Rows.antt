@@ -60,10 +60,12 @@ leaves_shapes ex v i now ahead = begins_bar i && not (may_go_on ex v i now ahead
 -- S12: the first note of a voice fits at the beginning: with a lower voice it makes a perfect interval, and below all others a unison or an octave with the cantus
 abbrev pub fits_opening : Exercise → List Cell → ℕ → Option ℕ → Bool
 fits_opening ex now v None = false
-fits_opening ex now v (Some u) = if u == v then holds_of (is_reduced_to 0 0) (interval_in now v ex.cantus_voice) else holds_of is_perfect_size (interval_in now v u)
+fits_opening ex now v (Some u) = if u == v then holds_of (is_reduced_to 0 0) (interval_in now v ex.cantus_voice)
+    else holds_of is_perfect_size (interval_in now v u)
 
 abbrev pub opens_badly : Exercise → Option Pitch → List Cell → ℕ → Bool
-opens_badly ex previous now v = starts (cell_in now v) && is_none previous && not (fits_opening ex now v (lowest_voice now))
+opens_badly ex previous now v =
+    starts (cell_in now v) && is_none previous && not (fits_opening ex now v (lowest_voice now))
 
 -- slot 0 of the last bar
 abbrev pub begins_last_bar : Exercise → ℕ → Bool

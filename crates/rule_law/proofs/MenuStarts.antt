@@ -17,7 +17,8 @@ use Rattle.rule_law.specs.Gauges.{menu_starts, starts_ahead}
 use Rattle.rule_law.specs.Terms.{starts}
 
 -- what one of a list passes, some of it do
-pub any_from : {X : Type 0} (test : X → Bool) (xs : List X) (x : X) → Contains xs x → test x ≡ true → list_any test xs ≡ true
+pub any_from : {X : Type 0} (test : X → Bool) (xs : List X) (x : X) → Contains xs x → test x ≡ true → list_any test xs
+    ≡ true
 any_from test [] x h e = absurd (omega (arith, h.1))
 any_from test (y ∷ xs) x h e =
     elim (Contains-cons_cases y xs x h) [
@@ -26,11 +27,14 @@ any_from test (y ∷ xs) x h e =
     ]
 
 -- and the other way round
-pub any_only : {X : Type 0} (test : X → Bool) (xs : List X) → list_any test xs ≡ true → (x : X) × Contains xs x × (test x ≡ true)
+pub any_only : {X : Type 0} (test : X → Bool) (xs : List X) → list_any test xs ≡ true → (x : X) × Contains xs x
+    × (test x ≡ true)
 any_only test [] h = cc
 any_only {X = X} test (y ∷ xs) h = pick (test y) refl h (any_only test xs)
   where
-    pick : (b : Bool) → test y ≡ b → (b || list_any test xs) ≡ true → (list_any test xs ≡ true → (x : X) × Contains xs x × (test x ≡ true)) → (x : X) × Contains (y ∷ xs) x × (test x ≡ true)
+    pick : (b : Bool) → test y ≡ b → (b || list_any test xs) ≡ true
+        → (list_any test xs ≡ true → (x : X) × Contains xs x × (test x ≡ true)) → (x : X) × Contains (y ∷ xs) x
+        × (test x ≡ true)
     pick true e k f = (y, (0, omega arith, refl), e)
     pick false e k f = let found = f k in (found.0, Contains-append_right (y ∷ []) xs found.0 found.1, found.2)
 
@@ -45,7 +49,8 @@ start_only (Hold p) e = absurd e
 start_only (Start p) e = refl
 
 pub menu_starts-from : (ex : Exercise) (v i : ℕ) → CanStart ex v i → menu_starts ex v i ≡ true
-menu_starts-from ex v i h = any_from (λ col. starts (cell_in col v)) (menu_of ex i) h.0 h.1 (start_only (cell_in h.0 v) h.2)
+menu_starts-from ex v i h =
+    any_from (λ col. starts (cell_in col v)) (menu_of ex i) h.0 h.1 (start_only (cell_in h.0 v) h.2)
 
 pub menu_starts-only : (ex : Exercise) (v i : ℕ) → menu_starts ex v i ≡ true → CanStart ex v i
 menu_starts-only ex v i e =
@@ -59,7 +64,8 @@ same_truth false true f g = g refl
 same_truth false false f g = refl
 
 -- of the columns from one on, the first is that one
-pub starts_ahead-more : (ex : Exercise) (v i : ℕ) → i < columns_in ex → starts_ahead ex v i ≡ cond (menu_starts ex v i) 1 0 + starts_ahead ex v (i + 1)
+pub starts_ahead-more : (ex : Exercise) (v i : ℕ) → i < columns_in ex → starts_ahead ex v i
+    ≡ cond (menu_starts ex v i) 1 0 + starts_ahead ex v (i + 1)
 starts_ahead-more ex v i h =
     let e : columns_in ex - i ≡ suc (columns_in ex - (i + 1)) = omega (arith, h) in
     ap (λ n. count_by (menu_starts ex v) (range_with_len i n)) e

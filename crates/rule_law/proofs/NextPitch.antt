@@ -29,7 +29,8 @@ same_start : (q p : Pitch) → Start q ≡ Start p → q ≡ p
 same_start q p e = cc
 
 -- a start among the cells of a free voice is of its pool
-started : (shapes : List (List ℕ)) (slot : ℕ) (pool : List Pitch) (p : Pitch) → Contains (free_cells shapes slot pool) (Start p) → Contains pool p
+started : (shapes : List (List ℕ)) (slot : ℕ) (pool : List Pitch) (p : Pitch)
+    → Contains (free_cells shapes slot pool) (Start p) → Contains pool p
 started shapes slot pool p h =
     let rests : List Cell = if allows shapes slot 82 then Rest ∷ [] else [] in
     let holds : List Cell = if allows shapes slot 72 then map Hold pool else [] in
@@ -38,9 +39,11 @@ started shapes slot pool p h =
       | inl early ↦
           elim (Contains-append_cases rests holds (Start p) early) [
             | inl rest ↦ no_rest (chosen (allows shapes slot 82) (Rest ∷ []) (Start p) rest)
-            | inr hold ↦ no_hold (Contains-map_only Hold pool (Start p) (chosen (allows shapes slot 72) (map Hold pool) (Start p) hold))
+            | inr hold ↦ no_hold (Contains-map_only Hold pool (Start p)
+                (chosen (allows shapes slot 72) (map Hold pool) (Start p) hold))
           ]
-      | inr start ↦ of_pool (Contains-map_only Start pool (Start p) (chosen (allows shapes slot 83) (map Start pool) (Start p) start))
+      | inr start ↦ of_pool (Contains-map_only Start pool (Start p)
+          (chosen (allows shapes slot 83) (map Start pool) (Start p) start))
     ]
   where
     no_rest : Contains (Rest ∷ []) (Start p) → Contains pool p
@@ -53,18 +56,22 @@ started shapes slot pool p h =
     of_pool : (q : Pitch) × Contains pool q × (Start q ≡ Start p) → Contains pool p
     of_pool (q, here, e) = let P : Pitch → Type 0 = λ x. Contains pool x in subst P (same_start q p e) here
 
-pub next_in_range : (ex : Exercise) (v : ℕ) (cells col : List Cell) (p : Pitch) → IsNextCell ex v cells col → cell_in col v ≡ Start p → is_in_range ex v (bar_of (length cells)) p ≡ true
+pub next_in_range : (ex : Exercise) (v : ℕ) (cells col : List Cell) (p : Pitch) → IsNextCell ex v cells col
+    → cell_in col v ≡ Start p → is_in_range ex v (bar_of (length cells)) p ≡ true
 next_in_range ex v cells col p next e =
     let i : ℕ = length cells in
     let P : Cell → Type 0 = λ c. Contains (cells_at ex i v) c in
-    let there : Contains (cells_at ex i v) (Start p) = subst P e (((menu_of-contains ex i col).0 next.in_menu).cells v next.free.there) in
+    let there : Contains (cells_at ex i v) (Start p) = subst P e
+    (((menu_of-contains ex i col).0 next.in_menu).cells v next.free.there) in
     let Q : List Cell → Type 0 = λ cs. Contains cs (Start p) in
     let of_shapes = subst Q (cells_at-free ex i v next.free.no_cantus) there in
-    let pool = (pool_of-contains ex v (bar_of i) p).0 (started (shapes_in (species_in ex v) (bar_of i) ex.bars) (slot_of i) (pool_of ex v (bar_of i)) p of_shapes) in
+    let pool = (pool_of-contains ex v (bar_of i) p).0
+    (started (shapes_in (species_in ex v) (bar_of i) ex.bars) (slot_of i) (pool_of ex v (bar_of i)) p of_shapes) in
     (and_parts (is_in_gamut ex.mode (bar_of i) ex.bars p) (is_in_range ex v (bar_of i) p) pool).1
 
 -- a start stands among the cells of a free voice only where some shape has one
-pub start_allowed : (shapes : List (List ℕ)) (slot : ℕ) (pool : List Pitch) (p : Pitch) → Contains (free_cells shapes slot pool) (Start p) → allows shapes slot 83 ≡ true
+pub start_allowed : (shapes : List (List ℕ)) (slot : ℕ) (pool : List Pitch) (p : Pitch)
+    → Contains (free_cells shapes slot pool) (Start p) → allows shapes slot 83 ≡ true
 start_allowed shapes slot pool p h =
     let rests : List Cell = if allows shapes slot 82 then Rest ∷ [] else [] in
     let holds : List Cell = if allows shapes slot 72 then map Hold pool else [] in
@@ -73,7 +80,8 @@ start_allowed shapes slot pool p h =
       | inl early ↦
           elim (Contains-append_cases rests holds (Start p) early) [
             | inl rest ↦ no_rest (chosen (allows shapes slot 82) (Rest ∷ []) (Start p) rest)
-            | inr hold ↦ no_hold (Contains-map_only Hold pool (Start p) (chosen (allows shapes slot 72) (map Hold pool) (Start p) hold))
+            | inr hold ↦ no_hold (Contains-map_only Hold pool (Start p)
+                (chosen (allows shapes slot 72) (map Hold pool) (Start p) hold))
           ]
       | inr start ↦ some (allows shapes slot 83) start
     ]
@@ -102,7 +110,8 @@ whole_note-slot (suc (suc (suc (suc (suc (suc (suc zero))))))) within other = re
 whole_note-slot (suc (suc (suc (suc (suc (suc (suc (suc n)))))))) within other = absurd (omega (arith, within))
 
 -- in the last bar, but for its beginning, no free voice starts a note
-pub last_bar_holds : (ex : Exercise) (v i : ℕ) (col : List Cell) → v ≢ ex.cantus_voice → bar_of i ≡ ex.bars → slot_of i ≢ 0 → IsInMenu ex i col → starts (cell_in col v) ≡ false
+pub last_bar_holds : (ex : Exercise) (v i : ℕ) (col : List Cell) → v ≢ ex.cantus_voice → bar_of i ≡ ex.bars
+    → slot_of i ≢ 0 → IsInMenu ex i col → starts (cell_in col v) ≡ false
 last_bar_holds ex v i col free last slot menu =
     elim (cases_lt v ex.voices) [
       | inl there ↦ at (cell_in col v) (menu.cells v there)
@@ -110,7 +119,8 @@ last_bar_holds ex v i col free last slot menu =
     ]
   where
     whole : shapes_in (species_in ex v) (bar_of i) ex.bars ≡ whole_note
-    whole = cond-true ((species_in ex v == 1) || (bar_of i == ex.bars)) whole_note _ (or_right (species_in ex v == 1) (bar_of i == ex.bars) (grind (arith, nat_tests, last)))
+    whole = cond-true ((species_in ex v == 1) || (bar_of i == ex.bars)) whole_note _
+        (or_right (species_in ex v == 1) (bar_of i == ex.bars) (grind (arith, nat_tests, last)))
 
     at : (c : Cell) → Contains (cells_at ex i v) c → starts c ≡ false
     at Rest h = refl
@@ -118,6 +128,7 @@ last_bar_holds ex v i col free last slot menu =
     at (Start p) h =
         let Q : List Cell → Type 0 = λ cs. Contains cs (Start p) in
         let of_shapes = subst Q (cells_at-free ex i v free) h in
-        let allowed = start_allowed (shapes_in (species_in ex v) (bar_of i) ex.bars) (slot_of i) (pool_of ex v (bar_of i)) p of_shapes in
+        let allowed = start_allowed (shapes_in (species_in ex v) (bar_of i) ex.bars) (slot_of i)
+        (pool_of ex v (bar_of i)) p of_shapes in
         let none = whole_note-slot (slot_of i) (omega arith) slot in
         absurd (false≢true (sym none ∙ sym (ap (λ shapes. allows shapes (slot_of i) 83) whole) ∙ allowed))

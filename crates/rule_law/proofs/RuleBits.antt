@@ -12,13 +12,15 @@ by_test : (b : Bool) (P : Bool → Type 0) → (b ≡ true → P true) → ((b �
 by_test true P f g = f refl
 by_test false P f g = g (λ e. cc)
 
-pub with_rule : (bits rule r : ℕ) → rule < 32 → has_rule (bit_or bits (1 * 2 ^ rule % 4294967296)) r ≡ (has_rule bits r || (r == rule))
+pub with_rule : (bits rule r : ℕ) → rule < 32 → has_rule (bit_or bits (1 * 2 ^ rule % 4294967296)) r
+    ≡ (has_rule bits r || (r == rule))
 with_rule bits rule r h =
     by_test (r == rule) (λ b. has_rule (bit_or bits (1 * 2 ^ rule % 4294967296)) r ≡ (has_rule bits r || b))
     (λ e. let same : r ≡ rule = eqb-true r rule e in
     let P : ℕ → Type 0 = λ k. has_rule (bit_or bits (1 * 2 ^ rule % 4294967296)) k ≡ true in
     subst P (sym same) (ap (λ n. n == 1) (bit_at_set_same w32 bits rule h)) ∙ sym (or-true (has_rule bits r)))
-    (λ n. ap (λ k. k == 1) (bit_at_set_other w32 bits rule h r (λ e. n (eq-eqb r rule e))) ∙ sym (or-false (has_rule bits r)))
+    (λ n. ap (λ k. k == 1) (bit_at_set_other w32 bits rule h r (λ e. n (eq-eqb r rule e)))
+    ∙ sym (or-false (has_rule bits r)))
 
 -- a number of 32 bits has no rule from 32 on
 pub no_rule_above : (bits rule : ℕ) → bits < 2 ^ 32 → 32 ≤ rule → has_rule bits rule ≡ false
@@ -28,12 +30,15 @@ no_rule_above bits rule h k = ap (λ n. n == 1) (bit_at_above bits 32 rule h k)
 second_has : (x y : ℕ) → x < 2 → y < 2 → (max x y == 1) ≡ true → (x == 1) ≡ false → (y == 1) ≡ true
 second_has x y h k e f = grind (arith, nat_tests)
 
-pub in_second : (a b rule : ℕ) → IsTrue (has_rule (bit_or a b) rule) → has_rule a rule ≡ false → IsTrue (has_rule b rule)
+pub in_second : (a b rule : ℕ) → IsTrue (has_rule (bit_or a b) rule) → has_rule a rule ≡ false
+    → IsTrue (has_rule b rule)
 in_second a b rule h k =
-    second_has (bit_at a rule) (bit_at b rule) (bit_at-lt a rule) (bit_at-lt b rule) (ap (λ n. n == 1) (sym (bit_at_or a b rule)) ∙ h) k
+    second_has (bit_at a rule) (bit_at b rule) (bit_at-lt a rule) (bit_at-lt b rule)
+    (ap (λ n. n == 1) (sym (bit_at_or a b rule)) ∙ h) k
 
 either_has : (x y : ℕ) → x < 2 → y < 2 → (max x y == 1) ≡ ((x == 1) || (y == 1))
 either_has x y h k = grind (arith, nat_tests)
 
 pub union_has : (a b : ℕ) → IsUnion (bit_or a b) a b
-union_has a b rule = ap (λ n. n == 1) (bit_at_or a b rule) ∙ either_has (bit_at a rule) (bit_at b rule) (bit_at-lt a rule) (bit_at-lt b rule)
+union_has a b rule = ap (λ n. n == 1) (bit_at_or a b rule)
+    ∙ either_has (bit_at a rule) (bit_at b rule) (bit_at-lt a rule) (bit_at-lt b rule)

@@ -46,15 +46,20 @@ may_stand AtTheEnd ex i = begins_bar i && (bar_of i == ex.bars)
 
 -- of all sets of voices, a test passes for these alone
 pub record IsOf (sets : List ℕ) (test : ℕ → Bool) : Type 0 where
-  pub any : (also : ℕ → Bool) → list_any (λ voices. test voices && also voices) all_sets ≡ list_any (λ voices. test voices && also voices) sets
-  pub sum : (price : ℕ → ℕ) → sum_by (λ voices. if test voices then price voices else 0) all_sets ≡ sum_by (λ voices. if test voices then price voices else 0) sets
+  pub any : (also : ℕ → Bool) → list_any (λ voices. test voices && also voices) all_sets
+      ≡ list_any (λ voices. test voices && also voices) sets
+  pub sum : (price : ℕ → ℕ) → sum_by (λ voices. if test voices then price voices else 0) all_sets
+      ≡ sum_by (λ voices. if test voices then price voices else 0) sets
 
 pub voice_form : (ex : Exercise) (test : ℕ → Bool) → IsOf (voice_sets_of ex.voices) (on_voice ex test)
 unfolding all_sets
 voice_form ex test = at (ex.voices == 2) refl
   where
     at : (b : Bool) → (ex.voices == 2) ≡ b → IsOf (voice_sets_of ex.voices) (on_voice ex test)
-    at true e = record { any = λ also. rw (eqb-true ex.voices 2 e) refl; sum = λ price. rw (eqb-true ex.voices 2 e) (omega arith) }
+    at true e = record {
+      any = λ also. rw (eqb-true ex.voices 2 e) refl;
+      sum = λ price. rw (eqb-true ex.voices 2 e) (omega arith);
+    }
     at false e = record { any = λ also. rw e refl; sum = λ price. rw e (omega arith) }
 
 pub pair_form : (ex : Exercise) (test : ℕ → ℕ → Bool) → IsOf (pair_sets_of ex.voices) (on_pair ex test)
@@ -62,7 +67,10 @@ unfolding all_sets
 pair_form ex test = at (ex.voices == 2) refl
   where
     at : (b : Bool) → (ex.voices == 2) ≡ b → IsOf (pair_sets_of ex.voices) (on_pair ex test)
-    at true e = record { any = λ also. rw (eqb-true ex.voices 2 e) refl; sum = λ price. rw (eqb-true ex.voices 2 e) (omega arith) }
+    at true e = record {
+      any = λ also. rw (eqb-true ex.voices 2 e) refl;
+      sum = λ price. rw (eqb-true ex.voices 2 e) (omega arith);
+    }
     at false e = record { any = λ also. rw e refl; sum = λ price. rw e (omega arith) }
 
 pub all_form : (ex : Exercise) (test : Bool)

@@ -31,20 +31,25 @@ pub test_from_below : (i n : ℕ) → i < n → IsTrue (nat_lt i n)
 test_from_below i n h = grind (arith, nat_tests)
 
 -- at a place of a prefix, a longer list has the same columns before it and at it, and after it the prefix's and more
-pub reading-append : {R : Type 0} (row : Row R) (p t : List (List Cell)) (i : ℕ) → i < length p → reading_of row (p ++ t) i ≡ row i (earlier p i) (slice_index_or p i []) (drop (i + 1) p ++ t)
+pub reading-append : {R : Type 0} (row : Row R) (p t : List (List Cell)) (i : ℕ) → i < length p
+    → reading_of row (p ++ t) i ≡ row i (earlier p i) (slice_index_or p i []) (drop (i + 1) p ++ t)
 reading-append row p t i h =
     ap (λ b. row i b (slice_index_or (p ++ t) i []) (drop (i + 1) (p ++ t))) (earlier-append p t i (omega arith))
     ∙ ap (λ c. row i (earlier p i) c (drop (i + 1) (p ++ t))) (get_or-append p t [] i h)
     ∙ ap (λ a. row i (earlier p i) (slice_index_or p i []) a) (drop-append-le (i + 1) p t (omega arith))
 
 -- where nothing later disturbs a row, its settled readings stay in every list
-pub reads_on : {R : Type 0} (row : Row R) (enough : Row Bool) → IsUndisturbed row enough → (p t : List (List Cell)) (i : ℕ) → IsTrue (settled_by enough p i) → reading_of row (p ++ t) i ≡ reading_of row p i
+pub reads_on : {R : Type 0} (row : Row R) (enough : Row Bool) → IsUndisturbed row enough
+    → (p t : List (List Cell)) (i : ℕ) → IsTrue (settled_by enough p i) → reading_of row (p ++ t) i ≡ reading_of row p i
 reads_on row enough u p t i settled =
-    let here : i < length p = below_from_test i (length p) (first_true (nat_lt i (length p)) (reading_of enough p i) settled) in
+    let here : i < length p = below_from_test i (length p)
+    (first_true (nat_lt i (length p)) (reading_of enough p i) settled) in
     reading-append row p t i here
-    ∙ u i (earlier p i) (slice_index_or p i []) (drop (i + 1) p) t (second_true (nat_lt i (length p)) (reading_of enough p i) settled)
+    ∙ u i (earlier p i) (slice_index_or p i []) (drop (i + 1) p) t
+    (second_true (nat_lt i (length p)) (reading_of enough p i) settled)
 
-pub local_from_row : {R : Type 0} (ex : Exercise) (row : Row R) (enough : Row Bool) → IsUndisturbed row enough → IsLocal ex (reading_of row) (settled_by enough)
+pub local_from_row : {R : Type 0} (ex : Exercise) (row : Row R) (enough : Row Bool) → IsUndisturbed row enough
+    → IsLocal ex (reading_of row) (settled_by enough)
 local_from_row ex row enough u p t i on settled = reads_on row enough u p t i settled
 
 -- what is settled at once is settled in every list that has the place
@@ -55,8 +60,10 @@ drop-at_end : (p : List (List Cell)) (next : List Cell) → drop (length p + 1) 
 drop-at_end p next = drop_all (length p + 1) (p ++ next ∷ []) (omega (arith, length-append p (next ∷ [])))
 
 -- at its last place a list has all the columns before it behind, and none ahead
-pub reading-at_end : {R : Type 0} (row : Row R) (p : List (List Cell)) (next : List Cell) → reading_of row (p ++ next ∷ []) (length p) ≡ row (length p) (reverse p) next []
+pub reading-at_end : {R : Type 0} (row : Row R) (p : List (List Cell)) (next : List Cell)
+    → reading_of row (p ++ next ∷ []) (length p) ≡ row (length p) (reverse p) next []
 reading-at_end row p next =
-    ap (λ b. row (length p) b (slice_index_or (p ++ next ∷ []) (length p) []) (drop (length p + 1) (p ++ next ∷ []))) (earlier-append p (next ∷ []) (length p) (omega arith) ∙ earlier-all p (length p) (omega arith))
+    ap (λ b. row (length p) b (slice_index_or (p ++ next ∷ []) (length p) []) (drop (length p + 1) (p ++ next ∷ [])))
+    (earlier-append p (next ∷ []) (length p) (omega arith) ∙ earlier-all p (length p) (omega arith))
     ∙ ap (λ c. row (length p) (reverse p) c (drop (length p + 1) (p ++ next ∷ []))) (get_or-append_seam p next [] [])
     ∙ ap (λ a. row (length p) (reverse p) next a) (drop-at_end p next)

@@ -18,9 +18,11 @@ pub record IsOrderlyPrefix (ex : Exercise) (p : List (List Cell)) : Type 0 where
 
 -- at the column after an orderly prefix, the reading of the whole list is that of the two neighbors
 abbrev pub IsNear : {R : Type 0} → Exercise → Reading R → NearRow R → Type 0
-IsNear ex reads row = (p : List (List Cell)) (next : List Cell) → IsOrderlyPrefix ex p → reads (p ++ next ∷ []) (length p) ≡ near_of row (length p) (newest_column (reverse p)) next
+IsNear ex reads row = (p : List (List Cell)) (next : List Cell) → IsOrderlyPrefix ex p
+    → reads (p ++ next ∷ []) (length p) ≡ near_of row (length p) (newest_column (reverse p)) next
 
 -- so it is for each row of neighbors
 pub near_from_whole : {R : Type 0} (ex : Exercise) (row : NearRow R) → IsNear ex (reading_of (whole_of row)) row
 near_from_whole ex row p next prefix =
-    near_at_end row p next prefix.follows (orderly_rests_in_all ex p prefix.full (cantus_sounds ex p prefix.cantus) prefix.orderly)
+    near_at_end row p next prefix.follows (orderly_rests_in_all ex p prefix.full (cantus_sounds ex p prefix.cantus)
+    prefix.orderly)

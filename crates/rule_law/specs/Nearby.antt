@@ -61,7 +61,8 @@ RestsFirst (Hold p ∷ cells) = RestsFirst cells
 RestsFirst (Start p ∷ cells) = RestsFirst cells
 
 -- how long the newest note has been held changes no pitch
-held_any : (h k : ℕ) (cells : List Cell) → note_pitch (first_of (notes_from h cells)) ≡ note_pitch (first_of (notes_from k cells))
+held_any : (h k : ℕ) (cells : List Cell) → note_pitch (first_of (notes_from h cells))
+    ≡ note_pitch (first_of (notes_from k cells))
 held_any h k [] = refl
 held_any h k (Rest ∷ cells) = refl
 held_any h k (Hold p ∷ cells) = held_any (suc h) (suc k) cells
@@ -85,11 +86,13 @@ held_pitch (Hold q) p h = ap Some (equal_from_test q p h)
 held_pitch (Start q) p h = ap Some (equal_from_test q p h)
 
 -- the previous note's pitch is the one that sounds
-pub previous-sounds : (cells : List Cell) → LineFollows cells → RestsFirst cells → previous_pitch cells ≡ pitch_of (newest cells)
+pub previous-sounds : (cells : List Cell) → LineFollows cells → RestsFirst cells → previous_pitch cells
+    ≡ pitch_of (newest cells)
 previous-sounds [] f r = refl
 previous-sounds (Rest ∷ cells) f r = no_note 0 cells r
 previous-sounds (Start p ∷ cells) f r = refl
-previous-sounds (Hold p ∷ cells) f r = held_any 1 0 cells ∙ previous-sounds cells f.1 r ∙ held_pitch (newest cells) p f.0
+previous-sounds (Hold p ∷ cells) f r =
+    held_any 1 0 cells ∙ previous-sounds cells f.1 r ∙ held_pitch (newest cells) p f.0
 
 newest-line : (v : ℕ) (behind : List (List Cell)) → newest (line v behind) ≡ cell_in (newest_column behind) v
 newest-line v [] = refl
@@ -105,13 +108,18 @@ for_voices_same : (f g : ℕ → Option Pitch) → ((v : ℕ) → f v ≡ g v) �
 for_voices_same f g e = rw (e 0, e 1, e 2, e 3) refl
 
 -- behind columns that follow one another, with rests only before first notes, both answers are the same
-pub near_from_row : {R : Type 0} (row : NearRow R) (i : ℕ) (behind : List (List Cell)) (now : List Cell) (ahead : List (List Cell)) → HistoryFollows behind → ((v : ℕ) → RestsFirst (line v behind)) → whole_of row i behind now ahead ≡ near_of row i (newest_column behind) now
+pub near_from_row : {R : Type 0} (row : NearRow R) (i : ℕ) (behind : List (List Cell)) (now : List Cell)
+    (ahead : List (List Cell)) → HistoryFollows behind → ((v : ℕ) → RestsFirst (line v behind))
+    → whole_of row i behind now ahead ≡ near_of row i (newest_column behind) now
 near_from_row row i behind now ahead follows rests =
     ap (λ previous. row i (newest_column behind) previous now)
     (for_voices_same (λ v. previous_pitch (line v behind)) (λ v. pitch_of (cell_in (newest_column behind) v))
-    (λ v. previous-sounds (line v behind) (line_follows v behind follows) (rests v) ∙ ap pitch_of (newest-line v behind)))
+    (λ v. previous-sounds (line v behind) (line_follows v behind follows) (rests v)
+    ∙ ap pitch_of (newest-line v behind)))
 
 -- at the end of such a list
-pub near_at_end : {R : Type 0} (row : NearRow R) (p : List (List Cell)) (next : List Cell) → HistoryFollows (reverse p) → ((v : ℕ) → RestsFirst (line v (reverse p))) → reading_of (whole_of row) (p ++ next ∷ []) (length p) ≡ near_of row (length p) (newest_column (reverse p)) next
+pub near_at_end : {R : Type 0} (row : NearRow R) (p : List (List Cell)) (next : List Cell) → HistoryFollows (reverse p)
+    → ((v : ℕ) → RestsFirst (line v (reverse p))) → reading_of (whole_of row) (p ++ next ∷ []) (length p)
+    ≡ near_of row (length p) (newest_column (reverse p)) next
 near_at_end row p next follows rests =
     reading-at_end (whole_of row) p next ∙ near_from_row row (length p) (reverse p) next [] follows rests

@@ -42,7 +42,8 @@ go_same_way (Some i) (Some j) = same_way i j
 abbrev pub move_alike : List Cell → List Cell → ℕ → ℕ → Bool
 move_alike before now v w =
     both_move before now v w
-    && go_same_way (interval_of_cells (cell_in before v) (cell_in now v)) (interval_of_cells (cell_in before w) (cell_in now w))
+    && go_same_way (interval_of_cells (cell_in before v) (cell_in now v))
+    (interval_of_cells (cell_in before w) (cell_in now w))
 
 -- two voices move alike into a perfect interval
 abbrev pub move_into_perfect : List Cell → List Cell → ℕ → ℕ → Bool

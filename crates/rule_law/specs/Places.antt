@@ -40,11 +40,13 @@ IsLocal ex reads settles =
 
 -- in a list of all columns everything is settled
 abbrev pub SettlesAtEnd : Exercise → Reading Bool → Type 0
-SettlesAtEnd ex settles = (s : List (List Cell)) (i : ℕ) → length s ≡ columns_in ex → i < length s → IsTrue (settles s i)
+SettlesAtEnd ex settles =
+    (s : List (List Cell)) (i : ℕ) → length s ≡ columns_in ex → i < length s → IsTrue (settles s i)
 
 -- where there is enough after the place, more columns change nothing, in whatever list
 abbrev pub IsUndisturbed : {R : Type 0} → Row R → Row Bool → Type 0
-IsUndisturbed row enough = (i : ℕ) (behind : List (List Cell)) (now : List Cell) (ahead t : List (List Cell)) → IsTrue (enough i behind now ahead) → row i behind now (ahead ++ t) ≡ row i behind now ahead
+IsUndisturbed row enough = (i : ℕ) (behind : List (List Cell)) (now : List Cell) (ahead t : List (List Cell))
+    → IsTrue (enough i behind now ahead) → row i behind now (ahead ++ t) ≡ row i behind now ahead
 
 -- settled at once
 abbrev pub at_once : Row Bool

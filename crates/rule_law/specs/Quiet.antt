@@ -30,29 +30,38 @@ pub quiet_inner : (ex : Exercise) (i : ℕ) (now : List Cell) → is_quiet i now
 quiet_inner ex i now h = ap (λ b. b && nat_le 2 (bar_of i) && nat_lt (bar_of i) ex.bars) (quiet_slot i now h)
 
 pub quiet_cell : (i : ℕ) (now : List Cell) → is_quiet i now ≡ true → (v : ℕ) → starts (cell_in now v) ≡ false
-quiet_cell i now h = none_starts now (not-true (list_any starts now) (and_parts (not (begins_bar i)) (not (list_any starts now)) h).1)
+quiet_cell i now h =
+    none_starts now (not-true (list_any starts now) (and_parts (not (begins_bar i)) (not (list_any starts now)) h).1)
 
 pub quiet_pair : (i : ℕ) (now : List Cell) → is_quiet i now ≡ true → (v w : ℕ) → one_starts now v w ≡ false
 quiet_pair i now h v w = rw (quiet_cell i now h v, quiet_cell i now h w) refl
 
-pub quiet_moves : (i : ℕ) (before now : List Cell) → is_quiet i now ≡ true → (v w : ℕ) → both_move before now v w ≡ false
+pub quiet_moves : (i : ℕ) (before now : List Cell) → is_quiet i now ≡ true → (v w : ℕ) → both_move before now v w
+    ≡ false
 quiet_moves i before now h v w = rw (quiet_cell i now h v) refl
 
-pub quiet_alike : (i : ℕ) (before now : List Cell) → is_quiet i now ≡ true → (v w : ℕ) → move_alike before now v w ≡ false
-quiet_alike i before now h v w = ap (λ b. b && go_same_way (interval_of_cells (cell_in before v) (cell_in now v)) (interval_of_cells (cell_in before w) (cell_in now w))) (quiet_moves i before now h v w)
+pub quiet_alike : (i : ℕ) (before now : List Cell) → is_quiet i now ≡ true → (v w : ℕ) → move_alike before now v w
+    ≡ false
+quiet_alike i before now h v w = ap (λ b. b
+    && go_same_way (interval_of_cells (cell_in before v) (cell_in now v))
+    (interval_of_cells (cell_in before w) (cell_in now w))) (quiet_moves i before now h v w)
 
 -- a test that fails always
-pub on_voice-none : (ex : Exercise) (test : ℕ → Bool) (voices : ℕ) → ((v : ℕ) → test v ≡ false) → on_voice ex test voices ≡ false
+pub on_voice-none : (ex : Exercise) (test : ℕ → Bool) (voices : ℕ) → ((v : ℕ) → test v ≡ false)
+    → on_voice ex test voices ≡ false
 on_voice-none ex test voices none = at (voice_of voices)
   where
     at : (voice : Option ℕ) → holds_of_voice ex test voice ≡ false
     at None = refl
     at (Some v) = and_right (nat_lt v ex.voices) (test v) (none v)
 
-pub on_free_voice-none : (ex : Exercise) (test : ℕ → Bool) (voices : ℕ) → ((v : ℕ) → test v ≡ false) → on_free_voice ex test voices ≡ false
-on_free_voice-none ex test voices none = on_voice-none ex (λ v. is_free ex v && test v) voices (λ v. and_right (is_free ex v) (test v) (none v))
+pub on_free_voice-none : (ex : Exercise) (test : ℕ → Bool) (voices : ℕ) → ((v : ℕ) → test v ≡ false)
+    → on_free_voice ex test voices ≡ false
+on_free_voice-none ex test voices none =
+    on_voice-none ex (λ v. is_free ex v && test v) voices (λ v. and_right (is_free ex v) (test v) (none v))
 
-pub on_pair-none : (ex : Exercise) (test : ℕ → ℕ → Bool) (voices : ℕ) → ((v w : ℕ) → test v w ≡ false) → on_pair ex test voices ≡ false
+pub on_pair-none : (ex : Exercise) (test : ℕ → ℕ → Bool) (voices : ℕ) → ((v w : ℕ) → test v w ≡ false)
+    → on_pair ex test voices ≡ false
 on_pair-none ex test voices none = at (pair_of voices)
   where
     at : (pair : Option (ℕ × ℕ)) → holds_of_pair ex test pair ≡ false
@@ -60,7 +69,8 @@ on_pair-none ex test voices none = at (pair_of voices)
     at (Some pair) = and_right (nat_lt pair.1 ex.voices) (test pair.0 pair.1) (none pair.0 pair.1)
 
 pub count_pairs-none : (test : ℕ → ℕ → Bool) → ((v w : ℕ) → test v w ≡ false) → count_pairs test ≡ 0
-count_pairs-none test none = sum_by-none (λ pair. cond (test pair.0 pair.1) 1 0) voice_pairs (λ pair. ap (λ b. cond b 1 0) (none pair.0 pair.1))
+count_pairs-none test none =
+    sum_by-none (λ pair. cond (test pair.0 pair.1) 1 0) voice_pairs (λ pair. ap (λ b. cond b 1 0) (none pair.0 pair.1))
 
 pub count_free-none : (ex : Exercise) (test : ℕ → Bool) → ((v : ℕ) → test v ≡ false) → count_free ex test ≡ 0
 count_free-none ex test none =
@@ -73,7 +83,10 @@ either_none true x y n h k = h
 either_none false x y n h k = k
 
 -- a test of the voice of a set, where it fails for each of four
-pub on_free_voice-kept : (ex : Exercise) (rough test : ℕ → Bool) (voices : ℕ) → list_any (λ v. nat_lt v ex.voices && (is_free ex v && rough v)) (0 ∷ 1 ∷ 2 ∷ 3 ∷ []) ≡ false → (rough 0 ≡ false → test 0 ≡ false) → (rough 1 ≡ false → test 1 ≡ false) → (rough 2 ≡ false → test 2 ≡ false) → (rough 3 ≡ false → test 3 ≡ false) → on_free_voice ex test voices ≡ false
+pub on_free_voice-kept : (ex : Exercise) (rough test : ℕ → Bool) (voices : ℕ)
+    → list_any (λ v. nat_lt v ex.voices && (is_free ex v && rough v)) (0 ∷ 1 ∷ 2 ∷ 3 ∷ []) ≡ false
+    → (rough 0 ≡ false → test 0 ≡ false) → (rough 1 ≡ false → test 1 ≡ false) → (rough 2 ≡ false → test 2 ≡ false)
+    → (rough 3 ≡ false → test 3 ≡ false) → on_free_voice ex test voices ≡ false
 on_free_voice-kept ex rough test voices h k0 k1 k2 k3 =
     let here : ℕ → Bool = λ v. nat_lt v ex.voices && (is_free ex v && rough v) in
     let a = or_parts (here 0) (here 1 || (here 2 || (here 3 || false))) h in
@@ -85,12 +98,15 @@ on_free_voice-kept ex rough test voices h k0 k1 k2 k3 =
     (chosen (voices == 4) (Some 2) _ (one (nat_lt 2 ex.voices) (is_free ex 2) (rough 2) (test 2) d.0 k2)
     (chosen (voices == 8) (Some 3) None (one (nat_lt 3 ex.voices) (is_free ex 3) (rough 3) (test 3) e.0 k3) refl)))
   where
-    one : (there free bad fails : Bool) → (there && (free && bad)) ≡ false → (bad ≡ false → fails ≡ false) → (there && (free && fails)) ≡ false
+    one : (there free bad fails : Bool) → (there && (free && bad)) ≡ false → (bad ≡ false → fails ≡ false)
+        → (there && (free && fails)) ≡ false
     one true true bad fails h k = k h
     one true false bad fails h k = refl
     one false free bad fails h k = refl
 
-    chosen : (b : Bool) (x y : Option ℕ) → holds_of_voice ex (λ w. is_free ex w && test w) x ≡ false → holds_of_voice ex (λ w. is_free ex w && test w) y ≡ false → holds_of_voice ex (λ w. is_free ex w && test w) (if b then x else y) ≡ false
+    chosen : (b : Bool) (x y : Option ℕ) → holds_of_voice ex (λ w. is_free ex w && test w) x ≡ false
+        → holds_of_voice ex (λ w. is_free ex w && test w) y ≡ false
+        → holds_of_voice ex (λ w. is_free ex w && test w) (if b then x else y) ≡ false
     chosen true x y h k = h
     chosen false x y h k = k
 
@@ -113,7 +129,8 @@ on_pair-kept ex bad test voices none kept =
     (chosen (voices == 10) (1, 3) _ e.0
     (chosen (voices == 12) (2, 3) None (or_parts (here 2 3) false e.1).0 refl)))))
   where
-    one : (there breaks fails : Bool) → (there && breaks) ≡ false → (breaks ≡ false → fails ≡ false) → (there && fails) ≡ false
+    one : (there breaks fails : Bool) → (there && breaks) ≡ false → (breaks ≡ false → fails ≡ false) → (there && fails)
+        ≡ false
     one true breaks fails h k = k h
     one false breaks fails h k = refl
 

@@ -56,7 +56,8 @@ pub record IsAmong (first count i : ℕ) : Type 0 where
 
 -- what a crate owes of a rule
 pub record KeepsRuleLaws (it : RuleRow) : Type 0 where
-  pub local : (ex : Exercise) (voices : ℕ) → IsLocal ex (reading_of (it.broken ex voices)) (settled_by (it.enough ex voices))
+  pub local : (ex : Exercise) (voices : ℕ)
+      → IsLocal ex (reading_of (it.broken ex voices)) (settled_by (it.enough ex voices))
   pub stays : (ex : Exercise) (voices : ℕ) → EnoughStays (it.enough ex voices)
   pub ends : (ex : Exercise) (voices : ℕ) → SettlesAtEnd ex (settled_by (it.enough ex voices))
   -- for no sets but those of its form is it broken, and at no place but where it may stand
@@ -65,13 +66,15 @@ pub record KeepsRuleLaws (it : RuleRow) : Type 0 where
   pub stands : (ex : Exercise) (voices i : ℕ) (behind : List (List Cell)) (now : List Cell)
       → may_stand it.stands ex i ≡ false → it.broken ex voices i behind now [] ≡ false
   -- one that isn't late is settled at once, and unbroken where neither a bar nor a note begins
-  pub at_once : it.late ≡ false → (ex : Exercise) (voices i : ℕ) (behind : List (List Cell)) (now : List Cell) (ahead : List (List Cell))
+  pub at_once : it.late ≡ false → (ex : Exercise) (voices i : ℕ) (behind : List (List Cell)) (now : List Cell)
+      (ahead : List (List Cell))
       → it.enough ex voices i behind now ahead ≡ true
   pub quiet : it.late ≡ false → (ex : Exercise) (voices i : ℕ) (behind : List (List Cell)) (now : List Cell)
       → is_quiet i now ≡ true → it.broken ex voices i behind now [] ≡ false
   -- after an orderly prefix a column settles breaks at its places alone, none of them behind it
   pub places : it.late ≡ true → (ex : Exercise) (voices : ℕ) (p : List (List Cell)) (col : List Cell) (i : ℕ)
-      → GoesOn ex p (col ∷ []) → newly_breaks it ex voices p col i ≡ true → IsAmong (it.first ex (length p)) (it.count ex (length p)) i
+      → GoesOn ex p (col ∷ []) → newly_breaks it ex voices p col i ≡ true
+      → IsAmong (it.first ex (length p)) (it.count ex (length p)) i
   pub within : (ex : Exercise) (i : ℕ) → it.first ex i + it.count ex i ≤ i + 1
 
 -- what it owes of a toll
@@ -79,13 +82,15 @@ pub record KeepsTollLaws (it : TollRow) : Type 0 where
   pub local : (ex : Exercise) → IsLocal ex (reading_of (it.cost ex)) (settled_by (it.enough ex))
   pub stays : (ex : Exercise) → EnoughStays (it.enough ex)
   pub ends : (ex : Exercise) → SettlesAtEnd ex (settled_by (it.enough ex))
-  pub at_once : it.late ≡ false → (ex : Exercise) (i : ℕ) (behind : List (List Cell)) (now : List Cell) (ahead : List (List Cell))
+  pub at_once : it.late ≡ false → (ex : Exercise) (i : ℕ) (behind : List (List Cell)) (now : List Cell)
+      (ahead : List (List Cell))
       → it.enough ex i behind now ahead ≡ true
   pub quiet : it.late ≡ false → (ex : Exercise) (i : ℕ) (behind : List (List Cell)) (now : List Cell)
       → is_quiet i now ≡ true → it.cost ex i behind now [] ≡ 0
   -- after an orderly prefix a column settles costs at its places alone, none of them behind it
   pub places : it.late ≡ true → (ex : Exercise) (p : List (List Cell)) (col : List Cell) (i : ℕ)
-      → GoesOn ex p (col ∷ []) → 0 < newly_costs it ex p col i → IsAmong (it.first ex (length p)) (it.count ex (length p)) i
+      → GoesOn ex p (col ∷ []) → 0 < newly_costs it ex p col i
+      → IsAmong (it.first ex (length p)) (it.count ex (length p)) i
   pub within : (ex : Exercise) (i : ℕ) → it.first ex i + it.count ex i ≤ i + 1
 
 -- what a crate has: which numbers are those of its rules and tolls, and each by its number
@@ -143,7 +148,10 @@ nothing = record { has_rule = λ n. false; rule = λ n. no_rule; has_toll = λ n
 -- ---- what holds of them
 
 none_of : (sets : List ℕ) → IsOf sets (λ voices. false)
-none_of sets = record { any = λ also. fails all_sets ∙ sym (fails sets); sum = λ price. sum_by-none (λ voices. 0) all_sets (λ v. refl) ∙ sym (sum_by-none (λ voices. 0) sets (λ v. refl)) }
+none_of sets = record {
+  any = λ also. fails all_sets ∙ sym (fails sets);
+  sum = λ price. sum_by-none (λ voices. 0) all_sets (λ v. refl) ∙ sym (sum_by-none (λ voices. 0) sets (λ v. refl));
+}
   where
     fails : (xs : List ℕ) → list_any (λ voices. false) xs ≡ false
     fails [] = refl

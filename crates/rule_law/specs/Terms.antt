@@ -53,7 +53,8 @@ is_lowest col v = is_this v (position sounds col)
 
 -- two voices clash in a column: both sound, and their interval isn't consonant
 abbrev pub clash : List Cell → ℕ → ℕ → Bool
-clash col v w = holds_of (λ i. not (is_consonant_size i (is_lowest col v || is_lowest col w))) (interval_of_cells (cell_in col v) (cell_in col w))
+clash col v w = holds_of (λ i. not (is_consonant_size i (is_lowest col v || is_lowest col w)))
+    (interval_of_cells (cell_in col v) (cell_in col w))
 
 -- the pitch of a note, where there is one
 abbrev pub note_pitch : Option Note → Option Pitch

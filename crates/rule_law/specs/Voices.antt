@@ -4,11 +4,15 @@ use Rattle.fux_grid.specs.declared.exercise.Exercise.{Exercise}
 
 -- the one voice of a set of bits
 abbrev pub voice_of : ℕ → Option ℕ
-voice_of bits = if bits == 1 then Some 0 else (if bits == 2 then Some 1 else (if bits == 4 then Some 2 else (if bits == 8 then Some 3 else None)))
+voice_of bits = if bits == 1 then Some 0 else
+    (if bits == 2 then Some 1 else (if bits == 4 then Some 2 else (if bits == 8 then Some 3 else None)))
 
 -- the two voices of a set of bits, the lower first
 abbrev pub pair_of : ℕ → Option (ℕ × ℕ)
-pair_of bits = if bits == 3 then Some (0, 1) else (if bits == 5 then Some (0, 2) else (if bits == 9 then Some (0, 3) else (if bits == 6 then Some (1, 2) else (if bits == 10 then Some (1, 3) else (if bits == 12 then Some (2, 3) else None)))))
+pair_of bits = if bits == 3 then Some (0, 1)
+    else (if bits == 5 then Some (0, 2) else
+    (if bits == 9 then Some (0, 3) else (if bits == 6 then Some (1, 2)
+    else (if bits == 10 then Some (1, 3) else (if bits == 12 then Some (2, 3) else None)))))
 
 -- the voices of a set are all among the first ones
 abbrev pub voice_is_below : ℕ → Option ℕ → Bool

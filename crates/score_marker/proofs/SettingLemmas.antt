@@ -25,7 +25,8 @@ less_from_test Greater h = cc
 
 sets_ascend : AllPairs IsSetBefore sets_in_order
 unfolding sets_in_order
-sets_ascend i j d h k = less_from_test _ (AllPairs-by_test (λ voices others. is_lt (slice_cmp nat_cmp (voices_in voices) (voices_in others))) sets_in_order refl i j d h k)
+sets_ascend i j d h k = less_from_test _ (AllPairs-by_test
+    (λ voices others. is_lt (slice_cmp nat_cmp (voices_in voices) (voices_in others))) sets_in_order refl i j d h k)
 
 rules_ascend : AllPairs (λ a b. a < b) rules_read
 unfolding rules_read
@@ -41,7 +42,8 @@ unfolding sets_in_order forms.all_sets
 only_sets = within_by_test sets_in_order all_sets refl
 
 module _ (ex : Exercise) (s : List (List Cell)) where
-  only_breaks : (mark : Mark) → Contains (marks_of_places (breaks_of ex s) sets_in_order rules_read (range_with_len 0 (length s))) mark → IsBreak ex s mark
+  only_breaks : (mark : Mark) → Contains (marks_of_places (breaks_of ex s) sets_in_order rules_read
+      (range_with_len 0 (length s))) mark → IsBreak ex s mark
   only_breaks mark h =
       let made = made_of_break (breaks_of ex s) sets_in_order rules_read (range_with_len 0 (length s)) mark h in
       subst (IsBreak ex s) made.is
@@ -55,14 +57,20 @@ module _ (ex : Exercise) (s : List (List Cell)) where
         broken = made.holds;
       })
 
-  each_break : (mark : Mark) → IsBreak ex s mark → Contains (marks_of_places (breaks_of ex s) sets_in_order rules_read (range_with_len 0 (length s))) mark
+  each_break : (mark : Mark) → IsBreak ex s mark
+      → Contains (marks_of_places (breaks_of ex s) sets_in_order rules_read (range_with_len 0 (length s))) mark
   each_break mark b =
-      let P : Mark → Type 0 = Contains (marks_of_places (breaks_of ex s) sets_in_order rules_read (range_with_len 0 (length s))) in
+      let P : Mark → Type 0 = Contains (marks_of_places (breaks_of ex s) sets_in_order rules_read
+      (range_with_len 0 (length s))) in
       subst P (mark-eta mark b.place b.bar b.slot)
-      (break_is_made (breaks_of ex s) sets_in_order rules_read (range_with_len 0 (length s)) b.place mark.rule mark.voices.bits (Contains-range (length s) b.place b.there) b.rule (each_set mark.voices.bits b.voices) b.broken)
+      (break_is_made (breaks_of ex s) sets_in_order rules_read (range_with_len 0 (length s)) b.place mark.rule
+      mark.voices.bits (Contains-range (length s) b.place b.there) b.rule (each_set mark.voices.bits b.voices)
+      b.broken)
 
-  pub are_marks : AreMarks ex s (marks_of_places (breaks_of ex s) sets_in_order rules_read (range_with_len 0 (length s)))
+  pub are_marks : AreMarks ex s (marks_of_places (breaks_of ex s) sets_in_order rules_read
+      (range_with_len 0 (length s)))
   are_marks = record {
     each = λ mark. (only_breaks mark, each_break mark);
-    ascend = made_in_order (breaks_of ex s) sets_in_order rules_read (range_with_len 0 (length s)) sets_ascend rules_ascend (AllPairs-range (length s));
+    ascend = made_in_order (breaks_of ex s) sets_in_order rules_read (range_with_len 0 (length s)) sets_ascend
+        rules_ascend (AllPairs-range (length s));
   }

@@ -9,14 +9,16 @@ abbrev pub kept_from : (ℕ → Bool) → ℕ → ℕ → List ℕ
 kept_from test a b = filter test (range_with_len a (b - a))
 
 kept_from-first : (test : ℕ → Bool) (text : ℕ → List ℕ) (a b : ℕ) → a < b
-    → flat_map text (kept_from test a b) ≡ flat_map text (filter test (a ∷ [])) ++ flat_map text (kept_from test (a + 1) b)
+    → flat_map text (kept_from test a b) ≡ flat_map text (filter test (a ∷ []))
+    ++ flat_map text (kept_from test (a + 1) b)
 kept_from-first test text a b h = at (test a) refl
   where
     first : range_with_len a (b - a) ≡ a ∷ range_with_len (a + 1) (b - (a + 1))
     first = let k : b - a ≡ suc (b - (a + 1)) = omega arith in rw k refl
 
     at : (passes : Bool) → test a ≡ passes
-        → flat_map text (kept_from test a b) ≡ flat_map text (filter test (a ∷ [])) ++ flat_map text (kept_from test (a + 1) b)
+        → flat_map text (kept_from test a b) ≡ flat_map text (filter test (a ∷ []))
+        ++ flat_map text (kept_from test (a + 1) b)
     at true t = rw (first, t) (ap (λ x. x ++ flat_map text (kept_from test (a + 1) b)) (sym (append-nil (text a))))
     at false t = rw (first, t) refl
 

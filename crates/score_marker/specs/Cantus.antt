@@ -39,7 +39,8 @@ ends_elsewhere ex i now = begins_last_bar ex i && is_not_final ex now
 
 -- K3: it doesn't come there by a step that falls
 abbrev pub ends_without_step : Exercise → ℕ → Option Pitch → Cell → Bool
-ends_without_step ex i previous now = begins_last_bar ex i && not (holds_of (λ move. is_step move && falls move) (move_from previous now))
+ends_without_step ex i previous now =
+    begins_last_bar ex i && not (holds_of (λ move. is_step move && falls move) (move_from previous now))
 
 -- the rules of a cantus: of those of single voices S2, S4 and S6 to S9, and its own forms K1 to K3 by the numbers 31 to 33
 unfoldable pub cantus_rules : List ℕ

@@ -15,7 +15,13 @@ left_shorter : (left : Left) (delta : ℕ) (event : Event) (after : Left) → le
 left_shorter left delta event after = at (ends_track event.message)
   where
     made : Left
-    made = record { number = left.number; end = left.end; tick = left.tick + delta; running = event.running; rest = event.rest }
+    made = record {
+      number = left.number;
+      end = left.end;
+      tick = left.tick + delta;
+      running = event.running;
+      rest = event.rest;
+    }
 
     at : (t : Bool) → cond t None (Some made) ≡ Some after → length after.rest ≡ length event.rest
     at true e = absurd cc
@@ -43,7 +49,8 @@ unfolding next_in
 next_none left none = let empty : length left.rest ≡ 0 = omega arith in rw empty refl
 
 -- a number that the bytes don't pass is as good as another
-events_enough : (n m : ℕ) (left : Left) → length left.rest ≤ n → length left.rest ≤ m → events_in n left ≡ events_in m left
+events_enough : (n m : ℕ) (left : Left) → length left.rest ≤ n → length left.rest ≤ m → events_in n left
+    ≡ events_in m left
 unfolding events_in
 events_enough zero zero left few fewer = refl
 events_enough zero (suc m) left few fewer = rw (next_none left few) refl
@@ -61,7 +68,8 @@ events_enough (suc n) (suc m) left few fewer =
         ap (λ (answers : Answers). Ok event ∷ answers) (later after (omega arith) (omega arith))
 
 -- one event of what is left
-events_step : (left : Left) → events_in (length left.rest) left ≡ answer_then (events_in (length left.rest)) (next_in left)
+events_step : (left : Left) → events_in (length left.rest) left
+    ≡ answer_then (events_in (length left.rest)) (next_in left)
 unfolding events_in
 events_step left = events_enough (length left.rest) (suc (length left.rest)) left (omega arith) (omega arith)
 
@@ -74,7 +82,8 @@ events_more left event None e = events_step left ∙ ap (answer_then (events_in 
 events_more left event (Some after) e =
     let less = next_shorter left event after e in
     events_step left ∙ ap (answer_then (events_in (length left.rest))) e
-    ∙ ap (λ (answers : Answers). Ok event ∷ answers) (events_enough (length left.rest) (length after.rest) after (omega arith) (omega arith))
+    ∙ ap (λ (answers : Answers). Ok event ∷ answers)
+    (events_enough (length left.rest) (length after.rest) after (omega arith) (omega arith))
 
 -- the track of the next number
 pub tracks_more : (tracks number size : ℕ) (bytes : List ℕ) → number < tracks
@@ -86,7 +95,8 @@ tracks_more tracks number size bytes more =
     let next : suc number ≡ number + 1 = omega arith in
     rw (k, next) refl
 
-pub tracks_over : (tracks number size : ℕ) (bytes : List ℕ) → tracks ≤ number → tracks_in (tracks - number) number size bytes ≡ []
+pub tracks_over : (tracks number size : ℕ) (bytes : List ℕ) → tracks ≤ number
+    → tracks_in (tracks - number) number size bytes ≡ []
 unfolding tracks_in
 tracks_over tracks number size bytes over =
     let k : tracks - number ≡ 0 = omega arith in

@@ -7,7 +7,8 @@ use Rattle.smf_bytes.specs.Numbers.{digits_in, byte_in}
 use Rattle.smf_bytes.proofs.Answers.{ok_is}
 
 -- a byte below 128 is the last
-pub digits_last : (n begin high end : ℕ) (bytes : List ℕ) (b : ℕ) (rest : List ℕ) → n < 4 → byte_in end bytes ≡ Ok (b, rest)
+pub digits_last : (n begin high end : ℕ) (bytes : List ℕ) (b : ℕ) (rest : List ℕ) → n < 4 → byte_in end bytes
+    ≡ Ok (b, rest)
     → b < 128 → digits_in (4 - n) begin high end bytes ≡ Ok (128 * high + b, rest)
 unfolding digits_in
 digits_last n begin high end [] b rest few e last = absurd cc
@@ -19,7 +20,8 @@ digits_last n begin high end (c ∷ cs) b rest few e last =
     rw (k, same, behind, lt-ltb b 128 last) refl
 
 -- another follows one from 128 on
-pub digits_more : (n begin high end : ℕ) (bytes : List ℕ) (b : ℕ) (rest : List ℕ) → n < 4 → byte_in end bytes ≡ Ok (b, rest)
+pub digits_more : (n begin high end : ℕ) (bytes : List ℕ) (b : ℕ) (rest : List ℕ) → n < 4 → byte_in end bytes
+    ≡ Ok (b, rest)
     → 128 ≤ b → digits_in (4 - n) begin high end bytes ≡ digits_in (4 - (n + 1)) begin (128 * high + (b - 128)) end rest
 unfolding digits_in
 digits_more n begin high end [] b rest few e more = absurd cc
@@ -40,7 +42,8 @@ digits_short n begin high end [] f few e =
 digits_short n begin high end (c ∷ cs) f few e = absurd cc
 
 -- four bytes were not enough
-pub digits_over : (n begin high end : ℕ) (bytes : List ℕ) → 4 ≤ n → digits_in (4 - n) begin high end bytes ≡ Err (LongNumber begin)
+pub digits_over : (n begin high end : ℕ) (bytes : List ℕ) → 4 ≤ n → digits_in (4 - n) begin high end bytes
+    ≡ Err (LongNumber begin)
 unfolding digits_in
 digits_over n begin high end bytes many =
     let k : 4 - n ≡ 0 = omega arith in

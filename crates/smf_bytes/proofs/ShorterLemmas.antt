@@ -11,7 +11,8 @@ use Rattle.smf_bytes.specs.Messages.{Event, Other, data_in, second_in, message_i
 use Rattle.smf_bytes.specs.Chunks.{Chunk, chunk_in}
 use Rattle.smf_bytes.proofs.Answers.{ok_is, bind_ok, guard_ok, pass_ok}
 
-pub byte_shorter : (end : ℕ) (bytes : List ℕ) (x : ℕ × List ℕ) → byte_in end bytes ≡ Ok x → length x.1 + 1 ≡ length bytes
+pub byte_shorter : (end : ℕ) (bytes : List ℕ) (x : ℕ × List ℕ) → byte_in end bytes ≡ Ok x → length x.1 + 1
+    ≡ length bytes
 byte_shorter end [] x e = absurd cc
 byte_shorter end (b ∷ bytes) x e =
     omega (arith, ap (λ (p : ℕ × List ℕ). length p.1) (ok_is (b, bytes) x e))
@@ -24,7 +25,8 @@ bytes_shorter end count bytes x e =
     let same = ap (λ (p : List ℕ × List ℕ). length p.1) (ok_is (take count bytes, drop count bytes) x parts.1) in
     omega (arith, same, length-drop count bytes)
 
-front_length : (end count : ℕ) (bytes : List ℕ) (x : List ℕ × List ℕ) → bytes_in end count bytes ≡ Ok x → length x.0 ≡ count
+front_length : (end count : ℕ) (bytes : List ℕ) (x : List ℕ × List ℕ) → bytes_in end count bytes ≡ Ok x → length x.0
+    ≡ count
 front_length end count bytes x e =
     let parts = guard_ok (ltb (length bytes) count) (Truncated end) (Ok (take count bytes, drop count bytes)) x e in
     let room : count ≤ length bytes = ltb-false _ _ parts.0 in
@@ -41,7 +43,8 @@ number_shorter w end bytes x e =
     let same = ap (λ (p : ℕ × List ℕ). length p.1) (ok_is (value, drop (byte_len w) bytes) x parts.1) in
     omega (arith, same, length-drop (byte_len w) bytes)
 
-digits_shorter : (more begin high end : ℕ) (bytes : List ℕ) (x : ℕ × List ℕ) → digits_in more begin high end bytes ≡ Ok x
+digits_shorter : (more begin high end : ℕ) (bytes : List ℕ) (x : ℕ × List ℕ) → digits_in more begin high end bytes
+    ≡ Ok x
     → length x.1 < length bytes
 unfolding digits_in
 digits_shorter zero begin high end bytes x e = absurd cc
@@ -56,7 +59,8 @@ digits_shorter (suc more) begin high end (b ∷ bytes) x e =
     at true later f = omega (arith, ap (λ (p : ℕ × List ℕ). length p.1) (ok_is (128 * high + b, bytes) x f))
     at false later f = omega (arith, later f)
 
-pub quantity_shorter : (end : ℕ) (bytes : List ℕ) (x : ℕ × List ℕ) → quantity_in end bytes ≡ Ok x → length x.1 < length bytes
+pub quantity_shorter : (end : ℕ) (bytes : List ℕ) (x : ℕ × List ℕ) → quantity_in end bytes ≡ Ok x
+    → length x.1 < length bytes
 quantity_shorter end bytes x e = digits_shorter 4 (end - length bytes) 0 end bytes x e
 
 -- ---- events
@@ -85,7 +89,8 @@ message_shorter status end bytes e h =
     at ((eqb (status / 16) 12) || (eqb (status / 16) 13)) first.0 less first.2
   where
     at : (t : Bool) (x : ℕ × List ℕ) → length x.1 < length bytes
-        → cond t (Ok (record { message = Other (status % 16); running = Some status; rest = x.1 })) (second_in status x.0 end x.1) ≡ Ok e
+        → cond t (Ok (record { message = Other (status % 16); running = Some status; rest = x.1 }))
+        (second_in status x.0 end x.1) ≡ Ok e
         → length e.rest < length bytes
     at true x less f = omega (arith, less, ap (λ (v : Event). length v.rest) (ok_is _ e f))
     at false x less f = omega (arith, less, second_shorter status x.0 end x.1 e f)
@@ -116,7 +121,8 @@ system_shorter end bytes e h =
       ap (λ (v : Event). length v.rest) (ok_is _ e body.2),
     )
 
-running_shorter : (running : Option ℕ) (end : ℕ) (bytes : List ℕ) → LeavesLess (length bytes) (running_in running end bytes)
+running_shorter : (running : Option ℕ) (end : ℕ) (bytes : List ℕ)
+    → LeavesLess (length bytes) (running_in running end bytes)
 running_shorter (Some status) end bytes e h = message_shorter status end bytes e h
 running_shorter None end bytes e h = absurd cc
 
@@ -135,11 +141,13 @@ begun_shorter first running end bytes rest less e h =
     by_meta false false false true f = omega (arith, less, message_shorter first end rest e f)
     by_meta false false false false f = absurd cc
 
-pub event_shorter : (running : Option ℕ) (end : ℕ) (bytes : List ℕ) → LeavesLess (length bytes) (event_in running end bytes)
+pub event_shorter : (running : Option ℕ) (end : ℕ) (bytes : List ℕ)
+    → LeavesLess (length bytes) (event_in running end bytes)
 unfolding event_in
 event_shorter running end bytes e h =
     let first = bind_ok (byte_in end bytes) _ e h in
-    begun_shorter first.0.0 running end bytes first.0.1 (omega (arith, byte_shorter end bytes first.0 first.1)) e first.2
+    begun_shorter first.0.0 running end bytes first.0.1 (omega (arith, byte_shorter end bytes first.0 first.1)) e
+    first.2
 
 -- ---- chunks
 

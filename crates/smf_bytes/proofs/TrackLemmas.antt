@@ -9,7 +9,8 @@ use Rattle.smf_bytes.specs.Chunks.{Chunk, chunk_in, track_in}
 use Rattle.smf_bytes.proofs.ShorterLemmas.{chunk_shorter}
 
 -- a number that the bytes don't pass is as good as another
-track_enough : (n m size : ℕ) (bytes : List ℕ) → length bytes ≤ n → length bytes ≤ m → track_in n size bytes ≡ track_in m size bytes
+track_enough : (n m size : ℕ) (bytes : List ℕ) → length bytes ≤ n → length bytes ≤ m → track_in n size bytes
+    ≡ track_in m size bytes
 unfolding track_in chunk_in
 track_enough zero zero size bytes few fewer = refl
 track_enough zero (suc m) size [] few fewer = refl
@@ -48,6 +49,7 @@ unfolding track_in chunk_in
 track_fault size [] f e = e
 track_fault size (b ∷ bytes) f e = rw e refl
 
-pub track_none : (size : ℕ) (bytes : List ℕ) → length bytes ≡ 0 → track_in (length bytes) size bytes ≡ Err (Truncated size)
+pub track_none : (size : ℕ) (bytes : List ℕ) → length bytes ≡ 0 → track_in (length bytes) size bytes
+    ≡ Err (Truncated size)
 unfolding track_in
 track_none size bytes none = rw none refl

@@ -57,7 +57,13 @@ event_then left delta event = record {
 abbrev pub left_then : Left → ℕ → Event → Option Left
 left_then left delta event =
     if ends_track event.message then None
-    else Some (record { number = left.number; end = left.end; tick = left.tick + delta; running = event.running; rest = event.rest })
+    else Some (record {
+      number = left.number;
+      end = left.end;
+      tick = left.tick + delta;
+      running = event.running;
+      rest = event.rest;
+    })
 
 -- the next event of a track, and what is left behind it
 unfoldable pub next_in : Left → Result (Timed × Option Left) ByteFault

@@ -42,7 +42,8 @@ pub record Puts (before after : Progress) (placed : Placed) : Type 0 where
   pub ended : placed.end ≤ after.ended
   pub kept : after.voices ≡ before.voices → before.ended ≤ after.ended
 
-puts_between : (line : Progress) (note : Played) (pitch : Pitch) (start end : ℕ) (x : Placed × Progress) → 0 < line.voices
+puts_between : (line : Progress) (note : Played) (pitch : Pitch) (start end : ℕ) (x : Placed × Progress)
+    → 0 < line.voices
     → place_between line note pitch start end ≡ Ok x → Puts line x.1 x.0
 puts_between line note pitch start end x some e =
     let longer = guard_ok (leb end start) (ZeroNote note.track note.start) _ x e in
@@ -63,10 +64,12 @@ puts_between line note pitch start end x some e =
       kept = λ _. omega arith;
     })
 
-puts_progress : (before : Progress) (rank : ℕ) (x : Placed × Progress) → Puts (with_note before rank) x.1 x.0 → Puts before x.1 x.0
+puts_progress : (before : Progress) (rank : ℕ) (x : Placed × Progress) → Puts (with_note before rank) x.1 x.0
+    → Puts before x.1 x.0
 puts_progress before rank x = at (ltb 0 before.voices && eqb before.rank rank)
   where
-    at : (t : Bool) → Puts (cond t before (record { voices = before.voices + 1; rank = rank; ended = 0 })) x.1 x.0 → Puts before x.1 x.0
+    at : (t : Bool) → Puts (cond t before (record { voices = before.voices + 1; rank = rank; ended = 0 })) x.1 x.0
+        → Puts before x.1 x.0
     at true puts = puts
     at false puts = record {
       voice = puts.voice;
@@ -93,7 +96,8 @@ place_puts division before note x = at (spelled note.key)
     at : (o : Option Pitch) → place_spelled division before note o ≡ Ok x → Puts before x.1 x.0
     at None e = absurd cc
     at (Some pitch) e = puts_progress before note.rank x
-        (puts_between (with_note before note.rank) note pitch (slot_of division note.start) (slot_of division note.end) x
+        (puts_between (with_note before note.rank) note pitch (slot_of division note.start) (slot_of division note.end)
+        x
         (with_some before note.rank) e)
 
 -- a note begins one voice at most
@@ -111,7 +115,8 @@ between_voices line note pitch start end x e =
 with_few : (before : Progress) (rank : ℕ) → (with_note before rank).voices ≤ before.voices + 1
 with_few before rank = at (ltb 0 before.voices && eqb before.rank rank)
   where
-    at : (t : Bool) → (cond t before (record { voices = before.voices + 1; rank = rank; ended = 0 })).voices ≤ before.voices + 1
+    at : (t : Bool) → (cond t before (record { voices = before.voices + 1; rank = rank; ended = 0 })).voices ≤
+        before.voices + 1
     at true = omega arith
     at false = omega arith
 
@@ -124,15 +129,18 @@ place_slow division before note x = at (spelled note.key)
     at (Some pitch) e = omega (
       arith,
       with_few before note.rank,
-      between_voices (with_note before note.rank) note pitch (slot_of division note.start) (slot_of division note.end) x e,
+      between_voices (with_note before note.rank) note pitch (slot_of division note.start) (slot_of division note.end) x
+          e,
     )
 
 -- a note that neither starts nor is held at a slot says nothing of it
-cell_behind : (p : Placed) (notes : List Placed) (v i : ℕ) → (p.voice ≡ v → i < p.start) → cell_on (p ∷ notes) v i ≡ cell_on notes v i
+cell_behind : (p : Placed) (notes : List Placed) (v i : ℕ) → (p.voice ≡ v → i < p.start) → cell_on (p ∷ notes) v i
+    ≡ cell_on notes v i
 cell_behind p notes v i later = at (eqb p.voice v) refl
   where
     at : (t : Bool) → eqb p.voice v ≡ t
-        → cond (t && eqb p.start i) (Start p.pitch) (cond (t && (ltb p.start i && ltb i p.end)) (Hold p.pitch) (cell_on notes v i))
+        → cond (t && eqb p.start i) (Start p.pitch)
+        (cond (t && (ltb p.start i && ltb i p.end)) (Hold p.pitch) (cell_on notes v i))
         ≡ cell_on notes v i
     at false e = refl
     at true e =
@@ -145,7 +153,8 @@ quiet : (division : ℕ) (before : Progress) (notes : List Played) (x : List Pla
     → places_in division before notes ≡ Ok x → v < before.voices → (v + 1 ≡ before.voices → i < before.ended)
     → cell_on x.0 v i ≡ Rest
 unfolding places_in
-quiet division before [] x v i e lower early = ap (λ (y : List Placed × Progress). cell_on y.0 v i) (sym (ok_is ([], before) x e))
+quiet division before [] x v i e lower early =
+    ap (λ (y : List Placed × Progress). cell_on y.0 v i) (sym (ok_is ([], before) x e))
 quiet division before (note ∷ notes) x v i e lower early =
     let first = bind_ok (place_in division before note) _ x e in
     let others = bind_ok (places_in division first.0.1 notes) _ x first.2 in
@@ -180,10 +189,12 @@ cell_with p v i c =
 pub cell_with-other : (p : Placed) (v i : ℕ) (c : Cell) → eqb p.voice v ≡ false → cell_with p v i c ≡ c
 cell_with-other p v i c e = rw e refl
 
-pub cell_with-start : (p : Placed) (v i : ℕ) (c : Cell) → eqb p.voice v ≡ true → p.start ≡ i → cell_with p v i c ≡ Start p.pitch
+pub cell_with-start : (p : Placed) (v i : ℕ) (c : Cell) → eqb p.voice v ≡ true → p.start ≡ i → cell_with p v i c
+    ≡ Start p.pitch
 cell_with-start p v i c e same = rw (e, eq-eqb p.start i same) refl
 
-pub cell_with-hold : (p : Placed) (v i : ℕ) (c : Cell) → eqb p.voice v ≡ true → p.start < i → i < p.end → cell_with p v i c ≡ Hold p.pitch
+pub cell_with-hold : (p : Placed) (v i : ℕ) (c : Cell) → eqb p.voice v ≡ true → p.start < i → i < p.end
+    → cell_with p v i c ≡ Hold p.pitch
 cell_with-hold p v i c e after before =
     let differs : p.start ≢ i = λ same. absurd (omega (arith, after, same)) in
     rw (e, ne_eqb p.start i differs, lt-ltb p.start i after, lt-ltb i p.end before) refl
@@ -193,7 +204,8 @@ cell_with-before p v i c e early =
     let differs : p.start ≢ i = λ same. absurd (omega (arith, early, same)) in
     rw (e, ne_eqb p.start i differs, le-ltb p.start i (omega (arith, early))) refl
 
-pub cell_with-after : (p : Placed) (v i : ℕ) (c : Cell) → eqb p.voice v ≡ true → p.start < i → p.end ≤ i → cell_with p v i c ≡ c
+pub cell_with-after : (p : Placed) (v i : ℕ) (c : Cell) → eqb p.voice v ≡ true → p.start < i → p.end ≤ i
+    → cell_with p v i c ≡ c
 cell_with-after p v i c e after over =
     let differs : p.start ≢ i = λ same. absurd (omega (arith, after, same)) in
     rw (e, ne_eqb p.start i differs, lt-ltb p.start i after, le-ltb i p.end over) refl
@@ -268,7 +280,8 @@ first_follows [] v = refl
 first_follows (p ∷ notes) v = at (eqb p.voice v && eqb p.start 0) (eqb p.voice v) (first_follows notes v)
   where
     at : (s t : Bool) → IsTrue (cell_follows Rest (cell_on notes v 0))
-        → IsTrue (cell_follows Rest (cond s (Start p.pitch) (cond (t && (ltb p.start 0 && ltb 0 p.end)) (Hold p.pitch) (cell_on notes v 0))))
+        → IsTrue (cell_follows Rest (cond s (Start p.pitch)
+        (cond (t && (ltb p.start 0 && ltb 0 p.end)) (Hold p.pitch) (cell_on notes v 0))))
     at true t h = refl
     at false false h = h
     at false true h = rw (le-ltb p.start 0 (omega arith)) h

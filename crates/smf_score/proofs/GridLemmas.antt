@@ -13,7 +13,8 @@ use Rattle.smf_score.specs.declared.placed.Placed.{Placed}
 use Rattle.smf_score.specs.Sounding.{AreFollowing, cell_on, column_on, columns_on}
 use Rattle.smf_score.proofs.FollowLemmas.{rest_follows}
 
-pub column_more : (notes : List Placed) (v i : ℕ) → column_on notes (v + 1) i ≡ column_on notes v i ++ cell_on notes v i ∷ []
+pub column_more : (notes : List Placed) (v i : ℕ) → column_on notes (v + 1) i ≡ column_on notes v i ++ cell_on notes v i
+    ∷ []
 column_more notes v i = map-range_with_len_more (λ w. cell_on notes w i) 0 v v (omega arith)
 
 pub columns_more : (notes : List Placed) (voices n : ℕ)
@@ -27,7 +28,8 @@ pub length-columns : (notes : List Placed) (voices n : ℕ) → length (columns_
 length-columns notes voices n = length-map-range_with_len (column_on notes voices) 0 n
 
 -- the cell of a voice that is there
-pub cell_in-column : (notes : List Placed) (voices i v : ℕ) → v < voices → cell_in (column_on notes voices i) v ≡ cell_on notes v i
+pub cell_in-column : (notes : List Placed) (voices i v : ℕ) → v < voices → cell_in (column_on notes voices i) v
+    ≡ cell_on notes v i
 cell_in-column notes voices i v there =
     get_or-map-range_with_len (λ w. cell_on notes w i) 0 voices v v Rest there (omega arith)
 

@@ -49,7 +49,8 @@ start_bytes v ended at len p cells out e =
 
 -- the track of the next voice
 pub tracks_more : (columns : List (List Cell)) (v n : ℕ) (out : List ℕ) → v < n
-    → (out ++ track_bytes columns v) ++ tracks_bytes columns (v + 1) (n - (v + 1)) ≡ out ++ tracks_bytes columns v (n - v)
+    → (out ++ track_bytes columns v) ++ tracks_bytes columns (v + 1) (n - (v + 1)) ≡ out
+    ++ tracks_bytes columns v (n - v)
 tracks_more columns v n out more =
     let k : n - v ≡ suc (n - (v + 1)) = omega arith in
     let next : suc v ≡ v + 1 = sym (add-one v) in

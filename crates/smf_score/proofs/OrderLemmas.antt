@@ -44,7 +44,8 @@ sides a b = at (cases_lt a.rank b.rank) (cases_lt b.rank a.rank) (cases_lt a.sta
     at : (a.rank < b.rank) ⊎ (b.rank ≤ a.rank) → (b.rank < a.rank) ⊎ (a.rank ≤ b.rank)
         → (a.start < b.start) ⊎ (b.start ≤ a.start) → Sides a b
     at (inl lower) other starts = record { side = inl (inl lower, order_lower a.rank b.rank a.start b.start lower) }
-    at (inr past) (inl higher) starts = record { side = inr (inl higher, order_higher a.rank b.rank a.start b.start higher) }
+    at (inr past) (inl higher) starts =
+        record { side = inr (inl higher, order_higher a.rank b.rank a.start b.start higher) }
     at (inr past) (inr low) (inl earlier) =
         let same : a.rank ≡ b.rank = omega arith in
         record {
@@ -141,7 +142,8 @@ first_is_least x xs sorted zero d within = not_own x
 first_is_least x xs sorted (suc k) d within =
     not_before_then x (get_or (x ∷ xs) k d) (get_or (x ∷ xs) (suc k) d)
     (first_is_least x xs sorted k d (omega arith))
-    (ap (λ n. is_before (get_or (x ∷ xs) n d) (get_or (x ∷ xs) k d)) (sym (add-one k)) ∙ sorted k d (omega arith) (omega arith))
+    (ap (λ n. is_before (get_or (x ∷ xs) n d) (get_or (x ∷ xs) k d)) (sym (add-one k))
+    ∙ sorted k d (omega arith) (omega arith))
 
 -- no note ties with one that is before all
 none_ties : (x y : Played) (ys : List Played) → is_before x y ≡ true
@@ -195,7 +197,8 @@ same_order (x ∷ xs) (y ∷ ys) a b same =
     (λ w. tail_ties w x xs ys (same w ∙ ap (λ (z : Played). filter (ties is_before w) (z ∷ ys)) (sym equal))) in
     ap (λ (z : Played). z ∷ xs) equal ∙ ap (λ (zs : List Played). y ∷ zs) rest
   where
-    tail_ties : (w x : Played) (xs ys : List Played) → filter (ties is_before w) (x ∷ xs) ≡ filter (ties is_before w) (x ∷ ys)
+    tail_ties : (w x : Played) (xs ys : List Played) → filter (ties is_before w) (x ∷ xs)
+        ≡ filter (ties is_before w) (x ∷ ys)
         → filter (ties is_before w) xs ≡ filter (ties is_before w) ys
     tail_ties w x xs ys e = at (ties is_before w x) e
       where

@@ -22,7 +22,8 @@ fails_from (faults.Bars count) read h = h
 fails_from (faults.NotWhole bar) read h = h
 
 -- what was placed before, and what is still placed
-abbrev pub with_front : List Placed → Result (List Placed × Progress) SmfFault → Result (List Placed × Progress) SmfFault
+abbrev pub with_front : List Placed → Result (List Placed × Progress) SmfFault
+    → Result (List Placed × Progress) SmfFault
 with_front front read = read >>= λ x. Ok (front ++ x.0, x.1)
 
 regroup : (front : List Placed) (p : Placed) (read : Result (List Placed × Progress) SmfFault)

@@ -23,7 +23,8 @@ pub ends_before : (strokes : List Stroke) (n : ℕ) (d : Stroke) (table : List �
     → AreEnds (get_or strokes (n - 1) d ∷ drop n strokes) table → AreEnds (drop (n - 1) strokes) table
 ends_before strokes n d table more within ends = rw (strokes_before strokes n d more within) ends
 
-pub notes_before : (layout : Layout) (strokes : List Stroke) (n : ℕ) (d : Stroke) (o : Option Played) (notes : List Played)
+pub notes_before : (layout : Layout) (strokes : List Stroke) (n : ℕ) (d : Stroke) (o : Option Played)
+    (notes : List Played)
     → 0 < n → n ≤ length strokes → o ≡ note_of layout (get_or strokes (n - 1) d) (drop n strokes)
     → notes ≡ reverse (notes_in layout (drop n strokes))
     → notes ++ option_to_list o ≡ reverse (notes_in layout (drop (n - 1) strokes))
@@ -42,5 +43,6 @@ ends_none n table long e = record {
 
 pub early_none : (n : ℕ) (table : List ℕ) → n ≡ 2048 → table ≡ replicate n 0 → AreEarly table
 early_none n table long e i within =
-    let zero_there : get_or table i 0 ≡ 0 = ap (λ (t : List ℕ). get_or t i 0) e ∙ get_or-replicate {A = ℕ} n i 0 0 (omega arith) in
+    let zero_there : get_or table i 0 ≡ 0 = ap (λ (t : List ℕ). get_or t i 0) e
+    ∙ get_or-replicate {A = ℕ} n i 0 0 (omega arith) in
     rw zero_there (lit< tt)

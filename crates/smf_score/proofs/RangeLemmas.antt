@@ -11,7 +11,8 @@ pub ranges_more : (notes : List Placed) (cantus v voices : ℕ) (lines : List Ra
 unfolding ranges_in
 ranges_more notes cantus v voices lines more =
     let left : voices - v ≡ suc (voices - (v + 1)) = omega arith in
-    rw (left, add-one v) (append_assoc lines (free_range notes cantus v) (ranges_in notes cantus (suc v) (voices - suc v)))
+    rw (left, add-one v) (append_assoc lines (free_range notes cantus v)
+    (ranges_in notes cantus (suc v) (voices - suc v)))
 
 pub ranges_over : (notes : List Placed) (cantus v voices : ℕ) (lines : List RangeLine) → voices ≤ v
     → lines ++ ranges_in notes cantus v (voices - v) ≡ lines

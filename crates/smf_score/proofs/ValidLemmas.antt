@@ -33,7 +33,8 @@ use Rattle.smf_score.proofs.GridLemmas.{cell_in-column, length-columns}
 
 -- ---- each voice has a note
 
-has_note : (p : Placed) (notes : List Placed) (v : ℕ) → (p.voice ≡ v) ⊎ IsSome (range_in v notes) → IsSome (range_in v (p ∷ notes))
+has_note : (p : Placed) (notes : List Placed) (v : ℕ) → (p.voice ≡ v) ⊎ IsSome (range_in v notes)
+    → IsSome (range_in v (p ∷ notes))
 has_note p notes v (inl same) = rw (eq-eqb p.voice v same) refl
 has_note p notes v (inr later) = at (eqb p.voice v)
   where
@@ -59,7 +60,8 @@ each_has_note division before (note ∷ notes) x v e from there =
     let is = ok_is (first.0.0 ∷ others.0.0, others.0.1) x others.2 in
     let last = ap (λ (y : List Placed × Progress). y.1.voices) is in
     subst (λ (y : List Placed × Progress). IsSome (range_in v y.0)) is
-    (has_note first.0.0 others.0.0 v (here_or_later (range_in v others.0.0) v first.0.0.voice (cases_lt v first.0.1.voices)
+    (has_note first.0.0 others.0.0 v (here_or_later (range_in v others.0.0) v first.0.0.voice
+    (cases_lt v first.0.1.voices)
     (λ here. omega (arith, puts.voice, slow, from, here))
     (λ later. each_has_note division first.0.1 notes others.0 v others.1 later (omega (arith, there, last)))))
 
@@ -74,14 +76,16 @@ some_is x y e = cc
 length-cantus : (notes : List Placed) (v bar n : ℕ) (ps : List Pitch) → cantus_in notes v bar n ≡ Ok ps → length ps ≡ n
 unfolding cantus_in
 length-cantus notes v bar zero ps e = ap (λ (qs : List Pitch). length qs) (sym (ok_is [] ps e))
-length-cantus notes v bar (suc n) ps e = at (whole_at notes v bar) e (λ later h. length-cantus notes v (suc bar) n later h)
+length-cantus notes v bar (suc n) ps e =
+    at (whole_at notes v bar) e (λ later h. length-cantus notes v (suc bar) n later h)
   where
     at : (o : Option Pitch) → cantus_from bar o (cantus_in notes v (suc bar) n) ≡ Ok ps
         → ((later : List Pitch) → cantus_in notes v (suc bar) n ≡ Ok later → length later ≡ n) → length ps ≡ suc n
     at None f more = absurd cc
     at (Some p) f more =
         let later = bind_ok (cantus_in notes v (suc bar) n) _ ps f in
-        ap (λ (qs : List Pitch). length qs) (sym (ok_is (p ∷ later.0) ps later.2)) ∙ ap (λ k. suc k) (more later.0 later.1)
+        ap (λ (qs : List Pitch). length qs) (sym (ok_is (p ∷ later.0) ps later.2))
+        ∙ ap (λ k. suc k) (more later.0 later.1)
 
 -- the pitch of a bar
 record HasPitch (notes : List Placed) (v bar : ℕ) (ps : List Pitch) (k : ℕ) : Type 0 where
@@ -98,7 +102,8 @@ cantus_at notes v bar (suc n) ps e k within =
   where
     at : (o : Option Pitch) → whole_at notes v bar ≡ o → cantus_from bar o (cantus_in notes v (suc bar) n) ≡ Ok ps
         → (k : ℕ) → k < suc n
-        → ((later : List Pitch) → cantus_in notes v (suc bar) n ≡ Ok later → (j : ℕ) → j < n → HasPitch notes v (suc bar) later j)
+        → ((later : List Pitch) → cantus_in notes v (suc bar) n ≡ Ok later → (j : ℕ) → j < n
+        → HasPitch notes v (suc bar) later j)
         → HasPitch notes v bar ps k
     at None w f k within more = absurd cc
     at (Some p) w f zero within more =
@@ -127,7 +132,8 @@ held_at notes v p slot (suc n) h zero within =
 held_at notes v p slot (suc n) h (suc j) within =
     let next : slot + suc j ≡ slot + 1 + j = omega arith in
     ap (λ i. holds p (cell_on notes v i)) next
-    ∙ held_at notes v p (slot + 1) n (and_parts (holds p (cell_on notes v slot)) (held_from notes v p (slot + 1) n) h).1 j (omega arith)
+    ∙ held_at notes v p (slot + 1) n (and_parts (holds p (cell_on notes v slot)) (held_from notes v p (slot + 1) n) h).1
+    j (omega arith)
 
 holds_is : (p : Pitch) (c : Cell) → holds p c ≡ true → c ≡ Hold p
 holds_is p Rest h = absurd cc
@@ -165,7 +171,8 @@ whole_cell notes v bar (suc j) p e within =
 
 has_cantus : (notes : List Placed) (v voices bars : ℕ) (ps : List Pitch) → v < voices → cantus_in notes v 0 bars ≡ Ok ps
     → (i : ℕ) → i < 8 * bars
-    → option_map (cantus_cell i) (slice_get ps (i / 8)) ≡ Some (cell_in (get_or (columns_on notes voices (8 * bars)) i []) v)
+    → option_map (cantus_cell i) (slice_get ps (i / 8))
+    ≡ Some (cell_in (get_or (columns_on notes voices (8 * bars)) i []) v)
 has_cantus notes v voices bars ps there e i within =
     let bar : i / 8 < bars = omega arith in
     let has = cantus_at notes v 0 bars ps e (i / 8) bar in
@@ -229,10 +236,12 @@ record IsFreeLine (cantus below : ℕ) (line : RangeLine) : Type 0 where
   no_cantus : line.voice ≢ cantus
   own : IsOwn line.voice line
 
-free_all : (notes : List Placed) (cantus v below : ℕ) → v < below → All (IsFreeLine cantus below) (free_range notes cantus v)
+free_all : (notes : List Placed) (cantus v below : ℕ) → v < below
+    → All (IsFreeLine cantus below) (free_range notes cantus v)
 free_all notes cantus v below less = at (eqb v cantus) refl
   where
-    line_at : (o : Option RangeLine) → range_in v notes ≡ o → v ≢ cantus → All (IsFreeLine cantus below) (option_to_list o)
+    line_at : (o : Option RangeLine) → range_in v notes ≡ o → v ≢ cantus
+        → All (IsFreeLine cantus below) (option_to_list o)
     line_at None e other = All-nil (IsFreeLine cantus below)
     line_at (Some line) e other =
         let own = range_own v notes line e in
@@ -246,7 +255,8 @@ free_all notes cantus v below less = at (eqb v cantus) refl
     at true e = All-nil (IsFreeLine cantus below)
     at false e = line_at (range_in v notes) refl (λ same. let equal = eq-eqb v cantus same in absurd cc)
 
-ranges_all : (notes : List Placed) (cantus v n below : ℕ) → v + n ≤ below → All (IsFreeLine cantus below) (ranges_in notes cantus v n)
+ranges_all : (notes : List Placed) (cantus v n below : ℕ) → v + n ≤ below
+    → All (IsFreeLine cantus below) (ranges_in notes cantus v n)
 unfolding ranges_in
 ranges_all notes cantus v zero below within = All-nil (IsFreeLine cantus below)
 ranges_all notes cantus v (suc n) below within =
@@ -289,7 +299,8 @@ ranges_own notes cantus v (suc n) w line from to free e =
     ∙ at (cases_lt v w) (λ less. ranges_own notes cantus (suc v) n w line less (omega arith) free e)
   where
     at : (v < w) ⊎ (w ≤ v) → (suc v ≤ w → filter (of_voice w) (ranges_in notes cantus (suc v) n) ≡ line ∷ [])
-        → filter (of_voice w) (free_range notes cantus v) ++ filter (of_voice w) (ranges_in notes cantus (suc v) n) ≡ line ∷ []
+        → filter (of_voice w) (free_range notes cantus v) ++ filter (of_voice w) (ranges_in notes cantus (suc v) n)
+        ≡ line ∷ []
     at (inl less) later =
         let other : v ≢ w = λ same. absurd (omega (arith, less, same)) in
         rw (filter_other notes cantus v w other, later (omega arith)) refl
@@ -310,9 +321,11 @@ record NamesVoices (head : Head) (voices : ℕ) : Type 0 where
   cantus : head.cantus_voice < voices
   species : head.species_voice < voices
 
-names_voices : (head : Head) (voices count : ℕ) → voices_in head voices ≡ Ok count → NamesVoices head voices × (voices ≡ count)
+names_voices : (head : Head) (voices count : ℕ) → voices_in head voices ≡ Ok count → NamesVoices head voices
+    × (voices ≡ count)
 names_voices head voices count e =
-    let parts = pass_ok (leb 2 voices && (leb voices 4 && (ltb head.cantus_voice voices && ltb head.species_voice voices))) _ voices count e in
+    let parts = pass_ok (leb 2 voices && (leb voices 4
+    && (ltb head.cantus_voice voices && ltb head.species_voice voices))) _ voices count e in
     let first = and_parts (leb 2 voices) _ parts.0 in
     let second = and_parts (leb voices 4) _ first.1 in
     let third = and_parts (ltb head.cantus_voice voices) _ second.1 in (
@@ -383,7 +396,8 @@ with_valid head notes voices bars cantus fits named fewest most has_notes e =
         → BeginsWithWhole (range_lines (exercise_with head notes voices bars cantus) v)
     range_of_voice None v r some free = absurd cc
     range_of_voice (Some line) v r some free =
-        one_whole _ line (ranges_own notes head.cantus_voice 0 voices v line (omega arith) (omega (arith, free.there)) free.no_cantus r)
+        one_whole _ line (ranges_own notes head.cantus_voice 0 voices v line (omega arith) (omega (arith, free.there))
+        free.no_cantus r)
         (range_own v notes line r).whole
 
 pub exercise_valid : (head : Head) (notes : List Placed) (voices : ℕ) (ex : Exercise) → IsHead head

@@ -42,11 +42,13 @@ all_four : (a b c d : Bool) → a ≡ true → b ≡ true → c ≡ true → d �
 all_four a b c d e f g h = rw (e, f, g, h) refl
 
 -- a node knows how long its path is
-pub as_long : (ex : Exercise) (sheet : Sheet) (node : Node) (path : List ℕ) → IsNodeOf ex sheet node path → node.state.newest.len ≡ length path
+pub as_long : (ex : Exercise) (sheet : Sheet) (node : Node) (path : List ℕ) → IsNodeOf ex sheet node path
+    → node.state.newest.len ≡ length path
 as_long ex sheet node path at = at.state.newest.count ∙ length-columns_on ex 0 path
 
 -- what is at most one number is at most a greater one
-pub some_lower : (best : Option ℕ) (n m : ℕ) → n ≤ m → IsSomeAnd best (λ value. value ≤ n) → IsSomeAnd best (λ value. value ≤ m)
+pub some_lower : (best : Option ℕ) (n m : ℕ) → n ≤ m → IsSomeAnd best (λ value. value ≤ n)
+    → IsSomeAnd best (λ value. value ≤ m)
 some_lower None n m h is = is
 some_lower (Some value) n m h is = omega (arith, h, is)
 
@@ -55,23 +57,33 @@ module _ (ex : Exercise) (path : List ℕ) (k : ℕ) (alive : is_alive_path ex p
   before = newest_column (reverse (prefix_at ex path))
 
   -- one whose column doesn't follow is dead
-  pub strays : (sheet : Sheet) → (ColumnFollows before (column_at ex path k) → ⊥) → live_at ex sheet (path ++ k ∷ []) ≡ None
-  strays sheet h = live_none ex sheet (path ++ k ∷ []) (alive_goes_on ex path k alive ∙ third_false (nat_lt (length path) (columns_in ex)) (nat_lt k (width_at ex path)) (column_follows before (column_at ex path k)) _ (at (column_follows before (column_at ex path k)) refl))
+  pub strays : (sheet : Sheet) → (ColumnFollows before (column_at ex path k) → ⊥) → live_at ex sheet (path ++ k ∷ [])
+      ≡ None
+  strays sheet h = live_none ex sheet (path ++ k ∷ [])
+      (alive_goes_on ex path k alive ∙ third_false (nat_lt (length path) (columns_in ex)) (nat_lt k (width_at ex path))
+      (column_follows before (column_at ex path k)) _ (at (column_follows before (column_at ex path k)) refl))
     where
       at : (b : Bool) → column_follows before (column_at ex path k) ≡ b → b ≡ false
       at true e = absurd (h (follows_from_test before (column_at ex path k) e))
       at false e = refl
 
   -- one that settles a strict break is dead
-  pub breaks : (sheet : Sheet) → list_any (newly_broken ex (prefix_at ex path) (column_at ex path k)) rules_read ≡ true → live_at ex sheet (path ++ k ∷ []) ≡ None
-  breaks sheet h = live_none ex sheet (path ++ k ∷ []) (alive_goes_on ex path k alive ∙ last_false (nat_lt (length path) (columns_in ex)) (nat_lt k (width_at ex path)) (column_follows before (column_at ex path k)) _ h)
+  pub breaks : (sheet : Sheet) → list_any (newly_broken ex (prefix_at ex path) (column_at ex path k)) rules_read ≡ true
+      → live_at ex sheet (path ++ k ∷ []) ≡ None
+  breaks sheet h = live_none ex sheet (path ++ k ∷ [])
+      (alive_goes_on ex path k alive ∙ last_false (nat_lt (length path) (columns_in ex)) (nat_lt k (width_at ex path))
+      (column_follows before (column_at ex path k)) _ h)
 
   -- every other one is alive
-  pub goes : length path < columns_in ex → k < width_at ex path → ColumnFollows before (column_at ex path k) → list_any (newly_broken ex (prefix_at ex path) (column_at ex path k)) rules_read ≡ false → is_alive_path ex (path ++ k ∷ []) ≡ true
+  pub goes : length path < columns_in ex → k < width_at ex path → ColumnFollows before (column_at ex path k)
+      → list_any (newly_broken ex (prefix_at ex path) (column_at ex path k)) rules_read ≡ false
+      → is_alive_path ex (path ++ k ∷ []) ≡ true
   goes room within follows unbroken =
       alive_goes_on ex path k alive
-      ∙ all_four (nat_lt (length path) (columns_in ex)) (nat_lt k (width_at ex path)) (column_follows before (column_at ex path k)) _
-      (test_from_below (length path) (columns_in ex) room) (test_from_below k (width_at ex path) within) (test_from_follows before (column_at ex path k) follows) unbroken
+      ∙ all_four (nat_lt (length path) (columns_in ex)) (nat_lt k (width_at ex path))
+      (column_follows before (column_at ex path k)) _
+      (test_from_below (length path) (columns_in ex) room) (test_from_below k (width_at ex path) within)
+      (test_from_follows before (column_at ex path k) follows) unbroken
 
   module _ (sheet : Sheet) where
     not_both : (o : Option ℕ) (floor : ℕ) → o ≡ None → o ≡ Some floor → ⊥
@@ -79,18 +91,27 @@ module _ (ex : Exercise) (path : List ℕ) (k : ℕ) (alive : is_alive_path ex p
     not_both (Some n) floor e f = cc
 
     -- a dead one is no better
-    pub no_better_if_dead : (best : Option ℕ) → (ColumnFollows before (column_at ex path k) → list_any (newly_broken ex (prefix_at ex path) (column_at ex path k)) rules_read ≡ true) → IsNoBetter ex sheet path best k
+    pub no_better_if_dead : (best : Option ℕ)
+        → (ColumnFollows before (column_at ex path k)
+        → list_any (newly_broken ex (prefix_at ex path) (column_at ex path k)) rules_read ≡ true)
+        → IsNoBetter ex sheet path best k
     no_better_if_dead best dead floor there = at (column_follows before (column_at ex path k)) refl
       where
         at : (b : Bool) → column_follows before (column_at ex path k) ≡ b → IsSomeAnd best (λ value. value ≤ floor)
-        at true e = absurd (not_both (live_at ex sheet (path ++ k ∷ [])) floor (breaks sheet (dead (follows_from_test before (column_at ex path k) e))) there)
-        at false e = absurd (not_both (live_at ex sheet (path ++ k ∷ [])) floor (strays sheet (λ follows. true≢false (sym (test_from_follows before (column_at ex path k) follows) ∙ e))) there)
+        at true e = absurd (not_both (live_at ex sheet (path ++ k ∷ [])) floor
+            (breaks sheet (dead (follows_from_test before (column_at ex path k) e))) there)
+        at false e = absurd (not_both (live_at ex sheet (path ++ k ∷ [])) floor
+            (strays sheet (λ follows. true≢false (sym (test_from_follows before (column_at ex path k) follows) ∙ e)))
+            there)
 
     -- the rest of its prefix is that of its column
-    pub rest_there : (rest : Option ℕ) → length path < columns_in ex → IsRest ex sheet (length path) (column_at ex path k) rest → rest ≡ rest_of ex sheet (prefix_at ex (path ++ k ∷ []))
+    pub rest_there : (rest : Option ℕ) → length path < columns_in ex
+        → IsRest ex sheet (length path) (column_at ex path k) rest → rest
+        ≡ rest_of ex sheet (prefix_at ex (path ++ k ∷ []))
     rest_there rest room is =
         let size : length (prefix_at ex path) ≡ length path = length-columns_on ex 0 path in
-        rest_is ex sheet (prefix_at ex path) (column_at ex path k) rest (omega (arith, size, room)) (subst (λ n. IsRest ex sheet n (column_at ex path k) rest) (sym size) is)
+        rest_is ex sheet (prefix_at ex path) (column_at ex path k) rest (omega (arith, size, room))
+        (subst (λ n. IsRest ex sheet n (column_at ex path k) rest) (sym size) is)
         ∙ sym (ap (rest_of ex sheet) (prefix_at-append ex path k))
 
     -- one without a rest is dead
@@ -105,7 +126,8 @@ module _ (ex : Exercise) (path : List ℕ) (k : ℕ) (alive : is_alive_path ex p
     pub record Costs (floor : ℕ) : Type 0 where
       pub rest : ℕ
       pub is_rest : rest_of ex sheet (prefix_at ex (path ++ k ∷ [])) ≡ Some rest
-      pub low : paid ex sheet (prefix_at ex path) + newly_paid ex sheet (prefix_at ex path) (column_at ex path k) + least_of ex sheet (prefix_at ex path) + rest ≤ floor
+      pub low : paid ex sheet (prefix_at ex path) + newly_paid ex sheet (prefix_at ex path) (column_at ex path k) +
+          least_of ex sheet (prefix_at ex path) + rest ≤ floor
 
     pub costs : (floor : ℕ) → live_at ex sheet (path ++ k ∷ []) ≡ Some floor → Costs floor
     costs floor there =
@@ -114,31 +136,51 @@ module _ (ex : Exercise) (path : List ℕ) (k : ℕ) (alive : is_alive_path ex p
         let own = live_value ex sheet (path ++ k ∷ []) floor there in
         let parts = floor_parts ex sheet (prefix_at ex (path ++ k ∷ [])) floor own.1 in
         let next : prefix_at ex (path ++ k ∷ []) ≡ p ++ col ∷ [] = prefix_at-append ex path k in
-        let longer : IsPrefix ex (p ++ col ∷ []) = subst (λ q. IsPrefix ex q) next (prefix_is_alive ex (menus_are_exact ex) (path ++ k ∷ []) own.0).prefix in
+        let longer : IsPrefix ex (p ++ col ∷ []) = subst (λ q. IsPrefix ex q) next
+        (prefix_is_alive ex (menus_are_exact ex) (path ++ k ∷ []) own.0).prefix in
         let more = least_grows ex sheet p col longer in
-        let pays : paid ex sheet (prefix_at ex (path ++ k ∷ [])) ≡ paid ex sheet p + newly_paid ex sheet p col = ap (paid ex sheet) next ∙ paid_grows ex p col sheet in
-        let lines : least_of ex sheet (prefix_at ex (path ++ k ∷ [])) ≡ least_of ex sheet (p ++ col ∷ []) = ap (least_of ex sheet) next in
-        record { rest = parts.rest; is_rest = parts.is_rest; low = sum_of _ _ _ _ _ _ parts.rest floor parts.sum pays lines more }
+        let pays : paid ex sheet (prefix_at ex (path ++ k ∷ []))
+        ≡ paid ex sheet p + newly_paid ex sheet p col = ap (paid ex sheet) next ∙ paid_grows ex p col sheet in
+        let lines : least_of ex sheet (prefix_at ex (path ++ k ∷ []))
+        ≡ least_of ex sheet (p ++ col ∷ []) = ap (least_of ex sheet) next in
+        record {
+          rest = parts.rest;
+          is_rest = parts.is_rest;
+          low = sum_of _ _ _ _ _ _ parts.rest floor parts.sum pays lines more;
+        }
       where
-        sum_of : (a b c d e f rest floor : ℕ) → a + b + rest ≡ floor → a ≡ c + d → b ≡ e → f ≤ e → c + d + f + rest ≤ floor
+        sum_of : (a b c d e f rest floor : ℕ) → a + b + rest ≡ floor → a ≡ c + d → b ≡ e → f ≤ e
+            → c + d + f + rest ≤ floor
         sum_of a b c d e f rest floor s p l m = omega (arith, s, p, l, m)
 
     -- one that costs too much is no better
-    pub no_better_if_costly : (best : Option ℕ) → IsSomeAnd best (λ value. value ≤ paid ex sheet (prefix_at ex path) + least_of ex sheet (prefix_at ex path) + newly_paid ex sheet (prefix_at ex path) (column_at ex path k)) → IsNoBetter ex sheet path best k
+    pub no_better_if_costly : (best : Option ℕ)
+        → IsSomeAnd best (λ value. value ≤ paid ex sheet (prefix_at ex path) + least_of ex sheet (prefix_at ex path) +
+        newly_paid ex sheet (prefix_at ex path) (column_at ex path k)) → IsNoBetter ex sheet path best k
     no_better_if_costly best costly floor there =
         let all = costs floor there in
         some_lower best _ floor (omega (arith, all.low)) costly
 
     -- one without a rest is no better, nor is one whose rest costs too much
-    pub no_better_by_rest : (rest best : Option ℕ) → length path < columns_in ex → IsRest ex sheet (length path) (column_at ex path k) rest
-        → ((x : ℕ) → rest ≡ Some x → IsSomeAnd best (λ value. value ≤ paid ex sheet (prefix_at ex path) + least_of ex sheet (prefix_at ex path) + x)) → IsNoBetter ex sheet path best k
+    pub no_better_by_rest : (rest best : Option ℕ) → length path < columns_in ex
+        → IsRest ex sheet (length path) (column_at ex path k) rest
+        → ((x : ℕ) → rest ≡ Some x → IsSomeAnd best
+        (λ value. value ≤ paid ex sheet (prefix_at ex path) + least_of ex sheet (prefix_at ex path) + x))
+        → IsNoBetter ex sheet path best k
     no_better_by_rest rest best room is costly floor there =
         let all = costs floor there in
         some_lower best _ floor (omega (arith, all.low)) (costly all.rest (rest_there rest room is ∙ all.is_rest))
 
 -- the empty path is alive
 pub begun_alive : (ex : Exercise) → IsValid ex → is_alive_path ex [] ≡ true
-begun_alive ex valid = alive_from_parts ex [] record { voices = and_from (nat_le ex.voices 4) (nat_lt ex.cantus_voice ex.voices) (test ex.voices 4 valid.most_voices) (test_from_below ex.cantus_voice ex.voices valid.cantus_there); room = test 0 (columns_in ex) (omega arith); menus = refl; follows = refl; alive = refl }
+begun_alive ex valid = alive_from_parts ex [] record {
+  voices = and_from (nat_le ex.voices 4) (nat_lt ex.cantus_voice ex.voices) (test ex.voices 4 valid.most_voices)
+      (test_from_below ex.cantus_voice ex.voices valid.cantus_there);
+  room = test 0 (columns_in ex) (omega arith);
+  menus = refl;
+  follows = refl;
+  alive = refl;
+}
   where
     test : (n m : ℕ) → n ≤ m → nat_le n m ≡ true
     test n m h = grind (arith, nat_tests)

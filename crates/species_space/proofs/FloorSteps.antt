@@ -26,7 +26,8 @@ module _ (ex : Exercise) (sheet : Sheet) (valid : IsValid ex) where
   alive_before : (p : List (List Cell)) (col : List Cell) → IsAlive ex (p ++ col ∷ []) → IsAlive ex p
   alive_before p col alive = record {
     prefix = prefix_before ex p col alive.prefix;
-    unbroken = (or_parts (has_strict_break ex p) (list_any (newly_broken ex p col) rules_read) (sym (strict_break_grows ex p col) ∙ alive.unbroken)).0;
+    unbroken = (or_parts (has_strict_break ex p) (list_any (newly_broken ex p col) rules_read)
+        (sym (strict_break_grows ex p col) ∙ alive.unbroken)).0;
   }
 
   low_before : (most : ℕ) (p : List (List Cell)) (col : List Cell) → IsLow most (p ++ col ∷ []) → IsLow most p
@@ -39,17 +40,23 @@ module _ (ex : Exercise) (sheet : Sheet) (valid : IsValid ex) where
       lower None n h is = is
       lower (Some own) n h is = omega (arith, h, is)
 
-      at : (o : Option ℕ) → floor_of ex sheet (p ++ col ∷ []) ≡ o → IsSomeAnd o (λ floor. floor ≤ most) → IsSomeAnd (floor_of ex sheet p) (λ floor. floor ≤ most)
+      at : (o : Option ℕ) → floor_of ex sheet (p ++ col ∷ []) ≡ o → IsSomeAnd o (λ floor. floor ≤ most)
+          → IsSomeAnd (floor_of ex sheet p) (λ floor. floor ≤ most)
       at None e low = absurd low
-      at (Some floor) e low = lower (floor_of ex sheet p) floor low (floor_grows ex sheet p col valid.most_voices valid.cantus_there longer.alive floor e)
+      at (Some floor) e low = lower (floor_of ex sheet p) floor low
+          (floor_grows ex sheet p col valid.most_voices valid.cantus_there longer.alive floor e)
 
   low_begun : (most : ℕ) (p more : List (List Cell)) → IsLow most (p ++ more) → IsLow most p
   low_begun most p [] whole = subst (λ (q : List (List Cell)). IsLow most q) (append-nil p) whole
   low_begun most p (col ∷ more) whole =
-      low_before most p col (low_begun most (p ++ col ∷ []) more (subst (λ (q : List (List Cell)). IsLow most q) (sym (append_assoc p (col ∷ []) more)) whole))
+      low_before most p col (low_begun most (p ++ col ∷ []) more
+      (subst (λ (q : List (List Cell)). IsLow most q) (sym (append_assoc p (col ∷ []) more)) whole))
 
   lawful_alive : (s : List (List Cell)) → IsLawful ex s → IsAlive ex s
-  lawful_alive s lawful = record { prefix = lawful.setting.prefix; unbroken = alive_if_unbroken ex valid.most_voices s lawful.setting lawful.unbroken }
+  lawful_alive s lawful = record {
+    prefix = lawful.setting.prefix;
+    unbroken = alive_if_unbroken ex valid.most_voices s lawful.setting lawful.unbroken;
+  }
 
   lawful_low : (s : List (List Cell)) → IsLawful ex s → IsLow (penalty_of ex sheet s) s
   lawful_low s lawful =
@@ -73,8 +80,10 @@ module _ (ex : Exercise) (sheet : Sheet) (valid : IsValid ex) where
   pub floors_hold : HasFloors ex sheet
   floors_hold = record {
     live = λ p more lawful.
-        live_if_low (penalty_of ex sheet (p ++ more)) p (low_begun (penalty_of ex sheet (p ++ more)) p more (lawful_low (p ++ more) lawful));
+        live_if_low (penalty_of ex sheet (p ++ more)) p
+        (low_begun (penalty_of ex sheet (p ++ more)) p more (lawful_low (p ++ more) lawful));
     low = λ p more lawful. (low_begun (penalty_of ex sheet (p ++ more)) p more (lawful_low (p ++ more) lawful)).low;
-    grow = λ p col floor live e. floor_grows ex sheet p col valid.most_voices valid.cantus_there record { prefix = live.prefix; unbroken = live.unbroken } floor e;
+    grow = λ p col floor live e. floor_grows ex sheet p col valid.most_voices valid.cantus_there record
+        { prefix = live.prefix; unbroken = live.unbroken } floor e;
     end = λ s lawful. floor_at_end ex sheet s valid.most_voices lawful.setting (lawful_alive s lawful);
   }

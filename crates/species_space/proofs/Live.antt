@@ -29,13 +29,19 @@ module _ (ex : Exercise) (sheet : Sheet) where
       at (Some value) e s =
           let own = live_value ex sheet path value e in
           let alive = prefix_is_alive ex (menus_are_exact ex) path own.0 in
-          record { prefix = alive.prefix; unbroken = alive.unbroken; goes_on = subst IsSome (sym (floor_parts ex sheet (prefix_at ex path) value own.1).is_rest) refl }
+          record {
+            prefix = alive.prefix;
+            unbroken = alive.unbroken;
+            goes_on = subst IsSome (sym (floor_parts ex sheet (prefix_at ex path) value own.1).is_rest) refl;
+          }
 
   pub path_to_live : IsValid ex → (p : List (List Cell)) → IsLive ex sheet p → LivePath ex sheet p
   path_to_live valid p live =
-      let way = path_to_alive ex (menus_are_exact ex) valid p record { prefix = live.prefix; unbroken = live.unbroken } in
+      let way = path_to_alive ex (menus_are_exact ex) valid p record { prefix = live.prefix; unbroken = live.unbroken }
+      in
       record {
         path = way.path;
         there = way.there;
-        is_live = subst IsSome (sym (live_some ex sheet way.path way.alive ∙ ap (floor_of ex sheet) way.there)) (floor_if_rest ex sheet p live.goes_on);
+        is_live = subst IsSome (sym (live_some ex sheet way.path way.alive ∙ ap (floor_of ex sheet) way.there))
+            (floor_if_rest ex sheet p live.goes_on);
       }

@@ -57,12 +57,17 @@ module _ (ex : Exercise) (Kind : List ℕ → Type 0) (Of : List (List Cell) →
   all_lead (path ∷ paths) h = (alike.leads path h.0, all_lead paths h.1)
 
   others-differ : (path : List ℕ) (paths : List (List ℕ)) → Kind path → AllByRecursion Kind paths
-      → AllByRecursion (λ other. path ≢ other) paths → AllByRecursion (λ other. prefix_at ex path ≢ other) (map (prefix_at ex) paths)
+      → AllByRecursion (λ other. path ≢ other) paths
+      → AllByRecursion (λ other. prefix_at ex path ≢ other) (map (prefix_at ex) paths)
   others-differ path [] here h d = tt
-  others-differ path (other ∷ paths) here h d =
-      ((λ e. d.0 (same_path ex path other (alike.alive path here) (alike.alive other h.0) e)), others-differ path paths here h.1 d.1)
+  others-differ path (other ∷ paths) here h d = (
+    (λ e. d.0 (same_path ex path other (alike.alive path here) (alike.alive other h.0) e)),
+    others-differ path paths
+        here h.1 d.1,
+  )
 
-  prefixes-differ : (paths : List (List ℕ)) → AllByRecursion Kind paths → tree.AllDiffer paths → AllDiffer (map (prefix_at ex) paths)
+  prefixes-differ : (paths : List (List ℕ)) → AllByRecursion Kind paths → tree.AllDiffer paths
+      → AllDiffer (map (prefix_at ex) paths)
   prefixes-differ [] h d = tt
   prefixes-differ (path ∷ paths) h d = (others-differ path paths h.0 h.1 d.0, prefixes-differ paths h.1 d.1)
 
@@ -77,7 +82,8 @@ module _ (ex : Exercise) (Kind : List ℕ → Type 0) (Of : List (List Cell) →
         kind = (way.kind, others.kind);
       }
 
-  other_paths : (path : List ℕ) (paths : List (List ℕ)) → AllByRecursion (λ other. prefix_at ex path ≢ other) (map (prefix_at ex) paths)
+  other_paths : (path : List ℕ) (paths : List (List ℕ))
+      → AllByRecursion (λ other. prefix_at ex path ≢ other) (map (prefix_at ex) paths)
       → AllByRecursion (λ other. path ≢ other) paths
   other_paths path [] d = tt
   other_paths path (other ∷ paths) d = ((λ e. d.0 (ap (prefix_at ex) e)), other_paths path paths d.1)
@@ -122,7 +128,8 @@ record Parted (ex : Exercise) (i : ℕ) (path : List ℕ) (p : List (List Cell))
   is : path ≡ parent ++ child ∷ []
   there : columns_on ex i parent ≡ p
 
-parted : (ex : Exercise) (i : ℕ) (path : List ℕ) (p : List (List Cell)) (col : List Cell) → columns_on ex i path ≡ p ++ col ∷ [] → Parted ex i path p
+parted : (ex : Exercise) (i : ℕ) (path : List ℕ) (p : List (List Cell)) (col : List Cell) → columns_on ex i path ≡ p
+    ++ col ∷ [] → Parted ex i path p
 parted ex i [] [] col e = cc
 parted ex i [] (q ∷ p) col e = cc
 parted ex i (k ∷ []) [] col e = record { parent = []; child = k; is = refl; there = refl }
@@ -146,7 +153,11 @@ module _ (ex : Exercise) (valid : IsValid ex) (sheet : Sheet) where
     leads = λ path h. (live_prefix ex sheet path h.0, begun ex path h.1);
     each = λ p h.
         let way = path_to_live ex sheet valid p h.0 in
-        record { path = way.path; there = way.there; kind = (way.is_live, (λ e. h.1 (sym way.there ∙ ap (prefix_at ex) e))) };
+        record {
+          path = way.path;
+          there = way.there;
+          kind = (way.is_live, (λ e. h.1 (sym way.there ∙ ap (prefix_at ex) e)));
+        };
   }
 
   module _ (x : ℕ) where
@@ -155,7 +166,8 @@ module _ (ex : Exercise) (valid : IsValid ex) (sheet : Sheet) where
     low_floor (Some n) own e h = let same : n ≡ own = cc in omega (arith, same, h)
 
     its_floor : (path parent : List ℕ) (child : ℕ) → IsSome (live_at ex sheet path) → path ≡ parent ++ child ∷ []
-        → (o : Option ℕ) → live_at ex sheet parent ≡ o → IsSomeAnd o (λ floor. floor ≤ x) → tree.IsLoaded (live_at ex sheet) x path
+        → (o : Option ℕ) → live_at ex sheet parent ≡ o → IsSomeAnd o (λ floor. floor ≤ x)
+        → tree.IsLoaded (live_at ex sheet) x path
     its_floor path parent child live is None e h = absurd h
     its_floor path parent child live is (Some own) e h =
         record { is_live = live; parent = parent; child = child; is = is; own_floor = own; parent_live = e; low = h }
@@ -164,12 +176,15 @@ module _ (ex : Exercise) (valid : IsValid ex) (sheet : Sheet) where
     loaded_path p loaded =
         let way = path_to_live ex sheet valid p loaded.live in
         let parts = parted ex 0 way.path loaded.shorter loaded.last (way.there ∙ loaded.is) in
-        let alive : is_alive_path ex (parts.parent ++ parts.child ∷ []) ≡ true = sym (ap (is_alive_path ex) parts.is) ∙ path_is_alive ex sheet way.path way.is_live in
-        let same = live_some ex sheet parts.parent (alive_parent ex parts.parent parts.child alive) ∙ ap (floor_of ex sheet) parts.there in
+        let alive : is_alive_path ex (parts.parent ++ parts.child ∷ []) ≡ true = sym (ap (is_alive_path ex) parts.is)
+        ∙ path_is_alive ex sheet way.path way.is_live in
+        let same = live_some ex sheet parts.parent (alive_parent ex parts.parent parts.child alive)
+        ∙ ap (floor_of ex sheet) parts.there in
         record {
           path = way.path;
           there = way.there;
-          kind = its_floor way.path parts.parent parts.child way.is_live parts.is (floor_of ex sheet loaded.shorter) same loaded.low;
+          kind = its_floor way.path parts.parent parts.child way.is_live parts.is (floor_of ex sheet loaded.shorter)
+              same loaded.low;
         }
 
     -- loaded paths and loaded prefixes
@@ -181,7 +196,8 @@ module _ (ex : Exercise) (valid : IsValid ex) (sheet : Sheet) where
         shorter = prefix_at ex h.parent;
         last = column_at ex h.parent h.child;
         is = ap (prefix_at ex) h.is ∙ prefix_at-append ex h.parent h.child;
-        low = low_floor (floor_of ex sheet (prefix_at ex h.parent)) h.own_floor (live_value ex sheet h.parent h.own_floor h.parent_live).1 h.low;
+        low = low_floor (floor_of ex sheet (prefix_at ex h.parent)) h.own_floor
+            (live_value ex sheet h.parent h.own_floor h.parent_live).1 h.low;
       };
       each = loaded_path;
     }
@@ -191,7 +207,8 @@ module _ (ex : Exercise) (valid : IsValid ex) (sheet : Sheet) where
     over_prefixes over = record {
       load = λ s best.
           let way = best_is_first_least ex valid sheet s best in
-          many_prefixes ex _ _ (loaded_alike (penalty_of ex sheet s)) (budget + 1) (over.load way.0 (penalty_of ex sheet s) way.2);
+          many_prefixes ex _ _ (loaded_alike (penalty_of ex sheet s)) (budget + 1)
+          (over.load way.0 (penalty_of ex sheet s) way.2);
       whole = λ none. many_prefixes ex _ _ live_alike (budget + 1) (over.whole (no_lawful_no_leaf ex valid sheet none));
     }
 
@@ -205,7 +222,8 @@ module _ (ex : Exercise) (valid : IsValid ex) (sheet : Sheet) where
     }
 
     -- what a search of the front tells of this tree is exact
-    pub answers_exactly : (outcome : Outcome) → IsFrontAnswer (live_at ex sheet) (columns_in ex) budget outcome → IsExact ex sheet budget outcome
+    pub answers_exactly : (outcome : Outcome) → IsFrontAnswer (live_at ex sheet) (columns_in ex) budget outcome
+        → IsExact ex sheet budget outcome
     answers_exactly (Found path value) answer =
         let own = first_least_is_best ex valid sheet path value answer.found in
         record {

@@ -32,12 +32,16 @@ same_from_test (Start p) Rest h = cc
 same_from_test (Start p) (Hold q) h = cc
 
 -- within a block a voice has one cell
-pub one_cell : (menu : List (List Cell)) (v size j k : ℕ) → KeepsCell menu v size → j < length menu → k < length menu → j / size ≡ k / size → cell_in (slice_index_or menu j []) v ≡ cell_in (slice_index_or menu k []) v
+pub one_cell : (menu : List (List Cell)) (v size j k : ℕ) → KeepsCell menu v size → j < length menu → k < length menu
+    → j / size ≡ k / size → cell_in (slice_index_or menu j []) v ≡ cell_in (slice_index_or menu k []) v
 one_cell menu v size j k kept a b e =
     kept j a ∙ ap (λ n. cell_in (slice_index_or menu (n * size) []) v) e ∙ sym (kept k b)
 
 -- so that a column in which it doesn't follow tells it of its block
-pub strays_in_block : (menu : List (List Cell)) (before : List Cell) (v size j k : ℕ) → KeepsCell menu v size → j < length menu → k < length menu → j / size ≡ k / size → cell_follows (cell_in before v) (cell_in (slice_index_or menu k []) v) ≡ false → ColumnFollows before (slice_index_or menu j []) → ⊥
+pub strays_in_block : (menu : List (List Cell)) (before : List Cell) (v size j k : ℕ) → KeepsCell menu v size
+    → j < length menu → k < length menu → j / size ≡ k / size
+    → cell_follows (cell_in before v) (cell_in (slice_index_or menu k []) v) ≡ false
+    → ColumnFollows before (slice_index_or menu j []) → ⊥
 strays_in_block menu before v size j k kept a b e stray follows =
     let same = one_cell menu v size j k kept a b e in
     let P : Cell → Type 0 = λ c. IsTrue (cell_follows (cell_in before v) c) in
@@ -45,7 +49,8 @@ strays_in_block menu before v size j k kept a b e stray follows =
 
 -- ---- columns of holds
 
-holds_alike : (b c d : Cell) → IsTrue (cell_follows b c) → IsTrue (cell_follows b d) → IsTrue (is_hold c) → IsTrue (is_hold d) → c ≡ d
+holds_alike : (b c d : Cell) → IsTrue (cell_follows b c) → IsTrue (cell_follows b d) → IsTrue (is_hold c)
+    → IsTrue (is_hold d) → c ≡ d
 holds_alike b Rest d h k e f = cc
 holds_alike b (Start p) d h k e f = cc
 holds_alike b (Hold p) Rest h k e f = cc
@@ -55,7 +60,10 @@ holds_alike (Hold r) (Hold p) (Hold q) h k e f = ap Hold (sym (equal_from_test r
 holds_alike (Start r) (Hold p) (Hold q) h k e f = ap Hold (sym (equal_from_test r p h) ∙ equal_from_test r q k)
 
 -- two columns of holds that follow are one
-columns_alike : (before c d : List Cell) → length c ≡ length d → ((v : ℕ) → v < length c → IsTrue (is_hold (cell_in c v))) → ((v : ℕ) → v < length d → IsTrue (is_hold (cell_in d v))) → ColumnFollows before c → ColumnFollows before d → c ≡ d
+columns_alike : (before c d : List Cell) → length c ≡ length d
+    → ((v : ℕ) → v < length c → IsTrue (is_hold (cell_in c v)))
+    → ((v : ℕ) → v < length d → IsTrue (is_hold (cell_in d v))) → ColumnFollows before c → ColumnFollows before d → c
+    ≡ d
 columns_alike before c d long holds its_holds follows its =
     same_lists c d long
     (λ v x lt.
@@ -65,26 +73,36 @@ columns_alike before c d long holds its_holds follows its =
     ∙ sym (get_or_default d v x Rest there))
 
 -- a column of holds, cell by cell
-held_at : (columns : List (ArrayVec Cell)) → AreOnlyHolds columns → (k : ℕ) → k < length (items_of columns) → (v : ℕ) → v < length (slice_index_or (items_of columns) k []) → IsTrue (is_hold (cell_in (slice_index_or (items_of columns) k []) v))
+held_at : (columns : List (ArrayVec Cell)) → AreOnlyHolds columns → (k : ℕ) → k < length (items_of columns) → (v : ℕ)
+    → v < length (slice_index_or (items_of columns) k [])
+    → IsTrue (is_hold (cell_in (slice_index_or (items_of columns) k []) v))
 held_at columns held k lt = at columns held k (omega (arith, lt, length-map columns (λ col. col.items)))
   where
-    at : (columns : List (ArrayVec Cell)) → AreOnlyHolds columns → (k : ℕ) → k < length columns → (v : ℕ) → v < length (slice_index_or (items_of columns) k []) → IsTrue (is_hold (cell_in (slice_index_or (items_of columns) k []) v))
+    at : (columns : List (ArrayVec Cell)) → AreOnlyHolds columns → (k : ℕ) → k < length columns → (v : ℕ)
+        → v < length (slice_index_or (items_of columns) k [])
+        → IsTrue (is_hold (cell_in (slice_index_or (items_of columns) k []) v))
     at [] held k lt v few = absurd (omega arith)
     at (col ∷ columns) held zero lt v few = held 0 col (omega arith) v Rest few
-    at (col ∷ columns) held (suc k) lt v few = at columns (λ j d b. held (suc j) d (omega (arith, b))) k (omega (arith, lt)) v few
+    at (col ∷ columns) held (suc k) lt v few =
+        at columns (λ j d b. held (suc j) d (omega (arith, b))) k (omega (arith, lt)) v few
 
 -- at a menu of holds only one column follows
-pub only_one_follows : (columns : List (ArrayVec Cell)) (before : List Cell) (j k : ℕ) → AreOnlyHolds columns → IsAscending (items_of columns) → HasOneWidth (items_of columns) → j < length (items_of columns) → k < length (items_of columns) → ColumnFollows before (slice_index_or (items_of columns) j []) → ColumnFollows before (slice_index_or (items_of columns) k []) → j ≡ k
+pub only_one_follows : (columns : List (ArrayVec Cell)) (before : List Cell) (j k : ℕ) → AreOnlyHolds columns
+    → IsAscending (items_of columns) → HasOneWidth (items_of columns) → j < length (items_of columns)
+    → k < length (items_of columns) → ColumnFollows before (slice_index_or (items_of columns) j [])
+    → ColumnFollows before (slice_index_or (items_of columns) k []) → j ≡ k
 only_one_follows columns before j k held order full a b follows its =
     AllPairs-place IsColumnBefore (items_of columns) order (λ c h. apart (column_order-itself c) h) j k [] a b
-    (columns_alike before (slice_index_or (items_of columns) j []) (slice_index_or (items_of columns) k []) (full.1 j [] a ∙ sym (full.1 k [] b)) (held_at columns held j a) (held_at columns held k b) follows its)
+    (columns_alike before (slice_index_or (items_of columns) j []) (slice_index_or (items_of columns) k [])
+    (full.1 j [] a ∙ sym (full.1 k [] b)) (held_at columns held j a) (held_at columns held k b) follows its)
   where
     apart : {o : Ordering} → o ≡ Equal → o ≡ Less → ⊥
     apart e h = let f : Equal ≡ Less = sym e ∙ h in absurd (cc)
 
 -- ---- columns without holds
 
-free_cells : (before : ℕ → Cell) (cs : List Cell) → All (λ c. IsTrue (not (is_hold c))) cs → (v : ℕ) → IsTrue (cell_follows (before v) (cell_in cs v))
+free_cells : (before : ℕ → Cell) (cs : List Cell) → All (λ c. IsTrue (not (is_hold c))) cs → (v : ℕ)
+    → IsTrue (cell_follows (before v) (cell_in cs v))
 free_cells before [] free v = refl
 free_cells before (c ∷ cs) free zero = free_cell c (free 0 c (omega arith))
   where
@@ -92,10 +110,12 @@ free_cells before (c ∷ cs) free zero = free_cell c (free 0 c (omega arith))
     free_cell Rest h = refl
     free_cell (Start p) h = refl
     free_cell (Hold p) h = cc
-free_cells before (c ∷ cs) free (suc v) = free_cells (λ w. before (suc w)) cs (λ j d lt. free (suc j) d (omega (arith, lt))) v
+free_cells before (c ∷ cs) free (suc v) =
+    free_cells (λ w. before (suc w)) cs (λ j d lt. free (suc j) d (omega (arith, lt))) v
 
 -- at a menu without holds every column follows
-pub all_are_next : (columns : List (ArrayVec Cell)) (before : List Cell) (from : ℕ) → AreWithoutHolds columns → from ≤ length columns → IsNext (items_of columns) before from from
+pub all_are_next : (columns : List (ArrayVec Cell)) (before : List Cell) (from : ℕ) → AreWithoutHolds columns
+    → from ≤ length columns → IsNext (items_of columns) before from from
 all_are_next columns before from free le = record {
   onward = omega arith;
   within = omega (arith, le, length-map columns (λ col. col.items));
@@ -103,7 +123,8 @@ all_are_next columns before from free le = record {
   passed = λ k a b follows. absurd (omega (arith, a, b));
 }
   where
-    at : (columns : List (ArrayVec Cell)) (k : ℕ) → AreWithoutHolds columns → k < length columns → ColumnFollows before (slice_index_or (items_of columns) k [])
+    at : (columns : List (ArrayVec Cell)) (k : ℕ) → AreWithoutHolds columns → k < length columns
+        → ColumnFollows before (slice_index_or (items_of columns) k [])
     at [] k free lt = absurd (omega arith)
     at (col ∷ columns) zero free lt = free_cells (cell_in before) col.items (free 0 col (omega arith))
     at (col ∷ columns) (suc k) free lt = at columns k (λ j d b. free (suc j) d (omega (arith, b))) (omega (arith, lt))
@@ -111,7 +132,8 @@ all_are_next columns before from free le = record {
 -- ---- a walk by blocks
 
 -- what holds up to a place, and from it on up to another, holds up to that one
-pub passed_on : (P : ℕ → Type 0) (from k end : ℕ) → ((j : ℕ) → from ≤ j → j < k → P j) → ((j : ℕ) → k ≤ j → j < end → P j) → (j : ℕ) → from ≤ j → j < end → P j
+pub passed_on : (P : ℕ → Type 0) (from k end : ℕ) → ((j : ℕ) → from ≤ j → j < k → P j)
+    → ((j : ℕ) → k ≤ j → j < end → P j) → (j : ℕ) → from ≤ j → j < end → P j
 passed_on P from k end before block j le lt = go (nat_lt j k) refl
   where
     beyond : nat_lt j k ≡ false → k ≤ j
@@ -122,7 +144,10 @@ passed_on P from k end before block j le lt = go (nat_lt j k) refl
     go false e = block j (beyond e) lt
 
 -- so where a column is known that follows, it is the first one that does, from any number up to it
-pub hint_is_next : (columns : List (ArrayVec Cell)) (before : List Cell) (from hint : ℕ) → AreOnlyHolds columns → IsAscending (items_of columns) → HasOneWidth (items_of columns) → hint < length columns → ColumnFollows before (slice_index_or (items_of columns) hint []) → from ≤ hint → IsNext (items_of columns) before from hint
+pub hint_is_next : (columns : List (ArrayVec Cell)) (before : List Cell) (from hint : ℕ) → AreOnlyHolds columns
+    → IsAscending (items_of columns) → HasOneWidth (items_of columns) → hint < length columns
+    → ColumnFollows before (slice_index_or (items_of columns) hint []) → from ≤ hint
+    → IsNext (items_of columns) before from hint
 hint_is_next columns before from hint held order full there follows le =
     let long = length-map columns (λ col. col.items) in
     record {
@@ -130,12 +155,16 @@ hint_is_next columns before from hint held order full there follows le =
       within = omega (arith, long, there);
       follows = λ b. follows;
       passed = λ k a b its.
-          let same : k ≡ hint = only_one_follows columns before k hint held order full (omega (arith, long, there, b)) (omega (arith, long, there)) its follows in
+          let same : k ≡ hint = only_one_follows columns before k hint held order full (omega (arith, long, there, b))
+          (omega (arith, long, there)) its follows in
           absurd (omega (arith, same, b));
     }
 
 -- and beyond it there is none
-pub none_is_next : (columns : List (ArrayVec Cell)) (before : List Cell) (from hint end : ℕ) → AreOnlyHolds columns → IsAscending (items_of columns) → HasOneWidth (items_of columns) → hint < length columns → ColumnFollows before (slice_index_or (items_of columns) hint []) → hint < from → from ≤ length columns → end ≡ length columns → IsNext (items_of columns) before from end
+pub none_is_next : (columns : List (ArrayVec Cell)) (before : List Cell) (from hint end : ℕ) → AreOnlyHolds columns
+    → IsAscending (items_of columns) → HasOneWidth (items_of columns) → hint < length columns
+    → ColumnFollows before (slice_index_or (items_of columns) hint []) → hint < from → from ≤ length columns → end
+    ≡ length columns → IsNext (items_of columns) before from end
 none_is_next columns before from hint end held order full there follows lt le last =
     let long = length-map columns (λ col. col.items) in
     record {
@@ -143,7 +172,8 @@ none_is_next columns before from hint end held order full there follows lt le la
       within = omega (arith, long, last);
       follows = λ b. absurd (omega (arith, long, last, b));
       passed = λ k a b its.
-          let same : k ≡ hint = only_one_follows columns before k hint held order full (omega (arith, long, last, b)) (omega (arith, long, there)) its follows in
+          let same : k ≡ hint = only_one_follows columns before k hint held order full (omega (arith, long, last, b))
+          (omega (arith, long, there)) its follows in
           absurd (omega (arith, same, a, lt));
     }
 
@@ -159,7 +189,8 @@ one_more P k below here j lt = go (nat_lt j k) refl
     go false e = subst P (at_end e) here
 
 -- what holds of each of four numbers and its place
-pub four : (P : ℕ → ℕ → Type 0) (a b c d : ℕ) → P 0 a → P 1 b → P 2 c → P 3 d → (v : ℕ) → v < 4 → P v (slice_index_or (a ∷ b ∷ c ∷ d ∷ []) v 0)
+pub four : (P : ℕ → ℕ → Type 0) (a b c d : ℕ) → P 0 a → P 1 b → P 2 c → P 3 d → (v : ℕ) → v < 4
+    → P v (slice_index_or (a ∷ b ∷ c ∷ d ∷ []) v 0)
 four P a b c d w x y z zero lt = w
 four P a b c d w x y z (suc zero) lt = x
 four P a b c d w x y z (suc (suc zero)) lt = y
@@ -167,7 +198,8 @@ four P a b c d w x y z (suc (suc (suc zero))) lt = z
 four P a b c d w x y z (suc (suc (suc (suc v)))) lt = absurd (omega arith)
 
 -- columns that agree in their lowest cells have the same beginning
-pub same_takes : (n : ℕ) (c d : List Cell) → length c ≡ length d → ((v : ℕ) → v < n → cell_in c v ≡ cell_in d v) → take n c ≡ take n d
+pub same_takes : (n : ℕ) (c d : List Cell) → length c ≡ length d → ((v : ℕ) → v < n → cell_in c v ≡ cell_in d v)
+    → take n c ≡ take n d
 same_takes zero c d long same = refl
 same_takes (suc n) [] [] long same = refl
 same_takes (suc n) [] (y ∷ d) long same = absurd (omega (arith, long))
@@ -177,23 +209,37 @@ same_takes (suc n) (x ∷ c) (y ∷ d) long same =
     ∙ ap (λ cells. y ∷ cells) (same_takes n c d (omega (arith, long)) (λ v lt. same (suc v) (omega (arith, lt))))
 
 -- one voice more keeps its cell, as far as its block goes
-pub agree_more : (menu : List (List Cell)) (v size k old block end : ℕ) → KeepsCell menu v size → IsBlockEnd k size block → end ≤ old → end ≤ block → k < end → end ≤ length menu → ((u : ℕ) → u < v → (j : ℕ) → k ≤ j → j < old → cell_in (slice_index_or menu j []) u ≡ cell_in (slice_index_or menu k []) u) → (u : ℕ) → u < v + 1 → (j : ℕ) → k ≤ j → j < end → cell_in (slice_index_or menu j []) u ≡ cell_in (slice_index_or menu k []) u
+pub agree_more : (menu : List (List Cell)) (v size k old block end : ℕ) → KeepsCell menu v size
+    → IsBlockEnd k size block → end ≤ old → end ≤ block → k < end → end ≤ length menu
+    → ((u : ℕ) → u < v → (j : ℕ) → k ≤ j → j < old → cell_in (slice_index_or menu j []) u
+    ≡ cell_in (slice_index_or menu k []) u) → (u : ℕ) → u < v + 1 → (j : ℕ) → k ≤ j → j < end
+    → cell_in (slice_index_or menu j []) u ≡ cell_in (slice_index_or menu k []) u
 agree_more menu v size k old block end kept ends fewer in_block onward within before =
-    one_more (λ u. (j : ℕ) → k ≤ j → j < end → cell_in (slice_index_or menu j []) u ≡ cell_in (slice_index_or menu k []) u) v
+    one_more (λ u. (j : ℕ) → k ≤ j → j < end → cell_in (slice_index_or menu j []) u
+    ≡ cell_in (slice_index_or menu k []) u) v
     (λ u lt j le b. before u lt j le (omega (arith, b, fewer)))
-    (λ j le b. one_cell menu v size j k kept (omega (arith, b, within)) (omega (arith, onward, within)) (ends.one_block j le (omega (arith, b, in_block))))
+    (λ j le b. one_cell menu v size j k kept (omega (arith, b, within)) (omega (arith, onward, within))
+    (ends.one_block j le (omega (arith, b, in_block))))
 
 -- ---- columns that are dead after every prefix
 
 -- what holds of the numbers of a list, and of one number at each later place, holds of all once that number is put behind them
-filled : (P : ℕ → ℕ → Type 0) (numbers : List ℕ) (count number : ℕ) → ((k : ℕ) → k < length numbers → P k (slice_index_or numbers k 0)) → ((k : ℕ) → length numbers ≤ k → P k number) → (k : ℕ) → k < length (numbers ++ replicate count number) → P k (slice_index_or (numbers ++ replicate count number) k 0)
-filled P [] count number old new k lt = subst (P k) (sym (get_or-replicate count k number 0 (omega (arith, lt, length-replicate count number)))) (new k (omega arith))
+filled : (P : ℕ → ℕ → Type 0) (numbers : List ℕ) (count number : ℕ)
+    → ((k : ℕ) → k < length numbers → P k (slice_index_or numbers k 0)) → ((k : ℕ) → length numbers ≤ k → P k number)
+    → (k : ℕ) → k < length (numbers ++ replicate count number)
+    → P k (slice_index_or (numbers ++ replicate count number) k 0)
+filled P [] count number old new k lt = subst (P k)
+    (sym (get_or-replicate count k number 0 (omega (arith, lt, length-replicate count number)))) (new k (omega arith))
 filled P (x ∷ numbers) count number old new zero lt = old 0 (omega arith)
 filled P (x ∷ numbers) count number old new (suc k) lt =
-    filled (λ j. P (suc j)) numbers count number (λ j b. old (suc j) (omega (arith, b))) (λ j b. new (suc j) (omega (arith, b))) k (omega (arith, lt))
+    filled (λ j. P (suc j)) numbers count number (λ j b. old (suc j) (omega (arith, b)))
+    (λ j b. new (suc j) (omega (arith, b))) k (omega (arith, lt))
 
-pub skip_more : (ex : Exercise) (i : ℕ) (menu : List (List Cell)) (numbers : List ℕ) (count number : ℕ) → SkipDead ex i menu numbers → number ≤ length menu → AreAlwaysDead ex i menu (length numbers) number → SkipDead ex i menu (numbers ++ replicate count number)
+pub skip_more : (ex : Exercise) (i : ℕ) (menu : List (List Cell)) (numbers : List ℕ) (count number : ℕ)
+    → SkipDead ex i menu numbers → number ≤ length menu → AreAlwaysDead ex i menu (length numbers) number
+    → SkipDead ex i menu (numbers ++ replicate count number)
 skip_more ex i menu numbers count number skip small dead = record {
   within = filled (λ k to. to ≤ length menu) numbers count number skip.within (λ k le. small);
-  dead = filled (λ k to. AreAlwaysDead ex i menu k to) numbers count number skip.dead (λ k le j from lt. dead j (omega (arith, le, from)) lt);
+  dead = filled (λ k to. AreAlwaysDead ex i menu k to) numbers count number skip.dead
+      (λ k le j from lt. dead j (omega (arith, le, from)) lt);
 }

@@ -29,7 +29,8 @@ same_as_itself (Hold p) = same_pitch-from_equal p p refl
 same_as_itself (Start p) = same_pitch-from_equal p p refl
 
 cells-Decides : (c d : Cell) → Decides (ghosts.eq c d) (c ≡ d)
-cells-Decides c d = (λ h. same_from_test c d (sym (by_pitch c d) ∙ h), λ e. by_pitch c d ∙ sym (ap (same_cell c) e) ∙ same_as_itself c)
+cells-Decides c d =
+    (λ h. same_from_test c d (sym (by_pitch c d) ∙ h), λ e. by_pitch c d ∙ sym (ap (same_cell c) e) ∙ same_as_itself c)
 
 columns-Decides : (c d : ArrayVec Cell) → Decides (pointwise ghosts.eq c.items d.items) (c ≡ d)
 columns-Decides c d =
@@ -37,9 +38,12 @@ columns-Decides c d =
     (λ h. ap (λ (items : List Cell). record { items = items }) (test.0 h), λ e. test.1 (ap (λ col. col.items) e))
 
 -- whether two menus have the same columns
-pub menus-Decides : (columns others : List (ArrayVec Cell)) (r : Bool) → r ≡ pointwise (λ (c d : ArrayVec Cell). pointwise ghosts.eq c.items d.items) columns others → Decides r (columns ≡ others)
+pub menus-Decides : (columns others : List (ArrayVec Cell)) (r : Bool) → r
+    ≡ pointwise (λ (c d : ArrayVec Cell). pointwise ghosts.eq c.items d.items) columns others
+    → Decides r (columns ≡ others)
 menus-Decides columns others r e = slice_eq-Decides columns-Decides columns others r e
 
 -- whether two lists of numbers are the same
-pub numbers-Decides : (numbers others : List ℕ) (r : Bool) → r ≡ pointwise (λ n m. n == m) numbers others → Decides r (numbers ≡ others)
+pub numbers-Decides : (numbers others : List ℕ) (r : Bool) → r ≡ pointwise (λ n m. n == m) numbers others
+    → Decides r (numbers ≡ others)
 numbers-Decides numbers others r e = slice_eq-Decides Decides-eqb numbers others r e

@@ -23,12 +23,15 @@ columns_on-at ex j (k ∷ path) zero h =
     ap (λ n. slice_index_or (menu_of ex n) k []) e
 columns_on-at ex j (k ∷ path) (suc i) h =
     let e : suc j + i ≡ j + suc i = omega arith in
-    columns_on-at ex (suc j) path i (omega arith) ∙ ap (λ n. slice_index_or (menu_of ex n) (slice_index_or path i 0) []) e
+    columns_on-at ex (suc j) path i (omega arith)
+    ∙ ap (λ n. slice_index_or (menu_of ex n) (slice_index_or path i 0) []) e
 
-columns_on-take : (ex : Exercise) (j i : ℕ) (path : List ℕ) → columns_on ex j (take i path) ≡ take i (columns_on ex j path)
+columns_on-take : (ex : Exercise) (j i : ℕ) (path : List ℕ) → columns_on ex j (take i path)
+    ≡ take i (columns_on ex j path)
 columns_on-take ex j zero path = refl
 columns_on-take ex j (suc i) [] = refl
-columns_on-take ex j (suc i) (k ∷ path) = ap (λ cols. slice_index_or (menu_of ex j) k [] ∷ cols) (columns_on-take ex (suc j) i path)
+columns_on-take ex j (suc i) (k ∷ path) =
+    ap (λ cols. slice_index_or (menu_of ex j) k [] ∷ cols) (columns_on-take ex (suc j) i path)
 
 -- a column has a cell for each voice, and follows the ones before it
 pub record Fits (ex : Exercise) (before : List (List Cell)) (col : List Cell) : Type 0 where
@@ -50,7 +53,14 @@ column_fits ex path h i within =
     let all : take (length s) s ≡ s = take_all (length s) s (omega arith) in
     let follows = follows-at s (length s) (omega arith) (rw all live.prefix.follows) i (omega (arith, size, within)) in
     record {
-      room = rw (← before) (omega (arith, length-take-le i s (omega (arith, size, within)), size, live.prefix.few, within));
+      room = rw (← before) (omega (
+        arith,
+        length-take-le i s (omega (arith, size, within)),
+        size,
+        live.prefix.few,
+        within,
+      ));
       full = subst (λ c. length c ≡ ex.voices) col (live.prefix.menus i (omega (arith, size, within))).full;
-      follows = subst (λ c. ColumnFollows (newest_column (reverse (prefix_at ex (take i path)))) c) col (rw before at follows);
+      follows = subst (λ c. ColumnFollows (newest_column (reverse (prefix_at ex (take i path)))) c) col
+          (rw before at follows);
     }

@@ -26,21 +26,26 @@ module _ (ex : Exercise) (sheet : Sheet) (node : Node) (path : List ℕ) (at : I
   column_of_menu columns k is =
       ap (λ cols. slice_index_or cols k []) (is ∙ ap (menu_of ex) (as_long ex sheet node path at))
 
-  pub stray_no_better : (k : ℕ) (best : Option ℕ) (before col : List Cell) → before ≡ newest_column (reverse (prefix_at ex path)) → col ≡ column_at ex path k
+  pub stray_no_better : (k : ℕ) (best : Option ℕ) (before col : List Cell) → before
+      ≡ newest_column (reverse (prefix_at ex path)) → col ≡ column_at ex path k
       → StraysOrDies ex node.state.newest.len before col → IsNoBetter ex sheet path best k
   stray_no_better k best before col e same stray =
       no_better_if_dead ex path k at.alive sheet best
       (λ follows.
       subst (λ (c : List Cell). list_any (newly_broken ex (prefix_at ex path) c) rules_read ≡ true) same
-      (stray (subst (λ (b : List Cell). ColumnFollows b col) (sym e) (subst (λ (c : List Cell). ColumnFollows (newest_column (reverse (prefix_at ex path))) c) (sym same) follows))
+      (stray (subst (λ (b : List Cell). ColumnFollows b col) (sym e)
+      (subst (λ (c : List Cell). ColumnFollows (newest_column (reverse (prefix_at ex path))) c) (sym same) follows))
       (prefix_at ex path) (sym at.state.newest.count)))
 
   pub pruned_no_better : (k : ℕ) (best limit : Option ℕ) (col : List Cell) → col ≡ column_at ex path k
-      → ((cost : ℕ) → IsSomeAnd limit (λ most. most ≤ cost) → IsSomeAnd best (λ value. value ≤ node.paid + node.least + cost))
+      → ((cost : ℕ) → IsSomeAnd limit (λ most. most ≤ cost)
+      → IsSomeAnd best (λ value. value ≤ node.paid + node.least + cost))
       → IsPruned ex sheet (prefix_at ex path) limit col → IsNoBetter ex sheet path best k
   pruned_no_better k best limit col same dear (inl broken) =
       no_better_if_dead ex path k at.alive sheet best
-      (λ follows. subst (λ (c : List Cell). list_any (newly_broken ex (prefix_at ex path) c) rules_read ≡ true) same broken)
+      (λ follows. subst (λ (c : List Cell). list_any (newly_broken ex (prefix_at ex path) c) rules_read ≡ true) same
+      broken)
   pruned_no_better k best limit col same dear (inr costs) =
       no_better_if_costly ex path k at.alive sheet best
-      (some_lower best _ _ (omega (arith, at.paid, at.least, ap (newly_paid ex sheet (prefix_at ex path)) same)) (dear (newly_paid ex sheet (prefix_at ex path) col) costs))
+      (some_lower best _ _ (omega (arith, at.paid, at.least, ap (newly_paid ex sheet (prefix_at ex path)) same))
+      (dear (newly_paid ex sheet (prefix_at ex path) col) costs))

@@ -26,7 +26,8 @@ same_cell (Start p) (Start q) = same_pitch p q
 
 -- in each column a voice has the cell that it has in the first column of the column's block; blocks have this length
 abbrev pub KeepsCell : List (List Cell) → ℕ → ℕ → Type 0
-KeepsCell menu v size = (k : ℕ) → k < length menu → cell_in (slice_index_or menu k []) v ≡ cell_in (slice_index_or menu (k / size * size) []) v
+KeepsCell menu v size = (k : ℕ) → k < length menu → cell_in (slice_index_or menu k []) v
+    ≡ cell_in (slice_index_or menu (k / size * size) []) v
 
 -- each cell of each column is a hold
 abbrev pub AreOnlyHolds : List (ArrayVec Cell) → Type 0
@@ -77,7 +78,8 @@ pub record IsNext (menu : List (List Cell)) (before : List Cell) (from next : �
 pub record Agree (menu : List (List Cell)) (voices k end : ℕ) : Type 0 where
   pub onward : k < end
   pub within : end ≤ length menu
-  pub cells : (j : ℕ) → k ≤ j → j < end → take voices (slice_index_or menu j []) ≡ take voices (slice_index_or menu k [])
+  pub cells : (j : ℕ) → k ≤ j → j < end → take voices (slice_index_or menu j [])
+      ≡ take voices (slice_index_or menu k [])
 
 -- from one number up to another all columns of a menu are dead after every prefix
 abbrev pub AreAlwaysDead : Exercise → ℕ → List (List Cell) → ℕ → ℕ → Type 0
@@ -110,4 +112,5 @@ KeepNumbers menus more =
 -- no menu is added where the last one is made of these columns and numbers
 abbrev pub KeepsLast : List BlockMenu → List BlockMenu → List (ArrayVec Cell) → List ℕ → Type 0
 KeepsLast menus more cols numbers =
-    (d : BlockMenu) → 0 < length menus → IsMadeOf (slice_index_or menus (length menus - 1) d) cols numbers → more ≡ menus
+    (d : BlockMenu) → 0 < length menus → IsMadeOf (slice_index_or menus (length menus - 1) d) cols numbers → more
+    ≡ menus

@@ -31,11 +31,13 @@ module _ (ex : Exercise) (sheet : Sheet) where
   unfolding floor_of
   floor_parts p floor h = at (rest_of ex sheet p) refl h
     where
-      at : (o : Option ℕ) → rest_of ex sheet p ≡ o → option_map (λ rest. paid ex sheet p + least_of ex sheet p + rest) o ≡ Some floor → FloorParts ex sheet p floor
+      at : (o : Option ℕ) → rest_of ex sheet p ≡ o → option_map (λ rest. paid ex sheet p + least_of ex sheet p + rest) o
+          ≡ Some floor → FloorParts ex sheet p floor
       at None e h = cc
       at (Some rest) e h = record { rest = rest; is_rest = e; sum = cc }
 
-  pub floor_of_rest : (p : List (List Cell)) (rest : ℕ) → rest_of ex sheet p ≡ Some rest → floor_of ex sheet p ≡ Some (paid ex sheet p + least_of ex sheet p + rest)
+  pub floor_of_rest : (p : List (List Cell)) (rest : ℕ) → rest_of ex sheet p ≡ Some rest → floor_of ex sheet p
+      ≡ Some (paid ex sheet p + least_of ex sheet p + rest)
   unfolding floor_of
   floor_of_rest p rest h = ap (option_map (λ rest. paid ex sheet p + least_of ex sheet p + rest)) h
 
@@ -47,7 +49,8 @@ module _ (ex : Exercise) (sheet : Sheet) where
   unfolding floor_of
   floor_if_rest p h = mapped_if_some (λ rest. paid ex sheet p + least_of ex sheet p + rest) (rest_of ex sheet p) h
 
-  pub floor_grows : (p : List (List Cell)) (col : List Cell) → ex.voices ≤ 4 → ex.cantus_voice < ex.voices → IsAlive ex (p ++ col ∷ []) → (floor : ℕ)
+  pub floor_grows : (p : List (List Cell)) (col : List Cell) → ex.voices ≤ 4 → ex.cantus_voice < ex.voices
+      → IsAlive ex (p ++ col ∷ []) → (floor : ℕ)
       → floor_of ex sheet (p ++ col ∷ []) ≡ Some floor → IsSomeAnd (floor_of ex sheet p) (λ own. own ≤ floor)
   floor_grows p col few there alive floor h =
       let live : IsLive ex sheet (p ++ col ∷ []) = record {
@@ -57,8 +60,10 @@ module _ (ex : Exercise) (sheet : Sheet) where
       } in
       grows.floor_grows ex few there sheet p col live (least_grows ex sheet p col alive.prefix) floor h
 
-  pub floor_at_end : (s : List (List Cell)) → ex.voices ≤ 4 → IsSetting ex s → IsAlive ex s → floor_of ex sheet s ≡ Some (penalty_of ex sheet s)
+  pub floor_at_end : (s : List (List Cell)) → ex.voices ≤ 4 → IsSetting ex s → IsAlive ex s → floor_of ex sheet s
+      ≡ Some (penalty_of ex sheet s)
   floor_at_end s few setting alive =
-      let sum : paid ex sheet s + least_of ex sheet s ≡ penalty_of ex sheet s = paid_and_least_at_end ex few sheet s setting alive.unbroken in
+      let sum : paid ex sheet s + least_of ex sheet s
+      ≡ penalty_of ex sheet s = paid_and_least_at_end ex few sheet s setting alive.unbroken in
       let all : paid ex sheet s + least_of ex sheet s + 0 ≡ penalty_of ex sheet s = omega (arith, sum) in
       floor_of_rest s 0 (grows.rest_at_end ex sheet s setting.whole) ∙ ap Some all

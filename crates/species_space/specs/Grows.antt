@@ -32,19 +32,25 @@ pub live_value : (ex : Exercise) (sheet : Sheet) (path : List ℕ) (value : ℕ)
 unfolding live_at
 live_value ex sheet path value h = chosen (is_alive_path ex path) (floor_of ex sheet (prefix_at ex path)) value h
 
-pub live_some : (ex : Exercise) (sheet : Sheet) (path : List ℕ) → is_alive_path ex path ≡ true → live_at ex sheet path ≡ floor_of ex sheet (prefix_at ex path)
+pub live_some : (ex : Exercise) (sheet : Sheet) (path : List ℕ) → is_alive_path ex path ≡ true → live_at ex sheet path
+    ≡ floor_of ex sheet (prefix_at ex path)
 unfolding live_at
 live_some ex sheet path h = ap (λ b. if b then floor_of ex sheet (prefix_at ex path) else None) h
 
-pub live_none : (ex : Exercise) (sheet : Sheet) (path : List ℕ) → is_alive_path ex path ≡ false → live_at ex sheet path ≡ None
+pub live_none : (ex : Exercise) (sheet : Sheet) (path : List ℕ) → is_alive_path ex path ≡ false → live_at ex sheet path
+    ≡ None
 unfolding live_at
 live_none ex sheet path h = ap (λ b. if b then floor_of ex sheet (prefix_at ex path) else None) h
 
 pub goes_on_parts : (ex : Exercise) (path : List ℕ) (k : ℕ) → goes_on ex path k ≡ true → GoesOn ex path k
 goes_on_parts ex path k h = five (nat_lt (length path) (columns_in ex)) (nat_lt k (width_at ex path)) _ _ h refl refl
   where
-    five : (a b c d : Bool) → (a && b && c && d) ≡ true → nat_lt (length path) (columns_in ex) ≡ a → nat_lt k (width_at ex path) ≡ b → GoesOn ex path k
-    five true true c d h e f = record { above = below_from_test (length path) (columns_in ex) e; within = below_from_test k (width_at ex path) f }
+    five : (a b c d : Bool) → (a && b && c && d) ≡ true → nat_lt (length path) (columns_in ex) ≡ a
+        → nat_lt k (width_at ex path) ≡ b → GoesOn ex path k
+    five true true c d h e f = record {
+      above = below_from_test (length path) (columns_in ex) e;
+      within = below_from_test k (width_at ex path) f;
+    }
     five true false c d h e f = cc
     five false b c d h e f = cc
 
@@ -54,11 +60,13 @@ four_at_most n h = grind (arith, nat_tests)
 -- an exercise with an alive path has at most four voices, one of which has the cantus
 at_most_four : (ex : Exercise) (path : List ℕ) → is_alive_path ex path ≡ true → ex.voices ≤ 4
 at_most_four ex path h =
-    four_at_most ex.voices (first_true (nat_le ex.voices 4) (nat_lt ex.cantus_voice ex.voices) (alive_parts ex path h).voices)
+    four_at_most ex.voices (first_true (nat_le ex.voices 4) (nat_lt ex.cantus_voice ex.voices)
+    (alive_parts ex path h).voices)
 
 cantus_among : (ex : Exercise) (path : List ℕ) → is_alive_path ex path ≡ true → ex.cantus_voice < ex.voices
 cantus_among ex path h =
-    below_from_test ex.cantus_voice ex.voices (second_true (nat_le ex.voices 4) (nat_lt ex.cantus_voice ex.voices) (alive_parts ex path h).voices)
+    below_from_test ex.cantus_voice ex.voices
+    (second_true (nat_le ex.voices 4) (nat_lt ex.cantus_voice ex.voices) (alive_parts ex path h).voices)
 
 -- the parent of a live path is live, and its floor is no higher
 pub paths_grow : (ex : Exercise) (sheet : Sheet) → FloorsGrow (live_at ex sheet) (width_at ex) (columns_in ex)
@@ -67,13 +75,17 @@ paths_grow ex sheet path k floor h =
     let before = alive_parent ex path k here.0 in
     let steps = goes_on_parts ex path k (sym (alive_goes_on ex path k before) ∙ here.0) in
     let A : List (List Cell) → Type 0 = λ p. IsAlive ex p in
-    let alive = subst A (prefix_at-append ex path k) (prefix_is_alive ex (menus_are_exact ex) (path ++ k ∷ []) here.0) in
-    let grown = floor_grows ex sheet (prefix_at ex path) (column_at ex path k) (at_most_four ex path before) (cantus_among ex path before) alive floor
+    let alive = subst A (prefix_at-append ex path k) (prefix_is_alive ex (menus_are_exact ex) (path ++ k ∷ []) here.0)
+    in
+    let grown = floor_grows ex sheet (prefix_at ex path) (column_at ex path k) (at_most_four ex path before)
+    (cantus_among ex path before) alive floor
     (sym (ap (floor_of ex sheet) (prefix_at-append ex path k)) ∙ here.1) in
     parent steps before (floor_of ex sheet (prefix_at ex path)) refl grown
   where
-    parent : GoesOn ex path k → is_alive_path ex path ≡ true → (own : Option ℕ) → floor_of ex sheet (prefix_at ex path) ≡ own
-        → IsSomeAnd own (λ value. value ≤ floor) → IsParent (live_at ex sheet) (width_at ex) (columns_in ex) path k floor
+    parent : GoesOn ex path k → is_alive_path ex path ≡ true → (own : Option ℕ) → floor_of ex sheet (prefix_at ex path)
+        ≡ own
+        → IsSomeAnd own (λ value. value ≤ floor)
+        → IsParent (live_at ex sheet) (width_at ex) (columns_in ex) path k floor
     parent steps before None e low = absurd low
     parent steps before (Some own) e low = record {
       own_floor = own;

@@ -13,7 +13,8 @@ use Rattle.species_space.specs.Paths.{prefix_at}
 
 -- the load of the least penalty, or with no lawful setting the number of all live prefixes, is above the budget
 pub record IsOverBudget (ex : Exercise) (sheet : Sheet) (budget : ℕ) : Type 0 where
-  pub load : (s : List (List Cell)) → IsBest ex sheet s → HasMany (IsLoaded ex sheet (penalty_of ex sheet s)) (budget + 1)
+  pub load : (s : List (List Cell)) → IsBest ex sheet s
+      → HasMany (IsLoaded ex sheet (penalty_of ex sheet s)) (budget + 1)
   pub whole : HasNoLawful ex → HasMany (IsLiveBegun ex sheet) (budget + 1)
 
 -- the least number whose load is above the budget; no lawful setting's penalty is lower

@@ -92,15 +92,19 @@ pub record IsAlivePath (ex : Exercise) (path : List ℕ) : Type 0 where
 
 -- ---- what holds of them
 
-columns_on-append : (ex : Exercise) (i : ℕ) (path : List ℕ) (k : ℕ) → columns_on ex i (path ++ k ∷ []) ≡ columns_on ex i path ++ slice_index_or (menu_of ex (i + length path)) k [] ∷ []
+columns_on-append : (ex : Exercise) (i : ℕ) (path : List ℕ) (k : ℕ) → columns_on ex i (path ++ k ∷ [])
+    ≡ columns_on ex i path ++ slice_index_or (menu_of ex (i + length path)) k [] ∷ []
 columns_on-append ex i [] k =
     let e : i ≡ i + 0 = omega arith in
     ap (λ j. slice_index_or (menu_of ex j) k [] ∷ []) e
 columns_on-append ex i (l ∷ path) k =
     let e : suc i + length path ≡ i + suc (length path) = omega arith in
-    ap (λ cols. slice_index_or (menu_of ex i) l [] ∷ cols) (columns_on-append ex (suc i) path k ∙ ap (λ j. columns_on ex (suc i) path ++ slice_index_or (menu_of ex j) k [] ∷ []) e)
+    ap (λ cols. slice_index_or (menu_of ex i) l [] ∷ cols)
+    (columns_on-append ex (suc i) path k
+    ∙ ap (λ j. columns_on ex (suc i) path ++ slice_index_or (menu_of ex j) k [] ∷ []) e)
 
-pub prefix_at-append : (ex : Exercise) (path : List ℕ) (k : ℕ) → prefix_at ex (path ++ k ∷ []) ≡ prefix_at ex path ++ column_at ex path k ∷ []
+pub prefix_at-append : (ex : Exercise) (path : List ℕ) (k : ℕ) → prefix_at ex (path ++ k ∷ []) ≡ prefix_at ex path
+    ++ column_at ex path k ∷ []
 prefix_at-append ex path k =
     let e : 0 + length path ≡ length path = omega arith in
     columns_on-append ex 0 path k ∙ ap (λ j. prefix_at ex path ++ slice_index_or (menu_of ex j) k [] ∷ []) e
@@ -113,7 +117,8 @@ and_right : (a b c : Bool) → (a && b && c) ≡ (a && (b && c))
 and_right true b c = refl
 and_right false b c = refl
 
-is_in_menus-append : (ex : Exercise) (i : ℕ) (path : List ℕ) (k : ℕ) → is_in_menus ex i (path ++ k ∷ []) ≡ (is_in_menus ex i path && nat_lt k (length (menu_of ex (i + length path))))
+is_in_menus-append : (ex : Exercise) (i : ℕ) (path : List ℕ) (k : ℕ) → is_in_menus ex i (path ++ k ∷ [])
+    ≡ (is_in_menus ex i path && nat_lt k (length (menu_of ex (i + length path))))
 is_in_menus-append ex i [] k =
     let e : i ≡ i + 0 = omega arith in
     and_true (nat_lt k (length (menu_of ex i))) ∙ ap (λ j. nat_lt k (length (menu_of ex j))) e
@@ -123,8 +128,11 @@ is_in_menus-append ex i [] k =
     and_true false = refl
 is_in_menus-append ex i (l ∷ path) k =
     let e : suc i + length path ≡ i + suc (length path) = omega arith in
-    ap (λ b. nat_lt l (length (menu_of ex i)) && b) (is_in_menus-append ex (suc i) path k ∙ ap (λ j. is_in_menus ex (suc i) path && nat_lt k (length (menu_of ex j))) e)
-    ∙ sym (and_right (nat_lt l (length (menu_of ex i))) (is_in_menus ex (suc i) path) (nat_lt k (length (menu_of ex (i + suc (length path))))))
+    ap (λ b. nat_lt l (length (menu_of ex i)) && b)
+    (is_in_menus-append ex (suc i) path k
+    ∙ ap (λ j. is_in_menus ex (suc i) path && nat_lt k (length (menu_of ex j))) e)
+    ∙ sym (and_right (nat_lt l (length (menu_of ex i))) (is_in_menus ex (suc i) path)
+    (nat_lt k (length (menu_of ex (i + suc (length path))))))
 
 pub alive_parts : (ex : Exercise) (path : List ℕ) → is_alive_path ex path ≡ true → IsAlivePath ex path
 alive_parts ex path h =
@@ -141,7 +149,8 @@ alive_parts ex path h =
       room = second_true few room two;
       menus = second_true (few && room) menus three;
       follows = second_true (few && room && menus) follows four;
-      alive = not-true (has_strict_break ex (prefix_at ex path)) (second_true (few && room && menus && follows) alive h);
+      alive =
+          not-true (has_strict_break ex (prefix_at ex path)) (second_true (few && room && menus && follows) alive h);
     }
 
 pub alive_from_parts : (ex : Exercise) (path : List ℕ) → IsAlivePath ex path → is_alive_path ex path ≡ true
@@ -161,25 +170,35 @@ four_tests false w f b = refl
 
 module _ (ex : Exercise) (path : List ℕ) (k : ℕ) where
   longer_room : nat_le (length (path ++ k ∷ [])) (columns_in ex) ≡ nat_lt (length path) (columns_in ex)
-  longer_room = ap (λ n. nat_le n (columns_in ex)) (length-append path (k ∷ [])) ∙ below_test (length path) (columns_in ex)
+  longer_room =
+      ap (λ n. nat_le n (columns_in ex)) (length-append path (k ∷ [])) ∙ below_test (length path) (columns_in ex)
 
-  longer_menus : is_in_menus ex 0 (path ++ k ∷ []) ≡ (is_in_menus ex 0 path && nat_lt k (length (menu_of ex (length path))))
+  longer_menus : is_in_menus ex 0 (path ++ k ∷ [])
+      ≡ (is_in_menus ex 0 path && nat_lt k (length (menu_of ex (length path))))
   longer_menus =
       let e : 0 + length path ≡ length path = omega arith in
       is_in_menus-append ex 0 path k ∙ ap (λ n. is_in_menus ex 0 path && nat_lt k (length (menu_of ex n))) e
 
-  longer_follows : history_follows (reverse (prefix_at ex (path ++ k ∷ []))) ≡ (column_follows (newest_column (reverse (prefix_at ex path))) (column_at ex path k) && history_follows (reverse (prefix_at ex path)))
-  longer_follows = ap (λ p. history_follows (reverse p)) (prefix_at-append ex path k) ∙ ap history_follows (reverse-push (prefix_at ex path) (column_at ex path k))
+  longer_follows : history_follows (reverse (prefix_at ex (path ++ k ∷ [])))
+      ≡ (column_follows (newest_column (reverse (prefix_at ex path))) (column_at ex path k)
+      && history_follows (reverse (prefix_at ex path)))
+  longer_follows = ap (λ p. history_follows (reverse p)) (prefix_at-append ex path k)
+      ∙ ap history_follows (reverse-push (prefix_at ex path) (column_at ex path k))
 
-  longer_breaks : has_strict_break ex (prefix_at ex (path ++ k ∷ [])) ≡ (has_strict_break ex (prefix_at ex path) || list_any (newly_broken ex (prefix_at ex path) (column_at ex path k)) rules_read)
-  longer_breaks = ap (has_strict_break ex) (prefix_at-append ex path k) ∙ strict_break_grows ex (prefix_at ex path) (column_at ex path k)
+  longer_breaks : has_strict_break ex (prefix_at ex (path ++ k ∷ []))
+      ≡ (has_strict_break ex (prefix_at ex path)
+      || list_any (newly_broken ex (prefix_at ex path) (column_at ex path k)) rules_read)
+  longer_breaks = ap (has_strict_break ex) (prefix_at-append ex path k)
+      ∙ strict_break_grows ex (prefix_at ex path) (column_at ex path k)
 
   -- after an alive path, the next is alive where it goes on
   pub alive_goes_on : is_alive_path ex path ≡ true → is_alive_path ex (path ++ k ∷ []) ≡ goes_on ex path k
   alive_goes_on h =
       let live = alive_parts ex path h in
       rw (live.voices, longer_room, longer_menus, longer_follows, longer_breaks, live.menus, live.follows, live.alive)
-      (four_tests (nat_lt (length path) (columns_in ex)) (nat_lt k (length (menu_of ex (length path)))) (column_follows (newest_column (reverse (prefix_at ex path))) (column_at ex path k)) (list_any (newly_broken ex (prefix_at ex path) (column_at ex path k)) rules_read))
+      (four_tests (nat_lt (length path) (columns_in ex)) (nat_lt k (length (menu_of ex (length path))))
+      (column_follows (newest_column (reverse (prefix_at ex path))) (column_at ex path k))
+      (list_any (newly_broken ex (prefix_at ex path) (column_at ex path k)) rules_read))
 
   -- the parent of an alive path is alive
   pub alive_parent : is_alive_path ex (path ++ k ∷ []) ≡ true → is_alive_path ex path ≡ true
@@ -188,7 +207,11 @@ module _ (ex : Exercise) (path : List ℕ) (k : ℕ) where
       alive_from_parts ex path record {
         voices = live.voices;
         room = shorter_test (length path) (columns_in ex) (sym longer_room ∙ live.room);
-        menus = first_true (is_in_menus ex 0 path) (nat_lt k (length (menu_of ex (length path)))) (sym longer_menus ∙ live.menus);
-        follows = second_true (column_follows (newest_column (reverse (prefix_at ex path))) (column_at ex path k)) (history_follows (reverse (prefix_at ex path))) (sym longer_follows ∙ live.follows);
-        alive = (or_parts (has_strict_break ex (prefix_at ex path)) (list_any (newly_broken ex (prefix_at ex path) (column_at ex path k)) rules_read) (sym longer_breaks ∙ live.alive)).0;
+        menus = first_true (is_in_menus ex 0 path) (nat_lt k (length (menu_of ex (length path))))
+            (sym longer_menus ∙ live.menus);
+        follows = second_true (column_follows (newest_column (reverse (prefix_at ex path))) (column_at ex path k))
+            (history_follows (reverse (prefix_at ex path))) (sym longer_follows ∙ live.follows);
+        alive = (or_parts (has_strict_break ex (prefix_at ex path))
+            (list_any (newly_broken ex (prefix_at ex path) (column_at ex path k)) rules_read)
+            (sym longer_breaks ∙ live.alive)).0;
       }

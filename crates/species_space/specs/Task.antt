@@ -22,9 +22,11 @@ pub record SkipsDead (ex : Exercise) (i : ℕ) (menu : BlockMenu) : Type 0 where
 -- menus in blocks, and for each of the first columns the number of its own, none of them too wide
 pub record AreMenus (ex : Exercise) (menus : List BlockMenu) (numbers : List ℕ) : Type 0 where
   pub named : (i : ℕ) → i < length numbers → slice_index_or numbers i 0 < length menus
-  pub exact : (i : ℕ) (d : BlockMenu) → i < length numbers → items_of (slice_index_or menus (slice_index_or numbers i 0) d).columns.items ≡ menu_of ex i
+  pub exact : (i : ℕ) (d : BlockMenu) → i < length numbers
+      → items_of (slice_index_or menus (slice_index_or numbers i 0) d).columns.items ≡ menu_of ex i
   pub blocks : All IsBlockMenu menus
-  pub skips : (i : ℕ) (d : BlockMenu) → i < length numbers → SkipsDead ex i (slice_index_or menus (slice_index_or numbers i 0) d)
+  pub skips : (i : ℕ) (d : BlockMenu) → i < length numbers
+      → SkipsDead ex i (slice_index_or menus (slice_index_or numbers i 0) d)
   pub narrow : (i : ℕ) → i < length numbers → length (menu_of ex i) ≤ 8192
 
 -- a valid exercise with the menus of all its columns

@@ -28,7 +28,8 @@ pub record LeafAt (ex : Exercise) (sheet : Sheet) (s : List (List Cell)) : Type 
 pub record IsCounterpoint (ex : Exercise) (sheet : Sheet) : Type 0 where
   pub prefixes_only : (path : List ℕ) → IsSome (live_at ex sheet path) → IsLive ex sheet (prefix_at ex path)
   pub each_prefix : (p : List (List Cell)) → IsLive ex sheet p → LivePath ex sheet p
-  pub floors : (path : List ℕ) (floor : ℕ) → live_at ex sheet path ≡ Some floor → floor_of ex sheet (prefix_at ex path) ≡ Some floor
+  pub floors : (path : List ℕ) (floor : ℕ) → live_at ex sheet path ≡ Some floor → floor_of ex sheet (prefix_at ex path)
+      ≡ Some floor
   pub once : (path other : List ℕ) → IsSome (live_at ex sheet path) → IsSome (live_at ex sheet other)
       → prefix_at ex path ≡ prefix_at ex other → path ≡ other
   pub order : (path other : List ℕ) → IsSome (live_at ex sheet other) → length path ≡ length other → IsBefore path other

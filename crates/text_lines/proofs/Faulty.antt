@@ -73,6 +73,7 @@ not_utf8 bytes true e none = absurd (none (IsUtf8-from_is_utf8 bytes e))
 not_utf8 bytes false e none = refl
 
 -- a text that is no UTF-8
-pub text_in-utf8 : (bytes : List ℕ) → length bytes ≤ 65536 → (IsUtf8 bytes → ⊥) → text_in bytes ≡ Err (fault_of_utf8 bytes)
+pub text_in-utf8 : (bytes : List ℕ) → length bytes ≤ 65536 → (IsUtf8 bytes → ⊥) → text_in bytes
+    ≡ Err (fault_of_utf8 bytes)
 unfolding text_in
 text_in-utf8 bytes short none = rw (le-ltb 65536 (length bytes) short, not_utf8 bytes (is_utf8 bytes) refl none) refl

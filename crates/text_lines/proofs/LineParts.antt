@@ -9,7 +9,8 @@ kept : (number : ℕ) (line : List ℕ) (others : List (List ℕ)) → is_skippe
 kept number line others e = rw e refl
 
 -- a line that isn't skipped is the next one
-pub line_found : (after n n' : ℕ) (rest rest' line behind : List ℕ) → numbered n (lines rest) ≡ numbered n' (lines rest')
+pub line_found : (after n n' : ℕ) (rest rest' line behind : List ℕ) → numbered n (lines rest)
+    ≡ numbered n' (lines rest')
     → lines rest ≡ line ∷ lines behind → is_skipped line ≡ false
     → Some (line_words n line, record { after = after; lines = lines_from (n + 1) behind })
     ≡ first_line (record { after = after; lines = lines_from n' rest' })

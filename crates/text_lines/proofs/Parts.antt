@@ -70,7 +70,8 @@ after_blank line column x xs e =
     ∙ ap (λ c. placed line c (slice_split is_blank xs)) (omega arith)
 
 -- without such a byte there is no word
-pub no_words : (line column : ℕ) (xs : List ℕ) → length xs ≤ position_or_len is_inked xs → words_from line column xs ≡ []
+pub no_words : (line column : ℕ) (xs : List ℕ) → length xs ≤ position_or_len is_inked xs → words_from line column xs
+    ≡ []
 unfolding words_from
 no_words line column [] h = refl
 no_words line column (x ∷ xs) h =
@@ -158,15 +159,18 @@ pub beyond : (p : ℕ → Bool) (xs : List ℕ) → position p xs ≡ None → l
 beyond p xs h = missing (position_or_len p xs) (length xs) _ refl h
 
 -- what is found is the first place
-pub at_first : (p : ℕ → Bool) (xs : List ℕ) (i : ℕ) → position p xs ≡ Some i → (position_or_len p xs ≡ i) × (i < length xs)
+pub at_first : (p : ℕ → Bool) (xs : List ℕ) (i : ℕ) → position p xs ≡ Some i → (position_or_len p xs ≡ i)
+    × (i < length xs)
 at_first p xs i h =
     let at = found (position_or_len p xs) (length xs) _ i refl h in
     (at.0, omega arith)
 
-inked_end : (k : ℕ) (xs : List ℕ) → position_or_len is_blank xs ≡ k → 0 < length xs → is_inked (get_or xs 0 0) ≡ true → 0 < k
+inked_end : (k : ℕ) (xs : List ℕ) → position_or_len is_blank xs ≡ k → 0 < length xs → is_inked (get_or xs 0 0) ≡ true
+    → 0 < k
 inked_end zero xs e some inked =
     let blank : is_blank (get_or xs 0 0) ≡ true =
-    not-false _ (subst (λ n. not (is_blank (get_or xs n 0)) ≡ false) e (prefix_len_stops (λ b. not (is_blank b)) xs 0 (omega (arith, e)))) in
+    not-false _ (subst (λ n. not (is_blank (get_or xs n 0)) ≡ false) e
+    (prefix_len_stops (λ b. not (is_blank b)) xs 0 (omega (arith, e)))) in
     absurd (grind (arith, blank, inked))
 inked_end (suc k) xs e some inked = omega arith
 
@@ -180,18 +184,25 @@ first-some at w ws e = rw e refl
 
 -- what is left of a line, as the program keeps it
 abbrev pub left : ℕ → ℕ → List ℕ → LineWords
-left line column rest = record { line = line; past = column; end = column + length rest; words = words_from line column rest }
+left line column rest =
+    record { line = line; past = column; end = column + length rest; words = words_from line column rest }
 
 -- the first word of what is left, and what is left behind it
-pub word_found : (line column start : ℕ) (rest tail : List ℕ) (k : ℕ) → position is_inked rest ≡ Some start → tail ≡ drop start rest
+pub word_found : (line column start : ℕ) (rest tail : List ℕ) (k : ℕ) → position is_inked rest ≡ Some start → tail
+    ≡ drop start rest
     → k ≡ position_or_len is_blank tail
-    → Some (record { line = line; column = column + start; text = take k tail }, left line (column + start + k) (drop k tail))
+    → Some (
+      record { line = line; column = column + start; text = take k tail },
+      left line (column + start + k)
+          (drop k tail),
+    )
     ≡ first_word (left line column rest)
 word_found line column start rest tail k at t e =
     let here = position-Some is_inked rest start 0 at in
     let first = at_first is_inked rest start at in
     let long : length tail ≡ length rest - start = ap length t ∙ length-drop start rest in
-    let inked : is_inked (get_or tail 0 0) ≡ true = rw (t, get_or-drop start rest 0 0) (ap (λ n. is_inked (get_or rest n 0)) (omega arith) ∙ here.1) in
+    let inked : is_inked (get_or tail 0 0)
+    ≡ true = rw (t, get_or-drop start rest 0 0) (ap (λ n. is_inked (get_or rest n 0)) (omega arith) ∙ here.1) in
     let some : 0 < k = inked_end k tail (sym e) (omega arith) inked in
     let c : ℕ = column + start + k in
     let w : PlacedWord = record { line = line; column = column + start; text = take k tail } in

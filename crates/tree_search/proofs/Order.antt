@@ -14,14 +14,17 @@ IsBefore-later [] (x ∷ path) from to (inr same) = absurd same.1
 IsBefore-later (a ∷ start) [] from to h = inl tt
 IsBefore-later (a ∷ start) (x ∷ path) from to (inl below) = inl (inl below)
 IsBefore-later (a ∷ start) (x ∷ path) from to (inr same) =
-    ⊎_elim (λ before. inl (inr (same.0, before))) (λ by. inr (by.0, by.1, by.2, (by.3.0, ap₂ (λ y ys. y ∷ ys) same.0 by.3.1)))
+    ⊎_elim (λ before. inl (inr (same.0, before)))
+    (λ by. inr (by.0, by.1, by.2, (by.3.0, ap₂ (λ y ys. y ∷ ys) same.0 by.3.1)))
     (IsBefore-later start path from to same.1)
 
 -- before the next child: before this one, or from it
-pub IsBefore-next : (start path : List ℕ) (k : ℕ) → IsBefore path (start ++ (k + 1) ∷ []) → IsBefore path (start ++ k ∷ []) ⊎ BeginsWith (start ++ k ∷ []) path
+pub IsBefore-next : (start path : List ℕ) (k : ℕ) → IsBefore path (start ++ (k + 1) ∷ [])
+    → IsBefore path (start ++ k ∷ []) ⊎ BeginsWith (start ++ k ∷ []) path
 IsBefore-next start path k h =
     ⊎_elim (λ before. inl before)
-    (λ by. let same : by.0 ≡ k = omega (arith, by.1, by.2) in inr (subst (λ (j : ℕ). BeginsWith (start ++ j ∷ []) path) same by.3))
+    (λ by. let same : by.0 ≡ k = omega (arith, by.1, by.2) in
+    inr (subst (λ (j : ℕ). BeginsWith (start ++ j ∷ []) path) same by.3))
     (IsBefore-later start path k (k + 1) h)
 
 -- what is from a child is before each later one
@@ -29,7 +32,8 @@ child_before : (start rest : List ℕ) (j k : ℕ) → j < k → IsBefore ((star
 child_before [] rest j k less = inl less
 child_before (a ∷ start) rest j k less = inr (refl, child_before start rest j k less)
 
-pub IsBefore-from : (start path : List ℕ) (j k : ℕ) → j < k → BeginsWith (start ++ j ∷ []) path → IsBefore path (start ++ k ∷ [])
+pub IsBefore-from : (start path : List ℕ) (j k : ℕ) → j < k → BeginsWith (start ++ j ∷ []) path
+    → IsBefore path (start ++ k ∷ [])
 IsBefore-from start path j k less from =
     subst (λ (p : List ℕ). IsBefore p (start ++ k ∷ [])) (sym from.1) (child_before start from.0 j k less)
 
@@ -41,17 +45,20 @@ IsBefore-below (a ∷ start) rest (x ∷ path) (inl less) = inl less
 IsBefore-below (a ∷ start) rest (x ∷ path) (inr same) = inr (same.0, IsBefore-below start rest path same.1)
 
 -- before the first child: before the parent, or no longer than it
-pub IsBefore-first : (start path : List ℕ) → IsBefore path (start ++ 0 ∷ []) → IsBefore path start ⊎ (length path ≤ length start)
+pub IsBefore-first : (start path : List ℕ) → IsBefore path (start ++ 0 ∷ []) → IsBefore path start
+    ⊎ (length path ≤ length start)
 IsBefore-first [] [] h = inr (omega arith)
 IsBefore-first [] (x ∷ path) (inl less) = absurd (omega arith)
 IsBefore-first [] (x ∷ path) (inr same) = absurd same.1
 IsBefore-first (a ∷ start) [] h = inl tt
 IsBefore-first (a ∷ start) (x ∷ path) (inl less) = inl (inl less)
 IsBefore-first (a ∷ start) (x ∷ path) (inr same) =
-    ⊎_elim (λ before. inl (inr (same.0, before))) (λ short. inr (omega (arith, short))) (IsBefore-first start path same.1)
+    ⊎_elim (λ before. inl (inr (same.0, before))) (λ short. inr (omega (arith, short)))
+    (IsBefore-first start path same.1)
 
 -- before a child: before each later one
-pub IsBefore-on : (start path : List ℕ) (from to : ℕ) → from ≤ to → IsBefore path (start ++ from ∷ []) → IsBefore path (start ++ to ∷ [])
+pub IsBefore-on : (start path : List ℕ) (from to : ℕ) → from ≤ to → IsBefore path (start ++ from ∷ [])
+    → IsBefore path (start ++ to ∷ [])
 IsBefore-on [] [] from to le h = tt
 IsBefore-on [] (x ∷ path) from to le (inl less) = inl (omega arith)
 IsBefore-on [] (x ∷ path) from to le (inr same) = absurd same.1
@@ -60,7 +67,8 @@ IsBefore-on (a ∷ start) (x ∷ path) from to le (inl less) = inl less
 IsBefore-on (a ∷ start) (x ∷ path) from to le (inr same) = inr (same.0, IsBefore-on start path from to le same.1)
 
 -- before what is below a child: before the next child
-pub IsBefore-up : (start rest path : List ℕ) (k : ℕ) → IsBefore path ((start ++ k ∷ []) ++ rest) → IsBefore path (start ++ (k + 1) ∷ [])
+pub IsBefore-up : (start rest path : List ℕ) (k : ℕ) → IsBefore path ((start ++ k ∷ []) ++ rest)
+    → IsBefore path (start ++ (k + 1) ∷ [])
 IsBefore-up [] rest [] k h = tt
 IsBefore-up [] rest (x ∷ path) k (inl less) = inl (omega arith)
 IsBefore-up [] rest (x ∷ path) k (inr same) = inl (omega (arith, same.0))

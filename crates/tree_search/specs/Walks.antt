@@ -13,13 +13,15 @@ IsOpenedFrom live height start path = IsOpened live height path × BeginsWith st
 
 -- an opened path below this one, by one of its first children
 abbrev pub IsOpenedBelow : (List ℕ → Option ℕ) → ℕ → List ℕ → ℕ → List ℕ → Type 0
-IsOpenedBelow live height start count path = IsOpened live height path × ((k : ℕ) × (k < count) × BeginsWith (start ++ k ∷ []) path)
+IsOpenedBelow live height start count path =
+    IsOpened live height path × ((k : ℕ) × (k < count) × BeginsWith (start ++ k ∷ []) path)
 
 -- a leaf of least value of those before a path, and of these the first
 pub record IsBest (live : List ℕ → Option ℕ) (height : ℕ) (bound path : List ℕ) (value : ℕ) : Type 0 where
   pub leaf : IsLeaf live height path value
   pub before : IsBefore path bound
-  pub least : (other : List ℕ) (its_value : ℕ) → IsLeaf live height other its_value → IsBefore other bound → value ≤ its_value
+  pub least : (other : List ℕ) (its_value : ℕ) → IsLeaf live height other its_value → IsBefore other bound
+      → value ≤ its_value
   pub first : (other : List ℕ) → IsLeaf live height other value → IsBefore other path → ⊥
 
 -- the path and value are the best of the leaves before a path, or there is none of them

@@ -5,4 +5,6 @@ use Rattle.fux_judge.specs.Rules.{all_sets, is_broken}
 use Rattle.cert_check.proofs.head.breaks_at.Given as goal
 
 abbrev pub invariant-loop-rule : goal.invariant-loop-rule
-invariant-loop-rule l = list_any (λ rule. list_any (λ voices. is_broken rule l.ex voices l.score.columns l.i && is_strict_at rule l.ex voices l.i) all_sets) (take l.rule-index l.rule-items) ≡ false
+invariant-loop-rule l = list_any (λ rule. list_any
+    (λ voices. is_broken rule l.ex voices l.score.columns l.i && is_strict_at rule l.ex voices l.i) all_sets)
+    (take l.rule-index l.rule-items) ≡ false

@@ -5,4 +5,5 @@ use Rattle.fux_judge.specs.Rules.{is_broken}
 use Rattle.cert_check.proofs.head.breaks_for_some.Given as goal
 
 abbrev pub invariant-loop-bits : goal.invariant-loop-bits
-invariant-loop-bits l = list_any (λ voices. is_broken l.rule l.ex voices l.score.columns l.i && is_strict_at l.rule l.ex voices l.i) (take l.bits-index l.bits-items) ≡ false
+invariant-loop-bits l = list_any (λ voices. is_broken l.rule l.ex voices l.score.columns l.i
+    && is_strict_at l.rule l.ex voices l.i) (take l.bits-index l.bits-items) ≡ false

@@ -13,7 +13,9 @@ loop-i-preserved c =
     record {
       menus =
           below_more (λ j. IsInMenu ex j (slice_index_or s j [])) i c.loop-i.invariant.menus
-          (subst (λ (col : List Cell). IsInMenu ex i col) c.column.ensures.value (c.is_outside_menu.ensures.within c.if-is_outside_menu.false));
+          (subst (λ (col : List Cell). IsInMenu ex i col) c.column.ensures.value
+          (c.is_outside_menu.ensures.within c.if-is_outside_menu.false));
       unbroken =
-          below_more (λ j. breaks_strictly ex s j ≡ false) i c.loop-i.invariant.unbroken (sym c.breaks_at.ensures ∙ c.if-breaks_at.false);
+          below_more (λ j. breaks_strictly ex s j ≡ false) i c.loop-i.invariant.unbroken
+          (sym c.breaks_at.ensures ∙ c.if-breaks_at.false);
     }

@@ -4,5 +4,6 @@ use Rattle.cert_law.proofs.law.written.Goals as goal
 
 pub returns : goal.returns
 returns c = λ holds.
-    written_is_valid c.args.ex.now c.args.sheet.now c.requires.valid.most_voices (floors_hold c.args.ex.now c.requires.valid c.args.sheet.now)
+    written_is_valid c.args.ex.now c.args.sheet.now c.requires.valid.most_voices
+    (floors_hold c.args.ex.now c.requires.valid c.args.sheet.now)
     c.args.head.now holds

@@ -15,7 +15,8 @@ returns-then-count-eq0-clause-front g c = λ file told.
     let left = length-take-le (length buf - done) (drop done buf) (omega (arith, length-drop done buf)) in
     let room : 0 < length (take (length buf - done) (drop done buf)) = omega (arith, left, c.loop-done-test.true) in
     let end : length file ≤ done = c.in_ok-count.ensures.end c.if-count-eq0.true room file still in
-    let whole = whole_front file (take done buf) (old.2 file told) (omega (arith, end, length-take-le done buf old.0)) in
+    let whole = whole_front file (take done buf) (old.2 file told) (omega (arith, end, length-take-le done buf old.0))
+    in
     take_put done (length buf - done) buf c.read_at.new.buf old.0 ∙ whole
     ∙ sym (take_all (length c.args.buf.now) file (omega (arith, end, old.0, old.1)))
 
@@ -28,7 +29,8 @@ loop-done-preserved g c =
     let count = c.in_ok-count.count in
     let left = length-take-le (length buf - done) (drop done buf) (omega (arith, length-drop done buf)) in
     let as_long : length piece ≡ length (mid_of done (length buf - done) buf) = omega (arith, c.read_at.auto.buf) in
-    let long : length (put_mid done (length buf - done) buf piece) ≡ length buf = same_len_mid done (length buf - done) buf piece as_long in
+    let long : length (put_mid done (length buf - done) buf piece)
+    ≡ length buf = same_len_mid done (length buf - done) buf piece as_long in
     let fits : count ≤ length piece = omega (arith, c.in_ok-count.ensures.fits, as_long) in (
       omega (arith, long, fits, as_long, left, old.0),
       long ∙ old.1,
@@ -39,5 +41,6 @@ loop-done-preserved g c =
       c.in_ok-count.ensures.files ∙ old.3,
       omega (arith, old.4, c.in_ok-count.ensures.faults),
       λ absent.
-          absurd (true≢false (sym (c.in_ok-count.ensures.missing (subst (λ files. IsMissing files c.args.name.now) (sym old.3) absent)))),
+          absurd (true≢false (sym (c.in_ok-count.ensures.missing
+          (subst (λ files. IsMissing files c.args.name.now) (sym old.3) absent)))),
     )

@@ -5,7 +5,8 @@ use Rattle.cert_text.proofs.heads.+digits.Goals as goal
 
 pub overflow_add-result : goal.overflow_add-result
 overflow_add-result t c =
-    let few : length (decimal (c.args.n / 10)) ≤ 20 = length-decimal-le 20 (c.args.n / 10) (omega arith) (omega arith) (omega arith) in
+    let few : length (decimal (c.args.n / 10)) ≤ 20 = length-decimal-le 20 (c.args.n / 10) (omega arith) (omega arith)
+    (omega arith) in
     omega (arith, few, c.digits.ensures)
 
 pub returns-then-n-lt10 : goal.returns-then-n-lt10

@@ -17,7 +17,8 @@ best_head-requires-clause-text c =
     (subst (RunsTo c.args.ex.now front) c.in-Ok-default-Some.field-0-1-is c.in-Ok-default-Some.ensures.1)
 
 pub returns-in-Err-clause-fault : goal.returns-in-Err-clause-fault
-returns-in-Err-clause-fault c = inr (c.in-Err.at, refl, stops-from c.args.ex.now c.args.bytes.now c.in-Err.at c.requires c.in-Err.ensures)
+returns-in-Err-clause-fault c =
+    inr (c.in-Err.at, refl, stops-from c.args.ex.now c.args.bytes.now c.in-Err.at c.requires c.in-Err.ensures)
 
 pub returns-in-Ok-default-None-clause-ok : goal.returns-in-Ok-default-None-clause-ok
 returns-in-Ok-default-None-clause-ok c =
@@ -32,12 +33,14 @@ returns-in-Ok-default-None-clause-ok c =
 
 pub returns-in-Err-clause-texts : goal.returns-in-Err-clause-texts
 returns-in-Err-clause-texts c = λ n penalty within text.
-    absurd ((stops-from c.args.ex.now c.args.bytes.now c.in-Err.at c.requires c.in-Err.ensures).unfinished n penalty within text)
+    absurd ((stops-from c.args.ex.now c.args.bytes.now c.in-Err.at c.requires c.in-Err.ensures).unfinished n penalty
+    within text)
 
 pub returns-in-Ok-default-None-clause-texts : goal.returns-in-Ok-default-None-clause-texts
 returns-in-Ok-default-None-clause-texts c = λ n penalty within text.
     let front = take c.in-Ok-default-None.used c.args.bytes.now in
-    same-head c.args.ex.now c.args.bytes.now c.in-Ok-default-None.used n None penalty c.requires c.in-Ok-default-None.ensures.0 within
+    same-head c.args.ex.now c.args.bytes.now c.in-Ok-default-None.used n None penalty c.requires
+    c.in-Ok-default-None.ensures.0 within
     (text-from c.args.ex.now front None c.requires
     (subst (RunsTo c.args.ex.now front) c.in-Ok-default-None.field-0-1-is c.in-Ok-default-None.ensures.1)) text
 

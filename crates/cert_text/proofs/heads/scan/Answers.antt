@@ -10,7 +10,8 @@ returns-in_default c = record {
   reached = c.loop-i.invariant.0;
   open_ = c.loop-i.invariant.1;
   ends =
-      λ more. run-more c.args.ex.now first_part c.loop-i.part c.args.bytes.now c.loop-i.i c.loop-i-test.true c.loop-i.invariant.0
+      λ more. run-more c.args.ex.now first_part c.loop-i.part c.args.bytes.now c.loop-i.i c.loop-i-test.true
+      c.loop-i.invariant.0
       ∙ sym c.after.ensures ∙ c.in_default.is;
 }
 
@@ -19,7 +20,8 @@ returns-then-is_whole c = (
   omega arith,
   run-more c.args.ex.now first_part c.loop-i.part c.args.bytes.now c.loop-i.i c.loop-i-test.true c.loop-i.invariant.0
       ∙ sym c.in-Some.ensures
-      ∙ ap (λ place. Some (record { penalty = c.in-Some.next.penalty; place = place })) (c.is_whole.ensures.yes c.if-is_whole.true),
+      ∙ ap (λ place. Some (record { penalty = c.in-Some.next.penalty; place = place }))
+      (c.is_whole.ensures.yes c.if-is_whole.true),
 )
 
 pub loop-i-preserved : goal.loop-i-preserved

@@ -8,4 +8,6 @@ use Rattle.cert_text.proofs.place.is_pitch.Goals as goal
 
 pub returns : goal.returns
 unfolding is_pitch pitch_named
-returns c = c.is_some.ensures ∙ ap is_some (by_name name_of pitches c.args.name.now c.parse_pitch.result all_pitches c.parse_pitch.ensures.named c.parse_pitch.ensures.every)
+returns c = c.is_some.ensures ∙ ap is_some
+    (by_name name_of pitches c.args.name.now c.parse_pitch.result all_pitches c.parse_pitch.ensures.named
+    c.parse_pitch.ensures.every)

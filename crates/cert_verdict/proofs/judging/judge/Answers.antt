@@ -34,8 +34,10 @@ loop-claim-smaller g c =
     omega (
       arith,
       counted files name c.args.checker c.loop-claim.reader c.loop-claim.checker on c.next.ensures.limit,
-      count_grows files name c.args.checker c.loop-claim.reader c.loop-claim.checker on c.in-Ok-Some.claim c.feed.new.self
-          (c.in_default.ensures.taken (unrefused files name c.args.checker c.loop-claim.reader c.loop-claim.checker on)),
+      count_grows files name c.args.checker c.loop-claim.reader c.loop-claim.checker on c.in-Ok-Some.claim
+          c.feed.new.self
+          (c.in_default.ensures.taken (unrefused files name c.args.checker c.loop-claim.reader c.loop-claim.checker
+          on)),
     )
 
 pub loop-claim-preserved : goal.loop-claim-preserved
@@ -45,10 +47,13 @@ loop-claim-preserved g c =
     let on = c.loop-claim.invariant.0 in
     let rose = Rose (g.F.Shelf.faults c.loop-claim.shelf) (g.F.Shelf.faults c.next.new.shelf) in
     let read = subst (λ (o : Option Claim). Gives files name rose on.now c.next.new.self (Ok o)) c.in-Ok-Some.field-0-is
-    (given files name c.args.checker c.loop-claim.reader c.loop-claim.checker on rose c.next.new.self (Ok c.in-Ok-Some.field-0)
+    (given files name c.args.checker c.loop-claim.reader c.loop-claim.checker on rose c.next.new.self
+    (Ok c.in-Ok-Some.field-0)
     (g.F.Shelf.files c.loop-claim.shelf) c.loop-claim.invariant.1 c.in-Ok-Some.ensures.gives) in (
-      takes_on files name c.args.checker c.loop-claim.reader c.loop-claim.checker on c.in-Ok-Some.claim c.feed.new.self c.next.new.self
-          read.0 read.1 (c.in_default.ensures.taken (unrefused files name c.args.checker c.loop-claim.reader c.loop-claim.checker on)),
+      takes_on files name c.args.checker c.loop-claim.reader c.loop-claim.checker on c.in-Ok-Some.claim c.feed.new.self
+          c.next.new.self
+          read.0 read.1 (c.in_default.ensures.taken
+          (unrefused files name c.args.checker c.loop-claim.reader c.loop-claim.checker on)),
       c.next.ensures.files ∙ c.loop-claim.invariant.1,
       omega (arith, c.loop-claim.invariant.2, c.next.ensures.faults),
     )
@@ -60,9 +65,11 @@ returns-in-Err-clause-finds g c =
     let on = c.loop-claim.invariant.0 in
     let rose = Rose (g.F.Shelf.faults c.loop-claim.shelf) (g.F.Shelf.faults c.next.new.shelf) in
     let read = subst (λ (o : Option Claim). Gives files name rose on.now c.next.new.self (Ok o)) c.in-Ok-Some.field-0-is
-    (given files name c.args.checker c.loop-claim.reader c.loop-claim.checker on rose c.next.new.self (Ok c.in-Ok-Some.field-0)
+    (given files name c.args.checker c.loop-claim.reader c.loop-claim.checker on rose c.next.new.self
+    (Ok c.in-Ok-Some.field-0)
     (g.F.Shelf.files c.loop-claim.shelf) c.loop-claim.invariant.1 c.in-Ok-Some.ensures.gives) in
-    refuses_next files name c.args.checker c.loop-claim.reader c.loop-claim.checker on c.in-Ok-Some.claim c.in-Err.refused
+    refuses_next files name c.args.checker c.loop-claim.reader c.loop-claim.checker on c.in-Ok-Some.claim
+    c.in-Err.refused
     c.feed.new.self c.next.new.self read.0 read.1
     (c.in-Err.ensures.refused (unrefused files name c.args.checker c.loop-claim.reader c.loop-claim.checker on))
 
@@ -78,9 +85,11 @@ returns-in-Ok-None-clause-finds g c =
     let on = c.loop-claim.invariant.0 in
     let rose = Rose (g.F.Shelf.faults c.loop-claim.shelf) (g.F.Shelf.faults c.next.new.shelf) in
     let read = subst (λ (o : Option Claim). Gives files name rose on.now c.next.new.self (Ok o)) c.in-Ok-None.field-0-is
-    (given files name c.args.checker c.loop-claim.reader c.loop-claim.checker on rose c.next.new.self (Ok c.in-Ok-None.field-0)
+    (given files name c.args.checker c.loop-claim.reader c.loop-claim.checker on rose c.next.new.self
+    (Ok c.in-Ok-None.field-0)
     (g.F.Shelf.files c.loop-claim.shelf) c.loop-claim.invariant.1 c.in-Ok-None.ensures.gives) in
-    finds_end files name c.args.checker c.loop-claim.reader c.loop-claim.checker on c.at_end.result c.next.ensures.limit read
+    finds_end files name c.args.checker c.loop-claim.reader c.loop-claim.checker on c.at_end.result c.next.ensures.limit
+    read
     c.at_end.ensures.accepted c.at_end.ensures.short c.at_end.ensures.shown
 
 pub returns-in-Ok-None-clause-accepts : goal.returns-in-Ok-None-clause-accepts
@@ -95,10 +104,12 @@ returns-in-Err-Text-clause-finds g c =
     let on = c.loop-claim.invariant.0 in
     let rose = Rose (g.F.Shelf.faults c.loop-claim.shelf) (g.F.Shelf.faults c.next.new.shelf) in
     let read = subst (λ (f : ReadFault). Gives files name rose on.now c.next.new.self (Err f)) c.in-Err-Text.field-0-is
-    (given files name c.args.checker c.loop-claim.reader c.loop-claim.checker on rose c.next.new.self (Err c.in-Err-Text.field-0)
+    (given files name c.args.checker c.loop-claim.reader c.loop-claim.checker on rose c.next.new.self
+    (Err c.in-Err-Text.field-0)
     (g.F.Shelf.files c.loop-claim.shelf) c.loop-claim.invariant.1 c.in-Err-Text.ensures.gives) in
     subst
-    (λ (f : CertFault). Finds c.args.checker.exercise c.args.checker.sheet c.args.checker.head files name (verdicts.Text f))
+    (λ (f : CertFault). Finds c.args.checker.exercise c.args.checker.sheet c.args.checker.head files name
+    (verdicts.Text f))
     (sym c.in-Err-Text.fault-is)
     (finds_fault files name c.args.checker c.loop-claim.reader c.loop-claim.checker on c.in-Err-Text.fault read)
 

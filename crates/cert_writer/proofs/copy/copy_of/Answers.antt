@@ -7,10 +7,12 @@ use Rattle.fux_grid.specs.Columns.{ColumnFollows, HistoryFollows, earlier, newes
 use Rattle.fux_grid.proofs.NoteLemmas.{follows-at}
 use Rattle.cert_writer.proofs.copy.copy_of.Goals as goal
 
-follows_there : (s : List (List Cell)) → HistoryFollows (reverse s) → (k : ℕ) → k < length s → ColumnFollows (newest_column (reverse (take k s))) (slice_index_or s k [])
+follows_there : (s : List (List Cell)) → HistoryFollows (reverse s) → (k : ℕ) → k < length s
+    → ColumnFollows (newest_column (reverse (take k s))) (slice_index_or s k [])
 unfolding earlier
 follows_there s follows k within =
-    follows-at s (length s) (omega arith) (subst (λ (t : List (List Cell)). HistoryFollows (reverse t)) (sym (take_all (length s) s (omega arith))) follows) k within
+    follows-at s (length s) (omega arith) (subst (λ (t : List (List Cell)). HistoryFollows (reverse t))
+    (sym (take_all (length s) s (omega arith))) follows) k within
 
 one_more : (s : List (List Cell)) (k : ℕ) → k < length s → take k s ++ slice_index_or s k [] ∷ [] ≡ take (k + 1) s
 one_more s k within =
@@ -22,7 +24,9 @@ loop-i-preserved c =
     let s = c.args.score.now.columns in
     let i = c.loop-i.i in
     let pushed = c.in-Ok.ensures.ok in
-    let copied : c.in_ok-clone.field-0.items ≡ c.column-column.result.now.items = same_from_all_zip _ c.column-column.result.now.items c.in_ok-clone.field-0.items c.in_ok-clone.ensures.cases (λ x y e. e) in
+    let copied : c.in_ok-clone.field-0.items
+    ≡ c.column-column.result.now.items = same_from_all_zip _ c.column-column.result.now.items
+    c.in_ok-clone.field-0.items c.in_ok-clone.ensures.cases (λ x y e. e) in
     let within : i < length s = omega (arith, c.loop-i-test.true) in
     record {
       voices = ap (λ g. g.voices) pushed ∙ c.loop-i.invariant.voices;
@@ -36,9 +40,13 @@ unreachable-requires c =
     let s = c.args.score.now.columns in
     let i = c.loop-i.i in
     let within : i < length s = omega (arith, c.loop-i-test.true) in
-    let copied : c.in_ok-clone.field-0.items ≡ c.column-column.result.now.items = same_from_all_zip _ c.column-column.result.now.items c.in_ok-clone.field-0.items c.in_ok-clone.ensures.cases (λ x y e. e) in
+    let copied : c.in_ok-clone.field-0.items
+    ≡ c.column-column.result.now.items = same_from_all_zip _ c.column-column.result.now.items
+    c.in_ok-clone.field-0.items c.in_ok-clone.ensures.cases (λ x y e. e) in
     let same : c.in_ok-clone.field-0.items ≡ slice_index_or s i [] = copied ∙ c.column-column.ensures.value in
     let size : length (take i s) ≡ i = length-take-le i s (omega (arith, within)) in
-    let taken : IsOk c.push.result = c.push.ensures.taken (rw c.loop-i.invariant.columns (omega (arith, size, within, c.kept.ensures.few)))
-    (ap length copied ∙ c.column-column.ensures.full ∙ sym c.loop-i.invariant.voices) (rw (same, c.loop-i.invariant.columns) (follows_there s c.kept.ensures.follows i within)) in
+    let taken : IsOk c.push.result = c.push.ensures.taken
+    (rw c.loop-i.invariant.columns (omega (arith, size, within, c.kept.ensures.few)))
+    (ap length copied ∙ c.column-column.ensures.full ∙ sym c.loop-i.invariant.voices)
+    (rw (same, c.loop-i.invariant.columns) (follows_there s c.kept.ensures.follows i within)) in
     cc (rw c.in_default.is at taken)

@@ -11,17 +11,25 @@ use Rattle.cert_writer.proofs.first.first_claim.Goals as goal
 pub returns-then-is_no_better-clause-value : goal.returns-then-is_no_better-clause-value
 returns-then-is_no_better-clause-value c = λ p judged rest.
     let t = matter_of c.args.case.now in
-    let none : least_break t.exercise p ≡ None = sym (find-same (has_rule c.args.judged.now.broken.bits) _ judged.broken rules_read) ∙ sym c.least_rule.ensures.value ∙ c.in_default.is in
-    let better = c.is_no_better.ensures p judged ∙ ap (λ n. is_no_better t.head p (n + c.args.judged.now.least + c.in-Some-rest.rest)) judged.paid
+    let none : least_break t.exercise p ≡ None = sym
+    (find-same (has_rule c.args.judged.now.broken.bits) _ judged.broken rules_read) ∙ sym c.least_rule.ensures.value
+    ∙ c.in_default.is in
+    let better = c.is_no_better.ensures p judged
+    ∙ ap (λ n. is_no_better t.head p (n + c.args.judged.now.least + c.in-Some-rest.rest)) judged.paid
     ∙ ap (λ n. is_no_better t.head p (paid t.exercise t.sheet p + n + c.in-Some-rest.rest)) judged.least in
-    sym (first_floor t.exercise t.sheet t.head p c.in-Some-rest.rest c.is_no_better.result (sym (c.is_setting.ensures p judged) ∙ c.if-is_setting.false) none (sym rest ∙ c.in-Some-rest.is) better
+    sym (first_floor t.exercise t.sheet t.head p c.in-Some-rest.rest c.is_no_better.result
+    (sym (c.is_setting.ensures p judged) ∙ c.if-is_setting.false) none (sym rest ∙ c.in-Some-rest.is) better
     ∙ ap (λ b. if b then Floor else Open) c.if-is_no_better.true)
 
 pub returns-else-is_no_better-clause-value : goal.returns-else-is_no_better-clause-value
 returns-else-is_no_better-clause-value c = λ p judged rest.
     let t = matter_of c.args.case.now in
-    let none : least_break t.exercise p ≡ None = sym (find-same (has_rule c.args.judged.now.broken.bits) _ judged.broken rules_read) ∙ sym c.least_rule.ensures.value ∙ c.in_default.is in
-    let better = c.is_no_better.ensures p judged ∙ ap (λ n. is_no_better t.head p (n + c.args.judged.now.least + c.in-Some-rest.rest)) judged.paid
+    let none : least_break t.exercise p ≡ None = sym
+    (find-same (has_rule c.args.judged.now.broken.bits) _ judged.broken rules_read) ∙ sym c.least_rule.ensures.value
+    ∙ c.in_default.is in
+    let better = c.is_no_better.ensures p judged
+    ∙ ap (λ n. is_no_better t.head p (n + c.args.judged.now.least + c.in-Some-rest.rest)) judged.paid
     ∙ ap (λ n. is_no_better t.head p (paid t.exercise t.sheet p + n + c.in-Some-rest.rest)) judged.least in
-    sym (first_floor t.exercise t.sheet t.head p c.in-Some-rest.rest c.is_no_better.result (sym (c.is_setting.ensures p judged) ∙ c.if-is_setting.false) none (sym rest ∙ c.in-Some-rest.is) better
+    sym (first_floor t.exercise t.sheet t.head p c.in-Some-rest.rest c.is_no_better.result
+    (sym (c.is_setting.ensures p judged) ∙ c.if-is_setting.false) none (sym rest ∙ c.in-Some-rest.is) better
     ∙ ap (λ b. if b then Floor else Open) c.if-is_no_better.false)

@@ -25,7 +25,8 @@ named_from_test rule h =
     high : (n : ℕ) → nat_le n 26 ≡ true → n ≤ 26
     high n e = grind (arith, nat_tests)
 
-each_named : (rules : List ℕ) (k : ℕ) → list_all is_named rules ≡ true → k < length rules → (1 ≤ slice_index_or rules k 0) × (slice_index_or rules k 0 ≤ 26)
+each_named : (rules : List ℕ) (k : ℕ) → list_all is_named rules ≡ true → k < length rules
+    → (1 ≤ slice_index_or rules k 0) × (slice_index_or rules k 0 ≤ 26)
 each_named [] k h within = absurd (omega (arith, within))
 each_named (rule ∷ rules) zero h within = named_from_test rule (and_parts (is_named rule) (list_all is_named rules) h).0
 each_named (rule ∷ rules) (suc k) h within =
@@ -33,4 +34,5 @@ each_named (rule ∷ rules) (suc k) h within =
 
 pub returns-then-has-clause-named : goal.returns-then-has-clause-named
 returns-then-has-clause-named c =
-    each_named c.every_rule-rules.result.now c.loop-k.k (ap (list_all is_named) c.every_rule-rules.ensures.value ∙ all_named) (omega (arith, c.loop-k-test.true))
+    each_named c.every_rule-rules.result.now c.loop-k.k
+    (ap (list_all is_named) c.every_rule-rules.ensures.value ∙ all_named) (omega (arith, c.loop-k-test.true))

@@ -17,12 +17,17 @@ pub go_on-requires-clause-parent : goal.go_on-requires-clause-parent
 go_on-requires-clause-parent c =
     let t = matter_of c.args.case.now in
     let p = prefix_of t.exercise (reverse c.args.walk.now.levels.items) in
-    let judged : IsJudged t p c.in_ok-next.next = subst (λ (next : Option Judged). IfSome next (IsJudged t p)) c.in_ok-next.was c.requires.walk.next in
-    let true_claim = first_claim_true t.exercise t.sheet c.requires.task.case.valid.most_voices (floors_hold t.exercise c.requires.task.case.valid t.sheet) t.head c.requires.task.holds p judged.prefix in
-    let holds = subst (λ (claim : Claim). IsTrueOf t.exercise t.sheet t.head p claim) (sym (c.first_claim-claim.ensures.value p judged c.rest.ensures)) true_claim in
+    let judged : IsJudged t p c.in_ok-next.next = subst (λ (next : Option Judged). IfSome next (IsJudged t p))
+    c.in_ok-next.was c.requires.walk.next in
+    let true_claim = first_claim_true t.exercise t.sheet c.requires.task.case.valid.most_voices
+    (floors_hold t.exercise c.requires.task.case.valid t.sheet) t.head c.requires.task.holds p judged.prefix in
+    let holds = subst (λ (claim : Claim). IsTrueOf t.exercise t.sheet t.head p claim)
+    (sym (c.first_claim-claim.ensures.value p judged c.rest.ensures)) true_claim in
     record {
-      orderly = λ h. (open_true t.exercise t.sheet t.head p c.first_claim-claim.result (sym c.is_open.ensures ∙ h) holds).1;
-      shorter = λ h. (open_true t.exercise t.sheet t.head p c.first_claim-claim.result (sym c.is_open.ensures ∙ h) holds).0;
+      orderly =
+          λ h. (open_true t.exercise t.sheet t.head p c.first_claim-claim.result (sym c.is_open.ensures ∙ h) holds).1;
+      shorter =
+          λ h. (open_true t.exercise t.sheet t.head p c.first_claim-claim.result (sym c.is_open.ensures ∙ h) holds).0;
     }
 
 pub returns-clause-claims : goal.returns-clause-claims
@@ -32,11 +37,14 @@ returns-clause-claims c =
     let p = prefix_of t.exercise levels in
     let later = owed_later t.exercise levels in
     let claim = c.first_claim-claim.result in
-    let judged : IsJudged t p c.in_ok-next.next = subst (λ (next : Option Judged). IfSome next (IsJudged t p)) c.in_ok-next.was c.requires.walk.next in
+    let judged : IsJudged t p c.in_ok-next.next = subst (λ (next : Option Judged). IfSome next (IsJudged t p))
+    c.in_ok-next.was c.requires.walk.next in
     let value = c.first_claim-claim.ensures.value p judged c.rest.ensures in
-    let true_claim = first_claim_true t.exercise t.sheet c.requires.task.case.valid.most_voices (floors_hold t.exercise c.requires.task.case.valid t.sheet) t.head c.requires.task.holds p judged.prefix in
+    let true_claim = first_claim_true t.exercise t.sheet c.requires.task.case.valid.most_voices
+    (floors_hold t.exercise c.requires.task.case.valid t.sheet) t.head c.requires.task.holds p judged.prefix in
     let holds = subst (λ (k : Claim). IsTrueOf t.exercise t.sheet t.head p k) (sym value) true_claim in
     ap (λ next. flat_map (claims_at t) (owed_at t.exercise levels next)) c.in_ok-next.was
     ∙ claims_step t p claim later value (λ o. (open_true t.exercise t.sheet t.head p claim o holds).0)
-    ∙ ap (λ b. claim ∷ flat_map (claims_at t) ((if b then longer_from t.exercise p 0 else []) ++ later)) (sym c.is_open.ensures)
+    ∙ ap (λ b. claim ∷ flat_map (claims_at t) ((if b then longer_from t.exercise p 0 else []) ++ later))
+    (sym c.is_open.ensures)
     ∙ ap (λ owed. claim ∷ flat_map (claims_at t) owed) (sym c.go_on.ensures.owed)

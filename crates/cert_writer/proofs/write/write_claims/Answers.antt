@@ -13,8 +13,12 @@ loop-claim-preserved g c =
     record {
       walk = c.next_claim.ensures.walk;
       stands =
-          stands_put (g.K.Sink.written c.args.sink.now) (g.K.Sink.written c.loop-claim.sink) (g.K.Sink.written c.put.new.sink) c.loop-claim.waiting.bytes c.put.new.waiting.bytes c.write_claim.result.bytes later (claim_lines (claims_to_come t c.loop-claim.walk)) (claim_lines (claims_to_come t c.args.walk.now))
-          c.in_ok-put.ensures.ok (ap claim_lines c.in-Some.ensures.claims ∙ ap (λ bs. bs ++ later) (sym c.write_claim.ensures)) c.loop-claim.invariant.stands;
+          stands_put (g.K.Sink.written c.args.sink.now) (g.K.Sink.written c.loop-claim.sink)
+          (g.K.Sink.written c.put.new.sink) c.loop-claim.waiting.bytes c.put.new.waiting.bytes
+          c.write_claim.result.bytes later (claim_lines (claims_to_come t c.loop-claim.walk))
+          (claim_lines (claims_to_come t c.args.walk.now))
+          c.in_ok-put.ensures.ok (ap claim_lines c.in-Some.ensures.claims
+          ∙ ap (λ bs. bs ++ later) (sym c.write_claim.ensures)) c.loop-claim.invariant.stands;
       faults = omega (arith, c.loop-claim.invariant.faults, c.put.ensures.faults);
     }
 
@@ -22,14 +26,19 @@ pub returns-in_err-put-clause-err : goal.returns-in_err-put-clause-err
 returns-in_err-put-clause-err g c =
     let t = matter_of c.args.case.now in
     with_err c.from_residual.result _
-    (stands_stop (g.K.Sink.written c.args.sink.now) (g.K.Sink.written c.loop-claim.sink) (g.K.Sink.written c.put.new.sink) c.loop-claim.waiting.bytes (claim_lines (claims_to_come t c.loop-claim.walk)) (claim_lines (claims_to_come t c.args.walk.now)) c.loop-claim.invariant.stands c.in_err-put.ensures.err)
+    (stands_stop (g.K.Sink.written c.args.sink.now) (g.K.Sink.written c.loop-claim.sink)
+    (g.K.Sink.written c.put.new.sink) c.loop-claim.waiting.bytes (claim_lines (claims_to_come t c.loop-claim.walk))
+    (claim_lines (claims_to_come t c.args.walk.now)) c.loop-claim.invariant.stands c.in_err-put.ensures.err)
 
 pub returns-clause-err : goal.returns-clause-err
 returns-clause-err g c =
     let t = matter_of c.args.case.now in
     let told = g.K.Sink.written c.loop-claim.sink in
     let new = g.K.Sink.written c.write_all.new.sink in
-    let bytes : c.as_bytes.result.now ≡ c.loop-claim.waiting.bytes = c.as_bytes.ensures.value ∙ c.as_str.ensures.value in
+    let bytes : c.as_bytes.result.now ≡ c.loop-claim.waiting.bytes = c.as_bytes.ensures.value
+    ∙ c.as_str.ensures.value in
     on_err_weaker c.write_all.result
-    (λ stop. stands_stop (g.K.Sink.written c.args.sink.now) told new c.loop-claim.waiting.bytes (claim_lines (claims_to_come t c.loop-claim.walk)) (claim_lines (claims_to_come t c.args.walk.now)) c.loop-claim.invariant.stands (subst (λ (bs : List ℕ). StopsShort told new bs) bytes stop))
+    (λ stop. stands_stop (g.K.Sink.written c.args.sink.now) told new c.loop-claim.waiting.bytes
+    (claim_lines (claims_to_come t c.loop-claim.walk)) (claim_lines (claims_to_come t c.args.walk.now))
+    c.loop-claim.invariant.stands (subst (λ (bs : List ℕ). StopsShort told new bs) bytes stop))
     c.write_all.ensures.err

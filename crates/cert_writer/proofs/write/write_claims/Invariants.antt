@@ -9,7 +9,8 @@ abbrev pub invariant-loop-claim : goal.invariant-loop-claim
 invariant-loop-claim g l = record {
   walk : IsWalk (matter_of l.case) l.walk;
   stands : Stands (g.K.Sink.written l.initial.sink) (g.K.Sink.written l.sink) l.waiting.bytes
-      (claim_lines (claims_to_come (matter_of l.case) l.walk)) (claim_lines (claims_to_come (matter_of l.case) l.initial.walk));
+      (claim_lines (claims_to_come (matter_of l.case) l.walk))
+      (claim_lines (claims_to_come (matter_of l.case) l.initial.walk));
   faults : g.K.Sink.faults l.initial.sink ≤ g.K.Sink.faults l.sink;
 }
 

@@ -11,7 +11,9 @@ returns-clause-err g c =
     let lines = claim_lines (claims_to_come (matter_of c.args.case.now) c.args.walk.now) in
     let start = g.K.Sink.written c.args.sink.now in
     let new = g.K.Sink.written c.write_claims.new.sink in
-    let told : g.K.Sink.written c.write_all.new.sink ≡ appended start c.args.text.now = c.in_ok-write_all.ensures.ok ∙ ap (appended start) c.as_bytes.ensures.value in
+    let told : g.K.Sink.written c.write_all.new.sink ≡ appended start c.args.text.now = c.in_ok-write_all.ensures.ok
+    ∙ ap (appended start) c.as_bytes.ensures.value in
     on_err_weaker c.write_claims.result
-    (λ stop. stops_after start new c.args.text.now lines (subst (λ (t : Option (List ℕ)). StopsShort t new lines) told stop))
+    (λ stop. stops_after start new c.args.text.now lines
+    (subst (λ (t : Option (List ℕ)). StopsShort t new lines) told stop))
     c.write_claims.ensures.err

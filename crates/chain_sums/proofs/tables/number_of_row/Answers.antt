@@ -12,7 +12,8 @@ returns-then-are_same_rows c =
     let within : c.len-count.result - 1 < length rows = omega (arith, count, c.if-count-gt0.true) in
     row_of_other rows c.args.row (c.len-count.result - 1) within
     (subst (λ (r : Row). AreSameRows r c.args.row)
-    (c.index.ensures ∙ get_or_default rows (c.len-count.result - 1) c.index.result.now c.args.row within) c.if-are_same_rows.ensures)
+    (c.index.ensures ∙ get_or_default rows (c.len-count.result - 1) c.index.result.now c.args.row within)
+    c.if-are_same_rows.ensures)
 
 pub returns : goal.returns
 returns c =

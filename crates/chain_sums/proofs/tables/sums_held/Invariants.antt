@@ -8,6 +8,7 @@ abbrev pub invariant-loop-k : goal.invariant-loop-k
 invariant-loop-k g l = record {
   room : l.width ≤ vec_capacity l.row;
   counted : vec_len l.row ≡ l.k;
-  least : (j : ℕ) → j < l.k → IsLeast (g.L.Links.chains l.links) (suc l.i) (Some (get_or ((g.L.Links.chains l.links).menu l.i) j [])) (get_or l.row.items j None);
+  least : (j : ℕ) → j < l.k → IsLeast (g.L.Links.chains l.links) (suc l.i)
+      (Some (get_or ((g.L.Links.chains l.links).menu l.i) j [])) (get_or l.row.items j None);
   small : (most : ℕ) → AllAtMost most l.sums → AllAtMost (most + 2 ^ 53) l.row.items;
 }

@@ -9,7 +9,8 @@ sums_before-requires-clause-row g c =
     let chains = g.L.Links.chains c.args.links.now in
     let found = c.in-Some.ensures chains c.requires.rows in
     let here : chains.places - length c.args.tables.now.places.items ≡ c.args.i + 1 = omega (arith, c.requires.place) in
-    subst (IsRow chains (c.args.i + 1)) (sym c.deref.ensures.value) (subst (λ (i : ℕ). IsRow chains i c.in-Some.next.now.sums.items) here found.1.sums)
+    subst (IsRow chains (c.args.i + 1)) (sym c.deref.ensures.value)
+    (subst (λ (i : ℕ). IsRow chains i c.in-Some.next.now.sums.items) here found.1.sums)
 
 pub returns-clause-small : goal.returns-clause-small
 returns-clause-small g c =
@@ -21,4 +22,5 @@ returns-clause-small g c =
     subst (λ (xs : List (Option ℕ)). AllAtMost ((n - 1) * 2 ^ 53) xs) (sym c.deref.ensures.value)
     (latest_small chains c.args.tables.now.menus.items places c.in-Some.next.now c.requires.rows.few found.0 found.1) in
     let more : (n - 1) * 2 ^ 53 + 2 ^ 53 ≡ n * 2 ^ 53 = omega (arith, found.0) in
-    IfOk-weaker c.sums_before.result _ _ (λ row h. subst (λ (k : ℕ). AllAtMost k row.items) more (h ((n - 1) * 2 ^ 53) kept)) c.sums_before.ensures.small
+    IfOk-weaker c.sums_before.result _ _ (λ row h. subst (λ (k : ℕ). AllAtMost k row.items) more
+    (h ((n - 1) * 2 ^ 53) kept)) c.sums_before.ensures.small

@@ -8,11 +8,15 @@ use Rattle.dissonance_rules.proofs.late.breaks_kept.Goals as goal
 pub returns-then-breaks_one_way : goal.returns-then-breaks_one_way
 returns-then-breaks_one_way c = λ s is.
     first_way _ _ _ _
-    (ways c.args.ex.now (clash_rule c.args.rule c.args.ex.now c.args.i (earlier s c.args.i) (slice_index_or s c.args.i []) (drop (c.args.i + 1) s)) c.args.voices.bits c.in-Some.v c.in-Some.w c.in-Some.ensures (omega (arith, c.if-w-ex.false)))
+    (ways c.args.ex.now (clash_rule c.args.rule c.args.ex.now c.args.i (earlier s c.args.i)
+    (slice_index_or s c.args.i []) (drop (c.args.i + 1) s)) c.args.voices.bits c.in-Some.v c.in-Some.w
+    c.in-Some.ensures (omega (arith, c.if-w-ex.false)))
     (c.breaks_one_way.ensures s is) (c.if-breaks_one_way.ensures s is)
 
 pub returns-else-breaks_one_way : goal.returns-else-breaks_one_way
 returns-else-breaks_one_way c = λ s is.
     second_way _ _ _ _
-    (ways c.args.ex.now (clash_rule c.args.rule c.args.ex.now c.args.i (earlier s c.args.i) (slice_index_or s c.args.i []) (drop (c.args.i + 1) s)) c.args.voices.bits c.in-Some.v c.in-Some.w c.in-Some.ensures (omega (arith, c.if-w-ex.false)))
+    (ways c.args.ex.now (clash_rule c.args.rule c.args.ex.now c.args.i (earlier s c.args.i)
+    (slice_index_or s c.args.i []) (drop (c.args.i + 1) s)) c.args.voices.bits c.in-Some.v c.in-Some.w
+    c.in-Some.ensures (omega (arith, c.if-w-ex.false)))
     (c.breaks_one_way-else-breaks_one_way.ensures s is) (c.if-breaks_one_way.ensures s is)

@@ -5,16 +5,20 @@ use Rattle.dissonance_rules.proofs.late.breaks_late.Goals as goal
 pub returns-then-not-breaks_kept : goal.returns-then-not-breaks_kept
 returns-then-not-breaks_kept c = λ p col newest on among.
     unbroken c.args.rule c.args.ex.now p col c.args.place on c.args.voices.bits c.requires.late
-    (c.if-not-breaks_kept.ensures (p ++ col ∷ []) (kept_after c.args.rule c.args.ex.now p col c.args.place on c.args.newest.now newest c.requires.late among))
+    (c.if-not-breaks_kept.ensures (p ++ col ∷ [])
+    (kept_after c.args.rule c.args.ex.now p col c.args.place on c.args.newest.now newest c.requires.late among))
 
 pub returns-then-rule-ne15 : goal.returns-then-rule-ne15
 returns-then-rule-ne15 c = λ p col newest on among.
     broken_at_place c.args.rule c.args.ex.now p col c.args.place on c.args.voices.bits c.requires.late
-    (c.if-not-breaks_kept.ensures (p ++ col ∷ []) (kept_after c.args.rule c.args.ex.now p col c.args.place on c.args.newest.now newest c.requires.late among))
+    (c.if-not-breaks_kept.ensures (p ++ col ∷ [])
+    (kept_after c.args.rule c.args.ex.now p col c.args.place on c.args.newest.now newest c.requires.late among))
     c.if-rule-ne15.true among
 
 pub returns : goal.returns
 returns c = λ p col newest on among.
-    let is = kept_after c.args.rule c.args.ex.now p col c.args.place on c.args.newest.now newest c.requires.late among in
-    broken_if_newly c.args.rule c.args.ex.now p col c.args.place on c.args.voices.bits c.requires.late c.settles_passing.result
+    let is = kept_after c.args.rule c.args.ex.now p col c.args.place on c.args.newest.now newest c.requires.late among
+    in
+    broken_if_newly c.args.rule c.args.ex.now p col c.args.place on c.args.voices.bits c.requires.late
+    c.settles_passing.result
     (c.if-not-breaks_kept.ensures (p ++ col ∷ []) is) c.if-rule-ne15.false (c.settles_passing.ensures p col is)

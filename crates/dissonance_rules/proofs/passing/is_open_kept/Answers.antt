@@ -5,17 +5,26 @@ use Rattle.dissonance_rules.proofs.passing.is_open_kept.Goals as goal
 
 pub returns-then-reaches_last_bar : goal.returns-then-reaches_last_bar
 returns-then-reaches_last_bar c = λ s is.
-    closed_last c.args.ex.now s c.args.i c.args.end c.args.v c.args.w c.requires.place (omega (arith, c.requires.within, is.newest.count))
+    closed_last c.args.ex.now s c.args.i c.args.end c.args.v c.args.w c.requires.place
+    (omega (arith, c.requires.within, is.newest.count))
     c.column_at.result.now (c.column_at.ensures s is) c.if-reaches_last_bar.ensures
 
 pub returns-then-has_ornaments : goal.returns-then-has_ornaments
 returns-then-has_ornaments c = λ s is.
-    open_ornament c.args.ex.now s c.args.i c.args.end c.args.v c.args.w c.requires.place (omega (arith, c.requires.within, is.newest.count))
-    c.column_at.result.now (c.column_at.ensures s is) (sym c.if-not-starts_in_clash.ensures) (sym c.if-reaches_last_bar.ensures)
-    c.next_notes-next.result.second (c.next_notes-next.ensures.second s is) (sym (ap has_ornaments c.species_of.ensures) ∙ sym c.if-has_ornaments.ensures) c.is_none.result c.is_none.ensures
+    open_ornament c.args.ex.now s c.args.i c.args.end c.args.v c.args.w c.requires.place
+    (omega (arith, c.requires.within, is.newest.count))
+    c.column_at.result.now (c.column_at.ensures s is) (sym c.if-not-starts_in_clash.ensures)
+    (sym c.if-reaches_last_bar.ensures)
+    c.next_notes-next.result.second (c.next_notes-next.ensures.second s is)
+    (sym (ap has_ornaments c.species_of.ensures) ∙ sym c.if-has_ornaments.ensures) c.is_none.result
+    c.is_none.ensures
 
 pub returns : goal.returns
 returns c = λ s is.
-    open_plain c.args.ex.now s c.args.i c.args.end c.args.v c.args.w c.requires.place (omega (arith, c.requires.within, is.newest.count))
-    c.column_at.result.now (c.column_at.ensures s is) (sym c.if-not-starts_in_clash.ensures) (sym c.if-reaches_last_bar.ensures)
-    c.next_notes-next.result.first (c.next_notes-next.ensures.first s is) (sym (ap has_ornaments c.species_of.ensures) ∙ sym c.if-has_ornaments.ensures) c.is_none-2.result c.is_none-2.ensures
+    open_plain c.args.ex.now s c.args.i c.args.end c.args.v c.args.w c.requires.place
+    (omega (arith, c.requires.within, is.newest.count))
+    c.column_at.result.now (c.column_at.ensures s is) (sym c.if-not-starts_in_clash.ensures)
+    (sym c.if-reaches_last_bar.ensures)
+    c.next_notes-next.result.first (c.next_notes-next.ensures.first s is)
+    (sym (ap has_ornaments c.species_of.ensures) ∙ sym c.if-has_ornaments.ensures) c.is_none-2.result
+    c.is_none-2.ensures

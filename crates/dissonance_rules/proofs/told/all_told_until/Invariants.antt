@@ -10,6 +10,7 @@ abbrev pub invariant-loop-v : goal.invariant-loop-v
 invariant-loop-v l = record {
   from : l.first ≤ l.told;
   to : l.told ≤ l.end;
-  told : (s : List (List Cell)) → AreNewestOf l.ex.voices s l.newest → (v : ℕ) → v < l.v → is_free l.ex v ≡ true → (i : ℕ) → l.first ≤ i → i < l.told
+  told : (s : List (List Cell)) → AreNewestOf l.ex.voices s l.newest → (v : ℕ) → v < l.v → is_free l.ex v ≡ true
+      → (i : ℕ) → l.first ≤ i → i < l.told
       → has_notes_after (species_in l.ex v) i v (drop (i + 1) (take l.end s)) ≡ true;
 }

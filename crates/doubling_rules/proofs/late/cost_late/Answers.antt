@@ -8,12 +8,14 @@ use Rattle.doubling_rules.proofs.late.cost_late.Goals as goal
 
 pub returns-then-place-newest-clause-value : goal.returns-then-place-newest-clause-value
 returns-then-place-newest-clause-value c = λ p col newest on among.
-    let own : c.args.place ≡ length p = among_own (may_cost c.args.toll c.args.ex.now (length p)) c.args.place (length p) among in
+    let own : c.args.place ≡ length p = among_own (may_cost c.args.toll c.args.ex.now (length p)) c.args.place
+    (length p) among in
     absurd (omega (arith, own, newest.count, length-append p (col ∷ []), c.if-place-newest.true))
 
 pub returns-clause-value : goal.returns-clause-value
 returns-clause-value c = λ p col newest on among.
-    let own : c.args.place ≡ length p = among_own (may_cost c.args.toll c.args.ex.now (length p)) c.args.place (length p) among in
+    let own : c.args.place ≡ length p = among_own (may_cost c.args.toll c.args.ex.now (length p)) c.args.place
+    (length p) among in
     let kept : length (p ++ col ∷ []) ≤ c.args.place + 24 = omega (arith, own, length-append p (col ∷ [])) in
     c.doubling_cost.ensures.value
     ∙ ap (cost_of_column c.args.toll c.args.ex.now c.args.place) (c.at.ensures (p ++ col ∷ []) newest kept)

@@ -20,8 +20,10 @@ loop-preserved c =
       c.moved-degree.ensures.low,
       c.moved-degree.ensures.high,
       walked (map degree_of c.loop.line.items)
-          (map degree_of c.put-in-loop.new.line.items) 23 c.loop.counter c.loop.x c.next_number-x.result c.loop.degree c.moved-degree.result
-          (29 ∷ walk 21 c.args.n 29) c.loop-test.true c.in_ok-put-2.ensures.degrees c.next_number-x.ensures.value c.moved-degree.ensures.value so_far,
+          (map degree_of c.put-in-loop.new.line.items) 23 c.loop.counter c.loop.x c.next_number-x.result c.loop.degree
+          c.moved-degree.result
+          (29 ∷ walk 21 c.args.n 29) c.loop-test.true c.in_ok-put-2.ensures.degrees c.next_number-x.ensures.value
+          c.moved-degree.ensures.value so_far,
       c.in_ok-put-2.ensures.naturals naturals,
     )
 

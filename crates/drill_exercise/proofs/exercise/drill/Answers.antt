@@ -13,7 +13,18 @@ returns c =
     let low = c.natural.result in
     let high = c.natural-2.result in
     let ex = λ (cantus : List Pitch) (ranges : List RangeLine) (relax : List Relax).
-    IsDrill n (record { mode = Dorian; voices = 2; bars = 24; species = 1; species_voice = 1; cantus_voice = 0; cantus = cantus; ranges = ranges; relax = relax; setting = None }) in
+    IsDrill n (record {
+      mode = Dorian;
+      voices = 2;
+      bars = 24;
+      species = 1;
+      species_voice = 1;
+      cantus_voice = 0;
+      cantus = cantus;
+      ranges = ranges;
+      relax = relax;
+      setting = None;
+    }) in
     let line : c.new-2.result ≡ drill_line low high ∷ [] = c.new-2.ensures ∙ c.in_ok-ranges.ensures.items in
     let none : c.new-4.result ≡ [] = c.new-4.ensures ∙ c.new-3.ensures.items in
     subst (λ cantus. ex cantus c.new-2.result c.new-4.result) (sym c.new.ensures)

@@ -6,10 +6,16 @@ use Rattle.falling_paths.proofs.Ends.{spot_from-end, floor_at-dead}
 use Rattle.falling_paths.proofs.GridSpace.child.Goals as goal
 
 pub after-requires-clause-row : goal.after-requires-clause-row
-after-requires-clause-row c = omega (arith, spot_from-row c.args.self.now c.requires.path start c.args.node.now c.requires.at.is, c.requires.above)
+after-requires-clause-row c = omega (
+  arith,
+  spot_from-row c.args.self.now c.requires.path start c.args.node.now
+      c.requires.at.is,
+  c.requires.above,
+)
 
 pub returns-in-None : goal.returns-in-None
-returns-in-None c = λ path at. floor_at-dead c.args.self.now path c.args.node.now c.args.k at.is (sym c.in-None.ensures.value)
+returns-in-None c =
+    λ path at. floor_at-dead c.args.self.now path c.args.node.now c.args.k at.is (sym c.in-None.ensures.value)
 
 pub returns-in-Some : goal.returns-in-Some
 returns-in-Some c = λ path at.

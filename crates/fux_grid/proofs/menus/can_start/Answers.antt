@@ -8,10 +8,14 @@ pub returns-then-starts : goal.returns-then-starts
 returns-then-starts c = (
   λ h.
       let some : 0 < length (menu_of c.args.ex.now c.args.i) = omega (arith, ltb-true 0 c.width.result h) in
-      can_start-from c.args.ex.now c.args.i c.args.v c.requires.voice some (c.has_start-starts.ensures.0 c.if-starts.true),
+      can_start-from c.args.ex.now c.args.i c.args.v c.requires.voice some
+      (c.has_start-starts.ensures.0 c.if-starts.true),
   λ (col, place, starts). lt-ltb 0 c.width.result (omega (arith, place.1)),
 )
 
 pub returns-else-starts : goal.returns-else-starts
-returns-else-starts c =
-    (λ h. absurd (false≢true (sym c.if-starts.false ∙ h)), λ h. c.has_start-starts.ensures.1 (can_start-only c.args.ex.now c.args.i c.args.v c.requires.voice h))
+returns-else-starts c = (
+  λ h. absurd (false≢true (sym c.if-starts.false ∙ h)),
+  λ h. c.has_start-starts.ensures.1
+      (can_start-only c.args.ex.now c.args.i c.args.v c.requires.voice h),
+)

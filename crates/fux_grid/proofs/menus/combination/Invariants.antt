@@ -8,5 +8,6 @@ invariant-loop-cells l = record {
   taken : length l.column.items ≡ l.cells-index;
   sized : l.size ≡ length (combinations (items_of (drop l.cells-index l.choices)));
   within : l.rest < l.size;
-  same : l.column.items ++ get_or (combinations (items_of (drop l.cells-index l.choices))) l.rest [] ≡ get_or (combinations (items_of l.choices)) l.k [];
+  same : l.column.items ++ get_or (combinations (items_of (drop l.cells-index l.choices))) l.rest []
+      ≡ get_or (combinations (items_of l.choices)) l.k [];
 }

@@ -7,6 +7,9 @@ returns-then-v-ex c = c.free_voice_cells.ensures ∙ sym (cells_at-free c.args.e
 
 pub returns : goal.returns
 returns c =
-    let pitch : c.index-as_slice-i.result ≡ get_or c.args.ex.now.cantus (c.args.i / 8) c.index-as_slice-i.result = rw c.as_slice.ensures at c.index-as_slice-i.is in
+    let pitch : c.index-as_slice-i.result ≡ get_or c.args.ex.now.cantus (c.args.i / 8) c.index-as_slice-i.result = rw
+    c.as_slice.ensures at c.index-as_slice-i.is in
     let one = cantus_cells-one c.args.ex.now c.args.i c.index-as_slice-i.result (omega arith) pitch in
-    c.push.ensures.items ∙ ap (λ cells. cells ++ c.cantus_cell_of.result ∷ []) c.new-cells.ensures ∙ ap (λ cell. cell ∷ []) c.cantus_cell_of.ensures ∙ sym one ∙ sym (cells_at-cantus c.args.ex.now c.args.i c.args.v c.if-v-ex.false)
+    c.push.ensures.items ∙ ap (λ cells. cells ++ c.cantus_cell_of.result ∷ []) c.new-cells.ensures
+    ∙ ap (λ cell. cell ∷ []) c.cantus_cell_of.ensures ∙ sym one
+    ∙ sym (cells_at-cantus c.args.ex.now c.args.i c.args.v c.if-v-ex.false)

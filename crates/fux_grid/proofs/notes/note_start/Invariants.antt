@@ -7,7 +7,8 @@ abbrev pub invariant-loop-j : goal.invariant-loop-j
 invariant-loop-j l = record {
   within : l.j ≤ l.fn.i;
   held : (k : ℕ) → l.j < k → k ≤ l.fn.i → IsTrue (is_hold (cell_at l.score.columns l.v k));
-  same : before_note (line l.v (earlier l.score.columns (l.fn.i + 1))) ≡ before_note (line l.v (earlier l.score.columns (l.j + 1)));
+  same : before_note (line l.v (earlier l.score.columns (l.fn.i + 1)))
+      ≡ before_note (line l.v (earlier l.score.columns (l.j + 1)));
 }
 
 abbrev pub decreases-loop-j : goal.decreases-loop-j

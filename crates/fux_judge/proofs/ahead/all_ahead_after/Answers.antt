@@ -24,12 +24,17 @@ returns c = λ p here are valid prefix v ahead free there.
     subst P here (are valid (prefix_before ex p col prefix) v x free has) in
     let M : ℕ → Type 0 = λ n. IsInMenu ex n col in
     let menu : IsInMenu ex i col = subst M here (last_in_menu ex p col prefix) in
-    let grown : (v : ℕ) (x : LineAhead) → IsAheadOf ex v (i + 1) x → IsAheadOf ex v (length (p ++ col ∷ [])) x = λ v x h.
+    let grown : (v : ℕ) (x : LineAhead) → IsAheadOf ex v (i + 1) x
+    → IsAheadOf ex v (length (p ++ col ∷ [])) x = λ v x h.
     let P : ℕ → Type 0 = λ n. IsAheadOf ex v n x in
     subst P size h in
     each_of_four Longer _ _ _ _
-    (λ free. grown 0 _ (c.ahead_after.ensures col menu (sym c.cell_of.ensures) free (one_of_four Of c.args.ahead.now 0 none before four (omega arith) free)))
-    (λ free. grown 1 _ (c.ahead_after-2.ensures col menu (sym c.cell_of-2.ensures) free (one_of_four Of c.args.ahead.now 1 none before four (omega arith) free)))
-    (λ free. grown 2 _ (c.ahead_after-3.ensures col menu (sym c.cell_of-3.ensures) free (one_of_four Of c.args.ahead.now 2 none before four (omega arith) free)))
-    (λ free. grown 3 _ (c.ahead_after-4.ensures col menu (sym c.cell_of-4.ensures) free (one_of_four Of c.args.ahead.now 3 none before four (omega arith) free)))
+    (λ free. grown 0 _ (c.ahead_after.ensures col menu (sym c.cell_of.ensures) free
+    (one_of_four Of c.args.ahead.now 0 none before four (omega arith) free)))
+    (λ free. grown 1 _ (c.ahead_after-2.ensures col menu (sym c.cell_of-2.ensures) free
+    (one_of_four Of c.args.ahead.now 1 none before four (omega arith) free)))
+    (λ free. grown 2 _ (c.ahead_after-3.ensures col menu (sym c.cell_of-3.ensures) free
+    (one_of_four Of c.args.ahead.now 2 none before four (omega arith) free)))
+    (λ free. grown 3 _ (c.ahead_after-4.ensures col menu (sym c.cell_of-4.ensures) free
+    (one_of_four Of c.args.ahead.now 3 none before four (omega arith) free)))
     v ahead there free

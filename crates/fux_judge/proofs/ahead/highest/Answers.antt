@@ -18,7 +18,8 @@ loop-bar-preserved c = λ key h b first before.
           let same : b ≡ c.loop-bar.bar = omega (arith, here, before) in
           ap (λ n. is_at_top (pos key) (range_of ex v n)) same
           ∙ ap (is_at_top (pos key)) c.range.ensures
-          ∙ over_end key c.semitone.result c.range.result.1 c.semitone.ensures.value (omega (arith, h, c.greater-highest.ensures.second))
+          ∙ over_end key c.semitone.result c.range.result.1 c.semitone.ensures.value
+          (omega (arith, h, c.greater-highest.ensures.second))
     ]
 
 pub returns : goal.returns

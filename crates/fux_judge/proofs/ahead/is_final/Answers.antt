@@ -15,10 +15,12 @@ returns-then-key-ahead c = λ r.
     let i = c.args.i in
     elim c.then-key-ahead.branch [
       | then-key-ahead-via-then-key-ahead w ↦
-          sym (all_from (is_topped ex v (pos c.args.key)) i (columns_in ex - i) (columns_in ex) (omega (arith, c.requires.place))
+          sym (all_from (is_topped ex v (pos c.args.key)) i (columns_in ex - i) (columns_in ex)
+          (omega (arith, c.requires.place))
           (r.highest c.args.key (omega (arith, w.if-key-ahead.true))))
       | then-key-ahead-via-else-key-ahead+then-ahead-eq0 w ↦
-          sym (none_starts (menu_starts ex v) (λ j. is_at_top (pos c.args.key) (range_of ex v (bar_of j))) i (columns_in ex - i)
+          sym (none_starts (menu_starts ex v) (λ j. is_at_top (pos c.args.key) (range_of ex v (bar_of j))) i
+          (columns_in ex - i)
           (sym r.starts ∙ w.if-ahead-eq0.true))
     ]
 

@@ -12,7 +12,8 @@ returns c = λ key below.
     let ex = c.args.ex.now in
     let v = c.args.v in
     let bar : bar_of (columns_in ex - 8) ≡ ex.bars = omega (arith, c.requires.valid.fewest_bars) in
-    let ends : range_of ex v (bar_of (columns_in ex - 8)) ≡ Some c.range.result = ap (range_of ex v) bar ∙ c.range.ensures in
+    let ends : range_of ex v (bar_of (columns_in ex - 8)) ≡ Some c.range.result = ap (range_of ex v) bar
+    ∙ c.range.ensures in
     let starts : menu_starts ex v (columns_in ex - 8) ≡ true = sym c.menu_starts.ensures ∙ c.if-not-menu_starts.false in
     ap (λ b. not b || is_at_top (pos key) (range_of ex v (bar_of (columns_in ex - 8)))) starts
     ∙ ap (is_at_top (pos key)) ends

@@ -12,7 +12,8 @@ use Rattle.fux_judge.proofs.ahead.may_start.Goals as goal
 pub returns-in-Start : goal.returns-in-Start
 returns-in-Start c = λ col menu e.
     let ex = c.args.ex.now in
-    sym (any_from (λ k. starts (cell_in k c.args.v)) (menu_of ex c.args.i) col ((menu_of-contains ex c.args.i col).1 menu) (ap starts (e ∙ c.in-Start.is)))
+    sym (any_from (λ k. starts (cell_in k c.args.v)) (menu_of ex c.args.i) col
+    ((menu_of-contains ex c.args.i col).1 menu) (ap starts (e ∙ c.in-Start.is)))
 
 pub returns-then-not-allows : goal.returns-then-not-allows
 returns-then-not-allows c = λ col menu e.

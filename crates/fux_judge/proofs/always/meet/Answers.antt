@@ -6,4 +6,5 @@ use Rattle.fux_judge.proofs.always.meet.Goals as goal
 pub returns-then-breaks : goal.returns-then-breaks
 returns-then-breaks c =
     OnTrue_from c.is_strict.result _
-    (λ strict. always_meet c.args.ex.now c.args.voices.bits c.args.i c.args.now.now [] [] c.requires.set (sym c.breaks.ensures ∙ c.if-breaks.true) (sym c.is_strict.ensures ∙ strict))
+    (λ strict. always_meet c.args.ex.now c.args.voices.bits c.args.i c.args.now.now [] [] c.requires.set
+    (sym c.breaks.ensures ∙ c.if-breaks.true) (sym c.is_strict.ensures ∙ strict))

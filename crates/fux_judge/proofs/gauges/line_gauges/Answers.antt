@@ -18,7 +18,8 @@ loop-j-preserved c =
     let P : List Cell → Type 0 = λ cells. IsGaugesOf cells c.gauged-kept.result in
     let here : j < length s = omega arith in
     let cell = ap (λ d. d ∷ line v (earlier s j)) c.cell.ensures in
-    subst P (cell ∙ sym (line-more s v j here)) (c.gauged-kept.ensures (line v (earlier s j)) (length-line s v j (omega arith)) c.loop-j.invariant)
+    subst P (cell ∙ sym (line-more s v j here))
+    (c.gauged-kept.ensures (line v (earlier s j)) (length-line s v j (omega arith)) c.loop-j.invariant)
 
 pub returns : goal.returns
 returns c =

@@ -7,6 +7,7 @@ use Rattle.fux_judge.proofs.late.late_prices.Given as goal
 
 abbrev pub invariant-loop-rule : goal.invariant-loop-rule
 invariant-loop-rule l = record {
-  value : (p : List (List Cell)) (col : List Cell) → HasCome l.ex l.next p col → l.sum ≡ sum_by (prices_late l.ex p col) (take l.rule-index l.rule-items);
+  value : (p : List (List Cell)) (col : List Cell) → HasCome l.ex l.next p col → l.sum
+      ≡ sum_by (prices_late l.ex p col) (take l.rule-index l.rule-items);
   small : l.sum ≤ 1440000 * l.rule-index;
 }

@@ -4,4 +4,11 @@ use Rattle.fux_judge.proofs.late.places_of.Goals as goal
 
 pub returns-clause-within : goal.returns-clause-within
 returns-clause-within c =
-    omega (arith, c.places_at.ensures.first, c.places_at.ensures.count, (rule_keeps c.args.rule).within c.args.ex.now (c.args.next.now.newest.len - 1), c.requires.begun)
+    omega (
+      arith,
+      c.places_at.ensures.first,
+      c.places_at.ensures.count,
+      (rule_keeps c.args.rule).within c.args.ex.now
+          (c.args.next.now.newest.len - 1),
+      c.requires.begun,
+    )

@@ -11,6 +11,7 @@ use Rattle.fux_judge.proofs.late.prices_of_late.Given as goal
 abbrev pub invariant-loop-k : goal.invariant-loop-k
 invariant-loop-k l = record {
   value : (p : List (List Cell)) (col : List Cell) → HasCome l.ex l.next p col
-      → l.sum ≡ sum_below (λ k. sum_by (new_price l.ex p col ((rule_at l.rule).first l.ex (length p) + k) l.rule) (sets_of_rule l.rule l.ex)) l.k;
+      → l.sum ≡ sum_below (λ k. sum_by (new_price l.ex p col ((rule_at l.rule).first l.ex (length p) + k) l.rule)
+      (sets_of_rule l.rule l.ex)) l.k;
   small : l.sum ≤ 60000 * l.k;
 }

@@ -17,14 +17,17 @@ loop-rule-preserved c = λ p col come r.
     let rule = get_or rules c.loop-rule.rule-index 0 in
     c.with-broken.ensures r
     ∙ ap (λ b. b || (c.is_broken_late-on.result && r == rule)) (c.loop-rule.invariant p col come r)
-    ∙ ap (λ b. (has_rule c.args.set.bits r || list_any test (take c.loop-rule.rule-index rules)) || (b && r == rule)) (c.is_broken_late-on.ensures p col come)
+    ∙ ap (λ b. (has_rule c.args.set.bits r || list_any test (take c.loop-rule.rule-index rules)) || (b && r == rule))
+    (c.is_broken_late-on.ensures p col come)
     ∙ or_right (has_rule c.args.set.bits r) (list_any test (take c.loop-rule.rule-index rules)) (test rule)
-    ∙ ap (λ b. has_rule c.args.set.bits r || b) (sym (list_any_more test rules c.loop-rule.rule-index 0 (omega (arith, c.loop-rule-test.true))))
+    ∙ ap (λ b. has_rule c.args.set.bits r || b)
+    (sym (list_any_more test rules c.loop-rule.rule-index 0 (omega (arith, c.loop-rule-test.true))))
 
 pub returns : goal.returns
 returns c = λ p col come r.
     let rules = c.every_late_rule-rule-items.result.now in
     let test : ℕ → Bool = λ rule. breaks_late c.args.ex.now p col rule && r == rule in
     c.loop-rule.invariant p col come r
-    ∙ ap (λ xs. has_rule c.args.set.bits r || list_any test xs) (take_all c.loop-rule.rule-index rules (omega (arith, c.loop-rule-test.false)))
+    ∙ ap (λ xs. has_rule c.args.set.bits r || list_any test xs)
+    (take_all c.loop-rule.rule-index rules (omega (arith, c.loop-rule-test.false)))
     ∙ ap (λ xs. has_rule c.args.set.bits r || list_any test xs) c.every_late_rule-rule-items.ensures.value

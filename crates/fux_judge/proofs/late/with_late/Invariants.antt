@@ -8,4 +8,5 @@ use Rattle.fux_judge.proofs.late.with_late.Given as goal
 
 abbrev pub invariant-loop-rule : goal.invariant-loop-rule
 invariant-loop-rule l = (p : List (List Cell)) (col : List Cell) → HasCome l.ex l.next p col → (r : ℕ)
-    → has_rule l.broken.bits r ≡ (has_rule l.fn.set.bits r || list_any (λ rule. breaks_late l.ex p col rule && r == rule) (take l.rule-index l.rule-items))
+    → has_rule l.broken.bits r ≡ (has_rule l.fn.set.bits r
+    || list_any (λ rule. breaks_late l.ex p col rule && r == rule) (take l.rule-index l.rule-items))

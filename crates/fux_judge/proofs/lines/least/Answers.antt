@@ -10,7 +10,8 @@ loop-v-preserved c =
     record {
       value = λ p st prefix.
           let f : ℕ → ℕ = λ v. least_of_line ex c.args.sheet.now v (cells_of_voice p v) in
-          sum_kept-on f (is_free ex) c.loop-v.v ex.voices c.loop-v.sum c.least_of_voice-sum.result _ (omega (arith, c.loop-v-test.true))
+          sum_kept-on f (is_free ex) c.loop-v.v ex.voices c.loop-v.sum c.least_of_voice-sum.result _
+          (omega (arith, c.loop-v-test.true))
           (c.least_of_voice-sum.ensures.value p st prefix) (c.loop-v.invariant.value p st prefix);
       bound = omega (arith, c.loop-v.invariant.bound, c.least_of_voice-sum.ensures.bound);
     }

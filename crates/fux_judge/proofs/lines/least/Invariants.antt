@@ -10,6 +10,7 @@ use Rattle.fux_judge.proofs.lines.least.Given as goal
 abbrev pub invariant-loop-v : goal.invariant-loop-v
 invariant-loop-v l = record {
   value : (p : List (List Cell)) → IsStateOf l.ex p l.state → IsPrefix l.ex p
-      → l.sum + sum_by (λ v. least_of_line l.ex l.sheet v (cells_of_voice p v)) (filter (is_free l.ex) (range_with_len l.v (l.ex.voices - l.v))) ≡ least_of l.ex l.sheet p;
+      → l.sum + sum_by (λ v. least_of_line l.ex l.sheet v (cells_of_voice p v))
+      (filter (is_free l.ex) (range_with_len l.v (l.ex.voices - l.v))) ≡ least_of l.ex l.sheet p;
   bound : l.sum ≤ l.v * 83622660;
 }

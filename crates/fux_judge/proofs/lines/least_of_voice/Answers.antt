@@ -27,5 +27,6 @@ returns-clause-value c = λ p st prefix.
     let Behind : ℕ → Type 0 = λ n. IsAheadOf ex v n (get_or state.ahead v none) in
     c.least_of_line.ensures.value (cells_of_voice p v) (length-cells p v ∙ sym st.newest.count)
     (one_of_four Lines state.gauges v _ st.gauges four small)
-    (subst Behind (sym st.newest.count) (one_of_four Ahead state.ahead v none (λ v x has free. st.ahead c.requires.valid prefix v x free has) four_ahead small is))
+    (subst Behind (sym st.newest.count) (one_of_four Ahead state.ahead v none
+    (λ v x has free. st.ahead c.requires.valid prefix v x free has) four_ahead small is))
     ∙ sym (ap (λ b. if b then least_of_line ex c.args.sheet.now v (cells_of_voice p v) else 0) free)

@@ -23,7 +23,8 @@ returns-then-breaks_one-clause-value c =
     let l = c.link_between-link.result in
     let is = c.link_between-link.ensures in
     column_broken c.args.ex.now c.args.i None c.args.next.now.items c.args.sheet.now
-    (c.if-breaks_one.ensures ∙ link_breaks l c.args.ex c.args.i None c.args.next.now.items is.exercise is.number is.prev is.next c.column_rules.result.now
+    (c.if-breaks_one.ensures ∙ link_breaks l c.args.ex c.args.i None c.args.next.now.items is.exercise is.number is.prev
+    is.next c.column_rules.result.now
     ∙ ap (list_any (breaks_strictly c.args.ex.now c.args.i None c.args.next.now.items)) c.column_rules.ensures.value)
 
 pub returns-then-breaks_one-clause-least : goal.returns-then-breaks_one-clause-least
@@ -36,10 +37,13 @@ returns-clause-value c =
     let l = c.link_between-link.result in
     let is = c.link_between-link.ensures in
     ap Some (c.charges.ensures.value
-    ∙ link_charges l c.args.ex c.args.i None c.args.next.now.items is.exercise is.number is.prev is.next c.args.sheet.now c.column_tolls.result.now
-    ∙ ap (sum_by (λ toll. cost_between c.args.ex.now c.args.i None c.args.next.now.items toll * weight_of c.args.sheet.now toll)) c.column_tolls.ensures.value)
+    ∙ link_charges l c.args.ex c.args.i None c.args.next.now.items is.exercise is.number is.prev is.next
+    c.args.sheet.now c.column_tolls.result.now
+    ∙ ap (sum_by (λ toll. cost_between c.args.ex.now c.args.i None c.args.next.now.items toll * weight_of
+    c.args.sheet.now toll)) c.column_tolls.ensures.value)
     ∙ column_whole c.args.ex.now c.args.i None c.args.next.now.items c.args.sheet.now
-    (c.if-breaks_one.ensures ∙ link_breaks l c.args.ex c.args.i None c.args.next.now.items is.exercise is.number is.prev is.next c.column_rules.result.now
+    (c.if-breaks_one.ensures ∙ link_breaks l c.args.ex c.args.i None c.args.next.now.items is.exercise is.number is.prev
+    is.next c.column_rules.result.now
     ∙ ap (list_any (breaks_strictly c.args.ex.now c.args.i None c.args.next.now.items)) c.column_rules.ensures.value)
 
 pub returns-clause-least : goal.returns-clause-least

@@ -16,13 +16,16 @@ returns-then-breaks_pair_rule-clause-value c =
     let l = c.link_between-link.result in
     let is = c.link_between-link.ensures in
     pair_broken c.args.ex.now c.args.i (given c.args.prev) c.args.next.now.items c.args.sheet.now
-    (c.if-breaks_pair_rule.ensures ∙ link_breaks l c.args.ex c.args.i c.args.prev c.args.next.now.items is.exercise is.number is.prev is.next pair_rules)
+    (c.if-breaks_pair_rule.ensures ∙ link_breaks l c.args.ex c.args.i c.args.prev c.args.next.now.items is.exercise
+    is.number is.prev is.next pair_rules)
 
 pub returns-clause-value : goal.returns-clause-value
 returns-clause-value c =
     let l = c.link_between-link.result in
     let is = c.link_between-link.ensures in
     ap Some (c.pair_charges.ensures.value
-    ∙ link_charges l c.args.ex c.args.i c.args.prev c.args.next.now.items is.exercise is.number is.prev is.next c.args.sheet.now pair_tolls)
+    ∙ link_charges l c.args.ex c.args.i c.args.prev c.args.next.now.items is.exercise is.number is.prev is.next
+    c.args.sheet.now pair_tolls)
     ∙ pair_whole c.args.ex.now c.args.i (given c.args.prev) c.args.next.now.items c.args.sheet.now
-    (c.if-breaks_pair_rule.ensures ∙ link_breaks l c.args.ex c.args.i c.args.prev c.args.next.now.items is.exercise is.number is.prev is.next pair_rules)
+    (c.if-breaks_pair_rule.ensures ∙ link_breaks l c.args.ex c.args.i c.args.prev c.args.next.now.items is.exercise
+    is.number is.prev is.next pair_rules)

@@ -11,6 +11,9 @@ is_rough a false e h = cc
 
 pub returns-then-is_empty : goal.returns-then-is_empty
 returns-then-is_empty c = λ n below p after.
-    rough_is_dead c.args.m.now.exercise.now c.args.voices.bits c.args.voice n p c.args.m.now.column.now c.requires.alone c.requires.low
-    (sym c.as_slice.ensures ∙ nil_from_length c.as_slice.result.now (eqb-true _ 0 (sym c.is_empty.ensures ∙ c.if-is_empty.true)))
-    (is_rough c.is_smooth_in.result _ (c.is_smooth_in.ensures (reverse p) after.state.melody) c.if-is_smooth_in.false) below
+    rough_is_dead c.args.m.now.exercise.now c.args.voices.bits c.args.voice n p c.args.m.now.column.now c.requires.alone
+    c.requires.low
+    (sym c.as_slice.ensures ∙ nil_from_length c.as_slice.result.now
+    (eqb-true _ 0 (sym c.is_empty.ensures ∙ c.if-is_empty.true)))
+    (is_rough c.is_smooth_in.result _ (c.is_smooth_in.ensures (reverse p) after.state.melody) c.if-is_smooth_in.false)
+    below

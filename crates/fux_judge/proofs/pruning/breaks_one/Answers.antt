@@ -5,9 +5,11 @@ use Rattle.fux_judge.proofs.SumLemmas.{passes}
 use Rattle.fux_judge.proofs.pruning.breaks_one.Goals as goal
 
 pub is_strictly_broken-requires-clause-rule : goal.is_strictly_broken-requires-clause-rule
-is_strictly_broken-requires-clause-rule c = settled_at_once _ (passes reads_below c.args.rules.now c.loop-rule.rule-index c.requires.rules (omega arith))
+is_strictly_broken-requires-clause-rule c =
+    settled_at_once _ (passes reads_below c.args.rules.now c.loop-rule.rule-index c.requires.rules (omega arith))
 
 pub returns-then-is_strictly_broken : goal.returns-then-is_strictly_broken
 returns-then-is_strictly_broken c = λ n below p after.
-    breaks_in_all _ c.args.voices.bits n c.args.m.now.exercise.now p c.args.m.now.column.now (passes reads_below c.args.rules.now c.loop-rule.rule-index c.requires.rules (omega arith)) below
+    breaks_in_all _ c.args.voices.bits n c.args.m.now.exercise.now p c.args.m.now.column.now
+    (passes reads_below c.args.rules.now c.loop-rule.rule-index c.requires.rules (omega arith)) below
     (sym (c.is_strictly_broken.ensures p after) ∙ c.if-is_strictly_broken.true)

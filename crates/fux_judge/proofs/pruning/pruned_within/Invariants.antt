@@ -6,6 +6,7 @@ use Rattle.fux_judge.proofs.pruning.pruned_within.Given as goal
 
 abbrev pub invariant-loop-voice : goal.invariant-loop-voice
 invariant-loop-voice l = record {
-  least : (p : List (List Cell)) → IsAfter p l.moment → l.least ≤ voice_charges l.voice l.moment.exercise.now l.sheet p l.moment.column.now;
+  least : (p : List (List Cell)) → IsAfter p l.moment
+      → l.least ≤ voice_charges l.voice l.moment.exercise.now l.sheet p l.moment.column.now;
   small : l.least ≤ 131070 * l.voice;
 }

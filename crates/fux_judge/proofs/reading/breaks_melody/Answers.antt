@@ -10,5 +10,6 @@ returns-then-looks_back c = λ p after.
 
 pub returns : goal.returns
 returns c = λ p after.
-    c.breaks.ensures ∙ near_then (melody.near_rows c.args.rule c.args.m.now.exercise.now c.args.voices.bits) p c.args.m.now after
+    c.breaks.ensures ∙ near_then (melody.near_rows c.args.rule c.args.m.now.exercise.now c.args.voices.bits) p
+    c.args.m.now after
     ∙ melodic_then c.args.rule c.args.voices.bits p c.args.m.now c.requires.rule (sym c.if-looks_back.ensures)

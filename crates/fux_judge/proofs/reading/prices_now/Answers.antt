@@ -9,9 +9,11 @@ use Rattle.fux_judge.proofs.reading.prices_now.Goals as goal
 pub returns-then-is_empty-clause-value : goal.returns-then-is_empty-clause-value
 returns-then-is_empty-clause-value c = λ p after.
     nothing_relaxed c.args.rule p c.args.m.now
-    (sym c.as_slice.ensures ∙ nil_from_length c.as_slice.result.now (eqb-true _ 0 (sym c.is_empty.ensures ∙ c.if-is_empty.true)))
+    (sym c.as_slice.ensures ∙ nil_from_length c.as_slice.result.now
+    (eqb-true _ 0 (sym c.is_empty.ensures ∙ c.if-is_empty.true)))
 
 pub returns-clause-value : goal.returns-clause-value
 returns-clause-value c = λ p after.
-    c.prices_for.ensures.value p after ∙ ap (λ sets. prices_then sets c.args.rule p c.args.m.now) (c.sets_of.ensures.value ∙ ap (λ form. sets_of form c.args.m.now.exercise.now.voices) c.form_of.ensures)
+    c.prices_for.ensures.value p after ∙ ap (λ sets. prices_then sets c.args.rule p c.args.m.now)
+    (c.sets_of.ensures.value ∙ ap (λ form. sets_of form c.args.m.now.exercise.now.voices) c.form_of.ensures)
     ∙ prices_for_all c.args.rule p c.args.m.now

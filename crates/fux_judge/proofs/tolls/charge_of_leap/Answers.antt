@@ -9,9 +9,11 @@ pub returns-then-leap_open_after-clause-value : goal.returns-then-leap_open_afte
 returns-then-leap_open_after-clause-value c = λ behind are.
     c.from.ensures ∙ c.weight.ensures
     ∙ ap (λ (b : Bool). if b then weight_of c.args.sheet.now 13 else 0)
-    (sym c.if-leap_open_after.true ∙ c.leap_open_after.ensures (line c.args.voice behind) (notes_at behind c.args.voices.now c.args.voice c.index-voices-voice.result are c.told-voices c.requires))
+    (sym c.if-leap_open_after.true ∙ c.leap_open_after.ensures (line c.args.voice behind)
+    (notes_at behind c.args.voices.now c.args.voice c.index-voices-voice.result are c.told-voices c.requires))
 
 pub returns-else-leap_open_after-clause-value : goal.returns-else-leap_open_after-clause-value
 returns-else-leap_open_after-clause-value c = λ behind are.
     ap (λ (b : Bool). if b then weight_of c.args.sheet.now 13 else 0)
-    (sym c.if-leap_open_after.false ∙ c.leap_open_after.ensures (line c.args.voice behind) (notes_at behind c.args.voices.now c.args.voice c.index-voices-voice.result are c.told-voices c.requires))
+    (sym c.if-leap_open_after.false ∙ c.leap_open_after.ensures (line c.args.voice behind)
+    (notes_at behind c.args.voices.now c.args.voice c.index-voices-voice.result are c.told-voices c.requires))

@@ -13,10 +13,19 @@ use Rattle.fux_judge.proofs.tolls.charge_of_voice.Goals as goal
 pub returns-clause-value : goal.returns-clause-value
 returns-clause-value c = λ p after.
     let latest : c.of.result ≡ previous_pitch (line c.args.voice (reverse p)) =
-    c.of.ensures ∙ ap (λ pitches. pitch_at pitches c.args.voice) after.latest ∙ latest_of_line (reverse p) c.args.voice c.requires in
-    let move : Option Pitch → Cell → ℕ = λ previous now. (if holds_of (melody.charges_move 7) (move_from previous now) then weight_of c.args.sheet.now 7 else 0) + (if holds_of (melody.charges_move 8) (move_from previous now) then weight_of c.args.sheet.now 8 else 0) + (if holds_of (melody.charges_move 9) (move_from previous now) then weight_of c.args.sheet.now 9 else 0) + (if holds_of (melody.charges_move 10) (move_from previous now) then weight_of c.args.sheet.now 10 else 0) in
-    let leap : Cell → ℕ = λ now. if melody.leaves_leap_open (melody.before_last (melody.pitches (line c.args.voice (reverse p)))) (melody.last_of (melody.pitches (line c.args.voice (reverse p)))) now then weight_of c.args.sheet.now 13 else 0 in
+    c.of.ensures ∙ ap (λ pitches. pitch_at pitches c.args.voice) after.latest
+    ∙ latest_of_line (reverse p) c.args.voice c.requires in
+    let move : Option Pitch → Cell → ℕ = λ previous now.
+    (if holds_of (melody.charges_move 7) (move_from previous now) then weight_of c.args.sheet.now 7 else 0) +
+    (if holds_of (melody.charges_move 8) (move_from previous now) then weight_of c.args.sheet.now 8 else 0) +
+    (if holds_of (melody.charges_move 9) (move_from previous now) then weight_of c.args.sheet.now 9 else 0) +
+    (if holds_of (melody.charges_move 10) (move_from previous now) then weight_of c.args.sheet.now 10 else 0) in
+    let leap : Cell → ℕ = λ now. if melody.leaves_leap_open
+    (melody.before_last (melody.pitches (line c.args.voice (reverse p))))
+    (melody.last_of (melody.pitches (line c.args.voice (reverse p)))) now then weight_of c.args.sheet.now 13
+    else 0 in
     paid_by_voice c.args.m.now.exercise.now c.args.sheet.now p c.args.m.now.column.now c.args.voice _ _
     (sym c.is_free.ensures ∙ c.if-not-is_free.false)
-    (c.charge_of_move.ensures.value ∙ ap (λ previous. move previous c.cell_of-cell.result) latest ∙ ap (move (previous_pitch (line c.args.voice (reverse p)))) c.cell_of-cell.ensures)
+    (c.charge_of_move.ensures.value ∙ ap (λ previous. move previous c.cell_of-cell.result) latest
+    ∙ ap (move (previous_pitch (line c.args.voice (reverse p)))) c.cell_of-cell.ensures)
     (c.charge_of_leap.ensures.value (reverse p) after.state.melody ∙ ap leap c.cell_of-cell.ensures)

@@ -13,7 +13,8 @@ other false y h e = h
 pub returns-then-not-is_moving-clause-value : goal.returns-then-not-is_moving-clause-value
 returns-then-not-is_moving-clause-value c = λ p after.
     c.cost.ensures.value ∙ near_then (dissonance.toll_rows c.args.toll c.args.m.now.exercise.now) p c.args.m.now after
-    ∙ dissonance_cost c.args.toll p c.args.m.now (other (is_moving_toll c.args.toll) (is_clashing_toll c.args.toll) c.requires (sym c.if-not-is_moving.ensures))
+    ∙ dissonance_cost c.args.toll p c.args.m.now
+    (other (is_moving_toll c.args.toll) (is_clashing_toll c.args.toll) c.requires (sym c.if-not-is_moving.ensures))
 
 pub returns-then-toll-eq14-clause-value : goal.returns-then-toll-eq14-clause-value
 returns-then-toll-eq14-clause-value c = λ p after.
@@ -23,4 +24,5 @@ returns-then-toll-eq14-clause-value c = λ p after.
 pub returns-clause-value : goal.returns-clause-value
 returns-clause-value c = λ p after.
     c.cost-2.ensures.value ∙ near_then (motion.toll_rows c.args.toll c.args.m.now.exercise.now) p c.args.m.now after
-    ∙ motion_cost c.args.toll p c.args.m.now (sym c.if-not-is_moving.ensures) (ne_eqb c.args.toll 14 c.if-toll-eq14.false)
+    ∙ motion_cost c.args.toll p c.args.m.now (sym c.if-not-is_moving.ensures)
+    (ne_eqb c.args.toll 14 c.if-toll-eq14.false)

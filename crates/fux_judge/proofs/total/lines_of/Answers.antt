@@ -9,6 +9,7 @@ loop-v-preserved c =
     let ex = c.args.ex.now in
     let f : ℕ → ℕ = λ v. cost_of_line c.args.sheet.now (cells_of_voice c.args.score.now.columns v) in
     record {
-      value = sum_kept-on f (is_free ex) c.loop-v.v ex.voices c.loop-v.sum c.line_of-sum.result _ (omega (arith, c.loop-v-test.true)) c.line_of-sum.ensures.value c.loop-v.invariant.value;
+      value = sum_kept-on f (is_free ex) c.loop-v.v ex.voices c.loop-v.sum c.line_of-sum.result _
+          (omega (arith, c.loop-v-test.true)) c.line_of-sum.ensures.value c.loop-v.invariant.value;
       bound = omega (arith, c.loop-v.invariant.bound, c.line_of-sum.ensures.bound);
     }

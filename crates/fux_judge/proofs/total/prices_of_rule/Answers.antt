@@ -11,8 +11,11 @@ use Rattle.fux_judge.proofs.total.prices_of_rule.Goals as goal
 pub returns-clause-value : goal.returns-clause-value
 returns-clause-value c =
     let ex = c.args.ex.now in
-    let price : ℕ → ℕ = λ voices. if is_broken c.args.rule ex voices c.args.score.now.columns c.args.i then price_at_place c.args.rule ex voices c.args.i else 0 in
+    let price : ℕ → ℕ = λ voices. if is_broken c.args.rule ex voices c.args.score.now.columns c.args.i
+    then price_at_place c.args.rule ex voices c.args.i else 0 in
     let sets = c.sets_of-bits-items.result.now in
-    c.loop-bits.invariant.value ∙ ap (sum_by price) (take_all c.loop-bits.bits-index sets (omega (arith, c.loop-bits-test.false)))
+    c.loop-bits.invariant.value ∙ ap (sum_by price)
+    (take_all c.loop-bits.bits-index sets (omega (arith, c.loop-bits-test.false)))
     ∙ ap (sum_by price) (c.sets_of-bits-items.ensures.value ∙ ap (λ form. sets_of form ex.voices) c.form_of.ensures)
-    ∙ sym (((rule_keeps c.args.rule).form ex c.args.i _ _ _).sum (λ voices. price_at_place c.args.rule ex voices c.args.i))
+    ∙ sym (((rule_keeps c.args.rule).form ex c.args.i _ _ _).sum
+    (λ voices. price_at_place c.args.rule ex voices c.args.i))

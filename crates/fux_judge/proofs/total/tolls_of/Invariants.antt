@@ -6,6 +6,7 @@ use Rattle.fux_judge.proofs.total.tolls_of.Given as goal
 
 abbrev pub invariant-loop-toll : goal.invariant-loop-toll
 invariant-loop-toll l = record {
-  value : l.sum ≡ sum_by (λ toll. cost_at toll l.ex l.score.columns l.i * weight_of l.sheet toll) (take l.toll-index l.toll-items);
+  value : l.sum ≡ sum_by (λ toll. cost_at toll l.ex l.score.columns l.i * weight_of l.sheet toll)
+      (take l.toll-index l.toll-items);
   small : l.sum ≤ 281470681677825 * l.toll-index;
 }

@@ -15,4 +15,5 @@ none_in_empty (rule ∷ rules) =
 pub returns-else-set-ne0 : goal.returns-else-set-ne0
 returns-else-set-ne0 c =
     let empty : c.args.set.bits ≡ 0 = omega (arith, c.if-set-ne0.false) in
-    ap not (eq-eqb c.args.set.bits 0 empty) ∙ sym (ap (λ n. list_any (has_rule n) rules_at_once) empty ∙ none_in_empty rules_at_once)
+    ap not (eq-eqb c.args.set.bits 0 empty)
+    ∙ sym (ap (λ n. list_any (has_rule n) rules_at_once) empty ∙ none_in_empty rules_at_once)

@@ -10,31 +10,39 @@ use Rattle.fux_judge.proofs.unbroken.step_unbroken.Goals as goal
 pub returns-then-settles_late_break-clause-broken : goal.returns-then-settles_late_break-clause-broken
 returns-then-settles_late_break-clause-broken c = λ p st on.
     broken_late c.args.ex.now p c.args.col.now.items on
-    (sym (c.settles_late_break.ensures p c.args.col.now.items record { reached = c.next_state-next.ensures.state p st; on = on }) ∙ c.if-settles_late_break.true)
+    (sym (c.settles_late_break.ensures p c.args.col.now.items record
+    { reached = c.next_state-next.ensures.state p st; on = on }) ∙ c.if-settles_late_break.true)
 
 pub returns-then-has_some-clause-broken : goal.returns-then-has_some-clause-broken
 returns-then-has_some-clause-broken c = λ p st on.
     let col = c.args.col.now.items in
     let m = c.moment_of-moment.result in
-    broken_at_once c.args.ex.now p col c.args.sheet.now m c.moment_of-moment.ensures.exercise c.moment_of-moment.ensures.column on
-    (sym (c.settles_late_break.ensures p col record { reached = c.next_state-next.ensures.state p st; on = on }) ∙ c.if-settles_late_break.false)
-    ∙ sym (some_at_once (has_rule c.readings-paid.result.0.bits) (λ rule. is_strictly_broken_then all_sets rule p m) (c.readings-paid.ensures.broken p (c.moment_of-moment.ensures.after p st)))
+    broken_at_once c.args.ex.now p col c.args.sheet.now m c.moment_of-moment.ensures.exercise
+    c.moment_of-moment.ensures.column on
+    (sym (c.settles_late_break.ensures p col record { reached = c.next_state-next.ensures.state p st; on = on })
+    ∙ c.if-settles_late_break.false)
+    ∙ sym (some_at_once (has_rule c.readings-paid.result.0.bits) (λ rule. is_strictly_broken_then all_sets rule p m)
+    (c.readings-paid.ensures.broken p (c.moment_of-moment.ensures.after p st)))
     ∙ sym c.has_some.ensures ∙ c.if-has_some.true
 
 pub returns-clause-unbroken : goal.returns-clause-unbroken
 returns-clause-unbroken c = λ p st on.
     let col = c.args.col.now.items in
     let m = c.moment_of-moment.result in
-    broken_at_once c.args.ex.now p col c.args.sheet.now m c.moment_of-moment.ensures.exercise c.moment_of-moment.ensures.column on
-    (sym (c.settles_late_break.ensures p col record { reached = c.next_state-next.ensures.state p st; on = on }) ∙ c.if-settles_late_break.false)
-    ∙ sym (some_at_once (has_rule c.readings-paid.result.0.bits) (λ rule. is_strictly_broken_then all_sets rule p m) (c.readings-paid.ensures.broken p (c.moment_of-moment.ensures.after p st)))
+    broken_at_once c.args.ex.now p col c.args.sheet.now m c.moment_of-moment.ensures.exercise
+    c.moment_of-moment.ensures.column on
+    (sym (c.settles_late_break.ensures p col record { reached = c.next_state-next.ensures.state p st; on = on })
+    ∙ c.if-settles_late_break.false)
+    ∙ sym (some_at_once (has_rule c.readings-paid.result.0.bits) (λ rule. is_strictly_broken_then all_sets rule p m)
+    (c.readings-paid.ensures.broken p (c.moment_of-moment.ensures.after p st)))
     ∙ sym c.has_some.ensures ∙ c.if-has_some.false
 
 pub returns-clause-settled : goal.returns-clause-settled
 returns-clause-settled c = λ p st on.
     let col = c.args.col.now.items in
     let m = c.moment_of-moment.result in
-    step_pays c.args.ex.now p col c.args.sheet.now m c.moment_of-moment.ensures.exercise c.moment_of-moment.ensures.column on _ _ _
+    step_pays c.args.ex.now p col c.args.sheet.now m c.moment_of-moment.ensures.exercise
+    c.moment_of-moment.ensures.column on _ _ _
     (c.readings-paid.ensures.paid p (c.moment_of-moment.ensures.after p st))
     (c.late_charges.ensures.value p col record { reached = c.next_state-next.ensures.state p st; on = on })
     (c.late_prices.ensures.value p col record { reached = c.next_state-next.ensures.state p st; on = on })
@@ -45,7 +53,8 @@ returns-clause-paid c = λ p st on.
     let m = c.moment_of-moment.result in
     paid_grows c.args.ex.now p col c.args.sheet.now
     ∙ ap (λ n. paid c.args.ex.now c.args.sheet.now p + n)
-    (sym (step_pays c.args.ex.now p col c.args.sheet.now m c.moment_of-moment.ensures.exercise c.moment_of-moment.ensures.column on _ _ _
+    (sym (step_pays c.args.ex.now p col c.args.sheet.now m c.moment_of-moment.ensures.exercise
+    c.moment_of-moment.ensures.column on _ _ _
     (c.readings-paid.ensures.paid p (c.moment_of-moment.ensures.after p st))
     (c.late_charges.ensures.value p col record { reached = c.next_state-next.ensures.state p st; on = on })
     (c.late_prices.ensures.value p col record { reached = c.next_state-next.ensures.state p st; on = on })))

@@ -7,4 +7,5 @@ use Rattle.fux_judge.specs.Moments.{IsAfter, is_strictly_broken_then}
 use Rattle.fux_judge.proofs.verdict.broken_of.Given as goal
 
 abbrev pub invariant-loop-rule : goal.invariant-loop-rule
-invariant-loop-rule l = (p : List (List Cell)) → IsAfter p l.m → (r : ℕ) → has_rule l.set.bits r ≡ list_any (λ rule. is_strictly_broken_then all_sets rule p l.m && r == rule) (take l.rule-index l.rules)
+invariant-loop-rule l = (p : List (List Cell)) → IsAfter p l.m → (r : ℕ) → has_rule l.set.bits r
+    ≡ list_any (λ rule. is_strictly_broken_then all_sets rule p l.m && r == rule) (take l.rule-index l.rules)

@@ -22,10 +22,13 @@ returns-clause-state c = λ p st.
     let Shapes : List Cell → Type 0 = λ x. IsShapesOf c.args.ex.now (p ++ x ∷ []) c.noted.result in
     let Lines : List Cell → Type 0 = λ x. IsBarLinesOf (p ++ x ∷ []) c.noted-2.result in
     record {
-      newest = subst Newest same (c.with.ensures.newest c.args.ex.now.voices p c.requires.valid.most_voices (sym full) st.newest);
-      melody = subst Notes (ap (λ x. x ∷ reverse p) same ∙ sym (reverse-push p col)) (c.all_noted.ensures (reverse p) st.melody);
+      newest = subst Newest same (c.with.ensures.newest c.args.ex.now.voices p c.requires.valid.most_voices (sym full)
+          st.newest);
+      melody = subst Notes (ap (λ x. x ∷ reverse p) same ∙ sym (reverse-push p col))
+          (c.all_noted.ensures (reverse p) st.melody);
       rhythm = subst Shapes same (c.noted.ensures p (sym st.newest.count) st.rhythm);
-      gauges = subst Gauges (ap (λ x. x ∷ reverse p) same ∙ sym (reverse-push p col)) (c.all_gauged.ensures (reverse p) (length-reverse p ∙ sym st.newest.count) st.gauges);
+      gauges = subst Gauges (ap (λ x. x ∷ reverse p) same ∙ sym (reverse-push p col))
+          (c.all_gauged.ensures (reverse p) (length-reverse p ∙ sym st.newest.count) st.gauges);
       ahead = subst Ahead same (c.all_ahead_after.ensures p (sym st.newest.count) st.ahead);
       motion = subst Lines same (c.noted-2.ensures p (sym st.newest.count) st.motion);
     }

@@ -7,6 +7,7 @@ use Rattle.fux_judge.proofs.verdict.prices_of.Given as goal
 
 abbrev pub invariant-loop-rule : goal.invariant-loop-rule
 invariant-loop-rule l = record {
-  value : (p : List (List Cell)) → IsAfter p l.m → l.sum ≡ sum_by (λ rule. prices_then all_sets rule p l.m) (take l.rule-index l.rules);
+  value : (p : List (List Cell)) → IsAfter p l.m → l.sum
+      ≡ sum_by (λ rule. prices_then all_sets rule p l.m) (take l.rule-index l.rules);
   small : l.sum ≤ 60000 * l.rule-index;
 }

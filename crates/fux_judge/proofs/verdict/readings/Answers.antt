@@ -14,13 +14,16 @@ all_numbers = refl
 pub returns-then-is_quiet-clause-broken : goal.returns-then-is_quiet-clause-broken
 returns-then-is_quiet-clause-broken c = λ p after r.
     ap (λ n. n == 1) (bit_at-zero r)
-    ∙ sym (none_broken p c.args.m.now after.state.newest.count (sym c.is_quiet.ensures ∙ c.if-is_quiet.true) rules_at_once all_numbers r)
+    ∙ sym (none_broken p c.args.m.now after.state.newest.count (sym c.is_quiet.ensures ∙ c.if-is_quiet.true)
+    rules_at_once all_numbers r)
 
 pub returns-then-is_quiet-clause-paid : goal.returns-then-is_quiet-clause-paid
 returns-then-is_quiet-clause-paid c = λ p after.
     let quiet = sym c.is_quiet.ensures ∙ c.if-is_quiet.true in
-    none_together (sum_by (toll_then c.args.sheet.now p c.args.m.now) tolls_at_once) (sum_by (λ rule. prices_then all_sets rule p c.args.m.now) rules_at_once)
-    (none_charged p c.args.m.now after.state.newest.count quiet c.args.sheet.now) (none_priced p c.args.m.now after.state.newest.count quiet rules_at_once all_numbers)
+    none_together (sum_by (toll_then c.args.sheet.now p c.args.m.now) tolls_at_once)
+    (sum_by (λ rule. prices_then all_sets rule p c.args.m.now) rules_at_once)
+    (none_charged p c.args.m.now after.state.newest.count quiet c.args.sheet.now)
+    (none_priced p c.args.m.now after.state.newest.count quiet rules_at_once all_numbers)
   where
     none_together : (a b : ℕ) → a ≡ 0 → b ≡ 0 → 0 ≡ a + b
     none_together a b e f = omega arith

@@ -13,16 +13,21 @@ returns-clause-broken c = λ p st on r.
     let col = c.args.col.now.items in
     let m = c.moment_of-moment.result in
     c.with_late-broken.ensures p col record { reached = c.next_state-next.ensures.state p st; on = on } r
-    ∙ ap (λ b. b || list_any (λ rule. breaks_late c.args.ex.now p col rule && r == rule) late_rules) (c.readings-paid.ensures.broken p after r)
-    ∙ step_breaks c.args.ex.now p col c.args.sheet.now m c.moment_of-moment.ensures.exercise c.moment_of-moment.ensures.column on r
+    ∙ ap (λ b. b || list_any (λ rule. breaks_late c.args.ex.now p col rule && r == rule) late_rules)
+    (c.readings-paid.ensures.broken p after r)
+    ∙ step_breaks c.args.ex.now p col c.args.sheet.now m c.moment_of-moment.ensures.exercise
+    c.moment_of-moment.ensures.column on r
 
 pub returns-clause-settled : goal.returns-clause-settled
 returns-clause-settled c = λ p st on.
     let after = c.moment_of-moment.ensures.after p st in
     let col = c.args.col.now.items in
     let m = c.moment_of-moment.result in
-    step_pays c.args.ex.now p col c.args.sheet.now m c.moment_of-moment.ensures.exercise c.moment_of-moment.ensures.column on _ _ _
-    (c.readings-paid.ensures.paid p after) (c.late_charges.ensures.value p col record { reached = c.next_state-next.ensures.state p st; on = on }) (c.late_prices.ensures.value p col record { reached = c.next_state-next.ensures.state p st; on = on })
+    step_pays c.args.ex.now p col c.args.sheet.now m c.moment_of-moment.ensures.exercise
+    c.moment_of-moment.ensures.column on _ _ _
+    (c.readings-paid.ensures.paid p after)
+    (c.late_charges.ensures.value p col record { reached = c.next_state-next.ensures.state p st; on = on })
+    (c.late_prices.ensures.value p col record { reached = c.next_state-next.ensures.state p st; on = on })
 
 pub returns-clause-paid : goal.returns-clause-paid
 returns-clause-paid c = λ p st on.
@@ -31,8 +36,12 @@ returns-clause-paid c = λ p st on.
     let m = c.moment_of-moment.result in
     paid_grows c.args.ex.now p col c.args.sheet.now
     ∙ ap (λ n. paid c.args.ex.now c.args.sheet.now p + n)
-    (sym (step_pays c.args.ex.now p col c.args.sheet.now m c.moment_of-moment.ensures.exercise c.moment_of-moment.ensures.column on _ _ _
-    (c.readings-paid.ensures.paid p after) (c.late_charges.ensures.value p col record { reached = c.next_state-next.ensures.state p st; on = on }) (c.late_prices.ensures.value p col record { reached = c.next_state-next.ensures.state p st; on = on })))
+    (sym (step_pays c.args.ex.now p col c.args.sheet.now m c.moment_of-moment.ensures.exercise
+    c.moment_of-moment.ensures.column on _ _ _
+    (c.readings-paid.ensures.paid p after)
+    (c.late_charges.ensures.value p col record { reached = c.next_state-next.ensures.state p st; on = on })
+    (c.late_prices.ensures.value p col record { reached = c.next_state-next.ensures.state p st; on = on })))
 
 pub returns-clause-least : goal.returns-clause-least
-returns-clause-least c = λ p st prefix. c.least-least.ensures.value (p ++ c.args.col.now.items ∷ []) (c.next_state-next.ensures.state p st) prefix
+returns-clause-least c = λ p st prefix. c.least-least.ensures.value (p ++ c.args.col.now.items ∷ [])
+    (c.next_state-next.ensures.state p st) prefix

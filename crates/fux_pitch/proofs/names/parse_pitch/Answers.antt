@@ -10,7 +10,9 @@ returns-in_default-clause-every c p e =
     absurd (omega arith)
 
 pub returns-in_default-2-clause-every : goal.returns-in_default-2-clause-every
-returns-in_default-2-clause-every c p e = absurd (no_sign c.args.text.now (subst IsNameShaped e (name_of-shape p)) c.in_default.len_at_least (λ s. omega arith) (λ f. omega arith))
+returns-in_default-2-clause-every c p e = absurd
+    (no_sign c.args.text.now (subst IsNameShaped e (name_of-shape p)) c.in_default.len_at_least (λ s. omega arith)
+    (λ f. omega arith))
 
 pub returns-in_default-3-clause-every : goal.returns-in_default-3-clause-every
 returns-in_default-3-clause-every c p e =

@@ -15,7 +15,10 @@ returns-in_err-letter_of-clause-every c p e =
     absurd (none_is_some _ (c.in_err-letter_of.ensures.every (degree_of p % 7) (omega arith) parts.same_letter))
 
 pub returns-clause-named : goal.returns-clause-named
-returns-clause-named c = named_by_parts _ c.args.alter c.args.digit _ _ c.in_ok-letter_of.ensures.small c.in_ok-letter_of.ensures.same (omega arith) (c.new.ensures.value ∙ ap (pitch_at _) (to_z-of_z _ _ c.ranges.alter))
+returns-clause-named c = named_by_parts _ c.args.alter c.args.digit _ _ c.in_ok-letter_of.ensures.small
+    c.in_ok-letter_of.ensures.same (omega arith) (c.new.ensures.value ∙ ap (pitch_at _) (to_z-of_z _ _ c.ranges.alter))
 
 pub returns-clause-every : goal.returns-clause-every
-returns-clause-every c = found_by_parts _ _ c.args.digit _ _ c.in_ok-letter_of.ensures.small c.in_ok-letter_of.ensures.same c.requires.flat c.requires.sharp (c.new.ensures.value ∙ ap (pitch_at _) (to_z-of_z _ _ c.ranges.alter))
+returns-clause-every c = found_by_parts _ _ c.args.digit _ _ c.in_ok-letter_of.ensures.small
+    c.in_ok-letter_of.ensures.same c.requires.flat c.requires.sharp
+    (c.new.ensures.value ∙ ap (pitch_at _) (to_z-of_z _ _ c.ranges.alter))

@@ -8,4 +8,5 @@ returns c =
 
 pub returns-in_err-file : goal.returns-in_err-file
 returns-in_err-file c =
-    rw c.from_residual.ensures (c.in_err-file.ensures.value ∙ sym (file_at-named_files c.args.files.now c.args.name.now))
+    rw c.from_residual.ensures (c.in_err-file.ensures.value
+    ∙ sym (file_at-named_files c.args.files.now c.args.name.now))

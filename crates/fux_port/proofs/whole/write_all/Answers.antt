@@ -14,6 +14,7 @@ loop-done-preserved g c =
     let taken = rw take_rest at c.in_ok-done.ensures.ok in (
       omega (arith, c.in_ok-done.ensures.fits, length-take-le {A = ℕ}, length-drop {A = ℕ}),
       rw take-add
-          (taken ∙ ap (λ told. appended told (take count (drop done bytes))) old.1 ∙ appended-append (g.K.Sink.written c.args.sink.now) (take done bytes) (take count (drop done bytes))),
+          (taken ∙ ap (λ told. appended told (take count (drop done bytes))) old.1
+          ∙ appended-append (g.K.Sink.written c.args.sink.now) (take done bytes) (take count (drop done bytes))),
       omega (arith, old.2, c.in_ok-done.ensures.faults),
     )

@@ -8,7 +8,8 @@ pub returns-in-Nothing : goal.returns-in-Nothing
 returns-in-Nothing g c =
     let space = c.in_ok-space.space in
     none_certified c.args.budget c.args.sheet.now c.args.exercise.now space
-    (Rose (g.K.Sink.faults c.args.out.now) (g.K.Sink.faults c.put_certificate-in-Nothing.new.out)) _ _ _ c.in_ok-space.ensures.made
+    (Rose (g.K.Sink.faults c.args.out.now) (g.K.Sink.faults c.put_certificate-in-Nothing.new.out)) _ _ _
+    c.in_ok-space.ensures.made
     (subst (IsFound space.exercise space.sheet c.args.budget) c.in-Nothing.is c.in-Ok.ensures)
     c.put_certificate-in-Nothing.ensures
 

@@ -8,7 +8,8 @@ pub returns-in-Ok : goal.returns-in-Ok
 returns-in-Ok c =
     let app = app_of c.args.command in
     let known = c.in-Ok.ensures in
-    rows_found app (texts c.args.words.now) (rows_of (found_of c.in-Ok.matches)) (known.kinds c.requires) (known.matches (simple_of app c.requires)).0
+    rows_found app (texts c.args.words.now) (rows_of (found_of c.in-Ok.matches)) (known.kinds c.requires)
+    (known.matches (simple_of app c.requires)).0
 
 pub returns : goal.returns
 returns c =

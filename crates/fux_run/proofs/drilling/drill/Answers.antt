@@ -4,7 +4,8 @@ use Rattle.fux_run.proofs.drilling.drill.Goals as goal
 
 pub returns-in-Ok : goal.returns-in-Ok
 returns-in-Ok g c =
-    let same : c.default_sheet.result ≡ usual_sheet = ap (λ weights. record { weights = weights }) c.default_sheet.ensures in
+    let same : c.default_sheet.result ≡ usual_sheet = ap (λ weights. record { weights = weights })
+    c.default_sheet.ensures in
     record {
       exercise = c.in_ok-exercise.exercise;
       drilled = c.in_ok-exercise.ensures;

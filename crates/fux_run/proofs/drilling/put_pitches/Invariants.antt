@@ -5,4 +5,5 @@ use Rattle.fux_run.proofs.drilling.put_pitches.Given as goal
 
 -- what is written so far, and what is left, are what is to be written
 abbrev pub invariant-loop-pitch : goal.invariant-loop-pitch
-invariant-loop-pitch l = string_bytes l.text ++ spaced (map name_of (drop l.pitch-index l.pitches)) ≡ string_bytes l.fn.text ++ spaced (map name_of l.pitches)
+invariant-loop-pitch l = string_bytes l.text ++ spaced (map name_of (drop l.pitch-index l.pitches))
+    ≡ string_bytes l.fn.text ++ spaced (map name_of l.pitches)

@@ -17,9 +17,11 @@ returns-in_err-weights-in-OnExercise-clause-made g c =
     let told = err_from_is_err_and c.from_residual-in_err-weights-in-OnExercise.result
     c.from_residual-in_err-weights-in-OnExercise.ensures.1 in
     rw (c.in-OnExercise.is, told.1, told.2) (sheet_unread c.in-OnExercise.name.now (sheet_named c.in-OnExercise.sheet)
-    (files c.args.shelf.now) (files c.read_content.new.shelf) (Rose (faults c.args.shelf.now) (faults c.read_weights.new.shelf))
+    (files c.args.shelf.now) (files c.read_content.new.shelf)
+    (Rose (faults c.args.shelf.now) (faults c.read_weights.new.shelf))
     (Rose (faults c.read_content.new.shelf) (faults c.read_weights.new.shelf)) 65536 c.in_ok-text-in-OnExercise.text _
-    (λ complaint. IsMade task (files c.args.shelf.now) (Rose (faults c.args.shelf.now) (faults c.read_weights.new.shelf)) (Err complaint))
+    (λ complaint. IsMade task (files c.args.shelf.now)
+    (Rose (faults c.args.shelf.now) (faults c.read_weights.new.shelf)) (Err complaint))
     (λ file is. inl is) tt
     c.in_ok-text-in-OnExercise.ensures.reads c.in_ok-text-in-OnExercise.ensures.files
     (rose_later _ _ _ c.in_ok-text-in-OnExercise.ensures.faults) c.in_err-weights-in-OnExercise.ensures.reads)
@@ -34,10 +36,12 @@ returns-in_ok-weights-in-OnExercise-clause-made g c =
     rw c.in-OnExercise.is (made_said (on_exercise name sheet job) (g.F.Shelf.files c.args.shelf.now) _
     (text ∷ as_list weights) c.of_texts.result c.said.result (
       c.in_ok-text-in-OnExercise.ensures.reads,
-      read_same 65536 (g.F.Shelf.files c.args.shelf.now) _ (as_list sheet) (as_list weights) c.in_ok-text-in-OnExercise.ensures.files
+      read_same 65536 (g.F.Shelf.files c.args.shelf.now) _ (as_list sheet) (as_list weights)
+          c.in_ok-text-in-OnExercise.ensures.files
           c.in_ok-weights-in-OnExercise.ensures.reads,
     )
-    (of_two (g.F.Shelf.files c.args.shelf.now) name sheet job text weights c.of_texts.result c.of_texts.ensures) c.said.ensures)
+    (of_two (g.F.Shelf.files c.args.shelf.now) name sheet job text weights c.of_texts.result c.of_texts.ensures)
+    c.said.ensures)
 
 pub returns-in_err-weights-in-Check-clause-made :
     goal.returns-in_err-weights-in-Check-clause-made
@@ -48,9 +52,12 @@ returns-in_err-weights-in-Check-clause-made g c =
     let told = err_from_is_err_and c.from_residual-in_err-weights-in-Check.result
     c.from_residual-in_err-weights-in-Check.ensures.1 in
     rw (c.in-Check.is, told.1, told.2) (sheet_unread c.in-Check.name.now (sheet_named c.in-Check.sheet)
-    (files c.args.shelf.now) (files c.read_content-in-Check.new.shelf) (Rose (faults c.args.shelf.now) (faults c.read_weights-in-Check.new.shelf))
-    (Rose (faults c.read_content-in-Check.new.shelf) (faults c.read_weights-in-Check.new.shelf)) 65536 c.in_ok-text-in-Check.text _
-    (λ complaint. IsMade task (files c.args.shelf.now) (Rose (faults c.args.shelf.now) (faults c.read_weights-in-Check.new.shelf)) (Err complaint))
+    (files c.args.shelf.now) (files c.read_content-in-Check.new.shelf)
+    (Rose (faults c.args.shelf.now) (faults c.read_weights-in-Check.new.shelf))
+    (Rose (faults c.read_content-in-Check.new.shelf) (faults c.read_weights-in-Check.new.shelf)) 65536
+    c.in_ok-text-in-Check.text _
+    (λ complaint. IsMade task (files c.args.shelf.now)
+    (Rose (faults c.args.shelf.now) (faults c.read_weights-in-Check.new.shelf)) (Err complaint))
     (λ file is. inl is) tt
     c.in_ok-text-in-Check.ensures.reads c.in_ok-text-in-Check.ensures.files
     (rose_later _ _ _ c.in_ok-text-in-Check.ensures.faults) c.in_err-weights-in-Check.ensures.reads)
@@ -69,12 +76,14 @@ returns-in_ok-weights-in-Check-clause-made g c =
     rw c.in-Check.is (checked_said name certificate sheet (files c.args.shelf.now) rose
     (text ∷ as_list weights) c.check_texts.result c.said_within.result (
       c.in_ok-text-in-Check.ensures.reads,
-      read_same 65536 (files c.args.shelf.now) _ (as_list sheet) (as_list weights) same c.in_ok-weights-in-Check.ensures.reads,
+      read_same 65536 (files c.args.shelf.now) _ (as_list sheet) (as_list weights) same
+          c.in_ok-weights-in-Check.ensures.reads,
     )
     (of_check name certificate sheet (files c.args.shelf.now) rose (files c.read_weights-in-Check.new.shelf)
     (Rose (faults c.read_weights-in-Check.new.shelf) (faults c.check_texts.new.shelf)) text weights c.check_texts.result
     (c.in_ok-weights-in-Check.ensures.files ∙ same)
-    (λ later. rose_later _ _ _ c.in_ok-text-in-Check.ensures.faults (rose_later _ _ _ c.in_ok-weights-in-Check.ensures.faults later))
+    (λ later. rose_later _ _ _ c.in_ok-text-in-Check.ensures.faults
+    (rose_later _ _ _ c.in_ok-weights-in-Check.ensures.faults later))
     c.check_texts.ensures.checks) c.said_within.ensures)
 
 pub returns-in_ok-file-in-FromSmf-clause-made : goal.returns-in_ok-file-in-FromSmf-clause-made
@@ -84,9 +93,11 @@ returns-in_ok-file-in-FromSmf-clause-made g c =
     let file = c.in_ok-file-in-FromSmf.file in
     rw c.in-FromSmf.is (made_said (fromsmf name head) (g.F.Shelf.files c.args.shelf.now) _ (file ∷ []) c.from_smf.result
     c.said-in-FromSmf.result (c.in_ok-file-in-FromSmf.ensures.reads, tt)
-    (of_one (g.F.Shelf.files c.args.shelf.now) name head file c.from_smf.result c.from_smf.ensures) c.said-in-FromSmf.ensures)
+    (of_one (g.F.Shelf.files c.args.shelf.now) name head file c.from_smf.result c.from_smf.ensures)
+    c.said-in-FromSmf.ensures)
 
 pub returns-in-Drill-clause-made : goal.returns-in-Drill-clause-made
 returns-in-Drill-clause-made g c =
     rw c.in-Drill.is (made_said (drill c.in-Drill.number) (g.F.Shelf.files c.args.shelf.now) _ [] c.drill.result
-    c.said-in-Drill.result tt (of_none (g.F.Shelf.files c.args.shelf.now) c.in-Drill.number c.drill.result c.drill.ensures) c.said-in-Drill.ensures)
+    c.said-in-Drill.result tt (of_none (g.F.Shelf.files c.args.shelf.now) c.in-Drill.number c.drill.result
+    c.drill.ensures) c.said-in-Drill.ensures)

@@ -16,12 +16,16 @@ returns-in_err-weights-clause-ended g c =
     let sheet = sheet_named c.args.sheet in
     let told = err_from_is_err_and c.from_residual-in_err-weights.result c.from_residual-in_err-weights.ensures.1 in
     rw (told.1, told.2) (sheet_unread name sheet (files c.args.shelf.now) (files c.read_content.new.shelf)
-    (Rose (faults c.args.shelf.now) (faults c.read_weights.new.shelf)) (Rose (faults c.read_content.new.shelf) (faults c.read_weights.new.shelf))
+    (Rose (faults c.args.shelf.now) (faults c.read_weights.new.shelf))
+    (Rose (faults c.read_content.new.shelf) (faults c.read_weights.new.shelf))
     65536 c.in_ok-text.text _
-    (λ complaint. Ended (certify name sheet c.args.budget) (files c.args.shelf.now) (Rose (faults c.args.shelf.now) (faults c.read_weights.new.shelf))
-    (Rose (g.K.Sink.faults c.args.out.now) (g.K.Sink.faults c.args.out.now)) (g.K.Sink.written c.args.out.now) (g.K.Sink.written c.args.out.now) (Err complaint))
+    (λ complaint. Ended (certify name sheet c.args.budget) (files c.args.shelf.now)
+    (Rose (faults c.args.shelf.now) (faults c.read_weights.new.shelf))
+    (Rose (g.K.Sink.faults c.args.out.now) (g.K.Sink.faults c.args.out.now)) (g.K.Sink.written c.args.out.now)
+    (g.K.Sink.written c.args.out.now) (Err complaint))
     (λ file is. (refl, inl is)) refl
-    c.in_ok-text.ensures.reads c.in_ok-text.ensures.files (rose_later _ _ _ c.in_ok-text.ensures.faults) c.in_err-weights.ensures.reads)
+    c.in_ok-text.ensures.reads c.in_ok-text.ensures.files (rose_later _ _ _ c.in_ok-text.ensures.faults)
+    c.in_err-weights.ensures.reads)
 
 pub returns-clause-ended : goal.returns-clause-ended
 returns-clause-ended g c =
@@ -34,6 +38,8 @@ returns-clause-ended g c =
     ended_said (certify name sheet c.args.budget) (files c.args.shelf.now) _ cut (text ∷ as_list weights) _ _
     c.certify_texts.result c.said_of.result (
       c.in_ok-text.ensures.reads,
-      read_same 65536 (files c.args.shelf.now) _ (as_list sheet) (as_list weights) c.in_ok-text.ensures.files c.in_ok-weights.ensures.reads,
+      read_same 65536 (files c.args.shelf.now) _ (as_list sheet) (as_list weights) c.in_ok-text.ensures.files
+          c.in_ok-weights.ensures.reads,
     )
-    (of_texts (files c.args.shelf.now) name sheet c.args.budget text weights cut _ _ c.certify_texts.result c.certify_texts.ensures) c.said_of.ensures
+    (of_texts (files c.args.shelf.now) name sheet c.args.budget text weights cut _ _ c.certify_texts.result
+    c.certify_texts.ensures) c.said_of.ensures

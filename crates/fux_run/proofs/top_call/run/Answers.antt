@@ -8,11 +8,16 @@ use Rattle.fux_run.proofs.top_call.run.Goals.{Joined-ended}
 
 -- the run on these words
 ran : (g : _) (c : Joined-ended g)
-    → RanAs (asked (texts c.args.words.now)) (g.F.Shelf.files c.args.shelf.now) (Rose (g.F.Shelf.faults c.args.shelf.now) (g.F.Shelf.faults c.outcome-ended.new.shelf))
+    → RanAs (asked (texts c.args.words.now)) (g.F.Shelf.files c.args.shelf.now)
+    (Rose (g.F.Shelf.faults c.args.shelf.now) (g.F.Shelf.faults c.outcome-ended.new.shelf))
     (Rose (g.K.Sink.faults c.args.out.now) (g.K.Sink.faults c.outcome-ended.new.out))
     (g.K.Sink.written c.args.out.now) (g.K.Sink.written c.outcome-ended.new.out) c.outcome-ended.result c.code.result
     (Gets g.E.Sink.written g.E.Sink.faults c.args.err.now c.conclude.new.err)
-ran g c = record { ended = c.outcome-ended.ensures.ended; status = rw c.conclude.ensures.status at c.code.ensures; told = c.conclude.ensures.line }
+ran g c = record {
+  ended = c.outcome-ended.ensures.ended;
+  status = rw c.conclude.ensures.status at c.code.ensures;
+  told = c.conclude.ensures.line;
+}
 
 pub returns-clause-known : goal.returns-clause-known
 returns-clause-known g c = run_known _ _ _ _ _ _ _ _ _ (ran g c)
@@ -24,28 +29,34 @@ pub returns-clause-form : goal.returns-clause-form
 returns-clause-form g c = run_form _ _ _ _ _ _ _ _ _ (ran g c)
 
 pub returns-clause-unreadable : goal.returns-clause-unreadable
-returns-clause-unreadable g c = λ task is four. ran_unreadable task _ _ _ _ _ _ _ _ (of_task _ _ _ _ _ _ _ _ task _ is (ran g c)) four
+returns-clause-unreadable g c =
+    λ task is four. ran_unreadable task _ _ _ _ _ _ _ _ (of_task _ _ _ _ _ _ _ _ task _ is (ran g c)) four
 
 pub returns-clause-missing : goal.returns-clause-missing
-returns-clause-missing g c = λ task is name one missing room. ran_missing task _ _ _ _ _ _ _ _ (of_task _ _ _ _ _ _ _ _ task _ is (ran g c)) name one missing room
+returns-clause-missing g c = λ task is name one missing room. ran_missing task _ _ _ _ _ _ _ _
+    (of_task _ _ _ _ _ _ _ _ task _ is (ran g c)) name one missing room
 
 pub returns-clause-missing_within : goal.returns-clause-missing_within
-returns-clause-missing_within g c = λ task is name one missing room. ran_missing_within task _ _ _ _ _ _ _ _ (of_task _ _ _ _ _ _ _ _ task _ is (ran g c)) name one missing room
+returns-clause-missing_within g c = λ task is name one missing room. ran_missing_within task _ _ _ _ _ _ _ _
+    (of_task _ _ _ _ _ _ _ _ task _ is (ran g c)) name one missing room
 
 pub returns-clause-unwritable : goal.returns-clause-unwritable
 returns-clause-unwritable g c = λ five. (run_unwritable _ _ _ _ _ _ _ _ _ (ran g c) five).0
 
 pub returns-clause-works : goal.returns-clause-works
-returns-clause-works g c = λ task is read room. ran_works task _ _ _ _ _ _ _ _ (of_task _ _ _ _ _ _ _ _ task _ is (ran g c)) read room
+returns-clause-works g c =
+    λ task is read room. ran_works task _ _ _ _ _ _ _ _ (of_task _ _ _ _ _ _ _ _ task _ is (ran g c)) read room
 
 pub returns-clause-complete : goal.returns-clause-complete
-returns-clause-complete g c = λ task is there within reads writes. ran_complete task _ _ _ _ _ _ _ _ (of_task _ _ _ _ _ _ _ _ task _ is (ran g c)) there within reads writes
+returns-clause-complete g c = λ task is there within reads writes. ran_complete task _ _ _ _ _ _ _ _
+    (of_task _ _ _ _ _ _ _ _ task _ is (ran g c)) there within reads writes
 
 pub returns-clause-unwritten : goal.returns-clause-unwritten
 returns-clause-unwritten g c = λ stopped. run_unwritten _ _ _ _ _ _ _ _ _ (ran g c) stopped
 
 pub returns-clause-silent : goal.returns-clause-silent
-returns-clause-silent g c = λ done. gets_none g.E.Sink.written g.E.Sink.faults c.args.err.now c.conclude.new.err (run_silent _ _ _ _ _ _ _ _ _ (ran g c) done)
+returns-clause-silent g c = λ done. gets_none g.E.Sink.written g.E.Sink.faults c.args.err.now c.conclude.new.err
+    (run_silent _ _ _ _ _ _ _ _ _ (ran g c) done)
 
 pub returns-clause-usage_line : goal.returns-clause-usage_line
 returns-clause-usage_line g c = λ two. run_usage_line _ _ _ _ _ _ _ _ _ (ran g c) two

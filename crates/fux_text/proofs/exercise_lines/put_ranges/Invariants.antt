@@ -5,4 +5,5 @@ use Rattle.fux_text.proofs.exercise_lines.put_ranges.Given as goal
 
 -- what is written so far, and what is left, are what is to be written
 abbrev pub invariant-loop-line : goal.invariant-loop-line
-invariant-loop-line l = string_bytes l.out ++ text_of (map range_words (drop l.line-index l.lines)) ≡ string_bytes l.fn.out ++ text_of (map range_words l.lines)
+invariant-loop-line l = string_bytes l.out ++ text_of (map range_words (drop l.line-index l.lines))
+    ≡ string_bytes l.fn.out ++ text_of (map range_words l.lines)

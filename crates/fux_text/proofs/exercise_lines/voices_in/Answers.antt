@@ -11,11 +11,13 @@ loop-v-preserved c =
       | then-has_voice w ↦
           let test : p c.loop-v.v ≡ true = sym c.has_voice.ensures ∙ w.if-has_voice.true in (
             omega (arith, w.push.ensures.len, ap (λ voices. length voices.items) w.voices-is, c.loop-v.invariant.0),
-            kept-next p c.loop-v.voices.items c.if-has_voice.voices.items _ c.loop-v.v 4 (omega arith) (ap (λ voices. voices.items) w.voices-is ∙ w.push.ensures.items) test c.loop-v.invariant.1,
+            kept-next p c.loop-v.voices.items c.if-has_voice.voices.items _ c.loop-v.v 4 (omega arith)
+                (ap (λ voices. voices.items) w.voices-is ∙ w.push.ensures.items) test c.loop-v.invariant.1,
           )
       | else-has_voice w ↦
           let test : p c.loop-v.v ≡ false = sym c.has_voice.ensures ∙ w.if-has_voice.false in (
             omega (arith, ap (λ voices. length voices.items) w.voices-is, c.loop-v.invariant.0),
-            left_out-next p c.loop-v.voices.items c.if-has_voice.voices.items _ c.loop-v.v 4 (omega arith) (ap (λ voices. voices.items) w.voices-is) test c.loop-v.invariant.1,
+            left_out-next p c.loop-v.voices.items c.if-has_voice.voices.items _ c.loop-v.v 4 (omega arith)
+                (ap (λ voices. voices.items) w.voices-is) test c.loop-v.invariant.1,
           )
     ]

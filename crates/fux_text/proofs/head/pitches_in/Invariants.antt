@@ -5,4 +5,5 @@ use Rattle.fux_text.proofs.head.pitches_in.Given as goal
 
 -- reading goes on from here as it does from the beginning
 abbrev pub invariant-loop : goal.invariant-loop
-invariant-loop l = pitches_in (l.count - l.counter) l.pitches.items (words_of l.rest) ≡ pitches_in l.count [] (words_of l.words)
+invariant-loop l =
+    pitches_in (l.count - l.counter) l.pitches.items (words_of l.rest) ≡ pitches_in l.count [] (words_of l.words)

@@ -7,7 +7,8 @@ use Rattle.fux_text.proofs.items.put_items.Given as goal
 abbrev pub invariant-loop-first : goal.invariant-loop-first
 invariant-loop-first l =
     (l.first ≤ length l.cells)
-    × (string_bytes l.out ++ spaced (map item_word (items_of_cells (drop l.first l.cells))) ≡ string_bytes l.fn.out ++ spaced (map item_word (items_of_cells l.cells)))
+    × (string_bytes l.out ++ spaced (map item_word (items_of_cells (drop l.first l.cells))) ≡ string_bytes l.fn.out
+    ++ spaced (map item_word (items_of_cells l.cells)))
 
 abbrev pub decreases-loop-first : goal.decreases-loop-first
 decreases-loop-first l = length l.cells - l.first

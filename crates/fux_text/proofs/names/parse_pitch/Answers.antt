@@ -5,4 +5,5 @@ use Rattle.fux_text.proofs.names.parse_pitch.Goals as goal
 
 pub returns : goal.returns
 unfolding pitch_named
-returns c = by_name name_of pitches c.args.word.now c.parse_pitch.result all_pitches c.parse_pitch.ensures.named c.parse_pitch.ensures.every
+returns c = by_name name_of pitches c.args.word.now c.parse_pitch.result all_pitches c.parse_pitch.ensures.named
+    c.parse_pitch.ensures.every

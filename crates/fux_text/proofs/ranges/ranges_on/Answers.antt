@@ -26,7 +26,8 @@ loop-rest-smaller c =
     let line = c.in_ok-line.line in
     let behind = lines_of c.in_ok-line.behind in
     let read : range_line c.args.ex.now c.loop-rest.ranges.items at ≡ Ok (line, behind) =
-    subst (λ before. range_line c.args.ex.now before at ≡ Ok (line, behind)) c.deref.ensures.value c.in_ok-line.ensures in
+    subst (λ before. range_line c.args.ex.now before at ≡ Ok (line, behind)) c.deref.ensures.value c.in_ok-line.ensures
+    in
     let more = ranges-more c.args.ex.now c.loop-rest.ranges.items at.after at.lines line behind
     (ranges_on c.args.ex.now [] start.after start.lines) (sym c.loop-rest-test.true ∙ c.begins.ensures) read
     c.loop-rest.invariant in
@@ -39,7 +40,8 @@ loop-rest-preserved c =
     let line = c.in_ok-line.line in
     let behind = lines_of c.in_ok-line.behind in
     let read : range_line c.args.ex.now c.loop-rest.ranges.items at ≡ Ok (line, behind) =
-    subst (λ before. range_line c.args.ex.now before at ≡ Ok (line, behind)) c.deref.ensures.value c.in_ok-line.ensures in
+    subst (λ before. range_line c.args.ex.now before at ≡ Ok (line, behind)) c.deref.ensures.value c.in_ok-line.ensures
+    in
     let more = ranges-more c.args.ex.now c.loop-rest.ranges.items at.after at.lines line behind
     (ranges_on c.args.ex.now [] start.after start.lines) (sym c.loop-rest-test.true ∙ c.begins.ensures) read
     c.loop-rest.invariant in

@@ -8,7 +8,8 @@ use Rattle.fux_text.proofs.reading.read.Goals as goal
 
 pub returns-clause-ok : goal.returns-clause-ok
 returns-clause-ok c =
-    given-both c.exercise_in.result (exercise_in c.args.bytes.now) (IsTextOf c.args.bytes.now) IsValid c.exercise_in.ensures
+    given-both c.exercise_in.result (exercise_in c.args.bytes.now) (IsTextOf c.args.bytes.now) IsValid
+    c.exercise_in.ensures
     (read-text c.args.bytes.now) (exercise-valid c.args.bytes.now)
 
 pub returns-clause-fault : goal.returns-clause-fault
@@ -18,7 +19,8 @@ returns-clause-fault c = λ kind line column e.
 
 pub returns-clause-only : goal.returns-clause-only
 returns-clause-only c = λ ex is.
-    given-only c.exercise_in.result (exercise_in c.args.bytes.now) ex (text-read c.args.bytes.now ex is) c.exercise_in.ensures
+    given-only c.exercise_in.result (exercise_in c.args.bytes.now) ex (text-read c.args.bytes.now ex is)
+    c.exercise_in.ensures
 
 pub returns-clause-first : goal.returns-clause-first
 returns-clause-first c = λ kind line column has.

@@ -10,7 +10,8 @@ pub returns-clause-ok : goal.returns-clause-ok
 returns-clause-ok c =
     let ex = c.args.ex.now in
     let lines = c.args.lines.now in
-    given-both c.setting_alone.result (setting_alone ex lines) (AreSingLinesOf ex lines) (IsGiven ex) c.setting_alone.ensures
+    given-both c.setting_alone.result (setting_alone ex lines) (AreSingLinesOf ex lines) (IsGiven ex)
+    c.setting_alone.ensures
     (λ score. read-lines ex lines score c.requires) (λ score. alone-valid ex lines score c.requires)
 
 pub returns-clause-fault : goal.returns-clause-fault

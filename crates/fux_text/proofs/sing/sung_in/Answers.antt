@@ -27,7 +27,8 @@ returns-in_err-sung_end c =
     let done = sung-done c.args.bars c.loop-word.bar c.loop-word.cells.items line at at.words (sung_in c.args.bars line)
     c.in_default.ensures c.loop-word.invariant.so_far in
     let fails : Fails e (sung_end c.args.bars c.loop-word.bar c.loop-word.cells.items line) =
-    subst (λ cells. Fails e (sung_end c.args.bars c.loop-word.bar cells line)) c.deref.ensures.value c.in_err-sung_end.ensures in
+    subst (λ cells. Fails e (sung_end c.args.bars c.loop-word.bar cells line)) c.deref.ensures.value
+    c.in_err-sung_end.ensures in
     rw (p.1, p.2) (subst (λ read. Fails e read) (sym done) fails)
 
 pub returns : goal.returns

@@ -9,4 +9,5 @@ pub loop-bar-preserved : goal.loop-bar-preserved
 loop-bar-preserved c =
     let columns = c.args.score.now.columns in
     let text = λ (bar : ℕ). spaced (codes "|" ∷ bar_words c.args.v (bar_columns columns bar)) in
-    written-next text (string_bytes c.loop-bar.out) (string_bytes c.put_bar.new.out) _ c.loop-bar.bar (length columns / 8 + 1) (omega arith) (search (rules, append_assoc)) c.loop-bar.invariant
+    written-next text (string_bytes c.loop-bar.out) (string_bytes c.put_bar.new.out) _ c.loop-bar.bar
+    (length columns / 8 + 1) (omega arith) (search (rules, append_assoc)) c.loop-bar.invariant

@@ -8,5 +8,6 @@ use Rattle.fux_text.proofs.sing_lines.put_later_bars.Given as goal
 -- what is written so far, and the bars that are left, are what is to be written
 abbrev pub invariant-loop-bar : goal.invariant-loop-bar
 invariant-loop-bar l =
-    string_bytes l.out ++ flat_map (λ bar. spaced (codes "|" ∷ bar_words l.v (bar_columns l.score.columns bar))) (range_with_len l.bar (length l.score.columns / 8 + 1 - l.bar))
+    string_bytes l.out ++ flat_map (λ bar. spaced (codes "|" ∷ bar_words l.v (bar_columns l.score.columns bar)))
+    (range_with_len l.bar (length l.score.columns / 8 + 1 - l.bar))
     ≡ string_bytes l.fn.out ++ later_bars_text l.v l.score.columns

@@ -10,6 +10,7 @@ loop-i-preserved g c =
     let IsState : List (List Cell) → Type 0 = λ p. IsStateOf c.args.ex.now p c.step-verdict.result.state in
     record {
       state =
-          subst IsState (ap (λ col. take c.loop-i.i columns ++ col ∷ []) c.column.ensures.value ∙ sym (take_more columns c.loop-i.i [] (omega arith)))
+          subst IsState (ap (λ col. take c.loop-i.i columns ++ col ∷ []) c.column.ensures.value
+          ∙ sym (take_more columns c.loop-i.i [] (omega arith)))
           (c.step-verdict.ensures.state (take c.loop-i.i columns) c.loop-i.invariant.state);
     }

@@ -16,4 +16,5 @@ loop-j-preserved c =
     let here : c.loop-j.j < length c.args.score.now.columns = omega arith in
     let more = line-more c.args.score.now.columns c.args.v c.loop-j.j here in
     let cell = ap (λ d. d ∷ line c.args.v (earlier c.args.score.now.columns c.loop-j.j)) c.cell.ensures in
-    subst P (cell ∙ sym more) (c.noted-notes.ensures (line c.args.v (earlier c.args.score.now.columns c.loop-j.j)) c.loop-j.invariant)
+    subst P (cell ∙ sym more) (c.noted-notes.ensures (line c.args.v (earlier c.args.score.now.columns c.loop-j.j))
+    c.loop-j.invariant)

@@ -13,5 +13,6 @@ pub returns-clause-value : goal.returns-clause-value
 returns-clause-value c = λ ex p l kept.
     let begins : begins_bar c.args.i ≡ true = sym c.begins_bar.ensures ∙ c.if-not-begins_bar.false in
     c.pairs_going_on.ensures.value
-    ∙ imperfect_runs-after ex p c.args.now.now c.args.kept.now.thirds c.args.kept.now.sixths (omega arith) (whole_bars c.args.i (length p) l begins) kept.thirds kept.sixths
+    ∙ imperfect_runs-after ex p c.args.now.now c.args.kept.now.thirds c.args.kept.now.sixths (omega arith)
+    (whole_bars c.args.i (length p) l begins) kept.thirds kept.sixths
     ∙ ap (λ n. reading_of (cost_in 14 ex) (p ++ c.args.now.now ∷ []) n) l

@@ -14,7 +14,9 @@ returns-then-not-two_arrive_at_bar c = λ s kept.
     let now = slice_index_or s c.args.i [] in
     let here : length s ≤ c.args.i + 24 = omega (arith, kept.last) in
     let apart : on_pair ex (arrive_at_bar ex c.args.i (slice_index_or behind 7 []) now) c.args.voices.bits ≡ false =
-    ap (λ (bar_line : List Cell). on_pair ex (arrive_at_bar ex c.args.i bar_line now) c.args.voices.bits) (sym (c.behind-bar_line.ensures s kept))
-    ∙ ap (λ (col : List Cell). on_pair ex (arrive_at_bar ex c.args.i c.behind-bar_line.result.now col) c.args.voices.bits) (sym (c.at.ensures s kept.newest here))
+    ap (λ (bar_line : List Cell). on_pair ex (arrive_at_bar ex c.args.i bar_line now) c.args.voices.bits)
+    (sym (c.behind-bar_line.ensures s kept))
+    ∙ ap (λ (col : List Cell). on_pair ex (arrive_at_bar ex c.args.i c.behind-bar_line.result.now col)
+    c.args.voices.bits) (sym (c.at.ensures s kept.newest here))
     ∙ sym c.if-not-two_arrive_at_bar.ensures in
     sym (kept_if_apart ex c.args.voices.bits c.args.i behind now (drop (c.args.i + 1) s) apart)

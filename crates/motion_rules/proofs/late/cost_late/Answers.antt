@@ -17,6 +17,7 @@ returns-clause-value c = λ p col newest on among.
     let last : length s ≡ place + 1 = omega (arith, there.0, length-append p (col ∷ [])) in
     let kept : length s ≤ place + 24 = omega (arith, last) in
     c.inner_moves.ensures.value
-    ∙ ap (λ (before : List Cell). inner_moves ex before c.at-now.result.now) (c.behind.ensures s (record { newest = newest; last = last }) ∙ sym (newest-first (earlier s place)))
+    ∙ ap (λ (before : List Cell). inner_moves ex before c.at-now.result.now)
+    (c.behind.ensures s (record { newest = newest; last = last }) ∙ sym (newest-first (earlier s place)))
     ∙ ap (λ (now : List Cell). inner_moves ex (newest_column (earlier s place)) now) (c.at-now.ensures s newest kept)
     ∙ sym there.1

@@ -6,4 +6,6 @@ use Rattle.plain_judge.specs.Between.{columns_of, some_broken_since}
 use Rattle.plain_judge.proofs.breaks.breaks_since.Given as goal
 
 abbrev pub invariant-loop-rule : goal.invariant-loop-rule
-invariant-loop-rule l = (r : ℕ) → has_rule l.set.bits r ≡ list_any (λ rule. some_broken_since l.ex (columns_of (option_copied l.before)) l.score.columns rule && r == rule) (take l.rule-index l.rule-items)
+invariant-loop-rule l = (r : ℕ) → has_rule l.set.bits r
+    ≡ list_any (λ rule. some_broken_since l.ex (columns_of (option_copied l.before)) l.score.columns rule && r == rule)
+    (take l.rule-index l.rule-items)

@@ -6,4 +6,6 @@ use Rattle.plain_judge.specs.Between.{broken_since, columns_of}
 use Rattle.plain_judge.proofs.breaks.is_broken_for_some.Given as goal
 
 abbrev pub invariant-loop-bits : goal.invariant-loop-bits
-invariant-loop-bits l = list_any (λ voices. any_below (broken_since l.rule l.ex voices (columns_of (option_copied l.before)) l.score.columns) (length l.score.columns)) (take l.bits-index l.bits-items) ≡ false
+invariant-loop-bits l = list_any (λ voices. any_below
+    (broken_since l.rule l.ex voices (columns_of (option_copied l.before)) l.score.columns) (length l.score.columns))
+    (take l.bits-index l.bits-items) ≡ false

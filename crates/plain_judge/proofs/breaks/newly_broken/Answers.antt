@@ -6,4 +6,5 @@ use Rattle.plain_judge.proofs.breaks.newly_broken.Goals as goal
 pub returns : goal.returns
 returns c = λ col grown r.
     c.breaks_since.ensures r
-    ∙ ap (λ b. is_read r && b) (newly_broken_since c.args.ex.now c.args.prefix.now.columns c.args.longer.now.columns col grown r)
+    ∙ ap (λ b. is_read r && b) (newly_broken_since c.args.ex.now c.args.prefix.now.columns c.args.longer.now.columns col
+    grown r)

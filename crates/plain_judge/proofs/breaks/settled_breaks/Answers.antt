@@ -4,4 +4,5 @@ use Rattle.plain_judge.proofs.SinceLemmas.{broken_since_nothing}
 use Rattle.plain_judge.proofs.breaks.settled_breaks.Goals as goal
 
 pub returns : goal.returns
-returns c = λ r. c.breaks_since.ensures r ∙ ap (λ b. is_read r && b) (broken_since_nothing c.args.ex.now c.args.score.now.columns r)
+returns c = λ r. c.breaks_since.ensures r ∙ ap (λ b. is_read r && b)
+    (broken_since_nothing c.args.ex.now c.args.score.now.columns r)

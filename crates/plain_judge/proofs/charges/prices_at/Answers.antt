@@ -10,10 +10,13 @@ use Rattle.plain_judge.proofs.charges.prices_at.Goals as goal
 pub loop-rule-preserved : goal.loop-rule-preserved
 loop-rule-preserved c = record {
   value =
-      let prices : ℕ → ℕ = λ rule. sum_by (price_since c.args.ex.now (columns_of (option_copied c.args.before)) c.args.score.now.columns c.args.i rule) all_sets in
+      let prices : ℕ → ℕ = λ rule. sum_by (price_since c.args.ex.now (columns_of (option_copied c.args.before))
+      c.args.score.now.columns c.args.i rule) all_sets in
       ap (λ n. n + c.prices_of-prices.result) c.loop-rule.invariant.value
-      ∙ ap (λ n. sum_by prices (take c.loop-rule.rule-index c.every_rule-rule-items.result.now) + n) c.prices_of-prices.ensures.value
-      ∙ sym (sum_by_push prices (take c.loop-rule.rule-index c.every_rule-rule-items.result.now) (get_or c.every_rule-rule-items.result.now c.loop-rule.rule-index 0))
+      ∙ ap (λ n. sum_by prices (take c.loop-rule.rule-index c.every_rule-rule-items.result.now) + n)
+      c.prices_of-prices.ensures.value
+      ∙ sym (sum_by_push prices (take c.loop-rule.rule-index c.every_rule-rule-items.result.now)
+      (get_or c.every_rule-rule-items.result.now c.loop-rule.rule-index 0))
       ∙ sym (ap (sum_by prices) (take_more c.every_rule-rule-items.result.now c.loop-rule.rule-index 0 (omega arith)));
   small = omega (arith, c.prices_of-prices.ensures.bound);
 }

@@ -7,6 +7,7 @@ use Rattle.plain_judge.proofs.charges.prices_at.Given as goal
 
 abbrev pub invariant-loop-rule : goal.invariant-loop-rule
 invariant-loop-rule l = record {
-  value : l.sum ≡ sum_by (λ rule. sum_by (price_since l.ex (columns_of (option_copied l.before)) l.score.columns l.i rule) all_sets) (take l.rule-index l.rule-items);
+  value : l.sum ≡ sum_by (λ rule. sum_by (price_since l.ex (columns_of (option_copied l.before)) l.score.columns l.i
+      rule) all_sets) (take l.rule-index l.rule-items);
   small : l.sum ≤ 150000 * l.rule-index;
 }

@@ -6,6 +6,7 @@ use Rattle.plain_judge.proofs.charges.prices_of.Given as goal
 
 abbrev pub invariant-loop-bits : goal.invariant-loop-bits
 invariant-loop-bits l = record {
-  value : l.sum ≡ sum_by (price_since l.ex (columns_of (option_copied l.before)) l.score.columns l.i l.rule) (take l.bits-index l.bits-items);
+  value : l.sum ≡ sum_by (price_since l.ex (columns_of (option_copied l.before)) l.score.columns l.i l.rule)
+      (take l.bits-index l.bits-items);
   small : l.sum ≤ 10000 * l.bits-index;
 }

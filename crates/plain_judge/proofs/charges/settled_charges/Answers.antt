@@ -4,7 +4,8 @@ use Rattle.plain_judge.proofs.SinceLemmas.{paid_since_nothing}
 use Rattle.plain_judge.proofs.charges.settled_charges.Goals as goal
 
 pub returns-clause-value : goal.returns-clause-value
-returns-clause-value c = c.charges_of.ensures ∙ paid_since_nothing c.args.ex.now c.args.score.now.columns c.args.sheet.now
+returns-clause-value c =
+    c.charges_of.ensures ∙ paid_since_nothing c.args.ex.now c.args.score.now.columns c.args.sheet.now
 
 pub returns-clause-whole : goal.returns-clause-whole
 returns-clause-whole c = λ whole.

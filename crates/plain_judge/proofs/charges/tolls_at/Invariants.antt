@@ -6,6 +6,7 @@ use Rattle.plain_judge.proofs.charges.tolls_at.Given as goal
 
 abbrev pub invariant-loop-toll : goal.invariant-loop-toll
 invariant-loop-toll l = record {
-  value : l.sum ≡ sum_by (toll_since l.ex l.sheet (columns_of (option_copied l.before)) l.score.columns l.i) (take l.toll-index l.toll-items);
+  value : l.sum ≡ sum_by (toll_since l.ex l.sheet (columns_of (option_copied l.before)) l.score.columns l.i)
+      (take l.toll-index l.toll-items);
   small : l.sum ≤ 281470681677825 * l.toll-index;
 }

@@ -11,8 +11,10 @@ use Rattle.rhythm_cadence.proofs.late.cost_late.Goals as goal
 pub returns-clause-value : goal.returns-clause-value
 returns-clause-value c = λ p col newest on among.
     let row : toll_row c.args.toll ≡ pattern_row = pattern_row_of c.args.toll c.requires.late c.if-toll-eq15.false in
-    let A : TollRow → Type 0 = λ it. IsAmong (it.first c.args.ex.now (length p)) (it.count c.args.ex.now (length p)) c.args.place in
+    let A : TollRow → Type 0 = λ it. IsAmong (it.first c.args.ex.now (length p)) (it.count c.args.ex.now (length p))
+    c.args.place in
     let last : c.args.newest.now.len - 1 ≡ length p = omega (arith, newest.count, length-append p (col ∷ [])) in
-    c.from-2.ensures ∙ ap from_bool (c.ends_pattern.ensures (p ++ col ∷ []) newest ∙ ap (pattern_at c.args.ex.now (p ++ col ∷ [])) last)
+    c.from-2.ensures ∙ ap from_bool (c.ends_pattern.ensures (p ++ col ∷ []) newest
+    ∙ ap (pattern_at c.args.ex.now (p ++ col ∷ [])) last)
     ∙ sym (pattern_reading c.args.ex.now p col c.args.place (subst A row among))
     ∙ ap (λ (it : TollRow). newly_costs it c.args.ex.now p col c.args.place) (sym row)

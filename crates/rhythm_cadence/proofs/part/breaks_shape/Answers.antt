@@ -6,4 +6,5 @@ use Rattle.rhythm_cadence.proofs.part.breaks_shape.Goals as goal
 -- a voice has left the shapes where none is left
 pub returns : goal.returns
 returns c p some part =
-    c.has_none_left.ensures ∙ none_left c.args.ex.now p c.args.v (slice_index c.args.part.now.possible c.args.v) c.requires some (part c.args.v some)
+    c.has_none_left.ensures ∙ none_left c.args.ex.now p c.args.v (slice_index c.args.part.now.possible c.args.v)
+    c.requires some (part c.args.v some)

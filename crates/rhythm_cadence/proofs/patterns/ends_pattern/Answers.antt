@@ -7,5 +7,8 @@ pub returns : goal.returns
 returns c = λ s newest.
     c.same_cells.ensures
     ∙ ap (λ cells. same_cells cells c.bar_behind-2.result) (c.bar_behind.ensures s newest (omega (arith, newest.count)))
-    ∙ ap (λ cells. same_cells (bar_behind s c.args.ex.now.species_voice (c.args.newest.now.len - 1 - 7)) cells) (c.bar_behind-2.ensures s newest (omega (arith, newest.count)))
-    ∙ ap (λ b. b && same_cells (bar_behind s c.args.ex.now.species_voice (c.args.newest.now.len - 1 - 7)) (bar_behind s c.args.ex.now.species_voice (c.args.newest.now.len - 1 + 1))) (sym (sym c.settles_pattern.ensures ∙ c.if-not-settles_pattern.false))
+    ∙ ap (λ cells. same_cells (bar_behind s c.args.ex.now.species_voice (c.args.newest.now.len - 1 - 7)) cells)
+    (c.bar_behind-2.ensures s newest (omega (arith, newest.count)))
+    ∙ ap (λ b. b && same_cells (bar_behind s c.args.ex.now.species_voice (c.args.newest.now.len - 1 - 7))
+    (bar_behind s c.args.ex.now.species_voice (c.args.newest.now.len - 1 + 1)))
+    (sym (sym c.settles_pattern.ensures ∙ c.if-not-settles_pattern.false))

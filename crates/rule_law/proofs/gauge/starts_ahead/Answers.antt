@@ -8,17 +8,29 @@ use Rattle.rule_law.proofs.gauge.starts_ahead.Goals as goal
 pub loop-j-preserved : goal.loop-j-preserved
 loop-j-preserved c =
     let here : c.loop-j.j < columns_in c.args.ex.now = omega (arith, c.loop-j-test.true, c.from-bars.ensures) in
-    let count : c.from-count.result ≡ from_bool (menu_starts c.args.ex.now c.args.v c.loop-j.j) = c.from-count.ensures ∙ ap from_bool c.menu_starts.ensures in
-    let step : from_bool (menu_starts c.args.ex.now c.args.v c.loop-j.j) ≡ cond (menu_starts c.args.ex.now c.args.v c.loop-j.j) 1 0 = as_number (menu_starts c.args.ex.now c.args.v c.loop-j.j) in
+    let count : c.from-count.result ≡ from_bool (menu_starts c.args.ex.now c.args.v c.loop-j.j) = c.from-count.ensures
+    ∙ ap from_bool c.menu_starts.ensures in
+    let step : from_bool (menu_starts c.args.ex.now c.args.v c.loop-j.j)
+    ≡ cond (menu_starts c.args.ex.now c.args.v c.loop-j.j) 1 0 = as_number
+    (menu_starts c.args.ex.now c.args.v c.loop-j.j) in
     record {
-      counted = omega (arith, c.loop-j.invariant.counted, starts_ahead-more c.args.ex.now c.args.v c.loop-j.j here, count, step);
-      few = omega (arith, c.loop-j.invariant.few, count, as_number-bound (menu_starts c.args.ex.now c.args.v c.loop-j.j));
+      counted = omega (
+        arith,
+        c.loop-j.invariant.counted,
+        starts_ahead-more c.args.ex.now c.args.v c.loop-j.j here,
+        count,
+        step,
+      );
+      few =
+          omega (arith, c.loop-j.invariant.few, count, as_number-bound (menu_starts c.args.ex.now c.args.v c.loop-j.j));
     }
 
 pub returns : goal.returns
 returns c =
-    let at_end : c.loop-j.j ≤ 8 * c.from-bars.result = c.loop-j.auto.j-end (omega (arith, c.requires.place, c.from-bars.ensures)) in
-    let whole : c.loop-j.j ≡ columns_in c.args.ex.now = omega (arith, at_end, c.loop-j-test.false, c.from-bars.ensures) in
+    let at_end : c.loop-j.j ≤ 8 * c.from-bars.result = c.loop-j.auto.j-end
+    (omega (arith, c.requires.place, c.from-bars.ensures)) in
+    let whole : c.loop-j.j ≡ columns_in c.args.ex.now = omega (arith, at_end, c.loop-j-test.false, c.from-bars.ensures)
+    in
     record {
       value = omega (arith, c.loop-j.invariant.counted, starts_ahead-none c.args.ex.now c.args.v c.loop-j.j whole);
       bound = omega (arith, c.loop-j.invariant.few, whole, c.requires.valid.most_bars);

@@ -7,6 +7,7 @@ use Rattle.score_marker.proofs.cantus.cantus_marks.Given as goal
 
 abbrev pub invariant-loop-bar : goal.invariant-loop-bar
 invariant-loop-bar l = record {
-  marks : l.marks.items ≡ marks_of_places (cantus_test l.ex) (2 ^ l.ex.cantus_voice ∷ []) cantus_rules (bar_lines l.bar);
+  marks : l.marks.items ≡ marks_of_places (cantus_test l.ex) (2 ^ l.ex.cantus_voice ∷ []) cantus_rules
+      (bar_lines l.bar);
   notes : IsNotesOf (cantus_before l.ex (8 * l.bar)) l.notes;
 }

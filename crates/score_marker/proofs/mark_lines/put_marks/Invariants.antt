@@ -4,4 +4,5 @@ use Rattle.score_marker.proofs.mark_lines.put_marks.Given as goal
 
 -- what is written so far, and what is left, are what is to be written
 abbrev pub invariant-loop-mark : goal.invariant-loop-mark
-invariant-loop-mark l = string_bytes l.out ++ mark_lines l.ex (drop l.mark-index l.marks) ≡ string_bytes l.fn.out ++ mark_lines l.ex l.marks
+invariant-loop-mark l =
+    string_bytes l.out ++ mark_lines l.ex (drop l.mark-index l.marks) ≡ string_bytes l.fn.out ++ mark_lines l.ex l.marks

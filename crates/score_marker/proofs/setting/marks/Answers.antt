@@ -42,5 +42,6 @@ pub returns : goal.returns
 returns c =
     let all : c.loop-i.i ≡ length c.args.score.now.columns = omega arith in
     subst (AreMarks c.args.ex.now c.args.score.now.columns)
-    (sym (c.loop-i.invariant.made ∙ ap (λ n. marks_of_places (breaks_of c.args.ex.now c.args.score.now.columns) sets_in_order rules_read (range_with_len 0 n)) all))
+    (sym (c.loop-i.invariant.made ∙ ap (λ n. marks_of_places (breaks_of c.args.ex.now c.args.score.now.columns)
+    sets_in_order rules_read (range_with_len 0 n)) all))
     (are_marks c.args.ex.now c.args.score.now.columns)

@@ -9,6 +9,7 @@ use Rattle.score_marker.proofs.setting.marks.Given as goal
 
 abbrev pub invariant-loop-i : goal.invariant-loop-i
 invariant-loop-i l = record {
-  made : l.marks.items ≡ marks_of_places (breaks_of l.ex l.score.columns) sets_in_order rules_read (range_with_len 0 l.i);
+  made : l.marks.items ≡ marks_of_places (breaks_of l.ex l.score.columns) sets_in_order rules_read
+      (range_with_len 0 l.i);
   notes : AreNotesOf (earlier l.score.columns l.i) l.notes;
 }

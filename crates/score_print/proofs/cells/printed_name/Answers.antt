@@ -14,7 +14,14 @@ loop-byte-init c = grind (arith, common_steps)
 
 pub push-requires : goal.push-requires
 push-requires c =
-    omega (arith, length-encode c.printed_char.result, len_utf8_bounds c.printed_char.result, c.loop-byte.invariant.0, c.as_str.ensures.fits, c.as_bytes-byte-items.ensures.len)
+    omega (
+      arith,
+      length-encode c.printed_char.result,
+      len_utf8_bounds c.printed_char.result,
+      c.loop-byte.invariant.0,
+      c.as_str.ensures.fits,
+      c.as_bytes-byte-items.ensures.len,
+    )
 
 pub loop-byte-preserved : goal.loop-byte-preserved
 loop-byte-preserved c =

@@ -6,4 +6,5 @@ use Rattle.score_print.proofs.cells.put_cell.Given as goal
 abbrev pub invariant-loop : goal.invariant-loop
 invariant-loop l =
     string_bytes l.out ++
-    (replicate {A = ℕ} (l.width - l.counter) 32 ++ codes " ") ≡ string_bytes l.fn.out ++ padded_cell l.fn.width l.fn.cell
+    (replicate {A = ℕ} (l.width - l.counter) 32 ++ codes " ") ≡ string_bytes l.fn.out
+    ++ padded_cell l.fn.width l.fn.cell

@@ -8,7 +8,8 @@ use Rattle.smf_bytes.proofs.chunks.track_of.Goals as goal
 pub returns-in_err-chunk-clause-value : goal.returns-in_err-chunk-clause-value
 returns-in_err-chunk-clause-value c =
     let p = err_from_is_err_and c.from_residual.result c.from_residual.ensures.1 in
-    rw (p.1, ← c.loop-rest.invariant.same, p.2) (track_fault c.args.size c.loop-rest.rest.now _ c.in_err-chunk.ensures.value)
+    rw (p.1, ← c.loop-rest.invariant.same, p.2)
+    (track_fault c.args.size c.loop-rest.rest.now _ c.in_err-chunk.ensures.value)
 
 pub returns-then-chunk-eq-TRACK-clause-value : goal.returns-then-chunk-eq-TRACK-clause-value
 returns-then-chunk-eq-TRACK-clause-value c =

@@ -18,4 +18,5 @@ loop-bar-preserved c =
 pub returns : goal.returns
 returns c =
     sym c.loop-bar.invariant
-    ∙ cantus_over c.args.places.now c.args.voice c.loop-bar.bar c.args.bars c.loop-bar.cantus.items c.loop-bar-test.false
+    ∙ cantus_over c.args.places.now c.args.voice c.loop-bar.bar c.args.bars c.loop-bar.cantus.items
+    c.loop-bar-test.false

@@ -9,4 +9,5 @@ returns-clause-value c = search rules
 
 pub returns-clause-valid : goal.returns-clause-valid
 returns-clause-valid c =
-    exercise_valid c.args.head.now c.args.places.now c.args.voices _ c.requires.head c.requires.notes (returns-clause-value c)
+    exercise_valid c.args.head.now c.args.places.now c.args.voices _ c.requires.head c.requires.notes
+    (returns-clause-value c)

@@ -11,13 +11,15 @@ returns-in_err-placed-clause-value c =
     let p = err_from_is_err_and c.from_residual.result c.from_residual.ensures.1 in
     rw (p.1, p.2) (fails_from c.in_err-placed.field-0.0 _
     (sym c.loop-note.invariant.read
-    ∙ places_fault c.args.division c.loop-note.note-index c.loop-note.progress c.args.notes.now _ c.loop-note.places.items
+    ∙ places_fault c.args.division c.loop-note.note-index c.loop-note.progress c.args.notes.now _
+    c.loop-note.places.items
     c.in_err-placed.field-0.0 c.loop-note-test.true c.in_err-placed.ensures.value))
 
 pub loop-note-preserved : goal.loop-note-preserved
 loop-note-preserved c = record {
   read = rw c.in_ok-push.ensures.items
-      (places_more c.args.division c.loop-note.note-index c.loop-note.progress c.args.notes.now _ c.loop-note.places.items
+      (places_more c.args.division c.loop-note.note-index c.loop-note.progress c.args.notes.now _
+      c.loop-note.places.items
       (c.in_ok-placed.placed, c.in_ok-placed.next) c.loop-note-test.true c.in_ok-placed.ensures.value
       ∙ c.loop-note.invariant.read);
   slow = omega (arith, c.in_ok-placed.ensures.slow, c.loop-note.invariant.slow);

@@ -19,7 +19,8 @@ loop-i-preserved c =
     let i = c.loop-i.i in
     record {
       read = c.in_ok-push_some.ensures.ok
-          ∙ notes_before c.args.layout s i _ c.note_of_stroke.result c.loop-i.notes.items c.loop-i-test.true c.loop-i.invariant.within
+          ∙ notes_before c.args.layout s i _ c.note_of_stroke.result c.loop-i.notes.items c.loop-i-test.true
+          c.loop-i.invariant.within
           (c.note_of_stroke.ensures.value (drop i s) c.loop-i.invariant.ends) c.loop-i.invariant.read;
       ends = ends_before s i _ c.enter.new.ends c.loop-i-test.true c.loop-i.invariant.within
           (c.enter.ensures.ends (drop i s) c.loop-i.invariant.ends);

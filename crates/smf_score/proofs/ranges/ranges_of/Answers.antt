@@ -10,5 +10,6 @@ loop-v-preserved c =
 
 pub returns : goal.returns
 returns c =
-    sym (ranges_over c.args.places.now c.args.cantus_voice c.loop-v.v c.args.voices c.loop-v.lines.items c.loop-v-test.false)
+    sym (ranges_over c.args.places.now c.args.cantus_voice c.loop-v.v c.args.voices c.loop-v.lines.items
+    c.loop-v-test.false)
     ∙ c.loop-v.invariant

@@ -11,7 +11,8 @@ returns-then-not-is_hold-clause-value c =
     let cell = cell_in (get_or columns c.loop-i.i []) c.args.v in
     let here = line_cell c.args.v c.loop-i.i columns (omega arith) in
     let none = ap holds_ahead here
-    ∙ holds-none cell (drop (c.loop-i.i + 1) (line c.args.v columns)) (rw (← c.cell.ensures, ← c.is_hold.ensures) c.if-not-is_hold.true) in
+    ∙ holds-none cell (drop (c.loop-i.i + 1) (line c.args.v columns))
+    (rw (← c.cell.ensures, ← c.is_hold.ensures) c.if-not-is_hold.true) in
     omega (arith, none, c.loop-i.invariant)
 
 pub loop-i-preserved : goal.loop-i-preserved
@@ -20,5 +21,6 @@ loop-i-preserved c =
     let cell = cell_in (get_or columns c.loop-i.i []) c.args.v in
     let here = line_cell c.args.v c.loop-i.i columns (omega arith) in
     let more = ap holds_ahead here
-    ∙ holds-hold cell (drop (c.loop-i.i + 1) (line c.args.v columns)) (rw (← c.cell.ensures, ← c.is_hold.ensures) c.if-not-is_hold.false) in
+    ∙ holds-hold cell (drop (c.loop-i.i + 1) (line c.args.v columns))
+    (rw (← c.cell.ensures, ← c.is_hold.ensures) c.if-not-is_hold.false) in
     omega (arith, more, c.loop-i.invariant)

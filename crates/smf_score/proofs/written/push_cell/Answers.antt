@@ -37,7 +37,8 @@ returns-in_default c =
     let here = line_cell c.args.v c.args.i columns c.requires.place in
     let other = other_notes c.args.i cell rest (λ p e. c.in_default.not-Start p (c.cell.ensures ∙ e)) in
     record {
-      bytes = ap (λ (notes : List _). c.args.out.now.items ++ notes_bytes c.args.v c.args.ended notes) (sym (ap (notes_of c.args.i) here ∙ other.0));
+      bytes = ap (λ (notes : List _). c.args.out.now.items ++ notes_bytes c.args.v c.args.ended notes)
+          (sym (ap (notes_of c.args.i) here ∙ other.0));
       ended = omega (arith, c.requires.ended, ap holds_ahead here, other.1);
       short = omega arith;
     }

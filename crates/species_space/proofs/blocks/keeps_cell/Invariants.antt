@@ -5,4 +5,5 @@ use Rattle.species_space.proofs.blocks.keeps_cell.Given as goal
 
 -- the columns so far have the cell of the first column of their block
 abbrev pub invariant-loop-k : goal.invariant-loop-k
-invariant-loop-k l = (j : ℕ) → j < l.k → cell_in (slice_index_or (items_of l.columns) j []) l.v ≡ cell_in (slice_index_or (items_of l.columns) (j / l.length * l.length) []) l.v
+invariant-loop-k l = (j : ℕ) → j < l.k → cell_in (slice_index_or (items_of l.columns) j []) l.v
+    ≡ cell_in (slice_index_or (items_of l.columns) (j / l.length * l.length) []) l.v

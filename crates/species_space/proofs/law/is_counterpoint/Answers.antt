@@ -16,7 +16,8 @@ returns c =
       once = λ path other live its_live e.
           same_path ex path other (path_is_alive ex sheet path live) (path_is_alive ex sheet other its_live) e;
       order = λ path other live size before.
-          before_is_earlier ex 0 path other size (alive_parts ex other (path_is_alive ex sheet other live)).menus before;
+          before_is_earlier ex 0 path other size (alive_parts ex other (path_is_alive ex sheet other live)).menus
+          before;
       settings_only = λ path value leaf. leaf_is_lawful ex valid sheet path value leaf;
       each_setting = λ s lawful.
           let way = lawful_is_leaf ex valid sheet s lawful in

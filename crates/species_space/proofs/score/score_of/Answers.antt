@@ -16,7 +16,9 @@ loop-i-preserved c =
     let path = c.args.path.now in
     let i = c.loop-i.i in
     let pushed = c.in-Ok.ensures.ok in
-    let copied : c.in_ok-clone.field-0.items ≡ c.column-column.result.now.items = same_from_all_zip _ c.column-column.result.now.items c.in_ok-clone.field-0.items c.in_ok-clone.ensures.cases (λ x y e. e) in
+    let copied : c.in_ok-clone.field-0.items
+    ≡ c.column-column.result.now.items = same_from_all_zip _ c.column-column.result.now.items
+    c.in_ok-clone.field-0.items c.in_ok-clone.ensures.cases (λ x y e. e) in
     let same = copied ∙ c.column-column.ensures in
     record {
       voices = ap (λ s. s.voices) pushed ∙ c.loop-i.invariant.voices;
@@ -32,8 +34,11 @@ unreachable-requires c =
     let ex = c.args.space.now.exercise in
     let path = c.args.path.now in
     let fits = column_fits ex path c.requires c.loop-i.i c.loop-i-test.true in
-    let copied : c.in_ok-clone.field-0.items ≡ c.column-column.result.now.items = same_from_all_zip _ c.column-column.result.now.items c.in_ok-clone.field-0.items c.in_ok-clone.ensures.cases (λ x y e. e) in
+    let copied : c.in_ok-clone.field-0.items
+    ≡ c.column-column.result.now.items = same_from_all_zip _ c.column-column.result.now.items
+    c.in_ok-clone.field-0.items c.in_ok-clone.ensures.cases (λ x y e. e) in
     let same : c.in_ok-clone.field-0.items ≡ chosen_column ex path c.loop-i.i = copied ∙ c.column-column.ensures in
-    let taken : IsOk c.push.result = c.push.ensures.taken (rw c.loop-i.invariant.columns (omega (arith, fits.room, c.voices.ensures.short)))
+    let taken : IsOk c.push.result = c.push.ensures.taken
+    (rw c.loop-i.invariant.columns (omega (arith, fits.room, c.voices.ensures.short)))
     (rw (same, c.loop-i.invariant.voices) fits.full) (rw (same, c.loop-i.invariant.columns) fits.follows) in
     cc (rw c.in_default.is at taken)

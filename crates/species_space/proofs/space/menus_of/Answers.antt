@@ -27,12 +27,16 @@ loop-i-preserved c =
     let named = c.number_of.ensures in
     let pushed = c.push_reserved.ensures.items in
     let here : i ≡ length numbers = sym old.counted in
-    let value : (d : BlockMenu) → items_of (slice_index_or more number d).columns.items ≡ menu_of ex (length numbers) = λ d. ap items_of (named.made d).columns ∙ found.value ∙ ap (menu_of ex) here in
-    let wide : length choices ≡ length (menu_of ex (length numbers)) = sym (length-map choices (λ col. col.items)) ∙ ap length (found.value ∙ ap (menu_of ex) here) in
+    let value : (d : BlockMenu) → items_of (slice_index_or more number d).columns.items
+    ≡ menu_of ex (length numbers) = λ d. ap items_of (named.made d).columns ∙ found.value ∙ ap (menu_of ex) here in
+    let wide : length choices ≡ length (menu_of ex (length numbers)) = sym (length-map choices (λ col. col.items))
+    ∙ ap length (found.value ∙ ap (menu_of ex) here) in
     let skips : (d : BlockMenu) → SkipsDead ex (length numbers) (slice_index_or more number d) = λ d. record {
       counted = ap length (named.made d).undead ∙ found.counted ∙ sym (ap length (named.made d).columns);
-      skip = subst (λ n. SkipDead ex n (items_of (slice_index_or more number d).columns.items) (slice_index_or more number d).undead.items) here
-          (subst (λ columns. SkipDead ex i (items_of columns) (slice_index_or more number d).undead.items) (sym (named.made d).columns)
+      skip = subst (λ n. SkipDead ex n (items_of (slice_index_or more number d).columns.items)
+          (slice_index_or more number d).undead.items) here
+          (subst (λ columns. SkipDead ex i (items_of columns) (slice_index_or more number d).undead.items)
+          (sym (named.made d).columns)
           (subst (SkipDead ex i (items_of choices)) (sym (named.made d).undead) found.skip));
     } in
     record {
@@ -40,5 +44,8 @@ loop-i-preserved c =
       number_room = c.push_reserved.ensures.capacity ∙ old.number_room;
       few = omega (arith, named.more.1, old.few);
       counted = omega (arith, ap length pushed, length-append numbers (number ∷ []), old.counted);
-      kept = subst (AreMenus ex more) (sym pushed) (menus_more ex c.loop-i.menus.items more numbers number old.kept named.kept named.more.0 named.within value named.cut skips (subst (λ (n : ℕ). length (menu_of ex n) ≤ 8192) here (c.requires.narrow i (omega (arith, c.loop-i-test.true)))));
+      kept = subst (AreMenus ex more) (sym pushed)
+          (menus_more ex c.loop-i.menus.items more numbers number old.kept named.kept named.more.0 named.within value
+          named.cut skips (subst (λ (n : ℕ). length (menu_of ex n) ≤ 8192) here
+          (c.requires.narrow i (omega (arith, c.loop-i-test.true)))));
     }

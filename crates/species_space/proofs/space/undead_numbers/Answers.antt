@@ -21,12 +21,20 @@ loop-k-init c =
     }
 
 -- the numbers of a list, all kept, and one number behind them
-kept : (numbers : List ℕ) (n number m : ℕ) → m ≡ length numbers → length numbers ≤ n → take n numbers ++ replicate (n - m) number ≡ numbers ++ replicate (n - length numbers) number
+kept : (numbers : List ℕ) (n number m : ℕ) → m ≡ length numbers → length numbers ≤ n → take n numbers
+    ++ replicate (n - m) number ≡ numbers ++ replicate (n - length numbers) number
 kept numbers n number m same short =
-    ap (λ front. front ++ replicate (n - m) number) (take_all n numbers short) ∙ ap (λ k. numbers ++ replicate (n - k) number) same
+    ap (λ front. front ++ replicate (n - m) number) (take_all n numbers short)
+    ∙ ap (λ k. numbers ++ replicate (n - k) number) same
 
-long : (numbers : List ℕ) (n number : ℕ) → length numbers ≤ n → length (numbers ++ replicate (n - length numbers) number) ≡ n
-long numbers n number short = omega (arith, length-append numbers (replicate (n - length numbers) number), length-replicate (n - length numbers) number, short)
+long : (numbers : List ℕ) (n number : ℕ) → length numbers ≤ n
+    → length (numbers ++ replicate (n - length numbers) number) ≡ n
+long numbers n number short = omega (
+  arith,
+  length-append numbers (replicate (n - length numbers) number),
+  length-replicate (n - length numbers) number,
+  short,
+)
 
 pub loop-k-preserved : goal.loop-k-preserved
 loop-k-preserved c =
@@ -40,16 +48,21 @@ loop-k-preserved c =
     elim c.if-not-is_always_dead.branch [
       | then-not-is_always_dead+in_ok-resize w ↦
           let now = c.if-not-is_always_dead.numbers.items in
-          let is : now ≡ numbers ++ replicate (k + 1 - length numbers) k = ap (λ vec. vec.items) w.numbers-is ∙ w.in_ok-resize.ensures.items ∙ kept numbers (k + 1) k _ c.loop-k.numbers.ok.0 (omega (arith, old.short)) in
+          let is : now ≡ numbers ++ replicate (k + 1 - length numbers) k = ap (λ vec. vec.items) w.numbers-is
+          ∙ w.in_ok-resize.ensures.items
+          ∙ kept numbers (k + 1) k _ c.loop-k.numbers.ok.0 (omega (arith, old.short)) in
           let size : length now ≡ k + 1 = ap length is ∙ long numbers (k + 1) k (omega (arith, old.short)) in
           record {
             short = omega (arith, size);
-            skip = subst (SkipDead ex i menu) (sym is) (skip_more ex i menu numbers (k + 1 - length numbers) k old.skip (omega (arith, all, c.loop-k-test.true)) old.beyond);
+            skip = subst (SkipDead ex i menu) (sym is)
+                (skip_more ex i menu numbers (k + 1 - length numbers) k old.skip
+                (omega (arith, all, c.loop-k-test.true)) old.beyond);
             beyond = λ j le lt. absurd (omega (arith, le, lt, size));
           }
       | else-not-is_always_dead w ↦
           let same : numbers ≡ c.if-not-is_always_dead.numbers.items = sym (ap (λ vec. vec.items) w.numbers-is) in
-          let dead : IsAlwaysDead ex i (slice_index_or menu k []) = subst (IsAlwaysDead ex i) c.column_at.ensures (OnTrue_at w.if-not-is_always_dead.false c.is_always_dead.ensures) in
+          let dead : IsAlwaysDead ex i (slice_index_or menu k []) = subst (IsAlwaysDead ex i) c.column_at.ensures
+          (OnTrue_at w.if-not-is_always_dead.false c.is_always_dead.ensures) in
           record {
             short = subst (λ ns. length ns ≤ k + 1) same (omega (arith, old.short));
             skip = subst (SkipDead ex i menu) same old.skip;
@@ -72,7 +85,8 @@ returns-clause-skip c =
     let old = c.loop-k.invariant in
     let all = length-map c.args.columns.now (λ col. col.items) in
     let short : length numbers ≤ n = omega (arith, old.short, c.loop-k.auto.k-end) in
-    let is : c.resize-2.new.self.items ≡ numbers ++ replicate (n - length numbers) n = c.in_ok-resize-2.ensures.items ∙ kept numbers n n _ c.loop-k.numbers.ok.0 short in
+    let is : c.resize-2.new.self.items ≡ numbers ++ replicate (n - length numbers) n = c.in_ok-resize-2.ensures.items
+    ∙ kept numbers n n _ c.loop-k.numbers.ok.0 short in
     subst (SkipDead ex i menu) (sym is)
     (skip_more ex i menu numbers (n - length numbers) n old.skip (omega (arith, all))
     (λ j le lt. old.beyond j le (omega (arith, lt, c.loop-k-test.false))))

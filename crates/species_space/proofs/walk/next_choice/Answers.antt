@@ -24,11 +24,24 @@ pub next_that_follows-k-requires-in-loop-k-clause-within : goal.next_that_follow
 next_that_follows-k-requires-in-loop-k-clause-within c =
     let k = c.loop-k.k in
     let long = length-map c.args.menu.now.columns.items (λ col. col.items) in
-    omega (arith, long, c.undead_from-undead.ensures, c.requires.bounded k (omega (arith, c.loop-k-test.true, c.len.ensures, c.args.menu.now.columns.ok.0, c.requires.counted)))
+    omega (
+      arith,
+      long,
+      c.undead_from-undead.ensures,
+      c.requires.bounded k
+          (omega (arith, c.loop-k-test.true, c.len.ensures, c.args.menu.now.columns.ok.0, c.requires.counted)),
+    )
 
 pub loop-k-smaller : goal.loop-k-smaller
 loop-k-smaller c =
-    omega (arith, c.loop-k-test.true, c.len.ensures, c.args.menu.now.columns.ok.0, c.if-undead-k.false, c.next_that_follows-k-in-loop-k.ensures.onward)
+    omega (
+      arith,
+      c.loop-k-test.true,
+      c.len.ensures,
+      c.args.menu.now.columns.ok.0,
+      c.if-undead-k.false,
+      c.next_that_follows-k-in-loop-k.ensures.onward,
+    )
 
 pub loop-k-preserved : goal.loop-k-preserved
 loop-k-preserved c =
@@ -38,7 +51,8 @@ loop-k-preserved c =
     let undead = c.undead_from-undead.result in
     let next = c.next_that_follows-k-in-loop-k.ensures in
     let to = c.next_that_follows-k-in-loop-k.result in
-    let there : k < length c.args.menu.now.undead.items = omega (arith, c.loop-k-test.true, c.len.ensures, c.args.menu.now.columns.ok.0, c.requires.counted) in
+    let there : k < length c.args.menu.now.undead.items = omega
+    (arith, c.loop-k-test.true, c.len.ensures, c.args.menu.now.columns.ok.0, c.requires.counted) in
     record {
       onward = omega (arith, c.loop-k.invariant.onward, c.if-undead-k.false, next.onward);
       within = omega (arith, next.within, length-map columns (λ col. col.items));

@@ -16,7 +16,8 @@ loop-k-init c =
       onward = next.onward;
       within = next.within;
       passed = λ path at j le lt.
-          stray_no_better ex sheet node path at j c.args.best c.before-before.result.now (slice_index_or (items_of columns) j [])
+          stray_no_better ex sheet node path at j c.args.best c.before-before.result.now
+          (slice_index_or (items_of columns) j [])
           (c.before-before.ensures _ at.state) (column_of_menu ex sheet node path at columns j c.requires.menu)
           (next.passed ex node.state.newest.len c.requires.skips.skip j le lt);
     }
@@ -32,7 +33,15 @@ returns-in_default-clause-passed c = c.loop-k.invariant.passed
 
 pub loop-k-smaller : goal.loop-k-smaller
 loop-k-smaller c =
-    omega (arith, c.loop-k-test.true, c.len.ensures, c.args.menu.now.columns.ok.0, c.in-Some.ensures.onward, c.in-Some.end-is, c.next_choice-k-in-loop-k.ensures.onward)
+    omega (
+      arith,
+      c.loop-k-test.true,
+      c.len.ensures,
+      c.args.menu.now.columns.ok.0,
+      c.in-Some.ensures.onward,
+      c.in-Some.end-is,
+      c.next_choice-k-in-loop-k.ensures.onward,
+    )
 
 pub loop-k-preserved : goal.loop-k-preserved
 loop-k-preserved c =
@@ -53,7 +62,8 @@ loop-k-preserved c =
           (passed_on P k end to
           (λ j le lt. c.in-Some.ensures.passed path at j le (omega (arith, lt, c.in-Some.end-is)))
           (λ j le lt.
-          stray_no_better ex sheet node path at j c.args.best c.before-before.result.now (slice_index_or (items_of columns) j [])
+          stray_no_better ex sheet node path at j c.args.best c.before-before.result.now
+          (slice_index_or (items_of columns) j [])
           (c.before-before.ensures _ at.state) (column_of_menu ex sheet node path at columns j c.requires.menu)
           (next.passed ex node.state.newest.len c.requires.skips.skip j le lt)));
     }

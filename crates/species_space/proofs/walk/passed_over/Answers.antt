@@ -13,19 +13,22 @@ use Rattle.species_space.proofs.WalkSteps.{column_of_menu, pruned_no_better}
 use Rattle.species_space.proofs.walk.passed_over.Goals as goal
 
 pub may_be_better-requires-clause-valid : goal.may_be_better-requires-clause-valid
-may_be_better-requires-clause-valid c = subst (λ (t : Task). IsValid t.exercise) (sym c.requires.tables) c.requires.valid
+may_be_better-requires-clause-valid c =
+    subst (λ (t : Task). IsValid t.exercise) (sym c.requires.tables) c.requires.valid
 
 pub may_be_better-requires-clause-number : goal.may_be_better-requires-clause-number
 may_be_better-requires-clause-number c =
     let i = c.args.node.now.state.newest.len in
     let columns = c.args.menu.now.columns.items in
-    let wide : length columns ≡ length (menu_of c.args.exercise.now i) = sym (length-map columns (λ col. col.items)) ∙ ap length c.requires.menu in
+    let wide : length columns ≡ length (menu_of c.args.exercise.now i) = sym (length-map columns (λ col. col.items))
+    ∙ ap length c.requires.menu in
     let within : c.args.k < length (menu_of c.args.exercise.now i) = omega (arith, wide, c.requires.within) in
     subst (λ (t : Task). c.args.k < length (menu_of t.exercise i)) (sym c.requires.tables) within
 
 pub returns-then-not-may_be_better-clause-passed : goal.returns-then-not-may_be_better-clause-passed
 returns-then-not-may_be_better-clause-passed c = λ path at j le lt.
-    let P : Task → Type 0 = λ t. (other : List ℕ) → IsNodeOf t.exercise t.sheet c.args.node.now other → IsNoBetter t.exercise t.sheet other c.args.best c.args.k in
+    let P : Task → Type 0 = λ t. (other : List ℕ) → IsNodeOf t.exercise t.sheet c.args.node.now other
+    → IsNoBetter t.exercise t.sheet other c.args.best c.args.k in
     let here : IsNoBetter c.args.exercise.now c.args.sheet.now path c.args.best c.args.k =
     subst P c.requires.tables (OnFalse_at c.if-not-may_be_better.true c.may_be_better.ensures) path at in
     let same : c.args.k ≡ j = omega (arith, le, lt) in
@@ -40,7 +43,8 @@ pub pruned_within-requires-clause-full : goal.pruned_within-requires-clause-full
 pruned_within-requires-clause-full c =
     let columns = c.args.menu.now.columns.items in
     let i = c.args.node.now.state.newest.len in
-    let wide : length columns ≡ length (menu_of c.args.exercise.now i) = sym (length-map columns (λ col. col.items)) ∙ ap length c.requires.menu in
+    let wide : length columns ≡ length (menu_of c.args.exercise.now i) = sym (length-map columns (λ col. col.items))
+    ∙ ap length c.requires.menu in
     ap length c.column.ensures ∙ ap (λ cols. length (slice_index_or cols c.args.k [])) c.requires.menu
     ∙ menu_of-full c.args.exercise.now i c.args.k [] (omega (arith, wide, c.requires.within))
 
@@ -54,7 +58,9 @@ returns-clause-passed c = λ path at j le lt.
     let block = c.end_of_agreement.ensures in
     let inside : j < length menu = omega (arith, lt, block.within) in
     let full : length (slice_index_or menu j []) ≡ ex.voices =
-    ap (λ cols. length (slice_index_or cols j [])) c.requires.menu ∙ menu_of-full ex i j [] (subst (λ cols. j < length cols) c.requires.menu inside) in
+    ap (λ cols. length (slice_index_or cols j [])) c.requires.menu
+    ∙ menu_of-full ex i j [] (subst (λ cols. j < length cols) c.requires.menu inside) in
     pruned_no_better ex sheet c.args.node.now path at j c.args.best c.limit_of-limit.result (slice_index_or menu j [])
     (column_of_menu ex sheet c.args.node.now path at columns j c.requires.menu) c.limit_of-limit.ensures
-    (c.in_ok-voices.ensures.pruned _ at.state (slice_index_or menu j []) full (block.cells j le lt ∙ ap (take c.in_ok-voices.voices) (sym c.column.ensures)))
+    (c.in_ok-voices.ensures.pruned _ at.state (slice_index_or menu j []) full
+    (block.cells j le lt ∙ ap (take c.in_ok-voices.voices) (sym c.column.ensures)))

@@ -13,12 +13,17 @@ descend-loop-from-init g t c =
     let space = g.S.Space in
     let walk = c.args.walk.now in
     let path = take c.args.level walk.path.items in
-    let short : length path < space.height c.args.space.now = omega (arith, length-take-le c.args.level walk.path.items (omega (arith, c.requires.lengths.0, c.requires.above)), c.requires.above) in
+    let short : length path < space.height c.args.space.now = omega (
+      arith,
+      length-take-le c.args.level walk.path.items (omega (arith, c.requires.lengths.0, c.requires.above)),
+      c.requires.above,
+    ) in
     record {
       within = omega arith;
       same_path = refl;
       lengths = c.requires.lengths;
-      best = best_first (g.met.S.Space.floors_grow c.args.space.now) path walk.best walk.best_path.items short c.requires.best;
+      best = best_first (g.met.S.Space.floors_grow c.args.space.now) path walk.best walk.best_path.items short
+          c.requires.best;
       opened = (omega arith, Exactly-none _ _ (omega arith) (λ x it. absurd (omega (arith, it.1.1))));
     }
 
@@ -26,16 +31,20 @@ pub descend-returns-then-k-count-clause-best : goal.descend-returns-then-k-count
 descend-returns-then-k-count-clause-best g t c =
     let width = c.count-count.ensures.value _ c.requires.node in
     let skipped = c.next_child-k.ensures.passed _ c.requires.node in
-    best_passed (g.met.S.Space.floors_grow c.args.space.now) _ c.loop-from.from _ _ _ (omega (arith, width, c.loop-from.invariant.within))
-    (λ child floor low high. skipped child floor low (omega (arith, high, width, c.if-k-count.true))) c.loop-from.invariant.best
+    best_passed (g.met.S.Space.floors_grow c.args.space.now) _ c.loop-from.from _ _ _
+    (omega (arith, width, c.loop-from.invariant.within))
+    (λ child floor low high. skipped child floor low (omega (arith, high, width, c.if-k-count.true)))
+    c.loop-from.invariant.best
 
 pub descend-returns-then-k-count-clause-opened : goal.descend-returns-then-k-count-clause-opened
 descend-returns-then-k-count-clause-opened g t c =
     let width = c.count-count.ensures.value _ c.requires.node in
     let skipped = c.next_child-k.ensures.passed _ c.requires.node in (
       c.loop-from.invariant.opened.0,
-      exactly_passed (g.met.S.Space.floors_grow c.args.space.now) _ c.loop-from.from _ _ _ _ _ (omega (arith, width, c.loop-from.invariant.within)) refl
-          (λ child floor low high. skipped child floor low (omega (arith, high, width, c.if-k-count.true))) c.loop-from.invariant.best c.loop-from.invariant.opened.1,
+      exactly_passed (g.met.S.Space.floors_grow c.args.space.now) _ c.loop-from.from _ _ _ _ _
+          (omega (arith, width, c.loop-from.invariant.within)) refl
+          (λ child floor low high. skipped child floor low (omega (arith, high, width, c.if-k-count.true)))
+          c.loop-from.invariant.best c.loop-from.invariant.opened.1,
     )
 
 pub descend-enter-requires : goal.descend-enter-requires
@@ -44,11 +53,13 @@ descend-enter-requires g t c =
     let here = rw (← same) at c.requires.node in
     let skipped = c.next_child-k.ensures.passed _ c.requires.node in
     let walk = c.loop-from.walk in
-    let past = best_passed (g.met.S.Space.floors_grow c.args.space.now) (take c.args.level c.args.walk.now.path.items) _ _ walk.best walk.best_path.items c.next_child-k.ensures.onward skipped c.loop-from.invariant.best in
+    let past = best_passed (g.met.S.Space.floors_grow c.args.space.now) (take c.args.level c.args.walk.now.path.items) _
+    _ walk.best walk.best_path.items c.next_child-k.ensures.onward skipped c.loop-from.invariant.best in
     let best = rw (← same) at past in
     let lengths = c.loop-from.invariant.lengths in
     let width = c.count-count.ensures.value _ here in
-    let within : c.next_child-k.result < g.S.Space.width c.args.space.now (take c.args.level c.loop-from.walk.path.items) = omega (arith, width) in
+    let within : c.next_child-k.result < g.S.Space.width c.args.space.now
+    (take c.args.level c.loop-from.walk.path.items) = omega (arith, width) in
     let small : c.next_child-k.result < 2 ^ 16 = omega arith in
     search rules
 
@@ -59,10 +70,12 @@ descend-returns-then-not-enter-clause-spent g t c =
     let height = g.S.Space.height c.args.space.now in
     let path = take c.args.level c.args.walk.now.path.items in
     let skipped = c.next_child-k.ensures.passed _ c.requires.node in
-    let before = exactly_passed (g.met.S.Space.floors_grow c.args.space.now) path _ _ _ _ _ _ c.next_child-k.ensures.onward refl skipped kept.best kept.opened.1 in
+    let before = exactly_passed (g.met.S.Space.floors_grow c.args.space.now) path _ _ _ _ _ _
+    c.next_child-k.ensures.onward refl skipped kept.best kept.opened.1 in
     let more = rw kept.same_path at c.if-not-enter.ensures.spent in
     let width = c.count-count.ensures.value _ c.requires.node in
-    many_wider live height path (c.next_child-k.result + 1) _ (c.args.walk.now.left + 1) _ (omega (arith, width, c.if-k-count.false)) refl
+    many_wider live height path (c.next_child-k.result + 1) _ (c.args.walk.now.left + 1) _
+    (omega (arith, width, c.if-k-count.false)) refl
     (many_more live height path c.next_child-k.result _ _ _ (omega (arith, kept.opened.0)) before.many more)
 
 pub descend-loop-from-preserved : goal.descend-loop-from-preserved
@@ -70,7 +83,8 @@ descend-loop-from-preserved g t c =
     let kept = c.loop-from.invariant in
     let path = take c.args.level c.args.walk.now.path.items in
     let skipped = c.next_child-k.ensures.passed _ c.requires.node in
-    let before = exactly_passed (g.met.S.Space.floors_grow c.args.space.now) path _ _ _ _ _ _ c.next_child-k.ensures.onward refl skipped kept.best kept.opened.1 in
+    let before = exactly_passed (g.met.S.Space.floors_grow c.args.space.now) path _ _ _ _ _ _
+    c.next_child-k.ensures.onward refl skipped kept.best kept.opened.1 in
     let more = rw kept.same_path at c.if-not-enter.ensures.opened.1 in
     record {
       within = omega (arith, c.if-k-count.false);
@@ -79,7 +93,8 @@ descend-loop-from-preserved g t c =
       best = rw kept.same_path at c.if-not-enter.ensures.best;
       opened = (
         omega (arith, kept.opened.0, c.if-not-enter.ensures.opened.0),
-        exactly_more (g.S.Space.live c.args.space.now) (g.S.Space.height c.args.space.now) path c.next_child-k.result _ _ _
+        exactly_more (g.S.Space.live c.args.space.now) (g.S.Space.height c.args.space.now) path c.next_child-k.result _
+            _ _
             (omega (arith, kept.opened.0, c.if-not-enter.ensures.opened.0)) before more,
       );
     }
@@ -97,24 +112,30 @@ enter-returns-in_default-clause-best g t c =
     (c.in_default.ensures _ c.requires.node) c.requires.best
 
 pub enter-returns-in_default-clause-opened : goal.enter-returns-in_default-clause-opened
-enter-returns-in_default-clause-opened g t c =
-    (omega arith, none_dead (g.met.S.Space.floors_grow c.args.space.now) _ _ (omega arith) (c.in_default.ensures _ c.requires.node))
+enter-returns-in_default-clause-opened g t c = (
+  omega arith,
+  none_dead (g.met.S.Space.floors_grow c.args.space.now) _ _ (omega arith)
+      (c.in_default.ensures _ c.requires.node),
+)
 
 pub enter-returns-then-is_no_better-clause-best : goal.enter-returns-then-is_no_better-clause-best
 enter-returns-then-is_no_better-clause-best g t c =
-    best_pruned (g.met.S.Space.floors_grow c.args.space.now) (take c.args.level c.args.walk.now.path.items) c.args.k _ _ _
+    best_pruned (g.met.S.Space.floors_grow c.args.space.now) (take c.args.level c.args.walk.now.path.items) c.args.k _ _
+    _
     (c.in-Some.ensures _ c.requires.node).1 c.if-is_no_better.ensures.worse c.requires.best
 
 pub enter-returns-then-is_no_better-clause-opened : goal.enter-returns-then-is_no_better-clause-opened
 enter-returns-then-is_no_better-clause-opened g t c = (
   omega arith,
-  none_pruned (g.met.S.Space.floors_grow c.args.space.now) _ _ _ _ _ (omega arith) (c.in-Some.ensures _ c.requires.node).1 c.if-is_no_better.ensures.worse
+  none_pruned (g.met.S.Space.floors_grow c.args.space.now) _ _ _ _ _ (omega arith)
+      (c.in-Some.ensures _ c.requires.node).1 c.if-is_no_better.ensures.worse
       c.requires.best,
 )
 
 pub enter-returns-then-walk-eq0-clause-spent : goal.enter-returns-then-walk-eq0-clause-spent
 enter-returns-then-walk-eq0-clause-spent g t c =
-    let is = opened_child (g.met.S.Space.floors_grow c.args.space.now) (take c.args.level c.args.walk.now.path.items) c.args.k _ _ _
+    let is = opened_child (g.met.S.Space.floors_grow c.args.space.now) (take c.args.level c.args.walk.now.path.items)
+    c.args.k _ _ _
     (c.in-Some.ensures _ c.requires.node).1 c.if-is_no_better.ensures.better c.requires.best in
     many_itself _ _ _ _ (omega (arith, c.if-walk-eq0.true)) is
 
@@ -137,10 +158,18 @@ enter-returns-then-level-len-clause-best g t c =
     let start = take level path in
     let spot = take_more_set path level c.args.k within in
     let short : length (start ++ c.args.k ∷ []) < space.height c.args.space.now =
-    omega (arith, length-append start (c.args.k ∷ []), length-take-le level path (omega arith), c.requires.lengths.0, c.len.ensures, c.if-level-len.true) in
+    omega (
+      arith,
+      length-append start (c.args.k ∷ []),
+      length-take-le level path (omega arith),
+      c.requires.lengths.0,
+      c.len.ensures,
+      c.if-level-len.true,
+    ) in
     let after = rw spot at c.descend.ensures.best in
     OnTrue_from c.descend.result _ (λ yes.
-    best_up (g.met.S.Space.floors_grow c.args.space.now) start c.args.k c.descend.new.walk.best c.descend.new.walk.best_path.items short
+    best_up (g.met.S.Space.floors_grow c.args.space.now) start c.args.k c.descend.new.walk.best
+    c.descend.new.walk.best_path.items short
     (OnTrue_at yes after))
 
 pub enter-returns-then-level-len-clause-opened : goal.enter-returns-then-level-len-clause-opened
@@ -156,9 +185,11 @@ enter-returns-then-level-len-clause-opened g t c =
     let spot = take_more_set path level c.args.k within in
     let after = rw spot at c.descend.ensures.opened in
     let grows = g.met.S.Space.floors_grow c.args.space.now in
-    let is = opened_child grows start c.args.k _ _ _ (c.in-Some.ensures _ c.requires.node).1 c.if-is_no_better.ensures.better c.requires.best in
+    let is = opened_child grows start c.args.k _ _ _ (c.in-Some.ensures _ c.requires.node).1
+    c.if-is_no_better.ensures.better c.requires.best in
     OnTrue_from c.descend.result _ (λ yes.
-    let h = OnTrue_at {P = HasOpened (IsOpenedBelow live height child (space.width c.args.space.now child)) (c.args.walk.now.left - 1) c.descend.new.walk.left} yes after in (
+    let h = OnTrue_at {P = HasOpened (IsOpenedBelow live height child (space.width c.args.space.now child))
+    (c.args.walk.now.left - 1) c.descend.new.walk.left} yes after in (
       omega (arith, h.0, c.if-walk-eq0.false),
       exactly_from grows child _ _ (omega (arith, h.0, c.if-walk-eq0.false)) is h.1,
     ))
@@ -176,9 +207,11 @@ enter-returns-then-level-len-clause-spent g t c =
     let spot = take_more_set path level c.args.k within in
     let after = rw spot at c.descend.ensures.spent in
     let grows = g.met.S.Space.floors_grow c.args.space.now in
-    let is = opened_child grows start c.args.k _ _ _ (c.in-Some.ensures _ c.requires.node).1 c.if-is_no_better.ensures.better c.requires.best in
+    let is = opened_child grows start c.args.k _ _ _ (c.in-Some.ensures _ c.requires.node).1
+    c.if-is_no_better.ensures.better c.requires.best in
     OnFalse_from c.descend.result _ (λ no.
-    let h = OnFalse_at {P = Many (IsOpenedBelow live height child (space.width c.args.space.now child)) (c.args.walk.now.left - 1 + 1)} no after in
+    let h = OnFalse_at {P = Many (IsOpenedBelow live height child (space.width c.args.space.now child))
+    (c.args.walk.now.left - 1 + 1)} no after in
     many_from live height child (space.width c.args.space.now child) _ _ (omega (arith, c.if-walk-eq0.false)) is h)
 
 pub enter-returns-clause-best : goal.enter-returns-clause-best
@@ -191,10 +224,20 @@ enter-returns-clause-best g t c =
     let child = start ++ c.args.k ∷ [] in
     let own = (c.in-Some.ensures _ c.requires.node).1 in
     let long : length child ≡ space.height c.args.space.now =
-    omega (arith, length-append start (c.args.k ∷ []), length-take-le level path (omega arith), c.requires.lengths.0, c.len.ensures, c.if-level-len.false) in
-    let full : length (set path level c.args.k) ≤ level + 1 = omega (arith, length-set path level c.args.k, c.len.ensures, c.if-level-len.false, c.args.walk.now.path.ok.0) in
-    let copied = c.copy_from_slice.ensures.items ∙ c.deref.ensures.value ∙ sym (take_all (level + 1) (set path level c.args.k) full) ∙ take_more_set path level c.args.k within in
-    best_leaf_at (g.met.S.Space.floors_grow c.args.space.now) start c.args.k _ _ _ _ copied long own c.if-is_no_better.ensures.better c.requires.best
+    omega (
+      arith,
+      length-append start (c.args.k ∷ []),
+      length-take-le level path (omega arith),
+      c.requires.lengths.0,
+      c.len.ensures,
+      c.if-level-len.false,
+    ) in
+    let full : length (set path level c.args.k) ≤ level + 1 = omega
+    (arith, length-set path level c.args.k, c.len.ensures, c.if-level-len.false, c.args.walk.now.path.ok.0) in
+    let copied = c.copy_from_slice.ensures.items ∙ c.deref.ensures.value
+    ∙ sym (take_all (level + 1) (set path level c.args.k) full) ∙ take_more_set path level c.args.k within in
+    best_leaf_at (g.met.S.Space.floors_grow c.args.space.now) start c.args.k _ _ _ _ copied long own
+    c.if-is_no_better.ensures.better c.requires.best
 
 pub enter-returns-clause-opened : goal.enter-returns-clause-opened
 enter-returns-clause-opened g t c =
@@ -203,7 +246,15 @@ enter-returns-clause-opened g t c =
     let within : level < length path = omega (arith, c.requires.lengths.0, c.requires.above) in
     let start = take level path in
     let long : length (start ++ c.args.k ∷ []) ≡ g.S.Space.height c.args.space.now =
-    omega (arith, length-append start (c.args.k ∷ []), length-take-le level path (omega arith), c.requires.lengths.0, c.len.ensures, c.if-level-len.false) in
+    omega (
+      arith,
+      length-append start (c.args.k ∷ []),
+      length-take-le level path (omega arith),
+      c.requires.lengths.0,
+      c.len.ensures,
+      c.if-level-len.false,
+    ) in
     let grows = g.met.S.Space.floors_grow c.args.space.now in
-    let is = opened_child grows start c.args.k _ _ _ (c.in-Some.ensures _ c.requires.node).1 c.if-is_no_better.ensures.better c.requires.best in
+    let is = opened_child grows start c.args.k _ _ _ (c.in-Some.ensures _ c.requires.node).1
+    c.if-is_no_better.ensures.better c.requires.best in
     (omega arith, exactly_leaf grows _ _ (omega (arith, c.if-walk-eq0.false)) long is)

@@ -16,8 +16,10 @@ invariant-descend-loop-from g l =
       within : l.from ≤ l.count;
       same_path : take l.level l.walk.path.items ≡ path;
       lengths : HaveLength (space.height l.space) l.walk.path.items l.walk.best_path.items;
-      best : IsBestBefore (space.live l.space) (space.height l.space) (path ++ l.from ∷ []) l.walk.best l.walk.best_path.items;
-      opened : HasOpened (IsOpenedBelow (space.live l.space) (space.height l.space) path l.from) l.initial.walk.left l.walk.left;
+      best : IsBestBefore (space.live l.space) (space.height l.space) (path ++ l.from ∷ []) l.walk.best
+          l.walk.best_path.items;
+      opened : HasOpened (IsOpenedBelow (space.live l.space) (space.height l.space) path l.from) l.initial.walk.left
+          l.walk.left;
     }
 
 abbrev pub decreases-descend-loop-from : goal.decreases-descend-loop-from

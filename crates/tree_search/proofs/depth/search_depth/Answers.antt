@@ -5,7 +5,8 @@ use Rattle.tree_search.proofs.Opened.{many_live, many_opened, exactly_opened, no
 use Rattle.tree_search.proofs.depth.search_depth.Goals as goal
 
 pub returns-in_default-clause-nothing : goal.returns-in_default-clause-nothing
-returns-in_default-clause-nothing g c = λ path value leaf. none_from (g.met.S.Space.floors_grow c.args.space.now) [] path value c.in_default.ensures leaf.1 (path, refl)
+returns-in_default-clause-nothing g c = λ path value leaf. none_from (g.met.S.Space.floors_grow c.args.space.now) []
+    path value c.in_default.ensures leaf.1 (path, refl)
 
 pub returns-in_default-clause-opened : goal.returns-in_default-clause-opened
 returns-in_default-clause-opened g c =
@@ -22,7 +23,8 @@ pub returns-then-not-descend-clause-spent : goal.returns-then-not-descend-clause
 returns-then-not-descend-clause-spent g c = many_live _ _ _ _ c.if-not-descend.ensures.spent
 
 pub returns-then-not-descend-clause-bound : goal.returns-then-not-descend-clause-bound
-returns-then-not-descend-clause-bound g c = λ path value leaf. floor_from (g.met.S.Space.floors_grow c.args.space.now) [] path _ value c.in-Some.ensures.1 leaf.1 (path, refl)
+returns-then-not-descend-clause-bound g c = λ path value leaf. floor_from (g.met.S.Space.floors_grow c.args.space.now)
+    [] path _ value c.in-Some.ensures.1 leaf.1 (path, refl)
 
 pub returns-then-not-descend-clause-floor : goal.returns-then-not-descend-clause-floor
 returns-then-not-descend-clause-floor g c = λ floor live. no_lower _ floor (sym c.in-Some.ensures.1 ∙ live)
@@ -31,27 +33,38 @@ returns-then-not-descend-clause-floor g c = λ floor live. no_lower _ floor (sym
     no_lower a b e = let same : a ≡ b = cc in omega (arith, same)
 
 pub returns-then-not-descend-clause-enough : goal.returns-then-not-descend-clause-enough
-returns-then-not-descend-clause-enough g c = λ enough _. no_more _ c.args.budget _ (omega arith) enough (many_live _ _ _ _ c.if-not-descend.ensures.spent)
+returns-then-not-descend-clause-enough g c =
+    λ enough _. no_more _ c.args.budget _ (omega arith) enough (many_live _ _ _ _ c.if-not-descend.ensures.spent)
 
 pub returns-then-not-descend-clause-opened : goal.returns-then-not-descend-clause-opened
 returns-then-not-descend-clause-opened g c = (λ _. many_opened _ _ _ _ c.if-not-descend.ensures.spent, λ _. tt)
 
 pub returns-in-None-clause-nothing : goal.returns-in-None-clause-nothing
 returns-in-None-clause-nothing g c =
-    let high : 0 < g.S.Space.height c.args.space.now = omega (arith, c.depth-depth.ensures.value, c.if-depth-eq0.false) in
-    all_seen_none (g.met.S.Space.floors_grow c.args.space.now) [] high (rw c.in-None.is at c.if-not-descend.ensures.best)
+    let high : 0 < g.S.Space.height c.args.space.now = omega (arith, c.depth-depth.ensures.value, c.if-depth-eq0.false)
+    in
+    all_seen_none (g.met.S.Space.floors_grow c.args.space.now) [] high
+    (rw c.in-None.is at c.if-not-descend.ensures.best)
 
 pub returns-in-None-clause-opened : goal.returns-in-None-clause-opened
 returns-in-None-clause-opened g c =
-    let opened = c.if-not-descend.ensures.opened in
-    (λ h. absurd h, no_more _ _ _ (omega (arith, opened.0)) (AtMost-from _ _ (exactly_opened (g.met.S.Space.floors_grow c.args.space.now) _ opened.1)))
+    let opened = c.if-not-descend.ensures.opened in (
+      λ h. absurd h,
+      no_more _ _ _ (omega (arith, opened.0))
+          (AtMost-from _ _ (exactly_opened (g.met.S.Space.floors_grow c.args.space.now) _ opened.1)),
+    )
 
 pub returns-clause-found : goal.returns-clause-found
 returns-clause-found g c =
-    let high : 0 < g.S.Space.height c.args.space.now = omega (arith, c.depth-depth.ensures.value, c.if-depth-eq0.false) in
-    rw c.new-in-Some-best.ensures (all_seen_some (g.met.S.Space.floors_grow c.args.space.now) _ _ high (rw c.in-Some-best.is at c.if-not-descend.ensures.best))
+    let high : 0 < g.S.Space.height c.args.space.now = omega (arith, c.depth-depth.ensures.value, c.if-depth-eq0.false)
+    in
+    rw c.new-in-Some-best.ensures (all_seen_some (g.met.S.Space.floors_grow c.args.space.now) _ _ high
+    (rw c.in-Some-best.is at c.if-not-descend.ensures.best))
 
 pub returns-clause-opened : goal.returns-clause-opened
 returns-clause-opened g c =
-    let opened = c.if-not-descend.ensures.opened in
-    (λ h. absurd h, no_more _ _ _ (omega (arith, opened.0)) (AtMost-from _ _ (exactly_opened (g.met.S.Space.floors_grow c.args.space.now) _ opened.1)))
+    let opened = c.if-not-descend.ensures.opened in (
+      λ h. absurd h,
+      no_more _ _ _ (omega (arith, opened.0))
+          (AtMost-from _ _ (exactly_opened (g.met.S.Space.floors_grow c.args.space.now) _ opened.1)),
+    )

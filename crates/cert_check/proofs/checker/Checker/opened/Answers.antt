@@ -17,10 +17,13 @@ invariant_of-result c =
       has = c.requires.tables;
       is = record {
         levels = subst (λ (ls : List Level). AreLevels t (reverse ls)) (sym none) tt;
-        next = subst (λ (ls : List Level). IsJudged t (prefix_of t.exercise (reverse ls)) c.start.result) (sym none) (c.start.ensures t refl refl);
+        next = subst (λ (ls : List Level). IsJudged t (prefix_of t.exercise (reverse ls)) c.start.result) (sym none)
+            (c.start.ensures t refl refl);
         room = search rules;
       };
       owes = λ unrefused.
-          subst (λ (ls : List Level). OwesRefuting t.exercise t.sheet t.head (owed_at t.exercise (reverse ls) (Some c.start.result))) (sym none)
-          (empty_owes t.exercise t.sheet c.requires.case.valid.most_voices (floors_hold t.exercise c.requires.case.valid t.sheet) t.head);
+          subst (λ (ls : List Level). OwesRefuting t.exercise t.sheet t.head
+          (owed_at t.exercise (reverse ls) (Some c.start.result))) (sym none)
+          (empty_owes t.exercise t.sheet c.requires.case.valid.most_voices
+          (floors_hold t.exercise c.requires.case.valid t.sheet) t.head);
     }

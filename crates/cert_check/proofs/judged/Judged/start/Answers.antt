@@ -27,7 +27,8 @@ returns c = λ t same sheets. record {
   broken = λ r. ap (λ n. n == 1) (bit_at-zero r) ∙ sym (breaks-none t.exercise r);
   paid = refl;
   least =
-      c.least.ensures.value [] c.start-state.ensures record { few = omega arith; menus = λ i h. absurd (omega (arith, h)); follows = tt }
+      c.least.ensures.value [] c.start-state.ensures record
+      { few = omega arith; menus = λ i h. absurd (omega (arith, h)); follows = tt }
       ∙ ap (λ ex. least_of ex c.args.sheet.now []) (sym same) ∙ ap (λ sheet. least_of t.exercise sheet []) (sym sheets);
   low = c.least.ensures.bound;
   small = omega arith;

@@ -17,16 +17,19 @@ pub returns-then-not-branch-clause-gives : goal.returns-then-not-branch-clause-g
 returns-then-not-branch-clause-gives g c = λ front at.
     let files = g.F.Shelf.files c.args.shelf.now in
     let name = c.args.name.now in
-    let taken = subst (λ (o : Option Claim). TakesLine files name front c.take_line.new.self (Ok o)) c.in-Ok-None.field-0-is
+    let taken = subst (λ (o : Option Claim). TakesLine files name front c.take_line.new.self (Ok o))
+    c.in-Ok-None.field-0-is
     (c.in-Ok-None.ensures.takes files name front (c.loop-claim.invariant.0 front at)) in
     let same = c.loop-claim.invariant.1 in
     let stands = subst (λ (fs : Files). IsAt fs name front c.take_line.new.self) (sym same) taken.0 in
     let reads = subst
-    (λ (fs : Files). ReadsOn fs name (Rose (g.F.Shelf.faults c.loop-claim.shelf) (g.F.Shelf.faults c.read_on.new.shelf)) front
+    (λ (fs : Files). ReadsOn fs name (Rose (g.F.Shelf.faults c.loop-claim.shelf) (g.F.Shelf.faults c.read_on.new.shelf))
+    front
     c.take_line.new.self.claims.begun c.read_on.new.self (Ok c.in_ok-read_on.field-0)) same
     (c.in_ok-read_on.ensures.reads front stands taken.1) in
     let over = subst
-    (λ (b : Bool). ReadsOn files name (Rose (g.F.Shelf.faults c.loop-claim.shelf) (g.F.Shelf.faults c.read_on.new.shelf)) front
+    (λ (b : Bool). ReadsOn files name (Rose (g.F.Shelf.faults c.loop-claim.shelf)
+    (g.F.Shelf.faults c.read_on.new.shelf)) front
     c.take_line.new.self.claims.begun c.read_on.new.self (Ok b)) c.if-not-branch.true reads in
     gives_at_end files name front _ _ c.end.result (c.end.ensures files name front over.0
     (subst (λ xs. MayHave files name (front ++ xs)) (sym over.1) over.2))
@@ -45,16 +48,19 @@ loop-claim-preserved g c = (
   λ front at.
       let files = g.F.Shelf.files c.args.shelf.now in
       let name = c.args.name.now in
-      let taken = subst (λ (o : Option Claim). TakesLine files name front c.take_line.new.self (Ok o)) c.in-Ok-None.field-0-is
+      let taken = subst (λ (o : Option Claim). TakesLine files name front c.take_line.new.self (Ok o))
+      c.in-Ok-None.field-0-is
       (c.in-Ok-None.ensures.takes files name front (c.loop-claim.invariant.0 front at)) in
       let same = c.loop-claim.invariant.1 in
       let stands = subst (λ (fs : Files). IsAt fs name front c.take_line.new.self) (sym same) taken.0 in
       let reads = subst
-      (λ (fs : Files). ReadsOn fs name (Rose (g.F.Shelf.faults c.loop-claim.shelf) (g.F.Shelf.faults c.read_on.new.shelf)) front
+      (λ (fs : Files). ReadsOn fs name (Rose (g.F.Shelf.faults c.loop-claim.shelf)
+      (g.F.Shelf.faults c.read_on.new.shelf)) front
       c.take_line.new.self.claims.begun c.read_on.new.self (Ok c.in_ok-read_on.field-0)) same
       (c.in_ok-read_on.ensures.reads front stands taken.1) in
       subst
-      (λ (b : Bool). ReadsOn files name (Rose (g.F.Shelf.faults c.loop-claim.shelf) (g.F.Shelf.faults c.read_on.new.shelf)) front
+      (λ (b : Bool). ReadsOn files name (Rose (g.F.Shelf.faults c.loop-claim.shelf)
+      (g.F.Shelf.faults c.read_on.new.shelf)) front
       c.take_line.new.self.claims.begun c.read_on.new.self (Ok b)) c.if-not-branch.false reads,
   c.read_on.ensures.files ∙ c.loop-claim.invariant.1,
   omega (arith, c.loop-claim.invariant.2, c.read_on.ensures.faults),

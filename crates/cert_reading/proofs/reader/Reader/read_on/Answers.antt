@@ -41,5 +41,7 @@ returns-clause-reads g c = λ front at used_up.
     let room : 0 < c.max-wanted.result = omega (arith, c.max-wanted.ensures, c.min.ensures) in
     reads_on files name front _ stands none c.read_piece.new.buf _ c.args.self.now.claims.begun c.in_ok-count.count
     (nat_lt 0 c.in_ok-count.count) (Rose (g.F.Shelf.faults c.args.shelf.now) (g.F.Shelf.faults c.read_piece.new.shelf))
-    (ap (λ (r : Reading). r.claims.begun) c.self.view_is) refl (written c.read_piece.new.buf _ _ c.in_ok-count.count fits (omega (arith, fits, c.read_piece.ensures.long, c.deref_mut.ensures.len))) fits
+    (ap (λ (r : Reading). r.claims.begun) c.self.view_is) refl
+    (written c.read_piece.new.buf _ _ c.in_ok-count.count fits
+    (omega (arith, fits, c.read_piece.ensures.long, c.deref_mut.ensures.len))) fits
     c.in_ok-count.ensures.placed (λ zero. c.in_ok-count.ensures.end zero room)

@@ -12,7 +12,8 @@ loop-i-init c = (c.requires, sym (append-nil (begun_bytes c.args.self)), refl)
 pub returns-in_default : goal.returns-in_default
 returns-in_default c =
     let (begun, read, part) = c.loop-i.invariant in
-    stop_here c.args.self c.loop-i.begun c.args.piece.now c.loop-i.i c.loop-i-test.true read part c.step.result c.in_default.not-Goes c.step.ensures
+    stop_here c.args.self c.loop-i.begun c.args.piece.now c.loop-i.i c.loop-i-test.true read part c.step.result
+    c.in_default.not-Goes c.step.ensures
 
 pub loop-i-preserved : goal.loop-i-preserved
 loop-i-preserved c =

@@ -14,7 +14,8 @@ returns-clause-packed c =
     c.in_ok-numbers.ensures ∙ ap (λ (xs : List (ArrayVec Cell)). map packed (items_of xs)) c.deref.ensures.value in
     record {
       numbers = numbers;
-      rising = subst IsRising (sym numbers) (numbers-rise c.args.voices columns c.requires.few c.requires.full c.requires.order);
+      rising = subst IsRising (sym numbers)
+          (numbers-rise c.args.voices columns c.requires.few c.requires.full c.requires.order);
       full = c.requires.full;
       few = c.requires.few;
     }

@@ -10,9 +10,11 @@ use Rattle.chain_sums.proofs.menu.Menu.place_of_number.Goals as goal
 pub returns-then-index-number : goal.returns-then-index-number
 returns-then-index-number c = λ d same voices is there.
     let menu = c.args.self.now in
-    let within : c.args.likely < length menu.numbers.items = omega (arith, c.if-likely-len.true, c.len.ensures, menu.numbers.ok.0) in
+    let within : c.args.likely < length menu.numbers.items = omega
+    (arith, c.if-likely-len.true, c.len.ensures, menu.numbers.ok.0) in
     number_found menu voices c.args.likely d is there within
-    (get_or_default menu.numbers.items c.args.likely 0 c.index.result.now within ∙ sym c.index.ensures ∙ c.if-index-number.true ∙ sym same)
+    (get_or_default menu.numbers.items c.args.likely 0 c.index.result.now within ∙ sym c.index.ensures
+    ∙ c.if-index-number.true ∙ sym same)
 
 pub returns-in-Ok : goal.returns-in-Ok
 returns-in-Ok c = λ d same voices is there.
@@ -23,7 +25,8 @@ returns-in-Ok c = λ d same voices is there.
     number_found menu voices c.in-Ok.k d is there (omega (arith, found.0, ap length c.deref.ensures.value))
     (ap (λ xs. get_or xs c.in-Ok.k 0) (sym c.deref.ensures.value) ∙ found.1 ∙ sym same)
 
-not_there : (numbers : List ℕ) (x i k : ℕ) → ((k : ℕ) → k < i → get_or numbers k 0 < x) → ((k : ℕ) → i ≤ k → k < length numbers → x < get_or numbers k 0)
+not_there : (numbers : List ℕ) (x i k : ℕ) → ((k : ℕ) → k < i → get_or numbers k 0 < x)
+    → ((k : ℕ) → i ≤ k → k < length numbers → x < get_or numbers k 0)
     → k < length numbers → get_or numbers k 0 ≡ x → ⊥
 not_there numbers x i k below above within e = by (cases_lt k i)
   where
@@ -36,7 +39,10 @@ returns-in-Err c = λ d same voices is there.
     let columns = columns_of c.args.self.now in
     let numbers : c.deref.result.now ≡ map packed columns = c.deref.ensures.value ∙ is.numbers in
     let rising : IsRising c.deref.result.now = subst IsRising (sym c.deref.ensures.value) is.rising in
-    let found : (c.in-Err.field-0 ≤ length c.deref.result.now) × ((k : ℕ) → k < c.in-Err.field-0 → get_or c.deref.result.now k 0 < c.args.number) × ((k : ℕ) → c.in-Err.field-0 ≤ k → k < length c.deref.result.now → c.args.number < get_or c.deref.result.now k 0) =
+    let found : (c.in-Err.field-0 ≤ length c.deref.result.now)
+    × ((k : ℕ) → k < c.in-Err.field-0 → get_or c.deref.result.now k 0 < c.args.number)
+    × ((k : ℕ) → c.in-Err.field-0 ≤ k → k < length c.deref.result.now
+    → c.args.number < get_or c.deref.result.now k 0) =
     searched c.deref.result.now c.args.number (Err c.in-Err.field-0) c.in-Err.ensures.position rising in
     let at = number_there columns d there in
     not_there c.deref.result.now c.args.number c.in-Err.field-0 at.0 found.1 found.2

@@ -8,7 +8,8 @@ least_behind-requires-clause-row g c =
     let chains = g.L.Links.chains c.args.links.now in
     let found = c.in-Some.ensures chains c.requires.rows in
     let first : chains.places - length c.args.self.now.places.items ≡ 0 = omega (arith, c.requires.whole) in
-    subst (IsRow chains 0) (sym c.deref.ensures.value) (subst (λ (i : ℕ). IsRow chains i c.in-Some.first.now.sums.items) first found.1.sums)
+    subst (IsRow chains 0) (sym c.deref.ensures.value)
+    (subst (λ (i : ℕ). IsRow chains i c.in-Some.first.now.sums.items) first found.1.sums)
 
 pub returns-clause-small : goal.returns-clause-small
 returns-clause-small g c =
@@ -19,4 +20,5 @@ returns-clause-small g c =
     let all : AllAtMost most c.deref.result.now =
     subst (λ (xs : List (Option ℕ)). AllAtMost most xs) (sym c.deref.ensures.value)
     (latest_small chains c.args.self.now.menus.items rows c.in-Some.first.now c.requires.rows.few found.0 found.1) in
-    at_most_more (most + 2 ^ 53) (chains.places * 2 ^ 53) c.least_behind.result (omega (arith, c.requires.whole, found.0)) (c.least_behind.ensures.bound most all)
+    at_most_more (most + 2 ^ 53) (chains.places * 2 ^ 53) c.least_behind.result
+    (omega (arith, c.requires.whole, found.0)) (c.least_behind.ensures.bound most all)

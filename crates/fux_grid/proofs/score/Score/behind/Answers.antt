@@ -7,4 +7,5 @@ returns-then-k-i c = sym (get_or-earlier_past c.args.self.now.columns c.args.i c
 
 pub returns : goal.returns
 returns c =
-    c.as_slice.ensures.value ∙ c.column.ensures.value ∙ sym (get_or-earlier c.args.self.now.columns c.args.i c.args.k (omega arith) c.requires)
+    c.as_slice.ensures.value ∙ c.column.ensures.value
+    ∙ sym (get_or-earlier c.args.self.now.columns c.args.i c.args.k (omega arith) c.requires)

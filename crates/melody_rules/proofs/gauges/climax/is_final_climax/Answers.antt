@@ -23,6 +23,8 @@ loop-j-preserved c =
 
 pub returns : goal.returns
 returns c =
-    let at_end : c.loop-j.j ≤ 8 * c.from-bars.result = c.loop-j.auto.j-end (omega (arith, c.requires.place, c.from-bars.ensures)) in
-    let whole : c.loop-j.j ≡ columns_in c.args.ex.now = omega (arith, at_end, c.loop-j-test.false, c.from-bars.ensures) in
+    let at_end : c.loop-j.j ≤ 8 * c.from-bars.result = c.loop-j.auto.j-end
+    (omega (arith, c.requires.place, c.from-bars.ensures)) in
+    let whole : c.loop-j.j ≡ columns_in c.args.ex.now = omega (arith, at_end, c.loop-j-test.false, c.from-bars.ensures)
+    in
     sym (sym c.loop-j.invariant ∙ final_none c.args.ex.now c.args.v c.loop-j.j (pos c.args.key) whole)

@@ -9,8 +9,10 @@ use Rattle.melody_rules.proofs.gauges.leaps.with_note.Goals as goal
 pub returns : goal.returns
 returns c = λ ps few r.
     let leap : c.from.result ≡ from_bool (holds_of is_leap (interval_of_pitches (last_of ps) (Some c.args.pitch))) =
-    c.from.ensures ∙ ap from_bool (c.is_leap_to.ensures ∙ ap (λ l. holds_of is_leap (interval_of_pitches l (Some c.args.pitch))) r.last) in
-    let one : from_bool (holds_of is_leap (interval_of_pitches (last_of ps) (Some c.args.pitch))) ≤ 1 = as_number-bound (holds_of is_leap (interval_of_pitches (last_of ps) (Some c.args.pitch))) in
+    c.from.ensures ∙ ap from_bool (c.is_leap_to.ensures
+    ∙ ap (λ l. holds_of is_leap (interval_of_pitches l (Some c.args.pitch))) r.last) in
+    let one : from_bool (holds_of is_leap (interval_of_pitches (last_of ps) (Some c.args.pitch))) ≤ 1 = as_number-bound
+    (holds_of is_leap (interval_of_pitches (last_of ps) (Some c.args.pitch))) in
     record {
       last = refl;
       notes = omega (arith, c.saturating_add.ensures, r.notes, few);

@@ -9,10 +9,12 @@ returns-in_err-chunk-clause-fault c =
     let s = c.args.self.now in
     let p = err_from_is_err_and c.from_residual.result c.from_residual.ensures.1 in
     rw (p.1, p.2) (tracks_more s.header.tracks s.begun s.size s.rest.now c.requires.counted
-    ∙ ap (track_then s.begun s.size (tracks_in (s.header.tracks - (s.begun + 1)) (s.begun + 1) s.size)) c.in_err-chunk.ensures.value)
+    ∙ ap (track_then s.begun s.size (tracks_in (s.header.tracks - (s.begun + 1)) (s.begun + 1) s.size))
+    c.in_err-chunk.ensures.value)
 
 pub returns-clause-begun : goal.returns-clause-begun
 returns-clause-begun c =
     let s = c.args.self.now in
     tracks_more s.header.tracks s.begun s.size s.rest.now c.requires.counted
-    ∙ ap (track_then s.begun s.size (tracks_in (s.header.tracks - (s.begun + 1)) (s.begun + 1) s.size)) c.in_ok-chunk.ensures.value
+    ∙ ap (track_then s.begun s.size (tracks_in (s.header.tracks - (s.begun + 1)) (s.begun + 1) s.size))
+    c.in_ok-chunk.ensures.value

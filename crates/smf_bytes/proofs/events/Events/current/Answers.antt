@@ -6,5 +6,6 @@ use Rattle.smf_bytes.proofs.events.Events.current.Goals as goal
 pub returns-then-self-clause-none : goal.returns-then-self-clause-none
 returns-then-self-clause-none c =
     let s = c.args.self.now in
-    let over : to_come s ≡ [] = rw c.in_default.is (tracks_over s.header.tracks s.begun s.size s.rest.now (omega arith)) in
+    let over : to_come s ≡ [] = rw c.in_default.is (tracks_over s.header.tracks s.begun s.size s.rest.now (omega arith))
+    in
     (over, over)

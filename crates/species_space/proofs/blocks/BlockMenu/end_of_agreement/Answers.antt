@@ -29,12 +29,17 @@ loop-v-preserved c =
       | then-block-end w ↦ record {
         onward = omega (arith, ends.onward, w.end-is);
         within = omega (arith, w.if-block-end.true, w.end-is, old.within);
-        cells = agree_more menu v _ c.args.k c.loop-v.end block end kept ends (omega (arith, w.if-block-end.true, w.end-is)) (omega (arith, w.end-is)) (omega (arith, ends.onward, w.end-is)) (omega (arith, w.if-block-end.true, w.end-is, old.within, long)) old.cells;
+        cells = agree_more menu v _ c.args.k c.loop-v.end block end kept ends
+            (omega (arith, w.if-block-end.true, w.end-is)) (omega (arith, w.end-is))
+            (omega (arith, ends.onward, w.end-is)) (omega (arith, w.if-block-end.true, w.end-is, old.within, long))
+            old.cells;
       }
       | else-block-end w ↦ record {
         onward = omega (arith, old.onward, w.end-is);
         within = omega (arith, old.within, w.end-is);
-        cells = agree_more menu v _ c.args.k c.loop-v.end block end kept ends (omega (arith, w.end-is)) (omega (arith, w.if-block-end.false, w.end-is)) (omega (arith, old.onward, w.end-is)) (omega (arith, w.end-is, old.within, long)) old.cells;
+        cells = agree_more menu v _ c.args.k c.loop-v.end block end kept ends (omega (arith, w.end-is))
+            (omega (arith, w.if-block-end.false, w.end-is)) (omega (arith, old.onward, w.end-is))
+            (omega (arith, w.end-is, old.within, long)) old.cells;
       }
     ]
 

@@ -8,5 +8,7 @@ abbrev pub invariant-loop-v : goal.invariant-loop-v
 invariant-loop-v l = record {
   onward : l.k < l.end;
   within : l.end ≤ length l.self.columns.items;
-  cells : (u : ℕ) → u < l.v → (j : ℕ) → l.k ≤ j → j < l.end → cell_in (slice_index_or (items_of l.self.columns.items) j []) u ≡ cell_in (slice_index_or (items_of l.self.columns.items) l.k []) u;
+  cells : (u : ℕ) → u < l.v → (j : ℕ) → l.k ≤ j → j < l.end
+      → cell_in (slice_index_or (items_of l.self.columns.items) j []) u
+      ≡ cell_in (slice_index_or (items_of l.self.columns.items) l.k []) u;
 }

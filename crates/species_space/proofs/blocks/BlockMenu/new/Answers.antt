@@ -17,7 +17,8 @@ returns-clause-cut c =
       few = c.requires.few;
       order = c.requires.order;
       full = c.requires.full;
-      some = four (λ v size. 1 ≤ size) a b d e c.block_length.ensures.some c.block_length-2.ensures.some c.block_length-3.ensures.some c.block_length-4.ensures.some;
+      some = four (λ v size. 1 ≤ size) a b d e c.block_length.ensures.some c.block_length-2.ensures.some
+          c.block_length-3.ensures.some c.block_length-4.ensures.some;
       kept =
           four (λ v size. P v size c.args.columns.items) a b d e
           (subst (P 0 a) c.deref.ensures.value c.block_length.ensures.kept)

@@ -16,12 +16,15 @@ loop-k-preserved c =
     let v = c.in-Some.v in
     let long : length menu ≡ length columns = length-map columns (λ col. col.items) in
     let here : k < length menu = omega (arith, long, c.len.ensures, c.loop-k-test.true) in
-    let same : c.column_at.result.now.items ≡ slice_index_or menu k [] = c.column_at.ensures ∙ ap (λ items. slice_index_or (items_of items) k []) c.deref.ensures.value in
+    let same : c.column_at.result.now.items ≡ slice_index_or menu k [] = c.column_at.ensures
+    ∙ ap (λ items. slice_index_or (items_of items) k []) c.deref.ensures.value in
     let P : List Cell → Type 0 = λ col. cell_follows (cell_in before v) (cell_in col v) ≡ false in
     let stray = subst P same c.in-Some.ensures.misses in
     record {
       onward = omega (arith, c.loop-k.invariant.onward, c.block_end-k.ensures.onward);
       passed =
-          passed_on (λ j. j < length columns → ColumnFollows before (slice_index_or menu j []) → ⊥) c.args.from k c.block_end-k.result c.loop-k.invariant.passed
-          (λ j le lt within. strays_in_block menu before v _ j k (c.requires.cut.kept v c.in-Some.ensures.voice) (omega (arith, long, within)) here (c.block_end-k.ensures.one_block j le lt) stray);
+          passed_on (λ j. j < length columns → ColumnFollows before (slice_index_or menu j []) → ⊥) c.args.from k
+          c.block_end-k.result c.loop-k.invariant.passed
+          (λ j le lt within. strays_in_block menu before v _ j k (c.requires.cut.kept v c.in-Some.ensures.voice)
+          (omega (arith, long, within)) here (c.block_end-k.ensures.one_block j le lt) stray);
     }

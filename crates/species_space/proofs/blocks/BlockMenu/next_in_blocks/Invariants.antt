@@ -8,7 +8,8 @@ use Rattle.species_space.proofs.blocks.BlockMenu.next_in_blocks.Given as goal
 abbrev pub invariant-loop-k : goal.invariant-loop-k
 invariant-loop-k l = record {
   onward : l.from ≤ l.k;
-  passed : (j : ℕ) → l.from ≤ j → j < l.k → j < length l.self.columns.items → ColumnFollows l.before (slice_index_or (items_of l.self.columns.items) j []) → ⊥;
+  passed : (j : ℕ) → l.from ≤ j → j < l.k → j < length l.self.columns.items
+      → ColumnFollows l.before (slice_index_or (items_of l.self.columns.items) j []) → ⊥;
 }
 
 abbrev pub decreases-loop-k : goal.decreases-loop-k

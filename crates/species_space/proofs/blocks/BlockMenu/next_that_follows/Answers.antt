@@ -6,14 +6,18 @@ pub returns : goal.returns
 returns c =
     let blocks = c.requires.cut in
     let held = c.is_held.ensures c.if-not-is_held.false in
-    hint_is_next c.args.self.now.columns.items c.args.before.now c.args.from c.args.hint (blocks.holds held.1) blocks.order blocks.full held.0 held.2 c.if-from-hint.false
+    hint_is_next c.args.self.now.columns.items c.args.before.now c.args.from c.args.hint (blocks.holds held.1)
+    blocks.order blocks.full held.0 held.2 c.if-from-hint.false
 
 pub returns-then-from-hint : goal.returns-then-from-hint
 returns-then-from-hint c =
     let blocks = c.requires.cut in
     let held = c.is_held.ensures c.if-not-is_held.false in
-    none_is_next c.args.self.now.columns.items c.args.before.now c.args.from c.args.hint c.len-end.result (blocks.holds held.1) blocks.order blocks.full held.0 held.2 c.if-from-hint.true c.requires.within (c.len-end.ensures ∙ c.args.self.now.columns.ok.0)
+    none_is_next c.args.self.now.columns.items c.args.before.now c.args.from c.args.hint c.len-end.result
+    (blocks.holds held.1) blocks.order blocks.full held.0 held.2 c.if-from-hint.true c.requires.within
+    (c.len-end.ensures ∙ c.args.self.now.columns.ok.0)
 
 pub returns-then-self : goal.returns-then-self
 returns-then-self c =
-    all_are_next c.args.self.now.columns.items c.args.before.now c.args.from (c.requires.cut.no_holds c.if-self.true) c.requires.within
+    all_are_next c.args.self.now.columns.items c.args.before.now c.args.from (c.requires.cut.no_holds c.if-self.true)
+    c.requires.within

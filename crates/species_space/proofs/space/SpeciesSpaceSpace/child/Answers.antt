@@ -10,24 +10,40 @@ use Rattle.species_space.proofs.space.SpeciesSpaceSpace.child.Goals as goal
 pub column-column-requires-clause-at : goal.column-column-requires-clause-at
 column-column-requires-clause-at c =
     let ex = c.args.self.now.exercise in
-    omega (arith, c.len-i.ensures ex (prefix_at ex c.requires.path) c.requires.at.state, length-columns_on ex 0 c.requires.path, c.requires.above)
+    omega (
+      arith,
+      c.len-i.ensures ex (prefix_at ex c.requires.path) c.requires.at.state,
+      length-columns_on ex 0
+          c.requires.path,
+      c.requires.above,
+    )
 
 pub column-column-requires-clause-within : goal.column-column-requires-clause-within
 column-column-requires-clause-within c =
     let ex = c.args.self.now.exercise in
-    subst (λ n. c.args.k < length (menu_of ex n)) (sym (c.len-i.ensures ex (prefix_at ex c.requires.path) c.requires.at.state ∙ length-columns_on ex 0 c.requires.path)) c.requires.within
+    subst (λ n. c.args.k < length (menu_of ex n))
+    (sym (c.len-i.ensures ex (prefix_at ex c.requires.path) c.requires.at.state
+    ∙ length-columns_on ex 0 c.requires.path)) c.requires.within
 
 pub rest_of_number-requires-clause-place : goal.rest_of_number-requires-clause-place
 rest_of_number-requires-clause-place c =
     let ex = c.args.self.now.exercise in
-    let room : c.len-i.result < columns_in ex = omega (arith, c.len-i.ensures ex (prefix_at ex c.requires.path) c.requires.at.state, length-columns_on ex 0 c.requires.path, c.requires.above) in
+    let room : c.len-i.result < columns_in ex = omega (
+      arith,
+      c.len-i.ensures ex (prefix_at ex c.requires.path) c.requires.at.state,
+      length-columns_on ex 0
+          c.requires.path,
+      c.requires.above,
+    ) in
     subst (λ (t : Task). c.len-i.result < columns_in t.exercise) (sym (c.self.invariant.1 ∙ c.self.view_is)) room
 
 pub rest_of_number-requires-clause-choice : goal.rest_of_number-requires-clause-choice
 rest_of_number-requires-clause-choice c =
     let ex = c.args.self.now.exercise in
-    let here = c.len-i.ensures ex (prefix_at ex c.requires.path) c.requires.at.state ∙ length-columns_on ex 0 c.requires.path in
-    subst (λ (t : Task). c.args.k < length (menu_of t.exercise c.len-i.result)) (sym (c.self.invariant.1 ∙ c.self.view_is))
+    let here = c.len-i.ensures ex (prefix_at ex c.requires.path) c.requires.at.state
+    ∙ length-columns_on ex 0 c.requires.path in
+    subst (λ (t : Task). c.args.k < length (menu_of t.exercise c.len-i.result))
+    (sym (c.self.invariant.1 ∙ c.self.view_is))
     (subst (λ (n : ℕ). c.args.k < length (menu_of ex n)) (sym here) c.requires.within)
 
 pub returns-in_err-rest : goal.returns-in_err-rest
@@ -35,19 +51,24 @@ returns-in_err-rest c = λ path at.
     let ex = c.args.self.now.exercise in
     let sheet = c.args.self.now.sheet in
     let k = c.args.k in
-    let here : c.len-i.result ≡ length path = c.len-i.ensures ex (prefix_at ex path) at.state ∙ length-columns_on ex 0 path in
+    let here : c.len-i.result ≡ length path = c.len-i.ensures ex (prefix_at ex path) at.state
+    ∙ length-columns_on ex 0 path in
     let long = as_long ex sheet c.args.node.now path at in
     let longer = as_long ex sheet c.args.node.now c.requires.path c.requires.at in
     let result = c.rest_of_number.result in
-    let own = subst (λ (t : Task). IsRest t.exercise t.sheet c.len-i.result (slice_index_or (menu_of t.exercise c.len-i.result) k []) result) (c.self.invariant.1 ∙ c.self.view_is) c.rest_of_number.ensures.rest in
+    let own = subst (λ (t : Task). IsRest t.exercise t.sheet c.len-i.result
+    (slice_index_or (menu_of t.exercise c.len-i.result) k []) result) (c.self.invariant.1 ∙ c.self.view_is)
+    c.rest_of_number.ensures.rest in
     let is = subst (λ (n : ℕ). IsRest ex sheet n (slice_index_or (menu_of ex n) k []) result) here own in
     rw c.from_residual.ensures
-    (ends ex path k at.alive sheet (sym (rest_there ex path k at.alive sheet result (omega (arith, long, longer, c.requires.above)) is) ∙ c.in_err-rest.was))
+    (ends ex path k at.alive sheet (sym (rest_there ex path k at.alive sheet result
+    (omega (arith, long, longer, c.requires.above)) is) ∙ c.in_err-rest.was))
 
 pub child_by-requires-clause-column : goal.child_by-requires-clause-column
 child_by-requires-clause-column c =
     let ex = c.args.self.now.exercise in
-    let same : c.len-i.result ≡ c.args.node.now.state.newest.len = c.len-i.ensures ex (prefix_at ex c.requires.path) c.requires.at.state ∙ sym c.requires.at.state.newest.count in
+    let same : c.len-i.result ≡ c.args.node.now.state.newest.len = c.len-i.ensures ex (prefix_at ex c.requires.path)
+    c.requires.at.state ∙ sym c.requires.at.state.newest.count in
     c.column-column.ensures ∙ ap (λ n. slice_index_or (menu_of ex n) c.args.k []) same
     ∙ ap (λ t. slice_index_or (menu_of t.exercise c.args.node.now.state.newest.len) c.args.k []) (sym c.self.view_is)
 
@@ -59,11 +80,14 @@ child_by-requires-clause-rest c =
     let i = c.args.node.now.state.newest.len in
     let k = c.args.k in
     let result = c.rest_of_number.result in
-    let same : c.len-i.result ≡ i = c.len-i.ensures ex (prefix_at ex c.requires.path) c.requires.at.state ∙ sym c.requires.at.state.newest.count in
+    let same : c.len-i.result ≡ i = c.len-i.ensures ex (prefix_at ex c.requires.path) c.requires.at.state
+    ∙ sym c.requires.at.state.newest.count in
     let column : c.column-column.result.now.items ≡ slice_index_or (menu_of inside i) k [] =
     c.column-column.ensures ∙ ap (λ n. slice_index_or (menu_of ex n) k []) same
     ∙ ap (λ t. slice_index_or (menu_of t.exercise i) k []) (sym c.self.view_is) in
-    let own = subst (λ (t : Task). IsRest t.exercise t.sheet c.len-i.result (slice_index_or (menu_of t.exercise c.len-i.result) k []) result) c.self.invariant.1 c.rest_of_number.ensures.rest in
+    let own = subst (λ (t : Task). IsRest t.exercise t.sheet c.len-i.result
+    (slice_index_or (menu_of t.exercise c.len-i.result) k []) result) c.self.invariant.1
+    c.rest_of_number.ensures.rest in
     let is = subst (λ (n : ℕ). IsRest inside sheet n (slice_index_or (menu_of inside n) k []) result) same own in
     let there = subst (λ (col : List Cell). IsRest inside sheet i col result) (sym column) is in
     subst (λ (o : Option ℕ). IsRest inside sheet i c.column-column.result.now.items o) c.in_ok-rest.was there

@@ -12,39 +12,52 @@ use Rattle.species_space.proofs.space.SpeciesSpaceSpace.next_child.Goals as goal
 pub menu-menu-requires : goal.menu-menu-requires
 menu-menu-requires c =
     let ex = c.args.self.now.exercise in
-    omega (arith, c.len.ensures ex (prefix_at ex c.requires.path) c.requires.at.state, length-columns_on ex 0 c.requires.path, c.requires.above)
+    omega (
+      arith,
+      c.len.ensures ex (prefix_at ex c.requires.path) c.requires.at.state,
+      length-columns_on ex 0
+          c.requires.path,
+      c.requires.above,
+    )
 
 pub next_unpruned-requires-clause-node : goal.next_unpruned-requires-clause-node
 next_unpruned-requires-clause-node c =
-    subst (λ (t : Task). IsInner (IsNodeOf t.exercise t.sheet c.args.node.now) (columns_in t.exercise)) (sym c.self.view_is)
+    subst (λ (t : Task). IsInner (IsNodeOf t.exercise t.sheet c.args.node.now) (columns_in t.exercise))
+    (sym c.self.view_is)
     record { path = c.requires.path; at = c.requires.at; above = c.requires.above }
 
 pub next_unpruned-requires-clause-within : goal.next_unpruned-requires-clause-within
 next_unpruned-requires-clause-within c =
     let ex = c.args.self.now.exercise in
     let menu = c.menu-menu.result.now.columns.items in
-    let there = c.len.ensures ex (prefix_at ex c.requires.path) c.requires.at.state ∙ length-columns_on ex 0 c.requires.path in
-    let wide : length menu ≡ length (menu_of ex (length c.requires.path)) = sym (length-map menu (λ col. col.items)) ∙ ap length c.menu-menu.ensures.value ∙ ap (λ i. length (menu_of ex i)) there in
+    let there = c.len.ensures ex (prefix_at ex c.requires.path) c.requires.at.state
+    ∙ length-columns_on ex 0 c.requires.path in
+    let wide : length menu ≡ length (menu_of ex (length c.requires.path)) = sym (length-map menu (λ col. col.items))
+    ∙ ap length c.menu-menu.ensures.value ∙ ap (λ i. length (menu_of ex i)) there in
     omega (arith, wide, c.requires.within)
 
 pub next_unpruned-requires-clause-menu : goal.next_unpruned-requires-clause-menu
 next_unpruned-requires-clause-menu c =
     let ex = c.args.self.now.exercise in
-    let same : c.len.result ≡ c.args.node.now.state.newest.len = c.len.ensures ex (prefix_at ex c.requires.path) c.requires.at.state ∙ sym c.requires.at.state.newest.count in
+    let same : c.len.result ≡ c.args.node.now.state.newest.len = c.len.ensures ex (prefix_at ex c.requires.path)
+    c.requires.at.state ∙ sym c.requires.at.state.newest.count in
     c.menu-menu.ensures.value ∙ ap (menu_of ex) same
     ∙ ap (λ t. menu_of t.exercise c.args.node.now.state.newest.len) (sym c.self.view_is)
 
 pub next_unpruned-requires-clause-skips : goal.next_unpruned-requires-clause-skips
 next_unpruned-requires-clause-skips c =
     let ex = c.args.self.now.exercise in
-    let same : c.len.result ≡ c.args.node.now.state.newest.len = c.len.ensures ex (prefix_at ex c.requires.path) c.requires.at.state ∙ sym c.requires.at.state.newest.count in
+    let same : c.len.result ≡ c.args.node.now.state.newest.len = c.len.ensures ex (prefix_at ex c.requires.path)
+    c.requires.at.state ∙ sym c.requires.at.state.newest.count in
     let skips = subst (λ n. SkipsDead ex n c.menu-menu.result.now) same c.menu-menu.ensures.skips in
-    subst (λ e. SkipsDead e c.args.node.now.state.newest.len c.menu-menu.result.now) (sym (ap (λ task. task.exercise) c.self.view_is)) skips
+    subst (λ e. SkipsDead e c.args.node.now.state.newest.len c.menu-menu.result.now)
+    (sym (ap (λ task. task.exercise) c.self.view_is)) skips
 
 pub returns-clause-onward : goal.returns-clause-onward
 returns-clause-onward c = c.next_unpruned.ensures.onward
 
 pub returns-clause-passed : goal.returns-clause-passed
 returns-clause-passed c = λ path at child floor from to there.
-    subst (λ (t : Task). (other : List ℕ) → IsNodeOf t.exercise t.sheet c.args.node.now other → ArePassed t.exercise t.sheet other c.args.best c.args.from c.next_unpruned.result)
+    subst (λ (t : Task). (other : List ℕ) → IsNodeOf t.exercise t.sheet c.args.node.now other
+    → ArePassed t.exercise t.sheet other c.args.best c.args.from c.next_unpruned.result)
     c.self.view_is c.next_unpruned.ensures.passed path at child from to floor there

@@ -15,7 +15,8 @@ returns c =
     let line = c.args.self in
     let start = c.in_ok-start.start in
     let k = c.word_end-end.result in
-    let parts : (c.split_at-2.result.0.now ≡ take k c.split_at.result.1.now) × (c.split_at-2.result.1.now ≡ drop k c.split_at.result.1.now)
+    let parts : (c.split_at-2.result.0.now ≡ take k c.split_at.result.1.now)
+    × (c.split_at-2.result.1.now ≡ drop k c.split_at.result.1.now)
     = (c.split_at-2.ensures.front, c.split_at-2.ensures.back) in
     rw (parts.0, parts.1)
     (word_found line.line line.column start line.rest.now c.split_at.result.1.now k

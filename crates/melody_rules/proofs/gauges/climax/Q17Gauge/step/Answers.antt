@@ -10,7 +10,8 @@ pub returns-in-Start : goal.returns-in-Start
 returns-in-Start c = λ cells here r.
     let P : Cell → Type 0 = λ d. IsClimaxOf (pitches (d ∷ cells)) c.with_note.result in
     subst P (sym c.in-Start.is)
-    (c.with_note.ensures (pitches cells) (omega (arith, length-pitches cells, here, c.requires.place, c.requires.valid.most_bars)) r)
+    (c.with_note.ensures (pitches cells) (omega
+    (arith, length-pitches cells, here, c.requires.place, c.requires.valid.most_bars)) r)
 
 pub returns-in-Hold : goal.returns-in-Hold
 returns-in-Hold c = λ cells here r.
