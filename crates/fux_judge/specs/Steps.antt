@@ -46,7 +46,7 @@ breaks_late ex p col rule =
     any_among ((rule_at rule).first ex (length p)) ((rule_at rule).count ex (length p))
     (newly_broken_for (sets_of_rule rule ex) rule ex p col)
 
--- the rule is a late one, and the column settles a strict break of it so
+-- the rule is a late one, and the column settles a strict break of it at one of its places
 abbrev pub breaks_some_late : Exercise → List (List Cell) → List Cell → ℕ → Bool
 breaks_some_late ex p col r = list_any (λ rule. breaks_late ex p col rule && r == rule) late_rules
 

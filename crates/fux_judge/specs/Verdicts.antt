@@ -1,4 +1,4 @@
--- What a verdict tells of a column, whatever prefix the state before it is of.
+-- What a verdict tells of a column, known by the state before it alone.
 use Rattle.std.specs.Prelude.{◌≡◌, ℕ, ◌+◌, ◌&&◌, List, [], ◌∷◌, ◌++◌}
 use Rattle.fux_grid.specs.declared.cell.Cell.{Cell}
 use Rattle.fux_grid.specs.declared.exercise.Exercise.{Exercise}
@@ -11,20 +11,20 @@ use Rattle.fux_judge.specs.Penalties.{newly_broken, paid}
 use Rattle.fux_judge.specs.Rules.{is_read}
 use Rattle.fux_judge.specs.States.{IsStateOf}
 
--- so it is with the list that the column makes longer, whatever prefix the state is of
+-- whatever columns the state is of, this holds of them with the new one behind them
 abbrev pub Grown : Exercise → State → List Cell → (Columns → Type 0) → Type 0
 Grown ex state col Holds = (p : Columns) → IsStateOf ex p state → Holds (p ++ col ∷ [])
 
--- so it is where that list is a prefix
+-- so it does where those are a prefix
 abbrev pub GrownPrefix : Exercise → State → List Cell → (Columns → Type 0) → Type 0
 GrownPrefix ex state col Holds =
     (p : Columns) → IsStateOf ex p state → IsPrefix ex (p ++ col ∷ []) → Holds (p ++ col ∷ [])
 
--- so it is with the prefix and the column, whatever orderly prefix the state is of that goes on by it
+-- whatever orderly prefix the state is of that goes on by the column, this holds of the two
 abbrev pub GoingOn : Exercise → State → List Cell → (Columns → List Cell → Type 0) → Type 0
 GoingOn ex state col Holds = (p : Columns) → IsStateOf ex p state → GoesOn ex p (col ∷ []) → Holds p col
 
--- so it is with a prefix, whatever one the state is of
+-- whatever prefix the state is of, this holds of it
 abbrev pub AtPrefix : Exercise → State → (Columns → Type 0) → Type 0
 AtPrefix ex state Holds = (p : Columns) → IsStateOf ex p state → IsPrefix ex p → Holds p
 

@@ -1,12 +1,10 @@
 //! Breaks that a column settles at earlier places.
 
-ghost use Rattle.std.specs.Prelude.{◌≡◌, ◌≤◌, ◌<◌, ◌+◌, ◌-◌, ◌*◌, true, ◌&&◌, ◌||◌, ◌==◌, ℕ, List, length};
+ghost use Rattle.std.specs.Prelude.{◌≡◌, ◌≤◌, ◌<◌, ◌+◌, ◌-◌, ◌*◌, true, ◌==◌, length};
 ghost use Rattle.std.specs.List.{list_any, sum_by};
-ghost use Rattle.fux_grid.specs.declared.cell.Cell.{Cell as ACell};
 ghost use Rattle.fux_grid.specs.Exercises.{IsValid, columns_in};
-ghost use Rattle.rule_law.specs.Rulebooks.{IsAmong, newly_breaks};
-ghost use Rattle.rule_law.specs.Voices.{has_rule};
-ghost use Rattle.fux_judge.specs.Penalties.{is_strict_at, newly_broken_at, new_price};
+ghost use Rattle.rule_law.specs.Rulebooks.{newly_breaks};
+ghost use Rattle.fux_judge.specs.Penalties.{newly_broken_at, new_price};
 ghost use Rattle.fux_judge.specs.Rules.{is_late, late_rules, rule_at};
 ghost use Rattle.fux_judge.specs.Late.{AddsLateBreaks, SettlesAmong, TellsAtPlace, TellsOfNewest, end_of_places};
 ghost use Rattle.fux_judge.specs.Steps as steps;
