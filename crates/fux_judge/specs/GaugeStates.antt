@@ -1,9 +1,11 @@
 -- What a state knows of the lines for the gauges, and of the columns ahead of them.
-use Rattle.std.specs.Prelude.{◌≡◌, ℕ, ◌-◌, ◌<◌, ◌≤◌, pos, true, false, List, Some, length, slice_get}
+use Rattle.std.specs.Prelude.{◌≡◌, ℕ, ◌+◌, ◌-◌, ◌<◌, ◌≤◌, pos, true, false, List, Some, length, slice_get}
 use Rattle.fux_grid.specs.declared.cell.Cell.{Cell}
 use Rattle.fux_grid.specs.declared.exercise.Exercise.{Exercise}
+use Rattle.fux_grid.specs.Cells.{cell_in}
 use Rattle.fux_grid.specs.Columns.{line}
 use Rattle.fux_grid.specs.Exercises.{IsFree, IsValid, columns_in}
+use Rattle.fux_grid.specs.Menus.{IsInMenu}
 use Rattle.rule_law.specs.Gauges.{starts_ahead}
 use Rattle.rule_law.specs.Prefixes.{IsPrefix}
 use Rattle.melody_rules.specs.GaugeParts.{IsClimaxOf, IsCompassOf, IsLeapsOf, IsStrikesOf}
@@ -30,7 +32,18 @@ pub record IsAheadOf (ex : Exercise) (v i : ℕ) (ahead : LineAhead) : Type 0 wh
   pub last_high : (key : ℕ) → key < ahead.last_high → is_topped ex v (pos key) (columns_in ex - 8) ≡ false
   pub highest : (key : ℕ) → ahead.highest ≤ key → (j : ℕ) → j < columns_in ex → is_topped ex v (pos key) j ≡ true
 
--- the same of each free voice behind a prefix of a valid exercise
+-- with the voice's cell from a column of the menu of column i, what lies ahead from there on becomes what lies ahead from the next column on
+abbrev pub StepsAhead : Exercise → ℕ → ℕ → Cell → LineAhead → LineAhead → Type 0
+StepsAhead ex v i cell ahead after =
+    (col : List Cell) → IsInMenu ex i col → cell_in col v ≡ cell → IsFree ex v
+    → IsAheadOf ex v i ahead → IsAheadOf ex v (i + 1) after
+
+-- whatever i cells of the voice's line are kept, the answer is what is read of them
+abbrev pub TellsOfLine : Exercise → ℕ → ℕ → LineGauges → LineAhead → (List Cell → ℕ) → ℕ → Type 0
+TellsOfLine ex v i kept ahead read told =
+    (cells : List Cell) → length cells ≡ i → IsGaugesOf cells kept → IsAheadOf ex v i ahead → told ≡ read cells
+
+-- what lies ahead of each free voice behind a prefix of a valid exercise
 abbrev pub AreAheadOf : Exercise → List (List Cell) → List LineAhead → Type 0
 AreAheadOf ex p voices =
     IsValid ex → IsPrefix ex p → (v : ℕ) (ahead : LineAhead)

@@ -4,6 +4,7 @@ pub mod Crates
 pub mod GaugeStates
 pub mod Gauges
 pub mod Kept
+pub mod Late
 pub mod Lawful
 pub mod Links
 pub mod Moments
@@ -13,3 +14,4 @@ pub mod Pruning
 pub mod Rules
 pub mod States
 pub mod Steps
+pub mod Verdicts

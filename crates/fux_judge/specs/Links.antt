@@ -1,5 +1,5 @@
 -- What two neighboring columns decide by themselves.
-use Rattle.std.specs.Prelude.{ℕ, ◌+◌, ◌*◌, Bool, true, false, ◌&&◌, List, [], ◌∷◌, map, reverse, Option, Some, None, option_map, if◌then◌else◌}
+use Rattle.std.specs.Prelude.{◌≡◌, ◌≤◌, ℕ, ◌+◌, ◌*◌, Bool, true, false, ◌&&◌, List, [], ◌∷◌, map, reverse, Option, Some, None, IsSomeAnd, option_map, if◌then◌else◌}
 use Rattle.std.specs.Borrow.{Bor}
 use Rattle.std.specs.List.{filter, list_any, sum_by}
 use Rattle.arrayvec.specs.ArrayVec.{ArrayVec}
@@ -102,7 +102,12 @@ column_of ex sheet i next =
     if list_any (breaks_strictly ex i None next) column_rules then None
     else Some (sum_by (λ toll. cost_between ex i None next toll * weight_of sheet toll) column_tolls)
 
--- and those of a pair of two
+-- whatever column stands before it, what the two cost, if they do, is no less than what is told; and then something is told
+abbrev pub IsLeastOfLinks : Exercise → Sheet → ℕ → List Cell → Option ℕ → Type 0
+IsLeastOfLinks ex sheet i next told =
+    (before : Option (List Cell)) (x : ℕ) → link_of ex sheet i before next ≡ Some x → IsSomeAnd told (λ y. y ≤ x)
+
+-- what the rules and tolls of a pair say of two
 unfoldable pub pair_of : Exercise → Sheet → ℕ → Option (List Cell) → List Cell → Option ℕ
 pair_of ex sheet i before next =
     if list_any (breaks_strictly ex i before next) pair_rules then None

@@ -8,6 +8,7 @@ use Rattle.rule_law.specs.Nearby.{previous_pitches}
 use Rattle.penalty_sheet.specs.declared.sheet.Sheet.{Sheet}
 use Rattle.penalty_sheet.specs.Weights.{weight_of}
 use Rattle.fux_judge.specs.declared.moment.Moment.{Moment}
+use Rattle.fux_judge.specs.Charges.{tolls_of_pairs}
 use Rattle.fux_judge.specs.Rules.{all_sets, is_broken, cost_at, rules_at_once, tolls_at_once}
 use Rattle.fux_judge.specs.Penalties.{is_strict_at, price_read}
 use Rattle.fux_judge.specs.States.{IsStateOf}
@@ -54,6 +55,10 @@ prices_then sets rule p m = sum_by (λ voices. price_then rule voices p m) sets
 -- what a toll costs there, by its weight
 abbrev pub toll_then : Sheet → List (List Cell) → Moment → ℕ → ℕ
 toll_then sheet p m toll = cost_at toll m.exercise.now (with_column p m) (length p) * weight_of sheet toll
+
+-- what the tolls of pairs cost there together
+abbrev pub pairs_then : Sheet → List (List Cell) → Moment → ℕ
+pairs_then sheet p m = sum_by (toll_then sheet p m) tolls_of_pairs
 
 -- what the column pays of the tolls and rules that are settled at once
 abbrev pub paid_at_once : Sheet → List (List Cell) → Moment → ℕ

@@ -40,6 +40,10 @@ abbrev pub newly_broken : Exercise → List (List Cell) → List Cell → ℕ �
 newly_broken ex p col rule =
     list_any (λ voices. any_below (newly_broken_at rule ex voices p col) (length p + 1)) all_sets
 
+-- it settles a strict break of some rule that is read
+abbrev pub settles_break : Exercise → List (List Cell) → List Cell → Bool
+settles_break ex p col = list_any (newly_broken ex p col) rules_read
+
 -- what the column settles of a toll at a place, by its weight, and of the prices of a rule
 abbrev pub new_toll : Exercise → Sheet → List (List Cell) → List Cell → ℕ → ℕ → ℕ
 new_toll ex sheet p col i toll =
@@ -62,7 +66,7 @@ newly_paid ex sheet p col = sum_below (λ i. new_tolls ex sheet p col i + new_pr
 
 -- a strict break is settled in a prefix: one of its columns settles it, read in the prefix that ends there
 abbrev pub breaks_by_column : Exercise → List (List Cell) → ℕ → Bool
-breaks_by_column ex p k = list_any (newly_broken ex (take k p) (slice_index_or p k [])) rules_read
+breaks_by_column ex p k = settles_break ex (take k p) (slice_index_or p k [])
 
 abbrev pub has_strict_break : Exercise → List (List Cell) → Bool
 has_strict_break ex p = any_below (breaks_by_column ex p) (length p)

@@ -1,14 +1,16 @@
 -- How a few voices make a column dead, or cost too much, whatever cells the others have.
-use Rattle.std.specs.Prelude.{◌≡◌, ◌≤◌, ◌⊎◌, ℕ, ◌==◌, Bool, true, ◌&&◌, List, [], ◌∷◌, IsSomeAnd, IsTrue, Option, take}
+use Rattle.std.specs.Prelude.{◌≡◌, ◌≤◌, ◌⊎◌, ℕ, ◌==◌, Bool, true, ◌&&◌, List, [], ◌∷◌, IsSomeAnd, IsTrue, Option, length, take}
 use Rattle.std.specs.List.{list_any}
 use Rattle.fux_grid.specs.declared.cell.Cell.{Cell}
 use Rattle.fux_grid.specs.declared.exercise.Exercise.{Exercise}
+use Rattle.fux_grid.specs.Columns.{Columns}
 use Rattle.rule_law.specs.Voices.{is_below}
 use Rattle.penalty_sheet.specs.declared.sheet.Sheet.{Sheet}
 use Rattle.fux_judge.specs.declared.moment.Moment.{Moment}
-use Rattle.fux_judge.specs.Rules.{rules_read}
-use Rattle.fux_judge.specs.Penalties.{newly_broken, newly_paid}
+use Rattle.fux_judge.specs.declared.state.State.{State}
+use Rattle.fux_judge.specs.Penalties.{newly_paid, settles_break}
 use Rattle.fux_judge.specs.Moments.{IsAfter}
+use Rattle.fux_judge.specs.States.{IsStateOf}
 
 -- the rules that read the cells of their own voices, and whether a lower one sounds: all but S1 to S3, and S12, which reads the cantus
 abbrev pub rules_below : List ℕ
@@ -27,8 +29,7 @@ is_set_below n voices = list_any (λ other. voices == other) sets_below && is_be
 
 -- after the prefix each column with the same cells in the first voices settles a strict break
 abbrev pub AllBreak : ℕ → Exercise → List (List Cell) → List Cell → Type 0
-AllBreak n ex p col =
-    (other : List Cell) → take n other ≡ take n col → list_any (newly_broken ex p other) rules_read ≡ true
+AllBreak n ex p col = (other : List Cell) → take n other ≡ take n col → settles_break ex p other ≡ true
 
 -- at the moment, after each prefix that it may come after
 abbrev pub IsDeadWithin : ℕ → Moment → Type 0
@@ -41,4 +42,10 @@ IsDeadBy voices m = (n : ℕ) → IsTrue (is_set_below n voices) → IsDeadWithi
 -- after the prefix the column settles a strict break, or costs no less than a limit, where there is one
 abbrev pub IsPruned : Exercise → Sheet → List (List Cell) → Option ℕ → List Cell → Type 0
 IsPruned ex sheet p limit col =
-    (list_any (newly_broken ex p col) rules_read ≡ true) ⊎ IsSomeAnd limit (λ cost. cost ≤ newly_paid ex sheet p col)
+    (settles_break ex p col ≡ true) ⊎ IsSomeAnd limit (λ cost. cost ≤ newly_paid ex sheet p col)
+
+-- after whatever prefix the state is of, each full column with the same cells in the first voices does so or costs so much
+abbrev pub PrunesWithin : ℕ → Exercise → Sheet → State → Option ℕ → List Cell → Type 0
+PrunesWithin n ex sheet state limit col =
+    (p : Columns) → IsStateOf ex p state → (other : List Cell) → length other ≡ ex.voices → take n other ≡ take n col
+    → IsPruned ex sheet p limit other

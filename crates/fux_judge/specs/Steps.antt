@@ -1,5 +1,5 @@
 -- What one column settles, as it is read: of rules and tolls that are settled at once at its own place, of late ones at their places.
-use Rattle.std.specs.Prelude.{ℕ, ◌+◌, ◌*◌, Bool, ◌&&◌, List, [], ◌∷◌, ◌++◌, length, if◌then◌else◌}
+use Rattle.std.specs.Prelude.{ℕ, ◌+◌, ◌*◌, ◌==◌, Bool, ◌&&◌, List, [], ◌∷◌, ◌++◌, length, if◌then◌else◌}
 use Rattle.std.specs.List.{list_any, sum_by}
 use Rattle.fux_grid.specs.declared.cell.Cell.{Cell}
 use Rattle.fux_grid.specs.declared.exercise.Exercise.{Exercise}
@@ -7,7 +7,7 @@ use Rattle.rule_law.specs.Forms.{sets_of}
 use Rattle.rule_law.specs.Growth.{any_below, sum_below}
 use Rattle.penalty_sheet.specs.declared.sheet.Sheet.{Sheet}
 use Rattle.penalty_sheet.specs.Weights.{weight_of}
-use Rattle.fux_judge.specs.Rules.{all_sets, rule_at, toll_at, is_broken, cost_at, tolls_at_once}
+use Rattle.fux_judge.specs.Rules.{all_sets, rule_at, toll_at, is_broken, cost_at, late_rules, tolls_at_once}
 use Rattle.fux_judge.specs.Penalties.{is_strict_at, price_at_place, newly_broken_at, new_toll, new_price}
 
 -- a rule is strictly broken at the column that comes after a prefix
@@ -38,12 +38,21 @@ sum_among first count f = sum_below (λ k. f (first + k)) count
 abbrev pub sets_of_rule : ℕ → Exercise → List ℕ
 sets_of_rule rule ex = sets_of (rule_at rule).form ex.voices
 
--- the column settles a strict break of a late rule at one of its places, and what it settles of prices there
+-- the column settles a strict break of a rule at a place, for one of these sets of voices
+abbrev pub newly_broken_for : List ℕ → ℕ → Exercise → List (List Cell) → List Cell → ℕ → Bool
+newly_broken_for sets rule ex p col i = list_any (λ voices. newly_broken_at rule ex voices p col i) sets
+
+-- the column settles a strict break of a late rule at one of its places
 abbrev pub breaks_late : Exercise → List (List Cell) → List Cell → ℕ → Bool
 breaks_late ex p col rule =
     any_among ((rule_at rule).first ex (length p)) ((rule_at rule).count ex (length p))
-    (λ i. list_any (λ voices. newly_broken_at rule ex voices p col i) (sets_of_rule rule ex))
+    (newly_broken_for (sets_of_rule rule ex) rule ex p col)
 
+-- the rule is a late one, and the column settles a strict break of it at one of its places
+abbrev pub breaks_some_late : Exercise → List (List Cell) → List Cell → ℕ → Bool
+breaks_some_late ex p col r = list_any (λ rule. breaks_late ex p col rule && r == rule) late_rules
+
+-- what the column settles of a late rule's prices at its places
 abbrev pub prices_late : Exercise → List (List Cell) → List Cell → ℕ → ℕ
 prices_late ex p col rule =
     sum_among ((rule_at rule).first ex (length p)) ((rule_at rule).count ex (length p))

@@ -8,7 +8,7 @@ ghost use Rattle.fux_grid.specs.Menus.{IsInMenu};
 ghost use Rattle.rule_law.specs.Gauges as words;
 ghost use Rattle.melody_rules.specs.Gauges.{is_topped};
 ghost use Rattle.melody_rules.specs.Gauges as gauges_words;
-ghost use Rattle.fux_judge.specs.GaugeStates.{AreAheadOf, IsAheadOf};
+ghost use Rattle.fux_judge.specs.GaugeStates.{AreAheadOf, IsAheadOf, StepsAhead};
 
 use fux_grid::{Cell, Exercise, START, allows, cell_of, range, shapes_of, species_of};
 use fux_pitch::semitone;
@@ -113,8 +113,7 @@ fn may_start(ex: &Exercise, v: u8, i: usize, cell: Cell) -> bool
 fn ahead_after(ex: &Exercise, v: u8, i: usize, ahead: &LineAhead, cell: Cell) -> LineAhead
     requires valid { IsValid ex.now }
     requires place { i < columns_in ex.now }
-    ensures { (col : List ACell) → IsInMenu ex.now i col → cell_in col v ≡ cell → IsFree ex.now v →
-        IsAheadOf ex.now v i ahead.now → IsAheadOf ex.now v (i + 1) result }
+    ensures { StepsAhead ex.now v i cell ahead.now result }
 {
     if v >= ex.voices || !is_free(ex, v) {
         return *ahead;

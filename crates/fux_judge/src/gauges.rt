@@ -3,8 +3,6 @@
 ghost use Rattle.std.specs.Prelude.{◌≡◌, ◌≤◌, ◌<◌, ◌+◌, ◌*◌, ◌∷◌, [], List, length};
 ghost use Rattle.fux_grid.specs.declared.cell.Cell.{Cell as ACell};
 ghost use Rattle.fux_grid.specs.Exercises.{IsValid, columns_in};
-ghost use Rattle.penalty_sheet.specs.Weights.{weight_of};
-ghost use Rattle.std.specs.Int.{from_bool};
 ghost use Rattle.fux_judge.specs.Gauges as gauges_words;
 ghost use Rattle.fux_judge.specs.Gauges.{cells_of_voice};
 ghost use Rattle.fux_judge.specs.GaugeStates.{AreGaugesOf, IsGaugesOf};
@@ -82,8 +80,7 @@ pub(crate) fn all_gauged(
 /// The values of the four gauges, each by its weight.
 pub(crate) fn weighed(sheet: &Sheet, climax: u8, compass: bool, leaps: u32, strikes: u8) -> u64
     requires { leaps ≤ 765 }
-    ensures value { result ≡ 0 + climax * weight_of sheet.now 17 + from_bool compass * weight_of sheet.now 18
-        + leaps * weight_of sheet.now 19 + strikes * weight_of sheet.now 20 }
+    ensures value { result ≡ gauges_words.cost_of_values sheet.now climax compass leaps strikes }
     ensures bound { result ≤ 83622660 }
 {
     u64::from(climax) * u64::from(weight(sheet, 17))

@@ -1,8 +1,8 @@
 //! Rules that a column keeps, as can be told for many of them at once.
 
-ghost use Rattle.std.specs.Prelude.{◌≡◌, ◌&&◌, not, nat_lt, ℕ, List, IsTrue};
+ghost use Rattle.std.specs.Prelude.{◌≡◌, ◌&&◌, not, nat_lt, ℕ, IsTrue};
 ghost use Rattle.std.specs.List.{list_all};
-ghost use Rattle.fux_grid.specs.declared.cell.Cell.{Cell as ACell};
+ghost use Rattle.fux_grid.specs.Columns.{Columns};
 ghost use Rattle.fux_judge.specs.Rules.{is_late, rules_at_once};
 ghost use Rattle.fux_judge.specs.Moments.{IsReadable, IsAfter, breaks_one_of};
 
@@ -18,8 +18,7 @@ use rule_law::begins_bar;
 pub(crate) fn rules_left(m: &Moment<'_>) -> &'static [u8]
     requires { IsReadable m.now }
     ensures numbers { IsTrue (list_all (λ rule. nat_lt rule 32 && not (is_late rule)) result.now) }
-    ensures kept { (p : List (List ACell)) → IsAfter p m.now → (r : ℕ) →
-        breaks_one_of result.now p m.now r ≡ breaks_one_of rules_at_once p m.now r }
+    ensures kept { (p : Columns) → IsAfter p m.now → (r : ℕ) → breaks_one_of result.now p m.now r ≡ breaks_one_of rules_at_once p m.now r }
 {
     if !are_smooth(m.exercise, &m.state.melody, m.column) {
         return all_at_once();

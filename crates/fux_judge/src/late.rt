@@ -1,14 +1,12 @@
 //! Breaks that a column settles at earlier places.
 
-ghost use Rattle.std.specs.Prelude.{◌≡◌, ◌≤◌, ◌<◌, ◌+◌, ◌-◌, ◌*◌, true, ◌&&◌, ◌||◌, ◌==◌, ℕ, List, length};
+ghost use Rattle.std.specs.Prelude.{◌≡◌, ◌≤◌, ◌<◌, ◌+◌, ◌-◌, ◌*◌, true, ◌==◌, length};
 ghost use Rattle.std.specs.List.{list_any, sum_by};
-ghost use Rattle.fux_grid.specs.declared.cell.Cell.{Cell as ACell};
 ghost use Rattle.fux_grid.specs.Exercises.{IsValid, columns_in};
-ghost use Rattle.rule_law.specs.Rulebooks.{IsAmong, newly_breaks};
-ghost use Rattle.rule_law.specs.Voices.{has_rule};
-ghost use Rattle.fux_judge.specs.Penalties.{is_strict_at, newly_broken_at, new_price};
+ghost use Rattle.rule_law.specs.Rulebooks.{newly_breaks};
+ghost use Rattle.fux_judge.specs.Penalties.{newly_broken_at, new_price};
 ghost use Rattle.fux_judge.specs.Rules.{is_late, late_rules, rule_at};
-ghost use Rattle.fux_judge.specs.States.{HasCome};
+ghost use Rattle.fux_judge.specs.Late.{AddsLateBreaks, SettlesAmong, TellsAtPlace, TellsOfNewest, end_of_places};
 ghost use Rattle.fux_judge.specs.Steps as steps;
 
 use crate::numbers::{RuleCrate, crate_of, every_late_rule, form_of};
@@ -60,12 +58,9 @@ fn places_left(rule: u8, ex: &Exercise, next: &State) -> LatePlaces
     requires begun { 0 < next.now.newest.len }
     requires room { next.now.newest.len ≤ columns_in ex.now }
     ensures from { (rule_at rule).first ex.now (next.now.newest.len - 1) ≤ result.first }
-    ensures to { result.first + result.count ≤ (rule_at rule).first ex.now (next.now.newest.len - 1)
-        + (rule_at rule).count ex.now (next.now.newest.len - 1) }
+    ensures to { result.first + result.count ≤ end_of_places rule ex.now (next.now.newest.len - 1) }
     ensures within { result.first + result.count ≤ next.now.newest.len }
-    ensures left { (p : List (List ACell)) (col : List ACell) → HasCome ex.now next.now p col
-        → (voices i : ℕ) → newly_breaks (rule_at rule) ex.now voices p col i ≡ true
-        → IsAmong result.first result.count i }
+    ensures left { SettlesAmong rule ex.now next.now result.first result.count }
 {
     let places = places_of(rule, ex, next);
     match crate_of(rule) {
@@ -82,9 +77,7 @@ fn breaks_at(rule: u8, ex: &Exercise, next: &State, voices: VoiceSet, place: usi
     requires valid { IsValid ex.now }
     requires begun { 0 < next.now.newest.len }
     requires room { next.now.newest.len ≤ columns_in ex.now }
-    ensures { (p : List (List ACell)) (col : List ACell) → HasCome ex.now next.now p col
-        → IsAmong ((rule_at rule).first ex.now (length p)) ((rule_at rule).count ex.now (length p)) place
-        → result ≡ newly_breaks (rule_at rule) ex.now voices.bits p col place }
+    ensures { TellsAtPlace rule ex.now next.now place (λ p col. newly_breaks (rule_at rule) ex.now voices.bits p col place) result }
 {
     let newest = &next.newest;
     match crate_of(rule) {
@@ -108,9 +101,7 @@ fn breaks_strictly_at(rule: u8, ex: &Exercise, next: &State, voices: VoiceSet, p
     requires begun { 0 < next.now.newest.len }
     requires room { next.now.newest.len ≤ columns_in ex.now }
     requires place { place < columns_in ex.now }
-    ensures { (p : List (List ACell)) (col : List ACell) → HasCome ex.now next.now p col
-        → IsAmong ((rule_at rule).first ex.now (length p)) ((rule_at rule).count ex.now (length p)) place
-        → result ≡ newly_broken_at rule ex.now voices.bits p col place }
+    ensures { TellsAtPlace rule ex.now next.now place (λ p col. newly_broken_at rule ex.now voices.bits p col place) result }
 {
     if !breaks_at(rule, ex, next, voices, place) {
         return false;
@@ -125,9 +116,7 @@ fn price_settled(rule: u8, ex: &Exercise, next: &State, voices: VoiceSet, place:
     requires begun { 0 < next.now.newest.len }
     requires room { next.now.newest.len ≤ columns_in ex.now }
     requires place { place < columns_in ex.now }
-    ensures value { (p : List (List ACell)) (col : List ACell) → HasCome ex.now next.now p col
-        → IsAmong ((rule_at rule).first ex.now (length p)) ((rule_at rule).count ex.now (length p)) place
-        → result ≡ new_price ex.now p col place rule voices.bits }
+    ensures value { TellsAtPlace rule ex.now next.now place (λ p col. new_price ex.now p col place rule voices.bits) result }
     ensures bound { result ≤ 10000 }
 {
     if !breaks_at(rule, ex, next, voices, place) {
@@ -143,9 +132,7 @@ fn breaks_for(rule: u8, ex: &Exercise, next: &State, place: usize, sets: &[u8]) 
     requires begun { 0 < next.now.newest.len }
     requires room { next.now.newest.len ≤ columns_in ex.now }
     requires place { place < columns_in ex.now }
-    ensures { (p : List (List ACell)) (col : List ACell) → HasCome ex.now next.now p col
-        → IsAmong ((rule_at rule).first ex.now (length p)) ((rule_at rule).count ex.now (length p)) place
-        → result ≡ list_any (λ voices. newly_broken_at rule ex.now voices p col place) sets.now }
+    ensures { TellsAtPlace rule ex.now next.now place (λ p col. steps.newly_broken_for sets.now rule ex.now p col place) result }
 {
     for bits in sets {
         if breaks_strictly_at(rule, ex, next, VoiceSet { bits: *bits }, place) {
@@ -163,9 +150,7 @@ fn prices_for(rule: u8, ex: &Exercise, next: &State, place: usize, sets: &[u8]) 
     requires room { next.now.newest.len ≤ columns_in ex.now }
     requires place { place < columns_in ex.now }
     requires few { length sets.now ≤ 6 }
-    ensures value { (p : List (List ACell)) (col : List ACell) → HasCome ex.now next.now p col
-        → IsAmong ((rule_at rule).first ex.now (length p)) ((rule_at rule).count ex.now (length p)) place
-        → result ≡ sum_by (new_price ex.now p col place rule) sets.now }
+    ensures value { TellsAtPlace rule ex.now next.now place (λ p col. sum_by (new_price ex.now p col place rule) sets.now) result }
     ensures bound { result ≤ 60000 }
 {
     let mut sum = 0u64;
@@ -183,7 +168,7 @@ fn is_broken_late(rule: u8, ex: &Exercise, next: &State) -> bool
     requires valid { IsValid ex.now }
     requires begun { 0 < next.now.newest.len }
     requires room { next.now.newest.len ≤ columns_in ex.now }
-    ensures { (p : List (List ACell)) (col : List ACell) → HasCome ex.now next.now p col → result ≡ steps.breaks_late ex.now p col rule }
+    ensures { TellsOfNewest ex.now next.now (λ p col. steps.breaks_late ex.now p col rule) result }
 {
     let places = places_left(rule, ex, next);
     if places.count == 0 {
@@ -204,7 +189,7 @@ fn prices_of_late(rule: u8, ex: &Exercise, next: &State) -> u64
     requires valid { IsValid ex.now }
     requires begun { 0 < next.now.newest.len }
     requires room { next.now.newest.len ≤ columns_in ex.now }
-    ensures value { (p : List (List ACell)) (col : List ACell) → HasCome ex.now next.now p col → result ≡ steps.prices_late ex.now p col rule }
+    ensures value { TellsOfNewest ex.now next.now (λ p col. steps.prices_late ex.now p col rule) result }
     ensures bound { result ≤ 1440000 }
 {
     let places = places_of(rule, ex, next);
@@ -224,8 +209,7 @@ pub(crate) fn settles_late_break(ex: &Exercise, next: &State) -> bool
     requires valid { IsValid ex.now }
     requires begun { 0 < next.now.newest.len }
     requires room { next.now.newest.len ≤ columns_in ex.now }
-    ensures { (p : List (List ACell)) (col : List ACell) → HasCome ex.now next.now p col
-        → result ≡ list_any (steps.breaks_late ex.now p col) late_rules }
+    ensures { TellsOfNewest ex.now next.now (λ p col. list_any (steps.breaks_late ex.now p col) late_rules) result }
 {
     if is_broken_late(25, ex, next) {
         return true;
@@ -259,8 +243,7 @@ pub(crate) fn with_late(set: RuleSet, ex: &Exercise, next: &State) -> RuleSet
     requires valid { IsValid ex.now }
     requires begun { 0 < next.now.newest.len }
     requires room { next.now.newest.len ≤ columns_in ex.now }
-    ensures { (p : List (List ACell)) (col : List ACell) → HasCome ex.now next.now p col → (r : ℕ)
-        → has_rule result.bits r ≡ (has_rule set.bits r || list_any (λ rule. steps.breaks_late ex.now p col rule && r == rule) late_rules) }
+    ensures { AddsLateBreaks ex.now next.now set.bits result.bits }
 {
     let mut broken = set;
     for rule in every_late_rule() {
@@ -275,8 +258,7 @@ pub(crate) fn late_prices(ex: &Exercise, next: &State) -> u64
     requires valid { IsValid ex.now }
     requires begun { 0 < next.now.newest.len }
     requires room { next.now.newest.len ≤ columns_in ex.now }
-    ensures value { (p : List (List ACell)) (col : List ACell) → HasCome ex.now next.now p col →
-        result ≡ sum_by (steps.prices_late ex.now p col) late_rules }
+    ensures value { TellsOfNewest ex.now next.now (λ p col. sum_by (steps.prices_late ex.now p col) late_rules) result }
     ensures bound { result ≤ 17280000 }
 {
     if ex.relax.as_slice().is_empty() {

@@ -1,13 +1,12 @@
 //! What a column settles of late tolls.
 
-ghost use Rattle.std.specs.Prelude.{◌≡◌, ◌≤◌, ◌<◌, ◌+◌, ◌-◌, true, ◌&&◌, nat_le, ◌++◌, ◌∷◌, [], ℕ, List, IsTrue, length};
+ghost use Rattle.std.specs.Prelude.{◌≡◌, ◌≤◌, ◌<◌, ◌+◌, ◌-◌, true, ◌&&◌, nat_le, IsTrue};
 ghost use Rattle.std.specs.List.{sum_by};
-ghost use Rattle.fux_grid.specs.declared.cell.Cell.{Cell as ACell};
 ghost use Rattle.fux_grid.specs.Exercises.{IsValid, columns_in};
-ghost use Rattle.rule_law.specs.Rulebooks.{IsAmong, newly_costs};
+ghost use Rattle.rule_law.specs.Rulebooks.{newly_costs};
 ghost use Rattle.fux_judge.specs.Penalties.{new_toll};
 ghost use Rattle.fux_judge.specs.Rules.{is_late_toll, late_tolls, toll_at};
-ghost use Rattle.fux_judge.specs.States.{HasCome};
+ghost use Rattle.fux_judge.specs.Late.{TellsAtPlaceOfCost, TellsOfNewest};
 ghost use Rattle.fux_judge.specs.Steps as steps;
 
 use crate::numbers::{RuleCrate, crate_of_toll};
@@ -57,9 +56,7 @@ fn cost_at(toll: u8, ex: &Exercise, next: &State, place: usize) -> u32
     requires valid { IsValid ex.now }
     requires begun { 0 < next.now.newest.len }
     requires room { next.now.newest.len ≤ columns_in ex.now }
-    ensures value { (p : List (List ACell)) (col : List ACell) → HasCome ex.now next.now p col
-        → IsAmong ((toll_at toll).first ex.now (length p)) ((toll_at toll).count ex.now (length p)) place
-        → result ≡ newly_costs (toll_at toll) ex.now p col place }
+    ensures value { TellsAtPlaceOfCost toll ex.now next.now place (λ p col. newly_costs (toll_at toll) ex.now p col place) result }
     ensures bound { result ≤ 6 }
 {
     let newest = &next.newest;
@@ -79,9 +76,7 @@ fn charge_at(toll: u8, sheet: &Sheet, ex: &Exercise, next: &State, place: usize)
     requires valid { IsValid ex.now }
     requires begun { 0 < next.now.newest.len }
     requires room { next.now.newest.len ≤ columns_in ex.now }
-    ensures value { (p : List (List ACell)) (col : List ACell) → HasCome ex.now next.now p col
-        → IsAmong ((toll_at toll).first ex.now (length p)) ((toll_at toll).count ex.now (length p)) place
-        → result ≡ new_toll ex.now sheet.now p col place toll }
+    ensures value { TellsAtPlaceOfCost toll ex.now next.now place (λ p col. new_toll ex.now sheet.now p col place toll) result }
     ensures bound { result ≤ 393210 }
 {
     u64::from(cost_at(toll, ex, next, place)) * u64::from(weight(sheet, toll))
@@ -94,8 +89,7 @@ fn charges_of(toll: u8, sheet: &Sheet, ex: &Exercise, next: &State) -> u64
     requires valid { IsValid ex.now }
     requires begun { 0 < next.now.newest.len }
     requires room { next.now.newest.len ≤ columns_in ex.now }
-    ensures value { (p : List (List ACell)) (col : List ACell) → HasCome ex.now next.now p col
-        → result ≡ steps.toll_late ex.now sheet.now p col toll }
+    ensures value { TellsOfNewest ex.now next.now (λ p col. steps.toll_late ex.now sheet.now p col toll) result }
     ensures bound { result ≤ 9437040 }
 {
     let places = places_of(toll, ex, next);
@@ -114,8 +108,7 @@ pub(crate) fn late_charges(sheet: &Sheet, ex: &Exercise, next: &State) -> u64
     requires valid { IsValid ex.now }
     requires begun { 0 < next.now.newest.len }
     requires room { next.now.newest.len ≤ columns_in ex.now }
-    ensures value { (p : List (List ACell)) (col : List ACell) → HasCome ex.now next.now p col
-        → result ≡ sum_by (steps.toll_late ex.now sheet.now p col) late_tolls }
+    ensures value { TellsOfNewest ex.now next.now (λ p col. sum_by (steps.toll_late ex.now sheet.now p col) late_tolls) result }
     ensures bound { result ≤ 75496320 }
 {
     charges_of(3, sheet, ex, next)

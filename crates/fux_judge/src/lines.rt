@@ -1,14 +1,11 @@
 //! What the gauges cost at least in each setting that a prefix begins.
 
-ghost use Rattle.std.specs.Prelude.{◌≡◌, ◌≤◌, ◌<◌, List, length, if◌then◌else◌};
-ghost use Rattle.fux_grid.specs.declared.cell.Cell.{Cell as ACell};
+ghost use Rattle.std.specs.Prelude.{◌≡◌, ◌≤◌, ◌<◌};
 ghost use Rattle.fux_grid.specs.Exercises.{IsFree, IsValid, columns_in};
-ghost use Rattle.rule_law.specs.Prefixes.{IsPrefix};
 ghost use Rattle.rule_law.specs.Voices as voices_words;
-ghost use Rattle.fux_judge.specs.Gauges.{cells_of_voice};
 ghost use Rattle.fux_judge.specs.Gauges as words;
-ghost use Rattle.fux_judge.specs.GaugeStates.{IsAheadOf, IsGaugesOf};
-ghost use Rattle.fux_judge.specs.States.{IsStateOf};
+ghost use Rattle.fux_judge.specs.GaugeStates.{TellsOfLine};
+ghost use Rattle.fux_judge.specs.Verdicts.{AtPrefix};
 
 use crate::ahead::{LineAhead, is_final};
 use crate::gauges::{LineGauges, weighed};
@@ -23,8 +20,7 @@ fn climax_repeats(ex: &Exercise, v: u8, i: usize, kept: &LineGauges, ahead: &Lin
     requires valid { IsValid ex.now }
     requires free { IsFree ex.now v }
     requires place { i ≤ columns_in ex.now }
-    ensures { (cells : List ACell) → length cells ≡ i → IsGaugesOf cells kept.now → IsAheadOf ex.now v i ahead.now →
-        result ≡ words.gauge_least 17 ex.now v cells }
+    ensures { TellsOfLine ex.now v i kept.now ahead.now (words.gauge_least 17 ex.now v) result }
 {
     if kept.climax.count < 2 {
         return 0;
@@ -47,8 +43,7 @@ fn least_of_line(
     requires valid { IsValid ex.now }
     requires free { IsFree ex.now v }
     requires place { i ≤ columns_in ex.now }
-    ensures value { (cells : List ACell) → length cells ≡ i → IsGaugesOf cells kept.now → IsAheadOf ex.now v i ahead.now →
-        result ≡ words.least_of_line ex.now sheet.now v cells }
+    ensures value { TellsOfLine ex.now v i kept.now ahead.now (words.least_of_line ex.now sheet.now v) result }
     ensures bound { result ≤ 83622660 }
 {
     let climax = climax_repeats(ex, v, i, kept, ahead);
@@ -62,8 +57,7 @@ fn least_of_voice(ex: &Exercise, sheet: &Sheet, v: u8, state: &State) -> u64
     requires valid { IsValid ex.now }
     requires voice { v < ex.now.voices }
     requires room { state.now.newest.len ≤ columns_in ex.now }
-    ensures value { (p : List (List ACell)) → IsStateOf ex.now p state.now → IsPrefix ex.now p →
-        result ≡ (if voices_words.is_free ex.now v then words.least_of_line ex.now sheet.now v (cells_of_voice p v) else 0) }
+    ensures value { AtPrefix ex.now state.now (λ p. result ≡ words.least_of_voice ex.now sheet.now v p) }
     ensures bound { result ≤ 83622660 }
 {
     if !is_free(ex, v) {
@@ -84,7 +78,7 @@ fn least_of_voice(ex: &Exercise, sheet: &Sheet, v: u8, state: &State) -> u64
 pub fn least(ex: &Exercise, sheet: &Sheet, state: &State) -> u64
     requires valid { IsValid ex.now }
     requires room { state.now.newest.len ≤ columns_in ex.now }
-    ensures value { (p : List (List ACell)) → IsStateOf ex.now p state.now → IsPrefix ex.now p → result ≡ words.least_of ex.now sheet.now p }
+    ensures value { AtPrefix ex.now state.now (λ p. result ≡ words.least_of ex.now sheet.now p) }
     ensures bound { result ≤ 334490640 }
 {
     let mut sum = 0u64;

@@ -1,10 +1,9 @@
 //! What a column decides by itself, and with the one before it.
 
-ghost use Rattle.std.specs.Prelude.{◌≡◌, ◌≤◌, ◌<◌, ◌+◌, ◌*◌, ◌^◌, ◌&&◌, true, ℕ, List, Option, IsTrue, IfSome, IsSomeAnd, Some, length, nat_le, nat_lt};
+ghost use Rattle.std.specs.Prelude.{◌≡◌, ◌≤◌, ◌<◌, ◌+◌, ◌*◌, ◌^◌, ◌&&◌, true, Option, IsTrue, IfSome, Some, length, nat_le};
 ghost use Rattle.std.specs.List.{list_all, list_any, sum_by};
-ghost use Rattle.fux_grid.specs.declared.cell.Cell.{Cell as ACell};
 ghost use Rattle.fux_grid.specs.Exercises.{IsValid, columns_in};
-ghost use Rattle.fux_judge.specs.Links.{column_of, given, is_of_neighbors, is_rule_between, is_toll_between, link_of, pair_of};
+ghost use Rattle.fux_judge.specs.Links.{IsLeastOfLinks, column_of, given, is_rule_between, is_toll_between, link_of, pair_of};
 ghost use Rattle.fux_judge.specs.Neighbors.{IsLink, breaks_at_link, breaks_strictly_at_link, charge_at_link, cost_at_link, is_strict_for};
 ghost use Rattle.fux_judge.specs.Penalties.{is_strict_at};
 
@@ -199,8 +198,7 @@ pub fn column_cost<'a>(ex: &'a Exercise, sheet: &Sheet, i: usize, next: &'a Colu
     requires valid { IsValid ex.now }
     requires place { i < columns_in ex.now }
     ensures value { result ≡ column_of ex.now sheet.now i next.now.items }
-    ensures least { (before : Option (List ACell)) (x : ℕ)
-        → link_of ex.now sheet.now i before next.now.items ≡ Some x → IsSomeAnd result (λ y. y ≤ x) }
+    ensures least { IsLeastOfLinks ex.now sheet.now i next.now.items result }
     ensures bound { IfSome result (λ cost. cost ≤ 2 ^ 24) }
 {
     if is_quiet(i, next.as_slice()) {

@@ -1,15 +1,14 @@
 //! Columns that are dead, or cost too much, by the cells of a few voices.
 
-ghost use Rattle.std.specs.Prelude.{◌≡◌, ◌≤◌, ◌<◌, ◌+◌, List, Some, IsSomeAnd, IsTrue, IfSome, length, take};
+ghost use Rattle.std.specs.Prelude.{◌≡◌, ◌≤◌, ◌<◌, ◌+◌, Some, IsSomeAnd, IsTrue, IfSome, length};
 ghost use Rattle.std.specs.Bool.{OnTrue};
-ghost use Rattle.std.specs.List.{list_all, sum_by};
-ghost use Rattle.fux_grid.specs.declared.cell.Cell.{Cell as ACell};
+ghost use Rattle.std.specs.List.{list_all};
+ghost use Rattle.fux_grid.specs.Columns.{Columns};
 ghost use Rattle.fux_grid.specs.Exercises.{IsValid, columns_in};
 ghost use Rattle.rule_law.specs.Voices.{voice_of as one_voice};
-ghost use Rattle.fux_judge.specs.Charges.{tolls_of_pairs, voice_charge};
-ghost use Rattle.fux_judge.specs.Moments.{IsAfter, IsReadable, toll_then};
-ghost use Rattle.fux_judge.specs.Pruning.{IsDeadBy, IsDeadWithin, IsPruned, is_set_below, reads_below};
-ghost use Rattle.fux_judge.specs.States.{IsStateOf};
+ghost use Rattle.fux_judge.specs.Charges.{voice_charge};
+ghost use Rattle.fux_judge.specs.Moments.{IsAfter, IsReadable, pairs_then};
+ghost use Rattle.fux_judge.specs.Pruning.{IsDeadBy, IsDeadWithin, PrunesWithin, is_set_below, reads_below};
 
 use crate::moment::Moment;
 use crate::reading::is_strictly_broken;
@@ -161,7 +160,7 @@ fn reaches(cost: u64, limit: Option<u64>) -> bool
 #[inline]
 fn charge_for(limit: Option<u64>, sheet: &Sheet, m: &Moment<'_>, voice: usize) -> u64
     requires { voice < 4 }
-    ensures value { (p : List (List ACell)) → IsAfter p m.now → result ≤ voice_charge m.now.exercise.now sheet.now p m.now.column.now voice }
+    ensures value { (p : Columns) → IsAfter p m.now → result ≤ voice_charge m.now.exercise.now sheet.now p m.now.column.now voice }
     ensures bound { result ≤ 131070 }
 {
     if limit.is_none() {
@@ -173,8 +172,7 @@ fn charge_for(limit: Option<u64>, sheet: &Sheet, m: &Moment<'_>, voice: usize) -
 /// Whether what all voices cost and what they cost together reach the limit, where there is one.
 fn costs_too_much(limit: Option<u64>, least: u64, sheet: &Sheet, m: &Moment<'_>) -> bool
     requires { least ≤ 524280 }
-    ensures { OnTrue result (IsSomeAnd limit (λ most. (p : List (List ACell)) → IsAfter p m.now →
-        most ≤ least + sum_by (toll_then sheet.now p m.now) tolls_of_pairs)) }
+    ensures { OnTrue result (IsSomeAnd limit (λ most. (p : Columns) → IsAfter p m.now → most ≤ least + pairs_then sheet.now p m.now)) }
 {
     match limit {
         Some(most) => least + charges_of_pairs(sheet, m) >= most,
@@ -199,9 +197,7 @@ pub fn pruned_within(
     requires full { length col.now.items ≡ ex.now.voices }
     ensures some { IfSome result (λ n. 1 ≤ n) }
     ensures few { IfSome result (λ n. n ≤ ex.now.voices) }
-    ensures pruned { IfSome result (λ n. (p : List (List ACell)) → IsStateOf ex.now p state.now →
-        (other : List ACell) → length other ≡ ex.now.voices → take n other ≡ take n col.now.items →
-        IsPruned ex.now sheet.now p limit other) }
+    ensures pruned { IfSome result (λ n. PrunesWithin n ex.now sheet.now state.now limit col.now.items) }
 {
     if is_quiet(state.newest.len, col.as_slice()) {
         return None;

@@ -5,9 +5,9 @@ ghost use Rattle.std.specs.List.{sum_by};
 ghost use Rattle.fux_grid.specs.declared.cell.Cell.{Cell as ACell};
 ghost use Rattle.fux_grid.specs.Columns.{line};
 ghost use Rattle.melody_rules.specs.Notes.{AreNotesOf};
-ghost use Rattle.fux_judge.specs.Charges.{is_clashing_toll, is_moving_toll, leap_charge, move_charge, tolls_of_pairs, voice_charge};
+ghost use Rattle.fux_judge.specs.Charges.{is_clashing_toll, is_moving_toll, leap_charge, move_charge, voice_charge};
 ghost use Rattle.fux_judge.specs.Rules.{cost_at, tolls_at_once};
-ghost use Rattle.fux_judge.specs.Moments.{IsAfter, toll_then, with_column};
+ghost use Rattle.fux_judge.specs.Moments.{IsAfter, pairs_then, toll_then, with_column};
 
 use crate::moment::Moment;
 use fux_grid::{Cell, cell_of};
@@ -54,7 +54,7 @@ fn charge(toll: u8, sheet: &Sheet, m: &Moment<'_>) -> u64
 
 /// What the tolls of motion and dissonance cost together: those that several voices make.
 pub(crate) fn charges_of_pairs(sheet: &Sheet, m: &Moment<'_>) -> u64
-    ensures value { (p : List (List ACell)) → IsAfter p m.now → result ≡ sum_by (toll_then sheet.now p m.now) tolls_of_pairs }
+    ensures value { (p : List (List ACell)) → IsAfter p m.now → result ≡ pairs_then sheet.now p m.now }
     ensures bound { result ≤ 1572840 }
 {
     charge(1, sheet, m) + charge(2, sheet, m) + charge(11, sheet, m) + charge(14, sheet, m)

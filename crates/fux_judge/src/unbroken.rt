@@ -1,15 +1,14 @@
 //! One column more, where it settles no strict break.
 
-ghost use Rattle.std.specs.Prelude.{◌≡◌, ◌≤◌, ◌<◌, ◌+◌, ◌∷◌, ◌++◌, [], List, true, false, IfNone, IfSome, length};
+ghost use Rattle.std.specs.Prelude.{◌≡◌, ◌≤◌, ◌<◌, ◌+◌, true, false, IfNone, IfSome, length};
 ghost use Rattle.std.specs.List.{list_any};
-ghost use Rattle.fux_grid.specs.declared.cell.Cell.{Cell as ACell};
 ghost use Rattle.fux_grid.specs.Exercises.{IsValid, columns_in};
-ghost use Rattle.rule_law.specs.Prefixes.{GoesOn, IsPrefix};
 ghost use Rattle.rule_law.specs.Voices.{has_rule};
 ghost use Rattle.fux_judge.specs.Gauges.{least_of};
-ghost use Rattle.fux_judge.specs.Rules.{rules_at_once, rules_read};
-ghost use Rattle.fux_judge.specs.Penalties.{newly_broken, newly_paid, paid};
+ghost use Rattle.fux_judge.specs.Rules.{rules_at_once};
+ghost use Rattle.fux_judge.specs.Penalties.{newly_paid, settles_break};
 ghost use Rattle.fux_judge.specs.States.{IsStateOf};
+ghost use Rattle.fux_judge.specs.Verdicts.{GoingOn, Grown, GrownPrefix, PaysMore};
 
 use crate::late::{late_prices, settles_late_break};
 use crate::late_tolls::late_charges;
@@ -34,23 +33,17 @@ pub fn step_unbroken(ex: &Exercise, sheet: &Sheet, state: &State, col: &Column) 
     requires valid { IsValid ex.now }
     requires room { state.now.newest.len < columns_in ex.now }
     requires full { length col.now.items ≡ ex.now.voices }
-    ensures state { (p : List (List ACell)) → IsStateOf ex.now p state.now
-        → IfSome result (λ verdict. IsStateOf ex.now (p ++ col.now.items ∷ []) verdict.state) }
+    ensures state { Grown ex.now state.now col.now.items (λ longer. IfSome result (λ it. IsStateOf ex.now longer it.state)) }
 
     // After an orderly prefix: no strict break is settled where there is a verdict, and one is where there is none; and what the column
     // settles of tolls and prices.
-    ensures broken { (p : List (List ACell)) → IsStateOf ex.now p state.now → GoesOn ex.now p (col.now.items ∷ [])
-        → IfNone result (list_any (newly_broken ex.now p col.now.items) rules_read ≡ true) }
-    ensures unbroken { (p : List (List ACell)) → IsStateOf ex.now p state.now → GoesOn ex.now p (col.now.items ∷ [])
-        → IfSome result (λ verdict. list_any (newly_broken ex.now p col.now.items) rules_read ≡ false) }
-    ensures settled { (p : List (List ACell)) → IsStateOf ex.now p state.now → GoesOn ex.now p (col.now.items ∷ [])
-        → IfSome result (λ verdict. verdict.paid ≡ newly_paid ex.now sheet.now p col.now.items) }
-    ensures paid { (p : List (List ACell)) → IsStateOf ex.now p state.now → GoesOn ex.now p (col.now.items ∷ [])
-        → IfSome result (λ verdict. paid ex.now sheet.now (p ++ col.now.items ∷ []) ≡ paid ex.now sheet.now p + verdict.paid) }
+    ensures broken { GoingOn ex.now state.now col.now.items (λ p next. IfNone result (settles_break ex.now p next ≡ true)) }
+    ensures unbroken { GoingOn ex.now state.now col.now.items (λ p next. IfSome result (λ it. settles_break ex.now p next ≡ false)) }
+    ensures settled { GoingOn ex.now state.now col.now.items (λ p next. IfSome result (λ it. it.paid ≡ newly_paid ex.now sheet.now p next)) }
+    ensures paid { GoingOn ex.now state.now col.now.items (λ p next. IfSome result (λ it. PaysMore ex.now sheet.now p next it.paid)) }
     ensures bound { IfSome result (λ verdict. verdict.paid ≤ 134217728) }
     ensures none_broken { IfSome result (λ verdict. verdict.broken.bits ≡ 0) }
-    ensures least { (p : List (List ACell)) → IsStateOf ex.now p state.now → IsPrefix ex.now (p ++ col.now.items ∷ [])
-        → IfSome result (λ verdict. verdict.least ≡ least_of ex.now sheet.now (p ++ col.now.items ∷ [])) }
+    ensures least { GrownPrefix ex.now state.now col.now.items (λ longer. IfSome result (λ it. it.least ≡ least_of ex.now sheet.now longer)) }
     ensures least_bound { IfSome result (λ verdict. verdict.least ≤ 334490640) }
 {
     let next = next_state(ex, state, col);

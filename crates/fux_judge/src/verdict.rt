@@ -1,16 +1,16 @@
 //! One column more.
 
-ghost use Rattle.std.specs.Prelude.{◌≡◌, ◌≤◌, ◌<◌, ◌+◌, ◌*◌, ◌&&◌, ◌||◌, ◌==◌, not, nat_lt, ◌∷◌, ◌++◌, [], ℕ, Bool, List, IsTrue, length, reverse};
+ghost use Rattle.std.specs.Prelude.{◌≡◌, ◌≤◌, ◌<◌, ◌+◌, ◌*◌, ◌&&◌, not, nat_lt, ℕ, List, IsTrue, length};
 ghost use Rattle.std.specs.List.{list_any, list_all, sum_by};
 ghost use Rattle.fux_grid.specs.declared.cell.Cell.{Cell as ACell};
 ghost use Rattle.fux_grid.specs.Exercises.{IsValid, columns_in};
-ghost use Rattle.rule_law.specs.Prefixes.{GoesOn, IsPrefix};
 ghost use Rattle.rule_law.specs.Voices.{has_rule};
 ghost use Rattle.fux_judge.specs.Gauges.{least_of};
-ghost use Rattle.fux_judge.specs.Rules.{all_sets, is_late, rules_at_once, rules_read, is_read};
-ghost use Rattle.fux_judge.specs.Penalties.{newly_broken, newly_paid, paid};
+ghost use Rattle.fux_judge.specs.Rules.{all_sets, is_late, rules_at_once, rules_read};
+ghost use Rattle.fux_judge.specs.Penalties.{newly_paid, paid};
 ghost use Rattle.fux_judge.specs.Moments.{IsReadable, IsAfter, breaks_one_of, paid_at_once, prices_then};
 ghost use Rattle.fux_judge.specs.States.{IsStateOf};
+ghost use Rattle.fux_judge.specs.Verdicts.{GoingOn, Grown, GrownPrefix, HasBroken, PaysMore};
 
 use crate::ahead::all_ahead_after;
 use crate::gauges::all_gauged;
@@ -94,7 +94,7 @@ pub(crate) fn next_state(ex: &Exercise, state: &State, col: &Column) -> State
     requires valid { IsValid ex.now }
     requires room { state.now.newest.len < columns_in ex.now }
     requires full { length col.now.items ≡ ex.now.voices }
-    ensures state { (p : List (List ACell)) → IsStateOf ex.now p state.now → IsStateOf ex.now (p ++ col.now.items ∷ []) result }
+    ensures state { Grown ex.now state.now col.now.items (λ longer. IsStateOf ex.now longer result) }
     ensures length { result.newest.len ≡ state.now.newest.len + 1 }
 {
     let cells = col.as_slice();
@@ -145,19 +145,15 @@ pub fn step(ex: &Exercise, sheet: &Sheet, state: &State, col: &Column) -> Verdic
     requires valid { IsValid ex.now }
     requires room { state.now.newest.len < columns_in ex.now }
     requires full { length col.now.items ≡ ex.now.voices }
-    ensures state { (p : List (List ACell)) → IsStateOf ex.now p state.now → IsStateOf ex.now (p ++ col.now.items ∷ []) result.state }
+    ensures state { Grown ex.now state.now col.now.items (λ longer. IsStateOf ex.now longer result.state) }
 
     // After an orderly prefix, the rules of which this column, and none before it, settles a strict break, and what it settles
     // of tolls and prices.
-    ensures broken { (p : List (List ACell)) → IsStateOf ex.now p state.now → GoesOn ex.now p (col.now.items ∷ []) → (r : ℕ) →
-        has_rule result.broken.bits r ≡ (is_read r && newly_broken ex.now p col.now.items r) }
-    ensures settled { (p : List (List ACell)) → IsStateOf ex.now p state.now → GoesOn ex.now p (col.now.items ∷ []) →
-        result.paid ≡ newly_paid ex.now sheet.now p col.now.items }
-    ensures paid { (p : List (List ACell)) → IsStateOf ex.now p state.now → GoesOn ex.now p (col.now.items ∷ []) →
-        paid ex.now sheet.now (p ++ col.now.items ∷ []) ≡ paid ex.now sheet.now p + result.paid }
+    ensures broken { GoingOn ex.now state.now col.now.items (λ p next. HasBroken ex.now p next result.broken.bits) }
+    ensures settled { GoingOn ex.now state.now col.now.items (λ p next. result.paid ≡ newly_paid ex.now sheet.now p next) }
+    ensures paid { GoingOn ex.now state.now col.now.items (λ p next. PaysMore ex.now sheet.now p next result.paid) }
     ensures bound { result.paid ≤ 134217728 }
-    ensures least { (p : List (List ACell)) → IsStateOf ex.now p state.now → IsPrefix ex.now (p ++ col.now.items ∷ []) →
-        result.least ≡ least_of ex.now sheet.now (p ++ col.now.items ∷ []) }
+    ensures least { GrownPrefix ex.now state.now col.now.items (λ longer. result.least ≡ least_of ex.now sheet.now longer) }
     ensures least_bound { result.least ≤ 334490640 }
 {
     let moment = moment_of(ex, state, col);
