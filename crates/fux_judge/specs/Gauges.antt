@@ -53,7 +53,7 @@ least_of_voice ex sheet v p = if is_free ex v then least_of_line ex sheet v (cel
 abbrev pub cost_of_values : Sheet → ℕ → Bool → ℕ → ℕ → ℕ
 cost_of_values sheet climax narrow leaps strikes =
     0 + climax * weight_of sheet 17 + from_bool narrow * weight_of sheet 18 + leaps * weight_of sheet 19 + strikes *
-        weight_of sheet 20
+    weight_of sheet 20
 
 -- what the lines of the free voices of a setting cost
 abbrev pub gauges_of : Exercise → Sheet → List (List Cell) → ℕ
