@@ -9,5 +9,4 @@ pub mod SimpleForms
 pub mod SinkLemmas
 pub mod Taken
 pub mod TextFaults
-pub mod TextLemmas
 pub mod WorkLemmas
