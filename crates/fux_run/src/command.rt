@@ -13,7 +13,7 @@ use fux_pitch::Memory;
 use std::alloc::Global;
 
 /// What is to be made of an exercise.
-#[derive(Clone, Copy, Debug, PartialEq, Eq)]
+#[derive(Clone, Copy)]
 pub enum Job {
     /// Its best setting, found within this budget.
     Compose { budget: u32 },
@@ -28,7 +28,7 @@ pub enum Job {
 }
 
 /// What is to be made whole before any of it is written, and the names of the files that it is to be made of.
-#[derive(Clone, Copy, Debug, PartialEq, Eq)]
+#[derive(Clone, Copy)]
 pub enum Making<'a> {
     /// Something made of the exercise in a file, over the sheet of weights in another where one is named.
     OnExercise {
@@ -54,7 +54,7 @@ pub enum Making<'a> {
 }
 
 /// What the words ask for.
-#[derive(Clone, Copy, Debug, PartialEq, Eq)]
+#[derive(Clone, Copy)]
 pub enum Command<'a> {
     /// What is made whole before any of it is written.
     Make(Making<'a>),
