@@ -2,6 +2,7 @@ pub mod BestLemmas
 pub mod CertifyLemmas
 pub mod CheckLemmas
 pub mod ContentLemmas
+pub mod FormLemmas
 pub mod FrontLemmas
 pub mod MakeLemmas
 pub mod RunLemmas
