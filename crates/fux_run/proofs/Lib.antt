@@ -1,3 +1,4 @@
+pub mod AskedLemmas
 pub mod BestLemmas
 pub mod CertifyLemmas
 pub mod CheckLemmas
