@@ -2,7 +2,7 @@
 use Rattle.std.proofs.Common.{◌≡◌, ℕ, ◌<◌, List, Result, Ok, Err, IfOk, true, length, refl, ◌∙◌}
 use Rattle.fux_grid.specs.declared.cell.Cell.{Cell}
 use Rattle.fux_grid.specs.declared.exercise.Exercise.{Exercise}
-use Rattle.fux_grid.specs.Exercises.{HasCantus, IsComplete, IsValid, columns_in}
+use Rattle.fux_grid.specs.Exercises.{HasCantus, IsValid, columns_in}
 use Rattle.fux_grid.specs.Grid.{Grid}
 use Rattle.fux_grid.proofs.MenuLemmas.{menu_of-contains, menu_of-cantus}
 use Rattle.fux_pitch.specs.declared.memory.Memory.{Memory}

@@ -1,6 +1,6 @@
 -- What `certify` writes: the certificate of a head that holds (`all_written`, `part_written`, `too_long`), and what it is of the
 -- exercise's best setting (`of_best`, `of_none`, `of_bound`).
-use Rattle.std.proofs.Common.{◌≡◌, ℕ, ◌<◌, ◌≤◌, List, [], ◌∷◌, Option, Result, Ok, Err, length, inl, inr, refl, subst, sym, arith}
+use Rattle.std.proofs.Common.{◌≡◌, ℕ, ◌<◌, ◌≤◌, List, [], ◌∷◌, Option, Result, Ok, Err, length, inl, inr, refl, subst, sym}
 use Rattle.std.proofs.lemmas.Bool.Decides.{leb_tells}
 use Rattle.cert_law.specs.Certificates.{Holds}
 use Rattle.cert_law.specs.Writer.{written_certificate}
@@ -21,22 +21,19 @@ use Rattle.fux_run.specs.declared.content.Content.{Content}
 use Rattle.fux_run.specs.Commands.{Task, as_list, certify, limit_in, name_in, names_in}
 use Rattle.fux_run.specs.Works.{AllMayHave, AreContents, AreRead, CertifiesText, Files, IsContent, Makes, Works}
 use Rattle.fux_run.proofs.MakeLemmas.{have_bytes}
-use Rattle.fux_run.specs.declared.refusal.Refusal.{Refusal}
 use Rattle.fux_run.specs.declared.refusal.Refusal.TheVariants as refusal
 use Rattle.fux_run.specs.declared.work.Halt.{Halt}
 use Rattle.fux_run.specs.declared.work.Halt.TheVariants as halt
-use Rattle.fux_run.specs.declared.work.Output.{Output}
-use Rattle.fux_run.specs.declared.work.Stop.{Stop}
 use Rattle.fux_run.specs.declared.work.Stop.TheVariants as stop
 use Rattle.fux_run.specs.declared.work.Verdict.{Verdict}
 use Rattle.fux_run.specs.declared.work.Verdict.TheVariants.{Favorable, Unfavorable, Spent}
-use Rattle.fux_run.specs.Certified.{Certifies, CertifiesHead, IsCertificateOf, RefusesCertifying}
+use Rattle.fux_run.specs.Certified.{Certifies, CertifiesHead, IsCertificateOf}
 use Rattle.fux_run.specs.Composed.{IsBoundText, bound_line}
 use Rattle.fux_run.specs.Runs.{Does, Ended, IsWritten, SaysWritten, Writes, work_output}
 use Rattle.fux_run.specs.declared.searching.Found.TheVariants as found
-use Rattle.fux_run.specs.Searched.{IsBestFound, IsBound, IsFound, IsNarrow, IsSpaceOf, RefusesWidth}
-use Rattle.fux_run.specs.Sheets.{ReadsSheet, sheet_said}
-use Rattle.fux_run.specs.Texts.{IsTheText, ReadsText, Work}
+use Rattle.fux_run.specs.Searched.{IsBestFound, IsBound, IsFound, IsNarrow, IsSpaceOf}
+use Rattle.fux_run.specs.Sheets.{sheet_said}
+use Rattle.fux_run.specs.Texts.{IsTheText, Work}
 
 within : (bytes : List ℕ) → (1073741824 < length bytes → ⊥) → length bytes ≤ 1073741824
 within bytes short = elim (leb_tells (length bytes) 1073741824) [ inl few ↦ few.1 | inr many ↦ absurd (short many.1) ]
@@ -261,20 +258,6 @@ of_texts files name sheet budget text weights cut old new answer wrote (bytes �
 of_texts files name sheet budget text weights cut old new answer wrote [] content = absurd content
 
 -- ---- the texts of an exercise and of a sheet
-
-pub no_text : (budget : ℕ) (sheets : List (List ℕ)) (bytes : List ℕ) (cut : Type 0) (old : Option (List ℕ)) (why : Stop)
-    → ReadsText bytes (Err why) → Writes (CertifiesText budget sheets bytes) cut old old (Err (halt.Stopped why))
-no_text budget sheets bytes cut old (stop.Refused said) reads =
-    (refl, inr record { refusal = said; is = refl; cause = reads })
-no_text budget sheets bytes cut old stop.Memory reads = refl
-
-pub no_sheet : (budget : ℕ) (sheets : List (List ℕ)) (bytes : List ℕ) (ex : Exercise) (cut : Type 0)
-    (old : Option (List ℕ)) (why : Stop)
-    → IsTheText bytes ex → ReadsSheet sheets (Err why)
-    → Writes (CertifiesText budget sheets bytes) cut old old (Err (halt.Stopped why))
-no_sheet budget sheets bytes ex cut old (stop.Refused said) text reads =
-    (refl, inl record { exercise = ex; text = text; made = inr record { refusal = said; is = refl; cause = reads } })
-no_sheet budget sheets bytes ex cut old stop.Memory text reads = refl
 
 pub of_sheet : (budget : ℕ) (sheets : List (List ℕ)) (bytes : List ℕ) (ex : Exercise) (sheet : Sheet) (cut : Type 0)
     (old new : Option (List ℕ)) (answer : Result Verdict Halt) → IsTheText bytes ex → sheet_said sheets ≡ Ok sheet

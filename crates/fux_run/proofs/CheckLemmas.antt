@@ -22,7 +22,7 @@ use Rattle.fux_run.specs.declared.work.Unmade.TheVariants as unmade
 use Rattle.fux_run.specs.declared.work.Verdict.{Verdict}
 use Rattle.fux_run.specs.declared.work.Verdict.TheVariants.{Favorable, Unfavorable}
 use Rattle.fux_run.specs.Checked.{AnswersWithin, IsAccepted, IsChecked, Judges, told}
-use Rattle.fux_run.specs.Commands.{Task, as_list, certify, check, drill, fromsmf, limit_in, name_in, names_in, names_within, on_exercise}
+use Rattle.fux_run.specs.Commands.{Task, as_list, certify, check, drill, fromsmf, names_in, names_within, on_exercise}
 use Rattle.fux_run.specs.Runs.{IsMade, IsRefused, IsWritten, SaysWithin, work_output}
 use Rattle.fux_run.specs.Searched.{IsNarrow}
 use Rattle.fux_run.specs.Texts.{Work}

@@ -1,7 +1,9 @@
+pub mod AskedLemmas
 pub mod BestLemmas
 pub mod CertifyLemmas
 pub mod CheckLemmas
 pub mod ContentLemmas
+pub mod FormLemmas
 pub mod FrontLemmas
 pub mod MakeLemmas
 pub mod RunLemmas
@@ -9,5 +11,4 @@ pub mod SimpleForms
 pub mod SinkLemmas
 pub mod Taken
 pub mod TextFaults
-pub mod TextLemmas
 pub mod WorkLemmas

@@ -1,6 +1,6 @@
 -- What a command makes, from what was read of its files and what it answers to that (`made_said`), and where the file of its sheet
 -- can't be read (`sheet_unread`).
-use Rattle.std.proofs.Common.{◌≡◌, ◌⊎◌, ℕ, List, [], ◌∷◌, Bor, Option, Some, None, option_map, Result, Ok, Err, inl, inr, refl, sym, subst, arith}
+use Rattle.std.proofs.Common.{◌≡◌, ◌⊎◌, ℕ, List, [], ◌∷◌, Bor, Option, Some, None, Result, Ok, Err, inl, inr, refl, sym, subst, arith}
 use Rattle.fux_port.specs.Files.{IsMissing}
 use Rattle.fux_grid.specs.declared.exercise.Head.{Head}
 use Rattle.fux_run.specs.declared.complaint.Complaint.{Complaint}
@@ -15,7 +15,7 @@ use Rattle.fux_run.specs.Drilled.{Drills}
 use Rattle.fux_run.specs.Played.{ReadsMidi}
 use Rattle.fux_run.specs.Runs.{IsMade, IsRefused, IsUnread, Says}
 use Rattle.fux_run.specs.Texts.{Work}
-use Rattle.fux_run.specs.Works.{AllMayHave, Answers, AreContents, AreRead, Files, IsContent, IsRead, Makes, MakesOfText, Reads, ReadsSheetFile, Works}
+use Rattle.fux_run.specs.Works.{AllMayHave, Answers, AreContents, AreRead, Files, IsContent, IsRead, Makes, MakesOfText, ReadsSheetFile, Works}
 use Rattle.fux_run.proofs.WorkLemmas.{not_missing}
 
 -- the bytes of files that were read
@@ -93,10 +93,6 @@ of_none files number (Err (stop.Refused refusal)) made [] content = made
 of_none files number (Err stop.Memory) made all content = tt
 of_none files number (Ok output) made (bytes ∷ all) content = absurd content
 of_none files number (Err (stop.Refused refusal)) made (bytes ∷ all) content = absurd content
-
--- the name of a sheet, as its bytes
-abbrev pub sheet_named : Option (Bor (List ℕ)) → Option (List ℕ)
-sheet_named = option_map (λ name. name.now)
 
 -- ---- files that can't be read
 

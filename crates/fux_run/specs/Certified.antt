@@ -1,7 +1,10 @@
 -- What `certify` makes of an exercise, over a sheet of weights.
-use Rattle.std.specs.Prelude.{◌≡◌, ◌≢◌, ℕ, ◌<◌, ◌≤◌, List, Ok, Err, length}
+use Rattle.std.specs.Prelude.{◌≡◌, ◌≢◌, ℕ, ◌<◌, ◌≤◌, List, Option, Ok, Err, length}
+use Rattle.std.specs.Borrow.{Bor}
 use Rattle.cert_law.specs.Certificates.{IsCertificate}
 use Rattle.cert_law.specs.Writer.{claims_of, written_certificate}
+use Rattle.cert_writer.specs.Heads.{head_with}
+use Rattle.floor_tables.specs.Tables.{Task}
 use Rattle.cert_text.specs.declared.answers.CertHead.{CertHead}
 use Rattle.cert_text.specs.declared.answers.CertHead.TheVariants.{Best, Nothing}
 use Rattle.fux_grid.specs.declared.exercise.Exercise.{Exercise}
@@ -73,3 +76,7 @@ CertifiesHead ex sheet head verdict (Err LongCertificate) =
     IsCertificateOf ex sheet head (written_certificate ex sheet head)
     × (1073741824 < length (written_certificate ex sheet head))
 CertifiesHead ex sheet head verdict (Err refusal) = ⊥
+
+-- the same of what a search of a space found
+abbrev pub CertifiesFound : Task → Option (Bor Grid × ℕ) → Verdict → Work → Type 0
+CertifiesFound space best verdict = CertifiesHead space.exercise space.sheet (head_with best) verdict

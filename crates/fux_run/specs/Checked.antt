@@ -1,5 +1,5 @@
 -- What `check` makes of an exercise and the file of a certificate, over a sheet of weights.
-use Rattle.std.specs.Prelude.{◌≡◌, ℕ, List, Result, Ok, Err}
+use Rattle.std.specs.Prelude.{◌≡◌, ℕ, ◌⊎◌, List, Result, Ok, Err}
 use Rattle.cert_check.specs.Checking.{accepted_of}
 use Rattle.cert_law.specs.Certificates.{Holds}
 use Rattle.cert_reading.specs.Readings.{Files, MayBe}
@@ -10,7 +10,8 @@ use Rattle.cert_verdict.specs.declared.verdict.Verdict.{Verdict as CertVerdict}
 use Rattle.cert_verdict.specs.declared.verdict.Verdict.TheVariants.{Accepted, Claim, Text}
 use Rattle.cert_verdict.specs.Verdicts.{verdict_line}
 use Rattle.fux_grid.specs.declared.exercise.Exercise.{Exercise}
-use Rattle.fux_port.specs.Files.{HasFile}
+use Rattle.fux_port.specs.Counts.{Rose}
+use Rattle.fux_port.specs.Files.{HasFile, IsMissing}
 use Rattle.penalty_sheet.specs.declared.sheet.Sheet.{Sheet}
 use Rattle.fux_run.specs.declared.work.Output.{Output}
 use Rattle.fux_run.specs.declared.work.Stop.TheVariants.{Refused, Memory}
@@ -74,3 +75,14 @@ AnswersWithin Made Unread (Ok output) = Made (Ok output)
 AnswersWithin Made Unread (Err (Stopped (Refused refusal))) = Made (Err refusal)
 AnswersWithin Made Unread (Err (Stopped Memory)) = Unit {0}
 AnswersWithin Made Unread (Err Unreadable) = Unread
+
+-- a read failed by the shelf's fault, or no file has the name
+abbrev pub IsUnreadable : {F : Type 0} → (F → Files) → (F → ℕ) → List ℕ → F → F → Type 0
+IsUnreadable files faults name old new = Rose (faults old) (faults new) ⊎ IsMissing (files old) name
+
+-- `check` answers so to an exercise and the certificate in a file, over the sheet in use
+abbrev pub ChecksOn : {F : Type 0} → (F → Files) → (F → ℕ) → List ℕ → Sheet → Exercise → F → F → Result Output Unmade
+    → Type 0
+ChecksOn files faults certificate sheet ex old new answer =
+    AnswersWithin (Checks (files old) certificate sheet ex)
+    (IsNarrow ex × IsUnreadable files faults certificate old new) answer

@@ -1,5 +1,6 @@
 -- What the words on the command line ask for. A word is its bytes.
 use Rattle.std.specs.Prelude.{ℕ, ◌==◌, Bool, true, false, List, [], ◌∷◌, String, Option, Some, None, map, string_bytes, codes, if◌then◌else◌, option_and_then, option_map}
+use Rattle.std.specs.Borrow.{Bor}
 use Rattle.std.specs.Option.{option_map_or}
 use Rattle.std.specs.Str.{bytes_eq}
 use Rattle.clap.specs.Simple.{on_top}
@@ -28,16 +29,20 @@ pub data Task : Type 0 where
   fromsmf : (name : Text) (head : Head) → Task
   drill : (number : ℕ) → Task
 
+-- the name of a sheet, as its bytes
+abbrev pub sheet_named : Option (Bor (List ℕ)) → Option (List ℕ)
+sheet_named = option_map (λ name. name.now)
+
 -- what a command asks for
 abbrev pub making_task : Making → Task
-making_task (OnExercise name sheet job) = on_exercise name.now (option_map (λ text. text.now) sheet) job
-making_task (Check name certificate sheet) = check name.now certificate.now (option_map (λ text. text.now) sheet)
+making_task (OnExercise name sheet job) = on_exercise name.now (sheet_named sheet) job
+making_task (Check name certificate sheet) = check name.now certificate.now (sheet_named sheet)
 making_task (FromSmf name head) = fromsmf name.now head
 making_task (Drill number) = drill number
 
 abbrev pub task_of : Command → Task
 task_of (Make making) = making_task making
-task_of (Certify name sheet budget) = certify name.now (option_map (λ text. text.now) sheet) budget
+task_of (Certify name sheet budget) = certify name.now (sheet_named sheet) budget
 
 -- the head of a command is one that an exercise may have
 abbrev pub HasMidiHead : Making → Type 0
@@ -179,6 +184,10 @@ drill_asked rows = number_at (codes "N") 0 1000000 rows >>= λ number. Some (dri
 abbrev pub asked_by : App → (List Row → Option Task) → List Text → Option Task
 asked_by form asks words = found_in form words >>= asks
 
+-- what a search asks for in the words behind its name
+abbrev pub search_in : Text → (List Row → Option Task) → List Text → Option Task
+search_in name asks = asked_by (search_words name) asks
+
 -- what a job asks for in the words behind its name
 abbrev pub job_in : Text → Job → List Text → Option Task
 job_in name job = asked_by (exercise_words name) (job_asked job)
@@ -187,8 +196,8 @@ job_in name job = asked_by (exercise_words name) (job_asked job)
 abbrev pub asked : List Text → Option Task
 asked [] = None
 asked (word ∷ rest) =
-    if bytes_eq word (codes "compose") then asked_by (search_words (codes "compose")) compose_asked rest
-    else (if bytes_eq word (codes "certify") then asked_by (search_words (codes "certify")) certify_asked rest
+    if bytes_eq word (codes "compose") then search_in (codes "compose") compose_asked rest
+    else (if bytes_eq word (codes "certify") then search_in (codes "certify") certify_asked rest
     else (if bytes_eq word (codes "check") then asked_by check_words check_asked rest
     else (if bytes_eq word (codes "mark") then job_in (codes "mark") Mark rest
     else (if bytes_eq word (codes "cantus") then job_in (codes "cantus") Cantus rest

@@ -1,5 +1,5 @@
 -- What `compose` makes of an exercise, over a sheet of weights.
-use Rattle.std.specs.Prelude.{◌≡◌, ℕ, List, [], ◌∷◌, ◌++◌, Ok, Err, codes}
+use Rattle.std.specs.Prelude.{◌≡◌, ℕ, List, [], ◌∷◌, ◌++◌, Result, Ok, Err, IfOk, codes}
 use Rattle.std.specs.Fmt.{decimal}
 use Rattle.fux_grid.specs.declared.cell.Cell.{Cell}
 use Rattle.fux_grid.specs.declared.exercise.Exercise.{Exercise}
@@ -7,10 +7,11 @@ use Rattle.fux_grid.specs.Exercises.{HasCantus}
 use Rattle.penalty_sheet.specs.declared.sheet.Sheet.{Sheet}
 use Rattle.fux_text.specs.Lines.{setting_text}
 use Rattle.species_space.specs.Loads.{IsBestWithin, IsNothingWithin}
+use Rattle.fux_run.specs.declared.searching.Found.{Found}
 use Rattle.fux_run.specs.declared.work.Output.{Output}
 use Rattle.fux_run.specs.declared.work.Verdict.{Verdict}
 use Rattle.fux_run.specs.declared.work.Verdict.TheVariants.{Favorable, Unfavorable, Spent}
-use Rattle.fux_run.specs.Searched.{IsBound, IsNarrow, RefusesWidth}
+use Rattle.fux_run.specs.Searched.{IsBound, IsFound, IsNarrow, RefusesWidth}
 use Rattle.fux_run.specs.Texts.{Work}
 
 -- the line that tells a penalty
@@ -64,3 +65,9 @@ pub record IsComposition (budget : ℕ) (sheet : Sheet) (ex : Exercise) (output 
 abbrev pub Composes : ℕ → Sheet → Exercise → Work → Type 0
 Composes budget sheet ex (Ok output) = IsComposition budget sheet ex output
 Composes budget sheet ex (Err refusal) = RefusesWidth ex refusal
+
+-- what is written of what was found tells of it, by whichever sheet and within whichever budget that was found
+abbrev pub TellsFound : {Y : Type 0} → Exercise → Found → Result Output Y → Type 0
+TellsFound ex found result =
+    (sheet : Sheet) (budget : ℕ) → IsFound ex sheet budget found
+    → IfOk result (λ output. Tells ex sheet budget output.verdict output.bytes)

@@ -9,11 +9,12 @@ use Rattle.drill_exercise.specs.Drill.{IsDrill}
 use Rattle.species_space.specs.Loads.{IsBestWithin}
 use Rattle.score_marker.specs.declared.mark.Mark.{Mark}
 use Rattle.score_marker.specs.Marks.{AreMarks}
+use Rattle.fux_run.specs.declared.searching.Found.{Found}
 use Rattle.fux_run.specs.declared.work.Output.{Output}
 use Rattle.fux_run.specs.declared.work.Verdict.{Verdict}
 use Rattle.fux_run.specs.declared.work.Verdict.TheVariants.{Favorable, Unfavorable, Spent}
 use Rattle.fux_run.specs.Composed.{TellsBound, TellsNone}
-use Rattle.fux_run.specs.Searched.{IsNarrow, RefusesWidth, usual_sheet}
+use Rattle.fux_run.specs.Searched.{IsFound, IsNarrow, RefusesWidth, usual_sheet}
 use Rattle.fux_run.specs.Texts.{Work}
 
 -- the first two lines: the number, and the cantus of its exercise
@@ -46,12 +47,24 @@ pub record HasLineMore (TellsSo : List ℕ → Type 0) (before after : List ℕ)
   pub tells : TellsSo line
   pub longer : after ≡ before ++ line
 
+-- what was found for a drill: over the usual weights, within its budget
+abbrev pub IsDrillFound : Exercise → Found → Type 0
+IsDrillFound ex found = IsFound ex usual_sheet 200000 found
+
+-- a text has the line more that tells of what was found
+abbrev pub AddsDrillLine : Exercise → List ℕ → List ℕ → Verdict → Type 0
+AddsDrillLine ex before after verdict = HasLineMore (TellsDrill ex verdict) before after
+
+-- an output has the heading of an exercise and its number, and that line
+abbrev pub HasDrillLines : ℕ → Exercise → Output → Type 0
+HasDrillLines number ex output = AddsDrillLine ex (drill_heading number ex) output.bytes output.verdict
+
 -- an output on the exercise of a number
 pub record IsDrilled (number : ℕ) (output : Output) : Type 0 where
   pub exercise : Exercise
   pub drilled : IsDrill number exercise
   pub narrow : IsNarrow exercise
-  pub lines : HasLineMore (TellsDrill exercise output.verdict) (drill_heading number exercise) output.bytes
+  pub lines : HasDrillLines number exercise output
 
 -- `drill` makes this of a number
 abbrev pub Drills : ℕ → Work → Type 0

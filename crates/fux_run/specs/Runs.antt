@@ -1,8 +1,11 @@
 -- How a run ends.
-use Rattle.std.specs.Prelude.{◌≡◌, ℕ, ◌⊎◌, List, [], ◌++◌, Contains, Option, None, Some, Result, Ok, Err, codes}
+use Rattle.std.specs.Prelude.{◌≡◌, ℕ, ◌⊎◌, List, [], ◌++◌, Contains, String, Option, None, Some, Result, Ok, Err, codes}
+use Rattle.std.specs.Borrow.{Bor}
+use Rattle.fux_port.specs.Counts.{Rose}
 use Rattle.fux_port.specs.Written.{appended, StopsShort}
 use Rattle.fux_run.specs.declared.complaint.Complaint.{Complaint}
 use Rattle.fux_run.specs.declared.complaint.Complaint.TheVariants as complaint
+use Rattle.fux_run.specs.declared.content.Content.{Content}
 use Rattle.fux_run.specs.declared.status.Status.{Status}
 use Rattle.fux_run.specs.declared.status.Status.TheVariants.{Favorable, Unfavorable, Usage, Refused, Unreadable, Unwritable, Spent, OutOfMemory}
 use Rattle.fux_run.specs.declared.refusal.Refusal.{Refusal}
@@ -15,11 +18,11 @@ use Rattle.fux_run.specs.declared.work.Stop.TheVariants as stop
 use Rattle.fux_run.specs.declared.work.Unmade.{Unmade}
 use Rattle.fux_run.specs.declared.work.Unmade.TheVariants as unmade
 use Rattle.fux_run.specs.declared.work.Verdict.{Verdict}
-use Rattle.fux_run.specs.Commands.{Task, name_in, names_in, names_within}
+use Rattle.fux_run.specs.Commands.{Task, asked, certify, name_in, names_in, names_within, sheet_named, texts}
 use Rattle.fux_run.specs.Complaints.{complaint_status, complaint_text, fux_line, refusal_text}
 use Rattle.fux_run.specs.Statuses.{code_of, verdict_status}
 use Rattle.fux_run.specs.Texts.{Work}
-use Rattle.fux_run.specs.Works.{Works, Files, IsFirstMissing, ReadsOn}
+use Rattle.fux_run.specs.Works.{CertifiesText, Works, Files, IsFirstMissing, OnTexts, ReadsOn}
 
 -- the status of work
 abbrev pub work_status : Work → Status
@@ -131,6 +134,11 @@ abbrev pub EndedAs : Option Task → Files → Type 0 → Type 0 → Option (Lis
 EndedAs None files rose cut old new result = (new ≡ old) × IsNoTask result
 EndedAs (Some task) files rose cut old new result = Ended task files rose cut old new result
 
+-- how a run on these words ended
+abbrev pub EndedBy : {Y : Type 0} → List (String Y) → Files → Type 0 → Type 0 → Option (List ℕ) → Option (List ℕ)
+    → Result Verdict Complaint → Type 0
+EndedBy words = EndedAs (asked (texts words))
+
 -- a complaint that says this of a refused file, where memory isn't wanting
 abbrev pub SaysRefusal : List ℕ → Complaint → Type 0
 SaysRefusal said (complaint.Refused text) = text ≡ said
@@ -169,3 +177,29 @@ SaysWritten name (Err (Stopped (stop.Refused refusal))) (Err complaint) =
 SaysWritten name (Err (Stopped (stop.Refused refusal))) (Ok verdict) = ⊥
 SaysWritten name (Err (Stopped stop.Memory)) told = told ≡ Err complaint.OutOfMemory
 SaysWritten name (Err halt.Unwritable) told = told ≡ Err complaint.Unwritable
+
+-- how a run ended, by what the shelf and standard output tell before it and after it
+abbrev pub EndsOn : {F K : Type 0} → (F → Files) → (F → ℕ) → (K → Option (List ℕ)) → (K → ℕ)
+    → (Files → Type 0 → Type 0 → Option (List ℕ) → Option (List ℕ) → Result Verdict Complaint → Type 0)
+    → F → F → K → K → Result Verdict Complaint → Type 0
+EndsOn files faults written cuts Ends shelf later out end result =
+    Ends (files shelf) (Rose (faults shelf) (faults later)) (Rose (cuts out) (cuts end)) (written out) (written end)
+    result
+
+-- how `certify` on files of these names, within a budget, ended
+abbrev pub CertifyEnds : {F K : Type 0} → (F → Files) → (F → ℕ) → (K → Option (List ℕ)) → (K → ℕ)
+    → Bor (List ℕ) → Option (Bor (List ℕ)) → ℕ → F → F → K → K → Result Verdict Complaint → Type 0
+CertifyEnds files faults written cuts name sheet budget =
+    EndsOn files faults written cuts (Ended (certify name.now (sheet_named sheet) budget))
+
+-- the answer of a command that writes to standard output while it works, by what that tells before it and after it
+abbrev pub WritesTo : {K : Type 0} → (K → Option (List ℕ)) → (K → ℕ) → (Work → Type 0) → K → K → Result Verdict Halt
+    → Type 0
+WritesTo written faults Made old new answer =
+    Writes Made (Rose (faults old) (faults new)) (written old) (written new) answer
+
+-- the answer of `certify` to the texts that were read of an exercise and of a sheet
+abbrev pub CertifiesTexts : {K : Type 0} → (K → Option (List ℕ)) → (K → ℕ) → ℕ → Content → Option Content → K → K
+    → Result Verdict Halt → Type 0
+CertifiesTexts written faults budget text weights old new answer =
+    OnTexts text weights (λ bytes sheets. WritesTo written faults (CertifiesText budget sheets bytes) old new answer)

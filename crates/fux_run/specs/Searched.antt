@@ -1,5 +1,5 @@
 -- What a search for the best setting of an exercise finds, over a sheet of weights.
-use Rattle.std.specs.Prelude.{◌≡◌, ℕ, ◌<◌, ◌≤◌, Result, Ok, Err, length}
+use Rattle.std.specs.Prelude.{◌≡◌, ℕ, ◌<◌, ◌≤◌, List, Result, Ok, Err, length}
 use Rattle.fux_grid.specs.declared.exercise.Exercise.{Exercise}
 use Rattle.fux_grid.specs.Exercises.{HasCantus, IsComplete, columns_in}
 use Rattle.fux_grid.specs.Grid.{Grid}
@@ -7,6 +7,8 @@ use Rattle.fux_grid.specs.Menus.{menu_of}
 use Rattle.penalty_sheet.specs.declared.sheet.Sheet.{Sheet}
 use Rattle.penalty_sheet.specs.Weights.{default_weights}
 use Rattle.species_space.specs.Loads.{IsBestWithin, IsLeastOver, IsNothingWithin, IsOverBudget}
+use Rattle.species_space.specs.Paths.{live_at, prefix_at}
+use Rattle.tree_search.specs.Answer.{IsFirstLeast}
 use Rattle.floor_tables.specs.Tables.{IsTooWide, Task}
 use Rattle.fux_run.specs.declared.refusal.Refusal.{Refusal}
 use Rattle.fux_run.specs.declared.refusal.Refusal.TheVariants.{TooWide}
@@ -65,3 +67,16 @@ abbrev pub Finds : Exercise → Sheet → ℕ → Result Found Stop → Type 0
 Finds ex sheet budget (Ok found) = IsNarrow ex × IsFound ex sheet budget found
 Finds ex sheet budget (Err (Refused refusal)) = RefusesWidth ex refusal
 Finds ex sheet budget (Err Memory) = Unit {0}
+
+-- a path leads to the first setting of least penalty
+abbrev pub IsFirstPath : Task → List ℕ → ℕ → Type 0
+IsFirstPath space = IsFirstLeast (live_at space.exercise space.sheet) (columns_in space.exercise)
+
+-- a path leads to the best setting, whose load is within the budget
+abbrev pub IsBestPath : Task → ℕ → List ℕ → ℕ → Type 0
+IsBestPath space budget path penalty =
+    IsBestWithin space.exercise space.sheet budget (prefix_at space.exercise path) penalty
+
+-- the score is that setting
+abbrev pub IsBestScore : Task → ℕ → ℕ → Grid → Type 0
+IsBestScore space budget penalty score = IsBestFound space.exercise space.sheet budget score penalty

@@ -1,5 +1,5 @@
 -- What the commands make of their files.
-use Rattle.std.specs.Prelude.{◌≡◌, ℕ, ◌<◌, ◌⊎◌, List, [], ◌∷◌, Option, Some, None, Result, Ok, Err, length}
+use Rattle.std.specs.Prelude.{◌≡◌, ℕ, ◌<◌, ◌⊎◌, List, [], ◌∷◌, All, Option, Some, None, Result, Ok, Err, length}
 use Rattle.fux_grid.specs.declared.exercise.Exercise.{Exercise}
 use Rattle.fux_port.specs.Files.{file_of, HasFile, IsMissing}
 use Rattle.fux_run.specs.declared.complaint.Complaint.{Complaint}
@@ -7,13 +7,14 @@ use Rattle.fux_run.specs.declared.complaint.Complaint.TheVariants as complaint
 use Rattle.fux_run.specs.declared.content.Content.{Content}
 use Rattle.fux_run.specs.declared.content.Content.TheVariants.{Whole, TooLong}
 use Rattle.fux_run.specs.declared.work.Output.{Output}
+use Rattle.fux_run.specs.declared.work.Unmade.{Unmade}
 use Rattle.fux_run.specs.declared.work.Stop.{Stop}
 use Rattle.fux_run.specs.declared.work.Stop.TheVariants.{Refused, Memory}
 use Rattle.fux_run.specs.declared.command.Job.{Job}
 use Rattle.fux_run.specs.declared.command.Job.TheVariants.{Compose, Mark, Cantus, Print, ToSmf}
 use Rattle.penalty_sheet.specs.declared.sheet.Sheet.{Sheet}
 use Rattle.fux_run.specs.Certified.{Certifies}
-use Rattle.fux_run.specs.Checked.{Checks}
+use Rattle.fux_run.specs.Checked.{AnswersWithin, Checks, IsUnreadable}
 use Rattle.fux_run.specs.Commands.{Task, on_exercise, certify, check, fromsmf, drill, as_list, names_in}
 use Rattle.fux_run.specs.Composed.{Composes}
 use Rattle.fux_run.specs.Drilled.{Drills}
@@ -101,6 +102,10 @@ pub record ReadsOn (task : Task) (files : Files) : Type 0 where
   pub had : AllMayHave files (names_in task) bytes
   pub ready : IsReadyFor task bytes
 
+-- there is a file of each of these names
+abbrev pub AreThere : Files → List (List ℕ) → Type 0
+AreThere files names = All (λ name. (file : List ℕ) × HasFile files name file) names
+
 -- a name is the first of these that is missing
 abbrev pub IsFirstMissing : Files → List (List ℕ) → List ℕ → Type 0
 IsFirstMissing files [] name = ⊥
@@ -143,3 +148,17 @@ abbrev pub ReadsSheetFile : Files → Type 0 → Option (List ℕ) → Result (O
 ReadsSheetFile files rose named (Ok content) = AreRead 65536 files (as_list named) (as_list content)
 ReadsSheetFile files rose (Some name) (Err complaint) = Reads 65536 files rose name (Err complaint)
 ReadsSheetFile files rose None (Err complaint) = ⊥
+
+-- a fact of the bytes that were read of the text of an exercise, and of the file of a sheet where one is given
+abbrev pub OnTexts : Content → Option Content → (List ℕ → List (List ℕ) → Type 0) → Type 0
+OnTexts text weights Told =
+    (bytes : List ℕ) (sheets : List (List ℕ)) → IsContent 65536 text bytes → AreContents 65536 (as_list weights) sheets
+    → Told bytes sheets
+
+-- `check` answers so to these texts, and to the certificate in a file
+abbrev pub ChecksTexts : {F : Type 0} → (F → Files) → (F → ℕ) → List ℕ → Content → Option Content → F → F
+    → Result Output Unmade → Type 0
+ChecksTexts files faults certificate text weights old new answer =
+    OnTexts text weights (λ bytes sheets.
+    AnswersWithin (ChecksText (files old) certificate sheets bytes)
+    (IsReadyText sheets bytes × IsUnreadable files faults certificate old new) answer)

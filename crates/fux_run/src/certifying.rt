@@ -3,10 +3,9 @@
 ghost use Rattle.cert_law.specs.Certificates.{Holds};
 ghost use Rattle.cert_writer.specs.Heads.{head_with};
 ghost use Rattle.fux_grid.specs.Exercises.{IsValid};
-ghost use Rattle.fux_port.specs.Counts.{Rose};
-ghost use Rattle.fux_run.specs.Certified.{Certifies, CertifiesHead};
+ghost use Rattle.fux_run.specs.Certified.{Certifies, CertifiesFound};
 ghost use Rattle.fux_run.specs.Composed.{IsBoundText};
-ghost use Rattle.fux_run.specs.Runs.{Writes};
+ghost use Rattle.fux_run.specs.Runs.{WritesTo};
 
 use crate::composing::bound_text;
 use crate::refusal::Refusal;
@@ -30,8 +29,7 @@ pub fn certify<K: Sink, R: Threads + Sync>(
     out: &mut K,
 ) -> Result<Verdict, Halt>
     requires { IsValid exercise.now }
-    ensures { Writes (Certifies budget sheet.now exercise.now) (Rose (K.faults out.old) (K.faults out.new))
-        (K.written out.old) (K.written out.new) result }
+    ensures { WritesTo K.written K.faults (Certifies budget sheet.now exercise.now) out.old out.new result }
 {
     let space = space_of(rt, alloc, exercise, sheet)?;
     let Ok(found) = search(alloc, &space, budget) else {
@@ -62,8 +60,7 @@ fn put_certificate<K: Sink>(
 ) -> Result<Verdict, Halt>
     requires valid { IsValid space.now.exercise }
     requires holds { Holds space.now.exercise space.now.sheet (head_with best) }
-    ensures { Writes (CertifiesHead space.now.exercise space.now.sheet (head_with best.entry) verdict)
-        (Rose (K.faults out.old) (K.faults out.new)) (K.written out.old) (K.written out.new) result }
+    ensures { WritesTo K.written K.faults (CertifiesFound space.now best.entry verdict) out.old out.new result }
 {
     match species_space::certify(alloc, space, best, out) {
         Ok(()) => Ok(verdict),
@@ -75,8 +72,7 @@ fn put_certificate<K: Sink>(
 
 /// Writes the line of a bound.
 fn put_bound<K: Sink>(alloc: Global, bound: u64, out: &mut K) -> Result<Verdict, Halt>
-    ensures { Writes (IsBoundText bound) (Rose (K.faults out.old) (K.faults out.new))
-        (K.written out.old) (K.written out.new) result }
+    ensures { WritesTo K.written K.faults (IsBoundText bound) out.old out.new result }
 {
     let Ok(text) = bound_text(alloc, bound) else {
         return Err(Halt::Stopped(Stop::Memory));

@@ -1,11 +1,9 @@
 //! The command `check`.
 
-ghost use Rattle.std.specs.Prelude.{◌≡◌, ◌<◌, ◌≤◌, ◌⊎◌, IfErr, IfOk, OnOk};
+ghost use Rattle.std.specs.Prelude.{◌≡◌, ◌<◌, ◌≤◌, IfErr, IfOk, OnOk};
 ghost use Rattle.cert_verdict.specs.declared.verdict.Verdict.{Verdict as AVerdict};
 ghost use Rattle.fux_grid.specs.Exercises.{IsValid, bar_of, slot_of};
-ghost use Rattle.fux_port.specs.Counts.{Rose};
-ghost use Rattle.fux_port.specs.Files.{IsMissing};
-ghost use Rattle.fux_run.specs.Checked.{AnswersWithin, Checks, told, verdict_on};
+ghost use Rattle.fux_run.specs.Checked.{ChecksOn, told, verdict_on};
 ghost use Rattle.fux_run.specs.Searched.{IsNarrow, RefusesWidth};
 
 use crate::refusal::Refusal;
@@ -28,9 +26,7 @@ pub fn check<F: Shelf, R: Threads + Sync>(
     certificate: &str,
 ) -> Result<Output, Unmade>
     requires { IsValid exercise.now }
-    ensures checks { AnswersWithin (Checks (F.files shelf.old) certificate.now sheet.now exercise.now)
-        (IsNarrow exercise.now × (Rose (F.faults shelf.old) (F.faults shelf.new) ⊎ IsMissing (F.files shelf.old) certificate.now))
-        result }
+    ensures checks { ChecksOn F.files F.faults certificate.now sheet.now exercise.now shelf.old shelf.new result }
     ensures files { F.files shelf.new ≡ F.files shelf.old }
     ensures faults { F.faults shelf.old ≤ F.faults shelf.new }
 {

@@ -2,7 +2,7 @@
 
 ghost use Rattle.std.specs.Prelude.{◌≡◌, IfOk, IfSome, codes, option_map, true};
 ghost use Rattle.clap.specs.Words.{app_of, found_of, is_simple_and_free, rows_of};
-ghost use Rattle.fux_run.specs.Commands.{HasHead, asked, asked_by, certify_asked, check_asked, check_words, compose_asked, drill_asked, drill_words, found_in, fromsmf_asked, fromsmf_words, job_in, search_words, task_of, texts};
+ghost use Rattle.fux_run.specs.Commands.{HasHead, asked, asked_by, certify_asked, check_asked, check_words, compose_asked, drill_asked, drill_words, found_in, fromsmf_asked, fromsmf_words, job_in, search_in, task_of, texts};
 
 use crate::forms::{check_form, drill_form, exercise_form, from_smf_form, search_form};
 use crate::values::{certifying, checking, composing, drilling, job_on, smf_reading};
@@ -13,7 +13,7 @@ use fux_pitch::Memory;
 use std::alloc::Global;
 
 /// What is to be made of an exercise.
-#[derive(Clone, Copy, Debug, PartialEq, Eq)]
+#[derive(Clone, Copy)]
 pub enum Job {
     /// Its best setting, found within this budget.
     Compose { budget: u32 },
@@ -28,7 +28,7 @@ pub enum Job {
 }
 
 /// What is to be made whole before any of it is written, and the names of the files that it is to be made of.
-#[derive(Clone, Copy, Debug, PartialEq, Eq)]
+#[derive(Clone, Copy)]
 pub enum Making<'a> {
     /// Something made of the exercise in a file, over the sheet of weights in another where one is named.
     OnExercise {
@@ -54,7 +54,7 @@ pub enum Making<'a> {
 }
 
 /// What the words ask for.
-#[derive(Clone, Copy, Debug, PartialEq, Eq)]
+#[derive(Clone, Copy)]
 pub enum Command<'a> {
     /// What is made whole before any of it is written.
     Make(Making<'a>),
@@ -92,7 +92,7 @@ pub fn parse(alloc: Global, words: &[String]) -> Result<Option<Command<'_>>, Mem
 /// The words behind `compose`.
 fn parse_compose(alloc: Global, words: &[String]) -> Result<Option<Command<'_>>, Memory>
     ensures asked { IfOk result (λ found. option_map task_of found
-        ≡ asked_by (search_words (codes "compose")) compose_asked (texts words.now)) }
+        ≡ search_in (codes "compose") compose_asked (texts words.now)) }
     ensures head { IfOk result (λ found. IfSome found HasHead) }
 {
     let Some(matches) = taken(search_form(alloc, "compose")?, words)? else {
@@ -104,7 +104,7 @@ fn parse_compose(alloc: Global, words: &[String]) -> Result<Option<Command<'_>>,
 /// The words behind `certify`.
 fn parse_certify(alloc: Global, words: &[String]) -> Result<Option<Command<'_>>, Memory>
     ensures asked { IfOk result (λ found. option_map task_of found
-        ≡ asked_by (search_words (codes "certify")) certify_asked (texts words.now)) }
+        ≡ search_in (codes "certify") certify_asked (texts words.now)) }
     ensures head { IfOk result (λ found. IfSome found HasHead) }
 {
     let Some(matches) = taken(search_form(alloc, "certify")?, words)? else {

@@ -1,11 +1,10 @@
 //! The command `compose`.
 
-ghost use Rattle.std.specs.Prelude.{◌≡◌, ℕ, ◌++◌, IfOk, string_bytes};
+ghost use Rattle.std.specs.Prelude.{◌≡◌, ◌++◌, IfOk, string_bytes};
 ghost use Rattle.fux_grid.specs.Exercises.{IsComplete, IsValid};
 ghost use Rattle.fux_text.specs.Lines.{setting_text};
-ghost use Rattle.penalty_sheet.specs.declared.sheet.Sheet.{Sheet as ASheet};
-ghost use Rattle.fux_run.specs.Composed.{Composes, Tells, bound_line, none_line, penalty_line};
-ghost use Rattle.fux_run.specs.Searched.{HasWholeScore, IsFound};
+ghost use Rattle.fux_run.specs.Composed.{Composes, TellsFound, bound_line, none_line, penalty_line};
+ghost use Rattle.fux_run.specs.Searched.{HasWholeScore};
 ghost use Rattle.fux_run.specs.Works.{Answers};
 
 use crate::searching::{Found, best_setting};
@@ -39,8 +38,7 @@ pub fn compose<R: Threads + Sync>(
 fn found_output(alloc: Global, exercise: &Exercise, found: &Found) -> Result<Output, Memory>
     requires valid { IsValid exercise.now }
     requires complete { HasWholeScore exercise.now found.now }
-    ensures { (sheet : ASheet) (budget : ℕ) → IsFound exercise.now sheet budget found.now
-        → IfOk result (λ output. Tells exercise.now sheet budget output.verdict output.bytes) }
+    ensures { TellsFound exercise.now found.now result }
 {
     match found {
         Found::Best { score, penalty } => Ok(Output::of_text(

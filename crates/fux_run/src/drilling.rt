@@ -4,8 +4,8 @@ ghost use Rattle.std.specs.Prelude.{◌≡◌, ◌++◌, IfOk, OnOk, map, string
 ghost use Rattle.fux_pitch.specs.Names.{name_of};
 ghost use Rattle.fux_text.specs.Words.{spaced};
 ghost use Rattle.fux_grid.specs.Exercises.{IsValid};
-ghost use Rattle.fux_run.specs.Drilled.{Drills, HasLineMore, TellsDrill, drill_heading};
-ghost use Rattle.fux_run.specs.Searched.{HasWholeScore, IsFound, usual_sheet};
+ghost use Rattle.fux_run.specs.Drilled.{AddsDrillLine, Drills, HasDrillLines, IsDrillFound, drill_heading};
+ghost use Rattle.fux_run.specs.Searched.{HasWholeScore};
 ghost use Rattle.fux_run.specs.Works.{Answers};
 
 use crate::searching::{Found, best_setting};
@@ -41,8 +41,7 @@ fn drill_output(
 ) -> Result<Output, Memory>
     requires valid { IsValid exercise.now }
     requires complete { HasWholeScore exercise.now found.now }
-    ensures { IsFound exercise.now usual_sheet 200000 found.now → IfOk result (λ output.
-        HasLineMore (TellsDrill exercise.now output.verdict) (drill_heading number exercise.now) output.bytes) }
+    ensures { IsDrillFound exercise.now found.now → IfOk result (HasDrillLines number exercise.now) }
 {
     let mut text = heading(alloc, number, exercise)?;
     let verdict = put_found(alloc, &mut text, exercise, found)?;
@@ -79,8 +78,8 @@ fn put_found(
 ) -> Result<Verdict, Memory>
     requires valid { IsValid exercise.now }
     requires complete { HasWholeScore exercise.now found.now }
-    ensures { IsFound exercise.now usual_sheet 200000 found.now → IfOk result (λ verdict.
-        HasLineMore (TellsDrill exercise.now verdict) (string_bytes text.old) (string_bytes text.new)) }
+    ensures { IsDrillFound exercise.now found.now
+        → IfOk result (AddsDrillLine exercise.now (string_bytes text.old) (string_bytes text.new)) }
 {
     match found {
         Found::Best { score, penalty } => {

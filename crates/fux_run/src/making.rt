@@ -1,14 +1,12 @@
 //! What a command makes of its files.
 
-ghost use Rattle.std.specs.Prelude.{◌≡◌, ◌≤◌, ◌⊎◌, ℕ, List, option_map};
+ghost use Rattle.std.specs.Prelude.{◌≡◌, ◌≤◌};
 ghost use Rattle.fux_grid.specs.Exercises.{IsValid};
 ghost use Rattle.fux_port.specs.Counts.{Rose};
-ghost use Rattle.fux_port.specs.Files.{IsMissing};
-ghost use Rattle.fux_run.specs.Checked.{AnswersWithin};
-ghost use Rattle.fux_run.specs.Commands.{HasMidiHead, as_list, making_task};
+ghost use Rattle.fux_run.specs.Commands.{HasMidiHead, making_task, sheet_named};
 ghost use Rattle.fux_run.specs.Complaints.{refusal_text};
 ghost use Rattle.fux_run.specs.Runs.{IsMade, Says, SaysRefusal, SaysWithin};
-ghost use Rattle.fux_run.specs.Works.{Answers, AreContents, ChecksText, IsContent, IsReadyText, MakesOf, MakesOfText, ReadsSheetFile};
+ghost use Rattle.fux_run.specs.Works.{Answers, ChecksTexts, MakesOf, MakesOfText, OnTexts, ReadsSheetFile};
 
 use crate::checking::check;
 use crate::command::{Job, Making};
@@ -77,7 +75,7 @@ pub fn read_weights<'a, F: Shelf>(
     name: Option<&'a str>,
 ) -> Result<Option<Content>, Complaint<'a>>
     ensures reads { ReadsSheetFile (F.files shelf.old) (Rose (F.faults shelf.old) (F.faults shelf.new))
-        (option_map (λ text. text.now) name.entry) result }
+        (sheet_named name.entry) result }
     ensures files { F.files shelf.new ≡ F.files shelf.old }
     ensures faults { F.faults shelf.old ≤ F.faults shelf.new }
 {
@@ -95,8 +93,7 @@ fn of_texts<R: Threads + Sync>(
     weights: &Option<Content>,
     job: Job,
 ) -> Result<Output, Stop>
-    ensures { (bytes : List ℕ) (sheets : List (List ℕ)) → IsContent 65536 text.now bytes
-        → AreContents 65536 (as_list weights.now) sheets → Answers (MakesOfText job sheets bytes) result }
+    ensures { OnTexts text.now weights.now (λ bytes sheets. Answers (MakesOfText job sheets bytes) result) }
 {
     let exercise = exercise_of(alloc, text)?;
     let sheet = sheet_of(alloc, weights)?;
@@ -112,11 +109,7 @@ fn check_texts<F: Shelf, R: Threads + Sync>(
     shelf: &mut F,
     certificate: &str,
 ) -> Result<Output, Unmade>
-    ensures checks { (bytes : List ℕ) (sheets : List (List ℕ)) → IsContent 65536 text.now bytes
-        → AreContents 65536 (as_list weights.now) sheets
-        → AnswersWithin (ChecksText (F.files shelf.old) certificate.now sheets bytes)
-        (IsReadyText sheets bytes
-        × (Rose (F.faults shelf.old) (F.faults shelf.new) ⊎ IsMissing (F.files shelf.old) certificate.now)) result }
+    ensures checks { ChecksTexts F.files F.faults certificate.now text.now weights.now shelf.old shelf.new result }
     ensures files { F.files shelf.new ≡ F.files shelf.old }
     ensures faults { F.faults shelf.old ≤ F.faults shelf.new }
 {

@@ -1,10 +1,8 @@
 //! The work of a command on its files.
 
-ghost use Rattle.std.specs.Prelude.{◌≡◌, ℕ, List, option_map};
-ghost use Rattle.fux_port.specs.Counts.{Rose};
-ghost use Rattle.fux_run.specs.Commands.{HasHead, HasMidiHead, as_list, certify, making_task, task_of};
-ghost use Rattle.fux_run.specs.Runs.{Ended, SaysWritten, Writes};
-ghost use Rattle.fux_run.specs.Works.{AreContents, CertifiesText, IsContent};
+ghost use Rattle.std.specs.Prelude.{◌≡◌};
+ghost use Rattle.fux_run.specs.Commands.{HasHead, HasMidiHead, making_task, task_of};
+ghost use Rattle.fux_run.specs.Runs.{CertifiesTexts, CertifyEnds, Ended, EndsOn, SaysWritten};
 
 use crate::certifying::certify;
 use crate::command::{Command, Making};
@@ -27,9 +25,8 @@ pub fn perform<'a, F: Shelf, K: Sink, R: Threads + Sync>(
     out: &mut K,
 ) -> Result<Verdict, Complaint<'a>>
     requires { HasHead command }
-    ensures ended { Ended (task_of command.entry) (F.files shelf.old)
-        (Rose (F.faults shelf.old) (F.faults shelf.new)) (Rose (K.faults out.old) (K.faults out.new))
-        (K.written out.old) (K.written out.new) result }
+    ensures ended { EndsOn F.files F.faults K.written K.faults (Ended (task_of command.entry))
+        shelf.old shelf.new out.old out.new result }
     ensures files { F.files shelf.new ≡ F.files shelf.old }
 {
     match command {
@@ -51,9 +48,8 @@ fn perform_making<'a, F: Shelf, K: Sink, R: Threads + Sync>(
     out: &mut K,
 ) -> Result<Verdict, Complaint<'a>>
     requires { HasMidiHead making }
-    ensures ended { Ended (making_task making.entry) (F.files shelf.old)
-        (Rose (F.faults shelf.old) (F.faults shelf.new)) (Rose (K.faults out.old) (K.faults out.new))
-        (K.written out.old) (K.written out.new) result }
+    ensures ended { EndsOn F.files F.faults K.written K.faults (Ended (making_task making.entry))
+        shelf.old shelf.new out.old out.new result }
     ensures files { F.files shelf.new ≡ F.files shelf.old }
 {
     let output = make(rt, alloc, making, shelf)?;
@@ -73,9 +69,8 @@ fn perform_certify<'a, F: Shelf, K: Sink, R: Threads + Sync>(
     shelf: &mut F,
     out: &mut K,
 ) -> Result<Verdict, Complaint<'a>>
-    ensures ended { Ended (certify name.entry.now (option_map (λ text. text.now) sheet.entry) budget) (F.files shelf.old)
-        (Rose (F.faults shelf.old) (F.faults shelf.new)) (Rose (K.faults out.old) (K.faults out.new))
-        (K.written out.old) (K.written out.new) result }
+    ensures ended { CertifyEnds F.files F.faults K.written K.faults name.entry sheet.entry budget
+        shelf.old shelf.new out.old out.new result }
     ensures files { F.files shelf.new ≡ F.files shelf.old }
 {
     let text = read_content(alloc, shelf, name, LONGEST_TEXT)?;
@@ -96,9 +91,7 @@ fn certify_texts<K: Sink, R: Threads + Sync>(
     budget: u32,
     out: &mut K,
 ) -> Result<Verdict, Halt>
-    ensures { (bytes : List ℕ) (sheets : List (List ℕ)) → IsContent 65536 text.now bytes
-        → AreContents 65536 (as_list weights.now) sheets → Writes (CertifiesText budget sheets bytes)
-        (Rose (K.faults out.old) (K.faults out.new)) (K.written out.old) (K.written out.new) result }
+    ensures { CertifiesTexts K.written K.faults budget text.now weights.now out.old out.new result }
 {
     let exercise = exercise_of(alloc, text)?;
     let sheet = sheet_of(alloc, weights)?;

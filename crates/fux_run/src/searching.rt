@@ -1,12 +1,10 @@
 //! The search for the best setting of an exercise.
 
 ghost use Rattle.std.specs.Prelude.{ℕ, IfErr, IfOk};
-ghost use Rattle.fux_grid.specs.Exercises.{IsValid, columns_in};
-ghost use Rattle.species_space.specs.Loads.{IsBestWithin, IsExact};
-ghost use Rattle.species_space.specs.Paths.{live_at, prefix_at};
-ghost use Rattle.tree_search.specs.Answer.{IsFirstLeast};
+ghost use Rattle.fux_grid.specs.Exercises.{IsValid};
+ghost use Rattle.species_space.specs.Loads.{IsExact};
 ghost use Rattle.tree_search.specs.Outcomes.{IfFound};
-ghost use Rattle.fux_run.specs.Searched.{Finds, IsBestFound, IsFound, IsSpaceOf, StopsAtWidth};
+ghost use Rattle.fux_run.specs.Searched.{Finds, IsBestPath, IsBestScore, IsFirstPath, IsFound, IsSpaceOf, StopsAtWidth};
 
 use crate::refusal::Refusal;
 use crate::work::Stop;
@@ -82,8 +80,7 @@ pub fn search(alloc: Global, space: &SpeciesSpace<'_>, budget: u32) -> Result<Fo
 /// The first path to a setting of least penalty, if the budget is enough.
 fn first_of_least(alloc: Global, space: &SpeciesSpace<'_>, budget: u32) -> Result<Outcome, Memory>
     requires { IsValid space.now.exercise }
-    ensures first { IfOk result (λ outcome. IfFound outcome
-        (IsFirstLeast (live_at space.now.exercise space.now.sheet) (columns_in space.now.exercise))) }
+    ensures first { IfOk result (λ outcome. IfFound outcome (IsFirstPath space.now)) }
     ensures exact { IfOk result (IsExact space.now.exercise space.now.sheet budget) }
 {
     search_front(alloc, space, budget)
@@ -97,9 +94,8 @@ fn setting_at(
     penalty: u64,
 ) -> Result<Score, Memory>
     requires valid { IsValid space.now.exercise }
-    requires first { IsFirstLeast (live_at space.now.exercise space.now.sheet) (columns_in space.now.exercise) path.now penalty }
-    ensures { (budget : ℕ) → IsBestWithin space.now.exercise space.now.sheet budget (prefix_at space.now.exercise path.now) penalty
-        → IfOk result (λ score. IsBestFound space.now.exercise space.now.sheet budget score penalty) }
+    requires first { IsFirstPath space.now path.now penalty }
+    ensures { (budget : ℕ) → IsBestPath space.now budget path.now penalty → IfOk result (IsBestScore space.now budget penalty) }
 {
     score_of(alloc, space, path)
 }

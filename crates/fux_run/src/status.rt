@@ -6,7 +6,7 @@ ghost use Rattle.fux_run.specs.Statuses.{code_of, verdict_status};
 use crate::work::Verdict;
 
 /// How a run ends.
-#[derive(Clone, Copy, Debug, PartialEq, Eq)]
+#[derive(Clone, Copy)]
 pub enum Status {
     /// There is a best setting, the certificate is accepted, there is no mark, or the setting is written in another form.
     Favorable,

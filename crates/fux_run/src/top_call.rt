@@ -1,14 +1,14 @@
 //! The top call.
 
-ghost use Rattle.std.specs.Prelude.{◌≡◌, ◌≢◌, ℕ, ◌<◌, ◌⊎◌, All, Contains, List, None, Some, codes};
+ghost use Rattle.std.specs.Prelude.{◌≡◌, ◌≢◌, ℕ, ◌<◌, ◌⊎◌, Contains, List, None, Some, codes};
 ghost use Rattle.fux_port.specs.Counts.{Rose};
-ghost use Rattle.fux_port.specs.Files.{HasFile, IsMissing};
+ghost use Rattle.fux_port.specs.Files.{IsMissing};
 ghost use Rattle.fux_run.specs.Commands.{Task, asked, name_in, names_in, names_within, texts};
 ghost use Rattle.fux_run.specs.Complaints.{fux_line};
-ghost use Rattle.fux_run.specs.Runs.{EndedAs, EndsAs, EndsUnread, IsDone, IsStopped, result_line, result_status};
+ghost use Rattle.fux_run.specs.Runs.{EndedBy, EndsAs, EndsOn, EndsUnread, IsDone, IsStopped, result_line, result_status};
 ghost use Rattle.fux_run.specs.Sinks.{Gets};
 ghost use Rattle.fux_run.specs.Statuses.{code_of};
-ghost use Rattle.fux_run.specs.Works.{Works};
+ghost use Rattle.fux_run.specs.Works.{AreThere, Works};
 
 use crate::command::parse;
 use crate::complaint::Complaint;
@@ -62,8 +62,7 @@ pub fn run<F: Shelf, K: Sink, E: Sink, R: Threads + Sync>(
 
     // Where nothing fails, the work is done or a file refused.
     ensures complete { (task : Task) → asked (texts words.now) ≡ Some task
-        → All (λ name. (file : List ℕ) × HasFile (F.files shelf.old) name file) (names_in task)
-        → All (λ name. (file : List ℕ) × HasFile (F.files shelf.old) name file) (names_within task)
+        → AreThere (F.files shelf.old) (names_in task) → AreThere (F.files shelf.old) (names_within task)
         → (Rose (F.faults shelf.old) (F.faults shelf.new) → ⊥)
         → (Rose (K.faults out.old) (K.faults out.new) → ⊥)
         → IsDone result ⊎ ((result ≡ code_of Status.Refused) ⊎ (result ≡ code_of Status.OutOfMemory)) }
@@ -94,9 +93,8 @@ fn outcome<'a, F: Shelf, K: Sink, R: Threads + Sync>(
     shelf: &mut F,
     out: &mut K,
 ) -> Result<Verdict, Complaint<'a>>
-    ensures ended { EndedAs (asked (texts words.entry.now)) (F.files shelf.old)
-        (Rose (F.faults shelf.old) (F.faults shelf.new)) (Rose (K.faults out.old) (K.faults out.new))
-        (K.written out.old) (K.written out.new) result }
+    ensures ended { EndsOn F.files F.faults K.written K.faults (EndedBy words.entry.now)
+        shelf.old shelf.new out.old out.new result }
     ensures files { F.files shelf.new ≡ F.files shelf.old }
 {
     match parse(alloc, words) {

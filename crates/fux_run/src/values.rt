@@ -1,19 +1,17 @@
 //! What the values that words give ask for.
 
-ghost use Rattle.std.specs.Prelude.{◌≡◌, ◌≤◌, IfSome, Some, option_map};
+ghost use Rattle.std.specs.Prelude.{◌≡◌, ◌≤◌, IfSome, option_map};
 ghost use Rattle.clap.specs.Words.{first_of, found_of, rows_of};
-ghost use Rattle.fux_text.specs.Lines.{mode_name};
 ghost use Rattle.fux_text.specs.Names.{mode_named};
 ghost use Rattle.smf_score.specs.Heads.{IsHead};
 ghost use Rattle.text_lines.specs.Numbers.{number_within};
-ghost use Rattle.fux_pitch.specs.declared.mode.Mode.{Mode as AMode};
 ghost use Rattle.fux_run.specs.Commands.{HasHead, budget_in, certify_asked, check_asked, compose_asked, drill_asked, fromsmf_asked, head_in, is_set, job_asked, number_at, task_of};
 
 use crate::command::{Command, Job, Making};
 use clap::ArgMatches;
 use fux_grid::Head;
 use fux_pitch::Mode;
-use text_lines::parse_number;
+use text_lines::{is_same, parse_number};
 
 const USUAL_BUDGET: u32 = 1_000_000;
 
@@ -73,26 +71,26 @@ fn is_set(matches: &ArgMatches<'_>, id: &str) -> bool
 }
 
 /// The mode of a name.
-fn mode_of(word: &str) -> Option<Mode>
-    ensures named { IfSome result (λ mode. mode_name mode ≡ word.now) }
-    ensures every { (mode : AMode) → mode_name mode ≡ word.now → result ≡ Some mode }
-{
-    match word {
-        "dorian" => Some(Mode::Dorian),
-        "phrygian" => Some(Mode::Phrygian),
-        "lydian" => Some(Mode::Lydian),
-        "mixolydian" => Some(Mode::Mixolydian),
-        "aeolian" => Some(Mode::Aeolian),
-        "ionian" => Some(Mode::Ionian),
-        _ => None,
-    }
-}
-
-/// The mode of a name.
+#[tactic(auto, unfolding(fux_text::specs::Names::mode_named))]
 fn mode_named(word: &str) -> Option<Mode>
     ensures { result ≡ mode_named word.now }
 {
-    mode_of(word)
+    let name = word.as_bytes();
+    if is_same(b"dorian", name) {
+        Some(Mode::Dorian)
+    } else if is_same(b"phrygian", name) {
+        Some(Mode::Phrygian)
+    } else if is_same(b"lydian", name) {
+        Some(Mode::Lydian)
+    } else if is_same(b"mixolydian", name) {
+        Some(Mode::Mixolydian)
+    } else if is_same(b"aeolian", name) {
+        Some(Mode::Aeolian)
+    } else if is_same(b"ionian", name) {
+        Some(Mode::Ionian)
+    } else {
+        None
+    }
 }
 
 /// How a MIDI file is to be read.

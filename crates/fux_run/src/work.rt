@@ -10,7 +10,7 @@ use fux_pitch::{List, Memory};
 use std::alloc::AllocError;
 
 /// What an output says, all in all.
-#[derive(Clone, Copy, Debug, PartialEq, Eq)]
+#[derive(Clone, Copy)]
 pub enum Verdict {
     /// There is a best setting, the certificate is accepted, there is no mark, or the setting is written in another form.
     Favorable,

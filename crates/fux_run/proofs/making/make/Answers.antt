@@ -2,10 +2,10 @@ use Rattle.std.proofs.Common.{◌∷◌, [], Err, inl, ◌∙◌}
 use Rattle.std.proofs.lemmas.Result.{err_from_is_err_and}
 use Rattle.fux_port.specs.Counts.{Rose}
 use Rattle.fux_port.proofs.Rises.{rose_later}
-use Rattle.fux_run.specs.Commands.{as_list, check, drill, fromsmf, on_exercise}
+use Rattle.fux_run.specs.Commands.{as_list, check, drill, fromsmf, on_exercise, sheet_named}
 use Rattle.fux_run.specs.Runs.{IsMade}
 use Rattle.fux_run.proofs.CheckLemmas.{checked_said, of_check}
-use Rattle.fux_run.proofs.MakeLemmas.{made_said, of_none, of_one, of_two, read_same, sheet_named, sheet_unread}
+use Rattle.fux_run.proofs.MakeLemmas.{made_said, of_none, of_one, of_two, read_same, sheet_unread}
 use Rattle.fux_run.proofs.making.make.Goals as goal
 
 pub returns-in_err-weights-in-OnExercise-clause-made :

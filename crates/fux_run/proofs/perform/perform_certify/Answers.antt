@@ -2,10 +2,10 @@ use Rattle.std.proofs.Common.{Err, inl, refl, ◌∷◌}
 use Rattle.std.proofs.lemmas.Result.{err_from_is_err_and}
 use Rattle.fux_port.specs.Counts.{Rose}
 use Rattle.fux_port.proofs.Rises.{rose_later}
-use Rattle.fux_run.specs.Commands.{as_list, certify}
+use Rattle.fux_run.specs.Commands.{as_list, certify, sheet_named}
 use Rattle.fux_run.specs.Runs.{Ended}
 use Rattle.fux_run.proofs.CertifyLemmas.{ended_said, of_texts}
-use Rattle.fux_run.proofs.MakeLemmas.{read_same, sheet_named, sheet_unread}
+use Rattle.fux_run.proofs.MakeLemmas.{read_same, sheet_unread}
 use Rattle.fux_run.proofs.perform.perform_certify.Goals as goal
 
 pub returns-in_err-weights-clause-ended : goal.returns-in_err-weights-clause-ended
