@@ -26,7 +26,7 @@ use Rattle.dissonance_rules.specs.Book.{late_count, late_first, late_row, may_se
 use Rattle.dissonance_rules.specs.ClashLaws.{no_onsets, onsets_after-append}
 use Rattle.dissonance_rules.proofs.NotesAhead.{notes_come}
 use Rattle.dissonance_rules.proofs.OffBar.{settles_at_bar, starter_has_species, starter_is_free, starter_settles, starter_species}
-use Rattle.dissonance_rules.specs.Clashes.{clash_enough, clash_row, clash_rule, passing_enough, resolution_enough}
+use Rattle.dissonance_rules.specs.Clashes.{clash_enough, clash_row, clash_rule, passing_enough, passing_rule, resolution_enough, resolution_rule}
 use Rattle.dissonance_rules.specs.Passing.{clashes_badly, has_notes_after, has_ornaments, is_good_note, is_open_clash, reaches_last_bar, starts_in_clash}
 
 -- where a test of a set of two voices passes, it passes for one way to name them, and what fails for the set fails for that way
@@ -251,11 +251,11 @@ module _ (ex : Exercise) (voices : ℕ) (p : List (List Cell)) (col : List Cell)
         (if b then length p + 1 - (length p - reach ex.species) else 0) i in
         subst P (sym e) record { from = omega (arith, close); to = omega (arith, early, close) }
 
-    passing_places : newly_breaks (late_row 15) ex voices p col i ≡ true
+    passing_places : newly_breaks (late_row passing_rule) ex voices p col i ≡ true
         → IsAmong (length p - reach ex.species) (passing_count ex (length p)) i
     passing_places h =
         let parts = and_parts (newly (settled_by (passing_enough ex voices)) p col i)
-        (reading_of (clash_row 15 ex voices) grown i) h in
+        (reading_of (clash_row passing_rule ex voices) grown i) h in
         let way = way_of ex (clashes_badly ex i (earlier grown i) (here grown) (ahead grown)) voices parts.1 in
         let bad = and_parts (not (begins_bar i) && starts_in_clash (here grown) way.v way.w)
         (not (is_good_note (species_in ex way.v) i (earlier grown i) (here grown) (ahead grown) way.v)) way.passes in
@@ -298,7 +298,7 @@ module _ (ex : Exercise) (voices : ℕ) (p : List (List Cell)) (col : List Cell)
 
 -- S20
 resolution_places : (ex : Exercise) (voices : ℕ) (p : List (List Cell)) (col : List Cell) (i : ℕ)
-    → GoesOn ex p (col ∷ []) → newly_breaks (late_row 20) ex voices p col i ≡ true
+    → GoesOn ex p (col ∷ []) → newly_breaks (late_row resolution_rule) ex voices p col i ≡ true
     → IsAmong (length p - 4) (if slot_of (length p) == 4 then 1 else 0) i
 resolution_places ex voices p col i on h =
     elim (or_cases (nat_le 4 (length (drop (i + 1) s))) (is_whole ex i (drop (i + 1) s)) enough) [
@@ -310,8 +310,8 @@ resolution_places ex voices p col i on h =
     s = p ++ col ∷ []
 
     parts : (newly (settled_by (resolution_enough ex)) p col i ≡ true)
-        × (reading_of (clash_row 20 ex voices) s i ≡ true)
-    parts = and_parts (newly (settled_by (resolution_enough ex)) p col i) (reading_of (clash_row 20 ex voices) s i) h
+        × (reading_of (clash_row resolution_rule ex voices) s i ≡ true)
+    parts = and_parts (newly (settled_by (resolution_enough ex)) p col i) (reading_of (clash_row resolution_rule ex voices) s i) h
 
     bar : i % 8 ≡ 0
     bar = eqb-true (i % 8) 0 (breaks_at_bar 20 ex voices s i refl parts.1)

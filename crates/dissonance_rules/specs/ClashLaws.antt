@@ -26,7 +26,7 @@ use Rattle.rule_law.specs.Voices.{holds_of_pair, is_free, pair_of}
 use Rattle.rule_law.specs.Ways.{holds_some_way, on_some_way}
 use Rattle.rule_law.specs.Whole.{is_whole}
 use Rattle.rule_law.proofs.NextPitch.{last_bar_holds}
-use Rattle.dissonance_rules.specs.Clashes.{clash_row, passing_enough, resolution_enough}
+use Rattle.dissonance_rules.specs.Clashes.{clash_row, passing_enough, passing_rule, resolution_enough, resolution_rule}
 use Rattle.dissonance_rules.specs.Ligatures.{is_suspended, resolves}
 use Rattle.dissonance_rules.specs.Passing.{clashes_badly, has_notes_after, has_ornaments, is_cambiata, is_good, is_good_note, is_neighbor, is_open_clash, is_passing, next_is_clean, reaches_last_bar, starts_clean, starts_in_clash}
 
@@ -37,7 +37,7 @@ resolution_row : Exercise → ℕ → ℕ → List Cell → List Cell → List C
 resolution_row ex voices i now next fourth =
     on_some_way ex (λ v w. is_suspended i now v w && not (resolves now next fourth v)) voices
 
-four_ahead : (ex : Exercise) (voices : ℕ) → IsUndisturbed (clash_row 20 ex voices)
+four_ahead : (ex : Exercise) (voices : ℕ) → IsUndisturbed (clash_row resolution_rule ex voices)
     (λ i behind now ahead. nat_le 4 (length ahead))
 unfolding resolution_row
 four_ahead ex voices i behind now ahead t h =
@@ -48,9 +48,9 @@ four_ahead ex voices i behind now ahead t h =
     (get_or-append ahead t [] 3 (omega (arith, four)))
 
 pub resolution_is_local : (ex : Exercise) (voices : ℕ)
-    → IsLocal ex (reading_of (clash_row 20 ex voices)) (settled_by (resolution_enough ex))
+    → IsLocal ex (reading_of (clash_row resolution_rule ex voices)) (settled_by (resolution_enough ex))
 resolution_is_local ex voices =
-    local_or_whole ex (clash_row 20 ex voices) (λ i behind now ahead. nat_le 4 (length ahead)) (four_ahead ex voices)
+    local_or_whole ex (clash_row resolution_rule ex voices) (λ i behind now ahead. nat_le 4 (length ahead)) (four_ahead ex voices)
 
 -- ---- S15: the notes of a voice in a longer list
 
@@ -277,7 +277,7 @@ two_ways true true false o1 o2 x1 y1 x2 y2 h f g = ap (λ b. b || false) (f refl
 two_ways true true true o1 o2 x1 y1 x2 y2 h f g =
     ap (λ b. b || x2) (f refl (or_parts o1 o2 h).0) ∙ ap (λ b. y1 || b) (g refl (or_parts o1 o2 h).1)
 
-passing_stays_ahead : (ex : Exercise) (voices : ℕ) → StaysAhead ex (clash_row 15 ex voices) (passing_enough ex voices)
+passing_stays_ahead : (ex : Exercise) (voices : ℕ) → StaysAhead ex (clash_row passing_rule ex voices) (passing_enough ex voices)
 passing_stays_ahead ex voices p t i on here h =
     at (pair_of voices) (not-true (on_some_way ex (is_open_clash ex i (slice_index_or p i []) (drop (i + 1) p)) voices)
     h)
@@ -294,9 +294,9 @@ passing_stays_ahead ex voices p t i on here h =
         (way_same ex p t i pair.0 pair.1 on here) (way_same ex p t i pair.1 pair.0 on here)
 
 pub passing_is_local : (ex : Exercise) (voices : ℕ)
-    → IsLocal ex (reading_of (clash_row 15 ex voices)) (settled_by (passing_enough ex voices))
+    → IsLocal ex (reading_of (clash_row passing_rule ex voices)) (settled_by (passing_enough ex voices))
 passing_is_local ex voices =
-    local_from_ahead ex (clash_row 15 ex voices) (passing_enough ex voices) (passing_stays_ahead ex voices)
+    local_from_ahead ex (clash_row passing_rule ex voices) (passing_enough ex voices) (passing_stays_ahead ex voices)
 
 -- ---- what is settled stays so, and in a list of all columns each is settled
 

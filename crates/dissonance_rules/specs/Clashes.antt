@@ -9,6 +9,13 @@ use Rattle.rule_law.specs.Ways.{on_some_way}
 use Rattle.dissonance_rules.specs.Ligatures.{is_bad_suspension, lacks_preparation, lacks_resolution}
 use Rattle.dissonance_rules.specs.Passing.{clashes_badly, is_open_clash}
 
+-- S15 and S20, by their numbers
+abbrev pub passing_rule : ℕ
+passing_rule = 15
+
+abbrev pub resolution_rule : ℕ
+resolution_rule = 20
+
 -- a rule is broken for one way to name the voices
 abbrev pub clash_rule : ℕ → Exercise → ℕ → List (List Cell) → List Cell → List (List Cell) → ℕ → ℕ → Bool
 clash_rule rule ex i behind now ahead v w =

@@ -10,7 +10,7 @@ use Rattle.rule_law.specs.Places.{reading_of, settled_by}
 use Rattle.rule_law.specs.Prefixes.{GoesOn}
 use Rattle.rule_law.specs.Rulebooks.{IsAmong, RuleRow, newly_breaks}
 use Rattle.dissonance_rules.specs.Book.{late_row, rule_row}
-use Rattle.dissonance_rules.specs.Clashes.{clash_row, passing_enough}
+use Rattle.dissonance_rules.specs.Clashes.{clash_row, passing_enough, passing_rule}
 use Rattle.dissonance_rules.specs.Passing.{has_notes_after}
 use Rattle.dissonance_rules.proofs.BookLaws.{rules_keep}
 use Rattle.dissonance_rules.proofs.LateReadings.{row_is}
@@ -46,10 +46,10 @@ returns-clause-left c = λ p col newest on voices i h.
     let size : c.args.newest.now.len ≡ length p + 1 = newest.count ∙ length-append p (col ∷ []) in
     let within = (rules_keep c.args.rule).within ex (c.args.newest.now.len - 1) in
     let reached : i ≤ length p = omega (arith, among.to, within, c.requires.first, c.requires.count, size) in
-    let row : rule_row c.args.rule ≡ late_row 15 = row_is c.args.rule c.requires.late
+    let row : rule_row c.args.rule ≡ late_row passing_rule = row_is c.args.rule c.requires.late
     ∙ ap late_row c.if-rule-ne15.false in
     let newly_there = (and_parts (newly (settled_by (passing_enough ex voices)) p col i)
-    (reading_of (clash_row 15 ex voices) (p ++ col ∷ []) i)
+    (reading_of (clash_row passing_rule ex voices) (p ++ col ∷ []) i)
     (sym (ap (λ (r : RuleRow). newly_breaks r ex voices p col i) row) ∙ h)).0 in
     elim (cases_lt i told) [
       | inl before ↦
