@@ -14,6 +14,7 @@ pub mod LineLemmas
 pub mod LinkLemmas
 pub mod LinkPaid
 pub mod MomentLemmas
+pub mod MoveLinks
 pub mod Parts
 pub mod PruningLemmas
 pub mod QuietLemmas

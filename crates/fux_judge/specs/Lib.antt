@@ -8,6 +8,7 @@ pub mod Late
 pub mod Lawful
 pub mod Links
 pub mod Moments
+pub mod Moves
 pub mod Neighbors
 pub mod Penalties
 pub mod Pruning

@@ -29,7 +29,7 @@ pub(crate) struct Link<'a> {
 
 /// The link of two columns.
 #[inline]
-fn link_between<'a>(
+pub(crate) fn link_between<'a>(
     ex: &'a Exercise,
     i: usize,
     prev: Option<&'a Column>,

@@ -61,7 +61,8 @@ pub(crate) fn charges_of_pairs(sheet: &Sheet, m: &Moment<'_>) -> u64
 }
 
 /// The weight of the toll that a move to a cell pays by its size: Q7, Q8, Q9 or Q10.
-fn charge_of_move(sheet: &Sheet, previous: Option<Pitch>, now: Cell) -> u64
+#[inline]
+pub(crate) fn charge_of_move(sheet: &Sheet, previous: Option<Pitch>, now: Cell) -> u64
     ensures value { result ≡ move_charge sheet.now previous now }
     ensures bound { result ≤ 65535 }
 {
