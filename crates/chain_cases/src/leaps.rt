@@ -65,10 +65,15 @@ fn leap(before: Cell, next: Cell) -> Option<u64>
 impl<'a> Links for Leaps<'a> {
     ghost use Rattle.std.specs.Prelude.{Some};
     ghost use Rattle.chain_cases.specs.Leaps.{chains_of};
+    ghost use Rattle.chain_cases.specs.Leaps as specs;
 
     ghost chains = { chains_of };
 
     ghost own = { λ _ _ _. Some 0 };
+
+    ghost moves = { λ _ _. specs.move_of };
+
+    ghost least_moves = { specs.least_moves };
 
     fn places(&self) -> usize {
         8 * self.exercise.bars as usize
@@ -98,13 +103,18 @@ impl<'a> Links for Leaps<'a> {
         Some(0)
     }
 
+    fn move_cost(&self, _i: usize, v: usize, before: Cell, next: Cell) -> Option<u64> {
+        if v == 1 { leap(before, next) } else { Some(0) }
+    }
+
     fn cost_from(
         &self,
-        i: usize,
-        prev: Option<&Column>,
-        next: &Column,
+        _i: usize,
+        _prev: &Column,
+        _next: &Column,
         _known: u64,
+        moved: u64,
     ) -> Option<u64> {
-        self.cost(i, prev, next)
+        Some(moved)
     }
 }

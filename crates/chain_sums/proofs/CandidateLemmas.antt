@@ -1,10 +1,10 @@
 -- The candidates that are tried are enough: no later one has a lesser sum (`tried_are_enough`).
 use Rattle.std.proofs.Common.{◌≡◌, ◌⊎◌, inl, inr, ℕ, ◌+◌, ◌<◌, ◌≤◌, List, [], ◌∷◌, ◌++◌, length, get_or, Option, Some, ap, sym, ◌∙◌, subst, arith}
 use Rattle.std.specs.Prelude.{IsSomeAnd, ◌↔◌}
-use Rattle.std.specs.List.{All, Contains}
+use Rattle.std.specs.List.{Contains}
 use Rattle.std.proofs.lemmas.Bool.{cases_lt}
-use Rattle.std.proofs.lemmas.List.{get_or_default, get_or_append_left, get_or_push, length_push}
-use Rattle.std.proofs.lemmas.List.Elements.{Contains-append_left, Contains-push}
+use Rattle.std.proofs.lemmas.List.{get_or_default}
+use Rattle.std.proofs.lemmas.List.Elements.{All-push, Contains-append_left, Contains-push}
 use Rattle.std.specs.List.Sorted.{IsPermutation}
 use Rattle.std.proofs.lemmas.List.Sorted.{All-permutation, Contains-permutation}
 use Rattle.fux_grid.specs.declared.cell.Cell.{Cell}
@@ -40,20 +40,13 @@ module _ (c : Chains) (own : List Cell → Option ℕ) (i : ℕ) (row : List (Op
         → ((before : Option (List Cell)) (x : ℕ) → IsSumAt c i before row count x → next.bound ≤ x)
         → AreCandidates c own i row (count + 1) (found ++ next ∷ [])
     candidates_more next here is low = record {
-      within = each (λ e. e.number < count + 1) (λ k d l. let n = are.within k d l in omega (arith, n))
+      within = All-push (λ e. e.number < count + 1) found next (λ k d l. let n = are.within k d l in omega (arith, n))
           (omega (arith, here));
-      known = each (λ e. IsKnown (own (get_or (c.menu i) e.number [])) e.own) are.known
+      known = All-push (λ e. IsKnown (own (get_or (c.menu i) e.number [])) e.own) found next are.known
           (subst (λ (k : ℕ). IsKnown (own (get_or (c.menu i) k [])) next.own) (sym here) is);
       enough = λ before k sum h s. enough before k sum (below_or_at k count h) s;
     }
       where
-        each : (P : Candidate → Type 0) → All P found → P next → All P (found ++ next ∷ [])
-        each P all last k d h = at (below_or_at k (length found) (omega (arith, length_push found next)))
-          where
-            at : (k < length found) ⊎ (k ≡ length found) → P (get_or (found ++ next ∷ []) k d)
-            at (inl l) = subst P (sym (get_or_append_left found (next ∷ []) d k l)) (all k d l)
-            at (inr f) = subst P (sym (get_or_push found next d k (sym f))) last
-
         one : record { bound = next.bound; number = count; own = next.own } ≡ next
         one = ap (λ (n : ℕ). let e : Candidate = record { bound = next.bound; number = n; own = next.own } in e)
             (sym here)

@@ -119,7 +119,7 @@ abbrev pub sum_with : Chains → ℕ → ℕ → Option (List Cell) → List Cel
 sum_with c count i before d =
     if column_follows (cells_of before) d then plus (c.cost i before d) (least_sum c count (suc i) (Some d)) else None
 
-chosen : (b : Bool) (s : Option ℕ) (x : ℕ) → (if b then s else None) ≡ Some x → (b ≡ true) × (s ≡ Some x)
+pub chosen : (b : Bool) (s : Option ℕ) (x : ℕ) → (if b then s else None) ≡ Some x → (b ≡ true) × (s ≡ Some x)
 chosen true s x e = (refl, e)
 chosen false s x e = cc
 

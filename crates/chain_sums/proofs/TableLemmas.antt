@@ -220,19 +220,15 @@ small_in c menus i k row here h =
 
 -- ---- a row grows by a sum at a time
 
-pub row_pushed : (c : Chains) (i k : ℕ) (row : List (Option ℕ)) (least : Option ℕ) → length row ≡ k
-    → ((j : ℕ) → j < k → IsLeast c (suc i) (Some (get_or (c.menu i) j [])) (get_or row j None))
-    → IsLeast c (suc i) (Some (get_or (c.menu i) k [])) least
-    → (j : ℕ) → j < k + 1 → IsLeast c (suc i) (Some (get_or (c.menu i) j [])) (get_or (row ++ least ∷ []) j None)
-row_pushed c i k row least e old here j h = by (below_or_at j k h)
+pub each_pushed : {X : Type 0} (P : ℕ → X → Type 0) (k : ℕ) (items : List X) (next none : X) → length items ≡ k
+    → ((j : ℕ) → j < k → P j (get_or items j none)) → P k next
+    → (j : ℕ) → j < k + 1 → P j (get_or (items ++ next ∷ []) j none)
+each_pushed P k items next none e old here j h = by (below_or_at j k h)
   where
-    by : (j < k) ⊎ (j ≡ k) → IsLeast c (suc i) (Some (get_or (c.menu i) j [])) (get_or (row ++ least ∷ []) j None)
-    by (inl l) = subst (λ (o : Option ℕ). IsLeast c (suc i) (Some (get_or (c.menu i) j [])) o)
-        (sym (get_or_append_left row (least ∷ []) None j (omega arith))) (old j l)
+    by : (j < k) ⊎ (j ≡ k) → P j (get_or (items ++ next ∷ []) j none)
+    by (inl l) = subst (P j) (sym (get_or_append_left items (next ∷ []) none j (omega arith))) (old j l)
     by (inr f) =
-        subst (λ (o : Option ℕ). IsLeast c (suc i) (Some (get_or (c.menu i) j [])) o)
-        (sym (get_or_push row least None j (e ∙ sym f)))
-        (subst (λ (n : ℕ). IsLeast c (suc i) (Some (get_or (c.menu i) n [])) least) (sym f) here)
+        subst (P j) (sym (get_or_push items next none j (e ∙ sym f))) (subst (λ (n : ℕ). P n next) (sym f) here)
 
 pub sums_pushed : (most : ℕ) (row : List (Option ℕ)) (least : Option ℕ) → AllAtMost most row → IsAtMost most least
     → AllAtMost most (row ++ least ∷ [])

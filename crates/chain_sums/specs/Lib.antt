@@ -1,7 +1,9 @@
 pub mod Candidates
 pub mod Chains
+pub mod Choices
 pub mod Fresh
 pub mod Menus
+pub mod Moves
 pub mod Packed
 pub mod Rows
 pub mod Still

@@ -22,9 +22,12 @@ abbrev pub column_follows : List Cell → List Cell → Bool
 column_follows before next =
     list_all (λ v. cell_follows (cell_in before v) (cell_in next v)) (range_with_len 0 (length next))
 
+-- what a column costs behind another or behind none, together with a sum behind it; none where it doesn't follow
+abbrev pub sum_behind : Chains → ℕ → Option (List Cell) → List Cell → Option ℕ → Option ℕ
+sum_behind c i before d rest = if column_follows (cells_of before) d then plus (c.cost i before d) rest else None
+
 -- the least sum over chains of so many columns, from a place on, behind a column or behind none
 abbrev pub least_sum : Chains → ℕ → ℕ → Option (List Cell) → Option ℕ
 least_sum c zero i before = Some 0
 least_sum c (suc count) i before =
-    least_in (map (λ d. if column_follows (cells_of before) d
-    then plus (c.cost i before d) (least_sum c count (suc i) (Some d)) else None) (c.menu i))
+    least_in (map (λ d. sum_behind c i before d (least_sum c count (suc i) (Some d))) (c.menu i))

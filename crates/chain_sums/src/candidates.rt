@@ -1,15 +1,13 @@
 //! The columns of a menu by what they cost at least with the least sum behind them, so that few of them are tried.
 
-ghost use Rattle.std.specs.Prelude.{◌≡◌, ◌≤◌, ◌<◌, ◌^◌, length, IfOk, IfSome, IsSomeAnd};
-ghost use Rattle.std.specs.Bool.{OnTrue};
+ghost use Rattle.std.specs.Prelude.{◌≡◌, ◌≤◌, ◌<◌, ◌^◌, length, IfOk, IfSome};
 ghost use Rattle.std.specs.List.{Contains};
 ghost use Rattle.chain_sums.specs.Candidates.{AreAllCandidates, GoByBounds, ReachesBound};
-ghost use Rattle.chain_sums.specs.Chains.{IsKnown, IsLeast, given};
-ghost use Rattle.chain_sums.specs.Fresh.{AllFollowAll};
+ghost use Rattle.chain_sums.specs.Chains.{IsKnown};
 ghost use Rattle.chain_sums.specs.Menus.{IsMenuOf};
-ghost use Rattle.chain_sums.specs.Rows.{AllAtMost, IsAtMost, IsOneCostAboveRow, IsRow};
+ghost use Rattle.chain_sums.specs.Rows.{AllAtMost, IsAtMost};
 
-use crate::least::{lesser, plus, sum_from};
+use crate::least::plus;
 use crate::links::Links;
 use crate::menu::Menu;
 use fux_grid::Column;
@@ -89,48 +87,4 @@ pub(crate) fn candidates<L: Links>(
     let mut found = some_candidates(alloc, links, i, menu, row)?;
     found.sort_unstable_by_key(|candidate| candidate.bound);
     Ok(found)
-}
-
-/// Whether a sum is there that is at most a bound.
-fn is_reached(least: Option<u64>, bound: u64) -> bool
-    ensures { OnTrue result (IsSomeAnd least (λ x. x ≤ bound)) }
-{
-    match least {
-        Some(x) => x <= bound,
-        None => false,
-    }
-}
-
-/// The least sum over the chains that begin at a place, behind a column or behind none: the candidates are tried until no
-/// later one can have a lesser sum. Whether each follows isn't asked where it is known that each follows every column.
-pub(crate) fn least_of_candidates<L: Links>(
-    links: &L,
-    i: usize,
-    prev: Option<&Column>,
-    menu: &Menu,
-    row: &[Option<u64>],
-    candidates: &[Candidate],
-    always: bool,
-) -> Option<u64>
-    requires place { i < (L.chains links.now).places }
-    requires menu { IsMenuOf ((L.chains links.now).menu i) menu.now }
-    requires row { IsRow (L.chains links.now) i row.now }
-    requires small { AllAtMost (2 ^ 62) row.now }
-    requires candidates { AreAllCandidates (L.chains links.now) (L.own links.now i) i row.now candidates.now }
-    requires order { GoByBounds candidates.now }
-    requires always { OnTrue always (AllFollowAll ((L.chains links.now).menu i)) }
-    ensures least { IsLeast (L.chains links.now) i (given prev.entry) result }
-    ensures bound { IsOneCostAboveRow row.now result }
-{
-    let mut least = None;
-    for candidate in candidates {
-        if is_reached(least, candidate.bound) {
-            return least;
-        }
-        let k = candidate.number;
-        let column = menu.column(k);
-        let sum = sum_from(links, i, prev, column, candidate.own, always, row[k]);
-        least = lesser(least, sum);
-    }
-    least
 }

@@ -1,12 +1,9 @@
 //! Least sums over chains, behind one column from the row of the place that comes next.
 
-ghost use Rattle.std.specs.Prelude.{◌≡◌, ◌<◌, ◌^◌, ◌↔◌, ℕ, IsTrue};
-ghost use Rattle.std.specs.Bool.{OnTrue};
+ghost use Rattle.std.specs.Prelude.{◌≡◌, ◌<◌, ◌^◌, ◌↔◌, ℕ};
 ghost use Rattle.std.specs.List.{Contains};
-ghost use Rattle.fux_grid.specs.Columns.{ColumnFollows};
-ghost use Rattle.chain_sums.specs.Chains.{IsKnown, IsLeast, cells_of, given};
+ghost use Rattle.chain_sums.specs.Chains.{IsLeast, given};
 ghost use Rattle.chain_sums.specs.Chains as chains;
-ghost use Rattle.chain_sums.specs.Fresh.{FollowsAll};
 ghost use Rattle.chain_sums.specs.Menus.{IsMenuOf};
 ghost use Rattle.chain_sums.specs.Rows.{AllAtMost, IsAtMost, IsOneCostAbove, IsOneCostAboveRow, IsRow, IsSumOf};
 ghost use Rattle.chain_sums.specs.Sums as sums;
@@ -60,40 +57,6 @@ pub(crate) fn sum_of<L: Links>(
         return None;
     }
     let own = links.cost(i, prev, next);
-    plus(own, rest)
-}
-
-/// Whether a column follows another, or may come first. One that follows every column isn't looked at.
-fn may_follow(always: bool, prev: Option<&Column>, column: &Column) -> bool
-    requires { OnTrue always (FollowsAll column.now.items) }
-    ensures { IsTrue result ↔ ColumnFollows (cells_of (given prev.entry)) column.now.items }
-{
-    always || follows(prev, column)
-}
-
-/// The same as `sum_of`, where it is known what the column costs at least, and maybe that it follows every column.
-pub(crate) fn sum_from<L: Links>(
-    links: &L,
-    i: usize,
-    prev: Option<&Column>,
-    column: &Column,
-    known: u64,
-    always: bool,
-    rest: Option<u64>,
-) -> Option<u64>
-    requires place { i < (L.chains links.now).places }
-    requires choice { Contains ((L.chains links.now).menu i) column.now.items }
-    requires known { IsKnown (L.own links.now i column.now.items) known }
-    requires always { OnTrue always (FollowsAll column.now.items) }
-    requires small { IsAtMost (2 ^ 62) rest }
-    ensures value { (x : ℕ) → (result ≡ Some x)
-        ↔ IsSumOf (L.chains links.now) i (given prev.entry) column.now.items rest x }
-    ensures bound { IsOneCostAbove rest result }
-{
-    if !may_follow(always, prev, column) {
-        return None;
-    }
-    let own = links.cost_from(i, prev, column, known);
     plus(own, rest)
 }
 

@@ -2,10 +2,12 @@
 #![tactic(auto)]
 
 mod candidates;
+mod choices;
 mod fresh;
 mod least;
 mod links;
 mod menu;
+mod moves;
 mod packed;
 mod still;
 mod tables;

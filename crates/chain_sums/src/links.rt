@@ -1,13 +1,14 @@
 //! What chains are made of.
 
-ghost use Rattle.std.specs.Prelude.{◌≡◌, ◌≤◌, ◌<◌, ◌^◌, ℕ, length, IfOk, IfSome, List, Option};
+ghost use Rattle.std.specs.Prelude.{◌≡◌, ◌≤◌, ◌<◌, ◌^◌, ℕ, length, IfOk, IfSome, List, Option, Some};
 ghost use Rattle.std.specs.List.{Contains};
 ghost use Rattle.fux_grid.specs.declared.cell.Cell.{Cell as ACell};
 ghost use Rattle.fux_grid.specs.Grid.{items_of};
 ghost use Rattle.fux_grid.specs.Menus.{IsAscending};
 ghost use Rattle.chain_sums.specs.Chains.{AreFull, Chains, IsKnown, IsLeastCost, given};
+ghost use Rattle.chain_sums.specs.Moves.{AreLeastMoves, moves_sum};
 
-use fux_grid::{Column, MenuFault};
+use fux_grid::{Cell, Column, MenuFault};
 use std::alloc::Global;
 
 /// Columns that may stand side by side: the menu of each place, and what a column costs there behind another.
@@ -16,6 +17,12 @@ pub trait Links {
 
     /// What a column costs at a place at least, whatever stands before it.
     ghost own: { Self → ℕ → List ACell → Option ℕ };
+
+    /// What a voice's move from one cell to another costs at a place.
+    ghost moves: { Self → ℕ → ℕ → ACell → ACell → Option ℕ };
+
+    /// Behind another a column costs at least what it costs by itself and what the moves of the voices cost.
+    ghost least_moves: { (it : Self) (i : ℕ) → AreLeastMoves (chains it) i (own it i) (moves it i) };
 
     /// How many places there are.
     fn places(&self) -> usize
@@ -56,11 +63,28 @@ pub trait Links {
         ensures least { IsLeastCost (chains self.now) i next.now.items result }
         ensures bound { IfSome result (λ cost. cost ≤ 2 ^ 52) };
 
-    /// The same as `cost`, where it is known what `next` costs at least: that needn't be found again.
-    fn cost_from(&self, i: usize, prev: Option<&Column>, next: &Column, known: u64) -> Option<u64>
+    /// What the move of a voice from one cell to another costs at a place. None only where no column with such a cell may be the
+    /// neighbor of one with the other.
+    fn move_cost(&self, i: usize, v: usize, before: Cell, next: Cell) -> Option<u64>
+        requires place { i < (chains self.now).places }
+        requires voice { v < 4 }
+        ensures value { result ≡ moves self.now i v before next }
+        ensures bound { IfSome result (λ cost. cost ≤ 2 ^ 50) };
+
+    /// The same as `cost`, where it is known what `next` costs at least, and what the moves of the voices cost together: that needn't be
+    /// found again.
+    fn cost_from(
+        &self,
+        i: usize,
+        prev: &Column,
+        next: &Column,
+        known: u64,
+        moved: u64,
+    ) -> Option<u64>
         requires place { i < (chains self.now).places }
         requires choice { Contains ((chains self.now).menu i) next.now.items }
         requires known { IsKnown (own self.now i next.now.items) known }
-        ensures value { result ≡ (chains self.now).cost i (given prev.entry) next.now.items }
+        requires moved { IsKnown (moves_sum (moves self.now i) prev.now.items next.now.items) moved }
+        ensures value { result ≡ (chains self.now).cost i (Some prev.now.items) next.now.items }
         ensures bound { IfSome result (λ cost. cost ≤ 2 ^ 53) };
 }

@@ -3,18 +3,20 @@
 ghost use Rattle.std.specs.Prelude.{◌≡◌, ◌<◌, ◌≤◌, ◌+◌, ◌-◌, ℕ, List, [], ◌*◌, ◌^◌, Some, length, suc, replicate, IfOk, IfErr, IfSome, OnOk, OnErr, IsSomeAnd, slice_index_or};
 ghost use Rattle.std.specs.Bool.{OnTrue};
 ghost use Rattle.fux_grid.specs.Exercises.{bar_of, slot_of};
-ghost use Rattle.chain_sums.specs.Candidates.{AreAllCandidates, GoByBounds};
 ghost use Rattle.chain_sums.specs.Chains.{AreFull, Chains, IsLeast};
+ghost use Rattle.chain_sums.specs.Choices.{AreChoices};
 ghost use Rattle.chain_sums.specs.Menus.{HaveSameColumns, IsMenuOf, IsPacked};
 ghost use Rattle.chain_sums.specs.Rows.{AllAtMost, AreOneCostAbove, IsAtMost, IsRow};
 ghost use Rattle.chain_sums.specs.Still.{IsStill};
 ghost use Rattle.chain_sums.specs.Tables.{AreNarrow, AreRows, AreSameRows, AreTablesOf, HaveRowAt, IsColumnAt, IsNumberFor, IsRestAt, IsLatestRow, IsNumbered, IsRestBehind, IsRowOfPlace, TellsWidth};
 
-use crate::candidates::{Candidate, candidates, least_of_candidates};
+use crate::candidates::candidates;
+use crate::choices::Choices;
 use crate::fresh::are_fresh;
 use crate::least::least_behind;
 use crate::links::Links;
 use crate::menu::Menu;
+use crate::moves::Moves;
 use crate::still::{is_still, least_of_held};
 use fux_grid::{Column, Place, WIDEST};
 use fux_pitch::Memory;
@@ -76,35 +78,25 @@ fn check_widths<L: Links>(links: &L) -> Result<(), TableFault>
     Ok(())
 }
 
-/// The least sums behind the columns of a menu, that of place `i`, from the menu of the next place, its sums and the order
-/// in which its columns are tried.
-fn sums_in_order<L: Links>(
+/// The least sums behind the columns of a menu, that of place `i`, from the columns that may come next.
+fn sums_by_choices<L: Links>(
     alloc: Global,
     links: &L,
     i: usize,
     menu: &Menu,
-    next: &Menu,
-    sums: &[Option<u64>],
-    order: &[Candidate],
+    choices: &Choices<'_>,
 ) -> Result<Vec<Option<u64>>, Memory>
     requires place { i + 1 < (L.chains links.now).places }
     requires short { i < 192 }
     requires menu { IsMenuOf ((L.chains links.now).menu i) menu.now }
-    requires next { IsMenuOf ((L.chains links.now).menu (i + 1)) next.now }
-    requires row { IsRow (L.chains links.now) (i + 1) sums.now }
-    requires small { AllAtMost (2 ^ 62) sums.now }
-    requires candidates { AreAllCandidates (L.chains links.now) (L.own links.now (i + 1)) (i + 1) sums.now order.now }
-    requires order { GoByBounds order.now }
+    requires choices { AreChoices (L.chains links.now) (L.own links.now (i + 1)) (L.moves links.now (i + 1)) (i + 1) choices.now }
     ensures row { IfOk result (λ row. IsRow (L.chains links.now) i row.items) }
-    ensures small { IfOk result (λ row. AreOneCostAbove sums.now row.items) }
+    ensures small { IfOk result (λ row. AreOneCostAbove choices.now.sums.now row.items) }
 {
     let width = menu.len();
-    let always = are_fresh(next);
     let mut row = Vec::with_capacity(alloc, width)?;
     for k in 0..width {
-        let prev = menu.column(k);
-        let least = least_of_candidates(links, i + 1, Some(prev), next, sums, order, always);
-        row.push_reserved(least);
+        row.push_reserved(choices.least_behind(links, i + 1, menu.column(k)));
     }
     Ok(row)
 }
@@ -163,8 +155,16 @@ fn sums_before<L: Links>(
     if is_still(next) {
         return sums_held(alloc, links, i, menu, next, sums);
     }
-    let order = candidates(alloc, links, i + 1, next, sums)?;
-    sums_in_order(alloc, links, i, menu, next, sums, &order)
+    let candidates = candidates(alloc, links, i + 1, next, sums)?;
+    let moves = Moves::new(alloc, links, i + 1, menu, next)?;
+    let choices = Choices {
+        menu: next,
+        sums,
+        candidates: &candidates,
+        moves: &moves,
+        always: are_fresh(next),
+    };
+    sums_by_choices(alloc, links, i, menu, &choices)
 }
 
 /// The least sums behind the columns of the last place's menu.

@@ -5,8 +5,8 @@ ghost use Rattle.fux_grid.specs.Exercises.{IsValid};
 ghost use Rattle.floor_tables.specs.Tables.{Task};
 
 use chain_sums::Links;
-use fux_grid::{Column, Exercise, MenuFault, menu, width};
-use fux_judge::{column_cost, link_cost, pair_cost};
+use fux_grid::{Cell, Column, Exercise, MenuFault, menu, width};
+use fux_judge::{column_cost, link_cost, move_cost, pair_cost_from};
 use penalty_sheet::Sheet;
 use std::alloc::Global;
 use std::marker::Model;
@@ -41,11 +41,17 @@ impl<'a> ColumnLinks<'a> {
 
 impl<'a> Links for ColumnLinks<'a> {
     ghost use Rattle.fux_judge.specs.Links.{column_of};
+    ghost use Rattle.fux_judge.specs.Moves.{move_of};
     ghost use Rattle.floor_tables.specs.Floors.{chains_of};
+    ghost use Rattle.floor_tables.specs.Moves as law;
 
     ghost chains = { λ task. chains_of task.exercise task.sheet };
 
     ghost own = { λ task. column_of task.exercise task.sheet };
+
+    ghost moves = { λ task. move_of task.exercise task.sheet };
+
+    ghost least_moves = { λ task. law.least_moves task.exercise task.sheet };
 
     fn places(&self) -> usize {
         8 * self.exercise.bars as usize
@@ -71,8 +77,19 @@ impl<'a> Links for ColumnLinks<'a> {
         column_cost(self.exercise, self.sheet, i, next)
     }
 
-    fn cost_from(&self, i: usize, prev: Option<&Column>, next: &Column, known: u64) -> Option<u64> {
-        let pair = pair_cost(self.exercise, self.sheet, i, prev, next)?;
+    fn move_cost(&self, i: usize, v: usize, before: Cell, next: Cell) -> Option<u64> {
+        move_cost(self.exercise, self.sheet, i, v as u8, before, next)
+    }
+
+    fn cost_from(
+        &self,
+        i: usize,
+        prev: &Column,
+        next: &Column,
+        known: u64,
+        moved: u64,
+    ) -> Option<u64> {
+        let pair = pair_cost_from(self.exercise, self.sheet, i, prev, next, moved)?;
         Some(known + pair)
     }
 }

@@ -1,7 +1,7 @@
-use Rattle.std.proofs.Common.{◌≡◌, ◌+◌, ◌^◌, ℕ, suc, List, [], Some, length, get_or, ap, ◌∙◌, subst, arith}
+use Rattle.std.proofs.Common.{◌≡◌, ◌+◌, ◌^◌, ℕ, suc, List, [], Some, None, length, get_or, ap, ◌∙◌, subst, arith}
 use Rattle.fux_grid.specs.declared.cell.Cell.{Cell}
 use Rattle.chain_sums.specs.Chains.{IsLeast}
-use Rattle.chain_sums.proofs.TableLemmas.{row_pushed, sums_pushed}
+use Rattle.chain_sums.proofs.TableLemmas.{each_pushed, sums_pushed}
 use Rattle.chain_sums.proofs.tables.sums_held.Goals as goal
 
 pub loop-k-preserved : goal.loop-k-preserved
@@ -21,8 +21,8 @@ loop-k-preserved g c =
       room = omega (arith, c.loop-k.invariant.room, c.push_reserved.ensures.capacity);
       counted = omega (arith, c.loop-k.invariant.counted, c.push_reserved.ensures.len);
       least = rw c.push_reserved.ensures.items
-          (row_pushed chains c.args.i c.loop-k.k c.loop-k.row.items c.least_of_held-least.result long
-          c.loop-k.invariant.least least);
+          (each_pushed (λ j o. IsLeast chains (suc c.args.i) (Some (get_or (chains.menu c.args.i) j [])) o) c.loop-k.k
+          c.loop-k.row.items c.least_of_held-least.result None long c.loop-k.invariant.least least);
       small = λ most h. rw c.push_reserved.ensures.items
           (sums_pushed (most + 2 ^ 53) c.loop-k.row.items c.least_of_held-least.result (c.loop-k.invariant.small most h)
           (c.least_of_held-least.ensures.bound most h));
