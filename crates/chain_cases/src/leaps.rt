@@ -5,8 +5,8 @@ ghost use Rattle.fux_grid.specs.Exercises.{IsValid};
 ghost use Rattle.chain_cases.specs.Leaps as specs;
 
 use chain_sums::Links;
-use fux_grid::{Cell, Column, Exercise, MenuFault, cell_of, menu, width};
-use fux_pitch::Pitch;
+use fux_grid::{Cell, Column, Exercise, cell_of, menu, width};
+use fux_pitch::{Memory, Pitch};
 use std::alloc::Global;
 use std::marker::Model;
 
@@ -87,8 +87,13 @@ impl<'a> Links for Leaps<'a> {
         width(self.exercise, i)
     }
 
-    fn menu(&self, alloc: Global, i: usize) -> Result<Vec<Column>, MenuFault> {
-        menu(alloc, self.exercise, i)
+    fn menu(&self, alloc: Global, i: usize) -> Result<Vec<Column>, Memory> {
+        menu(alloc, self.exercise, i).map_err(|_| Memory)
+    }
+
+    // of other places it isn't known, so each of them has a menu made for it
+    fn has_same_menu(&self, i: usize, j: usize) -> bool {
+        i == j
     }
 
     fn cost(&self, _i: usize, prev: Option<&Column>, next: &Column) -> Option<u64> {

@@ -22,9 +22,7 @@ pub(crate) fn least_of_list<L: Links>(
     if i == links.places() {
         return Ok(Some(0));
     }
-    let Ok(menu) = links.menu(alloc, i) else {
-        return Err(Memory);
-    };
+    let menu = links.menu(alloc, i)?;
     let mut sums = Vec::new(alloc);
     for k in 0..menu.len() {
         if follows(prev, &menu[k])

@@ -53,9 +53,7 @@ fn agree_at(alloc: Global, links: &Leaps<'_>, tables: &Tables, i: usize) -> Resu
     if i >= links.places() {
         return Ok(true);
     }
-    let Ok(menu) = links.menu(alloc, i) else {
-        return Err("no menu".into());
-    };
+    let menu = links.menu(alloc, i)?;
     for column in &menu {
         if tables.rest(i, column) != least_of_list(alloc, links, i + 1, Some(column))? {
             return Ok(false);

@@ -1,4 +1,5 @@
--- Tables grow by a row at a time (`rows_more`), whose menu may be one of another row (`number_of_other`), and which may be the one before over again (`row_of_other`).
+-- Tables grow by a row at a time (`rows_more`), over menus that keep their numbers (`rows_kept`). A menu may be one that is
+-- kept (`number_of_other`), and a row may be the one before over again (`row_of_other`).
 use Rattle.std.proofs.Common.{◌≡◌, ◌⊎◌, inl, inr, ℕ, ◌+◌, ◌-◌, ◌*◌, ◌^◌, ◌<◌, ◌≤◌, List, [], ◌∷◌, ◌++◌, length, get_or, suc, Option, Some, None, refl, ap, sym, ◌∙◌, subst, arith}
 use Rattle.std.proofs.lemmas.List.{get_or_append_left, get_or_default, get_or_push, length_push}
 use Rattle.std.specs.Borrow.{Bor}
@@ -54,6 +55,17 @@ row_kept c i menus more row keep at = record {
   small = at.small;
 }
 
+-- so are all rows kept
+pub rows_kept : (c : Chains) (menus more : List Menu) (rows : List Row) (places : List ℕ) → KeepNumbers menus more
+    → All (IsPacked c.voices) more → AreRows c menus rows places → AreRows c more rows places
+rows_kept c menus more rows places keep packed are = record {
+  few = are.few;
+  packed = packed;
+  named = are.named;
+  at = λ j d h.
+      row_kept c (c.places - 1 - j) menus more (get_or rows (get_or places j 0) d) keep (are.at j d h);
+}
+
 -- a row that is the same as that of a place is one of the place
 row_same : (c : Chains) (i : ℕ) (menus : List Menu) (row other : Row) → AreSameRows other row → IsRowAt c i menus row
     → IsRowAt c i menus other
@@ -89,33 +101,32 @@ row_of_last rows row number e = record {
   same = λ d. subst (λ (r : Row). AreSameRows r row) (sym (get_or_push rows row d number (sym e))) (refl, refl);
 }
 
-module _ (c : Chains) (i number : ℕ) (menus more : List Menu) (rows others : List Row) (row : Row) (places : List ℕ)
-    (keep : KeepNumbers menus more) (packed : All (IsPacked c.voices) more) (have : HaveRowAt rows others row number)
-    (are : AreRows c menus rows places) (place : i + 1 + length places ≡ c.places) (here : IsRowAt c i more row) where
+module _ (c : Chains) (i number : ℕ) (menus : List Menu) (rows others : List Row) (row : Row) (places : List ℕ)
+    (have : HaveRowAt rows others row number) (are : AreRows c menus rows places)
+    (place : i + 1 + length places ≡ c.places) (here : IsRowAt c i menus row) where
   named : (j d : ℕ) → (j < length places) ⊎ (j ≡ length places) → get_or (places ++ number ∷ []) j d < length others
   named j d (inl h) = omega (arith, get_or_append_left places (number ∷ []) d j h, are.named j d h, have.keep.longer)
   named j d (inr e) = omega (arith, get_or_push places number d j (sym e), have.within)
 
   at : (j : ℕ) (d : Row) → (j < length places) ⊎ (j ≡ length places)
-      → IsRowAt c (c.places - 1 - j) more (get_or others (get_or (places ++ number ∷ []) j 0) d)
+      → IsRowAt c (c.places - 1 - j) menus (get_or others (get_or (places ++ number ∷ []) j 0) d)
   at j d (inl h) =
       let old : ℕ = get_or places j 0 in
       let same : get_or others old d ≡ get_or rows old d = have.keep.same old d (are.named j 0 h) in
-      subst (λ (n : ℕ). IsRowAt c (c.places - 1 - j) more (get_or others n d))
+      subst (λ (n : ℕ). IsRowAt c (c.places - 1 - j) menus (get_or others n d))
       (sym (get_or_append_left places (number ∷ []) 0 j h))
-      (subst (λ (r : Row). IsRowAt c (c.places - 1 - j) more r) (sym same)
-      (row_kept c (c.places - 1 - j) menus more (get_or rows old d) keep (are.at j d h)))
+      (subst (λ (r : Row). IsRowAt c (c.places - 1 - j) menus r) (sym same) (are.at j d h))
   at j d (inr e) =
       let last : i ≡ c.places - 1 - j = omega arith in
-      subst (λ (n : ℕ). IsRowAt c (c.places - 1 - j) more (get_or others n d))
+      subst (λ (n : ℕ). IsRowAt c (c.places - 1 - j) menus (get_or others n d))
       (sym (get_or_push places number 0 j (sym e)))
-      (subst (λ (k : ℕ). IsRowAt c k more (get_or others number d)) last
-      (row_same c i more row (get_or others number d) (have.same d) here))
+      (subst (λ (k : ℕ). IsRowAt c k menus (get_or others number d)) last
+      (row_same c i menus row (get_or others number d) (have.same d) here))
 
-  pub rows_more : AreRows c more others (places ++ number ∷ [])
+  pub rows_more : AreRows c menus others (places ++ number ∷ [])
   rows_more = record {
     few = omega (arith, length_push places number);
-    packed = packed;
+    packed = are.packed;
     named = λ j d h. named j d (below_or_at j (length places) (omega (arith, length_push places number)));
     at = λ j d h. at j d (below_or_at j (length places) (omega (arith, length_push places number)));
   }

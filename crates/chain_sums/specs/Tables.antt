@@ -47,6 +47,11 @@ abbrev pub IsNumberFor : List Menu → List Menu → Menu → ℕ → Type 0
 IsNumberFor menus more menu number =
     (voices : ℕ) → All (IsPacked voices) menus → IsPacked voices menu → HaveColumnsAt voices menus more menu number
 
+-- the menu of a place is kept under a number
+pub record IsMenuAt (c : Chains) (i : ℕ) (menus : List Menu) (number : ℕ) : Type 0 where
+  pub within : number < length menus
+  pub columns : (d : Menu) → IsMenuOf (c.menu i) (slice_index_or menus number d)
+
 -- two rows have the same menu and the same sums
 abbrev pub AreSameRows : Row → Row → Type 0
 AreSameRows row other = (row.menu ≡ other.menu) × (row.sums.items ≡ other.sums.items)

@@ -1,6 +1,7 @@
 //! What chains are made of.
 
 ghost use Rattle.std.specs.Prelude.{◌≡◌, ◌≤◌, ◌<◌, ◌^◌, ℕ, length, IfOk, IfSome, List, Option, Some};
+ghost use Rattle.std.specs.Bool.{OnTrue};
 ghost use Rattle.std.specs.List.{Contains};
 ghost use Rattle.fux_grid.specs.declared.cell.Cell.{Cell as ACell};
 ghost use Rattle.fux_grid.specs.Grid.{items_of};
@@ -8,7 +9,8 @@ ghost use Rattle.fux_grid.specs.Menus.{IsAscending};
 ghost use Rattle.chain_sums.specs.Chains.{AreFull, Chains, IsKnown, IsLeastCost, given};
 ghost use Rattle.chain_sums.specs.Moves.{AreLeastMoves, moves_sum};
 
-use fux_grid::{Cell, Column, MenuFault};
+use fux_grid::{Cell, Column};
+use fux_pitch::Memory;
 use std::alloc::Global;
 
 /// Columns that may stand side by side: the menu of each place, and what a column costs there behind another.
@@ -39,12 +41,18 @@ pub trait Links {
         requires { i < (chains self.now).places }
         ensures { result ≡ length ((chains self.now).menu i) };
 
-    /// The menu of a place, in reading order. It is asked for where no menu is too wide, and a fault is want of memory.
-    fn menu(&self, alloc: Global, i: usize) -> Result<Vec<Column>, MenuFault>
+    /// The menu of a place, in reading order. It is asked for where no menu is too wide.
+    fn menu(&self, alloc: Global, i: usize) -> Result<Vec<Column>, Memory>
         requires { i < (chains self.now).places }
         ensures value { IfOk result (λ menu. items_of menu.items ≡ (chains self.now).menu i) }
         ensures order { IfOk result (λ menu. IsAscending (items_of menu.items)) }
         ensures full { IfOk result (λ menu. AreFull (chains self.now).voices (items_of menu.items)) };
+
+    /// Whether two places are known to have the same menu: then it is made once.
+    fn has_same_menu(&self, i: usize, j: usize) -> bool
+        requires first { i < (chains self.now).places }
+        requires second { j < (chains self.now).places }
+        ensures { OnTrue result ((chains self.now).menu i ≡ (chains self.now).menu j) };
 
     /// What `next` costs at a place, behind `prev`, which is lacking at the first place. None where the two may not be
     /// neighbors. It is asked of columns that follow one another.

@@ -8,7 +8,7 @@ ghost use Rattle.chain_sums.specs.Choices.{AreChoices};
 ghost use Rattle.chain_sums.specs.Menus.{HaveSameColumns, IsMenuOf, IsPacked};
 ghost use Rattle.chain_sums.specs.Rows.{AllAtMost, AreOneCostAbove, IsAtMost, IsRow};
 ghost use Rattle.chain_sums.specs.Still.{IsStill};
-ghost use Rattle.chain_sums.specs.Tables.{AreNarrow, AreRows, AreSameRows, AreTablesOf, HaveRowAt, IsColumnAt, IsNumberFor, IsRestAt, IsLatestRow, IsNumbered, IsRestBehind, IsRowOfPlace, TellsWidth};
+ghost use Rattle.chain_sums.specs.Tables.{AreNarrow, AreRows, AreSameRows, AreTablesOf, HaveRowAt, IsColumnAt, IsMenuAt, IsNumberFor, IsRestAt, IsLatestRow, IsNumbered, IsRestBehind, IsRowOfPlace, TellsWidth};
 
 use crate::candidates::candidates;
 use crate::choices::Choices;
@@ -275,6 +275,44 @@ impl Tables {
         self.numbered(self.places[self.places.len() - 1 - i])
     }
 
+    /// The number of the menu of place `i`, where the place after has a row and is known to have the same menu.
+    fn number_of_next<L: Links>(&self, links: &L, i: usize) -> Option<usize>
+        requires place { i + 1 + length self.now.places.items ≡ (L.chains links.now).places }
+        requires short { (L.chains links.now).places ≤ 192 }
+        requires rows { AreRows (L.chains links.now) self.now.menus.items self.now.rows.items self.now.places.items }
+        ensures { IfSome result (IsMenuAt (L.chains links.now) i self.now.menus.items) }
+    {
+        let next = self.latest()?;
+        if links.has_same_menu(i, i + 1) {
+            Some(next.menu)
+        } else {
+            None
+        }
+    }
+
+    /// The number of the menu of place `i`, the last one that has no row yet.
+    fn number_of_menu<L: Links>(
+        &mut self,
+        alloc: Global,
+        links: &L,
+        i: usize,
+    ) -> Result<usize, Memory>
+        requires place { i + 1 + length self.old.places.items ≡ (L.chains links.now).places }
+        requires short { (L.chains links.now).places ≤ 192 }
+        requires rows { AreRows (L.chains links.now) self.old.menus.items self.old.rows.items self.old.places.items }
+        ensures rows { OnOk result
+            (AreRows (L.chains links.now) self.new.menus.items self.new.rows.items self.new.places.items) }
+        ensures places { self.new.places.items ≡ self.old.places.items }
+        ensures number { IfOk result (IsMenuAt (L.chains links.now) i self.new.menus.items) }
+    {
+        if let Some(number) = self.number_of_next(links, i) {
+            return Ok(number);
+        }
+        let columns = links.menu(alloc, i)?;
+        let menu = Menu::new(alloc, links.voices(), columns)?;
+        number_of(&mut self.menus, menu)
+    }
+
     /// Adds the row of place `i`, the last one that has none yet.
     fn add_row<L: Links>(&mut self, alloc: Global, links: &L, i: usize) -> Result<(), Memory>
         requires place { i + 1 + length self.old.places.items ≡ (L.chains links.now).places }
@@ -284,12 +322,8 @@ impl Tables {
             (AreRows (L.chains links.now) self.new.menus.items self.new.rows.items self.new.places.items) }
         ensures longer { OnOk result (length self.new.places.items ≡ length self.old.places.items + 1) }
     {
-        let Ok(columns) = links.menu(alloc, i) else {
-            return Err(Memory);
-        };
-        let menu = Menu::new(alloc, links.voices(), columns)?;
-        let sums = sums_of(alloc, links, i, &menu, self)?;
-        let number = number_of(&mut self.menus, menu)?;
+        let number = self.number_of_menu(alloc, links, i)?;
+        let sums = sums_of(alloc, links, i, &self.menus[number], self)?;
         let row = Row { menu: number, sums };
         let place = number_of_row(&mut self.rows, row)?;
         self.places.push(place)?;

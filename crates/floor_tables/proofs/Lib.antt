@@ -1,2 +1,3 @@
 pub mod Grows
 pub mod RestLemmas
+pub mod SameMenus

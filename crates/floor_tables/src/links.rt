@@ -1,12 +1,15 @@
 //! The chains of an exercise.
 
-ghost use Rattle.std.specs.Prelude.{◌≡◌};
-ghost use Rattle.fux_grid.specs.Exercises.{IsValid};
+ghost use Rattle.std.specs.Prelude.{◌≡◌, ◌<◌};
+ghost use Rattle.std.specs.Bool.{OnTrue};
+ghost use Rattle.fux_grid.specs.Exercises.{IsValid, columns_in};
+ghost use Rattle.fux_grid.specs.Menus.{cells_at};
 ghost use Rattle.floor_tables.specs.Tables.{Task};
 
 use chain_sums::Links;
-use fux_grid::{Cell, Column, Exercise, MenuFault, menu, width};
+use fux_grid::{Cell, Column, Exercise, menu, voice_cells, width};
 use fux_judge::{column_cost, link_cost, move_cost, pair_cost_from};
+use fux_pitch::Memory;
 use penalty_sheet::Sheet;
 use std::alloc::Global;
 use std::marker::Model;
@@ -39,6 +42,17 @@ impl<'a> ColumnLinks<'a> {
     }
 }
 
+/// Whether a voice may have the same cells at two places.
+fn has_same_cells(exercise: &Exercise, v: u8, i: usize, j: usize) -> bool
+    requires valid { IsValid exercise.now }
+    requires voice { v < exercise.now.voices }
+    requires first { i < columns_in exercise.now }
+    requires second { j < columns_in exercise.now }
+    ensures { OnTrue result (cells_at exercise.now i v ≡ cells_at exercise.now j v) }
+{
+    voice_cells(exercise, v, i).as_slice() == voice_cells(exercise, v, j).as_slice()
+}
+
 impl<'a> Links for ColumnLinks<'a> {
     ghost use Rattle.fux_judge.specs.Links.{column_of};
     ghost use Rattle.fux_judge.specs.Moves.{move_of};
@@ -65,8 +79,17 @@ impl<'a> Links for ColumnLinks<'a> {
         width(self.exercise, i)
     }
 
-    fn menu(&self, alloc: Global, i: usize) -> Result<Vec<Column>, MenuFault> {
-        menu(alloc, self.exercise, i)
+    fn menu(&self, alloc: Global, i: usize) -> Result<Vec<Column>, Memory> {
+        menu(alloc, self.exercise, i).map_err(|_| Memory)
+    }
+
+    fn has_same_menu(&self, i: usize, j: usize) -> bool {
+        for v in 0..self.exercise.voices {
+            if !has_same_cells(self.exercise, v, i, j) {
+                return false;
+            }
+        }
+        true
     }
 
     fn cost(&self, i: usize, prev: Option<&Column>, next: &Column) -> Option<u64> {
