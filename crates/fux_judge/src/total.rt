@@ -99,7 +99,8 @@ fn charges_of(ex: &Exercise, sheet: &Sheet, score: &Score) -> u64
 fn line_of(ex: &Exercise, sheet: &Sheet, score: &Score, v: u8) -> u64
     requires valid { IsValid ex.now }
     requires complete { IsComplete ex.now score.now }
-    ensures value { result ≡ (if voices_words.is_free ex.now v then words.cost_of_line sheet.now (cells_of_voice score.now.columns v) else 0) }
+    ensures value { result ≡ (if voices_words.is_free ex.now v
+        then words.cost_of_line sheet.now (cells_of_voice score.now.columns v) else 0) }
     ensures bound { result ≤ 83622660 }
 {
     if !is_free(ex, v) {

@@ -39,11 +39,13 @@ pub fn step_unbroken(ex: &Exercise, sheet: &Sheet, state: &State, col: &Column) 
     // settles of tolls and prices.
     ensures broken { GoingOn ex.now state.now col.now.items (λ p next. IfNone result (settles_break ex.now p next ≡ true)) }
     ensures unbroken { GoingOn ex.now state.now col.now.items (λ p next. IfSome result (λ it. settles_break ex.now p next ≡ false)) }
-    ensures settled { GoingOn ex.now state.now col.now.items (λ p next. IfSome result (λ it. it.paid ≡ newly_paid ex.now sheet.now p next)) }
+    ensures settled { GoingOn ex.now state.now col.now.items (λ p next.
+        IfSome result (λ it. it.paid ≡ newly_paid ex.now sheet.now p next)) }
     ensures paid { GoingOn ex.now state.now col.now.items (λ p next. IfSome result (λ it. PaysMore ex.now sheet.now p next it.paid)) }
     ensures bound { IfSome result (λ verdict. verdict.paid ≤ 134217728) }
     ensures none_broken { IfSome result (λ verdict. verdict.broken.bits ≡ 0) }
-    ensures least { GrownPrefix ex.now state.now col.now.items (λ longer. IfSome result (λ it. it.least ≡ least_of ex.now sheet.now longer)) }
+    ensures least { GrownPrefix ex.now state.now col.now.items (λ longer.
+        IfSome result (λ it. it.least ≡ least_of ex.now sheet.now longer)) }
     ensures least_bound { IfSome result (λ verdict. verdict.least ≤ 334490640) }
 {
     let next = next_state(ex, state, col);

@@ -129,7 +129,8 @@ pub(crate) fn moment_of<'a>(ex: &'a Exercise, state: &'a State, col: &'a Column)
 /// nothing is read.
 pub(crate) fn readings(sheet: &Sheet, m: &Moment<'_>) -> (RuleSet, u64)
     requires { IsReadable m.now }
-    ensures broken { (p : List (List ACell)) → IsAfter p m.now → (r : ℕ) → has_rule result.0.bits r ≡ breaks_one_of rules_at_once p m.now r }
+    ensures broken { (p : List (List ACell)) → IsAfter p m.now → (r : ℕ)
+        → has_rule result.0.bits r ≡ breaks_one_of rules_at_once p m.now r }
     ensures paid { (p : List (List ACell)) → IsAfter p m.now → result.1 ≡ paid_at_once sheet.now p m.now }
     ensures bound { result.1 ≤ 9784200 }
 {
@@ -140,7 +141,8 @@ pub(crate) fn readings(sheet: &Sheet, m: &Moment<'_>) -> (RuleSet, u64)
     (broken_of(rules_left(m), m), paid)
 }
 
-/// Judges a column that comes after a prefix: which rules it breaks strictly, what it costs, and the state of the longer prefix. It takes no memory.
+/// Judges a column that comes after a prefix: which rules it breaks strictly, what it costs, and the state of the longer prefix.
+/// It takes no memory.
 pub fn step(ex: &Exercise, sheet: &Sheet, state: &State, col: &Column) -> Verdict
     requires valid { IsValid ex.now }
     requires room { state.now.newest.len < columns_in ex.now }

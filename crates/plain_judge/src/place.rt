@@ -60,7 +60,8 @@ pub(crate) fn is_settled_since(
     requires earlier { ForSome before (λ score. IsPart ex.now score.now) }
     requires part { IsPart ex.now score.now }
     requires place { i < length score.now.columns }
-    ensures { result ≡ settled_since (rules.is_settled rule ex.now voices.bits) (columns_of (option_copied before.entry)) score.now.columns i }
+    ensures { result ≡ settled_since (rules.is_settled rule ex.now voices.bits) (columns_of (option_copied before.entry))
+        score.now.columns i }
 {
     if is_settled_before(rule, ex, before, i, voices) {
         return false;

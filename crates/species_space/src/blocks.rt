@@ -57,8 +57,8 @@ impl BlockMenu {
         self.undead.as_slice() == undead && self.columns.as_slice() == columns
     }
 
-    /// The first column, from this number on, that may follow; the menu's length where there is none. Where nothing is held all may follow. At a
-    /// column of holds at most one may follow, and the hint is tried first.
+    /// The first column, from this number on, that may follow; the menu's length where there is none. Where nothing is held all may
+    /// follow. At a column of holds at most one may follow, and the hint is tried first.
     pub(crate) fn next_that_follows(&self, before: &[Cell], from: usize, hint: usize) -> usize
         requires cut { IsBlockMenu self.now }
         requires within { from ≤ length self.now.columns.items }

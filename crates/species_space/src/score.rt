@@ -11,7 +11,8 @@ use std::alloc::Global;
 /// The columns that a live path of the space leads to.
 pub fn score_of(alloc: Global, space: &SpeciesSpace<'_>, path: &[u16]) -> Result<Score, Memory>
     requires { is_alive_path space.now.exercise path.now ≡ true }
-    ensures { IfOk result (λ score. score ≡ record { voices = space.now.exercise.voices; columns = prefix_at space.now.exercise path.now }) }
+    ensures { IfOk result (λ score.
+        score ≡ record { voices = space.now.exercise.voices; columns = prefix_at space.now.exercise path.now }) }
 {
     let mut score = Score::new(alloc, space.voices())?;
     for (i, number) in path.iter().enumerate() {

@@ -257,7 +257,8 @@ fn child_by(
     Some((child, paid + verdict.least + rest))
 }
 
-/// For each column of a menu the number of the first one, from it on, that isn't dead after every prefix; the menu's length where there is none.
+/// For each column of a menu the number of the first one, from it on, that isn't dead after every prefix; the menu's length where
+/// there is none.
 fn undead_numbers(
     alloc: Global,
     exercise: &Exercise,

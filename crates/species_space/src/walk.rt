@@ -17,7 +17,8 @@ use fux_grid::{Cell, Exercise};
 use fux_judge::pruned_within;
 use penalty_sheet::Sheet;
 
-/// The first number, from this one on, of a column that may follow and isn't dead after every prefix; the menu's length where there is none.
+/// The first number, from this one on, of a column that may follow and isn't dead after every prefix; the menu's length where there
+/// is none.
 fn next_choice(menu: &BlockMenu, before: &[Cell], from: usize, hint: usize) -> usize
     requires cut { IsBlockMenu menu.now }
     requires counted { length menu.now.undead.items ≡ length menu.now.columns.items }
