@@ -98,12 +98,12 @@ fn number_in(cells: &[Cell], cell: Cell) -> usize
     cells.len()
 }
 
-/// The cells that a voice has in the columns of a menu, each once.
+/// The cells that a voice has in the columns of a menu, each once. Columns beside each other often have the same one.
 fn cells_in(menu: &Menu, v: usize) -> VoiceCells {
     let mut cells = ArrayVec::new();
     for k in 0..menu.len() {
         let cell = cell_of(menu.column(k), v);
-        if number_in(&cells, cell) == cells.len() && !cells.is_full() {
+        if cells.last() != Some(&cell) && !cells.contains(&cell) && !cells.is_full() {
             cells.push(cell);
         }
     }
