@@ -1,40 +1,22 @@
--- The test for equal cells, and whether a cell is among others (`cell_among`).
+-- Whether a cell is among others (`cell_among`).
 use Rattle.std.proofs.Common.{◌≡◌, Bool, true, IsTrue, List, refl, ap, sym, ◌∙◌}
 use Rattle.std.specs.Prelude.{◌↔◌}
 use Rattle.std.specs.List.{Contains, list_any}
 use Rattle.std.proofs.lemmas.List.Folds.{list_any_at}
 use Rattle.std.proofs.lemmas.Map.Views.{Contains-from_any}
 use Rattle.fux_grid.specs.declared.cell.Cell.{Cell}
-use Rattle.fux_grid.specs.declared.cell.Cell.TheVariants.{Rest, Hold, Start}
 use Rattle.fux_grid.specs.contracts.cell.CellPartialEq.TheImpl.{ghosts}
-use Rattle.fux_grid.proofs.PitchTests.{same_pitch-from_equal}
-use Rattle.fux_pitch.proofs.PitchLemmas.{equal_from_test}
-
-equal_cells : (c d : Cell) → ghosts.eq c d ≡ true → c ≡ d
-equal_cells Rest Rest h = refl
-equal_cells (Hold p) (Hold q) h = ap Hold (equal_from_test p q h)
-equal_cells (Start p) (Start q) h = ap Start (equal_from_test p q h)
-equal_cells Rest (Hold q) h = cc
-equal_cells Rest (Start q) h = cc
-equal_cells (Hold p) Rest h = cc
-equal_cells (Hold p) (Start q) h = cc
-equal_cells (Start p) Rest h = cc
-equal_cells (Start p) (Hold q) h = cc
-
-equal_to_itself : (c : Cell) → ghosts.eq c c ≡ true
-equal_to_itself Rest = refl
-equal_to_itself (Hold p) = same_pitch-from_equal p p refl
-equal_to_itself (Start p) = same_pitch-from_equal p p refl
+use Rattle.chain_sums.proofs.CellTests.{cells-Decides}
 
 among_from_test : (cells : List Cell) (cell : Cell) → list_any (λ c. ghosts.eq c cell) cells ≡ true
     → Contains cells cell
 among_from_test cells cell h =
-    Contains-from_any {eq = λ c d. ghosts.eq d c} (λ c d same. sym (equal_cells d c same)) cell cells h
+    Contains-from_any {eq = λ c d. ghosts.eq d c} (λ c d same. sym ((cells-Decides d c).0 same)) cell cells h
 
 test_from_among : (cells : List Cell) (cell : Cell) → Contains cells cell → list_any (λ c. ghosts.eq c cell) cells
     ≡ true
 test_from_among cells cell (k, h, e) =
-    list_any_at (λ c. ghosts.eq c cell) cells k cell h (ap (λ c. ghosts.eq c cell) e ∙ equal_to_itself cell)
+    list_any_at (λ c. ghosts.eq c cell) cells k cell h (ap (λ c. ghosts.eq c cell) e ∙ (cells-Decides cell cell).1 refl)
 
 pub cell_among : (cells others : List Cell) (cell : Cell) (answer : Bool) → others ≡ cells → answer
     ≡ list_any (λ c. ghosts.eq c cell) others → IsTrue answer ↔ Contains cells cell

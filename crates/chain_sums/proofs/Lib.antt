@@ -1,4 +1,5 @@
 pub mod CandidateLemmas
+pub mod CellTests
 pub mod ChoiceLemmas
 pub mod FreshLemmas
 pub mod LeastLemmas

@@ -2,7 +2,6 @@
 //! not be neighbors may not for a move of one voice.
 
 ghost use Rattle.std.specs.Prelude.{◌≡◌, ◌<◌, ◌≤◌, ◌^◌, ℕ, Option, length, slice_index_or, IfOk, IfSome};
-ghost use Rattle.std.specs.Bool.{OnTrue};
 ghost use Rattle.fux_grid.specs.declared.cell.Cell.{Cell as ACell};
 ghost use Rattle.fux_grid.specs.Cells.{cell_in};
 ghost use Rattle.chain_sums.specs.declared.moves.CellNumbers.{CellNumbers as Numbers};
@@ -72,26 +71,13 @@ pub(crate) struct Moves {
     numbers: Vec<CellNumbers>,
 }
 
-/// Whether two cells are the same.
-#[tactic(auto, using(fux_pitch::proofs::PitchLemmas::equal_from_test))]
-fn are_same(cell: Cell, other: Cell) -> bool
-    ensures { OnTrue result (cell ≡ other) }
-{
-    match (cell, other) {
-        (Cell::Rest, Cell::Rest) => true,
-        (Cell::Hold(p), Cell::Hold(q)) => p == q,
-        (Cell::Start(p), Cell::Start(q)) => p == q,
-        _ => false,
-    }
-}
-
 /// The number of a cell among others: as many as there are where it isn't among them.
 fn number_in(cells: &[Cell], cell: Cell) -> usize
     ensures number { IsNumbered cells.now cell result }
     ensures within { result ≤ length cells.now }
 {
     for k in 0..cells.len() {
-        if are_same(cells[k], cell) {
+        if cells[k] == cell {
             return k;
         }
     }
@@ -167,7 +153,7 @@ impl VoiceMoves {
         ensures { (moves : ACell → ACell → Option ℕ) → AreVoiceMoves moves self.now → IsRowFrom moves self.now cell result }
     {
         for k in 0..self.from.len() {
-            if are_same(self.from[k].cell, cell) {
+            if self.from[k].cell == cell {
                 return VoiceRow {
                     moves: self,
                     costs: &self.from[k].costs,

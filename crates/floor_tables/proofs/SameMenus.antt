@@ -1,5 +1,4 @@
--- Two places where each voice has the same cells have the same menu (`menus_same`). A test tells whether cells are the same
--- (`cells-Decides`).
+-- Two places where each voice has the same cells have the same menu (`menus_same`).
 use Rattle.std.proofs.Common.{◌≡◌, ℕ, ◌+◌, ◌++◌, ◌∷◌, Decides, [], refl, ap, sym, ◌∙◌}
 use Rattle.fux_grid.specs.declared.cell.Cell.{Cell}
 use Rattle.fux_grid.specs.declared.cell.Cell.TheVariants.{Rest, Hold, Start}
@@ -9,17 +8,6 @@ use Rattle.fux_grid.specs.Menus.{cells_at, combinations, menu_of}
 use Rattle.fux_grid.proofs.MenuLemmas.{first_choices, first_choices-all, first_choices-more}
 use Rattle.fux_grid.proofs.PitchTests.{same_pitch-from_equal}
 use Rattle.fux_pitch.proofs.PitchLemmas.{equal_from_test}
-
-pub cells-Decides : (c d : Cell) → Decides (ghosts.eq c d) (c ≡ d)
-cells-Decides Rest Rest = (λ h. refl, λ e. refl)
-cells-Decides (Hold p) (Hold q) = (λ h. ap Hold (equal_from_test p q h), λ e. same_pitch-from_equal p q cc)
-cells-Decides (Start p) (Start q) = (λ h. ap Start (equal_from_test p q h), λ e. same_pitch-from_equal p q cc)
-cells-Decides Rest (Hold q) = (λ h. cc, λ e. cc)
-cells-Decides Rest (Start q) = (λ h. cc, λ e. cc)
-cells-Decides (Hold p) Rest = (λ h. cc, λ e. cc)
-cells-Decides (Hold p) (Start q) = (λ h. cc, λ e. cc)
-cells-Decides (Start p) Rest = (λ h. cc, λ e. cc)
-cells-Decides (Start p) (Hold q) = (λ h. cc, λ e. cc)
 
 -- the first n voices have the same cells at two places
 abbrev pub HaveSameCells : Exercise → ℕ → ℕ → ℕ → Type 0

@@ -2,7 +2,7 @@ use Rattle.std.proofs.Common.{◌≡◌, sym, ◌∙◌}
 use Rattle.std.proofs.lemmas.Bool.{OnTrue_from}
 use Rattle.std.proofs.lemmas.Slice.Eq.{slice_eq-Decides}
 use Rattle.fux_grid.specs.Menus.{cells_at}
-use Rattle.floor_tables.proofs.SameMenus.{cells-Decides}
+use Rattle.chain_sums.proofs.CellTests.{cells-Decides}
 use Rattle.floor_tables.proofs.links.has_same_cells.Goals as goal
 
 pub returns : goal.returns
