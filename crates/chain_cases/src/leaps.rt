@@ -96,6 +96,11 @@ impl<'a> Links for Leaps<'a> {
         i == j
     }
 
+    // voice 1 pays only where its note starts
+    fn holds_freely(&self, _i: usize) -> bool {
+        true
+    }
+
     fn cost(&self, _i: usize, prev: Option<&Column>, next: &Column) -> Option<u64> {
         let before = match prev {
             Some(column) => cell_of(column, 1),

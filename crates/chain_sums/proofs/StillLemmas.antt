@@ -1,6 +1,7 @@
 -- In a menu of columns that hold all they sound at most one follows another: the one that goes on with all that the other sounds. So
--- its sum is the least (`one_held`), and where there is none there is no sum (`none_held`).
-use Rattle.std.proofs.Common.{◌≡◌, ℕ, zero, suc, ◌<◌, ◌≤◌, ◌↔◌, true, List, [], ◌∷◌, length, map, get_or, Option, Some, None, refl, ap, sym, ◌∙◌, subst, arith}
+-- its sum is the least (`one_held`), and where there is none there is no sum (`none_held`). Where it costs nothing, the place before
+-- has the same row, if it has the same menu (`row_goes_on`).
+use Rattle.std.proofs.Common.{◌≡◌, ℕ, zero, suc, ◌+◌, ◌<◌, ◌≤◌, ◌↔◌, true, List, [], ◌∷◌, length, map, get_or, Option, Some, None, refl, ap, sym, ◌∙◌, subst, arith}
 use Rattle.std.specs.Prelude.{IsSomeAnd}
 use Rattle.std.specs.List.{Contains, list_all}
 use Rattle.std.proofs.lemmas.Bool.{and_parts}
@@ -10,10 +11,12 @@ use Rattle.fux_grid.specs.declared.cell.Cell.{Cell}
 use Rattle.fux_grid.specs.declared.cell.Cell.TheVariants.{Rest, Hold, Start}
 use Rattle.fux_grid.specs.Cells.{cell_in, cell_follows}
 use Rattle.fux_grid.specs.Columns.{ColumnFollows}
-use Rattle.chain_sums.specs.Chains.{AreFull, Chains, IsLeast, IsLeastOf, HasSum}
+use Rattle.fux_grid.proofs.PitchTests.{same_pitch-from_equal}
+use Rattle.chain_sums.specs.Chains.{AreFull, Chains, IsLeast, IsLeastOf, HasSum, plus}
 use Rattle.chain_sums.specs.Packed.{packed}
 use Rattle.chain_sums.specs.Rows.{IsRow, IsSumAt, IsSumOf, IsSumWithin}
-use Rattle.chain_sums.specs.Still.{IsStill, all_hold, held, is_hold, packed_held}
+use Rattle.chain_sums.specs.Still.{GoesOnFreely, IsStill, all_hold, held, is_hold, packed_held}
+use Rattle.chain_sums.proofs.LeastLemmas.{row_is_enough, sum_of_both}
 use Rattle.chain_sums.proofs.SumLemmas.{least_is_one}
 
 -- ---- numbers
@@ -86,3 +89,61 @@ module _ (c : Chains) (i : ℕ) (before : List Cell) (row : List (Option ℕ)) (
           reached_by sum x ((value x).1
           (subst (λ (o : Option ℕ). IsSumOf c i (Some before) (get_or (c.menu i) n []) o x) rests
           (subst (λ (d : List Cell). IsSumOf c i (Some before) d (get_or row k None) x) same s)))
+
+-- ---- the row of the place before
+
+-- a column that holds all it sounds is the one that goes on with what it sounds
+held_is_own : (d : List Cell) → all_hold d ≡ true → map held d ≡ d
+held_is_own [] h = refl
+held_is_own (Rest ∷ d) h = cc
+held_is_own (Hold p ∷ d) h = ap (λ cells. Hold p ∷ cells) (held_is_own d h)
+held_is_own (Start p ∷ d) h = cc
+
+follows_itself : (d : List Cell) → all_hold d ≡ true → ColumnFollows d d
+follows_itself [] h v = refl
+follows_itself (Rest ∷ d) h v = cc
+follows_itself (Hold p ∷ d) h zero = same_pitch-from_equal p p refl
+follows_itself (Hold p ∷ d) h (suc v) = follows_itself d h v
+follows_itself (Start p ∷ d) h v = cc
+
+plus_nothing : (rest : Option ℕ) → plus (Some 0) rest ≡ rest
+plus_nothing None = refl
+plus_nothing (Some x) = ap Some (omega arith)
+
+module _ (c : Chains) (i : ℕ) (row : List (Option ℕ)) (within : i + 1 < c.places) (full : AreFull c.voices (c.menu (i + 1)))
+    (free : GoesOnFreely c i) (is : IsRow c (i + 1) row) where
+  goes_on_least : (k : ℕ) → k < length (c.menu (i + 1))
+      → IsLeast c (i + 1) (Some (get_or (c.menu (i + 1)) k [])) (get_or row k None)
+  goes_on_least k h =
+      row_is_enough c (i + 1) (Some d) row rest within is
+      (one_held c (i + 1) d row full own free.still k rest is h (λ there. sym (held_is_own d still)) value)
+    where
+      d : List Cell
+      d = get_or (c.menu (i + 1)) k []
+
+      rest : Option ℕ
+      rest = get_or row k None
+
+      still : all_hold d ≡ true
+      still = free.still k h
+
+      own : length d ≡ c.voices
+      own = All-contains (λ col. length col ≡ c.voices) (c.menu (i + 1)) d full (Contains-get_or (c.menu (i + 1)) k [] h)
+
+      value : (x : ℕ) → (rest ≡ Some x) ↔ IsSumAt c (i + 1) (Some d) row k x
+      value =
+          subst (λ (o : Option ℕ). (x : ℕ) → (o ≡ Some x) ↔ IsSumAt c (i + 1) (Some d) row k x) (plus_nothing rest)
+          (sum_of_both c (i + 1) (Some d) d rest (Some 0) (follows_itself d still) (sym (free.free d d still)))
+
+  -- each column of the place goes on with itself
+  pub row_goes_on : IsRow c i row
+  row_goes_on =
+      let next : i + 1 ≡ suc i = omega arith in
+      record {
+        beside = is.beside ∙ ap length (sym free.menu);
+        least = λ k h.
+            subst (λ (columns : List (List Cell)). IsLeast c (suc i) (Some (get_or columns k [])) (get_or row k None))
+            (sym free.menu)
+            (subst (λ (n : ℕ). IsLeast c n (Some (get_or (c.menu (i + 1)) k [])) (get_or row k None)) next
+            (goes_on_least k (subst (λ (columns : List (List Cell)). k < length columns) free.menu h)));
+      }

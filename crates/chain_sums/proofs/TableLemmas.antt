@@ -1,5 +1,6 @@
 -- Tables grow by a row at a time (`rows_more`), over menus that keep their numbers (`rows_kept`). A menu may be one that is
--- kept (`number_of_other`), and a row may be the one before over again (`row_of_other`).
+-- kept (`number_of_other`), and a row may be the one before over again (`row_of_other`), which may be known before it is computed
+-- (`same_row`).
 use Rattle.std.proofs.Common.{◌≡◌, ◌⊎◌, inl, inr, ℕ, ◌+◌, ◌-◌, ◌*◌, ◌^◌, ◌<◌, ◌≤◌, List, [], ◌∷◌, ◌++◌, length, get_or, suc, Option, Some, None, refl, ap, sym, ◌∙◌, subst, arith}
 use Rattle.std.proofs.lemmas.List.{get_or_append_left, get_or_default, get_or_push, length_push}
 use Rattle.std.specs.Borrow.{Bor}
@@ -12,11 +13,13 @@ use Rattle.fux_grid.specs.declared.cell.Cell.{Cell}
 use Rattle.chain_sums.specs.declared.menu.Menu.{Menu}
 use Rattle.chain_sums.specs.declared.tables.Row.{Row}
 use Rattle.chain_sums.specs.declared.tables.Tables.{Tables}
-use Rattle.chain_sums.specs.Chains.{Chains, IsLeast}
+use Rattle.chain_sums.specs.Chains.{AreFull, Chains, IsLeast}
 use Rattle.chain_sums.specs.Menus.{HaveSameColumns, IsMenuOf, IsPacked, columns_of}
 use Rattle.chain_sums.specs.Rows.{AllAtMost, IsAtMost, IsRow}
-use Rattle.chain_sums.specs.Tables.{AreRows, AreSameRows, HaveRowAt, AreTablesOf, IsNumberFor, IsNumbered, IsRowAt, KeepNumbers}
+use Rattle.chain_sums.specs.Still.{GoesOnFreely}
+use Rattle.chain_sums.specs.Tables.{AreRows, AreSameRows, HaveRowAt, AreTablesOf, IsNumberFor, IsNumbered, IsRowAt, IsRowNumberOf, KeepNumbers}
 use Rattle.chain_sums.proofs.LeastLemmas.{below_or_at, length-columns, same_value}
+use Rattle.chain_sums.proofs.StillLemmas.{row_goes_on}
 
 -- a menu may be kept under the number of another that has the same columns
 pub number_of_other : (menus : List Menu) (menu : Menu) (number : ℕ) → number < length menus
@@ -228,6 +231,49 @@ pub small_in : (c : Chains) (menus : List Menu) (i k : ℕ) (row : Row) → IsRo
 small_in c menus i k row here h =
     at_most_more ((c.places - 1 - i) * 2 ^ 53) (c.places * 2 ^ 53) (get_or row.sums.items k None) (omega arith)
     (here.small k h)
+
+-- ---- the row of the next place over again
+
+-- it is kept under the last number
+pub next_row : (c : Chains) (i : ℕ) (menus : List Menu) (rows : List Row) (places : List ℕ) (last number : ℕ)
+    → AreRows c menus rows places → i + 1 + length places ≡ c.places → last ≡ length places → 0 < last
+    → number ≡ get_or places (last - 1) number → IsRowNumberOf c (i + 1) menus rows number
+next_row c i menus rows places last number are place e some is = record {
+  within = number_within c menus rows places (last - 1) number are h is;
+  row = λ d.
+      subst (λ (k : ℕ). IsRowAt c k menus (get_or rows number d)) here
+      (subst (λ (n : ℕ). IsRowAt c (c.places - 1 - (last - 1)) menus (get_or rows n d))
+      (sym (is ∙ get_or_default places (last - 1) number 0 h)) (are.at (last - 1) d h));
+}
+  where
+    h : last - 1 < length places
+    h = omega (arith, e, some)
+
+    here : c.places - 1 - (last - 1) ≡ i + 1
+    here = omega (arith, place, e, some)
+
+row_again : (c : Chains) (i : ℕ) (menus : List Menu) (row : Row) (some : Menu) → i + 1 < c.places
+    → All (IsPacked c.voices) menus → GoesOnFreely c i → IsRowAt c (i + 1) menus row → IsRowAt c i menus row
+row_again c i menus row some within packed free next = record {
+  named = next.named;
+  menu = λ d. next.menu d ∙ sym free.menu;
+  sums = row_goes_on c i row.sums.items within full free next.sums;
+  small = λ k h.
+      at_most_more ((c.places - 1 - (i + 1)) * 2 ^ 53) ((c.places - 1 - i) * 2 ^ 53) (get_or row.sums.items k None)
+      (omega arith) (next.small k h);
+}
+  where
+    full : AreFull c.voices (c.menu (i + 1))
+    full = subst (AreFull c.voices) (next.menu some) (packed row.menu some next.named).full
+
+-- the place has the same one where it goes on freely
+pub same_row : (c : Chains) (i : ℕ) (menus : List Menu) (rows : List Row) (number : ℕ) (some : Menu)
+    → i + 1 < c.places → All (IsPacked c.voices) menus → GoesOnFreely c i → IsRowNumberOf c (i + 1) menus rows number
+    → IsRowNumberOf c i menus rows number
+same_row c i menus rows number some within packed free next = record {
+  within = next.within;
+  row = λ d. row_again c i menus (get_or rows number d) some within packed free (next.row d);
+}
 
 -- ---- a row grows by a sum at a time
 

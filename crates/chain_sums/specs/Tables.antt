@@ -52,6 +52,11 @@ pub record IsMenuAt (c : Chains) (i : ℕ) (menus : List Menu) (number : ℕ) : 
   pub within : number < length menus
   pub columns : (d : Menu) → IsMenuOf (c.menu i) (slice_index_or menus number d)
 
+-- the row of a place is kept under a number
+pub record IsRowNumberOf (c : Chains) (i : ℕ) (menus : List Menu) (rows : List Row) (number : ℕ) : Type 0 where
+  pub within : number < length rows
+  pub row : (d : Row) → IsRowAt c i menus (slice_index_or rows number d)
+
 -- two rows have the same menu and the same sums
 abbrev pub AreSameRows : Row → Row → Type 0
 AreSameRows row other = (row.menu ≡ other.menu) × (row.sums.items ≡ other.sums.items)

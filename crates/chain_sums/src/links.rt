@@ -8,6 +8,7 @@ ghost use Rattle.fux_grid.specs.Grid.{items_of};
 ghost use Rattle.fux_grid.specs.Menus.{IsAscending};
 ghost use Rattle.chain_sums.specs.Chains.{AreFull, Chains, IsKnown, IsLeastCost, given};
 ghost use Rattle.chain_sums.specs.Moves.{AreLeastMoves, moves_sum};
+ghost use Rattle.chain_sums.specs.Still.{HoldingIsFree};
 
 use fux_grid::{Cell, Column};
 use fux_pitch::Memory;
@@ -53,6 +54,11 @@ pub trait Links {
         requires first { i < (chains self.now).places }
         requires second { j < (chains self.now).places }
         ensures { OnTrue result ((chains self.now).menu i ≡ (chains self.now).menu j) };
+
+    /// Whether a column that holds all it sounds is known to cost nothing at a place, behind any column.
+    fn holds_freely(&self, i: usize) -> bool
+        requires { i < (chains self.now).places }
+        ensures { OnTrue result (HoldingIsFree (chains self.now) i) };
 
     /// What `next` costs at a place, behind `prev`, which is lacking at the first place. None where the two may not be
     /// neighbors. It is asked of columns that follow one another.

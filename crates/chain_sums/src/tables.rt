@@ -7,8 +7,8 @@ ghost use Rattle.chain_sums.specs.Chains.{AreFull, Chains, IsLeast};
 ghost use Rattle.chain_sums.specs.Choices.{AreChoices};
 ghost use Rattle.chain_sums.specs.Menus.{HaveSameColumns, IsMenuOf, IsPacked};
 ghost use Rattle.chain_sums.specs.Rows.{AllAtMost, AreOneCostAbove, IsAtMost, IsRow};
-ghost use Rattle.chain_sums.specs.Still.{IsStill};
-ghost use Rattle.chain_sums.specs.Tables.{AreNarrow, AreRows, AreSameRows, AreTablesOf, HaveRowAt, IsColumnAt, IsMenuAt, IsNumberFor, IsRestAt, IsLatestRow, IsNumbered, IsRestBehind, IsRowOfPlace, TellsWidth};
+ghost use Rattle.chain_sums.specs.Still.{GoesOnFreely, IsStill};
+ghost use Rattle.chain_sums.specs.Tables.{AreNarrow, AreRows, AreSameRows, AreTablesOf, HaveRowAt, IsColumnAt, IsMenuAt, IsNumberFor, IsRestAt, IsLatestRow, IsNumbered, IsRestBehind, IsRowNumberOf, IsRowOfPlace, TellsWidth};
 
 use crate::candidates::candidates;
 use crate::choices::Choices;
@@ -196,6 +196,16 @@ fn sums_of<L: Links>(
     sums_before(alloc, links, i, menu, &tables.menus[next.menu], &next.sums)
 }
 
+/// Whether place `i` is known to have the menu of the next place, where each column holds all it sounds, and costs nothing.
+fn goes_on_freely<L: Links>(links: &L, i: usize, next: &Menu) -> bool
+    requires place { i + 1 < (L.chains links.now).places }
+    requires short { i < 192 }
+    requires next { IsMenuOf ((L.chains links.now).menu (i + 1)) next.now }
+    ensures { OnTrue result (GoesOnFreely (L.chains links.now) i) }
+{
+    links.has_same_menu(i, i + 1) && links.holds_freely(i + 1) && is_still(next)
+}
+
 /// The number of a menu that has the same columns as this one.
 fn number_of_same(menus: &[Menu], menu: &Menu) -> Option<usize>
     ensures within { IfSome result (λ number. number < length menus.now) }
@@ -313,8 +323,8 @@ impl Tables {
         number_of(&mut self.menus, menu)
     }
 
-    /// Adds the row of place `i`, the last one that has none yet.
-    fn add_row<L: Links>(&mut self, alloc: Global, links: &L, i: usize) -> Result<(), Memory>
+    /// Computes the row of place `i`, the last one that has none yet, and adds it.
+    fn compute_row<L: Links>(&mut self, alloc: Global, links: &L, i: usize) -> Result<(), Memory>
         requires place { i + 1 + length self.old.places.items ≡ (L.chains links.now).places }
         requires short { (L.chains links.now).places ≤ 192 }
         requires rows { AreRows (L.chains links.now) self.old.menus.items self.old.rows.items self.old.places.items }
@@ -328,6 +338,43 @@ impl Tables {
         let place = number_of_row(&mut self.rows, row)?;
         self.places.push(place)?;
         Ok(())
+    }
+
+    /// The number of the row of the place after, where place `i` is known to have the same one: a chain goes on from each column by
+    /// holding it, which costs nothing.
+    fn number_of_next_row<L: Links>(&self, links: &L, i: usize) -> Option<usize>
+        requires place { i + 1 + length self.now.places.items ≡ (L.chains links.now).places }
+        requires short { (L.chains links.now).places ≤ 192 }
+        requires rows { AreRows (L.chains links.now) self.now.menus.items self.now.rows.items self.now.places.items }
+        ensures { IfSome result (IsRowNumberOf (L.chains links.now) i self.now.menus.items self.now.rows.items) }
+    {
+        let count = self.places.len();
+        if count == 0 {
+            return None;
+        }
+        let number = self.places[count - 1];
+        let next = self.numbered(number)?;
+        if goes_on_freely(links, i, &self.menus[next.menu]) {
+            Some(number)
+        } else {
+            None
+        }
+    }
+
+    /// Adds the row of place `i`, the last one that has none yet.
+    fn add_row<L: Links>(&mut self, alloc: Global, links: &L, i: usize) -> Result<(), Memory>
+        requires place { i + 1 + length self.old.places.items ≡ (L.chains links.now).places }
+        requires short { (L.chains links.now).places ≤ 192 }
+        requires rows { AreRows (L.chains links.now) self.old.menus.items self.old.rows.items self.old.places.items }
+        ensures rows { OnOk result
+            (AreRows (L.chains links.now) self.new.menus.items self.new.rows.items self.new.places.items) }
+        ensures longer { OnOk result (length self.new.places.items ≡ length self.old.places.items + 1) }
+    {
+        if let Some(number) = self.number_of_next_row(links, i) {
+            self.places.push(number)?;
+            return Ok(());
+        }
+        self.compute_row(alloc, links, i)
     }
 
     /// The least sum over all chains, where each place has its row.

@@ -1,3 +1,4 @@
+pub mod FreeHolds
 pub mod Grows
 pub mod RestLemmas
 pub mod SameMenus

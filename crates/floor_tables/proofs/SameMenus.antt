@@ -1,13 +1,8 @@
 -- Two places where each voice has the same cells have the same menu (`menus_same`).
-use Rattle.std.proofs.Common.{◌≡◌, ℕ, ◌+◌, ◌++◌, ◌∷◌, Decides, [], refl, ap, sym, ◌∙◌}
-use Rattle.fux_grid.specs.declared.cell.Cell.{Cell}
-use Rattle.fux_grid.specs.declared.cell.Cell.TheVariants.{Rest, Hold, Start}
+use Rattle.std.proofs.Common.{◌≡◌, ℕ, ◌+◌, ◌++◌, ◌∷◌, [], ap, sym, ◌∙◌}
 use Rattle.fux_grid.specs.declared.exercise.Exercise.{Exercise}
-use Rattle.fux_grid.specs.contracts.cell.CellPartialEq.TheImpl.{ghosts}
 use Rattle.fux_grid.specs.Menus.{cells_at, combinations, menu_of}
 use Rattle.fux_grid.proofs.MenuLemmas.{first_choices, first_choices-all, first_choices-more}
-use Rattle.fux_grid.proofs.PitchTests.{same_pitch-from_equal}
-use Rattle.fux_pitch.proofs.PitchLemmas.{equal_from_test}
 
 -- the first n voices have the same cells at two places
 abbrev pub HaveSameCells : Exercise → ℕ → ℕ → ℕ → Type 0

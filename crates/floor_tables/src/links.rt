@@ -11,6 +11,7 @@ use fux_grid::{Cell, Column, Exercise, menu, voice_cells, width};
 use fux_judge::{column_cost, link_cost, move_cost, pair_cost_from};
 use fux_pitch::Memory;
 use penalty_sheet::Sheet;
+use rule_law::begins_bar;
 use std::alloc::Global;
 use std::marker::Model;
 
@@ -90,6 +91,11 @@ impl<'a> Links for ColumnLinks<'a> {
             }
         }
         true
+    }
+
+    // where no bar begins, no rule and no toll of neighbors speaks of a column in which nothing starts
+    fn holds_freely(&self, i: usize) -> bool {
+        !begins_bar(i)
     }
 
     fn cost(&self, i: usize, prev: Option<&Column>, next: &Column) -> Option<u64> {

@@ -3,7 +3,7 @@ use Rattle.chain_sums.specs.declared.tables.Row.{Row}
 use Rattle.chain_sums.specs.Rows.{AllAtMost}
 use Rattle.chain_sums.specs.Tables.{IsRowAt}
 use Rattle.chain_sums.proofs.TableLemmas.{rows_more}
-use Rattle.chain_sums.proofs.tables.Tables.add_row.Goals as goal
+use Rattle.chain_sums.proofs.tables.Tables.compute_row.Goals as goal
 
 pub returns-clause-rows : goal.returns-clause-rows
 returns-clause-rows g c =
