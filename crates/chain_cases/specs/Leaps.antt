@@ -10,6 +10,7 @@ use Rattle.fux_grid.specs.Cells.{cell_in, pitch_of}
 use Rattle.fux_grid.specs.Exercises.{columns_in}
 use Rattle.fux_grid.specs.Menus.{menu_of}
 use Rattle.chain_sums.specs.Chains.{Chains, cells_of, plus}
+use Rattle.chain_sums.proofs.LeastLemmas.{same_value}
 use Rattle.chain_sums.specs.Moves.{AreLeastMoves, moves_sum}
 
 -- how many degrees lie between two pitches
@@ -52,9 +53,5 @@ pub least_moves : (ex : Exercise) (i : ℕ) → AreLeastMoves (chains_of ex) i (
 least_moves ex i before d x y cost own =
     subst (λ (o : Option ℕ). IsSomeAnd o (λ z. y + z ≤ x)) (sym (moves_are before d ∙ cost)) (at y own)
   where
-    value_of : Option ℕ → ℕ
-    value_of None = 0
-    value_of (Some n) = n
-
     at : (y : ℕ) → Some 0 ≡ Some y → y + x ≤ x
-    at y e = let none : 0 ≡ y = ap value_of e in omega arith
+    at y e = let none : 0 ≡ y = same_value 0 y e in omega arith

@@ -43,15 +43,15 @@ pub record AreChoirMoves (moves : ℕ → Cell → Cell → Option ℕ) (choir :
   pub soprano : AreVoiceMoves (moves 3) choir.soprano
 
 -- the cell that has this number, if any has it, is that one
-abbrev pub IsNumbered : List Cell → Cell → ℕ → Type 0
-IsNumbered cells cell n = n < length cells → slice_index_or cells n Rest ≡ cell
+abbrev pub IsNumberAmong : List Cell → Cell → ℕ → Type 0
+IsNumberAmong cells cell n = n < length cells → slice_index_or cells n Rest ≡ cell
 
 -- each cell of a column has its number in its voice's table
 pub record AreNumbersOf (choir : Choir) (d : List Cell) (numbers : CellNumbers) : Type 0 where
-  pub bass : IsNumbered choir.bass.to.items (cell_in d 0) numbers.bass
-  pub tenor : IsNumbered choir.tenor.to.items (cell_in d 1) numbers.tenor
-  pub alto : IsNumbered choir.alto.to.items (cell_in d 2) numbers.alto
-  pub soprano : IsNumbered choir.soprano.to.items (cell_in d 3) numbers.soprano
+  pub bass : IsNumberAmong choir.bass.to.items (cell_in d 0) numbers.bass
+  pub tenor : IsNumberAmong choir.tenor.to.items (cell_in d 1) numbers.tenor
+  pub alto : IsNumberAmong choir.alto.to.items (cell_in d 2) numbers.alto
+  pub soprano : IsNumberAmong choir.soprano.to.items (cell_in d 3) numbers.soprano
 
 -- a row of a voice's table has what the moves from a cell cost
 pub record IsRowFrom (moves : Cell → Cell → Option ℕ) (it : VoiceMoves) (cell : Cell) (row : VoiceRow) : Type 0 where

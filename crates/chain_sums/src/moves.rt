@@ -6,7 +6,7 @@ ghost use Rattle.fux_grid.specs.declared.cell.Cell.{Cell as ACell};
 ghost use Rattle.fux_grid.specs.Cells.{cell_in};
 ghost use Rattle.chain_sums.specs.declared.moves.CellNumbers.{CellNumbers as Numbers};
 ghost use Rattle.chain_sums.specs.Menus.{columns_of};
-ghost use Rattle.chain_sums.specs.Moves.{AreChoirMoves, AreMovesOf, AreMovesTo, AreNumbersAt, AreNumbersOf, AreRowsFrom, AreVoiceMoves, IsNumbered, IsRowFrom, moves_sum};
+ghost use Rattle.chain_sums.specs.Moves.{AreChoirMoves, AreMovesOf, AreMovesTo, AreNumbersAt, AreNumbersOf, AreRowsFrom, AreVoiceMoves, IsNumberAmong, IsRowFrom, moves_sum};
 
 use crate::links::Links;
 use crate::menu::Menu;
@@ -73,7 +73,7 @@ pub(crate) struct Moves {
 
 /// The number of a cell among others: as many as there are where it isn't among them.
 fn number_in(cells: &[Cell], cell: Cell) -> usize
-    ensures number { IsNumbered cells.now cell result }
+    ensures number { IsNumberAmong cells.now cell result }
     ensures within { result ≤ length cells.now }
 {
     for k in 0..cells.len() {
@@ -143,7 +143,7 @@ impl VoiceMoves {
 
     /// The number of a cell to which the voice may move.
     fn number(&self, cell: Cell) -> u8
-        ensures { IsNumbered self.now.to.items cell result }
+        ensures { IsNumberAmong self.now.to.items cell result }
     {
         number_in(&self.to, cell) as u8
     }
@@ -183,7 +183,7 @@ impl<'a> VoiceRow<'a> {
         requires voice { v < 4 }
         requires row { AreMovesTo (L.moves links.now i v (cell_in before.now.items v)) self.now.moves.now.to.items
             self.now.costs.now }
-        requires number { IsNumbered self.now.moves.now.to.items (cell_in next.now.items v) number }
+        requires number { IsNumberAmong self.now.moves.now.to.items (cell_in next.now.items v) number }
         ensures value { result ≡ L.moves links.now i v (cell_in before.now.items v) (cell_in next.now.items v) }
         ensures bound { IfSome result (λ cost. cost ≤ 2 ^ 50) }
     {

@@ -10,6 +10,7 @@ use Rattle.fux_judge.specs.Moves.{move_of, moves_of}
 use Rattle.fux_judge.proofs.LinkLemmas.{link_parts}
 use Rattle.fux_judge.proofs.MoveLinks as links
 use Rattle.chain_sums.specs.Chains.{plus}
+use Rattle.chain_sums.proofs.LeastLemmas.{same_value}
 use Rattle.chain_sums.specs.Moves.{AreLeastMoves, moves_sum}
 use Rattle.floor_tables.specs.Floors.{chains_of}
 
@@ -33,14 +34,10 @@ second_part : (own pair : Option ℕ) (x y : ℕ) → together own pair ≡ Some
     → (p : ℕ) × (pair ≡ Some p) × (y + p ≡ x)
 second_part None pair x y e f = cc
 second_part (Some z) None x y e f = cc
-second_part (Some z) (Some p) x y e f = (p, refl, at (value_of (Some (z + p))) refl)
-  where
-    value_of : Option ℕ → ℕ
-    value_of None = 0
-    value_of (Some n) = n
-
-    at : (n : ℕ) → n ≡ z + p → y + p ≡ x
-    at n g = let h : z + p ≡ x = ap value_of e in let k : z ≡ y = ap value_of f in omega arith
+second_part (Some z) (Some p) x y e f =
+    let sum : z + p ≡ x = same_value (z + p) x e in
+    let own : z ≡ y = same_value z y f in
+    (p, refl, omega arith)
 
 pub least_moves : (ex : Exercise) (sheet : Sheet) (i : ℕ)
     → AreLeastMoves (chains_of ex sheet) i (column_of ex sheet i) (move_of ex sheet i)
