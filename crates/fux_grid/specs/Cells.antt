@@ -37,6 +37,18 @@ cell_follows Rest (Hold p) = false
 cell_follows (Hold q) (Hold p) = same_pitch q p
 cell_follows (Start q) (Hold p) = same_pitch q p
 
+-- two cells are equal, in kind and in pitch
+abbrev pub same_cell : Cell → Cell → Bool
+same_cell Rest Rest = true
+same_cell Rest (Hold q) = false
+same_cell Rest (Start q) = false
+same_cell (Hold p) Rest = false
+same_cell (Hold p) (Hold q) = same_pitch p q
+same_cell (Hold p) (Start q) = false
+same_cell (Start p) Rest = false
+same_cell (Start p) (Hold q) = false
+same_cell (Start p) (Start q) = same_pitch p q
+
 -- the newest cell of a line, a rest where there is none
 abbrev pub newest : List Cell → Cell
 newest [] = Rest

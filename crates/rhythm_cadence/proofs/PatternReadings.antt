@@ -8,7 +8,7 @@ use Rattle.std.proofs.lemmas.Bool.Decides.{nat_tests}
 use Rattle.std.proofs.lemmas.List.{length-append, length-drop}
 use Rattle.fux_grid.specs.declared.cell.Cell.{Cell}
 use Rattle.fux_grid.specs.declared.exercise.Exercise.{Exercise}
-use Rattle.fux_grid.specs.Cells.{cell_in}
+use Rattle.fux_grid.specs.Cells.{cell_in, same_cell}
 use Rattle.fux_grid.specs.Columns.{cell_at, earlier}
 use Rattle.fux_grid.specs.Exercises.{slot_of}
 use Rattle.fux_grid.proofs.Histories.{get_or-earlier}
@@ -17,7 +17,7 @@ use Rattle.rule_law.specs.Places.{reading_of}
 use Rattle.rule_law.specs.Rulebooks.{IsAmong, newly_costs}
 use Rattle.rhythm_cadence.specs.Book.{pattern_row}
 use Rattle.rhythm_cadence.specs.NewestCells.{bar_behind}
-use Rattle.rhythm_cadence.specs.Patterns.{pattern_at, repeats_bar, repeats_slot, same_cell, same_cells, settles_pattern}
+use Rattle.rhythm_cadence.specs.Patterns.{pattern_at, repeats_bar, repeats_slot, same_cells, settles_pattern}
 use Rattle.rhythm_cadence.proofs.BookLaws.{pattern_newly}
 
 module _ (s : List (List Cell)) (v i : ℕ) (second : 8 ≤ i) (whole : i + 8 ≡ length s) where

@@ -10,7 +10,7 @@ use Rattle.std.proofs.lemmas.List.{length-append, length-drop, reverse-reverse, 
 use Rattle.fux_grid.specs.declared.cell.Cell.{Cell}
 use Rattle.fux_grid.specs.declared.cell.Cell.TheVariants.{Rest, Hold, Start}
 use Rattle.fux_grid.specs.declared.exercise.Exercise.{Exercise}
-use Rattle.fux_grid.specs.Cells.{cell_in, first_of, is_hold, onsets_from, pitch_of}
+use Rattle.fux_grid.specs.Cells.{cell_in, first_of, is_hold, onsets_from, pitch_of, same_cell}
 use Rattle.fux_grid.specs.Columns.{earlier, line, newest_column}
 use Rattle.fux_grid.specs.Exercises.{IsFree, slot_of}
 use Rattle.fux_grid.specs.Orderly.{IsOrderly}
@@ -27,7 +27,7 @@ use Rattle.rule_law.specs.Places.{IsLocal, IsUndisturbed, SettlesAtEnd, reading_
 use Rattle.rule_law.specs.Terms.{previous_pitch, starts}
 use Rattle.rule_law.specs.Voices.{holds_of_voice, is_free, voice_of}
 use Rattle.rule_law.specs.Whole.{is_whole}
-use Rattle.rhythm_cadence.specs.Patterns.{pattern_enough, pattern_toll, repeats_bar, repeats_slot, same_cell}
+use Rattle.rhythm_cadence.specs.Patterns.{pattern_enough, pattern_toll, repeats_bar, repeats_slot}
 use Rattle.rhythm_cadence.specs.Quavers.{is_step_apart, is_stepwise, quaver_enough, quaver_row, starts_quaver}
 
 -- ---- S25

@@ -1,12 +1,11 @@
 -- The tolls Q15 and Q16: ligatures that are missing, and bars that repeat the bar before.
-use Rattle.std.specs.Prelude.{ℕ, ◌+◌, ◌-◌, ◌==◌, Bool, true, false, not, ◌&&◌, ◌||◌, nat_le, List, [], ◌∷◌, length, slice_index_or}
+use Rattle.std.specs.Prelude.{ℕ, ◌+◌, ◌-◌, ◌==◌, Bool, not, ◌&&◌, ◌||◌, nat_le, List, [], ◌∷◌, length, slice_index_or}
 use Rattle.std.specs.Int.{from_bool}
 use Rattle.std.specs.List.{list_all}
-use Rattle.fux_pitch.specs.Pitch.{same_pitch}
 use Rattle.fux_grid.specs.declared.cell.Cell.{Cell}
-use Rattle.fux_grid.specs.declared.cell.Cell.TheVariants.{Rest, Hold, Start}
+use Rattle.fux_grid.specs.declared.cell.Cell.TheVariants.{Rest}
 use Rattle.fux_grid.specs.declared.exercise.Exercise.{Exercise}
-use Rattle.fux_grid.specs.Cells.{cell_in}
+use Rattle.fux_grid.specs.Cells.{cell_in, same_cell}
 use Rattle.fux_grid.specs.Exercises.{slot_of}
 use Rattle.rule_law.specs.Bars.{begins_bar, begins_inner_bar}
 use Rattle.rule_law.specs.Places.{Row}
@@ -25,18 +24,6 @@ lacks_ligature_at ex s i = lacks_ligature ex i (slice_index_or s i [])
 
 abbrev pub ligature_toll : Exercise → NearRow ℕ
 ligature_toll ex i before previous now = from_bool (lacks_ligature ex i now)
-
--- two cells are equal, in kind and in pitch
-abbrev pub same_cell : Cell → Cell → Bool
-same_cell Rest Rest = true
-same_cell Rest (Hold q) = false
-same_cell Rest (Start q) = false
-same_cell (Hold p) Rest = false
-same_cell (Hold p) (Hold q) = same_pitch p q
-same_cell (Hold p) (Start q) = false
-same_cell (Start p) Rest = false
-same_cell (Start p) (Hold q) = false
-same_cell (Start p) (Start q) = same_pitch p q
 
 -- at a slot of the bar that begins here a voice has the cell that it had at that slot of the bar before
 abbrev pub repeats_slot : ℕ → List (List Cell) → List Cell → List (List Cell) → ℕ → Bool

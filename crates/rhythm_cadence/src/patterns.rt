@@ -9,7 +9,7 @@ ghost use Rattle.rhythm_cadence.specs.Patterns as words;
 ghost use Rattle.rhythm_cadence.specs.Patterns.{pattern_enough, pattern_toll};
 
 use crate::newest::bar_behind;
-use fux_grid::{Cell, Exercise, Score, cell_of};
+use fux_grid::{Cell, Exercise, Score, cell_of, slot_of};
 use rule_law::{NewestColumns, begins_bar, begins_inner_bar, starts};
 
 /// Q15: whether, in species 4, the species voice starts a note at the beginning of a bar that is neither the first nor the last.
@@ -19,24 +19,12 @@ pub fn lacks_ligature(ex: &Exercise, i: usize, now: &[Cell]) -> bool
     ex.species == 4 && begins_inner_bar(ex, i) && starts(cell_of(now, ex.species_voice as usize))
 }
 
-/// Whether two cells are equal, in kind and in pitch.
-fn same_cell(c: Cell, d: Cell) -> bool
-    ensures { result ≡ words.same_cell c d }
-{
-    match (c, d) {
-        (Cell::Rest, Cell::Rest) => true,
-        (Cell::Hold(p), Cell::Hold(q)) => p == q,
-        (Cell::Start(p), Cell::Start(q)) => p == q,
-        _ => false,
-    }
-}
-
 /// Whether a voice has at the beginning of a bar the cell that it had at the beginning of the bar before.
 fn repeats_first_slot(score: &Score, i: usize, v: usize) -> bool
     requires { i < length score.now.columns }
     ensures { result ≡ reading_of (λ _. words.repeats_slot v) score.now.columns i 0 }
 {
-    same_cell(cell_of(score.behind(i, 7), v), score.cell(v, i))
+    cell_of(score.behind(i, 7), v).is_same(score.cell(v, i))
 }
 
 /// The same of another slot.
@@ -46,10 +34,7 @@ fn repeats_slot(score: &Score, i: usize, v: usize, slot: usize) -> bool
     requires last { slot ≤ 7 }
     ensures { result ≡ reading_of (λ _. words.repeats_slot v) score.now.columns i slot }
 {
-    same_cell(
-        cell_of(score.behind(i, 7 - slot), v),
-        cell_of(score.later(i, slot - 1), v),
-    )
+    cell_of(score.behind(i, 7 - slot), v).is_same(cell_of(score.later(i, slot - 1), v))
 }
 
 /// Whether the bar that begins at column `i` is whole and repeats the bar before.
@@ -104,21 +89,21 @@ pub(crate) fn lacks_ligature_now(newest: &NewestColumns, ex: &Exercise) -> bool
 pub(crate) fn settles_pattern(ex: &Exercise, i: usize) -> bool
     ensures { result ≡ words.settles_pattern ex.now i }
 {
-    ex.species >= 2 && i % 8 == 7 && i >= 15
+    ex.species >= 2 && slot_of(i) == 7 && i >= 15
 }
 
 /// Whether the cells of two bars, from the newest to the oldest, are the same.
 fn same_cells(a: &[Cell; 8], b: &[Cell; 8]) -> bool
     ensures { result ≡ words.same_cells a.now b.now }
 {
-    same_cell(a[7], b[7])
-        && same_cell(a[6], b[6])
-        && same_cell(a[5], b[5])
-        && same_cell(a[4], b[4])
-        && same_cell(a[3], b[3])
-        && same_cell(a[2], b[2])
-        && same_cell(a[1], b[1])
-        && same_cell(a[0], b[0])
+    a[7].is_same(b[7])
+        && a[6].is_same(b[6])
+        && a[5].is_same(b[5])
+        && a[4].is_same(b[4])
+        && a[3].is_same(b[3])
+        && a[2].is_same(b[2])
+        && a[1].is_same(b[1])
+        && a[0].is_same(b[0])
 }
 
 /// Q16, read from the newest columns, of the bar that the newest one settles.
