@@ -16,7 +16,7 @@ ghost use Rattle.dissonance_rules.specs.Told.{TellsPassing, is_open_within};
 use crate::kept::column_at;
 use crate::ligatures::{is_bad_suspension, lacks_preparation_kept, lacks_resolution_kept};
 use crate::passing::{clashes_badly_kept, is_open_kept};
-use fux_grid::{Exercise, VoiceSet};
+use fux_grid::{Exercise, VoiceSet, slot_of};
 use rule_law::{LatePlaces, NewestColumns, begins_bar, is_free, pair_of};
 
 /// Whether a rule is late: S15, S19, S20 or S21.
@@ -81,7 +81,7 @@ pub fn places_settled(rule: u8, ex: &Exercise, i: usize) -> LatePlaces
         15 => passing_places(ex, i),
         20 => LatePlaces {
             first: i.saturating_sub(4),
-            count: usize::from(i % 8 == 4),
+            count: usize::from(slot_of(i) == 4),
         },
         _ => LatePlaces {
             first: i,

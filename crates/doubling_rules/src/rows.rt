@@ -7,7 +7,7 @@ ghost use Rattle.fux_grid.specs.Exercises.{IsFree, IsValid, columns_in};
 ghost use Rattle.rule_law.specs.Voices as voices_words;
 ghost use Rattle.doubling_rules.specs.Rows as rows;
 
-use fux_grid::{Cell, Exercise, VoiceSet, cell_of, is_free, range};
+use fux_grid::{Cell, Exercise, VoiceSet, bar_of, cell_of, is_free, range};
 use fux_pitch::{Interval, Pitch, reduce};
 use rule_law::{
     begins_bar, begins_inner_bar, interval_in, is_leading, is_sounding, one_starts, pair_of,
@@ -139,7 +139,7 @@ fn strays(ex: &Exercise, v: u8, i: usize, cell: Cell) -> bool
     let Cell::Start(p) = cell else {
         return false;
     };
-    let (low, high) = range(ex, v, (i / 8 + 1) as u8);
+    let (low, high) = range(ex, v, bar_of(i));
     is_far_from_middle(low, high, p)
 }
 

@@ -21,6 +21,10 @@ bar_of i = i / 8 + 1
 abbrev pub slot_of : ℕ → ℕ
 slot_of i = i % 8
 
+-- rules are numbered from 1 to this
+abbrev pub greatest_rule : ℕ
+greatest_rule = 26
+
 -- the voice is free: it isn't the cantus
 pub record IsFree (ex : Exercise) (v : ℕ) : Type 0 where
   pub there : v < ex.voices
@@ -52,7 +56,7 @@ BeginsWithWhole (line ∷ lines) = (line.bars ≡ None) × All (λ other. IsSome
 -- a relax line is of a rule from 4 on, of voices of the exercise and of its bars, at a price within the limit
 pub record IsRelax (ex : Exercise) (line : Relax) : Type 0 where
   pub least_rule : 4 ≤ line.rule
-  pub most_rule : line.rule ≤ 26
+  pub most_rule : line.rule ≤ greatest_rule
   pub voices : IfSome line.voices (λ set. (1 ≤ set.bits) × (set.bits < 2 ^ ex.voices))
   pub within : AreBars ex line.from line.to
   pub price : line.price ≤ 10000

@@ -31,6 +31,9 @@ pub struct RangeLine {
     pub bars: Option<(u8, u8)>,
 }
 
+/// Rules are numbered from 1 to this.
+pub const GREATEST_RULE: u8 = 26;
+
 /// A rule that is relaxed from one bar to another at a price for each break: for one set of voices, or for all sets.
 #[derive(Clone, Copy, Debug, PartialEq, Eq)]
 pub struct Relax {
@@ -215,7 +218,7 @@ fn is_relax(ex: &Exercise, line: &Relax) -> bool
     requires { ex.now.voices ≤ 4 }
     ensures { IsTrue result ↔ IsRelax ex.now line.now }
 {
-    if line.rule < 4 || line.rule > 26 || line.price > 10_000 {
+    if line.rule < 4 || line.rule > GREATEST_RULE || line.price > 10_000 {
         return false;
     }
     if !are_bars(ex, line.from, line.to) {

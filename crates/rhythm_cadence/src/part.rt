@@ -12,7 +12,7 @@ ghost use Rattle.rhythm_cadence.specs.Parts.{IsShapesOf, shapes_after};
 ghost use Rattle.rhythm_cadence.specs.Told.{LeavesShapes, have_left};
 
 use crate::letter_sets::fitting_shapes;
-use fux_grid::{Cell, Exercise, VoiceSet, cell_of, species_of};
+use fux_grid::{Cell, Exercise, VoiceSet, bar_of, cell_of, slot_of, species_of};
 use rule_law::{begins_bar, is_free};
 
 /// For each of four voices the shapes that it may still have in the bar of the newest column: bit k of a voice's set is
@@ -36,7 +36,7 @@ fn kept(possible: u16, ex: &Exercise, i: usize, cell: Cell, v: u8) -> u16
     requires place { i < columns_in ex.now }
     ensures { result ≡ shapes_after ex.now v i possible cell }
 {
-    let fitting = fitting_shapes(species_of(ex, v), (i / 8 + 1) as u8, ex.bars, i % 8, cell);
+    let fitting = fitting_shapes(species_of(ex, v), bar_of(i), ex.bars, slot_of(i), cell);
     if begins_bar(i) {
         fitting
     } else {

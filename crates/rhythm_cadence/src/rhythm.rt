@@ -15,7 +15,7 @@ use crate::cadence::breaks_cadence;
 use crate::quavers::{breaks_quaver, is_quaver_settled};
 use crate::rows::{ends_badly, lacks_final, leaves_gamut, leaves_range, opens_badly};
 use fux_grid::{
-    Cell, Column, Exercise, Score, VoiceSet, cell_of, letters_from, shapes_of, species_of,
+    Cell, Column, Exercise, Score, VoiceSet, bar_of, cell_of, letters_from, shapes_of, species_of,
 };
 use fux_pitch::Pitch;
 use rule_law::{
@@ -98,7 +98,7 @@ fn may_go_on(ex: &Exercise, score: &Score, v: u8, i: usize) -> bool
     ensures { result ≡ rows.may_go_on ex.now v i (slice_index_or score.now.columns i []) (drop (i + 1) score.now.columns) }
 {
     let letters = letters_from(score, v, i);
-    begins_some_shape(ex, v, (i / 8 + 1) as u8, letters.as_slice())
+    begins_some_shape(ex, v, bar_of(i), letters.as_slice())
 }
 
 /// The one free voice of a set, where the exercise has it.

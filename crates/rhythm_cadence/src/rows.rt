@@ -2,11 +2,12 @@
 
 ghost use Rattle.std.specs.Prelude.{◌≡◌, ◌<◌};
 ghost use Rattle.fux_pitch.specs.Size.{IsShort};
+ghost use Rattle.fux_grid.specs.Exercises as exercises;
 ghost use Rattle.fux_grid.specs.Exercises.{IsValid, IsFree, columns_in};
 ghost use Rattle.fux_grid.specs.Menus as menus;
 ghost use Rattle.rhythm_cadence.specs.Rows as rows;
 
-use fux_grid::{Cell, Exercise, cell_of, range};
+use fux_grid::{Cell, Exercise, bar_of, cell_of, range};
 use fux_pitch::{Interval, Pitch, final_letter, in_gamut, is_perfect, semitone};
 use rule_law::{begins_bar, interval_in, is_reduced_to, lowest, starts};
 
@@ -17,7 +18,7 @@ fn pitch_brought(i: usize, cell: Cell) -> Option<Pitch>
 {
     match cell {
         Cell::Rest => None,
-        Cell::Hold(p) => { if i % 8 == 0 { Some(p) } else { None } }
+        Cell::Hold(p) => { if begins_bar(i) { Some(p) } else { None } }
         Cell::Start(p) => Some(p),
     }
 }
@@ -29,6 +30,17 @@ fn is_between(low: Pitch, high: Pitch, p: Pitch) -> bool
     semitone(low) <= semitone(p) && semitone(p) <= semitone(high)
 }
 
+/// Whether a pitch lies outside the range of a voice in the bar of column `i`.
+fn is_out_of_range(ex: &Exercise, v: u8, i: usize, p: Pitch) -> bool
+    requires valid { IsValid ex.now }
+    requires free { IsFree ex.now v }
+    requires place { i < columns_in ex.now }
+    ensures { result ≡ rows.is_outside (menus.range_of ex.now v (exercises.bar_of i)) p }
+{
+    let (low, high) = range(ex, v, bar_of(i));
+    !is_between(low, high, p)
+}
+
 /// S1: whether the voice brings into the bar a pitch outside its range there.
 pub fn leaves_range(ex: &Exercise, v: u8, i: usize, cell: Cell) -> bool
     requires valid { IsValid ex.now }
@@ -37,10 +49,7 @@ pub fn leaves_range(ex: &Exercise, v: u8, i: usize, cell: Cell) -> bool
     ensures { result ≡ rows.leaves_range ex.now v i cell }
 {
     match pitch_brought(i, cell) {
-        Some(p) => {
-            let (low, high) = range(ex, v, (i / 8 + 1) as u8);
-            !is_between(low, high, p)
-        }
+        Some(p) => is_out_of_range(ex, v, i, p),
         None => false,
     }
 }
@@ -52,7 +61,7 @@ pub fn leaves_gamut(ex: &Exercise, i: usize, cell: Cell) -> bool
     ensures { result ≡ rows.leaves_gamut ex.now i cell }
 {
     match pitch_brought(i, cell) {
-        Some(p) => !in_gamut(ex.mode, (i / 8 + 1) as u8, ex.bars, p),
+        Some(p) => !in_gamut(ex.mode, bar_of(i), ex.bars, p),
         None => false,
     }
 }

@@ -7,14 +7,14 @@ ghost use Rattle.rule_law.specs.Quiet as quiet;
 ghost use Rattle.rule_law.specs.Terms as terms;
 
 use crate::terms::starts;
-use fux_grid::{Cell, Exercise};
+use fux_grid::{Cell, Exercise, slot_of};
 
 /// Whether column `i` begins a bar.
 #[inline]
 pub fn begins_bar(i: usize) -> bool
     ensures { result ≡ bars.begins_bar i }
 {
-    i % 8 == 0
+    slot_of(i) == 0
 }
 
 /// Whether column `i` begins a bar that is neither the first nor the last.

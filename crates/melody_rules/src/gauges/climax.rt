@@ -9,7 +9,7 @@ ghost use Rattle.melody_rules.specs.GaugeLaws.{climax_ends, climax_grows};
 ghost use Rattle.melody_rules.specs.GaugeParts.{IsClimaxOf};
 ghost use Rattle.melody_rules.specs.Rows.{pitches};
 
-use fux_grid::{Cell, Exercise, range};
+use fux_grid::{Cell, Exercise, bar_of, range};
 use fux_pitch::{Pitch, semitone};
 use rule_law::{Gauge, menu_starts};
 
@@ -55,7 +55,7 @@ fn is_topped(ex: &Exercise, v: u8, key: u8, j: usize) -> bool
     if !menu_starts(ex, v, j) {
         return true;
     }
-    let (_, high) = range(ex, v, (j / 8 + 1) as u8);
+    let (_, high) = range(ex, v, bar_of(j));
     semitone(high) <= key
 }
 
