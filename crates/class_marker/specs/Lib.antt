@@ -1,0 +1,4 @@
+pub mod Lists
+pub mod Markings
+pub mod Reports
+pub mod Unmarked

@@ -1,0 +1,96 @@
+//! The list of a class: the names of the files that its exercises stand in.
+
+ghost use Rattle.std.specs.Prelude.{◌≡◌, ◌&&◌, ℕ, ◌<◌, ◌≤◌, List, length, nat_le, nat_lt};
+ghost use Rattle.class_marker.specs.Lists.{CutsLine, Gives, is_name, lines_of, listed_names, names_from};
+ghost use Rattle.class_marker.specs.Markings.{IsContent};
+
+use crate::one::Text;
+use std::alloc::{AllocError, AllocFailed, Global};
+
+/// The greatest number of lines.
+const MOST_NAMES: usize = 512;
+
+/// The greatest length of a name, in bytes.
+const LONGEST_NAME: usize = 255;
+
+/// Why a text is no list.
+#[derive(Clone, Copy, Debug, PartialEq, Eq)]
+pub enum ListFault {
+    /// The number of the first line at fault, counted from 1.
+    At { line: u32 },
+    /// There was not enough memory.
+    Memory,
+}
+
+impl From<AllocError> for ListFault {
+    ghost use Rattle.class_marker.specs.declared.list.ListFault.TheVariants.{Memory};
+
+    ghost from_gives = { λ _ fault. fault ≡ Memory };
+
+    fn from(_: AllocError) -> Self {
+        ListFault::Memory
+    }
+}
+
+impl<T: Drop> From<AllocFailed<T>> for ListFault {
+    ghost use Rattle.class_marker.specs.declared.list.ListFault.TheVariants.{Memory};
+
+    ghost from_gives = { λ _ fault. fault ≡ Memory };
+
+    fn from(_: AllocFailed<T>) -> Self {
+        ListFault::Memory
+    }
+}
+
+/// The first line that a line feed ends, and what stands behind that.
+fn next_line(text: &str) -> Option<(&str, &str)>
+    ensures { CutsLine text.now result }
+{
+    text.split_once('\n')
+}
+
+/// Whether a line is a name.
+fn is_name(line: &str) -> bool
+    ensures { result ≡ is_name line.now }
+{
+    !line.is_empty() && line.len() <= LONGEST_NAME
+}
+
+/// The names in the lines of a text.
+fn names_in(alloc: Global, text: &str) -> Result<Vec<String>, ListFault>
+    ensures { Gives result (names_from 1 (lines_of text.now)) }
+{
+    let mut names = Vec::new(alloc);
+    let mut rest = text;
+    while !rest.is_empty() {
+        let fault = ListFault::At {
+            line: names.len() as u32 + 1,
+        };
+        let Some((name, behind)) = next_line(rest) else {
+            return Err(fault);
+        };
+        if names.len() == MOST_NAMES || !is_name(name) {
+            return Err(fault);
+        }
+        names.push(String::from_str(alloc, name)?)?;
+        rest = behind;
+    }
+    Ok(names)
+}
+
+/// The names that a list has, in its order. A list has at most 65,536 bytes of UTF-8 in 1 to 512 lines, and each line is a name of 1 to
+/// 255 bytes with a line feed behind it. A list that is too long, empty or no UTF-8 is at fault in line 1.
+pub fn read_list(alloc: Global, list: &Text) -> Result<Vec<String>, ListFault>
+    ensures { (bytes : List ℕ) → IsContent 65536 list.now bytes → Gives result (listed_names bytes) }
+{
+    let Text::Bytes(bytes) = list else {
+        return Err(ListFault::At { line: 1 });
+    };
+    if bytes.is_empty() || bytes.len() > 65_536 {
+        return Err(ListFault::At { line: 1 });
+    }
+    match std::str::from_utf8(bytes) {
+        Ok(text) => names_in(alloc, text),
+        Err(_) => Err(ListFault::At { line: 1 }),
+    }
+}
