@@ -1,36 +1,28 @@
--- What the newest column settles of the late rules, after an orderly prefix (`kept_after`, `newly_at_place`).
-use Rattle.std.specs.Prelude.{◌≡◌, ◌≢◌, ℕ, suc, ◌+◌, ◌-◌, ◌<◌, ◌≤◌, ◌==◌, Bool, true, false, not, ◌&&◌, ◌||◌, nat_le, nat_lt, List, [], ◌∷◌, ◌++◌, IsTrue, Some, None, drop, take, length, reverse, slice_index_or, if◌then◌else◌, refl}
-use Rattle.std.proofs.Common.{ap, sym, ◌∙◌, subst, inl, inr, arith}
+-- What the newest column settles of the late rules, after an orderly prefix (`kept_around`, `newly_at_place`).
+use Rattle.std.specs.Prelude.{◌≡◌, ◌≢◌, ℕ, ◌+◌, ◌-◌, ◌<◌, ◌≤◌, ◌==◌, Bool, true, false, not, ◌&&◌, ◌||◌, nat_le, nat_lt, List, [], ◌∷◌, ◌++◌, IsTrue, Some, drop, take, length, slice_index_or, if◌then◌else◌, refl}
+use Rattle.std.proofs.Common.{ap, sym, ◌∙◌, subst, arith}
 use Rattle.std.proofs.Math.ListN.{get_or-append}
-use Rattle.std.proofs.lemmas.Bool.{and_from, and_right, cases_lt, cond-true, eqb-true, le-leb, le-ltb, lt-leb, lt-ltb, ne_eqb}
-use Rattle.std.proofs.lemmas.Bool.Decides.{nat_tests}
-use Rattle.std.proofs.lemmas.List.{append_assoc, get_or_past, length-append, length-drop, length-reverse, length-take-le, reverse-append, reverse-reverse, take_all, take_at, take-append-drop}
+use Rattle.std.proofs.lemmas.Bool.{and_from, and_right, cond-true, eqb-true, le-leb, le-ltb, lt-leb, lt-ltb, ne_eqb}
+use Rattle.std.proofs.lemmas.List.{length-append, length-drop, take_all, take_at}
 use Rattle.fux_grid.specs.declared.cell.Cell.{Cell}
 use Rattle.fux_grid.specs.declared.exercise.Exercise.{Exercise}
-use Rattle.fux_grid.specs.declared.cell.Cell.TheVariants.{Rest}
-use Rattle.fux_grid.specs.Cells.{cell_in, first_of, newest, notes_from, pitch_of}
-use Rattle.fux_grid.specs.Columns.{HistoryFollows, earlier, line, newest_column}
+use Rattle.fux_grid.specs.Cells.{newest}
 use Rattle.fux_grid.specs.Exercises.{columns_in, slot_of}
-use Rattle.fux_grid.specs.Orderly.{IsOrderly}
-use Rattle.fux_grid.proofs.Histories.{earlier-append, get_or-earlier}
-use Rattle.fux_grid.proofs.OrderlyLemmas.{orderly-fewer}
+use Rattle.rule_law.proofs.AroundLemmas.{kept_after}
 use Rattle.rule_law.proofs.AtOnce.{newly_there}
+use Rattle.rule_law.specs.Around.{AreKeptFrom}
 use Rattle.rule_law.specs.Bars.{begins_bar}
 use Rattle.rule_law.specs.Growth.{newly}
 use Rattle.rule_law.specs.Newest.{AreNewestOf}
-use Rattle.rule_law.specs.Nearby.{line_follows, previous-sounds}
-use Rattle.rule_law.specs.OrderlyLaw.{free_rests}
 use Rattle.rule_law.specs.Places.{at_once, reading_of, settled_by}
 use Rattle.rule_law.specs.Prefixes.{GoesOn}
 use Rattle.rule_law.specs.Rulebooks.{IsAmong, RuleRow, newly_breaks}
-use Rattle.rule_law.specs.Terms.{note_pitch, previous_pitch}
 use Rattle.rule_law.specs.Voices.{holds_of_pair, is_free, pair_of}
 use Rattle.rule_law.specs.Ways.{holds_some_way, on_some_way}
 use Rattle.rule_law.specs.Whole.{is_whole}
 use Rattle.rule_law.specs.declared.newest.NewestColumns.{NewestColumns}
 use Rattle.dissonance_rules.specs.Book.{at_once_row, is_late, late_count, late_first, late_row, rule_row}
 use Rattle.dissonance_rules.specs.Clashes.{clash_enough, clash_row, passing_enough, resolution_enough}
-use Rattle.dissonance_rules.specs.Kept.{IsKept}
 use Rattle.dissonance_rules.specs.Passing.{is_open_clash}
 use Rattle.dissonance_rules.proofs.BookLaws.{rules_keep}
 
@@ -113,103 +105,18 @@ module _ (n : ℕ) (ex : Exercise) (p : List (List Cell)) (col : List Cell) (i :
       at false true c d = omega arith
       at false false c d = omega arith
 
-  -- the first columns of an orderly prefix are orderly, and follow one another
-  begins : i ≤ length p → earlier (p ++ col ∷ []) i ≡ earlier p i
-  begins h = earlier-append p (col ∷ []) i h
-
-  orderly_before : IsOrderly ex (reverse (earlier p i))
-  unfolding earlier
-  orderly_before =
-      let P : List (List Cell) → Type 0 = λ s. IsOrderly ex s in
-      subst P (sym (reverse-reverse (take i p)))
-      (orderly-fewer ex (take i p) (drop i p) (subst P (sym (take-append-drop i p)) on.orderly))
-
-  follows_fewer : (xs ys : List (List Cell)) → HistoryFollows (xs ++ ys) → HistoryFollows ys
-  follows_fewer [] ys f = f
-  follows_fewer (x ∷ xs) ys f = follows_fewer xs ys f.1
-
-  follows_before : HistoryFollows (earlier p i)
-  unfolding earlier
-  follows_before =
-      let P : List (List Cell) → Type 0 = λ s. HistoryFollows s in
-      follows_fewer (reverse (drop i p ++ col ∷ [])) (reverse (take i p))
-      (subst P (ap reverse (sym (ap (λ s. s ++ col ∷ []) (take-append-drop i p))
-      ∙ append_assoc (take i p) (drop i p) (col ∷ [])) ∙ reverse-append (take i p) (drop i p ++ col ∷ []))
-      on.longer.follows)
-
-  -- a voice that the exercise lacks has no notes
-  silent_pitch : (v : ℕ) (cols : List (List Cell))
-      → ((k : ℕ) → k < length cols → cell_in (slice_index_or cols k []) v ≡ Rest) → previous_pitch (line v cols)
-      ≡ pitch_of (cell_in (newest_column cols) v)
-  silent_pitch v cols rests = none cols rests ∙ sym (newest_none cols rests)
-    where
-      none : (cols : List (List Cell)) → ((k : ℕ) → k < length cols → cell_in (slice_index_or cols k []) v ≡ Rest)
-          → previous_pitch (line v cols) ≡ None
-      none [] rests = refl
-      none (col ∷ cols) rests =
-          ap (λ c. note_pitch (first_of (notes_from 0 (c ∷ line v cols)))) (rests 0 (omega arith))
-          ∙ none cols (λ k h. rests (suc k) (omega (arith, h)))
-
-      newest_none : (cols : List (List Cell))
-          → ((k : ℕ) → k < length cols → cell_in (slice_index_or cols k []) v ≡ Rest)
-          → pitch_of (cell_in (newest_column cols) v) ≡ None
-      newest_none [] rests = refl
-      newest_none (col ∷ cols) rests = ap pitch_of (rests 0 (omega arith))
-
-  newest_of_line : (v : ℕ) (cols : List (List Cell)) → newest (line v cols) ≡ cell_in (newest_column cols) v
-  newest_of_line v [] = refl
-  newest_of_line v (col ∷ cols) = refl
-
-  count_before : i ≤ length p → length (earlier p i) ≡ i
-  unfolding earlier
-  count_before h = length-reverse (take i p) ∙ length-take-le i p h
-
-  previous_is : i ≤ length p → (v : ℕ) → is_free ex v ≡ true → previous_pitch (line v (earlier p i))
-      ≡ pitch_of (cell_in (newest_column (earlier p i)) v)
-  previous_is h v free =
-      elim (cases_lt v ex.voices) [
-        | inl there ↦
-            previous-sounds (line v (earlier p i)) (line_follows v (earlier p i) follows_before)
-            (free_rests ex v record { there = there; no_cantus = no_cantus } (earlier p i) orderly_before)
-            ∙ ap pitch_of (newest_of_line v (earlier p i))
-        | inr beyond ↦ silent_pitch v (earlier p i) (rests_beyond beyond)
-      ]
-    where
-      no_cantus : v ≢ ex.cantus_voice
-      no_cantus e = grind (arith, nat_tests, free, e)
-
-      width : (j : ℕ) → j < length p → length (slice_index_or p j []) ≡ ex.voices
-      width j here =
-          ap length (sym (get_or-append p (col ∷ []) [] j here))
-          ∙ (on.longer.menus j (omega (arith, here, size_of))).full
-
-      rests_beyond : ex.voices ≤ v → (k : ℕ) → k < length (earlier p i) → cell_in (slice_index_or (earlier p i) k []) v
-          ≡ Rest
-      rests_beyond beyond k here =
-          let within : k < i = omega (arith, here, count_before h) in
-          ap (λ c. cell_in c v) (get_or-earlier p i k within h)
-          ∙ get_or_past (slice_index_or p (i - 1 - k) []) v Rest
-          (omega (arith, width (i - 1 - k) (omega (arith, within, h)), beyond))
-
   pub placed : IsTrue (rule_row n).late → IsAmong ((rule_row n).first ex (length p)) ((rule_row n).count ex (length p))
       i → i ≤ length p
   placed late among = omega (arith, among.to, (rules_keep n).within ex (length p))
 
-  pub kept_after : (kept : NewestColumns) → AreNewestOf ex.voices (p ++ col ∷ []) kept → IsTrue (rule_row n).late
+  -- the newest columns are those around the place
+  pub kept_around : (kept : NewestColumns) → AreNewestOf ex.voices (p ++ col ∷ []) kept → IsTrue (rule_row n).late
       → IsAmong ((rule_row n).first ex (length p)) ((rule_row n).count ex (length p)) i
-      → IsKept ex kept (p ++ col ∷ []) i
-  kept_after kept newest late among =
-      let here : i ≤ length p = placed late among in
+      → AreKeptFrom ex kept (p ++ col ∷ []) (i - 3)
+  kept_around kept newest late among =
       let first : (rule_row n).first ex (length p)
       ≡ late_first n ex (length p) = ap (λ (r : RuleRow). r.first ex (length p)) (row_is n late) in
-      record {
-        newest = newest;
-        here = omega (arith, here, size_of);
-        near = omega (arith, first_near, first, among.from, size_of);
-        previous = λ v free.
-            ap (λ cols. previous_pitch (line v cols)) (begins here) ∙ previous_is here v free
-            ∙ sym (ap (λ cols. pitch_of (cell_in (newest_column cols) v)) (begins here));
-      }
+      kept_after ex p col on kept (i - 3) newest (omega (arith, first_near, first, among.from))
 
   -- what S19, S20 and S21 may settle at their places is settled there by the newest column
   newly_at_place : (voices : ℕ) → (n == 15) ≡ false

@@ -1,11 +1,10 @@
 pub mod BookLaws
-pub mod KeptLemmas
-pub mod KeptReadings
 pub mod LatePlaces
 pub mod LateReadings
 pub mod LowerVoices
 pub mod NotesAhead
 pub mod OffBar
+pub mod PassingReadings
 pub mod Quiet
 pub mod ToldNotes
 pub mod ToldPlaces

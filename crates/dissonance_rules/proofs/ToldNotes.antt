@@ -9,9 +9,9 @@ use Rattle.fux_grid.specs.declared.cell.Onset.{Onset}
 use Rattle.fux_grid.specs.Cells.{cell_in, first_of}
 use Rattle.rule_law.specs.After.{second_of}
 use Rattle.rule_law.specs.Terms.{starts}
-use Rattle.dissonance_rules.specs.Kept.{notes_within}
+use Rattle.rule_law.specs.Within.{notes_within}
 use Rattle.dissonance_rules.specs.Passing.{has_notes_after, has_ornaments, notes_needed}
-use Rattle.dissonance_rules.proofs.KeptLemmas.{notes-no_start, notes-none, notes-start}
+use Rattle.rule_law.proofs.WithinLemmas.{notes-no_start, notes-none, notes-start}
 
 -- so many notes of a voice start from a column on, in a list's first columns
 abbrev pub notes_from : List (List Cell) → ℕ → ℕ → ℕ → ℕ

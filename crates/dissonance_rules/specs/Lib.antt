@@ -2,7 +2,6 @@ pub mod Apart
 pub mod Book
 pub mod ClashLaws
 pub mod Clashes
-pub mod Kept
 pub mod Ligatures
 pub mod Locality
 pub mod Passing

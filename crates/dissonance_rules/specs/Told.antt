@@ -4,10 +4,10 @@ use Rattle.fux_grid.specs.declared.cell.Cell.{Cell}
 use Rattle.fux_grid.specs.declared.exercise.Exercise.{Exercise}
 use Rattle.fux_grid.specs.Columns.{Columns}
 use Rattle.fux_grid.specs.Exercises.{species_in}
+use Rattle.rule_law.specs.Around.{AreKeptFrom}
 use Rattle.rule_law.specs.Voices.{is_free}
 use Rattle.rule_law.specs.declared.newest.NewestColumns.{NewestColumns}
 use Rattle.dissonance_rules.specs.Clashes.{newly_passing}
-use Rattle.dissonance_rules.specs.Kept.{IsKept}
 use Rattle.dissonance_rules.specs.Passing.{has_notes_after, is_open_clash}
 
 -- the first columns have as many notes of a voice after column i as tell what the note there is
@@ -31,4 +31,5 @@ is_open_within ex s end i v w =
 -- whether the last column settles S15 at a place, and none before it did
 abbrev pub TellsPassing : Exercise → ℕ → NewestColumns → ℕ → Bool → Type 0
 TellsPassing ex voices kept place told =
-    (p : Columns) (col : List Cell) → IsKept ex kept (p ++ col ∷ []) place → told ≡ newly_passing ex voices p col place
+    (p : Columns) (col : List Cell) (first : ℕ) → AreKeptFrom ex kept (p ++ col ∷ []) first → first ≤ place
+    → told ≡ newly_passing ex voices p col place

@@ -33,7 +33,8 @@ impl Rule for Dissonance {
 
     fn broken(&self, rule: u8, ex: &Exercise, score: &Score, i: usize, voices: VoiceSet) -> bool {
         if is_late(rule) {
-            return breaks_clash(rule, ex, score, i, voices);
+            score.kept();
+            return breaks_clash(score, rule, ex, i, voices);
         }
         breaks(
             rule,

@@ -1,23 +1,15 @@
 //! Breaks of the late rules that the newest column settles, read from the newest columns.
 
-ghost use Rattle.std.specs.Prelude.{◌≡◌, ◌≤◌, ◌<◌, ◌+◌, ◌&&◌, IsTrue};
-ghost use Rattle.fux_grid.specs.Columns.{Columns};
+ghost use Rattle.std.specs.Prelude.{◌≡◌, ◌≤◌, ◌<◌, IsTrue};
 ghost use Rattle.fux_grid.specs.Exercises.{IsValid, columns_in};
 ghost use Rattle.rule_law.specs.Late.{TellsBreak};
-ghost use Rattle.rule_law.specs.Places.{reading_of};
-ghost use Rattle.rule_law.specs.Voices as voices;
-ghost use Rattle.rule_law.specs.Ways.{on_some_way};
 ghost use Rattle.dissonance_rules.specs.Book as book;
 ghost use Rattle.dissonance_rules.specs.Book.{rule_row};
-ghost use Rattle.dissonance_rules.specs.Clashes.{clash_row, clash_rule};
-ghost use Rattle.dissonance_rules.specs.Kept.{IsKept};
-ghost use Rattle.dissonance_rules.specs.Told.{TellsPassing, is_open_within};
+ghost use Rattle.dissonance_rules.specs.Told.{TellsPassing};
 
-use crate::kept::column_at;
-use crate::ligatures::{is_bad_suspension, lacks_preparation_kept, lacks_resolution_kept};
-use crate::passing::{clashes_badly_kept, is_open_kept};
+use crate::clashes::{breaks_clash, is_passing_open};
 use fux_grid::{Exercise, VoiceSet, slot_of};
-use rule_law::{LatePlaces, NewestColumns, begins_bar, is_free, pair_of};
+use rule_law::{LatePlaces, NewestColumns, begins_bar};
 
 /// Whether a rule is late: S15, S19, S20 or S21.
 #[inline]
@@ -79,91 +71,9 @@ pub fn places_settled(rule: u8, ex: &Exercise, i: usize) -> LatePlaces
 {
     match rule {
         15 => passing_places(ex, i),
-        20 => LatePlaces {
-            first: i.saturating_sub(4),
-            count: usize::from(slot_of(i) == 4),
-        },
-        _ => LatePlaces {
-            first: i,
-            count: usize::from(begins_bar(i)),
-        },
+        20 => LatePlaces::own(slot_of(i) == 4, i.saturating_sub(4)),
+        _ => LatePlaces::own(begins_bar(i), i),
     }
-}
-
-/// Whether `v` is free and breaks a late rule for one way to name the voices, by the newest columns.
-fn breaks_one_way(newest: &NewestColumns, rule: u8, ex: &Exercise, i: usize, v: u8, w: u8) -> bool
-    requires voices { ex.now.voices ≤ 4 }
-    requires room { newest.now.len ≤ 192 }
-    requires place { i < newest.now.len }
-    ensures { (s : Columns) → IsKept ex.now newest.now s i →
-        result ≡ (voices.is_free ex.now v && reading_of (clash_rule rule ex.now) s i v w) }
-{
-    if !is_free(ex, v) {
-        return false;
-    }
-    match rule {
-        15 => clashes_badly_kept(newest, ex, i, v, w),
-        19 => lacks_preparation_kept(newest, ex, i, v, w),
-        20 => lacks_resolution_kept(newest, ex, i, v, w),
-        _ => is_bad_suspension(i, column_at(newest, ex, i), v as usize, w as usize),
-    }
-}
-
-/// Whether a late rule is broken at column `i` for a set of voices, by the newest columns.
-fn breaks_kept(newest: &NewestColumns, rule: u8, ex: &Exercise, i: usize, voices: VoiceSet) -> bool
-    requires voices { ex.now.voices ≤ 4 }
-    requires room { newest.now.len ≤ 192 }
-    requires place { i < newest.now.len }
-    ensures { (s : Columns) → IsKept ex.now newest.now s i → result ≡ reading_of (clash_row rule ex.now voices.bits) s i }
-{
-    let Some((v, w)) = pair_of(voices) else {
-        return false;
-    };
-    if w >= ex.voices {
-        return false;
-    }
-    breaks_one_way(newest, rule, ex, i, v, w) || breaks_one_way(newest, rule, ex, i, w, v)
-}
-
-/// Whether `v` is free and S15 is open for one way to name the voices in the first columns of the list.
-fn is_open_one_way(
-    newest: &NewestColumns,
-    ex: &Exercise,
-    i: usize,
-    end: usize,
-    v: u8,
-    w: u8,
-) -> bool
-    requires valid { IsValid ex.now }
-    requires within { end ≤ newest.now.len }
-    requires place { i < end }
-    ensures { (s : Columns) → IsKept ex.now newest.now s i →
-        result ≡ (voices.is_free ex.now v && is_open_within ex.now s end i v w) }
-{
-    is_free(ex, v) && is_open_kept(newest, ex, i, end, v, w)
-}
-
-/// Whether S15 is open for a set of voices in the first columns of the list.
-fn is_passing_open(
-    newest: &NewestColumns,
-    ex: &Exercise,
-    i: usize,
-    end: usize,
-    voices: VoiceSet,
-) -> bool
-    requires valid { IsValid ex.now }
-    requires within { end ≤ newest.now.len }
-    requires place { i < end }
-    ensures { (s : Columns) → IsKept ex.now newest.now s i →
-        result ≡ on_some_way ex.now (is_open_within ex.now s end i) voices.bits }
-{
-    let Some((v, w)) = pair_of(voices) else {
-        return false;
-    };
-    if w >= ex.voices {
-        return false;
-    }
-    is_open_one_way(newest, ex, i, end, v, w) || is_open_one_way(newest, ex, i, end, w, v)
 }
 
 /// Whether the newest column settles S15 at a place: it isn't open any more, and was before.
@@ -198,7 +108,7 @@ pub fn breaks_late(
     if place >= newest.len {
         return false;
     }
-    if !breaks_kept(newest, rule, ex, place, voices) {
+    if !breaks_clash(newest, rule, ex, place, voices) {
         return false;
     }
     if rule != 15 {

@@ -5,7 +5,6 @@ mod apart;
 mod book;
 mod clashes;
 mod dissonance;
-mod kept;
 mod late;
 mod ligatures;
 mod passing;

@@ -1,16 +1,15 @@
 //! S19, S20 and S21: a voice that holds a note over a bar line and clashes there.
 
-ghost use Rattle.std.specs.Prelude.{◌≡◌, ◌<◌, ◌≤◌, length};
+ghost use Rattle.std.specs.Prelude.{◌≡◌, ◌<◌, ◌≤◌, ◌-◌, ℕ, length};
 ghost use Rattle.fux_grid.specs.Columns.{Columns};
 ghost use Rattle.rule_law.specs.Places.{reading_ahead, reading_back};
 ghost use Rattle.rule_law.specs.Terms as terms;
-ghost use Rattle.dissonance_rules.specs.Kept.{IsKept};
 ghost use Rattle.dissonance_rules.specs.Ligatures as words;
 
-use crate::kept::{column_ahead, column_at, column_behind};
-use fux_grid::{Cell, Exercise, Score, cell_of};
+use fux_grid::{Cell, Exercise, cell_of};
 use rule_law::{
-    NewestColumns, begins_bar, interval_in, is_clash, is_clean, lies_above, lowest, starts,
+    ColumnsAround, begins_bar, cells_ahead, cells_behind, interval_in, is_clash, is_clean,
+    lies_above, lowest, starts,
 };
 
 /// Whether at the beginning of a bar `v` holds a note, and clashes with `w`.
@@ -32,39 +31,24 @@ pub fn is_unprepared(newest: &[Cell], second: &[Cell], third: &[Cell], v: usize)
 
 /// S19, for one way to name the voices: whether `v` is suspended over `w`, and its note started in one of the three columns before, or
 /// it wasn't clean in the last of them.
-pub(crate) fn lacks_preparation(score: &Score, i: usize, v: u8, w: u8) -> bool
-    requires { i < length score.now.columns }
-    ensures { result ≡ reading_back words.lacks_preparation score.now.columns i v w }
-{
-    if !is_suspended(i, score.column(i).as_slice(), v as usize, w as usize) {
-        return false;
-    }
-    is_unprepared(
-        score.behind(i, 0),
-        score.behind(i, 1),
-        score.behind(i, 2),
-        v as usize,
-    )
-}
-
-/// S19 by the newest columns.
-pub(crate) fn lacks_preparation_kept(
-    newest: &NewestColumns,
+pub(crate) fn lacks_preparation<C: ColumnsAround>(
+    around: &C,
     ex: &Exercise,
     i: usize,
     v: u8,
     w: u8,
 ) -> bool
     requires { ex.now.voices ≤ 4 }
-    ensures { (s : Columns) → IsKept ex.now newest.now s i → result ≡ reading_back words.lacks_preparation s i v w }
+    ensures { (s : Columns) (first : ℕ) → C.show around.now ex.now s first → first ≤ i - 3 → i < length s →
+        result ≡ reading_back words.lacks_preparation s i v w }
 {
-    if !is_suspended(i, column_at(newest, ex, i), v as usize, w as usize) {
+    if !is_suspended(i, around.cells(ex, i), v as usize, w as usize) {
         return false;
     }
     is_unprepared(
-        column_behind(newest, ex, i, 0),
-        column_behind(newest, ex, i, 1),
-        column_behind(newest, ex, i, 2),
+        cells_behind(around, ex, i, 0),
+        cells_behind(around, ex, i, 1),
+        cells_behind(around, ex, i, 2),
         v as usize,
     )
 }
@@ -81,38 +65,26 @@ pub fn resolves(now: &[Cell], next: &[Cell], fourth: &[Cell], v: usize) -> bool
 }
 
 /// S20, for one way to name the voices: whether `v` is suspended over `w` and doesn't resolve.
-pub(crate) fn lacks_resolution(score: &Score, i: usize, v: u8, w: u8) -> bool
-    requires { i < length score.now.columns }
-    ensures { result ≡ reading_ahead words.lacks_resolution score.now.columns i v w }
-{
-    let now = score.column(i).as_slice();
-    if !is_suspended(i, now, v as usize, w as usize) {
-        return false;
-    }
-    !resolves(now, score.later(i, 0), score.later(i, 3), v as usize)
-}
-
-/// S20 by the newest columns.
-pub(crate) fn lacks_resolution_kept(
-    newest: &NewestColumns,
+pub(crate) fn lacks_resolution<C: ColumnsAround>(
+    around: &C,
     ex: &Exercise,
     i: usize,
     v: u8,
     w: u8,
 ) -> bool
     requires voices { ex.now.voices ≤ 4 }
-    requires room { newest.now.len ≤ 192 }
-    requires place { i < newest.now.len }
-    ensures { (s : Columns) → IsKept ex.now newest.now s i → result ≡ reading_ahead words.lacks_resolution s i v w }
+    requires place { i < 192 }
+    ensures { (s : Columns) (first : ℕ) → C.show around.now ex.now s first → first ≤ i →
+        result ≡ reading_ahead words.lacks_resolution s i v w }
 {
-    let now = column_at(newest, ex, i);
+    let now = around.cells(ex, i);
     if !is_suspended(i, now, v as usize, w as usize) {
         return false;
     }
     !resolves(
         now,
-        column_ahead(newest, ex, i, 0),
-        column_ahead(newest, ex, i, 3),
+        cells_ahead(around, ex, i, 0),
+        cells_ahead(around, ex, i, 3),
         v as usize,
     )
 }

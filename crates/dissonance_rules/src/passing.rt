@@ -1,23 +1,22 @@
 //! S15: notes that start within a bar and clash, and what makes them good: passing notes, neighbors and the cambiata.
 
-ghost use Rattle.std.specs.Prelude.{◌≡◌, ◌+◌, ◌-◌, ◌*◌, ◌<◌, ◌≤◌, ◌&&◌, IfSome, true, not, nat_lt, length, drop};
+ghost use Rattle.std.specs.Prelude.{◌≡◌, ◌+◌, ◌-◌, ◌*◌, ◌<◌, ◌≤◌, ◌&&◌, ℕ, IfSome, true, not, nat_lt, drop};
 ghost use Rattle.fux_grid.specs.Cells.{first_of};
 ghost use Rattle.fux_grid.specs.Columns.{Columns};
-ghost use Rattle.fux_grid.specs.Exercises.{IsValid, columns_in, species_in};
+ghost use Rattle.fux_grid.specs.Exercises.{IsValid};
 ghost use Rattle.rule_law.specs.After.{second_of};
 ghost use Rattle.rule_law.specs.Bars as terms;
-ghost use Rattle.rule_law.specs.Places.{reading_ahead, reading_of};
+ghost use Rattle.rule_law.specs.Places.{reading_of};
 ghost use Rattle.rule_law.specs.Voices.{is_free};
-ghost use Rattle.dissonance_rules.specs.Kept.{IsKept, notes_within};
 ghost use Rattle.dissonance_rules.specs.Passing as words;
 ghost use Rattle.dissonance_rules.specs.Told.{is_open_within};
+ghost use Rattle.rule_law.specs.Within.{notes_within};
 
-use crate::kept::{column_ahead, column_at, column_behind, note_within};
-use fux_grid::{Cell, Exercise, Onset, Score, cell_of, species_of};
+use fux_grid::{Cell, Exercise, Onset, cell_of, species_of};
 use fux_pitch::{Pitch, interval_of};
 use rule_law::{
-    NewestColumns, begins_bar, falls, is_clash, is_clean, is_step, lies_above, next_onset,
-    onset_pitch, previous_pitch, same_way, second_next_onset, starts,
+    ColumnsAround, begins_bar, cell_around, cells_ahead, falls, is_clash, is_clean, is_step,
+    lies_above, note_within, onset_pitch, same_way, starts,
 };
 
 /// A passing note: the move to it and the move from it are steps the same way.
@@ -100,32 +99,6 @@ pub fn is_good(
         && (is_neighbor(previous, here, next) || is_cambiata(previous, here, next, clean, after))
 }
 
-/// Whether a voice is clean where its next note after column `i` starts.
-fn next_is_clean(score: &Score, i: usize, v: u8) -> bool
-    requires { i < length score.now.columns }
-    ensures { result ≡ words.next_is_clean i (drop (i + 1) score.now.columns) v }
-{
-    match next_onset(score, v, i) {
-        Some(onset) => is_clean(score.later(i, onset.start - i - 1), v as usize),
-        None => false,
-    }
-}
-
-/// Whether the note of a voice that starts at column `i` is good.
-fn is_good_note(score: &Score, species: u8, i: usize, v: u8) -> bool
-    requires { i < length score.now.columns }
-    ensures { result ≡ reading_of (words.is_good_note species) score.now.columns i v }
-{
-    is_good(
-        species,
-        previous_pitch(score, v, i),
-        score.cell(v as usize, i).pitch(),
-        onset_pitch(next_onset(score, v, i)),
-        next_is_clean(score, i, v),
-        onset_pitch(second_next_onset(score, v, i)),
-    )
-}
-
 /// Whether a note of `v` starts, and it clashes with `w`.
 pub fn starts_in_clash(now: &[Cell], v: usize, w: usize) -> bool
     ensures { result ≡ words.starts_in_clash now.now v w }
@@ -141,17 +114,6 @@ fn clashes_within_bar(i: usize, now: &[Cell], v: usize, w: usize) -> bool
     !begins_bar(i) && starts_in_clash(now, v, w)
 }
 
-/// S15, for one way to name the voices: whether a note of `v` starts within a bar and clashes with `w`, and isn't good.
-pub(crate) fn clashes_badly(ex: &Exercise, score: &Score, i: usize, v: u8, w: u8) -> bool
-    requires { i < length score.now.columns }
-    ensures { result ≡ words.clashes_badly_at ex.now score.now.columns i v w }
-{
-    if !clashes_within_bar(i, score.column(i).as_slice(), v as usize, w as usize) {
-        return false;
-    }
-    !is_good_note(score, species_of(ex, v), i, v)
-}
-
 /// Whether so many columns have one of the last bar.
 #[inline]
 fn reaches_last_bar(ex: &Exercise, columns: usize) -> bool
@@ -162,29 +124,6 @@ fn reaches_last_bar(ex: &Exercise, columns: usize) -> bool
     columns > 8 * (bars - 1)
 }
 
-/// Whether the score has as many notes of `v` after column `i` as tell what the note there is.
-fn has_notes_after(score: &Score, species: u8, i: usize, v: u8) -> bool
-    requires { i < length score.now.columns }
-    ensures { result ≡ words.has_notes_after species i v (drop (i + 1) score.now.columns) }
-{
-    if has_ornaments(species) {
-        return second_next_onset(score, v, i).is_some();
-    }
-    next_onset(score, v, i).is_some()
-}
-
-/// Whether S15 is open for one way to name the voices.
-pub(crate) fn is_open_clash(ex: &Exercise, score: &Score, i: usize, v: u8, w: u8) -> bool
-    requires valid { IsValid ex.now }
-    requires place { i < length score.now.columns }
-    ensures { result ≡ reading_ahead (words.is_open_clash ex.now) score.now.columns i v w }
-{
-    if !starts_in_clash(score.column(i).as_slice(), v as usize, w as usize) {
-        return false;
-    }
-    !(has_notes_after(score, species_of(ex, v), i, v) || reaches_last_bar(ex, score.len()))
-}
-
 /// The next two notes that a voice starts after a column.
 #[derive(Clone, Copy, Debug, PartialEq, Eq)]
 struct NextNotes {
@@ -192,84 +131,91 @@ struct NextNotes {
     second: Option<Onset>,
 }
 
-/// Those after column `i`, in the first columns of the list whose newest ones are kept.
-fn next_notes(newest: &NewestColumns, ex: &Exercise, i: usize, v: u8, end: usize) -> NextNotes
+/// Those after column `i`, in the first columns of the list.
+fn next_notes<C: ColumnsAround>(around: &C, ex: &Exercise, i: usize, v: u8, end: usize) -> NextNotes
     requires voices { ex.now.voices ≤ 4 }
-    requires within { end ≤ newest.now.len }
+    requires within { end ≤ C.size around.now }
     requires place { i < end }
-    ensures first { (s : Columns) → IsKept ex.now newest.now s i → result.first ≡ first_of (notes_within s end v (i + 1)) }
-    ensures second { (s : Columns) → IsKept ex.now newest.now s i → result.second ≡ second_of (notes_within s end v (i + 1)) }
+    ensures first { (s : Columns) (first : ℕ) → C.show around.now ex.now s first → first ≤ i →
+        result.first ≡ first_of (notes_within s end v (i + 1)) }
+    ensures second { (s : Columns) (first : ℕ) → C.show around.now ex.now s first → first ≤ i →
+        result.second ≡ second_of (notes_within s end v (i + 1)) }
     ensures later { IfSome result.first (λ onset. i < onset.start) }
     ensures there { IfSome result.first (λ onset. onset.start < end) }
 {
-    let first = note_within(newest, ex, v, i + 1, end);
+    let first = note_within(around, ex, v, i + 1, end);
     let second = match first {
-        Some(onset) => note_within(newest, ex, v, onset.start + 1, end),
+        Some(onset) => note_within(around, ex, v, onset.start + 1, end),
         None => None,
     };
     NextNotes { first, second }
 }
 
 /// Whether a voice is clean where a note starts.
-fn is_clean_at(newest: &NewestColumns, ex: &Exercise, i: usize, v: u8, note: Option<Onset>) -> bool
+fn is_clean_at<C: ColumnsAround>(
+    around: &C,
+    ex: &Exercise,
+    i: usize,
+    v: u8,
+    note: Option<Onset>,
+) -> bool
     requires voices { ex.now.voices ≤ 4 }
-    requires room { newest.now.len ≤ 192 }
-    requires place { i < newest.now.len }
     requires later { IfSome note (λ onset. i < onset.start) }
-    requires there { IfSome note (λ onset. onset.start < newest.now.len) }
-    ensures { (s : Columns) → IsKept ex.now newest.now s i → result ≡ words.starts_clean i (drop (i + 1) s) v note }
+    requires there { IfSome note (λ onset. onset.start < 192) }
+    ensures { (s : Columns) (first : ℕ) → C.show around.now ex.now s first → first ≤ i →
+        result ≡ words.starts_clean i (drop (i + 1) s) v note }
 {
     match note {
         Some(onset) => is_clean(
-            column_ahead(newest, ex, i, onset.start - (i + 1)),
+            cells_ahead(around, ex, i, onset.start - (i + 1)),
             v as usize,
         ),
         None => false,
     }
 }
 
-/// Whether the note of a voice that starts at column `i` is good, by the newest columns.
-fn is_good_kept(newest: &NewestColumns, ex: &Exercise, i: usize, v: u8) -> bool
+/// Whether the note of a free voice that starts at column `i` is good.
+fn is_good_note<C: ColumnsAround>(around: &C, ex: &Exercise, i: usize, v: u8) -> bool
     requires voices { ex.now.voices ≤ 4 }
-    requires room { newest.now.len ≤ 192 }
-    requires place { i < newest.now.len }
-    ensures { (s : Columns) → IsKept ex.now newest.now s i → is_free ex.now v ≡ true →
+    requires room { C.size around.now ≤ 192 }
+    requires place { i < C.size around.now }
+    ensures { (s : Columns) (first : ℕ) → C.show around.now ex.now s first → first ≤ i - 1 → is_free ex.now v ≡ true →
         result ≡ reading_of (words.is_good_in ex.now) s i v }
 {
-    let next = next_notes(newest, ex, i, v, newest.len);
+    let next = next_notes(around, ex, i, v, around.count());
     is_good(
         species_of(ex, v),
-        cell_of(column_behind(newest, ex, i, 0), v as usize).pitch(),
-        cell_of(column_at(newest, ex, i), v as usize).pitch(),
+        around.pitch_before(ex, v, i),
+        cell_around(around, ex, v, i).pitch(),
         onset_pitch(next.first),
-        is_clean_at(newest, ex, i, v, next.first),
+        is_clean_at(around, ex, i, v, next.first),
         onset_pitch(next.second),
     )
 }
 
-/// S15 by the newest columns, as `clashes_badly`.
-pub(crate) fn clashes_badly_kept(
-    newest: &NewestColumns,
+/// S15, for one way to name the voices: whether a note of `v`, a free voice, starts within a bar and clashes with `w`, and isn't good.
+pub(crate) fn clashes_badly<C: ColumnsAround>(
+    around: &C,
     ex: &Exercise,
     i: usize,
     v: u8,
     w: u8,
 ) -> bool
     requires voices { ex.now.voices ≤ 4 }
-    requires room { newest.now.len ≤ 192 }
-    requires place { i < newest.now.len }
-    ensures { (s : Columns) → IsKept ex.now newest.now s i → is_free ex.now v ≡ true →
+    requires room { C.size around.now ≤ 192 }
+    requires place { i < C.size around.now }
+    ensures { (s : Columns) (first : ℕ) → C.show around.now ex.now s first → first ≤ i - 1 → is_free ex.now v ≡ true →
         result ≡ words.clashes_badly_at ex.now s i v w }
 {
-    if !clashes_within_bar(i, column_at(newest, ex, i), v as usize, w as usize) {
+    if !clashes_within_bar(i, around.cells(ex, i), v as usize, w as usize) {
         return false;
     }
-    !is_good_kept(newest, ex, i, v)
+    !is_good_note(around, ex, i, v)
 }
 
-/// Whether S15 is open for one way to name the voices in the first columns of the list, by the newest columns.
-pub(crate) fn is_open_kept(
-    newest: &NewestColumns,
+/// Whether S15 is open for one way to name the voices in the first columns of the list.
+pub(crate) fn is_open_clash<C: ColumnsAround>(
+    around: &C,
     ex: &Exercise,
     i: usize,
     end: usize,
@@ -277,17 +223,18 @@ pub(crate) fn is_open_kept(
     w: u8,
 ) -> bool
     requires valid { IsValid ex.now }
-    requires within { end ≤ newest.now.len }
+    requires within { end ≤ C.size around.now }
     requires place { i < end }
-    ensures { (s : Columns) → IsKept ex.now newest.now s i → result ≡ is_open_within ex.now s end i v w }
+    ensures { (s : Columns) (first : ℕ) → C.show around.now ex.now s first → first ≤ i →
+        result ≡ is_open_within ex.now s end i v w }
 {
-    if !starts_in_clash(column_at(newest, ex, i), v as usize, w as usize) {
+    if !starts_in_clash(around.cells(ex, i), v as usize, w as usize) {
         return false;
     }
     if reaches_last_bar(ex, end) {
         return false;
     }
-    let next = next_notes(newest, ex, i, v, end);
+    let next = next_notes(around, ex, i, v, end);
     if has_ornaments(species_of(ex, v)) {
         return next.second.is_none();
     }

@@ -1,6 +1,6 @@
 //! The rule and the tolls, read among the newest columns.
 
-ghost use Rattle.std.specs.Prelude.{◌≡◌, ◌<◌, ◌≤◌, IsTrue, if◌then◌else◌};
+ghost use Rattle.std.specs.Prelude.{◌≡◌, ◌<◌, ◌≤◌, IsTrue};
 ghost use Rattle.fux_grid.specs.Exercises.{IsValid, columns_in};
 ghost use Rattle.rule_law.specs.Late.{TellsBreak, TellsCost};
 ghost use Rattle.doubling_rules.specs.Book as book;
@@ -9,17 +9,6 @@ ghost use Rattle.doubling_rules.specs.Book.{rule_row, toll_row};
 use crate::rows::{doubling_breaks, doubling_cost, is_before_last_bar};
 use fux_grid::{Exercise, VoiceSet};
 use rule_law::{LatePlaces, NewestColumns, begins_bar, begins_inner_bar};
-
-/// Column `i` alone, or no place where nothing can stand there.
-fn own_place(may: bool, i: usize) -> LatePlaces
-    ensures first { result.first ≡ i }
-    ensures count { result.count ≡ (if may then 1 else 0) }
-{
-    LatePlaces {
-        first: i,
-        count: usize::from(may),
-    }
-}
 
 /// The places at which column `i` may settle a break of S23: its own, in the bar before the last.
 pub fn places_settled(rule: u8, ex: &Exercise, i: usize) -> LatePlaces
@@ -30,7 +19,7 @@ pub fn places_settled(rule: u8, ex: &Exercise, i: usize) -> LatePlaces
     ensures count { result.count ≡ (rule_row rule).count ex.now i }
     ensures few { result.count ≤ 24 }
 {
-    own_place(is_before_last_bar(ex, i), i)
+    LatePlaces::own(is_before_last_bar(ex, i), i)
 }
 
 /// Whether the newest column settles a break of S23 at its place.
@@ -71,7 +60,7 @@ pub fn toll_places(toll: u8, ex: &Exercise, i: usize) -> LatePlaces
     ensures count { result.count ≡ (toll_row toll).count ex.now i }
     ensures few { result.count ≤ 24 }
 {
-    own_place(may_cost(toll, ex, i), i)
+    LatePlaces::own(may_cost(toll, ex, i), i)
 }
 
 /// What the newest column settles of a toll's costs at its place, without the weight.

@@ -1,10 +1,9 @@
 -- S18 is read in two parts: two voices arrive, and the notes of the species voice between stay near.
-use Rattle.std.specs.Prelude.{◌≡◌, ℕ, Bool, false, ◌&&◌, nat_lt, List, [], ◌∷◌, Option, Some, None, slice_index_or, refl}
+use Rattle.std.specs.Prelude.{◌≡◌, ℕ, Bool, false, ◌&&◌, nat_lt, List, [], Option, Some, None, slice_index_or, refl}
 use Rattle.std.proofs.Common.{ap, sym, ◌∙◌}
 use Rattle.std.proofs.Math.Bool.{and_assoc}
 use Rattle.fux_grid.specs.declared.cell.Cell.{Cell}
 use Rattle.fux_grid.specs.declared.exercise.Exercise.{Exercise}
-use Rattle.fux_grid.specs.Columns.{newest_column}
 use Rattle.rule_law.specs.Voices.{holds_of_pair, on_pair, pair_of}
 use Rattle.motion_rules.specs.Afterbeats.{afterbeat_row, arrive_at_bar, stays_since_bar}
 
@@ -25,8 +24,3 @@ module _ (ex : Exercise) (voices i : ℕ) (behind : List (List Cell)) (now : Lis
       on_pair-and ex (arrive_at_bar ex i (slice_index_or behind 7 []) now) (stays_since_bar behind ex.species_voice)
       voices
       ∙ ap (λ b. b && stays_since_bar behind ex.species_voice) e
-
--- the newest column is the first one
-pub newest-first : (behind : List (List Cell)) → newest_column behind ≡ slice_index_or behind 0 []
-newest-first [] = refl
-newest-first (col ∷ behind) = refl

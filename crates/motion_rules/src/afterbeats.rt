@@ -1,17 +1,17 @@
 //! S18: equal perfect intervals at the beginnings of two bars in a row, with nothing between that hides them.
 
-ghost use Rattle.std.specs.Prelude.{◌≡◌, ◌<◌, ◌&&◌, [], length, slice_index_or};
+ghost use Rattle.std.specs.Prelude.{◌≡◌, ◌<◌, ◌≤◌, ◌-◌, ℕ, ◌&&◌, length};
 ghost use Rattle.fux_grid.specs.Cells.{cell_in, pitch_of};
-ghost use Rattle.fux_grid.specs.Columns.{earlier};
+ghost use Rattle.fux_grid.specs.Columns.{Columns, cell_at, earlier};
 ghost use Rattle.rule_law.specs.Places.{reading_of};
 ghost use Rattle.rule_law.specs.Terms as terms;
 ghost use Rattle.rule_law.specs.Voices.{on_pair};
 ghost use Rattle.motion_rules.specs.Afterbeats as words;
 ghost use Rattle.motion_rules.specs.Afterbeats.{afterbeat_row};
 
-use fux_grid::{Cell, Exercise, Score, VoiceSet, cell_of};
+use fux_grid::{Cell, Exercise, VoiceSet, cell_of};
 use fux_pitch::{Pitch, interval_of};
-use rule_law::{begins_bar, equal_perfects, interval_in, pair_of};
+use rule_law::{ColumnsAround, begins_bar, cells_behind, equal_perfects, interval_in, pair_of};
 
 /// Whether a cell that starts a note starts one within two degrees of the pitch.
 fn stays_near(p: Option<Pitch>, cell: Cell) -> bool
@@ -24,24 +24,36 @@ fn stays_near(p: Option<Pitch>, cell: Cell) -> bool
     }
 }
 
-/// The cells of a voice in the seven columns before column `i`, from the newest one on.
-fn newest_cells(score: &Score, i: usize, v: usize) -> [Cell; 7]
-    requires { i < length score.now.columns }
-    ensures { result ≡ words.newest_cells (earlier score.now.columns i) v }
+/// The cell of the species voice in the column that stands k columns before the one before column `i`.
+#[inline]
+fn species_cell<C: ColumnsAround>(around: &C, ex: &Exercise, i: usize, k: usize) -> Cell
+    requires voices { ex.now.voices ≤ 4 }
+    requires near { k < 8 }
+    ensures { (s : Columns) (first : ℕ) → C.show around.now ex.now s first → first ≤ i - 8 → i ≤ length s →
+        result ≡ cell_at (earlier s i) ex.now.species_voice k }
+{
+    cell_of(cells_behind(around, ex, i, k), ex.species_voice as usize)
+}
+
+/// The cells of the species voice in the seven columns before column `i`, from the newest one on.
+fn species_cells<C: ColumnsAround>(around: &C, ex: &Exercise, i: usize) -> [Cell; 7]
+    requires { ex.now.voices ≤ 4 }
+    ensures { (s : Columns) (first : ℕ) → C.show around.now ex.now s first → first ≤ i - 8 → i ≤ length s →
+        result ≡ words.newest_cells (earlier s i) ex.now.species_voice }
 {
     [
-        cell_of(score.behind(i, 0), v),
-        cell_of(score.behind(i, 1), v),
-        cell_of(score.behind(i, 2), v),
-        cell_of(score.behind(i, 3), v),
-        cell_of(score.behind(i, 4), v),
-        cell_of(score.behind(i, 5), v),
-        cell_of(score.behind(i, 6), v),
+        species_cell(around, ex, i, 0),
+        species_cell(around, ex, i, 1),
+        species_cell(around, ex, i, 2),
+        species_cell(around, ex, i, 3),
+        species_cell(around, ex, i, 4),
+        species_cell(around, ex, i, 5),
+        species_cell(around, ex, i, 6),
     ]
 }
 
 /// Whether each note that the cells start stays near the pitch that a voice sounds in a column.
-pub(crate) fn never_leaves(bar_line: &[Cell], v: usize, cells: &[Cell]) -> bool
+fn never_leaves(bar_line: &[Cell], v: usize, cells: &[Cell]) -> bool
     ensures { result ≡ words.never_leaves (pitch_of (cell_in bar_line.now v)) cells.now }
 {
     let p = cell_of(bar_line, v).pitch();
@@ -96,7 +108,7 @@ fn arrive_at_bar(ex: &Exercise, i: usize, bar_line: &[Cell], now: &[Cell], v: u8
 }
 
 /// Whether the two voices of a set have.
-pub(crate) fn two_arrive_at_bar(
+fn two_arrive_at_bar(
     ex: &Exercise,
     voices: VoiceSet,
     i: usize,
@@ -113,15 +125,24 @@ pub(crate) fn two_arrive_at_bar(
 
 /// S18: whether at the beginning of a bar that isn't the first, the species voice, in species 2, 3 or 5, and another voice sound a
 /// perfect interval equal to that at the beginning of the bar before, each with another pitch than there, while each note between of
-/// the species voice stays within two degrees of its pitch there.
-pub fn breaks_afterbeat(ex: &Exercise, score: &Score, i: usize, voices: VoiceSet) -> bool
-    requires { i < length score.now.columns }
-    ensures { result ≡ reading_of (afterbeat_row ex.now voices.bits) score.now.columns i }
+/// the species voice stays within two degrees of its pitch there. The nine columns up to column `i` are read.
+pub fn breaks_afterbeat<C: ColumnsAround>(
+    around: &C,
+    ex: &Exercise,
+    voices: VoiceSet,
+    i: usize,
+) -> bool
+    requires { ex.now.voices ≤ 4 }
+    ensures { (s : Columns) (first : ℕ) → C.show around.now ex.now s first → first ≤ i - 8 → i < length s →
+        result ≡ reading_of (afterbeat_row ex.now voices.bits) s i }
 {
-    let bar_line = score.behind(i, 7);
-    if !two_arrive_at_bar(ex, voices, i, bar_line, score.column(i).as_slice()) {
+    let bar_line = cells_behind(around, ex, i, 7);
+    if !two_arrive_at_bar(ex, voices, i, bar_line, around.cells(ex, i)) {
         return false;
     }
-    let voice = ex.species_voice as usize;
-    never_leaves(bar_line, voice, &newest_cells(score, i, voice))
+    never_leaves(
+        bar_line,
+        ex.species_voice as usize,
+        &species_cells(around, ex, i),
+    )
 }

@@ -32,7 +32,7 @@ impl Rule for Motion {
 
     fn broken(&self, rule: u8, ex: &Exercise, score: &Score, i: usize, voices: VoiceSet) -> bool {
         if rule == 18 {
-            return breaks_afterbeat(ex, score, i, voices);
+            return breaks_afterbeat(score, ex, voices, i);
         }
         breaks(
             rule,

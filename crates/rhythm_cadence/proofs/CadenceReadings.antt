@@ -1,11 +1,10 @@
--- What is read of S22 from the newest columns is what its row reads there (`cadence_reading`).
-use Rattle.std.specs.Prelude.{◌≡◌, ℕ, zero, suc, ◌+◌, ◌-◌, ◌/◌, ◌<◌, ◌≤◌, ◌==◌, Bool, true, false, not, ◌&&◌, nat_lt, IsTrue, List, [], ◌∷◌, ◌++◌, Option, Some, None, if◌then◌else◌, length, reverse, slice_index_or, take, refl}
-use Rattle.std.specs.List.{list_all, list_any}
-use Rattle.std.proofs.Common.{ap, sym, ◌∙◌, subst, arith}
+-- A voice shows its cadence by its cells in the bar before (`voice_reading`).
+use Rattle.std.specs.Prelude.{◌≡◌, ℕ, zero, suc, ◌+◌, ◌-◌, ◌/◌, ◌<◌, ◌≤◌, ◌==◌, Bool, true, false, ◌&&◌, IsTrue, List, [], ◌∷◌, ◌++◌, Option, Some, None, if◌then◌else◌, length, reverse, slice_index_or, take, refl}
+use Rattle.std.specs.List.{list_all}
+use Rattle.std.proofs.Common.{ap, sym, ◌∙◌, arith}
 use Rattle.std.proofs.Math.ListN.{get_or-append}
-use Rattle.std.proofs.Math.Seq.{get_or-append_seam}
 use Rattle.std.proofs.lemmas.Bool.{and_parts, eq-eqb, eqb-true, ne_eqb}
-use Rattle.std.proofs.lemmas.List.{get_or-reverse, length-append, length-map, length-reverse, take-append-le}
+use Rattle.std.proofs.lemmas.List.{length-map, length-reverse, length-take-le, take-append-le}
 use Rattle.fux_pitch.specs.declared.pitch.Pitch.{Pitch}
 use Rattle.fux_grid.specs.declared.cell.Cell.{Cell}
 use Rattle.fux_grid.specs.declared.cell.Cell.TheVariants.{Rest, Hold, Start}
@@ -14,22 +13,20 @@ use Rattle.fux_grid.specs.declared.exercise.Exercise.{Exercise}
 use Rattle.fux_grid.specs.Cells.{cell_follows, cell_in, first_of, is_hold, newest, notes_from, pitch_of}
 use Rattle.fux_grid.specs.Columns.{HistoryFollows, cell_at, earlier, line, newest_column}
 use Rattle.fux_grid.specs.Exercises.{IsValid, species_in}
-use Rattle.fux_grid.proofs.Histories.{earlier-all, earlier-append, line-more}
-use Rattle.rule_law.proofs.AtOnce.{newly_breaks-at_once}
+use Rattle.fux_grid.proofs.Histories.{get_or-earlier, line-more}
+use Rattle.rule_law.proofs.AtOnce.{among_own, newly_breaks-there}
 use Rattle.rule_law.specs.Degrees.{lies_above}
 use Rattle.rule_law.specs.Bars.{begins_bar}
-use Rattle.rule_law.specs.Forms.{set_of_all}
-use Rattle.rule_law.specs.Growth.{list_any-same}
 use Rattle.rule_law.specs.Leading.{is_leading}
 use Rattle.rule_law.specs.Nearby.{LineFollows, line_follows}
-use Rattle.rule_law.specs.Prefixes.{GoesOn}
+use Rattle.rule_law.specs.Places.{reading_of}
 use Rattle.rule_law.specs.Rulebooks.{IsAmong, newly_breaks}
 use Rattle.rule_law.specs.Terms.{note_pitch, sounds, started_pitch}
 use Rattle.rhythm_cadence.specs.Book.{cadence_rule}
-use Rattle.rhythm_cadence.specs.Cadence.{ends_well, has_suspension, held_pitch, holds_suspension, is_lead, lacks_cadence_at, leading_slot, leads_to, shows_cadence, some_ends_well, sounding_note, starts_final}
-use Rattle.rhythm_cadence.specs.NewestCells.{bar_behind}
+use Rattle.rhythm_cadence.specs.Cadence.{cadence_row, ends_well, has_suspension, held_pitch, holds_suspension, is_lead, leading_slot, leads_to, shows_cadence, sounding_note, starts_final}
+use Rattle.rhythm_cadence.specs.BarCells.{bar_behind}
 use Rattle.rhythm_cadence.specs.Rows.{begins_last_bar}
-use Rattle.rhythm_cadence.proofs.QuaverReadings.{follows_earlier}
+use Rattle.rhythm_cadence.proofs.EarlierFollows.{follows_earlier}
 
 -- ---- a note and where it started
 
@@ -163,79 +160,50 @@ voice_same ex i species final f x g (Some note) lead e = at (note.start == (i - 
         fails true false y z = refl
         fails false a y z = refl
 
-module _ (ex : Exercise) (p : List (List Cell)) (col : List Cell) (on : GoesOn ex p (col ∷ [])) (far : 8 ≤ length p)
-  where
-    behind-earlier : earlier (p ++ col ∷ []) (length p) ≡ reverse p
-    behind-earlier = earlier-append p (col ∷ []) (length p) (omega arith) ∙ earlier-all p (length p) (omega arith)
+module _ (ex : Exercise) (s : List (List Cell)) (i : ℕ) (follows : HistoryFollows (reverse s)) (far : 8 ≤ i)
+    (here : i < length s) where
+  size : length (earlier s i) ≡ i
+  unfolding earlier
+  size = length-reverse (take i s) ∙ length-take-le i s (omega (arith, here))
 
-    behind_follows : HistoryFollows (reverse p)
-    behind_follows =
-        let P : List (List Cell) → Type 0 = λ t. HistoryFollows t in
-        subst P behind-earlier (follows_earlier (p ++ col ∷ []) (length p) (omega (arith, length-append p (col ∷ [])))
-        on.longer.follows)
+  lead_found : (v species : ℕ)
+      → held_pitch (7 - leading_slot species) (bar_behind s v i)
+      ≡ pitch_from (i - 8 + leading_slot species) (sounding_note v (earlier s i))
+  lead_found v species =
+      let bound : leading_slot species ≤ 6 = slot_bound species in
+      sym (held-append (7 - leading_slot species) (bar_behind s v i) (line v (earlier s (i - 8))) (omega arith))
+      ∙ ap (held_pitch (7 - leading_slot species)) (sym (line-bar s v i far (omega (arith, here))))
+      ∙ note_found (7 - leading_slot species) v (earlier s i) (follows_earlier s i (omega (arith, here)) follows)
+      (omega (arith, far, size))
+      ∙ ap (λ k. pitch_from k (sounding_note v (earlier s i))) (omega (arith, far, bound, size))
 
-    eighth : slice_index_or (reverse p) 7 [] ≡ slice_index_or (p ++ col ∷ []) (length p - 8) []
-    eighth =
-        get_or-reverse p 7 [] (omega (arith, far))
-        ∙ ap (λ n. slice_index_or p n []) (omega (arith, far))
-        ∙ sym (get_or-append p (col ∷ []) [] (length p - 8) (omega (arith, far)))
+  eighth : slice_index_or (earlier s i) 7 [] ≡ slice_index_or s (i - 8) []
+  eighth =
+      let same : i - 1 - 7 ≡ i - 8 = omega (arith, far) in
+      get_or-earlier s i 7 (omega (arith, far)) (omega (arith, here)) ∙ ap (λ n. slice_index_or s n []) same
 
-    lead_found : (v species : ℕ)
-        → held_pitch (7 - leading_slot species) (bar_behind (p ++ col ∷ []) v (length p))
-        ≡ pitch_from (length p - 8 + leading_slot species) (sounding_note v (reverse p))
-    lead_found v species =
-        let bound : leading_slot species ≤ 6 = slot_bound species in
-        sym (held-append (7 - leading_slot species) (bar_behind (p ++ col ∷ []) v (length p))
-        (line v (earlier (p ++ col ∷ []) (length p - 8))) (omega arith))
-        ∙ ap (held_pitch (7 - leading_slot species))
-        (sym (line-bar (p ++ col ∷ []) v (length p) far (omega (arith, length-append p (col ∷ []))))
-        ∙ ap (line v) behind-earlier)
-        ∙ note_found (7 - leading_slot species) v (reverse p) behind_follows (omega (arith, far, length-reverse p))
-        ∙ ap (λ k. pitch_from k (sounding_note v (reverse p))) (omega (arith, far, bound, length-reverse p))
+  -- a voice shows its cadence by its cells in the bar before
+  pub voice_reading : (v : ℕ) → shows_cadence ex i (earlier s i) (slice_index_or s i []) v
+      ≡ ends_well ex (slice_index_or s (i - 8) []) (bar_behind s v i) (slice_index_or s i []) v
+  voice_reading v =
+      let now = slice_index_or s i [] in
+      voice_same ex i (species_in ex v) (pitch_of (cell_in now v)) (starts_final ex (cell_in now v))
+      (has_suspension (species_in ex v))
+      (λ lead. holds_suspension ex (slice_index_or (earlier s i) 7 []) lead v) (sounding_note v (earlier s i))
+      (held_pitch (7 - leading_slot (species_in ex v)) (bar_behind s v i)) (lead_found v (species_in ex v))
+      ∙ ap (λ start. ends_well ex start (bar_behind s v i) now v) eighth
 
-    voice_reading : (v : ℕ) → shows_cadence ex (length p) (reverse p) col v
-        ≡ ends_well ex (slice_index_or (p ++ col ∷ []) (length p - 8) []) (bar_behind (p ++ col ∷ []) v (length p))
-        (slice_index_or (p ++ col ∷ []) (length p) []) v
-    voice_reading v =
-        voice_same ex (length p) (species_in ex v) (pitch_of (cell_in col v)) (starts_final ex (cell_in col v))
-        (has_suspension (species_in ex v))
-        (λ lead. holds_suspension ex (slice_index_or (reverse p) 7 []) lead v) (sounding_note v (reverse p))
-        (held_pitch (7 - leading_slot (species_in ex v)) (bar_behind (p ++ col ∷ []) v (length p)))
-        (lead_found v (species_in ex v))
-        ∙ ap (λ start. ends_well ex start (bar_behind (p ++ col ∷ []) v (length p)) col v) eighth
-        ∙ ap (λ now. ends_well ex (slice_index_or (p ++ col ∷ []) (length p - 8) [])
-        (bar_behind (p ++ col ∷ []) v (length p)) now v)
-        (sym (get_or-append_seam p col [] []))
+pub last_bar_far : (ex : Exercise) (i : ℕ) → IsValid ex → begins_last_bar ex i ≡ true → 8 ≤ i
+last_bar_far ex i valid e =
+    let parts = and_parts (begins_bar i) (i / 8 + 1 == ex.bars) e in
+    let last : i / 8 + 1 ≡ ex.bars = eqb-true (i / 8 + 1) ex.bars parts.1 in
+    omega (arith, last, valid.fewest_bars)
 
-    some_reading : list_any (λ v. nat_lt v ex.voices && shows_cadence ex (length p) (reverse p) col v)
-        (0 ∷ 1 ∷ 2 ∷ 3 ∷ [])
-        ≡ some_ends_well ex (p ++ col ∷ []) (length p)
-    some_reading = list_any-same _ _ (0 ∷ 1 ∷ 2 ∷ 3 ∷ []) (λ v. ap (λ x. nat_lt v ex.voices && x) (voice_reading v))
-
-last_bar_far : (n bars : ℕ) → 3 ≤ bars → n / 8 + 1 ≡ bars → 8 ≤ n
-last_bar_far n bars h e = omega arith
-
-pub cadence_reading : (ex : Exercise) (voices : ℕ) (p : List (List Cell)) (col : List Cell) (i : ℕ) → IsValid ex
-    → GoesOn ex p (col ∷ [])
+-- at its place among the newest columns it is settled at once
+pub cadence_settles : (ex : Exercise) (voices : ℕ) (p : List (List Cell)) (col : List Cell) (i : ℕ)
     → IsAmong (length p) (if begins_last_bar ex (length p) then 1 else 0) i
-    → newly_breaks cadence_rule ex voices p col i ≡ lacks_cadence_at ex (p ++ col ∷ []) (length p) voices
-cadence_reading ex voices p col i valid on among = at (begins_last_bar ex (length p)) refl among
-  where
-    order : (a b x y : Bool) → x ≡ y → (a && (b && x)) ≡ ((b && a) && y)
-    order true true x y f = f
-    order true false x y f = refl
-    order false true x y f = refl
-    order false false x y f = refl
-
-    at : (b : Bool) → begins_last_bar ex (length p) ≡ b → IsAmong (length p) (if b then 1 else 0) i
-        → newly_breaks cadence_rule ex voices p col i ≡ lacks_cadence_at ex (p ++ col ∷ []) (length p) voices
-    at false e a = absurd (omega (arith, a.from, a.to))
-    at true e a =
-        let here : i ≡ length p = omega (arith, a.from, a.to) in
-        let far : 8 ≤ length p = last_bar_far (length p) ex.bars valid.fewest_bars
-        (eqb-true (length p / 8 + 1) ex.bars (and_parts (begins_bar (length p)) (length p / 8 + 1 == ex.bars) e).1)
-        in
-        ap (newly_breaks cadence_rule ex voices p col) here
-        ∙ newly_breaks-at_once cadence_rule ex voices (λ i behind now ahead. refl) p col
-        ∙ order (voices == set_of_all ex.voices) (begins_last_bar ex (length p)) _ _
-        (ap not (some_reading ex p col on far))
+    → (i ≡ length p)
+    × (newly_breaks cadence_rule ex voices p col i ≡ reading_of (cadence_row ex voices) (p ++ col ∷ []) i)
+cadence_settles ex voices p col i among =
+    let own : i ≡ length p = among_own (begins_last_bar ex (length p)) i (length p) among in
+    (own, newly_breaks-there cadence_rule ex voices (λ i behind now ahead. refl) p col i own)

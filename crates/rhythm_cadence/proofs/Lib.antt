@@ -1,13 +1,12 @@
 pub mod BarReadings
 pub mod BookLaws
 pub mod CadenceReadings
+pub mod EarlierFollows
 pub mod LowerVoices
 pub mod NewestBars
-pub mod NewestReadings
 pub mod OrderlyReadings
 pub mod PartLemmas
 pub mod PatternReadings
-pub mod QuaverReadings
 pub mod Quiet
 pub mod ShapeLeft
 pub mod ShapeSets

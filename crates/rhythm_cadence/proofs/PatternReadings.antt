@@ -1,26 +1,28 @@
--- What is read of Q16 from the newest columns is what the toll costs there (`pattern_reading`).
-use Rattle.std.specs.Prelude.{◌≡◌, ℕ, ◌+◌, ◌-◌, ◌%◌, ◌≤◌, ◌==◌, Bool, true, false, not, ◌&&◌, nat_le, nat_lt, List, [], ◌∷◌, ◌++◌, if◌then◌else◌, length, drop, slice_index_or, refl}
+-- Q16 compares the cells of two bars (`bar_reading`), and is settled by the second bar's last column (`pattern_settles`).
+use Rattle.std.specs.Prelude.{◌≡◌, ℕ, ◌+◌, ◌-◌, ◌%◌, ◌<◌, ◌≤◌, ◌==◌, Bool, true, false, not, ◌&&◌, nat_le, nat_lt, List, [], ◌∷◌, ◌++◌, if◌then◌else◌, length, drop, slice_index_or, refl}
 use Rattle.std.specs.Int.{from_bool}
-use Rattle.std.proofs.Common.{ap, sym, ◌∙◌, add-one, arith, drop-cons}
+use Rattle.std.specs.List.{list_all}
+use Rattle.std.proofs.Common.{ap, sym, ◌∙◌, add-one, arith, drop-cons, subst}
 use Rattle.std.proofs.Math.Seq.{get_or-drop}
-use Rattle.std.proofs.lemmas.Bool.{and_from, and_parts, eq-eqb, eqb-true}
+use Rattle.std.proofs.lemmas.Bool.{and_parts, eq-eqb, eqb-true}
 use Rattle.std.proofs.lemmas.Bool.Decides.{nat_tests}
-use Rattle.std.proofs.lemmas.List.{length-append, length-drop}
+use Rattle.std.proofs.lemmas.List.{length-drop}
 use Rattle.fux_grid.specs.declared.cell.Cell.{Cell}
 use Rattle.fux_grid.specs.declared.exercise.Exercise.{Exercise}
 use Rattle.fux_grid.specs.Cells.{cell_in, same_cell}
 use Rattle.fux_grid.specs.Columns.{cell_at, earlier}
 use Rattle.fux_grid.specs.Exercises.{slot_of}
 use Rattle.fux_grid.proofs.Histories.{get_or-earlier}
-use Rattle.rule_law.specs.Bars.{begins_bar}
+use Rattle.rule_law.proofs.AtOnce.{among_own, newly_costs-there}
+use Rattle.rule_law.specs.Bars.{begins_bar, begins_inner_bar}
 use Rattle.rule_law.specs.Places.{reading_of}
 use Rattle.rule_law.specs.Rulebooks.{IsAmong, newly_costs}
-use Rattle.rhythm_cadence.specs.Book.{pattern_row}
-use Rattle.rhythm_cadence.specs.NewestCells.{bar_behind}
-use Rattle.rhythm_cadence.specs.Patterns.{pattern_at, repeats_bar, repeats_slot, same_cells, settles_pattern}
+use Rattle.rhythm_cadence.specs.Book.{ligature_row, pattern_row}
+use Rattle.rhythm_cadence.specs.BarCells.{bar_behind}
+use Rattle.rhythm_cadence.specs.Patterns.{lacks_ligature, pattern_toll, repeats_bar, repeats_slot, same_cells, settles_pattern}
 use Rattle.rhythm_cadence.proofs.BookLaws.{pattern_newly}
 
-module _ (s : List (List Cell)) (v i : ℕ) (second : 8 ≤ i) (whole : i + 8 ≡ length s) where
+module _ (s : List (List Cell)) (v i : ℕ) (second : 8 ≤ i) (whole : i + 8 ≤ length s) where
   columns : slice_index_or s i [] ∷ drop (i + 1) s ≡ drop i s
   columns = ap (λ k. slice_index_or s i [] ∷ drop k s) (add-one i) ∙ sym (drop-cons s i [] (omega (arith, whole)))
 
@@ -34,7 +36,7 @@ module _ (s : List (List Cell)) (v i : ℕ) (second : 8 ≤ i) (whole : i + 8 �
       ∙ ap (λ c. same_cell (cell_at s v a) (cell_in c v))
       (ap (λ cs. slice_index_or cs k []) columns ∙ get_or-drop i s k [] ∙ ap (λ n. slice_index_or s n []) (sym f))
 
-  bar_reading : repeats_bar v (earlier s i) (slice_index_or s i []) (drop (i + 1) s)
+  pub bar_reading : repeats_bar v (earlier s i) (slice_index_or s i []) (drop (i + 1) s)
       ≡ same_cells (bar_behind s v i) (bar_behind s v (i + 8))
   bar_reading =
       let seven : nat_le 7 (length (drop (i + 1) s))
@@ -54,44 +56,54 @@ module _ (s : List (List Cell)) (v i : ℕ) (second : 8 ≤ i) (whole : i + 8 �
       enough : (n : ℕ) → 7 ≤ n → nat_le 7 n ≡ true
       enough n h = grind (arith, nat_tests)
 
+-- a bar that isn't whole repeats nothing
+pub part_reading : (s : List (List Cell)) (v i : ℕ) → length s < i + 8
+    → repeats_bar v (earlier s i) (slice_index_or s i []) (drop (i + 1) s) ≡ false
+part_reading s v i part =
+    ap (λ b. b && list_all (repeats_slot v (earlier s i) (slice_index_or s i []) (drop (i + 1) s))
+    (0 ∷ 1 ∷ 2 ∷ 3 ∷ 4 ∷ 5 ∷ 6 ∷ 7 ∷ []))
+    (few (length (drop (i + 1) s)) (omega (arith, part, length-drop (i + 1) s)))
+  where
+    few : (n : ℕ) → n < 7 → nat_le 7 n ≡ false
+    few n h = grind (arith, nat_tests, h)
+
 -- where a bar begins, and where the newest column ends it
-bar_facts : (ex : Exercise) (n : ℕ) → settles_pattern ex n ≡ true
-    → (nat_le 2 ex.species ≡ true) × (begins_bar (n - 7) ≡ true) × (nat_le 8 (n - 7) ≡ true) × (8 ≤ n - 7)
-    × (n - 7 + 7 ≡ n)
+bar_facts : (ex : Exercise) (n : ℕ) → settles_pattern ex n ≡ true → (begins_bar (n - 7) ≡ true) × (n - 7 + 7 ≡ n)
 bar_facts ex n e =
     let outer = and_parts (nat_le 2 ex.species && (slot_of n == 7)) (nat_le 15 n) e in
     let inner = and_parts (nat_le 2 ex.species) (slot_of n == 7) outer.0 in
     let seven : n % 8 ≡ 7 = eqb-true (n % 8) 7 inner.1 in
     let far : 15 ≤ n = grind (arith, nat_tests, outer.1) in
     let zero : (n - 7) % 8 ≡ 0 = omega (arith, seven, far) in
-    (inner.0, eq-eqb ((n - 7) % 8) 0 zero, grind (arith, nat_tests, far), omega (arith, far), omega (arith, far))
+    (eq-eqb ((n - 7) % 8) 0 zero, omega (arith, far))
 
-pub pattern_reading : (ex : Exercise) (p : List (List Cell)) (col : List Cell) (i : ℕ)
+-- at its place among the newest columns, eight before the end of the list, the last one settles Q16
+pub pattern_settles : (ex : Exercise) (p : List (List Cell)) (col : List Cell) (i : ℕ)
     → IsAmong (length p - 7) (pattern_row.count ex (length p)) i
-    → newly_costs pattern_row ex p col i ≡ from_bool (pattern_at ex (p ++ col ∷ []) (length p))
-pattern_reading ex p col i = at (settles_pattern ex (length p)) refl
+    → (i + 7 ≡ length p) × (newly_costs pattern_row ex p col i ≡ reading_of (pattern_toll ex) (p ++ col ∷ []) i)
+pattern_settles ex p col i = at (settles_pattern ex (length p)) refl
   where
     within : (i n : ℕ) → i + 7 ≡ n → (nat_lt (i + 7) (n + 1) && not (nat_lt (i + 7) n)) ≡ true
     within i n e = grind (arith, nat_tests, e)
 
     at : (b : Bool) → settles_pattern ex (length p) ≡ b → IsAmong (length p - 7) (if b then 1 else 0) i
-        → newly_costs pattern_row ex p col i ≡ from_bool (pattern_at ex (p ++ col ∷ []) (length p))
+        → (i + 7 ≡ length p) × (newly_costs pattern_row ex p col i ≡ reading_of (pattern_toll ex) (p ++ col ∷ []) i)
     at false e a = absurd (omega (arith, a.from, a.to))
     at true e a =
         let here : i ≡ length p - 7 = omega (arith, a.from, a.to) in
         let facts = bar_facts ex (length p) e in
-        let ends : length p - 7 + 7 ≡ length p = facts.4 in
-        let whole : length p - 7 + 8 ≡ length (p ++ col ∷ []) = omega (arith, ends, length-append p (col ∷ [])) in
-        let next : length p - 7 + 8 ≡ length p + 1 = omega (arith, ends) in
-        ap (newly_costs pattern_row ex p col) here
-        ∙ ap (λ b. if b then reading_of (pattern_row.cost ex) (p ++ col ∷ []) (length p - 7) else 0)
-        (pattern_newly ex p col (length p - 7) facts.1 ∙ within (length p - 7) (length p) ends)
-        ∙ ap (λ b. from_bool (b && repeats_bar ex.species_voice (earlier (p ++ col ∷ []) (length p - 7))
-        (slice_index_or (p ++ col ∷ []) (length p - 7) []) (drop (length p - 7 + 1) (p ++ col ∷ []))))
-        (and_from (nat_le 2 ex.species && begins_bar (length p - 7)) (nat_le 8 (length p - 7))
-        (and_from (nat_le 2 ex.species) (begins_bar (length p - 7)) facts.0 facts.1) facts.2)
-        ∙ ap from_bool (bar_reading (p ++ col ∷ []) ex.species_voice (length p - 7) facts.3 whole)
-        ∙ ap (λ n. from_bool (same_cells (bar_behind (p ++ col ∷ []) ex.species_voice (length p - 7))
-        (bar_behind (p ++ col ∷ []) ex.species_voice n))) next
-        ∙ sym (ap (λ b. from_bool (b && same_cells (bar_behind (p ++ col ∷ []) ex.species_voice (length p - 7))
-        (bar_behind (p ++ col ∷ []) ex.species_voice (length p + 1)))) e)
+        let ends : i + 7 ≡ length p = omega (arith, facts.1, here) in
+        let P : ℕ → Type 0 = λ n. begins_bar n ≡ true in (
+          ends,
+          ap (λ b. if b then reading_of (pattern_toll ex) (p ++ col ∷ []) i else 0)
+              (pattern_newly ex p col i (subst P (sym here) facts.0) ∙ within i (length p) ends),
+        )
+
+-- Q15 is settled at once
+pub ligature_settles : (ex : Exercise) (p : List (List Cell)) (col : List Cell) (i : ℕ)
+    → IsAmong (length p) (ligature_row.count ex (length p)) i
+    → (i ≡ length p)
+    × (newly_costs ligature_row ex p col i ≡ from_bool (lacks_ligature ex i (slice_index_or (p ++ col ∷ []) i [])))
+ligature_settles ex p col i among =
+    let own : i ≡ length p = among_own ((ex.species == 4) && begins_inner_bar ex (length p)) i (length p) among in
+    (own, newly_costs-there ligature_row ex (λ i behind now ahead. refl) p col i own)

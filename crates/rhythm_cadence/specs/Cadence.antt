@@ -14,7 +14,6 @@ use Rattle.rule_law.specs.Forms.{set_of_all}
 use Rattle.rule_law.specs.Leading.{is_leading}
 use Rattle.rule_law.specs.Places.{Row, at_once}
 use Rattle.rule_law.specs.Terms.{degrees_without_sign, holds_of, interval_in, note_pitch, sounds, started_pitch, starts}
-use Rattle.rhythm_cadence.specs.NewestCells.{bar_behind}
 use Rattle.rhythm_cadence.specs.Rows.{begins_last_bar, holds_of_pitch, is_final}
 
 -- the slot of the last bar but one on which the leading note starts, by the voice's species: the cantus has species 1
@@ -77,7 +76,7 @@ cadence_row ex voices i behind now ahead = (voices == set_of_all ex.voices) && l
 abbrev pub cadence_enough : Exercise → ℕ → Row Bool
 cadence_enough ex voices = at_once
 
--- ---- the same from cells that stand among the newest ones
+-- ---- the same from the cells of the bar before
 
 -- the pitch of the note that is held in exactly so many of the newest cells, and started before them
 abbrev pub held_pitch : ℕ → List Cell → Option Pitch
@@ -96,18 +95,3 @@ ends_well ex start bar now v =
     starts_final ex (cell_in now v)
     && is_lead ex (pitch_of (cell_in now v)) lead
     && (if has_suspension (species_in ex v) then holds_suspension ex start lead v else true)
-
--- a voice is there and does so at column i, the beginning of the last bar
-abbrev pub ends_well_at : Exercise → List (List Cell) → ℕ → ℕ → Bool
-ends_well_at ex s i v =
-    nat_lt v ex.voices
-    && ends_well ex (slice_index_or s (i - 8) []) (bar_behind s v i) (slice_index_or s i []) v
-
--- some voice does
-abbrev pub some_ends_well : Exercise → List (List Cell) → ℕ → Bool
-some_ends_well ex s i = list_any (ends_well_at ex s i) (0 ∷ 1 ∷ 2 ∷ 3 ∷ [])
-
--- S22 at column i, which is the newest
-abbrev pub lacks_cadence_at : Exercise → List (List Cell) → ℕ → ℕ → Bool
-lacks_cadence_at ex s i voices =
-    begins_last_bar ex i && (voices == set_of_all ex.voices) && not (some_ends_well ex s i)

@@ -1,10 +1,10 @@
 pub mod AllRules
+pub mod BarCells
 pub mod Book
 pub mod Cadence
 pub mod InPlace
 pub mod LateLaws
 pub mod Locality
-pub mod NewestCells
 pub mod Parts
 pub mod Patterns
 pub mod Quavers

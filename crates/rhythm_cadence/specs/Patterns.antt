@@ -1,5 +1,5 @@
 -- The tolls Q15 and Q16: ligatures that are missing, and bars that repeat the bar before.
-use Rattle.std.specs.Prelude.{ℕ, ◌+◌, ◌-◌, ◌==◌, Bool, not, ◌&&◌, ◌||◌, nat_le, List, [], ◌∷◌, length, slice_index_or}
+use Rattle.std.specs.Prelude.{ℕ, ◌-◌, ◌==◌, Bool, not, ◌&&◌, ◌||◌, nat_le, List, [], ◌∷◌, length, slice_index_or}
 use Rattle.std.specs.Int.{from_bool}
 use Rattle.std.specs.List.{list_all}
 use Rattle.fux_grid.specs.declared.cell.Cell.{Cell}
@@ -11,16 +11,11 @@ use Rattle.rule_law.specs.Bars.{begins_bar, begins_inner_bar}
 use Rattle.rule_law.specs.Places.{Row}
 use Rattle.rule_law.specs.Nearby.{NearRow}
 use Rattle.rule_law.specs.Terms.{starts}
-use Rattle.rhythm_cadence.specs.NewestCells.{bar_behind}
 
 -- Q15: in species 4, at the beginning of a bar that is neither the first nor the last, the species voice starts a note
 abbrev pub lacks_ligature : Exercise → ℕ → List Cell → Bool
 lacks_ligature ex i now =
     (ex.species == 4) && begins_inner_bar ex i && starts (cell_in now ex.species_voice)
-
--- at column i of a list
-abbrev pub lacks_ligature_at : Exercise → List (List Cell) → ℕ → Bool
-lacks_ligature_at ex s i = lacks_ligature ex i (slice_index_or s i [])
 
 abbrev pub ligature_toll : Exercise → NearRow ℕ
 ligature_toll ex i before previous now = from_bool (lacks_ligature ex i now)
@@ -50,8 +45,6 @@ pattern_toll ex i behind now ahead = from_bool (is_pattern ex i behind now ahead
 abbrev pub pattern_enough : Exercise → Row Bool
 pattern_enough ex i behind now ahead = not (begins_bar i) || nat_le 7 (length ahead)
 
--- ---- the same from cells that stand among the newest ones
-
 -- two lists have the same cells at each of eight places
 abbrev pub same_cells : List Cell → List Cell → Bool
 same_cells xs ys =
@@ -61,9 +54,3 @@ same_cells xs ys =
 -- the last column of a bar settles the bar, from the second bar on
 abbrev pub settles_pattern : Exercise → ℕ → Bool
 settles_pattern ex i = nat_le 2 ex.species && (slot_of i == 7) && nat_le 15 i
-
--- Q16 of the bar that column i, the newest, settles
-abbrev pub pattern_at : Exercise → List (List Cell) → ℕ → Bool
-pattern_at ex s i =
-    settles_pattern ex i
-    && same_cells (bar_behind s ex.species_voice (i - 7)) (bar_behind s ex.species_voice (i + 1))

@@ -1,5 +1,5 @@
 -- What is read of the newest columns and of the shapes of the newest bar, which a state keeps: breaks of S3, S22 and S25.
-use Rattle.std.specs.Prelude.{◌≡◌, ℕ, ◌+◌, ◌^◌, ◌<◌, ◌≤◌, Bool, true, List, [], ◌∷◌, ◌++◌, length}
+use Rattle.std.specs.Prelude.{◌≡◌, ℕ, ◌^◌, Bool, true, List, [], ◌∷◌, ◌++◌, length}
 use Rattle.fux_grid.specs.declared.cell.Cell.{Cell}
 use Rattle.fux_grid.specs.declared.exercise.Exercise.{Exercise}
 use Rattle.fux_grid.specs.Cells.{cell_in}
@@ -12,7 +12,6 @@ use Rattle.rule_law.specs.declared.newest.NewestColumns.{NewestColumns}
 use Rattle.rhythm_cadence.specs.declared.part.BarShapes.{BarShapes}
 use Rattle.rhythm_cadence.specs.Book.{rule_row, shape_rule}
 use Rattle.rhythm_cadence.specs.Parts.{IsShapesOf, newest_start}
-use Rattle.rhythm_cadence.specs.Quavers.{quaver_at}
 use Rattle.rhythm_cadence.specs.Rows.{broken_in}
 
 -- a set of voices has left the shapes of the newest bar: S3 is broken where that bar begins
@@ -32,9 +31,3 @@ TellsBreak rule ex voices part kept place told =
     → AreNewestOf ex.voices (p ++ col ∷ []) kept → GoesOn ex p (col ∷ [])
     → IsAmong ((rule_row rule).first ex (length p)) ((rule_row rule).count ex (length p)) place
     → told ≡ newly_breaks (rule_row rule) ex voices p col place
-
--- at one of the two newest places: whether S25 is broken there
-abbrev pub TellsQuaver : Exercise → ℕ → NewestColumns → ℕ → Bool → Type 0
-TellsQuaver ex voices kept place told =
-    (s : Columns) → AreNewestOf ex.voices s kept → place < length s → length s ≤ place + 2
-    → told ≡ quaver_at ex s place voices

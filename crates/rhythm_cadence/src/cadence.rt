@@ -1,22 +1,21 @@
 //! S22: the cadence at the beginning of the last bar.
 
-ghost use Rattle.std.specs.Prelude.{◌≡◌, ◌+◌, ◌-◌, ◌==◌, ◌<◌, ◌≤◌, ◌&&◌, nat_lt, length};
+ghost use Rattle.std.specs.Prelude.{◌≡◌, ◌-◌, ◌==◌, ◌<◌, ◌≤◌, ◌&&◌, [], ℕ, nat_lt, length, reverse, slice_index_or};
 ghost use Rattle.std.specs.List.{list_all};
 ghost use Rattle.fux_grid.specs.Cells.{is_hold};
+ghost use Rattle.fux_grid.specs.Columns.{Columns, HistoryFollows};
 ghost use Rattle.fux_grid.specs.Exercises.{IsValid};
-ghost use Rattle.fux_grid.specs.Columns.{Columns, earlier};
 ghost use Rattle.rule_law.specs.Forms.{set_of_all};
-ghost use Rattle.rule_law.specs.Newest.{AreNewestOf};
 ghost use Rattle.rule_law.specs.Places.{reading_back, reading_of};
+ghost use Rattle.rhythm_cadence.specs.BarCells as bars;
 ghost use Rattle.rhythm_cadence.specs.Cadence as words;
-ghost use Rattle.rhythm_cadence.specs.Cadence.{cadence_row, lacks_cadence_at};
-ghost use Rattle.rhythm_cadence.specs.NewestCells.{bar_behind};
+ghost use Rattle.rhythm_cadence.specs.Cadence.{cadence_row};
 
-use crate::newest::{bar_behind, cell_at};
+use crate::bar_cells::bar_behind;
 use crate::rows::{begins_last_bar, is_final};
-use fux_grid::{Cell, Exercise, Note, Score, VoiceSet, cell_of, note_behind, species_of};
+use fux_grid::{Cell, Exercise, VoiceSet, cell_of, species_of};
 use fux_pitch::Pitch;
-use rule_law::{NewestColumns, interval_in, is_leading, is_sounding, lies_above};
+use rule_law::{ColumnsAround, cell_around, interval_in, is_leading, lies_above};
 
 /// The slot of the last bar but one on which the leading note starts, by the voice's species.
 fn leading_slot(species: u8) -> usize
@@ -28,17 +27,6 @@ fn leading_slot(species: u8) -> usize
         3 => 6,
         _ => 4,
     }
-}
-
-/// The note that a voice sounds in the column before `i`.
-fn sounding_note(score: &Score, v: u8, i: usize) -> Option<Note>
-    requires { i < length score.now.columns }
-    ensures { result ≡ words.sounding_note v (earlier score.now.columns i) }
-{
-    if !is_sounding(cell_of(score.before(i), v as usize)) {
-        return None;
-    }
-    note_behind(score, v, i)
 }
 
 /// Whether a final starts in the cell.
@@ -57,20 +45,6 @@ fn is_lead(ex: &Exercise, last: Option<Pitch>, lead: Option<Pitch>) -> bool
 {
     match lead {
         Some(p) => is_leading(ex.mode, p) && lies_above(1, last, Some(p)),
-        None => false,
-    }
-}
-
-/// Whether the note leads to the final at column `i`.
-fn leads_to(ex: &Exercise, i: usize, species: u8, last: Option<Pitch>, note: Option<Note>) -> bool
-    requires { i ≤ 192 }
-    ensures { result ≡ words.leads_to ex.now i species last note }
-{
-    match note {
-        Some(note) => {
-            is_lead(ex, last, Some(note.pitch))
-                && note.start == i.saturating_sub(8) + leading_slot(species)
-        }
         None => false,
     }
 }
@@ -101,41 +75,6 @@ fn holds_suspension(ex: &Exercise, column: &[Cell], lead: Option<Pitch>, v: u8) 
     cell.is_hold() && lies_above(1, cell.pitch(), lead) && is_suspended(ex, column, v)
 }
 
-/// Whether a voice shows its cadence at column `i`, the beginning of the last bar: it starts the final there, after the leading
-/// note one degree below, which began on its slot of the bar before: the first for species 1 and the cantus, the seventh for
-/// species 3, the fifth for the others. In species 4 and 5 a suspension came before it.
-pub fn shows_cadence(ex: &Exercise, score: &Score, i: usize, v: u8) -> bool
-    requires { i < length score.now.columns }
-    ensures { result ≡ reading_back (words.shows_cadence ex.now) score.now.columns i v }
-{
-    score.kept();
-    let cell = score.cell(v as usize, i);
-    if !starts_final(ex, cell) {
-        return false;
-    }
-    let species = species_of(ex, v);
-    let note = sounding_note(score, v, i);
-    if !leads_to(ex, i, species, cell.pitch(), note) {
-        return false;
-    }
-    if !has_suspension(species) {
-        return true;
-    }
-    match note {
-        Some(note) => holds_suspension(ex, score.behind(i, 7), Some(note.pitch), v),
-        None => holds_suspension(ex, score.behind(i, 7), None, v),
-    }
-}
-
-/// Whether a voice is there and shows its cadence.
-fn is_shown_by(ex: &Exercise, score: &Score, i: usize, v: u8) -> bool
-    requires { i < length score.now.columns }
-    ensures { result ≡ (nat_lt v ex.now.voices &&
-        reading_back (words.shows_cadence ex.now) score.now.columns i v) }
-{
-    v < ex.voices && shows_cadence(ex, score, i, v)
-}
-
 /// Whether the set has all voices, and no others.
 #[inline]
 fn has_all_voices(ex: &Exercise, voices: VoiceSet) -> bool
@@ -146,21 +85,6 @@ fn has_all_voices(ex: &Exercise, voices: VoiceSet) -> bool
         3 => voices.bits == 7,
         _ => voices.bits == 15,
     }
-}
-
-/// S22: whether at column `i`, if the last bar begins there, no voice shows its cadence. It is broken for the set of all voices.
-pub fn breaks_cadence(ex: &Exercise, score: &Score, i: usize, voices: VoiceSet) -> bool
-    requires valid { IsValid ex.now }
-    requires place { i < length score.now.columns }
-    ensures { result ≡ reading_of (cadence_row ex.now voices.bits) score.now.columns i }
-{
-    if !begins_last_bar(ex, i) || !has_all_voices(ex, voices) {
-        return false;
-    }
-    !(is_shown_by(ex, score, i, 0)
-        || is_shown_by(ex, score, i, 1)
-        || is_shown_by(ex, score, i, 2)
-        || is_shown_by(ex, score, i, 3))
 }
 
 /// Whether all these cells hold a note.
@@ -184,53 +108,54 @@ fn held_pitch(cells: &[Cell], held: usize) -> Option<Pitch>
     }
 }
 
-/// Whether a voice is there and shows its cadence at column `i`, the newest, read from the newest columns.
-fn ends_well(newest: &NewestColumns, ex: &Exercise, i: usize, v: u8) -> bool
+/// Whether a voice shows its cadence at column `i`, by its cells in the bar before and by the column that began that bar.
+fn ends_well<C: ColumnsAround>(around: &C, ex: &Exercise, i: usize, v: u8) -> bool
     requires voices { ex.now.voices ≤ 4 }
     requires place { 8 ≤ i }
-    ensures { (s : Columns) → AreNewestOf ex.now.voices s newest.now → length s ≤ i + 1
-        → result ≡ words.ends_well_at ex.now s i v }
+    ensures { (s : Columns) (first : ℕ) → C.show around.now ex.now s first → first ≤ i - 8 →
+        result ≡ words.ends_well ex.now (slice_index_or s (i - 8) []) (bars.bar_behind s v i) (slice_index_or s i []) v }
 {
-    if v >= ex.voices {
-        return false;
-    }
-    let cell = cell_at(newest, ex, v, i);
+    let cell = cell_around(around, ex, v, i);
     if !starts_final(ex, cell) {
         return false;
     }
     let species = species_of(ex, v);
-    let lead = held_pitch(&bar_behind(newest, ex, v, i), 7 - leading_slot(species));
+    let lead = held_pitch(&bar_behind(around, ex, v, i), 7 - leading_slot(species));
     if !is_lead(ex, cell.pitch(), lead) {
         return false;
     }
-    !has_suspension(species) || holds_suspension(ex, newest.at(i - 8, ex.voices as usize), lead, v)
+    !has_suspension(species) || holds_suspension(ex, around.cells(ex, i - 8), lead, v)
 }
 
-/// Whether some voice shows its cadence there.
-fn some_ends_well(newest: &NewestColumns, ex: &Exercise, i: usize) -> bool
+/// Whether a voice is there and shows its cadence at column `i`, the beginning of the last bar: it starts the final there, after the
+/// leading note one degree below, which began on its slot of the bar before: the first for species 1 and the cantus, the seventh for
+/// species 3, the fifth for the others. In species 4 and 5 a suspension came before it.
+pub fn shows_cadence<C: ColumnsAround>(around: &C, ex: &Exercise, i: usize, v: u8) -> bool
     requires voices { ex.now.voices ≤ 4 }
     requires place { 8 ≤ i }
-    ensures { (s : Columns) → AreNewestOf ex.now.voices s newest.now → length s ≤ i + 1
-        → result ≡ words.some_ends_well ex.now s i }
+    ensures { (s : Columns) (first : ℕ) → C.show around.now ex.now s first → first ≤ i - 8 → i < length s →
+        HistoryFollows (reverse s) → result ≡ (nat_lt v ex.now.voices &&
+        reading_back (words.shows_cadence ex.now) s i v) }
 {
-    for v in 0..4 {
-        if ends_well(newest, ex, i, v) {
-            return true;
-        }
-    }
-    false
+    v < ex.voices && ends_well(around, ex, i, v)
 }
 
-/// S22, read from the newest columns, at the newest.
-pub(crate) fn lacks_cadence(newest: &NewestColumns, ex: &Exercise, voices: VoiceSet) -> bool
-    requires valid { IsValid ex.now }
-    requires begun { 0 < newest.now.len }
-    ensures { (s : Columns) → AreNewestOf ex.now.voices s newest.now →
-        result ≡ lacks_cadence_at ex.now s (newest.now.len - 1) voices.bits }
+/// S22: whether at column `i`, if the last bar begins there, no voice shows its cadence. It is broken for the set of all voices.
+pub fn breaks_cadence<C: ColumnsAround>(
+    around: &C,
+    ex: &Exercise,
+    voices: VoiceSet,
+    i: usize,
+) -> bool
+    requires { IsValid ex.now }
+    ensures { (s : Columns) (first : ℕ) → C.show around.now ex.now s first → first ≤ i - 8 → i < length s →
+        HistoryFollows (reverse s) → result ≡ reading_of (cadence_row ex.now voices.bits) s i }
 {
-    let i = newest.len - 1;
-    if !begins_last_bar(ex, i) {
+    if !begins_last_bar(ex, i) || !has_all_voices(ex, voices) {
         return false;
     }
-    has_all_voices(ex, voices) && !some_ends_well(newest, ex, i)
+    !(shows_cadence(around, ex, i, 0)
+        || shows_cadence(around, ex, i, 1)
+        || shows_cadence(around, ex, i, 2)
+        || shows_cadence(around, ex, i, 3))
 }

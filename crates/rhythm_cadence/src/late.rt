@@ -6,13 +6,13 @@ ghost use Rattle.rule_law.specs.Late.{TellsCost};
 ghost use Rattle.rhythm_cadence.specs.Book.{is_late, is_late_toll, quaver_rule, rule_row, toll_row};
 ghost use Rattle.rhythm_cadence.specs.Told.{TellsBreak};
 
-use crate::cadence::lacks_cadence;
+use crate::cadence::breaks_cadence;
 use crate::part::{BarShapes, breaks_shapes};
-use crate::patterns::{ends_pattern, lacks_ligature_now, settles_pattern};
-use crate::quavers::has_bad_quaver;
+use crate::patterns::{lacks_ligature, pattern_cost, settles_pattern};
+use crate::quavers::breaks_quaver;
 use crate::rows::begins_last_bar;
 use fux_grid::{Exercise, VoiceSet};
-use rule_law::{LatePlaces, NewestColumns, begins_inner_bar};
+use rule_law::{ColumnsAround, LatePlaces, NewestColumns, begins_inner_bar};
 
 /// The places at which column `i` may settle a break of a late rule.
 pub fn places_settled(rule: u8, ex: &Exercise, i: usize) -> LatePlaces
@@ -28,10 +28,7 @@ pub fn places_settled(rule: u8, ex: &Exercise, i: usize) -> LatePlaces
             first: 8 * (i / 8),
             count: 1,
         },
-        22 => LatePlaces {
-            first: i,
-            count: usize::from(begins_last_bar(ex, i)),
-        },
+        22 => LatePlaces::own(begins_last_bar(ex, i), i),
         _ => quaver_places(ex, i),
     }
 }
@@ -74,9 +71,9 @@ pub fn breaks_late(
         return breaks_shapes(part, ex, voices);
     }
     if rule == 22 {
-        return lacks_cadence(newest, ex, voices);
+        return breaks_cadence(newest, ex, voices, place);
     }
-    has_bad_quaver(newest, ex, voices, place)
+    place < newest.len && breaks_quaver(newest, ex, voices, place)
 }
 
 /// The places at which column `i` may settle what a late toll costs.
@@ -89,15 +86,9 @@ pub fn toll_places(toll: u8, ex: &Exercise, i: usize) -> LatePlaces
     ensures few { result.count ≤ 24 }
 {
     if toll == 15 {
-        return LatePlaces {
-            first: i,
-            count: usize::from(ex.species == 4 && begins_inner_bar(ex, i)),
-        };
+        return LatePlaces::own(ex.species == 4 && begins_inner_bar(ex, i), i);
     }
-    LatePlaces {
-        first: i.saturating_sub(7),
-        count: usize::from(settles_pattern(ex, i)),
-    }
+    LatePlaces::own(settles_pattern(ex, i), i.saturating_sub(7))
 }
 
 /// What the newest column settles of a late toll at one of its places: Q15 at the column itself, Q16 at the beginning of the bar that
@@ -110,9 +101,11 @@ pub fn cost_late(newest: &NewestColumns, toll: u8, ex: &Exercise, place: usize) 
     ensures value { TellsCost (toll_row toll) ex.now newest.now place result }
     ensures bound { result ≤ 6 }
 {
-    let _ = place;
     if toll == 15 {
-        return u32::from(lacks_ligature_now(newest, ex));
+        return u32::from(lacks_ligature(ex, place, newest.cells(ex, place)));
     }
-    u32::from(ends_pattern(newest, ex))
+    if place >= newest.len {
+        return 0;
+    }
+    pattern_cost(newest, ex, place)
 }

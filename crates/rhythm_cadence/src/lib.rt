@@ -1,12 +1,12 @@
 //! Rules and tolls of ranges, bar shapes, beginnings, endings, and what lies within a bar.
 #![tactic(auto)]
 
+mod bar_cells;
 mod book;
 mod cadence;
 mod in_place;
 mod late;
 mod letter_sets;
-mod newest;
 mod part;
 mod patterns;
 mod quavers;

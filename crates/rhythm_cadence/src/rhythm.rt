@@ -175,10 +175,11 @@ impl Rule for Rhythm {
     }
 
     fn broken(&self, rule: u8, ex: &Exercise, score: &Score, i: usize, voices: VoiceSet) -> bool {
+        score.kept();
         match rule {
             3 => leaves_shapes(ex, score, i, voices),
-            22 => breaks_cadence(ex, score, i, voices),
-            25 => breaks_quaver(ex, score, i, voices),
+            22 => breaks_cadence(score, ex, voices, i),
+            25 => breaks_quaver(score, ex, voices, i),
             _ => breaks(
                 rule,
                 ex,

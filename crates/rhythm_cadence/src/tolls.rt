@@ -57,7 +57,8 @@ impl Toll for Q16 {
     }
 
     fn cost(&self, ex: &Exercise, score: &Score, i: usize) -> u32 {
-        pattern_cost(ex, score, i)
+        score.kept();
+        pattern_cost(score, ex, i)
     }
 
     fn settled(&self, ex: &Exercise, prefix: &Score, i: usize) -> bool {

@@ -1,4 +1,5 @@
 pub mod After
+pub mod Around
 pub mod Bars
 pub mod BothLaw
 pub mod Degrees
@@ -21,3 +22,4 @@ pub mod Terms
 pub mod Voices
 pub mod Ways
 pub mod Whole
+pub mod Within

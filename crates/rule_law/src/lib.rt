@@ -2,6 +2,7 @@
 #![tactic(auto)]
 
 mod after;
+mod around;
 mod bars;
 mod both;
 mod degrees;
@@ -17,7 +18,8 @@ mod table;
 mod terms;
 mod toll;
 
-pub use after::{next_onset, onset_pitch, second_next_onset};
+pub use after::{next_onset, note_within, onset_pitch};
+pub use around::{ColumnsAround, cell_around, cells_ahead, cells_behind};
 pub use bars::{begins_bar, begins_inner_bar, is_quiet};
 pub use both::Both;
 pub use degrees::lies_above;

@@ -1,6 +1,6 @@
 //! What is said of a rule beside its row.
 
-ghost use Rattle.std.specs.Prelude.{◌≡◌, ◌≤◌, length};
+ghost use Rattle.std.specs.Prelude.{◌≡◌, ◌≤◌, length, if◌then◌else◌};
 ghost use Rattle.rule_law.specs.Forms as forms;
 
 /// Which sets of voices a rule speaks of; for no other set is it broken.
@@ -40,6 +40,20 @@ pub enum Stands {
 pub struct LatePlaces {
     pub first: usize,
     pub count: usize,
+}
+
+impl LatePlaces {
+    /// Column `i` alone, or no place where nothing can stand there.
+    #[inline]
+    pub fn own(may: bool, i: usize) -> LatePlaces
+        ensures first { result.first ≡ i }
+        ensures count { result.count ≡ (if may then 1 else 0) }
+    {
+        LatePlaces {
+            first: i,
+            count: usize::from(may),
+        }
+    }
 }
 
 /// The sets of one voice.

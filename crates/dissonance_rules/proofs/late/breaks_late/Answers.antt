@@ -1,24 +1,29 @@
-use Rattle.std.specs.Prelude.{◌∷◌, ◌++◌, []}
-use Rattle.dissonance_rules.proofs.LateReadings.{broken_at_place, broken_if_newly, kept_after, unbroken}
+use Rattle.std.specs.Prelude.{◌-◌, ◌∷◌, ◌++◌, []}
+use Rattle.std.proofs.Common.{arith}
+use Rattle.dissonance_rules.proofs.LateReadings.{broken_at_place, broken_if_newly, kept_around, unbroken}
 use Rattle.dissonance_rules.proofs.late.breaks_late.Goals as goal
 
-pub returns-then-not-breaks_kept : goal.returns-then-not-breaks_kept
-returns-then-not-breaks_kept c = λ p col newest on among.
+pub returns-then-not-breaks_clash : goal.returns-then-not-breaks_clash
+returns-then-not-breaks_clash c = λ p col newest on among.
     unbroken c.args.rule c.args.ex.now p col c.args.place on c.args.voices.bits c.requires.late
-    (c.if-not-breaks_kept.ensures (p ++ col ∷ [])
-    (kept_after c.args.rule c.args.ex.now p col c.args.place on c.args.newest.now newest c.requires.late among))
+    (c.if-not-breaks_clash.ensures (p ++ col ∷ []) (c.args.place - 3)
+    (kept_around c.args.rule c.args.ex.now p col c.args.place on c.args.newest.now newest c.requires.late among)
+    (omega arith) (omega (arith, c.if-place-newest.false, newest.count)))
 
 pub returns-then-rule-ne15 : goal.returns-then-rule-ne15
 returns-then-rule-ne15 c = λ p col newest on among.
     broken_at_place c.args.rule c.args.ex.now p col c.args.place on c.args.voices.bits c.requires.late
-    (c.if-not-breaks_kept.ensures (p ++ col ∷ [])
-    (kept_after c.args.rule c.args.ex.now p col c.args.place on c.args.newest.now newest c.requires.late among))
+    (c.if-not-breaks_clash.ensures (p ++ col ∷ []) (c.args.place - 3)
+    (kept_around c.args.rule c.args.ex.now p col c.args.place on c.args.newest.now newest c.requires.late among)
+    (omega arith) (omega (arith, c.if-place-newest.false, newest.count)))
     c.if-rule-ne15.true among
 
 pub returns : goal.returns
 returns c = λ p col newest on among.
-    let is = kept_after c.args.rule c.args.ex.now p col c.args.place on c.args.newest.now newest c.requires.late among
+    let is = kept_around c.args.rule c.args.ex.now p col c.args.place on c.args.newest.now newest c.requires.late among
     in
     broken_if_newly c.args.rule c.args.ex.now p col c.args.place on c.args.voices.bits c.requires.late
     c.settles_passing.result
-    (c.if-not-breaks_kept.ensures (p ++ col ∷ []) is) c.if-rule-ne15.false (c.settles_passing.ensures p col is)
+    (c.if-not-breaks_clash.ensures (p ++ col ∷ []) (c.args.place - 3) is (omega arith)
+    (omega (arith, c.if-place-newest.false, newest.count)))
+    c.if-rule-ne15.false (c.settles_passing.ensures p col (c.args.place - 3) is (omega arith))
