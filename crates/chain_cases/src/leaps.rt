@@ -5,7 +5,7 @@ ghost use Rattle.fux_grid.specs.Exercises.{IsValid};
 ghost use Rattle.chain_cases.specs.Leaps as specs;
 
 use chain_sums::Links;
-use fux_grid::{Cell, Column, Exercise, cell_of, menu, width};
+use fux_grid::{Cell, Column, Exercise, VoiceCells, cell_of, menu, width};
 use fux_pitch::{Memory, Pitch};
 use std::alloc::Global;
 use std::marker::Model;
@@ -89,6 +89,11 @@ impl<'a> Links for Leaps<'a> {
 
     fn menu(&self, alloc: Global, i: usize) -> Result<Vec<Column>, Memory> {
         menu(alloc, self.exercise, i).map_err(|_| Memory)
+    }
+
+    // none is told, so that each move is found by itself
+    fn cells(&self, _i: usize, _v: usize) -> VoiceCells {
+        VoiceCells::new()
     }
 
     // of other places it isn't known, so each of them has a menu made for it

@@ -2,7 +2,7 @@
 
 use crate::leaps::Leaps;
 use crate::listing::{least_of_list, least_of_settings};
-use chain_sums::{Links, Tables};
+use chain_sums::{Links, Open, Tables};
 use floor_tables::fill_tables;
 use fux_grid::{Exercise, RangeLine, Relax, menu};
 use fux_pitch::{List, Mode, Pitch, parse_pitch};
@@ -68,7 +68,7 @@ fn tables_agree_with_the_listing(rt: HostRuntime) -> Result<(), Fail> {
         let exercise = exercise(rt.alloc(), low, high, *species)?;
         assert!(rt; exercise.is_valid());
         let links = Leaps::new(&exercise);
-        let Ok(tables) = Tables::fill(rt.alloc(), &links) else {
+        let Ok(tables) = Tables::fill(&rt, rt.alloc(), &links, 2, &Open) else {
             return Err("no tables".into());
         };
         assert_eq!(rt; tables.start(), *want);

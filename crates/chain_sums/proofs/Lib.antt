@@ -5,6 +5,7 @@ pub mod FreshLemmas
 pub mod LeastLemmas
 pub mod MenuLemmas
 pub mod PackedLemmas
+pub mod PieceLemmas
 pub mod StillLemmas
 pub mod SumLemmas
 pub mod TableLemmas

@@ -5,6 +5,7 @@ pub mod Fresh
 pub mod Menus
 pub mod Moves
 pub mod Packed
+pub mod Pieces
 pub mod Rows
 pub mod Still
 pub mod Sums

@@ -3,14 +3,18 @@
 
 mod candidates;
 mod choices;
+mod finished;
 mod fresh;
+mod gate;
 mod least;
 mod links;
 mod menu;
 mod moves;
 mod packed;
+mod pieces;
 mod still;
 mod tables;
 
+pub use gate::{Gate, Open};
 pub use links::Links;
 pub use tables::{TableFault, Tables};

@@ -10,7 +10,7 @@ ghost use Rattle.chain_sums.specs.Chains.{AreFull, Chains, IsKnown, IsLeastCost,
 ghost use Rattle.chain_sums.specs.Moves.{AreLeastMoves, moves_sum};
 ghost use Rattle.chain_sums.specs.Still.{HoldingIsFree};
 
-use fux_grid::{Cell, Column};
+use fux_grid::{Cell, Column, VoiceCells};
 use fux_pitch::Memory;
 use std::alloc::Global;
 
@@ -48,6 +48,11 @@ pub trait Links {
         ensures value { IfOk result (λ menu. items_of menu.items ≡ (chains self.now).menu i) }
         ensures order { IfOk result (λ menu. IsAscending (items_of menu.items)) }
         ensures full { IfOk result (λ menu. AreFull (chains self.now).voices (items_of menu.items)) };
+
+    /// The cells that a voice may have at a place. A cell that isn't among them changes no sum: its moves are found one by one.
+    fn cells(&self, i: usize, v: usize) -> VoiceCells
+        requires place { i < (chains self.now).places }
+        requires voice { v < 4 };
 
     /// Whether two places are known to have the same menu: then it is made once.
     fn has_same_menu(&self, i: usize, j: usize) -> bool

@@ -54,6 +54,13 @@ impl Menu {
         self.columns.len()
     }
 
+    /// The columns.
+    pub(crate) fn as_slice(&self) -> &[Column]
+        ensures { result.now ≡ self.now.columns.items }
+    {
+        self.columns.as_slice()
+    }
+
     /// The column of a number.
     pub(crate) fn column(&self, k: usize) -> &Column
         requires { k < length self.now.columns.items }

@@ -10,7 +10,6 @@ ghost use Rattle.chain_sums.specs.Moves.{AreChoirMoves, AreMovesOf, AreMovesTo, 
 
 use crate::links::Links;
 use crate::menu::Menu;
-use arrayvec::ArrayVec;
 use fux_grid::{Cell, Column, VoiceCells, cell_of};
 use fux_pitch::Memory;
 use std::alloc::Global;
@@ -84,18 +83,6 @@ fn number_in(cells: &[Cell], cell: Cell) -> usize
     cells.len()
 }
 
-/// The cells that a voice has in the columns of a menu, each once. Columns beside each other often have the same one.
-fn cells_in(menu: &Menu, v: usize) -> VoiceCells {
-    let mut cells = ArrayVec::new();
-    for k in 0..menu.len() {
-        let cell = cell_of(menu.column(k), v);
-        if cells.last() != Some(&cell) && !cells.contains(&cell) && !cells.is_full() {
-            cells.push(cell);
-        }
-    }
-    cells
-}
-
 /// What a voice's moves from a cell to others cost.
 fn costs_from<L: Links>(
     alloc: Global,
@@ -117,21 +104,15 @@ fn costs_from<L: Links>(
 }
 
 impl VoiceMoves {
-    /// What a voice's moves to a place cost, from the cells of the menu before it to those of its own menu.
-    fn new<L: Links>(
-        alloc: Global,
-        links: &L,
-        i: usize,
-        v: usize,
-        menu: &Menu,
-        next: &Menu,
-    ) -> Result<VoiceMoves, Memory>
+    /// What a voice's moves to a place cost, from the cells that it may have at the place before.
+    fn new<L: Links>(alloc: Global, links: &L, i: usize, v: usize) -> Result<VoiceMoves, Memory>
+        requires later { 0 < i }
         requires place { i < (L.chains links.now).places }
         requires voice { v < 4 }
         ensures { IfOk result (λ it. AreVoiceMoves (L.moves links.now i v) it) }
     {
-        let to = cells_in(next, v);
-        let cells = cells_in(menu, v);
+        let to = links.cells(i, v);
+        let cells = links.cells(i - 1, v);
         let mut from = Vec::with_capacity(alloc, cells.len())?;
         for k in 0..cells.len() {
             let cell = cells[k];
@@ -196,22 +177,17 @@ impl<'a> VoiceRow<'a> {
 }
 
 impl Choir {
-    /// What the moves to a place cost, from the columns of the menu before it to those of its own menu.
-    fn new<L: Links>(
-        alloc: Global,
-        links: &L,
-        i: usize,
-        menu: &Menu,
-        next: &Menu,
-    ) -> Result<Choir, Memory>
-        requires { i < (L.chains links.now).places }
+    /// What the moves to a place cost.
+    fn new<L: Links>(alloc: Global, links: &L, i: usize) -> Result<Choir, Memory>
+        requires later { 0 < i }
+        requires place { i < (L.chains links.now).places }
         ensures { IfOk result (AreChoirMoves (L.moves links.now i)) }
     {
         Ok(Choir {
-            bass: VoiceMoves::new(alloc, links, i, 0, menu, next)?,
-            tenor: VoiceMoves::new(alloc, links, i, 1, menu, next)?,
-            alto: VoiceMoves::new(alloc, links, i, 2, menu, next)?,
-            soprano: VoiceMoves::new(alloc, links, i, 3, menu, next)?,
+            bass: VoiceMoves::new(alloc, links, i, 0)?,
+            tenor: VoiceMoves::new(alloc, links, i, 1)?,
+            alto: VoiceMoves::new(alloc, links, i, 2)?,
+            soprano: VoiceMoves::new(alloc, links, i, 3)?,
         })
     }
 
@@ -241,18 +217,18 @@ impl Choir {
 }
 
 impl Moves {
-    /// The moves to a place, from the columns of the menu before it to those of its own menu.
+    /// The moves to a place from the one before, with the numbers of the cells of its menu.
     pub(crate) fn new<L: Links>(
         alloc: Global,
         links: &L,
         i: usize,
-        menu: &Menu,
         next: &Menu,
     ) -> Result<Moves, Memory>
-        requires { i < (L.chains links.now).places }
+        requires later { 0 < i }
+        requires place { i < (L.chains links.now).places }
         ensures { IfOk result (AreMovesOf (L.moves links.now i) (columns_of next.now)) }
     {
-        let choir = Choir::new(alloc, links, i, menu, next)?;
+        let choir = Choir::new(alloc, links, i)?;
         let numbers = choir.numbers_of(alloc, next)?;
         Ok(Moves { choir, numbers })
     }

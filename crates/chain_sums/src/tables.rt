@@ -4,23 +4,26 @@ ghost use Rattle.std.specs.Prelude.{◌≡◌, ◌<◌, ◌≤◌, ◌+◌, ◌-
 ghost use Rattle.std.specs.Bool.{OnTrue};
 ghost use Rattle.fux_grid.specs.Exercises.{bar_of, slot_of};
 ghost use Rattle.chain_sums.specs.Chains.{AreFull, Chains, IsLeast};
-ghost use Rattle.chain_sums.specs.Choices.{AreChoices};
 ghost use Rattle.chain_sums.specs.Menus.{HaveSameColumns, IsMenuOf, IsPacked};
 ghost use Rattle.chain_sums.specs.Rows.{AllAtMost, AreOneCostAbove, IsAtMost, IsRow};
-ghost use Rattle.chain_sums.specs.Still.{GoesOnFreely, IsStill};
+ghost use Rattle.chain_sums.specs.Still.{GoesOnFreely};
 ghost use Rattle.chain_sums.specs.Tables.{AreNarrow, AreRows, AreSameRows, AreTablesOf, HaveRowAt, IsColumnAt, IsMenuAt, IsNumberFor, IsRestAt, IsLatestRow, IsNumbered, IsRestBehind, IsRowNumberOf, IsRowOfPlace, TellsWidth};
 
 use crate::candidates::candidates;
 use crate::choices::Choices;
+use crate::finished::Finished;
 use crate::fresh::are_fresh;
+use crate::gate::Gate;
 use crate::least::least_behind;
 use crate::links::Links;
 use crate::menu::Menu;
 use crate::moves::Moves;
-use crate::still::{is_still, least_of_held};
+use crate::pieces::{Cut, row_by_pieces};
+use crate::still::is_still;
 use fux_grid::{Column, Place, WIDEST};
 use fux_pitch::Memory;
 use std::alloc::Global;
+use std::thread::Threads;
 
 /// Why there are no tables.
 #[derive(Clone, Copy, Debug, PartialEq, Eq)]
@@ -78,62 +81,9 @@ fn check_widths<L: Links>(links: &L) -> Result<(), TableFault>
     Ok(())
 }
 
-/// The least sums behind the columns of a menu, that of place `i`, from the columns that may come next.
-fn sums_by_choices<L: Links>(
-    alloc: Global,
-    links: &L,
-    i: usize,
-    menu: &Menu,
-    choices: &Choices<'_>,
-) -> Result<Vec<Option<u64>>, Memory>
-    requires place { i + 1 < (L.chains links.now).places }
-    requires short { i < 192 }
-    requires menu { IsMenuOf ((L.chains links.now).menu i) menu.now }
-    requires choices { AreChoices (L.chains links.now) (L.own links.now (i + 1)) (L.moves links.now (i + 1)) (i + 1) choices.now }
-    ensures row { IfOk result (λ row. IsRow (L.chains links.now) i row.items) }
-    ensures small { IfOk result (λ row. AreOneCostAbove choices.now.sums.now row.items) }
-{
-    let width = menu.len();
-    let mut row = Vec::with_capacity(alloc, width)?;
-    for k in 0..width {
-        row.push_reserved(choices.least_behind(links, i + 1, menu.column(k)));
-    }
-    Ok(row)
-}
-
-/// The same where each column of the next menu holds all it sounds.
-fn sums_held<L: Links>(
-    alloc: Global,
-    links: &L,
-    i: usize,
-    menu: &Menu,
-    next: &Menu,
-    sums: &[Option<u64>],
-) -> Result<Vec<Option<u64>>, Memory>
-    requires place { i + 1 < (L.chains links.now).places }
-    requires short { i < 192 }
-    requires menu { IsMenuOf ((L.chains links.now).menu i) menu.now }
-    requires full { AreFull (L.chains links.now).voices ((L.chains links.now).menu i) }
-    requires next { IsMenuOf ((L.chains links.now).menu (i + 1)) next.now }
-    requires packed { IsPacked (L.chains links.now).voices next.now }
-    requires still { IsStill ((L.chains links.now).menu (i + 1)) }
-    requires row { IsRow (L.chains links.now) (i + 1) sums.now }
-    requires small { AllAtMost (2 ^ 62) sums.now }
-    ensures row { IfOk result (λ row. IsRow (L.chains links.now) i row.items) }
-    ensures small { IfOk result (λ row. AreOneCostAbove sums.now row.items) }
-{
-    let width = menu.len();
-    let mut row = Vec::with_capacity(alloc, width)?;
-    for k in 0..width {
-        let prev = menu.column(k);
-        let least = least_of_held(links, i + 1, prev, k, next, sums);
-        row.push_reserved(least);
-    }
-    Ok(row)
-}
-
 /// The least sums behind the columns of a menu, that of place `i`, from the menu and the sums of the next place.
-fn sums_before<L: Links>(
+fn sums_before<R: Threads + Sync, L: Links + Sync, G: Gate>(
+    cut: &Cut<'_, R, G>,
     alloc: Global,
     links: &L,
     i: usize,
@@ -153,10 +103,10 @@ fn sums_before<L: Links>(
     ensures small { IfOk result (λ row. AreOneCostAbove sums.now row.items) }
 {
     if is_still(next) {
-        return sums_held(alloc, links, i, menu, next, sums);
+        return row_by_pieces(cut, alloc, links, i, menu, &Finished::Still(next, sums));
     }
     let candidates = candidates(alloc, links, i + 1, next, sums)?;
-    let moves = Moves::new(alloc, links, i + 1, menu, next)?;
+    let moves = Moves::new(alloc, links, i + 1, next)?;
     let choices = Choices {
         menu: next,
         sums,
@@ -164,7 +114,7 @@ fn sums_before<L: Links>(
         moves: &moves,
         always: are_fresh(next),
     };
-    sums_by_choices(alloc, links, i, menu, &choices)
+    row_by_pieces(cut, alloc, links, i, menu, &Finished::Tried(choices))
 }
 
 /// The least sums behind the columns of the last place's menu.
@@ -174,8 +124,24 @@ fn sums_at_end(alloc: Global, width: usize) -> Result<Vec<Option<u64>>, Memory>
     Ok(vec![in alloc; Some(0); width]?)
 }
 
+/// The same, as the row of place `i`, the last one.
+fn last_row<L: Links>(
+    alloc: Global,
+    _links: &L,
+    _i: usize,
+    menu: &Menu,
+) -> Result<Vec<Option<u64>>, Memory>
+    requires place { _i + 1 ≡ (L.chains _links.now).places }
+    requires menu { IsMenuOf ((L.chains _links.now).menu _i) menu.now }
+    ensures row { IfOk result (λ row. IsRow (L.chains _links.now) _i row.items) }
+    ensures small { IfOk result (λ row. AllAtMost 0 row.items) }
+{
+    sums_at_end(alloc, menu.len())
+}
+
 /// The least sums of place `i`, the last one that has no row yet.
-fn sums_of<L: Links>(
+fn sums_of<R: Threads + Sync, L: Links + Sync, G: Gate>(
+    cut: &Cut<'_, R, G>,
     alloc: Global,
     links: &L,
     i: usize,
@@ -191,9 +157,17 @@ fn sums_of<L: Links>(
     ensures small { IfOk result (λ row. AllAtMost (length tables.now.places.items * 2 ^ 53) row.items) }
 {
     let Some(next) = tables.latest() else {
-        return sums_at_end(alloc, menu.len());
+        return last_row(alloc, links, i, menu);
     };
-    sums_before(alloc, links, i, menu, &tables.menus[next.menu], &next.sums)
+    sums_before(
+        cut,
+        alloc,
+        links,
+        i,
+        menu,
+        &tables.menus[next.menu],
+        &next.sums,
+    )
 }
 
 /// Whether place `i` is known to have the menu of the next place, where each column holds all it sounds, and costs nothing.
@@ -324,7 +298,13 @@ impl Tables {
     }
 
     /// Computes the row of place `i`, the last one that has none yet, and adds it.
-    fn compute_row<L: Links>(&mut self, alloc: Global, links: &L, i: usize) -> Result<(), Memory>
+    fn compute_row<R: Threads + Sync, L: Links + Sync, G: Gate>(
+        &mut self,
+        cut: &Cut<'_, R, G>,
+        alloc: Global,
+        links: &L,
+        i: usize,
+    ) -> Result<(), Memory>
         requires place { i + 1 + length self.old.places.items ≡ (L.chains links.now).places }
         requires short { (L.chains links.now).places ≤ 192 }
         requires rows { AreRows (L.chains links.now) self.old.menus.items self.old.rows.items self.old.places.items }
@@ -333,7 +313,7 @@ impl Tables {
         ensures longer { OnOk result (length self.new.places.items ≡ length self.old.places.items + 1) }
     {
         let number = self.number_of_menu(alloc, links, i)?;
-        let sums = sums_of(alloc, links, i, &self.menus[number], self)?;
+        let sums = sums_of(cut, alloc, links, i, &self.menus[number], self)?;
         let row = Row { menu: number, sums };
         let place = number_of_row(&mut self.rows, row)?;
         self.places.push(place)?;
@@ -362,7 +342,13 @@ impl Tables {
     }
 
     /// Adds the row of place `i`, the last one that has none yet.
-    fn add_row<L: Links>(&mut self, alloc: Global, links: &L, i: usize) -> Result<(), Memory>
+    fn add_row<R: Threads + Sync, L: Links + Sync, G: Gate>(
+        &mut self,
+        cut: &Cut<'_, R, G>,
+        alloc: Global,
+        links: &L,
+        i: usize,
+    ) -> Result<(), Memory>
         requires place { i + 1 + length self.old.places.items ≡ (L.chains links.now).places }
         requires short { (L.chains links.now).places ≤ 192 }
         requires rows { AreRows (L.chains links.now) self.old.menus.items self.old.rows.items self.old.places.items }
@@ -374,7 +360,7 @@ impl Tables {
             self.places.push(number)?;
             return Ok(());
         }
-        self.compute_row(alloc, links, i)
+        self.compute_row(cut, alloc, links, i)
     }
 
     /// The least sum over all chains, where each place has its row.
@@ -391,8 +377,16 @@ impl Tables {
         least_behind(links, 0, None, &self.menus[first.menu], &first.sums)
     }
 
-    /// The tables of these links. They take all their memory here.
-    pub fn fill<L: Links>(alloc: Global, links: &L) -> Result<Tables, TableFault>
+    /// The tables of these links, each row worked in pieces of so many columns. They take all their memory here, and are the same
+    /// for every piece and every gate.
+    pub fn fill<R: Threads + Sync, L: Links + Sync, G: Gate>(
+        rt: &R,
+        alloc: Global,
+        links: &L,
+        piece: usize,
+        gate: &G,
+    ) -> Result<Tables, TableFault>
+        requires { 1 ≤ piece }
         ensures tables { IfOk result (AreTablesOf (L.chains links.now)) }
         ensures narrow { OnOk result (AreNarrow (L.chains links.now)) }
         ensures wide { IfErr result (TellsWidth (L.chains links.now)) }
@@ -404,10 +398,11 @@ impl Tables {
             places: Vec::new(alloc),
             start: None,
         };
+        let cut = Cut { rt, gate, piece };
         let places = links.places();
         for done in 0..places {
             tables
-                .add_row(alloc, links, places - 1 - done)
+                .add_row(&cut, alloc, links, places - 1 - done)
                 .map_err(|_| TableFault::Memory)?;
         }
         tables.start = tables.least_of_all(links);

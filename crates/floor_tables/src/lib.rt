@@ -4,5 +4,5 @@
 mod links;
 mod tables;
 
-pub use chain_sums::TableFault;
-pub use tables::{Tables, fill_tables};
+pub use chain_sums::{Gate, Open, TableFault};
+pub use tables::{Tables, fill_tables, tables_cut};

@@ -7,7 +7,7 @@ ghost use Rattle.fux_grid.specs.Menus.{cells_at};
 ghost use Rattle.floor_tables.specs.Tables.{Task};
 
 use chain_sums::Links;
-use fux_grid::{Cell, Column, Exercise, menu, voice_cells, width};
+use fux_grid::{Cell, Column, Exercise, VoiceCells, menu, voice_cells, width};
 use fux_judge::{column_cost, link_cost, move_cost, pair_cost_from};
 use fux_pitch::Memory;
 use penalty_sheet::Sheet;
@@ -82,6 +82,15 @@ impl<'a> Links for ColumnLinks<'a> {
 
     fn menu(&self, alloc: Global, i: usize) -> Result<Vec<Column>, Memory> {
         menu(alloc, self.exercise, i).map_err(|_| Memory)
+    }
+
+    fn cells(&self, i: usize, v: usize) -> VoiceCells {
+        if v < self.exercise.voices as usize {
+            return voice_cells(self.exercise, v as u8, i);
+        }
+        let mut rest = VoiceCells::new();
+        rest.push(Cell::Rest);
+        rest
     }
 
     fn has_same_menu(&self, i: usize, j: usize) -> bool {

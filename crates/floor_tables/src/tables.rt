@@ -7,7 +7,7 @@ ghost use Rattle.fux_grid.specs.Menus.{menu_of};
 ghost use Rattle.floor_tables.specs.Tables.{AreNarrow, IsRest, IsStart, TellsWidth};
 
 use crate::links::ColumnLinks;
-use chain_sums::TableFault;
+use chain_sums::{Gate, Open, TableFault};
 use fux_grid::{Column, Exercise};
 use penalty_sheet::Sheet;
 use std::alloc::Global;
@@ -36,9 +36,37 @@ impl<'a> Model for Tables<'a> {
     ghost invariant = { λ t. IsValid t.exercise.now × AreTablesOf (chains_of t.exercise.now t.sheet.now) t.sums };
 }
 
+/// How many columns of a row one thread works.
+const PIECE: usize = 2048;
+
+/// The tables of an exercise by a sheet, each row worked in pieces of so many columns. They are the same for every piece and every
+/// gate. All memory is taken here.
+pub fn tables_cut<'a, R: Threads + Sync, G: Gate>(
+    rt: &R,
+    alloc: Global,
+    ex: &'a Exercise,
+    sheet: &'a Sheet,
+    piece: usize,
+    gate: &G,
+) -> Result<Tables<'a>, TableFault>
+    requires valid { IsValid ex.now }
+    requires some { 1 ≤ piece }
+    ensures made { IfOk result (λ t. t ≡ record { exercise = ex.entry.now; sheet = sheet.entry.now }) }
+    ensures narrow { OnOk result (AreNarrow ex.entry.now) }
+    ensures wide { IfErr result (TellsWidth ex.entry.now) }
+{
+    let links = ColumnLinks::new(ex, sheet);
+    let sums = chain_sums::Tables::fill(rt, alloc, &links, piece, gate)?;
+    Ok(Tables {
+        exercise: ex,
+        sheet,
+        sums,
+    })
+}
+
 /// The tables of an exercise by a sheet. All memory is taken here.
 pub fn fill_tables<'a, R: Threads + Sync>(
-    _rt: &R,
+    rt: &R,
     alloc: Global,
     ex: &'a Exercise,
     sheet: &'a Sheet,
@@ -48,13 +76,7 @@ pub fn fill_tables<'a, R: Threads + Sync>(
     ensures narrow { OnOk result (AreNarrow ex.entry.now) }
     ensures wide { IfErr result (TellsWidth ex.entry.now) }
 {
-    let links = ColumnLinks::new(ex, sheet);
-    let sums = chain_sums::Tables::fill(alloc, &links)?;
-    Ok(Tables {
-        exercise: ex,
-        sheet,
-        sums,
-    })
+    tables_cut(rt, alloc, ex, sheet, PIECE, &Open)
 }
 
 impl<'a> Tables<'a> {

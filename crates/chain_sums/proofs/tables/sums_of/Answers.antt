@@ -1,11 +1,12 @@
 use Rattle.std.proofs.Common.{◌≡◌, ◌+◌, ◌-◌, ◌*◌, ◌^◌, List, ℕ, Option, length, sym, subst, arith}
 use Rattle.std.proofs.lemmas.Result.{IfOk-weaker}
+use Rattle.chain_sums.specs.Menus.{IsPacked}
 use Rattle.chain_sums.specs.Rows.{AllAtMost, IsRow}
 use Rattle.chain_sums.proofs.TableLemmas.{latest_small}
 use Rattle.chain_sums.proofs.tables.sums_of.Goals as goal
 
 pub sums_before-requires-clause-row : goal.sums_before-requires-clause-row
-sums_before-requires-clause-row g c =
+sums_before-requires-clause-row g c κs within =
     let chains = g.L.Links.chains c.args.links.now in
     let found = c.in-Some.ensures chains c.requires.rows in
     let here : chains.places - length c.args.tables.now.places.items ≡ c.args.i + 1 = omega (arith, c.requires.place) in
@@ -24,3 +25,10 @@ returns-clause-small g c =
     let more : (n - 1) * 2 ^ 53 + 2 ^ 53 ≡ n * 2 ^ 53 = omega (arith, found.0) in
     IfOk-weaker c.sums_before.result _ _ (λ row h. subst (λ (k : ℕ). AllAtMost k row.items) more
     (h ((n - 1) * 2 ^ 53) kept)) c.sums_before.ensures.small
+
+pub sums_before-requires-clause-packed : goal.sums_before-requires-clause-packed
+sums_before-requires-clause-packed g c κs within =
+    let chains = g.L.Links.chains c.args.links.now in
+    let number = c.in-Some.next.now.menu in
+    let found = c.in-Some.ensures chains c.requires.rows in
+    subst (IsPacked chains.voices) (sym c.index.ensures) (c.requires.rows.packed number c.index.result.now found.1.named)

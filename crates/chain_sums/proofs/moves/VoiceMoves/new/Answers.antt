@@ -8,7 +8,7 @@ use Rattle.chain_sums.proofs.moves.VoiceMoves.new.Goals as goal
 pub loop-k-init : goal.loop-k-init
 loop-k-init g c =
     let moves = g.L.Links.moves c.args.links.now c.args.i c.args.v in
-    let Is : MovesFrom → Type 0 = λ from. AreMovesTo (moves from.cell) c.cells_in-to.result.items from.costs.items in
+    let Is : MovesFrom → Type 0 = λ from. AreMovesTo (moves from.cell) c.cells-to.result.items from.costs.items in
     record {
       room = omega (arith, c.in_ok-from.ensures.capacity, c.len.ensures.value);
       counted = omega (arith, c.in_ok-from.ensures.len);
@@ -18,7 +18,7 @@ loop-k-init g c =
 pub loop-k-preserved : goal.loop-k-preserved
 loop-k-preserved g c =
     let moves = g.L.Links.moves c.args.links.now c.args.i c.args.v in
-    let Is : MovesFrom → Type 0 = λ from. AreMovesTo (moves from.cell) c.cells_in-to.result.items from.costs.items in
+    let Is : MovesFrom → Type 0 = λ from. AreMovesTo (moves from.cell) c.cells-to.result.items from.costs.items in
     let next : MovesFrom = record { cell = c.index-deref-k.result; costs = c.in_ok-costs.costs } in
     let is : Is next =
     subst (λ to. AreMovesTo (moves c.index-deref-k.result) to c.in_ok-costs.costs.items) c.deref-in-loop-k.ensures.0
