@@ -2,4 +2,5 @@ pub mod Counts
 pub mod Files
 pub mod MemShelf
 pub mod MemSink
+pub mod Promises
 pub mod Written

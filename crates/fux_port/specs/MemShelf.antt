@@ -2,16 +2,17 @@
 use Rattle.std.specs.Prelude.{◌≡◌, ◌≢◌, ℕ, Bool, ◌&&◌, ◌-◌, ◌++◌, List, String, Option, Some, None, IfSome, is_some, min, if◌then◌else◌, length, map, take, drop, string_bytes}
 use Rattle.std.specs.Map.{lookup}
 use Rattle.std.specs.Str.{bytes_eq}
-use Rattle.fux_port.specs.Counts.{next_count, is_next_in}
+use Rattle.fux_port.specs.Counts.{count_after, next_count, is_next_in}
 
 -- the files by name, the numbers of the reads that fail, the most bytes that a read gives, if there is such a limit,
--- and how many reads and faults there were
+-- how many reads and faults there were, and how many bytes were given
 pub record ShelfState : Type 0 where
   pub files : List (List ℕ × List ℕ)
   pub fail_at : List ℕ
   pub piece : Option ℕ
   pub calls : ℕ
   pub faults : ℕ
+  pub given : ℕ
 
 -- files by their names, where the names are texts
 abbrev pub named_files : {Y : Type 0} → List (String Y × List ℕ) → List (List ℕ × List ℕ)
@@ -46,14 +47,16 @@ pub record PutsFile (old new : ShelfState) (name file : List ℕ) : Type 0 where
   pub same_piece : new.piece ≡ old.piece
   pub same_calls : new.calls ≡ old.calls
   pub same_faults : new.faults ≡ old.faults
+  pub same_given : new.given ≡ old.given
 
 -- the next read fails although its file is there
 abbrev pub is_faulty : ShelfState → List ℕ → Bool
 is_faulty shelf name = is_some (file_at shelf.files name) && is_next_in shelf.fail_at shelf.calls
 
--- the shelf after a read: the call is counted, and a fault is
-abbrev pub after_read : ShelfState → List ℕ → ShelfState
-after_read shelf name = record shelf {
+-- the shelf after a read that gave so many bytes: the call is counted, a fault is, and they are
+abbrev pub after_read : ShelfState → List ℕ → ℕ → ShelfState
+after_read shelf name count = record shelf {
   calls = next_count shelf.calls;
   faults = if is_faulty shelf name then next_count shelf.faults else shelf.faults;
+  given = count_after shelf.given count;
 }

@@ -16,6 +16,7 @@ pub struct DiskShelf<'a> {
     host: &'a HostRuntime,
     open: Option<OpenFile>,
     faults: u64,
+    given: u64,
 }
 
 /// A file that is being read: its name, and the offset at which the last read ended.
@@ -27,24 +28,26 @@ struct OpenFile {
 }
 
 impl<'a> Model for DiskShelf<'a> {
-    ghost use Rattle.std.specs.Prelude.{ℕ, ◌^◌, ◌<◌};
+    ghost use Rattle.std.specs.Prelude.{◌^◌, ◌<◌};
+    ghost use Rattle.fux_port.specs.Counts.{Tally};
 
-    ghost Value = { ℕ };
+    ghost Value = { Tally };
 
-    ghost view = { λ s. s.faults };
+    ghost view = { λ s. record { faults = s.faults; given = s.given } };
 
-    ghost invariant = { λ s. s.faults < 2 ^ 64 };
+    ghost invariant = { λ s. (s.faults < 2 ^ 64) × (s.given < 2 ^ 64) };
 }
 
 impl<'a> DiskShelf<'a> {
-    /// The files that this runtime reaches. Contracts see a shelf as its count of faults.
+    /// The files that this runtime reaches. Contracts see a shelf as its counts.
     pub fn new(host: &'a HostRuntime) -> DiskShelf<'a>
-        ensures { result ≡ 0 }
+        ensures { result ≡ record { faults = 0; given = 0 } }
     {
         DiskShelf {
             host,
             open: None,
             faults: 0,
+            given: 0,
         }
     }
 }
@@ -54,7 +57,11 @@ impl<'a> Shelf for DiskShelf<'a> {
 
     ghost files = { λ _. None };
 
-    ghost faults = { λ count. count };
+    ghost faults = { λ tally. tally.faults };
+
+    ghost given = { λ tally. tally.given };
+
+    ghost serves = { λ _ _ _. ⊥ };
 
     fn read_at(&mut self, name: &str, offset: u64, buf: &mut [u8]) -> Result<usize, Failed> {
         let mut chunk = [0u8; 16_384];
@@ -68,6 +75,7 @@ impl<'a> Shelf for DiskShelf<'a> {
         ) {
             Ok(count) => {
                 buf[..count].copy_from_slice(&chunk[..count]);
+                self.given = self.given.saturating_add(count as u64);
                 Ok(count)
             }
             Err(_) => {

@@ -1,9 +1,9 @@
 //! A shelf in memory, whose reads fail where its maker wants.
 
-ghost use Rattle.std.specs.Prelude.{◌≡◌, ℕ, List, ◌<◌, ◌≤◌, ◌^◌, ◌⊎◌, ◌↔◌, [], Some, None, length, take, drop, IsTrue, IsErr, IfOk, IfSome, OnOk, OnErr};
+ghost use Rattle.std.specs.Prelude.{◌≡◌, ℕ, List, ◌<◌, ◌≤◌, ◌^◌, ◌⊎◌, ◌↔◌, [], Some, None, length, take, drop, IsTrue, IsErr, IsOk, IsSome, IfOk, IfSome, OnOk, OnErr};
 ghost use Rattle.std.specs.Option.{option_copied};
 ghost use Rattle.std.specs.Io.{StartsWith};
-ghost use Rattle.fux_port.specs.Counts.{is_next_in};
+ghost use Rattle.fux_port.specs.Counts.{bytes_given, is_next_in};
 ghost use Rattle.fux_port.specs.Files.{EndsBy, StandAt};
 ghost use Rattle.fux_port.specs.MemShelf.{IfFile, PutsFile, named_files, file_at, after_read, at_most, filled_from, given_from};
 
@@ -23,6 +23,7 @@ pub struct MemShelf {
     piece: Option<usize>,
     calls: u64,
     faults: u64,
+    given: u64,
 }
 
 impl Model for MemShelf {
@@ -37,9 +38,10 @@ impl Model for MemShelf {
       piece = s.piece;
       calls = s.calls;
       faults = s.faults;
+      given = s.given;
     } };
 
-    ghost invariant = { λ s. (s.faults < 2 ^ 64) × IfSome s.piece (λ piece. 0 < piece) };
+    ghost invariant = { λ s. (s.faults < 2 ^ 64) × (s.given < 2 ^ 64) × IfSome s.piece (λ piece. 0 < piece) };
 }
 
 impl MemShelf {
@@ -51,6 +53,7 @@ impl MemShelf {
           piece = None;
           calls = 0;
           faults = 0;
+          given = 0;
         }) }
     {
         MemShelf::made(alloc, None, fail_at)
@@ -65,6 +68,7 @@ impl MemShelf {
           piece = Some piece;
           calls = 0;
           faults = 0;
+          given = 0;
         }) }
     {
         MemShelf::made(alloc, Some(piece), fail_at)
@@ -78,6 +82,7 @@ impl MemShelf {
           piece = piece;
           calls = 0;
           faults = 0;
+          given = 0;
         }) }
     {
         let fail_at = fail_at.to_vec(alloc)?;
@@ -88,6 +93,7 @@ impl MemShelf {
             piece,
             calls: 0,
             faults: 0,
+            given: 0,
         })
     }
 
@@ -108,6 +114,10 @@ impl Shelf for MemShelf {
 
     ghost faults = { λ s. s.faults };
 
+    ghost given = { λ s. s.given };
+
+    ghost serves = { λ s name offset. (s.fail_at ≡ []) × IsSome (file_at s.files name) };
+
     fn read_at(&mut self, name: &str, offset: u64, buf: &mut [u8]) -> Result<usize, Failed>
         ensures fails { IsErr result ↔ (file_at self.old.files name.now ≡ None
             ⊎ IsTrue (is_next_in self.old.fail_at self.old.calls)) }
@@ -122,7 +132,7 @@ impl Shelf for MemShelf {
         ensures placed { IfOk result (λ count. IfFile self.old name.now (λ file.
             buf.new ≡ filled_from offset file count buf.old)) }
         ensures err { OnErr result (buf.new ≡ buf.old) }
-        ensures after { self.new ≡ after_read self.old name.now }
+        ensures after { self.new ≡ after_read self.old name.now (bytes_given result) }
         ensures faults { self.old.faults ≤ self.new.faults }
         ensures faults_fit { self.new.faults < 2 ^ 64 }
     {
@@ -134,7 +144,9 @@ impl Shelf for MemShelf {
             self.faults = self.faults.saturating_add(1);
             return Err(Failed);
         }
-        Ok(copy_from(file, offset, self.piece, buf))
+        let count = copy_from(file, offset, self.piece, buf);
+        self.given = self.given.saturating_add(count as u64);
+        Ok(count)
     }
 }
 

@@ -1,7 +1,7 @@
 //! A sink in memory, whose writes fail where its maker wants.
 
 ghost use Rattle.std.specs.Prelude.{◌≡◌, ◌<◌, ◌≤◌, ◌^◌, ◌↔◌, [], Some, length, take, IsErr, IfOk, OnErr};
-ghost use Rattle.fux_port.specs.MemSink.{Refuses, takes, after_taking, after_fault};
+ghost use Rattle.fux_port.specs.MemSink.{Refuses, room_left, takes, after_taking, after_fault};
 
 use crate::{Failed, Sink};
 use fux_pitch::Memory;
@@ -75,6 +75,8 @@ impl Sink for MemSink {
     ghost written = { λ s. Some s.taken };
 
     ghost faults = { λ s. s.faults };
+
+    ghost serves = { λ s more. (s.fail_at ≡ []) × (more ≤ room_left s) };
 
     fn write(&mut self, piece: &[u8]) -> Result<usize, Failed>
         ensures fails { IsErr result ↔ Refuses self.old piece.now }

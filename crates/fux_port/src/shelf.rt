@@ -1,8 +1,9 @@
 //! What gives the bytes of named files.
 
-ghost use Rattle.std.specs.Prelude.{◌≡◌, ℕ, ◌<◌, ◌≤◌, ◌^◌, ◌⊎◌, List, Option, length, take, drop, IsErr, IfOk, OnErr};
-ghost use Rattle.fux_port.specs.Counts.{Rose};
+ghost use Rattle.std.specs.Prelude.{◌≡◌, ℕ, ◌<◌, ◌≤◌, ◌^◌, ◌⊎◌, List, Option, length, take, drop, IsErr, IsOk, IfOk, OnErr};
+ghost use Rattle.fux_port.specs.Counts.{Rose, bytes_given, count_after};
 ghost use Rattle.fux_port.specs.Files.{EndsBy, IsMissing, StandAt};
+ghost use Rattle.fux_port.specs.Promises.{Keeps};
 
 use crate::Failed;
 
@@ -14,6 +15,12 @@ pub trait Shelf {
 
     /// How many reads failed by a fault of the shelf. At its last value the count stands still.
     ghost faults: { Self → ℕ };
+
+    /// How many bytes its reads gave. At its last value the count stands still.
+    ghost given: { Self → ℕ };
+
+    /// What it promises: a read from this offset of the file of this name, into a buffer with room, doesn't fail.
+    ghost serves: { Self → List ℕ → ℕ → Type 0 };
 
     /// Reads bytes of the file from this offset on into the front of the buffer, and answers how many.
     fn read_at(&mut self, name: &str, offset: u64, buf: &mut [u8]) -> Result<usize, Failed>
@@ -34,6 +41,11 @@ pub trait Shelf {
             → faults self.new ≡ faults self.old }
         ensures err { OnErr result (buf.new ≡ buf.old) }
 
+        // It keeps its promises.
+        ensures served { serves self.old name.now offset → 0 < length buf.old → IsOk result }
+        ensures serving { Keeps (serves self.old) (serves self.new) }
+
+        ensures given { given self.new ≡ count_after (given self.old) (bytes_given result) }
         ensures files { files self.new ≡ files self.old }
         ensures faults { faults self.old ≤ faults self.new }
         ensures faults_fit { faults self.new < 2 ^ 64 };

@@ -1,7 +1,8 @@
 //! What takes bytes.
 
-ghost use Rattle.std.specs.Prelude.{◌≡◌, ℕ, ◌<◌, ◌≤◌, ◌^◌, List, Option, length, take, IfOk, OnErr};
+ghost use Rattle.std.specs.Prelude.{◌≡◌, ℕ, ◌<◌, ◌≤◌, ◌^◌, List, Option, length, take, IsOk, IfOk, OnErr};
 ghost use Rattle.fux_port.specs.Counts.{Rose};
+ghost use Rattle.fux_port.specs.Promises.{KeepsRoom};
 ghost use Rattle.fux_port.specs.Written.{appended};
 
 use crate::Failed;
@@ -14,6 +15,9 @@ pub trait Sink {
     /// How many writes failed. At its last value the count stands still.
     ghost faults: { Self → ℕ };
 
+    /// What it promises: it takes so many bytes more, and no write of a piece of them that isn't empty fails.
+    ghost serves: { Self → ℕ → Type 0 };
+
     /// Takes bytes of the front of the piece, and answers how many.
     fn write(&mut self, piece: &[u8]) -> Result<usize, Failed>
         ensures fits { IfOk result (λ count. count ≤ length piece.now) }
@@ -23,6 +27,11 @@ pub trait Sink {
 
         ensures cause { OnErr result (Rose (faults self.old) (faults self.new)) }
         ensures err { OnErr result (written self.new ≡ written self.old) }
+
+        // It keeps its promises.
+        ensures served { (room : ℕ) → serves self.old room → length piece.now ≤ room
+            → 0 < length piece.now → IsOk result }
+        ensures serving { IfOk result (λ count. KeepsRoom (serves self.old) (serves self.new) count) }
 
         ensures faults { faults self.old ≤ faults self.new }
         ensures faults_fit { faults self.new < 2 ^ 64 };

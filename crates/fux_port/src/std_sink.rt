@@ -62,6 +62,8 @@ impl<'a> Sink for StdSink<'a> {
 
     ghost faults = { λ count. count };
 
+    ghost serves = { λ _ _. ⊥ };
+
     fn write(&mut self, piece: &[u8]) -> Result<usize, Failed> {
         let put = match self.stream {
             Stream::Out => self.host.stdout().write(piece),

@@ -1,6 +1,6 @@
 //! What no clause says: that the calls which take memory succeed, and that the clauses mean what they should.
 
-ghost use Rattle.std.specs.Prelude.{ℕ, None, ◌^◌, ◌<◌, ◌≤◌};
+ghost use Rattle.std.specs.Prelude.{ℕ, None, ◌^◌, ◌<◌, ◌≤◌, ⊤};
 
 use crate::tables::{compare, word};
 use fux_port::{
@@ -22,6 +22,10 @@ impl Shelf for Zeros {
     ghost files = { λ _. None };
 
     ghost faults = { λ _. 0 };
+
+    ghost given = { λ shelf. shelf.given };
+
+    ghost serves = { λ _ _ _. ⊤ };
 
     fn read_at(&mut self, _name: &str, offset: u64, buf: &mut [u8]) -> Result<usize, Failed> {
         let left = ZEROS.saturating_sub(offset);

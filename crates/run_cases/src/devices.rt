@@ -1,6 +1,6 @@
 //! Devices that fail, and files that are no text.
 
-ghost use Rattle.std.specs.Prelude.{Some};
+ghost use Rattle.std.specs.Prelude.{◌≡◌, [], Some, IsSome};
 ghost use Rattle.fux_port.specs.MemShelf.{file_at};
 
 use crate::answers::{EXERCISE, agree, said, said_into};
@@ -55,6 +55,10 @@ impl Shelf for Watched {
     ghost files = { λ watched. Some (file_at watched.shelf.files) };
 
     ghost faults = { λ watched. watched.shelf.faults };
+
+    ghost given = { λ watched. watched.shelf.given };
+
+    ghost serves = { λ watched name _. (watched.shelf.fail_at ≡ []) × IsSome (file_at watched.shelf.files name) };
 
     fn read_at(&mut self, name: &str, offset: u64, buf: &mut [u8]) -> Result<usize, Failed> {
         let read = self.shelf.read_at(name, offset, buf);
@@ -151,6 +155,25 @@ fn a_failed_device_shows_in_the_status_or_not(rt: HostRuntime) -> Result<(), Fai
     ] {
         let got = said_into(&rt, alloc, line, &mut shelf, &mut out, &mut err)?;
         agree(&rt, got.as_str(), wanted);
+    }
+    Ok(())
+}
+
+#[test]
+fn a_midi_file_that_is_cut_short_is_refused_at_its_end(rt: HostRuntime) -> Result<(), Fail> {
+    let alloc = rt.alloc();
+    let (line, _, _) = &RUNS[3];
+    for length in 0..MIDI.len() {
+        let mut shelf = MemShelf::new(alloc, &[])?;
+        shelf.put("M", &MIDI[..length])?;
+        let out = MemSink::new(alloc, 1000, 1000, &[])?;
+        let got = said(&rt, alloc, line, &mut shelf, out)?;
+        let wanted = if length < 4 {
+            String::from_str(alloc, "3 fux: midi: chunk at 0\n")?
+        } else {
+            format!(in alloc; "3 fux: midi: truncated at {length}\n")?
+        };
+        agree(&rt, got.as_str(), wanted.as_str());
     }
     Ok(())
 }

@@ -1,6 +1,6 @@
 //! Files that are longer than a plain text may be, and that no memory could hold.
 
-ghost use Rattle.std.specs.Prelude.{◌∷◌, [], Some, replicate};
+ghost use Rattle.std.specs.Prelude.{◌∷◌, [], Some, replicate, ⊤};
 
 use crate::answers::{agree, said};
 use fux_port::{Failed, MemSink, Shelf};
@@ -17,6 +17,10 @@ impl Shelf for Zeros {
     ghost files = { λ shelf. Some (λ _. Some (replicate shelf.length 0)) };
 
     ghost faults = { λ _. 0 };
+
+    ghost given = { λ shelf. shelf.given };
+
+    ghost serves = { λ _ _ _. ⊤ };
 
     fn read_at(&mut self, _name: &str, offset: u64, buf: &mut [u8]) -> Result<usize, Failed> {
         let left = self.length.saturating_sub(offset);

@@ -35,4 +35,7 @@ loop-bytes-preserved g c =
       c.in_ok-count.ensures.files ∙ old.2,
       omega (arith, old.3, c.in_ok-count.ensures.faults),
       grind (arith, common_steps, old.4, old.2, c.in_ok-count.ensures.missing),
+      λ name offset promised. c.in_ok-count.ensures.serving name offset (old.5 name offset promised),
+      rw c.in_ok-extend_from_slice.ensures.items
+          (simp (length-append, take-append-le) (omega (arith, old.6, c.in_ok-count.ensures.given, length-take-le c.in_ok-count.count buf fits))),
     )

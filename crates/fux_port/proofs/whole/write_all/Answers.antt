@@ -1,4 +1,5 @@
-use Rattle.std.proofs.Common.{ℕ, arith, length-drop, ◌∙◌, ap, take, drop}
+use Rattle.std.proofs.Common.{ℕ, ◌+◌, arith, length-drop, ◌∙◌, ap, subst, take, drop}
+use Rattle.std.proofs.Math.Nat.{add_assoc}
 use Rattle.std.proofs.Math.Seq.{take-add}
 use Rattle.std.proofs.lemmas.List.{take_rest, length-take-le}
 use Rattle.fux_port.specs.Written.{appended}
@@ -17,4 +18,6 @@ loop-done-preserved g c =
           (taken ∙ ap (λ told. appended told (take count (drop done bytes))) old.1
           ∙ appended-append (g.K.Sink.written c.args.sink.now) (take done bytes) (take count (drop done bytes))),
       omega (arith, old.2, c.in_ok-done.ensures.faults),
+      λ more promised. c.in_ok-done.ensures.serving more
+          (old.3 (count + more) (subst (g.K.Sink.serves c.args.sink.now) (add_assoc done count more) promised)),
     )

@@ -16,4 +16,5 @@ returns-clause-ok c =
       same_piece = refl;
       same_calls = refl;
       same_faults = refl;
+      same_given = refl;
     })
