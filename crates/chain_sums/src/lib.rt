@@ -12,6 +12,7 @@ mod menu;
 mod moves;
 mod packed;
 mod pieces;
+mod share;
 mod still;
 mod tables;
 

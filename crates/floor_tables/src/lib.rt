@@ -2,6 +2,7 @@
 #![tactic(auto)]
 
 mod links;
+mod share;
 mod tables;
 
 pub use chain_sums::{Gate, Open, TableFault};

@@ -10,6 +10,7 @@ mod places;
 mod reading_order;
 mod score;
 mod shapes;
+mod share;
 
 pub use cell::{Cell, Column, Note, Onset};
 pub use exercise::{

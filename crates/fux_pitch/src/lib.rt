@@ -8,6 +8,7 @@ mod memory;
 mod mode;
 mod names;
 mod pitch;
+mod share;
 mod spelling;
 
 pub use interval::{Interval, interval_of, is_consonant, is_imperfect, is_perfect, reduce};

@@ -5,6 +5,7 @@ mod entries;
 mod fault;
 mod price;
 mod reading;
+mod share;
 mod sheet;
 
 pub use fault::SheetFault;
