@@ -92,7 +92,10 @@ fn floors_are_the_same_in_pieces_of_every_size(rt: HostRuntime) -> Result<(), Fa
     for piece in [1, 4, 5, 8192] {
         let tables = cut(&rt, rt.alloc(), &exercise, &sheet, piece, &Open)?;
         assert_eq!(rt; tables.start(), Some(0), "in pieces of {piece}");
-        assert!(rt; has_floors(&exercise, &sheet, &tables)?, "in pieces of {piece}");
+        assert!(rt;
+            has_floors(&exercise, &sheet, &tables)?,
+            "in pieces of {piece}"
+        );
     }
     Ok(())
 }
@@ -111,7 +114,11 @@ fn each_piece_of_a_row_that_is_worked_enters_once(rt: HostRuntime) -> Result<(),
                 0
             };
             for (k, count) in gate.counts(i).iter().enumerate() {
-                assert_eq!(rt; *count, u64::from(k < pieces), "piece {k} of row {i}, in pieces of {piece}");
+                assert_eq!(rt;
+                    *count,
+                    u64::from(k < pieces),
+                    "piece {k} of row {i}, in pieces of {piece}"
+                );
             }
         }
     }
