@@ -85,6 +85,16 @@ fn has_floors(exercise: &Exercise, sheet: &Sheet, tables: &Tables<'_>) -> Result
     Ok(true)
 }
 
+/// In how many pieces the row of a place is worked.
+fn pieces_of(exercise: &Exercise, tables: &Tables<'_>, i: usize, piece: usize) -> usize
+    requires same { tables.now.exercise ≡ exercise.now }
+{
+    if piece == 0 || i >= 8 * usize::from(exercise.bars) || !WORKED.contains(&i) {
+        return 0;
+    }
+    tables.width(i).div_ceil(piece)
+}
+
 #[test]
 fn floors_are_the_same_in_pieces_of_every_size(rt: HostRuntime) -> Result<(), Fail> {
     let exercise = exercise(rt.alloc())?;
@@ -108,11 +118,7 @@ fn each_piece_of_a_row_that_is_worked_enters_once(rt: HostRuntime) -> Result<(),
         let gate = Counting::new(rt.alloc(), 24)?;
         let tables = cut(&rt, rt.alloc(), &exercise, &sheet, piece, &gate)?;
         for i in 0..24 {
-            let pieces = if WORKED.contains(&i) {
-                tables.width(i).div_ceil(piece)
-            } else {
-                0
-            };
+            let pieces = pieces_of(&exercise, &tables, i, piece);
             for (k, count) in gate.counts(i).iter().enumerate() {
                 assert_eq!(rt;
                     *count,
