@@ -6,11 +6,11 @@ use Rattle.fux_grid.specs.declared.exercise.Exercise.{Exercise}
 use Rattle.rule_law.specs.BothLaw.{RuleReading, AreLocal, SettleAtEnd}
 use Rattle.rule_law.specs.Law.{at_once_settles, local_from_row, test_from_below}
 use Rattle.rule_law.specs.NearLaw.{IsNear, near_from_whole}
-use Rattle.rule_law.specs.Nearby.{whole_of}
+use Rattle.rule_law.specs.Nearby.{NearRow, whole_of}
 use Rattle.rule_law.specs.Places.{IsLocal, IsUndisturbed, Row, SettlesAtEnd, at_once, reading_of, settled_by}
 use Rattle.rule_law.specs.Voices.{has_rule}
 use Rattle.rule_law.specs.Growth.{AlwaysEnough}
-use Rattle.motion_rules.specs.Book.{at_once_row, is_late, late_row, rule_row}
+use Rattle.motion_rules.specs.Book.{at_once_row, at_once_toll, is_late, is_late_toll, late_row, late_toll, rule_row, toll_row}
 use Rattle.motion_rules.specs.InnerVoices.{inner_toll}
 use Rattle.motion_rules.specs.Rows.{cost_enough, cost_in, imperfect_runs, near_rows, toll_rows}
 
@@ -22,9 +22,13 @@ rule_bits = 2 ^ 10 + 2 ^ 16 + 2 ^ 17 + 2 ^ 18
 abbrev pub near_bits : ℕ
 near_bits = 2 ^ 10 + 2 ^ 16 + 2 ^ 17
 
--- the bit of the toll 11
+-- the bits of the tolls 11 and 12
 abbrev pub toll_bits : ℕ
-toll_bits = 2 ^ 11
+toll_bits = 2 ^ 11 + 2 ^ 12
+
+-- what each of them costs by two neighbors
+abbrev pub near_toll : ℕ → Exercise → NearRow ℕ
+near_toll toll ex = if is_late_toll toll then inner_toll ex else toll_rows toll ex
 
 -- whether a rule is broken at a place of a list, and whether that is settled: by its row in the book
 abbrev pub motion_breaks : RuleReading
@@ -82,14 +86,22 @@ cost_settles_at_end toll ex = at_once_settles ex
 
 -- where a toll isn't Q14, two neighbors decide it
 pub cost_is_near : (toll : ℕ) (ex : Exercise) → IsTrue (has_rule toll_bits toll)
-    → IsNear ex (reading_of (cost_in toll ex)) (toll_rows toll ex)
-cost_is_near toll ex h =
-    let near : Bool → Type 0 = λ b. IsNear ex (reading_of (chosen b)) (toll_rows toll ex) in
-    subst near (sym (differs_by toll_bits toll 14 refl h)) (near_from_whole ex (toll_rows toll ex))
+    → IsNear ex (reading_of ((toll_row toll).cost ex)) (near_toll toll ex)
+cost_is_near toll ex h = at (is_late_toll toll)
   where
     chosen : Bool → Row ℕ
     chosen b i behind now ahead =
         if b then imperfect_runs i behind now else whole_of (toll_rows toll ex) i behind now ahead
+
+    early : IsNear ex (reading_of (cost_in toll ex)) (toll_rows toll ex)
+    early =
+        let near : Bool → Type 0 = λ b. IsNear ex (reading_of (chosen b)) (toll_rows toll ex) in
+        subst near (sym (differs_by toll_bits toll 14 refl h)) (near_from_whole ex (toll_rows toll ex))
+
+    at : (b : Bool) → IsNear ex (reading_of ((if b then late_toll toll else at_once_toll toll).cost ex))
+        (if b then inner_toll ex else toll_rows toll ex)
+    at true = near_from_whole ex (inner_toll ex)
+    at false = early
 
 -- Q12 too
 pub inner_is_local : (ex : Exercise) → IsLocal ex (reading_of (whole_of (inner_toll ex))) (settled_by at_once)

@@ -1,10 +1,12 @@
 //! The rules as one `Rule`, and what two neighboring columns decide of them.
 
 ghost use Rattle.rule_law.specs.Places.{reading_of};
-ghost use Rattle.motion_rules.specs.Locality.{cost_is_near, motion_breaks, motion_is_local, motion_is_near, motion_settles, motion_settles_at_end, near_bits, rule_bits, toll_bits};
-ghost use Rattle.motion_rules.specs.Rows.{cost_in, near_rows, toll_rows};
+ghost use Rattle.motion_rules.specs.Book.{toll_row};
+ghost use Rattle.motion_rules.specs.Locality.{cost_is_near, motion_breaks, motion_is_local, motion_is_near, motion_settles, motion_settles_at_end, near_bits, near_toll, rule_bits, toll_bits};
+ghost use Rattle.motion_rules.specs.Rows.{near_rows};
 
 use crate::afterbeats::breaks_afterbeat;
+use crate::inner_voices::inner_moves;
 use crate::rows::{breaks, cost};
 use fux_grid::{Column, Exercise, Score, VoiceSet};
 use rule_law::{Latest, Near, Rule, RuleSet, cells_of};
@@ -64,9 +66,9 @@ impl Near for Motion {
 
     ghost row = { λ _. near_rows };
 
-    ghost charged = { λ _. λ toll ex. reading_of (cost_in toll ex) };
+    ghost charged = { λ _. λ toll ex. reading_of ((toll_row toll).cost ex) };
 
-    ghost toll_row = { λ _. toll_rows };
+    ghost toll_row = { λ _. near_toll };
 
     ghost rules_agree = { λ _ rule ex voices h. motion_is_near rule ex voices h };
 
@@ -79,7 +81,9 @@ impl Near for Motion {
     }
 
     fn tolls(&self) -> RuleSet {
-        RuleSet { bits: 1 << 11 }
+        RuleSet {
+            bits: 1 << 11 | 1 << 12,
+        }
     }
 
     fn broken_near(
@@ -113,6 +117,10 @@ impl Near for Motion {
         if !self.tolls().has(toll) {
             return 0;
         }
-        cost(toll, ex, i, cells_of(prev), &Latest::NONE, next.as_slice())
+        let before = cells_of(prev);
+        if toll == 12 {
+            return inner_moves(ex, before, next.as_slice());
+        }
+        cost(toll, ex, i, before, &Latest::NONE, next.as_slice())
     }
 }

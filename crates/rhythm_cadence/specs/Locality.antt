@@ -28,6 +28,10 @@ covered_bits = 2 ^ 1 + 2 ^ 2 + 2 ^ 3 + 2 ^ 12 + 2 ^ 13 + 2 ^ 22 + 2 ^ 24 + 2 ^ 2
 abbrev pub near_bits : ℕ
 near_bits = 2 ^ 12 + 2 ^ 13 + 2 ^ 24
 
+-- the bit of the toll that they decide
+abbrev pub near_toll_bits : ℕ
+near_toll_bits = 2 ^ 15
+
 -- the readings of the rules, and where they are settled
 abbrev pub rhythm_breaks : RuleReading
 rhythm_breaks rule ex voices = reading_of (broken_in rule ex voices)

@@ -1,17 +1,21 @@
 //! The rules as one.
 
-ghost use Rattle.std.specs.Prelude.{◌≡◌, ◌+◌, ◌<◌, ◌≤◌, ℕ, Bool, IfSome, nat_lt, length, slice_index_or, drop, [], refl};
+ghost use Rattle.std.specs.Prelude.{◌≡◌, ◌+◌, ◌<◌, ◌≤◌, ℕ, Bool, IfSome, nat_lt, length, slice_index_or, drop, []};
 ghost use Rattle.fux_grid.specs.Exercises.{IsValid, IsFree, columns_in};
 ghost use Rattle.fux_grid.specs.Orderly.{voice_shapes};
 ghost use Rattle.fux_grid.specs.Shapes.{begins_shape};
+ghost use Rattle.rule_law.specs.NearLaw.{near_from_whole};
+ghost use Rattle.rule_law.specs.Nearby.{whole_of};
 ghost use Rattle.rule_law.specs.Places.{reading_of};
 ghost use Rattle.rule_law.specs.Voices.{on_free_voice};
 ghost use Rattle.rhythm_cadence.specs.AllRules as all;
 ghost use Rattle.rhythm_cadence.specs.Locality as law;
+ghost use Rattle.rhythm_cadence.specs.Patterns.{ligature_toll};
 ghost use Rattle.rhythm_cadence.specs.Rows as rows;
 ghost use Rattle.rhythm_cadence.specs.Rows.{holds_of_some};
 
 use crate::cadence::breaks_cadence;
+use crate::patterns::lacks_ligature;
 use crate::quavers::{breaks_quaver, is_quaver_settled};
 use crate::rows::{ends_badly, lacks_final, leaves_gamut, leaves_range, opens_badly};
 use fux_grid::{
@@ -204,17 +208,17 @@ impl Rule for Rhythm {
 impl Near for Rhythm {
     ghost near_rules = { λ _. law.near_bits };
 
-    ghost near_tolls = { λ _. 0 };
+    ghost near_tolls = { λ _. law.near_toll_bits };
 
     ghost row = { λ _. rows.near_rows };
 
-    ghost charged = { λ _ toll ex p i. 0 };
+    ghost charged = { λ _ toll ex. reading_of (whole_of (ligature_toll ex)) };
 
-    ghost toll_row = { λ _ toll ex i before previous now. 0 };
+    ghost toll_row = { λ _ toll ex. ligature_toll ex };
 
     ghost rules_agree = { λ _. all.book_is_near };
 
-    ghost tolls_agree = { λ _ toll ex h p next prefix. refl };
+    ghost tolls_agree = { λ _ toll ex h. near_from_whole ex (ligature_toll ex) };
 
     fn rules(&self) -> RuleSet {
         RuleSet {
@@ -223,7 +227,7 @@ impl Near for Rhythm {
     }
 
     fn tolls(&self) -> RuleSet {
-        RuleSet::EMPTY
+        RuleSet { bits: 1 << 15 }
     }
 
     fn broken_near(
@@ -249,12 +253,15 @@ impl Near for Rhythm {
 
     fn cost_near(
         &self,
-        _toll: u8,
-        _ex: &Exercise,
-        _i: usize,
+        toll: u8,
+        ex: &Exercise,
+        i: usize,
         _prev: Option<&Column>,
-        _next: &Column,
+        next: &Column,
     ) -> u32 {
-        0
+        if !self.tolls().has(toll) {
+            return 0;
+        }
+        u32::from(lacks_ligature(ex, i, next.as_slice()))
     }
 }
