@@ -2,7 +2,6 @@
 use Rattle.std.specs.Prelude.{◌≡◌, ℕ, ◌+◌, ◌%◌, ◌<◌, ◌≤◌, List, [], ◌∷◌, ◌++◌, length, take, slice_index_or}
 use Rattle.fux_grid.specs.declared.cell.Cell.{Cell}
 use Rattle.fux_grid.specs.declared.cell.Cell.TheVariants.{Rest}
-use Rattle.fux_grid.specs.declared.exercise.Exercise.{Exercise}
 use Rattle.fux_grid.specs.Columns.{Columns}
 use Rattle.rule_law.specs.declared.newest.ColumnCells.{ColumnCells}
 use Rattle.rule_law.specs.declared.newest.NewestColumns.{NewestColumns}
@@ -19,11 +18,6 @@ kept_column voices kept i = take voices (slice_index_or kept.columns (i % 24) si
 pub record AreNewestOf (voices : ℕ) (s : List (List Cell)) (kept : NewestColumns) : Type 0 where
   pub count : kept.len ≡ length s
   pub columns : (i : ℕ) → i < length s → length s ≤ i + 24 → kept_column voices kept i ≡ slice_index_or s i []
-
--- the newest columns of an exercise's list are kept, and column i is the last of them
-pub record EndsAt (ex : Exercise) (kept : NewestColumns) (s : Columns) (i : ℕ) : Type 0 where
-  pub newest : AreNewestOf ex.voices s kept
-  pub last : length s ≡ i + 1
 
 -- of whatever list the first are the newest columns, the others are those of the list with this column more
 abbrev pub GrowBy : List Cell → NewestColumns → NewestColumns → Type 0

@@ -17,26 +17,28 @@ use Rattle.rule_law.specs.Places.{Row, IsLocal, SettlesAtEnd, reading_of, settle
 use Rattle.rule_law.specs.Prefixes.{GoesOn}
 use Rattle.rule_law.specs.Quiet.{is_quiet}
 
--- a rule: its sets of voices, how much it's read from, where it may stand, whether it is late, and its rows: what breaks it for a
--- set of voices, and which columns are enough to settle that. A late rule is read when its column is among the newest ones, so it may
--- be settled later than at its own column
+-- a rule. Its rows and its kind define it, and the other fields say how it is read
 pub record RuleRow : Type 0 where
-  pub form : Form
-  pub kind : Kind
-  pub stands : Stands
-  pub late : Bool
+  -- what breaks it for a set of voices, which columns are enough to settle that, and how much it is read from: chains look at no rule of
+  -- a window
   pub broken : Exercise → ℕ → Row Bool
   pub enough : Exercise → ℕ → Row Bool
-  -- the places at which column i may settle a break: the first, and how many
+  pub kind : Kind
+  -- these define nothing, and `KeepsRuleLaws` ties them to the rows: the sets of voices and the places where it may be broken, whether
+  -- it is late, and the places at which column i may settle a break, the first and how many. A late rule is read when its column is
+  -- among the newest ones, so it may be settled later than at its own column
+  pub form : Form
+  pub stands : Stands
+  pub late : Bool
   pub first : Exercise → ℕ → ℕ
   pub count : Exercise → ℕ → ℕ
 
--- a toll: the same of what it costs, without its weight
+-- a toll: the same of what it costs, without its weight. Here too the last three fields define nothing
 pub record TollRow : Type 0 where
-  pub kind : Kind
-  pub late : Bool
   pub cost : Exercise → Row ℕ
   pub enough : Exercise → Row Bool
+  pub kind : Kind
+  pub late : Bool
   pub first : Exercise → ℕ → ℕ
   pub count : Exercise → ℕ → ℕ
 
