@@ -29,6 +29,12 @@ use Rattle.dissonance_rules.proofs.OffBar.{settles_at_bar, starter_has_species, 
 use Rattle.dissonance_rules.specs.Clashes.{clash_enough, clash_row, clash_rule, passing_enough, passing_rule, resolution_enough, resolution_rule}
 use Rattle.dissonance_rules.specs.Passing.{clashes_badly, has_notes_after, has_ornaments, is_good_note, is_open_clash, reaches_last_bar, starts_in_clash}
 
+-- where S15 is open a note clashes, and neither enough notes nor the last bar came
+pub open_parts : (clashing notes last : Bool) → not (not clashing || notes || last) ≡ true
+    → (clashing ≡ true) × (not (notes || last) ≡ true)
+open_parts true notes last h = (refl, h)
+open_parts false notes last h = cc
+
 -- where a test of a set of two voices passes, it passes for one way to name them, and what fails for the set fails for that way
 pub record Way (ex : Exercise) (test : ℕ → ℕ → Bool) (voices : ℕ) : Type 0 where
   pub v : ℕ
@@ -158,8 +164,8 @@ module _ (ex : Exercise) (voices : ℕ) (p : List (List Cell)) (col : List Cell)
         (closed : is_open_clash ex i (here grown) (ahead grown) v w ≡ false) where
       parts : (starts_in_clash (here p) v w ≡ true)
           × (not (has_notes_after (species_in ex v) i v (ahead p) || reaches_last_bar ex i (ahead p)) ≡ true)
-      parts = and_parts (starts_in_clash (here p) v w)
-          (not (has_notes_after (species_in ex v) i v (ahead p) || reaches_last_bar ex i (ahead p))) opens
+      parts = open_parts (starts_in_clash (here p) v w) (has_notes_after (species_in ex v) i v (ahead p))
+          (reaches_last_bar ex i (ahead p)) opens
 
       neither : (has_notes_after (species_in ex v) i v (ahead p) ≡ false) × (reaches_last_bar ex i (ahead p) ≡ false)
       neither = or_parts (has_notes_after (species_in ex v) i v (ahead p)) (reaches_last_bar ex i (ahead p))
@@ -234,8 +240,8 @@ module _ (ex : Exercise) (voices : ℕ) (p : List (List Cell)) (col : List Cell)
           open_still : has_notes_after (species_in ex v) i v (ahead grown) ≡ false → reaches_last_bar ex i (ahead grown)
               ≡ false → is_open_clash ex i (here grown) (ahead grown) v w ≡ true
           open_still f g =
-              ap (λ c. starts_in_clash c v w
-              && not (has_notes_after (species_in ex v) i v (ahead grown) || reaches_last_bar ex i (ahead grown)))
+              ap (λ c. not (not (starts_in_clash c v w)
+              || has_notes_after (species_in ex v) i v (ahead grown) || reaches_last_bar ex i (ahead grown)))
               same_column
               ∙ rw (parts.0, f, g) refl
 

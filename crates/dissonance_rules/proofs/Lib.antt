@@ -5,6 +5,7 @@ pub mod LowerVoices
 pub mod NotesAhead
 pub mod OffBar
 pub mod PassingReadings
+pub mod Preparations
 pub mod Quiet
 pub mod ToldNotes
 pub mod ToldPlaces

@@ -1,5 +1,5 @@
 -- What S15 says of a place, read from the notes around it.
-use Rattle.std.specs.Prelude.{◌≡◌, ℕ, ◌+◌, ◌-◌, ◌*◌, ◌<◌, ◌≤◌, Bool, true, false, not, ◌&&◌, ◌||◌, nat_lt, List, [], ◌∷◌, Option, None, is_some, drop, take, length, slice_index_or, if◌then◌else◌, refl}
+use Rattle.std.specs.Prelude.{◌≡◌, ℕ, ◌+◌, ◌-◌, ◌*◌, ◌<◌, ◌≤◌, Bool, true, false, not, ◌||◌, nat_lt, List, [], ◌∷◌, Option, None, is_some, drop, take, length, slice_index_or, if◌then◌else◌, refl}
 use Rattle.std.proofs.Common.{ap, sym, ◌∙◌, arith}
 use Rattle.std.proofs.lemmas.List.{length-drop, length-take-le, take_all}
 use Rattle.fux_pitch.specs.declared.pitch.Pitch.{Pitch}
@@ -74,7 +74,7 @@ module _ (ex : Exercise) (s : List (List Cell)) (i end v w : ℕ) (here : i < en
   closed_by_end now h = none (starts_in_clash now v w) (has_notes_after (species_in ex v) i v first_columns)
       (reaches_last_bar ex i first_columns) (reaches ∙ h)
     where
-      none : (a b c : Bool) → c ≡ true → (a && not (b || c)) ≡ false
+      none : (a b c : Bool) → c ≡ true → not (not a || b || c) ≡ false
       none true true c h = refl
       none true false c h = ap not h
       none false b c h = refl
@@ -84,7 +84,7 @@ module _ (ex : Exercise) (s : List (List Cell)) (i end v w : ℕ) (here : i < en
   open_by_notes now e f = rest (starts_in_clash now v w) (has_notes_after (species_in ex v) i v first_columns)
       (reaches_last_bar ex i first_columns) e (reaches ∙ f)
     where
-      rest : (a b c : Bool) → a ≡ true → c ≡ false → (a && not (b || c)) ≡ not b
+      rest : (a b c : Bool) → a ≡ true → c ≡ false → not (not a || b || c) ≡ not b
       rest true true c h k = refl
       rest true false c h k = ap not k
       rest false b c h k = cc

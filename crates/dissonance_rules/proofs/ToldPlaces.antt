@@ -17,7 +17,7 @@ use Rattle.rule_law.specs.Voices.{is_free}
 use Rattle.rule_law.specs.Ways.{on_some_way}
 use Rattle.dissonance_rules.specs.Clashes.{passing_enough}
 use Rattle.dissonance_rules.specs.Passing.{has_notes_after, is_open_clash, reaches_last_bar, starts_in_clash}
-use Rattle.dissonance_rules.proofs.LatePlaces.{way_of}
+use Rattle.dissonance_rules.proofs.LatePlaces.{open_parts, way_of}
 
 module _ (ex : Exercise) (voices : ℕ) (p : List (List Cell)) (col : List Cell) (i : ℕ) (on : GoesOn ex p (col ∷ []))
     (here : i < length p) where
@@ -44,9 +44,8 @@ module _ (ex : Exercise) (voices : ℕ) (p : List (List Cell)) (col : List Cell)
       → has_notes_after (species_in ex v) i v (drop (i + 1) p) ≡ true) where
     never_open : (v w : ℕ) → is_free ex v ≡ true → Opens v w ≡ true → true ≡ false
     never_open v w free h =
-        let parts = and_parts (starts_in_clash (slice_index_or p i []) v w)
-        (not (has_notes_after (species_in ex v) i v (drop (i + 1) p) || reaches_last_bar ex i (drop (i + 1) p))) h
-        in
+        let parts = open_parts (starts_in_clash (slice_index_or p i []) v w)
+        (has_notes_after (species_in ex v) i v (drop (i + 1) p)) (reaches_last_bar ex i (drop (i + 1) p)) h in
         let start = (and_parts (starts (cell_in (slice_index_or p i []) v)) (clash (slice_index_or p i []) v w)
         parts.0).0 in
         sym parts.1 ∙ ap (λ b. not (b || reaches_last_bar ex i (drop (i + 1) p))) (told v (is_there v start) free)

@@ -259,7 +259,7 @@ way_same ex p t i v w on here free closed =
     quiet false c x y e = refl
 
     at : (c n l : Bool) → starts_in_clash now v w ≡ c → has_notes_after (species_in ex v) i v ahead ≡ n
-        → reaches_last_bar ex i ahead ≡ l → (c && not (n || l)) ≡ false
+        → reaches_last_bar ex i ahead ≡ l → not (not c || n || l) ≡ false
         → clashes_badly ex i (earlier p i) now (ahead ++ t) v w ≡ clashes_badly ex i (earlier p i) now ahead v w
     at false n l e f g k = quiet (not (begins_bar i)) (starts_in_clash now v w) _ _ e
     at true true l e f g k = with_good (notes_same (species_in ex v) i (earlier p i) now ahead t v f)
@@ -350,8 +350,8 @@ closed_stays ex i now ahead t v w h =
     at (starts_in_clash now v w) (has_notes_after (species_in ex v) i v ahead) (reaches_last_bar ex i ahead) _ _
     (notes_stay (species_in ex v) i v ahead t) (last_bar_stays ex i ahead t) h
   where
-    at : (c n l n' l' : Bool) → (n ≡ true → n' ≡ true) → (l ≡ true → l' ≡ true) → (c && not (n || l)) ≡ false
-        → (c && not (n' || l')) ≡ false
+    at : (c n l n' l' : Bool) → (n ≡ true → n' ≡ true) → (l ≡ true → l' ≡ true) → not (not c || n || l) ≡ false
+        → not (not c || n' || l') ≡ false
     at false n l n' l' f g k = refl
     at true true l n' l' f g k = ap (λ b. not (b || l')) (f refl)
     at true false true n' l' f g k = ap not (or_right n' l' (g refl))
@@ -393,7 +393,7 @@ closed_at_end : (ex : Exercise) (i : ℕ) (now : List Cell) (ahead : List (List 
 closed_at_end ex i now ahead v w h =
     at (starts_in_clash now v w) (has_notes_after (species_in ex v) i v ahead) _ (whole_reaches ex i ahead h)
   where
-    at : (c n l : Bool) → l ≡ true → (c && not (n || l)) ≡ false
+    at : (c n l : Bool) → l ≡ true → not (not c || n || l) ≡ false
     at false n l e = refl
     at true n l e = ap not (or_right n l e)
 

@@ -1,13 +1,13 @@
 -- The rules of a free voice that clashes with another one: S15, S19, S20 and S21.
-use Rattle.std.specs.Prelude.{ℕ, ◌==◌, Bool, not, ◌||◌, nat_le, List, length, if◌then◌else◌}
+use Rattle.std.specs.Prelude.{ℕ, ◌==◌, Bool, ◌||◌, nat_le, List, length, if◌then◌else◌}
 use Rattle.fux_grid.specs.declared.cell.Cell.{Cell}
 use Rattle.fux_grid.specs.declared.exercise.Exercise.{Exercise}
 use Rattle.rule_law.specs.Growth.{newly}
 use Rattle.rule_law.specs.Places.{Row, at_once, settled_by}
 use Rattle.rule_law.specs.Whole.{is_whole}
-use Rattle.rule_law.specs.Ways.{on_some_way}
+use Rattle.rule_law.specs.Ways.{on_each_way, on_some_way}
 use Rattle.dissonance_rules.specs.Ligatures.{is_bad_suspension, lacks_preparation, lacks_resolution}
-use Rattle.dissonance_rules.specs.Passing.{clashes_badly, is_open_clash}
+use Rattle.dissonance_rules.specs.Passing.{clashes_badly, is_told}
 
 -- S15 and S20, by their numbers
 abbrev pub passing_rule : ℕ
@@ -28,9 +28,9 @@ clash_rule rule ex i behind now ahead v w =
 abbrev pub clash_row : ℕ → Exercise → ℕ → Row Bool
 clash_row rule ex voices i behind now ahead = on_some_way ex (clash_rule rule ex i behind now ahead) voices
 
--- S15 is settled where it is open for no way to name the voices
+-- S15 is settled where it is told for each way to name the voices
 abbrev pub passing_enough : Exercise → ℕ → Row Bool
-passing_enough ex voices i behind now ahead = not (on_some_way ex (is_open_clash ex i now ahead) voices)
+passing_enough ex voices i behind now ahead = on_each_way ex (is_told ex i now ahead) voices
 
 -- the last column settles it at a place, and none before it did
 abbrev pub newly_passing : Exercise → ℕ → List (List Cell) → List Cell → ℕ → Bool

@@ -1,25 +1,27 @@
 -- S19, S20 and S21: a voice that holds a note over a bar line and clashes there. Its note has to be prepared, resolved and of a good size.
-use Rattle.std.specs.Prelude.{ℕ, ◌%◌, ◌==◌, Bool, not, ◌&&◌, ◌||◌, nat_le, List, [], slice_index_or}
+use Rattle.std.specs.Prelude.{ℕ, ◌-◌, ◌%◌, ◌==◌, Bool, not, ◌&&◌, ◌||◌, nat_le, List, [], ◌∷◌, slice_index_or}
 use Rattle.fux_grid.specs.declared.cell.Cell.{Cell}
 use Rattle.fux_grid.specs.Cells.{cell_in, is_hold, pitch_of}
+use Rattle.fux_grid.specs.Columns.{newest_column}
 use Rattle.rule_law.specs.Bars.{begins_bar}
 use Rattle.rule_law.specs.Degrees.{lies_above}
+use Rattle.rule_law.specs.Sounding.{sounding_note, started_after}
 use Rattle.rule_law.specs.Terms.{clash, degrees_without_sign, holds_of, interval_in, is_clean, is_lowest, starts}
 
 -- at the beginning of a bar v holds a note, and clashes with w
 abbrev pub is_suspended : ℕ → List Cell → ℕ → ℕ → Bool
 is_suspended i now v w = begins_bar i && is_hold (cell_in now v) && clash now v w
 
--- a voice is unprepared after three columns, the newest first: it started a note in one of them, or it isn't clean in the newest
-abbrev pub is_unprepared : List Cell → List Cell → List Cell → ℕ → Bool
-is_unprepared newest second third v =
-    starts (cell_in newest v) || starts (cell_in second v) || starts (cell_in third v) || not (is_clean newest v)
-
--- S19: so is a suspended voice: its note began in one of the three columns before, or it wasn't clean in the last of them
+-- S19: a suspended voice is unprepared: its note started after column i - 4, or it wasn't clean in the column before
 abbrev pub lacks_preparation : ℕ → List (List Cell) → List Cell → ℕ → ℕ → Bool
 lacks_preparation i behind now v w =
     is_suspended i now v w
-    && is_unprepared (slice_index_or behind 0 []) (slice_index_or behind 1 []) (slice_index_or behind 2 []) v
+    && (started_after (i - 4) (sounding_note v (now ∷ behind)) || not (is_clean (newest_column behind) v))
+
+-- the same from the three columns before, the newest first: the voice started a note in one of them, or it wasn't clean in the newest
+abbrev pub is_unprepared : List Cell → List Cell → List Cell → ℕ → Bool
+is_unprepared newest second third v =
+    starts (cell_in newest v) || starts (cell_in second v) || starts (cell_in third v) || not (is_clean newest v)
 
 -- it resolves: it is held in the next column, and in the fourth from here a note starts, one degree below, where the voice is clean
 abbrev pub resolves : List Cell → List Cell → List Cell → ℕ → Bool

@@ -105,9 +105,14 @@ abbrev pub has_notes_after : ℕ → ℕ → ℕ → List (List Cell) → Bool
 has_notes_after species i v ahead =
     if has_ornaments species then is_some (second_next_onset i v ahead) else is_some (next_onset i v ahead)
 
--- for one way to name the voices S15 is open: a note of v that starts clashes with w, too few notes of v came after it, and no column of
--- the last bar did
+-- for one way to name the voices S15 is told: at once where no note of v starts that clashes with w, else once as many notes of v came
+-- after it as tell what it is, or a column of the last bar did
+abbrev pub is_told : Exercise → ℕ → List Cell → List (List Cell) → ℕ → ℕ → Bool
+is_told ex i now ahead v w =
+    not (starts_in_clash now v w)
+    || has_notes_after (species_in ex v) i v ahead
+    || reaches_last_bar ex i ahead
+
+-- it is open until then
 abbrev pub is_open_clash : Exercise → ℕ → List Cell → List (List Cell) → ℕ → ℕ → Bool
-is_open_clash ex i now ahead v w =
-    starts_in_clash now v w
-    && not (has_notes_after (species_in ex v) i v ahead || reaches_last_bar ex i ahead)
+is_open_clash ex i now ahead v w = not (is_told ex i now ahead v w)

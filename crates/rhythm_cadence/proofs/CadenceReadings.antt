@@ -4,7 +4,7 @@ use Rattle.std.specs.List.{list_all}
 use Rattle.std.proofs.Common.{ap, sym, ◌∙◌, arith}
 use Rattle.std.proofs.Math.ListN.{get_or-append}
 use Rattle.std.proofs.lemmas.Bool.{and_parts, eq-eqb, eqb-true, ne_eqb}
-use Rattle.std.proofs.lemmas.List.{length-map, length-reverse, length-take-le, take-append-le}
+use Rattle.std.proofs.lemmas.List.{length-map, take-append-le}
 use Rattle.fux_pitch.specs.declared.pitch.Pitch.{Pitch}
 use Rattle.fux_grid.specs.declared.cell.Cell.{Cell}
 use Rattle.fux_grid.specs.declared.cell.Cell.TheVariants.{Rest, Hold, Start}
@@ -14,6 +14,7 @@ use Rattle.fux_grid.specs.Cells.{cell_follows, cell_in, first_of, is_hold, newes
 use Rattle.fux_grid.specs.Columns.{HistoryFollows, cell_at, earlier, line, newest_column}
 use Rattle.fux_grid.specs.Exercises.{IsValid, species_in}
 use Rattle.fux_grid.proofs.Histories.{get_or-earlier, line-more}
+use Rattle.rule_law.proofs.AroundLemmas.{length-earlier}
 use Rattle.rule_law.proofs.AtOnce.{among_own, newly_breaks-there}
 use Rattle.rule_law.specs.Degrees.{lies_above}
 use Rattle.rule_law.specs.Bars.{begins_bar}
@@ -21,9 +22,10 @@ use Rattle.rule_law.specs.Leading.{is_leading}
 use Rattle.rule_law.specs.Nearby.{LineFollows, line_follows}
 use Rattle.rule_law.specs.Places.{reading_of}
 use Rattle.rule_law.specs.Rulebooks.{IsAmong, newly_breaks}
+use Rattle.rule_law.specs.Sounding.{sounding_note}
 use Rattle.rule_law.specs.Terms.{note_pitch, sounds, started_pitch}
 use Rattle.rhythm_cadence.specs.Book.{cadence_rule}
-use Rattle.rhythm_cadence.specs.Cadence.{cadence_row, ends_well, has_suspension, held_pitch, holds_suspension, is_lead, leading_slot, leads_to, shows_cadence, sounding_note, starts_final}
+use Rattle.rhythm_cadence.specs.Cadence.{cadence_row, ends_well, has_suspension, held_pitch, holds_suspension, is_lead, leading_slot, leads_to, shows_cadence, starts_final}
 use Rattle.rhythm_cadence.specs.BarCells.{bar_behind}
 use Rattle.rhythm_cadence.specs.Rows.{begins_last_bar}
 use Rattle.rhythm_cadence.proofs.EarlierFollows.{follows_earlier}
@@ -132,7 +134,7 @@ slot_bound species = at (species == 1) (species == 3)
 voice_same : (ex : Exercise) (i species : ℕ) (final : Option Pitch) (f x : Bool) (g : Option Pitch → Bool)
     (note : Option Note) (lead : Option Pitch)
     → lead ≡ pitch_from (i - 8 + leading_slot species) note
-    → ((f && leads_to ex i species final note) && (if x then g (note_pitch note) else true))
+    → ((f && leads_to ex (i - 8) species final note) && (if x then g (note_pitch note) else true))
     ≡ ((f && is_lead ex final lead) && (if x then g lead else true))
 voice_same ex i species final f x g None lead e = rw e (neither f)
   where
@@ -163,8 +165,7 @@ voice_same ex i species final f x g (Some note) lead e = at (note.start == (i - 
 module _ (ex : Exercise) (s : List (List Cell)) (i : ℕ) (follows : HistoryFollows (reverse s)) (far : 8 ≤ i)
     (here : i < length s) where
   size : length (earlier s i) ≡ i
-  unfolding earlier
-  size = length-reverse (take i s) ∙ length-take-le i s (omega (arith, here))
+  size = length-earlier s i (omega (arith, here))
 
   lead_found : (v species : ℕ)
       → held_pitch (7 - leading_slot species) (bar_behind s v i)

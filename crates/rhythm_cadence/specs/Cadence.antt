@@ -6,36 +6,32 @@ use Rattle.fux_grid.specs.declared.cell.Cell.{Cell}
 use Rattle.fux_grid.specs.declared.cell.Cell.TheVariants.{Rest}
 use Rattle.fux_grid.specs.declared.cell.Note.{Note}
 use Rattle.fux_grid.specs.declared.exercise.Exercise.{Exercise}
-use Rattle.fux_grid.specs.Cells.{cell_in, first_of, is_hold, notes_from, pitch_of}
-use Rattle.fux_grid.specs.Columns.{line, newest_column}
+use Rattle.fux_grid.specs.Cells.{cell_in, is_hold, pitch_of}
 use Rattle.fux_grid.specs.Exercises.{species_in}
 use Rattle.rule_law.specs.Degrees.{lies_above}
 use Rattle.rule_law.specs.Forms.{set_of_all}
 use Rattle.rule_law.specs.Leading.{is_leading}
 use Rattle.rule_law.specs.Places.{Row, at_once}
-use Rattle.rule_law.specs.Terms.{degrees_without_sign, holds_of, interval_in, note_pitch, sounds, started_pitch, starts}
+use Rattle.rule_law.specs.Bars.{bar_line_before}
+use Rattle.rule_law.specs.Sounding.{sounding_note}
+use Rattle.rule_law.specs.Terms.{degrees_without_sign, holds_of, interval_in, note_pitch, started_pitch, starts}
 use Rattle.rhythm_cadence.specs.Rows.{begins_last_bar, holds_of_pitch, is_final}
 
 -- the slot of the last bar but one on which the leading note starts, by the voice's species: the cantus has species 1
 abbrev pub leading_slot : ℕ → ℕ
 leading_slot species = if species == 1 then 0 else (if species == 3 then 6 else 4)
 
--- the note that a voice sounds in the newest of these columns
-abbrev pub sounding_note : ℕ → List (List Cell) → Option Note
-sounding_note v behind =
-    if sounds (cell_in (newest_column behind) v) then first_of (notes_from 0 (line v behind)) else None
-
 -- a final, with the mode's letter and no alteration, starts in the cell
 abbrev pub starts_final : Exercise → Cell → Bool
 starts_final ex c = starts c && holds_of_pitch (is_final ex) (pitch_of c)
 
--- the note is the leading note one degree below the final, and it started on its slot of the bar before column i
+-- the note is the leading note one degree below the final, and it started on its slot of the bar that begins at column `bar`
 abbrev pub leads_to : Exercise → ℕ → ℕ → Option Pitch → Option Note → Bool
-leads_to ex i species final None = false
-leads_to ex i species final (Some note) =
+leads_to ex bar species final None = false
+leads_to ex bar species final (Some note) =
     is_leading ex.mode note.pitch
     && lies_above 1 final (Some note.pitch)
-    && (note.start == (i - 8) + leading_slot species)
+    && (note.start == bar + leading_slot species)
 
 -- leaving octaves out, a voice lies a seventh above the cantus, or a second below it
 abbrev pub is_suspended : Exercise → List Cell → ℕ → Bool
@@ -52,15 +48,17 @@ holds_suspension ex col lead v =
 abbrev pub has_suspension : ℕ → Bool
 has_suspension species = (species == 4) || (species == 5)
 
--- a voice shows its cadence at column i, the beginning of the last bar: it starts the final there, its leading note leads
--- to it, and in species 4 and 5 the bar before began with a suspension
+-- a voice shows its cadence at column i, the beginning of the last bar, after the bar that begins at column `bar`: it starts the final
+-- there, its leading note leads to it from that bar, and in species 4 and 5 that bar began with a suspension
 abbrev pub shows_cadence : Exercise → ℕ → List (List Cell) → List Cell → ℕ → Bool
 shows_cadence ex i behind now v =
+    let bar = i - 8 in
+    let species = species_in ex v in
+    let final = pitch_of (cell_in now v) in
+    let note = sounding_note v behind in
     starts_final ex (cell_in now v)
-    && leads_to ex i (species_in ex v) (pitch_of (cell_in now v)) (sounding_note v behind)
-    && (if has_suspension (species_in ex v)
-    then holds_suspension ex (slice_index_or behind 7 []) (note_pitch (sounding_note v behind)) v
-    else true)
+    && leads_to ex bar species final note
+    && (if has_suspension species then holds_suspension ex (bar_line_before behind) (note_pitch note) v else true)
 
 -- at the beginning of the last bar no voice, the cantus among them, shows its cadence
 abbrev pub lacks_cadence : Exercise → ℕ → List (List Cell) → List Cell → Bool

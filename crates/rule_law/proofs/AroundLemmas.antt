@@ -27,6 +27,11 @@ pub newest-first : (behind : List (List Cell)) → newest_column behind ≡ slic
 newest-first [] = refl
 newest-first (col ∷ behind) = refl
 
+-- so many columns are before column i
+pub length-earlier : (s : List (List Cell)) (i : ℕ) → i ≤ length s → length (earlier s i) ≡ i
+unfolding earlier
+length-earlier s i here = length-reverse (take i s) ∙ length-take-le i s here
+
 -- the newest of the first columns is the one before the next
 pub newest-earlier : (s : List (List Cell)) (i : ℕ) → 0 < i → i ≤ length s
     → newest_column (earlier s i) ≡ slice_index_or s (i - 1) []
@@ -80,10 +85,6 @@ module _ (ex : Exercise) (p : List (List Cell)) (col : List Cell) (on : GoesOn e
         ∙ append_assoc (take i p) (drop i p) (col ∷ [])) ∙ reverse-append (take i p) (drop i p ++ col ∷ []))
         on.longer.follows)
 
-    count_before : length (earlier p i) ≡ i
-    unfolding earlier
-    count_before = length-reverse (take i p) ∙ length-take-le i p here
-
     width : (j : ℕ) → j < length p → length (slice_index_or p j []) ≡ ex.voices
     width j there =
         ap length (sym (get_or-append p (col ∷ []) [] j there))
@@ -92,7 +93,7 @@ module _ (ex : Exercise) (p : List (List Cell)) (col : List Cell) (on : GoesOn e
     rests_beyond : (v : ℕ) → ex.voices ≤ v → (k : ℕ) → k < length (earlier p i)
         → cell_in (slice_index_or (earlier p i) k []) v ≡ Rest
     rests_beyond v beyond k there =
-        let within : k < i = omega (arith, there, count_before) in
+        let within : k < i = omega (arith, there, length-earlier p i here) in
         ap (λ c. cell_in c v) (get_or-earlier p i k within here)
         ∙ get_or_past (slice_index_or p (i - 1 - k) []) v Rest
         (omega (arith, width (i - 1 - k) (omega (arith, within, here)), beyond))

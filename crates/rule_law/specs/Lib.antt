@@ -18,6 +18,7 @@ pub mod Places
 pub mod Prefixes
 pub mod Quiet
 pub mod Rulebooks
+pub mod Sounding
 pub mod Terms
 pub mod Voices
 pub mod Ways
