@@ -1,26 +1,80 @@
--- S18 is read in two parts: two voices arrive, and the notes of the species voice between stay near.
-use Rattle.std.specs.Prelude.{◌≡◌, ℕ, Bool, false, ◌&&◌, nat_lt, List, [], Option, Some, None, slice_index_or, refl}
-use Rattle.std.proofs.Common.{ap, sym, ◌∙◌}
-use Rattle.std.proofs.Math.Bool.{and_assoc}
+-- Where S18 may be broken (`within_a_bar`, `elsewhere`), and that it is settled at its own column (`newly_bare`).
+use Rattle.std.specs.Prelude.{◌≡◌, ℕ, ◌==◌, Bool, true, false, ◌&&◌, ◌||◌, nat_le, List, [], ◌∷◌, ◌++◌, IsTrue, length, if◌then◌else◌, refl}
+use Rattle.std.proofs.Common.{ap}
+use Rattle.std.proofs.lemmas.Bool.{and_right}
 use Rattle.fux_grid.specs.declared.cell.Cell.{Cell}
 use Rattle.fux_grid.specs.declared.exercise.Exercise.{Exercise}
-use Rattle.rule_law.specs.Voices.{holds_of_pair, on_pair, pair_of}
-use Rattle.motion_rules.specs.Afterbeats.{afterbeat_row, arrive_at_bar, stays_since_bar}
+use Rattle.rule_law.proofs.AtOnce.{among_own, newly_breaks-there}
+use Rattle.rule_law.specs.Bars.{bar_line_before, begins_bar}
+use Rattle.rule_law.specs.Places.{reading_of}
+use Rattle.rule_law.specs.Quiet.{on_pair-none}
+use Rattle.rule_law.specs.Rulebooks.{IsAmong, RuleRow, newly_breaks}
+use Rattle.motion_rules.specs.Afterbeats.{afterbeat_row, arrive_in_parallel, goes_within_bars, moves_within_bars, stays_since_bar}
+use Rattle.motion_rules.specs.Book.{at_once_row, is_late, late_row, may_be_bare, rule_row}
 
--- a test of two voices, and a fact that doesn't depend on them
-on_pair-and : (ex : Exercise) (test : ℕ → ℕ → Bool) (also : Bool) (voices : ℕ)
-    → on_pair ex (λ v w. test v w && also) voices ≡ (on_pair ex test voices && also)
-on_pair-and ex test also voices = at (pair_of voices)
+-- within a bar S18 isn't broken
+pub within_a_bar : (ex : Exercise) (voices i : ℕ) (behind : List (List Cell)) (now : List Cell)
+    → begins_bar i ≡ false → afterbeat_row ex voices i behind now [] ≡ false
+within_a_bar ex voices i behind now within =
+    on_pair-none ex _ voices
+    (λ v w. ap (λ b. (b && nat_le 8 i && arrive_in_parallel (bar_line_before behind) now v w)
+    && stays_since_bar ex behind v && stays_since_bar ex behind w)
+    (and_right (goes_within_bars ex v || goes_within_bars ex w) (begins_bar i) within))
+
+-- no voice goes on within bars but in the species of the exercise
+goes_only : (ex : Exercise) (v : ℕ) → moves_within_bars ex.species ≡ false → goes_within_bars ex v ≡ false
+goes_only ex v h = at (v == ex.species_voice)
   where
-    at : (pair : Option (ℕ × ℕ)) → holds_of_pair ex (λ v w. test v w && also) pair
-        ≡ (holds_of_pair ex test pair && also)
-    at None = refl
-    at (Some pair) = sym (and_assoc (nat_lt pair.1 ex.voices) (test pair.0 pair.1) also)
+    at : (b : Bool) → moves_within_bars (if b then ex.species else 1) ≡ false
+    at true = h
+    at false = refl
 
-module _ (ex : Exercise) (voices i : ℕ) (behind : List (List Cell)) (now : List Cell) (ahead : List (List Cell)) where
-  pub kept_if_apart : on_pair ex (arrive_at_bar ex i (slice_index_or behind 7 []) now) voices ≡ false
-      → afterbeat_row ex voices i behind now ahead ≡ false
-  kept_if_apart e =
-      on_pair-and ex (arrive_at_bar ex i (slice_index_or behind 7 []) now) (stays_since_bar behind ex.species_voice)
-      voices
-      ∙ ap (λ b. b && stays_since_bar behind ex.species_voice) e
+-- where it may not be broken, no two voices break it
+pub elsewhere : (ex : Exercise) (voices i : ℕ) (behind : List (List Cell)) (now : List Cell)
+    → may_be_bare ex i ≡ false → afterbeat_row ex voices i behind now [] ≡ false
+elsewhere ex voices i behind now none =
+    on_pair-none ex _ voices
+    (λ v w. ap (λ b. b && stays_since_bar ex behind v && stays_since_bar ex behind w)
+    (at (moves_within_bars ex.species) (begins_bar i) (nat_le 8 i) (goes_within_bars ex v) (goes_within_bars ex w)
+    (arrive_in_parallel (bar_line_before behind) now v w) none (goes_only ex v) (goes_only ex w)))
+  where
+    at : (a b c g h y : Bool) → (a && b && c) ≡ false → (a ≡ false → g ≡ false) → (a ≡ false → h ≡ false)
+        → ((g || h) && b && c && y) ≡ false
+    at false b c true h y e f k = cc' (f refl)
+      where
+        cc' : true ≡ false → ((true || h) && b && c && y) ≡ false
+        cc' e = cc
+    at false b c false true y e f k = cc' (k refl)
+      where
+        cc' : true ≡ false → ((false || true) && b && c && y) ≡ false
+        cc' e = cc
+    at false b c false false y e f k = refl
+    at true true true g h y e f k = cc
+    at true true false true h y e f k = refl
+    at true true false false true y e f k = refl
+    at true true false false false y e f k = refl
+    at true false c true h y e f k = refl
+    at true false c false true y e f k = refl
+    at true false c false false y e f k = refl
+
+-- at a place that the newest column may settle: it is the newest column, and what is newly settled there is S18
+module _ (rule : ℕ) (ex : Exercise) (voices : ℕ) (p : List (List Cell)) (col : List Cell) (place : ℕ) where
+  abbrev IsBareAt : RuleRow → Type 0
+  IsBareAt it =
+      (place ≡ length p)
+      × (newly_breaks it ex voices p col place ≡ reading_of (afterbeat_row ex voices) (p ++ col ∷ []) place)
+
+  abbrev row : Bool → RuleRow
+  row b = if b then late_row rule else at_once_row rule
+
+  pub newly_bare : IsTrue (rule_row rule).late
+      → IsAmong ((rule_row rule).first ex (length p)) ((rule_row rule).count ex (length p)) place
+      → IsBareAt (rule_row rule)
+  newly_bare = at (is_late rule)
+    where
+      at : (b : Bool) → IsTrue (row b).late → IsAmong ((row b).first ex (length p)) ((row b).count ex (length p)) place
+          → IsBareAt (row b)
+      at true h among =
+          let own : place ≡ length p = among_own (may_be_bare ex (length p)) place (length p) among in
+          (own, newly_breaks-there (late_row rule) ex voices (λ i behind now ahead. refl) p col place own)
+      at false h among = cc

@@ -1,21 +1,21 @@
 -- The rules and tolls of motion keep the laws of a crate's book.
-use Rattle.std.specs.Prelude.{◌≡◌, ℕ, ◌==◌, Bool, true, false, ◌&&◌, nat_le, List, [], length, reverse, if◌then◌else◌, refl}
+use Rattle.std.specs.Prelude.{◌≡◌, ℕ, ◌==◌, Bool, true, false, nat_le, List, [], length, reverse, if◌then◌else◌, refl}
 use Rattle.std.proofs.Common.{arith}
 use Rattle.fux_grid.specs.declared.cell.Cell.{Cell}
 use Rattle.fux_grid.specs.declared.exercise.Exercise.{Exercise}
 use Rattle.fux_grid.specs.Columns.{newest_column}
 use Rattle.rule_law.proofs.AtOnce.{breaks_where_it_may, costs_where_it_may, own_within}
-use Rattle.rule_law.specs.Bars.{begins_bar}
 use Rattle.rule_law.specs.Forms.{IsOf, pair_form, pair_sets_of}
 use Rattle.rule_law.specs.Nearby.{previous_pitches, whole_of}
 use Rattle.rule_law.specs.Law.{at_once_settles, local_from_row}
 use Rattle.rule_law.specs.Pairs.{count_pairs}
-use Rattle.rule_law.specs.Quiet.{is_quiet, on_pair-none}
+use Rattle.rule_law.specs.Quiet.{is_quiet}
 use Rattle.rule_law.specs.Rulebooks.{KeepsLaws, KeepsRuleLaws, KeepsTollLaws}
-use Rattle.motion_rules.specs.Afterbeats.{afterbeat_enough, afterbeat_row, has_species_voice, moves_within_bars}
+use Rattle.motion_rules.specs.Afterbeats.{afterbeat_enough, afterbeat_row}
 use Rattle.motion_rules.specs.InnerVoices.{inner_move_into_perfect}
 use Rattle.motion_rules.specs.Locality.{cost_is_local, cost_settles_at_end, inner_is_local, inner_settles_at_end}
-use Rattle.motion_rules.proofs.Quiet.{quiet_rows, quiet_runs, quiet_tolls, within_a_bar}
+use Rattle.motion_rules.proofs.AfterbeatLemmas.{elsewhere, within_a_bar}
+use Rattle.motion_rules.proofs.Quiet.{quiet_rows, quiet_runs, quiet_tolls}
 use Rattle.motion_rules.specs.Rows.{broken_in, cost_in, enough_after, imperfect_runs, toll_rows}
 use Rattle.motion_rules.specs.Book.{at_once_row, at_once_toll, book, is_late, is_late_toll, late_row, late_toll, may_be_bare, rule_row, toll_row}
 
@@ -36,21 +36,6 @@ toll_quiet n ex i behind now h = at (n == 14)
     at : (b : Bool) → (if b then imperfect_runs i behind now else whole_of (toll_rows n ex) i behind now []) ≡ 0
     at true = quiet_runs ex i now h behind
     at false = quiet_tolls ex i now h n (newest_column behind) (previous_pitches behind)
-
--- where S18 may not be broken, no two voices break it
-elsewhere : (ex : Exercise) (voices i : ℕ) (behind : List (List Cell)) (now : List Cell)
-    → may_be_bare ex i ≡ false → afterbeat_row ex voices i behind now [] ≡ false
-elsewhere ex voices i behind now none =
-    on_pair-none ex _ voices
-    (λ v w. at (moves_within_bars ex.species) (begins_bar i) (nat_le 8 i) (has_species_voice ex v w) _ _ none)
-  where
-    at : (a b c x y z : Bool) → (a && b && c) ≡ false → (a && x && b && c && y && z) ≡ false
-    at true true true x y z h = cc
-    at true true false true y z h = refl
-    at true true false false y z h = refl
-    at true false c true y z h = refl
-    at true false c false y z h = refl
-    at false b c x y z h = refl
 
 late_rules_keep : (n : ℕ) → KeepsRuleLaws (late_row n)
 late_rules_keep n = record {

@@ -1,42 +1,18 @@
--- What the newest column settles of the late rule and of the late toll: each is settled at once, at its own column.
+-- What the newest column settles of the late toll, which is settled at once, at its own column.
 use Rattle.std.specs.Prelude.{◌≡◌, ℕ, Bool, true, false, List, [], ◌∷◌, ◌++◌, IsTrue, length, nat_le, slice_index_or, if◌then◌else◌, refl}
 use Rattle.fux_grid.specs.declared.cell.Cell.{Cell}
 use Rattle.fux_grid.specs.declared.exercise.Exercise.{Exercise}
 use Rattle.fux_grid.specs.Columns.{earlier, newest_column}
-use Rattle.rule_law.proofs.AtOnce.{among_own, newly_breaks-there, newly_costs-there}
-use Rattle.rule_law.specs.Places.{reading_of}
-use Rattle.rule_law.specs.Rulebooks.{IsAmong, RuleRow, TollRow, newly_breaks, newly_costs}
-use Rattle.motion_rules.specs.Afterbeats.{afterbeat_row}
-use Rattle.motion_rules.specs.Book.{at_once_row, at_once_toll, is_late, is_late_toll, late_row, late_toll, may_be_bare, rule_row, toll_row}
+use Rattle.rule_law.proofs.AtOnce.{among_own, newly_costs-there}
+use Rattle.rule_law.specs.Rulebooks.{IsAmong, TollRow, newly_costs}
+use Rattle.motion_rules.specs.Book.{at_once_toll, is_late_toll, late_toll, toll_row}
 use Rattle.motion_rules.specs.InnerVoices.{inner_moves}
 
 -- what Q12 costs at a place of a list
 abbrev inner_cost : Exercise → List (List Cell) → ℕ → ℕ
 inner_cost ex s i = inner_moves ex (newest_column (earlier s i)) (slice_index_or s i [])
 
--- at a place that the newest column may settle: it is the newest column, and what is newly settled there is S18
-module _ (rule : ℕ) (ex : Exercise) (voices : ℕ) (p : List (List Cell)) (col : List Cell) (place : ℕ) where
-  abbrev IsBareAt : RuleRow → Type 0
-  IsBareAt it =
-      (place ≡ length p)
-      × (newly_breaks it ex voices p col place ≡ reading_of (afterbeat_row ex voices) (p ++ col ∷ []) place)
-
-  abbrev row : Bool → RuleRow
-  row b = if b then late_row rule else at_once_row rule
-
-  pub newly_bare : IsTrue (rule_row rule).late
-      → IsAmong ((rule_row rule).first ex (length p)) ((rule_row rule).count ex (length p)) place
-      → IsBareAt (rule_row rule)
-  newly_bare = at (is_late rule)
-    where
-      at : (b : Bool) → IsTrue (row b).late → IsAmong ((row b).first ex (length p)) ((row b).count ex (length p)) place
-          → IsBareAt (row b)
-      at true h among =
-          let own : place ≡ length p = among_own (may_be_bare ex (length p)) place (length p) among in
-          (own, newly_breaks-there (late_row rule) ex voices (λ i behind now ahead. refl) p col place own)
-      at false h among = cc
-
--- the same of Q12
+-- at a place that the newest column may settle: it is the newest column, and what is newly settled there is Q12
 module _ (toll : ℕ) (ex : Exercise) (p : List (List Cell)) (col : List Cell) (place : ℕ) where
   abbrev IsInnerAt : TollRow → Type 0
   IsInnerAt it = (place ≡ length p) × (newly_costs it ex p col place ≡ inner_cost ex (p ++ col ∷ []) place)

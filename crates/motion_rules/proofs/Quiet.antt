@@ -1,27 +1,16 @@
 -- At a quiet column no rule of motion is broken, and no toll of motion costs anything.
-use Rattle.std.specs.Prelude.{◌≡◌, ℕ, ◌==◌, true, false, ◌&&◌, List, [], nat_le, slice_index_or, if◌then◌else◌}
+use Rattle.std.specs.Prelude.{◌≡◌, ℕ, ◌==◌, true, false, ◌&&◌, List, nat_le, if◌then◌else◌}
 use Rattle.std.proofs.Common.{ap}
 use Rattle.std.proofs.lemmas.Bool.{and_right}
 use Rattle.fux_grid.specs.declared.cell.Cell.{Cell}
 use Rattle.fux_grid.specs.declared.exercise.Exercise.{Exercise}
 use Rattle.fux_grid.specs.Cells.{cell_in, pitch_of}
 use Rattle.fux_grid.specs.Exercises.{bar_of}
-use Rattle.rule_law.specs.Bars.{begins_bar}
 use Rattle.rule_law.specs.Nearby.{Pitches}
 use Rattle.rule_law.specs.Pairs.{count_pairs, move_alike, sound_perfect}
 use Rattle.rule_law.specs.Quiet.{is_quiet, quiet_alike, quiet_moves, quiet_pair, quiet_slot, count_pairs-none, either_none, on_pair-none}
 use Rattle.rule_law.specs.Terms.{equal_perfects, interval_in}
-use Rattle.motion_rules.specs.Afterbeats.{afterbeat_row, arrive_in_parallel, has_species_voice, moves_within_bars, stays_since_bar}
 use Rattle.motion_rules.specs.Rows.{are_outer, four_bar_lines, imperfect_runs, is_above, keep_on, near_rows, toll_rows}
-
--- within a bar S18 isn't broken
-pub within_a_bar : (ex : Exercise) (voices i : ℕ) (behind : List (List Cell)) (now : List Cell)
-    → begins_bar i ≡ false → afterbeat_row ex voices i behind now [] ≡ false
-within_a_bar ex voices i behind now within =
-    on_pair-none ex _ voices
-    (λ v w. ap (λ b. b && nat_le 8 i && arrive_in_parallel (slice_index_or behind 7 []) now v w
-    && stays_since_bar behind ex.species_voice)
-    (and_right (moves_within_bars ex.species && has_species_voice ex v w) (begins_bar i) within))
 
 module _ (ex : Exercise) (i : ℕ) (now : List Cell) (quiet : is_quiet i now ≡ true) where
   pub quiet_rows : (rule voices : ℕ) (before : List Cell) (previous : Pitches)

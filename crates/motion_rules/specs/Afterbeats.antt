@@ -1,12 +1,13 @@
 -- S18: equal perfect intervals at the beginnings of two bars in a row, with nothing between that hides them.
-use Rattle.std.specs.Prelude.{ℕ, ◌==◌, Bool, true, ◌&&◌, ◌||◌, nat_le, List, [], ◌∷◌, Option, Some, map, slice_index_or}
+use Rattle.std.specs.Prelude.{ℕ, ◌==◌, Bool, true, not, ◌&&◌, ◌||◌, nat_le, List, [], ◌∷◌, Option, Some, map, slice_index_or}
 use Rattle.std.specs.List.{list_all}
 use Rattle.fux_pitch.specs.declared.pitch.Pitch.{Pitch}
 use Rattle.fux_grid.specs.declared.cell.Cell.{Cell}
 use Rattle.fux_grid.specs.declared.cell.Cell.TheVariants.{Rest, Hold, Start}
 use Rattle.fux_grid.specs.declared.exercise.Exercise.{Exercise}
 use Rattle.fux_grid.specs.Cells.{cell_in, pitch_of}
-use Rattle.rule_law.specs.Bars.{begins_bar}
+use Rattle.fux_grid.specs.Exercises.{species_in}
+use Rattle.rule_law.specs.Bars.{bar_line_before, begins_bar}
 use Rattle.rule_law.specs.Places.{Row, at_once}
 use Rattle.rule_law.specs.Terms.{degrees_without_sign, differs, equal_perfects, holds_of, interval_in, interval_of_pitches}
 use Rattle.rule_law.specs.Voices.{on_pair}
@@ -15,9 +16,9 @@ use Rattle.rule_law.specs.Voices.{on_pair}
 abbrev pub moves_within_bars : ℕ → Bool
 moves_within_bars species = (species == 2) || (species == 3) || (species == 5)
 
--- one of the two is the species voice
-abbrev pub has_species_voice : Exercise → ℕ → ℕ → Bool
-has_species_voice ex v w = (v == ex.species_voice) || (w == ex.species_voice)
+-- a voice has such a species
+abbrev pub goes_within_bars : Exercise → ℕ → Bool
+goes_within_bars ex v = moves_within_bars (species_in ex v)
 
 -- a cell that starts a note starts one within two degrees of the pitch
 abbrev pub stays_near : Option Pitch → Cell → Bool
@@ -40,23 +41,25 @@ arrive_in_parallel before now v w =
     && differs (pitch_of (cell_in before v)) (pitch_of (cell_in now v))
     && differs (pitch_of (cell_in before w)) (pitch_of (cell_in now w))
 
--- in species 2, 3 or 5, at the beginning of a bar that isn't the first, two voices, one of them the species voice, have arrived so since
--- the beginning of the bar before
+-- at the beginning of a bar that isn't the first, two voices, of which one goes on within bars, have arrived so since the beginning of
+-- the bar before
 abbrev pub arrive_at_bar : Exercise → ℕ → List Cell → List Cell → ℕ → ℕ → Bool
 arrive_at_bar ex i bar_line now v w =
-    moves_within_bars ex.species && has_species_voice ex v w
+    (goes_within_bars ex v || goes_within_bars ex w)
     && begins_bar i && nat_le 8 i
     && arrive_in_parallel bar_line now v w
 
--- the notes that a voice starts since the beginning of the bar before stay near the pitch that it sounds there
-abbrev pub stays_since_bar : List (List Cell) → ℕ → Bool
-stays_since_bar behind v =
-    never_leaves (pitch_of (cell_in (slice_index_or behind 7 []) v)) (newest_cells behind v)
+-- the notes that a voice starts since the beginning of the bar before, if it goes on within bars, stay near the pitch that it sounds there
+abbrev pub stays_since_bar : Exercise → List (List Cell) → ℕ → Bool
+stays_since_bar ex behind v =
+    not (goes_within_bars ex v)
+    || never_leaves (pitch_of (cell_in (bar_line_before behind) v)) (newest_cells behind v)
 
--- S18: they have arrived so, and the species voice stays near
+-- S18: they have arrived so, and each that goes on within bars stays near
 abbrev pub is_bare_parallel : Exercise → ℕ → List (List Cell) → List Cell → ℕ → ℕ → Bool
 is_bare_parallel ex i behind now v w =
-    arrive_at_bar ex i (slice_index_or behind 7 []) now v w && stays_since_bar behind ex.species_voice
+    arrive_at_bar ex i (bar_line_before behind) now v w
+    && stays_since_bar ex behind v && stays_since_bar ex behind w
 
 abbrev pub afterbeat_row : Exercise → ℕ → Row Bool
 afterbeat_row ex voices i behind now ahead = on_pair ex (is_bare_parallel ex i behind now) voices

@@ -1,17 +1,18 @@
 //! S18: equal perfect intervals at the beginnings of two bars in a row, with nothing between that hides them.
 
-ghost use Rattle.std.specs.Prelude.{◌≡◌, ◌<◌, ◌≤◌, ◌-◌, ℕ, ◌&&◌, length};
+ghost use Rattle.std.specs.Prelude.{◌≡◌, ◌<◌, ◌≤◌, ◌-◌, ℕ, length};
 ghost use Rattle.fux_grid.specs.Cells.{cell_in, pitch_of};
-ghost use Rattle.fux_grid.specs.Columns.{Columns, cell_at, earlier};
-ghost use Rattle.rule_law.specs.Places.{reading_of};
+ghost use Rattle.fux_grid.specs.Columns.{Columns, earlier};
+ghost use Rattle.rule_law.specs.Places.{reading_back, reading_of};
 ghost use Rattle.rule_law.specs.Terms as terms;
-ghost use Rattle.rule_law.specs.Voices.{on_pair};
 ghost use Rattle.motion_rules.specs.Afterbeats as words;
 ghost use Rattle.motion_rules.specs.Afterbeats.{afterbeat_row};
 
-use fux_grid::{Cell, Exercise, VoiceSet, cell_of};
+use fux_grid::{Cell, Exercise, VoiceSet, cell_of, species_of};
 use fux_pitch::{Pitch, interval_of};
-use rule_law::{ColumnsAround, begins_bar, cells_behind, equal_perfects, interval_in, pair_of};
+use rule_law::{
+    ColumnsAround, begins_bar, cell_behind, cells_behind, equal_perfects, interval_in, pair_of,
+};
 
 /// Whether a cell that starts a note starts one within two degrees of the pitch.
 fn stays_near(p: Option<Pitch>, cell: Cell) -> bool
@@ -24,31 +25,20 @@ fn stays_near(p: Option<Pitch>, cell: Cell) -> bool
     }
 }
 
-/// The cell of the species voice in the column that stands k columns before the one before column `i`.
-#[inline]
-fn species_cell<C: ColumnsAround>(around: &C, ex: &Exercise, i: usize, k: usize) -> Cell
-    requires voices { ex.now.voices ≤ 4 }
-    requires near { k < 8 }
-    ensures { (s : Columns) (first : ℕ) → C.show around.now ex.now s first → first ≤ i - 8 → i ≤ length s →
-        result ≡ cell_at (earlier s i) ex.now.species_voice k }
-{
-    cell_of(cells_behind(around, ex, i, k), ex.species_voice as usize)
-}
-
-/// The cells of the species voice in the seven columns before column `i`, from the newest one on.
-fn species_cells<C: ColumnsAround>(around: &C, ex: &Exercise, i: usize) -> [Cell; 7]
+/// The cells of a voice in the seven columns before column `i`, from the newest one on.
+fn newest_cells<C: ColumnsAround>(around: &C, ex: &Exercise, i: usize, v: u8) -> [Cell; 7]
     requires { ex.now.voices ≤ 4 }
     ensures { (s : Columns) (first : ℕ) → C.show around.now ex.now s first → first ≤ i - 8 → i ≤ length s →
-        result ≡ words.newest_cells (earlier s i) ex.now.species_voice }
+        result ≡ words.newest_cells (earlier s i) v }
 {
     [
-        species_cell(around, ex, i, 0),
-        species_cell(around, ex, i, 1),
-        species_cell(around, ex, i, 2),
-        species_cell(around, ex, i, 3),
-        species_cell(around, ex, i, 4),
-        species_cell(around, ex, i, 5),
-        species_cell(around, ex, i, 6),
+        cell_behind(around, ex, v, i, 0),
+        cell_behind(around, ex, v, i, 1),
+        cell_behind(around, ex, v, i, 2),
+        cell_behind(around, ex, v, i, 3),
+        cell_behind(around, ex, v, i, 4),
+        cell_behind(around, ex, v, i, 5),
+        cell_behind(around, ex, v, i, 6),
     ]
 }
 
@@ -83,11 +73,11 @@ fn arrive_in_parallel(before: &[Cell], now: &[Cell], v: usize, w: usize) -> bool
         && differ(cell_of(before, w).pitch(), cell_of(now, w).pitch())
 }
 
-/// Whether the species is 2, 3 or 5, and one of two voices the species voice.
-fn speaks_of(ex: &Exercise, v: u8, w: u8) -> bool
-    ensures { result ≡ (words.moves_within_bars ex.now.species && words.has_species_voice ex.now v w) }
+/// Whether a voice has species 2, 3 or 5, and so goes on within bars.
+fn goes_within_bars(ex: &Exercise, v: u8) -> bool
+    ensures { result ≡ words.goes_within_bars ex.now v }
 {
-    matches!(ex.species, 2 | 3 | 5) && (v == ex.species_voice || w == ex.species_voice)
+    matches!(species_of(ex, v), 2 | 3 | 5)
 }
 
 /// Whether at column `i`, whose cells are `now`, two voices have arrived so since `bar_line`, the column at the beginning of the bar
@@ -95,7 +85,7 @@ fn speaks_of(ex: &Exercise, v: u8, w: u8) -> bool
 fn arrive_at_bar(ex: &Exercise, i: usize, bar_line: &[Cell], now: &[Cell], v: u8, w: u8) -> bool
     ensures { result ≡ words.arrive_at_bar ex.now i bar_line.now now.now v w }
 {
-    if !speaks_of(ex, v, w) {
+    if !goes_within_bars(ex, v) && !goes_within_bars(ex, w) {
         return false;
     }
     if !begins_bar(i) {
@@ -107,25 +97,42 @@ fn arrive_at_bar(ex: &Exercise, i: usize, bar_line: &[Cell], now: &[Cell], v: u8
     arrive_in_parallel(bar_line, now, v as usize, w as usize)
 }
 
-/// Whether the two voices of a set have.
-fn two_arrive_at_bar(
-    ex: &Exercise,
-    voices: VoiceSet,
-    i: usize,
-    bar_line: &[Cell],
-    now: &[Cell],
-) -> bool
-    ensures { result ≡ on_pair ex.now (words.arrive_at_bar ex.now i bar_line.now now.now) voices.bits }
+/// Whether a voice, if it goes on within bars, stays near the pitch that it sounds at the beginning of the bar before.
+fn stays_since_bar<C: ColumnsAround>(around: &C, ex: &Exercise, i: usize, v: u8) -> bool
+    requires { ex.now.voices ≤ 4 }
+    ensures { (s : Columns) (first : ℕ) → C.show around.now ex.now s first → first ≤ i - 8 → i ≤ length s →
+        result ≡ words.stays_since_bar ex.now (earlier s i) v }
 {
-    let Some((v, w)) = pair_of(voices) else {
-        return false;
-    };
-    w < ex.voices && arrive_at_bar(ex, i, bar_line, now, v, w)
+    if !goes_within_bars(ex, v) {
+        return true;
+    }
+    never_leaves(
+        cells_behind(around, ex, i, 7),
+        v as usize,
+        &newest_cells(around, ex, i, v),
+    )
 }
 
-/// S18: whether at the beginning of a bar that isn't the first, the species voice, in species 2, 3 or 5, and another voice sound a
-/// perfect interval equal to that at the beginning of the bar before, each with another pitch than there, while each note between of
-/// the species voice stays within two degrees of its pitch there. The nine columns up to column `i` are read.
+/// S18 of two voices.
+fn is_bare_parallel<C: ColumnsAround>(around: &C, ex: &Exercise, i: usize, v: u8, w: u8) -> bool
+    requires { ex.now.voices ≤ 4 }
+    ensures { (s : Columns) (first : ℕ) → C.show around.now ex.now s first → first ≤ i - 8 → i < length s →
+        result ≡ reading_back (words.is_bare_parallel ex.now) s i v w }
+{
+    arrive_at_bar(
+        ex,
+        i,
+        cells_behind(around, ex, i, 7),
+        around.cells(ex, i),
+        v,
+        w,
+    ) && stays_since_bar(around, ex, i, v)
+        && stays_since_bar(around, ex, i, w)
+}
+
+/// S18: whether at the beginning of a bar that isn't the first, two voices, of which one is of species 2, 3 or 5, sound a perfect
+/// interval equal to that at the beginning of the bar before, each with another pitch than there, while each note between of a voice of
+/// such a species stays within two degrees of its pitch there. The nine columns up to column `i` are read.
 pub fn breaks_afterbeat<C: ColumnsAround>(
     around: &C,
     ex: &Exercise,
@@ -136,13 +143,8 @@ pub fn breaks_afterbeat<C: ColumnsAround>(
     ensures { (s : Columns) (first : ℕ) → C.show around.now ex.now s first → first ≤ i - 8 → i < length s →
         result ≡ reading_of (afterbeat_row ex.now voices.bits) s i }
 {
-    let bar_line = cells_behind(around, ex, i, 7);
-    if !two_arrive_at_bar(ex, voices, i, bar_line, around.cells(ex, i)) {
+    let Some((v, w)) = pair_of(voices) else {
         return false;
-    }
-    never_leaves(
-        bar_line,
-        ex.species_voice as usize,
-        &species_cells(around, ex, i),
-    )
+    };
+    w < ex.voices && is_bare_parallel(around, ex, i, v, w)
 }

@@ -135,3 +135,13 @@ pub fn cell_around<C: ColumnsAround>(around: &C, ex: &Exercise, v: u8, i: usize)
 {
     cell_of(around.cells(ex, i), v as usize)
 }
+
+/// The cell of a voice there, in the column that stands k columns before the one before column `i`.
+#[inline]
+pub fn cell_behind<C: ColumnsAround>(around: &C, ex: &Exercise, v: u8, i: usize, k: usize) -> Cell
+    requires { ex.now.voices ≤ 4 }
+    ensures { (s : Columns) (first : ℕ) → C.show around.now ex.now s first → first ≤ i - 1 - k → i ≤ length s →
+        result ≡ cell_at (earlier s i) v k }
+{
+    cell_of(cells_behind(around, ex, i, k), v as usize)
+}

@@ -19,7 +19,7 @@ mod terms;
 mod toll;
 
 pub use after::{next_onset, note_within, onset_pitch};
-pub use around::{ColumnsAround, cell_around, cells_ahead, cells_behind};
+pub use around::{ColumnsAround, cell_around, cell_behind, cells_ahead, cells_behind};
 pub use bars::{begins_bar, begins_inner_bar, is_quiet};
 pub use both::Both;
 pub use degrees::lies_above;

@@ -2,7 +2,7 @@ use Rattle.std.specs.Prelude.{◌-◌, [], ◌∷◌, ◌++◌}
 use Rattle.std.proofs.Common.{sym, ◌∙◌, arith}
 use Rattle.std.proofs.lemmas.List.{length-append}
 use Rattle.rule_law.proofs.AroundLemmas.{kept_after}
-use Rattle.motion_rules.proofs.LateLemmas.{newly_bare}
+use Rattle.motion_rules.proofs.AfterbeatLemmas.{newly_bare}
 use Rattle.motion_rules.proofs.late.breaks_late.Goals as goal
 
 pub returns : goal.returns
