@@ -76,7 +76,24 @@ fn pop_least(waiting: &mut Waiting) -> Option<(u64, u32)>
     }
 }
 
-/// A front of the root alone, which waits. All its memory is taken here: 24 bytes for each unit of the budget.
+// So each unit of the budget takes 24 bytes.
+const _: () = prove!(size_of::<Link>() == 8 && size_of::<(Reverse<u64>, u32)>() == 16);
+
+/// The room of a front: a link and an entry that waits for each unit of the budget, and one entry for the root.
+fn room_for(alloc: Global, budget: u32) -> Result<(Vec<Link>, Waiting), Memory>
+    ensures links { IfOk result (λ room. vec_capacity room.0 ≡ budget) }
+    ensures waiting { IfOk result (λ room. heap_capacity room.1 ≡ budget + 1) }
+    ensures unlinked { IfOk result (λ room. room.0.items ≡ []) }
+    ensures empty { IfOk result (λ room. heap_items room.1 ≡ []) }
+    ensures heap { IfOk result (λ room. IsHeap entry_cmp (heap_items room.1)) }
+{
+    let most = budget as usize;
+    let links = Vec::with_capacity(alloc, most)?;
+    let waiting = BinaryHeap::with_capacity(alloc, most + 1)?;
+    Ok((links, waiting))
+}
+
+/// A front of the root alone, which waits. All its memory is taken here.
 fn start_front(alloc: Global, floor: u64, depth: usize, budget: u32) -> Result<Front, Memory>
     ensures links { IfOk result (λ front. front.links.items ≡ []) }
     ensures waiting { IfOk result (λ front.
@@ -86,10 +103,10 @@ fn start_front(alloc: Global, floor: u64, depth: usize, budget: u32) -> Result<F
     ensures long { IfOk result (λ front. length front.best_path.items ≡ depth) }
     ensures room { IfOk result (HasRoom budget) }
 {
-    let most = budget as usize;
+    let (links, waiting) = room_for(alloc, budget)?;
     let mut front = Front {
-        links: Vec::with_capacity(alloc, most)?,
-        waiting: BinaryHeap::with_capacity(alloc, most + 1)?,
+        links,
+        waiting,
         best: None,
         best_path: vec![in alloc; 0u16; depth]?,
     };

@@ -1,6 +1,7 @@
 //! Search of any tree for its first leaf of least value, under a budget of nodes.
 #![tactic(auto)]
 
+mod both;
 mod depth;
 mod front;
 mod links;
@@ -8,6 +9,7 @@ mod outcome;
 mod space;
 mod trail;
 
+pub use both::outcomes_agree;
 pub use depth::search_depth;
 pub use front::search_front;
 pub use outcome::Outcome;
