@@ -1,13 +1,12 @@
 //! Why a file is not what a command needs, and what is said of that.
 
 ghost use Rattle.std.specs.Prelude.{◌≡◌, ◌++◌, IfOk, OnOk, string_bytes};
-ghost use Rattle.fux_run.specs.Complaints.{byte_text, kind_word, midi_text, note_text, number_text, refusal_text, width_text};
+ghost use Rattle.fux_run.specs.Complaints.{kind_word, refusal_text, width_text};
 
 use fux_grid::Place;
 use fux_pitch::{Label, Memory};
 use fux_text::TextKind;
 use penalty_sheet::SheetFault;
-use smf_bytes::ByteFault;
 use smf_score::SmfFault;
 use std::alloc::Global;
 use std::fmt::Write;
@@ -62,10 +61,7 @@ fn put_refusal(text: &mut String, name: &str, refusal: &Refusal) -> Result<(), M
         Refusal::TooWide { place, count } => put_width(text, *place, *count),
         Refusal::LongCertificate => Ok(text.push_str("certificate too long")?),
         Refusal::Sheet { fault } => Ok(write!(text, "sheet: {fault}")?),
-        Refusal::Midi { fault } => {
-            text.push_str("midi: ")?;
-            put_midi_fault(text, *fault)
-        }
+        Refusal::Midi { fault } => Ok(write!(text, "midi: {fault}")?),
     }
 }
 
@@ -76,55 +72,6 @@ fn put_width(text: &mut String, place: Place, count: u64) -> Result<(), Memory>
     let bar = place.bar;
     let slot = place.slot;
     write!(text, "too wide: {count} columns at bar {bar} slot {slot}")?;
-    Ok(())
-}
-
-/// Appends what is said of a MIDI file that is no exercise.
-fn put_midi_fault(text: &mut String, fault: SmfFault) -> Result<(), Memory>
-    ensures { OnOk result (string_bytes text.new ≡ string_bytes text.old ++ midi_text fault) }
-{
-    match fault {
-        SmfFault::Bytes(fault) => put_byte_fault(text, fault),
-        SmfFault::Key { track, tick } => put_note(text, "key", track, tick),
-        SmfFault::ZeroNote { track, tick } => put_note(text, "zero note", track, tick),
-        SmfFault::Overlap { track, tick } => put_note(text, "overlap", track, tick),
-        SmfFault::VoiceCount { count } => put_number(text, "voice count", u64::from(count)),
-        SmfFault::Bars { count } => put_number(text, "bars", count),
-        SmfFault::NotWhole { bar } => put_number(text, "not whole in bar", u64::from(bar)),
-        SmfFault::Memory => Ok(text.push_str("out of memory")?),
-    }
-}
-
-/// Appends what is said of a note.
-fn put_note(text: &mut String, said: &str, track: u16, tick: u64) -> Result<(), Memory>
-    ensures { OnOk result (string_bytes text.new ≡ string_bytes text.old ++ note_text said.now track tick) }
-{
-    write!(text, "{said} at {track}:{tick}")?;
-    Ok(())
-}
-
-/// Appends what is said of a number.
-fn put_number(text: &mut String, said: &str, number: u64) -> Result<(), Memory>
-    ensures { OnOk result (string_bytes text.new ≡ string_bytes text.old ++ number_text said.now number) }
-{
-    write!(text, "{said} {number}")?;
-    Ok(())
-}
-
-/// Appends what is said of the bytes of a MIDI file.
-fn put_byte_fault(text: &mut String, fault: ByteFault) -> Result<(), Memory>
-    ensures { OnOk result (string_bytes text.new ≡ string_bytes text.old ++ byte_text fault) }
-{
-    match fault {
-        ByteFault::TooLong => write!(text, "too long")?,
-        ByteFault::Truncated { at } => write!(text, "truncated at {at}")?,
-        ByteFault::Chunk { at } => write!(text, "chunk at {at}")?,
-        ByteFault::LongNumber { at } => write!(text, "long number at {at}")?,
-        ByteFault::Status { at } => write!(text, "status at {at}")?,
-        ByteFault::Format2 => write!(text, "format 2")?,
-        ByteFault::Smpte => write!(text, "smpte")?,
-        ByteFault::NoEnd { at } => write!(text, "no end at {at}")?,
-    }
     Ok(())
 }
 

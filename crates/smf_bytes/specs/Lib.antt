@@ -1,4 +1,5 @@
 pub mod Chunks
 pub mod Events
+pub mod Faults
 pub mod Messages
 pub mod Numbers

@@ -1,5 +1,10 @@
 //! Why bytes are no Standard MIDI File.
 
+ghost use Rattle.std.specs.Prelude.{Some};
+ghost use Rattle.smf_bytes.specs.Faults.{fault_text};
+
+use std::fmt;
+
 /// The first fault of a file. An offset counts bytes from the beginning of the file.
 #[derive(Clone, Copy, Debug, PartialEq, Eq)]
 pub enum ByteFault {
@@ -19,4 +24,21 @@ pub enum ByteFault {
     Smpte,
     /// The chunk of a track ends here, and its last event was not the end of the track.
     NoEnd { at: usize },
+}
+
+impl fmt::Display for ByteFault {
+    ghost output = { λ fault. Some (fault_text fault) };
+
+    fn fmt<W: fmt::Write>(&self, f: &mut fmt::Formatter<W>) -> fmt::Result {
+        match self {
+            ByteFault::TooLong => f.write_str("too long"),
+            ByteFault::Truncated { at } => write!(f, "truncated at {at}"),
+            ByteFault::Chunk { at } => write!(f, "chunk at {at}"),
+            ByteFault::LongNumber { at } => write!(f, "long number at {at}"),
+            ByteFault::Status { at } => write!(f, "status at {at}"),
+            ByteFault::Format2 => f.write_str("format 2"),
+            ByteFault::Smpte => f.write_str("smpte"),
+            ByteFault::NoEnd { at } => write!(f, "no end at {at}"),
+        }
+    }
 }

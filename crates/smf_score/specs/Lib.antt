@@ -1,5 +1,6 @@
 pub mod Cantus
 pub mod Exercise
+pub mod FaultTexts
 pub mod Faults
 pub mod Heads
 pub mod Lines

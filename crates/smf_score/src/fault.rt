@@ -1,11 +1,13 @@
 //! Why a file is no exercise.
 
-ghost use Rattle.std.specs.Prelude.{◌≡◌};
+ghost use Rattle.std.specs.Prelude.{◌≡◌, Some};
+ghost use Rattle.smf_score.specs.FaultTexts.{fault_text};
 ghost use Rattle.smf_score.specs.declared.fault.SmfFault.TheVariants.{Bytes, Memory as NoMemory};
 
 use fux_pitch::Memory;
 use smf_bytes::ByteFault;
 use std::alloc::{AllocError, AllocFailed};
+use std::fmt;
 
 /// The first fault of a file that is read as an exercise. A note is named by its track, counted from 0, and the
 /// tick at which it starts.
@@ -27,6 +29,23 @@ pub enum SmfFault {
     NotWhole { bar: u8 },
     /// There was not enough memory.
     Memory,
+}
+
+impl fmt::Display for SmfFault {
+    ghost output = { λ fault. Some (fault_text fault) };
+
+    fn fmt<W: fmt::Write>(&self, f: &mut fmt::Formatter<W>) -> fmt::Result {
+        match self {
+            SmfFault::Bytes(fault) => write!(f, "{fault}"),
+            SmfFault::Key { track, tick } => write!(f, "key at {track}:{tick}"),
+            SmfFault::ZeroNote { track, tick } => write!(f, "zero note at {track}:{tick}"),
+            SmfFault::Overlap { track, tick } => write!(f, "overlap at {track}:{tick}"),
+            SmfFault::VoiceCount { count } => write!(f, "voice count {count}"),
+            SmfFault::Bars { count } => write!(f, "bars {count}"),
+            SmfFault::NotWhole { bar } => write!(f, "not whole in bar {bar}"),
+            SmfFault::Memory => f.write_str("out of memory"),
+        }
+    }
 }
 
 impl From<ByteFault> for SmfFault {
