@@ -1,9 +1,7 @@
 //! An exercise without a lawful setting: its certificate has one claim, that no chain goes to the end.
 
-use cert_check::Checker;
-use cert_reading::start;
+use cert_check::{Checker, Verdict, check_file, start, verdict_text};
 use cert_text::Accepted;
-use cert_verdict::{Verdict, check_file, verdict_text};
 use fux_port::MemShelf;
 use fux_text::read;
 use penalty_sheet::default_sheet;

@@ -11,11 +11,11 @@ use Rattle.cert_law.proofs.Valid.{unrefuted_holds}
 use Rattle.cert_law.specs.Claims.{IsTrueOf}
 use Rattle.cert_law.specs.Writer.{is_open}
 use Rattle.cert_check.specs.Checking.{Checking, IsFault, Refuses, Takes, TakesOf}
-use Rattle.cert_check.specs.Cases.{IsCase, Matter}
-use Rattle.cert_check.specs.Walks.{longer_from, owed_at, owed_by_walk}
-use Rattle.cert_check.specs.declared.judged.Judged.{Judged}
-use Rattle.cert_check.specs.declared.walk.Level.{Level}
-use Rattle.cert_check.specs.declared.walk.Walk.{Walk}
+use Rattle.cert_law.specs.Cases.{IsCase, Matter}
+use Rattle.cert_law.specs.Walks.{longer_from, owed_at, owed_by_walk}
+use Rattle.cert_law.specs.declared.judged.Judged.{Judged}
+use Rattle.cert_law.specs.declared.walk.Level.{Level}
+use Rattle.cert_law.specs.declared.walk.Walk.{Walk}
 use Rattle.fux_grid.specs.declared.cell.Cell.{Cell}
 use Rattle.fux_grid.specs.declared.exercise.Exercise.{Exercise}
 

@@ -1,8 +1,12 @@
-pub mod BreakLemmas
+pub mod AnswerLemmas
 pub mod CellTests
 pub mod CheckingLemmas
+pub mod FileLemmas
 pub mod HeadLemmas
-pub mod LevelLemmas
-pub mod NumberLemmas
+pub mod JudgingLemmas
+pub mod LineLemmas
+pub mod OneVerdict
+pub mod PieceLemmas
 pub mod RunLemmas
-pub mod TruthLemmas
+pub mod StartLemmas
+pub mod TextLemmas

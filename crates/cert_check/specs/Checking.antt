@@ -9,9 +9,9 @@ use Rattle.cert_text.specs.declared.answers.Why.TheVariants.{False, Over}
 use Rattle.cert_text.specs.declared.claim.Claim.{Claim}
 use Rattle.cert_law.specs.Certificates.{OwesRefuting, owed_by}
 use Rattle.cert_law.specs.Claims.{IsTrueOf}
-use Rattle.cert_check.specs.Cases.{HasTables, IsCase, Matter}
-use Rattle.cert_check.specs.Walks.{IsWalk, owed_by_walk}
-use Rattle.cert_check.specs.declared.walk.Walk.{Walk}
+use Rattle.cert_law.specs.Cases.{HasTables, IsCase, Matter}
+use Rattle.cert_law.specs.Walks.{IsWalk, owed_by_walk}
+use Rattle.cert_law.specs.declared.walk.Walk.{Walk}
 use Rattle.floor_tables.specs.Tables.{Task}
 use Rattle.fux_grid.specs.declared.cell.Cell.{Cell}
 use Rattle.fux_grid.specs.declared.exercise.Exercise.{Exercise}

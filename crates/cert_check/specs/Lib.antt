@@ -1,7 +1,8 @@
-pub mod Cases
+pub mod Answers
 pub mod Checking
+pub mod Judgments
 pub mod Opening
-pub mod Prefixes
+pub mod Readings
 pub mod Runs
-pub mod Truths
-pub mod Walks
+pub mod Starts
+pub mod Verdicts

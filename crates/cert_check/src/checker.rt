@@ -4,18 +4,15 @@ ghost use Rattle.std.specs.Prelude.{◌≡◌, ◌≢◌, ◌+◌, ◌^◌, ◌<
 ghost use Rattle.cert_text.specs.declared.answers.Refused.{Refused as ARefused};
 ghost use Rattle.cert_text.specs.declared.answers.Why.TheVariants as whys;
 ghost use Rattle.cert_law.specs.Certificates.{Holds, IsHeadSound};
-ghost use Rattle.cert_check.specs.Cases.{HasTables, IsCase};
+ghost use Rattle.cert_law.specs.Cases.{HasTables, IsCase};
 ghost use Rattle.cert_check.specs.Checking.{Refuses, Takes, accepted_of};
 ghost use Rattle.cert_check.specs.Opening.{TellsWhy};
 ghost use Rattle.cert_check.specs.Runs.{IsFedCertificate, IsFedNone, opened_for};
 ghost use Rattle.floor_tables.specs.Tables.{AreNarrow};
 ghost use Rattle.fux_grid.specs.Exercises.{IsValid};
 
-use crate::case::Case;
 use crate::head::is_sound;
-use crate::judged::Judged;
-use crate::truth::{is_open, is_true};
-use crate::walk::Walk;
+use cert_law::{Case, Judged, Walk, is_open, is_true};
 use cert_text::{Accepted, CertHead, Claim, Refused, Why};
 use floor_tables::{TableFault, Tables, fill_tables};
 use fux_grid::{Exercise, Place};
@@ -53,7 +50,7 @@ pub struct Checker<'a> {
 
 impl<'a> Model for Checker<'a> {
     ghost use Rattle.cert_check.specs.Checking.{Checking, IsChecking};
-    ghost use Rattle.cert_check.specs.Walks.{owed_by_walk};
+    ghost use Rattle.cert_law.specs.Walks.{owed_by_walk};
 
     ghost Value = { Checking };
 

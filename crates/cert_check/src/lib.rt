@@ -1,17 +1,25 @@
-//! The checker of certificates: it judges claims one by one, and knows nothing of the search.
+//! The checker of certificates: it judges claims one by one, reads a certificate's file in pieces, and tells what the file is found to
+//! be. It knows nothing of the search.
 #![tactic(auto)]
 
-mod case;
 mod checker;
+mod checking;
+mod fault;
+mod filling;
 mod head;
-mod judged;
-mod truth;
-mod walk;
+mod judging;
+mod reader;
+mod starting;
+mod text;
+mod verdict;
 
-pub use case::Case;
 pub use cert_text::{Accepted, Refused, Why};
 pub use checker::{Checker, OpenFault};
+pub use checking::{CheckFault, check_file};
+pub use fault::ReadFault;
 pub use head::is_sound;
-pub use judged::Judged;
-pub use truth::{is_no_better, is_open, is_setting};
-pub use walk::{Level, Walk};
+pub use judging::judge;
+pub use reader::Reader;
+pub use starting::start;
+pub use text::verdict_text;
+pub use verdict::Verdict;

@@ -1,5 +1,9 @@
+pub mod BreakLemmas
 pub mod FloorFacts
+pub mod LevelLemmas
+pub mod NumberLemmas
 pub mod Orders
 pub mod Prefixes
+pub mod TruthLemmas
 pub mod Valid
 pub mod WrittenClaims

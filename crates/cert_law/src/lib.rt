@@ -1,8 +1,16 @@
-//! What a certificate is, and what a valid one shows.
+//! What a certificate is, what a valid one shows, and what stands where among the prefixes that are owed.
 //!
 //! The writer and the checker of certificates both stand on this. It knows nothing of the search.
 #![tactic(auto)]
 
+mod case;
+mod judged;
 mod law;
+mod truth;
+mod walk;
 
+pub use case::Case;
+pub use judged::Judged;
 pub use law::{shown_by, written};
+pub use truth::{is_no_better, is_open, is_setting, is_true};
+pub use walk::{Level, Walk};

@@ -3,8 +3,8 @@
 use Rattle.std.proofs.Common.{◌≡◌, ◌⊎◌, inl, inr, ℕ, ◌+◌, ◌<◌, ◌≤◌, Bool, true, false, List, ◌++◌, IsTrue, length, ap, sym, ◌∙◌, arith, length-append, true≢false}
 use Rattle.std.specs.Prelude.{◌↔◌}
 use Rattle.std.proofs.lemmas.Bool.{cases_lt}
-use Rattle.cert_check.specs.Cases.{Matter}
-use Rattle.cert_check.specs.declared.walk.Walk.{Walk}
+use Rattle.cert_law.specs.Cases.{Matter}
+use Rattle.cert_law.specs.declared.walk.Walk.{Walk}
 use Rattle.cert_law.specs.Writer.{head_text, written_certificate}
 use Rattle.cert_writer.specs.Writing.{Begins, claim_lines, claims_to_come}
 

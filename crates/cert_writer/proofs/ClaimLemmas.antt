@@ -3,8 +3,8 @@ use Rattle.std.proofs.Common.{◌≡◌, ℕ, zero, suc, ◌+◌, ◌-◌, ◌<�
 use Rattle.std.specs.List.{flat_map}
 use Rattle.std.proofs.lemmas.Grind.{flat_map-append}
 use Rattle.std.proofs.lemmas.List.{length-append}
-use Rattle.cert_check.specs.Cases.{Matter}
-use Rattle.cert_check.specs.Walks.{longer_from}
+use Rattle.cert_law.specs.Cases.{Matter}
+use Rattle.cert_law.specs.Walks.{longer_from}
 use Rattle.cert_law.specs.Claims.{IsTrueOf, longer_prefixes, next_columns}
 use Rattle.cert_law.specs.Writer.{claims_from, first_claim, is_open}
 use Rattle.cert_text.specs.declared.answers.CertHead.{CertHead}

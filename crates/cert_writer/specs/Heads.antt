@@ -8,7 +8,7 @@ use Rattle.cert_text.specs.declared.answers.CertHead.TheVariants.{Best, Nothing}
 use Rattle.fux_grid.specs.declared.exercise.Exercise.{Exercise}
 use Rattle.fux_grid.specs.Grid.{Grid}
 use Rattle.fux_text.specs.Lines.{sing_text}
-use Rattle.penalty_sheet.specs.declared.sheet.Sheet.{Sheet}
+use Rattle.species_space.specs.Task.{Task}
 
 -- the head that says that the setting is the best one, or that none is lawful
 abbrev pub head_with : Option (Bor Grid × ℕ) → CertHead
@@ -20,6 +20,6 @@ abbrev pub line_if_free : Exercise → Grid → ℕ → List ℕ
 line_if_free ex score v =
     flat_map (λ w. sing_text w score.columns) (filter (λ w. not (w == ex.cantus_voice)) (v ∷ []))
 
--- the certificate that is written for it
-abbrev pub certificate_with : Exercise → Sheet → Option (Bor Grid × ℕ) → List ℕ
-certificate_with ex sheet best = written_certificate ex sheet (head_with best)
+-- the certificate of what a search of a space found: of the best setting with its penalty, or that there is none
+abbrev pub found_text : Task → Option (Bor Grid × ℕ) → List ℕ
+found_text space best = written_certificate space.exercise space.sheet (head_with best)

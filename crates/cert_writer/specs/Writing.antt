@@ -1,11 +1,11 @@
 -- What is still to be written of a certificate.
 use Rattle.std.specs.Prelude.{◌≡◌, ℕ, ◌-◌, List, [], ◌∷◌, Option, Some, None, length}
 use Rattle.std.specs.List.{flat_map}
-use Rattle.cert_check.specs.Cases.{HasTables, IsCase, Matter}
-use Rattle.cert_check.specs.Prefixes.{IsJudged}
-use Rattle.cert_check.specs.Walks.{IsWalk, owed_by_walk}
-use Rattle.cert_check.specs.declared.judged.Judged.{Judged}
-use Rattle.cert_check.specs.declared.walk.Walk.{Walk}
+use Rattle.cert_law.specs.Cases.{HasTables, IsCase, Matter}
+use Rattle.cert_law.specs.Prefixes.{IsJudged}
+use Rattle.cert_law.specs.Walks.{IsWalk, owed_by_walk}
+use Rattle.cert_law.specs.declared.judged.Judged.{Judged}
+use Rattle.cert_law.specs.declared.walk.Walk.{Walk}
 use Rattle.cert_law.specs.Certificates.{Holds}
 use Rattle.cert_law.specs.Writer.{claims_from, claims_of, first_claim}
 use Rattle.cert_text.specs.Lines.{claim_line}

@@ -1,11 +1,11 @@
 //! Where a writer begins.
 
 ghost use Rattle.std.specs.Prelude.{◌≡◌, IfOk, vec_capacity};
-ghost use Rattle.cert_check.specs.Cases.{Matter};
+ghost use Rattle.cert_law.specs.Cases.{Matter};
 ghost use Rattle.cert_writer.specs.Writing.{Begins};
 ghost use Rattle.fux_grid.specs.Exercises.{IsValid};
 
-use cert_check::{Judged, Walk};
+use cert_law::{Judged, Walk};
 use fux_grid::Exercise;
 use fux_pitch::Memory;
 use penalty_sheet::Sheet;

@@ -3,7 +3,8 @@
 ghost use Rattle.std.specs.Prelude.{◌≡◌, ◌<◌, ◌≤◌, Err, OnOk, length};
 ghost use Rattle.cert_law.specs.Writer.{written_certificate};
 ghost use Rattle.cert_writer.specs.Ends.{EndsUnwritten, FailsShort};
-ghost use Rattle.cert_writer.specs.Heads.{certificate_with, head_with};
+ghost use Rattle.cert_law.specs.Certificates.{Holds};
+ghost use Rattle.cert_writer.specs.Heads.{found_text, head_with};
 ghost use Rattle.cert_writer.specs.Writing.{IsTask};
 ghost use Rattle.fux_port.specs.Counts.{Rose};
 ghost use Rattle.fux_port.specs.Written.{appended};
@@ -12,12 +13,13 @@ use crate::begin::{begin, room_for_walk};
 use crate::copy::head_of;
 use crate::head::head_text;
 use crate::write::{is_within, write_parts};
-use cert_check::Case;
+use cert_law::Case;
 use cert_text::{CertHead, CertWrite};
 use floor_tables::Tables;
 use fux_grid::{Exercise, Score};
 use fux_port::Sink;
 use penalty_sheet::Sheet;
+use species_space::SpeciesSpace;
 use std::alloc::Global;
 
 /// Writes the certificate of a head that holds.
@@ -67,35 +69,37 @@ pub(crate) fn write_for_head<K: Sink>(
     }
 }
 
-/// Writes the certificate of the best setting with its penalty, or the one that says that no setting is lawful. Its length is counted
-/// before its first byte is written, and all memory is taken before that; then each prefix is judged once more, so that a certificate of
-/// any length takes no more memory than a short one.
-pub fn write_certificate<K: Sink>(
+/// Writes the certificate of the best setting with its penalty, or the one that says that no setting is lawful, by the tables that the
+/// space has. Its length is counted before its first byte is written, and all memory is taken before that; then each prefix is judged
+/// once more, so that a certificate of any length takes no more memory than a short one.
+pub fn certify<K: Sink>(
     alloc: Global,
-    ex: &Exercise,
-    sheet: &Sheet,
-    tables: &Tables<'_>,
+    space: &SpeciesSpace<'_>,
     best: Option<(&Score, u64)>,
     sink: &mut K,
 ) -> Result<(), CertWrite>
-    requires task { IsTask (record { exercise = ex.now; sheet = sheet.now; head = head_with best }) tables.now }
-    ensures ok { OnOk result (K.written sink.new
-        ≡ appended (K.written sink.old) (certificate_with ex.now sheet.now best.entry)) }
+    requires holds { Holds space.now.exercise space.now.sheet (head_with best) }
+    ensures ok { OnOk result (K.written sink.new ≡ appended (K.written sink.old) (found_text space.now best.entry)) }
 
     // A fault of writing is the sink's, and less than the certificate was written.
     ensures cause { result ≡ Err CertWrite.WriteFault → Rose (K.faults sink.old) (K.faults sink.new) }
-    ensures short { FailsShort (K.written sink.old) (K.written sink.new)
-        (certificate_with ex.now sheet.now best.entry) result }
+    ensures short { FailsShort (K.written sink.old) (K.written sink.new) (found_text space.now best.entry) result }
 
     // Nothing is written of a certificate that is too long, nor where there is not enough memory.
-    ensures too_long { result ≡ Err CertWrite.TooLong
-        → 1073741824 < length (certificate_with ex.now sheet.now best.entry) }
-    ensures fits { 1073741824 < length (certificate_with ex.now sheet.now best.entry) → EndsUnwritten result }
+    ensures too_long { result ≡ Err CertWrite.TooLong → 1073741824 < length (found_text space.now best.entry) }
+    ensures fits { 1073741824 < length (found_text space.now best.entry) → EndsUnwritten result }
     ensures unwritten { EndsUnwritten result → K.written sink.new ≡ K.written sink.old }
     ensures faults { K.faults sink.old ≤ K.faults sink.new }
 {
     let Ok(head) = head_of(alloc, best) else {
         return Err(CertWrite::Memory);
     };
-    write_for_head(alloc, ex, sheet, tables, &head, sink)
+    write_for_head(
+        alloc,
+        space.exercise(),
+        space.sheet(),
+        space.tables(),
+        &head,
+        sink,
+    )
 }

@@ -2,14 +2,14 @@
 
 ghost use Rattle.std.specs.Prelude.{◌≡◌, ◌≤◌, IfSome};
 ghost use Rattle.std.specs.List.{find};
-ghost use Rattle.cert_check.specs.Cases.{matter_of};
-ghost use Rattle.cert_check.specs.Prefixes.{IsSmall};
+ghost use Rattle.cert_law.specs.Cases.{matter_of};
+ghost use Rattle.cert_law.specs.Prefixes.{IsSmall};
 ghost use Rattle.cert_text.specs.Lines.{IsClaim};
 ghost use Rattle.cert_writer.specs.Writing.{IsFirstClaim};
 ghost use Rattle.fux_judge.specs.Rules.{rules_read};
 ghost use Rattle.rule_law.specs.Voices.{has_rule};
 
-use cert_check::{Case, Judged, is_no_better, is_setting};
+use cert_law::{Case, Judged, is_no_better, is_setting};
 use cert_text::Claim;
 use fux_judge::every_rule;
 use rule_law::RuleSet;

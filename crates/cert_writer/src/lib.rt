@@ -1,4 +1,5 @@
-//! The writer of certificates: for each prefix that is owed it writes the first claim that is true of it.
+//! The writer of certificates: for each prefix that is owed it writes the first claim that is true of it. It stands over the space of
+//! settings, whose tables it reads, and beside the checker.
 #![tactic(auto)]
 
 mod begin;
@@ -9,4 +10,4 @@ mod head;
 mod next;
 mod write;
 
-pub use certificate::write_certificate;
+pub use certificate::certify;

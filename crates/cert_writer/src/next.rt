@@ -1,13 +1,13 @@
 //! The claims that are still to come.
 
 ghost use Rattle.std.specs.Prelude.{◌≡◌, IfSome};
-ghost use Rattle.cert_check.specs.Cases.{matter_of};
-ghost use Rattle.cert_check.specs.Walks.{IsWalk};
+ghost use Rattle.cert_law.specs.Cases.{matter_of};
+ghost use Rattle.cert_law.specs.Walks.{IsWalk};
 ghost use Rattle.cert_text.specs.Lines.{IsClaim};
 ghost use Rattle.cert_writer.specs.Writing.{IsTask, claims_to_come, claims_with};
 
 use crate::first::first_claim;
-use cert_check::{Case, Walk, is_open};
+use cert_law::{Case, Walk, is_open};
 use cert_text::Claim;
 use floor_tables::Tables;
 

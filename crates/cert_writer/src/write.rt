@@ -1,8 +1,8 @@
 //! Writing the lines of claims.
 
 ghost use Rattle.std.specs.Prelude.{◌≡◌, ◌≤◌, ◌↔◌, ◌+◌, ◌++◌, IsTrue, OnErr, OnOk, length};
-ghost use Rattle.cert_check.specs.Cases.{matter_of};
-ghost use Rattle.cert_check.specs.Walks.{IsWalk};
+ghost use Rattle.cert_law.specs.Cases.{matter_of};
+ghost use Rattle.cert_law.specs.Walks.{IsWalk};
 ghost use Rattle.cert_writer.specs.Waiting.{Puts};
 ghost use Rattle.cert_writer.specs.Writing.{IsTask, lines_left};
 ghost use Rattle.fux_port.specs.Counts.{Rose};
@@ -10,7 +10,7 @@ ghost use Rattle.fux_port.specs.Written.{StopsShort, appended};
 
 use crate::next::next_claim;
 use arrayvec::ArrayString;
-use cert_check::{Case, Walk};
+use cert_law::{Case, Walk};
 use cert_text::write_claim;
 use floor_tables::Tables;
 use fux_port::{Failed, Sink, write_all};

@@ -62,7 +62,7 @@ fn put_certificate<K: Sink>(
     requires holds { Holds space.now.exercise space.now.sheet (head_with best) }
     ensures { WritesTo K.written K.faults (CertifiesFound space.now best.entry verdict) out.old out.new result }
 {
-    match species_space::certify(alloc, space, best, out) {
+    match cert_writer::certify(alloc, space, best, out) {
         Ok(()) => Ok(verdict),
         Err(CertWrite::WriteFault) => Err(Halt::Unwritable),
         Err(CertWrite::TooLong) => Err(Halt::Stopped(Stop::Refused(Refusal::LongCertificate))),

@@ -1,14 +1,14 @@
 //! The command `check`.
 
 ghost use Rattle.std.specs.Prelude.{◌≡◌, ◌<◌, ◌≤◌, IfErr, IfOk, OnOk};
-ghost use Rattle.cert_verdict.specs.declared.verdict.Verdict.{Verdict as AVerdict};
+ghost use Rattle.cert_check.specs.declared.verdict.Verdict.{Verdict as AVerdict};
 ghost use Rattle.fux_grid.specs.Exercises.{IsValid, bar_of, slot_of};
 ghost use Rattle.fux_run.specs.Checked.{ChecksOn, told, verdict_on};
 ghost use Rattle.fux_run.specs.Searched.{IsNarrow, RefusesWidth};
 
 use crate::refusal::Refusal;
 use crate::work::{Output, Stop, Unmade, Verdict};
-use cert_verdict::{CheckFault, check_file, verdict_text};
+use cert_check::{CheckFault, check_file, verdict_text};
 use fux_grid::{Exercise, Place, WIDEST, width};
 use fux_pitch::Memory;
 use fux_port::Shelf;
@@ -72,7 +72,7 @@ fn place_of(i: usize) -> Place
 }
 
 /// The line of a verdict, with what it says all in all.
-fn output_on(alloc: Global, verdict: cert_verdict::Verdict) -> Result<Output, Memory>
+fn output_on(alloc: Global, verdict: cert_check::Verdict) -> Result<Output, Memory>
     ensures { IfOk result (λ output. output ≡ told verdict) }
 {
     let text = verdict_text(alloc, verdict)?;
@@ -80,11 +80,11 @@ fn output_on(alloc: Global, verdict: cert_verdict::Verdict) -> Result<Output, Me
 }
 
 /// What a verdict on a certificate says all in all.
-fn verdict_on(verdict: cert_verdict::Verdict) -> Verdict
+fn verdict_on(verdict: cert_check::Verdict) -> Verdict
     ensures { result ≡ verdict_on verdict }
 {
     match verdict {
-        cert_verdict::Verdict::Accepted(_) => Verdict::Favorable,
-        cert_verdict::Verdict::Claim(_) | cert_verdict::Verdict::Text(_) => Verdict::Unfavorable,
+        cert_check::Verdict::Accepted(_) => Verdict::Favorable,
+        cert_check::Verdict::Claim(_) | cert_check::Verdict::Text(_) => Verdict::Unfavorable,
     }
 }

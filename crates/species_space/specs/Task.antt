@@ -1,14 +1,8 @@
 -- What a space keeps.
-use Rattle.std.specs.Prelude.{◌≡◌, ℕ, ◌<◌, ◌≤◌, ◌⊎◌, List, Option, Result, Err, All, length, slice_index_or}
-use Rattle.std.specs.Borrow.{Bor}
-use Rattle.cert_law.specs.Writer.{written_certificate}
-use Rattle.cert_text.specs.declared.answers.CertHead.{CertHead}
-use Rattle.cert_text.specs.declared.answers.CertWrite.{CertWrite}
-use Rattle.cert_text.specs.declared.answers.CertWrite.TheVariants.{TooLong, Memory}
-use Rattle.cert_writer.specs.Heads.{head_with}
+use Rattle.std.specs.Prelude.{◌≡◌, ℕ, ◌<◌, ◌≤◌, List, All, length, slice_index_or}
 use Rattle.fux_grid.specs.declared.exercise.Exercise.{Exercise}
 use Rattle.fux_grid.specs.Exercises.{IsValid, columns_in}
-use Rattle.fux_grid.specs.Grid.{Grid, items_of}
+use Rattle.fux_grid.specs.Grid.{items_of}
 use Rattle.fux_grid.specs.Menus.{menu_of}
 pub use Rattle.floor_tables.specs.Tables.{Task}
 use Rattle.species_space.specs.Blocks.{IsBlockMenu, SkipDead}
@@ -34,15 +28,3 @@ pub record IsReady (ex : Exercise) (menus : List BlockMenu) (numbers : List ℕ)
   pub valid : IsValid ex
   pub counted : length numbers ≡ columns_in ex
   pub kept : AreMenus ex menus numbers
-
--- the certificate of a head, of the exercise of a space by its sheet
-abbrev pub certificate_of : Task → CertHead → List ℕ
-certificate_of space head = written_certificate space.exercise space.sheet head
-
--- the certificate of the best setting with its penalty, or of none
-abbrev pub found_text : Task → Option (Bor Grid × ℕ) → List ℕ
-found_text space best = certificate_of space (head_with best)
-
--- the certificate is too long, or there is not enough memory
-abbrev pub IsUnwritten : {X : Type 0} → Result X CertWrite → Type 0
-IsUnwritten result = (result ≡ Err TooLong) ⊎ (result ≡ Err Memory)

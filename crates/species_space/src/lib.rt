@@ -2,14 +2,12 @@
 #![tactic(auto)]
 
 mod blocks;
-mod certificate;
 mod law;
 mod node;
 mod score;
 mod space;
 mod walk;
 
-pub use certificate::certify;
 pub use floor_tables::TableFault;
 pub use law::{has_floors, is_counterpoint};
 pub use node::Node;

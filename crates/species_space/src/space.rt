@@ -77,6 +77,29 @@ impl<'a> SpeciesSpace<'a> {
         })
     }
 
+    /// The exercise whose settings they are.
+    pub fn exercise(&self) -> &Exercise
+        ensures value { result.now ≡ self.now.exercise }
+        ensures valid { IsValid self.now.exercise }
+    {
+        self.exercise
+    }
+
+    /// The sheet by which they are weighed.
+    pub fn sheet(&self) -> &Sheet
+        ensures { result.now ≡ self.now.sheet }
+    {
+        self.sheet
+    }
+
+    /// The tables from which the floors are read.
+    pub fn tables(&self) -> &Tables<'a>
+        ensures value { result.now ≡ self.now }
+        ensures narrow { AreNarrow self.now.exercise }
+    {
+        &self.tables
+    }
+
     /// How many voices there are.
     pub(crate) fn voices(&self) -> u8
         ensures value { result ≡ self.now.exercise.voices }

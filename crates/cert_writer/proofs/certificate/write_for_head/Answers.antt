@@ -1,5 +1,5 @@
 use Rattle.std.proofs.Common.{◌++◌, ℕ, List, string_bytes, ap, ◌∙◌, subst, refl, arith}
-use Rattle.cert_check.specs.Cases.{Matter}
+use Rattle.cert_law.specs.Cases.{Matter}
 use Rattle.cert_writer.specs.Writing.{claim_lines, claims_to_come}
 use Rattle.cert_writer.proofs.Certificates.{whole_text, whole_too_long, whole_within}
 use Rattle.fux_port.specs.Written.{StopsShort, appended}

@@ -1,5 +1,5 @@
 use Rattle.std.proofs.Common.{◌≡◌, ◌+◌, None, ap, sym, ◌∙◌, if◌then◌else◌}
-use Rattle.cert_check.specs.Cases.{matter_of}
+use Rattle.cert_law.specs.Cases.{matter_of}
 use Rattle.cert_law.specs.Writer.{is_no_better, least_break}
 use Rattle.cert_text.specs.declared.claim.Claim.TheVariants.{Open, Floor}
 use Rattle.fux_judge.specs.Penalties.{paid}

@@ -1,10 +1,10 @@
 use Rattle.std.proofs.Common.{◌∷◌, ◌++◌, [], Option, reverse, if◌then◌else◌, ap, sym, ◌∙◌, subst}
 use Rattle.std.specs.Prelude.{IfSome}
 use Rattle.std.specs.List.{flat_map}
-use Rattle.cert_check.specs.Cases.{matter_of}
-use Rattle.cert_check.specs.Prefixes.{IsJudged}
-use Rattle.cert_check.specs.Walks.{longer_from, owed_at, owed_later, prefix_of}
-use Rattle.cert_check.specs.declared.judged.Judged.{Judged}
+use Rattle.cert_law.specs.Cases.{matter_of}
+use Rattle.cert_law.specs.Prefixes.{IsJudged}
+use Rattle.cert_law.specs.Walks.{longer_from, owed_at, owed_later, prefix_of}
+use Rattle.cert_law.specs.declared.judged.Judged.{Judged}
 use Rattle.cert_law.specs.Claims.{IsTrueOf}
 use Rattle.cert_law.proofs.FloorFacts.{floors_hold}
 use Rattle.cert_law.proofs.WrittenClaims.{first_claim_true}

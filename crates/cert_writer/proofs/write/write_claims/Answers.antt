@@ -1,6 +1,6 @@
 use Rattle.std.proofs.Common.{◌≡◌, ◌++◌, ℕ, List, ap, sym, ◌∙◌, subst, arith}
 use Rattle.std.proofs.lemmas.Result.{on_err_weaker}
-use Rattle.cert_check.specs.Cases.{matter_of}
+use Rattle.cert_law.specs.Cases.{matter_of}
 use Rattle.cert_writer.specs.Writing.{claim_lines, claims_to_come}
 use Rattle.cert_writer.proofs.Stands.{stands_put, stands_stop, with_err}
 use Rattle.fux_port.specs.Written.{StopsShort}

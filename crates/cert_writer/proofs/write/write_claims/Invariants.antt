@@ -1,6 +1,6 @@
 use Rattle.std.proofs.Common.{◌≤◌, length}
-use Rattle.cert_check.specs.Cases.{matter_of}
-use Rattle.cert_check.specs.Walks.{IsWalk}
+use Rattle.cert_law.specs.Cases.{matter_of}
+use Rattle.cert_law.specs.Walks.{IsWalk}
 use Rattle.cert_writer.specs.Writing.{claim_lines, claims_to_come}
 use Rattle.cert_writer.proofs.Stands.{Stands}
 use Rattle.cert_writer.proofs.write.write_claims.Given as goal

@@ -1,6 +1,6 @@
 use Rattle.std.proofs.Common.{◌≡◌, ℕ, List, Option, ap, ◌∙◌, subst}
 use Rattle.std.proofs.lemmas.Result.{on_err_weaker}
-use Rattle.cert_check.specs.Cases.{matter_of}
+use Rattle.cert_law.specs.Cases.{matter_of}
 use Rattle.cert_writer.specs.Writing.{claim_lines, claims_to_come}
 use Rattle.fux_port.specs.Written.{StopsShort, appended}
 use Rattle.fux_port.proofs.Pieces.{stops_after}

@@ -1,10 +1,10 @@
 use Rattle.std.proofs.Common.{◌≡◌, ◌+◌, ◌++◌, ◌∷◌, List, Option, reverse, ap, sym, ◌∙◌, subst, true≢false}
 use Rattle.std.specs.Prelude.{IfSome}
-use Rattle.cert_check.specs.Cases.{Matter}
+use Rattle.cert_law.specs.Cases.{Matter}
 use Rattle.cert_check.specs.Checking.{Checking}
-use Rattle.cert_check.specs.Prefixes.{IsJudged}
-use Rattle.cert_check.specs.Walks.{owed_at, owed_later, prefix_of}
-use Rattle.cert_check.specs.declared.judged.Judged.{Judged}
+use Rattle.cert_law.specs.Prefixes.{IsJudged}
+use Rattle.cert_law.specs.Walks.{owed_at, owed_later, prefix_of}
+use Rattle.cert_law.specs.declared.judged.Judged.{Judged}
 use Rattle.cert_check.proofs.CheckingLemmas.{owed-taken, refuses_seen, takes_seen}
 use Rattle.cert_law.specs.Certificates.{OwesRefuting}
 use Rattle.cert_law.proofs.FloorFacts.{floors_hold}

@@ -1,9 +1,9 @@
 use Rattle.std.proofs.Common.{ap, sym, ◌∙◌, subst, reverse}
-use Rattle.cert_check.specs.Cases.{Matter}
+use Rattle.cert_law.specs.Cases.{Matter}
 use Rattle.cert_check.specs.Checking.{Checking}
 use Rattle.cert_check.proofs.CheckingLemmas.{none_from, owes_next, shown}
 use Rattle.cert_check.proofs.RunLemmas.{are_certificate, are_no_certificate, some_none}
-use Rattle.cert_check.specs.Walks.{owed_at}
+use Rattle.cert_law.specs.Walks.{owed_at}
 use Rattle.cert_law.specs.Certificates.{Holds}
 use Rattle.cert_check.proofs.checker.Checker.finish.Goals as goal
 

@@ -1,8 +1,8 @@
 use Rattle.std.proofs.Common.{rules, List, Some, refl, sym, subst, reverse}
-use Rattle.cert_check.specs.Cases.{Matter}
-use Rattle.cert_check.specs.Prefixes.{IsJudged}
-use Rattle.cert_check.specs.Walks.{AreLevels, owed_at, prefix_of}
-use Rattle.cert_check.specs.declared.walk.Level.{Level}
+use Rattle.cert_law.specs.Cases.{Matter}
+use Rattle.cert_law.specs.Prefixes.{IsJudged}
+use Rattle.cert_law.specs.Walks.{AreLevels, owed_at, prefix_of}
+use Rattle.cert_law.specs.declared.walk.Level.{Level}
 use Rattle.cert_law.specs.Certificates.{OwesRefuting}
 use Rattle.cert_law.proofs.FloorFacts.{floors_hold}
 use Rattle.cert_law.proofs.Valid.{empty_owes}

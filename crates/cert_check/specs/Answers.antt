@@ -1,0 +1,50 @@
+-- What is answered of a certificate's file.
+use Rattle.std.specs.Prelude.{◌≡◌, ◌⊎◌, ℕ, List, Result, Ok, Err, ⊤}
+use Rattle.cert_check.specs.declared.checker.OpenFault.{OpenFault}
+use Rattle.cert_check.specs.declared.checker.OpenFault.TheVariants as opening
+use Rattle.cert_check.specs.declared.fault.ReadFault.{ReadFault}
+use Rattle.cert_check.specs.declared.fault.ReadFault.TheVariants as reading
+use Rattle.cert_check.specs.Readings.{Files, MayBe}
+use Rattle.cert_text.specs.declared.answers.CertFault.TheVariants.{CertHead as WrongHead, Memory as NoMemory}
+use Rattle.cert_text.specs.declared.answers.CertHead.{CertHead}
+use Rattle.cert_text.specs.HeadTexts.{TextStops}
+use Rattle.cert_check.specs.Judgments.{Finds, Shows}
+use Rattle.cert_check.specs.declared.checking.CheckFault.{CheckFault}
+use Rattle.cert_check.specs.declared.checking.CheckFault.TheVariants.{Unreadable, TooWide, Memory}
+use Rattle.cert_check.specs.declared.verdict.Verdict.{Verdict}
+use Rattle.cert_check.specs.declared.verdict.Verdict.TheVariants as verdict
+use Rattle.floor_tables.specs.Tables.{IsTooWide}
+use Rattle.fux_grid.specs.declared.exercise.Exercise.{Exercise}
+use Rattle.fux_port.specs.Files.{IsMissing}
+use Rattle.penalty_sheet.specs.declared.sheet.Sheet.{Sheet}
+
+-- what a verdict says of the file, by the head at its front; and that this head holds, where the file is accepted
+pub record FindsBehind (ex : Exercise) (sheet : Sheet) (files : Files) (name : List ℕ) (it : Verdict) : Type 0 where
+  pub head : CertHead
+  pub finds : Finds ex sheet head files name it
+  pub shown : Shows ex sheet head it
+
+-- how a file is answered: a verdict, of which one is that no head stands at its front; or why there is none
+abbrev pub Answers : Exercise → Sheet → Files → List ℕ → Type 0 → Result Verdict CheckFault → Type 0
+Answers ex sheet files name rose (Ok (verdict.Text (WrongHead at))) =
+    MayBe files name (λ bytes. TextStops ex bytes at)
+Answers ex sheet files name rose (Ok it) = FindsBehind ex sheet files name it
+Answers ex sheet files name rose (Err Unreadable) = rose ⊎ IsMissing files name
+Answers ex sheet files name rose (Err (TooWide place count)) = IsTooWide ex place count
+Answers ex sheet files name rose (Err Memory) = ⊤
+
+-- a verdict is that no head stands at the front
+abbrev pub IsHeadless : Verdict → Type 0
+IsHeadless it = (at : ℕ) × (it ≡ verdict.Text (WrongHead at))
+
+-- the answer where no head was read
+abbrev pub unstarted : ReadFault → Result Verdict CheckFault
+unstarted reading.Unreadable = Err Unreadable
+unstarted (reading.Text NoMemory) = Err Memory
+unstarted (reading.Text fault) = Ok (verdict.Text fault)
+
+-- the answer where the checker isn't opened
+abbrev pub unopened : OpenFault → Result Verdict CheckFault
+unopened (opening.TooWide place count) = Err (TooWide place count)
+unopened (opening.Refused refused) = Ok (verdict.Claim refused)
+unopened opening.Memory = Err Memory

@@ -1,0 +1,98 @@
+//! The file of a certificate, from its name to the verdict.
+
+ghost use Rattle.std.specs.Prelude.{◌≡◌, ◌≤◌, ◌⊎◌, Err, IfErr, IfOk};
+ghost use Rattle.cert_text.specs.declared.answers.CertHead.{CertHead as AHead};
+ghost use Rattle.cert_check.specs.Answers.{Answers, IsHeadless, unopened, unstarted};
+ghost use Rattle.cert_check.specs.Judgments.{AcceptsValid};
+ghost use Rattle.floor_tables.specs.Tables.{AreNarrow};
+ghost use Rattle.fux_grid.specs.Exercises.{IsValid};
+ghost use Rattle.fux_port.specs.Counts.{Rose};
+ghost use Rattle.fux_port.specs.Files.{IsMissing};
+
+use crate::checker::{Checker, OpenFault};
+use crate::fault::ReadFault;
+use crate::judging::judge;
+use crate::starting::start;
+use crate::verdict::Verdict;
+use cert_text::CertFault;
+use fux_grid::{Exercise, Place};
+use fux_port::{Failed, Shelf};
+use penalty_sheet::Sheet;
+use std::alloc::Global;
+use std::thread::Threads;
+
+/// Why a certificate's file gets no verdict.
+#[derive(Clone, Copy, Debug, PartialEq, Eq)]
+pub enum CheckFault {
+    /// A read failed, or no file has the name.
+    Unreadable,
+    /// A menu has more than 8,192 columns: the first such place, and how many it has.
+    TooWide { place: Place, count: u64 },
+    /// There was not enough memory.
+    Memory,
+}
+
+/// Judges the file of a certificate, read in pieces of at most 65,536 bytes. All memory is taken before the first claim is judged.
+pub fn check_file<R: Threads + Sync, F: Shelf>(
+    rt: &R,
+    alloc: Global,
+    ex: &Exercise,
+    sheet: &Sheet,
+    shelf: &mut F,
+    name: &str,
+) -> Result<Verdict, CheckFault>
+    requires valid { IsValid ex.now }
+    ensures answers { Answers ex.now sheet.now (F.files shelf.old) name.now
+        (Rose (F.faults shelf.old) (F.faults shelf.new)) result }
+
+    // Each valid certificate is accepted.
+    ensures accepts { IfOk result
+        (λ it. (head : AHead) → AcceptsValid ex.now sheet.now head (F.files shelf.old) name.now it) }
+
+    // Where there is no file of the name, there is no verdict.
+    ensures missing { IsMissing (F.files shelf.old) name.now
+        → (result ≡ Err CheckFault.Unreadable) ⊎ (result ≡ Err CheckFault.Memory) }
+
+    // A menu that is too wide keeps the claims from being judged, and nothing else is told to be too wide.
+    ensures narrow { AreNarrow ex.now
+        → IfErr result (λ fault. (fault ≡ CheckFault.Unreadable) ⊎ (fault ≡ CheckFault.Memory)) }
+    ensures wide { (AreNarrow ex.now → ⊥) → IfOk result IsHeadless }
+
+    ensures files { F.files shelf.new ≡ F.files shelf.old }
+    ensures faults { F.faults shelf.old ≤ F.faults shelf.new }
+{
+    let (head, mut reader) = match start(alloc, ex, shelf, name) {
+        Ok(started) => started,
+        Err(fault) => return not_started(fault),
+    };
+    let checker = match Checker::open(rt, alloc, ex, sheet, head) {
+        Ok(checker) => checker,
+        Err(fault) => return not_opened(fault),
+    };
+    match judge(shelf, name, &mut reader, checker) {
+        Ok(verdict) => Ok(verdict),
+        Err(Failed) => Err(CheckFault::Unreadable),
+    }
+}
+
+/// The answer where no head was read.
+fn not_started(fault: ReadFault) -> Result<Verdict, CheckFault>
+    ensures { result ≡ unstarted fault }
+{
+    match fault {
+        ReadFault::Unreadable => Err(CheckFault::Unreadable),
+        ReadFault::Text(CertFault::Memory) => Err(CheckFault::Memory),
+        ReadFault::Text(fault) => Ok(Verdict::Text(fault)),
+    }
+}
+
+/// The answer where the checker isn't opened behind a head.
+fn not_opened(fault: OpenFault) -> Result<Verdict, CheckFault>
+    ensures { result ≡ unopened fault }
+{
+    match fault {
+        OpenFault::TooWide { place, count } => Err(CheckFault::TooWide { place, count }),
+        OpenFault::Refused(refused) => Ok(Verdict::Claim(refused)),
+        OpenFault::Memory => Err(CheckFault::Memory),
+    }
+}

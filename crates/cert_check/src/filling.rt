@@ -1,0 +1,58 @@
+//! The first bytes of a file.
+
+ghost use Rattle.std.specs.Prelude.{◌≡◌, ◌≤◌, ◌<◌, ◌⊎◌, length, take, drop, IfOk, IsErr, OnErr};
+ghost use Rattle.std.specs.Io.{StartsWith};
+ghost use Rattle.fux_port.specs.Counts.{Rose};
+ghost use Rattle.fux_port.specs.Files.{IsMissing};
+ghost use Rattle.cert_check.specs.Readings.{IfThere};
+
+use fux_port::{Failed, Shelf};
+
+/// Reads bytes of a file from an offset on into the front of a buffer, in one read, and no more than are wanted.
+pub fn read_piece<F: Shelf>(
+    shelf: &mut F,
+    name: &str,
+    offset: u64,
+    buf: &mut [u8],
+    wanted: usize,
+) -> Result<usize, Failed>
+    requires { wanted ≤ length buf.old }
+    ensures long { length buf.new ≡ length buf.old }
+    ensures fits { IfOk result (λ count. count ≤ wanted) }
+    ensures placed { IfOk result (λ count. IfThere (F.files shelf.old) name.now (λ file.
+        StartsWith (drop offset file) (take count buf.new))) }
+    ensures end { IfOk result (λ count. count ≡ 0 → 0 < wanted
+        → IfThere (F.files shelf.old) name.now (λ file. length file ≤ offset)) }
+    ensures cause { OnErr result (Rose (F.faults shelf.old) (F.faults shelf.new)
+        ⊎ IsMissing (F.files shelf.old) name.now) }
+    ensures files { F.files shelf.new ≡ F.files shelf.old }
+    ensures faults { F.faults shelf.old ≤ F.faults shelf.new }
+{
+    shelf.read_at(name, offset, &mut buf[..wanted])
+}
+
+/// Reads the first bytes of a file into a buffer, as many as it has room for, or all of a shorter file, and answers how many.
+pub fn fill<F: Shelf>(shelf: &mut F, name: &str, buf: &mut [u8]) -> Result<usize, Failed>
+    ensures long { length buf.new ≡ length buf.old }
+    ensures fits { IfOk result (λ count. count ≤ length buf.old) }
+    ensures front { IfOk result (λ count. IfThere (F.files shelf.old) name.now (λ file.
+        take count buf.new ≡ take (length buf.old) file)) }
+
+    // A failed read is the shelf's fault, or the name is missing.
+    ensures cause { OnErr result (Rose (F.faults shelf.old) (F.faults shelf.new)
+        ⊎ IsMissing (F.files shelf.old) name.now) }
+    ensures missing { 0 < length buf.old → IsMissing (F.files shelf.old) name.now → IsErr result }
+
+    ensures files { F.files shelf.new ≡ F.files shelf.old }
+    ensures faults { F.faults shelf.old ≤ F.faults shelf.new }
+{
+    let mut done = 0;
+    while done < buf.len() {
+        let count = shelf.read_at(name, done as u64, &mut buf[done..])?;
+        if count == 0 {
+            return Ok(done);
+        }
+        done += count;
+    }
+    Ok(done)
+}

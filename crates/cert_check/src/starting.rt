@@ -1,0 +1,37 @@
+//! The head of a certificate's file.
+
+ghost use Rattle.std.specs.Prelude.{◌≡◌, ◌≤◌};
+ghost use Rattle.fux_grid.specs.Exercises.{IsValid};
+ghost use Rattle.fux_port.specs.Counts.{Rose};
+ghost use Rattle.fux_port.specs.Files.{IsMissing};
+ghost use Rattle.cert_check.specs.Starts.{IsUnread, Starts};
+
+use crate::fault::ReadFault;
+use crate::filling::fill;
+use crate::reader::{LONGEST_PIECE, Reader};
+use cert_text::{CertFault, CertHead, head};
+use fux_grid::Exercise;
+use fux_port::Shelf;
+use std::alloc::Global;
+
+/// The head of the certificate that a file is, and a reader of the claims behind it. It reads 65,536 bytes of the file, or all of a
+/// shorter one, and takes all the memory that reading wants.
+pub fn start<F: Shelf>(
+    alloc: Global,
+    ex: &Exercise,
+    shelf: &mut F,
+    name: &str,
+) -> Result<(CertHead, Reader), ReadFault>
+    requires { IsValid ex.now }
+    ensures starts { Starts ex.now (F.files shelf.old) name.now (Rose (F.faults shelf.old) (F.faults shelf.new)) result }
+    ensures missing { IsMissing (F.files shelf.old) name.now → IsUnread result }
+    ensures files { F.files shelf.new ≡ F.files shelf.old }
+    ensures faults { F.faults shelf.old ≤ F.faults shelf.new }
+{
+    let mut piece = vec![in alloc; 0u8; LONGEST_PIECE]?;
+    let count = fill(shelf, name, &mut piece)?;
+    match head(alloc, ex, &piece[..count]) {
+        Ok((head, used)) => Ok((head, Reader::new(piece, used, count))),
+        Err(fault) => Err(ReadFault::Text(fault)),
+    }
+}

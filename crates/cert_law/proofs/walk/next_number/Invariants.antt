@@ -1,0 +1,13 @@
+use Rattle.std.proofs.Common.{◌-◌, ◌≡◌, drop}
+use Rattle.std.specs.List.{filter}
+use Rattle.chain_sums.specs.Sums.{column_follows}
+use Rattle.fux_grid.specs.Menus.{menu_of}
+use Rattle.cert_law.proofs.walk.next_number.Given as goal
+
+abbrev pub invariant-loop-k : goal.invariant-loop-k
+invariant-loop-k l =
+    filter (column_follows l.before) (drop l.k (menu_of l.tables.exercise l.i))
+    ≡ filter (column_follows l.before) (drop l.from (menu_of l.tables.exercise l.i))
+
+abbrev pub decreases-loop-k : goal.decreases-loop-k
+decreases-loop-k l = l.width - l.k

@@ -1,4 +1,0 @@
-pub mod FileLemmas
-pub mod LineLemmas
-pub mod PieceLemmas
-pub mod StartLemmas

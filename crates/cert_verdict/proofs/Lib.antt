@@ -1,4 +1,0 @@
-pub mod AnswerLemmas
-pub mod JudgingLemmas
-pub mod OneVerdict
-pub mod TextLemmas
