@@ -1,4 +1,6 @@
+pub mod RowLemmas
 pub mod Parts
 pub mod LineParts
 pub mod Faulty
 pub mod Binds
+pub mod TableLemmas

@@ -1,0 +1,108 @@
+-- A line as a row of places, of which each may hang on the words before it: how it is read, which lines are right, and the
+-- first fault of one that isn't.
+use Rattle.std.specs.Prelude.{◌≡◌, ◌⊎◌, ℕ, List, [], ◌∷◌, Option, Some, None, Result, Ok, Err, if◌then◌else◌}
+use Rattle.std.specs.Option.{ok_or}
+use Rattle.text_lines.specs.declared.fault.TextKind.{TextKind}
+use Rattle.text_lines.specs.Faults.{Fault, ◌>>=◌}
+use Rattle.text_lines.specs.Numbers.{number_within}
+use Rattle.text_lines.specs.Reading.{done, fault_at, fault_beyond, fault_past, next, same_text}
+use Rattle.text_lines.specs.Words.{LineWords, PlacedWord, first_word}
+
+-- a place: the kind of the fault where its word is missing, and what a word says there, with what stands behind it, or the
+-- kind of its fault
+pub record Place (V : Type 0) : Type 0 where
+  pub missing : TextKind
+  pub says : LineWords → List ℕ → Result V TextKind
+
+-- words of any number: what each makes of the words before it, and what those before the line's end say
+pub record Run (S R : Type 0) : Type 0 where
+  pub word : S → List ℕ → Result S TextKind
+  pub end : S → Result R TextKind
+
+-- the places of a line: the end, where a word too many is of a kind; or a place, and those behind it by what it says; or a
+-- run of words, through the line's end
+pub data Row (R : Type 0) : Type 1 where
+  ends : TextKind → R → Row R
+  place : {V : Type 0} → Place V → (V → Row R) → Row R
+  runs : {S : Type 0} → Run S R → S → Row R
+
+-- ---- places
+
+-- the place of a word that names something
+abbrev pub named_place : {V : Type 0} → TextKind → TextKind → (List ℕ → Option V) → Place V
+named_place missing wrong named = record { missing = missing; says = λ behind text. ok_or (named text) wrong }
+
+-- the place of a number within bounds
+abbrev pub number_place : TextKind → ℕ → ℕ → Place ℕ
+number_place kind least most = named_place kind kind (number_within least most)
+
+-- the place of this word
+abbrev pub word_place : TextKind → List ℕ → Place (Unit {0})
+word_place kind word =
+    record { missing = kind; says = λ behind text. if same_text text word then Ok tt else Err kind }
+
+-- ---- reading
+
+abbrev pub told_at : {V : Type 0} → PlacedWord → Result V TextKind → Result V Fault
+told_at w (Ok x) = Ok x
+told_at w (Err kind) = Err (fault_at kind w)
+
+abbrev pub told_beyond : {V : Type 0} → LineWords → Result V TextKind → Result V Fault
+told_beyond at (Ok x) = Ok x
+told_beyond at (Err kind) = Err (fault_beyond kind at)
+
+unfoldable pub run_in : {S R : Type 0} → Run S R → S → LineWords → List PlacedWord → Result R Fault
+run_in m s at [] = told_beyond at (m.end s)
+run_in m s at (w ∷ ws) = told_at w (m.word s w.text) >>= λ t. run_in m t at ws
+
+unfoldable pub row_in : {R : Type 0} → Row R → LineWords → Result R Fault
+row_in (Row.ends extra x) at = done extra at >>= λ end. Ok x
+row_in (Row.place p more) at =
+    next p.missing at >>= λ w. told_at w.0 (p.says w.1 w.0.text) >>= λ x. row_in (more x) w.1
+row_in (Row.runs m s) at = run_in m s at at.words
+
+-- ---- without reading
+
+-- the next word is missing, and the fault is one past the line's last word; or it is refused, and the fault is at it
+pub data Lacks {V : Type 0} (p : Place V) (at : LineWords) (f : Fault) : Type 0 where
+  missing : first_word at ≡ None → f ≡ fault_past p.missing at → Lacks p at f
+  refused : (w : PlacedWord) (rest : LineWords) (kind : TextKind) → first_word at ≡ Some (w, rest)
+      → p.says rest w.text ≡ Err kind → f ≡ fault_at kind w → Lacks p at f
+
+-- the next word says this, and the rest of the line stands behind it
+pub record Stands {V : Type 0} (p : Place V) (x : V) (at rest : LineWords) : Type 0 where
+  pub word : PlacedWord
+  pub next : first_word at ≡ Some (word, rest)
+  pub right : p.says rest word.text ≡ Ok x
+
+-- a word is one too many, and the fault is at it
+pub record IsExtra (kind : TextKind) (at : LineWords) (f : Fault) : Type 0 where
+  pub word : PlacedWord
+  pub rest : LineWords
+  pub next : first_word at ≡ Some (word, rest)
+  pub fault : f ≡ fault_at kind word
+
+-- these words are right, each behind those before it, and say this
+abbrev pub IsRun : {S R : Type 0} → Run S R → S → List PlacedWord → R → Type 0
+IsRun m s [] x = m.end s ≡ Ok x
+IsRun {S = S} m s (w ∷ ws) x = (t : S) × (m.word s w.text ≡ Ok t) × IsRun m t ws x
+
+-- a word is wrong, and the fault is at it; or the line may not end so, and the fault is one past its end
+abbrev pub IsRunFault : {S R : Type 0} → Run S R → S → LineWords → List PlacedWord → Fault → Type 0
+IsRunFault m s at [] f = (kind : TextKind) × (m.end s ≡ Err kind) × (f ≡ fault_beyond kind at)
+IsRunFault {S = S} m s at (w ∷ ws) f =
+    ((kind : TextKind) × (m.word s w.text ≡ Err kind) × (f ≡ fault_at kind w))
+    ⊎ ((t : S) × (m.word s w.text ≡ Ok t) × IsRunFault m t at ws f)
+
+-- the line has right words, which say this
+abbrev pub IsRow : {R : Type 0} → Row R → LineWords → R → Type 0
+IsRow (Row.ends extra x) at y = (first_word at ≡ None) × (x ≡ y)
+IsRow (Row.place {V = V} p more) at y = (x : V) × (rest : LineWords) × Stands p x at rest × IsRow (more x) rest y
+IsRow (Row.runs m s) at y = IsRun m s at.words y
+
+-- the first fault of the line: all words before it are right
+abbrev pub IsRowFault : {R : Type 0} → Row R → LineWords → Fault → Type 0
+IsRowFault (Row.ends extra x) at f = IsExtra extra at f
+IsRowFault (Row.place {V = V} p more) at f =
+    Lacks p at f ⊎ ((x : V) × (rest : LineWords) × Stands p x at rest × IsRowFault (more x) rest f)
+IsRowFault (Row.runs m s) at f = IsRunFault m s at at.words f
