@@ -4,3 +4,5 @@ pub mod LineParts
 pub mod Faulty
 pub mod Binds
 pub mod TableLemmas
+pub mod TextLemmas
+pub mod Loops

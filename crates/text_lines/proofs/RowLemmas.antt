@@ -4,16 +4,16 @@ use Rattle.std.specs.Option.{ok_or}
 use Rattle.text_lines.specs.declared.fault.TextKind.{TextKind}
 use Rattle.text_lines.specs.Faults.{Fault, ◌>>=◌}
 use Rattle.text_lines.specs.Reading.{done, fault_past, next, none_left}
-use Rattle.text_lines.specs.Rows.{IsRow, IsRowFault, IsRun, IsRunFault, Lacks, Row, Run, Stands, row_in, run_in, told_at, told_beyond}
+use Rattle.text_lines.specs.Rows.{IsRow, IsRowFault, IsRun, IsRunFault, Lacks, Place, Row, Run, Stands, left_behind, place_in, row_in, run_in, texts_of, told_at, told_beyond}
 use Rattle.text_lines.specs.Words.{LineWords, PlacedWord, first_word}
 
 -- ---- runs
 
 abbrev RunTold : {S R : Type 0} → Run S R → S → LineWords → List PlacedWord → Result R Fault → Type 0
-RunTold m s at ws (Ok x) = IsRun m s ws x
+RunTold m s at ws (Ok x) = IsRun m s (texts_of ws) x
 RunTold m s at ws (Err f) = IsRunFault m s at ws f
 
-run-told : {S R : Type 0} (m : Run S R) (s : S) (at : LineWords) (ws : List PlacedWord) → RunTold m s at ws (run_in m s at ws)
+pub run-told : {S R : Type 0} (m : Run S R) (s : S) (at : LineWords) (ws : List PlacedWord) → RunTold m s at ws (run_in m s at ws)
 unfolding run_in
 run-told {R = R} m s at [] = by (m.end s) refl
   where
@@ -31,7 +31,7 @@ run-told {S = S} {R = R} m s at (w ∷ ws) = by (m.word s w.text) refl (λ t. ru
     by (Ok t) e later = behind t e (run_in m t at ws) (later t)
     by (Err kind) e later = inl (kind, e, refl)
 
-run-gives : {S R : Type 0} (m : Run S R) (s : S) (at : LineWords) (ws : List PlacedWord) (x : R) → IsRun m s ws x
+pub run-gives : {S R : Type 0} (m : Run S R) (s : S) (at : LineWords) (ws : List PlacedWord) (x : R) → IsRun m s (texts_of ws) x
     → run_in m s at ws ≡ Ok x
 unfolding run_in
 run-gives m s at [] x h = rw h refl
@@ -110,3 +110,21 @@ row-wrong row at f e = subst (Told row at) e (row-told row at)
 pub rows-read : {R : Type 0} (row : Row R) (at : LineWords)
     → ((x : R) → IsRow row at x ↔ (row_in row at ≡ Ok x)) × ((f : Fault) → IsRowFault row at f ↔ (row_in row at ≡ Err f))
 rows-read row at = (λ x. (row-gives row at x, row-right row at x), λ f. (row-fails row at f, row-wrong row at f))
+
+-- a row is read place by place
+pub row-place : {V R : Type 0} (p : Place V) (more : V → Row R) (at : LineWords)
+    → row_in (Row.place p more) at ≡ (place_in p at >>= λ x. row_in (more x.0) x.1)
+unfolding row_in
+row-place {V = V} p more at = by (next p.missing at)
+  where
+    said : (w : PlacedWord) (rest : LineWords) (r : Result V TextKind)
+        → (told_at w r >>= λ x. row_in (more x) rest)
+        ≡ ((told_at w r >>= left_behind rest) >>= λ x. row_in (more x.0) x.1)
+    said w rest (Ok x) = refl
+    said w rest (Err kind) = refl
+
+    by : (r : Result (PlacedWord × LineWords) Fault)
+        → (r >>= λ w. told_at w.0 (p.says w.1 w.0.text) >>= λ x. row_in (more x) w.1)
+        ≡ ((r >>= λ w. told_at w.0 (p.says w.1 w.0.text) >>= left_behind w.1) >>= λ x. row_in (more x.0) x.1)
+    by (Ok w) = said w.0 w.1 (p.says w.1 w.0.text)
+    by (Err f) = refl

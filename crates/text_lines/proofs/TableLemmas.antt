@@ -7,7 +7,7 @@ use Rattle.text_lines.specs.declared.fault.TextKind.TheVariants as kinds
 use Rattle.text_lines.specs.Faults.{Fault, ◌>>=◌}
 use Rattle.text_lines.specs.Lines.{TextLines, first_line}
 use Rattle.text_lines.specs.Reading.{begins, fault_at, fault_here, fault_past, headed, literal, next, no_line, none_of_lines, same_text, word_is}
-use Rattle.text_lines.specs.Rows.{Lacks, Row, row_in}
+use Rattle.text_lines.specs.Rows.{Lacks, Row, right_word, row_in}
 use Rattle.text_lines.specs.Tables.{AreMany, GoesWrong, IsLine, IsLineFault, IsTable, IsTableFault, Many, NextBegins, Table, goes_on, line_in, many_in, table_in}
 use Rattle.text_lines.specs.Words.{LineWords, PlacedWord, first_word}
 use Rattle.text_lines.proofs.RowLemmas.{row-fails, row-gives, row-right, row-wrong}
@@ -41,18 +41,15 @@ unfolding line_in headed literal next
 line-named kind name row text first rest w words n o s = rw (n, o, s) refl
 
 -- what the place of a line's name says
-abbrev name_said : Bool → Result (Unit {0}) TextKind
-name_said same = if same then Ok tt else Err kinds.Head
-
-said : (same : Bool) → name_said same ≡ Ok tt → same ≡ true
+said : (same : Bool) → right_word kinds.Head same ≡ Ok tt → same ≡ true
 said true e = refl
 said false e = absurd (grind (arith, e))
 
-unsaid : (same : Bool) (kind : TextKind) → name_said same ≡ Err kind → (same ≡ false) × (kinds.Head ≡ kind)
+unsaid : (same : Bool) (kind : TextKind) → right_word kinds.Head same ≡ Err kind → (same ≡ false) × (kinds.Head ≡ kind)
 unsaid true kind e = absurd (grind (arith, e))
 unsaid false kind e = (refl, grind (arith, e))
 
-line-begun : {V : Type 0} (kind : TextKind) (name : List ℕ) (row : Row V) (text : TextLines) (words : LineWords)
+pub line-begun : {V : Type 0} (kind : TextKind) (name : List ℕ) (row : Row V) (text : TextLines) (words : LineWords)
     (rest : TextLines)
     → NextBegins name text words rest → line_in kind name row text ≡ (row_in row words >>= λ x. Ok (x, rest))
 line-begun kind name row text words rest b =
@@ -118,6 +115,19 @@ line-fails kind name row text f (IsLineFault.wrong_name first rest n (Lacks.refu
     line-other kind name row text first rest w words n o u.0 ∙ ap (λ k. Err (fault_at k w)) u.1 ∙ ap Err (sym e)
 line-fails kind name row text f (IsLineFault.within h) = wrong-fails kind name row text f h
 
+-- what is left behind a line
+pub line-rest : {V : Type 0} (kind : TextKind) (name : List ℕ) (row : Row V) (after : ℕ) (first : LineWords)
+    (others : List LineWords) (x : V) (rest : TextLines)
+    → line_in kind name row (record { after = after; lines = first ∷ others }) ≡ Ok (x, rest)
+    → rest ≡ record { after = after; lines = others }
+line-rest kind name row after first others x rest e =
+    let text : TextLines = record { after = after; lines = first ∷ others } in
+    found (subst (LineTold kind name row text) e (line-told kind name row text)).begins.next
+  where
+    found : {line : LineWords} → first_line (record { after = after; lines = first ∷ others }) ≡ Some (line, rest)
+        → rest ≡ record { after = after; lines = others }
+    found e = grind (arith, e)
+
 -- ---- lines of one name
 
 -- a line that begins with a name
@@ -136,7 +146,7 @@ begun name after first others b = by (first_word first) refl b
         (found.1, record { line = first; next = refl; first = record { word = found.0; next = o; right = rw b refl } })
 
 -- no line is left to go on
-none_go : {V : Type 0} (m : Many V) (before : List V) (after : ℕ) → goes_on m before (record { after = after; lines = [] })
+pub none_go : {V : Type 0} (m : Many V) (before : List V) (after : ℕ) → goes_on m before (record { after = after; lines = [] })
     ≡ false
 unfolding begins
 none_go m before after = by (m.goes before)
@@ -149,7 +159,7 @@ begins_too : (a b : Bool) → (a && b) ≡ true → b ≡ true
 begins_too true b e = e
 begins_too false b e = absurd (grind (arith, e))
 
-many-one : {V : Type 0} (m : Many V) (before : List V) (after : ℕ) (first : LineWords) (others : List LineWords)
+pub many-one : {V : Type 0} (m : Many V) (before : List V) (after : ℕ) (first : LineWords) (others : List LineWords)
     → goes_on m before (record { after = after; lines = first ∷ others }) ≡ true
     → many_in m before after (first ∷ others)
     ≡ (line_in kinds.Head m.name (m.row before) (record { after = after; lines = first ∷ others })
@@ -157,7 +167,7 @@ many-one : {V : Type 0} (m : Many V) (before : List V) (after : ℕ) (first : Li
 unfolding many_in
 many-one m before after first others e = rw e refl
 
-many-stops : {V : Type 0} (m : Many V) (before : List V) (after : ℕ) (lines : List LineWords)
+pub many-stops : {V : Type 0} (m : Many V) (before : List V) (after : ℕ) (lines : List LineWords)
     → goes_on m before (record { after = after; lines = lines }) ≡ false
     → many_in m before after lines ≡ Ok (before, record { after = after; lines = lines })
 unfolding many_in

@@ -1,6 +1,6 @@
 -- A line as a row of places, of which each may hang on the words before it: how it is read, which lines are right, and the
 -- first fault of one that isn't.
-use Rattle.std.specs.Prelude.{◌≡◌, ◌⊎◌, ℕ, List, [], ◌∷◌, Option, Some, None, Result, Ok, Err, if◌then◌else◌}
+use Rattle.std.specs.Prelude.{◌≡◌, ◌⊎◌, ℕ, Bool, List, [], ◌∷◌, Option, Some, None, Result, Ok, Err, map, if◌then◌else◌}
 use Rattle.std.specs.Option.{ok_or}
 use Rattle.text_lines.specs.declared.fault.TextKind.{TextKind}
 use Rattle.text_lines.specs.Faults.{Fault, ◌>>=◌}
@@ -37,9 +37,15 @@ abbrev pub number_place : TextKind → ℕ → ℕ → Place ℕ
 number_place kind least most = named_place kind kind (number_within least most)
 
 -- the place of this word
+abbrev pub right_word : TextKind → Bool → Result (Unit {0}) TextKind
+right_word kind same = if same then Ok tt else Err kind
+
 abbrev pub word_place : TextKind → List ℕ → Place (Unit {0})
-word_place kind word =
-    record { missing = kind; says = λ behind text. if same_text text word then Ok tt else Err kind }
+word_place kind word = record { missing = kind; says = λ behind text. right_word kind (same_text text word) }
+
+-- a kind of fault, where something holds
+abbrev pub refused_if : Bool → TextKind → Result (Unit {0}) TextKind
+refused_if bad kind = if bad then Err kind else Ok tt
 
 -- ---- reading
 
@@ -50,6 +56,13 @@ told_at w (Err kind) = Err (fault_at kind w)
 abbrev pub told_beyond : {V : Type 0} → LineWords → Result V TextKind → Result V Fault
 told_beyond at (Ok x) = Ok x
 told_beyond at (Err kind) = Err (fault_beyond kind at)
+
+abbrev pub left_behind : {V : Type 0} → LineWords → V → Result (V × LineWords) Fault
+left_behind rest x = Ok (x, rest)
+
+-- one place: what its word says, and what is left behind it
+abbrev pub place_in : {V : Type 0} → Place V → LineWords → Result (V × LineWords) Fault
+place_in p at = next p.missing at >>= λ w. told_at w.0 (p.says w.1 w.0.text) >>= λ x. left_behind w.1 x
 
 unfoldable pub run_in : {S R : Type 0} → Run S R → S → LineWords → List PlacedWord → Result R Fault
 run_in m s at [] = told_beyond at (m.end s)
@@ -62,6 +75,10 @@ row_in (Row.place p more) at =
 row_in (Row.runs m s) at = run_in m s at at.words
 
 -- ---- without reading
+
+-- the texts of words
+abbrev pub texts_of : List PlacedWord → List (List ℕ)
+texts_of words = map (λ w. w.text) words
 
 -- the next word is missing, and the fault is one past the line's last word; or it is refused, and the fault is at it
 pub data Lacks {V : Type 0} (p : Place V) (at : LineWords) (f : Fault) : Type 0 where
@@ -83,9 +100,9 @@ pub record IsExtra (kind : TextKind) (at : LineWords) (f : Fault) : Type 0 where
   pub fault : f ≡ fault_at kind word
 
 -- these words are right, each behind those before it, and say this
-abbrev pub IsRun : {S R : Type 0} → Run S R → S → List PlacedWord → R → Type 0
+abbrev pub IsRun : {S R : Type 0} → Run S R → S → List (List ℕ) → R → Type 0
 IsRun m s [] x = m.end s ≡ Ok x
-IsRun {S = S} m s (w ∷ ws) x = (t : S) × (m.word s w.text ≡ Ok t) × IsRun m t ws x
+IsRun {S = S} m s (word ∷ words) x = (t : S) × (m.word s word ≡ Ok t) × IsRun m t words x
 
 -- a word is wrong, and the fault is at it; or the line may not end so, and the fault is one past its end
 abbrev pub IsRunFault : {S R : Type 0} → Run S R → S → LineWords → List PlacedWord → Fault → Type 0
@@ -98,7 +115,7 @@ IsRunFault {S = S} m s at (w ∷ ws) f =
 abbrev pub IsRow : {R : Type 0} → Row R → LineWords → R → Type 0
 IsRow (Row.ends extra x) at y = (first_word at ≡ None) × (x ≡ y)
 IsRow (Row.place {V = V} p more) at y = (x : V) × (rest : LineWords) × Stands p x at rest × IsRow (more x) rest y
-IsRow (Row.runs m s) at y = IsRun m s at.words y
+IsRow (Row.runs m s) at y = IsRun m s (texts_of at.words) y
 
 -- the first fault of the line: all words before it are right
 abbrev pub IsRowFault : {R : Type 0} → Row R → LineWords → Fault → Type 0

@@ -1,11 +1,13 @@
 -- A text as a table of lines, each a row: how it is read, which texts are right, and the first fault of one that isn't.
-use Rattle.std.specs.Prelude.{◌≡◌, ◌⊎◌, ℕ, ◌&&◌, Bool, true, false, List, [], ◌∷◌, ◌++◌, Some, None, Result, Ok, Err, if◌then◌else◌}
+use Rattle.std.specs.Prelude.{◌≡◌, ◌⊎◌, ℕ, ◌<◌, ◌≤◌, ◌&&◌, Bool, true, false, List, [], ◌∷◌, ◌++◌, Some, None, Result, Ok, Err, length, if◌then◌else◌}
+use Rattle.std.specs.Str.{IsUtf8}
 use Rattle.text_lines.specs.declared.fault.TextKind.{TextKind}
 use Rattle.text_lines.specs.declared.fault.TextKind.TheVariants as kinds
 use Rattle.text_lines.specs.Faults.{Fault, ◌>>=◌}
-use Rattle.text_lines.specs.Lines.{TextLines, first_line}
+use Rattle.text_lines.specs.Lines.{TextLines, first_line, lines_in}
 use Rattle.text_lines.specs.Reading.{begins, fault_here, headed, no_line}
 use Rattle.text_lines.specs.Rows.{IsRow, IsRowFault, Lacks, Row, Stands, row_in, word_place}
+use Rattle.text_lines.specs.Utf8.{fault_of_utf8, text_in}
 use Rattle.text_lines.specs.Words.{LineWords}
 
 -- lines of one name, as long as the next one begins so and one more may stand: their rows may hang on the lines before
@@ -136,3 +138,19 @@ IsTableFault (Table.if_begins name one other) text f =
 IsTableFault (Table.behind {V = V} front more) text f =
     IsTableFault front text f
     ⊎ ((x : V) × (between : TextLines) × IsTable front text x between × IsTableFault (more x) between f)
+
+-- ---- bytes
+
+-- what the lines of a text say
+unfoldable pub text_read : {R : Type 0} → Table R → List ℕ → Result R Fault
+text_read table bytes = do
+  text ← text_in bytes
+  x ← table_in table text
+  Ok x.0
+
+-- the first fault of bytes: they are too many, or stop being UTF-8, or their lines go wrong
+pub data IsTextFault {R : Type 0} (table : Table R) (bytes : List ℕ) (f : Fault) : Type 0 where
+  too_long : 65536 < length bytes → f ≡ record { kind = kinds.TooLong; line = 1; column = 1 }
+      → IsTextFault table bytes f
+  not_utf8 : length bytes ≤ 65536 → (IsUtf8 bytes → ⊥) → f ≡ fault_of_utf8 bytes → IsTextFault table bytes f
+  in_lines : length bytes ≤ 65536 → IsUtf8 bytes → IsTableFault table (lines_in bytes) f → IsTextFault table bytes f

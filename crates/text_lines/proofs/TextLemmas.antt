@@ -1,0 +1,96 @@
+-- Bytes go wrong just where reading them tells their first fault.
+use Rattle.std.proofs.Common.{◌≡◌, ℕ, ◌<◌, ◌≤◌, Bool, true, false, List, length, Result, Ok, Err, refl, sym, ap, arith}
+use Rattle.std.specs.Prelude.{nat_lt, if◌then◌else◌}
+use Rattle.std.specs.Str.{IsUtf8, is_utf8}
+use Rattle.std.proofs.lemmas.Bool.{ltb-false, lt-ltb, ltb-true}
+use Rattle.std.proofs.lemmas.Str.{IsUtf8-from_is_utf8, is_utf8-from_IsUtf8}
+use Rattle.text_lines.specs.declared.fault.TextKind.TheVariants.{TooLong}
+use Rattle.text_lines.specs.Faults.{Fault, ◌>>=◌}
+use Rattle.text_lines.specs.Lines.{TextLines, lines_in}
+use Rattle.text_lines.specs.Tables.{IsTable, IsTextFault, Table, table_in, text_read}
+use Rattle.text_lines.specs.Utf8.{fault_of_utf8, text_in}
+use Rattle.text_lines.proofs.Faulty.{text_in-ok, text_in-utf8}
+use Rattle.text_lines.proofs.TableLemmas.{table-fails, table-gives, table-right, table-wrong}
+
+-- what the lines say alone
+abbrev value : {R : Type 0} → Result (R × TextLines) Fault → Result R Fault
+value r = r >>= λ x. Ok x.0
+
+no_value : {R : Type 0} (r : Result (R × TextLines) Fault) (f : Fault) → value r ≡ Err f → r ≡ Err f
+no_value (Ok x) f e = absurd (grind (arith, e))
+no_value (Err g) f e = ap Err (grind (arith, e))
+
+one_value : {R : Type 0} (r : Result (R × TextLines) Fault) (x : R) → value r ≡ Ok x
+    → (rest : TextLines) × (r ≡ Ok (x, rest))
+one_value (Ok y) x e = let same : y.0 ≡ x = grind (arith, e) in (y.1, ap (λ z. Ok (z, y.1)) same)
+one_value (Err g) x e = absurd (grind (arith, e))
+
+long_text : (bytes : List ℕ) → 65536 < length bytes
+    → text_in bytes ≡ Err (record { kind = TooLong; line = 1; column = 1 })
+unfolding text_in
+long_text bytes long = rw (lt-ltb 65536 (length bytes) long) refl
+
+pub text-wrong : {R : Type 0} (table : Table R) (bytes : List ℕ) (f : Fault) → text_read table bytes ≡ Err f
+    → IsTextFault table bytes f
+unfolding text_in text_read
+text-wrong table bytes f e = by (nat_lt 65536 (length bytes)) refl (is_utf8 bytes) refl e
+  where
+    not_text : is_utf8 bytes ≡ false → IsUtf8 bytes → ⊥
+    not_text u is = grind (arith, u, is_utf8-from_IsUtf8 bytes is)
+
+    by : (long : Bool) → nat_lt 65536 (length bytes) ≡ long → (utf8 : Bool) → is_utf8 bytes ≡ utf8
+        → ((if long then Err (record { kind = TooLong; line = 1; column = 1 })
+        else (if utf8 then Ok (lines_in bytes) else Err (fault_of_utf8 bytes)))
+        >>= λ text. value (table_in table text)) ≡ Err f
+        → IsTextFault table bytes f
+    by true l u v e =
+        let same : record { kind = TooLong; line = 1; column = 1 } ≡ f = grind (arith, e) in
+        IsTextFault.too_long (ltb-true 65536 (length bytes) l) (sym same)
+    by false l true u e =
+        IsTextFault.in_lines (ltb-false 65536 (length bytes) l) (IsUtf8-from_is_utf8 bytes u)
+        (table-wrong table (lines_in bytes) f (no_value (table_in table (lines_in bytes)) f e))
+    by false l false u e =
+        let same : fault_of_utf8 bytes ≡ f = grind (arith, e) in
+        IsTextFault.not_utf8 (ltb-false 65536 (length bytes) l) (not_text u) (sym same)
+
+pub text-fails : {R : Type 0} (table : Table R) (bytes : List ℕ) (f : Fault) → IsTextFault table bytes f
+    → text_read table bytes ≡ Err f
+unfolding text_read
+text-fails table bytes f (IsTextFault.too_long long e) = rw (long_text bytes long) (ap Err (sym e))
+text-fails table bytes f (IsTextFault.not_utf8 short none e) = rw (text_in-utf8 bytes short none) (ap Err (sym e))
+text-fails table bytes f (IsTextFault.in_lines short utf8 fault) =
+    rw (text_in-ok bytes short utf8, table-fails table (lines_in bytes) f fault) refl
+
+-- bytes that are read are short, and UTF-8, and their lines are right
+pub record IsRead {R : Type 0} (table : Table R) (bytes : List ℕ) (x : R) : Type 0 where
+  pub short : length bytes ≤ 65536
+  pub utf8 : IsUtf8 bytes
+  pub rest : TextLines
+  pub lines : IsTable table (lines_in bytes) x rest
+
+pub text-right : {R : Type 0} (table : Table R) (bytes : List ℕ) (x : R) → text_read table bytes ≡ Ok x
+    → IsRead table bytes x
+unfolding text_in text_read
+text-right table bytes x e = by (nat_lt 65536 (length bytes)) refl (is_utf8 bytes) refl e
+  where
+    by : (long : Bool) → nat_lt 65536 (length bytes) ≡ long → (utf8 : Bool) → is_utf8 bytes ≡ utf8
+        → ((if long then Err (record { kind = TooLong; line = 1; column = 1 })
+        else (if utf8 then Ok (lines_in bytes) else Err (fault_of_utf8 bytes)))
+        >>= λ text. value (table_in table text)) ≡ Ok x
+        → IsRead table bytes x
+    by true l u v e = absurd (grind (arith, e))
+    by false l true u e =
+        let found = one_value (table_in table (lines_in bytes)) x e in
+        record {
+          short = ltb-false 65536 (length bytes) l;
+          utf8 = IsUtf8-from_is_utf8 bytes u;
+          rest = found.0;
+          lines = table-right table (lines_in bytes) x found.0 found.1;
+        }
+    by false l false u e = absurd (grind (arith, e))
+
+pub text-gives : {R : Type 0} (table : Table R) (bytes : List ℕ) (x : R) (rest : TextLines) → length bytes ≤ 65536
+    → IsUtf8 bytes → IsTable table (lines_in bytes) x rest → text_read table bytes ≡ Ok x
+unfolding text_read
+text-gives table bytes x rest short utf8 h =
+    rw (text_in-ok bytes short utf8, table-gives table (lines_in bytes) x rest h) refl
