@@ -1,15 +1,14 @@
 -- Numbers that are read lie within their bounds.
-use Rattle.std.proofs.Common.{◌≡◌, ◌≢◌, ℕ, ◌-◌, ◌≤◌, Bool, true, false, Option, Some, None, Ok, refl, subst, arith}
+use Rattle.std.proofs.Common.{◌≡◌, ◌≢◌, ℕ, ◌-◌, ◌≤◌, Bool, true, false, List, Option, Some, None, refl, arith}
 use Rattle.std.specs.Prelude.{◌==◌, ◌&&◌, nat_le, if◌then◌else◌}
-use Rattle.std.specs.Option.{ok_or, option_and_then}
+use Rattle.std.specs.Option.{option_and_then}
 use Rattle.std.proofs.lemmas.Bool.{leb-true}
 use Rattle.text_lines.specs.declared.fault.TextKind.{TextKind}
 use Rattle.text_lines.specs.Numbers.{if_within, number_of, number_within}
-use Rattle.text_lines.specs.Reading.{fault_at, next, number_in}
-use Rattle.text_lines.specs.Words.{LineWords, PlacedWord}
-use Rattle.text_lines.proofs.Binds.{bind_ok, ok_or_ok}
-use Rattle.fux_text.specs.Head.{other_voice, other_voice_in, unless}
-use Rattle.fux_text.proofs.Following.{value_is}
+use Rattle.text_lines.specs.Rows.{Stands, number_place}
+use Rattle.text_lines.specs.Words.{LineWords}
+use Rattle.text_lines.proofs.Binds.{ok_or_ok}
+use Rattle.fux_text.specs.Head.{other_voice, unless}
 
 -- a number lies within bounds
 pub record IsWithin (least most n : ℕ) : Type 0 where
@@ -32,16 +31,10 @@ pub within-bounds : (least most : ℕ) (o : Option ℕ) (n : ℕ) → option_and
 within-bounds least most None n e = absurd (grind (arith, e))
 within-bounds least most (Some m) n e = if_within-bounds least most m n e
 
-pub number-bounds : (kind : TextKind) (least most : ℕ) (at : LineWords) (x : ℕ × LineWords)
-    → number_in kind least most at ≡ Ok x
-    → IsWithin least most x.0
-unfolding number_in
-number-bounds kind least most at x e =
-    let w = bind_ok (next kind at) _ x e in
-    let n = bind_ok (ok_or (number_within least most w.0.0.text) (fault_at kind w.0.0)) _ x w.2 in
-    let found = ok_or_ok (number_within least most w.0.0.text) (fault_at kind w.0.0) n.0 n.1 in
-    subst (λ y. IsWithin least most y.0) (value_is (n.0, w.0.1) x _ refl n.2)
-    (within-bounds least most (number_of w.0.0.text) n.0 found)
+pub number-bounds : (kind : TextKind) (least most n : ℕ) (at rest : LineWords)
+    → Stands (number_place kind least most) n at rest → IsWithin least most n
+number-bounds kind least most n at rest s =
+    within-bounds least most (number_of s.word.text) n (ok_or_ok (number_within least most s.word.text) kind n s.right)
 
 -- another voice than this one
 pub record IsOther (other voices v : ℕ) : Type 0 where
@@ -59,13 +52,8 @@ other-voice other voices (Some n) v e most = by (n == other) refl e
         let same : n ≡ v = grind (arith, e) in
         record { within = omega (arith, same, most n refl); differs = λ vo. grind (arith, d, same, vo) }
 
-pub other-bounds : (kind : TextKind) (other voices : ℕ) (at : LineWords) (x : ℕ × PlacedWord × LineWords)
-    → other_voice_in kind other voices at ≡ Ok x → IsOther other voices x.0
-unfolding other_voice_in
-other-bounds kind other voices at x e =
-    let w = bind_ok (next kind at) _ x e in
-    let v = bind_ok (ok_or (other_voice other voices w.0.0.text) (fault_at kind w.0.0)) _ x w.2 in
-    let found = ok_or_ok (other_voice other voices w.0.0.text) (fault_at kind w.0.0) v.0 v.1 in
-    subst (λ y. IsOther other voices y.0) (value_is (v.0, w.0.0, w.0.1) x _ refl v.2)
-    (other-voice other voices (number_within 0 (voices - 1) w.0.0.text) v.0 found
-    (λ n e. (within-bounds 0 (voices - 1) (number_of w.0.0.text) n e).below))
+pub other-bounds : (other voices : ℕ) (text : List ℕ) (v : ℕ) → other_voice other voices text ≡ Some v
+    → IsOther other voices v
+other-bounds other voices text v e =
+    other-voice other voices (number_within 0 (voices - 1) text) v e
+    (λ n e. (within-bounds 0 (voices - 1) (number_of text) n e).below)

@@ -10,20 +10,25 @@ use Rattle.fux_grid.specs.declared.cell.Cell.TheVariants.{Rest, Hold, Start}
 use Rattle.fux_grid.specs.declared.exercise.Exercise.{Exercise}
 use Rattle.fux_grid.specs.Cells.{cell_follows, pitch_of}
 use Rattle.fux_grid.proofs.PitchTests.{same_pitch-from_equal}
+use Rattle.text_lines.specs.declared.fault.TextKind.{TextKind}
 use Rattle.text_lines.specs.declared.fault.TextKind.TheVariants as kinds
-use Rattle.text_lines.specs.Faults.{Fault, ◌>>=◌}
+use Rattle.text_lines.specs.Faults.{◌>>=◌}
 use Rattle.text_lines.specs.Lines.{TextLines}
 use Rattle.text_lines.specs.Numbers.{if_within}
-use Rattle.text_lines.specs.Reading.{fault_at, fault_beyond, headed, number_in, same_text}
-use Rattle.text_lines.specs.Words.{LineWords, PlacedWord}
+use Rattle.text_lines.specs.Reading.{same_text}
+use Rattle.text_lines.specs.Rows.{IsRun, refused_if}
+use Rattle.text_lines.specs.Tables.{IsLine, IsTable}
 use Rattle.text_lines.proofs.Binds.{bind_ok, ok_or_ok}
 use Rattle.fux_text.specs.declared.item_words.ItemName.{ItemName}
 use Rattle.fux_text.specs.declared.item_words.ItemName.TheVariants as names
-use Rattle.fux_text.specs.Ranges.{refused_if}
-use Rattle.fux_text.specs.Sing.{FollowsFrom, bar_line_in, cantus_cells, first_cell, held, is_full, item_cells, item_in, item_named, item_parts, latest, sing_line_in, sung_end, sung_in, sung_word, sung_words, voice_in, voices_in}
+use Rattle.fux_text.specs.Sing.{FollowsFrom, bar_line_said, cantus_cells, cantus_or_sung, first_cell, held, is_full, item_cells, item_named, item_parts, item_said, latest, sing_row, sung_end, sung_run, sung_word, voice_table, voices_table}
+
+-- what goes on behind so many bars
+abbrev pub go_on : List Cell → ℕ → Result (ℕ × List Cell) TextKind
+go_on cells bar = Ok (bar, cells)
 
 -- the value of a reading
-pub value_is : {A : Type 0} (x y : A) (r : Result A Fault) → Ok x ≡ r → r ≡ Ok y → x ≡ y
+pub value_is : {A E : Type 0} (x y : A) (r : Result A E) → Ok x ≡ r → r ≡ Ok y → x ≡ y
 value_is x y r d e = grind (arith, d, e)
 
 follows-append : (before : Cell) (xs ys : List Cell) → FollowsFrom before xs → FollowsFrom (latest before xs) ys
@@ -78,62 +83,52 @@ first-follows begins_bar before c (names.Note p) e =
     let same : Start p ≡ c = grind (arith, e) in
     subst (λ x. IsTrue (cell_follows before x)) same (start-any before p)
 
-item_in-follows : (bar : ℕ) (cells : List Cell) (w : PlacedWord) (item : Cell × ℕ) → item_in bar cells w ≡ Ok item
+item_said-follows : (bar : ℕ) (cells : List Cell) (text : List ℕ) (item : Cell × ℕ) → item_said bar cells text ≡ Ok item
     → IsTrue (cell_follows (latest Rest cells) item.0)
-unfolding item_in
-item_in-follows bar cells w item e =
-    let parts = bind_ok (ok_or (item_parts w.text) (fault_at kinds.Word w)) _ item e in
-    let name = bind_ok (ok_or (item_named parts.0.0) (fault_at kinds.Pitch w)) _ item parts.2 in
-    let count = bind_ok (ok_or (if_within 1 8 parts.0.1) (fault_at kinds.Length w)) _ item name.2 in
-    let cell = bind_ok (ok_or (first_cell (length cells == 8 * bar) (latest Rest cells) name.0) (fault_at kinds.Tie w))
-    _ item count.2 in
-    let found = ok_or_ok (first_cell (length cells == 8 * bar) (latest Rest cells) name.0) (fault_at kinds.Tie w) cell.0
-    cell.1 in
+unfolding item_said
+item_said-follows bar cells text item e =
+    let parts = bind_ok (ok_or (item_parts text) kinds.Word) _ item e in
+    let name = bind_ok (ok_or (item_named parts.0.0) kinds.Pitch) _ item parts.2 in
+    let count = bind_ok (ok_or (if_within 1 8 parts.0.1) kinds.Length) _ item name.2 in
+    let first = first_cell (length cells == 8 * bar) (latest Rest cells) name.0 in
+    let cell = bind_ok (ok_or first kinds.Tie) _ item count.2 in
+    let found = ok_or_ok first kinds.Tie cell.0 cell.1 in
     subst (λ x. IsTrue (cell_follows (latest Rest cells) x.0)) (value_is (cell.0, count.0) item _ refl cell.2)
     (first-follows (length cells == 8 * bar) (latest Rest cells) cell.0 name.0 found)
 
-word-follows : (bars bar : ℕ) (cells : List Cell) (w : PlacedWord) (out : ℕ × List Cell) → FollowsFrom Rest cells
-    → sung_word bars bar cells w ≡ Ok out → FollowsFrom Rest out.1
+word-follows : (bars : ℕ) (before out : ℕ × List Cell) (text : List ℕ) → FollowsFrom Rest before.1
+    → sung_word bars before text ≡ Ok out → FollowsFrom Rest out.1
 unfolding sung_word
-word-follows bars bar cells w out f e = by (same_text w.text (codes "|")) e
+word-follows bars (bar, cells) out text f e = by (same_text text (codes "|")) e
   where
-    by : (b : Bool) → (if b then (bar_line_in bars bar cells w >>= λ next. Ok (next, cells))
-        else (item_in bar cells w >>= λ item. Ok (bar, cells ++ item_cells item.0 item.1))) ≡ Ok out
+    by : (b : Bool) → (if b then (bar_line_said bars bar cells >>= λ next. go_on cells next)
+        else (item_said bar cells text >>= λ item. go_on (cells ++ item_cells item.0 item.1) bar)) ≡ Ok out
         → FollowsFrom Rest out.1
     by true e =
-        let next = bind_ok (bar_line_in bars bar cells w) _ out e in
+        let next = bind_ok (bar_line_said bars bar cells) _ out e in
         subst (λ x. FollowsFrom Rest x.1) (value_is (next.0, cells) out _ refl next.2) f
     by false e =
-        let item = bind_ok (item_in bar cells w) _ out e in
+        let item = bind_ok (item_said bar cells text) _ out e in
         subst (λ x. FollowsFrom Rest x.1) (value_is (bar, cells ++ item_cells item.0.0 item.0.1) out _ refl item.2)
         (follows-append Rest cells (item_cells item.0.0 item.0.1) f
-        (item-follows (latest Rest cells) item.0.0 item.0.1 (item_in-follows bar cells w item.0 item.1)))
+        (item-follows (latest Rest cells) item.0.0 item.0.1 (item_said-follows bar cells text item.0 item.1)))
 
-end-same : (bars bar : ℕ) (cells : List Cell) (at : LineWords) (out : List Cell) → sung_end bars bar cells at ≡ Ok out
-    → cells ≡ out
+end-same : (bars : ℕ) (before : ℕ × List Cell) (out : List Cell) → sung_end bars before ≡ Ok out → before.1 ≡ out
 unfolding sung_end
-end-same bars bar cells at out e =
-    let full = bind_ok (refused_if (not (is_full bar cells)) (fault_beyond kinds.Length at)) _ out e in
-    let whole = bind_ok (refused_if (not (bar + 1 == bars)) (fault_beyond kinds.BarLine at)) _ out full.2 in
-    value_is cells out _ refl whole.2
+end-same bars before out e =
+    let full = bind_ok (refused_if (not (is_full before.0 before.1)) kinds.Length) _ out e in
+    let whole = bind_ok (refused_if (not (before.0 + 1 == bars)) kinds.BarLine) _ out full.2 in
+    value_is before.1 out _ refl whole.2
 
-words-follow : (bars bar : ℕ) (cells : List Cell) (at : LineWords) (ws : List PlacedWord) (out : List Cell)
-    → FollowsFrom Rest cells
-    → sung_words bars bar cells at ws ≡ Ok out → FollowsFrom Rest out
-words-follow bars bar cells at [] out f e = subst (FollowsFrom Rest) (end-same bars bar cells at out e) f
-words-follow bars bar cells at (w ∷ ws) out f e =
-    let step = bind_ok (sung_word bars bar cells w) (λ so_far. sung_words bars so_far.0 so_far.1 at ws) out e in
-    words-follow bars step.0.0 step.0.1 at ws out (word-follows bars bar cells w step.0 f step.1) step.2
+words-follow : (bars : ℕ) (before : ℕ × List Cell) (words : List (List ℕ)) (out : List Cell)
+    → FollowsFrom Rest before.1 → IsRun (sung_run bars) before words out → FollowsFrom Rest out
+words-follow bars before [] out f h = subst (FollowsFrom Rest) (end-same bars before out h) f
+words-follow bars before (word ∷ words) out f h =
+    words-follow bars h.0 words out (word-follows bars before h.0 word f h.1) h.2
 
-pub line-follows : (bars v : ℕ) (text : TextLines) (out : List Cell × TextLines) → sing_line_in bars v text ≡ Ok out
-    → FollowsFrom Rest out.0
-unfolding sing_line_in sung_in
-line-follows bars v text out e =
-    let line = bind_ok (headed kinds.Sing (codes "sing") text) _ out e in
-    let voice = bind_ok (number_in kinds.Sing v v line.0.0) _ out line.2 in
-    let cells = bind_ok (sung_in bars voice.0.1) _ out voice.2 in
-    subst (λ x. FollowsFrom Rest x.0) (value_is (cells.0, line.0.1) out _ refl cells.2)
-    (words-follow bars 0 [] voice.0.1 voice.0.1.words cells.0 tt cells.1)
+pub line-follows : (bars v : ℕ) (text : TextLines) (out : List Cell) (rest : TextLines)
+    → IsLine (codes "sing") (sing_row bars v) text out rest → FollowsFrom Rest out
+line-follows bars v text out rest l = words-follow bars (0, []) _ out tt l.right.3
 
 -- the cells of the cantus follow one another
 pub start-follows : (before : Cell) (cantus : List Pitch)
@@ -143,16 +138,14 @@ start-follows before (p ∷ ps) =
     follows-append before (item_cells (Start p) 8) (flat_map (λ q. item_cells (Start q) 8) ps)
     (item-follows before (Start p) 8 (start-any before p)) (start-follows (latest before (item_cells (Start p) 8)) ps)
 
-voice-follows : (ex : Exercise) (v : ℕ) (text : TextLines) (out : List Cell × TextLines) → voice_in ex v text ≡ Ok out
-    → FollowsFrom Rest out.0
-unfolding voice_in cantus_cells
-voice-follows ex v text out e = by (v == ex.cantus_voice) e
+voice-follows : (ex : Exercise) (v : ℕ) (text : TextLines) (out : List Cell) (rest : TextLines)
+    → IsTable (voice_table ex v) text out rest → FollowsFrom Rest out
+unfolding cantus_cells
+voice-follows ex v text out rest h = by (v == ex.cantus_voice) h
   where
-    by : (b : Bool) → (if b then Ok (cantus_cells ex.cantus, text) else sing_line_in ex.bars v text) ≡ Ok out
-        → FollowsFrom Rest out.0
-    by true e = subst (λ x. FollowsFrom Rest x.0) (value_is (cantus_cells ex.cantus, text) out _ refl e)
-        (start-follows Rest ex.cantus)
-    by false e = line-follows ex.bars v text out e
+    by : (b : Bool) → IsTable (cantus_or_sung ex v b) text out rest → FollowsFrom Rest out
+    by true h = subst (FollowsFrom Rest) h.0 (start-follows Rest ex.cantus)
+    by false h = line-follows ex.bars v text out rest h
 
 all-push : (lines : List (List Cell)) (line : List Cell) → AllByRecursion (FollowsFrom Rest) lines
     → FollowsFrom Rest line
@@ -162,26 +155,21 @@ all-push (l ∷ ls) line h f = (h.0, all-push ls line h.1 f)
 
 -- the cells of each voice follow one another
 pub voices-follow : (ex : Exercise) (vs : List ℕ) (before : List (List Cell)) (text : TextLines)
-    (out : List (List Cell) × TextLines)
-    → AllByRecursion (FollowsFrom Rest) before → voices_in ex vs before text ≡ Ok out
-    → AllByRecursion (FollowsFrom Rest) out.0
-unfolding voices_in
-voices-follow ex [] before text out f e =
-    subst (λ x. AllByRecursion (FollowsFrom Rest) x.0) (value_is (before, text) out _ refl e) f
-voices-follow ex (v ∷ vs) before text out f e =
-    let cells = bind_ok (voice_in ex v text) (λ found. voices_in ex vs (before ++ found.0 ∷ []) found.1) out e in
-    voices-follow ex vs (before ++ cells.0.0 ∷ []) cells.0.1 out
-    (all-push before cells.0.0 f (voice-follows ex v text cells.0 cells.1)) cells.2
+    (out : List (List Cell)) (rest : TextLines)
+    → AllByRecursion (FollowsFrom Rest) before → IsTable (voices_table ex vs before) text out rest
+    → AllByRecursion (FollowsFrom Rest) out
+voices-follow ex [] before text out rest f h = subst (AllByRecursion (FollowsFrom Rest)) h.0 f
+voices-follow ex (v ∷ vs) before text out rest f h =
+    voices-follow ex vs (before ++ h.0 ∷ []) h.1 out rest
+    (all-push before h.0 f (voice-follows ex v text h.0 h.1 h.2)) h.3
 
 -- each voice has its cells
 pub voices-length : (ex : Exercise) (vs : List ℕ) (before : List (List Cell)) (text : TextLines)
-    (out : List (List Cell) × TextLines)
-    → voices_in ex vs before text ≡ Ok out → length out.0 ≡ length before + length vs
-unfolding voices_in
-voices-length ex [] before text out e =
-    let same : length before ≡ length out.0 = ap (λ x. length x.0) (value_is (before, text) out _ refl e) in
+    (out : List (List Cell)) (rest : TextLines)
+    → IsTable (voices_table ex vs before) text out rest → length out ≡ length before + length vs
+voices-length ex [] before text out rest h =
+    let same : length before ≡ length out = ap length h.0 in
     omega (arith, same)
-voices-length ex (v ∷ vs) before text out e =
-    let cells = bind_ok (voice_in ex v text) (λ found. voices_in ex vs (before ++ found.0 ∷ []) found.1) out e in
-    let rest = voices-length ex vs (before ++ cells.0.0 ∷ []) cells.0.1 out cells.2 in
-    omega (arith, rest, length-append before (cells.0.0 ∷ []))
+voices-length ex (v ∷ vs) before text out rest h =
+    let later = voices-length ex vs (before ++ h.0 ∷ []) h.1 out rest h.3 in
+    omega (arith, later, length-append before (h.0 ∷ []))

@@ -38,6 +38,10 @@ pub set_out-own : (ws : List PlacedWord) → set_out (places_of ws) (map (λ w. 
 set_out-own [] = refl
 set_out-own (w ∷ ws) = ap (λ more. w ∷ more) (set_out-own ws)
 
+pub set_out-texts : (place : ℕ → PlacedWord) (ws : List (List ℕ)) → map (λ w. w.text) (set_out place ws) ≡ ws
+set_out-texts place [] = refl
+set_out-texts place (w ∷ ws) = ap (λ more. w ∷ more) (set_out-texts (λ k. place (suc k)) ws)
+
 -- the layout of lines
 abbrev pub layout_of : List LineWords → ℕ → LineWords
 layout_of lines k = get_or lines k (record { line = 0; past = 0; end = 0; words = [] })

@@ -6,8 +6,6 @@ pub mod Named
 pub mod NumberWords
 pub mod OwnWords
 pub mod HeadLoops
-pub mod RangeLoops
-pub mod RelaxLoops
 pub mod SungLoops
 pub mod VoiceLoops
 pub mod Following
@@ -35,11 +33,4 @@ pub mod OnlyRanges
 pub mod OnlySing
 pub mod OnlySetting
 pub mod OnlyText
-pub mod FaultSteps
-pub mod FaultyHead
-pub mod FaultyRanges
-pub mod FaultyRelaxes
-pub mod FaultyItems
-pub mod FaultySing
-pub mod FaultyText
 pub mod ReadTexts

@@ -1,6 +1,6 @@
 -- A setting that is read has the lines of its free voices (`setting-only`, `sung_score-only`).
-use Rattle.std.proofs.Common.{◌≡◌, ℕ, zero, suc, ◌+◌, ◌*◌, ◌<◌, Bool, true, false, List, [], ◌∷◌, ◌++◌, get_or, length, length-append, map, reverse, Option, Some, None, Ok, refl, sym, ap, subst, ◌∙◌, arith}
-use Rattle.std.specs.Prelude.{◌==◌, codes, if◌then◌else◌}
+use Rattle.std.proofs.Common.{◌≡◌, inl, inr, ℕ, zero, suc, ◌+◌, ◌*◌, ◌<◌, Bool, true, false, List, [], ◌∷◌, ◌++◌, get_or, length, length-append, map, reverse, Option, Some, refl, sym, ap, subst, ◌∙◌, arith}
+use Rattle.std.specs.Prelude.{◌==◌}
 use Rattle.std.specs.List.{AllByRecursion, range_with_len}
 use Rattle.std.proofs.lemmas.List.{append-nil, length-map}
 use Rattle.std.proofs.lemmas.List.FromFn.{get_or-map-range_with_len, length-map-range_with_len, length-range_with_len, map-range_with_len_more}
@@ -12,83 +12,73 @@ use Rattle.fux_grid.specs.Columns.{HistoryFollows, line}
 use Rattle.fux_grid.specs.Exercises.{IsGiven}
 use Rattle.fux_grid.specs.Grid.{Grid}
 use Rattle.fux_grid.proofs.Histories.{reverse-push}
-use Rattle.text_lines.specs.Faults.{◌>>=◌}
 use Rattle.text_lines.specs.Lines.{TextLines}
-use Rattle.text_lines.specs.Reading.{begins, no_line}
-use Rattle.text_lines.proofs.Binds.{bind_ok}
+use Rattle.text_lines.specs.Tables.{IsTable}
 use Rattle.fux_text.specs.Grammar.{AreSung, IsBar, IsSettingOf, IsSung, Sings, cells_of, cells_of_bars}
 use Rattle.fux_text.specs.Lines.{free_voices}
-use Rattle.fux_text.specs.Sing.{FollowsFrom, cantus_cells, column_of, score_of, setting_in, sing_line_in, sung_score, voice_in, voices_in}
-use Rattle.fux_text.proofs.Following.{value_is, voices-follow, voices-length}
+use Rattle.fux_text.specs.Sing.{FollowsFrom, cantus_or_sung, column_of, score_of, setting_table, sung_table, voice_table, voices_table}
+use Rattle.fux_text.proofs.Following.{voices-follow, voices-length}
 use Rattle.fux_text.proofs.OnlySing.{IsLineFor, sing_line-only}
-use Rattle.fux_text.proofs.OnlyWords.{line_texts, no_line-only}
+use Rattle.fux_text.proofs.OnlyWords.{line_texts, no-lines}
 use Rattle.fux_text.proofs.OwnBars.{cells-length}
 use Rattle.fux_text.proofs.OwnSetting.{cells-of_column, free-cantus, free-other, free_of}
 use Rattle.fux_text.proofs.ScoreLoops.{column-cell, next-follows}
-use Rattle.fux_text.proofs.ValidSetting.{get_or-end, sung-valid, voices-keep}
+use Rattle.fux_text.proofs.ValidSetting.{get_or-end, score-given, voices-keep}
 
 -- ---- the voices
 
-pub cantus-only : (ex : Exercise) (v : ℕ) (text : TextLines) (x : List Cell × TextLines) → (v == ex.cantus_voice) ≡ true
-    → voice_in ex v text ≡ Ok x → text ≡ x.1
-unfolding voice_in
-cantus-only ex v text x same e = by (v == ex.cantus_voice) same e
+pub cantus-only : (ex : Exercise) (v : ℕ) (text : TextLines) (x : List Cell) (rest : TextLines)
+    → (v == ex.cantus_voice) ≡ true → IsTable (voice_table ex v) text x rest → text ≡ rest
+cantus-only ex v text x rest same h = by (v == ex.cantus_voice) same h
   where
-    by : (b : Bool) → b ≡ true → (if b then Ok (cantus_cells ex.cantus, text) else sing_line_in ex.bars v text)
-        ≡ Ok x → text ≡ x.1
-    by true f e = ap (λ y. y.1) (value_is (cantus_cells ex.cantus, text) x _ refl e)
-    by false f e = absurd (grind (arith, f))
+    by : (b : Bool) → b ≡ true → IsTable (cantus_or_sung ex v b) text x rest → text ≡ rest
+    by true f h = h.1
+    by false f h = absurd (grind (arith, f))
 
-other-only : (ex : Exercise) (v : ℕ) (text : TextLines) (x : List Cell × TextLines) → (v == ex.cantus_voice) ≡ false
-    → voice_in ex v text ≡ Ok x → IsLineFor ex.bars v text x
-unfolding voice_in
-other-only ex v text x other e = by (v == ex.cantus_voice) other e
+other-only : (ex : Exercise) (v : ℕ) (text : TextLines) (x : List Cell) (rest : TextLines)
+    → (v == ex.cantus_voice) ≡ false → IsTable (voice_table ex v) text x rest → IsLineFor ex.bars v text x rest
+other-only ex v text x rest other h = by (v == ex.cantus_voice) other h
   where
-    by : (b : Bool) → b ≡ false → (if b then Ok (cantus_cells ex.cantus, text) else sing_line_in ex.bars v text) ≡ Ok x
-        → IsLineFor ex.bars v text x
-    by true f e = absurd (grind (arith, f))
-    by false f e = sing_line-only ex.bars v text x e
+    by : (b : Bool) → b ≡ false → IsTable (cantus_or_sung ex v b) text x rest → IsLineFor ex.bars v text x rest
+    by true f h = absurd (grind (arith, f))
+    by false f h = sing_line-only ex.bars v text x rest h
 
 -- the lines of the free ones of so many voices
-record HaveLines (ex : Exercise) (a n : ℕ) (text : TextLines) (x : List (List Cell) × TextLines) : Type 0 where
+record HaveLines (ex : Exercise) (a n : ℕ) (text : TextLines) (x : List (List Cell)) (rest : TextLines) : Type 0 where
   pub words : List (List (List ℕ))
-  pub lines : line_texts text ≡ words ++ line_texts x.1
-  pub sung : AreSung ex.bars (λ v. get_or x.0 v []) (free_of ex a n) words
+  pub lines : line_texts text ≡ words ++ line_texts rest
+  pub sung : AreSung ex.bars (λ v. get_or x v []) (free_of ex a n) words
 
 voices-only : (ex : Exercise) (n a : ℕ) (before : List (List Cell)) (text : TextLines)
-    (x : List (List Cell) × TextLines)
-    → length before ≡ a → voices_in ex (range_with_len a n) before text ≡ Ok x → HaveLines ex a n text x
-unfolding voices_in
-voices-only ex zero a before text x long e =
-    record { words = []; lines = ap (λ y. line_texts y.1) (value_is (before, text) x _ refl e); sung = tt }
-voices-only ex (suc n) a before text x long e =
-    let cells = bind_ok (voice_in ex a text)
-    (λ found. voices_in ex (range_with_len (a + 1) n) (before ++ found.0 ∷ []) found.1) x e in
-    let more = before ++ cells.0.0 ∷ [] in
-    let long_more : length more ≡ a + 1 = length-append before (cells.0.0 ∷ []) ∙ omega (arith, long) in
-    let rest = voices-only ex n (a + 1) more cells.0.1 x long_more cells.2 in
-    let kept = voices-keep ex n (a + 1) more cells.0.1 x long_more cells.2 in
-    let own : get_or x.0 a [] ≡ cells.0.0 = kept.kept a (omega arith) ∙ ap (λ k. get_or more k []) (sym long)
-    ∙ get_or-end before cells.0.0 in
-    by (a == ex.cantus_voice) refl cells.0 cells.1 own rest
+    (x : List (List Cell)) (rest : TextLines)
+    → length before ≡ a → IsTable (voices_table ex (range_with_len a n) before) text x rest → HaveLines ex a n text x rest
+voices-only ex zero a before text x rest long h = record { words = []; lines = ap line_texts h.1; sung = tt }
+voices-only ex (suc n) a before text x rest long (cells, b, voice, others) =
+    let more = before ++ cells ∷ [] in
+    let long_more : length more ≡ a + 1 = length-append before (cells ∷ []) ∙ omega (arith, long) in
+    let later = voices-only ex n (a + 1) more b x rest long_more others in
+    let kept = voices-keep ex n (a + 1) more b x rest long_more others in
+    let own : get_or x a [] ≡ cells = kept.kept a (omega arith) ∙ ap (λ k. get_or more k []) (sym long)
+    ∙ get_or-end before cells in
+    by (a == ex.cantus_voice) refl own later
   where
     Sung : List ℕ → List (List (List ℕ)) → Type 0
-    Sung vs words = AreSung ex.bars (λ v. get_or x.0 v []) vs words
+    Sung vs words = AreSung ex.bars (λ v. get_or x v []) vs words
 
-    by : (b : Bool) → (a == ex.cantus_voice) ≡ b → (cells : List Cell × TextLines) → voice_in ex a text ≡ Ok cells
-        → get_or x.0 a [] ≡ cells.0 → HaveLines ex (a + 1) n cells.1 x → HaveLines ex a (suc n) text x
-    by true f cells e own rest = record {
-      words = rest.words;
-      lines = ap line_texts (cantus-only ex a text cells f e) ∙ rest.lines;
-      sung = subst (λ vs. Sung vs rest.words) (sym (free-cantus ex a n f)) rest.sung;
+    by : (c : Bool) → (a == ex.cantus_voice) ≡ c → get_or x a [] ≡ cells → HaveLines ex (a + 1) n b x rest
+        → HaveLines ex a (suc n) text x rest
+    by true f own later = record {
+      words = later.words;
+      lines = ap line_texts (cantus-only ex a text cells b f voice) ∙ later.lines;
+      sung = subst (λ vs. Sung vs later.words) (sym (free-cantus ex a n f)) later.sung;
     }
-    by false f cells e own rest =
-        let l = other-only ex a text cells f e in
+    by false f own later =
+        let l = other-only ex a text cells b f voice in
         record {
-          words = l.words ∷ rest.words;
-          lines = l.line ∙ ap (λ ls. l.words ∷ ls) rest.lines;
-          sung = subst (λ vs. Sung vs (l.words ∷ rest.words)) (sym (free-other ex a n f))
-              (subst (λ cs. IsSung ex.bars a l.words cs) (sym own) l.sung, rest.sung);
+          words = l.words ∷ later.words;
+          lines = l.line ∙ ap (λ ls. l.words ∷ ls) later.lines;
+          sung = subst (λ vs. Sung vs (l.words ∷ later.words)) (sym (free-other ex a n f))
+              (subst (λ cs. IsSung ex.bars a l.words cs) (sym own) l.sung, later.sung);
         }
 
 -- ---- the score
@@ -157,45 +147,32 @@ score-setting ex lines long follow given = record {
 }
 
 -- what is read of `sing` lines is a setting with these lines
-pub sung_score-only : (ex : Exercise) (text : TextLines) (score : Grid) → ex.cantus_voice < ex.voices
+pub sung_score-only : (ex : Exercise) (text : TextLines) (score : Grid) (rest : TextLines) → ex.cantus_voice < ex.voices
     → length ex.cantus ≡ ex.bars
-    → sung_score ex text ≡ Ok score → Sings ex (line_texts text) (Some score)
-unfolding sung_score
-sung_score-only ex text score there whole e =
-    let lines = bind_ok (voices_in ex (range_with_len 0 ex.voices) [] text) _ score e in
-    let end = bind_ok (no_line lines.0.1) _ score lines.2 in
-    let same : score_of ex.bars lines.0.0 ≡ score = value_is (score_of ex.bars lines.0.0) score _ refl end.2 in
-    let long : length lines.0.0 ≡ ex.voices =
+    → IsTable (sung_table ex) text score rest → Sings ex (line_texts text) (Some score)
+sung_score-only ex text score rest there whole (lines, a, voices, (_, b, end, same)) =
+    let long : length lines ≡ ex.voices =
     omega (
       arith,
       voices-length ex
-          (range_with_len 0 ex.voices) [] text lines.0 lines.1,
+          (range_with_len 0 ex.voices) [] text lines a voices,
       length-range_with_len 0 ex.voices,
     ) in
-    let have = voices-only ex ex.voices 0 [] text lines.0 refl lines.1 in
+    let have = voices-only ex ex.voices 0 [] text lines a refl voices in
     let words : line_texts text ≡ have.words =
-    have.lines ∙ ap (λ ls. have.words ++ ls) (no_line-only lines.0.1 end.0 end.1) ∙ append-nil have.words in
-    let given = sung-valid ex text score there whole e in
-    let setting = score-setting ex lines.0.0 long
-    (voices-follow ex (range_with_len 0 ex.voices) [] text lines.0 tt lines.1)
-    (subst (IsGiven ex) (sym same) given) in
+    have.lines ∙ ap (λ ls. have.words ++ ls) (no-lines a end.0) ∙ append-nil have.words in
+    let keeps = voices-keep ex ex.voices 0 [] text lines a refl voices in
+    let given = score-given ex lines whole long (keeps.cantus (omega arith) (omega (arith, there))) in
+    let setting = score-setting ex lines long
+    (voices-follow ex (range_with_len 0 ex.voices) [] text lines a tt voices) given in
     subst (λ ls. Sings ex ls (Some score)) (sym words)
-    (subst (λ s. Sings ex have.words (Some s)) same
-    (setting, sung-columns ex.bars lines.0.0 (free_voices ex) have.words have.sung))
+    (subst (λ s. Sings ex have.words (Some s)) same.0
+    (setting, sung-columns ex.bars lines (free_voices ex) have.words have.sung))
 
-pub setting-only : (ex : Exercise) (text : TextLines) (o : Option Grid) → ex.cantus_voice < ex.voices
-    → length ex.cantus ≡ ex.bars
-    → setting_in ex text ≡ Ok o → Sings ex (line_texts text) o
-unfolding setting_in
-setting-only ex text o there whole e = by (begins (codes "sing") text) e
-  where
-    by : (b : Bool) →
-        (if b then (sung_score ex text >>= λ score. Ok (Some score)) else (no_line text >>= λ end. Ok None)) ≡ Ok o
-        → Sings ex (line_texts text) o
-    by true e =
-        let score = bind_ok (sung_score ex text) (λ score. Ok (Some score)) o e in
-        subst (Sings ex (line_texts text)) (value_is (Some score.0) o _ refl score.2)
-        (sung_score-only ex text score.0 there whole score.1)
-    by false e =
-        let end = bind_ok (no_line text) (λ end. Ok None) o e in
-        subst (Sings ex (line_texts text)) (value_is None o _ refl end.2) (no_line-only text end.0 end.1)
+pub setting-only : (ex : Exercise) (text : TextLines) (o : Option Grid) (rest : TextLines)
+    → ex.cantus_voice < ex.voices → length ex.cantus ≡ ex.bars
+    → IsTable (setting_table ex) text o rest → Sings ex (line_texts text) o
+setting-only ex text o rest there whole (inl (begins, (score, a, sung, same))) =
+    subst (Sings ex (line_texts text)) same.0 (sung_score-only ex text score a there whole sung)
+setting-only ex text o rest there whole (inr (begins, (_, a, end, same))) =
+    subst (Sings ex (line_texts text)) same.0 (no-lines text end.0)

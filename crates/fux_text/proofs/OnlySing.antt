@@ -12,27 +12,27 @@ use Rattle.fux_pitch.specs.Names.{name_of}
 use Rattle.fux_grid.specs.declared.cell.Cell.{Cell}
 use Rattle.fux_grid.specs.declared.cell.Cell.TheVariants.{Rest, Hold, Start}
 use Rattle.fux_grid.specs.Cells.{is_hold, pitch_of}
+use Rattle.text_lines.specs.declared.fault.TextKind.{TextKind}
 use Rattle.text_lines.specs.declared.fault.TextKind.TheVariants as kinds
 use Rattle.text_lines.specs.Faults.{◌>>=◌}
 use Rattle.text_lines.specs.Lines.{TextLines}
 use Rattle.text_lines.specs.Numbers.{if_within, number_of}
-use Rattle.text_lines.specs.Reading.{fault_at, fault_beyond, headed, number_in, same_text}
-use Rattle.text_lines.specs.Words.{LineWords, PlacedWord}
+use Rattle.text_lines.specs.Reading.{same_text}
+use Rattle.text_lines.specs.Rows.{IsRun, refused_if}
+use Rattle.text_lines.specs.Tables.{IsLine}
 use Rattle.text_lines.proofs.Binds.{bind_ok, ok_or_ok}
 use Rattle.fux_text.specs.declared.item_words.ItemName.{ItemName}
 use Rattle.fux_text.specs.declared.item_words.ItemName.TheVariants as names
 use Rattle.fux_text.specs.Grammar.{IsBar, IsSung, cells_of, cells_of_bars}
 use Rattle.fux_text.specs.Items.{item_name, item_word}
 use Rattle.fux_text.specs.Names.{pitch_named}
-use Rattle.fux_text.specs.Ranges.{refused_if}
-use Rattle.fux_text.specs.Sing.{bar_line_in, first_cell, held, is_colon, is_full, item_cells, item_in, item_named, item_parts, latest, sing_line_in, sung_end, sung_in, sung_word, sung_words}
+use Rattle.fux_text.specs.Sing.{bar_line_said, first_cell, held, is_colon, is_full, item_cells, item_named, item_parts, item_said, latest, sing_row, sung_end, sung_run, sung_word}
 use Rattle.fux_text.specs.Words.{texts}
 use Rattle.fux_text.proofs.Bounds.{number-bounds, within-bounds}
-use Rattle.fux_text.proofs.Following.{value_is}
+use Rattle.fux_text.proofs.Following.{go_on, value_is}
 use Rattle.fux_text.proofs.Named.{text_from}
-use Rattle.fux_text.proofs.OnlyWords.{headed-only, line_texts, number_in-only, number-only, pitch-only}
+use Rattle.fux_text.proofs.OnlyWords.{line-words, line_texts, number-only, number-words, pitch-only}
 use Rattle.fux_text.proofs.OwnItems.{lengths}
-use Rattle.fux_text.proofs.ValidRanges.{not_refused}
 
 -- ---- an item
 
@@ -143,26 +143,24 @@ inside m n e = by (nat_le 1 m && nat_le m 8) e
     by true e = grind (arith, e)
     by false e = absurd (grind (arith, e))
 
-item_in-only : (bar : ℕ) (done : List Cell) (w : PlacedWord) (item : Cell × ℕ) → item_in bar done w ≡ Ok item
-    → IsItemAt bar done w.text item
-unfolding item_in
-item_in-only bar done w item e =
-    let parts = bind_ok (ok_or (item_parts w.text) (fault_at kinds.Word w)) _ item e in
-    let name = bind_ok (ok_or (item_named parts.0.0) (fault_at kinds.Pitch w)) _ item parts.2 in
-    let count = bind_ok (ok_or (if_within 1 8 parts.0.1) (fault_at kinds.Length w)) _ item name.2 in
-    let cell = bind_ok
-    (ok_or (first_cell (length done == 8 * bar) (latest Rest done) name.0)
-    (fault_at kinds.Tie w)) _ item count.2 in
-    let p = ok_or_ok (item_parts w.text) (fault_at kinds.Word w) parts.0 parts.1 in
-    let n = ok_or_ok (item_named parts.0.0) (fault_at kinds.Pitch w) name.0 name.1 in
-    let k = ok_or_ok (if_within 1 8 parts.0.1) (fault_at kinds.Length w) count.0 count.1 in
-    let c = ok_or_ok (first_cell (length done == 8 * bar) (latest Rest done) name.0)
-    (fault_at kinds.Tie w) cell.0 cell.1 in
+item_said-only : (bar : ℕ) (done : List Cell) (text : List ℕ) (item : Cell × ℕ) → item_said bar done text ≡ Ok item
+    → IsItemAt bar done text item
+unfolding item_said
+item_said-only bar done text item e =
+    let parts = bind_ok (ok_or (item_parts text) kinds.Word) _ item e in
+    let name = bind_ok (ok_or (item_named parts.0.0) kinds.Pitch) _ item parts.2 in
+    let count = bind_ok (ok_or (if_within 1 8 parts.0.1) kinds.Length) _ item name.2 in
+    let first = first_cell (length done == 8 * bar) (latest Rest done) name.0 in
+    let cell = bind_ok (ok_or first kinds.Tie) _ item count.2 in
+    let p = ok_or_ok (item_parts text) kinds.Word parts.0 parts.1 in
+    let n = ok_or_ok (item_named parts.0.0) kinds.Pitch name.0 name.1 in
+    let k = ok_or_ok (if_within 1 8 parts.0.1) kinds.Length count.0 count.1 in
+    let c = ok_or_ok first kinds.Tie cell.0 cell.1 in
     let called = first_cell-only parts.0.0 (length done == 8 * bar) (latest Rest done) cell.0 name.0
     (item_named-only parts.0.0 name.0 n) c in
-    subst (IsItemAt bar done w.text) (value_is (cell.0, count.0) item _ refl cell.2)
+    subst (IsItemAt bar done text) (value_is (cell.0, count.0) item _ refl cell.2)
     (record {
-      word = item_parts-only w.text parts.0 p ∙ ap (λ first. first ++ 58 ∷ decimal parts.0.1) called.name
+      word = item_parts-only text parts.0 p ∙ ap (λ first. first ++ 58 ∷ decimal parts.0.1) called.name
           ∙ ap (λ m. item_name cell.0 ++ 58 ∷ decimal m) (inside parts.0.1 count.0 k);
       some = (within-bounds 1 8 (Some parts.0.1) count.0 k).above;
       tie = λ h. eqb-true (length done) (8 * bar) (called.tie h);
@@ -186,16 +184,20 @@ record AreLeft (count bar : ℕ) (done : List Cell) (words : List (List ℕ)) (c
 full-only : (bar : ℕ) (done : List Cell) → not (is_full bar done) ≡ false → length done ≡ 8 * bar + 8
 full-only bar done e = eqb-true (length done) (8 * bar + 8) (not-false (is_full bar done) e)
 
-end-only : (count bar : ℕ) (done : List Cell) (at : LineWords) (cells : List Cell) → sung_end count bar done at
-    ≡ Ok cells
+-- where nothing was refused, the test failed
+not_refused : (bad : Bool) (kind : TextKind) (x : Unit {0}) → refused_if bad kind ≡ Ok x → bad ≡ false
+not_refused true kind x e = absurd (grind (arith, e))
+not_refused false kind x e = refl
+
+end-only : (count bar : ℕ) (done cells : List Cell) → sung_end count (bar, done) ≡ Ok cells
     → AreLeft count bar done [] cells
 unfolding sung_end
-end-only count bar done at cells e =
-    let full = bind_ok (refused_if (not (is_full bar done)) (fault_beyond kinds.Length at)) _ cells e in
-    let whole = bind_ok (refused_if (not (bar + 1 == count)) (fault_beyond kinds.BarLine at)) _ cells full.2 in
-    let long = full-only bar done (not_refused (not (is_full bar done)) (fault_beyond kinds.Length at) full.0 full.1) in
+end-only count bar done cells e =
+    let full = bind_ok (refused_if (not (is_full bar done)) kinds.Length) _ cells e in
+    let whole = bind_ok (refused_if (not (bar + 1 == count)) kinds.BarLine) _ cells full.2 in
+    let long = full-only bar done (not_refused (not (is_full bar done)) kinds.Length full.0 full.1) in
     let same = eqb-true (bar + 1) count (not-false (bar + 1 == count)
-    (not_refused (not (bar + 1 == count)) (fault_beyond kinds.BarLine at) whole.0 whole.1)) in
+    (not_refused (not (bar + 1 == count)) kinds.BarLine whole.0 whole.1)) in
     record {
       items = [];
       more = [];
@@ -209,13 +211,13 @@ end-only count bar done at cells e =
       whole = tt;
     }
 
-bar_line-only : (count bar next : ℕ) (done : List Cell) (w : PlacedWord) → bar_line_in count bar done w ≡ Ok next
+bar_line-only : (count bar next : ℕ) (done : List Cell) → bar_line_said count bar done ≡ Ok next
     → (length done ≡ 8 * bar + 8) × (next ≡ bar + 1)
-unfolding bar_line_in
-bar_line-only count bar next done w e =
-    let full = bind_ok (refused_if (not (is_full bar done)) (fault_at kinds.Length w)) _ next e in
-    let more = bind_ok (refused_if (bar + 1 == count) (fault_at kinds.BarLine w)) _ next full.2 in (
-      full-only bar done (not_refused (not (is_full bar done)) (fault_at kinds.Length w) full.0 full.1),
+unfolding bar_line_said
+bar_line-only count bar next done e =
+    let full = bind_ok (refused_if (not (is_full bar done)) kinds.Length) _ next e in
+    let more = bind_ok (refused_if (bar + 1 == count) kinds.BarLine) _ next full.2 in (
+      full-only bar done (not_refused (not (is_full bar done)) kinds.Length full.0 full.1),
       sym (value_is (bar + 1) next _ refl more.2),
     )
 
@@ -270,49 +272,47 @@ left-item count bar done text words cells item low i r =
       whole = r.whole;
     }
 
-word-only : (count bar : ℕ) (done : List Cell) (w : PlacedWord) (words : List (List ℕ)) (cells : List Cell)
+word-only : (count bar : ℕ) (done : List Cell) (text : List ℕ) (words : List (List ℕ)) (cells : List Cell)
     (out : ℕ × List Cell)
-    → 8 * bar ≤ length done → sung_word count bar done w ≡ Ok out
+    → 8 * bar ≤ length done → sung_word count (bar, done) text ≡ Ok out
     → (8 * out.0 ≤ length out.1 → AreLeft count out.0 out.1 words cells)
-    → AreLeft count bar done (w.text ∷ words) cells
+    → AreLeft count bar done (text ∷ words) cells
 unfolding sung_word
-word-only count bar done w words cells out low e rest = by (same_text w.text (codes "|")) refl e
+word-only count bar done text words cells out low e rest = by (same_text text (codes "|")) refl e
   where
     Left : ℕ × List Cell → Type 0
     Left x = 8 * x.0 ≤ length x.1 → AreLeft count x.0 x.1 words cells
 
-    by : (b : Bool) → same_text w.text (codes "|") ≡ b
-        → (if b then (bar_line_in count bar done w >>= λ next. Ok (next, done))
-        else (item_in bar done w >>= λ item. Ok (bar, done ++ item_cells item.0 item.1))) ≡ Ok out
-        → AreLeft count bar done (w.text ∷ words) cells
+    by : (b : Bool) → same_text text (codes "|") ≡ b
+        → (if b then (bar_line_said count bar done >>= λ next. go_on done next)
+        else (item_said bar done text >>= λ item. go_on (done ++ item_cells item.0 item.1) bar)) ≡ Ok out
+        → AreLeft count bar done (text ∷ words) cells
     by true f e =
-        let next = bind_ok (bar_line_in count bar done w) (λ next. Ok (next, done)) out e in
-        let line = bar_line-only count bar next.0 done w next.1 in
+        let next = bind_ok (bar_line_said count bar done) (λ next. go_on done next) out e in
+        let line = bar_line-only count bar next.0 done next.1 in
         let so_far : (bar + 1, done) ≡ out = ap (λ n. (n, done)) (sym line.1)
         ∙ value_is (next.0, done) out _ refl next.2 in
-        left-bar count bar done w.text words cells (text_from w.text (codes "|") f) line.0
+        left-bar count bar done text words cells (text_from text (codes "|") f) line.0
         (subst Left (sym so_far) rest (omega (arith, line.0)))
     by false f e =
-        let item = bind_ok (item_in bar done w) (λ item. Ok (bar, done ++ item_cells item.0 item.1)) out e in
+        let item = bind_ok (item_said bar done text) (λ item. go_on (done ++ item_cells item.0 item.1) bar) out e in
         let so_far : (bar, done ++ item_cells item.0.0 item.0.1) ≡ out =
         value_is (bar, done ++ item_cells item.0.0 item.0.1) out _ refl item.2 in
-        left-item count bar done w.text words cells item.0 low (item_in-only bar done w item.0 item.1)
+        left-item count bar done text words cells item.0 low (item_said-only bar done text item.0 item.1)
         (subst Left (sym so_far) rest (omega (arith, low, length-append done (item_cells item.0.0 item.0.1))))
 
-sung_words-only : (count bar : ℕ) (done : List Cell) (at : LineWords) (ws : List PlacedWord) (cells : List Cell)
+sung_words-only : (count bar : ℕ) (done : List Cell) (words : List (List ℕ)) (cells : List Cell)
     → 8 * bar ≤ length done
-    → sung_words count bar done at ws ≡ Ok cells → AreLeft count bar done (map (λ w. w.text) ws) cells
-sung_words-only count bar done at [] cells low e = end-only count bar done at cells e
-sung_words-only count bar done at (w ∷ ws) cells low e =
-    let step = bind_ok (sung_word count bar done w) (λ so_far. sung_words count so_far.0 so_far.1 at ws) cells e in
-    word-only count bar done w (map (λ x. x.text) ws) cells step.0 low step.1
-    (λ long. sung_words-only count step.0.0 step.0.1 at ws cells long step.2)
+    → IsRun (sung_run count) (bar, done) words cells → AreLeft count bar done words cells
+sung_words-only count bar done [] cells low h = end-only count bar done cells h
+sung_words-only count bar done (word ∷ words) cells low ((next, more), e, h) =
+    word-only count bar done word words cells (next, more) low e
+    (λ long. sung_words-only count next more words cells long h)
 
-pub sung_in-only : (count v : ℕ) (at : LineWords) (cells : List Cell) → sung_in count at ≡ Ok cells
-    → IsSung count v (codes "sing" ∷ decimal v ∷ texts at) cells
-unfolding sung_in
-sung_in-only count v at cells e =
-    let r = sung_words-only count 0 [] at at.words cells (omega arith) e in
+pub run-only : (count v : ℕ) (words : List (List ℕ)) (cells : List Cell) → IsRun (sung_run count) (0, []) words cells
+    → IsSung count v (codes "sing" ∷ decimal v ∷ words) cells
+run-only count v words cells h =
+    let r = sung_words-only count 0 [] words cells (omega arith) h in
     record {
       items = r.items ∷ r.more;
       written = ap (λ ws. codes "sing" ∷ decimal v ∷ ws) r.written;
@@ -322,26 +322,22 @@ sung_in-only count v at cells e =
     }
 
 -- the line that is read for a voice
-pub record IsLineFor (count v : ℕ) (text : TextLines) (x : List Cell × TextLines) : Type 0 where
+pub record IsLineFor (count v : ℕ) (text : TextLines) (cells : List Cell) (rest : TextLines) : Type 0 where
   pub words : List (List ℕ)
-  pub line : line_texts text ≡ words ∷ line_texts x.1
-  pub sung : IsSung count v words x.0
+  pub line : line_texts text ≡ words ∷ line_texts rest
+  pub sung : IsSung count v words cells
 
-pub sing_line-only : (count v : ℕ) (text : TextLines) (x : List Cell × TextLines) → sing_line_in count v text ≡ Ok x
-    → IsLineFor count v text x
-unfolding sing_line_in
-sing_line-only count v text x e =
-    let line = bind_ok (headed kinds.Sing (codes "sing") text) _ x e in
-    let voice = bind_ok (number_in kinds.Sing v v line.0.0) _ x line.2 in
-    let cells = bind_ok (sung_in count voice.0.1) _ x voice.2 in
-    let bounds = number-bounds kinds.Sing v v line.0.0 voice.0 voice.1 in
-    let same : voice.0.0 ≡ v = omega (arith, bounds.above, bounds.below) in
-    subst (IsLineFor count v text) (value_is (cells.0, line.0.1) x _ refl cells.2)
-    (record {
-      words = codes "sing" ∷ decimal v ∷ texts voice.0.1;
-      line = headed-only kinds.Sing (codes "sing") text line.0 line.1
-          ∙ ap (λ ws. (codes "sing" ∷ ws) ∷ line_texts line.0.1)
-          (number_in-only kinds.Sing v v line.0.0 voice.0 voice.1)
-          ∙ ap (λ n. (codes "sing" ∷ decimal n ∷ texts voice.0.1) ∷ line_texts line.0.1) same;
-      sung = sung_in-only count v voice.0.1 cells.0 cells.1;
-    })
+pub sing_line-only : (count v : ℕ) (text : TextLines) (cells : List Cell) (rest : TextLines)
+    → IsLine (codes "sing") (sing_row count v) text cells rest → IsLineFor count v text cells rest
+sing_line-only count v text cells rest l =
+    let n = l.right.0 in
+    let behind = l.right.1 in
+    let bounds = number-bounds kinds.Sing v v n l.words behind l.right.2 in
+    let same : n ≡ v = omega (arith, bounds.above, bounds.below) in
+    record {
+      words = codes "sing" ∷ decimal v ∷ texts behind;
+      line = line-words (codes "sing") (sing_row count v) text cells rest l
+          ∙ ap (λ ws. (codes "sing" ∷ ws) ∷ line_texts rest) (number-words kinds.Sing v v n l.words behind l.right.2)
+          ∙ ap (λ n. (codes "sing" ∷ decimal n ∷ texts behind) ∷ line_texts rest) same;
+      sung = run-only count v (texts behind) cells l.right.3;
+    }

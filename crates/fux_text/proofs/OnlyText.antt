@@ -1,28 +1,19 @@
 -- A text that is read is a note text of what is read (`note_text-only`), and lines that are read as a setting are its
 -- lines (`setting_lines-only`).
-use Rattle.std.proofs.Common.{◌≡◌, ℕ, ◌≤◌, Bool, true, false, List, ◌∷◌, ◌++◌, length, map, Option, Some, None, Ok, Err, refl, sym, ap, subst, ◌∙◌, append_assoc, arith}
-use Rattle.std.specs.Prelude.{nat_lt, if◌then◌else◌}
-use Rattle.std.specs.Str.{IsUtf8, is_utf8}
-use Rattle.std.proofs.lemmas.Bool.{ltb-false}
-use Rattle.std.proofs.lemmas.Str.{IsUtf8-from_is_utf8}
+use Rattle.std.proofs.Common.{◌≡◌, ℕ, List, ◌∷◌, ◌++◌, map, Option, Some, None, Ok, refl, sym, ap, subst, ◌∙◌, append_assoc}
 use Rattle.fux_grid.specs.declared.exercise.Exercise.{Exercise}
 use Rattle.fux_grid.specs.declared.exercise.RangeLine.{RangeLine}
 use Rattle.fux_grid.specs.declared.exercise.Relax.{Relax}
 use Rattle.fux_grid.specs.Exercises.{IsValid}
 use Rattle.fux_grid.specs.Grid.{Grid}
-use Rattle.text_lines.specs.declared.fault.TextKind.TheVariants.{TooLong}
 use Rattle.text_lines.specs.Lines.{TextLines, lines_in}
-use Rattle.text_lines.specs.Utf8.{fault_of_utf8, text_in}
-use Rattle.text_lines.proofs.Binds.{bind_ok}
+use Rattle.text_lines.specs.Tables.{IsTable}
+use Rattle.text_lines.proofs.TextLemmas.{text-right}
 use Rattle.fux_text.specs.Grammar.{AreSettingLines, IsNoteText, Sings}
-use Rattle.fux_text.specs.Head.{head_in}
 use Rattle.fux_text.specs.Lines.{cantus_words, exercise_lines, head_lines, range_words, relax_words}
-use Rattle.fux_text.specs.Ranges.{ranges_in}
-use Rattle.fux_text.specs.Reading.{exercise_in, setting_alone}
-use Rattle.fux_text.specs.Relaxing.{relaxes_in}
-use Rattle.fux_text.specs.Sing.{setting_in}
+use Rattle.fux_text.specs.Reading.{exercise_in, note_table, setting_alone}
+use Rattle.fux_text.specs.Sing.{sung_table}
 use Rattle.fux_text.specs.Words.{words_in}
-use Rattle.fux_text.proofs.Following.{value_is}
 use Rattle.fux_text.proofs.OnlyHead.{head-only}
 use Rattle.fux_text.proofs.OnlyRanges.{ranges-only, relaxes-only}
 use Rattle.fux_text.proofs.OnlySetting.{setting-only, sung_score-only}
@@ -30,27 +21,10 @@ use Rattle.fux_text.proofs.OnlyWords.{line_texts}
 use Rattle.fux_text.proofs.ValidHead.{head-valid}
 use Rattle.fux_text.proofs.ValidText.{exercise-valid}
 
--- a text that is read at all
-record IsShortText (bytes : List ℕ) (text : TextLines) : Type 0 where
-  pub short : length bytes ≤ 65536
-  pub utf8 : IsUtf8 bytes
-  pub words : words_in bytes ≡ line_texts text
-
-text_in-only : (bytes : List ℕ) (text : TextLines) → text_in bytes ≡ Ok text → IsShortText bytes text
-unfolding text_in words_in
-text_in-only bytes text e = by (nat_lt 65536 (length bytes)) refl (is_utf8 bytes) refl e
-  where
-    by : (long : Bool) → nat_lt 65536 (length bytes) ≡ long → (utf8 : Bool) → is_utf8 bytes ≡ utf8
-        → (if long then Err (record { kind = TooLong; line = 1; column = 1 })
-        else (if utf8 then Ok (lines_in bytes) else Err (fault_of_utf8 bytes))) ≡ Ok text
-        → IsShortText bytes text
-    by true l u f e = absurd (grind (arith, e))
-    by false l true f e = record {
-      short = ltb-false 65536 (length bytes) l;
-      utf8 = IsUtf8-from_is_utf8 bytes f;
-      words = ap line_texts (value_is (lines_in bytes) text _ refl e);
-    }
-    by false l false f e = absurd (grind (arith, e))
+-- the words of bytes are those of their lines
+words-of_lines : (bytes : List ℕ) → words_in bytes ≡ line_texts (lines_in bytes)
+unfolding words_in
+words-of_lines bytes = refl
 
 -- the lines of an exercise's head, its ranges and its relax lines are those of the exercise
 all_lines : (head : Exercise) (ranges : List RangeLine) (relax : List Relax) (o : Option Grid)
@@ -79,46 +53,45 @@ sings_whole head ranges relax setting lines (Some score) sings =
       sings.1,
     )
 
+-- the lines of an exercise and those of its setting
+lines-only : (text : TextLines) (ex : Exercise) (rest : TextLines) → IsTable note_table text ex rest
+    → (sung : List (List (List ℕ))) × (line_texts text ≡ exercise_lines ex ++ sung) × Sings ex sung ex.setting
+lines-only text ex rest (head, a, h, (ranges, b, rs, (relax, c, ls, (setting, d, sg, same)))) =
+    let ok = head-valid text head a h in
+    let sung = line_texts c in
+    subst (λ (found : Exercise). (sung : List (List (List ℕ))) × (line_texts text ≡ exercise_lines found ++ sung)
+    × Sings found sung found.setting) same.0 (
+      sung,
+      head-only text head a h
+          ∙ ap (λ ls. head_lines head ++ cantus_words head ∷ ls)
+          (ranges-only head a ranges b rs ∙ ap (λ ls. map range_words ranges ++ ls) (relaxes-only head b relax c ls))
+          ∙ all_lines head ranges relax setting sung,
+      sings_whole head ranges relax setting sung setting (setting-only head c setting d ok.cantus_there ok.whole sg),
+    )
+
 pub note_text-only : (bytes : List ℕ) (ex : Exercise) → exercise_in bytes ≡ Ok ex → IsNoteText bytes ex
 unfolding exercise_in
 note_text-only bytes ex e =
-    let text = bind_ok (text_in bytes) _ ex e in
-    let head = bind_ok (head_in text.0) _ ex text.2 in
-    let ranges = bind_ok (ranges_in head.0.0 head.0.1) _ ex head.2 in
-    let relax = bind_ok (relaxes_in head.0.0 ranges.0.1) _ ex ranges.2 in
-    let setting = bind_ok (setting_in head.0.0 relax.0.1) _ ex relax.2 in
-    let short = text_in-only bytes text.0 text.1 in
-    let h = head-valid text.0 head.0 head.1 in
-    let sung = line_texts relax.0.1 in
-    let found : Exercise = record head.0.0 { ranges = ranges.0.0; relax = relax.0.0; setting = setting.0 } in
-    let same : found ≡ ex = value_is found ex _ refl setting.2 in
-    let valid = exercise-valid bytes ex e in
-    subst (IsNoteText bytes) same
-    (record {
-      short = short.short;
-      utf8 = short.utf8;
-      sung = sung;
-      lines = short.words
-          ∙ head-only text.0 head.0 head.1
-          ∙ ap (λ ls. head_lines head.0.0 ++ cantus_words head.0.0 ∷ ls)
-          (ranges-only head.0.0 head.0.1 ranges.0 ranges.1
-          ∙ ap (λ ls. map range_words ranges.0.0 ++ ls) (relaxes-only head.0.0 ranges.0.1 relax.0 relax.1))
-          ∙ all_lines head.0.0 ranges.0.0 relax.0.0 setting.0 sung;
-      valid = subst IsValid (sym same) valid;
-      setting = sings_whole head.0.0 ranges.0.0 relax.0.0 setting.0 sung setting.0
-          (setting-only head.0.0 relax.0.1 setting.0 h.cantus_there h.whole setting.1);
-    })
+    let r = text-right note_table bytes ex e in
+    let l = lines-only (lines_in bytes) ex r.rest r.lines in
+    record {
+      short = r.short;
+      utf8 = r.utf8;
+      sung = l.0;
+      lines = words-of_lines bytes ∙ l.1;
+      valid = exercise-valid bytes ex e;
+      setting = l.2;
+    }
 
 pub setting_lines-only : (ex : Exercise) (bytes : List ℕ) (score : Grid) → IsValid ex → setting_alone ex bytes
     ≡ Ok score
     → AreSettingLines ex bytes score
 unfolding setting_alone
 setting_lines-only ex bytes score valid e =
-    let text = bind_ok (text_in bytes) _ score e in
-    let short = text_in-only bytes text.0 text.1 in
+    let r = text-right (sung_table ex) bytes score e in
     record {
-      short = short.short;
-      utf8 = short.utf8;
-      setting = subst (λ ls. Sings ex ls (Some score)) (sym short.words)
-          (sung_score-only ex text.0 score valid.cantus_there valid.whole_cantus text.2);
+      short = r.short;
+      utf8 = r.utf8;
+      setting = subst (λ ls. Sings ex ls (Some score)) (sym (words-of_lines bytes))
+          (sung_score-only ex (lines_in bytes) score r.rest valid.cantus_there valid.whole_cantus r.lines);
     }

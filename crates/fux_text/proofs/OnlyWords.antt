@@ -1,10 +1,10 @@
--- What is read as a name or a number is what is written of it, and each step of reading takes the words that it says
--- (`number_in-only`, `headed-only`).
-use Rattle.std.proofs.Common.{◌≡◌, ℕ, ◌+◌, ◌-◌, ◌*◌, ◌/◌, ◌%◌, ◌≤◌, ◌^◌, Bool, true, false, List, [], ◌∷◌, ◌++◌, length, map, Option, Some, None, Ok, Err, refl, sym, ap, subst, ◌∙◌, append_assoc, arith}
+-- What is read as a name or a number is what is written of it, and a right line has the words that its row says
+-- (`line-words`, `many-words`).
+use Rattle.std.proofs.Common.{◌≡◌, ℕ, ◌+◌, ◌-◌, ◌*◌, ◌/◌, ◌%◌, ◌≤◌, ◌^◌, Bool, true, false, List, [], ◌∷◌, ◌++◌, length, map, Option, Some, None, Ok, refl, sym, ap, subst, ◌∙◌, append_assoc, arith}
 use Rattle.std.specs.Prelude.{◌==◌, ◌&&◌, not, codes, find, nat_le, option_map, if◌then◌else◌}
 use Rattle.std.specs.Fmt.{decimal}
 use Rattle.std.specs.List.{range_with_len}
-use Rattle.std.specs.Option.{ok_or, option_and_then}
+use Rattle.std.specs.Option.{option_and_then}
 use Rattle.std.proofs.lemmas.List.{append-nil}
 use Rattle.std.proofs.lemmas.Fmt.{decimal_digit, decimal_step}
 use Rattle.fux_pitch.specs.declared.mode.Mode.{Mode}
@@ -13,17 +13,17 @@ use Rattle.fux_pitch.specs.Names.{name_of}
 use Rattle.fux_grid.specs.declared.exercise.VoiceSet.{VoiceSet}
 use Rattle.text_lines.specs.declared.fault.TextKind.{TextKind}
 use Rattle.text_lines.specs.declared.fault.TextKind.TheVariants as kinds
-use Rattle.text_lines.specs.Faults.{◌>>=◌}
-use Rattle.text_lines.specs.Lines.{TextLines, first_line_of}
+use Rattle.text_lines.specs.Lines.{TextLines, first_line, first_line_of}
 use Rattle.text_lines.specs.Numbers.{digits_after, if_within, is_digit, number_of, number_within}
-use Rattle.text_lines.specs.Reading.{done, fault_at, fault_here, fault_of_line, fault_past, headed, literal, next, none_left, none_of_lines, no_line, number_in, same_text}
-use Rattle.text_lines.specs.Words.{LineWords, PlacedWord, first_of}
-use Rattle.text_lines.proofs.Binds.{bind_ok, ok_or_ok}
+use Rattle.text_lines.specs.Reading.{same_text}
+use Rattle.text_lines.specs.Rows.{IsRow, Place, Row, Stands, named_place, number_place, right_word, word_place}
+use Rattle.text_lines.specs.Tables.{AreMany, IsLine, Many}
+use Rattle.text_lines.specs.Words.{LineWords, PlacedWord, first_of, first_word}
+use Rattle.text_lines.proofs.Binds.{ok_or_ok}
 use Rattle.fux_text.specs.Lines.{mode_name, voices_word}
 use Rattle.fux_text.specs.Names.{mode_named, modes, pitch_named, pitches}
 use Rattle.fux_text.specs.Relaxing.{is_set, rule_named, voices_named}
 use Rattle.fux_text.specs.Words.{texts}
-use Rattle.fux_text.proofs.Following.{value_is}
 use Rattle.fux_text.proofs.Named.{found_name, text_from}
 
 -- ---- numbers
@@ -172,82 +172,101 @@ set-only voices text o e = by (same_text (voices_word None) text) refl e
 
 -- ---- words and lines
 
-pub next-only : (kind : TextKind) (at : LineWords) (x : PlacedWord × LineWords) → next kind at ≡ Ok x → texts at
-    ≡ x.0.text ∷ texts x.1
-unfolding next
-next-only kind at x e = by at.words refl e
+pub stands-words : {V : Type 0} (p : Place V) (x : V) (at rest : LineWords) (s : Stands p x at rest)
+    → texts at ≡ s.word.text ∷ texts rest
+stands-words p x at rest s = by at.words refl s.next
   where
-    by : (ws : List PlacedWord) → at.words ≡ ws → ok_or (first_of at ws) (fault_past kind at) ≡ Ok x → texts at
-        ≡ x.0.text ∷ texts x.1
+    behind : PlacedWord → List PlacedWord → LineWords
+    behind w ws = record at { past = w.column + length w.text; words = ws }
+
+    found : (w : PlacedWord) (ws : List PlacedWord) → first_of at (w ∷ ws) ≡ Some (s.word, rest)
+        → (w ≡ s.word) × (behind w ws ≡ rest)
+    found w ws e = (grind (arith, e), grind (arith, e))
+
+    by : (ws : List PlacedWord) → at.words ≡ ws → first_of at ws ≡ Some (s.word, rest)
+        → texts at ≡ s.word.text ∷ texts rest
     by [] f e = absurd (grind (arith, e))
     by (w ∷ ws) f e =
-        let rest : LineWords = record at { past = w.column + length w.text; words = ws } in
+        let same = found w ws e in
         ap (λ words. map (λ word. word.text) words) f
-        ∙ ap (λ y. y.0.text ∷ texts y.1) (value_is (w, rest) x _ refl e)
+        ∙ ap (λ (v : PlacedWord). v.text ∷ texts (behind w ws)) same.0 ∙ ap (λ t. s.word.text ∷ texts t) same.1
 
-pub done-only : (kind : TextKind) (at : LineWords) (x : Unit {0}) → done kind at ≡ Ok x → texts at ≡ []
-unfolding done
-done-only kind at x e = by at.words refl e
+pub no-words : (at : LineWords) → first_word at ≡ None → texts at ≡ []
+no-words at e = by at.words refl e
   where
-    by : (ws : List PlacedWord) → at.words ≡ ws → none_left kind (first_of at ws) ≡ Ok x → texts at ≡ []
+    by : (ws : List PlacedWord) → at.words ≡ ws → first_of at ws ≡ None → texts at ≡ []
     by [] f e = ap (λ words. map (λ word. word.text) words) f
     by (w ∷ ws) f e = absurd (grind (arith, e))
 
-pub literal-only : (kind : TextKind) (text : List ℕ) (at rest : LineWords) → literal kind text at ≡ Ok rest
-    → texts at ≡ text ∷ texts rest
-unfolding literal
-literal-only kind text at rest e =
-    let w = bind_ok (next kind at) _ rest e in
-    next-only kind at w.0 w.1 ∙ by w.0.0 w.0.1 (same_text w.0.0.text text) refl w.2
-  where
-    by : (w : PlacedWord) (others : LineWords) (t : Bool) → same_text w.text text ≡ t
-        → (if t then Ok others else Err (fault_at kind w)) ≡ Ok rest → w.text ∷ texts others ≡ text ∷ texts rest
-    by w others true f e =
-        ap (λ first. first ∷ texts others) (text_from w.text text f)
-        ∙ ap (λ at. text ∷ texts at) (value_is others rest _ refl e)
-    by w others false f e = absurd (grind (arith, e))
+-- a word that stands at the place of a name names it
+pub named-stands : {V : Type 0} (missing wrong : TextKind) (named : List ℕ → Option V) (x : V) (at rest : LineWords)
+    (s : Stands (named_place missing wrong named) x at rest) → named s.word.text ≡ Some x
+named-stands missing wrong named x at rest s = ok_or_ok (named s.word.text) wrong x s.right
 
-pub number_in-only : (kind : TextKind) (least most : ℕ) (at : LineWords) (x : ℕ × LineWords)
-    → number_in kind least most at ≡ Ok x
-    → texts at ≡ decimal x.0 ∷ texts x.1
-unfolding number_in
-number_in-only kind least most at x e =
-    let w = bind_ok (next kind at) _ x e in
-    let n = bind_ok (ok_or (number_within least most w.0.0.text) (fault_at kind w.0.0)) _ x w.2 in
-    let found = ok_or_ok (number_within least most w.0.0.text) (fault_at kind w.0.0) n.0 n.1 in
-    next-only kind at w.0 w.1
-    ∙ ap (λ first. first ∷ texts w.0.1) (within-only least most w.0.0.text n.0 found)
-    ∙ ap (λ y. decimal y.0 ∷ texts y.1) (value_is (n.0, w.0.1) x _ refl n.2)
+-- so the line's words are that of the name and those behind it
+pub name-words : {V : Type 0} (missing wrong : TextKind) (named : List ℕ → Option V) (name : V → List ℕ)
+    → ((text : List ℕ) (x : V) → named text ≡ Some x → text ≡ name x)
+    → (x : V) (at rest : LineWords) → Stands (named_place missing wrong named) x at rest → texts at ≡ name x ∷ texts rest
+name-words missing wrong named name own x at rest s =
+    stands-words (named_place missing wrong named) x at rest s
+    ∙ ap (λ word. word ∷ texts rest) (own s.word.text x (named-stands missing wrong named x at rest s))
+
+pub number-words : (kind : TextKind) (least most n : ℕ) (at rest : LineWords)
+    → Stands (number_place kind least most) n at rest → texts at ≡ decimal n ∷ texts rest
+number-words kind least most n at rest s =
+    name-words kind kind (number_within least most) decimal (within-only least most) n at rest s
+
+pub word-words : (kind : TextKind) (word : List ℕ) (at rest : LineWords) → Stands (word_place kind word) tt at rest
+    → texts at ≡ word ∷ texts rest
+word-words kind word at rest s =
+    stands-words (word_place kind word) tt at rest s
+    ∙ ap (λ first. first ∷ texts rest) (text_from s.word.text word (said (same_text s.word.text word) s.right))
+  where
+    said : (same : Bool) → right_word kind same ≡ Ok tt → same ≡ true
+    said true e = refl
+    said false e = absurd (grind (arith, e))
 
 -- the words of the lines that are left
 abbrev pub line_texts : TextLines → List (List (List ℕ))
 line_texts text = map texts text.lines
 
-pub headed-only : (kind : TextKind) (name : List ℕ) (text : TextLines) (x : LineWords × TextLines)
-    → headed kind name text ≡ Ok x
-    → line_texts text ≡ (name ∷ texts x.0) ∷ line_texts x.1
-unfolding headed
-headed-only kind name text x e = by text.lines refl e
+pub next-lines : (text rest : TextLines) (line : LineWords) → first_line text ≡ Some (line, rest)
+    → line_texts text ≡ texts line ∷ line_texts rest
+next-lines text rest line e = by text.lines refl e
   where
-    by : (lines : List LineWords) → text.lines ≡ lines
-        → (ok_or (first_line_of text.after lines) (fault_of_line kind text.after None)
-        >>= λ line. literal kinds.Head name line.0 >>= λ words. Ok (words, line.1)) ≡ Ok x
-        → line_texts text ≡ (name ∷ texts x.0) ∷ line_texts x.1
+    found : (l : LineWords) (lines : List LineWords) → first_line_of text.after (l ∷ lines) ≡ Some (line, rest)
+        → (l ≡ line) × (record { after = text.after; lines = lines } ≡ rest)
+    found l lines e = (grind (arith, e), grind (arith, e))
+
+    by : (lines : List LineWords) → text.lines ≡ lines → first_line_of text.after lines ≡ Some (line, rest)
+        → line_texts text ≡ texts line ∷ line_texts rest
     by [] f e = absurd (grind (arith, e))
     by (l ∷ lines) f e =
-        let words = bind_ok (literal kinds.Head name l) _ x e in
-        ap (λ found. map texts found) f
-        ∙ ap (λ ws. ws ∷ map texts lines) (literal-only kinds.Head name l words.0 words.1)
-        ∙ ap (λ y. (name ∷ texts y.0) ∷ line_texts y.1)
-        (value_is (words.0, record { after = text.after; lines = lines }) x _ refl words.2)
+        let same = found l lines e in
+        ap (λ found. map texts found) f ∙ ap (λ first. texts first ∷ map texts lines) same.0
+        ∙ ap (λ t. texts line ∷ line_texts t) same.1
 
-pub no_line-only : (text : TextLines) (x : Unit {0}) → no_line text ≡ Ok x → line_texts text ≡ []
-unfolding no_line fault_here
-no_line-only text x e = by text.lines refl e
+pub no-lines : (text : TextLines) → first_line text ≡ None → line_texts text ≡ []
+no-lines text e = by text.lines refl e
   where
-    by : (lines : List LineWords) → text.lines ≡ lines
-        → none_of_lines (fault_of_line kinds.Head text.after (first_line_of text.after lines))
-        (first_line_of text.after lines) ≡ Ok x
-        → line_texts text ≡ []
+    by : (lines : List LineWords) → text.lines ≡ lines → first_line_of text.after lines ≡ None → line_texts text ≡ []
     by [] f e = ap (λ found. map texts found) f
     by (l ∷ lines) f e = absurd (grind (arith, e))
+
+-- a right line of a name has that name, and the words behind it
+pub line-words : {V : Type 0} (name : List ℕ) (row : Row V) (text : TextLines) (x : V) (rest : TextLines)
+    (l : IsLine name row text x rest) → line_texts text ≡ (name ∷ texts l.words) ∷ line_texts rest
+line-words name row text x rest l =
+    next-lines text rest l.begins.line l.begins.next
+    ∙ ap (λ ws. ws ∷ line_texts rest) (word-words kinds.Head name l.begins.line l.words l.begins.first)
+
+-- lines of a name, where the words of each are written so
+pub many-words : {V : Type 0} (m : Many V) (write : V → List (List ℕ))
+    → ((before : List V) (at : LineWords) (x : V) → IsRow (m.row before) at x → m.name ∷ texts at ≡ write x)
+    → (before xs : List V) (text rest : TextLines) → AreMany m before xs text rest
+    → line_texts text ≡ map write xs ++ line_texts rest
+many-words m write own before [] text rest h = ap line_texts h
+many-words m write own before (x ∷ xs) text rest h =
+    line-words m.name (m.row before) text x h.1 h.2
+    ∙ ap (λ ws. ws ∷ line_texts h.1) (own before h.2.words x h.2.right)
+    ∙ ap (λ ls. write x ∷ ls) (many-words m write own (before ++ x ∷ []) xs h.1 rest h.3)

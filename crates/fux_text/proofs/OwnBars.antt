@@ -15,14 +15,18 @@ use Rattle.fux_grid.specs.declared.cell.Cell.TheVariants.{Rest}
 use Rattle.fux_grid.specs.Cells.{cell_in}
 use Rattle.fux_grid.specs.Columns.{line}
 use Rattle.fux_grid.specs.Letters.{bar_columns}
-use Rattle.text_lines.specs.Reading.{headed, literal, next, number_in}
-use Rattle.text_lines.specs.Words.{LineWords, PlacedWord}
+use Rattle.text_lines.specs.declared.fault.TextKind.TheVariants as kinds
+use Rattle.text_lines.specs.Reading.{headed, literal, next}
+use Rattle.text_lines.specs.Rows.{IsRun, row_in}
+use Rattle.text_lines.specs.Tables.{line_in}
+use Rattle.text_lines.specs.Words.{LineWords}
+use Rattle.text_lines.proofs.RowLemmas.{run-gives}
 use Rattle.fux_text.specs.Grammar.{IsBar, IsSung, cells_of, cells_of_bars}
 use Rattle.fux_text.specs.Items.{item_word, items_of_cells}
 use Rattle.fux_text.specs.Lines.{bar_words, between_bar_lines, sing_words}
-use Rattle.fux_text.specs.Sing.{FollowsFrom, held, item_cells, bar_line_in, latest, sing_line_in, sung_end, sung_in, sung_word}
+use Rattle.fux_text.specs.Sing.{FollowsFrom, held, item_cells, bar_line_said, latest, sing_row, sung_end, sung_run, sung_word}
 use Rattle.fux_text.proofs.NumberWords.{within-own}
-use Rattle.fux_text.proofs.Layouts.{at_words, left, places_of, with_line}
+use Rattle.fux_text.proofs.Layouts.{at_words, left, places_of, set_out-texts, with_line}
 use Rattle.fux_text.proofs.OwnItems.{GoesOn, bar-own, items-of_bar, lengths}
 
 -- cells that follow one another, in two parts
@@ -50,80 +54,79 @@ cells-length ((c, n) ∷ items) some =
     )
 
 -- a bar line behind a full bar that isn't the last one
-bar_line-own : (bars bar : ℕ) (done : List Cell) (n column : ℕ) → length done ≡ 8 * bar + 8 → bar + 1 < bars
-    → sung_word bars bar done (record { line = n; column = column; text = codes "|" }) ≡ Ok (bar + 1, done)
-unfolding sung_word bar_line_in
-bar_line-own bars bar done n column full more =
+bar_line-own : (bars bar : ℕ) (done : List Cell) → length done ≡ 8 * bar + 8 → bar + 1 < bars
+    → sung_word bars (bar, done) (codes "|") ≡ Ok (bar + 1, done)
+unfolding sung_word bar_line_said
+bar_line-own bars bar done full more =
     rw (eq-eqb (length done) (8 * bar + 8) full, ne_eqb (bar + 1) bars (λ same. omega (arith, same, more))) refl
 
-end-own : (bars bar : ℕ) (done : List Cell) (at : LineWords) → length done ≡ 8 * bar + 8 → bar + 1 ≡ bars
-    → sung_end bars bar done at ≡ Ok done
+end-own : (bars bar : ℕ) (done : List Cell) → length done ≡ 8 * bar + 8 → bar + 1 ≡ bars
+    → sung_end bars (bar, done) ≡ Ok done
 unfolding sung_end
-end-own bars bar done at full last = rw (eq-eqb (length done) (8 * bar + 8) full, eq-eqb (bar + 1) bars last) refl
+end-own bars bar done full last = rw (eq-eqb (length done) (8 * bar + 8) full, eq-eqb (bar + 1) bars last) refl
 
 -- the bars behind the first
-later_bars-own : (count : ℕ) (at : LineWords) (bars : List (List (Cell × ℕ))) (bar : ℕ) (done : List Cell)
+later_bars-own : (count : ℕ) (bars : List (List (Cell × ℕ))) (bar : ℕ) (done : List Cell)
     → length done ≡ 8 * bar + 8 → bar + 1 + length bars ≡ count → AllByRecursion IsBar bars
     → FollowsFrom (latest Rest done) (cells_of_bars bars)
-    → GoesOn count bar done at (flat_map (λ other. codes "|" ∷ other) (map (map item_word) bars))
-    (Ok (done ++ cells_of_bars bars))
-later_bars-own count at [] bar done full last whole f = λ place.
-    end-own count bar done at full (omega (arith, last)) ∙ ap Ok (sym (append-nil done))
-later_bars-own count at (items ∷ bars) bar done full last whole f = λ place.
+    → GoesOn count bar done (flat_map (λ other. codes "|" ∷ other) (map (map item_word) bars))
+    (done ++ cells_of_bars bars)
+later_bars-own count [] bar done full last whole f =
+    end-own count bar done full (omega (arith, last)) ∙ ap Ok (sym (append-nil done))
+later_bars-own count (items ∷ bars) bar done full last whole f =
     let cs = cells_of items in
     let eight : length cs ≡ 8 = cells-length items whole.0.some ∙ whole.0.whole in
     let parts = follows-parts (latest Rest done) cs (cells_of_bars bars) f in
     let words = flat_map (λ other. codes "|" ∷ other) (map (map item_word) bars) in
-    let more = later_bars-own count at bars (bar + 1) (done ++ cs) (omega (arith, length-append done cs, full, eight))
+    let more = later_bars-own count bars (bar + 1) (done ++ cs) (omega (arith, length-append done cs, full, eight))
     (omega (arith, last)) whole.1
-    (subst (λ c. FollowsFrom c (cells_of_bars bars)) (sym (latest-append Rest done cs)) parts.1) in
-    rw (bar_line-own count bar done (place 0).line (place 0).column full (omega (arith, last)))
-    (bar-own count (bar + 1) at words (Ok (done ++ (cs ++ cells_of_bars bars))) done items
-    (omega (arith, full)) whole.0 parts.0
-    (λ p. more p ∙ ap Ok (append_assoc done cs (cells_of_bars bars)))
-    (λ k. place (suc k)))
+    (subst (λ c. FollowsFrom c (cells_of_bars bars)) (sym (latest-append Rest done cs)) parts.1) in (
+      (bar + 1, done),
+      bar_line-own count bar done full (omega (arith, last)),
+      bar-own count (bar + 1) words (done ++ (cs ++ cells_of_bars bars)) done items (omega (arith, full)) whole.0 parts.0
+          (subst (GoesOn count (bar + 1) (done ++ cs) words) (append_assoc done cs (cells_of_bars bars)) more),
+    )
 
 -- the words of a line's bars give their cells
-sung_in-own : (count line past end : ℕ) (place : ℕ → PlacedWord) (bars : List (List (Cell × ℕ))) → 1 ≤ count
-    → length bars ≡ count
+pub run-own : (count : ℕ) (bars : List (List (Cell × ℕ))) → 1 ≤ count → length bars ≡ count
     → AllByRecursion IsBar bars → FollowsFrom Rest (cells_of_bars bars)
-    → sung_in count (at_words line past end place (between_bar_lines (map (map item_word) bars)))
-    ≡ Ok (cells_of_bars bars)
-unfolding sung_in
-sung_in-own count line past end place [] some last whole f = absurd (omega (arith, some, last))
-sung_in-own count line past end place (items ∷ bars) some last whole f =
+    → IsRun (sung_run count) (0, []) (between_bar_lines (map (map item_word) bars)) (cells_of_bars bars)
+run-own count [] some last whole f = absurd (omega (arith, some, last))
+run-own count (items ∷ bars) some last whole f =
     let cs = cells_of items in
     let eight : length cs ≡ 8 = cells-length items whole.0.some ∙ whole.0.whole in
     let parts = follows-parts Rest cs (cells_of_bars bars) f in
-    let at = at_words line past end place (between_bar_lines (map (map item_word) (items ∷ bars))) in
-    bar-own count 0 at (flat_map (λ other. codes "|" ∷ other) (map (map item_word) bars))
-    (Ok (cells_of_bars (items ∷ bars))) [] items
-    refl whole.0 parts.0
-    (later_bars-own count at bars 0 cs (omega (arith, eight)) (omega (arith, last)) whole.1 parts.1) place
+    bar-own count 0 (flat_map (λ other. codes "|" ∷ other) (map (map item_word) bars))
+    (cells_of_bars (items ∷ bars)) [] items refl whole.0 parts.0
+    (later_bars-own count bars 0 cs (omega (arith, eight)) (omega (arith, last)) whole.1 parts.1)
 
-line_words-own : (count v : ℕ) (bars : List (List (Cell × ℕ))) (after : ℕ) (l : LineWords) (others : List LineWords)
-    → 1 ≤ count
-    → v ≤ 9999999 → length bars ≡ count → AllByRecursion IsBar bars → FollowsFrom Rest (cells_of_bars bars)
-    → sing_line_in count v
-    (with_line after l (codes "sing" ∷ decimal v ∷ between_bar_lines (map (map item_word) bars)) others)
-    ≡ Ok (cells_of_bars bars, left after others)
-unfolding sing_line_in headed literal next number_in
-line_words-own count v bars after l others some few last whole f =
-    let place = places_of l.words in
+-- a line of such words is read as these cells, wherever they stand
+words-read : (count v : ℕ) (words : List (List ℕ)) (cells : List Cell) (after : ℕ) (l : LineWords)
+    (others : List LineWords)
+    → v ≤ 9999999 → IsRun (sung_run count) (0, []) words cells
+    → line_in kinds.Sing (codes "sing") (sing_row count v)
+    (with_line after l (codes "sing" ∷ decimal v ∷ words) others)
+    ≡ Ok (cells, left after others)
+unfolding line_in row_in headed literal next
+words-read count v words cells after l others few run =
+    let place = λ (k : ℕ). places_of l.words (suc (suc k)) in
+    let at = at_words l.line ((places_of l.words 1).column + length (decimal v)) l.end place words in
     rw (
       within-own v v v few (omega arith) (omega arith),
-      sung_in-own count l.line ((place 1).column + length (decimal v)) l.end
-          (λ k. place (suc (suc k))) bars some last whole f,
+      run-gives (sung_run count) (0, []) at at.words cells
+          (subst (λ ws. IsRun (sung_run count) (0, []) ws cells) (sym (set_out-texts place words)) run),
     ) refl
 
 -- a `sing` line is read, wherever its words stand
 pub sing_line-own : (count v : ℕ) (words : List (List ℕ)) (cells : List Cell) (after : ℕ) (l : LineWords)
     (others : List LineWords)
     → 1 ≤ count → v ≤ 9999999 → IsSung count v words cells → FollowsFrom Rest cells
-    → sing_line_in count v (with_line after l words others) ≡ Ok (cells, left after others)
+    → line_in kinds.Sing (codes "sing") (sing_row count v) (with_line after l words others)
+    ≡ Ok (cells, left after others)
 sing_line-own count v words cells after l others some few s f =
-    ap (λ ws. sing_line_in count v (with_line after l ws others)) s.written
-    ∙ line_words-own count v s.items after l others some few s.count s.whole (subst (FollowsFrom Rest) s.sounds f)
+    ap (λ ws. line_in kinds.Sing (codes "sing") (sing_row count v) (with_line after l ws others)) s.written
+    ∙ words-read count v (between_bar_lines (map (map item_word) s.items)) (cells_of_bars s.items) after l others few
+    (run-own count s.items some s.count s.whole (subst (FollowsFrom Rest) s.sounds f))
     ∙ ap (λ cs. Ok (cs, left after others)) (sym s.sounds)
 
 -- bars one after the other

@@ -11,9 +11,11 @@ use Rattle.fux_grid.specs.declared.exercise.Exercise.{Exercise}
 use Rattle.fux_grid.specs.Exercises.{IsValid}
 use Rattle.text_lines.specs.declared.fault.TextKind.{TextKind}
 use Rattle.text_lines.specs.declared.fault.TextKind.TheVariants as kinds
-use Rattle.text_lines.specs.Reading.{done, headed, literal, next, number_in}
+use Rattle.text_lines.specs.Reading.{done, headed, literal, next}
+use Rattle.text_lines.specs.Rows.{row_in}
+use Rattle.text_lines.specs.Tables.{line_in, table_in}
 use Rattle.text_lines.specs.Words.{LineWords, PlacedWord}
-use Rattle.fux_text.specs.Head.{cantus_line, head_in, mode_line, number_line, other_voice, other_voice_in, pitch_in, pitches_in, species_line, unless, version_line}
+use Rattle.fux_text.specs.Head.{cantus_row, head_table, mode_row, number_row, other_voice, pitches_row, species_row, unless, version_row}
 use Rattle.fux_text.specs.Lines.{cantus_words, head_lines, mode_name}
 use Rattle.fux_text.specs.Limits.{most_species, most_voices}
 use Rattle.fux_text.proofs.Named.{same_from}
@@ -22,31 +24,31 @@ use Rattle.fux_text.proofs.OwnWords.{mode-own, pitch-own}
 use Rattle.fux_text.proofs.Layouts.{at_words, laid, left, lines_at, places_of, with_line}
 
 version_line-own : (after : ℕ) (l : LineWords) (others : List LineWords)
-    → version_line (with_line after l (codes "fux" ∷ codes "1" ∷ []) others) ≡ Ok (left after others)
-unfolding version_line headed literal next done
+    → line_in kinds.Head (codes "fux") version_row (with_line after l (codes "fux" ∷ codes "1" ∷ []) others) ≡ Ok (tt, left after others)
+unfolding line_in row_in headed literal next done
 version_line-own after l others = refl
 
 mode_line-own : (after : ℕ) (l : LineWords) (others : List LineWords) (mode : Mode)
-    → mode_line (with_line after l (codes "mode" ∷ mode_name mode ∷ []) others) ≡ Ok (mode, left after others)
-unfolding mode_line headed literal next done
+    → line_in kinds.Head (codes "mode") mode_row (with_line after l (codes "mode" ∷ mode_name mode ∷ []) others) ≡ Ok (mode, left after others)
+unfolding line_in row_in headed literal next done
 mode_line-own after l others mode = rw (mode-own mode) refl
 
 number_line-own : (name : List ℕ) (kind : TextKind) (after : ℕ) (l : LineWords) (others : List LineWords)
     (least most value : ℕ)
     → value ≤ 9999999 → least ≤ value → value ≤ most
-    → number_line name kind least most (with_line after l (name ∷ decimal value ∷ []) others)
+    → line_in kinds.Head name (number_row kind least most) (with_line after l (name ∷ decimal value ∷ []) others)
     ≡ Ok (value, left after others)
-unfolding number_line headed literal next done number_in
+unfolding line_in row_in headed literal next done
 number_line-own name kind after l others least most value few low high =
     rw (same_from name name refl, within-own least most value few low high) refl
 
 species_line-own : (after : ℕ) (l : LineWords) (others : List LineWords) (voices species v : ℕ) → species ≤ 9999999
     → v ≤ 9999999
     → 1 ≤ species → species ≤ most_species → v ≤ voices - 1
-    → species_line voices
+    → line_in kinds.Head (codes "species") (species_row voices)
     (with_line after l (codes "species" ∷ decimal species ∷ codes "voice" ∷ decimal v ∷ []) others)
-    ≡ Ok (species, v, left after others)
-unfolding species_line headed literal next done number_in
+    ≡ Ok ((species, v), left after others)
+unfolding line_in row_in headed literal next done
 species_line-own after l others voices species v few few_v low high there =
     rw (within-own 1 most_species species few low high, within-own 0 (voices - 1) v few_v (omega arith) there) refl
 
@@ -60,41 +62,29 @@ other_voice-own other voices v few there differs =
     by true e = absurd (differs (grind (arith, e)))
     by false e = refl
 
--- what is left of a line behind the pitches with which it ends
-record AfterPitches (before ps : List Pitch) (at : LineWords) : Type 0 where
-  pub rest : LineWords
-  pub read : pitches_in (length ps) before at ≡ Ok (before ++ ps, rest)
-  pub end : done kinds.Cantus rest ≡ Ok tt
-
-pitches_in-own : (ps before : List Pitch) (line past end : ℕ) (place : ℕ → PlacedWord)
-    → AfterPitches before ps (at_words line past end place (map name_of ps))
-unfolding pitches_in pitch_in next done
-pitches_in-own [] before line past end place = record {
-  rest = at_words line past end place [];
-  read = ap (λ found. Ok (found, at_words line past end place [])) (sym (append-nil before));
-  end = refl;
-}
-pitches_in-own (p ∷ ps) before line past end place =
-    let behind = (place 0).column + length (name_of p) in
-    let others = pitches_in-own ps (before ++ p ∷ []) line behind end (λ k. place (suc k)) in
-    record {
-      rest = others.rest;
-      read = rw (pitch-own p) (others.read ∙ ap (λ found. Ok (found, others.rest)) (append_assoc before (p ∷ []) ps));
-      end = others.end;
-    }
+pitches-own : (v : ℕ) (ps before : List Pitch) (line past end : ℕ) (place : ℕ → PlacedWord)
+    → row_in (pitches_row v (length ps) before) (at_words line past end place (map name_of ps)) ≡ Ok (v, before ++ ps)
+unfolding row_in next done
+pitches-own v [] before line past end place = ap (λ found. Ok (v, found)) (sym (append-nil before))
+pitches-own v (p ∷ ps) before line past end place =
+    rw (pitch-own p)
+    (pitches-own v ps (before ++ p ∷ []) line ((place 0).column + length (name_of p)) end (λ k. place (suc k))
+    ∙ ap (λ found. Ok (v, found)) (append_assoc before (p ∷ []) ps))
 
 cantus_line-own : (after : ℕ) (l : LineWords) (more : List LineWords) (voices species_voice bars v : ℕ)
     (cantus : List Pitch)
     → v ≤ 9999999 → v < voices → v ≢ species_voice → length cantus ≡ bars
-    → cantus_line voices species_voice bars (with_line after l (codes "cantus" ∷ decimal v ∷ map name_of cantus) more)
-    ≡ Ok (v, cantus, left after more)
-unfolding cantus_line headed literal next other_voice_in
+    → line_in kinds.Head (codes "cantus") (cantus_row voices species_voice bars)
+    (with_line after l (codes "cantus" ∷ decimal v ∷ map name_of cantus) more)
+    ≡ Ok ((v, cantus), left after more)
+unfolding line_in row_in headed literal next
 cantus_line-own after l more voices species_voice bars v cantus few there differs whole =
     let text = with_line after l (codes "cantus" ∷ decimal v ∷ map name_of cantus) more in
     let place = places_of l.words in
-    let ps = pitches_in-own cantus [] l.line ((place 1).column + length (decimal v)) l.end (λ k. place (suc (suc k))) in
-    subst (λ count. cantus_line voices species_voice count text ≡ Ok (v, cantus, left after more)) whole
-    (rw (other_voice-own species_voice voices v few there differs, ps.read, ps.end) refl)
+    let ps = pitches-own v cantus [] l.line ((place 1).column + length (decimal v)) l.end (λ k. place (suc (suc k))) in
+    subst (λ count. line_in kinds.Head (codes "cantus") (cantus_row voices species_voice count) text
+    ≡ Ok ((v, cantus), left after more)) whole
+    (rw (other_voice-own species_voice voices v few there differs, ps) refl)
 
 -- an exercise without what its other lines say
 abbrev pub head_of : Exercise → Exercise
@@ -105,9 +95,9 @@ abbrev pub behind_head : (ℕ → LineWords) → ℕ → LineWords
 behind_head lay k = lay (suc (suc (suc (suc (suc (suc k))))))
 
 pub head-own : (ex : Exercise) (after : ℕ) (lay : ℕ → LineWords) (more : List (List (List ℕ))) → IsValid ex
-    → head_in (left after (lines_at lay (head_lines ex ++ cantus_words ex ∷ more)))
+    → table_in head_table (left after (lines_at lay (head_lines ex ++ cantus_words ex ∷ more)))
     ≡ Ok (head_of ex, left after (lines_at (behind_head lay) more))
-unfolding head_in
+unfolding table_in
 head-own ex after lay more valid =
     let others = lines_at (behind_head lay) more in
     let cantus = laid (lay 5) (cantus_words ex) ∷ others in

@@ -1,5 +1,5 @@
 -- The items of a bar are read as their cells (`bar-own`), and a bar's cells are those of its items (`items-of_bar`).
-use Rattle.std.proofs.Common.{◌≡◌, ℕ, zero, suc, ◌+◌, ◌-◌, ◌*◌, ◌<◌, ◌≤◌, Bool, true, false, List, [], ◌∷◌, ◌++◌, length, length-append, map, replicate, take, drop, Some, None, Result, Ok, refl, sym, ap, subst, ◌∙◌, append_assoc, arith}
+use Rattle.std.proofs.Common.{◌≡◌, ℕ, zero, suc, ◌+◌, ◌-◌, ◌*◌, ◌<◌, ◌≤◌, Bool, true, false, List, [], ◌∷◌, ◌++◌, length, length-append, map, replicate, take, drop, Some, None, Ok, refl, sym, ap, subst, ◌∙◌, append_assoc, arith}
 use Rattle.std.specs.Prelude.{◌==◌, not, IsTrue, codes, option_map, if◌then◌else◌}
 use Rattle.std.specs.Fmt.{decimal}
 use Rattle.std.specs.List.{AllByRecursion, sum_by, after_first, before_first, list_all, position_or_len}
@@ -12,22 +12,20 @@ use Rattle.fux_pitch.specs.Names.{name_of}
 use Rattle.fux_grid.specs.declared.cell.Cell.{Cell}
 use Rattle.fux_grid.specs.declared.cell.Cell.TheVariants.{Rest, Hold, Start}
 use Rattle.fux_grid.specs.Cells.{is_hold, cell_follows, pitch_of}
-use Rattle.text_lines.specs.Faults.{Fault}
 use Rattle.text_lines.specs.Numbers.{number_of}
 use Rattle.text_lines.specs.Reading.{same_text}
-use Rattle.text_lines.specs.Words.{LineWords, PlacedWord}
+use Rattle.text_lines.specs.Rows.{IsRun}
 use Rattle.fux_text.specs.declared.item_words.ItemName.{ItemName}
 use Rattle.fux_text.specs.declared.item_words.ItemName.TheVariants as names
 use Rattle.fux_text.specs.Grammar.{IsBar, cells_of}
 use Rattle.fux_text.specs.Items.{goes_on, item_name, item_word, items_of_cells, with_run}
-use Rattle.fux_text.specs.Sing.{FollowsFrom, first_cell, held, is_colon, item_cells, item_in, item_named, item_parts, latest, sung_word, sung_words}
+use Rattle.fux_text.specs.Sing.{FollowsFrom, first_cell, held, is_colon, item_cells, item_named, item_parts, item_said, latest, sung_run, sung_word}
 use Rattle.fux_pitch.proofs.NameLemmas.{name_of-length, name_of-passes}
 use Rattle.fux_pitch.proofs.PitchLemmas.{equal_from_test}
 use Rattle.fux_text.proofs.ItemLemmas.{with_run-broken}
 use Rattle.fux_text.proofs.Named.{text_from}
 use Rattle.fux_text.proofs.NumberWords.{if_within-own, number-own}
 use Rattle.fux_text.proofs.OwnWords.{pitch-own}
-use Rattle.fux_text.proofs.Layouts.{set_out}
 
 -- ---- an item's word
 
@@ -88,10 +86,10 @@ item_named-own (Start p) =
 abbrev pub CanBegin : ℕ → List Cell → Cell → Type 0
 CanBegin bar done c = first_cell (length done == 8 * bar) (latest Rest done) (called c) ≡ Some c
 
-item_in-own : (bar : ℕ) (done : List Cell) (line column : ℕ) (c : Cell) (n : ℕ) → 1 ≤ n → n ≤ 8 → CanBegin bar done c
-    → item_in bar done (record { line = line; column = column; text = item_word (c, n) }) ≡ Ok (c, n)
-unfolding item_in
-item_in-own bar done line column c n least most can =
+item_said-own : (bar : ℕ) (done : List Cell) (c : Cell) (n : ℕ) → 1 ≤ n → n ≤ 8 → CanBegin bar done c
+    → item_said bar done (item_word (c, n)) ≡ Ok (c, n)
+unfolding item_said
+item_said-own bar done c n least most can =
     rw (
       item_parts-own (item_name c) n (item_name-no_colon c)
           (omega (arith, most)),
@@ -109,13 +107,10 @@ long_word c n = shorter (item_word (c, n)) (codes "|")
     named (Hold p) = omega arith
     named (Start p) = omega (arith, (name_of-length p).0)
 
-sung_item-own : (bars bar : ℕ) (done : List Cell) (line column : ℕ) (c : Cell) (n : ℕ) → 1 ≤ n → n ≤ 8
-    → CanBegin bar done c
-    → sung_word bars bar done (record { line = line; column = column; text = item_word (c, n) })
-    ≡ Ok (bar, done ++ item_cells c n)
+sung_item-own : (bars bar : ℕ) (done : List Cell) (c : Cell) (n : ℕ) → 1 ≤ n → n ≤ 8 → CanBegin bar done c
+    → sung_word bars (bar, done) (item_word (c, n)) ≡ Ok (bar, done ++ item_cells c n)
 unfolding sung_word
-sung_item-own bars bar done line column c n least most can =
-    rw (long_word c n, item_in-own bar done line column c n least most can) refl
+sung_item-own bars bar done c n least most can = rw (long_word c n, item_said-own bar done c n least most can) refl
 
 -- ---- runs of cells
 
@@ -203,55 +198,51 @@ replicate-more (suc k) x ys = ap (λ more. x ∷ more) (replicate-more k x ys)
 
 -- ---- the items of a bar
 
--- where words that follow are read so behind these cells, wherever they stand
-abbrev pub GoesOn : ℕ → ℕ → List Cell → LineWords → List (List ℕ) → Result (List Cell) Fault → Type 0
-GoesOn bars bar done at more total = (place : ℕ → PlacedWord) → sung_words bars bar done at (set_out place more) ≡ total
+-- words that follow say these cells behind those before
+abbrev pub GoesOn : ℕ → ℕ → List Cell → List (List ℕ) → List Cell → Type 0
+GoesOn bars bar done more cells = IsRun (sung_run bars) (bar, done) more cells
 
 -- the lengths of items
 abbrev pub lengths : List (Cell × ℕ) → ℕ
 lengths items = sum_by (λ item. item.1) items
 
-item-own : (bars bar : ℕ) (at : LineWords) (more : List (List ℕ)) (total : Result (List Cell) Fault)
-    (done : List Cell) (c : Cell) (n : ℕ)
-    → 1 ≤ n → n ≤ 8 → CanBegin bar done c → GoesOn bars bar (done ++ item_cells c n) at more total
-    → GoesOn bars bar done at (item_word (c, n) ∷ more) total
-item-own bars bar at more total done c n least most can h = λ place.
-    rw (sung_item-own bars bar done (place 0).line (place 0).column c n least most can) (h (λ k. place (suc k)))
+item-own : (bars bar : ℕ) (more : List (List ℕ)) (total done : List Cell) (c : Cell) (n : ℕ)
+    → 1 ≤ n → n ≤ 8 → CanBegin bar done c → GoesOn bars bar (done ++ item_cells c n) more total
+    → GoesOn bars bar done (item_word (c, n) ∷ more) total
+item-own bars bar more total done c n least most can h =
+    ((bar, done ++ item_cells c n), sung_item-own bars bar done c n least most can, h)
 
-items-own : (bars bar : ℕ) (at : LineWords) (more : List (List ℕ)) (total : Result (List Cell) Fault)
-    (items : List (Cell × ℕ))
+items-own : (bars bar : ℕ) (more : List (List ℕ)) (total : List Cell) (items : List (Cell × ℕ))
     (done : List Cell) → lengths items ≤ 8 → AllByRecursion (λ item. 1 ≤ item.1) items
-    → AllByRecursion (λ item. is_hold item.0 ≡ false) items → GoesOn bars bar (done ++ cells_of items) at more total
-    → GoesOn bars bar done at (map item_word items ++ more) total
-items-own bars bar at more total [] done few some starts h =
-    subst (λ cells. GoesOn bars bar cells at more total) (append-nil done) h
-items-own bars bar at more total ((c, n) ∷ items) done few some starts h =
+    → AllByRecursion (λ item. is_hold item.0 ≡ false) items → GoesOn bars bar (done ++ cells_of items) more total
+    → GoesOn bars bar done (map item_word items ++ more) total
+items-own bars bar more total [] done few some starts h =
+    subst (λ cells. GoesOn bars bar cells more total) (append-nil done) h
+items-own bars bar more total ((c, n) ∷ items) done few some starts h =
     let sum : lengths ((c, n) ∷ items) ≡ n + lengths items = sum_by-cons (λ item. item.1) (c, n) items in
-    item-own bars bar at (map item_word items ++ more) total done c n some.0 (omega (arith, few, sum))
+    item-own bars bar (map item_word items ++ more) total done c n some.0 (omega (arith, few, sum))
     (begins-anywhere bar done c starts.0)
-    (items-own bars bar at more total items (done ++ item_cells c n) (omega (arith, few, sum)) some.1 starts.1
-    (subst (λ cells. GoesOn bars bar cells at more total)
+    (items-own bars bar more total items (done ++ item_cells c n) (omega (arith, few, sum)) some.1 starts.1
+    (subst (λ cells. GoesOn bars bar cells more total)
     (sym (append_assoc done (item_cells c n) (cells_of items))) h))
 
 -- the items of a bar are read behind the bars before it
-pub bar-own : (bars bar : ℕ) (at : LineWords) (more : List (List ℕ)) (total : Result (List Cell) Fault)
-    (done : List Cell)
+pub bar-own : (bars bar : ℕ) (more : List (List ℕ)) (total done : List Cell)
     (items : List (Cell × ℕ)) → length done ≡ 8 * bar → IsBar items → FollowsFrom (latest Rest done) (cells_of items)
-    → GoesOn bars bar (done ++ cells_of items) at more total → GoesOn bars bar done at
-    (map item_word items ++ more) total
-bar-own bars bar at more total done [] long b f h = absurd (omega (arith, b.whole))
-bar-own bars bar at more total done ((c, n) ∷ items) long b f h =
+    → GoesOn bars bar (done ++ cells_of items) more total → GoesOn bars bar done (map item_word items ++ more) total
+bar-own bars bar more total done [] long b f h = absurd (omega (arith, b.whole))
+bar-own bars bar more total done ((c, n) ∷ items) long b f h =
     let sum : lengths ((c, n) ∷ items) ≡ n + lengths items = sum_by-cons (λ item. item.1) (c, n) items in
-    item-own bars bar at (map item_word items ++ more) total done c n b.some.0 (omega (arith, b.whole, sum))
+    item-own bars bar (map item_word items ++ more) total done c n b.some.0 (omega (arith, b.whole, sum))
     (begins-bar bar done c long f.0)
-    (items-own bars bar at more total items (done ++ item_cells c n) (omega (arith, b.whole, sum)) b.some.1 b.ties
-    (subst (λ cells. GoesOn bars bar cells at more total)
+    (items-own bars bar more total items (done ++ item_cells c n) (omega (arith, b.whole, sum)) b.some.1 b.ties
+    (subst (λ cells. GoesOn bars bar cells more total)
     (sym (append_assoc done (item_cells c n) (cells_of items))) h))
 
 -- ---- the items that are written
 
 -- the items of a run and of what follows it
-record IsRun (c : Cell) (m : ℕ) (cs : List Cell) (items : List (Cell × ℕ)) : Type 0 where
+record ItemsOfRun (c : Cell) (m : ℕ) (cs : List Cell) (items : List (Cell × ℕ)) : Type 0 where
   pub cells : cells_of items ≡ run c m ++ cs
   pub some : AllByRecursion (λ item. 1 ≤ item.1) items
   pub ties : AllByRecursion (λ item. is_hold item.0 ≡ false) (drop 1 items)
@@ -277,7 +268,7 @@ all_starts d [] e f t = tt
 all_starts d (item ∷ items) e f t = (ap is_hold f.0 ∙ e, t)
 
 run-items : (cs : List Cell) (c : Cell) (m : ℕ) → FollowsFrom c cs
-    → IsRun c m cs (with_run c (suc m) (items_of_cells cs))
+    → ItemsOfRun c m cs (with_run c (suc m) (items_of_cells cs))
 run-items [] c m f = record {
   cells = ap (λ cells. cells ++ []) (run_cells c m);
   some = (omega arith, tt);
@@ -290,13 +281,13 @@ run-items (d ∷ ds) c m f = by (goes_on c d) refl (run-items ds c (suc m)) (run
     items : List (Cell × ℕ)
     items = items_of_cells ds
 
-    by : (b : Bool) → goes_on c d ≡ b → (FollowsFrom c ds → IsRun c (suc m) ds (with_run c (suc (suc m)) items))
-        → IsRun d 0 ds (with_run d 1 items) → IsRun c m (d ∷ ds) (with_run c (suc m) (with_run d 1 items))
+    by : (b : Bool) → goes_on c d ≡ b → (FollowsFrom c ds → ItemsOfRun c (suc m) ds (with_run c (suc (suc m)) items))
+        → ItemsOfRun d 0 ds (with_run d 1 items) → ItemsOfRun c m (d ∷ ds) (with_run c (suc m) (with_run d 1 items))
     by true e longer next =
         let same : d ≡ held c = held-goes_on c d e f.0 in
         let n : suc m + 1 ≡ suc (suc m) = omega arith in
         let r = longer (follows-held c ds (subst (λ x. FollowsFrom x ds) same f.1)) in
-        subst (IsRun c m (d ∷ ds)) (sym (with_run-longer c d (suc m) 1 items e ∙ ap (λ k. with_run c k items) n))
+        subst (ItemsOfRun c m (d ∷ ds)) (sym (with_run-longer c d (suc m) 1 items e ∙ ap (λ k. with_run c k items) n))
         (record {
           cells = r.cells ∙ ap (λ tail. c ∷ tail) (replicate-more m (held c) ds)
               ∙ ap (λ x. run c m ++ x ∷ ds) (sym same);
@@ -307,7 +298,7 @@ run-items (d ∷ ds) c m f = by (goes_on c d) refl (run-items ds c (suc m)) (run
         })
     by false e longer next =
         let rest = with_run d 1 items in
-        subst (IsRun c m (d ∷ ds)) (sym (with_run-broken c d (suc m) 1 items e))
+        subst (ItemsOfRun c m (d ∷ ds)) (sym (with_run-broken c d (suc m) 1 items e))
         (record {
           cells = ap (λ cells. cells ++ cells_of rest) (run_cells c m) ∙ ap (λ tail. run c m ++ tail) next.cells;
           some = (omega arith, next.some);

@@ -14,11 +14,13 @@ use Rattle.fux_pitch.specs.Pitch.{key_of}
 use Rattle.fux_grid.specs.declared.exercise.Exercise.{Exercise}
 use Rattle.fux_grid.specs.declared.exercise.RangeLine.{RangeLine}
 use Rattle.fux_grid.specs.Exercises.{BeginsWithWhole, IsFree, IsRangeLine, range_lines}
-use Rattle.text_lines.specs.Reading.{begins, done, headed, literal, next, number_in}
+use Rattle.text_lines.specs.declared.fault.TextKind.TheVariants as kinds
+use Rattle.text_lines.specs.Reading.{begins, done, headed, literal, next}
+use Rattle.text_lines.specs.Rows.{row_in}
+use Rattle.text_lines.specs.Tables.{line_in, many_in, table_in}
 use Rattle.text_lines.specs.Words.{LineWords, PlacedWord}
-use Rattle.fux_text.specs.Head.{other_voice_in, pitch_in}
 use Rattle.fux_text.specs.Lines.{bars_words, range_words}
-use Rattle.fux_text.specs.Ranges.{all_ranged, bars_in, bars_of_later, has_line, high_in, misfits, range_in, range_line, ranges_in, ranges_on}
+use Rattle.fux_text.specs.Ranges.{all_ranged, has_line, misfits, range_lines_of, range_row, ranges_table}
 use Rattle.fux_text.proofs.NumberWords.{within-own}
 use Rattle.fux_text.proofs.Layouts.{at_words, left, lines_at, places_of, with_line}
 use Rattle.fux_text.proofs.OwnHead.{other_voice-own}
@@ -47,9 +49,9 @@ not_below low high rises = by (int_lt (key_of high) (key_of low)) refl
 first-own : (ex : Exercise) (before : List RangeLine) (line past end : ℕ) (place : ℕ → PlacedWord) (voice : ℕ)
     (low high : Pitch) → voice ≤ 9999999
     → voice < ex.voices → voice ≢ ex.cantus_voice → key_of low ≤ℤ key_of high → has_line before voice ≡ false
-    → range_in ex before (at_words line past end place (decimal voice ∷ name_of low ∷ name_of high ∷ []))
+    → row_in (range_row ex before) (at_words line past end place (decimal voice ∷ name_of low ∷ name_of high ∷ []))
     ≡ Ok (record { voice = voice; low = low; high = high; bars = None })
-unfolding range_in other_voice_in misfits pitch_in high_in bars_of_later next done
+unfolding row_in misfits next done
 first-own ex before line past end place voice low high few there differs rises none =
     rw (
       other_voice-own ex.cantus_voice ex.voices voice few there differs,
@@ -57,16 +59,17 @@ first-own ex before line past end place voice low high few there differs rises n
       pitch-own low,
       pitch-own high,
       not_below low high rises,
+      none,
     ) refl
 
 later-own : (ex : Exercise) (before : List RangeLine) (line past end : ℕ) (place : ℕ → PlacedWord) (voice : ℕ)
     (low high : Pitch) (from to : ℕ) → voice ≤ 9999999
     → voice < ex.voices → voice ≢ ex.cantus_voice → key_of low ≤ℤ key_of high → has_line before voice ≡ true
     → ex.bars ≤ 9999999 → 1 ≤ from → from ≤ to → to ≤ ex.bars
-    → range_in ex before
+    → row_in (range_row ex before)
     (at_words line past end place (decimal voice ∷ name_of low ∷ name_of high ∷ decimal from ∷ decimal to ∷ []))
     ≡ Ok (record { voice = voice; low = low; high = high; bars = Some (from, to) })
-unfolding range_in other_voice_in misfits pitch_in high_in bars_of_later bars_in number_in next done
+unfolding row_in misfits next done
 later-own ex before line past end place voice low high from to few there differs rises some few_bars least in_order
     most =
     rw (
@@ -75,13 +78,14 @@ later-own ex before line past end place voice low high from to few there differs
       pitch-own low,
       pitch-own high,
       not_below low high rises,
+      some,
       within-own 1 ex.bars from (omega (arith, in_order, most, few_bars)) least (omega (arith, in_order, most)),
       within-own from ex.bars to (omega (arith, most, few_bars)) in_order most,
     ) refl
 
 range_in-own : (ex : Exercise) (before : List RangeLine) (r : RangeLine) (line past end : ℕ) (place : ℕ → PlacedWord)
     → IsSmall ex → FitsBehind ex before r
-    → range_in ex before
+    → row_in (range_row ex before)
     (at_words line past end place (decimal r.voice ∷ name_of r.low ∷ name_of r.high ∷ bars_words r.bars)) ≡ Ok r
 range_in-own ex before r line past end place small behind = by r.bars refl
   where
@@ -90,7 +94,7 @@ range_in-own ex before r line past end place small behind = by r.bars refl
 
     reads : Option (ℕ × ℕ) → Type 0
     reads bars =
-        range_in ex before
+        row_in (range_row ex before)
         (at_words line past end place (decimal r.voice ∷ name_of r.low ∷ name_of r.high ∷ bars_words bars))
         ≡ Ok (record { voice = r.voice; low = r.low; high = r.high; bars = bars })
 
@@ -122,9 +126,9 @@ range_in-own ex before r line past end place small behind = by r.bars refl
 
 range_line-own : (ex : Exercise) (before : List RangeLine) (r : RangeLine) (after : ℕ) (l : LineWords)
     (others : List LineWords) → IsSmall ex
-    → FitsBehind ex before r → range_line ex before (with_line after l (range_words r) others)
+    → FitsBehind ex before r → line_in kinds.Head (codes "range") (range_row ex before) (with_line after l (range_words r) others)
     ≡ Ok (r, left after others)
-unfolding range_line headed literal next
+unfolding line_in headed literal next
 range_line-own ex before r after l others small behind =
     let place = places_of l.words in
     rw (range_in-own ex before r l.line ((place 0).column + 5) l.end (λ k. place (suc k)) small behind) refl
@@ -145,9 +149,9 @@ ranges_on-own : (ex : Exercise) (rs before : List RangeLine) (after : ℕ) (lay 
     → FitInOrder ex before rs →
     ((other : ℕ → LineWords) → begins (codes "range") (left after (lines_at other more)) ≡ false)
     → (behind : ℕ → LineWords) ×
-    (ranges_on ex before after (lines_at lay (map range_words rs ++ more))
+    (many_in (range_lines_of ex) before after (lines_at lay (map range_words rs ++ more))
     ≡ Ok (before ++ rs, left after (lines_at behind more)))
-unfolding ranges_on
+unfolding many_in
 ranges_on-own ex [] before after lay [] small fit other =
     (lay, ap (λ found. Ok (found, left after [])) (sym (append-nil before)))
 ranges_on-own ex [] before after lay (ws ∷ more) small fit other =
@@ -230,9 +234,9 @@ pub ranges-own : (ex head : Exercise) (after : ℕ) (lay : ℕ → LineWords) (m
     → ((v : ℕ) → IsFree head v → BeginsWithWhole (range_lines ex v))
     → ((other : ℕ → LineWords) → begins (codes "range") (left after (lines_at other more)) ≡ false)
     → (behind : ℕ → LineWords) ×
-    (ranges_in head (left after (lines_at lay (map range_words ex.ranges ++ more)))
+    (table_in (ranges_table head) (left after (lines_at lay (map range_words ex.ranges ++ more)))
     ≡ Ok (ex.ranges, left after (lines_at behind more)))
-unfolding ranges_in
+unfolding table_in
 ranges-own ex head after lay more small fit whole other =
     let found = ranges_on-own head ex.ranges [] after lay more small (fit-in-order head ex.ranges [] fit whole) other in
     (found.0, rw (found.1, all_ranged-own head ex.ranges whole) refl)

@@ -7,10 +7,13 @@ use Rattle.std.proofs.lemmas.List.{append-nil}
 use Rattle.fux_grid.specs.declared.exercise.Exercise.{Exercise}
 use Rattle.fux_grid.specs.declared.exercise.Relax.{Relax}
 use Rattle.fux_grid.specs.Exercises.{IsRelax}
-use Rattle.text_lines.specs.Reading.{begins, done, headed, literal, next, number_in}
+use Rattle.text_lines.specs.declared.fault.TextKind.TheVariants as kinds
+use Rattle.text_lines.specs.Reading.{begins, done, headed, literal, next}
+use Rattle.text_lines.specs.Rows.{row_in}
+use Rattle.text_lines.specs.Tables.{Table, line_in, many_in, table_in}
 use Rattle.text_lines.specs.Words.{LineWords, PlacedWord}
 use Rattle.fux_text.specs.Lines.{relax_words, voices_word}
-use Rattle.fux_text.specs.Relaxing.{relax_in, relax_line, relax_on, relaxes_in, rule_in, set_in}
+use Rattle.fux_text.specs.Relaxing.{relax_lines_of, relax_row}
 use Rattle.fux_text.specs.Limits.{most_relax}
 use Rattle.fux_text.proofs.NumberWords.{within-own}
 use Rattle.fux_text.proofs.Layouts.{at_words, left, lines_at, places_of, with_line}
@@ -19,10 +22,10 @@ use Rattle.fux_text.proofs.OwnWords.{rule-own, set-own}
 
 relax_in-own : (ex : Exercise) (r : Relax) (line past end : ℕ) (place : ℕ → PlacedWord) → 1 ≤ ex.voices → IsSmall ex
     → IsRelax ex r
-    → relax_in ex (at_words line past end place
+    → row_in (relax_row ex) (at_words line past end place
     ((codes "S" ++ decimal r.rule) ∷ voices_word r.voices ∷ decimal r.from ∷ decimal r.to ∷ decimal r.price ∷ []))
     ≡ Ok r
-unfolding relax_in rule_in set_in number_in next done
+unfolding row_in next done
 relax_in-own ex r line past end place some small fits =
     rw (
       rule-own r.rule fits.least_rule fits.most_rule,
@@ -34,8 +37,8 @@ relax_in-own ex r line past end place some small fits =
 
 relax_line-own : (ex : Exercise) (r : Relax) (after : ℕ) (l : LineWords) (others : List LineWords) → 1 ≤ ex.voices
     → IsSmall ex → IsRelax ex r
-    → relax_line ex (with_line after l (relax_words r) others) ≡ Ok (r, left after others)
-unfolding relax_line headed literal next
+    → line_in kinds.Head (codes "relax") (relax_row ex) (with_line after l (relax_words r) others) ≡ Ok (r, left after others)
+unfolding line_in headed literal next
 relax_line-own ex r after l others some small fits =
     let place = places_of l.words in
     rw (relax_in-own ex r l.line ((place 0).column + 5) l.end (λ k. place (suc k)) some small fits) refl
@@ -51,9 +54,9 @@ relax_on-own : (ex : Exercise) (rs before : List Relax) (after : ℕ) (lay : ℕ
     → All (IsRelax ex) rs → length before + length rs ≤ most_relax
     → ((other : ℕ → LineWords) → begins (codes "relax") (left after (lines_at other more)) ≡ false)
     → (behind : ℕ → LineWords) ×
-    (relax_on ex before after (lines_at lay (map relax_words rs ++ more))
+    (many_in (relax_lines_of ex) before after (lines_at lay (map relax_words rs ++ more))
     ≡ Ok (before ++ rs, left after (lines_at behind more)))
-unfolding relax_on
+unfolding many_in
 relax_on-own ex [] before after lay [] some small fit few other =
     (lay, ap (λ found. Ok (found, left after [])) (sym (append-nil before)))
 relax_on-own ex [] before after lay (ws ∷ more) some small fit few other = (
@@ -81,7 +84,8 @@ pub relaxes-own : (ex : Exercise) (rs : List Relax) (after : ℕ) (lay : ℕ →
     → All (IsRelax ex) rs → length rs ≤ most_relax
     → ((other : ℕ → LineWords) → begins (codes "relax") (left after (lines_at other more)) ≡ false)
     → (behind : ℕ → LineWords) ×
-    (relaxes_in ex (left after (lines_at lay (map relax_words rs ++ more)))
+    (table_in (Table.many (relax_lines_of ex)) (left after (lines_at lay (map relax_words rs ++ more)))
     ≡ Ok (rs, left after (lines_at behind more)))
+unfolding table_in
 relaxes-own ex rs after lay more some small fit few other =
     relax_on-own ex rs [] after lay more some small fit (omega (arith, few)) other

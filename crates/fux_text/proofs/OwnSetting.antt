@@ -16,12 +16,13 @@ use Rattle.fux_grid.specs.Exercises.{HasCantus}
 use Rattle.fux_grid.specs.Grid.{Grid}
 use Rattle.text_lines.specs.Lines.{TextLines}
 use Rattle.text_lines.specs.Reading.{begins, no_line}
+use Rattle.text_lines.specs.Tables.{table_in}
 use Rattle.text_lines.specs.Words.{LineWords}
 use Rattle.std.specs.Fmt.{decimal}
 use Rattle.fux_text.specs.Grammar.{AreSung, IsSettingOf, IsSung, Sings}
 use Rattle.fux_text.specs.Items.{item_word}
 use Rattle.fux_text.specs.Lines.{between_bar_lines, free_voices, sing_words}
-use Rattle.fux_text.specs.Sing.{FollowsFrom, cantus_cells, column_of, item_cells, score_of, setting_in, sung_score, voice_in, voices_in}
+use Rattle.fux_text.specs.Sing.{FollowsFrom, cantus_cells, column_of, item_cells, score_of, setting_table, sung_table, voice_table, voices_table}
 use Rattle.fux_text.proofs.Layouts.{left, lines_at, with_line}
 use Rattle.fux_text.proofs.OwnBars.{sing_line-own, sing_words-sung}
 use Rattle.fux_text.proofs.ValidSetting.{cantus_cells-at}
@@ -85,8 +86,8 @@ record HasVoices (ex : Exercise) (columns : List (List Cell)) : Type 0 where
   pub cantus : cantus_cells ex.cantus ≡ line ex.cantus_voice columns
 
 voice-cantus_own : (ex : Exercise) (columns : List (List Cell)) (v : ℕ) (text : TextLines) → HasVoices ex columns
-    → (v == ex.cantus_voice) ≡ true → voice_in ex v text ≡ Ok (line v columns, text)
-unfolding voice_in
+    → (v == ex.cantus_voice) ≡ true → table_in (voice_table ex v) text ≡ Ok (line v columns, text)
+unfolding table_in
 voice-cantus_own ex columns v text has e =
     let cells : cantus_cells ex.cantus ≡ line v columns = has.cantus
     ∙ ap (λ w. line w columns) (sym (eqb-true v ex.cantus_voice e)) in
@@ -95,8 +96,8 @@ voice-cantus_own ex columns v text has e =
 voice-sung_own : (ex : Exercise) (columns : List (List Cell)) (v after : ℕ) (l : LineWords) (words : List (List ℕ))
     (others : List LineWords)
     → HasVoices ex columns → v < ex.voices → (v == ex.cantus_voice) ≡ false → IsSung ex.bars v words (line v columns)
-    → voice_in ex v (with_line after l words others) ≡ Ok (line v columns, left after others)
-unfolding voice_in
+    → table_in (voice_table ex v) (with_line after l words others) ≡ Ok (line v columns, left after others)
+unfolding table_in
 voice-sung_own ex columns v after l words others has there e sung =
     rw e (sing_line-own ex.bars v words (line v columns) after l others has.some (omega (arith, there, has.few)) sung
     (has.follows v))
@@ -117,13 +118,13 @@ free-other ex a n e = rw e refl
 abbrev ReadsVoices : Exercise → List (List Cell) → ℕ → ℕ → ℕ → List (List Cell) → Type 0
 ReadsVoices ex columns after n a before =
     (lay : ℕ → LineWords) (lines : List (List (List ℕ))) → AreSung ex.bars (λ w. line w columns) (free_of ex a n) lines
-    → voices_in ex (range_with_len a n) before (left after (lines_at lay lines))
+    → table_in (voices_table ex (range_with_len a n) before) (left after (lines_at lay lines))
     ≡ Ok (before ++ map (λ v. line v columns) (range_with_len a n), left after [])
 
 voices-own : (ex : Exercise) (columns : List (List Cell)) (after : ℕ) → HasVoices ex columns
     → (n a : ℕ) (before : List (List Cell))
     → a + n ≤ ex.voices → ReadsVoices ex columns after n a before
-unfolding voices_in
+unfolding table_in
 voices-own ex columns after has zero a before low lay [] sung = ap (λ found. Ok (found, left after []))
     (sym (append-nil before))
 voices-own ex columns after has zero a before low lay (words ∷ lines) sung = absurd sung
@@ -140,7 +141,7 @@ voices-own ex columns after has (suc n) a before low lay lines sung =
 
     Reads : List (List (List ℕ)) → Type 0
     Reads found =
-        voices_in ex (a ∷ vs) before (left after (lines_at lay found))
+        table_in (voices_table ex (a ∷ vs) before) (left after (lines_at lay found))
         ≡ Ok (before ++ map (λ v. line v columns) (a ∷ vs), left after [])
 
     first : (found : List (List (List ℕ))) → (a == ex.cantus_voice) ≡ false
@@ -212,8 +213,8 @@ pub record IsSingable (ex : Exercise) : Type 0 where
 pub sung_score-own : (ex : Exercise) (score : Grid) (after : ℕ) (lay : ℕ → LineWords) (lines : List (List (List ℕ)))
     → IsSingable ex
     → IsSettingOf ex score → AreSung ex.bars (λ w. line w score.columns) (free_voices ex) lines
-    → sung_score ex (left after (lines_at lay lines)) ≡ Ok score
-unfolding sung_score no_line
+    → table_in (sung_table ex) (left after (lines_at lay lines)) ≡ Ok (score, left after [])
+unfolding table_in no_line
 sung_score-own ex score after lay lines can setting sung =
     let columns = score.columns in
     let long : length columns ≡ 8 * ex.bars = setting.given.complete.whole in
@@ -225,7 +226,7 @@ sung_score-own ex score after lay lines can setting sung =
       cantus = cantus_line-cells ex columns (long ∙ ap (λ n. 8 * n) (sym can.whole_cantus)) setting.given.cantus;
     } in
     rw (voices-own ex columns after has ex.voices 0 [] (omega arith) lay lines sung)
-    (ap Ok (score-own ex.bars ex.voices columns long setting.full
+    (ap (λ found. Ok (found, left after [])) (score-own ex.bars ex.voices columns long setting.full
     ∙ ap (λ n. record { voices = n; columns = columns }) (sym setting.given.complete.voices)))
 
 -- ---- a setting, or none
@@ -269,10 +270,11 @@ begins-first bars cells v vs after lay (words ∷ lines) sung =
 
 pub setting-own : (ex : Exercise) (o : Option Grid) (after : ℕ) (lay : ℕ → LineWords) (lines : List (List (List ℕ)))
     → IsSingable ex
-    → Sings ex lines o → setting_in ex (left after (lines_at lay lines)) ≡ Ok o
-unfolding setting_in begins no_line
+    → Sings ex lines o → table_in (setting_table ex) (left after (lines_at lay lines)) ≡ Ok (o, left after [])
+unfolding table_in begins no_line
 setting-own ex None after lay lines can none =
-    subst (λ found. setting_in ex (left after (lines_at lay found)) ≡ Ok None) (sym none) refl
+    subst (λ found. table_in (setting_table ex) (left after (lines_at lay found)) ≡ Ok (None, left after [])) (sym none)
+    refl
 setting-own ex (Some score) after lay lines can sings =
     let first = first_free ex.cantus_voice ex.voices can.fewest_voices in
     rw (

@@ -13,10 +13,11 @@ use Rattle.fux_grid.specs.declared.exercise.Relax.{Relax}
 use Rattle.fux_grid.specs.Exercises.{BeginsWithWhole, IsFree, IsGiven, IsRangeLine, IsRelax, IsValid, range_lines}
 use Rattle.fux_grid.specs.Grid.{Grid}
 use Rattle.text_lines.specs.Reading.{begins}
+use Rattle.text_lines.specs.Tables.{table_in, text_read}
 use Rattle.text_lines.specs.Words.{LineWords}
 use Rattle.std.specs.Str.{IsUtf8}
 use Rattle.fux_text.specs.Grammar.{AreSettingLines, IsNoteText, IsSettingOf, Sings}
-use Rattle.fux_text.specs.Head.{head_in}
+use Rattle.fux_text.specs.Head.{head_table}
 use Rattle.fux_text.specs.Lines.{cantus_words, exercise_lines, exercise_text, free_voices, head_lines, note_text, range_words, relax_words, setting_text, sing_text, sing_words}
 use Rattle.fux_text.specs.ReadBack.{NoteTextReadsBack, SingLinesReadBack, sing_lines}
 use Rattle.fux_text.specs.Reading.{exercise_in, setting_alone}
@@ -160,16 +161,16 @@ text_in-words bytes ls short utf8 words =
 
 -- a note text is read
 pub note_text-read : (bytes : List ℕ) (ex : Exercise) → IsNoteText bytes ex → exercise_in bytes ≡ Ok ex
-unfolding exercise_in
+unfolding exercise_in text_read table_in
 note_text-read bytes ex t =
     let ls = exercise_lines ex ++ t.sung in
     let after : ℕ = 1 + length (lines bytes) in
     let lay = layout_of (lines_from 1 bytes) in
     let relaxing = map relax_words ex.relax ++ t.sung in
     let sing = sings-begin ex t.sung ex.setting t.setting in
-    let head : head_in (left after (lines_at lay ls)) ≡ Ok
+    let head : table_in head_table (left after (lines_at lay ls)) ≡ Ok
     (head_of ex, left after (lines_at (behind_head lay) (later_lines ex t.sung))) =
-    ap (λ all. head_in (left after (lines_at lay all))) (lines-parts ex t.sung)
+    ap (λ all. table_in head_table (left after (lines_at lay all))) (lines-parts ex t.sung)
     ∙ head-own ex after lay (later_lines ex t.sung) t.valid in
     let ranges = ranges-own ex (head_of ex) after (behind_head lay) relaxing (small ex t.valid)
     (range_lines-head ex t.valid.range_lines_fit)
@@ -189,7 +190,7 @@ note_text-read bytes ex t =
 -- and so are the lines of a setting
 pub setting_lines-read : (ex : Exercise) (bytes : List ℕ) (score : Grid) → IsValid ex → AreSettingLines ex bytes score
     → setting_alone ex bytes ≡ Ok score
-unfolding setting_alone
+unfolding setting_alone text_read
 setting_lines-read ex bytes score valid t =
     let after : ℕ = 1 + length (lines bytes) in
     let lay = layout_of (lines_from 1 bytes) in

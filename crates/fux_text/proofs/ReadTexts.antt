@@ -9,7 +9,9 @@ use Rattle.text_lines.specs.Faults.{Fault}
 use Rattle.fux_text.specs.ReadBack.{FaultsAreRead, NoteTextsHaveOneFault, SingFaultsAreRead, NoteTextsAreOfOne, NoteTextsAreRead, NoteTextsHaveNoFault, NoteTextsOrFaults, SingLinesAreRead}
 use Rattle.fux_text.specs.Reading.{exercise_in, setting_alone}
 use Rattle.fux_text.specs.Texts.{AreSingLinesOf, HasFault, HasSingFault, IsTextOf}
-use Rattle.fux_text.proofs.FaultyText.{alone-fails, alone-faulty, text-fails, text-faulty}
+use Rattle.text_lines.proofs.TextLemmas.{text-fails, text-wrong}
+use Rattle.fux_text.specs.Reading.{note_table}
+use Rattle.fux_text.specs.Sing.{sung_table}
 use Rattle.fux_text.proofs.OnlyText.{note_text-only, setting_lines-only}
 use Rattle.fux_text.proofs.OwnText.{note_text-read, setting_lines-read}
 
@@ -43,26 +45,26 @@ fault kind line column = record { kind = kind; line = line; column = column }
 
 pub fault-read : (bytes : List ℕ) (kind : TextKind) (line column : ℕ) → HasFault bytes kind line column
     → exercise_in bytes ≡ Err (record { kind = kind; line = line; column = column })
-unfolding HasFault
-fault-read bytes kind line column has = text-fails bytes (fault kind line column) has
+unfolding HasFault exercise_in
+fault-read bytes kind line column has = text-fails note_table bytes (fault kind line column) has
 
 pub read-fault : (bytes : List ℕ) (kind : TextKind) (line column : ℕ)
     → exercise_in bytes ≡ Err (record { kind = kind; line = line; column = column })
     → HasFault bytes kind line column
-unfolding HasFault
-read-fault bytes kind line column e = text-faulty bytes (fault kind line column) e
+unfolding HasFault exercise_in
+read-fault bytes kind line column e = text-wrong note_table bytes (fault kind line column) e
 
 pub sing_fault-read : (ex : Exercise) (bytes : List ℕ) (kind : TextKind) (line column : ℕ) → IsValid ex
     → HasSingFault ex bytes kind line column
     → setting_alone ex bytes ≡ Err (record { kind = kind; line = line; column = column })
-unfolding HasSingFault
-sing_fault-read ex bytes kind line column valid has = alone-fails ex bytes (fault kind line column) valid has
+unfolding HasSingFault setting_alone
+sing_fault-read ex bytes kind line column valid has = text-fails (sung_table ex) bytes (fault kind line column) has
 
 pub read-sing_fault : (ex : Exercise) (bytes : List ℕ) (kind : TextKind) (line column : ℕ)
     → setting_alone ex bytes ≡ Err (record { kind = kind; line = line; column = column })
     → HasSingFault ex bytes kind line column
-unfolding HasSingFault
-read-sing_fault ex bytes kind line column e = alone-faulty ex bytes (fault kind line column) e
+unfolding HasSingFault setting_alone
+read-sing_fault ex bytes kind line column e = text-wrong (sung_table ex) bytes (fault kind line column) e
 
 pub faults-read : FaultsAreRead
 faults-read bytes kind line column = (fault-read bytes kind line column, read-fault bytes kind line column)

@@ -1,76 +1,66 @@
 -- The lines before the ranges give numbers within their limits, and a pitch for each bar (`head-valid`).
-use Rattle.std.proofs.Common.{◌≡◌, ◌≢◌, ℕ, zero, suc, ◌+◌, ◌-◌, ◌<◌, ◌≤◌, List, [], ◌∷◌, ◌++◌, length, length-append, Ok, refl, sym, ap, subst, arith}
-use Rattle.std.specs.Prelude.{codes}
+use Rattle.std.proofs.Common.{◌≡◌, ◌≢◌, ℕ, zero, suc, ◌+◌, ◌-◌, ◌<◌, List, [], ◌∷◌, ◌++◌, length, length-append, sym, ap, subst, arith}
 use Rattle.fux_pitch.specs.declared.pitch.Pitch.{Pitch}
 use Rattle.fux_grid.specs.declared.exercise.Exercise.{Exercise}
 use Rattle.text_lines.specs.declared.fault.TextKind.{TextKind}
 use Rattle.text_lines.specs.declared.fault.TextKind.TheVariants as kinds
 use Rattle.text_lines.specs.Lines.{TextLines}
-use Rattle.text_lines.specs.Reading.{done, headed, literal, number_in}
+use Rattle.text_lines.specs.Rows.{IsRow}
+use Rattle.text_lines.specs.Tables.{IsTable}
 use Rattle.text_lines.specs.Words.{LineWords}
-use Rattle.text_lines.proofs.Binds.{bind_ok}
-use Rattle.fux_text.specs.Head.{cantus_line, head_in, mode_line, number_line, other_voice_in, pitch_in, pitches_in, species_line, version_line}
+use Rattle.fux_text.specs.Head.{cantus_row, head_table, number_row, other_voice, pitches_row, species_row}
 use Rattle.fux_text.specs.Limits.{most_species, most_voices}
 use Rattle.fux_text.proofs.Bounds.{IsOther, IsWithin, number-bounds, other-bounds}
-use Rattle.fux_text.proofs.Following.{value_is}
+use Rattle.fux_text.proofs.OnlyWords.{named-stands}
 
-number_line-bounds : (name : List ℕ) (kind : TextKind) (least most : ℕ) (text : TextLines) (x : ℕ × TextLines)
-    → number_line name kind least most text ≡ Ok x → IsWithin least most x.0
-unfolding number_line
-number_line-bounds name kind least most text x e =
-    let line = bind_ok (headed kinds.Head name text) _ x e in
-    let n = bind_ok (number_in kind least most line.0.0) _ x line.2 in
-    let end = bind_ok (done kinds.Word n.0.1) _ x n.2 in
-    subst (λ y. IsWithin least most y.0) (value_is (n.0.0, line.0.1) x _ refl end.2)
-    (number-bounds kind least most line.0.0 n.0 n.1)
+row-bounds : (kind : TextKind) (least most n : ℕ) (at : LineWords) → IsRow (number_row kind least most) at n
+    → IsWithin least most n
+row-bounds kind least most n at h =
+    subst (IsWithin least most) h.3.1 (number-bounds kind least most h.0 at h.1 h.2)
 
 -- a species and its voice
-record IsSpecies (voices n v : ℕ) : Type 0 where
-  pub species : IsWithin 1 most_species n
-  pub voice : v ≤ voices - 1
+record IsSpecies (voices : ℕ) (x : ℕ × ℕ) : Type 0 where
+  pub species : IsWithin 1 most_species x.0
+  pub voice : IsWithin 0 (voices - 1) x.1
 
-species-bounds : (voices : ℕ) (text : TextLines) (x : ℕ × ℕ × TextLines) → species_line voices text ≡ Ok x
-    → IsSpecies voices x.0 x.1
-unfolding species_line
-species-bounds voices text x e =
-    let line = bind_ok (headed kinds.Head (codes "species") text) _ x e in
-    let n = bind_ok (number_in kinds.Word 1 most_species line.0.0) _ x line.2 in
-    let rest = bind_ok (literal kinds.Word (codes "voice") n.0.1) _ x n.2 in
-    let v = bind_ok (number_in kinds.Word 0 (voices - 1) rest.0) _ x rest.2 in
-    let end = bind_ok (done kinds.Word v.0.1) _ x v.2 in
-    subst (λ y. IsSpecies voices y.0 y.1) (value_is (n.0.0, v.0.0, line.0.1) x _ refl end.2)
+species-bounds : (voices : ℕ) (at : LineWords) (x : ℕ × ℕ) → IsRow (species_row voices) at x → IsSpecies voices x
+species-bounds voices at x (n, behind, s, (_, voice, t, (v, rest, u, end))) =
+    subst (IsSpecies voices) end.1
     (record {
-      species = number-bounds kinds.Word 1 most_species line.0.0 n.0 n.1;
-      voice = (number-bounds kinds.Word 0 (voices - 1) rest.0 v.0 v.1).below;
+      species = number-bounds kinds.Word 1 most_species n at behind s;
+      voice = number-bounds kinds.Word 0 (voices - 1) v voice rest u;
     })
 
-pitches-length : (n : ℕ) (before : List Pitch) (at : LineWords) (x : List Pitch × LineWords) → pitches_in n before at
-    ≡ Ok x
-    → length x.0 ≡ length before + n
-unfolding pitches_in
-pitches-length zero before at x e =
-    let same : length before ≡ length x.0 = ap (λ y. length y.0) (value_is (before, at) x _ refl e) in
-    omega (arith, same)
-pitches-length (suc n) before at x e =
-    let p = bind_ok (pitch_in kinds.Cantus at) (λ found. pitches_in n (before ++ found.0 ∷ []) found.1) x e in
-    omega (arith, pitches-length n (before ++ p.0.0 ∷ []) p.0.1 x p.2, length-append before (p.0.0 ∷ []))
+-- a voice and so many pitches behind those before
+record HasPitches (v n : ℕ) (before : List Pitch) (x : ℕ × List Pitch) : Type 0 where
+  pub voice : v ≡ x.0
+  pub long : length x.1 ≡ length before + n
+
+pitches-length : (v n : ℕ) (before : List Pitch) (at : LineWords) (x : ℕ × List Pitch)
+    → IsRow (pitches_row v n before) at x → HasPitches v n before x
+pitches-length v zero before at x h = record {
+  voice = ap (λ (y : ℕ × List Pitch). y.0) h.1;
+  long = let same : length before ≡ length x.1 = ap (λ (y : ℕ × List Pitch). length y.1) h.1 in omega (arith, same);
+}
+pitches-length v (suc n) before at x h =
+    let rest = pitches-length v n (before ++ h.0 ∷ []) h.1 x h.3 in
+    record { voice = rest.voice; long = omega (arith, rest.long, length-append before (h.0 ∷ [])) }
 
 -- a cantus and its voice
-record IsCantus (voices species_voice bars v : ℕ) (cantus : List Pitch) : Type 0 where
-  pub voice : IsOther species_voice voices v
-  pub whole : length cantus ≡ bars
+record IsCantus (voices species_voice bars : ℕ) (x : ℕ × List Pitch) : Type 0 where
+  pub voice : IsOther species_voice voices x.0
+  pub whole : length x.1 ≡ bars
 
-cantus-bounds : (voices species_voice bars : ℕ) (text : TextLines) (x : ℕ × List Pitch × TextLines)
-    → cantus_line voices species_voice bars text ≡ Ok x → IsCantus voices species_voice bars x.0 x.1
-unfolding cantus_line
-cantus-bounds voices species_voice bars text x e =
-    let line = bind_ok (headed kinds.Head (codes "cantus") text) _ x e in
-    let v = bind_ok (other_voice_in kinds.Cantus species_voice voices line.0.0) _ x line.2 in
-    let pitches = bind_ok (pitches_in bars [] v.0.2) _ x v.2 in
-    let end = bind_ok (done kinds.Cantus pitches.0.1) _ x pitches.2 in
-    let long : length pitches.0.0 ≡ bars = omega (arith, pitches-length bars [] v.0.2 pitches.0 pitches.1) in
-    subst (λ y. IsCantus voices species_voice bars y.0 y.1) (value_is (v.0.0, pitches.0.0, line.0.1) x _ refl end.2)
-    (record { voice = other-bounds kinds.Cantus species_voice voices line.0.0 v.0 v.1; whole = long })
+cantus-bounds : (voices species_voice bars : ℕ) (at : LineWords) (x : ℕ × List Pitch)
+    → IsRow (cantus_row voices species_voice bars) at x → IsCantus voices species_voice bars x
+cantus-bounds voices species_voice bars at x h =
+    let ps = pitches-length h.0 bars [] h.1 x h.3 in
+    record {
+      voice = subst (IsOther species_voice voices) ps.voice
+          (other-bounds species_voice voices h.2.word.text h.0
+          (named-stands kinds.Cantus kinds.Cantus (other_voice species_voice voices) h.0 at h.1 h.2));
+      whole = omega (arith, ps.long);
+    }
 
 -- an exercise without ranges and setting is within the limits
 pub record IsHead (ex : Exercise) : Type 0 where
@@ -82,24 +72,17 @@ pub record IsHead (ex : Exercise) : Type 0 where
   pub differ : ex.species_voice ≢ ex.cantus_voice
   pub whole : length ex.cantus ≡ ex.bars
 
-pub head-valid : (text : TextLines) (x : Exercise × TextLines) → head_in text ≡ Ok x → IsHead x.0
-unfolding head_in
-head-valid text x e =
-    let version = bind_ok (version_line text) _ x e in
-    let mode = bind_ok (mode_line version.0) _ x version.2 in
-    let voices = bind_ok (number_line (codes "voices") kinds.Word 2 most_voices mode.0.1) _ x mode.2 in
-    let bars = bind_ok (number_line (codes "bars") kinds.Bars 3 24 voices.0.1) _ x voices.2 in
-    let species = bind_ok (species_line voices.0.0 bars.0.1) _ x bars.2 in
-    let cantus = bind_ok (cantus_line voices.0.0 species.0.1 bars.0.0 species.0.2) _ x species.2 in
-    let some = number_line-bounds (codes "voices") kinds.Word 2 most_voices mode.0.1 voices.0 voices.1 in
-    let kind = species-bounds voices.0.0 bars.0.1 species.0 species.1 in
-    let tune = cantus-bounds voices.0.0 species.0.1 bars.0.0 species.0.2 cantus.0 cantus.1 in
-    subst (λ y. IsHead y.0) (value_is _ x _ refl cantus.2)
+pub head-valid : (text : TextLines) (ex : Exercise) (rest : TextLines) → IsTable head_table text ex rest → IsHead ex
+head-valid text ex rest (_, a, version, (mode, b, m, (voices, c, vs, (bars, d, bs, (species, e, sp, (cantus, f, cs, same)))))) =
+    let some = row-bounds kinds.Word 2 most_voices voices vs.words vs.right in
+    let kind = species-bounds voices sp.words species sp.right in
+    let tune = cantus-bounds voices species.1 bars cs.words cantus cs.right in
+    subst IsHead same.0
     (record {
       voices = some;
-      bars = number_line-bounds (codes "bars") kinds.Bars 3 24 voices.0.1 bars.0 bars.1;
+      bars = row-bounds kinds.Bars 3 24 bars bs.words bs.right;
       species = kind.species;
-      species_there = omega (arith, kind.voice, some.above);
+      species_there = omega (arith, kind.voice.below, some.above);
       cantus_there = omega (arith, tune.voice.within, some.above);
       differ = λ same. tune.voice.differs (sym same);
       whole = tune.whole;

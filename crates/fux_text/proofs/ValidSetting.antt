@@ -1,6 +1,6 @@
 -- A setting that is read is complete and has the cantus (`setting-valid`).
-use Rattle.std.proofs.Common.{◌≡◌, ◌⊎◌, inl, inr, ℕ, zero, suc, ◌+◌, ◌*◌, ◌/◌, ◌%◌, ◌<◌, ◌≤◌, Bool, true, false, List, [], ◌∷◌, ◌++◌, length, length-append, map, get_or, Option, Some, None, Ok, refl, sym, ap, subst, ◌∙◌, arith}
-use Rattle.std.specs.Prelude.{◌==◌, codes, if◌then◌else◌, option_map, slice_get, IfSome}
+use Rattle.std.proofs.Common.{◌≡◌, ◌⊎◌, inl, inr, ℕ, zero, suc, ◌+◌, ◌*◌, ◌/◌, ◌%◌, ◌<◌, ◌≤◌, Bool, true, false, List, [], ◌∷◌, ◌++◌, length, length-append, map, get_or, Option, Some, refl, sym, ap, subst, ◌∙◌, arith}
+use Rattle.std.specs.Prelude.{◌==◌, if◌then◌else◌, option_map, slice_get, IfSome}
 use Rattle.std.specs.List.{range_with_len}
 use Rattle.std.proofs.lemmas.List.FromFn.{get_or-map-range_with_len, length-map-range_with_len, length-range_with_len}
 use Rattle.fux_pitch.specs.declared.pitch.Pitch.{Pitch}
@@ -10,12 +10,10 @@ use Rattle.fux_grid.specs.declared.exercise.Exercise.{Exercise}
 use Rattle.fux_grid.specs.Cells.{cell_in}
 use Rattle.fux_grid.specs.Exercises.{IsGiven, cantus_cell}
 use Rattle.fux_grid.specs.Grid.{Grid}
-use Rattle.text_lines.specs.Faults.{◌>>=◌}
 use Rattle.text_lines.specs.Lines.{TextLines}
-use Rattle.text_lines.specs.Reading.{begins, no_line}
-use Rattle.text_lines.proofs.Binds.{bind_ok}
-use Rattle.fux_text.specs.Sing.{cantus_cells, column_of, score_of, setting_in, sing_line_in, sung_score, voice_in, voices_in}
-use Rattle.fux_text.proofs.Following.{value_is, voices-length}
+use Rattle.text_lines.specs.Tables.{IsTable}
+use Rattle.fux_text.specs.Sing.{cantus_cells, cantus_or_sung, column_of, score_of, setting_table, sung_table, voice_table, voices_table}
+use Rattle.fux_text.proofs.Following.{voices-length}
 use Rattle.fux_text.proofs.ScoreLoops.{column-cell}
 
 -- the cell of the cantus at a column
@@ -60,40 +58,32 @@ pub get_or-end : (xs : List (List Cell)) (y : List Cell) → get_or (xs ++ y ∷
 get_or-end [] y = refl
 get_or-end (x ∷ xs) y = get_or-end xs y
 
-voice-cantus : (ex : Exercise) (v : ℕ) (text : TextLines) (x : List Cell × TextLines) → v ≡ ex.cantus_voice
-    → voice_in ex v text ≡ Ok x → x.0 ≡ cantus_cells ex.cantus
-unfolding voice_in
-voice-cantus ex v text x same e = by (v == ex.cantus_voice) refl e
+voice-cantus : (ex : Exercise) (v : ℕ) (text : TextLines) (x : List Cell) (rest : TextLines) → v ≡ ex.cantus_voice
+    → IsTable (voice_table ex v) text x rest → x ≡ cantus_cells ex.cantus
+voice-cantus ex v text x rest same h = by (v == ex.cantus_voice) refl h
   where
-    by : (b : Bool) → (v == ex.cantus_voice) ≡ b
-        → (if b then Ok (cantus_cells ex.cantus, text) else sing_line_in ex.bars v text) ≡ Ok x
-        → x.0 ≡ cantus_cells ex.cantus
-    by true d e = sym (ap (λ y. y.0) (value_is (cantus_cells ex.cantus, text) x _ refl e))
-    by false d e = absurd (grind (arith, d, same))
+    by : (b : Bool) → (v == ex.cantus_voice) ≡ b → IsTable (cantus_or_sung ex v b) text x rest
+        → x ≡ cantus_cells ex.cantus
+    by true d h = sym h.0
+    by false d h = absurd (grind (arith, d, same))
 
 pub voices-keep : (ex : Exercise) (n a : ℕ) (before : List (List Cell)) (text : TextLines)
-    (x : List (List Cell) × TextLines)
-    → length before ≡ a → voices_in ex (range_with_len a n) before text ≡ Ok x → KeepsLines ex a n before x.0
-unfolding voices_in
-voices-keep ex zero a before text x long e =
-    let same : before ≡ x.0 = ap (λ y. y.0) (value_is (before, text) x _ refl e) in
+    (x : List (List Cell)) (rest : TextLines)
+    → length before ≡ a → IsTable (voices_table ex (range_with_len a n) before) text x rest → KeepsLines ex a n before x
+voices-keep ex zero a before text x rest long h = record {
+  kept = λ k lt. ap (λ lines. get_or lines k []) (sym h.0);
+  cantus = λ low high. absurd (omega (arith, low, high));
+}
+voices-keep ex (suc n) a before text x rest long h =
+    let more = before ++ h.0 ∷ [] in
+    let later = voices-keep ex n (a + 1) more h.1 x rest (omega (arith, long, length-append before (h.0 ∷ []))) h.3 in
+    let last : get_or x a [] ≡ h.0 =
+    later.kept a (omega arith) ∙ ap (λ k. get_or more k []) (sym long) ∙ get_or-end before h.0 in
     record {
-      kept = λ k lt. ap (λ lines. get_or lines k []) (sym same);
-      cantus = λ low high. absurd (omega (arith, low, high));
-    }
-voices-keep ex (suc n) a before text x long e =
-    let cells = bind_ok (voice_in ex a text)
-    (λ found. voices_in ex (range_with_len (a + 1) n) (before ++ found.0 ∷ []) found.1) x e in
-    let more = before ++ cells.0.0 ∷ [] in
-    let rest = voices-keep ex n (a + 1) more cells.0.1 x (omega (arith, long, length-append before (cells.0.0 ∷ [])))
-    cells.2 in
-    let last : get_or x.0 a [] ≡ cells.0.0 =
-    rest.kept a (omega arith) ∙ ap (λ k. get_or more k []) (sym long) ∙ get_or-end before cells.0.0 in
-    record {
-      kept = λ k lt. rest.kept k (omega (arith, lt)) ∙ get_or-left before cells.0.0 k (omega (arith, lt, long));
+      kept = λ k lt. later.kept k (omega (arith, lt)) ∙ get_or-left before h.0 k (omega (arith, lt, long));
       cantus = λ low high. elim (eq_or_more a ex.cantus_voice low) [
-        | inl same ↦ ap (λ v. get_or x.0 v []) (sym same) ∙ last ∙ voice-cantus ex a text cells.0 same cells.1
-        | inr lt ↦ rest.cantus (omega (arith, lt)) (omega (arith, high))
+        | inl same ↦ ap (λ v. get_or x v []) (sym same) ∙ last ∙ voice-cantus ex a text h.0 h.1 same h.2
+        | inr lt ↦ later.cantus (omega (arith, lt)) (omega (arith, high))
       ];
     }
   where
@@ -117,37 +107,23 @@ score-given ex lines whole long cantus = record {
       ∙ ap (λ c. Some (cell_in c ex.cantus_voice)) (sym col);
 }
 
-pub sung-valid : (ex : Exercise) (text : TextLines) (score : Grid) → ex.cantus_voice < ex.voices → length ex.cantus
-    ≡ ex.bars
-    → sung_score ex text ≡ Ok score → IsGiven ex score
-unfolding sung_score
-sung-valid ex text score there whole e =
-    let lines = bind_ok (voices_in ex (range_with_len 0 ex.voices) [] text) _ score e in
-    let end = bind_ok (no_line lines.0.1) _ score lines.2 in
-    let long : length lines.0.0 ≡ ex.voices =
+pub sung-valid : (ex : Exercise) (text : TextLines) (score : Grid) (rest : TextLines) → ex.cantus_voice < ex.voices
+    → length ex.cantus ≡ ex.bars
+    → IsTable (sung_table ex) text score rest → IsGiven ex score
+sung-valid ex text score rest there whole (lines, a, voices, (_, b, end, same)) =
+    let long : length lines ≡ ex.voices =
     omega (
       arith,
-      voices-length ex (range_with_len 0 ex.voices) [] text lines.0 lines.1,
-      length-range_with_len 0
-          ex.voices,
+      voices-length ex (range_with_len 0 ex.voices) [] text lines a voices,
+      length-range_with_len 0 ex.voices,
     ) in
-    let keeps = voices-keep ex ex.voices 0 [] text lines.0 refl lines.1 in
-    subst (IsGiven ex) (value_is (score_of ex.bars lines.0.0) score _ refl end.2)
-    (score-given ex lines.0.0 whole long (keeps.cantus (omega arith) (omega (arith, there))))
+    let keeps = voices-keep ex ex.voices 0 [] text lines a refl voices in
+    subst (IsGiven ex) same.0 (score-given ex lines whole long (keeps.cantus (omega arith) (omega (arith, there))))
 
-pub setting-valid : (ex : Exercise) (text : TextLines) (o : Option Grid) → ex.cantus_voice < ex.voices
-    → length ex.cantus ≡ ex.bars
-    → setting_in ex text ≡ Ok o → IfSome o (IsGiven ex)
-unfolding setting_in
-setting-valid ex text o there whole e = by (begins (codes "sing") text) e
-  where
-    by : (b : Bool) → (if b then (sung_score ex text >>= λ score. Ok (Some score))
-        else (no_line text >>= λ end. Ok None)) ≡ Ok o
-        → IfSome o (IsGiven ex)
-    by true e =
-        let score = bind_ok (sung_score ex text) (λ score. Ok (Some score)) o e in
-        subst (λ p. IfSome p (IsGiven ex)) (value_is (Some score.0) o _ refl score.2)
-        (sung-valid ex text score.0 there whole score.1)
-    by false e =
-        let end = bind_ok (no_line text) (λ end. Ok None) o e in
-        subst (λ p. IfSome p (IsGiven ex)) (value_is None o _ refl end.2) tt
+pub setting-valid : (ex : Exercise) (text : TextLines) (o : Option Grid) (rest : TextLines)
+    → ex.cantus_voice < ex.voices → length ex.cantus ≡ ex.bars
+    → IsTable (setting_table ex) text o rest → IfSome o (IsGiven ex)
+setting-valid ex text o rest there whole (inl (begins, (score, a, sung, same))) =
+    subst (λ p. IfSome p (IsGiven ex)) same.0 (sung-valid ex text score a there whole sung)
+setting-valid ex text o rest there whole (inr (begins, (_, a, end, same))) =
+    subst (λ p. IfSome p (IsGiven ex)) same.0 tt

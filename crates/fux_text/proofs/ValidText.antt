@@ -1,19 +1,16 @@
 -- What is read is a valid exercise (`exercise-valid`).
-use Rattle.std.proofs.Common.{◌≡◌, ℕ, List, Option, Some, None, Ok, refl, subst, arith}
+use Rattle.std.proofs.Common.{◌≡◌, ℕ, List, Option, Some, None, Ok, subst, arith}
 use Rattle.std.specs.Prelude.{All, IfSome}
 use Rattle.fux_grid.specs.declared.exercise.Exercise.{Exercise}
 use Rattle.fux_grid.specs.declared.exercise.RangeLine.{RangeLine}
 use Rattle.fux_grid.specs.declared.exercise.Relax.{Relax}
 use Rattle.fux_grid.specs.Exercises.{IsGiven, IsRangeLine, IsRelax, IsValid}
 use Rattle.fux_grid.specs.Grid.{Grid}
-use Rattle.text_lines.specs.Utf8.{text_in}
-use Rattle.text_lines.proofs.Binds.{bind_ok}
-use Rattle.fux_text.specs.Head.{head_in}
-use Rattle.fux_text.specs.Ranges.{ranges_in}
-use Rattle.fux_text.specs.Relaxing.{relaxes_in}
-use Rattle.fux_text.specs.Reading.{exercise_in, setting_alone}
-use Rattle.fux_text.specs.Sing.{setting_in}
-use Rattle.fux_text.proofs.Following.{value_is}
+use Rattle.text_lines.specs.Lines.{TextLines, lines_in}
+use Rattle.text_lines.specs.Tables.{IsTable}
+use Rattle.text_lines.proofs.TextLemmas.{text-right}
+use Rattle.fux_text.specs.Reading.{exercise_in, note_table, setting_alone}
+use Rattle.fux_text.specs.Sing.{sung_table}
 use Rattle.fux_text.proofs.ValidHead.{IsHead, head-valid}
 use Rattle.fux_text.proofs.ValidRanges.{AreValidRanges, ranges-valid}
 use Rattle.fux_text.proofs.ValidRelax.{AreRelaxes, relaxes-valid}
@@ -73,21 +70,19 @@ all-valid head ranges relax setting h r l s = record {
 pub exercise-valid : (bytes : List ℕ) (ex : Exercise) → exercise_in bytes ≡ Ok ex → IsValid ex
 unfolding exercise_in
 exercise-valid bytes ex e =
-    let text = bind_ok (text_in bytes) _ ex e in
-    let head = bind_ok (head_in text.0) _ ex text.2 in
-    let ranges = bind_ok (ranges_in head.0.0 head.0.1) _ ex head.2 in
-    let relax = bind_ok (relaxes_in head.0.0 ranges.0.1) _ ex ranges.2 in
-    let setting = bind_ok (setting_in head.0.0 relax.0.1) _ ex relax.2 in
-    let h = head-valid text.0 head.0 head.1 in
-    subst IsValid (value_is _ ex _ refl setting.2)
-    (all-valid head.0.0 ranges.0.0 relax.0.0 setting.0 h
-    (ranges-valid head.0.0 head.0.1 ranges.0 h.voices.above ranges.1)
-    (relaxes-valid head.0.0 ranges.0.1 relax.0 relax.1)
-    (setting-valid head.0.0 relax.0.1 setting.0 h.cantus_there h.whole setting.1))
+    let r = text-right note_table bytes ex e in
+    valid (lines_in bytes) r.rest r.lines
+  where
+    valid : (text rest : TextLines) → IsTable note_table text ex rest → IsValid ex
+    valid text rest (head, a, h, (ranges, b, rs, (relax, c, ls, (setting, d, sg, same)))) =
+        let ok = head-valid text head a h in
+        subst IsValid same.0
+        (all-valid head ranges relax setting ok (ranges-valid head a ranges b ok.voices.above rs)
+        (relaxes-valid head b relax c ls) (setting-valid head c setting d ok.cantus_there ok.whole sg))
 
 pub alone-valid : (ex : Exercise) (bytes : List ℕ) (score : Grid) → IsValid ex → setting_alone ex bytes ≡ Ok score
     → IsGiven ex score
 unfolding setting_alone
 alone-valid ex bytes score valid e =
-    let text = bind_ok (text_in bytes) _ score e in
-    sung-valid ex text.0 score valid.cantus_there valid.whole_cantus text.2
+    let r = text-right (sung_table ex) bytes score e in
+    sung-valid ex (lines_in bytes) score r.rest valid.cantus_there valid.whole_cantus r.lines

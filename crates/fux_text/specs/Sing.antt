@@ -1,5 +1,5 @@
--- Reading the `sing` lines.
-use Rattle.std.specs.Prelude.{ℕ, ◌+◌, ◌-◌, ◌*◌, ◌==◌, not, IsTrue, ⊤, Bool, List, [], ◌∷◌, ◌++◌, Option, Some, None, Result, Ok, codes, length, map, option_map, replicate, if◌then◌else◌}
+-- The `sing` lines, as rows.
+use Rattle.std.specs.Prelude.{ℕ, ◌+◌, ◌-◌, ◌*◌, ◌==◌, not, IsTrue, ⊤, Bool, true, false, List, [], ◌∷◌, ◌++◌, Option, Some, None, Result, Ok, Err, codes, length, map, option_map, replicate, if◌then◌else◌}
 use Rattle.std.specs.List.{after_first, before_first, flat_map, range_with_len}
 use Rattle.std.specs.Option.{ok_or}
 use Rattle.fux_pitch.specs.declared.pitch.Pitch.{Pitch}
@@ -8,16 +8,16 @@ use Rattle.fux_grid.specs.declared.cell.Cell.TheVariants.{Rest, Hold, Start}
 use Rattle.fux_grid.specs.declared.exercise.Exercise.{Exercise}
 use Rattle.fux_grid.specs.Cells.{cell_follows, cell_in, pitch_of}
 use Rattle.fux_grid.specs.Grid.{Grid}
+use Rattle.text_lines.specs.declared.fault.TextKind.{TextKind}
 use Rattle.text_lines.specs.declared.fault.TextKind.TheVariants as kinds
-use Rattle.text_lines.specs.Faults.{Fault, ◌>>=◌}
-use Rattle.text_lines.specs.Lines.{TextLines}
+use Rattle.text_lines.specs.Faults.{◌>>=◌}
 use Rattle.text_lines.specs.Numbers.{if_within, number_of}
-use Rattle.text_lines.specs.Reading.{begins, fault_at, fault_beyond, headed, no_line, number_in, same_text}
-use Rattle.text_lines.specs.Words.{PlacedWord, LineWords}
+use Rattle.text_lines.specs.Reading.{same_text}
+use Rattle.text_lines.specs.Rows.{Row, Run, number_place, refused_if}
+use Rattle.text_lines.specs.Tables.{Table}
 use Rattle.fux_text.specs.declared.item_words.ItemName.{ItemName}
 use Rattle.fux_text.specs.declared.item_words.ItemName.TheVariants as names
 use Rattle.fux_text.specs.Names.{pitch_named}
-use Rattle.fux_text.specs.Ranges.{refused_if}
 
 -- what stands before the colon of an item, and the number behind it
 abbrev pub is_colon : ℕ → Bool
@@ -53,13 +53,14 @@ held (Start p) = Hold p
 abbrev pub item_cells : Cell → ℕ → List Cell
 item_cells first count = first ∷ replicate (count - 1) (held first)
 
--- an item behind so many bars and these cells: its first cell, and how many it has
-unfoldable pub item_in : ℕ → List Cell → PlacedWord → Result (Cell × ℕ) Fault
-item_in bar cells w = do
-  parts ← ok_or (item_parts w.text) (fault_at kinds.Word w)
-  name ← ok_or (item_named parts.0) (fault_at kinds.Pitch w)
-  count ← ok_or (if_within 1 8 parts.1) (fault_at kinds.Length w)
-  cell ← ok_or (first_cell (length cells == 8 * bar) (latest Rest cells) name) (fault_at kinds.Tie w)
+-- an item behind so many bars and these cells: its first cell, and how many it has; or what is wrong with it, of several
+-- faults the first
+unfoldable pub item_said : ℕ → List Cell → List ℕ → Result (Cell × ℕ) TextKind
+item_said bar cells text = do
+  parts ← ok_or (item_parts text) kinds.Word
+  name ← ok_or (item_named parts.0) kinds.Pitch
+  count ← ok_or (if_within 1 8 parts.1) kinds.Length
+  cell ← ok_or (first_cell (length cells == 8 * bar) (latest Rest cells) name) kinds.Tie
   Ok (cell, count)
 
 -- the bar behind so many is full
@@ -67,62 +68,58 @@ abbrev pub is_full : ℕ → List Cell → Bool
 is_full bar cells = length cells == 8 * bar + 8
 
 -- a bar line behind so many bars and these cells: it ends a bar, and isn't the last bar's
-unfoldable pub bar_line_in : ℕ → ℕ → List Cell → PlacedWord → Result ℕ Fault
-bar_line_in bars bar cells w = do
-  full ← refused_if (not (is_full bar cells)) (fault_at kinds.Length w)
-  more ← refused_if (bar + 1 == bars) (fault_at kinds.BarLine w)
+unfoldable pub bar_line_said : ℕ → ℕ → List Cell → Result ℕ TextKind
+bar_line_said bars bar cells = do
+  full ← refused_if (not (is_full bar cells)) kinds.Length
+  more ← refused_if (bar + 1 == bars) kinds.BarLine
   Ok (bar + 1)
 
 -- a word of a `sing` line: how many bars end by it, and the cells so far
-unfoldable pub sung_word : ℕ → ℕ → List Cell → PlacedWord → Result (ℕ × List Cell) Fault
-sung_word bars bar cells w = if same_text w.text (codes "|") then (do
-  next ← bar_line_in bars bar cells w
-  Ok (next, cells))
+unfoldable pub sung_word : ℕ → ℕ × List Cell → List ℕ → Result (ℕ × List Cell) TextKind
+sung_word bars before text = if same_text text (codes "|") then (do
+  next ← bar_line_said bars before.0 before.1
+  Ok (next, before.1))
     else (do
-      item ← item_in bar cells w
-      Ok (bar, cells ++ item_cells item.0 item.1))
+      item ← item_said before.0 before.1 text
+      Ok (before.0, before.1 ++ item_cells item.0 item.1))
 
--- the end of a `sing` line
-unfoldable pub sung_end : ℕ → ℕ → List Cell → LineWords → Result (List Cell) Fault
-sung_end bars bar cells at = do
-  full ← refused_if (not (is_full bar cells)) (fault_beyond kinds.Length at)
-  whole ← refused_if (not (bar + 1 == bars)) (fault_beyond kinds.BarLine at)
-  Ok cells
+-- the end of a `sing` line: its last bar is full
+unfoldable pub sung_end : ℕ → ℕ × List Cell → Result (List Cell) TextKind
+sung_end bars before = do
+  full ← refused_if (not (is_full before.0 before.1)) kinds.Length
+  whole ← refused_if (not (before.0 + 1 == bars)) kinds.BarLine
+  Ok before.1
 
--- the words of a `sing` line behind its voice, where these are left
-abbrev pub sung_words : ℕ → ℕ → List Cell → LineWords → List PlacedWord → Result (List Cell) Fault
-sung_words bars bar cells at [] = sung_end bars bar cells at
-sung_words bars bar cells at (w ∷ ws) = do
-  so_far ← sung_word bars bar cells w
-  sung_words bars so_far.0 so_far.1 at ws
+-- the end of a line of these cells, of which something may be wrong
+abbrev pub ended : List Cell → Option TextKind → Result (List Cell) TextKind
+ended cells None = Ok cells
+ended cells (Some kind) = Err kind
 
-unfoldable pub sung_in : ℕ → LineWords → Result (List Cell) Fault
-sung_in bars at = sung_words bars 0 [] at at.words
+-- the items and bar lines of so many bars
+abbrev pub sung_run : ℕ → Run (ℕ × List Cell) (List Cell)
+sung_run bars = record { word = sung_word bars; end = sung_end bars }
 
--- the `sing` line of a voice: its cells
-unfoldable pub sing_line_in : ℕ → ℕ → TextLines → Result (List Cell × TextLines) Fault
-sing_line_in bars v text = do
-  line ← headed kinds.Sing (codes "sing") text
-  voice ← number_in kinds.Sing v v line.0
-  cells ← sung_in bars voice.1
-  Ok (cells, line.1)
+-- `sing V ITEMS`, where V is this voice: its cells
+abbrev pub sing_row : ℕ → ℕ → Row (List Cell)
+sing_row bars v = Row.place (number_place kinds.Sing v v) (λ _. Row.runs (sung_run bars) (0, []))
 
 -- the cells of the cantus: a whole note in each bar
 unfoldable pub cantus_cells : List Pitch → List Cell
 cantus_cells cantus = flat_map (λ p. item_cells (Start p) 8) cantus
 
--- the cells of a voice: those of the cantus, or those of its `sing` line
-unfoldable pub voice_in : Exercise → ℕ → TextLines → Result (List Cell × TextLines) Fault
-voice_in ex v text =
-    if v == ex.cantus_voice then Ok (cantus_cells ex.cantus, text) else sing_line_in ex.bars v text
+-- the cells of a voice: those of the cantus, or those of its `sing` line, of which a missing one is `sing`
+abbrev pub cantus_or_sung : Exercise → ℕ → Bool → Table (List Cell)
+cantus_or_sung ex v true = Table.says (cantus_cells ex.cantus)
+cantus_or_sung ex v false = Table.line kinds.Sing (codes "sing") (sing_row ex.bars v)
+
+abbrev pub voice_table : Exercise → ℕ → Table (List Cell)
+voice_table ex v = cantus_or_sung ex v (v == ex.cantus_voice)
 
 -- the cells of voices behind those before
-unfoldable pub voices_in : Exercise → List ℕ → List (List Cell) → TextLines
-    → Result (List (List Cell) × TextLines) Fault
-voices_in ex [] before text = Ok (before, text)
-voices_in ex (v ∷ vs) before text = do
-  cells ← voice_in ex v text
-  voices_in ex vs (before ++ cells.0 ∷ []) cells.1
+abbrev pub voices_table : Exercise → List ℕ → List (List Cell) → Table (List (List Cell))
+voices_table ex [] before = Table.says before
+voices_table ex (v ∷ vs) before =
+    Table.behind (voice_table ex v) (λ cells. voices_table ex vs (before ++ cells ∷ []))
 
 -- the columns of lines of cells
 abbrev pub column_of : List (List Cell) → ℕ → List Cell
@@ -135,20 +132,16 @@ score_of bars lines = record {
 }
 
 -- the setting in `sing` lines, with which the text ends
-unfoldable pub sung_score : Exercise → TextLines → Result Grid Fault
-sung_score ex text = do
-  lines ← voices_in ex (range_with_len 0 ex.voices) [] text
-  end ← no_line lines.1
-  Ok (score_of ex.bars lines.0)
+abbrev pub sung_table : Exercise → Table Grid
+sung_table ex =
+    Table.behind (voices_table ex (range_with_len 0 ex.voices) []) (λ lines.
+    Table.behind Table.ends (λ _. Table.says (score_of ex.bars lines)))
 
 -- a setting, or none
-unfoldable pub setting_in : Exercise → TextLines → Result (Option Grid) Fault
-setting_in ex text = if begins (codes "sing") text then (do
-  score ← sung_score ex text
-  Ok (Some score))
-    else (do
-      end ← no_line text
-      Ok None)
+abbrev pub setting_table : Exercise → Table (Option Grid)
+setting_table ex =
+    Table.if_begins (codes "sing") (Table.behind (sung_table ex) (λ score. Table.says (Some score)))
+    (Table.behind Table.ends (λ _. Table.says None))
 
 -- each cell may follow the one before it
 abbrev pub FollowsFrom : Cell → List Cell → Type 0

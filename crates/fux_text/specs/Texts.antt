@@ -5,8 +5,10 @@ use Rattle.fux_grid.specs.Grid.{Grid}
 use Rattle.text_lines.specs.declared.fault.TextKind.{TextKind}
 use Rattle.text_lines.specs.declared.fault.TextFault.{TextFault}
 use Rattle.text_lines.specs.declared.fault.TextFault.TheVariants as faults
-use Rattle.fux_text.specs.FirstFaults.{IsFirstFault, IsFirstSingFault}
+use Rattle.text_lines.specs.Tables.{IsTextFault}
 use Rattle.fux_text.specs.Grammar.{AreSettingLines, IsNoteText}
+use Rattle.fux_text.specs.Reading.{note_table}
+use Rattle.fux_text.specs.Sing.{sung_table}
 
 -- the bytes are a note text of the exercise: their lines have its words (what is read of them is the exercise just then)
 unfoldable pub IsTextOf : List ℕ → Exercise → Type 0
@@ -15,7 +17,7 @@ IsTextOf bytes ex = IsNoteText bytes ex
 -- the bytes are no note text, and this is their first fault: up to there they are as those of a note text (it is what
 -- reading tells just then)
 unfoldable pub HasFault : List ℕ → TextKind → ℕ → ℕ → Type 0
-HasFault bytes kind line column = IsFirstFault bytes (record { kind = kind; line = line; column = column })
+HasFault bytes kind line column = IsTextFault note_table bytes (record { kind = kind; line = line; column = column })
 
 -- the bytes are the `sing` lines of this setting of the exercise
 unfoldable pub AreSingLinesOf : Exercise → List ℕ → Grid → Type 0
@@ -24,7 +26,7 @@ AreSingLinesOf ex bytes score = AreSettingLines ex bytes score
 -- the bytes are no such lines, and this is their first fault
 unfoldable pub HasSingFault : Exercise → List ℕ → TextKind → ℕ → ℕ → Type 0
 HasSingFault ex bytes kind line column =
-    IsFirstSingFault ex bytes (record { kind = kind; line = line; column = column })
+    IsTextFault (sung_table ex) bytes (record { kind = kind; line = line; column = column })
 
 -- the answer is this one, or tells of want of memory
 abbrev pub IsEither : TextFault → TextFault → Type 0

@@ -1,12 +1,15 @@
 //! The range lines.
 
-ghost use Rattle.std.specs.Prelude.{◌≡◌, ◌≤◌, [], IfOk};
+ghost use Rattle.std.specs.Prelude.{◌≡◌, [], codes, true};
+ghost use Rattle.text_lines.specs.declared.fault.TextKind.TheVariants.{Head};
 ghost use Rattle.text_lines.specs.Faults.{Gives};
 ghost use Rattle.text_lines.specs.Lines.{lines_of};
+ghost use Rattle.text_lines.specs.Rows.{place_in, row_in};
+ghost use Rattle.text_lines.specs.Tables.{line_in, many_in, table_in};
 ghost use Rattle.text_lines.specs.Words.{words_of};
-ghost use Rattle.fux_text.specs.Ranges.{all_ranged, bars_in, bars_of_later, has_line, high_in, misfits, range_in, range_line, ranges_in, ranges_on};
+ghost use Rattle.fux_text.specs.Ranges.{all_ranged, bars_row, has_line, high_place, misfits, range_lines_of, range_row, ranges_table, voice_place};
 
-use crate::head::{other_voice_in, pitch_in};
+use crate::head::{other_voice, pitch_in};
 use crate::names::parse_pitch;
 use fux_grid::{Exercise, RangeLine};
 use fux_pitch::{Pitch, semitone};
@@ -38,10 +41,28 @@ fn misfits(words: Words<'_>, later: bool) -> bool
     }
 }
 
-/// Reads a pitch whose key isn't below that of another one.
-#[tactic(auto, unfolding(crate::specs::Ranges::high_in))]
+/// Reads a free voice, and what stands behind it, where the line can go on so.
+#[tactic(auto, unfolding(text_lines::specs::Rows::row_in))]
+fn voice_in<'a>(
+    words: Words<'a>,
+    ex: &Exercise,
+    before: &[RangeLine],
+) -> Result<(u8, Words<'a>), TextFault>
+    ensures { Gives (λ x. (x.0, words_of x.1)) result (place_in (voice_place ex.now before.now) (words_of words.entry)) }
+{
+    let (word, words) = words.next(TextKind::Range)?;
+    let Some(voice) = other_voice(word.text, ex.cantus_voice, ex.voices) else {
+        return Err(word.fault(TextKind::Range));
+    };
+    if misfits(words, has_line(before, voice)) {
+        return Err(word.fault(TextKind::Range));
+    }
+    Ok((voice, words))
+}
+
+/// Reads HIGH, whose key isn't below that of LOW.
 fn high_in(words: Words<'_>, low: Pitch) -> Result<(Pitch, Words<'_>), TextFault>
-    ensures { Gives (λ x. (x.0, words_of x.1)) result (high_in low (words_of words.entry)) }
+    ensures { Gives (λ x. (x.0, words_of x.1)) result (place_in (high_place low) (words_of words.entry)) }
 {
     let (word, words) = words.next(TextKind::Range)?;
     let Some(high) = parse_pitch(word.text) else {
@@ -53,62 +74,58 @@ fn high_in(words: Words<'_>, low: Pitch) -> Result<(Pitch, Words<'_>), TextFault
     Ok((high, words))
 }
 
-/// Reads FROM and TO.
-#[tactic(auto, unfolding(crate::specs::Ranges::bars_in))]
-fn bars_in(words: Words<'_>, bars: u8) -> Result<((u8, u8), Words<'_>), TextFault>
-    ensures { Gives (λ x. (x.0, words_of x.1)) result (bars_in bars (words_of words.entry)) }
+/// Reads the bars of a later line of a voice, with which the line ends.
+#[tactic(auto, unfolding(text_lines::specs::Rows::row_in, text_lines::specs::Reading::number_in))]
+fn later_bars_in(words: Words<'_>, bars: u8, line: RangeLine) -> Result<RangeLine, TextFault>
+    ensures { Gives (λ x. x) result (row_in (bars_row true bars line) (words_of words.entry)) }
 {
     let (from, words) = words.small_number(TextKind::Range, 1, bars)?;
     let (to, words) = words.small_number(TextKind::Range, from, bars)?;
-    Ok(((from, to), words))
-}
-
-/// Reads the bars of a later line of a voice. Its first line has none.
-#[tactic(auto, unfolding(crate::specs::Ranges::bars_of_later))]
-fn bars_of_later(
-    words: Words<'_>,
-    later: bool,
-    bars: u8,
-) -> Result<(Option<(u8, u8)>, Words<'_>), TextFault>
-    ensures { Gives (λ x. (x.0, words_of x.1)) result (bars_of_later later bars (words_of words.entry)) }
-{
-    if !later {
-        return Ok((None, words));
-    }
-    let (found, words) = bars_in(words, bars)?;
-    Ok((Some(found), words))
-}
-
-/// Reads the words behind `range`, where these range lines stand before.
-#[tactic(auto, unfolding(crate::specs::Ranges::range_in))]
-fn range_in(words: Words<'_>, ex: &Exercise, before: &[RangeLine]) -> Result<RangeLine, TextFault>
-    ensures { Gives (λ x. x) result (range_in ex.now before.now (words_of words.entry)) }
-{
-    let (voice, word, words) = other_voice_in(words, TextKind::Range, ex.cantus_voice, ex.voices)?;
-    let later = has_line(before, voice);
-    if misfits(words, later) {
-        return Err(word.fault(TextKind::Range));
-    }
-    let (low, words) = pitch_in(words, TextKind::Range)?;
-    let (high, words) = high_in(words, low)?;
-    let (bars, words) = bars_of_later(words, later, ex.bars)?;
     words.done(TextKind::Word)?;
     Ok(RangeLine {
-        voice,
-        low,
-        high,
-        bars,
+        bars: Some((from, to)),
+        ..line
     })
 }
 
+/// Reads the bars of a later line of a voice. Its first line has none.
+#[tactic(auto, unfolding(text_lines::specs::Rows::row_in))]
+fn bars_in(words: Words<'_>, later: bool, bars: u8, line: RangeLine) -> Result<RangeLine, TextFault>
+    ensures { Gives (λ x. x) result (row_in (bars_row later bars line) (words_of words.entry)) }
+{
+    if later {
+        return later_bars_in(words, bars, line);
+    }
+    words.done(TextKind::Word)?;
+    Ok(line)
+}
+
+/// Reads the words behind `range`, where these range lines stand before.
+#[tactic(auto, unfolding(text_lines::specs::Rows::row_in))]
+fn range_in(words: Words<'_>, ex: &Exercise, before: &[RangeLine]) -> Result<RangeLine, TextFault>
+    ensures { Gives (λ x. x) result (row_in (range_row ex.now before.now) (words_of words.entry)) }
+{
+    let (voice, words) = voice_in(words, ex, before)?;
+    let (low, words) = pitch_in(words, TextKind::Range)?;
+    let (high, words) = high_in(words, low)?;
+    let line = RangeLine {
+        voice,
+        low,
+        high,
+        bars: None,
+    };
+    bars_in(words, has_line(before, voice), ex.bars, line)
+}
+
 /// Reads a range line.
-#[tactic(auto, unfolding(crate::specs::Ranges::range_line))]
+#[tactic(auto, unfolding(text_lines::specs::Tables::line_in))]
 fn range_line<'a>(
     text: Lines<'a>,
     ex: &Exercise,
     before: &[RangeLine],
 ) -> Result<(RangeLine, Lines<'a>), TextFault>
-    ensures { Gives (λ x. (x.0, lines_of x.1)) result (range_line ex.now before.now (lines_of text.entry)) }
+    ensures { Gives (λ x. (x.0, lines_of x.1)) result
+        (line_in Head (codes "range") (range_row ex.now before.now) (lines_of text.entry)) }
 {
     let (words, text) = text.headed(TextKind::Head, b"range")?;
     let line = range_in(words, ex, before)?;
@@ -122,7 +139,7 @@ fn ranges_on<'a>(
     ex: &Exercise,
 ) -> Result<(Vec<RangeLine>, Lines<'a>), TextFault>
     ensures { Gives (λ x. (x.0.items, lines_of x.1)) result
-        (ranges_on ex.now [] (lines_of text.entry).after (lines_of text.entry).lines) }
+        (many_in (range_lines_of ex.now) [] (lines_of text.entry).after (lines_of text.entry).lines) }
 {
     let mut ranges = Vec::new(alloc);
     let mut rest = text;
@@ -143,13 +160,13 @@ fn all_ranged(ex: &Exercise, ranges: &[RangeLine]) -> bool
 }
 
 /// Reads the range lines, of which each free voice has to have its own.
-#[tactic(auto, unfolding(crate::specs::Ranges::ranges_in))]
+#[tactic(auto, unfolding(text_lines::specs::Tables::table_in))]
 pub fn ranges_in<'a>(
     alloc: Global,
     text: Lines<'a>,
     ex: &Exercise,
 ) -> Result<(Vec<RangeLine>, Lines<'a>), TextFault>
-    ensures { Gives (λ x. (x.0.items, lines_of x.1)) result (ranges_in ex.now (lines_of text.entry)) }
+    ensures { Gives (λ x. (x.0.items, lines_of x.1)) result (table_in (ranges_table ex.now) (lines_of text.entry)) }
 {
     let (ranges, text) = ranges_on(alloc, text, ex)?;
     if !all_ranged(ex, &ranges) {

@@ -18,7 +18,7 @@ use std::alloc::Global;
 use text_lines::{Lines, TextFault, TextKind};
 
 /// The exercise of a note text.
-#[tactic(auto, unfolding(crate::specs::Reading::exercise_in))]
+#[tactic(auto, unfolding(crate::specs::Reading::exercise_in, text_lines::specs::Tables::text_read, text_lines::specs::Tables::table_in))]
 fn exercise_in(alloc: Global, bytes: &[u8]) -> Result<Exercise, TextFault>
     ensures { Gives (λ x. x) result (exercise_in bytes.now) }
 {
@@ -26,7 +26,7 @@ fn exercise_in(alloc: Global, bytes: &[u8]) -> Result<Exercise, TextFault>
     let (mut ex, text) = head_in(alloc, text)?;
     let (ranges, text) = ranges_in(alloc, text, &ex)?;
     let (relax, text) = relaxes_in(alloc, text, &ex)?;
-    let setting = setting_in(alloc, text, &ex)?;
+    let (setting, _) = setting_in(alloc, text, &ex)?;
     ex.ranges = List::new(ranges);
     ex.relax = List::new(relax);
     ex.setting = setting;
@@ -47,13 +47,14 @@ pub fn read(alloc: Global, bytes: &[u8]) -> Result<Exercise, TextFault>
 }
 
 /// The setting of an exercise in a text of its `sing` lines alone.
-#[tactic(auto, unfolding(crate::specs::Reading::setting_alone))]
+#[tactic(auto, unfolding(crate::specs::Reading::setting_alone, text_lines::specs::Tables::text_read))]
 fn setting_alone(alloc: Global, ex: &Exercise, lines: &[u8]) -> Result<Score, TextFault>
     requires { IsValid ex.now }
     ensures { Gives (λ x. x) result (setting_alone ex.now lines.now) }
 {
     let text = Lines::of_text(lines)?;
-    sung_score(alloc, text, ex)
+    let (score, _) = sung_score(alloc, text, ex)?;
+    Ok(score)
 }
 
 /// The setting of an exercise in a text of its `sing` lines alone, one for each free voice from the lowest, or the first

@@ -1,12 +1,15 @@
 //! The relax lines.
 
-ghost use Rattle.std.specs.Prelude.{◌≡◌, ◌≤◌, ◌-◌, ◌^◌, [], IfOk, Some, find};
+ghost use Rattle.std.specs.Prelude.{◌≡◌, ◌≤◌, ◌-◌, ◌^◌, [], Some, codes, find};
 ghost use Rattle.std.specs.List.{range_with_len};
+ghost use Rattle.text_lines.specs.declared.fault.TextKind.TheVariants.{Head, Word};
 ghost use Rattle.text_lines.specs.Faults.{Gives};
 ghost use Rattle.text_lines.specs.Lines.{lines_of};
+ghost use Rattle.text_lines.specs.Rows.{named_place, place_in, row_in};
+ghost use Rattle.text_lines.specs.Tables.{goes_on, line_in, many_in};
 ghost use Rattle.text_lines.specs.Words.{words_of};
 ghost use Rattle.fux_text.specs.Lines.{voices_word};
-ghost use Rattle.fux_text.specs.Relaxing.{goes_on, is_set, relax_in, relax_line, relaxes_in, rule_in, rule_named, set_in, voices_named};
+ghost use Rattle.fux_text.specs.Relaxing.{is_set, relax_lines_of, relax_row, rule_named, voices_named};
 
 use crate::exercise_lines::has_voice;
 use crate::limits::MOST_RELAX;
@@ -87,9 +90,8 @@ fn parse_voices(word: &[u8], voices: u8) -> Option<Option<VoiceSet>>
 }
 
 /// Reads a rule.
-#[tactic(auto, unfolding(crate::specs::Relaxing::rule_in))]
 fn rule_in(words: Words<'_>) -> Result<(u8, Words<'_>), TextFault>
-    ensures { Gives (λ x. (x.0, words_of x.1)) result (rule_in (words_of words.entry)) }
+    ensures { Gives (λ x. (x.0, words_of x.1)) result (place_in (named_place Word Word rule_named) (words_of words.entry)) }
 {
     let (word, words) = words.next(TextKind::Word)?;
     match parse_rule(word.text) {
@@ -99,10 +101,10 @@ fn rule_in(words: Words<'_>) -> Result<(u8, Words<'_>), TextFault>
 }
 
 /// Reads the voices, of so many.
-#[tactic(auto, unfolding(crate::specs::Relaxing::set_in))]
 fn set_in(words: Words<'_>, voices: u8) -> Result<(Option<VoiceSet>, Words<'_>), TextFault>
     requires { voices ≤ 4 }
-    ensures { Gives (λ x. (x.0, words_of x.1)) result (set_in voices (words_of words.entry)) }
+    ensures { Gives (λ x. (x.0, words_of x.1)) result
+        (place_in (named_place Word Word (voices_named voices)) (words_of words.entry)) }
 {
     let (word, words) = words.next(TextKind::Word)?;
     match parse_voices(word.text, voices) {
@@ -112,10 +114,10 @@ fn set_in(words: Words<'_>, voices: u8) -> Result<(Option<VoiceSet>, Words<'_>),
 }
 
 /// Reads the words behind `relax`.
-#[tactic(auto, unfolding(crate::specs::Relaxing::relax_in))]
+#[tactic(auto, unfolding(text_lines::specs::Rows::row_in, text_lines::specs::Reading::number_in))]
 fn relax_in(words: Words<'_>, ex: &Exercise) -> Result<Relax, TextFault>
     requires { ex.now.voices ≤ 4 }
-    ensures { Gives (λ x. x) result (relax_in ex.now (words_of words.entry)) }
+    ensures { Gives (λ x. x) result (row_in (relax_row ex.now) (words_of words.entry)) }
 {
     let (rule, words) = rule_in(words)?;
     let (voices, words) = set_in(words, ex.voices)?;
@@ -133,10 +135,11 @@ fn relax_in(words: Words<'_>, ex: &Exercise) -> Result<Relax, TextFault>
 }
 
 /// Reads a relax line.
-#[tactic(auto, unfolding(crate::specs::Relaxing::relax_line))]
+#[tactic(auto, unfolding(text_lines::specs::Tables::line_in))]
 fn relax_line<'a>(text: Lines<'a>, ex: &Exercise) -> Result<(Relax, Lines<'a>), TextFault>
     requires { ex.now.voices ≤ 4 }
-    ensures { Gives (λ x. (x.0, lines_of x.1)) result (relax_line ex.now (lines_of text.entry)) }
+    ensures { Gives (λ x. (x.0, lines_of x.1)) result
+        (line_in Head (codes "relax") (relax_row ex.now) (lines_of text.entry)) }
 {
     let (words, text) = text.headed(TextKind::Head, b"relax")?;
     let line = relax_in(words, ex)?;
@@ -144,8 +147,8 @@ fn relax_line<'a>(text: Lines<'a>, ex: &Exercise) -> Result<(Relax, Lines<'a>), 
 }
 
 /// Whether the next line is a relax line that may stand behind those before.
-fn goes_on(text: Lines<'_>, before: &[Relax]) -> bool
-    ensures { result ≡ goes_on before.now (lines_of text.entry) }
+fn goes_on(text: Lines<'_>, ex: &Exercise, before: &[Relax]) -> bool
+    ensures { result ≡ goes_on (relax_lines_of ex.now) before.now (lines_of text.entry) }
 {
     before.len() < MOST_RELAX && text.begins(b"relax")
 }
@@ -157,11 +160,12 @@ pub fn relaxes_in<'a>(
     ex: &Exercise,
 ) -> Result<(Vec<Relax>, Lines<'a>), TextFault>
     requires { ex.now.voices ≤ 4 }
-    ensures { Gives (λ x. (x.0.items, lines_of x.1)) result (relaxes_in ex.now (lines_of text.entry)) }
+    ensures { Gives (λ x. (x.0.items, lines_of x.1)) result
+        (many_in (relax_lines_of ex.now) [] (lines_of text.entry).after (lines_of text.entry).lines) }
 {
     let mut lines = Vec::new(alloc);
     let mut rest = text;
-    while goes_on(rest, &lines) {
+    while goes_on(rest, ex, &lines) {
         let (line, behind) = relax_line(rest, ex)?;
         lines.push(line)?;
         rest = behind;

@@ -5,7 +5,8 @@ ghost use Rattle.std.specs.List.{AllByRecursion, range_with_len};
 ghost use Rattle.fux_grid.specs.declared.cell.Cell.TheVariants.{Rest};
 ghost use Rattle.text_lines.specs.Faults.{Gives};
 ghost use Rattle.text_lines.specs.Lines.{lines_of};
-ghost use Rattle.fux_text.specs.Sing.{FollowsFrom, cantus_cells, column_of, score_of, setting_in, sung_score, voice_in, voices_in};
+ghost use Rattle.text_lines.specs.Tables.{table_in};
+ghost use Rattle.fux_text.specs.Sing.{FollowsFrom, cantus_cells, column_of, score_of, setting_table, sung_table, voice_table, voices_table};
 
 use crate::sing::{push_item, sing_line_in};
 use fux_grid::{Cell, Column, Exercise, Score, cell_of};
@@ -26,7 +27,7 @@ fn cantus_cells(alloc: Global, cantus: &[Pitch]) -> Result<Vec<Cell>, AllocError
 }
 
 /// The cells of a voice: those of the cantus, or those of its `sing` line, which is read.
-#[tactic(auto, unfolding(crate::specs::Sing::voice_in))]
+#[tactic(auto, unfolding(text_lines::specs::Tables::table_in))]
 fn voice_in<'a>(
     alloc: Global,
     text: Lines<'a>,
@@ -34,7 +35,7 @@ fn voice_in<'a>(
     v: u8,
 ) -> Result<(List<Cell>, Lines<'a>), TextFault>
     requires { 1 ≤ ex.now.bars }
-    ensures { Gives (λ x. (x.0, lines_of x.1)) result (voice_in ex.now v (lines_of text.entry)) }
+    ensures { Gives (λ x. (x.0, lines_of x.1)) result (table_in (voice_table ex.now v) (lines_of text.entry)) }
 {
     if v == ex.cantus_voice {
         let cells = cantus_cells(alloc, ex.cantus.as_slice())?;
@@ -51,7 +52,7 @@ fn voices_in<'a>(
 ) -> Result<(Vec<List<Cell>>, Lines<'a>), TextFault>
     requires { 1 ≤ ex.now.bars }
     ensures { Gives (λ x. (x.0.items, lines_of x.1)) result
-        (voices_in ex.now (range_with_len 0 ex.now.voices) [] (lines_of text.entry)) }
+        (table_in (voices_table ex.now (range_with_len 0 ex.now.voices) []) (lines_of text.entry)) }
 {
     let mut lines = Vec::new(alloc);
     let mut rest = text;
@@ -92,32 +93,41 @@ fn score_of(alloc: Global, lines: &[List<Cell>], bars: u8) -> Result<Score, Text
 }
 
 /// Reads the setting in `sing` lines, with which the text ends.
-#[tactic(auto, unfolding(crate::specs::Sing::sung_score))]
-pub fn sung_score(alloc: Global, text: Lines<'_>, ex: &Exercise) -> Result<Score, TextFault>
+#[tactic(auto, unfolding(text_lines::specs::Tables::table_in))]
+pub fn sung_score<'a>(
+    alloc: Global,
+    text: Lines<'a>,
+    ex: &Exercise,
+) -> Result<(Score, Lines<'a>), TextFault>
     requires least { 2 ≤ ex.now.voices }
     requires most { ex.now.voices ≤ 4 }
     requires some { 1 ≤ ex.now.bars }
     requires bars { ex.now.bars ≤ 24 }
-    ensures { Gives (λ x. x) result (sung_score ex.now (lines_of text.entry)) }
+    ensures { Gives (λ x. (x.0, lines_of x.1)) result (table_in (sung_table ex.now) (lines_of text.entry)) }
 {
     let (lines, text) = voices_in(alloc, text, ex)?;
     text.done()?;
-    score_of(alloc, &lines, ex.bars)
+    let score = score_of(alloc, &lines, ex.bars)?;
+    Ok((score, text))
 }
 
 /// Reads the setting, where there is one.
-#[tactic(auto, unfolding(crate::specs::Sing::setting_in))]
-pub fn setting_in(alloc: Global, text: Lines<'_>, ex: &Exercise) -> Result<Option<Score>, TextFault>
+#[tactic(auto, unfolding(text_lines::specs::Tables::table_in))]
+pub fn setting_in<'a>(
+    alloc: Global,
+    text: Lines<'a>,
+    ex: &Exercise,
+) -> Result<(Option<Score>, Lines<'a>), TextFault>
     requires least { 2 ≤ ex.now.voices }
     requires most { ex.now.voices ≤ 4 }
     requires some { 1 ≤ ex.now.bars }
     requires bars { ex.now.bars ≤ 24 }
-    ensures { Gives (λ x. x) result (setting_in ex.now (lines_of text.entry)) }
+    ensures { Gives (λ x. (x.0, lines_of x.1)) result (table_in (setting_table ex.now) (lines_of text.entry)) }
 {
     if !text.begins(b"sing") {
         text.done()?;
-        return Ok(None);
+        return Ok((None, text));
     }
-    let score = sung_score(alloc, text, ex)?;
-    Ok(Some(score))
+    let (score, text) = sung_score(alloc, text, ex)?;
+    Ok((Some(score), text))
 }

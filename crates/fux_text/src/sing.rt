@@ -1,12 +1,15 @@
 //! The `sing` lines.
 
-ghost use Rattle.std.specs.Prelude.{◌≡◌, ◌≤◌, ◌<◌, ◌+◌, ◌*◌, ◌==◌, ◌++◌, [], IfOk, IfSome, OnOk, List, length, option_map};
+ghost use Rattle.std.specs.Prelude.{◌≡◌, ◌≤◌, ◌<◌, ◌+◌, ◌*◌, ◌==◌, ◌++◌, [], IfOk, IfSome, OnOk, List, codes, length, option_map};
 ghost use Rattle.std.specs.List.{after_first, before_first, position, range_with_len};
 ghost use Rattle.fux_grid.specs.declared.cell.Cell.TheVariants.{Rest};
+ghost use Rattle.text_lines.specs.declared.fault.TextKind.TheVariants.{Sing};
 ghost use Rattle.text_lines.specs.Faults.{Gives};
 ghost use Rattle.text_lines.specs.Lines.{lines_of};
+ghost use Rattle.text_lines.specs.Rows.{Row, row_in, told_at};
+ghost use Rattle.text_lines.specs.Tables.{line_in};
 ghost use Rattle.text_lines.specs.Words.{word_of, words_of};
-ghost use Rattle.fux_text.specs.Sing.{bar_line_in, cantus_cells, first_cell, held, is_colon, is_full, item_cells, item_in, item_named, item_parts, latest, sing_line_in, sung_end, sung_in, sung_word};
+ghost use Rattle.fux_text.specs.Sing.{bar_line_said, ended, first_cell, held, is_colon, is_full, item_cells, item_named, item_parts, item_said, latest, sing_row, sung_end, sung_run, sung_word};
 
 use crate::item_words::ItemName;
 use crate::names::parse_pitch;
@@ -77,24 +80,24 @@ fn latest(cells: &[Cell]) -> Cell
     }
 }
 
-/// Reads an item behind so many bars and these cells: its first cell, and how many it has.
-#[tactic(auto, unfolding(crate::specs::Sing::item_in))]
-fn item_in(cells: &[Cell], bar: u8, word: Word<'_>) -> Result<(Cell, u8), TextFault>
-    ensures value { Gives (λ x. x) result (item_in bar cells.now (word_of word.entry)) }
+/// An item behind so many bars and these cells: its first cell, and how many it has; or what is wrong with it.
+#[tactic(auto, unfolding(crate::specs::Sing::item_said))]
+fn item_said(cells: &[Cell], bar: u8, text: &[u8]) -> Result<(Cell, u8), TextKind>
+    ensures value { result ≡ item_said bar cells.now text.now }
     ensures least { IfOk result (λ x. 1 ≤ x.1) }
 {
-    let Some((name, count)) = item_parts(word.text) else {
-        return Err(word.fault(TextKind::Word));
+    let Some((name, count)) = item_parts(text) else {
+        return Err(TextKind::Word);
     };
     let Some(name) = item_named(name) else {
-        return Err(word.fault(TextKind::Pitch));
+        return Err(TextKind::Pitch);
     };
     if count < 1 || count > 8 {
-        return Err(word.fault(TextKind::Length));
+        return Err(TextKind::Length);
     }
     match first_cell(cells.len() == 8 * usize::from(bar), latest(cells), name) {
         Some(cell) => Ok((cell, count as u8)),
-        None => Err(word.fault(TextKind::Tie)),
+        None => Err(TextKind::Tie),
     }
 }
 
@@ -127,18 +130,18 @@ fn is_full(cells: &[Cell], bar: u8) -> bool
     cells.len() == 8 * usize::from(bar) + 8
 }
 
-/// Reads a bar line behind so many bars and these cells.
-#[tactic(auto, unfolding(crate::specs::Sing::bar_line_in))]
-fn bar_line_in(cells: &[Cell], bars: u8, bar: u8, word: Word<'_>) -> Result<u8, TextFault>
+/// A bar line behind so many bars and these cells: how many bars end by it, or what is wrong with it.
+#[tactic(auto, unfolding(crate::specs::Sing::bar_line_said))]
+fn bar_line_said(cells: &[Cell], bars: u8, bar: u8) -> Result<u8, TextKind>
     requires { bar < bars }
-    ensures value { Gives (λ x. x) result (bar_line_in bars bar cells.now (word_of word.entry)) }
+    ensures value { result ≡ bar_line_said bars bar cells.now }
     ensures more { IfOk result (λ x. x < bars) }
 {
     if !is_full(cells, bar) {
-        return Err(word.fault(TextKind::Length));
+        return Err(TextKind::Length);
     }
     if bar + 1 == bars {
-        return Err(word.fault(TextKind::BarLine));
+        return Err(TextKind::BarLine);
     }
     Ok(bar + 1)
 }
@@ -147,36 +150,44 @@ fn bar_line_in(cells: &[Cell], bars: u8, bar: u8, word: Word<'_>) -> Result<u8, 
 #[tactic(auto, unfolding(crate::specs::Sing::sung_word))]
 fn sung_word(cells: &mut Vec<Cell>, bars: u8, bar: u8, word: Word<'_>) -> Result<u8, TextFault>
     requires { bar < bars }
-    ensures value { Gives (λ x. (x, cells.new.items)) result (sung_word bars bar cells.old.items (word_of word.entry)) }
+    ensures value { Gives (λ x. (x, cells.new.items)) result
+        (told_at (word_of word.entry) (sung_word bars (bar, cells.old.items) (word_of word.entry).text)) }
     ensures more { IfOk result (λ x. x < bars) }
 {
     if is_same(word.text, b"|") {
-        return bar_line_in(cells, bars, bar, word);
+        return match bar_line_said(cells, bars, bar) {
+            Ok(next) => Ok(next),
+            Err(kind) => Err(word.fault(kind)),
+        };
     }
-    let (first, count) = item_in(cells, bar, word)?;
-    push_item(cells, first, count)?;
-    Ok(bar)
+    match item_said(cells, bar, word.text) {
+        Ok((first, count)) => {
+            push_item(cells, first, count)?;
+            Ok(bar)
+        }
+        Err(kind) => Err(word.fault(kind)),
+    }
 }
 
-/// Reads the end of a `sing` line.
+/// Whether a `sing` line may end behind so many bars and these cells, or what is wrong with its end.
 #[tactic(auto, unfolding(crate::specs::Sing::sung_end))]
-fn sung_end(cells: &[Cell], bars: u8, bar: u8, words: Words<'_>) -> Result<(), TextFault>
+fn sung_end(cells: &[Cell], bars: u8, bar: u8) -> Option<TextKind>
     requires { bar < bars }
-    ensures { Gives (λ x. cells.now) result (sung_end bars bar cells.now (words_of words.entry)) }
+    ensures { sung_end bars (bar, cells.now) ≡ ended cells.now result }
 {
     if !is_full(cells, bar) {
-        return Err(words.fault_beyond(TextKind::Length));
+        return Some(TextKind::Length);
     }
     if bar + 1 != bars {
-        return Err(words.fault_beyond(TextKind::BarLine));
+        return Some(TextKind::BarLine);
     }
-    Ok(())
+    None
 }
 
 /// Reads the words of a `sing` line behind its voice: its cells.
 fn sung_in(alloc: Global, words: Words<'_>, bars: u8) -> Result<Vec<Cell>, TextFault>
     requires { 1 ≤ bars }
-    ensures { Gives (λ x. x.items) result (sung_in bars (words_of words.entry)) }
+    ensures { Gives (λ x. x.items) result (row_in (Row.runs (sung_run bars) (0, [])) (words_of words.entry)) }
 {
     let mut cells = Vec::new(alloc);
     let mut bar = 0;
@@ -185,12 +196,14 @@ fn sung_in(alloc: Global, words: Words<'_>, bars: u8) -> Result<Vec<Cell>, TextF
         bar = sung_word(&mut cells, bars, bar, word)?;
         rest = behind;
     }
-    sung_end(&cells, bars, bar, words)?;
-    Ok(cells)
+    match sung_end(&cells, bars, bar) {
+        None => Ok(cells),
+        Some(kind) => Err(words.fault_beyond(kind)),
+    }
 }
 
 /// Reads the `sing` line of a voice: its cells.
-#[tactic(auto, unfolding(crate::specs::Sing::sing_line_in))]
+#[tactic(auto, unfolding(text_lines::specs::Tables::line_in, text_lines::specs::Rows::row_in, text_lines::specs::Reading::number_in))]
 pub fn sing_line_in<'a>(
     alloc: Global,
     text: Lines<'a>,
@@ -198,7 +211,8 @@ pub fn sing_line_in<'a>(
     v: u8,
 ) -> Result<(List<Cell>, Lines<'a>), TextFault>
     requires { 1 ≤ bars }
-    ensures { Gives (λ x. (x.0, lines_of x.1)) result (sing_line_in bars v (lines_of text.entry)) }
+    ensures { Gives (λ x. (x.0, lines_of x.1)) result
+        (line_in Sing (codes "sing") (sing_row bars v) (lines_of text.entry)) }
 {
     let (words, text) = text.headed(TextKind::Sing, b"sing")?;
     let (_, words) = words.small_number(TextKind::Sing, v, v)?;

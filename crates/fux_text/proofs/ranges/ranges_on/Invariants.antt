@@ -1,13 +1,14 @@
 use Rattle.std.proofs.Common.{◌≡◌, [], length}
 use Rattle.text_lines.specs.Lines.{lines_of}
-use Rattle.fux_text.specs.Ranges.{ranges_on}
+use Rattle.text_lines.specs.Tables.{many_in}
+use Rattle.fux_text.specs.Ranges.{range_lines_of}
 use Rattle.fux_text.proofs.ranges.ranges_on.Given as goal
 
 -- reading goes on from here as it does from the beginning
 abbrev pub invariant-loop-rest : goal.invariant-loop-rest
 invariant-loop-rest l =
-    ranges_on l.ex l.ranges.items (lines_of l.rest).after (lines_of l.rest).lines
-    ≡ ranges_on l.ex [] (lines_of l.text).after (lines_of l.text).lines
+    many_in (range_lines_of l.ex) l.ranges.items (lines_of l.rest).after (lines_of l.rest).lines
+    ≡ many_in (range_lines_of l.ex) [] (lines_of l.text).after (lines_of l.text).lines
 
 abbrev pub decreases-loop-rest : goal.decreases-loop-rest
 decreases-loop-rest l = length (lines_of l.rest).lines

@@ -1,8 +1,9 @@
 use Rattle.std.proofs.Common.{◌≡◌, [], true, false, sym, subst, ◌∙◌}
 use Rattle.std.proofs.lemmas.Result.{err_from_is_err_and}
 use Rattle.text_lines.specs.Lines.{lines_of}
-use Rattle.fux_text.specs.Relaxing.{goes_on, relax_on}
-use Rattle.fux_text.proofs.RelaxLoops.{relax-more, relax-fail, relax-all}
+use Rattle.text_lines.specs.Tables.{goes_on, many_in}
+use Rattle.text_lines.proofs.Loops.{many-more, many-fail, many-all}
+use Rattle.fux_text.specs.Relaxing.{relax_lines_of}
 use Rattle.fux_text.proofs.relaxing.relaxes_in.Goals as goal
 
 pub returns-in_err-line : goal.returns-in_err-line
@@ -12,18 +13,18 @@ returns-in_err-line c =
     let e = c.in_err-line.field-0.0 in
     let p = err_from_is_err_and c.from_residual.result c.from_residual.ensures.1 in
     rw (p.1, p.2)
-    (relax-fail e c.args.ex.now c.loop-rest.lines.items at.after at.lines
-    (relax_on c.args.ex.now [] start.after start.lines)
-    (subst (λ before. true ≡ goes_on before at) c.deref.ensures.value (sym c.loop-rest-test.true ∙ c.goes_on.ensures))
+    (many-fail e (relax_lines_of c.args.ex.now) c.loop-rest.lines.items at.after at.lines
+    (many_in (relax_lines_of c.args.ex.now) [] start.after start.lines)
+    (subst (λ before. true ≡ goes_on (relax_lines_of c.args.ex.now) before at) c.deref.ensures.value (sym c.loop-rest-test.true ∙ c.goes_on.ensures))
     c.in_err-line.ensures c.loop-rest.invariant)
 
 pub loop-rest-smaller : goal.loop-rest-smaller
 loop-rest-smaller c =
     let at = lines_of c.loop-rest.rest in
     let start = lines_of c.args.text in
-    let more = relax-more c.args.ex.now c.loop-rest.lines.items at.after at.lines c.in_ok-line.line
-    (lines_of c.in_ok-line.behind) (relax_on c.args.ex.now [] start.after start.lines)
-    (subst (λ before. true ≡ goes_on before at) c.deref.ensures.value (sym c.loop-rest-test.true ∙ c.goes_on.ensures))
+    let more = many-more (relax_lines_of c.args.ex.now) c.loop-rest.lines.items at.after at.lines c.in_ok-line.line
+    (lines_of c.in_ok-line.behind) (many_in (relax_lines_of c.args.ex.now) [] start.after start.lines)
+    (subst (λ before. true ≡ goes_on (relax_lines_of c.args.ex.now) before at) c.deref.ensures.value (sym c.loop-rest-test.true ∙ c.goes_on.ensures))
     c.in_ok-line.ensures c.loop-rest.invariant in
     more.1
 
@@ -31,9 +32,9 @@ pub loop-rest-preserved : goal.loop-rest-preserved
 loop-rest-preserved c =
     let at = lines_of c.loop-rest.rest in
     let start = lines_of c.args.text in
-    let more = relax-more c.args.ex.now c.loop-rest.lines.items at.after at.lines c.in_ok-line.line
-    (lines_of c.in_ok-line.behind) (relax_on c.args.ex.now [] start.after start.lines)
-    (subst (λ before. true ≡ goes_on before at) c.deref.ensures.value (sym c.loop-rest-test.true ∙ c.goes_on.ensures))
+    let more = many-more (relax_lines_of c.args.ex.now) c.loop-rest.lines.items at.after at.lines c.in_ok-line.line
+    (lines_of c.in_ok-line.behind) (many_in (relax_lines_of c.args.ex.now) [] start.after start.lines)
+    (subst (λ before. true ≡ goes_on (relax_lines_of c.args.ex.now) before at) c.deref.ensures.value (sym c.loop-rest-test.true ∙ c.goes_on.ensures))
     c.in_ok-line.ensures c.loop-rest.invariant in
     rw c.in_ok-push.ensures.items more.0
 
@@ -41,7 +42,7 @@ pub returns : goal.returns
 returns c =
     let at = lines_of c.loop-rest.rest in
     let start = lines_of c.args.text in
-    relax-all c.args.ex.now c.loop-rest.lines.items at.after at.lines
-    (relax_on c.args.ex.now [] start.after start.lines)
-    (subst (λ before. false ≡ goes_on before at) c.deref.ensures.value (sym c.loop-rest-test.false ∙ c.goes_on.ensures))
+    many-all (relax_lines_of c.args.ex.now) c.loop-rest.lines.items at.after at.lines
+    (many_in (relax_lines_of c.args.ex.now) [] start.after start.lines)
+    (subst (λ before. false ≡ goes_on (relax_lines_of c.args.ex.now) before at) c.deref.ensures.value (sym c.loop-rest-test.false ∙ c.goes_on.ensures))
     c.loop-rest.invariant

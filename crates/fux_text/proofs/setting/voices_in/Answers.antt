@@ -2,7 +2,8 @@ use Rattle.std.proofs.Common.{[]}
 use Rattle.std.specs.List.{range_with_len}
 use Rattle.std.proofs.lemmas.Result.{err_from_is_err_and}
 use Rattle.text_lines.specs.Lines.{lines_of}
-use Rattle.fux_text.specs.Sing.{voices_in}
+use Rattle.text_lines.specs.Tables.{table_in}
+use Rattle.fux_text.specs.Sing.{voices_table}
 use Rattle.fux_text.proofs.VoiceLoops.{voices-more, voices-fail, voices-all}
 use Rattle.fux_text.proofs.setting.voices_in.Goals as goal
 
@@ -12,7 +13,7 @@ returns-in_err-cells c =
     let ex = c.args.ex.now in
     rw (p.1, p.2)
     (voices-fail c.in_err-cells.field-0.0 ex c.loop-v.v ex.voices c.loop-v.lines.items (lines_of c.loop-v.rest)
-    (voices_in ex (range_with_len 0 ex.voices) [] (lines_of c.args.text)) c.loop-v-test.true c.in_err-cells.ensures
+    (table_in (voices_table ex (range_with_len 0 ex.voices) []) (lines_of c.args.text)) c.loop-v-test.true c.in_err-cells.ensures
     c.loop-v.invariant)
 
 pub loop-v-preserved : goal.loop-v-preserved
@@ -20,11 +21,11 @@ loop-v-preserved c =
     let ex = c.args.ex.now in
     rw c.in_ok-push.ensures.items
     (voices-more ex c.loop-v.v ex.voices c.loop-v.lines.items (lines_of c.loop-v.rest) (lines_of c.in_ok-cells.behind)
-    c.in_ok-cells.cells (voices_in ex (range_with_len 0 ex.voices) [] (lines_of c.args.text)) c.loop-v-test.true
+    c.in_ok-cells.cells (table_in (voices_table ex (range_with_len 0 ex.voices) []) (lines_of c.args.text)) c.loop-v-test.true
     c.in_ok-cells.ensures c.loop-v.invariant)
 
 pub returns : goal.returns
 returns c =
     let ex = c.args.ex.now in
     voices-all ex c.loop-v.v ex.voices c.loop-v.lines.items (lines_of c.loop-v.rest)
-    (voices_in ex (range_with_len 0 ex.voices) [] (lines_of c.args.text)) c.loop-v-test.false c.loop-v.invariant
+    (table_in (voices_table ex (range_with_len 0 ex.voices) []) (lines_of c.args.text)) c.loop-v-test.false c.loop-v.invariant
