@@ -7,7 +7,7 @@ use Rattle.std.proofs.lemmas.Bool.Decides.{nat_tests}
 use Rattle.fux_grid.specs.declared.cell.Cell.{Cell}
 use Rattle.fux_grid.specs.declared.cell.Cell.TheVariants.{Rest, Hold, Start}
 use Rattle.fux_grid.specs.Cells.{cell_follows}
-use Rattle.fux_text.specs.Grammar.{cells_of}
+use Rattle.fux_text.proofs.Bars.{cells_of}
 use Rattle.fux_text.specs.Sing.{FollowsFrom, held, item_cells}
 use Rattle.fux_text.proofs.Following.{held-follows, rest-follows}
 use Rattle.fux_text.proofs.OnlySing.{item_cells-length}

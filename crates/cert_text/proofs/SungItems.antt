@@ -18,7 +18,7 @@ use Rattle.fux_grid.specs.declared.exercise.Exercise.{Exercise}
 use Rattle.fux_grid.specs.Cells.{cell_follows, cell_in, is_hold}
 use Rattle.fux_grid.specs.Columns.{line}
 use Rattle.fux_grid.specs.Letters.{bar_columns}
-use Rattle.fux_text.specs.Grammar.{IsBar, cells_of, cells_of_bars}
+use Rattle.fux_text.proofs.Bars.{IsBar, cells_of, cells_of_bars}
 use Rattle.fux_text.specs.Items.{goes_on, item_name, item_word, items_of_cells, with_run}
 use Rattle.fux_text.specs.Lines.{bars_of, between_bar_lines, sing_text}
 use Rattle.fux_text.specs.Sing.{FollowsFrom, held, item_cells, latest}

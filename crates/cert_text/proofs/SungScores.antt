@@ -11,7 +11,8 @@ use Rattle.fux_grid.specs.declared.exercise.Exercise.{Exercise}
 use Rattle.fux_grid.specs.Columns.{line}
 use Rattle.fux_grid.specs.Exercises.{IsValid}
 use Rattle.fux_grid.specs.Grid.{Grid}
-use Rattle.fux_text.specs.Grammar.{IsSettingOf, cells_of}
+use Rattle.fux_text.specs.Grammar.{IsSettingOf}
+use Rattle.fux_text.proofs.Bars.{cells_of}
 use Rattle.fux_text.specs.Lines.{free_voices, sing_text}
 use Rattle.fux_text.specs.ReadBack.{sing_lines}
 use Rattle.fux_text.specs.Sing.{FollowsFrom, cantus_cells, score_of}

@@ -22,6 +22,7 @@ pub mod PlainWords
 pub mod OwnHead
 pub mod OwnRanges
 pub mod OwnRelax
+pub mod Bars
 pub mod OwnItems
 pub mod OwnBars
 pub mod OwnSetting

@@ -14,13 +14,12 @@ use Rattle.fux_grid.specs.Grid.{Grid}
 use Rattle.fux_grid.proofs.Histories.{reverse-push}
 use Rattle.text_lines.specs.Lines.{TextLines}
 use Rattle.text_lines.specs.Tables.{IsTable}
-use Rattle.fux_text.specs.Grammar.{AreSung, IsBar, IsSettingOf, IsSung, Sings, cells_of, cells_of_bars}
+use Rattle.fux_text.specs.Grammar.{AreSung, IsSettingOf, IsSung, Sings}
 use Rattle.fux_text.specs.Lines.{free_voices}
 use Rattle.fux_text.specs.Sing.{FollowsFrom, cantus_or_sung, column_of, score_of, setting_table, sung_table, voice_table, voices_table}
 use Rattle.fux_text.proofs.Following.{voices-follow, voices-length}
-use Rattle.fux_text.proofs.OnlySing.{IsLineFor, sing_line-only}
+use Rattle.fux_text.proofs.OnlySing.{IsLineFor, sing_line-only, sung-length}
 use Rattle.fux_text.proofs.OnlyWords.{line_texts, no-lines}
-use Rattle.fux_text.proofs.OwnBars.{cells-length}
 use Rattle.fux_text.proofs.OwnSetting.{cells-of_column, free-cantus, free-other, free_of}
 use Rattle.fux_text.proofs.ScoreLoops.{column-cell, next-follows}
 use Rattle.fux_text.proofs.ValidSetting.{get_or-end, score-given, voices-keep}
@@ -82,17 +81,6 @@ voices-only ex (suc n) a before text x rest long (cells, b, voice, others) =
         }
 
 -- ---- the score
-
-bars-length : (bars : List (List (Cell × ℕ))) → AllByRecursion IsBar bars → length (cells_of_bars bars)
-    ≡ 8 * length bars
-bars-length [] whole = refl
-bars-length (items ∷ bars) whole =
-    let one : length (cells_of items) ≡ 8 = cells-length items whole.0.some ∙ whole.0.whole in
-    length-append (cells_of items) (cells_of_bars bars) ∙ omega (arith, one, bars-length bars whole.1)
-
-sung-length : (count v : ℕ) (words : List (List ℕ)) (cells : List Cell) → IsSung count v words cells → length cells
-    ≡ 8 * count
-sung-length count v words cells s = ap length s.sounds ∙ bars-length s.items s.whole ∙ ap (λ n. 8 * n) s.count
 
 -- a voice of the score has the cells of its line
 pub line-of_score : (bars v : ℕ) (lines : List (List Cell)) → length (get_or lines v []) ≡ 8 * bars

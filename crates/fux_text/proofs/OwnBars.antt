@@ -21,12 +21,13 @@ use Rattle.text_lines.specs.Rows.{IsRun, row_in}
 use Rattle.text_lines.specs.Tables.{line_in}
 use Rattle.text_lines.specs.Words.{LineWords}
 use Rattle.text_lines.proofs.RowLemmas.{run-gives}
-use Rattle.fux_text.specs.Grammar.{IsBar, IsSung, cells_of, cells_of_bars}
+use Rattle.fux_text.specs.Grammar.{IsSung}
 use Rattle.fux_text.specs.Items.{item_word, items_of_cells}
 use Rattle.fux_text.specs.Lines.{bar_words, between_bar_lines, sing_words}
 use Rattle.fux_text.specs.Sing.{FollowsFrom, held, item_cells, bar_line_said, latest, sing_row, sung_end, sung_run, sung_word}
 use Rattle.fux_text.proofs.NumberWords.{within-own}
 use Rattle.fux_text.proofs.Layouts.{at_words, left, places_of, set_out-texts, with_line}
+use Rattle.fux_text.proofs.Bars.{IsBar, cells_of, cells_of_bars}
 use Rattle.fux_text.proofs.OwnItems.{GoesOn, bar-own, items-of_bar, lengths}
 
 -- cells that follow one another, in two parts
@@ -120,14 +121,12 @@ words-read count v words cells after l others few run =
 -- a `sing` line is read, wherever its words stand
 pub sing_line-own : (count v : ℕ) (words : List (List ℕ)) (cells : List Cell) (after : ℕ) (l : LineWords)
     (others : List LineWords)
-    → 1 ≤ count → v ≤ 9999999 → IsSung count v words cells → FollowsFrom Rest cells
+    → v ≤ 9999999 → IsSung count v words cells
     → line_in kinds.Sing (codes "sing") (sing_row count v) (with_line after l words others)
     ≡ Ok (cells, left after others)
-sing_line-own count v words cells after l others some few s f =
+sing_line-own count v words cells after l others few s =
     ap (λ ws. line_in kinds.Sing (codes "sing") (sing_row count v) (with_line after l ws others)) s.written
-    ∙ words-read count v (between_bar_lines (map (map item_word) s.items)) (cells_of_bars s.items) after l others few
-    (run-own count s.items some s.count s.whole (subst (FollowsFrom Rest) s.sounds f))
-    ∙ ap (λ cs. Ok (cs, left after others)) (sym s.sounds)
+    ∙ words-read count v s.items cells after l others few s.run
 
 -- bars one after the other
 abbrev joined : List (List Cell) → List Cell
@@ -200,10 +199,10 @@ bars-items before (cs ∷ bars) eight f =
     )
 
 -- the line that is written of a voice has its cells
-pub sing_words-sung : (count v : ℕ) (columns : List (List Cell)) → length columns ≡ 8 * count
+pub sing_words-sung : (count v : ℕ) (columns : List (List Cell)) → 1 ≤ count → length columns ≡ 8 * count
     → FollowsFrom Rest (line v columns)
     → IsSung count v (sing_words v columns) (line v columns)
-sing_words-sung count v columns long f =
+sing_words-sung count v columns some long f =
     let cells = line v columns in
     let bars = map (bar_of_line cells) (range_with_len 1 count) in
     let long_line : length cells ≡ 8 * count = omega (arith, length-map columns (λ col. cell_in col v), long) in
@@ -212,13 +211,16 @@ sing_words-sung count v columns long f =
     ∙ take_all (8 * count) cells (omega (arith, long_line)) in
     let items = bars-items Rest bars (bars-are cells 0 1 count refl (omega (arith, long_line)))
     (subst (FollowsFrom Rest) (sym whole) f) in
+    let same : cells_of_bars (map items_of_cells bars) ≡ cells = items.1 ∙ whole in
+    let words = between_bar_lines (map (map item_word) (map items_of_cells bars)) in
     record {
-      items = map items_of_cells bars;
+      items = words;
       written = ap (λ ws. codes "sing" ∷ decimal v ∷ between_bar_lines ws)
           (words-of_bars v columns (range_with_len 1 (length columns / 8))
           ∙ ap (λ n. map items_words (map (bar_of_line cells) (range_with_len 1 n))) parts
           ∙ sym (map-map (map item_word) items_of_cells bars));
-      count = length-map bars items_of_cells ∙ length-map-range_with_len (bar_of_line cells) 1 count;
-      whole = items.0;
-      sounds = sym (items.1 ∙ whole);
+      run = subst (IsRun (sung_run count) (0, []) words) same
+          (run-own count (map items_of_cells bars) some
+          (length-map bars items_of_cells ∙ length-map-range_with_len (bar_of_line cells) 1 count) items.0
+          (subst (FollowsFrom Rest) (sym same) f));
     }

@@ -17,7 +17,7 @@ use Rattle.text_lines.specs.Reading.{same_text}
 use Rattle.text_lines.specs.Rows.{IsRun}
 use Rattle.fux_text.specs.declared.item_words.ItemName.{ItemName}
 use Rattle.fux_text.specs.declared.item_words.ItemName.TheVariants as names
-use Rattle.fux_text.specs.Grammar.{IsBar, cells_of}
+use Rattle.fux_text.proofs.Bars.{IsBar, cells_of}
 use Rattle.fux_text.specs.Items.{goes_on, item_name, item_word, items_of_cells, with_run}
 use Rattle.fux_text.specs.Sing.{FollowsFrom, first_cell, held, is_colon, item_cells, item_named, item_parts, item_said, latest, sung_run, sung_word}
 use Rattle.fux_pitch.proofs.NameLemmas.{name_of-length, name_of-passes}

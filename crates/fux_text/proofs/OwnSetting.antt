@@ -80,9 +80,7 @@ cantus_line-cells ex columns long has =
 
 -- what the lines of voices are read into
 record HasVoices (ex : Exercise) (columns : List (List Cell)) : Type 0 where
-  pub some : 1 ≤ ex.bars
   pub few : ex.voices ≤ 9999999
-  pub follows : (v : ℕ) → FollowsFrom Rest (line v columns)
   pub cantus : cantus_cells ex.cantus ≡ line ex.cantus_voice columns
 
 voice-cantus_own : (ex : Exercise) (columns : List (List Cell)) (v : ℕ) (text : TextLines) → HasVoices ex columns
@@ -99,8 +97,7 @@ voice-sung_own : (ex : Exercise) (columns : List (List Cell)) (v after : ℕ) (l
     → table_in (voice_table ex v) (with_line after l words others) ≡ Ok (line v columns, left after others)
 unfolding table_in
 voice-sung_own ex columns v after l words others has there e sung =
-    rw e (sing_line-own ex.bars v words (line v columns) after l others has.some (omega (arith, there, has.few)) sung
-    (has.follows v))
+    rw e (sing_line-own ex.bars v words (line v columns) after l others (omega (arith, there, has.few)) sung)
 
 -- the free ones of so many voices
 abbrev pub free_of : Exercise → ℕ → ℕ → List ℕ
@@ -220,9 +217,7 @@ sung_score-own ex score after lay lines can setting sung =
     let long : length columns ≡ 8 * ex.bars = setting.given.complete.whole in
     let has : HasVoices ex columns =
     record {
-      some = can.some_bars;
       few = omega (arith, can.most_voices);
-      follows = λ v. line-follows_own v columns setting.follows;
       cantus = cantus_line-cells ex columns (long ∙ ap (λ n. 8 * n) (sym can.whole_cantus)) setting.given.cantus;
     } in
     rw (voices-own ex columns after has ex.voices 0 [] (omega arith) lay lines sung)
@@ -252,7 +247,7 @@ sung-begin : (bars : ℕ) (cells : ℕ → List Cell) (vs : List ℕ) (lines : L
 sung-begin bars cells vs [] sung = tt
 sung-begin bars cells [] (words ∷ lines) sung = absurd sung
 sung-begin bars cells (v ∷ vs) (words ∷ lines) sung =
-    (decimal v ∷ between_bar_lines (map (map item_word) sung.0.items), sung.0.written)
+    (decimal v ∷ sung.0.items, sung.0.written)
 
 pub sings-begin : (ex : Exercise) (lines : List (List (List ℕ))) (o : Option Grid) → Sings ex lines o
     → BeginWithSing lines
@@ -291,14 +286,15 @@ sung_lines ex None = []
 sung_lines ex (Some score) = map (λ v. sing_words v score.columns) (free_voices ex)
 
 -- the lines that are written of a setting are lines of it
-pub sung_lines-sing : (ex : Exercise) (o : Option Grid) → IfSome o (IsSettingOf ex) → Sings ex (sung_lines ex o) o
-sung_lines-sing ex None setting = refl
-sung_lines-sing ex (Some score) setting = (setting, all (free_voices ex))
+pub sung_lines-sing : (ex : Exercise) (o : Option Grid) → 1 ≤ ex.bars → IfSome o (IsSettingOf ex)
+    → Sings ex (sung_lines ex o) o
+sung_lines-sing ex None some setting = refl
+sung_lines-sing ex (Some score) some setting = (setting, all (free_voices ex))
   where
     all : (vs : List ℕ) → AreSung ex.bars (λ w. line w score.columns) vs (map (λ v. sing_words v score.columns) vs)
     all [] = tt
     all (v ∷ vs) = (
-      sing_words-sung ex.bars v score.columns setting.given.complete.whole
+      sing_words-sung ex.bars v score.columns some setting.given.complete.whole
           (line-follows_own v score.columns setting.follows),
       all vs,
     )

@@ -270,7 +270,7 @@ note_text-own ex o valid setting short =
       sung = sung_lines ex o;
       lines = ap words_in text ∙ words_in-own ls plain;
       valid = valid_with ex o valid setting;
-      setting = sings_with ex (sung_lines ex o) o (sung_lines-sing ex o setting);
+      setting = sings_with ex (sung_lines ex o) o (sung_lines-sing ex o (omega (arith, valid.fewest_bars)) setting);
     }
 
 pub sing_lines-own : (ex : Exercise) (score : Grid) → IsValid ex → IsSettingOf ex score
@@ -283,7 +283,7 @@ sing_lines-own ex score valid setting short =
       short = short;
       utf8 = subst IsUtf8 (sym text) (text-utf8 ls plain);
       setting = subst (λ found. Sings ex found (Some score)) (sym (ap words_in text ∙ words_in-own ls plain))
-          (sung_lines-sing ex (Some score) setting);
+          (sung_lines-sing ex (Some score) (omega (arith, valid.fewest_bars)) setting);
     }
 
 -- so it is read back

@@ -1,39 +1,22 @@
 -- The grammar of the note text: which words its lines have. But for `sing` lines they are those that are written.
 use Rattle.std.specs.Prelude.{All, reverse, ◌≡◌, ℕ, ◌≤◌, List, [], ◌∷◌, ◌++◌, Option, Some, None, codes, drop, false, length, map, ⊤}
 use Rattle.std.specs.Fmt.{decimal}
-use Rattle.std.specs.List.{AllByRecursion, flat_map, sum_by}
 use Rattle.std.specs.Str.{IsUtf8}
 use Rattle.fux_grid.specs.declared.cell.Cell.{Cell}
 use Rattle.fux_grid.specs.declared.exercise.Exercise.{Exercise}
-use Rattle.fux_grid.specs.Cells.{is_hold}
 use Rattle.fux_grid.specs.Columns.{HistoryFollows, line}
 use Rattle.fux_grid.specs.Exercises.{IsGiven, IsValid}
 use Rattle.fux_grid.specs.Grid.{Grid}
-use Rattle.fux_text.specs.Items.{item_word}
-use Rattle.fux_text.specs.Lines.{between_bar_lines, exercise_lines, free_voices}
-use Rattle.fux_text.specs.Sing.{item_cells}
+use Rattle.text_lines.specs.Rows.{IsRun}
+use Rattle.fux_text.specs.Lines.{exercise_lines, free_voices}
+use Rattle.fux_text.specs.Sing.{sung_run}
 use Rattle.fux_text.specs.Words.{words_in}
 
--- the items of a bar: their lengths sum to 8, and none but the first goes on with what sounded
-pub record IsBar (items : List (Cell × ℕ)) : Type 0 where
-  pub whole : sum_by (λ item. item.1) items ≡ 8
-  pub some : AllByRecursion (λ item. 1 ≤ item.1) items
-  pub ties : AllByRecursion (λ item. is_hold item.0 ≡ false) (drop 1 items)
-
--- the cells of items, and of bars of items
-abbrev pub cells_of : List (Cell × ℕ) → List Cell
-cells_of items = flat_map (λ item. item_cells item.0 item.1) items
-
-abbrev pub cells_of_bars : List (List (Cell × ℕ)) → List Cell
-cells_of_bars bars = flat_map cells_of bars
-
--- the words of a `sing` line: its voice, and so many bars, whose items have these cells
+-- the words of a `sing` line: its voice, and items and bar lines that run through so many bars and have these cells
 pub record IsSung (bars v : ℕ) (words : List (List ℕ)) (cells : List Cell) : Type 0 where
-  pub items : List (List (Cell × ℕ))
-  pub written : words ≡ codes "sing" ∷ decimal v ∷ between_bar_lines (map (map item_word) items)
-  pub count : length items ≡ bars
-  pub whole : AllByRecursion IsBar items
-  pub sounds : cells ≡ cells_of_bars items
+  pub items : List (List ℕ)
+  pub written : words ≡ codes "sing" ∷ decimal v ∷ items
+  pub run : IsRun (sung_run bars) (0, []) items cells
 
 -- a setting of an exercise: a complete score with the cantus, whose columns have a cell for each voice and follow one
 -- another (the last two hold of every score of the program)
