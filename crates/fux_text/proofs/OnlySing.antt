@@ -1,5 +1,5 @@
 -- A `sing` line that is read has the words of a line with these cells (`sing_line-only`), as many as its bars hold.
-use Rattle.std.proofs.Common.{◌≡◌, ℕ, suc, ◌+◌, ◌-◌, ◌*◌, ◌≤◌, Bool, true, false, List, [], ◌∷◌, length, Ok, refl, sym, ap, ◌∙◌, arith}
+use Rattle.std.proofs.Common.{◌≡◌, ℕ, suc, ◌+◌, ◌-◌, ◌*◌, ◌≤◌, Bool, true, false, List, [], ◌∷◌, length, Ok, refl, ap, ◌∙◌, arith}
 use Rattle.std.specs.Prelude.{◌==◌, not, codes}
 use Rattle.std.specs.Fmt.{decimal}
 use Rattle.std.proofs.lemmas.Bool.{eqb-true, not-false}
@@ -7,7 +7,6 @@ use Rattle.std.proofs.lemmas.List.{length-replicate}
 use Rattle.fux_grid.specs.declared.cell.Cell.{Cell}
 use Rattle.text_lines.specs.declared.fault.TextKind.{TextKind}
 use Rattle.text_lines.specs.declared.fault.TextKind.TheVariants as kinds
-use Rattle.text_lines.specs.Faults.{◌>>=◌}
 use Rattle.text_lines.specs.Lines.{TextLines}
 use Rattle.text_lines.specs.Rows.{IsRun, refused_if}
 use Rattle.text_lines.specs.Tables.{IsLine}

@@ -20,8 +20,7 @@ use Rattle.text_lines.specs.Tables.{table_in}
 use Rattle.text_lines.specs.Words.{LineWords}
 use Rattle.std.specs.Fmt.{decimal}
 use Rattle.fux_text.specs.Grammar.{AreSung, IsSettingOf, IsSung, Sings}
-use Rattle.fux_text.specs.Items.{item_word}
-use Rattle.fux_text.specs.Lines.{between_bar_lines, free_voices, sing_words}
+use Rattle.fux_text.specs.Lines.{free_voices, sing_words}
 use Rattle.fux_text.specs.Sing.{FollowsFrom, cantus_cells, column_of, item_cells, score_of, setting_table, sung_table, voice_table, voices_table}
 use Rattle.fux_text.proofs.Layouts.{left, lines_at, with_line}
 use Rattle.fux_text.proofs.OwnBars.{sing_line-own, sing_words-sung}

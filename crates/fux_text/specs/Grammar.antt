@@ -1,5 +1,5 @@
 -- The grammar of the note text: which words its lines have. But for `sing` lines they are those that are written.
-use Rattle.std.specs.Prelude.{All, reverse, ◌≡◌, ℕ, ◌≤◌, List, [], ◌∷◌, ◌++◌, Option, Some, None, codes, drop, false, length, map, ⊤}
+use Rattle.std.specs.Prelude.{All, reverse, ◌≡◌, ℕ, ◌≤◌, List, [], ◌∷◌, ◌++◌, Option, Some, None, codes, length, ⊤}
 use Rattle.std.specs.Fmt.{decimal}
 use Rattle.std.specs.Str.{IsUtf8}
 use Rattle.fux_grid.specs.declared.cell.Cell.{Cell}
