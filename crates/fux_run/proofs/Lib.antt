@@ -10,5 +10,4 @@ pub mod RunLemmas
 pub mod SimpleForms
 pub mod SinkLemmas
 pub mod Taken
-pub mod TextFaults
 pub mod WorkLemmas

@@ -1,14 +1,16 @@
 -- A text is read just where its lines have the words of what is read (`texts-read`, `sing_texts-read`), and told to have a
 -- fault just where it is its first one (`faults-read`, `sing_faults-read`).
-use Rattle.std.proofs.Common.{◌≡◌, ℕ, List, Result, Ok, Err, ◌⊎◌, inl, inr, refl, ap, arith}
+use Rattle.std.proofs.Common.{◌≡◌, ℕ, List, Result, Ok, Err, ◌⊎◌, inl, inr, refl, ap, arith, ◌<◌, length}
 use Rattle.fux_grid.specs.declared.exercise.Exercise.{Exercise}
 use Rattle.fux_grid.specs.Exercises.{IsValid}
 use Rattle.fux_grid.specs.Grid.{Grid}
 use Rattle.text_lines.specs.declared.fault.TextKind.{TextKind}
+use Rattle.text_lines.specs.declared.fault.TextKind.TheVariants.{TooLong}
 use Rattle.text_lines.specs.Faults.{Fault}
 use Rattle.fux_text.specs.ReadBack.{FaultsAreRead, NoteTextsHaveOneFault, SingFaultsAreRead, NoteTextsAreOfOne, NoteTextsAreRead, NoteTextsHaveNoFault, NoteTextsOrFaults, SingLinesAreRead}
 use Rattle.fux_text.specs.Reading.{exercise_in, setting_alone}
 use Rattle.fux_text.specs.Texts.{AreSingLinesOf, HasFault, HasSingFault, IsTextOf}
+use Rattle.text_lines.specs.Tables.{IsTextFault}
 use Rattle.text_lines.proofs.TextLemmas.{text-fails, text-wrong}
 use Rattle.fux_text.specs.Reading.{note_table}
 use Rattle.fux_text.specs.Sing.{sung_table}
@@ -105,3 +107,8 @@ pub texts-faultless : NoteTextsHaveNoFault
 texts-faultless bytes ex kind line column is has =
     no_value (exercise_in bytes) ex (fault kind line column) (text-read bytes ex is)
     (fault-read bytes kind line column has)
+
+-- a text that is too long has that fault
+pub too_long : (bytes : List ℕ) → 65536 < length bytes → HasFault bytes TooLong 1 1
+unfolding HasFault
+too_long bytes long = IsTextFault.too_long long refl

@@ -1,6 +1,6 @@
 use Rattle.std.proofs.Common.{subst}
 use Rattle.class_marker.specs.Markings.{IsContent}
-use Rattle.class_marker.proofs.TextFaults.{too_long}
+use Rattle.fux_text.proofs.ReadTexts.{too_long}
 use Rattle.class_marker.proofs.one.mark_text.Goals as goal
 
 pub returns-in_default : goal.returns-in_default

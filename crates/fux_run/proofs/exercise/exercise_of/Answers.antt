@@ -1,6 +1,6 @@
 use Rattle.std.proofs.Common.{subst}
 use Rattle.fux_run.specs.Works.{IsContent}
-use Rattle.fux_run.proofs.TextFaults.{too_long}
+use Rattle.fux_text.proofs.ReadTexts.{too_long}
 use Rattle.fux_run.proofs.exercise.exercise_of.Goals as goal
 
 pub returns-in_default-clause-reads : goal.returns-in_default-clause-reads
