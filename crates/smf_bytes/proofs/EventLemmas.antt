@@ -1,47 +1,118 @@
--- The next event of what is left of a track (`events_more`, `events_fault`), and the next track of a file (`tracks_more`, `tracks_over`).
-use Rattle.std.proofs.Common.{◌≡◌, ℕ, zero, suc, ◌+◌, ◌-◌, ◌<◌, ◌≤◌, Bool, true, false, List, [], ◌∷◌, length, Option, Some, None, Result, Ok, Err, refl, sym, ◌∙◌, ap, arith, cond, eqb}
+-- The next event of what is left of a track (`events_more`, `events_fault`), and the next track of a file (`tracks_more`,
+-- `tracks_over`).
+use Rattle.std.proofs.Common.{◌≡◌, ◌≢◌, ℕ, zero, suc, ◌+◌, ◌-◌, ◌<◌, ◌≤◌, Bool, true, false, List, [], ◌∷◌, length, Option, Some, None, Result, Ok, Err, refl, sym, ◌∙◌, ap, arith, cond, eqb, ne_eqb}
+use Rattle.std.proofs.lemmas.Bool.{eqb-true, eqb-false}
+use Rattle.std.proofs.lemmas.List.{nil_from_length}
 use Rattle.smf_bytes.specs.declared.fault.ByteFault.{ByteFault}
 use Rattle.smf_bytes.specs.declared.fault.ByteFault.TheVariants.{NoEnd}
-use Rattle.smf_bytes.specs.Numbers.{quantity_in}
-use Rattle.smf_bytes.specs.Messages.{Event, ends_track, event_in}
+use Rattle.smf_bytes.specs.Numbers.{◌>>=◌, quantity_in}
+use Rattle.smf_bytes.specs.Rows.{IsQuantity, LacksQuantity, row_in}
+use Rattle.smf_bytes.specs.Messages.{Event, ends_track, event_row}
 use Rattle.smf_bytes.specs.Chunks.{track_in}
-use Rattle.smf_bytes.specs.Events.{Timed, Left, Answers, event_then, left_then, next_in, answer_then, events_in, events_left, track_then, tracks_in}
-use Rattle.smf_bytes.proofs.Answers.{ok_is, bind_ok, guard_ok}
-use Rattle.smf_bytes.proofs.ShorterLemmas.{event_shorter, quantity_shorter}
+use Rattle.smf_bytes.specs.Events.{Timed, Left, Answers, event_then, left_behind, left_then, next_in, answer_then, events_in, events_left, track_then, tracks_in}
+use Rattle.smf_bytes.specs.Files.{IsNext, IsNextFault}
+use Rattle.smf_bytes.proofs.PartLemmas.{PartTold, digits_gives, digits_lacks, digits_shorter, digits_told, read_fails, read_then}
+use Rattle.smf_bytes.proofs.RowLemmas.{RowTold, row_fails, row_gives, row_shorter, row_told}
 
--- what is left is shorter
-left_shorter : (left : Left) (delta : ℕ) (event : Event) (after : Left) → left_then left delta event ≡ Some after
-    → length after.rest ≡ length event.rest
-left_shorter left delta event after = at (ends_track event.message)
-  where
-    made : Left
-    made = record {
-      number = left.number;
-      end = left.end;
-      tick = left.tick + delta;
-      running = event.running;
-      rest = event.rest;
-    }
+-- what reading tells of the next event
+abbrev pub NextTold : Left → Result (Timed × Option Left) ByteFault → Type 0
+NextTold left (Ok x) =
+    (delta : ℕ) × (event : Event) × (rest : List ℕ) × IsNext left delta event rest
+    × (x ≡ (event_then left delta event, left_then left delta event rest))
+NextTold left (Err fault) = IsNextFault left fault
 
-    at : (t : Bool) → cond t None (Some made) ≡ Some after → length after.rest ≡ length event.rest
-    at true e = absurd cc
-    at false e = let same : made ≡ after = cc in ap (λ (l : Left). length l.rest) (sym same)
-
-next_shorter : (left : Left) (event : Timed) (after : Left) → next_in left ≡ Ok (event, Some after)
-    → length after.rest < length left.rest
+pub next_told : (left : Left) → NextTold left (next_in left)
 unfolding next_in
-next_shorter left event after e =
-    let some = guard_ok (eqb (length left.rest) 0) (NoEnd left.end) _ (event, Some after) e in
-    let delta = bind_ok (quantity_in left.end left.rest) _ (event, Some after) some.1 in
-    let read = bind_ok (event_in left.running left.end delta.0.1) _ (event, Some after) delta.2 in
-    let both = ok_is (event_then left delta.0.0 read.0, left_then left delta.0.0 read.0) (event, Some after) read.2 in
-    let behind = ap (λ (p : Timed × Option Left). p.1) both in
+next_told left = by (eqb (length left.rest) 0) refl
+  where
+    next : ℕ × List ℕ → Event × List ℕ → Result (Timed × Option Left) ByteFault
+    next delta event = Ok (event_then left delta.0 event.0, left_then left delta.0 event.0 event.1)
+
+    read : (delta : ℕ × List ℕ) → IsQuantity left.rest delta.0 delta.1 → (r : Result (Event × List ℕ) ByteFault)
+        → RowTold (event_row left.running) left.end delta.1 r → NextTold left (r >>= λ event. Ok
+        (event_then left delta.0 event.0, left_then left delta.0 event.0 event.1))
+    read delta time (Ok event) told =
+        (delta.0, event.0, event.1, record { behind = delta.1; time = time; stands = told }, refl)
+    read delta time (Err f) told = IsNextFault.in_event delta.0 delta.1 time told
+
+    timed : left.rest ≢ [] → (r : Result (ℕ × List ℕ) ByteFault)
+        → PartTold (IsQuantity left.rest) (LacksQuantity left.end left.rest) r
+        → NextTold left (r >>= λ delta. row_in (event_row left.running) left.end delta.1 >>= λ event. Ok
+        (event_then left delta.0 event.0, left_then left delta.0 event.0 event.1))
+    timed some (Ok delta) told =
+        read delta told (row_in (event_row left.running) left.end delta.1) (row_told (event_row left.running) left.end delta.1)
+    timed some (Err f) told = IsNextFault.in_time some told
+
+    by : (t : Bool) → eqb (length left.rest) 0 ≡ t
+        → NextTold left (cond t (Err (NoEnd left.end)) (quantity_in left.end left.rest >>= λ delta.
+        row_in (event_row left.running) left.end delta.1 >>= λ event. Ok
+        (event_then left delta.0 event.0, left_then left delta.0 event.0 event.1)))
+    by true e = IsNextFault.no_end (nil_from_length left.rest (eqb-true (length left.rest) 0 e)) refl
+    by false e =
+        timed (λ none. eqb-false (length left.rest) 0 e (ap length none)) (quantity_in left.end left.rest)
+        (digits_told 4 (left.end - length left.rest) 0 left.end left.rest)
+
+pub next_shorter : (left : Left) (delta : ℕ) (event : Event) (rest : List ℕ) → IsNext left delta event rest
+    → length rest < length left.rest
+next_shorter left delta event rest h =
     omega (
       arith,
-      left_shorter left delta.0.0 read.0 after behind,
-      event_shorter left.running left.end delta.0.1 read.0 read.1,
-      quantity_shorter left.end left.rest delta.0 delta.1,
+      digits_shorter 4 0 left.rest delta h.behind h.time,
+      row_shorter (event_row left.running) h.behind event rest h.stands,
     )
+
+pub next_gives : (left : Left) (delta : ℕ) (event : Event) (rest : List ℕ) → IsNext left delta event rest
+    → next_in left ≡ Ok (event_then left delta event, left_then left delta event rest)
+unfolding next_in
+next_gives left delta event rest h =
+    let some : length left.rest ≢ 0 = λ none. absurd (omega (arith, next_shorter left delta event rest h, none)) in
+    rw (ne_eqb (length left.rest) 0 some)
+    (read_then (quantity_in left.end left.rest) _ (delta, h.behind) _
+    (digits_gives 4 (left.end - length left.rest) 0 left.end left.rest delta h.behind h.time)
+    (read_then (row_in (event_row left.running) left.end h.behind) _ (event, rest) _
+    (row_gives (event_row left.running) left.end h.behind event rest h.stands) refl))
+
+pub next_fails : (left : Left) (f : ByteFault) → IsNextFault left f → next_in left ≡ Err f
+unfolding next_in
+next_fails left f (IsNextFault.no_end e fault) = rw fault (rw e refl)
+next_fails left f (IsNextFault.in_time some lacks) =
+    let some : length left.rest ≢ 0 = λ none. some (nil_from_length left.rest none) in
+    rw (ne_eqb (length left.rest) 0 some)
+    (read_fails (quantity_in left.end left.rest) _ f f
+    (digits_lacks 4 (left.end - length left.rest) 0 left.end left.rest f lacks) refl)
+next_fails left f (IsNextFault.in_event delta behind time lacks) =
+    let some : length left.rest ≢ 0 =
+    λ none. absurd (omega (arith, digits_shorter 4 0 left.rest delta behind time, none)) in
+    rw (ne_eqb (length left.rest) 0 some)
+    (read_then (quantity_in left.end left.rest) _ (delta, behind) _
+    (digits_gives 4 (left.end - length left.rest) 0 left.end left.rest delta behind time)
+    (read_fails (row_in (event_row left.running) left.end behind) _ f f
+    (row_fails (event_row left.running) left.end behind f lacks) refl))
+
+-- ---- what is left of a track
+
+-- what is left behind an event is shorter
+after_shorter : (left : Left) (event : Timed) (after : Left) → next_in left ≡ Ok (event, Some after)
+    → length after.rest < length left.rest
+after_shorter left event after e = at (next_in left) (next_told left) e
+  where
+    ended : (t : Bool) (l : Left) → cond t None (Some l) ≡ Some after → l ≡ after
+    ended true l h = absurd cc
+    ended false l h = cc
+
+    at : (r : Result (Timed × Option Left) ByteFault) → NextTold left r → r ≡ Ok (event, Some after)
+        → length after.rest < length left.rest
+    at (Ok x) told h =
+        let both : x ≡ (event, Some after) = cc in
+        let is : left_then left told.0 told.1 told.2 ≡ Some after =
+        ap (λ (p : Timed × Option Left). p.1) (sym told.4) ∙ ap (λ (p : Timed × Option Left). p.1) both in
+        let same = ended (ends_track told.1.message) (left_behind left told.0 told.1 told.2) is in
+        omega (
+          arith,
+          ap (λ (l : Left). length l.rest) same,
+          next_shorter left told.0 told.1 told.2 told.3,
+        )
+    at (Err f) told h = absurd cc
 
 -- nothing is left to read
 next_none : (left : Left) → length left.rest ≤ 0 → next_in left ≡ Err (NoEnd left.end)
@@ -64,7 +135,7 @@ events_enough (suc n) (suc m) left few fewer =
     at (Err f) e later = refl
     at (Ok (event, None)) e later = refl
     at (Ok (event, Some after)) e later =
-        let less = next_shorter left event after e in
+        let less = after_shorter left event after e in
         ap (λ (answers : Answers). Ok event ∷ answers) (later after (omega arith) (omega arith))
 
 -- one event of what is left
@@ -80,7 +151,7 @@ pub events_more : (left : Left) (event : Timed) (after : Option Left) → next_i
     → events_in (length left.rest) left ≡ Ok event ∷ events_left after
 events_more left event None e = events_step left ∙ ap (answer_then (events_in (length left.rest))) e
 events_more left event (Some after) e =
-    let less = next_shorter left event after e in
+    let less = after_shorter left event after e in
     events_step left ∙ ap (answer_then (events_in (length left.rest))) e
     ∙ ap (λ (answers : Answers). Ok event ∷ answers)
     (events_enough (length left.rest) (length after.rest) after (omega arith) (omega arith))

@@ -1,5 +1,7 @@
 pub mod Answers
 pub mod EventLemmas
+pub mod FileLemmas
+pub mod PartLemmas
 pub mod QuantityLemmas
-pub mod ShorterLemmas
+pub mod RowLemmas
 pub mod TrackLemmas

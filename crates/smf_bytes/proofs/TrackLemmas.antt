@@ -1,55 +1,147 @@
--- The next track, chunk by chunk: a chunk of another type is passed over (`track_more`), a track is found
--- (`track_found`), and a fault is the answer (`track_fault`, `track_none`).
-use Rattle.std.proofs.Common.{◌≡◌, ℕ, zero, suc, ◌≤◌, true, false, List, [], ◌∷◌, length, Result, Ok, Err, refl, ap, arith, cond, eqb}
+-- The next track, chunk by chunk: what reading tells of it, and just that (`track_told`, `track_gives`, `track_fails`).
+use Rattle.std.proofs.Common.{◌≡◌, ◌≢◌, ℕ, zero, suc, ◌<◌, ◌≤◌, Bool, true, false, List, [], ◌∷◌, length, Result, Ok, Err, refl, ◌∙◌, ap, arith, cond, eqb, ne_eqb, subst, inl}
+use Rattle.std.proofs.lemmas.Bool.{eqb-false, eqb-true}
 use Rattle.smf_bytes.specs.declared.fault.ByteFault.{ByteFault}
 use Rattle.smf_bytes.specs.declared.fault.ByteFault.TheVariants.{Truncated}
 use Rattle.smf_bytes.specs.declared.chunks.TheConstants.{TRACK}
 use Rattle.smf_bytes.specs.Numbers.{◌>>=◌}
-use Rattle.smf_bytes.specs.Chunks.{Chunk, chunk_in, track_in}
-use Rattle.smf_bytes.proofs.ShorterLemmas.{chunk_shorter}
+use Rattle.smf_bytes.specs.Rows.{IsRow, IsRowFault, row_in}
+use Rattle.smf_bytes.specs.Chunks.{Chunk, chunk_row, track_in}
+use Rattle.smf_bytes.specs.Files.{ArePassed, IsTrack, IsTrackFault}
+use Rattle.smf_bytes.proofs.PartLemmas.{PartTold, bytes_shorter}
+use Rattle.smf_bytes.proofs.RowLemmas.{RowTold, row_fails, row_gives, row_told}
 
--- a number that the bytes don't pass is as good as another
-track_enough : (n m size : ℕ) (bytes : List ℕ) → length bytes ≤ n → length bytes ≤ m → track_in n size bytes
-    ≡ track_in m size bytes
-unfolding track_in chunk_in
-track_enough zero zero size bytes few fewer = refl
-track_enough zero (suc m) size [] few fewer = refl
-track_enough zero (suc m) size (b ∷ bytes) few fewer = absurd (omega arith)
-track_enough (suc n) zero size [] few fewer = refl
-track_enough (suc n) zero size (b ∷ bytes) few fewer = absurd (omega arith)
-track_enough (suc n) (suc m) size bytes few fewer =
-    at (chunk_in size bytes) refl (λ c short shorter. track_enough n m size c.rest short shorter)
+pub chunk_shorter : (bytes : List ℕ) (chunk : Chunk) (rest : List ℕ) → IsRow chunk_row bytes chunk rest
+    → length rest < length bytes
+chunk_shorter bytes chunk rest h =
+    omega (
+      arith,
+      bytes_shorter 4 bytes h.2.0 h.1 h.2.1,
+      bytes_shorter 4 h.1 h.3.2.0 h.3.1 h.3.2.1,
+      bytes_shorter h.3.0 h.3.1 h.3.3.0 h.3.3.1 h.3.3.2,
+      ap length h.3.3.3.1,
+    )
+
+-- a chunk of a track
+abbrev pub track_of : List ℕ → Chunk
+track_of body = record { kind = TRACK; bytes = body }
+
+-- what reading tells of the next track
+abbrev pub TrackTold : ℕ → List ℕ → Result (Chunk × List ℕ) ByteFault → Type 0
+TrackTold size bytes r =
+    PartTold (λ (chunk : Chunk) rest. (chunk ≡ track_of chunk.bytes) × IsTrack bytes chunk.bytes rest)
+    (IsTrackFault size bytes) r
+
+-- one chunk more that is passed over
+pub track_behind : (bytes after body rest : List ℕ) (c : Chunk) → IsRow chunk_row bytes c after → c.kind ≢ TRACK
+    → IsTrack after body rest → IsTrack bytes body rest
+track_behind bytes after body rest c row other h = record {
+  chunks = c ∷ h.chunks;
+  behind = h.behind;
+  passed = (after, row, other, h.passed);
+  stands = h.stands;
+}
+
+pub fault_behind : (size : ℕ) (bytes after : List ℕ) (c : Chunk) (f : ByteFault) → IsRow chunk_row bytes c after
+    → c.kind ≢ TRACK → IsTrackFault size after f → IsTrackFault size bytes f
+fault_behind size bytes after c f row other h = record {
+  chunks = c ∷ h.chunks;
+  behind = h.behind;
+  passed = (after, row, other, h.passed);
+  lacks = h.lacks;
+}
+
+passes : (size : ℕ) (bytes rest : List ℕ) (c : Chunk) → IsRow chunk_row bytes c rest → c.kind ≢ TRACK
+    → (r : Result (Chunk × List ℕ) ByteFault) → TrackTold size rest r → TrackTold size bytes r
+passes size bytes rest c row other (Ok x) told = (told.0, track_behind bytes rest x.0.bytes x.1 c row other told.1)
+passes size bytes rest c row other (Err f) told = fault_behind size bytes rest c f row other told
+
+-- the chunk at the front is that of a track
+pub found_here : (bytes rest : List ℕ) (c : Chunk) → IsRow chunk_row bytes c rest → c.kind ≡ TRACK
+    → IsTrack bytes c.bytes rest
+found_here bytes rest c row is = record {
+  chunks = [];
+  behind = bytes;
+  passed = refl;
+  stands = subst (λ (x : Chunk). IsRow chunk_row bytes x rest) (ap (λ (k : ℕ). chunk k c.bytes) is) row;
+}
   where
-    at : (r : Result Chunk ByteFault) → chunk_in size bytes ≡ r
-        → ((c : Chunk) → length c.rest ≤ n → length c.rest ≤ m → track_in n size c.rest ≡ track_in m size c.rest)
-        → (r >>= λ c. cond (eqb c.kind TRACK) (Ok c) (track_in n size c.rest))
-        ≡ (r >>= λ c. cond (eqb c.kind TRACK) (Ok c) (track_in m size c.rest))
-    at (Ok c) e later =
-        let less = chunk_shorter size bytes c e in
-        ap (λ (t : Result Chunk ByteFault). cond (eqb c.kind TRACK) (Ok c) t) (later c (omega arith) (omega arith))
-    at (Err f) e later = refl
+    chunk : ℕ → List ℕ → Chunk
+    chunk kind body = record { kind = kind; bytes = body }
 
-pub track_more : (size : ℕ) (bytes : List ℕ) (c : Chunk) → chunk_in size bytes ≡ Ok c → eqb c.kind TRACK ≡ false
-    → track_in (length bytes) size bytes ≡ track_in (length c.rest) size c.rest
+-- no chunk stands at the end of the file
+pub none_left : (size : ℕ) (bytes : List ℕ) → length bytes ≡ 0 → IsTrackFault size bytes (Truncated size)
+none_left size bytes none = record { chunks = []; behind = bytes; passed = refl; lacks = inl (omega arith, refl) }
+
+pub track_told : (n size : ℕ) (bytes : List ℕ) → length bytes ≤ n → TrackTold size bytes (track_in n size bytes)
 unfolding track_in
-track_more size [] c e other = absurd (omega (arith, chunk_shorter size [] c e))
-track_more size (b ∷ bytes) c e other =
-    let less = chunk_shorter size (b ∷ bytes) c e in
-    rw (e, other) (track_enough (length bytes) (length c.rest) size c.rest (omega arith) (omega arith))
+track_told zero size bytes few = none_left size bytes (omega arith)
+track_told (suc n) size bytes few =
+    at (row_in chunk_row size bytes) (row_told chunk_row size bytes) (λ rest short. track_told n size rest short)
+  where
+    chunk : ℕ → List ℕ → Chunk
+    chunk kind body = record { kind = kind; bytes = body }
 
-pub track_found : (size : ℕ) (bytes : List ℕ) (c : Chunk) → chunk_in size bytes ≡ Ok c → eqb c.kind TRACK ≡ true
-    → track_in (length bytes) size bytes ≡ Ok c
+    found : (c : Chunk) (rest : List ℕ) (t : Bool) → eqb c.kind TRACK ≡ t → IsRow chunk_row bytes c rest
+        → (length rest ≤ n → TrackTold size rest (track_in n size rest))
+        → TrackTold size bytes (cond t (Ok (c, rest)) (track_in n size rest))
+    found c rest true is row later =
+        let kind = eqb-true c.kind TRACK is in
+        (ap (λ (k : ℕ). chunk k c.bytes) kind, found_here bytes rest c row kind)
+    found c rest false is row later =
+        let less = chunk_shorter bytes c rest row in
+        passes size bytes rest c row (eqb-false c.kind TRACK is) (track_in n size rest) (later (omega arith))
+
+    at : (r : Result (Chunk × List ℕ) ByteFault) → RowTold chunk_row size bytes r
+        → ((rest : List ℕ) → length rest ≤ n → TrackTold size rest (track_in n size rest))
+        → TrackTold size bytes (r >>= λ c. cond (eqb c.0.kind TRACK) (Ok c) (track_in n size c.1))
+    at (Err f) told later = record { chunks = []; behind = bytes; passed = refl; lacks = told }
+    at (Ok c) told later = found c.0 c.1 (eqb c.0.kind TRACK) refl told (later c.1)
+
+-- behind the chunks that are passed over reading goes on
+passed_over : (chunks : List Chunk) (n size : ℕ) (bytes behind : List ℕ) → length bytes ≤ n
+    → ArePassed chunks bytes behind
+    → (m : ℕ) × (length behind ≤ m) × (track_in n size bytes ≡ track_in m size behind)
 unfolding track_in
-track_found size [] c e found = absurd (omega (arith, chunk_shorter size [] c e))
-track_found size (b ∷ bytes) c e found = rw (e, found) refl
+passed_over [] n size bytes behind few e = (n, omega (arith, ap length e), ap (track_in n size) e)
+passed_over (c ∷ chunks) zero size bytes behind few (after, row, other, passed) =
+    absurd (omega (arith, chunk_shorter bytes c after row))
+passed_over (c ∷ chunks) (suc n) size bytes behind few (after, row, other, passed) =
+    let later = passed_over chunks n size after behind (omega (arith, chunk_shorter bytes c after row)) passed in
+    (later.0, later.1, rw (row_gives chunk_row size bytes c after row, ne_eqb c.kind TRACK other) later.2)
 
-pub track_fault : (size : ℕ) (bytes : List ℕ) (f : ByteFault) → chunk_in size bytes ≡ Err f
-    → track_in (length bytes) size bytes ≡ Err f
-unfolding track_in chunk_in
-track_fault size [] f e = e
-track_fault size (b ∷ bytes) f e = rw e refl
-
-pub track_none : (size : ℕ) (bytes : List ℕ) → length bytes ≡ 0 → track_in (length bytes) size bytes
-    ≡ Err (Truncated size)
+pub track_gives : (n size : ℕ) (bytes body rest : List ℕ) → length bytes ≤ n → IsTrack bytes body rest
+    → track_in n size bytes ≡ Ok (track_of body, rest)
 unfolding track_in
-track_none size bytes none = rw none refl
+track_gives n size bytes body rest few h =
+    let over = passed_over h.chunks n size bytes h.behind few h.passed in over.2 ∙ at over.0 over.1
+  where
+    at : (m : ℕ) → length h.behind ≤ m → track_in m size h.behind ≡ Ok (track_of body, rest)
+    at zero room = absurd (omega (arith, chunk_shorter h.behind (track_of body) rest h.stands))
+    at (suc m) room = rw (row_gives chunk_row size h.behind (track_of body) rest h.stands) refl
+
+pub track_fails : (n size : ℕ) (bytes : List ℕ) (f : ByteFault) → length bytes ≤ n → IsTrackFault size bytes f
+    → track_in n size bytes ≡ Err f
+unfolding track_in row_in
+track_fails n size bytes f few h =
+    let over = passed_over h.chunks n size bytes h.behind few h.passed in over.2 ∙ at over.0 h.behind over.1 h.lacks
+  where
+    at : (m : ℕ) (behind : List ℕ) → length behind ≤ m → IsRowFault chunk_row size behind f
+        → track_in m size behind ≡ Err f
+    at zero [] room lacks = row_fails chunk_row size [] f lacks
+    at zero (b ∷ behind) room lacks = absurd (omega arith)
+    at (suc m) behind room lacks = rw (row_fails chunk_row size behind f lacks) refl
+
+-- a chunk that was read, or the fault of one
+pub chunk_row_is : (size : ℕ) (bytes rest : List ℕ) (c : Chunk) → row_in chunk_row size bytes ≡ Ok (c, rest)
+    → IsRow chunk_row bytes c rest
+chunk_row_is size bytes rest c e = subst (RowTold chunk_row size bytes) e (row_told chunk_row size bytes)
+
+pub no_chunk : (size : ℕ) (bytes : List ℕ) (f : ByteFault) → row_in chunk_row size bytes ≡ Err f
+    → IsTrackFault size bytes f
+no_chunk size bytes f e = record {
+  chunks = [];
+  behind = bytes;
+  passed = refl;
+  lacks = subst (RowTold chunk_row size bytes) e (row_told chunk_row size bytes);
+}

@@ -1,4 +1,4 @@
--- The events of a file: each with its track, its time and its place, up to the first fault.
+-- What is read of a file: its events, each with its track, its time and its place, up to the first fault.
 use Rattle.std.specs.Prelude.{◌≡◌, ◌<◌, ◌^◌, ℕ, zero, suc, ◌+◌, ◌-◌, ◌==◌, List, [], ◌∷◌, length, Option, Some, None, Result, Ok, Err, option_map, nat_lt, if◌then◌else◌}
 use Rattle.smf_bytes.specs.declared.fault.ByteFault.{ByteFault}
 use Rattle.smf_bytes.specs.declared.fault.ByteFault.TheVariants.{NoEnd, TooLong}
@@ -7,7 +7,8 @@ use Rattle.smf_bytes.specs.declared.events.Event as declared
 use Rattle.smf_bytes.specs.declared.events.Events.{Events}
 use Rattle.smf_bytes.specs.declared.events.Track.{Track}
 use Rattle.smf_bytes.specs.Numbers.{◌>>=◌, quantity_in}
-use Rattle.smf_bytes.specs.Messages.{IsInRange, Event, Message, ends_track, event_in, seen_kind}
+use Rattle.smf_bytes.specs.Messages.{IsInRange, Event, Message, ends_track, event_row, seen_kind}
+use Rattle.smf_bytes.specs.Rows.{row_in}
 use Rattle.smf_bytes.specs.Chunks.{Chunk, header_in, track_in}
 
 -- an event of a file: its track, counted from 0, when it comes, and the offset of its delta time
@@ -53,24 +54,27 @@ event_then left delta event = record {
   message = event.message;
 }
 
--- what is left behind it, nothing where it ends the track
-abbrev pub left_then : Left → ℕ → Event → Option Left
-left_then left delta event =
-    if ends_track event.message then None
-    else Some (record {
-      number = left.number;
-      end = left.end;
-      tick = left.tick + delta;
-      running = event.running;
-      rest = event.rest;
-    })
+-- what is left where these bytes stand behind it
+abbrev pub left_behind : Left → ℕ → Event → List ℕ → Left
+left_behind left delta event rest = record {
+  number = left.number;
+  end = left.end;
+  tick = left.tick + delta;
+  running = event.running;
+  rest = rest;
+}
+
+-- nothing is left where it ends the track
+abbrev pub left_then : Left → ℕ → Event → List ℕ → Option Left
+left_then left delta event rest =
+    if ends_track event.message then None else Some (left_behind left delta event rest)
 
 -- the next event of a track, and what is left behind it
 unfoldable pub next_in : Left → Result (Timed × Option Left) ByteFault
 next_in left =
     if length left.rest == 0 then Err (NoEnd left.end)
-    else (quantity_in left.end left.rest >>= λ delta. event_in left.running left.end delta.1 >>= λ event.
-    Ok (event_then left delta.0 event, left_then left delta.0 event))
+    else (quantity_in left.end left.rest >>= λ delta. row_in (event_row left.running) left.end delta.1 >>= λ event.
+    Ok (event_then left delta.0 event.0, left_then left delta.0 event.0 event.1))
 
 -- the events of a file, and its fault where it has one
 abbrev pub Answers : Type 0
@@ -99,14 +103,15 @@ followed_by (Ok event ∷ answers) more = Ok event ∷ followed_by answers more
 followed_by (Err fault ∷ answers) more = Err fault ∷ []
 
 -- a track of a file, behind which so many bytes are left
-abbrev pub begun : ℕ → ℕ → Chunk → Left
-begun number size chunk =
-    record { number = number; end = size - length chunk.rest; tick = 0; running = None; rest = chunk.bytes }
+abbrev pub begun : ℕ → ℕ → List ℕ → List ℕ → Left
+begun number size body rest =
+    record { number = number; end = size - length rest; tick = 0; running = None; rest = body }
 
 -- the events of a track that was found, and those of the tracks behind it
-abbrev pub track_then : ℕ → ℕ → (List ℕ → Answers) → Result Chunk ByteFault → Answers
+abbrev pub track_then : ℕ → ℕ → (List ℕ → Answers) → Result (Chunk × List ℕ) ByteFault → Answers
 track_then number size later (Err fault) = Err fault ∷ []
-track_then number size later (Ok chunk) = followed_by (events_left (Some (begun number size chunk))) (later chunk.rest)
+track_then number size later (Ok chunk) =
+    followed_by (events_left (Some (begun number size chunk.0.bytes chunk.1))) (later chunk.1)
 
 -- the events of so many tracks from one on; what follows the last one is passed over
 unfoldable pub tracks_in : ℕ → ℕ → ℕ → List ℕ → Answers

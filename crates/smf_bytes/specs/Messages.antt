@@ -1,11 +1,10 @@
--- The events of a track, without their times: which event stands at the front of the bytes, or the first fault.
-use Rattle.std.specs.Prelude.{◌<◌, ⊤, ℕ, ◌-◌, ◌/◌, ◌%◌, ◌==◌, ◌||◌, Bool, false, List, length, Option, Some, None, Result, Ok, Err, nat_lt, if◌then◌else◌}
-use Rattle.smf_bytes.specs.declared.fault.ByteFault.{ByteFault}
+-- The events of a track, without their times: the rows of bytes that are one.
+use Rattle.std.specs.Prelude.{◌<◌, ⊤, ℕ, ◌/◌, ◌%◌, ◌==◌, ◌||◌, Bool, false, List, Option, Some, None, nat_lt, if◌then◌else◌}
 use Rattle.smf_bytes.specs.declared.fault.ByteFault.TheVariants.{Status}
 use Rattle.smf_bytes.specs.declared.messages.Kind.{Kind}
 use Rattle.smf_bytes.specs.declared.messages.Kind.TheVariants as kinds
 use Rattle.smf_bytes.specs.declared.messages.Taken.{Taken}
-use Rattle.smf_bytes.specs.Numbers.{◌>>=◌, byte_in, bytes_in, quantity_in}
+use Rattle.smf_bytes.specs.Rows.{Row}
 
 -- what an event is; channels count from 0
 pub data Message : Type 0 where
@@ -39,20 +38,20 @@ ends_track (Other channel) = false
 ends_track (Meta number bytes) = number == 0x2F
 ends_track (System bytes) = false
 
--- an event, the status that holds after it, and the bytes behind it
+-- an event, and the status that holds after it
 pub record Event : Type 0 where
   pub message : Message
   pub running : Option ℕ
-  pub rest : List ℕ
 
-abbrev pub seen : Taken → Event
-seen taken = record { message = seen_kind taken.kind; running = taken.running; rest = taken.rest.now }
+abbrev pub event_seen : Taken → Event
+event_seen taken = record { message = seen_kind taken.kind; running = taken.running }
 
--- a data byte is below 128
-abbrev pub data_in : ℕ → List ℕ → Result (ℕ × List ℕ) ByteFault
-data_in end bytes = do
-  byte ← byte_in end bytes
-  if nat_lt byte.0 128 then Ok byte else Err (Status (end - length bytes))
+abbrev pub seen : Taken → Event × List ℕ
+seen taken = (event_seen taken, taken.rest.now)
+
+-- nothing more: it is this message
+abbrev pub is_message : Option ℕ → Message → Row Event
+is_message running message = Row.says (record { message = message; running = running })
 
 -- a message of two data bytes; the low four bits of a status are its channel
 abbrev pub two_byte_message : ℕ → ℕ → ℕ → Message
@@ -60,52 +59,39 @@ two_byte_message status first second =
     if status / 16 == 8 then Off (status % 16) first
     else (if status / 16 == 9 then On (status % 16) first second else Other (status % 16))
 
--- a message of two data bytes, from the second one on
-abbrev pub second_in : ℕ → ℕ → ℕ → List ℕ → Result Event ByteFault
-second_in status first end bytes = do
-  second ← data_in end bytes
-  Ok (record { message = two_byte_message status first second.0; running = Some status; rest = second.1 })
+-- behind the first data byte: statuses C0 to DF have one, the others two
+abbrev pub behind_first : ℕ → ℕ → Row Event
+behind_first status first =
+    if (status / 16 == 12) || (status / 16 == 13) then is_message (Some status) (Other (status % 16))
+    else Row.data_byte (λ second. is_message (Some status) (two_byte_message status first second))
 
--- the message of a channel that a status begins: statuses C0 to DF have one data byte, the others two
-unfoldable pub message_in : ℕ → ℕ → List ℕ → Result Event ByteFault
-message_in status end bytes = do
-  first ← data_in end bytes
-  if (status / 16 == 12) || (status / 16 == 13)
-      then Ok (record { message = Other (status % 16); running = Some status; rest = first.1 })
-      else second_in status first.0 end first.1
+-- the message of a channel, behind its status
+abbrev pub message_row : ℕ → Row Event
+message_row status = Row.data_byte (behind_first status)
 
--- a meta event has its number, a length and so many bytes; no status holds after it
-unfoldable pub meta_in : ℕ → List ℕ → Result Event ByteFault
-meta_in end bytes = do
-  number ← byte_in end bytes
-  count ← quantity_in end number.1
-  body ← bytes_in end count.0 count.1
-  Ok (record { message = Meta number.0 body.0; running = None; rest = body.1 })
+-- a meta event, behind FF: its number, a length and so many bytes; no status holds after it
+abbrev pub meta_row : Row Event
+meta_row = Row.byte (λ number. Row.quantity (λ count. Row.block count (λ bytes. is_message None (Meta number bytes))))
 
--- a system event has a length and so many bytes
-unfoldable pub system_in : ℕ → List ℕ → Result Event ByteFault
-system_in end bytes = do
-  count ← quantity_in end bytes
-  body ← bytes_in end count.0 count.1
-  Ok (record { message = System body.0; running = None; rest = body.1 })
+-- a system event, behind F0 or F7: a length and so many bytes; no status holds after it
+abbrev pub system_row : Row Event
+system_row = Row.quantity (λ count. Row.block count (λ bytes. is_message None (System bytes)))
 
--- a message without a status of its own has the one that holds
-abbrev pub running_in : Option ℕ → ℕ → List ℕ → Result Event ByteFault
-running_in (Some status) end bytes = message_in status end bytes
-running_in None end bytes = Err (Status (end - length bytes))
+-- a message that begins with a data byte has the status that holds
+abbrev pub running_row : Option ℕ → ℕ → Row Event
+running_row (Some status) first = behind_first status first
+running_row None first = Row.refused Status
 
--- the event whose first byte is this: FF begins a meta event, F0 and F7 system events, 80 to EF a message of a
--- channel, and a data byte a message with the status that holds
-abbrev pub begun_by : ℕ → Option ℕ → ℕ → List ℕ → List ℕ → Result Event ByteFault
-begun_by first running end bytes rest =
-    if first == 0xFF then meta_in end rest
-    else (if (first == 0xF0) || (first == 0xF7) then system_in end rest
-    else (if nat_lt first 0x80 then running_in running end bytes
-    else (if nat_lt first 0xF0 then message_in first end rest
-    else Err (Status (end - length bytes)))))
+-- what the first byte begins: FF a meta event, F0 and F7 a system event, a data byte a message with the status that holds,
+-- and 80 to EF a message of a channel
+abbrev pub begun_by : Option ℕ → ℕ → Row Event
+begun_by running first =
+    if first == 0xFF then meta_row
+    else (if (first == 0xF0) || (first == 0xF7) then system_row
+    else (if nat_lt first 0x80 then running_row running first
+    else (if nat_lt first 0xF0 then message_row first
+    else Row.refused Status)))
 
--- the event at the front
-unfoldable pub event_in : Option ℕ → ℕ → List ℕ → Result Event ByteFault
-event_in running end bytes = do
-  first ← byte_in end bytes
-  begun_by first.0 running end bytes first.1
+-- an event, where this status holds before it
+abbrev pub event_row : Option ℕ → Row Event
+event_row running = Row.byte (begun_by running)

@@ -3,7 +3,7 @@
 use Rattle.std.specs.Prelude.{◌≡◌, ℕ, zero, suc, ◌+◌, ◌-◌, ◌*◌, List, [], ◌∷◌, length, take, drop, Result, Ok, Err, nat_lt, if◌then◌else◌}
 use Rattle.std.specs.Int.{Width, byte_len, from_be_bytes}
 use Rattle.smf_bytes.specs.declared.fault.ByteFault.{ByteFault}
-use Rattle.smf_bytes.specs.declared.fault.ByteFault.TheVariants.{Truncated, LongNumber}
+use Rattle.smf_bytes.specs.declared.fault.ByteFault.TheVariants.{Truncated, LongNumber, Status}
 
 -- the first fault is the answer
 infixl 10 ◌>>=◌
@@ -20,6 +20,12 @@ Gives view (Err e) read = read ≡ Err e
 abbrev pub byte_in : ℕ → List ℕ → Result (ℕ × List ℕ) ByteFault
 byte_in end [] = Err (Truncated end)
 byte_in end (b ∷ bytes) = Ok (b, bytes)
+
+-- a data byte is below 128
+abbrev pub data_in : ℕ → List ℕ → Result (ℕ × List ℕ) ByteFault
+data_in end bytes = do
+  byte ← byte_in end bytes
+  if nat_lt byte.0 128 then Ok byte else Err (Status (end - length bytes))
 
 -- so many bytes
 abbrev pub bytes_in : ℕ → ℕ → List ℕ → Result (List ℕ × List ℕ) ByteFault

@@ -1,8 +1,10 @@
 //! The chunks of a file, and what its header says.
 
-ghost use Rattle.std.specs.Prelude.{◌≡◌, ◌+◌, ◌≤◌, ◌<◌, length, IfOk};
+ghost use Rattle.std.specs.Prelude.{◌+◌, ◌≤◌, ◌<◌, ℕ, List, length, IfOk, MatchResult};
 ghost use Rattle.smf_bytes.specs.Numbers.{Gives};
-ghost use Rattle.smf_bytes.specs.Chunks.{checked, chunk_in, chunk_seen, fields_in, header_in, header_behind, track_in};
+ghost use Rattle.smf_bytes.specs.Chunks.{checked_row, chunk_row, chunk_seen, fields_row, header_in, header_row};
+ghost use Rattle.smf_bytes.specs.Files.{IsTrack, IsTrackFault};
+ghost use Rattle.smf_bytes.specs.Rows.{row_in};
 
 use crate::fault::ByteFault;
 use crate::numbers::{bytes_of, u16_of, u32_of};
@@ -30,9 +32,9 @@ pub(crate) struct Chunk<'a> {
 }
 
 /// The chunk at the front.
-#[tactic(auto, unfolding(crate::specs::Chunks::chunk_in))]
+#[tactic(auto, unfolding(crate::specs::Rows::row_in))]
 fn chunk_of(size: usize, bytes: &[u8]) -> Result<Chunk<'_>, ByteFault>
-    ensures value { Gives chunk_seen result (chunk_in size bytes.now) }
+    ensures value { Gives chunk_seen result (row_in chunk_row size bytes.now) }
     ensures shorter { IfOk result (λ chunk. length chunk.bytes.now + length chunk.rest.now < length bytes.now) }
 {
     let (kind, rest) = u32_of(size, bytes)?;
@@ -43,7 +45,8 @@ fn chunk_of(size: usize, bytes: &[u8]) -> Result<Chunk<'_>, ByteFault>
 
 /// The chunk of the next track. Chunks of other types are passed over.
 pub(crate) fn track_of(size: usize, bytes: &[u8]) -> Result<Chunk<'_>, ByteFault>
-    ensures value { Gives chunk_seen result (track_in (length bytes.now) size bytes.now) }
+    ensures value { MatchResult result (λ chunk. IsTrack bytes.now chunk.bytes.now chunk.rest.now)
+        (λ fault. IsTrackFault size bytes.now fault) }
     ensures shorter { IfOk result (λ chunk. length chunk.bytes.now + length chunk.rest.now < length bytes.now) }
 {
     let mut rest = bytes;
@@ -58,8 +61,9 @@ pub(crate) fn track_of(size: usize, bytes: &[u8]) -> Result<Chunk<'_>, ByteFault
 }
 
 /// The header, where its format and its division are read.
+#[tactic(auto, unfolding(crate::specs::Rows::row_in))]
 fn checked_header(header: Header) -> Result<Header, ByteFault>
-    ensures value { result ≡ checked header }
+    ensures value { (size : ℕ) (rest : List ℕ) → Gives (λ h. (h, rest)) result (row_in (checked_row header) size rest) }
     ensures ticks { IfOk result (λ h. 0 < h.division) }
 {
     if header.format > 2 {
@@ -77,35 +81,38 @@ fn checked_header(header: Header) -> Result<Header, ByteFault>
     Ok(header)
 }
 
-/// The header of its chunk's bytes.
-#[tactic(auto, unfolding(crate::specs::Chunks::fields_in))]
-fn fields_of(size: usize, bytes: &[u8]) -> Result<Header, ByteFault>
-    ensures value { result ≡ fields_in size bytes.now }
-    ensures ticks { IfOk result (λ h. 0 < h.division) }
+/// The header in its chunk's bytes, and what stands behind its numbers.
+#[tactic(auto, unfolding(crate::specs::Rows::row_in))]
+fn fields_of(size: usize, bytes: &[u8]) -> Result<(Header, &[u8]), ByteFault>
+    ensures value { Gives (λ x. (x.0, x.1.now)) result (row_in fields_row size bytes.now) }
+    ensures ticks { IfOk result (λ x. 0 < x.0.division) }
 {
     let (format, bytes) = u16_of(size, bytes)?;
     let (tracks, bytes) = u16_of(size, bytes)?;
-    let (division, _) = u16_of(size, bytes)?;
-    checked_header(Header {
+    let (division, bytes) = u16_of(size, bytes)?;
+    let header = checked_header(Header {
         format,
         tracks,
         division,
-    })
+    })?;
+    Ok((header, bytes))
 }
 
-/// The header, behind its type, and what follows it.
-#[tactic(auto, unfolding(crate::specs::Chunks::header_behind))]
-fn header_behind_type(size: usize, bytes: &[u8]) -> Result<(Header, &[u8]), ByteFault>
-    ensures value { Gives (λ x. (x.0, x.1.now)) result (header_behind size bytes.now) }
-    ensures ticks { IfOk result (λ x. 0 < x.0.division) }
-    ensures shorter { IfOk result (λ x. length x.1.now < length bytes.now) }
+/// The bytes of the header's chunk, and what follows it.
+#[tactic(auto, unfolding(crate::specs::Rows::row_in))]
+fn header_chunk(size: usize, bytes: &[u8]) -> Result<(&[u8], &[u8]), ByteFault>
+    ensures value { Gives (λ x. (x.0.now, x.1.now)) result (row_in header_row size bytes.now) }
+    ensures shorter { IfOk result (λ x. length x.1.now ≤ length bytes.now) }
 {
-    let (count, bytes) = u32_of(size, bytes)?;
+    let (kind, rest) = u32_of(size, bytes)?;
+    if kind != HEADER {
+        return Err(ByteFault::Chunk { at: 0 });
+    }
+    let (count, rest) = u32_of(size, rest)?;
     if count < 6 {
         return Err(ByteFault::Chunk { at: 4 });
     }
-    let (bytes, rest) = bytes_of(size, count as usize, bytes)?;
-    Ok((fields_of(size, bytes)?, rest))
+    bytes_of(size, count as usize, rest)
 }
 
 /// The header of a file of so many bytes, and what follows it.
@@ -118,9 +125,7 @@ pub(crate) fn header_of(size: usize, bytes: &[u8]) -> Result<(Header, &[u8]), By
     if bytes.len() < 4 {
         return Err(ByteFault::Chunk { at: 0 });
     }
-    let (kind, rest) = u32_of(size, bytes)?;
-    if kind != HEADER {
-        return Err(ByteFault::Chunk { at: 0 });
-    }
-    header_behind_type(size, rest)
+    let (body, rest) = header_chunk(size, bytes)?;
+    let (header, _) = fields_of(size, body)?;
+    Ok((header, rest))
 }

@@ -84,7 +84,8 @@ impl<'a> Track<'a> {
 }
 
 impl<'a> Events<'a> {
-    ghost use Rattle.smf_bytes.specs.Events.{ComesWith, IsWithinBounds, TakesFirst, answer_seen, file_seen, later_tracks, to_come, tracks_in, with_track};
+    ghost use Rattle.smf_bytes.specs.Files.{AreToCome};
+    ghost use Rattle.smf_bytes.specs.Events.{Answers, ComesWith, IsWithinBounds, TakesFirst, answer_seen, file_seen, later_tracks, to_come, tracks_in, with_track};
 
     /// What comes behind the header of a file of so many bytes.
     pub(crate) fn behind(header: Header, size: usize, rest: &'a [u8]) -> Events<'a>
@@ -103,21 +104,21 @@ impl<'a> Events<'a> {
 
     /// The format: 0 where the file is one track for all channels, 1 where its tracks sound together.
     pub fn format(&self) -> u16
-        ensures { result ≡ (file_seen self.now).header.format }
+        ensures { result ≡ self.now.header.format }
     {
         self.header.format
     }
 
     /// How many tracks the header counts.
     pub fn tracks(&self) -> u16
-        ensures { result ≡ (file_seen self.now).header.tracks }
+        ensures { result ≡ self.now.header.tracks }
     {
         self.header.tracks
     }
 
     /// How many ticks a quarter note has.
     pub fn division(&self) -> u16
-        ensures { result ≡ (file_seen self.now).header.division }
+        ensures { result ≡ self.now.header.division }
     {
         self.header.division
     }
@@ -186,11 +187,11 @@ impl<'a> Events<'a> {
         }
     }
 
-    /// The next event, or the fault that stands in its place. After the last event and after a fault there is none.
-    pub fn next(&mut self) -> Option<Result<Event<'a>, ByteFault>>
+    /// Takes the next event or fault.
+    fn take(&mut self) -> Option<Result<Event<'a>, ByteFault>>
         ensures first { TakesFirst (to_come self.old) result (to_come self.new) }
         ensures bounds { IfSome result (λ answer. IfOk answer IsWithinBounds) }
-        ensures kept { (file_seen self.new).header ≡ (file_seen self.old).header }
+        ensures kept { self.new.header ≡ self.old.header }
     {
         match self.current()? {
             Ok(track) => Some(self.step(track)),
@@ -199,5 +200,15 @@ impl<'a> Events<'a> {
                 Some(Err(fault))
             }
         }
+    }
+
+    /// The next event, or the fault that stands in its place. After the last event and after a fault there is none.
+    pub fn next(&mut self) -> Option<Result<Event<'a>, ByteFault>>
+        ensures first { (before after : Answers) → AreToCome self.old before → AreToCome self.new after →
+            TakesFirst before result after }
+        ensures bounds { IfSome result (λ answer. IfOk answer IsWithinBounds) }
+        ensures kept { self.new.header ≡ self.old.header }
+    {
+        self.take()
     }
 }

@@ -10,5 +10,5 @@ mod numbers;
 
 pub use events::{Event, Events};
 pub use fault::ByteFault;
-pub use file::open;
+pub use file::{one_reading, open};
 pub use messages::Kind;

@@ -1,11 +1,12 @@
 //! The events of a track, without their times.
 
-ghost use Rattle.std.specs.Prelude.{◌≡◌, ◌≤◌, ◌<◌, length, IfOk};
+ghost use Rattle.std.specs.Prelude.{◌≡◌, ◌+◌, ◌≤◌, ◌<◌, length, IfOk};
 ghost use Rattle.smf_bytes.specs.Numbers.{Gives};
-ghost use Rattle.smf_bytes.specs.Messages.{IsInRange, data_in, event_in, message_in, meta_in, seen, seen_kind, system_in, two_byte_message};
+ghost use Rattle.smf_bytes.specs.Messages.{IsInRange, begun_by, behind_first, event_row, message_row, meta_row, seen, seen_kind, system_row, two_byte_message};
+ghost use Rattle.smf_bytes.specs.Rows.{row_in};
 
 use crate::fault::ByteFault;
-use crate::numbers::{byte_of, bytes_of, quantity_of};
+use crate::numbers::{byte_of, bytes_of, data_of, quantity_of};
 
 /// What an event is. Channels count from 0; the bytes are those of the file.
 #[derive(Clone, Copy, Debug, PartialEq, Eq)]
@@ -41,22 +42,6 @@ pub(crate) struct Taken<'a> {
     pub(crate) rest: &'a [u8],
 }
 
-/// A data byte of a message.
-fn data_of(end: usize, bytes: &[u8]) -> Result<(u8, &[u8]), ByteFault>
-    requires { length bytes.now ≤ end }
-    ensures value { Gives (λ x. (x.0, x.1.now)) result (data_in end bytes.now) }
-    ensures bound { IfOk result (λ x. x.0 < 128) }
-    ensures shorter { IfOk result (λ x. length x.1.now < length bytes.now) }
-{
-    let (byte, rest) = byte_of(end, bytes)?;
-    if byte >= 128 {
-        return Err(ByteFault::Status {
-            at: end - bytes.len(),
-        });
-    }
-    Ok((byte, rest))
-}
-
 /// A message of two data bytes.
 fn two_byte_kind(status: u8, first: u8, second: u8) -> Kind<'static>
     requires first { first < 128 }
@@ -79,16 +64,16 @@ fn two_byte_kind(status: u8, first: u8, second: u8) -> Kind<'static>
     }
 }
 
-/// The message of a channel that this status begins, at its first data byte.
-#[tactic(auto, unfolding(crate::specs::Messages::message_in))]
-fn message_of(status: u8, end: usize, bytes: &[u8]) -> Result<Taken<'_>, ByteFault>
-    requires { length bytes.now ≤ end }
-    ensures value { Gives seen result (message_in status end bytes.now) }
+/// The message of a channel, behind its first data byte.
+#[tactic(auto, unfolding(crate::specs::Rows::row_in))]
+fn message_behind(status: u8, first: u8, end: usize, bytes: &[u8]) -> Result<Taken<'_>, ByteFault>
+    requires within { length bytes.now ≤ end }
+    requires first { first < 128 }
+    ensures value { Gives seen result (row_in (behind_first status first) end bytes.now) }
     ensures range { IfOk result (λ taken. IsInRange (seen_kind taken.kind)) }
-    ensures shorter { IfOk result (λ taken. length taken.rest.now < length bytes.now) }
+    ensures shorter { IfOk result (λ taken. length taken.rest.now ≤ length bytes.now) }
 {
     let running = Some(status);
-    let (first, rest) = data_of(end, bytes)?;
     if status / 16 == 12 || status / 16 == 13 {
         let kind = Kind::Other {
             channel: status % 16,
@@ -96,10 +81,10 @@ fn message_of(status: u8, end: usize, bytes: &[u8]) -> Result<Taken<'_>, ByteFau
         return Ok(Taken {
             kind,
             running,
-            rest,
+            rest: bytes,
         });
     }
-    let (second, rest) = data_of(end, rest)?;
+    let (second, rest) = data_of(end, bytes)?;
     let kind = two_byte_kind(status, first, second);
     Ok(Taken {
         kind,
@@ -108,11 +93,23 @@ fn message_of(status: u8, end: usize, bytes: &[u8]) -> Result<Taken<'_>, ByteFau
     })
 }
 
+/// The message of a channel, behind its status.
+#[tactic(auto, unfolding(crate::specs::Rows::row_in))]
+fn message_of(status: u8, end: usize, bytes: &[u8]) -> Result<Taken<'_>, ByteFault>
+    requires { length bytes.now ≤ end }
+    ensures value { Gives seen result (row_in (message_row status) end bytes.now) }
+    ensures range { IfOk result (λ taken. IsInRange (seen_kind taken.kind)) }
+    ensures shorter { IfOk result (λ taken. length taken.rest.now < length bytes.now) }
+{
+    let (first, rest) = data_of(end, bytes)?;
+    message_behind(status, first, end, rest)
+}
+
 /// A meta event, behind its status.
-#[tactic(auto, unfolding(crate::specs::Messages::meta_in))]
+#[tactic(auto, unfolding(crate::specs::Rows::row_in))]
 fn meta_of(end: usize, bytes: &[u8]) -> Result<Taken<'_>, ByteFault>
     requires { length bytes.now ≤ end }
-    ensures value { Gives seen result (meta_in end bytes.now) }
+    ensures value { Gives seen result (row_in meta_row end bytes.now) }
     ensures range { IfOk result (λ taken. IsInRange (seen_kind taken.kind)) }
     ensures shorter { IfOk result (λ taken. length taken.rest.now < length bytes.now) }
 {
@@ -127,10 +124,10 @@ fn meta_of(end: usize, bytes: &[u8]) -> Result<Taken<'_>, ByteFault>
 }
 
 /// A system event, behind its status.
-#[tactic(auto, unfolding(crate::specs::Messages::system_in))]
+#[tactic(auto, unfolding(crate::specs::Rows::row_in))]
 fn system_of(end: usize, bytes: &[u8]) -> Result<Taken<'_>, ByteFault>
     requires { length bytes.now ≤ end }
-    ensures value { Gives seen result (system_in end bytes.now) }
+    ensures value { Gives seen result (row_in system_row end bytes.now) }
     ensures range { IfOk result (λ taken. IsInRange (seen_kind taken.kind)) }
     ensures shorter { IfOk result (λ taken. length taken.rest.now < length bytes.now) }
 {
@@ -143,37 +140,50 @@ fn system_of(end: usize, bytes: &[u8]) -> Result<Taken<'_>, ByteFault>
     })
 }
 
+/// The event that this byte begins, and what stands behind the byte; `running` is the status that holds before it.
+#[tactic(auto, unfolding(crate::specs::Rows::row_in))]
+fn event_behind(
+    first: u8,
+    running: Option<u8>,
+    end: usize,
+    bytes: &[u8],
+) -> Result<Taken<'_>, ByteFault>
+    requires { length bytes.now + 1 ≤ end }
+    ensures value { Gives seen result (row_in (begun_by running first) end bytes.now) }
+    ensures range { IfOk result (λ taken. IsInRange (seen_kind taken.kind)) }
+    ensures shorter { IfOk result (λ taken. length taken.rest.now ≤ length bytes.now) }
+{
+    let here = end - (bytes.len() + 1);
+    if first == 0xFF {
+        return meta_of(end, bytes);
+    }
+    if first == 0xF0 || first == 0xF7 {
+        return system_of(end, bytes);
+    }
+    if first < 0x80 {
+        return match running {
+            Some(status) => message_behind(status, first, end, bytes),
+            None => Err(ByteFault::Status { at: here }),
+        };
+    }
+    if first < 0xF0 {
+        return message_of(first, end, bytes);
+    }
+    Err(ByteFault::Status { at: here })
+}
+
 /// The event at the front of the bytes, behind its delta time; `running` is the status that holds before it.
-#[tactic(auto, unfolding(crate::specs::Messages::event_in))]
+#[tactic(auto, unfolding(crate::specs::Rows::row_in))]
 pub(crate) fn event_of(
     running: Option<u8>,
     end: usize,
     bytes: &[u8],
 ) -> Result<Taken<'_>, ByteFault>
     requires { length bytes.now ≤ end }
-    ensures value { Gives seen result (event_in running end bytes.now) }
+    ensures value { Gives seen result (row_in (event_row running) end bytes.now) }
     ensures range { IfOk result (λ taken. IsInRange (seen_kind taken.kind)) }
     ensures shorter { IfOk result (λ taken. length taken.rest.now < length bytes.now) }
 {
-    let (status, rest) = byte_of(end, bytes)?;
-    if status == 0xFF {
-        return meta_of(end, rest);
-    }
-    if status == 0xF0 || status == 0xF7 {
-        return system_of(end, rest);
-    }
-    if status < 0x80 {
-        return match running {
-            Some(before) => message_of(before, end, bytes),
-            None => Err(ByteFault::Status {
-                at: end - bytes.len(),
-            }),
-        };
-    }
-    if status < 0xF0 {
-        return message_of(status, end, rest);
-    }
-    Err(ByteFault::Status {
-        at: end - bytes.len(),
-    })
+    let (first, rest) = byte_of(end, bytes)?;
+    event_behind(first, running, end, rest)
 }

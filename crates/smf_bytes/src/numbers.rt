@@ -2,7 +2,7 @@
 
 ghost use Rattle.std.specs.Prelude.{◌≡◌, ◌+◌, ◌-◌, ◌*◌, ◌<◌, ◌≤◌, ◌^◌, length, IfOk};
 ghost use Rattle.std.specs.Int.{w16, w32};
-ghost use Rattle.smf_bytes.specs.Numbers.{Gives, byte_in, bytes_in, number_in, quantity_in};
+ghost use Rattle.smf_bytes.specs.Numbers.{Gives, byte_in, bytes_in, data_in, number_in, quantity_in};
 
 use crate::fault::ByteFault;
 
@@ -15,6 +15,22 @@ pub(crate) fn byte_of(end: usize, bytes: &[u8]) -> Result<(u8, &[u8]), ByteFault
         [] => Err(ByteFault::Truncated { at: end }),
         [byte, rest @ ..] => Ok((*byte, rest)),
     }
+}
+
+/// A data byte of a message.
+pub(crate) fn data_of(end: usize, bytes: &[u8]) -> Result<(u8, &[u8]), ByteFault>
+    requires { length bytes.now ≤ end }
+    ensures value { Gives (λ x. (x.0, x.1.now)) result (data_in end bytes.now) }
+    ensures bound { IfOk result (λ x. x.0 < 128) }
+    ensures shorter { IfOk result (λ x. length x.1.now < length bytes.now) }
+{
+    let (byte, rest) = byte_of(end, bytes)?;
+    if byte >= 128 {
+        return Err(ByteFault::Status {
+            at: end - bytes.len(),
+        });
+    }
+    Ok((byte, rest))
 }
 
 /// So many bytes.

@@ -219,7 +219,7 @@ module _ (ex : Exercise) (score : Grid) (head : Head) (sounding : IsSounding ex 
       parts_back head placed_notes ex.voices ex.bars (map respelled ex.cantus)
       (voices_back head ex.voices sounding.valid.fewest_voices sounding.valid.most_voices
       (omega (arith, of.cantus_voice, sounding.valid.cantus_there))
-      (omega (arith, of.species_voice, sounding.valid.species_there)))
+      of.species_voice)
       (bars_back placed_notes ex.bars last_is sounding.valid.fewest_bars sounding.valid.most_bars)
       cantus_read
 
@@ -232,13 +232,13 @@ module _ (ex : Exercise) (score : Grid) (head : Head) (sounding : IsSounding ex 
       setting_of : ℕ → List (List Cell) → Option Grid
       setting_of v columns = Some (record { voices = v; columns = columns })
 
-  pub is_read_back : IsReadBack ex score read_exercise
+  pub is_read_back : IsReadBack ex score head read_exercise
   is_read_back = record {
-    mode = of.mode;
+    mode = refl;
     voices = refl;
     bars = refl;
-    species = of.species;
-    species_voice = of.species_voice;
+    species = refl;
+    species_voice = refl;
     cantus_voice = of.cantus_voice;
     cantus = refl;
     relax = refl;

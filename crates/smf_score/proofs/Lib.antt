@@ -10,6 +10,7 @@ pub mod NumbersBack
 pub mod OrderLemmas
 pub mod PlacedLemmas
 pub mod PlacesBack
+pub mod PlacingLemmas
 pub mod PlayedLemmas
 pub mod RangeLemmas
 pub mod ReadingLemmas

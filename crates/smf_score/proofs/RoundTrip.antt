@@ -1,13 +1,12 @@
 -- The file of a score reads back as its exercise with the score (`reads_back`).
-use Rattle.std.proofs.Common.{◌≡◌, ℕ, ◌≤◌, Bool, List, length, Result, Ok, refl, sym, ◌∙◌, ap, subst, arith, ◌++◌}
+use Rattle.std.proofs.Common.{◌≡◌, ℕ, ◌≤◌, Bool, false, List, length, Result, Ok, refl, sym, ◌∙◌, ap, subst, arith, ◌++◌}
 use Rattle.fux_grid.specs.declared.exercise.Exercise.{Exercise}
 use Rattle.fux_grid.specs.declared.exercise.Head.{Head}
 use Rattle.fux_grid.specs.Grid.{Grid}
-use Rattle.smf_bytes.specs.declared.fault.ByteFault.{ByteFault}
+use Rattle.smf_bytes.specs.declared.chunks.Header.{Header}
 use Rattle.smf_bytes.specs.Events.{File}
 use Rattle.smf_score.specs.declared.fault.SmfFault.{SmfFault}
 use Rattle.smf_score.specs.declared.placed.Placed.{Placed}
-use Rattle.smf_score.specs.declared.placed.Progress.{Progress}
 use Rattle.smf_score.specs.declared.played.Layout.{Layout}
 use Rattle.smf_score.specs.declared.played.Played.{Played}
 use Rattle.smf_score.specs.declared.strokes.Stroke.{Stroke}
@@ -15,14 +14,16 @@ use Rattle.smf_score.specs.Exercise.{exercise_in}
 use Rattle.smf_score.specs.Faults.{◌>>=◌}
 use Rattle.smf_score.specs.Order.{IsInOrder}
 use Rattle.smf_score.specs.Placed.{first_line}
+use Rattle.smf_score.specs.Placing.{no_voices}
 use Rattle.smf_score.specs.Played.{notes_in}
 use Rattle.smf_score.specs.ReadBack.{IsHeadOf, IsSounding, ReadsBack}
-use Rattle.smf_score.specs.Reading.{IsReading, OfHeader, OfStrokes, exercise_of_notes}
+use Rattle.smf_score.specs.Reading.{IsReading, OfStrokes, exercise_of_notes}
 use Rattle.smf_score.specs.Written.{smf_of}
 use Rattle.smf_score.proofs.ExerciseBack.{exercise_back, is_read_back, read_exercise}
-use Rattle.smf_score.proofs.FileBack.{answers_back, file_back, read_file, voices_strokes}
+use Rattle.smf_score.proofs.FileBack.{file_back, file_header, voices_strokes}
 use Rattle.smf_score.proofs.NotesBack.{all_notes_back, notes_in_order, tracks_are_voices, voices_played}
 use Rattle.smf_score.proofs.PlacesBack.{all_placed, voices_placed}
+use Rattle.smf_score.proofs.PlacingLemmas.{counted, placed_are}
 use Rattle.smf_score.proofs.ReadingLemmas.{reading_once}
 use Rattle.smf_score.proofs.StrokesBack.{tempo_strokes}
 
@@ -35,28 +36,33 @@ notes_read ex score head sounding of =
     let placed =
     all_placed score.columns 0 ex.voices first_line refl (omega arith) (λ w within. sounding.notes w (omega arith)) in
     let count : placed.0.voices ≡ ex.voices = omega (arith, placed.1) in
-    ap (λ (r : Result (List Placed × Progress) SmfFault). r >>= λ x. exercise_in head x.0 x.1.voices) placed.2
+    ap (λ (r : Result (List Placed × ℕ) SmfFault). r >>= λ x. exercise_in head x.0 x.1)
+    (placed_are 480 no_voices (voices_played score.columns 0 ex.voices) ∙ ap counted placed.2)
     ∙ ap (λ (n : ℕ). exercise_in head (voices_placed score.columns 0 ex.voices) n) count
     ∙ exercise_back ex score head sounding of
 
 -- the strokes of its notes are
 strokes_read : (ex : Exercise) (score : Grid) (head : Head) (sounding : IsSounding ex score) (of : IsHeadOf ex head)
-    → OfStrokes head (read_file score) (Ok (tempo_strokes ++ voices_strokes score.columns 0 ex.voices))
+    (file : File) → file.header ≡ file_header score.voices
+    → OfStrokes head file (Ok (tempo_strokes ++ voices_strokes score.columns 0 ex.voices))
     (Ok (read_exercise ex score head sounding of))
-strokes_read ex score head sounding of =
+strokes_read ex score head sounding of file header =
     let strokes = tempo_strokes ++ voices_strokes score.columns 0 ex.voices in
-    let layout : Layout = record { format = 1; top_first = head.top_first } in
-    let voices : layout ≡ tracks_are_voices = ap (λ (t : Bool). layout_of t) of.lowest_first in
+    let layout : Layout = record { format = file.header.format; top_first = head.top_first } in
+    let format : file.header.format ≡ 1 = ap (λ (h : Header). h.format) header in
+    let voices : layout ≡ tracks_are_voices =
+    ap (λ (t : Bool). layout_of file.header.format t) of.lowest_first ∙ ap (λ (f : ℕ). layout_of f false) format in
     let notes : notes_in layout strokes ≡ voices_played score.columns 0 ex.voices =
     ap (λ (l : Layout). notes_in l strokes) voices ∙ all_notes_back score.columns ex.voices in (
       voices_played score.columns 0 ex.voices,
       subst (λ (ns : List Played). IsInOrder ns (voices_played score.columns 0 ex.voices)) (sym notes)
           (notes_in_order score.columns ex.voices),
-      sym (notes_read ex score head sounding of),
+      sym (notes_read ex score head sounding of)
+          ∙ ap (λ (h : Header). exercise_of_notes head h.division (voices_played score.columns 0 ex.voices)) (sym header),
     )
   where
-    layout_of : Bool → Layout
-    layout_of t = record { format = 1; top_first = t }
+    layout_of : ℕ → Bool → Layout
+    layout_of f t = record { format = f; top_first = t }
 
 file_read : (ex : Exercise) (score : Grid) (head : Head) (sounding : IsSounding ex score) (of : IsHeadOf ex head)
     → IsReading head (smf_of score) (Ok (read_exercise ex score head sounding of))
@@ -64,12 +70,14 @@ file_read ex score head sounding of =
     let read : Result Exercise SmfFault = Ok (read_exercise ex score head sounding of) in
     let count : score.voices ≡ ex.voices = sounding.given.complete.voices in
     let few : length score.columns ≤ 192 = omega (arith, sounding.given.complete.whole, sounding.valid.most_bars) in
-    let low : score.voices ≤ 4 = omega (arith, count, sounding.valid.most_voices) in
-    let strokes = answers_back score.columns (length (smf_of score)) score.voices few (omega arith)
-    ∙ ap (λ (v : ℕ). strokes_of (tempo_strokes ++ voices_strokes score.columns 0 v)) count in
-    subst (λ (r : Result File ByteFault). OfHeader head r read) (sym (file_back score few low))
-    (subst (λ (r : Result (List Stroke) SmfFault). OfStrokes head (read_file score) r read) (sym strokes)
-    (strokes_read ex score head sounding of))
+    let file = file_back score few (omega (arith, count, sounding.valid.most_voices)) in
+    let whole : File = record { header = file_header score.voices; answers = file.0 } in
+    let strokes = file.2 ∙ ap (λ (v : ℕ). strokes_of (tempo_strokes ++ voices_strokes score.columns 0 v)) count in (
+      Ok whole,
+      file.1,
+      subst (λ (r : Result (List Stroke) SmfFault). OfStrokes head whole r read) (sym strokes)
+          (strokes_read ex score head sounding of whole refl),
+    )
   where
     strokes_of : List Stroke → Result (List Stroke) SmfFault
     strokes_of strokes = Ok strokes

@@ -1,24 +1,20 @@
--- The track of a voice that is written is read as the strokes of its notes (`notes_back`).
-use Rattle.std.proofs.Common.{◌≡◌, ◌≢◌, ℕ, ◌+◌, ◌-◌, ◌*◌, ◌/◌, ◌%◌, ◌<◌, ◌≤◌, ◌^◌, List, [], ◌∷◌, ◌++◌, length, Option, Some, None, Result, Ok, refl, ◌∙◌, ap, arith, ne_eqb, append_assoc}
+-- The track of a voice that is written has the strokes of its notes (`notes_do`).
+use Rattle.std.proofs.Common.{◌≡◌, ◌≢◌, ℕ, ◌+◌, ◌-◌, ◌*◌, ◌/◌, ◌%◌, ◌<◌, ◌≤◌, ◌^◌, true, false, List, [], ◌∷◌, ◌++◌, length, Option, Some, None, Ok, refl, ◌∙◌, arith, inl, inr, ne_eqb, append_assoc, subst}
 use Rattle.std.proofs.lemmas.Bool.{le-ltb, lt-ltb}
-use Rattle.std.proofs.lemmas.List.{length-append}
 use Rattle.std.proofs.lemmas.Int.{ints}
 use Rattle.std.specs.Prelude.{ℤ, pos, negsuc, ◌≤ℤ◌, unsigned_abs}
 use Rattle.fux_pitch.specs.declared.pitch.Pitch.{Pitch}
 use Rattle.fux_pitch.specs.Pitch.{key_of}
 use Rattle.fux_grid.specs.declared.cell.Note.{Note}
-use Rattle.smf_bytes.specs.declared.fault.ByteFault.{ByteFault}
-use Rattle.smf_bytes.specs.Numbers.{digits_in, quantity_in}
-use Rattle.smf_bytes.specs.Messages.{Event, Message, Off, On, Meta, two_byte_message, message_in, meta_in, event_in}
-use Rattle.smf_bytes.specs.Events.{Left, event_then, left_then, next_in, events_in, events_left}
-use Rattle.smf_bytes.proofs.EventLemmas.{events_more}
-use Rattle.smf_score.specs.declared.fault.SmfFault.{SmfFault}
+use Rattle.smf_bytes.specs.Rows.{IsRow}
+use Rattle.smf_bytes.specs.Messages.{Event, Message, Off, On, Meta, ends_track, event_row, two_byte_message}
+use Rattle.smf_bytes.specs.Events.{Answers, Left, event_then, left_behind}
+use Rattle.smf_bytes.specs.Files.{AreOfTrack, IsNext}
 use Rattle.smf_score.specs.declared.strokes.Act.TheVariants.{Strike, Release, End, Nothing}
 use Rattle.smf_score.specs.declared.strokes.Stroke.{Stroke}
-use Rattle.smf_score.specs.Faults.{◌>>=◌}
-use Rattle.smf_score.specs.Strokes.{stroke_of, strokes_in}
+use Rattle.smf_score.specs.Strokes.{act_of, stroke_of, strokes_in}
 use Rattle.smf_score.specs.Written.{midi_key, end_bytes, note_bytes, notes_bytes, quantity}
-use Rattle.smf_score.proofs.NumbersBack.{quantity_back, read_then}
+use Rattle.smf_score.proofs.NumbersBack.{quantity_stands}
 
 pub key_bounds : (p : Pitch) → (24 ≤ midi_key p) × (midi_key p ≤ 96)
 key_bounds p = at (key_of p) p.is_pitch.low p.is_pitch.high
@@ -29,165 +25,120 @@ key_bounds p = at (key_of p) p.is_pitch.low p.is_pitch.high
 
 -- ---- an event
 
--- a message of two data bytes, behind its status
-message_back : (status key velocity end : ℕ) (more : List ℕ) → status / 16 < 12 → key < 128 → velocity < 128
-    → message_in status end (key ∷ velocity ∷ more)
-    ≡ Ok (record { message = two_byte_message status key velocity; running = Some status; rest = more })
-unfolding message_in
-message_back status key velocity end more low first second =
-    let a : status / 16 ≢ 12 = λ e. absurd (omega (arith, low, e)) in
-    let b : status / 16 ≢ 13 = λ e. absurd (omega (arith, low, e)) in
-    rw (lt-ltb key 128 first, ne_eqb (status / 16) 12 a, ne_eqb (status / 16) 13 b, lt-ltb velocity 128 second) refl
-
-event_back : (running : Option ℕ) (status key velocity end : ℕ) (more : List ℕ) → 0x80 ≤ status → status < 0xB0
+-- a message of two data bytes, with its status
+message_stands : (running : Option ℕ) (status key velocity : ℕ) (more : List ℕ) → 0x80 ≤ status → status < 0xB0
     → key < 128 → velocity < 128
-    → event_in running end (status ∷ key ∷ velocity ∷ more)
-    ≡ Ok (record { message = two_byte_message status key velocity; running = Some status; rest = more })
-unfolding event_in
-event_back running status key velocity end more low high first second =
+    → IsRow (event_row running) (status ∷ key ∷ velocity ∷ more)
+    (record { message = two_byte_message status key velocity; running = Some status }) more
+message_stands running status key velocity more low high first second =
     let a : status ≢ 0xFF = λ e. absurd (omega (arith, high, e)) in
     let b : status ≢ 0xF0 = λ e. absurd (omega (arith, high, e)) in
     let c : status ≢ 0xF7 = λ e. absurd (omega (arith, high, e)) in
-    rw (
-      ne_eqb status 0xFF a,
-      ne_eqb status 0xF0 b,
-      ne_eqb status 0xF7 c,
-      le-ltb status 0x80 low,
-      lt-ltb status 0xF0 (omega arith),
-    ) (message_back status key velocity end more (omega arith) first second)
+    let d : status / 16 ≢ 12 = λ e. absurd (omega (arith, high, e)) in
+    let e : status / 16 ≢ 13 = λ e. absurd (omega (arith, high, e)) in (
+      status,
+      key ∷ velocity ∷ more,
+      refl,
+      rw (
+        ne_eqb status 0xFF a,
+        ne_eqb status 0xF0 b,
+        ne_eqb status 0xF7 c,
+        le-ltb status 0x80 low,
+        lt-ltb status 0xF0 (omega arith),
+      ) (
+        key,
+        velocity ∷ more,
+        (refl, first),
+        rw (ne_eqb (status / 16) 12 d, ne_eqb (status / 16) 13 e)
+            (velocity, more, (refl, second), (refl, refl)),
+      ),
+    )
 
-on_message : (v key velocity : ℕ) → v < 16 → two_byte_message (0x90 + v) key velocity ≡ On v key velocity
-on_message v key velocity few =
+on_message : (v key : ℕ) → v < 16 → two_byte_message (0x90 + v) key 0x40 ≡ On v key 0x40
+on_message v key few =
     let high : (0x90 + v) / 16 ≡ 9 = omega arith in
     let low : (0x90 + v) % 16 ≡ v = omega arith in
     rw (high, low) refl
 
-off_message : (v key velocity : ℕ) → v < 16 → two_byte_message (0x80 + v) key velocity ≡ Off v key
-off_message v key velocity few =
+off_message : (v key : ℕ) → v < 16 → two_byte_message (0x80 + v) key 0x40 ≡ Off v key
+off_message v key few =
     let high : (0x80 + v) / 16 ≡ 8 = omega arith in
     let low : (0x80 + v) % 16 ≡ v = omega arith in
     rw (high, low) refl
 
 -- ---- what is left of a track
 
--- the next event, where its parts are read
-next_back : (left : Left) (delta : ℕ) (rest : List ℕ) (event : Event) → 0 < length left.rest
-    → quantity_in left.end left.rest ≡ Ok (delta, rest) → event_in left.running left.end rest ≡ Ok event
-    → next_in left ≡ Ok (event_then left delta event, left_then left delta event)
-unfolding next_in
-next_back left delta rest event some a b =
-    let none : length left.rest ≢ 0 = λ e. absurd (omega (arith, some, e)) in
-    rw (ne_eqb (length left.rest) 0 none)
-    (read_then (quantity_in left.end left.rest) _ (delta, rest) _ a
-    (read_then (event_in left.running left.end rest) _ event _ b refl))
+-- what answers of which this is said do
+abbrev pub Does : (Answers → Type 0) → List Stroke → Type 0
+Does Are strokes = (answers : Answers) × Are answers × (strokes_in answers ≡ Ok strokes)
 
--- what the events of what is left do
-abbrev pub strokes_left : Left → Result (List Stroke) SmfFault
-strokes_left left = strokes_in (events_left (Some left))
+-- an event that doesn't end the track, and what stands behind it
+event_does : (Behind : Answers → Type 0) (left : Left) (delta : ℕ) (event : Event) (rest : List ℕ) (strokes : List Stroke)
+    → IsNext left delta event rest → ends_track event.message ≡ false
+    → Does (AreOfTrack Behind (left_behind left delta event rest)) strokes
+    → Does (AreOfTrack Behind left) (stroke_of (event_then left delta event) ∷ strokes)
+event_does Behind left delta event rest strokes next on (answers, are, e) =
+    (Ok (event_then left delta event) ∷ answers, (delta, event, rest, next, refl, inr (on, are)), rw e refl)
 
--- a stroke, and those behind it
-abbrev pub with_stroke : Stroke → Result (List Stroke) SmfFault → Result (List Stroke) SmfFault
-with_stroke stroke later = later >>= λ strokes. Ok (stroke ∷ strokes)
+-- an event that ends it, and what is behind the track
+end_does : (Behind : Answers → Type 0) (left : Left) (delta : ℕ) (event : Event) (rest : List ℕ) (strokes : List Stroke)
+    → IsNext left delta event rest → ends_track event.message ≡ true → Does Behind strokes
+    → Does (AreOfTrack Behind left) (stroke_of (event_then left delta event) ∷ strokes)
+end_does Behind left delta event rest strokes next over (answers, are, e) =
+    (Ok (event_then left delta event) ∷ answers, (delta, event, rest, next, refl, inl (over, are)), rw e refl)
 
-stroke_then : (left : Left) (delta : ℕ) (rest : List ℕ) (event : Event) (after : Option Left) → 0 < length left.rest
-    → quantity_in left.end left.rest ≡ Ok (delta, rest) → event_in left.running left.end rest ≡ Ok event
-    → left_then left delta event ≡ after
-    → strokes_left left ≡ with_stroke (stroke_of (event_then left delta event)) (strokes_in (events_left after))
-stroke_then left delta rest event after some a b e =
-    ap strokes_in (events_more left (event_then left delta event) (left_then left delta event)
-    (next_back left delta rest event some a b))
-    ∙ ap (λ (o : Option Left). with_stroke (stroke_of (event_then left delta event)) (strokes_in (events_left o))) e
+-- what is left of the track of a voice
+abbrev pub left_of : ℕ → ℕ → ℕ → Option ℕ → List ℕ → Left
+left_of number end tick running rest =
+    record { number = number; end = end; tick = tick; running = running; rest = rest }
 
-some_bytes : (delta b : ℕ) (bytes : List ℕ) → 0 < length (quantity delta ++ b ∷ bytes)
-some_bytes delta b bytes = let whole = length-append (quantity delta) (b ∷ bytes) in omega arith
-
--- a key is struck
-struck : (number end tick : ℕ) (running : Option ℕ) (delta v key : ℕ) (more : List ℕ) → delta < 2 ^ 21 → v < 16
-    → key < 128
-    → strokes_left
+-- a message of two data bytes, so many ticks later
+key_does : (Behind : Answers → Type 0) (number end tick : ℕ) (running : Option ℕ) (delta status key : ℕ)
+    (message : Message) (more : List ℕ) (strokes : List Stroke) → delta < 2 ^ 21 → 0x80 ≤ status → status < 0xB0
+    → key < 128 → two_byte_message status key 0x40 ≡ message → ends_track message ≡ false
+    → Does (AreOfTrack Behind (left_of number end (tick + delta) (Some status) more)) strokes
+    → Does (AreOfTrack Behind (left_of number end tick running (quantity delta ++ status ∷ key ∷ 0x40 ∷ more)))
+    (record { track = number; tick = tick + delta; act = act_of message } ∷ strokes)
+key_does Behind number end tick running delta status key message more strokes short low high first is on does =
+    event_does Behind (left_of number end tick running (quantity delta ++ status ∷ key ∷ 0x40 ∷ more)) delta
+    (record { message = message; running = Some status }) more strokes
     (record {
-      number = number;
-      end = end;
-      tick = tick;
-      running = running;
-      rest = quantity delta ++ (0x90 + v) ∷ key ∷
-          0x40 ∷ more;
+      behind = status ∷ key ∷ 0x40 ∷ more;
+      time = quantity_stands delta (status ∷ key ∷ 0x40 ∷ more) short;
+      stands = subst (λ (m : Message). IsRow (event_row running) (status ∷ key ∷ 0x40 ∷ more)
+          (record { message = m; running = Some status }) more) is
+          (message_stands running status key 0x40 more low high first (omega arith));
     })
-    ≡ with_stroke (record { track = number; tick = tick + delta; act = Strike v key })
-    (strokes_left (record {
-      number = number;
-      end = end;
-      tick = tick + delta;
-      running = Some (0x90 + v);
-      rest = more;
-    }))
-struck number end tick running delta v key more short few low =
-    let left : Left =
-    record {
-      number = number;
-      end = end;
-      tick = tick;
-      running = running;
-      rest = quantity delta ++ (0x90 + v) ∷ key ∷
-          0x40 ∷ more;
-    } in
-    let is : (m : Message) → Event = λ m. record { message = m; running = Some (0x90 + v); rest = more } in
-    stroke_then left delta ((0x90 + v) ∷ key ∷ 0x40 ∷ more) (is (On v key 0x40))
-    (Some (record { number = number; end = end; tick = tick + delta; running = Some (0x90 + v); rest = more }))
-    (some_bytes delta (0x90 + v) (key ∷ 0x40 ∷ more)) (quantity_back delta end ((0x90 + v) ∷ key ∷ 0x40 ∷ more) short)
-    (event_back running (0x90 + v) key 0x40 end more (omega arith) (omega arith) low (omega arith)
-    ∙ ap (λ (m : Message). answer (is m)) (on_message v key 0x40 few))
-    refl
-  where
-    answer : Event → Result Event ByteFault
-    answer e = Ok e
+    on does
 
--- a key is let go
-let_go : (number end tick : ℕ) (running : Option ℕ) (delta v key : ℕ) (more : List ℕ) → delta < 2 ^ 21 → v < 16
-    → key < 128
-    → strokes_left
-    (record {
-      number = number;
-      end = end;
-      tick = tick;
-      running = running;
-      rest = quantity delta ++ (0x80 + v) ∷ key ∷
-          0x40 ∷ more;
-    })
-    ≡ with_stroke (record { track = number; tick = tick + delta; act = Release v key })
-    (strokes_left (record {
-      number = number;
-      end = end;
-      tick = tick + delta;
-      running = Some (0x80 + v);
-      rest = more;
-    }))
-let_go number end tick running delta v key more short few low =
-    let left : Left =
+-- a meta event of these bytes, at once
+meta_next : (number end tick : ℕ) (running : Option ℕ) (kind : ℕ) (body more : List ℕ) → length body < 2 ^ 21
+    → IsNext (left_of number end tick running (0 ∷ 0xFF ∷ kind ∷ (quantity (length body) ++ (body ++ more)))) 0
+    (record { message = Meta kind body; running = None }) more
+meta_next number end tick running kind body more few =
+    let behind : List ℕ = quantity (length body) ++ (body ++ more) in
     record {
-      number = number;
-      end = end;
-      tick = tick;
-      running = running;
-      rest = quantity delta ++ (0x80 + v) ∷ key ∷
-          0x40 ∷ more;
-    } in
-    let is : (m : Message) → Event = λ m. record { message = m; running = Some (0x80 + v); rest = more } in
-    stroke_then left delta ((0x80 + v) ∷ key ∷ 0x40 ∷ more) (is (Off v key))
-    (Some (record { number = number; end = end; tick = tick + delta; running = Some (0x80 + v); rest = more }))
-    (some_bytes delta (0x80 + v) (key ∷ 0x40 ∷ more)) (quantity_back delta end ((0x80 + v) ∷ key ∷ 0x40 ∷ more) short)
-    (event_back running (0x80 + v) key 0x40 end more (omega arith) (omega arith) low (omega arith)
-    ∙ ap (λ (m : Message). answer (is m)) (off_message v key 0x40 few))
-    refl
-  where
-    answer : Event → Result Event ByteFault
-    answer e = Ok e
+      behind = 0xFF ∷ kind ∷ behind;
+      time = quantity_stands 0 (0xFF ∷ kind ∷ behind) (omega arith);
+      stands = (
+        0xFF,
+        kind ∷ behind,
+        refl,
+        (
+          kind,
+          behind,
+          refl,
+          (
+            length body,
+            body ++ more,
+            quantity_stands (length body) (body ++ more) few,
+            (body, more, record { stand = refl; long = refl }, (refl, refl)),
+          ),
+        ),
+      );
+    }
 
 -- ---- the notes of a voice
-
--- the bytes of the first track
-abbrev pub tempo_body : List ℕ
-tempo_body = 0 ∷ 0xFF ∷ 0x51 ∷ 3 ∷ 0x07 ∷ 0xA1 ∷ 0x20 ∷ 0 ∷ 0xFF ∷ 0x58 ∷ 4 ∷ 4 ∷ 2 ∷ 24 ∷ 8 ∷ end_bytes
 
 -- notes stand one after the other, the first not before a column, and the last is over at another
 abbrev pub AreInTurn : ℕ → ℕ → List Note → Type 0
@@ -220,79 +171,76 @@ note_parts v wait len key more =
     ∙ append_assoc (quantity (240 * wait) ++ on) (quantity (240 * len)) (off ++ more)
     ∙ append_assoc (quantity (240 * wait)) on (quantity (240 * len) ++ (off ++ more))
 
--- what is left of the track of a voice
-abbrev pub left_of : ℕ → ℕ → ℕ → Option ℕ → List ℕ → Left
-left_of number end tick running rest =
-    record { number = number; end = end; tick = tick; running = running; rest = rest }
-
-note_back : (number end ended : ℕ) (running : Option ℕ) (v start len key : ℕ) (more : List ℕ) → ended ≤ start
-    → start + len ≤ 1000
-    → v < 16 → key < 128
-    → strokes_left (left_of number end (240 * ended) running (note_bytes v (start - ended) len key ++ more))
-    ≡ with_stroke (record { track = number; tick = 240 * start; act = Strike v key })
-    (with_stroke (record { track = number; tick = 240 * (start + len); act = Release v key })
-    (strokes_left (left_of number end (240 * (start + len)) (Some (0x80 + v)) more)))
-note_back number end ended running v start len key more later short few low =
+note_does : (Behind : Answers → Type 0) (number end ended : ℕ) (running : Option ℕ) (v start len key : ℕ) (more : List ℕ)
+    (strokes : List Stroke) → ended ≤ start → start + len ≤ 1000 → v < 16 → key < 128
+    → Does (AreOfTrack Behind (left_of number end (240 * (start + len)) (Some (0x80 + v)) more)) strokes
+    → Does (AreOfTrack Behind (left_of number end (240 * ended) running (note_bytes v (start - ended) len key ++ more)))
+    (record { track = number; tick = 240 * start; act = Strike v key }
+    ∷ record { track = number; tick = 240 * (start + len); act = Release v key } ∷ strokes)
+note_does Behind number end ended running v start len key more strokes later short few low does =
     let behind : List ℕ = quantity (240 * len) ++ (0x80 + v) ∷ key ∷ 0x40 ∷ more in
     let begun : 240 * ended + 240 * (start - ended) ≡ 240 * start = omega arith in
     let over : 240 * start + 240 * len ≡ 240 * (start + len) = omega arith in
-    ap (λ (bytes : List ℕ). strokes_left (left_of number end (240 * ended) running bytes))
-    (note_parts v (start - ended) len key more)
-    ∙ struck number end (240 * ended) running (240 * (start - ended)) v key behind (omega arith) few low
-    ∙ ap
-    (λ (t : ℕ). with_stroke (record { track = number; tick = t; act = Strike v key })
-    (strokes_left (left_of number end t (Some (0x90 + v)) behind))) begun
-    ∙ ap (with_stroke (record { track = number; tick = 240 * start; act = Strike v key }))
-    (let_go number end (240 * start) (Some (0x90 + v)) (240 * len) v key more (omega arith) few low
-    ∙ ap
-    (λ (t : ℕ). with_stroke (record { track = number; tick = t; act = Release v key })
-    (strokes_left (left_of number end t (Some (0x80 + v)) more))) over)
+    let off : Does (AreOfTrack Behind (left_of number end (240 * start) (Some (0x90 + v)) behind))
+    (record { track = number; tick = 240 * (start + len); act = Release v key } ∷ strokes) =
+    subst (λ (t : ℕ). Does (AreOfTrack Behind (left_of number end t (Some (0x80 + v)) more)) strokes
+    → Does (AreOfTrack Behind (left_of number end (240 * start) (Some (0x90 + v)) behind))
+    (record { track = number; tick = t; act = Release v key } ∷ strokes)) over
+    (key_does Behind number end (240 * start) (Some (0x90 + v)) (240 * len) (0x80 + v) key (Off v key) more strokes
+    (omega arith) (omega arith) (omega arith) low (off_message v key few) refl) does in
+    let rest = record { track = number; tick = 240 * (start + len); act = Release v key } ∷ strokes in
+    rw (note_parts v (start - ended) len key more)
+    (subst (λ (t : ℕ). Does (AreOfTrack Behind (left_of number end t (Some (0x90 + v)) behind)) rest
+    → Does (AreOfTrack Behind (left_of number end (240 * ended) running
+    (quantity (240 * (start - ended)) ++ (0x90 + v) ∷ key ∷ 0x40 ∷ behind)))
+    (record { track = number; tick = t; act = Strike v key } ∷ rest)) begun
+    (key_does Behind number end (240 * ended) running (240 * (start - ended)) (0x90 + v) key (On v key 0x40) behind rest
+    (omega arith) (omega arith) (omega arith) low (on_message v key few) refl) off)
 
--- the end of a track, at once
-end_delta : (end : ℕ) → quantity_in end end_bytes ≡ Ok (0, 0xFF ∷ 0x2F ∷ 0 ∷ [])
-unfolding digits_in
-end_delta end = refl
+-- the track of a voice does what its notes do, and then what is behind it does
+pub notes_do : (Behind : Answers → Type 0) (number end ended : ℕ) (running : Option ℕ) (v : ℕ) (notes : List Note)
+    (strokes : List Stroke) → v < 16 → AreInTurn 1000 ended notes → Does Behind strokes
+    → Does (AreOfTrack Behind (left_of number end (240 * ended) running (notes_bytes v ended notes ++ end_bytes)))
+    (note_strokes number v ended notes ++ strokes)
+notes_do Behind number end ended running v [] strokes few turn does =
+    let tick : 240 * ended + 0 ≡ 240 * ended = omega arith in
+    subst (λ (t : ℕ). Does (AreOfTrack Behind (left_of number end (240 * ended) running end_bytes))
+    (record { track = number; tick = t; act = End } ∷ strokes)) tick
+    (end_does Behind (left_of number end (240 * ended) running end_bytes) 0
+    (record { message = Meta 0x2F []; running = None }) [] strokes
+    (meta_next number end (240 * ended) running 0x2F [] [] (omega arith)) refl does)
+notes_do Behind number end ended running v (note ∷ notes) strokes few turn does =
+    let within = turn_within 1000 (note.start + note.len) notes turn.2 in
+    let low : midi_key note.pitch < 128 = omega (arith, (key_bounds note.pitch).1) in
+    let key = midi_key note.pitch in
+    let after = note.start + note.len in
+    rw (append_assoc (note_bytes v (note.start - ended) note.len key) (notes_bytes v after notes) end_bytes)
+    (note_does Behind number end ended running v note.start note.len key (notes_bytes v after notes ++ end_bytes)
+    (note_strokes number v after notes ++ strokes) turn.0 within few low
+    (notes_do Behind number end after (Some (0x80 + v)) v notes strokes few turn.2 does))
 
-end_event : (running : Option ℕ) (end : ℕ)
-    → event_in running end (0xFF ∷ 0x2F ∷ 0 ∷ []) ≡ Ok (record { message = Meta 0x2F []; running = None; rest = [] })
-unfolding event_in meta_in digits_in
-end_event running end = refl
+-- ---- the first track
 
--- the first track is read as strokes that do nothing, and its end
+-- the bytes of the first track
+abbrev pub tempo_body : List ℕ
+tempo_body = 0 ∷ 0xFF ∷ 0x51 ∷ 3 ∷ 0x07 ∷ 0xA1 ∷ 0x20 ∷ 0 ∷ 0xFF ∷ 0x58 ∷ 4 ∷ 4 ∷ 2 ∷ 24 ∷ 8 ∷ end_bytes
+
+-- the first track does nothing, and ends
 unfoldable pub tempo_strokes : List Stroke
 tempo_strokes =
     record { track = 0; tick = 0; act = Nothing } ∷ record { track = 0; tick = 0; act = Nothing }
     ∷ record { track = 0; tick = 0; act = End } ∷ []
 
-pub tempo_back : (end : ℕ) → strokes_left (left_of 0 end 0 None tempo_body) ≡ Ok tempo_strokes
-unfolding events_in next_in event_in meta_in digits_in tempo_strokes
-tempo_back end = refl
-
--- the track of a voice is read as the strokes of its notes
-pub notes_back : (number end ended : ℕ) (running : Option ℕ) (v : ℕ) (notes : List Note) → v < 16
-    → AreInTurn 1000 ended notes
-    → strokes_left (left_of number end (240 * ended) running (notes_bytes v ended notes ++ end_bytes))
-    ≡ Ok (note_strokes number v ended notes)
-notes_back number end ended running v [] few turn =
-    let left : Left = left_of number end (240 * ended) running end_bytes in
-    stroke_then left 0 (0xFF ∷ 0x2F ∷ 0 ∷ []) (record { message = Meta 0x2F []; running = None; rest = [] }) None
-    (omega arith)
-    (end_delta end) (end_event running end) refl
-    ∙ ap (λ (t : ℕ). ended_at t) (omega arith)
-  where
-    ended_at : ℕ → Result (List Stroke) SmfFault
-    ended_at t = Ok (record { track = number; tick = t; act = End } ∷ [])
-notes_back number end ended running v (note ∷ notes) few turn =
-    let within = turn_within 1000 (note.start + note.len) notes turn.2 in
-    let low : midi_key note.pitch < 128 = omega (arith, (key_bounds note.pitch).1) in
-    let key = midi_key note.pitch in
-    ap (λ (bytes : List ℕ). strokes_left (left_of number end (240 * ended) running bytes))
-    (append_assoc (note_bytes v (note.start - ended) note.len key) (notes_bytes v (note.start + note.len) notes)
-    end_bytes)
-    ∙ note_back number end ended running v note.start note.len key
-    (notes_bytes v (note.start + note.len) notes ++ end_bytes) turn.0 within few low
-    ∙ ap
-    (λ (later : Result (List Stroke) SmfFault). with_stroke
-    (record { track = number; tick = 240 * note.start; act = Strike v key })
-    (with_stroke (record { track = number; tick = 240 * (note.start + note.len); act = Release v key }) later))
-    (notes_back number end (note.start + note.len) (Some (0x80 + v)) v notes few turn.2)
+pub tempo_does : (Behind : Answers → Type 0) (end : ℕ) (strokes : List Stroke) → Does Behind strokes
+    → Does (AreOfTrack Behind (left_of 0 end 0 None tempo_body)) (tempo_strokes ++ strokes)
+unfolding tempo_strokes
+tempo_does Behind end strokes does =
+    let tempo : List ℕ = 0x07 ∷ 0xA1 ∷ 0x20 ∷ [] in
+    let meter : List ℕ = 4 ∷ 2 ∷ 24 ∷ 8 ∷ [] in
+    let second : List ℕ = 0 ∷ 0xFF ∷ 0x58 ∷ 4 ∷ (meter ++ end_bytes) in
+    event_does Behind (left_of 0 end 0 None tempo_body) 0 (record { message = Meta 0x51 tempo; running = None }) second _
+    (meta_next 0 end 0 None 0x51 tempo second (omega arith)) refl
+    (event_does Behind (left_of 0 end 0 None second) 0 (record { message = Meta 0x58 meter; running = None }) end_bytes _
+    (meta_next 0 end 0 None 0x58 meter end_bytes (omega arith)) refl
+    (end_does Behind (left_of 0 end 0 None end_bytes) 0 (record { message = Meta 0x2F []; running = None }) [] strokes
+    (meta_next 0 end 0 None 0x2F [] [] (omega arith)) refl does))

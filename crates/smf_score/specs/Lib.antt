@@ -6,6 +6,7 @@ pub mod Heads
 pub mod Lines
 pub mod Order
 pub mod Placed
+pub mod Placing
 pub mod Played
 pub mod Ranges
 pub mod ReadBack

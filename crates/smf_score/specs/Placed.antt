@@ -1,4 +1,4 @@
--- The notes of a file on the grid, or the first note that is at fault.
+-- Notes that are placed one by one, each behind the end of the last one of its voice, or the first one that is at fault.
 use Rattle.std.specs.Prelude.{ℕ, ◌+◌, ◌-◌, ◌*◌, ◌/◌, ◌==◌, ◌&&◌, List, [], ◌∷◌, Option, Some, None, Result, Ok, Err, max, nat_le, nat_lt, if◌then◌else◌}
 use Rattle.fux_pitch.specs.declared.pitch.Pitch.{Pitch}
 use Rattle.fux_pitch.specs.Spelling.{spelled}

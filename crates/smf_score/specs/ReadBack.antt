@@ -42,21 +42,20 @@ pub record IsSounding (ex : Exercise) (score : Grid) : Type 0 where
   pub follows : HistoryFollows (reverse score.columns)
   pub notes : (v : ℕ) → v < ex.voices → HasNote score.columns v
 
--- a head says of an exercise what a file of its notes doesn't tell, and that the lowest voice comes first
+-- a head names the cantus voice of an exercise and one of its voices, and says that the lowest voice comes first
 pub record IsHeadOf (ex : Exercise) (head : Head) : Type 0 where
-  pub mode : head.mode ≡ ex.mode
-  pub species : head.species ≡ ex.species
-  pub species_voice : head.species_voice ≡ ex.species_voice
+  pub species_voice : head.species_voice < ex.voices
   pub cantus_voice : head.cantus_voice ≡ ex.cantus_voice
   pub lowest_first : head.top_first ≡ false
 
--- an exercise that was read is the one that was written, with its score as the setting, each pitch spelled by its key
-pub record IsReadBack (ex : Exercise) (score : Grid) (read : Exercise) : Type 0 where
-  pub mode : read.mode ≡ ex.mode
+-- an exercise that was read is the one that was written, with what the head says in place of what a file of notes
+-- doesn't tell, and with its score as the setting, each pitch spelled by its key
+pub record IsReadBack (ex : Exercise) (score : Grid) (head : Head) (read : Exercise) : Type 0 where
+  pub mode : read.mode ≡ head.mode
   pub voices : read.voices ≡ ex.voices
   pub bars : read.bars ≡ ex.bars
-  pub species : read.species ≡ ex.species
-  pub species_voice : read.species_voice ≡ ex.species_voice
+  pub species : read.species ≡ head.species
+  pub species_voice : read.species_voice ≡ head.species_voice
   pub cantus_voice : read.cantus_voice ≡ ex.cantus_voice
   pub cantus : read.cantus ≡ map respelled ex.cantus
   pub relax : read.relax ≡ []
@@ -70,4 +69,4 @@ ReadsOnlyAs head bytes read =
 -- the file of a score has one reading: its exercise with this score
 abbrev pub ReadsBack : Type 0
 ReadsBack = (ex : Exercise) (score : Grid) (head : Head) → IsSounding ex score → IsHeadOf ex head
-    → (read : Exercise) × ReadsOnlyAs head (smf_of score) read × IsReadBack ex score read
+    → (read : Exercise) × ReadsOnlyAs head (smf_of score) read × IsReadBack ex score head read

@@ -3,7 +3,8 @@ use Rattle.std.specs.Prelude.{◌≡◌, ℕ, ⊤, List, Result, Ok, Err}
 use Rattle.fux_grid.specs.declared.exercise.Exercise.{Exercise}
 use Rattle.fux_grid.specs.declared.exercise.Head.{Head}
 use Rattle.smf_bytes.specs.declared.fault.ByteFault.{ByteFault}
-use Rattle.smf_bytes.specs.Events.{File, file_in}
+use Rattle.smf_bytes.specs.Events.{File}
+use Rattle.smf_bytes.specs.Files.{IsFile}
 use Rattle.smf_score.specs.declared.fault.SmfFault.{SmfFault}
 use Rattle.smf_score.specs.declared.fault.SmfFault.TheVariants as faults
 use Rattle.smf_score.specs.declared.played.Played.{Played}
@@ -11,15 +12,15 @@ use Rattle.smf_score.specs.declared.strokes.Stroke.{Stroke}
 use Rattle.smf_score.specs.Exercise.{exercise_in}
 use Rattle.smf_score.specs.Faults.{◌>>=◌}
 use Rattle.smf_score.specs.Order.{IsInOrder}
-use Rattle.smf_score.specs.Placed.{first_line, places_in}
+use Rattle.smf_score.specs.Placing.{no_voices, notes_placed}
 use Rattle.smf_score.specs.Played.{notes_in}
 use Rattle.smf_score.specs.Strokes.{strokes_in}
 
 -- the exercise of notes in order, or the first fault
 unfoldable pub exercise_of_notes : Head → ℕ → List Played → Result Exercise SmfFault
 exercise_of_notes head division notes = do
-  placed ← places_in division first_line notes
-  exercise_in head placed.0 placed.1.voices
+  placed ← notes_placed division no_voices notes
+  exercise_in head placed.0 placed.1
 
 -- the reading of what the events of a file do to its notes: that of its notes in order
 abbrev pub OfStrokes : Head → File → Result (List Stroke) SmfFault → Result Exercise SmfFault → Type 0
@@ -38,9 +39,9 @@ abbrev pub OfHeader : Head → Result File ByteFault → Result Exercise SmfFaul
 OfHeader head (Err fault) read = read ≡ Err (faults.Bytes fault)
 OfHeader head (Ok file) read = OfFile head file read
 
--- the reading of the bytes of a file
+-- the reading of the bytes of a file: they are a file, or none, and this is its reading
 abbrev pub IsReading : Head → List ℕ → Result Exercise SmfFault → Type 0
-IsReading head bytes read = OfHeader head (file_in bytes) read
+IsReading head bytes read = (file : Result File ByteFault) × IsFile bytes file × OfHeader head file read
 
 -- an answer other than want of memory is the reading
 abbrev pub FailsAs : SmfFault → (Result Exercise SmfFault → Type 0) → Type 0

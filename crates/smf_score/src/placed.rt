@@ -6,6 +6,7 @@ ghost use Rattle.smf_score.specs.Played.{IsPlayed};
 ghost use Rattle.smf_score.specs.Sounding.{AreFollowing};
 ghost use Rattle.smf_score.specs.Ranges.{HaveNotes};
 ghost use Rattle.smf_score.specs.Placed.{first_line, place_in, places_in, slot_of, with_note};
+ghost use Rattle.smf_score.specs.Placing.{no_voices, notes_placed};
 
 use crate::fault::SmfFault;
 use crate::played::Played;
@@ -99,8 +100,8 @@ fn place(division: u16, progress: Progress, note: &Played) -> Result<(Placed, Pr
     ))
 }
 
-/// The notes in order on the grid, and how many voices there are, or the first fault.
-pub(crate) fn places_of(
+/// The notes in order on the grid, and how far they were placed, or the first fault.
+fn place_all(
     alloc: Global,
     division: u16,
     notes: &[Played],
@@ -124,4 +125,21 @@ pub(crate) fn places_of(
         progress = next;
     }
     Ok((places, progress))
+}
+
+/// The notes in order on the grid, and how many voices there are, or the first fault.
+pub(crate) fn places_of(
+    alloc: Global,
+    division: u16,
+    notes: &[Played],
+) -> Result<(Vec<Placed>, u64), SmfFault>
+    requires division { 0 < division }
+    requires notes { All IsPlayed notes.now }
+    requires few { length notes.now < 2 ^ 63 }
+    ensures value { Gives (λ x. (x.0.items, x.1)) result (notes_placed division no_voices notes.now) }
+    ensures follow { IfOk result (λ x. AreFollowing x.0.items) }
+    ensures notes { IfOk result (λ x. HaveNotes x.0.items x.1) }
+{
+    let (places, progress) = place_all(alloc, division, notes)?;
+    Ok((places, progress.voices))
 }

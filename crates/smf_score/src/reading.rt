@@ -36,14 +36,14 @@ fn read_notes(
     ensures value { Gives (λ ex. ex) result (exercise_of_notes head.now division notes.now) }
     ensures valid { IfOk result IsValid }
 {
-    let (places, progress) = places_of(alloc, division, notes)?;
-    exercise_of(alloc, head, &places, progress.voices)
+    let (places, voices) = places_of(alloc, division, notes)?;
+    exercise_of(alloc, head, &places, voices)
 }
 
 /// The exercise of the events of a file.
 fn read_events(alloc: Global, head: &Head, events: &mut Events<'_>) -> Result<Exercise, SmfFault>
     requires head { IsHead head.now }
-    requires ticks { 0 < (file_seen events.old).header.division }
+    requires ticks { 0 < events.old.header.division }
     ensures value { ReadsAs result (OfFile head.now (file_seen events.old)) }
     ensures valid { IfOk result IsValid }
 {

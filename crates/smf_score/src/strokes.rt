@@ -1,12 +1,12 @@
 //! What the events of a file do to its notes.
 
-ghost use Rattle.std.specs.Prelude.{◌≡◌, All, IfOk};
-ghost use Rattle.smf_bytes.specs.Events.{IsWithinBounds, timed_seen, to_come};
+ghost use Rattle.std.specs.Prelude.{◌≡◌, All, IfOk, IfSome};
+ghost use Rattle.smf_bytes.specs.Events.{IsWithinBounds, TakesFirst, timed_seen, to_come};
 ghost use Rattle.smf_score.specs.Faults.{Gives};
 ghost use Rattle.smf_score.specs.Strokes.{IsStroke, stroke_of, strokes_in};
 
 use crate::fault::SmfFault;
-use smf_bytes::{Event, Events, Kind};
+use smf_bytes::{ByteFault, Event, Events, Kind};
 use std::alloc::Global;
 
 /// What an event does to the notes of its track.
@@ -61,13 +61,21 @@ fn stroke_of_event(event: Event<'_>) -> Stroke
     }
 }
 
+/// The next event, or the fault that stands in its place.
+fn next_event<'a>(events: &mut Events<'a>) -> Option<Result<Event<'a>, ByteFault>>
+    ensures first { TakesFirst (to_come events.old) result (to_come events.new) }
+    ensures bounds { IfSome result (λ answer. IfOk answer IsWithinBounds) }
+{
+    events.next()
+}
+
 /// The events that are still to come as what they do.
 pub(crate) fn strokes_of(alloc: Global, events: &mut Events<'_>) -> Result<Vec<Stroke>, SmfFault>
     ensures value { Gives (λ v. v.items) result (strokes_in (to_come events.old)) }
     ensures bounds { IfOk result (λ v. All IsStroke v.items) }
 {
     let mut strokes = Vec::new(alloc);
-    while let Some(answer) = events.next() {
+    while let Some(answer) = next_event(events) {
         strokes.push(stroke_of_event(answer?))?;
     }
     Ok(strokes)

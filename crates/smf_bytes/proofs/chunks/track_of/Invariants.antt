@@ -1,11 +1,13 @@
-use Rattle.std.proofs.Common.{◌≡◌, ◌≤◌, length}
-use Rattle.smf_bytes.specs.Chunks.{track_in}
+use Rattle.std.proofs.Common.{◌≤◌, List, ℕ, length}
+use Rattle.smf_bytes.specs.declared.fault.ByteFault.{ByteFault}
+use Rattle.smf_bytes.specs.Files.{IsTrack, IsTrackFault}
 use Rattle.smf_bytes.proofs.chunks.track_of.Given as goal
 
--- the track that is found in the rest is the one that is found in all bytes
+-- the next track of the rest is that of all bytes
 abbrev pub invariant-loop-rest : goal.invariant-loop-rest
 invariant-loop-rest l = record {
-  same : track_in (length l.rest) l.size l.rest ≡ track_in (length l.bytes) l.size l.bytes;
+  found : (body rest : List ℕ) → IsTrack l.rest body rest → IsTrack l.bytes body rest;
+  lacks : (fault : ByteFault) → IsTrackFault l.size l.rest fault → IsTrackFault l.size l.bytes fault;
   shorter : length l.rest ≤ length l.bytes;
 }
 

@@ -1,7 +1,7 @@
 use Rattle.std.proofs.Common.{◌≡◌, ◌≤◌, ◌++◌, Ok, drop}
 use Rattle.smf_score.specs.Faults.{◌>>=◌}
 use Rattle.smf_score.specs.Placed.{first_line, places_in}
-use Rattle.smf_score.proofs.placed.places_of.Given as goal
+use Rattle.smf_score.proofs.placed.place_all.Given as goal
 
 -- the notes that were placed, and those that are left, are all
 abbrev pub invariant-loop-note : goal.invariant-loop-note
