@@ -5,6 +5,8 @@ ghost use Rattle.std.specs.Prelude.{◌≡◌, ◌≢◌};
 
 use fux_port::{DiskShelf, StdSink};
 use fux_run::{Complaint, run};
+use std::alloc::Global;
+use std::env::FillError;
 use std::io::ErrorKind;
 use std::process::ExitCode;
 use std::rt::Env;
@@ -21,9 +23,33 @@ fn main(rt: HostRuntime) -> ExitCode {
     ExitCode::from(status)
 }
 
-/// The words on the command line, without the first, which is the program's name.
-fn words_after_name(rt: &(impl Env + AllocGlobal)) -> io::Result<Vec<String>> {
-    let words = env::args(rt)?.skip(1).collect(rt.alloc())?;
+/// A process whose arguments begin behind the program's name.
+#[derive(Drop)]
+struct BehindName<'a, R> {
+    process: &'a R,
+}
+
+impl<R: Env> Env for BehindName<'_, R> {
+    fn arg(&self, i: usize, buf: &mut [u8]) -> Result<usize, FillError> {
+        match i.checked_add(1) {
+            Some(next) => self.process.arg(next, buf),
+            None => Err(FillError::NotPresent),
+        }
+    }
+
+    fn var(&self, name: &str, buf: &mut [u8]) -> Result<usize, FillError> {
+        self.process.var(name, buf)
+    }
+
+    fn var_at(&self, i: usize, buf: &mut [u8]) -> Result<usize, FillError> {
+        self.process.var_at(i, buf)
+    }
+}
+
+/// The words on the command line behind the program's name. The name is never read, and may be any bytes.
+fn words_after_name<R: Env + AllocGlobal>(rt: &R) -> io::Result<Vec<String>> {
+    let alloc: Global = rt.alloc();
+    let words = env::args(&(BehindName { process: rt }, alloc))?.collect(alloc)?;
     Ok(words)
 }
 
