@@ -19,6 +19,6 @@ pub use dissonance::Dissonance;
 pub use late::{breaks_late, places_settled};
 pub use ligatures::{is_bad_suspension, is_suspended, is_unprepared, resolves};
 pub use passing::{is_cambiata, is_good, is_neighbor, is_passing, starts_in_clash};
-pub use rows::{breaks, cost};
+pub use rows::{breaks, clash_at_start, cost};
 pub use told::places_left;
 pub use tolls::{Q1, Q2};

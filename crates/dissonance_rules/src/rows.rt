@@ -18,9 +18,9 @@ fn meet_in_unison(ex: &Exercise, i: usize, now: &[Cell], v: usize, w: usize) -> 
     begins_inner_bar(ex, i) && sound_same_key(now, v, w)
 }
 
-/// S14.
+/// S14: at the beginning of a bar two voices both start a note, and they clash.
 #[inline]
-fn clash_at_start(i: usize, now: &[Cell], v: usize, w: usize) -> bool
+pub fn clash_at_start(i: usize, now: &[Cell], v: usize, w: usize) -> bool
     ensures { result ≡ rows.clash_at_start i now.now v w }
 {
     begins_bar(i) && starts(cell_of(now, v)) && starts(cell_of(now, w)) && is_clash(now, v, w)

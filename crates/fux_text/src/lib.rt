@@ -16,6 +16,7 @@ mod setting;
 mod sing;
 mod sing_lines;
 
+pub use names::{parse_mode, parse_pitch};
 pub use note_text::{sing_line, write};
 pub use read_back::{text_reads_back, texts_are_read, words_read_back};
 pub use reading::{read, read_sing};

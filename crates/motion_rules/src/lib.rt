@@ -18,5 +18,5 @@ pub use clear::are_clear;
 pub use inner_voices::inner_moves;
 pub use late::{breaks_late, cost_late, places_settled, toll_places};
 pub use motion::Motion;
-pub use rows::{breaks, cost};
+pub use rows::{breaks, cost, cross, move_in_parallel, sound_imperfect};
 pub use tolls::{Q11, Q12, Q14};

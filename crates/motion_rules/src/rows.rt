@@ -12,9 +12,9 @@ use rule_law::{
     one_starts, pair_of,
 };
 
-/// S10.
+/// S10: both voices sound, one starts a note, and the first sounds above the second.
 #[inline]
-pub(crate) fn cross(now: &[Cell], v: usize, w: usize) -> bool
+pub fn cross(now: &[Cell], v: usize, w: usize) -> bool
     ensures { result ≡ rows.cross now.now v w }
 {
     if !one_starts(now, v, w) {
@@ -26,9 +26,9 @@ pub(crate) fn cross(now: &[Cell], v: usize, w: usize) -> bool
     }
 }
 
-/// S16.
+/// S16: both voices move, and their intervals before and now are equal perfect ones.
 #[inline(always)]
-pub(crate) fn move_in_parallel(before: &[Cell], now: &[Cell], v: usize, w: usize) -> bool
+pub fn move_in_parallel(before: &[Cell], now: &[Cell], v: usize, w: usize) -> bool
     ensures { result ≡ rows.move_in_parallel before.now now.now v w }
 {
     if !both_move(before, now, v, w) {
@@ -98,9 +98,9 @@ fn is_imperfect_of(interval: Interval, degrees: u8) -> bool
     is_imperfect(interval) && reduce(interval).degrees == i16::from(degrees)
 }
 
-/// Whether two voices sound such an interval.
+/// Whether two voices sound an imperfect interval of so many degrees without its octaves.
 #[inline]
-pub(crate) fn sound_imperfect(column: &[Cell], degrees: u8, v: usize, w: usize) -> bool
+pub fn sound_imperfect(column: &[Cell], degrees: u8, v: usize, w: usize) -> bool
     ensures { result ≡ rows.sound_imperfect degrees column.now v w }
 {
     match interval_of_cells(cell_of(column, v), cell_of(column, w)) {

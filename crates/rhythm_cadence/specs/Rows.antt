@@ -3,6 +3,7 @@ use Rattle.std.specs.Prelude.{ℕ, ◌==◌, ◌%◌, Bool, false, not, ◌&&◌
 use Rattle.std.specs.Ordering.{int_eq}
 use Rattle.fux_pitch.specs.declared.pitch.Pitch.{Pitch}
 use Rattle.fux_pitch.specs.declared.interval.Interval.{Interval}
+use Rattle.fux_pitch.specs.declared.mode.Mode.{Mode}
 use Rattle.fux_pitch.specs.Pitch.{degree_of, alter_of}
 use Rattle.fux_pitch.specs.Size.{is_perfect_size}
 use Rattle.fux_pitch.specs.Modes.{final_of, is_in_gamut}
@@ -72,15 +73,21 @@ abbrev pub begins_last_bar : Exercise → ℕ → Bool
 begins_last_bar ex i = begins_bar i && (bar_of i == ex.bars)
 
 -- S13: at the beginning of the last bar, voices 0 and w don't sound a unison or an octave; with three or four voices a fifth or a major third will do too
+abbrev pub may_end : ℕ → Interval → Bool
+may_end voices i = is_reduced_to 0 0 i || (nat_le 3 voices && (is_reduced_to 4 7 i || is_reduced_to 2 4 i))
+
 abbrev pub fits_ending : Exercise → Interval → Bool
-fits_ending ex i = is_reduced_to 0 0 i || (nat_le 3 ex.voices && (is_reduced_to 4 7 i || is_reduced_to 2 4 i))
+fits_ending ex = may_end ex.voices
 
 abbrev pub ends_badly : Exercise → ℕ → List Cell → ℕ → Bool
 ends_badly ex i now w = begins_last_bar ex i && not (holds_of (fits_ending ex) (interval_in now 0 w))
 
 -- S24: there, voice 0 doesn't sound the mode's final
+abbrev pub is_final_in : Mode → Pitch → Bool
+is_final_in mode p = (degree_of p % 7 == final_of mode) && int_eq (alter_of p) (pos 0)
+
 abbrev pub is_final : Exercise → Pitch → Bool
-is_final ex p = (degree_of p % 7 == final_of ex.mode) && int_eq (alter_of p) (pos 0)
+is_final ex = is_final_in ex.mode
 
 abbrev pub lacks_final : Exercise → ℕ → List Cell → Bool
 lacks_final ex i now = begins_last_bar ex i && not (holds_of_pitch (is_final ex) (pitch_of (cell_in now 0)))

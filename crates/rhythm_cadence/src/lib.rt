@@ -24,6 +24,7 @@ pub use patterns::{is_pattern_settled, lacks_ligature, pattern_cost};
 pub use quavers::{breaks_quaver, is_quaver_settled};
 pub use rhythm::{Rhythm, breaks};
 pub use rows::{
-    begins_last_bar, ends_badly, is_final, lacks_final, leaves_gamut, leaves_range, opens_badly,
+    begins_last_bar, ends_badly, is_final, is_final_in, lacks_final, leaves_gamut, leaves_range,
+    may_end, opens_badly,
 };
 pub use tolls::{Q15, Q16};

@@ -8,7 +8,7 @@ ghost use Rattle.fux_grid.specs.Menus as menus;
 ghost use Rattle.rhythm_cadence.specs.Rows as rows;
 
 use fux_grid::{Cell, Exercise, bar_of, cell_of, range};
-use fux_pitch::{Interval, Pitch, final_letter, in_gamut, is_perfect, semitone};
+use fux_pitch::{Interval, Mode, Pitch, final_letter, in_gamut, is_perfect, semitone};
 use rule_law::{begins_bar, interval_in, is_reduced_to, lowest, starts};
 
 /// The pitch that a voice brings into a bar: one that starts, or that is held over the bar line.
@@ -102,15 +102,16 @@ pub fn begins_last_bar(ex: &Exercise, i: usize) -> bool
     begins_bar(i) && i / 8 + 1 == ex.bars as usize
 }
 
-/// Whether voice 0 and another may end with this interval.
-fn fits_ending(ex: &Exercise, size: Interval) -> bool
+/// Whether, of so many voices, voice 0 and another may end with this interval.
+#[inline]
+pub fn may_end(voices: u8, size: Interval) -> bool
     requires { IsShort size }
-    ensures { result ≡ rows.fits_ending ex.now size }
+    ensures { result ≡ rows.may_end voices size }
 {
     if is_reduced_to(size, 0, 0) {
         return true;
     }
-    ex.voices >= 3 && (is_reduced_to(size, 4, 7) || is_reduced_to(size, 2, 4))
+    voices >= 3 && (is_reduced_to(size, 4, 7) || is_reduced_to(size, 2, 4))
 }
 
 /// S13: whether voice 0 and another end with an interval that doesn't fit.
@@ -121,16 +122,25 @@ pub fn ends_badly(ex: &Exercise, i: usize, now: &[Cell], w: u8) -> bool
         return false;
     }
     match interval_in(now, 0, w as usize) {
-        Some(size) => !fits_ending(ex, size),
+        Some(size) => !may_end(ex.voices, size),
         None => true,
     }
 }
 
-/// Whether the pitch is the mode's final, in any octave.
+/// Whether the pitch is the final of a mode, in any octave.
+#[inline]
+pub fn is_final_in(mode: Mode, p: Pitch) -> bool
+    ensures { result ≡ rows.is_final_in mode p }
+{
+    p.degree() % 7 == final_letter(mode) && p.alter() == 0
+}
+
+/// Whether the pitch is the final of the exercise's mode, in any octave.
+#[inline]
 pub fn is_final(ex: &Exercise, p: Pitch) -> bool
     ensures { result ≡ rows.is_final ex.now p }
 {
-    p.degree() % 7 == final_letter(ex.mode) && p.alter() == 0
+    is_final_in(ex.mode, p)
 }
 
 /// S24: whether voice 0 doesn't end on the final.
