@@ -1,0 +1,6 @@
+mod BarLemmas
+mod Best
+mod Children
+mod Passing
+mod ScoreSteps
+mod Trees

@@ -1,0 +1,11 @@
+pub mod Answers
+pub mod Canons
+pub mod Grows
+pub mod Kept
+pub mod Nodes
+pub mod Order
+pub mod Paths
+pub mod Rules
+pub mod Tasks
+pub mod Texts
+pub mod Trees

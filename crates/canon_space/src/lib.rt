@@ -1,0 +1,22 @@
+//! Canons in two voices as a tree: its live paths are the lists of whole bars that begin a canon, and its leaves the lawful canons.
+#![tactic(auto)]
+
+mod bars;
+mod canon;
+mod costs;
+mod law;
+mod node;
+mod pairs;
+mod reading;
+mod score;
+mod search;
+mod space;
+mod voices;
+
+pub use canon::Canon;
+pub use law::is_tree_of_canons;
+pub use node::CanonNode;
+pub use reading::read_canon;
+pub use score::canon_score;
+pub use search::best_canon;
+pub use space::CanonSpace;
