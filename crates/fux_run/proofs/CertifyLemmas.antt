@@ -17,9 +17,9 @@ use Rattle.penalty_sheet.specs.declared.sheet.Sheet.{Sheet}
 use Rattle.species_space.specs.Loads.{IsNothingWithin}
 use Rattle.fux_run.specs.declared.complaint.Complaint.{Complaint}
 use Rattle.fux_run.specs.declared.complaint.Complaint.TheVariants.{Usage, Refused, Unreadable, Unwritable, OutOfMemory}
-use Rattle.fux_run.specs.declared.content.Content.{Content}
+use Rattle.class_marker.specs.declared.one.Text.{Text as Content}
 use Rattle.fux_run.specs.Commands.{Task, as_list, certify, limit_in, name_in, names_in}
-use Rattle.fux_run.specs.Works.{AllMayHave, AreContents, AreRead, CertifiesText, Files, IsContent, Makes, Works}
+use Rattle.fux_run.specs.Works.{AllMayHave, AreContents, AreRead, CertifiesText, Files, Makes, Works}
 use Rattle.fux_run.proofs.MakeLemmas.{have_bytes}
 use Rattle.fux_run.specs.declared.refusal.Refusal.TheVariants as refusal
 use Rattle.fux_run.specs.declared.work.Halt.{Halt}
@@ -33,7 +33,8 @@ use Rattle.fux_run.specs.Runs.{Does, Ended, IsWritten, SaysWritten, Writes, work
 use Rattle.fux_run.specs.declared.searching.Found.TheVariants as found
 use Rattle.fux_run.specs.Searched.{IsBestFound, IsBound, IsFound, IsNarrow, IsSpaceOf}
 use Rattle.fux_run.specs.Sheets.{sheet_said}
-use Rattle.fux_run.specs.Texts.{IsTheText, Work}
+use Rattle.class_marker.specs.Markings.{IsContent, IsTheText}
+use Rattle.fux_run.specs.Texts.{Work}
 
 within : (bytes : List ℕ) → (1073741824 < length bytes → ⊥) → length bytes ≤ 1073741824
 within bytes short = elim (leb_tells (length bytes) 1073741824) [ inl few ↦ few.1 | inr many ↦ absurd (short many.1) ]
@@ -110,6 +111,7 @@ module _ (budget : ℕ) (sheet : Sheet) (ex : Exercise) (narrow : IsNarrow ex) w
   of_best score penalty best (Err (refusal.TooWide place count)) made = absurd made
   of_best score penalty best (Err (refusal.Text kind line column)) made = absurd made
   of_best score penalty best (Err refusal.NoSetting) made = absurd made
+  of_best score penalty best (Err (refusal.List line)) made = absurd made
   of_best score penalty best (Err (refusal.Sheet fault)) made = absurd made
   of_best score penalty best (Err (refusal.Midi fault)) made = absurd made
 
@@ -131,6 +133,7 @@ module _ (budget : ℕ) (sheet : Sheet) (ex : Exercise) (narrow : IsNarrow ex) w
   of_none none (Err (refusal.TooWide place count)) made = absurd made
   of_none none (Err (refusal.Text kind line column)) made = absurd made
   of_none none (Err refusal.NoSetting) made = absurd made
+  of_none none (Err (refusal.List line)) made = absurd made
   of_none none (Err (refusal.Sheet fault)) made = absurd made
   of_none none (Err (refusal.Midi fault)) made = absurd made
 

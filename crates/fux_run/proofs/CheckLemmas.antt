@@ -14,7 +14,7 @@ use Rattle.fux_port.specs.Written.{StopsShort}
 use Rattle.penalty_sheet.specs.declared.sheet.Sheet.{Sheet}
 use Rattle.fux_run.specs.declared.complaint.Complaint.{Complaint}
 use Rattle.fux_run.specs.declared.complaint.Complaint.TheVariants.{Usage, Refused, Unreadable, Unwritable, OutOfMemory}
-use Rattle.fux_run.specs.declared.content.Content.{Content}
+use Rattle.class_marker.specs.declared.one.Text.{Text as Content}
 use Rattle.fux_run.specs.declared.work.Output.{Output}
 use Rattle.fux_run.specs.declared.work.Stop.TheVariants as stop
 use Rattle.fux_run.specs.declared.work.Unmade.{Unmade}
@@ -22,13 +22,21 @@ use Rattle.fux_run.specs.declared.work.Unmade.TheVariants as unmade
 use Rattle.fux_run.specs.declared.work.Verdict.{Verdict}
 use Rattle.fux_run.specs.declared.work.Verdict.TheVariants.{Favorable, Unfavorable}
 use Rattle.fux_run.specs.Checked.{AnswersWithin, IsAccepted, IsChecked, Judges, told}
-use Rattle.fux_run.specs.Commands.{Task, as_list, certify, check, drill, fromsmf, names_in, names_within, on_exercise}
+use Rattle.class_marker.specs.Lists.{listed_names}
+use Rattle.class_marker.specs.Markings.{IsContent}
+use Rattle.fux_text.proofs.ReadTexts.{texts-faultless}
+use Rattle.fux_text.specs.Texts.{IsTextOf}
+use Rattle.fux_run.specs.Classes.{RefusesList}
+use Rattle.fux_run.specs.Commands.{Task, as_list, certify, check, class_report, drill, fromsmf, name_in, names_in, names_listed, names_within, on_exercise}
 use Rattle.fux_run.specs.Runs.{IsMade, IsRefused, IsWritten, SaysWithin, work_output}
-use Rattle.fux_run.specs.Searched.{IsNarrow}
-use Rattle.fux_run.specs.Texts.{Work}
-use Rattle.fux_run.specs.Works.{AreContents, AreRead, ChecksText, Files, IsContent, IsReadyFor, IsReadyText, Makes, Works}
+use Rattle.fux_run.specs.declared.refusal.Refusal.{Refusal}
+use Rattle.fux_run.specs.declared.refusal.Refusal.TheVariants as refusal
+use Rattle.fux_run.specs.Searched.{IsNarrow, RefusesWidth}
+use Rattle.fux_run.specs.Sheets.{RefusesSheet, sheet_said}
+use Rattle.fux_run.specs.Texts.{RefusesText, Work}
+use Rattle.fux_run.specs.Works.{AllHave, AreContents, AreRead, ChecksText, Files, IsClassOf, IsReadyFor, IsReadyText, Makes, Works}
 use Rattle.fux_run.proofs.MakeLemmas.{have_bytes, works_on}
-use Rattle.fux_run.proofs.WorkLemmas.{not_missing}
+use Rattle.fux_run.proofs.WorkLemmas.{all_there, not_missing, only_bytes}
 
 -- a verdict doesn't depend on the shelf's faults
 pub judged : (ex : Exercise) (sheet : Sheet) (files : Files) (name : List ℕ) (rose : Type 0) (it : CertVerdict)
@@ -100,8 +108,14 @@ checked_is_there files certificate sheets text output (inl on) missing =
     ]
 checked_is_there files certificate sheets text output (inr none) missing = cc none.is
 
+class_is_there : (files : Files) (text name : List ℕ) (names : List (List ℕ)) (output : Output) → IsClassOf files text output
+    → names_listed (listed_names text) ≡ names → Contains names name → IsMissing files name → ⊥
+class_is_there files text name names output made listed one missing =
+    let same : made.names ≡ names = sym (ap names_listed made.listed) ∙ listed in
+    all_there files names made.texts name (rw same at made.had) one missing
+
 output_is_there : (task : Task) (files : Files) (name : List ℕ) (bytes : List (List ℕ)) (output : Output)
-    → Makes task files bytes (Ok output) → Contains (names_within task) name → IsMissing files name → ⊥
+    → Makes task files bytes (Ok output) → Contains (names_within task bytes) name → IsMissing files name → ⊥
 output_is_there (check ex certificate sheet) files name (text ∷ sheets) output made one missing =
     checked_is_there files certificate sheets text output made (rw (the_one certificate name one.0 one.1 one.2) missing)
 output_is_there (check ex certificate sheet) files name [] output made one missing = absurd made
@@ -109,26 +123,107 @@ output_is_there (on_exercise ex sheet job) files name bytes output made one miss
 output_is_there (certify ex sheet budget) files name bytes output made one missing = omega (arith, one.1)
 output_is_there (fromsmf file head) files name bytes output made one missing = omega (arith, one.1)
 output_is_there (drill number) files name bytes output made one missing = omega (arith, one.1)
+output_is_there (class_report list) files name (text ∷ []) output made one missing =
+    class_is_there files text name (names_listed (listed_names text)) output made refl one missing
+output_is_there (class_report list) files name [] output made one missing = absurd made
+output_is_there (class_report list) files name (text ∷ more ∷ bytes) output made one missing = absurd made
 
-pub written_is_there : (task : Task) (files : Files) (name : List ℕ) (old new : Option (List ℕ)) (verdict : Verdict)
-    → Works task files (IsWritten old new verdict) → Contains (names_within task) name → IsMissing files name → ⊥
-written_is_there task files name old new verdict on one missing =
-    output_is_there task files name on.bytes on.holds.output (subst (Makes task files on.bytes) on.holds.is on.made) one
-    missing
+pub written_is_there : (task : Task) (files : Files) (name : List ℕ) (bytes : List (List ℕ)) (old new : Option (List ℕ))
+    (verdict : Verdict)
+    → AllHave files (names_in task) bytes → Works task files (IsWritten old new verdict)
+    → Contains (names_within task bytes) name → IsMissing files name → ⊥
+written_is_there task files name bytes old new verdict have on one missing =
+    let same = only_bytes files (names_in task) bytes on.bytes have on.had in
+    output_is_there task files name bytes on.holds.output
+    (rw same at (subst (Makes task files on.bytes) on.holds.is on.made)) one missing
 
 short_is_there : (task : Task) (files : Files) (name : List ℕ) (old new : Option (List ℕ)) (bytes : List (List ℕ))
     (work : Work)
-    → Makes task files bytes work → StopsShort old new (work_output work) → Contains (names_within task) name
+    → Makes task files bytes work → StopsShort old new (work_output work) → Contains (names_within task bytes) name
     → IsMissing files name → ⊥
 short_is_there task files name old new bytes (Ok output) made short one missing =
     output_is_there task files name bytes output made one missing
 short_is_there task files name old new bytes (Err refusal) made short one missing = omega (arith, short.short)
 
-pub part_is_there : (task : Task) (files : Files) (name : List ℕ) (old new : Option (List ℕ))
-    → Works task files (λ work. StopsShort old new (work_output work)) → Contains (names_within task) name
-    → IsMissing files name → ⊥
-part_is_there task files name old new on one missing =
-    short_is_there task files name old new on.bytes on.work on.made on.holds one missing
+pub part_is_there : (task : Task) (files : Files) (name : List ℕ) (bytes : List (List ℕ)) (old new : Option (List ℕ))
+    → AllHave files (names_in task) bytes → Works task files (λ work. StopsShort old new (work_output work))
+    → Contains (names_within task bytes) name → IsMissing files name → ⊥
+part_is_there task files name bytes old new have on one missing =
+    let same = only_bytes files (names_in task) bytes on.bytes have on.had in
+    short_is_there task files name old new bytes on.work (rw same at on.made) on.holds one missing
+
+-- ---- files that are refused keep a command from reading on
+
+not_refused_width : (ex : Exercise) (refusal : Refusal) → RefusesWidth ex refusal → IsNarrow ex → ⊥
+not_refused_width ex (refusal.TooWide place count) wide narrow = omega (arith, narrow wide.column wide.within, wide.width, wide.wide)
+not_refused_width ex (refusal.Text kind line column) wide narrow = wide
+not_refused_width ex refusal.NoSetting wide narrow = wide
+not_refused_width ex (refusal.List line) wide narrow = wide
+not_refused_width ex refusal.LongCertificate wide narrow = wide
+not_refused_width ex (refusal.Sheet fault) wide narrow = wide
+not_refused_width ex (refusal.Midi fault) wide narrow = wide
+
+not_refused_text : (bytes : List ℕ) (ex : Exercise) (refusal : Refusal) → IsTextOf bytes ex → RefusesText bytes refusal → ⊥
+not_refused_text bytes ex (refusal.Text kind line column) is refused = texts-faultless bytes ex kind line column is refused
+not_refused_text bytes ex (refusal.TooWide place count) is refused = refused
+not_refused_text bytes ex refusal.NoSetting is refused = refused
+not_refused_text bytes ex (refusal.List line) is refused = refused
+not_refused_text bytes ex refusal.LongCertificate is refused = refused
+not_refused_text bytes ex (refusal.Sheet fault) is refused = refused
+not_refused_text bytes ex (refusal.Midi fault) is refused = refused
+
+not_refused_sheet : (sheets : List (List ℕ)) (sheet : Sheet) (refusal : Refusal) → sheet_said sheets ≡ Ok sheet
+    → RefusesSheet sheets refusal → ⊥
+not_refused_sheet sheets sheet (refusal.Sheet fault) said refused = cc (said, refused)
+not_refused_sheet sheets sheet (refusal.Text kind line column) said refused = refused
+not_refused_sheet sheets sheet (refusal.TooWide place count) said refused = refused
+not_refused_sheet sheets sheet refusal.NoSetting said refused = refused
+not_refused_sheet sheets sheet (refusal.List line) said refused = refused
+not_refused_sheet sheets sheet refusal.LongCertificate said refused = refused
+not_refused_sheet sheets sheet (refusal.Midi fault) said refused = refused
+
+not_refused_list : (text : List ℕ) (names : List (List ℕ)) (refusal : Refusal) → listed_names text ≡ Ok names
+    → RefusesList text refusal → ⊥
+not_refused_list text names (refusal.List line) listed refused = cc (listed, refused)
+not_refused_list text names (refusal.Text kind line column) listed refused = refused
+not_refused_list text names (refusal.TooWide place count) listed refused = refused
+not_refused_list text names refusal.NoSetting listed refused = refused
+not_refused_list text names refusal.LongCertificate listed refused = refused
+not_refused_list text names (refusal.Sheet fault) listed refused = refused
+not_refused_list text names (refusal.Midi fault) listed refused = refused
+
+check_not_refused : (files : Files) (certificate : List ℕ) (sheets : List (List ℕ)) (text : List ℕ) (refusal : Refusal)
+    → ChecksText files certificate sheets text (Err refusal) → IsReadyText sheets text → ⊥
+check_not_refused files certificate sheets text refusal (inl on) ready =
+    elim on.made [
+      | inl over ↦
+          let same = ready.is.only on.exercise on.text.text in
+          not_refused_width on.exercise refusal over.made (rw same at ready.narrow)
+      | inr none ↦ not_refused_sheet sheets ready.sheet none.refusal ready.said none.cause
+    ]
+check_not_refused files certificate sheets text refusal (inr none) ready =
+    not_refused_text text ready.exercise none.refusal ready.is.text none.cause
+
+not_refused : (task : Task) (files : Files) (bytes : List (List ℕ)) (refusal : Refusal)
+    → Makes task files bytes (Err refusal) → IsReadyFor task bytes → ⊥
+not_refused (check ex certificate sheet) files (text ∷ sheets) refusal made ready =
+    check_not_refused files certificate sheets text refusal made ready
+not_refused (check ex certificate sheet) files [] refusal made ready = ready
+not_refused (class_report list) files (text ∷ []) refusal made ready =
+    not_refused_list text ready.names refusal ready.listed made
+not_refused (class_report list) files [] refusal made ready = ready
+not_refused (class_report list) files (text ∷ more ∷ bytes) refusal made ready = ready
+not_refused (on_exercise ex sheet job) files bytes refusal made ready = ready
+not_refused (certify ex sheet budget) files bytes refusal made ready = ready
+not_refused (fromsmf file head) files bytes refusal made ready = ready
+not_refused (drill number) files bytes refusal made ready = ready
+
+pub refused_unready : (task : Task) (files : Files) (bytes : List (List ℕ)) (text : List ℕ)
+    → AllHave files (names_in task) bytes → Works task files (IsRefused (name_in task) text) → IsReadyFor task bytes → ⊥
+refused_unready task files bytes text have on ready =
+    let same = only_bytes files (names_in task) bytes on.bytes have on.had in
+    not_refused task files bytes on.holds.refusal
+    (rw same at (subst (Makes task files on.bytes) on.holds.is on.made)) ready
 
 -- ---- what is made of the files
 
@@ -183,11 +278,13 @@ module _ (name certificate : List ℕ) (sheet : Option (List ℕ)) (files : File
       let known = have_bytes 65536 files (names_in task) contents read in
       let unread = made known.bytes known.content in
       inr record {
+        bytes = known.bytes;
+        had = known.had;
+        ready = unread.0;
         unread = record {
           asked = (0, omega arith, sym says);
           cause = elim unread.1 [ inl failed ↦ inl failed | inr missing ↦ inr (inl (sym says, missing)) ];
         };
-        reads_on = record { bytes = known.bytes; had = known.had; ready = unread.0 };
       }
   checked_said contents (Err unmade.Unreadable) (Err Usage) read made says = absurd says
   checked_said contents (Err unmade.Unreadable) (Err (Refused text)) read made says = absurd says

@@ -2,7 +2,7 @@
 use Rattle.std.proofs.Common.{◌≡◌, ℕ, ◌+◌, ◌<◌, List, Option, Some, None, length, replicate, refl, inl, inr, arith}
 use Rattle.std.proofs.lemmas.List.{length-replicate}
 use Rattle.fux_port.specs.Files.{file_of, HasFile, IsMissing}
-use Rattle.fux_run.specs.declared.content.Content.TheVariants.{TooLong}
+use Rattle.class_marker.specs.declared.one.Text.TheVariants.{TooLong}
 use Rattle.fux_run.specs.Works.{Files, IsRead, MayHave}
 
 long_file : (limit : ℕ) (files : Files) (name : List ℕ) (told : Option (Option (List ℕ)))

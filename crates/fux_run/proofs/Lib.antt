@@ -2,6 +2,7 @@ pub mod AskedLemmas
 pub mod BestLemmas
 pub mod CertifyLemmas
 pub mod CheckLemmas
+pub mod ClassLemmas
 pub mod ContentLemmas
 pub mod FormLemmas
 pub mod FrontLemmas

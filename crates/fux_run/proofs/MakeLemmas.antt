@@ -1,11 +1,14 @@
 -- What a command makes, from what was read of its files and what it answers to that (`made_said`), and where the file of its sheet
 -- can't be read (`sheet_unread`).
-use Rattle.std.proofs.Common.{◌≡◌, ◌⊎◌, ℕ, List, [], ◌∷◌, Bor, Option, Some, None, Result, Ok, Err, inl, inr, refl, sym, subst, arith}
+use Rattle.std.proofs.Common.{◌≡◌, ◌⊎◌, ℕ, List, [], ◌∷◌, Option, Some, None, Result, Ok, Err, inl, inr, refl, sym, subst, arith}
 use Rattle.fux_port.specs.Files.{IsMissing}
+use Rattle.class_marker.specs.Markings.{IsContent}
 use Rattle.fux_grid.specs.declared.exercise.Head.{Head}
 use Rattle.fux_run.specs.declared.complaint.Complaint.{Complaint}
+use Rattle.fux_run.specs.declared.complaint.FileName.{FileName}
+use Rattle.fux_run.specs.Complaints.{name_text}
 use Rattle.fux_run.specs.declared.complaint.Complaint.TheVariants.{Usage, Refused, Unreadable, Unwritable, OutOfMemory}
-use Rattle.fux_run.specs.declared.content.Content.{Content}
+use Rattle.class_marker.specs.declared.one.Text.{Text as Content}
 use Rattle.fux_run.specs.declared.command.Job.{Job}
 use Rattle.fux_run.specs.declared.work.Output.{Output}
 use Rattle.fux_run.specs.declared.work.Stop.{Stop}
@@ -15,7 +18,7 @@ use Rattle.fux_run.specs.Drilled.{Drills}
 use Rattle.fux_run.specs.Played.{ReadsMidi}
 use Rattle.fux_run.specs.Runs.{IsMade, IsRefused, IsUnread, Says}
 use Rattle.fux_run.specs.Texts.{Work}
-use Rattle.fux_run.specs.Works.{AllMayHave, Answers, AreContents, AreRead, Files, IsContent, IsRead, Makes, MakesOfText, ReadsSheetFile, Works}
+use Rattle.fux_run.specs.Works.{AllMayHave, Answers, AreContents, AreRead, Files, IsRead, Makes, MakesOfText, ReadsSheetFile, Works}
 use Rattle.fux_run.proofs.WorkLemmas.{not_missing}
 
 -- the bytes of files that were read
@@ -108,7 +111,7 @@ second_missing files first second file rose is here cause = record {
 pub sheet_unread : (first : List ℕ) (sheet : Option (List ℕ)) (files later_files : Files) (rose later : Type 0)
     (limit : ℕ)
     (text : Content) (complaint : Complaint) (Tells : Complaint → Type 0)
-    → ((file : Bor (List ℕ)) → IsUnread files rose (first ∷ as_list sheet) file.now → Tells (Unreadable file))
+    → ((file : FileName) → IsUnread files rose (first ∷ as_list sheet) (name_text file) → Tells (Unreadable file))
     → Tells OutOfMemory
     → IsRead limit files first text → later_files ≡ files → (later → rose)
     → ReadsSheetFile later_files later sheet (Err complaint) → Tells complaint
@@ -116,7 +119,7 @@ sheet_unread first None files later_files rose later limit text complaint Tells 
     absurd known
 sheet_unread first (Some second) files later_files rose later limit text (Unreadable file) Tells unread memory read same
     so known =
-    unread file (second_missing files first second file.now rose known.0 (not_missing files first read.bytes read.had)
+    unread file (second_missing files first second (name_text file) rose known.0 (not_missing files first read.bytes read.had)
     (elim known.1 [ inl failed ↦ inl (so failed) | inr missing ↦ inr (rw same at missing) ]))
 sheet_unread first (Some second) files later_files rose later limit text OutOfMemory Tells unread memory read same so
     known = memory

@@ -8,15 +8,15 @@ use Rattle.fux_run.specs.declared.complaint.Complaint.TheVariants.{Usage, Refuse
 use Rattle.fux_run.specs.declared.work.Verdict.{Verdict}
 use Rattle.fux_run.specs.declared.work.Verdict.TheVariants.{Favorable, Unfavorable, Spent}
 use Rattle.fux_run.specs.Commands.{Task, name_in, names_in, names_within}
-use Rattle.fux_run.specs.Complaints.{complaint_status, fux_line}
+use Rattle.fux_run.specs.Complaints.{complaint_status, fux_line, name_text}
 use Rattle.fux_run.specs.declared.status.Status.{Status}
 use Rattle.fux_run.specs.declared.status.Status.TheVariants as status
 use Rattle.fux_run.specs.Runs.{Ended, EndedAs, EndsAs, EndsUnread, IsDone, IsStopped, IsUnread, IsWritten, IsRefused, work_output, result_status, result_line}
 use Rattle.fux_run.specs.Statuses.{code_of, verdict_status}
-use Rattle.fux_run.specs.Works.{Files, Works}
-use Rattle.fux_run.proofs.CheckLemmas.{part_is_there, written_is_there}
+use Rattle.fux_run.specs.Works.{AllHave, Files, IsReadyFor, Works}
+use Rattle.fux_run.proofs.CheckLemmas.{part_is_there, refused_unready, written_is_there}
 use Rattle.fux_run.proofs.SinkLemmas.{appended-none}
-use Rattle.fux_run.proofs.WorkLemmas.{works_so, none_missing, first_is_missing}
+use Rattle.fux_run.proofs.WorkLemmas.{all_are_there, first_is_missing, none_missing, only_bytes, works_so}
 
 -- the status of an output is one of a run that wrote it
 verdict_is_done : (verdict : Verdict) → IsDone (code_of (verdict_status verdict))
@@ -75,7 +75,7 @@ module _ (task : Task) (files : Files) (rose cut : Type 0) (old new : Option (Li
       → EndsUnread task files rose Complains
   ran_unreadable (Ok verdict) ran four =
       absurd (done_not_stopped 4 (rw four at (done verdict ran)) (inr (inr (inl refl))))
-  ran_unreadable (Err (Unreadable name)) ran four = record { name = name.now; unread = ran.ended.1; told = ran.told }
+  ran_unreadable (Err (Unreadable name)) ran four = record { name = name_text name; unread = ran.ended.1; told = ran.told }
   ran_unreadable (Err (Refused text)) ran four = cc (ran.status, four)
   ran_unreadable (Err Unwritable) ran four = cc (ran.status, four)
   ran_unreadable (Err OutOfMemory) ran four = cc (ran.status, four)
@@ -94,15 +94,18 @@ module _ (task : Task) (files : Files) (rose cut : Type 0) (old new : Option (Li
   ran_missing (Err Usage) ran name one missing room = absurd ran.ended
 
   pub ran_missing_within : (result : Result Verdict Complaint) → Ran task files rose cut old new result code Complains
-      → (name : List ℕ) → Contains (names_within task) name → IsMissing files name → code ≢ 7 → (code ≡ 4) ⊎ (code ≡ 3)
-  ran_missing_within (Ok verdict) ran name one missing room =
-      absurd (written_is_there task files name old new verdict ran.ended one missing)
-  ran_missing_within (Err (Refused text)) ran name one missing room = inr ran.status
-  ran_missing_within (Err Unwritable) ran name one missing room =
-      absurd (part_is_there task files name old new ran.ended.1 one missing)
-  ran_missing_within (Err (Unreadable file)) ran name one missing room = inl ran.status
-  ran_missing_within (Err OutOfMemory) ran name one missing room = absurd (room ran.status)
-  ran_missing_within (Err Usage) ran name one missing room = absurd ran.ended
+      → (bytes : List (List ℕ)) → AllHave files (names_in task) bytes
+      → (name : List ℕ) → Contains (names_within task bytes) name → IsMissing files name → code ≢ 7
+      → (code ≡ 4) ⊎ ((code ≡ 3) × (IsReadyFor task bytes → ⊥))
+  ran_missing_within (Ok verdict) ran bytes have name one missing room =
+      absurd (written_is_there task files name bytes old new verdict have ran.ended one missing)
+  ran_missing_within (Err (Refused text)) ran bytes have name one missing room =
+      inr (ran.status, λ ready. refused_unready task files bytes text have ran.ended.1 ready)
+  ran_missing_within (Err Unwritable) ran bytes have name one missing room =
+      absurd (part_is_there task files name bytes old new have ran.ended.1 one missing)
+  ran_missing_within (Err (Unreadable file)) ran bytes have name one missing room = inl ran.status
+  ran_missing_within (Err OutOfMemory) ran bytes have name one missing room = absurd (room ran.status)
+  ran_missing_within (Err Usage) ran bytes have name one missing room = absurd ran.ended
 
   pub ran_of_form : (result : Result Verdict Complaint) → Ran task files rose cut old new result code Complains
       → code ≢ 2
@@ -147,18 +150,21 @@ module _ (task : Task) (files : Files) (rose cut : Type 0) (old new : Option (Li
       ]
 
   pub ran_complete : (result : Result Verdict Complaint) → Ran task files rose cut old new result code Complains
-      → All (λ name. (file : List ℕ) × HasFile files name file) (names_in task)
-      → All (λ name. (file : List ℕ) × HasFile files name file) (names_within task) → (rose → ⊥) → (cut → ⊥)
+      → (bytes : List (List ℕ)) → AllHave files (names_in task) bytes
+      → All (λ name. (file : List ℕ) × HasFile files name file) (names_within task bytes) → (rose → ⊥) → (cut → ⊥)
       → IsDone code ⊎ ((code ≡ 3) ⊎ (code ≡ 7))
-  ran_complete (Ok verdict) ran there within reads writes = inl (done verdict ran)
-  ran_complete (Err (Refused text)) ran there within reads writes = inr (inl ran.status)
-  ran_complete (Err Unwritable) ran there within reads writes = absurd (writes ran.ended.0)
-  ran_complete (Err OutOfMemory) ran there within reads writes = inr (inr ran.status)
-  ran_complete (Err Usage) ran there within reads writes = absurd ran.ended
-  ran_complete (Err (Unreadable name)) ran there within reads writes =
+  ran_complete (Ok verdict) ran bytes have within reads writes = inl (done verdict ran)
+  ran_complete (Err (Refused text)) ran bytes have within reads writes = inr (inl ran.status)
+  ran_complete (Err Unwritable) ran bytes have within reads writes = absurd (writes ran.ended.0)
+  ran_complete (Err OutOfMemory) ran bytes have within reads writes = inr (inr ran.status)
+  ran_complete (Err Usage) ran bytes have within reads writes = absurd ran.ended
+  ran_complete (Err (Unreadable name)) ran bytes have within reads writes =
       elim ran.ended.1 [
-        | inl before ↦ absurd (unread_rose (names_in task) name.now there reads before)
-        | inr later ↦ absurd (unread_rose (names_within task) name.now within reads later.unread)
+        | inl before ↦
+            absurd (unread_rose (names_in task) (name_text name) (all_are_there files (names_in task) bytes have) reads before)
+        | inr later ↦
+            let same = only_bytes files (names_in task) bytes later.bytes have later.had in
+            absurd (unread_rose (names_within task bytes) (name_text name) within reads (rw same at later.unread))
       ]
 
   pub ran_unwritten : (result : Result Verdict Complaint) → Ran task files rose cut old new result code Complains

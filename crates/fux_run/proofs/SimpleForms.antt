@@ -2,7 +2,7 @@
 use Rattle.std.proofs.Common.{◌≡◌, true, refl}
 use Rattle.clap.specs.Words.{Text, is_simple_and_free}
 use Rattle.clap.proofs.OnLiterals.{clap_on_literals}
-use Rattle.fux_run.specs.Commands.{check_words, drill_words, exercise_words, fromsmf_words, search_words}
+use Rattle.fux_run.specs.Commands.{check_words, class_words, drill_words, exercise_words, fromsmf_words, search_words}
 
 pub search_is_simple : (name : Text) → is_simple_and_free (search_words name) ≡ true
 unfolding clap_on_literals
@@ -23,3 +23,7 @@ check_is_simple = refl
 pub drill_is_simple : is_simple_and_free drill_words ≡ true
 unfolding clap_on_literals
 drill_is_simple = refl
+
+pub class_is_simple : is_simple_and_free class_words ≡ true
+unfolding clap_on_literals
+class_is_simple = refl

@@ -1,11 +1,12 @@
 -- What the words on the command line ask for. A word is its bytes.
-use Rattle.std.specs.Prelude.{ℕ, ◌==◌, Bool, true, false, List, [], ◌∷◌, String, Option, Some, None, map, string_bytes, codes, if◌then◌else◌, option_and_then, option_map}
+use Rattle.std.specs.Prelude.{ℕ, ◌==◌, Bool, true, false, List, [], ◌∷◌, String, Option, Some, None, Result, Ok, Err, map, string_bytes, codes, if◌then◌else◌, option_and_then, option_map}
 use Rattle.std.specs.Borrow.{Bor}
 use Rattle.std.specs.Option.{option_map_or}
 use Rattle.std.specs.Str.{bytes_eq}
 use Rattle.clap.specs.Simple.{on_top}
 use Rattle.clap.specs.Words.{App, Kinds, Row, Rule, Text, fault_of, first_of, matches_of, new_app, new_rule, with_rule}
 use Rattle.clap.specs.declared.builder.action.ArgAction.TheVariants.{SetTrue}
+use Rattle.class_marker.specs.Lists.{listed_names}
 use Rattle.fux_grid.specs.declared.exercise.Head.{Head}
 use Rattle.fux_text.specs.Names.{mode_named}
 use Rattle.smf_score.specs.Heads.{IsHead}
@@ -15,7 +16,7 @@ use Rattle.fux_run.specs.declared.command.Command.TheVariants.{Certify, Make}
 use Rattle.fux_run.specs.declared.command.Job.{Job}
 use Rattle.fux_run.specs.declared.command.Job.TheVariants.{Compose, Mark, Cantus, Print, ToSmf}
 use Rattle.fux_run.specs.declared.command.Making.{Making}
-use Rattle.fux_run.specs.declared.command.Making.TheVariants.{OnExercise, Check, FromSmf, Drill}
+use Rattle.fux_run.specs.declared.command.Making.TheVariants.{OnExercise, Check, FromSmf, Drill, Class}
 
 -- words as their bytes
 abbrev pub texts : {Y : Type 0} → List (String Y) → List Text
@@ -28,6 +29,7 @@ pub data Task : Type 0 where
   check : (name certificate : Text) (sheet : Option Text) → Task
   fromsmf : (name : Text) (head : Head) → Task
   drill : (number : ℕ) → Task
+  class_report : (list : Text) → Task
 
 -- the name of a sheet, as its bytes
 abbrev pub sheet_named : Option (Bor (List ℕ)) → Option (List ℕ)
@@ -39,6 +41,7 @@ making_task (OnExercise name sheet job) = on_exercise name.now (sheet_named shee
 making_task (Check name certificate sheet) = check name.now certificate.now (sheet_named sheet)
 making_task (FromSmf name head) = fromsmf name.now head
 making_task (Drill number) = drill number
+making_task (Class list) = class_report list.now
 
 abbrev pub task_of : Command → Task
 task_of (Make making) = making_task making
@@ -88,6 +91,9 @@ check_words =
 
 abbrev pub drill_words : App
 drill_words = one_word (codes "drill") (codes "N")
+
+abbrev pub class_words : App
+class_words = one_word (codes "class") (codes "LIST")
 
 -- what says how a file is to be read, each of which must be there
 abbrev pub head_words : App → App
@@ -178,6 +184,9 @@ fromsmf_asked rows = do
 abbrev pub drill_asked : List Row → Option Task
 drill_asked rows = number_at (codes "N") 0 1000000 rows >>= λ number. Some (drill number)
 
+abbrev pub class_asked : List Row → Option Task
+class_asked rows = first_of (codes "LIST") rows >>= λ list. Some (class_report list)
+
 -- ---- the commands by their first words
 
 -- what the values in words of a form ask for
@@ -205,7 +214,8 @@ asked (word ∷ rest) =
     else (if bytes_eq word (codes "tosmf") then job_in (codes "tosmf") ToSmf rest
     else (if bytes_eq word (codes "fromsmf") then asked_by fromsmf_words fromsmf_asked rest
     else (if bytes_eq word (codes "drill") then asked_by drill_words drill_asked rest
-    else None))))))))
+    else (if bytes_eq word (codes "class") then asked_by class_words class_asked rest
+    else None)))))))))
 
 -- ---- the files
 
@@ -216,6 +226,7 @@ name_in (certify name sheet budget) = name
 name_in (check name certificate sheet) = name
 name_in (fromsmf name head) = name
 name_in (drill number) = []
+name_in (class_report list) = list
 
 -- what there is, as a list
 abbrev pub as_list : {X : Type 0} → Option X → List X
@@ -229,11 +240,19 @@ names_in (certify name sheet budget) = name ∷ as_list sheet
 names_in (check name certificate sheet) = name ∷ as_list sheet
 names_in (fromsmf name head) = name ∷ []
 names_in (drill number) = []
+names_in (class_report list) = list ∷ []
 
--- the names of the files that a command reads while it works
-abbrev pub names_within : Task → List Text
-names_within (check name certificate sheet) = certificate ∷ []
-names_within _ = []
+-- the names that a list has, where no line is at fault
+abbrev pub names_listed : Result (List Text) ℕ → List Text
+names_listed (Ok names) = names
+names_listed (Err line) = []
+
+-- the names of the files that a command reads while it works, in the order of reading, where the files before its work have
+-- these bytes
+abbrev pub names_within : Task → List Text → List Text
+names_within (check name certificate sheet) bytes = certificate ∷ []
+names_within (class_report list) (text ∷ []) = names_listed (listed_names text)
+names_within _ _ = []
 
 -- how many bytes of each file before its work are read at most
 abbrev pub limit_in : Task → ℕ
@@ -242,3 +261,4 @@ limit_in (certify name sheet budget) = 65536
 limit_in (check name certificate sheet) = 65536
 limit_in (fromsmf name head) = 1048576
 limit_in (drill number) = 65536
+limit_in (class_report list) = 65536

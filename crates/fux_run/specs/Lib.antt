@@ -1,9 +1,11 @@
 pub mod Certified
 pub mod Checked
+pub mod Classes
 pub mod Commands
 pub mod Complaints
 pub mod Composed
 pub mod Drilled
+pub mod Listed
 pub mod Marked
 pub mod Played
 pub mod Rendered

@@ -5,7 +5,7 @@ use Rattle.fux_port.specs.Counts.{Rose}
 use Rattle.fux_port.specs.Written.{appended, StopsShort}
 use Rattle.fux_run.specs.declared.complaint.Complaint.{Complaint}
 use Rattle.fux_run.specs.declared.complaint.Complaint.TheVariants as complaint
-use Rattle.fux_run.specs.declared.content.Content.{Content}
+use Rattle.class_marker.specs.declared.one.Text.{Text as Content}
 use Rattle.fux_run.specs.declared.status.Status.{Status}
 use Rattle.fux_run.specs.declared.status.Status.TheVariants.{Favorable, Unfavorable, Usage, Refused, Unreadable, Unwritable, Spent, OutOfMemory}
 use Rattle.fux_run.specs.declared.refusal.Refusal.{Refusal}
@@ -19,10 +19,10 @@ use Rattle.fux_run.specs.declared.work.Unmade.{Unmade}
 use Rattle.fux_run.specs.declared.work.Unmade.TheVariants as unmade
 use Rattle.fux_run.specs.declared.work.Verdict.{Verdict}
 use Rattle.fux_run.specs.Commands.{Task, asked, certify, name_in, names_in, names_within, sheet_named, texts}
-use Rattle.fux_run.specs.Complaints.{complaint_status, complaint_text, fux_line, refusal_text}
+use Rattle.fux_run.specs.Complaints.{complaint_status, complaint_text, fux_line, name_text, refusal_text}
 use Rattle.fux_run.specs.Statuses.{code_of, verdict_status}
 use Rattle.fux_run.specs.Texts.{Work}
-use Rattle.fux_run.specs.Works.{CertifiesText, Works, Files, IsFirstMissing, OnTexts, ReadsOn}
+use Rattle.fux_run.specs.Works.{AllMayHave, CertifiesText, Works, Files, IsFirstMissing, IsReadyFor, OnTexts}
 
 -- the status of work
 abbrev pub work_status : Work → Status
@@ -52,10 +52,12 @@ pub record IsUnread (files : Files) (rose : Type 0) (names : List (List ℕ)) (n
   pub asked : Contains names name
   pub cause : rose ⊎ IsFirstMissing files names name
 
--- a file that a command reads within its work cannot be read
+-- a file that a command reads within its work cannot be read: the files before it can be, and none of them keeps it from that
 pub record IsUnreadWithin (task : Task) (files : Files) (rose : Type 0) (name : List ℕ) : Type 0 where
-  pub unread : IsUnread files rose (names_within task) name
-  pub reads_on : ReadsOn task files
+  pub bytes : List (List ℕ)
+  pub had : AllMayHave files (names_in task) bytes
+  pub ready : IsReadyFor task bytes
+  pub unread : IsUnread files rose (names_within task bytes) name
 
 -- a file of a command cannot be read, before its work or within it
 abbrev pub IsUnreadOf : Task → Files → Type 0 → List ℕ → Type 0
@@ -93,7 +95,7 @@ pub record IsRefused (name text : List ℕ) (work : Work) : Type 0 where
 abbrev pub IsMade : Task → Files → Type 0 → Result Output Complaint → Type 0
 IsMade task files rose (Ok output) = Works task files (λ work. work ≡ Ok output)
 IsMade task files rose (Err (complaint.Refused text)) = Works task files (IsRefused (name_in task) text)
-IsMade task files rose (Err (complaint.Unreadable name)) = IsUnreadOf task files rose name.now
+IsMade task files rose (Err (complaint.Unreadable name)) = IsUnreadOf task files rose (name_text name)
 IsMade task files rose (Err complaint.OutOfMemory) = Unit {0}
 IsMade task files rose (Err _) = ⊥
 
@@ -116,7 +118,8 @@ abbrev pub Ended : Task → Files → Type 0 → Type 0 → Option (List ℕ) �
 Ended task files rose cut old new (Ok verdict) = Works task files (IsWritten old new verdict)
 Ended task files rose cut old new (Err (complaint.Refused text)) =
     (new ≡ old) × Works task files (IsRefused (name_in task) text)
-Ended task files rose cut old new (Err (complaint.Unreadable name)) = (new ≡ old) × IsUnreadOf task files rose name.now
+Ended task files rose cut old new (Err (complaint.Unreadable name)) =
+    (new ≡ old) × IsUnreadOf task files rose (name_text name)
 Ended task files rose cut old new (Err complaint.Unwritable) =
     cut × Works task files (λ work. StopsShort old new (work_output work))
 Ended task files rose cut old new (Err complaint.OutOfMemory) = new ≡ old
@@ -156,7 +159,7 @@ Says name (Err stop.Memory) told = told ≡ Err complaint.OutOfMemory
 abbrev pub SaysWithin : List ℕ → List ℕ → Result Output Unmade → Result Output Complaint → Type 0
 SaysWithin name within (Ok output) told = told ≡ Ok output
 SaysWithin name within (Err (unmade.Stopped stop)) told = Says name (Err stop) told
-SaysWithin name within (Err unmade.Unreadable) (Err (complaint.Unreadable file)) = file.now ≡ within
+SaysWithin name within (Err unmade.Unreadable) (Err (complaint.Unreadable file)) = name_text file ≡ within
 SaysWithin name within (Err unmade.Unreadable) _ = ⊥
 
 -- the status that a run ends with

@@ -1,7 +1,8 @@
 -- The text of an exercise, and work on it.
 use Rattle.std.specs.Prelude.{◌≡◌, ℕ, ◌⊎◌, List, Result, Ok, Err}
 use Rattle.fux_grid.specs.declared.exercise.Exercise.{Exercise}
-use Rattle.fux_text.specs.Texts.{HasFault, IsTextOf}
+use Rattle.fux_text.specs.Texts.{HasFault}
+use Rattle.class_marker.specs.Markings.{IsTheText}
 use Rattle.fux_run.specs.declared.refusal.Refusal.{Refusal}
 use Rattle.fux_run.specs.declared.refusal.Refusal.TheVariants as refusal
 use Rattle.fux_run.specs.declared.work.Output.{Output}
@@ -11,11 +12,6 @@ use Rattle.fux_run.specs.declared.work.Stop.TheVariants.{Refused, Memory}
 -- what a command makes: an output, or a refusal
 abbrev pub Work : Type 0
 Work = Result Output Refusal
-
--- these bytes are the text of an exercise, and of no other
-pub record IsTheText (bytes : List ℕ) (ex : Exercise) : Type 0 where
-  pub text : IsTextOf bytes ex
-  pub only : (other : Exercise) → IsTextOf bytes other → ex ≡ other
 
 -- a refusal of bytes that are the text of no exercise: it tells their first fault
 abbrev pub RefusesText : List ℕ → Refusal → Type 0

@@ -1,11 +1,13 @@
 -- What the commands make of their files.
 use Rattle.std.specs.Prelude.{◌≡◌, ℕ, ◌<◌, ◌⊎◌, List, [], ◌∷◌, All, Option, Some, None, Result, Ok, Err, length}
+use Rattle.class_marker.specs.Lists.{listed_names}
+use Rattle.class_marker.specs.Markings.{IsContent, IsTheText}
 use Rattle.fux_grid.specs.declared.exercise.Exercise.{Exercise}
 use Rattle.fux_port.specs.Files.{file_of, HasFile, IsMissing}
 use Rattle.fux_run.specs.declared.complaint.Complaint.{Complaint}
 use Rattle.fux_run.specs.declared.complaint.Complaint.TheVariants as complaint
-use Rattle.fux_run.specs.declared.content.Content.{Content}
-use Rattle.fux_run.specs.declared.content.Content.TheVariants.{Whole, TooLong}
+use Rattle.class_marker.specs.declared.one.Text.{Text as Content}
+use Rattle.class_marker.specs.declared.one.Text.TheVariants.{Bytes, TooLong}
 use Rattle.fux_run.specs.declared.work.Output.{Output}
 use Rattle.fux_run.specs.declared.work.Unmade.{Unmade}
 use Rattle.fux_run.specs.declared.work.Stop.{Stop}
@@ -15,7 +17,9 @@ use Rattle.fux_run.specs.declared.command.Job.TheVariants.{Compose, Mark, Cantus
 use Rattle.penalty_sheet.specs.declared.sheet.Sheet.{Sheet}
 use Rattle.fux_run.specs.Certified.{Certifies}
 use Rattle.fux_run.specs.Checked.{AnswersWithin, Checks, IsUnreadable}
-use Rattle.fux_run.specs.Commands.{Task, on_exercise, certify, check, fromsmf, drill, as_list, names_in}
+use Rattle.fux_run.specs.Classes.{IsClass, IsList, RefusesList}
+use Rattle.fux_run.specs.Commands.{Task, on_exercise, certify, check, fromsmf, drill, class_report, as_list, names_in}
+use Rattle.fux_run.specs.Complaints.{name_text}
 use Rattle.fux_run.specs.Composed.{Composes}
 use Rattle.fux_run.specs.Drilled.{Drills}
 use Rattle.fux_run.specs.Marked.{Marks, CantusMarks}
@@ -23,7 +27,7 @@ use Rattle.fux_run.specs.Played.{ReadsMidi}
 use Rattle.fux_run.specs.Rendered.{Prints, WritesSmf}
 use Rattle.fux_run.specs.Searched.{IsNarrow}
 use Rattle.fux_run.specs.Sheets.{OnSheet, sheet_said}
-use Rattle.fux_run.specs.Texts.{IsTheText, Work, OnText}
+use Rattle.fux_run.specs.Texts.{Work, OnText}
 
 -- a job makes this of an exercise, over the sheet in use
 abbrev pub MakesOf : Job → Sheet → Exercise → Work → Type 0
@@ -45,10 +49,39 @@ CertifiesText budget sheets text = OnText (λ ex. OnSheet (λ sheet. Certifies b
 abbrev pub Files : Type 0
 Files = Option (List ℕ → Option (List ℕ))
 
+-- the file of a name has these bytes, where the shelf tells its files
+abbrev pub MayHave : Files → List ℕ → List ℕ → Type 0
+MayHave files name bytes = (file_of files name ≡ None) ⊎ HasFile files name bytes
+
+-- so have the files of these names, one after the other
+abbrev pub AllMayHave : Files → List (List ℕ) → List (List ℕ) → Type 0
+AllMayHave files [] [] = Unit {0}
+AllMayHave files (name ∷ names) (bytes ∷ more) = MayHave files name bytes × AllMayHave files names more
+AllMayHave files _ _ = ⊥
+
+-- the files of these names have these bytes, one after the other
+abbrev pub AllHave : Files → List (List ℕ) → List (List ℕ) → Type 0
+AllHave files [] [] = Unit {0}
+AllHave files (name ∷ names) (bytes ∷ more) = HasFile files name bytes × AllHave files names more
+AllHave files _ _ = ⊥
+
 -- `check` makes this of the text of an exercise, and of the file of a sheet where one is given, with the certificate in another file
 abbrev pub ChecksText : Files → List ℕ → List (List ℕ) → List ℕ → Work → Type 0
 ChecksText files certificate sheets text =
     OnText (λ ex. OnSheet (λ sheet. Checks files certificate sheet ex) sheets) text
+
+-- an output is the report of the exercises in the files that a list names
+pub record IsClassOf (files : Files) (list : List ℕ) (output : Output) : Type 0 where
+  pub names : List (List ℕ)
+  pub listed : listed_names list ≡ Ok names
+  pub texts : List (List ℕ)
+  pub had : AllMayHave files names texts
+  pub reported : IsClass names texts output
+
+-- `class` makes this of a list
+abbrev pub ReportsClass : Files → List ℕ → Work → Type 0
+ReportsClass files list (Ok output) = IsClassOf files list output
+ReportsClass files list (Err refusal) = RefusesList list refusal
 
 -- a command makes this of files with these bytes, in the order of reading
 abbrev pub Makes : Task → Files → List (List ℕ) → Work → Type 0
@@ -57,6 +90,7 @@ Makes (certify name sheet budget) files (text ∷ sheets) work = CertifiesText b
 Makes (check name certificate sheet) files (text ∷ sheets) work = ChecksText files certificate sheets text work
 Makes (fromsmf name head) files (file ∷ []) work = ReadsMidi head file work
 Makes (drill number) files [] work = Drills number work
+Makes (class_report list) files (text ∷ []) work = ReportsClass files text work
 Makes _ _ _ work = ⊥
 
 -- the text is that of an exercise none of whose menus is too wide, and the file of the sheet is one where it is given
@@ -70,6 +104,7 @@ pub record IsReadyText (sheets : List (List ℕ)) (text : List ℕ) : Type 0 whe
 -- nothing in the files with these bytes keeps a command from reading on within its work
 abbrev pub IsReadyFor : Task → List (List ℕ) → Type 0
 IsReadyFor (check name certificate sheet) (text ∷ sheets) = IsReadyText sheets text
+IsReadyFor (class_report list) (text ∷ []) = IsList text
 IsReadyFor _ _ = ⊥
 
 -- an answer is of such work, or memory is wanting
@@ -78,16 +113,6 @@ Answers Made (Ok output) = Made (Ok output)
 Answers Made (Err (Refused refusal)) = Made (Err refusal)
 Answers Made (Err Memory) = Unit {0}
 
--- the file of a name has these bytes, where the shelf tells its files
-abbrev pub MayHave : Files → List ℕ → List ℕ → Type 0
-MayHave files name bytes = (file_of files name ≡ None) ⊎ HasFile files name bytes
-
--- so have the files of these names, one after the other
-abbrev pub AllMayHave : Files → List (List ℕ) → List (List ℕ) → Type 0
-AllMayHave files [] [] = Unit {0}
-AllMayHave files (name ∷ names) (bytes ∷ more) = MayHave files name bytes × AllMayHave files names more
-AllMayHave files _ _ = ⊥
-
 -- the work of a command on its files, of which a fact holds
 pub record Works (task : Task) (files : Files) (Holds : Work → Type 0) : Type 0 where
   pub bytes : List (List ℕ)
@@ -95,12 +120,6 @@ pub record Works (task : Task) (files : Files) (Holds : Work → Type 0) : Type 
   pub work : Work
   pub made : Makes task files bytes work
   pub holds : Holds work
-
--- a command reads on within its work: the files before it can be read, and none of them keeps it from that
-pub record ReadsOn (task : Task) (files : Files) : Type 0 where
-  pub bytes : List (List ℕ)
-  pub had : AllMayHave files (names_in task) bytes
-  pub ready : IsReadyFor task bytes
 
 -- there is a file of each of these names
 abbrev pub AreThere : Files → List (List ℕ) → Type 0
@@ -112,12 +131,7 @@ IsFirstMissing files [] name = ⊥
 IsFirstMissing files (first ∷ names) name =
     ((first ≡ name) × IsMissing files first) ⊎ ((IsMissing files first → ⊥) × IsFirstMissing files names name)
 
--- the content of a file with these bytes, of which no more than so many are read
-abbrev pub IsContent : ℕ → Content → List ℕ → Type 0
-IsContent limit (Whole read) bytes = read.items ≡ bytes
-IsContent limit TooLong bytes = limit < length bytes
-
--- so have the contents of files, one after the other
+-- what was read of files with these bytes, one after the other
 abbrev pub AreContents : ℕ → List Content → List (List ℕ) → Type 0
 AreContents limit [] [] = Unit {0}
 AreContents limit (content ∷ contents) (bytes ∷ more) = IsContent limit content bytes × AreContents limit contents more
@@ -139,7 +153,8 @@ AreRead limit files _ _ = ⊥
 -- the answers of a read, each with its cause
 abbrev pub Reads : ℕ → Files → Type 0 → List ℕ → Result Content Complaint → Type 0
 Reads limit files rose name (Ok content) = IsRead limit files name content
-Reads limit files rose name (Err (complaint.Unreadable file)) = (file.now ≡ name) × (rose ⊎ IsMissing files name)
+Reads limit files rose name (Err (complaint.Unreadable file)) =
+    (name_text file ≡ name) × (rose ⊎ IsMissing files name)
 Reads limit files rose name (Err complaint.OutOfMemory) = Unit {0}
 Reads limit files rose name (Err _) = ⊥
 

@@ -2,10 +2,10 @@
 
 ghost use Rattle.std.specs.Prelude.{◌≡◌, IfOk, IfSome, codes, option_map, true};
 ghost use Rattle.clap.specs.Words.{app_of, found_of, is_simple_and_free, rows_of};
-ghost use Rattle.fux_run.specs.Commands.{HasHead, asked, asked_by, certify_asked, check_asked, check_words, compose_asked, drill_asked, drill_words, found_in, fromsmf_asked, fromsmf_words, job_in, search_in, task_of, texts};
+ghost use Rattle.fux_run.specs.Commands.{HasHead, asked, asked_by, certify_asked, check_asked, check_words, class_asked, class_words, compose_asked, drill_asked, drill_words, found_in, fromsmf_asked, fromsmf_words, job_in, search_in, task_of, texts};
 
-use crate::forms::{check_form, drill_form, exercise_form, from_smf_form, search_form};
-use crate::values::{certifying, checking, composing, drilling, job_on, smf_reading};
+use crate::forms::{check_form, class_form, drill_form, exercise_form, from_smf_form, search_form};
+use crate::values::{certifying, checking, classing, composing, drilling, job_on, smf_reading};
 use clap::ArgMatches;
 use clap::error::ErrorKind;
 use fux_grid::Head;
@@ -51,6 +51,10 @@ pub enum Making<'a> {
     Drill {
         number: u32,
     },
+    /// The report of the exercises in the files that a list names.
+    Class {
+        list: &'a str,
+    },
 }
 
 /// What the words ask for.
@@ -85,6 +89,7 @@ pub fn parse(alloc: Global, words: &[String]) -> Result<Option<Command<'_>>, Mem
         "tosmf" => parse_job(alloc, "tosmf", Job::ToSmf, rest),
         "fromsmf" => parse_from_smf(alloc, rest),
         "drill" => parse_drill(alloc, rest),
+        "class" => parse_class(alloc, rest),
         _ => Ok(None),
     }
 }
@@ -163,6 +168,18 @@ fn parse_drill(alloc: Global, words: &[String]) -> Result<Option<Command<'_>>, M
         return Ok(None);
     };
     Ok(drilling(&matches))
+}
+
+/// The words behind `class`.
+fn parse_class(alloc: Global, words: &[String]) -> Result<Option<Command<'_>>, Memory>
+    ensures asked { IfOk result (λ found. option_map task_of found
+        ≡ asked_by class_words class_asked (texts words.now)) }
+    ensures head { IfOk result (λ found. IfSome found HasHead) }
+{
+    let Some(matches) = taken(class_form(alloc)?, words)? else {
+        return Ok(None);
+    };
+    Ok(classing(&matches))
 }
 
 /// What a simple command of `clap` finds in words, if it takes them.

@@ -1,12 +1,33 @@
 //! Why a run ends without its whole output, and what it says of that.
 
 ghost use Rattle.std.specs.Prelude.{◌≡◌, ◌++◌};
-ghost use Rattle.fux_run.specs.Complaints.{complaint_status, complaint_text, fux_line};
+ghost use Rattle.fux_run.specs.Complaints.{complaint_status, complaint_text, fux_line, name_text};
 ghost use Rattle.fux_run.specs.Sinks.{Gets};
 
 use crate::status::Status;
 use fux_pitch::Label;
 use fux_port::{Failed, Sink, write_all};
+
+/// The name of a file that cannot be read.
+#[derive(Drop)]
+pub enum FileName<'a> {
+    /// The words give it.
+    Given(&'a str),
+    /// A list has it.
+    Listed(Label),
+}
+
+impl<'a> FileName<'a> {
+    /// The name, lent without memory.
+    fn as_str(&self) -> &str
+        ensures { result.now ≡ name_text self.now }
+    {
+        match self {
+            FileName::Given(name) => name,
+            FileName::Listed(name) => name.as_str(),
+        }
+    }
+}
 
 /// Why a run ends without its whole output.
 #[derive(Drop)]
@@ -16,7 +37,7 @@ pub enum Complaint<'a> {
     /// A file is not what the command needs: what is said of it.
     Refused { text: Label },
     /// The file of this name cannot be read.
-    Unreadable { name: &'a str },
+    Unreadable { name: FileName<'a> },
     /// Standard output cannot be written.
     Unwritable,
     /// There is not enough memory.
@@ -53,7 +74,7 @@ impl<'a> Complaint<'a> {
         match self {
             Complaint::Usage => ("usage", ""),
             Complaint::Refused { text } => ("", text.as_str()),
-            Complaint::Unreadable { name } => ("cannot read ", name),
+            Complaint::Unreadable { name } => ("cannot read ", name.as_str()),
             Complaint::Unwritable => ("cannot write", ""),
             Complaint::OutOfMemory => ("out of memory", ""),
         }

@@ -2,12 +2,12 @@
 
 ghost use Rattle.std.specs.Prelude.{ℕ, IfOk, List};
 ghost use Rattle.fux_grid.specs.Exercises.{IsValid};
-ghost use Rattle.fux_run.specs.Works.{IsContent};
+ghost use Rattle.class_marker.specs.Markings.{IsContent};
 ghost use Rattle.fux_run.specs.Texts.{ReadsText};
 
-use crate::content::Content;
 use crate::refusal::Refusal;
 use crate::work::Stop;
+use class_marker::Text;
 use fux_grid::Exercise;
 use fux_text::{TextFault, TextKind, read};
 use std::alloc::Global;
@@ -23,11 +23,11 @@ const TOO_LONG: Refusal = Refusal::Text {
 };
 
 /// The exercise whose text this is.
-pub fn exercise_of(alloc: Global, text: &Content) -> Result<Exercise, Stop>
+pub fn exercise_of(alloc: Global, text: &Text) -> Result<Exercise, Stop>
     ensures reads { (bytes : List ℕ) → IsContent 65536 text.now bytes → ReadsText bytes result }
     ensures valid { IfOk result IsValid }
 {
-    let Content::Whole(bytes) = text else {
+    let Text::Bytes(bytes) = text else {
         return Err(Stop::Refused(TOO_LONG));
     };
     match read(alloc, bytes) {

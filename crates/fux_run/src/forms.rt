@@ -2,7 +2,7 @@
 
 ghost use Rattle.std.specs.Prelude.{◌≡◌, IfOk, codes};
 ghost use Rattle.clap.specs.Words.{app_of, with_rule};
-ghost use Rattle.fux_run.specs.Commands.{check_words, drill_words, needed_word, exercise_words, flag_word, fromsmf_words, head_words, one_word, option_word, search_words};
+ghost use Rattle.fux_run.specs.Commands.{check_words, class_words, drill_words, needed_word, exercise_words, flag_word, fromsmf_words, head_words, one_word, option_word, search_words};
 
 use clap::{Arg, ArgAction, Command};
 use std::alloc::{AllocError, Global};
@@ -82,6 +82,13 @@ pub fn drill_form<'a>(alloc: Global) -> Result<Command<'a>, AllocError>
     ensures { IfOk result (λ command. app_of command ≡ drill_words) }
 {
     one_word(alloc, "drill", "N")
+}
+
+/// `class LIST`.
+pub fn class_form<'a>(alloc: Global) -> Result<Command<'a>, AllocError>
+    ensures { IfOk result (λ command. app_of command ≡ class_words) }
+{
+    one_word(alloc, "class", "LIST")
 }
 
 /// The command with what says how a file is to be read.

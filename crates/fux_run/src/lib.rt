@@ -3,6 +3,7 @@
 
 mod certifying;
 mod checking;
+mod classing;
 mod command;
 mod complaint;
 mod composing;
@@ -24,6 +25,6 @@ mod weighing;
 mod work;
 
 pub use command::{Command, Job, Making, parse};
-pub use complaint::Complaint;
+pub use complaint::{Complaint, FileName};
 pub use status::Status;
 pub use top_call::run;

@@ -9,10 +9,11 @@ ghost use Rattle.fux_run.specs.Runs.{IsMade, Says, SaysRefusal, SaysWithin};
 ghost use Rattle.fux_run.specs.Works.{Answers, ChecksTexts, MakesOf, MakesOfText, OnTexts, ReadsSheetFile};
 
 use crate::checking::check;
+use crate::classing::class;
 use crate::command::{Job, Making};
-use crate::complaint::Complaint;
+use crate::complaint::{Complaint, FileName};
 use crate::composing::compose;
-use crate::content::{Content, read_content};
+use crate::content::read_content;
 use crate::drilling::drill;
 use crate::exercise::{LONGEST_TEXT, exercise_of};
 use crate::marking::{cantus, mark};
@@ -21,6 +22,7 @@ use crate::refusal::{Refusal, refusal_text};
 use crate::rendering::{print, to_smf};
 use crate::weighing::sheet_of;
 use crate::work::{Output, Stop, Unmade};
+use class_marker::Text;
 use fux_grid::Exercise;
 use fux_pitch::Memory;
 use fux_port::Shelf;
@@ -65,6 +67,7 @@ pub fn make<'a, F: Shelf, R: Threads + Sync>(
             said(alloc, name, from_smf(alloc, &file, &head))
         }
         Making::Drill { number } => said(alloc, "", drill(rt, alloc, number)),
+        Making::Class { list } => class(rt, alloc, list, shelf),
     }
 }
 
@@ -73,7 +76,7 @@ pub fn read_weights<'a, F: Shelf>(
     alloc: Global,
     shelf: &mut F,
     name: Option<&'a str>,
-) -> Result<Option<Content>, Complaint<'a>>
+) -> Result<Option<Text>, Complaint<'a>>
     ensures reads { ReadsSheetFile (F.files shelf.old) (Rose (F.faults shelf.old) (F.faults shelf.new))
         (sheet_named name.entry) result }
     ensures files { F.files shelf.new ≡ F.files shelf.old }
@@ -89,8 +92,8 @@ pub fn read_weights<'a, F: Shelf>(
 fn of_texts<R: Threads + Sync>(
     rt: &R,
     alloc: Global,
-    text: &Content,
-    weights: &Option<Content>,
+    text: &Text,
+    weights: &Option<Text>,
     job: Job,
 ) -> Result<Output, Stop>
     ensures { OnTexts text.now weights.now (λ bytes sheets. Answers (MakesOfText job sheets bytes) result) }
@@ -104,8 +107,8 @@ fn of_texts<R: Threads + Sync>(
 fn check_texts<F: Shelf, R: Threads + Sync>(
     rt: &R,
     alloc: Global,
-    text: &Content,
-    weights: &Option<Content>,
+    text: &Text,
+    weights: &Option<Text>,
     shelf: &mut F,
     certificate: &str,
 ) -> Result<Output, Unmade>
@@ -166,7 +169,9 @@ fn said_within<'a>(
     match answer {
         Ok(output) => Ok(output),
         Err(Unmade::Stopped(stop)) => said(alloc, name, Err(stop)),
-        Err(Unmade::Unreadable) => Err(Complaint::Unreadable { name: within }),
+        Err(Unmade::Unreadable) => Err(Complaint::Unreadable {
+            name: FileName::Given(within),
+        }),
     }
 }
 

@@ -1,37 +1,33 @@
 //! The commands `mark` and `cantus`.
 
-ghost use Rattle.std.specs.Prelude.{◌≡◌, IfOk};
-ghost use Rattle.fux_grid.specs.Exercises.{IsComplete, IsValid};
-ghost use Rattle.score_marker.specs.Marks.{AreMarks};
-ghost use Rattle.fux_run.specs.Marked.{CantusMarks, Marks, TellsMarks, marks_verdict};
+ghost use Rattle.std.specs.Prelude.{◌≡◌};
+ghost use Rattle.fux_grid.specs.Exercises.{IsValid};
+ghost use Rattle.fux_run.specs.Marked.{CantusMarks, IsOutputOf, Marks, marks_verdict};
 ghost use Rattle.fux_run.specs.Works.{Answers};
 
 use crate::refusal::Refusal;
 use crate::work::{Output, Stop, Verdict};
-use fux_grid::{Exercise, Score};
-use fux_pitch::Memory;
-use score_marker::{Mark, cantus_marks, marks, marks_text};
+use class_marker::{MarkLines, lines_of};
+use fux_grid::Exercise;
+use score_marker::cantus_marks;
 use std::alloc::Global;
 
-/// What marks say, all in all.
-fn verdict_of(marks: &[Mark]) -> Verdict
-    ensures { result ≡ marks_verdict marks.now }
+/// What lines of marks say, all in all.
+fn verdict_of(lines: &MarkLines) -> Verdict
+    ensures { result ≡ marks_verdict lines.now.has_mark }
 {
-    match marks {
-        [] => Verdict::Favorable,
-        [_, ..] => Verdict::Unfavorable,
+    if lines.has_mark {
+        Verdict::Unfavorable
+    } else {
+        Verdict::Favorable
     }
 }
 
-/// What is written of a setting.
-fn setting_output(alloc: Global, ex: &Exercise, score: &Score) -> Result<Output, Memory>
-    requires valid { IsValid ex.now }
-    requires complete { IsComplete ex.now score.now }
-    ensures { IfOk result (TellsMarks ex.now (AreMarks ex.now score.now.columns)) }
+/// The output of lines of marks. It takes no memory.
+fn output_of(lines: MarkLines) -> Output
+    ensures { IsOutputOf lines result }
 {
-    let marks = marks(alloc, ex, score)?;
-    let text = marks_text(alloc, ex, &marks)?;
-    Ok(Output::of_text(verdict_of(&marks), text))
+    Output::of_text(verdict_of(&lines), lines.text)
 }
 
 /// The marks of the setting of an exercise.
@@ -39,8 +35,8 @@ pub fn mark(alloc: Global, ex: &Exercise) -> Result<Output, Stop>
     requires { IsValid ex.now }
     ensures { Answers (Marks ex.now) result }
 {
-    match &ex.setting {
-        Some(score) => Ok(setting_output(alloc, ex, score)?),
+    match class_marker::mark(alloc, ex)? {
+        Some(lines) => Ok(output_of(lines)),
         None => Err(Stop::Refused(Refusal::NoSetting)),
     }
 }
@@ -51,6 +47,6 @@ pub fn cantus(alloc: Global, ex: &Exercise) -> Result<Output, Stop>
     ensures { Answers (CantusMarks ex.now) result }
 {
     let marks = cantus_marks(alloc, ex)?;
-    let text = marks_text(alloc, ex, &marks)?;
-    Ok(Output::of_text(verdict_of(&marks), text))
+    let lines = lines_of(alloc, ex, &marks)?;
+    Ok(output_of(lines))
 }

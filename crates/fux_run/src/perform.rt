@@ -7,11 +7,12 @@ ghost use Rattle.fux_run.specs.Runs.{CertifiesTexts, CertifyEnds, Ended, EndsOn,
 use crate::certifying::certify;
 use crate::command::{Command, Making};
 use crate::complaint::Complaint;
-use crate::content::{Content, read_content};
+use crate::content::read_content;
 use crate::exercise::{LONGEST_TEXT, exercise_of};
 use crate::making::{make, read_weights, refused};
 use crate::weighing::sheet_of;
 use crate::work::{Halt, Stop, Verdict};
+use class_marker::Text;
 use fux_port::{Failed, Shelf, Sink, write_all};
 use std::alloc::Global;
 use std::thread::Threads;
@@ -86,8 +87,8 @@ fn perform_certify<'a, F: Shelf, K: Sink, R: Threads + Sync>(
 fn certify_texts<K: Sink, R: Threads + Sync>(
     rt: &R,
     alloc: Global,
-    text: &Content,
-    weights: &Option<Content>,
+    text: &Text,
+    weights: &Option<Text>,
     budget: u32,
     out: &mut K,
 ) -> Result<Verdict, Halt>

@@ -5,11 +5,12 @@ ghost use Rattle.fux_grid.specs.Exercises.{IsValid};
 ghost use Rattle.fux_text.specs.Lines.{note_text};
 ghost use Rattle.smf_score.specs.Heads.{IsHead};
 ghost use Rattle.fux_run.specs.Played.{ReadsMidi};
-ghost use Rattle.fux_run.specs.Works.{Answers, IsContent};
+ghost use Rattle.class_marker.specs.Markings.{IsContent};
+ghost use Rattle.fux_run.specs.Works.{Answers};
 
-use crate::content::Content;
 use crate::refusal::Refusal;
 use crate::work::{Output, Stop, Verdict};
+use class_marker::Text;
 use fux_grid::{Exercise, Head};
 use fux_pitch::Memory;
 use fux_text::write;
@@ -24,11 +25,11 @@ pub const LONGEST_MIDI: usize = 1_048_576;
 const TOO_LONG: SmfFault = SmfFault::Bytes(ByteFault::TooLong);
 
 /// The note text of the exercise that a MIDI file is, with its setting.
-pub fn from_smf(alloc: Global, file: &Content, head: &Head) -> Result<Output, Stop>
+pub fn from_smf(alloc: Global, file: &Text, head: &Head) -> Result<Output, Stop>
     requires { IsHead head.now }
     ensures { (bytes : List ℕ) → IsContent 1048576 file.now bytes → Answers (ReadsMidi head.now bytes) result }
 {
-    let Content::Whole(bytes) = file else {
+    let Text::Bytes(bytes) = file else {
         return Err(Stop::Refused(Refusal::Midi { fault: TOO_LONG }));
     };
     match smf_score::from_smf(alloc, bytes, head) {

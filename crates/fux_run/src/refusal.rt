@@ -1,8 +1,9 @@
 //! Why a file is not what a command needs, and what is said of that.
 
 ghost use Rattle.std.specs.Prelude.{◌≡◌, ◌++◌, IfOk, OnOk, string_bytes};
-ghost use Rattle.fux_run.specs.Complaints.{kind_word, refusal_text, width_text};
+ghost use Rattle.fux_run.specs.Complaints.{refusal_text, width_text};
 
+use class_marker::{Unmarked, put_text_fault, put_unmarked};
 use fux_grid::Place;
 use fux_pitch::{Label, Memory};
 use fux_text::TextKind;
@@ -22,6 +23,10 @@ pub enum Refusal {
     },
     /// The exercise has no setting.
     NoSetting,
+    /// The file is no list of a class: the number of its first line at fault.
+    List {
+        line: u32,
+    },
     /// A column has more than 8,192 ways to go on: the first such place, and how many they are.
     TooWide {
         place: Place,
@@ -54,10 +59,10 @@ fn put_refusal(text: &mut String, name: &str, refusal: &Refusal) -> Result<(), M
 {
     match refusal {
         Refusal::Text { kind, line, column } => {
-            let word = kind_word(*kind);
-            Ok(write!(text, "{name}:{line}:{column}: {word}")?)
+            put_text_fault(text, name, *kind, *line, *column)
         }
-        Refusal::NoSetting => Ok(text.push_str("no setting")?),
+        Refusal::NoSetting => put_unmarked(text, name, Unmarked::NoSetting),
+        Refusal::List { line } => Ok(write!(text, "{name}:{line}: list")?),
         Refusal::TooWide { place, count } => put_width(text, *place, *count),
         Refusal::LongCertificate => Ok(text.push_str("certificate too long")?),
         Refusal::Sheet { fault } => Ok(write!(text, "sheet: {fault}")?),
@@ -73,24 +78,4 @@ fn put_width(text: &mut String, place: Place, count: u64) -> Result<(), Memory>
     let slot = place.slot;
     write!(text, "too wide: {count} columns at bar {bar} slot {slot}")?;
     Ok(())
-}
-
-/// The word for a fault of a text.
-fn kind_word(kind: TextKind) -> &'static str
-    ensures { result.now ≡ kind_word kind }
-{
-    match kind {
-        TextKind::TooLong => "toolong",
-        TextKind::NotUtf8 => "notutf8",
-        TextKind::Head => "head",
-        TextKind::Word => "word",
-        TextKind::Pitch => "pitch",
-        TextKind::Length => "length",
-        TextKind::BarLine => "barline",
-        TextKind::Bars => "bars",
-        TextKind::Range => "range",
-        TextKind::Cantus => "cantus",
-        TextKind::Tie => "tie",
-        TextKind::Sing => "sing",
-    }
 }

@@ -8,7 +8,7 @@ ghost use Rattle.fux_run.specs.Complaints.{fux_line};
 ghost use Rattle.fux_run.specs.Runs.{EndedBy, EndsAs, EndsOn, EndsUnread, IsDone, IsStopped, result_line, result_status};
 ghost use Rattle.fux_run.specs.Sinks.{Gets};
 ghost use Rattle.fux_run.specs.Statuses.{code_of};
-ghost use Rattle.fux_run.specs.Works.{AreThere, Works};
+ghost use Rattle.fux_run.specs.Works.{AllHave, AreThere, IsReadyFor, Works};
 
 use crate::command::parse;
 use crate::complaint::Complaint;
@@ -46,9 +46,11 @@ pub fn run<F: Shelf, K: Sink, E: Sink, R: Threads + Sync>(
         → (name : List ℕ) → Contains (names_in task) name → IsMissing (F.files shelf.old) name
         → result ≢ code_of Status.OutOfMemory → result ≡ code_of Status.Unreadable }
     ensures missing_within { (task : Task) → asked (texts words.now) ≡ Some task
-        → (name : List ℕ) → Contains (names_within task) name → IsMissing (F.files shelf.old) name
+        → (bytes : List (List ℕ)) → AllHave (F.files shelf.old) (names_in task) bytes
+        → (name : List ℕ) → Contains (names_within task bytes) name → IsMissing (F.files shelf.old) name
         → result ≢ code_of Status.OutOfMemory
-        → (result ≡ code_of Status.Unreadable) ⊎ (result ≡ code_of Status.Refused) }
+        → (result ≡ code_of Status.Unreadable)
+        ⊎ ((result ≡ code_of Status.Refused) × (IsReadyFor task bytes → ⊥)) }
 
     // A write to standard output failed. What was written is a front of the output.
     ensures unwritable { result ≡ code_of Status.Unwritable
@@ -62,7 +64,8 @@ pub fn run<F: Shelf, K: Sink, E: Sink, R: Threads + Sync>(
 
     // Where nothing fails, the work is done or a file refused.
     ensures complete { (task : Task) → asked (texts words.now) ≡ Some task
-        → AreThere (F.files shelf.old) (names_in task) → AreThere (F.files shelf.old) (names_within task)
+        → (bytes : List (List ℕ)) → AllHave (F.files shelf.old) (names_in task) bytes
+        → AreThere (F.files shelf.old) (names_within task bytes)
         → (Rose (F.faults shelf.old) (F.faults shelf.new) → ⊥)
         → (Rose (K.faults out.old) (K.faults out.new) → ⊥)
         → IsDone result ⊎ ((result ≡ code_of Status.Refused) ⊎ (result ≡ code_of Status.OutOfMemory)) }

@@ -5,7 +5,7 @@ ghost use Rattle.clap.specs.Words.{first_of, found_of, rows_of};
 ghost use Rattle.fux_text.specs.Names.{mode_named};
 ghost use Rattle.smf_score.specs.Heads.{IsHead};
 ghost use Rattle.text_lines.specs.Numbers.{number_within};
-ghost use Rattle.fux_run.specs.Commands.{HasHead, budget_in, certify_asked, check_asked, compose_asked, drill_asked, fromsmf_asked, head_in, is_set, job_asked, number_at, task_of};
+ghost use Rattle.fux_run.specs.Commands.{HasHead, budget_in, certify_asked, check_asked, class_asked, compose_asked, drill_asked, fromsmf_asked, head_in, is_set, job_asked, number_at, task_of};
 
 use crate::command::{Command, Job, Making};
 use clap::ArgMatches;
@@ -183,4 +183,13 @@ pub fn drilling<'a>(matches: &ArgMatches<'a>) -> Option<Command<'a>>
 {
     let number = number_at(matches, "N", 0, LAST_DRILL)?;
     Some(Command::Make(Making::Drill { number }))
+}
+
+/// `class`, on a list.
+pub fn classing<'a>(matches: &ArgMatches<'a>) -> Option<Command<'a>>
+    ensures asked { option_map task_of result ≡ class_asked (rows_of (found_of matches.now)) }
+    ensures head { IfSome result HasHead }
+{
+    let list = value(matches, "LIST")?;
+    Some(Command::Make(Making::Class { list }))
 }

@@ -1,5 +1,5 @@
 use Rattle.std.proofs.Common.{subst}
-use Rattle.fux_run.specs.Works.{IsContent}
+use Rattle.class_marker.specs.Markings.{IsContent}
 use Rattle.fux_text.proofs.ReadTexts.{too_long}
 use Rattle.fux_run.proofs.exercise.exercise_of.Goals as goal
 

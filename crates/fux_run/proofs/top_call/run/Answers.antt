@@ -37,8 +37,8 @@ returns-clause-missing g c = λ task is name one missing room. ran_missing task 
     (of_task _ _ _ _ _ _ _ _ task _ is (ran g c)) name one missing room
 
 pub returns-clause-missing_within : goal.returns-clause-missing_within
-returns-clause-missing_within g c = λ task is name one missing room. ran_missing_within task _ _ _ _ _ _ _ _
-    (of_task _ _ _ _ _ _ _ _ task _ is (ran g c)) name one missing room
+returns-clause-missing_within g c = λ task is bytes have name one missing room. ran_missing_within task _ _ _ _ _ _ _ _
+    (of_task _ _ _ _ _ _ _ _ task _ is (ran g c)) bytes have name one missing room
 
 pub returns-clause-unwritable : goal.returns-clause-unwritable
 returns-clause-unwritable g c = λ five. (run_unwritable _ _ _ _ _ _ _ _ _ (ran g c) five).0
@@ -48,8 +48,8 @@ returns-clause-works g c =
     λ task is read room. ran_works task _ _ _ _ _ _ _ _ (of_task _ _ _ _ _ _ _ _ task _ is (ran g c)) read room
 
 pub returns-clause-complete : goal.returns-clause-complete
-returns-clause-complete g c = λ task is there within reads writes. ran_complete task _ _ _ _ _ _ _ _
-    (of_task _ _ _ _ _ _ _ _ task _ is (ran g c)) there within reads writes
+returns-clause-complete g c = λ task is bytes have within reads writes. ran_complete task _ _ _ _ _ _ _ _
+    (of_task _ _ _ _ _ _ _ _ task _ is (ran g c)) bytes have within reads writes
 
 pub returns-clause-unwritten : goal.returns-clause-unwritten
 returns-clause-unwritten g c = λ stopped. run_unwritten _ _ _ _ _ _ _ _ _ (ran g c) stopped

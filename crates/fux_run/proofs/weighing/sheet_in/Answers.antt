@@ -1,6 +1,6 @@
 use Rattle.std.proofs.Common.{subst}
 use Rattle.penalty_sheet.proofs.SheetLemmas.{long_sheet}
-use Rattle.fux_run.specs.Works.{IsContent}
+use Rattle.class_marker.specs.Markings.{IsContent}
 use Rattle.fux_run.proofs.weighing.sheet_in.Goals as goal
 
 pub returns-in_default : goal.returns-in_default
