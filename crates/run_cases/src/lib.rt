@@ -6,6 +6,8 @@ mod answers;
 #[cfg(test)]
 mod certificates;
 #[cfg(test)]
+mod classes;
+#[cfg(test)]
 mod devices;
 #[cfg(test)]
 mod drills;
