@@ -1,6 +1,6 @@
 use Rattle.std.proofs.Common.{Err, inl, refl, subst}
 use Rattle.smf_bytes.specs.declared.fault.ByteFault.TheVariants.{TooLong}
-use Rattle.fux_run.specs.Works.{IsContent}
+use Rattle.class_marker.specs.Markings.{IsContent}
 use Rattle.fux_run.proofs.playing.from_smf.Goals as goal
 
 pub returns-in_default : goal.returns-in_default
