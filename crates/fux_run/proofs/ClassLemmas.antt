@@ -93,8 +93,7 @@ module _ (files now_files : Files) (names : List (String Global)) (place : ℕ) 
   place_unread rose later so (inl failed) = (many, inl (so failed))
   place_unread rose later so (inr missing) =
       let all = map string_bytes names in
-      let name_is : name_at all place ≡ string_bytes name = same_at place all [] (string_bytes name) many ∙ here in
-      (
+      let name_is : name_at all place ≡ string_bytes name = same_at place all [] (string_bytes name) many ∙ here in (
         many,
         inr (subst (λ l. IsFirstMissing files l (name_at all place)) (sym (parts_at place all [] many))
             (first_missing 65536 files (take place all) (drop (suc place) all) texts (name_at all place) read

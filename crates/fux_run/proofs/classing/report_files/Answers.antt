@@ -10,8 +10,14 @@ report_output-requires-after_bounds g c κs within =
     let count : length (map string_bytes names) ≡ length c.in-Ok.texts.items =
     same_count 65536 (g.F.Shelf.files c.args.shelf.now) (map string_bytes names) c.in-Ok.texts.items c.in-Ok.ensures.reads in
     let named : length (map string_bytes names) ≡ length names = length-map names string_bytes in
-    omega (arith, count, named, ap length c.deref.ensures.value, ap length c.deref-in-Ok.ensures.value,
-    ap length c.deref-in-Ok-2.ensures.value)
+    omega (
+      arith,
+      count,
+      named,
+      ap length c.deref.ensures.value,
+      ap length c.deref-in-Ok.ensures.value,
+      ap length c.deref-in-Ok-2.ensures.value,
+    )
 
 pub returns-in-Ok-report_output-clause-reports : goal.returns-in-Ok-report_output-clause-reports
 returns-in-Ok-report_output-clause-reports g c =
