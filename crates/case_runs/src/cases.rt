@@ -125,7 +125,8 @@ impl Case {
             self.words = words_in(alloc, line)?;
         } else if let Some(file) = quoted(line, "file") {
             if let Some((name, text)) = file.split_once("\" \"") {
-                self.shelf.put(name, &decoded(alloc, text)?)?;
+                let name = String::from_utf8_lossy(alloc, &decoded(alloc, name)?)?;
+                self.shelf.put(name.as_str(), &decoded(alloc, text)?)?;
             }
         } else if let Some(number) = line.strip_prefix("status ") {
             self.status = number.parse().unwrap_or(255);
