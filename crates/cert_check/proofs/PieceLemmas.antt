@@ -1,5 +1,5 @@
 -- What a reader makes of a piece: it takes a line of it (`line_taken`) or refuses it (`line_refused`); and what the next piece makes of a
--- reader (`reads_on`, `beyond_at`), or the end of the file (`end_gives`).
+-- reader (`reads_on`, `beyond_at`, `fault_given`), or the end of the file (`end_gives`).
 use Rattle.std.proofs.Common.{◌≡◌, ◌≢◌, ℕ, ◌+◌, ◌-◌, ◌<◌, ◌≤◌, Bool, true, false, nat_lt, List, [], ◌∷◌, ◌++◌, Option, None, Some, Result, Ok, Err, length, take, drop, refl, sym, ap, subst, ◌∙◌, arith, append_assoc, length-append, length-drop}
 use Rattle.std.specs.Prelude.{IfNone, IfSome}
 use Rattle.std.specs.Io.{StartsWith}
@@ -20,6 +20,13 @@ use Rattle.cert_check.specs.declared.fault.ReadFault.{ReadFault}
 use Rattle.cert_check.specs.declared.fault.ReadFault.TheVariants.{Unreadable, Text}
 use Rattle.cert_check.proofs.FileLemmas.{ends, goes_on, longer}
 use Rattle.cert_check.proofs.LineLemmas.{beyond_line, unended_line, wrong_line}
+
+-- where the next piece can't be read, or shows a fault, that is what a reader gives
+pub fault_given : (files : Files) (name front begun : List ℕ) (rose later : Type 0) (now after : Reading) (fault : ReadFault)
+    → (later → rose) → ReadsOn files name later front begun now (Err fault)
+    → Gives files name rose front after (Err fault)
+fault_given files name front begun rose later now after Unreadable so read = so read
+fault_given files name front begun rose later now after (Text fault) so read = read
 
 -- no bytes begin a claim's line
 pub nothing_begins : BeginsClaim []

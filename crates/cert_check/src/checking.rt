@@ -1,6 +1,6 @@
 //! The file of a certificate, from its name to the verdict.
 
-ghost use Rattle.std.specs.Prelude.{◌≡◌, ◌≤◌, ◌⊎◌, Err, IfErr, IfOk};
+ghost use Rattle.std.specs.Prelude.{◌≡◌, ◌≢◌, ◌+◌, ◌≤◌, ◌⊎◌, Err, IfErr, IfOk};
 ghost use Rattle.cert_text.specs.declared.answers.CertHead.{CertHead as AHead};
 ghost use Rattle.cert_check.specs.Answers.{Answers, IsHeadless, unopened, unstarted};
 ghost use Rattle.cert_check.specs.Judgments.{AcceptsValid};
@@ -8,6 +8,7 @@ ghost use Rattle.floor_tables.specs.Tables.{AreNarrow};
 ghost use Rattle.fux_grid.specs.Exercises.{IsValid};
 ghost use Rattle.fux_port.specs.Counts.{Rose};
 ghost use Rattle.fux_port.specs.Files.{IsMissing};
+ghost use Rattle.fux_port.specs.Promises.{ServesWhole};
 
 use crate::checker::{Checker, OpenFault};
 use crate::fault::ReadFault;
@@ -52,6 +53,11 @@ pub fn check_file<R: Threads + Sync, F: Shelf>(
     // Where there is no file of the name, there is no verdict.
     ensures missing { IsMissing (F.files shelf.old) name.now
         → (result ≡ Err CheckFault.Unreadable) ⊎ (result ≡ Err CheckFault.Memory) }
+
+    // No shelf is blamed that promises each read of the file up to the limit, and no more is read than the limit and a byte beyond it.
+    ensures served { ServesWhole (F.serves shelf.old) name.now 1073741824
+        → IfErr result (λ fault. fault ≢ CheckFault.Unreadable) }
+    ensures little { F.given shelf.new ≤ F.given shelf.old + 1073741825 }
 
     // A menu that is too wide keeps the claims from being judged, and nothing else is told to be too wide.
     ensures narrow { AreNarrow ex.now

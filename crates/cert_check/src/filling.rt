@@ -1,9 +1,10 @@
 //! The first bytes of a file.
 
-ghost use Rattle.std.specs.Prelude.{◌≡◌, ◌≤◌, ◌<◌, ◌⊎◌, length, take, drop, IfOk, IsErr, OnErr};
+ghost use Rattle.std.specs.Prelude.{◌≡◌, ◌+◌, ◌≤◌, ◌<◌, ◌⊎◌, length, take, drop, IfOk, IsErr, IsOk, OnErr};
 ghost use Rattle.std.specs.Io.{StartsWith};
 ghost use Rattle.fux_port.specs.Counts.{Rose};
 ghost use Rattle.fux_port.specs.Files.{IsMissing};
+ghost use Rattle.fux_port.specs.Promises.{Keeps, ServesWhole};
 ghost use Rattle.cert_check.specs.Readings.{IfThere};
 
 use fux_port::{Failed, Shelf};
@@ -25,6 +26,11 @@ pub fn read_piece<F: Shelf>(
         → IfThere (F.files shelf.old) name.now (λ file. length file ≤ offset)) }
     ensures cause { OnErr result (Rose (F.faults shelf.old) (F.faults shelf.new)
         ⊎ IsMissing (F.files shelf.old) name.now) }
+    ensures served { F.serves shelf.old name.now offset → 0 < wanted → IsOk result }
+    ensures serving { Keeps (F.serves shelf.old) (F.serves shelf.new) }
+    ensures little { F.given shelf.new ≤ F.given shelf.old + wanted }
+    ensures told { IfOk result (λ count. F.given shelf.new ≤ F.given shelf.old + count) }
+    ensures nothing { OnErr result (F.given shelf.new ≤ F.given shelf.old) }
     ensures files { F.files shelf.new ≡ F.files shelf.old }
     ensures faults { F.faults shelf.old ≤ F.faults shelf.new }
 {
@@ -42,6 +48,12 @@ pub fn fill<F: Shelf>(shelf: &mut F, name: &str, buf: &mut [u8]) -> Result<usize
     ensures cause { OnErr result (Rose (F.faults shelf.old) (F.faults shelf.new)
         ⊎ IsMissing (F.files shelf.old) name.now) }
     ensures missing { 0 < length buf.old → IsMissing (F.files shelf.old) name.now → IsErr result }
+    ensures served { ServesWhole (F.serves shelf.old) name.now (length buf.old) → IsOk result }
+    ensures serving { Keeps (F.serves shelf.old) (F.serves shelf.new) }
+
+    // No more is read than there is room for, also where the file has no end.
+    ensures little { F.given shelf.new ≤ F.given shelf.old + length buf.old }
+    ensures told { IfOk result (λ count. F.given shelf.new ≤ F.given shelf.old + count) }
 
     ensures files { F.files shelf.new ≡ F.files shelf.old }
     ensures faults { F.faults shelf.old ≤ F.faults shelf.new }

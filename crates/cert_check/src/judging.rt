@@ -1,6 +1,6 @@
 //! A certificate's claims, read and judged one by one.
 
-ghost use Rattle.std.specs.Prelude.{◌≡◌, ◌≢◌, ◌+◌, ◌^◌, ◌≤◌, [], None, IfOk, OnErr};
+ghost use Rattle.std.specs.Prelude.{◌≡◌, ◌≢◌, ◌+◌, ◌^◌, ◌≤◌, [], None, IfOk, IsOk, OnErr};
 ghost use Rattle.cert_check.specs.Checking.{accepted_of};
 ghost use Rattle.cert_check.specs.Starts.{IsStarted};
 ghost use Rattle.cert_text.specs.declared.answers.Why.TheVariants as whys;
@@ -8,6 +8,7 @@ ghost use Rattle.cert_check.specs.Judgments.{AcceptsValid, Finds, IsFresh, Shows
 ghost use Rattle.cert_check.specs.declared.verdict.Verdict.TheVariants as verdicts;
 ghost use Rattle.fux_grid.specs.Exercises.{IsValid};
 ghost use Rattle.fux_port.specs.Counts.{Rose};
+ghost use Rattle.fux_port.specs.Promises.{ServesWhole};
 
 use crate::checker::Checker;
 use crate::fault::ReadFault;
@@ -31,6 +32,10 @@ pub fn judge<F: Shelf>(
     ensures accepts { IfOk result
         (AcceptsValid checker.entry.exercise checker.entry.sheet checker.entry.head (F.files shelf.old) name.now) }
     ensures cause { OnErr result (Rose (F.faults shelf.old) (F.faults shelf.new)) }
+    ensures served { ServesWhole (F.serves shelf.old) name.now 1073741824 → IsOk result }
+
+    // It ends within what a certificate may have, also where the file has no end.
+    ensures little { F.given shelf.new + reader.old.offset ≤ F.given shelf.old + 1073741825 }
     ensures files { F.files shelf.new ≡ F.files shelf.old }
     ensures faults { F.faults shelf.old ≤ F.faults shelf.new }
 {

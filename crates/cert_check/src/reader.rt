@@ -1,7 +1,8 @@
 //! Claims from a certificate's file.
 
-ghost use Rattle.std.specs.Prelude.{◌≡◌, ℕ, ◌-◌, ◌<◌, ◌≤◌, true, List, Ok, drop, length, take};
+ghost use Rattle.std.specs.Prelude.{◌≡◌, ◌≢◌, ℕ, ◌+◌, ◌-◌, ◌<◌, ◌≤◌, true, List, Ok, drop, length, take, IfErr, OnOk};
 ghost use Rattle.fux_port.specs.Counts.{Rose};
+ghost use Rattle.fux_port.specs.Promises.{Keeps, ServesWhole};
 ghost use Rattle.cert_check.specs.Readings.{Files, GivesEnd, GivesNext, IsAt, ReadsNext, TakesLine, longest_piece, reading_from};
 
 use crate::fault::ReadFault;
@@ -69,6 +70,16 @@ impl Reader {
 
         // Every reader has read no more than a certificate may have.
         ensures limit { self.old.offset ≤ 1073741824 }
+        ensures limit_after { self.new.offset ≤ 1073741824 }
+
+        // No shelf is blamed that promises each read up to there.
+        ensures served { ServesWhole (F.serves shelf.old) name.now 1073741824
+            → IfErr result (λ fault. fault ≢ ReadFault.Unreadable) }
+        ensures serving { Keeps (F.serves shelf.old) (F.serves shelf.new) }
+
+        // The offset counts what was read, but for a byte that shows that the file is too long.
+        ensures little { F.given shelf.new + self.old.offset ≤ F.given shelf.old + (self.new.offset + 1) }
+        ensures told { OnOk result (F.given shelf.new + self.old.offset ≤ F.given shelf.old + self.new.offset) }
 
         ensures files { F.files shelf.new ≡ F.files shelf.old }
         ensures faults { F.faults shelf.old ≤ F.faults shelf.new }
@@ -103,7 +114,8 @@ impl Reader {
 
     /// What the end of the file is: it is wrong within a line.
     fn end(&self) -> Result<Option<Claim>, ReadFault>
-        ensures { GivesEnd self.now result }
+        ensures gives { GivesEnd self.now result }
+        ensures read { IfErr result (λ fault. fault ≢ ReadFault.Unreadable) }
     {
         match self.claims.end() {
             Ok(()) => Ok(None),
@@ -117,6 +129,11 @@ impl Reader {
             (Rose (F.faults shelf.old) (F.faults shelf.new)) self.old self.new result }
         ensures grows { result ≡ Ok true → self.old.offset < self.new.offset }
         ensures limit { self.new.offset ≤ 1073741824 }
+        ensures served { ServesWhole (F.serves shelf.old) name.now 1073741824
+            → IfErr result (λ fault. fault ≢ ReadFault.Unreadable) }
+        ensures serving { Keeps (F.serves shelf.old) (F.serves shelf.new) }
+        ensures little { F.given shelf.new + self.old.offset ≤ F.given shelf.old + (self.new.offset + 1) }
+        ensures told { OnOk result (F.given shelf.new + self.old.offset ≤ F.given shelf.old + self.new.offset) }
         ensures files { F.files shelf.new ≡ F.files shelf.old }
         ensures faults { F.faults shelf.old ≤ F.faults shelf.new }
     {

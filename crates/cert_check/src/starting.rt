@@ -1,9 +1,11 @@
 //! The head of a certificate's file.
 
-ghost use Rattle.std.specs.Prelude.{◌≡◌, ◌≤◌};
+ghost use Rattle.std.specs.Prelude.{◌≡◌, ◌≢◌, ◌+◌, ◌≤◌, IfErr, IfOk};
 ghost use Rattle.fux_grid.specs.Exercises.{IsValid};
 ghost use Rattle.fux_port.specs.Counts.{Rose};
 ghost use Rattle.fux_port.specs.Files.{IsMissing};
+ghost use Rattle.fux_port.specs.Promises.{Keeps, ServesWhole};
+ghost use Rattle.cert_check.specs.Readings.{longest_piece};
 ghost use Rattle.cert_check.specs.Starts.{IsUnread, Starts};
 
 use crate::fault::ReadFault;
@@ -25,6 +27,11 @@ pub fn start<F: Shelf>(
     requires { IsValid ex.now }
     ensures starts { Starts ex.now (F.files shelf.old) name.now (Rose (F.faults shelf.old) (F.faults shelf.new)) result }
     ensures missing { IsMissing (F.files shelf.old) name.now → IsUnread result }
+    ensures served { ServesWhole (F.serves shelf.old) name.now longest_piece
+        → IfErr result (λ fault. fault ≢ ReadFault.Unreadable) }
+    ensures serving { Keeps (F.serves shelf.old) (F.serves shelf.new) }
+    ensures little { F.given shelf.new ≤ F.given shelf.old + longest_piece }
+    ensures told { IfOk result (λ found. F.given shelf.new ≤ F.given shelf.old + found.1.offset) }
     ensures files { F.files shelf.new ≡ F.files shelf.old }
     ensures faults { F.faults shelf.old ≤ F.faults shelf.new }
 {

@@ -43,4 +43,6 @@ loop-done-preserved g c =
       λ absent.
           absurd (true≢false (sym (c.in_ok-count.ensures.missing
           (subst (λ files. IsMissing files c.args.name.now) (sym old.3) absent)))),
+      λ name offset promised. c.in_ok-count.ensures.serving name offset (old.6 name offset promised),
+      omega (arith, old.7, c.in_ok-count.ensures.given),
     )

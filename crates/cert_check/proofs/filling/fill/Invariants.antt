@@ -1,6 +1,7 @@
-use Rattle.std.proofs.Common.{◌≡◌, ◌≤◌, ◌-◌, ℕ, List, length, take}
+use Rattle.std.proofs.Common.{◌≡◌, ◌≤◌, ◌+◌, ◌-◌, ℕ, List, length, take}
 use Rattle.std.specs.Io.{StartsWith}
 use Rattle.fux_port.specs.Files.{HasFile, IsMissing}
+use Rattle.fux_port.specs.Promises.{Keeps}
 use Rattle.cert_check.proofs.filling.fill.Given as goal
 
 abbrev pub invariant-loop-done : goal.invariant-loop-done
@@ -11,6 +12,8 @@ invariant-loop-done g l =
     × (g.F.Shelf.files l.shelf ≡ g.F.Shelf.files l.initial.shelf)
     × (g.F.Shelf.faults l.initial.shelf ≤ g.F.Shelf.faults l.shelf)
     × (IsMissing (g.F.Shelf.files l.initial.shelf) l.name → l.done ≡ 0)
+    × Keeps (g.F.Shelf.serves l.initial.shelf) (g.F.Shelf.serves l.shelf)
+    × (g.F.Shelf.given l.shelf ≤ g.F.Shelf.given l.initial.shelf + l.done)
 
 abbrev pub decreases-loop-done : goal.decreases-loop-done
 decreases-loop-done g l = length l.buf - l.done

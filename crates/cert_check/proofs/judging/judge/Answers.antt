@@ -56,6 +56,8 @@ loop-claim-preserved g c =
           (unrefused files name c.args.checker c.loop-claim.reader c.loop-claim.checker on)),
       c.next.ensures.files ∙ c.loop-claim.invariant.1,
       omega (arith, c.loop-claim.invariant.2, c.next.ensures.faults),
+      λ name offset promised. c.next.ensures.serving name offset (c.loop-claim.invariant.3 name offset promised),
+      omega (arith, c.loop-claim.invariant.4, c.in-Ok-Some.ensures.told),
     )
 
 pub returns-in-Err-clause-finds : goal.returns-in-Err-clause-finds

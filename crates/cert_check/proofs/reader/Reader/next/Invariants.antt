@@ -1,4 +1,5 @@
-use Rattle.std.proofs.Common.{◌≡◌, ◌≤◌, ◌-◌, ℕ, List}
+use Rattle.std.proofs.Common.{◌≡◌, ◌≤◌, ◌+◌, ◌-◌, ℕ, List}
+use Rattle.fux_port.specs.Promises.{Keeps}
 use Rattle.cert_check.specs.Readings.{IsAt}
 use Rattle.cert_check.proofs.reader.Reader.next.Given as goal
 
@@ -9,6 +10,8 @@ invariant-loop-claim g l =
     × (g.F.Shelf.files l.shelf ≡ g.F.Shelf.files l.initial.shelf)
     × (g.F.Shelf.faults l.initial.shelf ≤ g.F.Shelf.faults l.shelf)
     × (l.initial.self.offset ≤ l.self.offset)
+    × Keeps (g.F.Shelf.serves l.initial.shelf) (g.F.Shelf.serves l.shelf)
+    × (g.F.Shelf.given l.shelf + l.initial.self.offset ≤ g.F.Shelf.given l.initial.shelf + l.self.offset)
 
 abbrev pub decreases-loop-claim : goal.decreases-loop-claim
 decreases-loop-claim g l = 1073741824 - l.self.offset
