@@ -1,8 +1,8 @@
 -- Bytes that are put together before they are written: where a writer stands (`stands_start`, `stands_put`), that nothing is lost at its
 -- end (`stands_end`), and what was written where it stops (`stands_stop`).
-use Rattle.std.proofs.Common.{◌≡◌, ℕ, List, ◌++◌, Option, ap, sym, ◌∙◌, subst, arith, append_assoc, length-append}
+use Rattle.std.proofs.Common.{◌≡◌, ℕ, List, [], ◌++◌, Option, ap, sym, ◌∙◌, subst, arith, append_assoc, length-append}
 use Rattle.std.specs.Prelude.{Err, Ok, OnErr, Result}
-use Rattle.std.proofs.lemmas.List.{take-append-le}
+use Rattle.std.proofs.lemmas.List.{append-nil, take-append-le}
 use Rattle.fux_port.specs.Written.{StopsShort, appended}
 use Rattle.fux_port.proofs.Pieces.{appended-append, stops_after}
 use Rattle.cert_writer.specs.Waiting.{Puts}
@@ -34,6 +34,15 @@ stops_more old new first next stop = record {
   short = omega (arith, length-append first next, stop.short);
   front = stop.front ∙ ap (appended old) (sym (take-append-le stop.count first next (omega (arith, stop.short))));
 }
+
+-- all that is written where nothing is still to come
+pub stands_end : (start told new : Option (List ℕ)) (waiting later bytes : List ℕ)
+    → Stands start told waiting later bytes → later ≡ [] → new ≡ appended told waiting → new ≡ appended start bytes
+stands_end start told new waiting later bytes stands none wrote =
+    let whole : stands.done ++ waiting ≡ bytes = ap (λ bs. stands.done ++ bs) (sym (append-nil waiting))
+    ∙ ap (λ bs. stands.done ++ (waiting ++ bs)) (sym none) ∙ stands.whole in
+    wrote ∙ ap (λ t. appended t waiting) stands.told ∙ appended-append start stands.done waiting
+    ∙ ap (appended start) whole
 
 pub stands_stop : (start told new : Option (List ℕ)) (waiting later bytes : List ℕ)
     → Stands start told waiting later bytes → StopsShort told new waiting → StopsShort start new bytes

@@ -1,12 +1,13 @@
 //! Writing a whole certificate.
 
-ghost use Rattle.std.specs.Prelude.{◌≡◌, ◌<◌, ◌≤◌, Err, OnOk, length};
+ghost use Rattle.std.specs.Prelude.{◌≡◌, ◌≢◌, ◌<◌, ◌≤◌, Err, OnOk, length};
 ghost use Rattle.cert_law.specs.Writer.{written_certificate};
 ghost use Rattle.cert_writer.specs.Ends.{EndsUnwritten, FailsShort};
 ghost use Rattle.cert_law.specs.Certificates.{Holds};
 ghost use Rattle.cert_writer.specs.Heads.{found_text, head_with};
 ghost use Rattle.cert_writer.specs.Writing.{IsTask};
 ghost use Rattle.fux_port.specs.Counts.{Rose};
+ghost use Rattle.fux_port.specs.Promises.{TakesAll};
 ghost use Rattle.fux_port.specs.Written.{appended};
 
 use crate::begin::{begin, room_for_walk};
@@ -39,6 +40,9 @@ pub(crate) fn write_for_head<K: Sink>(
     ensures cause { result ≡ Err CertWrite.WriteFault → Rose (K.faults sink.old) (K.faults sink.new) }
     ensures short { FailsShort (K.written sink.old) (K.written sink.new)
         (written_certificate ex.now sheet.now head.now) result }
+
+    // No sink is blamed that promises each write.
+    ensures taken { TakesAll (K.serves sink.old) → result ≢ Err CertWrite.WriteFault }
 
     // Nothing is written of a certificate that is too long, nor where there is not enough memory.
     ensures too_long { result ≡ Err CertWrite.TooLong
@@ -84,6 +88,9 @@ pub fn certify<K: Sink>(
     // A fault of writing is the sink's, and less than the certificate was written.
     ensures cause { result ≡ Err CertWrite.WriteFault → Rose (K.faults sink.old) (K.faults sink.new) }
     ensures short { FailsShort (K.written sink.old) (K.written sink.new) (found_text space.now best.entry) result }
+
+    // No sink is blamed that promises each write.
+    ensures taken { TakesAll (K.serves sink.old) → result ≢ Err CertWrite.WriteFault }
 
     // Nothing is written of a certificate that is too long, nor where there is not enough memory.
     ensures too_long { result ≡ Err CertWrite.TooLong → 1073741824 < length (found_text space.now best.entry) }

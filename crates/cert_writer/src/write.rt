@@ -1,11 +1,12 @@
 //! Writing the lines of claims.
 
-ghost use Rattle.std.specs.Prelude.{◌≡◌, ◌≤◌, ◌↔◌, ◌+◌, ◌++◌, IsTrue, OnErr, OnOk, length};
+ghost use Rattle.std.specs.Prelude.{◌≡◌, ◌≤◌, ◌↔◌, ◌+◌, ◌++◌, IsOk, IsTrue, OnErr, OnOk, length};
 ghost use Rattle.cert_law.specs.Cases.{matter_of};
 ghost use Rattle.cert_law.specs.Walks.{IsWalk};
 ghost use Rattle.cert_writer.specs.Waiting.{Puts};
 ghost use Rattle.cert_writer.specs.Writing.{IsTask, lines_left};
 ghost use Rattle.fux_port.specs.Counts.{Rose};
+ghost use Rattle.fux_port.specs.Promises.{TakesAll};
 ghost use Rattle.fux_port.specs.Written.{StopsShort, appended};
 
 use crate::next::next_claim;
@@ -55,6 +56,8 @@ fn put<K: Sink>(
     ensures ok { OnOk result (Puts (K.written sink.old) (K.written sink.new) waiting.old.bytes waiting.new.bytes line.now.bytes) }
     ensures cause { OnErr result (Rose (K.faults sink.old) (K.faults sink.new)) }
     ensures err { OnErr result (StopsShort (K.written sink.old) (K.written sink.new) waiting.old.bytes) }
+    ensures taken { TakesAll (K.serves sink.old) → IsOk result }
+    ensures taking { OnOk result (TakesAll (K.serves sink.old) → TakesAll (K.serves sink.new)) }
     ensures faults { K.faults sink.old ≤ K.faults sink.new }
 {
     if waiting.try_push_str(line.as_str()).is_ok() {
@@ -80,6 +83,7 @@ pub(crate) fn write_claims<K: Sink>(
     ensures cause { OnErr result (Rose (K.faults sink.old) (K.faults sink.new)) }
     ensures err { OnErr result
         (StopsShort (K.written sink.old) (K.written sink.new) (lines_left (matter_of case.now) walk.old)) }
+    ensures taken { TakesAll (K.serves sink.old) → IsOk result }
     ensures faults { K.faults sink.old ≤ K.faults sink.new }
 {
     let mut waiting: ArrayString<4096> = ArrayString::new();
@@ -104,6 +108,7 @@ pub(crate) fn write_parts<K: Sink>(
     ensures cause { OnErr result (Rose (K.faults sink.old) (K.faults sink.new)) }
     ensures err { OnErr result
         (StopsShort (K.written sink.old) (K.written sink.new) (text.now ++ lines_left (matter_of case.now) walk.old)) }
+    ensures taken { TakesAll (K.serves sink.old) → IsOk result }
     ensures faults { K.faults sink.old ≤ K.faults sink.new }
 {
     write_all(sink, text.as_bytes())?;
