@@ -162,6 +162,20 @@ module _ (budget : ℕ) (sheet : Sheet) (ex : Exercise) (space : Searched) where
       (λ none. writes_so (CertifiesHead ex sheet Nothing Unfavorable) (Certifies budget sheet ex) cut old new result
       (of_none budget sheet ex is.1 none))
 
+  pub best_certified : (score : Grid) (penalty : ℕ) (cut : Type 0) (old new : Option (List ℕ)) (result : Result Verdict Halt)
+      → IsSpaceOf ex sheet space
+      → IsFound space.exercise space.sheet budget (found.Best score penalty)
+      → Writes (CertifiesHead space.exercise space.sheet (Best penalty score) Favorable) cut old new result
+      → Writes (Certifies budget sheet ex) cut old new result
+  best_certified score penalty cut old new result is =
+      subst
+      (λ s. IsFound s.exercise s.sheet budget (found.Best score penalty)
+      → Writes (CertifiesHead s.exercise s.sheet (Best penalty score) Favorable) cut old new result
+      → Writes (Certifies budget sheet ex) cut old new result)
+      (sym is.0)
+      (λ best. writes_so (CertifiesHead ex sheet (Best penalty score) Favorable) (Certifies budget sheet ex) cut old new
+      result (of_best budget sheet ex is.1 score penalty best))
+
   pub bound_told : (bound : ℕ) (cut : Type 0) (old new : Option (List ℕ)) (result : Result Verdict Halt)
       → IsSpaceOf ex sheet space
       → IsFound space.exercise space.sheet budget (found.Spent bound)

@@ -1,5 +1,6 @@
 pub mod AskedLemmas
 pub mod BestLemmas
+pub mod BlameLemmas
 pub mod CertifyLemmas
 pub mod CheckLemmas
 pub mod ClassLemmas
@@ -11,4 +12,5 @@ pub mod RunLemmas
 pub mod SimpleForms
 pub mod SinkLemmas
 pub mod Taken
+pub mod WithinLemmas
 pub mod WorkLemmas

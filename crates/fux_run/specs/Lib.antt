@@ -1,3 +1,4 @@
+pub mod Blame
 pub mod Certified
 pub mod Checked
 pub mod Classes

@@ -1,8 +1,11 @@
 //! The command `certify`.
 
+ghost use Rattle.std.specs.Prelude.{IfErr};
 ghost use Rattle.cert_law.specs.Certificates.{Holds};
 ghost use Rattle.cert_writer.specs.Heads.{head_with};
 ghost use Rattle.fux_grid.specs.Exercises.{IsValid};
+ghost use Rattle.fux_port.specs.Promises.{TakesAll};
+ghost use Rattle.fux_run.specs.Blame.{CouldWrite};
 ghost use Rattle.fux_run.specs.Certified.{Certifies, CertifiesFound};
 ghost use Rattle.fux_run.specs.Composed.{IsBoundText};
 ghost use Rattle.fux_run.specs.Runs.{WritesTo};
@@ -29,7 +32,8 @@ pub fn certify<K: Sink, R: Threads + Sync>(
     out: &mut K,
 ) -> Result<Verdict, Halt>
     requires { IsValid exercise.now }
-    ensures { WritesTo K.written K.faults (Certifies budget sheet.now exercise.now) out.old out.new result }
+    ensures writes { WritesTo K.written K.faults (Certifies budget sheet.now exercise.now) out.old out.new result }
+    ensures taken { TakesAll (K.serves out.old) → IfErr result CouldWrite }
 {
     let space = space_of(rt, alloc, exercise, sheet)?;
     let Ok(found) = search(alloc, &space, budget) else {
@@ -60,7 +64,8 @@ fn put_certificate<K: Sink>(
 ) -> Result<Verdict, Halt>
     requires valid { IsValid space.now.exercise }
     requires holds { Holds space.now.exercise space.now.sheet (head_with best) }
-    ensures { WritesTo K.written K.faults (CertifiesFound space.now best.entry verdict) out.old out.new result }
+    ensures writes { WritesTo K.written K.faults (CertifiesFound space.now best.entry verdict) out.old out.new result }
+    ensures taken { TakesAll (K.serves out.old) → IfErr result CouldWrite }
 {
     match cert_writer::certify(alloc, space, best, out) {
         Ok(()) => Ok(verdict),
@@ -72,7 +77,8 @@ fn put_certificate<K: Sink>(
 
 /// Writes the line of a bound.
 fn put_bound<K: Sink>(alloc: Global, bound: u64, out: &mut K) -> Result<Verdict, Halt>
-    ensures { WritesTo K.written K.faults (IsBoundText bound) out.old out.new result }
+    ensures writes { WritesTo K.written K.faults (IsBoundText bound) out.old out.new result }
+    ensures taken { TakesAll (K.serves out.old) → IfErr result CouldWrite }
 {
     let Ok(text) = bound_text(alloc, bound) else {
         return Err(Halt::Stopped(Stop::Memory));

@@ -3,6 +3,8 @@
 ghost use Rattle.std.specs.Prelude.{◌≡◌, ◌<◌, ◌≤◌, IfErr, IfOk, OnOk};
 ghost use Rattle.cert_check.specs.declared.verdict.Verdict.{Verdict as AVerdict};
 ghost use Rattle.fux_grid.specs.Exercises.{IsValid, bar_of, slot_of};
+ghost use Rattle.fux_port.specs.Promises.{ServesWhole};
+ghost use Rattle.fux_run.specs.Blame.{IsReadWithin};
 ghost use Rattle.fux_run.specs.Checked.{ChecksOn, told, verdict_on};
 ghost use Rattle.fux_run.specs.Searched.{IsNarrow, RefusesWidth};
 
@@ -27,6 +29,7 @@ pub fn check<F: Shelf, R: Threads + Sync>(
 ) -> Result<Output, Unmade>
     requires { IsValid exercise.now }
     ensures checks { ChecksOn F.files F.faults certificate.now sheet.now exercise.now shelf.old shelf.new result }
+    ensures served { ServesWhole (F.serves shelf.old) certificate.now 1073741824 → IfErr result IsReadWithin }
     ensures files { F.files shelf.new ≡ F.files shelf.old }
     ensures faults { F.faults shelf.old ≤ F.faults shelf.new }
 {

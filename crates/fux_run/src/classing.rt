@@ -1,7 +1,9 @@
 //! The command `class`.
 
-ghost use Rattle.std.specs.Prelude.{◌≡◌, ℕ, ◌<◌, ◌≤◌, IfOk, List, length, map, string_bytes};
+ghost use Rattle.std.specs.Prelude.{◌≡◌, ℕ, ◌<◌, ◌≤◌, IfErr, IfOk, List, length, map, string_bytes};
 ghost use Rattle.fux_port.specs.Counts.{Rose};
+ghost use Rattle.fux_port.specs.Promises.{Keeps};
+ghost use Rattle.fux_run.specs.Blame.{BlamesNoFile, CouldRead, ServesNames, ServesTask};
 ghost use Rattle.fux_run.specs.Classes.{IsClass, class_verdict};
 ghost use Rattle.fux_run.specs.Commands.{class_report};
 ghost use Rattle.fux_run.specs.Runs.{IsMade};
@@ -43,6 +45,7 @@ impl<T: Drop> From<AllocFailed<T>> for Unread {
 fn read_texts<F: Shelf>(alloc: Global, shelf: &mut F, names: &[String]) -> Result<Vec<Text>, Unread>
     ensures reads { ReadsTexts (F.files shelf.old) (Rose (F.faults shelf.old) (F.faults shelf.new))
         (map string_bytes names.now) result }
+    ensures served { ServesNames (F.serves shelf.old) 65536 (map string_bytes names.now) → IfErr result CouldRead }
     ensures files { F.files shelf.new ≡ F.files shelf.old }
     ensures faults { F.faults shelf.old ≤ F.faults shelf.new }
 {
@@ -105,6 +108,8 @@ fn report_files<F: Shelf, R: Threads + Sync>(
 ) -> Result<Output, Complaint<'static>>
     ensures reports { ReportsFiles (F.files shelf.old) (Rose (F.faults shelf.old) (F.faults shelf.new))
         (map string_bytes names.items) result }
+    ensures served { ServesNames (F.serves shelf.old) 65536 (map string_bytes names.items)
+        → IfErr result BlamesNoFile }
     ensures files { F.files shelf.new ≡ F.files shelf.old }
     ensures faults { F.faults shelf.old ≤ F.faults shelf.new }
 {
@@ -127,6 +132,8 @@ pub fn class<'a, F: Shelf, R: Threads + Sync>(
 ) -> Result<Output, Complaint<'a>>
     ensures made { IsMade (class_report list.entry.now) (F.files shelf.old)
         (Rose (F.faults shelf.old) (F.faults shelf.new)) result }
+    ensures served { ServesTask (F.serves shelf.old) (F.files shelf.old) (class_report list.entry.now)
+        → IfErr result BlamesNoFile }
     ensures files { F.files shelf.new ≡ F.files shelf.old }
 {
     let text = read_content(alloc, shelf, list, LONGEST_TEXT)?;

@@ -1,7 +1,9 @@
 //! Reading a file.
 
-ghost use Rattle.std.specs.Prelude.{◌≡◌, ◌≤◌};
+ghost use Rattle.std.specs.Prelude.{◌≡◌, ◌≤◌, IfErr};
 ghost use Rattle.fux_port.specs.Counts.{Rose};
+ghost use Rattle.fux_port.specs.Promises.{Keeps, ServesWhole};
+ghost use Rattle.fux_run.specs.Blame.{BlamesNoFile};
 ghost use Rattle.fux_run.specs.Works.{Reads};
 
 use crate::complaint::{Complaint, FileName};
@@ -17,6 +19,8 @@ pub fn read_content<'a, F: Shelf>(
     limit: usize,
 ) -> Result<Text, Complaint<'a>>
     ensures reads { Reads limit (F.files shelf.old) (Rose (F.faults shelf.old) (F.faults shelf.new)) name.now result }
+    ensures served { ServesWhole (F.serves shelf.old) name.now limit → IfErr result BlamesNoFile }
+    ensures serving { Keeps (F.serves shelf.old) (F.serves shelf.new) }
     ensures files { F.files shelf.new ≡ F.files shelf.old }
     ensures faults { F.faults shelf.old ≤ F.faults shelf.new }
 {

@@ -1,9 +1,11 @@
 //! What a command makes of its files.
 
-ghost use Rattle.std.specs.Prelude.{◌≡◌, ◌≤◌};
+ghost use Rattle.std.specs.Prelude.{◌≡◌, ◌≤◌, IfErr};
 ghost use Rattle.fux_grid.specs.Exercises.{IsValid};
 ghost use Rattle.fux_port.specs.Counts.{Rose};
-ghost use Rattle.fux_run.specs.Commands.{HasMidiHead, making_task, sheet_named};
+ghost use Rattle.fux_port.specs.Promises.{Keeps, ServesWhole};
+ghost use Rattle.fux_run.specs.Blame.{BlamesNoFile, BlamesNoWrite, IsReadWithin, ServesNames, ServesTask};
+ghost use Rattle.fux_run.specs.Commands.{HasMidiHead, as_list, making_task, sheet_named};
 ghost use Rattle.fux_run.specs.Complaints.{refusal_text};
 ghost use Rattle.fux_run.specs.Runs.{IsMade, Says, SaysRefusal, SaysWithin};
 ghost use Rattle.fux_run.specs.Works.{Answers, ChecksTexts, MakesOf, MakesOfText, OnTexts, ReadsSheetFile};
@@ -40,6 +42,8 @@ pub fn make<'a, F: Shelf, R: Threads + Sync>(
     requires { HasMidiHead making }
     ensures made { IsMade (making_task making.entry) (F.files shelf.old)
         (Rose (F.faults shelf.old) (F.faults shelf.new)) result }
+    ensures served { ServesTask (F.serves shelf.old) (F.files shelf.old) (making_task making.entry)
+        → IfErr result BlamesNoFile }
     ensures files { F.files shelf.new ≡ F.files shelf.old }
 {
     match making {
@@ -79,6 +83,9 @@ pub fn read_weights<'a, F: Shelf>(
 ) -> Result<Option<Text>, Complaint<'a>>
     ensures reads { ReadsSheetFile (F.files shelf.old) (Rose (F.faults shelf.old) (F.faults shelf.new))
         (sheet_named name.entry) result }
+    ensures served { ServesNames (F.serves shelf.old) 65536 (as_list (sheet_named name.entry))
+        → IfErr result BlamesNoFile }
+    ensures serving { Keeps (F.serves shelf.old) (F.serves shelf.new) }
     ensures files { F.files shelf.new ≡ F.files shelf.old }
     ensures faults { F.faults shelf.old ≤ F.faults shelf.new }
 {
@@ -113,6 +120,7 @@ fn check_texts<F: Shelf, R: Threads + Sync>(
     certificate: &str,
 ) -> Result<Output, Unmade>
     ensures checks { ChecksTexts F.files F.faults certificate.now text.now weights.now shelf.old shelf.new result }
+    ensures served { ServesWhole (F.serves shelf.old) certificate.now 1073741824 → IfErr result IsReadWithin }
     ensures files { F.files shelf.new ≡ F.files shelf.old }
     ensures faults { F.faults shelf.old ≤ F.faults shelf.new }
 {
@@ -147,7 +155,8 @@ fn said<'a>(
     name: &str,
     answer: Result<Output, Stop>,
 ) -> Result<Output, Complaint<'a>>
-    ensures { Says name.now answer result }
+    ensures says { Says name.now answer result }
+    ensures reads { IfErr result BlamesNoFile }
 {
     match answer {
         Ok(output) => Ok(output),
@@ -164,7 +173,8 @@ fn said_within<'a>(
     within: &'a str,
     answer: Result<Output, Unmade>,
 ) -> Result<Output, Complaint<'a>>
-    ensures { SaysWithin name.now within.entry.now answer result }
+    ensures says { SaysWithin name.now within.entry.now answer result }
+    ensures reads { IfErr answer IsReadWithin → IfErr result BlamesNoFile }
 {
     match answer {
         Ok(output) => Ok(output),
@@ -177,7 +187,9 @@ fn said_within<'a>(
 
 /// The complaint about a refused file of this name.
 pub fn refused<'a>(alloc: Global, name: &str, refusal: &Refusal) -> Complaint<'a>
-    ensures { SaysRefusal (refusal_text name.now refusal.now) result }
+    ensures says { SaysRefusal (refusal_text name.now refusal.now) result }
+    ensures reads { BlamesNoFile result }
+    ensures writes { BlamesNoWrite result }
 {
     match refusal_text(alloc, name, refusal) {
         Ok(text) => Complaint::Refused { text },

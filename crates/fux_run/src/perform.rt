@@ -1,7 +1,9 @@
 //! The work of a command on its files.
 
-ghost use Rattle.std.specs.Prelude.{◌≡◌};
-ghost use Rattle.fux_run.specs.Commands.{HasHead, HasMidiHead, making_task, task_of};
+ghost use Rattle.std.specs.Prelude.{◌≡◌, ◌∷◌, IfErr};
+ghost use Rattle.fux_port.specs.Promises.{TakesAll};
+ghost use Rattle.fux_run.specs.Blame.{BlamesNoFile, BlamesNoWrite, CouldWrite, ServesNames, ServesTask};
+ghost use Rattle.fux_run.specs.Commands.{HasHead, HasMidiHead, as_list, making_task, sheet_named, task_of};
 ghost use Rattle.fux_run.specs.Runs.{CertifiesTexts, CertifyEnds, Ended, EndsOn, SaysWritten};
 
 use crate::certifying::certify;
@@ -28,6 +30,9 @@ pub fn perform<'a, F: Shelf, K: Sink, R: Threads + Sync>(
     requires { HasHead command }
     ensures ended { EndsOn F.files F.faults K.written K.faults (Ended (task_of command.entry))
         shelf.old shelf.new out.old out.new result }
+    ensures served { ServesTask (F.serves shelf.old) (F.files shelf.old) (task_of command.entry)
+        → IfErr result BlamesNoFile }
+    ensures taken { TakesAll (K.serves out.old) → IfErr result BlamesNoWrite }
     ensures files { F.files shelf.new ≡ F.files shelf.old }
 {
     match command {
@@ -51,6 +56,9 @@ fn perform_making<'a, F: Shelf, K: Sink, R: Threads + Sync>(
     requires { HasMidiHead making }
     ensures ended { EndsOn F.files F.faults K.written K.faults (Ended (making_task making.entry))
         shelf.old shelf.new out.old out.new result }
+    ensures served { ServesTask (F.serves shelf.old) (F.files shelf.old) (making_task making.entry)
+        → IfErr result BlamesNoFile }
+    ensures taken { TakesAll (K.serves out.old) → IfErr result BlamesNoWrite }
     ensures files { F.files shelf.new ≡ F.files shelf.old }
 {
     let output = make(rt, alloc, making, shelf)?;
@@ -72,6 +80,9 @@ fn perform_certify<'a, F: Shelf, K: Sink, R: Threads + Sync>(
 ) -> Result<Verdict, Complaint<'a>>
     ensures ended { CertifyEnds F.files F.faults K.written K.faults name.entry sheet.entry budget
         shelf.old shelf.new out.old out.new result }
+    ensures served { ServesNames (F.serves shelf.old) 65536 (name.entry.now ∷ as_list (sheet_named sheet.entry))
+        → IfErr result BlamesNoFile }
+    ensures taken { TakesAll (K.serves out.old) → IfErr result BlamesNoWrite }
     ensures files { F.files shelf.new ≡ F.files shelf.old }
 {
     let text = read_content(alloc, shelf, name, LONGEST_TEXT)?;
@@ -92,7 +103,8 @@ fn certify_texts<K: Sink, R: Threads + Sync>(
     budget: u32,
     out: &mut K,
 ) -> Result<Verdict, Halt>
-    ensures { CertifiesTexts K.written K.faults budget text.now weights.now out.old out.new result }
+    ensures certifies { CertifiesTexts K.written K.faults budget text.now weights.now out.old out.new result }
+    ensures taken { TakesAll (K.serves out.old) → IfErr result CouldWrite }
 {
     let exercise = exercise_of(alloc, text)?;
     let sheet = sheet_of(alloc, weights)?;
@@ -105,7 +117,9 @@ fn said_of(
     name: &str,
     answer: Result<Verdict, Halt>,
 ) -> Result<Verdict, Complaint<'static>>
-    ensures { SaysWritten name.now answer result }
+    ensures says { SaysWritten name.now answer result }
+    ensures reads { IfErr result BlamesNoFile }
+    ensures writes { IfErr answer CouldWrite → IfErr result BlamesNoWrite }
 {
     match answer {
         Ok(verdict) => Ok(verdict),

@@ -1,8 +1,10 @@
 //! The top call.
 
-ghost use Rattle.std.specs.Prelude.{◌≡◌, ◌≢◌, ℕ, ◌<◌, ◌⊎◌, Contains, List, None, Some, codes};
+ghost use Rattle.std.specs.Prelude.{◌≡◌, ◌≢◌, ℕ, ◌<◌, ◌⊎◌, Contains, List, None, Some, IfErr, codes};
 ghost use Rattle.fux_port.specs.Counts.{Rose};
 ghost use Rattle.fux_port.specs.Files.{IsMissing};
+ghost use Rattle.fux_port.specs.Promises.{TakesAll};
+ghost use Rattle.fux_run.specs.Blame.{BlamesNoFile, BlamesNoWrite, ServesTask};
 ghost use Rattle.fux_run.specs.Commands.{Task, asked, name_in, names_in, names_within, texts};
 ghost use Rattle.fux_run.specs.Complaints.{fux_line};
 ghost use Rattle.fux_run.specs.Runs.{EndedBy, EndsAs, EndsOn, EndsUnread, IsDone, IsStopped, result_line, result_status};
@@ -56,6 +58,11 @@ pub fn run<F: Shelf, K: Sink, E: Sink, R: Threads + Sync>(
     ensures unwritable { result ≡ code_of Status.Unwritable
         → Rose (K.faults out.old) (K.faults out.new) }
 
+    // No device is blamed that promises: each read of the command's files up to their limits, or each write.
+    ensures served { (task : Task) → asked (texts words.now) ≡ Some task
+        → ServesTask (F.serves shelf.old) (F.files shelf.old) task → result ≢ code_of Status.Unreadable }
+    ensures taken { TakesAll (K.serves out.old) → result ≢ code_of Status.Unwritable }
+
     // Otherwise, unless memory is wanting, the command does its work on its files.
     ensures works { (task : Task) → asked (texts words.now) ≡ Some task
         → result ≢ code_of Status.Unreadable → result ≢ code_of Status.OutOfMemory
@@ -98,6 +105,9 @@ fn outcome<'a, F: Shelf, K: Sink, R: Threads + Sync>(
 ) -> Result<Verdict, Complaint<'a>>
     ensures ended { EndsOn F.files F.faults K.written K.faults (EndedBy words.entry.now)
         shelf.old shelf.new out.old out.new result }
+    ensures served { (task : Task) → asked (texts words.now) ≡ Some task
+        → ServesTask (F.serves shelf.old) (F.files shelf.old) task → IfErr result BlamesNoFile }
+    ensures taken { TakesAll (K.serves out.old) → IfErr result BlamesNoWrite }
     ensures files { F.files shelf.new ≡ F.files shelf.old }
 {
     match parse(alloc, words) {

@@ -4,16 +4,16 @@ use Rattle.cert_writer.specs.Heads.{head_with}
 use Rattle.fux_run.proofs.CertifyLemmas.{all_written, part_written, too_long}
 use Rattle.fux_run.proofs.certifying.put_certificate.Goals as goal
 
-pub returns-in-Ok : goal.returns-in-Ok
-returns-in-Ok g c =
+pub returns-in-Ok-clause-writes : goal.returns-in-Ok-clause-writes
+returns-in-Ok-clause-writes g c =
     let space = c.args.space.now in
     all_written space.exercise space.sheet (head_with c.args.best) c.args.verdict c.requires.valid c.requires.holds
     (Rose (g.K.Sink.faults c.args.out.now) (g.K.Sink.faults c.certify.new.sink)) _ _
     (λ long. elim (c.certify.ensures.fits long) [ inl is ↦ cc (is, c.in-Ok.is) | inr is ↦ cc (is, c.in-Ok.is) ])
     c.in-Ok.ensures.ok
 
-pub returns-in-Err-WriteFault : goal.returns-in-Err-WriteFault
-returns-in-Err-WriteFault g c =
+pub returns-in-Err-WriteFault-clause-writes : goal.returns-in-Err-WriteFault-clause-writes
+returns-in-Err-WriteFault-clause-writes g c =
     let space = c.args.space.now in
     let fault = c.in-Err-WriteFault.is ∙ ap Err c.in-Err-WriteFault.field-0-is in
     part_written space.exercise space.sheet (head_with c.args.best) c.args.verdict c.requires.valid c.requires.holds
@@ -21,10 +21,14 @@ returns-in-Err-WriteFault g c =
     (λ long. elim (c.certify.ensures.fits long) [ inl is ↦ cc (is, fault) | inr is ↦ cc (is, fault) ])
     (c.certify.ensures.cause fault) (c.certify.ensures.short fault)
 
-pub returns-in-Err-TooLong : goal.returns-in-Err-TooLong
-returns-in-Err-TooLong g c =
+pub returns-in-Err-TooLong-clause-writes : goal.returns-in-Err-TooLong-clause-writes
+returns-in-Err-TooLong-clause-writes g c =
     let space = c.args.space.now in
     let fault = c.in-Err-TooLong.is ∙ ap Err c.in-Err-TooLong.field-0-is in
     too_long space.exercise space.sheet (head_with c.args.best) c.args.verdict c.requires.valid c.requires.holds
     (Rose (g.K.Sink.faults c.args.out.now) (g.K.Sink.faults c.certify.new.sink)) _ _
     (c.certify.ensures.too_long fault) (c.certify.ensures.unwritten (inl fault))
+
+pub returns-in-Err-WriteFault-clause-taken : goal.returns-in-Err-WriteFault-clause-taken
+returns-in-Err-WriteFault-clause-taken g c = λ all.
+    c.certify.ensures.taken all (c.in-Err-WriteFault.is ∙ ap Err c.in-Err-WriteFault.field-0-is)

@@ -24,3 +24,7 @@ returns-in-Ok-report_output-clause-reports g c =
     class_in (g.F.Shelf.files c.args.shelf.now) (map string_bytes c.args.names.items) c.in-Ok.texts.items
     c.in-Ok-report_output.output (rw c.deref.ensures.value at c.in-Ok.ensures.reads)
     (rw (c.deref-in-Ok.ensures.value, c.deref-in-Ok-2.ensures.value) at c.in-Ok-report_output.ensures)
+
+pub returns-in-Err-At-clause-served : goal.returns-in-Err-At-clause-served
+returns-in-Err-At-clause-served g c = λ promised.
+    absurd (rw c.in-Err-At.field-0-is at (c.in-Err-At.ensures.served (rw c.deref.ensures.value promised)))

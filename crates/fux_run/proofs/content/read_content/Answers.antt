@@ -17,6 +17,10 @@ returns-in-Err-TooLong-clause-reads g c =
     long_content c.args.limit (g.F.Shelf.files c.args.shelf.now) c.args.name.now
     (λ absent. cc (known.missing absent, fault)) (known.too_long (ap Err fault))
 
+pub returns-in-Err-Failed-clause-served : goal.returns-in-Err-Failed-clause-served
+returns-in-Err-Failed-clause-served g c = λ promised.
+    c.read_whole.ensures.served promised (c.in-Err-Failed.is ∙ ap Err c.in-Err-Failed.field-0-is)
+
 pub returns-in-Err-Failed-clause-reads : goal.returns-in-Err-Failed-clause-reads
 returns-in-Err-Failed-clause-reads g c =
     (refl, c.read_whole.ensures.failed (c.in-Err-Failed.is ∙ ap Err c.in-Err-Failed.field-0-is))

@@ -4,8 +4,9 @@ use Rattle.fux_port.specs.Counts.{Rose}
 use Rattle.fux_port.proofs.Rises.{rose_later}
 use Rattle.fux_run.specs.Commands.{as_list, check, drill, fromsmf, on_exercise, sheet_named}
 use Rattle.fux_run.specs.Runs.{IsMade}
+use Rattle.fux_run.proofs.BlameLemmas.{names_kept, whole_kept}
 use Rattle.fux_run.proofs.CheckLemmas.{checked_said, of_check}
-use Rattle.fux_run.proofs.MakeLemmas.{made_said, of_none, of_one, of_two, read_same, sheet_unread}
+use Rattle.fux_run.proofs.MakeLemmas.{have_bytes, made_said, of_none, of_one, of_two, read_same, sheet_unread}
 use Rattle.fux_run.proofs.making.make.Goals as goal
 
 pub returns-in_err-weights-in-OnExercise-clause-made :
@@ -41,7 +42,7 @@ returns-in_ok-weights-in-OnExercise-clause-made g c =
           c.in_ok-weights-in-OnExercise.ensures.reads,
     )
     (of_two (g.F.Shelf.files c.args.shelf.now) name sheet job text weights c.of_texts.result c.of_texts.ensures)
-    c.said.ensures)
+    c.said.ensures.says)
 
 pub returns-in_err-weights-in-Check-clause-made :
     goal.returns-in_err-weights-in-Check-clause-made
@@ -84,7 +85,7 @@ returns-in_ok-weights-in-Check-clause-made g c =
     (c.in_ok-weights-in-Check.ensures.files ∙ same)
     (λ later. rose_later _ _ _ c.in_ok-text-in-Check.ensures.faults
     (rose_later _ _ _ c.in_ok-weights-in-Check.ensures.faults later))
-    c.check_texts.ensures.checks) c.said_within.ensures)
+    c.check_texts.ensures.checks) c.said_within.ensures.says)
 
 pub returns-in_ok-file-in-FromSmf-clause-made : goal.returns-in_ok-file-in-FromSmf-clause-made
 returns-in_ok-file-in-FromSmf-clause-made g c =
@@ -94,10 +95,64 @@ returns-in_ok-file-in-FromSmf-clause-made g c =
     rw c.in-FromSmf.is (made_said (fromsmf name head) (g.F.Shelf.files c.args.shelf.now) _ (file ∷ []) c.from_smf.result
     c.said-in-FromSmf.result (c.in_ok-file-in-FromSmf.ensures.reads, tt)
     (of_one (g.F.Shelf.files c.args.shelf.now) name head file c.from_smf.result c.from_smf.ensures)
-    c.said-in-FromSmf.ensures)
+    c.said-in-FromSmf.ensures.says)
 
 pub returns-in-Drill-clause-made : goal.returns-in-Drill-clause-made
 returns-in-Drill-clause-made g c =
     rw c.in-Drill.is (made_said (drill c.in-Drill.number) (g.F.Shelf.files c.args.shelf.now) _ [] c.drill.result
     c.said-in-Drill.result tt (of_none (g.F.Shelf.files c.args.shelf.now) c.in-Drill.number c.drill.result
-    c.drill.ensures) c.said-in-Drill.ensures)
+    c.drill.ensures) c.said-in-Drill.ensures.says)
+
+pub returns-in_err-text-in-OnExercise-clause-served : goal.returns-in_err-text-in-OnExercise-clause-served
+returns-in_err-text-in-OnExercise-clause-served g c =
+    let told = err_from_is_err_and c.from_residual.result c.from_residual.ensures.1 in
+    rw (c.in-OnExercise.is, told.1, told.2) (λ promised. c.in_err-text-in-OnExercise.ensures.served promised.before.0)
+
+pub returns-in_err-weights-in-OnExercise-clause-served : goal.returns-in_err-weights-in-OnExercise-clause-served
+returns-in_err-weights-in-OnExercise-clause-served g c =
+    let told = err_from_is_err_and c.from_residual-in_err-weights-in-OnExercise.result
+    c.from_residual-in_err-weights-in-OnExercise.ensures.1 in
+    rw (c.in-OnExercise.is, told.1, told.2) (λ promised. c.in_err-weights-in-OnExercise.ensures.served
+    (names_kept (g.F.Shelf.serves c.args.shelf.now) (g.F.Shelf.serves c.read_content.new.shelf) 65536
+    (as_list (sheet_named c.in-OnExercise.sheet)) c.in_ok-text-in-OnExercise.ensures.serving promised.before.1))
+
+pub returns-in_err-text-in-Check-clause-served : goal.returns-in_err-text-in-Check-clause-served
+returns-in_err-text-in-Check-clause-served g c =
+    let told = err_from_is_err_and c.from_residual-in_err-text-in-Check.result c.from_residual-in_err-text-in-Check.ensures.1 in
+    rw (c.in-Check.is, told.1, told.2) (λ promised. c.in_err-text-in-Check.ensures.served promised.before.0)
+
+pub returns-in_err-weights-in-Check-clause-served : goal.returns-in_err-weights-in-Check-clause-served
+returns-in_err-weights-in-Check-clause-served g c =
+    let told = err_from_is_err_and c.from_residual-in_err-weights-in-Check.result
+    c.from_residual-in_err-weights-in-Check.ensures.1 in
+    rw (c.in-Check.is, told.1, told.2) (λ promised. c.in_err-weights-in-Check.ensures.served
+    (names_kept (g.F.Shelf.serves c.args.shelf.now) (g.F.Shelf.serves c.read_content-in-Check.new.shelf) 65536
+    (as_list (sheet_named c.in-Check.sheet)) c.in_ok-text-in-Check.ensures.serving promised.before.1))
+
+pub returns-in_ok-weights-in-Check-clause-served : goal.returns-in_ok-weights-in-Check-clause-served
+returns-in_ok-weights-in-Check-clause-served g c =
+    let files = g.F.Shelf.files in
+    let serves = g.F.Shelf.serves in
+    let name = c.in-Check.name.now in
+    let certificate = c.in-Check.certificate.now in
+    let sheet = sheet_named c.in-Check.sheet in
+    let text = c.in_ok-text-in-Check.text in
+    let weights = c.in_ok-weights-in-Check.weights in
+    let known = have_bytes 65536 (files c.args.shelf.now) (name ∷ as_list sheet) (text ∷ as_list weights) (
+      c.in_ok-text-in-Check.ensures.reads,
+      read_same 65536 (files c.args.shelf.now) _ (as_list sheet) (as_list weights) c.in_ok-text-in-Check.ensures.files
+          c.in_ok-weights-in-Check.ensures.reads,
+    ) in
+    rw c.in-Check.is (λ promised. c.said_within.ensures.reads (c.check_texts.ensures.served
+    (whole_kept (serves c.read_content-in-Check.new.shelf) (serves c.read_weights-in-Check.new.shelf) certificate
+    1073741824 c.in_ok-weights-in-Check.ensures.serving
+    (whole_kept (serves c.args.shelf.now) (serves c.read_content-in-Check.new.shelf) certificate 1073741824
+    c.in_ok-text-in-Check.ensures.serving (promised.within known.bytes known.had).0))))
+
+pub returns-in_err-file-in-FromSmf-clause-served : goal.returns-in_err-file-in-FromSmf-clause-served
+returns-in_err-file-in-FromSmf-clause-served g c =
+    let told = err_from_is_err_and c.from_residual-in_err-file-in-FromSmf.result c.from_residual-in_err-file-in-FromSmf.ensures.1 in
+    rw (c.in-FromSmf.is, told.1, told.2) (λ promised. c.in_err-file-in-FromSmf.ensures.served promised.before.0)
+
+pub returns-in-Class-clause-served : goal.returns-in-Class-clause-served
+returns-in-Class-clause-served g c = rw c.in-Class.is c.class.ensures.served

@@ -1,6 +1,7 @@
 use Rattle.fux_port.specs.Counts.{Rose}
 use Rattle.fux_run.specs.Commands.{asked, texts}
 use Rattle.fux_run.specs.Sinks.{Gets}
+use Rattle.fux_run.proofs.BlameLemmas.{reads_status, writes_status}
 use Rattle.fux_run.proofs.RunLemmas.{RanAs, of_task, ran_complete, ran_missing, ran_missing_within, ran_unreadable, ran_works, run_form, run_known, run_memory_line, run_silent, run_unwritable, run_unwritten, run_usage, run_usage_line}
 use Rattle.fux_run.proofs.SinkLemmas.{gets_none}
 use Rattle.fux_run.proofs.top_call.run.Goals as goal
@@ -66,3 +67,11 @@ returns-clause-unwritable_line g c = λ five. (run_unwritable _ _ _ _ _ _ _ _ _ 
 
 pub returns-clause-memory_line : goal.returns-clause-memory_line
 returns-clause-memory_line g c = λ seven. run_memory_line _ _ _ _ _ _ _ _ _ (ran g c) seven
+
+pub returns-clause-served : goal.returns-clause-served
+returns-clause-served g c = λ task is promised. reads_status c.outcome-ended.result c.code.result
+    (rw c.conclude.ensures.status at c.code.ensures) (c.outcome-ended.ensures.served task is promised)
+
+pub returns-clause-taken : goal.returns-clause-taken
+returns-clause-taken g c = λ all. writes_status c.outcome-ended.result c.code.result
+    (rw c.conclude.ensures.status at c.code.ensures) (c.outcome-ended.ensures.taken all)

@@ -1,0 +1,26 @@
+-- What `check` answers to the texts of an exercise and of a sheet, from what it answers to these (`check_of_sheet`).
+use Rattle.std.proofs.Common.{◌≡◌, List, ℕ, Result, Ok, Err, inl}
+use Rattle.class_marker.specs.Markings.{IsTheText}
+use Rattle.fux_grid.specs.declared.exercise.Exercise.{Exercise}
+use Rattle.penalty_sheet.specs.declared.sheet.Sheet.{Sheet}
+use Rattle.fux_run.specs.declared.work.Output.{Output}
+use Rattle.fux_run.specs.declared.work.Stop.TheVariants.{Refused, Memory}
+use Rattle.fux_run.specs.declared.work.Unmade.{Unmade}
+use Rattle.fux_run.specs.declared.work.Unmade.TheVariants.{Stopped, Unreadable}
+use Rattle.fux_run.specs.Checked.{AnswersWithin, Checks}
+use Rattle.fux_run.specs.Searched.{IsNarrow}
+use Rattle.fux_run.specs.Sheets.{sheet_said}
+use Rattle.fux_run.specs.Works.{ChecksText, Files, IsReadyText}
+
+module _ (files : Files) (certificate : List ℕ) (unread : Type 0) (sheets : List (List ℕ)) (bytes : List ℕ) (ex : Exercise)
+    (sheet : Sheet) where
+  pub check_of_sheet : (answer : Result Output Unmade) → IsTheText bytes ex → sheet_said sheets ≡ Ok sheet
+      → AnswersWithin (Checks files certificate sheet ex) (IsNarrow ex × unread) answer
+      → AnswersWithin (ChecksText files certificate sheets bytes) (IsReadyText sheets bytes × unread) answer
+  check_of_sheet (Ok output) text said made =
+      inl record { exercise = ex; text = text; made = inl record { sheet = sheet; said = said; made = made } }
+  check_of_sheet (Err (Stopped (Refused refusal))) text said made =
+      inl record { exercise = ex; text = text; made = inl record { sheet = sheet; said = said; made = made } }
+  check_of_sheet (Err (Stopped Memory)) text said made = tt
+  check_of_sheet (Err Unreadable) text said made =
+      (record { exercise = ex; is = text; sheet = sheet; said = said; narrow = made.0 }, made.1)
