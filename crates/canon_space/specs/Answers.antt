@@ -1,5 +1,5 @@
--- What a search for the best canon tells within a budget, which is spent exactly where it must be. Loads are counted over the live
--- paths, which are exactly the bars that begin a canon and break no rule (`Trees.IsTreeOfCanons`).
+-- What a search for the best canon tells within a budget, which is spent exactly where it must be. Loads are counted
+-- over the live paths, which are exactly the bars that begin a canon and break no rule (`Trees.IsTreeOfCanons`).
 use Rattle.std.specs.Prelude.{◌≡◌, ℕ, ◌+◌, ◌≤◌, ◌↔◌, List, IsSome}
 use Rattle.fux_grid.specs.declared.cell.Cell.{Cell}
 use Rattle.penalty_sheet.specs.declared.sheet.Sheet.{Sheet}

@@ -1,5 +1,5 @@
--- The rules of canons, and what canons cost: where a bar begins. Within bars, where notes are held, none of these rules is broken and
--- none of these tolls stands. Both voices are read as free voices of species 1.
+-- The rules of canons, and what canons cost: where a bar begins. Within bars, where notes are held, none of these
+-- rules is broken and none of these tolls stands. Both voices are read as free voices of species 1.
 use Rattle.std.specs.Prelude.{◌≡◌, ◌≢◌, ℕ, ◌≤◌, ◌+◌, ◌==◌, Bool, true, not, ◌&&◌, ◌||◌, nat_le, nat_lt, List, [], ◌∷◌, length, map, replicate, reverse, if◌then◌else◌}
 use Rattle.std.specs.List.{flat_map, list_all, list_any, sum_by}
 use Rattle.fux_pitch.specs.declared.pitch.Pitch.{Pitch}

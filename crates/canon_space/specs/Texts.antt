@@ -40,7 +40,8 @@ ends_of (Some low) (Some high) = if int_le (key_of low) (key_of high) then Some 
 
 -- `LOW HIGH`: the names of the ends of a range
 abbrev pub range_in : List ℕ → Option (Pitch × Pitch)
-range_in text = option_and_then (λ (parts : List ℕ × List ℕ). ends_of (pitch_named parts.0) (pitch_named parts.1)) (cut 32 text)
+range_in text =
+    option_and_then (λ (parts : List ℕ × List ℕ). ends_of (pitch_named parts.0) (pitch_named parts.1)) (cut 32 text)
 
 -- a number from -14 to 14
 abbrev pub shift_in : List ℕ → Option ℤ
@@ -71,7 +72,8 @@ follower_of (Some shift) (Some delay) (Some range) = Some (record { shift = shif
 
 abbrev pub delay_and_range : ℕ → Option ℤ → List ℕ → Option FollowerLine
 delay_and_range bars shift text =
-    option_and_then (λ (parts : List ℕ × List ℕ). follower_of shift (number_within 1 (bars - 2) parts.0) (range_in parts.1)) (cut 32 text)
+    option_and_then (λ (parts : List ℕ × List ℕ).
+    follower_of shift (number_within 1 (bars - 2) parts.0) (range_in parts.1)) (cut 32 text)
 
 abbrev pub shift_and_more : ℕ → List ℕ → Option FollowerLine
 shift_and_more bars text =
@@ -96,7 +98,8 @@ canon_said mode bars leader follower = record {
   ranges = ranges_of leader follower;
 }
 
--- the text from a line on: where the line is ended and of its form, what it says goes on with the text behind it; else it is at fault
+-- the text from a line on: where the line is ended and of its form, what it says goes on with the text behind it;
+-- else it is at fault
 abbrev pub with_line : {X : Type 0} → ℕ → Option X → List ℕ → (X → List ℕ → Result Canon ℕ) → Result Canon ℕ
 with_line number None rest next = Err number
 with_line number (Some said) rest next = next said rest
@@ -132,6 +135,7 @@ from_mode = at_line 2 mode_in from_bars
 abbrev pub from_title : List ℕ → Result Canon ℕ
 from_title = at_line 1 title_in (λ title. from_mode)
 
--- the canon that a text is of, or its first line at fault; a text of more than 65,536 bytes is at fault in its first line
+-- the canon that a text is of, or its first line at fault; a text of more than 65,536 bytes is at fault in its first
+-- line
 unfoldable pub canon_of : List ℕ → Result Canon ℕ
 canon_of text = if nat_lt 65536 (length text) then Err 1 else from_title text

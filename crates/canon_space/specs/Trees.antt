@@ -20,8 +20,8 @@ pub record LeafAt (canon : Canon) (sheet : Sheet) (bars : List (List Cell)) : Ty
   pub there : bars_at path ≡ bars
   pub leaf : IsLeaf (live_at canon sheet) canon.bars path (penalty_of canon sheet bars)
 
--- the live paths are exactly the bars that begin a canon and break no rule, each once and in reading order, with what they cost as
--- their floors, and the leaves exactly the lawful canons, with their penalties
+-- the live paths are exactly the bars that begin a canon and break no rule, each once and in reading order, with
+-- what they cost as their floors, and the leaves exactly the lawful canons, with their penalties
 pub record IsTreeOfCanons (canon : Canon) (sheet : Sheet) : Type 0 where
   pub bars_only : (path : List ℕ) → IsSome (live_at canon sheet path) → IsLive canon (bars_at path)
   pub each_bars : (bars : List (List Cell)) → IsLive canon bars → LivePath canon sheet bars
