@@ -1,17 +1,19 @@
-//! The table, read by one loop.
+//! The table, read by one loop, and a plain listing.
 
+ghost use Rattle.std.specs.Prelude.{◌+◌, ◌<◌, ◌≡◌};
+ghost use Rattle.canon_cases.specs.Listing.{HasLength};
 ghost use Rattle.canon_space.specs.Canons.{IsCanon};
 ghost use Rattle.canon_space.specs.Paths.{live_at};
 ghost use Rattle.tree_search.specs.Answer.{IsFirstLeast};
 
 use crate::table::{CASES, FAULTS};
-use canon_space::{Canon, CanonSpace, canon_score, read_canon};
+use canon_space::{Canon, CanonNode, CanonSpace, canon_score, read_canon};
 use fux_grid::{Cell, Score};
 use penalty_sheet::{Sheet, default_sheet};
 use std::alloc::Global;
 use std::fmt::Write;
 use std::test::Fail;
-use tree_search::{Outcome, search_front};
+use tree_search::{Outcome, Space, search_front};
 
 /// The notes of a voice at the beginnings of bars.
 fn put_voice(text: &mut String, score: &Score, v: usize) -> Result<(), Fail> {
@@ -95,5 +97,71 @@ fn tells_the_line_at_fault(rt: HostRuntime) -> Result<(), Fail> {
             Err(found) => assert_eq!(rt; found, wanted, "{line}"),
         }
     }
+    Ok(())
+}
+
+/// Appends the penalties of the canons that two bars begin.
+fn list_last(space: &CanonSpace, node: &CanonNode, penalties: &mut Vec<u64>) -> Result<(), Fail>
+    requires bars { space.now.canon.bars ≡ 3 }
+    requires node { HasLength space.now node.now 2 }
+{
+    for k in 0..space.count(node) {
+        if let Some((_, penalty)) = space.child(node, k) {
+            penalties.push(penalty)?;
+        }
+    }
+    Ok(())
+}
+
+/// Appends the penalties of the canons that one bar begins.
+fn list_second(space: &CanonSpace, node: &CanonNode, penalties: &mut Vec<u64>) -> Result<(), Fail>
+    requires bars { space.now.canon.bars ≡ 3 }
+    requires node { HasLength space.now node.now 1 }
+{
+    for k in 0..space.count(node) {
+        if let Some((next, _)) = space.child(node, k) {
+            list_last(space, &next, penalties)?;
+        }
+    }
+    Ok(())
+}
+
+/// Appends the penalties of all canons, from the node without bars on.
+fn list_first(space: &CanonSpace, node: &CanonNode, penalties: &mut Vec<u64>) -> Result<(), Fail>
+    requires bars { space.now.canon.bars ≡ 3 }
+    requires node { HasLength space.now node.now 0 }
+{
+    for k in 0..space.count(node) {
+        if let Some((next, _)) = space.child(node, k) {
+            list_second(space, &next, penalties)?;
+        }
+    }
+    Ok(())
+}
+
+/// The penalties of all canons of three bars, each child of each node tried.
+fn list(alloc: Global, space: &CanonSpace) -> Result<Vec<u64>, Fail>
+    requires { space.now.canon.bars ≡ 3 }
+{
+    let mut penalties = Vec::new(alloc);
+    if let Some((root, _)) = space.root() {
+        list_first(space, &root, &mut penalties)?;
+    }
+    Ok(penalties)
+}
+
+#[test]
+fn four_canons_are_lawful(rt: HostRuntime) -> Result<(), Fail> {
+    let text = "fux-canon 1\nmode dorian\nbars 3\nleader 1 D4 D5\nfollower -7 1 D3 D4\n";
+    let Ok(canon) = read_canon(text.as_bytes()) else {
+        return Err("no canon".into());
+    };
+    if canon.bars != 3 {
+        return Err("not three bars".into());
+    }
+    let mut penalties = list(rt.alloc(), &CanonSpace::new(&canon, &default_sheet()))?;
+    penalties.sort()?;
+    let wanted = [11, 11, 13, 13];
+    assert_eq!(rt; penalties.as_slice(), wanted.as_slice());
     Ok(())
 }
