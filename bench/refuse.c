@@ -1,11 +1,27 @@
-/* Refuses one piece of memory: the one of the number in REFUSED, counted from 1. REFUSED=0 refuses none. At the end the count of all goes to the
-   file that COUNTED names. It is loaded before the C library: see refused-memory.sh. */
+/* Refuses one piece of memory: the one of the number in REFUSED, counted from 1. REFUSED=0 refuses none. How many were asked for so far
+   stands in the file that COUNTED names, also where the process ends without calling what is to be called at its end. It is loaded before
+   the C library: see refused-memory.sh. */
 #define _GNU_SOURCE
 #include <dlfcn.h>
+#include <fcntl.h>
 #include <stdio.h>
 #include <stdlib.h>
+#include <unistd.h>
 
 static long asked;
+
+static void tell(long count) {
+    static int file = -2;
+    char text[24];
+    if (file == -2) {
+        const char *name = getenv("COUNTED");
+        file = name ? open(name, O_CREAT | O_TRUNC | O_WRONLY, 0644) : -1;
+    }
+    if (file >= 0) {
+        int length = snprintf(text, sizeof text, "%ld\n", count);
+        if (pwrite(file, text, length, 0) != length) file = -1;
+    }
+}
 
 static int refused(void) {
     static long number = -1;
@@ -13,7 +29,9 @@ static int refused(void) {
         const char *text = getenv("REFUSED");
         number = text ? atol(text) : 0;
     }
-    return __atomic_add_fetch(&asked, 1, __ATOMIC_SEQ_CST) == number;
+    long count = __atomic_add_fetch(&asked, 1, __ATOMIC_SEQ_CST);
+    tell(count);
+    return count == number;
 }
 
 void *malloc(size_t size) {
@@ -38,14 +56,4 @@ void *aligned_alloc(size_t align, size_t size) {
     static void *(*real)(size_t, size_t);
     if (!real) real = dlsym(RTLD_NEXT, "aligned_alloc");
     return refused() ? NULL : real(align, size);
-}
-
-__attribute__((destructor)) static void count(void) {
-    long count = asked;
-    const char *name = getenv("COUNTED");
-    FILE *file = name ? fopen(name, "w") : NULL;
-    if (file) {
-        fprintf(file, "%ld\n", count);
-        fclose(file);
-    }
 }

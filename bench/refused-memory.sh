@@ -1,6 +1,7 @@
 #!/bin/sh
 # Refuses memory to the commands that take most of it, one piece at a time: each run must end with 7 and nothing on standard output, or
-# with its answer. Run it at the top of the repository once the program is built; it takes some minutes, and no gate runs it.
+# with its answer; with 4 and nothing there where the piece is one that the system asks for as it opens a file, since a disk can't tell
+# that from another failure. Run it at the top of the repository once the program is built; it takes some minutes, and no gate runs it.
 #
 #     sh bench/refused-memory.sh [PROGRAM]
 set -u
@@ -25,18 +26,21 @@ tries() {
     count=$(cat "$work/count")
     number=1
     refused=0
+    opening=0
     while [ "$number" -le "$count" ]; do
         REFUSED=$number run "$@"
         status=$?
         if [ "$status" -eq 7 ] && [ ! -s "$work/out" ]; then
             refused=$((refused + 1))
+        elif [ "$status" -eq 4 ] && [ ! -s "$work/out" ]; then
+            opening=$((opening + 1))
         elif [ "$status" -ne "$answered" ] || ! cmp -s "$work/out" "$work/answer"; then
             wrong=$((wrong + 1))
             echo "$1, piece $number: status $status"
         fi
         number=$((number + 1))
     done
-    echo "$1: $count pieces, refused $refused times with 7"
+    echo "$1: $count pieces, refused $refused times with 7, $opening times as a file was opened"
 }
 
 tries compose "$exercise"
