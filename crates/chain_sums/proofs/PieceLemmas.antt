@@ -1,68 +1,20 @@
 -- What is gathered from the pieces of a row has the entries of all its columns (`entries_gathered`): they are the row (`row_of_entries`), and
 -- none is more than one cost above the next row (`small_of_entries`).
-use Rattle.std.proofs.Common.{◌≡◌, ℕ, zero, suc, ◌+◌, ◌*◌, ◌/◌, ◌%◌, ◌<◌, ◌≤◌, min, List, [], ◌∷◌, ◌++◌, length, take, drop, get_or, IfOk, Option, Some, None, Ok, Err, Vec, Global, ⊎_elim, ap, sym, subst, ◌∙◌, refl, arith}
+use Rattle.std.proofs.Common.{◌≡◌, ℕ, zero, suc, ◌+◌, ◌/◌, ◌%◌, ◌<◌, min, List, [], ◌∷◌, ◌++◌, length, take, get_or, IfOk, Option, Some, None, Ok, Err, Vec, Global, ap, sym, subst, ◌∙◌, refl, arith}
 use Rattle.std.specs.List.{AllZip, flat_map}
 use Rattle.std.specs.Result.{IsOk}
 use Rattle.std.specs.Fork.{IsChunk, slice_chunk}
-use Rattle.std.proofs.Math.Nat.{add-mul, one-mul, suc-mul, zero-mul}
 use Rattle.std.proofs.Math.Numerals.{add-one}
-use Rattle.std.proofs.lemmas.Bool.{cases_lt}
-use Rattle.std.proofs.lemmas.List.{drop-take, flat_map_more, get_or-map, length-map, take-append-drop, take-take, take_all, take_more}
+use Rattle.std.proofs.lemmas.List.{flat_map_more, get_or-map, length-map, take_more}
 use Rattle.std.proofs.lemmas.List.Elements.{All-more}
-use Rattle.std.proofs.lemmas.Nat.{div-add-mod', mod_below}
 use Rattle.std.proofs.lemmas.Slice.Zip.{AllZip-long, all_zipped_more}
 use Rattle.arrayvec.specs.ArrayVec.{ArrayVec}
+use Rattle.chunk_laws.proofs.Chunks.{chunks_elim}
 use Rattle.fux_grid.specs.declared.cell.Cell.{Cell}
 use Rattle.fux_grid.specs.Grid.{items_of}
 use Rattle.chain_sums.specs.Chains.{AreFull, Chains, IsLeast}
 use Rattle.chain_sums.specs.Pieces.{AreEntries, AreGathered, ArePieces, IsEntry, Piece, items_in}
 use Rattle.chain_sums.specs.Rows.{AreOneCostAbove, IsRow}
-
--- one chunk more of a list
-one_chunk : {X : Type 0} (xs : List X) (size n : ℕ)
-    → take (suc n * size) xs ≡ take (n * size) xs ++ slice_chunk xs size n
-one_chunk xs size n =
-    let ys = take (n * size + size) xs in
-    let cut : take (n * size) ys ≡ take (n * size) xs = take-take (n * size) (n * size + size) xs (omega arith) in
-    let next : drop (n * size) ys ≡ slice_chunk xs size n = drop-take (n * size) size xs in
-    ap (λ k. take k xs) (suc-mul n size)
-    ∙ (sym (take-append-drop (n * size) ys)
-    ∙ (ap (λ a. a ++ drop (n * size) ys) cut ∙ ap (λ b. take (n * size) xs ++ b) next))
-
--- so many chunks reach a list's end
-chunks_reach : (count long size : ℕ) → 0 < size → count ≡ long / size + min 1 (long % size) → long ≤ count * size
-chunks_reach count long size some is =
-    let q = long / size in
-    let r = long % size in
-    let whole : q * size + r ≡ long = div-add-mod' long size in
-    let below : r < size = mod_below long size some in
-    ⊎_elim
-    (λ h.
-    let e : count ≡ q + 1 = omega arith in
-    let w = ap (λ n. n * size) e ∙ add-mul q 1 size in
-    let o = one-mul size in
-    omega arith)
-    (λ h. let e : count ≡ q = omega arith in let w = ap (λ n. n * size) e in omega arith)
-    (cases_lt 0 r)
-
--- P: of a list and of what was made of its chunks, in order; Q: of a chunk and of what was made of it
-module _ {X R : Type 0} (P : List X → List R → Type 0) (Q : List X → R → Type 0) (none : P [] [])
-    (more : (xs chunk : List X) (rs : List R) (r : R) → P xs rs → Q chunk r → P (xs ++ chunk) (rs ++ r ∷ []))
-    (size : ℕ) (xs : List X) (rs : List R) (d : R)
-    (each : (n : ℕ) → n < length rs → Q (slice_chunk xs size n) (get_or rs n d)) where
-  so_far : (n : ℕ) → n ≤ length rs → P (take (n * size) xs) (take n rs)
-  so_far zero h = subst (λ k. P (take k xs) []) (sym (zero-mul size)) none
-  so_far (suc n) h =
-      let here : n < length rs = omega arith in
-      let step = more (take (n * size) xs) (slice_chunk xs size n) (take n rs) (get_or rs n d) (so_far n (omega arith)) (each n here) in
-      let list = subst (λ ys. P ys (take n rs ++ get_or rs n d ∷ [])) (sym (one_chunk xs size n)) step in
-      subst (P (take (suc n * size) xs)) (sym (take_more rs n d here) ∙ ap (λ k. take k rs) (add-one n)) list
-
-  chunks_elim : 0 < size → length rs ≡ length xs / size + min 1 (length xs % size) → P xs rs
-  chunks_elim some count =
-      let all = so_far (length rs) (omega arith) in
-      let parts = subst (P (take (length rs * size) xs)) (take_all (length rs) rs (omega arith)) all in
-      subst (λ ys. P ys rs) (take_all (length rs * size) xs (chunks_reach (length rs) (length xs) size some count)) parts
 
 zipped_append : {X Y : Type 0} (R : X → Y → Type 0) (xs zs : List X) (ys ws : List Y) → AllZip R xs ys → AllZip R zs ws
     → AllZip R (xs ++ zs) (ys ++ ws)

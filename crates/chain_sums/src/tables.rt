@@ -2,7 +2,6 @@
 
 ghost use Rattle.std.specs.Prelude.{◌≡◌, ◌<◌, ◌≤◌, ◌+◌, ◌-◌, ℕ, List, [], ◌*◌, ◌^◌, Some, length, suc, replicate, IfOk, IfErr, IfSome, OnOk, OnErr, IsSomeAnd, slice_index_or};
 ghost use Rattle.std.specs.Bool.{OnTrue};
-ghost use Rattle.fux_grid.specs.Exercises.{bar_of, slot_of};
 ghost use Rattle.chain_sums.specs.Chains.{AreFull, Chains, IsLeast};
 ghost use Rattle.chain_sums.specs.Menus.{HaveSameColumns, IsMenuOf, IsPacked};
 ghost use Rattle.chain_sums.specs.Rows.{AllAtMost, AreOneCostAbove, IsAtMost, IsRow};
@@ -20,7 +19,7 @@ use crate::menu::Menu;
 use crate::moves::Moves;
 use crate::pieces::{Cut, row_by_pieces};
 use crate::still::is_still;
-use fux_grid::{Column, Place, WIDEST};
+use fux_grid::{Column, Place, WIDEST, place_of};
 use fux_pitch::Memory;
 use std::alloc::Global;
 use std::thread::Threads;
@@ -50,18 +49,6 @@ pub struct Tables {
     /// The number of each place's row. That of the last place comes first.
     places: Vec<usize>,
     start: Option<u64>,
-}
-
-/// The place of a column.
-fn place_of(i: usize) -> Place
-    requires { i < 192 }
-    ensures bar { result.bar ≡ bar_of i }
-    ensures slot { result.slot ≡ slot_of i }
-{
-    Place {
-        bar: (i / 8 + 1) as u8,
-        slot: (i % 8) as u8,
-    }
 }
 
 /// Finds the first menu that is too wide.

@@ -11,7 +11,7 @@ use Rattle.fux_grid.specs.Cells.{cell_in}
 use Rattle.fux_grid.specs.Exercises.{IsFree, bar_of, slot_of, species_in}
 use Rattle.fux_grid.specs.Menus.{IsInMenu, cells_at, pool_of}
 use Rattle.fux_grid.specs.Shapes.{allows, fifth_shapes, florid_starts, fourth_shapes, second_shapes, shapes_in, third_shapes, whole_note}
-use Rattle.fux_grid.proofs.CellLemmas.{cells_at-free}
+use Rattle.fux_grid.proofs.CellLemmas.{cells_at-given}
 use Rattle.rule_law.specs.Terms.{starts}
 use Rattle.rule_law.specs.Voices.{is_free}
 use Rattle.rule_law.proofs.NextPitch.{start_allowed}
@@ -129,9 +129,8 @@ module _ (ex : Exercise) (v i : ℕ) (col : List Cell) (menu : IsInMenu ex i col
       at Rest e h = cc
       at (Hold p) e h = cc
       at (Start p) e h =
-          let Q : List Cell → Type 0 = λ cs. Contains cs (Start p) in
           start_allowed (shapes_in (species_in ex v) (bar_of i) ex.bars) (slot_of i) (pool_of ex v (bar_of i)) p
-          (subst Q (cells_at-free ex i v no_cantus) h)
+          (cells_at-given ex i v (Start p) no_cantus h).0
 
   -- within a bar it isn't of a voice of species 1
   pub starter_has_species : slot_of i ≢ 0 → (species_in ex v == 1) ≡ false

@@ -1,10 +1,184 @@
-//! The crate's book of rules and tolls.
+//! The crate's rules and tolls by their numbers.
 
+ghost use Rattle.std.specs.Prelude.{⊤};
 ghost use Rattle.rule_law.specs.Rulebooks.{KeepsLaws};
-ghost use Rattle.dissonance_rules.specs.Book.{book};
+ghost use Rattle.dissonance_rules.specs.Book as books;
+
+use crate::clashes::{breaks_clash, is_clash_settled};
+use crate::dissonance::Dissonance;
+use crate::late::{is_late, passing_places, settles_passing};
+use crate::rows::{breaks, cost};
+use crate::told::passing_left;
+use fux_grid::{Cell, Exercise, Score, VoiceSet, slot_of};
+use rule_law::{Form, LatePlaces, Latest, NewestColumns, RuleCrate, begins_bar};
 
 /// The crate's rules and tolls keep the laws of a book: a theorem, which costs nothing when it's called.
 #[tactic(auto, using(crate::proofs::BookLaws::keeps_laws))]
 pub fn book_is_lawful()
-    ensures { KeepsLaws book }
+    ensures { KeepsLaws books.book }
 {}
+
+/// S15, S19, S20 and S21 are late, and no toll is.
+impl RuleCrate for Dissonance {
+    type Part = ();
+
+    ghost book = { books.book };
+
+    ghost is_part = { λ ex p part. ⊤ };
+
+    fn start() {}
+
+    fn noted(_part: &(), _ex: &Exercise, _i: usize, _column: &[Cell]) {}
+
+    #[inline(always)]
+    fn has_rule(rule: u8) -> bool {
+        rule == 11 || rule == 14 || is_late(rule)
+    }
+
+    #[inline(always)]
+    fn has_toll(toll: u8) -> bool {
+        toll == 1 || toll == 2
+    }
+
+    #[inline(always)]
+    fn form(_rule: u8) -> Form {
+        Form::TwoVoices
+    }
+
+    #[inline(always)]
+    fn is_late(rule: u8) -> bool {
+        is_late(rule)
+    }
+
+    fn places_settled(rule: u8, ex: &Exercise, i: usize) -> LatePlaces {
+        match rule {
+            15 => passing_places(ex, i),
+            20 => LatePlaces::own(slot_of(i) == 4, i.saturating_sub(4)),
+            _ => LatePlaces::own(begins_bar(i), i),
+        }
+    }
+
+    /// Of those of S15 the places at which the clash isn't told yet; all of the other rules'.
+    fn places_left(newest: &NewestColumns, rule: u8, ex: &Exercise) -> LatePlaces {
+        if rule != 15 {
+            return Dissonance::places_settled(rule, ex, newest.len - 1);
+        }
+        passing_left(newest, ex)
+    }
+
+    fn breaks_late(
+        _part: &(),
+        newest: &NewestColumns,
+        rule: u8,
+        ex: &Exercise,
+        voices: VoiceSet,
+        place: usize,
+    ) -> bool {
+        if place >= newest.len {
+            return false;
+        }
+        if !breaks_clash(newest, rule, ex, place, voices) {
+            return false;
+        }
+        if rule != 15 {
+            return true;
+        }
+        settles_passing(newest, ex, voices, place)
+    }
+
+    #[inline(always)]
+    fn toll_places(_toll: u8, _ex: &Exercise, i: usize) -> LatePlaces {
+        LatePlaces { first: i, count: 1 }
+    }
+
+    fn cost_late(_newest: &NewestColumns, _toll: u8, _ex: &Exercise, _place: usize) -> u32 {
+        0
+    }
+
+    #[inline(always)]
+    fn breaks_at_once(
+        _part: &(),
+        rule: u8,
+        ex: &Exercise,
+        voices: VoiceSet,
+        i: usize,
+        before: &[Cell],
+        latest: &Latest,
+        now: &[Cell],
+    ) -> bool {
+        breaks(rule, ex, voices, i, before, latest, now)
+    }
+
+    #[inline(always)]
+    fn cost_at_once(
+        _part: &(),
+        toll: u8,
+        ex: &Exercise,
+        i: usize,
+        before: &[Cell],
+        latest: &Latest,
+        now: &[Cell],
+    ) -> u32 {
+        cost(toll, ex, i, before, latest, now)
+    }
+
+    #[inline(always)]
+    fn breaks_between(
+        rule: u8,
+        ex: &Exercise,
+        voices: VoiceSet,
+        i: usize,
+        before: &[Cell],
+        latest: &Latest,
+        now: &[Cell],
+    ) -> bool {
+        breaks(rule, ex, voices, i, before, latest, now)
+    }
+
+    #[inline(always)]
+    fn cost_between(
+        toll: u8,
+        ex: &Exercise,
+        i: usize,
+        before: &[Cell],
+        latest: &Latest,
+        now: &[Cell],
+    ) -> u32 {
+        cost(toll, ex, i, before, latest, now)
+    }
+
+    fn broken_in(rule: u8, ex: &Exercise, score: &Score, i: usize, voices: VoiceSet) -> bool {
+        if is_late(rule) {
+            score.kept();
+            return breaks_clash(score, rule, ex, i, voices);
+        }
+        breaks(
+            rule,
+            ex,
+            voices,
+            i,
+            score.before(i),
+            &Latest::NONE,
+            score.column(i).as_slice(),
+        )
+    }
+
+    fn settled_in(rule: u8, ex: &Exercise, prefix: &Score, i: usize, voices: VoiceSet) -> bool {
+        !is_late(rule) || is_clash_settled(rule, ex, prefix, i, voices)
+    }
+
+    fn cost_in(toll: u8, ex: &Exercise, score: &Score, i: usize) -> u32 {
+        cost(
+            toll,
+            ex,
+            i,
+            score.before(i),
+            &Latest::NONE,
+            score.column(i).as_slice(),
+        )
+    }
+
+    fn cost_settled_in(_toll: u8, _ex: &Exercise, _prefix: &Score, _i: usize) -> bool {
+        true
+    }
+}

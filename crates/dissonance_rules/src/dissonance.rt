@@ -4,11 +4,9 @@ ghost use Rattle.rule_law.specs.Places.{reading_of};
 ghost use Rattle.dissonance_rules.specs.Locality.{cost_is_near, dissonance_breaks, dissonance_is_local, dissonance_is_near, dissonance_settles, dissonance_settles_at_end, near_bits, rule_bits, toll_bits};
 ghost use Rattle.dissonance_rules.specs.Rows.{cost_in, near_rows, toll_rows};
 
-use crate::clashes::{breaks_clash, is_clash_settled};
-use crate::late::is_late;
 use crate::rows::{breaks, cost};
 use fux_grid::{Column, Exercise, Score, VoiceSet};
-use rule_law::{Latest, Near, Rule, RuleSet, cells_of};
+use rule_law::{Latest, Near, Rule, RuleCrate, RuleSet, cells_of};
 
 /// The rules S11, S14, S15, S19, S20 and S21. S11 and S14 look at no earlier columns or notes.
 #[derive(Clone, Copy, Debug, PartialEq, Eq)]
@@ -32,23 +30,11 @@ impl Rule for Dissonance {
     }
 
     fn broken(&self, rule: u8, ex: &Exercise, score: &Score, i: usize, voices: VoiceSet) -> bool {
-        if is_late(rule) {
-            score.kept();
-            return breaks_clash(score, rule, ex, i, voices);
-        }
-        breaks(
-            rule,
-            ex,
-            voices,
-            i,
-            score.before(i),
-            &Latest::NONE,
-            score.column(i).as_slice(),
-        )
+        Dissonance::broken_in(rule, ex, score, i, voices)
     }
 
     fn settled(&self, rule: u8, ex: &Exercise, prefix: &Score, i: usize, voices: VoiceSet) -> bool {
-        !is_late(rule) || is_clash_settled(rule, ex, prefix, i, voices)
+        Dissonance::settled_in(rule, ex, prefix, i, voices)
     }
 }
 

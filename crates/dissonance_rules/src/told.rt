@@ -1,15 +1,16 @@
 //! How far back the newest columns tell what a note is: S15 is settled at all places before.
 
-ghost use Rattle.std.specs.Prelude.{◌≡◌, ◌<◌, ◌≤◌, ◌+◌, ◌-◌, IsTrue, length};
+ghost use Rattle.std.specs.Prelude.{◌≡◌, ◌<◌, ◌≤◌, ◌+◌, ◌-◌, length};
 ghost use Rattle.fux_grid.specs.Columns.{Columns, cell_at};
 ghost use Rattle.fux_grid.specs.Exercises.{IsValid, columns_in};
-ghost use Rattle.rule_law.specs.Late.{SettlesAmong};
 ghost use Rattle.rule_law.specs.Newest.{AreNewestOf};
+ghost use Rattle.rule_law.specs.RuleCrates.{SettlesNoOther};
 ghost use Rattle.rule_law.specs.Terms as terms;
-ghost use Rattle.dissonance_rules.specs.Book.{rule_row};
+ghost use Rattle.dissonance_rules.specs.Book.{late_count, late_first, late_row};
 ghost use Rattle.dissonance_rules.specs.Passing as passing;
 ghost use Rattle.dissonance_rules.specs.Told.{AreAllTold, AreTold};
 
+use crate::late::passing_places;
 use fux_grid::{Exercise, cell_of, species_of};
 use rule_law::{LatePlaces, NewestColumns, is_free, starts};
 
@@ -70,25 +71,18 @@ fn all_told_until(newest: &NewestColumns, ex: &Exercise, first: usize, end: usiz
     told
 }
 
-/// Those of a late rule's places at which, as the newest columns tell, the newest one may settle a break. They are given as the rule's
-/// places at that column; for all rules but S15 they stay as they are.
-pub fn places_left(
-    newest: &NewestColumns,
-    rule: u8,
-    ex: &Exercise,
-    places: LatePlaces,
-) -> LatePlaces
-    requires late { IsTrue (rule_row rule).late }
+/// Those of S15's places at which, as the newest columns tell, the newest one may settle a break.
+pub(crate) fn passing_left(newest: &NewestColumns, ex: &Exercise) -> LatePlaces
     requires valid { IsValid ex.now }
     requires begun { 0 < newest.now.len }
     requires room { newest.now.len ≤ columns_in ex.now }
-    requires first { places.first ≡ (rule_row rule).first ex.now (newest.now.len - 1) }
-    requires count { places.count ≡ (rule_row rule).count ex.now (newest.now.len - 1) }
-    ensures from { places.first ≤ result.first }
-    ensures to { result.first + result.count ≤ places.first + places.count }
-    ensures left { SettlesAmong (rule_row rule) ex.now newest.now result.first result.count }
+    ensures from { late_first 15 ex.now (newest.now.len - 1) ≤ result.first }
+    ensures to { result.first + result.count
+        ≤ late_first 15 ex.now (newest.now.len - 1) + late_count 15 ex.now (newest.now.len - 1) }
+    ensures left { SettlesNoOther (late_row 15) ex.now newest.now result.first result.count }
 {
-    if rule != 15 || places.count == 0 {
+    let places = passing_places(ex, newest.len - 1);
+    if places.count == 0 {
         return places;
     }
     let first = all_told_until(newest, ex, places.first, newest.len - 1);

@@ -4,9 +4,9 @@ ghost use Rattle.rule_law.specs.Places.{reading_of, settled_by};
 ghost use Rattle.dissonance_rules.specs.Locality.{cost_is_local, cost_settles_at_end};
 ghost use Rattle.dissonance_rules.specs.Rows.{cost_enough, cost_in};
 
-use crate::rows::cost;
+use crate::dissonance::Dissonance;
 use fux_grid::{Exercise, Score};
-use rule_law::{Latest, Toll};
+use rule_law::{RuleCrate, Toll};
 
 /// A perfect interval between the lowest and the highest voice at the beginning of a bar, neither the first nor the last.
 #[derive(Clone, Copy, Debug, PartialEq, Eq)]
@@ -28,14 +28,7 @@ impl Toll for Q1 {
     }
 
     fn cost(&self, ex: &Exercise, score: &Score, i: usize) -> u32 {
-        cost(
-            1,
-            ex,
-            i,
-            score.before(i),
-            &Latest::NONE,
-            score.column(i).as_slice(),
-        )
+        Dissonance::cost_in(1, ex, score, i)
     }
 
     fn settled(&self, _ex: &Exercise, _prefix: &Score, _i: usize) -> bool {
@@ -63,14 +56,7 @@ impl Toll for Q2 {
     }
 
     fn cost(&self, ex: &Exercise, score: &Score, i: usize) -> u32 {
-        cost(
-            2,
-            ex,
-            i,
-            score.before(i),
-            &Latest::NONE,
-            score.column(i).as_slice(),
-        )
+        Dissonance::cost_in(2, ex, score, i)
     }
 
     fn settled(&self, _ex: &Exercise, _prefix: &Score, _i: usize) -> bool {

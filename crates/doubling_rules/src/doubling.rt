@@ -6,7 +6,7 @@ ghost use Rattle.doubling_rules.specs.Rows.{cost_in, doubling_rows, doubling_tol
 
 use crate::rows::{doubling_breaks, doubling_cost};
 use fux_grid::{Column, Exercise, Score, VoiceSet};
-use rule_law::{Near, Rule, RuleSet};
+use rule_law::{Near, Rule, RuleCrate, RuleSet};
 
 /// The rule S23.
 #[derive(Clone, Copy, Debug, PartialEq, Eq)]
@@ -27,8 +27,8 @@ impl Rule for Doubling {
         RuleSet { bits: 1 << 23 }
     }
 
-    fn broken(&self, _rule: u8, ex: &Exercise, score: &Score, i: usize, voices: VoiceSet) -> bool {
-        doubling_breaks(ex, voices, i, score.column(i).as_slice())
+    fn broken(&self, rule: u8, ex: &Exercise, score: &Score, i: usize, voices: VoiceSet) -> bool {
+        Doubling::broken_in(rule, ex, score, i, voices)
     }
 
     fn settled(

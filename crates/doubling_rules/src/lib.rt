@@ -3,13 +3,11 @@
 
 mod book;
 mod doubling;
-mod late;
 mod rows;
 mod tolls;
 
 pub use book::book_is_lawful;
 pub use doubling::Doubling;
-pub use late::{breaks_late, cost_late, places_settled, toll_places};
 pub use rows::{
     double_leading, doubles_third, doubling_breaks, doubling_cost, lacks_third, straying_notes,
     wide_pairs,

@@ -4,9 +4,9 @@ ghost use Rattle.rule_law.specs.Places.{reading_of, settled_by};
 ghost use Rattle.doubling_rules.specs.Locality.{cost_is_local, cost_settles_at_end};
 ghost use Rattle.doubling_rules.specs.Rows.{cost_enough, cost_in};
 
-use crate::rows::doubling_cost;
+use crate::doubling::Doubling;
 use fux_grid::{Exercise, Score};
-use rule_law::Toll;
+use rule_law::{RuleCrate, Toll};
 
 /// A third that lacks over voice 0 at the beginning of a bar.
 #[derive(Clone, Copy, Debug, PartialEq, Eq)]
@@ -28,7 +28,7 @@ impl Toll for Q3 {
     }
 
     fn cost(&self, ex: &Exercise, score: &Score, i: usize) -> u32 {
-        doubling_cost(3, ex, i, score.column(i).as_slice())
+        Doubling::cost_in(3, ex, score, i)
     }
 
     fn settled(&self, _ex: &Exercise, _prefix: &Score, _i: usize) -> bool {
@@ -56,7 +56,7 @@ impl Toll for Q4 {
     }
 
     fn cost(&self, ex: &Exercise, score: &Score, i: usize) -> u32 {
-        doubling_cost(4, ex, i, score.column(i).as_slice())
+        Doubling::cost_in(4, ex, score, i)
     }
 
     fn settled(&self, _ex: &Exercise, _prefix: &Score, _i: usize) -> bool {
@@ -84,7 +84,7 @@ impl Toll for Q5 {
     }
 
     fn cost(&self, ex: &Exercise, score: &Score, i: usize) -> u32 {
-        doubling_cost(5, ex, i, score.column(i).as_slice())
+        Doubling::cost_in(5, ex, score, i)
     }
 
     fn settled(&self, _ex: &Exercise, _prefix: &Score, _i: usize) -> bool {
@@ -112,7 +112,7 @@ impl Toll for Q6 {
     }
 
     fn cost(&self, ex: &Exercise, score: &Score, i: usize) -> u32 {
-        doubling_cost(6, ex, i, score.column(i).as_slice())
+        Doubling::cost_in(6, ex, score, i)
     }
 
     fn settled(&self, _ex: &Exercise, _prefix: &Score, _i: usize) -> bool {

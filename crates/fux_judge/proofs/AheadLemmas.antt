@@ -15,7 +15,7 @@ use Rattle.fux_grid.specs.Cells.{cell_in}
 use Rattle.fux_grid.specs.Exercises.{IsFree, bar_of, slot_of, species_in}
 use Rattle.fux_grid.specs.Menus.{cells_at, menu_of, pool_of}
 use Rattle.fux_grid.specs.Shapes.{allows, shapes_in}
-use Rattle.fux_grid.proofs.CellLemmas.{cells_at-free}
+use Rattle.fux_grid.proofs.CellLemmas.{cells_at-given}
 use Rattle.fux_grid.proofs.MenuLemmas.{menu_of-contains}
 use Rattle.rule_law.specs.Gauges.{menu_starts}
 use Rattle.rule_law.specs.Terms.{starts}
@@ -91,9 +91,8 @@ starts_allowed ex v i free e =
     at Rest h s = cc
     at (Hold p) h s = cc
     at (Start p) h s =
-        let P : List Cell → Type 0 = λ cells. Contains cells (Start p) in
         start_allowed (shapes_in (species_in ex v) (bar_of i) ex.bars) (slot_of i) (pool_of ex v (bar_of i)) p
-        (subst P (cells_at-free ex i v free.no_cantus) h)
+        (cells_at-given ex i v (Start p) free.no_cantus h).0
 
 pub none_allowed : (ex : Exercise) (v i : ℕ) → IsFree ex v
     → allows (shapes_in (species_in ex v) (bar_of i) ex.bars) (slot_of i) 83 ≡ false → menu_starts ex v i ≡ false

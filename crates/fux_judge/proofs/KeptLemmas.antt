@@ -20,8 +20,7 @@ use Rattle.dissonance_rules.specs.Apart.{apart_rows, some_come_close}
 use Rattle.rhythm_cadence.specs.InPlace.{in_place_rows, some_out_of_place}
 use Rattle.rhythm_cadence.specs.Rows.{begins_last_bar, fits_ending, holds_of_pitch, is_final}
 use Rattle.fux_judge.specs.declared.moment.Moment.{Moment}
-use Rattle.fux_judge.specs.declared.numbers.RuleCrate.TheVariants.{Motion}
-use Rattle.fux_judge.specs.Crates.{crate_with}
+use Rattle.fux_judge.specs.Crates.{Motion, crate_with}
 use Rattle.fux_judge.specs.Rules.{all_sets, is_late, is_of_melody, rule_at, rules_at_once}
 use Rattle.fux_judge.specs.Kept.{is_close, is_moving, is_of_ending, is_of_place, rules_at_a_bar, rules_at_the_end, rules_within_bars}
 use Rattle.fux_judge.specs.Penalties.{is_strict_at}

@@ -22,6 +22,7 @@ pub mod QuietLinks
 pub mod RoughLemmas
 pub mod SetLemmas
 pub mod ShapeLemmas
+pub mod StateLemmas
 pub mod StepLemmas
 pub mod StepPlaces
 pub mod SumLemmas

@@ -1,5 +1,4 @@
--- What a link reads of a rule of neighbors, and of a toll, is what the table says of it (`melody_at` to `none_at`, `melody_costs` to
--- `none_costs`); and what a link costs is what its column costs by itself and what the two cost together (`link_parts`).
+-- What a link reads of a rule of neighbors, and of a toll, is what the table says of it (`broken_at`, `cost_at`); and what a link costs is what its column costs by itself and what the two cost together (`link_parts`).
 use Rattle.std.proofs.Common.{◌≡◌, ◌≢◌, ℕ, ◌+◌, ◌*◌, ◌==◌, ◌≤◌, ◌&&◌, ◌||◌, Bool, true, false, if◌then◌else◌, List, [], ◌∷◌, map, Option, Some, None, zero, suc, refl, ap, sym, ◌∙◌, subst, arith}
 use Rattle.std.specs.Prelude.{IsSomeAnd}
 use Rattle.std.specs.Borrow.{Bor}
@@ -11,7 +10,7 @@ use Rattle.fux_grid.specs.declared.cell.Cell.{Cell}
 use Rattle.fux_grid.specs.declared.cell.Cell.TheVariants.{Rest, Hold, Start}
 use Rattle.fux_grid.specs.declared.exercise.Exercise.{Exercise}
 use Rattle.fux_grid.specs.Cells.{cell_in, pitch_of}
-use Rattle.fux_grid.specs.Columns.{line}
+use Rattle.fux_grid.specs.Columns.{line, newest_column}
 use Rattle.rule_law.specs.declared.table.Form.{Form}
 use Rattle.rule_law.specs.declared.table.Form.TheVariants.{OneVoice, TwoVoices}
 use Rattle.rule_law.specs.declared.table.Kind.{Kind}
@@ -35,9 +34,7 @@ use Rattle.doubling_rules.specs.Rows as doubling
 use Rattle.penalty_sheet.specs.declared.sheet.Sheet.{Sheet}
 use Rattle.penalty_sheet.specs.Weights.{weight_of}
 use Rattle.fux_judge.specs.declared.link.Link.{Link}
-use Rattle.fux_judge.specs.declared.numbers.RuleCrate.{RuleCrate}
-use Rattle.fux_judge.specs.declared.numbers.RuleCrate.TheVariants.{Melody, Motion, Dissonance, Rhythm, Doubling}
-use Rattle.fux_judge.specs.Crates.{crate_with, crate_with_toll, rule_by, toll_by}
+use Rattle.fux_judge.specs.Crates.{RuleCrate, Melody, Motion, Dissonance, Rhythm, Doubling, crate_with, crate_with_toll, rule_by, toll_by}
 use Rattle.fux_judge.proofs.Facts.{rule_keeps}
 use Rattle.fux_judge.specs.Links.{behind_of, begun, breaks_between, breaks_strictly, column_of, column_rules, column_tolls, cost_between, given, is_of_column, is_of_neighbors, is_of_pair, is_rule_between, is_toll_between, link_of, pair_of, pair_rules, pair_tolls, together}
 use Rattle.fux_judge.specs.Neighbors.{IsLink, breaks_at_link, breaks_strictly_at_link, charge_at_link, cost_at_link}
@@ -66,20 +63,22 @@ sounds col v = ap (λ d. previous_pitch (cell_in col v ∷ d ∷ [])) (begun_in 
 pub all_sound : (col : List Cell) → previous_pitches (behind_of (Some col)) ≡ sounding_pitches col
 all_sound col = rw (sounds col 0, sounds col 1, sounds col 2, sounds col 3) refl
 
-near_between : {R : Type 0} (row : NearRow R) (i : ℕ) (prev : Option (Bor (ArrayVec Cell))) (next : List Cell)
-    → row i (cells_before prev) (sounding_pitches (cells_before prev)) next
-    ≡ whole_of row i (behind_of (given prev)) next []
-near_between row i None next = refl
-near_between row i (Some col) next = ap (λ pitches. row i col.now.items pitches next) (sym (all_sound col.now.items))
+-- of a link: the column before its own is the newest behind it, and each voice's previous note is the one that it sounds there
+pub newest_behind : (l : Link) → IsLink l → l.before.now ≡ newest_column (behind_of (given l.prev))
+newest_behind l link = link.before ∙ at l.prev
+  where
+    at : (prev : Option (Bor (ArrayVec Cell))) → cells_before prev ≡ newest_column (behind_of (given prev))
+    at None = refl
+    at (Some col) = refl
 
--- a row of neighbors, read from what a link has and from the pitches that sound in its first column
-near_at : {R : Type 0} (row : NearRow R) (l : Link) → IsLink l → (pitches : Pitches) → pitches
-    ≡ sounding_pitches l.before.now
-    → row l.place l.before.now pitches l.next.now ≡ whole_of row l.place (behind_of (given l.prev)) l.next.now []
-near_at row l link pitches heard =
-    ap (λ latest. row l.place l.before.now latest l.next.now) heard
-    ∙ ap (λ cells. row l.place cells (sounding_pitches cells) l.next.now) link.before
-    ∙ near_between row l.place l.prev l.next.now
+pub heard_behind : (l : Link) → IsLink l → (pitches : Pitches) → pitches ≡ sounding_pitches l.before.now
+    → pitches ≡ previous_pitches (behind_of (given l.prev))
+heard_behind l link pitches heard = heard ∙ ap sounding_pitches link.before ∙ at l.prev
+  where
+    at : (prev : Option (Bor (ArrayVec Cell))) → sounding_pitches (cells_before prev)
+        ≡ previous_pitches (behind_of (given prev))
+    at None = refl
+    at (Some col) = sym (all_sound col.now.items)
 
 -- a row that reads no more than neighbors
 pub record HasNearRow {R : Type 0} (reads : Row R) : Type 0 where
@@ -211,48 +210,11 @@ module _ (rule : ℕ) (between : is_rule_between rule ≡ true) where
         at (Some Rhythm) its = record { row = rhythm.near_rows rule ex voices; is = rhythm_row its }
         at (Some Doubling) its = record { row = doubling.doubling_rows ex voices; is = doubling_row its }
 
--- so what a link reads is what the table says
-module _ (rule voices : ℕ) (l : Link) (link : IsLink l) (pitches : Pitches)
-    (heard : pitches ≡ sounding_pitches l.before.now)
-    (between : is_rule_between rule ≡ true) where
-  broken_at : (row : NearRow Bool) → breaks rule l.exercise.now voices ≡ whole_of row
-      → row l.place l.before.now pitches l.next.now ≡ breaks_at_link l rule voices
-  broken_at row e =
-      near_at row l link pitches heard
-      ∙ sym (ap (λ (r : Row Bool). r l.place (behind_of (given l.prev)) l.next.now []) e)
-      ∙ sym (ap (λ b. b && breaks rule l.exercise.now voices l.place (behind_of (given l.prev)) l.next.now []) between)
-
-  pub melody_at : crate_with rule ≡ Some Melody
-      → melody.near_rows rule l.exercise.now voices l.place l.before.now pitches l.next.now
-      ≡ breaks_at_link l rule voices
-  melody_at its =
-      broken_at (melody.near_rows rule l.exercise.now voices) (melody_row rule between l.exercise.now voices its)
-
-  pub motion_at : crate_with rule ≡ Some Motion
-      → motion.near_rows rule l.exercise.now voices l.place l.before.now pitches l.next.now
-      ≡ breaks_at_link l rule voices
-  motion_at its =
-      broken_at (motion.near_rows rule l.exercise.now voices) (motion_row rule between l.exercise.now voices its)
-
-  pub dissonance_at : crate_with rule ≡ Some Dissonance
-      → dissonance.near_rows rule l.exercise.now voices l.place l.before.now pitches l.next.now
-      ≡ breaks_at_link l rule voices
-  dissonance_at its = broken_at (dissonance.near_rows rule l.exercise.now voices)
-      (dissonance_row rule between l.exercise.now voices its)
-
-  pub rhythm_at : crate_with rule ≡ Some Rhythm
-      → rhythm.near_rows rule l.exercise.now voices l.place l.before.now pitches l.next.now
-      ≡ breaks_at_link l rule voices
-  rhythm_at its =
-      broken_at (rhythm.near_rows rule l.exercise.now voices) (rhythm_row rule between l.exercise.now voices its)
-
-  pub doubling_at : crate_with rule ≡ Some Doubling → doubling.breaks_in_column l.exercise.now voices l.place l.next.now
-      ≡ breaks_at_link l rule voices
-  doubling_at its =
-      broken_at (doubling.doubling_rows l.exercise.now voices) (doubling_row rule between l.exercise.now voices its)
-
-  pub none_at : crate_with rule ≡ None → false ≡ breaks_at_link l rule voices
-  none_at its = broken_at (λ i before previous now. false) (none_row rule between l.exercise.now voices its)
+-- what a rule of neighbors reads there is what the link breaks
+pub broken_at : (rule voices : ℕ) (l : Link) → is_rule_between rule ≡ true
+    → breaks rule l.exercise.now voices l.place (behind_of (given l.prev)) l.next.now [] ≡ breaks_at_link l rule voices
+broken_at rule voices l between =
+    sym (ap (λ b. b && breaks rule l.exercise.now voices l.place (behind_of (given l.prev)) l.next.now []) between)
 
 -- only the sets of its form need be tried
 pub for_all_sets : (ex : Exercise) (i : ℕ) (before : Option (List Cell)) (next : List Cell) (rule : ℕ)
@@ -466,51 +428,11 @@ module _ (toll : ℕ) (between : is_toll_between toll ≡ true) where
             of_rhythm its false e = record { row = λ i before previous now. 0; is = other_rhythm_toll its e }
         at (Some Doubling) its b e = record { row = doubling.doubling_tolls toll ex; is = doubling_toll its }
 
-module _ (toll : ℕ) (l : Link) (link : IsLink l) (pitches : Pitches) (heard : pitches ≡ sounding_pitches l.before.now)
-    (between : is_toll_between toll ≡ true) where
-  cost_by : (row : NearRow ℕ) → costs toll l.exercise.now ≡ whole_of row → row l.place l.before.now pitches l.next.now
-      ≡ cost_at_link l toll
-  cost_by row e =
-      near_at row l link pitches heard
-      ∙ sym (ap (λ (r : Row ℕ). r l.place (behind_of (given l.prev)) l.next.now []) e)
-      ∙ sym (ap (λ b. if b then costs toll l.exercise.now l.place (behind_of (given l.prev)) l.next.now [] else 0)
-      between)
-
-  pub melody_costs : crate_with_toll toll ≡ Some Melody
-      → melody.toll_rows toll l.exercise.now l.place l.before.now pitches l.next.now ≡ cost_at_link l toll
-  melody_costs its = cost_by (melody.toll_rows toll l.exercise.now) (melody_toll toll between l.exercise.now its)
-
-  pub inner_costs : crate_with_toll toll ≡ Some Motion → toll ≡ 12
-      → inner_toll l.exercise.now l.place l.before.now pitches l.next.now ≡ cost_at_link l toll
-  inner_costs its is =
-      cost_by (inner_toll l.exercise.now) (inner_toll_row toll between l.exercise.now its (ap (λ t. t == 12) is))
-
-  pub motion_costs : crate_with_toll toll ≡ Some Motion → toll ≢ 12
-      → motion.toll_rows toll l.exercise.now l.place l.before.now pitches l.next.now ≡ cost_at_link l toll
-  motion_costs its other = cost_by (motion.toll_rows toll l.exercise.now)
-      (motion_toll toll between l.exercise.now its (ne_eqb toll 12 other))
-
-  pub dissonance_costs : crate_with_toll toll ≡ Some Dissonance
-      → dissonance.toll_rows toll l.exercise.now l.place l.before.now pitches l.next.now ≡ cost_at_link l toll
-  dissonance_costs its =
-      cost_by (dissonance.toll_rows toll l.exercise.now) (dissonance_toll toll between l.exercise.now its)
-
-  pub ligature_costs : crate_with_toll toll ≡ Some Rhythm → toll ≡ 15
-      → ligature_toll l.exercise.now l.place l.before.now pitches l.next.now ≡ cost_at_link l toll
-  ligature_costs its is =
-      cost_by (ligature_toll l.exercise.now) (ligature_toll_row toll between l.exercise.now its (ap (λ t. t == 15) is))
-
-  pub other_rhythm_costs : crate_with_toll toll ≡ Some Rhythm → toll ≢ 15 → 0 ≡ cost_at_link l toll
-  other_rhythm_costs its other =
-      cost_by (λ i before previous now. 0) (other_rhythm_toll toll between l.exercise.now its (ne_eqb toll 15 other))
-
-  pub doubling_costs : crate_with_toll toll ≡ Some Doubling
-      → doubling.cost_of_column toll l.exercise.now l.place l.next.now ≡ cost_at_link l toll
-  doubling_costs its =
-      cost_by (doubling.doubling_tolls toll l.exercise.now) (doubling_toll toll between l.exercise.now its)
-
-  pub none_costs : crate_with_toll toll ≡ None → 0 ≡ cost_at_link l toll
-  none_costs its = cost_by (λ i before previous now. 0) (none_toll toll between l.exercise.now its)
+-- and what a toll costs there
+pub cost_at : (toll : ℕ) (l : Link) → is_toll_between toll ≡ true
+    → costs toll l.exercise.now l.place (behind_of (given l.prev)) l.next.now [] ≡ cost_at_link l toll
+cost_at toll l between =
+    sym (ap (λ b. if b then costs toll l.exercise.now l.place (behind_of (given l.prev)) l.next.now [] else 0) between)
 
 -- ---- a list by kinds
 

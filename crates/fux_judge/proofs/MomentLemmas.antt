@@ -1,14 +1,13 @@
 -- What is read at a moment is what the rows say at the end of the longer prefix.
-use Rattle.std.proofs.Common.{◌≡◌, ℕ, ◌==◌, ◌||◌, Bool, true, false, Some, None, List, [], ◌∷◌, ◌++◌, length, reverse, refl, ap, sym, ◌∙◌, subst}
+use Rattle.std.proofs.Common.{◌≡◌, ℕ, ◌==◌, ◌||◌, Bool, true, false, Some, None, List, [], ◌∷◌, ◌++◌, length, reverse, refl, ap, sym, ◌∙◌}
 use Rattle.std.specs.Prelude.{if◌then◌else◌}
-use Rattle.std.proofs.lemmas.Bool.{eqb-true, cond-true, cond-false}
+use Rattle.std.proofs.lemmas.Bool.{cond-true, cond-false}
 use Rattle.fux_grid.specs.declared.cell.Cell.{Cell}
 use Rattle.fux_grid.specs.declared.exercise.Exercise.{Exercise}
-use Rattle.fux_grid.specs.Columns.{newest_column}
 use Rattle.rule_law.specs.Places.{Row, reading_of}
-use Rattle.rule_law.specs.Nearby.{NearRow, whole_of}
+use Rattle.rule_law.specs.Nearby.{whole_of}
 use Rattle.rule_law.specs.Law.{reading-at_end}
-use Rattle.rule_law.specs.Rulebooks.{RuleRow, no_rule, no_toll}
+use Rattle.rule_law.specs.Rulebooks.{RuleRow, no_toll}
 use Rattle.melody_rules.specs.Book as melody_book
 use Rattle.motion_rules.specs.Book as motion_book
 use Rattle.dissonance_rules.specs.Book as dissonance_book
@@ -19,21 +18,16 @@ use Rattle.motion_rules.specs.Rows as motion
 use Rattle.dissonance_rules.specs.Rows as dissonance
 use Rattle.rhythm_cadence.specs.Rows as rhythm
 use Rattle.fux_judge.specs.declared.moment.Moment.{Moment}
-use Rattle.fux_judge.specs.Charges.{is_clashing_toll, is_moving_toll}
-use Rattle.fux_judge.specs.declared.numbers.RuleCrate.TheVariants.{Melody, Motion, Dissonance, Rhythm, Doubling}
-use Rattle.fux_judge.specs.Crates.{crate_with}
-use Rattle.fux_judge.specs.Rules.{is_toll_of_motion, is_toll_of_dissonance, is_toll_of_melody, is_toll_of_rhythm, is_toll_of_doubling, rule_at, toll_at, breaks, costs, cost_enough, cost_at, is_late}
+use Rattle.fux_judge.specs.Crates.{Melody, Motion, Dissonance, Rhythm, crate_with}
+use Rattle.fux_judge.specs.Rules.{is_toll_of_motion, is_toll_of_dissonance, is_toll_of_melody, is_toll_of_rhythm, is_toll_of_doubling, rule_at, toll_at, breaks, cost_enough, is_late}
 use Rattle.fux_judge.specs.Moments.{IsAfter, is_broken_then, with_column}
-use Rattle.fux_judge.proofs.CrateLemmas.{breaks_by_crate, late_by_crate, not_shape, rule_of_crate, soon_in_dissonance, soon_in_motion, soon_in_rhythm}
+use Rattle.fux_judge.proofs.CrateLemmas.{breaks_by_crate, not_shape, soon_in_dissonance, soon_in_motion, soon_in_rhythm}
 
--- a row of neighbors reads the column before and each voice's previous pitch
-pub near_then : {R : Type 0} (row : NearRow R) (p : List (List Cell)) (m : Moment) → IsAfter p m
-    → row m.state.now.newest.len m.before.now m.latest.pitches m.column.now
-    ≡ whole_of row (length p) (reverse p) m.column.now []
-near_then row p m after =
-    ap (λ i. row i m.before.now m.latest.pitches m.column.now) after.state.newest.count
-    ∙ ap (λ b. row (length p) b m.latest.pitches m.column.now) after.before
-    ∙ ap (λ l. row (length p) (newest_column (reverse p)) l m.column.now) after.latest
+-- what a row answers at the column is what is read there
+pub row_then : {R : Type 0} (row : Row R) (p : List (List Cell)) (m : Moment) → IsAfter p m
+    → row m.state.now.newest.len (reverse p) m.column.now [] ≡ reading_of row (with_column p m) (length p)
+row_then row p m after =
+    ap (λ i. row i (reverse p) m.column.now []) after.state.newest.count ∙ sym (reading-at_end row p m.column.now)
 
 module _ (rule : ℕ) (voices : ℕ) (p : List (List Cell)) (m : Moment) where
   broken_then : (row : Row Bool) → breaks rule m.exercise.now voices ≡ row → row (length p) (reverse p) m.column.now []
@@ -65,9 +59,6 @@ module _ (rule : ℕ) (voices : ℕ) (p : List (List Cell)) (m : Moment) where
       ∙ cond-false (melody.looks_back rule) (melody.window_rows rule m.exercise.now voices)
       (whole_of (melody.near_rows rule m.exercise.now voices)) l)
 
-  pub none_then : crate_with rule ≡ None → false ≡ is_broken_then rule voices p m
-  none_then e = broken_by no_rule (rule_of_crate rule None e)
-
   module _ (soon : is_late rule ≡ false) where
     pub motion_then : crate_with rule ≡ Some Motion
         → whole_of (motion.near_rows rule m.exercise.now voices) (length p) (reverse p) m.column.now []
@@ -87,10 +78,6 @@ module _ (rule : ℕ) (voices : ℕ) (p : List (List Cell)) (m : Moment) where
         else whole_of (rhythm.near_rows rule m.exercise.now voices) (length p) (reverse p) m.column.now [])
         (not_shape rule soon e))
         ∙ broken_by (rhythm_book.at_once_row rule) (soon_in_rhythm rule soon e)
-
-    -- each rule of what voices double is late
-    pub doubling_then : crate_with rule ≡ Some Doubling → false ≡ is_broken_then rule voices p m
-    doubling_then e = let no : true ≡ false = late_by_crate rule (Some Doubling) e false soon in cc
 
 -- but for Q16 each toll is settled at its own column
 module _ (toll : ℕ) (other : (toll == 16) ≡ false) (ex : Exercise) (i : ℕ) (behind : List (List Cell)) (now : List Cell)
@@ -123,48 +110,3 @@ module _ (toll : ℕ) (other : (toll == 16) ≡ false) (ex : Exercise) (i : ℕ)
       at false false false true e = of_rhythm (toll == 15) (toll == 16) other
       at false false false false true = refl
       at false false false false false = refl
-
-module _ (toll : ℕ) (p : List (List Cell)) (m : Moment) where
-  cost_by : (row : Row ℕ) → costs toll m.exercise.now ≡ row → row (length p) (reverse p) m.column.now []
-      ≡ cost_at toll m.exercise.now (with_column p m) (length p)
-  cost_by row e = sym (reading-at_end (costs toll m.exercise.now) p m.column.now
-      ∙ ap (λ (r : Row ℕ). r (length p) (reverse p) m.column.now []) e)
-
-  -- what holds of two numbers holds of one of them
-  one_of_two : (P : ℕ → Type 0) (a b : ℕ) → P a → P b → ((toll == a) || (toll == b)) ≡ true → P toll
-  one_of_two P a b pa pb = at (toll == a) refl
-    where
-      at : (t : Bool) → (toll == a) ≡ t → (t || (toll == b)) ≡ true → P toll
-      at true e h = subst P (sym (eqb-true toll a e)) pa
-      at false e h = subst P (sym (eqb-true toll b h)) pb
-
-  costs_of_motion : is_moving_toll toll ≡ true → costs toll m.exercise.now ≡ motion.cost_in toll m.exercise.now
-  unfolding toll_at
-  costs_of_motion = one_of_two (λ t. costs t m.exercise.now ≡ motion.cost_in t m.exercise.now) 11 14 refl refl
-
-  costs_of_dissonance : is_clashing_toll toll ≡ true → costs toll m.exercise.now
-      ≡ dissonance.cost_in toll m.exercise.now
-  unfolding toll_at
-  costs_of_dissonance = one_of_two (λ t. costs t m.exercise.now ≡ dissonance.cost_in t m.exercise.now) 1 2 refl refl
-
-  pub bar_line_cost : toll ≡ 14 → m.state.now.newest.len ≡ length p
-      → reading_of (motion.cost_in 14 m.exercise.now) (p ++ m.column.now ∷ []) m.state.now.newest.len
-      ≡ cost_at toll m.exercise.now (with_column p m) (length p)
-  bar_line_cost e here =
-      ap (reading_of (motion.cost_in 14 m.exercise.now) (p ++ m.column.now ∷ [])) here
-      ∙ ap (λ t. reading_of (motion.cost_in t m.exercise.now) (p ++ m.column.now ∷ []) (length p)) (sym e)
-      ∙ sym (ap (λ (r : Row ℕ). reading_of r (p ++ m.column.now ∷ []) (length p))
-      (costs_of_motion (ap is_moving_toll e)))
-
-  pub motion_cost : is_moving_toll toll ≡ true → (toll == 14) ≡ false
-      → whole_of (motion.toll_rows toll m.exercise.now) (length p) (reverse p) m.column.now []
-      ≡ cost_at toll m.exercise.now (with_column p m) (length p)
-  motion_cost e f =
-      sym (cond-false (toll == 14) (motion.imperfect_runs (length p) (reverse p) m.column.now)
-      (whole_of (motion.toll_rows toll m.exercise.now) (length p) (reverse p) m.column.now []) f)
-      ∙ cost_by (motion.cost_in toll m.exercise.now) (costs_of_motion e)
-
-  pub dissonance_cost : is_clashing_toll toll ≡ true
-      → whole_of (dissonance.toll_rows toll m.exercise.now) (length p) (reverse p) m.column.now []
-      ≡ cost_at toll m.exercise.now (with_column p m) (length p)
-  dissonance_cost e = cost_by (dissonance.cost_in toll m.exercise.now) (costs_of_dissonance e)

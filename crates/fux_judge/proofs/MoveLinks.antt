@@ -16,9 +16,8 @@ use Rattle.rule_law.specs.Voices.{is_free, voice_sets}
 use Rattle.melody_rules.specs.Rows as melody
 use Rattle.penalty_sheet.specs.declared.sheet.Sheet.{Sheet}
 use Rattle.penalty_sheet.specs.Weights.{weight_of}
-use Rattle.fux_judge.specs.declared.numbers.RuleCrate.TheVariants.{Melody}
 use Rattle.fux_judge.specs.Charges.{move_charge}
-use Rattle.fux_judge.specs.Crates.{crate_with, crate_with_toll}
+use Rattle.fux_judge.specs.Crates.{Melody, crate_with, crate_with_toll}
 use Rattle.fux_judge.specs.Links.{behind_of, breaks_between, breaks_strictly, cost_between, is_rule_between, is_toll_between, pair_of, pair_rules, pair_tolls, together}
 use Rattle.fux_judge.specs.Moves.{breaks_by_move, charge_by_move, joint_of, joint_rules, joint_tolls, move_of, move_rules, move_tolls, moves_of}
 use Rattle.fux_judge.specs.Penalties.{is_strict_at}

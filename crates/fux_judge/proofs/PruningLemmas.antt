@@ -25,9 +25,7 @@ use Rattle.melody_rules.specs.Book as melody_book
 use Rattle.motion_rules.specs.Book as motion_book
 use Rattle.dissonance_rules.specs.Book as dissonance_book
 use Rattle.rhythm_cadence.specs.Book as rhythm_book
-use Rattle.fux_judge.specs.declared.numbers.RuleCrate.{RuleCrate}
-use Rattle.fux_judge.specs.declared.numbers.RuleCrate.TheVariants.{Melody, Motion, Dissonance, Rhythm, Doubling}
-use Rattle.fux_judge.specs.Crates.{crate_with}
+use Rattle.fux_judge.specs.Crates.{RuleCrate, Melody, Motion, Dissonance, Rhythm, Doubling, crate_with}
 use Rattle.fux_judge.specs.Rules.{rules_read, all_sets, is_late, is_read, rule_at, breaks, is_broken}
 use Rattle.fux_judge.proofs.CrateLemmas.{late_by_crate, not_shape, rule_of_crate, soon_in_dissonance, soon_in_motion, soon_in_rhythm}
 use Rattle.fux_judge.specs.Penalties.{is_strict_at, newly_broken}

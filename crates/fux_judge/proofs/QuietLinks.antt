@@ -11,6 +11,7 @@ use Rattle.fux_grid.specs.declared.cell.Cell.TheVariants.{Rest, Hold, Start}
 use Rattle.fux_grid.specs.declared.exercise.Exercise.{Exercise}
 use Rattle.fux_grid.specs.Cells.{cell_in}
 use Rattle.fux_grid.specs.Columns.{newest_column}
+use Rattle.fux_grid.specs.Exercises.{species_in}
 use Rattle.rule_law.specs.Bars.{begins_bar, begins_inner_bar}
 use Rattle.rule_law.specs.Growth.{sum_by-none}
 use Rattle.rule_law.specs.Nearby.{previous_pitches}
@@ -31,9 +32,7 @@ use Rattle.doubling_rules.specs.Rows.{are_far_apart, breaks_in_column, cost_of_c
 use Rattle.doubling_rules.specs.Rows.{is_before_last_bar, sounds_leading, straying_notes, strays}
 use Rattle.penalty_sheet.specs.declared.sheet.Sheet.{Sheet}
 use Rattle.penalty_sheet.specs.Weights.{weight_of}
-use Rattle.fux_judge.specs.declared.numbers.RuleCrate.{RuleCrate}
-use Rattle.fux_judge.specs.declared.numbers.RuleCrate.TheVariants.{Melody, Motion, Dissonance, Rhythm, Doubling}
-use Rattle.fux_judge.specs.Crates.{crate_with, crate_with_toll, rule_by, toll_by}
+use Rattle.fux_judge.specs.Crates.{RuleCrate, Melody, Motion, Dissonance, Rhythm, Doubling, crate_with, crate_with_toll, rule_by, toll_by}
 use Rattle.fux_judge.proofs.Facts.{rule_keeps, toll_keeps}
 use Rattle.fux_judge.specs.Links.{behind_of, breaks_between, breaks_strictly, column_of, column_rules, column_tolls}
 use Rattle.fux_judge.specs.Links.{cost_between, is_of_neighbors, is_rule_between, is_toll_between}
@@ -125,7 +124,7 @@ module _ (ex : Exercise) (i : ℕ) (before : Option (List Cell)) (next : List Ce
   no_ligature : from_bool (lacks_ligature ex i next) ≡ 0
   no_ligature =
       ap (λ b. from_bool (b && starts (cell_in next ex.species_voice)))
-      (and_right (ex.species == 4) (begins_inner_bar ex i) (quiet_inner ex i next quiet))
+      (and_right (species_in ex ex.species_voice == 4) (begins_inner_bar ex i) (quiet_inner ex i next quiet))
 
   no_inner_moves : inner_moves ex (newest_column (behind_of before)) next ≡ 0
   no_inner_moves =

@@ -21,13 +21,6 @@ tolls_of_melody = 7 ∷ 8 ∷ 9 ∷ 10 ∷ 13 ∷ []
 abbrev pub tolls_of_pairs : List ℕ
 tolls_of_pairs = 1 ∷ 2 ∷ 11 ∷ 14 ∷ []
 
--- those of motion, and those of dissonance
-abbrev pub is_moving_toll : ℕ → Bool
-is_moving_toll toll = (toll == 11) || (toll == 14)
-
-abbrev pub is_clashing_toll : ℕ → Bool
-is_clashing_toll toll = (toll == 1) || (toll == 2)
-
 -- a toll of melody stands for a cell of a line, whose cells go from the newest to the oldest
 abbrev pub stands : ℕ → List Cell → Cell → Bool
 stands toll cells now =

@@ -6,8 +6,14 @@ use Rattle.motion_rules.specs.Book as motion
 use Rattle.dissonance_rules.specs.Book as dissonance
 use Rattle.rhythm_cadence.specs.Book as rhythm
 use Rattle.doubling_rules.specs.Book as doubling
-use Rattle.fux_judge.specs.declared.numbers.RuleCrate.{RuleCrate}
-use Rattle.fux_judge.specs.declared.numbers.RuleCrate.TheVariants.{Melody, Motion, Dissonance, Rhythm, Doubling}
+
+-- the crates of rules
+pub data RuleCrate : Type 0 where
+  Melody : RuleCrate
+  Motion : RuleCrate
+  Dissonance : RuleCrate
+  Rhythm : RuleCrate
+  Doubling : RuleCrate
 
 -- the book of a crate
 abbrev pub book_of : RuleCrate → Rulebook

@@ -8,16 +8,11 @@ use Rattle.fux_grid.specs.declared.cell.Cell.TheVariants.{Rest, Hold, Start}
 use Rattle.fux_grid.specs.declared.exercise.Exercise.{Exercise}
 use Rattle.rule_law.specs.declared.table.Kind.{Kind}
 use Rattle.rule_law.specs.declared.table.Kind.TheVariants.{Column, Pair, Window}
+pub use Rattle.rule_law.specs.RuleCrates.{is_of_neighbors}
 use Rattle.penalty_sheet.specs.declared.sheet.Sheet.{Sheet}
 use Rattle.penalty_sheet.specs.Weights.{weight_of}
 use Rattle.fux_judge.specs.Penalties.{is_strict_at}
 use Rattle.fux_judge.specs.Rules.{all_sets, breaks, costs, rule_at, rules_read, toll_at, tolls_read}
-
--- a column and the one before it are enough
-abbrev pub is_of_neighbors : Kind → Bool
-is_of_neighbors Column = true
-is_of_neighbors Pair = true
-is_of_neighbors Window = false
 
 -- the column is enough, and the one before it is needed
 abbrev pub is_of_column : Kind → Bool

@@ -7,15 +7,21 @@ use Rattle.rule_law.specs.Prefixes.{GoesOn}
 use Rattle.melody_rules.specs.Notes.{AreNotesOf}
 use Rattle.motion_rules.specs.BarLines.{IsBarLinesOf}
 use Rattle.rhythm_cadence.specs.Parts.{IsShapesOf}
+use Rattle.fux_judge.specs.declared.past.Past.{Past}
 use Rattle.fux_judge.specs.declared.state.State.{State}
 use Rattle.fux_judge.specs.GaugeStates.{AreAheadOf, AreGaugesOf}
 
--- the state is of the prefix: it knows its length and its newest columns, and each crate's part is of it
+-- the crates' parts are of the columns: the notes of each voice for melody, the beginnings of bars for motion, the shapes of the newest bar
+-- for rhythm
+pub record IsPastOf (ex : Exercise) (p : List (List Cell)) (past : Past) : Type 0 where
+  pub melody : AreNotesOf (reverse p) past.parts.first
+  pub motion : IsBarLinesOf p past.parts.second.first
+  pub rhythm : IsShapesOf ex p past.parts.second.second.second.first
+
+-- the state is of the prefix: it knows its length and its newest columns, and what the crates keep is of it
 pub record IsStateOf (ex : Exercise) (p : List (List Cell)) (state : State) : Type 0 where
   pub newest : AreNewestOf ex.voices p state.newest
-  pub melody : AreNotesOf (reverse p) state.melody
-  pub rhythm : IsShapesOf ex p state.rhythm
-  pub motion : IsBarLinesOf p state.motion
+  pub past : IsPastOf ex p state.past
   pub gauges : AreGaugesOf (reverse p) state.gauges
   pub ahead : AreAheadOf ex p state.ahead
 

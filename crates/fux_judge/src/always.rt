@@ -8,7 +8,7 @@ ghost use Rattle.fux_judge.specs.Always.{IsAlwaysDead};
 ghost use Rattle.fux_judge.specs.Penalties.{is_strict_at};
 ghost use Rattle.fux_judge.specs.Pruning.{is_set_below};
 
-use fux_grid::{Cell, Column, Exercise, VoiceSet};
+use fux_grid::{Cell, Column, Exercise, VoiceSet, bar_of};
 use penalty_sheet::price_at;
 use rule_law::{Latest, is_quiet};
 
@@ -25,7 +25,7 @@ fn is_strict(ex: &Exercise, rule: u8, i: usize, voices: VoiceSet) -> bool
     requires place { i < columns_in ex.now }
     ensures { result ≡ is_strict_at rule ex.now voices.bits i }
 {
-    price_at(ex, rule, voices, (i / 8 + 1) as u8).is_strict()
+    price_at(ex, rule, voices, bar_of(i)).is_strict()
 }
 
 /// Whether two voices cross in a column: S10.

@@ -20,7 +20,7 @@ pub(crate) fn rules_left(m: &Moment<'_>) -> &'static [u8]
     ensures numbers { IsTrue (list_all (λ rule. nat_lt rule 32 && not (is_late rule)) result.now) }
     ensures kept { (p : Columns) → IsAfter p m.now → (r : ℕ) → breaks_one_of result.now p m.now r ≡ breaks_one_of rules_at_once p m.now r }
 {
-    if !are_smooth(m.exercise, &m.state.melody, m.column) {
+    if !are_smooth(m.exercise, &m.state.past.parts.first, m.column) {
         return all_at_once();
     }
     if !are_clear(m.exercise, m.before, m.column) {

@@ -9,14 +9,16 @@ ghost use Rattle.fux_judge.specs.Rules.{is_late, late_rules, rule_at};
 ghost use Rattle.fux_judge.specs.Late.{AddsLateBreaks, SettlesAmong, TellsAtPlace, TellsOfNewest, end_of_places};
 ghost use Rattle.fux_judge.specs.Steps as steps;
 
-use crate::numbers::{RuleCrate, crate_of, every_late_rule, form_of};
+use crate::all_rules::{AllRules, form_of};
+use crate::numbers::every_late_rule;
 use crate::state::State;
-use fux_grid::{Exercise, VoiceSet};
+use fux_grid::{Exercise, VoiceSet, bar_of};
 use penalty_sheet::price_at;
-use rule_law::{LatePlaces, RuleSet, sets_of};
+use rule_law::{LatePlaces, RuleCrate, RuleSet, sets_of};
 
-/// Where column `i` may settle a late rule, as the crate that has it says. Melody has none.
+/// Where column `i` may settle a late rule, as its crate says.
 #[inline(always)]
+#[tactic(auto, unfolding(crate::specs::Rules::rule_at))]
 fn places_at(rule: u8, ex: &Exercise, i: usize) -> LatePlaces
     requires late { is_late rule ≡ true }
     requires valid { IsValid ex.now }
@@ -25,14 +27,7 @@ fn places_at(rule: u8, ex: &Exercise, i: usize) -> LatePlaces
     ensures count { result.count ≡ (rule_at rule).count ex.now i }
     ensures few { result.count ≤ 24 }
 {
-    match crate_of(rule) {
-        Some(RuleCrate::Melody) => LatePlaces { first: i, count: 1 },
-        Some(RuleCrate::Motion) => motion_rules::places_settled(rule, ex, i),
-        Some(RuleCrate::Dissonance) => dissonance_rules::places_settled(rule, ex, i),
-        Some(RuleCrate::Rhythm) => rhythm_cadence::places_settled(rule, ex, i),
-        Some(RuleCrate::Doubling) => doubling_rules::places_settled(rule, ex, i),
-        None => LatePlaces { first: i, count: 1 },
-    }
+    AllRules::places_settled(rule, ex, i)
 }
 
 /// Where the newest column may settle a late rule.
@@ -50,8 +45,9 @@ fn places_of(rule: u8, ex: &Exercise, next: &State) -> LatePlaces
     places_at(rule, ex, next.newest.len - 1)
 }
 
-/// Those of these places that are left once the newest columns are looked at, as the crate that has the rule says. Most say nothing.
+/// Those of these places that are left once the newest columns are looked at, as its crate says.
 #[inline(always)]
+#[tactic(auto, unfolding(crate::specs::Rules::rule_at))]
 fn places_left(rule: u8, ex: &Exercise, next: &State) -> LatePlaces
     requires late { is_late rule ≡ true }
     requires valid { IsValid ex.now }
@@ -62,16 +58,11 @@ fn places_left(rule: u8, ex: &Exercise, next: &State) -> LatePlaces
     ensures within { result.first + result.count ≤ next.now.newest.len }
     ensures left { SettlesAmong rule ex.now next.now result.first result.count }
 {
-    let places = places_of(rule, ex, next);
-    match crate_of(rule) {
-        Some(RuleCrate::Dissonance) => {
-            dissonance_rules::places_left(&next.newest, rule, ex, places)
-        }
-        _ => places,
-    }
+    AllRules::places_left(&next.newest, rule, ex)
 }
 
-/// Whether the newest column settles a break of a late rule, at one of its places, as the crate that has it says.
+/// Whether the newest column settles a break of a late rule, at one of its places, as its crate says.
+#[tactic(auto, unfolding(crate::specs::Rules::rule_at))]
 fn breaks_at(rule: u8, ex: &Exercise, next: &State, voices: VoiceSet, place: usize) -> bool
     requires late { is_late rule ≡ true }
     requires valid { IsValid ex.now }
@@ -79,19 +70,7 @@ fn breaks_at(rule: u8, ex: &Exercise, next: &State, voices: VoiceSet, place: usi
     requires room { next.now.newest.len ≤ columns_in ex.now }
     ensures { TellsAtPlace rule ex.now next.now place (λ p col. newly_breaks (rule_at rule) ex.now voices.bits p col place) result }
 {
-    let newest = &next.newest;
-    match crate_of(rule) {
-        Some(RuleCrate::Melody) => false,
-        Some(RuleCrate::Motion) => motion_rules::breaks_late(newest, rule, ex, voices, place),
-        Some(RuleCrate::Dissonance) => {
-            dissonance_rules::breaks_late(newest, rule, ex, voices, place)
-        }
-        Some(RuleCrate::Rhythm) => {
-            rhythm_cadence::breaks_late(&next.rhythm, newest, rule, ex, voices, place)
-        }
-        Some(RuleCrate::Doubling) => doubling_rules::breaks_late(newest, rule, ex, voices, place),
-        None => false,
-    }
+    AllRules::breaks_late(&next.past.parts, &next.newest, rule, ex, voices, place)
 }
 
 /// Whether that is a strict break.
@@ -106,7 +85,7 @@ fn breaks_strictly_at(rule: u8, ex: &Exercise, next: &State, voices: VoiceSet, p
     if !breaks_at(rule, ex, next, voices, place) {
         return false;
     }
-    price_at(ex, rule, voices, (place / 8 + 1) as u8).is_strict()
+    price_at(ex, rule, voices, bar_of(place)).is_strict()
 }
 
 /// The price of a relaxed break that the column settles there.
@@ -122,7 +101,7 @@ fn price_settled(rule: u8, ex: &Exercise, next: &State, voices: VoiceSet, place:
     if !breaks_at(rule, ex, next, voices, place) {
         return 0;
     }
-    u64::from(price_at(ex, rule, voices, (place / 8 + 1) as u8).amount())
+    u64::from(price_at(ex, rule, voices, bar_of(place)).amount())
 }
 
 /// Whether the newest column settles a strict break of a late rule at a place, for one of these sets of voices.

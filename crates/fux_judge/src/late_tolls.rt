@@ -9,14 +9,15 @@ ghost use Rattle.fux_judge.specs.Rules.{is_late_toll, late_tolls, toll_at};
 ghost use Rattle.fux_judge.specs.Late.{TellsAtPlaceOfCost, TellsOfNewest};
 ghost use Rattle.fux_judge.specs.Steps as steps;
 
-use crate::numbers::{RuleCrate, crate_of_toll};
+use crate::all_rules::AllRules;
 use crate::state::State;
 use fux_grid::Exercise;
 use penalty_sheet::{Sheet, weight};
-use rule_law::LatePlaces;
+use rule_law::{LatePlaces, RuleCrate};
 
-/// Where column `i` may settle what a late toll costs, as the crate that has it says. Melody and dissonance have none.
+/// Where column `i` may settle what a late toll costs, as its crate says.
 #[inline(always)]
+#[tactic(auto, unfolding(crate::specs::Rules::toll_at))]
 fn places_at(toll: u8, ex: &Exercise, i: usize) -> LatePlaces
     requires late { is_late_toll toll ≡ true }
     requires valid { IsValid ex.now }
@@ -25,14 +26,7 @@ fn places_at(toll: u8, ex: &Exercise, i: usize) -> LatePlaces
     ensures count { result.count ≡ (toll_at toll).count ex.now i }
     ensures few { result.count ≤ 24 }
 {
-    match crate_of_toll(toll) {
-        Some(RuleCrate::Melody) => LatePlaces { first: i, count: 1 },
-        Some(RuleCrate::Motion) => motion_rules::toll_places(toll, ex, i),
-        Some(RuleCrate::Dissonance) => LatePlaces { first: i, count: 1 },
-        Some(RuleCrate::Rhythm) => rhythm_cadence::toll_places(toll, ex, i),
-        Some(RuleCrate::Doubling) => doubling_rules::toll_places(toll, ex, i),
-        None => LatePlaces { first: i, count: 1 },
-    }
+    AllRules::toll_places(toll, ex, i)
 }
 
 /// Where the newest column may settle what a late toll costs.
@@ -50,7 +44,8 @@ fn places_of(toll: u8, ex: &Exercise, next: &State) -> LatePlaces
     places_at(toll, ex, next.newest.len - 1)
 }
 
-/// What the newest column settles of a late toll at one of its places, without its weight, as the crate that has it says.
+/// What the newest column settles of a late toll at one of its places, without its weight, as its crate says.
+#[tactic(auto, unfolding(crate::specs::Rules::toll_at))]
 fn cost_at(toll: u8, ex: &Exercise, next: &State, place: usize) -> u32
     requires late { is_late_toll toll ≡ true }
     requires valid { IsValid ex.now }
@@ -59,15 +54,7 @@ fn cost_at(toll: u8, ex: &Exercise, next: &State, place: usize) -> u32
     ensures value { TellsAtPlaceOfCost toll ex.now next.now place (λ p col. newly_costs (toll_at toll) ex.now p col place) result }
     ensures bound { result ≤ 6 }
 {
-    let newest = &next.newest;
-    match crate_of_toll(toll) {
-        Some(RuleCrate::Melody) => 0,
-        Some(RuleCrate::Motion) => motion_rules::cost_late(newest, toll, ex, place),
-        Some(RuleCrate::Dissonance) => 0,
-        Some(RuleCrate::Rhythm) => rhythm_cadence::cost_late(newest, toll, ex, place),
-        Some(RuleCrate::Doubling) => doubling_rules::cost_late(newest, toll, ex, place),
-        None => 0,
-    }
+    AllRules::cost_late(&next.newest, toll, ex, place)
 }
 
 /// What it settles there by the toll's weight.

@@ -2,6 +2,7 @@
 #![tactic(auto)]
 
 mod ahead;
+mod all_rules;
 mod always;
 mod gauges;
 mod kept;
@@ -13,6 +14,7 @@ mod moment;
 mod moves;
 mod numbers;
 mod pairs;
+mod past;
 mod pruning;
 mod reading;
 mod state;
@@ -26,7 +28,8 @@ pub use always::is_always_dead;
 pub use lines::least;
 pub use link::{column_cost, link_cost, pair_cost};
 pub use moves::{move_cost, moves_are_least, pair_cost_from};
-pub use numbers::{every_rule, every_toll};
+pub use numbers::{every_rule, every_set, every_toll};
+pub use past::Past;
 pub use pruning::pruned_within;
 pub use state::State;
 pub use total::penalty;

@@ -7,11 +7,12 @@ ghost use Rattle.fux_judge.specs.Links.{IsLeastOfLinks, column_of, given, is_rul
 ghost use Rattle.fux_judge.specs.Neighbors.{IsLink, breaks_at_link, breaks_strictly_at_link, charge_at_link, cost_at_link, is_strict_for};
 ghost use Rattle.fux_judge.specs.Penalties.{is_strict_at};
 
-use crate::numbers::{RuleCrate, column_rules, column_tolls, crate_of, crate_of_toll, form_of};
+use crate::all_rules::{AllRules, form_of};
+use crate::numbers::{column_rules, column_tolls};
 use crate::pairs::{breaks_pair_rule, pair_charges};
-use fux_grid::{Cell, Column, Exercise, VoiceSet};
+use fux_grid::{Cell, Column, Exercise, VoiceSet, bar_of};
 use penalty_sheet::{Sheet, price_at, weight};
-use rule_law::{cells_of, is_quiet, latest_of_column, sets_of};
+use rule_law::{RuleCrate, cells_of, is_quiet, latest_of_column, sets_of};
 
 /// A column of a setting, and the one before it.
 #[derive(Clone, Copy)]
@@ -61,22 +62,7 @@ fn is_broken(rule: u8, voices: VoiceSet, link: &Link<'_>) -> bool
 {
     let (ex, i, before, next) = (link.exercise, link.place, link.before, link.next);
     let latest = &latest_of_column(before);
-    match crate_of(rule) {
-        Some(RuleCrate::Melody) => {
-            melody_rules::breaks(rule, ex, voices, i, before, latest, next)
-        }
-        Some(RuleCrate::Motion) => {
-            motion_rules::breaks(rule, ex, voices, i, before, latest, next)
-        }
-        Some(RuleCrate::Dissonance) => {
-            dissonance_rules::breaks(rule, ex, voices, i, before, latest, next)
-        }
-        Some(RuleCrate::Rhythm) => {
-            rhythm_cadence::breaks(rule, ex, voices, i, before, latest, next)
-        }
-        Some(RuleCrate::Doubling) => doubling_rules::doubling_breaks(ex, voices, i, next),
-        None => false,
-    }
+    AllRules::breaks_between(rule, ex, voices, i, before, latest, next)
 }
 
 /// Whether it is strictly broken there for a set of voices.
@@ -90,8 +76,7 @@ pub(crate) fn is_strictly_broken(rule: u8, voices: VoiceSet, link: &Link<'_>) ->
     if !is_broken(rule, voices, link) {
         return false;
     }
-    let bar = (link.place / 8 + 1) as u8;
-    price_at(link.exercise, rule, voices, bar).is_strict()
+    price_at(link.exercise, rule, voices, bar_of(link.place)).is_strict()
 }
 
 /// Whether it is strictly broken there for one of these sets of voices.
@@ -141,26 +126,7 @@ fn cost(toll: u8, link: &Link<'_>) -> u32
 {
     let (ex, i, before, next) = (link.exercise, link.place, link.before, link.next);
     let latest = &latest_of_column(before);
-    match crate_of_toll(toll) {
-        Some(RuleCrate::Melody) => melody_rules::cost(toll, ex, i, before, latest, next),
-        Some(RuleCrate::Motion) => {
-            if toll == 12 {
-                motion_rules::inner_moves(ex, before, next)
-            } else {
-                motion_rules::cost(toll, ex, i, before, latest, next)
-            }
-        }
-        Some(RuleCrate::Dissonance) => { dissonance_rules::cost(toll, ex, i, before, latest, next) }
-        Some(RuleCrate::Rhythm) => {
-            if toll == 15 {
-                u32::from(rhythm_cadence::lacks_ligature(ex, i, next))
-            } else {
-                0
-            }
-        }
-        Some(RuleCrate::Doubling) => doubling_rules::doubling_cost(toll, ex, i, next),
-        None => 0,
-    }
+    AllRules::cost_between(toll, ex, i, before, latest, next)
 }
 
 /// What a toll of neighbors costs there, by its weight.

@@ -16,7 +16,7 @@ ghost use Rattle.fux_judge.specs.Moves.{move_of, moves_of};
 use crate::link::link_between;
 use crate::pairs::{breaks_joint_rule, joint_charges};
 use crate::tolls::charge_of_move;
-use fux_grid::{Cell, Column, Exercise, VoiceSet, species_of};
+use fux_grid::{Cell, Column, Exercise, VoiceSet, bar_of, species_of};
 use fux_pitch::Pitch;
 use melody_rules::{leaves_sharp, moves_unmelodically, repeats};
 use penalty_sheet::{Sheet, price_at, weight};
@@ -55,7 +55,7 @@ fn breaks_strictly(rule: u8, ex: &Exercise, i: usize, v: u8, before: Cell, next:
     if !breaks_rule(rule, species_of(ex, v), before.pitch(), next) {
         return false;
     }
-    price_at(ex, rule, set_of(v), (i / 8 + 1) as u8).is_strict()
+    price_at(ex, rule, set_of(v), bar_of(i)).is_strict()
 }
 
 /// Whether a voice's move makes a strict break.

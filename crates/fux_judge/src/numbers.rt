@@ -1,31 +1,23 @@
-//! The numbers of rules and tolls: which there are, which crate has each, which are settled at once and which are late, and which are
+//! The numbers of rules and tolls: which there are, which are settled at once and which are late, and which are
 //! left to read where a test tells of the others. Each list is the table's, by its clause.
 
 ghost use Rattle.std.specs.Prelude.{◌≡◌, ◌≤◌, ◌&&◌, not, nat_le, nat_lt, ℕ, IsTrue, length};
 ghost use Rattle.std.specs.List.{filter, list_all, range_with_len};
-ghost use Rattle.fux_judge.specs.Crates.{crate_with, crate_with_toll};
+ghost use Rattle.fux_grid.specs.Exercises.{greatest_rule};
 ghost use Rattle.fux_judge.specs.Links as links;
 ghost use Rattle.fux_judge.specs.Links.{is_rule_between, is_toll_between};
 ghost use Rattle.fux_judge.specs.Kept.{rules_at_a_bar, rules_at_the_end, rules_within_bars};
-ghost use Rattle.fux_judge.specs.Rules as rules;
-ghost use Rattle.fux_judge.specs.Rules.{all_rules, is_late, late_rules, rule_at, rules_at_once, rules_read, tolls_read};
+ghost use Rattle.fux_judge.specs.Rules.{all_rules, all_sets, is_late, late_rules, rules_at_once, rules_read, tolls_read};
 
-use rule_law::Form;
-
-/// The crates of rules.
-#[derive(Clone, Copy, Debug, PartialEq, Eq)]
-pub(crate) enum RuleCrate {
-    Melody,
-    Motion,
-    Dissonance,
-    Rhythm,
-    Doubling,
-}
+use fux_grid::GREATEST_RULE;
 
 /// All rules that are read.
-const RULES: [u8; 26] = [
+const RULES: [u8; GREATEST_RULE as usize] = [
     1, 2, 3, 4, 5, 6, 7, 8, 9, 10, 11, 12, 13, 14, 15, 16, 17, 18, 19, 20, 21, 22, 23, 24, 25, 26,
 ];
+
+/// The sets of voices, of four at most, by their bits.
+const VOICE_SETS: [u8; 15] = [1, 2, 3, 4, 5, 6, 7, 8, 9, 10, 11, 12, 13, 14, 15];
 
 /// The rules that may be settled later than at their own column.
 const LATE_RULES: [u8; 9] = [3, 15, 18, 19, 20, 21, 22, 23, 25];
@@ -55,10 +47,18 @@ const COLUMN_TOLLS: [u8; 7] = [1, 2, 3, 4, 5, 6, 15];
 #[tactic(auto, unfolding(crate::specs::Rules::rules_read))]
 pub fn every_rule() -> &'static [u8]
     ensures value { result.now ≡ rules_read }
-    ensures table { result.now ≡ filter all_rules.has_rule (range_with_len 1 26) }
-    ensures count { length result.now ≡ 26 }
+    ensures table { result.now ≡ filter all_rules.has_rule (range_with_len 1 greatest_rule) }
+    ensures count { length result.now ≡ greatest_rule }
 {
     &RULES
+}
+
+/// Every set of voices, of four at most, by ascending bits.
+pub fn every_set() -> &'static [u8]
+    ensures value { result.now ≡ all_sets }
+    ensures count { length result.now ≡ 15 }
+{
+    &VOICE_SETS
 }
 
 /// The rules that are late.
@@ -137,152 +137,4 @@ pub(crate) fn column_tolls() -> &'static [u8]
     ensures few { length result.now ≤ 20 }
 {
     &COLUMN_TOLLS
-}
-
-/// Whether a rule is of melody.
-#[inline(always)]
-fn is_of_melody(rule: u8) -> bool
-    ensures { result ≡ rules.is_of_melody rule }
-{
-    rule == 4 || rule == 5 || rule == 6 || rule == 7 || rule == 8 || rule == 9 || rule == 26
-}
-
-/// Whether a rule is of motion.
-#[inline(always)]
-fn is_of_motion(rule: u8) -> bool
-    ensures { result ≡ rules.is_of_motion rule }
-{
-    rule == 10 || rule == 16 || rule == 17 || rule == 18
-}
-
-/// Whether a rule is of dissonance.
-#[inline(always)]
-fn is_of_dissonance(rule: u8) -> bool
-    ensures { result ≡ rules.is_of_dissonance rule }
-{
-    rule == 11 || rule == 14 || rule == 15 || rule == 19 || rule == 20 || rule == 21
-}
-
-/// Whether a rule is of rhythm and cadence.
-#[inline(always)]
-fn is_of_rhythm(rule: u8) -> bool
-    ensures { result ≡ rules.is_of_rhythm rule }
-{
-    matches!(rule, 1 | 2 | 3 | 12 | 13 | 22 | 24 | 25)
-}
-
-/// Whether a rule is of what voices double.
-#[inline(always)]
-fn is_of_doubling(rule: u8) -> bool
-    ensures { result ≡ rules.is_of_doubling rule }
-{
-    rule == 23
-}
-
-/// The crate that has a rule; none has a number that is in no book.
-#[inline(always)]
-pub(crate) fn crate_of(rule: u8) -> Option<RuleCrate>
-    ensures { result ≡ crate_with rule }
-{
-    if is_of_melody(rule) {
-        return Some(RuleCrate::Melody);
-    }
-    if is_of_motion(rule) {
-        return Some(RuleCrate::Motion);
-    }
-    if is_of_dissonance(rule) {
-        return Some(RuleCrate::Dissonance);
-    }
-    if is_of_rhythm(rule) {
-        return Some(RuleCrate::Rhythm);
-    }
-    if is_of_doubling(rule) {
-        return Some(RuleCrate::Doubling);
-    }
-    None
-}
-
-/// Which sets of voices a rule speaks of.
-#[inline(always)]
-#[tactic(auto, unfolding(crate::specs::Rules::rule_at))]
-pub(crate) fn form_of(rule: u8) -> Form
-    ensures { result ≡ (rule_at rule).form }
-{
-    if is_of_melody(rule) {
-        return Form::OneVoice;
-    }
-    if is_of_motion(rule) {
-        return Form::TwoVoices;
-    }
-    if is_of_dissonance(rule) {
-        return Form::TwoVoices;
-    }
-    match rule {
-        13 | 23 => Form::TwoVoices,
-        22 => Form::AllVoices,
-        _ => Form::OneVoice,
-    }
-}
-
-/// Whether a toll is of melody.
-#[inline(always)]
-fn is_toll_of_melody(toll: u8) -> bool
-    ensures { result ≡ rules.is_toll_of_melody toll }
-{
-    toll == 7 || toll == 8 || toll == 9 || toll == 10 || toll == 13
-}
-
-/// Whether a toll is of motion.
-#[inline(always)]
-fn is_toll_of_motion(toll: u8) -> bool
-    ensures { result ≡ rules.is_toll_of_motion toll }
-{
-    toll == 11 || toll == 12 || toll == 14
-}
-
-/// Whether a toll is of dissonance.
-#[inline(always)]
-fn is_toll_of_dissonance(toll: u8) -> bool
-    ensures { result ≡ rules.is_toll_of_dissonance toll }
-{
-    toll == 1 || toll == 2
-}
-
-/// Whether a toll is of rhythm.
-#[inline(always)]
-fn is_toll_of_rhythm(toll: u8) -> bool
-    ensures { result ≡ rules.is_toll_of_rhythm toll }
-{
-    toll == 15 || toll == 16
-}
-
-/// Whether a toll is of what voices double.
-#[inline(always)]
-fn is_toll_of_doubling(toll: u8) -> bool
-    ensures { result ≡ rules.is_toll_of_doubling toll }
-{
-    toll == 3 || toll == 4 || toll == 5 || toll == 6
-}
-
-/// The crate that has a toll.
-#[inline(always)]
-pub(crate) fn crate_of_toll(toll: u8) -> Option<RuleCrate>
-    ensures { result ≡ crate_with_toll toll }
-{
-    if is_toll_of_melody(toll) {
-        return Some(RuleCrate::Melody);
-    }
-    if is_toll_of_motion(toll) {
-        return Some(RuleCrate::Motion);
-    }
-    if is_toll_of_dissonance(toll) {
-        return Some(RuleCrate::Dissonance);
-    }
-    if is_toll_of_rhythm(toll) {
-        return Some(RuleCrate::Rhythm);
-    }
-    if is_toll_of_doubling(toll) {
-        return Some(RuleCrate::Doubling);
-    }
-    None
 }

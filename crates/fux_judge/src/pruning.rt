@@ -71,7 +71,7 @@ fn breaks_alone(voice: u8, voices: VoiceSet, m: &Moment<'_>) -> bool
     requires readable { IsReadable m.now }
     ensures { OnTrue result (IsDeadBy voices.bits m.now) }
 {
-    if is_smooth_in(m.exercise, &m.state.melody, m.column, voice) {
+    if is_smooth_in(m.exercise, &m.state.past.parts.first, m.column, voice) {
         return false;
     }
     if m.exercise.relax.as_slice().is_empty() {
@@ -114,7 +114,7 @@ fn leaves_shapes(voice: usize, m: &Moment<'_>) -> bool
 {
     let cell = cell_of(m.column, voice);
     if leaves_last_shape(
-        &m.state.rhythm,
+        &m.state.past.parts.second.second.second.first,
         m.exercise,
         m.state.newest.len,
         cell,
@@ -171,7 +171,8 @@ fn charge_for(limit: Option<u64>, sheet: &Sheet, m: &Moment<'_>, voice: usize) -
 
 /// Whether what all voices cost and what they cost together reach the limit, where there is one.
 fn costs_too_much(limit: Option<u64>, least: u64, sheet: &Sheet, m: &Moment<'_>) -> bool
-    requires { least ≤ 524280 }
+    requires little { least ≤ 524280 }
+    requires readable { IsReadable m.now }
     ensures { OnTrue result (IsSomeAnd limit (λ most. (p : Columns) → IsAfter p m.now → most ≤ least + pairs_then sheet.now p m.now)) }
 {
     match limit {

@@ -2,38 +2,23 @@
 
 ghost use Rattle.std.specs.Prelude.{◌≡◌, Some, false, ◌<◌, ◌≤◌, ◌*◌, ◌+◌, ◌^◌, List, [], IsTrue, length};
 ghost use Rattle.fux_grid.specs.declared.cell.Cell.{Cell as ACell};
-ghost use Rattle.melody_rules.specs.Rows as melody;
-ghost use Rattle.fux_grid.specs.Exercises.{bar_of};
-ghost use Rattle.fux_judge.specs.declared.numbers.RuleCrate.TheVariants.{Melody};
-ghost use Rattle.fux_judge.specs.Crates.{crate_with};
 ghost use Rattle.fux_judge.specs.Rules.{all_sets, is_late};
 ghost use Rattle.fux_judge.specs.Moments.{IsReadable, IsAfter, is_broken_then, is_strict_break_then, is_strictly_broken_then, price_then, prices_then, with_column};
 
+use crate::all_rules::{AllRules, form_of};
 use crate::moment::Moment;
-use crate::numbers::{RuleCrate, crate_of, form_of};
-use fux_grid::VoiceSet;
-use melody_rules::breaks_looking_back;
+use fux_grid::{VoiceSet, bar_of};
 use penalty_sheet::price_at;
-use rule_law::sets_of;
+use rule_law::{RuleCrate, sets_of};
 
-/// Whether a rule of melody looks back over several notes.
-#[inline]
-fn looks_back(rule: u8) -> bool
-    ensures { result ≡ melody.looks_back rule }
-{
-    rule == 6 || rule == 7 || rule == 8 || rule == 9
-}
-
-/// Whether a rule of melody is broken for a set of voices.
-fn breaks_melody(rule: u8, voices: VoiceSet, m: &Moment<'_>) -> bool
-    requires rule { crate_with rule ≡ Some Melody }
+/// Whether a rule that is settled at once is broken for a set of voices.
+fn is_broken(rule: u8, voices: VoiceSet, m: &Moment<'_>) -> bool
+    requires rule { is_late rule ≡ false }
     requires readable { IsReadable m.now }
     ensures { (p : List (List ACell)) → IsAfter p m.now → result ≡ is_broken_then rule voices.bits p m.now }
 {
-    if looks_back(rule) {
-        return breaks_looking_back(rule, m.exercise, voices, &m.state.melody, m.column);
-    }
-    melody_rules::breaks(
+    AllRules::breaks_at_once(
+        &m.state.past.parts,
         rule,
         m.exercise,
         voices,
@@ -42,38 +27,6 @@ fn breaks_melody(rule: u8, voices: VoiceSet, m: &Moment<'_>) -> bool
         &m.latest,
         m.column,
     )
-}
-
-/// Whether a rule that is settled at once is broken for a set of voices.
-fn is_broken(rule: u8, voices: VoiceSet, m: &Moment<'_>) -> bool
-    requires rule { is_late rule ≡ false }
-    requires readable { IsReadable m.now }
-    ensures { (p : List (List ACell)) → IsAfter p m.now → result ≡ is_broken_then rule voices.bits p m.now }
-{
-    let (ex, i, before, now) = (m.exercise, m.state.newest.len, m.before, m.column);
-    match crate_of(rule) {
-        Some(RuleCrate::Melody) => breaks_melody(rule, voices, m),
-        Some(RuleCrate::Motion) => motion_rules::breaks(
-            rule, ex, voices, i, before, &m.latest, now,
-        ),
-        Some(RuleCrate::Dissonance) => {
-            dissonance_rules::breaks(rule, ex, voices, i, before, &m.latest, now)
-        }
-        Some(RuleCrate::Rhythm) => {
-            rhythm_cadence::breaks(rule, ex, voices, i, before, &m.latest, now)
-        }
-        Some(RuleCrate::Doubling) => false,
-        None => false,
-    }
-}
-
-/// The bar of a moment, counted from 1.
-#[inline]
-fn bar_at(m: &Moment<'_>) -> u8
-    requires { IsReadable m.now }
-    ensures { result ≡ bar_of m.now.state.now.newest.len }
-{
-    (m.state.newest.len / 8 + 1) as u8
 }
 
 /// Whether a rule that is settled at once is strictly broken for a set of voices.
@@ -85,7 +38,7 @@ pub(crate) fn is_strictly_broken(rule: u8, voices: VoiceSet, m: &Moment<'_>) -> 
     if !is_broken(rule, voices, m) {
         return false;
     }
-    price_at(m.exercise, rule, voices, bar_at(m)).is_strict()
+    price_at(m.exercise, rule, voices, bar_of(m.state.newest.len)).is_strict()
 }
 
 /// The price of a relaxed break of a rule that is settled at once for a set of voices; nothing where there is none.
@@ -98,7 +51,7 @@ fn price_of(rule: u8, voices: VoiceSet, m: &Moment<'_>) -> u64
     if !is_broken(rule, voices, m) {
         return 0;
     }
-    u64::from(price_at(m.exercise, rule, voices, bar_at(m)).amount())
+    u64::from(price_at(m.exercise, rule, voices, bar_of(m.state.newest.len)).amount())
 }
 
 /// Whether a rule that is settled at once is strictly broken for one of these sets of voices.

@@ -8,10 +8,8 @@ ghost use Rattle.fux_judge.specs.States.{IsStateOf};
 
 use crate::ahead::{LineAhead, all_ahead_at_start};
 use crate::gauges::{LineGauges, all_ungauged};
+use crate::past::Past;
 use fux_grid::{Cell, Exercise};
-use melody_rules::{VoiceNotes, all_silent};
-use motion_rules::{BarLines, no_bar_lines};
-use rhythm_cadence::{BarShapes, unbegun};
 use rule_law::NewestColumns;
 
 /// What is kept of a prefix of any length, enough to judge each column that may follow: how many columns it has, the newest of them,
@@ -20,9 +18,8 @@ use rule_law::NewestColumns;
 pub struct State {
     /// How many columns the prefix has, and the newest of them.
     pub newest: NewestColumns,
-    pub(crate) melody: [VoiceNotes; 4],
-    pub(crate) rhythm: BarShapes,
-    pub(crate) motion: BarLines,
+    /// What the crates of rules keep of it.
+    pub(crate) past: Past,
     pub(crate) gauges: [LineGauges; 4],
     pub(crate) ahead: [LineAhead; 4],
 }
@@ -34,9 +31,7 @@ impl State {
     {
         State {
             newest: NewestColumns::none(),
-            melody: all_silent(),
-            rhythm: unbegun(),
-            motion: no_bar_lines(),
+            past: Past::none(),
             gauges: all_ungauged(),
             ahead: all_ahead_at_start(ex),
         }

@@ -1,51 +1,47 @@
 //! Tolls that are settled at once, read at a moment.
 
-ghost use Rattle.std.specs.Prelude.{◌≡◌, ◌≤◌, ◌<◌, ◌+◌, ◌||◌, List, IsTrue, length};
+ghost use Rattle.std.specs.Prelude.{◌≡◌, ◌≤◌, ◌<◌, ◌+◌, false, List, length};
 ghost use Rattle.std.specs.List.{sum_by};
 ghost use Rattle.fux_grid.specs.declared.cell.Cell.{Cell as ACell};
 ghost use Rattle.fux_grid.specs.Columns.{line};
 ghost use Rattle.melody_rules.specs.Notes.{AreNotesOf};
-ghost use Rattle.fux_judge.specs.Charges.{is_clashing_toll, is_moving_toll, leap_charge, move_charge, voice_charge};
-ghost use Rattle.fux_judge.specs.Rules.{cost_at, tolls_at_once};
-ghost use Rattle.fux_judge.specs.Moments.{IsAfter, pairs_then, toll_then, with_column};
+ghost use Rattle.fux_judge.specs.Charges.{leap_charge, move_charge, voice_charge};
+ghost use Rattle.fux_judge.specs.Rules.{cost_at, is_late_toll, tolls_at_once};
+ghost use Rattle.fux_judge.specs.Moments.{IsAfter, IsReadable, pairs_then, toll_then, with_column};
 
+use crate::all_rules::AllRules;
 use crate::moment::Moment;
 use fux_grid::{Cell, cell_of};
 use fux_pitch::Pitch;
 use melody_rules::{VoiceNotes, leap_open_after, toll_of_move};
-use motion_rules::imperfect_runs_after;
 use penalty_sheet::{Sheet, weight};
-use rule_law::{is_free, starts};
+use rule_law::{RuleCrate, is_free, starts};
 
-/// Whether a toll is one of motion that is settled at once.
-#[inline]
-fn is_moving(toll: u8) -> bool
-    ensures { result ≡ is_moving_toll toll }
-{
-    toll == 11 || toll == 14
-}
-
-/// What a toll of motion or dissonance costs, without its weight.
+/// What a toll that is settled at once costs, without its weight.
+#[tactic(auto, unfolding(crate::specs::Rules::toll_at))]
 fn cost(toll: u8, m: &Moment<'_>) -> u32
-    requires { IsTrue (is_moving_toll toll || is_clashing_toll toll) }
+    requires soon { is_late_toll toll ≡ false }
+    requires readable { IsReadable m.now }
     ensures value { (p : List (List ACell)) → IsAfter p m.now → result ≡ cost_at toll m.now.exercise.now (with_column p m.now) (length p) }
     ensures bound { result ≤ 6 }
 {
-    let (ex, i, before, now) = (m.exercise, m.state.newest.len, m.before, m.column);
-    if !is_moving(toll) {
-        return dissonance_rules::cost(toll, ex, i, before, &m.latest, now);
-    }
-    if toll == 14 {
-        return imperfect_runs_after(&m.state.motion, i, now);
-    }
-    motion_rules::cost(toll, ex, i, before, &m.latest, now)
+    AllRules::cost_at_once(
+        &m.state.past.parts,
+        toll,
+        m.exercise,
+        m.state.newest.len,
+        m.before,
+        &m.latest,
+        m.column,
+    )
 }
 
-/// What a toll of motion or dissonance costs, by its weight.
+/// What it costs by its weight.
 fn charge(toll: u8, sheet: &Sheet, m: &Moment<'_>) -> u64
     requires first { 1 ≤ toll }
     requires last { toll ≤ 20 }
-    requires pairs { IsTrue (is_moving_toll toll || is_clashing_toll toll) }
+    requires soon { is_late_toll toll ≡ false }
+    requires readable { IsReadable m.now }
     ensures value { (p : List (List ACell)) → IsAfter p m.now → result ≡ toll_then sheet.now p m.now toll }
     ensures bound { result ≤ 393210 }
 {
@@ -53,7 +49,9 @@ fn charge(toll: u8, sheet: &Sheet, m: &Moment<'_>) -> u64
 }
 
 /// What the tolls of motion and dissonance cost together: those that several voices make.
+#[tactic(auto, unfolding(crate::specs::Rules::toll_at))]
 pub(crate) fn charges_of_pairs(sheet: &Sheet, m: &Moment<'_>) -> u64
+    requires { IsReadable m.now }
     ensures value { (p : List (List ACell)) → IsAfter p m.now → result ≡ pairs_then sheet.now p m.now }
     ensures bound { result ≤ 1572840 }
 {
@@ -100,11 +98,12 @@ pub(crate) fn charge_of_voice(sheet: &Sheet, m: &Moment<'_>, voice: usize) -> u6
         return 0;
     }
     charge_of_move(sheet, m.latest.of(voice), cell)
-        + charge_of_leap(sheet, &m.state.melody, voice, cell)
+        + charge_of_leap(sheet, &m.state.past.parts.first, voice, cell)
 }
 
 /// What the tolls that are settled at once cost together.
 pub(crate) fn charges(sheet: &Sheet, m: &Moment<'_>) -> u64
+    requires { IsReadable m.now }
     ensures value { (p : List (List ACell)) → IsAfter p m.now → result ≡ sum_by (toll_then sheet.now p m.now) tolls_at_once }
     ensures bound { result ≤ 7864200 }
 {

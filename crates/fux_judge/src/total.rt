@@ -11,10 +11,11 @@ ghost use Rattle.fux_judge.specs.Gauges.{cells_of_voice};
 ghost use Rattle.fux_judge.specs.Penalties.{penalty_of, prices_at, tolls_at};
 ghost use Rattle.fux_judge.specs.Rules.{all_sets, cost_at};
 
+use crate::all_rules::form_of;
 use crate::gauges::{cost_of_line, line_gauges};
-use crate::numbers::{every_rule, every_toll, form_of};
+use crate::numbers::{every_rule, every_toll};
 use crate::whole::{cost_in, is_broken_in};
-use fux_grid::{Exercise, Score, VoiceSet};
+use fux_grid::{Exercise, Score, VoiceSet, bar_of};
 use penalty_sheet::{Sheet, price_at, weight};
 use rule_law::{is_free, sets_of};
 
@@ -45,7 +46,7 @@ fn price_of(rule: u8, ex: &Exercise, score: &Score, i: usize, voices: VoiceSet) 
     if !is_broken_in(rule, ex, score, i, voices) {
         return 0;
     }
-    u64::from(price_at(ex, rule, voices, (i / 8 + 1) as u8).amount())
+    u64::from(price_at(ex, rule, voices, bar_of(i)).amount())
 }
 
 /// What a rule's prices come to at a place.

@@ -24,7 +24,6 @@ use crate::reading::{is_strictly_broken_now, prices_now};
 use crate::state::State;
 use crate::tolls::charges;
 use fux_grid::{Column, Exercise};
-use melody_rules::{all_noted, latest_of_notes};
 use penalty_sheet::Sheet;
 use rule_law::{RuleSet, is_quiet};
 
@@ -100,9 +99,7 @@ pub(crate) fn next_state(ex: &Exercise, state: &State, col: &Column) -> State
     let cells = col.as_slice();
     State {
         newest: state.newest.with(cells),
-        melody: all_noted(&state.melody, cells),
-        rhythm: rhythm_cadence::noted(&state.rhythm, ex, state.newest.len, cells),
-        motion: motion_rules::noted(&state.motion, state.newest.len, cells),
+        past: state.past.with(ex, state.newest.len, cells),
         gauges: all_gauged(ex, state.newest.len, &state.gauges, cells),
         ahead: all_ahead_after(ex, state.newest.len, &state.ahead, cells),
     }
@@ -120,7 +117,7 @@ pub(crate) fn moment_of<'a>(ex: &'a Exercise, state: &'a State, col: &'a Column)
         exercise: ex,
         state,
         before: state.before(ex),
-        latest: latest_of_notes(&state.melody),
+        latest: state.past.latest(),
         column: col.as_slice(),
     }
 }

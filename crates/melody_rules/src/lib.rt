@@ -1,6 +1,7 @@
 //! Rules and tolls of melody: how a voice moves from note to note.
 #![tactic(auto)]
 
+mod book;
 mod gauges;
 mod melody;
 mod moves;

@@ -11,8 +11,7 @@ use crate::tolls::cost;
 use fux_grid::{Cell, Column, Exercise, Score, VoiceSet, cell_of, species_of};
 use fux_pitch::Pitch;
 use rule_law::{
-    Latest, Near, Rule, RuleSet, cells_of, is_free, latest_before, latest_of_column, starts,
-    voice_of,
+    Latest, Near, Rule, RuleCrate, RuleSet, cells_of, is_free, latest_of_column, starts, voice_of,
 };
 
 /// A rule of neighbors for one voice.
@@ -58,14 +57,20 @@ pub fn breaks(
 
 /// Whether a rule looks back over the notes of a voice.
 #[inline]
-fn looks_back(rule: u8) -> bool
+pub(crate) fn looks_back(rule: u8) -> bool
     ensures { result ≡ rows.looks_back rule }
 {
     rule == 6 || rule == 7 || rule == 8 || rule == 9
 }
 
 /// Whether S6, S7, S8 or S9 is broken at a place of a score.
-fn breaks_in_score(rule: u8, ex: &Exercise, score: &Score, i: usize, voices: VoiceSet) -> bool
+pub(crate) fn breaks_in_score(
+    rule: u8,
+    ex: &Exercise,
+    score: &Score,
+    i: usize,
+    voices: VoiceSet,
+) -> bool
     requires { i < length score.now.columns }
     ensures { result ≡ reading_of (rows.window_rows rule ex.now voices.bits) score.now.columns i }
 {
@@ -106,18 +111,7 @@ impl Rule for Melody {
     }
 
     fn broken(&self, rule: u8, ex: &Exercise, score: &Score, i: usize, voices: VoiceSet) -> bool {
-        if looks_back(rule) {
-            return breaks_in_score(rule, ex, score, i, voices);
-        }
-        breaks(
-            rule,
-            ex,
-            voices,
-            i,
-            score.before(i),
-            &latest_before(score, i),
-            score.column(i).as_slice(),
-        )
+        Melody::broken_in(rule, ex, score, i, voices)
     }
 
     fn settled(

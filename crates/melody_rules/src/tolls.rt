@@ -8,10 +8,11 @@ ghost use Rattle.rule_law.specs.Nearby.{pitch_at, whole_of};
 ghost use Rattle.melody_rules.specs.Locality as law;
 ghost use Rattle.melody_rules.specs.Rows as rows;
 
+use crate::melody::Melody;
 use crate::voices::{all_notes_before, open_leaps};
 use fux_grid::{Cell, Exercise, Score, cell_of};
 use fux_pitch::{Interval, Pitch};
-use rule_law::{Latest, Toll, is_free, is_repetition, latest_before, move_from};
+use rule_law::{Latest, RuleCrate, Toll, is_free, is_repetition, latest_before, move_from};
 
 /// Whether a toll stands for a move.
 #[inline]
@@ -92,7 +93,7 @@ pub fn cost(
 }
 
 /// A toll at a place of a score.
-fn cost_in_score(toll: u8, ex: &Exercise, score: &Score, i: usize) -> u32
+pub(crate) fn cost_in_score(toll: u8, ex: &Exercise, score: &Score, i: usize) -> u32
     requires { i < length score.now.columns }
     ensures { result ≡ reading_of (whole_of (rows.toll_rows toll ex.now)) score.now.columns i }
 {
@@ -104,6 +105,14 @@ fn cost_in_score(toll: u8, ex: &Exercise, score: &Score, i: usize) -> u32
         &latest_before(score, i),
         score.column(i).as_slice(),
     )
+}
+
+/// Q13 at a place of a score.
+pub(crate) fn open_leaps_in_score(ex: &Exercise, score: &Score, i: usize) -> u32
+    requires { i < length score.now.columns }
+    ensures { result ≡ reading_of (rows.open_leaps ex.now) score.now.columns i }
+{
+    open_leaps(ex, &all_notes_before(score, i), score.column(i).as_slice())
 }
 
 /// Repetitions.
@@ -126,7 +135,7 @@ impl Toll for Q7 {
     }
 
     fn cost(&self, ex: &Exercise, score: &Score, i: usize) -> u32 {
-        cost_in_score(7, ex, score, i)
+        Melody::cost_in(7, ex, score, i)
     }
 
     fn settled(&self, _ex: &Exercise, _prefix: &Score, _i: usize) -> bool {
@@ -154,7 +163,7 @@ impl Toll for Q8 {
     }
 
     fn cost(&self, ex: &Exercise, score: &Score, i: usize) -> u32 {
-        cost_in_score(8, ex, score, i)
+        Melody::cost_in(8, ex, score, i)
     }
 
     fn settled(&self, _ex: &Exercise, _prefix: &Score, _i: usize) -> bool {
@@ -182,7 +191,7 @@ impl Toll for Q9 {
     }
 
     fn cost(&self, ex: &Exercise, score: &Score, i: usize) -> u32 {
-        cost_in_score(9, ex, score, i)
+        Melody::cost_in(9, ex, score, i)
     }
 
     fn settled(&self, _ex: &Exercise, _prefix: &Score, _i: usize) -> bool {
@@ -210,7 +219,7 @@ impl Toll for Q10 {
     }
 
     fn cost(&self, ex: &Exercise, score: &Score, i: usize) -> u32 {
-        cost_in_score(10, ex, score, i)
+        Melody::cost_in(10, ex, score, i)
     }
 
     fn settled(&self, _ex: &Exercise, _prefix: &Score, _i: usize) -> bool {
@@ -238,7 +247,7 @@ impl Toll for Q13 {
     }
 
     fn cost(&self, ex: &Exercise, score: &Score, i: usize) -> u32 {
-        open_leaps(ex, &all_notes_before(score, i), score.column(i).as_slice())
+        Melody::cost_in(13, ex, score, i)
     }
 
     fn settled(&self, _ex: &Exercise, _prefix: &Score, _i: usize) -> bool {

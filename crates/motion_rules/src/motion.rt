@@ -5,11 +5,10 @@ ghost use Rattle.motion_rules.specs.Book.{toll_row};
 ghost use Rattle.motion_rules.specs.Locality.{cost_is_near, motion_breaks, motion_is_local, motion_is_near, motion_settles, motion_settles_at_end, near_bits, near_toll, rule_bits, toll_bits};
 ghost use Rattle.motion_rules.specs.Rows.{near_rows};
 
-use crate::afterbeats::breaks_afterbeat;
 use crate::inner_voices::inner_moves;
 use crate::rows::{breaks, cost};
 use fux_grid::{Column, Exercise, Score, VoiceSet};
-use rule_law::{Latest, Near, Rule, RuleSet, cells_of};
+use rule_law::{Latest, Near, Rule, RuleCrate, RuleSet, cells_of};
 
 /// The rules S10 and S16 to S18.
 #[derive(Clone, Copy, Debug, PartialEq, Eq)]
@@ -33,18 +32,7 @@ impl Rule for Motion {
     }
 
     fn broken(&self, rule: u8, ex: &Exercise, score: &Score, i: usize, voices: VoiceSet) -> bool {
-        if rule == 18 {
-            return breaks_afterbeat(score, ex, voices, i);
-        }
-        breaks(
-            rule,
-            ex,
-            voices,
-            i,
-            score.before(i),
-            &Latest::NONE,
-            score.column(i).as_slice(),
-        )
+        Motion::broken_in(rule, ex, score, i, voices)
     }
 
     fn settled(

@@ -3,16 +3,16 @@
 ghost use Rattle.std.specs.Prelude.{◌≡◌, ◌<◌, length};
 ghost use Rattle.std.specs.List.{list_all};
 ghost use Rattle.rule_law.specs.Nearby.{whole_of};
-ghost use Rattle.rule_law.specs.Places.{at_once, reading_of, settled_by};
+ghost use Rattle.rule_law.specs.Places.{at_once, reading_back, reading_of, settled_by};
 ghost use Rattle.motion_rules.specs.InnerVoices.{inner_toll};
 ghost use Rattle.motion_rules.specs.Locality.{cost_is_local, cost_settles_at_end, inner_is_local, inner_settles_at_end};
 ghost use Rattle.motion_rules.specs.Rows as rows;
 ghost use Rattle.motion_rules.specs.Rows.{cost_enough, cost_in, four_bar_lines_at};
 
-use crate::inner_voices::inner_moves;
-use crate::rows::{cost, sound_imperfect};
+use crate::motion::Motion;
+use crate::rows::sound_imperfect;
 use fux_grid::{Cell, Exercise, Score};
-use rule_law::{Latest, Toll, begins_bar, voice_pairs};
+use rule_law::{RuleCrate, Toll, begins_bar, voice_pairs};
 
 /// Two voices that move, both rising or both falling.
 #[derive(Clone, Copy, Debug, PartialEq, Eq)]
@@ -34,14 +34,7 @@ impl Toll for Q11 {
     }
 
     fn cost(&self, ex: &Exercise, score: &Score, i: usize) -> u32 {
-        cost(
-            11,
-            ex,
-            i,
-            score.before(i),
-            &Latest::NONE,
-            score.column(i).as_slice(),
-        )
+        Motion::cost_in(11, ex, score, i)
     }
 
     fn settled(&self, _ex: &Exercise, _prefix: &Score, _i: usize) -> bool {
@@ -69,7 +62,7 @@ impl Toll for Q12 {
     }
 
     fn cost(&self, ex: &Exercise, score: &Score, i: usize) -> u32 {
-        inner_moves(ex, score.before(i), score.column(i).as_slice())
+        Motion::cost_in(12, ex, score, i)
     }
 
     fn settled(&self, _ex: &Exercise, _prefix: &Score, _i: usize) -> bool {
@@ -100,6 +93,20 @@ fn keep_on(score: &Score, i: usize, v: usize, w: usize) -> bool
     sound_four(score, i, 2, v, w) || sound_four(score, i, 5, v, w)
 }
 
+/// For how many pairs Q14 stands at column `i`.
+pub(crate) fn imperfect_runs(score: &Score, i: usize) -> u32
+    requires { i < length score.now.columns }
+    ensures { result ≡ reading_back rows.imperfect_runs score.now.columns i }
+{
+    if !begins_bar(i) || i / 8 < 3 {
+        return 0;
+    }
+    voice_pairs()
+        .iter()
+        .filter(|pair| keep_on(score, i, pair.0 as usize, pair.1 as usize))
+        .count() as u32
+}
+
 impl Toll for Q14 {
     ghost numbered = { λ _. 14 };
 
@@ -115,14 +122,8 @@ impl Toll for Q14 {
         14
     }
 
-    fn cost(&self, _ex: &Exercise, score: &Score, i: usize) -> u32 {
-        if !begins_bar(i) || i / 8 < 3 {
-            return 0;
-        }
-        voice_pairs()
-            .iter()
-            .filter(|pair| keep_on(score, i, pair.0 as usize, pair.1 as usize))
-            .count() as u32
+    fn cost(&self, ex: &Exercise, score: &Score, i: usize) -> u32 {
+        Motion::cost_in(14, ex, score, i)
     }
 
     fn settled(&self, _ex: &Exercise, _prefix: &Score, _i: usize) -> bool {

@@ -6,9 +6,9 @@ ghost use Rattle.fux_grid.specs.Exercises.{IsValid};
 ghost use Rattle.fux_judge.specs.Penalties as grows;
 ghost use Rattle.plain_judge.specs.Between.{HasRules, IfGrown, IsPart, broken_since, columns_of, some_broken, some_broken_since, somewhere_broken_since};
 
-use crate::place::{every_set, is_settled_since, is_strict};
+use crate::place::{is_settled_since, is_strict};
 use fux_grid::{Exercise, Score, VoiceSet};
-use fux_judge::{every_rule, is_broken_in};
+use fux_judge::{every_rule, every_set, is_broken_in};
 use rule_law::RuleSet;
 
 /// Whether a strict break of a rule at a place for a set of voices is settled in a score, and not in the earlier one.

@@ -10,9 +10,9 @@ ghost use Rattle.fux_judge.specs.Penalties.{charges_settled_in, charges_of};
 ghost use Rattle.fux_judge.specs.Rules.{all_sets, is_cost_settled, tolls_read};
 ghost use Rattle.plain_judge.specs.Between.{IfGrown, IsPart, charges_since, columns_of, paid_since, price_since, prices_since, toll_since};
 
-use crate::place::{amount, every_set, is_settled_since};
+use crate::place::{amount, is_settled_since};
 use fux_grid::{Exercise, Score, VoiceSet};
-use fux_judge::{cost_in, every_rule, every_toll, is_broken_in, is_cost_settled_in};
+use fux_judge::{cost_in, every_rule, every_set, every_toll, is_broken_in, is_cost_settled_in};
 use penalty_sheet::{Sheet, weight};
 
 /// Whether what a toll costs at a place is settled in an earlier score. It isn't where there is none, nor at a place that

@@ -7,22 +7,11 @@ ghost use Rattle.fux_grid.specs.Exercises.{IsValid};
 ghost use Rattle.penalty_sheet.specs.Prices.{price_in, amount_of};
 ghost use Rattle.fux_judge.specs.Penalties as penalties;
 ghost use Rattle.fux_judge.specs.Rules as rules;
-ghost use Rattle.fux_judge.specs.Rules.{all_sets};
 ghost use Rattle.plain_judge.specs.Between.{IsPart, columns_of, settled_since};
 
 use fux_grid::{Exercise, Score, VoiceSet};
 use fux_judge::is_settled_in;
 use penalty_sheet::{Price, price_at};
-
-/// Every set of voices, of four at most, by its bits.
-const VOICE_SETS: [u8; 15] = [1, 2, 3, 4, 5, 6, 7, 8, 9, 10, 11, 12, 13, 14, 15];
-
-pub(crate) fn every_set() -> &'static [u8]
-    ensures value { result.now ≡ all_sets }
-    ensures count { length result.now ≡ 15 }
-{
-    &VOICE_SETS
-}
 
 /// Whether a rule is settled in an earlier score. Nothing is where there is none, nor at a place that it doesn't have.
 fn is_settled_before(

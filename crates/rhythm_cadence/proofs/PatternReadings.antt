@@ -11,7 +11,7 @@ use Rattle.fux_grid.specs.declared.cell.Cell.{Cell}
 use Rattle.fux_grid.specs.declared.exercise.Exercise.{Exercise}
 use Rattle.fux_grid.specs.Cells.{cell_in, same_cell}
 use Rattle.fux_grid.specs.Columns.{cell_at, earlier}
-use Rattle.fux_grid.specs.Exercises.{slot_of}
+use Rattle.fux_grid.specs.Exercises.{slot_of, species_in}
 use Rattle.fux_grid.proofs.Histories.{get_or-earlier}
 use Rattle.rule_law.proofs.AtOnce.{among_own, newly_costs-there}
 use Rattle.rule_law.specs.Bars.{begins_bar, begins_inner_bar}
@@ -70,8 +70,8 @@ part_reading s v i part =
 -- where a bar begins, and where the newest column ends it
 bar_facts : (ex : Exercise) (n : ℕ) → settles_pattern ex n ≡ true → (begins_bar (n - 7) ≡ true) × (n - 7 + 7 ≡ n)
 bar_facts ex n e =
-    let outer = and_parts (nat_le 2 ex.species && (slot_of n == 7)) (nat_le 15 n) e in
-    let inner = and_parts (nat_le 2 ex.species) (slot_of n == 7) outer.0 in
+    let outer = and_parts (nat_le 2 (species_in ex ex.species_voice) && (slot_of n == 7)) (nat_le 15 n) e in
+    let inner = and_parts (nat_le 2 (species_in ex ex.species_voice)) (slot_of n == 7) outer.0 in
     let seven : n % 8 ≡ 7 = eqb-true (n % 8) 7 inner.1 in
     let far : 15 ≤ n = grind (arith, nat_tests, outer.1) in
     let zero : (n - 7) % 8 ≡ 0 = omega (arith, seven, far) in

@@ -12,7 +12,7 @@ use Rattle.fux_grid.specs.declared.cell.Cell.TheVariants.{Rest, Hold, Start}
 use Rattle.fux_grid.specs.declared.exercise.Exercise.{Exercise}
 use Rattle.fux_grid.specs.Cells.{cell_in, first_of, is_hold, onsets_from, pitch_of, same_cell}
 use Rattle.fux_grid.specs.Columns.{earlier, line, newest_column}
-use Rattle.fux_grid.specs.Exercises.{IsFree, slot_of}
+use Rattle.fux_grid.specs.Exercises.{IsFree, slot_of, species_in}
 use Rattle.fux_grid.specs.Orderly.{IsOrderly}
 use Rattle.fux_grid.proofs.Histories.{line-more}
 use Rattle.fux_grid.proofs.OrderlyLemmas.{orderly-fewer}
@@ -181,10 +181,10 @@ bar_same v behind now ahead t h =
 pattern_undisturbed : (ex : Exercise) → IsUndisturbed (pattern_toll ex) (pattern_enough ex)
 pattern_undisturbed ex i behind now ahead t h =
     by_either (not (begins_bar i)) (nat_le 7 (length ahead)) h
-    (λ k. ap from_bool (no_bar (nat_le 2 ex.species) (begins_bar i) (nat_le 8 i) _ _ k))
+    (λ k. ap from_bool (no_bar (nat_le 2 (species_in ex ex.species_voice)) (begins_bar i) (nat_le 8 i) _ _ k))
     (λ k.
     let whole : 7 ≤ length ahead = grind (arith, nat_tests, k) in
-    ap (λ b. from_bool (nat_le 2 ex.species && begins_bar i && nat_le 8 i && b))
+    ap (λ b. from_bool (nat_le 2 (species_in ex ex.species_voice) && begins_bar i && nat_le 8 i && b))
     (bar_same ex.species_voice behind now ahead t whole))
   where
     no_bar : (a b c x y : Bool) → IsTrue (not b) → (a && b && c && x) ≡ (a && b && c && y)

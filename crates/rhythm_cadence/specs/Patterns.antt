@@ -6,7 +6,7 @@ use Rattle.fux_grid.specs.declared.cell.Cell.{Cell}
 use Rattle.fux_grid.specs.declared.cell.Cell.TheVariants.{Rest}
 use Rattle.fux_grid.specs.declared.exercise.Exercise.{Exercise}
 use Rattle.fux_grid.specs.Cells.{cell_in, same_cell}
-use Rattle.fux_grid.specs.Exercises.{slot_of}
+use Rattle.fux_grid.specs.Exercises.{slot_of, species_in}
 use Rattle.rule_law.specs.Bars.{begins_bar, begins_inner_bar}
 use Rattle.rule_law.specs.Places.{Row}
 use Rattle.rule_law.specs.Nearby.{NearRow}
@@ -15,7 +15,7 @@ use Rattle.rule_law.specs.Terms.{starts}
 -- Q15: in species 4, at the beginning of a bar that is neither the first nor the last, the species voice starts a note
 abbrev pub lacks_ligature : Exercise → ℕ → List Cell → Bool
 lacks_ligature ex i now =
-    (ex.species == 4) && begins_inner_bar ex i && starts (cell_in now ex.species_voice)
+    (species_in ex ex.species_voice == 4) && begins_inner_bar ex i && starts (cell_in now ex.species_voice)
 
 abbrev pub ligature_toll : Exercise → NearRow ℕ
 ligature_toll ex i before previous now = from_bool (lacks_ligature ex i now)
@@ -35,7 +35,7 @@ repeats_bar v behind now ahead =
 -- Q16: in species 2 to 5, at the beginning of a bar that isn't the first, the species voice repeats the bar before
 abbrev pub is_pattern : Exercise → ℕ → List (List Cell) → List Cell → List (List Cell) → Bool
 is_pattern ex i behind now ahead =
-    nat_le 2 ex.species && begins_bar i && nat_le 8 i
+    nat_le 2 (species_in ex ex.species_voice) && begins_bar i && nat_le 8 i
     && repeats_bar ex.species_voice behind now ahead
 
 abbrev pub pattern_toll : Exercise → Row ℕ
@@ -53,4 +53,4 @@ same_cells xs ys =
 
 -- the last column of a bar settles the bar, from the second bar on
 abbrev pub settles_pattern : Exercise → ℕ → Bool
-settles_pattern ex i = nat_le 2 ex.species && (slot_of i == 7) && nat_le 15 i
+settles_pattern ex i = nat_le 2 (species_in ex ex.species_voice) && (slot_of i == 7) && nat_le 15 i

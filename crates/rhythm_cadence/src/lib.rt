@@ -17,7 +17,6 @@ mod tolls;
 pub use book::book_is_lawful;
 pub use cadence::{breaks_cadence, shows_cadence};
 pub use in_place::are_in_place;
-pub use late::{breaks_late, cost_late, places_settled, toll_places};
 pub use letter_sets::{LetterSets, fitting_shapes};
 pub use part::{BarShapes, leaves_last_shape, noted, unbegun};
 pub use patterns::{is_pattern_settled, lacks_ligature, pattern_cost};

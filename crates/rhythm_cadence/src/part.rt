@@ -31,7 +31,7 @@ pub fn unbegun() -> BarShapes
 
 /// The shapes that a voice may still have with one more cell.
 #[inline]
-fn kept(possible: u16, ex: &Exercise, i: usize, cell: Cell, v: u8) -> u16
+pub(crate) fn kept(possible: u16, ex: &Exercise, i: usize, cell: Cell, v: u8) -> u16
     requires valid { IsValid ex.now }
     requires place { i < columns_in ex.now }
     ensures { result ≡ shapes_after ex.now v i possible cell }

@@ -7,14 +7,16 @@ ghost use Rattle.rhythm_cadence.specs.Patterns as words;
 ghost use Rattle.rhythm_cadence.specs.Patterns.{pattern_enough, pattern_toll};
 
 use crate::bar_cells::bar_behind;
-use fux_grid::{Cell, Exercise, Score, cell_of, slot_of};
+use fux_grid::{Cell, Exercise, Score, cell_of, slot_of, species_of};
 use rule_law::{ColumnsAround, begins_bar, begins_inner_bar, starts};
 
 /// Q15: whether, in species 4, the species voice starts a note at the beginning of a bar that is neither the first nor the last.
 pub fn lacks_ligature(ex: &Exercise, i: usize, now: &[Cell]) -> bool
     ensures { result ≡ words.lacks_ligature ex.now i now.now }
 {
-    ex.species == 4 && begins_inner_bar(ex, i) && starts(cell_of(now, ex.species_voice as usize))
+    species_of(ex, ex.species_voice) == 4
+        && begins_inner_bar(ex, i)
+        && starts(cell_of(now, ex.species_voice as usize))
 }
 
 /// Whether the cells of two bars, from the newest to the oldest, are the same.
@@ -58,7 +60,7 @@ pub fn pattern_cost<C: ColumnsAround>(around: &C, ex: &Exercise, i: usize) -> u3
         result ≡ reading_of (pattern_toll ex.now) s i }
     ensures bound { result ≤ 1 }
 {
-    if ex.species < 2 || !begins_bar(i) || i < 8 {
+    if species_of(ex, ex.species_voice) < 2 || !begins_bar(i) || i < 8 {
         return 0;
     }
     u32::from(repeats_bar(around, ex, i, ex.species_voice))
@@ -77,5 +79,5 @@ pub fn is_pattern_settled(ex: &Exercise, score: &Score, i: usize) -> bool
 pub(crate) fn settles_pattern(ex: &Exercise, i: usize) -> bool
     ensures { result ≡ words.settles_pattern ex.now i }
 {
-    ex.species >= 2 && slot_of(i) == 7 && i >= 15
+    species_of(ex, ex.species_voice) >= 2 && slot_of(i) == 7 && i >= 15
 }

@@ -1,9 +1,8 @@
 //! The rules as one.
 
-ghost use Rattle.std.specs.Prelude.{◌≡◌, ◌+◌, ◌<◌, ◌≤◌, ℕ, Bool, IfSome, nat_lt, length, slice_index_or, drop, []};
+ghost use Rattle.std.specs.Prelude.{◌≡◌, ◌+◌, ◌<◌, ◌≤◌, ℕ, Bool, IfSome, IsTrue, nat_lt, length, slice_index_or, drop, []};
 ghost use Rattle.fux_grid.specs.Exercises.{IsValid, IsFree, columns_in};
-ghost use Rattle.fux_grid.specs.Orderly.{voice_shapes};
-ghost use Rattle.fux_grid.specs.Shapes.{begins_shape};
+ghost use Rattle.rule_law.specs.Bars.{begins_bar};
 ghost use Rattle.rule_law.specs.NearLaw.{near_from_whole};
 ghost use Rattle.rule_law.specs.Nearby.{whole_of};
 ghost use Rattle.rule_law.specs.Places.{reading_of};
@@ -14,16 +13,13 @@ ghost use Rattle.rhythm_cadence.specs.Patterns.{ligature_toll};
 ghost use Rattle.rhythm_cadence.specs.Rows as rows;
 ghost use Rattle.rhythm_cadence.specs.Rows.{holds_of_some};
 
-use crate::cadence::breaks_cadence;
+use crate::part::kept;
 use crate::patterns::lacks_ligature;
-use crate::quavers::{breaks_quaver, is_quaver_settled};
 use crate::rows::{ends_badly, lacks_final, leaves_gamut, leaves_range, opens_badly};
-use fux_grid::{
-    Cell, Column, Exercise, Score, VoiceSet, bar_of, cell_of, letters_from, shapes_of, species_of,
-};
+use fux_grid::{Cell, Column, Exercise, Score, VoiceSet, cell_of};
 use fux_pitch::Pitch;
 use rule_law::{
-    Latest, Near, Rule, RuleSet, begins_bar, cells_of, is_free, latest_before, latest_of_column,
+    Latest, Near, Rule, RuleCrate, RuleSet, begins_bar, cells_of, is_free, latest_of_column,
     pair_of, voice_of,
 };
 
@@ -85,24 +81,21 @@ pub fn breaks(
     }
 }
 
-/// Whether letters begin a shape that a voice may have in a bar.
-fn begins_some_shape(ex: &Exercise, v: u8, bar: u8, letters: &[u8]) -> bool
-    ensures { result ≡ begins_shape (voice_shapes ex.now v bar) letters.now }
-{
-    shapes_of(species_of(ex, v), bar, ex.bars)
-        .iter()
-        .any(|shape| shape.starts_with(letters))
-}
-
-/// Whether the bar that begins at a place, as far as the score has it, may go on to a shape of the voice.
+/// Whether the bar that begins at a place, as far as the score has it, may go on to a shape of the voice: some are left of those that a
+/// state would keep of it.
 fn may_go_on(ex: &Exercise, score: &Score, v: u8, i: usize) -> bool
     requires valid { IsValid ex.now }
     requires few { length score.now.columns ≤ columns_in ex.now }
     requires place { i < length score.now.columns }
+    requires bar { IsTrue (begins_bar i) }
     ensures { result ≡ rows.may_go_on ex.now v i (slice_index_or score.now.columns i []) (drop (i + 1) score.now.columns) }
 {
-    let letters = letters_from(score, v, i);
-    begins_some_shape(ex, v, bar_of(i), letters.as_slice())
+    let end = score.len().min(i + 8);
+    let mut possible = 0;
+    for j in i..end {
+        possible = kept(possible, ex, j, score.cell(v as usize, j), v);
+    }
+    possible != 0
 }
 
 /// The one free voice of a set, where the exercise has it.
@@ -123,7 +116,7 @@ pub(crate) fn free_voice(ex: &Exercise, voices: VoiceSet) -> Option<u8>
 }
 
 /// S3: whether the bar that begins at a place leaves the shapes of the set's voice.
-fn leaves_shapes(ex: &Exercise, score: &Score, i: usize, voices: VoiceSet) -> bool
+pub(crate) fn leaves_shapes(ex: &Exercise, score: &Score, i: usize, voices: VoiceSet) -> bool
     requires valid { IsValid ex.now }
     requires few { length score.now.columns ≤ columns_in ex.now }
     requires place { i < length score.now.columns }
@@ -145,7 +138,7 @@ fn is_part(score: &Score, i: usize) -> bool
 }
 
 /// Whether the bar that begins at a place is a part that may still go on to a shape of the set's voice.
-fn is_open(ex: &Exercise, score: &Score, i: usize, voices: VoiceSet) -> bool
+pub(crate) fn is_open(ex: &Exercise, score: &Score, i: usize, voices: VoiceSet) -> bool
     requires valid { IsValid ex.now }
     requires few { length score.now.columns ≤ columns_in ex.now }
     requires place { i < length score.now.columns }
@@ -179,29 +172,11 @@ impl Rule for Rhythm {
     }
 
     fn broken(&self, rule: u8, ex: &Exercise, score: &Score, i: usize, voices: VoiceSet) -> bool {
-        score.kept();
-        match rule {
-            3 => leaves_shapes(ex, score, i, voices),
-            22 => breaks_cadence(score, ex, voices, i),
-            25 => breaks_quaver(score, ex, voices, i),
-            _ => breaks(
-                rule,
-                ex,
-                voices,
-                i,
-                score.before(i),
-                &latest_before(score, i),
-                score.column(i).as_slice(),
-            ),
-        }
+        Rhythm::broken_in(rule, ex, score, i, voices)
     }
 
     fn settled(&self, rule: u8, ex: &Exercise, prefix: &Score, i: usize, voices: VoiceSet) -> bool {
-        match rule {
-            3 => !is_open(ex, prefix, i, voices),
-            25 => is_quaver_settled(ex, prefix, i, voices),
-            _ => true,
-        }
+        Rhythm::settled_in(rule, ex, prefix, i, voices)
     }
 }
 

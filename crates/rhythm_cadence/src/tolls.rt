@@ -5,9 +5,9 @@ ghost use Rattle.rhythm_cadence.specs.AllRules as all;
 ghost use Rattle.rhythm_cadence.specs.Book.{toll_row};
 ghost use Rattle.rhythm_cadence.specs.LateLaws as law;
 
-use crate::patterns::{is_pattern_settled, lacks_ligature, pattern_cost};
+use crate::rhythm::Rhythm;
 use fux_grid::{Exercise, Score};
-use rule_law::Toll;
+use rule_law::{RuleCrate, Toll};
 
 /// A bar of species 4, neither the first nor the last, that begins with a new note and so lacks a ligature.
 #[derive(Clone, Copy, Debug, PartialEq, Eq)]
@@ -29,7 +29,7 @@ impl Toll for Q15 {
     }
 
     fn cost(&self, ex: &Exercise, score: &Score, i: usize) -> u32 {
-        u32::from(lacks_ligature(ex, i, score.column(i).as_slice()))
+        Rhythm::cost_in(15, ex, score, i)
     }
 
     fn settled(&self, _ex: &Exercise, _prefix: &Score, _i: usize) -> bool {
@@ -57,11 +57,10 @@ impl Toll for Q16 {
     }
 
     fn cost(&self, ex: &Exercise, score: &Score, i: usize) -> u32 {
-        score.kept();
-        pattern_cost(score, ex, i)
+        Rhythm::cost_in(16, ex, score, i)
     }
 
     fn settled(&self, ex: &Exercise, prefix: &Score, i: usize) -> bool {
-        is_pattern_settled(ex, prefix, i)
+        Rhythm::cost_settled_in(16, ex, prefix, i)
     }
 }

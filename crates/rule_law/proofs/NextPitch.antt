@@ -14,7 +14,7 @@ use Rattle.fux_grid.specs.Cells.{cell_in}
 use Rattle.fux_grid.specs.Exercises.{bar_of, slot_of, species_in}
 use Rattle.fux_grid.specs.Menus.{IsInMenu, cells_at, free_cells, is_in_range, pool_of}
 use Rattle.fux_grid.specs.Shapes.{allows, shapes_in, whole_note}
-use Rattle.fux_grid.proofs.CellLemmas.{cells_at-free}
+use Rattle.fux_grid.proofs.CellLemmas.{cells_at-given}
 use Rattle.fux_grid.proofs.Combinations.{Contains-map_only}
 use Rattle.fux_grid.proofs.MenuLemmas.{menu_of-contains}
 use Rattle.fux_grid.proofs.Pools.{pool_of-contains}
@@ -63,8 +63,7 @@ next_in_range ex v cells col p next e =
     let P : Cell → Type 0 = λ c. Contains (cells_at ex i v) c in
     let there : Contains (cells_at ex i v) (Start p) = subst P e
     (((menu_of-contains ex i col).0 next.in_menu).cells v next.free.there) in
-    let Q : List Cell → Type 0 = λ cs. Contains cs (Start p) in
-    let of_shapes = subst Q (cells_at-free ex i v next.free.no_cantus) there in
+    let of_shapes = (cells_at-given ex i v (Start p) next.free.no_cantus there).0 in
     let pool = (pool_of-contains ex v (bar_of i) p).0
     (started (shapes_in (species_in ex v) (bar_of i) ex.bars) (slot_of i) (pool_of ex v (bar_of i)) p of_shapes) in
     (and_parts (is_in_gamut ex.mode (bar_of i) ex.bars p) (is_in_range ex v (bar_of i) p) pool).1
@@ -126,8 +125,7 @@ last_bar_holds ex v i col free last slot menu =
     at Rest h = refl
     at (Hold p) h = refl
     at (Start p) h =
-        let Q : List Cell → Type 0 = λ cs. Contains cs (Start p) in
-        let of_shapes = subst Q (cells_at-free ex i v free) h in
+        let of_shapes = (cells_at-given ex i v (Start p) free h).0 in
         let allowed = start_allowed (shapes_in (species_in ex v) (bar_of i) ex.bars) (slot_of i)
         (pool_of ex v (bar_of i)) p of_shapes in
         let none = whole_note-slot (slot_of i) (omega arith) slot in

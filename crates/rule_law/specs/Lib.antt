@@ -17,6 +17,7 @@ pub mod Pairs
 pub mod Places
 pub mod Prefixes
 pub mod Quiet
+pub mod RuleCrates
 pub mod Rulebooks
 pub mod Sounding
 pub mod Terms

@@ -2,6 +2,7 @@
 #![tactic(auto)]
 
 mod after;
+mod alone;
 mod around;
 mod bars;
 mod both;
@@ -13,15 +14,17 @@ mod near;
 mod newest;
 mod pairs;
 mod rule;
+mod rule_crate;
 mod sets;
 mod table;
 mod terms;
 mod toll;
 
 pub use after::{next_onset, note_within, onset_pitch};
+pub use alone::Alone;
 pub use around::{ColumnsAround, cell_around, cell_behind, cells_ahead, cells_behind};
 pub use bars::{begins_bar, begins_inner_bar, is_quiet};
-pub use both::Both;
+pub use both::{Both, Parts};
 pub use degrees::lies_above;
 pub use gauge::{Gauge, menu_starts, starts_ahead};
 pub use latest::{Latest, latest_before, latest_of_column};
@@ -32,6 +35,7 @@ pub use pairs::{
     both_move, move_alike, move_into_perfect, one_starts, sound_perfect, sound_same_key,
 };
 pub use rule::Rule;
+pub use rule_crate::RuleCrate;
 pub use sets::{RuleSet, is_free, pair_of, voice_of, voice_pairs};
 pub use table::{Form, Kind, LatePlaces, Stands, sets_of};
 pub use terms::{

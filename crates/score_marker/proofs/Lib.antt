@@ -1,7 +1,6 @@
 pub mod CantusLemmas
 pub mod ListLemmas
 pub mod MarkLemmas
-pub mod PlaceLemmas
 pub mod SettingLemmas
 pub mod UniqueLemmas
 pub mod VoiceText

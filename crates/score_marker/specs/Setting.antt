@@ -1,5 +1,5 @@
 -- What the marker of settings reads.
-use Rattle.std.specs.Prelude.{ℕ, ◌==◌, Bool, ◌||◌, List, [], ◌∷◌}
+use Rattle.std.specs.Prelude.{ℕ, List, [], ◌∷◌}
 use Rattle.fux_grid.specs.declared.cell.Cell.{Cell}
 use Rattle.fux_grid.specs.declared.exercise.Exercise.{Exercise}
 use Rattle.fux_judge.specs.Rules.{is_broken, rules_read}
@@ -17,11 +17,3 @@ breaks_of ex s i rule voices = is_broken rule ex voices s i
 -- the marks of a list of columns at a place
 abbrev pub marks_at : Exercise → List (List Cell) → ℕ → List Mark
 marks_at ex s i = marks_of_place (breaks_of ex s) sets_in_order rules_read i
-
--- the rules of a move from a voice's latest note: S4, S5 and S26
-abbrev pub is_of_moves : ℕ → Bool
-is_of_moves rule = (rule == 4) || (rule == 5) || (rule == 26)
-
--- the rules of the place that voices have in a column: S1, S2, S12, S13 and S24
-abbrev pub is_of_places : ℕ → Bool
-is_of_places rule = (rule == 1) || (rule == 2) || (rule == 12) || (rule == 13) || (rule == 24)

@@ -5,7 +5,6 @@ mod cantus;
 mod mark;
 mod mark_lines;
 mod one_list;
-mod place;
 mod setting;
 
 pub use cantus::cantus_marks;

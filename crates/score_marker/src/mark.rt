@@ -4,7 +4,7 @@ ghost use Rattle.std.specs.Prelude.{◌≡◌, ◌<◌, ◌++◌, OnOk};
 ghost use Rattle.score_marker.specs.Lists.{mark_where};
 ghost use Rattle.score_marker.specs.Marks.{mark_at};
 
-use fux_grid::VoiceSet;
+use fux_grid::{VoiceSet, bar_of};
 use fux_pitch::Memory;
 
 /// A broken rule, at a place and for a set of voices.
@@ -25,7 +25,7 @@ fn mark_of(i: usize, rule: u8, voices: VoiceSet) -> Mark
     ensures { result ≡ mark_at i rule voices.bits }
 {
     Mark {
-        bar: (i / 8 + 1) as u8,
+        bar: bar_of(i),
         slot: (i % 8) as u8,
         rule,
         voices,

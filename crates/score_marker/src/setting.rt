@@ -1,20 +1,17 @@
 //! The marks of a setting.
 
-ghost use Rattle.std.specs.Prelude.{◌≡◌, ◌<◌, ◌++◌, IfOk, OnOk, length};
+ghost use Rattle.std.specs.Prelude.{◌≡◌, ◌<◌, ◌++◌, IfOk, OnOk, length, reverse, take};
 ghost use Rattle.fux_grid.specs.Exercises.{IsComplete, IsValid};
-ghost use Rattle.fux_grid.specs.Columns.{earlier};
 ghost use Rattle.rule_law.specs.Nearby.{previous_pitches};
-ghost use Rattle.melody_rules.specs.Notes.{AreNotesOf};
+ghost use Rattle.fux_judge.specs.States.{IsPastOf};
 ghost use Rattle.score_marker.specs.Lists.{marks_of_rule};
 ghost use Rattle.score_marker.specs.Marks.{AreMarks};
 ghost use Rattle.score_marker.specs.Setting.{breaks_of, marks_at, sets_in_order};
 
 use crate::mark::{Mark, mark_if};
-use crate::place::is_broken_after;
 use fux_grid::{Exercise, Score, VoiceSet};
-use fux_judge::every_rule;
+use fux_judge::{Past, every_rule};
 use fux_pitch::Memory;
-use melody_rules::{VoiceNotes, all_noted, all_silent, latest_of_notes};
 use rule_law::Latest;
 use std::alloc::Global;
 
@@ -27,28 +24,28 @@ fn voice_sets() -> &'static [u8]
     &VOICE_SETS
 }
 
-/// Appends the marks of one rule at column `i`, after these notes.
+/// Appends the marks of one rule at column `i`, after the columns before it.
 fn mark_rule(
     marks: &mut Vec<Mark>,
     ex: &Exercise,
     score: &Score,
     i: usize,
-    notes: &[VoiceNotes; 4],
+    past: &Past,
     latest: &Latest,
     rule: u8,
 ) -> Result<(), Memory>
     requires valid { IsValid ex.now }
     requires complete { IsComplete ex.now score.now }
     requires place { i < length score.now.columns }
-    requires notes { AreNotesOf (earlier score.now.columns i) notes.now }
-    requires latest { latest.now.pitches ≡ previous_pitches (earlier score.now.columns i) }
+    requires past { IsPastOf ex.now (take i score.now.columns) past.now }
+    requires latest { latest.now.pitches ≡ previous_pitches (reverse (take i score.now.columns)) }
     ensures { OnOk result (marks.new.items
         ≡ marks.old.items ++ marks_of_rule (breaks_of ex.now score.now.columns) sets_in_order i rule) }
 {
     for bits in voice_sets() {
         let voices = VoiceSet { bits: *bits };
         mark_if(
-            is_broken_after(rule, ex, score, i, notes, latest, voices),
+            past.breaks(rule, ex, score, i, latest, voices),
             marks,
             i,
             rule,
@@ -58,23 +55,23 @@ fn mark_rule(
     Ok(())
 }
 
-/// Appends the marks of column `i`, after these notes.
+/// Appends the marks of column `i`, after the columns before it.
 fn mark_place(
     marks: &mut Vec<Mark>,
     ex: &Exercise,
     score: &Score,
     i: usize,
-    notes: &[VoiceNotes; 4],
+    past: &Past,
 ) -> Result<(), Memory>
     requires valid { IsValid ex.now }
     requires complete { IsComplete ex.now score.now }
     requires place { i < length score.now.columns }
-    requires notes { AreNotesOf (earlier score.now.columns i) notes.now }
+    requires past { IsPastOf ex.now (take i score.now.columns) past.now }
     ensures { OnOk result (marks.new.items ≡ marks.old.items ++ marks_at ex.now score.now.columns i) }
 {
-    let latest = latest_of_notes(notes);
+    let latest = past.latest();
     for rule in every_rule() {
-        mark_rule(marks, ex, score, i, notes, &latest, *rule)?;
+        mark_rule(marks, ex, score, i, past, &latest, *rule)?;
     }
     Ok(())
 }
@@ -87,10 +84,10 @@ pub fn marks(alloc: Global, ex: &Exercise, score: &Score) -> Result<Vec<Mark>, M
     ensures { IfOk result (λ marks. AreMarks ex.now score.now.columns marks.items) }
 {
     let mut marks = Vec::new(alloc);
-    let mut notes = all_silent();
+    let mut past = Past::none();
     for i in 0..score.len() {
-        mark_place(&mut marks, ex, score, i, &notes)?;
-        notes = all_noted(&notes, score.column(i).as_slice());
+        mark_place(&mut marks, ex, score, i, &past)?;
+        past = past.with(ex, i, score.column(i).as_slice());
     }
     Ok(marks)
 }

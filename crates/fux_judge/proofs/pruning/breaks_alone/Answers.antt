@@ -15,5 +15,5 @@ returns-then-is_empty c = λ n below p after.
     c.requires.low
     (sym c.as_slice.ensures ∙ nil_from_length c.as_slice.result.now
     (eqb-true _ 0 (sym c.is_empty.ensures ∙ c.if-is_empty.true)))
-    (is_rough c.is_smooth_in.result _ (c.is_smooth_in.ensures (reverse p) after.state.melody) c.if-is_smooth_in.false)
+    (is_rough c.is_smooth_in.result _ (c.is_smooth_in.ensures (reverse p) after.state.past.melody) c.if-is_smooth_in.false)
     below

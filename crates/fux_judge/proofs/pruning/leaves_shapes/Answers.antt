@@ -9,5 +9,5 @@ returns-then-leaves_last_shape c = λ p after other same.
     let v = c.args.voice in
     leaves_in_all c.args.m.now.exercise.now p other v c.requires.voice
     (OnTrue_at c.if-leaves_last_shape.true c.leaves_last_shape.ensures p other (sym after.state.newest.count)
-    after.state.rhythm
+    after.state.past.rhythm
     ((same_below (v + 1) other c.args.m.now.column.now same).cells v (omega arith) ∙ sym c.cell_of-cell.ensures))

@@ -16,8 +16,8 @@ loop-voice-preserved c = record {
   small = omega (arith, c.charge_for-charge.ensures.bound);
 }
 
-pub costs_too_much-requires : goal.costs_too_much-requires
-costs_too_much-requires c = omega arith
+pub costs_too_much-requires-clause-little : goal.costs_too_much-requires-clause-little
+costs_too_much-requires-clause-little c = omega arith
 
 pub returns-then-reaches-clause-pruned : goal.returns-then-reaches-clause-pruned
 returns-then-reaches-clause-pruned c = λ p is other long same.

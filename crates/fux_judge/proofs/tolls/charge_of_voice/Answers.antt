@@ -28,4 +28,4 @@ returns-clause-value c = λ p after.
     (sym c.is_free.ensures ∙ c.if-not-is_free.false)
     (c.charge_of_move.ensures.value ∙ ap (λ previous. move previous c.cell_of-cell.result) latest
     ∙ ap (move (previous_pitch (line c.args.voice (reverse p)))) c.cell_of-cell.ensures)
-    (c.charge_of_leap.ensures.value (reverse p) after.state.melody ∙ ap leap c.cell_of-cell.ensures)
+    (c.charge_of_leap.ensures.value (reverse p) after.state.past.melody ∙ ap leap c.cell_of-cell.ensures)

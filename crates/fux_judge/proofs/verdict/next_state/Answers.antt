@@ -1,12 +1,10 @@
 use Rattle.std.proofs.Common.{◌≡◌, ◌∷◌, ◌++◌, [], List, length, reverse, ap, sym, ◌∙◌, subst}
 use Rattle.fux_grid.specs.declared.cell.Cell.{Cell}
 use Rattle.fux_grid.proofs.Histories.{reverse-push}
-use Rattle.melody_rules.specs.Notes.{AreNotesOf}
-use Rattle.motion_rules.specs.BarLines.{IsBarLinesOf}
-use Rattle.rhythm_cadence.specs.Parts.{IsShapesOf}
 use Rattle.rule_law.specs.Newest.{AreNewestOf}
 use Rattle.std.proofs.lemmas.List.{length-reverse}
 use Rattle.fux_judge.specs.GaugeStates.{AreAheadOf, AreGaugesOf}
+use Rattle.fux_judge.specs.States.{IsPastOf}
 use Rattle.fux_judge.proofs.verdict.next_state.Goals as goal
 
 pub returns-clause-state : goal.returns-clause-state
@@ -16,19 +14,14 @@ returns-clause-state c = λ p st.
     let same : cells ≡ col = c.as_slice-cells.ensures.value in
     let full : c.args.ex.now.voices ≡ length cells = sym c.requires.full ∙ sym (ap length same) in
     let Newest : List Cell → Type 0 = λ x. AreNewestOf c.args.ex.now.voices (p ++ x ∷ []) c.with.result in
-    let Notes : List (List Cell) → Type 0 = λ h. AreNotesOf h c.all_noted.result in
     let Gauges : List (List Cell) → Type 0 = λ h. AreGaugesOf h c.all_gauged.result in
     let Ahead : List Cell → Type 0 = λ x. AreAheadOf c.args.ex.now (p ++ x ∷ []) c.all_ahead_after.result in
-    let Shapes : List Cell → Type 0 = λ x. IsShapesOf c.args.ex.now (p ++ x ∷ []) c.noted.result in
-    let Lines : List Cell → Type 0 = λ x. IsBarLinesOf (p ++ x ∷ []) c.noted-2.result in
+    let Parts : List Cell → Type 0 = λ x. IsPastOf c.args.ex.now (p ++ x ∷ []) c.with-2.result in
     record {
       newest = subst Newest same (c.with.ensures.newest c.args.ex.now.voices p c.requires.valid.most_voices (sym full)
           st.newest);
-      melody = subst Notes (ap (λ x. x ∷ reverse p) same ∙ sym (reverse-push p col))
-          (c.all_noted.ensures (reverse p) st.melody);
-      rhythm = subst Shapes same (c.noted.ensures p (sym st.newest.count) st.rhythm);
+      past = subst Parts same (c.with-2.ensures p (sym st.newest.count) st.past);
       gauges = subst Gauges (ap (λ x. x ∷ reverse p) same ∙ sym (reverse-push p col))
           (c.all_gauged.ensures (reverse p) (length-reverse p ∙ sym st.newest.count) st.gauges);
       ahead = subst Ahead same (c.all_ahead_after.ensures p (sym st.newest.count) st.ahead);
-      motion = subst Lines same (c.noted-2.ensures p (sym st.newest.count) st.motion);
     }

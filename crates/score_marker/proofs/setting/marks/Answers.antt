@@ -1,11 +1,9 @@
-use Rattle.std.proofs.Common.{◌≡◌, ◌<◌, List, [], ◌∷◌, ◌++◌, length, ap, sym, subst, ◌∙◌, arith}
+use Rattle.std.proofs.Common.{◌≡◌, ◌<◌, List, [], ◌∷◌, ◌++◌, length, take, ap, sym, subst, ◌∙◌, arith}
 use Rattle.std.specs.List.{flat_map, range_with_len}
-use Rattle.std.proofs.lemmas.List.{flat_map_more}
+use Rattle.std.proofs.lemmas.List.{flat_map_more, length-take-le, take_more}
 use Rattle.fux_grid.specs.declared.cell.Cell.{Cell}
-use Rattle.fux_grid.specs.Columns.{earlier}
-use Rattle.fux_grid.proofs.Histories.{earlier-more, earlier-none}
-use Rattle.melody_rules.specs.Notes.{AreNotesOf}
 use Rattle.fux_judge.specs.Rules.{rules_read}
+use Rattle.fux_judge.specs.States.{IsPastOf}
 use Rattle.score_marker.specs.Lists.{marks_of_place, marks_of_places}
 use Rattle.score_marker.specs.Marks.{AreMarks}
 use Rattle.score_marker.specs.Setting.{breaks_of, sets_in_order}
@@ -15,27 +13,24 @@ use Rattle.score_marker.proofs.setting.marks.Goals as goal
 
 pub loop-i-init : goal.loop-i-init
 loop-i-init c =
-    let P : List (List Cell) → Type 0 = λ behind. AreNotesOf behind c.all_silent-notes.result in
-    record {
-      made = c.new-marks.ensures.items;
-      notes = subst P (sym (earlier-none c.args.score.now.columns)) c.all_silent-notes.ensures;
-    }
+    record { made = c.new-marks.ensures.items; past = c.none-past.ensures c.args.ex.now }
 
 pub loop-i-preserved : goal.loop-i-preserved
 loop-i-preserved c =
     let s = c.args.score.now.columns in
     let place = marks_of_place (breaks_of c.args.ex.now s) sets_in_order rules_read in
-    let P : List (List Cell) → Type 0 = λ behind. AreNotesOf behind c.all_noted-notes.result in
+    let P : List (List Cell) → Type 0 = λ p. IsPastOf c.args.ex.now p c.with-past.result in
     let here : c.loop-i.i < length s = omega arith in
-    let column = ap (λ col. col ∷ earlier s c.loop-i.i) (c.as_slice.ensures.value ∙ c.column.ensures.value) in
+    let column = ap (λ col. take c.loop-i.i s ++ col ∷ []) (c.as_slice.ensures.value ∙ c.column.ensures.value) in
     record {
       made =
           c.in_ok-mark_place.ensures ∙ ap (λ marks. marks ++ place c.loop-i.i) c.loop-i.invariant.made
           ∙ flat_map_more place [] (range_with_len 0 c.loop-i.i) c.loop-i.i
           ∙ ap (flat_map place) (sym (range-more c.loop-i.i));
-      notes =
-          subst P (column ∙ sym (earlier-more s c.loop-i.i here))
-          (c.all_noted-notes.ensures (earlier s c.loop-i.i) c.loop-i.invariant.notes);
+      past =
+          subst P (column ∙ sym (take_more s c.loop-i.i [] here))
+          (c.with-past.ensures (take c.loop-i.i s) (length-take-le c.loop-i.i s (omega (arith, here)))
+          c.loop-i.invariant.past);
     }
 
 pub returns : goal.returns
