@@ -3,6 +3,7 @@
 ghost use Rattle.std.specs.Prelude.{◌≡◌, ◌≤◌, IfOk, length};
 ghost use Rattle.fux_grid.specs.Exercises.{IsValid, columns_in};
 
+use crate::given::given_bars;
 use crate::score::{pitch_of, pitches_of, score_of};
 use fux_grid::{Exercise, RangeLine, Relax, Score, VoiceSet};
 use fux_pitch::{List, Mode, Pitch};
@@ -123,10 +124,9 @@ fn cantus(alloc: Global, text: &str) -> Result<Vec<Pitch>, Fail> {
 }
 
 /// The exercise of a text, for so many voices: a line with the mode, the species, the voice that has it and the voice of the cantus, and
-/// then a line that begins with `cantus`, and lines that begin with `range` or `relax`. Other lines are passed over.
-pub fn exercise_of(alloc: Global, text: &str, voices: u8) -> Result<Exercise, Fail>
-    ensures { IfOk result (λ exercise. IsValid exercise) }
-{
+/// then a line that begins with `cantus`, and lines that begin with `range`, `relax` or `given`. Other lines are passed over. It may be no valid
+/// one.
+pub fn any_exercise_of(alloc: Global, text: &str, voices: u8) -> Result<Exercise, Fail> {
     let mut words = text.lines().next().ok_or("no line")?.split(' ');
     let mode = mode_of(words.next().ok_or("no mode")?)?;
     let species = number(words.next())?;
@@ -136,7 +136,8 @@ pub fn exercise_of(alloc: Global, text: &str, voices: u8) -> Result<Exercise, Fa
     let bars = u8::try_from(cantus.len())?;
     let ranges = ranges(alloc, text, voices, cantus_voice)?;
     let relaxed = relaxed(alloc, text, bars)?;
-    let exercise = Exercise {
+    let given = given_bars(alloc, text)?;
+    Ok(Exercise {
         mode,
         voices,
         bars,
@@ -146,8 +147,16 @@ pub fn exercise_of(alloc: Global, text: &str, voices: u8) -> Result<Exercise, Fa
         cantus: List::new(cantus),
         ranges: List::new(ranges),
         relax: List::new(relaxed),
+        given: List::new(given),
         setting: None,
-    };
+    })
+}
+
+/// The valid exercise of such a text.
+pub fn exercise_of(alloc: Global, text: &str, voices: u8) -> Result<Exercise, Fail>
+    ensures { IfOk result (λ exercise. IsValid exercise) }
+{
+    let exercise = any_exercise_of(alloc, text, voices)?;
     if !exercise.is_valid() {
         return Err("no valid exercise".into());
     }

@@ -2,7 +2,8 @@
 #![tactic(auto)]
 
 mod exercise;
+mod given;
 mod score;
 
-pub use exercise::{Case, case_of, exercise_of, mode_of};
+pub use exercise::{Case, any_exercise_of, case_of, exercise_of, mode_of};
 pub use score::{pitch_of, pitches_of, score_of};

@@ -44,6 +44,7 @@ fn exercise(alloc: Global, low: &str, high: &str, species: u8) -> Result<Exercis
         cantus: List::new(vec![in alloc; d, e, d]?),
         ranges: List::new(vec![in alloc; range]?),
         relax: List::new(Vec::new(alloc)),
+        given: List::new(Vec::new(alloc)),
         setting: None,
     })
 }
@@ -137,6 +138,7 @@ fn setting(
         cantus: List::new(vec![in alloc; d, e, d]?),
         ranges: List::new(ranges),
         relax: List::new(relax),
+        given: List::new(Vec::new(alloc)),
         setting: None,
     })
 }

@@ -28,6 +28,7 @@ drill_of cantus low high = record {
   cantus = cantus;
   ranges = drill_line low high ∷ [];
   relax = [];
+  given = [];
   setting = None;
 }
 
@@ -76,7 +77,10 @@ valid n cantus low high degrees l h = record {
   each_has_range = has_range cantus low high;
   relax_fit = All-nil _;
   few_relax = omega arith;
+  given_fit = All-nil _;
+  given_ascend = λ i j d lt within. absurd (omega (arith, within));
   setting = tt;
+  setting_fits = tt;
 }
 
 pub is_drill : (n : ℕ) (cantus : List Pitch) (low high : Pitch)
@@ -94,5 +98,6 @@ is_drill n cantus low high degrees naturals l h = record {
   naturals = naturals;
   range = (drill_line low high, refl, record { voice = refl; low = l; high = h; bars = refl });
   relax = refl;
+  given = refl;
   setting = refl;
 }

@@ -64,4 +64,5 @@ pub record IsDrill (n : ℕ) (ex : Exercise) : Type 0 where
   pub naturals : AreNaturals ex.cantus
   pub range : (line : RangeLine) × (ex.ranges ≡ line ∷ []) × IsDrillRange line
   pub relax : ex.relax ≡ []
+  pub given : ex.given ≡ []
   pub setting : ex.setting ≡ None

@@ -37,6 +37,7 @@ pub fn drill(alloc: Global, n: u32) -> Result<Exercise, Memory>
         cantus: List::new(cantus),
         ranges: List::new(ranges),
         relax: List::new(Vec::new(alloc)),
+        given: List::new(Vec::new(alloc)),
         setting: None,
     })
 }

@@ -1,5 +1,5 @@
 -- The cells that a voice may have: which, how many, and in which order.
-use Rattle.std.proofs.Common.{◌≡◌, ◌≢◌, inl, inr, ℕ, ◌+◌, ◌/◌, ◌<◌, ◌≤◌, ℤ, ◌<ℤ◌, Bool, true, false, cond, List, [], ◌∷◌, ◌++◌, length, get_or, map, Option, Some, None, option_map, slice_get, refl, ap, arith, eq-eqb, length-append}
+use Rattle.std.proofs.Common.{◌≡◌, ◌≢◌, inl, inr, ℕ, ◌+◌, ◌/◌, ◌<◌, ◌≤◌, ℤ, ◌<ℤ◌, Bool, true, false, cond, List, [], ◌∷◌, ◌++◌, IsTrue, filter, length, get_or, map, Option, Some, None, option_map, slice_get, refl, ap, sym, ◌∙◌, subst, arith, eq-eqb, length-append}
 use Rattle.std.specs.List.{AllPairs, Contains}
 use Rattle.std.specs.Option.{option_to_list}
 use Rattle.std.specs.Ordering.{int_cmp, nat_cmp, ordering_then, MatchOrdering}
@@ -16,12 +16,14 @@ use Rattle.fux_pitch.specs.Pitch.{key_of, degree_of}
 use Rattle.fux_grid.specs.declared.exercise.Exercise.{Exercise}
 use Rattle.fux_grid.specs.declared.cell.Cell.{Cell}
 use Rattle.fux_grid.specs.declared.cell.Cell.TheVariants.{Rest, Hold, Start}
-use Rattle.fux_grid.specs.Exercises.{bar_of, cantus_cell, slot_of, species_in}
+use Rattle.fux_grid.specs.declared.given.Given.TheVariants.{Blank}
+use Rattle.fux_grid.specs.Exercises.{bar_of, cantus_cell, given_at, slot_of, species_in}
+use Rattle.fux_grid.specs.Givens.{fits}
 use Rattle.fux_grid.specs.Order.{pitch_order}
 use Rattle.fux_grid.specs.Shapes.{allows, shapes_in}
-use Rattle.fux_grid.specs.Menus.{cantus_cells, cells_at, free_cells, pool_of}
+use Rattle.fux_grid.specs.Menus.{cantus_cells, cells_at, free_cells, open_cells, pool_of}
 use Rattle.fux_grid.proofs.Combinations.{AllPairs-append, AllPairs-map, AllPairs-short, Contains-cons_cases, Contains-map_only, IsBefore}
-use Rattle.fux_grid.proofs.Pools.{IsLower, pool_of-ascends, length-pool_of}
+use Rattle.fux_grid.proofs.Pools.{AllPairs-filter, Contains-cons, IsLower, pool_of-ascends, length-filter_le, length-pool_of}
 
 pub cells_at-cantus : (ex : Exercise) (i v : ℕ) → v ≡ ex.cantus_voice → cells_at ex i v ≡ cantus_cells ex i
 unfolding cells_at
@@ -33,7 +35,7 @@ cantus_cells-one ex i p h e = ap (λ o. option_to_list (option_map (cantus_cell 
     (slice_get_read ex.cantus (length ex.cantus) (i / 8) p refl h e)
 
 pub cells_at-free : (ex : Exercise) (i v : ℕ) → v ≢ ex.cantus_voice → cells_at ex i v
-    ≡ free_cells (shapes_in (species_in ex v) (bar_of i) ex.bars) (slot_of i) (pool_of ex v (bar_of i))
+    ≡ filter (fits (given_at ex i v)) (open_cells ex i v)
 unfolding cells_at
 cells_at-free ex i v e = rw (ne_eqb v ex.cantus_voice e) refl
 
@@ -76,6 +78,8 @@ length-cells_at ex i v = elim (cases_eq v ex.cantus_voice) [
   | inr other ↦ omega (
     arith,
     ap length (cells_at-free ex i v other),
+    length-filter_le (fits (given_at ex i v))
+        (open_cells ex i v),
     length-free_cells
         (shapes_in (species_in ex v) (bar_of i) ex.bars) (slot_of i) (pool_of ex v (bar_of i)),
     length-pool_of ex v
@@ -154,6 +158,34 @@ cells_at-ascend ex i v = elim (cases_eq v ex.cantus_voice) [
   | inl same ↦ rw (cells_at-cantus ex i v same)
       (AllPairs-short IsBefore _ (length-cantus_cells (option_map (cantus_cell i) (slice_get ex.cantus (i / 8)))))
   | inr other ↦ rw (cells_at-free ex i v other)
+      (AllPairs-filter IsBefore (fits (given_at ex i v)) (open_cells ex i v)
       (free_cells-ascend (shapes_in (species_in ex v) (bar_of i) ex.bars) (slot_of i) (pool_of ex v (bar_of i))
-      (pool_of-ascends ex v (bar_of i)))
+      (pool_of-ascends ex v (bar_of i))))
 ]
+
+-- ---- what is given
+
+Contains-filter_only : {X : Type 0} (p : X → Bool) (xs : List X) (x : X) → Contains (filter p xs) x
+    → Contains xs x × (p x ≡ true)
+Contains-filter_only p [] x (k, lt, e) = absurd (omega (arith, lt))
+Contains-filter_only {X} p (y ∷ ys) x h = by_test (p y) refl h (Contains-filter_only p ys x)
+  where
+    by_test : (b : Bool) → p y ≡ b → Contains (cond b (y ∷ filter p ys) (filter p ys)) x
+        → (Contains (filter p ys) x → Contains ys x × (p x ≡ true)) → Contains (y ∷ ys) x × (p x ≡ true)
+    by_test true t i later = elim (Contains-cons_cases y (filter p ys) x i) [
+      | inl e ↦ ((0, omega arith, e), ap p (sym e) ∙ t)
+      | inr j ↦ let (place, passes) = later j in (Contains-cons y ys x place, passes)
+    ]
+    by_test false t i later = let (place, passes) = later i in (Contains-cons y ys x place, passes)
+
+-- a free voice's cells are among those that it has before anything is given, and fit what is given
+pub cells_at-given : (ex : Exercise) (i v : ℕ) (c : Cell) → v ≢ ex.cantus_voice → Contains (cells_at ex i v) c
+    → Contains (open_cells ex i v) c × IsTrue (fits (given_at ex i v) c)
+cells_at-given ex i v c other h =
+    let P : List Cell → Type 0 = λ cells. Contains cells c in
+    Contains-filter_only (fits (given_at ex i v)) (open_cells ex i v) c (subst P (cells_at-free ex i v other) h)
+
+-- where nothing is given, every cell fits
+pub filter-blank : (cells : List Cell) → cells ≡ filter (fits Blank) cells
+filter-blank [] = refl
+filter-blank (c ∷ cells) = ap (λ cells. c ∷ cells) (filter-blank cells)

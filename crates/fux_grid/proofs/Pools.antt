@@ -20,7 +20,7 @@ use Rattle.fux_grid.proofs.Combinations.{AllPairs-cons, AllPairs-tail}
 
 -- ---- lists
 
-Contains-cons : {X : Type 0} (x : X) (xs : List X) (y : X) → Contains xs y → Contains (x ∷ xs) y
+pub Contains-cons : {X : Type 0} (x : X) (xs : List X) (y : X) → Contains xs y → Contains (x ∷ xs) y
 Contains-cons x xs y (k, h, e) = (suc k, omega arith, e)
 
 Contains-filter : {X : Type 0} (p : X → Bool) (xs : List X) (x : X) → Contains xs x → p x ≡ true
@@ -33,7 +33,7 @@ Contains-filter {X} p (y ∷ ys) x (suc k, h, e) t = by_test (p y) refl (Contain
     by_test true s below = rw s (Contains-cons y (filter p ys) x below)
     by_test false s below = rw s below
 
-AllPairs-filter : {X : Type 0} (R : X → X → Type 0) (p : X → Bool) (xs : List X) → AllPairs R xs
+pub AllPairs-filter : {X : Type 0} (R : X → X → Type 0) (p : X → Bool) (xs : List X) → AllPairs R xs
     → AllPairs R (filter p xs)
 AllPairs-filter R p [] h = h
 AllPairs-filter {X} R p (x ∷ xs) h = by_test (p x) refl (AllPairs-filter R p xs (AllPairs-tail R x xs h))
@@ -123,7 +123,7 @@ unfolding pool_of
 pool_of-ascends ex v bar =
     AllPairs-filter IsLower (is_in_pool ex v bar) (pitches_from 24 73) (pitches_from-ascend 24 73)
 
-length-filter_le : {X : Type 0} (p : X → Bool) (xs : List X) → length (filter p xs) ≤ length xs
+pub length-filter_le : {X : Type 0} (p : X → Bool) (xs : List X) → length (filter p xs) ≤ length xs
 length-filter_le p xs = let both = length-filter_both p (λ x. not (p x)) (λ x. refl) xs in omega (arith, both)
 
 pub length-pool_of : (ex : Exercise) (v bar : ℕ) → length (pool_of ex v bar) ≤ 73

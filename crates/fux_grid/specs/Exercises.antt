@@ -1,14 +1,20 @@
 -- Exercises, and which of them are valid.
-use Rattle.std.specs.Prelude.{◌≡◌, ◌≢◌, ℕ, ◌*◌, ◌^◌, ◌/◌, ◌%◌, ◌+◌, ◌<◌, ◌≤◌, ◌≤ℤ◌, ◌==◌, List, [], ◌∷◌, All, filter, length, option_map, Some, None, IfSome, IsSome, if◌then◌else◌, slice_get, slice_index_or}
+use Rattle.std.specs.Prelude.{◌≡◌, ◌≢◌, ℕ, ◌*◌, ◌^◌, ◌/◌, ◌%◌, ◌+◌, ◌<◌, ◌≤◌, ◌≤ℤ◌, ◌==◌, ◌&&◌, List, [], ◌∷◌, All, AllPairs, filter, length, Option, option_map, Some, None, IfSome, IsSome, IsTrue, if◌then◌else◌, slice_get, slice_index_or}
+use Rattle.std.specs.List.{find}
+use Rattle.std.specs.Option.{option_map_or}
 use Rattle.fux_pitch.specs.declared.pitch.Pitch.{Pitch}
 use Rattle.fux_pitch.specs.Pitch.{key_of}
 use Rattle.fux_grid.specs.declared.cell.Cell.{Cell}
 use Rattle.fux_grid.specs.declared.cell.Cell.TheVariants.{Hold, Start}
 use Rattle.fux_grid.specs.declared.exercise.Exercise.{Exercise}
+use Rattle.fux_grid.specs.declared.given.Given.{Given}
+use Rattle.fux_grid.specs.declared.given.Given.TheVariants.{Blank, Tied}
+use Rattle.fux_grid.specs.declared.given.GivenBar.{GivenBar}
 use Rattle.fux_grid.specs.declared.exercise.RangeLine.{RangeLine}
 use Rattle.fux_grid.specs.declared.exercise.Relax.{Relax}
 use Rattle.fux_grid.specs.Grid.{Grid}
 use Rattle.fux_grid.specs.Cells.{cell_in}
+use Rattle.fux_grid.specs.Givens.{fits, FollowOn, IsEarlier}
 
 -- the number of columns of a setting
 abbrev pub columns_in : Exercise → ℕ
@@ -61,6 +67,26 @@ pub record IsRelax (ex : Exercise) (line : Relax) : Type 0 where
   pub within : AreBars ex line.from line.to
   pub price : line.price ≤ 10000
 
+-- a bar that is given is of a free voice and of a bar of the exercise; a bar may begin with a tie, and no held pitch stands behind anything but
+-- itself
+pub record IsGivenBar (ex : Exercise) (line : GivenBar) : Type 0 where
+  pub free : IsFree ex line.voice
+  pub within : AreBars ex line.bar line.bar
+  pub whole : length line.cells ≡ 8
+  pub follow : FollowOn Tied line.cells
+
+-- the bar that is given of a voice, where one is
+abbrev pub given_bar : Exercise → ℕ → ℕ → Option GivenBar
+given_bar ex v bar = find (λ line. (line.voice == v) && (line.bar == bar)) ex.given
+
+-- what is given of a voice's cell at a column: nothing where no bar is given
+unfoldable pub given_at : Exercise → ℕ → ℕ → Given
+given_at ex i v = option_map_or (λ line. slice_index_or line.cells (slot_of i) Blank) (given_bar ex v (bar_of i)) Blank
+
+-- each cell of a list of columns fits what is given there
+abbrev pub FitsGiven : Exercise → List (List Cell) → Type 0
+FitsGiven ex s = (i v : ℕ) → i < length s → v < ex.voices → IsTrue (fits (given_at ex i v) (cell_in (slice_index_or s i []) v))
+
 -- the one cell that the cantus may have at a column: its pitch starts at slot 0 and is held elsewhere
 abbrev pub cantus_cell : ℕ → Pitch → Cell
 cantus_cell i p = if slot_of i == 0 then Start p else Hold p
@@ -100,4 +126,7 @@ pub record IsValid (ex : Exercise) : Type 0 where
   pub each_has_range : (v : ℕ) → IsFree ex v → BeginsWithWhole (range_lines ex v)
   pub relax_fit : All (IsRelax ex) ex.relax
   pub few_relax : length ex.relax ≤ 64
+  pub given_fit : All (IsGivenBar ex) ex.given
+  pub given_ascend : AllPairs IsEarlier ex.given
   pub setting : IfSome ex.setting (IsGiven ex)
+  pub setting_fits : IfSome ex.setting (λ score. FitsGiven ex score.columns)

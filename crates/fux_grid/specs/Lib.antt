@@ -2,6 +2,7 @@ pub mod Cells
 pub mod Columns
 pub mod Exercises
 pub mod Faults
+pub mod Givens
 pub mod Grid
 pub mod Letters
 pub mod Menus

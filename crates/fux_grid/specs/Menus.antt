@@ -12,7 +12,8 @@ use Rattle.fux_grid.specs.declared.cell.Cell.TheVariants.{Rest, Hold, Start}
 use Rattle.fux_grid.specs.declared.exercise.Exercise.{Exercise}
 use Rattle.fux_grid.specs.declared.exercise.RangeLine.{RangeLine}
 use Rattle.fux_grid.specs.Cells.{cell_in}
-use Rattle.fux_grid.specs.Exercises.{bar_of, slot_of, species_in, cantus_cell}
+use Rattle.fux_grid.specs.Exercises.{bar_of, slot_of, species_in, cantus_cell, given_at}
+use Rattle.fux_grid.specs.Givens.{fits}
 use Rattle.fux_grid.specs.Order.{column_order}
 use Rattle.fux_grid.specs.Shapes.{allows, shapes_in}
 
@@ -61,11 +62,14 @@ free_cells shapes slot pool =
 abbrev pub cantus_cells : Exercise → ℕ → List Cell
 cantus_cells ex i = option_to_list (option_map (cantus_cell i) (slice_get ex.cantus (i / 8)))
 
--- the cells that a voice may have at a column, in reading order
+-- what a free voice may do at a column before anything is given, in reading order
+abbrev pub open_cells : Exercise → ℕ → ℕ → List Cell
+open_cells ex i v = free_cells (shapes_in (species_in ex v) (bar_of i) ex.bars) (slot_of i) (pool_of ex v (bar_of i))
+
+-- the cells that a voice may have at a column, in reading order: where a cell is given, only those that fit it
 unfoldable pub cells_at : Exercise → ℕ → ℕ → List Cell
 cells_at ex i v =
-    if v == ex.cantus_voice then cantus_cells ex i
-    else free_cells (shapes_in (species_in ex v) (bar_of i) ex.bars) (slot_of i) (pool_of ex v (bar_of i))
+    if v == ex.cantus_voice then cantus_cells ex i else filter (fits (given_at ex i v)) (open_cells ex i v)
 
 -- every choice of one item from each list, those that differ first in an earlier list in the order of that list
 abbrev pub combinations : List (List Cell) → List (List Cell)

@@ -6,6 +6,7 @@ ghost use Rattle.fux_grid.specs.Exercises.{species_in, cantus_cell, AreBars, Beg
 ghost use Rattle.fux_grid.specs.Menus.{covers, range_of};
 
 use crate::cell::Cell;
+use crate::given::{GivenBar, are_given_bars, fits_given};
 use crate::score::Score;
 use fux_pitch::{List, Mode, Pitch, semitone};
 
@@ -58,6 +59,8 @@ pub struct Exercise {
     pub cantus: List<Pitch>,
     pub ranges: List<RangeLine>,
     pub relax: List<Relax>,
+    /// What is given to the free voices, by voice and then by bar.
+    pub given: List<GivenBar>,
     /// A setting that came with the exercise. Composing disregards it.
     pub setting: Option<Score>,
 }
@@ -134,8 +137,11 @@ impl Exercise {
         if !range_lines_fit(self) || !each_has_range(self) || !relax_lines_fit(self) {
             return false;
         }
+        if !are_given_bars(self) {
+            return false;
+        }
         match &self.setting {
-            Some(score) => is_given(self, score),
+            Some(score) => is_given(self, score) && fits_given(self, score),
             None => true,
         }
     }
@@ -149,7 +155,7 @@ pub fn is_free(ex: &Exercise, v: u8) -> bool
 }
 
 /// Whether these are bars of the exercise, from one to another.
-fn are_bars(ex: &Exercise, from: u8, to: u8) -> bool
+pub(crate) fn are_bars(ex: &Exercise, from: u8, to: u8) -> bool
     ensures { IsTrue result ↔ AreBars ex.now from to }
 {
     1 <= from && from <= to && to <= ex.bars

@@ -3,6 +3,7 @@
 
 mod cell;
 mod exercise;
+mod given;
 mod letters;
 mod menus;
 mod notes;
@@ -16,10 +17,11 @@ pub use cell::{Cell, Column, Note, Onset};
 pub use exercise::{
     Exercise, GREATEST_RULE, Head, Place, RangeLine, Relax, VoiceSet, is_free, range, species_of,
 };
+pub use given::{Given, GivenBar, given_at};
 pub use letters::{letters_from, shape};
 pub use menus::{MenuFault, VoiceCells, WIDEST, can_start, menu, voice_cells, width};
 pub use notes::{next_note, note_at, note_behind, onset_ahead, prev_note, sounding};
-pub use places::{bar_of, slot_of};
+pub use places::{bar_of, place_of, slot_of};
 pub use reading_order::order;
 pub use score::{GridFault, Score, cell_of, cells_follow, follows};
 pub use shapes::{HOLD, REST, START, allows, shapes_of};

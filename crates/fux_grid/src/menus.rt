@@ -1,17 +1,19 @@
 //! Menus: the columns that may stand at a place.
 
-ghost use Rattle.std.specs.Prelude.{◌≡◌, ◌↔◌, ◌+◌, ◌*◌, ◌<◌, ◌≤◌, ◌++◌, ◌∷◌, ℕ, List, [], length, map, true, false, IsTrue, IfSome, IfNone, IfOk, Any, Contains, slice_index_or, vec_len, if◌then◌else◌};
+ghost use Rattle.std.specs.Prelude.{◌≡◌, ◌↔◌, ◌+◌, ◌*◌, ◌<◌, ◌≤◌, ◌++◌, ◌∷◌, ℕ, List, [], filter, length, map, true, false, IsTrue, IfSome, IfNone, IfOk, Any, Contains, slice_index_or, vec_len, if◌then◌else◌};
 ghost use Rattle.fux_pitch.specs.declared.pitch.Pitch.{Pitch as APitch};
 ghost use Rattle.fux_pitch.specs.Modes.{is_in_gamut};
 ghost use Rattle.fux_pitch.specs.Spelling.{spelled};
 ghost use Rattle.fux_grid.specs.declared.cell.Cell.{Cell as ACell};
-ghost use Rattle.fux_grid.specs.Exercises.{IsFree, IsValid, species_in};
+ghost use Rattle.fux_grid.specs.Exercises.{IsFree, IsValid, given_at, species_in};
+ghost use Rattle.fux_grid.specs.Givens.{fits};
 ghost use Rattle.fux_grid.specs.Grid.{items_of};
 ghost use Rattle.fux_grid.specs.Shapes.{shapes_in};
-ghost use Rattle.fux_grid.specs.Menus.{CanStart, IsAscending, IsInMenu, IsStart, cells_at, choices_at, combinations, free_cells, menu_of, note_cell, pool_of};
+ghost use Rattle.fux_grid.specs.Menus.{CanStart, IsAscending, IsInMenu, IsStart, cells_at, choices_at, combinations, free_cells, menu_of, note_cell, open_cells, pool_of};
 
 use crate::cell::{Cell, Column};
 use crate::exercise::{Exercise, cantus_cell_of, range, species_of};
+use crate::given::{Given, given_at};
 use crate::shapes::{HOLD, REST, START, allows, shapes_of};
 use arrayvec::ArrayVec;
 use fux_pitch::{Memory, Pitch, in_gamut, semitone, spell};
@@ -99,8 +101,8 @@ fn add_notes(cells: &mut VoiceCells, ex: &Exercise, v: u8, bar: u8, starts: bool
     }
 }
 
-/// The cells that a free voice may have at a slot of a bar, in reading order.
-fn free_voice_cells(ex: &Exercise, v: u8, bar: u8, slot: usize) -> VoiceCells
+/// The cells that a free voice may have at a slot of a bar before anything is given, in reading order.
+fn open_cells(ex: &Exercise, v: u8, bar: u8, slot: usize) -> VoiceCells
     requires valid { IsValid ex.now }
     requires free { IsFree ex.now v }
     requires first { 1 ≤ bar }
@@ -116,6 +118,34 @@ fn free_voice_cells(ex: &Exercise, v: u8, bar: u8, slot: usize) -> VoiceCells
     cells
 }
 
+/// Those of some cells that fit what is given.
+fn fitting(cells: &[Cell], given: Given) -> VoiceCells
+    requires { length cells.now ≤ 147 }
+    ensures { result.items ≡ filter (fits given) cells.now }
+{
+    let mut kept = ArrayVec::new();
+    for cell in cells {
+        if given.fits(*cell) {
+            kept.push(*cell);
+        }
+    }
+    kept
+}
+
+/// The cells that a free voice may have at a column, in reading order.
+fn free_voice_cells(ex: &Exercise, v: u8, i: usize) -> VoiceCells
+    requires valid { IsValid ex.now }
+    requires free { IsFree ex.now v }
+    requires place { i < 8 * ex.now.bars }
+    ensures { result.items ≡ filter (fits (given_at ex.now i v)) (open_cells ex.now i v) }
+{
+    let cells = open_cells(ex, v, (i / 8) as u8 + 1, i % 8);
+    match given_at(ex, v, i) {
+        Given::Blank => cells,
+        given => fitting(cells.as_slice(), given),
+    }
+}
+
 /// The cells that a voice may have at a column, in reading order.
 pub fn voice_cells(ex: &Exercise, v: u8, i: usize) -> VoiceCells
     requires valid { IsValid ex.now }
@@ -124,7 +154,7 @@ pub fn voice_cells(ex: &Exercise, v: u8, i: usize) -> VoiceCells
     ensures { result.items ≡ cells_at ex.now i v }
 {
     if v != ex.cantus_voice {
-        return free_voice_cells(ex, v, (i / 8) as u8 + 1, i % 8);
+        return free_voice_cells(ex, v, i);
     }
     let mut cells = ArrayVec::new();
     cells.push(cantus_cell_of(i, ex.cantus.as_slice()[i / 8]));

@@ -3,6 +3,8 @@
 ghost use Rattle.std.specs.Prelude.{◌≡◌, ◌<◌};
 ghost use Rattle.fux_grid.specs.Exercises as words;
 
+use crate::exercise::Place;
+
 /// The bar of a column, counted from 1.
 #[inline]
 pub fn bar_of(i: usize) -> u8
@@ -19,4 +21,17 @@ pub fn slot_of(i: usize) -> usize
     ensures bound { result < 8 }
 {
     i % 8
+}
+
+/// The place of a column.
+#[inline]
+pub fn place_of(i: usize) -> Place
+    requires { i < 2040 }
+    ensures bar { result.bar ≡ words.bar_of i }
+    ensures slot { result.slot ≡ words.slot_of i }
+{
+    Place {
+        bar: bar_of(i),
+        slot: slot_of(i) as u8,
+    }
 }

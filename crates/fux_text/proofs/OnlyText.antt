@@ -19,7 +19,7 @@ use Rattle.fux_text.proofs.OnlyRanges.{ranges-only, relaxes-only}
 use Rattle.fux_text.proofs.OnlySetting.{setting-only, sung_score-only}
 use Rattle.fux_text.proofs.OnlyWords.{line_texts}
 use Rattle.fux_text.proofs.ValidHead.{head-valid}
-use Rattle.fux_text.proofs.ValidText.{exercise-valid}
+use Rattle.fux_text.proofs.ValidText.{exercise-valid, table-plain}
 
 -- the words of bytes are those of their lines
 words-of_lines : (bytes : List ℕ) → words_in bytes ≡ line_texts (lines_in bytes)
@@ -80,6 +80,7 @@ note_text-only bytes ex e =
       sung = l.0;
       lines = words-of_lines bytes ∙ l.1;
       valid = exercise-valid bytes ex e;
+      plain = table-plain (lines_in bytes) r.rest ex r.lines;
       setting = l.2;
     }
 

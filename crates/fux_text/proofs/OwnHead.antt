@@ -88,7 +88,7 @@ cantus_line-own after l more voices species_voice bars v cantus few there differ
 
 -- an exercise without what its other lines say
 abbrev pub head_of : Exercise → Exercise
-head_of ex = record ex { ranges = []; relax = []; setting = None }
+head_of ex = record ex { ranges = []; relax = []; given = []; setting = None }
 
 -- the layout behind the lines before the ranges
 abbrev pub behind_head : (ℕ → LineWords) → ℕ → LineWords

@@ -10,8 +10,9 @@ use Rattle.std.proofs.lemmas.List.{append-nil}
 use Rattle.std.proofs.lemmas.List.Folds.{flat_map-map, list_all-append}
 use Rattle.fux_grid.specs.declared.exercise.Exercise.{Exercise}
 use Rattle.fux_grid.specs.declared.exercise.Relax.{Relax}
-use Rattle.fux_grid.specs.Exercises.{BeginsWithWhole, IsFree, IsGiven, IsRangeLine, IsRelax, IsValid, range_lines}
+use Rattle.fux_grid.specs.Exercises.{BeginsWithWhole, FitsGiven, IsFree, IsGiven, IsRangeLine, IsRelax, IsValid, range_lines}
 use Rattle.fux_grid.specs.Grid.{Grid}
+use Rattle.fux_grid.proofs.GivenLemmas.{nothing_given}
 use Rattle.text_lines.specs.Reading.{begins}
 use Rattle.text_lines.specs.Tables.{table_in, text_read}
 use Rattle.text_lines.specs.Words.{LineWords}
@@ -185,7 +186,7 @@ note_text-read bytes ex t =
       relax.1,
       setting-own (head_of ex) ex.setting after relax.0 t.sung (singable_head ex (singable ex t.valid))
           (setting-head ex t.sung ex.setting t.setting),
-    ) refl
+    ) (ap (λ given. Ok (record ex { given = given })) (sym t.plain))
 
 -- and so are the lines of a setting
 pub setting_lines-read : (ex : Exercise) (bytes : List ℕ) (score : Grid) → IsValid ex → AreSettingLines ex bytes score
@@ -200,9 +201,9 @@ setting_lines-read ex bytes score valid t =
     ) refl
 
 -- an exercise with another setting
-valid_with : (ex : Exercise) (o : Option Grid) → IsValid ex → IfSome o (IsSettingOf ex)
+valid_with : (ex : Exercise) (o : Option Grid) → IsValid ex → ex.given ≡ [] → IfSome o (IsSettingOf ex)
     → IsValid (record ex { setting = o })
-valid_with ex o valid setting = record {
+valid_with ex o valid plain setting = record {
   fewest_voices = valid.fewest_voices;
   most_voices = valid.most_voices;
   fewest_bars = valid.fewest_bars;
@@ -231,9 +232,16 @@ valid_with ex o valid setting = record {
         price = one.price;
       };
   few_relax = valid.few_relax;
+  given_fit = λ k d lt. absurd (omega (arith, lt, ap length plain));
+  given_ascend = valid.given_ascend;
   setting = given o setting;
+  setting_fits = fits o;
 }
   where
+    fits : (o : Option Grid) → IfSome o (λ score. FitsGiven (record ex { setting = o }) score.columns)
+    fits None = tt
+    fits (Some score) = nothing_given (record ex { setting = Some score }) score.columns plain
+
     given : (o : Option Grid) → IfSome o (IsSettingOf ex) → IfSome o (IsGiven (record ex { setting = o }))
     given None s = tt
     given (Some score) s = record {
@@ -258,9 +266,9 @@ sings_with ex lines (Some score) sings =
     )
 
 -- what is written is a note text
-pub note_text-own : (ex : Exercise) (o : Option Grid) → IsValid ex → IfSome o (IsSettingOf ex)
+pub note_text-own : (ex : Exercise) (o : Option Grid) → IsValid ex → ex.given ≡ [] → IfSome o (IsSettingOf ex)
     → length (note_text ex o) ≤ 65536 → IsNoteText (note_text ex o) (record ex { setting = o })
-note_text-own ex o valid setting short =
+note_text-own ex o valid given setting short =
     let ls = exercise_lines ex ++ sung_lines ex o in
     let text = note_text-lines ex o in
     let plain = lines-plain ex o valid in
@@ -269,7 +277,8 @@ note_text-own ex o valid setting short =
       utf8 = subst IsUtf8 (sym text) (text-utf8 ls plain);
       sung = sung_lines ex o;
       lines = ap words_in text ∙ words_in-own ls plain;
-      valid = valid_with ex o valid setting;
+      valid = valid_with ex o valid given setting;
+      plain = given;
       setting = sings_with ex (sung_lines ex o) o (sung_lines-sing ex o (omega (arith, valid.fewest_bars)) setting);
     }
 
@@ -289,8 +298,8 @@ sing_lines-own ex score valid setting short =
 -- so it is read back
 pub note_text-back : NoteTextReadsBack
 unfolding IsTextOf
-note_text-back ex o valid setting short =
-    note_text-own ex o valid setting short
+note_text-back ex o valid plain setting short =
+    note_text-own ex o valid plain setting short
 
 pub sing_lines-back : SingLinesReadBack
 unfolding AreSingLinesOf

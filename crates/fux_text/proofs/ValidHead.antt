@@ -1,5 +1,5 @@
 -- The lines before the ranges give numbers within their limits, and a pitch for each bar (`head-valid`).
-use Rattle.std.proofs.Common.{◌≡◌, ◌≢◌, ℕ, zero, suc, ◌+◌, ◌-◌, ◌<◌, List, [], ◌∷◌, ◌++◌, length, length-append, sym, ap, subst, arith}
+use Rattle.std.proofs.Common.{◌≡◌, ◌≢◌, ℕ, zero, suc, ◌+◌, ◌-◌, ◌<◌, List, [], ◌∷◌, ◌++◌, length, length-append, refl, sym, ap, subst, arith}
 use Rattle.fux_pitch.specs.declared.pitch.Pitch.{Pitch}
 use Rattle.fux_grid.specs.declared.exercise.Exercise.{Exercise}
 use Rattle.text_lines.specs.declared.fault.TextKind.{TextKind}
@@ -71,6 +71,7 @@ pub record IsHead (ex : Exercise) : Type 0 where
   pub cantus_there : ex.cantus_voice < ex.voices
   pub differ : ex.species_voice ≢ ex.cantus_voice
   pub whole : length ex.cantus ≡ ex.bars
+  pub plain : ex.given ≡ []
 
 pub head-valid : (text : TextLines) (ex : Exercise) (rest : TextLines) → IsTable head_table text ex rest → IsHead ex
 head-valid text ex rest (_, a, version, (mode, b, m, (voices, c, vs, (bars, d, bs, (species, e, sp, (cantus, f, cs, same)))))) =
@@ -86,4 +87,5 @@ head-valid text ex rest (_, a, version, (mode, b, m, (voices, c, vs, (bars, d, b
       cantus_there = omega (arith, tune.voice.within, some.above);
       differ = λ same. tune.voice.differs (sym same);
       whole = tune.whole;
+      plain = refl;
     })

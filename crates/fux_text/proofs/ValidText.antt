@@ -1,11 +1,12 @@
 -- What is read is a valid exercise (`exercise-valid`).
-use Rattle.std.proofs.Common.{◌≡◌, ℕ, List, Option, Some, None, Ok, subst, arith}
+use Rattle.std.proofs.Common.{◌≡◌, ℕ, List, [], Option, Some, None, Ok, ap, length, subst, arith}
 use Rattle.std.specs.Prelude.{All, IfSome}
 use Rattle.fux_grid.specs.declared.exercise.Exercise.{Exercise}
 use Rattle.fux_grid.specs.declared.exercise.RangeLine.{RangeLine}
 use Rattle.fux_grid.specs.declared.exercise.Relax.{Relax}
-use Rattle.fux_grid.specs.Exercises.{IsGiven, IsRangeLine, IsRelax, IsValid}
+use Rattle.fux_grid.specs.Exercises.{FitsGiven, IsGiven, IsRangeLine, IsRelax, IsValid}
 use Rattle.fux_grid.specs.Grid.{Grid}
+use Rattle.fux_grid.proofs.GivenLemmas.{nothing_given}
 use Rattle.text_lines.specs.Lines.{TextLines, lines_in}
 use Rattle.text_lines.specs.Tables.{IsTable}
 use Rattle.text_lines.proofs.TextLemmas.{text-right}
@@ -34,7 +35,10 @@ all-valid head ranges relax setting h r l s = record {
   each_has_range = λ v free. r.each v (record { there = free.there; no_cantus = free.no_cantus });
   relax_fit = relax_fit relax l.fit;
   few_relax = l.few;
+  given_fit = λ k d lt. absurd (omega (arith, lt, ap length h.plain));
+  given_ascend = λ i j d lt within. absurd (omega (arith, within, ap length h.plain));
   setting = given setting s;
+  setting_fits = fits setting;
 }
   where
     ex : Exercise
@@ -60,12 +64,21 @@ all-valid head ranges relax setting h r l s = record {
           price = one.price;
         }
 
+    fits : (o : Option Grid) → IfSome o (λ score. FitsGiven ex score.columns)
+    fits None = tt
+    fits (Some score) = nothing_given ex score.columns h.plain
+
     given : (o : Option Grid) → IfSome o (IsGiven head) → IfSome o (IsGiven ex)
     given None g = tt
     given (Some score) g = record {
       complete = record { voices = g.complete.voices; whole = g.complete.whole };
       cantus = g.cantus;
     }
+
+-- no note text gives notes
+pub table-plain : (text rest : TextLines) (ex : Exercise) → IsTable note_table text ex rest → ex.given ≡ []
+table-plain text rest ex (head, a, h, (ranges, b, rs, (relax, c, ls, (setting, d, sg, same)))) =
+    subst (λ (found : Exercise). found.given ≡ []) same.0 (head-valid text head a h).plain
 
 pub exercise-valid : (bytes : List ℕ) (ex : Exercise) → exercise_in bytes ≡ Ok ex → IsValid ex
 unfolding exercise_in

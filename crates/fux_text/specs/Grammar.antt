@@ -37,13 +37,15 @@ abbrev pub Sings : Exercise → List (List (List ℕ)) → Option Grid → Type 
 Sings ex lines None = lines ≡ []
 Sings ex lines (Some score) = IsSettingOf ex score × AreSung ex.bars (λ v. line v score.columns) (free_voices ex) lines
 
--- a note text of an exercise: it has the exercise's lines, and then those of its setting, if it has one
+-- a note text of an exercise: it has the exercise's lines, and then those of its setting, if it has one. There is no line for given notes:
+-- an exercise that gives some has no note text
 pub record IsNoteText (bytes : List ℕ) (ex : Exercise) : Type 0 where
   pub short : length bytes ≤ 65536
   pub utf8 : IsUtf8 bytes
   pub sung : List (List (List ℕ))
   pub lines : words_in bytes ≡ exercise_lines ex ++ sung
   pub valid : IsValid ex
+  pub plain : ex.given ≡ []
   pub setting : Sings ex sung ex.setting
 
 -- the `sing` lines of a setting of an exercise, and no others

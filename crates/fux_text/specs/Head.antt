@@ -53,7 +53,7 @@ abbrev pub cantus_row : ℕ → ℕ → ℕ → Row (ℕ × List Pitch)
 cantus_row voices species_voice bars =
     Row.place (named_place kinds.Cantus kinds.Cantus (other_voice species_voice voices)) (λ v. pitches_row v bars [])
 
--- an exercise without ranges, relax lines and setting
+-- an exercise without ranges, relax lines, given notes and setting
 abbrev pub bare : Mode → ℕ → ℕ → ℕ × ℕ → ℕ × List Pitch → Exercise
 bare mode voices bars species cantus = record {
   mode = mode;
@@ -65,6 +65,7 @@ bare mode voices bars species cantus = record {
   cantus = cantus.1;
   ranges = [];
   relax = [];
+  given = [];
   setting = None;
 }
 

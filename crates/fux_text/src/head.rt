@@ -167,6 +167,7 @@ fn parts_in(
         cantus,
         ranges: List::new(Vec::new(alloc)),
         relax: List::new(Vec::new(alloc)),
+        given: List::new(Vec::new(alloc)),
         setting: None,
     };
     Ok((ex, text))

@@ -3,7 +3,7 @@
 ghost use Rattle.fux_grid.specs.Exercises.{IsValid};
 
 use crate::tables::{compare, number};
-use case_texts::exercise_of;
+use case_texts::{any_exercise_of, exercise_of};
 use fux_grid::{Cell, Column, Exercise, MenuFault, can_start, is_free, menu, range, width};
 use std::alloc::Global;
 use std::fmt::Write;
@@ -208,4 +208,76 @@ fn range_in(alloc: Global, case: &str) -> Result<String, Fail> {
 #[test]
 fn finds_the_last_range_that_covers_a_bar(rt: HostRuntime) -> Result<(), Fail> {
     compare(&rt, rt.alloc(), BARS, range_in)
+}
+
+/// A line in second species above D4 E4 F4 E4 D4, of which some cells are given.
+const GIVEN: &str = "dorian 2 1 0
+cantus D4 E4 F4 E4 D4
+range 1 A4 C5
+given 1 1 r ? ? ? +A4 -A4 -A4 -A4
+given 1 2 ? ? ? ? ? ? ? ?
+given 1 3 ? ? ? ? r r r r
+given 1 4 _ ? ? ? +B4 ? ? ?";
+
+/// Columns of that exercise, and their menus. Nothing is given of the second bar; a rest in the third bar and a tie from it are given, for
+/// which second species has no cell; the note that begins within the fourth bar may go on in any way.
+const GIVEN_MENUS: &str = "\
+column 0 =  +D4r
+column 1 =  -D4r -D4-A4 -D4-Bb4 -D4-B4 -D4-C5
+column 4 =  -D4+A4
+column 5 =  -D4-A4
+column 8 =  +E4+A4 +E4+Bb4 +E4+B4 +E4+C5
+column 9 =  -E4-A4 -E4-Bb4 -E4-B4 -E4-C5
+column 20 = none
+column 24 = none
+column 28 =  -E4+B4
+column 29 =  -E4-A4 -E4-Bb4 -E4-B4 -E4-C5
+column 32 =  +D4+A4 +D4+Bb4 +D4+B4 +D4+C5";
+
+fn given_menu(alloc: Global, case: &str) -> Result<String, Fail> {
+    let ex = exercise_of(alloc, GIVEN, 2)?;
+    let menu = menu_text(alloc, &ex, usize::from(number(case, 1)?))?;
+    if menu.is_empty() {
+        return Ok(String::from_str(alloc, "none")?);
+    }
+    Ok(menu)
+}
+
+#[test]
+fn keeps_the_cells_that_fit_what_is_given(rt: HostRuntime) -> Result<(), Fail> {
+    compare(&rt, rt.alloc(), GIVEN_MENUS, given_menu)
+}
+
+/// Given bars that fit no exercise of that cantus firmus, and one that does: of the cantus, of no bar, twice the same bar, a held pitch
+/// behind a blank, a tie within the bar, a tie at its beginning.
+const GIVEN_BARS: &str = "\
+0 1 ? ? ? ? ? ? ? ? = refused
+1 6 ? ? ? ? ? ? ? ? = refused
+1 0 ? ? ? ? ? ? ? ? = refused
+1 3 ? ? ? ? ? ? ? ? = refused
+1 4 ? -A4 ? ? ? ? ? ? = refused
+1 4 ? ? _ ? ? ? ? ? = refused
+1 4 +A4 -B4 ? ? ? ? ? ? = refused
+1 4 _ _ _ _ +A4 -A4 ? ? = taken";
+
+fn given_line(alloc: Global, case: &str) -> Result<String, Fail> {
+    let text = format!(in alloc;
+        "dorian 2 1 0
+cantus D4 E4 F4 E4 D4
+range 1 A4 C5
+given 1 3 r r r r ? ? ? ?
+given {case}"
+    )?;
+    let exercise = any_exercise_of(alloc, &text, 2)?;
+    let answer = if exercise.is_valid() {
+        "taken"
+    } else {
+        "refused"
+    };
+    Ok(String::from_str(alloc, answer)?)
+}
+
+#[test]
+fn takes_given_bars_that_fit_the_exercise(rt: HostRuntime) -> Result<(), Fail> {
+    compare(&rt, rt.alloc(), GIVEN_BARS, given_line)
 }

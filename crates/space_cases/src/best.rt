@@ -91,6 +91,7 @@ fn to_case<'a>(alloc: Global, line: &'a str, free: &[u8]) -> Result<(Exercise, &
         cantus: List::new(cantus),
         ranges: List::new(vec![in alloc; range]?),
         relax: List::new(relax_lines(alloc, free, bars)?),
+        given: List::new(Vec::new(alloc)),
         setting: None,
     };
     Ok((exercise, answer))

@@ -41,6 +41,7 @@ fn exercise(alloc: Global, bars: u8) -> Result<Exercise, Fail> {
         cantus: List::new(vec![in alloc; low; bars as usize]?),
         ranges: List::new(Vec::from_array(alloc, [range])?),
         relax: List::new(Vec::new(alloc)),
+        given: List::new(Vec::new(alloc)),
         setting: None,
     })
 }

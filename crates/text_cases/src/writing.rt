@@ -54,6 +54,7 @@ fn trio(alloc: Global) -> Result<Exercise, Fail> {
         cantus: List::new(Vec::from_array(alloc, [d4, e4, d4])?),
         ranges: List::new(Vec::from_array(alloc, ranges)?),
         relax: List::new(Vec::from_array(alloc, relax)?),
+        given: List::new(Vec::new(alloc)),
         setting: None,
     })
 }
