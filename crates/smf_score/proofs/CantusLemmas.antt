@@ -1,57 +1,136 @@
--- One slot more of a held pitch (`held_more`, `held_ends`), and one bar more of a cantus (`cantus_more`, `cantus_ends`, `cantus_over`).
-use Rattle.std.proofs.Common.{◌≡◌, ℕ, suc, ◌+◌, ◌-◌, ◌<◌, ◌≤◌, true, false, List, [], ◌∷◌, ◌++◌, Some, None, Result, Ok, Err, refl, ap, arith, append_assoc, add-one}
-use Rattle.std.proofs.lemmas.List.{append-nil}
+-- A bar that is one whole note has its cells (`whole_is`, `whole_back`); so has a cantus (`cantus_is`, `cantus_back`).
+use Rattle.std.proofs.Common.{◌≡◌, ℕ, zero, suc, ◌+◌, ◌-◌, ◌*◌, ◌/◌, ◌%◌, ◌<◌, ◌≤◌, Bool, true, false, List, [], ◌∷◌, ◌++◌, drop, get_or, take, length, replicate, Option, Some, None, option_map, slice_get, Ok, refl, sym, ◌∙◌, ap, arith, cond, eqb, add-one}
+use Rattle.std.specs.List.{list_all}
+use Rattle.std.specs.Option.{ok_or}
+use Rattle.std.proofs.lemmas.Bool.{and_parts}
+use Rattle.std.proofs.lemmas.List.{length-drop, length-take-le}
+use Rattle.std.proofs.Math.Seq.{take-add}
 use Rattle.fux_pitch.specs.declared.pitch.Pitch.{Pitch}
-use Rattle.smf_score.specs.declared.fault.SmfFault.{SmfFault}
+use Rattle.fux_pitch.proofs.PitchLemmas.{equal_from_test}
+use Rattle.fux_grid.proofs.PitchTests.{same_pitch-from_equal}
+use Rattle.fux_grid.specs.declared.cell.Cell.{Cell}
+use Rattle.fux_grid.specs.declared.cell.Cell.TheVariants.{Rest, Hold, Start}
+use Rattle.fux_grid.specs.Cells.{cell_in}
+use Rattle.fux_grid.specs.Exercises.{cantus_cell}
 use Rattle.smf_score.specs.declared.fault.SmfFault.TheVariants.{NotWhole}
-use Rattle.smf_score.specs.declared.placed.Placed.{Placed}
-use Rattle.smf_score.specs.Faults.{◌>>=◌}
-use Rattle.smf_score.specs.Sounding.{cell_on}
-use Rattle.smf_score.specs.Cantus.{holds, held_from, whole_at, cantus_in}
+use Rattle.smf_score.specs.Cantus.{bar_pitch, bars_from, cantus_cells, holds, whole_note}
+use Rattle.smf_score.specs.Faults.{each}
+use Rattle.smf_score.specs.Sounding.{note_cells}
+use Rattle.smf_score.proofs.EachLemmas.{each_ok, each_then}
 
-pub held_more : (notes : List Placed) (v : ℕ) (p : Pitch) (slot count k : ℕ) → k < count
-    → holds p (cell_on notes v (slot + k)) ≡ true
-    → held_from notes v p (slot + (k + 1)) (count - (k + 1)) ≡ held_from notes v p (slot + k) (count - k)
-held_more notes v p slot count k more h =
-    let left : count - k ≡ suc (count - (k + 1)) = omega arith in
-    let next : slot + (k + 1) ≡ slot + k + 1 = omega arith in
-    rw (left, next, h) refl
+-- ---- the cells of a whole note
 
-pub held_ends : (notes : List Placed) (v : ℕ) (p : Pitch) (slot count k : ℕ) → k < count
-    → holds p (cell_on notes v (slot + k)) ≡ false → held_from notes v p (slot + k) (count - k) ≡ false
-held_ends notes v p slot count k more h =
-    let left : count - k ≡ suc (count - (k + 1)) = omega arith in
-    rw (left, h) refl
+all_held : (p : Pitch) (cells : List Cell) → list_all (holds p) cells ≡ true → cells ≡ replicate (length cells) (Hold p)
+all_held p [] h = refl
+all_held p (Rest ∷ cells) h = absurd cc
+all_held p (Start q ∷ cells) h = absurd cc
+all_held p (Hold q ∷ cells) h =
+    let parts = and_parts (holds p (Hold q)) (list_all (holds p) cells) h in
+    ap (λ (r : Pitch). Hold r ∷ cells) (equal_from_test q p parts.0)
+    ∙ ap (λ (cs : List Cell). Hold p ∷ cs) (all_held p cells parts.1)
 
--- the pitches before, and those that are still read
-abbrev pub with_front : List Pitch → Result (List Pitch) SmfFault → Result (List Pitch) SmfFault
-with_front front read = read >>= λ later. Ok (front ++ later)
+held_all : (p : Pitch) (n : ℕ) → list_all (holds p) (replicate n (Hold p)) ≡ true
+held_all p zero = refl
+held_all p (suc n) = rw (same_pitch-from_equal p p refl) (held_all p n)
 
-regroup : (front : List Pitch) (p : Pitch) (read : Result (List Pitch) SmfFault)
-    → with_front (front ++ p ∷ []) read ≡ with_front front (read >>= λ ps. Ok (p ∷ ps))
-regroup front p (Ok later) = ap (λ (ps : List Pitch). Ok ps) (append_assoc front (p ∷ []) later)
-regroup front p (Err f) = refl
+whole_is : (cells : List Cell) (p : Pitch) → whole_note cells ≡ Some p → cells ≡ note_cells p (length cells)
+whole_is [] p e = absurd cc
+whole_is (Rest ∷ cells) p e = absurd cc
+whole_is (Hold q ∷ cells) p e = absurd cc
+whole_is (Start q ∷ cells) p e = at (list_all (holds q) cells) refl e
+  where
+    at : (t : Bool) → list_all (holds q) cells ≡ t → cond t (Some q) None ≡ Some p
+        → Start q ∷ cells ≡ note_cells p (suc (length cells))
+    at false h f = absurd cc
+    at true h f =
+        let same : q ≡ p = cc in
+        let count : suc (length cells) - 1 ≡ length cells = omega arith in
+        ap (λ (cs : List Cell). Start q ∷ cs) (all_held q cells h)
+        ∙ ap (λ (n : ℕ). Start q ∷ replicate n (Hold q)) (sym count)
+        ∙ ap (λ (r : Pitch). note_cells r (suc (length cells))) same
 
-pub cantus_more : (notes : List Placed) (v bar bars : ℕ) (front : List Pitch) (p : Pitch) → bar < bars
-    → Some p ≡ whole_at notes v bar
-    → with_front (front ++ p ∷ []) (cantus_in notes v (bar + 1) (bars - (bar + 1)))
-    ≡ with_front front (cantus_in notes v bar (bars - bar))
-unfolding cantus_in
-cantus_more notes v bar bars front p more e =
+whole_back : (p : Pitch) (n : ℕ) → whole_note (note_cells p n) ≡ Some p
+whole_back p n = rw (held_all p (n - 1)) refl
+
+-- ---- the cells of a cantus
+
+pitch_is : (bar : ℕ) (cells : List Cell) (p : Pitch) → bar_pitch (bar, cells) ≡ Ok p → whole_note cells ≡ Some p
+pitch_is bar cells p = at (whole_note cells)
+  where
+    at : (o : Option Pitch) → ok_or o (NotWhole (bar + 1)) ≡ Ok p → o ≡ Some p
+    at None e = absurd cc
+    at (Some q) e = cc
+
+-- the next bar, and those behind it
+pub bars_next : (bar bars : ℕ) (cells : List Cell) → bar < bars
+    → bars_from bar (bars - bar) cells ≡ (bar, take 8 cells) ∷ bars_from (bar + 1) (bars - (bar + 1)) (drop 8 cells)
+bars_next bar bars cells more =
     let left : bars - bar ≡ suc (bars - (bar + 1)) = omega arith in
-    rw (left, ← e, add-one bar) (regroup front p (cantus_in notes v (suc bar) (bars - (suc bar))))
+    rw (left, add-one bar) refl
 
-pub cantus_ends : (notes : List Placed) (v bar bars : ℕ) (front : List Pitch) → bar < bars
-    → None ≡ whole_at notes v bar
-    → with_front front (cantus_in notes v bar (bars - bar)) ≡ Err (NotWhole (bar + 1))
-unfolding cantus_in
-cantus_ends notes v bar bars front more e =
-    let left : bars - bar ≡ suc (bars - (bar + 1)) = omega arith in
-    rw (left, ← e) refl
+-- the pitches of bars, one for each, have these cells
+pub cantus_is : (bar n : ℕ) (cells : List Cell) (ps : List Pitch) → each bar_pitch (bars_from bar n cells) ≡ Ok ps
+    → 8 * n ≤ length cells → (length ps ≡ n) × (take (8 * n) cells ≡ cantus_cells ps)
+unfolding each
+cantus_is bar zero cells ps e long =
+    let none : [] ≡ ps = cc in (ap length (sym none), ap cantus_cells none)
+cantus_is bar (suc n) cells ps e long =
+    let parts = each_ok bar_pitch (bar, take 8 cells) (bars_from (suc bar) n (drop 8 cells)) ps e in
+    let later = cantus_is (suc bar) n (drop 8 cells) parts.1 parts.3 (omega (arith, length-drop 8 cells)) in
+    let eight : length (take 8 cells) ≡ 8 = length-take-le 8 cells (omega arith) in
+    let own : take 8 cells ≡ note_cells parts.0 8 =
+    whole_is (take 8 cells) parts.0 (pitch_is bar (take 8 cells) parts.0 parts.2)
+    ∙ ap (note_cells parts.0) eight in
+    let more : 8 * suc n ≡ 8 + 8 * n = omega arith in (
+      ap length (sym parts.4) ∙ ap (λ k. suc k) later.0,
+      ap (λ k. take k cells) more ∙ take-add 8 (8 * n) cells
+          ∙ ap (λ (own : List Cell). own ++ take (8 * n) (drop 8 cells)) own
+          ∙ ap (λ (behind : List Cell). note_cells parts.0 8 ++ behind) later.1
+          ∙ ap cantus_cells parts.4,
+    )
 
-pub cantus_over : (notes : List Placed) (v bar bars : ℕ) (front : List Pitch) → bars ≤ bar
-    → with_front front (cantus_in notes v bar (bars - bar)) ≡ Ok front
-unfolding cantus_in
-cantus_over notes v bar bars front over =
-    let left : bars - bar ≡ 0 = omega arith in
-    rw left (ap (λ (ps : List Pitch). Ok ps) (append-nil front))
+pub cantus_back : (bar : ℕ) (ps : List Pitch) → each bar_pitch (bars_from bar (length ps) (cantus_cells ps)) ≡ Ok ps
+unfolding each
+cantus_back bar [] = refl
+cantus_back bar (p ∷ ps) =
+    each_then bar_pitch (bar, note_cells p 8) (bars_from (suc bar) (length ps) (cantus_cells ps)) p ps
+    (ap (λ (o : Option Pitch). ok_or o (NotWhole (bar + 1))) (whole_back p 8)) (cantus_back (suc bar) ps)
+
+pub length-cantus_cells : (ps : List Pitch) → length (cantus_cells ps) ≡ 8 * length ps
+length-cantus_cells [] = refl
+length-cantus_cells (p ∷ ps) = omega (arith, length-cantus_cells ps)
+
+-- the last cell of a cantus is held
+pub last_held : (p : Pitch) (ps : List Pitch)
+    → (q : Pitch) × (get_or (cantus_cells (p ∷ ps)) (8 * length ps + 7) Rest ≡ Hold q)
+last_held p [] = (p, refl)
+last_held p (r ∷ ps) =
+    let later = last_held r ps in
+    let next : 8 * suc (length ps) + 7 ≡ suc (suc (suc (suc (suc (suc (suc (suc (8 * length ps + 7)))))))) = omega arith in
+    (later.0, ap (λ i. get_or (cantus_cells (p ∷ r ∷ ps)) i Rest) next ∙ later.1)
+
+-- the cell of a cantus at a column
+abbrev cell_at : List Pitch → ℕ → Option Cell
+cell_at cantus i = option_map (cantus_cell i) (slice_get cantus (i / 8))
+
+cell_at-later : (p : Pitch) (ps : List Pitch) (j : ℕ) → cell_at (p ∷ ps) (8 + j) ≡ cell_at ps j
+cell_at-later p ps j =
+    let q : (8 + j) / 8 ≡ suc (j / 8) = omega arith in
+    let r : (8 + j) % 8 ≡ j % 8 = omega arith in
+    ap (λ k. option_map (cantus_cell (8 + j)) (slice_get (p ∷ ps) k)) q
+    ∙ ap (λ m. option_map (λ x. cond (eqb m 0) (Start x) (Hold x)) (slice_get ps (j / 8))) r
+
+pub cantus_cells-at : (cantus : List Pitch) (i : ℕ) → i < 8 * length cantus
+    → option_map (cantus_cell i) (slice_get cantus (i / 8)) ≡ Some (cell_in (cantus_cells cantus) i)
+cantus_cells-at [] i lt = absurd (omega arith)
+cantus_cells-at (p ∷ ps) zero lt = refl
+cantus_cells-at (p ∷ ps) (suc zero) lt = refl
+cantus_cells-at (p ∷ ps) (suc (suc zero)) lt = refl
+cantus_cells-at (p ∷ ps) (suc (suc (suc zero))) lt = refl
+cantus_cells-at (p ∷ ps) (suc (suc (suc (suc zero)))) lt = refl
+cantus_cells-at (p ∷ ps) (suc (suc (suc (suc (suc zero))))) lt = refl
+cantus_cells-at (p ∷ ps) (suc (suc (suc (suc (suc (suc zero)))))) lt = refl
+cantus_cells-at (p ∷ ps) (suc (suc (suc (suc (suc (suc (suc zero))))))) lt = refl
+cantus_cells-at (p ∷ ps) (suc (suc (suc (suc (suc (suc (suc (suc j)))))))) lt =
+    let eight : suc (suc (suc (suc (suc (suc (suc (suc j))))))) ≡ 8 + j = omega arith in
+    ap (cell_at (p ∷ ps)) eight ∙ cell_at-later p ps j ∙ cantus_cells-at ps j (omega (arith, lt))

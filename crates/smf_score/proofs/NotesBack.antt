@@ -68,39 +68,28 @@ rising_sorted rank start (a ∷ b ∷ notes) rising (suc k) d from within =
     ap (λ n. is_before (get_or (a ∷ b ∷ notes) n d) (get_or (b ∷ notes) k d)) next
     ∙ rising_sorted a.rank a.start (b ∷ notes) rising.1 k d (omega arith) (omega arith)
 
-rising_append : (most rank start ended : ℕ) (notes : List Note) (later : List Played) → AreInTurn most ended notes
-    → start ≤ 240 * ended
-    → ((s : ℕ) → AreRising rank s later) → AreRising rank start (map (played_note rank) notes ++ later)
-rising_append most rank start ended [] later turn early behind = behind start
-rising_append most rank start ended (note ∷ notes) later turn early behind =
-    let begun : start ≤ 240 * note.start = omega (arith, turn.0) in
-    let over : 240 * note.start ≤ 240 * (note.start + note.len) = omega arith in (
-      inr (refl, begun),
-      rising_append most rank (240 * note.start) (note.start + note.len) notes later turn.2 over
-          behind,
-    )
+rising_append : (most v ended rank start : ℕ) (notes : List Note) (later : List Played) → AreInTurn most ended notes
+    → (rank < v) ⊎ ((rank ≡ v) × (start ≤ 240 * ended)) → AreRising rank start later
+    → ((s : ℕ) → AreRising v s later) → AreRising rank start (map (played_note v) notes ++ later)
+rising_append most v ended rank start [] later turn first none some = none
+rising_append most v ended rank start (note ∷ notes) later turn first none some = (
+  at first,
+  rising_append most v (note.start + note.len) v (240 * note.start) notes later turn.2
+      (inr (refl, omega arith)) (some (240 * note.start)) some,
+)
+  where
+    at : (rank < v) ⊎ ((rank ≡ v) × (start ≤ 240 * ended)) → (rank < v) ⊎ ((rank ≡ v) × (start ≤ 240 * note.start))
+    at (inl lower) = inl lower
+    at (inr (same, early)) = inr (same, omega (arith, early, turn.0))
 
 rising_voices : (columns : List (List Cell)) (v more rank start : ℕ) → rank ≤ v
     → AreRising rank start (voices_played columns v more)
 rising_voices columns v zero rank start low = tt
 rising_voices columns v (suc more) rank start low =
-    at (voice_notes columns v) (voice_in_turn columns v (length columns) (omega arith))
+    rising_append (length columns) (suc v) 0 rank start (voice_notes columns v) (voices_played columns (suc v) more)
+    (voice_in_turn columns v (length columns) (omega arith)) (inl (omega arith))
     (rising_voices columns (suc v) more rank start (omega arith))
     (λ s. rising_voices columns (suc v) more (suc v) s (omega arith))
-  where
-    later : List Played
-    later = voices_played columns (suc v) more
-
-    at : (notes : List Note) → AreInTurn (length columns) 0 notes → AreRising rank start later
-        → ((s : ℕ) → AreRising (suc v) s later)
-        → AreRising rank start (map (played_note (suc v)) notes ++ later)
-    at [] turn none some = none
-    at (note ∷ notes) turn none some =
-        let over : 240 * note.start ≤ 240 * (note.start + note.len) = omega arith in (
-          inl (omega arith),
-          rising_append (length columns) (suc v) (240 * note.start) (note.start + note.len) notes
-              later turn.2 over some,
-        )
 
 -- the notes stand in order
 pub notes_in_order : (columns : List (List Cell)) (voices : ℕ)

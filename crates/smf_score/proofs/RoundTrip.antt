@@ -6,24 +6,20 @@ use Rattle.fux_grid.specs.Grid.{Grid}
 use Rattle.smf_bytes.specs.declared.chunks.Header.{Header}
 use Rattle.smf_bytes.specs.Events.{File}
 use Rattle.smf_score.specs.declared.fault.SmfFault.{SmfFault}
-use Rattle.smf_score.specs.declared.placed.Placed.{Placed}
 use Rattle.smf_score.specs.declared.played.Layout.{Layout}
 use Rattle.smf_score.specs.declared.played.Played.{Played}
 use Rattle.smf_score.specs.declared.strokes.Stroke.{Stroke}
-use Rattle.smf_score.specs.Exercise.{exercise_in}
-use Rattle.smf_score.specs.Faults.{◌>>=◌}
 use Rattle.smf_score.specs.Order.{IsInOrder}
-use Rattle.smf_score.specs.Placed.{first_line}
-use Rattle.smf_score.specs.Placing.{no_voices}
+use Rattle.smf_score.specs.Placing.{voices_of, voices_placed}
 use Rattle.smf_score.specs.Played.{notes_in}
 use Rattle.smf_score.specs.ReadBack.{IsHeadOf, IsSounding, ReadsBack}
 use Rattle.smf_score.specs.Reading.{IsReading, OfStrokes, exercise_of_notes}
 use Rattle.smf_score.specs.Written.{smf_of}
-use Rattle.smf_score.proofs.ExerciseBack.{exercise_back, is_read_back, read_exercise}
+use Rattle.smf_score.proofs.ExerciseBack.{exercise_back, is_read_back, placed, read_exercise}
+use Rattle.smf_score.proofs.EachLemmas.{value_then}
 use Rattle.smf_score.proofs.FileBack.{file_back, file_header, voices_strokes}
 use Rattle.smf_score.proofs.NotesBack.{all_notes_back, notes_in_order, tracks_are_voices, voices_played}
-use Rattle.smf_score.proofs.PlacesBack.{all_placed, voices_placed}
-use Rattle.smf_score.proofs.PlacingLemmas.{counted, placed_are}
+use Rattle.smf_score.proofs.PlacesBack.{all_placed}
 use Rattle.smf_score.proofs.ReadingLemmas.{reading_once}
 use Rattle.smf_score.proofs.StrokesBack.{tempo_strokes}
 
@@ -33,12 +29,8 @@ notes_read : (ex : Exercise) (score : Grid) (head : Head) (sounding : IsSounding
     ≡ Ok (read_exercise ex score head sounding of)
 unfolding exercise_of_notes
 notes_read ex score head sounding of =
-    let placed =
-    all_placed score.columns 0 ex.voices first_line refl (omega arith) (λ w within. sounding.notes w (omega arith)) in
-    let count : placed.0.voices ≡ ex.voices = omega (arith, placed.1) in
-    ap (λ (r : Result (List Placed × ℕ) SmfFault). r >>= λ x. exercise_in head x.0 x.1)
-    (placed_are 480 no_voices (voices_played score.columns 0 ex.voices) ∙ ap counted placed.2)
-    ∙ ap (λ (n : ℕ). exercise_in head (voices_placed score.columns 0 ex.voices) n) count
+    value_then (voices_placed 480 (voices_of (voices_played score.columns 0 ex.voices))) _
+    (placed ex score head sounding of) (all_placed score.columns ex.voices sounding.notes)
     ∙ exercise_back ex score head sounding of
 
 -- the strokes of its notes are

@@ -1,5 +1,5 @@
 -- The track of a voice that is written has the strokes of its notes (`notes_do`).
-use Rattle.std.proofs.Common.{◌≡◌, ◌≢◌, ℕ, ◌+◌, ◌-◌, ◌*◌, ◌/◌, ◌%◌, ◌<◌, ◌≤◌, ◌^◌, true, false, List, [], ◌∷◌, ◌++◌, length, Option, Some, None, Ok, refl, ◌∙◌, arith, inl, inr, ne_eqb, append_assoc, subst}
+use Rattle.std.proofs.Common.{◌≡◌, ℕ, ◌+◌, ◌-◌, ◌*◌, ◌/◌, ◌%◌, ◌<◌, ◌≤◌, ◌^◌, true, false, List, [], ◌∷◌, ◌++◌, length, Option, Some, None, Ok, refl, ◌∙◌, arith, inl, inr, ne_eqb, append_assoc, subst}
 use Rattle.std.proofs.lemmas.Bool.{le-ltb, lt-ltb}
 use Rattle.std.proofs.lemmas.Int.{ints}
 use Rattle.std.specs.Prelude.{ℤ, pos, negsuc, ◌≤ℤ◌, unsigned_abs}
@@ -30,29 +30,26 @@ message_stands : (running : Option ℕ) (status key velocity : ℕ) (more : List
     → key < 128 → velocity < 128
     → IsRow (event_row running) (status ∷ key ∷ velocity ∷ more)
     (record { message = two_byte_message status key velocity; running = Some status }) more
-message_stands running status key velocity more low high first second =
-    let a : status ≢ 0xFF = λ e. absurd (omega (arith, high, e)) in
-    let b : status ≢ 0xF0 = λ e. absurd (omega (arith, high, e)) in
-    let c : status ≢ 0xF7 = λ e. absurd (omega (arith, high, e)) in
-    let d : status / 16 ≢ 12 = λ e. absurd (omega (arith, high, e)) in
-    let e : status / 16 ≢ 13 = λ e. absurd (omega (arith, high, e)) in (
-      status,
-      key ∷ velocity ∷ more,
-      refl,
-      rw (
-        ne_eqb status 0xFF a,
-        ne_eqb status 0xF0 b,
-        ne_eqb status 0xF7 c,
-        le-ltb status 0x80 low,
-        lt-ltb status 0xF0 (omega arith),
-      ) (
-        key,
-        velocity ∷ more,
-        (refl, first),
-        rw (ne_eqb (status / 16) 12 d, ne_eqb (status / 16) 13 e)
-            (velocity, more, (refl, second), (refl, refl)),
-      ),
-    )
+message_stands running status key velocity more low high first second = (
+  status,
+  key ∷ velocity ∷ more,
+  refl,
+  rw (
+    ne_eqb status 0xFF (λ e. absurd (omega (arith, high, e))),
+    ne_eqb status 0xF0 (λ e. absurd (omega (arith, high, e))),
+    ne_eqb status 0xF7 (λ e. absurd (omega (arith, high, e))),
+    le-ltb status 0x80 low,
+    lt-ltb status 0xF0 (omega arith),
+  ) (
+    key,
+    velocity ∷ more,
+    (refl, first),
+    rw (
+      ne_eqb (status / 16) 12 (λ e. absurd (omega (arith, high, e))),
+      ne_eqb (status / 16) 13 (λ e. absurd (omega (arith, high, e))),
+    ) (velocity, more, (refl, second), (refl, refl)),
+  ),
+)
 
 on_message : (v key : ℕ) → v < 16 → two_byte_message (0x90 + v) key 0x40 ≡ On v key 0x40
 on_message v key few =
@@ -93,14 +90,15 @@ left_of number end tick running rest =
     record { number = number; end = end; tick = tick; running = running; rest = rest }
 
 -- a message of two data bytes, so many ticks later
-key_does : (Behind : Answers → Type 0) (number end tick : ℕ) (running : Option ℕ) (delta status key : ℕ)
-    (message : Message) (more : List ℕ) (strokes : List Stroke) → delta < 2 ^ 21 → 0x80 ≤ status → status < 0xB0
-    → key < 128 → two_byte_message status key 0x40 ≡ message → ends_track message ≡ false
-    → Does (AreOfTrack Behind (left_of number end (tick + delta) (Some status) more)) strokes
+key_does : (Behind : Answers → Type 0) (number end tick after : ℕ) (running : Option ℕ) (delta status key : ℕ)
+    (message : Message) (more : List ℕ) (strokes : List Stroke) → tick + delta ≡ after → delta < 2 ^ 21 → 0x80 ≤ status
+    → status < 0xB0 → key < 128 → two_byte_message status key 0x40 ≡ message → ends_track message ≡ false
+    → Does (AreOfTrack Behind (left_of number end after (Some status) more)) strokes
     → Does (AreOfTrack Behind (left_of number end tick running (quantity delta ++ status ∷ key ∷ 0x40 ∷ more)))
-    (record { track = number; tick = tick + delta; act = act_of message } ∷ strokes)
-key_does Behind number end tick running delta status key message more strokes short low high first is on does =
-    event_does Behind (left_of number end tick running (quantity delta ++ status ∷ key ∷ 0x40 ∷ more)) delta
+    (record { track = number; tick = after; act = act_of message } ∷ strokes)
+key_does Behind number end tick after running delta status key message more strokes later short low high first is on =
+    rw (← later) (event_does Behind
+    (left_of number end tick running (quantity delta ++ status ∷ key ∷ 0x40 ∷ more)) delta
     (record { message = message; running = Some status }) more strokes
     (record {
       behind = status ∷ key ∷ 0x40 ∷ more;
@@ -108,8 +106,7 @@ key_does Behind number end tick running delta status key message more strokes sh
       stands = subst (λ (m : Message). IsRow (event_row running) (status ∷ key ∷ 0x40 ∷ more)
           (record { message = m; running = Some status }) more) is
           (message_stands running status key 0x40 more low high first (omega arith));
-    })
-    on does
+    }) on)
 
 -- a meta event of these bytes, at once
 meta_next : (number end tick : ℕ) (running : Option ℕ) (kind : ℕ) (body more : List ℕ) → length body < 2 ^ 21
@@ -179,23 +176,13 @@ note_does : (Behind : Answers → Type 0) (number end ended : ℕ) (running : Op
     ∷ record { track = number; tick = 240 * (start + len); act = Release v key } ∷ strokes)
 note_does Behind number end ended running v start len key more strokes later short few low does =
     let behind : List ℕ = quantity (240 * len) ++ (0x80 + v) ∷ key ∷ 0x40 ∷ more in
-    let begun : 240 * ended + 240 * (start - ended) ≡ 240 * start = omega arith in
-    let over : 240 * start + 240 * len ≡ 240 * (start + len) = omega arith in
-    let off : Does (AreOfTrack Behind (left_of number end (240 * start) (Some (0x90 + v)) behind))
-    (record { track = number; tick = 240 * (start + len); act = Release v key } ∷ strokes) =
-    subst (λ (t : ℕ). Does (AreOfTrack Behind (left_of number end t (Some (0x80 + v)) more)) strokes
-    → Does (AreOfTrack Behind (left_of number end (240 * start) (Some (0x90 + v)) behind))
-    (record { track = number; tick = t; act = Release v key } ∷ strokes)) over
-    (key_does Behind number end (240 * start) (Some (0x90 + v)) (240 * len) (0x80 + v) key (Off v key) more strokes
-    (omega arith) (omega arith) (omega arith) low (off_message v key few) refl) does in
     let rest = record { track = number; tick = 240 * (start + len); act = Release v key } ∷ strokes in
     rw (note_parts v (start - ended) len key more)
-    (subst (λ (t : ℕ). Does (AreOfTrack Behind (left_of number end t (Some (0x90 + v)) behind)) rest
-    → Does (AreOfTrack Behind (left_of number end (240 * ended) running
-    (quantity (240 * (start - ended)) ++ (0x90 + v) ∷ key ∷ 0x40 ∷ behind)))
-    (record { track = number; tick = t; act = Strike v key } ∷ rest)) begun
-    (key_does Behind number end (240 * ended) running (240 * (start - ended)) (0x90 + v) key (On v key 0x40) behind rest
-    (omega arith) (omega arith) (omega arith) low (on_message v key few) refl) off)
+    (key_does Behind number end (240 * ended) (240 * start) running (240 * (start - ended)) (0x90 + v) key
+    (On v key 0x40) behind rest (omega arith) (omega arith) (omega arith) (omega arith) low (on_message v key few) refl
+    (key_does Behind number end (240 * start) (240 * (start + len)) (Some (0x90 + v)) (240 * len) (0x80 + v) key
+    (Off v key) more strokes (omega arith) (omega arith) (omega arith) (omega arith) low (off_message v key few) refl
+    does))
 
 -- the track of a voice does what its notes do, and then what is behind it does
 pub notes_do : (Behind : Answers → Type 0) (number end ended : ℕ) (running : Option ℕ) (v : ℕ) (notes : List Note)

@@ -1,14 +1,19 @@
--- The cantus of placed notes: in each bar one whole note.
-use Rattle.std.specs.Prelude.{ℕ, zero, suc, ◌+◌, ◌*◌, Bool, true, false, List, [], ◌∷◌, Option, Some, None, Result, Ok, Err, ◌&&◌, if◌then◌else◌}
+-- The cantus of a line of cells: in each bar one whole note.
+use Rattle.std.specs.Prelude.{ℕ, zero, suc, ◌+◌, Bool, false, List, [], ◌∷◌, Option, Some, None, Result, drop, take, if◌then◌else◌}
+use Rattle.std.specs.List.{flat_map, list_all}
+use Rattle.std.specs.Option.{ok_or}
 use Rattle.fux_pitch.specs.declared.pitch.Pitch.{Pitch}
 use Rattle.fux_pitch.specs.Pitch.{same_pitch}
 use Rattle.fux_grid.specs.declared.cell.Cell.{Cell}
 use Rattle.fux_grid.specs.declared.cell.Cell.TheVariants.{Rest, Hold, Start}
 use Rattle.smf_score.specs.declared.fault.SmfFault.{SmfFault}
 use Rattle.smf_score.specs.declared.fault.SmfFault.TheVariants.{NotWhole}
-use Rattle.smf_score.specs.declared.placed.Placed.{Placed}
-use Rattle.smf_score.specs.Faults.{◌>>=◌}
-use Rattle.smf_score.specs.Sounding.{cell_on}
+use Rattle.smf_score.specs.Faults.{each}
+use Rattle.smf_score.specs.Sounding.{note_cells}
+
+-- the cells of a cantus: a whole note in each bar
+abbrev pub cantus_cells : List Pitch → List Cell
+cantus_cells cantus = flat_map (λ p. note_cells p 8) cantus
 
 -- a pitch is held in a cell
 abbrev pub holds : Pitch → Cell → Bool
@@ -16,26 +21,22 @@ holds p Rest = false
 holds p (Start q) = false
 holds p (Hold q) = same_pitch q p
 
--- a pitch is held in so many slots from one on
-abbrev pub held_from : List Placed → ℕ → Pitch → ℕ → ℕ → Bool
-held_from notes v p slot zero = true
-held_from notes v p slot (suc more) = holds p (cell_on notes v slot) && held_from notes v p (slot + 1) more
+-- the pitch that starts in the first of some cells and is held in the others
+abbrev pub whole_note : List Cell → Option Pitch
+whole_note [] = None
+whole_note (Rest ∷ cells) = None
+whole_note (Hold p ∷ cells) = None
+whole_note (Start p ∷ cells) = if list_all (holds p) cells then Some p else None
 
--- the pitch that starts in a cell and is held from then on
-abbrev pub whole_from : List Placed → ℕ → ℕ → Cell → Option Pitch
-whole_from notes v slot Rest = None
-whole_from notes v slot (Hold p) = None
-whole_from notes v slot (Start p) = if held_from notes v p (slot + 1) 7 then Some p else None
+-- the pitch of a bar, counted from 0, with these cells
+abbrev pub bar_pitch : ℕ × List Cell → Result Pitch SmfFault
+bar_pitch (bar, cells) = ok_or (whole_note cells) (NotWhole (bar + 1))
 
--- the pitch of a bar, counted from 0, in which a voice is one whole note
-abbrev pub whole_at : List Placed → ℕ → ℕ → Option Pitch
-whole_at notes v bar = whole_from notes v (8 * bar) (cell_on notes v (8 * bar))
+-- so many bars from one on, with their cells
+abbrev pub bars_from : ℕ → ℕ → List Cell → List (ℕ × List Cell)
+bars_from bar zero cells = []
+bars_from bar (suc more) cells = (bar, take 8 cells) ∷ bars_from (suc bar) more (drop 8 cells)
 
--- the pitches of so many bars from one on, of which the first has this pitch
-abbrev pub cantus_from : ℕ → Option Pitch → Result (List Pitch) SmfFault → Result (List Pitch) SmfFault
-cantus_from bar None later = Err (NotWhole (bar + 1))
-cantus_from bar (Some p) later = later >>= λ ps. Ok (p ∷ ps)
-
-unfoldable pub cantus_in : List Placed → ℕ → ℕ → ℕ → Result (List Pitch) SmfFault
-cantus_in notes v bar zero = Ok []
-cantus_in notes v bar (suc more) = cantus_from bar (whole_at notes v bar) (cantus_in notes v (suc bar) more)
+-- the cantus of so many bars, of which these are the cells, or the first bar that isn't one whole note
+abbrev pub cantus_in : ℕ → List Cell → Result (List Pitch) SmfFault
+cantus_in bars cells = each bar_pitch (bars_from 0 bars cells)

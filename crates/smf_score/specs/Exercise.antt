@@ -1,5 +1,5 @@
 -- The exercise of placed notes, or the fault that they have together.
-use Rattle.std.specs.Prelude.{ℕ, ◌+◌, ◌*◌, ◌/◌, ◌&&◌, List, [], ◌∷◌, Some, Result, Ok, Err, max, min, nat_le, nat_lt, if◌then◌else◌}
+use Rattle.std.specs.Prelude.{ℕ, ◌+◌, ◌*◌, ◌/◌, ◌&&◌, List, [], ◌∷◌, Some, Result, Ok, Err, length, max, min, nat_le, nat_lt, slice_index_or, if◌then◌else◌}
 use Rattle.fux_pitch.specs.declared.pitch.Pitch.{Pitch}
 use Rattle.fux_grid.specs.declared.exercise.Exercise.{Exercise}
 use Rattle.fux_grid.specs.declared.exercise.Head.{Head}
@@ -9,20 +9,25 @@ use Rattle.smf_score.specs.declared.placed.Placed.{Placed}
 use Rattle.smf_score.specs.Faults.{◌>>=◌}
 use Rattle.smf_score.specs.Cantus.{cantus_in}
 use Rattle.smf_score.specs.Ranges.{ranges_in}
-use Rattle.smf_score.specs.Sounding.{columns_on}
+use Rattle.smf_score.specs.Sounding.{lines_of, score_of}
 
--- the slot at which the last note has ended
-abbrev pub last_slot : List Placed → ℕ
+-- the slot at which the last note of a voice has ended
+abbrev pub last_end : List Placed → ℕ
+last_end [] = 0
+last_end (note ∷ notes) = max (last_end notes) note.end
+
+-- the slot at which the last note of all has ended
+abbrev pub last_slot : List (List Placed) → ℕ
 last_slot [] = 0
-last_slot (note ∷ notes) = max (last_slot notes) note.end
+last_slot (notes ∷ voices) = max (last_slot voices) (last_end notes)
 
 -- 3 to 24 bars
 abbrev pub bars_within : ℕ → Result ℕ SmfFault
 bars_within count = if nat_le 3 count && nat_le count 24 then Ok count else Err (Bars count)
 
 -- how many bars there are, the last one whole
-abbrev pub bars_in : List Placed → Result ℕ SmfFault
-bars_in notes = bars_within ((last_slot notes + 7) / 8)
+abbrev pub bars_in : List (List Placed) → Result ℕ SmfFault
+bars_in voices = bars_within ((last_slot voices + 7) / 8)
 
 -- 2 to 4 voices with the cantus and the species voice among them; a file has at most 65,535
 abbrev pub voices_in : Head → ℕ → Result ℕ SmfFault
@@ -30,8 +35,8 @@ voices_in head voices =
     if nat_le 2 voices && (nat_le voices 4 && (nat_lt head.cantus_voice voices && nat_lt head.species_voice voices))
     then Ok voices else Err (VoiceCount (min voices 65535))
 
--- the exercise of so many voices and bars with this cantus, and the notes as its setting
-abbrev pub exercise_with : Head → List Placed → ℕ → ℕ → List Pitch → Exercise
+-- the exercise of so many bars with this cantus, and the notes of its voices as its setting
+abbrev pub exercise_with : Head → List (List Placed) → ℕ → ℕ → List Pitch → Exercise
 exercise_with head notes voices bars cantus = record {
   mode = head.mode;
   voices = voices;
@@ -40,15 +45,16 @@ exercise_with head notes voices bars cantus = record {
   species_voice = head.species_voice;
   cantus_voice = head.cantus_voice;
   cantus = cantus;
-  ranges = ranges_in notes head.cantus_voice 0 voices;
+  ranges = ranges_in head.cantus_voice 0 notes;
   relax = [];
-  setting = Some (record { voices = voices; columns = columns_on notes voices (8 * bars) });
+  given = [];
+  setting = Some (score_of (8 * bars) (lines_of bars notes));
 }
 
--- the exercise of the notes of so many voices
-unfoldable pub exercise_in : Head → List Placed → ℕ → Result Exercise SmfFault
-exercise_in head notes voices = do
-  count ← voices_in head voices
+-- the exercise of the notes of voices
+unfoldable pub exercise_in : Head → List (List Placed) → Result Exercise SmfFault
+exercise_in head notes = do
+  voices ← voices_in head (length notes)
   bars ← bars_in notes
-  cantus ← cantus_in notes head.cantus_voice 0 bars
-  Ok (exercise_with head notes count bars cantus)
+  cantus ← cantus_in bars (slice_index_or (lines_of bars notes) head.cantus_voice [])
+  Ok (exercise_with head notes voices bars cantus)

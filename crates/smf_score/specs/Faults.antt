@@ -1,5 +1,5 @@
 -- Answers with the first fault.
-use Rattle.std.specs.Prelude.{◌≡◌, Result, Ok, Err}
+use Rattle.std.specs.Prelude.{◌≡◌, List, [], ◌∷◌, Result, Ok, Err}
 use Rattle.smf_score.specs.declared.fault.SmfFault.{SmfFault}
 use Rattle.smf_score.specs.declared.fault.SmfFault.TheVariants as faults
 
@@ -8,6 +8,14 @@ infixl 10 ◌>>=◌
 abbrev pub ◌>>=◌ : {A B : Type 0} → Result A SmfFault → (A → Result B SmfFault) → Result B SmfFault
 (Ok x) >>= f = f x
 (Err e) >>= f = Err e
+
+-- what is read of each element of a list in turn, or the first fault
+unfoldable pub each : {X Y : Type 0} → (X → Result Y SmfFault) → List X → Result (List Y) SmfFault
+each read [] = Ok []
+each read (x ∷ xs) = do
+  y ← read x
+  ys ← each read xs
+  Ok (y ∷ ys)
 
 -- a fault other than want of memory is the one that reading gives
 abbrev pub Fails : {Y : Type 0} → SmfFault → Result Y SmfFault → Type 0

@@ -5,7 +5,6 @@ pub mod Faults
 pub mod Heads
 pub mod Lines
 pub mod Order
-pub mod Placed
 pub mod Placing
 pub mod Played
 pub mod Ranges

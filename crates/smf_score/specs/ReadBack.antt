@@ -59,6 +59,7 @@ pub record IsReadBack (ex : Exercise) (score : Grid) (head : Head) (read : Exerc
   pub cantus_voice : read.cantus_voice ≡ ex.cantus_voice
   pub cantus : read.cantus ≡ map respelled ex.cantus
   pub relax : read.relax ≡ []
+  pub given : read.given ≡ []
   pub setting : read.setting ≡ Some (respelled_score score)
 
 -- bytes have this reading and no other

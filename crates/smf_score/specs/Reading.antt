@@ -12,15 +12,15 @@ use Rattle.smf_score.specs.declared.strokes.Stroke.{Stroke}
 use Rattle.smf_score.specs.Exercise.{exercise_in}
 use Rattle.smf_score.specs.Faults.{◌>>=◌}
 use Rattle.smf_score.specs.Order.{IsInOrder}
-use Rattle.smf_score.specs.Placing.{no_voices, notes_placed}
+use Rattle.smf_score.specs.Placing.{voices_of, voices_placed}
 use Rattle.smf_score.specs.Played.{notes_in}
 use Rattle.smf_score.specs.Strokes.{strokes_in}
 
 -- the exercise of notes in order, or the first fault
 unfoldable pub exercise_of_notes : Head → ℕ → List Played → Result Exercise SmfFault
 exercise_of_notes head division notes = do
-  placed ← notes_placed division no_voices notes
-  exercise_in head placed.0 placed.1
+  voices ← voices_placed division (voices_of notes)
+  exercise_in head voices
 
 -- the reading of what the events of a file do to its notes: that of its notes in order
 abbrev pub OfStrokes : Head → File → Result (List Stroke) SmfFault → Result Exercise SmfFault → Type 0

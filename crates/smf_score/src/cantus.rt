@@ -1,15 +1,17 @@
-//! The cantus of placed notes.
+//! The cantus of a line of cells.
 
 ghost use Rattle.std.specs.Prelude.{◌≡◌, ◌+◌, ◌*◌, ◌<◌, ◌≤◌, IfOk, length};
+ghost use Rattle.std.specs.List.{list_all};
 ghost use Rattle.smf_score.specs.Faults.{Gives};
-ghost use Rattle.smf_score.specs.Cantus.{cantus_in, held_from, holds, whole_at};
+ghost use Rattle.smf_score.specs.Cantus.{cantus_in, holds, whole_note};
 
 use crate::fault::SmfFault;
-use crate::grid::cell_of;
-use crate::placed::Placed;
 use fux_grid::Cell;
 use fux_pitch::Pitch;
 use std::alloc::Global;
+
+/// How many slots a bar has.
+const BAR: usize = 8;
 
 /// Whether a pitch is held in a cell.
 fn holds_pitch(cell: Cell, pitch: Pitch) -> bool
@@ -21,47 +23,44 @@ fn holds_pitch(cell: Cell, pitch: Pitch) -> bool
     }
 }
 
-/// Whether a pitch is held in so many slots from one on.
-fn is_held(places: &[Placed], voice: u64, pitch: Pitch, slot: u64, count: u64) -> bool
-    requires { slot + count < 1000 }
-    ensures { result ≡ held_from places.now voice pitch slot count }
+/// Whether a pitch is held in each of some cells.
+fn is_held(cells: &[Cell], pitch: Pitch) -> bool
+    ensures { result ≡ list_all (holds pitch) cells.now }
 {
-    for k in 0..count {
-        if !holds_pitch(cell_of(places, voice, slot + k), pitch) {
+    for cell in cells {
+        if !holds_pitch(*cell, pitch) {
             return false;
         }
     }
     true
 }
 
-/// The pitch of a bar, counted from 0, in which a voice is one whole note.
-fn whole_note(places: &[Placed], voice: u64, bar: u8) -> Option<Pitch>
-    requires { bar < 24 }
-    ensures { result ≡ whole_at places.now voice bar }
+/// The pitch that starts in the first of some cells and is held in the others.
+fn whole_note(cells: &[Cell]) -> Option<Pitch>
+    ensures { result ≡ whole_note cells.now }
 {
-    let slot = 8 * u64::from(bar);
-    match cell_of(places, voice, slot) {
-        Cell::Start(pitch) if is_held(places, voice, pitch, slot + 1, 7) => Some(pitch),
+    let (first, others) = cells.split_first()?;
+    match *first {
+        Cell::Start(pitch) if is_held(others, pitch) => Some(pitch),
         _ => None,
     }
 }
 
-/// The cantus of so many bars, or the first bar in which the voice isn't one whole note.
-pub(crate) fn cantus_of(
-    alloc: Global,
-    places: &[Placed],
-    voice: u64,
-    bars: u8,
-) -> Result<Vec<Pitch>, SmfFault>
-    requires { bars ≤ 24 }
-    ensures { Gives (λ v. v.items) result (cantus_in places.now voice 0 bars) }
+/// The cantus of so many bars, or the first bar that isn't one whole note.
+pub(crate) fn cantus_of(alloc: Global, cells: &[Cell], bars: u8) -> Result<Vec<Pitch>, SmfFault>
+    requires few { bars ≤ 24 }
+    requires long { 8 * bars ≤ length cells.now }
+    ensures { Gives (λ v. v.items) result (cantus_in bars cells.now) }
 {
     let mut cantus = Vec::new(alloc);
+    let mut rest = cells;
     for bar in 0..bars {
-        let Some(pitch) = whole_note(places, voice, bar) else {
+        let (own, later) = rest.split_at(BAR);
+        let Some(pitch) = whole_note(own) else {
             return Err(SmfFault::NotWhole { bar: bar + 1 });
         };
         cantus.push(pitch)?;
+        rest = later;
     }
     Ok(cantus)
 }

@@ -1,56 +1,89 @@
-//! The columns of placed notes.
+//! The cells of placed notes.
 
-ghost use Rattle.std.specs.Prelude.{◌≡◌, ◌*◌, ◌<◌, ◌≤◌, IfOk, length};
-ghost use Rattle.smf_score.specs.Sounding.{AreFollowing, cell_on, column_on, columns_on};
+ghost use Rattle.std.specs.Prelude.{◌≡◌, ◌*◌, ◌<◌, ◌≤◌, [], ◌++◌, IfOk, OnOk, length, replicate, slice_index_or};
+ghost use Rattle.std.specs.List.{AllByRecursion};
+ghost use Rattle.fux_grid.specs.declared.cell.Cell.TheVariants.{Rest};
+ghost use Rattle.smf_score.specs.Sounding.{LineFollows, cells_of, column_of, lines_of, score_of};
 
 use crate::placed::Placed;
-use fux_grid::{Cell, Column, Score};
-use fux_pitch::Memory;
-use std::alloc::Global;
+use fux_grid::{Cell, Column, Score, cell_of};
+use fux_pitch::{List, Memory};
+use std::alloc::{AllocError, Global};
 
-/// The cell of a voice at a slot.
-pub(crate) fn cell_of(places: &[Placed], voice: u64, slot: u64) -> Cell
-    ensures { result ≡ cell_on places.now voice slot }
+/// Appends a cell so many times.
+fn push_times(cells: &mut Vec<Cell>, cell: Cell, count: u64) -> Result<(), AllocError>
+    ensures ok { OnOk result (cells.new.items ≡ cells.old.items ++ replicate count cell) }
 {
-    for placed in places {
-        if placed.voice == voice && placed.start == slot {
-            return Cell::Start(placed.pitch);
-        }
-        if placed.voice == voice && placed.start < slot && slot < placed.end {
-            return Cell::Hold(placed.pitch);
-        }
+    for _ in 0..count {
+        cells.push(cell)?;
     }
-    Cell::Rest
+    Ok(())
 }
 
-/// The column of so many voices at a slot.
-fn column_of(places: &[Placed], voices: u8, slot: u64) -> Column
-    requires { voices ≤ 4 }
-    ensures { result.items ≡ column_on places.now voices slot }
+/// The cells of a voice from the beginning up to a slot.
+fn cells_of(alloc: Global, notes: &[Placed], over: u64) -> Result<Vec<Cell>, AllocError>
+    ensures { IfOk result (λ cells. cells.items ≡ cells_of 0 over notes.now) }
+{
+    let mut cells = Vec::new(alloc);
+    let mut at = 0;
+    for note in notes {
+        push_times(&mut cells, Cell::Rest, note.start.saturating_sub(at))?;
+        cells.push(Cell::Start(note.pitch))?;
+        let len = note.end.saturating_sub(note.start);
+        push_times(&mut cells, Cell::Hold(note.pitch), len.saturating_sub(1))?;
+        at = note.end;
+    }
+    push_times(&mut cells, Cell::Rest, over.saturating_sub(at))?;
+    Ok(cells)
+}
+
+/// The cells of each voice in so many bars.
+pub(crate) fn lines_of(
+    alloc: Global,
+    voices: &[List<Placed>],
+    bars: u8,
+) -> Result<Vec<List<Cell>>, AllocError>
+    ensures { IfOk result (λ lines. lines.items ≡ lines_of bars voices.now) }
+{
+    let mut lines = Vec::new(alloc);
+    for notes in voices {
+        let cells = cells_of(alloc, notes.as_slice(), 8 * u64::from(bars))?;
+        lines.push(List::new(cells))?;
+    }
+    Ok(lines)
+}
+
+/// The cells of a voice.
+pub(crate) fn line_of(lines: &[List<Cell>], voice: u8) -> &[Cell]
+    requires { voice < length lines.now }
+    ensures { result.now ≡ slice_index_or lines.now voice [] }
+{
+    lines[voice as usize].as_slice()
+}
+
+/// The column of lines of cells at a slot.
+fn column_of(lines: &[List<Cell>], slot: usize) -> Column
+    requires { length lines.now ≤ 4 }
+    ensures { result.items ≡ column_of lines.now slot }
 {
     let mut column = Column::new();
-    for v in 0..voices {
-        column.push(cell_of(places, u64::from(v), slot));
+    for line in lines {
+        column.push(cell_of(line.as_slice(), slot));
     }
     column
 }
 
-/// The score of so many voices and bars.
-pub(crate) fn score_of(
-    alloc: Global,
-    places: &[Placed],
-    voices: u8,
-    bars: u8,
-) -> Result<Score, Memory>
-    requires follow { AreFollowing places.now }
-    requires fewest { 2 ≤ voices }
-    requires most { voices ≤ 4 }
+/// The score of lines of cells of so many bars.
+pub(crate) fn score_of(alloc: Global, lines: &[List<Cell>], bars: u8) -> Result<Score, Memory>
+    requires least { 2 ≤ length lines.now }
+    requires most { length lines.now ≤ 4 }
     requires short { bars ≤ 24 }
-    ensures { IfOk result (λ s. s ≡ record { voices = voices; columns = columns_on places.now voices (8 * bars) }) }
+    requires follow { AllByRecursion (LineFollows Rest) lines.now }
+    ensures { IfOk result (λ score. score ≡ score_of (8 * bars) lines.now) }
 {
-    let mut score = Score::new(alloc, voices)?;
-    for i in 0..8 * u64::from(bars) {
-        let _ = score.push(column_of(places, voices, i));
+    let mut score = Score::new(alloc, lines.len() as u8)?;
+    for i in 0..8 * usize::from(bars) {
+        let _ = score.push(column_of(lines, i));
     }
     Ok(score)
 }

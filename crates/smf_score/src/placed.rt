@@ -1,34 +1,25 @@
-//! The notes of a file on the grid.
+//! The notes of a file by voices on the grid.
 
-ghost use Rattle.std.specs.Prelude.{◌≡◌, ◌+◌, ◌*◌, ◌<◌, ◌≤◌, ◌^◌, length, All, IfOk, MatchResult};
+ghost use Rattle.std.specs.Prelude.{◌≡◌, ◌*◌, ◌<◌, ◌≤◌, ◌==◌, ◌^◌, length, All, IfOk, nat_lt};
+ghost use Rattle.std.specs.List.{prefix_len};
+ghost use Rattle.fux_pitch.specs.Spelling.{spelled};
 ghost use Rattle.smf_score.specs.Faults.{Gives};
 ghost use Rattle.smf_score.specs.Played.{IsPlayed};
-ghost use Rattle.smf_score.specs.Sounding.{AreFollowing};
 ghost use Rattle.smf_score.specs.Ranges.{HaveNotes};
-ghost use Rattle.smf_score.specs.Placed.{first_line, place_in, places_in, slot_of, with_note};
-ghost use Rattle.smf_score.specs.Placing.{no_voices, notes_placed};
+ghost use Rattle.smf_score.specs.Placing.{place_spelled, slot_of, voice_placed, voices_of, voices_placed};
 
 use crate::fault::SmfFault;
 use crate::played::Played;
-use fux_pitch::{Pitch, spell};
+use fux_pitch::{List, Pitch, spell};
 use std::alloc::Global;
 
-/// A note on the grid: its voice, counted from 0 at the lowest, the slot at which it starts and the one at which it
-/// has ended, both counted from the beginning, and its pitch.
+/// A note on the grid: the slot at which it starts and the one at which it has ended, both counted from the beginning,
+/// and its pitch.
 #[derive(Clone, Copy)]
 pub(crate) struct Placed {
-    pub(crate) voice: u64,
     pub(crate) start: u64,
     pub(crate) end: u64,
     pub(crate) pitch: Pitch,
-}
-
-/// How far notes were placed: how many voices there are, the rank of the last one, and the slot at which it has ended.
-#[derive(Clone, Copy)]
-pub(crate) struct Progress {
-    pub(crate) voices: u64,
-    pub(crate) rank: u16,
-    pub(crate) ended: u64,
 }
 
 /// The slot of a tick, where a quarter note has so many ticks: the nearest one, the later of two.
@@ -41,105 +32,78 @@ fn slot(division: u16, tick: u64) -> u64
     (4 * tick + division) / (2 * division)
 }
 
-/// Where the voice of a note goes on, or begins.
-fn with_voice(progress: Progress, rank: u16) -> Progress
-    requires { progress.voices + 1 < 2 ^ 63 }
-    ensures { result ≡ with_note progress rank }
-{
-    if progress.voices > 0 && progress.rank == rank {
-        return progress;
-    }
-    Progress {
-        voices: progress.voices + 1,
-        rank,
-        ended: 0,
-    }
-}
-
-/// A note of a voice on the grid, or its fault.
-fn place(division: u16, progress: Progress, note: &Played) -> Result<(Placed, Progress), SmfFault>
+/// A note on the grid, of which the voice has ended at a slot before, or its fault.
+fn place(division: u16, ended: u64, note: &Played) -> Result<Placed, SmfFault>
     requires division { 0 < division }
     requires note { IsPlayed note.now }
-    requires voices { progress.voices + 1 < 2 ^ 63 }
-    ensures value { result ≡ place_in division progress note.now }
-    ensures slow { IfOk result (λ x. x.1.voices ≤ progress.voices + 1) }
+    ensures value { result ≡ place_spelled division (nat_lt (slot_of division note.now.start) ended) note.now
+        (spelled note.now.key) }
+    ensures end { IfOk result (λ placed. placed.end ≡ slot_of division note.now.end) }
 {
+    let track = note.track;
+    let tick = note.start;
     let Some(pitch) = spell(note.key) else {
-        return Err(SmfFault::Key {
-            track: note.track,
-            tick: note.start,
-        });
+        return Err(SmfFault::Key { track, tick });
     };
-    let line = with_voice(progress, note.rank);
     let start = slot(division, note.start);
     let end = slot(division, note.end);
     if end <= start {
-        return Err(SmfFault::ZeroNote {
-            track: note.track,
-            tick: note.start,
-        });
+        return Err(SmfFault::ZeroNote { track, tick });
     }
-    if start < line.ended {
-        return Err(SmfFault::Overlap {
-            track: note.track,
-            tick: note.start,
-        });
+    if start < ended {
+        return Err(SmfFault::Overlap { track, tick });
     }
-    let placed = Placed {
-        voice: line.voices - 1,
-        start,
-        end,
-        pitch,
-    };
-    Ok((
-        placed,
-        Progress {
-            ended: line.ended.max(end),
-            ..line
-        },
-    ))
+    Ok(Placed { start, end, pitch })
 }
 
-/// The notes in order on the grid, and how far they were placed, or the first fault.
-fn place_all(
-    alloc: Global,
-    division: u16,
-    notes: &[Played],
-) -> Result<(Vec<Placed>, Progress), SmfFault>
+/// The notes of a voice on the grid, or its first note at fault.
+fn place_voice(alloc: Global, division: u16, notes: &[Played]) -> Result<Vec<Placed>, SmfFault>
     requires division { 0 < division }
     requires notes { All IsPlayed notes.now }
-    requires few { length notes.now < 2 ^ 63 }
-    ensures value { Gives (λ x. (x.0.items, x.1)) result (places_in division first_line notes.now) }
-    ensures follow { IfOk result (λ x. AreFollowing x.0.items) }
-    ensures notes { IfOk result (λ x. HaveNotes x.0.items x.1.voices) }
+    ensures value { Gives (λ v. v.items) result (voice_placed division notes.now) }
+    ensures each { IfOk result (λ v. length v.items ≡ length notes.now) }
 {
     let mut places = Vec::new(alloc);
-    let mut progress = Progress {
-        voices: 0,
-        rank: 0,
-        ended: 0,
-    };
+    let mut ended = 0;
     for note in notes {
-        let (placed, next) = place(division, progress, note)?;
+        let placed = place(division, ended, note)?;
+        ended = ended.max(placed.end);
         places.push(placed)?;
-        progress = next;
     }
-    Ok((places, progress))
+    Ok(places)
 }
 
-/// The notes in order on the grid, and how many voices there are, or the first fault.
+/// How many of the first notes are of the voice of a rank.
+fn run_of(notes: &[Played], rank: u16) -> usize
+    ensures value { result ≡ prefix_len (λ note. note.rank == rank) notes.now }
+    ensures within { result ≤ length notes.now }
+{
+    for i in 0..notes.len() {
+        if notes[i].rank != rank {
+            return i;
+        }
+    }
+    notes.len()
+}
+
+/// The notes in order by voices on the grid, or the first note at fault.
 pub(crate) fn places_of(
     alloc: Global,
     division: u16,
     notes: &[Played],
-) -> Result<(Vec<Placed>, u64), SmfFault>
+) -> Result<Vec<List<Placed>>, SmfFault>
     requires division { 0 < division }
     requires notes { All IsPlayed notes.now }
-    requires few { length notes.now < 2 ^ 63 }
-    ensures value { Gives (λ x. (x.0.items, x.1)) result (notes_placed division no_voices notes.now) }
-    ensures follow { IfOk result (λ x. AreFollowing x.0.items) }
-    ensures notes { IfOk result (λ x. HaveNotes x.0.items x.1) }
+    ensures value { Gives (λ v. v.items) result (voices_placed division (voices_of notes.now)) }
+    ensures notes { IfOk result (λ v. HaveNotes v.items) }
 {
-    let (places, progress) = place_all(alloc, division, notes)?;
-    Ok((places, progress.voices))
+    let mut voices = Vec::new(alloc);
+    let mut rest = notes;
+    while let Some((first, others)) = rest.split_first() {
+        let (own, later) = rest.split_at(1 + run_of(others, first.rank));
+        let voice = place_voice(alloc, division, own)?;
+        voices.push(List::new(voice))?;
+        rest = later;
+    }
+    Ok(voices)
 }

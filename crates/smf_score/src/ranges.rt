@@ -1,11 +1,11 @@
-//! The ranges of placed notes.
+//! The ranges of the voices of placed notes.
 
-ghost use Rattle.std.specs.Prelude.{◌≡◌, ◌++◌, IfOk, OnOk, length};
+ghost use Rattle.std.specs.Prelude.{◌≡◌, ◌≤◌, ◌++◌, IfOk, OnOk, length};
 ghost use Rattle.smf_score.specs.Ranges.{free_range, range_in, ranges_in, higher, lower, widened};
 
 use crate::placed::Placed;
 use fux_grid::RangeLine;
-use fux_pitch::{Pitch, semitone};
+use fux_pitch::{List, Pitch, semitone};
 use std::alloc::{AllocError, Global};
 
 /// The lower of two pitches.
@@ -38,17 +38,15 @@ fn with_pitch(voice: u8, pitch: Pitch, line: Option<RangeLine>) -> RangeLine
     }
 }
 
-/// The range of a voice from its lowest to its highest pitch, where it has a note.
-fn range_of(places: &[Placed], voice: u8) -> Option<RangeLine>
-    ensures { result ≡ range_in voice places.now }
+/// The range of the notes of a voice from the lowest to the highest pitch, where there is one.
+fn range_of(voice: u8, notes: &[Placed]) -> Option<RangeLine>
+    ensures { result ≡ range_in voice notes.now }
 {
     let mut line = None;
-    let mut i = places.len();
+    let mut i = notes.len();
     while i > 0 {
         i -= 1;
-        if places[i].voice == u64::from(voice) {
-            line = Some(with_pitch(voice, places[i].pitch, line));
-        }
+        line = Some(with_pitch(voice, notes[i].pitch, line));
     }
     line
 }
@@ -56,33 +54,33 @@ fn range_of(places: &[Placed], voice: u8) -> Option<RangeLine>
 /// Appends the range of a voice, unless it is the cantus.
 fn push_range(
     lines: &mut Vec<RangeLine>,
-    places: &[Placed],
-    voice: u8,
     cantus_voice: u8,
+    voice: u8,
+    notes: &[Placed],
 ) -> Result<(), AllocError>
-    ensures ok { OnOk result (lines.new.items ≡ lines.old.items ++ free_range places.now cantus_voice voice) }
+    ensures ok { OnOk result (lines.new.items ≡ lines.old.items ++ free_range cantus_voice voice notes.now) }
 {
     if voice == cantus_voice {
         return Ok(());
     }
-    if let Some(line) = range_of(places, voice) {
+    if let Some(line) = range_of(voice, notes) {
         lines.push(line)?;
     }
     Ok(())
 }
 
-/// The ranges of so many voices without the cantus, from the lowest voice on.
+/// The ranges of the voices without the cantus, from the lowest voice on.
 pub(crate) fn ranges_of(
     alloc: Global,
-    places: &[Placed],
-    voices: u8,
     cantus_voice: u8,
+    voices: &[List<Placed>],
 ) -> Result<Vec<RangeLine>, AllocError>
-    ensures { IfOk result (λ lines. lines.items ≡ ranges_in places.now cantus_voice 0 voices) }
+    requires { length voices.now ≤ 4 }
+    ensures { IfOk result (λ lines. lines.items ≡ ranges_in cantus_voice 0 voices.now) }
 {
     let mut lines = Vec::new(alloc);
-    for v in 0..voices {
-        push_range(&mut lines, places, v, cantus_voice)?;
+    for v in 0..voices.len() {
+        push_range(&mut lines, cantus_voice, v as u8, voices[v].as_slice())?;
     }
     Ok(lines)
 }

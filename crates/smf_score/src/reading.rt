@@ -32,12 +32,11 @@ fn read_notes(
     requires head { IsHead head.now }
     requires division { 0 < division }
     requires notes { All IsPlayed notes.now }
-    requires few { length notes.now < 2 ^ 63 }
     ensures value { Gives (λ ex. ex) result (exercise_of_notes head.now division notes.now) }
     ensures valid { IfOk result IsValid }
 {
-    let (places, voices) = places_of(alloc, division, notes)?;
-    exercise_of(alloc, head, &places, voices)
+    let voices = places_of(alloc, division, notes)?;
+    exercise_of(alloc, head, &voices)
 }
 
 /// The exercise of the events of a file.
