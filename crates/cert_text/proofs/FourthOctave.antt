@@ -1,21 +1,20 @@
 -- Each letter has a pitch in the fourth octave, alone and with a sign (`natural-four`, `sharp-four`, `flat-four`).
-use Rattle.std.proofs.Common.{◌≡◌, ℕ, zero, suc, ◌+◌, ◌-◌, ◌<◌, ◌≤◌, ℤ, pos, negsuc, true, [], ◌∷◌, refl, ap, subst, arith}
-use Rattle.std.specs.Prelude.{is_some}
+use Rattle.std.proofs.Common.{◌≡◌, ℕ, zero, suc, ◌+◌, ◌-◌, ◌<◌, ◌≤◌, ℤ, pos, negsuc, true, List, [], ◌∷◌, refl, subst, arith}
 use Rattle.fux_pitch.specs.declared.pitch.Pitch.{Pitch}
 use Rattle.fux_pitch.specs.Key.{IsPitch-from_test, has_pitch}
 use Rattle.fux_pitch.specs.Names.{name_of}
-use Rattle.fux_text.proofs.OwnWords.{pitch-own}
-use Rattle.cert_text.specs.Places.{is_pitch}
 
 abbrev pitch_from : (degree : ℕ) (alter : ℤ) → has_pitch degree alter ≡ true → Pitch
 pitch_from degree alter e = record { degree = degree; alter = alter; is_pitch = IsPitch-from_test degree alter e }
 
-spelled : (degree : ℕ) (alter : ℤ) (e : has_pitch degree alter ≡ true) → is_pitch (name_of (pitch_from degree alter e))
-    ≡ true
-unfolding is_pitch
-spelled degree alter e = ap is_some (pitch-own (pitch_from degree alter e))
+-- the text is a pitch's name
+abbrev pub Names : List ℕ → Type 0
+Names text = (p : Pitch) × (name_of p ≡ text)
 
-naturals : (k : ℕ) → k < 7 → is_pitch ((65 + k) ∷ 52 ∷ []) ≡ true
+spelled : (degree : ℕ) (alter : ℤ) (e : has_pitch degree alter ≡ true) → Names (name_of (pitch_from degree alter e))
+spelled degree alter e = (pitch_from degree alter e, refl)
+
+naturals : (k : ℕ) → k < 7 → Names ((65 + k) ∷ 52 ∷ [])
 unfolding name_of
 naturals zero h = spelled 33 (pos 0) refl
 naturals (suc zero) h = spelled 34 (pos 0) refl
@@ -26,7 +25,7 @@ naturals (suc (suc (suc (suc (suc zero))))) h = spelled 31 (pos 0) refl
 naturals (suc (suc (suc (suc (suc (suc zero)))))) h = spelled 32 (pos 0) refl
 naturals (suc (suc (suc (suc (suc (suc (suc k))))))) h = absurd (omega (arith, h))
 
-sharps : (k : ℕ) → k < 7 → is_pitch ((65 + k) ∷ 35 ∷ 52 ∷ []) ≡ true
+sharps : (k : ℕ) → k < 7 → Names ((65 + k) ∷ 35 ∷ 52 ∷ [])
 unfolding name_of
 sharps zero h = spelled 33 (pos 1) refl
 sharps (suc zero) h = spelled 34 (pos 1) refl
@@ -37,7 +36,7 @@ sharps (suc (suc (suc (suc (suc zero))))) h = spelled 31 (pos 1) refl
 sharps (suc (suc (suc (suc (suc (suc zero)))))) h = spelled 32 (pos 1) refl
 sharps (suc (suc (suc (suc (suc (suc (suc k))))))) h = absurd (omega (arith, h))
 
-flats : (k : ℕ) → k < 7 → is_pitch ((65 + k) ∷ 98 ∷ 52 ∷ []) ≡ true
+flats : (k : ℕ) → k < 7 → Names ((65 + k) ∷ 98 ∷ 52 ∷ [])
 unfolding name_of
 flats zero h = spelled 33 (negsuc 0) refl
 flats (suc zero) h = spelled 34 (negsuc 0) refl
@@ -54,11 +53,11 @@ by_letter P each letter least most =
     let same : 65 + (letter - 65) ≡ letter = omega (arith, least) in
     subst P same (each (letter - 65) (omega (arith, least, most)))
 
-pub natural-four : (letter : ℕ) → 65 ≤ letter → letter ≤ 71 → is_pitch (letter ∷ 52 ∷ []) ≡ true
-natural-four = by_letter (λ letter. is_pitch (letter ∷ 52 ∷ []) ≡ true) naturals
+pub natural-four : (letter : ℕ) → 65 ≤ letter → letter ≤ 71 → Names (letter ∷ 52 ∷ [])
+natural-four = by_letter (λ letter. Names (letter ∷ 52 ∷ [])) naturals
 
-pub sharp-four : (letter : ℕ) → 65 ≤ letter → letter ≤ 71 → is_pitch (letter ∷ 35 ∷ 52 ∷ []) ≡ true
-sharp-four = by_letter (λ letter. is_pitch (letter ∷ 35 ∷ 52 ∷ []) ≡ true) sharps
+pub sharp-four : (letter : ℕ) → 65 ≤ letter → letter ≤ 71 → Names (letter ∷ 35 ∷ 52 ∷ [])
+sharp-four = by_letter (λ letter. Names (letter ∷ 35 ∷ 52 ∷ [])) sharps
 
-pub flat-four : (letter : ℕ) → 65 ≤ letter → letter ≤ 71 → is_pitch (letter ∷ 98 ∷ 52 ∷ []) ≡ true
-flat-four = by_letter (λ letter. is_pitch (letter ∷ 98 ∷ 52 ∷ []) ≡ true) flats
+pub flat-four : (letter : ℕ) → 65 ≤ letter → letter ≤ 71 → Names (letter ∷ 98 ∷ 52 ∷ [])
+flat-four = by_letter (λ letter. Names (letter ∷ 98 ∷ 52 ∷ [])) flats

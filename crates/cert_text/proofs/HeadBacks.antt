@@ -1,34 +1,26 @@
 -- One head at most stands at the front of bytes (`heads_are_one`), whatever stands behind it (`heads_before`), and its
 -- text is short (`heads_are_brief`), so that a long front of bytes tells where none goes on (`stops_whole`).
-use Rattle.std.proofs.Common.{◌≡◌, ℕ, ◌+◌, ◌*◌, ◌/◌, ◌%◌, ◌≤◌, ◌<◌, ◌^◌, Bool, true, false, List, [], ◌∷◌, ◌++◌, length, length-append, take, Option, Some, None, Result, Ok, refl, sym, ap, subst, ◌∙◌, arith}
-use Rattle.std.specs.Prelude.{◌==◌, not, codes, if◌then◌else◌}
+use Rattle.std.proofs.Common.{◌≡◌, ℕ, ◌+◌, ◌≤◌, ◌<◌, ◌^◌, List, ◌∷◌, ◌++◌, length, length-append, take, Option, Some, None, Result, Ok, refl, sym, ap, subst, ◌∙◌, arith}
+use Rattle.std.specs.Prelude.{codes}
 use Rattle.std.specs.Fmt.{decimal}
-use Rattle.std.specs.List.{range_with_len}
-use Rattle.std.proofs.lemmas.Bool.Decides.{nat_tests}
 use Rattle.std.proofs.lemmas.Fmt.{length-decimal-le}
 use Rattle.std.proofs.lemmas.List.{append_cancel_left, append_cancel_right, length-take, length-take-le, take-append-le, take-take}
-use Rattle.std.proofs.lemmas.List.FromFn.{length-range_with_len}
-use Rattle.std.proofs.lemmas.List.Sums.{count_by-le-length, length-filter}
-use Rattle.fux_pitch.proofs.NameLemmas.{name_of-length}
-use Rattle.fux_grid.specs.declared.cell.Cell.{Cell}
-use Rattle.fux_grid.specs.declared.cell.Cell.TheVariants.{Rest, Hold, Start}
 use Rattle.fux_grid.specs.declared.exercise.Exercise.{Exercise}
 use Rattle.fux_grid.specs.Exercises.{IsValid}
 use Rattle.fux_grid.specs.Grid.{Grid}
 use Rattle.text_lines.specs.Faults.{Fault}
-use Rattle.fux_text.specs.Items.{item_name}
-use Rattle.fux_text.specs.Lines.{free_voices}
 use Rattle.fux_text.specs.Reading.{setting_alone}
-use Rattle.fux_text.specs.Sing.{held}
 use Rattle.fux_text.specs.Texts.{AreSingLinesOf}
 use Rattle.fux_text.proofs.ReadTexts.{lines-read}
 use Rattle.cert_text.specs.declared.answers.CertHead.{CertHead}
 use Rattle.cert_text.specs.declared.answers.CertHead.TheVariants.{Best, Nothing}
 use Rattle.cert_text.specs.HeadTexts.{BeginsText, HasLines, Heads, TextStops, penalty_of}
-use Rattle.cert_text.specs.Places.{sing_bytes}
-use Rattle.cert_text.specs.SingItems.{AreLines, Fits, IsHeadText, behind_text, best_text, claims_text, item_text, items_text, line_text, lines_text, opening_text}
+use Rattle.cert_text.specs.HeadRows.{claims_text, opening_text}
+use Rattle.cert_text.specs.SingItems.{IsHeadText, best_text}
 use Rattle.cert_text.specs.WrittenLines.{HeadTextsAreShort, HeadsAreOne}
-use Rattle.cert_text.proofs.Stopping.{same-head}
+use Rattle.cert_text.proofs.HeadStops.{same-head}
+use Rattle.cert_text.proofs.ItemTexts.{item_lines-short}
+use Rattle.cert_text.proofs.SungScores.{written-are_items}
 
 -- ---- one head
 
@@ -70,7 +62,7 @@ pub heads_are_one : (ex : Exercise) (bytes : List ℕ) (h k : CertHead) (n m : �
     → Heads ex bytes h n → Heads ex bytes k m → (h ≡ k) × (n ≡ m)
 heads_are_one ex bytes h k n m valid one other =
     let same =
-    same-head ex bytes n m (penalty_of h) (penalty_of k) valid one.within other.within one.text other.text in (
+    same-head ex valid bytes n m (penalty_of h) (penalty_of k) one.within other.within one.text other.text in (
       same_setting ex (take n bytes) h k valid same.1 one.setting
           (subst (λ i. HasLines ex (take i bytes) k) (sym same.0) other.setting),
       same.0,
@@ -91,89 +83,6 @@ heads_before ex front rest h heads =
 
 -- ---- how long a head is
 
-name-short : (c : Cell) → length (item_name c) ≤ 3
-name-short Rest = omega arith
-name-short (Hold p) = omega arith
-name-short (Start p) = (name_of-length p).1
-
-item-short : (item : Cell × ℕ) → length (item_text item) ≤ 5
-item-short item =
-    omega (arith, length-append (item_name item.0) (58 ∷ (48 + item.1) ∷ []), name-short item.0)
-
--- an item has at most five bytes, with a space or a feed behind it, or a bar line at the end of its bar
-items-short : (bars i : ℕ) (before : Cell) (items : List (Cell × ℕ)) → Fits bars i before items
-    → length (items_text bars i items) + 6 * i + 2 * (i / 8) ≤ 50 * bars
-items-short bars i before [] fits = omega (arith, fits)
-items-short bars i before (item ∷ items) fits =
-    by (i + item.1 == 8 * bars) refl ((i + item.1) % 8 == 0) refl
-    (items-short bars (i + item.1) (held item.0) items fits.3)
-  where
-    j : ℕ
-    j = i + item.1
-
-    rest : List ℕ
-    rest = items_text bars j items
-
-    by : (last : Bool) → (j == 8 * bars) ≡ last → (whole : Bool) → (j % 8 == 0) ≡ whole
-        → length rest + 6 * j + 2 * (j / 8) ≤ 50 * bars
-        → length (item_text item ++ (behind_text bars j ++ rest)) + 6 * i + 2 * (i / 8) ≤ 50 * bars
-    by true e whole f more =
-        let long = length-append (item_text item) (10 ∷ rest) in
-        rw e (omega (arith, long, item-short item, fits.1, more))
-    by false e true f more =
-        let end : (i + item.1) % 8 ≡ 0 = grind (arith, nat_tests) in
-        let long = length-append (item_text item) (codes " | " ++ rest) in
-        rw (e, f) (omega (arith, long, item-short item, fits.1, end, more))
-    by false e false f more =
-        let long = length-append (item_text item) (codes " " ++ rest) in
-        rw (e, f) (omega (arith, long, item-short item, fits.1, more))
-
-sing-short : (v : ℕ) → length (sing_bytes v) ≤ 7
-sing-short v = by (v == 0) (v == 1) (v == 2)
-  where
-    by : (a b c : Bool) → length
-        (if a then codes "sing 0 " else
-        (if b then codes "sing 1 " else (if c then codes "sing 2 " else codes "sing 3 "))) ≤ 7
-    by true b c = omega arith
-    by false true c = omega arith
-    by false false true = omega arith
-    by false false false = omega arith
-
-line-short : (ex : Exercise) (v : ℕ) (items : List (Cell × ℕ)) → ex.bars ≤ 24 → Fits ex.bars 0 Rest items
-    → length (line_text ex v items) ≤ 1207
-line-short ex v items few fits =
-    omega (
-      arith,
-      length-append (sing_bytes v) (items_text ex.bars 0 items),
-      sing-short v,
-      items-short ex.bars 0 Rest items fits,
-      few,
-    )
-
-lines-short : (ex : Exercise) (sung : ℕ → List (Cell × ℕ)) (voices : List ℕ) → ex.bars ≤ 24
-    → ((v : ℕ) → Fits ex.bars 0 Rest (sung v)) → length (lines_text ex sung voices) ≤ 1207 * length voices
-lines-short ex sung [] few fits = omega arith
-lines-short ex sung (v ∷ voices) few fits =
-    omega (
-      arith,
-      length-append (line_text ex v (sung v)) (lines_text ex sung voices),
-      line-short ex v (sung v) few (fits v),
-      lines-short ex sung voices few fits,
-    )
-
--- the lines of a head have at most 4,828 bytes, four lines of 1,207
-pub item_lines-short : (ex : Exercise) (lines : List ℕ) → IsValid ex → AreLines ex lines → length lines ≤ 4828
-item_lines-short ex lines valid are =
-    omega (
-      arith,
-      ap length are.text,
-      lines-short ex are.sung (free_voices ex) valid.most_bars are.fits,
-      length-filter (λ v. not (v == ex.cantus_voice)) (range_with_len 0 ex.voices),
-      count_by-le-length (λ v. not (v == ex.cantus_voice)) (range_with_len 0 ex.voices),
-      length-range_with_len 0 ex.voices,
-      valid.most_voices,
-    )
-
 best-short : (penalty : ℕ) (lines : List ℕ) → penalty < 2 ^ 64 → length (best_text penalty lines) ≤ 44 + length lines
 best-short penalty lines below =
     let number : length (decimal penalty) ≤ 20 =
@@ -191,7 +100,8 @@ heads_are_brief ex text (Some penalty) valid is =
       arith,
       ap length is.text,
       best-short penalty is.lines is.below,
-      item_lines-short ex is.lines valid is.canonical,
+      item_lines-short ex is.lines valid
+          (written-are_items ex is.canonical.0 is.lines valid is.canonical.1),
     )
 
 -- ---- a front as long as a head can be

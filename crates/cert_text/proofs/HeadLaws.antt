@@ -13,17 +13,17 @@ use Rattle.cert_text.specs.declared.answers.CertFault.TheVariants.{Memory}
 use Rattle.cert_text.specs.declared.answers.CertHead.{CertHead}
 use Rattle.cert_text.specs.declared.answers.CertHead.TheVariants.{Best, Nothing}
 use Rattle.cert_text.specs.HeadTexts.{Heads, penalty_of}
-use Rattle.cert_text.specs.SingItems.{best_text}
-use Rattle.cert_text.specs.WrittenLines.{AreWrittenOf, BestHeadsAreWritten, BestTextsAreWritten, IsBestOf, TextsAreOfHeads}
+use Rattle.cert_text.specs.SingItems.{AreWrittenOf, best_text}
+use Rattle.cert_text.specs.WrittenLines.{BestHeadsAreWritten, BestTextsAreWritten, IsBestOf, TextsAreOfHeads}
 use Rattle.cert_text.proofs.HeadBacks.{heads_are_one, lines_are_of_one, same_lines}
-use Rattle.cert_text.proofs.SungScores.{items-are_read, items-are_written, written-are_items, written-lines_read}
+use Rattle.cert_text.proofs.SungScores.{written-lines_read}
 
 -- ---- what is written of a head
 
 pub best-texts_written : BestTextsAreWritten
 best-texts_written ex text penalty valid = (
   λ is.
-      let written = items-are_written ex is.lines valid is.canonical in (
+      let written = is.canonical in (
         is.below,
         written.0,
         record { setting = written.1.setting; written = is.text ∙ ap (best_text penalty) written.1.written },
@@ -31,8 +31,7 @@ best-texts_written ex text penalty valid = (
   λ written. record {
     below = written.0;
     lines = sing_lines ex written.1.columns;
-    canonical = written-are_items ex written.1 (sing_lines ex written.1.columns) valid
-        (record { setting = written.2.setting; written = refl });
+    canonical = (written.1, record { setting = written.2.setting; written = refl });
     text = written.2.written;
   },
 )
@@ -43,7 +42,7 @@ best-from : (ex : Exercise) (bytes : List ℕ) (penalty : ℕ) (score : Grid) (n
 best-from ex bytes penalty score n valid heads =
     let is = heads.text in
     let lines = heads.setting.0 in
-    let written = items-are_written ex is.lines valid is.canonical in
+    let written = is.canonical in
     let same : is.lines ≡ lines = same_lines penalty is.lines lines (sym is.text ∙ heads.setting.1) in
     let own : AreSingLinesOf ex is.lines score = subst (λ xs. AreSingLinesOf ex xs score) (sym same) heads.setting.2 in
     let one : written.0 ≡ score =
@@ -61,7 +60,7 @@ best-to ex bytes penalty score n valid within below is =
       text = record {
         below = below;
         lines = lines;
-        canonical = written-are_items ex score lines valid written;
+        canonical = (score, written);
         text = is.written;
       };
       setting = (lines, is.written, written-lines_read ex lines score valid written);
@@ -78,10 +77,10 @@ best-heads_written ex bytes penalty score n valid = (
 pub texts-of_heads : TextsAreOfHeads
 texts-of_heads ex bytes n None valid within is = (Nothing, refl, record { within = within; text = is; setting = tt })
 texts-of_heads ex bytes n (Some penalty) valid within is =
-    let read = items-are_read ex is.lines valid is.canonical in (
-      Best penalty read.0,
+    let lines = is.canonical in (
+      Best penalty lines.0,
       refl,
-      record { within = within; text = is; setting = (is.lines, is.text, read.1) },
+      record { within = within; text = is; setting = (is.lines, is.text, written-lines_read ex is.lines lines.0 valid lines.1) },
     )
 
 -- the answer is this head, of so many bytes, or tells of want of memory

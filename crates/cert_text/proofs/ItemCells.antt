@@ -12,7 +12,8 @@ use Rattle.fux_text.specs.Sing.{FollowsFrom, held, item_cells}
 use Rattle.fux_text.proofs.Following.{held-follows, rest-follows}
 use Rattle.fux_text.proofs.OnlySing.{item_cells-length}
 use Rattle.fux_text.proofs.OwnItems.{follows-held}
-use Rattle.cert_text.specs.SingItems.{Fits, can_stand}
+use Rattle.cert_text.specs.HeadRows.{can_stand}
+use Rattle.cert_text.proofs.ItemTexts.{Fits}
 
 -- ---- their number
 

@@ -4,17 +4,18 @@ use Rattle.std.proofs.Common.{◌≡◌, ◌≢◌, ℕ, Bool, true, false, nat_
 use Rattle.std.specs.Fmt.{decimal}
 use Rattle.std.proofs.lemmas.Bool.Decides.{nat_tests}
 use Rattle.std.proofs.lemmas.Fmt.{decimal_digit, decimal_step}
+use Rattle.fux_grid.specs.Exercises.{greatest_rule}
 use Rattle.cert_text.specs.declared.claim.Claim.{Claim}
 use Rattle.cert_text.specs.declared.claim.Claim.TheVariants.{Open, Broken, NoChain, Floor, TheScore}
 use Rattle.cert_text.specs.Lines.{BeginsClaim, HasNoFeed, IsClaim, claim_line, claim_word}
 
 -- a number of two digits
-pub two_digits : (n : ℕ) → 10 ≤ n → n ≤ 26 → decimal n ≡ (48 + n / 10) ∷ (48 + n % 10) ∷ []
+pub two_digits : (n : ℕ) → 10 ≤ n → n ≤ greatest_rule → decimal n ≡ (48 + n / 10) ∷ (48 + n % 10) ∷ []
 two_digits n low high =
     decimal_step n low (omega arith) ∙ ap (λ tens. tens ++ (48 + n % 10) ∷ []) (decimal_digit (n / 10) (omega arith))
 
 -- a number and one more digit
-pub longer_rule : (rule byte longer : ℕ) → longer + 48 ≡ 10 * rule + byte → 10 ≤ longer → longer ≤ 26
+pub longer_rule : (rule byte longer : ℕ) → longer + 48 ≡ 10 * rule + byte → 10 ≤ longer → longer ≤ greatest_rule
     → 48 ≤ byte → byte ≤ 57
     → decimal longer ≡ decimal rule ++ byte ∷ []
 longer_rule rule byte longer same low high least most =
@@ -24,7 +25,7 @@ longer_rule rule byte longer same low high least most =
     ∙ ap (λ b. decimal rule ++ b ∷ []) ones
 
 -- a number is written with one digit or with two
-digits_of : (n : ℕ) → n ≤ 26
+digits_of : (n : ℕ) → n ≤ greatest_rule
     → ((n < 10) × (decimal n ≡ (48 + n) ∷ [])) ⊎ ((10 ≤ n) × (decimal n ≡ (48 + n / 10) ∷ (48 + n % 10) ∷ []))
 digits_of n high = at (nat_lt n 10) refl
   where
@@ -53,8 +54,8 @@ digit_begun byte b = at b.claim b.fits b.rest b.whole
         (digits_of n high)
 
 -- two numbers of rules, of which one is followed by a byte that doesn't end the line
-rules_differ : (rule n byte : ℕ) (rest : List ℕ) → 1 ≤ rule → rule ≤ 26 → n ≤ 26 → byte ≢ 10
-    → ((digit : ℕ) → digit < 10 → byte ≡ 48 + digit → 26 < 10 * rule + digit)
+rules_differ : (rule n byte : ℕ) (rest : List ℕ) → 1 ≤ rule → rule ≤ greatest_rule → n ≤ greatest_rule → byte ≢ 10
+    → ((digit : ℕ) → digit < 10 → byte ≡ 48 + digit → greatest_rule < 10 * rule + digit)
     → decimal rule ++ byte ∷ rest ≡ decimal n ++ 10 ∷ [] → ⊥
 rules_differ rule n byte rest low high most other none same =
     ⊎_elim
@@ -66,7 +67,7 @@ rules_differ rule n byte rest low high most other none same =
     (λ ds. ds ++ byte ∷ rest) (sym one) ∙ same ∙ ap (λ ds. ds ++ 10 ∷ []) two' in
     let tens : 48 + rule ≡ 48 + n / 10 = cc in
     let ones : byte ≡ 48 + n % 10 = cc in
-    let above : 26 < 10 * rule + n % 10 = none (n % 10) (omega arith) ones in
+    let above : greatest_rule < 10 * rule + n % 10 = none (n % 10) (omega arith) ones in
     absurd (omega arith))
     (digits_of n most))
     (λ (large, two). ⊎_elim
@@ -84,8 +85,8 @@ rules_differ rule n byte rest low high most other none same =
     (digits_of rule high)
 
 -- behind the number of a rule stands a line feed, or a digit that makes a further rule's number
-pub rule_ends : (rule byte : ℕ) → 1 ≤ rule → rule ≤ 26 → byte ≢ 10 → ((digit : ℕ) → digit < 10
-    → byte ≡ 48 + digit → 26 < 10 * rule + digit)
+pub rule_ends : (rule byte : ℕ) → 1 ≤ rule → rule ≤ greatest_rule → byte ≢ 10 → ((digit : ℕ) → digit < 10
+    → byte ≡ 48 + digit → greatest_rule < 10 * rule + digit)
     → BeginsClaim (98 ∷ 32 ∷ (decimal rule ++ byte ∷ [])) → ⊥
 rule_ends rule byte low high other none b = at b.claim b.fits b.rest b.whole
   where
@@ -101,7 +102,7 @@ rule_ends rule byte low high other none b = at b.claim b.fits b.rest b.whole
         (sym (append_assoc (decimal rule) (byte ∷ []) rest) ∙ tail)
 
 -- the number of a rule has no line feed
-digits_have_no_feed : (n : ℕ) → n ≤ 26 → HasNoFeed (decimal n)
+digits_have_no_feed : (n : ℕ) → n ≤ greatest_rule → HasNoFeed (decimal n)
 digits_have_no_feed n high = ⊎_elim
     (λ (small, one). subst HasNoFeed (sym one) ((λ e. omega (arith, e)), tt))
     (λ (large, two). subst HasNoFeed (sym two) ((λ e. omega (arith, e)), ((λ e. omega (arith, e)), tt)))

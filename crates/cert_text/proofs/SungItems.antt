@@ -27,8 +27,8 @@ use Rattle.fux_text.proofs.Following.{held-follows}
 use Rattle.fux_text.proofs.OwnBars.{follows-parts, latest-append}
 use Rattle.fux_text.proofs.OwnItems.{goes_on-same, items-of_bar, lengths}
 use Rattle.fux_text.proofs.WordLemmas.{text_line-cons}
-use Rattle.cert_text.specs.Places.{sing_bytes}
-use Rattle.cert_text.specs.SingItems.{Fits, behind_text, can_stand, item_text, items_text, line_text}
+use Rattle.cert_text.specs.HeadRows.{behind_text, can_stand, sing_bytes}
+use Rattle.cert_text.proofs.ItemTexts.{Fits, item_text, items_text, line_text}
 
 -- bars of items one after the other
 abbrev pub joined : List (List (Cell × ℕ)) → List (Cell × ℕ)

@@ -1,5 +1,5 @@
--- Lines of items are those that are written of a setting, and no others are (`item-lines_written`), and they are read
--- as that setting (`written-lines_read`).
+-- Lines of items are those that are written of a setting (`items-are_written`), and no others are (`written-are_items`), and
+-- they are read as that setting (`written-lines_read`).
 use Rattle.std.proofs.Common.{◌≡◌, ℕ, zero, suc, ◌+◌, ◌*◌, ◌<◌, ◌≤◌, Bool, true, false, List, [], ◌∷◌, ◌++◌, get_or, length, map, refl, sym, ap, subst, ◌∙◌, arith}
 use Rattle.std.specs.Prelude.{◌==◌, if◌then◌else◌}
 use Rattle.std.specs.List.{AllByRecursion, flat_map, range_with_len}
@@ -22,9 +22,9 @@ use Rattle.fux_text.proofs.OnlySetting.{line-of_score, score-setting}
 use Rattle.fux_text.proofs.OwnSetting.{free-cantus, free-other, free_of, line-follows_own}
 use Rattle.fux_text.proofs.OwnText.{sing_lines-back}
 use Rattle.fux_text.proofs.ValidSetting.{score-given}
-use Rattle.cert_text.specs.SingItems.{AreLines, Fits, line_text, lines_text}
-use Rattle.cert_text.specs.WrittenLines.{AreWrittenOf, ItemLinesAreWritten, WrittenLinesAreRead}
-use Rattle.cert_text.proofs.HeadBacks.{item_lines-short}
+use Rattle.cert_text.specs.SingItems.{AreLines, AreWrittenOf}
+use Rattle.cert_text.specs.WrittenLines.{WrittenLinesAreRead}
+use Rattle.cert_text.proofs.ItemTexts.{AreItemLines, Fits, item_lines-short, line_text, lines_text}
 use Rattle.cert_text.proofs.ItemCells.{fits-follow, fits-long, fits-same}
 use Rattle.cert_text.proofs.SungItems.{voice-cells, voice-fits, voice-text, voice_items}
 
@@ -60,7 +60,7 @@ own-text ex score v valid setting there =
     setting.given.complete.whole (own-follows ex score v setting)
 
 pub written-are_items : (ex : Exercise) (score : Grid) (lines : List ℕ) → IsValid ex → AreWrittenOf ex score lines
-    → AreLines ex lines
+    → AreItemLines ex lines (free_voices ex)
 written-are_items ex score lines valid written =
     let columns = score.columns in
     let long = written.setting.given.complete.whole in
@@ -143,8 +143,8 @@ module _ (ex : Exercise) (sung : ℕ → List (Cell × ℕ)) (fits : (v : ℕ) �
       each-free ex (λ v. sing_text v score_for.columns) (λ v. line_text ex v (sung v))
       (λ v there free. free-text v valid there free) ex.voices 0 (omega arith)
 
-pub items-are_written : (ex : Exercise) (lines : List ℕ) → IsValid ex → AreLines ex lines
-    → (score : Grid) × AreWrittenOf ex score lines
+pub items-are_written : (ex : Exercise) (lines : List ℕ) → IsValid ex → AreItemLines ex lines (free_voices ex)
+    → AreLines ex lines
 items-are_written ex lines valid are = (
   score_for ex are.sung are.fits,
   record {
@@ -153,24 +153,10 @@ items-are_written ex lines valid are = (
   },
 )
 
--- ---- the laws
-
-pub item-lines_written : ItemLinesAreWritten
-item-lines_written ex lines valid = (
-  λ are. items-are_written ex lines valid are,
-  λ written. written-are_items ex written.0 lines valid written.1,
-)
-
+-- ---- they are read
 pub written-lines_read : WrittenLinesAreRead
 written-lines_read ex lines score valid written =
     let short : length lines ≤ 65536 =
     omega (arith, item_lines-short ex lines valid (written-are_items ex score lines valid written)) in
     subst (λ xs. AreSingLinesOf ex xs score) (sym written.written)
     (sing_lines-back ex score valid written.setting (subst (λ xs. length xs ≤ 65536) written.written short))
-
--- lines of items are those of a setting
-pub items-are_read : (ex : Exercise) (lines : List ℕ) → IsValid ex → AreLines ex lines
-    → (score : Grid) × AreSingLinesOf ex lines score
-items-are_read ex lines valid are =
-    let written = items-are_written ex lines valid are in
-    (written.0, written-lines_read ex lines written.0 valid written.1)

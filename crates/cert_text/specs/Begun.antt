@@ -1,5 +1,6 @@
 -- What was read of a claim's line.
 use Rattle.std.specs.Prelude.{◌≡◌, ◌≢◌, ℕ, ◌≤◌, List, [], ◌∷◌, ◌++◌, codes, length, take}
+use Rattle.fux_grid.specs.Exercises.{greatest_rule}
 use Rattle.cert_text.specs.Lines.{BeginsClaim, IsClaim, claim_line, claim_word, line_part, rule_or_one}
 use Rattle.cert_text.specs.declared.begun.Begun.{Begun}
 use Rattle.cert_text.specs.declared.begun.Begun.TheVariants.{Nothing, Word, Letter, Blank}
@@ -23,7 +24,7 @@ begun_rule Blank = 1
 
 -- its rule is one of S1 to S26
 abbrev pub IsBegun : Begun → Type 0
-IsBegun begun = (1 ≤ begun_rule begun) × (begun_rule begun ≤ 26)
+IsBegun begun = (1 ≤ begun_rule begun) × (begun_rule begun ≤ greatest_rule)
 
 -- what one more byte makes of it
 abbrev pub StepTells : Begun → ℕ → Step → Type 0

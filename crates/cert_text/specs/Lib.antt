@@ -1,9 +1,13 @@
 pub mod Begun
-pub mod HeadRuns
+pub mod HeadRows
 pub mod HeadTexts
 pub mod Lines
-pub mod Places
+pub mod Pieces
+pub mod PotentialReading
+pub mod PotentialTakes
+pub mod Potentials
 pub mod Reading
 pub mod SingItems
+pub mod StatedLines
 pub mod Takes
 pub mod WrittenLines

@@ -1,6 +1,7 @@
 -- The lines of claims.
 use Rattle.std.specs.Prelude.{◌≡◌, ◌≢◌, ℕ, ◌≤◌, ◌==◌, ⊤, List, [], ◌∷◌, ◌++◌, codes, if◌then◌else◌, Option, Some, None}
 use Rattle.std.specs.Fmt.{decimal}
+use Rattle.fux_grid.specs.Exercises.{greatest_rule}
 use Rattle.cert_text.specs.declared.claim.Claim.{Claim}
 use Rattle.cert_text.specs.declared.claim.Claim.TheVariants.{Open, Broken, NoChain, Floor, TheScore}
 
@@ -14,7 +15,7 @@ rule_or_one TheScore = 1
 
 -- a claim's rule is one of S1 to S26
 abbrev pub IsClaim : Claim → Type 0
-IsClaim claim = (1 ≤ rule_or_one claim) × (rule_or_one claim ≤ 26)
+IsClaim claim = (1 ≤ rule_or_one claim) × (rule_or_one claim ≤ greatest_rule)
 
 -- a claim's line, but for its line feed
 abbrev pub claim_word : Claim → List ℕ

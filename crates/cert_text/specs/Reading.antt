@@ -1,5 +1,6 @@
 -- What contracts see of a reader of claims.
 use Rattle.std.specs.Prelude.{ℕ, ◌+◌, ◌-◌, ◌^◌, ◌≤◌, List, length, Option}
+use Rattle.fux_grid.specs.Exercises.{greatest_rule}
 use Rattle.cert_text.specs.declared.begun.Begun.{Begun}
 use Rattle.cert_text.specs.Begun.{begun_bytes, begun_rule}
 
@@ -23,7 +24,7 @@ read_on old used begun = record old { next = old.next + used; used = old.used + 
 -- what each reader keeps
 pub record IsReading (next used : ℕ) (begun : Begun) : Type 0 where
   pub least_rule : 1 ≤ begun_rule begun
-  pub most_rule : begun_rule begun ≤ 26
+  pub most_rule : begun_rule begun ≤ greatest_rule
   pub begun_used : length (begun_bytes begun) ≤ used
   pub before : used ≤ next
   pub start : next ≤ 2 ^ 40 + used

@@ -1,4 +1,4 @@
--- A text that is one of a head by its items is that of one head, and its lines are those that are written of a setting.
+-- A text of a head is that of one head, and its lines are read as the setting that they are written of.
 use Rattle.std.specs.Prelude.{◌≡◌, ◌↔◌, ℕ, ◌≤◌, ◌<◌, ◌^◌, List, Option, length, take}
 use Rattle.fux_grid.specs.declared.exercise.Exercise.{Exercise}
 use Rattle.fux_grid.specs.Exercises.{IsValid}
@@ -9,24 +9,14 @@ use Rattle.fux_text.specs.Texts.{AreSingLinesOf}
 use Rattle.cert_text.specs.declared.answers.CertHead.{CertHead}
 use Rattle.cert_text.specs.declared.answers.CertHead.TheVariants.{Best}
 use Rattle.cert_text.specs.HeadTexts.{Heads, penalty_of}
-use Rattle.cert_text.specs.SingItems.{AreLines, IsBestText, IsHeadText, best_text}
-
--- the lines are those that are written of this setting of the exercise, one for each free voice
-pub record AreWrittenOf (ex : Exercise) (score : Grid) (lines : List ℕ) : Type 0 where
-  pub setting : IsSettingOf ex score
-  pub written : lines ≡ sing_lines ex score.columns
+use Rattle.cert_text.specs.SingItems.{AreWrittenOf, IsBestText, IsHeadText, best_text}
 
 -- the text is the one that is written of a head of this penalty and this setting
 pub record IsBestOf (ex : Exercise) (penalty : ℕ) (score : Grid) (text : List ℕ) : Type 0 where
   pub setting : IsSettingOf ex score
   pub written : text ≡ best_text penalty (sing_lines ex score.columns)
 
--- lines of items are those that are written of a setting, and no others are
-abbrev pub ItemLinesAreWritten : Type 0
-ItemLinesAreWritten = (ex : Exercise) (lines : List ℕ) → IsValid ex
-    → AreLines ex lines ↔ ((score : Grid) × AreWrittenOf ex score lines)
-
--- they are read as that setting
+-- lines that are written of a setting are read as that setting
 abbrev pub WrittenLinesAreRead : Type 0
 WrittenLinesAreRead = (ex : Exercise) (lines : List ℕ) (score : Grid) → IsValid ex
     → AreWrittenOf ex score lines → AreSingLinesOf ex lines score

@@ -3,9 +3,11 @@
 ghost use Rattle.std.specs.Prelude.{◌≡◌, ◌+◌, ◌*◌, ◌<◌, ◌≤◌, ◌++◌, [], ◌∷◌, ℕ, None, IfSome, length, take};
 ghost use Rattle.std.specs.Fmt.{decimal};
 ghost use Rattle.cert_text.specs.Lines.{IsClaim, claim_word};
+ghost use Rattle.fux_grid.specs.Exercises.{greatest_rule};
 ghost use Rattle.cert_text.specs.Begun.{IsBegun, begun_bytes, StepTells, StopTells};
 
 use crate::claim::Claim;
+use fux_grid::GREATEST_RULE;
 
 /// What was read of a line.
 #[derive(Clone, Copy, Debug, PartialEq, Eq)]
@@ -76,15 +78,19 @@ fn after_blank(byte: u8) -> Step
 /// The rule whose number is that of another one and a digit behind it.
 fn with_digit(rule: u8, byte: u8) -> Option<u8>
     requires { 1 ≤ rule }
-    ensures some { IfSome result (λ longer. (10 ≤ longer) × (longer ≤ 26)
+    ensures some { IfSome result (λ longer. (10 ≤ longer) × (longer ≤ greatest_rule)
         × (longer + 48 ≡ 10 * rule + byte) × (48 ≤ byte) × (byte ≤ 57)) }
-    ensures none { result ≡ None → (digit : ℕ) → digit < 10 → byte ≡ 48 + digit → 26 < 10 * rule + digit }
+    ensures none { result ≡ None → (digit : ℕ) → digit < 10 → byte ≡ 48 + digit → greatest_rule < 10 * rule + digit }
 {
     if rule > 2 || byte < b'0' || byte > b'9' {
         return None;
     }
     let longer = 10 * rule + (byte - b'0');
-    if longer > 26 { None } else { Some(longer) }
+    if longer > GREATEST_RULE {
+        None
+    } else {
+        Some(longer)
+    }
 }
 
 /// What a byte makes of a broken rule's line.

@@ -7,9 +7,14 @@ mod begun;
 mod claim;
 mod claims;
 mod heads;
-mod place;
+mod potential;
+mod potentials;
+mod scan;
+mod stated_line;
 
 pub use answers::{Accepted, CertFault, CertHead, CertWrite, Refused, Why};
 pub use claim::{Claim, write_claim};
 pub use claims::{Claims, Taken};
 pub use heads::{head, heads_are_of_settings};
+pub use potential::{Potential, write_potential};
+pub use potentials::{Potentials, TakenPotential};

@@ -1,10 +1,7 @@
 use Rattle.cert_text.proofs.HeadBacks.{one-heads, short-texts}
 use Rattle.cert_text.proofs.HeadLaws.{best-heads_written, best-texts_written, texts-of_heads}
-use Rattle.cert_text.proofs.SungScores.{item-lines_written, written-lines_read}
+use Rattle.cert_text.proofs.SungScores.{written-lines_read}
 use Rattle.cert_text.proofs.heads.heads_are_of_settings.Goals as goal
-
-pub returns-clause-lines : goal.returns-clause-lines
-returns-clause-lines c = item-lines_written
 
 pub returns-clause-read : goal.returns-clause-read
 returns-clause-read c = written-lines_read
