@@ -1,5 +1,5 @@
 -- What is answered where no head stands at the front (`starts_answer`), where the head isn't sound (`unsound_answer`), and
--- where claims are judged (`finds_answer`); and where a menu is too wide (`unopened_headless`) or none is (`unopened_other`).
+-- where claims are judged (`judged_answer`); and where a menu is too wide (`unopened_headless`) or none is (`unopened_other`).
 use Rattle.std.proofs.Common.{◌≡◌, ◌⊎◌, inl, inr, arith, ℕ, List, Result, Ok, Err, refl, ap, subst, sym}
 use Rattle.std.specs.Prelude.{IfErr, IfOk}
 use Rattle.cert_check.specs.declared.checker.OpenFault.{OpenFault}
@@ -12,7 +12,7 @@ use Rattle.cert_check.specs.Starts.{IsStarted, Starts}
 use Rattle.cert_text.specs.declared.answers.CertFault.TheVariants.{CertHead as WrongHead, CertWord, CertEnd, Memory}
 use Rattle.cert_text.specs.declared.answers.CertHead.{CertHead}
 use Rattle.cert_text.specs.declared.answers.Refused.{Refused}
-use Rattle.cert_check.specs.Answers.{Answers, FindsBehind, IsHeadless, unopened, unstarted}
+use Rattle.cert_check.specs.Answers.{Answers, FindsBehind, IsHeadless, IsVerdictOn, unopened, unstarted}
 use Rattle.cert_check.specs.Judgments.{Finds, RefusesFor, Shows}
 use Rattle.cert_check.specs.declared.checking.CheckFault.TheVariants as check
 use Rattle.cert_check.specs.declared.verdict.Verdict.{Verdict}
@@ -23,15 +23,17 @@ use Rattle.fux_grid.specs.declared.exercise.Exercise.{Exercise}
 use Rattle.fux_grid.specs.declared.exercise.Place.{Place}
 use Rattle.penalty_sheet.specs.declared.sheet.Sheet.{Sheet}
 
-module _ (ex : Exercise) (sheet : Sheet) (files : Files) (name : List ℕ) (rose : Type 0) where
-  pub finds_answer : (it : Verdict) → FindsBehind ex sheet files name it → Answers ex sheet files name rose (Ok it)
-  finds_answer (verdict.Accepted answer) found = found
-  finds_answer (verdict.Claim refused) found = found
-  finds_answer (verdict.Text (WrongHead at)) found = absurd found.finds.such.fault_at
-  finds_answer (verdict.Text (CertWord at)) found = found
-  finds_answer (verdict.Text (CertEnd at)) found = found
-  finds_answer (verdict.Text Memory) found = found
+-- what is found behind a head is a verdict
+verdict_behind : (ex : Exercise) (sheet : Sheet) (bytes : List ℕ) (it : Verdict) → FindsBehind ex sheet it bytes
+    → IsVerdictOn ex sheet it bytes
+verdict_behind ex sheet bytes (verdict.Accepted answer) found = found
+verdict_behind ex sheet bytes (verdict.Claim refused) found = found
+verdict_behind ex sheet bytes (verdict.Text (WrongHead at)) found = absurd found.finds.fault_at
+verdict_behind ex sheet bytes (verdict.Text (CertWord at)) found = found
+verdict_behind ex sheet bytes (verdict.Text (CertEnd at)) found = found
+verdict_behind ex sheet bytes (verdict.Text Memory) found = found
 
+module _ (ex : Exercise) (sheet : Sheet) (files : Files) (name : List ℕ) (rose : Type 0) where
   pub starts_answer : (fault : ReadFault) → Starts ex files name rose (Err fault)
       → Answers ex sheet files name rose (unstarted fault)
   starts_answer Unreadable starts = starts
@@ -43,11 +45,11 @@ module _ (ex : Exercise) (sheet : Sheet) (files : Files) (name : List ℕ) (rose
   unsound_answer : (head : CertHead) (reader : Reading) (refused : Refused) → IsStarted ex files name head reader
       → TellsWhy ex sheet head (opening.Refused refused) → Answers ex sheet files name rose (Ok (verdict.Claim refused))
   unsound_answer head reader refused started why = record {
-    head = head;
-    finds = record {
-      bytes = started.at.begins.bytes;
-      had = started.at.begins.had;
-      such =
+    bytes = started.at.begins.bytes;
+    had = started.at.begins.had;
+    such = record {
+      head = head;
+      finds =
           subst (λ (r : Refused). RefusesFor ex sheet head r.number r.why started.at.begins.bytes) (sym why.2) record {
             numbered = refl;
             front = started.front;
@@ -55,8 +57,8 @@ module _ (ex : Exercise) (sheet : Sheet) (files : Files) (name : List ℕ) (rose
             heads = started.heads;
             unsound = why.1;
           };
+      shown = λ answer e. cc;
     };
-    shown = λ answer e. cc;
   }
 
   pub opening_answer : (head : CertHead) (reader : Reading) (fault : OpenFault) → IsStarted ex files name head reader
@@ -93,5 +95,8 @@ module _ (ex : Exercise) (sheet : Sheet) (head : CertHead) where
 pub judged_answer : (ex : Exercise) (sheet : Sheet) (head : CertHead) (files : Files) (name : List ℕ) (rose : Type 0)
     (it : Verdict)
     → Finds ex sheet head files name it → Shows ex sheet head it → Answers ex sheet files name rose (Ok it)
-judged_answer ex sheet head files name rose it finds shown =
-    finds_answer ex sheet files name rose it record { head = head; finds = finds; shown = shown }
+judged_answer ex sheet head files name rose it finds shown = record {
+  bytes = finds.bytes;
+  had = finds.had;
+  such = verdict_behind ex sheet finds.bytes it record { head = head; finds = finds.such; shown = shown };
+}

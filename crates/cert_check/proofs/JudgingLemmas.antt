@@ -5,15 +5,14 @@ use Rattle.std.proofs.Math.Seq.{take-append_seam}
 use Rattle.std.specs.Io.{StartsWith}
 use Rattle.std.specs.List.{AllByRecursion, flat_map}
 use Rattle.cert_check.specs.Checking.{Checking, IsFault, Refuses, Takes, TakesOf, accepted_of}
-use Rattle.cert_law.specs.Certificates.{Holds, IsCertified, IsHeadSound, owed_by}
+use Rattle.cert_law.specs.Certificates.{IsCertified, IsHeadSound, owed_by}
 use Rattle.cert_law.specs.Claims.{IsTrueOf}
-use Rattle.cert_check.specs.Readings.{FaultAt, Files, Gives, IsAt, MayBe, Reading}
+use Rattle.cert_check.specs.Readings.{FaultAt, Files, Gives, IsAt, MayBe, Reading, judged_bytes, longest_certificate}
 use Rattle.cert_check.specs.declared.fault.ReadFault.{ReadFault}
 use Rattle.cert_check.specs.Starts.{IsStarted}
-use Rattle.cert_text.specs.declared.answers.Accepted.{Accepted}
+use Rattle.cert_check.proofs.LineLemmas.{begins_judged}
 use Rattle.cert_text.specs.declared.answers.CertFault.{CertFault}
 use Rattle.cert_text.specs.declared.answers.CertHead.{CertHead}
-use Rattle.cert_text.specs.declared.answers.CertHead.TheVariants.{Best, Nothing}
 use Rattle.cert_text.specs.declared.answers.Refused.{Refused}
 use Rattle.cert_text.specs.declared.answers.Why.TheVariants.{Short}
 use Rattle.cert_text.specs.declared.claim.Claim.{Claim}
@@ -66,6 +65,7 @@ module _ (ex : Exercise) (sheet : Sheet) (head : CertHead) where
       → IsTaken ex sheet head count (p ∷ later) bytes → IsClaim claim → IsTrueOf ex sheet head p claim
       → IsTaken ex sheet head (count + 1) (owed_by ex p claim ++ later) (bytes ++ claim_line claim)
   taken_more count p later bytes claim taken fits holds = record {
+    sound = taken.sound;
     claims = taken.claims ++ claim ∷ [];
     counted = length-append taken.claims (claim ∷ []) ∙ ap (λ n. n + 1) taken.counted;
     text = record {
@@ -105,21 +105,14 @@ module _ (ex : Exercise) (sheet : Sheet) (head : CertHead) where
             length-append (claim_word claim) (10 ∷ []),
           )
 
-  -- a head that holds is sound
-  pub holds_sound : Holds ex sheet head → IsHeadSound ex sheet head
-  holds_sound holds = by head holds
-    where
-      by : (h : CertHead) → Holds ex sheet h → IsHeadSound ex sheet h
-      by Nothing it = tt
-      by (Best penalty score) it = (it.0.lawful, it.1)
-
 module _ (files : Files) (name : List ℕ) (start : Checking) where
-  pub begins : (reader : Reading) → IsFresh start → IsStarted start.exercise files name start.head reader
-      → IsOn files name start reader start
-  begins reader fresh started = record {
+  pub begins : (reader : Reading) → IsFresh start → IsHeadSound start.exercise start.sheet start.head
+      → IsStarted start.exercise files name start.head reader → IsOn files name start reader start
+  begins reader fresh sound started = record {
     now = started.front;
     at = started.at;
     taken = record {
+      sound = sound;
       claims = [];
       counted = sym fresh.count;
       text = record { front = started.front; heads = started.heads; fits = tt; is = sym (append-nil started.front) };
@@ -185,13 +178,15 @@ module _ (files : Files) (name : List ℕ) (start : Checking) where
             }
 
     pub refuses_next : (claim : Claim) (refused : Refused) (new : Checking) (after : Reading) → IsClaim claim
-        → IsAt files name (on.now ++ claim_line claim) after → Refuses checker claim refused new
+        → IsAt files name (on.now ++ claim_line claim) after → after.offset ≤ longest_certificate
+        → Refuses checker claim refused new
         → MayBe files name (RefusesFor start.exercise start.sheet start.head refused.number refused.why)
-    refuses_next claim refused new after fits at refuses =
+    refuses_next claim refused new after fits at limit refuses =
         by checker.owed refl (subst (λ (c : Checking). IsFault c c.owed claim refused) on.same refuses.0)
       where
-        line : StartsWith at.begins.bytes (on.now ++ claim_line claim)
-        line = begins_front at.begins.bytes (on.now ++ claim_line claim) _ at.begins.such
+        line : StartsWith (judged_bytes at.begins.bytes) (on.now ++ claim_line claim)
+        line = begins_judged at.begins.bytes (on.now ++ claim_line claim) (omega (arith, limit, at.offset))
+            (begins_front at.begins.bytes (on.now ++ claim_line claim) _ at.begins.such)
 
         by : (owed : List (List (List Cell))) → checker.owed ≡ owed
             → IsFault (record start { owed = checker.owed; count = checker.count }) owed claim refused
@@ -245,34 +240,30 @@ module _ (files : Files) (name : List ℕ) (start : Checking) where
     pub finds_end : (verdict : Verdict) → reader.offset ≤ 1073741824 → MayHave files name on.now
         → (checker.owed ≡ [] → verdict ≡ verdicts.Accepted (accepted_of checker.head))
         → (checker.owed ≢ [] → verdict ≡ verdicts.Claim (record { number = checker.count + 1; why = Short }))
-        → ((answer : Accepted) → verdict ≡ verdicts.Accepted answer → Holds checker.exercise checker.sheet checker.head)
         → Finds start.exercise start.sheet start.head files name verdict
-    finds_end verdict limit had accepted short shown = by checker.owed refl
+    finds_end verdict limit had accepted short = by checker.owed refl
       where
         by : (owed : List (List (List Cell))) → checker.owed ≡ owed
             → Finds start.exercise start.sheet start.head files name verdict
         by [] are =
             let taken = subst (λ ps. IsTaken start.exercise start.sheet start.head checker.count ps on.now) are on.taken
             in
-            let holds : Holds start.exercise start.sheet start.head =
-            subst (λ (c : Checking). Holds c.exercise c.sheet c.head) on.same
-            (shown (accepted_of checker.head) (accepted are)) in
-            subst (Finds start.exercise start.sheet start.head files name) (sym (accepted are)) (
-              ap (λ (c : Checking). accepted_of c.head) on.same,
-              record {
-                bytes = on.now;
-                had = had;
-                such = record {
+            subst (Finds start.exercise start.sheet start.head files name) (sym (accepted are)) record {
+              bytes = on.now;
+              had = had;
+              such = (
+                ap (λ (c : Checking). accepted_of c.head) on.same,
+                record {
                   claims = taken.claims;
                   text = taken.text;
                   short = omega (arith, limit, on.at.offset);
                   valid = record {
-                    sound = holds_sound start.exercise start.sheet start.head holds;
+                    sound = taken.sound;
                     certified = leaves_none start.exercise start.sheet start.head ([] ∷ []) taken.claims taken.left;
                   };
-                };
-              },
-            )
+                },
+              );
+            }
         by (p ∷ later) are =
             let some : checker.owed ≢ [] = λ none. cc in
             subst (Finds start.exercise start.sheet start.head files name) (sym (short some)) record {
@@ -285,5 +276,6 @@ module _ (files : Files) (name : List ℕ) (start : Checking) where
                 owed = later;
                 taken =
                     subst (λ ps. IsTaken start.exercise start.sheet start.head checker.count ps on.now) are on.taken;
+                short = omega (arith, limit, on.at.offset);
               };
             }

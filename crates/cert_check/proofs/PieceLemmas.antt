@@ -15,7 +15,7 @@ use Rattle.cert_text.specs.declared.claims.Taken.{Taken}
 use Rattle.cert_text.specs.Lines.{BeginsClaim, HasNoFeed, IsClaim, claim_line, line_if, line_part}
 use Rattle.cert_text.specs.Reading as text
 use Rattle.cert_text.specs.Takes.{Refuses, Takes}
-use Rattle.cert_check.specs.Readings.{Begins, EndGives, FaultAt, Files, Gives, IsAt, MayBe, Reading, ReadsOn, TakesLine}
+use Rattle.cert_check.specs.Readings.{Begins, EndGives, FaultAt, Files, Gives, IsAt, MayBe, Reading, ReadsOn, TakesLine, longest_certificate}
 use Rattle.cert_check.specs.declared.fault.ReadFault.{ReadFault}
 use Rattle.cert_check.specs.declared.fault.ReadFault.TheVariants.{Unreadable, Text}
 use Rattle.cert_check.proofs.FileLemmas.{ends, goes_on, longer}
@@ -109,18 +109,28 @@ module _ (files : Files) (name front : List ℕ) (before : Reading) (at : IsAt f
 
   -- a line is refused
   pub line_refused : (fault : CertFault) (new : text.Reading) (after : Reading)
+      → before.offset ≤ longest_certificate
       → Refuses before.claims before.ahead fault new
       → TakesLine files name front after (Err fault)
-  line_refused fault new after refuses =
+  line_refused fault new after limit refuses =
       subst (λ it. MayBe files name (FaultAt front it)) (sym refuses.named)
       (wrong_line files name front before.claims.begun at.unended before.ahead (text.line_start before.claims) here
+      (omega (
+        arith,
+        limit,
+        at.offset,
+        length-append front (before.claims.begun ++ before.ahead),
+        length-append before.claims.begun before.ahead,
+      ))
       at.begins refuses.wrong)
 
   -- the end of the file
   pub end_gives : (end : ℕ) → end ≡ text.line_start before.claims → before.claims.begun ≢ []
+      → before.offset ≤ longest_certificate
       → MayHave files name (front ++ before.claims.begun) → MayBe files name (FaultAt front (CertEnd end))
-  end_gives end is some had =
-      unended_line files name front before.claims.begun at.unended end (is ∙ here) some at.line had
+  end_gives end is some limit had =
+      unended_line files name front before.claims.begun at.unended end (is ∙ here) some at.line
+      (omega (arith, limit, at.offset, length-append front before.claims.begun)) had
 
   pub end_whole : before.claims.begun ≡ [] → MayHave files name (front ++ before.claims.begun)
       → MayHave files name front
@@ -138,10 +148,10 @@ module _ (files : Files) (name front : List ℕ) (before : Reading) (at : IsAt f
     -- a byte behind the last that a certificate may have
     pub beyond_at : 1073741824 - before.offset ≡ 0 → before.offset ≤ 1073741824
         → ((file : List ℕ) → HasFile files name file → before.offset < length file)
-        → MayBe files name (FaultAt front (CertEnd 1073741824))
+        → MayBe files name (FaultAt front (CertEnd longest_certificate))
     beyond_at full within more =
         beyond_line files name front before.claims.begun at.unended at.line
-        (omega (arith, far, full, within, length-append front before.claims.begun))
+        (omega (arith, far, full, within))
         (goes_on files name (front ++ before.claims.begun) known (λ file has. omega (arith, far, more file has)))
 
     -- the next piece

@@ -8,27 +8,36 @@ use Rattle.cert_check.specs.Readings.{Files, MayBe}
 use Rattle.cert_text.specs.declared.answers.CertFault.TheVariants.{CertHead as WrongHead, Memory as NoMemory}
 use Rattle.cert_text.specs.declared.answers.CertHead.{CertHead}
 use Rattle.cert_text.specs.HeadTexts.{TextStops}
-use Rattle.cert_check.specs.Judgments.{Finds, Shows}
+use Rattle.cert_check.specs.Judgments.{FindsIn, Shows}
 use Rattle.cert_check.specs.declared.checking.CheckFault.{CheckFault}
 use Rattle.cert_check.specs.declared.checking.CheckFault.TheVariants.{Unreadable, TooWide, Memory}
 use Rattle.cert_check.specs.declared.verdict.Verdict.{Verdict}
 use Rattle.cert_check.specs.declared.verdict.Verdict.TheVariants as verdict
 use Rattle.floor_tables.specs.Tables.{IsTooWide}
 use Rattle.fux_grid.specs.declared.exercise.Exercise.{Exercise}
+use Rattle.fux_grid.specs.Exercises.{IsValid}
 use Rattle.fux_port.specs.Files.{IsMissing}
 use Rattle.penalty_sheet.specs.declared.sheet.Sheet.{Sheet}
 
--- what a verdict says of the file, by the head at its front; and that this head holds, where the file is accepted
-pub record FindsBehind (ex : Exercise) (sheet : Sheet) (files : Files) (name : List ℕ) (it : Verdict) : Type 0 where
+-- what a verdict says of bytes by the head at their front; and that this head holds, where they are accepted
+pub record FindsBehind (ex : Exercise) (sheet : Sheet) (it : Verdict) (bytes : List ℕ) : Type 0 where
   pub head : CertHead
-  pub finds : Finds ex sheet head files name it
+  pub finds : FindsIn ex sheet head it bytes
   pub shown : Shows ex sheet head it
 
--- how a file is answered: a verdict, of which one is that no head stands at its front; or why there is none
+-- what a verdict says of bytes: no head stands at their front, or what is found behind it
+abbrev pub IsVerdictOn : Exercise → Sheet → Verdict → List ℕ → Type 0
+IsVerdictOn ex sheet (verdict.Text (WrongHead at)) bytes = TextStops ex bytes at
+IsVerdictOn ex sheet it bytes = FindsBehind ex sheet it bytes
+
+-- bytes have one verdict
+abbrev pub VerdictsAreOne : Type 0
+VerdictsAreOne = (ex : Exercise) (sheet : Sheet) (bytes : List ℕ) (it other : Verdict) → IsValid ex
+    → IsVerdictOn ex sheet it bytes → IsVerdictOn ex sheet other bytes → it ≡ other
+
+-- how a file is answered: by the verdict on it, or why there is none
 abbrev pub Answers : Exercise → Sheet → Files → List ℕ → Type 0 → Result Verdict CheckFault → Type 0
-Answers ex sheet files name rose (Ok (verdict.Text (WrongHead at))) =
-    MayBe files name (λ bytes. TextStops ex bytes at)
-Answers ex sheet files name rose (Ok it) = FindsBehind ex sheet files name it
+Answers ex sheet files name rose (Ok it) = MayBe files name (IsVerdictOn ex sheet it)
 Answers ex sheet files name rose (Err Unreadable) = rose ⊎ IsMissing files name
 Answers ex sheet files name rose (Err (TooWide place count)) = IsTooWide ex place count
 Answers ex sheet files name rose (Err Memory) = ⊤

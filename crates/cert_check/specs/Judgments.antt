@@ -5,7 +5,7 @@ use Rattle.std.specs.List.{AllByRecursion, flat_map}
 use Rattle.cert_check.specs.Checking.{Checking, accepted_of}
 use Rattle.cert_law.specs.Certificates.{Holds, IsCertificate, IsHeadSound, owed_by}
 use Rattle.cert_law.specs.Claims.{IsTrueOf}
-use Rattle.cert_check.specs.Readings.{FaultAt, Files, MayBe}
+use Rattle.cert_check.specs.Readings.{FaultAt, Files, MayBe, judged_bytes, longest_certificate}
 use Rattle.cert_text.specs.declared.answers.Accepted.{Accepted}
 use Rattle.cert_text.specs.declared.answers.CertFault.{CertFault}
 use Rattle.cert_text.specs.declared.answers.CertHead.{CertHead}
@@ -32,7 +32,7 @@ pub record IsTextOf (ex : Exercise) (head : CertHead) (claims : List Claim) (byt
 pub record IsCertificateText (ex : Exercise) (sheet : Sheet) (head : CertHead) (bytes : List ℕ) : Type 0 where
   pub claims : List Claim
   pub text : IsTextOf ex head claims bytes
-  pub short : length bytes ≤ 1073741824
+  pub short : length bytes ≤ longest_certificate
   pub valid : IsCertificate ex sheet head claims
 
 -- each of the claims is true of the prefix that is owed next, and they leave these owed
@@ -43,9 +43,10 @@ Leaves ex sheet head [] (claim ∷ claims) left = ⊥
 Leaves ex sheet head (p ∷ owed) (claim ∷ claims) left =
     IsTrueOf ex sheet head p claim × Leaves ex sheet head (owed_by ex p claim ++ owed) claims left
 
--- the bytes are the text of the head and of so many claims, each true, that leave these prefixes owed
+-- the bytes are the text of the head, which is sound, and of so many claims, each true, that leave these prefixes owed
 pub record IsTaken (ex : Exercise) (sheet : Sheet) (head : CertHead) (count : ℕ) (owed : List (List (List Cell)))
     (bytes : List ℕ) : Type 0 where
+  pub sound : IsHeadSound ex sheet head
   pub claims : List Claim
   pub counted : length claims ≡ count
   pub text : IsTextOf ex head claims bytes
@@ -69,7 +70,7 @@ pub record HasFalse (ex : Exercise) (sheet : Sheet) (head : CertHead) (number : 
   pub taken : IsTaken ex sheet head count (next ∷ owed) front
   pub claim : Claim
   pub fits : IsClaim claim
-  pub begins : StartsWith bytes (front ++ claim_line claim)
+  pub begins : StartsWith (judged_bytes bytes) (front ++ claim_line claim)
   pub untrue : IsTrueOf ex sheet head next claim → ⊥
 
 -- behind claims that leave nothing owed stands one more
@@ -80,7 +81,7 @@ pub record HasOver (ex : Exercise) (sheet : Sheet) (head : CertHead) (number : �
   pub taken : IsTaken ex sheet head count [] front
   pub claim : Claim
   pub fits : IsClaim claim
-  pub begins : StartsWith bytes (front ++ claim_line claim)
+  pub begins : StartsWith (judged_bytes bytes) (front ++ claim_line claim)
 
 -- claims that are taken leave one owed, and there is no more
 pub record IsShort (ex : Exercise) (sheet : Sheet) (head : CertHead) (number : ℕ) (bytes : List ℕ) : Type 0 where
@@ -89,6 +90,7 @@ pub record IsShort (ex : Exercise) (sheet : Sheet) (head : CertHead) (number : �
   pub next : List (List Cell)
   pub owed : List (List (List Cell))
   pub taken : IsTaken ex sheet head count (next ∷ owed) bytes
+  pub short : length bytes ≤ longest_certificate
 
 -- behind claims that are taken stands a line that is none
 pub record HasFault (ex : Exercise) (sheet : Sheet) (head : CertHead) (fault : CertFault) (bytes : List ℕ) : Type 0
@@ -106,13 +108,16 @@ RefusesFor ex sheet head number False = HasFalse ex sheet head number
 RefusesFor ex sheet head number Over = HasOver ex sheet head number
 RefusesFor ex sheet head number Short = IsShort ex sheet head number
 
--- what a verdict says of the file with a head, where the shelf tells its files
+-- what a verdict says of bytes with a head
+abbrev pub FindsIn : Exercise → Sheet → CertHead → Verdict → List ℕ → Type 0
+FindsIn ex sheet head (verdict.Accepted answer) bytes =
+    (answer ≡ accepted_of head) × IsCertificateText ex sheet head bytes
+FindsIn ex sheet head (verdict.Claim refused) bytes = RefusesFor ex sheet head refused.number refused.why bytes
+FindsIn ex sheet head (verdict.Text fault) bytes = HasFault ex sheet head fault bytes
+
+-- what it says of the file of a name
 abbrev pub Finds : Exercise → Sheet → CertHead → Files → List ℕ → Verdict → Type 0
-Finds ex sheet head files name (verdict.Accepted answer) =
-    (answer ≡ accepted_of head) × MayBe files name (IsCertificateText ex sheet head)
-Finds ex sheet head files name (verdict.Claim refused) =
-    MayBe files name (RefusesFor ex sheet head refused.number refused.why)
-Finds ex sheet head files name (verdict.Text fault) = MayBe files name (HasFault ex sheet head fault)
+Finds ex sheet head files name it = MayBe files name (FindsIn ex sheet head it)
 
 -- a verdict that accepts shows that what the head says holds
 abbrev pub Shows : Exercise → Sheet → CertHead → Verdict → Type 0

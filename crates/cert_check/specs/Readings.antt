@@ -1,5 +1,5 @@
 -- Where the reading of a certificate's file stands, and what comes next: a claim's line, the file's end, or a line that is none.
-use Rattle.std.specs.Prelude.{◌≡◌, ◌≢◌, ℕ, ◌+◌, ◌-◌, ◌<◌, ◌≤◌, ◌⊎◌, Bool, true, false, List, [], ◌++◌, Option, Some, None, Result, Ok, Err, length}
+use Rattle.std.specs.Prelude.{◌≡◌, ◌≢◌, ℕ, ◌+◌, ◌-◌, ◌<◌, ◌≤◌, ◌⊎◌, Bool, true, false, List, [], ◌++◌, Option, Some, None, Result, Ok, Err, length, take}
 use Rattle.std.specs.Io.{StartsWith}
 use Rattle.fux_port.specs.Files.{HasFile, MayHave}
 use Rattle.cert_text.specs.declared.answers.CertFault.{CertFault}
@@ -63,37 +63,49 @@ pub record IsAt (files : Files) (name front : List ℕ) (reader : Reading) : Typ
   pub unended : HasNoFeed reader.claims.begun
   pub offset : reader.offset ≡ length front + (length reader.claims.begun + length reader.ahead)
 
--- behind a front stand bytes of which a fact holds
-pub record HasBehind (front : List ℕ) (Such : List ℕ → Type 0) (bytes : List ℕ) : Type 0 where
-  pub rest : List ℕ
-  pub is : bytes ≡ front ++ rest
-  pub such : Such rest
+-- how many bytes a certificate has at most
+abbrev pub longest_certificate : ℕ
+longest_certificate = 1073741824
+
+-- the bytes of a file that are judged: the first ones, as many as a certificate may have
+abbrev pub judged_bytes : List ℕ → List ℕ
+judged_bytes bytes = take longest_certificate bytes
 
 -- the line at the front of these bytes begins no claim's line
 abbrev pub IsWrong : List ℕ → Type 0
 IsWrong rest = BeginsClaim (line_part rest) → ⊥
 
--- these bytes begin a claim's line, and don't end it
+-- these bytes begin a claim's line, if there are any, and don't end it
 pub record IsUnended (rest : List ℕ) : Type 0 where
-  pub some : rest ≢ []
   pub begins : BeginsClaim rest
   pub unended : HasNoFeed rest
 
--- these bytes go beyond what a certificate may have behind so many, and those within begin a claim's line and don't end it
-pub record GoesBeyond (behind : ℕ) (rest : List ℕ) : Type 0 where
-  pub line : List ℕ
-  pub begins : BeginsClaim line
-  pub unended : HasNoFeed line
-  pub full : behind + length line ≡ 1073741824
-  pub front : StartsWith rest line
-  pub more : length line < length rest
+-- behind a front stands a line that is none
+pub record HasWrong (front bytes : List ℕ) : Type 0 where
+  pub rest : List ℕ
+  pub is : judged_bytes bytes ≡ front ++ rest
+  pub wrong : IsWrong rest
+
+-- the file ends within a claim's line, which begins behind a front
+pub record EndsWithin (front bytes : List ℕ) : Type 0 where
+  pub short : length bytes ≤ longest_certificate
+  pub rest : List ℕ
+  pub is : bytes ≡ front ++ rest
+  pub some : rest ≢ []
+  pub begun : IsUnended rest
+
+-- the file goes on behind the last byte that is judged, and up to there no line behind a front is ended or wrong
+pub record GoesBeyond (front bytes : List ℕ) : Type 0 where
+  pub long : longest_certificate < length bytes
+  pub rest : List ℕ
+  pub is : judged_bytes bytes ≡ front ++ rest
+  pub begun : IsUnended rest
 
 -- what is wrong with the bytes behind a front, at a byte
 abbrev pub FaultAt : List ℕ → CertFault → List ℕ → Type 0
-FaultAt front (CertWord at) bytes = (at ≡ length front) × HasBehind front IsWrong bytes
+FaultAt front (CertWord at) bytes = (at ≡ length front) × HasWrong front bytes
 FaultAt front (CertEnd at) bytes =
-    ((at ≡ length front) × HasBehind front IsUnended bytes)
-    ⊎ ((at ≡ 1073741824) × HasBehind front (GoesBeyond (length front)) bytes)
+    ((at ≡ length front) × EndsWithin front bytes) ⊎ ((at ≡ longest_certificate) × GoesBeyond front bytes)
 FaultAt front (CertHead at) bytes = ⊥
 FaultAt front Memory bytes = ⊥
 

@@ -3,7 +3,7 @@
 ghost use Rattle.std.specs.Prelude.{◌≡◌, ◌≢◌, ◌+◌, ◌^◌, ◌<◌, ◌≤◌, [], ◌∷◌, None, Some, Ok, Err, IfErr, IfOk, OnErr, OnOk};
 ghost use Rattle.cert_text.specs.declared.answers.Refused.{Refused as ARefused};
 ghost use Rattle.cert_text.specs.declared.answers.Why.TheVariants as whys;
-ghost use Rattle.cert_law.specs.Certificates.{Holds, IsHeadSound};
+ghost use Rattle.cert_law.specs.Certificates.{Holds, IsHeadSound, OwesRefuting};
 ghost use Rattle.cert_law.specs.Cases.{HasTables, IsCase};
 ghost use Rattle.cert_check.specs.Checking.{Refuses, Takes, accepted_of};
 ghost use Rattle.cert_check.specs.Opening.{TellsWhy};
@@ -126,6 +126,16 @@ impl<'a> Checker<'a> {
             taken: 0,
             refusal: None,
         })
+    }
+
+    /// What each checker keeps: its head is sound, and as long as no claim was refused, each setting that refutes the head is begun by a
+    /// prefix that is owed. It does nothing; callers that prove something about a checker learn this from it.
+    pub fn kept(&self)
+        ensures sound { IsHeadSound self.now.exercise self.now.sheet self.now.head }
+        ensures owes { self.now.refusal ≡ None
+            → OwesRefuting self.now.exercise self.now.sheet self.now.head self.now.owed }
+    {
+        let _ = &self.taken;
     }
 
     /// Judges a claim of the prefix that is owed next. It is taken where it is true of it; after a refusal every call answers the same.

@@ -12,18 +12,8 @@ ghost use Rattle.rule_law.specs.Prefixes.{IsSetting};
 
 use cert_text::CertHead;
 use fux_grid::{Cell, Column, Exercise, Score, VoiceSet, cell_of, voice_cells};
-use fux_judge::{every_rule, is_broken_in, penalty};
+use fux_judge::{every_rule, every_set, is_broken_in, penalty};
 use penalty_sheet::{Sheet, price_at};
-
-/// Every set of voices, of four at most, by its bits.
-const VOICE_SETS: [u8; 15] = [1, 2, 3, 4, 5, 6, 7, 8, 9, 10, 11, 12, 13, 14, 15];
-
-fn every_set() -> &'static [u8]
-    ensures value { result.now ≡ all_sets }
-    ensures count { length result.now ≡ 15 }
-{
-    &VOICE_SETS
-}
 
 /// Whether a rule is strictly broken at a place for a set of voices.
 fn breaks_for(rule: u8, ex: &Exercise, score: &Score, i: usize, voices: VoiceSet) -> bool

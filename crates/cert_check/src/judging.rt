@@ -39,6 +39,7 @@ pub fn judge<F: Shelf>(
     ensures files { F.files shelf.new ≡ F.files shelf.old }
     ensures faults { F.faults shelf.old ≤ F.faults shelf.new }
 {
+    checker.kept();
     loop {
         match reader.next(shelf, name) {
             Ok(Some(claim)) => {

@@ -1,4 +1,5 @@
 pub mod BreakLemmas
+pub mod EntryLemmas
 pub mod FloorFacts
 pub mod LevelLemmas
 pub mod NumberLemmas

@@ -4,12 +4,14 @@
 #![tactic(auto)]
 
 mod case;
+mod entries;
 mod judged;
 mod law;
 mod truth;
 mod walk;
 
 pub use case::Case;
+pub use entries::true_entries_are_low;
 pub use judged::Judged;
 pub use law::{shown_by, written};
 pub use truth::{is_no_better, is_open, is_setting, is_true};

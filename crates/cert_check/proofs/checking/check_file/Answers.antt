@@ -50,6 +50,21 @@ returns-in-Err-open-clause-wide g c = λ wide.
     rw c.not_opened.ensures (unopened_headless c.args.ex.now c.args.sheet.now _ c.in-Err-open.fault
     c.in-Err-open.ensures.fault wide)
 
+pub returns-in-Ok-judge-clause-answers : goal.returns-in-Ok-judge-clause-answers
+returns-in-Ok-judge-clause-answers g c =
+    let ex = c.args.ex.now in
+    let sheet = c.args.sheet.now in
+    let files = g.F.Shelf.files c.args.shelf.now in
+    let head = c.in-Ok.started.0 in
+    let it = c.in-Ok-judge.verdict in
+    let opened = c.in-Ok-open.ensures.opened in
+    judged_answer ex sheet head files c.args.name.now ⊤ it
+    (subst (λ told. Finds ex sheet head told c.args.name.now it) c.start.ensures.files
+    (subst (λ (k : Checking). Finds k.exercise k.sheet k.head (g.F.Shelf.files c.start.new.shelf) c.args.name.now it)
+    opened
+    c.in-Ok-judge.ensures.finds))
+    (subst (λ (k : Checking). Shows k.exercise k.sheet k.head it) opened c.in-Ok-judge.ensures.shown)
+
 pub returns-in-Ok-judge-clause-accepts : goal.returns-in-Ok-judge-clause-accepts
 returns-in-Ok-judge-clause-accepts g c =
     let ex = c.args.ex.now in

@@ -7,7 +7,7 @@ use Rattle.cert_check.specs.declared.fault.ReadFault.{ReadFault}
 use Rattle.cert_check.specs.declared.verdict.Verdict.TheVariants as verdicts
 use Rattle.cert_check.specs.Judgments.{Finds}
 use Rattle.cert_check.proofs.JudgingLemmas.{count_grows, counted, finds_end, finds_fault, given, refuses_next, takes_on, unrefused}
-use Rattle.cert_check.proofs.TextLemmas.{finds_accepted}
+use Rattle.cert_check.proofs.OneVerdict.{finds_accepted}
 use Rattle.cert_check.proofs.judging.judge.Goals as goal
 
 pub feed-requires : goal.feed-requires
@@ -72,7 +72,7 @@ returns-in-Err-clause-finds g c =
     (g.F.Shelf.files c.loop-claim.shelf) c.loop-claim.invariant.1 c.in-Ok-Some.ensures.gives) in
     refuses_next files name c.args.checker c.loop-claim.reader c.loop-claim.checker on c.in-Ok-Some.claim
     c.in-Err.refused
-    c.feed.new.self c.next.new.self read.0 read.1
+    c.feed.new.self c.next.new.self read.0 read.1 c.next.ensures.limit_after
     (c.in-Err.ensures.refused (unrefused files name c.args.checker c.loop-claim.reader c.loop-claim.checker on))
 
 pub returns-in-Err-clause-accepts : goal.returns-in-Err-clause-accepts
@@ -92,7 +92,7 @@ returns-in-Ok-None-clause-finds g c =
     (g.F.Shelf.files c.loop-claim.shelf) c.loop-claim.invariant.1 c.in-Ok-None.ensures.gives) in
     finds_end files name c.args.checker c.loop-claim.reader c.loop-claim.checker on c.at_end.result c.next.ensures.limit
     read
-    c.at_end.ensures.accepted c.at_end.ensures.short c.at_end.ensures.shown
+    c.at_end.ensures.accepted c.at_end.ensures.short
 
 pub returns-in-Ok-None-clause-accepts : goal.returns-in-Ok-None-clause-accepts
 returns-in-Ok-None-clause-accepts g c = λ bytes has valid.

@@ -24,5 +24,5 @@ returns-in-Ok-clause-takes c = λ files name front at.
 pub returns-in-Err-clause-takes : goal.returns-in-Err-clause-takes
 returns-in-Err-clause-takes c = λ files name front at.
     let stands = subst (λ r. IsAt files name front r) (sym c.self.view_is) at in
-    line_refused files name front _ stands c.in-Err.fault c.take.new.self c.args.self.now
+    line_refused files name front _ stands c.in-Err.fault c.take.new.self c.args.self.now c.self.invariant.limit
     (rw c.deref.ensures.value at (c.in-Err.ensures.word stands.clear))

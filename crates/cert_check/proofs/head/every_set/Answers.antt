@@ -1,7 +1,0 @@
-use Rattle.std.proofs.Common.{rules}
-use Rattle.rule_law.specs.Forms as forms
-use Rattle.cert_check.proofs.head.every_set.Goals as goal
-
-pub returns-clause-value : goal.returns-clause-value
-unfolding forms.all_sets
-returns-clause-value c = search rules
