@@ -1,0 +1,5 @@
+mod AheadLemmas
+mod Best
+mod Children
+mod NodeLemmas
+mod Trees

@@ -1,0 +1,193 @@
+-- The tree is that of the cantus.
+use Rattle.std.specs.Prelude.{◌≡◌, ℕ, zero, suc, ◌+◌, ◌<◌, ◌≤◌, ◌⊎◌, Bool, true, false, nat_lt, [], ◌∷◌, ◌++◌, List, Option, Some, None, IsSome, length, reverse, slice_index_or, refl}
+use Rattle.std.specs.declared.cmp.Ordering.TheVariants.{Less}
+use Rattle.std.proofs.Common.{arith, sym, ap, ◌∙◌, subst, inl, inr}
+use Rattle.std.proofs.lemmas.Bool.{and_from}
+use Rattle.std.proofs.lemmas.Bool.Decides.{nat_tests}
+use Rattle.std.proofs.lemmas.List.{length-map, length-reverse, reverse-reverse}
+use Rattle.fux_pitch.specs.declared.pitch.Pitch.{Pitch}
+use Rattle.fux_grid.specs.Order.{pitch_order}
+use Rattle.fux_grid.specs.declared.cell.Cell.TheVariants.{Start}
+use Rattle.fux_grid.proofs.OrderLemmas.{cell_order-total}
+use Rattle.std.proofs.lemmas.Cmp.{tied_itself}
+use Rattle.rule_law.specs.Law.{below_from_test, first_true, second_true}
+use Rattle.tree_search.specs.Answer.{IsBefore, IsLeaf}
+use Rattle.cantus_space.specs.declared.plan.CantusPlan.{CantusPlan}
+use Rattle.cantus_space.specs.Ahead.{gauges_end}
+use Rattle.cantus_space.specs.Grows.{comes, history-push, live_some, live_value}
+use Rattle.cantus_space.specs.Lawful.{IsEarlier, IsLawful, IsLive, penalty_of}
+use Rattle.cantus_space.specs.Numbers.{WIDTH, numbered_pitch}
+use Rattle.cantus_space.specs.Order.{has_number, pitches_in_order}
+use Rattle.cantus_space.specs.Paths.{are_numbers, history_at, is_live_path, live_at, pitches_at}
+use Rattle.cantus_space.specs.Rules.{floor_of, is_live, may_come, paid}
+use Rattle.cantus_space.specs.Trees.{IsTreeOfCantus, LeafAt, LivePath}
+use Rattle.cantus_space.proofs.Children.{numbers-push}
+
+-- ---- order
+
+number-cases : (a b : ℕ) → (a < b) ⊎ ((a ≡ b) ⊎ (b < a))
+number-cases a b = at (nat_lt a b) (nat_lt b a) refl refl
+  where
+    at : (x y : Bool) → nat_lt a b ≡ x → nat_lt b a ≡ y → (a < b) ⊎ ((a ≡ b) ⊎ (b < a))
+    at true y e f = inl (below_from_test a b e)
+    at false true e f = inr (inr (below_from_test b a f))
+    at false false e f = inr (inl (grind (arith, nat_tests)))
+
+longer-cases : (a b : ℕ) (path other : List ℕ) → (a < b) ⊎ ((a ≡ b) ⊎ (b < a)) → IsBefore path other
+    ⊎ ((path ≡ other) ⊎ IsBefore other path) → IsBefore (a ∷ path) (b ∷ other)
+    ⊎ ((a ∷ path ≡ b ∷ other) ⊎ IsBefore (b ∷ other) (a ∷ path))
+longer-cases a b path other (inl h) rest = inl (inl h)
+longer-cases a b path other (inr (inr h)) rest = inr (inr (inl h))
+longer-cases a b path other (inr (inl q)) (inl h) = inl (inr (q, h))
+longer-cases a b path other (inr (inl q)) (inr (inl h)) = inr (inl (ap (λ x. x ∷ path) q ∙ ap (λ xs. b ∷ xs) h))
+longer-cases a b path other (inr (inl q)) (inr (inr h)) = inr (inr (inr (sym q, h)))
+
+-- of two paths of one length the first comes before, or they are one, or the second comes before
+pub paths-cases : (path other : List ℕ) → length path ≡ length other → IsBefore path other
+    ⊎ ((path ≡ other) ⊎ IsBefore other path)
+paths-cases [] [] e = inr (inl refl)
+paths-cases [] (b ∷ other) e = absurd (omega arith)
+paths-cases (a ∷ path) [] e = absurd (omega arith)
+paths-cases (a ∷ path) (b ∷ other) e =
+    longer-cases a b path other (number-cases a b) (paths-cases path other (omega arith))
+
+module _ (plan : CantusPlan) where
+  -- a path that comes before another leads to the earlier pitches
+  pub before_is_earlier : (path other : List ℕ) → length path ≡ length other → are_numbers other ≡ true
+      → IsBefore path other → IsEarlier (pitches_at plan path) (pitches_at plan other)
+  before_is_earlier path [] e m h = absurd h
+  before_is_earlier [] (b ∷ other) e m h = absurd (omega arith)
+  before_is_earlier (a ∷ path) (b ∷ other) e m (inl h) =
+      inl (pitches_in_order plan a b h (below_from_test b WIDTH (first_true (nat_lt b WIDTH) (are_numbers other) m)))
+  before_is_earlier (a ∷ path) (b ∷ other) e m (inr h) =
+      inr (
+        ap (numbered_pitch plan) h.0,
+        before_is_earlier path other (omega arith) (second_true (nat_lt b WIDTH) (are_numbers other) m) h.1,
+      )
+
+-- nothing is earlier than itself
+not_lower : (p : Pitch) → pitch_order p p ≡ Less → ⊥
+not_lower p h = let tied = tied_itself cell_order-total (Start p) in let clash = sym h ∙ tied in cc
+
+not_earlier : (ps : List Pitch) → IsEarlier ps ps → ⊥
+not_earlier [] h = h
+not_earlier (p ∷ ps) (inl h) = not_lower p h
+not_earlier (p ∷ ps) (inr h) = not_earlier ps h.1
+
+module _ (plan : CantusPlan) where
+  -- different paths lead to different pitches
+  pub same_path : (path other : List ℕ) → are_numbers path ≡ true → are_numbers other ≡ true
+      → pitches_at plan path ≡ pitches_at plan other → path ≡ other
+  same_path path other m n e = decide (paths-cases path other size)
+    where
+      size : length path ≡ length other
+      size = sym (length-map path (numbered_pitch plan)) ∙ ap length e ∙ length-map other (numbered_pitch plan)
+
+      decide : IsBefore path other ⊎ ((path ≡ other) ⊎ IsBefore other path) → path ≡ other
+      decide (inl h) =
+          let P : List Pitch → Type 0 = λ s. IsEarlier s (pitches_at plan other) in
+          absurd (not_earlier (pitches_at plan other) (subst P e (before_is_earlier plan path other size n h)))
+      decide (inr (inl h)) = h
+      decide (inr (inr h)) =
+          let P : List Pitch → Type 0 = λ s. IsEarlier s (pitches_at plan path) in
+          absurd (not_earlier (pitches_at plan path)
+          (subst P (sym e) (before_is_earlier plan other path (sym size) m h)))
+
+-- ---- the theorem
+
+-- a path to pitches
+pub record PathTo (plan : CantusPlan) (behind : List Pitch) : Type 0 where
+  pub path : List ℕ
+  pub numbers : are_numbers path ≡ true
+  pub there : history_at plan path ≡ behind
+
+module _ (plan : CantusPlan) where
+  path_to : (behind : List Pitch) → is_live plan behind ≡ true → PathTo plan behind
+  path_to [] h = record { path = []; numbers = refl; there = refl }
+  path_to (p ∷ behind) h =
+      let before = path_to behind (first_true (is_live plan behind) (may_come plan behind p) h) in
+      let on = comes plan behind p (second_true (is_live plan behind) (may_come plan behind p) h) in
+      let own = has_number plan (length behind + 1) p on.pool in
+      record {
+        path = before.path ++ own.number ∷ [];
+        numbers = numbers-push plan before.path own.number before.numbers own.small;
+        there = history-push plan before.path own.number ∙ ap (λ x. x ∷ history_at plan before.path) own.is
+            ∙ ap (λ xs. p ∷ xs) before.there;
+      }
+
+  pub path_is_live : (path : List ℕ) → IsSome (live_at plan path) → is_live_path plan path ≡ true
+  path_is_live path h = at (live_at plan path) refl h
+    where
+      at : (o : Option ℕ) → live_at plan path ≡ o → IsSome o → is_live_path plan path ≡ true
+      at None e s = cc
+      at (Some value) e s = (live_value plan path value e).0
+
+  pub numbers_of : (path : List ℕ) → IsSome (live_at plan path) → are_numbers path ≡ true
+  numbers_of path h = first_true (are_numbers path) (is_live plan (history_at plan path)) (path_is_live path h)
+
+  pub pitches_are_live : (path : List ℕ) → IsSome (live_at plan path) → IsLive plan (pitches_at plan path)
+  pitches_are_live path h =
+      second_true (are_numbers path) (is_live plan (history_at plan path)) (path_is_live path h)
+
+  pub is_there : (path : List ℕ) (value : ℕ) → live_at plan path ≡ Some value → IsSome (live_at plan path)
+  is_there path value e = subst IsSome (sym e) refl
+
+  pub path_to_pitches : (ps : List Pitch) → IsLive plan ps → LivePath plan ps
+  path_to_pitches ps h =
+      let way = path_to (reverse ps) h in
+      let there : pitches_at plan way.path ≡ ps =
+      sym (reverse-reverse (pitches_at plan way.path)) ∙ ap reverse way.there ∙ reverse-reverse ps
+      in
+      record {
+        path = way.path;
+        there = there;
+        is_live = is_there way.path _ (live_some plan way.path
+            (and_from (are_numbers way.path) (is_live plan (history_at plan way.path)) way.numbers
+            (ap (is_live plan) way.there ∙ h)));
+      }
+
+  -- the floor of all pitches is their penalty
+  floor_is_penalty : (cantus : List Pitch) → length cantus ≡ plan.bars → floor_of plan (reverse cantus)
+      ≡ penalty_of plan cantus
+  floor_is_penalty cantus whole =
+      let long : plan.bars ≤ length (reverse cantus) = omega (arith, whole, length-reverse cantus) in
+      ap (λ n. paid plan.sheet (reverse cantus) + n) (gauges_end plan (reverse cantus) long)
+
+  pub leaf_is_lawful : (path : List ℕ) (value : ℕ) → IsLeaf (live_at plan) plan.bars path value
+      → IsLawful plan (pitches_at plan path) × (penalty_of plan (pitches_at plan path) ≡ value)
+  leaf_is_lawful path value leaf =
+      let whole : length (pitches_at plan path) ≡ plan.bars = length-map path (numbered_pitch plan) ∙ leaf.0 in (
+        record { live = pitches_are_live path (is_there path value leaf.1); whole = whole },
+        sym (floor_is_penalty (pitches_at plan path) whole) ∙ (live_value plan path value leaf.1).1,
+      )
+
+  pub lawful_is_leaf : (cantus : List Pitch) → IsLawful plan cantus → LeafAt plan cantus
+  lawful_is_leaf cantus lawful =
+      let way = path_to_pitches cantus lawful.live in
+      record {
+        path = way.path;
+        there = way.there;
+        leaf = (
+          sym (length-map way.path (numbered_pitch plan)) ∙ ap length way.there ∙ lawful.whole,
+          live_some plan way.path (path_is_live way.path way.is_live)
+              ∙ ap (λ ps. Some (floor_of plan (reverse ps))) way.there
+              ∙ ap Some (floor_is_penalty cantus lawful.whole),
+        );
+      }
+
+  pub tree_of_cantus : IsTreeOfCantus plan
+  tree_of_cantus = record {
+    pitches_only = pitches_are_live;
+    each_pitches = path_to_pitches;
+    floors = λ path floor live. (live_value plan path floor live).1;
+    once = λ path other live its_live e. same_path plan path other (numbers_of path live) (numbers_of other its_live) e;
+    order = λ path other live size before. before_is_earlier plan path other size (numbers_of other live) before;
+    cantus_only = leaf_is_lawful;
+    each_cantus = lawful_is_leaf;
+  }
+
+-- each number of a path is one of a child
+pub number-at : (path : List ℕ) → are_numbers path ≡ true → (i : ℕ) → i < length path → slice_index_or path i 0 < WIDTH
+number-at [] h i w = absurd (omega arith)
+number-at (k ∷ path) h zero w = below_from_test k WIDTH (first_true (nat_lt k WIDTH) (are_numbers path) h)
+number-at (k ∷ path) h (suc i) w = number-at path (second_true (nat_lt k WIDTH) (are_numbers path) h) i (omega arith)

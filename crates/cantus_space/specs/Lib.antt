@@ -1,0 +1,12 @@
+pub mod Ahead
+pub mod Answers
+pub mod Cantus
+pub mod Grows
+pub mod Kept
+pub mod Lawful
+pub mod Nodes
+pub mod Numbers
+pub mod Order
+pub mod Paths
+pub mod Rules
+pub mod Trees
