@@ -112,6 +112,7 @@ module _ (budget : ℕ) (sheet : Sheet) (ex : Exercise) (narrow : IsNarrow ex) w
   of_best score penalty best (Err (refusal.Text kind line column)) made = absurd made
   of_best score penalty best (Err refusal.NoSetting) made = absurd made
   of_best score penalty best (Err (refusal.List line)) made = absurd made
+  of_best score penalty best (Err (refusal.Canon line)) made = absurd made
   of_best score penalty best (Err (refusal.Sheet fault)) made = absurd made
   of_best score penalty best (Err (refusal.Midi fault)) made = absurd made
 
@@ -134,6 +135,7 @@ module _ (budget : ℕ) (sheet : Sheet) (ex : Exercise) (narrow : IsNarrow ex) w
   of_none none (Err (refusal.Text kind line column)) made = absurd made
   of_none none (Err refusal.NoSetting) made = absurd made
   of_none none (Err (refusal.List line)) made = absurd made
+  of_none none (Err (refusal.Canon line)) made = absurd made
   of_none none (Err (refusal.Sheet fault)) made = absurd made
   of_none none (Err (refusal.Midi fault)) made = absurd made
 

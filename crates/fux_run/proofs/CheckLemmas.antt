@@ -2,13 +2,15 @@
 -- `part_is_there`).
 use Rattle.std.proofs.Common.{◌≡◌, ◌⊎◌, ℕ, zero, suc, ◌<◌, List, [], ◌∷◌, Contains, Option, Result, Ok, Err, get_or, inl, inr, refl, ap, sym, subst, ◌∙◌, arith}
 use Rattle.cert_check.specs.Readings.{MayBe}
-use Rattle.cert_text.specs.declared.answers.CertFault.TheVariants.{CertHead as WrongHead, CertWord, CertEnd, Memory}
 use Rattle.cert_text.specs.declared.answers.CertHead.{CertHead}
-use Rattle.cert_check.specs.Answers.{Answers}
+use Rattle.cert_check.specs.Answers.{IsVerdictOn}
+use Rattle.cert_check.proofs.OneVerdict.{one_verdict}
+use Rattle.cert_check.proofs.TextLemmas.{such_of}
 use Rattle.cert_check.specs.Judgments as cert
 use Rattle.cert_check.specs.declared.verdict.Verdict.{Verdict as CertVerdict}
 use Rattle.cert_check.specs.declared.verdict.Verdict.TheVariants.{Accepted, Claim, Text}
 use Rattle.fux_grid.specs.declared.exercise.Exercise.{Exercise}
+use Rattle.fux_grid.specs.Exercises.{IsValid}
 use Rattle.fux_port.specs.Files.{IsMissing}
 use Rattle.fux_port.specs.Written.{StopsShort}
 use Rattle.penalty_sheet.specs.declared.sheet.Sheet.{Sheet}
@@ -21,13 +23,13 @@ use Rattle.fux_run.specs.declared.work.Unmade.{Unmade}
 use Rattle.fux_run.specs.declared.work.Unmade.TheVariants as unmade
 use Rattle.fux_run.specs.declared.work.Verdict.{Verdict}
 use Rattle.fux_run.specs.declared.work.Verdict.TheVariants.{Favorable, Unfavorable}
-use Rattle.fux_run.specs.Checked.{AnswersWithin, IsAccepted, IsChecked, Judges, told}
+use Rattle.fux_run.specs.Checked.{AnswersWithin, IsAccepted, IsChecked, IsOnlyVerdict, Judges, told}
 use Rattle.class_marker.specs.Lists.{listed_names}
 use Rattle.class_marker.specs.Markings.{IsContent}
 use Rattle.fux_text.proofs.ReadTexts.{texts-faultless}
 use Rattle.fux_text.specs.Texts.{IsTextOf}
 use Rattle.fux_run.specs.Classes.{RefusesList}
-use Rattle.fux_run.specs.Commands.{Task, as_list, certify, check, class_report, drill, fromsmf, name_in, names_in, names_listed, names_within, on_exercise}
+use Rattle.fux_run.specs.Commands.{Task, as_list, certify, check, class_report, drill, find_canon, find_cantus, fromsmf, name_in, names_in, names_listed, names_within, on_exercise}
 use Rattle.fux_run.specs.Runs.{IsMade, IsRefused, IsWritten, SaysWithin, work_output}
 use Rattle.fux_run.specs.declared.refusal.Refusal.{Refusal}
 use Rattle.fux_run.specs.declared.refusal.Refusal.TheVariants as refusal
@@ -38,16 +40,6 @@ use Rattle.fux_run.specs.Works.{AllHave, AreContents, AreRead, ChecksText, Files
 use Rattle.fux_run.proofs.MakeLemmas.{have_bytes, works_on}
 use Rattle.fux_run.proofs.WorkLemmas.{all_there, not_missing, only_bytes}
 
--- a verdict doesn't depend on the shelf's faults
-pub judged : (ex : Exercise) (sheet : Sheet) (files : Files) (name : List ℕ) (rose : Type 0) (it : CertVerdict)
-    → Answers ex sheet files name rose (Ok it) → Judges ex sheet files name it
-judged ex sheet files name rose (Accepted answer) found = found
-judged ex sheet files name rose (Claim refused) found = found
-judged ex sheet files name rose (Text (WrongHead at)) found = found
-judged ex sheet files name rose (Text (CertWord at)) found = found
-judged ex sheet files name rose (Text (CertEnd at)) found = found
-judged ex sheet files name rose (Text Memory) found = found
-
 -- ---- what is told of a verdict
 
 module _ (ex : Exercise) (sheet : Sheet) (files : Files) (name : List ℕ) (output : Output) where
@@ -55,23 +47,29 @@ module _ (ex : Exercise) (sheet : Sheet) (files : Files) (name : List ℕ) (outp
   only_valid : (it : CertVerdict) → Judges ex sheet files name it → output ≡ told it → output.verdict ≡ Favorable
       → IsAccepted ex sheet files name output
   only_valid (Accepted answer) found e good = record {
-    head = found.head;
-    valid = found.finds.1;
-    told = e ∙ ap (λ a. told (Accepted a)) found.finds.0;
-    holds = found.shown answer refl;
+    head = found.such.head;
+    valid = record { bytes = found.bytes; had = found.had; such = found.such.finds.1 };
+    told = e ∙ ap (λ a. told (Accepted a)) found.such.finds.0;
+    holds = found.such.shown answer refl;
   }
   only_valid (Claim refused) found e good =
       let no : Unfavorable ≡ Favorable = sym (ap (λ (o : Output). o.verdict) e) ∙ good in cc
   only_valid (Text fault) found e good =
       let no : Unfavorable ≡ Favorable = sym (ap (λ (o : Output). o.verdict) e) ∙ good in cc
 
-  pub checked : (it : CertVerdict) → IsNarrow ex → Judges ex sheet files name it
+  -- it is the only one
+  only_verdict : (it : CertVerdict) → IsValid ex → Judges ex sheet files name it → IsOnlyVerdict ex sheet files name it
+  only_verdict it valid judges bytes other has found =
+      one_verdict ex sheet bytes other it valid found (such_of files name bytes has (IsVerdictOn ex sheet it) judges)
+
+  pub checked : (it : CertVerdict) → IsValid ex → IsNarrow ex → Judges ex sheet files name it
       → ((head : CertHead) → cert.AcceptsValid ex sheet head files name it) → output ≡ told it
       → IsChecked files name sheet ex output
-  checked it narrow judges accepts e = record {
+  checked it valid narrow judges accepts e = record {
     narrow = narrow;
     said = it;
     judges = judges;
+    only = only_verdict it valid judges;
     told = e;
     exact = record {
       only = only_valid it judges e;
@@ -88,12 +86,8 @@ may_be_there files name Such found missing = not_missing files name found.bytes 
 judged_is_there : (ex : Exercise) (sheet : Sheet) (files : Files) (name : List ℕ) (it : CertVerdict)
     → Judges ex sheet files name it
     → IsMissing files name → ⊥
-judged_is_there ex sheet files name (Accepted answer) found missing = may_be_there files name _ found.finds.1 missing
-judged_is_there ex sheet files name (Claim refused) found missing = may_be_there files name _ found.finds missing
-judged_is_there ex sheet files name (Text (WrongHead at)) found missing = may_be_there files name _ found missing
-judged_is_there ex sheet files name (Text (CertWord at)) found missing = may_be_there files name _ found.finds missing
-judged_is_there ex sheet files name (Text (CertEnd at)) found missing = may_be_there files name _ found.finds missing
-judged_is_there ex sheet files name (Text Memory) found missing = may_be_there files name _ found.finds missing
+judged_is_there ex sheet files name it found missing =
+    may_be_there files name (IsVerdictOn ex sheet it) found missing
 
 the_one : (one name : List ℕ) (k : ℕ) → k < 1 → get_or (one ∷ []) k name ≡ name → one ≡ name
 the_one one name zero within is = is
@@ -123,6 +117,8 @@ output_is_there (on_exercise ex sheet job) files name bytes output made one miss
 output_is_there (certify ex sheet budget) files name bytes output made one missing = omega (arith, one.1)
 output_is_there (fromsmf file head) files name bytes output made one missing = omega (arith, one.1)
 output_is_there (drill number) files name bytes output made one missing = omega (arith, one.1)
+output_is_there (find_canon file sheet budget) files name bytes output made one missing = omega (arith, one.1)
+output_is_there (find_cantus wanted sheet budget) files name bytes output made one missing = omega (arith, one.1)
 output_is_there (class_report list) files name (text ∷ []) output made one missing =
     class_is_there files text name (names_listed (listed_names text)) output made refl one missing
 output_is_there (class_report list) files name [] output made one missing = absurd made
@@ -159,6 +155,7 @@ not_refused_width ex (refusal.TooWide place count) wide narrow = omega (arith, n
 not_refused_width ex (refusal.Text kind line column) wide narrow = wide
 not_refused_width ex refusal.NoSetting wide narrow = wide
 not_refused_width ex (refusal.List line) wide narrow = wide
+not_refused_width ex (refusal.Canon line) wide narrow = wide
 not_refused_width ex refusal.LongCertificate wide narrow = wide
 not_refused_width ex (refusal.Sheet fault) wide narrow = wide
 not_refused_width ex (refusal.Midi fault) wide narrow = wide
@@ -168,6 +165,7 @@ not_refused_text bytes ex (refusal.Text kind line column) is refused = texts-fau
 not_refused_text bytes ex (refusal.TooWide place count) is refused = refused
 not_refused_text bytes ex refusal.NoSetting is refused = refused
 not_refused_text bytes ex (refusal.List line) is refused = refused
+not_refused_text bytes ex (refusal.Canon line) is refused = refused
 not_refused_text bytes ex refusal.LongCertificate is refused = refused
 not_refused_text bytes ex (refusal.Sheet fault) is refused = refused
 not_refused_text bytes ex (refusal.Midi fault) is refused = refused
@@ -179,6 +177,7 @@ not_refused_sheet sheets sheet (refusal.Text kind line column) said refused = re
 not_refused_sheet sheets sheet (refusal.TooWide place count) said refused = refused
 not_refused_sheet sheets sheet refusal.NoSetting said refused = refused
 not_refused_sheet sheets sheet (refusal.List line) said refused = refused
+not_refused_sheet sheets sheet (refusal.Canon line) said refused = refused
 not_refused_sheet sheets sheet refusal.LongCertificate said refused = refused
 not_refused_sheet sheets sheet (refusal.Midi fault) said refused = refused
 
@@ -188,6 +187,7 @@ not_refused_list text names (refusal.List line) listed refused = cc (listed, ref
 not_refused_list text names (refusal.Text kind line column) listed refused = refused
 not_refused_list text names (refusal.TooWide place count) listed refused = refused
 not_refused_list text names refusal.NoSetting listed refused = refused
+not_refused_list text names (refusal.Canon line) listed refused = refused
 not_refused_list text names refusal.LongCertificate listed refused = refused
 not_refused_list text names (refusal.Sheet fault) listed refused = refused
 not_refused_list text names (refusal.Midi fault) listed refused = refused
@@ -217,6 +217,8 @@ not_refused (on_exercise ex sheet job) files bytes refusal made ready = ready
 not_refused (certify ex sheet budget) files bytes refusal made ready = ready
 not_refused (fromsmf file head) files bytes refusal made ready = ready
 not_refused (drill number) files bytes refusal made ready = ready
+not_refused (find_canon file sheet budget) files bytes refusal made ready = ready
+not_refused (find_cantus wanted sheet budget) files bytes refusal made ready = ready
 
 pub refused_unready : (task : Task) (files : Files) (bytes : List (List ℕ)) (text : List ℕ)
     → AllHave files (names_in task) bytes → Works task files (IsRefused (name_in task) text) → IsReadyFor task bytes → ⊥

@@ -1,6 +1,8 @@
 pub mod AskedLemmas
 pub mod BestLemmas
 pub mod BlameLemmas
+pub mod CanonLemmas
+pub mod CantusLemmas
 pub mod CertifyLemmas
 pub mod CheckLemmas
 pub mod ClassLemmas

@@ -4,7 +4,7 @@ use Rattle.cert_check.specs.Checking.{accepted_of}
 use Rattle.cert_law.specs.Certificates.{Holds}
 use Rattle.cert_check.specs.Readings.{Files, MayBe}
 use Rattle.cert_text.specs.declared.answers.CertHead.{CertHead}
-use Rattle.cert_check.specs.Answers.{Answers}
+use Rattle.cert_check.specs.Answers.{IsVerdictOn}
 use Rattle.cert_check.specs.Judgments.{IsCertificateText}
 use Rattle.cert_check.specs.declared.verdict.Verdict.{Verdict as CertVerdict}
 use Rattle.cert_check.specs.declared.verdict.Verdict.TheVariants.{Accepted, Claim, Text}
@@ -35,7 +35,13 @@ told said = record { verdict = verdict_on said; bytes = verdict_line said }
 -- the verdict is that on the certificate in the file of this name: the file is the text of a valid certificate whose head then holds, or
 -- the verdict tells the first thing that is wrong with it
 abbrev pub Judges : Exercise → Sheet → Files → List ℕ → CertVerdict → Type 0
-Judges ex sheet files certificate said = Answers ex sheet files certificate ⊥ (Ok said)
+Judges ex sheet files certificate said = MayBe files certificate (IsVerdictOn ex sheet said)
+
+-- no other verdict is one on the file of this name, where there is one that is told
+abbrev pub IsOnlyVerdict : Exercise → Sheet → Files → List ℕ → CertVerdict → Type 0
+IsOnlyVerdict ex sheet files certificate said =
+    (bytes : List ℕ) (other : CertVerdict) → HasFile files certificate bytes → IsVerdictOn ex sheet other bytes
+    → other ≡ said
 
 -- the file of this name is the text of a valid certificate, the output tells what it shows, and this holds
 pub record IsAccepted (ex : Exercise) (sheet : Sheet) (files : Files) (certificate : List ℕ) (output : Output) : Type 0
@@ -54,13 +60,14 @@ pub record AcceptsValid (ex : Exercise) (sheet : Sheet) (files : Files) (certifi
       → IsCertificateText ex sheet head bytes
       → output ≡ told (Accepted (accepted_of head))
 
--- an output on an exercise none of whose menus is too wide: the line of the verdict, which is that of an accepted certificate exactly
--- where the certificate is valid
+-- an output on an exercise none of whose menus is too wide: the line of the one verdict on the file, which is that of an accepted
+-- certificate exactly where the certificate is valid
 pub record IsChecked (files : Files) (certificate : List ℕ) (sheet : Sheet) (ex : Exercise) (output : Output) : Type 0
   where
     pub narrow : IsNarrow ex
     pub said : CertVerdict
     pub judges : Judges ex sheet files certificate said
+    pub only : IsOnlyVerdict ex sheet files certificate said
     pub told : output ≡ told said
     pub exact : AcceptsValid ex sheet files certificate output
 

@@ -1,5 +1,5 @@
 -- What the words on the command line ask for. A word is its bytes.
-use Rattle.std.specs.Prelude.{ℕ, ◌==◌, Bool, true, false, List, [], ◌∷◌, String, Option, Some, None, Result, Ok, Err, map, string_bytes, codes, if◌then◌else◌, option_and_then, option_map}
+use Rattle.std.specs.Prelude.{ℕ, ◌==◌, ◌≤◌, ◌≤ℤ◌, int_le, Bool, true, false, List, [], ◌∷◌, String, Option, Some, None, Result, Ok, Err, map, string_bytes, codes, if◌then◌else◌, option_and_then, option_map}
 use Rattle.std.specs.Borrow.{Bor}
 use Rattle.std.specs.Option.{option_map_or}
 use Rattle.std.specs.Str.{bytes_eq}
@@ -8,7 +8,8 @@ use Rattle.clap.specs.Words.{App, Kinds, Row, Rule, Text, fault_of, first_of, ma
 use Rattle.clap.specs.declared.builder.action.ArgAction.TheVariants.{SetTrue}
 use Rattle.class_marker.specs.Lists.{listed_names}
 use Rattle.fux_grid.specs.declared.exercise.Head.{Head}
-use Rattle.fux_text.specs.Names.{mode_named}
+use Rattle.fux_pitch.specs.Pitch.{key_of}
+use Rattle.fux_text.specs.Names.{mode_named, pitch_named}
 use Rattle.smf_score.specs.Heads.{IsHead}
 use Rattle.text_lines.specs.Numbers.{number_within}
 use Rattle.fux_run.specs.declared.command.Command.{Command}
@@ -16,7 +17,8 @@ use Rattle.fux_run.specs.declared.command.Command.TheVariants.{Certify, Make}
 use Rattle.fux_run.specs.declared.command.Job.{Job}
 use Rattle.fux_run.specs.declared.command.Job.TheVariants.{Compose, Mark, Cantus, Print, ToSmf}
 use Rattle.fux_run.specs.declared.command.Making.{Making}
-use Rattle.fux_run.specs.declared.command.Making.TheVariants.{OnExercise, Check, FromSmf, Drill, Class}
+use Rattle.fux_run.specs.declared.command.Making.TheVariants.{OnExercise, Check, FromSmf, Drill, Class, Canon, NewCantus}
+use Rattle.fux_run.specs.declared.command.Wanted.{Wanted}
 
 -- words as their bytes
 abbrev pub texts : {Y : Type 0} → List (String Y) → List Text
@@ -30,6 +32,8 @@ pub data Task : Type 0 where
   fromsmf : (name : Text) (head : Head) → Task
   drill : (number : ℕ) → Task
   class_report : (list : Text) → Task
+  find_canon : (name : Text) (sheet : Option Text) (budget : ℕ) → Task
+  find_cantus : (wanted : Wanted) (sheet : Option Text) (budget : ℕ) → Task
 
 -- the name of a sheet, as its bytes
 abbrev pub sheet_named : Option (Bor (List ℕ)) → Option (List ℕ)
@@ -42,14 +46,23 @@ making_task (Check name certificate sheet) = check name.now certificate.now (she
 making_task (FromSmf name head) = fromsmf name.now head
 making_task (Drill number) = drill number
 making_task (Class list) = class_report list.now
+making_task (Canon name sheet budget) = find_canon name.now (sheet_named sheet) budget
+making_task (NewCantus wanted sheet budget) = find_cantus wanted (sheet_named sheet) budget
 
 abbrev pub task_of : Command → Task
 task_of (Make making) = making_task making
 task_of (Certify name sheet budget) = certify name.now (sheet_named sheet) budget
 
--- the head of a command is one that an exercise may have
+-- what is asked of a new cantus is within the limits
+pub record IsWanted (wanted : Wanted) : Type 0 where
+  pub fewest : 3 ≤ wanted.bars
+  pub most : wanted.bars ≤ 24
+  pub rise : key_of wanted.low ≤ℤ key_of wanted.high
+
+-- the head of a command is one that an exercise may have, and what it asks of a new cantus is within the limits
 abbrev pub HasMidiHead : Making → Type 0
 HasMidiHead (FromSmf name head) = IsHead head
+HasMidiHead (NewCantus wanted sheet budget) = IsWanted wanted
 HasMidiHead _ = Unit {0}
 
 abbrev pub HasHead : Command → Type 0
@@ -94,6 +107,17 @@ drill_words = one_word (codes "drill") (codes "N")
 
 abbrev pub class_words : App
 class_words = one_word (codes "class") (codes "LIST")
+
+abbrev pub canon_words : App
+canon_words =
+    with_rule (with_rule (one_word (codes "canon") (codes "FILE")) (option_word false (codes "sheet")))
+    (option_word false (codes "budget"))
+
+abbrev pub new_cantus_words : App
+new_cantus_words =
+    with_rule (with_rule (with_rule (with_rule (with_rule (one_word (codes "newcantus") (codes "MODE"))
+    (needed_word (codes "BARS"))) (needed_word (codes "LOW"))) (needed_word (codes "HIGH")))
+    (option_word false (codes "sheet"))) (option_word false (codes "budget"))
 
 -- what says how a file is to be read, each of which must be there
 abbrev pub head_words : App → App
@@ -187,6 +211,31 @@ drill_asked rows = number_at (codes "N") 0 1000000 rows >>= λ number. Some (dri
 abbrev pub class_asked : List Row → Option Task
 class_asked rows = first_of (codes "LIST") rows >>= λ list. Some (class_report list)
 
+abbrev pub canon_asked : List Row → Option Task
+canon_asked rows = do
+  name ← first_of (codes "FILE") rows
+  budget ← budget_in (first_of (codes "budget") rows)
+  Some (find_canon name (first_of (codes "sheet") rows) budget)
+
+-- what is wanted, where its range doesn't fall
+abbrev pub if_rising : Wanted → Option Wanted
+if_rising wanted = if int_le (key_of wanted.low) (key_of wanted.high) then Some wanted else None
+
+-- what is asked of a new cantus
+abbrev pub wanted_in : List Row → Option Wanted
+wanted_in rows = do
+  mode ← first_of (codes "MODE") rows >>= mode_named
+  bars ← number_at (codes "BARS") 3 24 rows
+  low ← first_of (codes "LOW") rows >>= pitch_named
+  high ← first_of (codes "HIGH") rows >>= pitch_named
+  if_rising (record { mode = mode; bars = bars; low = low; high = high })
+
+abbrev pub new_cantus_asked : List Row → Option Task
+new_cantus_asked rows = do
+  wanted ← wanted_in rows
+  budget ← budget_in (first_of (codes "budget") rows)
+  Some (find_cantus wanted (first_of (codes "sheet") rows) budget)
+
 -- ---- the commands by their first words
 
 -- what the values in words of a form ask for
@@ -215,7 +264,9 @@ asked (word ∷ rest) =
     else (if bytes_eq word (codes "fromsmf") then asked_by fromsmf_words fromsmf_asked rest
     else (if bytes_eq word (codes "drill") then asked_by drill_words drill_asked rest
     else (if bytes_eq word (codes "class") then asked_by class_words class_asked rest
-    else None)))))))))
+    else (if bytes_eq word (codes "canon") then asked_by canon_words canon_asked rest
+    else (if bytes_eq word (codes "newcantus") then asked_by new_cantus_words new_cantus_asked rest
+    else None)))))))))))
 
 -- ---- the files
 
@@ -227,6 +278,8 @@ name_in (check name certificate sheet) = name
 name_in (fromsmf name head) = name
 name_in (drill number) = []
 name_in (class_report list) = list
+name_in (find_canon name sheet budget) = name
+name_in (find_cantus wanted sheet budget) = []
 
 -- what there is, as a list
 abbrev pub as_list : {X : Type 0} → Option X → List X
@@ -241,6 +294,8 @@ names_in (check name certificate sheet) = name ∷ as_list sheet
 names_in (fromsmf name head) = name ∷ []
 names_in (drill number) = []
 names_in (class_report list) = list ∷ []
+names_in (find_canon name sheet budget) = name ∷ as_list sheet
+names_in (find_cantus wanted sheet budget) = as_list sheet
 
 -- the names that a list has, where no line is at fault
 abbrev pub names_listed : Result (List Text) ℕ → List Text
@@ -262,3 +317,5 @@ limit_in (check name certificate sheet) = 65536
 limit_in (fromsmf name head) = 1048576
 limit_in (drill number) = 65536
 limit_in (class_report list) = 65536
+limit_in (find_canon name sheet budget) = 65536
+limit_in (find_cantus wanted sheet budget) = 65536

@@ -6,6 +6,8 @@ pub mod Commands
 pub mod Complaints
 pub mod Composed
 pub mod Drilled
+pub mod Imitated
+pub mod Invented
 pub mod Listed
 pub mod Marked
 pub mod Played

@@ -18,10 +18,12 @@ use Rattle.penalty_sheet.specs.declared.sheet.Sheet.{Sheet}
 use Rattle.fux_run.specs.Certified.{Certifies}
 use Rattle.fux_run.specs.Checked.{AnswersWithin, Checks, IsUnreadable}
 use Rattle.fux_run.specs.Classes.{IsClass, IsList, RefusesList}
-use Rattle.fux_run.specs.Commands.{Task, on_exercise, certify, check, fromsmf, drill, class_report, as_list, names_in}
+use Rattle.fux_run.specs.Commands.{Task, on_exercise, certify, check, fromsmf, drill, class_report, find_canon, find_cantus, as_list, names_in}
 use Rattle.fux_run.specs.Complaints.{name_text}
 use Rattle.fux_run.specs.Composed.{Composes}
 use Rattle.fux_run.specs.Drilled.{Drills}
+use Rattle.fux_run.specs.Imitated.{MakesCanon}
+use Rattle.fux_run.specs.Invented.{MakesCantus}
 use Rattle.fux_run.specs.Marked.{Marks, CantusMarks}
 use Rattle.fux_run.specs.Played.{ReadsMidi}
 use Rattle.fux_run.specs.Rendered.{Prints, WritesSmf}
@@ -91,6 +93,8 @@ Makes (check name certificate sheet) files (text ∷ sheets) work = ChecksText f
 Makes (fromsmf name head) files (file ∷ []) work = ReadsMidi head file work
 Makes (drill number) files [] work = Drills number work
 Makes (class_report list) files (text ∷ []) work = ReportsClass files text work
+Makes (find_canon name sheet budget) files (text ∷ sheets) work = MakesCanon budget sheets text work
+Makes (find_cantus wanted sheet budget) files sheets work = MakesCantus wanted budget sheets work
 Makes _ _ _ work = ⊥
 
 -- the text is that of an exercise none of whose menus is too wide, and the file of the sheet is one where it is given

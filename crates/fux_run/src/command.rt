@@ -2,14 +2,19 @@
 
 ghost use Rattle.std.specs.Prelude.{◌≡◌, IfOk, IfSome, codes, option_map, true};
 ghost use Rattle.clap.specs.Words.{app_of, found_of, is_simple_and_free, rows_of};
-ghost use Rattle.fux_run.specs.Commands.{HasHead, asked, asked_by, certify_asked, check_asked, check_words, class_asked, class_words, compose_asked, drill_asked, drill_words, found_in, fromsmf_asked, fromsmf_words, job_in, search_in, task_of, texts};
+ghost use Rattle.fux_run.specs.Commands.{HasHead, asked, asked_by, certify_asked, check_asked, check_words, class_asked, class_words, canon_asked, canon_words, compose_asked, drill_asked, drill_words, found_in, fromsmf_asked, fromsmf_words, job_in, new_cantus_asked, new_cantus_words, search_in, task_of, texts};
 
-use crate::forms::{check_form, class_form, drill_form, exercise_form, from_smf_form, search_form};
-use crate::values::{certifying, checking, classing, composing, drilling, job_on, smf_reading};
+use crate::forms::{
+    canon_form, check_form, class_form, drill_form, exercise_form, from_smf_form, new_cantus_form,
+    search_form,
+};
+use crate::values::{
+    certifying, checking, classing, composing, drilling, imitating, inventing, job_on, smf_reading,
+};
 use clap::ArgMatches;
 use clap::error::ErrorKind;
 use fux_grid::Head;
-use fux_pitch::Memory;
+use fux_pitch::{Memory, Mode, Pitch};
 use std::alloc::Global;
 
 /// What is to be made of an exercise.
@@ -25,6 +30,18 @@ pub enum Job {
     Print,
     /// The MIDI file of its setting.
     ToSmf,
+}
+
+/// What is asked of a new cantus.
+#[derive(Clone, Copy)]
+pub struct Wanted {
+    pub mode: Mode,
+    /// From 3 to 24.
+    pub bars: u8,
+    /// The low end of the range.
+    pub low: Pitch,
+    /// The high end, whose key isn't below the low end's.
+    pub high: Pitch,
 }
 
 /// What is to be made whole before any of it is written, and the names of the files that it is to be made of.
@@ -54,6 +71,19 @@ pub enum Making<'a> {
     /// The report of the exercises in the files that a list names.
     Class {
         list: &'a str,
+    },
+    /// The best of the canons that the text in a file asks for, found within this budget, over the sheet of weights in another where one
+    /// is named.
+    Canon {
+        name: &'a str,
+        sheet: Option<&'a str>,
+        budget: u32,
+    },
+    /// The best new cantus, found within this budget, over the sheet of weights in a file where one is named.
+    NewCantus {
+        wanted: Wanted,
+        sheet: Option<&'a str>,
+        budget: u32,
     },
 }
 
@@ -90,6 +120,8 @@ pub fn parse(alloc: Global, words: &[String]) -> Result<Option<Command<'_>>, Mem
         "fromsmf" => parse_from_smf(alloc, rest),
         "drill" => parse_drill(alloc, rest),
         "class" => parse_class(alloc, rest),
+        "canon" => parse_canon(alloc, rest),
+        "newcantus" => parse_new_cantus(alloc, rest),
         _ => Ok(None),
     }
 }
@@ -180,6 +212,30 @@ fn parse_class(alloc: Global, words: &[String]) -> Result<Option<Command<'_>>, M
         return Ok(None);
     };
     Ok(classing(&matches))
+}
+
+/// The words behind `canon`.
+fn parse_canon(alloc: Global, words: &[String]) -> Result<Option<Command<'_>>, Memory>
+    ensures asked { IfOk result (λ found. option_map task_of found
+        ≡ asked_by canon_words canon_asked (texts words.now)) }
+    ensures head { IfOk result (λ found. IfSome found HasHead) }
+{
+    let Some(matches) = taken(canon_form(alloc)?, words)? else {
+        return Ok(None);
+    };
+    Ok(imitating(&matches))
+}
+
+/// The words behind `newcantus`.
+fn parse_new_cantus(alloc: Global, words: &[String]) -> Result<Option<Command<'_>>, Memory>
+    ensures asked { IfOk result (λ found. option_map task_of found
+        ≡ asked_by new_cantus_words new_cantus_asked (texts words.now)) }
+    ensures head { IfOk result (λ found. IfSome found HasHead) }
+{
+    let Some(matches) = taken(new_cantus_form(alloc)?, words)? else {
+        return Ok(None);
+    };
+    Ok(inventing(&matches))
 }
 
 /// What a simple command of `clap` finds in words, if it takes them.

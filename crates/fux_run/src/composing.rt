@@ -68,7 +68,7 @@ fn best_text(
 }
 
 /// That there is none.
-fn none_text(alloc: Global) -> Result<String, Memory>
+pub fn none_text(alloc: Global) -> Result<String, Memory>
     ensures { IfOk result (λ text. string_bytes text ≡ none_line) }
 {
     let mut text = String::new(alloc);

@@ -2,7 +2,7 @@
 
 ghost use Rattle.std.specs.Prelude.{◌≡◌, IfOk, codes};
 ghost use Rattle.clap.specs.Words.{app_of, with_rule};
-ghost use Rattle.fux_run.specs.Commands.{check_words, class_words, drill_words, needed_word, exercise_words, flag_word, fromsmf_words, head_words, one_word, option_word, search_words};
+ghost use Rattle.fux_run.specs.Commands.{canon_words, check_words, class_words, drill_words, needed_word, exercise_words, flag_word, fromsmf_words, head_words, new_cantus_words, one_word, option_word, search_words};
 
 use clap::{Arg, ArgAction, Command};
 use std::alloc::{AllocError, Global};
@@ -89,6 +89,27 @@ pub fn class_form<'a>(alloc: Global) -> Result<Command<'a>, AllocError>
     ensures { IfOk result (λ command. app_of command ≡ class_words) }
 {
     one_word(alloc, "class", "LIST")
+}
+
+/// `canon FILE [--sheet S] [--budget N]`.
+pub fn canon_form<'a>(alloc: Global) -> Result<Command<'a>, AllocError>
+    ensures { IfOk result (λ command. app_of command ≡ canon_words) }
+{
+    let command = one_word(alloc, "canon", "FILE")?;
+    let command = with_option(alloc, command, "sheet", false)?;
+    with_option(alloc, command, "budget", false)
+}
+
+/// `newcantus MODE BARS LOW HIGH [--sheet S] [--budget N]`.
+pub fn new_cantus_form<'a>(alloc: Global) -> Result<Command<'a>, AllocError>
+    ensures { IfOk result (λ command. app_of command ≡ new_cantus_words) }
+{
+    let command = one_word(alloc, "newcantus", "MODE")?;
+    let command = with_word(alloc, command, "BARS")?;
+    let command = with_word(alloc, command, "LOW")?;
+    let command = with_word(alloc, command, "HIGH")?;
+    let command = with_option(alloc, command, "sheet", false)?;
+    with_option(alloc, command, "budget", false)
 }
 
 /// The command with what says how a file is to be read.

@@ -11,6 +11,8 @@ mod content;
 mod drilling;
 mod exercise;
 mod forms;
+mod imitating;
+mod inventing;
 mod making;
 mod marking;
 mod perform;

@@ -18,6 +18,8 @@ use crate::composing::compose;
 use crate::content::read_content;
 use crate::drilling::drill;
 use crate::exercise::{LONGEST_TEXT, exercise_of};
+use crate::imitating::canon;
+use crate::inventing::new_cantus;
 use crate::marking::{cantus, mark};
 use crate::playing::{LONGEST_MIDI, from_smf};
 use crate::refusal::{Refusal, refusal_text};
@@ -72,6 +74,16 @@ pub fn make<'a, F: Shelf, R: Threads + Sync>(
         }
         Making::Drill { number } => said(alloc, "", drill(rt, alloc, number)),
         Making::Class { list } => class(rt, alloc, list, shelf),
+        Making::Canon {
+            name,
+            sheet,
+            budget,
+        } => canon(alloc, name, sheet, budget, shelf),
+        Making::NewCantus {
+            wanted,
+            sheet,
+            budget,
+        } => new_cantus(alloc, wanted, sheet, budget, shelf),
     }
 }
 
@@ -150,7 +162,7 @@ fn of_exercise<R: Threads + Sync>(
 }
 
 /// The output of an answer, or what is said where there is none, with this name for a text that is refused.
-fn said<'a>(
+pub fn said<'a>(
     alloc: Global,
     name: &str,
     answer: Result<Output, Stop>,

@@ -27,6 +27,10 @@ pub enum Refusal {
     List {
         line: u32,
     },
+    /// The file is no text of a canon: the number of its first line at fault.
+    Canon {
+        line: u32,
+    },
     /// A column has more than 8,192 ways to go on: the first such place, and how many they are.
     TooWide {
         place: Place,
@@ -63,6 +67,7 @@ fn put_refusal(text: &mut String, name: &str, refusal: &Refusal) -> Result<(), M
         }
         Refusal::NoSetting => put_unmarked(text, name, Unmarked::NoSetting),
         Refusal::List { line } => Ok(write!(text, "{name}:{line}: list")?),
+        Refusal::Canon { line } => Ok(write!(text, "{name}:{line}: canon")?),
         Refusal::TooWide { place, count } => put_width(text, *place, *count),
         Refusal::LongCertificate => Ok(text.push_str("certificate too long")?),
         Refusal::Sheet { fault } => Ok(write!(text, "sheet: {fault}")?),

@@ -5,12 +5,13 @@ ghost use Rattle.clap.specs.Words.{first_of, found_of, rows_of};
 ghost use Rattle.fux_text.specs.Names.{mode_named};
 ghost use Rattle.smf_score.specs.Heads.{IsHead};
 ghost use Rattle.text_lines.specs.Numbers.{number_within};
-ghost use Rattle.fux_run.specs.Commands.{HasHead, budget_in, certify_asked, check_asked, class_asked, compose_asked, drill_asked, fromsmf_asked, head_in, is_set, job_asked, number_at, task_of};
+ghost use Rattle.fux_run.specs.Commands.{HasHead, IsWanted, budget_in, canon_asked, certify_asked, check_asked, class_asked, compose_asked, drill_asked, fromsmf_asked, head_in, is_set, job_asked, new_cantus_asked, number_at, task_of, wanted_in};
 
-use crate::command::{Command, Job, Making};
+use crate::command::{Command, Job, Making, Wanted};
 use clap::ArgMatches;
 use fux_grid::Head;
-use fux_pitch::Mode;
+use fux_pitch::{Mode, semitone};
+use fux_text::parse_pitch;
 use text_lines::{is_same, parse_number};
 
 const USUAL_BUDGET: u32 = 1_000_000;
@@ -192,4 +193,55 @@ pub fn classing<'a>(matches: &ArgMatches<'a>) -> Option<Command<'a>>
 {
     let list = value(matches, "LIST")?;
     Some(Command::Make(Making::Class { list }))
+}
+
+/// `canon`, on the text of a canon in a file.
+pub fn imitating<'a>(matches: &ArgMatches<'a>) -> Option<Command<'a>>
+    ensures asked { option_map task_of result ≡ canon_asked (rows_of (found_of matches.now)) }
+    ensures head { IfSome result HasHead }
+{
+    let name = value(matches, "FILE")?;
+    let budget = budget_of(value(matches, "budget"))?;
+    let sheet = value(matches, "sheet");
+    Some(Command::Make(Making::Canon {
+        name,
+        sheet,
+        budget,
+    }))
+}
+
+/// What is asked of a new cantus.
+fn wanted_of(matches: &ArgMatches<'_>) -> Option<Wanted>
+    ensures value { result ≡ wanted_in (rows_of (found_of matches.now)) }
+    ensures wanted { IfSome result IsWanted }
+{
+    let mode = mode_named(value(matches, "MODE")?)?;
+    let bars = number_at(matches, "BARS", 3, 24)?;
+    let low = parse_pitch(value(matches, "LOW")?.as_bytes())?;
+    let high = parse_pitch(value(matches, "HIGH")?.as_bytes())?;
+    if semitone(low) <= semitone(high) {
+        Some(Wanted {
+            mode,
+            bars: bars as u8,
+            low,
+            high,
+        })
+    } else {
+        None
+    }
+}
+
+/// `newcantus`, of what is asked of it.
+pub fn inventing<'a>(matches: &ArgMatches<'a>) -> Option<Command<'a>>
+    ensures asked { option_map task_of result ≡ new_cantus_asked (rows_of (found_of matches.now)) }
+    ensures head { IfSome result HasHead }
+{
+    let wanted = wanted_of(matches)?;
+    let budget = budget_of(value(matches, "budget"))?;
+    let sheet = value(matches, "sheet");
+    Some(Command::Make(Making::NewCantus {
+        wanted,
+        sheet,
+        budget,
+    }))
 }

@@ -97,6 +97,12 @@ const COPIES: &[(usize, &str, &str)] = &[
     (108, "", "1 refused at claim 104: short\n"),
     (108, "b 14\no\n", "1 refused at claim 105: over\n"),
     (2, "best 6\n", "1 refused at claim 0: head\n"),
+    // A head that isn't sound is told before a line that is none.
+    (
+        3,
+        "sing 1 D5:8 | C5:8 | D5:8\nclaims\nq\n",
+        "1 refused at claim 0: head\n",
+    ),
     (5, "q\n", "1 refused at byte 52: word\n"),
     (108, "b 14", "1 refused at byte 362: end\n"),
 ];

@@ -67,6 +67,39 @@ compose A|@sing 1 D5:8 ! C#5:7 ! D5:8/|3||fux: A:8:21: length/
 compose A|@sing 1 D5:8 ! C#5:8 ! H5:8/|3||fux: A:8:23: pitch/
 compose A|fux 1/mode dorian/voices 2/bars 3/species 6 voice 1/cantus 0 D4 E4 D4/range 1 A4 D5/|3||fux: A:5:9: word/
 compose A|@range 1 A4 C5 2 2/|1|none/|
+canon A|fux-canon 1/mode dorian/bars 3/leader 1 D4 D5/follower -7 1 D3 D4/|0|fux-canon 1/mode dorian/bars 3/leader 1 D4 D5/follower -7 1 D3 D4/sing 0 r:8 ! D3:8 ! D3:8/sing 1 D4:8 ! D4:8 ! D4:8/; penalty 11/|
+canon --budget=4000000 A|fux-canon 1/mode dorian/bars 3/leader 1 D4 D5/follower -7 1 D3 D4/|0|fux-canon 1/mode dorian/bars 3/leader 1 D4 D5/follower -7 1 D3 D4/sing 0 r:8 ! D3:8 ! D3:8/sing 1 D4:8 ! D4:8 ! D4:8/; penalty 11/|
+canon A|fux-canon 1/mode dorian/bars 3/leader 1 D4 D5/follower -7 1 A3 C4/|1|none/|
+canon A --budget 1|fux-canon 1/mode dorian/bars 3/leader 1 D4 D5/follower -7 1 D3 D4/|6|spent, at least 0/|
+canon A|fux-canon 1/mode dorian/bars 3/leader 1 D4 D5/follower -7 2 D3 D4/|3||fux: A:5: canon/
+canon A|@|3||fux: A:1: canon/
+canon A --sheet A|fux-canon 1/mode dorian/bars 3/leader 1 D4 D5/follower -7 1 D3 D4/|3||fux: sheet: not toml/
+canon A --sheet A|@|3||fux: A:1: canon/
+canon A --sheet B|fux-canon 1/mode dorian/bars 3/leader 1 D4 D5/follower -7 1 D3 D4/|4||fux: cannot read B/
+canon C --sheet B|fux-canon 1/mode dorian/bars 3/leader 1 D4 D5/follower -7 1 D3 D4/|4||fux: cannot read C/
+canon|fux-canon 1/mode dorian/bars 3/leader 1 D4 D5/follower -7 1 D3 D4/|2||fux: usage/
+canon A A|fux-canon 1/mode dorian/bars 3/leader 1 D4 D5/follower -7 1 D3 D4/|2||fux: usage/
+canon A --budget 0|fux-canon 1/mode dorian/bars 3/leader 1 D4 D5/follower -7 1 D3 D4/|2||fux: usage/
+newcantus dorian 3 C4 F4||0|cantus D4 E4 D4/; penalty 3/|
+newcantus dorian 4 C4 A4||0|cantus D4 C4 E4 D4/; penalty 4/|
+newcantus dorian 3 D4 D4||1|none/|
+newcantus --budget=4000000 dorian 3 C4 F4||0|cantus D4 E4 D4/; penalty 3/|
+newcantus dorian 3 C4 F4 --sheet A|[weights]/|0|cantus D4 E4 D4/; penalty 3/|
+newcantus dorian 3 C4 F4 --sheet A||0|cantus D4 E4 D4/; penalty 3/|
+newcantus dorian 3 C#4 C4||2||fux: usage/
+newcantus dorian 3 C4 F4 --sheet A|@|3||fux: sheet: not toml/
+newcantus dorian 3 C4 F4 --sheet B||4||fux: cannot read B/
+newcantus dorian 3 F4 C4 --sheet B||2||fux: usage/
+newcantus dorian 2 C4 F4||2||fux: usage/
+newcantus dorian 25 C4 F4||2||fux: usage/
+newcantus dorian 03 C4 F4||2||fux: usage/
+newcantus Dorian 3 C4 F4||2||fux: usage/
+newcantus dorian 3 C4 H4||2||fux: usage/
+newcantus dorian 3 C8 F4||2||fux: usage/
+newcantus dorian 3 B#4 C5||1|none/|
+newcantus dorian 3 C4||2||fux: usage/
+newcantus dorian 3 C4 F4 A||2||fux: usage/
+newcantus dorian 3 C4 F4 --budget 0||2||fux: usage/
 compose A|fux 1/mode dorian/voices 2/bars 3/species 1 voice 0/cantus 1 D4 E4 D4/range 0 C4 D4/|0|fux 1/mode dorian/voices 2/bars 3/species 1 voice 0/cantus 1 D4 E4 D4/range 0 C4 D4/sing 0 D4:8 ! C#4:8 ! D4:8/; penalty 7/|"
 }
 
