@@ -401,6 +401,7 @@ exercise_of plan cantus = record {
   cantus = cantus;
   ranges = [];
   relax = [];
+  given = [];
   setting = None;
 }
 
