@@ -3,7 +3,7 @@
 ghost use Rattle.std.specs.Prelude.{◌≡◌, IfOk, length};
 
 use crate::tables::{compare, number, word};
-use case_texts::pitch_of;
+use short_scores::pitch_of;
 use fux_grid::{
     Cell, Column, GridFault, Note, Score, next_note, note_at, order, prev_note, shape, sounding,
 };

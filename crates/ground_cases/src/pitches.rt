@@ -4,7 +4,7 @@ ghost use Rattle.std.specs.Prelude.{pos, negsuc, ◌≤ℤ◌, ◌<◌};
 
 use crate::menus::is_shared;
 use crate::tables::{compare, number, word};
-use case_texts::{mode_of, pitch_of};
+use short_scores::{mode_of, pitch_of};
 use fux_pitch::{
     Interval, Label, List, Memory, Mode, Pitch, final_letter, in_gamut, interval_of, is_consonant,
     is_imperfect, is_perfect, leading, name, parse_pitch, reduce, semitone, spell,

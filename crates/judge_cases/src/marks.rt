@@ -2,7 +2,7 @@
 
 use crate::parts::parts;
 use crate::tables::{CANTUS_FIRMI, SETTINGS};
-use case_texts::{case_of, exercise_of};
+use short_scores::{case_of, exercise_of};
 use score_marker::{Mark, cantus_marks, marks};
 use std::alloc::Global;
 use std::fmt::Write;

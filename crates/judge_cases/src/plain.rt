@@ -11,7 +11,7 @@ ghost use Rattle.fux_grid.specs.Exercises.{IsValid};
 
 use crate::parts::parts;
 use crate::{four_voices, tables, three_voices, two_voices};
-use case_texts::case_of;
+use short_scores::case_of;
 use fux_grid::{Exercise, Score};
 use fux_judge::{State, Verdict, penalty, step};
 use penalty_sheet::{Sheet, default_sheet};

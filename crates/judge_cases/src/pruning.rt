@@ -5,7 +5,7 @@ ghost use Rattle.fux_grid.specs.Exercises.{IsValid, columns_in};
 
 use crate::parts::parts;
 use crate::tables::COLUMNS;
-use case_texts::case_of;
+use short_scores::case_of;
 use fux_grid::{Column, Exercise, Score};
 use fux_judge::{State, is_always_dead, pruned_within, step};
 use penalty_sheet::default_sheet;

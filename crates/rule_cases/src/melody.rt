@@ -1,7 +1,7 @@
 //! Lines of one note a column, worked out by hand.
 
 use crate::found::add_found;
-use case_texts::{exercise_of, score_of};
+use short_scores::{exercise_of, score_of};
 use std::alloc::Global;
 use std::fmt::Write;
 use std::process::Abort;

@@ -2,7 +2,7 @@
 
 use crate::found::add_found;
 use crate::{chords, spans};
-use case_texts::case_of;
+use short_scores::case_of;
 use std::alloc::Global;
 use std::process::Abort;
 use std::test::Fail;
