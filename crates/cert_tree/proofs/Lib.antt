@@ -1,0 +1,2 @@
+pub mod OwnClaims
+pub mod Shown
