@@ -1,5 +1,5 @@
 -- A bar that is one whole note has its cells (`whole_is`, `whole_back`); so has a cantus (`cantus_is`, `cantus_back`).
-use Rattle.std.proofs.Common.{◌≡◌, ℕ, zero, suc, ◌+◌, ◌-◌, ◌*◌, ◌/◌, ◌%◌, ◌<◌, ◌≤◌, Bool, true, false, List, [], ◌∷◌, ◌++◌, drop, get_or, take, length, replicate, Option, Some, None, option_map, slice_get, Ok, refl, sym, ◌∙◌, ap, arith, cond, eqb, add-one}
+use Rattle.std.proofs.Common.{◌≡◌, ℕ, zero, suc, ◌+◌, ◌-◌, ◌*◌, ◌<◌, ◌≤◌, Bool, true, false, List, [], ◌∷◌, ◌++◌, drop, take, length, replicate, Option, Some, None, Ok, refl, sym, ◌∙◌, ap, arith, cond, add-one}
 use Rattle.std.specs.List.{list_all}
 use Rattle.std.specs.Option.{ok_or}
 use Rattle.std.proofs.lemmas.Bool.{and_parts}
@@ -10,13 +10,11 @@ use Rattle.fux_pitch.proofs.PitchLemmas.{equal_from_test}
 use Rattle.fux_grid.proofs.PitchTests.{same_pitch-from_equal}
 use Rattle.fux_grid.specs.declared.cell.Cell.{Cell}
 use Rattle.fux_grid.specs.declared.cell.Cell.TheVariants.{Rest, Hold, Start}
-use Rattle.fux_grid.specs.Cells.{cell_in}
-use Rattle.fux_grid.specs.Exercises.{cantus_cell}
 use Rattle.smf_score.specs.declared.fault.SmfFault.TheVariants.{NotWhole}
-use Rattle.smf_score.specs.Cantus.{bar_pitch, bars_from, cantus_cells, holds, whole_note}
+use Rattle.smf_score.specs.Cantus.{bar_pitch, bars_from, holds, whole_note}
 use Rattle.smf_score.specs.Faults.{each}
-use Rattle.smf_score.specs.Sounding.{note_cells}
 use Rattle.smf_score.proofs.EachLemmas.{each_ok, each_then}
+use Rattle.voice_lines.specs.Lines.{cantus_cells, note_cells}
 
 -- ---- the cells of a whole note
 
@@ -95,42 +93,3 @@ cantus_back bar [] = refl
 cantus_back bar (p ∷ ps) =
     each_then bar_pitch (bar, note_cells p 8) (bars_from (suc bar) (length ps) (cantus_cells ps)) p ps
     (ap (λ (o : Option Pitch). ok_or o (NotWhole (bar + 1))) (whole_back p 8)) (cantus_back (suc bar) ps)
-
-pub length-cantus_cells : (ps : List Pitch) → length (cantus_cells ps) ≡ 8 * length ps
-length-cantus_cells [] = refl
-length-cantus_cells (p ∷ ps) = omega (arith, length-cantus_cells ps)
-
--- the last cell of a cantus is held
-pub last_held : (p : Pitch) (ps : List Pitch)
-    → (q : Pitch) × (get_or (cantus_cells (p ∷ ps)) (8 * length ps + 7) Rest ≡ Hold q)
-last_held p [] = (p, refl)
-last_held p (r ∷ ps) =
-    let later = last_held r ps in
-    let next : 8 * suc (length ps) + 7 ≡ suc (suc (suc (suc (suc (suc (suc (suc (8 * length ps + 7)))))))) = omega arith in
-    (later.0, ap (λ i. get_or (cantus_cells (p ∷ r ∷ ps)) i Rest) next ∙ later.1)
-
--- the cell of a cantus at a column
-abbrev cell_at : List Pitch → ℕ → Option Cell
-cell_at cantus i = option_map (cantus_cell i) (slice_get cantus (i / 8))
-
-cell_at-later : (p : Pitch) (ps : List Pitch) (j : ℕ) → cell_at (p ∷ ps) (8 + j) ≡ cell_at ps j
-cell_at-later p ps j =
-    let q : (8 + j) / 8 ≡ suc (j / 8) = omega arith in
-    let r : (8 + j) % 8 ≡ j % 8 = omega arith in
-    ap (λ k. option_map (cantus_cell (8 + j)) (slice_get (p ∷ ps) k)) q
-    ∙ ap (λ m. option_map (λ x. cond (eqb m 0) (Start x) (Hold x)) (slice_get ps (j / 8))) r
-
-pub cantus_cells-at : (cantus : List Pitch) (i : ℕ) → i < 8 * length cantus
-    → option_map (cantus_cell i) (slice_get cantus (i / 8)) ≡ Some (cell_in (cantus_cells cantus) i)
-cantus_cells-at [] i lt = absurd (omega arith)
-cantus_cells-at (p ∷ ps) zero lt = refl
-cantus_cells-at (p ∷ ps) (suc zero) lt = refl
-cantus_cells-at (p ∷ ps) (suc (suc zero)) lt = refl
-cantus_cells-at (p ∷ ps) (suc (suc (suc zero))) lt = refl
-cantus_cells-at (p ∷ ps) (suc (suc (suc (suc zero)))) lt = refl
-cantus_cells-at (p ∷ ps) (suc (suc (suc (suc (suc zero))))) lt = refl
-cantus_cells-at (p ∷ ps) (suc (suc (suc (suc (suc (suc zero)))))) lt = refl
-cantus_cells-at (p ∷ ps) (suc (suc (suc (suc (suc (suc (suc zero))))))) lt = refl
-cantus_cells-at (p ∷ ps) (suc (suc (suc (suc (suc (suc (suc (suc j)))))))) lt =
-    let eight : suc (suc (suc (suc (suc (suc (suc (suc j))))))) ≡ 8 + j = omega arith in
-    ap (cell_at (p ∷ ps)) eight ∙ cell_at-later p ps j ∙ cantus_cells-at ps j (omega (arith, lt))

@@ -1,10 +1,8 @@
 -- What is read (`exercise_is`) is a valid exercise (`with_valid`).
-use Rattle.std.proofs.Common.{◌≡◌, ℕ, ◌*◌, ◌/◌, ◌<◌, ◌≤◌, List, [], length, get_or, Some, Ok, refl, sym, ◌∙◌, ap, subst, arith, pos, ◌≤ℤ◌, unsigned_abs, lit≤, zero-add}
-use Rattle.std.specs.Prelude.{option_map, slice_get}
+use Rattle.std.proofs.Common.{◌≡◌, ℕ, ◌*◌, ◌<◌, ◌≤◌, List, [], length, get_or, Ok, refl, sym, ◌∙◌, ap, subst, arith, pos, ◌≤ℤ◌, unsigned_abs, lit≤, zero-add}
 use Rattle.std.proofs.lemmas.Int.{ints}
 use Rattle.std.proofs.lemmas.List.{get_or-map, get_or-take, length-map}
 use Rattle.std.proofs.lemmas.List.Elements.{All-nil}
-use Rattle.std.proofs.lemmas.List.FromFn.{get_or-map-range_with_len, length-map-range_with_len}
 use Rattle.fux_pitch.specs.declared.pitch.Pitch.{Pitch}
 use Rattle.fux_pitch.specs.Pitch.{key_of}
 use Rattle.fux_pitch.proofs.PitchLemmas.{key_of-number}
@@ -14,19 +12,21 @@ use Rattle.fux_grid.specs.declared.exercise.Exercise.{Exercise}
 use Rattle.fux_grid.specs.declared.exercise.Head.{Head}
 use Rattle.fux_grid.specs.declared.exercise.RangeLine.{RangeLine}
 use Rattle.fux_grid.specs.Cells.{cell_in}
-use Rattle.fux_grid.specs.Exercises.{IsRangeLine, IsValid, cantus_cell}
+use Rattle.fux_grid.specs.Exercises.{IsRangeLine, IsValid}
 use Rattle.fux_grid.proofs.GivenLemmas.{nothing_given}
 use Rattle.smf_score.specs.declared.placed.Placed.{Placed}
 use Rattle.smf_score.specs.Cantus.{cantus_in}
 use Rattle.smf_score.specs.Exercise.{bars_in, voices_in, exercise_with, exercise_in}
 use Rattle.smf_score.specs.Heads.{IsHead}
 use Rattle.smf_score.specs.Ranges.{HaveNotes, ranges_in}
-use Rattle.smf_score.specs.Sounding.{cells_of, column_of, lines_of}
+use Rattle.smf_score.specs.Sounding.{cells_of, lines_of}
 use Rattle.smf_score.specs.Written.{midi_key}
-use Rattle.smf_score.proofs.CantusLemmas.{cantus_cells-at, cantus_is}
+use Rattle.smf_score.proofs.CantusLemmas.{cantus_is}
 use Rattle.smf_score.proofs.EachLemmas.{value_then}
 use Rattle.smf_score.proofs.RangeLemmas.{IsFreeLine, one_range, ranges_fit}
-use Rattle.smf_score.proofs.SoundingLemmas.{cells_long, column-cell}
+use Rattle.smf_score.proofs.SoundingLemmas.{cells_long}
+use Rattle.voice_lines.specs.Lines.{cantus_cells}
+use Rattle.voice_lines.proofs.CantusLines.{score_given}
 
 -- the cells of a voice that is there, in so many bars
 pub line_long : (bars v : ℕ) (notes : List (List Placed)) → v < length notes
@@ -37,19 +37,14 @@ line_long bars v notes there =
     (omega (arith, cells_long 0 (8 * bars) (get_or notes v [])))
 
 -- the cantus stands in the setting
-has_cantus : (notes : List (List Placed)) (v bars : ℕ) (ps : List Pitch) → v < length notes
-    → cantus_in bars (get_or (lines_of bars notes) v []) ≡ Ok ps → (i : ℕ) → i < 8 * bars
-    → (length ps ≡ bars) × (option_map (cantus_cell i) (slice_get ps (i / 8))
-    ≡ Some (cell_in (column_of (lines_of bars notes) i) v))
-has_cantus notes v bars ps there e i within =
+cantus_stands : (notes : List (List Placed)) (v bars : ℕ) (ps : List Pitch) → v < length notes
+    → cantus_in bars (get_or (lines_of bars notes) v []) ≡ Ok ps
+    → (length ps ≡ bars) × ((i : ℕ) → i < 8 * bars
+    → cell_in (get_or (lines_of bars notes) v []) i ≡ cell_in (cantus_cells ps) i)
+cantus_stands notes v bars ps there e =
     let cells = get_or (lines_of bars notes) v [] in
-    let is = cantus_is 0 bars cells ps e (line_long bars v notes there) in (
-      is.0,
-      cantus_cells-at ps i (omega (arith, within, is.0))
-          ∙ ap (λ (cs : List Cell). Some (cell_in cs i)) (sym is.1)
-          ∙ ap (λ (c : Cell). Some c) (get_or-take (8 * bars) cells i Rest within)
-          ∙ ap (λ (c : Cell). Some c) (sym (column-cell (lines_of bars notes) i v)),
-    )
+    let is = cantus_is 0 bars cells ps e (line_long bars v notes there) in
+    (is.0, λ i within. sym (get_or-take (8 * bars) cells i Rest within) ∙ ap (λ (cs : List Cell). cell_in cs i) is.1)
 
 key_is : (p : Pitch) → key_of p ≡ pos (midi_key p)
 key_is p =
@@ -74,8 +69,7 @@ pub with_valid : (head : Head) (notes : List (List Placed)) (bars : ℕ) (cantus
 with_valid head notes bars cantus fits few many cantus_there species_there fewest most some e =
     let ex = exercise_with head notes (length notes) bars cantus in
     let lines = lines_of bars notes in
-    let whole = length-map-range_with_len (column_of lines) 0 (8 * bars) in
-    let has = has_cantus notes head.cantus_voice bars cantus cantus_there e in
+    let stands = cantus_stands notes head.cantus_voice bars cantus cantus_there e in
     record {
       fewest_voices = few;
       most_voices = many;
@@ -86,7 +80,7 @@ with_valid head notes bars cantus fits few many cantus_there species_there fewes
       species_there = species_there;
       cantus_there = cantus_there;
       differ = fits.differ;
-      whole_cantus = (has 0 (omega arith)).0;
+      whole_cantus = stands.0;
       range_lines_fit = λ k d within.
           line_fits ex (get_or (ranges_in head.cantus_voice 0 notes) k d) (subst (λ n. IsFreeLine head.cantus_voice 0 n
           (get_or (ranges_in head.cantus_voice 0 notes) k d)) (zero-add (length notes))
@@ -97,14 +91,7 @@ with_valid head notes bars cantus fits few many cantus_there species_there fewes
       few_relax = lit≤ tt;
       given_fit = All-nil _;
       given_ascend = λ i j d lt within. absurd (omega (arith, within));
-      setting = record {
-        complete = record { voices = length-map notes (cells_of 0 (8 * bars)); whole = whole };
-        cantus = λ i within.
-            let there : i < 8 * bars = omega (arith, within, whole) in
-            (has i there).1
-            ∙ ap (λ (col : List Cell). Some (cell_in col head.cantus_voice))
-            (sym (get_or-map-range_with_len (column_of lines) 0 (8 * bars) i i [] there (omega arith)));
-      };
+      setting = score_given ex lines stands.0 (length-map notes (cells_of 0 (8 * bars))) stands.1;
       setting_fits = nothing_given ex _ refl;
     }
 

@@ -1,6 +1,6 @@
 -- The cantus of a line of cells: in each bar one whole note.
 use Rattle.std.specs.Prelude.{ℕ, zero, suc, ◌+◌, Bool, false, List, [], ◌∷◌, Option, Some, None, Result, drop, take, if◌then◌else◌}
-use Rattle.std.specs.List.{flat_map, list_all}
+use Rattle.std.specs.List.{list_all}
 use Rattle.std.specs.Option.{ok_or}
 use Rattle.fux_pitch.specs.declared.pitch.Pitch.{Pitch}
 use Rattle.fux_pitch.specs.Pitch.{same_pitch}
@@ -9,11 +9,6 @@ use Rattle.fux_grid.specs.declared.cell.Cell.TheVariants.{Rest, Hold, Start}
 use Rattle.smf_score.specs.declared.fault.SmfFault.{SmfFault}
 use Rattle.smf_score.specs.declared.fault.SmfFault.TheVariants.{NotWhole}
 use Rattle.smf_score.specs.Faults.{each}
-use Rattle.smf_score.specs.Sounding.{note_cells}
-
--- the cells of a cantus: a whole note in each bar
-abbrev pub cantus_cells : List Pitch → List Cell
-cantus_cells cantus = flat_map (λ p. note_cells p 8) cantus
 
 -- a pitch is held in a cell
 abbrev pub holds : Pitch → Cell → Bool

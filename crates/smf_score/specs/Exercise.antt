@@ -9,7 +9,8 @@ use Rattle.smf_score.specs.declared.placed.Placed.{Placed}
 use Rattle.smf_score.specs.Faults.{◌>>=◌}
 use Rattle.smf_score.specs.Cantus.{cantus_in}
 use Rattle.smf_score.specs.Ranges.{ranges_in}
-use Rattle.smf_score.specs.Sounding.{lines_of, score_of}
+use Rattle.smf_score.specs.Sounding.{lines_of}
+use Rattle.voice_lines.specs.Lines.{score_of}
 
 -- the slot at which the last note of a voice has ended
 abbrev pub last_end : List Placed → ℕ

@@ -25,11 +25,13 @@ quantity n =
 abbrev pub chunk_bytes : ℕ → List ℕ → List ℕ
 chunk_bytes kind bytes = to_be_bytes w32 kind ++ to_be_bytes w32 (length bytes) ++ bytes
 
--- a key is struck so many slots after the note before, at 240 ticks a slot, and let go so many slots later
+-- a message with this status of a key, so many slots after the one before it, at 240 ticks a slot
+abbrev pub key_bytes : ℕ → ℕ → ℕ → List ℕ
+key_bytes wait status key = quantity (240 * wait) ++ status ∷ key ∷ 0x40 ∷ []
+
+-- a key is struck so many slots after the note before, and let go so many slots later
 abbrev pub note_bytes : ℕ → ℕ → ℕ → ℕ → List ℕ
-note_bytes v wait len key =
-    quantity (240 * wait) ++ (0x90 + v) ∷ key ∷ 0x40 ∷ []
-    ++ quantity (240 * len) ++ (0x80 + v) ∷ key ∷ 0x40 ∷ []
+note_bytes v wait len key = key_bytes wait (0x90 + v) key ++ key_bytes len (0x80 + v) key
 
 -- notes of a voice, of which the one before ends at a column
 abbrev pub notes_bytes : ℕ → ℕ → List Note → List ℕ

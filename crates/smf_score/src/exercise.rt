@@ -9,12 +9,13 @@ ghost use Rattle.smf_score.specs.Exercise.{bars_in, exercise_in, last_end, last_
 
 use crate::cantus::cantus_of;
 use crate::fault::SmfFault;
-use crate::grid::{line_of, lines_of, score_of};
+use crate::grid::{line_of, lines_of};
 use crate::placed::Placed;
 use crate::ranges::ranges_of;
 use fux_grid::{Exercise, Head};
 use fux_pitch::List;
 use std::alloc::Global;
+use voice_lines::score_of;
 
 /// The slot at which the last note of a voice has ended.
 fn last_end(notes: &[Placed]) -> u64

@@ -1,13 +1,11 @@
 //! The cells of placed notes.
 
-ghost use Rattle.std.specs.Prelude.{◌≡◌, ◌*◌, ◌<◌, ◌≤◌, [], ◌++◌, IfOk, OnOk, length, replicate, slice_index_or};
-ghost use Rattle.std.specs.List.{AllByRecursion};
-ghost use Rattle.fux_grid.specs.declared.cell.Cell.TheVariants.{Rest};
-ghost use Rattle.smf_score.specs.Sounding.{LineFollows, cells_of, column_of, lines_of, score_of};
+ghost use Rattle.std.specs.Prelude.{◌≡◌, ◌<◌, [], ◌++◌, IfOk, OnOk, length, replicate, slice_index_or};
+ghost use Rattle.smf_score.specs.Sounding.{cells_of, lines_of};
 
 use crate::placed::Placed;
-use fux_grid::{Cell, Column, Score, cell_of};
-use fux_pitch::{List, Memory};
+use fux_grid::Cell;
+use fux_pitch::List;
 use std::alloc::{AllocError, Global};
 
 /// Appends a cell so many times.
@@ -59,31 +57,4 @@ pub(crate) fn line_of(lines: &[List<Cell>], voice: u8) -> &[Cell]
     ensures { result.now ≡ slice_index_or lines.now voice [] }
 {
     lines[voice as usize].as_slice()
-}
-
-/// The column of lines of cells at a slot.
-fn column_of(lines: &[List<Cell>], slot: usize) -> Column
-    requires { length lines.now ≤ 4 }
-    ensures { result.items ≡ column_of lines.now slot }
-{
-    let mut column = Column::new();
-    for line in lines {
-        column.push(cell_of(line.as_slice(), slot));
-    }
-    column
-}
-
-/// The score of lines of cells of so many bars.
-pub(crate) fn score_of(alloc: Global, lines: &[List<Cell>], bars: u8) -> Result<Score, Memory>
-    requires least { 2 ≤ length lines.now }
-    requires most { length lines.now ≤ 4 }
-    requires short { bars ≤ 24 }
-    requires follow { AllByRecursion (LineFollows Rest) lines.now }
-    ensures { IfOk result (λ score. score ≡ score_of (8 * bars) lines.now) }
-{
-    let mut score = Score::new(alloc, lines.len() as u8)?;
-    for i in 0..8 * usize::from(bars) {
-        let _ = score.push(column_of(lines, i));
-    }
-    Ok(score)
 }

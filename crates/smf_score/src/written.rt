@@ -4,7 +4,7 @@ ghost use Rattle.std.specs.Prelude.{◌≡◌, ◌≤◌, ◌<◌, ◌+◌, ◌^
 ghost use Rattle.fux_grid.specs.Columns.{line};
 ghost use Rattle.fux_grid.specs.Exercises.{IsComplete};
 ghost use Rattle.smf_score.specs.Lines.{holds_ahead, notes_of};
-ghost use Rattle.smf_score.specs.Written.{chunk_bytes, end_bytes, note_bytes, notes_bytes, notes_from, header_bytes, quantity, smf_of, tempo_bytes, track_bytes};
+ghost use Rattle.smf_score.specs.Written.{chunk_bytes, end_bytes, note_bytes, notes_bytes, notes_from, header_bytes, key_bytes, quantity, smf_of, tempo_bytes, track_bytes};
 
 use fux_grid::{Cell, Exercise, Score};
 use fux_pitch::{Memory, semitone};
@@ -50,6 +50,16 @@ fn push_chunk(out: &mut Vec<u8>, kind: u32, bytes: &[u8]) -> Result<(), Memory>
     Ok(())
 }
 
+/// Appends a message with a status of a key, so many slots after the one before it.
+fn push_key(out: &mut Vec<u8>, wait: u32, status: u8, key: u8) -> Result<(), Memory>
+    requires { wait ≤ 1000 }
+    ensures ok { OnOk result (out.new.items ≡ out.old.items ++ key_bytes wait status key) }
+{
+    push_quantity(out, SLOT_TICKS * wait)?;
+    out.extend_from_slice(&[status, key, 0x40])?;
+    Ok(())
+}
+
 /// Appends a note of a voice that starts so many slots after the end of the one before.
 fn push_note(out: &mut Vec<u8>, v: u8, wait: u32, len: u32, key: u8) -> Result<(), Memory>
     requires voice { v < 16 }
@@ -57,11 +67,8 @@ fn push_note(out: &mut Vec<u8>, v: u8, wait: u32, len: u32, key: u8) -> Result<(
     requires len { len < 1000 }
     ensures ok { OnOk result (out.new.items ≡ out.old.items ++ note_bytes v wait len key) }
 {
-    push_quantity(out, SLOT_TICKS * wait)?;
-    out.extend_from_slice(&[0x90 + v, key, 0x40])?;
-    push_quantity(out, SLOT_TICKS * len)?;
-    out.extend_from_slice(&[0x80 + v, key, 0x40])?;
-    Ok(())
+    push_key(out, wait, 0x90 + v, key)?;
+    push_key(out, len, 0x80 + v, key)
 }
 
 /// How many holds of a voice stand from a column on.

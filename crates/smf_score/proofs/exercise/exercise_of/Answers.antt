@@ -5,7 +5,7 @@ use Rattle.fux_grid.specs.declared.cell.Cell.TheVariants.{Rest}
 use Rattle.fux_grid.specs.Exercises.{IsValid}
 use Rattle.smf_score.specs.Cantus.{cantus_in}
 use Rattle.smf_score.specs.Exercise.{exercise_in, exercise_with}
-use Rattle.smf_score.specs.Sounding.{LineFollows}
+use Rattle.voice_lines.specs.Lines.{LineFollows}
 use Rattle.smf_score.proofs.EachLemmas.{ok_is}
 use Rattle.smf_score.proofs.SoundingLemmas.{lines_follow}
 use Rattle.smf_score.proofs.ValidLemmas.{exercise_is, line_long, with_valid}

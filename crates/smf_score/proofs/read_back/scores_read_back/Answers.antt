@@ -1,4 +1,4 @@
-use Rattle.smf_score.proofs.PlacesBack.{spelled_as}
+use Rattle.smf_score.proofs.NotesBack.{spelled_as}
 use Rattle.smf_score.proofs.RoundTrip.{reads_back}
 use Rattle.smf_score.proofs.read_back.scores_read_back.Goals as goal
 

@@ -1,6 +1,6 @@
 use Rattle.std.proofs.Common.{◌≡◌, take}
-use Rattle.smf_score.specs.Sounding.{column_of}
-use Rattle.smf_score.proofs.grid.column_of.Given as goal
+use Rattle.voice_lines.specs.Lines.{column_of}
+use Rattle.voice_lines.proofs.column_of.Given as goal
 
 -- the column of the lines so far
 abbrev pub invariant-loop-line : goal.invariant-loop-line

@@ -4,9 +4,9 @@ use Rattle.std.proofs.lemmas.List.FromFn.{length-map-range_with_len}
 use Rattle.fux_grid.specs.Cells.{cell_in}
 use Rattle.fux_grid.specs.Columns.{ColumnFollows, newest_column}
 use Rattle.fux_grid.specs.Grid.{Grid}
-use Rattle.smf_score.specs.Sounding.{column_of}
-use Rattle.smf_score.proofs.SoundingLemmas.{grown, next_follows, on_ok}
-use Rattle.smf_score.proofs.grid.score_of.Goals as goal
+use Rattle.voice_lines.specs.Lines.{column_of}
+use Rattle.voice_lines.proofs.Scores.{grown, next_follows, on_ok}
+use Rattle.voice_lines.proofs.score_of.Goals as goal
 
 pub loop-i-preserved : goal.loop-i-preserved
 loop-i-preserved c =

@@ -1,6 +1,6 @@
 use Rattle.std.proofs.Common.{◌≡◌}
-use Rattle.smf_score.specs.Sounding.{score_of}
-use Rattle.smf_score.proofs.grid.score_of.Given as goal
+use Rattle.voice_lines.specs.Lines.{score_of}
+use Rattle.voice_lines.proofs.score_of.Given as goal
 
 -- the score of the slots so far
 abbrev pub invariant-loop-i : goal.invariant-loop-i

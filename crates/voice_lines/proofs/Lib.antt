@@ -1,0 +1,2 @@
+pub mod CantusLines
+pub mod Scores
