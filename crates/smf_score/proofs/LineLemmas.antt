@@ -1,33 +1,10 @@
--- One cell more of a voice: its holds (`holds-hold`, `holds-none`), its notes as bytes (`start_bytes`, `other_bytes`), and one track more (`tracks_more`).
-use Rattle.std.proofs.Common.{◌≡◌, ℕ, suc, ◌+◌, ◌-◌, ◌<◌, ◌≤◌, true, false, List, [], ◌∷◌, ◌++◌, length, drop, get_or, map, refl, sym, ◌∙◌, ap, arith, append_assoc, add-one}
-use Rattle.std.proofs.lemmas.List.{drop-map}
-use Rattle.std.proofs.Math.Seq.{drop-cons}
+-- One cell more of a line: its notes as bytes (`start_bytes`, `other_notes`), and one track more (`tracks_more`).
+use Rattle.std.proofs.Common.{◌≡◌, ℕ, suc, ◌+◌, ◌-◌, ◌<◌, ◌≤◌, List, ◌∷◌, ◌++◌, refl, sym, arith, append_assoc, add-one}
 use Rattle.fux_pitch.specs.declared.pitch.Pitch.{Pitch}
 use Rattle.fux_grid.specs.declared.cell.Cell.{Cell}
 use Rattle.fux_grid.specs.declared.cell.Cell.TheVariants.{Rest, Hold, Start}
-use Rattle.fux_grid.specs.Cells.{cell_in, is_hold}
-use Rattle.fux_grid.specs.Columns.{line}
 use Rattle.smf_score.specs.Lines.{holds_ahead, notes_of}
 use Rattle.smf_score.specs.Written.{midi_key, note_bytes, notes_bytes, track_bytes, tracks_bytes}
-
--- the cell of a voice at a column, and those behind it
-pub line_cell : (v i : ℕ) (columns : List (List Cell)) → i < length columns
-    → drop i (line v columns) ≡ cell_in (get_or columns i []) v ∷ drop (i + 1) (line v columns)
-line_cell v i columns within =
-    let f : List Cell → Cell = λ col. cell_in col v in
-    drop-map f i columns ∙ ap (map f) (drop-cons columns i [] within)
-    ∙ ap (λ (cells : List Cell). cell_in (get_or columns i []) v ∷ cells)
-    (sym (drop-map f (suc i) columns) ∙ ap (λ n. drop n (line v columns)) (sym (add-one i)))
-
-pub holds-hold : (c : Cell) (cells : List Cell) → is_hold c ≡ true → holds_ahead (c ∷ cells) ≡ suc (holds_ahead cells)
-holds-hold Rest cells h = absurd cc
-holds-hold (Hold p) cells h = refl
-holds-hold (Start p) cells h = absurd cc
-
-pub holds-none : (c : Cell) (cells : List Cell) → is_hold c ≡ false → holds_ahead (c ∷ cells) ≡ 0
-holds-none Rest cells h = refl
-holds-none (Hold p) cells h = absurd cc
-holds-none (Start p) cells h = refl
 
 -- a cell that starts no note
 pub other_notes : (at : ℕ) (c : Cell) (cells : List Cell) → ((p : Pitch) → c ≡ Start p → ⊥)

@@ -1,10 +1,10 @@
 -- The numbers, chunks and the header of a written file stand where the grammar wants them (`quantity_stands`,
 -- `track_stands`, `header_stands`).
-use Rattle.std.proofs.Common.{◌≡◌, ℕ, ◌+◌, ◌/◌, ◌%◌, ◌<◌, ◌≤◌, ◌^◌, ◌⊎◌, inl, inr, Bool, true, false, List, [], ◌∷◌, ◌++◌, length, refl, sym, ◌∙◌, arith, cond, ltb, append_assoc, subst}
+use Rattle.std.proofs.Common.{◌≡◌, ℕ, ◌+◌, ◌*◌, ◌/◌, ◌%◌, ◌<◌, ◌≤◌, ◌^◌, ◌⊎◌, inl, inr, Bool, true, false, List, [], ◌∷◌, ◌++◌, length, refl, sym, ◌∙◌, ap, arith, cond, ltb, append_assoc, subst}
 use Rattle.std.specs.Int.{w16, w32, to_be_bytes}
 use Rattle.std.proofs.lemmas.Bool.{le-ltb, lt-ltb, cases_lt}
 use Rattle.std.proofs.lemmas.Nat.{from_be_bytes-to_be_bytes_2, from_be_bytes-to_be_bytes_4}
-use Rattle.smf_bytes.specs.Rows.{AreBytes, IsNumber, IsQuantity, IsRow}
+use Rattle.smf_bytes.specs.Rows.{AreBytes, IsNumber, IsQuantity, IsRow, marked, value_of}
 use Rattle.smf_bytes.specs.Chunks.{chunk_row}
 use Rattle.smf_bytes.specs.Files.{IsHeader, IsTrack}
 use Rattle.smf_score.specs.declared.written.TheConstants.{HEADER, TRACK}
@@ -14,49 +14,24 @@ use Rattle.smf_score.specs.Written.{chunk_bytes, header_bytes, quantity}
 pub quantity_stands : (n : ℕ) (more : List ℕ) → n < 2 ^ 21 → IsQuantity (quantity n ++ more) n more
 quantity_stands n more few = at (cases_lt n 128) (cases_lt n 16384)
   where
-    one : n < 128 → quantity n ≡ n % 128 ∷ []
-    one small = rw (lt-ltb n 128 small) refl
-
-    two : 128 ≤ n → n < 16384 → quantity n ≡ (128 + n / 128) ∷ n % 128 ∷ []
-    two large small = rw (le-ltb n 128 large, lt-ltb n 16384 small) refl
-
-    three : 16384 ≤ n → quantity n ≡ (128 + n / 16384) ∷ (128 + n / 128 % 128) ∷ n % 128 ∷ []
-    three large =
-        let past : 128 ≤ n = omega arith in
-        rw (le-ltb n 128 past, le-ltb n 16384 large) refl
-
-    of : (digits : List ℕ) → quantity n ≡ digits → IsQuantity (digits ++ more) n more
-        → IsQuantity (quantity n ++ more) n more
-    of digits e h = subst (λ (bytes : List ℕ). IsQuantity (bytes ++ more) n more) (sym e) h
+    of : (digits : List ℕ) → quantity n ≡ marked digits ++ n % 128 ∷ [] → length digits < 4
+        → n ≡ 128 * value_of 0 digits + n % 128 → IsQuantity (quantity n ++ more) n more
+    of digits e short value = record {
+      digits = digits;
+      last = n % 128;
+      few = short;
+      low = omega arith;
+      stands = ap (λ (bytes : List ℕ). bytes ++ more) e ∙ append_assoc (marked digits) (n % 128 ∷ []) more;
+      value = value;
+    }
 
     at : (n < 128) ⊎ (128 ≤ n) → (n < 16384) ⊎ (16384 ≤ n) → IsQuantity (quantity n ++ more) n more
-    at (inl small) other =
-        of (n % 128 ∷ []) (one small) (record {
-          digits = [];
-          last = n % 128;
-          few = omega arith;
-          low = omega arith;
-          stands = refl;
-          value = omega arith;
-        })
+    at (inl small) other = of [] (rw (lt-ltb n 128 small) refl) (omega arith) (omega arith)
     at (inr large) (inl small) =
-        of ((128 + n / 128) ∷ n % 128 ∷ []) (two large small) (record {
-          digits = n / 128 ∷ [];
-          last = n % 128;
-          few = omega arith;
-          low = omega arith;
-          stands = refl;
-          value = omega arith;
-        })
+        of (n / 128 ∷ []) (rw (le-ltb n 128 large, lt-ltb n 16384 small) refl) (omega arith) (omega arith)
     at (inr large) (inr larger) =
-        of ((128 + n / 16384) ∷ (128 + n / 128 % 128) ∷ n % 128 ∷ []) (three larger) (record {
-          digits = n / 16384 ∷ n / 128 % 128 ∷ [];
-          last = n % 128;
-          few = omega arith;
-          low = omega arith;
-          stands = refl;
-          value = omega arith;
-        })
+        of (n / 16384 ∷ n / 128 % 128 ∷ []) (rw (le-ltb n 128 large, le-ltb n 16384 larger) refl) (omega arith)
+        (omega arith)
 
 pub quantity_short : (n : ℕ) → length (quantity n) ≤ 3
 quantity_short n = at (ltb n 128) (ltb n 16384)

@@ -37,17 +37,6 @@ not_before_from a b (inr (same, late)) =
     at (inr past) =
         let level : a.start ≡ b.start = omega arith in rw (← nat_cmp_is a.start b.start Equal level) refl
 
--- what is before one of two that tie is before the other
-ties_before : (x z y : Played) → is_before x y ≡ true → ties is_before x z ≡ true → is_before z y ≡ true
-ties_before x z y before tie = at (is_before z y) refl
-  where
-    at : (t : Bool) → is_before z y ≡ t → t ≡ true
-    at true e = refl
-    at false e =
-        let neither = and_parts (not (is_before x z)) (not (is_before z x)) tie in
-        let other = before_order.chain x z y (not-true (is_before x z) neither.0) e in
-        absurd cc
-
 abbrev Sorted : List Played → Type 0
 Sorted xs = IsSortedBy is_before xs
 
@@ -56,39 +45,32 @@ sorted_tail x xs sorted k d from within =
     let next : suc (k + 1) ≡ suc k + 1 = omega arith in
     ap (λ n. is_before (get_or (x ∷ xs) n d) (get_or xs k d)) next ∙ sorted (suc k) d (omega arith) (omega arith)
 
--- no note ties with one that is before all
-none_ties : (x y : Played) (ys : List Played) → is_before x y ≡ true
-    → ((k : ℕ) (d : Played) → k < length ys → is_before (get_or ys k d) y ≡ false) → filter (ties is_before x) ys ≡ []
-none_ties x y [] before late = refl
-none_ties x y (z ∷ zs) before late =
-    at (ties is_before x z) refl (none_ties x y zs before (λ k d within. late (suc k) d (omega arith)))
-  where
-    at : (t : Bool) → ties is_before x z ≡ t → filter (ties is_before x) zs ≡ []
-        → filter (ties is_before x) (z ∷ zs) ≡ []
-    at true e rest =
-        let first = late 0 z (omega arith) in
-        let earlier = ties_before x z y before e in
-        absurd cc
-    at false e rest = rw e rest
-
 ties_own : (x : Played) → ties is_before x x ≡ true
 ties_own x = rw (not_own x) refl
 
 abbrev SameTies : List Played → List Played → Type 0
 SameTies xs ys = (x : Played) → filter (ties is_before x) xs ≡ filter (ties is_before x) ys
 
+-- what is first among those that pass a test is one of all
+among : (test : Played → Bool) (x : Played) (rest ys : List Played) → x ∷ rest ≡ filter test ys
+    → (k : ℕ) × (k < length ys) × (get_or ys k x ≡ x)
+among test x rest [] e = absurd cc
+among test x rest (y ∷ ys) e = at (test y) e (among test x rest ys)
+  where
+    at : (t : Bool) → x ∷ rest ≡ cond t (y ∷ filter test ys) (filter test ys)
+        → (x ∷ rest ≡ filter test ys → (k : ℕ) × (k < length ys) × (get_or ys k x ≡ x))
+        → (k : ℕ) × (k < length (y ∷ ys)) × (get_or (y ∷ ys) k x ≡ x)
+    at true f later = (0, omega arith, cc)
+    at false f later = let found = later f in (suc found.0, omega (arith, found.1), found.2)
+
 -- a first note isn't before another first note
 not_first : (x y : Played) (xs ys : List Played) → Sorted (y ∷ ys) → SameTies (x ∷ xs) (y ∷ ys) → is_before x y ≡ false
-not_first x y xs ys sorted same = at (is_before x y) refl
-  where
-    at : (t : Bool) → is_before x y ≡ t → t ≡ false
-    at false e = refl
-    at true e =
-        let none = none_ties x y (y ∷ ys) e
-        (λ k d within. sorted_far is_before before_order (y ∷ ys) sorted 0 k d (omega arith) within) in
-        let some : x ∷ filter (ties is_before x) xs ≡ [] =
-        sym (rw (ties_own x) refl) ∙ same x ∙ none in
-        absurd cc
+not_first x y xs ys sorted same =
+    let own : x ∷ filter (ties is_before x) xs ≡ filter (ties is_before x) (y ∷ ys) =
+    sym (rw (ties_own x) refl) ∙ same x in
+    let found = among (ties is_before x) x (filter (ties is_before x) xs) (y ∷ ys) own in
+    ap (λ (z : Played). is_before z y) (sym found.2)
+    ∙ sorted_far is_before before_order (y ∷ ys) sorted 0 found.0 x (omega arith) found.1
 
 same_order : (xs ys : List Played) → Sorted xs → Sorted ys → SameTies xs ys → xs ≡ ys
 same_order [] [] a b same = refl

@@ -40,10 +40,6 @@ notes_bytes v ended (note ∷ notes) =
     note_bytes v (note.start - ended) note.len (midi_key note.pitch)
     ++ notes_bytes v (note.start + note.len) notes
 
--- the notes of a voice from a column on, of which the one before ends at another column
-abbrev pub notes_from : List (List Cell) → ℕ → ℕ → ℕ → List ℕ
-notes_from columns v i ended = notes_bytes v ended (notes_of i (drop i (line v columns)))
-
 -- the end of a track, at once
 abbrev pub end_bytes : List ℕ
 end_bytes = 0 ∷ 0xFF ∷ 0x2F ∷ 0 ∷ []

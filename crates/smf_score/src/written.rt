@@ -1,10 +1,10 @@
 //! The file that is written of a score.
 
-ghost use Rattle.std.specs.Prelude.{◌≡◌, ◌≤◌, ◌<◌, ◌+◌, ◌^◌, ◌++◌, ◌∷◌, [], IfOk, OnOk, length, drop};
+ghost use Rattle.std.specs.Prelude.{◌≡◌, ◌≤◌, ◌<◌, ◌+◌, ◌^◌, ◌++◌, ◌∷◌, [], IfOk, OnOk, length};
 ghost use Rattle.fux_grid.specs.Columns.{line};
 ghost use Rattle.fux_grid.specs.Exercises.{IsComplete};
 ghost use Rattle.smf_score.specs.Lines.{holds_ahead, notes_of};
-ghost use Rattle.smf_score.specs.Written.{chunk_bytes, end_bytes, note_bytes, notes_bytes, notes_from, header_bytes, key_bytes, quantity, smf_of, tempo_bytes, track_bytes};
+ghost use Rattle.smf_score.specs.Written.{chunk_bytes, end_bytes, note_bytes, notes_bytes, header_bytes, key_bytes, quantity, smf_of, tempo_bytes, track_bytes};
 
 use fux_grid::{Cell, Exercise, Score};
 use fux_pitch::{Memory, semitone};
@@ -71,61 +71,74 @@ fn push_note(out: &mut Vec<u8>, v: u8, wait: u32, len: u32, key: u8) -> Result<(
     push_key(out, len, 0x80 + v, key)
 }
 
-/// How many holds of a voice stand from a column on.
-fn holds_from(score: &Score, v: u8, start: usize) -> usize
-    requires { start ≤ length score.now.columns }
-    ensures value { result ≡ holds_ahead (drop start (line v score.now.columns)) }
-    ensures bound { start + result ≤ length score.now.columns }
+/// The cells of a voice.
+fn line_of(alloc: Global, score: &Score, v: u8) -> Result<Vec<Cell>, Memory>
+    ensures { IfOk result (λ cells. cells.items ≡ line v score.now.columns) }
 {
-    for i in start..score.len() {
-        if !score.cell(v as usize, i).is_hold() {
-            return i - start;
-        }
+    let mut cells = Vec::new(alloc);
+    for i in 0..score.len() {
+        cells.push(score.cell(v as usize, i))?;
     }
-    score.len() - start
+    Ok(cells)
 }
 
-/// Appends the note of a voice that starts at a column, if one does. The note before ends at column `ended`;
-/// the answer is where the last one ends now.
+/// How many holds stand at the front of a line.
+fn holds_ahead(cells: &[Cell]) -> usize
+    ensures value { result ≡ holds_ahead cells.now }
+    ensures within { result ≤ length cells.now }
+{
+    let mut holds = 0;
+    let mut rest = cells;
+    while let Some((Cell::Hold(_), later)) = rest.split_first() {
+        holds += 1;
+        rest = later;
+    }
+    holds
+}
+
+/// Appends the note that starts in a cell, if one does, before these later ones. The cell stands at a column, and the note
+/// before ends at column `ended`; the answer is where the last one ends now.
 fn push_cell(
     out: &mut Vec<u8>,
-    score: &Score,
     v: u8,
-    i: usize,
+    cell: Cell,
+    later: &[Cell],
+    at: usize,
     ended: usize,
 ) -> Result<usize, Memory>
     requires voice { v < 16 }
-    requires place { i < length score.now.columns }
-    requires few { length score.now.columns ≤ 192 }
-    requires ended { ended ≤ i + holds_ahead (drop i (line v score.now.columns)) }
-    ensures bytes { IfOk result (λ after. out.new.items ++ notes_from score.now.columns v (i + 1) after
-        ≡ out.old.items ++ notes_from score.now.columns v i ended) }
-    ensures ended { IfOk result (λ after.
-        after ≤ i + 1 + holds_ahead (drop (i + 1) (line v score.now.columns))) }
+    requires few { at + length later.now < 192 }
+    requires ended { ended ≤ at + holds_ahead (cell ∷ later.now) }
+    ensures bytes { IfOk result (λ after. out.new.items ++ notes_bytes v after (notes_of (at + 1) later.now)
+        ≡ out.old.items ++ notes_bytes v ended (notes_of at (cell ∷ later.now))) }
+    ensures ended { IfOk result (λ after. after ≤ at + 1 + holds_ahead later.now) }
     ensures short { OnOk result (length out.new.items ≤ length out.old.items + 12) }
 {
-    match score.cell(v as usize, i) {
+    match cell {
         Cell::Start(pitch) => {
-            let len = 1 + holds_from(score, v, i + 1);
-            push_note(out, v, (i - ended) as u32, len as u32, semitone(pitch))?;
-            Ok(i + len)
+            let len = 1 + holds_ahead(later);
+            push_note(out, v, (at - ended) as u32, len as u32, semitone(pitch))?;
+            Ok(at + len)
         }
         _ => Ok(ended),
     }
 }
 
-/// The notes of a voice as the bytes of a track, and its end.
-fn voice_bytes(alloc: Global, score: &Score, v: u8) -> Result<Vec<u8>, Memory>
-    requires { v < 16 }
-    ensures bytes { IfOk result (λ out.
-        out.items ≡ notes_bytes v 0 (notes_of 0 (line v score.now.columns)) ++ end_bytes) }
+/// The notes of a line as the bytes of the track of a voice, and its end.
+fn voice_bytes(alloc: Global, cells: &[Cell], v: u8) -> Result<Vec<u8>, Memory>
+    requires voice { v < 16 }
+    requires few { length cells.now ≤ 192 }
+    ensures bytes { IfOk result (λ out. out.items ≡ notes_bytes v 0 (notes_of 0 cells.now) ++ end_bytes) }
     ensures short { IfOk result (λ out. length out.items < 2 ^ 32) }
 {
-    score.kept();
     let mut out = Vec::new(alloc);
+    let mut rest = cells;
+    let mut at = 0;
     let mut ended = 0;
-    for i in 0..score.len() {
-        ended = push_cell(&mut out, score, v, i, ended)?;
+    while let Some((cell, later)) = rest.split_first() {
+        ended = push_cell(&mut out, v, *cell, later, at, ended)?;
+        at += 1;
+        rest = later;
     }
     out.extend_from_slice(&END)?;
     Ok(out)
@@ -156,7 +169,8 @@ pub fn to_smf(alloc: Global, ex: &Exercise, score: &Score) -> Result<Vec<u8>, Me
     let mut out = Vec::new(alloc);
     push_head(&mut out, ex.voices + 1)?;
     for v in 0..ex.voices {
-        let bytes = voice_bytes(alloc, score, v)?;
+        let cells = line_of(alloc, score, v)?;
+        let bytes = voice_bytes(alloc, &cells, v)?;
         push_chunk(&mut out, TRACK, &bytes)?;
     }
     Ok(out)
