@@ -8,8 +8,6 @@ pub mod NumbersBack
 pub mod OrderLemmas
 pub mod PlacingLemmas
 pub mod PlayedLemmas
-pub mod RangeLemmas
 pub mod ReadingLemmas
 pub mod RoundTrip
-pub mod SoundingLemmas
 pub mod ValidLemmas

@@ -12,10 +12,18 @@ lower a b = if nat_le (midi_key a) (midi_key b) then a else b
 abbrev pub higher : Pitch → Pitch → Pitch
 higher a b = if nat_le (midi_key a) (midi_key b) then b else a
 
+-- the ends of a range with one pitch more
+abbrev pub low_with : Pitch → Option RangeLine → Pitch
+low_with p None = p
+low_with p (Some line) = lower p line.low
+
+abbrev pub high_with : Pitch → Option RangeLine → Pitch
+high_with p None = p
+high_with p (Some line) = higher p line.high
+
 -- a voice's range with one pitch more
 abbrev pub widened : ℕ → Pitch → Option RangeLine → RangeLine
-widened v p None = record { voice = v; low = p; high = p; bars = None }
-widened v p (Some line) = record { voice = v; low = lower p line.low; high = higher p line.high; bars = None }
+widened v p o = record { voice = v; low = low_with p o; high = high_with p o; bars = None }
 
 -- the range of the notes of a voice from the lowest to the highest pitch
 abbrev pub range_in : ℕ → List Placed → Option RangeLine

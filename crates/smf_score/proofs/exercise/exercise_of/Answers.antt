@@ -7,8 +7,7 @@ use Rattle.smf_score.specs.Cantus.{cantus_in}
 use Rattle.smf_score.specs.Exercise.{exercise_in, exercise_with}
 use Rattle.voice_lines.specs.Lines.{LineFollows}
 use Rattle.smf_score.proofs.EachLemmas.{ok_is}
-use Rattle.smf_score.proofs.SoundingLemmas.{lines_follow}
-use Rattle.smf_score.proofs.ValidLemmas.{exercise_is, line_long, with_valid}
+use Rattle.smf_score.proofs.ValidLemmas.{exercise_is, line_long, lines_follow, with_valid}
 use Rattle.smf_score.proofs.exercise.exercise_of.Goals as goal
 
 pub cantus_of-requires-clause-long : goal.cantus_of-requires-clause-long

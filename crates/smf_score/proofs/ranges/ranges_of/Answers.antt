@@ -1,5 +1,5 @@
 use Rattle.std.proofs.Common.{◌∙◌, sym}
-use Rattle.smf_score.proofs.RangeLemmas.{ranges_more, ranges_over}
+use Rattle.smf_score.proofs.ValidLemmas.{ranges_more, ranges_over}
 use Rattle.smf_score.proofs.ranges.ranges_of.Goals as goal
 
 pub loop-v-preserved : goal.loop-v-preserved

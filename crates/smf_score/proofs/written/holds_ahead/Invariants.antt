@@ -1,4 +1,4 @@
-use Rattle.std.proofs.Common.{◌≡◌, ◌+◌, ◌≤◌, length}
+use Rattle.std.proofs.Common.{◌≡◌, ◌+◌, length}
 use Rattle.smf_score.specs.Lines.{holds_ahead}
 use Rattle.smf_score.proofs.written.holds_ahead.Given as goal
 
