@@ -1,0 +1,3 @@
+pub mod PoolLists
+pub mod Unrefuted
+pub mod WrittenCantus

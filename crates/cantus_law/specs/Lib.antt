@@ -1,0 +1,7 @@
+pub mod Begun
+pub mod Certificates
+pub mod Claims
+pub mod Excluded
+pub mod Orders
+pub mod Pools
+pub mod Writer

@@ -1,0 +1,8 @@
+//! What a certificate of a cantus is, and what a valid one shows.
+#![tactic(auto)]
+
+mod case;
+mod law;
+
+pub use case::{CantusCase, CantusHead};
+pub use law::{pools_are_listed, shown_by, written};
