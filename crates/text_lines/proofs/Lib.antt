@@ -1,7 +1,9 @@
 pub mod RowLemmas
 pub mod Parts
 pub mod LineParts
+pub mod Characters
 pub mod Faulty
+pub mod Fronts
 pub mod Binds
 pub mod TableLemmas
 pub mod TextLemmas

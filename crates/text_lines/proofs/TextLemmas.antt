@@ -1,5 +1,5 @@
 -- Bytes go wrong just where reading them tells their first fault.
-use Rattle.std.proofs.Common.{◌≡◌, ℕ, ◌<◌, ◌≤◌, Bool, true, false, List, length, Result, Ok, Err, refl, sym, ap, arith}
+use Rattle.std.proofs.Common.{◌≡◌, ℕ, ◌<◌, ◌≤◌, Bool, true, false, List, length, Result, Ok, Err, refl, sym, ap, ◌∙◌, take, arith}
 use Rattle.std.specs.Prelude.{nat_lt, if◌then◌else◌}
 use Rattle.std.specs.Str.{IsUtf8, is_utf8}
 use Rattle.std.proofs.lemmas.Bool.{ltb-false, lt-ltb, ltb-true}
@@ -8,8 +8,9 @@ use Rattle.text_lines.specs.declared.fault.TextKind.TheVariants.{TooLong}
 use Rattle.text_lines.specs.Faults.{Fault, ◌>>=◌}
 use Rattle.text_lines.specs.Lines.{TextLines, lines_in}
 use Rattle.text_lines.specs.Tables.{IsTable, IsTextFault, Table, table_in, text_read}
-use Rattle.text_lines.specs.Utf8.{fault_of_utf8, text_in}
+use Rattle.text_lines.specs.Utf8.{begun_text, fault_behind, fault_of_utf8, text_in}
 use Rattle.text_lines.proofs.Faulty.{text_in-ok, text_in-utf8}
+use Rattle.text_lines.proofs.Fronts.{longest_front, one_front}
 use Rattle.text_lines.proofs.TableLemmas.{table-fails, table-gives, table-right, table-wrong}
 
 -- what the lines say alone
@@ -32,7 +33,7 @@ long_text bytes long = rw (lt-ltb 65536 (length bytes) long) refl
 
 pub text-wrong : {R : Type 0} (table : Table R) (bytes : List ℕ) (f : Fault) → text_read table bytes ≡ Err f
     → IsTextFault table bytes f
-unfolding text_in text_read
+unfolding text_in text_read fault_of_utf8
 text-wrong table bytes f e = by (nat_lt 65536 (length bytes)) refl (is_utf8 bytes) refl e
   where
     not_text : is_utf8 bytes ≡ false → IsUtf8 bytes → ⊥
@@ -51,13 +52,16 @@ text-wrong table bytes f e = by (nat_lt 65536 (length bytes)) refl (is_utf8 byte
         (table-wrong table (lines_in bytes) f (no_value (table_in table (lines_in bytes)) f e))
     by false l false u e =
         let same : fault_of_utf8 bytes ≡ f = grind (arith, e) in
-        IsTextFault.not_utf8 (ltb-false 65536 (length bytes) l) (not_text u) (sym same)
+        IsTextFault.not_utf8 (ltb-false 65536 (length bytes) l) (not_text u) (begun_text bytes)
+        (longest_front bytes (not_text u)) (sym same)
 
 pub text-fails : {R : Type 0} (table : Table R) (bytes : List ℕ) (f : Fault) → IsTextFault table bytes f
     → text_read table bytes ≡ Err f
-unfolding text_read
+unfolding text_read fault_of_utf8
 text-fails table bytes f (IsTextFault.too_long long e) = rw (long_text bytes long) (ap Err (sym e))
-text-fails table bytes f (IsTextFault.not_utf8 short none e) = rw (text_in-utf8 bytes short none) (ap Err (sym e))
+text-fails table bytes f (IsTextFault.not_utf8 short none at longest e) =
+    rw (text_in-utf8 bytes short none) (ap Err (ap (λ n. fault_behind (take n bytes))
+    (one_front IsUtf8 bytes (begun_text bytes) at (longest_front bytes none) longest) ∙ sym e))
 text-fails table bytes f (IsTextFault.in_lines short utf8 fault) =
     rw (text_in-ok bytes short utf8, table-fails table (lines_in bytes) f fault) refl
 

@@ -1,5 +1,5 @@
 -- A text as a table of lines, each a row: how it is read, which texts are right, and the first fault of one that isn't.
-use Rattle.std.specs.Prelude.{◌≡◌, ◌⊎◌, ℕ, ◌<◌, ◌≤◌, ◌&&◌, Bool, true, false, List, [], ◌∷◌, ◌++◌, Some, None, Result, Ok, Err, length, if◌then◌else◌}
+use Rattle.std.specs.Prelude.{◌≡◌, ◌⊎◌, ℕ, ◌<◌, ◌≤◌, ◌&&◌, Bool, true, false, List, [], ◌∷◌, ◌++◌, Some, None, Result, Ok, Err, length, take, if◌then◌else◌}
 use Rattle.std.specs.Str.{IsUtf8}
 use Rattle.text_lines.specs.declared.fault.TextKind.{TextKind}
 use Rattle.text_lines.specs.declared.fault.TextKind.TheVariants as kinds
@@ -7,7 +7,8 @@ use Rattle.text_lines.specs.Faults.{Fault, ◌>>=◌}
 use Rattle.text_lines.specs.Lines.{TextLines, first_line, lines_in}
 use Rattle.text_lines.specs.Reading.{begins, fault_here, headed, no_line}
 use Rattle.text_lines.specs.Rows.{IsRow, IsRowFault, Lacks, Row, Stands, row_in, word_place}
-use Rattle.text_lines.specs.Utf8.{fault_of_utf8, text_in}
+use Rattle.text_lines.specs.Fronts.{LongestFront}
+use Rattle.text_lines.specs.Utf8.{fault_behind, text_in}
 use Rattle.text_lines.specs.Words.{LineWords}
 
 -- lines of one name, as long as the next one begins so and one more may stand: their rows may hang on the lines before
@@ -148,9 +149,11 @@ text_read table bytes = do
   x ← table_in table text
   Ok x.0
 
--- the first fault of bytes: they are too many, or stop being UTF-8, or their lines go wrong
+-- the first fault of bytes: they are too many, or stop being UTF-8 behind the longest front by which UTF-8 goes on, or their lines
+-- go wrong
 pub data IsTextFault {R : Type 0} (table : Table R) (bytes : List ℕ) (f : Fault) : Type 0 where
   too_long : 65536 < length bytes → f ≡ record { kind = kinds.TooLong; line = 1; column = 1 }
       → IsTextFault table bytes f
-  not_utf8 : length bytes ≤ 65536 → (IsUtf8 bytes → ⊥) → f ≡ fault_of_utf8 bytes → IsTextFault table bytes f
+  not_utf8 : length bytes ≤ 65536 → (IsUtf8 bytes → ⊥) → (at : ℕ) → LongestFront IsUtf8 bytes at
+      → f ≡ fault_behind (take at bytes) → IsTextFault table bytes f
   in_lines : length bytes ≤ 65536 → IsUtf8 bytes → IsTableFault table (lines_in bytes) f → IsTextFault table bytes f

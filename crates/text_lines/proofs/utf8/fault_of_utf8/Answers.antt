@@ -2,7 +2,7 @@ use Rattle.std.proofs.Common.{◌+◌, ◌≤◌, length, sym, ap, ◌∙◌, re
 use Rattle.std.specs.Str.Lossy.{utf8_error_len}
 use Rattle.std.proofs.lemmas.List.{length-take-le}
 use Rattle.text_lines.specs.Utf8.{begun, fault_of_utf8, begun_text}
-use Rattle.text_lines.proofs.Faulty.{begun_bound}
+use Rattle.text_lines.proofs.Fronts.{begun_bound}
 use Rattle.text_lines.proofs.utf8.fault_of_utf8.Goals as goal
 
 pub overflow_add-valid : goal.overflow_add-valid
