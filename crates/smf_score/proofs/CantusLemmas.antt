@@ -9,7 +9,7 @@ use Rattle.fux_pitch.specs.declared.pitch.Pitch.{Pitch}
 use Rattle.fux_pitch.proofs.PitchLemmas.{equal_from_test}
 use Rattle.fux_grid.proofs.PitchTests.{same_pitch-from_equal}
 use Rattle.fux_grid.specs.declared.cell.Cell.{Cell}
-use Rattle.fux_grid.specs.declared.cell.Cell.TheVariants.{Rest, Hold, Start}
+use Rattle.fux_grid.specs.declared.cell.Cell.TheVariants.{Hold, Start}
 use Rattle.smf_score.specs.declared.fault.SmfFault.TheVariants.{NotWhole}
 use Rattle.smf_score.specs.Cantus.{bar_pitch, bars_from, holds, whole_note}
 use Rattle.smf_score.specs.Faults.{each}
@@ -20,21 +20,17 @@ use Rattle.voice_lines.specs.Lines.{cantus_cells, note_cells}
 
 all_held : (p : Pitch) (cells : List Cell) → list_all (holds p) cells ≡ true → cells ≡ replicate (length cells) (Hold p)
 all_held p [] h = refl
-all_held p (Rest ∷ cells) h = absurd cc
-all_held p (Start q ∷ cells) h = absurd cc
 all_held p (Hold q ∷ cells) h =
     let parts = and_parts (holds p (Hold q)) (list_all (holds p) cells) h in
     ap (λ (r : Pitch). Hold r ∷ cells) (equal_from_test q p parts.0)
     ∙ ap (λ (cs : List Cell). Hold p ∷ cs) (all_held p cells parts.1)
+all_held p cells h = absurd cc
 
 held_all : (p : Pitch) (n : ℕ) → list_all (holds p) (replicate n (Hold p)) ≡ true
 held_all p zero = refl
 held_all p (suc n) = rw (same_pitch-from_equal p p refl) (held_all p n)
 
 whole_is : (cells : List Cell) (p : Pitch) → whole_note cells ≡ Some p → cells ≡ note_cells p (length cells)
-whole_is [] p e = absurd cc
-whole_is (Rest ∷ cells) p e = absurd cc
-whole_is (Hold q ∷ cells) p e = absurd cc
 whole_is (Start q ∷ cells) p e = at (list_all (holds q) cells) refl e
   where
     at : (t : Bool) → list_all (holds q) cells ≡ t → cond t (Some q) None ≡ Some p
@@ -46,6 +42,7 @@ whole_is (Start q ∷ cells) p e = at (list_all (holds q) cells) refl e
         ap (λ (cs : List Cell). Start q ∷ cs) (all_held q cells h)
         ∙ ap (λ (n : ℕ). Start q ∷ replicate n (Hold q)) (sym count)
         ∙ ap (λ (r : Pitch). note_cells r (suc (length cells))) same
+whole_is cells p e = absurd cc
 
 whole_back : (p : Pitch) (n : ℕ) → whole_note (note_cells p n) ≡ Some p
 whole_back p n = rw (held_all p (n - 1)) refl

@@ -9,24 +9,12 @@ use Rattle.smf_score.specs.Faults.{◌>>=◌, Fails, each}
 -- a fault that reading gives is a fault of the answer
 pub fails_from : {Y : Type 0} (e : SmfFault) (read : Result Y SmfFault) → read ≡ Err e → Fails e read
 fails_from faults.Memory read h = tt
-fails_from (faults.Bytes f) read h = h
-fails_from (faults.Key track tick) read h = h
-fails_from (faults.ZeroNote track tick) read h = h
-fails_from (faults.Overlap track tick) read h = h
-fails_from (faults.VoiceCount count) read h = h
-fails_from (faults.Bars count) read h = h
-fails_from (faults.NotWhole bar) read h = h
+fails_from e read h = h
 
 bind_fails : {A B : Type 0} (e : SmfFault) (r : Result A SmfFault) (f : A → Result B SmfFault) → Fails e r
     → Fails e (r >>= f)
 bind_fails faults.Memory r f h = tt
-bind_fails (faults.Bytes b) r f h = ap (λ (s : Result _ SmfFault). s >>= f) h
-bind_fails (faults.Key track tick) r f h = ap (λ (s : Result _ SmfFault). s >>= f) h
-bind_fails (faults.ZeroNote track tick) r f h = ap (λ (s : Result _ SmfFault). s >>= f) h
-bind_fails (faults.Overlap track tick) r f h = ap (λ (s : Result _ SmfFault). s >>= f) h
-bind_fails (faults.VoiceCount count) r f h = ap (λ (s : Result _ SmfFault). s >>= f) h
-bind_fails (faults.Bars count) r f h = ap (λ (s : Result _ SmfFault). s >>= f) h
-bind_fails (faults.NotWhole bar) r f h = ap (λ (s : Result _ SmfFault). s >>= f) h
+bind_fails e r f h = ap (λ (s : Result _ SmfFault). s >>= f) h
 
 abbrev answer : {A : Type 0} → A → Result A SmfFault
 answer x = Ok x

@@ -239,29 +239,24 @@ notes_play Behind number end ended running v (note ∷ notes) later few turn pla
 
 -- ---- how long a track is
 
-few_notes : (at : ℕ) (cells : List Cell) → length (notes_of at cells) ≤ length cells
-few_notes at [] = omega arith
-few_notes at (Rest ∷ cells) = omega (arith, few_notes (suc at) cells)
-few_notes at (Hold p ∷ cells) = omega (arith, few_notes (suc at) cells)
-few_notes at (Start p ∷ cells) = omega (arith, few_notes (suc at) cells)
-
-notes_short : (v ended : ℕ) (notes : List Note) → length (notes_bytes v ended notes) ≤ 12 * length notes
-notes_short v ended [] = omega arith
-notes_short v ended (note ∷ notes) =
-    let wait = 240 * (note.start - ended) in
-    let on = (0x90 + v) ∷ midi_key note.pitch ∷ 0x40 ∷ [] in
-    let off = (0x80 + v) ∷ midi_key note.pitch ∷ 0x40 ∷ [] in
+notes_short : (v ended at : ℕ) (cells : List Cell) → length (notes_bytes v ended (notes_of at cells)) ≤ 12 * length cells
+notes_short v ended at [] = omega arith
+notes_short v ended at (Start p ∷ cells) =
+    let wait = 240 * (at - ended) in
+    let len = suc (holds_ahead cells) in
+    let on = (0x90 + v) ∷ midi_key p ∷ 0x40 ∷ [] in
+    let off = (0x80 + v) ∷ midi_key p ∷ 0x40 ∷ [] in
     omega (
       arith,
       quantity_short wait,
-      quantity_short (240 * note.len),
-      notes_short v (note.start + note.len) notes,
+      quantity_short (240 * len),
+      notes_short v (at + len) (suc at) cells,
       length-append (quantity wait) on,
-      length-append (quantity (240 * note.len)) off,
-      length-append (quantity wait ++ on) (quantity (240 * note.len) ++ off),
-      length-append (note_bytes v (note.start - ended) note.len (midi_key note.pitch))
-          (notes_bytes v (note.start + note.len) notes),
+      length-append (quantity (240 * len)) off,
+      length-append (quantity wait ++ on) (quantity (240 * len) ++ off),
+      length-append (note_bytes v (at - ended) len (midi_key p)) (notes_bytes v (at + len) (notes_of (suc at) cells)),
     )
+notes_short v ended at (c ∷ cells) = omega (arith, notes_short v ended (suc at) cells)
 
 -- the bytes of a track of a voice
 abbrev voice_body : List (List Cell) → ℕ → List ℕ
@@ -272,8 +267,7 @@ body_short columns v =
     omega (
       arith,
       length-map columns (λ (col : List Cell). cell_in col v),
-      few_notes 0 (line v columns),
-      notes_short v 0 (voice_notes columns v),
+      notes_short v 0 0 (line v columns),
       length-append (notes_bytes v 0 (voice_notes columns v)) end_bytes,
     )
 

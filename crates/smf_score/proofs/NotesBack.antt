@@ -1,6 +1,6 @@
 -- The notes of a written file stand in order (`notes_in_order`), and are placed where they stand in the score, each with its
 -- pitch as its key is spelled (`all_placed`).
-use Rattle.std.proofs.Common.{◌≡◌, ◌≢◌, ℕ, zero, suc, ◌+◌, ◌*◌, ◌<◌, ◌≤◌, ◌⊎◌, true, List, [], ◌∷◌, ◌++◌, get_or, map, Option, Some, None, Ok, refl, sym, ◌∙◌, ap, arith, inl, inr, max, ne_eqb, add-one, length, subst}
+use Rattle.std.proofs.Common.{◌≡◌, ◌≢◌, ℕ, zero, suc, ◌+◌, ◌*◌, ◌<◌, ◌≤◌, true, List, [], ◌∷◌, ◌++◌, get_or, map, Option, Some, None, Ok, refl, sym, ◌∙◌, ap, arith, max, ne_eqb, add-one, length, subst}
 use Rattle.std.specs.Prelude.{IsSome, ⊤}
 use Rattle.std.specs.List.{range_with_len}
 use Rattle.std.specs.List.Sorted.{IsSortedBy}
@@ -34,39 +34,35 @@ use Rattle.voice_lines.proofs.Scores.{line-cell}
 abbrev AreRising : ℕ → ℕ → List Played → Type 0
 AreRising rank start [] = ⊤
 AreRising rank start (note ∷ notes) =
-    ((rank < note.rank) ⊎ ((rank ≡ note.rank) × (start ≤ note.start))) × AreRising note.rank note.start notes
+    (rank ≤ note.rank) × (rank ≡ note.rank → start ≤ note.start) × AreRising note.rank note.start notes
 
 rising_sorted : (rank start : ℕ) (notes : List Played) → AreRising rank start notes → IsSortedBy is_before notes
 rising_sorted rank start [] rising k d from within = absurd (omega arith)
 rising_sorted rank start (a ∷ []) rising k d from within = absurd (omega arith)
-rising_sorted rank start (a ∷ b ∷ notes) rising zero d from within = not_before_from b a rising.1.0
+rising_sorted rank start (a ∷ b ∷ notes) rising zero d from within = not_before_from b a rising.2.0 rising.2.1
 rising_sorted rank start (a ∷ b ∷ notes) rising (suc k) d from within =
     let next : suc k + 1 ≡ suc (k + 1) = omega arith in
     ap (λ n. is_before (get_or (a ∷ b ∷ notes) n d) (get_or (b ∷ notes) k d)) next
-    ∙ rising_sorted a.rank a.start (b ∷ notes) rising.1 k d (omega arith) (omega arith)
+    ∙ rising_sorted a.rank a.start (b ∷ notes) rising.2 k d (omega arith) (omega arith)
 
 rising_append : (most v ended rank start : ℕ) (notes : List Note) (later : List Played) → AreInTurn most ended notes
-    → (rank < v) ⊎ ((rank ≡ v) × (start ≤ 240 * ended)) → AreRising rank start later
-    → ((s : ℕ) → AreRising v s later) → AreRising rank start (map (played_note v) notes ++ later)
-rising_append most v ended rank start [] later turn first none some = none
-rising_append most v ended rank start (note ∷ notes) later turn first none some = (
-  at first,
-  rising_append most v (note.start + note.len) v (240 * note.start) notes later turn.2
-      (inr (refl, omega arith)) (some (240 * note.start)) some,
+    → rank ≤ v → (rank ≡ v → start ≤ 240 * ended) → ((r s : ℕ) → r ≤ v → AreRising r s later)
+    → AreRising rank start (map (played_note v) notes ++ later)
+rising_append most v ended rank start [] later turn low early rising = rising rank start low
+rising_append most v ended rank start (note ∷ notes) later turn low early rising = (
+  low,
+  λ same. omega (arith, early same, turn.0),
+  rising_append most v (note.start + note.len) v (240 * note.start) notes later turn.2 (omega arith) (λ same. omega arith)
+      rising,
 )
-  where
-    at : (rank < v) ⊎ ((rank ≡ v) × (start ≤ 240 * ended)) → (rank < v) ⊎ ((rank ≡ v) × (start ≤ 240 * note.start))
-    at (inl lower) = inl lower
-    at (inr (same, early)) = inr (same, omega (arith, early, turn.0))
 
 rising_voices : (columns : List (List Cell)) (v more rank start : ℕ) → rank ≤ v
     → AreRising rank start (voices_played columns v more)
 rising_voices columns v zero rank start low = tt
 rising_voices columns v (suc more) rank start low =
     rising_append (length columns) (suc v) 0 rank start (voice_notes columns v) (voices_played columns (suc v) more)
-    (voice_in_turn columns v (length columns) (omega arith)) (inl (omega arith))
-    (rising_voices columns (suc v) more rank start (omega arith))
-    (λ s. rising_voices columns (suc v) more (suc v) s (omega arith))
+    (voice_in_turn columns v (length columns) (omega arith)) (omega arith) (λ same. absurd (omega (arith, same, low)))
+    (λ r s less. rising_voices columns (suc v) more r s less)
 
 -- the notes stand in order
 pub notes_in_order : (columns : List (List Cell)) (voices : ℕ)

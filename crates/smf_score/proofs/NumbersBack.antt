@@ -70,11 +70,11 @@ track_stands body more short = record {
   stands = subst (λ (bytes : List ℕ). IsRow chunk_row bytes (record { kind = TRACK; bytes = body }) more)
       (sym (chunk_parts TRACK body more)) (
         TRACK,
-        to_be_bytes w32 (length body) ++ (body ++ more),
-        number_4 TRACK (to_be_bytes w32 (length body) ++ (body ++ more)) (omega arith),
+        _,
+        number_4 TRACK _ (omega arith),
         (
           length body,
-          body ++ more,
+          _,
           number_4 (length body) (body ++ more) short,
           (body, more, body_stands body more, (refl, refl)),
         ),
@@ -91,24 +91,14 @@ header_stands tracks more few =
       more = [];
       chunk = (
         HEADER,
-        to_be_bytes w32 6 ++ (numbers ++ more),
+        _,
         number_4 HEADER (to_be_bytes w32 6 ++ (numbers ++ more)) (omega arith),
-        (
-          6,
-          numbers ++ more,
-          number_4 6 (numbers ++ more) (omega arith),
-          (numbers, more, body_stands numbers more, (refl, refl)),
-        ),
+        (6, _, number_4 6 (numbers ++ more) (omega arith), (numbers, more, body_stands numbers more, (refl, refl))),
       );
       fields = (
         1,
-        to_be_bytes w16 tracks ++ (to_be_bytes w16 480 ++ []),
+        _,
         number_2 1 (to_be_bytes w16 tracks ++ (to_be_bytes w16 480 ++ [])) (omega arith),
-        (
-          tracks,
-          to_be_bytes w16 480 ++ [],
-          number_2 tracks (to_be_bytes w16 480 ++ []) few,
-          (480, [], number_2 480 [] (omega arith), (refl, refl)),
-        ),
+        (tracks, _, number_2 tracks (to_be_bytes w16 480 ++ []) few, (480, [], number_2 480 [] (omega arith), (refl, refl))),
       );
     }

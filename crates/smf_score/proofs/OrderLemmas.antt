@@ -1,7 +1,6 @@
 -- Notes have one order (`one_order`).
 use Rattle.std.proofs.Common.{◌≡◌, ℕ, suc, ◌+◌, ◌<◌, ◌≤◌, ◌⊎◌, inl, inr, Bool, true, false, List, [], ◌∷◌, length, get_or, refl, sym, ◌∙◌, ap, arith, cond}
 use Rattle.std.specs.Prelude.{filter}
-use Rattle.std.specs.Ordering.{is_lt, nat_cmp}
 use Rattle.std.specs.Cmp.{IsStrictWeakOrder, nat_cmp_is, on_total, then_total}
 use Rattle.std.specs.declared.cmp.Ordering.TheVariants.{Equal, Greater}
 use Rattle.std.specs.List.Sorted.{IsSortedBy, ties}
@@ -25,17 +24,19 @@ not_own a = at (is_before a a) refl
     at false e = refl
     at true e = let other = before_order.one_way a a e in absurd cc
 
--- a note of a higher voice, or of the same that doesn't start earlier, isn't before another
-pub not_before_from : (a b : Played) → (b.rank < a.rank) ⊎ ((b.rank ≡ a.rank) × (b.start ≤ a.start))
-    → is_before a b ≡ false
-not_before_from a b (inl higher) = rw (← nat_cmp_is a.rank b.rank Greater higher) refl
-not_before_from a b (inr (same, late)) =
-    rw (← nat_cmp_is a.rank b.rank Equal (sym same)) (at (cases_lt b.start a.start))
+-- a note isn't before another of no higher voice, of the same voice if it doesn't start earlier
+pub not_before_from : (a b : Played) → b.rank ≤ a.rank → (b.rank ≡ a.rank → b.start ≤ a.start) → is_before a b ≡ false
+not_before_from a b higher late = at (cases_lt b.rank a.rank) (cases_lt b.start a.start)
   where
-    at : (b.start < a.start) ⊎ (a.start ≤ b.start) → is_lt (nat_cmp a.start b.start) ≡ false
-    at (inl later) = rw (← nat_cmp_is a.start b.start Greater later) refl
-    at (inr past) =
-        let level : a.start ≡ b.start = omega arith in rw (← nat_cmp_is a.start b.start Equal level) refl
+    at : (b.rank < a.rank) ⊎ (a.rank ≤ b.rank) → (b.start < a.start) ⊎ (a.start ≤ b.start) → is_before a b ≡ false
+    at (inl less) other = rw (← nat_cmp_is a.rank b.rank Greater less) refl
+    at (inr level) (inl later) =
+        let same : a.rank ≡ b.rank = omega (arith, higher, level) in
+        rw (← nat_cmp_is a.rank b.rank Equal same, ← nat_cmp_is a.start b.start Greater later) refl
+    at (inr level) (inr past) =
+        let same : a.rank ≡ b.rank = omega (arith, higher, level) in
+        let tick : a.start ≡ b.start = omega (arith, past, late (sym same)) in
+        rw (← nat_cmp_is a.rank b.rank Equal same, ← nat_cmp_is a.start b.start Equal tick) refl
 
 abbrev Sorted : List Played → Type 0
 Sorted xs = IsSortedBy is_before xs

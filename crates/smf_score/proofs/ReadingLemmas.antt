@@ -36,10 +36,4 @@ pub reads_from : (Has Is : Result Exercise SmfFault → Type 0) (answer : Result
     → ((read : Result Exercise SmfFault) → Has read → Is read) → ReadsAs answer Has → ReadsAs answer Is
 reads_from Has Is (Ok ex) from h = from (Ok ex) h
 reads_from Has Is (Err faults.Memory) from h = tt
-reads_from Has Is (Err (faults.Bytes f)) from h = from (Err (faults.Bytes f)) h
-reads_from Has Is (Err (faults.Key track tick)) from h = from (Err (faults.Key track tick)) h
-reads_from Has Is (Err (faults.ZeroNote track tick)) from h = from (Err (faults.ZeroNote track tick)) h
-reads_from Has Is (Err (faults.Overlap track tick)) from h = from (Err (faults.Overlap track tick)) h
-reads_from Has Is (Err (faults.VoiceCount count)) from h = from (Err (faults.VoiceCount count)) h
-reads_from Has Is (Err (faults.Bars count)) from h = from (Err (faults.Bars count)) h
-reads_from Has Is (Err (faults.NotWhole bar)) from h = from (Err (faults.NotWhole bar)) h
+reads_from Has Is (Err e) from h = from (Err e) h

@@ -20,13 +20,7 @@ each read (x ∷ xs) = do
 -- a fault other than want of memory is the one that reading gives
 abbrev pub Fails : {Y : Type 0} → SmfFault → Result Y SmfFault → Type 0
 Fails faults.Memory read = Unit {0}
-Fails (faults.Bytes f) read = read ≡ Err (faults.Bytes f)
-Fails (faults.Key track tick) read = read ≡ Err (faults.Key track tick)
-Fails (faults.ZeroNote track tick) read = read ≡ Err (faults.ZeroNote track tick)
-Fails (faults.Overlap track tick) read = read ≡ Err (faults.Overlap track tick)
-Fails (faults.VoiceCount count) read = read ≡ Err (faults.VoiceCount count)
-Fails (faults.Bars count) read = read ≡ Err (faults.Bars count)
-Fails (faults.NotWhole bar) read = read ≡ Err (faults.NotWhole bar)
+Fails e read = read ≡ Err e
 
 -- what a function answered, seen by `view`, is what reading gives, unless memory ran out
 abbrev pub Gives : {X Y : Type 0} → (X → Y) → Result X SmfFault → Result Y SmfFault → Type 0

@@ -46,13 +46,7 @@ IsReading head bytes read = (file : Result File ByteFault) × IsFile bytes file 
 -- an answer other than want of memory is the reading
 abbrev pub FailsAs : SmfFault → (Result Exercise SmfFault → Type 0) → Type 0
 FailsAs faults.Memory IsRead = ⊤
-FailsAs (faults.Bytes f) IsRead = IsRead (Err (faults.Bytes f))
-FailsAs (faults.Key track tick) IsRead = IsRead (Err (faults.Key track tick))
-FailsAs (faults.ZeroNote track tick) IsRead = IsRead (Err (faults.ZeroNote track tick))
-FailsAs (faults.Overlap track tick) IsRead = IsRead (Err (faults.Overlap track tick))
-FailsAs (faults.VoiceCount count) IsRead = IsRead (Err (faults.VoiceCount count))
-FailsAs (faults.Bars count) IsRead = IsRead (Err (faults.Bars count))
-FailsAs (faults.NotWhole bar) IsRead = IsRead (Err (faults.NotWhole bar))
+FailsAs fault IsRead = IsRead (Err fault)
 
 abbrev pub ReadsAs : Result Exercise SmfFault → (Result Exercise SmfFault → Type 0) → Type 0
 ReadsAs (Ok ex) IsRead = IsRead (Ok ex)
