@@ -1,3 +1,5 @@
+pub mod OrderSteps
 pub mod PoolLists
+pub mod Tellings
 pub mod Unrefuted
 pub mod WrittenCantus

@@ -10,6 +10,7 @@ use Rattle.fux_pitch.specs.declared.pitch.Pitch.{Pitch}
 use Rattle.fux_grid.specs.Order.{pitch_order}
 use Rattle.cantus_space.specs.declared.plan.CantusPlan.{CantusPlan}
 use Rattle.cantus_space.specs.Cantus.{is_in_pool}
+use Rattle.cantus_space.specs.Known.{pool_from}
 use Rattle.cantus_space.specs.Numbers.{WIDTH, numbered_pitch}
 use Rattle.cantus_space.specs.Order.{has_number, pitches_in_order}
 use Rattle.cantus_law.specs.Claims.{pool_of}
@@ -60,7 +61,7 @@ module _ (plan : CantusPlan) (test : Pitch → Bool) where
       at false later = later
 
 pub pool_is_listed : (plan : CantusPlan) (bar : ℕ) → ListsPool plan bar (pool_of plan bar)
-unfolding pool_of
+unfolding pool_from
 pool_is_listed plan bar = record {
   each = λ p. (
     λ there. All-contains (λ q. is_in_pool plan bar q ≡ true) (filter (is_in_pool plan bar) all) p

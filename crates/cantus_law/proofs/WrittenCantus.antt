@@ -19,12 +19,14 @@ use Rattle.fux_grid.specs.Order.{pitch_order}
 use Rattle.fux_grid.proofs.OrderLemmas.{pitch_order-equal}
 use Rattle.cantus_space.specs.declared.plan.CantusPlan.{CantusPlan}
 use Rattle.cantus_space.specs.Cantus.{is_in_pool}
+use Rattle.cantus_space.specs.Broken.{is_broken_by, is_broken_in, rules_claimed}
+use Rattle.cantus_space.specs.Known.{pool_from}
 use Rattle.cantus_space.specs.Lawful.{IsEarlier, IsLawful, penalty_of}
 use Rattle.cantus_space.specs.Numbers.{WIDTH, numbered_pitch}
 use Rattle.cantus_space.specs.Rules.{breaks, breaks_some_rule, floor_of, is_live, may_come, rules}
 use Rattle.cantus_law.specs.Begun.{floor_at_end}
 use Rattle.cantus_law.specs.Certificates.{Holds, IsHeadSound, is_open, tree_of}
-use Rattle.cantus_law.specs.Claims.{IsCantusOf, IsNoBetter, IsTrueOf, Said, has_break_of, is_broken_by, is_broken_in, longer_lists, pool_of, rules_claimed}
+use Rattle.cantus_law.specs.Claims.{IsCantusOf, IsNoBetter, IsTrueOf, Said, has_break_of, longer_lists}
 use Rattle.cantus_law.specs.Orders.{earlier-cases, earlier-itself, pitch-itself}
 use Rattle.cantus_law.specs.Writer.{first_claim, is_cantus_of, is_equal, is_less, is_no_better, least_break, pitches_order, unbroken_claim}
 
@@ -86,12 +88,12 @@ less-order (p ∷ s) (q ∷ t) (inr h) =
     let same : pitch_order p q ≡ Equal = ap (pitch_order p) (sym h.0) ∙ pitch-itself p in
     rw same (less-order s t h.1)
 
-less_from_test : (o : Ordering) → is_less o ≡ true → o ≡ Less
+pub less_from_test : (o : Ordering) → is_less o ≡ true → o ≡ Less
 less_from_test Less h = refl
 less_from_test Equal h = cc
 less_from_test Greater h = cc
 
-equal_from_test : (o : Ordering) → is_equal o ≡ true → o ≡ Equal
+pub equal_from_test : (o : Ordering) → is_equal o ≡ true → o ≡ Equal
 equal_from_test Less h = cc
 equal_from_test Equal h = refl
 equal_from_test Greater h = cc
@@ -277,7 +279,7 @@ module _ (plan : CantusPlan) (said : Said) (holds : Holds plan said) where
 
   each_longer : (count : ℕ) (ps : List Pitch) → IsPooledBefore plan (suc count) ps
       → AllByRecursion (IsPooledBefore plan count) (longer_lists plan ps)
-  unfolding pool_of
+  unfolding pool_from
   each_longer count ps before =
       let pitches = map (numbered_pitch plan) (range_with_len 0 WIDTH) in
       all_longer count ps before (filter (is_in_pool plan (length ps + 1)) pitches)

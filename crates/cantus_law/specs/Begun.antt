@@ -10,14 +10,16 @@ use Rattle.fux_pitch.specs.declared.pitch.Pitch.{Pitch}
 use Rattle.fux_pitch.specs.Modes.{is_in_gamut}
 use Rattle.cantus_space.specs.declared.plan.CantusPlan.{CantusPlan}
 use Rattle.cantus_space.specs.Ahead.{gauges_end}
+use Rattle.cantus_space.specs.Broken.{breaks_rule, is_broken_by, is_broken_in, rules_claimed}
 use Rattle.cantus_space.specs.Cantus.{is_in_pool, is_in_range}
 use Rattle.cantus_space.specs.Grows.{Comes, comes, floor_grows}
+use Rattle.cantus_space.specs.Known.{pool_from}
 use Rattle.cantus_space.specs.Lawful.{IsLawful, penalty_of}
 use Rattle.cantus_space.specs.Numbers.{WIDTH, numbered_pitch}
 use Rattle.cantus_space.specs.Order.{has_number, pool_sounds}
 use Rattle.cantus_space.specs.Rules.{breaks, breaks_some_rule, floor_of, is_live, may_come, paid, rules}
 use Rattle.cantus_law.specs.Certificates.{Begins}
-use Rattle.cantus_law.specs.Claims.{breaks_rule, has_break_of, is_broken_by, is_broken_in, longer_lists, pool_of, rules_claimed}
+use Rattle.cantus_law.specs.Claims.{has_break_of, longer_lists}
 
 -- ---- what is behind
 
@@ -164,7 +166,7 @@ module _ (plan : CantusPlan) (ps rest : List Pitch) (lawful : IsLawful plan (ps 
 
 pub begun-longer : (plan : CantusPlan) (ps rest : List Pitch) → length ps < plan.bars → IsLawful plan (ps ++ rest)
     → IsBegunByOne Begins (longer_lists plan ps) (ps ++ rest)
-unfolding pool_of longer_by
+unfolding pool_from longer_by
 begun-longer plan ps [] shorter lawful =
     let size : length (ps ++ []) ≡ length ps + 0 = length-append ps [] in
     absurd (omega (arith, shorter, size, lawful.whole))

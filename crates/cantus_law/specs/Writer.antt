@@ -12,7 +12,8 @@ use Rattle.fux_pitch.specs.declared.pitch.Pitch.{Pitch}
 use Rattle.fux_grid.specs.Order.{pitch_order}
 use Rattle.cantus_space.specs.declared.plan.CantusPlan.{CantusPlan}
 use Rattle.cantus_space.specs.Rules.{floor_of}
-use Rattle.cantus_law.specs.Claims.{Said, has_break_of, rules_claimed}
+use Rattle.cantus_space.specs.Broken.{rules_claimed}
+use Rattle.cantus_law.specs.Claims.{Said, has_break_of}
 use Rattle.cantus_law.specs.Certificates.{tree_of}
 
 abbrev pub is_less : Ordering → Bool

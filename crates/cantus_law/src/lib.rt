@@ -2,7 +2,9 @@
 #![tactic(auto)]
 
 mod case;
+mod known;
 mod law;
 
 pub use case::{CantusCase, CantusHead};
+pub use known::CantusKnown;
 pub use law::{pools_are_listed, shown_by, written};

@@ -3,3 +3,5 @@ mod Best
 mod Children
 mod NodeLemmas
 mod Trees
+mod PoolSteps
+mod RuleSets

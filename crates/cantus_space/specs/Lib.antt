@@ -1,8 +1,10 @@
 pub mod Ahead
 pub mod Answers
+pub mod Broken
 pub mod Cantus
 pub mod Grows
 pub mod Kept
+pub mod Known
 pub mod Lawful
 pub mod Nodes
 pub mod Numbers

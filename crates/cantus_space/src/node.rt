@@ -70,7 +70,7 @@ impl CantusNode {
     }
 
     /// What a pitch after these costs.
-    fn cost(&self, sheet: &Sheet, pitch: Pitch) -> u64
+    pub(crate) fn cost(&self, sheet: &Sheet, pitch: Pitch) -> u64
         ensures value { (behind : List APitch) → HasPitches behind self.now → result ≡ rules.note_cost sheet.now behind pitch }
         ensures bound { result ≤ 131070 }
     {
@@ -87,7 +87,7 @@ impl CantusNode {
     }
 
     /// These pitches and one more, which costs so much.
-    fn with(&self, pitch: Pitch, cost: u64) -> CantusNode
+    pub(crate) fn with(&self, pitch: Pitch, cost: u64) -> CantusNode
         requires room { self.now.len < 24 }
         requires cost { self.now.paid + cost < 2 ^ 64 }
         ensures pitches { (behind : List APitch) → HasPitches behind self.now → HasPitches (pitch ∷ behind) result }

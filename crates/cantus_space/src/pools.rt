@@ -1,6 +1,6 @@
 //! The pools of the bars.
 
-ghost use Rattle.std.specs.Prelude.{◌≡◌, ◌<◌, ◌≤◌, ℕ, false};
+ghost use Rattle.std.specs.Prelude.{◌≡◌, ◌<◌, ◌≤◌, ℕ, false, true};
 ghost use Rattle.cantus_space.specs.Cantus as cantus;
 ghost use Rattle.cantus_space.specs.Cantus.{IsPlan};
 ghost use Rattle.cantus_space.specs.Numbers as numbers;
@@ -79,6 +79,8 @@ pub fn next_of_pool(plan: &CantusPlan, bar: usize, from: usize) -> usize
     requires last { bar ≤ plan.now.bars }
     requires from { from ≤ 73 }
     ensures onward { from ≤ result }
+    ensures found { result < 73 → cantus.is_in_pool plan.now bar (numbers.numbered_pitch plan.now result) ≡ true }
+    ensures bound { result ≤ 73 }
     ensures passed { (k : ℕ) → from ≤ k → k < result →
         cantus.is_in_pool plan.now bar (numbers.numbered_pitch plan.now k) ≡ false }
 {

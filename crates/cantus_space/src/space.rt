@@ -6,10 +6,12 @@ ghost use Rattle.cantus_space.specs.Cantus.{IsPlan};
 
 use crate::ahead::starts_ahead;
 use crate::node::CantusNode;
+use crate::notes::broken_after;
 use crate::plan::CantusPlan;
 use crate::pools::{PITCHES, next_of_pool, numbered_pitch};
-use fux_pitch::{Mode, Pitch};
+use fux_pitch::{Mode, Pitch, in_gamut};
 use penalty_sheet::Sheet;
+use rule_law::RuleSet;
 use std::marker::Model;
 use tree_search::Space;
 
@@ -102,5 +104,65 @@ impl Space for CantusSpace {
     /// Only pitches of the next pool may come, so those between them may be passed.
     fn next_child(&self, node: &CantusNode, from: usize, _best: Option<u64>) -> usize {
         next_of_pool(&self.plan, node.len + 1, from)
+    }
+}
+
+/// What a judge of claims needs of pitches, also where a rule is broken in them.
+impl CantusSpace {
+    ghost use Rattle.std.specs.Prelude.{◌≡◌, ◌||◌, ◌+◌, ◌≤◌, ℕ, [], ◌∷◌, List, length};
+    ghost use Rattle.fux_pitch.specs.declared.pitch.Pitch.{Pitch as APitch};
+    ghost use Rattle.rule_law.specs.Voices.{has_rule};
+    ghost use Rattle.cantus_space.specs.Broken.{is_broken_by};
+    ghost use Rattle.cantus_space.specs.Known.{HasRoom, IsKnown, IsKnownOf, IsNextOfPool};
+    ghost use Rattle.cantus_space.specs.Rules as rules;
+
+    /// What is known of no pitches.
+    pub fn no_pitches(&self) -> CantusNode
+        ensures { IsKnownOf self.now [] result }
+    {
+        CantusNode::start(&self.plan)
+    }
+
+    /// What is known of pitches and one more, of any pool and whatever it breaks.
+    pub fn longer(&self, node: &CantusNode, pitch: Pitch) -> CantusNode
+        requires { HasRoom self.now node.now }
+        ensures { (behind : List APitch) → IsKnownOf self.now behind node.now → IsKnownOf self.now (pitch ∷ behind) result }
+    {
+        node.with(pitch, node.cost(&self.plan.sheet, pitch))
+    }
+
+    /// What pitches cost at least, however they go on.
+    pub fn floor(&self, node: &CantusNode) -> u64
+        requires { IsKnown self.now node.now }
+        ensures { (behind : List APitch) → IsKnownOf self.now behind node.now → result ≡ rules.floor_of self.now behind }
+    {
+        node.floor(&self.plan, self.ahead[node.len])
+    }
+
+    /// These rules, and those of S2, S4 and S6 to S9 that one more pitch breaks.
+    pub fn broken_with(&self, broken: RuleSet, node: &CantusNode, pitch: Pitch) -> RuleSet
+        requires { HasRoom self.now node.now }
+        ensures { (behind : List APitch) → IsKnownOf self.now behind node.now → (rule : ℕ) →
+            has_rule result.bits rule ≡ (has_rule broken.bits rule || is_broken_by self.now behind pitch rule) }
+    {
+        let bar = node.len as u8 + 1;
+        let outside = !in_gamut(self.plan.mode, bar, self.plan.bars, pitch);
+        broken_after(broken.with(2, outside), &node.notes, pitch)
+    }
+
+    /// The first pitch of the next pool, from a number on, and its number.
+    pub fn next_of_pool(&self, node: &CantusNode, from: usize) -> Option<(usize, Pitch)>
+        requires { HasRoom self.now node.now }
+        ensures { (behind : List APitch) → IsKnownOf self.now behind node.now →
+            IsNextOfPool self.now (length behind + 1) from result }
+    {
+        if from >= PITCHES {
+            return None;
+        }
+        let number = next_of_pool(&self.plan, node.len + 1, from);
+        if number >= PITCHES {
+            return None;
+        }
+        Some((number, numbered_pitch(&self.plan, number)))
     }
 }

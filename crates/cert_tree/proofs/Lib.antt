@@ -1,2 +1,4 @@
+pub mod Fed
+pub mod Levels
 pub mod OwnClaims
 pub mod Shown

@@ -1,1 +1,3 @@
+pub mod Judgings
 pub mod Trees
+pub mod Walks

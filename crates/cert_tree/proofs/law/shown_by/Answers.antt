@@ -5,5 +5,6 @@ pub returns : goal.returns
 returns g c = λ claims certified.
     let it = c.args.it.now in
     let tree = g.T.ClaimTree in
-    none_refutes_from (tree.tree it) (tree.begins it) (tree.refutes it) (tree.excludes it) (tree.root it)
-    claims certified (tree.root_begins it)
+    let met = g.met.T.ClaimTree in
+    none_refutes_from (tree.tree it) (tree.begins it) (tree.refutes it) (met.excludes it) (tree.root it)
+    claims certified (met.root_begins it)

@@ -1,0 +1,5 @@
+use Rattle.std.proofs.Common.{length}
+use Rattle.cert_tree.proofs.walk.+go_up.Given as goal
+
+abbrev pub decreases-go_up : goal.decreases-go_up
+decreases-go_up g l = length l.walk.now.levels.items

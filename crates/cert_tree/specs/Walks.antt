@@ -1,0 +1,111 @@
+-- Where a judge of claims stands: the open nodes that begin the one owed next, as what is known of each and the number of the step by
+-- which it goes on.
+use Rattle.std.specs.Prelude.{◌≡◌, ℕ, ◌+◌, ◌<◌, Bool, true, List, [], ◌∷◌, ◌++◌, Option, Some, None, IfSome, reverse, vec_capacity, ⊤, if◌then◌else◌}
+use Rattle.cert_tree.specs.Trees.{Tree}
+use Rattle.cert_tree.specs.declared.walk.Level.{Level}
+use Rattle.cert_tree.specs.declared.walk.Walk.{Walk}
+
+-- how nodes are found by numbers: the one of a number behind a node, the nodes that are longer by a step from a number on, how many steps
+-- lead to a node, and how many may
+pub record Ways (X : Type 0) : Type 0 where
+  pub root : X
+  pub child : X → ℕ → X
+  pub longer_from : X → ℕ → List X
+  pub steps : X → ℕ
+  pub height : ℕ
+
+-- they are ways through a tree, in which each open node may go on by a step
+pub record AreWays {X C : Type 0} (tree : Tree X C) (root : X) (ways : Ways X) : Type 0 where
+  pub start : ways.root ≡ root
+  pub all : (p : X) → ways.longer_from p 0 ≡ tree.longer p
+  pub no_steps : ways.steps root ≡ 0
+  pub one_step : (p : X) (k : ℕ) → ways.steps (ways.child p k) ≡ ways.steps p + 1
+  pub few_steps : (p : X) (claim : C) → tree.is_open claim ≡ true → tree.IsTrueOf p claim → ways.steps p < ways.height
+
+-- this is known of the node, and it is open
+pub record IsOpen {X C K : Type 0} (tree : Tree X C) (IsOf : K → X → Type 0) (p : X) (known : K) : Type 0 where
+  pub is_of : IsOf known p
+  pub claim : C
+  pub says : tree.is_open claim ≡ true
+  pub holds : tree.IsTrueOf p claim
+
+-- this is known of some open node
+pub record IsOfOpen {X C K : Type 0} (tree : Tree X C) (IsOf : K → X → Type 0) (known : K) : Type 0 where
+  pub node : X
+  pub is_open : IsOpen tree IsOf node known
+
+-- this is known of some node
+pub record IsOfSome {X K : Type 0} (IsOf : K → X → Type 0) (known : K) : Type 0 where
+  pub node : X
+  pub is_of : IsOf known node
+
+-- of the nodes that are longer by a step, from a number on, the first is that of another number, and this is known of it
+pub record IsFirstFrom {X K : Type 0} (IsOf : K → X → Type 0) (ways : Ways X) (p : X) (from number : ℕ) (known : K)
+    : Type 0 where
+  pub within : number < 8192
+  pub is_of : IsOf known (ways.child p number)
+  pub rest : ways.longer_from p from ≡ ways.child p number ∷ ways.longer_from p (number + 1)
+
+-- what was found is the first of them, or nothing where there is none
+abbrev pub IsNextFrom : {X K : Type 0} → (K → X → Type 0) → Ways X → X → ℕ → Option (ℕ × K) → Type 0
+IsNextFrom IsOf ways p from None = ways.longer_from p from ≡ []
+IsNextFrom IsOf ways p from (Some found) = IsFirstFrom IsOf ways p from found.0 found.1
+
+-- the same, whatever node this is known of
+abbrev pub IsNextOf : {X K : Type 0} → (K → X → Type 0) → Ways X → K → ℕ → Option (ℕ × K) → Type 0
+IsNextOf IsOf ways known from found = (p : _) → IsOf known p → IsNextFrom IsOf ways p from found
+
+-- ---- levels, the newest first
+
+-- the node to which their numbers lead
+abbrev pub node_at : {X K : Type 0} → Ways X → List (Level K) → X
+node_at ways [] = ways.root
+node_at ways (level ∷ older) = ways.child (node_at ways older) level.number
+
+-- what is owed behind that node and all that it begins
+abbrev pub owed_later : {X K : Type 0} → Ways X → List (Level K) → List X
+owed_later ways [] = []
+owed_later ways (level ∷ older) = ways.longer_from (node_at ways older) (level.number + 1) ++ owed_later ways older
+
+-- what is owed of that node, by its steps from a number on, and behind that
+abbrev pub owed_from : {X K : Type 0} → Ways X → List (Level K) → ℕ → List X
+owed_from ways levels from = ways.longer_from (node_at ways levels) from ++ owed_later ways levels
+
+-- what is owed after a claim of that node: where it is open, each one that is longer by a step comes first
+abbrev pub owed_after : {X K : Type 0} → Ways X → List (Level K) → Bool → List X
+owed_after ways levels is_open =
+    (if is_open then ways.longer_from (node_at ways levels) 0 else []) ++ owed_later ways levels
+
+-- what is owed, where the next node is there
+abbrev pub owed_at : {X K : Type 0} → Ways X → List (Level K) → Option K → List X
+owed_at ways levels None = []
+owed_at ways levels (Some next) = node_at ways levels ∷ owed_later ways levels
+
+-- ---- walks
+
+abbrev pub levels_of : {K : Type 0} → Walk K → List (Level K)
+levels_of walk = reverse walk.levels.items
+
+-- the nodes that are owed, the next one first
+abbrev pub owed_by_walk : {X K : Type 0} → Ways X → Walk K → List X
+owed_by_walk ways walk = owed_at ways (levels_of walk) walk.next
+
+-- an open node goes on by a step of a number
+pub record IsLevel {X C K : Type 0} (tree : Tree X C) (IsOf : K → X → Type 0) (p : X) (level : Level K) : Type 0 where
+  pub is_open : IsOpen tree IsOf p level.parent
+  pub within : level.number < 8192
+
+abbrev pub AreLevels : {X C K : Type 0} → Tree X C → (K → X → Type 0) → Ways X → List (Level K) → Type 0
+AreLevels tree IsOf ways [] = ⊤
+AreLevels tree IsOf ways (level ∷ older) =
+    IsLevel tree IsOf (node_at ways older) level × AreLevels tree IsOf ways older
+
+pub record IsWalk {X C K : Type 0} (tree : Tree X C) (IsOf : K → X → Type 0) (ways : Ways X) (walk : Walk K)
+    : Type 0 where
+  pub levels : AreLevels tree IsOf ways (levels_of walk)
+  pub next : IfSome walk.next (λ known. IsOf known (node_at ways (levels_of walk)))
+  pub room : vec_capacity walk.levels ≡ ways.height
+
+-- where the claim is that the next node is open, it is
+abbrev pub CanGoOn : {X C K : Type 0} → Tree X C → (K → X → Type 0) → X → K → Bool → Type 0
+CanGoOn tree IsOf p known is_open = is_open ≡ true → IsOpen tree IsOf p known
