@@ -24,6 +24,7 @@ use Rattle.cert_text.specs.declared.answers.CertHead.{CertHead}
 use Rattle.cert_text.specs.declared.answers.Why.{Why}
 use Rattle.cert_text.specs.declared.answers.Why.TheVariants.{Head, False, Over, Short}
 use Rattle.cert_text.specs.declared.claim.Claim.{Claim}
+use Rattle.cert_text.specs.declared.answers.Form.TheVariants.{First}
 use Rattle.cert_text.specs.HeadTexts.{Heads, TextStops, penalty_of}
 use Rattle.cert_text.specs.Lines.{BeginsClaim, HasNoFeed, IsClaim, claim_line, claim_word, line_part}
 use Rattle.cert_text.proofs.HeadBacks.{heads_are_one}
@@ -181,7 +182,7 @@ module _ (ex : Exercise) (sheet : Sheet) (bytes : List ℕ) where
   record IsJudged (it : Verdict) (head : CertHead) : Type 0 where
     pub sound : IsHeadSound ex sheet head
     pub front : List ℕ
-    pub heads : Heads ex front head (length front)
+    pub heads : Heads ex First front head (length front)
     pub claims : List Claim
     pub rest : List ℕ
     pub is : judged_bytes bytes ≡ front ++ rest
@@ -312,21 +313,21 @@ module _ (ex : Exercise) (sheet : Sheet) (bytes : List ℕ) where
     ]
 
     -- a head stands at the front of all bytes
-    stands : (it : Verdict) (judged : IsJudged it head) → Heads ex bytes head (length judged.front)
+    stands : (it : Verdict) (judged : IsJudged it head) → Heads ex First bytes head (length judged.front)
     stands it judged =
         let later = drop longest_certificate bytes in
         at_front ex head bytes judged.front (judged.rest ++ later)
         (sym (take-append-drop longest_certificate bytes) ∙ ap (λ xs. xs ++ later) judged.is
         ∙ append_assoc judged.front judged.rest later) judged.heads
 
-    stands_unsound : (number : ℕ) (it : IsUnsound ex sheet head number bytes) → Heads ex bytes head (length it.front)
+    stands_unsound : (number : ℕ) (it : IsUnsound ex sheet head number bytes) → Heads ex First bytes head (length it.front)
     stands_unsound number it =
         let rest = drop (length it.front) bytes in
         at_front ex head bytes it.front rest
         (sym (take-append-drop (length it.front) bytes) ∙ ap (λ xs. xs ++ rest) it.begins) it.heads
 
-    none_stops : (n at : ℕ) → Heads ex bytes head n → TextStops ex bytes at → ⊥
-    none_stops n at heads stops = stops.unfinished n (penalty_of head) heads.within heads.text
+    none_stops : (n at : ℕ) → Heads ex First bytes head n → TextStops ex First bytes at → ⊥
+    none_stops n at heads stops = stops.unfinished First tt n (penalty_of head) heads.within heads.text
 
     one_judged : IsValid ex → (it other : Verdict) → IsJudged it head → IsJudged other head → it ≡ other
     one_judged valid it other p q =
@@ -336,7 +337,7 @@ module _ (ex : Exercise) (sheet : Sheet) (bytes : List ℕ) where
         q.told))
       where
         size : length p.front ≡ length q.front
-        size = (heads_are_one ex bytes head head (length p.front) (length q.front) valid (stands it p) (stands other q)).1
+        size = (heads_are_one ex bytes First First head head (length p.front) (length q.front) valid (stands it p) (stands other q)).2
 
         first : (xs ys : List ℕ) → judged_bytes bytes ≡ xs ++ ys → take (length xs) (judged_bytes bytes) ≡ xs
         first xs ys whole = ap (λ zs. take (length xs) zs) whole ∙ take-append_seam xs ys
@@ -352,7 +353,7 @@ module _ (ex : Exercise) (sheet : Sheet) (bytes : List ℕ) where
   -- ---- the three kinds of verdicts
 
   data Kind (it : Verdict) : Type 0 where
-    headless : (at : ℕ) → it ≡ verdicts.Text (WrongHead at) → TextStops ex bytes at → Kind it
+    headless : (at : ℕ) → it ≡ verdicts.Text (WrongHead at) → TextStops ex First bytes at → Kind it
     unsound : (head : CertHead) → it ≡ verdicts.Claim (record { number = 0; why = Head })
         → IsUnsound ex sheet head 0 bytes → Kind it
     judged : (head : CertHead) → IsJudged it head → Kind it
@@ -384,10 +385,10 @@ module _ (ex : Exercise) (sheet : Sheet) (bytes : List ℕ) where
   kind_of (verdicts.Text Memory) it = kind_behind (verdicts.Text Memory) it.head it.finds
 
   module _ (valid : IsValid ex) where
-    same_head : (head other : CertHead) (n m : ℕ) → Heads ex bytes head n → Heads ex bytes other m → head ≡ other
-    same_head head other n m p q = (heads_are_one ex bytes head other n m valid p q).0
+    same_head : (head other : CertHead) (n m : ℕ) → Heads ex First bytes head n → Heads ex First bytes other m → head ≡ other
+    same_head head other n m p q = (heads_are_one ex bytes First First head other n m valid p q).1
 
-    one_stop : (a b : ℕ) → TextStops ex bytes a → TextStops ex bytes b → a ≡ b
+    one_stop : (a b : ℕ) → TextStops ex First bytes a → TextStops ex First bytes b → a ≡ b
     one_stop a b p q = omega (arith, p.longest b q.within q.begins, q.longest a p.within p.begins)
 
     not_sound : (head other : CertHead) (it : Verdict) → IsUnsound ex sheet head 0 bytes → IsJudged it other → ⊥

@@ -5,6 +5,7 @@ use Rattle.fux_grid.specs.declared.exercise.Exercise.{Exercise}
 use Rattle.cert_text.specs.declared.answers.CertFault.{CertFault}
 use Rattle.cert_text.specs.declared.answers.CertFault.TheVariants.{CertHead, Memory}
 use Rattle.cert_text.specs.declared.answers.CertHead.{CertHead as Head}
+use Rattle.cert_text.specs.declared.answers.Form.TheVariants.{First}
 use Rattle.cert_text.specs.HeadTexts.{HasLines, Heads, TextStops, penalty_of}
 use Rattle.cert_text.specs.SingItems.{IsHeadText}
 use Rattle.cert_text.proofs.HeadBacks.{stops_whole}
@@ -19,19 +20,19 @@ module _ (ex : Exercise) (files : Files) (name bytes : List ℕ)
     (known : MayBe files name (λ all. bytes ≡ take longest_piece all)) where
   -- a head is shorter than a piece, so one that stops in the first piece stops so in the whole file
   pub head_stops : IsValid ex → (rose : Type 0) (fault : CertFault)
-      → (fault ≡ Memory) ⊎ ((at : ℕ) × (fault ≡ CertHead at) × TextStops ex bytes at)
+      → (fault ≡ Memory) ⊎ ((at : ℕ) × (fault ≡ CertHead at) × TextStops ex First bytes at)
       → Starts ex files name rose (Err (Text fault))
   head_stops valid rose fault cause = elim cause [
     | inl e ↦ subst (λ it. Starts ex files name rose (Err (Text it))) (sym e) tt
     | inr stops ↦ subst (λ it. Starts ex files name rose (Err (Text it))) (sym stops.1) (record {
       bytes = known.bytes;
       had = known.had;
-      such = stops_whole ex known.bytes longest_piece stops.0 valid (omega arith)
-          (subst (λ xs. TextStops ex xs stops.0) known.such stops.2);
+      such = stops_whole ex valid known.bytes First longest_piece stops.0 (omega arith)
+          (subst (λ xs. TextStops ex First xs stops.0) known.such stops.2);
     })
   ]
 
-  pub started : (head : Head) (used offset : ℕ) (ahead : List ℕ) → Heads ex bytes head used → offset ≡ length bytes
+  pub started : (head : Head) (used offset : ℕ) (ahead : List ℕ) → Heads ex First bytes head used → offset ≡ length bytes
       → ahead ≡ drop used bytes
       → IsStarted ex files name head (reading_from used ahead offset)
   started head used offset ahead heads far is =
@@ -42,8 +43,8 @@ module _ (ex : Exercise) (files : Files) (name bytes : List ℕ)
         front = take used bytes;
         heads = record {
           within = omega arith;
-          text = subst (λ xs. IsHeadText ex xs (penalty_of head)) (sym same) heads.text;
-          setting = subst (λ xs. HasLines ex xs head) (sym same) heads.setting;
+          text = subst (λ xs. IsHeadText ex First xs (penalty_of head)) (sym same) heads.text;
+          setting = subst (λ xs. HasLines ex First xs head) (sym same) heads.setting;
         };
         at = record {
           begins = subst (λ xs. MayBe files name (Begins xs))

@@ -7,6 +7,7 @@ use Rattle.cert_check.specs.Readings.{Files, MayBe}
 use Rattle.cert_text.specs.declared.answers.CertHead.{CertHead}
 use Rattle.cert_text.specs.declared.claim.Claim.{Claim}
 use Rattle.cert_text.specs.declared.claim.Claim.TheVariants.{Open, Broken, NoChain, Floor, TheScore}
+use Rattle.cert_text.specs.declared.answers.Form.TheVariants.{First}
 use Rattle.cert_text.specs.HeadTexts.{Heads}
 use Rattle.cert_text.specs.Lines.{BeginsClaim, HasNoFeed, IsClaim, claim_line, claim_word, line_part}
 use Rattle.cert_text.proofs.HeadBacks.{heads_before}
@@ -94,6 +95,6 @@ such_of files name bytes has Such known = at known.had
 
 -- a head that a front is stands at the front of all bytes
 pub at_front : (ex : Exercise) (head : CertHead) (bytes front rest : List ℕ) → bytes ≡ front ++ rest
-    → Heads ex front head (length front) → Heads ex bytes head (length front)
+    → Heads ex First front head (length front) → Heads ex First bytes head (length front)
 at_front ex head bytes front rest e heads =
-    subst (λ xs. Heads ex xs head (length front)) (sym e) (heads_before ex front rest head heads)
+    subst (λ xs. Heads ex First xs head (length front)) (sym e) (heads_before ex First front rest head heads)

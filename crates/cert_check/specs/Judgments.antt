@@ -12,6 +12,7 @@ use Rattle.cert_text.specs.declared.answers.CertHead.{CertHead}
 use Rattle.cert_text.specs.declared.answers.Why.{Why}
 use Rattle.cert_text.specs.declared.answers.Why.TheVariants.{Head, False, Over, Short}
 use Rattle.cert_text.specs.declared.claim.Claim.{Claim}
+use Rattle.cert_text.specs.declared.answers.Form.TheVariants.{First}
 use Rattle.cert_text.specs.HeadTexts.{Heads}
 use Rattle.cert_text.specs.Lines.{IsClaim, claim_line}
 use Rattle.cert_check.specs.declared.verdict.Verdict.{Verdict}
@@ -24,7 +25,7 @@ use Rattle.penalty_sheet.specs.declared.sheet.Sheet.{Sheet}
 -- the text of a head and of the lines of claims
 pub record IsTextOf (ex : Exercise) (head : CertHead) (claims : List Claim) (bytes : List ℕ) : Type 0 where
   pub front : List ℕ
-  pub heads : Heads ex front head (length front)
+  pub heads : Heads ex First front head (length front)
   pub fits : AllByRecursion IsClaim claims
   pub is : bytes ≡ front ++ flat_map claim_line claims
 
@@ -57,7 +58,7 @@ pub record IsUnsound (ex : Exercise) (sheet : Sheet) (head : CertHead) (number :
   pub numbered : number ≡ 0
   pub front : List ℕ
   pub begins : StartsWith bytes front
-  pub heads : Heads ex front head (length front)
+  pub heads : Heads ex First front head (length front)
   pub unsound : IsHeadSound ex sheet head → ⊥
 
 -- behind claims that are taken stands one that is false of the prefix that is owed next

@@ -9,6 +9,7 @@ use Rattle.cert_text.specs.declared.answers.CertHead.{CertHead}
 use Rattle.cert_text.specs.declared.answers.CertHead.TheVariants.{Best, Nothing}
 use Rattle.cert_text.specs.declared.claim.Claim.{Claim}
 use Rattle.cert_text.specs.declared.claim.Claim.TheVariants.{Open, Broken, NoChain, Floor, TheScore}
+use Rattle.cert_text.specs.declared.answers.Form.TheVariants.{First}
 use Rattle.cert_text.specs.Lines.{claim_line}
 use Rattle.cert_text.specs.SingItems.{best_text, nothing_text}
 use Rattle.cert_law.specs.Claims.{has_break_of, longer_prefixes}
@@ -85,8 +86,8 @@ claims_of ex sheet head = claims_from ex sheet head (columns_in ex) []
 
 -- the text of a head
 abbrev pub head_text : Exercise → CertHead → List ℕ
-head_text ex Nothing = nothing_text
-head_text ex (Best penalty score) = best_text penalty (sing_lines ex score.columns)
+head_text ex Nothing = nothing_text First
+head_text ex (Best penalty score) = best_text First penalty (sing_lines ex score.columns)
 
 -- the text of a certificate: its head's, and the line of each claim
 abbrev pub certificate_text : Exercise → CertHead → List Claim → List ℕ

@@ -1,5 +1,5 @@
 -- The text of a head as a row of pieces: its lines, the number of its penalty, and the items of its `sing` lines.
-use Rattle.std.specs.Prelude.{◌≡◌, ◌⊎◌, ℕ, zero, suc, ◌+◌, ◌-◌, ◌*◌, ◌%◌, ◌<◌, ◌≤◌, ◌^◌, ◌==◌, ◌&&◌, ◌||◌, not, IsTrue, Bool, true, false, List, [], ◌∷◌, ◌++◌, Option, Some, None, codes, nat_le, nat_lt, if◌then◌else◌}
+use Rattle.std.specs.Prelude.{◌≡◌, ◌⊎◌, ℕ, zero, suc, ◌+◌, ◌-◌, ◌*◌, ◌%◌, ◌<◌, ◌≤◌, ◌^◌, ◌==◌, ◌&&◌, ◌||◌, not, IsTrue, ⊤, Bool, true, false, List, [], ◌∷◌, ◌++◌, Option, Some, None, codes, nat_le, nat_lt, if◌then◌else◌}
 use Rattle.std.specs.Fmt.{decimal}
 use Rattle.std.specs.List.{range_with_len}
 use Rattle.fux_pitch.specs.declared.pitch.Pitch.{Pitch}
@@ -12,6 +12,9 @@ use Rattle.text_lines.specs.Numbers.{is_digit}
 use Rattle.fux_text.specs.Items.{item_name}
 use Rattle.fux_text.specs.Lines.{free_among, free_voices}
 use Rattle.fux_text.specs.Sing.{held}
+use Rattle.cert_text.specs.declared.answers.Form.{Form}
+use Rattle.cert_text.specs.declared.answers.Form.TheVariants.{First, Second}
+use Rattle.cert_text.specs.declared.scan.Scan.{Scan}
 use Rattle.cert_text.specs.Pieces.{Fixed, Literal, OneByte, Then}
 
 -- ---- the penalty
@@ -116,28 +119,85 @@ free_from ex v = free_among ex (range_with_len v (ex.voices - v))
 abbrev pub Itself : (Unit {0} → List ℕ → Type 0) → List ℕ → List ℕ → Type 0
 Itself L said text = (said ≡ text) × L tt text
 
+-- ---- forms
+
+-- the digit of a form
+abbrev pub form_byte : Form → ℕ
+form_byte First = 49
+form_byte Second = 50
+
+-- the form is this one, or an earlier one
+abbrev pub IsUpTo : Form → Form → Type 0
+IsUpTo First First = ⊤
+IsUpTo First Second = ⊥
+IsUpTo Second form = ⊤
+
+-- the digit of such a form, which says the form
+abbrev pub FormDigit : Form → Form → List ℕ → Type 0
+FormDigit last form text = IsUpTo last form × (text ≡ form_byte form ∷ [])
+
 -- ---- heads
+
+abbrev pub name_text : List ℕ
+name_text = codes "fux-cert "
+
+abbrev pub feed_text : List ℕ
+feed_text = 10 ∷ []
+
+-- the first line of a form
+abbrev pub opening_text : Form → List ℕ
+opening_text form = name_text ++ form_byte form ∷ feed_text
 
 abbrev pub claims_text : List ℕ
 claims_text = codes "claims" ++ 10 ∷ []
 
-abbrev pub opening_text : List ℕ
-opening_text = codes "fux-cert 1" ++ 10 ∷ []
+-- the last line of a head: what stands behind it
+abbrev pub closing_text : Form → List ℕ
+closing_text First = claims_text
+closing_text Second = codes "potentials" ++ 10 ∷ []
 
--- what follows the `b` of `best`: the penalty and the lines, which the head says
-abbrev pub BestRow : Exercise → Option ℕ × List ℕ → List ℕ → Type 0
-BestRow ex =
+-- what a head says: its form, its penalty, unless there is no setting, and its lines
+pub record HeadSaid : Type 0 where
+  pub form : Form
+  pub penalty : Option ℕ
+  pub lines : List ℕ
+
+abbrev pub said_of : Scan → HeadSaid
+said_of scan = record { form = scan.form; penalty = scan.penalty; lines = scan.lines.now }
+
+-- what follows the `b` of `best`: the penalty and the lines
+abbrev pub BestRow : Exercise → Form → HeadSaid → List ℕ → Type 0
+BestRow ex form =
     Then (Literal (codes "est ")) (λ _. Then NumberLine (λ penalty.
-    Then (Itself (SingLines ex (free_voices ex))) (λ lines. Fixed (Some penalty, lines) claims_text)))
+    Then (Itself (SingLines ex (free_voices ex))) (λ lines.
+    Fixed (record { form = form; penalty = Some penalty; lines = lines }) (closing_text form))))
+
+-- what follows the `n` of `none`
+abbrev pub none_rest : Form → List ℕ
+none_rest form = codes "one" ++ 10 ∷ closing_text form
+
+abbrev pub NothingRow : Form → HeadSaid → List ℕ → Type 0
+NothingRow form = Fixed (record { form = form; penalty = None; lines = [] }) (none_rest form)
 
 -- what follows the first byte of the second line
-abbrev pub KindRow : Exercise → Bool → Option ℕ × List ℕ → List ℕ → Type 0
-KindRow ex true = BestRow ex
-KindRow ex false = Fixed (None, []) (codes "one" ++ 10 ∷ claims_text)
+abbrev pub KindRow : Exercise → Form → Bool → HeadSaid → List ℕ → Type 0
+KindRow ex form true = BestRow ex form
+KindRow ex form false = NothingRow form
 
 -- that line says `best` or `none`
 abbrev pub IsKind : ℕ → Type 0
 IsKind byte = (byte ≡ 98) ⊎ (byte ≡ 110)
 
-abbrev pub HeadRow : Exercise → Option ℕ × List ℕ → List ℕ → Type 0
-HeadRow ex = Then (Literal opening_text) (λ _. Then (OneByte IsKind) (λ byte. KindRow ex (byte == 98)))
+abbrev pub KindsRow : Exercise → Form → HeadSaid → List ℕ → Type 0
+KindsRow ex form = Then (OneByte IsKind) (λ byte. KindRow ex form (byte == 98))
+
+-- what follows the digit of a form
+abbrev pub FeedRow : Exercise → Form → HeadSaid → List ℕ → Type 0
+FeedRow ex form = Then (Literal feed_text) (λ _. KindsRow ex form)
+
+abbrev pub FormRow : Exercise → Form → HeadSaid → List ℕ → Type 0
+FormRow ex last = Then (FormDigit last) (FeedRow ex)
+
+-- a head of a form up to this one
+abbrev pub HeadRow : Exercise → Form → HeadSaid → List ℕ → Type 0
+HeadRow ex last = Then (Literal name_text) (λ _. FormRow ex last)

@@ -11,6 +11,15 @@ pub enum CertHead {
     Nothing,
 }
 
+/// What a certificate states beside its claims.
+#[derive(Clone, Copy, Debug, PartialEq, Eq)]
+pub enum Form {
+    /// Nothing: its checker fills the tables of least sums itself.
+    First,
+    /// A number for each column of the menus, which its checker compares.
+    Second,
+}
+
 /// What is wrong with the text of a certificate, at a byte counted from 0.
 #[derive(Clone, Copy, Debug, PartialEq, Eq)]
 pub enum CertFault {

@@ -12,9 +12,9 @@ mod potentials;
 mod scan;
 mod stated_line;
 
-pub use answers::{Accepted, CertFault, CertHead, CertWrite, Refused, Why};
+pub use answers::{Accepted, CertFault, CertHead, CertWrite, Form, Refused, Why};
 pub use claim::{Claim, write_claim};
 pub use claims::{Claims, Taken};
-pub use heads::{head, heads_are_of_settings};
+pub use heads::{head, head_any, heads_are_of_settings};
 pub use potential::{Potential, write_potential};
 pub use potentials::{Potentials, TakenPotential};

@@ -8,15 +8,18 @@ ghost use Rattle.fux_grid.specs.declared.cell.Cell.{Cell};
 ghost use Rattle.fux_grid.specs.Exercises.{IsValid};
 ghost use Rattle.fux_text.specs.Items.{item_name};
 ghost use Rattle.fux_text.specs.Sing.{held};
-ghost use Rattle.cert_text.specs.HeadRows.{BestRow, HeadRow, IsCount, IsKind, ItemName, Items, KindRow, NumberLine, PitchName, SingLine, SingLines, behind_text, can_stand, digit_after, free_from, is_count, is_letter, is_sign, sing_bytes};
-ghost use Rattle.cert_text.specs.Pieces.{Fixed, Literal, OneByte, Reads, Stops, StopsAt, Then};
+ghost use Rattle.cert_text.specs.declared.answers.Form.{Form as AForm};
+ghost use Rattle.cert_text.specs.HeadRows.{BestRow, FeedRow, FormDigit, FormRow, HeadRow, IsCount, IsUpTo, ItemName, Items, KindsRow, NothingRow, NumberLine, PitchName, SingLine, SingLines, behind_text, can_stand, closing_text, digit_after, form_byte, free_from, is_count, is_letter, is_sign, none_rest, said_of, sing_bytes};
+ghost use Rattle.cert_text.specs.Pieces.{Literal, OneByte, Reads, Stops, StopsAt};
 
+use crate::answers::Form;
 use fux_grid::{Cell, Exercise};
 use fux_pitch::{Pitch, parse_pitch};
 
-/// What a head says: its penalty and its lines, unless it says that there is no setting; and the bytes behind it.
+/// What a head says: its form, and its penalty and its lines, unless it says that there is no setting; and the bytes behind it.
 #[derive(Clone, Copy)]
 pub struct Scan<'a> {
+    pub form: Form,
     pub penalty: Option<u64>,
     pub lines: &'a [u8],
     pub rest: &'a [u8],
@@ -331,31 +334,52 @@ fn lines<'a>(ex: &Exercise, v: u8, bytes: &'a [u8]) -> Result<&'a [u8], usize>
     lines(ex, v + 1, rest)
 }
 
+/// What stands between a head and what is behind it.
+fn closing(form: Form) -> &'static [u8]
+    ensures { result.now ≡ closing_text form }
+{
+    match form {
+        Form::First => b"claims\n",
+        Form::Second => b"potentials\n",
+    }
+}
+
 /// Reads what follows the `b` of `best`.
-fn best<'a>(ex: &Exercise, bytes: &'a [u8]) -> Result<Scan<'a>, usize>
+fn best<'a>(ex: &Exercise, form: Form, bytes: &'a [u8]) -> Result<Scan<'a>, usize>
     requires { IsValid ex.now }
-    ensures ok { IfOk result (λ found. Reads (BestRow ex.now) bytes.now (found.penalty, found.lines.now) found.rest.now) }
-    ensures err { IfErr result (λ left. Stops (BestRow ex.now) bytes.now left) }
+    ensures ok { IfOk result (λ found. Reads (BestRow ex.now form) bytes.now (said_of found) found.rest.now) }
+    ensures err { IfErr result (λ left. Stops (BestRow ex.now form) bytes.now left) }
 {
     let digits = fixed(bytes, b"est ")?;
     let (penalty, sung) = number_line(digits)?;
-    let claims = lines(ex, 0, sung)?;
-    let rest = fixed(claims, b"claims\n")?;
+    let behind = lines(ex, 0, sung)?;
+    let rest = fixed(behind, closing(form))?;
     Ok(Scan {
+        form,
         penalty: Some(penalty),
-        lines: &sung[..sung.len() - claims.len()],
+        lines: &sung[..sung.len() - behind.len()],
         rest,
     })
 }
 
-/// Reads what follows the `n` of `none`.
-fn nothing(bytes: &[u8]) -> Result<Scan<'_>, usize>
-    ensures ok { IfOk result (λ found.
-        (found.penalty ≡ None) × (found.lines.now ≡ []) × Reads (Literal (codes "one\nclaims\n")) bytes.now tt found.rest.now) }
-    ensures err { IfErr result (λ left. Stops (Literal (codes "one\nclaims\n")) bytes.now left) }
+/// What follows the `n` of `none`.
+fn none_rest(form: Form) -> &'static [u8]
+    ensures { result.now ≡ none_rest form }
 {
-    let rest = fixed(bytes, b"one\nclaims\n")?;
+    match form {
+        Form::First => b"one\nclaims\n",
+        Form::Second => b"one\npotentials\n",
+    }
+}
+
+/// Reads what follows the `n` of `none`.
+fn nothing(form: Form, bytes: &[u8]) -> Result<Scan<'_>, usize>
+    ensures ok { IfOk result (λ found. Reads (NothingRow form) bytes.now (said_of found) found.rest.now) }
+    ensures err { IfErr result (λ left. Stops (NothingRow form) bytes.now left) }
+{
+    let rest = fixed(bytes, none_rest(form))?;
     Ok(Scan {
+        form,
         penalty: None,
         lines: &[],
         rest,
@@ -363,30 +387,84 @@ fn nothing(bytes: &[u8]) -> Result<Scan<'_>, usize>
 }
 
 /// Reads the second line and those behind it.
-fn kind<'a>(ex: &Exercise, bytes: &'a [u8]) -> Result<Scan<'a>, usize>
+fn kind<'a>(ex: &Exercise, form: Form, bytes: &'a [u8]) -> Result<Scan<'a>, usize>
     requires { IsValid ex.now }
-    ensures ok { IfOk result (λ found. Reads (Then (OneByte IsKind) (λ byte. KindRow ex.now (byte == 98))) bytes.now
-        (found.penalty, found.lines.now) found.rest.now) }
-    ensures err { IfErr result (λ left. Stops (Then (OneByte IsKind) (λ byte. KindRow ex.now (byte == 98))) bytes.now left) }
+    ensures ok { IfOk result (λ found. Reads (KindsRow ex.now form) bytes.now (said_of found) found.rest.now) }
+    ensures err { IfErr result (λ left. Stops (KindsRow ex.now form) bytes.now left) }
 {
     let Some((byte, rest)) = next(bytes) else {
         return Err(0);
     };
     if byte == b'b' {
-        return best(ex, rest);
+        return best(ex, form, rest);
     }
     if byte == b'n' {
-        return nothing(rest);
+        return nothing(form, rest);
     }
     Err(bytes.len())
 }
 
-/// Reads a head.
-pub fn scan_head<'a>(ex: &Exercise, bytes: &'a [u8]) -> Result<Scan<'a>, usize>
-    requires { IsValid ex.now }
-    ensures ok { IfOk result (λ found. Reads (HeadRow ex.now) bytes.now (found.penalty, found.lines.now) found.rest.now) }
-    ensures err { IfErr result (λ left. Stops (HeadRow ex.now) bytes.now left) }
+/// The form up to this one that has a digit.
+fn form_of(last: Form, byte: u8) -> Option<Form>
+    ensures some { IfSome result (λ form. IsUpTo last form × (byte ≡ form_byte form)) }
+    ensures none { result ≡ None → (form : AForm) → IsUpTo last form → byte ≡ form_byte form → ⊥ }
 {
-    let rest = fixed(bytes, b"fux-cert 1\n")?;
-    kind(ex, rest)
+    match last {
+        Form::First => {
+            if byte == b'1' {
+                Some(Form::First)
+            } else {
+                None
+            }
+        }
+        Form::Second => match byte {
+            b'1' => Some(Form::First),
+            b'2' => Some(Form::Second),
+            _ => None,
+        },
+    }
+}
+
+/// Reads the digit of a form up to this one.
+fn form_digit(last: Form, bytes: &[u8]) -> Result<(Form, &[u8]), usize>
+    ensures ok { IfOk result (λ found. Reads (FormDigit last) bytes.now found.0 found.1.now) }
+    ensures err { IfErr result (λ left. Stops (FormDigit last) bytes.now left) }
+{
+    let Some((byte, rest)) = next(bytes) else {
+        return Err(0);
+    };
+    match form_of(last, byte) {
+        Some(form) => Ok((form, rest)),
+        None => Err(bytes.len()),
+    }
+}
+
+/// Reads what follows the digit of a form.
+fn behind_form<'a>(ex: &Exercise, form: Form, bytes: &'a [u8]) -> Result<Scan<'a>, usize>
+    requires { IsValid ex.now }
+    ensures ok { IfOk result (λ found. Reads (FeedRow ex.now form) bytes.now (said_of found) found.rest.now) }
+    ensures err { IfErr result (λ left. Stops (FeedRow ex.now form) bytes.now left) }
+{
+    let second = fixed(bytes, b"\n")?;
+    kind(ex, form, second)
+}
+
+/// Reads the digit of a form up to this one, and what follows it.
+fn numbered<'a>(ex: &Exercise, last: Form, bytes: &'a [u8]) -> Result<Scan<'a>, usize>
+    requires { IsValid ex.now }
+    ensures ok { IfOk result (λ found. Reads (FormRow ex.now last) bytes.now (said_of found) found.rest.now) }
+    ensures err { IfErr result (λ left. Stops (FormRow ex.now last) bytes.now left) }
+{
+    let (form, feed) = form_digit(last, bytes)?;
+    behind_form(ex, form, feed)
+}
+
+/// Reads a head of a form up to this one.
+pub fn scan_head<'a>(ex: &Exercise, last: Form, bytes: &'a [u8]) -> Result<Scan<'a>, usize>
+    requires { IsValid ex.now }
+    ensures ok { IfOk result (λ found. Reads (HeadRow ex.now last) bytes.now (said_of found) found.rest.now) }
+    ensures err { IfErr result (λ left. Stops (HeadRow ex.now last) bytes.now left) }
+{
+    let digit = fixed(bytes, b"fux-cert ")?;
+    numbered(ex, last, digit)
 }

@@ -2,52 +2,54 @@ use Rattle.std.proofs.Common.{◌-◌, ◌++◌, ap, length, subst, sym, take, �
 use Rattle.std.proofs.lemmas.Result.{err_from_is_err_and}
 use Rattle.fux_text.specs.Lines.{free_voices}
 use Rattle.cert_text.specs.HeadRows.{SingLines}
-use Rattle.cert_text.specs.Pieces.{Reads, Stops}
+use Rattle.cert_text.specs.Pieces.{Literal, Reads, Stops}
 use Rattle.cert_text.proofs.ItemRows.{free_from-all}
-use Rattle.cert_text.proofs.HeadStops.{best-reads, front-taken, claims-stops, est-stops, lines-stops, number-stops}
+use Rattle.cert_text.proofs.HeadStops.{best-reads, closing-stops, est-stops, front-taken, lines-stops, number-stops}
 use Rattle.cert_text.proofs.scan.best.Goals as goal
 
 pub returns-in_err-digits-clause-err : goal.returns-in_err-digits-clause-err
 returns-in_err-digits-clause-err c =
     let told = err_from_is_err_and c.from_residual.result c.from_residual.ensures.1 in
     rw (told.1, told.2)
-    (est-stops c.args.ex.now c.requires c.args.bytes.now c.in_err-digits.field-0.0 c.in_err-digits.ensures.err)
+    (est-stops c.args.ex.now c.requires c.args.form c.args.bytes.now c.in_err-digits.field-0.0 c.in_err-digits.ensures.err)
 
 pub returns-in_err-penalty-clause-err : goal.returns-in_err-penalty-clause-err
 returns-in_err-penalty-clause-err c =
     let told = err_from_is_err_and c.from_residual-in_err-penalty.result c.from_residual-in_err-penalty.ensures.1 in
     rw (told.1, told.2)
-    (number-stops c.args.ex.now c.requires c.args.bytes.now c.in_ok-digits.digits.now c.in_ok-digits.ensures.ok
+    (number-stops c.args.ex.now c.requires c.args.form c.args.bytes.now c.in_ok-digits.digits.now c.in_ok-digits.ensures.ok
     c.in_err-penalty.field-0.0 c.in_err-penalty.ensures.err)
 
-pub returns-in_err-claims-clause-err : goal.returns-in_err-claims-clause-err
-returns-in_err-claims-clause-err c =
-    let told = err_from_is_err_and c.from_residual-in_err-claims.result c.from_residual-in_err-claims.ensures.1 in
+pub returns-in_err-behind-clause-err : goal.returns-in_err-behind-clause-err
+returns-in_err-behind-clause-err c =
+    let told = err_from_is_err_and c.from_residual-in_err-behind.result c.from_residual-in_err-behind.ensures.1 in
     rw (told.1, told.2)
-    (lines-stops c.args.ex.now c.requires c.args.bytes.now c.in_ok-digits.digits.now c.in_ok-digits.ensures.ok
-    c.in_ok-penalty.sung.now c.in_ok-penalty.penalty c.in_ok-penalty.ensures.ok c.in_err-claims.field-0.0
-    (subst (λ vs. Stops (SingLines c.args.ex.now vs) c.in_ok-penalty.sung.now c.in_err-claims.field-0.0)
-    (free_from-all c.args.ex.now) c.in_err-claims.ensures.err))
+    (lines-stops c.args.ex.now c.requires c.args.form c.args.bytes.now c.in_ok-digits.digits.now c.in_ok-digits.ensures.ok
+    c.in_ok-penalty.sung.now c.in_ok-penalty.penalty c.in_ok-penalty.ensures.ok c.in_err-behind.field-0.0
+    (subst (λ vs. Stops (SingLines c.args.ex.now vs) c.in_ok-penalty.sung.now c.in_err-behind.field-0.0)
+    (free_from-all c.args.ex.now) c.in_err-behind.ensures.err))
 
 pub returns-in_err-rest-clause-err : goal.returns-in_err-rest-clause-err
 returns-in_err-rest-clause-err c =
     let told = err_from_is_err_and c.from_residual-in_err-rest.result c.from_residual-in_err-rest.ensures.1 in
-    let lines = subst (λ vs. Reads (SingLines c.args.ex.now vs) c.in_ok-penalty.sung.now tt c.in_ok-claims.claims.now)
-    (free_from-all c.args.ex.now) c.in_ok-claims.ensures.ok in
+    let lines = subst (λ vs. Reads (SingLines c.args.ex.now vs) c.in_ok-penalty.sung.now tt c.in_ok-behind.behind.now)
+    (free_from-all c.args.ex.now) c.in_ok-behind.ensures.ok in
     rw (told.1, told.2)
-    (claims-stops c.args.ex.now c.requires c.args.bytes.now c.in_ok-digits.digits.now c.in_ok-digits.ensures.ok
-    c.in_ok-penalty.sung.now c.in_ok-penalty.penalty c.in_ok-penalty.ensures.ok c.in_ok-claims.claims.now lines.0
-    lines.1 lines.2 c.in_err-rest.field-0.0 c.in_err-rest.ensures.err)
+    (closing-stops c.args.ex.now c.requires c.args.form c.args.bytes.now c.in_ok-digits.digits.now
+    c.in_ok-digits.ensures.ok c.in_ok-penalty.sung.now c.in_ok-penalty.penalty c.in_ok-penalty.ensures.ok
+    c.in_ok-behind.behind.now lines.0 lines.1 lines.2 c.in_err-rest.field-0.0
+    (subst (λ text. Stops (Literal text) c.in_ok-behind.behind.now c.in_err-rest.field-0.0) c.closing.ensures
+    c.in_err-rest.ensures.err))
 
 pub returns-clause-ok : goal.returns-clause-ok
 returns-clause-ok c =
     let sung = c.in_ok-penalty.sung.now in
-    let claims = c.in_ok-claims.claims.now in
-    let lines = subst (λ vs. Reads (SingLines c.args.ex.now vs) sung tt claims) (free_from-all c.args.ex.now)
-    c.in_ok-claims.ensures.ok in
-    let front = front-taken sung lines.0 claims lines.1 in
-    best-reads c.args.ex.now c.requires c.args.bytes.now c.in_ok-digits.digits.now c.in_ok-digits.ensures.ok sung
-    c.in_ok-penalty.penalty c.in_ok-penalty.ensures.ok claims (take (length sung - length claims) sung)
-    (lines.1 ∙ ap (λ w. w ++ claims) (sym front))
+    let behind = c.in_ok-behind.behind.now in
+    let lines = subst (λ vs. Reads (SingLines c.args.ex.now vs) sung tt behind) (free_from-all c.args.ex.now)
+    c.in_ok-behind.ensures.ok in
+    let front = front-taken sung lines.0 behind lines.1 in
+    best-reads c.args.ex.now c.requires c.args.form c.args.bytes.now c.in_ok-digits.digits.now c.in_ok-digits.ensures.ok
+    sung c.in_ok-penalty.penalty c.in_ok-penalty.ensures.ok behind (take (length sung - length behind) sung)
+    (lines.1 ∙ ap (λ w. w ++ behind) (sym front))
     (subst (SingLines c.args.ex.now (free_voices c.args.ex.now) tt) (sym front) lines.2) c.in_ok-rest.rest.now
-    c.in_ok-rest.ensures.ok
+    (subst (λ text. Reads (Literal text) behind tt c.in_ok-rest.rest.now) c.closing.ensures c.in_ok-rest.ensures.ok)
