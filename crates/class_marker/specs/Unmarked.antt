@@ -20,6 +20,7 @@ kind_word kinds.Range = codes "range"
 kind_word kinds.Cantus = codes "cantus"
 kind_word kinds.Tie = codes "tie"
 kind_word kinds.Sing = codes "sing"
+kind_word kinds.Given = codes "given"
 
 -- what is said of the first fault of a text of this name, with its line and its column
 abbrev pub text_fault : List ℕ → TextKind → ℕ → ℕ → List ℕ

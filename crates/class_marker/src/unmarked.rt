@@ -63,5 +63,6 @@ fn kind_word(kind: TextKind) -> &'static str
         TextKind::Cantus => "cantus",
         TextKind::Tie => "tie",
         TextKind::Sing => "sing",
+        TextKind::Given => "given",
     }
 }

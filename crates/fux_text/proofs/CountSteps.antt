@@ -2,7 +2,7 @@
 use Rattle.std.proofs.Common.{◌≡◌, ℕ, ◌+◌, ◌-◌, ◌<◌, suc, Bool, true, false, List, [], ◌∷◌, ◌++◌, Option, refl, sym, ap, ◌∙◌, append_assoc, arith}
 use Rattle.std.specs.Prelude.{filter, find}
 use Rattle.std.proofs.lemmas.List.{append-nil}
-use Rattle.std.specs.List.{flat_map, range_with_len}
+use Rattle.std.specs.List.{flat_map, list_all, range_with_len}
 
 -- the first number of a range, and the range behind it
 pub range-next : (a b : ℕ) → a < b → range_with_len a (b - a) ≡ a ∷ range_with_len (a + 1) (b - (a + 1))
@@ -69,3 +69,17 @@ find-next p a b whole h fails so_far =
     let one : find p (range_with_len a (b - a))
     ≡ find p (range_with_len (a + 1) (b - (a + 1))) = rw (range-next a b h, fails) refl in
     sym one ∙ so_far
+
+-- where the first number passes a test, all of a range do where the others do; where it doesn't, not all do
+pub all-next : (p : ℕ → Bool) (a b : ℕ) (whole : Bool) → a < b → p a ≡ true → list_all p (range_with_len a (b - a)) ≡ whole
+    → list_all p (range_with_len (a + 1) (b - (a + 1))) ≡ whole
+all-next p a b whole h passes so_far =
+    let one : list_all p (range_with_len a (b - a))
+    ≡ list_all p (range_with_len (a + 1) (b - (a + 1))) = rw (range-next a b h, passes) refl in
+    sym one ∙ so_far
+
+pub all-stop : (p : ℕ → Bool) (a b : ℕ) (whole : Bool) → a < b → p a ≡ false → list_all p (range_with_len a (b - a)) ≡ whole
+    → whole ≡ false
+all-stop p a b whole h fails so_far =
+    let one : list_all p (range_with_len a (b - a)) ≡ false = rw (range-next a b h, fails) refl in
+    sym so_far ∙ one

@@ -21,7 +21,7 @@ use Rattle.text_lines.specs.Tables.{IsLine, IsTable}
 use Rattle.text_lines.proofs.Binds.{bind_ok, ok_or_ok}
 use Rattle.fux_text.specs.declared.item_words.ItemName.{ItemName}
 use Rattle.fux_text.specs.declared.item_words.ItemName.TheVariants as names
-use Rattle.fux_text.specs.Sing.{FollowsFrom, bar_line_said, cantus_cells, cantus_or_sung, first_cell, held, is_full, item_cells, item_named, item_parts, item_said, latest, sing_row, sung_end, sung_run, sung_word, voice_table, voices_table}
+use Rattle.fux_text.specs.Sing.{Fit, FollowsFrom, bar_line_said, cantus_cells, cantus_or_sung, first_cell, held, is_full, item_cells, item_named, item_parts, item_said, latest, sing_row, sung_end, sung_run, sung_word, voice_table, voices_table}
 
 -- what goes on behind so many bars
 abbrev pub go_on : List Cell → ℕ → Result (ℕ × List Cell) TextKind
@@ -126,9 +126,9 @@ words-follow bars before [] out f h = subst (FollowsFrom Rest) (end-same bars be
 words-follow bars before (word ∷ words) out f h =
     words-follow bars h.0 words out (word-follows bars before h.0 word f h.1) h.2
 
-pub line-follows : (bars v : ℕ) (text : TextLines) (out : List Cell) (rest : TextLines)
-    → IsLine (codes "sing") (sing_row bars v) text out rest → FollowsFrom Rest out
-line-follows bars v text out rest l = words-follow bars (0, []) _ out tt l.right.3
+pub line-follows : (fit : List Cell → Bool) (bars v : ℕ) (text : TextLines) (out : List Cell) (rest : TextLines)
+    → IsLine (codes "sing") (sing_row fit bars v) text out rest → FollowsFrom Rest out
+line-follows fit bars v text out rest l = words-follow bars (0, []) _ out tt l.right.3
 
 -- the cells of the cantus follow one another
 pub start-follows : (before : Cell) (cantus : List Pitch)
@@ -138,14 +138,14 @@ start-follows before (p ∷ ps) =
     follows-append before (item_cells (Start p) 8) (flat_map (λ q. item_cells (Start q) 8) ps)
     (item-follows before (Start p) 8 (start-any before p)) (start-follows (latest before (item_cells (Start p) 8)) ps)
 
-voice-follows : (ex : Exercise) (v : ℕ) (text : TextLines) (out : List Cell) (rest : TextLines)
-    → IsTable (voice_table ex v) text out rest → FollowsFrom Rest out
+voice-follows : (fit : Fit) (ex : Exercise) (v : ℕ) (text : TextLines) (out : List Cell) (rest : TextLines)
+    → IsTable (voice_table fit ex v) text out rest → FollowsFrom Rest out
 unfolding cantus_cells
-voice-follows ex v text out rest h = by (v == ex.cantus_voice) h
+voice-follows fit ex v text out rest h = by (v == ex.cantus_voice) h
   where
-    by : (b : Bool) → IsTable (cantus_or_sung ex v b) text out rest → FollowsFrom Rest out
+    by : (b : Bool) → IsTable (cantus_or_sung fit ex v b) text out rest → FollowsFrom Rest out
     by true h = subst (FollowsFrom Rest) h.0 (start-follows Rest ex.cantus)
-    by false h = line-follows ex.bars v text out rest h
+    by false h = line-follows (fit v) ex.bars v text out rest h
 
 all-push : (lines : List (List Cell)) (line : List Cell) → AllByRecursion (FollowsFrom Rest) lines
     → FollowsFrom Rest line
@@ -154,22 +154,22 @@ all-push [] line h f = (f, tt)
 all-push (l ∷ ls) line h f = (h.0, all-push ls line h.1 f)
 
 -- the cells of each voice follow one another
-pub voices-follow : (ex : Exercise) (vs : List ℕ) (before : List (List Cell)) (text : TextLines)
+pub voices-follow : (fit : Fit) (ex : Exercise) (vs : List ℕ) (before : List (List Cell)) (text : TextLines)
     (out : List (List Cell)) (rest : TextLines)
-    → AllByRecursion (FollowsFrom Rest) before → IsTable (voices_table ex vs before) text out rest
+    → AllByRecursion (FollowsFrom Rest) before → IsTable (voices_table fit ex vs before) text out rest
     → AllByRecursion (FollowsFrom Rest) out
-voices-follow ex [] before text out rest f h = subst (AllByRecursion (FollowsFrom Rest)) h.0 f
-voices-follow ex (v ∷ vs) before text out rest f h =
-    voices-follow ex vs (before ++ h.0 ∷ []) h.1 out rest
-    (all-push before h.0 f (voice-follows ex v text h.0 h.1 h.2)) h.3
+voices-follow fit ex [] before text out rest f h = subst (AllByRecursion (FollowsFrom Rest)) h.0 f
+voices-follow fit ex (v ∷ vs) before text out rest f h =
+    voices-follow fit ex vs (before ++ h.0 ∷ []) h.1 out rest
+    (all-push before h.0 f (voice-follows fit ex v text h.0 h.1 h.2)) h.3
 
 -- each voice has its cells
-pub voices-length : (ex : Exercise) (vs : List ℕ) (before : List (List Cell)) (text : TextLines)
+pub voices-length : (fit : Fit) (ex : Exercise) (vs : List ℕ) (before : List (List Cell)) (text : TextLines)
     (out : List (List Cell)) (rest : TextLines)
-    → IsTable (voices_table ex vs before) text out rest → length out ≡ length before + length vs
-voices-length ex [] before text out rest h =
+    → IsTable (voices_table fit ex vs before) text out rest → length out ≡ length before + length vs
+voices-length fit ex [] before text out rest h =
     let same : length before ≡ length out = ap length h.0 in
     omega (arith, same)
-voices-length ex (v ∷ vs) before text out rest h =
-    let later = voices-length ex vs (before ++ h.0 ∷ []) h.1 out rest h.3 in
+voices-length fit ex (v ∷ vs) before text out rest h =
+    let later = voices-length fit ex vs (before ++ h.0 ∷ []) h.1 out rest h.3 in
     omega (arith, later, length-append before (h.0 ∷ []))

@@ -1,5 +1,8 @@
 pub mod CountSteps
 pub mod ItemLemmas
+pub mod ItemRuns
+pub mod GivenLoops
+pub mod GivenWords
 pub mod TextParts
 pub mod WordLemmas
 pub mod Named
@@ -15,6 +18,8 @@ pub mod Bounds
 pub mod ValidHead
 pub mod ValidRanges
 pub mod ValidRelax
+pub mod OnlyWords
+pub mod OnlySing
 pub mod ValidSetting
 pub mod ValidText
 pub mod Layouts
@@ -27,11 +32,14 @@ pub mod OwnItems
 pub mod OwnBars
 pub mod OwnSetting
 pub mod PlainLines
+pub mod GivenCells
+pub mod Givens
+pub mod OwnGivens
+pub mod Fits
 pub mod OwnText
-pub mod OnlyWords
 pub mod OnlyHead
 pub mod OnlyRanges
-pub mod OnlySing
 pub mod OnlySetting
 pub mod OnlyText
+pub mod ReadSteps
 pub mod ReadTexts

@@ -1,4 +1,4 @@
--- What is read before the ranges has the words that are written of it (`head-only`).
+-- What is read before the ranges has the words that are written of it (`version-only`, `head-only`).
 use Rattle.std.proofs.Common.{◌≡◌, ℕ, zero, suc, ◌-◌, Bool, true, false, List, [], ◌∷◌, ◌++◌, map, Option, Some, None, sym, ap, ◌∙◌, append_assoc, arith}
 use Rattle.std.specs.Prelude.{◌==◌, codes, if◌then◌else◌}
 use Rattle.std.specs.Fmt.{decimal}
@@ -15,16 +15,12 @@ use Rattle.text_lines.specs.Numbers.{number_within}
 use Rattle.text_lines.specs.Rows.{IsRow}
 use Rattle.text_lines.specs.Tables.{IsTable}
 use Rattle.text_lines.specs.Words.{LineWords}
-use Rattle.fux_text.specs.Head.{bare, cantus_row, head_table, mode_row, number_row, other_voice, pitches_row, species_row, unless, version_row}
-use Rattle.fux_text.specs.Lines.{cantus_words, head_lines, mode_name}
+use Rattle.fux_text.specs.Head.{bare, cantus_row, head_table, mode_row, number_row, other_voice, pitches_row, species_row, unless, version_table}
+use Rattle.fux_text.specs.Lines.{cantus_words, head_lines, mode_name, version_words}
 use Rattle.fux_text.specs.Names.{mode_named, pitch_named}
-use Rattle.fux_text.specs.Limits.{most_species, most_voices}
+use Rattle.fux_text.specs.Limits.{most_species, most_voices, newest_version}
 use Rattle.fux_text.specs.Words.{texts}
 use Rattle.fux_text.proofs.OnlyWords.{line-words, line_texts, mode-only, name-words, no-words, number-words, pitch-only, within-only, word-words}
-
-version-words : (at : LineWords) (x : Unit {0}) → IsRow version_row at x → texts at ≡ codes "1" ∷ []
-version-words at x h =
-    word-words kinds.Word (codes "1") at h.1 h.2 ∙ ap (λ ws. codes "1" ∷ ws) (no-words h.1 h.3.0)
 
 mode-words : (at : LineWords) (mode : Mode) → IsRow mode_row at mode → texts at ≡ mode_name mode ∷ []
 mode-words at mode h =
@@ -96,13 +92,17 @@ cantus_row-words voices species_voice bars at x h =
     ∙ ap (λ ws. decimal h.0 ∷ ws) (ps.words ∙ ap (map name_of) (sym ps.all))
     ∙ ap (λ v. decimal v ∷ map name_of x.1) (sym ps.voice)
 
+pub version-only : (text : TextLines) (version : ℕ) (rest : TextLines) → IsTable version_table text version rest
+    → line_texts text ≡ version_words version ∷ line_texts rest
+version-only text version rest l =
+    line-words (codes "fux") (number_row kinds.Word 1 newest_version) text version rest l
+    ∙ ap (λ ws. (codes "fux" ∷ ws) ∷ line_texts rest)
+    (number_row-words kinds.Word 1 newest_version version l.words l.right)
+
 pub head-only : (text : TextLines) (ex : Exercise) (rest : TextLines) → IsTable head_table text ex rest
     → line_texts text ≡ head_lines ex ++ cantus_words ex ∷ line_texts rest
-head-only text ex rest (_, a, version, (mode, b, m, (voices, c, vs, (bars, d, bs, (species, e, sp, (cantus, f, cs, same)))))) =
-    line-words (codes "fux") version_row text tt a version
-    ∙ ap (λ ws. (codes "fux" ∷ ws) ∷ line_texts a) (version-words version.words tt version.right)
-    ∙ ap (λ ls. (codes "fux" ∷ codes "1" ∷ []) ∷ ls)
-    (line-words (codes "mode") mode_row a mode b m
+head-only text ex rest (mode, b, m, (voices, c, vs, (bars, d, bs, (species, e, sp, (cantus, f, cs, same))))) =
+    line-words (codes "mode") mode_row text mode b m
     ∙ ap (λ ws. (codes "mode" ∷ ws) ∷ line_texts b) (mode-words m.words mode m.right)
     ∙ ap (λ ls. (codes "mode" ∷ mode_name mode ∷ []) ∷ ls)
     (line-words (codes "voices") (number_row kinds.Word 2 most_voices) b voices c vs
@@ -117,7 +117,7 @@ head-only text ex rest (_, a, version, (mode, b, m, (voices, c, vs, (bars, d, bs
     ∙ ap (λ ls. (codes "species" ∷ decimal species.0 ∷ codes "voice" ∷ decimal species.1 ∷ []) ∷ ls)
     (line-words (codes "cantus") (cantus_row voices species.1 bars) e cantus f cs
     ∙ ap (λ ws. (codes "cantus" ∷ ws) ∷ line_texts f)
-    (cantus_row-words voices species.1 bars cs.words cantus cs.right))))))
+    (cantus_row-words voices species.1 bars cs.words cantus cs.right)))))
     ∙ ap (λ x. head_lines (bare mode voices bars species cantus) ++ cantus_words
     (bare mode voices bars species cantus) ∷ line_texts x) same.1
     ∙ ap (λ y. head_lines y ++ cantus_words y ∷ line_texts rest) same.0

@@ -16,7 +16,7 @@ use Rattle.text_lines.specs.Lines.{TextLines}
 use Rattle.text_lines.specs.Tables.{IsTable}
 use Rattle.fux_text.specs.Grammar.{AreSung, IsSettingOf, IsSung, Sings}
 use Rattle.fux_text.specs.Lines.{free_voices}
-use Rattle.fux_text.specs.Sing.{FollowsFrom, cantus_or_sung, column_of, score_of, setting_table, sung_table, voice_table, voices_table}
+use Rattle.fux_text.specs.Sing.{Fit, FollowsFrom, cantus_or_sung, column_of, score_of, setting_table, sung_table, voice_table, voices_table}
 use Rattle.fux_text.proofs.Following.{voices-follow, voices-length}
 use Rattle.fux_text.proofs.OnlySing.{IsLineFor, sing_line-only, sung-length}
 use Rattle.fux_text.proofs.OnlyWords.{line_texts, no-lines}
@@ -26,21 +26,21 @@ use Rattle.fux_text.proofs.ValidSetting.{get_or-end, score-given, voices-keep}
 
 -- ---- the voices
 
-pub cantus-only : (ex : Exercise) (v : ℕ) (text : TextLines) (x : List Cell) (rest : TextLines)
-    → (v == ex.cantus_voice) ≡ true → IsTable (voice_table ex v) text x rest → text ≡ rest
-cantus-only ex v text x rest same h = by (v == ex.cantus_voice) same h
+pub cantus-only : (fit : Fit) (ex : Exercise) (v : ℕ) (text : TextLines) (x : List Cell) (rest : TextLines)
+    → (v == ex.cantus_voice) ≡ true → IsTable (voice_table fit ex v) text x rest → text ≡ rest
+cantus-only fit ex v text x rest same h = by (v == ex.cantus_voice) same h
   where
-    by : (b : Bool) → b ≡ true → IsTable (cantus_or_sung ex v b) text x rest → text ≡ rest
+    by : (b : Bool) → b ≡ true → IsTable (cantus_or_sung fit ex v b) text x rest → text ≡ rest
     by true f h = h.1
     by false f h = absurd (grind (arith, f))
 
-other-only : (ex : Exercise) (v : ℕ) (text : TextLines) (x : List Cell) (rest : TextLines)
-    → (v == ex.cantus_voice) ≡ false → IsTable (voice_table ex v) text x rest → IsLineFor ex.bars v text x rest
-other-only ex v text x rest other h = by (v == ex.cantus_voice) other h
+other-only : (fit : Fit) (ex : Exercise) (v : ℕ) (text : TextLines) (x : List Cell) (rest : TextLines)
+    → (v == ex.cantus_voice) ≡ false → IsTable (voice_table fit ex v) text x rest → IsLineFor (fit v) ex.bars v text x rest
+other-only fit ex v text x rest other h = by (v == ex.cantus_voice) other h
   where
-    by : (b : Bool) → b ≡ false → IsTable (cantus_or_sung ex v b) text x rest → IsLineFor ex.bars v text x rest
+    by : (b : Bool) → b ≡ false → IsTable (cantus_or_sung fit ex v b) text x rest → IsLineFor (fit v) ex.bars v text x rest
     by true f h = absurd (grind (arith, f))
-    by false f h = sing_line-only ex.bars v text x rest h
+    by false f h = sing_line-only (fit v) ex.bars v text x rest h
 
 -- the lines of the free ones of so many voices
 record HaveLines (ex : Exercise) (a n : ℕ) (text : TextLines) (x : List (List Cell)) (rest : TextLines) : Type 0 where
@@ -48,15 +48,15 @@ record HaveLines (ex : Exercise) (a n : ℕ) (text : TextLines) (x : List (List 
   pub lines : line_texts text ≡ words ++ line_texts rest
   pub sung : AreSung ex.bars (λ v. get_or x v []) (free_of ex a n) words
 
-voices-only : (ex : Exercise) (n a : ℕ) (before : List (List Cell)) (text : TextLines)
+voices-only : (fit : Fit) (ex : Exercise) (n a : ℕ) (before : List (List Cell)) (text : TextLines)
     (x : List (List Cell)) (rest : TextLines)
-    → length before ≡ a → IsTable (voices_table ex (range_with_len a n) before) text x rest → HaveLines ex a n text x rest
-voices-only ex zero a before text x rest long h = record { words = []; lines = ap line_texts h.1; sung = tt }
-voices-only ex (suc n) a before text x rest long (cells, b, voice, others) =
+    → length before ≡ a → IsTable (voices_table fit ex (range_with_len a n) before) text x rest → HaveLines ex a n text x rest
+voices-only fit ex zero a before text x rest long h = record { words = []; lines = ap line_texts h.1; sung = tt }
+voices-only fit ex (suc n) a before text x rest long (cells, b, voice, others) =
     let more = before ++ cells ∷ [] in
     let long_more : length more ≡ a + 1 = length-append before (cells ∷ []) ∙ omega (arith, long) in
-    let later = voices-only ex n (a + 1) more b x rest long_more others in
-    let kept = voices-keep ex n (a + 1) more b x rest long_more others in
+    let later = voices-only fit ex n (a + 1) more b x rest long_more others in
+    let kept = voices-keep fit ex n (a + 1) more b x rest long_more others in
     let own : get_or x a [] ≡ cells = kept.kept a (omega arith) ∙ ap (λ k. get_or more k []) (sym long)
     ∙ get_or-end before cells in
     by (a == ex.cantus_voice) refl own later
@@ -68,11 +68,11 @@ voices-only ex (suc n) a before text x rest long (cells, b, voice, others) =
         → HaveLines ex a (suc n) text x rest
     by true f own later = record {
       words = later.words;
-      lines = ap line_texts (cantus-only ex a text cells b f voice) ∙ later.lines;
+      lines = ap line_texts (cantus-only fit ex a text cells b f voice) ∙ later.lines;
       sung = subst (λ vs. Sung vs later.words) (sym (free-cantus ex a n f)) later.sung;
     }
     by false f own later =
-        let l = other-only ex a text cells b f voice in
+        let l = other-only fit ex a text cells b f voice in
         record {
           words = l.words ∷ later.words;
           lines = l.line ∙ ap (λ ls. l.words ∷ ls) later.lines;
@@ -135,32 +135,32 @@ score-setting ex lines long follow given = record {
 }
 
 -- what is read of `sing` lines is a setting with these lines
-pub sung_score-only : (ex : Exercise) (text : TextLines) (score : Grid) (rest : TextLines) → ex.cantus_voice < ex.voices
+pub sung_score-only : (fit : Fit) (ex : Exercise) (text : TextLines) (score : Grid) (rest : TextLines) → ex.cantus_voice < ex.voices
     → length ex.cantus ≡ ex.bars
-    → IsTable (sung_table ex) text score rest → Sings ex (line_texts text) (Some score)
-sung_score-only ex text score rest there whole (lines, a, voices, (_, b, end, same)) =
+    → IsTable (sung_table fit ex) text score rest → Sings ex (line_texts text) (Some score)
+sung_score-only fit ex text score rest there whole (lines, a, voices, (_, b, end, same)) =
     let long : length lines ≡ ex.voices =
     omega (
       arith,
-      voices-length ex
+      voices-length fit ex
           (range_with_len 0 ex.voices) [] text lines a voices,
       length-range_with_len 0 ex.voices,
     ) in
-    let have = voices-only ex ex.voices 0 [] text lines a refl voices in
+    let have = voices-only fit ex ex.voices 0 [] text lines a refl voices in
     let words : line_texts text ≡ have.words =
     have.lines ∙ ap (λ ls. have.words ++ ls) (no-lines a end.0) ∙ append-nil have.words in
-    let keeps = voices-keep ex ex.voices 0 [] text lines a refl voices in
+    let keeps = voices-keep fit ex ex.voices 0 [] text lines a refl voices in
     let given = score-given ex lines whole long (keeps.cantus (omega arith) (omega (arith, there))) in
     let setting = score-setting ex lines long
-    (voices-follow ex (range_with_len 0 ex.voices) [] text lines a tt voices) given in
+    (voices-follow fit ex (range_with_len 0 ex.voices) [] text lines a tt voices) given in
     subst (λ ls. Sings ex ls (Some score)) (sym words)
     (subst (λ s. Sings ex have.words (Some s)) same.0
     (setting, sung-columns ex.bars lines (free_voices ex) have.words have.sung))
 
-pub setting-only : (ex : Exercise) (text : TextLines) (o : Option Grid) (rest : TextLines)
+pub setting-only : (fit : Fit) (ex : Exercise) (text : TextLines) (o : Option Grid) (rest : TextLines)
     → ex.cantus_voice < ex.voices → length ex.cantus ≡ ex.bars
-    → IsTable (setting_table ex) text o rest → Sings ex (line_texts text) o
-setting-only ex text o rest there whole (inl (begins, (score, a, sung, same))) =
-    subst (Sings ex (line_texts text)) same.0 (sung_score-only ex text score a there whole sung)
-setting-only ex text o rest there whole (inr (begins, (_, a, end, same))) =
+    → IsTable (setting_table fit ex) text o rest → Sings ex (line_texts text) o
+setting-only fit ex text o rest there whole (inl (begins, (score, a, sung, same))) =
+    subst (Sings ex (line_texts text)) same.0 (sung_score-only fit ex text score a there whole sung)
+setting-only fit ex text o rest there whole (inr (begins, (_, a, end, same))) =
     subst (Sings ex (line_texts text)) same.0 (no-lines text end.0)

@@ -1,6 +1,6 @@
 -- A `sing` line is read as the cells of its items (`sing_line-own`), and the line that is written of a voice has the
 -- cells of the voice (`sing_words-sung`).
-use Rattle.std.proofs.Common.{◌≡◌, ℕ, zero, suc, ◌+◌, ◌-◌, ◌*◌, ◌/◌, ◌<◌, ◌≤◌, List, [], ◌∷◌, ◌++◌, length, length-append, length-drop, map, take, drop, Ok, refl, sym, ap, subst, ◌∙◌, append_assoc, arith}
+use Rattle.std.proofs.Common.{◌≡◌, ℕ, zero, suc, ◌+◌, ◌-◌, ◌*◌, ◌/◌, ◌<◌, ◌≤◌, Bool, true, List, [], ◌∷◌, ◌++◌, length, length-append, length-drop, map, take, drop, Ok, refl, sym, ap, subst, ◌∙◌, append_assoc, arith}
 use Rattle.std.specs.Prelude.{codes}
 use Rattle.std.specs.Fmt.{decimal}
 use Rattle.std.specs.List.{AllByRecursion, flat_map, range_with_len}
@@ -101,32 +101,33 @@ run-own count (items ∷ bars) some last whole f =
     (cells_of_bars (items ∷ bars)) [] items refl whole.0 parts.0
     (later_bars-own count bars 0 cs (omega (arith, eight)) (omega (arith, last)) whole.1 parts.1)
 
--- a line of such words is read as these cells, wherever they stand
-words-read : (count v : ℕ) (words : List (List ℕ)) (cells : List Cell) (after : ℕ) (l : LineWords)
+-- a line of such words is read as these cells, wherever they stand, where the cells fit
+words-read : (fit : List Cell → Bool) (count v : ℕ) (words : List (List ℕ)) (cells : List Cell) (after : ℕ) (l : LineWords)
     (others : List LineWords)
-    → v ≤ 9999999 → IsRun (sung_run count) (0, []) words cells
-    → line_in kinds.Sing (codes "sing") (sing_row count v)
+    → v ≤ 9999999 → IsRun (sung_run count) (0, []) words cells → fit cells ≡ true
+    → line_in kinds.Sing (codes "sing") (sing_row fit count v)
     (with_line after l (codes "sing" ∷ decimal v ∷ words) others)
     ≡ Ok (cells, left after others)
 unfolding line_in row_in headed literal next
-words-read count v words cells after l others few run =
+words-read fit count v words cells after l others few run fits =
     let place = λ (k : ℕ). places_of l.words (suc (suc k)) in
     let at = at_words l.line ((places_of l.words 1).column + length (decimal v)) l.end place words in
     rw (
       within-own v v v few (omega arith) (omega arith),
       run-gives (sung_run count) (0, []) at at.words cells
           (subst (λ ws. IsRun (sung_run count) (0, []) ws cells) (sym (set_out-texts place words)) run),
+      fits,
     ) refl
 
 -- a `sing` line is read, wherever its words stand
-pub sing_line-own : (count v : ℕ) (words : List (List ℕ)) (cells : List Cell) (after : ℕ) (l : LineWords)
-    (others : List LineWords)
-    → v ≤ 9999999 → IsSung count v words cells
-    → line_in kinds.Sing (codes "sing") (sing_row count v) (with_line after l words others)
+pub sing_line-own : (fit : List Cell → Bool) (count v : ℕ) (words : List (List ℕ)) (cells : List Cell) (after : ℕ)
+    (l : LineWords) (others : List LineWords)
+    → v ≤ 9999999 → IsSung count v words cells → fit cells ≡ true
+    → line_in kinds.Sing (codes "sing") (sing_row fit count v) (with_line after l words others)
     ≡ Ok (cells, left after others)
-sing_line-own count v words cells after l others few s =
-    ap (λ ws. line_in kinds.Sing (codes "sing") (sing_row count v) (with_line after l ws others)) s.written
-    ∙ words-read count v s.items cells after l others few s.run
+sing_line-own fit count v words cells after l others few s fits =
+    ap (λ ws. line_in kinds.Sing (codes "sing") (sing_row fit count v) (with_line after l ws others)) s.written
+    ∙ words-read fit count v s.items cells after l others few s.run fits
 
 -- bars one after the other
 abbrev joined : List (List Cell) → List Cell

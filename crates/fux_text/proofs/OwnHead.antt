@@ -1,4 +1,4 @@
--- The lines before the ranges are read back (`head-own`).
+-- The lines before the ranges are read back (`version-own`, `head-own`).
 use Rattle.std.proofs.Common.{◌≡◌, ◌≢◌, ℕ, ◌+◌, ◌-◌, ◌<◌, ◌≤◌, Bool, true, false, List, [], ◌∷◌, ◌++◌, length, map, Some, None, Ok, refl, sym, ap, subst, ◌∙◌, append_assoc, arith, suc}
 use Rattle.std.specs.Prelude.{◌==◌, codes, if◌then◌else◌}
 use Rattle.std.specs.Fmt.{decimal}
@@ -15,18 +15,13 @@ use Rattle.text_lines.specs.Reading.{done, headed, literal, next}
 use Rattle.text_lines.specs.Rows.{row_in}
 use Rattle.text_lines.specs.Tables.{line_in, table_in}
 use Rattle.text_lines.specs.Words.{LineWords, PlacedWord}
-use Rattle.fux_text.specs.Head.{cantus_row, head_table, mode_row, number_row, other_voice, pitches_row, species_row, unless, version_row}
-use Rattle.fux_text.specs.Lines.{cantus_words, head_lines, mode_name}
-use Rattle.fux_text.specs.Limits.{most_species, most_voices}
+use Rattle.fux_text.specs.Head.{cantus_row, head_table, mode_row, number_row, other_voice, pitches_row, species_row, unless, version_table}
+use Rattle.fux_text.specs.Lines.{cantus_words, head_lines, mode_name, version_words}
+use Rattle.fux_text.specs.Limits.{most_species, most_voices, newest_version}
 use Rattle.fux_text.proofs.Named.{same_from}
 use Rattle.fux_text.proofs.NumberWords.{within-own}
 use Rattle.fux_text.proofs.OwnWords.{mode-own, pitch-own}
 use Rattle.fux_text.proofs.Layouts.{at_words, laid, left, lines_at, places_of, with_line}
-
-version_line-own : (after : ℕ) (l : LineWords) (others : List LineWords)
-    → line_in kinds.Head (codes "fux") version_row (with_line after l (codes "fux" ∷ codes "1" ∷ []) others) ≡ Ok (tt, left after others)
-unfolding line_in row_in headed literal next done
-version_line-own after l others = refl
 
 mode_line-own : (after : ℕ) (l : LineWords) (others : List LineWords) (mode : Mode)
     → line_in kinds.Head (codes "mode") mode_row (with_line after l (codes "mode" ∷ mode_name mode ∷ []) others) ≡ Ok (mode, left after others)
@@ -90,9 +85,18 @@ cantus_line-own after l more voices species_voice bars v cantus few there differ
 abbrev pub head_of : Exercise → Exercise
 head_of ex = record ex { ranges = []; relax = []; given = []; setting = None }
 
+pub version-own : (version after : ℕ) (lay : ℕ → LineWords) (more : List (List (List ℕ))) → 1 ≤ version
+    → version ≤ newest_version
+    → table_in version_table (left after (lines_at lay (version_words version ∷ more)))
+    ≡ Ok (version, left after (lines_at (λ k. lay (suc k)) more))
+unfolding table_in
+version-own version after lay more least most =
+    number_line-own (codes "fux") kinds.Word after (lay 0) (lines_at (λ k. lay (suc k)) more) 1 newest_version version
+    (omega (arith, most)) least most
+
 -- the layout behind the lines before the ranges
 abbrev pub behind_head : (ℕ → LineWords) → ℕ → LineWords
-behind_head lay k = lay (suc (suc (suc (suc (suc (suc k))))))
+behind_head lay k = lay (suc (suc (suc (suc (suc k)))))
 
 pub head-own : (ex : Exercise) (after : ℕ) (lay : ℕ → LineWords) (more : List (List (List ℕ))) → IsValid ex
     → table_in head_table (left after (lines_at lay (head_lines ex ++ cantus_words ex ∷ more)))
@@ -100,25 +104,23 @@ pub head-own : (ex : Exercise) (after : ℕ) (lay : ℕ → LineWords) (more : L
 unfolding table_in
 head-own ex after lay more valid =
     let others = lines_at (behind_head lay) more in
-    let cantus = laid (lay 5) (cantus_words ex) ∷ others in
-    let species = laid (lay 4)
+    let cantus = laid (lay 4) (cantus_words ex) ∷ others in
+    let species = laid (lay 3)
     (codes "species" ∷ decimal ex.species ∷ codes "voice" ∷ decimal ex.species_voice ∷ []) ∷ cantus in
-    let bars = laid (lay 3) (codes "bars" ∷ decimal ex.bars ∷ []) ∷ species in
-    let voices = laid (lay 2) (codes "voices" ∷ decimal ex.voices ∷ []) ∷ bars in
-    let mode = laid (lay 1) (codes "mode" ∷ mode_name ex.mode ∷ []) ∷ voices in
+    let bars = laid (lay 2) (codes "bars" ∷ decimal ex.bars ∷ []) ∷ species in
+    let voices = laid (lay 1) (codes "voices" ∷ decimal ex.voices ∷ []) ∷ bars in
     rw (
-      version_line-own after (lay 0) mode,
-      mode_line-own after (lay 1) voices ex.mode,
-      number_line-own (codes "voices") kinds.Word after (lay 2) bars 2 most_voices ex.voices
+      mode_line-own after (lay 0) voices ex.mode,
+      number_line-own (codes "voices") kinds.Word after (lay 1) bars 2 most_voices ex.voices
           (omega (arith, valid.most_voices))
           valid.fewest_voices valid.most_voices,
-      number_line-own (codes "bars") kinds.Bars after (lay 3) species 3 24 ex.bars
+      number_line-own (codes "bars") kinds.Bars after (lay 2) species 3 24 ex.bars
           (omega (arith, valid.most_bars)) valid.fewest_bars
           valid.most_bars,
-      species_line-own after (lay 4) cantus ex.voices ex.species ex.species_voice (omega (arith, valid.most_species))
+      species_line-own after (lay 3) cantus ex.voices ex.species ex.species_voice (omega (arith, valid.most_species))
           (omega (arith, valid.species_there, valid.most_voices)) valid.least_species valid.most_species
           (omega (arith, valid.species_there)),
-      cantus_line-own after (lay 5) others ex.voices ex.species_voice ex.bars ex.cantus_voice ex.cantus
+      cantus_line-own after (lay 4) others ex.voices ex.species_voice ex.bars ex.cantus_voice ex.cantus
           (omega (arith, valid.cantus_there, valid.most_voices)) valid.cantus_there
           (λ same. valid.differ (sym same)) valid.whole_cantus,
     ) refl

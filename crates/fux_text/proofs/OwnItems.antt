@@ -1,5 +1,5 @@
 -- The items of a bar are read as their cells (`bar-own`), and a bar's cells are those of its items (`items-of_bar`).
-use Rattle.std.proofs.Common.{◌≡◌, ℕ, zero, suc, ◌+◌, ◌-◌, ◌*◌, ◌<◌, ◌≤◌, Bool, true, false, List, [], ◌∷◌, ◌++◌, length, length-append, map, replicate, take, drop, Some, None, Ok, refl, sym, ap, subst, ◌∙◌, append_assoc, arith}
+use Rattle.std.proofs.Common.{◌≡◌, ℕ, ◌+◌, ◌*◌, ◌<◌, ◌≤◌, Bool, true, false, List, [], ◌∷◌, ◌++◌, length, length-append, map, take, drop, Some, None, Ok, refl, sym, ap, subst, ◌∙◌, append_assoc, arith}
 use Rattle.std.specs.Prelude.{◌==◌, not, IsTrue, codes, option_map, if◌then◌else◌}
 use Rattle.std.specs.Fmt.{decimal}
 use Rattle.std.specs.List.{AllByRecursion, sum_by, after_first, before_first, list_all, position_or_len}
@@ -18,11 +18,11 @@ use Rattle.text_lines.specs.Rows.{IsRun}
 use Rattle.fux_text.specs.declared.item_words.ItemName.{ItemName}
 use Rattle.fux_text.specs.declared.item_words.ItemName.TheVariants as names
 use Rattle.fux_text.proofs.Bars.{IsBar, cells_of}
-use Rattle.fux_text.specs.Items.{goes_on, item_name, item_word, items_of_cells, with_run}
+use Rattle.fux_text.specs.Items.{goes_on, item_name, item_word, items_of_cells}
 use Rattle.fux_text.specs.Sing.{FollowsFrom, first_cell, held, is_colon, item_cells, item_named, item_parts, item_said, latest, sung_run, sung_word}
 use Rattle.fux_pitch.proofs.NameLemmas.{name_of-length, name_of-passes}
 use Rattle.fux_pitch.proofs.PitchLemmas.{equal_from_test}
-use Rattle.fux_text.proofs.ItemLemmas.{with_run-broken}
+use Rattle.fux_text.proofs.ItemRuns.{AreRuns, run-items}
 use Rattle.fux_text.proofs.Named.{text_from}
 use Rattle.fux_text.proofs.NumberWords.{if_within-own, number-own}
 use Rattle.fux_text.proofs.OwnWords.{pitch-own}
@@ -37,7 +37,7 @@ colon_at (b ∷ bs) ds e =
     rw p.0 (ap (λ n. 1 + n) (colon_at bs ds p.1) ∙ omega arith)
 
 -- the parts of a word of a name, a colon and a number
-item_parts-own : (name : List ℕ) (n : ℕ) → list_all (λ b. not (b == 58)) name ≡ true → n ≤ 9999999
+pub item_parts-own : (name : List ℕ) (n : ℕ) → list_all (λ b. not (b == 58)) name ≡ true → n ≤ 9999999
     → item_parts (name ++ 58 ∷ decimal n) ≡ Some (name, n)
 unfolding item_parts
 item_parts-own name n none few =
@@ -62,14 +62,14 @@ called (Hold p) = names.Tie
 called (Start p) = names.Note p
 
 -- a text of another length is another one
-shorter : (xs ys : List ℕ) → length ys < length xs → same_text xs ys ≡ false
+pub shorter : (xs ys : List ℕ) → length ys < length xs → same_text xs ys ≡ false
 shorter xs ys lt = by (same_text xs ys) refl
   where
     by : (b : Bool) → same_text xs ys ≡ b → b ≡ false
     by true e = let same : length xs ≡ length ys = ap length (text_from xs ys e) in absurd (omega (arith, same, lt))
     by false e = refl
 
-item_named-own : (c : Cell) → item_named (item_name c) ≡ Some (called c)
+pub item_named-own : (c : Cell) → item_named (item_name c) ≡ Some (called c)
 unfolding item_named
 item_named-own Rest = refl
 item_named-own (Hold p) = refl
@@ -114,10 +114,6 @@ sung_item-own bars bar done c n least most can = rw (long_word c n, item_said-ow
 
 -- ---- runs of cells
 
--- the cells of a run: its first one, and so many that go on with it
-abbrev pub run : Cell → ℕ → List Cell
-run c m = c ∷ replicate m (held c)
-
 -- what goes on with a cell that goes on with another one goes on with that one, too
 pub goes_on-same : (c d x : Cell) → goes_on c d ≡ true → goes_on d x ≡ goes_on c x
 goes_on-same Rest Rest x e = refl
@@ -131,21 +127,6 @@ goes_on-same (Start q) (Hold p) Rest e = refl
 goes_on-same (Start q) (Hold p) (Hold x) e = refl
 goes_on-same (Start q) (Hold p) (Start x) e = refl
 goes_on-same (Start q) (Start p) x e = absurd (grind (arith, e))
-
--- a cell that goes on makes a run longer
-pub with_run-longer : (c d : Cell) (n m : ℕ) (items : List (Cell × ℕ)) → goes_on c d ≡ true
-    → with_run c n (with_run d m items) ≡ with_run c (n + m) items
-with_run-longer c d n m [] e = rw e refl
-with_run-longer c d n m (item ∷ items) e = by (goes_on c item.0) refl
-  where
-    by : (b : Bool) → goes_on c item.0 ≡ b → with_run c n (with_run d m (item ∷ items))
-        ≡ with_run c (n + m) (item ∷ items)
-    by true f =
-        let g : goes_on d item.0 ≡ true = goes_on-same c d item.0 e ∙ f in
-        rw (f, g, e) (ap (λ k. (c, k) ∷ items) (omega arith))
-    by false f =
-        let g : goes_on d item.0 ≡ false = goes_on-same c d item.0 e ∙ f in
-        rw (f, g, e) refl
 
 -- a cell that goes on with another one and follows it is what is held of it
 held-goes_on : (c d : Cell) → goes_on c d ≡ true → IsTrue (cell_follows c d) → d ≡ held c
@@ -192,10 +173,6 @@ begins-bar bar done (Hold p) e h = by (length done == 8 * bar) refl
     by true f = tie-own (latest Rest done) p h
     by false f = absurd (grind (arith, e, f))
 
-replicate-more : (k : ℕ) (x : Cell) (ys : List Cell) → replicate (suc k) x ++ ys ≡ replicate k x ++ x ∷ ys
-replicate-more zero x ys = refl
-replicate-more (suc k) x ys = ap (λ more. x ∷ more) (replicate-more k x ys)
-
 -- ---- the items of a bar
 
 -- words that follow say these cells behind those before
@@ -241,17 +218,6 @@ bar-own bars bar more total done ((c, n) ∷ items) long b f h =
 
 -- ---- the items that are written
 
--- the items of a run and of what follows it
-record ItemsOfRun (c : Cell) (m : ℕ) (cs : List Cell) (items : List (Cell × ℕ)) : Type 0 where
-  pub cells : cells_of items ≡ run c m ++ cs
-  pub some : AllByRecursion (λ item. 1 ≤ item.1) items
-  pub ties : AllByRecursion (λ item. is_hold item.0 ≡ false) (drop 1 items)
-  pub sum : lengths items ≡ suc m + length cs
-  pub front : AllByRecursion (λ item. item.0 ≡ c) (take 1 items)
-
-run_cells : (c : Cell) (m : ℕ) → item_cells c (suc m) ≡ run c m
-run_cells c m = let less : suc m - 1 ≡ m = omega arith in ap (λ k. c ∷ replicate k (held c)) less
-
 -- a cell within a bar that doesn't go on with the one before it isn't held
 begins-within : (c d : Cell) → goes_on c d ≡ false → IsTrue (cell_follows c d) → is_hold d ≡ false
 begins-within c Rest e h = refl
@@ -260,52 +226,14 @@ begins-within (Hold q) (Hold p) e h = absurd (grind (arith, e))
 begins-within (Start q) (Hold p) e h = absurd (grind (arith, e))
 begins-within c (Start p) e h = refl
 
-all_starts : (d : Cell) (items : List (Cell × ℕ)) → is_hold d ≡ false
-    → AllByRecursion (λ item. item.0 ≡ d) (take 1 items)
-    → AllByRecursion (λ item. is_hold item.0 ≡ false) (drop 1 items)
-    → AllByRecursion (λ item. is_hold item.0 ≡ false) items
-all_starts d [] e f t = tt
-all_starts d (item ∷ items) e f t = (ap is_hold f.0 ∙ e, t)
-
-run-items : (cs : List Cell) (c : Cell) (m : ℕ) → FollowsFrom c cs
-    → ItemsOfRun c m cs (with_run c (suc m) (items_of_cells cs))
-run-items [] c m f = record {
-  cells = ap (λ cells. cells ++ []) (run_cells c m);
-  some = (omega arith, tt);
-  ties = tt;
-  sum = omega arith;
-  front = (refl, tt);
+cells-runs : AreRuns goes_on held is_hold FollowsFrom
+cells-runs = record {
+  through = goes_on-same;
+  held_next = λ c d ds e f. held-goes_on c d e f.0;
+  begins = λ c d ds e f. begins-within c d e f.0;
+  later = λ c d ds f. f.1;
+  from_held = follows-held;
 }
-run-items (d ∷ ds) c m f = by (goes_on c d) refl (run-items ds c (suc m)) (run-items ds d 0 f.1)
-  where
-    items : List (Cell × ℕ)
-    items = items_of_cells ds
-
-    by : (b : Bool) → goes_on c d ≡ b → (FollowsFrom c ds → ItemsOfRun c (suc m) ds (with_run c (suc (suc m)) items))
-        → ItemsOfRun d 0 ds (with_run d 1 items) → ItemsOfRun c m (d ∷ ds) (with_run c (suc m) (with_run d 1 items))
-    by true e longer next =
-        let same : d ≡ held c = held-goes_on c d e f.0 in
-        let n : suc m + 1 ≡ suc (suc m) = omega arith in
-        let r = longer (follows-held c ds (subst (λ x. FollowsFrom x ds) same f.1)) in
-        subst (ItemsOfRun c m (d ∷ ds)) (sym (with_run-longer c d (suc m) 1 items e ∙ ap (λ k. with_run c k items) n))
-        (record {
-          cells = r.cells ∙ ap (λ tail. c ∷ tail) (replicate-more m (held c) ds)
-              ∙ ap (λ x. run c m ++ x ∷ ds) (sym same);
-          some = r.some;
-          ties = r.ties;
-          sum = omega (arith, r.sum);
-          front = r.front;
-        })
-    by false e longer next =
-        let rest = with_run d 1 items in
-        subst (ItemsOfRun c m (d ∷ ds)) (sym (with_run-broken c d (suc m) 1 items e))
-        (record {
-          cells = ap (λ cells. cells ++ cells_of rest) (run_cells c m) ∙ ap (λ tail. run c m ++ tail) next.cells;
-          some = (omega arith, next.some);
-          ties = all_starts d rest (begins-within c d e f.0) next.front next.ties;
-          sum = sum_by-cons (λ item. item.1) (c, suc m) rest ∙ omega (arith, next.sum);
-          front = (refl, tt);
-        })
 
 -- the items of a bar's cells are a bar, and have these cells
 pub record AreItemsOf (cs : List Cell) (items : List (Cell × ℕ)) : Type 0 where
@@ -316,5 +244,5 @@ pub items-of_bar : (before : Cell) (cs : List Cell) → length cs ≡ 8 → Foll
     → AreItemsOf cs (items_of_cells cs)
 items-of_bar before [] eight f = absurd (omega (arith, eight))
 items-of_bar before (c ∷ cs) eight f =
-    let r = run-items cs c 0 f.1 in
-    record { bar = record { whole = omega (arith, r.sum, eight); some = r.some; ties = r.ties }; cells = r.cells }
+    let r = run-items goes_on held is_hold FollowsFrom cells-runs cs c 0 f.1 in
+    record { bar = record { whole = omega (arith, r.sum, eight); some = r.some; ties = r.later }; cells = r.cells }

@@ -21,7 +21,7 @@ use Rattle.text_lines.specs.Words.{LineWords}
 use Rattle.std.specs.Fmt.{decimal}
 use Rattle.fux_text.specs.Grammar.{AreSung, IsSettingOf, IsSung, Sings}
 use Rattle.fux_text.specs.Lines.{free_voices, sing_words}
-use Rattle.fux_text.specs.Sing.{FollowsFrom, cantus_cells, column_of, item_cells, score_of, setting_table, sung_table, voice_table, voices_table}
+use Rattle.fux_text.specs.Sing.{Fit, FollowsFrom, cantus_cells, column_of, item_cells, score_of, setting_table, sung_table, voice_table, voices_table}
 use Rattle.fux_text.proofs.Layouts.{left, lines_at, with_line}
 use Rattle.fux_text.proofs.OwnBars.{sing_line-own, sing_words-sung}
 use Rattle.fux_text.proofs.ValidSetting.{cantus_cells-at}
@@ -78,25 +78,27 @@ cantus_line-cells ex columns long has =
 -- ---- the voices, one after the other
 
 -- what the lines of voices are read into
-record HasVoices (ex : Exercise) (columns : List (List Cell)) : Type 0 where
+record HasVoices (fit : Fit) (ex : Exercise) (columns : List (List Cell)) : Type 0 where
   pub few : ex.voices ≤ 9999999
   pub cantus : cantus_cells ex.cantus ≡ line ex.cantus_voice columns
+  pub fits : (v : ℕ) → v < ex.voices → fit v (line v columns) ≡ true
 
-voice-cantus_own : (ex : Exercise) (columns : List (List Cell)) (v : ℕ) (text : TextLines) → HasVoices ex columns
-    → (v == ex.cantus_voice) ≡ true → table_in (voice_table ex v) text ≡ Ok (line v columns, text)
+voice-cantus_own : (fit : Fit) (ex : Exercise) (columns : List (List Cell)) (v : ℕ) (text : TextLines) → HasVoices fit ex columns
+    → (v == ex.cantus_voice) ≡ true → table_in (voice_table fit ex v) text ≡ Ok (line v columns, text)
 unfolding table_in
-voice-cantus_own ex columns v text has e =
+voice-cantus_own fit ex columns v text has e =
     let cells : cantus_cells ex.cantus ≡ line v columns = has.cantus
     ∙ ap (λ w. line w columns) (sym (eqb-true v ex.cantus_voice e)) in
     rw e (ap (λ cs. Ok (cs, text)) cells)
 
-voice-sung_own : (ex : Exercise) (columns : List (List Cell)) (v after : ℕ) (l : LineWords) (words : List (List ℕ))
+voice-sung_own : (fit : Fit) (ex : Exercise) (columns : List (List Cell)) (v after : ℕ) (l : LineWords) (words : List (List ℕ))
     (others : List LineWords)
-    → HasVoices ex columns → v < ex.voices → (v == ex.cantus_voice) ≡ false → IsSung ex.bars v words (line v columns)
-    → table_in (voice_table ex v) (with_line after l words others) ≡ Ok (line v columns, left after others)
+    → HasVoices fit ex columns → v < ex.voices → (v == ex.cantus_voice) ≡ false → IsSung ex.bars v words (line v columns)
+    → table_in (voice_table fit ex v) (with_line after l words others) ≡ Ok (line v columns, left after others)
 unfolding table_in
-voice-sung_own ex columns v after l words others has there e sung =
-    rw e (sing_line-own ex.bars v words (line v columns) after l others (omega (arith, there, has.few)) sung)
+voice-sung_own fit ex columns v after l words others has there e sung =
+    rw e (sing_line-own (fit v) ex.bars v words (line v columns) after l others (omega (arith, there, has.few)) sung
+    (has.fits v there))
 
 -- the free ones of so many voices
 abbrev pub free_of : Exercise → ℕ → ℕ → List ℕ
@@ -111,22 +113,22 @@ pub free-other : (ex : Exercise) (a n : ℕ) → (a == ex.cantus_voice) ≡ fals
 free-other ex a n e = rw e refl
 
 -- voices are read from such lines
-abbrev ReadsVoices : Exercise → List (List Cell) → ℕ → ℕ → ℕ → List (List Cell) → Type 0
-ReadsVoices ex columns after n a before =
+abbrev ReadsVoices : Fit → Exercise → List (List Cell) → ℕ → ℕ → ℕ → List (List Cell) → Type 0
+ReadsVoices fit ex columns after n a before =
     (lay : ℕ → LineWords) (lines : List (List (List ℕ))) → AreSung ex.bars (λ w. line w columns) (free_of ex a n) lines
-    → table_in (voices_table ex (range_with_len a n) before) (left after (lines_at lay lines))
+    → table_in (voices_table fit ex (range_with_len a n) before) (left after (lines_at lay lines))
     ≡ Ok (before ++ map (λ v. line v columns) (range_with_len a n), left after [])
 
-voices-own : (ex : Exercise) (columns : List (List Cell)) (after : ℕ) → HasVoices ex columns
+voices-own : (fit : Fit) (ex : Exercise) (columns : List (List Cell)) (after : ℕ) → HasVoices fit ex columns
     → (n a : ℕ) (before : List (List Cell))
-    → a + n ≤ ex.voices → ReadsVoices ex columns after n a before
+    → a + n ≤ ex.voices → ReadsVoices fit ex columns after n a before
 unfolding table_in
-voices-own ex columns after has zero a before low lay [] sung = ap (λ found. Ok (found, left after []))
+voices-own fit ex columns after has zero a before low lay [] sung = ap (λ found. Ok (found, left after []))
     (sym (append-nil before))
-voices-own ex columns after has zero a before low lay (words ∷ lines) sung = absurd sung
-voices-own ex columns after has (suc n) a before low lay lines sung =
+voices-own fit ex columns after has zero a before low lay (words ∷ lines) sung = absurd sung
+voices-own fit ex columns after has (suc n) a before low lay lines sung =
     by (a == ex.cantus_voice) refl
-    (voices-own ex columns after has n (a + 1) (before ++ line a columns ∷ []) (omega (arith, low)))
+    (voices-own fit ex columns after has n (a + 1) (before ++ line a columns ∷ []) (omega (arith, low)))
   where
     vs : List ℕ
     vs = range_with_len (a + 1) n
@@ -137,22 +139,22 @@ voices-own ex columns after has (suc n) a before low lay lines sung =
 
     Reads : List (List (List ℕ)) → Type 0
     Reads found =
-        table_in (voices_table ex (a ∷ vs) before) (left after (lines_at lay found))
+        table_in (voices_table fit ex (a ∷ vs) before) (left after (lines_at lay found))
         ≡ Ok (before ++ map (λ v. line v columns) (a ∷ vs), left after [])
 
     first : (found : List (List (List ℕ))) → (a == ex.cantus_voice) ≡ false
         → AreSung ex.bars (λ w. line w columns) (a ∷ free_of ex (a + 1) n) found
-        → ReadsVoices ex columns after n (a + 1) (before ++ line a columns ∷ []) → Reads found
+        → ReadsVoices fit ex columns after n (a + 1) (before ++ line a columns ∷ []) → Reads found
     first [] e s rest = absurd s
     first (words ∷ others) e s rest =
-        rw (voice-sung_own ex columns a after (lay 0) words (lines_at (λ k. lay (suc k)) others) has
+        rw (voice-sung_own fit ex columns a after (lay 0) words (lines_at (λ k. lay (suc k)) others) has
         (omega (arith, low)) e s.0)
         (rest (λ k. lay (suc k)) others s.1 ∙ ap (λ found. Ok (found, left after [])) whole)
 
-    by : (b : Bool) → (a == ex.cantus_voice) ≡ b → ReadsVoices ex columns after n (a + 1)
+    by : (b : Bool) → (a == ex.cantus_voice) ≡ b → ReadsVoices fit ex columns after n (a + 1)
         (before ++ line a columns ∷ []) → Reads lines
     by true e rest =
-        rw (voice-cantus_own ex columns a (left after (lines_at lay lines)) has e)
+        rw (voice-cantus_own fit ex columns a (left after (lines_at lay lines)) has e)
         (rest lay lines (subst (λ free. AreSung ex.bars (λ w. line w columns) free lines) (free-cantus ex a n e) sung)
         ∙ ap (λ found. Ok (found, left after [])) whole)
     by false e rest = first lines e
@@ -206,20 +208,22 @@ pub record IsSingable (ex : Exercise) : Type 0 where
   pub whole_cantus : length ex.cantus ≡ ex.bars
 
 -- a setting is read from the lines of its free voices
-pub sung_score-own : (ex : Exercise) (score : Grid) (after : ℕ) (lay : ℕ → LineWords) (lines : List (List (List ℕ)))
+pub sung_score-own : (fit : Fit) (ex : Exercise) (score : Grid) (after : ℕ) (lay : ℕ → LineWords) (lines : List (List (List ℕ)))
     → IsSingable ex
-    → IsSettingOf ex score → AreSung ex.bars (λ w. line w score.columns) (free_voices ex) lines
-    → table_in (sung_table ex) (left after (lines_at lay lines)) ≡ Ok (score, left after [])
+    → IsSettingOf ex score → ((v : ℕ) → v < ex.voices → fit v (line v score.columns) ≡ true)
+    → AreSung ex.bars (λ w. line w score.columns) (free_voices ex) lines
+    → table_in (sung_table fit ex) (left after (lines_at lay lines)) ≡ Ok (score, left after [])
 unfolding table_in no_line
-sung_score-own ex score after lay lines can setting sung =
+sung_score-own fit ex score after lay lines can setting fits sung =
     let columns = score.columns in
     let long : length columns ≡ 8 * ex.bars = setting.given.complete.whole in
-    let has : HasVoices ex columns =
+    let has : HasVoices fit ex columns =
     record {
       few = omega (arith, can.most_voices);
       cantus = cantus_line-cells ex columns (long ∙ ap (λ n. 8 * n) (sym can.whole_cantus)) setting.given.cantus;
+      fits = fits;
     } in
-    rw (voices-own ex columns after has ex.voices 0 [] (omega arith) lay lines sung)
+    rw (voices-own fit ex columns after has ex.voices 0 [] (omega arith) lay lines sung)
     (ap (λ found. Ok (found, left after [])) (score-own ex.bars ex.voices columns long setting.full
     ∙ ap (λ n. record { voices = n; columns = columns }) (sym setting.given.complete.voices)))
 
@@ -262,19 +266,25 @@ begins-first bars cells v vs after lay [] sung = absurd sung
 begins-first bars cells v vs after lay (words ∷ lines) sung =
     subst (λ ws. begins (codes "sing") (left after (lines_at lay (ws ∷ lines))) ≡ true) (sym sung.0.written) refl
 
-pub setting-own : (ex : Exercise) (o : Option Grid) (after : ℕ) (lay : ℕ → LineWords) (lines : List (List (List ℕ)))
+-- the cells of each voice of a setting fit
+abbrev pub SettingFits : Fit → Exercise → Option Grid → Type 0
+SettingFits fit ex o = IfSome o (λ score. (v : ℕ) → v < ex.voices → fit v (line v score.columns) ≡ true)
+
+pub setting-own : (fit : Fit) (ex : Exercise) (o : Option Grid) (after : ℕ) (lay : ℕ → LineWords)
+    (lines : List (List (List ℕ)))
     → IsSingable ex
-    → Sings ex lines o → table_in (setting_table ex) (left after (lines_at lay lines)) ≡ Ok (o, left after [])
+    → Sings ex lines o → SettingFits fit ex o
+    → table_in (setting_table fit ex) (left after (lines_at lay lines)) ≡ Ok (o, left after [])
 unfolding table_in begins no_line
-setting-own ex None after lay lines can none =
-    subst (λ found. table_in (setting_table ex) (left after (lines_at lay found)) ≡ Ok (None, left after [])) (sym none)
-    refl
-setting-own ex (Some score) after lay lines can sings =
+setting-own fit ex None after lay lines can none fits =
+    subst (λ found. table_in (setting_table fit ex) (left after (lines_at lay found)) ≡ Ok (None, left after []))
+    (sym none) refl
+setting-own fit ex (Some score) after lay lines can sings fits =
     let first = first_free ex.cantus_voice ex.voices can.fewest_voices in
     rw (
       begins-first ex.bars (λ w. line w score.columns) first.0 first.1 after lay lines
           (subst (λ vs. AreSung ex.bars (λ w. line w score.columns) vs lines) first.2 sings.1),
-      sung_score-own ex score after lay lines can sings.0 sings.1,
+      sung_score-own fit ex score after lay lines can sings.0 fits sings.1,
     ) refl
 
 -- ---- the lines that are written

@@ -1,7 +1,8 @@
 -- A note text is read as its exercise (`note_text-read`), and what is written is a note text (`note_text-own`). So it is
 -- with the `sing` lines of a setting alone (`setting_lines-read`, `sing_lines-own`).
-use Rattle.std.proofs.Common.{◌≡◌, ℕ, ◌+◌, ◌≤◌, true, false, List, [], ◌∷◌, ◌++◌, length, map, Option, Some, None, Ok, refl, sym, ap, subst, ◌∙◌, append_assoc, arith}
-use Rattle.std.specs.Prelude.{All, IfSome, codes}
+use Rattle.std.proofs.Common.{◌≡◌, inl, inr, ℕ, suc, ◌+◌, ◌≤◌, true, false, List, [], ◌∷◌, ◌++◌, length, map, Option, Some, None, Ok, refl, sym, ap, subst, ◌∙◌, append_assoc, arith}
+use Rattle.std.specs.Prelude.{All, IfSome, codes, ⊤}
+use Rattle.std.specs.Fmt.{decimal}
 use Rattle.std.specs.List.{list_all}
 use Rattle.std.specs.Str.Lines.{lines}
 use Rattle.std.proofs.lemmas.Bool.{and_from}
@@ -10,16 +11,18 @@ use Rattle.std.proofs.lemmas.List.{append-nil}
 use Rattle.std.proofs.lemmas.List.Folds.{flat_map-map, list_all-append}
 use Rattle.fux_grid.specs.declared.exercise.Exercise.{Exercise}
 use Rattle.fux_grid.specs.declared.exercise.Relax.{Relax}
-use Rattle.fux_grid.specs.Exercises.{BeginsWithWhole, FitsGiven, IsFree, IsGiven, IsRangeLine, IsRelax, IsValid, range_lines}
+use Rattle.fux_grid.specs.declared.given.GivenBar.{GivenBar}
+use Rattle.fux_grid.specs.Exercises.{BeginsWithWhole, FitsGiven, IsFree, IsGiven, IsGivenBar, IsRangeLine, IsRelax, IsValid, range_lines}
 use Rattle.fux_grid.specs.Grid.{Grid}
-use Rattle.fux_grid.proofs.GivenLemmas.{nothing_given}
-use Rattle.text_lines.specs.Reading.{begins}
+use Rattle.text_lines.specs.Reading.{begins, same_text}
 use Rattle.text_lines.specs.Tables.{table_in, text_read}
 use Rattle.text_lines.specs.Words.{LineWords}
 use Rattle.std.specs.Str.{IsUtf8}
-use Rattle.fux_text.specs.Grammar.{AreSettingLines, IsNoteText, IsSettingOf, Sings}
-use Rattle.fux_text.specs.Head.{head_table}
-use Rattle.fux_text.specs.Lines.{cantus_words, exercise_lines, exercise_text, free_voices, head_lines, note_text, range_words, relax_words, setting_text, sing_text, sing_words}
+use Rattle.fux_text.specs.Fitting.{any_cells, line_fits}
+use Rattle.fux_text.specs.Grammar.{AreGivenLines, AreSettingLines, IsNoteText, IsSettingOf, IsVersionFor, Sings}
+use Rattle.fux_text.specs.Head.{version_table}
+use Rattle.fux_text.specs.Limits.{newest_version}
+use Rattle.fux_text.specs.Lines.{cantus_words, exercise_lines, exercise_text, free_voices, given_words, head_lines, lines_before_given, note_text, range_words, relax_words, setting_text, sing_text, sing_words, version_of, version_words, voices_word}
 use Rattle.fux_text.specs.ReadBack.{NoteTextReadsBack, SingLinesReadBack, sing_lines}
 use Rattle.fux_text.specs.Reading.{exercise_in, setting_alone}
 use Rattle.fux_text.specs.Texts.{AreSingLinesOf, IsTextOf}
@@ -27,11 +30,13 @@ use Rattle.fux_text.specs.Words.{text_line, text_of, words_in}
 use Rattle.text_lines.specs.Lines.{lines_from}
 use Rattle.text_lines.specs.Utf8.{text_in}
 use Rattle.text_lines.proofs.Faulty.{text_in-ok}
+use Rattle.fux_text.proofs.Fits.{fits-bare, fits-with, line-fits}
 use Rattle.fux_text.proofs.Layouts.{layout_of, left, lines-laid, lines_at}
-use Rattle.fux_text.proofs.OwnHead.{behind_head, head-own, head_of}
+use Rattle.fux_text.proofs.OwnGivens.{given_words-lines, givens-own}
+use Rattle.fux_text.proofs.OwnHead.{behind_head, head-own, head_of, version-own}
 use Rattle.fux_text.proofs.OwnRanges.{IsSmall, ranges-own}
 use Rattle.fux_text.proofs.OwnRelax.{relaxes-own}
-use Rattle.fux_text.proofs.OwnSetting.{BeginWithSing, IsSingable, setting-own, sings-begin, sung_lines, sung_lines-sing, sung_score-own}
+use Rattle.fux_text.proofs.OwnSetting.{BeginWithSing, IsSingable, SettingFits, setting-own, sings-begin, sung_lines, sung_lines-sing, sung_score-own}
 use Rattle.fux_text.proofs.PlainLines.{exercise_lines-plain, sung_lines-plain}
 use Rattle.fux_text.proofs.PlainWords.{is_line, text-utf8, words_in-own}
 
@@ -50,13 +55,15 @@ note_text-lines ex (Some score) =
 
 -- the lines behind the cantus
 abbrev later_lines : Exercise → List (List (List ℕ)) → List (List (List ℕ))
-later_lines ex sung = map range_words ex.ranges ++ (map relax_words ex.relax ++ sung)
+later_lines ex more = map range_words ex.ranges ++ (map relax_words ex.relax ++ more)
 
-lines-parts : (ex : Exercise) (sung : List (List (List ℕ)))
-    → exercise_lines ex ++ sung ≡ head_lines ex ++ cantus_words ex ∷ later_lines ex sung
-lines-parts ex sung =
-    append_assoc (head_lines ex ++ cantus_words ex ∷ map range_words ex.ranges) (map relax_words ex.relax) sung
-    ∙ append_assoc (head_lines ex) (cantus_words ex ∷ map range_words ex.ranges) (map relax_words ex.relax ++ sung)
+lines-parts : (version : ℕ) (ex : Exercise) (more : List (List (List ℕ)))
+    → lines_before_given version ex ++ more
+    ≡ version_words version ∷ (head_lines ex ++ cantus_words ex ∷ later_lines ex more)
+lines-parts version ex more =
+    let front = version_words version ∷ head_lines ex in
+    append_assoc (front ++ cantus_words ex ∷ map range_words ex.ranges) (map relax_words ex.relax) more
+    ∙ append_assoc front (cantus_words ex ∷ map range_words ex.ranges) (map relax_words ex.relax ++ more)
 
 lines-plain : (ex : Exercise) (o : Option Grid) → IsValid ex → list_all is_line
     (exercise_lines ex ++ sung_lines ex o) ≡ true
@@ -68,25 +75,43 @@ lines-plain ex o valid =
 
 -- ---- which line begins how
 
-no_range-sung : (lines : List (List (List ℕ))) (after : ℕ) (lay : ℕ → LineWords) → BeginWithSing lines
-    → begins (codes "range") (left after (lines_at lay lines)) ≡ false
-unfolding begins
-no_range-sung [] after lay sing = refl
-no_range-sung (words ∷ lines) after lay sing =
-    subst (λ ws. begins (codes "range") (left after (lines_at lay (ws ∷ lines))) ≡ false) (sym sing.1) refl
+-- the first of these lines begins with another word
+abbrev BeginsOther : List ℕ → List (List (List ℕ)) → Type 0
+BeginsOther name [] = ⊤
+BeginsOther name (words ∷ lines) =
+    (word : List ℕ) × (others : List (List ℕ)) × (words ≡ word ∷ others) × (same_text word name ≡ false)
 
-no_range : (lines : List (List (List ℕ))) (rs : List Relax) (after : ℕ) (lay : ℕ → LineWords) → BeginWithSing lines
-    → begins (codes "range") (left after (lines_at lay (map relax_words rs ++ lines))) ≡ false
+no_name : (name : List ℕ) (lines : List (List (List ℕ))) (after : ℕ) (lay : ℕ → LineWords) → BeginsOther name lines
+    → begins name (left after (lines_at lay lines)) ≡ false
 unfolding begins
-no_range lines [] after lay sing = no_range-sung lines after lay sing
-no_range lines (r ∷ rs) after lay sing = refl
+no_name name [] after lay other = refl
+no_name name (words ∷ lines) after lay (word, others, e, differs) =
+    subst (λ ws. begins name (left after (lines_at lay (ws ∷ lines))) ≡ false) (sym e) differs
 
-no_relax : (lines : List (List (List ℕ))) (after : ℕ) (lay : ℕ → LineWords) → BeginWithSing lines
-    → begins (codes "relax") (left after (lines_at lay lines)) ≡ false
-unfolding begins
-no_relax [] after lay sing = refl
-no_relax (words ∷ lines) after lay sing =
-    subst (λ ws. begins (codes "relax") (left after (lines_at lay (ws ∷ lines))) ≡ false) (sym sing.1) refl
+-- behind the lines of what is given stand those of a setting
+sung-other : (name : List ℕ) (lines : List (List (List ℕ))) → same_text (codes "sing") name ≡ false → BeginWithSing lines
+    → BeginsOther name lines
+sung-other name [] differs sing = tt
+sung-other name (words ∷ lines) differs (others, e) = (codes "sing", others, e, differs)
+
+given-other : (name : List ℕ) (given : List GivenBar) (fixed lines : List (List (List ℕ)))
+    → same_text (codes "given") name ≡ false → AreGivenLines fixed given → BeginsOther name lines
+    → BeginsOther name (fixed ++ lines)
+given-other name [] [] lines differs are other = other
+given-other name (line ∷ given) [] lines differs are other = absurd are
+given-other name [] (words ∷ fixed) lines differs are other = absurd are
+given-other name (line ∷ given) (words ∷ fixed) lines differs are other =
+    (codes "given", decimal line.voice ∷ decimal line.bar ∷ are.0.items, are.0.written, differs)
+
+relax-other : (name : List ℕ) (rs : List Relax) (lines : List (List (List ℕ))) → same_text (codes "relax") name ≡ false
+    → BeginsOther name lines → BeginsOther name (map relax_words rs ++ lines)
+relax-other name [] lines differs other = other
+relax-other name (r ∷ rs) lines differs other = (
+  codes "relax",
+  (codes "S" ++ decimal r.rule) ∷ voices_word r.voices ∷ decimal r.from ∷ decimal r.to ∷ decimal r.price ∷ [],
+  refl,
+  differs,
+)
 
 -- ---- what the lines before a setting say of it doesn't change what is valid
 
@@ -149,6 +174,25 @@ setting-head ex lines (Some score) sings =
       sings.1,
     )
 
+-- the cells of each voice of a setting that fits do so
+setting-fits : (ex : Exercise) (o : Option Grid) (lines : List (List (List ℕ))) → Sings ex lines o
+    → IfSome o (λ score. FitsGiven ex score.columns)
+    → SettingFits (line_fits (record (head_of ex) { given = ex.given })) (head_of ex) o
+setting-fits ex None lines sings fits = tt
+setting-fits ex (Some score) lines sings fits = λ v there.
+    line-fits (record (head_of ex) { given = ex.given }) v score.columns sings.0.given.complete.whole there
+    (fits-bare ex score.columns fits)
+
+givens-head : (ex : Exercise) → All (IsGivenBar ex) ex.given → All (IsGivenBar (head_of ex)) ex.given
+givens-head ex fit = λ k d lt.
+    let one = fit k d lt in
+    record {
+      free = record { there = one.free.there; no_cantus = one.free.no_cantus };
+      within = one.within;
+      whole = one.whole;
+      follow = one.follow;
+    }
+
 -- ---- the texts
 
 -- a text is read as the words of its lines
@@ -160,33 +204,55 @@ text_in-words bytes ls short utf8 words =
     ∙ ap (λ found. Ok (left (1 + length (lines bytes)) found)) (sym (lines-laid (lines_from 1 bytes)))
     ∙ ap (λ found. Ok (left (1 + length (lines bytes)) (lines_at (layout_of (lines_from 1 bytes)) found))) words
 
+-- a version in which notes may be given is one of those that there are
+version-within : (version : ℕ) (given : List GivenBar) → IsVersionFor version given
+    → (1 ≤ version) × (version ≤ newest_version)
+version-within version given (inl (one, none)) = (omega (arith, one), omega (arith, one))
+version-within version given (inr second) = (omega (arith, second), omega (arith, second))
+
 -- a note text is read
 pub note_text-read : (bytes : List ℕ) (ex : Exercise) → IsNoteText bytes ex → exercise_in bytes ≡ Ok ex
 unfolding exercise_in text_read table_in
 note_text-read bytes ex t =
-    let ls = exercise_lines ex ++ t.sung in
+    let behind_relax = t.fixed ++ t.sung in
+    let ls = lines_before_given t.version ex ++ behind_relax in
     let after : ℕ = 1 + length (lines bytes) in
     let lay = layout_of (lines_from 1 bytes) in
-    let relaxing = map relax_words ex.relax ++ t.sung in
+    let rest = λ (k : ℕ). lay (suc k) in
+    let relaxing = map relax_words ex.relax ++ behind_relax in
+    let body = head_lines ex ++ cantus_words ex ∷ later_lines ex behind_relax in
     let sing = sings-begin ex t.sung ex.setting t.setting in
-    let head : table_in head_table (left after (lines_at lay ls)) ≡ Ok
-    (head_of ex, left after (lines_at (behind_head lay) (later_lines ex t.sung))) =
-    ap (λ all. table_in head_table (left after (lines_at lay all))) (lines-parts ex t.sung)
-    ∙ head-own ex after lay (later_lines ex t.sung) t.valid in
-    let ranges = ranges-own ex (head_of ex) after (behind_head lay) relaxing (small ex t.valid)
+    let bounds = version-within t.version ex.given t.newer in
+    let version : table_in version_table (left after (lines_at lay ls)) ≡ Ok (t.version, left after (lines_at rest body)) =
+    ap (λ all. table_in version_table (left after (lines_at lay all))) (lines-parts t.version ex behind_relax)
+    ∙ version-own t.version after lay body bounds.0 bounds.1 in
+    let behind_given = given-other (codes "range") ex.given t.fixed t.sung refl t.given
+    (sung-other (codes "range") t.sung refl sing) in
+    let ranges = ranges-own ex (head_of ex) after (behind_head rest) relaxing (small ex t.valid)
     (range_lines-head ex t.valid.range_lines_fit)
-    (each-head ex t.valid.each_has_range) (λ other. no_range t.sung ex.relax after other sing) in
-    let relax = relaxes-own (head_of ex) ex.relax after ranges.0 t.sung (omega (arith, t.valid.fewest_voices))
+    (each-head ex t.valid.each_has_range)
+    (λ other. no_name (codes "range") relaxing after other
+    (relax-other (codes "range") ex.relax behind_relax refl behind_given)) in
+    let relax = relaxes-own (head_of ex) ex.relax after ranges.0 behind_relax (omega (arith, t.valid.fewest_voices))
     (small ex t.valid)
-    (relaxes-head ex t.valid.relax_fit) t.valid.few_relax (λ other. no_relax t.sung after other sing) in
+    (relaxes-head ex t.valid.relax_fit) t.valid.few_relax
+    (λ other. no_name (codes "relax") behind_relax after other
+    (given-other (codes "relax") ex.given t.fixed t.sung refl t.given
+    (sung-other (codes "relax") t.sung refl sing))) in
+    let given = givens-own t.version (head_of ex) ex.given t.fixed after relax.0 t.sung (small ex t.valid)
+    (givens-head ex t.valid.given_fit) t.valid.given_ascend t.given t.newer
+    (λ other. no_name (codes "given") t.sung after other (sung-other (codes "given") t.sung refl sing)) in
     rw (
       text_in-words bytes ls t.short t.utf8 t.lines,
-      head,
+      version,
+      head-own ex after rest (later_lines ex behind_relax) t.valid,
       ranges.1,
       relax.1,
-      setting-own (head_of ex) ex.setting after relax.0 t.sung (singable_head ex (singable ex t.valid))
-          (setting-head ex t.sung ex.setting t.setting),
-    ) (ap (λ given. Ok (record ex { given = given })) (sym t.plain))
+      given.1,
+      setting-own (line_fits (record (head_of ex) { given = ex.given })) (head_of ex) ex.setting after given.0 t.sung
+          (singable_head ex (singable ex t.valid))
+          (setting-head ex t.sung ex.setting t.setting) (setting-fits ex ex.setting t.sung t.setting t.valid.setting_fits),
+    ) refl
 
 -- and so are the lines of a setting
 pub setting_lines-read : (ex : Exercise) (bytes : List ℕ) (score : Grid) → IsValid ex → AreSettingLines ex bytes score
@@ -197,13 +263,14 @@ setting_lines-read ex bytes score valid t =
     let lay = layout_of (lines_from 1 bytes) in
     rw (
       text_in-words bytes (words_in bytes) t.short t.utf8 refl,
-      sung_score-own ex score after lay (words_in bytes) (singable ex valid) t.setting.0 t.setting.1,
+      sung_score-own any_cells ex score after lay (words_in bytes) (singable ex valid) t.setting.0 (λ v there. refl)
+          t.setting.1,
     ) refl
 
 -- an exercise with another setting
-valid_with : (ex : Exercise) (o : Option Grid) → IsValid ex → ex.given ≡ [] → IfSome o (IsSettingOf ex)
-    → IsValid (record ex { setting = o })
-valid_with ex o valid plain setting = record {
+valid_with : (ex : Exercise) (o : Option Grid) → IsValid ex → IfSome o (IsSettingOf ex)
+    → IfSome o (λ score. FitsGiven ex score.columns) → IsValid (record ex { setting = o })
+valid_with ex o valid setting fitting = record {
   fewest_voices = valid.fewest_voices;
   most_voices = valid.most_voices;
   fewest_bars = valid.fewest_bars;
@@ -232,15 +299,23 @@ valid_with ex o valid plain setting = record {
         price = one.price;
       };
   few_relax = valid.few_relax;
-  given_fit = λ k d lt. absurd (omega (arith, lt, ap length plain));
+  given_fit = λ k d lt.
+      let one = valid.given_fit k d lt in
+      record {
+        free = record { there = one.free.there; no_cantus = one.free.no_cantus };
+        within = one.within;
+        whole = one.whole;
+        follow = one.follow;
+      };
   given_ascend = valid.given_ascend;
   setting = given o setting;
-  setting_fits = fits o;
+  setting_fits = fits o fitting;
 }
   where
-    fits : (o : Option Grid) → IfSome o (λ score. FitsGiven (record ex { setting = o }) score.columns)
-    fits None = tt
-    fits (Some score) = nothing_given (record ex { setting = Some score }) score.columns plain
+    fits : (o : Option Grid) → IfSome o (λ score. FitsGiven ex score.columns)
+        → IfSome o (λ score. FitsGiven (record ex { setting = o }) score.columns)
+    fits None f = tt
+    fits (Some score) f = fits-with ex (Some score) score.columns f
 
     given : (o : Option Grid) → IfSome o (IsSettingOf ex) → IfSome o (IsGiven (record ex { setting = o }))
     given None s = tt
@@ -265,20 +340,31 @@ sings_with ex lines (Some score) sings =
       sings.1,
     )
 
+-- what is written is of a version in which what is given may be
+written-version : (given : List GivenBar) → IsVersionFor (version_of given) given
+written-version [] = inl (refl, refl)
+written-version (line ∷ given) = inr refl
+
 -- what is written is a note text
-pub note_text-own : (ex : Exercise) (o : Option Grid) → IsValid ex → ex.given ≡ [] → IfSome o (IsSettingOf ex)
+pub note_text-own : (ex : Exercise) (o : Option Grid) → IsValid ex → IfSome o (IsSettingOf ex)
+    → IfSome o (λ score. FitsGiven ex score.columns)
     → length (note_text ex o) ≤ 65536 → IsNoteText (note_text ex o) (record ex { setting = o })
-note_text-own ex o valid given setting short =
+note_text-own ex o valid setting fits short =
     let ls = exercise_lines ex ++ sung_lines ex o in
     let text = note_text-lines ex o in
     let plain = lines-plain ex o valid in
+    let before = lines_before_given (version_of ex.given) ex in
     record {
       short = short;
       utf8 = subst IsUtf8 (sym text) (text-utf8 ls plain);
+      version = version_of ex.given;
+      fixed = map given_words ex.given;
       sung = sung_lines ex o;
-      lines = ap words_in text ∙ words_in-own ls plain;
-      valid = valid_with ex o valid given setting;
-      plain = given;
+      lines = ap words_in text ∙ words_in-own ls plain
+          ∙ append_assoc before (map given_words ex.given) (sung_lines ex o);
+      newer = written-version ex.given;
+      given = given_words-lines ex ex.given valid.given_fit;
+      valid = valid_with ex o valid setting fits;
       setting = sings_with ex (sung_lines ex o) o (sung_lines-sing ex o (omega (arith, valid.fewest_bars)) setting);
     }
 
@@ -298,8 +384,8 @@ sing_lines-own ex score valid setting short =
 -- so it is read back
 pub note_text-back : NoteTextReadsBack
 unfolding IsTextOf
-note_text-back ex o valid plain setting short =
-    note_text-own ex o valid plain setting short
+note_text-back ex o valid setting fits short =
+    note_text-own ex o valid setting fits short
 
 pub sing_lines-back : SingLinesReadBack
 unfolding AreSingLinesOf

@@ -1,5 +1,5 @@
 -- What is written of an exercise and a setting are lines of words (`exercise_lines-plain`, `sung_lines-plain`).
-use Rattle.std.proofs.Common.{◌≡◌, ℕ, zero, suc, ◌+◌, ◌-◌, ◌*◌, ◌/◌, ◌%◌, ◌^◌, ◌<◌, ◌≤◌, Bool, true, false, List, [], ◌∷◌, ◌++◌, get_or, length, length-append, map, drop, Option, Some, None, refl, sym, subst, ◌∙◌, arith}
+use Rattle.std.proofs.Common.{◌≡◌, ℕ, zero, suc, ◌+◌, ◌-◌, ◌*◌, ◌/◌, ◌%◌, ◌^◌, ◌<◌, ◌≤◌, Bool, true, false, List, [], ◌∷◌, ◌++◌, get_or, length, length-append, map, drop, Option, Some, None, refl, subst, ◌∙◌, arith}
 use Rattle.std.specs.Prelude.{◌==◌, not, All, codes, nat_lt, filter, IfSome}
 use Rattle.std.specs.Fmt.{decimal, digits}
 use Rattle.std.specs.List.{flat_map, list_all, range_with_len}
@@ -20,16 +20,21 @@ use Rattle.fux_grid.specs.declared.exercise.Exercise.{Exercise}
 use Rattle.fux_grid.specs.declared.exercise.RangeLine.{RangeLine}
 use Rattle.fux_grid.specs.declared.exercise.Relax.{Relax}
 use Rattle.fux_grid.specs.declared.exercise.VoiceSet.{VoiceSet}
+use Rattle.fux_grid.specs.declared.given.Given.{Given}
+use Rattle.fux_grid.specs.declared.given.Given.TheVariants as given
+use Rattle.fux_grid.specs.declared.given.GivenBar.{GivenBar}
 use Rattle.fux_grid.specs.Cells.{cell_in}
 use Rattle.fux_grid.specs.Columns.{line}
-use Rattle.fux_grid.specs.Exercises.{IsRangeLine, IsRelax, IsValid}
+use Rattle.fux_grid.specs.Exercises.{IsGivenBar, IsRangeLine, IsRelax, IsValid}
 use Rattle.fux_grid.specs.Grid.{Grid}
 use Rattle.fux_grid.specs.Letters.{bar_columns}
-use Rattle.fux_text.specs.Items.{goes_on, item_name, item_word, items_of_cells, with_run}
-use Rattle.fux_text.specs.Lines.{bar_words, bars_words, between_bar_lines, cantus_words, exercise_lines, head_lines, mode_name, range_words, relax_words, sing_words, voices_word}
-use Rattle.fux_text.proofs.ItemLemmas.{with_run-broken}
+use Rattle.fux_text.specs.GivenItems.{given_goes_on, given_name, given_word}
+use Rattle.fux_text.specs.Items.{goes_on, item_name, item_word}
+use Rattle.fux_text.specs.Lines.{bar_words, bars_words, between_bar_lines, cantus_words, exercise_lines, given_words, head_lines, lines_before_given, mode_name, range_words, relax_words, sing_words, version_of, version_words, voices_word}
+use Rattle.fux_text.proofs.GivenCells.{given-through}
+use Rattle.fux_text.proofs.ItemLemmas.{items-words}
 use Rattle.fux_text.proofs.OwnBars.{items_words}
-use Rattle.fux_text.proofs.OwnItems.{with_run-longer}
+use Rattle.fux_text.proofs.OwnItems.{goes_on-same}
 use Rattle.fux_text.proofs.OwnSetting.{sung_lines}
 use Rattle.fux_text.proofs.PlainWords.{is_ink, is_line, is_word, word_ink}
 
@@ -162,16 +167,62 @@ relaxes-plain ex (r ∷ rs) voices bars fit =
     (relax-plain ex r voices bars (fit 0 r (omega arith)))
     (relaxes-plain ex rs voices bars (λ k d lt. fit (suc k) d (omega arith)))
 
-pub exercise_lines-plain : (ex : Exercise) → IsValid ex → list_all is_line (exercise_lines ex) ≡ true
-exercise_lines-plain ex valid =
-    list_all-append is_line (head_lines ex ++ cantus_words ex ∷ map range_words ex.ranges) (map relax_words ex.relax)
+version-plain : (version : ℕ) → version ≤ 9999999 → is_line (version_words version) ≡ true
+version-plain version few = rw (number-word version few) refl
+
+before_given-plain : (version : ℕ) (ex : Exercise) → version ≤ 9999999 → IsValid ex
+    → list_all is_line (lines_before_given version ex) ≡ true
+before_given-plain version ex few valid =
+    let head = version_words version ∷ head_lines ex in
+    list_all-append is_line (head ++ cantus_words ex ∷ map range_words ex.ranges) (map relax_words ex.relax)
     ∙ rw (
-      list_all-append is_line (head_lines ex) (cantus_words ex ∷ map range_words ex.ranges),
+      list_all-append is_line head (cantus_words ex ∷ map range_words ex.ranges),
+      version-plain version few,
       head-plain ex valid,
       cantus-plain ex valid,
       ranges-plain ex ex.ranges valid.most_voices valid.most_bars valid.range_lines_fit,
       relaxes-plain ex ex.relax valid.most_voices valid.most_bars valid.relax_fit,
     ) refl
+
+given_word-plain : (g : Given) (n : ℕ) → n ≤ 9999999 → is_word (given_word (g, n)) ≡ true
+given_word-plain g n few = word-append (given_name g) (58 ∷ decimal n) (name g) (word_ink (decimal n) (number-word n few))
+  where
+    name : (g : Given) → is_word (given_name g) ≡ true
+    name given.Blank = refl
+    name given.Rest = refl
+    name given.Tied = refl
+    name (given.Hold p) = refl
+    name (given.Start p) = name-word p
+
+given-plain : (ex : Exercise) (line : GivenBar) → ex.voices ≤ 4 → ex.bars ≤ 24 → IsGivenBar ex line
+    → is_line (given_words line) ≡ true
+given-plain ex line voices bars fits =
+    rw (
+      number-word line.voice (omega (arith, fits.free.there, voices)),
+      number-word line.bar (omega (arith, fits.within, bars)),
+      items-words given_goes_on given-through given_word is_word given_word-plain line.cells
+          (omega (arith, fits.whole)),
+    ) refl
+
+givens-plain : (ex : Exercise) (lines : List GivenBar) → ex.voices ≤ 4 → ex.bars ≤ 24 → All (IsGivenBar ex) lines
+    → list_all is_line (map given_words lines) ≡ true
+givens-plain ex [] voices bars fit = refl
+givens-plain ex (line ∷ lines) voices bars fit =
+    and_from (is_line (given_words line)) (list_all is_line (map given_words lines))
+    (given-plain ex line voices bars (fit 0 line (omega arith)))
+    (givens-plain ex lines voices bars (λ k d lt. fit (suc k) d (omega arith)))
+
+version_of-few : (given : List GivenBar) → version_of given ≤ 9999999
+version_of-few [] = omega arith
+version_of-few (line ∷ given) = omega arith
+
+pub exercise_lines-plain : (ex : Exercise) → IsValid ex → list_all is_line (exercise_lines ex) ≡ true
+exercise_lines-plain ex valid =
+    let before = lines_before_given (version_of ex.given) ex in
+    list_all-append is_line before (map given_words ex.given)
+    ∙ and_from (list_all is_line before) (list_all is_line (map given_words ex.given))
+    (before_given-plain (version_of ex.given) ex (version_of-few ex.given) valid)
+    (givens-plain ex ex.given valid.most_voices valid.most_bars valid.given_fit)
 
 -- ---- the lines of a setting
 
@@ -183,27 +234,8 @@ item_word-plain c n few = word-append (item_name c) (58 ∷ decimal n) (name c) 
     name (Hold p) = refl
     name (Start p) = name-word p
 
-run-plain : (cs : List Cell) (c : Cell) (n : ℕ) → n + length cs ≤ 9999999
-    → list_all is_word (map item_word (with_run c n (items_of_cells cs))) ≡ true
-run-plain [] c n few = and_from (is_word (item_word (c, n))) true (item_word-plain c n (omega (arith, few))) refl
-run-plain (d ∷ ds) c n few =
-    by (goes_on c d) refl (run-plain ds c (n + 1) (omega (arith, few))) (run-plain ds d 1 (omega (arith, few)))
-  where
-    Plain : List (Cell × ℕ) → Type 0
-    Plain items = list_all is_word (map item_word items) ≡ true
-
-    by : (b : Bool) → goes_on c d ≡ b → Plain (with_run c (n + 1) (items_of_cells ds))
-        → Plain (with_run d 1 (items_of_cells ds))
-        → Plain (with_run c n (with_run d 1 (items_of_cells ds)))
-    by true e longer rest = subst Plain (sym (with_run-longer c d n 1 (items_of_cells ds) e)) longer
-    by false e longer rest =
-        subst Plain (sym (with_run-broken c d n 1 (items_of_cells ds) e))
-        (and_from (is_word (item_word (c, n))) (list_all is_word (map item_word (with_run d 1 (items_of_cells ds))))
-        (item_word-plain c n (omega (arith, few))) rest)
-
 items-plain : (cs : List Cell) → length cs ≤ 9999999 → list_all is_word (items_words cs) ≡ true
-items-plain [] few = refl
-items-plain (c ∷ cs) few = run-plain cs c 1 (omega (arith, few))
+items-plain cs few = items-words goes_on goes_on-same item_word is_word item_word-plain cs few
 
 bar-plain : (v : ℕ) (columns : List (List Cell)) (bar : ℕ) → list_all is_word (bar_words v (bar_columns columns bar))
     ≡ true

@@ -7,6 +7,7 @@ use Rattle.fux_grid.specs.Grid.{Grid}
 use Rattle.text_lines.specs.declared.fault.TextKind.{TextKind}
 use Rattle.text_lines.specs.declared.fault.TextKind.TheVariants.{TooLong}
 use Rattle.text_lines.specs.Faults.{Fault}
+use Rattle.fux_text.specs.Fitting.{any_cells}
 use Rattle.fux_text.specs.ReadBack.{FaultsAreRead, NoteTextsHaveOneFault, SingFaultsAreRead, NoteTextsAreOfOne, NoteTextsAreRead, NoteTextsHaveNoFault, NoteTextsOrFaults, SingLinesAreRead}
 use Rattle.fux_text.specs.Reading.{exercise_in, setting_alone}
 use Rattle.fux_text.specs.Texts.{AreSingLinesOf, HasFault, HasSingFault, IsTextOf}
@@ -60,13 +61,13 @@ pub sing_fault-read : (ex : Exercise) (bytes : List ℕ) (kind : TextKind) (line
     → HasSingFault ex bytes kind line column
     → setting_alone ex bytes ≡ Err (record { kind = kind; line = line; column = column })
 unfolding HasSingFault setting_alone
-sing_fault-read ex bytes kind line column valid has = text-fails (sung_table ex) bytes (fault kind line column) has
+sing_fault-read ex bytes kind line column valid has = text-fails (sung_table any_cells ex) bytes (fault kind line column) has
 
 pub read-sing_fault : (ex : Exercise) (bytes : List ℕ) (kind : TextKind) (line column : ℕ)
     → setting_alone ex bytes ≡ Err (record { kind = kind; line = line; column = column })
     → HasSingFault ex bytes kind line column
 unfolding HasSingFault setting_alone
-read-sing_fault ex bytes kind line column e = text-wrong (sung_table ex) bytes (fault kind line column) e
+read-sing_fault ex bytes kind line column e = text-wrong (sung_table any_cells ex) bytes (fault kind line column) e
 
 pub faults-read : FaultsAreRead
 faults-read bytes kind line column = (fault-read bytes kind line column, read-fault bytes kind line column)

@@ -7,7 +7,7 @@ use Rattle.std.proofs.lemmas.Simd.{map-map}
 use Rattle.fux_grid.specs.declared.cell.Cell.{Cell}
 use Rattle.fux_grid.specs.declared.exercise.Exercise.{Exercise}
 use Rattle.fux_grid.specs.Letters.{bar_columns}
-use Rattle.fux_text.specs.Lines.{head_lines, cantus_words, range_words, relax_words, exercise_text, bar_words, bars_of, between_bar_lines, sing_text}
+use Rattle.fux_text.specs.Lines.{bar_words, bars_of, between_bar_lines, cantus_words, exercise_text, given_words, head_lines, lines_before_given, range_words, relax_words, sing_text, text_before_given, version_of, version_words}
 use Rattle.fux_text.specs.Words.{text_line, text_of, spaced}
 use Rattle.fux_text.proofs.WordLemmas.{text_line-cons}
 
@@ -18,19 +18,28 @@ appended a b c d e x y z w p q r s =
     s ∙ ap (λ t. t ++ w) (r ∙ ap (λ t. t ++ z) (q ∙ ap (λ t. t ++ y) p))
     ∙ append_assoc (a ++ x ++ y) z w ∙ append_assoc (a ++ x) y (z ++ w) ∙ append_assoc a x (y ++ (z ++ w))
 
--- the text of an exercise: the lines before the cantus, the cantus, the ranges and the relax lines
-pub exercise_text-parts : (ex : Exercise) → exercise_text ex ≡ text_of (head_lines ex)
+-- the text of an exercise up to what it gives: the lines before the cantus, the cantus, the ranges and the relax lines
+pub text_before_given-parts : (ex : Exercise) → text_before_given ex
+    ≡ text_of (version_words (version_of ex.given) ∷ head_lines ex)
     ++ (text_line (cantus_words ex) ++ (text_of (map range_words ex.ranges) ++ text_of (map relax_words ex.relax)))
-unfolding exercise_text
-exercise_text-parts ex =
-    flat_map-append text_line (head_lines ex ++ cantus_words ex ∷ map range_words ex.ranges) (map relax_words ex.relax)
+unfolding text_before_given
+text_before_given-parts ex =
+    let head = version_words (version_of ex.given) ∷ head_lines ex in
+    flat_map-append text_line (head ++ cantus_words ex ∷ map range_words ex.ranges) (map relax_words ex.relax)
     ∙ ap (λ t. t ++ text_of (map relax_words ex.relax))
-    (flat_map-append text_line (head_lines ex) (cantus_words ex ∷ map range_words ex.ranges))
-    ∙ append_assoc (text_of (head_lines ex)) (text_line (cantus_words ex) ++ text_of (map range_words ex.ranges))
+    (flat_map-append text_line head (cantus_words ex ∷ map range_words ex.ranges))
+    ∙ append_assoc (text_of head) (text_line (cantus_words ex) ++ text_of (map range_words ex.ranges))
     (text_of (map relax_words ex.relax))
-    ∙ ap (λ t. text_of (head_lines ex) ++ t)
+    ∙ ap (λ t. text_of head ++ t)
     (append_assoc (text_line (cantus_words ex)) (text_of (map range_words ex.ranges))
     (text_of (map relax_words ex.relax)))
+
+-- the text of an exercise: behind that, what it gives
+pub exercise_text-parts : (ex : Exercise)
+    → exercise_text ex ≡ text_before_given ex ++ text_of (map given_words ex.given)
+unfolding exercise_text text_before_given
+exercise_text-parts ex =
+    flat_map-append text_line (lines_before_given (version_of ex.given) ex) (map given_words ex.given)
 
 -- bars behind bar lines
 spaced-bars : (f : ℕ → List (List ℕ)) (bars : List ℕ) → spaced (flat_map (λ other. codes "|" ∷ other) (map f bars))

@@ -1,4 +1,5 @@
--- The lines before the ranges give numbers within their limits, and a pitch for each bar (`head-valid`).
+-- The lines before the ranges give numbers within their limits, and a pitch for each bar (`head-valid`); the version is one
+-- of those that there are (`version-bounds`).
 use Rattle.std.proofs.Common.{◌≡◌, ◌≢◌, ℕ, zero, suc, ◌+◌, ◌-◌, ◌<◌, List, [], ◌∷◌, ◌++◌, length, length-append, refl, sym, ap, subst, arith}
 use Rattle.fux_pitch.specs.declared.pitch.Pitch.{Pitch}
 use Rattle.fux_grid.specs.declared.exercise.Exercise.{Exercise}
@@ -8,8 +9,8 @@ use Rattle.text_lines.specs.Lines.{TextLines}
 use Rattle.text_lines.specs.Rows.{IsRow}
 use Rattle.text_lines.specs.Tables.{IsTable}
 use Rattle.text_lines.specs.Words.{LineWords}
-use Rattle.fux_text.specs.Head.{cantus_row, head_table, number_row, other_voice, pitches_row, species_row}
-use Rattle.fux_text.specs.Limits.{most_species, most_voices}
+use Rattle.fux_text.specs.Head.{cantus_row, head_table, number_row, other_voice, pitches_row, species_row, version_table}
+use Rattle.fux_text.specs.Limits.{most_species, most_voices, newest_version}
 use Rattle.fux_text.proofs.Bounds.{IsOther, IsWithin, number-bounds, other-bounds}
 use Rattle.fux_text.proofs.OnlyWords.{named-stands}
 
@@ -17,6 +18,10 @@ row-bounds : (kind : TextKind) (least most n : ℕ) (at : LineWords) → IsRow (
     → IsWithin least most n
 row-bounds kind least most n at h =
     subst (IsWithin least most) h.3.1 (number-bounds kind least most h.0 at h.1 h.2)
+
+pub version-bounds : (text : TextLines) (version : ℕ) (rest : TextLines) → IsTable version_table text version rest
+    → IsWithin 1 newest_version version
+version-bounds text version rest l = row-bounds kinds.Word 1 newest_version version l.words l.right
 
 -- a species and its voice
 record IsSpecies (voices : ℕ) (x : ℕ × ℕ) : Type 0 where
@@ -74,7 +79,7 @@ pub record IsHead (ex : Exercise) : Type 0 where
   pub plain : ex.given ≡ []
 
 pub head-valid : (text : TextLines) (ex : Exercise) (rest : TextLines) → IsTable head_table text ex rest → IsHead ex
-head-valid text ex rest (_, a, version, (mode, b, m, (voices, c, vs, (bars, d, bs, (species, e, sp, (cantus, f, cs, same)))))) =
+head-valid text ex rest (mode, b, m, (voices, c, vs, (bars, d, bs, (species, e, sp, (cantus, f, cs, same))))) =
     let some = row-bounds kinds.Word 2 most_voices voices vs.words vs.right in
     let kind = species-bounds voices sp.words species sp.right in
     let tune = cantus-bounds voices species.1 bars cs.words cantus cs.right in

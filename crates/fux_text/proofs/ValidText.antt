@@ -1,26 +1,31 @@
 -- What is read is a valid exercise (`exercise-valid`).
-use Rattle.std.proofs.Common.{◌≡◌, ℕ, List, [], Option, Some, None, Ok, ap, length, subst, arith}
+use Rattle.std.proofs.Common.{◌≡◌, ℕ, List, Option, Some, None, Ok, subst, arith}
 use Rattle.std.specs.Prelude.{All, IfSome}
 use Rattle.fux_grid.specs.declared.exercise.Exercise.{Exercise}
 use Rattle.fux_grid.specs.declared.exercise.RangeLine.{RangeLine}
 use Rattle.fux_grid.specs.declared.exercise.Relax.{Relax}
-use Rattle.fux_grid.specs.Exercises.{FitsGiven, IsGiven, IsRangeLine, IsRelax, IsValid}
+use Rattle.fux_grid.specs.declared.given.GivenBar.{GivenBar}
+use Rattle.fux_grid.specs.Exercises.{FitsGiven, IsGiven, IsGivenBar, IsRangeLine, IsRelax, IsValid}
 use Rattle.fux_grid.specs.Grid.{Grid}
-use Rattle.fux_grid.proofs.GivenLemmas.{nothing_given}
 use Rattle.text_lines.specs.Lines.{TextLines, lines_in}
 use Rattle.text_lines.specs.Tables.{IsTable}
 use Rattle.text_lines.proofs.TextLemmas.{text-right}
+use Rattle.fux_text.specs.Fitting.{any_cells, line_fits}
 use Rattle.fux_text.specs.Reading.{exercise_in, note_table, setting_alone}
 use Rattle.fux_text.specs.Sing.{sung_table}
+use Rattle.fux_text.proofs.Fits.{fits-whole, score-fits}
+use Rattle.fux_text.proofs.Givens.{AreGivens, givens-read}
 use Rattle.fux_text.proofs.ValidHead.{IsHead, head-valid}
 use Rattle.fux_text.proofs.ValidRanges.{AreValidRanges, ranges-valid}
 use Rattle.fux_text.proofs.ValidRelax.{AreRelaxes, relaxes-valid}
-use Rattle.fux_text.proofs.ValidSetting.{setting-valid, sung-valid}
+use Rattle.fux_text.proofs.ValidSetting.{HasFittingLines, setting-fitting, setting-valid, sung-valid}
 
-all-valid : (head : Exercise) (ranges : List RangeLine) (relax : List Relax) (setting : Option Grid) → IsHead head
-    → AreValidRanges head ranges → AreRelaxes head relax → IfSome setting (IsGiven head)
-    → IsValid (record head { ranges = ranges; relax = relax; setting = setting })
-all-valid head ranges relax setting h r l s = record {
+all-valid : (head : Exercise) (ranges : List RangeLine) (relax : List Relax) (given : List GivenBar)
+    (setting : Option Grid) → IsHead head
+    → AreValidRanges head ranges → AreRelaxes head relax → AreGivens head given → IfSome setting (IsGiven head)
+    → IfSome setting (HasFittingLines (line_fits (record head { given = given })) head)
+    → IsValid (record head { ranges = ranges; relax = relax; given = given; setting = setting })
+all-valid head ranges relax given setting h r l g s f = record {
   fewest_voices = h.voices.above;
   most_voices = omega (arith, h.voices.below);
   fewest_bars = h.bars.above;
@@ -35,14 +40,14 @@ all-valid head ranges relax setting h r l s = record {
   each_has_range = λ v free. r.each v (record { there = free.there; no_cantus = free.no_cantus });
   relax_fit = relax_fit relax l.fit;
   few_relax = l.few;
-  given_fit = λ k d lt. absurd (omega (arith, lt, ap length h.plain));
-  given_ascend = λ i j d lt within. absurd (omega (arith, within, ap length h.plain));
-  setting = given setting s;
-  setting_fits = fits setting;
+  given_fit = given_fit ranges relax setting given g.fit;
+  given_ascend = g.ascend;
+  setting = settles setting s;
+  setting_fits = fits setting f;
 }
   where
     ex : Exercise
-    ex = record head { ranges = ranges; relax = relax; setting = setting }
+    ex = record head { ranges = ranges; relax = relax; given = given; setting = setting }
 
     fit : (lines : List RangeLine) → All (IsRangeLine head) lines → All (IsRangeLine ex) lines
     fit lines all = λ k d lt.
@@ -64,21 +69,37 @@ all-valid head ranges relax setting h r l s = record {
           price = one.price;
         }
 
-    fits : (o : Option Grid) → IfSome o (λ score. FitsGiven ex score.columns)
-    fits None = tt
-    fits (Some score) = nothing_given ex score.columns h.plain
+    with_lines : List RangeLine → List Relax → Option Grid → Exercise
+    with_lines rs ls o = record head { ranges = rs; relax = ls; given = given; setting = o }
 
-    given : (o : Option Grid) → IfSome o (IsGiven head) → IfSome o (IsGiven ex)
-    given None g = tt
-    given (Some score) g = record {
+    given_fit : (rs : List RangeLine) (ls : List Relax) (o : Option Grid) (lines : List GivenBar)
+        → All (IsGivenBar head) lines → All (IsGivenBar (with_lines rs ls o)) lines
+    given_fit rs ls o lines all = λ k d lt.
+        let one = all k d lt in
+        record {
+          free = record { there = one.free.there; no_cantus = one.free.no_cantus };
+          within = one.within;
+          whole = one.whole;
+          follow = one.follow;
+        }
+
+    gives : Exercise
+    gives = record head { given = given }
+
+    fits : (o : Option Grid) → IfSome o (HasFittingLines (line_fits gives) head)
+        → IfSome o (λ score. FitsGiven ex score.columns)
+    fits None f = tt
+    fits (Some score) f =
+        fits-whole head ranges relax given setting score.columns
+        (subst (λ (s : Grid). FitsGiven gives s.columns) f.whole
+        (score-fits gives f.lines (given_fit head.ranges head.relax head.setting given g.fit) f.fits))
+
+    settles : (o : Option Grid) → IfSome o (IsGiven head) → IfSome o (IsGiven ex)
+    settles None g = tt
+    settles (Some score) g = record {
       complete = record { voices = g.complete.voices; whole = g.complete.whole };
       cantus = g.cantus;
     }
-
--- no note text gives notes
-pub table-plain : (text rest : TextLines) (ex : Exercise) → IsTable note_table text ex rest → ex.given ≡ []
-table-plain text rest ex (head, a, h, (ranges, b, rs, (relax, c, ls, (setting, d, sg, same)))) =
-    subst (λ (found : Exercise). found.given ≡ []) same.0 (head-valid text head a h).plain
 
 pub exercise-valid : (bytes : List ℕ) (ex : Exercise) → exercise_in bytes ≡ Ok ex → IsValid ex
 unfolding exercise_in
@@ -87,15 +108,18 @@ exercise-valid bytes ex e =
     valid (lines_in bytes) r.rest r.lines
   where
     valid : (text rest : TextLines) → IsTable note_table text ex rest → IsValid ex
-    valid text rest (head, a, h, (ranges, b, rs, (relax, c, ls, (setting, d, sg, same)))) =
-        let ok = head-valid text head a h in
+    valid text rest
+        (version, v, vs, (head, a, h, (ranges, b, rs, (relax, c, ls, (given, d, gs, (setting, e, sg, same)))))) =
+        let ok = head-valid v head a h in
+        let fit = line_fits (record head { given = given }) in
         subst IsValid same.0
-        (all-valid head ranges relax setting ok (ranges-valid head a ranges b ok.voices.above rs)
-        (relaxes-valid head b relax c ls) (setting-valid head c setting d ok.cantus_there ok.whole sg))
+        (all-valid head ranges relax given setting ok (ranges-valid head a ranges b ok.voices.above rs)
+        (relaxes-valid head b relax c ls) (givens-read version head c given d ok.voices.above gs).valid
+        (setting-valid fit head d setting e ok.cantus_there ok.whole sg) (setting-fitting fit head d setting e sg))
 
 pub alone-valid : (ex : Exercise) (bytes : List ℕ) (score : Grid) → IsValid ex → setting_alone ex bytes ≡ Ok score
     → IsGiven ex score
 unfolding setting_alone
 alone-valid ex bytes score valid e =
-    let r = text-right (sung_table ex) bytes score e in
-    sung-valid ex (lines_in bytes) score r.rest valid.cantus_there valid.whole_cantus r.lines
+    let r = text-right (sung_table any_cells ex) bytes score e in
+    sung-valid any_cells ex (lines_in bytes) score r.rest valid.cantus_there valid.whole_cantus r.lines

@@ -1,14 +1,17 @@
--- The grammar of the note text: which words its lines have. But for `sing` lines they are those that are written.
-use Rattle.std.specs.Prelude.{All, reverse, ◌≡◌, ℕ, ◌≤◌, List, [], ◌∷◌, ◌++◌, Option, Some, None, codes, length, ⊤}
+-- The grammar of the note text: which words its lines have. But for `given` and `sing` lines they are those that are
+-- written.
+use Rattle.std.specs.Prelude.{All, reverse, ◌≡◌, ◌⊎◌, ℕ, ◌≤◌, List, [], ◌∷◌, ◌++◌, Option, Some, None, codes, length, ⊤}
 use Rattle.std.specs.Fmt.{decimal}
 use Rattle.std.specs.Str.{IsUtf8}
 use Rattle.fux_grid.specs.declared.cell.Cell.{Cell}
 use Rattle.fux_grid.specs.declared.exercise.Exercise.{Exercise}
+use Rattle.fux_grid.specs.declared.given.GivenBar.{GivenBar}
 use Rattle.fux_grid.specs.Columns.{HistoryFollows, line}
 use Rattle.fux_grid.specs.Exercises.{IsGiven, IsValid}
 use Rattle.fux_grid.specs.Grid.{Grid}
 use Rattle.text_lines.specs.Rows.{IsRun}
-use Rattle.fux_text.specs.Lines.{exercise_lines, free_voices}
+use Rattle.fux_text.specs.GivenLines.{given_run}
+use Rattle.fux_text.specs.Lines.{free_voices, lines_before_given}
 use Rattle.fux_text.specs.Sing.{sung_run}
 use Rattle.fux_text.specs.Words.{words_in}
 
@@ -37,15 +40,35 @@ abbrev pub Sings : Exercise → List (List (List ℕ)) → Option Grid → Type 
 Sings ex lines None = lines ≡ []
 Sings ex lines (Some score) = IsSettingOf ex score × AreSung ex.bars (λ v. line v score.columns) (free_voices ex) lines
 
--- a note text of an exercise: it has the exercise's lines, and then those of its setting, if it has one. There is no line for given notes:
--- an exercise that gives some has no note text
+-- the words of a `given` line: its voice, its bar, and items that have its cells
+pub record IsGivenLine (words : List (List ℕ)) (line : GivenBar) : Type 0 where
+  pub items : List (List ℕ)
+  pub written : words ≡ codes "given" ∷ decimal line.voice ∷ decimal line.bar ∷ items
+  pub run : IsRun (given_run line.voice line.bar) [] items line
+
+-- a line for each bar that is given, in their order
+abbrev pub AreGivenLines : List (List (List ℕ)) → List GivenBar → Type 0
+AreGivenLines [] [] = ⊤
+AreGivenLines [] (line ∷ given) = ⊥
+AreGivenLines (words ∷ lines) [] = ⊥
+AreGivenLines (words ∷ lines) (line ∷ given) = IsGivenLine words line × AreGivenLines lines given
+
+-- the versions in which notes may be given: any of no notes, and the second of some
+abbrev pub IsVersionFor : ℕ → List GivenBar → Type 0
+IsVersionFor version given = ((version ≡ 1) × (given ≡ [])) ⊎ (version ≡ 2)
+
+-- a note text of an exercise: it has the exercise's lines in a version, those of the notes that the exercise gives, and
+-- then those of its setting, if it has one
 pub record IsNoteText (bytes : List ℕ) (ex : Exercise) : Type 0 where
   pub short : length bytes ≤ 65536
   pub utf8 : IsUtf8 bytes
+  pub version : ℕ
+  pub fixed : List (List (List ℕ))
   pub sung : List (List (List ℕ))
-  pub lines : words_in bytes ≡ exercise_lines ex ++ sung
+  pub lines : words_in bytes ≡ lines_before_given version ex ++ (fixed ++ sung)
+  pub newer : IsVersionFor version ex.given
+  pub given : AreGivenLines fixed ex.given
   pub valid : IsValid ex
-  pub plain : ex.given ≡ []
   pub setting : Sings ex sung ex.setting
 
 -- the `sing` lines of a setting of an exercise, and no others

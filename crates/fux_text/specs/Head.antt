@@ -10,11 +10,7 @@ use Rattle.text_lines.specs.Numbers.{number_within}
 use Rattle.text_lines.specs.Rows.{Place, Row, named_place, number_place, word_place}
 use Rattle.text_lines.specs.Tables.{Table}
 use Rattle.fux_text.specs.Names.{mode_named, pitch_named}
-use Rattle.fux_text.specs.Limits.{most_voices, most_species}
-
--- `fux 1`: another version is `word`
-abbrev pub version_row : Row (Unit {0})
-version_row = Row.place (word_place kinds.Word (codes "1")) (λ _. Row.ends kinds.Word tt)
+use Rattle.fux_text.specs.Limits.{most_species, most_voices, newest_version}
 
 -- `mode M`: M is the name of a mode
 abbrev pub mode_row : Row Mode
@@ -76,11 +72,14 @@ parts_table mode voices bars =
     Table.behind (Table.line kinds.Head (codes "cantus") (cantus_row voices species.1 bars)) (λ cantus.
     Table.says (bare mode voices bars species cantus)))
 
--- the lines before the ranges
+-- the lines behind the version and before the ranges
 abbrev pub head_table : Table Exercise
 head_table =
-    Table.behind (Table.line kinds.Head (codes "fux") version_row) (λ _.
     Table.behind (Table.line kinds.Head (codes "mode") mode_row) (λ mode.
     Table.behind (Table.line kinds.Head (codes "voices") (number_row kinds.Word 2 most_voices)) (λ voices.
     Table.behind (Table.line kinds.Head (codes "bars") (number_row kinds.Bars 3 24)) (λ bars.
-    parts_table mode voices bars))))
+    parts_table mode voices bars)))
+
+-- `fux V`: V is 1 or 2
+abbrev pub version_table : Table ℕ
+version_table = Table.line kinds.Head (codes "fux") (number_row kinds.Word 1 newest_version)

@@ -18,14 +18,21 @@ goes_on (Start q) (Hold p) = true
 goes_on (Start q) (Start p) = false
 
 -- items after so many cells that begin with this one: they are one item with the first of those where that goes on
-abbrev pub with_run : Cell → ℕ → List (Cell × ℕ) → List (Cell × ℕ)
-with_run c n [] = (c, n) ∷ []
-with_run c n (item ∷ items) = if goes_on c item.0 then (c, n + item.1) ∷ items else (c, n) ∷ item ∷ items
+abbrev pub with_run_by : {C : Type 0} → (C → C → Bool) → C → ℕ → List (C × ℕ) → List (C × ℕ)
+with_run_by goes c n [] = (c, n) ∷ []
+with_run_by goes c n (item ∷ items) = if goes c item.0 then (c, n + item.1) ∷ items else (c, n) ∷ item ∷ items
 
--- the items of a bar's cells: the first cell of each, and how many cells it has
+-- the items of cells: the first cell of each, and how many cells it has
+abbrev pub items_by : {C : Type 0} → (C → C → Bool) → List C → List (C × ℕ)
+items_by goes [] = []
+items_by goes (c ∷ cs) = with_run_by goes c 1 (items_by goes cs)
+
+abbrev pub with_run : Cell → ℕ → List (Cell × ℕ) → List (Cell × ℕ)
+with_run c n items = with_run_by goes_on c n items
+
+-- the items of a bar's cells
 abbrev pub items_of_cells : List Cell → List (Cell × ℕ)
-items_of_cells [] = []
-items_of_cells (c ∷ cs) = with_run c 1 (items_of_cells cs)
+items_of_cells cells = items_by goes_on cells
 
 -- what an item is called: a note by its pitch, `_` goes on with what sounded, and `r` is a rest
 abbrev pub item_name : Cell → List ℕ

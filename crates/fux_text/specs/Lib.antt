@@ -1,6 +1,10 @@
+pub mod Fitting
+pub mod GivenItems
+pub mod GivenLines
 pub mod Grammar
 pub mod Head
 pub mod Items
+pub mod Limits
 pub mod Lines
 pub mod Names
 pub mod Ranges
@@ -9,5 +13,4 @@ pub mod Reading
 pub mod Relaxing
 pub mod Sing
 pub mod Texts
-pub mod Limits
 pub mod Words

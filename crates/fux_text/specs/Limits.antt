@@ -1,6 +1,10 @@
 -- How much a note text may say.
 use Rattle.std.specs.Prelude.{ℕ}
 
+-- another version than 1 up to this is `Word` at its number
+abbrev pub newest_version : ℕ
+newest_version = 2
+
 -- more voices are `Word` at their number
 abbrev pub most_voices : ℕ
 most_voices = 4

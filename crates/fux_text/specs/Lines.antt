@@ -10,9 +10,11 @@ use Rattle.fux_grid.specs.declared.exercise.Exercise.{Exercise}
 use Rattle.fux_grid.specs.declared.exercise.RangeLine.{RangeLine}
 use Rattle.fux_grid.specs.declared.exercise.Relax.{Relax}
 use Rattle.fux_grid.specs.declared.exercise.VoiceSet.{VoiceSet}
+use Rattle.fux_grid.specs.declared.given.GivenBar.{GivenBar}
 use Rattle.fux_grid.specs.Columns.{line}
 use Rattle.fux_grid.specs.Grid.{Grid}
 use Rattle.fux_grid.specs.Letters.{bar_columns}
+use Rattle.fux_text.specs.GivenItems.{given_items, given_word}
 use Rattle.fux_text.specs.Items.{items_of_cells, item_word}
 use Rattle.fux_text.specs.Words.{spaced, text_line, text_of}
 
@@ -25,11 +27,19 @@ mode_name Mixolydian = codes "mixolydian"
 mode_name Aeolian = codes "aeolian"
 mode_name Ionian = codes "ionian"
 
--- the lines before the cantus
+-- the words of a version
+abbrev pub version_words : ℕ → List (List ℕ)
+version_words version = codes "fux" ∷ decimal version ∷ []
+
+-- the version of what is written: the first, unless notes are given
+abbrev pub version_of : List GivenBar → ℕ
+version_of [] = 1
+version_of (line ∷ lines) = 2
+
+-- the lines between the version and the cantus
 abbrev pub head_lines : Exercise → List (List (List ℕ))
 head_lines ex =
-    (codes "fux" ∷ codes "1" ∷ [])
-    ∷ (codes "mode" ∷ mode_name ex.mode ∷ [])
+    (codes "mode" ∷ mode_name ex.mode ∷ [])
     ∷ (codes "voices" ∷ decimal ex.voices ∷ [])
     ∷ (codes "bars" ∷ decimal ex.bars ∷ [])
     ∷ (codes "species" ∷ decimal ex.species ∷ codes "voice" ∷ decimal ex.species_voice ∷ [])
@@ -62,9 +72,18 @@ abbrev pub relax_words : Relax → List (List ℕ)
 relax_words line = codes "relax" ∷ (codes "S" ++ decimal line.rule) ∷ voices_word line.voices ∷ decimal line.from
     ∷ decimal line.to ∷ decimal line.price ∷ []
 
+-- the words of a bar that is given: its voice, its bar and its items
+abbrev pub given_words : GivenBar → List (List ℕ)
+given_words line = codes "given" ∷ decimal line.voice ∷ decimal line.bar ∷ map given_word (given_items line.cells)
+
+-- the lines of an exercise in a version, up to those of the notes that it gives
+abbrev pub lines_before_given : ℕ → Exercise → List (List (List ℕ))
+lines_before_given version ex =
+    (version_words version ∷ head_lines ex) ++ cantus_words ex ∷ map range_words ex.ranges ++ map relax_words ex.relax
+
 -- the lines of an exercise, without a setting
 abbrev pub exercise_lines : Exercise → List (List (List ℕ))
-exercise_lines ex = head_lines ex ++ cantus_words ex ∷ map range_words ex.ranges ++ map relax_words ex.relax
+exercise_lines ex = lines_before_given (version_of ex.given) ex ++ map given_words ex.given
 
 -- the bars of a list of columns
 abbrev pub bars_of : List (List Cell) → List (List (List Cell))
@@ -104,6 +123,10 @@ sing_text v columns = text_line (sing_words v columns)
 -- the `sing` lines of these voices
 abbrev pub sing_texts : List (List Cell) → List ℕ → List ℕ
 sing_texts columns voices = flat_map (λ v. sing_text v columns) voices
+
+-- the text of an exercise up to the notes that it gives
+unfoldable pub text_before_given : Exercise → List ℕ
+text_before_given ex = text_of (lines_before_given (version_of ex.given) ex)
 
 -- the text of an exercise, without a setting
 unfoldable pub exercise_text : Exercise → List ℕ

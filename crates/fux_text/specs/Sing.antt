@@ -1,4 +1,4 @@
--- The `sing` lines, as rows.
+-- The `sing` lines, as rows. Which cells a voice may have is a test that each row takes.
 use Rattle.std.specs.Prelude.{ℕ, ◌+◌, ◌-◌, ◌*◌, ◌==◌, not, IsTrue, ⊤, Bool, true, false, List, [], ◌∷◌, ◌++◌, Option, Some, None, Result, Ok, Err, codes, length, map, option_map, replicate, if◌then◌else◌}
 use Rattle.std.specs.List.{after_first, before_first, flat_map, range_with_len}
 use Rattle.std.specs.Option.{ok_or}
@@ -10,10 +10,10 @@ use Rattle.fux_grid.specs.Cells.{cell_follows, cell_in, pitch_of}
 use Rattle.fux_grid.specs.Grid.{Grid}
 use Rattle.text_lines.specs.declared.fault.TextKind.{TextKind}
 use Rattle.text_lines.specs.declared.fault.TextKind.TheVariants as kinds
-use Rattle.text_lines.specs.Faults.{◌>>=◌}
-use Rattle.text_lines.specs.Numbers.{if_within, number_of}
+use Rattle.text_lines.specs.Faults.{Fault, ◌>>=◌}
+use Rattle.text_lines.specs.Numbers.{if_within, number_of, number_within}
 use Rattle.text_lines.specs.Reading.{same_text}
-use Rattle.text_lines.specs.Rows.{Row, Run, number_place, refused_if}
+use Rattle.text_lines.specs.Rows.{Place, Row, Run, refused_if, run_in}
 use Rattle.text_lines.specs.Tables.{Table}
 use Rattle.fux_text.specs.declared.item_words.ItemName.{ItemName}
 use Rattle.fux_text.specs.declared.item_words.ItemName.TheVariants as names
@@ -99,27 +99,49 @@ ended cells (Some kind) = Err kind
 abbrev pub sung_run : ℕ → Run (ℕ × List Cell) (List Cell)
 sung_run bars = record { word = sung_word bars; end = sung_end bars }
 
--- `sing V ITEMS`, where V is this voice: its cells
-abbrev pub sing_row : ℕ → ℕ → Row (List Cell)
-sing_row bars v = Row.place (number_place kinds.Sing v v) (λ _. Row.runs (sung_run bars) (0, []))
+-- right items say other cells than a voice may have
+abbrev pub misfit : (List Cell → Bool) → Result (List Cell) Fault → Bool
+misfit fit (Ok cells) = not (fit cells)
+misfit fit (Err fault) = false
+
+-- this voice, where its cells may be those behind it
+abbrev pub sung_voice : Bool → Option ℕ → Result ℕ TextKind
+sung_voice bad None = Err kinds.Sing
+sung_voice bad (Some v) = if bad then Err kinds.Given else Ok v
+
+abbrev pub sung_place : (List Cell → Bool) → ℕ → ℕ → Place ℕ
+sung_place fit bars v = record {
+  missing = kinds.Sing;
+  says = λ behind text.
+      sung_voice (misfit fit (run_in (sung_run bars) (0, []) behind behind.words)) (number_within v v text);
+}
+
+-- `sing V ITEMS`, where V is this voice: its cells, which have to fit
+abbrev pub sing_row : (List Cell → Bool) → ℕ → ℕ → Row (List Cell)
+sing_row fit bars v = Row.place (sung_place fit bars v) (λ _. Row.runs (sung_run bars) (0, []))
+
+-- which cells each voice may have
+abbrev pub Fit : Type 0
+Fit = ℕ → List Cell → Bool
 
 -- the cells of the cantus: a whole note in each bar
 unfoldable pub cantus_cells : List Pitch → List Cell
 cantus_cells cantus = flat_map (λ p. item_cells (Start p) 8) cantus
 
--- the cells of a voice: those of the cantus, or those of its `sing` line, of which a missing one is `sing`
-abbrev pub cantus_or_sung : Exercise → ℕ → Bool → Table (List Cell)
-cantus_or_sung ex v true = Table.says (cantus_cells ex.cantus)
-cantus_or_sung ex v false = Table.line kinds.Sing (codes "sing") (sing_row ex.bars v)
+-- the cells of a voice: those of the cantus, or those of its `sing` line, which have to fit, and of which a missing one is
+-- `sing`
+abbrev pub cantus_or_sung : Fit → Exercise → ℕ → Bool → Table (List Cell)
+cantus_or_sung fit ex v true = Table.says (cantus_cells ex.cantus)
+cantus_or_sung fit ex v false = Table.line kinds.Sing (codes "sing") (sing_row (fit v) ex.bars v)
 
-abbrev pub voice_table : Exercise → ℕ → Table (List Cell)
-voice_table ex v = cantus_or_sung ex v (v == ex.cantus_voice)
+abbrev pub voice_table : Fit → Exercise → ℕ → Table (List Cell)
+voice_table fit ex v = cantus_or_sung fit ex v (v == ex.cantus_voice)
 
 -- the cells of voices behind those before
-abbrev pub voices_table : Exercise → List ℕ → List (List Cell) → Table (List (List Cell))
-voices_table ex [] before = Table.says before
-voices_table ex (v ∷ vs) before =
-    Table.behind (voice_table ex v) (λ cells. voices_table ex vs (before ++ cells ∷ []))
+abbrev pub voices_table : Fit → Exercise → List ℕ → List (List Cell) → Table (List (List Cell))
+voices_table fit ex [] before = Table.says before
+voices_table fit ex (v ∷ vs) before =
+    Table.behind (voice_table fit ex v) (λ cells. voices_table fit ex vs (before ++ cells ∷ []))
 
 -- the columns of lines of cells
 abbrev pub column_of : List (List Cell) → ℕ → List Cell
@@ -132,15 +154,15 @@ score_of bars lines = record {
 }
 
 -- the setting in `sing` lines, with which the text ends
-abbrev pub sung_table : Exercise → Table Grid
-sung_table ex =
-    Table.behind (voices_table ex (range_with_len 0 ex.voices) []) (λ lines.
+abbrev pub sung_table : Fit → Exercise → Table Grid
+sung_table fit ex =
+    Table.behind (voices_table fit ex (range_with_len 0 ex.voices) []) (λ lines.
     Table.behind Table.ends (λ _. Table.says (score_of ex.bars lines)))
 
 -- a setting, or none
-abbrev pub setting_table : Exercise → Table (Option Grid)
-setting_table ex =
-    Table.if_begins (codes "sing") (Table.behind (sung_table ex) (λ score. Table.says (Some score)))
+abbrev pub setting_table : Fit → Exercise → Table (Option Grid)
+setting_table fit ex =
+    Table.if_begins (codes "sing") (Table.behind (sung_table fit ex) (λ score. Table.says (Some score)))
     (Table.behind Table.ends (λ _. Table.says None))
 
 -- each cell may follow the one before it

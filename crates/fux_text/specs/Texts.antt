@@ -6,6 +6,7 @@ use Rattle.text_lines.specs.declared.fault.TextKind.{TextKind}
 use Rattle.text_lines.specs.declared.fault.TextFault.{TextFault}
 use Rattle.text_lines.specs.declared.fault.TextFault.TheVariants as faults
 use Rattle.text_lines.specs.Tables.{IsTextFault}
+use Rattle.fux_text.specs.Fitting.{any_cells}
 use Rattle.fux_text.specs.Grammar.{AreSettingLines, IsNoteText}
 use Rattle.fux_text.specs.Reading.{note_table}
 use Rattle.fux_text.specs.Sing.{sung_table}
@@ -26,7 +27,7 @@ AreSingLinesOf ex bytes score = AreSettingLines ex bytes score
 -- the bytes are no such lines, and this is their first fault
 unfoldable pub HasSingFault : Exercise → List ℕ → TextKind → ℕ → ℕ → Type 0
 HasSingFault ex bytes kind line column =
-    IsTextFault (sung_table ex) bytes (record { kind = kind; line = line; column = column })
+    IsTextFault (sung_table any_cells ex) bytes (record { kind = kind; line = line; column = column })
 
 -- the answer is this one, or tells of want of memory
 abbrev pub IsEither : TextFault → TextFault → Type 0

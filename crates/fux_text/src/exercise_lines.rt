@@ -5,9 +5,10 @@ ghost use Rattle.std.specs.Fmt.{decimal};
 ghost use Rattle.std.specs.List.{flat_map, join_with_byte, range_with_len};
 ghost use Rattle.fux_pitch.specs.Names.{name_of};
 ghost use Rattle.fux_grid.specs.Exercises.{IsValid};
-ghost use Rattle.fux_text.specs.Lines.{bars_words, cantus_words, exercise_text, has_voice, head_lines, mode_name, range_words, relax_words, voices_word};
+ghost use Rattle.fux_text.specs.Lines.{bars_words, cantus_words, exercise_text, has_voice, head_lines, mode_name, range_words, relax_words, text_before_given, version_of, version_words, voices_word};
 ghost use Rattle.fux_text.specs.Words.{text_line, text_of, spaced};
 
+use crate::given_lines::{put_given_lines, version_of};
 use arrayvec::ArrayVec;
 use fux_grid::{Exercise, RangeLine, Relax, VoiceSet};
 use fux_pitch::{Memory, Mode, Pitch};
@@ -29,8 +30,10 @@ fn mode_name(mode: Mode) -> &'static str
 
 /// Appends the lines before the cantus.
 fn put_head(out: &mut String, ex: &Exercise) -> Result<(), Memory>
-    ensures { OnOk result (string_bytes out.new ≡ string_bytes out.old ++ text_of (head_lines ex.now)) }
+    ensures { OnOk result (string_bytes out.new ≡ string_bytes out.old
+        ++ text_of (version_words (version_of ex.now.given) ∷ head_lines ex.now)) }
 {
+    let version = version_of(ex.given.as_slice());
     let mode = mode_name(ex.mode);
     let voices = ex.voices;
     let bars = ex.bars;
@@ -38,7 +41,7 @@ fn put_head(out: &mut String, ex: &Exercise) -> Result<(), Memory>
     let species_voice = ex.species_voice;
     write!(
         out,
-        "fux 1\nmode {mode}\nvoices {voices}\nbars {bars}\nspecies {species} voice {species_voice}\n"
+        "fux {version}\nmode {mode}\nvoices {voices}\nbars {bars}\nspecies {species} voice {species_voice}\n"
     )?;
     Ok(())
 }
@@ -170,12 +173,20 @@ fn put_relax_lines(out: &mut String, lines: &[Relax]) -> Result<(), Memory>
     Ok(())
 }
 
-/// Appends the lines of an exercise.
-pub fn put_exercise(out: &mut String, ex: &Exercise) -> Result<(), Memory>
-    ensures { OnOk result (string_bytes out.new ≡ string_bytes out.old ++ exercise_text ex.now) }
+/// Appends the lines of an exercise up to those of the notes that it gives.
+fn put_before_given(out: &mut String, ex: &Exercise) -> Result<(), Memory>
+    ensures { OnOk result (string_bytes out.new ≡ string_bytes out.old ++ text_before_given ex.now) }
 {
     put_head(out, ex)?;
     put_cantus(out, ex)?;
     put_ranges(out, ex.ranges.as_slice())?;
     put_relax_lines(out, ex.relax.as_slice())
+}
+
+/// Appends the lines of an exercise.
+pub fn put_exercise(out: &mut String, ex: &Exercise) -> Result<(), Memory>
+    ensures { OnOk result (string_bytes out.new ≡ string_bytes out.old ++ exercise_text ex.now) }
+{
+    put_before_given(out, ex)?;
+    put_given_lines(out, ex.given.as_slice())
 }

@@ -1,31 +1,21 @@
 //! The lines before the ranges.
 
 ghost use Rattle.std.specs.Prelude.{◌≡◌, ◌≤◌, [], IfOk, codes};
-ghost use Rattle.text_lines.specs.declared.fault.TextKind.TheVariants.{Head};
+ghost use Rattle.text_lines.specs.declared.fault.TextKind.TheVariants.{Head, Word};
 ghost use Rattle.text_lines.specs.Faults.{Gives};
 ghost use Rattle.text_lines.specs.Lines.{lines_of};
 ghost use Rattle.text_lines.specs.Rows.{place_in, row_in};
 ghost use Rattle.text_lines.specs.Tables.{line_in, table_in};
 ghost use Rattle.text_lines.specs.Words.{words_of};
-ghost use Rattle.fux_text.specs.Head.{cantus_row, head_table, mode_row, number_row, other_voice, parts_table, pitch_place, pitches_row, species_row, version_row};
-ghost use Rattle.fux_text.specs.Limits.{most_species, most_voices};
+ghost use Rattle.fux_text.specs.Head.{cantus_row, head_table, mode_row, number_row, other_voice, parts_table, pitch_place, pitches_row, species_row};
+ghost use Rattle.fux_text.specs.Limits.{most_species, most_voices, newest_version};
 
-use crate::limits::{MOST_SPECIES, MOST_VOICES};
+use crate::limits::{MOST_SPECIES, MOST_VOICES, NEWEST_VERSION};
 use crate::names::{parse_mode, parse_pitch};
 use fux_grid::Exercise;
 use fux_pitch::{List, Mode, Pitch};
 use std::alloc::Global;
 use text_lines::{Lines, TextFault, TextKind, Words, parse_within};
-
-/// Reads `fux 1`.
-#[tactic(auto, unfolding(text_lines::specs::Tables::line_in, text_lines::specs::Rows::row_in, text_lines::specs::Reading::literal, text_lines::specs::Reading::headed))]
-fn version_line(text: Lines<'_>) -> Result<Lines<'_>, TextFault>
-    ensures { Gives (λ x. (tt, lines_of x)) result (line_in Head (codes "fux") version_row (lines_of text.entry)) }
-{
-    let (words, text) = text.headed(TextKind::Head, b"fux")?;
-    words.literal(TextKind::Word, b"1")?.done(TextKind::Word)?;
-    Ok(text)
-}
 
 /// Reads `mode M`.
 #[tactic(auto, unfolding(text_lines::specs::Tables::line_in, text_lines::specs::Rows::row_in))]
@@ -58,6 +48,13 @@ fn number_line<'a>(
     let (number, words) = words.small_number(kind, least, most)?;
     words.done(TextKind::Word)?;
     Ok((number, text))
+}
+
+/// Reads `fux V`: a version up to the newest.
+pub fn version_line(text: Lines<'_>) -> Result<(u8, Lines<'_>), TextFault>
+    ensures { Gives (λ x. (x.0, lines_of x.1)) result (line_in Head (codes "fux") (number_row Word 1 newest_version) (lines_of text.entry)) }
+{
+    number_line(text, b"fux", TextKind::Word, 1, NEWEST_VERSION)
 }
 
 /// Reads `species N voice V`.
@@ -173,7 +170,7 @@ fn parts_in(
     Ok((ex, text))
 }
 
-/// Reads the lines before the ranges.
+/// Reads the lines behind the version and before the ranges.
 #[tactic(auto, unfolding(text_lines::specs::Tables::table_in))]
 pub fn head_in(alloc: Global, text: Lines<'_>) -> Result<(Exercise, Lines<'_>), TextFault>
     ensures value { Gives (λ x. (x.0, lines_of x.1)) result (table_in head_table (lines_of text.entry)) }
@@ -182,7 +179,6 @@ pub fn head_in(alloc: Global, text: Lines<'_>) -> Result<(Exercise, Lines<'_>), 
     ensures fewest_bars { IfOk result (λ x. 3 ≤ x.0.bars) }
     ensures most_bars { IfOk result (λ x. x.0.bars ≤ 24) }
 {
-    let text = version_line(text)?;
     let (mode, text) = mode_line(text)?;
     let (voices, text) = number_line(text, b"voices", TextKind::Word, 2, MOST_VOICES)?;
     let (bars, text) = number_line(text, b"bars", TextKind::Bars, 3, 24)?;

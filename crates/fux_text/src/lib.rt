@@ -2,6 +2,8 @@
 #![tactic(auto)]
 
 mod exercise_lines;
+mod fitting;
+mod given_lines;
 mod head;
 mod item_words;
 mod items;

@@ -1,5 +1,8 @@
 //! How much a note text may say.
 
+/// The newest version of the note text. Version 1 gives no notes.
+pub const NEWEST_VERSION: u8 = 2;
+
 /// Voices, at most. More are refused at their number.
 pub const MOST_VOICES: u8 = 4;
 

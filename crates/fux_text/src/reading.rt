@@ -8,7 +8,9 @@ ghost use Rattle.text_lines.specs.Faults.{Gives};
 ghost use Rattle.fux_text.specs.Reading.{exercise_in, setting_alone};
 ghost use Rattle.fux_text.specs.Texts.{AreSingLinesOf, Finds, HasFault, HasSingFault, IsTextOf, TellsEach, TellsOnly};
 
-use crate::head::head_in;
+use crate::fitting::Asked;
+use crate::given_lines::given_lines_in;
+use crate::head::{head_in, version_line};
 use crate::ranges::ranges_in;
 use crate::relaxing::relaxes_in;
 use crate::setting::{setting_in, sung_score};
@@ -23,10 +25,13 @@ fn exercise_in(alloc: Global, bytes: &[u8]) -> Result<Exercise, TextFault>
     ensures { Gives (λ x. x) result (exercise_in bytes.now) }
 {
     let text = Lines::of_text(bytes)?;
+    let (version, text) = version_line(text)?;
     let (mut ex, text) = head_in(alloc, text)?;
     let (ranges, text) = ranges_in(alloc, text, &ex)?;
     let (relax, text) = relaxes_in(alloc, text, &ex)?;
-    let (setting, _) = setting_in(alloc, text, &ex)?;
+    let (given, text) = given_lines_in(alloc, text, version, &ex)?;
+    ex.given = List::new(given);
+    let (setting, _) = setting_in(alloc, text, &ex, Asked::Fitting)?;
     ex.ranges = List::new(ranges);
     ex.relax = List::new(relax);
     ex.setting = setting;
@@ -53,7 +58,7 @@ fn setting_alone(alloc: Global, ex: &Exercise, lines: &[u8]) -> Result<Score, Te
     ensures { Gives (λ x. x) result (setting_alone ex.now lines.now) }
 {
     let text = Lines::of_text(lines)?;
-    let (score, _) = sung_score(alloc, text, ex)?;
+    let (score, _) = sung_score(alloc, text, ex, Asked::Nothing)?;
     Ok(score)
 }
 

@@ -6,8 +6,10 @@ ghost use Rattle.fux_grid.specs.declared.cell.Cell.TheVariants.{Rest};
 ghost use Rattle.text_lines.specs.Faults.{Gives};
 ghost use Rattle.text_lines.specs.Lines.{lines_of};
 ghost use Rattle.text_lines.specs.Tables.{table_in};
+ghost use Rattle.fux_text.specs.Fitting.{asks};
 ghost use Rattle.fux_text.specs.Sing.{FollowsFrom, cantus_cells, column_of, score_of, setting_table, sung_table, voice_table, voices_table};
 
+use crate::fitting::Asked;
 use crate::sing::{push_item, sing_line_in};
 use fux_grid::{Cell, Column, Exercise, Score, cell_of};
 use fux_pitch::{List, Pitch};
@@ -33,15 +35,16 @@ fn voice_in<'a>(
     text: Lines<'a>,
     ex: &Exercise,
     v: u8,
+    asked: Asked,
 ) -> Result<(List<Cell>, Lines<'a>), TextFault>
     requires { 1 ≤ ex.now.bars }
-    ensures { Gives (λ x. (x.0, lines_of x.1)) result (table_in (voice_table ex.now v) (lines_of text.entry)) }
+    ensures { Gives (λ x. (x.0, lines_of x.1)) result (table_in (voice_table (asks asked ex.now) ex.now v) (lines_of text.entry)) }
 {
     if v == ex.cantus_voice {
         let cells = cantus_cells(alloc, ex.cantus.as_slice())?;
         return Ok((List::new(cells), text));
     }
-    sing_line_in(alloc, text, ex.bars, v)
+    sing_line_in(alloc, text, ex, v, asked)
 }
 
 /// The cells of each voice, from the lowest.
@@ -49,15 +52,16 @@ fn voices_in<'a>(
     alloc: Global,
     text: Lines<'a>,
     ex: &Exercise,
+    asked: Asked,
 ) -> Result<(Vec<List<Cell>>, Lines<'a>), TextFault>
     requires { 1 ≤ ex.now.bars }
     ensures { Gives (λ x. (x.0.items, lines_of x.1)) result
-        (table_in (voices_table ex.now (range_with_len 0 ex.now.voices) []) (lines_of text.entry)) }
+        (table_in (voices_table (asks asked ex.now) ex.now (range_with_len 0 ex.now.voices) []) (lines_of text.entry)) }
 {
     let mut lines = Vec::new(alloc);
     let mut rest = text;
     for v in 0..ex.voices {
-        let (cells, behind) = voice_in(alloc, rest, ex, v)?;
+        let (cells, behind) = voice_in(alloc, rest, ex, v, asked)?;
         lines.push(cells)?;
         rest = behind;
     }
@@ -98,14 +102,15 @@ pub fn sung_score<'a>(
     alloc: Global,
     text: Lines<'a>,
     ex: &Exercise,
+    asked: Asked,
 ) -> Result<(Score, Lines<'a>), TextFault>
     requires least { 2 ≤ ex.now.voices }
     requires most { ex.now.voices ≤ 4 }
     requires some { 1 ≤ ex.now.bars }
     requires bars { ex.now.bars ≤ 24 }
-    ensures { Gives (λ x. (x.0, lines_of x.1)) result (table_in (sung_table ex.now) (lines_of text.entry)) }
+    ensures { Gives (λ x. (x.0, lines_of x.1)) result (table_in (sung_table (asks asked ex.now) ex.now) (lines_of text.entry)) }
 {
-    let (lines, text) = voices_in(alloc, text, ex)?;
+    let (lines, text) = voices_in(alloc, text, ex, asked)?;
     text.done()?;
     let score = score_of(alloc, &lines, ex.bars)?;
     Ok((score, text))
@@ -117,17 +122,18 @@ pub fn setting_in<'a>(
     alloc: Global,
     text: Lines<'a>,
     ex: &Exercise,
+    asked: Asked,
 ) -> Result<(Option<Score>, Lines<'a>), TextFault>
     requires least { 2 ≤ ex.now.voices }
     requires most { ex.now.voices ≤ 4 }
     requires some { 1 ≤ ex.now.bars }
     requires bars { ex.now.bars ≤ 24 }
-    ensures { Gives (λ x. (x.0, lines_of x.1)) result (table_in (setting_table ex.now) (lines_of text.entry)) }
+    ensures { Gives (λ x. (x.0, lines_of x.1)) result (table_in (setting_table (asks asked ex.now) ex.now) (lines_of text.entry)) }
 {
     if !text.begins(b"sing") {
         text.done()?;
         return Ok((None, text));
     }
-    let (score, text) = sung_score(alloc, text, ex)?;
+    let (score, text) = sung_score(alloc, text, ex, asked)?;
     Ok((Some(score), text))
 }

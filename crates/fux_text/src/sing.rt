@@ -9,14 +9,16 @@ ghost use Rattle.text_lines.specs.Lines.{lines_of};
 ghost use Rattle.text_lines.specs.Rows.{Row, row_in, told_at};
 ghost use Rattle.text_lines.specs.Tables.{line_in};
 ghost use Rattle.text_lines.specs.Words.{word_of, words_of};
+ghost use Rattle.fux_text.specs.Fitting.{asks};
 ghost use Rattle.fux_text.specs.Sing.{bar_line_said, ended, first_cell, held, is_colon, is_full, item_cells, item_named, item_parts, item_said, latest, sing_row, sung_end, sung_run, sung_word};
 
+use crate::fitting::{Asked, asks};
 use crate::item_words::ItemName;
 use crate::names::parse_pitch;
 use fux_grid::{Cell, Exercise};
 use fux_pitch::{List, Pitch};
 use std::alloc::{AllocError, Global};
-use text_lines::{Lines, TextFault, TextKind, Word, Words, is_same, parse_number};
+use text_lines::{Lines, TextFault, TextKind, Word, Words, is_same, parse_number, parse_within};
 
 /// The place of the first colon.
 fn colon_in(text: &[u8]) -> Option<usize>
@@ -28,7 +30,7 @@ fn colon_in(text: &[u8]) -> Option<usize>
 
 /// What stands before the colon of an item, and the number behind it.
 #[tactic(auto, unfolding(crate::specs::Sing::item_parts))]
-fn item_parts(text: &[u8]) -> Option<(&[u8], u32)>
+pub fn item_parts(text: &[u8]) -> Option<(&[u8], u32)>
     ensures { option_map (λ x. (x.0.now, x.1)) result ≡ item_parts text.now }
 {
     let Some(colon) = colon_in(text) else {
@@ -42,7 +44,7 @@ fn item_parts(text: &[u8]) -> Option<(&[u8], u32)>
 
 /// What an item is called.
 #[tactic(auto, unfolding(crate::specs::Sing::item_named))]
-fn item_named(name: &[u8]) -> Option<ItemName>
+pub fn item_named(name: &[u8]) -> Option<ItemName>
     ensures { result ≡ item_named name.now }
 {
     if is_same(name, b"r") {
@@ -202,20 +204,44 @@ fn sung_in(alloc: Global, words: Words<'_>, bars: u8) -> Result<Vec<Cell>, TextF
     }
 }
 
+/// Reads the voice and the items of a `sing` line: its cells.
+#[tactic(auto, unfolding(text_lines::specs::Rows::row_in))]
+fn voice_sung(
+    alloc: Global,
+    words: Words<'_>,
+    ex: &Exercise,
+    v: u8,
+    asked: Asked,
+) -> Result<Vec<Cell>, TextFault>
+    requires { 1 ≤ ex.now.bars }
+    ensures { Gives (λ x. x.items) result
+        (row_in (sing_row (asks asked ex.now v) ex.now.bars v) (words_of words.entry)) }
+{
+    let (word, words) = words.next(TextKind::Sing)?;
+    if parse_within(word.text, v.into(), v.into()).is_none() {
+        return Err(word.fault(TextKind::Sing));
+    }
+    let cells = sung_in(alloc, words, ex.bars)?;
+    if !asks(asked, ex, v, &cells) {
+        return Err(word.fault(TextKind::Given));
+    }
+    Ok(cells)
+}
+
 /// Reads the `sing` line of a voice: its cells.
-#[tactic(auto, unfolding(text_lines::specs::Tables::line_in, text_lines::specs::Rows::row_in, text_lines::specs::Reading::number_in))]
+#[tactic(auto, unfolding(text_lines::specs::Tables::line_in))]
 pub fn sing_line_in<'a>(
     alloc: Global,
     text: Lines<'a>,
-    bars: u8,
+    ex: &Exercise,
     v: u8,
+    asked: Asked,
 ) -> Result<(List<Cell>, Lines<'a>), TextFault>
-    requires { 1 ≤ bars }
+    requires { 1 ≤ ex.now.bars }
     ensures { Gives (λ x. (x.0, lines_of x.1)) result
-        (line_in Sing (codes "sing") (sing_row bars v) (lines_of text.entry)) }
+        (line_in Sing (codes "sing") (sing_row (asks asked ex.now v) ex.now.bars v) (lines_of text.entry)) }
 {
     let (words, text) = text.headed(TextKind::Sing, b"sing")?;
-    let (_, words) = words.small_number(TextKind::Sing, v, v)?;
-    let cells = sung_in(alloc, words, bars)?;
+    let cells = voice_sung(alloc, words, ex, v, asked)?;
     Ok((List::new(cells), text))
 }

@@ -1,27 +1,39 @@
 //! The lines of a setting.
 
-ghost use Rattle.std.specs.Prelude.{◌≡◌, ◌<◌, ◌≤◌, ◌*◌, ◌%◌, ◌++◌, OnOk, string_bytes, length};
+ghost use Rattle.std.specs.Prelude.{◌≡◌, ◌<◌, ◌≤◌, ◌*◌, ◌%◌, ◌++◌, OnOk, string_bytes, length, map};
 ghost use Rattle.fux_grid.specs.Columns.{line};
 ghost use Rattle.fux_grid.specs.Letters.{bar_columns};
+ghost use Rattle.fux_text.specs.GivenItems.{given_of};
 ghost use Rattle.fux_text.specs.Lines.{bar_words, later_bars_text, sing_text};
 ghost use Rattle.fux_text.specs.Words.{spaced};
 
 use crate::items::put_items;
 use arrayvec::ArrayVec;
-use fux_grid::{Cell, Score};
+use fux_grid::{Cell, Given, Score};
 use fux_pitch::Memory;
 use std::fmt::Write;
 
-/// The cells of a voice in a bar, counted from 1.
-fn bar_cells(score: &Score, v: u8, bar: usize) -> ArrayVec<Cell, 8>
+/// A cell, as it is given.
+fn given_of(cell: Cell) -> Given
+    ensures { result ≡ given_of cell }
+{
+    match cell {
+        Cell::Rest => Given::Rest,
+        Cell::Hold(pitch) => Given::Hold(pitch),
+        Cell::Start(pitch) => Given::Start(pitch),
+    }
+}
+
+/// The cells of a voice in a bar, counted from 1, as they are given.
+fn bar_cells(score: &Score, v: u8, bar: usize) -> ArrayVec<Given, 8>
     requires first { 1 ≤ bar }
     requires whole { 8 * bar ≤ length score.now.columns }
-    ensures { result.items ≡ line v (bar_columns score.now.columns bar) }
+    ensures { result.items ≡ map given_of (line v (bar_columns score.now.columns bar)) }
 {
     let _ = score.len();
     let mut cells = ArrayVec::new();
     for slot in 0..8 {
-        cells.push(score.cell(v as usize, 8 * (bar - 1) + slot));
+        cells.push(given_of(score.cell(v as usize, 8 * (bar - 1) + slot)));
     }
     cells
 }

@@ -23,6 +23,7 @@ fn kind_name(kind: TextKind) -> &'static str {
         TextKind::Cantus => "cantus",
         TextKind::Tie => "tie",
         TextKind::Sing => "sing",
+        TextKind::Given => "given",
     }
 }
 

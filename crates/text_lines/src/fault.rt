@@ -33,6 +33,8 @@ pub enum TextKind {
     Tie,
     /// A `sing` line is of another voice, or is missing.
     Sing,
+    /// A voice doesn't have what the exercise gives.
+    Given,
 }
 
 /// Why a text is not read.
