@@ -2,6 +2,52 @@
 //! two cases stands a byte 0.
 
 pub const CASES: &[u8] = b"\
+    word 1 5\x01fux 3\nmode dorian\nvoices 2\nbars 3\nspecies 1 voice 1\ncantus 0 D4 E4 D4\nrange 1 A4 D5\n\x00\
+    word 1 5\x01fux 02\nmode dorian\nvoices 2\nbars 3\nspecies 1 voice 1\ncantus 0 D4 E4 D4\nrange 1 A4 D5\n\x00\
+    head 8 1\x01fux 1\nmode dorian\nvoices 2\nbars 3\nspecies 1 voice 1\ncantus 0 D4 E4 D4\nrange 1 A4 D5\ngiven 1 1 A4:8\n\x00\
+    ok\x01fux 2\nmode dorian\nvoices 2\nbars 3\nspecies 1 voice 1\ncantus 0 D4 E4 D4\nrange 1 A4 D5\ngiven 1 1 A4:8\n\x00\
+    word 8 7\x01fux 2\nmode dorian\nvoices 2\nbars 3\nspecies 1 voice 1\ncantus 0 D4 E4 D4\nrange 1 A4 D5\ngiven 0 1 A4:8\n\x00\
+    word 8 7\x01fux 2\nmode dorian\nvoices 2\nbars 3\nspecies 1 voice 1\ncantus 0 D4 E4 D4\nrange 1 A4 D5\ngiven 2 1 A4:8\n\x00\
+    word 8 9\x01fux 2\nmode dorian\nvoices 2\nbars 3\nspecies 1 voice 1\ncantus 0 D4 E4 D4\nrange 1 A4 D5\ngiven 1 4 A4:8\n\x00\
+    word 8 9\x01fux 2\nmode dorian\nvoices 2\nbars 3\nspecies 1 voice 1\ncantus 0 D4 E4 D4\nrange 1 A4 D5\ngiven 1 0 A4:8\n\x00\
+    word 9 9\x01fux 2\nmode dorian\nvoices 2\nbars 3\nspecies 1 voice 1\ncantus 0 D4 E4 D4\nrange 1 A4 D5\ngiven 1 2 A4:8\ngiven 1 2 A4:8\n\x00\
+    word 9 9\x01fux 2\nmode dorian\nvoices 2\nbars 3\nspecies 1 voice 1\ncantus 0 D4 E4 D4\nrange 1 A4 D5\ngiven 1 2 A4:8\ngiven 1 1 A4:8\n\x00\
+    word 10 9\x01fux 2\nmode dorian\nvoices 3\nbars 3\nspecies 1 voice 1\ncantus 0 D4 E4 D4\nrange 1 A4 D5\nrange 2 A4 D5\ngiven 2 1 A4:8\ngiven 1 2 A4:8\n\x00\
+    ok\x01fux 2\nmode dorian\nvoices 3\nbars 3\nspecies 1 voice 1\ncantus 0 D4 E4 D4\nrange 1 A4 D5\nrange 2 A4 D5\ngiven 1 3 A4:8\ngiven 2 1 A4:8\n\x00\
+    tie 8 16\x01fux 2\nmode dorian\nvoices 2\nbars 3\nspecies 1 voice 1\ncantus 0 D4 E4 D4\nrange 1 A4 D5\ngiven 1 1 A4:4 _:4\n\x00\
+    tie 8 15\x01fux 2\nmode dorian\nvoices 2\nbars 3\nspecies 1 voice 1\ncantus 0 D4 E4 D4\nrange 1 A4 D5\ngiven 1 1 _:4 _:4\n\x00\
+    ok\x01fux 2\nmode dorian\nvoices 2\nbars 3\nspecies 1 voice 1\ncantus 0 D4 E4 D4\nrange 1 A4 D5\ngiven 1 1 _:8\n\x00\
+    barline 8 16\x01fux 2\nmode dorian\nvoices 2\nbars 3\nspecies 1 voice 1\ncantus 0 D4 E4 D4\nrange 1 A4 D5\ngiven 1 1 A4:4 | A4:4\n\x00\
+    barline 8 11\x01fux 2\nmode dorian\nvoices 2\nbars 3\nspecies 1 voice 1\ncantus 0 D4 E4 D4\nrange 1 A4 D5\ngiven 1 1 | A4:8\n\x00\
+    length 8 15\x01fux 2\nmode dorian\nvoices 2\nbars 3\nspecies 1 voice 1\ncantus 0 D4 E4 D4\nrange 1 A4 D5\ngiven 1 1 A4:4\n\x00\
+    length 8 16\x01fux 2\nmode dorian\nvoices 2\nbars 3\nspecies 1 voice 1\ncantus 0 D4 E4 D4\nrange 1 A4 D5\ngiven 1 1 A4:4 \n\x00\
+    length 8 15\x01fux 2\nmode dorian\nvoices 2\nbars 3\nspecies 1 voice 1\ncantus 0 D4 E4 D4\nrange 1 A4 D5\ngiven 1 1 A4:4\r\n\x00\
+    length 8 20\x01fux 2\nmode dorian\nvoices 2\nbars 3\nspecies 1 voice 1\ncantus 0 D4 E4 D4\nrange 1 A4 D5\ngiven 1 1 A4:4 A4:8\n\x00\
+    length 8 10\x01fux 2\nmode dorian\nvoices 2\nbars 3\nspecies 1 voice 1\ncantus 0 D4 E4 D4\nrange 1 A4 D5\ngiven 1 1\x00\
+    word 8 8\x01fux 2\nmode dorian\nvoices 2\nbars 3\nspecies 1 voice 1\ncantus 0 D4 E4 D4\nrange 1 A4 D5\ngiven 1 \n\x00\
+    word 8 6\x01fux 2\nmode dorian\nvoices 2\nbars 3\nspecies 1 voice 1\ncantus 0 D4 E4 D4\nrange 1 A4 D5\ngiven\n\x00\
+    length 8 11\x01fux 2\nmode dorian\nvoices 2\nbars 3\nspecies 1 voice 1\ncantus 0 D4 E4 D4\nrange 1 A4 D5\ngiven 1 1 ?:9\n\x00\
+    word 8 11\x01fux 2\nmode dorian\nvoices 2\nbars 3\nspecies 1 voice 1\ncantus 0 D4 E4 D4\nrange 1 A4 D5\ngiven 1 1 ?\n\x00\
+    pitch 8 11\x01fux 2\nmode dorian\nvoices 2\nbars 3\nspecies 1 voice 1\ncantus 0 D4 E4 D4\nrange 1 A4 D5\ngiven 1 1 x:4 ?:4\n\x00\
+    pitch 8 11\x01fux 2\nmode dorian\nvoices 2\nbars 3\nspecies 1 voice 1\ncantus 0 D4 E4 D4\nrange 1 A4 D5\ngiven 1 1 H4:9\n\x00\
+    ok\x01fux 2\nmode dorian\nvoices 2\nbars 3\nspecies 1 voice 1\ncantus 0 D4 E4 D4\nrange 1 A4 D5\ngiven 1 1 ?:8\n\x00\
+    ok\x01fux 2\nmode dorian\nvoices 2\nbars 3\nspecies 1 voice 1\ncantus 0 D4 E4 D4\nrange 1 A4 D5\ngiven 1 1 ?:1 r:2 A4:4 ?:1\n\x00\
+    head 9 1\x01fux 2\nmode dorian\nvoices 2\nbars 3\nspecies 1 voice 1\ncantus 0 D4 E4 D4\nrange 1 A4 D5\ngiven 1 1 A4:8\nrelax S4 all 1 3 0\n\x00\
+    ok\x01fux 2\nmode dorian\nvoices 2\nbars 3\nspecies 1 voice 1\ncantus 0 D4 E4 D4\nrange 1 A4 D5\nrelax S4 all 1 3 0\ngiven 1 1 A4:8\n\x00\
+    head 9 1\x01fux 2\nmode dorian\nvoices 2\nbars 3\nspecies 1 voice 1\ncantus 0 D4 E4 D4\nrange 1 A4 D5\ngiven 1 1 A4:8\nrange 1 A4 D5 2 2\n\x00\
+    given 9 6\x01fux 2\nmode dorian\nvoices 2\nbars 3\nspecies 1 voice 1\ncantus 0 D4 E4 D4\nrange 1 A4 D5\ngiven 1 2 D5:8\nsing 1 D5:8 | C5:8 | D5:8\n\x00\
+    ok\x01fux 2\nmode dorian\nvoices 2\nbars 3\nspecies 1 voice 1\ncantus 0 D4 E4 D4\nrange 1 A4 D5\ngiven 1 2 C5:8\nsing 1 D5:8 | C5:8 | D5:8\n\x00\
+    pitch 8 8\x01fux 2\nmode dorian\nvoices 2\nbars 3\nspecies 1 voice 1\ncantus 0 D4 E4 D4\nrange 1 A4 D5\nsing 1 ?:8 | C5:8 | D5:8\n\x00\
+    ok\x01fux 2\nmode dorian\nvoices 2\nbars 3\nspecies 1 voice 1\ncantus 0 D4 E4 D4\nrange 1 A4 D5\ngiven 1 2 _:8\nsing 1 D5:8 | _:8 | D5:8\n\x00\
+    given 9 6\x01fux 2\nmode dorian\nvoices 2\nbars 3\nspecies 1 voice 1\ncantus 0 D4 E4 D4\nrange 1 A4 D5\ngiven 1 2 _:8\nsing 1 D5:8 | D5:8 | D5:8\n\x00\
+    ok\x01fux 2\nmode dorian\nvoices 2\nbars 3\nspecies 1 voice 1\ncantus 0 D4 E4 D4\nrange 1 A4 D5\ngiven 1 1 D5:4 ?:4\nsing 1 D5:8 | C5:8 | D5:8\n\x00\
+    given 9 6\x01fux 2\nmode dorian\nvoices 2\nbars 3\nspecies 1 voice 1\ncantus 0 D4 E4 D4\nrange 1 A4 D5\ngiven 1 1 D5:4 ?:4\nsing 1 D5:2 D5:6 | C5:8 | D5:8\n\x00\
+    given 9 6\x01fux 2\nmode dorian\nvoices 2\nbars 3\nspecies 1 voice 1\ncantus 0 D4 E4 D4\nrange 1 A4 D5\ngiven 1 1 D5:4 D5:4\nsing 1 D5:8 | C5:8 | D5:8\n\x00\
+    ok\x01fux 2\nmode dorian\nvoices 2\nbars 3\nspecies 1 voice 1\ncantus 0 D4 E4 D4\nrange 1 A4 D5\ngiven 1 1 r:4 ?:4\nsing 1 r:4 D5:4 | C5:8 | D5:8\n\x00\
+    given 9 6\x01fux 2\nmode dorian\nvoices 2\nbars 3\nspecies 1 voice 1\ncantus 0 D4 E4 D4\nrange 1 A4 D5\ngiven 1 1 ?:4 r:4\nsing 1 r:4 D5:4 | C5:8 | D5:8\n\x00\
+    given 11 6\x01fux 2\nmode dorian\nvoices 3\nbars 3\nspecies 1 voice 1\ncantus 0 D4 E4 D4\nrange 1 A4 D5\nrange 2 A4 D5\ngiven 2 3 D5:8\nsing 1 D5:8 | C5:8 | D5:8\nsing 2 D5:8 | C5:8 | C5:8\n\x00\
+    given 10 6\x01fux 2\nmode dorian\nvoices 3\nbars 3\nspecies 1 voice 1\ncantus 0 D4 E4 D4\nrange 1 A4 D5\nrange 2 A4 D5\ngiven 1 3 C5:8\nsing 1 D5:8 | C5:8 | D5:8\nsing 2 D5:8 | C5:x | C5:8\n\x00\
+    sing 12 1\x01fux 2\nmode dorian\nvoices 3\nbars 3\nspecies 1 voice 1\ncantus 0 D4 E4 D4\nrange 1 A4 D5\nrange 2 A4 D5\ngiven 1 3 D5:8\n; x\nsing 1 D5:8 | C5:8 | D5:8\n\x00\
     head 3 1\x01fux 1\nmode phrygian\nbars 3\nspecies 1 voice 0\ncantus 1 E3 F3 E3\nrange 0 D2 F2\nrange 0 F2 G2 2 3\nsing 0 E2:4 E2:4 | _:8 | F2:3 F2:5\n\x00\
     ok\x01\tfux 1\nmode dorian\nvoices  2\nbars  3  \nspecies \t1 voice\t0\ncantus\t1 \tD5  E5 D5\r\nrange 0 \tA3  F4\nrange 0  F3  D4 \t3  3 \r\nsing 0\tD4:8 | C4:8 \t| D4:8 \r\n\x00\
     head 1 1\x01sing 1 D4:8 | D4:8 | D4:8\nfux 1\nmode phrygian\nvoices 2\nbars 3\nspecies 1 voice 0\ncantus 1 E2 F2 E2\n0 range B#1 Fb2\nsing 0 D5:1 G5:4 Ab5:3 | _:3 r:3 r:1 C3:1 | _:2 E2:4 r:1 A2:1\n\x00\
@@ -93,7 +139,7 @@ pub const CASES: &[u8] = b"\
     ok\x01fux 1\nmode dorian\nvoices 2\nbars 3\nspecies 2 voice 1\ncantus 0 D4 E4 D4\nrange 1 A4 D5\n\x00\
     ok\x01fux\t1\r\nmode\tdorian\r\nvoices\t2\r\nbars\t3\r\nspecies\t1\tvoice\t1\r\ncantus\t0\tD4\tE4\tD4\r\nrange\t1\tA4\tD5\r\n; comment\n\x00\
     head 1 1\x01\xef\xbb\xbffux 1\nmode dorian\nvoices 2\nbars 3\nspecies 1 voice 1\ncantus 0 D4 E4 D4\nrange 1 A4 D5\n\x00\
-    word 1 5\x01fux 2\nmode dorian\nvoices 2\nbars 3\nspecies 1 voice 1\ncantus 0 D4 E4 D4\nrange 1 A4 D5\n\x00\
+    ok\x01fux 2\nmode dorian\nvoices 2\nbars 3\nspecies 1 voice 1\ncantus 0 D4 E4 D4\nrange 1 A4 D5\n\x00\
     word 1 7\x01fux 1 x\nmode dorian\nvoices 2\nbars 3\nspecies 1 voice 1\ncantus 0 D4 E4 D4\nrange 1 A4 D5\n\x00\
     word 1 4\x01fux\nmode dorian\nvoices 2\nbars 3\nspecies 1 voice 1\ncantus 0 D4 E4 D4\nrange 1 A4 D5\n\x00\
     word 2 6\x01fux 1\nmode Dorian\nvoices 2\nbars 3\nspecies 1 voice 1\ncantus 0 D4 E4 D4\nrange 1 A4 D5\n\x00\

@@ -60,7 +60,7 @@ fn reads_each_case(rt: HostRuntime) -> Result<(), Fail> {
         );
         count = count.saturating_add(1);
     }
-    assert!(rt; count == 197);
+    assert!(rt; count == 243);
     Ok(())
 }
 

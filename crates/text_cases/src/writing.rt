@@ -181,3 +181,22 @@ fn reads_back_what_is_written(rt: HostRuntime) -> Result<(), Fail> {
     assert!(rt; columns_sung(rt.alloc(), &ex, score)? == 24);
     Ok(())
 }
+
+const HOLES: &str =
+    "fux 2\nmode dorian\nvoices 2\nbars 3\nspecies 1 voice 0\ncantus 1 D4 E4 D4\nrange 0 A2 D4\n\
+    given 0 1 r:4 D3:4\ngiven 0 2 _:4 ?:4\ngiven 0 3 ?:2 A3:6\nsing 0 r:4 D3:4 | _:4 Bb3:4 | _:2 A3:6\n";
+
+/// The same, with more items than it needs.
+const LOOSE_HOLES: &str =
+    "fux 2\nmode dorian\nvoices 2\nbars 3\nspecies 1 voice 0\ncantus 1 D4 E4 D4\nrange 0 A2 D4\n\
+    given 0 1 r:1 r:3 D3:4\ngiven 0 2 _:4 ?:1 ?:3\ngiven  0 3 ?:1 ?:1 A3:6\n\
+    sing 0 r:3 r:1 D3:4 | _:4 Bb3:4 | _:2 A3:6\n";
+
+#[test]
+fn writes_what_is_given(rt: HostRuntime) -> Result<(), Fail> {
+    let ex = exercise_of(rt.alloc(), LOOSE_HOLES)?;
+    let score = ex.setting.as_ref().ok_or("no setting")?;
+    let again = written_with(rt.alloc(), &ex, score)?;
+    agree(&rt, "given notes", again.as_str(), HOLES);
+    Ok(())
+}
