@@ -39,12 +39,13 @@ pub record IsOn (files : Files) (name : List ℕ) (start : Checking) (reader : R
     pub taken : IsTaken start.exercise start.sheet start.head checker.count checker.owed now
     pub same : checker ≡ record start { owed = checker.owed; count = checker.count }
     pub clear : start.refusal ≡ None
+    pub unstated : start.stated ≡ None
 
 module _ (ex : Exercise) (sheet : Sheet) (head : CertHead) where
   -- one more true claim
   leaves_more : (owed : List (List (List Cell))) (claims : List Claim) (p : List (List Cell))
       (later : List (List (List Cell))) (claim : Claim)
-      → Leaves ex sheet head owed claims (p ∷ later) → IsTrueOf ex sheet head p claim
+      → Leaves ex sheet head owed claims (p ∷ later) → IsTrueOf ex sheet head None p claim
       → Leaves ex sheet head owed (claims ++ claim ∷ []) (owed_by ex p claim ++ later)
   leaves_more owed [] p later claim left holds =
       subst (λ (ps : List (List (List Cell))). Leaves ex sheet head ps (claim ∷ []) (owed_by ex p claim ++ later))
@@ -55,14 +56,14 @@ module _ (ex : Exercise) (sheet : Sheet) (head : CertHead) where
 
   -- claims that leave none are certified
   pub leaves_none : (owed : List (List (List Cell))) (claims : List Claim) → Leaves ex sheet head owed claims []
-      → IsCertified ex sheet head owed claims
+      → IsCertified ex sheet head None owed claims
   leaves_none [] [] left = tt
   leaves_none (p ∷ owed) [] left = cc
   leaves_none [] (claim ∷ claims) left = left
   leaves_none (p ∷ owed) (claim ∷ claims) left = (left.0, leaves_none (owed_by ex p claim ++ owed) claims left.1)
 
   pub taken_more : (count : ℕ) (p : List (List Cell)) (later : List (List (List Cell))) (bytes : List ℕ) (claim : Claim)
-      → IsTaken ex sheet head count (p ∷ later) bytes → IsClaim claim → IsTrueOf ex sheet head p claim
+      → IsTaken ex sheet head count (p ∷ later) bytes → IsClaim claim → IsTrueOf ex sheet head None p claim
       → IsTaken ex sheet head (count + 1) (owed_by ex p claim ++ later) (bytes ++ claim_line claim)
   taken_more count p later bytes claim taken fits holds = record {
     sound = taken.sound;
@@ -120,6 +121,7 @@ module _ (files : Files) (name : List ℕ) (start : Checking) where
     };
     same = refl;
     clear = fresh.clear;
+    unstated = fresh.stated;
   }
 
   module _ (reader : Reading) (checker : Checking) (on : IsOn files name start reader checker) where
@@ -172,9 +174,11 @@ module _ (files : Files) (name : List ℕ) (start : Checking) where
                   (λ (c : Checking). IsTaken start.exercise start.sheet start.head c.count c.owed
                   (on.now ++ claim_line claim))
                   (sym it.1) (taken_more start.exercise start.sheet start.head checker.count p later on.now claim taken
-                  fits it.0);
+                  fits (subst (λ stated. IsTrueOf start.exercise start.sheet start.head stated p claim) on.unstated
+                  it.0));
               same = subst (λ (c : Checking). c ≡ record start { owed = c.owed; count = c.count }) (sym it.1) refl;
               clear = on.clear;
+              unstated = on.unstated;
             }
 
     pub refuses_next : (claim : Claim) (refused : Refused) (new : Checking) (after : Reading) → IsClaim claim
@@ -219,7 +223,8 @@ module _ (files : Files) (name : List ℕ) (start : Checking) where
                 claim = claim;
                 fits = fits;
                 begins = line;
-                untrue = it.0;
+                untrue = subst (λ stated. IsTrueOf start.exercise start.sheet start.head stated p claim → ⊥)
+                    on.unstated it.0;
               };
         }
 
@@ -259,6 +264,7 @@ module _ (files : Files) (name : List ℕ) (start : Checking) where
                   short = omega (arith, limit, on.at.offset);
                   valid = record {
                     sound = taken.sound;
+                    entries = tt;
                     certified = leaves_none start.exercise start.sheet start.head ([] ∷ []) taken.claims taken.left;
                   };
                 },

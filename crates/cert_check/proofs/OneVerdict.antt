@@ -1,6 +1,6 @@
 -- Bytes have one verdict (`one_verdict`): at most one head stands at their front, the lines of claims behind it read one way only, and the
 -- first thing that is wrong is one. So the text of a valid certificate is accepted (`accepted_answer`, `finds_accepted`).
-use Rattle.std.proofs.Common.{◌≡◌, ◌≢◌, ℕ, ◌+◌, ◌<◌, ◌≤◌, Bool, true, false, nat_lt, List, [], ◌∷◌, ◌++◌, Result, Ok, Err, length, take, drop, inl, inr, refl, sym, ap, subst, ◌∙◌, arith, append_assoc, append-nil, length-append}
+use Rattle.std.proofs.Common.{◌≡◌, ◌≢◌, ℕ, ◌+◌, ◌<◌, ◌≤◌, Bool, true, false, nat_lt, List, [], ◌∷◌, ◌++◌, None, Result, Ok, Err, length, take, drop, inl, inr, refl, sym, ap, subst, ◌∙◌, arith, append_assoc, append-nil, length-append}
 use Rattle.std.specs.Prelude.{IfOk, ⊤}
 use Rattle.std.proofs.lemmas.Bool.Decides.{nat_tests}
 use Rattle.std.proofs.lemmas.List.{append_cancel_left, take_all, take-append-drop}
@@ -95,7 +95,7 @@ module _ (ex : Exercise) (sheet : Sheet) (head : CertHead) (more : Bool) where
   -- a claim that is owed is false
   abbrev IsUntrue : Line → List (List (List Cell)) → Type 0
   IsUntrue (Next claim) [] = ⊤
-  IsUntrue (Next claim) (p ∷ owed) = IsTrueOf ex sheet head p claim → ⊥
+  IsUntrue (Next claim) (p ∷ owed) = IsTrueOf ex sheet head None p claim → ⊥
   IsUntrue Wrong owed = ⊤
   IsUntrue Unended owed = ⊤
 
@@ -108,7 +108,7 @@ module _ (ex : Exercise) (sheet : Sheet) (head : CertHead) (more : Bool) where
   -- a true claim of this prefix stands first, and this holds of what is behind it
   record Goes (claim : Claim) (p : List (List Cell)) (rest : List ℕ) (Later : List ℕ → Type 0) : Type 0 where
     pub fits : IsClaim claim
-    pub holds : IsTrueOf ex sheet head p claim
+    pub holds : IsTrueOf ex sheet head None p claim
     pub later : List ℕ
     pub is : rest ≡ claim_line claim ++ later
     pub on : Later later
@@ -219,7 +219,7 @@ module _ (ex : Exercise) (sheet : Sheet) (bytes : List ℕ) where
     told_at_end owed count place rest short =
         ap (λ more. told_of head more Unended owed count place rest) (within short).1
 
-    leaves_none : (owed : List (List (List Cell))) (claims : List Claim) → IsCertified ex sheet head owed claims
+    leaves_none : (owed : List (List (List Cell))) (claims : List Claim) → IsCertified ex sheet head None owed claims
         → Leaves ex sheet head owed claims []
     leaves_none [] [] certified = refl
     leaves_none (p ∷ owed) [] certified = absurd certified

@@ -1,9 +1,11 @@
 -- Claims that were fed to a checker are a certificate with its head just where in the end none was refused and no prefix is owed
 -- (`are_certificate`, `are_no_certificate`).
 use Rattle.std.proofs.Common.{◌≡◌, ◌⊎◌, inl, inr, ◌+◌, ◌++◌, List, [], ◌∷◌, Some, None, refl, ap, sym, ◌∙◌, subst}
+use Rattle.std.specs.Prelude.{IfSome}
 use Rattle.cert_check.specs.Checking.{Checking, IsFault, Refuses, Takes, TakesOf}
 use Rattle.cert_check.specs.Runs.{AreFed, opened_for}
 use Rattle.cert_law.specs.Certificates.{IsCertificate, IsCertified, IsHeadSound, owed_by}
+use Rattle.cert_law.specs.Entries.{AreTrueEntries}
 use Rattle.cert_text.specs.declared.answers.Refused.{Refused}
 use Rattle.cert_text.specs.declared.claim.Claim.{Claim}
 use Rattle.fux_grid.specs.declared.cell.Cell.{Cell}
@@ -32,7 +34,7 @@ refused_not_done old next new claim claims refused is are done =
 
 -- claims of the prefixes that are owed
 abbrev Certified : Checking → List (List (List Cell)) → List Claim → Type 0
-Certified s owed claims = IsCertified s.exercise s.sheet s.head owed claims
+Certified s owed claims = IsCertified s.exercise s.sheet s.head s.stated owed claims
 
 -- what is known of a checker whose claim was taken
 taken_certified : (old next : Checking) (p : List (List Cell)) (owed : List (List (List Cell))) (claim : Claim)
@@ -90,21 +92,23 @@ run_done (claim ∷ claims) old new unrefused are = at old.owed refl (are.1.judg
 
 -- the same of a checker, by what it holds
 module _ (s inside : Checking) (same : inside ≡ s) where
-  pub are_certificate : IsHeadSound inside.exercise inside.sheet inside.head → inside.refusal ≡ None → inside.owed ≡ []
-      → (claims : List Claim) → AreFed (opened_for s.exercise s.sheet s.head) claims s
-      → IsCertificate s.exercise s.sheet s.head claims
-  are_certificate sound unrefused none claims are = record {
+  pub are_certificate : IsHeadSound inside.exercise inside.sheet inside.head
+      → IfSome inside.stated (AreTrueEntries inside.exercise inside.sheet) → inside.refusal ≡ None → inside.owed ≡ []
+      → (claims : List Claim) → AreFed (opened_for s.exercise s.sheet s.head s.stated) claims s
+      → IsCertificate s.exercise s.sheet s.head s.stated claims
+  are_certificate sound entries unrefused none claims are = record {
     sound = subst (λ (c : Checking). IsHeadSound c.exercise c.sheet c.head) same sound;
+    entries = subst (λ (c : Checking). IfSome c.stated (AreTrueEntries c.exercise c.sheet)) same entries;
     certified =
-        (run_done claims (opened_for s.exercise s.sheet s.head) s refl are).0 record {
+        (run_done claims (opened_for s.exercise s.sheet s.head s.stated) s refl are).0 record {
           unrefused = sym (ap (λ (c : Checking). c.refusal) same) ∙ unrefused;
           none = sym (ap (λ (c : Checking). c.owed) same) ∙ none;
         };
   }
 
   pub are_no_certificate : (inside.refusal ≡ None → inside.owed ≡ [] → ⊥)
-      → (claims : List Claim) → AreFed (opened_for s.exercise s.sheet s.head) claims s
-      → IsCertificate s.exercise s.sheet s.head claims → ⊥
+      → (claims : List Claim) → AreFed (opened_for s.exercise s.sheet s.head s.stated) claims s
+      → IsCertificate s.exercise s.sheet s.head s.stated claims → ⊥
   are_no_certificate undone claims are is =
-      let done = (run_done claims (opened_for s.exercise s.sheet s.head) s refl are).1 is.certified in
+      let done = (run_done claims (opened_for s.exercise s.sheet s.head s.stated) s refl are).1 is.certified in
       undone (ap (λ (c : Checking). c.refusal) same ∙ done.unrefused) (ap (λ (c : Checking). c.owed) same ∙ done.none)

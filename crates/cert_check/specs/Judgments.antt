@@ -34,7 +34,7 @@ pub record IsCertificateText (ex : Exercise) (sheet : Sheet) (head : CertHead) (
   pub claims : List Claim
   pub text : IsTextOf ex head claims bytes
   pub short : length bytes ≤ longest_certificate
-  pub valid : IsCertificate ex sheet head claims
+  pub valid : IsCertificate ex sheet head None claims
 
 -- each of the claims is true of the prefix that is owed next, and they leave these owed
 abbrev pub Leaves : Exercise → Sheet → CertHead → List (List (List Cell)) → List Claim → List (List (List Cell))
@@ -42,7 +42,7 @@ abbrev pub Leaves : Exercise → Sheet → CertHead → List (List (List Cell)) 
 Leaves ex sheet head owed [] left = owed ≡ left
 Leaves ex sheet head [] (claim ∷ claims) left = ⊥
 Leaves ex sheet head (p ∷ owed) (claim ∷ claims) left =
-    IsTrueOf ex sheet head p claim × Leaves ex sheet head (owed_by ex p claim ++ owed) claims left
+    IsTrueOf ex sheet head None p claim × Leaves ex sheet head (owed_by ex p claim ++ owed) claims left
 
 -- the bytes are the text of the head, which is sound, and of so many claims, each true, that leave these prefixes owed
 pub record IsTaken (ex : Exercise) (sheet : Sheet) (head : CertHead) (count : ℕ) (owed : List (List (List Cell)))
@@ -72,7 +72,7 @@ pub record HasFalse (ex : Exercise) (sheet : Sheet) (head : CertHead) (number : 
   pub claim : Claim
   pub fits : IsClaim claim
   pub begins : StartsWith (judged_bytes bytes) (front ++ claim_line claim)
-  pub untrue : IsTrueOf ex sheet head next claim → ⊥
+  pub untrue : IsTrueOf ex sheet head None next claim → ⊥
 
 -- behind claims that leave nothing owed stands one more
 pub record HasOver (ex : Exercise) (sheet : Sheet) (head : CertHead) (number : ℕ) (bytes : List ℕ) : Type 0 where
@@ -132,6 +132,7 @@ AcceptsValid ex sheet head files name it =
 
 -- a checker to which no claim was fed: the empty prefix is owed
 pub record IsFresh (c : Checking) : Type 0 where
+  pub stated : c.stated ≡ None
   pub owed : c.owed ≡ [] ∷ []
   pub count : c.count ≡ 0
   pub clear : c.refusal ≡ None

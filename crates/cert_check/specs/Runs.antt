@@ -1,20 +1,22 @@
 -- Claims that are fed to a checker one after the other.
-use Rattle.std.specs.Prelude.{◌≡◌, ◌⊎◌, List, [], ◌∷◌, ◌++◌, Some, None, Ok, Err, Result, IfErr, OnOk}
+use Rattle.std.specs.Prelude.{◌≡◌, ◌⊎◌, List, [], ◌∷◌, ◌++◌, Option, Some, None, Ok, Err, Result, IfErr, OnOk}
 use Rattle.std.proofs.Common.{inl, inr, refl, subst}
 use Rattle.cert_text.specs.declared.answers.CertHead.{CertHead}
 use Rattle.cert_text.specs.declared.answers.Refused.{Refused}
 use Rattle.cert_text.specs.declared.claim.Claim.{Claim}
+use Rattle.cert_text.specs.declared.potential.Potential.{Potential}
 use Rattle.cert_check.specs.Checking.{Checking, Refuses, Takes}
 use Rattle.cert_law.specs.Certificates.{IsCertificate}
 use Rattle.fux_grid.specs.declared.exercise.Exercise.{Exercise}
 use Rattle.penalty_sheet.specs.declared.sheet.Sheet.{Sheet}
 
 -- the empty prefix alone is owed, no claim was taken, and none was refused
-abbrev pub opened_for : Exercise → Sheet → CertHead → Checking
-opened_for ex sheet head = record {
+abbrev pub opened_for : Exercise → Sheet → CertHead → Option (List Potential) → Checking
+opened_for ex sheet head stated = record {
   exercise = ex;
   sheet = sheet;
   head = head;
+  stated = stated;
   owed = [] ∷ [];
   count = 0;
   refusal = None;
@@ -30,15 +32,16 @@ abbrev pub AreFed : Checking → List Claim → Checking → Type 0
 AreFed old [] new = new ≡ old
 AreFed old (claim ∷ claims) new = (next : Checking) × IsFed old claim next × AreFed next claims new
 
--- where all claims since a checker was opened were fed to it: they are a certificate with its head
+-- where all claims since a checker was opened were fed to it: they are a certificate with its head and its
+-- entries
 abbrev pub IsFedCertificate : Checking → Type 0
-IsFedCertificate c = (claims : List Claim) → AreFed (opened_for c.exercise c.sheet c.head) claims c
-    → IsCertificate c.exercise c.sheet c.head claims
+IsFedCertificate c = (claims : List Claim) → AreFed (opened_for c.exercise c.sheet c.head c.stated) claims c
+    → IsCertificate c.exercise c.sheet c.head c.stated claims
 
 -- they are none
 abbrev pub IsFedNone : Checking → Type 0
-IsFedNone c = (claims : List Claim) → AreFed (opened_for c.exercise c.sheet c.head) claims c
-    → IsCertificate c.exercise c.sheet c.head claims → ⊥
+IsFedNone c = (claims : List Claim) → AreFed (opened_for c.exercise c.sheet c.head c.stated) claims c
+    → IsCertificate c.exercise c.sheet c.head c.stated claims → ⊥
 
 -- what `feed` answers and keeps is that
 pub fed : (old : Checking) (claim : Claim) (new : Checking) (result : Result (Unit {0}) Refused)

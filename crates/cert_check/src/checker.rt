@@ -1,10 +1,12 @@
 //! The checker of certificates.
 
-ghost use Rattle.std.specs.Prelude.{◌≡◌, ◌≢◌, ◌+◌, ◌^◌, ◌<◌, ◌≤◌, [], ◌∷◌, None, Some, Ok, Err, IfErr, IfOk, OnErr, OnOk};
+ghost use Rattle.std.specs.Prelude.{◌≡◌, ◌≢◌, ◌+◌, ◌^◌, ◌<◌, ◌≤◌, [], ◌∷◌, None, Some, Ok, Err, IfErr, IfOk, IfSome, OnErr, OnOk};
 ghost use Rattle.cert_text.specs.declared.answers.Refused.{Refused as ARefused};
 ghost use Rattle.cert_text.specs.declared.answers.Why.TheVariants as whys;
 ghost use Rattle.cert_law.specs.Certificates.{Holds, IsHeadSound, OwesRefuting};
-ghost use Rattle.cert_law.specs.Cases.{HasTables, IsCase};
+ghost use Rattle.cert_law.specs.Bases.{HasTails};
+ghost use Rattle.cert_law.specs.Cases.{IsCase};
+ghost use Rattle.cert_law.specs.Entries.{AreTrueEntries};
 ghost use Rattle.cert_check.specs.Checking.{Refuses, Takes, accepted_of};
 ghost use Rattle.cert_check.specs.Opening.{TellsWhy};
 ghost use Rattle.cert_check.specs.Runs.{IsFedCertificate, IsFedNone, opened_for};
@@ -12,7 +14,7 @@ ghost use Rattle.floor_tables.specs.Tables.{AreNarrow};
 ghost use Rattle.fux_grid.specs.Exercises.{IsValid};
 
 use crate::head::is_sound;
-use cert_law::{Case, Judged, Walk, is_open, is_true};
+use cert_law::{Case, Judged, Tails, Walk, is_open, is_true};
 use cert_text::{Accepted, CertHead, Claim, Refused, Why};
 use floor_tables::{TableFault, Tables, fill_tables};
 use fux_grid::{Exercise, Place};
@@ -35,20 +37,20 @@ pub enum OpenFault {
 /// Room for 24 bars of eight columns.
 const MOST_LEVELS: usize = 192;
 
-/// Judges the claims of a certificate one by one. It holds the open prefixes that begin the one owed next, and nothing else of what was
-/// judged, so that it takes no memory after it is opened.
+/// Judges the claims of a certificate one by one, by the tails of tables or by those that entries state. It holds the open prefixes that
+/// begin the one owed next, and nothing else of what was judged, so that it takes no memory after it is opened.
 #[derive(Drop)]
-pub struct Checker<'a> {
+pub struct Checker<'a, T: Tails> {
     exercise: &'a Exercise,
     sheet: &'a Sheet,
     head: CertHead,
-    tables: Tables<'a>,
+    tails: T,
     walk: Walk,
     taken: u64,
     refusal: Option<Refused>,
 }
 
-impl<'a> Model for Checker<'a> {
+impl<'a, T: Tails> Model for Checker<'a, T> {
     ghost use Rattle.cert_check.specs.Checking.{Checking, IsChecking};
     ghost use Rattle.cert_law.specs.Walks.{owed_by_walk};
 
@@ -58,26 +60,27 @@ impl<'a> Model for Checker<'a> {
       exercise = c.exercise.now;
       sheet = c.sheet.now;
       head = c.head;
+      stated = (T.basis c.tails).stated;
       owed = owed_by_walk c.exercise.now c.walk;
       count = c.taken;
       refusal = c.refusal;
     } };
 
     ghost invariant = { λ c. IsChecking
-        (record { exercise = c.exercise.now; sheet = c.sheet.now; head = c.head }) c.tables c.walk c.refusal };
+        (record { exercise = c.exercise.now; sheet = c.sheet.now; head = c.head }) (T.basis c.tails) c.walk c.refusal };
 }
 
-impl<'a> Checker<'a> {
-    /// A checker of the claims of a certificate with this head. All memory is taken here.
+impl<'a> Checker<'a, Tables<'a>> {
+    /// A checker of the claims of a certificate of the first form with this head. All memory is taken here.
     pub fn open<R: Threads + Sync>(
         rt: &R,
         alloc: Global,
         ex: &'a Exercise,
         sheet: &'a Sheet,
         head: CertHead,
-    ) -> Result<Checker<'a>, OpenFault>
+    ) -> Result<Checker<'a, Tables<'a>>, OpenFault>
         requires { IsValid ex.now }
-        ensures opened { IfOk result (λ c. c ≡ opened_for ex.entry.now sheet.entry.now head) }
+        ensures opened { IfOk result (λ c. c ≡ opened_for ex.entry.now sheet.entry.now head None) }
 
         // Width comes first; then the head is judged, before any claim.
         ensures narrow { OnOk result (AreNarrow ex.entry.now) }
@@ -102,18 +105,21 @@ impl<'a> Checker<'a> {
             Err(Memory) => Err(OpenFault::Memory),
         }
     }
+}
 
+impl<'a, T: Tails + Drop> Checker<'a, T> {
     /// A checker for which the empty prefix is owed. It takes all its memory here.
     pub(crate) fn opened(
         alloc: Global,
         exercise: &'a Exercise,
         sheet: &'a Sheet,
         head: CertHead,
-        tables: Tables<'a>,
-    ) -> Result<Checker<'a>, Memory>
+        tails: T,
+    ) -> Result<Checker<'a, T>, Memory>
         requires case { IsCase (record { exercise = exercise.now; sheet = sheet.now; head = head }) }
-        requires tables { HasTables (record { exercise = exercise.now; sheet = sheet.now; head = head }) tables }
-        ensures { IfOk result (λ c. c ≡ opened_for exercise.entry.now sheet.entry.now head) }
+        requires tails { HasTails (record { exercise = exercise.now; sheet = sheet.now; head = head }) (T.basis tails) }
+        requires entries { IfSome (T.basis tails).stated (AreTrueEntries exercise.now sheet.now) }
+        ensures { IfOk result (λ c. c ≡ opened_for exercise.entry.now sheet.entry.now head (T.basis tails).stated) }
     {
         let levels = Vec::with_capacity(alloc, MOST_LEVELS)?;
         let next = Some(Judged::start(exercise, sheet));
@@ -121,7 +127,7 @@ impl<'a> Checker<'a> {
             exercise,
             sheet,
             head,
-            tables,
+            tails,
             walk: Walk { levels, next },
             taken: 0,
             refusal: None,
@@ -156,11 +162,11 @@ impl<'a> Checker<'a> {
             sheet: self.sheet,
             head: &self.head,
         };
-        let rest = self.walk.rest(&case, &self.tables);
-        if !is_true(&case, &next, rest, claim) {
+        let tail = self.walk.tail(&case, &self.tails);
+        if !is_true(&case, &next, tail, claim) {
             return self.refuse(Why::False);
         }
-        self.walk.go_on(&case, &self.tables, next, is_open(claim));
+        self.walk.go_on(&case, &self.tails, next, is_open(claim));
         self.taken += 1;
         Ok(())
     }

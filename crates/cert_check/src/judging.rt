@@ -14,6 +14,7 @@ use crate::checker::Checker;
 use crate::fault::ReadFault;
 use crate::reader::Reader;
 use crate::verdict::Verdict;
+use floor_tables::Tables;
 use fux_port::{Failed, Shelf};
 
 /// Judges the claims behind a head, each as it is read, up to the first thing that is wrong or the end of the file.
@@ -21,7 +22,7 @@ pub fn judge<F: Shelf>(
     shelf: &mut F,
     name: &str,
     reader: &mut Reader,
-    mut checker: Checker<'_>,
+    mut checker: Checker<'_, Tables<'_>>,
 ) -> Result<Verdict, Failed>
     requires valid { IsValid checker.exercise }
     requires fresh { IsFresh checker }
@@ -55,7 +56,7 @@ pub fn judge<F: Shelf>(
 }
 
 /// The verdict where the file ends behind the claims that were taken.
-fn at_end(checker: &Checker<'_>) -> Verdict
+fn at_end(checker: &Checker<'_, Tables<'_>>) -> Verdict
     requires count { checker.now.count ≤ 2 ^ 40 }
     requires clear { checker.now.refusal ≡ None }
     ensures accepted { checker.now.owed ≡ [] → result ≡ verdicts.Accepted (accepted_of checker.now.head) }

@@ -14,8 +14,10 @@ use Rattle.fux_judge.specs.Lawful.{IsLawful}
 use Rattle.fux_judge.proofs.LeastLaws.{least_grows, paid_and_least_at_end}
 use Rattle.fux_judge.specs.Penalties.{has_strict_break, paid, penalty_of}
 use Rattle.penalty_sheet.specs.declared.sheet.Sheet.{Sheet}
+use Rattle.rule_law.specs.Prefixes.{IsPrefix}
 
 pub record FloorsHold (ex : Exercise) (sheet : Sheet) : Type 0 where
+  pub prefix : (p rest : List (List Cell)) → IsLawful ex (p ++ rest) → IsPrefix ex p
   pub below : (p rest : List (List Cell)) → IsLawful ex (p ++ rest)
       → IsSomeAnd (floor_of ex sheet p) (λ floor. floor ≤ penalty_of ex sheet (p ++ rest))
   pub at_end : (s : List (List Cell)) → IsLawful ex s → floor_of ex sheet s ≡ Some (penalty_of ex sheet s)
@@ -82,6 +84,7 @@ module _ (ex : Exercise) (valid : IsValid ex) (sheet : Sheet) where
 
   pub floors_hold : FloorsHold ex sheet
   floors_hold = record {
+    prefix = λ p rest lawful. (back (penalty_of ex sheet (p ++ rest)) p rest (whole (p ++ rest) lawful)).live.prefix;
     below = λ p rest lawful. (back (penalty_of ex sheet (p ++ rest)) p rest (whole (p ++ rest) lawful)).low;
     at_end = at_end;
   }

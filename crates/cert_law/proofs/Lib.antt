@@ -5,6 +5,9 @@ pub mod LevelLemmas
 pub mod NumberLemmas
 pub mod Orders
 pub mod Prefixes
+pub mod RestEntries
+pub mod TailFacts
+pub mod TailLemmas
 pub mod TruthLemmas
 pub mod Valid
 pub mod WrittenClaims

@@ -3,52 +3,54 @@ use Rattle.std.proofs.Common.{◌≡◌, ℕ, ◌+◌, Bool, false, List, Option
 use Rattle.std.specs.Prelude.{IsSomeAnd, option_map, ◌↔◌}
 use Rattle.cert_text.specs.declared.answers.CertHead.{CertHead}
 use Rattle.cert_text.specs.declared.claim.Claim.TheVariants.{Floor, TheScore}
+use Rattle.cert_text.specs.declared.potential.Potential.{Potential}
 use Rattle.cert_law.specs.Claims.{IsNoBetter, IsTrueOf}
+use Rattle.cert_law.specs.Tails.{tail_of, used_floor}
 use Rattle.cert_law.specs.Writer.{is_no_better, is_setting_of}
 use Rattle.cert_law.proofs.WrittenClaims.{no_better_from_test, setting_from_test, test_from_no_better, test_from_setting}
-use Rattle.floor_tables.specs.Floors.{floor_of, rest_of}
 use Rattle.fux_grid.specs.declared.cell.Cell.{Cell}
 use Rattle.fux_grid.specs.declared.exercise.Exercise.{Exercise}
 use Rattle.fux_judge.specs.Gauges.{least_of}
 use Rattle.fux_judge.specs.Penalties.{paid}
 use Rattle.penalty_sheet.specs.declared.sheet.Sheet.{Sheet}
 
-floor-rest : (ex : Exercise) (sheet : Sheet) (p : List (List Cell)) (rest : Option ℕ) → rest ≡ rest_of ex sheet p
-    → floor_of ex sheet p ≡ option_map (λ r. paid ex sheet p + least_of ex sheet p + r) rest
-unfolding floor_of
-floor-rest ex sheet p rest e = ap (option_map (λ r. paid ex sheet p + least_of ex sheet p + r)) (sym e)
+floor-tail : (ex : Exercise) (sheet : Sheet) (stated : Option (List Potential)) (p : List (List Cell)) (tail : Option ℕ)
+    → tail ≡ tail_of ex sheet stated p
+    → used_floor ex sheet stated p ≡ option_map (λ r. paid ex sheet p + least_of ex sheet p + r) tail
+unfolding used_floor
+floor-tail ex sheet stated p tail e = ap (option_map (λ r. paid ex sheet p + least_of ex sheet p + r)) (sym e)
 
-module _ (ex : Exercise) (sheet : Sheet) (head : CertHead) (p : List (List Cell)) where
-  pub floor_truth : (b : Bool) (rest : Option ℕ) (r spent cost : ℕ) → rest ≡ rest_of ex sheet p → rest ≡ Some r → spent
+module _ (ex : Exercise) (sheet : Sheet) (head : CertHead) (stated : Option (List Potential)) (p : List (List Cell)) where
+  pub floor_truth : (b : Bool) (tail : Option ℕ) (r spent cost : ℕ) → tail ≡ tail_of ex sheet stated p → tail ≡ Some r → spent
       ≡ paid ex sheet p → cost ≡ least_of ex sheet p
-      → b ≡ is_no_better head p (spent + cost + r) → IsTrue b ↔ IsTrueOf ex sheet head p Floor
-  floor_truth b rest r spent cost is some pays costs test = (there, back)
+      → b ≡ is_no_better head p (spent + cost + r) → IsTrue b ↔ IsTrueOf ex sheet head stated p Floor
+  floor_truth b tail r spent cost is some pays costs test = (there, back)
     where
-      floor : floor_of ex sheet p ≡ Some (spent + cost + r)
+      floor : used_floor ex sheet stated p ≡ Some (spent + cost + r)
       floor =
-          floor-rest ex sheet p rest is ∙ ap (option_map (λ x. paid ex sheet p + least_of ex sheet p + x)) some
+          floor-tail ex sheet stated p tail is ∙ ap (option_map (λ x. paid ex sheet p + least_of ex sheet p + x)) some
           ∙ ap (λ n. Some (n + least_of ex sheet p + r)) (sym pays) ∙ ap (λ n. Some (spent + n + r)) (sym costs)
 
-      there : IsTrue b → IsSomeAnd (floor_of ex sheet p) (IsNoBetter head p)
+      there : IsTrue b → IsSomeAnd (used_floor ex sheet stated p) (IsNoBetter head p)
       there h = subst (λ (f : Option ℕ). IsSomeAnd f (IsNoBetter head p)) (sym floor)
           (no_better_from_test head p (spent + cost + r) (sym test ∙ h))
 
-      back : IsSomeAnd (floor_of ex sheet p) (IsNoBetter head p) → IsTrue b
+      back : IsSomeAnd (used_floor ex sheet stated p) (IsNoBetter head p) → IsTrue b
       back h = test ∙ test_from_no_better head p (spent + cost + r)
           (subst (λ (f : Option ℕ). IsSomeAnd f (IsNoBetter head p)) floor h)
 
-  pub no_floor_truth : (rest : Option ℕ) → rest ≡ rest_of ex sheet p → rest ≡ None → IsTrue false
-      ↔ IsTrueOf ex sheet head p Floor
-  no_floor_truth rest is none = (there, back)
+  pub no_floor_truth : (tail : Option ℕ) → tail ≡ tail_of ex sheet stated p → tail ≡ None → IsTrue false
+      ↔ IsTrueOf ex sheet head stated p Floor
+  no_floor_truth tail is none = (there, back)
     where
-      floor : floor_of ex sheet p ≡ None
-      floor = floor-rest ex sheet p rest is ∙ ap (option_map (λ x. paid ex sheet p + least_of ex sheet p + x)) none
+      floor : used_floor ex sheet stated p ≡ None
+      floor = floor-tail ex sheet stated p tail is ∙ ap (option_map (λ x. paid ex sheet p + least_of ex sheet p + x)) none
 
-      there : IsTrue false → IsSomeAnd (floor_of ex sheet p) (IsNoBetter head p)
+      there : IsTrue false → IsSomeAnd (used_floor ex sheet stated p) (IsNoBetter head p)
       there h = absurd (true≢false (sym h))
 
-      back : IsSomeAnd (floor_of ex sheet p) (IsNoBetter head p) → IsTrue false
+      back : IsSomeAnd (used_floor ex sheet stated p) (IsNoBetter head p) → IsTrue false
       back h = absurd (subst (λ (f : Option ℕ). IsSomeAnd f (IsNoBetter head p)) floor h)
 
-  pub setting_truth : (b : Bool) → b ≡ is_setting_of head p → IsTrue b ↔ IsTrueOf ex sheet head p TheScore
+  pub setting_truth : (b : Bool) → b ≡ is_setting_of head p → IsTrue b ↔ IsTrueOf ex sheet head stated p TheScore
   setting_truth b test = (λ h. setting_from_test head p (sym test ∙ h), λ h. test ∙ test_from_setting head p h)

@@ -9,9 +9,10 @@ use Rattle.cert_text.specs.declared.claim.Claim.{Claim}
 use Rattle.cert_text.specs.declared.claim.Claim.TheVariants.{Open, Broken, NoChain, Floor, TheScore}
 use Rattle.cert_law.specs.Certificates.{Holds, IsBegunByOne, IsBetter, IsCertificate, IsCertified, IsHeadSound, OwesRefuting, Refutes, owed_by}
 use Rattle.cert_law.specs.Claims.{IsNoBetter, IsTrueOf}
-use Rattle.cert_law.proofs.FloorFacts.{FloorsHold}
+use Rattle.cert_text.specs.declared.potential.Potential.{Potential}
+use Rattle.cert_law.specs.Tails.{tail_of, used_floor}
+use Rattle.cert_law.proofs.TailFacts.{TailsHold}
 use Rattle.cert_law.proofs.Prefixes.{begun_longer, begun_unbroken, unbroken-each}
-use Rattle.floor_tables.specs.Floors.{floor_of, rest_of}
 use Rattle.fux_grid.specs.declared.cell.Cell.{Cell}
 use Rattle.fux_grid.specs.declared.exercise.Exercise.{Exercise}
 use Rattle.fux_grid.specs.Grid.{Grid}
@@ -33,19 +34,20 @@ begun-right : (owed others : List (List (List Cell))) (t : List (List Cell)) →
 begun-right [] others t h = h
 begun-right (p ∷ owed) others t h = inr (begun-right owed others t h)
 
--- a prefix with a floor has a rest
-floor_needs_rest : (ex : Exercise) (sheet : Sheet) (p : List (List Cell)) (Is : ℕ → Type 0)
-    → IsSomeAnd (floor_of ex sheet p) Is → rest_of ex sheet p ≡ None → ⊥
-unfolding floor_of
-floor_needs_rest ex sheet p Is h e =
-    subst (λ (o : Option ℕ). IsSomeAnd (option_map (λ rest. paid ex sheet p + least_of ex sheet p + rest) o) Is) e h
+-- a prefix with a floor has a tail
+floor_needs_tail : (ex : Exercise) (sheet : Sheet) (stated : Option (List Potential)) (p : List (List Cell))
+    (Is : ℕ → Type 0) → IsSomeAnd (used_floor ex sheet stated p) Is → tail_of ex sheet stated p ≡ None → ⊥
+unfolding used_floor
+floor_needs_tail ex sheet stated p Is h e =
+    subst (λ (o : Option ℕ). IsSomeAnd (option_map (λ tail. paid ex sheet p + least_of ex sheet p + tail) o) Is) e h
 
 begins_whole : (s rest : List (List Cell)) → length (s ++ rest) ≡ length s → s ++ rest ≡ s
 begins_whole [] [] e = refl
 begins_whole [] (c ∷ rest) e = absurd (omega arith)
 begins_whole (c ∷ s) rest e = ap (λ t. c ∷ t) (begins_whole s rest (omega arith))
 
-module _ (ex : Exercise) (sheet : Sheet) (few : ex.voices ≤ 4) (floors : FloorsHold ex sheet) where
+module _ (ex : Exercise) (sheet : Sheet) (few : ex.voices ≤ 4) (stated : Option (List Potential))
+    (tails : TailsHold ex sheet stated) where
   -- no better setting goes on from a prefix whose floor is no better
   none_by_floor : (penalty : ℕ) (score : Grid) (p rest : List (List Cell)) (floor : Option ℕ)
       → IsSomeAnd floor (λ f. f ≤ penalty_of ex sheet (p ++ rest)) → IsSomeAnd floor (IsNoBetter (Best penalty score) p)
@@ -81,16 +83,16 @@ module _ (ex : Exercise) (sheet : Sheet) (few : ex.voices ≤ 4) (floors : Floor
           earlier-itself score.columns (subst (λ (s : List (List Cell)). IsEarlier s score.columns) whole earlier.1)
 
   kept : (head : CertHead) (claim : Claim) (p rest : List (List Cell)) → IsHeadSound ex sheet head
-      → IsTrueOf ex sheet head p claim → IsLawful ex (p ++ rest) → IsBetter ex sheet head (p ++ rest)
+      → IsTrueOf ex sheet head stated p claim → IsLawful ex (p ++ rest) → IsBetter ex sheet head (p ++ rest)
       → IsBegunByOne (owed_by ex p claim) (p ++ rest)
   kept head Open p rest sound holds lawful better = begun_longer ex p rest holds.0 lawful.setting
   kept head (Broken rule) p rest sound holds lawful better =
       absurd (unbroken-each ex p rule (begun_unbroken ex few p rest lawful) holds)
   kept head NoChain p rest sound holds lawful better =
-      absurd (floor_needs_rest ex sheet p _ (floors.below p rest lawful) holds)
+      absurd (floor_needs_tail ex sheet stated p _ (tails.below p rest lawful) holds)
   kept (Best penalty score) Floor p rest sound holds lawful better =
-      absurd (none_by_floor penalty score p rest (floor_of ex sheet p) (floors.below p rest lawful) holds better)
-  kept Nothing Floor p rest sound holds lawful better = absurd (never (floor_of ex sheet p) holds)
+      absurd (none_by_floor penalty score p rest (used_floor ex sheet stated p) (tails.below p rest lawful) holds better)
+  kept Nothing Floor p rest sound holds lawful better = absurd (never (used_floor ex sheet stated p) holds)
     where
       never : (floor : Option ℕ) → IsSomeAnd floor (IsNoBetter Nothing p) → ⊥
       never None h = h
@@ -103,7 +105,7 @@ module _ (ex : Exercise) (sheet : Sheet) (few : ex.voices ≤ 4) (floors : Floor
 
   -- where each refuting setting is begun by a prefix that is owed, it still is after a true claim of the first one
   pub claim_kept : (head : CertHead) (claim : Claim) (p : List (List Cell)) (owed : List (List (List Cell)))
-      → IsHeadSound ex sheet head → IsTrueOf ex sheet head p claim → OwesRefuting ex sheet head (p ∷ owed)
+      → IsHeadSound ex sheet head → IsTrueOf ex sheet head stated p claim → OwesRefuting ex sheet head (p ∷ owed)
       → OwesRefuting ex sheet head (owed_by ex p claim ++ owed)
   claim_kept head claim p owed sound holds owes t refutes = at (owes t refutes)
     where
@@ -119,7 +121,7 @@ module _ (ex : Exercise) (sheet : Sheet) (few : ex.voices ≤ 4) (floors : Floor
 
   -- so certified claims leave none
   pub none_refutes : (head : CertHead) (claims : List Claim) (owed : List (List (List Cell)))
-      → IsHeadSound ex sheet head → IsCertified ex sheet head owed claims → OwesRefuting ex sheet head owed
+      → IsHeadSound ex sheet head → IsCertified ex sheet head stated owed claims → OwesRefuting ex sheet head owed
       → (t : List (List Cell)) → Refutes ex sheet head t → ⊥
   none_refutes head [] [] sound certified owes t refutes = owes t refutes
   none_refutes head [] (p ∷ owed) sound certified owes t refutes = absurd certified
@@ -155,7 +157,7 @@ module _ (ex : Exercise) (sheet : Sheet) (few : ex.voices ≤ 4) (floors : Floor
           at (inr (inl h)) = absurd (differ h)
           at (inr (inr h)) = absurd (none t record { lawful = lawful; better = inr (same ∙ sound.1, h) })
 
-  pub certificate_holds : (head : CertHead) (claims : List Claim) → IsCertificate ex sheet head claims
+  pub certificate_holds : (head : CertHead) (claims : List Claim) → IsCertificate ex sheet head stated claims
       → Holds ex sheet head
   certificate_holds head claims valid =
       unrefuted_holds head valid.sound (none_refutes head claims ([] ∷ []) valid.sound valid.certified

@@ -1,7 +1,7 @@
 -- The claims that are written for a head that holds are certified (`claims_certified`): the first true claim of each prefix is true
 -- (`first_claim_true`), since a whole setting that is alive is the head's, or no better.
 use Rattle.std.proofs.Common.{◌≡◌, ◌≢◌, ◌⊎◌, inl, inr, ℕ, zero, suc, ◌+◌, ◌<◌, ◌≤◌, ◌==◌, nat_lt, Bool, true, false, ◌&&◌, ◌||◌, List, [], ◌∷◌, ◌++◌, if◌then◌else◌, length, map, reverse, slice_index_or, take, Option, Some, None, refl, ap, sym, ◌∙◌, subst, arith, append_assoc, true≢false}
-use Rattle.std.specs.Prelude.{IsSomeAnd, is_none}
+use Rattle.std.specs.Prelude.{IfSome, IsSomeAnd, is_none}
 use Rattle.std.specs.List.{AllByRecursion, filter, find, flat_map, list_all, list_any}
 use Rattle.std.specs.Option.{option_map_or}
 use Rattle.std.specs.declared.cmp.Ordering.{Ordering}
@@ -15,8 +15,14 @@ use Rattle.cert_text.specs.declared.answers.CertHead.TheVariants.{Best, Nothing}
 use Rattle.cert_text.specs.declared.claim.Claim.{Claim}
 use Rattle.cert_text.specs.declared.claim.Claim.TheVariants.{Open, Broken, NoChain, Floor, TheScore}
 use Rattle.cert_law.specs.Certificates.{Holds, IsCertificate, IsCertified, IsHeadSound, owed_by}
+use Rattle.cert_law.specs.Entries.{AreTrueEntries}
+use Rattle.cert_law.specs.Rests.{AreRests}
 use Rattle.cert_law.specs.Claims.{IsNoBetter, IsSettingOf, IsTrueOf, has_break_of, longer_prefixes}
+use Rattle.cert_text.specs.declared.potential.Potential.{Potential}
+use Rattle.cert_law.specs.Tails.{tail_of}
 use Rattle.cert_law.proofs.FloorFacts.{FloorsHold}
+use Rattle.cert_law.proofs.RestEntries.{rests_are_true}
+use Rattle.cert_law.proofs.TailLemmas.{tail_is_rest, used-floor}
 use Rattle.cert_law.specs.Writer.{claims_from, claims_of, columns_order, first_claim, is_equal, is_less, is_no_better, is_open, is_setting_of, least_break, unbroken_claim}
 use Rattle.cert_law.proofs.Prefixes.{prefix-push}
 use Rattle.cert_law.proofs.Orders.{less-order, order-equal, order-itself, order-less}
@@ -26,7 +32,7 @@ use Rattle.floor_tables.specs.Floors.{floor_of, rest_of}
 use Rattle.fux_grid.specs.declared.cell.Cell.{Cell}
 use Rattle.fux_grid.specs.declared.exercise.Exercise.{Exercise}
 use Rattle.fux_grid.specs.Columns.{ColumnFollows, newest_column}
-use Rattle.fux_grid.specs.Exercises.{columns_in}
+use Rattle.fux_grid.specs.Exercises.{IsValid, columns_in}
 use Rattle.fux_grid.specs.Menus.{IsInMenu, menu_of}
 use Rattle.fux_grid.specs.Order.{IsEarlier}
 use Rattle.fux_grid.proofs.MenuLemmas.{menu_of-contains}
@@ -127,7 +133,8 @@ floor_from_test head p (Some floor) h = no_better_from_test head p floor h
 -- ---- each first claim is true
 
 module _ (ex : Exercise) (sheet : Sheet) (few : ex.voices ≤ 4) (floors : FloorsHold ex sheet) (head : CertHead)
-    (holds : Holds ex sheet head) where
+    (holds : Holds ex sheet head) (stated : Option (List Potential))
+    (rests : (p : List (List Cell)) → IsPrefix ex p → tail_of ex sheet stated p ≡ rest_of ex sheet p) where
   -- a lawful setting is the head's, or no better
   whole_is_closed : (head : CertHead) → Holds ex sheet head → (p : List (List Cell)) → IsLawful ex p
       → is_setting_of head p ≡ false → option_map_or (is_no_better head p) (floor_of ex sheet p) false ≡ false → ⊥
@@ -167,11 +174,11 @@ module _ (ex : Exercise) (sheet : Sheet) (few : ex.voices ≤ 4) (floors : Floor
           in
           not_less (less-order score.columns p (holds.0.first p lawful (same ∙ sym holds.1) differ))
 
-  pub first_claim_true : (p : List (List Cell)) → IsPrefix ex p → IsTrueOf ex sheet head p (first_claim ex sheet head p)
+  pub first_claim_true : (p : List (List Cell)) → IsPrefix ex p → IsTrueOf ex sheet head stated p (first_claim ex sheet head p)
   first_claim_true p prefix = setting (is_setting_of head p) refl
     where
       open_claim : has_strict_break ex p ≡ false → is_setting_of head p ≡ false
-          → option_map_or (is_no_better head p) (floor_of ex sheet p) false ≡ false → IsTrueOf ex sheet head p Open
+          → option_map_or (is_no_better head p) (floor_of ex sheet p) false ≡ false → IsTrueOf ex sheet head stated p Open
       open_claim alive other better = (at (cases_lt (length p) (columns_in ex)), alive_orderly ex few p alive)
         where
           at : (length p < columns_in ex) ⊎ (columns_in ex ≤ length p) → length p < columns_in ex
@@ -183,25 +190,27 @@ module _ (ex : Exercise) (sheet : Sheet) (few : ex.voices ≤ 4) (floors : Floor
               absurd (whole_is_closed head holds p lawful other better)
 
       floor : (b : Bool) → option_map_or (is_no_better head p) (floor_of ex sheet p) false ≡ b → has_strict_break ex p
-          ≡ false → is_setting_of head p ≡ false → IsTrueOf ex sheet head p (if b then Floor else Open)
-      floor true e alive other = floor_from_test head p (floor_of ex sheet p) e
+          ≡ false → is_setting_of head p ≡ false → IsTrueOf ex sheet head stated p (if b then Floor else Open)
+      floor true e alive other =
+          subst (λ (f : Option ℕ). IsSomeAnd f (IsNoBetter head p))
+          (sym (used-floor ex sheet stated p (rests p prefix))) (floor_from_test head p (floor_of ex sheet p) e)
       floor false e alive other = open_claim alive other e
 
       chain : (rest : Option ℕ) → rest_of ex sheet p ≡ rest → has_strict_break ex p ≡ false → is_setting_of head p
-          ≡ false → IsTrueOf ex sheet head p
+          ≡ false → IsTrueOf ex sheet head stated p
           (if is_none rest then NoChain else
           (if option_map_or (is_no_better head p) (floor_of ex sheet p) false then Floor else Open))
-      chain None e alive other = e
+      chain None e alive other = rests p prefix ∙ e
       chain (Some rest) e alive other =
           floor (option_map_or (is_no_better head p) (floor_of ex sheet p) false) refl alive other
 
       rule : (o : Option ℕ) → least_break ex p ≡ o → is_setting_of head p ≡ false
-          → IsTrueOf ex sheet head p (option_map_or Broken o (unbroken_claim ex sheet head p))
+          → IsTrueOf ex sheet head stated p (option_map_or Broken o (unbroken_claim ex sheet head p))
       rule (Some r) e other = find_passes (has_break_of ex p) rules_read r e
       rule None e other = chain (rest_of ex sheet p) refl (unbroken_if_none ex p e) other
 
       setting : (b : Bool) → is_setting_of head p ≡ b
-          → IsTrueOf ex sheet head p (if b then TheScore
+          → IsTrueOf ex sheet head stated p (if b then TheScore
           else option_map_or Broken (least_break ex p) (unbroken_claim ex sheet head p))
       setting true e = setting_from_test head p e
       setting false e = rule (least_break ex p) refl e
@@ -251,22 +260,22 @@ module _ (ex : Exercise) (sheet : Sheet) (few : ex.voices ≤ 4) (floors : Floor
 
   -- a certified list stays so with a prefix more, and the claims of it and of what it owes
   Extends : (List (List Cell) → List Claim) → List (List Cell) → Type 0
-  Extends f p = (owed : List (List (List Cell))) (claims : List Claim) → IsCertified ex sheet head owed claims
-      → IsCertified ex sheet head (p ∷ owed) (f p ++ claims)
+  Extends f p = (owed : List (List (List Cell))) (claims : List Claim) → IsCertified ex sheet head stated owed claims
+      → IsCertified ex sheet head stated (p ∷ owed) (f p ++ claims)
 
   extends_all : (count : ℕ) (f : List (List Cell) → List Claim)
       → ((q : List (List Cell)) → IsPrefixBefore count q → Extends f q) → (qs : List (List (List Cell)))
       → AllByRecursion (IsPrefixBefore count) qs → (owed : List (List (List Cell))) (claims : List Claim)
-      → IsCertified ex sheet head owed claims → IsCertified ex sheet head (qs ++ owed) (flat_map f qs ++ claims)
+      → IsCertified ex sheet head stated owed claims → IsCertified ex sheet head stated (qs ++ owed) (flat_map f qs ++ claims)
   unfolding Extends
   extends_all count f each [] before owed claims h = h
   extends_all count f each (q ∷ qs) before owed claims h =
       let whole : (f q ++ flat_map f qs) ++ claims ≡ f q
       ++ (flat_map f qs ++ claims) = append_assoc (f q) (flat_map f qs) claims in
-      subst (λ (all : List Claim). IsCertified ex sheet head (q ∷ (qs ++ owed)) all) (sym whole)
+      subst (λ (all : List Claim). IsCertified ex sheet head stated (q ∷ (qs ++ owed)) all) (sym whole)
       (each q before.0 (qs ++ owed) (flat_map f qs ++ claims) (extends_all count f each qs before.1 owed claims h))
 
-  closed : (p : List (List Cell)) (claim : Claim) → columns_in ex ≤ length p → IsTrueOf ex sheet head p claim
+  closed : (p : List (List Cell)) (claim : Claim) → columns_in ex ≤ length p → IsTrueOf ex sheet head stated p claim
       → owed_by ex p claim ≡ []
   closed p Open whole h = absurd (omega (arith, whole, h.0))
   closed p (Broken rule) whole h = refl
@@ -279,7 +288,7 @@ module _ (ex : Exercise) (sheet : Sheet) (few : ex.voices ≤ 4) (floors : Floor
   extends zero p before owed claims h =
       let holds_of = first_claim_true p before.prefix in (
         holds_of,
-        subst (λ (qs : List (List (List Cell))). IsCertified ex sheet head (qs ++ owed) claims)
+        subst (λ (qs : List (List (List Cell))). IsCertified ex sheet head stated (qs ++ owed) claims)
             (sym (closed p (first_claim ex sheet head p) (omega (arith, before.size)) holds_of)) h,
       )
   extends (suc count) p before owed claims h = (
@@ -289,9 +298,9 @@ module _ (ex : Exercise) (sheet : Sheet) (few : ex.voices ≤ 4) (floors : Floor
         (each_longer count p before) owed claims h),
   )
     where
-      behind : (claim : Claim) → IsCertified ex sheet head (longer_prefixes ex p ++ owed)
+      behind : (claim : Claim) → IsCertified ex sheet head stated (longer_prefixes ex p ++ owed)
           (flat_map (claims_from ex sheet head count) (longer_prefixes ex p) ++ claims)
-          → IsCertified ex sheet head (owed_by ex p claim ++ owed)
+          → IsCertified ex sheet head stated (owed_by ex p claim ++ owed)
           ((if is_open claim then flat_map (claims_from ex sheet head count) (longer_prefixes ex p) else []) ++ claims)
       behind Open all = all
       behind (Broken rule) all = h
@@ -299,12 +308,12 @@ module _ (ex : Exercise) (sheet : Sheet) (few : ex.voices ≤ 4) (floors : Floor
       behind Floor all = h
       behind TheScore all = h
 
-  pub claims_certified : IsCertified ex sheet head ([] ∷ []) (claims_of ex sheet head)
+  pub claims_certified : IsCertified ex sheet head stated ([] ∷ []) (claims_of ex sheet head)
   unfolding Extends
   claims_certified =
       let empty : IsPrefix ex [] = record { few = omega arith; menus = λ i h. absurd (omega arith); follows = tt } in
       let before : IsPrefixBefore (columns_in ex) [] = record { prefix = empty; size = omega arith } in
-      subst (λ (claims : List Claim). IsCertified ex sheet head ([] ∷ []) claims)
+      subst (λ (claims : List Claim). IsCertified ex sheet head stated ([] ∷ []) claims)
       (append_none (claims_of ex sheet head)) (extends (columns_in ex) [] before [] [] tt)
     where
       append_none : (claims : List Claim) → claims ++ [] ≡ claims
@@ -316,10 +325,19 @@ sound : (ex : Exercise) (sheet : Sheet) (head : CertHead) → Holds ex sheet hea
 sound ex sheet Nothing holds = tt
 sound ex sheet (Best penalty score) holds = (holds.0.lawful, holds.1)
 
-pub written_is_valid : (ex : Exercise) (sheet : Sheet) (few : ex.voices ≤ 4) (floors : FloorsHold ex sheet)
-    (head : CertHead) → Holds ex sheet head → IsCertificate ex sheet head (claims_of ex sheet head)
-written_is_valid ex sheet few floors head holds =
-    record { sound = sound ex sheet head holds; certified = claims_certified ex sheet few floors head holds }
+pub written_is_valid : (ex : Exercise) (sheet : Sheet) (valid : IsValid ex) (floors : FloorsHold ex sheet)
+    (head : CertHead) (stated : Option (List Potential)) → IfSome stated (AreRests ex sheet) → Holds ex sheet head
+    → IsCertificate ex sheet head stated (claims_of ex sheet head)
+written_is_valid ex sheet valid floors head stated rests holds = record {
+  sound = sound ex sheet head holds;
+  entries = true_of stated rests;
+  certified = claims_certified ex sheet valid.most_voices floors head holds stated (tail_is_rest ex sheet stated rests);
+}
+  where
+    true_of : (stated : Option (List Potential)) → IfSome stated (AreRests ex sheet)
+        → IfSome stated (AreTrueEntries ex sheet)
+    true_of None are = tt
+    true_of (Some entries) are = rests_are_true ex sheet entries are valid
 
 -- ---- tests of claims
 

@@ -1,9 +1,7 @@
 -- What a certificate is about.
-use Rattle.std.specs.Prelude.{◌≡◌}
 use Rattle.cert_law.specs.declared.case.Case.{Case}
 use Rattle.cert_law.specs.Certificates.{IsHeadSound}
 use Rattle.cert_text.specs.declared.answers.CertHead.{CertHead}
-use Rattle.floor_tables.specs.Tables.{AreNarrow, Task}
 use Rattle.fux_grid.specs.declared.exercise.Exercise.{Exercise}
 use Rattle.fux_grid.specs.Exercises.{IsValid}
 use Rattle.penalty_sheet.specs.declared.sheet.Sheet.{Sheet}
@@ -21,9 +19,3 @@ matter_of case = record { exercise = case.exercise.now; sheet = case.sheet.now; 
 pub record IsCase (t : Matter) : Type 0 where
   pub valid : IsValid t.exercise
   pub sound : IsHeadSound t.exercise t.sheet t.head
-
--- the tables are those of the exercise and the sheet, and no menu is too wide
-pub record HasTables (t : Matter) (tables : Task) : Type 0 where
-  pub exercise : tables.exercise ≡ t.exercise
-  pub sheet : tables.sheet ≡ t.sheet
-  pub narrow : AreNarrow t.exercise

@@ -1,11 +1,13 @@
--- Certificates: a head and claims, those of the prefixes in preorder from the empty one, each of them true. What a head says is
--- refuted by some lawful settings; a valid certificate shows that there is none.
-use Rattle.std.specs.Prelude.{◌≡◌, ◌<◌, ◌⊎◌, List, [], ◌∷◌, ◌++◌, ⊤}
+-- Certificates: a head, in the second form entries, and claims, those of the prefixes in preorder from the empty one; each of them
+-- true. What a head says is refuted by some lawful settings; a valid certificate shows that there is none.
+use Rattle.std.specs.Prelude.{◌≡◌, ◌<◌, ◌⊎◌, List, [], ◌∷◌, ◌++◌, Option, IfSome, ⊤}
 use Rattle.cert_text.specs.declared.answers.CertHead.{CertHead}
 use Rattle.cert_text.specs.declared.answers.CertHead.TheVariants.{Best, Nothing}
 use Rattle.cert_text.specs.declared.claim.Claim.{Claim}
 use Rattle.cert_text.specs.declared.claim.Claim.TheVariants.{Open, Broken, NoChain, Floor, TheScore}
+use Rattle.cert_text.specs.declared.potential.Potential.{Potential}
 use Rattle.cert_law.specs.Claims.{IsTrueOf, longer_prefixes}
+use Rattle.cert_law.specs.Entries.{AreTrueEntries}
 use Rattle.fux_grid.specs.declared.cell.Cell.{Cell}
 use Rattle.fux_grid.specs.declared.exercise.Exercise.{Exercise}
 use Rattle.fux_grid.specs.Order.{IsEarlier}
@@ -23,12 +25,13 @@ owed_by ex p TheScore = []
 
 -- the claims are those of the prefixes that are owed, the next one first, and of what they owe in their place; each is true, none
 -- is owed when they end, and none is over
-abbrev pub IsCertified : Exercise → Sheet → CertHead → List (List (List Cell)) → List Claim → Type 0
-IsCertified ex sheet head [] [] = ⊤
-IsCertified ex sheet head (p ∷ owed) [] = ⊥
-IsCertified ex sheet head [] (claim ∷ claims) = ⊥
-IsCertified ex sheet head (p ∷ owed) (claim ∷ claims) =
-    IsTrueOf ex sheet head p claim × IsCertified ex sheet head (owed_by ex p claim ++ owed) claims
+abbrev pub IsCertified : Exercise → Sheet → CertHead → Option (List Potential) → List (List (List Cell)) → List Claim
+    → Type 0
+IsCertified ex sheet head stated [] [] = ⊤
+IsCertified ex sheet head stated (p ∷ owed) [] = ⊥
+IsCertified ex sheet head stated [] (claim ∷ claims) = ⊥
+IsCertified ex sheet head stated (p ∷ owed) (claim ∷ claims) =
+    IsTrueOf ex sheet head stated p claim × IsCertified ex sheet head stated (owed_by ex p claim ++ owed) claims
 
 -- the head's setting is lawful, and has the head's penalty
 abbrev pub IsHeadSound : Exercise → Sheet → CertHead → Type 0
@@ -36,10 +39,13 @@ IsHeadSound ex sheet Nothing = ⊤
 IsHeadSound ex sheet (Best penalty score) =
     IsLawful ex score.columns × (penalty_of ex sheet score.columns ≡ penalty)
 
--- a valid certificate
-pub record IsCertificate (ex : Exercise) (sheet : Sheet) (head : CertHead) (claims : List Claim) : Type 0 where
-  pub sound : IsHeadSound ex sheet head
-  pub certified : IsCertified ex sheet head ([] ∷ []) claims
+-- a valid certificate: of the first form, where no entries are stated, or of the second
+pub record IsCertificate (ex : Exercise) (sheet : Sheet) (head : CertHead) (stated : Option (List Potential))
+    (claims : List Claim) : Type 0
+  where
+    pub sound : IsHeadSound ex sheet head
+    pub entries : IfSome stated (AreTrueEntries ex sheet)
+    pub certified : IsCertified ex sheet head stated ([] ∷ []) claims
 
 -- what a head says: its setting is the best one and has its penalty, or no setting is lawful
 abbrev pub Holds : Exercise → Sheet → CertHead → Type 0

@@ -1,12 +1,13 @@
 -- Claims: what each of them says of a prefix.
-use Rattle.std.specs.Prelude.{◌≡◌, ℕ, ◌<◌, Bool, ◌&&◌, IsTrue, List, [], ◌∷◌, ◌++◌, None, IsSomeAnd, ◌⊎◌, length, map, reverse, slice_index_or, take}
+use Rattle.std.specs.Prelude.{◌≡◌, ℕ, ◌<◌, Bool, ◌&&◌, IsTrue, List, [], ◌∷◌, ◌++◌, Option, None, IsSomeAnd, ◌⊎◌, length, map, reverse, slice_index_or, take}
 use Rattle.std.specs.List.{filter}
 use Rattle.cert_text.specs.declared.answers.CertHead.{CertHead}
 use Rattle.cert_text.specs.declared.answers.CertHead.TheVariants.{Best, Nothing}
 use Rattle.cert_text.specs.declared.claim.Claim.{Claim}
 use Rattle.cert_text.specs.declared.claim.Claim.TheVariants.{Open, Broken, NoChain, Floor, TheScore}
+use Rattle.cert_text.specs.declared.potential.Potential.{Potential}
+use Rattle.cert_law.specs.Tails.{tail_of, used_floor}
 use Rattle.chain_sums.specs.Sums.{column_follows}
-use Rattle.floor_tables.specs.Floors.{floor_of, rest_of}
 use Rattle.fux_grid.specs.declared.cell.Cell.{Cell}
 use Rattle.fux_grid.specs.declared.exercise.Exercise.{Exercise}
 use Rattle.fux_grid.specs.Columns.{newest_column}
@@ -43,10 +44,10 @@ abbrev pub IsSettingOf : CertHead → List (List Cell) → Type 0
 IsSettingOf Nothing p = ⊥
 IsSettingOf (Best penalty score) p = p ≡ score.columns
 
--- a claim is true of a prefix
-abbrev pub IsTrueOf : Exercise → Sheet → CertHead → List (List Cell) → Claim → Type 0
-IsTrueOf ex sheet head p Open = (length p < columns_in ex) × IsOrderly ex p
-IsTrueOf ex sheet head p (Broken rule) = IsTrue (has_break_of ex p rule)
-IsTrueOf ex sheet head p NoChain = rest_of ex sheet p ≡ None
-IsTrueOf ex sheet head p Floor = IsSomeAnd (floor_of ex sheet p) (IsNoBetter head p)
-IsTrueOf ex sheet head p TheScore = IsSettingOf head p
+-- a claim is true of a prefix, where entries are stated or none are
+abbrev pub IsTrueOf : Exercise → Sheet → CertHead → Option (List Potential) → List (List Cell) → Claim → Type 0
+IsTrueOf ex sheet head stated p Open = (length p < columns_in ex) × IsOrderly ex p
+IsTrueOf ex sheet head stated p (Broken rule) = IsTrue (has_break_of ex p rule)
+IsTrueOf ex sheet head stated p NoChain = tail_of ex sheet stated p ≡ None
+IsTrueOf ex sheet head stated p Floor = IsSomeAnd (used_floor ex sheet stated p) (IsNoBetter head p)
+IsTrueOf ex sheet head stated p TheScore = IsSettingOf head p

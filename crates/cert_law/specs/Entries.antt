@@ -62,6 +62,21 @@ pub record AreTrueEntries (ex : Exercise) (sheet : Sheet) (entries : List Potent
       → IsTrueBefore ex sheet entries (suc i) (Some (menu_column ex i k)) (entry_of ex entries i k)
   pub last : (i k : ℕ) → suc i ≡ columns_in ex → k < length (menu_of ex i) → entry_of ex entries i k ≡ Least 0
 
+-- the entry of a number is true: of the start's, which has number 0, and of a column's
+pub record IsTrueEntry (ex : Exercise) (sheet : Sheet) (entries : List Potential) (n : ℕ) : Type 0 where
+  pub start : n ≡ 0 → IsTrueBefore ex sheet entries 0 None (entry_at entries 0)
+  pub each : (i k : ℕ) → n ≡ 1 + columns_before ex i + k → suc i < columns_in ex → k < length (menu_of ex i)
+      → IsTrueBefore ex sheet entries (suc i) (Some (menu_column ex i k)) (entry_of ex entries i k)
+  pub last : (i k : ℕ) → n ≡ 1 + columns_before ex i + k → suc i ≡ columns_in ex → k < length (menu_of ex i)
+      → entry_of ex entries i k ≡ Least 0
+
+-- this is the number of the first entry that isn't true
+pub record IsFirstFalse (ex : Exercise) (sheet : Sheet) (entries : List Potential) (n : ℕ) : Type 0 where
+  pub whole : length entries ≡ entry_count ex
+  pub within : n < entry_count ex
+  pub untrue : IsTrueEntry ex sheet entries n → ⊥
+  pub before : (m : ℕ) → m < n → IsTrueEntry ex sheet entries m
+
 -- where there is a least sum over chains, the number is stated and at most that: so no chain goes on where `n` is stated
 abbrev pub IsLow : Option ℕ → Option ℕ → Type 0
 IsLow stated rest = IfSome rest (λ r. IsSomeAnd stated (λ n. n ≤ r))

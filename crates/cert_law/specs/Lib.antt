@@ -1,8 +1,11 @@
+pub mod Bases
 pub mod Cases
 pub mod Certificates
 pub mod Claims
 pub mod Entries
 pub mod Prefixes
+pub mod Rests
+pub mod Tails
 pub mod Truths
 pub mod Walks
 pub mod Writer

@@ -1,8 +1,10 @@
 //! What a valid certificate shows.
 
-ghost use Rattle.std.specs.Prelude.{List};
+ghost use Rattle.std.specs.Prelude.{IfSome, List, Option};
 ghost use Rattle.cert_text.specs.declared.claim.Claim.{Claim};
+ghost use Rattle.cert_text.specs.declared.potential.Potential.{Potential};
 ghost use Rattle.cert_law.specs.Certificates.{Holds, IsCertificate};
+ghost use Rattle.cert_law.specs.Rests.{AreRests};
 ghost use Rattle.cert_law.specs.Writer.{claims_of};
 ghost use Rattle.fux_grid.specs.Exercises.{IsValid};
 
@@ -10,22 +12,25 @@ use cert_text::CertHead;
 use fux_grid::Exercise;
 use penalty_sheet::Sheet;
 
-/// What the head of a valid certificate says holds: its setting is the best one and has its penalty, or no setting is lawful.
+/// What the head of a valid certificate of either form says holds: its setting is the best one and has its penalty, or no setting is lawful.
 /// It does nothing; callers that prove something about a certificate learn this from it.
 pub fn shown_by(ex: &Exercise, sheet: &Sheet, head: &CertHead)
     requires valid { IsValid ex.now }
-    ensures { (claims : List Claim) → IsCertificate ex.now sheet.now head.now claims → Holds ex.now sheet.now head.now }
+    ensures { (stated : Option (List Potential)) (claims : List Claim)
+        → IsCertificate ex.now sheet.now head.now stated claims → Holds ex.now sheet.now head.now }
 {
     let _ = ex.voices;
     let _ = sheet;
     let _ = head;
 }
 
-/// What the writer's certificate is: of a head that holds, it is valid. It does nothing, as `shown_by`.
+/// What the writer's certificate is: of a head that holds, it is valid, in both forms; in the second its entries state the least sums
+/// over chains. It does nothing, as `shown_by`.
 pub fn written(ex: &Exercise, sheet: &Sheet, head: &CertHead)
     requires valid { IsValid ex.now }
-    ensures { Holds ex.now sheet.now head.now
-        → IsCertificate ex.now sheet.now head.now (claims_of ex.now sheet.now head.now) }
+    ensures { (stated : Option (List Potential)) → IfSome stated (AreRests ex.now sheet.now)
+        → Holds ex.now sheet.now head.now
+        → IsCertificate ex.now sheet.now head.now stated (claims_of ex.now sheet.now head.now) }
 {
     let _ = ex.voices;
     let _ = sheet;

@@ -7,6 +7,7 @@ mod case;
 mod entries;
 mod judged;
 mod law;
+mod tails;
 mod truth;
 mod walk;
 
@@ -14,5 +15,6 @@ pub use case::Case;
 pub use entries::true_entries_are_low;
 pub use judged::Judged;
 pub use law::{shown_by, written};
+pub use tails::Tails;
 pub use truth::{is_no_better, is_open, is_setting, is_true};
 pub use walk::{Level, Walk};

@@ -34,17 +34,17 @@ fn is_equal(order: Ordering) -> bool
     }
 }
 
-/// Whether the floor of a prefix with this rest is no better than the head's setting.
-pub fn is_no_better(case: &Case<'_>, judged: &Judged, rest: u64) -> bool
+/// Whether the floor of a prefix with this tail is no better than the head's setting.
+pub fn is_no_better(case: &Case<'_>, judged: &Judged, tail: u64) -> bool
     requires { IsSmall judged.now }
-    ensures { TellsNoBetter (matter_of case.now) judged.now rest result }
+    ensures { TellsNoBetter (matter_of case.now) judged.now tail result }
 {
     match case.head {
         CertHead::Nothing => false,
         CertHead::Best { penalty, .. } => {
             let spent = judged.paid + judged.least;
-            exceeds(*penalty, spent, rest)
-                || (equals(*penalty, spent, rest) && is_less(judged.order))
+            exceeds(*penalty, spent, tail)
+                || (equals(*penalty, spent, tail) && is_less(judged.order))
         }
     }
 }
@@ -97,18 +97,18 @@ pub fn is_open(claim: Claim) -> bool
     }
 }
 
-/// Whether a claim is true of a prefix that has this rest.
-pub fn is_true(case: &Case<'_>, judged: &Judged, rest: Option<u64>, claim: Claim) -> bool
+/// Whether a claim is true of a prefix that has this tail.
+pub fn is_true(case: &Case<'_>, judged: &Judged, tail: Option<u64>, claim: Claim) -> bool
     requires case { IsCase (matter_of case.now) }
     requires small { IsSmall judged.now }
-    ensures { TellsTruth (matter_of case.now) judged.now rest claim result }
+    ensures { TellsTruth (matter_of case.now) judged.now tail claim result }
 {
     match claim {
         Claim::Open => can_go_on(case.exercise, judged),
         Claim::Broken(rule) => judged.broken.has(rule),
-        Claim::NoChain => rest.is_none(),
-        Claim::Floor => match rest {
-            Some(rest) => is_no_better(case, judged, rest),
+        Claim::NoChain => tail.is_none(),
+        Claim::Floor => match tail {
+            Some(tail) => is_no_better(case, judged, tail),
             None => false,
         },
         Claim::TheScore => is_setting(case, judged),

@@ -1,8 +1,9 @@
 -- The claims of a prefix and of all that it owes are its first claim, and the claims of what that owes in its place (`claims_go_on`).
-use Rattle.std.proofs.Common.{◌≡◌, ℕ, zero, suc, ◌+◌, ◌-◌, ◌<◌, Bool, true, false, List, [], ◌∷◌, ◌++◌, length, map, refl, ap, sym, ◌∙◌, arith, true≢false, if◌then◌else◌}
+use Rattle.std.proofs.Common.{◌≡◌, ℕ, zero, suc, ◌+◌, ◌-◌, ◌<◌, Bool, true, false, List, [], ◌∷◌, ◌++◌, None, Option, length, map, refl, ap, sym, ◌∙◌, arith, true≢false, if◌then◌else◌}
 use Rattle.std.specs.List.{flat_map}
 use Rattle.std.proofs.lemmas.Grind.{flat_map-append}
 use Rattle.std.proofs.lemmas.List.{length-append}
+use Rattle.cert_law.specs.Bases.{HasTails, basis_of, tail_by}
 use Rattle.cert_law.specs.Cases.{Matter}
 use Rattle.cert_law.specs.Walks.{longer_from}
 use Rattle.cert_law.specs.Claims.{IsTrueOf, longer_prefixes, next_columns}
@@ -11,6 +12,8 @@ use Rattle.cert_text.specs.declared.answers.CertHead.{CertHead}
 use Rattle.cert_text.specs.declared.claim.Claim.{Claim}
 use Rattle.cert_text.specs.declared.claim.Claim.TheVariants.{Open, Broken, NoChain, Floor, TheScore}
 use Rattle.cert_writer.specs.Writing.{claims_at}
+use Rattle.floor_tables.specs.Floors.{rest_of}
+use Rattle.floor_tables.specs.Tables.{Task}
 use Rattle.fux_grid.specs.declared.cell.Cell.{Cell}
 use Rattle.fux_grid.specs.declared.exercise.Exercise.{Exercise}
 use Rattle.fux_grid.specs.Exercises.{columns_in}
@@ -18,13 +21,20 @@ use Rattle.fux_grid.specs.Orderly.{IsOrderly}
 use Rattle.penalty_sheet.specs.declared.sheet.Sheet.{Sheet}
 
 pub open_true : (ex : Exercise) (sheet : Sheet) (head : CertHead) (p : List (List Cell)) (claim : Claim) → is_open claim
-    ≡ true → IsTrueOf ex sheet head p claim
+    ≡ true → IsTrueOf ex sheet head None p claim
     → (length p < columns_in ex) × IsOrderly ex p
 open_true ex sheet head p Open o h = h
 open_true ex sheet head p (Broken rule) o h = absurd (true≢false (sym o))
 open_true ex sheet head p NoChain o h = absurd (true≢false (sym o))
 open_true ex sheet head p Floor o h = absurd (true≢false (sym o))
 open_true ex sheet head p TheScore o h = absurd (true≢false (sym o))
+
+-- the tail of a prefix by tables is the least sum over the chains that go on from it
+pub tail_here : (t : Matter) (tables : Task) (p : List (List Cell)) (tail : Option ℕ) → HasTails t (basis_of tables)
+    → tail ≡ tail_by (basis_of tables) p → tail ≡ rest_of t.exercise t.sheet p
+tail_here t tables p tail has is =
+    is ∙ ap (λ (ex : Exercise). rest_of ex tables.sheet p) has.exercise
+    ∙ ap (λ (sheet : Sheet). rest_of t.exercise sheet p) has.sheet
 
 module _ (t : Matter) (p : List (List Cell)) where
   -- a prefix that is longer by a column has one column less to come

@@ -1,7 +1,8 @@
 -- What is still to be written of a certificate.
 use Rattle.std.specs.Prelude.{◌≡◌, ℕ, ◌-◌, List, [], ◌∷◌, Option, Some, None, length}
 use Rattle.std.specs.List.{flat_map}
-use Rattle.cert_law.specs.Cases.{HasTables, IsCase, Matter}
+use Rattle.cert_law.specs.Bases.{HasTails, basis_of}
+use Rattle.cert_law.specs.Cases.{IsCase, Matter}
 use Rattle.cert_law.specs.Prefixes.{IsJudged}
 use Rattle.cert_law.specs.Walks.{IsWalk, owed_by_walk}
 use Rattle.cert_law.specs.declared.judged.Judged.{Judged}
@@ -18,7 +19,7 @@ use Rattle.fux_grid.specs.Exercises.{columns_in}
 -- the exercise is within the limits, the tables are of it and the sheet, and the head holds
 pub record IsTask (t : Matter) (tables : Task) : Type 0 where
   pub case : IsCase t
-  pub has : HasTables t tables
+  pub has : HasTails t (basis_of tables)
   pub holds : Holds t.exercise t.sheet t.head
 
 -- the claims of a prefix and of all that it owes

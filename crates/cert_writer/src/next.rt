@@ -20,7 +20,7 @@ pub(crate) fn next_claim(walk: &mut Walk, case: &Case<'_>, tables: &Tables<'_>) 
     ensures claims { claims_to_come (matter_of case.now) walk.old ≡ claims_with result (claims_to_come (matter_of case.now) walk.new) }
 {
     let next = walk.next?;
-    let claim = first_claim(case, &next, walk.rest(case, tables));
+    let claim = first_claim(case, &next, walk.tail(case, tables));
     walk.go_on(case, tables, next, is_open(claim));
     Some(claim)
 }

@@ -1,6 +1,6 @@
 -- What `certify` writes: the certificate of a head that holds (`all_written`, `part_written`, `too_long`), and what it is of the
 -- exercise's best setting (`of_best`, `of_none`, `of_bound`).
-use Rattle.std.proofs.Common.{◌≡◌, ℕ, ◌<◌, ◌≤◌, List, [], ◌∷◌, Option, Result, Ok, Err, length, inl, inr, refl, subst, sym}
+use Rattle.std.proofs.Common.{◌≡◌, ℕ, ◌<◌, ◌≤◌, List, [], ◌∷◌, None, Option, Result, Ok, Err, length, inl, inr, refl, subst, sym}
 use Rattle.std.proofs.lemmas.Bool.Decides.{leb_tells}
 use Rattle.cert_law.specs.Certificates.{Holds}
 use Rattle.cert_law.specs.Writer.{written_certificate}
@@ -44,7 +44,7 @@ module _ (ex : Exercise) (sheet : Sheet) (head : CertHead) (verdict : Verdict) (
     (cut : Type 0) (old new : Option (List ℕ)) where
   its_certificate : IsCertificateOf ex sheet head (written_certificate ex sheet head)
   its_certificate = record {
-    valid = written_is_valid ex sheet valid.most_voices (floors_hold ex valid sheet) head holds;
+    valid = written_is_valid ex sheet valid (floors_hold ex valid sheet) head None tt holds;
     written = refl;
   }
 

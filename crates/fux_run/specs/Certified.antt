@@ -1,5 +1,5 @@
 -- What `certify` makes of an exercise, over a sheet of weights.
-use Rattle.std.specs.Prelude.{◌≡◌, ◌≢◌, ℕ, ◌<◌, ◌≤◌, List, Option, Ok, Err, length}
+use Rattle.std.specs.Prelude.{◌≡◌, ◌≢◌, ℕ, ◌<◌, ◌≤◌, List, None, Option, Ok, Err, length}
 use Rattle.std.specs.Borrow.{Bor}
 use Rattle.cert_law.specs.Certificates.{IsCertificate}
 use Rattle.cert_law.specs.Writer.{claims_of, written_certificate}
@@ -22,7 +22,7 @@ use Rattle.fux_run.specs.Texts.{Work}
 
 -- the bytes are the certificate that is written for a head, which is valid
 pub record IsCertificateOf (ex : Exercise) (sheet : Sheet) (head : CertHead) (bytes : List ℕ) : Type 0 where
-  pub valid : IsCertificate ex sheet head (claims_of ex sheet head)
+  pub valid : IsCertificate ex sheet head None (claims_of ex sheet head)
   pub written : bytes ≡ written_certificate ex sheet head
 
 -- the certificate of the best setting with its penalty, whose load is within the budget

@@ -3,7 +3,7 @@ use Rattle.cert_law.proofs.WrittenClaims.{written_is_valid}
 use Rattle.cert_law.proofs.law.written.Goals as goal
 
 pub returns : goal.returns
-returns c = λ holds.
-    written_is_valid c.args.ex.now c.args.sheet.now c.requires.valid.most_voices
+returns c = λ stated rests holds.
+    written_is_valid c.args.ex.now c.args.sheet.now c.requires.valid
     (floors_hold c.args.ex.now c.requires.valid c.args.sheet.now)
-    c.args.head.now holds
+    c.args.head.now stated rests holds

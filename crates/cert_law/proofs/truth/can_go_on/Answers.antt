@@ -6,7 +6,7 @@ use Rattle.fux_grid.specs.declared.exercise.Exercise.{Exercise}
 use Rattle.cert_law.proofs.truth.can_go_on.Goals as goal
 
 pub returns-then-judged-ex : goal.returns-then-judged-ex
-returns-then-judged-ex c = λ t p same judged.
+returns-then-judged-ex c = λ t stated p same judged.
     let few : t.exercise.voices ≤ 4 = omega (arith, c.requires.most_voices, ap (λ (ex : Exercise). ex.voices) same) in
     let shorter : length p < columns_in t.exercise = omega
     (arith, c.if-judged-ex.true, judged.state.newest.count, ap (λ (ex : Exercise). ex.bars) same) in (

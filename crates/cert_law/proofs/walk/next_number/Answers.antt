@@ -7,16 +7,16 @@ use Rattle.std.proofs.Common.{slice_index_or, [], length}
 use Rattle.cert_law.proofs.walk.next_number.Goals as goal
 
 pub returns-then-cells_follow : goal.returns-then-cells_follow
-returns-then-cells_follow c =
-    let menu = menu_of c.args.tables.now.exercise c.args.i in
+returns-then-cells_follow g c =
+    let menu = menu_of (g.T.Tails.basis c.args.tails.now).exercise c.args.i in
     let within : c.loop-k.k < length menu = omega (arith, c.loop-k-test.true, c.width-width.ensures) in
     let test = follow_test c.args.before.now c.as_slice.result.now (slice_index_or menu c.loop-k.k [])
     (c.as_slice.ensures.value ∙ c.column.ensures) (c.cells_follow.ensures.0 c.if-cells_follow.true) in
     (within, test, sym c.loop-k.invariant ∙ passing_here (column_follows c.args.before.now) menu c.loop-k.k within test)
 
 pub loop-k-preserved : goal.loop-k-preserved
-loop-k-preserved c =
-    let menu = menu_of c.args.tables.now.exercise c.args.i in
+loop-k-preserved g c =
+    let menu = menu_of (g.T.Tails.basis c.args.tails.now).exercise c.args.i in
     let within : c.loop-k.k < length menu = omega (arith, c.loop-k-test.true, c.width-width.ensures) in
     let test : column_follows c.args.before.now (slice_index_or menu c.loop-k.k []) ≡ false =
     false_from_ne_true (column_follows c.args.before.now (slice_index_or menu c.loop-k.k [])) (λ t.

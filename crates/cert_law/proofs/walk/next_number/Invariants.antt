@@ -5,9 +5,9 @@ use Rattle.fux_grid.specs.Menus.{menu_of}
 use Rattle.cert_law.proofs.walk.next_number.Given as goal
 
 abbrev pub invariant-loop-k : goal.invariant-loop-k
-invariant-loop-k l =
-    filter (column_follows l.before) (drop l.k (menu_of l.tables.exercise l.i))
-    ≡ filter (column_follows l.before) (drop l.from (menu_of l.tables.exercise l.i))
+invariant-loop-k g l =
+    filter (column_follows l.before) (drop l.k (menu_of (g.T.Tails.basis l.tails).exercise l.i))
+    ≡ filter (column_follows l.before) (drop l.from (menu_of (g.T.Tails.basis l.tails).exercise l.i))
 
 abbrev pub decreases-loop-k : goal.decreases-loop-k
-decreases-loop-k l = l.width - l.k
+decreases-loop-k g l = l.width - l.k

@@ -1,4 +1,4 @@
-use Rattle.std.proofs.Common.{◌∷◌, ◌++◌, [], Option, reverse, if◌then◌else◌, ap, sym, ◌∙◌, subst}
+use Rattle.std.proofs.Common.{◌∷◌, ◌++◌, [], None, Option, refl, reverse, if◌then◌else◌, ap, sym, ◌∙◌, subst}
 use Rattle.std.specs.Prelude.{IfSome}
 use Rattle.std.specs.List.{flat_map}
 use Rattle.cert_law.specs.Cases.{matter_of}
@@ -10,7 +10,7 @@ use Rattle.cert_law.proofs.FloorFacts.{floors_hold}
 use Rattle.cert_law.proofs.WrittenClaims.{first_claim_true}
 use Rattle.cert_text.specs.declared.claim.Claim.{Claim}
 use Rattle.cert_writer.specs.Writing.{claims_at}
-use Rattle.cert_writer.proofs.ClaimLemmas.{claims_step, open_true}
+use Rattle.cert_writer.proofs.ClaimLemmas.{claims_step, open_true, tail_here}
 use Rattle.cert_writer.proofs.next.next_claim.Goals as goal
 
 pub go_on-requires-clause-parent : goal.go_on-requires-clause-parent
@@ -20,9 +20,10 @@ go_on-requires-clause-parent c =
     let judged : IsJudged t p c.in_ok-next.next = subst (λ (next : Option Judged). IfSome next (IsJudged t p))
     c.in_ok-next.was c.requires.walk.next in
     let true_claim = first_claim_true t.exercise t.sheet c.requires.task.case.valid.most_voices
-    (floors_hold t.exercise c.requires.task.case.valid t.sheet) t.head c.requires.task.holds p judged.prefix in
-    let holds = subst (λ (claim : Claim). IsTrueOf t.exercise t.sheet t.head p claim)
-    (sym (c.first_claim-claim.ensures.value p judged c.rest.ensures)) true_claim in
+    (floors_hold t.exercise c.requires.task.case.valid t.sheet) t.head c.requires.task.holds None (λ q whole. refl) p
+    judged.prefix in
+    let holds = subst (λ (claim : Claim). IsTrueOf t.exercise t.sheet t.head None p claim)
+    (sym (c.first_claim-claim.ensures.value p judged (tail_here t c.args.tables.now p c.tail.result c.requires.task.has c.tail.ensures))) true_claim in
     record {
       orderly =
           λ h. (open_true t.exercise t.sheet t.head p c.first_claim-claim.result (sym c.is_open.ensures ∙ h) holds).1;
@@ -39,10 +40,11 @@ returns-clause-claims c =
     let claim = c.first_claim-claim.result in
     let judged : IsJudged t p c.in_ok-next.next = subst (λ (next : Option Judged). IfSome next (IsJudged t p))
     c.in_ok-next.was c.requires.walk.next in
-    let value = c.first_claim-claim.ensures.value p judged c.rest.ensures in
+    let value = c.first_claim-claim.ensures.value p judged (tail_here t c.args.tables.now p c.tail.result c.requires.task.has c.tail.ensures) in
     let true_claim = first_claim_true t.exercise t.sheet c.requires.task.case.valid.most_voices
-    (floors_hold t.exercise c.requires.task.case.valid t.sheet) t.head c.requires.task.holds p judged.prefix in
-    let holds = subst (λ (k : Claim). IsTrueOf t.exercise t.sheet t.head p k) (sym value) true_claim in
+    (floors_hold t.exercise c.requires.task.case.valid t.sheet) t.head c.requires.task.holds None (λ q whole. refl) p
+    judged.prefix in
+    let holds = subst (λ (k : Claim). IsTrueOf t.exercise t.sheet t.head None p k) (sym value) true_claim in
     ap (λ next. flat_map (claims_at t) (owed_at t.exercise levels next)) c.in_ok-next.was
     ∙ claims_step t p claim later value (λ o. (open_true t.exercise t.sheet t.head p claim o holds).0)
     ∙ ap (λ b. claim ∷ flat_map (claims_at t) ((if b then longer_from t.exercise p 0 else []) ++ later))

@@ -12,31 +12,31 @@ use Rattle.fux_grid.proofs.MenuLemmas.{menu_of-full}
 use Rattle.cert_law.proofs.walk.Walk.enter.Goals as goal
 
 pub after-requires-clause-full : goal.after-requires-clause-full
-after-requires-clause-full c =
-    let there = c.args.tables.now.exercise in
+after-requires-clause-full g c =
+    let there = (g.T.Tails.basis c.args.tails.now).exercise in
     let i = c.args.parent.state.newest.len in
     ap length c.column.ensures ∙ menu_of-full there i c.in-Some.number [] c.in-Some.ensures.0
-    ∙ ap (λ (ex : Exercise). ex.voices) c.requires.tables.exercise
+    ∙ ap (λ (ex : Exercise). ex.voices) c.requires.tails.exercise
 
 pub push_reserved-requires : goal.push_reserved-requires
-push_reserved-requires c =
+push_reserved-requires g c =
     let ex = c.args.case.now.exercise.now in
     let most : ex.bars ≤ 24 = c.requires.case.valid.most_bars in
     omega (arith, most, c.requires.parent.shorter, c.requires.room, length-levels ex c.args.self.now.levels.items)
 
 pub returns-clause-walk : goal.returns-clause-walk
-returns-clause-walk c =
+returns-clause-walk g c =
     let t = matter_of c.args.case.now in
     let ex = t.exercise in
     let older = reverse c.args.self.now.levels.items in
     let p = prefix_of ex older in
     let n : c.args.parent.state.newest.len ≡ length p = c.requires.parent.known.state.newest.count in
     let before = c.before-before.ensures p c.requires.parent.known.state in
-    let next = number_moved c.args.tables.now.exercise ex c.args.parent.state.newest.len p c.before-before.result.now
-    c.args.from (Some c.in-Some.number) c.requires.tables.exercise n before c.in-Some.ensures in
+    let next = number_moved (g.T.Tails.basis c.args.tails.now).exercise ex c.args.parent.state.newest.len p c.before-before.result.now
+    c.args.from (Some c.in-Some.number) c.requires.tails.exercise n before c.in-Some.ensures in
     let col : c.column.result.now.items ≡ column_after ex p c.in-Some.number =
     c.column.ensures ∙ ap (λ e. slice_index_or (menu_of e c.args.parent.state.newest.len) c.in-Some.number [])
-    c.requires.tables.exercise
+    c.requires.tails.exercise
     ∙ ap (λ k. slice_index_or (menu_of ex k) c.in-Some.number []) n in
     let level : Level = record { parent = c.args.parent; number = c.in-Some.number } in
     let levels = reverse-level c.args.self.now.levels.items c.push_reserved.new.self.items level
@@ -54,15 +54,15 @@ returns-clause-walk c =
     }
 
 pub returns-clause-owed : goal.returns-clause-owed
-returns-clause-owed c =
+returns-clause-owed g c =
     let t = matter_of c.args.case.now in
     let ex = t.exercise in
     let older = reverse c.args.self.now.levels.items in
     let p = prefix_of ex older in
     let n : c.args.parent.state.newest.len ≡ length p = c.requires.parent.known.state.newest.count in
     let before = c.before-before.ensures p c.requires.parent.known.state in
-    let next = number_moved c.args.tables.now.exercise ex c.args.parent.state.newest.len p c.before-before.result.now
-    c.args.from (Some c.in-Some.number) c.requires.tables.exercise n before c.in-Some.ensures in
+    let next = number_moved (g.T.Tails.basis c.args.tails.now).exercise ex c.args.parent.state.newest.len p c.before-before.result.now
+    c.args.from (Some c.in-Some.number) c.requires.tails.exercise n before c.in-Some.ensures in
     let level : Level = record { parent = c.args.parent; number = c.in-Some.number } in
     owed-entered ex older (reverse c.push_reserved.new.self.items) level c.args.from
     (reverse-level c.args.self.now.levels.items c.push_reserved.new.self.items level c.push_reserved.ensures.items)
