@@ -11,7 +11,8 @@ use Rattle.fux_grid.specs.Order.{IsEarlier}
 use Rattle.rule_law.specs.Pairs.{move_alike, move_into_perfect, sound_perfect, sound_same_key}
 use Rattle.rule_law.specs.Terms.{holds_of, interval_in}
 use Rattle.melody_rules.specs.Rows.{last_of, leaves_open, looks_back, pays_move, pitches, voice_rule, window_rule}
-use Rattle.motion_rules.specs.Rows.{cross, keep_on, move_in_parallel, sound_imperfect}
+use Rattle.motion_rules.specs.Rows.{cross, move_in_parallel}
+use Rattle.motion_rules.specs.Runs.{keep_on, sound_imperfect}
 use Rattle.dissonance_rules.specs.Rows.{clash_at_start}
 use Rattle.rhythm_cadence.specs.Rows.{holds_of_pitch, is_final_in, may_end}
 use Rattle.penalty_sheet.specs.declared.sheet.Sheet.{Sheet}

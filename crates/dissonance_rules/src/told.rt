@@ -26,7 +26,7 @@ fn notes_needed(species: u8) -> usize
 #[inline]
 fn starts_at(newest: &NewestColumns, ex: &Exercise, v: u8, j: usize) -> bool
     requires { ex.now.voices ≤ 4 }
-    ensures { (s : Columns) → AreNewestOf ex.now.voices s newest.now → length s ≤ j + 24 →
+    ensures { (s : Columns) → AreNewestOf ex.now.voices s newest.now → length s ≤ j + 25 →
         result ≡ terms.starts (cell_at s v j) }
 {
     starts(cell_of(newest.at(j, usize::from(ex.voices)), v as usize))
@@ -37,7 +37,7 @@ fn told_until(newest: &NewestColumns, ex: &Exercise, v: u8, first: usize, end: u
     requires voices { ex.now.voices ≤ 4 }
     requires order { first ≤ end }
     requires within { end ≤ newest.now.len }
-    requires near { newest.now.len ≤ first + 24 }
+    requires near { newest.now.len ≤ first + 25 }
     ensures from { first ≤ result }
     ensures to { result ≤ end }
     ensures told { (s : Columns) → AreNewestOf ex.now.voices s newest.now → AreTold ex.now s end first result v }
@@ -57,7 +57,7 @@ fn all_told_until(newest: &NewestColumns, ex: &Exercise, first: usize, end: usiz
     requires voices { ex.now.voices ≤ 4 }
     requires order { first ≤ end }
     requires within { end ≤ newest.now.len }
-    requires near { newest.now.len ≤ first + 24 }
+    requires near { newest.now.len ≤ first + 25 }
     ensures from { first ≤ result }
     ensures to { result ≤ end }
     ensures told { (s : Columns) → AreNewestOf ex.now.voices s newest.now → AreAllTold ex.now s end first result }

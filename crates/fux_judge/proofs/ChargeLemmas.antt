@@ -43,7 +43,7 @@ weighed false false false true w = omega arith
 weighed false false false false w = omega arith
 
 -- the tolls that are settled at once are those of melody, and those of several voices
-tolls_here : tolls_at_once ≡ 1 ∷ 2 ∷ 7 ∷ 8 ∷ 9 ∷ 10 ∷ 11 ∷ 13 ∷ 14 ∷ []
+tolls_here : tolls_at_once ≡ 1 ∷ 2 ∷ 7 ∷ 8 ∷ 9 ∷ 10 ∷ 11 ∷ 13 ∷ []
 unfolding tolls_at_once tolls_read toll_at
 tolls_here = refl
 
@@ -80,7 +80,7 @@ module _ (ex : Exercise) (sheet : Sheet) (p : List (List Cell)) (col : List Cell
   thirteen =
       ap (λ n. n * weight_of sheet 13) (reading-at_end (costs 13 ex) p col) ∙ weighed _ _ _ _ (weight_of sheet 13)
 
-  by_numbers : sum_by (toll_at_end ex sheet p col) (1 ∷ 2 ∷ 7 ∷ 8 ∷ 9 ∷ 10 ∷ 11 ∷ 13 ∷ 14 ∷ [])
+  by_numbers : sum_by (toll_at_end ex sheet p col) (1 ∷ 2 ∷ 7 ∷ 8 ∷ 9 ∷ 10 ∷ 11 ∷ 13 ∷ [])
       ≡ voice_charge ex sheet p col 0 + voice_charge ex sheet p col 1 + voice_charge ex sheet p col 2 + voice_charge ex
       sheet p col 3 + sum_by (toll_at_end ex sheet p col) tolls_of_pairs
   by_numbers = omega (arith, seven, eight, nine, ten, thirteen)

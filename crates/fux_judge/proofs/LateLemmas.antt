@@ -1,7 +1,7 @@
 -- What is read at the places of a late rule.
-use Rattle.std.proofs.Common.{◌≡◌, ℕ, ◌+◌, ◌-◌, ◌<◌, ◌≤◌, ◌==◌, ◌||◌, zero, suc, Bool, true, false, List, [], ◌∷◌, length, refl, ap, sym, ◌∙◌, arith}
+use Rattle.std.proofs.Common.{◌≡◌, ℕ, ◌+◌, ◌-◌, ◌<◌, ◌≤◌, ◌==◌, ◌||◌, zero, suc, Bool, true, false, not, List, [], ◌∷◌, ◌++◌, length, get_or, refl, ap, sym, ◌∙◌, arith}
 use Rattle.std.specs.Prelude.{if◌then◌else◌}
-use Rattle.std.specs.List.{list_any, sum_by}
+use Rattle.std.specs.List.{filter, list_any, sum_by}
 use Rattle.std.proofs.lemmas.List.{length-append}
 use Rattle.fux_grid.specs.declared.cell.Cell.{Cell}
 use Rattle.fux_grid.specs.declared.exercise.Exercise.{Exercise}
@@ -14,9 +14,10 @@ use Rattle.rule_law.specs.Rulebooks.{IsAmong, newly_breaks}
 use Rattle.fux_judge.specs.declared.state.State.{State}
 use Rattle.fux_judge.proofs.Facts.{rule_keeps}
 use Rattle.fux_judge.specs.Penalties.{is_strict_at, new_price, newly_broken_at}
-use Rattle.fux_judge.specs.Rules.{is_late, late_rules, rule_at}
+use Rattle.fux_judge.specs.Rules.{is_late, is_of_one_voice, late_rules, late_rules_asked, rule_at}
 use Rattle.fux_judge.specs.States.{HasCome}
 use Rattle.fux_judge.specs.Steps.{any_among, breaks_late, prices_late, sets_of_rule}
+use Rattle.fux_judge.proofs.Parts.{list_any-parted}
 use Rattle.fux_judge.proofs.StepPlaces.{any_among-alone, zero_below}
 use Rattle.fux_judge.proofs.SetLemmas.{priceless}
 
@@ -108,3 +109,39 @@ no_late_prices ex p col e =
     free true true h = h
     free true false h = refl
     free false b h = refl
+
+-- some late rule passes a test where one does in the order in which they are asked
+pub any_asked : (test : ℕ → Bool) → list_any test late_rules_asked ≡ list_any test late_rules
+unfolding late_rules_asked
+any_asked test =
+    list_any-append test (filter is_of_one_voice late_rules) (filter (λ rule. not (is_of_one_voice rule)) late_rules)
+    ∙ either_way (list_any test (filter is_of_one_voice late_rules))
+    (list_any test (filter (λ rule. not (is_of_one_voice rule)) late_rules))
+    ∙ sym (list_any-parted test is_of_one_voice late_rules)
+  where
+    either_way : (a b : Bool) → (a || b) ≡ (b || a)
+    either_way true true = refl
+    either_way true false = refl
+    either_way false true = refl
+    either_way false false = refl
+
+    list_any-append : (test : ℕ → Bool) (xs ys : List ℕ) → list_any test (xs ++ ys) ≡ (list_any test xs || list_any test ys)
+    list_any-append test [] ys = refl
+    list_any-append test (x ∷ xs) ys = grouped (test x) (list_any test xs) (list_any test ys) (list_any test (xs ++ ys))
+        (list_any-append test xs ys)
+      where
+        grouped : (t a b c : Bool) → c ≡ (a || b) → (t || c) ≡ ((t || a) || b)
+        grouped true a b c e = refl
+        grouped false a b c e = e
+
+-- where the item at a place of a list passes, some item does
+pub any_from_place : (test : ℕ → Bool) (xs : List ℕ) (k : ℕ) → k < length xs → test (get_or xs k 0) ≡ true
+    → list_any test xs ≡ true
+any_from_place test [] k h e = absurd (omega (arith, h))
+any_from_place test (x ∷ xs) zero h e = ap (λ b. b || list_any test xs) e
+any_from_place test (x ∷ xs) (suc k) h e =
+    ap (λ b. test x || b) (any_from_place test xs k (omega (arith, h)) e) ∙ or_true (test x)
+  where
+    or_true : (b : Bool) → (b || true) ≡ true
+    or_true true = refl
+    or_true false = refl

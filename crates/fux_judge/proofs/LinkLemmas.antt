@@ -333,15 +333,23 @@ module _ (toll : ℕ) (between : is_toll_between toll ≡ true) where
   toll_between_by crate its =
       sym (ap (λ (t : TollRow). is_of_neighbors t.kind) (toll_of_crate toll crate its)) ∙ between
 
-  -- it isn't Q16, so it is settled at its own column
+  -- it isn't one of a window
+  not_window : (n : ℕ) → is_toll_between n ≡ false → (toll == n) ≡ false
+  not_window n window = at (toll == n) refl
+    where
+      at : (b : Bool) → (toll == n) ≡ b → b ≡ false
+      at true e = let P : ℕ → Type 0 = λ t. is_toll_between t ≡ true in let both : false ≡ true = sym window
+          ∙ subst P (eqb-true toll n e) between in cc
+      at false e = refl
+
+  -- so it isn't Q16, and is settled at its own column; nor is it Q14
   not_pattern : (toll == 16) ≡ false
   unfolding toll_at
-  not_pattern = at (toll == 16) refl
-    where
-      at : (b : Bool) → (toll == 16) ≡ b → b ≡ false
-      at true e = let P : ℕ → Type 0 = λ t. is_toll_between t ≡ true in let both : false
-          ≡ true = subst P (eqb-true toll 16 e) between in cc
-      at false e = refl
+  not_pattern = not_window 16 refl
+
+  not_run : (toll == 14) ≡ false
+  unfolding toll_at
+  not_run = not_window 14 refl
 
   pub toll_settled_soon : (ex : Exercise) (i : ℕ) (behind : List (List Cell)) (now : List Cell)
       (ahead : List (List Cell)) → cost_enough toll ex i behind now ahead ≡ true
@@ -357,27 +365,26 @@ module _ (toll : ℕ) (between : is_toll_between toll ≡ true) where
         ∙ cond-false (toll == 13) (melody.open_leaps ex) (whole_of (melody.toll_rows toll ex))
         (other_kind (toll == 13) Window Pair refl (toll_between_by (Some Melody) its))
 
-    motion_choice : (b : Bool) → (toll == 12) ≡ b → crate_with_toll toll ≡ Some Motion → toll_at toll
-        ≡ (if b then motion_book.late_toll toll else motion_book.at_once_toll toll)
-    motion_choice b e its = toll_of_crate toll (Some Motion) its
-        ∙ ap (λ b. if b then motion_book.late_toll toll else motion_book.at_once_toll toll) e
+    motion_choice : Bool → Bool → TollRow
+    motion_choice inner run =
+        if inner || run then (if inner then motion_book.inner_row else motion_book.run_row)
+        else motion_book.at_once_toll toll
 
-    -- Q12, and the others
+    -- Q12, and the other
     pub inner_toll_row : crate_with_toll toll ≡ Some Motion → (toll == 12) ≡ true → costs toll ex
         ≡ whole_of (inner_toll ex)
-    inner_toll_row its is = of_toll (motion_book.late_toll toll) (motion_choice true is its)
+    unfolding motion_choice
+    inner_toll_row its is =
+        of_toll motion_book.inner_row (toll_of_crate toll (Some Motion) its
+        ∙ ap (λ b. motion_choice b (toll == 14)) is)
 
     pub motion_toll : crate_with_toll toll ≡ Some Motion → (toll == 12) ≡ false → costs toll ex
         ≡ whole_of (motion.toll_rows toll ex)
+    unfolding motion_choice
     motion_toll its other =
-        let row : toll_at toll ≡ motion_book.at_once_toll toll = motion_choice false other its in
-        let near : (toll == 14) ≡ false = other_kind (toll == 14) Window Pair refl
-        (sym (ap (λ (t : TollRow). is_of_neighbors t.kind) row) ∙ between) in
-        of_toll (motion_book.at_once_toll toll) row ∙ ap (λ b. chosen b) near
-      where
-        chosen : Bool → Row ℕ
-        chosen b i behind now ahead =
-            if b then motion.imperfect_runs i behind now else whole_of (motion.toll_rows toll ex) i behind now ahead
+        of_toll (motion_book.at_once_toll toll)
+        (toll_of_crate toll (Some Motion) its ∙ ap (λ b. motion_choice b (toll == 14)) other
+        ∙ ap (motion_choice false) not_run)
 
     pub dissonance_toll : crate_with_toll toll ≡ Some Dissonance → costs toll ex
         ≡ whole_of (dissonance.toll_rows toll ex)

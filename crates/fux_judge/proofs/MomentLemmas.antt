@@ -82,10 +82,12 @@ module _ (rule : ℕ) (voices : ℕ) (p : List (List Cell)) (m : Moment) where
 -- but for Q16 each toll is settled at its own column
 module _ (toll : ℕ) (other : (toll == 16) ≡ false) (ex : Exercise) (i : ℕ) (behind : List (List Cell)) (now : List Cell)
     (ahead : List (List Cell)) where
-  of_motion : (b : Bool) → (if b then motion_book.late_toll toll else motion_book.at_once_toll toll).enough ex i behind
-      now ahead ≡ true
-  of_motion true = refl
-  of_motion false = refl
+  of_motion : (a b : Bool) → (if a || b
+      then (if a then motion_book.inner_row else motion_book.run_row) else motion_book.at_once_toll toll).enough ex i
+      behind now ahead ≡ true
+  of_motion true b = refl
+  of_motion false true = refl
+  of_motion false false = refl
 
   of_rhythm : (a b : Bool) → b ≡ false → (if a || b
       then (if a then rhythm_book.ligature_row else rhythm_book.pattern_row) else no_toll).enough ex i behind now ahead
@@ -105,7 +107,7 @@ module _ (toll : ℕ) (other : (toll == 16) ≡ false) (ex : Exercise) (i : ℕ)
           else (if d then rhythm_book.toll_row toll else (if e then doubling_book.toll_row toll else no_toll))))).enough
           ex i behind now ahead ≡ true
       at true b c d e = refl
-      at false true c d e = of_motion (motion_book.is_late_toll toll)
+      at false true c d e = of_motion (toll == 12) (toll == 14)
       at false false true d e = refl
       at false false false true e = of_rhythm (toll == 15) (toll == 16) other
       at false false false false true = refl

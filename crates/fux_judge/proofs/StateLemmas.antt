@@ -3,13 +3,11 @@ use Rattle.std.specs.Prelude.{⊤, List, reverse}
 use Rattle.fux_grid.specs.declared.cell.Cell.{Cell}
 use Rattle.fux_grid.specs.declared.exercise.Exercise.{Exercise}
 use Rattle.melody_rules.specs.Notes.{AreNotesOf}
-use Rattle.motion_rules.specs.BarLines.{IsBarLinesOf}
 use Rattle.rhythm_cadence.specs.Parts.{IsShapesOf}
 use Rattle.fux_judge.specs.declared.past.Past.{Past}
 use Rattle.fux_judge.specs.States.{IsPastOf}
 
 pub parts_of : {ex : Exercise} {p : List (List Cell)} {past : Past} → IsPastOf ex p past
     → AreNotesOf (reverse p) past.parts.first
-    × (IsBarLinesOf p past.parts.second.first
-    × (⊤ × (IsShapesOf ex p past.parts.second.second.second.first × ⊤)))
-parts_of is = (is.melody, (is.motion, (tt, (is.rhythm, tt))))
+    × (⊤ × (⊤ × (IsShapesOf ex p past.parts.second.second.second.first × ⊤)))
+parts_of is = (is.melody, (tt, (tt, (is.rhythm, tt))))

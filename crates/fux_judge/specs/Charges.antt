@@ -19,7 +19,7 @@ tolls_of_melody = 7 ∷ 8 ∷ 9 ∷ 10 ∷ 13 ∷ []
 
 -- the others that are settled at once
 abbrev pub tolls_of_pairs : List ℕ
-tolls_of_pairs = 1 ∷ 2 ∷ 11 ∷ 14 ∷ []
+tolls_of_pairs = 1 ∷ 2 ∷ 11 ∷ []
 
 -- a toll of melody stands for a cell of a line, whose cells go from the newest to the oldest
 abbrev pub stands : ℕ → List Cell → Cell → Bool

@@ -5,17 +5,14 @@ use Rattle.fux_grid.specs.declared.exercise.Exercise.{Exercise}
 use Rattle.rule_law.specs.Newest.{AreNewestOf}
 use Rattle.rule_law.specs.Prefixes.{GoesOn}
 use Rattle.melody_rules.specs.Notes.{AreNotesOf}
-use Rattle.motion_rules.specs.BarLines.{IsBarLinesOf}
 use Rattle.rhythm_cadence.specs.Parts.{IsShapesOf}
 use Rattle.fux_judge.specs.declared.past.Past.{Past}
 use Rattle.fux_judge.specs.declared.state.State.{State}
 use Rattle.fux_judge.specs.GaugeStates.{AreAheadOf, AreGaugesOf}
 
--- the crates' parts are of the columns: the notes of each voice for melody, the beginnings of bars for motion, the shapes of the newest bar
--- for rhythm
+-- the crates' parts are of the columns: the notes of each voice for melody, the shapes of the newest bar for rhythm
 pub record IsPastOf (ex : Exercise) (p : List (List Cell)) (past : Past) : Type 0 where
   pub melody : AreNotesOf (reverse p) past.parts.first
-  pub motion : IsBarLinesOf p past.parts.second.first
   pub rhythm : IsShapesOf ex p past.parts.second.second.second.first
 
 -- the state is of the prefix: it knows its length and its newest columns, and what the crates keep is of it

@@ -10,7 +10,9 @@ ghost use Rattle.melody_rules.specs.Gauges.{is_topped};
 ghost use Rattle.melody_rules.specs.Gauges as gauges_words;
 ghost use Rattle.fux_judge.specs.GaugeStates.{AreAheadOf, IsAheadOf, StepsAhead};
 
-use fux_grid::{Cell, Exercise, START, allows, bar_of, cell_of, range, shapes_of, species_of};
+use fux_grid::{
+    Cell, Exercise, START, allows, bar_of, cell_of, range, shapes_of, slot_of, species_of,
+};
 use fux_pitch::semitone;
 use melody_rules::is_final_climax;
 use rule_law::{is_free, menu_starts, starts_ahead};
@@ -99,7 +101,7 @@ fn may_start(ex: &Exercise, v: u8, i: usize, cell: Cell) -> bool
     ensures { (col : List ACell) → IsInMenu ex.now i col → cell_in col v ≡ cell → result ≡ words.menu_starts ex.now v i }
 {
     let shapes = shapes_of(species_of(ex, v), bar_of(i), ex.bars);
-    if !allows(shapes, i % 8, START) {
+    if !allows(shapes, slot_of(i), START) {
         return false;
     }
     match cell {

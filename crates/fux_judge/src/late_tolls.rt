@@ -10,6 +10,7 @@ ghost use Rattle.fux_judge.specs.Late.{TellsAtPlaceOfCost, TellsOfNewest};
 ghost use Rattle.fux_judge.specs.Steps as steps;
 
 use crate::all_rules::AllRules;
+use crate::numbers::every_late_toll;
 use crate::state::State;
 use fux_grid::Exercise;
 use penalty_sheet::{Sheet, weight};
@@ -88,21 +89,18 @@ fn charges_of(toll: u8, sheet: &Sheet, ex: &Exercise, next: &State) -> u64
     sum
 }
 
-/// What the newest column settles of all late tolls. Each is asked by its number and not from a list, so that what a number says of its
-/// toll is known where the program is built.
-#[tactic(auto, unfolding(crate::specs::Rules::late_tolls, crate::specs::Rules::tolls_read, crate::specs::Rules::toll_at))]
+/// What the newest column settles of all late tolls.
 pub(crate) fn late_charges(sheet: &Sheet, ex: &Exercise, next: &State) -> u64
     requires valid { IsValid ex.now }
     requires begun { 0 < next.now.newest.len }
     requires room { next.now.newest.len ≤ columns_in ex.now }
     ensures value { TellsOfNewest ex.now next.now (λ p col. sum_by (steps.toll_late ex.now sheet.now p col) late_tolls) result }
-    ensures bound { result ≤ 75496320 }
+    ensures bound { result ≤ 94370400 }
 {
-    charges_of(3, sheet, ex, next)
-        + charges_of(4, sheet, ex, next)
-        + charges_of(5, sheet, ex, next)
-        + charges_of(6, sheet, ex, next)
-        + charges_of(12, sheet, ex, next)
-        + charges_of(15, sheet, ex, next)
-        + charges_of(16, sheet, ex, next)
+    let mut sum = 0u64;
+    for toll in every_late_toll() {
+        let charges = charges_of(*toll, sheet, ex, next);
+        sum += charges;
+    }
+    sum
 }

@@ -48,14 +48,14 @@ fn charge(toll: u8, sheet: &Sheet, m: &Moment<'_>) -> u64
     u64::from(cost(toll, m)) * u64::from(weight(sheet, toll))
 }
 
-/// What the tolls of motion and dissonance cost together: those that several voices make.
+/// What the tolls of motion and dissonance that are settled at once cost together: those that several voices make.
 #[tactic(auto, unfolding(crate::specs::Rules::toll_at))]
 pub(crate) fn charges_of_pairs(sheet: &Sheet, m: &Moment<'_>) -> u64
     requires { IsReadable m.now }
     ensures value { (p : List (List ACell)) → IsAfter p m.now → result ≡ pairs_then sheet.now p m.now }
-    ensures bound { result ≤ 1572840 }
+    ensures bound { result ≤ 1179630 }
 {
-    charge(1, sheet, m) + charge(2, sheet, m) + charge(11, sheet, m) + charge(14, sheet, m)
+    charge(1, sheet, m) + charge(2, sheet, m) + charge(11, sheet, m)
 }
 
 /// The weight of the toll that a move to a cell pays by its size: Q7, Q8, Q9 or Q10.

@@ -1,8 +1,8 @@
 //! The command `check`.
 
-ghost use Rattle.std.specs.Prelude.{◌≡◌, ◌<◌, ◌≤◌, IfErr, IfOk, OnOk};
+ghost use Rattle.std.specs.Prelude.{◌≡◌, ◌≤◌, IfErr, IfOk, OnOk};
 ghost use Rattle.cert_check.specs.declared.verdict.Verdict.{Verdict as AVerdict};
-ghost use Rattle.fux_grid.specs.Exercises.{IsValid, bar_of, slot_of};
+ghost use Rattle.fux_grid.specs.Exercises.{IsValid};
 ghost use Rattle.fux_port.specs.Promises.{ServesWhole};
 ghost use Rattle.fux_run.specs.Blame.{IsReadWithin};
 ghost use Rattle.fux_run.specs.Checked.{ChecksOn, told, verdict_on};
@@ -11,7 +11,7 @@ ghost use Rattle.fux_run.specs.Searched.{IsNarrow, RefusesWidth};
 use crate::refusal::Refusal;
 use crate::work::{Output, Stop, Unmade, Verdict};
 use cert_check::{CheckFault, check_file, verdict_text};
-use fux_grid::{Exercise, Place, WIDEST, width};
+use fux_grid::{Exercise, WIDEST, place_of, width};
 use fux_pitch::Memory;
 use fux_port::Shelf;
 use penalty_sheet::Sheet;
@@ -60,18 +60,6 @@ fn test_widths(exercise: &Exercise) -> Result<(), Refusal>
         }
     }
     Ok(())
-}
-
-/// The place of a column.
-fn place_of(i: usize) -> Place
-    requires { i < 192 }
-    ensures bar { result.bar ≡ bar_of i }
-    ensures slot { result.slot ≡ slot_of i }
-{
-    Place {
-        bar: (i / 8 + 1) as u8,
-        slot: (i % 8) as u8,
-    }
 }
 
 /// The line of a verdict, with what it says all in all.

@@ -1,6 +1,6 @@
 pub mod AfterbeatLemmas
-pub mod BarLineLemmas
 pub mod BookLaws
 pub mod LateLemmas
 pub mod LowerVoices
 pub mod Quiet
+pub mod RunLemmas

@@ -10,7 +10,7 @@ use Rattle.rule_law.specs.Nearby.{Pitches}
 use Rattle.rule_law.specs.Pairs.{count_pairs, move_alike, sound_perfect}
 use Rattle.rule_law.specs.Quiet.{is_quiet, quiet_alike, quiet_moves, quiet_pair, quiet_slot, count_pairs-none, either_none, on_pair-none}
 use Rattle.rule_law.specs.Terms.{equal_perfects, interval_in}
-use Rattle.motion_rules.specs.Rows.{are_outer, four_bar_lines, imperfect_runs, is_above, keep_on, near_rows, toll_rows}
+use Rattle.motion_rules.specs.Rows.{are_outer, is_above, near_rows, toll_rows}
 
 module _ (ex : Exercise) (i : ℕ) (now : List Cell) (quiet : is_quiet i now ≡ true) where
   pub quiet_rows : (rule voices : ℕ) (before : List Cell) (previous : Pitches)
@@ -27,7 +27,3 @@ module _ (ex : Exercise) (i : ℕ) (now : List Cell) (quiet : is_quiet i now ≡
 
   pub quiet_tolls : (toll : ℕ) (before : List Cell) (previous : Pitches) → toll_rows toll ex i before previous now ≡ 0
   quiet_tolls toll before previous = count_pairs-none (move_alike before now) (quiet_alike i before now quiet)
-
-  pub quiet_runs : (behind : List (List Cell)) → imperfect_runs i behind now ≡ 0
-  quiet_runs behind = ap (λ b. if b && nat_le 4 (bar_of i) then count_pairs (keep_on (four_bar_lines behind now))
-      else 0) (quiet_slot i now quiet)

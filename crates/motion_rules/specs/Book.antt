@@ -11,6 +11,7 @@ use Rattle.rule_law.specs.Rulebooks.{RuleRow, Rulebook, TollRow}
 use Rattle.motion_rules.specs.Afterbeats.{afterbeat_enough, afterbeat_row, moves_within_bars}
 use Rattle.motion_rules.specs.InnerVoices.{inner_toll}
 use Rattle.motion_rules.specs.Rows.{broken_in, cost_enough, cost_in, enough_after}
+use Rattle.motion_rules.specs.Runs.{ends_four_bars, run_toll}
 
 abbrev pub has_rule : ℕ → Bool
 has_rule n = (n == 10) || (n == 16) || (n == 17) || (n == 18)
@@ -18,12 +19,12 @@ has_rule n = (n == 10) || (n == 16) || (n == 17) || (n == 18)
 abbrev pub has_toll : ℕ → Bool
 has_toll n = (n == 11) || (n == 12) || (n == 14)
 
--- S18 and Q12 are read among the newest columns
+-- S18, Q12 and Q14 are read among the newest columns
 abbrev pub is_late : ℕ → Bool
 is_late n = n == 18
 
 abbrev pub is_late_toll : ℕ → Bool
-is_late_toll n = n == 12
+is_late_toll n = (n == 12) || (n == 14)
 
 abbrev pub at_once_row : ℕ → RuleRow
 at_once_row n = record {
@@ -58,7 +59,7 @@ rule_row n = if is_late n then late_row n else at_once_row n
 
 abbrev pub at_once_toll : ℕ → TollRow
 at_once_toll n = record {
-  kind = if n == 14 then Window else Pair;
+  kind = Pair;
   late = false;
   cost = cost_in n;
   enough = cost_enough n;
@@ -67,8 +68,8 @@ at_once_toll n = record {
 }
 
 -- Q12 costs nothing in two voices
-abbrev pub late_toll : ℕ → TollRow
-late_toll n = record {
+abbrev pub inner_row : TollRow
+inner_row = record {
   kind = Pair;
   late = true;
   cost = λ ex. whole_of (inner_toll ex);
@@ -76,6 +77,20 @@ late_toll n = record {
   first = λ ex i. i;
   count = λ ex i. if nat_le 3 ex.voices then 1 else 0;
 }
+
+-- Q14 costs something at the beginnings of bars alone, from the fourth on
+abbrev pub run_row : TollRow
+run_row = record {
+  kind = Window;
+  late = true;
+  cost = run_toll;
+  enough = λ ex. at_once;
+  first = λ ex i. i;
+  count = λ ex i. if ends_four_bars i then 1 else 0;
+}
+
+abbrev pub late_toll : ℕ → TollRow
+late_toll n = if n == 12 then inner_row else run_row
 
 abbrev pub toll_row : ℕ → TollRow
 toll_row n = if is_late_toll n then late_toll n else at_once_toll n

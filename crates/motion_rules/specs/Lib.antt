@@ -1,7 +1,7 @@
 pub mod Afterbeats
-pub mod BarLines
 pub mod Book
 pub mod Clear
 pub mod InnerVoices
 pub mod Locality
 pub mod Rows
+pub mod Runs

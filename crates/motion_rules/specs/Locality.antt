@@ -1,5 +1,5 @@
 -- The readings of the rules S10 and S16 to S18 and of the tolls Q11, Q12 and Q14 are local, and two neighbors decide all but S18 and Q14.
-use Rattle.std.specs.Prelude.{◌≡◌, ℕ, ◌+◌, ◌^◌, ◌==◌, Bool, true, false, IsTrue, ◌++◌, length, nat_lt, if◌then◌else◌, refl}
+use Rattle.std.specs.Prelude.{◌≡◌, ℕ, ◌+◌, ◌^◌, ◌==◌, Bool, true, false, ◌||◌, IsTrue, ◌++◌, length, nat_lt, if◌then◌else◌, refl}
 use Rattle.std.proofs.Common.{subst, sym, ◌∙◌}
 use Rattle.std.proofs.lemmas.Bool.{and_from, eqb-true, false_from_ne_true}
 use Rattle.fux_grid.specs.declared.exercise.Exercise.{Exercise}
@@ -7,12 +7,14 @@ use Rattle.rule_law.specs.BothLaw.{RuleReading, AreLocal, SettleAtEnd}
 use Rattle.rule_law.specs.Law.{at_once_settles, local_from_row, test_from_below}
 use Rattle.rule_law.specs.NearLaw.{IsNear, near_from_whole}
 use Rattle.rule_law.specs.Nearby.{NearRow, whole_of}
-use Rattle.rule_law.specs.Places.{IsLocal, IsUndisturbed, Row, SettlesAtEnd, at_once, reading_of, settled_by}
+use Rattle.rule_law.specs.Places.{IsLocal, IsUndisturbed, SettlesAtEnd, at_once, reading_of, settled_by}
+use Rattle.rule_law.specs.Rulebooks.{TollRow}
 use Rattle.rule_law.specs.Voices.{has_rule}
 use Rattle.rule_law.specs.Growth.{AlwaysEnough}
-use Rattle.motion_rules.specs.Book.{at_once_row, at_once_toll, is_late, is_late_toll, late_row, late_toll, rule_row, toll_row}
+use Rattle.motion_rules.specs.Book.{at_once_row, at_once_toll, inner_row, is_late, late_row, rule_row, run_row, toll_row}
 use Rattle.motion_rules.specs.InnerVoices.{inner_toll}
-use Rattle.motion_rules.specs.Rows.{cost_enough, cost_in, imperfect_runs, near_rows, toll_rows}
+use Rattle.motion_rules.specs.Rows.{cost_enough, cost_in, near_rows, toll_rows}
+use Rattle.motion_rules.specs.Runs.{run_toll}
 
 -- the bits of the rules 10, 16, 17 and 18
 abbrev pub rule_bits : ℕ
@@ -28,7 +30,7 @@ toll_bits = 2 ^ 11 + 2 ^ 12
 
 -- what each of them costs by two neighbors
 abbrev pub near_toll : ℕ → Exercise → NearRow ℕ
-near_toll toll ex = if is_late_toll toll then inner_toll ex else toll_rows toll ex
+near_toll toll ex = if toll == 12 then inner_toll ex else toll_rows toll ex
 
 -- whether a rule is broken at a place of a list, and whether that is settled: by its row in the book
 abbrev pub motion_breaks : RuleReading
@@ -87,25 +89,26 @@ cost_settles_at_end toll ex = at_once_settles ex
 -- where a toll isn't Q14, two neighbors decide it
 pub cost_is_near : (toll : ℕ) (ex : Exercise) → IsTrue (has_rule toll_bits toll)
     → IsNear ex (reading_of ((toll_row toll).cost ex)) (near_toll toll ex)
-cost_is_near toll ex h = at (is_late_toll toll)
+cost_is_near toll ex h = at (toll == 12) (toll == 14) (differs_by toll_bits toll 14 refl h)
   where
-    chosen : Bool → Row ℕ
-    chosen b i behind now ahead =
-        if b then imperfect_runs i behind now else whole_of (toll_rows toll ex) i behind now ahead
+    row : Bool → Bool → TollRow
+    row inner run = if inner || run then (if inner then inner_row else run_row) else at_once_toll toll
 
-    early : IsNear ex (reading_of (cost_in toll ex)) (toll_rows toll ex)
-    early =
-        let near : Bool → Type 0 = λ b. IsNear ex (reading_of (chosen b)) (toll_rows toll ex) in
-        subst near (sym (differs_by toll_bits toll 14 refl h)) (near_from_whole ex (toll_rows toll ex))
+    at : (inner run : Bool) → run ≡ false
+        → IsNear ex (reading_of ((row inner run).cost ex)) (if inner then inner_toll ex else toll_rows toll ex)
+    at true run e = near_from_whole ex (inner_toll ex)
+    at false true e = cc
+    at false false e = near_from_whole ex (toll_rows toll ex)
 
-    at : (b : Bool) → IsNear ex (reading_of ((if b then late_toll toll else at_once_toll toll).cost ex))
-        (if b then inner_toll ex else toll_rows toll ex)
-    at true = near_from_whole ex (inner_toll ex)
-    at false = early
-
--- Q12 too
+-- Q12 and Q14 are local too
 pub inner_is_local : (ex : Exercise) → IsLocal ex (reading_of (whole_of (inner_toll ex))) (settled_by at_once)
 inner_is_local ex = local_from_row ex (whole_of (inner_toll ex)) at_once (λ i behind now ahead t h. refl)
 
 pub inner_settles_at_end : (ex : Exercise) → SettlesAtEnd ex (settled_by at_once)
 inner_settles_at_end ex = at_once_settles ex
+
+pub run_is_local : (ex : Exercise) → IsLocal ex (reading_of (run_toll ex)) (settled_by at_once)
+run_is_local ex = local_from_row ex (run_toll ex) at_once (λ i behind now ahead t h. refl)
+
+pub run_settles_at_end : (ex : Exercise) → SettlesAtEnd ex (settled_by at_once)
+run_settles_at_end ex = at_once_settles ex

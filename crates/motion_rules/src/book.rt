@@ -1,16 +1,14 @@
 //! The crate's rules and tolls by their numbers.
 
-ghost use Rattle.std.specs.Prelude.{◌≡◌};
+ghost use Rattle.std.specs.Prelude.{◌≡◌, ⊤};
 ghost use Rattle.rule_law.specs.Rulebooks.{KeepsLaws};
-ghost use Rattle.motion_rules.specs.BarLines.{IsBarLinesOf};
 ghost use Rattle.motion_rules.specs.Book as books;
 
 use crate::afterbeats::breaks_afterbeat;
-use crate::bar_lines::{BarLines, imperfect_runs_after, no_bar_lines, noted};
 use crate::inner_voices::inner_moves;
 use crate::motion::Motion;
 use crate::rows::{breaks, cost};
-use crate::tolls::imperfect_runs;
+use crate::runs::{ends_four_bars, imperfect_runs};
 use fux_grid::{Cell, Exercise, Score, VoiceSet};
 use rule_law::{
     ColumnsAround, Form, LatePlaces, Latest, NewestColumns, RuleCrate, begins_bar, cells_behind,
@@ -29,21 +27,17 @@ fn may_be_bare(ex: &Exercise, i: usize) -> bool
     matches!(ex.species, 2 | 3 | 5) && begins_bar(i) && i >= 8
 }
 
-/// S18 and Q12 are late.
+/// S18, Q12 and Q14 are late.
 impl RuleCrate for Motion {
-    type Part = BarLines;
+    type Part = ();
 
     ghost book = { books.book };
 
-    ghost is_part = { λ ex p kept. IsBarLinesOf p kept };
+    ghost is_part = { λ ex p part. ⊤ };
 
-    fn start() -> BarLines {
-        no_bar_lines()
-    }
+    fn start() {}
 
-    fn noted(part: &BarLines, _ex: &Exercise, i: usize, column: &[Cell]) -> BarLines {
-        noted(part, i, column)
-    }
+    fn noted(_part: &(), _ex: &Exercise, _i: usize, _column: &[Cell]) {}
 
     #[inline(always)]
     fn has_rule(rule: u8) -> bool {
@@ -71,7 +65,7 @@ impl RuleCrate for Motion {
     }
 
     fn breaks_late(
-        _part: &BarLines,
+        _part: &(),
         newest: &NewestColumns,
         _rule: u8,
         ex: &Exercise,
@@ -81,12 +75,18 @@ impl RuleCrate for Motion {
         breaks_afterbeat(newest, ex, voices, place)
     }
 
-    /// The column itself, in three or four voices.
-    fn toll_places(_toll: u8, ex: &Exercise, i: usize) -> LatePlaces {
-        LatePlaces::own(ex.voices >= 3, i)
+    /// The column itself: for Q12 in three or four voices, for Q14 where a bar begins, from the fourth on.
+    fn toll_places(toll: u8, ex: &Exercise, i: usize) -> LatePlaces {
+        if toll == 12 {
+            return LatePlaces::own(ex.voices >= 3, i);
+        }
+        LatePlaces::own(ends_four_bars(i), i)
     }
 
-    fn cost_late(newest: &NewestColumns, _toll: u8, ex: &Exercise, place: usize) -> u32 {
+    fn cost_late(newest: &NewestColumns, toll: u8, ex: &Exercise, place: usize) -> u32 {
+        if toll != 12 {
+            return imperfect_runs(newest, ex, place);
+        }
         inner_moves(
             ex,
             cells_behind(newest, ex, place, 0),
@@ -96,7 +96,7 @@ impl RuleCrate for Motion {
 
     #[inline(always)]
     fn breaks_at_once(
-        _part: &BarLines,
+        _part: &(),
         rule: u8,
         ex: &Exercise,
         voices: VoiceSet,
@@ -110,7 +110,7 @@ impl RuleCrate for Motion {
 
     #[inline(always)]
     fn cost_at_once(
-        part: &BarLines,
+        _part: &(),
         toll: u8,
         ex: &Exercise,
         i: usize,
@@ -118,9 +118,6 @@ impl RuleCrate for Motion {
         latest: &Latest,
         now: &[Cell],
     ) -> u32 {
-        if toll == 14 {
-            return imperfect_runs_after(part, i, now);
-        }
         cost(toll, ex, i, before, latest, now)
     }
 
@@ -181,7 +178,7 @@ impl RuleCrate for Motion {
         let (before, now) = (score.before(i), score.column(i).as_slice());
         match toll {
             12 => inner_moves(ex, before, now),
-            14 => imperfect_runs(score, i),
+            14 => imperfect_runs(score, ex, i),
             _ => cost(toll, ex, i, before, &Latest::NONE, now),
         }
     }

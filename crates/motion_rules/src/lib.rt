@@ -2,19 +2,19 @@
 #![tactic(auto)]
 
 mod afterbeats;
-mod bar_lines;
 mod book;
 mod clear;
 mod inner_voices;
 mod motion;
 mod rows;
+mod runs;
 mod tolls;
 
 pub use afterbeats::breaks_afterbeat;
-pub use bar_lines::{BarLines, imperfect_runs_after, no_bar_lines, noted};
 pub use book::book_is_lawful;
 pub use clear::are_clear;
 pub use inner_voices::inner_moves;
 pub use motion::Motion;
-pub use rows::{breaks, cost, cross, move_in_parallel, sound_imperfect};
+pub use rows::{breaks, cost, cross, move_in_parallel};
+pub use runs::{imperfect_runs, sound_imperfect};
 pub use tolls::{Q11, Q12, Q14};

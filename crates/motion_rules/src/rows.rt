@@ -1,12 +1,11 @@
 //! Each rule and toll over the columns that it reads.
 
 ghost use Rattle.std.specs.Prelude.{◌≡◌, ◌≤◌, ◌∷◌, [], if◌then◌else◌};
-ghost use Rattle.fux_pitch.specs.Size.{IsShort};
 ghost use Rattle.rule_law.specs.Pairs as pairs;
 ghost use Rattle.motion_rules.specs.Rows as rows;
 
 use fux_grid::{Cell, Exercise, VoiceSet, cell_of};
-use fux_pitch::{Interval, is_imperfect, reduce, semitone};
+use fux_pitch::semitone;
 use rule_law::{
     Latest, both_move, equal_perfects, interval_of_cells, move_alike, move_into_perfect,
     one_starts, pair_of,
@@ -87,26 +86,6 @@ fn pairs_alike(before: &[Cell], now: &[Cell]) -> u32
         + alike(before, now, 1, 2)
         + alike(before, now, 1, 3)
         + alike(before, now, 2, 3)
-}
-
-/// Whether the interval is imperfect and has so many degrees without its octaves: a third has 2, a sixth has 5.
-#[inline]
-fn is_imperfect_of(interval: Interval, degrees: u8) -> bool
-    requires { IsShort interval }
-    ensures { result ≡ rows.is_imperfect_of degrees interval }
-{
-    is_imperfect(interval) && reduce(interval).degrees == i16::from(degrees)
-}
-
-/// Whether two voices sound an imperfect interval of so many degrees without its octaves.
-#[inline]
-pub fn sound_imperfect(column: &[Cell], degrees: u8, v: usize, w: usize) -> bool
-    ensures { result ≡ rows.sound_imperfect degrees column.now v w }
-{
-    match interval_of_cells(cell_of(column, v), cell_of(column, w)) {
-        Some(interval) => is_imperfect_of(interval, degrees),
-        None => false,
-    }
 }
 
 /// Whether a rule is broken at a column, whose cells are `now`, after the column whose cells are `before`.

@@ -1,18 +1,15 @@
 //! The tolls.
 
-ghost use Rattle.std.specs.Prelude.{◌≡◌, ◌<◌, length};
-ghost use Rattle.std.specs.List.{list_all};
 ghost use Rattle.rule_law.specs.Nearby.{whole_of};
-ghost use Rattle.rule_law.specs.Places.{at_once, reading_back, reading_of, settled_by};
+ghost use Rattle.rule_law.specs.Places.{at_once, reading_of, settled_by};
 ghost use Rattle.motion_rules.specs.InnerVoices.{inner_toll};
-ghost use Rattle.motion_rules.specs.Locality.{cost_is_local, cost_settles_at_end, inner_is_local, inner_settles_at_end};
-ghost use Rattle.motion_rules.specs.Rows as rows;
-ghost use Rattle.motion_rules.specs.Rows.{cost_enough, cost_in, four_bar_lines_at};
+ghost use Rattle.motion_rules.specs.Locality.{cost_is_local, cost_settles_at_end, inner_is_local, inner_settles_at_end, run_is_local, run_settles_at_end};
+ghost use Rattle.motion_rules.specs.Rows.{cost_enough, cost_in};
+ghost use Rattle.motion_rules.specs.Runs.{run_toll};
 
 use crate::motion::Motion;
-use crate::rows::sound_imperfect;
-use fux_grid::{Cell, Exercise, Score};
-use rule_law::{RuleCrate, Toll, begins_bar, voice_pairs};
+use fux_grid::{Exercise, Score};
+use rule_law::{RuleCrate, Toll};
 
 /// Two voices that move, both rising or both falling.
 #[derive(Clone, Copy, Debug, PartialEq, Eq)]
@@ -74,49 +71,16 @@ impl Toll for Q12 {
 #[derive(Clone, Copy, Debug, PartialEq, Eq)]
 pub struct Q14;
 
-/// Whether two voices sound imperfect intervals of so many degrees at column `i` and at the beginnings of the three bars before.
-fn sound_four(score: &Score, i: usize, degrees: u8, v: usize, w: usize) -> bool
-    requires { i < length score.now.columns }
-    ensures { result ≡ list_all (λ col. rows.sound_imperfect degrees col v w) (four_bar_lines_at score.now.columns i) }
-{
-    sound_imperfect(score.column(i).as_slice(), degrees, v, w)
-        && sound_imperfect(score.behind(i, 7), degrees, v, w)
-        && sound_imperfect(score.behind(i, 15), degrees, v, w)
-        && sound_imperfect(score.behind(i, 23), degrees, v, w)
-}
-
-/// Whether two voices sound thirds there, or sixths.
-fn keep_on(score: &Score, i: usize, v: usize, w: usize) -> bool
-    requires { i < length score.now.columns }
-    ensures { result ≡ rows.keep_on (four_bar_lines_at score.now.columns i) v w }
-{
-    sound_four(score, i, 2, v, w) || sound_four(score, i, 5, v, w)
-}
-
-/// For how many pairs Q14 stands at column `i`.
-pub(crate) fn imperfect_runs(score: &Score, i: usize) -> u32
-    requires { i < length score.now.columns }
-    ensures { result ≡ reading_back rows.imperfect_runs score.now.columns i }
-{
-    if !begins_bar(i) || i / 8 < 3 {
-        return 0;
-    }
-    voice_pairs()
-        .iter()
-        .filter(|pair| keep_on(score, i, pair.0 as usize, pair.1 as usize))
-        .count() as u32
-}
-
 impl Toll for Q14 {
     ghost numbered = { λ _. 14 };
 
-    ghost charges = { λ _ ex. reading_of (cost_in 14 ex) };
+    ghost charges = { λ _ ex. reading_of (run_toll ex) };
 
-    ghost settles = { λ _ ex. settled_by (cost_enough 14 ex) };
+    ghost settles = { λ _ ex. settled_by at_once };
 
-    ghost local = { λ _. cost_is_local 14 };
+    ghost local = { λ _. run_is_local };
 
-    ghost ends = { λ _. cost_settles_at_end 14 };
+    ghost ends = { λ _. run_settles_at_end };
 
     fn number(&self) -> u8 {
         14

@@ -9,7 +9,7 @@ ghost use Rattle.fux_judge.specs.Penalties as penalties;
 ghost use Rattle.fux_judge.specs.Rules as rules;
 ghost use Rattle.plain_judge.specs.Between.{IsPart, columns_of, settled_since};
 
-use fux_grid::{Exercise, Score, VoiceSet};
+use fux_grid::{Exercise, Score, VoiceSet, bar_of};
 use fux_judge::is_settled_in;
 use penalty_sheet::{Price, price_at};
 
@@ -56,14 +56,6 @@ pub(crate) fn is_settled_since(
         return false;
     }
     is_settled_in(rule, ex, score, i, voices)
-}
-
-/// The bar of a column, counted from 1.
-fn bar_of(i: usize) -> u8
-    requires { i < 192 }
-    ensures { result ≡ exercises.bar_of i }
-{
-    (i / 8 + 1) as u8
 }
 
 /// What a break there costs.

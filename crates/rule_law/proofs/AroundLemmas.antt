@@ -122,7 +122,7 @@ module _ (ex : Exercise) (p : List (List Cell)) (col : List Cell) (on : GoesOn e
 
   -- the newest columns of that list are those around each place among them
   pub kept_after : (kept : NewestColumns) (first : ℕ) → AreNewestOf ex.voices (p ++ col ∷ []) kept
-      → length p < first + 24 → AreKeptFrom ex kept (p ++ col ∷ []) first
+      → length p < first + 25 → AreKeptFrom ex kept (p ++ col ∷ []) first
   kept_after kept first newest near = record {
     newest = newest;
     near = omega (arith, near, length-append p (col ∷ []));

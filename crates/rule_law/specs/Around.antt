@@ -17,5 +17,5 @@ SoundsOn ex s =
 -- the newest columns of such a list of an exercise are kept, those from column `first` on among them
 pub record AreKeptFrom (ex : Exercise) (kept : NewestColumns) (s : Columns) (first : ℕ) : Type 0 where
   pub newest : AreNewestOf ex.voices s kept
-  pub near : length s ≤ first + 24
+  pub near : length s ≤ first + 25
   pub previous : SoundsOn ex s

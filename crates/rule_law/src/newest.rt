@@ -34,13 +34,13 @@ impl ColumnCells {
     }
 }
 
-/// How many columns a list has, and the newest 24 of them: three bars, as far back as a rule looks from the column that settles it.
-/// Column `i` is kept at `i % 24`. It has a fixed size and takes no memory.
+/// How many columns a list has, and the newest 25 of them: a column and the three bars before it, as far back as a rule or a toll looks
+/// from the column that settles it. Column `i` is kept at `i % 25`. It has a fixed size and takes no memory.
 #[derive(Clone, Copy, Debug, PartialEq, Eq)]
 pub struct NewestColumns {
     /// How many columns the list has.
     pub len: usize,
-    columns: [ColumnCells; 24],
+    columns: [ColumnCells; 25],
 }
 
 impl NewestColumns {
@@ -50,7 +50,7 @@ impl NewestColumns {
     {
         NewestColumns {
             len: 0,
-            columns: [ColumnCells::RESTS; 24],
+            columns: [ColumnCells::RESTS; 25],
         }
     }
 
@@ -78,7 +78,7 @@ impl NewestColumns {
         ensures count { result.len ≡ self.now.len + 1 }
     {
         let mut next = *self;
-        next.columns[self.len % 24] = ColumnCells::of(column);
+        next.columns[self.len % 25] = ColumnCells::of(column);
         next.len = self.len + 1;
         next
     }
@@ -87,12 +87,12 @@ impl NewestColumns {
     #[inline]
     pub fn at(&self, i: usize, voices: usize) -> &[Cell]
         requires { voices ≤ 4 }
-        ensures { (s : List (List ACell)) → AreNewestOf voices s self.now → length s ≤ i + 24
+        ensures { (s : List (List ACell)) → AreNewestOf voices s self.now → length s ≤ i + 25
             → result.now ≡ slice_index_or s i [] }
     {
         if i >= self.len {
             return &[];
         }
-        &self.columns[i % 24].cells[..voices]
+        &self.columns[i % 25].cells[..voices]
     }
 }

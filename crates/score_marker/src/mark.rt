@@ -4,7 +4,7 @@ ghost use Rattle.std.specs.Prelude.{◌≡◌, ◌<◌, ◌++◌, OnOk};
 ghost use Rattle.score_marker.specs.Lists.{mark_where};
 ghost use Rattle.score_marker.specs.Marks.{mark_at};
 
-use fux_grid::{VoiceSet, bar_of};
+use fux_grid::{VoiceSet, place_of};
 use fux_pitch::Memory;
 
 /// A broken rule, at a place and for a set of voices.
@@ -24,9 +24,10 @@ fn mark_of(i: usize, rule: u8, voices: VoiceSet) -> Mark
     requires { i < 192 }
     ensures { result ≡ mark_at i rule voices.bits }
 {
+    let place = place_of(i);
     Mark {
-        bar: bar_of(i),
-        slot: (i % 8) as u8,
+        bar: place.bar,
+        slot: place.slot,
         rule,
         voices,
     }

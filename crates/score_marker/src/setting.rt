@@ -16,12 +16,12 @@ use rule_law::Latest;
 use std::alloc::Global;
 
 /// Every set of voices, by the ascending lists of their voices: 0, 0 1, 0 1 2, 0 1 2 3, 0 1 3, 0 2, and so on.
-const VOICE_SETS: [u8; 15] = [1, 3, 7, 15, 11, 5, 13, 9, 2, 6, 14, 10, 4, 12, 8];
+const SETS_IN_ORDER: [u8; 15] = [1, 3, 7, 15, 11, 5, 13, 9, 2, 6, 14, 10, 4, 12, 8];
 
 fn voice_sets() -> &'static [u8]
     ensures { result.now ≡ sets_in_order }
 {
-    &VOICE_SETS
+    &SETS_IN_ORDER
 }
 
 /// Appends the marks of one rule at column `i`, after the columns before it.

@@ -24,5 +24,7 @@ returns-then-not-allows c = λ col menu e.
     c.shapes_of-shapes.ensures ∙ ap (λ species. shapes_in species c.bar_of.result ex.bars) c.species_of.ensures
     ∙ ap (λ bar. shapes_in (species_in ex v) bar ex.bars) c.bar_of.ensures in
     let none : allows (shapes_in (species_in ex v) (bar_of i) ex.bars) (slot_of i) 83 ≡ false =
-    ap (λ shapes. allows shapes (slot_of i) 83) (sym shapes) ∙ sym c.allows.ensures ∙ c.if-not-allows.true in
+    ap (λ shapes. allows shapes (slot_of i) 83) (sym shapes)
+    ∙ ap (λ slot. allows c.shapes_of-shapes.result.now slot 83) (sym c.slot_of.ensures.value)
+    ∙ sym c.allows.ensures ∙ c.if-not-allows.true in
     sym (none_allowed ex v i c.requires.free none)

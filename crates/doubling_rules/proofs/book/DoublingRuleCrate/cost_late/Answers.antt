@@ -16,7 +16,7 @@ pub returns-clause-value : goal.returns-clause-value
 returns-clause-value c = λ late p col newest on among.
     let own : c.args.place ≡ length p = among_own (may_cost c.args.toll c.args.ex.now (length p)) c.args.place
     (length p) among in
-    let kept : length (p ++ col ∷ []) ≤ c.args.place + 24 = omega (arith, own, length-append p (col ∷ [])) in
+    let kept : length (p ++ col ∷ []) ≤ c.args.place + 25 = omega (arith, own, length-append p (col ∷ [])) in
     c.doubling_cost.ensures.value
     ∙ ap (cost_of_column c.args.toll c.args.ex.now c.args.place) (c.at.ensures (p ++ col ∷ []) newest kept)
     ∙ sym (newly_costs-there (toll_row c.args.toll) c.args.ex.now (λ i behind now ahead. refl) p col c.args.place own)
