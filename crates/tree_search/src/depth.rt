@@ -85,7 +85,8 @@ fn enter<S: Space>(space: &S, node: &S::Node, level: usize, k: usize, walk: &mut
     ensures spent { OnFalse result
         (LacksFrom (S.live space.now) (S.height space.now) (path_to walk.old level ++ k ∷ []) walk.old) }
 {
-    let Some((child, floor)) = space.child(node, k) else {
+    let mut child = *node;
+    let Some(floor) = space.child_into(node, k, &mut child) else {
         return true;
     };
     if is_no_better(floor, walk.best) {

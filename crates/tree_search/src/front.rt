@@ -177,7 +177,7 @@ fn take_child<S: Space>(
     ensures taken { SameTaken front.old front.new }
     ensures spent { OnFalse result (IsLoadAbove (S.live space.now) front.old entry budget) }
 {
-    let Some((child, floor)) = space.child(&trail.nodes[level], k) else {
+    let Some(floor) = space.child_into(&trail.nodes[level], k, &mut trail.spare) else {
         return true;
     };
     if front.links.len() == budget as usize {
@@ -188,7 +188,7 @@ fn take_child<S: Space>(
         child: k as u16,
     };
     add(front, floor, link, budget);
-    place(trail, level, k as u16, child);
+    place(trail, level, k as u16);
     trail.entry = front.links.len() as u32;
     true
 }

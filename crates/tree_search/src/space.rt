@@ -1,6 +1,6 @@
 //! Trees that are made as they are searched.
 ghost use Rattle.std.specs.Prelude.{◌≡◌, ℕ, ◌≤◌, [], List, Option};
-ghost use Rattle.tree_search.specs.Space.{IsInner, HasChild, IsFoundAt, IsFoundChild, AreNoBetter, FloorsGrow};
+ghost use Rattle.tree_search.specs.Space.{IsInner, HasChild, IsFoundAt, IsFoundChild, IsMadeChild, AreNoBetter, FloorsGrow};
 
 /// A tree of bounded depth, whose live nodes have floors. A node is named by its path, the child numbers from the root
 /// to it. A node at `depth` is a leaf, and its floor is its value.
@@ -39,6 +39,21 @@ pub trait Space {
     fn child(&self, node: &Self::Node, k: usize) -> Option<(Self::Node, u64)>
         requires { HasChild (is_at self.now node.now) (height self.now) (width self.now) k }
         ensures { IsFoundChild (is_at self.now) (live self.now) k node.now result };
+
+    /// The floor of a child, if it is live: then the child is written into the place that is given.
+    #[inline]
+    fn child_into(&self, node: &Self::Node, k: usize, child: &mut Self::Node) -> Option<u64>
+        requires { HasChild (is_at self.now node.now) (height self.now) (width self.now) k }
+        ensures { IsMadeChild (is_at self.now) (live self.now) k node.now child.new result }
+    {
+        match self.child(node, k) {
+            Some((made, floor)) => {
+                *child = made;
+                Some(floor)
+            }
+            None => None,
+        }
+    }
 
     /// The least number, from this one on, of a child that may be live and better than the best leaf so far, or a number
     /// that no child has where none of the rest may be. A search tries only such children, so a space that can tell

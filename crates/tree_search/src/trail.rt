@@ -1,6 +1,5 @@
 //! The nodes of one path, so that a path that shares its beginning is soon made.
 ghost use Rattle.std.specs.Prelude.{◌≡◌, ℕ, ◌+◌, ◌<◌, ◌≤◌, ◌++◌, ◌∷◌, [], List, IsSome, IfOk, length, take, slice_index_or, slice_set};
-ghost use Rattle.tree_search.specs.Space.{HasLiveChild, IsChildOf};
 ghost use Rattle.tree_search.specs.Links.{path_in, IsLinked};
 ghost use Rattle.tree_search.specs.Trails.{IsTrail, Leads};
 
@@ -20,6 +19,8 @@ pub struct Trail<N: Copy> {
     pub nodes: Vec<N>,
     /// How long the path is.
     pub level: usize,
+    /// A place in which a child is made.
+    pub spare: N,
 }
 
 /// A list of copies.
@@ -49,20 +50,21 @@ pub fn start_trail<S: Space>(
         path: vec![in alloc; 0u16; depth]?,
         nodes: copies(alloc, root, depth + 1)?,
         level: 0,
+        spare: root,
     })
 }
 
-/// Goes from the node at a level to a child, which is at hand.
-pub fn place<N: Copy>(trail: &mut Trail<N>, level: usize, k: u16, child: N)
+/// Goes from the node at a level to a child, which is in the spare place.
+pub fn place<N: Copy>(trail: &mut Trail<N>, level: usize, k: u16)
     requires path { level < length trail.old.path.items }
     requires nodes { level + 1 < length trail.old.nodes.items }
     ensures path { trail.new.path.items ≡ slice_set trail.old.path.items level k }
-    ensures nodes { trail.new.nodes.items ≡ slice_set trail.old.nodes.items (level + 1) child }
+    ensures nodes { trail.new.nodes.items ≡ slice_set trail.old.nodes.items (level + 1) trail.old.spare }
     ensures level { trail.new.level ≡ level + 1 }
     ensures entry { trail.new.entry ≡ trail.old.entry }
 {
     trail.path[level] = k;
-    trail.nodes[level + 1] = child;
+    trail.nodes[level + 1] = trail.spare;
     trail.level = level + 1;
 }
 
@@ -79,17 +81,6 @@ fn shared(path: &[u16], other: &[u16]) -> usize
     count
 }
 
-/// A child that is live.
-fn live_child<S: Space>(space: &S, node: &S::Node, k: usize) -> S::Node
-    requires { HasLiveChild (S.is_at space.now node.now) (S.live space.now) k }
-    ensures { IsChildOf (S.is_at space.now) (S.live space.now) k node.now result }
-{
-    match space.child(node, k) {
-        Some((child, _)) => child,
-        None => unreachable!(),
-    }
-}
-
 /// Goes on to a child that is live.
 fn step<S: Space>(space: &S, trail: &mut Trail<S::Node>, k: u16)
     requires trail { IsTrail (S.is_at space.now) (S.height space.now)
@@ -102,8 +93,8 @@ fn step<S: Space>(space: &S, trail: &mut Trail<S::Node>, k: u16)
         ≡ take trail.old.level trail.old.path.items ++ k ∷ [] }
 {
     let level = trail.level;
-    let child = live_child(space, &trail.nodes[level], k as usize);
-    place(trail, level, k, child);
+    let _ = space.child_into(&trail.nodes[level], k as usize, &mut trail.spare);
+    place(trail, level, k);
 }
 
 /// Goes to another live path. Only the nodes that the two paths do not share are made.
