@@ -3,7 +3,7 @@ use Rattle.std.proofs.Common.{◌≡◌, ℕ, ◌==◌, Bool, true, false, Optio
 use Rattle.std.specs.Prelude.{if◌then◌else◌}
 use Rattle.std.proofs.lemmas.Bool.{eqb-true, cond-true}
 use Rattle.fux_grid.specs.declared.exercise.Exercise.{Exercise}
-use Rattle.rule_law.specs.Rulebooks.{RuleRow, TollRow, no_rule, no_toll}
+use Rattle.rule_law.specs.Rulebooks.{RuleRow, no_rule, no_toll}
 use Rattle.melody_rules.specs.Book as melody
 use Rattle.motion_rules.specs.Book as motion
 use Rattle.dissonance_rules.specs.Book as dissonance

@@ -1,5 +1,5 @@
 -- What each voice pays by its own move.
-use Rattle.std.specs.Prelude.{ℕ, ◌==◌, ◌+◌, Bool, ◌&&◌, ◌||◌, List, [], ◌∷◌, Option, reverse, if◌then◌else◌}
+use Rattle.std.specs.Prelude.{ℕ, ◌==◌, ◌+◌, Bool, ◌&&◌, List, [], ◌∷◌, Option, reverse, if◌then◌else◌}
 use Rattle.std.specs.List.{sum_by}
 use Rattle.fux_pitch.specs.declared.pitch.Pitch.{Pitch}
 use Rattle.fux_grid.specs.declared.cell.Cell.{Cell}

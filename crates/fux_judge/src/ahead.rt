@@ -111,41 +111,29 @@ fn may_start(ex: &Exercise, v: u8, i: usize, cell: Cell) -> bool
     }
 }
 
-/// What lies ahead of a line with one cell more, that of column `i`.
-fn ahead_after(ex: &Exercise, v: u8, i: usize, ahead: &LineAhead, cell: Cell) -> LineAhead
+/// Goes on by one cell of a line, that of column `i`.
+fn pass(ex: &Exercise, v: u8, i: usize, ahead: &mut LineAhead, cell: Cell)
     requires valid { IsValid ex.now }
     requires place { i < columns_in ex.now }
-    ensures { StepsAhead ex.now v i cell ahead.now result }
+    ensures { StepsAhead ex.now v i cell ahead.old ahead.new }
 {
     if v >= ex.voices || !is_free(ex, v) {
-        return *ahead;
+        return;
     }
-    LineAhead {
-        starts: ahead
-            .starts
-            .saturating_sub(u32::from(may_start(ex, v, i, cell))),
-        last_high: ahead.last_high,
-        highest: ahead.highest,
-    }
+    ahead.starts = ahead
+        .starts
+        .saturating_sub(u32::from(may_start(ex, v, i, cell)));
 }
 
-/// What lies ahead of all lines with one column more, column `i`.
-pub(crate) fn all_ahead_after(
-    ex: &Exercise,
-    i: usize,
-    ahead: &[LineAhead; 4],
-    column: &[Cell],
-) -> [LineAhead; 4]
+/// Goes on by one column of all lines, column `i`.
+pub(crate) fn pass_all(ex: &Exercise, i: usize, ahead: &mut [LineAhead; 4], column: &[Cell])
     requires valid { IsValid ex.now }
     requires place { i < columns_in ex.now }
-    ensures { (p : List (List ACell)) → length p ≡ i → AreAheadOf ex.now p ahead.now → AreAheadOf ex.now (p ++ column.now ∷ []) result }
+    ensures { (p : List (List ACell)) → length p ≡ i → AreAheadOf ex.now p ahead.old → AreAheadOf ex.now (p ++ column.now ∷ []) ahead.new }
 {
-    [
-        ahead_after(ex, 0, i, &ahead[0], cell_of(column, 0)),
-        ahead_after(ex, 1, i, &ahead[1], cell_of(column, 1)),
-        ahead_after(ex, 2, i, &ahead[2], cell_of(column, 2)),
-        ahead_after(ex, 3, i, &ahead[3], cell_of(column, 3)),
-    ]
+    for v in 0..4 {
+        pass(ex, v as u8, i, &mut ahead[v], cell_of(column, v));
+    }
 }
 
 /// Whether no column from column `i` on is a place for a note above the key. What lies ahead mostly tells it at once.

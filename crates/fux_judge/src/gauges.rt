@@ -40,41 +40,33 @@ pub(crate) fn all_ungauged() -> [LineGauges; 4]
     [ungauged(), ungauged(), ungauged(), ungauged()]
 }
 
-/// Of a line with one cell more, that of column `i`.
-fn gauged(ex: &Exercise, v: u8, i: usize, kept: &LineGauges, cell: Cell) -> LineGauges
+/// Takes in one cell more of a line, that of column `i`.
+fn gauge(ex: &Exercise, v: u8, i: usize, kept: &mut LineGauges, cell: Cell)
     requires valid { IsValid ex.now }
     requires place { i < columns_in ex.now }
-    ensures { (cells : List ACell) → length cells ≡ i → IsGaugesOf cells kept.now → IsGaugesOf (cell ∷ cells) result }
+    ensures { (cells : List ACell) → length cells ≡ i → IsGaugesOf cells kept.old → IsGaugesOf (cell ∷ cells) kept.new }
 {
     match cell {
-        Cell::Start(_) => LineGauges {
-            climax: Q17.step(ex, v, i, kept.climax, cell),
-            compass: Q18.step(ex, v, i, kept.compass, cell),
-            leaps: Q19.step(ex, v, i, kept.leaps, cell),
-            strikes: Q20.step(ex, v, i, kept.strikes, cell),
-        },
-        Cell::Hold(_) => *kept,
-        Cell::Rest => *kept,
+        Cell::Start(_) => {
+            kept.climax = Q17.step(ex, v, i, kept.climax, cell);
+            kept.compass = Q18.step(ex, v, i, kept.compass, cell);
+            kept.leaps = Q19.step(ex, v, i, kept.leaps, cell);
+            kept.strikes = Q20.step(ex, v, i, kept.strikes, cell);
+        }
+        Cell::Hold(_) => {}
+        Cell::Rest => {}
     }
 }
 
-/// Of all lines with one column more, column `i`.
-pub(crate) fn all_gauged(
-    ex: &Exercise,
-    i: usize,
-    kept: &[LineGauges; 4],
-    column: &[Cell],
-) -> [LineGauges; 4]
+/// Takes in one column more of all lines, column `i`.
+pub(crate) fn gauge_all(ex: &Exercise, i: usize, kept: &mut [LineGauges; 4], column: &[Cell])
     requires valid { IsValid ex.now }
     requires place { i < columns_in ex.now }
-    ensures { (behind : List (List ACell)) → length behind ≡ i → AreGaugesOf behind kept.now → AreGaugesOf (column.now ∷ behind) result }
+    ensures { (behind : List (List ACell)) → length behind ≡ i → AreGaugesOf behind kept.old → AreGaugesOf (column.now ∷ behind) kept.new }
 {
-    [
-        gauged(ex, 0, i, &kept[0], cell_of(column, 0)),
-        gauged(ex, 1, i, &kept[1], cell_of(column, 1)),
-        gauged(ex, 2, i, &kept[2], cell_of(column, 2)),
-        gauged(ex, 3, i, &kept[3], cell_of(column, 3)),
-    ]
+    for v in 0..4 {
+        gauge(ex, v as u8, i, &mut kept[v], cell_of(column, v));
+    }
 }
 
 /// The values of the four gauges, each by its weight.
@@ -111,7 +103,7 @@ pub(crate) fn line_gauges(ex: &Exercise, score: &Score, v: u8) -> LineGauges
 {
     let mut kept = ungauged();
     for j in 0..score.len() {
-        kept = gauged(ex, v, j, &kept, score.cell(v as usize, j));
+        gauge(ex, v, j, &mut kept, score.cell(v as usize, j));
     }
     kept
 }

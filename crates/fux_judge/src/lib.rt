@@ -33,6 +33,6 @@ pub use past::Past;
 pub use pruning::pruned_within;
 pub use state::State;
 pub use total::penalty;
-pub use unbroken::step_unbroken;
+pub use unbroken::{Price, step_unbroken};
 pub use verdict::{Verdict, step};
 pub use whole::{cost_in, is_broken_in, is_cost_settled_in, is_settled_in};

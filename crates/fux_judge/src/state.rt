@@ -1,15 +1,17 @@
 //! What is kept of a prefix.
 
-ghost use Rattle.std.specs.Prelude.{◌≡◌, ◌≤◌, ◌==◌, [], List, length, reverse};
+ghost use Rattle.std.specs.Prelude.{◌≡◌, ◌<◌, ◌≤◌, ◌+◌, ◌==◌, [], List, length, reverse};
 ghost use Rattle.fux_grid.specs.declared.cell.Cell.{Cell as ACell};
 ghost use Rattle.fux_grid.specs.declared.exercise.Exercise.{Exercise as AnExercise};
 ghost use Rattle.fux_grid.specs.Columns.{newest_column};
+ghost use Rattle.fux_grid.specs.Exercises.{IsValid, columns_in};
 ghost use Rattle.fux_judge.specs.States.{IsStateOf};
+ghost use Rattle.fux_judge.specs.Verdicts.{Grown};
 
-use crate::ahead::{LineAhead, all_ahead_at_start};
-use crate::gauges::{LineGauges, all_ungauged};
+use crate::ahead::{LineAhead, all_ahead_at_start, pass_all};
+use crate::gauges::{LineGauges, all_ungauged, gauge_all};
 use crate::past::Past;
-use fux_grid::{Cell, Exercise};
+use fux_grid::{Cell, Column, Exercise};
 use rule_law::NewestColumns;
 
 /// What is kept of a prefix of any length, enough to judge each column that may follow: how many columns it has, the newest of them,
@@ -35,6 +37,22 @@ impl State {
             gauges: all_ungauged(),
             ahead: all_ahead_at_start(ex),
         }
+    }
+
+    /// Adds a column behind the prefix.
+    pub fn add(&mut self, ex: &Exercise, col: &Column)
+        requires valid { IsValid ex.now }
+        requires room { self.old.newest.len < columns_in ex.now }
+        requires full { length col.now.items ≡ ex.now.voices }
+        ensures state { Grown ex.now self.old col.now.items (λ longer. IsStateOf ex.now longer self.new) }
+        ensures length { self.new.newest.len ≡ self.old.newest.len + 1 }
+    {
+        let cells = col.as_slice();
+        let i = self.newest.len;
+        self.past = self.past.with(ex, i, cells);
+        gauge_all(ex, i, &mut self.gauges, cells);
+        pass_all(ex, i, &mut self.ahead, cells);
+        self.newest = self.newest.with(cells);
     }
 
     /// How many columns the prefix has.

@@ -15,7 +15,7 @@ use crate::late_tolls::late_charges;
 use crate::lines::least;
 use crate::numbers::all_at_once;
 use crate::state::State;
-use crate::verdict::{Verdict, any_of, moment_of, next_state, readings};
+use crate::verdict::{any_of, moment_of, readings};
 use fux_grid::{Column, Exercise};
 use penalty_sheet::Sheet;
 use rule_law::RuleSet;
@@ -28,28 +28,44 @@ fn has_some(set: RuleSet) -> bool
     set.bits != 0 && any_of(all_at_once(), set)
 }
 
-/// What `step` tells of a column that settles no strict break; none where it settles one, and then no more is read than tells so.
-pub fn step_unbroken(ex: &Exercise, sheet: &Sheet, state: &State, col: &Column) -> Option<Verdict>
+/// What a column costs that settles no strict break.
+#[derive(Clone, Copy, Debug, PartialEq, Eq)]
+pub struct Price {
+    /// The tolls, by their weights, and the prices that the column settles.
+    pub paid: u64,
+    /// What the lines of the free voices will cost at least, by the gauges and their weights.
+    pub least: u64,
+}
+
+/// What a column that settles no strict break costs; none where it settles one, and then no more is read than tells so. The state of
+/// the longer prefix is written into the place that is given.
+pub fn step_unbroken(
+    ex: &Exercise,
+    sheet: &Sheet,
+    state: &State,
+    col: &Column,
+    next: &mut State,
+) -> Option<Price>
     requires valid { IsValid ex.now }
     requires room { state.now.newest.len < columns_in ex.now }
     requires full { length col.now.items ≡ ex.now.voices }
-    ensures state { Grown ex.now state.now col.now.items (λ longer. IfSome result (λ it. IsStateOf ex.now longer it.state)) }
+    ensures state { IfSome result (λ _. Grown ex.now state.now col.now.items (λ longer. IsStateOf ex.now longer next.new)) }
 
-    // After an orderly prefix: no strict break is settled where there is a verdict, and one is where there is none; and what the column
+    // After an orderly prefix: no strict break is settled where there is a price, and one is where there is none; and what the column
     // settles of tolls and prices.
-    ensures broken { GoingOn ex.now state.now col.now.items (λ p next. IfNone result (settles_break ex.now p next ≡ true)) }
-    ensures unbroken { GoingOn ex.now state.now col.now.items (λ p next. IfSome result (λ it. settles_break ex.now p next ≡ false)) }
-    ensures settled { GoingOn ex.now state.now col.now.items (λ p next.
-        IfSome result (λ it. it.paid ≡ newly_paid ex.now sheet.now p next)) }
-    ensures paid { GoingOn ex.now state.now col.now.items (λ p next. IfSome result (λ it. PaysMore ex.now sheet.now p next it.paid)) }
-    ensures bound { IfSome result (λ verdict. verdict.paid ≤ 134217728) }
-    ensures none_broken { IfSome result (λ verdict. verdict.broken.bits ≡ 0) }
+    ensures broken { GoingOn ex.now state.now col.now.items (λ p added. IfNone result (settles_break ex.now p added ≡ true)) }
+    ensures unbroken { GoingOn ex.now state.now col.now.items (λ p added. IfSome result (λ _. settles_break ex.now p added ≡ false)) }
+    ensures settled { GoingOn ex.now state.now col.now.items (λ p added.
+        IfSome result (λ it. it.paid ≡ newly_paid ex.now sheet.now p added)) }
+    ensures paid { GoingOn ex.now state.now col.now.items (λ p added. IfSome result (λ it. PaysMore ex.now sheet.now p added it.paid)) }
+    ensures bound { IfSome result (λ it. it.paid ≤ 134217728) }
     ensures least { GrownPrefix ex.now state.now col.now.items (λ longer.
         IfSome result (λ it. it.least ≡ least_of ex.now sheet.now longer)) }
-    ensures least_bound { IfSome result (λ verdict. verdict.least ≤ 334490640) }
+    ensures least_bound { IfSome result (λ it. it.least ≤ 334490640) }
 {
-    let next = next_state(ex, state, col);
-    if settles_late_break(ex, &next) {
+    *next = *state;
+    next.add(ex, col);
+    if settles_late_break(ex, next) {
         return None;
     }
     let moment = moment_of(ex, state, col);
@@ -57,12 +73,7 @@ pub fn step_unbroken(ex: &Exercise, sheet: &Sheet, state: &State, col: &Column) 
     if has_some(at_once) {
         return None;
     }
-    let paid = paid + late_charges(sheet, ex, &next) + late_prices(ex, &next);
-    let least = least(ex, sheet, &next);
-    Some(Verdict {
-        state: next,
-        broken: RuleSet::EMPTY,
-        paid,
-        least,
-    })
+    let paid = paid + late_charges(sheet, ex, next) + late_prices(ex, next);
+    let least = least(ex, sheet, next);
+    Some(Price { paid, least })
 }

@@ -12,8 +12,6 @@ ghost use Rattle.fux_judge.specs.Moments.{IsReadable, IsAfter, breaks_one_of, pa
 ghost use Rattle.fux_judge.specs.States.{IsStateOf};
 ghost use Rattle.fux_judge.specs.Verdicts.{GoingOn, Grown, GrownPrefix, HasBroken, PaysMore};
 
-use crate::ahead::all_ahead_after;
-use crate::gauges::all_gauged;
 use crate::kept::rules_left;
 use crate::late::{late_prices, with_late};
 use crate::late_tolls::late_charges;
@@ -88,23 +86,6 @@ fn prices_of(rules: &[u8], m: &Moment<'_>) -> u64
     sum
 }
 
-/// The state after a column.
-pub(crate) fn next_state(ex: &Exercise, state: &State, col: &Column) -> State
-    requires valid { IsValid ex.now }
-    requires room { state.now.newest.len < columns_in ex.now }
-    requires full { length col.now.items ≡ ex.now.voices }
-    ensures state { Grown ex.now state.now col.now.items (λ longer. IsStateOf ex.now longer result) }
-    ensures length { result.newest.len ≡ state.now.newest.len + 1 }
-{
-    let cells = col.as_slice();
-    State {
-        newest: state.newest.with(cells),
-        past: state.past.with(ex, state.newest.len, cells),
-        gauges: all_gauged(ex, state.newest.len, &state.gauges, cells),
-        ahead: all_ahead_after(ex, state.newest.len, &state.ahead, cells),
-    }
-}
-
 /// The moment at which a column comes after a state's prefix.
 pub(crate) fn moment_of<'a>(ex: &'a Exercise, state: &'a State, col: &'a Column) -> Moment<'a>
     requires { ex.now.voices ≤ 4 }
@@ -156,7 +137,8 @@ pub fn step(ex: &Exercise, sheet: &Sheet, state: &State, col: &Column) -> Verdic
     ensures least_bound { result.least ≤ 334490640 }
 {
     let moment = moment_of(ex, state, col);
-    let next = next_state(ex, state, col);
+    let mut next = *state;
+    next.add(ex, col);
     let (at_once, paid) = readings(sheet, &moment);
     let broken = with_late(at_once, ex, &next);
     let paid = paid + late_charges(sheet, ex, &next) + late_prices(ex, &next);

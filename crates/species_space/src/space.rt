@@ -11,7 +11,7 @@ ghost use Rattle.species_space.specs.Grows.{paths_grow};
 ghost use Rattle.species_space.specs.Nodes.{IsNodeOf};
 ghost use Rattle.species_space.specs.Paths.{live_at, width_at};
 ghost use Rattle.species_space.specs.Task.{IsReady, SkipsDead};
-ghost use Rattle.tree_search.specs.Space.{HasChild, IsFoundChild};
+ghost use Rattle.tree_search.specs.Space.{HasChild, IsMadeChild};
 
 use crate::blocks::{BlockMenu, column_at};
 use crate::node::Node;
@@ -166,10 +166,16 @@ impl<'a> Space for SpeciesSpace<'a> {
     }
 
     fn child(&self, node: &Node, k: usize) -> Option<(Node, u64)> {
+        let mut child = *node;
+        let floor = self.child_into(node, k, &mut child)?;
+        Some((child, floor))
+    }
+
+    fn child_into(&self, node: &Node, k: usize, child: &mut Node) -> Option<u64> {
         let i = node.state.len();
         let rest = self.tables.rest_of_number(i, k)?;
         let column = self.column(i, k);
-        child_by(self.exercise, self.sheet, node, k, column, rest)
+        child_by(self.exercise, self.sheet, node, k, column, rest, child)
     }
 
     fn next_child(&self, node: &Node, from: usize, best: Option<u64>) -> usize {
@@ -247,7 +253,8 @@ fn number_of(menus: &mut Vec<BlockMenu>, columns: Vec<Column>, undead: Vec<u16>)
     count as u8
 }
 
-/// The child of this number and column, with its floor, where no strict break is settled by it: a chain whose sum is `rest` goes on.
+/// The floor of the child of this number and column, where no strict break is settled by it: a chain whose sum is `rest` goes on. The
+/// child is written into the place that is given.
 fn child_by(
     exercise: &Exercise,
     sheet: &Sheet,
@@ -255,29 +262,26 @@ fn child_by(
     k: usize,
     column: &Column,
     rest: u64,
-) -> Option<(Node, u64)>
+    child: &mut Node,
+) -> Option<u64>
     requires valid { IsValid exercise.now }
     requires child { HasChild (IsNodeOf exercise.now sheet.now node.now) (columns_in exercise.now) (width_at exercise.now) k }
     requires column { column.now.items ≡ slice_index_or (menu_of exercise.now node.now.state.newest.len) k [] }
     requires rest { IsRest exercise.now sheet.now node.now.state.newest.len column.now.items (Some rest) }
     requires small { rest ≤ 2 ^ 61 }
-    ensures { IsFoundChild (IsNodeOf exercise.now sheet.now) (live_at exercise.now sheet.now) k node.now result }
+    ensures { IsMadeChild (IsNodeOf exercise.now sheet.now) (live_at exercise.now sheet.now) k node.now child.new result }
 {
     let before = node.state.before(exercise);
     if !cells_follow(before, column.as_slice()) {
         return None;
     }
-    let Some(verdict) = step_unbroken(exercise, sheet, &node.state, column) else {
+    let Some(price) = step_unbroken(exercise, sheet, &node.state, column, &mut child.state) else {
         return None;
     };
-    let paid = node.paid + verdict.paid;
-    let child = Node {
-        state: verdict.state,
-        paid,
-        least: verdict.least,
-        hint: k,
-    };
-    Some((child, paid + verdict.least + rest))
+    child.paid = node.paid + price.paid;
+    child.least = price.least;
+    child.hint = k;
+    Some(child.paid + child.least + rest)
 }
 
 /// For each column of a menu the number of the first one, from it on, that isn't dead after every prefix; the menu's length where

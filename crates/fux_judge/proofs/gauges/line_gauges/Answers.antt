@@ -15,11 +15,11 @@ loop-j-preserved c =
     let s = c.args.score.now.columns in
     let v = c.args.v in
     let j = c.loop-j.j in
-    let P : List Cell → Type 0 = λ cells. IsGaugesOf cells c.gauged-kept.result in
+    let P : List Cell → Type 0 = λ cells. IsGaugesOf cells c.gauge.new.kept in
     let here : j < length s = omega arith in
     let cell = ap (λ d. d ∷ line v (earlier s j)) c.cell.ensures in
     subst P (cell ∙ sym (line-more s v j here))
-    (c.gauged-kept.ensures (line v (earlier s j)) (length-line s v j (omega arith)) c.loop-j.invariant)
+    (c.gauge.ensures (line v (earlier s j)) (length-line s v j (omega arith)) c.loop-j.invariant)
 
 pub returns : goal.returns
 returns c =

@@ -11,7 +11,7 @@ pub returns-then-settles_late_break-clause-broken : goal.returns-then-settles_la
 returns-then-settles_late_break-clause-broken c = λ p st on.
     broken_late c.args.ex.now p c.args.col.now.items on
     (sym (c.settles_late_break.ensures p c.args.col.now.items record
-    { reached = c.next_state-next.ensures.state p st; on = on }) ∙ c.if-settles_late_break.true)
+    { reached = c.add.ensures.state p st; on = on }) ∙ c.if-settles_late_break.true)
 
 pub returns-then-has_some-clause-broken : goal.returns-then-has_some-clause-broken
 returns-then-has_some-clause-broken c = λ p st on.
@@ -19,7 +19,7 @@ returns-then-has_some-clause-broken c = λ p st on.
     let m = c.moment_of-moment.result in
     broken_at_once c.args.ex.now p col c.args.sheet.now m c.moment_of-moment.ensures.exercise
     c.moment_of-moment.ensures.column on
-    (sym (c.settles_late_break.ensures p col record { reached = c.next_state-next.ensures.state p st; on = on })
+    (sym (c.settles_late_break.ensures p col record { reached = c.add.ensures.state p st; on = on })
     ∙ c.if-settles_late_break.false)
     ∙ sym (some_at_once (has_rule c.readings-paid.result.0.bits) (λ rule. is_strictly_broken_then all_sets rule p m)
     (c.readings-paid.ensures.broken p (c.moment_of-moment.ensures.after p st)))
@@ -31,7 +31,7 @@ returns-clause-unbroken c = λ p st on.
     let m = c.moment_of-moment.result in
     broken_at_once c.args.ex.now p col c.args.sheet.now m c.moment_of-moment.ensures.exercise
     c.moment_of-moment.ensures.column on
-    (sym (c.settles_late_break.ensures p col record { reached = c.next_state-next.ensures.state p st; on = on })
+    (sym (c.settles_late_break.ensures p col record { reached = c.add.ensures.state p st; on = on })
     ∙ c.if-settles_late_break.false)
     ∙ sym (some_at_once (has_rule c.readings-paid.result.0.bits) (λ rule. is_strictly_broken_then all_sets rule p m)
     (c.readings-paid.ensures.broken p (c.moment_of-moment.ensures.after p st)))
@@ -44,8 +44,8 @@ returns-clause-settled c = λ p st on.
     step_pays c.args.ex.now p col c.args.sheet.now m c.moment_of-moment.ensures.exercise
     c.moment_of-moment.ensures.column on _ _ _
     (c.readings-paid.ensures.paid p (c.moment_of-moment.ensures.after p st))
-    (c.late_charges.ensures.value p col record { reached = c.next_state-next.ensures.state p st; on = on })
-    (c.late_prices.ensures.value p col record { reached = c.next_state-next.ensures.state p st; on = on })
+    (c.late_charges.ensures.value p col record { reached = c.add.ensures.state p st; on = on })
+    (c.late_prices.ensures.value p col record { reached = c.add.ensures.state p st; on = on })
 
 pub returns-clause-paid : goal.returns-clause-paid
 returns-clause-paid c = λ p st on.
@@ -56,9 +56,9 @@ returns-clause-paid c = λ p st on.
     (sym (step_pays c.args.ex.now p col c.args.sheet.now m c.moment_of-moment.ensures.exercise
     c.moment_of-moment.ensures.column on _ _ _
     (c.readings-paid.ensures.paid p (c.moment_of-moment.ensures.after p st))
-    (c.late_charges.ensures.value p col record { reached = c.next_state-next.ensures.state p st; on = on })
-    (c.late_prices.ensures.value p col record { reached = c.next_state-next.ensures.state p st; on = on })))
+    (c.late_charges.ensures.value p col record { reached = c.add.ensures.state p st; on = on })
+    (c.late_prices.ensures.value p col record { reached = c.add.ensures.state p st; on = on })))
 
 pub returns-clause-least : goal.returns-clause-least
 returns-clause-least c = λ p st prefix.
-    c.least-least.ensures.value (p ++ c.args.col.now.items ∷ []) (c.next_state-next.ensures.state p st) prefix
+    c.least-least.ensures.value (p ++ c.args.col.now.items ∷ []) (c.add.ensures.state p st) prefix

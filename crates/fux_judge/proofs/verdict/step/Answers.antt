@@ -12,7 +12,7 @@ returns-clause-broken c = λ p st on r.
     let after = c.moment_of-moment.ensures.after p st in
     let col = c.args.col.now.items in
     let m = c.moment_of-moment.result in
-    c.with_late-broken.ensures p col record { reached = c.next_state-next.ensures.state p st; on = on } r
+    c.with_late-broken.ensures p col record { reached = c.add.ensures.state p st; on = on } r
     ∙ ap (λ b. b || list_any (λ rule. breaks_late c.args.ex.now p col rule && r == rule) late_rules)
     (c.readings-paid.ensures.broken p after r)
     ∙ step_breaks c.args.ex.now p col c.args.sheet.now m c.moment_of-moment.ensures.exercise
@@ -26,8 +26,8 @@ returns-clause-settled c = λ p st on.
     step_pays c.args.ex.now p col c.args.sheet.now m c.moment_of-moment.ensures.exercise
     c.moment_of-moment.ensures.column on _ _ _
     (c.readings-paid.ensures.paid p after)
-    (c.late_charges.ensures.value p col record { reached = c.next_state-next.ensures.state p st; on = on })
-    (c.late_prices.ensures.value p col record { reached = c.next_state-next.ensures.state p st; on = on })
+    (c.late_charges.ensures.value p col record { reached = c.add.ensures.state p st; on = on })
+    (c.late_prices.ensures.value p col record { reached = c.add.ensures.state p st; on = on })
 
 pub returns-clause-paid : goal.returns-clause-paid
 returns-clause-paid c = λ p st on.
@@ -39,9 +39,9 @@ returns-clause-paid c = λ p st on.
     (sym (step_pays c.args.ex.now p col c.args.sheet.now m c.moment_of-moment.ensures.exercise
     c.moment_of-moment.ensures.column on _ _ _
     (c.readings-paid.ensures.paid p after)
-    (c.late_charges.ensures.value p col record { reached = c.next_state-next.ensures.state p st; on = on })
-    (c.late_prices.ensures.value p col record { reached = c.next_state-next.ensures.state p st; on = on })))
+    (c.late_charges.ensures.value p col record { reached = c.add.ensures.state p st; on = on })
+    (c.late_prices.ensures.value p col record { reached = c.add.ensures.state p st; on = on })))
 
 pub returns-clause-least : goal.returns-clause-least
 returns-clause-least c = λ p st prefix. c.least-least.ensures.value (p ++ c.args.col.now.items ∷ [])
-    (c.next_state-next.ensures.state p st) prefix
+    (c.add.ensures.state p st) prefix

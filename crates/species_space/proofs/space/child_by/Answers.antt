@@ -86,7 +86,6 @@ returns c = λ path at.
     let same_length : length child.path ≡ length path = sym longer ∙ long in
     let within : k < width_at ex path = subst (λ n. k < length (menu_of ex n)) same_length child.within in
     let same = chosen ex path k c.args.node.now.state.newest.len c.args.column.now.items long c.requires.column in
-    let broken = c.in-Some.verdict.broken.bits in
     let before = c.before-before.ensures p at.state in
     let there = subst (λ b. ColumnFollows b (column_at ex path k)) before
     (subst (ColumnFollows c.before-before.result.now) (c.as_slice.ensures.value ∙ same)
@@ -98,10 +97,10 @@ returns c = λ path at.
     let live = goes ex path k at.alive room within there unbroken in
     let next : p ++ c.args.column.now.items ∷ [] ≡ prefix_at ex (path ++ k ∷ []) = ap (λ col. p ++ col ∷ []) same
     ∙ sym (prefix_at-append ex path k) in
-    let cost : c.args.node.now.paid + c.in-Some.verdict.paid ≡ paid ex sheet (prefix_at ex (path ++ k ∷ [])) =
-    ap (λ n. n + c.in-Some.verdict.paid) at.paid ∙ sym (c.in-Some.ensures.paid p at.state comes)
+    let cost : c.args.node.now.paid + c.in-Some.price.paid ≡ paid ex sheet (prefix_at ex (path ++ k ∷ [])) =
+    ap (λ n. n + c.in-Some.price.paid) at.paid ∙ sym (c.in-Some.ensures.paid p at.state comes)
     ∙ ap (paid ex sheet) next in
-    let lines : c.in-Some.verdict.least ≡ least_of ex sheet (prefix_at ex (path ++ k ∷ [])) =
+    let lines : c.in-Some.price.least ≡ least_of ex sheet (prefix_at ex (path ++ k ∷ [])) =
     c.in-Some.ensures.least p at.state comes.longer ∙ ap (least_of ex sheet) next in
     let is : IsRest ex sheet (length path) (column_at ex path k) (Some c.args.rest) =
     subst (λ (n : ℕ). IsRest ex sheet n (column_at ex path k) (Some c.args.rest)) long
@@ -109,10 +108,10 @@ returns c = λ path at.
     c.requires.rest) in
     let rest = sym (rest_there ex path k at.alive sheet (Some c.args.rest) room is) in
     let sum : paid ex sheet (prefix_at ex (path ++ k ∷ [])) + least_of ex sheet (prefix_at ex (path ++ k ∷ [])) +
-    c.args.rest ≡ c.args.node.now.paid + c.in-Some.verdict.paid + c.in-Some.verdict.least + c.args.rest =
+    c.args.rest ≡ c.args.node.now.paid + c.in-Some.price.paid + c.in-Some.price.least + c.args.rest =
     omega (arith, cost, lines) in (
       record {
-        state = subst (λ q. IsStateOf ex q c.in-Some.verdict.state) next (c.in-Some.ensures.state p at.state);
+        state = subst (λ q. IsStateOf ex q c.step_unbroken.new.next) next (c.in-Some.ensures.state p at.state);
         alive = live;
         paid = cost;
         least = lines;

@@ -5,7 +5,7 @@ use Rattle.fux_grid.specs.Menus.{menu_of}
 use Rattle.floor_tables.specs.Tables.{IsRest, Task}
 use Rattle.species_space.specs.Paths.{prefix_at, length-columns_on}
 use Rattle.species_space.proofs.Children.{as_long, ends, rest_there}
-use Rattle.species_space.proofs.space.SpeciesSpaceSpace.child.Goals as goal
+use Rattle.species_space.proofs.space.SpeciesSpaceSpace.child_into.Goals as goal
 
 pub column-column-requires-clause-at : goal.column-column-requires-clause-at
 column-column-requires-clause-at c =

@@ -2,7 +2,7 @@ use Rattle.std.proofs.Common.{◌≡◌, cond, ap, ◌∙◌, arith}
 use Rattle.std.specs.Int.{from_bool}
 use Rattle.rule_law.specs.Gauges.{menu_starts}
 use Rattle.rule_law.proofs.MenuStarts.{as_number, starts_ahead-more}
-use Rattle.fux_judge.proofs.ahead.ahead_after.Goals as goal
+use Rattle.fux_judge.proofs.ahead.pass.Goals as goal
 
 pub returns : goal.returns
 returns c = λ col menu e free r.
@@ -14,7 +14,7 @@ returns c = λ col menu e free r.
     record {
       starts = omega (
         arith,
-        c.saturating_sub.ensures,
+        c.saturating_sub-ahead.ensures,
         r.starts,
         starts_ahead-more ex c.args.v c.args.i
             c.requires.place,

@@ -2,7 +2,7 @@ use Rattle.std.proofs.Common.{◌∷◌, sym, subst}
 use Rattle.fux_grid.specs.declared.cell.Cell.{Cell}
 use Rattle.melody_rules.specs.Held.{pitches-hold}
 use Rattle.fux_judge.specs.GaugeStates.{IsGaugesOf}
-use Rattle.fux_judge.proofs.gauges.gauged.Goals as goal
+use Rattle.fux_judge.proofs.gauges.gauge.Goals as goal
 
 pub returns-in-Hold : goal.returns-in-Hold
 returns-in-Hold c = λ cells here r.

@@ -1,0 +1,36 @@
+use Rattle.std.proofs.Common.{◌≡◌, ◌∷◌, ℕ, length, get_or, ◌∙◌, arith, length-set, subst}
+use Rattle.std.proofs.lemmas.List.{length-map}
+use Rattle.std.proofs.lemmas.Option.{slice_get-get_or, slice_get_within}
+use Rattle.fux_grid.specs.declared.cell.Cell.{Cell}
+use Rattle.fux_grid.specs.Cells.{cell_in}
+use Rattle.fux_grid.specs.Columns.{line}
+use Rattle.fux_judge.specs.declared.gauges.LineGauges.{LineGauges}
+use Rattle.fux_judge.specs.GaugeStates.{IsGaugesOf}
+use Rattle.fux_judge.proofs.FourLemmas.{between_more}
+use Rattle.fux_judge.proofs.gauges.gauge_all.Goals as goal
+
+pub loop-v-init : goal.loop-v-init
+loop-v-init c = record { long = c.told-kept; each = λ behind here are v kept is. (λ less. absurd (omega (arith, less)), λ more. are v kept is) }
+
+pub loop-v-preserved : goal.loop-v-preserved
+loop-v-preserved c = record {
+  long = length-set c.loop-v.kept c.loop-v.v c.gauge.new.kept ∙ c.loop-v.invariant.long;
+  each = λ behind here are.
+      let v = c.loop-v.v in
+      let kept = c.loop-v.kept in
+      let Before : ℕ → LineGauges → Type 0 = λ w one. IsGaugesOf (line w (c.args.column.now ∷ behind)) one in
+      let From : ℕ → LineGauges → Type 0 = λ w one. IsGaugesOf (line w behind) one in
+      let Grown : Cell → Type 0 = λ cell. IsGaugesOf (cell ∷ line v behind) c.gauge.new.kept in
+      let long : length (line v behind) ≡ c.args.i = length-map behind (λ col. cell_in col v) ∙ here in
+      let before = c.loop-v.invariant.each behind here are in
+      let old = get_or kept v c.index-kept-v.result in
+      between_more Before From v kept c.gauge.new.kept (omega (arith, c.loop-v-test.true, c.loop-v.invariant.long))
+      (subst Grown c.cell_of.ensures (c.gauge.ensures (line v behind) long
+      ((before v old (slice_get-get_or kept v c.index-kept-v.result (omega (arith, c.loop-v-test.true, c.loop-v.invariant.long)))).1 (omega arith))))
+      before;
+}
+
+pub returns : goal.returns
+returns c = λ behind here are v kept is.
+    let inside = slice_get_within c.loop-v.kept v kept is in
+    (c.loop-v.invariant.each behind here are v kept is).0 (omega (arith, inside, c.loop-v-test.false, c.loop-v.invariant.long))
