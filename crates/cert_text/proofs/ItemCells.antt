@@ -8,12 +8,14 @@ use Rattle.fux_grid.specs.declared.cell.Cell.{Cell}
 use Rattle.fux_grid.specs.declared.cell.Cell.TheVariants.{Rest, Hold, Start}
 use Rattle.fux_grid.specs.Cells.{cell_follows}
 use Rattle.fux_text.proofs.Bars.{cells_of}
-use Rattle.fux_text.specs.Sing.{FollowsFrom, held, item_cells}
-use Rattle.fux_text.proofs.Following.{held-follows, rest-follows}
+use Rattle.fux_text.specs.Sing.{held, item_cells}
+use Rattle.fux_text.proofs.Following.{held-follows}
 use Rattle.fux_text.proofs.OnlySing.{item_cells-length}
 use Rattle.fux_text.proofs.OwnItems.{follows-held}
 use Rattle.cert_text.specs.HeadRows.{can_stand}
 use Rattle.cert_text.proofs.ItemTexts.{Fits}
+use Rattle.voice_lines.specs.Lines.{LineFollows}
+use Rattle.voice_lines.proofs.Scores.{rest_follows}
 
 -- ---- their number
 
@@ -30,24 +32,24 @@ fits-long bars i before (item ∷ items) fits =
 
 -- ---- each follows the one before it
 
-pub run-follows : (c : Cell) (m : ℕ) (cs : List Cell) → FollowsFrom (held c) cs
-    → FollowsFrom c (replicate m (held c) ++ cs)
+pub run-follows : (c : Cell) (m : ℕ) (cs : List Cell) → LineFollows (held c) cs
+    → LineFollows c (replicate m (held c) ++ cs)
 run-follows c zero cs f = follows-held c cs f
 run-follows c (suc m) cs f = (
   (held-follows c).0,
-  subst (λ h. FollowsFrom (held c) (replicate m h ++ cs)) (held-follows c).1
-      (run-follows (held c) m cs (subst (λ h. FollowsFrom h cs) (sym (held-follows c).1) f)),
+  subst (λ h. LineFollows (held c) (replicate m h ++ cs)) (held-follows c).1
+      (run-follows (held c) m cs (subst (λ h. LineFollows h cs) (sym (held-follows c).1) f)),
 )
 
 pub stands-follows : (i : ℕ) (before c : Cell) → IsTrue (can_stand i before c) → IsTrue (cell_follows before c)
-stands-follows i before Rest h = rest-follows before
+stands-follows i before Rest h = rest_follows before
 stands-follows i before (Hold p) h = (and_parts (i % 8 == 0) (cell_follows before (Hold p)) h).1
 stands-follows i Rest (Start p) h = refl
 stands-follows i (Hold q) (Start p) h = refl
 stands-follows i (Start q) (Start p) h = refl
 
 pub fits-follow : (bars i : ℕ) (before : Cell) (items : List (Cell × ℕ)) → Fits bars i before items
-    → FollowsFrom before (cells_of items)
+    → LineFollows before (cells_of items)
 fits-follow bars i before [] fits = tt
 fits-follow bars i before (item ∷ items) fits = (
   stands-follows i before item.0 fits.0,

@@ -21,7 +21,7 @@ use Rattle.fux_grid.specs.Letters.{bar_columns}
 use Rattle.fux_text.proofs.Bars.{IsBar, cells_of, cells_of_bars}
 use Rattle.fux_text.specs.Items.{goes_on, item_name, item_word, items_of_cells, with_run}
 use Rattle.fux_text.specs.Lines.{bars_of, between_bar_lines, sing_text}
-use Rattle.fux_text.specs.Sing.{FollowsFrom, held, item_cells, latest}
+use Rattle.fux_text.specs.Sing.{held, item_cells, latest}
 use Rattle.fux_text.specs.Words.{spaced, text_line}
 use Rattle.fux_text.proofs.Following.{held-follows}
 use Rattle.fux_text.proofs.OwnBars.{follows-parts, latest-append}
@@ -29,6 +29,7 @@ use Rattle.fux_text.proofs.OwnItems.{goes_on-same, items-of_bar, lengths}
 use Rattle.fux_text.proofs.WordLemmas.{text_line-cons}
 use Rattle.cert_text.specs.HeadRows.{behind_text, can_stand, sing_bytes}
 use Rattle.cert_text.proofs.ItemTexts.{Fits, item_text, items_text, line_text}
+use Rattle.voice_lines.specs.Lines.{LineFollows}
 
 -- bars of items one after the other
 abbrev pub joined : List (List (Cell × ℕ)) → List (Cell × ℕ)
@@ -222,7 +223,7 @@ follows-stands k before (Hold p) f =
     holds (Start q) f = f
 
 bars-fit : (bars k : ℕ) (before : Cell) (bs : List (List (Cell × ℕ))) → k + length bs ≡ bars → AllByRecursion IsBar bs
-    → AllByRecursion AreApart bs → FollowsFrom before (cells_of_bars bs) → Fits bars (8 * k) (held before) (joined bs)
+    → AllByRecursion AreApart bs → LineFollows before (cells_of_bars bs) → Fits bars (8 * k) (held before) (joined bs)
 bars-fit bars k before [] last whole apart f = omega (arith, last)
 bars-fit bars k before ([] ∷ bs) last whole apart f = absurd (omega (arith, whole.0.whole))
 bars-fit bars k before ((x ∷ xs) ∷ bs) last whole apart f =
@@ -258,7 +259,7 @@ abbrev bars_from : ℕ → List (List Cell) → ℕ → ℕ → List (List (Cell
 bars_from v columns b n = map (λ bar. items_of_cells (line v bar)) (map (bar_columns columns) (range_with_len b n))
 
 bars-are : (v : ℕ) (columns : List (List Cell)) (n a b : ℕ) (before : Cell) → b ≡ a + 1 → length columns ≡ 8 * (a + n)
-    → FollowsFrom before (line v (drop (8 * a) columns))
+    → LineFollows before (line v (drop (8 * a) columns))
     → AreBarsOf (line v (drop (8 * a) columns)) (bars_from v columns b n)
 bars-are v columns zero a b before same long f =
     record { whole = tt; apart = tt; cells = sym (ap (line v) (drop_all (8 * a) columns (omega (arith, long)))) }
@@ -275,7 +276,7 @@ bars-are v columns (suc n) a b before same long f =
     let split : line v here ≡ bar ++ line v (drop (8 * (a + 1)) columns) =
     ap (line v) (sym (take-append-drop 8 here)) ∙ map-append (λ col. cell_in col v) (take 8 here) (drop 8 here)
     ∙ ap (λ cols. bar ++ line v cols) later in
-    let parts = follows-parts before bar (line v (drop (8 * (a + 1)) columns)) (subst (FollowsFrom before) split f) in
+    let parts = follows-parts before bar (line v (drop (8 * (a + 1)) columns)) (subst (LineFollows before) split f) in
     let one = items-of_bar before bar eight parts.0 in
     let rest =
     bars-are v columns n (a + 1) (b + 1) (latest before bar) (omega (arith, same)) (omega (arith, long)) parts.1 in
@@ -292,7 +293,7 @@ record AreItemsOf (bars v : ℕ) (columns : List (List Cell)) : Type 0 where
   pub count : length (voice_bars v columns) ≡ bars
   pub bars_are : AreBarsOf (line v columns) (voice_bars v columns)
 
-items-are : (bars v : ℕ) (columns : List (List Cell)) → length columns ≡ 8 * bars → FollowsFrom Rest (line v columns)
+items-are : (bars v : ℕ) (columns : List (List Cell)) → length columns ≡ 8 * bars → LineFollows Rest (line v columns)
     → AreItemsOf bars v columns
 items-are bars v columns long f =
     let parts : length columns / 8 ≡ bars = omega (arith, long) in
@@ -313,19 +314,19 @@ joined-cells (b ∷ bs) =
     flat_map-append (λ item. item_cells item.0 item.1) b (joined bs) ∙ ap (λ cs. cells_of b ++ cs) (joined-cells bs)
 
 pub voice-cells : (bars v : ℕ) (columns : List (List Cell)) → length columns ≡ 8 * bars
-    → FollowsFrom Rest (line v columns) → cells_of (voice_items v columns) ≡ line v columns
+    → LineFollows Rest (line v columns) → cells_of (voice_items v columns) ≡ line v columns
 voice-cells bars v columns long f =
     joined-cells (voice_bars v columns) ∙ (items-are bars v columns long f).bars_are.cells
 
 pub voice-fits : (bars v : ℕ) (columns : List (List Cell)) → length columns ≡ 8 * bars
-    → FollowsFrom Rest (line v columns) → Fits bars 0 Rest (voice_items v columns)
+    → LineFollows Rest (line v columns) → Fits bars 0 Rest (voice_items v columns)
 voice-fits bars v columns long f =
     let are = items-are bars v columns long f in
     bars-fit bars 0 Rest (voice_bars v columns) (omega (arith, are.count)) are.bars_are.whole are.bars_are.apart
-    (subst (FollowsFrom Rest) (sym are.bars_are.cells) f)
+    (subst (LineFollows Rest) (sym are.bars_are.cells) f)
 
 pub voice-text : (ex : Exercise) (v : ℕ) (columns : List (List Cell)) → v < 4 → 1 ≤ ex.bars
-    → length columns ≡ 8 * ex.bars → FollowsFrom Rest (line v columns)
+    → length columns ≡ 8 * ex.bars → LineFollows Rest (line v columns)
     → sing_text v columns ≡ line_text ex v (voice_items v columns)
 unfolding sing_text
 voice-text ex v columns few some long f =

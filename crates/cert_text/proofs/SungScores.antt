@@ -15,11 +15,10 @@ use Rattle.fux_text.specs.Grammar.{IsSettingOf}
 use Rattle.fux_text.proofs.Bars.{cells_of}
 use Rattle.fux_text.specs.Lines.{free_voices, sing_text}
 use Rattle.fux_text.specs.ReadBack.{sing_lines}
-use Rattle.fux_text.specs.Sing.{FollowsFrom, cantus_cells, score_of}
 use Rattle.fux_text.specs.Texts.{AreSingLinesOf}
 use Rattle.fux_text.proofs.Following.{start-follows}
-use Rattle.fux_text.proofs.OnlySetting.{line-of_score, score-setting}
-use Rattle.fux_text.proofs.OwnSetting.{free-cantus, free-other, free_of, line-follows_own}
+use Rattle.fux_text.proofs.OnlySetting.{score-setting}
+use Rattle.fux_text.proofs.OwnSetting.{free-cantus, free-other, free_of}
 use Rattle.fux_text.proofs.OwnText.{sing_lines-back}
 use Rattle.fux_text.proofs.ValidSetting.{score-given}
 use Rattle.cert_text.specs.SingItems.{AreLines, AreWrittenOf}
@@ -27,6 +26,8 @@ use Rattle.cert_text.specs.WrittenLines.{WrittenLinesAreRead}
 use Rattle.cert_text.proofs.ItemTexts.{AreItemLines, Fits, item_lines-short, line_text, lines_text}
 use Rattle.cert_text.proofs.ItemCells.{fits-follow, fits-long, fits-same}
 use Rattle.cert_text.proofs.SungItems.{voice-cells, voice-fits, voice-text, voice_items}
+use Rattle.voice_lines.specs.Lines.{LineFollows, cantus_cells, score_of}
+use Rattle.voice_lines.proofs.Scores.{line_follows, line_of_score}
 
 -- ---- texts of the free voices
 
@@ -50,8 +51,8 @@ each-free ex f g same (suc n) a low =
 -- ---- the lines that are written of a setting are lines of items
 
 -- the cells of a voice of a setting follow one another
-own-follows : (ex : Exercise) (score : Grid) (v : ℕ) → IsSettingOf ex score → FollowsFrom Rest (line v score.columns)
-own-follows ex score v setting = line-follows_own v score.columns setting.follows
+own-follows : (ex : Exercise) (score : Grid) (v : ℕ) → IsSettingOf ex score → LineFollows Rest (line v score.columns)
+own-follows ex score v setting = line_follows v score.columns setting.follows
 
 own-text : (ex : Exercise) (score : Grid) (v : ℕ) → IsValid ex → IsSettingOf ex score → v < ex.voices
     → sing_text v score.columns ≡ line_text ex v (voice_items v score.columns)
@@ -83,20 +84,19 @@ module _ (ex : Exercise) (sung : ℕ → List (Cell × ℕ)) (fits : (v : ℕ) �
   lines_for = map cells_for (range_with_len 0 ex.voices)
 
   abbrev score_for : Grid
-  score_for = score_of ex.bars lines_for
+  score_for = score_of (8 * ex.bars) lines_for
 
   line-at : (v : ℕ) → v < ex.voices → get_or lines_for v [] ≡ cells_for v
   line-at v there = get_or-map-range_with_len cells_for 0 ex.voices v v [] there (omega arith)
 
-  cells-follow : (v : ℕ) → FollowsFrom Rest (cells_for v)
-  unfolding cantus_cells
+  cells-follow : (v : ℕ) → LineFollows Rest (cells_for v)
   cells-follow v = by (v == ex.cantus_voice)
     where
-      by : (b : Bool) → FollowsFrom Rest (if b then cantus_cells ex.cantus else cells_of (sung v))
+      by : (b : Bool) → LineFollows Rest (if b then cantus_cells ex.cantus else cells_of (sung v))
       by true = start-follows Rest ex.cantus
       by false = fits-follow ex.bars 0 Rest (sung v) (fits v)
 
-  all-follow : (vs : List ℕ) → AllByRecursion (FollowsFrom Rest) (map cells_for vs)
+  all-follow : (vs : List ℕ) → AllByRecursion (LineFollows Rest) (map cells_for vs)
   all-follow [] = tt
   all-follow (v ∷ vs) = (cells-follow v, all-follow vs)
 
@@ -123,7 +123,7 @@ module _ (ex : Exercise) (sung : ℕ → List (Cell × ℕ)) (fits : (v : ℕ) �
       let at : get_or lines_for v [] ≡ cells_of (sung v) = line-at v there ∙ free-cells v free in
       let long : length (get_or lines_for v []) ≡ 8 * ex.bars =
       ap length at ∙ omega (arith, fits-long ex.bars 0 Rest (sung v) (fits v)) in
-      line-of_score ex.bars v lines_for long ∙ at
+      line_of_score (8 * ex.bars) v lines_for long ∙ at
 
   -- and so these are its items
   free-text : (v : ℕ) → IsValid ex → v < ex.voices → (v == ex.cantus_voice) ≡ false

@@ -19,8 +19,8 @@ use Rattle.fux_grid.specs.Givens.{fits}
 use Rattle.fux_grid.specs.Grid.{Grid}
 use Rattle.fux_grid.proofs.GivenLemmas.{given_at-none}
 use Rattle.fux_text.specs.Fitting.{line_fits}
-use Rattle.fux_text.specs.Sing.{column_of, score_of}
-use Rattle.fux_text.proofs.ScoreLoops.{column-cell}
+use Rattle.voice_lines.specs.Lines.{column_of, score_of}
+use Rattle.voice_lines.proofs.Scores.{column-cell}
 
 -- ---- from the voices to the setting
 
@@ -53,8 +53,7 @@ cantus-fits ex i v c same fit =
 -- lines of which those of the free voices fit are a score that fits
 pub score-fits : (ex : Exercise) (lines : List (List Cell)) → All (IsGivenBar ex) ex.given
     → ((v : ℕ) → v < ex.voices → (v == ex.cantus_voice) ≡ false → line_fits ex v (get_or lines v []) ≡ true)
-    → FitsGiven ex (score_of ex.bars lines).columns
-unfolding score_of
+    → FitsGiven ex (score_of (8 * ex.bars) lines).columns
 score-fits ex lines fit free = λ i v lt there.
     let low : i < 8 * ex.bars = omega (arith, lt, length-map-range_with_len (column_of lines) 0 (8 * ex.bars)) in
     let col : get_or (map (column_of lines) (range_with_len 0 (8 * ex.bars))) i [] ≡ column_of lines i =

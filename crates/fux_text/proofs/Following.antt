@@ -21,7 +21,9 @@ use Rattle.text_lines.specs.Tables.{IsLine, IsTable}
 use Rattle.text_lines.proofs.Binds.{bind_ok, ok_or_ok}
 use Rattle.fux_text.specs.declared.item_words.ItemName.{ItemName}
 use Rattle.fux_text.specs.declared.item_words.ItemName.TheVariants as names
-use Rattle.fux_text.specs.Sing.{Fit, FollowsFrom, bar_line_said, cantus_cells, cantus_or_sung, first_cell, held, is_full, item_cells, item_named, item_parts, item_said, latest, sing_row, sung_end, sung_run, sung_word, voice_table, voices_table}
+use Rattle.fux_text.specs.Sing.{Fit, bar_line_said, cantus_or_sung, first_cell, held, is_full, item_cells, item_named, item_parts, item_said, latest, sing_row, sung_end, sung_run, sung_word, voice_table, voices_table}
+use Rattle.voice_lines.specs.Lines.{LineFollows}
+use Rattle.voice_lines.proofs.Scores.{rest_follows, start_follows}
 
 -- what goes on behind so many bars
 abbrev pub go_on : List Cell → ℕ → Result (ℕ × List Cell) TextKind
@@ -31,8 +33,8 @@ go_on cells bar = Ok (bar, cells)
 pub value_is : {A E : Type 0} (x y : A) (r : Result A E) → Ok x ≡ r → r ≡ Ok y → x ≡ y
 value_is x y r d e = grind (arith, d, e)
 
-follows-append : (before : Cell) (xs ys : List Cell) → FollowsFrom before xs → FollowsFrom (latest before xs) ys
-    → FollowsFrom before (xs ++ ys)
+follows-append : (before : Cell) (xs ys : List Cell) → LineFollows before xs → LineFollows (latest before xs) ys
+    → LineFollows before (xs ++ ys)
 follows-append before [] ys f g = g
 follows-append before (x ∷ xs) ys f g = (f.0, follows-append x xs ys f.1 g)
 
@@ -42,13 +44,13 @@ held-follows Rest = (search rules, refl)
 held-follows (Hold p) = (same_pitch-from_equal p p refl, refl)
 held-follows (Start p) = (same_pitch-from_equal p p refl, refl)
 
-run-follows : (c : Cell) (n : ℕ) → FollowsFrom c (replicate n (held c))
+run-follows : (c : Cell) (n : ℕ) → LineFollows c (replicate n (held c))
 run-follows c zero = tt
 run-follows c (suc n) =
     let one = held-follows c in
-    (one.0, subst (λ h. FollowsFrom (held c) (replicate n h)) one.1 (run-follows (held c) n))
+    (one.0, subst (λ h. LineFollows (held c) (replicate n h)) one.1 (run-follows (held c) n))
 
-item-follows : (before c : Cell) (n : ℕ) → IsTrue (cell_follows before c) → FollowsFrom before (item_cells c n)
+item-follows : (before c : Cell) (n : ℕ) → IsTrue (cell_follows before c) → LineFollows before (item_cells c n)
 item-follows before c n h = (h, run-follows c (n - 1))
 
 tie-follows : (before c : Cell) (o : Option Pitch) → pitch_of before ≡ o → option_map Hold o ≡ Some c
@@ -62,26 +64,16 @@ tie-follows (Start q) c (Some p) d e =
     let same : Hold q ≡ c = grind (arith, d, e) in
     subst (λ x. IsTrue (cell_follows (Start q) x)) same (same_pitch-from_equal q q refl)
 
-pub rest-follows : (c : Cell) → IsTrue (cell_follows c Rest)
-rest-follows Rest = refl
-rest-follows (Hold p) = refl
-rest-follows (Start p) = refl
-
-start-any : (c : Cell) (p : Pitch) → IsTrue (cell_follows c (Start p))
-start-any Rest p = refl
-start-any (Hold q) p = refl
-start-any (Start q) p = refl
-
 first-follows : (begins_bar : Bool) (before c : Cell) (name : ItemName) → first_cell begins_bar before name ≡ Some c
     → IsTrue (cell_follows before c)
 first-follows begins_bar before c names.Silence e =
     let same : Rest ≡ c = grind (arith, e) in
-    subst (λ x. IsTrue (cell_follows before x)) same (rest-follows before)
+    subst (λ x. IsTrue (cell_follows before x)) same (rest_follows before)
 first-follows true before c names.Tie e = tie-follows before c (pitch_of before) refl e
 first-follows false before c names.Tie e = absurd (grind (arith, e))
 first-follows begins_bar before c (names.Note p) e =
     let same : Start p ≡ c = grind (arith, e) in
-    subst (λ x. IsTrue (cell_follows before x)) same (start-any before p)
+    subst (λ x. IsTrue (cell_follows before x)) same (start_follows before p)
 
 item_said-follows : (bar : ℕ) (cells : List Cell) (text : List ℕ) (item : Cell × ℕ) → item_said bar cells text ≡ Ok item
     → IsTrue (cell_follows (latest Rest cells) item.0)
@@ -96,20 +88,20 @@ item_said-follows bar cells text item e =
     subst (λ x. IsTrue (cell_follows (latest Rest cells) x.0)) (value_is (cell.0, count.0) item _ refl cell.2)
     (first-follows (length cells == 8 * bar) (latest Rest cells) cell.0 name.0 found)
 
-word-follows : (bars : ℕ) (before out : ℕ × List Cell) (text : List ℕ) → FollowsFrom Rest before.1
-    → sung_word bars before text ≡ Ok out → FollowsFrom Rest out.1
+word-follows : (bars : ℕ) (before out : ℕ × List Cell) (text : List ℕ) → LineFollows Rest before.1
+    → sung_word bars before text ≡ Ok out → LineFollows Rest out.1
 unfolding sung_word
 word-follows bars (bar, cells) out text f e = by (same_text text (codes "|")) e
   where
     by : (b : Bool) → (if b then (bar_line_said bars bar cells >>= λ next. go_on cells next)
         else (item_said bar cells text >>= λ item. go_on (cells ++ item_cells item.0 item.1) bar)) ≡ Ok out
-        → FollowsFrom Rest out.1
+        → LineFollows Rest out.1
     by true e =
         let next = bind_ok (bar_line_said bars bar cells) _ out e in
-        subst (λ x. FollowsFrom Rest x.1) (value_is (next.0, cells) out _ refl next.2) f
+        subst (λ x. LineFollows Rest x.1) (value_is (next.0, cells) out _ refl next.2) f
     by false e =
         let item = bind_ok (item_said bar cells text) _ out e in
-        subst (λ x. FollowsFrom Rest x.1) (value_is (bar, cells ++ item_cells item.0.0 item.0.1) out _ refl item.2)
+        subst (λ x. LineFollows Rest x.1) (value_is (bar, cells ++ item_cells item.0.0 item.0.1) out _ refl item.2)
         (follows-append Rest cells (item_cells item.0.0 item.0.1) f
         (item-follows (latest Rest cells) item.0.0 item.0.1 (item_said-follows bar cells text item.0 item.1)))
 
@@ -121,44 +113,43 @@ end-same bars before out e =
     value_is before.1 out _ refl whole.2
 
 words-follow : (bars : ℕ) (before : ℕ × List Cell) (words : List (List ℕ)) (out : List Cell)
-    → FollowsFrom Rest before.1 → IsRun (sung_run bars) before words out → FollowsFrom Rest out
-words-follow bars before [] out f h = subst (FollowsFrom Rest) (end-same bars before out h) f
+    → LineFollows Rest before.1 → IsRun (sung_run bars) before words out → LineFollows Rest out
+words-follow bars before [] out f h = subst (LineFollows Rest) (end-same bars before out h) f
 words-follow bars before (word ∷ words) out f h =
     words-follow bars h.0 words out (word-follows bars before h.0 word f h.1) h.2
 
 pub line-follows : (fit : List Cell → Bool) (bars v : ℕ) (text : TextLines) (out : List Cell) (rest : TextLines)
-    → IsLine (codes "sing") (sing_row fit bars v) text out rest → FollowsFrom Rest out
+    → IsLine (codes "sing") (sing_row fit bars v) text out rest → LineFollows Rest out
 line-follows fit bars v text out rest l = words-follow bars (0, []) _ out tt l.right.3
 
 -- the cells of the cantus follow one another
 pub start-follows : (before : Cell) (cantus : List Pitch)
-    → FollowsFrom before (flat_map (λ p. item_cells (Start p) 8) cantus)
+    → LineFollows before (flat_map (λ p. item_cells (Start p) 8) cantus)
 start-follows before [] = tt
 start-follows before (p ∷ ps) =
     follows-append before (item_cells (Start p) 8) (flat_map (λ q. item_cells (Start q) 8) ps)
-    (item-follows before (Start p) 8 (start-any before p)) (start-follows (latest before (item_cells (Start p) 8)) ps)
+    (item-follows before (Start p) 8 (start_follows before p)) (start-follows (latest before (item_cells (Start p) 8)) ps)
 
 voice-follows : (fit : Fit) (ex : Exercise) (v : ℕ) (text : TextLines) (out : List Cell) (rest : TextLines)
-    → IsTable (voice_table fit ex v) text out rest → FollowsFrom Rest out
-unfolding cantus_cells
+    → IsTable (voice_table fit ex v) text out rest → LineFollows Rest out
 voice-follows fit ex v text out rest h = by (v == ex.cantus_voice) h
   where
-    by : (b : Bool) → IsTable (cantus_or_sung fit ex v b) text out rest → FollowsFrom Rest out
-    by true h = subst (FollowsFrom Rest) h.0 (start-follows Rest ex.cantus)
+    by : (b : Bool) → IsTable (cantus_or_sung fit ex v b) text out rest → LineFollows Rest out
+    by true h = subst (LineFollows Rest) h.0 (start-follows Rest ex.cantus)
     by false h = line-follows (fit v) ex.bars v text out rest h
 
-all-push : (lines : List (List Cell)) (line : List Cell) → AllByRecursion (FollowsFrom Rest) lines
-    → FollowsFrom Rest line
-    → AllByRecursion (FollowsFrom Rest) (lines ++ line ∷ [])
+all-push : (lines : List (List Cell)) (line : List Cell) → AllByRecursion (LineFollows Rest) lines
+    → LineFollows Rest line
+    → AllByRecursion (LineFollows Rest) (lines ++ line ∷ [])
 all-push [] line h f = (f, tt)
 all-push (l ∷ ls) line h f = (h.0, all-push ls line h.1 f)
 
 -- the cells of each voice follow one another
 pub voices-follow : (fit : Fit) (ex : Exercise) (vs : List ℕ) (before : List (List Cell)) (text : TextLines)
     (out : List (List Cell)) (rest : TextLines)
-    → AllByRecursion (FollowsFrom Rest) before → IsTable (voices_table fit ex vs before) text out rest
-    → AllByRecursion (FollowsFrom Rest) out
-voices-follow fit ex [] before text out rest f h = subst (AllByRecursion (FollowsFrom Rest)) h.0 f
+    → AllByRecursion (LineFollows Rest) before → IsTable (voices_table fit ex vs before) text out rest
+    → AllByRecursion (LineFollows Rest) out
+voices-follow fit ex [] before text out rest f h = subst (AllByRecursion (LineFollows Rest)) h.0 f
 voices-follow fit ex (v ∷ vs) before text out rest f h =
     voices-follow fit ex vs (before ++ h.0 ∷ []) h.1 out rest
     (all-push before h.0 f (voice-follows fit ex v text h.0 h.1 h.2)) h.3

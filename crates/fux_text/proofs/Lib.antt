@@ -12,7 +12,6 @@ pub mod HeadLoops
 pub mod SungLoops
 pub mod VoiceLoops
 pub mod Following
-pub mod ScoreLoops
 pub mod Answered
 pub mod Bounds
 pub mod ValidHead

@@ -1,28 +1,28 @@
 -- A setting that is read has the lines of its free voices (`setting-only`, `sung_score-only`).
-use Rattle.std.proofs.Common.{◌≡◌, inl, inr, ℕ, zero, suc, ◌+◌, ◌*◌, ◌<◌, Bool, true, false, List, [], ◌∷◌, ◌++◌, get_or, length, length-append, map, reverse, Option, Some, refl, sym, ap, subst, ◌∙◌, arith}
+use Rattle.std.proofs.Common.{◌≡◌, inl, inr, ℕ, zero, suc, ◌+◌, ◌*◌, ◌<◌, Bool, true, false, List, [], ◌∷◌, ◌++◌, get_or, length, length-append, Option, Some, refl, sym, ap, subst, ◌∙◌, arith}
 use Rattle.std.specs.Prelude.{◌==◌}
 use Rattle.std.specs.List.{AllByRecursion, range_with_len}
 use Rattle.std.proofs.lemmas.List.{append-nil, length-map}
-use Rattle.std.proofs.lemmas.List.FromFn.{get_or-map-range_with_len, length-map-range_with_len, length-range_with_len, map-range_with_len_more}
+use Rattle.std.proofs.lemmas.List.FromFn.{get_or-map-range_with_len, length-map-range_with_len, length-range_with_len}
 use Rattle.fux_grid.specs.declared.cell.Cell.{Cell}
 use Rattle.fux_grid.specs.declared.cell.Cell.TheVariants.{Rest}
 use Rattle.fux_grid.specs.declared.exercise.Exercise.{Exercise}
 use Rattle.fux_grid.specs.Cells.{cell_in}
-use Rattle.fux_grid.specs.Columns.{HistoryFollows, line}
+use Rattle.fux_grid.specs.Columns.{line}
 use Rattle.fux_grid.specs.Exercises.{IsGiven}
 use Rattle.fux_grid.specs.Grid.{Grid}
-use Rattle.fux_grid.proofs.Histories.{reverse-push}
 use Rattle.text_lines.specs.Lines.{TextLines}
 use Rattle.text_lines.specs.Tables.{IsTable}
 use Rattle.fux_text.specs.Grammar.{AreSung, IsSettingOf, IsSung, Sings}
 use Rattle.fux_text.specs.Lines.{free_voices}
-use Rattle.fux_text.specs.Sing.{Fit, FollowsFrom, cantus_or_sung, column_of, score_of, setting_table, sung_table, voice_table, voices_table}
+use Rattle.fux_text.specs.Sing.{Fit, cantus_or_sung, setting_table, sung_table, voice_table, voices_table}
 use Rattle.fux_text.proofs.Following.{voices-follow, voices-length}
 use Rattle.fux_text.proofs.OnlySing.{IsLineFor, sing_line-only, sung-length}
 use Rattle.fux_text.proofs.OnlyWords.{line_texts, no-lines}
-use Rattle.fux_text.proofs.OwnSetting.{cells-of_column, free-cantus, free-other, free_of}
-use Rattle.fux_text.proofs.ScoreLoops.{column-cell, next-follows}
+use Rattle.fux_text.proofs.OwnSetting.{free-cantus, free-other, free_of}
 use Rattle.fux_text.proofs.ValidSetting.{get_or-end, score-given, voices-keep}
+use Rattle.voice_lines.specs.Lines.{LineFollows, column_of, score_of}
+use Rattle.voice_lines.proofs.Scores.{columns_follow, line_of_score}
 
 -- ---- the voices
 
@@ -82,56 +82,28 @@ voices-only fit ex (suc n) a before text x rest long (cells, b, voice, others) =
 
 -- ---- the score
 
--- a voice of the score has the cells of its line
-pub line-of_score : (bars v : ℕ) (lines : List (List Cell)) → length (get_or lines v []) ≡ 8 * bars
-    → line v (score_of bars lines).columns ≡ get_or lines v []
-unfolding score_of
-line-of_score bars v lines long =
-    cells-at (range_with_len 0 (8 * bars))
-    ∙ ap (λ n. map (λ i. cell_in (get_or lines v []) i) (range_with_len 0 n)) (sym long)
-    ∙ cells-of_column (get_or lines v [])
-  where
-    cells-at : (is : List ℕ) → line v (map (column_of lines) is) ≡ map (λ i. cell_in (get_or lines v []) i) is
-    cells-at [] = refl
-    cells-at (i ∷ is) =
-        ap (λ c. c ∷ line v (map (column_of lines) is)) (column-cell lines i v)
-        ∙ ap (λ cs. cell_in (get_or lines v []) i ∷ cs) (cells-at is)
-
 sung-columns : (bars : ℕ) (lines : List (List Cell)) (vs : List ℕ) (words : List (List (List ℕ)))
-    → AreSung bars (λ v. get_or lines v []) vs words → AreSung bars (λ v. line v (score_of bars lines).columns) vs words
+    → AreSung bars (λ v. get_or lines v []) vs words → AreSung bars (λ v. line v (score_of (8 * bars) lines).columns) vs words
 sung-columns bars lines [] [] sung = tt
 sung-columns bars lines [] (ws ∷ words) sung = absurd sung
 sung-columns bars lines (v ∷ vs) [] sung = absurd sung
 sung-columns bars lines (v ∷ vs) (ws ∷ words) sung = (
   subst (λ cs. IsSung bars v ws cs)
-      (sym (line-of_score bars v lines (sung-length bars v ws (get_or lines v []) sung.0))) sung.0,
+      (sym (line_of_score (8 * bars) v lines (sung-length bars v ws (get_or lines v []) sung.0))) sung.0,
   sung-columns bars lines vs words sung.1,
 )
 
-columns-follow : (lines : List (List Cell)) (n : ℕ) → AllByRecursion (FollowsFrom Rest) lines
-    → HistoryFollows (reverse (map (column_of lines) (range_with_len 0 n)))
-columns-follow lines zero f = tt
-columns-follow lines (suc n) f =
-    let columns = map (column_of lines) (range_with_len 0 n) in
-    let one : suc n ≡ n + 1 = omega arith in
-    let more : map (column_of lines) (range_with_len 0 (suc n)) ≡ columns ++ column_of lines n ∷ [] =
-    ap (λ k. map (column_of lines) (range_with_len 0 k)) one ∙ map-range_with_len_more (column_of lines) 0 n n
-    (omega arith) in
-    subst HistoryFollows (sym (ap reverse more ∙ reverse-push columns (column_of lines n)))
-    (next-follows lines n f, columns-follow lines n f)
-
 -- lines with the cantus among them, in each of which the cells follow one another, are a setting
 pub score-setting : (ex : Exercise) (lines : List (List Cell)) → length lines ≡ ex.voices
-    → AllByRecursion (FollowsFrom Rest) lines
-    → IsGiven ex (score_of ex.bars lines) → IsSettingOf ex (score_of ex.bars lines)
-unfolding score_of
+    → AllByRecursion (LineFollows Rest) lines
+    → IsGiven ex (score_of (8 * ex.bars) lines) → IsSettingOf ex (score_of (8 * ex.bars) lines)
 score-setting ex lines long follow given = record {
   given = given;
   full = λ k d lt.
       let there : k < 8 * ex.bars = omega (arith, lt, length-map-range_with_len (column_of lines) 0 (8 * ex.bars)) in
       ap length (get_or-map-range_with_len (column_of lines) 0 (8 * ex.bars) k k d there (omega arith))
       ∙ length-map lines (λ cells. cell_in cells k) ∙ long;
-  follows = columns-follow lines (8 * ex.bars) follow;
+  follows = columns_follow lines (8 * ex.bars) follow;
 }
 
 -- what is read of `sing` lines is a setting with these lines

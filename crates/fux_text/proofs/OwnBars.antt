@@ -24,15 +24,16 @@ use Rattle.text_lines.proofs.RowLemmas.{run-gives}
 use Rattle.fux_text.specs.Grammar.{IsSung}
 use Rattle.fux_text.specs.Items.{item_word, items_of_cells}
 use Rattle.fux_text.specs.Lines.{bar_words, between_bar_lines, sing_words}
-use Rattle.fux_text.specs.Sing.{FollowsFrom, held, item_cells, bar_line_said, latest, sing_row, sung_end, sung_run, sung_word}
+use Rattle.fux_text.specs.Sing.{held, item_cells, bar_line_said, latest, sing_row, sung_end, sung_run, sung_word}
 use Rattle.fux_text.proofs.NumberWords.{within-own}
 use Rattle.fux_text.proofs.Layouts.{at_words, left, places_of, set_out-texts, with_line}
 use Rattle.fux_text.proofs.Bars.{IsBar, cells_of, cells_of_bars}
 use Rattle.fux_text.proofs.OwnItems.{GoesOn, bar-own, items-of_bar, lengths}
+use Rattle.voice_lines.specs.Lines.{LineFollows}
 
 -- cells that follow one another, in two parts
-pub follows-parts : (before : Cell) (xs ys : List Cell) → FollowsFrom before (xs ++ ys)
-    → FollowsFrom before xs × FollowsFrom (latest before xs) ys
+pub follows-parts : (before : Cell) (xs ys : List Cell) → LineFollows before (xs ++ ys)
+    → LineFollows before xs × LineFollows (latest before xs) ys
 follows-parts before [] ys f = (tt, f)
 follows-parts before (x ∷ xs) ys f = let rest = follows-parts x xs ys f.1 in ((f.0, rest.0), rest.1)
 
@@ -69,7 +70,7 @@ end-own bars bar done full last = rw (eq-eqb (length done) (8 * bar + 8) full, e
 -- the bars behind the first
 later_bars-own : (count : ℕ) (bars : List (List (Cell × ℕ))) (bar : ℕ) (done : List Cell)
     → length done ≡ 8 * bar + 8 → bar + 1 + length bars ≡ count → AllByRecursion IsBar bars
-    → FollowsFrom (latest Rest done) (cells_of_bars bars)
+    → LineFollows (latest Rest done) (cells_of_bars bars)
     → GoesOn count bar done (flat_map (λ other. codes "|" ∷ other) (map (map item_word) bars))
     (done ++ cells_of_bars bars)
 later_bars-own count [] bar done full last whole f =
@@ -81,7 +82,7 @@ later_bars-own count (items ∷ bars) bar done full last whole f =
     let words = flat_map (λ other. codes "|" ∷ other) (map (map item_word) bars) in
     let more = later_bars-own count bars (bar + 1) (done ++ cs) (omega (arith, length-append done cs, full, eight))
     (omega (arith, last)) whole.1
-    (subst (λ c. FollowsFrom c (cells_of_bars bars)) (sym (latest-append Rest done cs)) parts.1) in (
+    (subst (λ c. LineFollows c (cells_of_bars bars)) (sym (latest-append Rest done cs)) parts.1) in (
       (bar + 1, done),
       bar_line-own count bar done full (omega (arith, last)),
       bar-own count (bar + 1) words (done ++ (cs ++ cells_of_bars bars)) done items (omega (arith, full)) whole.0 parts.0
@@ -90,7 +91,7 @@ later_bars-own count (items ∷ bars) bar done full last whole f =
 
 -- the words of a line's bars give their cells
 pub run-own : (count : ℕ) (bars : List (List (Cell × ℕ))) → 1 ≤ count → length bars ≡ count
-    → AllByRecursion IsBar bars → FollowsFrom Rest (cells_of_bars bars)
+    → AllByRecursion IsBar bars → LineFollows Rest (cells_of_bars bars)
     → IsRun (sung_run count) (0, []) (between_bar_lines (map (map item_word) bars)) (cells_of_bars bars)
 run-own count [] some last whole f = absurd (omega (arith, some, last))
 run-own count (items ∷ bars) some last whole f =
@@ -187,7 +188,7 @@ words-of_bars v columns (bar ∷ bars) =
     ∙ ap (λ more. items_words (bar_of_line (line v columns) bar) ∷ more) (words-of_bars v columns bars)
 
 -- the items of bars of cells are bars, and have these cells
-bars-items : (before : Cell) (bars : List (List Cell)) → AreBars bars → FollowsFrom before (joined bars)
+bars-items : (before : Cell) (bars : List (List Cell)) → AreBars bars → LineFollows before (joined bars)
     → AllByRecursion IsBar (map items_of_cells bars) × (cells_of_bars (map items_of_cells bars) ≡ joined bars)
 bars-items before [] eight f = (tt, refl)
 bars-items before (cs ∷ bars) eight f =
@@ -201,7 +202,7 @@ bars-items before (cs ∷ bars) eight f =
 
 -- the line that is written of a voice has its cells
 pub sing_words-sung : (count v : ℕ) (columns : List (List Cell)) → 1 ≤ count → length columns ≡ 8 * count
-    → FollowsFrom Rest (line v columns)
+    → LineFollows Rest (line v columns)
     → IsSung count v (sing_words v columns) (line v columns)
 sing_words-sung count v columns some long f =
     let cells = line v columns in
@@ -211,7 +212,7 @@ sing_words-sung count v columns some long f =
     let whole : joined bars ≡ cells = bars-joined cells 0 1 count refl
     ∙ take_all (8 * count) cells (omega (arith, long_line)) in
     let items = bars-items Rest bars (bars-are cells 0 1 count refl (omega (arith, long_line)))
-    (subst (FollowsFrom Rest) (sym whole) f) in
+    (subst (LineFollows Rest) (sym whole) f) in
     let same : cells_of_bars (map items_of_cells bars) ≡ cells = items.1 ∙ whole in
     let words = between_bar_lines (map (map item_word) (map items_of_cells bars)) in
     record {
@@ -223,5 +224,5 @@ sing_words-sung count v columns some long f =
       run = subst (IsRun (sung_run count) (0, []) words) same
           (run-own count (map items_of_cells bars) some
           (length-map bars items_of_cells ∙ length-map-range_with_len (bar_of_line cells) 1 count) items.0
-          (subst (FollowsFrom Rest) (sym same) f));
+          (subst (LineFollows Rest) (sym same) f));
     }

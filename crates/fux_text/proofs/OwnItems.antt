@@ -19,13 +19,14 @@ use Rattle.fux_text.specs.declared.item_words.ItemName.{ItemName}
 use Rattle.fux_text.specs.declared.item_words.ItemName.TheVariants as names
 use Rattle.fux_text.proofs.Bars.{IsBar, cells_of}
 use Rattle.fux_text.specs.Items.{goes_on, item_name, item_word, items_of_cells}
-use Rattle.fux_text.specs.Sing.{FollowsFrom, first_cell, held, is_colon, item_cells, item_named, item_parts, item_said, latest, sung_run, sung_word}
+use Rattle.fux_text.specs.Sing.{first_cell, held, is_colon, item_cells, item_named, item_parts, item_said, latest, sung_run, sung_word}
 use Rattle.fux_pitch.proofs.NameLemmas.{name_of-length, name_of-passes}
 use Rattle.fux_pitch.proofs.PitchLemmas.{equal_from_test}
 use Rattle.fux_text.proofs.ItemRuns.{AreRuns, run-items}
 use Rattle.fux_text.proofs.Named.{text_from}
 use Rattle.fux_text.proofs.NumberWords.{if_within-own, number-own}
 use Rattle.fux_text.proofs.OwnWords.{pitch-own}
+use Rattle.voice_lines.specs.Lines.{LineFollows}
 
 -- ---- an item's word
 
@@ -141,7 +142,7 @@ held-goes_on (Start q) (Hold p) e h = ap Hold (sym (equal_from_test q p h))
 held-goes_on (Start q) (Start p) e h = absurd (grind (arith, e))
 
 -- what follows a held cell follows the cell
-pub follows-held : (c : Cell) (ds : List Cell) → FollowsFrom (held c) ds → FollowsFrom c ds
+pub follows-held : (c : Cell) (ds : List Cell) → LineFollows (held c) ds → LineFollows c ds
 follows-held c [] f = tt
 follows-held Rest (d ∷ ds) f = f
 follows-held (Hold p) (d ∷ ds) f = f
@@ -205,7 +206,7 @@ items-own bars bar more total ((c, n) ∷ items) done few some starts h =
 
 -- the items of a bar are read behind the bars before it
 pub bar-own : (bars bar : ℕ) (more : List (List ℕ)) (total done : List Cell)
-    (items : List (Cell × ℕ)) → length done ≡ 8 * bar → IsBar items → FollowsFrom (latest Rest done) (cells_of items)
+    (items : List (Cell × ℕ)) → length done ≡ 8 * bar → IsBar items → LineFollows (latest Rest done) (cells_of items)
     → GoesOn bars bar (done ++ cells_of items) more total → GoesOn bars bar done (map item_word items ++ more) total
 bar-own bars bar more total done [] long b f h = absurd (omega (arith, b.whole))
 bar-own bars bar more total done ((c, n) ∷ items) long b f h =
@@ -226,7 +227,7 @@ begins-within (Hold q) (Hold p) e h = absurd (grind (arith, e))
 begins-within (Start q) (Hold p) e h = absurd (grind (arith, e))
 begins-within c (Start p) e h = refl
 
-cells-runs : AreRuns goes_on held is_hold FollowsFrom
+cells-runs : AreRuns goes_on held is_hold LineFollows
 cells-runs = record {
   through = goes_on-same;
   held_next = λ c d ds e f. held-goes_on c d e f.0;
@@ -240,9 +241,9 @@ pub record AreItemsOf (cs : List Cell) (items : List (Cell × ℕ)) : Type 0 whe
   pub bar : IsBar items
   pub cells : cells_of items ≡ cs
 
-pub items-of_bar : (before : Cell) (cs : List Cell) → length cs ≡ 8 → FollowsFrom before cs
+pub items-of_bar : (before : Cell) (cs : List Cell) → length cs ≡ 8 → LineFollows before cs
     → AreItemsOf cs (items_of_cells cs)
 items-of_bar before [] eight f = absurd (omega (arith, eight))
 items-of_bar before (c ∷ cs) eight f =
-    let r = run-items goes_on held is_hold FollowsFrom cells-runs cs c 0 f.1 in
+    let r = run-items goes_on held is_hold LineFollows cells-runs cs c 0 f.1 in
     record { bar = record { whole = omega (arith, r.sum, eight); some = r.some; ties = r.later }; cells = r.cells }

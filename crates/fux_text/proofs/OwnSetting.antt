@@ -1,18 +1,12 @@
 -- A setting is read back from its `sing` lines (`sung_score-own`, `setting-own`).
-use Rattle.std.proofs.Common.{◌≡◌, ℕ, zero, suc, ◌+◌, ◌*◌, ◌<◌, ◌≤◌, Bool, true, false, List, [], ◌∷◌, ◌++◌, get_or, length, map, reverse, Option, Some, None, Ok, refl, sym, ap, subst, ◌∙◌, append_assoc, arith}
-use Rattle.std.specs.Prelude.{◌==◌, not, All, codes, filter, IfSome, ⊤}
-use Rattle.std.specs.List.{flat_map, range_with_len}
+use Rattle.std.proofs.Common.{◌≡◌, ℕ, zero, suc, ◌+◌, ◌*◌, ◌<◌, ◌≤◌, Bool, true, false, List, [], ◌∷◌, ◌++◌, length, map, Option, Some, None, Ok, refl, sym, ap, subst, ◌∙◌, append_assoc, arith}
+use Rattle.std.specs.Prelude.{◌==◌, not, codes, filter, IfSome, ⊤}
+use Rattle.std.specs.List.{range_with_len}
 use Rattle.std.proofs.lemmas.Bool.{eqb-true, ne_eqb}
-use Rattle.std.proofs.lemmas.List.{append-nil, ext_get_or, get_or-map, length-append, length-map, reverse-append}
-use Rattle.std.proofs.lemmas.List.FromFn.{get_or-map-range_with_len, length-map-range_with_len}
-use Rattle.std.proofs.lemmas.Option.{same_Some}
-use Rattle.fux_pitch.specs.declared.pitch.Pitch.{Pitch}
+use Rattle.std.proofs.lemmas.List.{append-nil}
 use Rattle.fux_grid.specs.declared.cell.Cell.{Cell}
-use Rattle.fux_grid.specs.declared.cell.Cell.TheVariants.{Rest, Start}
 use Rattle.fux_grid.specs.declared.exercise.Exercise.{Exercise}
-use Rattle.fux_grid.specs.Cells.{cell_in}
-use Rattle.fux_grid.specs.Columns.{HistoryFollows, line, newest_column}
-use Rattle.fux_grid.specs.Exercises.{HasCantus}
+use Rattle.fux_grid.specs.Columns.{line}
 use Rattle.fux_grid.specs.Grid.{Grid}
 use Rattle.text_lines.specs.Lines.{TextLines}
 use Rattle.text_lines.specs.Reading.{begins, no_line}
@@ -21,59 +15,12 @@ use Rattle.text_lines.specs.Words.{LineWords}
 use Rattle.std.specs.Fmt.{decimal}
 use Rattle.fux_text.specs.Grammar.{AreSung, IsSettingOf, IsSung, Sings}
 use Rattle.fux_text.specs.Lines.{free_voices, sing_words}
-use Rattle.fux_text.specs.Sing.{Fit, FollowsFrom, cantus_cells, column_of, item_cells, score_of, setting_table, sung_table, voice_table, voices_table}
+use Rattle.fux_text.specs.Sing.{Fit, setting_table, sung_table, voice_table, voices_table}
 use Rattle.fux_text.proofs.Layouts.{left, lines_at, with_line}
 use Rattle.fux_text.proofs.OwnBars.{sing_line-own, sing_words-sung}
-use Rattle.fux_text.proofs.ValidSetting.{cantus_cells-at}
-
--- ---- lines of columns that follow one another
-
-reverse-first : (col : List Cell) (cols : List (List Cell)) → reverse (col ∷ cols) ≡ reverse cols ++ col ∷ []
-reverse-first col cols = reverse-append (col ∷ []) cols
-
-older-follow : (xs ys : List (List Cell)) → HistoryFollows (xs ++ ys) → HistoryFollows ys
-older-follow [] ys h = h
-older-follow (x ∷ xs) ys h = older-follow xs ys h.1
-
-line-follows_from : (v : ℕ) (cols older : List (List Cell)) → HistoryFollows (reverse cols ++ older)
-    → FollowsFrom (cell_in (newest_column older) v) (line v cols)
-line-follows_from v [] older h = tt
-line-follows_from v (col ∷ cols) older h =
-    let turned : reverse (col ∷ cols) ++ older ≡ reverse cols ++ col ∷ older =
-    ap (λ s. s ++ older) (reverse-first col cols) ∙ append_assoc (reverse cols) (col ∷ []) older in
-    let same : HistoryFollows (reverse cols ++ col ∷ older) = subst HistoryFollows turned h in
-    ((older-follow (reverse cols) (col ∷ older) same).0 v, line-follows_from v cols (col ∷ older) same)
-
--- the cells of a voice follow one another
-pub line-follows_own : (v : ℕ) (columns : List (List Cell)) → HistoryFollows (reverse columns)
-    → FollowsFrom Rest (line v columns)
-line-follows_own v columns h = line-follows_from v columns []
-    (subst HistoryFollows (sym (append-nil (reverse columns))) h)
-
--- ---- the cantus
-
-cantus_cells-length : (cantus : List Pitch) → length (cantus_cells cantus) ≡ 8 * length cantus
-unfolding cantus_cells
-cantus_cells-length [] = refl
-cantus_cells-length (p ∷ ps) =
-    length-append (item_cells (Start p) 8) (flat_map (λ q. item_cells (Start q) 8) ps)
-    ∙ ap (λ n. 8 + n) (cantus_cells-length ps) ∙ omega arith
-
-line-cell : (v i : ℕ) (columns : List (List Cell)) → i < length columns → get_or (line v columns) i Rest
-    ≡ cell_in (get_or columns i []) v
-line-cell v i columns lt = get_or-map (λ col. cell_in col v) columns i [] Rest lt
-
--- the cells of the cantus voice are those of the cantus
-cantus_line-cells : (ex : Exercise) (columns : List (List Cell)) → length columns ≡ 8 * length ex.cantus
-    → HasCantus ex columns
-    → cantus_cells ex.cantus ≡ line ex.cantus_voice columns
-cantus_line-cells ex columns long has =
-    ext_get_or Rest (cantus_cells ex.cantus) (line ex.cantus_voice columns)
-    (cantus_cells-length ex.cantus ∙ sym long ∙ sym (length-map columns (λ col. cell_in col ex.cantus_voice)))
-    (λ i lt.
-    let there : i < length columns = omega (arith, lt, cantus_cells-length ex.cantus, long) in
-    same_Some _ _ (sym (cantus_cells-at ex.cantus i (omega (arith, there, long))) ∙ has i there)
-    ∙ sym (line-cell ex.cantus_voice i columns there))
+use Rattle.voice_lines.specs.Lines.{cantus_cells}
+use Rattle.voice_lines.proofs.CantusLines.{cantus_line}
+use Rattle.voice_lines.proofs.Scores.{line_follows, score_own}
 
 -- ---- the voices, one after the other
 
@@ -162,44 +109,6 @@ voices-own fit ex columns after has (suc n) a before low lay lines sung =
 
 -- ---- the score
 
-pub cells-of_column : (col : List Cell) → map (λ v. cell_in col v) (range_with_len 0 (length col)) ≡ col
-cells-of_column col =
-    ext_get_or Rest (map (λ v. cell_in col v) (range_with_len 0 (length col))) col
-    (length-map-range_with_len (λ v. cell_in col v) 0 (length col))
-    (λ v lt. get_or-map-range_with_len (λ w. cell_in col w) 0 (length col) v v Rest
-    (omega (arith, lt, length-map-range_with_len (λ w. cell_in col w) 0 (length col))) (omega arith))
-
-column-own : (columns : List (List Cell)) (voices i : ℕ) → i < length columns → length (get_or columns i []) ≡ voices
-    → column_of (map (λ v. line v columns) (range_with_len 0 voices)) i ≡ get_or columns i []
-column-own columns voices i lt wide =
-    cells-at (range_with_len 0 voices)
-    ∙ ap (λ n. map (λ v. cell_in (get_or columns i []) v) (range_with_len 0 n)) (sym wide)
-    ∙ cells-of_column (get_or columns i [])
-  where
-    cells-at : (vs : List ℕ) → map (λ cells. cell_in cells i) (map (λ v. line v columns) vs)
-        ≡ map (λ v. cell_in (get_or columns i []) v) vs
-    cells-at [] = refl
-    cells-at (v ∷ vs) =
-        ap (λ c. c ∷ map (λ cells. cell_in cells i) (map (λ w. line w columns) vs)) (line-cell v i columns lt)
-        ∙ ap (λ more. cell_in (get_or columns i []) v ∷ more) (cells-at vs)
-
-score-own : (bars voices : ℕ) (columns : List (List Cell)) → length columns ≡ 8 * bars
-    → All (λ col. length col ≡ voices) columns
-    → score_of bars (map (λ v. line v columns) (range_with_len 0 voices))
-    ≡ record { voices = voices; columns = columns }
-unfolding score_of
-score-own bars voices columns long full =
-    let lines = map (λ v. line v columns) (range_with_len 0 voices) in
-    ap (λ n. record { voices = n; columns = map (column_of lines) (range_with_len 0 (8 * bars)) })
-    (length-map-range_with_len (λ v. line v columns) 0 voices)
-    ∙ ap (λ cols. record { voices = voices; columns = cols })
-    (ext_get_or [] (map (column_of lines) (range_with_len 0 (8 * bars))) columns
-    (length-map-range_with_len (column_of lines) 0 (8 * bars) ∙ sym long)
-    (λ i lt.
-    let there : i < 8 * bars = omega (arith, lt, length-map-range_with_len (column_of lines) 0 (8 * bars)) in
-    get_or-map-range_with_len (column_of lines) 0 (8 * bars) i i [] there (omega arith)
-    ∙ column-own columns voices i (omega (arith, there, long)) (full i [] (omega (arith, there, long)))))
-
 -- an exercise of which settings are read
 pub record IsSingable (ex : Exercise) : Type 0 where
   pub fewest_voices : 2 ≤ ex.voices
@@ -220,11 +129,11 @@ sung_score-own fit ex score after lay lines can setting fits sung =
     let has : HasVoices fit ex columns =
     record {
       few = omega (arith, can.most_voices);
-      cantus = cantus_line-cells ex columns (long ∙ ap (λ n. 8 * n) (sym can.whole_cantus)) setting.given.cantus;
+      cantus = sym (cantus_line ex columns (long ∙ ap (λ n. 8 * n) (sym can.whole_cantus)) setting.given.cantus);
       fits = fits;
     } in
     rw (voices-own fit ex columns after has ex.voices 0 [] (omega arith) lay lines sung)
-    (ap (λ found. Ok (found, left after [])) (score-own ex.bars ex.voices columns long setting.full
+    (ap (λ found. Ok (found, left after [])) (score_own (8 * ex.bars) ex.voices columns long setting.full
     ∙ ap (λ n. record { voices = n; columns = columns }) (sym setting.given.complete.voices)))
 
 -- ---- a setting, or none
@@ -304,6 +213,6 @@ sung_lines-sing ex (Some score) some setting = (setting, all (free_voices ex))
     all [] = tt
     all (v ∷ vs) = (
       sing_words-sung ex.bars v score.columns some setting.given.complete.whole
-          (line-follows_own v score.columns setting.follows),
+          (line_follows v score.columns setting.follows),
       all vs,
     )

@@ -1,48 +1,20 @@
 -- A setting that is read is complete and has the cantus (`setting-valid`).
-use Rattle.std.proofs.Common.{◌≡◌, ◌⊎◌, inl, inr, ℕ, zero, suc, ◌+◌, ◌*◌, ◌/◌, ◌%◌, ◌<◌, ◌≤◌, Bool, true, false, List, [], ◌∷◌, ◌++◌, length, length-append, map, get_or, Option, Some, refl, sym, ap, subst, ◌∙◌, arith}
-use Rattle.std.specs.Prelude.{◌==◌, if◌then◌else◌, option_map, slice_get, IfSome}
+use Rattle.std.proofs.Common.{◌≡◌, ◌⊎◌, inl, inr, ℕ, zero, suc, ◌+◌, ◌*◌, ◌<◌, ◌≤◌, Bool, true, false, List, [], ◌∷◌, ◌++◌, length, length-append, get_or, Option, refl, sym, ap, subst, ◌∙◌, arith}
+use Rattle.std.specs.Prelude.{◌==◌, IfSome}
 use Rattle.std.specs.List.{range_with_len}
-use Rattle.std.proofs.lemmas.List.FromFn.{get_or-map-range_with_len, length-map-range_with_len, length-range_with_len}
-use Rattle.fux_pitch.specs.declared.pitch.Pitch.{Pitch}
+use Rattle.std.proofs.lemmas.List.FromFn.{length-range_with_len}
 use Rattle.fux_grid.specs.declared.cell.Cell.{Cell}
-use Rattle.fux_grid.specs.declared.cell.Cell.TheVariants.{Hold, Start}
 use Rattle.fux_grid.specs.declared.exercise.Exercise.{Exercise}
 use Rattle.fux_grid.specs.Cells.{cell_in}
-use Rattle.fux_grid.specs.Exercises.{IsGiven, cantus_cell}
+use Rattle.fux_grid.specs.Exercises.{IsGiven}
 use Rattle.fux_grid.specs.Grid.{Grid}
 use Rattle.text_lines.specs.Lines.{TextLines}
 use Rattle.text_lines.specs.Tables.{IsTable}
-use Rattle.fux_text.specs.Sing.{Fit, cantus_cells, cantus_or_sung, column_of, score_of, setting_table, sung_table, voice_table, voices_table}
+use Rattle.fux_text.specs.Sing.{Fit, cantus_or_sung, setting_table, sung_table, voice_table, voices_table}
 use Rattle.fux_text.proofs.Following.{voices-length}
 use Rattle.fux_text.proofs.OnlySing.{sing_line-only}
-use Rattle.fux_text.proofs.ScoreLoops.{column-cell}
-
--- the cell of the cantus at a column
-abbrev pub cell_at : List Pitch → ℕ → Option Cell
-cell_at cantus i = option_map (cantus_cell i) (slice_get cantus (i / 8))
-
-cell_at-later : (p : Pitch) (ps : List Pitch) (j : ℕ) → cell_at (p ∷ ps) (8 + j) ≡ cell_at ps j
-cell_at-later p ps j =
-    let q : (8 + j) / 8 ≡ suc (j / 8) = omega arith in
-    let r : (8 + j) % 8 ≡ j % 8 = omega arith in
-    ap (λ k. option_map (cantus_cell (8 + j)) (slice_get (p ∷ ps) k)) q
-    ∙ ap (λ m. option_map (λ x. if m == 0 then Start x else Hold x) (slice_get ps (j / 8))) r
-
-pub cantus_cells-at : (cantus : List Pitch) (i : ℕ) → i < 8 * length cantus → cell_at cantus i
-    ≡ Some (cell_in (cantus_cells cantus) i)
-unfolding cantus_cells
-cantus_cells-at [] i lt = absurd (omega arith)
-cantus_cells-at (p ∷ ps) zero lt = refl
-cantus_cells-at (p ∷ ps) (suc zero) lt = refl
-cantus_cells-at (p ∷ ps) (suc (suc zero)) lt = refl
-cantus_cells-at (p ∷ ps) (suc (suc (suc zero))) lt = refl
-cantus_cells-at (p ∷ ps) (suc (suc (suc (suc zero)))) lt = refl
-cantus_cells-at (p ∷ ps) (suc (suc (suc (suc (suc zero))))) lt = refl
-cantus_cells-at (p ∷ ps) (suc (suc (suc (suc (suc (suc zero)))))) lt = refl
-cantus_cells-at (p ∷ ps) (suc (suc (suc (suc (suc (suc (suc zero))))))) lt = refl
-cantus_cells-at (p ∷ ps) (suc (suc (suc (suc (suc (suc (suc (suc j)))))))) lt =
-    let eight : suc (suc (suc (suc (suc (suc (suc (suc j))))))) ≡ 8 + j = omega arith in
-    ap (cell_at (p ∷ ps)) eight ∙ cell_at-later p ps j ∙ cantus_cells-at ps j (omega (arith, lt))
+use Rattle.voice_lines.specs.Lines.{cantus_cells, score_of}
+use Rattle.voice_lines.proofs.CantusLines.{score_given}
 
 -- what is read of voices: those before are kept, the cantus has its cells, and those of the others fit
 pub record KeepsLines (fit : Fit) (ex : Exercise) (a n : ℕ) (before lines : List (List Cell)) : Type 0 where
@@ -110,20 +82,8 @@ voices-keep fit ex (suc n) a before text x rest long h =
 
 -- lines of which one has the cells of the cantus are a score with the cantus
 pub score-given : (ex : Exercise) (lines : List (List Cell)) → length ex.cantus ≡ ex.bars → length lines ≡ ex.voices
-    → get_or lines ex.cantus_voice [] ≡ cantus_cells ex.cantus → IsGiven ex (score_of ex.bars lines)
-unfolding score_of
-score-given ex lines whole long cantus = record {
-  complete = record { voices = long; whole = length-map-range_with_len (column_of lines) 0 (8 * ex.bars) };
-  cantus = λ i lt.
-      let low : i < 8 * ex.bars = omega (arith, lt, length-map-range_with_len (column_of lines) 0 (8 * ex.bars)) in
-      let col : get_or (map (column_of lines) (range_with_len 0 (8 * ex.bars))) i [] ≡ column_of lines i =
-      get_or-map-range_with_len (column_of lines) 0 (8 * ex.bars) i i [] low (omega arith) in
-      let cell : cell_in (column_of lines i) ex.cantus_voice ≡ cell_in (cantus_cells ex.cantus) i =
-      column-cell lines i ex.cantus_voice ∙ ap (λ cells. cell_in cells i) cantus in
-      cantus_cells-at ex.cantus i (omega (arith, low, whole))
-      ∙ ap Some (sym cell)
-      ∙ ap (λ c. Some (cell_in c ex.cantus_voice)) (sym col);
-}
+    → get_or lines ex.cantus_voice [] ≡ cantus_cells ex.cantus → IsGiven ex (score_of (8 * ex.bars) lines)
+score-given ex lines whole long cantus = score_given ex lines whole long (λ i low. ap (λ cells. cell_in cells i) cantus)
 
 pub sung-valid : (fit : Fit) (ex : Exercise) (text : TextLines) (score : Grid) (rest : TextLines) → ex.cantus_voice < ex.voices
     → length ex.cantus ≡ ex.bars
@@ -141,7 +101,7 @@ sung-valid fit ex text score rest there whole (lines, a, voices, (_, b, end, sam
 -- what is read fits: the score has the cells of lines of which those of the free voices fit
 pub record HasFittingLines (fit : Fit) (ex : Exercise) (score : Grid) : Type 0 where
   pub lines : List (List Cell)
-  pub whole : score_of ex.bars lines ≡ score
+  pub whole : score_of (8 * ex.bars) lines ≡ score
   pub fits : (v : ℕ) → v < ex.voices → (v == ex.cantus_voice) ≡ false → fit v (get_or lines v []) ≡ true
 
 pub setting-fitting : (fit : Fit) (ex : Exercise) (text : TextLines) (o : Option Grid) (rest : TextLines)

@@ -1,12 +1,11 @@
 -- The `sing` lines, as rows. Which cells a voice may have is a test that each row takes.
-use Rattle.std.specs.Prelude.{ℕ, ◌+◌, ◌-◌, ◌*◌, ◌==◌, not, IsTrue, ⊤, Bool, true, false, List, [], ◌∷◌, ◌++◌, Option, Some, None, Result, Ok, Err, codes, length, map, option_map, replicate, if◌then◌else◌}
-use Rattle.std.specs.List.{after_first, before_first, flat_map, range_with_len}
+use Rattle.std.specs.Prelude.{ℕ, ◌+◌, ◌-◌, ◌*◌, ◌==◌, not, Bool, true, false, List, [], ◌∷◌, ◌++◌, Option, Some, None, Result, Ok, Err, codes, length, option_map, replicate, if◌then◌else◌}
+use Rattle.std.specs.List.{after_first, before_first, range_with_len}
 use Rattle.std.specs.Option.{ok_or}
-use Rattle.fux_pitch.specs.declared.pitch.Pitch.{Pitch}
 use Rattle.fux_grid.specs.declared.cell.Cell.{Cell}
 use Rattle.fux_grid.specs.declared.cell.Cell.TheVariants.{Rest, Hold, Start}
 use Rattle.fux_grid.specs.declared.exercise.Exercise.{Exercise}
-use Rattle.fux_grid.specs.Cells.{cell_follows, cell_in, pitch_of}
+use Rattle.fux_grid.specs.Cells.{pitch_of}
 use Rattle.fux_grid.specs.Grid.{Grid}
 use Rattle.text_lines.specs.declared.fault.TextKind.{TextKind}
 use Rattle.text_lines.specs.declared.fault.TextKind.TheVariants as kinds
@@ -18,6 +17,7 @@ use Rattle.text_lines.specs.Tables.{Table}
 use Rattle.fux_text.specs.declared.item_words.ItemName.{ItemName}
 use Rattle.fux_text.specs.declared.item_words.ItemName.TheVariants as names
 use Rattle.fux_text.specs.Names.{pitch_named}
+use Rattle.voice_lines.specs.Lines.{cantus_cells, score_of}
 
 -- what stands before the colon of an item, and the number behind it
 abbrev pub is_colon : ℕ → Bool
@@ -124,10 +124,6 @@ sing_row fit bars v = Row.place (sung_place fit bars v) (λ _. Row.runs (sung_ru
 abbrev pub Fit : Type 0
 Fit = ℕ → List Cell → Bool
 
--- the cells of the cantus: a whole note in each bar
-unfoldable pub cantus_cells : List Pitch → List Cell
-cantus_cells cantus = flat_map (λ p. item_cells (Start p) 8) cantus
-
 -- the cells of a voice: those of the cantus, or those of its `sing` line, which have to fit, and of which a missing one is
 -- `sing`
 abbrev pub cantus_or_sung : Fit → Exercise → ℕ → Bool → Table (List Cell)
@@ -143,29 +139,14 @@ voices_table fit ex [] before = Table.says before
 voices_table fit ex (v ∷ vs) before =
     Table.behind (voice_table fit ex v) (λ cells. voices_table fit ex vs (before ++ cells ∷ []))
 
--- the columns of lines of cells
-abbrev pub column_of : List (List Cell) → ℕ → List Cell
-column_of lines i = map (λ cells. cell_in cells i) lines
-
-unfoldable pub score_of : ℕ → List (List Cell) → Grid
-score_of bars lines = record {
-  voices = length lines;
-  columns = map (column_of lines) (range_with_len 0 (8 * bars));
-}
-
 -- the setting in `sing` lines, with which the text ends
 abbrev pub sung_table : Fit → Exercise → Table Grid
 sung_table fit ex =
     Table.behind (voices_table fit ex (range_with_len 0 ex.voices) []) (λ lines.
-    Table.behind Table.ends (λ _. Table.says (score_of ex.bars lines)))
+    Table.behind Table.ends (λ _. Table.says (score_of (8 * ex.bars) lines)))
 
 -- a setting, or none
 abbrev pub setting_table : Fit → Exercise → Table (Option Grid)
 setting_table fit ex =
     Table.if_begins (codes "sing") (Table.behind (sung_table fit ex) (λ score. Table.says (Some score)))
     (Table.behind Table.ends (λ _. Table.says None))
-
--- each cell may follow the one before it
-abbrev pub FollowsFrom : Cell → List Cell → Type 0
-FollowsFrom before [] = ⊤
-FollowsFrom before (c ∷ cs) = IsTrue (cell_follows before c) × FollowsFrom c cs

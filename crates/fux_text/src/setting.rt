@@ -1,23 +1,23 @@
 //! The setting that `sing` lines give.
 
-ghost use Rattle.std.specs.Prelude.{◌≡◌, ◌≤◌, ◌<◌, ◌*◌, [], ◌∷◌, IfOk, IfSome, MatchResult, List, length};
-ghost use Rattle.std.specs.List.{AllByRecursion, range_with_len};
-ghost use Rattle.fux_grid.specs.declared.cell.Cell.TheVariants.{Rest};
+ghost use Rattle.std.specs.Prelude.{◌≡◌, ◌≤◌, [], IfOk};
+ghost use Rattle.std.specs.List.{range_with_len};
 ghost use Rattle.text_lines.specs.Faults.{Gives};
 ghost use Rattle.text_lines.specs.Lines.{lines_of};
 ghost use Rattle.text_lines.specs.Tables.{table_in};
 ghost use Rattle.fux_text.specs.Fitting.{asks};
-ghost use Rattle.fux_text.specs.Sing.{FollowsFrom, cantus_cells, column_of, score_of, setting_table, sung_table, voice_table, voices_table};
+ghost use Rattle.fux_text.specs.Sing.{setting_table, sung_table, voice_table, voices_table};
+ghost use Rattle.voice_lines.specs.Lines.{cantus_cells};
 
 use crate::fitting::Asked;
 use crate::sing::{push_item, sing_line_in};
-use fux_grid::{Cell, Column, Exercise, Score, cell_of};
+use fux_grid::{Cell, Exercise, Score};
 use fux_pitch::{List, Pitch};
 use std::alloc::{AllocError, Global};
 use text_lines::{Lines, TextFault};
+use voice_lines::score_of;
 
 /// The cells of the cantus: a whole note in each bar.
-#[tactic(auto, unfolding(crate::specs::Sing::cantus_cells))]
 fn cantus_cells(alloc: Global, cantus: &[Pitch]) -> Result<Vec<Cell>, AllocError>
     ensures { IfOk result (λ cells. cells.items ≡ cantus_cells cantus.now) }
 {
@@ -66,34 +66,6 @@ fn voices_in<'a>(
         rest = behind;
     }
     Ok((lines, rest))
-}
-
-/// The column of lines of cells at a place.
-fn column_of(lines: &[List<Cell>], i: usize) -> Column
-    requires { length lines.now ≤ 4 }
-    ensures { result.items ≡ column_of lines.now i }
-{
-    let mut column = Column::new();
-    for line in lines {
-        column.push(cell_of(line.as_slice(), i));
-    }
-    column
-}
-
-/// The score of lines of cells.
-#[tactic(auto, unfolding(crate::specs::Sing::score_of))]
-fn score_of(alloc: Global, lines: &[List<Cell>], bars: u8) -> Result<Score, TextFault>
-    requires least { 2 ≤ length lines.now }
-    requires most { length lines.now ≤ 4 }
-    requires bars { bars ≤ 24 }
-    requires follow { AllByRecursion (FollowsFrom Rest) lines.now }
-    ensures { MatchResult result (λ score. score ≡ score_of bars lines.now) (λ fault. fault ≡ TextFault.Memory) }
-{
-    let mut score = Score::new(alloc, lines.len() as u8)?;
-    for i in 0..8 * usize::from(bars) {
-        score.push(column_of(lines, i)).unwrap();
-    }
-    Ok(score)
 }
 
 /// Reads the setting in `sing` lines, with which the text ends.

@@ -75,7 +75,7 @@ fn push_note(out: &mut Vec<u8>, v: u8, wait: u32, len: u32, key: u8) -> Result<(
 fn line_of(alloc: Global, score: &Score, v: u8) -> Result<Vec<Cell>, Memory>
     ensures { IfOk result (λ cells. cells.items ≡ line v score.now.columns) }
 {
-    let mut cells = Vec::new(alloc);
+    let mut cells = Vec::with_capacity(alloc, score.len())?;
     for i in 0..score.len() {
         cells.push(score.cell(v as usize, i))?;
     }

@@ -1,6 +1,6 @@
 -- The columns of lines whose cells follow one another follow one another (`next_follows`), those of a score follow one another
--- in each voice (`line_follows`), and a score is that of its lines (`score_own`).
-use Rattle.std.proofs.Common.{◌≡◌, ℕ, zero, suc, ◌+◌, ◌-◌, ◌<◌, List, [], ◌∷◌, ◌++◌, length, map, reverse, get_or, Result, Ok, Err, refl, sym, ap, ◌∙◌, append_assoc, subst, arith}
+-- in each voice (`line_follows`), and a score is that of its lines (`score_own`, `line_of_score`).
+use Rattle.std.proofs.Common.{◌≡◌, ℕ, zero, suc, ◌+◌, ◌-◌, ◌<◌, List, [], ◌∷◌, ◌++◌, length, map, reverse, get_or, Result, Ok, Err, refl, sym, ap, ◌∙◌, append_assoc, add-one, subst, arith}
 use Rattle.std.specs.Prelude.{All, IsTrue, OnOk, IsOk}
 use Rattle.std.specs.List.{AllByRecursion, range_with_len}
 use Rattle.std.proofs.lemmas.List.{append-nil, ext_get_or, get_or-map, reverse-append}
@@ -136,3 +136,28 @@ score_own n voices columns long full =
     let there : i < n = omega (arith, lt, count) in
     get_or-map-range_with_len (column_of lines) 0 n i i [] there (omega arith)
     ∙ column_own columns voices i (omega (arith, there, long)) (full i [] (omega (arith, there, long)))))
+
+-- a voice of the score of lines has the cells of its line
+pub line_of_score : (n v : ℕ) (lines : List (List Cell)) → length (get_or lines v []) ≡ n
+    → line v (score_of n lines).columns ≡ get_or lines v []
+line_of_score n v lines long =
+    cells_at (range_with_len 0 n)
+    ∙ ap (λ k. map (λ i. cell_in (get_or lines v []) i) (range_with_len 0 k)) (sym long)
+    ∙ cells_own (get_or lines v [])
+  where
+    cells_at : (is : List ℕ) → line v (map (column_of lines) is) ≡ map (λ i. cell_in (get_or lines v []) i) is
+    cells_at [] = refl
+    cells_at (i ∷ is) =
+        ap (λ c. c ∷ line v (map (column_of lines) is)) (column-cell lines i v)
+        ∙ ap (λ cs. cell_in (get_or lines v []) i ∷ cs) (cells_at is)
+
+-- the columns of lines in which the cells follow one another do
+pub columns_follow : (lines : List (List Cell)) (n : ℕ) → AllByRecursion (LineFollows Rest) lines
+    → HistoryFollows (reverse (score_of n lines).columns)
+columns_follow lines zero f = tt
+columns_follow lines (suc n) f =
+    let columns = (score_of n lines).columns in
+    let more : (score_of (suc n) lines).columns ≡ columns ++ column_of lines n ∷ [] =
+    ap (λ k. (score_of k lines).columns) (sym (add-one n)) ∙ map-range_with_len_more (column_of lines) 0 n n (omega arith) in
+    subst HistoryFollows (sym (ap reverse more ∙ reverse-append columns (column_of lines n ∷ [])))
+    (next_follows lines n f, columns_follow lines n f)

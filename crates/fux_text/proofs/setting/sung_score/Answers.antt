@@ -5,9 +5,10 @@ use Rattle.fux_grid.specs.declared.cell.Cell.TheVariants.{Rest}
 use Rattle.text_lines.specs.Lines.{lines_of}
 use Rattle.text_lines.proofs.TableLemmas.{table-right}
 use Rattle.fux_text.specs.Fitting.{asks}
-use Rattle.fux_text.specs.Sing.{FollowsFrom, voices_table}
+use Rattle.fux_text.specs.Sing.{voices_table}
 use Rattle.fux_text.proofs.Following.{voices-follow, voices-length}
 use Rattle.fux_text.proofs.setting.sung_score.Goals as goal
+use Rattle.voice_lines.specs.Lines.{LineFollows}
 
 pub score_of-requires-clause-least : goal.score_of-requires-clause-least
 score_of-requires-clause-least c =
@@ -32,6 +33,6 @@ score_of-requires-clause-follow c =
     let ex = c.args.ex.now in
     let fit = asks c.args.asked ex in
     let vs = range_with_len 0 ex.voices in
-    subst (AllByRecursion (FollowsFrom Rest)) (sym c.deref.ensures.value)
+    subst (AllByRecursion (LineFollows Rest)) (sym c.deref.ensures.value)
     (voices-follow fit ex vs [] (lines_of c.args.text) _ _ tt
     (table-right (voices_table fit ex vs []) (lines_of c.args.text) _ _ c.in_ok-lines.ensures))
