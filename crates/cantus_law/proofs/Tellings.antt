@@ -1,16 +1,21 @@
 -- What is known of pitches tells whether a claim of them is true.
-use Rattle.std.specs.Prelude.{◌≡◌, ◌≢◌, ◌↔◌, ◌⊎◌, ℕ, ◌<◌, ◌≤◌, Bool, IsTrue, List, None, Some, length, nat_eq}
+use Rattle.std.specs.Prelude.{◌≡◌, ◌≢◌, ◌↔◌, ◌⊎◌, ℕ, ◌<◌, ◌≤◌, Bool, IsTrue, List, Option, None, Some, length, nat_eq, reverse}
 use Rattle.std.specs.declared.cmp.Ordering.{Ordering}
 use Rattle.std.specs.declared.cmp.Ordering.TheVariants.{Equal}
 use Rattle.std.proofs.Common.{arith, inl, inr, ap, sym, ◌∙◌, subst, refl, true≢false}
 use Rattle.std.proofs.lemmas.Bool.{eq-eqb, ne_eqb}
-use Rattle.std.specs.Prelude.{[], ◌∷◌, ◌&&◌}
+use Rattle.std.specs.List.{find}
+use Rattle.std.specs.Option.{option_map_or}
+use Rattle.std.specs.Prelude.{if◌then◌else◌, [], ◌∷◌, ◌&&◌, true, false}
 use Rattle.fux_pitch.specs.declared.pitch.Pitch.{Pitch}
+use Rattle.cantus_space.specs.declared.plan.CantusPlan.{CantusPlan}
 use Rattle.cantus_space.specs.Lawful.{IsEarlier}
+use Rattle.cantus_space.specs.Rules.{floor_of}
+use Rattle.cert_text.specs.declared.claim.Claim.TheVariants.{Open, Broken, Floor, TheScore}
 use Rattle.cantus_law.specs.Claims.{IsCantusOf, IsNoBetter, Said}
 use Rattle.cantus_law.specs.Known.{order_with}
-use Rattle.cantus_law.specs.Writer.{is_equal, is_less, pitches_order}
-use Rattle.cantus_law.proofs.WrittenCantus.{cantus_from_test, less-order, less_from_test, order-less, test_from_cantus}
+use Rattle.cantus_law.specs.Writer.{first_claim, is_cantus_of, is_equal, is_less, is_no_better, least_break, pitches_order}
+use Rattle.cantus_law.proofs.WrittenCantus.{cantus_from_test, less-order, less_from_test, no_better_from_test, order-less, test_from_cantus, test_from_no_better}
 
 -- of no pitches and a cantus nothing differs
 pub order-start : (said : Said) → Equal ≡ order_with said []
@@ -64,3 +69,36 @@ module _ (said : Said) (best : ℕ × List Pitch) (is : said ≡ Some best) (ps 
             ∙ sym (ap (λ t. t && is_equal (pitches_order best.1 ps)) (eq-eqb (length ps) (length best.1) (sym size ∙ whole)))
             ∙ test_from_cantus (Some best) ps h),
       )
+
+-- what is true of pitches is so by its test
+pub test_same : (b t : Bool) (P : Type 0) → IsTrue b ↔ P → (t ≡ true → P) → (P → t ≡ true) → b ≡ t
+test_same true t P told from to = sym (to (told.0 refl))
+test_same false true P told from to = told.1 (from refl)
+test_same false false P told from to = refl
+
+pub cantus_test : (said : Said) (ps : List Pitch) (b : Bool) → IsTrue b ↔ IsCantusOf said ps → b ≡ is_cantus_of said ps
+cantus_test said ps b told =
+    test_same b (is_cantus_of said ps) (IsCantusOf said ps) told (cantus_from_test said ps) (test_from_cantus said ps)
+
+pub no_better_test : (said : Said) (ps : List Pitch) (floor : ℕ) (b : Bool) → IsTrue b ↔ IsNoBetter said ps floor
+    → b ≡ is_no_better said ps floor
+no_better_test said ps floor b told =
+    test_same b (is_no_better said ps floor) (IsNoBetter said ps floor) told (no_better_from_test said ps floor)
+    (test_from_no_better said ps floor)
+
+-- tests that agree find the same
+pub find-same : (f g : ℕ → Bool) → ((n : ℕ) → f n ≡ g n) → (ns : List ℕ) → find f ns ≡ find g ns
+find-same f g same [] = refl
+find-same f g same (n ∷ ns) =
+    ap (λ b. if b then Some n else find f ns) (same n) ∙ ap (λ o. if g n then Some n else o) (find-same f g same ns)
+
+-- the own claim of pitches, by what is found of them
+pub first_is : (plan : CantusPlan) (said : Said) (ps : List Pitch) (cantus better : Bool) (rule : Option ℕ)
+    → cantus ≡ is_cantus_of said ps → rule ≡ least_break plan ps
+    → better ≡ is_no_better said ps (floor_of plan (reverse ps))
+    → (if cantus then TheScore else option_map_or Broken rule (if better then Floor else Open)) ≡ first_claim plan said ps
+first_is plan said ps cantus better rule is found low =
+    ap (λ b. if b then TheScore else option_map_or Broken rule (if better then Floor else Open)) is
+    ∙ ap (λ o. if is_cantus_of said ps then TheScore else option_map_or Broken o (if better then Floor else Open)) found
+    ∙ ap (λ b. if is_cantus_of said ps then TheScore
+    else option_map_or Broken (least_break plan ps) (if b then Floor else Open)) low

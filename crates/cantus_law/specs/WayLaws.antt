@@ -1,5 +1,6 @@
 -- Pitches are found by their numbers (`are_ways`).
-use Rattle.std.specs.Prelude.{◌≡◌, ◌<◌, true, List, [], ◌∷◌, length, refl}
+use Rattle.std.specs.Prelude.{◌≡◌, ◌+◌, ◌<◌, true, List, [], ◌∷◌, ◌++◌, length, map, refl}
+use Rattle.std.specs.List.{AllByRecursion}
 use Rattle.std.proofs.Common.{arith}
 use Rattle.std.proofs.lemmas.List.{length-append}
 use Rattle.cert_text.specs.declared.claim.Claim.{Claim}
@@ -9,7 +10,7 @@ use Rattle.fux_pitch.specs.declared.pitch.Pitch.{Pitch}
 use Rattle.cantus_space.specs.declared.plan.CantusPlan.{CantusPlan}
 use Rattle.cantus_space.specs.Numbers.{numbered_pitch}
 use Rattle.cantus_law.specs.Certificates.{is_open, tree_of}
-use Rattle.cantus_law.specs.Claims.{IsTrueOf, Said, longer_lists}
+use Rattle.cantus_law.specs.Claims.{IsTrueOf, Said, longer_lists, pool_of}
 use Rattle.cantus_law.specs.Known.{longer_from, ways_of}
 
 module _ (plan : CantusPlan) (said : Said) where
@@ -23,11 +24,16 @@ module _ (plan : CantusPlan) (said : Said) where
   few ps Floor e holds = cc
   few ps TheScore e holds = cc
 
+  each_step : (ps pool : List Pitch) → AllByRecursion (λ q. length q ≡ length ps + 1) (map (λ p. ps ++ p ∷ []) pool)
+  each_step ps [] = tt
+  each_step ps (p ∷ pool) = (length-append ps (p ∷ []), each_step ps pool)
+
   pub are_ways : AreWays (tree_of plan said) [] (ways_of plan)
   are_ways = record {
     start = refl;
     all = all_longer;
     no_steps = refl;
     one_step = λ ps k. omega (arith, length-append ps (numbered_pitch plan k ∷ []));
+    each_step = λ ps. each_step ps (pool_of plan (length ps + 1));
     few_steps = few;
   }

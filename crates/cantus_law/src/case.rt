@@ -4,6 +4,9 @@ ghost use Rattle.std.specs.Prelude.{◌≡◌, ◌↔◌, ◌<◌, IsTrue, [], �
 ghost use Rattle.cert_text.specs.declared.claim.Claim.TheVariants as claims;
 ghost use Rattle.fux_pitch.specs.declared.pitch.Pitch.{Pitch as APitch};
 ghost use Rattle.fux_grid.specs.Order as order_words;
+ghost use Rattle.std.specs.List.{find};
+ghost use Rattle.rule_law.specs.Voices.{has_rule};
+ghost use Rattle.cantus_space.specs.Broken.{rules_claimed};
 ghost use Rattle.cantus_space.specs.Known.{HasRoom};
 ghost use Rattle.cantus_law.specs.Claims.{IsTrueOf};
 ghost use Rattle.cantus_law.specs.Known.{IsJudged, IsJudgedOfSome, order_with};
@@ -72,6 +75,28 @@ fn order_after(cantus: &[Pitch], len: usize, before: Ordering, pitch: Pitch) -> 
     }
 }
 
+/// The rules that claims name, in order.
+const CLAIMED: [u8; 6] = [2, 4, 6, 7, 8, 9];
+
+/// The first of these rules that is in a set.
+fn first_broken(rules: &[u8], broken: RuleSet) -> Option<u8>
+    ensures { result ≡ find (has_rule broken.bits) rules.now }
+{
+    for rule in rules {
+        if broken.has(*rule) {
+            return Some(*rule);
+        }
+    }
+    None
+}
+
+/// The least rule that is in a set, of those that claims name.
+fn least_rule(broken: RuleSet) -> Option<u8>
+    ensures { result ≡ find (has_rule broken.bits) rules_claimed }
+{
+    first_broken(&CLAIMED, broken)
+}
+
 impl CantusCase {
     /// How the head's cantus goes against these pitches and one more.
     fn order_after(&self, known: &CantusKnown, pitch: Pitch) -> Ordering
@@ -134,6 +159,7 @@ impl ClaimTree for CantusCase {
     ghost use Rattle.cantus_law.specs.Excluded.{empty_begins, excluded};
     ghost use Rattle.cantus_law.specs.Known.{IsJudged, ways_of};
     ghost use Rattle.cantus_law.specs.WayLaws.{are_ways};
+    ghost use Rattle.cantus_law.specs.Writer.{first_claim};
 
     type Claim = Claim;
 
@@ -148,6 +174,8 @@ impl ClaimTree for CantusCase {
     ghost root = { λ _. [] };
 
     ghost ways = { λ it. ways_of it.space };
+
+    ghost own = { λ it. first_claim it.space it.head.best };
 
     ghost begins = { λ _. Begins };
 
@@ -188,6 +216,20 @@ impl ClaimTree for CantusCase {
             Claim::NoChain => false,
             Claim::Floor => false,
             Claim::TheScore => false,
+        }
+    }
+
+    fn own_claim(&self, known: &CantusKnown) -> Claim {
+        if self.is_cantus(known) {
+            return Claim::TheScore;
+        }
+        if let Some(rule) = least_rule(known.broken) {
+            return Claim::Broken(rule);
+        }
+        if self.is_no_better(known) {
+            Claim::Floor
+        } else {
+            Claim::Open
         }
     }
 

@@ -1,4 +1,5 @@
 pub mod Fed
 pub mod Levels
+pub mod NextClaims
 pub mod OwnClaims
 pub mod Shown

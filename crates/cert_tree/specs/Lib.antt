@@ -1,3 +1,4 @@
 pub mod Judgings
 pub mod Trees
 pub mod Walks
+pub mod Writing

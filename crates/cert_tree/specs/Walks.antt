@@ -1,6 +1,7 @@
 -- Where a judge of claims stands: the open nodes that begin the one owed next, as what is known of each and the number of the step by
 -- which it goes on.
 use Rattle.std.specs.Prelude.{◌≡◌, ℕ, ◌+◌, ◌<◌, Bool, true, List, [], ◌∷◌, ◌++◌, Option, Some, None, IfSome, reverse, vec_capacity, ⊤, if◌then◌else◌}
+use Rattle.std.specs.List.{AllByRecursion}
 use Rattle.cert_tree.specs.Trees.{Tree}
 use Rattle.cert_tree.specs.declared.walk.Level.{Level}
 use Rattle.cert_tree.specs.declared.walk.Walk.{Walk}
@@ -20,6 +21,7 @@ pub record AreWays {X C : Type 0} (tree : Tree X C) (root : X) (ways : Ways X) :
   pub all : (p : X) → ways.longer_from p 0 ≡ tree.longer p
   pub no_steps : ways.steps root ≡ 0
   pub one_step : (p : X) (k : ℕ) → ways.steps (ways.child p k) ≡ ways.steps p + 1
+  pub each_step : (p : X) → AllByRecursion (λ q. ways.steps q ≡ ways.steps p + 1) (tree.longer p)
   pub few_steps : (p : X) (claim : C) → tree.is_open claim ≡ true → tree.IsTrueOf p claim → ways.steps p < ways.height
 
 -- this is known of the node, and it is open

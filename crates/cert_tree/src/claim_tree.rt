@@ -28,6 +28,9 @@ pub trait ClaimTree {
     /// How nodes are found by numbers.
     ghost ways: { Self → Ways Node };
 
+    /// The claim that is written of a node.
+    ghost own: { Self → Node → Self.Claim };
+
     /// The node begins the leaf.
     ghost begins: { Self → Node → Leaf → Type 0 };
 
@@ -59,6 +62,11 @@ pub trait ClaimTree {
     fn is_true(&self, known: &Self::Known, claim: Self::Claim) -> bool
         requires { IsOfSome (is_of self.now) known.now }
         ensures { (p : Node) → is_of self.now known.now p → IsTrue result ↔ (tree self.now).IsTrueOf p claim };
+
+    /// The claim that is written of a node.
+    fn own_claim(&self, known: &Self::Known) -> Self::Claim
+        requires { IsOfSome (is_of self.now) known.now }
+        ensures { (p : Node) → is_of self.now known.now p → result ≡ own self.now p };
 
     /// The ways go through the tree.
     ghost are_ways: { (it : Self) → AreWays (tree it) (root it) (ways it) };

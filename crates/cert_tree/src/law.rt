@@ -14,10 +14,10 @@ pub fn shown_by<T: ClaimTree>(it: &T)
     let _ = it;
 }
 
-/// Where each node's own claim is true, those claims from the root on are certified. It does nothing, as `shown_by`.
+/// Where each node's own claim is true, the claims that are written from the root on are certified. It does nothing, as `shown_by`.
 pub fn written<T: ClaimTree>(it: &T)
-    ensures { (own : T.Node → T.Claim) (count : ℕ) → AreTrueFrom (T.tree it.now) own count (T.root it.now) →
-        IsCertifiedFrom (T.tree it.now) (T.root it.now) (claims_from (T.tree it.now) own count (T.root it.now)) }
+    ensures { (count : ℕ) → AreTrueFrom (T.tree it.now) (T.own it.now) count (T.root it.now) → IsCertifiedFrom
+        (T.tree it.now) (T.root it.now) (claims_from (T.tree it.now) (T.own it.now) count (T.root it.now)) }
 {
     let _ = it;
 }

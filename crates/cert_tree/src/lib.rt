@@ -6,8 +6,10 @@ mod claim_tree;
 mod judging;
 mod law;
 mod walk;
+mod writing;
 
 pub use claim_tree::ClaimTree;
 pub use judging::{Cause, Judging, Refusal, begin, feed, finish};
 pub use law::{shown_by, written};
 pub use walk::{Level, Walk, go_on};
+pub use writing::{begin_again, next_claim, room_for_walk};

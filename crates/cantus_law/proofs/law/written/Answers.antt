@@ -1,5 +1,4 @@
 use Rattle.cantus_law.proofs.WrittenCantus.{all_true, sound_if_holds}
-use Rattle.cantus_law.specs.Writer.{first_claim}
 use Rattle.cantus_law.proofs.law.written.Goals as goal
 
 pub returns : goal.returns
@@ -8,5 +7,5 @@ returns c = λ holds.
     let said = c.args.case.now.head.best in
     record {
       sound = sound_if_holds plan said holds;
-      certified = c.written.ensures (first_claim plan said) plan.bars (all_true plan said holds);
+      certified = c.written.ensures plan.bars (all_true plan said holds);
     }
