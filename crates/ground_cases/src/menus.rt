@@ -3,8 +3,8 @@
 ghost use Rattle.fux_grid.specs.Exercises.{IsValid};
 
 use crate::tables::{compare, number};
-use short_scores::{any_exercise_of, exercise_of};
 use fux_grid::{Cell, Column, Exercise, MenuFault, can_start, is_free, menu, range, width};
+use short_scores::{any_exercise_of, exercise_of};
 use std::alloc::Global;
 use std::fmt::Write;
 use std::test::Fail;

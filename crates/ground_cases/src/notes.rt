@@ -3,11 +3,11 @@
 ghost use Rattle.std.specs.Prelude.{◌≡◌, IfOk, length};
 
 use crate::tables::{compare, number, word};
-use short_scores::pitch_of;
 use fux_grid::{
     Cell, Column, GridFault, Note, Score, next_note, note_at, order, prev_note, shape, sounding,
 };
 use fux_pitch::Pitch;
+use short_scores::pitch_of;
 use std::alloc::Global;
 use std::cmp::Ordering;
 use std::fmt::Write;

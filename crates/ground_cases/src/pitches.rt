@@ -4,11 +4,11 @@ ghost use Rattle.std.specs.Prelude.{pos, negsuc, ◌≤ℤ◌, ◌<◌};
 
 use crate::menus::is_shared;
 use crate::tables::{compare, number, word};
-use short_scores::{mode_of, pitch_of};
 use fux_pitch::{
     Interval, Label, List, Memory, Mode, Pitch, final_letter, in_gamut, interval_of, is_consonant,
     is_imperfect, is_perfect, leading, name, parse_pitch, reduce, semitone, spell,
 };
+use short_scores::{mode_of, pitch_of};
 use std::alloc::Global;
 use std::fmt::Write;
 use std::test::Fail;

@@ -2,8 +2,8 @@
 
 use crate::parts::parts;
 use crate::tables::{CANTUS_FIRMI, SETTINGS};
-use short_scores::{case_of, exercise_of};
 use score_marker::{Mark, cantus_marks, marks};
+use short_scores::{case_of, exercise_of};
 use std::alloc::Global;
 use std::fmt::Write;
 use std::test::Fail;

@@ -11,12 +11,12 @@ ghost use Rattle.fux_grid.specs.Exercises.{IsValid};
 
 use crate::parts::parts;
 use crate::{four_voices, tables, three_voices, two_voices};
-use short_scores::case_of;
 use fux_grid::{Exercise, Score};
 use fux_judge::{State, Verdict, penalty, step};
 use penalty_sheet::{Sheet, default_sheet};
 use plain_judge::{newly_broken, newly_paid, settled_breaks, settled_charges};
 use rule_law::RuleSet;
+use short_scores::case_of;
 use std::alloc::Global;
 use std::process::Abort;
 use std::test::Fail;

@@ -5,10 +5,10 @@ ghost use Rattle.fux_grid.specs.Exercises.{IsValid, columns_in};
 
 use crate::parts::parts;
 use crate::tables::COLUMNS;
-use short_scores::case_of;
 use fux_grid::{Column, Exercise, Score};
 use fux_judge::{State, is_always_dead, pruned_within, step};
 use penalty_sheet::default_sheet;
+use short_scores::case_of;
 use std::alloc::Global;
 use std::fmt::Write;
 use std::process::Abort;
