@@ -207,6 +207,13 @@ is_asked c menus i row menu col packed here is_menu there = record {
     same : columns_of menu ≡ c.menu i
     same = subst (λ (m : Menu). IsMenuOf (c.menu i) m) (sym is_menu) (here.menu menu)
 
+-- two rows beside one menu are of places with the same one
+pub menus_same : (c : Chains) (i j : ℕ) (menus : List Menu) (row other : Row) → IsRowAt c i menus row
+    → IsRowAt c j menus other → row.menu ≡ other.menu → c.menu i ≡ c.menu j
+menus_same c i j [] row other here there same = absurd (omega (arith, here.named))
+menus_same c i j (some ∷ menus) row other here there same =
+    sym (here.menu some) ∙ ap (λ n. columns_of (get_or (some ∷ menus) n some)) same ∙ there.menu some
+
 -- the least sum of the place's column
 pub least_at : (c : Chains) (i k : ℕ) (row : Row) (menu : Menu) (col : List Cell) → IsAsked c i row menu col
     → k < length menu.columns.items

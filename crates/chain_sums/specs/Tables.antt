@@ -2,7 +2,6 @@
 use Rattle.std.specs.Prelude.{◌≡◌, ℕ, suc, ◌-◌, ◌*◌, ◌^◌, ◌<◌, ◌≤◌, List, [], length, slice_index_or, Option, Some, None, IsSomeAnd, MatchOption}
 use Rattle.std.specs.Borrow.{Bor}
 use Rattle.std.specs.List.{All, Contains}
-use Rattle.arrayvec.specs.ArrayVec.{ArrayVec}
 use Rattle.fux_grid.specs.declared.cell.Cell.{Cell}
 use Rattle.fux_grid.specs.declared.exercise.Place.{Place}
 use Rattle.fux_grid.specs.Exercises.{bar_of, slot_of}
@@ -101,11 +100,9 @@ IsRestAt t i k rest =
     (c : Chains) → AreTablesOf c t → i < c.places → k < length (c.menu i)
     → IsLeast c (suc i) (Some (slice_index_or (c.menu i) k [])) rest
 
--- this column has the number there
-abbrev pub IsColumnAt : Tables → ℕ → ℕ → Option (Bor (ArrayVec Cell)) → Type 0
-IsColumnAt t i k found =
-    (c : Chains) → AreTablesOf c t → i < c.places → k < length (c.menu i)
-    → IsSomeAnd found (λ column. column.now.items ≡ slice_index_or (c.menu i) k [])
+-- whatever chains tables are of: two places have the same menu
+abbrev pub HaveSameMenu : Tables → ℕ → ℕ → Type 0
+HaveSameMenu t i j = (c : Chains) → AreTablesOf c t → i < c.places → j < c.places → c.menu i ≡ c.menu j
 
 -- no menu is too wide
 abbrev pub AreNarrow : Chains → Type 0

@@ -2,11 +2,12 @@
 
 ghost use Rattle.std.specs.Prelude.{◌≡◌, ◌<◌, ◌≤◌, ◌+◌, ◌-◌, ℕ, List, [], ◌*◌, ◌^◌, Some, length, suc, replicate, IfOk, IfErr, IfSome, OnOk, OnErr, IsSomeAnd, slice_index_or};
 ghost use Rattle.std.specs.Bool.{OnTrue};
+ghost use Rattle.fux_grid.specs.Grid.{items_of};
 ghost use Rattle.chain_sums.specs.Chains.{AreFull, Chains, IsLeast};
 ghost use Rattle.chain_sums.specs.Menus.{HaveSameColumns, IsMenuOf, IsPacked};
 ghost use Rattle.chain_sums.specs.Rows.{AllAtMost, AreOneCostAbove, IsAtMost, IsRow};
 ghost use Rattle.chain_sums.specs.Still.{GoesOnFreely};
-ghost use Rattle.chain_sums.specs.Tables.{AreNarrow, AreRows, AreSameRows, AreTablesOf, HaveRowAt, IsColumnAt, IsMenuAt, IsNumberFor, IsRestAt, IsLatestRow, IsNumbered, IsRestBehind, IsRowNumberOf, IsRowOfPlace, TellsWidth};
+ghost use Rattle.chain_sums.specs.Tables.{AreNarrow, AreRows, AreSameRows, AreTablesOf, HaveRowAt, HaveSameMenu, IsMenuAt, IsNumberFor, IsRestAt, IsLatestRow, IsNumbered, IsRestBehind, IsRowNumberOf, IsRowOfPlace, TellsWidth};
 
 use crate::candidates::candidates;
 use crate::choices::Choices;
@@ -427,6 +428,7 @@ impl Tables {
     }
 
     /// The menu of a place.
+    #[inline]
     fn menu_at(&self, i: usize) -> Option<&Menu>
         ensures { (c : Chains) → AreTablesOf c self.now → i < c.places
             → IsSomeAnd result (λ menu. IsMenuOf (c.menu i) menu.now) }
@@ -435,25 +437,24 @@ impl Tables {
         self.menus.get(row.menu)
     }
 
-    /// How many columns the menu of a place has.
-    pub fn width(&self, i: usize) -> usize
-        ensures { (c : Chains) → AreTablesOf c self.now → i < c.places → result ≡ length (c.menu i) }
+    /// The columns of the menu of a place, in reading order.
+    #[inline]
+    pub fn columns(&self, i: usize) -> &[Column]
+        ensures { (c : Chains) → AreTablesOf c self.now → i < c.places → items_of result.now ≡ c.menu i }
     {
         match self.menu_at(i) {
-            Some(menu) => menu.len(),
-            None => 0,
+            Some(menu) => menu.as_slice(),
+            None => &[],
         }
     }
 
-    /// The column of a number in the menu of a place.
-    pub fn column(&self, i: usize, k: usize) -> Option<&Column>
-        ensures { IsColumnAt self.now i k result }
+    /// Whether the menu of two places is kept once for both.
+    pub fn has_same_menu(&self, i: usize, j: usize) -> bool
+        ensures { OnTrue result (HaveSameMenu self.now i j) }
     {
-        let menu = self.menu_at(i)?;
-        if k < menu.len() {
-            Some(menu.column(k))
-        } else {
-            None
+        match (self.row_of(i), self.row_of(j)) {
+            (Some(row), Some(other)) => row.menu == other.menu,
+            _ => false,
         }
     }
 
