@@ -1,8 +1,10 @@
 //! Tables of the least sums over the chains of an exercise.
 
 ghost use Rattle.std.specs.Prelude.{◌≡◌, ◌<◌, ◌≤◌, ◌^◌, [], OnOk, IfOk, IfErr, IfSome, length, slice_index_or};
+ghost use Rattle.std.specs.Bool.{OnTrue};
 ghost use Rattle.std.specs.List.{Contains};
 ghost use Rattle.fux_grid.specs.Exercises.{IsValid, columns_in};
+ghost use Rattle.fux_grid.specs.Grid.{items_of};
 ghost use Rattle.fux_grid.specs.Menus.{menu_of};
 ghost use Rattle.floor_tables.specs.Tables.{AreNarrow, IsRest, IsStart, TellsWidth};
 
@@ -102,12 +104,21 @@ impl<'a> Tables<'a> {
         self.sums.rest_of_number(i, k)
     }
 
+    /// The columns of the menu of a place, in reading order.
+    #[inline]
+    pub fn columns(&self, i: usize) -> &[Column]
+        requires { i < columns_in self.now.exercise }
+        ensures { items_of result.now ≡ menu_of self.now.exercise i }
+    {
+        self.sums.columns(i)
+    }
+
     /// How many columns the menu of a place has.
     pub fn width(&self, i: usize) -> usize
         requires { i < columns_in self.now.exercise }
         ensures { result ≡ length (menu_of self.now.exercise i) }
     {
-        self.sums.width(i)
+        self.columns(i).len()
     }
 
     /// The column of a number in the menu of a place.
@@ -116,10 +127,16 @@ impl<'a> Tables<'a> {
         requires within { k < length (menu_of self.now.exercise i) }
         ensures { result.now.items ≡ slice_index_or (menu_of self.now.exercise i) k [] }
     {
-        match self.sums.column(i, k) {
-            Some(column) => column,
-            None => unreachable!(),
-        }
+        &self.columns(i)[k]
+    }
+
+    /// Whether the menu of two places is kept once for both.
+    pub fn has_same_menu(&self, i: usize, j: usize) -> bool
+        requires first { i < columns_in self.now.exercise }
+        requires second { j < columns_in self.now.exercise }
+        ensures { OnTrue result (menu_of self.now.exercise i ≡ menu_of self.now.exercise j) }
+    {
+        self.sums.has_same_menu(i, j)
     }
 
     /// The least sum over all chains. None exactly where there is no chain.
