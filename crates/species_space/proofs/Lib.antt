@@ -4,9 +4,7 @@ pub mod Children
 pub mod FloorSteps
 pub mod Live
 pub mod LoadLaws
-pub mod MenuSteps
 pub mod Passing
 pub mod PathSteps
-pub mod SameMenus
 pub mod ScoreSteps
 pub mod WalkSteps

@@ -2,21 +2,19 @@
 use Rattle.std.proofs.Common.{◌≡◌, nat_lt, ℕ, zero, suc, ◌+◌, ◌*◌, ◌/◌, ◌<◌, ◌≤◌, Bool, true, false, not, All, List, [], ◌∷◌, ◌++◌, replicate, IsTrue, length, slice_index_or, take, refl, ap, sym, ◌∙◌, subst, arith, true≢false}
 use Rattle.std.specs.declared.cmp.Ordering.{Ordering}
 use Rattle.std.specs.declared.cmp.Ordering.TheVariants.{Less, Equal}
-use Rattle.std.proofs.lemmas.List.{length-map, length-replicate, same_lists, get_or_default, get_or-replicate}
+use Rattle.std.proofs.lemmas.List.{length-replicate, same_lists, get_or_default, get_or-replicate}
 use Rattle.std.proofs.lemmas.Bool.Decides.{nat_tests}
-use Rattle.arrayvec.specs.ArrayVec.{ArrayVec}
 use Rattle.fux_pitch.proofs.PitchLemmas.{equal_from_test}
 use Rattle.fux_grid.specs.declared.cell.Cell.{Cell}
 use Rattle.fux_grid.specs.declared.cell.Cell.TheVariants.{Rest, Hold, Start}
 use Rattle.fux_grid.specs.declared.exercise.Exercise.{Exercise}
 use Rattle.fux_grid.specs.Cells.{cell_in, cell_follows, is_hold}
 use Rattle.fux_grid.specs.Columns.{ColumnFollows}
-use Rattle.fux_grid.specs.Grid.{items_of}
 use Rattle.fux_grid.specs.Menus.{IsAscending}
 use Rattle.fux_grid.proofs.Combinations.{AllPairs-place, IsColumnBefore}
 use Rattle.fux_grid.proofs.OrderLemmas.{column_order-itself}
 use Rattle.rule_law.specs.Law.{below_from_test}
-use Rattle.species_space.specs.Blocks.{AreAlwaysDead, AreOnlyHolds, AreWithoutHolds, HasOneWidth, IsBlockEnd, IsNext, KeepsCell, SkipDead, same_cell}
+use Rattle.species_space.specs.Blocks.{AreAlwaysDead, HasOneWidth, IsBlockEnd, IsNext, IsOnlyHolds, IsWithoutHolds, KeepsCell, SkipDead, same_cell}
 
 -- ---- blocks
 
@@ -72,29 +70,14 @@ columns_alike before c d long holds its_holds follows its =
     ∙ holds_alike (cell_in before v) (cell_in c v) (cell_in d v) (follows v) (its v) (holds v lt) (its_holds v there)
     ∙ sym (get_or_default d v x Rest there))
 
--- a column of holds, cell by cell
-held_at : (columns : List (ArrayVec Cell)) → AreOnlyHolds columns → (k : ℕ) → k < length (items_of columns) → (v : ℕ)
-    → v < length (slice_index_or (items_of columns) k [])
-    → IsTrue (is_hold (cell_in (slice_index_or (items_of columns) k []) v))
-held_at columns held k lt = at columns held k (omega (arith, lt, length-map columns (λ col. col.items)))
-  where
-    at : (columns : List (ArrayVec Cell)) → AreOnlyHolds columns → (k : ℕ) → k < length columns → (v : ℕ)
-        → v < length (slice_index_or (items_of columns) k [])
-        → IsTrue (is_hold (cell_in (slice_index_or (items_of columns) k []) v))
-    at [] held k lt v few = absurd (omega arith)
-    at (col ∷ columns) held zero lt v few = held 0 col (omega arith) v Rest few
-    at (col ∷ columns) held (suc k) lt v few =
-        at columns (λ j d b. held (suc j) d (omega (arith, b))) k (omega (arith, lt)) v few
-
 -- at a menu of holds only one column follows
-pub only_one_follows : (columns : List (ArrayVec Cell)) (before : List Cell) (j k : ℕ) → AreOnlyHolds columns
-    → IsAscending (items_of columns) → HasOneWidth (items_of columns) → j < length (items_of columns)
-    → k < length (items_of columns) → ColumnFollows before (slice_index_or (items_of columns) j [])
-    → ColumnFollows before (slice_index_or (items_of columns) k []) → j ≡ k
-only_one_follows columns before j k held order full a b follows its =
-    AllPairs-place IsColumnBefore (items_of columns) order (λ c h. apart (column_order-itself c) h) j k [] a b
-    (columns_alike before (slice_index_or (items_of columns) j []) (slice_index_or (items_of columns) k [])
-    (full.1 j [] a ∙ sym (full.1 k [] b)) (held_at columns held j a) (held_at columns held k b) follows its)
+pub only_one_follows : (menu : List (List Cell)) (before : List Cell) (j k : ℕ) → All IsOnlyHolds menu
+    → IsAscending menu → HasOneWidth menu → j < length menu → k < length menu
+    → ColumnFollows before (slice_index_or menu j []) → ColumnFollows before (slice_index_or menu k []) → j ≡ k
+only_one_follows menu before j k held order full a b follows its =
+    AllPairs-place IsColumnBefore menu order (λ c h. apart (column_order-itself c) h) j k [] a b
+    (columns_alike before (slice_index_or menu j []) (slice_index_or menu k []) (full.1 j [] a ∙ sym (full.1 k [] b))
+    (λ v few. held j [] a v Rest few) (λ v few. held k [] b v Rest few) follows its)
   where
     apart : {o : Ordering} → o ≡ Equal → o ≡ Less → ⊥
     apart e h = let f : Equal ≡ Less = sym e ∙ h in absurd (cc)
@@ -114,20 +97,14 @@ free_cells before (c ∷ cs) free (suc v) =
     free_cells (λ w. before (suc w)) cs (λ j d lt. free (suc j) d (omega (arith, lt))) v
 
 -- at a menu without holds every column follows
-pub all_are_next : (columns : List (ArrayVec Cell)) (before : List Cell) (from : ℕ) → AreWithoutHolds columns
-    → from ≤ length columns → IsNext (items_of columns) before from from
-all_are_next columns before from free le = record {
+pub all_are_next : (menu : List (List Cell)) (before : List Cell) (from : ℕ) → All IsWithoutHolds menu
+    → from ≤ length menu → IsNext menu before from from
+all_are_next menu before from free le = record {
   onward = omega arith;
-  within = omega (arith, le, length-map columns (λ col. col.items));
-  follows = λ lt. at columns from free (omega (arith, lt, length-map columns (λ col. col.items)));
+  within = le;
+  follows = λ lt. free_cells (cell_in before) (slice_index_or menu from []) (free from [] lt);
   passed = λ k a b follows. absurd (omega (arith, a, b));
 }
-  where
-    at : (columns : List (ArrayVec Cell)) (k : ℕ) → AreWithoutHolds columns → k < length columns
-        → ColumnFollows before (slice_index_or (items_of columns) k [])
-    at [] k free lt = absurd (omega arith)
-    at (col ∷ columns) zero free lt = free_cells (cell_in before) col.items (free 0 col (omega arith))
-    at (col ∷ columns) (suc k) free lt = at columns k (λ j d b. free (suc j) d (omega (arith, b))) (omega (arith, lt))
 
 -- ---- a walk by blocks
 
@@ -144,38 +121,32 @@ passed_on P from k end before block j le lt = go (nat_lt j k) refl
     go false e = block j (beyond e) lt
 
 -- so where a column is known that follows, it is the first one that does, from any number up to it
-pub hint_is_next : (columns : List (ArrayVec Cell)) (before : List Cell) (from hint : ℕ) → AreOnlyHolds columns
-    → IsAscending (items_of columns) → HasOneWidth (items_of columns) → hint < length columns
-    → ColumnFollows before (slice_index_or (items_of columns) hint []) → from ≤ hint
-    → IsNext (items_of columns) before from hint
-hint_is_next columns before from hint held order full there follows le =
-    let long = length-map columns (λ col. col.items) in
-    record {
-      onward = le;
-      within = omega (arith, long, there);
-      follows = λ b. follows;
-      passed = λ k a b its.
-          let same : k ≡ hint = only_one_follows columns before k hint held order full (omega (arith, long, there, b))
-          (omega (arith, long, there)) its follows in
-          absurd (omega (arith, same, b));
-    }
+pub hint_is_next : (menu : List (List Cell)) (before : List Cell) (from hint : ℕ) → All IsOnlyHolds menu
+    → IsAscending menu → HasOneWidth menu → hint < length menu → ColumnFollows before (slice_index_or menu hint [])
+    → from ≤ hint → IsNext menu before from hint
+hint_is_next menu before from hint held order full there follows le = record {
+  onward = le;
+  within = omega (arith, there);
+  follows = λ b. follows;
+  passed = λ k a b its.
+      let same : k ≡ hint = only_one_follows menu before k hint held order full (omega (arith, there, b)) there its
+      follows in
+      absurd (omega (arith, same, b));
+}
 
 -- and beyond it there is none
-pub none_is_next : (columns : List (ArrayVec Cell)) (before : List Cell) (from hint end : ℕ) → AreOnlyHolds columns
-    → IsAscending (items_of columns) → HasOneWidth (items_of columns) → hint < length columns
-    → ColumnFollows before (slice_index_or (items_of columns) hint []) → hint < from → from ≤ length columns → end
-    ≡ length columns → IsNext (items_of columns) before from end
-none_is_next columns before from hint end held order full there follows lt le last =
-    let long = length-map columns (λ col. col.items) in
-    record {
-      onward = omega (arith, le, last);
-      within = omega (arith, long, last);
-      follows = λ b. absurd (omega (arith, long, last, b));
-      passed = λ k a b its.
-          let same : k ≡ hint = only_one_follows columns before k hint held order full (omega (arith, long, last, b))
-          (omega (arith, long, there)) its follows in
-          absurd (omega (arith, same, a, lt));
-    }
+pub none_is_next : (menu : List (List Cell)) (before : List Cell) (from hint end : ℕ) → All IsOnlyHolds menu
+    → IsAscending menu → HasOneWidth menu → hint < length menu → ColumnFollows before (slice_index_or menu hint [])
+    → hint < from → from ≤ length menu → end ≡ length menu → IsNext menu before from end
+none_is_next menu before from hint end held order full there follows lt le last = record {
+  onward = omega (arith, le, last);
+  within = omega (arith, last);
+  follows = λ b. absurd (omega (arith, last, b));
+  passed = λ k a b its.
+      let same : k ≡ hint = only_one_follows menu before k hint held order full (omega (arith, last, b)) there its
+      follows in
+      absurd (omega (arith, same, a, lt));
+}
 
 -- what holds below a number and at it holds below the next
 pub one_more : (P : ℕ → Type 0) (k : ℕ) → ((j : ℕ) → j < k → P j) → P k → (j : ℕ) → j < k + 1 → P j

@@ -3,11 +3,9 @@
 use Rattle.std.specs.Prelude.{IsSomeAnd}
 use Rattle.std.proofs.Common.{◌≡◌, inl, inr, ◌+◌, ◌≤◌, Option, ℕ, List, [], reverse, slice_index_or, ap, sym, ◌∙◌, subst, true, arith}
 use Rattle.std.specs.List.{list_any}
-use Rattle.arrayvec.specs.ArrayVec.{ArrayVec}
 use Rattle.fux_grid.specs.declared.cell.Cell.{Cell}
 use Rattle.fux_grid.specs.declared.exercise.Exercise.{Exercise}
 use Rattle.fux_grid.specs.Columns.{newest_column, ColumnFollows}
-use Rattle.fux_grid.specs.Grid.{items_of}
 use Rattle.fux_grid.specs.Menus.{menu_of}
 use Rattle.penalty_sheet.specs.declared.sheet.Sheet.{Sheet}
 use Rattle.fux_judge.specs.Penalties.{newly_broken, newly_paid}
@@ -21,9 +19,9 @@ use Rattle.species_space.proofs.Children.{as_long, no_better_if_costly, no_bette
 
 module _ (ex : Exercise) (sheet : Sheet) (node : Node) (path : List ℕ) (at : IsNodeOf ex sheet node path) where
   -- the column of a number in the menu that is next
-  pub column_of_menu : (columns : List (ArrayVec Cell)) (k : ℕ) → items_of columns ≡ menu_of ex node.state.newest.len
-      → slice_index_or (items_of columns) k [] ≡ column_at ex path k
-  column_of_menu columns k is =
+  pub column_of_menu : (menu : List (List Cell)) (k : ℕ) → menu ≡ menu_of ex node.state.newest.len
+      → slice_index_or menu k [] ≡ column_at ex path k
+  column_of_menu menu k is =
       ap (λ cols. slice_index_or cols k []) (is ∙ ap (menu_of ex) (as_long ex sheet node path at))
 
   pub stray_no_better : (k : ℕ) (best : Option ℕ) (before col : List Cell) → before

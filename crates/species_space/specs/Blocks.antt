@@ -1,6 +1,5 @@
 -- Menus in blocks, over which voices keep their cells.
-use Rattle.std.specs.Prelude.{◌≡◌, ℕ, ◌-◌, ◌*◌, ◌/◌, ◌<◌, ◌≤◌, Bool, true, false, not, List, [], All, IsTrue, length, slice_index_or, take}
-use Rattle.arrayvec.specs.ArrayVec.{ArrayVec}
+use Rattle.std.specs.Prelude.{◌≡◌, ℕ, ◌*◌, ◌/◌, ◌<◌, ◌≤◌, Bool, true, false, not, List, [], All, IsTrue, length, slice_index_or, take}
 use Rattle.fux_pitch.specs.Pitch.{same_pitch}
 use Rattle.fux_grid.specs.declared.cell.Cell.{Cell}
 use Rattle.fux_grid.specs.declared.cell.Cell.TheVariants.{Rest, Hold, Start}
@@ -10,7 +9,8 @@ use Rattle.fux_grid.specs.Columns.{ColumnFollows}
 use Rattle.fux_grid.specs.Grid.{items_of}
 use Rattle.fux_grid.specs.Menus.{IsAscending}
 use Rattle.fux_judge.specs.Always.{IsAlwaysDead}
-use Rattle.species_space.specs.declared.blocks.BlockMenu.{BlockMenu}
+use Rattle.species_space.specs.declared.blocks.Blocks.{Blocks}
+use Rattle.species_space.specs.declared.blocks.MenuAt.{MenuAt}
 
 -- the cells are of one kind and pitch
 abbrev pub same_cell : Cell → Cell → Bool
@@ -29,32 +29,35 @@ abbrev pub KeepsCell : List (List Cell) → ℕ → ℕ → Type 0
 KeepsCell menu v size = (k : ℕ) → k < length menu → cell_in (slice_index_or menu k []) v
     ≡ cell_in (slice_index_or menu (k / size * size) []) v
 
--- each cell of each column is a hold
-abbrev pub AreOnlyHolds : List (ArrayVec Cell) → Type 0
-AreOnlyHolds columns = All (λ col. All (λ c. IsTrue (is_hold c)) col.items) columns
+-- each cell of a column is a hold
+abbrev pub IsOnlyHolds : List Cell → Type 0
+IsOnlyHolds = All (λ c. IsTrue (is_hold c))
 
--- no cell of any column is a hold
-abbrev pub AreWithoutHolds : List (ArrayVec Cell) → Type 0
-AreWithoutHolds columns = All (λ col. All (λ c. IsTrue (not (is_hold c))) col.items) columns
+-- no cell of a column is a hold
+abbrev pub IsWithoutHolds : List Cell → Type 0
+IsWithoutHolds = All (λ c. IsTrue (not (is_hold c)))
 
 -- all columns have as many cells
 abbrev pub HasOneWidth : List (List Cell) → Type 0
 HasOneWidth menu = (voices : ℕ) × All (λ col. length col ≡ voices) menu
 
--- what a menu in blocks keeps
-pub record IsBlockMenu (menu : BlockMenu) : Type 0 where
-  pub few : length menu.columns.items ≤ 8192
-  pub order : IsAscending (items_of menu.columns.items)
-  pub full : HasOneWidth (items_of menu.columns.items)
-  pub some : (v : ℕ) → v < 4 → 1 ≤ slice_index_or menu.lengths v 0
-  pub kept : (v : ℕ) → v < 4 → KeepsCell (items_of menu.columns.items) v (slice_index_or menu.lengths v 0)
-  pub holds : IsTrue menu.only_holds → AreOnlyHolds menu.columns.items
-  pub no_holds : IsTrue menu.without_holds → AreWithoutHolds menu.columns.items
+-- the blocks of a menu
+pub record AreBlocksOf (menu : List (List Cell)) (blocks : Blocks) : Type 0 where
+  pub few : length menu ≤ 8192
+  pub order : IsAscending menu
+  pub full : HasOneWidth menu
+  pub some : (v : ℕ) → v < 4 → 1 ≤ slice_index_or blocks.lengths v 0
+  pub kept : (v : ℕ) → v < 4 → KeepsCell menu v (slice_index_or blocks.lengths v 0)
+  pub holds : IsTrue blocks.only_holds → All IsOnlyHolds menu
+  pub no_holds : IsTrue blocks.without_holds → All IsWithoutHolds menu
 
--- a menu has these columns, and these numbers for them
-pub record IsMadeOf (menu : BlockMenu) (cols : List (ArrayVec Cell)) (numbers : List ℕ) : Type 0 where
-  pub columns : menu.columns.items ≡ cols
-  pub undead : menu.undead.items ≡ numbers
+-- the columns that are looked at
+abbrev pub columns_of : MenuAt → List (List Cell)
+columns_of menu = items_of menu.columns.now
+
+-- they are cut into these blocks
+abbrev pub IsCut : MenuAt → Type 0
+IsCut menu = AreBlocksOf (columns_of menu) menu.blocks.now
 
 -- from a number on up to this end all numbers are of one block
 pub record IsBlockEnd (k size end : ℕ) : Type 0 where
@@ -62,10 +65,10 @@ pub record IsBlockEnd (k size end : ℕ) : Type 0 where
   pub one_block : (j : ℕ) → k ≤ j → j < end → j / size ≡ k / size
 
 -- in a menu of holds, the column of this number may follow
-abbrev pub IsHeldNext : BlockMenu → List Cell → ℕ → Type 0
+abbrev pub IsHeldNext : MenuAt → List Cell → ℕ → Type 0
 IsHeldNext menu before k =
-    (k < length menu.columns.items) × IsTrue menu.only_holds
-    × ColumnFollows before (slice_index_or (items_of menu.columns.items) k [])
+    (k < length (columns_of menu)) × IsTrue menu.blocks.now.only_holds
+    × ColumnFollows before (slice_index_or (columns_of menu) k [])
 
 -- the first column of a menu, from a number on, that may follow; the menu's length where there is none
 pub record IsNext (menu : List (List Cell)) (before : List Cell) (from next : ℕ) : Type 0 where
@@ -99,18 +102,7 @@ abbrev pub StraysOrDies : Exercise → ℕ → List Cell → List Cell → Type 
 StraysOrDies ex i before col = ColumnFollows before col → IsAlwaysDead ex i col
 
 -- each column of a menu from one number up to another doesn't follow, or is dead, wherever the menu's numbers skip dead columns
-abbrev pub PassesDead : BlockMenu → List Cell → ℕ → ℕ → Type 0
+abbrev pub PassesDead : MenuAt → List Cell → ℕ → ℕ → Type 0
 PassesDead menu before from to =
-    (ex : Exercise) (i : ℕ) → SkipDead ex i (items_of menu.columns.items) menu.undead.items
-    → (k : ℕ) → from ≤ k → k < to → StraysOrDies ex i before (slice_index_or (items_of menu.columns.items) k [])
-
--- the menus that were there have their numbers still
-abbrev pub KeepNumbers : List BlockMenu → List BlockMenu → Type 0
-KeepNumbers menus more =
-    (k : ℕ) (d : BlockMenu) → k < length menus → slice_index_or more k d ≡ slice_index_or menus k d
-
--- no menu is added where the last one is made of these columns and numbers
-abbrev pub KeepsLast : List BlockMenu → List BlockMenu → List (ArrayVec Cell) → List ℕ → Type 0
-KeepsLast menus more cols numbers =
-    (d : BlockMenu) → 0 < length menus → IsMadeOf (slice_index_or menus (length menus - 1) d) cols numbers → more
-    ≡ menus
+    (ex : Exercise) (i : ℕ) → SkipDead ex i (columns_of menu) menu.undead.now
+    → (k : ℕ) → from ≤ k → k < to → StraysOrDies ex i before (slice_index_or (columns_of menu) k [])

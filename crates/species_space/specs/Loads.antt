@@ -6,7 +6,6 @@ use Rattle.penalty_sheet.specs.declared.sheet.Sheet.{Sheet}
 use Rattle.fux_judge.specs.Lawful.{BoundsLawful, HasNoLawful, IsBest}
 use Rattle.fux_judge.specs.Penalties.{penalty_of}
 use Rattle.floor_tables.specs.Floors.{HasAtMost, HasMany, IsLiveBegun, IsLoaded}
-use Rattle.tree_search.specs.Answer as tree
 use Rattle.tree_search.specs.Outcomes.{IfFound, IfSpent, IsSpent, OnNothing}
 use Rattle.tree_search.specs.declared.outcome.Outcome.{Outcome}
 use Rattle.species_space.specs.Paths.{prefix_at}

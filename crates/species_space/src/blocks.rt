@@ -1,78 +1,86 @@
 //! Menus in blocks, over which voices keep their cells, so that a search passes over many columns at once.
 
-ghost use Rattle.std.specs.Prelude.{◌≡◌, ◌<◌, ◌≤◌, ◌↔◌, ℕ, [], All, IfNone, IfSome, IsTrue, false, length, not, slice_index_or};
-ghost use Rattle.fux_grid.specs.Cells.{cell_follows, cell_in, is_hold};
+ghost use Rattle.std.specs.Prelude.{◌≡◌, ◌<◌, ◌≤◌, ◌↔◌, ℕ, [], All, IfNone, IfSome, IsTrue, false, length, slice_index_or};
+ghost use Rattle.fux_grid.specs.Cells.{cell_follows, cell_in};
 ghost use Rattle.fux_grid.specs.Columns.{ColumnFollows};
 ghost use Rattle.fux_grid.specs.Grid.{items_of};
 ghost use Rattle.fux_grid.specs.Menus.{IsAscending};
-ghost use Rattle.species_space.specs.Blocks.{Agree, AreOnlyHolds, AreWithoutHolds, HasOneWidth, IsBlockEnd, IsBlockMenu, IsHeldNext, IsNext, KeepsCell, same_cell, IsMadeOf};
+ghost use Rattle.species_space.specs.Blocks.{Agree, AreBlocksOf, HasOneWidth, IsBlockEnd, IsCut, IsHeldNext, IsNext, IsOnlyHolds, IsWithoutHolds, KeepsCell, columns_of, same_cell};
 
 use fux_grid::{Cell, Column, cell_of, cells_follow};
 
-/// A menu. It is cut into blocks of equal length, for each voice into blocks of its own, over each of which the voice keeps its cell.
-#[derive(Drop)]
-pub(crate) struct BlockMenu {
-    pub(crate) columns: Vec<Column>,
+/// How a menu is cut into blocks of equal length, for each voice into blocks of its own, over each of which the voice keeps its cell.
+#[derive(Clone, Copy)]
+pub(crate) struct Blocks {
     /// How long the blocks of each voice are.
     lengths: [u16; 4],
     /// Whether each cell of each column is a hold.
     only_holds: bool,
     /// Whether no cell of any column is a hold.
     without_holds: bool,
-    /// For each column the number of the first one, from it on, that isn't dead after every prefix.
-    undead: Vec<u16>,
 }
 
-impl BlockMenu {
-    /// A menu with its blocks, as they are found in one pass for each voice.
-    pub(crate) fn new(columns: Vec<Column>, undead: Vec<u16>) -> BlockMenu
-        requires few { length columns.items ≤ 8192 }
-        requires order { IsAscending (items_of columns.items) }
-        requires full { HasOneWidth (items_of columns.items) }
-        ensures columns { result.columns ≡ columns }
-        ensures undead { result.undead ≡ undead }
-        ensures cut { IsBlockMenu result }
+/// What is known of a menu beside its columns.
+#[derive(Drop)]
+pub(crate) struct BlockMenu {
+    pub(crate) blocks: Blocks,
+    /// For each column the number of the first one, from it on, that isn't dead after every prefix.
+    pub(crate) undead: Vec<u16>,
+}
+
+/// The columns of a menu, as the tables keep them, with what is known of them.
+#[derive(Clone, Copy)]
+pub(crate) struct MenuAt<'a> {
+    pub(crate) columns: &'a [Column],
+    pub(crate) blocks: &'a Blocks,
+    pub(crate) undead: &'a [u16],
+}
+
+impl Blocks {
+    /// The blocks of a menu, as they are found in one pass for each voice.
+    pub(crate) fn new(columns: &[Column]) -> Blocks
+        requires few { length columns.now ≤ 8192 }
+        requires order { IsAscending (items_of columns.now) }
+        requires full { HasOneWidth (items_of columns.now) }
+        ensures { AreBlocksOf (items_of columns.now) result }
     {
-        let lengths = [
-            block_length(&columns, 0),
-            block_length(&columns, 1),
-            block_length(&columns, 2),
-            block_length(&columns, 3),
-        ];
-        let only_holds = are_holds(&columns);
-        let without_holds = are_without_holds(&columns);
-        BlockMenu {
-            columns,
-            lengths,
-            only_holds,
-            without_holds,
-            undead,
+        Blocks {
+            lengths: [
+                block_length(columns, 0),
+                block_length(columns, 1),
+                block_length(columns, 2),
+                block_length(columns, 3),
+            ],
+            only_holds: are_holds(columns),
+            without_holds: are_without_holds(columns),
         }
     }
+}
 
-    /// Whether a menu is made of these columns and these numbers.
-    pub(crate) fn is_made_of(&self, columns: &[Column], undead: &[u16]) -> bool
-        ensures { IsTrue result ↔ IsMadeOf self.now columns.now undead.now }
+impl<'a> MenuAt<'a> {
+    /// How many columns there are.
+    #[inline]
+    pub(crate) fn len(&self) -> usize
+        ensures { result ≡ length (columns_of self.now) }
     {
-        self.undead.as_slice() == undead && self.columns.as_slice() == columns
+        self.columns.len()
     }
 
     /// The first column, from this number on, that may follow; the menu's length where there is none. Where nothing is held all may
     /// follow. At a column of holds at most one may follow, and the hint is tried first.
     pub(crate) fn next_that_follows(&self, before: &[Cell], from: usize, hint: usize) -> usize
-        requires cut { IsBlockMenu self.now }
-        requires within { from ≤ length self.now.columns.items }
-        ensures { IsNext (items_of self.now.columns.items) before.now from result }
+        requires cut { IsCut self.now }
+        requires within { from ≤ length (columns_of self.now) }
+        ensures { IsNext (columns_of self.now) before.now from result }
     {
-        if self.without_holds {
+        if self.blocks.without_holds {
             return from;
         }
         if !self.is_held(before, hint) {
             return self.next_in_blocks(before, from);
         }
-        let end = self.columns.len();
         if from > hint {
-            return end;
+            return self.len();
         }
         hint
     }
@@ -80,8 +88,8 @@ impl BlockMenu {
     /// The number of the first column, from this one on, that isn't dead after every prefix.
     #[inline]
     pub(crate) fn undead_from(&self, k: usize) -> usize
-        requires { k < length self.now.undead.items }
-        ensures { result ≡ slice_index_or self.now.undead.items k 0 }
+        requires { k < length self.now.undead.now }
+        ensures { result ≡ slice_index_or self.now.undead.now k 0 }
     {
         self.undead[k] as usize
     }
@@ -89,22 +97,22 @@ impl BlockMenu {
     /// The column of a number.
     #[inline]
     pub(crate) fn column(&self, k: usize) -> &Column
-        requires { k < length self.now.columns.items }
-        ensures { result.now.items ≡ slice_index_or (items_of self.now.columns.items) k [] }
+        requires { k < length (columns_of self.now) }
+        ensures { result.now.items ≡ slice_index_or (columns_of self.now) k [] }
     {
-        &self.columns[k]
+        column_at(self.columns, k)
     }
 
     /// How far the columns from this number on are known to have its cells in so many of the lowest voices: the first number behind them.
     pub(crate) fn end_of_agreement(&self, k: usize, voices: usize) -> usize
-        requires cut { IsBlockMenu self.now }
-        requires within { k < length self.now.columns.items }
+        requires cut { IsCut self.now }
+        requires within { k < length (columns_of self.now) }
         requires voices { voices ≤ 4 }
-        ensures { Agree (items_of self.now.columns.items) voices k result }
+        ensures { Agree (columns_of self.now) voices k result }
     {
-        let mut end = self.columns.len();
+        let mut end = self.len();
         for v in 0..voices {
-            let block = block_end(k, self.lengths[v]);
+            let block = block_end(k, self.blocks.lengths[v]);
             if block < end {
                 end = block;
             }
@@ -118,7 +126,7 @@ impl BlockMenu {
             return 0;
         }
         for v in 0..4 {
-            if !same_cell(cell_at(&self.columns, j, v), cell_at(&self.columns, k, v)) {
+            if !same_cell(cell_at(self.columns, j, v), cell_at(self.columns, k, v)) {
                 return v;
             }
         }
@@ -129,26 +137,26 @@ impl BlockMenu {
     fn is_held(&self, before: &[Cell], k: usize) -> bool
         ensures { IsTrue result → IsHeldNext self.now before.now k }
     {
-        if !self.only_holds || k >= self.columns.len() {
+        if !self.blocks.only_holds || k >= self.len() {
             return false;
         }
-        cells_follow(before, column_at(&self.columns, k).as_slice())
+        cells_follow(before, self.column(k).as_slice())
     }
 
     /// The same as `next_that_follows`, by blocks: where the cell of a voice doesn't follow, it follows nowhere in its block.
     fn next_in_blocks(&self, before: &[Cell], from: usize) -> usize
-        requires cut { IsBlockMenu self.now }
-        requires within { from ≤ length self.now.columns.items }
-        ensures { IsNext (items_of self.now.columns.items) before.now from result }
+        requires cut { IsCut self.now }
+        requires within { from ≤ length (columns_of self.now) }
+        ensures { IsNext (columns_of self.now) before.now from result }
     {
         let mut k = from;
-        while k < self.columns.len() {
-            match misfit(before, column_at(&self.columns, k)) {
+        while k < self.len() {
+            match misfit(before, self.column(k)) {
                 None => return k,
-                Some(v) => k = block_end(k, self.lengths[v]),
+                Some(v) => k = block_end(k, self.blocks.lengths[v]),
             }
         }
-        self.columns.len()
+        self.len()
     }
 }
 
@@ -252,14 +260,14 @@ fn block_length(columns: &[Column], v: usize) -> u16
 
 /// Whether each cell of a column is a hold.
 fn is_held_column(column: &[Cell]) -> bool
-    ensures { IsTrue result ↔ All (λ c. IsTrue (is_hold c)) column.now }
+    ensures { IsTrue result ↔ IsOnlyHolds column.now }
 {
     column.iter().all(|cell| cell.is_hold())
 }
 
 /// Whether each cell of each column is a hold.
 fn are_holds(columns: &[Column]) -> bool
-    ensures { IsTrue result ↔ AreOnlyHolds columns.now }
+    ensures { IsTrue result ↔ All (λ column. IsOnlyHolds column.items) columns.now }
 {
     columns
         .iter()
@@ -268,14 +276,14 @@ fn are_holds(columns: &[Column]) -> bool
 
 /// Whether no cell of a column is a hold.
 fn is_without_holds(column: &[Cell]) -> bool
-    ensures { IsTrue result ↔ All (λ c. IsTrue (not (is_hold c))) column.now }
+    ensures { IsTrue result ↔ IsWithoutHolds column.now }
 {
     column.iter().all(|cell| !cell.is_hold())
 }
 
 /// Whether no cell of any column is a hold.
 fn are_without_holds(columns: &[Column]) -> bool
-    ensures { IsTrue result ↔ AreWithoutHolds columns.now }
+    ensures { IsTrue result ↔ All (λ column. IsWithoutHolds column.items) columns.now }
 {
     columns
         .iter()

@@ -16,7 +16,7 @@ pub fn score_of(alloc: Global, space: &SpeciesSpace<'_>, path: &[u16]) -> Result
 {
     let mut score = Score::new(alloc, space.voices())?;
     for (i, number) in path.iter().enumerate() {
-        let column = space.column(i, *number as usize);
+        let column = space.tables().column(i, *number as usize);
         let Ok(()) = score.push(column.clone()?) else {
             unreachable!()
         };

@@ -1,23 +1,22 @@
 //! The tree of the settings of an exercise.
 
-ghost use Rattle.std.specs.Prelude.{◌≡◌, ◌<◌, ◌≤◌, ◌+◌, ◌^◌, [], Some, OnOk, IfOk, IfErr, length, slice_index_or, All, vec_capacity};
+ghost use Rattle.std.specs.Prelude.{◌≡◌, ◌<◌, ◌≤◌, ◌+◌, ◌^◌, [], Some, OnOk, IfOk, IfErr, length, slice_index_or};
 ghost use Rattle.fux_grid.specs.Exercises.{IsValid, columns_in};
 ghost use Rattle.fux_grid.specs.Grid.{items_of};
-ghost use Rattle.fux_grid.specs.Menus.{menu_of, IsAscending};
-ghost use Rattle.species_space.specs.Blocks.{IsBlockMenu, KeepNumbers, KeepsLast, SkipDead, HasOneWidth, IsMadeOf};
-ghost use Rattle.species_space.specs.declared.blocks.BlockMenu.{BlockMenu as ABlockMenu};
+ghost use Rattle.fux_grid.specs.Menus.{menu_of};
+ghost use Rattle.species_space.specs.Blocks.{AreBlocksOf, SkipDead};
 ghost use Rattle.floor_tables.specs.Tables.{AreNarrow, IsRest, TellsWidth};
 ghost use Rattle.species_space.specs.Grows.{paths_grow};
 ghost use Rattle.species_space.specs.Nodes.{IsNodeOf};
 ghost use Rattle.species_space.specs.Paths.{live_at, width_at};
-ghost use Rattle.species_space.specs.Task.{IsReady, SkipsDead};
+ghost use Rattle.species_space.specs.Task.{AreMenus, IsMenuAt, IsReady};
 ghost use Rattle.tree_search.specs.Space.{HasChild, IsMadeChild};
 
-use crate::blocks::{BlockMenu, column_at};
+use crate::blocks::{BlockMenu, Blocks, MenuAt, column_at};
 use crate::node::Node;
 use crate::walk::next_unpruned;
 use floor_tables::{TableFault, Tables, fill_tables};
-use fux_grid::{Column, Exercise, cells_follow, menu};
+use fux_grid::{Column, Exercise, cells_follow};
 use fux_judge::{State, is_always_dead, least, step_unbroken};
 use fux_pitch::Memory;
 use penalty_sheet::Sheet;
@@ -33,10 +32,8 @@ pub struct SpeciesSpace<'a> {
     pub(crate) exercise: &'a Exercise,
     pub(crate) sheet: &'a Sheet,
     pub(crate) tables: Tables<'a>,
-    /// Where the menus of one column after the other are equal, one stands for them all.
+    /// For each column what is known of its menu. The tables keep the columns themselves.
     pub(crate) menus: Vec<BlockMenu>,
-    /// For each column the number of its menu.
-    pub(crate) menu_of_column: Vec<u8>,
 }
 
 impl<'a> Model for SpeciesSpace<'a> {
@@ -47,12 +44,12 @@ impl<'a> Model for SpeciesSpace<'a> {
 
     ghost view = { λ s. record { exercise = s.exercise.now; sheet = s.sheet.now } };
 
-    ghost invariant = { λ s. IsReady s.exercise.now s.menus.items s.menu_of_column.items
+    ghost invariant = { λ s. IsReady s.exercise.now s.menus.items
         × (s.tables ≡ record { exercise = s.exercise.now; sheet = s.sheet.now }) };
 }
 
 impl<'a> SpeciesSpace<'a> {
-    /// The space of an exercise by a sheet. It keeps the menus and the tables of floors, so that nothing after it takes memory.
+    /// The space of an exercise by a sheet. It takes all its memory here.
     pub fn new<R: Threads + Sync>(
         rt: &R,
         alloc: Global,
@@ -65,7 +62,7 @@ impl<'a> SpeciesSpace<'a> {
         ensures wide { IfErr result (TellsWidth exercise.entry.now) }
     {
         let tables = fill_tables(rt, alloc, exercise, sheet)?;
-        let Ok((menus, menu_of_column)) = menus_of(alloc, exercise) else {
+        let Ok(menus) = menus_of(alloc, exercise, &tables) else {
             return Err(TableFault::Memory);
         };
         Ok(SpeciesSpace {
@@ -73,7 +70,6 @@ impl<'a> SpeciesSpace<'a> {
             sheet,
             tables,
             menus,
-            menu_of_column,
         })
     }
 
@@ -111,23 +107,17 @@ impl<'a> SpeciesSpace<'a> {
         self.exercise.voices
     }
 
-    /// The column of a number in the menu of column i.
-    pub(crate) fn column(&self, i: usize, k: usize) -> &Column
-        requires at { i < columns_in self.now.exercise }
-        requires within { k < length (menu_of self.now.exercise i) }
-        ensures { result.now.items ≡ slice_index_or (menu_of self.now.exercise i) k [] }
-    {
-        self.menu(i).column(k)
-    }
-
     /// The menu of column i.
-    pub(crate) fn menu(&self, i: usize) -> &BlockMenu
+    pub(crate) fn menu(&self, i: usize) -> MenuAt<'_>
         requires { i < columns_in self.now.exercise }
-        ensures value { items_of result.now.columns.items ≡ menu_of self.now.exercise i }
-        ensures cut { IsBlockMenu result.now }
-        ensures skips { SkipsDead self.now.exercise i result.now }
+        ensures { IsMenuAt self.now.exercise i result }
     {
-        &self.menus[self.menu_of_column[i] as usize]
+        let menu = &self.menus[i];
+        MenuAt {
+            columns: self.tables.columns(i),
+            blocks: &menu.blocks,
+            undead: menu.undead.as_slice(),
+        }
     }
 }
 
@@ -162,7 +152,7 @@ impl<'a> Space for SpeciesSpace<'a> {
     }
 
     fn count(&self, node: &Node) -> usize {
-        self.menu(node.state.len()).columns.len()
+        self.tables.width(node.state.len())
     }
 
     fn child(&self, node: &Node, k: usize) -> Option<(Node, u64)> {
@@ -174,7 +164,7 @@ impl<'a> Space for SpeciesSpace<'a> {
     fn child_into(&self, node: &Node, k: usize, child: &mut Node) -> Option<u64> {
         let i = node.state.len();
         let rest = self.tables.rest_of_number(i, k)?;
-        let column = self.column(i, k);
+        let column = self.tables.column(i, k);
         child_by(self.exercise, self.sheet, node, k, column, rest, child)
     }
 
@@ -185,72 +175,46 @@ impl<'a> Space for SpeciesSpace<'a> {
             self.sheet,
             &self.tables,
             node,
-            menu,
+            &menu,
             from,
             best,
         )
     }
 }
 
-/// The menu of column i, and for each of its columns the number of the first one, from it on, that isn't dead after every prefix.
-fn choices_at(
-    alloc: Global,
-    exercise: &Exercise,
-    i: usize,
-) -> Result<(Vec<Column>, Vec<u16>), Memory>
-    requires valid { IsValid exercise.now }
-    requires place { i < columns_in exercise.now }
-    requires narrow { length (menu_of exercise.now i) ≤ 8192 }
-    ensures value { IfOk result (λ found. items_of found.0.items ≡ menu_of exercise.now i) }
-    ensures order { IfOk result (λ found. IsAscending (items_of found.0.items)) }
-    ensures counted { IfOk result (λ found. length found.1.items ≡ length found.0.items) }
-    ensures skip { IfOk result (λ found. SkipDead exercise.now i (items_of found.0.items) found.1.items) }
+/// The blocks of a place's menu, which are those of the place before where the menu is kept once for both.
+fn blocks_at(tables: &Tables<'_>, menus: &[BlockMenu], i: usize) -> Blocks
+    requires place { i < columns_in tables.now.exercise }
+    requires narrow { AreNarrow tables.now.exercise }
+    requires next { i ≡ length menus.now }
+    requires kept { AreMenus tables.now.exercise menus.now }
+    ensures { AreBlocksOf (menu_of tables.now.exercise i) result }
 {
-    let Ok(choices) = menu(alloc, exercise, i) else {
-        return Err(Memory);
-    };
-    let undead = undead_numbers(alloc, exercise, i, &choices)?;
-    Ok((choices, undead))
+    if i > 0 && tables.has_same_menu(i - 1, i) {
+        return menus[i - 1].blocks;
+    }
+    Blocks::new(tables.columns(i))
 }
 
-/// The menus of all columns, and for each column the number of its own.
-fn menus_of(alloc: Global, exercise: &Exercise) -> Result<(Vec<BlockMenu>, Vec<u8>), Memory>
+/// What is known of the menus of all columns.
+fn menus_of(
+    alloc: Global,
+    exercise: &Exercise,
+    tables: &Tables<'_>,
+) -> Result<Vec<BlockMenu>, Memory>
     requires valid { IsValid exercise.now }
     requires narrow { AreNarrow exercise.now }
-    ensures { IfOk result (λ made. IsReady exercise.now made.0.items made.1.items) }
+    requires tables { tables.now.exercise ≡ exercise.now }
+    ensures { IfOk result (λ menus. IsReady exercise.now menus.items) }
 {
     let columns = 8 * exercise.bars as usize;
     let mut menus = Vec::with_capacity(alloc, columns)?;
-    let mut numbers = Vec::with_capacity(alloc, columns)?;
     for i in 0..columns {
-        let (choices, undead) = choices_at(alloc, exercise, i)?;
-        numbers.push_reserved(number_of(&mut menus, choices, undead));
+        let blocks = blocks_at(tables, &menus, i);
+        let undead = undead_numbers(alloc, exercise, i, tables.columns(i))?;
+        menus.push_reserved(BlockMenu { blocks, undead });
     }
-    Ok((menus, numbers))
-}
-
-/// The number of the menu of these columns, which is put behind the others unless it is the last one over again.
-fn number_of(menus: &mut Vec<BlockMenu>, columns: Vec<Column>, undead: Vec<u16>) -> u8
-    requires few { length columns.items ≤ 8192 }
-    requires order { IsAscending (items_of columns.items) }
-    requires full { HasOneWidth (items_of columns.items) }
-    requires room { length menus.old.items < vec_capacity menus.old }
-    requires small { length menus.old.items < 192 }
-    requires cut { All IsBlockMenu menus.old.items }
-    ensures room { vec_capacity menus.new ≡ vec_capacity menus.old }
-    ensures within { result < length menus.new.items }
-    ensures made { (d : ABlockMenu) → IsMadeOf (slice_index_or menus.new.items result d) columns.items undead.items }
-    ensures cut { All IsBlockMenu menus.new.items }
-    ensures kept { KeepNumbers menus.old.items menus.new.items }
-    ensures more { (length menus.old.items ≤ length menus.new.items) × (length menus.new.items ≤ length menus.old.items + 1) }
-    ensures once { KeepsLast menus.old.items menus.new.items columns.items undead.items }
-{
-    let count = menus.len();
-    if count > 0 && menus[count - 1].is_made_of(&columns, &undead) {
-        return (count - 1) as u8;
-    }
-    menus.push_reserved(BlockMenu::new(columns, undead));
-    count as u8
+    Ok(menus)
 }
 
 /// The floor of the child of this number and column, where no strict break is settled by it: a chain whose sum is `rest` goes on. The

@@ -3,14 +3,13 @@
 ghost use Rattle.std.specs.Prelude.{◌≡◌, ◌<◌, ◌≤◌, ◌+◌, ◌^◌, ℕ, IfSome, IsSomeAnd, length};
 ghost use Rattle.std.specs.Bool.{OnFalse};
 ghost use Rattle.fux_grid.specs.Exercises.{IsValid, columns_in};
-ghost use Rattle.fux_grid.specs.Grid.{items_of};
 ghost use Rattle.fux_grid.specs.Menus.{menu_of};
-ghost use Rattle.species_space.specs.Blocks.{AreWithin, IsBlockMenu, PassesDead};
+ghost use Rattle.species_space.specs.Blocks.{AreWithin, IsCut, PassesDead, columns_of};
 ghost use Rattle.species_space.specs.Nodes.{HasNoBetter, IsNodeOf, PassesOver};
-ghost use Rattle.species_space.specs.Task.{SkipsDead};
+ghost use Rattle.species_space.specs.Task.{IsMenuAt};
 ghost use Rattle.tree_search.specs.Space.{IsInner};
 
-use crate::blocks::BlockMenu;
+use crate::blocks::MenuAt;
 use crate::node::Node;
 use floor_tables::Tables;
 use fux_grid::{Cell, Exercise};
@@ -19,17 +18,17 @@ use penalty_sheet::Sheet;
 
 /// The first number, from this one on, of a column that may follow and isn't dead after every prefix; the menu's length where there
 /// is none.
-fn next_choice(menu: &BlockMenu, before: &[Cell], from: usize, hint: usize) -> usize
-    requires cut { IsBlockMenu menu.now }
-    requires counted { length menu.now.undead.items ≡ length menu.now.columns.items }
-    requires bounded { AreWithin menu.now.undead.items (length (items_of menu.now.columns.items)) }
-    requires within { from ≤ length menu.now.columns.items }
+fn next_choice(menu: &MenuAt<'_>, before: &[Cell], from: usize, hint: usize) -> usize
+    requires cut { IsCut menu.now }
+    requires counted { length menu.now.undead.now ≡ length (columns_of menu.now) }
+    requires bounded { AreWithin menu.now.undead.now (length (columns_of menu.now)) }
+    requires within { from ≤ length (columns_of menu.now) }
     ensures onward { from ≤ result }
-    ensures within { result ≤ length menu.now.columns.items }
+    ensures within { result ≤ length (columns_of menu.now) }
     ensures passed { PassesDead menu.now before.now from result }
 {
     let mut k = menu.next_that_follows(before, from, hint);
-    while k < menu.columns.len() {
+    while k < menu.len() {
         let undead = menu.undead_from(k);
         if undead <= k {
             return k;
@@ -75,7 +74,7 @@ fn passed_over(
     sheet: &Sheet,
     tables: &Tables<'_>,
     node: &Node,
-    menu: &BlockMenu,
+    menu: &MenuAt<'_>,
     k: usize,
     tried: usize,
     best: Option<u64>,
@@ -83,11 +82,10 @@ fn passed_over(
     requires valid { IsValid exercise.now }
     requires tables { tables.now ≡ record { exercise = exercise.now; sheet = sheet.now } }
     requires node { IsInner (IsNodeOf exercise.now sheet.now node.now) (columns_in exercise.now) }
-    requires menu { items_of menu.now.columns.items ≡ menu_of exercise.now node.now.state.newest.len }
-    requires cut { IsBlockMenu menu.now }
-    requires within { k < length menu.now.columns.items }
+    requires menu { IsMenuAt exercise.now node.now.state.newest.len menu.now }
+    requires within { k < length (columns_of menu.now) }
     ensures onward { IfSome result (λ end. k < end.0) }
-    ensures within { IfSome result (λ end. end.0 ≤ length menu.now.columns.items) }
+    ensures within { IfSome result (λ end. end.0 ≤ length (columns_of menu.now)) }
     ensures passed { IfSome result (λ end. PassesOver exercise.now sheet.now node.now best k end.0) }
 {
     if !may_be_better(tables, node, k, best) {
@@ -105,19 +103,17 @@ pub(crate) fn next_unpruned(
     sheet: &Sheet,
     tables: &Tables<'_>,
     node: &Node,
-    menu: &BlockMenu,
+    menu: &MenuAt<'_>,
     from: usize,
     best: Option<u64>,
 ) -> usize
     requires valid { IsValid exercise.now }
     requires tables { tables.now ≡ record { exercise = exercise.now; sheet = sheet.now } }
     requires node { IsInner (IsNodeOf exercise.now sheet.now node.now) (columns_in exercise.now) }
-    requires menu { items_of menu.now.columns.items ≡ menu_of exercise.now node.now.state.newest.len }
-    requires cut { IsBlockMenu menu.now }
-    requires skips { SkipsDead exercise.now node.now.state.newest.len menu.now }
-    requires within { from ≤ length menu.now.columns.items }
+    requires menu { IsMenuAt exercise.now node.now.state.newest.len menu.now }
+    requires within { from ≤ length (columns_of menu.now) }
     ensures onward { from ≤ result }
-    ensures within { result ≤ length menu.now.columns.items }
+    ensures within { result ≤ length (columns_of menu.now) }
     ensures passed { PassesOver exercise.now sheet.now node.now best from result }
 {
     let before = node.state.before(exercise);
@@ -126,7 +122,7 @@ pub(crate) fn next_unpruned(
     if from == 0 {
         tried = 0;
     }
-    while k < menu.columns.len() {
+    while k < menu.len() {
         let passed = passed_over(exercise, sheet, tables, node, menu, k, tried, best);
         let Some((end, sound)) = passed else {
             return k;

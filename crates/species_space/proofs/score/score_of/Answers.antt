@@ -1,14 +1,23 @@
-use Rattle.std.proofs.Common.{◌≡◌, ◌++◌, ◌∷◌, [], take, ap, sym, ◌∙◌, IsOk, arith}
+use Rattle.std.proofs.Common.{◌≡◌, ℕ, List, ◌++◌, ◌∷◌, [], slice_index_or, take, ap, sym, ◌∙◌, IsOk, arith}
 use Rattle.std.proofs.lemmas.List.Elements.{same_from_all_zip}
+use Rattle.fux_grid.specs.Menus.{menu_of}
+use Rattle.floor_tables.specs.Tables.{Task}
 use Rattle.species_space.specs.Paths.{prefix_at, alive_parts}
 use Rattle.species_space.proofs.PathSteps.{number_in_menu, one_more_column}
 use Rattle.species_space.proofs.ScoreSteps.{chosen_column, column_fits}
 use Rattle.species_space.proofs.score.score_of.Goals as goal
 
+-- the column that a path chooses of a menu, by two names of what the tables are of
+chosen_by : {t task : Task} (path : List ℕ) (i : ℕ) → t ≡ task
+    → slice_index_or (menu_of t.exercise i) (slice_index_or path i 0) []
+    ≡ slice_index_or (menu_of task.exercise i) (slice_index_or path i 0) []
+chosen_by path i e = ap (λ (u : Task). slice_index_or (menu_of u.exercise i) (slice_index_or path i 0) []) e
+
 pub column-column-requires-clause-within : goal.column-column-requires-clause-within
 column-column-requires-clause-within c =
     let ex = c.args.space.now.exercise in
-    number_in_menu ex c.args.path.now (alive_parts ex c.args.path.now c.requires).menus c.loop-i.i c.loop-i-test.true
+    rw c.tables.ensures.value
+    (number_in_menu ex c.args.path.now (alive_parts ex c.args.path.now c.requires).menus c.loop-i.i c.loop-i-test.true)
 
 pub loop-i-preserved : goal.loop-i-preserved
 loop-i-preserved c =
@@ -19,7 +28,7 @@ loop-i-preserved c =
     let copied : c.in_ok-clone.field-0.items
     ≡ c.column-column.result.now.items = same_from_all_zip _ c.column-column.result.now.items
     c.in_ok-clone.field-0.items c.in_ok-clone.ensures.cases (λ x y e. e) in
-    let same = copied ∙ c.column-column.ensures in
+    let same = copied ∙ c.column-column.ensures ∙ chosen_by path c.loop-i.i c.tables.ensures.value in
     record {
       voices = ap (λ s. s.voices) pushed ∙ c.loop-i.invariant.voices;
       columns =
@@ -37,7 +46,8 @@ unreachable-requires c =
     let copied : c.in_ok-clone.field-0.items
     ≡ c.column-column.result.now.items = same_from_all_zip _ c.column-column.result.now.items
     c.in_ok-clone.field-0.items c.in_ok-clone.ensures.cases (λ x y e. e) in
-    let same : c.in_ok-clone.field-0.items ≡ chosen_column ex path c.loop-i.i = copied ∙ c.column-column.ensures in
+    let same : c.in_ok-clone.field-0.items ≡ chosen_column ex path c.loop-i.i = copied ∙ c.column-column.ensures
+    ∙ chosen_by path c.loop-i.i c.tables.ensures.value in
     let taken : IsOk c.push.result = c.push.ensures.taken
     (rw c.loop-i.invariant.columns (omega (arith, fits.room, c.voices.ensures.short)))
     (rw (same, c.loop-i.invariant.voices) fits.full) (rw (same, c.loop-i.invariant.columns) fits.follows) in

@@ -1,7 +1,5 @@
 use Rattle.std.proofs.Common.{ℕ, ◌<◌, [], length, slice_index_or, arith}
-use Rattle.std.proofs.lemmas.List.{length-map}
-use Rattle.fux_grid.specs.Grid.{items_of}
-use Rattle.species_space.specs.Blocks.{StraysOrDies}
+use Rattle.species_space.specs.Blocks.{StraysOrDies, columns_of}
 use Rattle.species_space.proofs.Passing.{passed_on}
 use Rattle.species_space.proofs.walk.next_choice.Goals as goal
 
@@ -10,7 +8,7 @@ loop-k-init c =
     let next = c.next_that_follows-k.ensures in
     record {
       onward = next.onward;
-      within = omega (arith, next.within, length-map c.args.menu.now.columns.items (λ col. col.items));
+      within = next.within;
       passed = λ ex i skip j le lt follows. absurd (next.passed j le lt follows);
     }
 
@@ -22,14 +20,10 @@ returns-then-undead-k-clause-passed c = c.loop-k.invariant.passed
 
 pub next_that_follows-k-requires-in-loop-k-clause-within : goal.next_that_follows-k-requires-in-loop-k-clause-within
 next_that_follows-k-requires-in-loop-k-clause-within c =
-    let k = c.loop-k.k in
-    let long = length-map c.args.menu.now.columns.items (λ col. col.items) in
     omega (
       arith,
-      long,
       c.undead_from-undead.ensures,
-      c.requires.bounded k
-          (omega (arith, c.loop-k-test.true, c.len.ensures, c.args.menu.now.columns.ok.0, c.requires.counted)),
+      c.requires.bounded c.loop-k.k (omega (arith, c.loop-k-test.true, c.len.ensures, c.requires.counted)),
     )
 
 pub loop-k-smaller : goal.loop-k-smaller
@@ -38,28 +32,25 @@ loop-k-smaller c =
       arith,
       c.loop-k-test.true,
       c.len.ensures,
-      c.args.menu.now.columns.ok.0,
       c.if-undead-k.false,
       c.next_that_follows-k-in-loop-k.ensures.onward,
     )
 
 pub loop-k-preserved : goal.loop-k-preserved
 loop-k-preserved c =
-    let columns = c.args.menu.now.columns.items in
-    let menu = items_of columns in
+    let menu = columns_of c.args.menu.now in
     let k = c.loop-k.k in
-    let undead = c.undead_from-undead.result in
     let next = c.next_that_follows-k-in-loop-k.ensures in
     let to = c.next_that_follows-k-in-loop-k.result in
-    let there : k < length c.args.menu.now.undead.items = omega
-    (arith, c.loop-k-test.true, c.len.ensures, c.args.menu.now.columns.ok.0, c.requires.counted) in
+    let there : k < length c.args.menu.now.undead.now = omega
+    (arith, c.loop-k-test.true, c.len.ensures, c.requires.counted) in
     record {
       onward = omega (arith, c.loop-k.invariant.onward, c.if-undead-k.false, next.onward);
-      within = omega (arith, next.within, length-map columns (λ col. col.items));
+      within = next.within;
       passed = λ ex i skip.
           let P : ℕ → Type 0 = λ j. StraysOrDies ex i c.args.before.now (slice_index_or menu j []) in
           passed_on P c.args.from k to (c.loop-k.invariant.passed ex i skip)
-          (passed_on P k undead to
+          (passed_on P k c.undead_from-undead.result to
           (λ j le lt follows. skip.dead k there j le (omega (arith, lt, c.undead_from-undead.ensures)))
           (λ j le lt follows. absurd (next.passed j le lt follows)));
     }

@@ -1,5 +1,5 @@
 use Rattle.std.proofs.Common.{ℕ, [], slice_index_or, arith}
-use Rattle.fux_grid.specs.Grid.{items_of}
+use Rattle.species_space.specs.Blocks.{columns_of}
 use Rattle.species_space.specs.Paths.{IsNoBetter}
 use Rattle.species_space.proofs.Passing.{passed_on}
 use Rattle.species_space.proofs.WalkSteps.{column_of_menu, stray_no_better}
@@ -10,16 +10,16 @@ loop-k-init c =
     let ex = c.args.exercise.now in
     let sheet = c.args.sheet.now in
     let node = c.args.node.now in
-    let columns = c.args.menu.now.columns.items in
+    let menu = columns_of c.args.menu.now in
     let next = c.next_choice-k.ensures in
     record {
       onward = next.onward;
       within = next.within;
       passed = λ path at j le lt.
           stray_no_better ex sheet node path at j c.args.best c.before-before.result.now
-          (slice_index_or (items_of columns) j [])
-          (c.before-before.ensures _ at.state) (column_of_menu ex sheet node path at columns j c.requires.menu)
-          (next.passed ex node.state.newest.len c.requires.skips.skip j le lt);
+          (slice_index_or menu j [])
+          (c.before-before.ensures _ at.state) (column_of_menu ex sheet node path at menu j c.requires.menu.columns)
+          (next.passed ex node.state.newest.len c.requires.menu.skip j le lt);
     }
 
 pub returns-in_default-clause-onward : goal.returns-in_default-clause-onward
@@ -37,7 +37,6 @@ loop-k-smaller c =
       arith,
       c.loop-k-test.true,
       c.len.ensures,
-      c.args.menu.now.columns.ok.0,
       c.in-Some.ensures.onward,
       c.in-Some.end-is,
       c.next_choice-k-in-loop-k.ensures.onward,
@@ -48,7 +47,7 @@ loop-k-preserved c =
     let ex = c.args.exercise.now in
     let sheet = c.args.sheet.now in
     let node = c.args.node.now in
-    let columns = c.args.menu.now.columns.items in
+    let menu = columns_of c.args.menu.now in
     let k = c.loop-k.k in
     let end = c.in-Some.end in
     let next = c.next_choice-k-in-loop-k.ensures in
@@ -63,9 +62,9 @@ loop-k-preserved c =
           (λ j le lt. c.in-Some.ensures.passed path at j le (omega (arith, lt, c.in-Some.end-is)))
           (λ j le lt.
           stray_no_better ex sheet node path at j c.args.best c.before-before.result.now
-          (slice_index_or (items_of columns) j [])
-          (c.before-before.ensures _ at.state) (column_of_menu ex sheet node path at columns j c.requires.menu)
-          (next.passed ex node.state.newest.len c.requires.skips.skip j le lt)));
+          (slice_index_or menu j [])
+          (c.before-before.ensures _ at.state) (column_of_menu ex sheet node path at menu j c.requires.menu.columns)
+          (next.passed ex node.state.newest.len c.requires.menu.skip j le lt)));
     }
 
 pub returns-clause-onward : goal.returns-clause-onward

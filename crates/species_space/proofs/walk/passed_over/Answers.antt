@@ -1,11 +1,10 @@
 use Rattle.std.proofs.Common.{◌≡◌, ◌<◌, ℕ, List, [], length, slice_index_or, take, ap, sym, ◌∙◌, subst, arith}
 use Rattle.std.proofs.lemmas.Bool.{OnFalse_at}
-use Rattle.std.proofs.lemmas.List.{length-map}
 use Rattle.fux_grid.specs.Exercises.{IsValid}
-use Rattle.fux_grid.specs.Grid.{items_of}
 use Rattle.fux_grid.specs.Menus.{menu_of}
 use Rattle.fux_grid.proofs.MenuLemmas.{menu_of-full}
 use Rattle.floor_tables.specs.Tables.{Task}
+use Rattle.species_space.specs.Blocks.{columns_of}
 use Rattle.species_space.specs.Nodes.{IsNodeOf}
 use Rattle.species_space.specs.Paths.{IsNoBetter}
 use Rattle.species_space.proofs.Children.{as_long}
@@ -19,10 +18,7 @@ may_be_better-requires-clause-valid c =
 pub may_be_better-requires-clause-number : goal.may_be_better-requires-clause-number
 may_be_better-requires-clause-number c =
     let i = c.args.node.now.state.newest.len in
-    let columns = c.args.menu.now.columns.items in
-    let wide : length columns ≡ length (menu_of c.args.exercise.now i) = sym (length-map columns (λ col. col.items))
-    ∙ ap length c.requires.menu in
-    let within : c.args.k < length (menu_of c.args.exercise.now i) = omega (arith, wide, c.requires.within) in
+    let within = subst (λ menu. c.args.k < length menu) c.requires.menu.columns c.requires.within in
     subst (λ (t : Task). c.args.k < length (menu_of t.exercise i)) (sym c.requires.tables) within
 
 pub returns-then-not-may_be_better-clause-passed : goal.returns-then-not-may_be_better-clause-passed
@@ -41,26 +37,22 @@ pruned_within-requires-clause-room c =
 
 pub pruned_within-requires-clause-full : goal.pruned_within-requires-clause-full
 pruned_within-requires-clause-full c =
-    let columns = c.args.menu.now.columns.items in
-    let i = c.args.node.now.state.newest.len in
-    let wide : length columns ≡ length (menu_of c.args.exercise.now i) = sym (length-map columns (λ col. col.items))
-    ∙ ap length c.requires.menu in
-    ap length c.column.ensures ∙ ap (λ cols. length (slice_index_or cols c.args.k [])) c.requires.menu
-    ∙ menu_of-full c.args.exercise.now i c.args.k [] (omega (arith, wide, c.requires.within))
+    let within = subst (λ menu. c.args.k < length menu) c.requires.menu.columns c.requires.within in
+    ap length c.column.ensures ∙ ap (λ menu. length (slice_index_or menu c.args.k [])) c.requires.menu.columns
+    ∙ menu_of-full c.args.exercise.now c.args.node.now.state.newest.len c.args.k [] within
 
 pub returns-clause-passed : goal.returns-clause-passed
 returns-clause-passed c = λ path at j le lt.
     let ex = c.args.exercise.now in
     let sheet = c.args.sheet.now in
-    let columns = c.args.menu.now.columns.items in
-    let menu = items_of columns in
+    let menu = columns_of c.args.menu.now in
     let i = c.args.node.now.state.newest.len in
     let block = c.end_of_agreement.ensures in
     let inside : j < length menu = omega (arith, lt, block.within) in
     let full : length (slice_index_or menu j []) ≡ ex.voices =
-    ap (λ cols. length (slice_index_or cols j [])) c.requires.menu
-    ∙ menu_of-full ex i j [] (subst (λ cols. j < length cols) c.requires.menu inside) in
+    ap (λ cols. length (slice_index_or cols j [])) c.requires.menu.columns
+    ∙ menu_of-full ex i j [] (subst (λ cols. j < length cols) c.requires.menu.columns inside) in
     pruned_no_better ex sheet c.args.node.now path at j c.args.best c.limit_of-limit.result (slice_index_or menu j [])
-    (column_of_menu ex sheet c.args.node.now path at columns j c.requires.menu) c.limit_of-limit.ensures
+    (column_of_menu ex sheet c.args.node.now path at menu j c.requires.menu.columns) c.limit_of-limit.ensures
     (c.in_ok-voices.ensures.pruned _ at.state (slice_index_or menu j []) full
     (block.cells j le lt ∙ ap (take c.in_ok-voices.voices) (sym c.column.ensures)))

@@ -1,28 +1,24 @@
 use Rattle.std.proofs.Common.{[], slice_index_or, sym, ◌∙◌, arith}
-use Rattle.std.proofs.lemmas.List.{length-map}
-use Rattle.fux_grid.specs.Grid.{items_of}
+use Rattle.species_space.specs.Blocks.{columns_of}
 use Rattle.species_space.proofs.Passing.{agree_more, same_takes}
-use Rattle.species_space.proofs.blocks.BlockMenu.end_of_agreement.Goals.{then-block-end, else-block-end}
-use Rattle.species_space.proofs.blocks.BlockMenu.end_of_agreement.Goals as goal
+use Rattle.species_space.proofs.blocks.MenuAt.end_of_agreement.Goals.{then-block-end, else-block-end}
+use Rattle.species_space.proofs.blocks.MenuAt.end_of_agreement.Goals as goal
 
 pub loop-v-init : goal.loop-v-init
 loop-v-init c =
-    let all = c.len-end.ensures ∙ c.args.self.now.columns.ok.0 in
     record {
-      onward = omega (arith, c.requires.within, all);
-      within = omega (arith, all);
+      onward = omega (arith, c.requires.within, c.len-end.ensures);
+      within = omega (arith, c.len-end.ensures);
       cells = λ u lt. absurd (omega (arith, lt));
     }
 
 pub loop-v-preserved : goal.loop-v-preserved
 loop-v-preserved c =
-    let columns = c.args.self.now.columns.items in
-    let menu = items_of columns in
+    let menu = columns_of c.args.self.now in
     let v = c.loop-v.v in
     let block = c.block_end-block.result in
     let ends = c.block_end-block.ensures in
     let kept = c.requires.cut.kept v (omega (arith, c.loop-v-test.true, c.requires.voices)) in
-    let long = length-map columns (λ col. col.items) in
     let old = c.loop-v.invariant in
     let end = c.if-block-end.end in
     elim c.if-block-end.branch [
@@ -31,7 +27,7 @@ loop-v-preserved c =
         within = omega (arith, w.if-block-end.true, w.end-is, old.within);
         cells = agree_more menu v _ c.args.k c.loop-v.end block end kept ends
             (omega (arith, w.if-block-end.true, w.end-is)) (omega (arith, w.end-is))
-            (omega (arith, ends.onward, w.end-is)) (omega (arith, w.if-block-end.true, w.end-is, old.within, long))
+            (omega (arith, ends.onward, w.end-is)) (omega (arith, w.if-block-end.true, w.end-is, old.within))
             old.cells;
       }
       | else-block-end w ↦ record {
@@ -39,23 +35,21 @@ loop-v-preserved c =
         within = omega (arith, old.within, w.end-is);
         cells = agree_more menu v _ c.args.k c.loop-v.end block end kept ends (omega (arith, w.end-is))
             (omega (arith, w.if-block-end.false, w.end-is)) (omega (arith, old.onward, w.end-is))
-            (omega (arith, w.end-is, old.within, long)) old.cells;
+            (omega (arith, w.end-is, old.within)) old.cells;
       }
     ]
 
 pub returns : goal.returns
 returns c =
-    let columns = c.args.self.now.columns.items in
-    let menu = items_of columns in
+    let menu = columns_of c.args.self.now in
     let k = c.args.k in
-    let long = length-map columns (λ col. col.items) in
     let kept = c.loop-v.invariant in
     let full = c.requires.cut.full.1 in
     record {
       onward = kept.onward;
-      within = omega (arith, kept.within, long);
+      within = omega (arith, kept.within);
       cells = λ j le lt.
           same_takes c.args.voices (slice_index_or menu j []) (slice_index_or menu k [])
-          (full j [] (omega (arith, lt, kept.within, long)) ∙ sym (full k [] (omega (arith, c.requires.within, long))))
+          (full j [] (omega (arith, lt, kept.within)) ∙ sym (full k [] (c.requires.within)))
           (λ u b. kept.cells u (omega (arith, b, c.loop-v-test.false)) j le lt);
     }

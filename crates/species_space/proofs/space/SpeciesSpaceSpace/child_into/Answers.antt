@@ -7,44 +7,45 @@ use Rattle.species_space.specs.Paths.{prefix_at, length-columns_on}
 use Rattle.species_space.proofs.Children.{as_long, ends, rest_there}
 use Rattle.species_space.proofs.space.SpeciesSpaceSpace.child_into.Goals as goal
 
-pub column-column-requires-clause-at : goal.column-column-requires-clause-at
-column-column-requires-clause-at c =
-    let ex = c.args.self.now.exercise in
-    omega (
-      arith,
-      c.len-i.ensures ex (prefix_at ex c.requires.path) c.requires.at.state,
-      length-columns_on ex 0
-          c.requires.path,
-      c.requires.above,
-    )
+-- a place, as the tables know it, and a number in its menu
+place_in : (t task : Task) (i n : ℕ) → t ≡ task → i ≡ n → n < columns_in task.exercise → i < columns_in t.exercise
+place_in t task i n e f h =
+    omega (arith, f, h, ap (λ (u : Task). columns_in u.exercise) e)
 
-pub column-column-requires-clause-within : goal.column-column-requires-clause-within
-column-column-requires-clause-within c =
-    let ex = c.args.self.now.exercise in
-    subst (λ n. c.args.k < length (menu_of ex n))
-    (sym (c.len-i.ensures ex (prefix_at ex c.requires.path) c.requires.at.state
-    ∙ length-columns_on ex 0 c.requires.path)) c.requires.within
+choice_in : (t task : Task) (i n k : ℕ) → t ≡ task → i ≡ n → k < length (menu_of task.exercise n)
+    → k < length (menu_of t.exercise i)
+choice_in t task i n k e f h = subst (λ (u : Task). k < length (menu_of u.exercise i)) (sym e)
+    (subst (λ m. k < length (menu_of task.exercise m)) (sym f) h)
 
 pub rest_of_number-requires-clause-place : goal.rest_of_number-requires-clause-place
 rest_of_number-requires-clause-place c =
     let ex = c.args.self.now.exercise in
-    let room : c.len-i.result < columns_in ex = omega (
-      arith,
-      c.len-i.ensures ex (prefix_at ex c.requires.path) c.requires.at.state,
-      length-columns_on ex 0
-          c.requires.path,
-      c.requires.above,
-    ) in
-    subst (λ (t : Task). c.len-i.result < columns_in t.exercise) (sym (c.self.invariant.1 ∙ c.self.view_is)) room
+    place_in _ c.args.self.now c.len-i.result (length c.requires.path) (c.self.invariant.1 ∙ c.self.view_is)
+    (c.len-i.ensures ex (prefix_at ex c.requires.path) c.requires.at.state ∙ length-columns_on ex 0 c.requires.path)
+    c.requires.above
 
 pub rest_of_number-requires-clause-choice : goal.rest_of_number-requires-clause-choice
 rest_of_number-requires-clause-choice c =
     let ex = c.args.self.now.exercise in
-    let here = c.len-i.ensures ex (prefix_at ex c.requires.path) c.requires.at.state
-    ∙ length-columns_on ex 0 c.requires.path in
-    subst (λ (t : Task). c.args.k < length (menu_of t.exercise c.len-i.result))
-    (sym (c.self.invariant.1 ∙ c.self.view_is))
-    (subst (λ (n : ℕ). c.args.k < length (menu_of ex n)) (sym here) c.requires.within)
+    choice_in _ c.args.self.now c.len-i.result (length c.requires.path) c.args.k
+    (c.self.invariant.1 ∙ c.self.view_is)
+    (c.len-i.ensures ex (prefix_at ex c.requires.path) c.requires.at.state ∙ length-columns_on ex 0 c.requires.path)
+    c.requires.within
+
+pub column-column-requires-clause-place : goal.column-column-requires-clause-place
+column-column-requires-clause-place c =
+    let ex = c.args.self.now.exercise in
+    place_in _ c.args.self.now c.len-i.result (length c.requires.path) (c.self.invariant.1 ∙ c.self.view_is)
+    (c.len-i.ensures ex (prefix_at ex c.requires.path) c.requires.at.state ∙ length-columns_on ex 0 c.requires.path)
+    c.requires.above
+
+pub column-column-requires-clause-within : goal.column-column-requires-clause-within
+column-column-requires-clause-within c =
+    let ex = c.args.self.now.exercise in
+    choice_in _ c.args.self.now c.len-i.result (length c.requires.path) c.args.k
+    (c.self.invariant.1 ∙ c.self.view_is)
+    (c.len-i.ensures ex (prefix_at ex c.requires.path) c.requires.at.state ∙ length-columns_on ex 0 c.requires.path)
+    c.requires.within
 
 pub returns-in_err-rest : goal.returns-in_err-rest
 returns-in_err-rest c = λ path at.
@@ -69,8 +70,9 @@ child_by-requires-clause-column c =
     let ex = c.args.self.now.exercise in
     let same : c.len-i.result ≡ c.args.node.now.state.newest.len = c.len-i.ensures ex (prefix_at ex c.requires.path)
     c.requires.at.state ∙ sym c.requires.at.state.newest.count in
-    c.column-column.ensures ∙ ap (λ n. slice_index_or (menu_of ex n) c.args.k []) same
-    ∙ ap (λ t. slice_index_or (menu_of t.exercise c.args.node.now.state.newest.len) c.args.k []) (sym c.self.view_is)
+    c.column-column.ensures
+    ∙ ap (λ (t : Task). slice_index_or (menu_of t.exercise c.len-i.result) c.args.k []) c.self.invariant.1
+    ∙ ap (λ n. slice_index_or (menu_of c.self.inside.exercise.now n) c.args.k []) same
 
 pub child_by-requires-clause-rest : goal.child_by-requires-clause-rest
 child_by-requires-clause-rest c =
@@ -83,8 +85,8 @@ child_by-requires-clause-rest c =
     let same : c.len-i.result ≡ i = c.len-i.ensures ex (prefix_at ex c.requires.path) c.requires.at.state
     ∙ sym c.requires.at.state.newest.count in
     let column : c.column-column.result.now.items ≡ slice_index_or (menu_of inside i) k [] =
-    c.column-column.ensures ∙ ap (λ n. slice_index_or (menu_of ex n) k []) same
-    ∙ ap (λ t. slice_index_or (menu_of t.exercise i) k []) (sym c.self.view_is) in
+    c.column-column.ensures ∙ ap (λ (t : Task). slice_index_or (menu_of t.exercise c.len-i.result) k []) c.self.invariant.1
+    ∙ ap (λ n. slice_index_or (menu_of inside n) k []) same in
     let own = subst (λ (t : Task). IsRest t.exercise t.sheet c.len-i.result
     (slice_index_or (menu_of t.exercise c.len-i.result) k []) result) c.self.invariant.1
     c.rest_of_number.ensures.rest in

@@ -1,11 +1,10 @@
 use Rattle.std.proofs.Common.{◌≡◌, ℕ, List, length, ap, sym, ◌∙◌, subst, arith}
-use Rattle.std.proofs.lemmas.List.{length-map}
 use Rattle.fux_grid.specs.Exercises.{columns_in}
 use Rattle.fux_grid.specs.Menus.{menu_of}
 use Rattle.floor_tables.specs.Tables.{Task}
 use Rattle.tree_search.specs.Space.{IsInner}
 use Rattle.species_space.specs.Nodes.{IsNodeOf}
-use Rattle.species_space.specs.Task.{SkipsDead}
+use Rattle.species_space.specs.Task.{IsMenuAt}
 use Rattle.species_space.specs.Paths.{ArePassed, prefix_at, length-columns_on}
 use Rattle.species_space.proofs.space.SpeciesSpaceSpace.next_child.Goals as goal
 
@@ -26,32 +25,20 @@ next_unpruned-requires-clause-node c =
     (sym c.self.view_is)
     record { path = c.requires.path; at = c.requires.at; above = c.requires.above }
 
-pub next_unpruned-requires-clause-within : goal.next_unpruned-requires-clause-within
-next_unpruned-requires-clause-within c =
-    let ex = c.args.self.now.exercise in
-    let menu = c.menu-menu.result.now.columns.items in
-    let there = c.len.ensures ex (prefix_at ex c.requires.path) c.requires.at.state
-    ∙ length-columns_on ex 0 c.requires.path in
-    let wide : length menu ≡ length (menu_of ex (length c.requires.path)) = sym (length-map menu (λ col. col.items))
-    ∙ ap length c.menu-menu.ensures.value ∙ ap (λ i. length (menu_of ex i)) there in
-    omega (arith, wide, c.requires.within)
-
 pub next_unpruned-requires-clause-menu : goal.next_unpruned-requires-clause-menu
 next_unpruned-requires-clause-menu c =
     let ex = c.args.self.now.exercise in
     let same : c.len.result ≡ c.args.node.now.state.newest.len = c.len.ensures ex (prefix_at ex c.requires.path)
     c.requires.at.state ∙ sym c.requires.at.state.newest.count in
-    c.menu-menu.ensures.value ∙ ap (menu_of ex) same
-    ∙ ap (λ t. menu_of t.exercise c.args.node.now.state.newest.len) (sym c.self.view_is)
+    subst (λ (t : Task). IsMenuAt t.exercise c.args.node.now.state.newest.len c.menu-menu.result) (sym c.self.view_is)
+    (subst (λ n. IsMenuAt ex n c.menu-menu.result) same c.menu-menu.ensures)
 
-pub next_unpruned-requires-clause-skips : goal.next_unpruned-requires-clause-skips
-next_unpruned-requires-clause-skips c =
+pub next_unpruned-requires-clause-within : goal.next_unpruned-requires-clause-within
+next_unpruned-requires-clause-within c =
     let ex = c.args.self.now.exercise in
-    let same : c.len.result ≡ c.args.node.now.state.newest.len = c.len.ensures ex (prefix_at ex c.requires.path)
-    c.requires.at.state ∙ sym c.requires.at.state.newest.count in
-    let skips = subst (λ n. SkipsDead ex n c.menu-menu.result.now) same c.menu-menu.ensures.skips in
-    subst (λ e. SkipsDead e c.args.node.now.state.newest.len c.menu-menu.result.now)
-    (sym (ap (λ task. task.exercise) c.self.view_is)) skips
+    let there = c.len.ensures ex (prefix_at ex c.requires.path) c.requires.at.state
+    ∙ length-columns_on ex 0 c.requires.path in
+    omega (arith, c.requires.within, ap length c.menu-menu.ensures.columns, ap (λ i. length (menu_of ex i)) there)
 
 pub returns-clause-onward : goal.returns-clause-onward
 returns-clause-onward c = c.next_unpruned.ensures.onward
