@@ -88,11 +88,15 @@ pub record Agree (menu : List (List Cell)) (voices k end : ℕ) : Type 0 where
 abbrev pub AreAlwaysDead : Exercise → ℕ → List (List Cell) → ℕ → ℕ → Type 0
 AreAlwaysDead ex i menu from to = (j : ℕ) → from ≤ j → j < to → IsAlwaysDead ex i (slice_index_or menu j [])
 
+-- a list has this number at a place
+abbrev pub IsAt : List ℕ → ℕ → ℕ → Type 0
+IsAt numbers k number = (k < length numbers) × (slice_index_or numbers k 0 ≡ number)
+
 -- no number of a list is higher than this one
 abbrev pub AreWithin : List ℕ → ℕ → Type 0
 AreWithin numbers most = (k : ℕ) → k < length numbers → slice_index_or numbers k 0 ≤ most
 
--- for each number of a menu one from it on, before which all columns are dead so
+-- each number of a list is that of a column from its place on, before which all columns are dead so
 pub record SkipDead (ex : Exercise) (i : ℕ) (menu : List (List Cell)) (numbers : List ℕ) : Type 0 where
   pub within : AreWithin numbers (length menu)
   pub dead : (k : ℕ) → k < length numbers → AreAlwaysDead ex i menu k (slice_index_or numbers k 0)

@@ -9,10 +9,9 @@ use Rattle.species_space.specs.Blocks.{AreBlocksOf, IsCut, SkipDead, columns_of}
 use Rattle.species_space.specs.declared.blocks.BlockMenu.{BlockMenu}
 use Rattle.species_space.specs.declared.blocks.MenuAt.{MenuAt}
 
--- what is known of the menu of a place: its blocks, and for each of its columns how many are dead after every prefix from it on
+-- what is known of the menu of a place: its blocks, and of its columns how many are dead after every prefix from them on
 pub record IsMenuOf (ex : Exercise) (i : ℕ) (menu : BlockMenu) : Type 0 where
   pub blocks : AreBlocksOf (menu_of ex i) menu.blocks
-  pub counted : length menu.undead.items ≡ length (menu_of ex i)
   pub skip : SkipDead ex i (menu_of ex i) menu.undead.items
 
 -- the same of each of the first places
@@ -23,7 +22,6 @@ AreMenus ex menus = (i : ℕ) (d : BlockMenu) → i < length menus → IsMenuOf 
 pub record IsMenuAt (ex : Exercise) (i : ℕ) (menu : MenuAt) : Type 0 where
   pub columns : columns_of menu ≡ menu_of ex i
   pub cut : IsCut menu
-  pub counted : length menu.undead.now ≡ length (columns_of menu)
   pub skip : SkipDead ex i (columns_of menu) menu.undead.now
 
 -- a valid exercise whose menus aren't too wide, with what is known of all of them

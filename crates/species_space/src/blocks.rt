@@ -5,7 +5,7 @@ ghost use Rattle.fux_grid.specs.Cells.{cell_follows, cell_in};
 ghost use Rattle.fux_grid.specs.Columns.{ColumnFollows};
 ghost use Rattle.fux_grid.specs.Grid.{items_of};
 ghost use Rattle.fux_grid.specs.Menus.{IsAscending};
-ghost use Rattle.species_space.specs.Blocks.{Agree, AreBlocksOf, HasOneWidth, IsBlockEnd, IsCut, IsHeldNext, IsNext, IsOnlyHolds, IsWithoutHolds, KeepsCell, columns_of, same_cell};
+ghost use Rattle.species_space.specs.Blocks.{Agree, AreBlocksOf, HasOneWidth, IsAt, IsBlockEnd, IsCut, IsHeldNext, IsNext, IsOnlyHolds, IsWithoutHolds, KeepsCell, columns_of, same_cell};
 
 use fux_grid::{Cell, Column, cell_of, cells_follow};
 
@@ -24,7 +24,8 @@ pub(crate) struct Blocks {
 #[derive(Drop)]
 pub(crate) struct BlockMenu {
     pub(crate) blocks: Blocks,
-    /// For each column the number of the first one, from it on, that isn't dead after every prefix.
+    /// For each column the number of the first one, from it on, that isn't dead after every prefix. It is left out where it is the
+    /// column's own.
     pub(crate) undead: Vec<u16>,
 }
 
@@ -88,10 +89,13 @@ impl<'a> MenuAt<'a> {
     /// The number of the first column, from this one on, that isn't dead after every prefix.
     #[inline]
     pub(crate) fn undead_from(&self, k: usize) -> usize
-        requires { k < length self.now.undead.now }
-        ensures { result ≡ slice_index_or self.now.undead.now k 0 }
+        ensures { k < result → IsAt self.now.undead.now k result }
     {
-        self.undead[k] as usize
+        if k < self.undead.len() {
+            self.undead[k] as usize
+        } else {
+            k
+        }
     }
 
     /// The column of a number.

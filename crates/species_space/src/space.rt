@@ -248,8 +248,21 @@ fn child_by(
     Some(child.paid + child.least + rest)
 }
 
+/// Whether a column of a menu is dead after every prefix. No answer depends on it: it spares memory.
+fn some_are_dead(exercise: &Exercise, i: usize, columns: &[Column]) -> bool
+    requires valid { IsValid exercise.now }
+    requires place { i < columns_in exercise.now }
+{
+    for column in columns {
+        if is_always_dead(exercise, i, column) {
+            return true;
+        }
+    }
+    false
+}
+
 /// For each column of a menu the number of the first one, from it on, that isn't dead after every prefix; the menu's length where
-/// there is none.
+/// there is none. Where no column is dead they are all left out.
 fn undead_numbers(
     alloc: Global,
     exercise: &Exercise,
@@ -259,9 +272,11 @@ fn undead_numbers(
     requires valid { IsValid exercise.now }
     requires place { i < columns_in exercise.now }
     requires few { length columns.now ≤ 8192 }
-    ensures counted { IfOk result (λ numbers. length numbers.items ≡ length columns.now) }
-    ensures skip { IfOk result (λ numbers. SkipDead exercise.now i (items_of columns.now) numbers.items) }
+    ensures { IfOk result (λ numbers. SkipDead exercise.now i (items_of columns.now) numbers.items) }
 {
+    if !some_are_dead(exercise, i, columns) {
+        return Ok(Vec::new(alloc));
+    }
     let mut numbers = Vec::with_capacity(alloc, columns.len())?;
     for k in 0..columns.len() {
         if !is_always_dead(exercise, i, column_at(columns, k)) {

@@ -20,7 +20,6 @@ use penalty_sheet::Sheet;
 /// is none.
 fn next_choice(menu: &MenuAt<'_>, before: &[Cell], from: usize, hint: usize) -> usize
     requires cut { IsCut menu.now }
-    requires counted { length menu.now.undead.now ≡ length (columns_of menu.now) }
     requires bounded { AreWithin menu.now.undead.now (length (columns_of menu.now)) }
     requires within { from ≤ length (columns_of menu.now) }
     ensures onward { from ≤ result }

@@ -1,5 +1,5 @@
 use Rattle.std.proofs.Common.{length, ap, sym, ◌∙◌, subst, arith}
-use Rattle.std.proofs.lemmas.List.{length_push, length-map}
+use Rattle.std.proofs.lemmas.List.{length_push}
 use Rattle.fux_grid.specs.declared.exercise.Exercise.{Exercise}
 use Rattle.fux_grid.specs.Menus.{menu_of}
 use Rattle.chain_sums.proofs.TableLemmas.{each_pushed}
@@ -15,14 +15,12 @@ loop-i-preserved c =
     let old = c.loop-i.invariant in
     let menus = c.loop-i.menus.items in
     let columns = c.columns.result.now in
-    let found = c.in_ok-undead.ensures in
     let menu : BlockMenu = record { blocks = c.blocks_at-blocks.result; undead = c.in_ok-undead.undead } in
     let is = c.columns.ensures ∙ ap (λ (e : Exercise). menu_of e i) c.requires.tables in
     let next : IsMenuOf ex i menu = record {
       blocks = subst (λ (e : Exercise). AreBlocksOf (menu_of e i) menu.blocks) c.requires.tables
           c.blocks_at-blocks.ensures;
-      counted = found.counted ∙ sym (length-map columns (λ col. col.items)) ∙ ap length is;
-      skip = subst (λ cols. SkipDead ex i cols menu.undead.items) is found.skip;
+      skip = subst (λ cols. SkipDead ex i cols menu.undead.items) is c.in_ok-undead.ensures;
     } in
     record {
       room = c.push_reserved.ensures.capacity ∙ old.room;

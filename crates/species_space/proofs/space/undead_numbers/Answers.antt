@@ -75,8 +75,8 @@ loop-k-preserved c =
     the_last : (j k : ℕ) → k ≤ j → j < k + 1 → k ≡ j
     the_last j k le lt = omega (arith, le, lt)
 
-pub returns-clause-skip : goal.returns-clause-skip
-returns-clause-skip c =
+pub returns : goal.returns
+returns c =
     let ex = c.args.exercise.now in
     let i = c.args.i in
     let menu = items_of c.args.columns.now in

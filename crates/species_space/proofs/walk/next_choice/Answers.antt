@@ -1,4 +1,4 @@
-use Rattle.std.proofs.Common.{ℕ, ◌<◌, [], length, slice_index_or, arith}
+use Rattle.std.proofs.Common.{ℕ, [], slice_index_or, arith}
 use Rattle.species_space.specs.Blocks.{StraysOrDies, columns_of}
 use Rattle.species_space.proofs.Passing.{passed_on}
 use Rattle.species_space.proofs.walk.next_choice.Goals as goal
@@ -20,11 +20,8 @@ returns-then-undead-k-clause-passed c = c.loop-k.invariant.passed
 
 pub next_that_follows-k-requires-in-loop-k-clause-within : goal.next_that_follows-k-requires-in-loop-k-clause-within
 next_that_follows-k-requires-in-loop-k-clause-within c =
-    omega (
-      arith,
-      c.undead_from-undead.ensures,
-      c.requires.bounded c.loop-k.k (omega (arith, c.loop-k-test.true, c.len.ensures, c.requires.counted)),
-    )
+    let later = c.undead_from-undead.ensures c.if-undead-k.false in
+    omega (arith, later.1, c.requires.bounded c.loop-k.k later.0)
 
 pub loop-k-smaller : goal.loop-k-smaller
 loop-k-smaller c =
@@ -42,8 +39,7 @@ loop-k-preserved c =
     let k = c.loop-k.k in
     let next = c.next_that_follows-k-in-loop-k.ensures in
     let to = c.next_that_follows-k-in-loop-k.result in
-    let there : k < length c.args.menu.now.undead.now = omega
-    (arith, c.loop-k-test.true, c.len.ensures, c.requires.counted) in
+    let later = c.undead_from-undead.ensures c.if-undead-k.false in
     record {
       onward = omega (arith, c.loop-k.invariant.onward, c.if-undead-k.false, next.onward);
       within = next.within;
@@ -51,7 +47,7 @@ loop-k-preserved c =
           let P : ℕ → Type 0 = λ j. StraysOrDies ex i c.args.before.now (slice_index_or menu j []) in
           passed_on P c.args.from k to (c.loop-k.invariant.passed ex i skip)
           (passed_on P k c.undead_from-undead.result to
-          (λ j le lt follows. skip.dead k there j le (omega (arith, lt, c.undead_from-undead.ensures)))
+          (λ j le lt follows. skip.dead k later.0 j le (omega (arith, lt, later.1)))
           (λ j le lt follows. absurd (next.passed j le lt follows)));
     }
 

@@ -23,7 +23,6 @@ returns c =
     record {
       columns = columns;
       cut = subst (λ cols. AreBlocksOf cols menu.blocks) (sym columns) known.blocks;
-      counted = ap length undead ∙ known.counted ∙ ap length (sym columns);
       skip = subst (λ cols. SkipDead ex i cols c.as_slice.result.now) (sym columns)
           (subst (SkipDead ex i (menu_of ex i)) (sym undead) known.skip);
     }
