@@ -24,8 +24,8 @@ pub(crate) struct Blocks {
 #[derive(Drop)]
 pub(crate) struct BlockMenu {
     pub(crate) blocks: Blocks,
-    /// For each column the number of the first one, from it on, that isn't dead after every prefix. It is left out where it is the
-    /// column's own.
+    /// For each column the number of the first one, from it on, that isn't dead after every prefix. A column that has none here is its
+    /// own.
     pub(crate) undead: Vec<u16>,
 }
 
