@@ -8,6 +8,7 @@ use Rattle.std.proofs.lemmas.List.{append_cancel_left, append_cancel_right, leng
 use Rattle.fux_grid.specs.declared.exercise.Exercise.{Exercise}
 use Rattle.fux_grid.specs.Exercises.{IsValid}
 use Rattle.fux_grid.specs.Grid.{Grid}
+use Rattle.fux_text.specs.declared.fault.TextKind.{TextKind}
 use Rattle.text_lines.specs.Faults.{Fault}
 use Rattle.fux_text.specs.Reading.{setting_alone}
 use Rattle.fux_text.specs.Texts.{AreSingLinesOf}
@@ -26,7 +27,7 @@ use Rattle.cert_text.proofs.SungScores.{written-are_items}
 
 -- ---- one head
 
-one_read : (read : Result Grid Fault) (s t : Grid) → read ≡ Ok s → read ≡ Ok t → s ≡ t
+one_read : (read : Result Grid (Fault TextKind)) (s t : Grid) → read ≡ Ok s → read ≡ Ok t → s ≡ t
 one_read read s t e f = cc
 
 -- lines are those of one setting

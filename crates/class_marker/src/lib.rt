@@ -11,4 +11,4 @@ pub use class::{ClassReport, report};
 pub use list::{ListFault, read_list};
 pub use marking::{MarkLines, lines_of, mark};
 pub use one::{Marking, Text, mark_text, report_one};
-pub use unmarked::{Unmarked, put_text_fault, put_unmarked};
+pub use unmarked::{Unmarked, put_unmarked};

@@ -12,7 +12,8 @@ use Rattle.fux_run.specs.declared.status.Status.{Status}
 use Rattle.penalty_sheet.specs.Sheets as sheets
 use Rattle.smf_score.specs.FaultTexts as midi
 use Rattle.class_marker.specs.declared.unmarked.Unmarked.TheVariants as unmarked
-use Rattle.class_marker.specs.Unmarked.{text_fault, unmarked_text}
+use Rattle.class_marker.specs.Unmarked.{unmarked_text}
+use Rattle.fux_text.specs.Faults.{text_fault}
 use Rattle.fux_run.specs.declared.status.Status.TheVariants as status
 
 -- what is said of a place with so many columns

@@ -3,7 +3,7 @@
 ghost use Rattle.std.specs.Prelude.{◌≡◌, ◌++◌, IfOk, OnOk, string_bytes};
 ghost use Rattle.fux_run.specs.Complaints.{refusal_text, width_text};
 
-use class_marker::{Unmarked, put_text_fault, put_unmarked};
+use class_marker::{Unmarked, put_unmarked};
 use fux_grid::Place;
 use fux_pitch::{Label, Memory};
 use fux_text::TextKind;
@@ -63,7 +63,7 @@ fn put_refusal(text: &mut String, name: &str, refusal: &Refusal) -> Result<(), M
 {
     match refusal {
         Refusal::Text { kind, line, column } => {
-            put_text_fault(text, name, *kind, *line, *column)
+            Ok(write!(text, "{name}:{line}:{column}: {kind}")?)
         }
         Refusal::NoSetting => put_unmarked(text, name, Unmarked::NoSetting),
         Refusal::List { line } => Ok(write!(text, "{name}:{line}: list")?),

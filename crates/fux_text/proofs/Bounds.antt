@@ -3,7 +3,7 @@ use Rattle.std.proofs.Common.{◌≡◌, ◌≢◌, ℕ, ◌-◌, ◌≤◌, Boo
 use Rattle.std.specs.Prelude.{◌==◌, ◌&&◌, nat_le, if◌then◌else◌}
 use Rattle.std.specs.Option.{option_and_then}
 use Rattle.std.proofs.lemmas.Bool.{leb-true}
-use Rattle.text_lines.specs.declared.fault.TextKind.{TextKind}
+use Rattle.fux_text.specs.declared.fault.TextKind.{TextKind}
 use Rattle.text_lines.specs.Numbers.{if_within, number_of, number_within}
 use Rattle.text_lines.specs.Rows.{Stands, number_place}
 use Rattle.text_lines.specs.Words.{LineWords}

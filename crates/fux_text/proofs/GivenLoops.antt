@@ -2,7 +2,7 @@
 use Rattle.std.proofs.Common.{◌≡◌, ◌≢◌, ℕ, List, length, Ok, Err, refl}
 use Rattle.std.proofs.lemmas.Bool.{eq-eqb, ne_eqb}
 use Rattle.fux_grid.specs.declared.given.Given.{Given}
-use Rattle.text_lines.specs.declared.fault.TextKind.TheVariants.{Length}
+use Rattle.fux_text.specs.declared.fault.TextKind.TheVariants.{Length}
 use Rattle.fux_text.specs.GivenLines.{end_given}
 
 pub end-filled : (v bar : ℕ) (cells : List Given) → length cells ≡ 8

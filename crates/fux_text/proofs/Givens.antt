@@ -13,7 +13,7 @@ use Rattle.fux_grid.specs.declared.exercise.Exercise.{Exercise}
 use Rattle.fux_grid.specs.declared.given.GivenBar.{GivenBar}
 use Rattle.fux_grid.specs.Exercises.{IsGivenBar}
 use Rattle.fux_grid.specs.Givens.{IsEarlier}
-use Rattle.text_lines.specs.declared.fault.TextKind.TheVariants as kinds
+use Rattle.fux_text.specs.declared.fault.TextKind.TheVariants as kinds
 use Rattle.text_lines.specs.Lines.{TextLines}
 use Rattle.text_lines.specs.Numbers.{number_of, number_within}
 use Rattle.text_lines.specs.Reading.{begins}

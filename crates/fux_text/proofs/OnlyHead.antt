@@ -8,8 +8,8 @@ use Rattle.fux_pitch.specs.declared.mode.Mode.{Mode}
 use Rattle.fux_pitch.specs.declared.pitch.Pitch.{Pitch}
 use Rattle.fux_pitch.specs.Names.{name_of}
 use Rattle.fux_grid.specs.declared.exercise.Exercise.{Exercise}
-use Rattle.text_lines.specs.declared.fault.TextKind.{TextKind}
-use Rattle.text_lines.specs.declared.fault.TextKind.TheVariants as kinds
+use Rattle.fux_text.specs.declared.fault.TextKind.{TextKind}
+use Rattle.fux_text.specs.declared.fault.TextKind.TheVariants as kinds
 use Rattle.text_lines.specs.Lines.{TextLines}
 use Rattle.text_lines.specs.Numbers.{number_within}
 use Rattle.text_lines.specs.Rows.{IsRow}

@@ -6,8 +6,8 @@ use Rattle.std.specs.Fmt.{decimal}
 use Rattle.std.proofs.lemmas.Bool.{eqb-true, not-false}
 use Rattle.std.proofs.lemmas.List.{length-replicate}
 use Rattle.fux_grid.specs.declared.cell.Cell.{Cell}
-use Rattle.text_lines.specs.declared.fault.TextKind.{TextKind}
-use Rattle.text_lines.specs.declared.fault.TextKind.TheVariants as kinds
+use Rattle.fux_text.specs.declared.fault.TextKind.{TextKind}
+use Rattle.fux_text.specs.declared.fault.TextKind.TheVariants as kinds
 use Rattle.text_lines.specs.Lines.{TextLines}
 use Rattle.text_lines.specs.Numbers.{number_of, number_within}
 use Rattle.text_lines.specs.Rows.{IsRun, refused_if, run_in}

@@ -13,7 +13,7 @@ use Rattle.text_lines.proofs.TextLemmas.{text-right}
 use Rattle.fux_text.specs.Fitting.{any_cells, line_fits}
 use Rattle.fux_text.specs.Grammar.{AreGivenLines, AreSettingLines, IsNoteText, IsVersionFor, Sings}
 use Rattle.fux_text.specs.Lines.{cantus_words, head_lines, lines_before_given, range_words, relax_words, version_words}
-use Rattle.fux_text.specs.Reading.{exercise_in, note_table, setting_alone}
+use Rattle.fux_text.specs.Reading.{exercise_in, note_format, note_table, setting_alone}
 use Rattle.fux_text.specs.Sing.{sung_table}
 use Rattle.fux_text.specs.Words.{words_in}
 use Rattle.fux_text.proofs.Givens.{givens-read, givens-version}
@@ -95,7 +95,7 @@ lines-only text ex rest
 pub note_text-only : (bytes : List ℕ) (ex : Exercise) → exercise_in bytes ≡ Ok ex → IsNoteText bytes ex
 unfolding exercise_in
 note_text-only bytes ex e =
-    let r = text-right note_table bytes ex e in
+    let r = text-right (note_format note_table) bytes ex e in
     let l = lines-only (lines_in bytes) ex r.rest r.lines in
     record {
       short = r.short;
@@ -115,7 +115,7 @@ pub setting_lines-only : (ex : Exercise) (bytes : List ℕ) (score : Grid) → I
     → AreSettingLines ex bytes score
 unfolding setting_alone
 setting_lines-only ex bytes score valid e =
-    let r = text-right (sung_table any_cells ex) bytes score e in
+    let r = text-right (note_format (sung_table any_cells ex)) bytes score e in
     record {
       short = r.short;
       utf8 = r.utf8;

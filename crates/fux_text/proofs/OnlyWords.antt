@@ -11,8 +11,8 @@ use Rattle.fux_pitch.specs.declared.mode.Mode.{Mode}
 use Rattle.fux_pitch.specs.declared.pitch.Pitch.{Pitch}
 use Rattle.fux_pitch.specs.Names.{name_of}
 use Rattle.fux_grid.specs.declared.exercise.VoiceSet.{VoiceSet}
-use Rattle.text_lines.specs.declared.fault.TextKind.{TextKind}
-use Rattle.text_lines.specs.declared.fault.TextKind.TheVariants as kinds
+use Rattle.fux_text.specs.declared.fault.TextKind.{TextKind}
+use Rattle.fux_text.specs.declared.fault.TextKind.TheVariants as kinds
 use Rattle.text_lines.specs.Lines.{TextLines, first_line, first_line_of}
 use Rattle.text_lines.specs.Numbers.{digits_after, if_within, is_digit, number_of, number_within}
 use Rattle.text_lines.specs.Reading.{same_text}
@@ -172,7 +172,7 @@ set-only voices text o e = by (same_text (voices_word None) text) refl e
 
 -- ---- words and lines
 
-pub stands-words : {V : Type 0} (p : Place V) (x : V) (at rest : LineWords) (s : Stands p x at rest)
+pub stands-words : {V : Type 0} (p : Place TextKind V) (x : V) (at rest : LineWords) (s : Stands p x at rest)
     → texts at ≡ s.word.text ∷ texts rest
 stands-words p x at rest s = by at.words refl s.next
   where
@@ -254,14 +254,15 @@ no-lines text e = by text.lines refl e
     by (l ∷ lines) f e = absurd (grind (arith, e))
 
 -- a right line of a name has that name, and the words behind it
-pub line-words : {V : Type 0} (name : List ℕ) (row : Row V) (text : TextLines) (x : V) (rest : TextLines)
+pub line-words : {V : Type 0} (name : List ℕ) (row : Row TextKind V) (text : TextLines) (x : V) (rest : TextLines)
     (l : IsLine name row text x rest) → line_texts text ≡ (name ∷ texts l.words) ∷ line_texts rest
 line-words name row text x rest l =
     next-lines text rest l.begins.line l.begins.next
-    ∙ ap (λ ws. ws ∷ line_texts rest) (word-words kinds.Head name l.begins.line l.words l.begins.first)
+    ∙ ap (λ ws. ws ∷ line_texts rest) (word-words kinds.Head name l.begins.line l.words
+    (record { word = l.begins.word; next = l.begins.first; right = rw l.begins.same refl }))
 
 -- lines of a name, where the words of each are written so
-pub many-words : {V : Type 0} (m : Many V) (write : V → List (List ℕ))
+pub many-words : {V : Type 0} (m : Many TextKind V) (write : V → List (List ℕ))
     → ((before : List V) (at : LineWords) (x : V) → IsRow (m.row before) at x → m.name ∷ texts at ≡ write x)
     → (before xs : List V) (text rest : TextLines) → AreMany m before xs text rest
     → line_texts text ≡ map write xs ++ line_texts rest

@@ -15,7 +15,7 @@ use Rattle.fux_grid.specs.declared.cell.Cell.TheVariants.{Rest}
 use Rattle.fux_grid.specs.Cells.{cell_in}
 use Rattle.fux_grid.specs.Columns.{line}
 use Rattle.fux_grid.specs.Letters.{bar_columns}
-use Rattle.text_lines.specs.declared.fault.TextKind.TheVariants as kinds
+use Rattle.fux_text.specs.declared.fault.TextKind.TheVariants as kinds
 use Rattle.text_lines.specs.Reading.{headed, literal, next}
 use Rattle.text_lines.specs.Rows.{IsRun, row_in}
 use Rattle.text_lines.specs.Tables.{line_in}
@@ -106,7 +106,7 @@ run-own count (items ∷ bars) some last whole f =
 words-read : (fit : List Cell → Bool) (count v : ℕ) (words : List (List ℕ)) (cells : List Cell) (after : ℕ) (l : LineWords)
     (others : List LineWords)
     → v ≤ 9999999 → IsRun (sung_run count) (0, []) words cells → fit cells ≡ true
-    → line_in kinds.Sing (codes "sing") (sing_row fit count v)
+    → line_in kinds.Sing kinds.Head (codes "sing") (sing_row fit count v)
     (with_line after l (codes "sing" ∷ decimal v ∷ words) others)
     ≡ Ok (cells, left after others)
 unfolding line_in row_in headed literal next
@@ -124,10 +124,10 @@ words-read fit count v words cells after l others few run fits =
 pub sing_line-own : (fit : List Cell → Bool) (count v : ℕ) (words : List (List ℕ)) (cells : List Cell) (after : ℕ)
     (l : LineWords) (others : List LineWords)
     → v ≤ 9999999 → IsSung count v words cells → fit cells ≡ true
-    → line_in kinds.Sing (codes "sing") (sing_row fit count v) (with_line after l words others)
+    → line_in kinds.Sing kinds.Head (codes "sing") (sing_row fit count v) (with_line after l words others)
     ≡ Ok (cells, left after others)
 sing_line-own fit count v words cells after l others few s fits =
-    ap (λ ws. line_in kinds.Sing (codes "sing") (sing_row fit count v) (with_line after l ws others)) s.written
+    ap (λ ws. line_in kinds.Sing kinds.Head (codes "sing") (sing_row fit count v) (with_line after l ws others)) s.written
     ∙ words-read fit count v s.items cells after l others few s.run fits
 
 -- bars one after the other

@@ -12,7 +12,7 @@ use Rattle.fux_grid.specs.declared.exercise.Exercise.{Exercise}
 use Rattle.fux_grid.specs.declared.given.GivenBar.{GivenBar}
 use Rattle.fux_grid.specs.Exercises.{IsGivenBar}
 use Rattle.fux_grid.specs.Givens.{IsEarlier}
-use Rattle.text_lines.specs.declared.fault.TextKind.TheVariants as kinds
+use Rattle.fux_text.specs.declared.fault.TextKind.TheVariants as kinds
 use Rattle.text_lines.specs.Reading.{begins, headed, literal, next}
 use Rattle.text_lines.specs.Rows.{IsRun, row_in}
 use Rattle.text_lines.specs.Tables.{Table, line_in, many_in, table_in}
@@ -62,7 +62,7 @@ line-own : (ex : Exercise) (before : List GivenBar) (line : GivenBar) (words : L
     (others : List LineWords)
     → IsSmall ex → IsGivenBar ex line → comes_behind before line.voice line.bar ≡ true
     → IsRun (given_run line.voice line.bar) [] words line
-    → line_in kinds.Head (codes "given") (given_row ex before)
+    → line_in kinds.Head kinds.Head (codes "given") (given_row ex before)
     (with_line after l (codes "given" ∷ decimal line.voice ∷ decimal line.bar ∷ words) others)
     ≡ Ok (line, left after others)
 unfolding line_in row_in headed literal next
@@ -80,10 +80,10 @@ line-own ex before line words after l others small fits behind run =
 given_line-own : (ex : Exercise) (before : List GivenBar) (line : GivenBar) (words : List (List ℕ)) (after : ℕ)
     (l : LineWords) (others : List LineWords)
     → IsSmall ex → IsGivenBar ex line → comes_behind before line.voice line.bar ≡ true → IsGivenLine words line
-    → line_in kinds.Head (codes "given") (given_row ex before) (with_line after l words others)
+    → line_in kinds.Head kinds.Head (codes "given") (given_row ex before) (with_line after l words others)
     ≡ Ok (line, left after others)
 given_line-own ex before line words after l others small fits behind g =
-    ap (λ ws. line_in kinds.Head (codes "given") (given_row ex before) (with_line after l ws others)) g.written
+    ap (λ ws. line_in kinds.Head kinds.Head (codes "given") (given_row ex before) (with_line after l ws others)) g.written
     ∙ line-own ex before line g.items after l others small fits behind g.run
 
 begins_given : (line : GivenBar) (words : List (List ℕ)) (after : ℕ) (l : LineWords) (others : List LineWords)

@@ -9,8 +9,8 @@ use Rattle.fux_pitch.specs.declared.pitch.Pitch.{Pitch}
 use Rattle.fux_pitch.specs.Names.{name_of}
 use Rattle.fux_grid.specs.declared.exercise.Exercise.{Exercise}
 use Rattle.fux_grid.specs.Exercises.{IsValid}
-use Rattle.text_lines.specs.declared.fault.TextKind.{TextKind}
-use Rattle.text_lines.specs.declared.fault.TextKind.TheVariants as kinds
+use Rattle.fux_text.specs.declared.fault.TextKind.{TextKind}
+use Rattle.fux_text.specs.declared.fault.TextKind.TheVariants as kinds
 use Rattle.text_lines.specs.Reading.{done, headed, literal, next}
 use Rattle.text_lines.specs.Rows.{row_in}
 use Rattle.text_lines.specs.Tables.{line_in, table_in}
@@ -24,14 +24,14 @@ use Rattle.fux_text.proofs.OwnWords.{mode-own, pitch-own}
 use Rattle.fux_text.proofs.Layouts.{at_words, laid, left, lines_at, places_of, with_line}
 
 mode_line-own : (after : ℕ) (l : LineWords) (others : List LineWords) (mode : Mode)
-    → line_in kinds.Head (codes "mode") mode_row (with_line after l (codes "mode" ∷ mode_name mode ∷ []) others) ≡ Ok (mode, left after others)
+    → line_in kinds.Head kinds.Head (codes "mode") mode_row (with_line after l (codes "mode" ∷ mode_name mode ∷ []) others) ≡ Ok (mode, left after others)
 unfolding line_in row_in headed literal next done
 mode_line-own after l others mode = rw (mode-own mode) refl
 
 number_line-own : (name : List ℕ) (kind : TextKind) (after : ℕ) (l : LineWords) (others : List LineWords)
     (least most value : ℕ)
     → value ≤ 9999999 → least ≤ value → value ≤ most
-    → line_in kinds.Head name (number_row kind least most) (with_line after l (name ∷ decimal value ∷ []) others)
+    → line_in kinds.Head kinds.Head name (number_row kind least most) (with_line after l (name ∷ decimal value ∷ []) others)
     ≡ Ok (value, left after others)
 unfolding line_in row_in headed literal next done
 number_line-own name kind after l others least most value few low high =
@@ -40,7 +40,7 @@ number_line-own name kind after l others least most value few low high =
 species_line-own : (after : ℕ) (l : LineWords) (others : List LineWords) (voices species v : ℕ) → species ≤ 9999999
     → v ≤ 9999999
     → 1 ≤ species → species ≤ most_species → v ≤ voices - 1
-    → line_in kinds.Head (codes "species") (species_row voices)
+    → line_in kinds.Head kinds.Head (codes "species") (species_row voices)
     (with_line after l (codes "species" ∷ decimal species ∷ codes "voice" ∷ decimal v ∷ []) others)
     ≡ Ok ((species, v), left after others)
 unfolding line_in row_in headed literal next done
@@ -69,7 +69,7 @@ pitches-own v (p ∷ ps) before line past end place =
 cantus_line-own : (after : ℕ) (l : LineWords) (more : List LineWords) (voices species_voice bars v : ℕ)
     (cantus : List Pitch)
     → v ≤ 9999999 → v < voices → v ≢ species_voice → length cantus ≡ bars
-    → line_in kinds.Head (codes "cantus") (cantus_row voices species_voice bars)
+    → line_in kinds.Head kinds.Head (codes "cantus") (cantus_row voices species_voice bars)
     (with_line after l (codes "cantus" ∷ decimal v ∷ map name_of cantus) more)
     ≡ Ok ((v, cantus), left after more)
 unfolding line_in row_in headed literal next
@@ -77,7 +77,7 @@ cantus_line-own after l more voices species_voice bars v cantus few there differ
     let text = with_line after l (codes "cantus" ∷ decimal v ∷ map name_of cantus) more in
     let place = places_of l.words in
     let ps = pitches-own v cantus [] l.line ((place 1).column + length (decimal v)) l.end (λ k. place (suc (suc k))) in
-    subst (λ count. line_in kinds.Head (codes "cantus") (cantus_row voices species_voice count) text
+    subst (λ count. line_in kinds.Head kinds.Head (codes "cantus") (cantus_row voices species_voice count) text
     ≡ Ok ((v, cantus), left after more)) whole
     (rw (other_voice-own species_voice voices v few there differs, ps) refl)
 

@@ -14,7 +14,7 @@ use Rattle.fux_pitch.specs.Pitch.{key_of}
 use Rattle.fux_grid.specs.declared.exercise.Exercise.{Exercise}
 use Rattle.fux_grid.specs.declared.exercise.RangeLine.{RangeLine}
 use Rattle.fux_grid.specs.Exercises.{BeginsWithWhole, IsFree, IsRangeLine, range_lines}
-use Rattle.text_lines.specs.declared.fault.TextKind.TheVariants as kinds
+use Rattle.fux_text.specs.declared.fault.TextKind.TheVariants as kinds
 use Rattle.text_lines.specs.Reading.{begins, done, headed, literal, next}
 use Rattle.text_lines.specs.Rows.{row_in}
 use Rattle.text_lines.specs.Tables.{line_in, many_in, table_in}
@@ -126,7 +126,7 @@ range_in-own ex before r line past end place small behind = by r.bars refl
 
 range_line-own : (ex : Exercise) (before : List RangeLine) (r : RangeLine) (after : ℕ) (l : LineWords)
     (others : List LineWords) → IsSmall ex
-    → FitsBehind ex before r → line_in kinds.Head (codes "range") (range_row ex before) (with_line after l (range_words r) others)
+    → FitsBehind ex before r → line_in kinds.Head kinds.Head (codes "range") (range_row ex before) (with_line after l (range_words r) others)
     ≡ Ok (r, left after others)
 unfolding line_in headed literal next
 range_line-own ex before r after l others small behind =

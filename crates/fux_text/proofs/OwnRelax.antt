@@ -7,7 +7,7 @@ use Rattle.std.proofs.lemmas.List.{append-nil}
 use Rattle.fux_grid.specs.declared.exercise.Exercise.{Exercise}
 use Rattle.fux_grid.specs.declared.exercise.Relax.{Relax}
 use Rattle.fux_grid.specs.Exercises.{IsRelax}
-use Rattle.text_lines.specs.declared.fault.TextKind.TheVariants as kinds
+use Rattle.fux_text.specs.declared.fault.TextKind.TheVariants as kinds
 use Rattle.text_lines.specs.Reading.{begins, done, headed, literal, next}
 use Rattle.text_lines.specs.Rows.{row_in}
 use Rattle.text_lines.specs.Tables.{Table, line_in, many_in, table_in}
@@ -37,7 +37,7 @@ relax_in-own ex r line past end place some small fits =
 
 relax_line-own : (ex : Exercise) (r : Relax) (after : ℕ) (l : LineWords) (others : List LineWords) → 1 ≤ ex.voices
     → IsSmall ex → IsRelax ex r
-    → line_in kinds.Head (codes "relax") (relax_row ex) (with_line after l (relax_words r) others) ≡ Ok (r, left after others)
+    → line_in kinds.Head kinds.Head (codes "relax") (relax_row ex) (with_line after l (relax_words r) others) ≡ Ok (r, left after others)
 unfolding line_in headed literal next
 relax_line-own ex r after l others some small fits =
     let place = places_of l.words in

@@ -24,6 +24,7 @@ use Rattle.fux_text.specs.Head.{version_table}
 use Rattle.fux_text.specs.Limits.{newest_version}
 use Rattle.fux_text.specs.Lines.{cantus_words, exercise_lines, exercise_text, free_voices, given_words, head_lines, lines_before_given, note_text, range_words, relax_words, setting_text, sing_text, sing_words, version_of, version_words, voices_word}
 use Rattle.fux_text.specs.ReadBack.{NoteTextReadsBack, SingLinesReadBack, sing_lines}
+use Rattle.fux_text.specs.declared.fault.TextKind.TheVariants as kinds
 use Rattle.fux_text.specs.Reading.{exercise_in, setting_alone}
 use Rattle.fux_text.specs.Texts.{AreSingLinesOf, IsTextOf}
 use Rattle.fux_text.specs.Words.{text_line, text_of, words_in}
@@ -197,10 +198,10 @@ givens-head ex fit = λ k d lt.
 
 -- a text is read as the words of its lines
 text_in-words : (bytes : List ℕ) (ls : List (List (List ℕ))) → length bytes ≤ 65536 → IsUtf8 bytes → words_in bytes ≡ ls
-    → text_in bytes ≡ Ok (left (1 + length (lines bytes)) (lines_at (layout_of (lines_from 1 bytes)) ls))
+    → text_in kinds.TooLong kinds.NotUtf8 bytes ≡ Ok (left (1 + length (lines bytes)) (lines_at (layout_of (lines_from 1 bytes)) ls))
 unfolding words_in
 text_in-words bytes ls short utf8 words =
-    text_in-ok bytes short utf8
+    text_in-ok kinds.TooLong kinds.NotUtf8 bytes short utf8
     ∙ ap (λ found. Ok (left (1 + length (lines bytes)) found)) (sym (lines-laid (lines_from 1 bytes)))
     ∙ ap (λ found. Ok (left (1 + length (lines bytes)) (lines_at (layout_of (lines_from 1 bytes)) found))) words
 

@@ -8,7 +8,7 @@ use Rattle.fux_grid.specs.declared.given.GivenBar.{GivenBar}
 use Rattle.fux_grid.specs.Grid.{Grid}
 use Rattle.text_lines.specs.declared.fault.TextFault.{TextFault}
 use Rattle.text_lines.specs.declared.fault.TextFault.TheVariants as faults
-use Rattle.text_lines.specs.declared.fault.TextKind.TheVariants as kinds
+use Rattle.fux_text.specs.declared.fault.TextKind.TheVariants as kinds
 use Rattle.text_lines.specs.Faults.{Fails, Fault, ◌>>=◌}
 use Rattle.text_lines.specs.Lines.{TextLines}
 use Rattle.text_lines.specs.Tables.{line_in, many_in, table_in, text_read}
@@ -22,6 +22,7 @@ use Rattle.fux_text.specs.Ranges.{ranges_table}
 use Rattle.fux_text.specs.Reading.{exercise_in}
 use Rattle.fux_text.specs.Relaxing.{relax_lines_of}
 use Rattle.fux_text.specs.Sing.{setting_table}
+use Rattle.fux_text.specs.declared.fault.TextKind.{TextKind}
 
 -- what is read of the lines before a setting, and those that are left behind each
 pub record AreReadBefore (bytes : List ℕ) (version : ℕ) (head : Exercise) (ranges : List RangeLine) (relax : List Relax)
@@ -31,8 +32,8 @@ pub record AreReadBefore (bytes : List ℕ) (version : ℕ) (head : Exercise) (r
   pub behind_head : TextLines
   pub behind_ranges : TextLines
   pub behind_relax : TextLines
-  pub text : text_in bytes ≡ Ok all
-  pub version_line : line_in kinds.Head (codes "fux") (number_row kinds.Word 1 newest_version) all
+  pub text : text_in kinds.TooLong kinds.NotUtf8 bytes ≡ Ok all
+  pub version_line : line_in kinds.Head kinds.Head (codes "fux") (number_row kinds.Word 1 newest_version) all
       ≡ Ok (version, behind_version)
   pub head_lines : table_in head_table behind_version ≡ Ok (head, behind_head)
   pub range_lines : table_in (ranges_table head) behind_head ≡ Ok (ranges, behind_ranges)
@@ -40,13 +41,13 @@ pub record AreReadBefore (bytes : List ℕ) (version : ℕ) (head : Exercise) (r
   pub given_lines : many_in (given_lines_of version head) [] behind_relax.after behind_relax.lines ≡ Ok (given, left)
 
 -- the exercise with its setting
-abbrev with_setting : Exercise → List RangeLine → List Relax → List GivenBar → Result (Option Grid × TextLines) Fault
-    → Result Exercise Fault
+abbrev with_setting : Exercise → List RangeLine → List Relax → List GivenBar → Result (Option Grid × TextLines) (Fault TextKind)
+    → Result Exercise (Fault TextKind)
 with_setting head ranges relax given read =
     read >>= λ x. Ok (record head { ranges = ranges; relax = relax; given = given; setting = x.0 })
 
 setting-last : (bytes : List ℕ) (version : ℕ) (head : Exercise) (ranges : List RangeLine) (relax : List Relax)
-    (given : List GivenBar) (left : TextLines) (read : Result (Option Grid × TextLines) Fault)
+    (given : List GivenBar) (left : TextLines) (read : Result (Option Grid × TextLines) (Fault TextKind))
     → AreReadBefore bytes version head ranges relax given left
     → table_in (setting_table (line_fits (record head { given = given })) head) left ≡ read
     → exercise_in bytes ≡ with_setting head ranges relax given read
@@ -54,16 +55,16 @@ unfolding exercise_in text_read table_in
 setting-last bytes version head ranges relax given left read r e =
     rw (r.text, r.version_line, r.head_lines, r.range_lines, r.relax_lines, r.given_lines, e) (by read)
   where
-    whole : Option Grid × TextLines → Result (Exercise × TextLines) Fault
+    whole : Option Grid × TextLines → Result (Exercise × TextLines) (Fault TextKind)
     whole s = Ok (record head { ranges = ranges; relax = relax; given = given; setting = s.0 }, s.1)
 
-    by : (read : Result (Option Grid × TextLines) Fault) → ((read >>= λ s. whole s) >>= λ x. Ok x.0)
+    by : (read : Result (Option Grid × TextLines) (Fault TextKind)) → ((read >>= λ s. whole s) >>= λ x. Ok x.0)
         ≡ with_setting head ranges relax given read
     by (Ok x) = refl
     by (Err f) = refl
 
 -- what is asked of a setting of the exercise with these bars
-abbrev setting_read : Exercise → List GivenBar → TextLines → Result (Option Grid × TextLines) Fault
+abbrev setting_read : Exercise → List GivenBar → TextLines → Result (Option Grid × TextLines) (Fault TextKind)
 setting_read head given left =
     table_in (setting_table (asks asked.Fitting (record head { given = given })) (record head { given = given })) left
 
@@ -76,12 +77,12 @@ read-setting bytes version head ranges relax given list left rest o r same e =
     setting-last bytes version head ranges relax given left (Ok (o, rest)) r
     (subst (λ bars. setting_read head bars left ≡ Ok (o, rest)) same e)
 
-pub fail-setting : (fault : TextFault) (bytes : List ℕ) (version : ℕ) (head : Exercise) (ranges : List RangeLine)
+pub fail-setting : (fault : TextFault TextKind) (bytes : List ℕ) (version : ℕ) (head : Exercise) (ranges : List RangeLine)
     (relax : List Relax) (given list : List GivenBar) (left : TextLines)
     → AreReadBefore bytes version head ranges relax given left → list ≡ given → Fails fault (setting_read head list left)
     → Fails fault (exercise_in bytes)
 fail-setting faults.Memory bytes version head ranges relax given list left r same e = tt
 fail-setting (faults.At kind line column) bytes version head ranges relax given list left r same e =
-    let f : Fault = record { kind = kind; line = line; column = column } in
+    let f : Fault TextKind = record { kind = kind; line = line; column = column } in
     setting-last bytes version head ranges relax given left (Err f) r
     (subst (λ bars. setting_read head bars left ≡ Err f) same e)

@@ -9,7 +9,7 @@ use Rattle.fux_grid.specs.declared.exercise.Exercise.{Exercise}
 use Rattle.fux_grid.specs.declared.exercise.Relax.{Relax}
 use Rattle.fux_grid.specs.declared.exercise.VoiceSet.{VoiceSet}
 use Rattle.fux_grid.specs.Exercises.{IsRelax}
-use Rattle.text_lines.specs.declared.fault.TextKind.TheVariants as kinds
+use Rattle.fux_text.specs.declared.fault.TextKind.TheVariants as kinds
 use Rattle.text_lines.specs.Lines.{TextLines}
 use Rattle.text_lines.specs.Numbers.{number_of, number_within}
 use Rattle.text_lines.specs.Reading.{begins, same_text}

@@ -11,7 +11,7 @@ use Rattle.text_lines.specs.Lines.{TextLines, lines_in}
 use Rattle.text_lines.specs.Tables.{IsTable}
 use Rattle.text_lines.proofs.TextLemmas.{text-right}
 use Rattle.fux_text.specs.Fitting.{any_cells, line_fits}
-use Rattle.fux_text.specs.Reading.{exercise_in, note_table, setting_alone}
+use Rattle.fux_text.specs.Reading.{exercise_in, note_format, note_table, setting_alone}
 use Rattle.fux_text.specs.Sing.{sung_table}
 use Rattle.fux_text.proofs.Fits.{fits-whole, score-fits}
 use Rattle.fux_text.proofs.Givens.{AreGivens, givens-read}
@@ -104,7 +104,7 @@ all-valid head ranges relax given setting h r l g s f = record {
 pub exercise-valid : (bytes : List ℕ) (ex : Exercise) → exercise_in bytes ≡ Ok ex → IsValid ex
 unfolding exercise_in
 exercise-valid bytes ex e =
-    let r = text-right note_table bytes ex e in
+    let r = text-right (note_format note_table) bytes ex e in
     valid (lines_in bytes) r.rest r.lines
   where
     valid : (text rest : TextLines) → IsTable note_table text ex rest → IsValid ex
@@ -121,5 +121,5 @@ pub alone-valid : (ex : Exercise) (bytes : List ℕ) (score : Grid) → IsValid 
     → IsGiven ex score
 unfolding setting_alone
 alone-valid ex bytes score valid e =
-    let r = text-right (sung_table any_cells ex) bytes score e in
+    let r = text-right (note_format (sung_table any_cells ex)) bytes score e in
     sung-valid any_cells ex (lines_in bytes) score r.rest valid.cantus_there valid.whole_cantus r.lines

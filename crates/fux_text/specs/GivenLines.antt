@@ -6,8 +6,8 @@ use Rattle.fux_grid.specs.declared.exercise.Exercise.{Exercise}
 use Rattle.fux_grid.specs.declared.given.Given.{Given}
 use Rattle.fux_grid.specs.declared.given.Given.TheVariants.{Blank, Rest, Tied, Hold, Start}
 use Rattle.fux_grid.specs.declared.given.GivenBar.{GivenBar}
-use Rattle.text_lines.specs.declared.fault.TextKind.{TextKind}
-use Rattle.text_lines.specs.declared.fault.TextKind.TheVariants as kinds
+use Rattle.fux_text.specs.declared.fault.TextKind.{TextKind}
+use Rattle.fux_text.specs.declared.fault.TextKind.TheVariants as kinds
 use Rattle.text_lines.specs.Faults.{◌>>=◌}
 use Rattle.text_lines.specs.Numbers.{if_within, number_within}
 use Rattle.text_lines.specs.Reading.{same_text}
@@ -76,7 +76,7 @@ end_given v bar cells = do
   Ok (record { voice = v; bar = bar; cells = cells })
 
 -- the items of a bar
-abbrev pub given_run : ℕ → ℕ → Run (List Given) GivenBar
+abbrev pub given_run : ℕ → ℕ → Run TextKind (List Given) GivenBar
 given_run v bar = record { word = word_given; end = end_given v bar }
 
 -- each of these lines is of a lower voice, or of an earlier bar of this one
@@ -92,13 +92,13 @@ abbrev pub later_bar : List GivenBar → ℕ → ℕ → List ℕ → Option ℕ
 later_bar before bars v text = option_and_then (if_behind before v) (number_within 1 bars text)
 
 -- `given V BAR ITEMS`, where these lines stand before: V is a free voice, and BAR a bar that comes behind theirs
-abbrev pub given_row : Exercise → List GivenBar → Row GivenBar
+abbrev pub given_row : Exercise → List GivenBar → Row TextKind GivenBar
 given_row ex before =
     Row.place (named_place kinds.Word kinds.Word (other_voice ex.cantus_voice ex.voices)) (λ v.
     Row.place (named_place kinds.Word kinds.Word (later_bar before ex.bars v)) (λ bar.
     Row.runs (given_run v bar) []))
 
 -- the `given` lines, in the newest version alone
-abbrev pub given_lines_of : ℕ → Exercise → Many GivenBar
+abbrev pub given_lines_of : ℕ → Exercise → Many TextKind GivenBar
 given_lines_of version ex =
-    record { name = codes "given"; goes = λ before. version == newest_version; row = given_row ex }
+    record { other = kinds.Head; name = codes "given"; goes = λ before. version == newest_version; row = given_row ex }

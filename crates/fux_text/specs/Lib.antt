@@ -1,3 +1,4 @@
+pub mod Faults
 pub mod Fitting
 pub mod GivenItems
 pub mod GivenLines

@@ -5,7 +5,7 @@ use Rattle.fux_grid.specs.declared.exercise.Exercise.{Exercise}
 use Rattle.fux_grid.specs.declared.exercise.VoiceSet.{VoiceSet}
 use Rattle.fux_grid.specs.Exercises.{FitsGiven, IsValid}
 use Rattle.fux_grid.specs.Grid.{Grid}
-use Rattle.text_lines.specs.declared.fault.TextKind.{TextKind}
+use Rattle.fux_text.specs.declared.fault.TextKind.{TextKind}
 use Rattle.fux_text.specs.Grammar.{IsSettingOf}
 use Rattle.fux_text.specs.Lines.{free_voices, note_text, sing_texts, voices_word}
 use Rattle.fux_text.specs.Reading.{exercise_in, setting_alone}

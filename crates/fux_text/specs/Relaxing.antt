@@ -4,13 +4,14 @@ use Rattle.std.specs.List.{range_with_len}
 use Rattle.fux_grid.specs.declared.exercise.Exercise.{Exercise}
 use Rattle.fux_grid.specs.declared.exercise.Relax.{Relax}
 use Rattle.fux_grid.specs.declared.exercise.VoiceSet.{VoiceSet}
-use Rattle.text_lines.specs.declared.fault.TextKind.TheVariants as kinds
+use Rattle.fux_text.specs.declared.fault.TextKind.TheVariants as kinds
 use Rattle.text_lines.specs.Numbers.{number_within}
 use Rattle.text_lines.specs.Reading.{same_text}
 use Rattle.text_lines.specs.Rows.{Row, named_place, number_place}
 use Rattle.text_lines.specs.Tables.{Many}
 use Rattle.fux_text.specs.Lines.{voices_word}
 use Rattle.fux_text.specs.Limits.{most_relax}
+use Rattle.fux_text.specs.declared.fault.TextKind.{TextKind}
 
 -- the rule of a word: an `S` and its number
 abbrev pub rule_named : List ℕ → Option ℕ
@@ -29,7 +30,7 @@ voices_named voices text =
 
 -- `relax RULE VOICES FROM TO PRICE`: a rule from S4 to S26, a set of voices or `all`, bars that don't go down, and a price
 -- of 0 to 10,000; what is wrong or missing is `word`
-abbrev pub relax_row : Exercise → Row Relax
+abbrev pub relax_row : Exercise → Row TextKind Relax
 relax_row ex =
     Row.place (named_place kinds.Word kinds.Word rule_named) (λ rule.
     Row.place (named_place kinds.Word kinds.Word (voices_named ex.voices)) (λ voices.
@@ -39,6 +40,11 @@ relax_row ex =
     Row.ends kinds.Word (record { rule = rule; voices = voices; from = from; to = to; price = price }))))))
 
 -- the relax lines, up to the limit
-abbrev pub relax_lines_of : Exercise → Many Relax
+abbrev pub relax_lines_of : Exercise → Many TextKind Relax
 relax_lines_of ex =
-    record { name = codes "relax"; goes = λ before. nat_lt (length before) most_relax; row = λ before. relax_row ex }
+    record {
+      other = kinds.Head;
+      name = codes "relax";
+      goes = λ before. nat_lt (length before) most_relax;
+      row = λ before. relax_row ex;
+    }

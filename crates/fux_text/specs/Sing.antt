@@ -7,8 +7,8 @@ use Rattle.fux_grid.specs.declared.cell.Cell.TheVariants.{Rest, Hold, Start}
 use Rattle.fux_grid.specs.declared.exercise.Exercise.{Exercise}
 use Rattle.fux_grid.specs.Cells.{pitch_of}
 use Rattle.fux_grid.specs.Grid.{Grid}
-use Rattle.text_lines.specs.declared.fault.TextKind.{TextKind}
-use Rattle.text_lines.specs.declared.fault.TextKind.TheVariants as kinds
+use Rattle.fux_text.specs.declared.fault.TextKind.{TextKind}
+use Rattle.fux_text.specs.declared.fault.TextKind.TheVariants as kinds
 use Rattle.text_lines.specs.Faults.{Fault, ◌>>=◌}
 use Rattle.text_lines.specs.Numbers.{if_within, number_of, number_within}
 use Rattle.text_lines.specs.Reading.{same_text}
@@ -96,11 +96,11 @@ ended cells None = Ok cells
 ended cells (Some kind) = Err kind
 
 -- the items and bar lines of so many bars
-abbrev pub sung_run : ℕ → Run (ℕ × List Cell) (List Cell)
+abbrev pub sung_run : ℕ → Run TextKind (ℕ × List Cell) (List Cell)
 sung_run bars = record { word = sung_word bars; end = sung_end bars }
 
 -- right items say other cells than a voice may have
-abbrev pub misfit : (List Cell → Bool) → Result (List Cell) Fault → Bool
+abbrev pub misfit : (List Cell → Bool) → Result (List Cell) (Fault TextKind) → Bool
 misfit fit (Ok cells) = not (fit cells)
 misfit fit (Err fault) = false
 
@@ -109,7 +109,7 @@ abbrev pub sung_voice : Bool → Option ℕ → Result ℕ TextKind
 sung_voice bad None = Err kinds.Sing
 sung_voice bad (Some v) = if bad then Err kinds.Given else Ok v
 
-abbrev pub sung_place : (List Cell → Bool) → ℕ → ℕ → Place ℕ
+abbrev pub sung_place : (List Cell → Bool) → ℕ → ℕ → Place TextKind ℕ
 sung_place fit bars v = record {
   missing = kinds.Sing;
   says = λ behind text.
@@ -117,7 +117,7 @@ sung_place fit bars v = record {
 }
 
 -- `sing V ITEMS`, where V is this voice: its cells, which have to fit
-abbrev pub sing_row : (List Cell → Bool) → ℕ → ℕ → Row (List Cell)
+abbrev pub sing_row : (List Cell → Bool) → ℕ → ℕ → Row TextKind (List Cell)
 sing_row fit bars v = Row.place (sung_place fit bars v) (λ _. Row.runs (sung_run bars) (0, []))
 
 -- which cells each voice may have
@@ -126,27 +126,27 @@ Fit = ℕ → List Cell → Bool
 
 -- the cells of a voice: those of the cantus, or those of its `sing` line, which have to fit, and of which a missing one is
 -- `sing`
-abbrev pub cantus_or_sung : Fit → Exercise → ℕ → Bool → Table (List Cell)
+abbrev pub cantus_or_sung : Fit → Exercise → ℕ → Bool → Table TextKind (List Cell)
 cantus_or_sung fit ex v true = Table.says (cantus_cells ex.cantus)
-cantus_or_sung fit ex v false = Table.line kinds.Sing (codes "sing") (sing_row (fit v) ex.bars v)
+cantus_or_sung fit ex v false = Table.line kinds.Sing kinds.Head (codes "sing") (sing_row (fit v) ex.bars v)
 
-abbrev pub voice_table : Fit → Exercise → ℕ → Table (List Cell)
+abbrev pub voice_table : Fit → Exercise → ℕ → Table TextKind (List Cell)
 voice_table fit ex v = cantus_or_sung fit ex v (v == ex.cantus_voice)
 
 -- the cells of voices behind those before
-abbrev pub voices_table : Fit → Exercise → List ℕ → List (List Cell) → Table (List (List Cell))
+abbrev pub voices_table : Fit → Exercise → List ℕ → List (List Cell) → Table TextKind (List (List Cell))
 voices_table fit ex [] before = Table.says before
 voices_table fit ex (v ∷ vs) before =
     Table.behind (voice_table fit ex v) (λ cells. voices_table fit ex vs (before ++ cells ∷ []))
 
 -- the setting in `sing` lines, with which the text ends
-abbrev pub sung_table : Fit → Exercise → Table Grid
+abbrev pub sung_table : Fit → Exercise → Table TextKind Grid
 sung_table fit ex =
     Table.behind (voices_table fit ex (range_with_len 0 ex.voices) []) (λ lines.
-    Table.behind Table.ends (λ _. Table.says (score_of (8 * ex.bars) lines)))
+    Table.behind (Table.ends kinds.Head) (λ _. Table.says (score_of (8 * ex.bars) lines)))
 
 -- a setting, or none
-abbrev pub setting_table : Fit → Exercise → Table (Option Grid)
+abbrev pub setting_table : Fit → Exercise → Table TextKind (Option Grid)
 setting_table fit ex =
     Table.if_begins (codes "sing") (Table.behind (sung_table fit ex) (λ score. Table.says (Some score)))
-    (Table.behind Table.ends (λ _. Table.says None))
+    (Table.behind (Table.ends kinds.Head) (λ _. Table.says None))

@@ -1,7 +1,7 @@
 //! The `given` lines.
 
 ghost use Rattle.std.specs.Prelude.{◌≡◌, ◌≢◌, ◌≤◌, ◌++◌, [], IfOk, MatchOption, OnOk, codes, string_bytes, length, map};
-ghost use Rattle.text_lines.specs.declared.fault.TextKind.TheVariants.{Head};
+ghost use Rattle.fux_text.specs.declared.fault.TextKind.TheVariants.{Head};
 ghost use Rattle.text_lines.specs.Faults.{Gives};
 ghost use Rattle.text_lines.specs.Lines.{lines_of};
 ghost use Rattle.text_lines.specs.Rows.{Row, row_in, told_at};
@@ -11,6 +11,7 @@ ghost use Rattle.fux_text.specs.GivenLines.{comes_behind, given_cells, given_hel
 ghost use Rattle.fux_text.specs.Lines.{given_words, version_of};
 ghost use Rattle.fux_text.specs.Words.{text_line, text_of};
 
+use crate::fault::{TextFault, TextKind};
 use crate::head::other_voice;
 use crate::item_words::ItemName;
 use crate::items::put_items;
@@ -20,7 +21,7 @@ use fux_grid::{Exercise, Given, GivenBar};
 use fux_pitch::Memory;
 use std::alloc::{AllocError, Global};
 use std::fmt::Write;
-use text_lines::{Lines, TextFault, TextKind, Word, Words, is_same, parse_within};
+use text_lines::{Lines, Word, Words, is_same, parse_within};
 
 /// What the first cell of an item of this name gives.
 #[tactic(auto, unfolding(crate::specs::GivenLines::given_named))]
@@ -161,9 +162,9 @@ fn given_line<'a>(
     before: &[GivenBar],
 ) -> Result<(GivenBar, Lines<'a>), TextFault>
     ensures { Gives (λ x. (x.0, lines_of x.1)) result
-        (line_in Head (codes "given") (given_row ex.now before.now) (lines_of text.entry)) }
+        (line_in Head Head (codes "given") (given_row ex.now before.now) (lines_of text.entry)) }
 {
-    let (words, text) = text.headed(TextKind::Head, b"given")?;
+    let (words, text) = text.headed(TextKind::Head, TextKind::Head, b"given")?;
     let (word, words) = words.next(TextKind::Word)?;
     let Some(voice) = other_voice(word.text, ex.cantus_voice, ex.voices) else {
         return Err(word.fault(TextKind::Word));

@@ -1,7 +1,7 @@
 //! The lines before the ranges.
 
 ghost use Rattle.std.specs.Prelude.{◌≡◌, ◌≤◌, [], IfOk, codes};
-ghost use Rattle.text_lines.specs.declared.fault.TextKind.TheVariants.{Head, Word};
+ghost use Rattle.fux_text.specs.declared.fault.TextKind.TheVariants.{Head, Word};
 ghost use Rattle.text_lines.specs.Faults.{Gives};
 ghost use Rattle.text_lines.specs.Lines.{lines_of};
 ghost use Rattle.text_lines.specs.Rows.{place_in, row_in};
@@ -10,19 +10,20 @@ ghost use Rattle.text_lines.specs.Words.{words_of};
 ghost use Rattle.fux_text.specs.Head.{cantus_row, head_table, mode_row, number_row, other_voice, parts_table, pitch_place, pitches_row, species_row};
 ghost use Rattle.fux_text.specs.Limits.{most_species, most_voices, newest_version};
 
+use crate::fault::{TextFault, TextKind};
 use crate::limits::{MOST_SPECIES, MOST_VOICES, NEWEST_VERSION};
 use crate::names::{parse_mode, parse_pitch};
 use fux_grid::Exercise;
 use fux_pitch::{List, Mode, Pitch};
 use std::alloc::Global;
-use text_lines::{Lines, TextFault, TextKind, Words, parse_within};
+use text_lines::{Lines, Words, parse_within};
 
 /// Reads `mode M`.
 #[tactic(auto, unfolding(text_lines::specs::Tables::line_in, text_lines::specs::Rows::row_in))]
 fn mode_line(text: Lines<'_>) -> Result<(Mode, Lines<'_>), TextFault>
-    ensures { Gives (λ x. (x.0, lines_of x.1)) result (line_in Head (codes "mode") mode_row (lines_of text.entry)) }
+    ensures { Gives (λ x. (x.0, lines_of x.1)) result (line_in Head Head (codes "mode") mode_row (lines_of text.entry)) }
 {
-    let (words, text) = text.headed(TextKind::Head, b"mode")?;
+    let (words, text) = text.headed(TextKind::Head, TextKind::Head, b"mode")?;
     let (word, words) = words.next(TextKind::Word)?;
     let Some(mode) = parse_mode(word.text) else {
         return Err(word.fault(TextKind::Word));
@@ -40,11 +41,11 @@ fn number_line<'a>(
     least: u8,
     most: u8,
 ) -> Result<(u8, Lines<'a>), TextFault>
-    ensures value { Gives (λ x. (x.0, lines_of x.1)) result (line_in Head name.now (number_row kind least most) (lines_of text.entry)) }
+    ensures value { Gives (λ x. (x.0, lines_of x.1)) result (line_in Head Head name.now (number_row kind least most) (lines_of text.entry)) }
     ensures least { IfOk result (λ x. least ≤ x.0) }
     ensures most { IfOk result (λ x. x.0 ≤ most) }
 {
-    let (words, text) = text.headed(TextKind::Head, name)?;
+    let (words, text) = text.headed(TextKind::Head, TextKind::Head, name)?;
     let (number, words) = words.small_number(kind, least, most)?;
     words.done(TextKind::Word)?;
     Ok((number, text))
@@ -52,7 +53,7 @@ fn number_line<'a>(
 
 /// Reads `fux V`: a version up to the newest.
 pub fn version_line(text: Lines<'_>) -> Result<(u8, Lines<'_>), TextFault>
-    ensures { Gives (λ x. (x.0, lines_of x.1)) result (line_in Head (codes "fux") (number_row Word 1 newest_version) (lines_of text.entry)) }
+    ensures { Gives (λ x. (x.0, lines_of x.1)) result (line_in Head Head (codes "fux") (number_row Word 1 newest_version) (lines_of text.entry)) }
 {
     number_line(text, b"fux", TextKind::Word, 1, NEWEST_VERSION)
 }
@@ -60,9 +61,9 @@ pub fn version_line(text: Lines<'_>) -> Result<(u8, Lines<'_>), TextFault>
 /// Reads `species N voice V`.
 #[tactic(auto, unfolding(text_lines::specs::Tables::line_in, text_lines::specs::Rows::row_in, text_lines::specs::Reading::number_in, text_lines::specs::Reading::literal))]
 fn species_line(text: Lines<'_>, voices: u8) -> Result<((u8, u8), Lines<'_>), TextFault>
-    ensures { Gives (λ x. (x.0, lines_of x.1)) result (line_in Head (codes "species") (species_row voices) (lines_of text.entry)) }
+    ensures { Gives (λ x. (x.0, lines_of x.1)) result (line_in Head Head (codes "species") (species_row voices) (lines_of text.entry)) }
 {
-    let (words, text) = text.headed(TextKind::Head, b"species")?;
+    let (words, text) = text.headed(TextKind::Head, TextKind::Head, b"species")?;
     let (species, words) = words.small_number(TextKind::Word, 1, MOST_SPECIES)?;
     let words = words.literal(TextKind::Word, b"voice")?;
     let (voice, words) = words.small_number(TextKind::Word, 0, voices.saturating_sub(1))?;
@@ -122,9 +123,9 @@ fn cantus_line(
     bars: u8,
 ) -> Result<((u8, List<Pitch>), Lines<'_>), TextFault>
     ensures { Gives (λ x. (x.0, lines_of x.1)) result
-        (line_in Head (codes "cantus") (cantus_row voices species_voice bars) (lines_of text.entry)) }
+        (line_in Head Head (codes "cantus") (cantus_row voices species_voice bars) (lines_of text.entry)) }
 {
-    let (words, text) = text.headed(TextKind::Head, b"cantus")?;
+    let (words, text) = text.headed(TextKind::Head, TextKind::Head, b"cantus")?;
     let (word, words) = words.next(TextKind::Cantus)?;
     let Some(voice) = other_voice(word.text, species_voice, voices) else {
         return Err(word.fault(TextKind::Cantus));

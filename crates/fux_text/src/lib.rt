@@ -2,6 +2,7 @@
 #![tactic(auto)]
 
 mod exercise_lines;
+mod fault;
 mod fitting;
 mod given_lines;
 mod head;
@@ -18,8 +19,8 @@ mod setting;
 mod sing;
 mod sing_lines;
 
+pub use fault::{TextFault, TextKind};
 pub use names::{parse_mode, parse_pitch};
 pub use note_text::{sing_line, write};
 pub use read_back::{text_reads_back, texts_are_read, words_read_back};
 pub use reading::{read, read_sing};
-pub use text_lines::{TextFault, TextKind};

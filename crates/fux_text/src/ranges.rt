@@ -1,7 +1,7 @@
 //! The range lines.
 
 ghost use Rattle.std.specs.Prelude.{◌≡◌, [], codes, true};
-ghost use Rattle.text_lines.specs.declared.fault.TextKind.TheVariants.{Head};
+ghost use Rattle.fux_text.specs.declared.fault.TextKind.TheVariants.{Head};
 ghost use Rattle.text_lines.specs.Faults.{Gives};
 ghost use Rattle.text_lines.specs.Lines.{lines_of};
 ghost use Rattle.text_lines.specs.Rows.{place_in, row_in};
@@ -9,12 +9,13 @@ ghost use Rattle.text_lines.specs.Tables.{line_in, many_in, table_in};
 ghost use Rattle.text_lines.specs.Words.{words_of};
 ghost use Rattle.fux_text.specs.Ranges.{all_ranged, bars_row, has_line, high_place, misfits, range_lines_of, range_row, ranges_table, voice_place};
 
+use crate::fault::{TextFault, TextKind};
 use crate::head::{other_voice, pitch_in};
 use crate::names::parse_pitch;
 use fux_grid::{Exercise, RangeLine};
 use fux_pitch::{Pitch, semitone};
 use std::alloc::Global;
-use text_lines::{Lines, TextFault, TextKind, Words};
+use text_lines::{Lines, Words};
 
 /// Whether a voice has a line among these.
 fn has_line(lines: &[RangeLine], v: u8) -> bool
@@ -125,9 +126,9 @@ fn range_line<'a>(
     before: &[RangeLine],
 ) -> Result<(RangeLine, Lines<'a>), TextFault>
     ensures { Gives (λ x. (x.0, lines_of x.1)) result
-        (line_in Head (codes "range") (range_row ex.now before.now) (lines_of text.entry)) }
+        (line_in Head Head (codes "range") (range_row ex.now before.now) (lines_of text.entry)) }
 {
-    let (words, text) = text.headed(TextKind::Head, b"range")?;
+    let (words, text) = text.headed(TextKind::Head, TextKind::Head, b"range")?;
     let line = range_in(words, ex, before)?;
     Ok((line, text))
 }

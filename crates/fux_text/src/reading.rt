@@ -8,6 +8,7 @@ ghost use Rattle.text_lines.specs.Faults.{Gives};
 ghost use Rattle.fux_text.specs.Reading.{exercise_in, setting_alone};
 ghost use Rattle.fux_text.specs.Texts.{AreSingLinesOf, Finds, HasFault, HasSingFault, IsTextOf, TellsEach, TellsOnly};
 
+use crate::fault::{TextFault, TextKind};
 use crate::fitting::Asked;
 use crate::given_lines::given_lines_in;
 use crate::head::{head_in, version_line};
@@ -17,14 +18,14 @@ use crate::setting::{setting_in, sung_score};
 use fux_grid::{Exercise, Score};
 use fux_pitch::List;
 use std::alloc::Global;
-use text_lines::{Lines, TextFault, TextKind};
+use text_lines::Lines;
 
 /// The exercise of a note text.
 #[tactic(auto, unfolding(crate::specs::Reading::exercise_in, text_lines::specs::Tables::text_read, text_lines::specs::Tables::table_in))]
 fn exercise_in(alloc: Global, bytes: &[u8]) -> Result<Exercise, TextFault>
     ensures { Gives (λ x. x) result (exercise_in bytes.now) }
 {
-    let text = Lines::of_text(bytes)?;
+    let text = Lines::of_text(bytes, TextKind::TooLong, TextKind::NotUtf8)?;
     let (version, text) = version_line(text)?;
     let (mut ex, text) = head_in(alloc, text)?;
     let (ranges, text) = ranges_in(alloc, text, &ex)?;
@@ -57,7 +58,7 @@ fn setting_alone(alloc: Global, ex: &Exercise, lines: &[u8]) -> Result<Score, Te
     requires { IsValid ex.now }
     ensures { Gives (λ x. x) result (setting_alone ex.now lines.now) }
 {
-    let text = Lines::of_text(lines)?;
+    let text = Lines::of_text(lines, TextKind::TooLong, TextKind::NotUtf8)?;
     let (score, _) = sung_score(alloc, text, ex, Asked::Nothing)?;
     Ok(score)
 }

@@ -2,7 +2,7 @@
 
 ghost use Rattle.std.specs.Prelude.{◌≡◌, ◌≤◌, ◌-◌, ◌^◌, [], Some, codes, find};
 ghost use Rattle.std.specs.List.{range_with_len};
-ghost use Rattle.text_lines.specs.declared.fault.TextKind.TheVariants.{Head, Word};
+ghost use Rattle.fux_text.specs.declared.fault.TextKind.TheVariants.{Head, Word};
 ghost use Rattle.text_lines.specs.Faults.{Gives};
 ghost use Rattle.text_lines.specs.Lines.{lines_of};
 ghost use Rattle.text_lines.specs.Rows.{named_place, place_in, row_in};
@@ -12,10 +12,11 @@ ghost use Rattle.fux_text.specs.Lines.{voices_word};
 ghost use Rattle.fux_text.specs.Relaxing.{is_set, relax_lines_of, relax_row, rule_named, voices_named};
 
 use crate::exercise_lines::has_voice;
+use crate::fault::{TextFault, TextKind};
 use crate::limits::MOST_RELAX;
 use fux_grid::{Exercise, Relax, VoiceSet};
 use std::alloc::Global;
-use text_lines::{Lines, TextFault, TextKind, Words, is_same, parse_within};
+use text_lines::{Lines, Words, is_same, parse_within};
 
 /// The rule of a word: an `S` and its number.
 fn parse_rule(word: &[u8]) -> Option<u8>
@@ -139,9 +140,9 @@ fn relax_in(words: Words<'_>, ex: &Exercise) -> Result<Relax, TextFault>
 fn relax_line<'a>(text: Lines<'a>, ex: &Exercise) -> Result<(Relax, Lines<'a>), TextFault>
     requires { ex.now.voices ≤ 4 }
     ensures { Gives (λ x. (x.0, lines_of x.1)) result
-        (line_in Head (codes "relax") (relax_row ex.now) (lines_of text.entry)) }
+        (line_in Head Head (codes "relax") (relax_row ex.now) (lines_of text.entry)) }
 {
-    let (words, text) = text.headed(TextKind::Head, b"relax")?;
+    let (words, text) = text.headed(TextKind::Head, TextKind::Head, b"relax")?;
     let line = relax_in(words, ex)?;
     Ok((line, text))
 }

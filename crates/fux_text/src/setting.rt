@@ -9,12 +9,13 @@ ghost use Rattle.fux_text.specs.Fitting.{asks};
 ghost use Rattle.fux_text.specs.Sing.{setting_table, sung_table, voice_table, voices_table};
 ghost use Rattle.voice_lines.specs.Lines.{cantus_cells};
 
+use crate::fault::{TextFault, TextKind};
 use crate::fitting::Asked;
 use crate::sing::{push_item, sing_line_in};
 use fux_grid::{Cell, Exercise, Score};
 use fux_pitch::{List, Pitch};
 use std::alloc::{AllocError, Global};
-use text_lines::{Lines, TextFault};
+use text_lines::Lines;
 use voice_lines::score_of;
 
 /// The cells of the cantus: a whole note in each bar.
@@ -83,7 +84,7 @@ pub fn sung_score<'a>(
     ensures { Gives (λ x. (x.0, lines_of x.1)) result (table_in (sung_table (asks asked ex.now) ex.now) (lines_of text.entry)) }
 {
     let (lines, text) = voices_in(alloc, text, ex, asked)?;
-    text.done()?;
+    text.done(TextKind::Head)?;
     let score = score_of(alloc, &lines, ex.bars)?;
     Ok((score, text))
 }
@@ -103,7 +104,7 @@ pub fn setting_in<'a>(
     ensures { Gives (λ x. (x.0, lines_of x.1)) result (table_in (setting_table (asks asked ex.now) ex.now) (lines_of text.entry)) }
 {
     if !text.begins(b"sing") {
-        text.done()?;
+        text.done(TextKind::Head)?;
         return Ok((None, text));
     }
     let (score, text) = sung_score(alloc, text, ex, asked)?;

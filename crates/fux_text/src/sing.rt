@@ -3,7 +3,7 @@
 ghost use Rattle.std.specs.Prelude.{◌≡◌, ◌≤◌, ◌<◌, ◌+◌, ◌*◌, ◌==◌, ◌++◌, [], IfOk, IfSome, OnOk, List, codes, length, option_map};
 ghost use Rattle.std.specs.List.{after_first, before_first, position, range_with_len};
 ghost use Rattle.fux_grid.specs.declared.cell.Cell.TheVariants.{Rest};
-ghost use Rattle.text_lines.specs.declared.fault.TextKind.TheVariants.{Sing};
+ghost use Rattle.fux_text.specs.declared.fault.TextKind.TheVariants.{Head, Sing};
 ghost use Rattle.text_lines.specs.Faults.{Gives};
 ghost use Rattle.text_lines.specs.Lines.{lines_of};
 ghost use Rattle.text_lines.specs.Rows.{Row, row_in, told_at};
@@ -12,13 +12,14 @@ ghost use Rattle.text_lines.specs.Words.{word_of, words_of};
 ghost use Rattle.fux_text.specs.Fitting.{asks};
 ghost use Rattle.fux_text.specs.Sing.{bar_line_said, ended, first_cell, held, is_colon, is_full, item_cells, item_named, item_parts, item_said, latest, sing_row, sung_end, sung_run, sung_word};
 
+use crate::fault::{TextFault, TextKind};
 use crate::fitting::{Asked, asks};
 use crate::item_words::ItemName;
 use crate::names::parse_pitch;
 use fux_grid::{Cell, Exercise};
 use fux_pitch::{List, Pitch};
 use std::alloc::{AllocError, Global};
-use text_lines::{Lines, TextFault, TextKind, Word, Words, is_same, parse_number, parse_within};
+use text_lines::{Lines, Word, Words, is_same, parse_number, parse_within};
 
 /// The place of the first colon.
 fn colon_in(text: &[u8]) -> Option<usize>
@@ -239,9 +240,9 @@ pub fn sing_line_in<'a>(
 ) -> Result<(List<Cell>, Lines<'a>), TextFault>
     requires { 1 ≤ ex.now.bars }
     ensures { Gives (λ x. (x.0, lines_of x.1)) result
-        (line_in Sing (codes "sing") (sing_row (asks asked ex.now v) ex.now.bars v) (lines_of text.entry)) }
+        (line_in Sing Head (codes "sing") (sing_row (asks asked ex.now v) ex.now.bars v) (lines_of text.entry)) }
 {
-    let (words, text) = text.headed(TextKind::Sing, b"sing")?;
+    let (words, text) = text.headed(TextKind::Sing, TextKind::Head, b"sing")?;
     let cells = voice_sung(alloc, words, ex, v, asked)?;
     Ok((List::new(cells), text))
 }

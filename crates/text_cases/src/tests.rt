@@ -2,30 +2,11 @@
 
 use crate::agree::agree;
 use crate::cases::CASES;
-use fux_text::{TextFault, TextKind, read};
+use fux_text::{TextFault, read};
 use std::alloc::Global;
 use std::fmt::Write;
 use std::str;
 use std::test::Fail;
-
-/// A kind in the words of a refusal.
-fn kind_name(kind: TextKind) -> &'static str {
-    match kind {
-        TextKind::TooLong => "toolong",
-        TextKind::NotUtf8 => "notutf8",
-        TextKind::Head => "head",
-        TextKind::Word => "word",
-        TextKind::Pitch => "pitch",
-        TextKind::Length => "length",
-        TextKind::BarLine => "barline",
-        TextKind::Bars => "bars",
-        TextKind::Range => "range",
-        TextKind::Cantus => "cantus",
-        TextKind::Tie => "tie",
-        TextKind::Sing => "sing",
-        TextKind::Given => "given",
-    }
-}
 
 /// What reading answers, in the words of the cases.
 fn told(alloc: Global, text: &[u8]) -> Result<String, Fail> {
@@ -34,8 +15,7 @@ fn told(alloc: Global, text: &[u8]) -> Result<String, Fail> {
         Ok(_) => told.push_str("ok")?,
         Err(TextFault::Memory) => told.push_str("out of memory")?,
         Err(TextFault::At { kind, line, column }) => {
-            let name = kind_name(kind);
-            write!(told, "{name} {line} {column}")?;
+            write!(told, "{kind} {line} {column}")?;
         }
     }
     Ok(told)

@@ -3,7 +3,6 @@ use Rattle.std.specs.Prelude.{ℕ, ◌+◌, ◌==◌, List, [], ◌∷◌, Optio
 use Rattle.std.specs.Int.{is_in_range}
 use Rattle.std.specs.Str.{is_utf8}
 use Rattle.std.specs.Str.Lossy.{utf8_valid_len, utf8_error_len}
-use Rattle.text_lines.specs.declared.fault.TextKind.TheVariants.{NotUtf8, TooLong}
 use Rattle.text_lines.specs.Faults.{Fault}
 use Rattle.text_lines.specs.Lines.{TextLines, lines_in}
 
@@ -25,20 +24,21 @@ place_behind line column [] = (line, column)
 place_behind line column (b ∷ bs) =
     if b == 10 then place_behind (line + 1) 1 bs else place_behind line (column + 1) bs
 
--- the fault behind the bytes that stand before it
-abbrev pub fault_behind : List ℕ → Fault
-fault_behind before = record {
-  kind = NotUtf8;
+-- the fault of this kind behind the bytes that stand before it
+abbrev pub fault_behind : {K : Type 0} → K → List ℕ → Fault K
+fault_behind kind before = record {
+  kind = kind;
   line = (place_behind 1 1 before).0;
   column = (place_behind 1 1 before).1;
 }
 
 -- the fault of bytes that are no UTF-8
-unfoldable pub fault_of_utf8 : List ℕ → Fault
-fault_of_utf8 bytes = fault_behind (take (begun_text bytes) bytes)
+unfoldable pub fault_of_utf8 : {K : Type 0} → K → List ℕ → Fault K
+fault_of_utf8 kind bytes = fault_behind kind (take (begun_text bytes) bytes)
 
--- the lines of a text: it has at most 65,536 bytes, and they are UTF-8
-unfoldable pub text_in : List ℕ → Result TextLines Fault
-text_in bytes =
-    if nat_lt 65536 (length bytes) then Err (record { kind = TooLong; line = 1; column = 1 })
-    else (if is_utf8 bytes then Ok (lines_in bytes) else Err (fault_of_utf8 bytes))
+-- the lines of a text: it has at most 65,536 bytes, and they are UTF-8. The kinds are of the faults of one that is longer or
+-- isn't
+unfoldable pub text_in : {K : Type 0} → K → K → List ℕ → Result TextLines (Fault K)
+text_in too_long not_utf8 bytes =
+    if nat_lt 65536 (length bytes) then Err (record { kind = too_long; line = 1; column = 1 })
+    else (if is_utf8 bytes then Ok (lines_in bytes) else Err (fault_of_utf8 not_utf8 bytes))

@@ -8,7 +8,7 @@ mod places;
 mod utf8;
 mod words;
 
-pub use fault::{TextFault, TextKind};
+pub use fault::TextFault;
 pub use numbers::{parse_number, parse_within};
 pub use places::{Lines, Word, Words};
 pub use words::is_same;

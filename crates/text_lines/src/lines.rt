@@ -8,7 +8,7 @@ ghost use Rattle.text_lines.specs.Lines.{first_line, is_comment, is_skipped, lin
 ghost use Rattle.text_lines.specs.Reading.{begins, fault_here, headed, no_line};
 ghost use Rattle.text_lines.specs.Words.{is_blank, words_of};
 
-use crate::fault::{TextFault, TextKind};
+use crate::fault::TextFault;
 use crate::places::{Lines, Words};
 use crate::words::{is_blank, is_same};
 
@@ -126,7 +126,7 @@ impl<'a> Lines<'a> {
 
     /// The fault of this kind at the first word of the next line, or where the text ends.
     #[tactic(auto, unfolding(crate::specs::Reading::fault_here))]
-    pub fn fault(self, kind: TextKind) -> TextFault
+    pub fn fault<K: Copy>(self, kind: K) -> TextFault<K>
         ensures { result ≡ told (fault_here kind (lines_of self.entry)) }
     {
         let Some((words, _)) = self.first() else {
@@ -156,33 +156,38 @@ impl<'a> Lines<'a> {
         }
     }
 
-    /// What is left of the next line behind its first word, which has to be this one; where no line is left, the fault is of
-    /// this kind.
+    /// What is left of the next line behind its first word, which has to be this one: the fault is of the first kind where no
+    /// line is left, and of the second where another line stands.
     #[tactic(auto, unfolding(crate::specs::Reading::headed))]
-    pub fn headed(self, kind: TextKind, name: &[u8]) -> Result<(Words<'a>, Lines<'a>), TextFault>
-        ensures { Gives (λ x. (words_of x.0, lines_of x.1)) result (headed kind name.now (lines_of self.entry)) }
+    pub fn headed<K: Copy>(
+        self,
+        missing: K,
+        other: K,
+        name: &[u8],
+    ) -> Result<(Words<'a>, Lines<'a>), TextFault<K>>
+        ensures { Gives (λ x. (words_of x.0, lines_of x.1)) result (headed missing other name.now (lines_of self.entry)) }
     {
         match self.first() {
             None => Err(TextFault::At {
-                kind,
+                kind: missing,
                 line: self.after,
                 column: 1,
             }),
             Some((line, lines)) => {
-                let words = line.literal(TextKind::Head, name)?;
+                let words = line.literal(other, name)?;
                 Ok((words, lines))
             }
         }
     }
 
-    /// Whether no line is left.
+    /// Whether no line is left; a fault is of this kind.
     #[tactic(auto, unfolding(crate::specs::Reading::no_line))]
-    pub fn done(self) -> Result<(), TextFault>
-        ensures { Gives (λ x. x) result (no_line (lines_of self.entry)) }
+    pub fn done<K: Copy>(self, kind: K) -> Result<(), TextFault<K>>
+        ensures { Gives (λ x. x) result (no_line kind (lines_of self.entry)) }
     {
         match self.first() {
             None => Ok(()),
-            Some(_) => Err(self.fault(TextKind::Head)),
+            Some(_) => Err(self.fault(kind)),
         }
     }
 }

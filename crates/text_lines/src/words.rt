@@ -6,7 +6,7 @@ ghost use Rattle.text_lines.specs.Faults.{Gives, told};
 ghost use Rattle.text_lines.specs.Reading.{done, fault_at, fault_beyond, fault_past, literal, next, number_in, same_text};
 ghost use Rattle.text_lines.specs.Words.{first_word, is_blank, word_of, words_from, words_of};
 
-use crate::fault::{TextFault, TextKind};
+use crate::fault::TextFault;
 use crate::numbers::parse_within;
 use crate::places::{Word, Words};
 
@@ -50,7 +50,7 @@ pub fn is_same(text: &[u8], other: &[u8]) -> bool
 
 impl<'a> Word<'a> {
     /// The fault of this kind at the word.
-    pub fn fault(self, kind: TextKind) -> TextFault
+    pub fn fault<K: Copy>(self, kind: K) -> TextFault<K>
         ensures { result ≡ told (fault_at kind (word_of self.entry)) }
     {
         TextFault::At {
@@ -85,7 +85,7 @@ impl<'a> Words<'a> {
     }
 
     /// The fault of this kind where the next word is missing.
-    pub fn fault_past(self, kind: TextKind) -> TextFault
+    pub fn fault_past<K: Copy>(self, kind: K) -> TextFault<K>
         ensures { result ≡ told (fault_past kind (words_of self.entry)) }
     {
         TextFault::At {
@@ -96,7 +96,7 @@ impl<'a> Words<'a> {
     }
 
     /// The fault of this kind at the line's end.
-    pub fn fault_beyond(self, kind: TextKind) -> TextFault
+    pub fn fault_beyond<K: Copy>(self, kind: K) -> TextFault<K>
         ensures { result ≡ told (fault_beyond kind (words_of self.entry)) }
     {
         TextFault::At {
@@ -108,7 +108,7 @@ impl<'a> Words<'a> {
 
     /// The next word, which has to be there.
     #[tactic(auto, unfolding(crate::specs::Reading::next))]
-    pub fn next(self, kind: TextKind) -> Result<(Word<'a>, Words<'a>), TextFault>
+    pub fn next<K: Copy>(self, kind: K) -> Result<(Word<'a>, Words<'a>), TextFault<K>>
         ensures { Gives (λ x. (word_of x.0, words_of x.1)) result (next kind (words_of self.entry)) }
     {
         match self.first() {
@@ -119,7 +119,7 @@ impl<'a> Words<'a> {
 
     /// Whether no word is left.
     #[tactic(auto, unfolding(crate::specs::Reading::done))]
-    pub fn done(self, kind: TextKind) -> Result<(), TextFault>
+    pub fn done<K: Copy>(self, kind: K) -> Result<(), TextFault<K>>
         ensures { Gives (λ x. x) result (done kind (words_of self.entry)) }
     {
         match self.first() {
@@ -130,7 +130,7 @@ impl<'a> Words<'a> {
 
     /// What is left behind the next word, which has to be this one.
     #[tactic(auto, unfolding(crate::specs::Reading::literal))]
-    pub fn literal(self, kind: TextKind, text: &[u8]) -> Result<Words<'a>, TextFault>
+    pub fn literal<K: Copy>(self, kind: K, text: &[u8]) -> Result<Words<'a>, TextFault<K>>
         ensures { Gives words_of result (literal kind text.now (words_of self.entry)) }
     {
         let (word, words) = self.next(kind)?;
@@ -142,12 +142,12 @@ impl<'a> Words<'a> {
 
     /// The next word as a number from `least` to `most`.
     #[tactic(auto, unfolding(crate::specs::Reading::number_in))]
-    pub fn number(
+    pub fn number<K: Copy>(
         self,
-        kind: TextKind,
+        kind: K,
         least: u16,
         most: u16,
-    ) -> Result<(u16, Words<'a>), TextFault>
+    ) -> Result<(u16, Words<'a>), TextFault<K>>
         ensures value { Gives (λ x. (x.0, words_of x.1)) result (number_in kind least most (words_of self.entry)) }
         ensures least { IfOk result (λ x. least ≤ x.0) }
         ensures most { IfOk result (λ x. x.0 ≤ most) }
@@ -160,12 +160,12 @@ impl<'a> Words<'a> {
     }
 
     /// The next word as a number from `least` to `most`.
-    pub fn small_number(
+    pub fn small_number<K: Copy>(
         self,
-        kind: TextKind,
+        kind: K,
         least: u8,
         most: u8,
-    ) -> Result<(u8, Words<'a>), TextFault>
+    ) -> Result<(u8, Words<'a>), TextFault<K>>
         ensures value { Gives (λ x. (x.0, words_of x.1)) result (number_in kind least most (words_of self.entry)) }
         ensures least { IfOk result (λ x. least ≤ x.0) }
         ensures most { IfOk result (λ x. x.0 ≤ most) }

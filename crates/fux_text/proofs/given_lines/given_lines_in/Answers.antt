@@ -1,6 +1,6 @@
 use Rattle.std.proofs.Common.{◌≡◌, [], true, false, Ok, codes, sym, subst, ◌∙◌}
 use Rattle.std.proofs.lemmas.Result.{err_from_is_err_and}
-use Rattle.text_lines.specs.declared.fault.TextKind.TheVariants.{Head}
+use Rattle.fux_text.specs.declared.fault.TextKind.TheVariants.{Head}
 use Rattle.text_lines.specs.Faults.{Fails}
 use Rattle.text_lines.specs.Lines.{lines_of}
 use Rattle.text_lines.specs.Tables.{goes_on, line_in, many_in}
@@ -19,16 +19,16 @@ returns-in_err-line c =
     (many_in (given_lines_of c.args.version c.args.ex.now) [] start.after start.lines)
     (subst (λ before. true ≡ goes_on (given_lines_of c.args.version c.args.ex.now) before at) c.deref.ensures.value
     (sym c.loop-alloc-test.true ∙ c.goes_on.ensures))
-    (subst (λ before. Fails e (line_in Head (codes "given") (given_row c.args.ex.now before) at))
+    (subst (λ before. Fails e (line_in Head Head (codes "given") (given_row c.args.ex.now before) at))
     c.deref-in-loop-alloc.ensures.value c.in_err-line.ensures) c.loop-alloc.invariant)
 
 pub loop-alloc-smaller : goal.loop-alloc-smaller
 loop-alloc-smaller c =
     let at = lines_of c.loop-alloc.rest in
     let start = lines_of c.args.text in
-    let read : line_in Head (codes "given") (given_row c.args.ex.now c.loop-alloc.lines.items) at
+    let read : line_in Head Head (codes "given") (given_row c.args.ex.now c.loop-alloc.lines.items) at
     ≡ Ok (c.in_ok-line.line, lines_of c.in_ok-line.behind) =
-    subst (λ before. line_in Head (codes "given") (given_row c.args.ex.now before) at
+    subst (λ before. line_in Head Head (codes "given") (given_row c.args.ex.now before) at
     ≡ Ok (c.in_ok-line.line, lines_of c.in_ok-line.behind)) c.deref-in-loop-alloc.ensures.value c.in_ok-line.ensures in
     let more = many-more (given_lines_of c.args.version c.args.ex.now) c.loop-alloc.lines.items at.after at.lines
     c.in_ok-line.line (lines_of c.in_ok-line.behind) (many_in (given_lines_of c.args.version c.args.ex.now) [] start.after start.lines)
@@ -41,9 +41,9 @@ pub loop-alloc-preserved : goal.loop-alloc-preserved
 loop-alloc-preserved c =
     let at = lines_of c.loop-alloc.rest in
     let start = lines_of c.args.text in
-    let read : line_in Head (codes "given") (given_row c.args.ex.now c.loop-alloc.lines.items) at
+    let read : line_in Head Head (codes "given") (given_row c.args.ex.now c.loop-alloc.lines.items) at
     ≡ Ok (c.in_ok-line.line, lines_of c.in_ok-line.behind) =
-    subst (λ before. line_in Head (codes "given") (given_row c.args.ex.now before) at
+    subst (λ before. line_in Head Head (codes "given") (given_row c.args.ex.now before) at
     ≡ Ok (c.in_ok-line.line, lines_of c.in_ok-line.behind)) c.deref-in-loop-alloc.ensures.value c.in_ok-line.ensures in
     let more = many-more (given_lines_of c.args.version c.args.ex.now) c.loop-alloc.lines.items at.after at.lines
     c.in_ok-line.line (lines_of c.in_ok-line.behind) (many_in (given_lines_of c.args.version c.args.ex.now) [] start.after start.lines)

@@ -1,7 +1,7 @@
 use Rattle.std.proofs.Common.{◌≡◌, [], Ok, sym, subst, ◌∙◌}
 use Rattle.std.specs.Prelude.{codes}
 use Rattle.std.proofs.lemmas.Result.{err_from_is_err_and}
-use Rattle.text_lines.specs.declared.fault.TextKind.TheVariants.{Head}
+use Rattle.fux_text.specs.declared.fault.TextKind.TheVariants.{Head}
 use Rattle.text_lines.specs.Faults.{Fails}
 use Rattle.text_lines.specs.Lines.{lines_of}
 use Rattle.text_lines.specs.Tables.{line_in, many_in}
@@ -15,8 +15,8 @@ returns-in_err-line c =
     let start = lines_of c.args.text in
     let e = c.in_err-line.field-0.0 in
     let p = err_from_is_err_and c.from_residual.result c.from_residual.ensures.1 in
-    let fails : Fails e (line_in Head (codes "range") (range_row c.args.ex.now c.loop-rest.ranges.items) at) =
-    subst (λ before. Fails e (line_in Head (codes "range") (range_row c.args.ex.now before) at)) c.deref.ensures.value
+    let fails : Fails e (line_in Head Head (codes "range") (range_row c.args.ex.now c.loop-rest.ranges.items) at) =
+    subst (λ before. Fails e (line_in Head Head (codes "range") (range_row c.args.ex.now before) at)) c.deref.ensures.value
     c.in_err-line.ensures in
     rw (p.1, p.2)
     (many-fail e (range_lines_of c.args.ex.now) c.loop-rest.ranges.items at.after at.lines
@@ -27,9 +27,9 @@ pub loop-rest-smaller : goal.loop-rest-smaller
 loop-rest-smaller c =
     let at = lines_of c.loop-rest.rest in
     let start = lines_of c.args.text in
-    let read : line_in Head (codes "range") (range_row c.args.ex.now c.loop-rest.ranges.items) at
+    let read : line_in Head Head (codes "range") (range_row c.args.ex.now c.loop-rest.ranges.items) at
     ≡ Ok (c.in_ok-line.line, lines_of c.in_ok-line.behind) =
-    subst (λ before. line_in Head (codes "range") (range_row c.args.ex.now before) at
+    subst (λ before. line_in Head Head (codes "range") (range_row c.args.ex.now before) at
     ≡ Ok (c.in_ok-line.line, lines_of c.in_ok-line.behind)) c.deref.ensures.value c.in_ok-line.ensures in
     let more = many-more (range_lines_of c.args.ex.now) c.loop-rest.ranges.items at.after at.lines c.in_ok-line.line
     (lines_of c.in_ok-line.behind) (many_in (range_lines_of c.args.ex.now) [] start.after start.lines)
@@ -40,9 +40,9 @@ pub loop-rest-preserved : goal.loop-rest-preserved
 loop-rest-preserved c =
     let at = lines_of c.loop-rest.rest in
     let start = lines_of c.args.text in
-    let read : line_in Head (codes "range") (range_row c.args.ex.now c.loop-rest.ranges.items) at
+    let read : line_in Head Head (codes "range") (range_row c.args.ex.now c.loop-rest.ranges.items) at
     ≡ Ok (c.in_ok-line.line, lines_of c.in_ok-line.behind) =
-    subst (λ before. line_in Head (codes "range") (range_row c.args.ex.now before) at
+    subst (λ before. line_in Head Head (codes "range") (range_row c.args.ex.now before) at
     ≡ Ok (c.in_ok-line.line, lines_of c.in_ok-line.behind)) c.deref.ensures.value c.in_ok-line.ensures in
     let more = many-more (range_lines_of c.args.ex.now) c.loop-rest.ranges.items at.after at.lines c.in_ok-line.line
     (lines_of c.in_ok-line.behind) (many_in (range_lines_of c.args.ex.now) [] start.after start.lines)

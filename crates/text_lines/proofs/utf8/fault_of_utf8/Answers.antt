@@ -6,14 +6,14 @@ use Rattle.text_lines.proofs.Fronts.{begun_bound}
 use Rattle.text_lines.proofs.utf8.fault_of_utf8.Goals as goal
 
 pub overflow_add-valid : goal.overflow_add-valid
-overflow_add-valid c =
+overflow_add-valid g c =
     let rest = c.split_at.result.1.now in
     let bound : begun rest c.args.error_len ≤ length rest =
     begun_bound rest c.args.error_len (c.requires.error ∙ ap utf8_error_len (sym c.split_at.ensures.back)) in
     omega (arith, bound, c.begun-begun.ensures, c.split_at.ensures.back_len)
 
 pub slice_bounds-fault_behind-end : goal.slice_bounds-fault_behind-end
-slice_bounds-fault_behind-end c =
+slice_bounds-fault_behind-end g c =
     let rest = c.split_at.result.1.now in
     let bound : begun rest c.args.error_len ≤ length rest =
     begun_bound rest c.args.error_len (c.requires.error ∙ ap utf8_error_len (sym c.split_at.ensures.back)) in
@@ -22,5 +22,5 @@ slice_bounds-fault_behind-end c =
 
 pub returns : goal.returns
 unfolding fault_of_utf8 begun_text
-returns c =
+returns g c =
     rw (c.fault_behind.ensures, c.begun-begun.ensures, c.split_at.ensures.back, c.requires.error, c.requires.front) refl
