@@ -15,7 +15,7 @@ use Rattle.fux_grid.specs.Exercises.{IsValid}
 -- the menus are those of the exercise, and there is room for all entries
 pub record IsEntries (ex : Exercise) (menus : Menus) (stated : Vec Potential Global) : Type 0 where
   pub valid : IsValid ex
-  pub menus : AreMenus ex menus
+  pub are : AreMenus ex menus
   pub room : vec_capacity stated ≡ entry_count ex
   pub few : length stated.items ≤ entry_count ex
 

@@ -24,8 +24,9 @@ pub record HasMenu (ex : Exercise) (i : ℕ) (columns : Columns) : Type 0 where
 pub record HaveMenus (ex : Exercise) (count : ℕ) (menus : Menus) : Type 0 where
   pub whole : length menus.columns.items ≡ count
   pub counted : length menus.before.items ≡ count
-  pub each : (i : ℕ) (d : Columns) → i < count → HasMenu ex i (slice_index_or menus.columns.items i d)
-  pub before : (i : ℕ) → i < count → slice_index_or menus.before.items i 0 ≡ columns_before ex i
+  pub each : (i : ℕ) (d : Columns) → i < count → items_of (slice_index_or menus.columns.items i d).items ≡ menu_of ex i
+  pub narrow : (i : ℕ) → i < count → length (menu_of ex i) ≤ 8192
+  pub before : (i d : ℕ) → i < count → slice_index_or menus.before.items i d ≡ columns_before ex i
   pub total : menus.total ≡ columns_before ex count
   pub few : menus.total ≤ count * 8192
 
@@ -34,7 +35,7 @@ abbrev pub AreMenus : Exercise → Menus → Type 0
 AreMenus ex menus = HaveMenus ex (columns_in ex) menus
 
 -- one menu more
-pub record AddsMenu (old : Menus) (columns : Columns) (new : Menus) : Type 0 where
-  pub columns : new.columns.items ≡ old.columns.items ++ columns ∷ []
+pub record AddsMenu (old : Menus) (menu : Columns) (new : Menus) : Type 0 where
+  pub columns : new.columns.items ≡ old.columns.items ++ menu ∷ []
   pub before : new.before.items ≡ old.before.items ++ old.total ∷ []
-  pub total : new.total ≡ old.total + length columns.items
+  pub total : new.total ≡ old.total + length menu.items

@@ -8,7 +8,7 @@ ghost use Rattle.fux_grid.specs.Menus.{menu_of};
 
 use crate::menus::Menus;
 use cert_text::Potential;
-use fux_grid::Exercise;
+use fux_grid::{Column, Exercise};
 use penalty_sheet::Sheet;
 
 /// An exercise and a sheet, the menus, and the entries that are stated so far.
@@ -21,6 +21,25 @@ pub(crate) struct Board<'a> {
 }
 
 impl<'a> Board<'a> {
+    /// How many columns the menu of a place has.
+    pub(crate) fn width(&self, i: usize) -> usize
+        requires board { IsBoard self.now }
+        requires place { i < columns_in self.now.exercise.now }
+        ensures { result ≡ length (menu_of self.now.exercise.now i) }
+    {
+        self.menus.columns[i].len()
+    }
+
+    /// The column of a number in the menu of a place.
+    pub(crate) fn column(&self, i: usize, k: usize) -> &'a Column
+        requires board { IsBoard self.now }
+        requires place { i < columns_in self.now.exercise.now }
+        requires within { k < length (menu_of self.now.exercise.now i) }
+        ensures { result.now.items ≡ law.menu_column self.now.exercise.now i k }
+    {
+        &self.menus.columns[i][k]
+    }
+
     /// The entry of a number. Where it isn't stated, it states nothing.
     pub(crate) fn entry(&self, n: usize) -> Potential
         ensures { result ≡ law.entry_at self.now.stated.now n }
@@ -50,7 +69,7 @@ impl<'a> Board<'a> {
     {
         let mut rest = number;
         for i in 0..self.menus.columns.len() {
-            let width = self.menus.columns[i].len();
+            let width = self.width(i);
             if rest < width {
                 return (i, rest);
             }

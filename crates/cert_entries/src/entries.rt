@@ -126,7 +126,7 @@ impl<'a> Entries<'a> {
 
 impl<'a> Tests for Entries<'a> {
     ghost use Rattle.cert_law.specs.Entries.{IsTrueEntry, entry_count};
-ghost use Rattle.cert_law.specs.Entries as words;
+    ghost use Rattle.cert_law.specs.Entries as words;
 
     ghost size = { λ it. entry_count it.exercise };
 
@@ -147,11 +147,11 @@ impl<'a> Tails for Entries<'a> {
     ghost basis = { basis_by };
 
     fn width(&self, i: usize) -> usize {
-        self.menus.columns[i].len()
+        self.board().width(i)
     }
 
     fn column(&self, i: usize, k: usize) -> &Column {
-        &self.menus.columns[i][k]
+        self.board().column(i, k)
     }
 
     fn start(&self) -> Option<u64> {

@@ -50,9 +50,13 @@ impl Menus {
             total: 0,
         };
         for i in 0..8 * ex.bars as usize {
-            let columns = menu_at(alloc, ex, i)?;
-            if menus.push(columns).is_err() {
-                return Err(EntryFault::Memory);
+            let columns = match menu_at(alloc, ex, i) {
+                Ok(columns) => columns,
+                Err(fault) => return Err(fault),
+            };
+            match menus.push(columns) {
+                Ok(()) => {}
+                Err(Memory) => return Err(EntryFault::Memory),
             }
         }
         Ok(menus)

@@ -1,7 +1,8 @@
 //! Whether an entry is true.
 
 ghost use Rattle.std.specs.Prelude.{◌≡◌, ◌↔◌, ◌<◌, ◌≤◌, ◌^◌, IsTrue, Some, length};
-ghost use Rattle.cert_entries.specs.Boards.{IsBoard, IsTrueAt};
+ghost use Rattle.std.specs.Bool.{OnTrue};
+ghost use Rattle.cert_entries.specs.Boards.{AllowsAll, IsBoard, IsTrueAt};
 ghost use Rattle.cert_law.specs.Entries.{AllowsSum, IsTrueBefore, IsTrueEntry, entry_count, number_in};
 ghost use Rattle.cert_law.specs.Entries as law;
 ghost use Rattle.cert_text.specs.declared.potential.Potential.TheVariants as potential;
@@ -38,6 +39,18 @@ fn sum_with(cost: u64, entry: Potential) -> Option<u64>
     }
 }
 
+/// Whether an entry allows whatever sum there is through a column with another entry: it states no more than that one, or that one
+/// states no number. Then no cost has to be found.
+fn is_no_more(entry: Potential, next: Potential) -> bool
+    ensures { OnTrue result (AllowsAll entry next) }
+{
+    match (entry, next) {
+        (_, Potential::NoChain) => true,
+        (Potential::Least(number), Potential::Least(least)) => number <= least,
+        (Potential::NoChain, Potential::Least(_)) => false,
+    }
+}
+
 /// Whether an entry states that nothing is to come.
 fn is_end(entry: Potential) -> bool
     ensures { IsTrue result ↔ entry ≡ potential.Least 0 }
@@ -56,12 +69,26 @@ impl<'a> Board<'a> {
         requires within { k < length (menu_of self.now.exercise.now i) }
         ensures { result ≡ law.sum_through self.now.exercise.now self.now.sheet.now self.now.stated.now i (given prev.entry) k }
     {
-        let next = &self.menus.columns[i][k];
+        let next = self.column(i, k);
         if !cells_follow(cells_of(prev), next.as_slice()) {
             return None;
         }
         let cost = link_cost(self.exercise, self.sheet, i, prev, next)?;
         sum_with(cost, self.entry_of(i, k))
+    }
+
+    /// Whether an entry of a column before a place, or of the start, allows the sum through the column of a number there.
+    fn allows_through(&self, i: usize, prev: Option<&'a Column>, entry: Potential, k: usize) -> bool
+        requires board { IsBoard self.now }
+        requires place { i < columns_in self.now.exercise.now }
+        requires within { k < length (menu_of self.now.exercise.now i) }
+        ensures { IsTrue result ↔ AllowsSum entry
+            (law.sum_through self.now.exercise.now self.now.sheet.now self.now.stated.now i (given prev.entry) k) }
+    {
+        if is_no_more(entry, self.entry_of(i, k)) {
+            return true;
+        }
+        allows(entry, self.sum_through(i, prev, k))
     }
 
     /// Whether an entry is true of a column before a place, or of the start.
@@ -70,8 +97,8 @@ impl<'a> Board<'a> {
         requires place { i < columns_in self.now.exercise.now }
         ensures { IsTrue result ↔ IsTrueBefore self.now.exercise.now self.now.sheet.now self.now.stated.now i (given prev.entry) entry }
     {
-        for k in 0..self.menus.columns[i].len() {
-            if !allows(entry, self.sum_through(i, prev, k)) {
+        for k in 0..self.width(i) {
+            if !self.allows_through(i, prev, entry, k) {
                 return false;
             }
         }
@@ -87,7 +114,7 @@ impl<'a> Board<'a> {
     {
         let entry = self.entry_of(i, k);
         if i + 1 < self.menus.columns.len() {
-            self.is_true_before(i + 1, Some(&self.menus.columns[i][k]), entry)
+            self.is_true_before(i + 1, Some(self.column(i, k)), entry)
         } else {
             is_end(entry)
         }

@@ -13,8 +13,7 @@ pub first_of_answers : (passes : ℕ → Type 0) (count : ℕ) (answers : List B
 first_of_answers passes count answers None are h =
     λ n within. (are.each n within).0 (h n (omega (arith, are.whole, within)))
 first_of_answers passes count answers (Some first) are h =
-    let within : first < count = omega (arith, are.whole, h.0) in
-    (
+    let within : first < count = omega (arith, are.whole, h.0) in (
       within,
       λ is. h.1 ((are.each first within).1 is),
       λ n before. let low : n < count = omega (arith, within, before) in (are.each n low).0 (h.2 n before),
