@@ -115,9 +115,10 @@ impl<'a> Stated<'a> {
         alloc: Global,
     ) -> Result<Checker<'a, Entries<'a>>, CloseFault>
         requires whole { length self.entries ≡ entry_count self.exercise }
-        ensures opened { IfOk result (λ c. c ≡ opened_for self.exercise self.sheet self.head (Some self.entries)) }
-        ensures true_entries { OnOk result (AreTrueEntries self.exercise self.sheet self.entries) }
-        ensures refused { IfErr result (TellsFalse self) }
+        ensures opened { IfOk result
+            (λ c. c ≡ opened_for self.entry.exercise self.entry.sheet self.entry.head (Some self.entry.entries)) }
+        ensures true_entries { OnOk result (AreTrueEntries self.entry.exercise self.entry.sheet self.entry.entries) }
+        ensures refused { IfErr result (TellsFalse self.entry) }
     {
         match self.entries.first_false(rt, alloc) {
             Ok(None) => {}
