@@ -1,3 +1,4 @@
+mod HeldLemmas
 mod MenuLemmas
 mod PlaceLemmas
 mod SumLemmas

@@ -1,11 +1,13 @@
 -- What entries are tested by, and where each stands.
-use Rattle.std.specs.Prelude.{◌≡◌, ℕ, suc, ◌+◌, ◌<◌, Bool, List, Option, Some, None, length, if◌then◌else◌}
+use Rattle.std.specs.Prelude.{◌≡◌, ℕ, suc, ◌+◌, ◌<◌, Bool, true, List, Option, Some, None, length, if◌then◌else◌}
 use Rattle.cert_entries.specs.declared.board.Board.{Board}
 use Rattle.cert_entries.specs.Menus.{AreMenus}
 use Rattle.cert_law.specs.Entries.{AllowsSum, IsTrueBefore, columns_before, entry_of, menu_column, number_in}
 use Rattle.cert_text.specs.declared.potential.Potential.{Potential}
 use Rattle.cert_text.specs.declared.potential.Potential.TheVariants.{Least}
 use Rattle.chain_sums.specs.Chains.{plus}
+use Rattle.chain_sums.specs.Sums.{column_follows}
+use Rattle.fux_grid.specs.declared.cell.Cell.{Cell}
 use Rattle.fux_grid.specs.declared.exercise.Exercise.{Exercise}
 use Rattle.fux_grid.specs.Exercises.{IsValid, columns_in}
 use Rattle.fux_grid.specs.Menus.{menu_of}
@@ -32,3 +34,8 @@ pub record IsTrueAt (ex : Exercise) (sheet : Sheet) (entries : List Potential) (
   pub each : suc i < columns_in ex
       → IsTrueBefore ex sheet entries (suc i) (Some (menu_column ex i k)) (entry_of ex entries i k)
   pub last : suc i ≡ columns_in ex → entry_of ex entries i k ≡ Least 0
+
+-- the column of a number is the only one of a place's menu that follows these cells
+pub record FollowsAlone (ex : Exercise) (i : ℕ) (before : List Cell) (k : ℕ) : Type 0 where
+  pub within : k < length (menu_of ex i)
+  pub alone : (j : ℕ) → j < length (menu_of ex i) → column_follows before (menu_column ex i j) ≡ true → j ≡ k

@@ -1,8 +1,8 @@
 //! Whether an entry is true.
 
-ghost use Rattle.std.specs.Prelude.{◌≡◌, ◌↔◌, ◌<◌, ◌≤◌, ◌^◌, IsTrue, Some, length};
+ghost use Rattle.std.specs.Prelude.{◌≡◌, ◌↔◌, ◌+◌, ◌<◌, ◌≤◌, ◌^◌, IsTrue, Some, length};
 ghost use Rattle.std.specs.Bool.{OnTrue};
-ghost use Rattle.cert_entries.specs.Boards.{AllowsAll, IsBoard, IsTrueAt};
+ghost use Rattle.cert_entries.specs.Boards.{AllowsAll, FollowsAlone, IsBoard, IsTrueAt};
 ghost use Rattle.cert_law.specs.Entries.{AllowsSum, IsTrueBefore, IsTrueEntry, entry_count, number_in};
 ghost use Rattle.cert_law.specs.Entries as law;
 ghost use Rattle.cert_text.specs.declared.potential.Potential.TheVariants as potential;
@@ -105,6 +105,35 @@ impl<'a> Board<'a> {
         true
     }
 
+    /// Whether the column of a number is known to be the only one of a place's menu that follows another: it does, and all hold what they
+    /// sound.
+    fn follows_alone(&self, i: usize, prev: &Column, k: usize) -> bool
+        requires board { IsBoard self.now }
+        requires place { i < columns_in self.now.exercise.now }
+        ensures { OnTrue result (FollowsAlone self.now.exercise.now i prev.now.items k) }
+    {
+        if !self.menus.still[i] || k >= self.width(i) {
+            return false;
+        }
+        cells_follow(prev.as_slice(), self.column(i, k).as_slice())
+    }
+
+    /// Whether an entry is true of the column of a number before the next place. The one that follows alone has the same number there
+    /// mostly; else all are gone through.
+    fn is_true_behind(&self, i: usize, k: usize, entry: Potential) -> bool
+        requires board { IsBoard self.now }
+        requires place { i + 1 < columns_in self.now.exercise.now }
+        requires within { k < length (menu_of self.now.exercise.now i) }
+        ensures { IsTrue result ↔ IsTrueBefore self.now.exercise.now self.now.sheet.now self.now.stated.now (i + 1)
+            (Some (law.menu_column self.now.exercise.now i k)) entry }
+    {
+        let prev = self.column(i, k);
+        if self.follows_alone(i + 1, prev, k) {
+            return self.allows_through(i + 1, Some(prev), entry, k);
+        }
+        self.is_true_before(i + 1, Some(prev), entry)
+    }
+
     /// Whether the entry of the column with a number in the menu of a place is true.
     fn is_true_at(&self, i: usize, k: usize) -> bool
         requires board { IsBoard self.now }
@@ -114,7 +143,7 @@ impl<'a> Board<'a> {
     {
         let entry = self.entry_of(i, k);
         if i + 1 < self.menus.columns.len() {
-            self.is_true_before(i + 1, Some(self.column(i, k)), entry)
+            self.is_true_behind(i, k, entry)
         } else {
             is_end(entry)
         }

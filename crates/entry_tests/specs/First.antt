@@ -1,5 +1,5 @@
 -- The first test that fails.
-use Rattle.std.specs.Prelude.{◌≡◌, ◌↔◌, ℕ, ◌<◌, Bool, true, false, IsTrue, List, Option, Some, None, length, slice_index_or}
+use Rattle.std.specs.Prelude.{◌≡◌, ◌↔◌, ℕ, ◌<◌, Bool, true, IsTrue, List, Option, Some, None, length, slice_index_or}
 
 -- this is the number of the first test that fails, of so many; none only where each is passed
 abbrev pub IsFirstFailing : (ℕ → Type 0) → ℕ → Option ℕ → Type 0

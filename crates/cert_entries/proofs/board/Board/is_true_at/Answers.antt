@@ -1,4 +1,5 @@
-use Rattle.std.proofs.Common.{◌≡◌, ◌+◌, ◌<◌, suc, arith}
+use Rattle.std.proofs.Common.{◌≡◌, ◌+◌, ◌<◌, suc, refl, arith}
+use Rattle.cert_law.specs.Entries.{menu_column}
 use Rattle.fux_grid.specs.Exercises.{columns_in}
 use Rattle.cert_entries.proofs.TruthLemmas.{true_behind}
 use Rattle.cert_entries.proofs.board.Board.is_true_at.Goals as goal
@@ -13,5 +14,6 @@ returns-then-i-len c =
       c.len.ensures,
       c.requires.board.menus.whole,
     ) in
-    true_behind board.exercise.now board.sheet.now board.stated.now c.args.i c.args.k (c.args.i + 1) c.column.result.now.items
-    c.entry_of-entry.result c.is_true_before.result next later c.column.ensures c.entry_of-entry.ensures c.is_true_before.ensures
+    true_behind board.exercise.now board.sheet.now board.stated.now c.args.i c.args.k (c.args.i + 1)
+    (menu_column board.exercise.now c.args.i c.args.k) c.entry_of-entry.result c.is_true_behind.result next later refl
+    c.entry_of-entry.ensures c.is_true_behind.ensures
