@@ -1,0 +1,5 @@
+mod HeldLemmas
+mod MenuLemmas
+mod PlaceLemmas
+mod SumLemmas
+mod TruthLemmas
