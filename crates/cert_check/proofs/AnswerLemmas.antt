@@ -5,9 +5,9 @@ use Rattle.std.specs.Prelude.{IfErr, IfOk}
 use Rattle.cert_check.specs.declared.checker.OpenFault.{OpenFault}
 use Rattle.cert_check.specs.declared.checker.OpenFault.TheVariants as opening
 use Rattle.cert_check.specs.Opening.{TellsWhy}
-use Rattle.cert_check.specs.declared.fault.ReadFault.TheVariants.{Text, Unreadable}
-use Rattle.cert_check.specs.declared.fault.ReadFault.{ReadFault}
-use Rattle.cert_check.specs.Readings.{Files, Reading}
+use Rattle.cert_file.specs.declared.fault.ReadFault.TheVariants.{Text, Unreadable}
+use Rattle.cert_file.specs.declared.fault.ReadFault.{ReadFault}
+use Rattle.cert_file.specs.Readings.{Files, Reading}
 use Rattle.cert_check.specs.Starts.{IsStarted, Starts}
 use Rattle.cert_text.specs.declared.answers.CertFault.TheVariants.{CertHead as WrongHead, CertWord, CertEnd, Memory}
 use Rattle.cert_text.specs.declared.answers.CertHead.{CertHead}
@@ -15,8 +15,8 @@ use Rattle.cert_text.specs.declared.answers.Refused.{Refused}
 use Rattle.cert_check.specs.Answers.{Answers, FindsBehind, IsHeadless, IsVerdictOn, unopened, unstarted}
 use Rattle.cert_check.specs.Judgments.{Finds, RefusesFor, Shows}
 use Rattle.cert_check.specs.declared.checking.CheckFault.TheVariants as check
-use Rattle.cert_check.specs.declared.verdict.Verdict.{Verdict}
-use Rattle.cert_check.specs.declared.verdict.Verdict.TheVariants as verdict
+use Rattle.cert_file.specs.declared.verdict.Verdict.{Verdict}
+use Rattle.cert_file.specs.declared.verdict.Verdict.TheVariants as verdict
 use Rattle.cert_check.proofs.JudgingLemmas.{begins_front}
 use Rattle.floor_tables.specs.Tables.{AreNarrow, IsTooWide}
 use Rattle.fux_grid.specs.declared.exercise.Exercise.{Exercise}

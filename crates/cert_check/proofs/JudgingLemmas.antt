@@ -7,18 +7,18 @@ use Rattle.std.specs.List.{AllByRecursion, flat_map}
 use Rattle.cert_check.specs.Checking.{Checking, IsFault, Refuses, Takes, TakesOf, accepted_of}
 use Rattle.cert_law.specs.Certificates.{IsCertified, IsHeadSound, owed_by}
 use Rattle.cert_law.specs.Claims.{IsTrueOf}
-use Rattle.cert_check.specs.Readings.{FaultAt, Files, Gives, IsAt, MayBe, Reading, judged_bytes, longest_certificate}
-use Rattle.cert_check.specs.declared.fault.ReadFault.{ReadFault}
+use Rattle.cert_file.specs.Readings.{FaultAt, Files, Gives, IsAt, MayBe, Reading, judged_bytes, longest_certificate}
+use Rattle.cert_file.specs.declared.fault.ReadFault.{ReadFault}
 use Rattle.cert_check.specs.Starts.{IsStarted}
-use Rattle.cert_check.proofs.LineLemmas.{begins_judged}
+use Rattle.cert_file.proofs.LineLemmas.{begins_judged}
 use Rattle.cert_text.specs.declared.answers.CertFault.{CertFault}
 use Rattle.cert_text.specs.declared.answers.CertHead.{CertHead}
 use Rattle.cert_text.specs.declared.answers.Refused.{Refused}
 use Rattle.cert_text.specs.declared.answers.Why.TheVariants.{Short}
 use Rattle.cert_text.specs.declared.claim.Claim.{Claim}
 use Rattle.cert_text.specs.Lines.{IsClaim, claim_line, claim_word}
-use Rattle.cert_check.specs.declared.verdict.Verdict.{Verdict}
-use Rattle.cert_check.specs.declared.verdict.Verdict.TheVariants as verdicts
+use Rattle.cert_file.specs.declared.verdict.Verdict.{Verdict}
+use Rattle.cert_file.specs.declared.verdict.Verdict.TheVariants as verdicts
 use Rattle.cert_check.specs.Judgments.{Finds, IsFresh, IsTaken, Leaves, RefusesFor}
 use Rattle.fux_grid.specs.declared.cell.Cell.{Cell}
 use Rattle.fux_grid.specs.declared.exercise.Exercise.{Exercise}

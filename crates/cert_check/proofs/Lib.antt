@@ -1,12 +1,8 @@
 pub mod AnswerLemmas
 pub mod CellTests
 pub mod CheckingLemmas
-pub mod FileLemmas
 pub mod HeadLemmas
 pub mod JudgingLemmas
-pub mod LineLemmas
 pub mod OneVerdict
-pub mod PieceLemmas
 pub mod RunLemmas
 pub mod StartLemmas
-pub mod TextLemmas

@@ -9,20 +9,21 @@ use Rattle.std.specs.List.{AllByRecursion, flat_map}
 use Rattle.cert_check.specs.Answers.{Answers, IsVerdictOn}
 use Rattle.cert_check.specs.Checking.{accepted_of}
 use Rattle.cert_check.specs.Judgments.{AcceptsValid, Finds, FindsIn, IsCertificateText, IsTaken, IsUnsound, Leaves}
-use Rattle.cert_check.specs.Readings.{Files, IsUnended, IsWrong, judged_bytes, longest_certificate}
+use Rattle.cert_file.specs.Readings.{Files, IsUnended, IsWrong, judged_bytes, longest_certificate}
 use Rattle.cert_check.specs.declared.checking.CheckFault.{CheckFault}
-use Rattle.cert_check.specs.declared.verdict.Verdict.{Verdict}
-use Rattle.cert_check.specs.declared.verdict.Verdict.TheVariants as verdicts
-use Rattle.cert_check.proofs.FileLemmas.{behind}
-use Rattle.cert_check.proofs.LineLemmas.{line_part-unended}
-use Rattle.cert_check.proofs.PieceLemmas.{nothing_begins}
-use Rattle.cert_check.proofs.TextLemmas.{at_front, has_feed, line_begins, line_split, same_line, such_of}
+use Rattle.cert_file.specs.declared.verdict.Verdict.{Verdict}
+use Rattle.cert_file.specs.declared.verdict.Verdict.TheVariants as verdicts
+use Rattle.cert_file.proofs.FileLemmas.{behind}
+use Rattle.cert_file.proofs.LineLemmas.{line_part-unended}
+use Rattle.cert_file.proofs.PieceLemmas.{nothing_begins}
+use Rattle.cert_check.proofs.StartLemmas.{at_front}
+use Rattle.cert_file.proofs.TextLemmas.{has_feed, line_begins, line_split, same_line, such_of}
 use Rattle.cert_law.specs.Certificates.{IsCertified, IsHeadSound, owed_by}
 use Rattle.cert_law.specs.Claims.{IsTrueOf}
 use Rattle.cert_text.specs.declared.answers.CertFault.TheVariants.{CertHead as WrongHead, CertWord, CertEnd, Memory}
 use Rattle.cert_text.specs.declared.answers.CertHead.{CertHead}
 use Rattle.cert_text.specs.declared.answers.Why.{Why}
-use Rattle.cert_text.specs.declared.answers.Why.TheVariants.{Head, False, Over, Short}
+use Rattle.cert_text.specs.declared.answers.Why.TheVariants.{Head, False, Over, Short, Potential}
 use Rattle.cert_text.specs.declared.claim.Claim.{Claim}
 use Rattle.cert_text.specs.declared.answers.Form.TheVariants.{First}
 use Rattle.cert_text.specs.HeadTexts.{Heads, TextStops, penalty_of}
@@ -271,6 +272,7 @@ module _ (ex : Exercise) (sheet : Sheet) (bytes : List ℕ) where
           untrue = tt;
           told = ap (λ n. verdicts.Claim (record { number = n; why = Over })) it.numbered;
         }
+    of_refusal number Potential unlike it = absurd it
     of_refusal number Short unlike it =
         from_taken it.count (it.next ∷ it.owed) bytes [] _ it.taken ((within it.short).0 ∙ sym (append-nil bytes)) record {
           line = Unended;
@@ -371,6 +373,7 @@ module _ (ex : Exercise) (sheet : Sheet) (bytes : List ℕ) where
       by number False it = judged head (of_refusal head number False (λ e. cc) it)
       by number Over it = judged head (of_refusal head number Over (λ e. cc) it)
       by number Short it = judged head (of_refusal head number Short (λ e. cc) it)
+      by number Potential it = absurd it
   kind_behind (verdicts.Text (CertWord at)) head it = judged head (of_word head at it)
   kind_behind (verdicts.Text (CertEnd at)) head it = judged head (of_end head at it)
   kind_behind (verdicts.Text (WrongHead at)) head it = absurd it.fault_at

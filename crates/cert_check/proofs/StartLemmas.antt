@@ -1,6 +1,7 @@
--- How the reading of a file starts: behind its head (`started`), or where a head stops (`head_stops`).
-use Rattle.std.proofs.Common.{◌≡◌, ℕ, ◌+◌, ◌-◌, ◌≤◌, ◌⊎◌, inl, inr, ◌++◌, Err, List, length, take, drop, refl, sym, ap, subst, ◌∙◌, arith, length-drop}
-use Rattle.std.proofs.lemmas.List.{drop-take, length-take-le, take-append-drop, take-append-le, take-take, take_all}
+-- How the reading of a file starts: behind its head (`started`), or where a head stops (`head_stops`). A head that a front is stands at
+-- the front of all bytes (`at_front`).
+use Rattle.std.proofs.Common.{◌≡◌, ℕ, ◌+◌, ◌≤◌, ◌⊎◌, inl, inr, ◌++◌, Err, List, length, take, drop, refl, sym, ap, subst, ◌∙◌, arith, length-drop}
+use Rattle.std.proofs.lemmas.List.{length-take-le, take-append-drop, take_all}
 use Rattle.fux_grid.specs.declared.exercise.Exercise.{Exercise}
 use Rattle.cert_text.specs.declared.answers.CertFault.{CertFault}
 use Rattle.cert_text.specs.declared.answers.CertFault.TheVariants.{CertHead, Memory}
@@ -8,13 +9,13 @@ use Rattle.cert_text.specs.declared.answers.CertHead.{CertHead as Head}
 use Rattle.cert_text.specs.declared.answers.Form.TheVariants.{First}
 use Rattle.cert_text.specs.HeadTexts.{HasLines, Heads, TextStops, penalty_of}
 use Rattle.cert_text.specs.SingItems.{IsHeadText}
-use Rattle.cert_text.proofs.HeadBacks.{stops_whole}
+use Rattle.cert_text.proofs.HeadBacks.{heads_before, stops_whole}
 use Rattle.fux_grid.specs.Exercises.{IsValid}
-use Rattle.cert_check.specs.declared.fault.ReadFault.TheVariants.{Text}
-use Rattle.cert_check.specs.Readings.{Begins, Files, MayBe, longest_piece, reading_from}
+use Rattle.cert_file.specs.declared.fault.ReadFault.TheVariants.{Text}
+use Rattle.cert_file.specs.Readings.{Begins, Files, MayBe, longest_piece, reading_from}
 use Rattle.cert_check.specs.Starts.{IsStarted, Starts}
-use Rattle.cert_check.proofs.FileLemmas.{first_begins}
-use Rattle.cert_check.proofs.PieceLemmas.{nothing_begins}
+use Rattle.cert_file.proofs.FileLemmas.{first_begins}
+use Rattle.cert_file.proofs.PieceLemmas.{nothing_begins}
 
 module _ (ex : Exercise) (files : Files) (name bytes : List ℕ)
     (known : MayBe files name (λ all. bytes ≡ take longest_piece all)) where
@@ -58,14 +59,8 @@ module _ (ex : Exercise) (files : Files) (name bytes : List ℕ)
         };
       }
 
--- the front of a buffer that was written back
-pub front_written : (buf rest : List ℕ) (len count : ℕ) → count ≤ length buf → count ≤ len
-    → take count (take len (buf ++ rest)) ≡ take count buf
-front_written buf rest len count fits room = take-take count len (buf ++ rest) room ∙ take-append-le count buf rest fits
-
--- what is left of the front of a buffer
-pub front_left : (whole front : List ℕ) (count used : ℕ) → used ≤ count → take count whole ≡ front
-    → take (count - used) (drop used whole) ≡ drop used front
-front_left whole front count used within is =
-    let size : used + (count - used) ≡ count = omega (arith, within) in
-    sym (drop-take used (count - used) whole) ∙ ap (λ n. drop used (take n whole)) size ∙ ap (λ xs. drop used xs) is
+-- a head that a front is stands at the front of all bytes
+pub at_front : (ex : Exercise) (head : CertHead) (bytes front rest : List ℕ) → bytes ≡ front ++ rest
+    → Heads ex First front head (length front) → Heads ex First bytes head (length front)
+at_front ex head bytes front rest e heads =
+    subst (λ xs. Heads ex First xs head (length front)) (sym e) (heads_before ex First front rest head heads)

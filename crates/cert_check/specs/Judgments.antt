@@ -5,18 +5,18 @@ use Rattle.std.specs.List.{AllByRecursion, flat_map}
 use Rattle.cert_check.specs.Checking.{Checking, accepted_of}
 use Rattle.cert_law.specs.Certificates.{Holds, IsCertificate, IsHeadSound, owed_by}
 use Rattle.cert_law.specs.Claims.{IsTrueOf}
-use Rattle.cert_check.specs.Readings.{FaultAt, Files, MayBe, judged_bytes, longest_certificate}
+use Rattle.cert_file.specs.Readings.{FaultAt, Files, MayBe, judged_bytes, longest_certificate}
 use Rattle.cert_text.specs.declared.answers.Accepted.{Accepted}
 use Rattle.cert_text.specs.declared.answers.CertFault.{CertFault}
 use Rattle.cert_text.specs.declared.answers.CertHead.{CertHead}
 use Rattle.cert_text.specs.declared.answers.Why.{Why}
-use Rattle.cert_text.specs.declared.answers.Why.TheVariants.{Head, False, Over, Short}
+use Rattle.cert_text.specs.declared.answers.Why.TheVariants.{Head, False, Over, Short, Potential}
 use Rattle.cert_text.specs.declared.claim.Claim.{Claim}
 use Rattle.cert_text.specs.declared.answers.Form.TheVariants.{First}
 use Rattle.cert_text.specs.HeadTexts.{Heads}
 use Rattle.cert_text.specs.Lines.{IsClaim, claim_line}
-use Rattle.cert_check.specs.declared.verdict.Verdict.{Verdict}
-use Rattle.cert_check.specs.declared.verdict.Verdict.TheVariants as verdict
+use Rattle.cert_file.specs.declared.verdict.Verdict.{Verdict}
+use Rattle.cert_file.specs.declared.verdict.Verdict.TheVariants as verdict
 use Rattle.fux_grid.specs.declared.cell.Cell.{Cell}
 use Rattle.fux_grid.specs.declared.exercise.Exercise.{Exercise}
 use Rattle.fux_port.specs.Files.{HasFile}
@@ -108,6 +108,7 @@ RefusesFor ex sheet head number Head = IsUnsound ex sheet head number
 RefusesFor ex sheet head number False = HasFalse ex sheet head number
 RefusesFor ex sheet head number Over = HasOver ex sheet head number
 RefusesFor ex sheet head number Short = IsShort ex sheet head number
+RefusesFor ex sheet head number Potential = λ bytes. ⊥
 
 -- what a verdict says of bytes with a head
 abbrev pub FindsIn : Exercise → Sheet → CertHead → Verdict → List ℕ → Type 0

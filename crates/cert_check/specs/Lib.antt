@@ -2,7 +2,5 @@ pub mod Answers
 pub mod Checking
 pub mod Judgments
 pub mod Opening
-pub mod Readings
 pub mod Runs
 pub mod Starts
-pub mod Verdicts

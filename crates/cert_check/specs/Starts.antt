@@ -6,9 +6,9 @@ use Rattle.cert_text.specs.declared.answers.CertFault.TheVariants as fault
 use Rattle.cert_text.specs.declared.answers.CertHead.{CertHead}
 use Rattle.cert_text.specs.declared.answers.Form.TheVariants.{First}
 use Rattle.cert_text.specs.HeadTexts.{Heads, TextStops}
-use Rattle.cert_check.specs.declared.fault.ReadFault.{ReadFault}
-use Rattle.cert_check.specs.declared.fault.ReadFault.TheVariants.{Unreadable, Text}
-use Rattle.cert_check.specs.Readings.{Files, IsAt, MayBe, Reading}
+use Rattle.cert_file.specs.declared.fault.ReadFault.{ReadFault}
+use Rattle.cert_file.specs.declared.fault.ReadFault.TheVariants.{Unreadable, Text}
+use Rattle.cert_file.specs.Readings.{Files, IsAt, MayBe, Reading}
 
 -- a reader stands behind the head of a file
 pub record IsStarted (ex : Exercise) (files : Files) (name : List ℕ) (head : CertHead) (reader : Reading) : Type 0 where

@@ -11,10 +11,9 @@ ghost use Rattle.fux_port.specs.Files.{IsMissing};
 ghost use Rattle.fux_port.specs.Promises.{ServesWhole};
 
 use crate::checker::{Checker, OpenFault};
-use crate::fault::ReadFault;
 use crate::judging::judge;
 use crate::starting::start;
-use crate::verdict::Verdict;
+use cert_file::{ReadFault, Verdict};
 use cert_text::CertFault;
 use fux_grid::{Exercise, Place};
 use fux_port::{Failed, Shelf};

@@ -5,15 +5,13 @@ ghost use Rattle.cert_check.specs.Checking.{accepted_of};
 ghost use Rattle.cert_check.specs.Starts.{IsStarted};
 ghost use Rattle.cert_text.specs.declared.answers.Why.TheVariants as whys;
 ghost use Rattle.cert_check.specs.Judgments.{AcceptsValid, Finds, IsFresh, Shows};
-ghost use Rattle.cert_check.specs.declared.verdict.Verdict.TheVariants as verdicts;
+ghost use Rattle.cert_file.specs.declared.verdict.Verdict.TheVariants as verdicts;
 ghost use Rattle.fux_grid.specs.Exercises.{IsValid};
 ghost use Rattle.fux_port.specs.Counts.{Rose};
 ghost use Rattle.fux_port.specs.Promises.{ServesWhole};
 
 use crate::checker::Checker;
-use crate::fault::ReadFault;
-use crate::reader::Reader;
-use crate::verdict::Verdict;
+use cert_file::{ReadFault, Reader, Verdict};
 use floor_tables::Tables;
 use fux_port::{Failed, Shelf};
 

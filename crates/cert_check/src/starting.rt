@@ -5,12 +5,10 @@ ghost use Rattle.fux_grid.specs.Exercises.{IsValid};
 ghost use Rattle.fux_port.specs.Counts.{Rose};
 ghost use Rattle.fux_port.specs.Files.{IsMissing};
 ghost use Rattle.fux_port.specs.Promises.{Keeps, ServesWhole};
-ghost use Rattle.cert_check.specs.Readings.{longest_piece};
+ghost use Rattle.cert_file.specs.Readings.{longest_piece};
 ghost use Rattle.cert_check.specs.Starts.{IsUnread, Starts};
 
-use crate::fault::ReadFault;
-use crate::filling::fill;
-use crate::reader::{LONGEST_PIECE, Reader};
+use cert_file::{LONGEST_PIECE, ReadFault, Reader, fill};
 use cert_text::{CertFault, CertHead, head};
 use fux_grid::Exercise;
 use fux_port::Shelf;

@@ -4,7 +4,7 @@ use Rattle.cert_check.specs.Checking.{Checking}
 use Rattle.cert_check.specs.Answers.{Answers}
 use Rattle.cert_check.specs.Judgments.{Finds, Shows}
 use Rattle.cert_check.specs.declared.checking.CheckFault.{CheckFault}
-use Rattle.cert_check.specs.declared.verdict.Verdict.{Verdict}
+use Rattle.cert_file.specs.declared.verdict.Verdict.{Verdict}
 use Rattle.fux_port.specs.Counts.{Rose}
 use Rattle.cert_check.proofs.AnswerLemmas.{judged_answer, opening_answer, starts_answer, unopened_headless, unopened_other, unstarted_missing}
 use Rattle.cert_check.proofs.OneVerdict.{accepted_answer}

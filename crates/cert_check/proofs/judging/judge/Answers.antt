@@ -2,9 +2,9 @@ use Rattle.std.proofs.Common.{Option, Ok, Err, sym, subst, ◌∙◌, arith}
 use Rattle.fux_port.specs.Counts.{Rose}
 use Rattle.cert_text.specs.declared.answers.CertFault.{CertFault}
 use Rattle.cert_text.specs.declared.claim.Claim.{Claim}
-use Rattle.cert_check.specs.Readings.{Gives}
-use Rattle.cert_check.specs.declared.fault.ReadFault.{ReadFault}
-use Rattle.cert_check.specs.declared.verdict.Verdict.TheVariants as verdicts
+use Rattle.cert_file.specs.Readings.{Gives}
+use Rattle.cert_file.specs.declared.fault.ReadFault.{ReadFault}
+use Rattle.cert_file.specs.declared.verdict.Verdict.TheVariants as verdicts
 use Rattle.cert_check.specs.Judgments.{Finds}
 use Rattle.cert_check.proofs.JudgingLemmas.{count_grows, counted, finds_end, finds_fault, given, refuses_next, takes_on, unrefused}
 use Rattle.cert_check.proofs.OneVerdict.{finds_accepted}

@@ -4,10 +4,10 @@ use Rattle.fux_port.specs.Counts.{Rose}
 use Rattle.cert_text.specs.declared.answers.CertFault.TheVariants.{CertHead, Memory}
 use Rattle.cert_text.specs.declared.answers.Form.TheVariants.{First}
 use Rattle.cert_text.specs.HeadTexts.{Heads, TextStops}
-use Rattle.cert_check.specs.Readings.{Reading, longest_piece}
+use Rattle.cert_file.specs.Readings.{Reading, longest_piece}
 use Rattle.cert_check.specs.Starts.{IsStarted}
-use Rattle.cert_check.proofs.FileLemmas.{first_known}
-use Rattle.cert_check.proofs.StartLemmas.{front_left, front_written, head_stops, started}
+use Rattle.cert_file.proofs.FileLemmas.{first_known, front_left, front_written}
+use Rattle.cert_check.proofs.StartLemmas.{head_stops, started}
 use Rattle.cert_check.proofs.starting.start.Goals as goal
 
 pub returns-in-Ok-clause-starts : goal.returns-in-Ok-clause-starts

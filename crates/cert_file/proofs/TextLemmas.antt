@@ -1,19 +1,13 @@
--- The lines of claims read one way only (`same_line`), and begin no other line (`line_begins`, `has_feed`); a head that a front is stands
--- at the front of all bytes (`at_front`).
+-- The lines of claims read one way only (`same_line`), and begin no other line (`line_begins`, `has_feed`).
 use Rattle.std.proofs.Common.{◌≡◌, inl, inr, ℕ, List, [], ◌∷◌, ◌++◌, length, get_or, decimal, codes, refl, sym, ap, subst, ◌∙◌, arith, append_assoc, append-nil}
 use Rattle.std.proofs.lemmas.Fmt.{decimal_injective}
 use Rattle.std.proofs.lemmas.List.{append_cancel_left}
-use Rattle.cert_check.specs.Readings.{Files, MayBe}
-use Rattle.cert_text.specs.declared.answers.CertHead.{CertHead}
+use Rattle.cert_file.specs.Readings.{Files, MayBe}
 use Rattle.cert_text.specs.declared.claim.Claim.{Claim}
 use Rattle.cert_text.specs.declared.claim.Claim.TheVariants.{Open, Broken, NoChain, Floor, TheScore}
-use Rattle.cert_text.specs.declared.answers.Form.TheVariants.{First}
-use Rattle.cert_text.specs.HeadTexts.{Heads}
 use Rattle.cert_text.specs.Lines.{BeginsClaim, HasNoFeed, IsClaim, claim_line, claim_word, line_part}
-use Rattle.cert_text.proofs.HeadBacks.{heads_before}
 use Rattle.cert_text.proofs.LineLemmas.{word_has_no_feed}
 use Rattle.cert_text.proofs.PartLemmas.{line_part-goes}
-use Rattle.fux_grid.specs.declared.exercise.Exercise.{Exercise}
 use Rattle.fux_port.specs.Files.{HasFile, MayHave}
 
 -- the first line feed splits bytes in one way
@@ -92,9 +86,3 @@ such_of files name bytes has Such known = at known.had
     at : MayHave files name known.bytes → Such bytes
     at (inl untold) = cc
     at (inr other) = let same : known.bytes ≡ bytes = cc in subst Such same known.such
-
--- a head that a front is stands at the front of all bytes
-pub at_front : (ex : Exercise) (head : CertHead) (bytes front rest : List ℕ) → bytes ≡ front ++ rest
-    → Heads ex First front head (length front) → Heads ex First bytes head (length front)
-at_front ex head bytes front rest e heads =
-    subst (λ xs. Heads ex First xs head (length front)) (sym e) (heads_before ex First front rest head heads)

@@ -1,8 +1,8 @@
 use Rattle.std.proofs.Common.{◌<◌, ◌≤◌, nat_lt, length, refl, sym, ap, subst, ◌∙◌, arith}
 use Rattle.fux_port.specs.Counts.{Rose}
-use Rattle.cert_check.specs.Readings.{IsAt, Reading}
-use Rattle.cert_check.proofs.PieceLemmas.{beyond_at, reaches, reads_on, written}
-use Rattle.cert_check.proofs.reader.Reader.read_on.Goals as goal
+use Rattle.cert_file.specs.Readings.{IsAt, Reading}
+use Rattle.cert_file.proofs.PieceLemmas.{beyond_at, reaches, reads_on, written}
+use Rattle.cert_file.proofs.reader.Reader.read_on.Goals as goal
 
 pub returns-then-count-gt0-clause-reads : goal.returns-then-count-gt0-clause-reads
 returns-then-count-gt0-clause-reads g c = λ front at used_up.

@@ -7,8 +7,8 @@ use Rattle.cert_text.specs.declared.answers.CertFault.TheVariants.{CertHead, Cer
 use Rattle.cert_text.specs.declared.claim.Claim.{Claim}
 use Rattle.cert_text.specs.Lines.{BeginsClaim, HasNoFeed, IsClaim, claim_line, line_part}
 use Rattle.cert_text.specs.Reading as text
-use Rattle.cert_check.specs.declared.fault.ReadFault.{ReadFault}
-use Rattle.cert_check.specs.declared.fault.ReadFault.TheVariants.{Unreadable, Text}
+use Rattle.cert_file.specs.declared.fault.ReadFault.{ReadFault}
+use Rattle.cert_file.specs.declared.fault.ReadFault.TheVariants.{Unreadable, Text}
 
 -- what contracts see of a reader: its claims, the bytes that were read and not used, and how many were read
 pub record Reading : Type 0 where

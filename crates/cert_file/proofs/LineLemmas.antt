@@ -7,9 +7,9 @@ use Rattle.std.specs.Prelude.{if◌then◌else◌}
 use Rattle.cert_text.specs.declared.answers.CertFault.TheVariants.{CertWord, CertEnd}
 use Rattle.cert_text.specs.Lines.{BeginsClaim, HasNoFeed, line_part}
 use Rattle.cert_text.proofs.PartLemmas.{begins_front, line_part-goes}
-use Rattle.cert_check.specs.Readings.{Begins, FaultAt, Files, MayBe, judged_bytes, longest_certificate}
+use Rattle.cert_file.specs.Readings.{Begins, FaultAt, Files, MayBe, judged_bytes, longest_certificate}
 use Rattle.fux_port.specs.Files.{MayHave}
-use Rattle.cert_check.proofs.FileLemmas.{behind}
+use Rattle.cert_file.proofs.FileLemmas.{behind}
 
 -- the first line of bytes behind some without a line feed
 line_part-behind : (line bytes : List ℕ) → HasNoFeed line → line_part (line ++ bytes) ≡ line ++ line_part bytes

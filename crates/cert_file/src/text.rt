@@ -1,7 +1,7 @@
 //! The line that tells a verdict.
 
 ghost use Rattle.std.specs.Prelude.{◌≡◌, IfOk, string_bytes};
-ghost use Rattle.cert_check.specs.Verdicts.{accepted_line, fault_line, refused_line, verdict_line};
+ghost use Rattle.cert_file.specs.Verdicts.{accepted_line, fault_line, refused_line, verdict_line};
 
 use crate::verdict::Verdict;
 use cert_text::{Accepted, CertFault, Refused, Why};
@@ -32,7 +32,7 @@ fn accepted_text(alloc: Global, answer: Accepted) -> Result<String, Memory>
     Ok(text)
 }
 
-/// Which claim is refused, and why.
+/// Which claim, or which number that is stated, is refused, and why.
 fn refused_text(alloc: Global, refused: Refused) -> Result<String, Memory>
     ensures { IfOk result (λ text. string_bytes text ≡ refused_line refused) }
 {
@@ -43,6 +43,7 @@ fn refused_text(alloc: Global, refused: Refused) -> Result<String, Memory>
         Why::False => write!(text, "refused at claim {number}: false\n")?,
         Why::Over => write!(text, "refused at claim {number}: over\n")?,
         Why::Short => write!(text, "refused at claim {number}: short\n")?,
+        Why::Potential => write!(text, "refused at potential {number}: false\n")?,
     }
     Ok(text)
 }

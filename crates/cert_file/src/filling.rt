@@ -5,7 +5,7 @@ ghost use Rattle.std.specs.Io.{StartsWith};
 ghost use Rattle.fux_port.specs.Counts.{Rose};
 ghost use Rattle.fux_port.specs.Files.{IsMissing};
 ghost use Rattle.fux_port.specs.Promises.{Keeps, ServesWhole};
-ghost use Rattle.cert_check.specs.Readings.{IfThere};
+ghost use Rattle.cert_file.specs.Readings.{IfThere};
 
 use fux_port::{Failed, Shelf};
 

@@ -2,7 +2,7 @@ use Rattle.std.proofs.Common.{◌≡◌, ◌≤◌, ◌+◌, ◌-◌, ℕ, List,
 use Rattle.std.specs.Io.{StartsWith}
 use Rattle.fux_port.specs.Files.{HasFile, IsMissing}
 use Rattle.fux_port.specs.Promises.{Keeps}
-use Rattle.cert_check.proofs.filling.fill.Given as goal
+use Rattle.cert_file.proofs.filling.fill.Given as goal
 
 abbrev pub invariant-loop-done : goal.invariant-loop-done
 invariant-loop-done g l =

@@ -1,7 +1,7 @@
 use Rattle.std.proofs.Common.{arith}
 use Rattle.std.proofs.lemmas.List.{length-take-le}
-use Rattle.cert_check.proofs.FileLemmas.{if_ok}
-use Rattle.cert_check.proofs.filling.read_piece.Goals as goal
+use Rattle.cert_file.proofs.FileLemmas.{if_ok}
+use Rattle.cert_file.proofs.filling.read_piece.Goals as goal
 
 pub returns-clause-end : goal.returns-clause-end
 returns-clause-end g c =

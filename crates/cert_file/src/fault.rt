@@ -2,7 +2,7 @@
 
 ghost use Rattle.std.specs.Prelude.{◌≡◌};
 ghost use Rattle.cert_text.specs.declared.answers.CertFault.TheVariants.{Memory as memory};
-ghost use Rattle.cert_check.specs.declared.fault.ReadFault.TheVariants.{Text as text, Unreadable as unreadable};
+ghost use Rattle.cert_file.specs.declared.fault.ReadFault.TheVariants.{Text as text, Unreadable as unreadable};
 
 use cert_text::CertFault;
 use fux_port::Failed;

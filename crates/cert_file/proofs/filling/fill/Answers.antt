@@ -3,8 +3,8 @@ use Rattle.std.proofs.lemmas.List.{length-take-le, take_all}
 use borrow.Rule.Slice.PartMut.{mid_of, post_of, put_mid, same_len_mid, take_put}
 use Rattle.fux_port.specs.Files.{HasFile, IsMissing}
 use Rattle.fux_port.proofs.Pieces.{whole_front}
-use Rattle.cert_check.proofs.FileLemmas.{filled}
-use Rattle.cert_check.proofs.filling.fill.Goals as goal
+use Rattle.cert_file.proofs.FileLemmas.{filled}
+use Rattle.cert_file.proofs.filling.fill.Goals as goal
 
 pub returns-then-count-eq0-clause-front : goal.returns-then-count-eq0-clause-front
 returns-then-count-eq0-clause-front g c = λ file told.

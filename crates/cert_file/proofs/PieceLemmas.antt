@@ -15,11 +15,11 @@ use Rattle.cert_text.specs.declared.claims.Taken.{Taken}
 use Rattle.cert_text.specs.Lines.{BeginsClaim, HasNoFeed, IsClaim, claim_line, line_if, line_part}
 use Rattle.cert_text.specs.Reading as text
 use Rattle.cert_text.specs.Takes.{Refuses, Takes}
-use Rattle.cert_check.specs.Readings.{Begins, EndGives, FaultAt, Files, Gives, IsAt, MayBe, Reading, ReadsOn, TakesLine, longest_certificate}
-use Rattle.cert_check.specs.declared.fault.ReadFault.{ReadFault}
-use Rattle.cert_check.specs.declared.fault.ReadFault.TheVariants.{Unreadable, Text}
-use Rattle.cert_check.proofs.FileLemmas.{ends, goes_on, longer}
-use Rattle.cert_check.proofs.LineLemmas.{beyond_line, unended_line, wrong_line}
+use Rattle.cert_file.specs.Readings.{Begins, EndGives, FaultAt, Files, Gives, IsAt, MayBe, Reading, ReadsOn, TakesLine, longest_certificate}
+use Rattle.cert_file.specs.declared.fault.ReadFault.{ReadFault}
+use Rattle.cert_file.specs.declared.fault.ReadFault.TheVariants.{Unreadable, Text}
+use Rattle.cert_file.proofs.FileLemmas.{ends, goes_on, longer}
+use Rattle.cert_file.proofs.LineLemmas.{beyond_line, unended_line, wrong_line}
 
 -- where the next piece can't be read, or shows a fault, that is what a reader gives
 pub fault_given : (files : Files) (name front begun : List ℕ) (rose later : Type 0) (now after : Reading) (fault : ReadFault)

@@ -1,7 +1,7 @@
 use Rattle.std.proofs.Common.{◌≤◌, ◌+◌, ◌-◌, length, take, drop, sym, subst, arith}
-use Rattle.cert_check.specs.Readings.{IsAt}
-use Rattle.cert_check.proofs.PieceLemmas.{length-piece, line_refused, line_taken, piece_left}
-use Rattle.cert_check.proofs.reader.Reader.take_line.Goals as goal
+use Rattle.cert_file.specs.Readings.{IsAt}
+use Rattle.cert_file.proofs.PieceLemmas.{length-piece, line_refused, line_taken, piece_left}
+use Rattle.cert_file.proofs.reader.Reader.take_line.Goals as goal
 
 pub returns-in-Ok-clause-takes : goal.returns-in-Ok-clause-takes
 returns-in-Ok-clause-takes c = λ files name front at.

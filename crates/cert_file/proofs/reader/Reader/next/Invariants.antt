@@ -1,7 +1,7 @@
 use Rattle.std.proofs.Common.{◌≡◌, ◌≤◌, ◌+◌, ◌-◌, ℕ, List}
 use Rattle.fux_port.specs.Promises.{Keeps}
-use Rattle.cert_check.specs.Readings.{IsAt}
-use Rattle.cert_check.proofs.reader.Reader.next.Given as goal
+use Rattle.cert_file.specs.Readings.{IsAt}
+use Rattle.cert_file.proofs.reader.Reader.next.Given as goal
 
 abbrev pub invariant-loop-claim : goal.invariant-loop-claim
 invariant-loop-claim g l =

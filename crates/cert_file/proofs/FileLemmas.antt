@@ -1,11 +1,11 @@
 -- What is known of a file of which more was read (`longer`), of one whose end was met (`ends`), and of one that goes on (`goes_on`).
-use Rattle.std.proofs.Common.{◌≡◌, ℕ, ◌+◌, ◌<◌, ◌≤◌, inl, inr, ⊎_elim, List, [], ◌∷◌, ◌++◌, Option, None, Some, Result, Ok, Err, IfOk, length, take, drop, refl, sym, ap, ap₂, subst, ◌∙◌, arith, append_assoc, length-append}
+use Rattle.std.proofs.Common.{◌≡◌, ℕ, ◌+◌, ◌-◌, ◌<◌, ◌≤◌, inl, inr, ⊎_elim, List, [], ◌∷◌, ◌++◌, Option, None, Some, Result, Ok, Err, IfOk, length, take, drop, refl, sym, ap, ap₂, subst, ◌∙◌, arith, append_assoc, length-append}
 use Rattle.std.proofs.Math.Seq.{take-add, take-append-add, take-append_seam}
-use Rattle.std.proofs.lemmas.List.{take_all, take-append-drop, take-append-le, length-take-le}
+use Rattle.std.proofs.lemmas.List.{drop-take, take_all, take-append-drop, take-append-le, take-take, length-take-le}
 use Rattle.std.proofs.lemmas.Bool.{cases_lt}
 use Rattle.std.specs.Io.{StartsWith}
 use Rattle.fux_port.specs.Files.{HasFile, IsMissing, MayHave, file_of}
-use Rattle.cert_check.specs.Readings.{Begins, Files, MayBe}
+use Rattle.cert_file.specs.Readings.{Begins, Files, MayBe}
 
 -- bytes begin with themselves, and with what begins what begins them
 all_begin : (xs : List ℕ) → StartsWith xs xs
@@ -117,6 +117,18 @@ first_begins files name bytes most known = record {
   had = known.had;
   such = subst (λ xs. StartsWith known.bytes xs) (sym known.such) (first_begin known.bytes most);
 }
+
+-- the front of a buffer that was written back
+pub front_written : (buf rest : List ℕ) (len count : ℕ) → count ≤ length buf → count ≤ len
+    → take count (take len (buf ++ rest)) ≡ take count buf
+front_written buf rest len count fits room = take-take count len (buf ++ rest) room ∙ take-append-le count buf rest fits
+
+-- what is left of the front of a buffer
+pub front_left : (whole front : List ℕ) (count used : ℕ) → used ≤ count → take count whole ≡ front
+    → take (count - used) (drop used whole) ≡ drop used front
+front_left whole front count used within is =
+    let size : used + (count - used) ≡ count = omega (arith, within) in
+    sym (drop-take used (count - used) whole) ∙ ap (λ n. drop used (take n whole)) size ∙ ap (λ xs. drop used xs) is
 
 -- what holds of a value that is there, and what follows
 pub if_ok : {X Y : Type 0} (result : Result X Y) (Known Told : X → Type 0) → IfOk result Known

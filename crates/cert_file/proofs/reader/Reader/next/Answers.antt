@@ -4,9 +4,9 @@ use Rattle.fux_port.specs.Counts.{Rose}
 use Rattle.fux_port.specs.Files.{MayHave}
 use Rattle.fux_port.proofs.Rises.{rose_later}
 use Rattle.cert_text.specs.declared.claim.Claim.{Claim}
-use Rattle.cert_check.specs.Readings.{Files, IsAt, ReadsOn, TakesLine}
-use Rattle.cert_check.proofs.PieceLemmas.{fault_given, gives_at_end}
-use Rattle.cert_check.proofs.reader.Reader.next.Goals as goal
+use Rattle.cert_file.specs.Readings.{Files, IsAt, ReadsOn, TakesLine}
+use Rattle.cert_file.proofs.PieceLemmas.{fault_given, gives_at_end}
+use Rattle.cert_file.proofs.reader.Reader.next.Goals as goal
 
 pub returns-in-Ok-Some-clause-gives : goal.returns-in-Ok-Some-clause-gives
 returns-in-Ok-Some-clause-gives g c = λ front at.

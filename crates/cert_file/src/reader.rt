@@ -3,7 +3,7 @@
 ghost use Rattle.std.specs.Prelude.{◌≡◌, ◌≢◌, ℕ, ◌+◌, ◌-◌, ◌<◌, ◌≤◌, true, List, Ok, drop, length, take, IfErr, OnOk};
 ghost use Rattle.fux_port.specs.Counts.{Rose};
 ghost use Rattle.fux_port.specs.Promises.{Keeps, ServesWhole};
-ghost use Rattle.cert_check.specs.Readings.{Files, GivesEnd, GivesNext, IsAt, ReadsNext, TakesLine, longest_piece, reading_from};
+ghost use Rattle.cert_file.specs.Readings.{Files, GivesEnd, GivesNext, IsAt, ReadsNext, TakesLine, longest_piece, reading_from};
 
 use crate::fault::ReadFault;
 use crate::filling::read_piece;
@@ -33,7 +33,7 @@ pub struct Reader {
 
 impl Model for Reader {
     ghost use Rattle.std.specs.Prelude.{◌-◌, take, drop};
-    ghost use Rattle.cert_check.specs.Readings.{IsReading, Reading};
+    ghost use Rattle.cert_file.specs.Readings.{IsReading, Reading};
 
     ghost Value = { Reading };
 
@@ -48,7 +48,7 @@ impl Model for Reader {
 
 impl Reader {
     /// A reader that goes on at a byte of the first piece, at which a line begins.
-    pub(crate) fn new(piece: Vec<u8>, from: usize, to: usize) -> Reader
+    pub fn new(piece: Vec<u8>, from: usize, to: usize) -> Reader
         requires long { length piece.items ≡ longest_piece }
         requires from { from ≤ to }
         requires to { to ≤ longest_piece }

@@ -1,0 +1,4 @@
+pub mod FileLemmas
+pub mod LineLemmas
+pub mod PieceLemmas
+pub mod TextLemmas
