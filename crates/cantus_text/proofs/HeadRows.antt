@@ -196,7 +196,7 @@ best-says said rest row =
     row.parts ∙ ap (λ w. w ++ row.rest) row.first.1
     ∙ ap (λ w. codes "est " ++ w) (number.parts ∙ ap (λ w. w ++ number.rest) number.first.1
     ∙ ap (λ w. (decimal penalty ++ 10 ∷ []) ++ w) (word.parts ∙ ap (λ w. w ++ word.rest) word.first.1
-    ∙ ap (λ w. codes "cantus" ++ w) (names.parts ∙ ap (λ w. w ++ names.rest) says.text
+    ∙ ap (λ w. codes "cantus" ++ w) (names.parts ∙ ap (λ w. w ++ names.rest) says.is
     ∙ ap (λ w. names_text cantus ++ w) names.behind.1))) in
     subst (λ s. SaysBehind s (98 ∷ rest)) (sym told) (
       (number.first.0, says.few, says.many),
@@ -325,11 +325,13 @@ best_text-short penalty cantus fits =
     length-decimal-le 20 penalty (omega arith) (omega (arith, fits.0)) fits.0 in
     let behind = 10 ∷ (codes "cantus" ++ names_text cantus) in
     let middle = codes "best " ++ (decimal penalty ++ behind) in
+    let last : length behind ≡ 7 + length (names_text cantus) =
+    omega (arith, length-append (codes "cantus") (names_text cantus)) in
     let outer : length (opening_text ++ (middle ++ closing_text)) ≡ 18 + (length middle + 7) =
     length-append opening_text (middle ++ closing_text) ∙ ap (λ n. 18 + n) (length-append middle closing_text) in
     let inner : length middle ≡ 5 + (length (decimal penalty) + (7 + length (names_text cantus))) =
     ap (λ n. 5 + n) (length-append (decimal penalty) behind
-    ∙ ap (λ n. length (decimal penalty) + (1 + n)) (length-append (codes "cantus") (names_text cantus))) in
+    ∙ ap (λ n. length (decimal penalty) + n) last) in
     omega (arith, number, outer, inner, names_text-short cantus, fits.2)
 
 -- so it is shorter than its limit

@@ -18,16 +18,16 @@ first_byte b c r s e = cc
 
 pub between-alone : (owed : ℕ) → Alone (Between owed)
 between-alone owed true true f g a b s t e = (refl, s ∙ sym t)
-between-alone owed true false f g a b s t e = absurd (clash (first_byte 32 10 a b
-    (ap (λ w. w ++ a) (sym s) ∙ e ∙ ap (λ w. w ++ b) t.1)))
+between-alone owed true false f g a b s t e = absurd (clash 32 10 (first_byte 32 10 a b
+    (ap (λ w. w ++ a) (sym s) ∙ e ∙ ap (λ w. w ++ b) t.1)) refl refl)
   where
-    clash : 32 ≡ 10 → ⊥
-    clash h = omega (arith, h)
-between-alone owed false true f g a b s t e = absurd (clash (first_byte 10 32 a b
-    (ap (λ w. w ++ a) (sym s.1) ∙ e ∙ ap (λ w. w ++ b) t)))
+    clash : (b c : ℕ) → b ≡ c → b ≡ 32 → c ≡ 10 → ⊥
+    clash b c h s t = omega (arith, h, s, t)
+between-alone owed false true f g a b s t e = absurd (clash 10 32 (first_byte 10 32 a b
+    (ap (λ w. w ++ a) (sym s.1) ∙ e ∙ ap (λ w. w ++ b) t)) refl refl)
   where
-    clash : 10 ≡ 32 → ⊥
-    clash h = omega (arith, h)
+    clash : (b c : ℕ) → b ≡ c → b ≡ 10 → c ≡ 32 → ⊥
+    clash b c h s t = omega (arith, h, s, t)
 between-alone owed false false f g a b s t e = (refl, s.1 ∙ sym t.1)
 
 -- no space comes next, nor the end of the line where none is owed
@@ -159,38 +159,49 @@ names_text-more p ps =
 pub record SaysNames (owed most : ℕ) (ps : List Pitch) (text : List ℕ) : Type 0 where
   pub few : owed ≤ length ps
   pub many : length ps ≤ most
-  pub text : text ≡ names_text ps
+  pub is : text ≡ names_text ps
+
+-- pitches that stand behind a space
+named-say : (owed most : ℕ) (ps : List Pitch) (rest : List ℕ) → Named (Names (owed - 1) most) ps rest
+    → ((qs : List Pitch) (text : List ℕ) → Names (owed - 1) most qs text → SaysNames (owed - 1) most qs text)
+    → SaysNames owed (suc most) ps (32 ∷ rest)
+named-say owed most ps rest named say =
+    let put = named.behind in
+    let later = say put.said put.front put.first in
+    let size : length ps ≡ suc (length put.said) = ap length put.behind.0 in
+    let end : put.front ++ put.rest ≡ names_text put.said =
+    ap (λ w. put.front ++ w) put.behind.1 ∙ append-nil put.front ∙ later.is in
+    record {
+      few = omega (arith, size, later.few);
+      many = omega (arith, size, later.many);
+      is = ap (λ w. 32 ∷ w) (named.parts ∙ ap (λ w. w ++ named.rest) named.first
+          ∙ ap (λ w. name_of named.said ++ w) (put.parts ∙ end))
+          ∙ sym (names_text-more named.said put.said) ∙ ap names_text (sym put.behind.0);
+    }
+
+behind-say : (owed most : ℕ) (ps : List Pitch) (goes : Bool) (front rest : List ℕ) → Between owed goes front
+    → Goes goes (Named (Names (owed - 1) most)) ps rest
+    → ((qs : List Pitch) (text : List ℕ) → Names (owed - 1) most qs text → SaysNames (owed - 1) most qs text)
+    → SaysNames owed (suc most) ps (front ++ rest)
+behind-say owed most ps false front rest first behind say = record {
+  few = omega (arith, first.0);
+  many = omega (arith, ap length behind.0);
+  is = ap (λ w. w ++ rest) first.1 ∙ ap (λ w. 10 ∷ w) behind.1 ∙ ap names_text (sym behind.0);
+}
+behind-say owed most ps true front rest first behind say =
+    subst (λ w. SaysNames owed (suc most) ps (w ++ rest)) (sym first) (named-say owed most ps rest behind say)
 
 pub names-say : (owed most : ℕ) (ps : List Pitch) (text : List ℕ) → owed ≤ most → Names owed most ps text
     → SaysNames owed most ps text
 names-say owed zero ps text few row = record {
   few = omega (arith, few);
   many = omega (arith, ap length row.0);
-  text = row.1 ∙ ap names_text (sym row.0);
+  is = row.1 ∙ ap names_text (sym row.0);
 }
-names-say owed (suc most) ps text few row = by row.said row.front row.rest row.first row.behind row.parts
-  where
-    by : (goes : Bool) (front rest : List ℕ) → Between owed goes front → Goes goes (Named (Names (owed - 1) most)) ps rest
-        → text ≡ front ++ rest → SaysNames owed (suc most) ps text
-    by false front rest first behind parts = record {
-      few = omega (arith, first.0);
-      many = omega (arith, ap length behind.0);
-      text = parts ∙ ap (λ w. w ++ rest) first.1 ∙ ap (λ w. 10 ∷ w) behind.1 ∙ ap names_text (sym behind.0);
-    }
-    by true front rest first behind parts =
-        let put = behind.behind in
-        let later = names-say (owed - 1) most put.said put.front (omega (arith, few)) put.first in
-        let size : length ps ≡ suc (length put.said) = ap length put.behind.0 in
-        let end : put.front ++ put.rest ≡ names_text put.said =
-        ap (λ w. put.front ++ w) put.behind.1 ∙ append-nil put.front ∙ later.text in
-        record {
-          few = omega (arith, size, later.few);
-          many = omega (arith, size, later.many);
-          text = parts ∙ ap (λ w. w ++ rest) first
-              ∙ ap (λ w. 32 ∷ w) (behind.parts ∙ ap (λ w. w ++ behind.rest) behind.first
-              ∙ ap (λ w. name_of behind.said ++ w) (put.parts ∙ end))
-              ∙ sym (names_text-more behind.said put.said) ∙ ap names_text (sym put.behind.0);
-        }
+names-say owed (suc most) ps text few row =
+    subst (SaysNames owed (suc most) ps) (sym row.parts)
+    (behind-say owed most ps row.said row.front row.rest row.first row.behind
+    (λ qs t. names-say (owed - 1) most qs t (omega (arith, few))))
 
 pub names-of : (owed most : ℕ) (ps : List Pitch) → owed ≤ length ps → length ps ≤ most
     → Names owed most ps (names_text ps)
