@@ -106,36 +106,36 @@ module _ {A : Type 0} (L : A → List ℕ → Type 0) (alone : Alone L) (bytes :
 -- ---- a front that is longer than each text
 
 module _ {A : Type 0} (L : A → List ℕ → Type 0) (limit : ℕ) (short : (x : A) (text : List ℕ) → L x text → length text < limit)
-  (bytes : List ℕ) where
-    begun-short : (n : ℕ) → n ≤ length bytes → Begins L (take n bytes) → n < limit
-    begun-short n within (x, rest, text) =
-        omega (
-          arith,
-          short x (take n bytes ++ rest) text,
-          length-append (take n bytes) rest,
-          length-take-le n bytes within,
-        )
+    (bytes : List ℕ) where
+  begun-short : (n : ℕ) → n ≤ length bytes → Begins L (take n bytes) → n < limit
+  begun-short n within (x, rest, text) =
+      omega (
+        arith,
+        short x (take n bytes ++ rest) text,
+        length-append (take n bytes) rest,
+        length-take-le n bytes within,
+      )
 
-    whole-short : (x : A) (n : ℕ) → Stands L bytes x n → n < limit
-    whole-short x n stands =
-        omega (arith, short x (take n bytes) stands.text, length-take-le n bytes stands.within)
+  whole-short : (x : A) (n : ℕ) → Stands L bytes x n → n < limit
+  whole-short x n stands =
+      omega (arith, short x (take n bytes) stands.text, length-take-le n bytes stands.within)
 
-    -- no text goes on farther by all of the bytes
-    pub goes_to-whole : (at : ℕ) → GoesTo L (take limit bytes) at → GoesTo L bytes at
-    goes_to-whole at goes =
-        let size = length-take limit bytes in
-        let same = λ (n : ℕ) (few : n ≤ limit). take-take n limit bytes few in
-        record {
-          within = omega (arith, size, goes.within);
-          begins = subst (Begins L) (same at (omega (arith, size, goes.within))) goes.begins;
-          longest = λ n within begins.
-              let few : n < limit = begun-short n within begins in
-              goes.longest n (omega (arith, size, within, few))
-              (subst (Begins L) (sym (same n (omega (arith, few)))) begins);
-          unfinished = λ x n stands.
-              let few : n < limit = whole-short x n stands in
-              goes.unfinished x n record {
-                within = omega (arith, size, stands.within, few);
-                text = subst (L x) (sym (same n (omega (arith, few)))) stands.text;
-              };
-        }
+  -- no text goes on farther by all of the bytes
+  pub goes_to-whole : (at : ℕ) → GoesTo L (take limit bytes) at → GoesTo L bytes at
+  goes_to-whole at goes =
+      let size = length-take limit bytes in
+      let same = λ (n : ℕ) (few : n ≤ limit). take-take n limit bytes few in
+      record {
+        within = omega (arith, size, goes.within);
+        begins = subst (Begins L) (same at (omega (arith, size, goes.within))) goes.begins;
+        longest = λ n within begins.
+            let few : n < limit = begun-short n within begins in
+            goes.longest n (omega (arith, size, within, few))
+            (subst (Begins L) (sym (same n (omega (arith, few)))) begins);
+        unfinished = λ x n stands.
+            let few : n < limit = whole-short x n stands in
+            goes.unfinished x n record {
+              within = omega (arith, size, stands.within, few);
+              text = subst (L x) (sym (same n (omega (arith, few)))) stands.text;
+            };
+      }

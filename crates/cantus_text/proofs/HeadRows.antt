@@ -1,6 +1,6 @@
 -- The row of a head has the texts of heads (`head-says`, `head-of`), none of which begins another one (`heads-alone`). What its pieces
 -- read it reads, and where they stop it stops.
-use Rattle.std.proofs.Common.{◌≡◌, ◌⊎◌, inl, inr, ℕ, ◌+◌, ◌-◌, ◌*◌, ◌<◌, ◌≤◌, ◌^◌, Bool, true, false, List, [], ◌∷◌, ◌++◌, Option, Some, None, length, length-append, refl, sym, ap, subst, ◌∙◌, append_assoc, arith}
+use Rattle.std.proofs.Common.{◌≡◌, inl, inr, ℕ, ◌+◌, ◌-◌, ◌*◌, ◌<◌, ◌≤◌, Bool, true, false, List, [], ◌∷◌, ◌++◌, Some, None, length, length-append, refl, sym, ap, subst, ◌∙◌, append_assoc, arith}
 use Rattle.std.specs.Prelude.{◌==◌, codes}
 use Rattle.std.specs.Fmt.{decimal}
 use Rattle.std.proofs.lemmas.Fmt.{length-decimal-le}
@@ -12,7 +12,7 @@ use Rattle.cert_text.specs.Pieces.{Fixed, Literal, OneByte, Reads, Stops, Then}
 use Rattle.cert_text.proofs.HeadStops.{fixed-reads, fixed-stops}
 use Rattle.cert_text.proofs.NumberLemmas.{numbers-alone}
 use Rattle.cert_text.proofs.PieceLemmas.{Alone, Live, byte-alone, fixed-alone, reads-then, stops-behind, stops-first, then-alone, then-live}
-use Rattle.cantus_text.specs.Heads.{GoesTo, IsHeadText, IsSaid, Said, Stands, closing_text, head_text, opening_text}
+use Rattle.cantus_text.specs.Heads.{GoesTo, IsHeadText, IsSaid, Said, closing_text, head_text, opening_text}
 use Rattle.cantus_text.specs.Rows.{BestRow, CantusRow, HeadRow, KindRow, KindsRow, Names, NothingRow, none_rest}
 use Rattle.cantus_text.proofs.Fronts.{few-left, goes-to}
 use Rattle.cantus_text.proofs.NameRows.{names-alone, names-live, names-of, names-say, names_text, names_text-more}
@@ -318,6 +318,12 @@ names_text-short (p ∷ ps) =
       names_text-short ps,
     )
 
+opening-size : length opening_text ≡ 18
+opening-size = refl
+
+closing-size : length closing_text ≡ 7
+closing-size = refl
+
 best_text-short : (penalty : ℕ) (cantus : List Pitch) → IsSaid (Some (penalty, cantus))
     → length (head_text (Some (penalty, cantus))) ≤ 200
 best_text-short penalty cantus fits =
@@ -325,14 +331,19 @@ best_text-short penalty cantus fits =
     length-decimal-le 20 penalty (omega arith) (omega (arith, fits.0)) fits.0 in
     let behind = 10 ∷ (codes "cantus" ++ names_text cantus) in
     let middle = codes "best " ++ (decimal penalty ++ behind) in
-    let last : length behind ≡ 7 + length (names_text cantus) =
-    omega (arith, length-append (codes "cantus") (names_text cantus)) in
-    let outer : length (opening_text ++ (middle ++ closing_text)) ≡ 18 + (length middle + 7) =
-    length-append opening_text (middle ++ closing_text) ∙ ap (λ n. 18 + n) (length-append middle closing_text) in
-    let inner : length middle ≡ 5 + (length (decimal penalty) + (7 + length (names_text cantus))) =
-    ap (λ n. 5 + n) (length-append (decimal penalty) behind
-    ∙ ap (λ n. length (decimal penalty) + n) last) in
-    omega (arith, number, outer, inner, names_text-short cantus, fits.2)
+    omega (
+      arith,
+      number,
+      opening-size,
+      closing-size,
+      length-append opening_text (middle ++ closing_text),
+      length-append middle closing_text,
+      length-append (codes "best ") (decimal penalty ++ behind),
+      length-append (decimal penalty) behind,
+      length-append (codes "cantus") (names_text cantus),
+      names_text-short cantus,
+      fits.2,
+    )
 
 -- so it is shorter than its limit
 pub heads_are_short : (said : Said) (text : List ℕ) → IsHeadText said text → length text < 65536

@@ -257,6 +257,15 @@ more_rose Made Ready Missing later rose (Err (unmade.Stopped stop.Memory)) so ma
 more_rose Made Ready Missing later rose (Err unmade.Unreadable) so made =
     (made.0, elim made.1 [ inl failed ↦ inl (so failed) | inr missing ↦ inr missing ])
 
+-- what a shelf answers that tells the same files is what the first one does
+pub within_same : (Made : Files → Work → Type 0) (Ready later rose : Type 0) (files later_files : Files) (name : List ℕ)
+    (answer : Result Output Unmade) → later_files ≡ files → (later → rose)
+    → AnswersWithin (Made later_files) (Ready × (later ⊎ IsMissing later_files name)) answer
+    → AnswersWithin (Made files) (Ready × (rose ⊎ IsMissing files name)) answer
+within_same Made Ready later rose files later_files name answer same so made =
+    more_rose (Made files) Ready (IsMissing files name) later rose answer so
+    (subst (λ told. AnswersWithin (Made told) (Ready × (later ⊎ IsMissing told name)) answer) same made)
+
 -- the same of any command that reads one file within its work
 module _ (task : Task) (within : List ℕ) (files : Files) (rose : Type 0)
     (only : (bytes : List (List ℕ)) → names_within task bytes ≡ within ∷ []) where

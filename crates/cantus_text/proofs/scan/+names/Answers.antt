@@ -1,4 +1,4 @@
-use Rattle.std.proofs.Common.{◌≡◌, ◌-◌, ◌∷◌, [], ◌++◌, append-nil, append_assoc, refl, subst, sym, suc, ◌∙◌, ap}
+use Rattle.std.proofs.Common.{◌-◌, ◌∷◌, [], ◌++◌, append-nil, append_assoc, subst, sym, ◌∙◌, ap}
 use Rattle.std.proofs.lemmas.Result.{err_from_is_err_and}
 use Rattle.cert_text.specs.Pieces.{Reads, Stops}
 use Rattle.cert_text.proofs.PieceLemmas.{IfErr-map, IfOk-map}

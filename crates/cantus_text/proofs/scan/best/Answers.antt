@@ -1,7 +1,6 @@
-use Rattle.std.proofs.Common.{◌++◌, [], ap, subst, sym, ◌∙◌}
+use Rattle.std.proofs.Common.{◌++◌, ap, subst, sym, ◌∙◌}
 use Rattle.std.proofs.lemmas.Result.{err_from_is_err_and}
-use Rattle.cert_text.specs.Pieces.{Reads}
-use Rattle.cantus_text.specs.Rows.{BestRow, ReadsBest}
+use Rattle.cantus_text.specs.Rows.{ReadsBest}
 use Rattle.cantus_text.proofs.HeadRows.{best-reads, closing-stops, est-stops, names-stops, number-stops, word-stops}
 use Rattle.cantus_text.proofs.scan.best.Goals as goal
 
