@@ -25,10 +25,11 @@ use Rattle.cantus_space.specs.Lawful.{IsEarlier, IsLawful, penalty_of}
 use Rattle.cantus_space.specs.Numbers.{WIDTH, numbered_pitch}
 use Rattle.cantus_space.specs.Rules.{breaks, breaks_some_rule, floor_of, is_live, may_come, rules}
 use Rattle.cantus_law.specs.Begun.{floor_at_end}
-use Rattle.cantus_law.specs.Certificates.{Holds, IsHeadSound, is_open, tree_of}
+use Rattle.cert_tree.proofs.OwnClaims.{written_from}
+use Rattle.cantus_law.specs.Certificates.{Holds, IsCantusCertificate, IsHeadSound, is_open, tree_of}
 use Rattle.cantus_law.specs.Claims.{IsCantusOf, IsNoBetter, IsTrueOf, Said, has_break_of, longer_lists}
 use Rattle.cantus_law.specs.Orders.{earlier-cases, earlier-itself, pitch-itself}
-use Rattle.cantus_law.specs.Writer.{first_claim, is_cantus_of, is_equal, is_less, is_no_better, least_break, pitches_order, unbroken_claim}
+use Rattle.cantus_law.specs.Writer.{claims_of, first_claim, is_cantus_of, is_equal, is_less, is_no_better, least_break, pitches_order, unbroken_claim}
 
 -- ---- tests
 
@@ -317,3 +318,9 @@ module _ (plan : CantusPlan) (said : Said) (holds : Holds plan said) where
 pub sound_if_holds : (plan : CantusPlan) (said : Said) → Holds plan said → IsHeadSound plan said
 sound_if_holds plan None holds = tt
 sound_if_holds plan (Some best) holds = (holds.0.lawful, holds.1)
+
+pub written_is_valid : (plan : CantusPlan) (said : Said) → Holds plan said → IsCantusCertificate plan said (claims_of plan said)
+written_is_valid plan said holds = record {
+  sound = sound_if_holds plan said holds;
+  certified = written_from (tree_of plan said) (first_claim plan said) plan.bars [] (all_true plan said holds);
+}

@@ -14,18 +14,12 @@ ghost use Rattle.cantus_law.specs.Writer as words;
 
 use crate::known::CantusKnown;
 use cantus_space::CantusSpace;
+use cantus_text::CantusHead;
 use cert_text::Claim;
 use cert_tree::ClaimTree;
-use fux_pitch::{List, Pitch, semitone};
+use fux_pitch::{Pitch, semitone};
 use rule_law::RuleSet;
 use std::cmp::Ordering;
-
-/// What a certificate's head says.
-#[derive(Drop)]
-pub struct CantusHead {
-    /// The best cantus and its penalty, or that no cantus is lawful.
-    pub best: Option<(u64, List<Pitch>)>,
-}
 
 /// A space of cantus, and the head of a certificate.
 #[derive(Drop)]

@@ -5,6 +5,6 @@ mod case;
 mod known;
 mod law;
 
-pub use case::{CantusCase, CantusHead};
+pub use case::CantusCase;
 pub use known::CantusKnown;
 pub use law::{pools_are_listed, shown_by, written};

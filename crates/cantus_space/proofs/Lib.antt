@@ -1,6 +1,7 @@
 mod AheadLemmas
 mod Best
 mod Children
+mod LawfulLemmas
 mod NodeLemmas
 mod Trees
 mod PoolSteps

@@ -5,6 +5,7 @@
 mod ahead;
 mod costs;
 mod law;
+mod lawful;
 mod node;
 mod notes;
 mod path;
@@ -14,6 +15,7 @@ mod search;
 mod space;
 
 pub use law::is_tree_of_cantus;
+pub use lawful::lawful_penalty;
 pub use node::CantusNode;
 pub use path::cantus_of;
 pub use plan::CantusPlan;

@@ -18,3 +18,4 @@ pub use claims::{Claims, Taken};
 pub use heads::{head, head_any, heads_are_of_settings};
 pub use potential::{Potential, write_potential};
 pub use potentials::{Potentials, TakenPotential};
+pub use scan::{fixed, next, number_line, pitch};

@@ -26,7 +26,7 @@ pub struct Scan<'a> {
 }
 
 /// The next byte, and those behind it.
-fn next(bytes: &[u8]) -> Option<(u8, &[u8])>
+pub fn next(bytes: &[u8]) -> Option<(u8, &[u8])>
     ensures some { IfSome result (λ found. bytes.now ≡ found.0 ∷ found.1.now) }
     ensures none { result ≡ None → bytes.now ≡ [] }
 {
@@ -37,7 +37,7 @@ fn next(bytes: &[u8]) -> Option<(u8, &[u8])>
 }
 
 /// Reads this text.
-fn fixed<'a>(bytes: &'a [u8], text: &[u8]) -> Result<&'a [u8], usize>
+pub fn fixed<'a>(bytes: &'a [u8], text: &[u8]) -> Result<&'a [u8], usize>
     ensures ok { IfOk result (λ rest. Reads (Literal text.now) bytes.now tt rest.now) }
     ensures err { IfErr result (λ left. Stops (Literal text.now) bytes.now left) }
 {
@@ -82,7 +82,7 @@ fn ended(number: Option<u64>, byte: u8) -> Option<u64>
 }
 
 /// Reads a number and a line feed.
-fn number_line(bytes: &[u8]) -> Result<(u64, &[u8]), usize>
+pub fn number_line(bytes: &[u8]) -> Result<(u64, &[u8]), usize>
     ensures ok { IfOk result (λ found. Reads NumberLine bytes.now found.0 found.1.now) }
     ensures err { IfErr result (λ left. Stops NumberLine bytes.now left) }
 {
@@ -147,7 +147,7 @@ fn behind_name(bytes: &[u8]) -> usize
 }
 
 /// Reads the name of a pitch.
-fn pitch(bytes: &[u8]) -> Result<(Pitch, &[u8]), usize>
+pub fn pitch(bytes: &[u8]) -> Result<(Pitch, &[u8]), usize>
     ensures ok { IfOk result (λ found. Reads PitchName bytes.now found.0 found.1.now) }
     ensures err { IfErr result (λ left. Stops PitchName bytes.now left) }
 {

@@ -23,14 +23,19 @@ use Rattle.fux_run.specs.declared.work.Unmade.{Unmade}
 use Rattle.fux_run.specs.declared.work.Unmade.TheVariants as unmade
 use Rattle.fux_run.specs.declared.work.Verdict.{Verdict}
 use Rattle.fux_run.specs.declared.work.Verdict.TheVariants.{Favorable, Unfavorable}
+use Rattle.cantus_check.specs.Answers.{IsVerdictOn as IsCantusVerdict}
+use Rattle.fux_run.specs.declared.command.Wanted.{Wanted}
+use Rattle.fux_run.specs.CantusChecked.{ChecksCantusBy}
+use Rattle.fux_run.specs.Invented.{plan_of}
 use Rattle.fux_run.specs.Checked.{AnswersWithin, IsAccepted, IsChecked, IsOnlyVerdict, Judges, told}
 use Rattle.class_marker.specs.Lists.{listed_names}
 use Rattle.class_marker.specs.Markings.{IsContent}
 use Rattle.fux_text.proofs.ReadTexts.{texts-faultless}
 use Rattle.fux_text.specs.Texts.{IsTextOf}
 use Rattle.fux_run.specs.Classes.{RefusesList}
-use Rattle.fux_run.specs.Commands.{Task, as_list, certify, check, class_report, drill, find_canon, find_cantus, fromsmf, name_in, names_in, names_listed, names_within, on_exercise}
-use Rattle.fux_run.specs.Runs.{IsMade, IsRefused, IsWritten, SaysWithin, work_output}
+use Rattle.fux_run.specs.Commands.{Task, as_list, certify, certify_cantus, check, check_cantus, class_report, drill, find_canon, find_cantus, fromsmf, limit_in, name_in, names_in, names_listed, names_within, on_exercise}
+use Rattle.fux_run.specs.Complaints.{name_text}
+use Rattle.fux_run.specs.Runs.{IsMade, IsRefused, IsUnread, IsWritten, SaysWithin, work_output}
 use Rattle.fux_run.specs.declared.refusal.Refusal.{Refusal}
 use Rattle.fux_run.specs.declared.refusal.Refusal.TheVariants as refusal
 use Rattle.fux_run.specs.Searched.{IsNarrow, RefusesWidth}
@@ -102,6 +107,12 @@ checked_is_there files certificate sheets text output (inl on) missing =
     ]
 checked_is_there files certificate sheets text output (inr none) missing = cc none.is
 
+cantus_is_there : (wanted : Wanted) (files : Files) (certificate : List ℕ) (sheets : List (List ℕ)) (output : Output)
+    → ChecksCantusBy wanted files certificate sheets (Ok output) → IsMissing files certificate → ⊥
+cantus_is_there wanted files certificate sheets output (inl over) missing =
+    may_be_there files certificate (IsCantusVerdict (plan_of wanted over.sheet) over.made.said) over.made.judges missing
+cantus_is_there wanted files certificate sheets output (inr none) missing = cc none.is
+
 class_is_there : (files : Files) (text name : List ℕ) (names : List (List ℕ)) (output : Output) → IsClassOf files text output
     → names_listed (listed_names text) ≡ names → Contains names name → IsMissing files name → ⊥
 class_is_there files text name names output made listed one missing =
@@ -119,6 +130,9 @@ output_is_there (fromsmf file head) files name bytes output made one missing = o
 output_is_there (drill number) files name bytes output made one missing = omega (arith, one.1)
 output_is_there (find_canon file sheet budget) files name bytes output made one missing = omega (arith, one.1)
 output_is_there (find_cantus wanted sheet budget) files name bytes output made one missing = omega (arith, one.1)
+output_is_there (certify_cantus wanted sheet budget) files name bytes output made one missing = omega (arith, one.1)
+output_is_there (check_cantus wanted certificate sheet) files name sheets output made one missing =
+    cantus_is_there wanted files certificate sheets output made (rw (the_one certificate name one.0 one.1 one.2) missing)
 output_is_there (class_report list) files name (text ∷ []) output made one missing =
     class_is_there files text name (names_listed (listed_names text)) output made refl one missing
 output_is_there (class_report list) files name [] output made one missing = absurd made
@@ -219,6 +233,12 @@ not_refused (fromsmf file head) files bytes refusal made ready = ready
 not_refused (drill number) files bytes refusal made ready = ready
 not_refused (find_canon file sheet budget) files bytes refusal made ready = ready
 not_refused (find_cantus wanted sheet budget) files bytes refusal made ready = ready
+not_refused (certify_cantus wanted sheet budget) files bytes refusal made ready = ready
+not_refused (check_cantus wanted certificate sheet) files sheets refusal made ready =
+    elim made [
+      | inl over ↦ absurd over.made
+      | inr none ↦ not_refused_sheet sheets ready.sheet none.refusal ready.said none.cause
+    ]
 
 pub refused_unready : (task : Task) (files : Files) (bytes : List (List ℕ)) (text : List ℕ)
     → AllHave files (names_in task) bytes → Works task files (IsRefused (name_in task) text) → IsReadyFor task bytes → ⊥
@@ -229,13 +249,60 @@ refused_unready task files bytes text have on ready =
 
 -- ---- what is made of the files
 
-more_rose : (Made : Work → Type 0) (Ready Missing later rose : Type 0) (answer : Result Output Unmade) → (later → rose)
+pub more_rose : (Made : Work → Type 0) (Ready Missing later rose : Type 0) (answer : Result Output Unmade) → (later → rose)
     → AnswersWithin Made (Ready × (later ⊎ Missing)) answer → AnswersWithin Made (Ready × (rose ⊎ Missing)) answer
 more_rose Made Ready Missing later rose (Ok output) so made = made
 more_rose Made Ready Missing later rose (Err (unmade.Stopped (stop.Refused refusal))) so made = made
 more_rose Made Ready Missing later rose (Err (unmade.Stopped stop.Memory)) so made = made
 more_rose Made Ready Missing later rose (Err unmade.Unreadable) so made =
     (made.0, elim made.1 [ inl failed ↦ inl (so failed) | inr missing ↦ inr missing ])
+
+-- what a shelf answers that tells the same files is what the first one does
+pub within_same : (Made : Files → Work → Type 0) (Ready later rose : Type 0) (files later_files : Files) (name : List ℕ)
+    (answer : Result Output Unmade) → later_files ≡ files → (later → rose)
+    → AnswersWithin (Made later_files) (Ready × (later ⊎ IsMissing later_files name)) answer
+    → AnswersWithin (Made files) (Ready × (rose ⊎ IsMissing files name)) answer
+within_same Made Ready later rose files later_files name answer same so made =
+    more_rose (Made files) Ready (IsMissing files name) later rose answer so
+    (subst (λ told. AnswersWithin (Made told) (Ready × (later ⊎ IsMissing told name)) answer) same made)
+
+-- the same of any command that reads one file within its work
+module _ (task : Task) (within : List ℕ) (files : Files) (rose : Type 0)
+    (only : (bytes : List (List ℕ)) → names_within task bytes ≡ within ∷ []) where
+  pub within_said : (contents : List Content) (answer : Result Output Unmade) (told : Result Output Complaint)
+      → AreRead (limit_in task) files (names_in task) contents
+      → ((bytes : List (List ℕ)) → AreContents (limit_in task) contents bytes
+      → AnswersWithin (Makes task files bytes) (IsReadyFor task bytes × (rose ⊎ IsMissing files within)) answer)
+      → SaysWithin (name_in task) within answer told → IsMade task files rose told
+  within_said contents (Ok output) told read made says =
+      rw says (works_on task files contents (Ok output) (λ work. work ≡ Ok output) read made refl)
+  within_said contents (Err (unmade.Stopped (stop.Refused refusal))) (Err (Refused text)) read made says =
+      works_on task files contents (Err refusal) (IsRefused (name_in task) text) read made record
+      { refusal = refusal; is = refl; told = says }
+  within_said contents (Err (unmade.Stopped (stop.Refused refusal))) (Err OutOfMemory) read made says = tt
+  within_said contents (Err (unmade.Stopped (stop.Refused refusal))) (Err Usage) read made says = absurd says
+  within_said contents (Err (unmade.Stopped (stop.Refused refusal))) (Err (Unreadable file)) read made says =
+      absurd says
+  within_said contents (Err (unmade.Stopped (stop.Refused refusal))) (Err Unwritable) read made says = absurd says
+  within_said contents (Err (unmade.Stopped (stop.Refused refusal))) (Ok output) read made says = absurd says
+  within_said contents (Err (unmade.Stopped stop.Memory)) told read made says = rw says tt
+  within_said contents (Err unmade.Unreadable) (Err (Unreadable file)) read made says =
+      let known = have_bytes (limit_in task) files (names_in task) contents read in
+      let unread = made known.bytes known.content in
+      inr record {
+        bytes = known.bytes;
+        had = known.had;
+        ready = unread.0;
+        unread = subst (λ names. IsUnread files rose names (name_text file)) (sym (only known.bytes)) record {
+          asked = (0, omega arith, sym says);
+          cause = elim unread.1 [ inl failed ↦ inl failed | inr missing ↦ inr (inl (sym says, missing)) ];
+        };
+      }
+  within_said contents (Err unmade.Unreadable) (Err Usage) read made says = absurd says
+  within_said contents (Err unmade.Unreadable) (Err (Refused text)) read made says = absurd says
+  within_said contents (Err unmade.Unreadable) (Err Unwritable) read made says = absurd says
+  within_said contents (Err unmade.Unreadable) (Err OutOfMemory) read made says = absurd says
+  within_said contents (Err unmade.Unreadable) (Ok output) read made says = absurd says
 
 module _ (name certificate : List ℕ) (sheet : Option (List ℕ)) (files : Files) (rose : Type 0) where
   abbrev task : Task
@@ -264,32 +331,4 @@ module _ (name certificate : List ℕ) (sheet : Option (List ℕ)) (files : File
       → ((bytes : List (List ℕ)) → AreContents 65536 contents bytes
       → AnswersWithin (Makes task files bytes) (IsReadyFor task bytes × (rose ⊎ IsMissing files certificate)) answer)
       → SaysWithin name certificate answer told → IsMade task files rose told
-  checked_said contents (Ok output) told read made says =
-      rw says (works_on task files contents (Ok output) (λ work. work ≡ Ok output) read made refl)
-  checked_said contents (Err (unmade.Stopped (stop.Refused refusal))) (Err (Refused text)) read made says =
-      works_on task files contents (Err refusal) (IsRefused name text) read made record
-      { refusal = refusal; is = refl; told = says }
-  checked_said contents (Err (unmade.Stopped (stop.Refused refusal))) (Err OutOfMemory) read made says = tt
-  checked_said contents (Err (unmade.Stopped (stop.Refused refusal))) (Err Usage) read made says = absurd says
-  checked_said contents (Err (unmade.Stopped (stop.Refused refusal))) (Err (Unreadable file)) read made says =
-      absurd says
-  checked_said contents (Err (unmade.Stopped (stop.Refused refusal))) (Err Unwritable) read made says = absurd says
-  checked_said contents (Err (unmade.Stopped (stop.Refused refusal))) (Ok output) read made says = absurd says
-  checked_said contents (Err (unmade.Stopped stop.Memory)) told read made says = rw says tt
-  checked_said contents (Err unmade.Unreadable) (Err (Unreadable file)) read made says =
-      let known = have_bytes 65536 files (names_in task) contents read in
-      let unread = made known.bytes known.content in
-      inr record {
-        bytes = known.bytes;
-        had = known.had;
-        ready = unread.0;
-        unread = record {
-          asked = (0, omega arith, sym says);
-          cause = elim unread.1 [ inl failed ↦ inl failed | inr missing ↦ inr (inl (sym says, missing)) ];
-        };
-      }
-  checked_said contents (Err unmade.Unreadable) (Err Usage) read made says = absurd says
-  checked_said contents (Err unmade.Unreadable) (Err (Refused text)) read made says = absurd says
-  checked_said contents (Err unmade.Unreadable) (Err Unwritable) read made says = absurd says
-  checked_said contents (Err unmade.Unreadable) (Err OutOfMemory) read made says = absurd says
-  checked_said contents (Err unmade.Unreadable) (Ok output) read made says = absurd says
+  checked_said = within_said task certificate files rose (λ bytes. refl)

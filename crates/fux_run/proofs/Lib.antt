@@ -2,6 +2,8 @@ pub mod AskedLemmas
 pub mod BestLemmas
 pub mod BlameLemmas
 pub mod CanonLemmas
+pub mod CantusCertifyLemmas
+pub mod CantusCheckLemmas
 pub mod CantusLemmas
 pub mod CertifyLemmas
 pub mod CheckLemmas

@@ -13,11 +13,11 @@ use Rattle.fux_text.specs.Names.{mode_named, pitch_named}
 use Rattle.smf_score.specs.Heads.{IsHead}
 use Rattle.text_lines.specs.Numbers.{number_within}
 use Rattle.fux_run.specs.declared.command.Command.{Command}
-use Rattle.fux_run.specs.declared.command.Command.TheVariants.{Certify, Make}
+use Rattle.fux_run.specs.declared.command.Command.TheVariants.{Certify, CertifyCantus, Make}
 use Rattle.fux_run.specs.declared.command.Job.{Job}
 use Rattle.fux_run.specs.declared.command.Job.TheVariants.{Compose, Mark, Cantus, Print, ToSmf}
 use Rattle.fux_run.specs.declared.command.Making.{Making}
-use Rattle.fux_run.specs.declared.command.Making.TheVariants.{OnExercise, Check, FromSmf, Drill, Class, Canon, NewCantus}
+use Rattle.fux_run.specs.declared.command.Making.TheVariants.{OnExercise, Check, FromSmf, Drill, Class, Canon, NewCantus, CheckCantus}
 use Rattle.fux_run.specs.declared.command.Wanted.{Wanted}
 
 -- words as their bytes
@@ -34,6 +34,8 @@ pub data Task : Type 0 where
   class_report : (list : Text) → Task
   find_canon : (name : Text) (sheet : Option Text) (budget : ℕ) → Task
   find_cantus : (wanted : Wanted) (sheet : Option Text) (budget : ℕ) → Task
+  certify_cantus : (wanted : Wanted) (sheet : Option Text) (budget : ℕ) → Task
+  check_cantus : (wanted : Wanted) (certificate : Text) (sheet : Option Text) → Task
 
 -- the name of a sheet, as its bytes
 abbrev pub sheet_named : Option (Bor (List ℕ)) → Option (List ℕ)
@@ -48,10 +50,12 @@ making_task (Drill number) = drill number
 making_task (Class list) = class_report list.now
 making_task (Canon name sheet budget) = find_canon name.now (sheet_named sheet) budget
 making_task (NewCantus wanted sheet budget) = find_cantus wanted (sheet_named sheet) budget
+making_task (CheckCantus wanted certificate sheet) = check_cantus wanted certificate.now (sheet_named sheet)
 
 abbrev pub task_of : Command → Task
 task_of (Make making) = making_task making
 task_of (Certify name sheet budget) = certify name.now (sheet_named sheet) budget
+task_of (CertifyCantus wanted sheet budget) = certify_cantus wanted (sheet_named sheet) budget
 
 -- what is asked of a new cantus is within the limits
 pub record IsWanted (wanted : Wanted) : Type 0 where
@@ -63,11 +67,13 @@ pub record IsWanted (wanted : Wanted) : Type 0 where
 abbrev pub HasMidiHead : Making → Type 0
 HasMidiHead (FromSmf name head) = IsHead head
 HasMidiHead (NewCantus wanted sheet budget) = IsWanted wanted
+HasMidiHead (CheckCantus wanted certificate sheet) = IsWanted wanted
 HasMidiHead _ = Unit {0}
 
 abbrev pub HasHead : Command → Type 0
 HasHead (Make making) = HasMidiHead making
 HasHead (Certify name sheet budget) = Unit {0}
+HasHead (CertifyCantus wanted sheet budget) = IsWanted wanted
 
 -- ---- the words behind the first, as `clap` takes them: one that must be there, options, each once at most, and flags
 
@@ -113,11 +119,21 @@ canon_words =
     with_rule (with_rule (one_word (codes "canon") (codes "FILE")) (option_word false (codes "sheet")))
     (option_word false (codes "budget"))
 
-abbrev pub new_cantus_words : App
-new_cantus_words =
-    with_rule (with_rule (with_rule (with_rule (with_rule (one_word (codes "newcantus") (codes "MODE"))
-    (needed_word (codes "BARS"))) (needed_word (codes "LOW"))) (needed_word (codes "HIGH")))
-    (option_word false (codes "sheet"))) (option_word false (codes "budget"))
+-- a command on what is asked of a new cantus
+abbrev pub wanted_words : Text → App
+wanted_words name =
+    with_rule (with_rule (with_rule (one_word name (codes "MODE")) (needed_word (codes "BARS")))
+    (needed_word (codes "LOW"))) (needed_word (codes "HIGH"))
+
+-- one that searches
+abbrev pub new_cantus_words : Text → App
+new_cantus_words name =
+    with_rule (with_rule (wanted_words name) (option_word false (codes "sheet"))) (option_word false (codes "budget"))
+
+abbrev pub check_cantus_words : App
+check_cantus_words =
+    with_rule (with_rule (wanted_words (codes "checkcantus")) (needed_word (codes "CERT")))
+    (option_word false (codes "sheet"))
 
 -- what says how a file is to be read, each of which must be there
 abbrev pub head_words : App → App
@@ -236,6 +252,18 @@ new_cantus_asked rows = do
   budget ← budget_in (first_of (codes "budget") rows)
   Some (find_cantus wanted (first_of (codes "sheet") rows) budget)
 
+abbrev pub certify_cantus_asked : List Row → Option Task
+certify_cantus_asked rows = do
+  wanted ← wanted_in rows
+  budget ← budget_in (first_of (codes "budget") rows)
+  Some (certify_cantus wanted (first_of (codes "sheet") rows) budget)
+
+abbrev pub check_cantus_asked : List Row → Option Task
+check_cantus_asked rows = do
+  wanted ← wanted_in rows
+  certificate ← first_of (codes "CERT") rows
+  Some (check_cantus wanted certificate (first_of (codes "sheet") rows))
+
 -- ---- the commands by their first words
 
 -- what the values in words of a form ask for
@@ -245,6 +273,10 @@ asked_by form asks words = found_in form words >>= asks
 -- what a search asks for in the words behind its name
 abbrev pub search_in : Text → (List Row → Option Task) → List Text → Option Task
 search_in name asks = asked_by (search_words name) asks
+
+-- the same of a search for a new cantus
+abbrev pub cantus_search_in : Text → (List Row → Option Task) → List Text → Option Task
+cantus_search_in name asks = asked_by (new_cantus_words name) asks
 
 -- what a job asks for in the words behind its name
 abbrev pub job_in : Text → Job → List Text → Option Task
@@ -265,8 +297,10 @@ asked (word ∷ rest) =
     else (if bytes_eq word (codes "drill") then asked_by drill_words drill_asked rest
     else (if bytes_eq word (codes "class") then asked_by class_words class_asked rest
     else (if bytes_eq word (codes "canon") then asked_by canon_words canon_asked rest
-    else (if bytes_eq word (codes "newcantus") then asked_by new_cantus_words new_cantus_asked rest
-    else None)))))))))))
+    else (if bytes_eq word (codes "newcantus") then cantus_search_in (codes "newcantus") new_cantus_asked rest
+    else (if bytes_eq word (codes "certcantus") then cantus_search_in (codes "certcantus") certify_cantus_asked rest
+    else (if bytes_eq word (codes "checkcantus") then asked_by check_cantus_words check_cantus_asked rest
+    else None)))))))))))))
 
 -- ---- the files
 
@@ -280,6 +314,8 @@ name_in (drill number) = []
 name_in (class_report list) = list
 name_in (find_canon name sheet budget) = name
 name_in (find_cantus wanted sheet budget) = []
+name_in (certify_cantus wanted sheet budget) = []
+name_in (check_cantus wanted certificate sheet) = []
 
 -- what there is, as a list
 abbrev pub as_list : {X : Type 0} → Option X → List X
@@ -296,6 +332,8 @@ names_in (drill number) = []
 names_in (class_report list) = list ∷ []
 names_in (find_canon name sheet budget) = name ∷ as_list sheet
 names_in (find_cantus wanted sheet budget) = as_list sheet
+names_in (certify_cantus wanted sheet budget) = as_list sheet
+names_in (check_cantus wanted certificate sheet) = as_list sheet
 
 -- the names that a list has, where no line is at fault
 abbrev pub names_listed : Result (List Text) ℕ → List Text
@@ -306,6 +344,7 @@ names_listed (Err line) = []
 -- these bytes
 abbrev pub names_within : Task → List Text → List Text
 names_within (check name certificate sheet) bytes = certificate ∷ []
+names_within (check_cantus wanted certificate sheet) bytes = certificate ∷ []
 names_within (class_report list) (text ∷ []) = names_listed (listed_names text)
 names_within _ _ = []
 
@@ -319,3 +358,5 @@ limit_in (drill number) = 65536
 limit_in (class_report list) = 65536
 limit_in (find_canon name sheet budget) = 65536
 limit_in (find_cantus wanted sheet budget) = 65536
+limit_in (certify_cantus wanted sheet budget) = 65536
+limit_in (check_cantus wanted certificate sheet) = 65536

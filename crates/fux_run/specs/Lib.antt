@@ -1,4 +1,6 @@
 pub mod Blame
+pub mod CantusCertified
+pub mod CantusChecked
 pub mod Certified
 pub mod Checked
 pub mod Classes

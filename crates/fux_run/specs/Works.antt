@@ -15,10 +15,12 @@ use Rattle.fux_run.specs.declared.work.Stop.TheVariants.{Refused, Memory}
 use Rattle.fux_run.specs.declared.command.Job.{Job}
 use Rattle.fux_run.specs.declared.command.Job.TheVariants.{Compose, Mark, Cantus, Print, ToSmf}
 use Rattle.penalty_sheet.specs.declared.sheet.Sheet.{Sheet}
+use Rattle.fux_run.specs.CantusCertified.{MakesCantusCertificate}
+use Rattle.fux_run.specs.CantusChecked.{ChecksCantusBy}
 use Rattle.fux_run.specs.Certified.{Certifies}
 use Rattle.fux_run.specs.Checked.{AnswersWithin, Checks, IsUnreadable}
 use Rattle.fux_run.specs.Classes.{IsClass, IsList, RefusesList}
-use Rattle.fux_run.specs.Commands.{Task, on_exercise, certify, check, fromsmf, drill, class_report, find_canon, find_cantus, as_list, names_in}
+use Rattle.fux_run.specs.Commands.{Task, on_exercise, certify, check, fromsmf, drill, class_report, find_canon, find_cantus, certify_cantus, check_cantus, as_list, names_in}
 use Rattle.fux_run.specs.Complaints.{name_text}
 use Rattle.fux_run.specs.Composed.{Composes}
 use Rattle.fux_run.specs.Drilled.{Drills}
@@ -95,6 +97,8 @@ Makes (drill number) files [] work = Drills number work
 Makes (class_report list) files (text ∷ []) work = ReportsClass files text work
 Makes (find_canon name sheet budget) files (text ∷ sheets) work = MakesCanon budget sheets text work
 Makes (find_cantus wanted sheet budget) files sheets work = MakesCantus wanted budget sheets work
+Makes (certify_cantus wanted sheet budget) files sheets work = MakesCantusCertificate wanted budget sheets work
+Makes (check_cantus wanted certificate sheet) files sheets work = ChecksCantusBy wanted files certificate sheets work
 Makes _ _ _ work = ⊥
 
 -- the text is that of an exercise none of whose menus is too wide, and the file of the sheet is one where it is given
@@ -105,10 +109,16 @@ pub record IsReadyText (sheets : List (List ℕ)) (text : List ℕ) : Type 0 whe
   pub said : sheet_said sheets ≡ Ok sheet
   pub narrow : IsNarrow exercise
 
+-- the file of the sheet is one where it is given
+pub record IsReadySheet (sheets : List (List ℕ)) : Type 0 where
+  pub sheet : Sheet
+  pub said : sheet_said sheets ≡ Ok sheet
+
 -- nothing in the files with these bytes keeps a command from reading on within its work
 abbrev pub IsReadyFor : Task → List (List ℕ) → Type 0
 IsReadyFor (check name certificate sheet) (text ∷ sheets) = IsReadyText sheets text
 IsReadyFor (class_report list) (text ∷ []) = IsList text
+IsReadyFor (check_cantus wanted certificate sheet) sheets = IsReadySheet sheets
 IsReadyFor _ _ = ⊥
 
 -- an answer is of such work, or memory is wanting

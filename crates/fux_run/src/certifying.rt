@@ -76,7 +76,7 @@ fn put_certificate<K: Sink>(
 }
 
 /// Writes the line of a bound.
-fn put_bound<K: Sink>(alloc: Global, bound: u64, out: &mut K) -> Result<Verdict, Halt>
+pub fn put_bound<K: Sink>(alloc: Global, bound: u64, out: &mut K) -> Result<Verdict, Halt>
     ensures writes { WritesTo K.written K.faults (IsBoundText bound) out.old out.new result }
     ensures taken { TakesAll (K.serves out.old) → IfErr result CouldWrite }
 {

@@ -63,7 +63,7 @@ fn test_widths(exercise: &Exercise) -> Result<(), Refusal>
 }
 
 /// The line of a verdict, with what it says all in all.
-fn output_on(alloc: Global, verdict: cert_check::Verdict) -> Result<Output, Memory>
+pub fn output_on(alloc: Global, verdict: cert_check::Verdict) -> Result<Output, Memory>
     ensures { IfOk result (λ output. output ≡ told verdict) }
 {
     let text = verdict_text(alloc, verdict)?;

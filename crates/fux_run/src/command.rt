@@ -2,14 +2,15 @@
 
 ghost use Rattle.std.specs.Prelude.{◌≡◌, IfOk, IfSome, codes, option_map, true};
 ghost use Rattle.clap.specs.Words.{app_of, found_of, is_simple_and_free, rows_of};
-ghost use Rattle.fux_run.specs.Commands.{HasHead, asked, asked_by, certify_asked, check_asked, check_words, class_asked, class_words, canon_asked, canon_words, compose_asked, drill_asked, drill_words, found_in, fromsmf_asked, fromsmf_words, job_in, new_cantus_asked, new_cantus_words, search_in, task_of, texts};
+ghost use Rattle.fux_run.specs.Commands.{HasHead, asked, asked_by, cantus_search_in, certify_asked, certify_cantus_asked, check_asked, check_cantus_asked, check_cantus_words, check_words, class_asked, class_words, canon_asked, canon_words, compose_asked, drill_asked, drill_words, found_in, fromsmf_asked, fromsmf_words, job_in, new_cantus_asked, search_in, task_of, texts};
 
 use crate::forms::{
-    canon_form, check_form, class_form, drill_form, exercise_form, from_smf_form, new_cantus_form,
-    search_form,
+    canon_form, check_cantus_form, check_form, class_form, drill_form, exercise_form, from_smf_form,
+    new_cantus_form, search_form,
 };
 use crate::values::{
-    certifying, checking, classing, composing, drilling, imitating, inventing, job_on, smf_reading,
+    certifying, certifying_cantus, checking, checking_cantus, classing, composing, drilling, imitating,
+    inventing, job_on, smf_reading,
 };
 use clap::ArgMatches;
 use clap::error::ErrorKind;
@@ -85,6 +86,12 @@ pub enum Making<'a> {
         sheet: Option<&'a str>,
         budget: u32,
     },
+    /// The verdict on the certificate in a file, for what is asked of a cantus and the sheet of weights in another file where one is named.
+    CheckCantus {
+        wanted: Wanted,
+        certificate: &'a str,
+        sheet: Option<&'a str>,
+    },
 }
 
 /// What the words ask for.
@@ -96,6 +103,12 @@ pub enum Command<'a> {
     /// where one is named. It is written while it is made, for it may be longer than memory holds.
     Certify {
         name: &'a str,
+        sheet: Option<&'a str>,
+        budget: u32,
+    },
+    /// The certificate of the best new cantus, in the same way.
+    CertifyCantus {
+        wanted: Wanted,
         sheet: Option<&'a str>,
         budget: u32,
     },
@@ -122,6 +135,8 @@ pub fn parse(alloc: Global, words: &[String]) -> Result<Option<Command<'_>>, Mem
         "class" => parse_class(alloc, rest),
         "canon" => parse_canon(alloc, rest),
         "newcantus" => parse_new_cantus(alloc, rest),
+        "certcantus" => parse_certify_cantus(alloc, rest),
+        "checkcantus" => parse_check_cantus(alloc, rest),
         _ => Ok(None),
     }
 }
@@ -229,13 +244,37 @@ fn parse_canon(alloc: Global, words: &[String]) -> Result<Option<Command<'_>>, M
 /// The words behind `newcantus`.
 fn parse_new_cantus(alloc: Global, words: &[String]) -> Result<Option<Command<'_>>, Memory>
     ensures asked { IfOk result (λ found. option_map task_of found
-        ≡ asked_by new_cantus_words new_cantus_asked (texts words.now)) }
+        ≡ cantus_search_in (codes "newcantus") new_cantus_asked (texts words.now)) }
     ensures head { IfOk result (λ found. IfSome found HasHead) }
 {
-    let Some(matches) = taken(new_cantus_form(alloc)?, words)? else {
+    let Some(matches) = taken(new_cantus_form(alloc, "newcantus")?, words)? else {
         return Ok(None);
     };
     Ok(inventing(&matches))
+}
+
+/// The words behind `certcantus`.
+fn parse_certify_cantus(alloc: Global, words: &[String]) -> Result<Option<Command<'_>>, Memory>
+    ensures asked { IfOk result (λ found. option_map task_of found
+        ≡ cantus_search_in (codes "certcantus") certify_cantus_asked (texts words.now)) }
+    ensures head { IfOk result (λ found. IfSome found HasHead) }
+{
+    let Some(matches) = taken(new_cantus_form(alloc, "certcantus")?, words)? else {
+        return Ok(None);
+    };
+    Ok(certifying_cantus(&matches))
+}
+
+/// The words behind `checkcantus`.
+fn parse_check_cantus(alloc: Global, words: &[String]) -> Result<Option<Command<'_>>, Memory>
+    ensures asked { IfOk result (λ found. option_map task_of found
+        ≡ asked_by check_cantus_words check_cantus_asked (texts words.now)) }
+    ensures head { IfOk result (λ found. IfSome found HasHead) }
+{
+    let Some(matches) = taken(check_cantus_form(alloc)?, words)? else {
+        return Ok(None);
+    };
+    Ok(checking_cantus(&matches))
 }
 
 /// What a simple command of `clap` finds in words, if it takes them.

@@ -2,7 +2,7 @@
 
 ghost use Rattle.std.specs.Prelude.{◌≡◌, IfOk, codes};
 ghost use Rattle.clap.specs.Words.{app_of, with_rule};
-ghost use Rattle.fux_run.specs.Commands.{canon_words, check_words, class_words, drill_words, needed_word, exercise_words, flag_word, fromsmf_words, head_words, new_cantus_words, one_word, option_word, search_words};
+ghost use Rattle.fux_run.specs.Commands.{canon_words, check_cantus_words, check_words, class_words, drill_words, needed_word, exercise_words, flag_word, fromsmf_words, head_words, new_cantus_words, one_word, option_word, search_words, wanted_words};
 
 use clap::{Arg, ArgAction, Command};
 use std::alloc::{AllocError, Global};
@@ -100,16 +100,32 @@ pub fn canon_form<'a>(alloc: Global) -> Result<Command<'a>, AllocError>
     with_option(alloc, command, "budget", false)
 }
 
-/// `newcantus MODE BARS LOW HIGH [--sheet S] [--budget N]`.
-pub fn new_cantus_form<'a>(alloc: Global) -> Result<Command<'a>, AllocError>
-    ensures { IfOk result (λ command. app_of command ≡ new_cantus_words) }
+/// `NAME MODE BARS LOW HIGH`.
+fn wanted_form<'a>(alloc: Global, name: &'a str) -> Result<Command<'a>, AllocError>
+    ensures { IfOk result (λ command. app_of command ≡ wanted_words name.entry.now) }
 {
-    let command = one_word(alloc, "newcantus", "MODE")?;
+    let command = one_word(alloc, name, "MODE")?;
     let command = with_word(alloc, command, "BARS")?;
     let command = with_word(alloc, command, "LOW")?;
-    let command = with_word(alloc, command, "HIGH")?;
+    with_word(alloc, command, "HIGH")
+}
+
+/// `NAME MODE BARS LOW HIGH [--sheet S] [--budget N]`.
+pub fn new_cantus_form<'a>(alloc: Global, name: &'a str) -> Result<Command<'a>, AllocError>
+    ensures { IfOk result (λ command. app_of command ≡ new_cantus_words name.entry.now) }
+{
+    let command = wanted_form(alloc, name)?;
     let command = with_option(alloc, command, "sheet", false)?;
     with_option(alloc, command, "budget", false)
+}
+
+/// `checkcantus MODE BARS LOW HIGH CERT [--sheet S]`.
+pub fn check_cantus_form<'a>(alloc: Global) -> Result<Command<'a>, AllocError>
+    ensures { IfOk result (λ command. app_of command ≡ check_cantus_words) }
+{
+    let command = wanted_form(alloc, "checkcantus")?;
+    let command = with_word(alloc, command, "CERT")?;
+    with_option(alloc, command, "sheet", false)
 }
 
 /// The command with what says how a file is to be read.

@@ -1,6 +1,8 @@
 //! Runs the program: the words on the command line, the work that they ask for, and how it ends.
 #![tactic(auto)]
 
+mod cantus_certifying;
+mod cantus_checking;
 mod certifying;
 mod checking;
 mod classing;

@@ -10,6 +10,7 @@ ghost use Rattle.fux_run.specs.Complaints.{refusal_text};
 ghost use Rattle.fux_run.specs.Runs.{IsMade, Says, SaysRefusal, SaysWithin};
 ghost use Rattle.fux_run.specs.Works.{Answers, ChecksTexts, MakesOf, MakesOfText, OnTexts, ReadsSheetFile};
 
+use crate::cantus_checking::checked_cantus;
 use crate::checking::check;
 use crate::classing::class;
 use crate::command::{Job, Making};
@@ -84,6 +85,11 @@ pub fn make<'a, F: Shelf, R: Threads + Sync>(
             sheet,
             budget,
         } => new_cantus(alloc, wanted, sheet, budget, shelf),
+        Making::CheckCantus {
+            wanted,
+            certificate,
+            sheet,
+        } => checked_cantus(alloc, wanted, certificate, sheet, shelf),
     }
 }
 
@@ -179,7 +185,7 @@ pub fn said<'a>(
 
 /// The output of an answer of a command that reads while it works, or what is said where there is none, with this name for a text
 /// that is refused, and that of the file which is read then.
-fn said_within<'a>(
+pub fn said_within<'a>(
     alloc: Global,
     name: &str,
     within: &'a str,

@@ -6,6 +6,7 @@ ghost use Rattle.fux_run.specs.Blame.{BlamesNoFile, BlamesNoWrite, CouldWrite, S
 ghost use Rattle.fux_run.specs.Commands.{HasHead, HasMidiHead, as_list, making_task, sheet_named, task_of};
 ghost use Rattle.fux_run.specs.Runs.{CertifiesTexts, CertifyEnds, Ended, EndsOn, SaysWritten};
 
+use crate::cantus_certifying::perform_cantus;
 use crate::certifying::certify;
 use crate::command::{Command, Making};
 use crate::complaint::Complaint;
@@ -42,6 +43,11 @@ pub fn perform<'a, F: Shelf, K: Sink, R: Threads + Sync>(
             sheet,
             budget,
         } => perform_certify(rt, alloc, name, sheet, budget, shelf, out),
+        Command::CertifyCantus {
+            wanted,
+            sheet,
+            budget,
+        } => perform_cantus(alloc, wanted, sheet, budget, shelf, out),
     }
 }
 
@@ -112,7 +118,7 @@ fn certify_texts<K: Sink, R: Threads + Sync>(
 }
 
 /// What is said of a command that wrote while it worked, with this name for a text that is refused.
-fn said_of(
+pub fn said_of(
     alloc: Global,
     name: &str,
     answer: Result<Verdict, Halt>,

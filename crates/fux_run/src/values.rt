@@ -5,7 +5,7 @@ ghost use Rattle.clap.specs.Words.{first_of, found_of, rows_of};
 ghost use Rattle.fux_text.specs.Names.{mode_named};
 ghost use Rattle.smf_score.specs.Heads.{IsHead};
 ghost use Rattle.text_lines.specs.Numbers.{number_within};
-ghost use Rattle.fux_run.specs.Commands.{HasHead, IsWanted, budget_in, canon_asked, certify_asked, check_asked, class_asked, compose_asked, drill_asked, fromsmf_asked, head_in, is_set, job_asked, new_cantus_asked, number_at, task_of, wanted_in};
+ghost use Rattle.fux_run.specs.Commands.{HasHead, IsWanted, budget_in, canon_asked, certify_asked, certify_cantus_asked, check_asked, check_cantus_asked, class_asked, compose_asked, drill_asked, fromsmf_asked, head_in, is_set, job_asked, new_cantus_asked, number_at, task_of, wanted_in};
 
 use crate::command::{Command, Job, Making, Wanted};
 use clap::ArgMatches;
@@ -243,5 +243,35 @@ pub fn inventing<'a>(matches: &ArgMatches<'a>) -> Option<Command<'a>>
         wanted,
         sheet,
         budget,
+    }))
+}
+
+/// `certcantus`, of what is asked of a cantus.
+pub fn certifying_cantus<'a>(matches: &ArgMatches<'a>) -> Option<Command<'a>>
+    ensures asked { option_map task_of result ≡ certify_cantus_asked (rows_of (found_of matches.now)) }
+    ensures head { IfSome result HasHead }
+{
+    let wanted = wanted_of(matches)?;
+    let budget = budget_of(value(matches, "budget"))?;
+    let sheet = value(matches, "sheet");
+    Some(Command::CertifyCantus {
+        wanted,
+        sheet,
+        budget,
+    })
+}
+
+/// `checkcantus`, of what is asked of a cantus and of the certificate of a file.
+pub fn checking_cantus<'a>(matches: &ArgMatches<'a>) -> Option<Command<'a>>
+    ensures asked { option_map task_of result ≡ check_cantus_asked (rows_of (found_of matches.now)) }
+    ensures head { IfSome result HasHead }
+{
+    let wanted = wanted_of(matches)?;
+    let certificate = value(matches, "CERT")?;
+    let sheet = value(matches, "sheet");
+    Some(Command::Make(Making::CheckCantus {
+        wanted,
+        certificate,
+        sheet,
     }))
 }

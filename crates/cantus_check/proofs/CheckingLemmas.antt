@@ -1,0 +1,150 @@
+-- What a checker answers and keeps, by what is judged of its tree: a claim that is taken (`taken_seen`) or refused (`refused_seen`), and
+-- that claims which were fed to it were fed to the tree (`fed_seen`).
+use Rattle.std.proofs.Common.{◌≡◌, ◌⊎◌, inl, inr, ℕ, ◌+◌, List, [], ◌∷◌, ◌++◌, Option, Some, None, Result, Ok, Err, refl, sym, ap, subst, ◌∙◌}
+use Rattle.std.specs.Prelude.{IfErr, OnOk, option_map}
+use Rattle.cert_text.specs.declared.answers.Refused.{Refused}
+use Rattle.cert_text.specs.declared.claim.Claim.{Claim}
+use Rattle.cert_tree.specs.Judgings.{AreFed as TreeFed, IsFault as TreeFault, IsFed as TreeIsFed, IsFedCertified, Refuses as TreeRefuses, Standing, Takes as TreeTakes, TakesOf as TreeTakesOf, begun_at}
+use Rattle.cert_tree.specs.Trees.{IsCertifiedFrom, owed_by}
+use Rattle.cert_tree.specs.declared.judging.Cause.{Cause}
+use Rattle.cert_tree.specs.declared.judging.Cause.TheVariants as causes
+use Rattle.cert_tree.specs.declared.judging.Refusal.{Refusal}
+use Rattle.fux_pitch.specs.declared.pitch.Pitch.{Pitch}
+use Rattle.cantus_space.specs.declared.plan.CantusPlan.{CantusPlan}
+use Rattle.cantus_law.specs.Certificates.{tree_of}
+use Rattle.cantus_law.specs.Claims.{Said}
+use Rattle.cantus_check.specs.Checking.{AreFed, CantusChecking, IsFault, IsFed, Refuses, Takes, TakesOf, opened_for, refused_by, why_of}
+
+-- what contracts see of a checker of this, by where its judge stands
+abbrev pub seen_at : CantusPlan → Said → Standing (List Pitch) → CantusChecking
+seen_at plan said s = record {
+  plan = plan;
+  said = said;
+  owed = s.owed;
+  count = s.count;
+  refusal = option_map refused_by s.refusal;
+}
+
+same_cause : (a b : Cause) → why_of a ≡ why_of b → a ≡ b
+same_cause a b e = grind e
+
+same_refusal : (a b : Refusal) → refused_by a ≡ refused_by b → a ≡ b
+same_refusal a b e =
+    let number : a.number ≡ b.number = ap (λ (r : Refused). r.number) e in
+    let cause : a.cause ≡ b.cause = same_cause a.cause b.cause (ap (λ (r : Refused). r.why) e) in
+    ap (λ n. record { number = n; cause = a.cause }) number ∙ ap (λ (k : Cause). record { number = b.number; cause = k }) cause
+
+pub none_seen : (refusal : Option Refusal) → option_map refused_by refusal ≡ None → refusal ≡ None
+none_seen None e = refl
+none_seen (Some refused) e = cc
+
+pub some_seen : (refusal : Option Refusal) (refused : Refused) → option_map refused_by refusal ≡ Some refused
+    → (own : Refusal) × (refusal ≡ Some own) × (refused_by own ≡ refused)
+some_seen None refused e = cc
+some_seen (Some own) refused e = (own, refl, cc)
+
+module _ (plan : CantusPlan) (said : Said) where
+  abbrev seen : Standing (List Pitch) → CantusChecking
+  seen = seen_at plan said
+
+  pub takes_seen : (old : Standing (List Pitch)) (claim : Claim) (new : Standing (List Pitch))
+      → TreeTakes (tree_of plan said) old claim new → Takes (seen old) claim (seen new)
+  takes_seen old claim new takes = by old.owed takes
+    where
+      by : (owed : List (List Pitch)) → TreeTakesOf (tree_of plan said) old owed claim new
+          → TakesOf (seen old) owed claim (seen new)
+      by [] it = it
+      by (p ∷ owed) it = (it.0, ap seen it.1)
+
+  pub refuses_seen : (old : Standing (List Pitch)) (claim : Claim) (refused : Refusal) (new : Standing (List Pitch))
+      → TreeRefuses (tree_of plan said) old claim refused new → Refuses (seen old) claim (refused_by refused) (seen new)
+  refuses_seen old claim refused new refuses = (by old.owed refuses.0, ap seen refuses.1)
+    where
+      by : (owed : List (List Pitch)) → TreeFault (tree_of plan said) old owed claim refused
+          → IsFault (seen old) owed claim (refused_by refused)
+      by [] it = ap refused_by it
+      by (p ∷ owed) it = (it.0, ap refused_by it.1)
+
+  -- ---- and the other way round
+
+  same_option : (a b : Option Refusal) → option_map refused_by a ≡ option_map refused_by b → a ≡ b
+  same_option None None e = refl
+  same_option None (Some b) e = cc
+  same_option (Some a) None e = cc
+  same_option (Some a) (Some b) e = let same : refused_by a ≡ refused_by b = cc in ap Some (same_refusal a b same)
+
+  same_standing : (a b : Standing (List Pitch)) → seen a ≡ seen b → a ≡ b
+  same_standing a b e =
+      let owed : a.owed ≡ b.owed = ap (λ (c : CantusChecking). c.owed) e in
+      let count : a.count ≡ b.count = ap (λ (c : CantusChecking). c.count) e in
+      let refusal : a.refusal ≡ b.refusal = same_option a.refusal b.refusal (ap (λ (c : CantusChecking). c.refusal) e) in
+      ap (λ o. record { owed = o; count = a.count; refusal = a.refusal }) owed
+      ∙ ap (λ n. record { owed = b.owed; count = n; refusal = a.refusal }) count
+      ∙ ap (λ r. record { owed = b.owed; count = b.count; refusal = r }) refusal
+
+  to_tree : (s : Standing (List Pitch)) (claim : Claim) (new : CantusChecking) → IsFed (seen s) claim new
+      → (t : Standing (List Pitch)) × (seen t ≡ new) × TreeIsFed (tree_of plan said) s claim t
+  to_tree s claim new fed = by s.refusal refl
+    where
+      some_none : (own : Refusal) → s.refusal ≡ None → s.refusal ≡ Some own → ⊥
+      some_none own e f = let both : None ≡ Some own = sym e ∙ f in cc
+
+      takes : s.refusal ≡ None → (owed : List (List Pitch)) → s.owed ≡ owed → TakesOf (seen s) owed claim new
+          → (t : Standing (List Pitch)) × (seen t ≡ new) × TreeIsFed (tree_of plan said) s claim t
+      takes clear [] e it = absurd it
+      takes clear (p ∷ owed) e it =
+          let t : Standing (List Pitch) =
+          record s { owed = owed_by (tree_of plan said) p claim ++ owed; count = s.count + 1 } in (
+            t,
+            sym it.1,
+            record {
+              judged = λ _. inl (subst (λ o. TreeTakesOf (tree_of plan said) s o claim t) (sym e) (it.0, refl));
+              again = λ own f. absurd (some_none own clear f);
+            },
+          )
+
+      refuses : s.refusal ≡ None → (refused : Refused) → new ≡ record (seen s) { refusal = Some refused }
+          → (owed : List (List Pitch)) → s.owed ≡ owed → IsFault (seen s) owed claim refused
+          → (t : Standing (List Pitch)) × (seen t ≡ new) × TreeIsFed (tree_of plan said) s claim t
+      refuses clear refused is [] e it =
+          let own : Refusal = record { number = s.count + 1; cause = causes.Over } in
+          let t : Standing (List Pitch) = record s { refusal = Some own } in (
+            t,
+            sym (is ∙ ap (λ r. record (seen s) { refusal = Some r }) it),
+            record {
+              judged = λ _.
+                  inr (own, (subst (λ o. TreeFault (tree_of plan said) s o claim own) (sym e) refl, refl));
+              again = λ other f. absurd (some_none other clear f);
+            },
+          )
+      refuses clear refused is (p ∷ owed) e it =
+          let own : Refusal = record { number = s.count + 1; cause = causes.False } in
+          let t : Standing (List Pitch) = record s { refusal = Some own } in (
+            t,
+            sym (is ∙ ap (λ r. record (seen s) { refusal = Some r }) it.1),
+            record {
+              judged = λ _.
+                  inr (own, (subst (λ o. TreeFault (tree_of plan said) s o claim own) (sym e) (it.0, refl), refl));
+              again = λ other f. absurd (some_none other clear f);
+            },
+          )
+
+      by : (refusal : Option Refusal) → s.refusal ≡ refusal
+          → (t : Standing (List Pitch)) × (seen t ≡ new) × TreeIsFed (tree_of plan said) s claim t
+      by (Some own) e = (
+        s,
+        sym (fed.again (refused_by own) (ap (option_map refused_by) e)),
+        record { judged = λ clear. absurd (some_none own clear e); again = λ other f. refl },
+      )
+      by None e = elim (fed.judged (ap (option_map refused_by) e)) [
+        | inl it ↦ takes e s.owed refl it
+        | inr it ↦ refuses e it.0 it.1.1 s.owed refl it.1.0
+      ]
+
+  -- claims that were fed to a checker were fed to its judge
+  pub fed_seen : (claims : List Claim) (s end : Standing (List Pitch)) → AreFed (seen s) claims (seen end)
+      → TreeFed (tree_of plan said) s claims end
+  fed_seen [] s end are = same_standing end s are
+  fed_seen (claim ∷ claims) s end are =
+      let next = to_tree s claim are.0 are.1 in
+      (next.0, next.2, fed_seen claims next.0 end (subst (λ (k : CantusChecking). AreFed k claims (seen end)) (sym next.1) are.2))

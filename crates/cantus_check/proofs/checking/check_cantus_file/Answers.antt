@@ -1,0 +1,64 @@
+use Rattle.std.proofs.Common.{Result, Ok, Err, refl, sym, subst}
+use Rattle.std.specs.Prelude.{⊤}
+use Rattle.cert_file.specs.declared.verdict.Verdict.{Verdict}
+use Rattle.fux_port.specs.Counts.{Rose}
+use Rattle.cantus_check.specs.Answers.{Answers}
+use Rattle.cantus_check.specs.Checking.{CantusChecking, cantus_subject}
+use Rattle.cantus_check.specs.Judgments.{Finds, Shows}
+use Rattle.cantus_check.specs.declared.checking.CantusFault.{CantusFault}
+use Rattle.cantus_check.proofs.AnswerLemmas.{accepts_valid, judged_answer, opening_answer, starts_answer, unstarted_missing}
+use Rattle.cantus_check.proofs.checking.check_cantus_file.Goals as goal
+
+pub returns-in-Err-clause-answers : goal.returns-in-Err-clause-answers
+returns-in-Err-clause-answers g c =
+    let files = g.F.Shelf.files c.args.shelf.now in
+    let rose = Rose (g.F.Shelf.faults c.args.shelf.now) (g.F.Shelf.faults c.start.new.shelf) in
+    subst (λ (r : Result Verdict CantusFault). Answers c.args.space.now files c.args.name.now rose r)
+    (sym c.not_started.ensures)
+    (starts_answer c.args.space.now files c.args.name.now rose c.in-Err.fault c.in-Err.ensures.starts)
+
+pub returns-in-Err-clause-accepts : goal.returns-in-Err-clause-accepts
+returns-in-Err-clause-accepts g c =
+    accepts_valid c.args.space.now (g.F.Shelf.files c.args.shelf.now) c.args.name.now
+    (Rose (g.F.Shelf.faults c.args.shelf.now) (g.F.Shelf.faults c.start.new.shelf)) _
+    (returns-in-Err-clause-answers g c)
+
+pub returns-in-Err-clause-missing : goal.returns-in-Err-clause-missing
+returns-in-Err-clause-missing g c = λ missing.
+    rw c.not_started.ensures (unstarted_missing (Err c.in-Err.fault) c.in-Err.fault refl
+    (c.in-Err.ensures.missing missing))
+
+pub returns-in-Err-open-clause-answers : goal.returns-in-Err-open-clause-answers
+returns-in-Err-open-clause-answers g c =
+    let files = g.F.Shelf.files c.args.shelf.now in
+    let rose = Rose (g.F.Shelf.faults c.args.shelf.now) (g.F.Shelf.faults c.start.new.shelf) in
+    subst (λ (r : Result Verdict CantusFault). Answers c.args.space.now files c.args.name.now rose r)
+    (sym c.not_opened.ensures)
+    (opening_answer c.args.space.now files c.args.name.now rose _ _ c.in-Err-open.fault c.in-Ok.ensures.starts
+    c.in-Err-open.ensures.fault)
+
+pub returns-in-Err-open-clause-accepts : goal.returns-in-Err-open-clause-accepts
+returns-in-Err-open-clause-accepts g c =
+    accepts_valid c.args.space.now (g.F.Shelf.files c.args.shelf.now) c.args.name.now
+    (Rose (g.F.Shelf.faults c.args.shelf.now) (g.F.Shelf.faults c.start.new.shelf)) _
+    (returns-in-Err-open-clause-answers g c)
+
+pub returns-in-Ok-judge-clause-answers : goal.returns-in-Ok-judge-clause-answers
+returns-in-Ok-judge-clause-answers g c =
+    let plan = c.args.space.now in
+    let files = g.F.Shelf.files c.args.shelf.now in
+    let said = c.in-Ok.started.0.best in
+    let it = c.in-Ok-judge.verdict in
+    let opened = c.in-Ok-open.ensures.opened in
+    judged_answer plan files c.args.name.now ⊤ said it
+    (subst (λ told. Finds (cantus_subject plan) said told c.args.name.now it) c.start.ensures.files
+    (subst
+    (λ (k : CantusChecking). Finds (cantus_subject k.plan) k.said (g.F.Shelf.files c.start.new.shelf) c.args.name.now it)
+    opened
+    c.in-Ok-judge.ensures.finds))
+    (subst (λ (k : CantusChecking). Shows (cantus_subject k.plan) k.said it) opened c.in-Ok-judge.ensures.shown)
+
+pub returns-in-Ok-judge-clause-accepts : goal.returns-in-Ok-judge-clause-accepts
+returns-in-Ok-judge-clause-accepts g c =
+    accepts_valid c.args.space.now (g.F.Shelf.files c.args.shelf.now) c.args.name.now ⊤ (Ok c.in-Ok-judge.verdict)
+    (returns-in-Ok-judge-clause-answers g c)

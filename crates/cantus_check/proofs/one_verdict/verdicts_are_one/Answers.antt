@@ -1,0 +1,7 @@
+use Rattle.cantus_text.proofs.HeadRows.{heads-alone}
+use Rattle.cantus_check.specs.Checking.{cantus_subject}
+use Rattle.cantus_check.proofs.OneVerdict.{one_verdict}
+use Rattle.cantus_check.proofs.one_verdict.verdicts_are_one.Goals as goal
+
+pub returns : goal.returns
+returns c = λ plan bytes it other p q. one_verdict (cantus_subject plan) heads-alone bytes it other p q

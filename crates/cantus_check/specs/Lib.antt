@@ -1,0 +1,5 @@
+pub mod Answers
+pub mod Checking
+pub mod Judgments
+pub mod Starts
+pub mod Subjects

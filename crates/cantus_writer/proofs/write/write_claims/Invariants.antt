@@ -1,0 +1,17 @@
+use Rattle.std.proofs.Common.{◌≤◌, length}
+use Rattle.fux_port.specs.Promises.{TakesAll}
+use Rattle.waiting_lines.proofs.Stands.{Stands}
+use Rattle.cantus_writer.specs.Writing.{IsWriting, lines_left, to_come}
+use Rattle.cantus_writer.proofs.write.write_claims.Given as goal
+
+abbrev pub invariant-loop-claim : goal.invariant-loop-claim
+invariant-loop-claim g l = record {
+  writing : IsWriting l.case.space l.case.head.best l.walk;
+  stands : Stands (g.K.Sink.written l.initial.sink) (g.K.Sink.written l.sink) l.waiting.bytes
+      (lines_left l.case.space l.case.head.best l.walk) (lines_left l.case.space l.case.head.best l.initial.walk);
+  faults : g.K.Sink.faults l.initial.sink ≤ g.K.Sink.faults l.sink;
+  taking : TakesAll (g.K.Sink.serves l.initial.sink) → TakesAll (g.K.Sink.serves l.sink);
+}
+
+abbrev pub decreases-loop-claim : goal.decreases-loop-claim
+decreases-loop-claim g l = length (to_come l.case.space l.case.head.best l.walk)

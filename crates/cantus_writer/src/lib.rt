@@ -1,0 +1,10 @@
+//! The writer of cantus certificates: for each list of pitches that is owed it writes the first claim that is true of it.
+#![tactic(auto)]
+
+mod begin;
+mod certificate;
+mod copy;
+mod next;
+mod write;
+
+pub use certificate::certify_cantus;

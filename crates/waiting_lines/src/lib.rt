@@ -1,0 +1,6 @@
+//! Lines that are put together before they are written, so that many short ones take few writes.
+#![tactic(auto)]
+
+mod put;
+
+pub use put::put;
