@@ -1,5 +1,6 @@
--- The entries that are written state the least sums over chains (`entries_are_rests`, `stated_are_rests`).
-use Rattle.std.proofs.Common.{◌≡◌, ℕ, zero, suc, ◌+◌, ◌-◌, ◌<◌, ◌≤◌, [], Option, Some, None, length, refl, sym, ap, ◌∙◌, subst, arith, length-append}
+-- The entries that are written state the least sums over chains (`entries_are_rests`, `stated_are_rests`), and those are what tables say
+-- (`start_is_rest`, `rest_is_behind`).
+use Rattle.std.proofs.Common.{◌≡◌, ℕ, zero, suc, ◌+◌, ◌-◌, ◌<◌, ◌≤◌, [], Option, Some, None, length, refl, sym, ap, ◌∙◌, subst, arith, length-append, List}
 use Rattle.std.specs.Prelude.{IfSome, slice_index_or}
 use Rattle.std.proofs.Math.ListN.{get_or-append}
 use Rattle.std.proofs.lemmas.List.{get_or-append-add, get_or-map, length-map}
@@ -9,8 +10,10 @@ use Rattle.cert_text.specs.declared.potential.Potential.TheVariants.{NoChain}
 use Rattle.cert_law.specs.Entries.{columns_before, entry_of, menu_column, number_in}
 use Rattle.cert_law.specs.Rests.{AreRests, entries_at, entries_from, entries_of, rest_behind, stated_in, stating}
 use Rattle.chain_sums.specs.Chains.{IsLeast}
-use Rattle.chain_sums.proofs.SumLemmas.{least_sum_is}
+use Rattle.chain_sums.proofs.SumLemmas.{least_is_sum, least_sum_is}
 use Rattle.floor_tables.specs.Floors.{chains_of, rest_of}
+use Rattle.floor_tables.specs.Tables.{IsRest, IsStart}
+use Rattle.fux_grid.specs.declared.cell.Cell.{Cell}
 use Rattle.fux_grid.specs.declared.exercise.Exercise.{Exercise}
 use Rattle.fux_grid.specs.Exercises.{columns_in}
 use Rattle.fux_grid.specs.Menus.{menu_of}
@@ -124,3 +127,13 @@ module _ (ex : Exercise) (sheet : Sheet) where
   pub stated_are_rests : (form : Form) → IfSome (stated_in form ex sheet) (AreRests ex sheet)
   stated_are_rests First = tt
   stated_are_rests Second = entries_are_rests
+
+  -- what the tables say is what they state
+  pub start_is_rest : (rest : Option ℕ) → IsStart ex sheet rest → rest ≡ rest_of ex sheet []
+  unfolding rest_of
+  start_is_rest rest least = least_is_sum (chains_of ex sheet) 0 None rest (omega arith) least
+
+  pub rest_is_behind : (i : ℕ) (col : List Cell) (rest : Option ℕ) → i < columns_in ex → IsRest ex sheet i col rest
+      → rest ≡ rest_behind ex sheet i col
+  rest_is_behind i col rest within least =
+      least_is_sum (chains_of ex sheet) (suc i) (Some col) rest (omega (arith, within)) least

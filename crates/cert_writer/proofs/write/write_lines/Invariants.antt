@@ -1,20 +1,19 @@
 use Rattle.std.proofs.Common.{◌≤◌, length}
 use Rattle.cert_law.specs.Cases.{matter_of}
-use Rattle.cert_law.specs.Walks.{IsWalk}
 use Rattle.fux_port.specs.Promises.{TakesAll}
-use Rattle.cert_writer.specs.Writing.{claim_lines, claims_to_come}
+use Rattle.cert_writer.specs.Stages.{AreLines, lines_left}
 use Rattle.cert_writer.proofs.Stands.{Stands}
-use Rattle.cert_writer.proofs.write.write_claims.Given as goal
+use Rattle.cert_writer.proofs.write.write_lines.Given as goal
 
-abbrev pub invariant-loop-claim : goal.invariant-loop-claim
-invariant-loop-claim g l = record {
-  walk : IsWalk (matter_of l.case) l.walk;
+abbrev pub invariant-loop-line : goal.invariant-loop-line
+invariant-loop-line g l = record {
+  lines : AreLines (matter_of l.case) l.lines;
   stands : Stands (g.K.Sink.written l.initial.sink) (g.K.Sink.written l.sink) l.waiting.bytes
-      (claim_lines (claims_to_come (matter_of l.case) l.walk))
-      (claim_lines (claims_to_come (matter_of l.case) l.initial.walk));
+      (lines_left (matter_of l.case) l.lines)
+      (lines_left (matter_of l.case) l.initial.lines);
   faults : g.K.Sink.faults l.initial.sink ≤ g.K.Sink.faults l.sink;
   taking : TakesAll (g.K.Sink.serves l.initial.sink) → TakesAll (g.K.Sink.serves l.sink);
 }
 
-abbrev pub decreases-loop-claim : goal.decreases-loop-claim
-decreases-loop-claim g l = length (claims_to_come (matter_of l.case) l.walk)
+abbrev pub decreases-loop-line : goal.decreases-loop-line
+decreases-loop-line g l = length (lines_left (matter_of l.case) l.lines)
