@@ -18,12 +18,12 @@ use Rattle.fux_judge.specs.Links.{last_column}
 use Rattle.penalty_sheet.specs.declared.sheet.Sheet.{Sheet}
 
 -- the least of a list that has one is that of one of its columns
-record IsAt (f : List Cell → Option ℕ) (cols : List (List Cell)) (r : ℕ) : Type 0 where
+pub record IsAt (f : List Cell → Option ℕ) (cols : List (List Cell)) (r : ℕ) : Type 0 where
   pub k : ℕ
   pub within : k < length cols
   pub is : f (get_or cols k []) ≡ Some r
 
-least_at : (f : List Cell → Option ℕ) (cols : List (List Cell)) (r : ℕ) → least_in (map f cols) ≡ Some r
+pub least_at : (f : List Cell → Option ℕ) (cols : List (List Cell)) (r : ℕ) → least_in (map f cols) ≡ Some r
     → IsAt f cols r
 least_at f [] r e = cc
 least_at f (c ∷ cols) r e = by (least_at f cols r) (f c) refl (least_in (map f cols)) refl e

@@ -1,4 +1,5 @@
 pub mod BreakLemmas
+pub mod CostBounds
 pub mod EntryLemmas
 pub mod FloorFacts
 pub mod LevelLemmas
@@ -11,3 +12,4 @@ pub mod TailLemmas
 pub mod TruthLemmas
 pub mod Valid
 pub mod WrittenClaims
+pub mod WrittenEntries

@@ -1,5 +1,5 @@
 -- The certificate that is written: for each prefix the first claim that is true of it.
-use Rattle.std.specs.Prelude.{ℕ, zero, suc, Bool, true, false, ◌&&◌, ◌||◌, ◌==◌, nat_lt, List, [], ◌∷◌, ◌++◌, Option, length, if◌then◌else◌, is_none}
+use Rattle.std.specs.Prelude.{ℕ, zero, suc, Bool, true, false, ◌&&◌, ◌||◌, ◌==◌, nat_lt, List, [], ◌∷◌, ◌++◌, Option, Some, None, length, if◌then◌else◌, is_none}
 use Rattle.std.specs.List.{find, flat_map}
 use Rattle.std.specs.Option.{option_map_or}
 use Rattle.std.specs.Ordering.{ordering_then}
@@ -9,10 +9,13 @@ use Rattle.cert_text.specs.declared.answers.CertHead.{CertHead}
 use Rattle.cert_text.specs.declared.answers.CertHead.TheVariants.{Best, Nothing}
 use Rattle.cert_text.specs.declared.claim.Claim.{Claim}
 use Rattle.cert_text.specs.declared.claim.Claim.TheVariants.{Open, Broken, NoChain, Floor, TheScore}
-use Rattle.cert_text.specs.declared.answers.Form.TheVariants.{First}
+use Rattle.cert_text.specs.declared.answers.Form.{Form}
+use Rattle.cert_text.specs.declared.potential.Potential.{Potential}
 use Rattle.cert_text.specs.Lines.{claim_line}
+use Rattle.cert_text.specs.Potentials.{last_line, potential_line}
 use Rattle.cert_text.specs.SingItems.{best_text, nothing_text}
 use Rattle.cert_law.specs.Claims.{has_break_of, longer_prefixes}
+use Rattle.cert_law.specs.Rests.{stated_in}
 use Rattle.floor_tables.specs.Floors.{floor_of, rest_of}
 use Rattle.fux_grid.specs.declared.cell.Cell.{Cell}
 use Rattle.fux_grid.specs.declared.exercise.Exercise.{Exercise}
@@ -85,14 +88,19 @@ abbrev pub claims_of : Exercise → Sheet → CertHead → List Claim
 claims_of ex sheet head = claims_from ex sheet head (columns_in ex) []
 
 -- the text of a head
-abbrev pub head_text : Exercise → CertHead → List ℕ
-head_text ex Nothing = nothing_text First
-head_text ex (Best penalty score) = best_text First penalty (sing_lines ex score.columns)
+abbrev pub head_text : Exercise → Form → CertHead → List ℕ
+head_text ex form Nothing = nothing_text form
+head_text ex form (Best penalty score) = best_text form penalty (sing_lines ex score.columns)
 
--- the text of a certificate: its head's, and the line of each claim
-abbrev pub certificate_text : Exercise → CertHead → List Claim → List ℕ
-certificate_text ex head claims = head_text ex head ++ flat_map claim_line claims
+-- what stands between a head and its claims: where entries are stated, the line of each of them and the line `claims`
+abbrev pub stated_text : Option (List Potential) → List ℕ
+stated_text None = []
+stated_text (Some entries) = flat_map potential_line entries ++ last_line
 
--- the certificate that is written for a head
-abbrev pub written_certificate : Exercise → Sheet → CertHead → List ℕ
-written_certificate ex sheet head = certificate_text ex head (claims_of ex sheet head)
+-- the text of a certificate: its head's, that of its entries, where some are stated, and the line of each claim
+abbrev pub certificate_text : Exercise → Form → CertHead → Option (List Potential) → List Claim → List ℕ
+certificate_text ex form head stated claims = head_text ex form head ++ (stated_text stated ++ flat_map claim_line claims)
+
+-- the certificate of a form that is written for a head
+abbrev pub written_certificate : Exercise → Sheet → Form → CertHead → List ℕ
+written_certificate ex sheet form head = certificate_text ex form head (stated_in form ex sheet) (claims_of ex sheet head)

@@ -14,7 +14,7 @@ mod walk;
 pub use case::Case;
 pub use entries::true_entries_are_low;
 pub use judged::Judged;
-pub use law::{shown_by, written};
+pub use law::{shown_by, weights_are_small, written};
 pub use tails::Tails;
 pub use truth::{is_no_better, is_open, is_setting, is_true};
 pub use walk::{Level, Walk};

@@ -1,4 +1,5 @@
 pub mod Certificates
 pub mod ClaimLemmas
 pub mod FirstLemmas
+pub mod StageLemmas
 pub mod Stands

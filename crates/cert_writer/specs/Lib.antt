@@ -1,4 +1,5 @@
 pub mod Ends
 pub mod Heads
+pub mod Stages
 pub mod Waiting
 pub mod Writing

@@ -1,14 +1,15 @@
--- What is still to be written of a certificate.
+-- What is still to be written of a certificate's claims.
 use Rattle.std.specs.Prelude.{◌≡◌, ℕ, ◌-◌, List, [], ◌∷◌, Option, Some, None, length}
 use Rattle.std.specs.List.{flat_map}
 use Rattle.cert_law.specs.Bases.{HasTails, basis_of}
 use Rattle.cert_law.specs.Cases.{IsCase, Matter}
 use Rattle.cert_law.specs.Prefixes.{IsJudged}
-use Rattle.cert_law.specs.Walks.{IsWalk, owed_by_walk}
+use Rattle.cert_law.specs.Walks.{owed_by_walk}
 use Rattle.cert_law.specs.declared.judged.Judged.{Judged}
 use Rattle.cert_law.specs.declared.walk.Walk.{Walk}
 use Rattle.cert_law.specs.Certificates.{Holds}
-use Rattle.cert_law.specs.Writer.{claims_from, claims_of, first_claim}
+use Rattle.cert_law.specs.Rests.{HasSmallWeights}
+use Rattle.cert_law.specs.Writer.{claims_from, first_claim}
 use Rattle.cert_text.specs.Lines.{claim_line}
 use Rattle.cert_text.specs.declared.claim.Claim.{Claim}
 use Rattle.floor_tables.specs.Floors.{rest_of}
@@ -16,10 +17,11 @@ use Rattle.floor_tables.specs.Tables.{Task}
 use Rattle.fux_grid.specs.declared.cell.Cell.{Cell}
 use Rattle.fux_grid.specs.Exercises.{columns_in}
 
--- the exercise is within the limits, the tables are of it and the sheet, and the head holds
+-- the exercise is within the limits, the tables are of it and the sheet, whose weights are small, and the head holds
 pub record IsTask (t : Matter) (tables : Task) : Type 0 where
   pub case : IsCase t
   pub has : HasTails t (basis_of tables)
+  pub small : HasSmallWeights t.sheet
   pub holds : Holds t.exercise t.sheet t.head
 
 -- the claims of a prefix and of all that it owes
@@ -39,17 +41,8 @@ claims_with (Some claim) later = claim ∷ later
 abbrev pub claim_lines : List Claim → List ℕ
 claim_lines claims = flat_map claim_line claims
 
--- their lines
-abbrev pub lines_left : Matter → Walk → List ℕ
-lines_left t walk = claim_lines (claims_to_come t walk)
-
 -- the claim is the first one that is true of each prefix of which this is known, and that has this rest
 abbrev pub IsFirstClaim : Matter → Judged → Option ℕ → Claim → Type 0
 IsFirstClaim t judged rest claim =
     (p : List (List Cell)) → IsJudged t p judged → rest ≡ rest_of t.exercise t.sheet p
     → claim ≡ first_claim t.exercise t.sheet t.head p
-
--- a walk from the empty prefix: all claims of the certificate are still to come
-pub record Begins (t : Matter) (begun : Walk) : Type 0 where
-  pub walk : IsWalk t begun
-  pub claims : claims_to_come t begun ≡ claims_of t.exercise t.sheet t.head

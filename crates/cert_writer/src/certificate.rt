@@ -1,7 +1,10 @@
 //! Writing a whole certificate.
 
 ghost use Rattle.std.specs.Prelude.{◌≡◌, ◌≢◌, ◌<◌, ◌≤◌, Err, OnOk, length};
+ghost use Rattle.std.specs.List.{AllByRecursion};
+ghost use Rattle.cert_law.specs.Rests.{entries_of};
 ghost use Rattle.cert_law.specs.Writer.{written_certificate};
+ghost use Rattle.cert_text.specs.Potentials.{IsPotential};
 ghost use Rattle.cert_writer.specs.Ends.{EndsUnwritten, FailsShort};
 ghost use Rattle.cert_law.specs.Certificates.{Holds};
 ghost use Rattle.cert_writer.specs.Heads.{found_text, head_with};
@@ -10,12 +13,12 @@ ghost use Rattle.fux_port.specs.Counts.{Rose};
 ghost use Rattle.fux_port.specs.Promises.{TakesAll};
 ghost use Rattle.fux_port.specs.Written.{appended};
 
-use crate::begin::{begin, room_for_walk};
+use crate::begin::{begin, room_for_lines};
 use crate::copy::head_of;
 use crate::head::head_text;
 use crate::write::{is_within, write_parts};
-use cert_law::Case;
-use cert_text::{CertHead, CertWrite};
+use cert_law::{Case, weights_are_small};
+use cert_text::{CertHead, CertWrite, Form};
 use floor_tables::Tables;
 use fux_grid::{Exercise, Score};
 use fux_port::Sink;
@@ -23,38 +26,39 @@ use penalty_sheet::Sheet;
 use species_space::SpeciesSpace;
 use std::alloc::Global;
 
-/// Writes the certificate of a head that holds.
+/// Writes the certificate of a form, of a head that holds.
 pub(crate) fn write_for_head<K: Sink>(
     alloc: Global,
     ex: &Exercise,
     sheet: &Sheet,
     tables: &Tables<'_>,
+    form: Form,
     head: &CertHead,
     sink: &mut K,
 ) -> Result<(), CertWrite>
     requires task { IsTask (record { exercise = ex.now; sheet = sheet.now; head = head.now }) tables.now }
     ensures ok { OnOk result (K.written sink.new
-        ≡ appended (K.written sink.old) (written_certificate ex.now sheet.now head.now)) }
+        ≡ appended (K.written sink.old) (written_certificate ex.now sheet.now form head.now)) }
 
     // A fault of writing is the sink's, and less than the certificate was written.
     ensures cause { result ≡ Err CertWrite.WriteFault → Rose (K.faults sink.old) (K.faults sink.new) }
     ensures short { FailsShort (K.written sink.old) (K.written sink.new)
-        (written_certificate ex.now sheet.now head.now) result }
+        (written_certificate ex.now sheet.now form head.now) result }
 
     // No sink is blamed that promises each write.
     ensures taken { TakesAll (K.serves sink.old) → result ≢ Err CertWrite.WriteFault }
 
     // Nothing is written of a certificate that is too long, nor where there is not enough memory.
     ensures too_long { result ≡ Err CertWrite.TooLong
-        → 1073741824 < length (written_certificate ex.now sheet.now head.now) }
-    ensures fits { 1073741824 < length (written_certificate ex.now sheet.now head.now) → EndsUnwritten result }
+        → 1073741824 < length (written_certificate ex.now sheet.now form head.now) }
+    ensures fits { 1073741824 < length (written_certificate ex.now sheet.now form head.now) → EndsUnwritten result }
     ensures unwritten { EndsUnwritten result → K.written sink.new ≡ K.written sink.old }
     ensures faults { K.faults sink.old ≤ K.faults sink.new }
 {
-    let Ok(text) = head_text(alloc, ex, sheet, head) else {
+    let Ok(text) = head_text(alloc, ex, sheet, form, head) else {
         return Err(CertWrite::Memory);
     };
-    let Ok(mut walk) = room_for_walk(alloc) else {
+    let Ok(mut lines) = room_for_lines(alloc) else {
         return Err(CertWrite::Memory);
     };
     let case = Case {
@@ -62,20 +66,56 @@ pub(crate) fn write_for_head<K: Sink>(
         sheet,
         head,
     };
-    begin(&mut walk, ex, sheet);
-    if !is_within(&mut walk, &case, tables, text.len()) {
+    begin(&mut lines, form, ex, sheet);
+    if !is_within(&mut lines, &case, tables, text.len()) {
         return Err(CertWrite::TooLong);
     }
-    begin(&mut walk, ex, sheet);
-    match write_parts(&mut walk, &case, tables, text.as_str(), sink) {
+    begin(&mut lines, form, ex, sheet);
+    match write_parts(&mut lines, &case, tables, text.as_str(), sink) {
         Ok(()) => Ok(()),
         Err(_) => Err(CertWrite::WriteFault),
     }
 }
 
-/// Writes the certificate of the best setting with its penalty, or the one that says that no setting is lawful, by the tables that the
-/// space has. Its length is counted before its first byte is written, and all memory is taken before that; then each prefix is judged
-/// once more, so that a certificate of any length takes no more memory than a short one.
+/// Writes the certificate of a form, of the best setting with its penalty, or the one that says that no setting is lawful, by the tables
+/// that the space has. Its length is counted before its first byte is written, and all memory is taken before that; then each prefix is
+/// judged once more, and each entry read from the tables again, so that a certificate of any length takes no more memory than a short one.
+pub fn certify_form<K: Sink>(
+    alloc: Global,
+    space: &SpeciesSpace<'_>,
+    best: Option<(&Score, u64)>,
+    form: Form,
+    sink: &mut K,
+) -> Result<(), CertWrite>
+    requires holds { Holds space.now.exercise space.now.sheet (head_with best) }
+    ensures ok { OnOk result (K.written sink.new ≡ appended (K.written sink.old) (found_text space.now form best.entry)) }
+
+    // Each number that the second form states is below 2^32.
+    ensures small { AllByRecursion IsPotential (entries_of space.now.exercise space.now.sheet) }
+
+    // A fault of writing is the sink's, and less than the certificate was written.
+    ensures cause { result ≡ Err CertWrite.WriteFault → Rose (K.faults sink.old) (K.faults sink.new) }
+    ensures short { FailsShort (K.written sink.old) (K.written sink.new) (found_text space.now form best.entry) result }
+
+    // No sink is blamed that promises each write.
+    ensures taken { TakesAll (K.serves sink.old) → result ≢ Err CertWrite.WriteFault }
+
+    // Nothing is written of a certificate that is too long, nor where there is not enough memory.
+    ensures too_long { result ≡ Err CertWrite.TooLong → 1073741824 < length (found_text space.now form best.entry) }
+    ensures fits { 1073741824 < length (found_text space.now form best.entry) → EndsUnwritten result }
+    ensures unwritten { EndsUnwritten result → K.written sink.new ≡ K.written sink.old }
+    ensures faults { K.faults sink.old ≤ K.faults sink.new }
+{
+    let exercise = space.exercise();
+    let sheet = space.sheet();
+    weights_are_small(sheet);
+    let Ok(head) = head_of(alloc, best) else {
+        return Err(CertWrite::Memory);
+    };
+    write_for_head(alloc, exercise, sheet, space.tables(), form, &head, sink)
+}
+
+/// Writes the certificate of the first form, as `certify_form` does.
 pub fn certify<K: Sink>(
     alloc: Global,
     space: &SpeciesSpace<'_>,
@@ -83,30 +123,20 @@ pub fn certify<K: Sink>(
     sink: &mut K,
 ) -> Result<(), CertWrite>
     requires holds { Holds space.now.exercise space.now.sheet (head_with best) }
-    ensures ok { OnOk result (K.written sink.new ≡ appended (K.written sink.old) (found_text space.now best.entry)) }
+    ensures ok { OnOk result (K.written sink.new ≡ appended (K.written sink.old) (found_text space.now Form.First best.entry)) }
 
     // A fault of writing is the sink's, and less than the certificate was written.
     ensures cause { result ≡ Err CertWrite.WriteFault → Rose (K.faults sink.old) (K.faults sink.new) }
-    ensures short { FailsShort (K.written sink.old) (K.written sink.new) (found_text space.now best.entry) result }
+    ensures short { FailsShort (K.written sink.old) (K.written sink.new) (found_text space.now Form.First best.entry) result }
 
     // No sink is blamed that promises each write.
     ensures taken { TakesAll (K.serves sink.old) → result ≢ Err CertWrite.WriteFault }
 
     // Nothing is written of a certificate that is too long, nor where there is not enough memory.
-    ensures too_long { result ≡ Err CertWrite.TooLong → 1073741824 < length (found_text space.now best.entry) }
-    ensures fits { 1073741824 < length (found_text space.now best.entry) → EndsUnwritten result }
+    ensures too_long { result ≡ Err CertWrite.TooLong → 1073741824 < length (found_text space.now Form.First best.entry) }
+    ensures fits { 1073741824 < length (found_text space.now Form.First best.entry) → EndsUnwritten result }
     ensures unwritten { EndsUnwritten result → K.written sink.new ≡ K.written sink.old }
     ensures faults { K.faults sink.old ≤ K.faults sink.new }
 {
-    let Ok(head) = head_of(alloc, best) else {
-        return Err(CertWrite::Memory);
-    };
-    write_for_head(
-        alloc,
-        space.exercise(),
-        space.sheet(),
-        space.tables(),
-        &head,
-        sink,
-    )
+    certify_form(alloc, space, best, Form::First, sink)
 }

@@ -3,11 +3,12 @@
 ghost use Rattle.std.specs.Prelude.{◌≡◌, ◌<◌, ◌%◌, ◌++◌, IfOk, OnOk, string_bytes, length};
 ghost use Rattle.cert_law.specs.Certificates.{IsHeadSound};
 ghost use Rattle.cert_law.specs.Writer as words;
+ghost use Rattle.cert_text.specs.HeadRows.{closing_text, opening_text};
 ghost use Rattle.fux_grid.specs.Exercises.{IsValid};
 ghost use Rattle.cert_writer.specs.Heads.{line_if_free};
 ghost use Rattle.fux_text.specs.ReadBack.{sing_lines};
 
-use cert_text::CertHead;
+use cert_text::{CertHead, Form};
 use fux_grid::{Exercise, Score};
 use fux_pitch::Memory;
 use fux_text::sing_line;
@@ -48,27 +49,49 @@ fn put_lines(out: &mut String, alloc: Global, ex: &Exercise, score: &Score) -> R
     Ok(())
 }
 
-/// The text of a head.
+/// The first line of a form.
+fn opening(form: Form) -> &'static str
+    ensures { result.now ≡ opening_text form }
+{
+    match form {
+        Form::First => "fux-cert 1\n",
+        Form::Second => "fux-cert 2\n",
+    }
+}
+
+/// The last line of a form's head.
+fn closing(form: Form) -> &'static str
+    ensures { result.now ≡ closing_text form }
+{
+    match form {
+        Form::First => "claims\n",
+        Form::Second => "potentials\n",
+    }
+}
+
+/// The text of a head of a form.
 pub(crate) fn head_text(
     alloc: Global,
     ex: &Exercise,
     sheet: &Sheet,
+    form: Form,
     head: &CertHead,
 ) -> Result<String, Memory>
     requires valid { IsValid ex.now }
     requires sound { IsHeadSound ex.now sheet.now head.now }
-    ensures { IfOk result (λ text. string_bytes text ≡ words.head_text ex.now head.now) }
+    ensures { IfOk result (λ text. string_bytes text ≡ words.head_text ex.now form head.now) }
 {
     let _ = sheet;
     let mut out = String::new(alloc);
+    out.push_str(opening(form))?;
     match head {
-        CertHead::Nothing => out.push_str("fux-cert 1\nnone\nclaims\n")?,
+        CertHead::Nothing => out.push_str("none\n")?,
         CertHead::Best { penalty, score } => {
             score.kept();
-            write!(out, "fux-cert 1\nbest {penalty}\n")?;
+            write!(out, "best {penalty}\n")?;
             put_lines(&mut out, alloc, ex, score)?;
-            out.push_str("claims\n")?;
         }
     }
+    out.push_str(closing(form))?;
     Ok(out)
 }

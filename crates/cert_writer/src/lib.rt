@@ -1,13 +1,15 @@
-//! The writer of certificates: for each prefix that is owed it writes the first claim that is true of it. It stands over the space of
-//! settings, whose tables it reads, and beside the checker.
+//! The writer of certificates: for each prefix that is owed it writes the first claim that is true of it, and before the claims, in the
+//! second form, the least sums over chains. It stands over the space of settings, whose tables it reads, and beside the checker.
 #![tactic(auto)]
 
 mod begin;
 mod certificate;
 mod copy;
+mod entries;
 mod first;
 mod head;
+mod lines;
 mod next;
 mod write;
 
-pub use certificate::certify;
+pub use certificate::{certify, certify_form};

@@ -1,18 +1,22 @@
-//! The claims that are still to come.
+//! The claims and the lines that are still to come.
 
-ghost use Rattle.std.specs.Prelude.{◌≡◌, IfSome};
+ghost use Rattle.std.specs.Prelude.{◌≡◌, ◌<◌, ◌≤◌, ◌++◌, [], IfSome, None, length};
 ghost use Rattle.cert_law.specs.Cases.{matter_of};
 ghost use Rattle.cert_law.specs.Walks.{IsWalk};
 ghost use Rattle.cert_text.specs.Lines.{IsClaim};
+ghost use Rattle.cert_writer.specs.Stages.{AreLines, IsStage, line_of, lines_left, lines_with, stage_text};
 ghost use Rattle.cert_writer.specs.Writing.{IsTask, claims_to_come, claims_with};
 
+use crate::entries::{column_entry, stage_after, stage_from, start_entry};
 use crate::first::first_claim;
+use crate::lines::{Lines, Stage};
+use arrayvec::ArrayString;
 use cert_law::{Case, Walk, is_open};
-use cert_text::Claim;
+use cert_text::{Claim, write_claim, write_potential};
 use floor_tables::Tables;
 
 /// The claim that comes next.
-pub(crate) fn next_claim(walk: &mut Walk, case: &Case<'_>, tables: &Tables<'_>) -> Option<Claim>
+fn next_claim(walk: &mut Walk, case: &Case<'_>, tables: &Tables<'_>) -> Option<Claim>
     requires task { IsTask (matter_of case.now) tables.now }
     requires walk { IsWalk (matter_of case.now) walk.old }
     ensures walk { IsWalk (matter_of case.now) walk.new }
@@ -23,4 +27,59 @@ pub(crate) fn next_claim(walk: &mut Walk, case: &Case<'_>, tables: &Tables<'_>) 
     let claim = first_claim(case, &next, walk.tail(case, tables));
     walk.go_on(case, tables, next, is_open(claim));
     Some(claim)
+}
+
+/// A line of up to thirteen bytes.
+fn line_from(text: &str) -> ArrayString<13>
+    requires { length text.now ≤ 13 }
+    ensures { result.bytes ≡ text.now }
+{
+    let mut line = ArrayString::new();
+    line.push_str(text);
+    line
+}
+
+/// The line that comes next before the first claim's. There is none where the claims come next.
+fn next_stated(stage: &mut Stage, case: &Case<'_>, tables: &Tables<'_>) -> Option<ArrayString<13>>
+    requires task { IsTask (matter_of case.now) tables.now }
+    requires stage { IsStage case.now.exercise.now stage.old }
+    ensures stage { IsStage case.now.exercise.now stage.new }
+    ensures some { IfSome result (λ line. 0 < length line.bytes) }
+    ensures text { stage_text (matter_of case.now) stage.old ≡ line_of result ++ stage_text (matter_of case.now) stage.new }
+    ensures none { result ≡ None → stage_text (matter_of case.now) stage.new ≡ [] }
+{
+    match *stage {
+        Stage::Start => {
+            *stage = stage_from(case, tables, 0);
+            Some(write_potential(start_entry(case, tables)))
+        }
+        Stage::Column { place, number } => {
+            *stage = stage_after(case, tables, place, number);
+            Some(write_potential(column_entry(case, tables, place, number)))
+        }
+        Stage::Last => {
+            *stage = Stage::Claims;
+            Some(line_from("claims\n"))
+        }
+        Stage::Claims => None,
+    }
+}
+
+/// The line that comes next.
+pub(crate) fn next_line(
+    lines: &mut Lines,
+    case: &Case<'_>,
+    tables: &Tables<'_>,
+) -> Option<ArrayString<13>>
+    requires task { IsTask (matter_of case.now) tables.now }
+    requires lines { AreLines (matter_of case.now) lines.old }
+    ensures lines { AreLines (matter_of case.now) lines.new }
+    ensures some { IfSome result (λ line. 0 < length line.bytes) }
+    ensures text { lines_left (matter_of case.now) lines.old ≡ lines_with result (lines_left (matter_of case.now) lines.new) }
+{
+    if let Some(line) = next_stated(&mut lines.stage, case, tables) {
+        return Some(line);
+    }
+    let claim = next_claim(&mut lines.walk, case, tables)?;
+    Some(line_from(write_claim(claim).as_str()))
 }

@@ -1,34 +1,34 @@
-//! Writing the lines of claims.
+//! Writing the lines behind the text of a head.
 
 ghost use Rattle.std.specs.Prelude.{◌≡◌, ◌≤◌, ◌↔◌, ◌+◌, ◌++◌, IsOk, IsTrue, OnErr, OnOk, length};
 ghost use Rattle.cert_law.specs.Cases.{matter_of};
-ghost use Rattle.cert_law.specs.Walks.{IsWalk};
+ghost use Rattle.cert_writer.specs.Stages.{AreLines, lines_left};
 ghost use Rattle.cert_writer.specs.Waiting.{Puts};
-ghost use Rattle.cert_writer.specs.Writing.{IsTask, lines_left};
+ghost use Rattle.cert_writer.specs.Writing.{IsTask};
 ghost use Rattle.fux_port.specs.Counts.{Rose};
 ghost use Rattle.fux_port.specs.Promises.{TakesAll};
 ghost use Rattle.fux_port.specs.Written.{StopsShort, appended};
 
-use crate::next::next_claim;
+use crate::lines::Lines;
+use crate::next::next_line;
 use arrayvec::ArrayString;
-use cert_law::{Case, Walk};
-use cert_text::write_claim;
+use cert_law::Case;
 use floor_tables::Tables;
 use fux_port::{Failed, Sink, write_all};
 
 /// The most bytes that a certificate may have.
 const MOST_BYTES: usize = 1_073_741_824;
 
-/// Whether the lines of the claims that are still to come have no more than so many bytes. It stops at the first line that is too much.
-fn fit(walk: &mut Walk, case: &Case<'_>, tables: &Tables<'_>, room: usize) -> bool
+/// Whether the lines that are still to come have no more than so many bytes. It stops at the first line that is too much.
+fn fit(lines: &mut Lines, case: &Case<'_>, tables: &Tables<'_>, room: usize) -> bool
     requires task { IsTask (matter_of case.now) tables.now }
-    requires walk { IsWalk (matter_of case.now) walk.old }
-    ensures walk { IsWalk (matter_of case.now) walk.new }
-    ensures fits { IsTrue result ↔ (length (lines_left (matter_of case.now) walk.old) ≤ room) }
+    requires lines { AreLines (matter_of case.now) lines.old }
+    ensures lines { AreLines (matter_of case.now) lines.new }
+    ensures fits { IsTrue result ↔ (length (lines_left (matter_of case.now) lines.old) ≤ room) }
 {
     let mut left = room;
-    while let Some(claim) = next_claim(walk, case, tables) {
-        let size = write_claim(claim).len();
+    while let Some(line) = next_line(lines, case, tables) {
+        let size = line.len();
         if left < size {
             return false;
         }
@@ -38,20 +38,25 @@ fn fit(walk: &mut Walk, case: &Case<'_>, tables: &Tables<'_>, room: usize) -> bo
 }
 
 /// Whether a certificate whose head has so many bytes is within the limit.
-pub(crate) fn is_within(walk: &mut Walk, case: &Case<'_>, tables: &Tables<'_>, size: usize) -> bool
+pub(crate) fn is_within(
+    lines: &mut Lines,
+    case: &Case<'_>,
+    tables: &Tables<'_>,
+    size: usize,
+) -> bool
     requires task { IsTask (matter_of case.now) tables.now }
-    requires walk { IsWalk (matter_of case.now) walk.old }
-    ensures walk { IsWalk (matter_of case.now) walk.new }
-    ensures fits { IsTrue result ↔ (size + length (lines_left (matter_of case.now) walk.old) ≤ 1073741824) }
+    requires lines { AreLines (matter_of case.now) lines.old }
+    ensures lines { AreLines (matter_of case.now) lines.new }
+    ensures fits { IsTrue result ↔ (size + length (lines_left (matter_of case.now) lines.old) ≤ 1073741824) }
 {
-    size <= MOST_BYTES && fit(walk, case, tables, MOST_BYTES - size)
+    size <= MOST_BYTES && fit(lines, case, tables, MOST_BYTES - size)
 }
 
 /// Puts a line behind the bytes that wait to be written. Where it may not fit, they are written first.
 fn put<K: Sink>(
     sink: &mut K,
     waiting: &mut ArrayString<4096>,
-    line: &ArrayString<5>,
+    line: &ArrayString<13>,
 ) -> Result<(), Failed>
     ensures ok { OnOk result (Puts (K.written sink.old) (K.written sink.new) waiting.old.bytes waiting.new.bytes line.now.bytes) }
     ensures cause { OnErr result (Rose (K.faults sink.old) (K.faults sink.new)) }
@@ -69,48 +74,48 @@ fn put<K: Sink>(
     Ok(())
 }
 
-/// Writes the lines of the claims that are still to come.
-pub(crate) fn write_claims<K: Sink>(
-    walk: &mut Walk,
+/// Writes the lines that are still to come.
+pub(crate) fn write_lines<K: Sink>(
+    lines: &mut Lines,
     case: &Case<'_>,
     tables: &Tables<'_>,
     sink: &mut K,
 ) -> Result<(), Failed>
     requires task { IsTask (matter_of case.now) tables.now }
-    requires walk { IsWalk (matter_of case.now) walk.old }
+    requires lines { AreLines (matter_of case.now) lines.old }
     ensures ok { OnOk result
-        (K.written sink.new ≡ appended (K.written sink.old) (lines_left (matter_of case.now) walk.old)) }
+        (K.written sink.new ≡ appended (K.written sink.old) (lines_left (matter_of case.now) lines.old)) }
     ensures cause { OnErr result (Rose (K.faults sink.old) (K.faults sink.new)) }
     ensures err { OnErr result
-        (StopsShort (K.written sink.old) (K.written sink.new) (lines_left (matter_of case.now) walk.old)) }
+        (StopsShort (K.written sink.old) (K.written sink.new) (lines_left (matter_of case.now) lines.old)) }
     ensures taken { TakesAll (K.serves sink.old) → IsOk result }
     ensures faults { K.faults sink.old ≤ K.faults sink.new }
 {
     let mut waiting: ArrayString<4096> = ArrayString::new();
-    while let Some(claim) = next_claim(walk, case, tables) {
-        put(sink, &mut waiting, &write_claim(claim))?;
+    while let Some(line) = next_line(lines, case, tables) {
+        put(sink, &mut waiting, &line)?;
     }
     write_all(sink, waiting.as_str().as_bytes())
 }
 
-/// Writes the text of a head, and behind it the lines of the claims that are still to come.
+/// Writes the text of a head, and behind it the lines that are still to come.
 pub(crate) fn write_parts<K: Sink>(
-    walk: &mut Walk,
+    lines: &mut Lines,
     case: &Case<'_>,
     tables: &Tables<'_>,
     text: &str,
     sink: &mut K,
 ) -> Result<(), Failed>
     requires task { IsTask (matter_of case.now) tables.now }
-    requires walk { IsWalk (matter_of case.now) walk.old }
+    requires lines { AreLines (matter_of case.now) lines.old }
     ensures ok { OnOk result
-        (K.written sink.new ≡ appended (K.written sink.old) (text.now ++ lines_left (matter_of case.now) walk.old)) }
+        (K.written sink.new ≡ appended (K.written sink.old) (text.now ++ lines_left (matter_of case.now) lines.old)) }
     ensures cause { OnErr result (Rose (K.faults sink.old) (K.faults sink.new)) }
     ensures err { OnErr result
-        (StopsShort (K.written sink.old) (K.written sink.new) (text.now ++ lines_left (matter_of case.now) walk.old)) }
+        (StopsShort (K.written sink.old) (K.written sink.new) (text.now ++ lines_left (matter_of case.now) lines.old)) }
     ensures taken { TakesAll (K.serves sink.old) → IsOk result }
     ensures faults { K.faults sink.old ≤ K.faults sink.new }
 {
     write_all(sink, text.as_bytes())?;
-    write_claims(walk, case, tables, sink)
+    write_lines(lines, case, tables, sink)
 }

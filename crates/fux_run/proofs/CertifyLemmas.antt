@@ -1,13 +1,20 @@
 -- What `certify` writes: the certificate of a head that holds (`all_written`, `part_written`, `too_long`), and what it is of the
 -- exercise's best setting (`of_best`, `of_none`, `of_bound`).
 use Rattle.std.proofs.Common.{◌≡◌, ℕ, ◌<◌, ◌≤◌, List, [], ◌∷◌, None, Option, Result, Ok, Err, length, inl, inr, refl, subst, sym}
+use Rattle.std.specs.Prelude.{IfSome}
+use Rattle.std.specs.List.{AllByRecursion}
 use Rattle.std.proofs.lemmas.Bool.Decides.{leb_tells}
 use Rattle.cert_law.specs.Certificates.{Holds}
 use Rattle.cert_law.specs.Writer.{written_certificate}
 use Rattle.cert_law.proofs.FloorFacts.{floors_hold}
 use Rattle.cert_law.proofs.WrittenClaims.{written_is_valid}
+use Rattle.cert_law.proofs.WrittenEntries.{stated_are_rests}
+use Rattle.cert_law.specs.Rests.{entries_of, stated_in}
 use Rattle.cert_text.specs.declared.answers.CertHead.{CertHead}
 use Rattle.cert_text.specs.declared.answers.CertHead.TheVariants.{Best, Nothing}
+use Rattle.cert_text.specs.declared.answers.Form.{Form}
+use Rattle.cert_text.specs.declared.answers.Form.TheVariants.{First, Second}
+use Rattle.cert_text.specs.Potentials.{IsPotential}
 use Rattle.fux_grid.specs.declared.exercise.Exercise.{Exercise}
 use Rattle.fux_grid.specs.Exercises.{IsValid}
 use Rattle.fux_grid.specs.Grid.{Grid}
@@ -39,46 +46,53 @@ use Rattle.fux_run.specs.Texts.{Work}
 within : (bytes : List ℕ) → (1073741824 < length bytes → ⊥) → length bytes ≤ 1073741824
 within bytes short = elim (leb_tells (length bytes) 1073741824) [ inl few ↦ few.1 | inr many ↦ absurd (short many.1) ]
 
-module _ (ex : Exercise) (sheet : Sheet) (head : CertHead) (verdict : Verdict) (valid : IsValid ex)
-    (holds : Holds ex sheet head)
+module _ (ex : Exercise) (sheet : Sheet) (form : Form) (head : CertHead) (verdict : Verdict) (valid : IsValid ex)
+    (small : AllByRecursion IsPotential (entries_of ex sheet)) (holds : Holds ex sheet head)
     (cut : Type 0) (old new : Option (List ℕ)) where
-  its_certificate : IsCertificateOf ex sheet head (written_certificate ex sheet head)
+  stated_small : (form : Form) → IfSome (stated_in form ex sheet) (AllByRecursion IsPotential)
+  stated_small First = tt
+  stated_small Second = small
+
+  its_certificate : IsCertificateOf ex sheet form head (written_certificate ex sheet form head)
   its_certificate = record {
-    valid = written_is_valid ex sheet valid (floors_hold ex valid sheet) head None tt holds;
+    valid =
+        written_is_valid ex sheet valid (floors_hold ex valid sheet) head (stated_in form ex sheet)
+        (stated_are_rests ex sheet form) holds;
+    small = stated_small form;
     written = refl;
   }
 
   abbrev whole : Work
-  whole = Ok record { verdict = verdict; bytes = written_certificate ex sheet head }
+  whole = Ok record { verdict = verdict; bytes = written_certificate ex sheet form head }
 
-  pub all_written : (1073741824 < length (written_certificate ex sheet head) → ⊥) → new
-      ≡ appended old (written_certificate ex sheet head)
-      → Writes (CertifiesHead ex sheet head verdict) cut old new (Ok verdict)
+  pub all_written : (1073741824 < length (written_certificate ex sheet form head) → ⊥) → new
+      ≡ appended old (written_certificate ex sheet form head)
+      → Writes (CertifiesHead ex sheet form head verdict) cut old new (Ok verdict)
   all_written short all = record {
     work = whole;
-    made = (refl, its_certificate, within (written_certificate ex sheet head) short);
+    made = (refl, its_certificate, within (written_certificate ex sheet form head) short);
     holds = record {
-      output = record { verdict = verdict; bytes = written_certificate ex sheet head };
+      output = record { verdict = verdict; bytes = written_certificate ex sheet form head };
       is = refl;
       verdict = refl;
       written = all;
     };
   }
 
-  pub part_written : (1073741824 < length (written_certificate ex sheet head) → ⊥) → cut
-      → StopsShort old new (written_certificate ex sheet head)
-      → Writes (CertifiesHead ex sheet head verdict) cut old new (Err halt.Unwritable)
+  pub part_written : (1073741824 < length (written_certificate ex sheet form head) → ⊥) → cut
+      → StopsShort old new (written_certificate ex sheet form head)
+      → Writes (CertifiesHead ex sheet form head verdict) cut old new (Err halt.Unwritable)
   part_written short rose part = (
     rose,
     record {
       work = whole;
-      made = (refl, its_certificate, within (written_certificate ex sheet head) short);
+      made = (refl, its_certificate, within (written_certificate ex sheet form head) short);
       holds = part;
     },
   )
 
-  pub too_long : 1073741824 < length (written_certificate ex sheet head) → new ≡ old
-      → Writes (CertifiesHead ex sheet head verdict) cut old new
+  pub too_long : 1073741824 < length (written_certificate ex sheet form head) → new ≡ old
+      → Writes (CertifiesHead ex sheet form head verdict) cut old new
       (Err (halt.Stopped (stop.Refused refusal.LongCertificate)))
   too_long long none = (none, (its_certificate, long))
 
@@ -92,9 +106,9 @@ writes_so Made Made' cut old new (Err (halt.Stopped stop.Memory)) so wrote = wro
 writes_so Made Made' cut old new (Err halt.Unwritable) so wrote =
     (wrote.0, record { work = wrote.1.work; made = so wrote.1.work wrote.1.made; holds = wrote.1.holds })
 
-module _ (budget : ℕ) (sheet : Sheet) (ex : Exercise) (narrow : IsNarrow ex) where
+module _ (budget : ℕ) (form : Form) (sheet : Sheet) (ex : Exercise) (narrow : IsNarrow ex) where
   pub of_best : (score : Grid) (penalty : ℕ) → IsBestFound ex sheet budget score penalty → (work : Work)
-      → CertifiesHead ex sheet (Best penalty score) Favorable work → Certifies budget sheet ex work
+      → CertifiesHead ex sheet form (Best penalty score) Favorable work → Certifies budget form sheet ex work
   of_best score penalty best (Ok output) made = record {
     narrow = narrow;
     shows = rw made.0 record { score = score; penalty = penalty; best = best; certificate = made.1 };
@@ -117,7 +131,7 @@ module _ (budget : ℕ) (sheet : Sheet) (ex : Exercise) (narrow : IsNarrow ex) w
   of_best score penalty best (Err (refusal.Midi fault)) made = absurd made
 
   pub of_none : IsNothingWithin ex sheet budget → (work : Work)
-      → CertifiesHead ex sheet Nothing Unfavorable work → Certifies budget sheet ex work
+      → CertifiesHead ex sheet form Nothing Unfavorable work → Certifies budget form sheet ex work
   of_none none (Ok output) made = record {
     narrow = narrow;
     shows = rw made.0 record { none = none; certificate = made.1 };
@@ -140,7 +154,7 @@ module _ (budget : ℕ) (sheet : Sheet) (ex : Exercise) (narrow : IsNarrow ex) w
   of_none none (Err (refusal.Midi fault)) made = absurd made
 
   pub of_bound : (bound : ℕ) → IsBound ex sheet budget bound → (work : Work) → IsBoundText bound work
-      → Certifies budget sheet ex work
+      → Certifies budget form sheet ex work
   of_bound bound is (Ok output) made = record {
     narrow = narrow;
     shows = rw made.0 record { bound = bound; is_bound = is; spelled = made.1 };
@@ -149,46 +163,46 @@ module _ (budget : ℕ) (sheet : Sheet) (ex : Exercise) (narrow : IsNarrow ex) w
   of_bound bound is (Err refusal) made = absurd made
 
 -- what is written of a space that was searched is written of its exercise
-module _ (budget : ℕ) (sheet : Sheet) (ex : Exercise) (space : Searched) where
+module _ (budget : ℕ) (form : Form) (sheet : Sheet) (ex : Exercise) (space : Searched) where
   pub none_certified : (cut : Type 0) (old new : Option (List ℕ)) (result : Result Verdict Halt)
       → IsSpaceOf ex sheet space
       → IsFound space.exercise space.sheet budget found.Nothing
-      → Writes (CertifiesHead space.exercise space.sheet Nothing Unfavorable) cut old new result
-      → Writes (Certifies budget sheet ex) cut old new result
+      → Writes (CertifiesHead space.exercise space.sheet form Nothing Unfavorable) cut old new result
+      → Writes (Certifies budget form sheet ex) cut old new result
   none_certified cut old new result is =
       subst
       (λ s. IsFound s.exercise s.sheet budget found.Nothing
-      → Writes (CertifiesHead s.exercise s.sheet Nothing Unfavorable) cut old new result
-      → Writes (Certifies budget sheet ex) cut old new result)
+      → Writes (CertifiesHead s.exercise s.sheet form Nothing Unfavorable) cut old new result
+      → Writes (Certifies budget form sheet ex) cut old new result)
       (sym is.0)
-      (λ none. writes_so (CertifiesHead ex sheet Nothing Unfavorable) (Certifies budget sheet ex) cut old new result
-      (of_none budget sheet ex is.1 none))
+      (λ none. writes_so (CertifiesHead ex sheet form Nothing Unfavorable) (Certifies budget form sheet ex) cut old new result
+      (of_none budget form sheet ex is.1 none))
 
   pub best_certified : (score : Grid) (penalty : ℕ) (cut : Type 0) (old new : Option (List ℕ)) (result : Result Verdict Halt)
       → IsSpaceOf ex sheet space
       → IsFound space.exercise space.sheet budget (found.Best score penalty)
-      → Writes (CertifiesHead space.exercise space.sheet (Best penalty score) Favorable) cut old new result
-      → Writes (Certifies budget sheet ex) cut old new result
+      → Writes (CertifiesHead space.exercise space.sheet form (Best penalty score) Favorable) cut old new result
+      → Writes (Certifies budget form sheet ex) cut old new result
   best_certified score penalty cut old new result is =
       subst
       (λ s. IsFound s.exercise s.sheet budget (found.Best score penalty)
-      → Writes (CertifiesHead s.exercise s.sheet (Best penalty score) Favorable) cut old new result
-      → Writes (Certifies budget sheet ex) cut old new result)
+      → Writes (CertifiesHead s.exercise s.sheet form (Best penalty score) Favorable) cut old new result
+      → Writes (Certifies budget form sheet ex) cut old new result)
       (sym is.0)
-      (λ best. writes_so (CertifiesHead ex sheet (Best penalty score) Favorable) (Certifies budget sheet ex) cut old new
-      result (of_best budget sheet ex is.1 score penalty best))
+      (λ best. writes_so (CertifiesHead ex sheet form (Best penalty score) Favorable) (Certifies budget form sheet ex) cut old new
+      result (of_best budget form sheet ex is.1 score penalty best))
 
   pub bound_told : (bound : ℕ) (cut : Type 0) (old new : Option (List ℕ)) (result : Result Verdict Halt)
       → IsSpaceOf ex sheet space
       → IsFound space.exercise space.sheet budget (found.Spent bound)
-      → Writes (IsBoundText bound) cut old new result → Writes (Certifies budget sheet ex) cut old new result
+      → Writes (IsBoundText bound) cut old new result → Writes (Certifies budget form sheet ex) cut old new result
   bound_told bound cut old new result is =
       subst
       (λ s. IsFound s.exercise s.sheet budget (found.Spent bound) → Writes (IsBoundText bound) cut old new result
-      → Writes (Certifies budget sheet ex) cut old new result)
+      → Writes (Certifies budget form sheet ex) cut old new result)
       (sym is.0)
-      (λ told. writes_so (IsBoundText bound) (Certifies budget sheet ex) cut old new result
-      (of_bound budget sheet ex is.1 bound told))
+      (λ told. writes_so (IsBoundText bound) (Certifies budget form sheet ex) cut old new result
+      (of_bound budget form sheet ex is.1 bound told))
 
 pub bound_written : (bound : ℕ) (cut : Type 0) (old new : Option (List ℕ)) → new ≡ appended old (bound_line bound)
     → Writes (IsBoundText bound) cut old new (Ok Spent)
@@ -264,26 +278,26 @@ ended_said task files rose cut contents old new (Err halt.Unwritable) told read 
     let part = wrote known.bytes known.content in
     rw says (part.0, does_works task files known.bytes (λ work. StopsShort old new (work_output work)) known.had part.1)
 
-pub of_texts : (files : Files) (name : List ℕ) (sheet : Option (List ℕ)) (budget : ℕ) (text : Content)
+pub of_texts : (files : Files) (name : List ℕ) (sheet : Option (List ℕ)) (budget : ℕ) (form : Form) (text : Content)
     (weights : Option Content) (cut : Type 0)
     (old new : Option (List ℕ)) (answer : Result Verdict Halt)
     → ((bytes : List ℕ) (sheets : List (List ℕ)) → IsContent 65536 text bytes
     → AreContents 65536 (as_list weights) sheets
-    → Writes (CertifiesText budget sheets bytes) cut old new answer)
+    → Writes (CertifiesText budget form sheets bytes) cut old new answer)
     → (all : List (List ℕ)) → AreContents 65536 (text ∷ as_list weights) all
-    → Writes (Makes (certify name sheet budget) files all) cut old new answer
-of_texts files name sheet budget text weights cut old new answer wrote (bytes ∷ sheets) content =
+    → Writes (Makes (certify name sheet budget form) files all) cut old new answer
+of_texts files name sheet budget form text weights cut old new answer wrote (bytes ∷ sheets) content =
     wrote bytes sheets content.0 content.1
-of_texts files name sheet budget text weights cut old new answer wrote [] content = absurd content
+of_texts files name sheet budget form text weights cut old new answer wrote [] content = absurd content
 
 -- ---- the texts of an exercise and of a sheet
 
-pub of_sheet : (budget : ℕ) (sheets : List (List ℕ)) (bytes : List ℕ) (ex : Exercise) (sheet : Sheet) (cut : Type 0)
+pub of_sheet : (budget : ℕ) (form : Form) (sheets : List (List ℕ)) (bytes : List ℕ) (ex : Exercise) (sheet : Sheet) (cut : Type 0)
     (old new : Option (List ℕ)) (answer : Result Verdict Halt) → IsTheText bytes ex → sheet_said sheets ≡ Ok sheet
-    → Writes (Certifies budget sheet ex) cut old new answer
-    → Writes (CertifiesText budget sheets bytes) cut old new answer
-of_sheet budget sheets bytes ex sheet cut old new answer text said =
-    writes_so (Certifies budget sheet ex) (CertifiesText budget sheets bytes) cut old new answer
+    → Writes (Certifies budget form sheet ex) cut old new answer
+    → Writes (CertifiesText budget form sheets bytes) cut old new answer
+of_sheet budget form sheets bytes ex sheet cut old new answer text said =
+    writes_so (Certifies budget form sheet ex) (CertifiesText budget form sheets bytes) cut old new answer
     (λ work made. inl record {
       exercise = ex;
       text = text;

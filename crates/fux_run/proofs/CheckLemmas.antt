@@ -125,7 +125,7 @@ output_is_there (check ex certificate sheet) files name (text ∷ sheets) output
     checked_is_there files certificate sheets text output made (rw (the_one certificate name one.0 one.1 one.2) missing)
 output_is_there (check ex certificate sheet) files name [] output made one missing = absurd made
 output_is_there (on_exercise ex sheet job) files name bytes output made one missing = omega (arith, one.1)
-output_is_there (certify ex sheet budget) files name bytes output made one missing = omega (arith, one.1)
+output_is_there (certify ex sheet budget form) files name bytes output made one missing = omega (arith, one.1)
 output_is_there (fromsmf file head) files name bytes output made one missing = omega (arith, one.1)
 output_is_there (drill number) files name bytes output made one missing = omega (arith, one.1)
 output_is_there (find_canon file sheet budget) files name bytes output made one missing = omega (arith, one.1)
@@ -228,7 +228,7 @@ not_refused (class_report list) files (text ∷ []) refusal made ready =
 not_refused (class_report list) files [] refusal made ready = ready
 not_refused (class_report list) files (text ∷ more ∷ bytes) refusal made ready = ready
 not_refused (on_exercise ex sheet job) files bytes refusal made ready = ready
-not_refused (certify ex sheet budget) files bytes refusal made ready = ready
+not_refused (certify ex sheet budget form) files bytes refusal made ready = ready
 not_refused (fromsmf file head) files bytes refusal made ready = ready
 not_refused (drill number) files bytes refusal made ready = ready
 not_refused (find_canon file sheet budget) files bytes refusal made ready = ready

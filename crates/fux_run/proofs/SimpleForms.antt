@@ -2,7 +2,7 @@
 use Rattle.std.proofs.Common.{◌≡◌, true, refl}
 use Rattle.clap.specs.Words.{Text, is_simple_and_free}
 use Rattle.clap.proofs.OnLiterals.{clap_on_literals}
-use Rattle.fux_run.specs.Commands.{canon_words, check_cantus_words, check_words, class_words, drill_words, exercise_words, fromsmf_words, new_cantus_words, search_words}
+use Rattle.fux_run.specs.Commands.{canon_words, certify_words, check_cantus_words, check_words, class_words, drill_words, exercise_words, fromsmf_words, new_cantus_words, search_words}
 
 pub search_is_simple : (name : Text) → is_simple_and_free (search_words name) ≡ true
 unfolding clap_on_literals
@@ -15,6 +15,10 @@ exercise_is_simple name = refl
 pub fromsmf_is_simple : is_simple_and_free fromsmf_words ≡ true
 unfolding clap_on_literals
 fromsmf_is_simple = refl
+
+pub certify_is_simple : is_simple_and_free certify_words ≡ true
+unfolding clap_on_literals
+certify_is_simple = refl
 
 pub check_is_simple : is_simple_and_free check_words ≡ true
 unfolding clap_on_literals

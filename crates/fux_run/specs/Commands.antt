@@ -6,6 +6,8 @@ use Rattle.std.specs.Str.{bytes_eq}
 use Rattle.clap.specs.Simple.{on_top}
 use Rattle.clap.specs.Words.{App, Kinds, Row, Rule, Text, fault_of, first_of, matches_of, new_app, new_rule, with_rule}
 use Rattle.clap.specs.declared.builder.action.ArgAction.TheVariants.{SetTrue}
+use Rattle.cert_text.specs.declared.answers.Form.{Form}
+use Rattle.cert_text.specs.declared.answers.Form.TheVariants.{First, Second}
 use Rattle.class_marker.specs.Lists.{listed_names}
 use Rattle.fux_grid.specs.declared.exercise.Head.{Head}
 use Rattle.fux_pitch.specs.Pitch.{key_of}
@@ -27,7 +29,7 @@ texts words = map string_bytes words
 -- a command, with the names of its files
 pub data Task : Type 0 where
   on_exercise : (name : Text) (sheet : Option Text) (job : Job) → Task
-  certify : (name : Text) (sheet : Option Text) (budget : ℕ) → Task
+  certify : (name : Text) (sheet : Option Text) (budget : ℕ) (form : Form) → Task
   check : (name certificate : Text) (sheet : Option Text) → Task
   fromsmf : (name : Text) (head : Head) → Task
   drill : (number : ℕ) → Task
@@ -54,7 +56,7 @@ making_task (CheckCantus wanted certificate sheet) = check_cantus wanted certifi
 
 abbrev pub task_of : Command → Task
 task_of (Make making) = making_task making
-task_of (Certify name sheet budget) = certify name.now (sheet_named sheet) budget
+task_of (Certify name sheet budget form) = certify name.now (sheet_named sheet) budget form
 task_of (CertifyCantus wanted sheet budget) = certify_cantus wanted (sheet_named sheet) budget
 
 -- what is asked of a new cantus is within the limits
@@ -72,7 +74,7 @@ HasMidiHead _ = Unit {0}
 
 abbrev pub HasHead : Command → Type 0
 HasHead (Make making) = HasMidiHead making
-HasHead (Certify name sheet budget) = Unit {0}
+HasHead (Certify name sheet budget form) = Unit {0}
 HasHead (CertifyCantus wanted sheet budget) = IsWanted wanted
 
 -- ---- the words behind the first, as `clap` takes them: one that must be there, options, each once at most, and flags
@@ -102,6 +104,10 @@ abbrev pub search_words : Text → App
 search_words name =
     with_rule (with_rule (exercise_words name) (option_word false (codes "sheet")))
     (option_word false (codes "budget"))
+
+-- a search that also says a form
+abbrev pub certify_words : App
+certify_words = with_rule (search_words (codes "certify")) (option_word false (codes "form"))
 
 abbrev pub check_words : App
 check_words =
@@ -170,6 +176,12 @@ abbrev pub budget_in : Option Text → Option ℕ
 budget_in None = Some 1000000
 budget_in (Some text) = number_within 1 4000000 text
 
+-- the form: 1 or 2, and the second where none is given
+abbrev pub form_in : Option Text → Option Form
+form_in None = Some Second
+form_in (Some text) =
+    if bytes_eq text (codes "1") then Some First else (if bytes_eq text (codes "2") then Some Second else None)
+
 -- a flag is given
 abbrev pub is_set : Text → List Row → Bool
 is_set id rows = option_map_or (bytes_eq (codes "true")) (first_of id rows) false
@@ -203,7 +215,8 @@ abbrev pub certify_asked : List Row → Option Task
 certify_asked rows = do
   name ← first_of (codes "EX") rows
   budget ← budget_in (first_of (codes "budget") rows)
-  Some (certify name (first_of (codes "sheet") rows) budget)
+  form ← form_in (first_of (codes "form") rows)
+  Some (certify name (first_of (codes "sheet") rows) budget form)
 
 abbrev pub check_asked : List Row → Option Task
 check_asked rows = do
@@ -287,7 +300,7 @@ abbrev pub asked : List Text → Option Task
 asked [] = None
 asked (word ∷ rest) =
     if bytes_eq word (codes "compose") then search_in (codes "compose") compose_asked rest
-    else (if bytes_eq word (codes "certify") then search_in (codes "certify") certify_asked rest
+    else (if bytes_eq word (codes "certify") then asked_by certify_words certify_asked rest
     else (if bytes_eq word (codes "check") then asked_by check_words check_asked rest
     else (if bytes_eq word (codes "mark") then job_in (codes "mark") Mark rest
     else (if bytes_eq word (codes "cantus") then job_in (codes "cantus") Cantus rest
@@ -307,7 +320,7 @@ asked (word ∷ rest) =
 -- the name that a line about a refused file tells, where it tells one
 abbrev pub name_in : Task → Text
 name_in (on_exercise name sheet job) = name
-name_in (certify name sheet budget) = name
+name_in (certify name sheet budget form) = name
 name_in (check name certificate sheet) = name
 name_in (fromsmf name head) = name
 name_in (drill number) = []
@@ -325,7 +338,7 @@ as_list (Some x) = x ∷ []
 -- the names of the files that a command reads before its work, in the order of reading
 abbrev pub names_in : Task → List Text
 names_in (on_exercise name sheet job) = name ∷ as_list sheet
-names_in (certify name sheet budget) = name ∷ as_list sheet
+names_in (certify name sheet budget form) = name ∷ as_list sheet
 names_in (check name certificate sheet) = name ∷ as_list sheet
 names_in (fromsmf name head) = name ∷ []
 names_in (drill number) = []
@@ -351,7 +364,7 @@ names_within _ _ = []
 -- how many bytes of each file before its work are read at most
 abbrev pub limit_in : Task → ℕ
 limit_in (on_exercise name sheet job) = 65536
-limit_in (certify name sheet budget) = 65536
+limit_in (certify name sheet budget form) = 65536
 limit_in (check name certificate sheet) = 65536
 limit_in (fromsmf name head) = 1048576
 limit_in (drill number) = 65536

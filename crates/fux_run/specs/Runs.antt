@@ -1,6 +1,7 @@
 -- How a run ends.
 use Rattle.std.specs.Prelude.{◌≡◌, ℕ, ◌⊎◌, List, [], ◌++◌, Contains, String, Option, None, Some, Result, Ok, Err, codes}
 use Rattle.std.specs.Borrow.{Bor}
+use Rattle.cert_text.specs.declared.answers.Form.{Form}
 use Rattle.fux_port.specs.Counts.{Rose}
 use Rattle.fux_port.specs.Written.{appended, StopsShort}
 use Rattle.fux_run.specs.declared.complaint.Complaint.{Complaint}
@@ -189,11 +190,11 @@ EndsOn files faults written cuts Ends shelf later out end result =
     Ends (files shelf) (Rose (faults shelf) (faults later)) (Rose (cuts out) (cuts end)) (written out) (written end)
     result
 
--- how `certify` on files of these names, within a budget, ended
+-- how `certify` on files of these names, within a budget and with a form, ended
 abbrev pub CertifyEnds : {F K : Type 0} → (F → Files) → (F → ℕ) → (K → Option (List ℕ)) → (K → ℕ)
-    → Bor (List ℕ) → Option (Bor (List ℕ)) → ℕ → F → F → K → K → Result Verdict Complaint → Type 0
-CertifyEnds files faults written cuts name sheet budget =
-    EndsOn files faults written cuts (Ended (certify name.now (sheet_named sheet) budget))
+    → Bor (List ℕ) → Option (Bor (List ℕ)) → ℕ → Form → F → F → K → K → Result Verdict Complaint → Type 0
+CertifyEnds files faults written cuts name sheet budget form =
+    EndsOn files faults written cuts (Ended (certify name.now (sheet_named sheet) budget form))
 
 -- the answer of a command that writes to standard output while it works, by what that tells before it and after it
 abbrev pub WritesTo : {K : Type 0} → (K → Option (List ℕ)) → (K → ℕ) → (Work → Type 0) → K → K → Result Verdict Halt
@@ -202,7 +203,7 @@ WritesTo written faults Made old new answer =
     Writes Made (Rose (faults old) (faults new)) (written old) (written new) answer
 
 -- the answer of `certify` to the texts that were read of an exercise and of a sheet
-abbrev pub CertifiesTexts : {K : Type 0} → (K → Option (List ℕ)) → (K → ℕ) → ℕ → Content → Option Content → K → K
+abbrev pub CertifiesTexts : {K : Type 0} → (K → Option (List ℕ)) → (K → ℕ) → ℕ → Form → Content → Option Content → K → K
     → Result Verdict Halt → Type 0
-CertifiesTexts written faults budget text weights old new answer =
-    OnTexts text weights (λ bytes sheets. WritesTo written faults (CertifiesText budget sheets bytes) old new answer)
+CertifiesTexts written faults budget form text weights old new answer =
+    OnTexts text weights (λ bytes sheets. WritesTo written faults (CertifiesText budget form sheets bytes) old new answer)

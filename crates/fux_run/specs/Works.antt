@@ -1,5 +1,6 @@
 -- What the commands make of their files.
 use Rattle.std.specs.Prelude.{◌≡◌, ℕ, ◌<◌, ◌⊎◌, List, [], ◌∷◌, All, Option, Some, None, Result, Ok, Err, length}
+use Rattle.cert_text.specs.declared.answers.Form.{Form}
 use Rattle.class_marker.specs.Lists.{listed_names}
 use Rattle.class_marker.specs.Markings.{IsContent, IsTheText}
 use Rattle.fux_grid.specs.declared.exercise.Exercise.{Exercise}
@@ -45,9 +46,9 @@ MakesOf ToSmf sheet ex = WritesSmf ex
 abbrev pub MakesOfText : Job → List (List ℕ) → List ℕ → Work → Type 0
 MakesOfText job sheets text = OnText (λ ex. OnSheet (λ sheet. MakesOf job sheet ex) sheets) text
 
--- `certify` makes this of the text of an exercise, and of the file of a sheet where one is given
-abbrev pub CertifiesText : ℕ → List (List ℕ) → List ℕ → Work → Type 0
-CertifiesText budget sheets text = OnText (λ ex. OnSheet (λ sheet. Certifies budget sheet ex) sheets) text
+-- `certify` with a form makes this of the text of an exercise, and of the file of a sheet where one is given
+abbrev pub CertifiesText : ℕ → Form → List (List ℕ) → List ℕ → Work → Type 0
+CertifiesText budget form sheets text = OnText (λ ex. OnSheet (λ sheet. Certifies budget form sheet ex) sheets) text
 
 -- the files that a shelf tells, if it does
 abbrev pub Files : Type 0
@@ -90,7 +91,7 @@ ReportsClass files list (Err refusal) = RefusesList list refusal
 -- a command makes this of files with these bytes, in the order of reading
 abbrev pub Makes : Task → Files → List (List ℕ) → Work → Type 0
 Makes (on_exercise name sheet job) files (text ∷ sheets) work = MakesOfText job sheets text work
-Makes (certify name sheet budget) files (text ∷ sheets) work = CertifiesText budget sheets text work
+Makes (certify name sheet budget form) files (text ∷ sheets) work = CertifiesText budget form sheets text work
 Makes (check name certificate sheet) files (text ∷ sheets) work = ChecksText files certificate sheets text work
 Makes (fromsmf name head) files (file ∷ []) work = ReadsMidi head file work
 Makes (drill number) files [] work = Drills number work

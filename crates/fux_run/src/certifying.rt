@@ -14,7 +14,8 @@ use crate::composing::bound_text;
 use crate::refusal::Refusal;
 use crate::searching::{Found, search, space_of};
 use crate::work::{Halt, Stop, Verdict};
-use cert_text::CertWrite;
+use cert_text::{CertWrite, Form};
+use cert_writer::certify_form;
 use fux_grid::{Exercise, Score};
 use fux_port::{Failed, Sink, write_all};
 use penalty_sheet::Sheet;
@@ -22,17 +23,18 @@ use species_space::SpeciesSpace;
 use std::alloc::Global;
 use std::thread::Threads;
 
-/// Writes the certificate of the best setting of an exercise over a sheet of weights, or that there is none, or a bound.
+/// Writes the certificate, in a form, of the best setting of an exercise over a sheet of weights, or that there is none, or a bound.
 pub fn certify<K: Sink, R: Threads + Sync>(
     rt: &R,
     alloc: Global,
     exercise: &Exercise,
     sheet: &Sheet,
     budget: u32,
+    form: Form,
     out: &mut K,
 ) -> Result<Verdict, Halt>
     requires { IsValid exercise.now }
-    ensures writes { WritesTo K.written K.faults (Certifies budget sheet.now exercise.now) out.old out.new result }
+    ensures writes { WritesTo K.written K.faults (Certifies budget form sheet.now exercise.now) out.old out.new result }
     ensures taken { TakesAll (K.serves out.old) → IfErr result CouldWrite }
 {
     let space = space_of(rt, alloc, exercise, sheet)?;
@@ -44,30 +46,32 @@ pub fn certify<K: Sink, R: Threads + Sync>(
             put_certificate(
                 alloc,
                 &space,
+                form,
                 Some((&score, penalty)),
                 Verdict::Favorable,
                 out,
             )
         }
-        Found::Nothing => put_certificate(alloc, &space, None, Verdict::Unfavorable, out),
+        Found::Nothing => put_certificate(alloc, &space, form, None, Verdict::Unfavorable, out),
         Found::Spent { bound } => put_bound(alloc, bound, out),
     }
 }
 
-/// Writes the certificate of the best setting with its penalty, or the one that says that no setting is lawful.
+/// Writes the certificate, in a form, of the best setting with its penalty, or the one that says that no setting is lawful.
 fn put_certificate<K: Sink>(
     alloc: Global,
     space: &SpeciesSpace<'_>,
+    form: Form,
     best: Option<(&Score, u64)>,
     verdict: Verdict,
     out: &mut K,
 ) -> Result<Verdict, Halt>
     requires valid { IsValid space.now.exercise }
     requires holds { Holds space.now.exercise space.now.sheet (head_with best) }
-    ensures writes { WritesTo K.written K.faults (CertifiesFound space.now best.entry verdict) out.old out.new result }
+    ensures writes { WritesTo K.written K.faults (CertifiesFound space.now form best.entry verdict) out.old out.new result }
     ensures taken { TakesAll (K.serves out.old) → IfErr result CouldWrite }
 {
-    match cert_writer::certify(alloc, space, best, out) {
+    match certify_form(alloc, space, best, form, out) {
         Ok(()) => Ok(verdict),
         Err(CertWrite::WriteFault) => Err(Halt::Unwritable),
         Err(CertWrite::TooLong) => Err(Halt::Stopped(Stop::Refused(Refusal::LongCertificate))),

@@ -2,16 +2,16 @@
 
 ghost use Rattle.std.specs.Prelude.{◌≡◌, IfOk, IfSome, codes, option_map, true};
 ghost use Rattle.clap.specs.Words.{app_of, found_of, is_simple_and_free, rows_of};
-ghost use Rattle.fux_run.specs.Commands.{HasHead, asked, asked_by, cantus_search_in, certify_asked, certify_cantus_asked, check_asked, check_cantus_asked, check_cantus_words, check_words, class_asked, class_words, canon_asked, canon_words, compose_asked, drill_asked, drill_words, found_in, fromsmf_asked, fromsmf_words, job_in, new_cantus_asked, search_in, task_of, texts};
+ghost use Rattle.fux_run.specs.Commands.{HasHead, asked, asked_by, cantus_search_in, certify_asked, certify_words, certify_cantus_asked, check_asked, check_cantus_asked, check_cantus_words, check_words, class_asked, class_words, canon_asked, canon_words, compose_asked, drill_asked, drill_words, found_in, fromsmf_asked, fromsmf_words, job_in, new_cantus_asked, new_cantus_words, search_in, task_of, texts};
 
 use crate::forms::{
-    canon_form, check_cantus_form, check_form, class_form, drill_form, exercise_form, from_smf_form,
-    new_cantus_form, search_form,
+    canon_form, certify_form, check_cantus_form, check_form, class_form, drill_form, exercise_form, from_smf_form, new_cantus_form, search_form,
 };
 use crate::values::{
     certifying, certifying_cantus, checking, checking_cantus, classing, composing, drilling, imitating,
     inventing, job_on, smf_reading,
 };
+use cert_text::Form;
 use clap::ArgMatches;
 use clap::error::ErrorKind;
 use fux_grid::Head;
@@ -99,12 +99,13 @@ pub enum Making<'a> {
 pub enum Command<'a> {
     /// What is made whole before any of it is written.
     Make(Making<'a>),
-    /// The certificate of the best setting of the exercise in a file, found within this budget, over the sheet of weights in another
-    /// where one is named. It is written while it is made, for it may be longer than memory holds.
+    /// The certificate, in this form, of the best setting of the exercise in a file, found within this budget, over the sheet of weights
+    /// in another where one is named. It is written while it is made, for it may be longer than memory holds.
     Certify {
         name: &'a str,
         sheet: Option<&'a str>,
         budget: u32,
+        form: Form,
     },
     /// The certificate of the best new cantus, in the same way.
     CertifyCantus {
@@ -156,10 +157,10 @@ fn parse_compose(alloc: Global, words: &[String]) -> Result<Option<Command<'_>>,
 /// The words behind `certify`.
 fn parse_certify(alloc: Global, words: &[String]) -> Result<Option<Command<'_>>, Memory>
     ensures asked { IfOk result (λ found. option_map task_of found
-        ≡ search_in (codes "certify") certify_asked (texts words.now)) }
+        ≡ asked_by certify_words certify_asked (texts words.now)) }
     ensures head { IfOk result (λ found. IfSome found HasHead) }
 {
-    let Some(matches) = taken(search_form(alloc, "certify")?, words)? else {
+    let Some(matches) = taken(certify_form(alloc)?, words)? else {
         return Ok(None);
     };
     Ok(certifying(&matches))

@@ -2,7 +2,7 @@
 
 ghost use Rattle.std.specs.Prelude.{◌≡◌, IfOk, codes};
 ghost use Rattle.clap.specs.Words.{app_of, with_rule};
-ghost use Rattle.fux_run.specs.Commands.{canon_words, check_cantus_words, check_words, class_words, drill_words, needed_word, exercise_words, flag_word, fromsmf_words, head_words, new_cantus_words, one_word, option_word, search_words, wanted_words};
+ghost use Rattle.fux_run.specs.Commands.{canon_words, certify_words, check_cantus_words, check_words, class_words, drill_words, needed_word, exercise_words, flag_word, fromsmf_words, head_words, new_cantus_words, one_word, option_word, search_words, wanted_words};
 
 use clap::{Arg, ArgAction, Command};
 use std::alloc::{AllocError, Global};
@@ -66,6 +66,14 @@ pub fn search_form<'a>(alloc: Global, name: &'a str) -> Result<Command<'a>, Allo
     let command = exercise_form(alloc, name)?;
     let command = with_option(alloc, command, "sheet", false)?;
     with_option(alloc, command, "budget", false)
+}
+
+/// `certify EX [--sheet S] [--budget N] [--form N]`.
+pub fn certify_form<'a>(alloc: Global) -> Result<Command<'a>, AllocError>
+    ensures { IfOk result (λ command. app_of command ≡ certify_words) }
+{
+    let command = search_form(alloc, "certify")?;
+    with_option(alloc, command, "form", false)
 }
 
 /// `check EX CERT [--sheet S]`.

@@ -15,6 +15,7 @@ use crate::exercise::{LONGEST_TEXT, exercise_of};
 use crate::making::{make, read_weights, refused};
 use crate::weighing::sheet_of;
 use crate::work::{Halt, Stop, Verdict};
+use cert_text::Form;
 use class_marker::Text;
 use fux_port::{Failed, Shelf, Sink, write_all};
 use std::alloc::Global;
@@ -42,7 +43,8 @@ pub fn perform<'a, F: Shelf, K: Sink, R: Threads + Sync>(
             name,
             sheet,
             budget,
-        } => perform_certify(rt, alloc, name, sheet, budget, shelf, out),
+            form,
+        } => perform_certify(rt, alloc, name, sheet, budget, form, shelf, out),
         Command::CertifyCantus {
             wanted,
             sheet,
@@ -74,17 +76,18 @@ fn perform_making<'a, F: Shelf, K: Sink, R: Threads + Sync>(
     }
 }
 
-/// Writes the certificate of the exercise in a file, over the sheet in another where one is named.
+/// Writes the certificate, in a form, of the exercise in a file, over the sheet in another where one is named.
 fn perform_certify<'a, F: Shelf, K: Sink, R: Threads + Sync>(
     rt: &R,
     alloc: Global,
     name: &'a str,
     sheet: Option<&'a str>,
     budget: u32,
+    form: Form,
     shelf: &mut F,
     out: &mut K,
 ) -> Result<Verdict, Complaint<'a>>
-    ensures ended { CertifyEnds F.files F.faults K.written K.faults name.entry sheet.entry budget
+    ensures ended { CertifyEnds F.files F.faults K.written K.faults name.entry sheet.entry budget form
         shelf.old shelf.new out.old out.new result }
     ensures served { ServesNames (F.serves shelf.old) 65536 (name.entry.now ∷ as_list (sheet_named sheet.entry))
         → IfErr result BlamesNoFile }
@@ -96,25 +99,26 @@ fn perform_certify<'a, F: Shelf, K: Sink, R: Threads + Sync>(
     said_of(
         alloc,
         name,
-        certify_texts(rt, alloc, &text, &weights, budget, out),
+        certify_texts(rt, alloc, &text, &weights, budget, form, out),
     )
 }
 
-/// Writes the certificate of the exercise of a text, over the sheet of a file where one is given.
+/// Writes the certificate, in a form, of the exercise of a text, over the sheet of a file where one is given.
 fn certify_texts<K: Sink, R: Threads + Sync>(
     rt: &R,
     alloc: Global,
     text: &Text,
     weights: &Option<Text>,
     budget: u32,
+    form: Form,
     out: &mut K,
 ) -> Result<Verdict, Halt>
-    ensures certifies { CertifiesTexts K.written K.faults budget text.now weights.now out.old out.new result }
+    ensures certifies { CertifiesTexts K.written K.faults budget form text.now weights.now out.old out.new result }
     ensures taken { TakesAll (K.serves out.old) → IfErr result CouldWrite }
 {
     let exercise = exercise_of(alloc, text)?;
     let sheet = sheet_of(alloc, weights)?;
-    certify(rt, alloc, &exercise, &sheet, budget, out)
+    certify(rt, alloc, &exercise, &sheet, budget, form, out)
 }
 
 /// What is said of a command that wrote while it worked, with this name for a text that is refused.

@@ -5,9 +5,10 @@ ghost use Rattle.clap.specs.Words.{first_of, found_of, rows_of};
 ghost use Rattle.fux_text.specs.Names.{mode_named};
 ghost use Rattle.smf_score.specs.Heads.{IsHead};
 ghost use Rattle.text_lines.specs.Numbers.{number_within};
-ghost use Rattle.fux_run.specs.Commands.{HasHead, IsWanted, budget_in, canon_asked, certify_asked, certify_cantus_asked, check_asked, check_cantus_asked, class_asked, compose_asked, drill_asked, fromsmf_asked, head_in, is_set, job_asked, new_cantus_asked, number_at, task_of, wanted_in};
+ghost use Rattle.fux_run.specs.Commands.{HasHead, IsWanted, budget_in, canon_asked, certify_asked, certify_cantus_asked, check_asked, check_cantus_asked, class_asked, compose_asked, drill_asked, form_in, fromsmf_asked, head_in, is_set, job_asked, new_cantus_asked, number_at, task_of, wanted_in};
 
 use crate::command::{Command, Job, Making, Wanted};
+use cert_text::Form;
 use clap::ArgMatches;
 use fux_grid::Head;
 use fux_pitch::{Mode, semitone};
@@ -58,6 +59,18 @@ fn budget_of(word: Option<&str>) -> Option<u32>
     match word {
         Some(word) => number_within(word, 1, GREATEST_BUDGET),
         None => Some(USUAL_BUDGET),
+    }
+}
+
+/// The form that a word gives, or the second where there is none.
+fn form_of(word: Option<&str>) -> Option<Form>
+    ensures { result ≡ form_in (option_map (λ text. text.now) word.entry) }
+{
+    match word {
+        None => Some(Form::Second),
+        Some("1") => Some(Form::First),
+        Some("2") => Some(Form::Second),
+        Some(_) => None,
     }
 }
 
@@ -134,11 +147,13 @@ pub fn certifying<'a>(matches: &ArgMatches<'a>) -> Option<Command<'a>>
 {
     let name = value(matches, "EX")?;
     let budget = budget_of(value(matches, "budget"))?;
+    let form = form_of(value(matches, "form"))?;
     let sheet = value(matches, "sheet");
     Some(Command::Certify {
         name,
         sheet,
         budget,
+        form,
     })
 }
 

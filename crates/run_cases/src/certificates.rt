@@ -13,6 +13,10 @@ const GRADUS: &str = "fux 1\nmode dorian\nvoices 2\nbars 11\nspecies 1 voice 1\n
 cantus 0 D4 F4 E4 D4 G4 F4 A4 G4 F4 E4 D4\nrange 1 G4 D5\n\
 sing 1 A4:8 | A4:8 | G4:8 | A4:8 | B4:8 | C5:8 | C5:8 | B4:8 | D5:8 | C#5:8 | D5:8\n";
 
+/// Words that ask for a certificate of each form.
+const FIRST: &str = "certify E --form 1";
+const SECOND: &str = "certify E";
+
 /// Exercises, and what the best setting costs at most; nothing where no setting is lawful.
 const EXERCISES: [(&str, Option<u64>); 5] = [
     (EXERCISE, Some(7)),
@@ -50,13 +54,14 @@ fn said_of<R: Threads + Sync>(
     said(rt, alloc, line, &mut shelf, out)
 }
 
-/// What `certify` says of an exercise, without the status.
+/// What `certify` says of an exercise in the form of these words, without the status.
 fn certificate_of<R: Threads + Sync>(
     rt: &R,
     alloc: Global,
     exercise: &str,
+    form: &str,
 ) -> Result<String, Fail> {
-    let certified = said_of(rt, alloc, "certify E", (exercise, ""), 1000, 0)?;
+    let certified = said_of(rt, alloc, form, (exercise, ""), 1000, 0)?;
     let (_, certificate) = certified.as_str().split_once(' ').ok_or("no status")?;
     Ok(String::from_str(alloc, certificate)?)
 }
@@ -79,11 +84,13 @@ fn what_is_best_is_certified_and_accepted(rt: HostRuntime) -> Result<(), Fail> {
     let alloc = rt.alloc();
     for (exercise, most) in &EXERCISES {
         let composed = said_of(&rt, alloc, "compose E", (exercise, ""), 1000, 0)?;
-        let certificate = certificate_of(&rt, alloc, exercise)?;
-        let files = (*exercise, certificate.as_str());
-        let checked = said_of(&rt, alloc, "check E C", files, 1000, 0)?;
         let expected = acceptance(alloc, composed.as_str(), *most)?;
-        agree(&rt, checked.as_str(), expected.as_str());
+        for form in [FIRST, SECOND] {
+            let certificate = certificate_of(&rt, alloc, exercise, form)?;
+            let files = (*exercise, certificate.as_str());
+            let checked = said_of(&rt, alloc, "check E C", files, 1000, 0)?;
+            agree(&rt, checked.as_str(), expected.as_str());
+        }
     }
     Ok(())
 }
@@ -151,7 +158,7 @@ fn with_line(alloc: Global, text: &str, number: usize, line: &str) -> Result<Str
 fn a_changed_certificate_is_refused_in_any_pieces(rt: HostRuntime) -> Result<(), Fail> {
     let alloc = rt.alloc();
     for (exercise, copies) in [(EXERCISE, COPIES), (LONG, LONG_COPIES)] {
-        let certificate = certificate_of(&rt, alloc, exercise)?;
+        let certificate = certificate_of(&rt, alloc, exercise, FIRST)?;
         for (line, with, expected) in copies {
             let copy = with_line(alloc, certificate.as_str(), *line, with)?;
             for piece in [1, 7, 65_536] {
@@ -168,7 +175,7 @@ fn a_changed_certificate_is_refused_in_any_pieces(rt: HostRuntime) -> Result<(),
 #[test]
 fn nothing_is_read_behind_a_refusal(rt: HostRuntime) -> Result<(), Fail> {
     let alloc = rt.alloc();
-    let certificate = certificate_of(&rt, alloc, EXERCISE)?;
+    let certificate = certificate_of(&rt, alloc, EXERCISE, FIRST)?;
     let mut copy = with_line(alloc, certificate.as_str(), 59, "f\n")?;
     for _ in 0..40_000 {
         copy.push_str("o\n")?;
@@ -177,5 +184,38 @@ fn nothing_is_read_behind_a_refusal(rt: HostRuntime) -> Result<(), Fail> {
     let files = (EXERCISE, copy.as_str());
     let checked = said_of(&rt, alloc, "check E C", files, 1, 65_622)?;
     agree(&rt, checked.as_str(), "1 refused at claim 55: false\n");
+    Ok(())
+}
+
+/// A text in the form of these words is this head, entries of which the first is this, as many as that, and the claims of the first form.
+fn states<R: Threads + Sync>(
+    rt: &R,
+    alloc: Global,
+    exercise: &str,
+    head: &str,
+    entries: (&str, usize),
+) -> Result<bool, Fail> {
+    let first = certificate_of(rt, alloc, exercise, FIRST)?;
+    let second = certificate_of(rt, alloc, exercise, SECOND)?;
+    let (_, claims) = first.as_str().split_once("claims\n").ok_or("no claims")?;
+    let (front, rest) = second
+        .as_str()
+        .split_once("potentials\n")
+        .ok_or("no entries")?;
+    let (stated, claims_behind) = rest.split_once("claims\n").ok_or("no claims")?;
+    Ok(front == head
+        && stated.starts_with(entries.0)
+        && stated.lines().count() == entries.1
+        && claims_behind == claims)
+}
+
+#[test]
+fn the_second_form_states_an_entry_for_each_column_before_the_same_claims(
+    rt: HostRuntime,
+) -> Result<(), Fail> {
+    let alloc = rt.alloc();
+    let best = "fux-cert 2\nbest 7\nsing 1 D5:8 | C#5:8 | D5:8\n";
+    assert!(rt; states(&rt, alloc, EXERCISE, best, ("p 0\n", 137))?);
+    assert!(rt; states(&rt, alloc, EXERCISES[1].0, "fux-cert 2\nnone\n", ("n\n", 73))?);
     Ok(())
 }

@@ -19,7 +19,7 @@ MTrk\x00\x00\x00\x1f\x00\xff\x03\x01\x43\x00\x90\x3e\x50\x8e\x7f\x3e\x00\
 MTrk\x00\x00\x00\x1a\x00\x91\x4a\x50\x8e\x7f\x4a\x00\
 \x01\x49\x50\x8e\x7f\x49\x00\x01\x4a\x50\x8e\x7f\x4a\x00\x00\xff\x2f\x00";
 
-/// What `certify` says of the exercise: the status, and the certificate of the best setting.
+/// What `certify --form 1` says of the exercise: the status, and the certificate of the best setting.
 const CERTIFIED: &str = "0 fux-cert 1\nbest 7\nsing 1 D5:8 | C#5:8 | D5:8\nclaims\n\
 o\no\no\no\no\no\no\no\no\nb 14\nb 14\nb 16\no\no\no\no\no\no\no\no\nb 13\nb 13\nb 13\nb 13\nb 4\nb 22\n\
 o\no\no\no\no\no\no\no\nb 13\nb 4\nb 13\nb 4\nb 13\nf\nb 14\nb 12\nb 12\nb 12\no\no\no\no\no\no\no\no\nb 14\nb 14\n\
@@ -34,7 +34,7 @@ const RUNS: [(&str, u64, &str); 4] = [
         "0 fux 1\nmode dorian\nvoices 2\nbars 3\nspecies 1 voice 1\ncantus 0 D4 E4 D4\nrange 1 A4 D5\n\
         sing 1 D5:8 | C#5:8 | D5:8\n; penalty 7\n",
     ),
-    ("certify A --sheet S", 101, CERTIFIED),
+    ("certify A --form 1 --sheet S", 101, CERTIFIED),
     ("check A C --sheet S", 468, "0 accepted: best 7\n"),
     (
         "fromsmf M --mode dorian --species 1 --voice 1 --cantus 0",

@@ -1,16 +1,15 @@
 use Rattle.std.proofs.Common.{◌≡◌, ◌+◌, length}
 use Rattle.cert_law.specs.Cases.{matter_of}
-use Rattle.cert_law.specs.Walks.{IsWalk}
-use Rattle.cert_writer.specs.Writing.{claim_lines, claims_to_come}
+use Rattle.cert_writer.specs.Stages.{AreLines, lines_left}
 use Rattle.cert_writer.proofs.write.fit.Given as goal
 
 -- what is left is the room without the lines so far
-abbrev pub invariant-loop-claim : goal.invariant-loop-claim
-invariant-loop-claim l = record {
-  walk : IsWalk (matter_of l.case) l.walk;
-  left : length (claim_lines (claims_to_come (matter_of l.case) l.initial.walk)) + l.left
-      ≡ l.room + length (claim_lines (claims_to_come (matter_of l.case) l.walk));
+abbrev pub invariant-loop-line : goal.invariant-loop-line
+invariant-loop-line l = record {
+  lines : AreLines (matter_of l.case) l.lines;
+  left : length (lines_left (matter_of l.case) l.initial.lines) + l.left
+      ≡ l.room + length (lines_left (matter_of l.case) l.lines);
 }
 
-abbrev pub decreases-loop-claim : goal.decreases-loop-claim
-decreases-loop-claim l = length (claims_to_come (matter_of l.case) l.walk)
+abbrev pub decreases-loop-line : goal.decreases-loop-line
+decreases-loop-line l = length (lines_left (matter_of l.case) l.lines)

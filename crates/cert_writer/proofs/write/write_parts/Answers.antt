@@ -1,19 +1,19 @@
 use Rattle.std.proofs.Common.{◌≡◌, ℕ, List, Option, ap, ◌∙◌, subst}
 use Rattle.std.proofs.lemmas.Result.{on_err_weaker}
 use Rattle.cert_law.specs.Cases.{matter_of}
-use Rattle.cert_writer.specs.Writing.{claim_lines, claims_to_come}
+use Rattle.cert_writer.specs.Stages.{lines_left}
 use Rattle.fux_port.specs.Written.{StopsShort, appended}
 use Rattle.fux_port.proofs.Pieces.{stops_after}
 use Rattle.cert_writer.proofs.write.write_parts.Goals as goal
 
 pub returns-clause-err : goal.returns-clause-err
 returns-clause-err g c =
-    let lines = claim_lines (claims_to_come (matter_of c.args.case.now) c.args.walk.now) in
+    let lines = lines_left (matter_of c.args.case.now) c.args.lines.now in
     let start = g.K.Sink.written c.args.sink.now in
-    let new = g.K.Sink.written c.write_claims.new.sink in
+    let new = g.K.Sink.written c.write_lines.new.sink in
     let told : g.K.Sink.written c.write_all.new.sink ≡ appended start c.args.text.now = c.in_ok-write_all.ensures.ok
     ∙ ap (appended start) c.as_bytes.ensures.value in
-    on_err_weaker c.write_claims.result
+    on_err_weaker c.write_lines.result
     (λ stop. stops_after start new c.args.text.now lines
     (subst (λ (t : Option (List ℕ)). StopsShort t new lines) told stop))
-    c.write_claims.ensures.err
+    c.write_lines.ensures.err

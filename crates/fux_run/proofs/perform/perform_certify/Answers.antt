@@ -20,7 +20,7 @@ returns-in_err-weights-clause-ended g c =
     (Rose (faults c.args.shelf.now) (faults c.read_weights.new.shelf))
     (Rose (faults c.read_content.new.shelf) (faults c.read_weights.new.shelf))
     65536 c.in_ok-text.text _
-    (λ complaint. Ended (certify name sheet c.args.budget) (files c.args.shelf.now)
+    (λ complaint. Ended (certify name sheet c.args.budget c.args.form) (files c.args.shelf.now)
     (Rose (faults c.args.shelf.now) (faults c.read_weights.new.shelf))
     (Rose (g.K.Sink.faults c.args.out.now) (g.K.Sink.faults c.args.out.now)) (g.K.Sink.written c.args.out.now)
     (g.K.Sink.written c.args.out.now) (Err complaint))
@@ -36,13 +36,13 @@ returns-clause-ended g c =
     let text = c.in_ok-text.text in
     let weights = c.in_ok-weights.weights in
     let cut = Rose (g.K.Sink.faults c.args.out.now) (g.K.Sink.faults c.certify_texts.new.out) in
-    ended_said (certify name sheet c.args.budget) (files c.args.shelf.now) _ cut (text ∷ as_list weights) _ _
+    ended_said (certify name sheet c.args.budget c.args.form) (files c.args.shelf.now) _ cut (text ∷ as_list weights) _ _
     c.certify_texts.result c.said_of.result (
       c.in_ok-text.ensures.reads,
       read_same 65536 (files c.args.shelf.now) _ (as_list sheet) (as_list weights) c.in_ok-text.ensures.files
           c.in_ok-weights.ensures.reads,
     )
-    (of_texts (files c.args.shelf.now) name sheet c.args.budget text weights cut _ _ c.certify_texts.result
+    (of_texts (files c.args.shelf.now) name sheet c.args.budget c.args.form text weights cut _ _ c.certify_texts.result
     c.certify_texts.ensures.certifies) c.said_of.ensures.says
 
 pub returns-in_err-text-clause-served : goal.returns-in_err-text-clause-served

@@ -1,21 +1,19 @@
-use Rattle.clap.specs.Words.{found_of, rows_of}
-use Rattle.fux_run.specs.Commands.{certify, sheet_named}
-use Rattle.fux_run.proofs.AskedLemmas.{no_budget, no_name, searches}
+use Rattle.std.proofs.Common.{refl}
 use Rattle.fux_run.proofs.values.certifying.Goals as goal
 
 pub returns-in_err-name-clause-asked : goal.returns-in_err-name-clause-asked
-returns-in_err-name-clause-asked c =
-    rw c.from_residual.ensures (no_name certify (rows_of (found_of c.args.matches.now)) c.in_err-name.ensures)
+returns-in_err-name-clause-asked c = rw (c.from_residual.ensures, ← c.in_err-name.ensures) refl
 
 pub returns-in_err-budget-clause-asked : goal.returns-in_err-budget-clause-asked
 returns-in_err-budget-clause-asked c =
-    rw c.from_residual-in_err-budget.ensures
-    (no_budget certify (rows_of (found_of c.args.matches.now)) c.in_ok-name.name.now (sheet_named c.value-2.result)
-    c.in_ok-name.ensures c.value-2.ensures c.in_err-budget.ensures)
+    rw (c.from_residual-in_err-budget.ensures, ← c.in_ok-name.ensures, ← c.value-2.ensures, ← c.in_err-budget.ensures) refl
+
+pub returns-in_err-form-clause-asked : goal.returns-in_err-form-clause-asked
+returns-in_err-form-clause-asked c =
+    rw (c.from_residual-in_err-form.ensures, ← c.in_ok-name.ensures, ← c.value-2.ensures, ← c.in_ok-budget.ensures,
+    ← c.value-3.ensures, ← c.in_err-form.ensures) refl
 
 pub returns-clause-asked : goal.returns-clause-asked
 returns-clause-asked c =
-    searches certify (rows_of (found_of c.args.matches.now)) c.in_ok-name.name.now (sheet_named c.value-2.result)
-    (sheet_named c.value-sheet.result) c.in_ok-budget.budget c.in_ok-name.ensures c.value-2.ensures
-    c.in_ok-budget.ensures
-    c.value-sheet.ensures
+    rw (← c.in_ok-name.ensures, ← c.value-2.ensures, ← c.in_ok-budget.ensures, ← c.value-3.ensures,
+    ← c.in_ok-form.ensures, ← c.value-sheet.ensures) refl
