@@ -6,3 +6,5 @@ pub mod JudgingLemmas
 pub mod OneVerdict
 pub mod RunLemmas
 pub mod StartLemmas
+pub mod ToldClaims
+pub mod ToldEntries

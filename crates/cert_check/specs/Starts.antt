@@ -1,5 +1,5 @@
 -- What stands at the front of a certificate's file: its head, and what it states.
-use Rattle.std.specs.Prelude.{◌≡◌, ℕ, ◌⊎◌, ◌++◌, List, Option, Some, Result, Ok, Err, length}
+use Rattle.std.specs.Prelude.{◌≡◌, ◌≤◌, ℕ, ◌⊎◌, ◌++◌, List, Option, Some, Result, Ok, Err, length}
 use Rattle.std.specs.List.{AllByRecursion, flat_map}
 use Rattle.fux_grid.specs.declared.exercise.Exercise.{Exercise}
 use Rattle.fux_port.specs.Files.{IsMissing}

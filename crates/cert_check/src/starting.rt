@@ -30,6 +30,7 @@ pub fn start<F: Shelf>(
     ensures serving { Keeps (F.serves shelf.old) (F.serves shelf.new) }
     ensures little { F.given shelf.new ≤ F.given shelf.old + longest_piece }
     ensures told { IfOk result (λ found. F.given shelf.new ≤ F.given shelf.old + found.2.offset) }
+    ensures within { IfOk result (λ found. found.2.offset ≤ longest_piece) }
     ensures files { F.files shelf.new ≡ F.files shelf.old }
     ensures faults { F.faults shelf.old ≤ F.faults shelf.new }
 {

@@ -1,9 +1,10 @@
 -- What a reader of what is stated makes of a piece: it takes a line of it (`stated_taken`) or refuses it (`stated_refused`); and what the next
 -- piece makes of a reader (`stated_on`), or the end of the file (`stated_ends`).
 use Rattle.std.proofs.Common.{◌≡◌, ℕ, ◌+◌, ◌-◌, ◌<◌, ◌≤◌, Bool, true, false, nat_lt, List, [], ◌∷◌, ◌++◌, Option, None, Some, Result, Ok, Err, length, take, drop, get_or, refl, sym, ap, subst, ◌∙◌, arith, append_assoc, append-nil, length-append, length-drop}
+use Rattle.std.specs.Prelude.{IfSome}
 use Rattle.fux_port.specs.Files.{MayHave}
 use Rattle.cert_text.specs.declared.answers.CertFault.{CertFault}
-use Rattle.cert_text.specs.declared.answers.CertFault.TheVariants.{CertEnd}
+use Rattle.cert_text.specs.declared.answers.CertFault.TheVariants.{CertEnd, CertWord}
 use Rattle.cert_text.specs.declared.potential.Potential.{Potential}
 use Rattle.cert_text.specs.declared.potential.Potential.TheVariants.{Least, NoChain}
 use Rattle.cert_text.specs.declared.potentials.TakenPotential.{TakenPotential}
@@ -34,6 +35,26 @@ not_potential b = by b.whole.0 b.whole.2
     by : (p : Potential) → last_line ++ b.rest ≡ potential_line p → ⊥
     by (Least n) e = let no : 99 ≡ 112 = ap (λ xs. get_or xs 0 0) e in absurd (omega (arith, no))
     by NoChain e = let no : 99 ≡ 110 = ap (λ xs. get_or xs 0 0) e in absurd (omega (arith, no))
+
+-- behind a potential's line one more is owed, whatever was refused before
+pub more_behind : (old : PotentialReading) (piece : List ℕ) (taken : TakenPotential) (new : PotentialReading)
+    (result : Result TakenPotential CertFault) → result ≡ Ok taken
+    → ((at : ℕ) → old.refused ≡ Some at → result ≡ Err (CertWord at))
+    → (old.refused ≡ None → TakesPotential old piece taken new)
+    → IfSome taken.potential (λ _. new.done ≡ false)
+more_behind old piece taken new result is again takes = by old.refused refl
+  where
+    ended : (p : Option Potential) (d : Bool) → taken.done ≡ d → new.done ≡ taken.done
+        → LineEnds old p d (old.begun ++ line_part piece) new → IfSome p (λ _. new.done ≡ false)
+    ended None d e same ends = tt
+    ended (Some p) true e same ends = absurd ends
+    ended (Some p) false e same ends = same ∙ e
+
+    by : (refused : Option ℕ) → old.refused ≡ refused → IfSome taken.potential (λ _. new.done ≡ false)
+    by (Some at) e = cc (is, again at e)
+    by None e =
+        let it = takes e in
+        ended taken.potential taken.done refl it.done it.ends
 
 module _ (files : Files) (name front : List ℕ) (before : StatedReading) (at : IsAtStated files name front before) where
   -- the line's place is behind the front

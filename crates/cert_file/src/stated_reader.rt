@@ -1,6 +1,6 @@
 //! What a certificate of the second form states, from its file.
 
-ghost use Rattle.std.specs.Prelude.{◌≡◌, ◌≢◌, ℕ, ◌+◌, ◌-◌, ◌<◌, ◌^◌, ◌≤◌, true, false, List, Ok, length, IfErr, IfOk, OnOk};
+ghost use Rattle.std.specs.Prelude.{◌≡◌, ◌≢◌, ℕ, ◌+◌, ◌-◌, ◌<◌, ◌^◌, ◌≤◌, true, false, List, Ok, length, IfErr, IfOk, IfSome, OnOk};
 ghost use Rattle.fux_port.specs.Counts.{Rose};
 ghost use Rattle.fux_port.specs.Promises.{Keeps, ServesWhole};
 ghost use Rattle.cert_file.specs.Readings.{Files, reading_from};
@@ -48,6 +48,7 @@ impl StatedReader {
         requires { self.old.entries.done ≡ false }
         ensures gives { GivesNextStated (F.files shelf.old) name.now
             (Rose (F.faults shelf.old) (F.faults shelf.new)) self.old self.new result }
+        ensures more { IfOk result (λ potential. IfSome potential (λ _. self.new.entries.done ≡ false)) }
 
         // The rest is as `next` of `Reader` has it.
         ensures limit { self.old.offset ≤ 1073741824 }
@@ -84,6 +85,7 @@ impl StatedReader {
         ensures takes { (files : Files) (name front : List ℕ) → IsAtStated files name front self.old
             → TakesStated files name front self.old self.new result }
         ensures done { IfOk result (λ taken. self.new.entries.done ≡ taken.done) }
+        ensures more { IfOk result (λ taken. IfSome taken.potential (λ _. self.new.entries.done ≡ false)) }
         ensures offset { self.new.offset ≡ self.old.offset }
         ensures limit { self.old.offset ≤ 1073741824 }
     {
