@@ -4,3 +4,4 @@ pub mod Judgments
 pub mod Opening
 pub mod Runs
 pub mod Starts
+pub mod Stating
