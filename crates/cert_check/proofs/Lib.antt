@@ -1,6 +1,7 @@
 pub mod AnswerLemmas
 pub mod CellTests
 pub mod CheckingLemmas
+pub mod EnteringLemmas
 pub mod HeadLemmas
 pub mod JudgingLemmas
 pub mod OneVerdict

@@ -3,6 +3,7 @@
 ghost use Rattle.std.specs.Prelude.{◌≡◌, ◌≢◌, ◌+◌, ◌≤◌, ◌⊎◌, Err, IfErr, IfOk, OnOk};
 ghost use Rattle.cert_text.specs.declared.answers.CertHead.{CertHead as AHead};
 ghost use Rattle.cert_check.specs.Answers.{Answers, IsHeadless, unopened, unstarted};
+ghost use Rattle.cert_check.specs.Entering.{unclosed};
 ghost use Rattle.cert_check.specs.Judgments.{AcceptsValid, IsFresh};
 ghost use Rattle.cert_check.specs.Starts.{IsOpened, IsStarted};
 ghost use Rattle.floor_tables.specs.Tables.{AreNarrow};
@@ -12,9 +13,11 @@ ghost use Rattle.fux_port.specs.Files.{IsMissing};
 ghost use Rattle.fux_port.specs.Promises.{ServesWhole};
 
 use crate::checker::{Checker, OpenFault};
+use crate::entering::enter;
 use crate::judging::judge;
 use crate::starting::start;
-use cert_file::{Pieces, ReadFault, Reader, Verdict};
+use crate::stated::{CloseFault, Stated};
+use cert_file::{Pieces, ReadFault, Reader, StatedReader, Verdict};
 use cert_law::Tails;
 use cert_text::{CertFault, CertHead, Form};
 use fux_grid::{Exercise, Place};
@@ -131,7 +134,18 @@ fn check_second<R: Threads + Sync, F: Shelf>(
     ensures files { F.files shelf.new ≡ F.files shelf.old }
     ensures faults { F.faults shelf.old ≤ F.faults shelf.new }
 {
-    Err(CheckFault::Memory)
+    let mut stated = match Stated::open(alloc, ex, sheet, head) {
+        Ok(stated) => stated,
+        Err(fault) => return not_opened(fault),
+    };
+    let mut reader = StatedReader::behind(pieces, stated.owed());
+    if let Err(fault) = enter(shelf, name, &mut reader, &mut stated) {
+        return not_started(fault);
+    }
+    match stated.close(rt, alloc) {
+        Ok(checker) => judge_claims(shelf, name, reader.claims(), checker),
+        Err(fault) => not_closed(fault),
+    }
 }
 
 /// Judges the claims behind what was opened.
@@ -158,7 +172,7 @@ fn judge_claims<F: Shelf, T: Tails + Drop>(
     }
 }
 
-/// The answer where no head was read.
+/// The answer where no head was read, or not all that is stated.
 fn not_started(fault: ReadFault) -> Result<Verdict, CheckFault>
     ensures { result ≡ unstarted fault }
 {
@@ -177,5 +191,15 @@ fn not_opened(fault: OpenFault) -> Result<Verdict, CheckFault>
         OpenFault::TooWide { place, count } => Err(CheckFault::TooWide { place, count }),
         OpenFault::Refused(refused) => Ok(Verdict::Claim(refused)),
         OpenFault::Memory => Err(CheckFault::Memory),
+    }
+}
+
+/// The answer where an entry isn't true.
+fn not_closed(fault: CloseFault) -> Result<Verdict, CheckFault>
+    ensures { result ≡ unclosed fault }
+{
+    match fault {
+        CloseFault::Refused(refused) => Ok(Verdict::Claim(refused)),
+        CloseFault::Memory => Err(CheckFault::Memory),
     }
 }
