@@ -1,7 +1,7 @@
 //! An exercise without a lawful setting: its certificate has one claim, that no chain goes to the end.
 
-use cert_check::{Checker, Verdict, check_file, start, verdict_text};
-use cert_text::Accepted;
+use cert_check::{Checker, Reader, Verdict, check_file, start, verdict_text};
+use cert_text::{Accepted, Form};
 use fux_port::MemShelf;
 use fux_text::read;
 use penalty_sheet::default_sheet;
@@ -46,9 +46,11 @@ fn claims_are_read_and_fed(rt: HostRuntime) -> Result<(), Fail> {
     };
     let sheet = default_sheet();
     let mut shelf = shelf_of(alloc)?;
-    let Ok((head, mut reader)) = start(alloc, &exercise, &mut shelf, "C") else {
+    let Ok((form, head, pieces)) = start(alloc, &exercise, &mut shelf, "C") else {
         return Err("no head".into());
     };
+    assert!(rt; form == Form::First);
+    let mut reader = Reader::behind(pieces);
     let Ok(mut checker) = Checker::open(&rt, alloc, &exercise, &sheet, head) else {
         return Err("not opened".into());
     };
