@@ -4,14 +4,14 @@ use Rattle.std.proofs.Common.{◌≡◌, ◌⊎◌, inl, inr, ℕ, ◌+◌, List
 use Rattle.std.specs.Prelude.{IfErr, OnOk, option_map}
 use Rattle.cert_text.specs.declared.answers.Refused.{Refused}
 use Rattle.cert_text.specs.declared.claim.Claim.{Claim}
-use Rattle.cert_tree.specs.Judgings.{AreFed as TreeFed, IsFault as TreeFault, IsFed as TreeIsFed, IsFedCertified, Refuses as TreeRefuses, Standing, Takes as TreeTakes, TakesOf as TreeTakesOf, begun_at}
+use Rattle.cert_tree.specs.Judgings.{AreFed as TreeFed, IsFault as TreeFault, IsFed as TreeIsFed, IsFedCertified, IsFedNone, Refuses as TreeRefuses, Standing, Takes as TreeTakes, TakesOf as TreeTakesOf, begun_at}
 use Rattle.cert_tree.specs.Trees.{IsCertifiedFrom, owed_by}
 use Rattle.cert_tree.specs.declared.judging.Cause.{Cause}
 use Rattle.cert_tree.specs.declared.judging.Cause.TheVariants as causes
 use Rattle.cert_tree.specs.declared.judging.Refusal.{Refusal}
 use Rattle.fux_pitch.specs.declared.pitch.Pitch.{Pitch}
 use Rattle.cantus_space.specs.declared.plan.CantusPlan.{CantusPlan}
-use Rattle.cantus_law.specs.Certificates.{tree_of}
+use Rattle.cantus_law.specs.Certificates.{IsCantusCertificate, IsHeadSound, tree_of}
 use Rattle.cantus_law.specs.Claims.{Said}
 use Rattle.cantus_check.specs.Checking.{AreFed, CantusChecking, IsFault, IsFed, Refuses, Takes, TakesOf, opened_for, refused_by, why_of}
 
@@ -26,7 +26,15 @@ seen_at plan said s = record {
 }
 
 same_cause : (a b : Cause) → why_of a ≡ why_of b → a ≡ b
-same_cause a b e = grind e
+same_cause causes.False causes.False e = refl
+same_cause causes.False causes.Over e = cc
+same_cause causes.False causes.Short e = cc
+same_cause causes.Over causes.False e = cc
+same_cause causes.Over causes.Over e = refl
+same_cause causes.Over causes.Short e = cc
+same_cause causes.Short causes.False e = cc
+same_cause causes.Short causes.Over e = cc
+same_cause causes.Short causes.Short e = refl
 
 same_refusal : (a b : Refusal) → refused_by a ≡ refused_by b → a ≡ b
 same_refusal a b e =
@@ -148,3 +156,22 @@ module _ (plan : CantusPlan) (said : Said) where
   fed_seen (claim ∷ claims) s end are =
       let next = to_tree s claim are.0 are.1 in
       (next.0, next.2, fed_seen claims next.0 end (subst (λ (k : CantusChecking). AreFed k claims (seen end)) (sym next.1) are.2))
+
+  -- so what is certified there is a certificate
+  pub certificate_seen : (now : CantusChecking) (s : Standing (List Pitch)) → seen s ≡ now → IsHeadSound plan said
+      → IsFedCertified (tree_of plan said) [] s → (claims : List Claim) → AreFed (opened_for now.plan now.said) claims now
+      → IsCantusCertificate now.plan now.said claims
+  certificate_seen now s same sound fed =
+      subst
+      (λ (k : CantusChecking). (claims : List Claim) → AreFed (opened_for k.plan k.said) claims k
+      → IsCantusCertificate k.plan k.said claims)
+      same (λ claims are. record { sound = sound; certified = fed claims (fed_seen claims (begun_at []) s are) })
+
+  pub none_certified : (now : CantusChecking) (s : Standing (List Pitch)) → seen s ≡ now
+      → IsFedNone (tree_of plan said) [] s → (claims : List Claim) → AreFed (opened_for now.plan now.said) claims now
+      → IsCantusCertificate now.plan now.said claims → ⊥
+  none_certified now s same fed =
+      subst
+      (λ (k : CantusChecking). (claims : List Claim) → AreFed (opened_for k.plan k.said) claims k
+      → IsCantusCertificate k.plan k.said claims → ⊥)
+      same (λ claims are valid. fed claims (fed_seen claims (begun_at []) s are) valid.certified)

@@ -1,10 +1,11 @@
 //! The checker of cantus certificates.
 
-ghost use Rattle.std.specs.Prelude.{◌≡◌, ◌≢◌, ◌+◌, ◌^◌, ◌<◌, ◌≤◌, [], ◌∷◌, None, Some, Ok, Err, IfErr, IfOk, OnErr, OnOk};
+ghost use Rattle.std.specs.Prelude.{◌≡◌, ◌≢◌, ◌+◌, ◌^◌, ◌<◌, ◌≤◌, true, false, [], ◌∷◌, None, Some, Ok, Err, IfErr, IfOk, OnErr, OnOk};
 ghost use Rattle.cert_text.specs.declared.answers.Refused.{Refused as ARefused};
 ghost use Rattle.cert_text.specs.declared.answers.Why.TheVariants as whys;
 ghost use Rattle.cert_tree.specs.Trees.{OwesRefuting};
 ghost use Rattle.cantus_law.specs.Certificates.{Begins, Holds, IsHeadSound, Refutes};
+ghost use Rattle.cantus_space.specs.Lawful.{IsLawful, penalty_of};
 ghost use Rattle.cantus_text.specs.Heads.{Said};
 ghost use Rattle.cantus_check.specs.Checking as words;
 ghost use Rattle.cantus_check.specs.Checking.{IsFedCertificate, IsFedNone, Refuses, Takes, TellsWhy, accepted_of, opened_for};
@@ -14,6 +15,7 @@ use cantus_space::{CantusSpace, lawful_penalty};
 use cantus_text::CantusHead;
 use cert_text::{Accepted, Claim, Refused, Why};
 use cert_tree::{Cause, Judging, Refusal, begin, feed, finish};
+use fux_pitch::Pitch;
 use std::alloc::Global;
 use std::marker::Model;
 
@@ -52,6 +54,17 @@ impl Model for CantusChecker {
     ghost invariant = { λ c. IsChecking c.case.space c.case.head.best c.judging };
 }
 
+/// Whether a cantus is lawful and has this penalty.
+fn has_penalty(space: &CantusSpace, cantus: &[Pitch], penalty: u64) -> bool
+    ensures sound { result ≡ true → IsLawful space.now cantus.now × (penalty_of space.now cantus.now ≡ penalty) }
+    ensures unsound { result ≡ false → IsLawful space.now cantus.now → penalty_of space.now cantus.now ≡ penalty → ⊥ }
+{
+    match lawful_penalty(space, cantus) {
+        Some(found) => found == penalty,
+        None => false,
+    }
+}
+
 /// Whether a head's cantus is lawful and has the head's penalty.
 fn is_sound(space: &CantusSpace, head: &CantusHead) -> bool
     ensures sound { result ≡ true → IsHeadSound space.now head.now.best }
@@ -59,7 +72,7 @@ fn is_sound(space: &CantusSpace, head: &CantusHead) -> bool
 {
     match &head.best {
         None => true,
-        Some((penalty, cantus)) => lawful_penalty(space, cantus.as_slice()) == Some(*penalty),
+        Some((penalty, cantus)) => has_penalty(space, cantus.as_slice(), *penalty),
     }
 }
 

@@ -24,10 +24,10 @@ pub fn judge<F: Shelf>(
     requires fresh { checker ≡ opened_for checker.plan checker.said }
     requires started { IsStarted IsHeadText (F.files shelf.old) name.now checker.said reader.old }
     ensures finds { IfOk result
-        (Finds (cantus_subject checker.entry.plan) checker.entry.said (F.files shelf.old) name.now) }
-    ensures shown { IfOk result (Shows (cantus_subject checker.entry.plan) checker.entry.said) }
+        (Finds (cantus_subject checker.plan) checker.said (F.files shelf.old) name.now) }
+    ensures shown { IfOk result (Shows (cantus_subject checker.plan) checker.said) }
     ensures accepts { IfOk result
-        (AcceptsValid (cantus_subject checker.entry.plan) checker.entry.said (F.files shelf.old) name.now) }
+        (AcceptsValid (cantus_subject checker.plan) checker.said (F.files shelf.old) name.now) }
     ensures cause { OnErr result (Rose (F.faults shelf.old) (F.faults shelf.new)) }
     ensures served { ServesWhole (F.serves shelf.old) name.now 1073741824 → IsOk result }
 

@@ -1,12 +1,13 @@
-use Rattle.std.proofs.Common.{Option, Ok, Err, sym, subst, ◌∙◌, arith}
+use Rattle.std.proofs.Common.{Option, Ok, Err, refl, sym, subst, ◌∙◌, arith}
 use Rattle.fux_port.specs.Counts.{Rose}
+use Rattle.fux_port.proofs.Rises.{rose_later}
 use Rattle.cert_text.specs.declared.answers.CertFault.{CertFault}
 use Rattle.cert_text.specs.declared.claim.Claim.{Claim}
 use Rattle.cert_file.specs.Readings.{Gives}
 use Rattle.cert_file.specs.declared.fault.ReadFault.{ReadFault}
 use Rattle.cert_file.specs.declared.verdict.Verdict.TheVariants as verdicts
 use Rattle.cantus_check.specs.Judgments.{Finds}
-use Rattle.cantus_check.proofs.JudgingLemmas.{count_grows, counted, finds_end, finds_fault, given, refuses_next, takes_on, unrefused}
+use Rattle.cantus_check.proofs.JudgingLemmas.{begins, count_grows, counted, finds_end, finds_fault, given, refuses_next, takes_on, unrefused}
 use Rattle.cantus_check.proofs.OneVerdict.{finds_accepted}
 use Rattle.cantus_text.proofs.HeadRows.{heads-alone}
 use Rattle.cantus_check.specs.Checking.{cantus_subject}
@@ -27,6 +28,29 @@ at_end-requires-clause-count g c =
       counted (g.F.Shelf.files c.args.shelf.now) c.args.name.now c.args.checker c.loop-claim.reader c.loop-claim.checker
           c.loop-claim.invariant.0 c.next.ensures.limit,
     )
+
+pub loop-claim-init : goal.loop-claim-init
+loop-claim-init g c = (
+  begins (g.F.Shelf.files c.args.shelf.now) c.args.name.now c.args.checker c.args.reader.now c.requires.fresh
+      c.kept.ensures.sound c.requires.started,
+  refl,
+  omega arith,
+  λ name offset promised. promised,
+  omega arith,
+)
+
+pub returns-in-Err-Unreadable-clause-cause : goal.returns-in-Err-Unreadable-clause-cause
+returns-in-Err-Unreadable-clause-cause g c =
+    let files = g.F.Shelf.files c.args.shelf.now in
+    let name = c.args.name.now in
+    let on = c.loop-claim.invariant.0 in
+    let rose = Rose (g.F.Shelf.faults c.loop-claim.shelf) (g.F.Shelf.faults c.next.new.shelf) in
+    let read = subst (λ (f : ReadFault). Gives files name rose on.now c.next.new.self (Err f))
+    c.in-Err-Unreadable.field-0-is
+    (given files name c.args.checker c.loop-claim.reader c.loop-claim.checker on rose c.next.new.self
+    (Err c.in-Err-Unreadable.field-0)
+    (g.F.Shelf.files c.loop-claim.shelf) c.loop-claim.invariant.1 c.in-Err-Unreadable.ensures.gives) in
+    rose_later _ _ _ c.loop-claim.invariant.2 read
 
 pub loop-claim-smaller : goal.loop-claim-smaller
 loop-claim-smaller g c =
