@@ -10,7 +10,7 @@ use Rattle.fux_grid.specs.Grid.{items_of}
 use Rattle.fux_grid.specs.Menus.{IsAscending}
 use Rattle.fux_judge.specs.Always.{IsAlwaysDead}
 use Rattle.species_space.specs.declared.blocks.Blocks.{Blocks}
-use Rattle.species_space.specs.declared.blocks.MenuAt.{MenuAt}
+use Rattle.species_space.specs.declared.blocks.MenuView.{MenuView}
 
 -- the cells are of one kind and pitch
 abbrev pub same_cell : Cell → Cell → Bool
@@ -52,12 +52,12 @@ pub record AreBlocksOf (menu : List (List Cell)) (blocks : Blocks) : Type 0 wher
   pub no_holds : IsTrue blocks.without_holds → All IsWithoutHolds menu
 
 -- the columns that are looked at
-abbrev pub columns_of : MenuAt → List (List Cell)
-columns_of menu = items_of menu.columns.now
+abbrev pub columns_seen : MenuView → List (List Cell)
+columns_seen menu = items_of menu.columns.now
 
 -- they are cut into these blocks
-abbrev pub IsCut : MenuAt → Type 0
-IsCut menu = AreBlocksOf (columns_of menu) menu.blocks.now
+abbrev pub IsCut : MenuView → Type 0
+IsCut menu = AreBlocksOf (columns_seen menu) menu.blocks.now
 
 -- from a number on up to this end all numbers are of one block
 pub record IsBlockEnd (k size end : ℕ) : Type 0 where
@@ -65,10 +65,10 @@ pub record IsBlockEnd (k size end : ℕ) : Type 0 where
   pub one_block : (j : ℕ) → k ≤ j → j < end → j / size ≡ k / size
 
 -- in a menu of holds, the column of this number may follow
-abbrev pub IsHeldNext : MenuAt → List Cell → ℕ → Type 0
+abbrev pub IsHeldNext : MenuView → List Cell → ℕ → Type 0
 IsHeldNext menu before k =
-    (k < length (columns_of menu)) × IsTrue menu.blocks.now.only_holds
-    × ColumnFollows before (slice_index_or (columns_of menu) k [])
+    (k < length (columns_seen menu)) × IsTrue menu.blocks.now.only_holds
+    × ColumnFollows before (slice_index_or (columns_seen menu) k [])
 
 -- the first column of a menu, from a number on, that may follow; the menu's length where there is none
 pub record IsNext (menu : List (List Cell)) (before : List Cell) (from next : ℕ) : Type 0 where
@@ -89,8 +89,8 @@ abbrev pub AreAlwaysDead : Exercise → ℕ → List (List Cell) → ℕ → ℕ
 AreAlwaysDead ex i menu from to = (j : ℕ) → from ≤ j → j < to → IsAlwaysDead ex i (slice_index_or menu j [])
 
 -- a list has this number at a place
-abbrev pub IsAt : List ℕ → ℕ → ℕ → Type 0
-IsAt numbers k number = (k < length numbers) × (slice_index_or numbers k 0 ≡ number)
+abbrev pub IsNumberAt : List ℕ → ℕ → ℕ → Type 0
+IsNumberAt numbers k number = (k < length numbers) × (slice_index_or numbers k 0 ≡ number)
 
 -- no number of a list is higher than this one
 abbrev pub AreWithin : List ℕ → ℕ → Type 0
@@ -106,7 +106,7 @@ abbrev pub StraysOrDies : Exercise → ℕ → List Cell → List Cell → Type 
 StraysOrDies ex i before col = ColumnFollows before col → IsAlwaysDead ex i col
 
 -- each column of a menu from one number up to another doesn't follow, or is dead, wherever the menu's numbers skip dead columns
-abbrev pub PassesDead : MenuAt → List Cell → ℕ → ℕ → Type 0
+abbrev pub PassesDead : MenuView → List Cell → ℕ → ℕ → Type 0
 PassesDead menu before from to =
-    (ex : Exercise) (i : ℕ) → SkipDead ex i (columns_of menu) menu.undead.now
-    → (k : ℕ) → from ≤ k → k < to → StraysOrDies ex i before (slice_index_or (columns_of menu) k [])
+    (ex : Exercise) (i : ℕ) → SkipDead ex i (columns_seen menu) menu.undead.now
+    → (k : ℕ) → from ≤ k → k < to → StraysOrDies ex i before (slice_index_or (columns_seen menu) k [])

@@ -5,24 +5,24 @@ use Rattle.fux_grid.specs.Exercises.{IsValid, columns_in}
 use Rattle.fux_grid.specs.Menus.{menu_of}
 use Rattle.floor_tables.specs.Tables.{AreNarrow}
 pub use Rattle.floor_tables.specs.Tables.{Task}
-use Rattle.species_space.specs.Blocks.{AreBlocksOf, IsCut, SkipDead, columns_of}
+use Rattle.species_space.specs.Blocks.{AreBlocksOf, IsCut, SkipDead, columns_seen}
 use Rattle.species_space.specs.declared.blocks.BlockMenu.{BlockMenu}
-use Rattle.species_space.specs.declared.blocks.MenuAt.{MenuAt}
+use Rattle.species_space.specs.declared.blocks.MenuView.{MenuView}
 
 -- what is known of the menu of a place: its blocks, and of its columns how many are dead after every prefix from them on
-pub record IsMenuOf (ex : Exercise) (i : ℕ) (menu : BlockMenu) : Type 0 where
+pub record IsBlockMenuOf (ex : Exercise) (i : ℕ) (menu : BlockMenu) : Type 0 where
   pub blocks : AreBlocksOf (menu_of ex i) menu.blocks
   pub skip : SkipDead ex i (menu_of ex i) menu.undead.items
 
 -- the same of each of the first places
 abbrev pub AreMenus : Exercise → List BlockMenu → Type 0
-AreMenus ex menus = (i : ℕ) (d : BlockMenu) → i < length menus → IsMenuOf ex i (slice_index_or menus i d)
+AreMenus ex menus = (i : ℕ) (d : BlockMenu) → i < length menus → IsBlockMenuOf ex i (slice_index_or menus i d)
 
 -- the columns of a place's menu, with what is known of them
-pub record IsMenuAt (ex : Exercise) (i : ℕ) (menu : MenuAt) : Type 0 where
-  pub columns : columns_of menu ≡ menu_of ex i
+pub record IsViewOf (ex : Exercise) (i : ℕ) (menu : MenuView) : Type 0 where
+  pub columns : columns_seen menu ≡ menu_of ex i
   pub cut : IsCut menu
-  pub skip : SkipDead ex i (columns_of menu) menu.undead.now
+  pub skip : SkipDead ex i (columns_seen menu) menu.undead.now
 
 -- a valid exercise whose menus aren't too wide, with what is known of all of them
 pub record IsReady (ex : Exercise) (menus : List BlockMenu) : Type 0 where

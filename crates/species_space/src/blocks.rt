@@ -5,7 +5,7 @@ ghost use Rattle.fux_grid.specs.Cells.{cell_follows, cell_in};
 ghost use Rattle.fux_grid.specs.Columns.{ColumnFollows};
 ghost use Rattle.fux_grid.specs.Grid.{items_of};
 ghost use Rattle.fux_grid.specs.Menus.{IsAscending};
-ghost use Rattle.species_space.specs.Blocks.{Agree, AreBlocksOf, HasOneWidth, IsAt, IsBlockEnd, IsCut, IsHeldNext, IsNext, IsOnlyHolds, IsWithoutHolds, KeepsCell, columns_of, same_cell};
+ghost use Rattle.species_space.specs.Blocks.{Agree, AreBlocksOf, HasOneWidth, IsNumberAt, IsBlockEnd, IsCut, IsHeldNext, IsNext, IsOnlyHolds, IsWithoutHolds, KeepsCell, columns_seen, same_cell};
 
 use fux_grid::{Cell, Column, cell_of, cells_follow};
 
@@ -31,7 +31,7 @@ pub(crate) struct BlockMenu {
 
 /// The columns of a menu, as the tables keep them, with what is known of them.
 #[derive(Clone, Copy)]
-pub(crate) struct MenuAt<'a> {
+pub(crate) struct MenuView<'a> {
     pub(crate) columns: &'a [Column],
     pub(crate) blocks: &'a Blocks,
     pub(crate) undead: &'a [u16],
@@ -58,11 +58,11 @@ impl Blocks {
     }
 }
 
-impl<'a> MenuAt<'a> {
+impl<'a> MenuView<'a> {
     /// How many columns there are.
     #[inline]
     pub(crate) fn len(&self) -> usize
-        ensures { result ≡ length (columns_of self.now) }
+        ensures { result ≡ length (columns_seen self.now) }
     {
         self.columns.len()
     }
@@ -71,8 +71,8 @@ impl<'a> MenuAt<'a> {
     /// follow. At a column of holds at most one may follow, and the hint is tried first.
     pub(crate) fn next_that_follows(&self, before: &[Cell], from: usize, hint: usize) -> usize
         requires cut { IsCut self.now }
-        requires within { from ≤ length (columns_of self.now) }
-        ensures { IsNext (columns_of self.now) before.now from result }
+        requires within { from ≤ length (columns_seen self.now) }
+        ensures { IsNext (columns_seen self.now) before.now from result }
     {
         if self.blocks.without_holds {
             return from;
@@ -89,7 +89,7 @@ impl<'a> MenuAt<'a> {
     /// The number of the first column, from this one on, that isn't dead after every prefix.
     #[inline]
     pub(crate) fn undead_from(&self, k: usize) -> usize
-        ensures { k < result → IsAt self.now.undead.now k result }
+        ensures { k < result → IsNumberAt self.now.undead.now k result }
     {
         if k < self.undead.len() {
             self.undead[k] as usize
@@ -101,8 +101,8 @@ impl<'a> MenuAt<'a> {
     /// The column of a number.
     #[inline]
     pub(crate) fn column(&self, k: usize) -> &Column
-        requires { k < length (columns_of self.now) }
-        ensures { result.now.items ≡ slice_index_or (columns_of self.now) k [] }
+        requires { k < length (columns_seen self.now) }
+        ensures { result.now.items ≡ slice_index_or (columns_seen self.now) k [] }
     {
         column_at(self.columns, k)
     }
@@ -110,9 +110,9 @@ impl<'a> MenuAt<'a> {
     /// How far the columns from this number on are known to have its cells in so many of the lowest voices: the first number behind them.
     pub(crate) fn end_of_agreement(&self, k: usize, voices: usize) -> usize
         requires cut { IsCut self.now }
-        requires within { k < length (columns_of self.now) }
+        requires within { k < length (columns_seen self.now) }
         requires voices { voices ≤ 4 }
-        ensures { Agree (columns_of self.now) voices k result }
+        ensures { Agree (columns_seen self.now) voices k result }
     {
         let mut end = self.len();
         for v in 0..voices {
@@ -150,8 +150,8 @@ impl<'a> MenuAt<'a> {
     /// The same as `next_that_follows`, by blocks: where the cell of a voice doesn't follow, it follows nowhere in its block.
     fn next_in_blocks(&self, before: &[Cell], from: usize) -> usize
         requires cut { IsCut self.now }
-        requires within { from ≤ length (columns_of self.now) }
-        ensures { IsNext (columns_of self.now) before.now from result }
+        requires within { from ≤ length (columns_seen self.now) }
+        ensures { IsNext (columns_seen self.now) before.now from result }
     {
         let mut k = from;
         while k < self.len() {

@@ -9,10 +9,10 @@ ghost use Rattle.floor_tables.specs.Tables.{AreNarrow, IsRest, TellsWidth};
 ghost use Rattle.species_space.specs.Grows.{paths_grow};
 ghost use Rattle.species_space.specs.Nodes.{IsNodeOf};
 ghost use Rattle.species_space.specs.Paths.{live_at, width_at};
-ghost use Rattle.species_space.specs.Task.{AreMenus, IsMenuAt, IsReady};
+ghost use Rattle.species_space.specs.Task.{AreMenus, IsViewOf, IsReady};
 ghost use Rattle.tree_search.specs.Space.{HasChild, IsMadeChild};
 
-use crate::blocks::{BlockMenu, Blocks, MenuAt, column_at};
+use crate::blocks::{BlockMenu, Blocks, MenuView, column_at};
 use crate::node::Node;
 use crate::walk::next_unpruned;
 use floor_tables::{TableFault, Tables, fill_tables};
@@ -108,12 +108,12 @@ impl<'a> SpeciesSpace<'a> {
     }
 
     /// The menu of column i.
-    pub(crate) fn menu(&self, i: usize) -> MenuAt<'_>
+    pub(crate) fn menu(&self, i: usize) -> MenuView<'_>
         requires { i < columns_in self.now.exercise }
-        ensures { IsMenuAt self.now.exercise i result }
+        ensures { IsViewOf self.now.exercise i result }
     {
         let menu = &self.menus[i];
-        MenuAt {
+        MenuView {
             columns: self.tables.columns(i),
             blocks: &menu.blocks,
             undead: menu.undead.as_slice(),

@@ -4,12 +4,12 @@ ghost use Rattle.std.specs.Prelude.{◌≡◌, ◌<◌, ◌≤◌, ◌+◌, ◌^
 ghost use Rattle.std.specs.Bool.{OnFalse};
 ghost use Rattle.fux_grid.specs.Exercises.{IsValid, columns_in};
 ghost use Rattle.fux_grid.specs.Menus.{menu_of};
-ghost use Rattle.species_space.specs.Blocks.{AreWithin, IsCut, PassesDead, columns_of};
+ghost use Rattle.species_space.specs.Blocks.{AreWithin, IsCut, PassesDead, columns_seen};
 ghost use Rattle.species_space.specs.Nodes.{HasNoBetter, IsNodeOf, PassesOver};
-ghost use Rattle.species_space.specs.Task.{IsMenuAt};
+ghost use Rattle.species_space.specs.Task.{IsViewOf};
 ghost use Rattle.tree_search.specs.Space.{IsInner};
 
-use crate::blocks::MenuAt;
+use crate::blocks::MenuView;
 use crate::node::Node;
 use floor_tables::Tables;
 use fux_grid::{Cell, Exercise};
@@ -18,12 +18,12 @@ use penalty_sheet::Sheet;
 
 /// The first number, from this one on, of a column that may follow and isn't dead after every prefix; the menu's length where there
 /// is none.
-fn next_choice(menu: &MenuAt<'_>, before: &[Cell], from: usize, hint: usize) -> usize
+fn next_choice(menu: &MenuView<'_>, before: &[Cell], from: usize, hint: usize) -> usize
     requires cut { IsCut menu.now }
-    requires bounded { AreWithin menu.now.undead.now (length (columns_of menu.now)) }
-    requires within { from ≤ length (columns_of menu.now) }
+    requires bounded { AreWithin menu.now.undead.now (length (columns_seen menu.now)) }
+    requires within { from ≤ length (columns_seen menu.now) }
     ensures onward { from ≤ result }
-    ensures within { result ≤ length (columns_of menu.now) }
+    ensures within { result ≤ length (columns_seen menu.now) }
     ensures passed { PassesDead menu.now before.now from result }
 {
     let mut k = menu.next_that_follows(before, from, hint);
@@ -73,7 +73,7 @@ fn passed_over(
     sheet: &Sheet,
     tables: &Tables<'_>,
     node: &Node,
-    menu: &MenuAt<'_>,
+    menu: &MenuView<'_>,
     k: usize,
     tried: usize,
     best: Option<u64>,
@@ -81,10 +81,10 @@ fn passed_over(
     requires valid { IsValid exercise.now }
     requires tables { tables.now ≡ record { exercise = exercise.now; sheet = sheet.now } }
     requires node { IsInner (IsNodeOf exercise.now sheet.now node.now) (columns_in exercise.now) }
-    requires menu { IsMenuAt exercise.now node.now.state.newest.len menu.now }
-    requires within { k < length (columns_of menu.now) }
+    requires menu { IsViewOf exercise.now node.now.state.newest.len menu.now }
+    requires within { k < length (columns_seen menu.now) }
     ensures onward { IfSome result (λ end. k < end.0) }
-    ensures within { IfSome result (λ end. end.0 ≤ length (columns_of menu.now)) }
+    ensures within { IfSome result (λ end. end.0 ≤ length (columns_seen menu.now)) }
     ensures passed { IfSome result (λ end. PassesOver exercise.now sheet.now node.now best k end.0) }
 {
     if !may_be_better(tables, node, k, best) {
@@ -102,17 +102,17 @@ pub(crate) fn next_unpruned(
     sheet: &Sheet,
     tables: &Tables<'_>,
     node: &Node,
-    menu: &MenuAt<'_>,
+    menu: &MenuView<'_>,
     from: usize,
     best: Option<u64>,
 ) -> usize
     requires valid { IsValid exercise.now }
     requires tables { tables.now ≡ record { exercise = exercise.now; sheet = sheet.now } }
     requires node { IsInner (IsNodeOf exercise.now sheet.now node.now) (columns_in exercise.now) }
-    requires menu { IsMenuAt exercise.now node.now.state.newest.len menu.now }
-    requires within { from ≤ length (columns_of menu.now) }
+    requires menu { IsViewOf exercise.now node.now.state.newest.len menu.now }
+    requires within { from ≤ length (columns_seen menu.now) }
     ensures onward { from ≤ result }
-    ensures within { result ≤ length (columns_of menu.now) }
+    ensures within { result ≤ length (columns_seen menu.now) }
     ensures passed { PassesOver exercise.now sheet.now node.now best from result }
 {
     let before = node.state.before(exercise);

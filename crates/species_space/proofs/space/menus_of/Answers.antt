@@ -5,7 +5,7 @@ use Rattle.fux_grid.specs.Menus.{menu_of}
 use Rattle.chain_sums.proofs.TableLemmas.{each_pushed}
 use Rattle.species_space.specs.declared.blocks.BlockMenu.{BlockMenu}
 use Rattle.species_space.specs.Blocks.{AreBlocksOf, SkipDead}
-use Rattle.species_space.specs.Task.{AreMenus, IsMenuOf}
+use Rattle.species_space.specs.Task.{AreMenus, IsBlockMenuOf}
 use Rattle.species_space.proofs.space.menus_of.Goals as goal
 
 pub loop-i-preserved : goal.loop-i-preserved
@@ -17,7 +17,7 @@ loop-i-preserved c =
     let columns = c.columns.result.now in
     let menu : BlockMenu = record { blocks = c.blocks_at-blocks.result; undead = c.in_ok-undead.undead } in
     let is = c.columns.ensures ∙ ap (λ (e : Exercise). menu_of e i) c.requires.tables in
-    let next : IsMenuOf ex i menu = record {
+    let next : IsBlockMenuOf ex i menu = record {
       blocks = subst (λ (e : Exercise). AreBlocksOf (menu_of e i) menu.blocks) c.requires.tables
           c.blocks_at-blocks.ensures;
       skip = subst (λ cols. SkipDead ex i cols menu.undead.items) is c.in_ok-undead.ensures;
@@ -26,7 +26,7 @@ loop-i-preserved c =
       room = c.push_reserved.ensures.capacity ∙ old.room;
       counted = omega (arith, ap length c.push_reserved.ensures.items, length_push menus menu, old.counted);
       kept = subst (AreMenus ex) (sym c.push_reserved.ensures.items)
-          (λ j d lt. each_pushed (IsMenuOf ex) i menus menu d old.counted
+          (λ j d lt. each_pushed (IsBlockMenuOf ex) i menus menu d old.counted
           (λ k b. old.kept k d (omega (arith, b, old.counted))) next j
           (omega (arith, lt, length_push menus menu, old.counted)));
     }

@@ -1,5 +1,5 @@
 use Rattle.std.proofs.Common.{ℕ, [], slice_index_or, arith}
-use Rattle.species_space.specs.Blocks.{StraysOrDies, columns_of}
+use Rattle.species_space.specs.Blocks.{StraysOrDies, columns_seen}
 use Rattle.species_space.proofs.Passing.{passed_on}
 use Rattle.species_space.proofs.walk.next_choice.Goals as goal
 
@@ -35,7 +35,7 @@ loop-k-smaller c =
 
 pub loop-k-preserved : goal.loop-k-preserved
 loop-k-preserved c =
-    let menu = columns_of c.args.menu.now in
+    let menu = columns_seen c.args.menu.now in
     let k = c.loop-k.k in
     let next = c.next_that_follows-k-in-loop-k.ensures in
     let to = c.next_that_follows-k-in-loop-k.result in

@@ -1,5 +1,5 @@
 use Rattle.std.proofs.Common.{ℕ, [], slice_index_or, arith}
-use Rattle.species_space.specs.Blocks.{columns_of}
+use Rattle.species_space.specs.Blocks.{columns_seen}
 use Rattle.species_space.specs.Paths.{IsNoBetter}
 use Rattle.species_space.proofs.Passing.{passed_on}
 use Rattle.species_space.proofs.WalkSteps.{column_of_menu, stray_no_better}
@@ -10,7 +10,7 @@ loop-k-init c =
     let ex = c.args.exercise.now in
     let sheet = c.args.sheet.now in
     let node = c.args.node.now in
-    let menu = columns_of c.args.menu.now in
+    let menu = columns_seen c.args.menu.now in
     let next = c.next_choice-k.ensures in
     record {
       onward = next.onward;
@@ -47,7 +47,7 @@ loop-k-preserved c =
     let ex = c.args.exercise.now in
     let sheet = c.args.sheet.now in
     let node = c.args.node.now in
-    let menu = columns_of c.args.menu.now in
+    let menu = columns_seen c.args.menu.now in
     let k = c.loop-k.k in
     let end = c.in-Some.end in
     let next = c.next_choice-k-in-loop-k.ensures in

@@ -1,6 +1,6 @@
 -- What the walk over a menu passes.
 use Rattle.std.proofs.Common.{◌-◌, ◌≤◌, length}
-use Rattle.species_space.specs.Blocks.{columns_of}
+use Rattle.species_space.specs.Blocks.{columns_seen}
 use Rattle.species_space.specs.Nodes.{PassesOver}
 use Rattle.species_space.proofs.walk.next_unpruned.Given as goal
 
@@ -8,9 +8,9 @@ use Rattle.species_space.proofs.walk.next_unpruned.Given as goal
 abbrev pub invariant-loop-k : goal.invariant-loop-k
 invariant-loop-k l = record {
   onward : l.from ≤ l.k;
-  within : l.k ≤ length (columns_of l.menu);
+  within : l.k ≤ length (columns_seen l.menu);
   passed : PassesOver l.exercise l.sheet l.node l.fn.best l.from l.k;
 }
 
 abbrev pub decreases-loop-k : goal.decreases-loop-k
-decreases-loop-k l = length (columns_of l.menu) - l.k
+decreases-loop-k l = length (columns_seen l.menu) - l.k

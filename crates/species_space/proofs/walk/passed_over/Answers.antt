@@ -4,7 +4,7 @@ use Rattle.fux_grid.specs.Exercises.{IsValid}
 use Rattle.fux_grid.specs.Menus.{menu_of}
 use Rattle.fux_grid.proofs.MenuLemmas.{menu_of-full}
 use Rattle.floor_tables.specs.Tables.{Task}
-use Rattle.species_space.specs.Blocks.{columns_of}
+use Rattle.species_space.specs.Blocks.{columns_seen}
 use Rattle.species_space.specs.Nodes.{IsNodeOf}
 use Rattle.species_space.specs.Paths.{IsNoBetter}
 use Rattle.species_space.proofs.Children.{as_long}
@@ -45,7 +45,7 @@ pub returns-clause-passed : goal.returns-clause-passed
 returns-clause-passed c = λ path at j le lt.
     let ex = c.args.exercise.now in
     let sheet = c.args.sheet.now in
-    let menu = columns_of c.args.menu.now in
+    let menu = columns_seen c.args.menu.now in
     let i = c.args.node.now.state.newest.len in
     let block = c.end_of_agreement.ensures in
     let inside : j < length menu = omega (arith, lt, block.within) in

@@ -4,7 +4,7 @@ use Rattle.fux_grid.specs.Menus.{menu_of}
 use Rattle.floor_tables.specs.Tables.{Task}
 use Rattle.tree_search.specs.Space.{IsInner}
 use Rattle.species_space.specs.Nodes.{IsNodeOf}
-use Rattle.species_space.specs.Task.{IsMenuAt}
+use Rattle.species_space.specs.Task.{IsViewOf}
 use Rattle.species_space.specs.Paths.{ArePassed, prefix_at, length-columns_on}
 use Rattle.species_space.proofs.space.SpeciesSpaceSpace.next_child.Goals as goal
 
@@ -30,8 +30,8 @@ next_unpruned-requires-clause-menu c =
     let ex = c.args.self.now.exercise in
     let same : c.len.result ≡ c.args.node.now.state.newest.len = c.len.ensures ex (prefix_at ex c.requires.path)
     c.requires.at.state ∙ sym c.requires.at.state.newest.count in
-    subst (λ (t : Task). IsMenuAt t.exercise c.args.node.now.state.newest.len c.menu-menu.result) (sym c.self.view_is)
-    (subst (λ n. IsMenuAt ex n c.menu-menu.result) same c.menu-menu.ensures)
+    subst (λ (t : Task). IsViewOf t.exercise c.args.node.now.state.newest.len c.menu-menu.result) (sym c.self.view_is)
+    (subst (λ n. IsViewOf ex n c.menu-menu.result) same c.menu-menu.ensures)
 
 pub next_unpruned-requires-clause-within : goal.next_unpruned-requires-clause-within
 next_unpruned-requires-clause-within c =

@@ -1,8 +1,8 @@
 use Rattle.std.proofs.Common.{[], slice_index_or, sym, ◌∙◌, arith}
-use Rattle.species_space.specs.Blocks.{columns_of}
+use Rattle.species_space.specs.Blocks.{columns_seen}
 use Rattle.species_space.proofs.Passing.{agree_more, same_takes}
-use Rattle.species_space.proofs.blocks.MenuAt.end_of_agreement.Goals.{then-block-end, else-block-end}
-use Rattle.species_space.proofs.blocks.MenuAt.end_of_agreement.Goals as goal
+use Rattle.species_space.proofs.blocks.MenuView.end_of_agreement.Goals.{then-block-end, else-block-end}
+use Rattle.species_space.proofs.blocks.MenuView.end_of_agreement.Goals as goal
 
 pub loop-v-init : goal.loop-v-init
 loop-v-init c =
@@ -14,7 +14,7 @@ loop-v-init c =
 
 pub loop-v-preserved : goal.loop-v-preserved
 loop-v-preserved c =
-    let menu = columns_of c.args.self.now in
+    let menu = columns_seen c.args.self.now in
     let v = c.loop-v.v in
     let block = c.block_end-block.result in
     let ends = c.block_end-block.ensures in
@@ -41,7 +41,7 @@ loop-v-preserved c =
 
 pub returns : goal.returns
 returns c =
-    let menu = columns_of c.args.self.now in
+    let menu = columns_seen c.args.self.now in
     let k = c.args.k in
     let kept = c.loop-v.invariant in
     let full = c.requires.cut.full.1 in

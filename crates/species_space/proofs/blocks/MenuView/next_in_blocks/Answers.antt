@@ -2,13 +2,13 @@ use Rattle.std.proofs.Common.{◌≡◌, ◌<◌, false, List, [], length, slice
 use Rattle.fux_grid.specs.declared.cell.Cell.{Cell}
 use Rattle.fux_grid.specs.Cells.{cell_follows, cell_in}
 use Rattle.fux_grid.specs.Columns.{ColumnFollows}
-use Rattle.species_space.specs.Blocks.{columns_of}
+use Rattle.species_space.specs.Blocks.{columns_seen}
 use Rattle.species_space.proofs.Passing.{passed_on, strays_in_block}
-use Rattle.species_space.proofs.blocks.MenuAt.next_in_blocks.Goals as goal
+use Rattle.species_space.proofs.blocks.MenuView.next_in_blocks.Goals as goal
 
 pub loop-k-preserved : goal.loop-k-preserved
 loop-k-preserved c =
-    let menu = columns_of c.args.self.now in
+    let menu = columns_seen c.args.self.now in
     let before = c.args.before.now in
     let k = c.loop-k.k in
     let v = c.in-Some.v in
