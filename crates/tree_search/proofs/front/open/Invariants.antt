@@ -2,6 +2,7 @@ use Rattle.std.proofs.Common.{◌≡◌, ◌-◌, ◌≤◌}
 use Rattle.tree_search.specs.Links.{path_in}
 use Rattle.tree_search.specs.Trails.{IsTrailTo}
 use Rattle.tree_search.specs.Fronts.{IsOpen, HasRoom, SameTaken}
+use Rattle.tree_search.specs.Queues.{IsQueue}
 use Rattle.tree_search.proofs.front.open.Given as goal
 
 abbrev pub invariant-loop-from : goal.invariant-loop-from
@@ -16,6 +17,7 @@ invariant-loop-from g l =
           l.trail.nodes.items l.trail.level l.trail.entry;
       same_path : path_in l.front.links.items l.entry ≡ path_in l.initial.front.links.items l.entry;
       room : HasRoom l.budget l.front;
+      queue : IsQueue l.front.waiting;
       taken : SameTaken l.initial.front l.front;
     }
 

@@ -1,7 +1,7 @@
 use Rattle.std.proofs.Common.{◌≡◌, ℕ, ◌+◌, ◌-◌, length}
-use Rattle.std.specs.BinaryHeap.{heap_items}
 use Rattle.tree_search.specs.Trails.{IsTrailTo}
 use Rattle.tree_search.specs.Fronts.{IsClosed, HasRoom}
+use Rattle.tree_search.specs.Queues.{IsQueue, entries}
 use Rattle.tree_search.proofs.front.search_front.Given as goal
 
 abbrev pub invariant-pops : goal.invariant-pops
@@ -12,8 +12,9 @@ invariant-pops g l =
       trail : IsTrailTo (space.is_at l.space) (space.height l.space) l.front.links.items l.trail.path.items
           l.trail.nodes.items l.trail.level l.trail.entry;
       room : HasRoom l.budget l.front;
+      queue : IsQueue l.front.waiting;
       long : length l.list.items ≡ space.height l.space;
     }
 
 abbrev pub decreases-pops : goal.decreases-pops
-decreases-pops g l = l.budget + length (heap_items l.front.waiting) - length l.front.links.items
+decreases-pops g l = l.budget + length (entries l.front.waiting) - length l.front.links.items

@@ -19,7 +19,7 @@ returns-clause-open g c =
     let more = c.add.ensures in
     IsOpen-add (g.met.S.Space.floors_grow c.args.space.now) c.requires.open.0 c.requires.open.1
     more.waiting _ _ _ more.links more.best (ap (λ (v : Vec ℕ Global). v.items) more.best_path)
-    (c.in-Some.ensures _ (node_of c.requires.parent c.index.result.now c.index.ensures)).1 more.heap
+    (c.in-Some.ensures _ (node_of c.requires.parent c.index.result.now c.index.ensures)).1
 
 pub returns-clause-path : goal.returns-clause-path
 returns-clause-path g c =
