@@ -170,8 +170,7 @@ fn take_child<S: Space>(
         child: k as u16,
     };
     add(front, floor, link, budget);
-    place(trail, level, k as u16);
-    trail.entry = front.links.len() as u32;
+    place(trail, level, k as u16, front.links.len() as u32);
     true
 }
 
@@ -244,7 +243,6 @@ pub fn search_front<S: Space>(alloc: Global, space: &S, budget: u32) -> Result<O
     };
     let mut front = start_front(alloc, floor, depth, budget)?;
     let mut trail = start_trail(space, alloc, root)?;
-    let mut list = vec![in alloc; 0u16; depth]?;
     'pops: while let Some((floor, entry)) = front.waiting.take() {
         if let Some(value) = settled(front.best, floor) {
             return Ok(Outcome::Found {
@@ -252,7 +250,7 @@ pub fn search_front<S: Space>(alloc: Global, space: &S, budget: u32) -> Result<O
                 value,
             });
         }
-        go_to(space, &front.links, &mut trail, entry, &mut list);
+        go_to(space, &front.links, &mut trail, entry);
         if trail.level == depth {
             meet(&mut front, &trail.path, floor);
         } else if !open(space, &mut front, &mut trail, budget) {

@@ -47,7 +47,6 @@ pops-init g c =
       trail = rw made.links c.in_ok-trail.ensures;
       room = made.room;
       queue = made.queue;
-      long = omega (arith, c.in_ok-list.ensures.len, c.in_ok-list.list.ok.0, c.depth-depth.ensures.value);
     }
 
 pub returns-in-Some-settled-clause-found : goal.returns-in-Some-settled-clause-found
@@ -84,13 +83,6 @@ go_to-requires-clause-within g c =
     rw c.deref.ensures.value
     (taken_within (g.met.S.Space.floors_grow c.args.space.now) c.pops.invariant.closed.1 popped.taken popped.least)
 
-pub go_to-requires-clause-fits : goal.go_to-requires-clause-fits
-go_to-requires-clause-fits g c =
-    let popped = c.in-Some-take.ensures in
-    let fits = no_longer (g.met.S.Space.floors_grow c.args.space.now) c.pops.invariant.closed.1 popped.taken
-    popped.least in
-    rw (c.deref.ensures.value, c.deref_mut.ensures.value) (omega (arith, fits, c.pops.invariant.long))
-
 pub meet-requires-clause-level : goal.meet-requires-clause-level
 meet-requires-clause-level g c =
     let popped = c.in-Some-take.ensures in
@@ -122,9 +114,6 @@ pops-preserved-then-trail-depth g c =
     ∙ sym (ap (λ (n : ℕ). take n c.go_to.new.trail.path.items) whole_level
     ∙ take-length c.go_to.new.trail.path.items)
     ∙ trail.leads in
-    let size : length c.go_to.new.list ≡ c.pops.list.len =
-    omega (arith, c.go_to.auto.list, c.deref_mut.ensures.len) in
-    let whole = take_at c.go_to.new.list (drop (length c.go_to.new.list) c.pops.list.items) c.pops.list.len size in
     let opened = IsOpen-first grows closed popped.taken popped.least c.in_default-settled.ensures.unsettled in
     let links = ap (λ (v : Vec Link Global). v.items) same.links in
     let waiting = ap (λ (q : Queue). entries q) same.waiting in
@@ -156,7 +145,6 @@ pops-preserved-then-trail-depth g c =
         ),
       );
       queue = rw same.waiting popped.queue;
-      long = omega (arith, ap (λ (p : List ℕ). length p) whole, size, kept.long, c.pops.list.ok.0);
     }
 
 pub go_to-requires-clause-live : goal.go_to-requires-clause-live

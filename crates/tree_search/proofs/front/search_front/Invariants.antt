@@ -10,10 +10,9 @@ invariant-pops g l =
     record {
       closed : (reached : ℕ) × IsClosed (space.live l.space) (space.height l.space) l.front reached;
       trail : IsTrailTo (space.is_at l.space) (space.height l.space) l.front.links.items l.trail.path.items
-          l.trail.nodes.items l.trail.level l.trail.entry;
+          l.trail.nodes.items l.trail.entries.items l.trail.level l.trail.entry;
       room : HasRoom l.budget l.front;
       queue : IsQueue l.front.waiting;
-      long : length l.list.items ≡ space.height l.space;
     }
 
 abbrev pub decreases-pops : goal.decreases-pops
