@@ -8,5 +8,6 @@ pub mod Waits
 pub mod Frontier
 pub mod Loads
 pub mod Entered
+pub mod Queues
 pub mod Searches
 pub mod Agreement

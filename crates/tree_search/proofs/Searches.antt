@@ -4,12 +4,11 @@
 use Rattle.std.proofs.Common.{◌≡◌, ◌≢◌, ℕ, ◌+◌, ◌<◌, ◌≤◌, ◌⊎◌, inl, inr, ⊎_elim, List, [], ◌∷◌, ◌++◌, length, zero, suc, Option, Some, None, IsSome, All, IsPermutation, refl, sym, ap, subst, ◌∙◌, arith}
 use Rattle.std.proofs.lemmas.List.{get_or_append_left, get_or_push, length_push, length-append}
 use Rattle.std.proofs.lemmas.Bool.{cases_lt, cases_eq}
-use Rattle.std.specs.BinaryHeap.{IsHeap}
 use Rattle.tree_search.specs.Answer.{IsBefore, IsLeaf, IsFirstLeast, HasNoLeaf, BoundsLeaves, AtMost, IsLoaded, IsLiveBelowRoot}
 use Rattle.tree_search.specs.Space.{FloorsGrow}
 use Rattle.tree_search.specs.declared.links.Link.{Link}
 use Rattle.tree_search.specs.Links.{path_in}
-use Rattle.tree_search.specs.Entries.{Entry, entry_cmp, numbers}
+use Rattle.tree_search.specs.Entries.{Entry, numbers}
 use Rattle.tree_search.specs.Fronts.{times, Covers, IsFront, IsOpening, IsSearch, IsBestLeaf, floor_of, floor_in}
 use Rattle.tree_search.proofs.Order.{IsBefore-trans}
 use Rattle.tree_search.proofs.Arena.{path_in-earlier, path_in-last}
@@ -88,7 +87,6 @@ module _ {live : List ℕ → Option ℕ} {width : List ℕ → ℕ} {height : �
     best_leaf = search.best_leaf;
     best_long = search.best_long;
     linked = search.linked;
-    heap = search.heap;
     floors = search.floors;
   }
 
@@ -107,7 +105,6 @@ module _ {live : List ℕ → Option ℕ} {width : List ℕ → ℕ} {height : �
         (long, search.front.floors c opening.here);
     best_long = best_long;
     linked = search.linked;
-    heap = search.heap;
     floors = search.floors;
   }
 
@@ -144,10 +141,10 @@ module _ {live : List ℕ → Option ℕ} {width : List ℕ → ℕ} {height : �
     floor_stays : floor_in live (links ++ record { parent = c; child = k } ∷ []) c ≡ floor_in live links c
     floor_stays = ap (λ (p : List ℕ). floor_of (live p)) (earlier c opening.here)
 
-    IsSearch-add : live (path_in links c ++ k ∷ []) ≡ Some f → IsHeap entry_cmp waiting' →
+    IsSearch-add : live (path_in links c ++ k ∷ []) ≡ Some f →
         IsSearch live height (links ++ record { parent = c; child = k } ∷ []) waiting' best best_path
         (λ i. i ≡ c) (floor_in live links c)
-    IsSearch-add is heap =
+    IsSearch-add is =
         let link : Link = record { parent = c; child = k } in
         record {
           front = subst
@@ -169,7 +166,6 @@ module _ {live : List ℕ → Option ℕ} {width : List ℕ → ℕ} {height : �
               subst (λ (x : Link). x.parent ≤ j) (sym (get_or_push links link d j (sym e)))
               (omega (arith, opening.here, e)))
               (cases_lt j (length links));
-          heap = heap;
           floors = HaveFloors-add live links (links ++ link ∷ []) f (length links + 1) waiting waiting'
               (ap live last ∙ is) earlier
               (All_from (λ i. i < length links + 1) (numbers waiting) search.front.within) search.floors added;
@@ -187,14 +183,14 @@ module _ {live : List ℕ → Option ℕ} {width : List ℕ → ℕ} {height : �
     -- a live child more
     pub IsOpen-add : (links' : List Link) (best' : Option ℕ) (best_path' : List ℕ)
         → links' ≡ links ++ record { parent = c; child = k } ∷ [] → best' ≡ best → best_path' ≡ best_path →
-        live (path_in links c ++ k ∷ []) ≡ Some f → IsHeap entry_cmp waiting' →
+        live (path_in links c ++ k ∷ []) ≡ Some f →
         IsSearch live height links' waiting' best' best_path' (λ i. i ≡ c) (floor_in live links' c)
         × IsOpening live (length links' + 1) (path_in links') (λ i. times i (numbers waiting')) c (k + 1)
-    IsOpen-add links' best' best_path' a b d is heap =
+    IsOpen-add links' best' best_path' a b d is =
         let link : Link = record { parent = c; child = k } in
         rw (a, b, d) (
           subst (λ (r : ℕ). IsSearch live height (links ++ link ∷ []) waiting' best best_path (λ i. i ≡ c) r)
-              (sym floor_stays) (IsSearch-add is heap),
+              (sym floor_stays) (IsSearch-add is),
           IsOpening-more,
         )
 
@@ -361,9 +357,9 @@ module _ {live : List ℕ → Option ℕ} {width : List ℕ → ℕ} {height : �
           above i w (inl some) its_low = omega (arith, low i some, its_low)
           above i w (inr never) its_low = absurd never
 
-      IsSearch-pop : IsHeap entry_cmp waiting' → IsSearch live height links waiting' best best_path
+      IsSearch-pop : IsSearch live height links waiting' best best_path
           (λ i. i ≡ c) (floor_in live links c)
-      IsSearch-pop heap =
+      IsSearch-pop =
           let rest = least_number live links f c waiting waiting' search.floors taken least in
           record {
             front = IsFront-pop grows (λ i. times i (numbers waiting')) c search.front waits none others_stay
@@ -373,23 +369,22 @@ module _ {live : List ℕ → Option ℕ} {width : List ℕ → ℕ} {height : �
                 (best_reached live height reached f best best_path search.best_leaf up unsettled);
             best_long = search.best_long;
             linked = search.linked;
-            heap = heap;
             floors = HaveFloors-rest live links f c waiting waiting' search.floors taken;
           }
 
       -- the entry is open, and none of its children is met
-      pub IsOpen-first : IsHeap entry_cmp waiting' →
+      pub IsOpen-first :
           IsSearch live height links waiting' best best_path (λ i. i ≡ c) (floor_in live links c)
           × IsOpening live (length links + 1) (path_in links) (λ i. times i (numbers waiting')) c 0
-      IsOpen-first heap =
-          (IsSearch-pop heap, IsOpening-pop grows search.front (λ i. times i (numbers waiting')) c waits none)
+      IsOpen-first =
+          (IsSearch-pop, IsOpening-pop grows search.front (λ i. times i (numbers waiting')) c waits none)
 
 -- the root alone
 IsClosed-root : (live : List ℕ → Option ℕ) (height f : ℕ) (waiting : List Entry) (best_path : List ℕ)
     → live [] ≡ Some f → length best_path ≡ height →
-    IsHeap entry_cmp waiting → IsPermutation ((record { 0 = f }, 0) ∷ []) waiting
+    IsPermutation ((record { 0 = f }, 0) ∷ []) waiting
     → IsSearch live height [] waiting None best_path (λ _. ⊥) f
-IsClosed-root live height f waiting best_path is long heap added =
+IsClosed-root live height f waiting best_path is long added =
     let moved = numbers-permutation ((record { 0 = f }, 0) ∷ []) waiting added in
     let own : floor_in live [] 0 ≡ f = ap floor_of is in
     let at_root : (i : ℕ) → 0 < times i (numbers waiting) → i ≡ 0 = λ i some. ⊎_elim (λ e. e)
@@ -430,15 +425,14 @@ IsClosed-root live height f waiting best_path is long heap added =
       best_leaf = tt;
       best_long = long;
       linked = λ k d within. absurd (omega (arith, within));
-      heap = heap;
       floors = HaveFloors-add live [] [] f 0 [] waiting is (λ i within. refl)
           (λ k d inside. absurd (omega (arith, inside))) (λ k d inside. absurd (omega (arith, inside))) added;
     }
 
 pub starts : (live : List ℕ → Option ℕ) (height f : ℕ) (links : List Link) (waiting : List Entry)
     (best : Option ℕ) (best_path : List ℕ) →
-    live [] ≡ Some f → links ≡ [] → best ≡ None → length best_path ≡ height → IsHeap entry_cmp waiting
+    live [] ≡ Some f → links ≡ [] → best ≡ None → length best_path ≡ height
     → IsPermutation ((record { 0 = f }, 0) ∷ []) waiting →
     (reached : ℕ) × IsSearch live height links waiting best best_path (λ _. ⊥) reached
-starts live height f links waiting best best_path is a b long heap added =
-    (f, rw (a, b) (IsClosed-root live height f waiting best_path is long heap added))
+starts live height f links waiting best best_path is a b long added =
+    (f, rw (a, b) (IsClosed-root live height f waiting best_path is long added))

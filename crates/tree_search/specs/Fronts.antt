@@ -1,9 +1,10 @@
 -- How far a search of the front has come. Lemmas see a front as n entries, of paths P and floors F.
 use Rattle.std.specs.Prelude.{◌≡◌, ℕ, ◌+◌, ◌<◌, ◌≤◌, ◌⊎◌, ◌++◌, [], ◌∷◌, List, Option, Some, None, IsSome, length, cond, ◌==◌, vec_capacity}
-use Rattle.std.specs.BinaryHeap.{heap_items, heap_capacity, IsHeap}
+use Rattle.std.specs.BinaryHeap.{heap_capacity}
 use Rattle.tree_search.specs.Answer.{IsLeaf, IsBefore, Many, IsLoaded}
 use Rattle.tree_search.specs.Links.{path_in, IsLinked}
-use Rattle.tree_search.specs.Entries.{Entry, entry_cmp, numbers, HaveFloors}
+use Rattle.tree_search.specs.Entries.{Entry, numbers, HaveFloors}
+use Rattle.tree_search.specs.Queues.{entries}
 use Rattle.tree_search.specs.declared.links.Link.{Link}
 use Rattle.tree_search.specs.declared.front.Front.{Front}
 
@@ -89,13 +90,12 @@ pub record IsSearch (live : List ℕ → Option ℕ) (height : ℕ) (links : Lis
   pub best_leaf : IsBestLeaf live height reached best best_path
   pub best_long : length best_path ≡ height
   pub linked : IsLinked links
-  pub heap : IsHeap entry_cmp waiting
   pub floors : HaveFloors live links waiting
 
 -- a front, of which each entry waits or is done
 abbrev pub IsClosed : (List ℕ → Option ℕ) → ℕ → Front → ℕ → Type 0
 IsClosed live height front reached =
-    IsSearch live height front.links.items (heap_items front.waiting) front.best front.best_path.items
+    IsSearch live height front.links.items (entries front.waiting) front.best front.best_path.items
     (λ _. ⊥) reached
 
 -- a front that has come as far as the floor of an entry of an earlier one, each entry of which waits or is done
@@ -105,19 +105,19 @@ IsClosedAt live height old entry new = IsClosed live height new (floor_in live o
 -- a front, one entry of which is open: its children before k are entries
 abbrev pub IsOpen : (List ℕ → Option ℕ) → ℕ → Front → ℕ → ℕ → Type 0
 IsOpen live height front entry k =
-    IsSearch live height front.links.items (heap_items front.waiting) front.best front.best_path.items
+    IsSearch live height front.links.items (entries front.waiting) front.best front.best_path.items
     (λ i. i ≡ entry) (floor_in live front.links.items entry)
     × IsOpening live (length front.links.items + 1) (path_in front.links.items)
-    (λ i. times i (numbers (heap_items front.waiting))) entry k
+    (λ i. times i (numbers (entries front.waiting))) entry k
 
 -- the entries are within the budget, and there is room for the rest of it
 abbrev pub HasRoom : ℕ → Front → Type 0
 HasRoom budget front =
-    (length front.links.items ≤ budget) × (length (heap_items front.waiting) ≤ length front.links.items + 1)
-    × (budget ≤ vec_capacity front.links) × (budget + 1 ≤ heap_capacity front.waiting)
+    (length front.links.items ≤ budget) × (length (entries front.waiting) ≤ length front.links.items + 1)
+    × (budget ≤ vec_capacity front.links) × (budget + 1 ≤ heap_capacity front.waiting.heap)
 
 -- as many entries as before no longer wait
 abbrev pub SameTaken : Front → Front → Type 0
 SameTaken old new =
-    length (heap_items new.waiting) + length old.links.items
-    ≡ length (heap_items old.waiting) + length new.links.items
+    length (entries new.waiting) + length old.links.items
+    ≡ length (entries old.waiting) + length new.links.items

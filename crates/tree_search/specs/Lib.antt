@@ -4,5 +4,6 @@ pub mod Outcomes
 pub mod Walks
 pub mod Links
 pub mod Entries
+pub mod Queues
 pub mod Trails
 pub mod Fronts

@@ -1,26 +1,22 @@
 //! Best first: the node of least floor is opened next.
 ghost use Rattle.std.specs.Prelude.{◌≡◌, ℕ, ◌<◌, ◌≤◌, ◌+◌, ◌^◌, ◌++◌, ◌∷◌, ◌↔◌, ◌⊎◌, [], List, IsSome, Some, length, IfOk, IfSome, IfNone, All, IsPermutation, vec_capacity};
-ghost use Rattle.std.specs.BinaryHeap.{heap_items, heap_capacity, IsHeap};
+ghost use Rattle.std.specs.BinaryHeap.{heap_capacity};
 ghost use Rattle.std.specs.Bool.{OnTrue, OnFalse};
 ghost use Rattle.tree_search.specs.Answer.{IsBefore, IsFirstLeast, HasNoLeaf, BoundsLeaves, Many, AtMost, IsLoaded, IsLiveBelowRoot, AreLowerLoadsWithin, IsOverBudget};
 ghost use Rattle.tree_search.specs.Outcomes.{IfFound, OnNothing, IfSpent, IsSpent};
 ghost use Rattle.tree_search.specs.Links.{path_in, IsLinked};
-ghost use Rattle.tree_search.specs.Entries.{entry_of, entry_cmp};
+ghost use Rattle.tree_search.specs.Entries.{entry_of};
+ghost use Rattle.tree_search.specs.Queues.{IsQueue, entries};
 ghost use Rattle.tree_search.specs.Trails.{LeadsTo, Leads};
 ghost use Rattle.tree_search.specs.Fronts.{Covers, KeepsCovered, IsLoadAbove, IsClosedAt, next_number, IsOpen, HasRoom, SameTaken};
 
 use crate::links::Link;
 use crate::outcome::Outcome;
+use crate::queue::Queue;
 use crate::space::Space;
 use crate::trail::{Trail, go_to, place, start_trail};
 use fux_pitch::{List, Memory};
 use std::alloc::Global;
-use std::cmp::Reverse;
-use std::collections::BinaryHeap;
-
-/// Floors with the numbers of entries: the least floor comes first, and of equal floors the latest entry, so that the
-/// search goes down before it goes on.
-type Waiting = BinaryHeap<(Reverse<u64>, u32)>;
 
 /// The nodes met so far, as entries. A node is made again from its entry's links.
 #[derive(Drop)]
@@ -28,7 +24,7 @@ pub struct Front {
     /// How each entry but the root hangs from an earlier one.
     links: Vec<Link>,
     /// The entries that are not opened yet.
-    waiting: Waiting,
+    waiting: Queue,
     /// The value of the best leaf met.
     best: Option<u64>,
     /// The path to the best leaf, where there is one.
@@ -60,36 +56,20 @@ fn beats(path: &[u16], best: Option<u64>, best_path: &[u16]) -> bool
     }
 }
 
-/// Takes out the entry of least floor.
-fn pop_least(waiting: &mut Waiting) -> Option<(u64, u32)>
-    requires { IsHeap entry_cmp (heap_items waiting.old) }
-    ensures taken { IfSome result (λ entry. IsPermutation (heap_items waiting.old)
-        (entry_of entry.0 entry.1 ∷ heap_items waiting.new)) }
-    ensures least { IfSome result (λ entry. All (λ other. entry.0 ≤ other.0.0) (heap_items waiting.new)) }
-    ensures heap { IfSome result (λ _. IsHeap entry_cmp (heap_items waiting.new)) }
-    ensures capacity { heap_capacity waiting.new ≡ heap_capacity waiting.old }
-    ensures none { IfNone result (heap_items waiting.old ≡ []) }
-{
-    match waiting.pop() {
-        None => None,
-        Some((Reverse(floor), entry)) => Some((floor, entry)),
-    }
-}
-
-// So each unit of the budget takes 24 bytes.
-const _: () = prove!(size_of::<Link>() == 8 && size_of::<(Reverse<u64>, u32)>() == 16);
+// So each unit of the budget takes 24 bytes: 8 for a link, and 16 for an entry that waits.
+const _: () = prove!(size_of::<Link>() == 8);
 
 /// The room of a front: a link and an entry that waits for each unit of the budget, and one entry for the root.
-fn room_for(alloc: Global, budget: u32) -> Result<(Vec<Link>, Waiting), Memory>
+fn room_for(alloc: Global, budget: u32) -> Result<(Vec<Link>, Queue), Memory>
     ensures links { IfOk result (λ room. vec_capacity room.0 ≡ budget) }
-    ensures waiting { IfOk result (λ room. heap_capacity room.1 ≡ budget + 1) }
+    ensures waiting { IfOk result (λ room. heap_capacity room.1.heap ≡ budget + 1) }
     ensures unlinked { IfOk result (λ room. room.0.items ≡ []) }
-    ensures empty { IfOk result (λ room. heap_items room.1 ≡ []) }
-    ensures heap { IfOk result (λ room. IsHeap entry_cmp (heap_items room.1)) }
+    ensures empty { IfOk result (λ room. entries room.1 ≡ []) }
+    ensures queue { IfOk result (λ room. IsQueue room.1) }
 {
     let most = budget as usize;
     let links = Vec::with_capacity(alloc, most)?;
-    let waiting = BinaryHeap::with_capacity(alloc, most + 1)?;
+    let waiting = Queue::with_capacity(alloc, most + 1)?;
     Ok((links, waiting))
 }
 
@@ -97,8 +77,8 @@ fn room_for(alloc: Global, budget: u32) -> Result<(Vec<Link>, Waiting), Memory>
 fn start_front(alloc: Global, floor: u64, depth: usize, budget: u32) -> Result<Front, Memory>
     ensures links { IfOk result (λ front. front.links.items ≡ []) }
     ensures waiting { IfOk result (λ front.
-        IsPermutation (entry_of floor 0 ∷ []) (heap_items front.waiting)) }
-    ensures heap { IfOk result (λ front. IsHeap entry_cmp (heap_items front.waiting)) }
+        IsPermutation (entry_of floor 0 ∷ []) (entries front.waiting)) }
+    ensures queue { IfOk result (λ front. IsQueue front.waiting) }
     ensures best { IfOk result (λ front. front.best ≡ None) }
     ensures long { IfOk result (λ front. length front.best_path.items ≡ depth) }
     ensures room { IfOk result (HasRoom budget) }
@@ -110,26 +90,26 @@ fn start_front(alloc: Global, floor: u64, depth: usize, budget: u32) -> Result<F
         best: None,
         best_path: vec![in alloc; 0u16; depth]?,
     };
-    front.waiting.push((Reverse(floor), 0))?;
+    front.waiting.put(floor, 0);
     Ok(front)
 }
 
 /// Adds an entry, which waits. There is room for it.
 fn add(front: &mut Front, floor: u64, link: Link, budget: u32)
-    requires heap { IsHeap entry_cmp (heap_items front.old.waiting) }
+    requires queue { IsQueue front.old.waiting }
     requires room { HasRoom budget front.old }
     requires left { length front.old.links.items < budget }
     ensures links { front.new.links.items ≡ front.old.links.items ++ link ∷ [] }
     ensures waiting { IsPermutation
-        (entry_of floor (next_number front.old) ∷ heap_items front.old.waiting) (heap_items front.new.waiting) }
-    ensures heap { IsHeap entry_cmp (heap_items front.new.waiting) }
+        (entry_of floor (next_number front.old) ∷ entries front.old.waiting) (entries front.new.waiting) }
+    ensures queue { IsQueue front.new.waiting }
     ensures best { front.new.best ≡ front.old.best }
     ensures best_path { front.new.best_path ≡ front.old.best_path }
     ensures room { HasRoom budget front.new }
 {
     let _ = front.links.push(link);
     let entry = front.links.len() as u32;
-    let _ = front.waiting.push((Reverse(floor), entry));
+    front.waiting.put(floor, entry);
 }
 
 /// Takes a leaf, if it beats the best.
@@ -169,11 +149,13 @@ fn take_child<S: Space>(
     requires within { k < S.width space.now (path_in front.old.links.items entry) }
     requires small { k < 2 ^ 16 }
     requires room { HasRoom budget front.old }
+    requires queue { IsQueue front.old.waiting }
     ensures open { OnTrue result (IsOpen (S.live space.now) (S.height space.now) front.new entry (k + 1)) }
     ensures path { path_in front.new.links.items entry ≡ path_in front.old.links.items entry }
     ensures parent { LeadsTo (S.is_at space.now) (S.height space.now) front.new.links.items trail.new level entry }
     ensures trail { Leads (S.is_at space.now) (S.height space.now) front.new.links.items trail.new }
     ensures room { HasRoom budget front.new }
+    ensures queue { IsQueue front.new.waiting }
     ensures taken { SameTaken front.old front.new }
     ensures spent { OnFalse result (IsLoadAbove (S.live space.now) front.old entry budget) }
 {
@@ -188,8 +170,7 @@ fn take_child<S: Space>(
         child: k as u16,
     };
     add(front, floor, link, budget);
-    place(trail, level, k as u16);
-    trail.entry = front.links.len() as u32;
+    place(trail, level, k as u16, front.links.len() as u32);
     true
 }
 
@@ -200,9 +181,11 @@ fn open<S: Space>(space: &S, front: &mut Front, trail: &mut Trail<S::Node>, budg
     requires trail { Leads (S.is_at space.now) (S.height space.now) front.old.links.items trail.old }
     requires above { trail.old.level < S.height space.now }
     requires room { HasRoom budget front.old }
+    requires queue { IsQueue front.old.waiting }
     ensures closed { OnTrue result (IsClosedAt (S.live space.now) (S.height space.now) front.old trail.old.entry front.new) }
     ensures trail { Leads (S.is_at space.now) (S.height space.now) front.new.links.items trail.new }
     ensures room { HasRoom budget front.new }
+    ensures queue { IsQueue front.new.waiting }
     ensures taken { SameTaken front.old front.new }
     ensures spent { OnFalse result (IsLoadAbove (S.live space.now) front.old trail.old.entry budget) }
 {
@@ -260,15 +243,14 @@ pub fn search_front<S: Space>(alloc: Global, space: &S, budget: u32) -> Result<O
     };
     let mut front = start_front(alloc, floor, depth, budget)?;
     let mut trail = start_trail(space, alloc, root)?;
-    let mut list = vec![in alloc; 0u16; depth]?;
-    'pops: while let Some((floor, entry)) = pop_least(&mut front.waiting) {
+    'pops: while let Some((floor, entry)) = front.waiting.take() {
         if let Some(value) = settled(front.best, floor) {
             return Ok(Outcome::Found {
                 path: List::new(front.best_path),
                 value,
             });
         }
-        go_to(space, &front.links, &mut trail, entry, &mut list);
+        go_to(space, &front.links, &mut trail, entry);
         if trail.level == depth {
             meet(&mut front, &trail.path, floor);
         } else if !open(space, &mut front, &mut trail, budget) {

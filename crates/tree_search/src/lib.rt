@@ -6,6 +6,7 @@ mod depth;
 mod front;
 mod links;
 mod outcome;
+mod queue;
 mod space;
 mod trail;
 

@@ -3,7 +3,7 @@ ghost use Rattle.std.specs.Prelude.{◌≡◌, ℕ, ◌+◌, ◌<◌, ◌≤◌,
 ghost use Rattle.tree_search.specs.Links.{path_in, IsLinked};
 ghost use Rattle.tree_search.specs.Trails.{IsTrail, Leads};
 
-use crate::links::{Link, write_path};
+use crate::links::Link;
 use crate::space::Space;
 use fux_pitch::Memory;
 use std::alloc::Global;
@@ -13,6 +13,8 @@ use std::alloc::Global;
 pub struct Trail<N: Copy> {
     /// The number of the entry.
     pub entry: u32,
+    /// The numbers of the entries from the root to the node, and then some that mean nothing. They ascend.
+    pub entries: Vec<u32>,
     /// The child numbers down to the node, and then some that mean nothing.
     pub path: Vec<u16>,
     /// The nodes from the root to the node, and then some that mean nothing.
@@ -47,6 +49,7 @@ pub fn start_trail<S: Space>(
     let depth = space.depth();
     Ok(Trail {
         entry: 0,
+        entries: vec![in alloc; 0u32; depth + 1]?,
         path: vec![in alloc; 0u16; depth]?,
         nodes: copies(alloc, root, depth + 1)?,
         level: 0,
@@ -54,85 +57,73 @@ pub fn start_trail<S: Space>(
     })
 }
 
-/// Goes from the node at a level to a child, which is in the spare place.
-pub fn place<N: Copy>(trail: &mut Trail<N>, level: usize, k: u16)
+/// Goes from the node at a level to a child, which is in the spare place: to the entry of this number.
+pub fn place<N: Copy>(trail: &mut Trail<N>, level: usize, k: u16, entry: u32)
     requires path { level < length trail.old.path.items }
     requires nodes { level + 1 < length trail.old.nodes.items }
+    requires entries { level + 1 < length trail.old.entries.items }
     ensures path { trail.new.path.items ≡ slice_set trail.old.path.items level k }
     ensures nodes { trail.new.nodes.items ≡ slice_set trail.old.nodes.items (level + 1) trail.old.spare }
+    ensures entries { trail.new.entries.items ≡ slice_set trail.old.entries.items (level + 1) entry }
     ensures level { trail.new.level ≡ level + 1 }
-    ensures entry { trail.new.entry ≡ trail.old.entry }
+    ensures entry { trail.new.entry ≡ entry }
 {
     trail.path[level] = k;
     trail.nodes[level + 1] = trail.spare;
+    trail.entries[level + 1] = entry;
     trail.level = level + 1;
+    trail.entry = entry;
 }
 
-/// How many numbers two paths share at their beginning.
-fn shared(path: &[u16], other: &[u16]) -> usize
-    ensures within { result ≤ length path.now }
-    ensures within_other { result ≤ length other.now }
-    ensures same { take result path.now ≡ take result other.now }
+/// The greatest level of the trail at which no later entry than this one is.
+#[inline]
+fn level_before<N: Copy>(trail: &Trail<N>, entry: u32) -> usize
+    requires within { trail.now.level < length trail.now.entries.items }
+    requires root { (d : ℕ) → slice_index_or trail.now.entries.items 0 d ≡ 0 }
+    ensures up { result ≤ trail.now.level }
+    ensures reached { (d : ℕ) → slice_index_or trail.now.entries.items result d ≤ entry }
 {
-    let mut count = 0;
-    while count < path.len() && count < other.len() && path[count] == other[count] {
-        count += 1;
+    let mut level = trail.level;
+    while trail.entries[level] > entry {
+        level -= 1;
     }
-    count
+    level
 }
 
-/// Goes on to a child that is live.
-fn step<S: Space>(space: &S, trail: &mut Trail<S::Node>, k: u16)
+/// Goes on to a child that is live, the entry of this number.
+fn step<S: Space>(space: &S, trail: &mut Trail<S::Node>, k: u16, entry: u32)
     requires trail { IsTrail (S.is_at space.now) (S.height space.now)
         trail.old.path.items trail.old.nodes.items trail.old.level }
+    requires entries { length trail.old.entries.items ≡ S.height space.now + 1 }
     requires live { IsSome (S.live space.now (take trail.old.level trail.old.path.items ++ k ∷ [])) }
     ensures trail { IsTrail (S.is_at space.now) (S.height space.now)
         trail.new.path.items trail.new.nodes.items trail.new.level }
+    ensures path { trail.new.path.items ≡ slice_set trail.old.path.items trail.old.level k }
+    ensures entries { trail.new.entries.items ≡ slice_set trail.old.entries.items (trail.old.level + 1) entry }
     ensures level { trail.new.level ≡ trail.old.level + 1 }
-    ensures path { take trail.new.level trail.new.path.items
-        ≡ take trail.old.level trail.old.path.items ++ k ∷ [] }
+    ensures entry { trail.new.entry ≡ entry }
 {
     let level = trail.level;
     let _ = space.child_into(&trail.nodes[level], k as usize, &mut trail.spare);
-    place(trail, level, k);
+    place(trail, level, k, entry);
 }
 
-/// Goes to another live path. Only the nodes that the two paths do not share are made.
-fn follow<S: Space>(space: &S, trail: &mut Trail<S::Node>, path: &[u16])
-    requires trail { IsTrail (S.is_at space.now) (S.height space.now)
-        trail.old.path.items trail.old.nodes.items trail.old.level }
-    requires live { IsSome (S.live space.now path.now) }
-    ensures trail { IsTrail (S.is_at space.now) (S.height space.now)
-        trail.new.path.items trail.new.nodes.items trail.new.level }
-    ensures level { trail.new.level ≡ length path.now }
-    ensures path { take trail.new.level trail.new.path.items ≡ path.now }
-{
-    trail.level = shared(&trail.path[..trail.level], path);
-    while trail.level < path.len() {
-        step(space, trail, path[trail.level]);
-    }
-}
-
-/// Goes to an entry. Its links have to lead there; the list takes its path on the way.
-pub fn go_to<S: Space>(
-    space: &S,
-    links: &[Link],
-    trail: &mut Trail<S::Node>,
-    entry: u32,
-    list: &mut [u16],
-)
+/// Goes to an entry, by way of the last entry of the trail that its links lead to. Only the nodes from there on are made.
+pub fn go_to<S: Space>(space: &S, links: &[Link], trail: &mut Trail<S::Node>, entry: u32)
     requires linked { IsLinked links.now }
     requires within { entry ≤ length links.now }
     requires live { IsSome (S.live space.now (path_in links.now entry)) }
-    requires fits { length (path_in links.now entry) ≤ length list.old }
     requires trail { Leads (S.is_at space.now) (S.height space.now) links.now trail.old }
     ensures trail { Leads (S.is_at space.now) (S.height space.now) links.now trail.new }
     ensures entry { trail.new.entry ≡ entry }
 {
+    let level = level_before(trail, entry);
+    trail.level = level;
+    trail.entry = trail.entries[level];
     if trail.entry == entry {
         return;
     }
-    let start = write_path(links, entry, list);
-    follow(space, trail, &list[start..]);
-    trail.entry = entry;
+    let link = links[entry as usize - 1];
+    go_to(space, links, trail, link.parent);
+    step(space, trail, link.child, entry);
 }

@@ -2,6 +2,7 @@ use Rattle.std.proofs.Common.{◌≡◌, ◌-◌, ◌≤◌}
 use Rattle.tree_search.specs.Links.{path_in}
 use Rattle.tree_search.specs.Trails.{IsTrailTo}
 use Rattle.tree_search.specs.Fronts.{IsOpen, HasRoom, SameTaken}
+use Rattle.tree_search.specs.Queues.{IsQueue}
 use Rattle.tree_search.proofs.front.open.Given as goal
 
 abbrev pub invariant-loop-from : goal.invariant-loop-from
@@ -11,11 +12,12 @@ invariant-loop-from g l =
       within : l.from ≤ l.count;
       opening : IsOpen (space.live l.space) (space.height l.space) l.front l.entry l.from;
       parent : IsTrailTo (space.is_at l.space) (space.height l.space) l.front.links.items l.trail.path.items
-          l.trail.nodes.items l.level l.entry;
+          l.trail.nodes.items l.trail.entries.items l.level l.entry;
       trail : IsTrailTo (space.is_at l.space) (space.height l.space) l.front.links.items l.trail.path.items
-          l.trail.nodes.items l.trail.level l.trail.entry;
+          l.trail.nodes.items l.trail.entries.items l.trail.level l.trail.entry;
       same_path : path_in l.front.links.items l.entry ≡ path_in l.initial.front.links.items l.entry;
       room : HasRoom l.budget l.front;
+      queue : IsQueue l.front.waiting;
       taken : SameTaken l.initial.front l.front;
     }
 

@@ -2,13 +2,14 @@ use Rattle.std.proofs.Math.Seq.{take-length}
 use Rattle.std.proofs.Common.{is_some, sym, take, ◌≡◌, ◌+◌, [], ℕ, List, Vec, Global, length, drop, vec_capacity, refl, ap, subst, ◌∙◌, arith}
 use Rattle.std.proofs.lemmas.List.{take_at}
 use Rattle.std.proofs.lemmas.List.Sorted.{length_permutation}
-use Rattle.std.specs.BinaryHeap.{heap_items, heap_capacity}
-use Rattle.std.specs.declared.collections.BinaryHeap.{BinaryHeap}
+use Rattle.std.specs.BinaryHeap.{heap_capacity}
 use Rattle.tree_search.specs.Answer.{Many, IsLoaded}
 use Rattle.tree_search.specs.declared.links.Link.{Link}
 use Rattle.tree_search.specs.Links.{path_in}
 use Rattle.tree_search.specs.Entries.{Entry}
 use Rattle.tree_search.specs.Fronts.{floor_in}
+use Rattle.tree_search.specs.Queues.{entries}
+use Rattle.tree_search.specs.declared.queue.Queue.{Queue}
 use Rattle.tree_search.proofs.Floors.{none_from}
 use Rattle.tree_search.proofs.Loads.{over_budget, enough_found, enough_none}
 use Rattle.tree_search.proofs.Trails.{level_is}
@@ -40,17 +41,17 @@ pops-init g c =
     let live = g.S.Space.live c.args.space.now in
     let height = g.S.Space.height c.args.space.now in
     record {
-      closed = starts live height _ _ (heap_items front.waiting) _ front.best_path.items c.in-Some.ensures.1
+      closed = starts live height _ _ (entries front.waiting) _ front.best_path.items c.in-Some.ensures.1
           made.links made.best
-          (made.long ∙ c.depth-depth.ensures.value) made.heap made.waiting;
+          (made.long ∙ c.depth-depth.ensures.value) made.waiting;
       trail = rw made.links c.in_ok-trail.ensures;
       room = made.room;
-      long = omega (arith, c.in_ok-list.ensures.len, c.in_ok-list.list.ok.0, c.depth-depth.ensures.value);
+      queue = made.queue;
     }
 
 pub returns-in-Some-settled-clause-found : goal.returns-in-Some-settled-clause-found
 returns-in-Some-settled-clause-found g c =
-    let popped = c.in-Some-pop_least.ensures in
+    let popped = c.in-Some-take.ensures in
     let settled = c.in-Some-settled.ensures.settled in
     rw c.new.ensures
     (first_settled (g.met.S.Space.floors_grow c.args.space.now) c.pops.invariant.closed.1 popped.taken
@@ -58,7 +59,7 @@ returns-in-Some-settled-clause-found g c =
 
 pub returns-in-Some-settled-clause-found_load : goal.returns-in-Some-settled-clause-found_load
 returns-in-Some-settled-clause-found_load g c =
-    let popped = c.in-Some-pop_least.ensures in
+    let popped = c.in-Some-take.ensures in
     few_below (g.met.S.Space.floors_grow c.args.space.now) c.pops.invariant.closed.1 popped.taken popped.least
     c.in-Some-settled.value c.args.budget
     c.in-Some-settled.ensures.settled.1 c.pops.invariant.room.0
@@ -67,7 +68,7 @@ pub returns-in-Some-settled-clause-over : goal.returns-in-Some-settled-clause-ov
 returns-in-Some-settled-clause-over g c =
     let grows = g.met.S.Space.floors_grow c.args.space.now in
     let closed = c.pops.invariant.closed.1 in
-    let popped = c.in-Some-pop_least.ensures in
+    let popped = c.in-Some-take.ensures in
     let settled = c.in-Some-settled.ensures.settled in (
       λ h. absurd h,
       enough_found _ _ c.args.budget _ c.in-Some-settled.value
@@ -78,28 +79,21 @@ returns-in-Some-settled-clause-over g c =
 
 pub go_to-requires-clause-within : goal.go_to-requires-clause-within
 go_to-requires-clause-within g c =
-    let popped = c.in-Some-pop_least.ensures in
+    let popped = c.in-Some-take.ensures in
     rw c.deref.ensures.value
     (taken_within (g.met.S.Space.floors_grow c.args.space.now) c.pops.invariant.closed.1 popped.taken popped.least)
 
-pub go_to-requires-clause-fits : goal.go_to-requires-clause-fits
-go_to-requires-clause-fits g c =
-    let popped = c.in-Some-pop_least.ensures in
-    let fits = no_longer (g.met.S.Space.floors_grow c.args.space.now) c.pops.invariant.closed.1 popped.taken
-    popped.least in
-    rw (c.deref.ensures.value, c.deref_mut.ensures.value) (omega (arith, fits, c.pops.invariant.long))
-
 pub meet-requires-clause-level : goal.meet-requires-clause-level
 meet-requires-clause-level g c =
-    let popped = c.in-Some-pop_least.ensures in
+    let popped = c.in-Some-take.ensures in
     best_level (g.met.S.Space.floors_grow c.args.space.now) c.pops.invariant.closed.1 popped.taken
     popped.least c.in_default-settled.ensures.unsettled
 
 pub pops-smaller-then-trail-depth : goal.pops-smaller-then-trail-depth
 pops-smaller-then-trail-depth g c =
     let links = ap (λ (v : Vec Link Global). length v.items) c.meet.ensures.links in
-    let waiting = ap (λ (v : BinaryHeap Entry Global). length (heap_items v)) c.meet.ensures.waiting in
-    omega (arith, links, waiting, length_permutation _ _ c.in-Some-pop_least.ensures.taken, c.pops.invariant.room.0)
+    let waiting = ap (λ (q : Queue). length (entries q)) c.meet.ensures.waiting in
+    omega (arith, links, waiting, length_permutation _ _ c.in-Some-take.ensures.taken, c.pops.invariant.room.0)
 
 pub pops-preserved-then-trail-depth : goal.pops-preserved-then-trail-depth
 pops-preserved-then-trail-depth g c =
@@ -107,8 +101,8 @@ pops-preserved-then-trail-depth g c =
     let now = c.pops.front in
     let kept = c.pops.invariant in
     let closed = kept.closed.1 in
-    let entry = c.in-Some-pop_least.entry in
-    let popped = c.in-Some-pop_least.ensures in
+    let entry = c.in-Some-take.entry in
+    let popped = c.in-Some-take.ensures in
     let same = c.meet.ensures in
     let trail = rw (c.deref.ensures.value, c.go_to.ensures.entry) at c.go_to.ensures.trail in
     let deep : c.go_to.new.trail.level ≡ g.S.Space.height c.args.space.now =
@@ -120,18 +114,14 @@ pops-preserved-then-trail-depth g c =
     ∙ sym (ap (λ (n : ℕ). take n c.go_to.new.trail.path.items) whole_level
     ∙ take-length c.go_to.new.trail.path.items)
     ∙ trail.leads in
-    let size : length c.go_to.new.list ≡ c.pops.list.len =
-    omega (arith, c.go_to.auto.list, c.deref_mut.ensures.len) in
-    let whole = take_at c.go_to.new.list (drop (length c.go_to.new.list) c.pops.list.items) c.pops.list.len size in
-    let opened = IsOpen-first grows closed popped.taken popped.least c.in_default-settled.ensures.unsettled
-    popped.heap in
+    let opened = IsOpen-first grows closed popped.taken popped.least c.in_default-settled.ensures.unsettled in
     let links = ap (λ (v : Vec Link Global). v.items) same.links in
-    let waiting = ap (λ (v : BinaryHeap Entry Global). heap_items v) same.waiting in
+    let waiting = ap (λ (q : Queue). entries q) same.waiting in
     record {
       closed = (
         floor_in (g.S.Space.live c.args.space.now) now.links.items entry,
         rw (links, waiting)
-            (IsClosed-leaf grows opened.0 opened.1 _ _ c.in-Some-pop_least.floor
+            (IsClosed-leaf grows opened.0 opened.1 _ _ c.in-Some-take.floor
             (floor_is grows closed popped.taken popped.least) long (same.long ∙ closed.best_long) same.best
             (rw path at same.one) (rw path at same.covers) same.keeps),
       );
@@ -150,30 +140,30 @@ pops-preserved-then-trail-depth g c =
           arith,
           kept.room.3,
           popped.capacity,
-          ap (λ (v : BinaryHeap Entry Global). heap_capacity v)
+          ap (λ (q : Queue). heap_capacity q.heap)
               same.waiting,
         ),
       );
-      long = omega (arith, ap (λ (p : List ℕ). length p) whole, size, kept.long, c.pops.list.ok.0);
+      queue = rw same.waiting popped.queue;
     }
 
 pub go_to-requires-clause-live : goal.go_to-requires-clause-live
 go_to-requires-clause-live g c =
-    let popped = c.in-Some-pop_least.ensures in
+    let popped = c.in-Some-take.ensures in
     rw c.deref.ensures.value (ap is_some
     (floor_live (g.met.S.Space.floors_grow c.args.space.now) c.pops.invariant.closed.1 popped.taken popped.least))
 
 pub open-requires-clause-open : goal.open-requires-clause-open
 open-requires-clause-open g c =
-    let popped = c.in-Some-pop_least.ensures in
+    let popped = c.in-Some-take.ensures in
     rw c.go_to.ensures.entry
     (IsOpen-first (g.met.S.Space.floors_grow c.args.space.now) c.pops.invariant.closed.1 popped.taken
-    popped.least c.in_default-settled.ensures.unsettled popped.heap)
+    popped.least c.in_default-settled.ensures.unsettled)
 
 pub open-requires-clause-room : goal.open-requires-clause-room
 open-requires-clause-room g c =
     let room = c.pops.invariant.room in
-    let popped = c.in-Some-pop_least.ensures in (
+    let popped = c.in-Some-take.ensures in (
       room.0,
       omega (arith, room.1, length_permutation _ _ popped.taken),
       room.2,
@@ -186,31 +176,31 @@ returns-then-not-open-clause-over g c =
     let live = g.S.Space.live c.args.space.now in
     let grows = g.met.S.Space.floors_grow c.args.space.now in
     let closed = c.pops.invariant.closed.1 in
-    let popped = c.in-Some-pop_least.ensures in
+    let popped = c.in-Some-take.ensures in
     let floor = floor_is grows closed popped.taken popped.least in
     let spent = subst (λ (f : ℕ). Many (IsLoaded live f) (c.args.budget + 1)) floor
     (rw c.go_to.ensures.entry at c.if-not-open.ensures.spent) in (
-      λ _. over_budget live (g.S.Space.height c.args.space.now) c.args.budget c.in-Some-pop_least.floor
+      λ _. over_budget live (g.S.Space.height c.args.space.now) c.args.budget c.in-Some-take.floor
           (bounds grows closed popped.taken popped.least c.in_default-settled.ensures.unsettled) spent,
       λ _. tt,
     )
 
 pub returns-then-not-open-clause-spent : goal.returns-then-not-open-clause-spent
 returns-then-not-open-clause-spent g c =
-    let popped = c.in-Some-pop_least.ensures in
+    let popped = c.in-Some-take.ensures in
     subst (λ (f : ℕ). Many (IsLoaded (g.S.Space.live c.args.space.now) f) (c.args.budget + 1))
     (floor_is (g.met.S.Space.floors_grow c.args.space.now) c.pops.invariant.closed.1 popped.taken
     popped.least) (rw c.go_to.ensures.entry at c.if-not-open.ensures.spent)
 
 pub returns-then-not-open-clause-least : goal.returns-then-not-open-clause-least
 returns-then-not-open-clause-least g c =
-    let popped = c.in-Some-pop_least.ensures in
+    let popped = c.in-Some-take.ensures in
     λ floor less. few_below (g.met.S.Space.floors_grow c.args.space.now) c.pops.invariant.closed.1
     popped.taken popped.least floor c.args.budget less c.pops.invariant.room.0
 
 pub returns-then-not-open-clause-bound : goal.returns-then-not-open-clause-bound
 returns-then-not-open-clause-bound g c =
-    let popped = c.in-Some-pop_least.ensures in
+    let popped = c.in-Some-take.ensures in
     bounds (g.met.S.Space.floors_grow c.args.space.now) c.pops.invariant.closed.1 popped.taken popped.least
     c.in_default-settled.ensures.unsettled
 
@@ -218,7 +208,7 @@ pub pops-smaller : goal.pops-smaller
 pops-smaller g c =
     omega (
       arith,
-      length_permutation _ _ c.in-Some-pop_least.ensures.taken,
+      length_permutation _ _ c.in-Some-take.ensures.taken,
       c.if-not-open.ensures.taken,
       c.if-not-open.ensures.room.0,
       c.pops.invariant.room.0,
@@ -227,13 +217,13 @@ pops-smaller g c =
 pub returns-in-None-clause-nothing : goal.returns-in-None-clause-nothing
 returns-in-None-clause-nothing g c =
     no_leaf (g.met.S.Space.floors_grow c.args.space.now) c.pops.invariant.closed.1
-    c.in_default-pop_least.ensures.none c.in-None.is
+    c.in_default-take.ensures.none c.in-None.is
 
 pub returns-in-None-clause-over : goal.returns-in-None-clause-over
 returns-in-None-clause-over g c =
     let grows = g.met.S.Space.floors_grow c.args.space.now in
     let closed = c.pops.invariant.closed.1 in
-    let empty = c.in_default-pop_least.ensures.none in (
+    let empty = c.in_default-take.ensures.none in (
       λ h. absurd h,
       enough_none _ _ c.args.budget (no_leaf grows closed empty c.in-None.is)
           (few_live grows closed empty c.args.budget c.pops.invariant.room.0),
@@ -242,19 +232,19 @@ returns-in-None-clause-over g c =
 pub returns-in-None-clause-nothing_load : goal.returns-in-None-clause-nothing_load
 returns-in-None-clause-nothing_load g c =
     few_live (g.met.S.Space.floors_grow c.args.space.now) c.pops.invariant.closed.1
-    c.in_default-pop_least.ensures.none c.args.budget c.pops.invariant.room.0
+    c.in_default-take.ensures.none c.args.budget c.pops.invariant.room.0
 
 pub returns-in-Some-best-clause-found : goal.returns-in-Some-best-clause-found
 returns-in-Some-best-clause-found g c =
     rw c.new-in-Some-best.ensures
     (first_last (g.met.S.Space.floors_grow c.args.space.now) c.pops.invariant.closed.1
-    c.in_default-pop_least.ensures.none _ c.in-Some-best.is)
+    c.in_default-take.ensures.none _ c.in-Some-best.is)
 
 pub returns-in-Some-best-clause-over : goal.returns-in-Some-best-clause-over
 returns-in-Some-best-clause-over g c =
     let grows = g.met.S.Space.floors_grow c.args.space.now in
     let closed = c.pops.invariant.closed.1 in
-    let empty = c.in_default-pop_least.ensures.none in (
+    let empty = c.in_default-take.ensures.none in (
       λ h. absurd h,
       enough_found _ _ c.args.budget _ c.in-Some-best.value (first_last grows closed empty _ c.in-Some-best.is)
           (few_last grows closed empty c.in-Some-best.value c.args.budget c.pops.invariant.room.0),
@@ -263,4 +253,4 @@ returns-in-Some-best-clause-over g c =
 pub returns-in-Some-best-clause-found_load : goal.returns-in-Some-best-clause-found_load
 returns-in-Some-best-clause-found_load g c =
     few_last (g.met.S.Space.floors_grow c.args.space.now) c.pops.invariant.closed.1
-    c.in_default-pop_least.ensures.none c.in-Some-best.value c.args.budget c.pops.invariant.room.0
+    c.in_default-take.ensures.none c.in-Some-best.value c.args.budget c.pops.invariant.room.0

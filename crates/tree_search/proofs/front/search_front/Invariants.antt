@@ -1,7 +1,7 @@
 use Rattle.std.proofs.Common.{◌≡◌, ℕ, ◌+◌, ◌-◌, length}
-use Rattle.std.specs.BinaryHeap.{heap_items}
 use Rattle.tree_search.specs.Trails.{IsTrailTo}
 use Rattle.tree_search.specs.Fronts.{IsClosed, HasRoom}
+use Rattle.tree_search.specs.Queues.{IsQueue, entries}
 use Rattle.tree_search.proofs.front.search_front.Given as goal
 
 abbrev pub invariant-pops : goal.invariant-pops
@@ -10,10 +10,10 @@ invariant-pops g l =
     record {
       closed : (reached : ℕ) × IsClosed (space.live l.space) (space.height l.space) l.front reached;
       trail : IsTrailTo (space.is_at l.space) (space.height l.space) l.front.links.items l.trail.path.items
-          l.trail.nodes.items l.trail.level l.trail.entry;
+          l.trail.nodes.items l.trail.entries.items l.trail.level l.trail.entry;
       room : HasRoom l.budget l.front;
-      long : length l.list.items ≡ space.height l.space;
+      queue : IsQueue l.front.waiting;
     }
 
 abbrev pub decreases-pops : goal.decreases-pops
-decreases-pops g l = l.budget + length (heap_items l.front.waiting) - length l.front.links.items
+decreases-pops g l = l.budget + length (entries l.front.waiting) - length l.front.links.items

@@ -19,7 +19,7 @@ returns-clause-open g c =
     let more = c.add.ensures in
     IsOpen-add (g.met.S.Space.floors_grow c.args.space.now) c.requires.open.0 c.requires.open.1
     more.waiting _ _ _ more.links more.best (ap (λ (v : Vec ℕ Global). v.items) more.best_path)
-    (c.in-Some.ensures _ (node_of c.requires.parent c.index.result.now c.index.ensures)).1 more.heap
+    (c.in-Some.ensures _ (node_of c.requires.parent c.index.result.now c.index.ensures)).1
 
 pub returns-clause-path : goal.returns-clause-path
 returns-clause-path g c =
@@ -36,11 +36,12 @@ pub returns-clause-parent : goal.returns-clause-parent
 returns-clause-parent g c =
     let node = node_of c.requires.parent c.index.result.now c.index.ensures in
     trail_parent c.requires.parent c.requires.above c.args.k _ (c.in-Some.ensures _ node).0
-    _ _ _ c.add.ensures.links c.place.ensures.path c.place.ensures.nodes
+    _ _ _ _ _ c.add.ensures.links c.place.ensures.path c.place.ensures.nodes c.place.ensures.entries
+    (omega (arith, c.len-2.ensures, c.add.new.front.links.ok.0))
 
 pub returns-clause-trail : goal.returns-clause-trail
 returns-clause-trail g c =
     let node = node_of c.requires.parent c.index.result.now c.index.ensures in
     trail_child c.requires.parent c.requires.above c.args.k _ (c.in-Some.ensures _ node).0
-    _ _ _ c.add.ensures.links c.place.ensures.path c.place.ensures.nodes _ _ c.place.ensures.level
-    (omega (arith, c.len-2.ensures, c.add.new.front.links.ok.0))
+    _ _ _ _ _ c.add.ensures.links c.place.ensures.path c.place.ensures.nodes c.place.ensures.entries
+    (omega (arith, c.len-2.ensures, c.add.new.front.links.ok.0)) _ _ c.place.ensures.level c.place.ensures.entry

@@ -1,5 +1,4 @@
 use Rattle.std.proofs.Common.{arith, take}
-use Rattle.std.proofs.lemmas.List.{take_more_set}
 use Rattle.tree_search.proofs.Trails.{above_child, made_of, node_at, some_of, IsTrail-step}
 use Rattle.tree_search.proofs.trail.step.Goals as goal
 
@@ -35,10 +34,8 @@ returns-clause-trail g c =
     (IsTrail-step (g.S.Space.is_at c.args.space.now) _ _ _ _ c.args.k _ above trail
     (made_of _ _ (c.child_into.ensures _ (node_at trail c.index.result.now c.index.ensures)) c.requires.live))
 
-pub returns-clause-path : goal.returns-clause-path
-returns-clause-path g c =
+pub place-requires-clause-entries : goal.place-requires-clause-entries
+place-requires-clause-entries g c =
     let above = above_child (g.met.S.Space.floors_grow c.args.space.now) c.requires.trail c.args.k
     c.requires.live in
-    rw (c.place.ensures.level, c.place.ensures.path)
-    (take_more_set c.args.trail.now.path.items c.args.trail.now.level c.args.k
-    (omega (arith, above, c.requires.trail.path_long)))
+    omega (arith, above, c.requires.entries)
