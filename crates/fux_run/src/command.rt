@@ -5,8 +5,8 @@ ghost use Rattle.clap.specs.Words.{app_of, found_of, is_simple_and_free, rows_of
 ghost use Rattle.fux_run.specs.Commands.{HasHead, asked, asked_by, certify_asked, certify_words, check_asked, check_words, class_asked, class_words, canon_asked, canon_words, compose_asked, drill_asked, drill_words, found_in, fromsmf_asked, fromsmf_words, job_in, new_cantus_asked, new_cantus_words, search_in, task_of, texts};
 
 use crate::forms::{
-    canon_form, certify_form, check_form, class_form, drill_form, exercise_form, from_smf_form, new_cantus_form,
-    search_form,
+    canon_form, certify_form, check_form, class_form, drill_form, exercise_form, from_smf_form,
+    new_cantus_form, search_form,
 };
 use crate::values::{
     certifying, checking, classing, composing, drilling, imitating, inventing, job_on, smf_reading,
