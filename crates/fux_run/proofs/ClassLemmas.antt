@@ -19,7 +19,7 @@ use Rattle.fux_run.specs.Classes.{IsClass, IsEntryOf, class_verdict}
 use Rattle.fux_run.specs.Commands.{class_report, names_listed}
 use Rattle.fux_run.specs.Complaints.{name_text, refusal_text}
 use Rattle.fux_run.specs.Listed.{IsClassIn, IsUnreadAt, ReportsFiles, name_at}
-use Rattle.fux_run.specs.Runs.{IsMade, IsUnread, SaysRefusal}
+use Rattle.fux_run.specs.Runs.{IsMade, SaysRefusal}
 use Rattle.fux_run.specs.Works.{AreContents, AreRead, Files, IsFirstMissing, IsRead}
 use Rattle.fux_run.proofs.MakeLemmas.{have_bytes}
 use Rattle.fux_run.proofs.WorkLemmas.{not_missing}

@@ -1,5 +1,5 @@
 -- What the commands make of their files.
-use Rattle.std.specs.Prelude.{◌≡◌, ℕ, ◌<◌, ◌⊎◌, List, [], ◌∷◌, All, Option, Some, None, Result, Ok, Err, length}
+use Rattle.std.specs.Prelude.{◌≡◌, ℕ, ◌⊎◌, List, [], ◌∷◌, All, Option, Some, None, Result, Ok, Err}
 use Rattle.cert_text.specs.declared.answers.Form.{Form}
 use Rattle.class_marker.specs.Lists.{listed_names}
 use Rattle.class_marker.specs.Markings.{IsContent, IsTheText}
@@ -8,7 +8,6 @@ use Rattle.fux_port.specs.Files.{file_of, HasFile, IsMissing}
 use Rattle.fux_run.specs.declared.complaint.Complaint.{Complaint}
 use Rattle.fux_run.specs.declared.complaint.Complaint.TheVariants as complaint
 use Rattle.class_marker.specs.declared.one.Text.{Text as Content}
-use Rattle.class_marker.specs.declared.one.Text.TheVariants.{Bytes, TooLong}
 use Rattle.fux_run.specs.declared.work.Output.{Output}
 use Rattle.fux_run.specs.declared.work.Unmade.{Unmade}
 use Rattle.fux_run.specs.declared.work.Stop.{Stop}

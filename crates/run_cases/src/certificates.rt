@@ -15,6 +15,7 @@ sing 1 A4:8 | A4:8 | G4:8 | A4:8 | B4:8 | C5:8 | C5:8 | B4:8 | D5:8 | C#5:8 | D5
 
 /// Words that ask for a certificate of each form.
 const FIRST: &str = "certify E --form 1";
+
 const SECOND: &str = "certify E";
 
 /// Exercises, and what the best setting costs at most; nothing where no setting is lawful.
@@ -203,10 +204,12 @@ fn states<R: Threads + Sync>(
         .split_once("potentials\n")
         .ok_or("no entries")?;
     let (stated, claims_behind) = rest.split_once("claims\n").ok_or("no claims")?;
-    Ok(front == head
-        && stated.starts_with(entries.0)
-        && stated.lines().count() == entries.1
-        && claims_behind == claims)
+    Ok(
+        front == head
+            && stated.starts_with(entries.0)
+            && stated.lines().count() == entries.1
+            && claims_behind == claims,
+    )
 }
 
 #[test]
@@ -216,6 +219,14 @@ fn the_second_form_states_an_entry_for_each_column_before_the_same_claims(
     let alloc = rt.alloc();
     let best = "fux-cert 2\nbest 7\nsing 1 D5:8 | C#5:8 | D5:8\n";
     assert!(rt; states(&rt, alloc, EXERCISE, best, ("p 0\n", 137))?);
-    assert!(rt; states(&rt, alloc, EXERCISES[1].0, "fux-cert 2\nnone\n", ("n\n", 73))?);
+    assert!(rt;
+        states(
+            &rt,
+            alloc,
+            EXERCISES[1].0,
+            "fux-cert 2\nnone\n",
+            ("n\n", 73)
+        )?
+    );
     Ok(())
 }

@@ -1,4 +1,4 @@
-use Rattle.std.proofs.Common.{Err, inr, refl, subst}
+use Rattle.std.proofs.Common.{inr, refl, subst}
 use Rattle.class_marker.specs.Markings.{IsContent}
 use Rattle.fux_run.proofs.CanonLemmas.{long_refused}
 use Rattle.fux_run.proofs.imitating.of_text.Goals as goal

@@ -10,10 +10,22 @@ returns-in_err-budget-clause-asked c =
 
 pub returns-in_err-form-clause-asked : goal.returns-in_err-form-clause-asked
 returns-in_err-form-clause-asked c =
-    rw (c.from_residual-in_err-form.ensures, ← c.in_ok-name.ensures, ← c.value-2.ensures, ← c.in_ok-budget.ensures,
-    ← c.value-3.ensures, ← c.in_err-form.ensures) refl
+    rw (
+      c.from_residual-in_err-form.ensures,
+      ← c.in_ok-name.ensures,
+      ← c.value-2.ensures,
+      ← c.in_ok-budget.ensures,
+      ← c.value-3.ensures,
+      ← c.in_err-form.ensures,
+    ) refl
 
 pub returns-clause-asked : goal.returns-clause-asked
 returns-clause-asked c =
-    rw (← c.in_ok-name.ensures, ← c.value-2.ensures, ← c.in_ok-budget.ensures, ← c.value-3.ensures,
-    ← c.in_ok-form.ensures, ← c.value-sheet.ensures) refl
+    rw (
+      ← c.in_ok-name.ensures,
+      ← c.value-2.ensures,
+      ← c.in_ok-budget.ensures,
+      ← c.value-3.ensures,
+      ← c.in_ok-form.ensures,
+      ← c.value-sheet.ensures,
+    ) refl
