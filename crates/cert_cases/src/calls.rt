@@ -39,6 +39,29 @@ fn a_file_is_judged(rt: HostRuntime) -> Result<(), Fail> {
 }
 
 #[test]
+fn a_file_of_the_second_form_is_judged(rt: HostRuntime) -> Result<(), Fail> {
+    let alloc = rt.alloc();
+    let Ok(exercise) = read(alloc, EXERCISE.as_bytes()) else {
+        return Err("no exercise".into());
+    };
+    let sheet = default_sheet();
+    // No chain goes on from the start and from the columns of bars 1 and 2, and nothing is behind those of bar 3.
+    let mut text = String::new(alloc);
+    text.push_str("fux-cert 2\nnone\npotentials\n")?;
+    for number in 0..73 {
+        text.push_str(if number < 49 { "n\n" } else { "p 0\n" })?;
+    }
+    text.push_str("claims\nx\n")?;
+    let mut shelf = MemShelf::new(alloc, &[])?;
+    shelf.put("C", text.as_bytes())?;
+    let Ok(verdict) = check_file(&rt, alloc, &exercise, &sheet, &mut shelf, "C") else {
+        return Err("no verdict".into());
+    };
+    assert!(rt; verdict == Verdict::Accepted(Accepted::Nothing));
+    Ok(())
+}
+
+#[test]
 fn claims_are_read_and_fed(rt: HostRuntime) -> Result<(), Fail> {
     let alloc = rt.alloc();
     let Ok(exercise) = read(alloc, EXERCISE.as_bytes()) else {
