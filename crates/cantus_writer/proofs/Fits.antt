@@ -38,11 +38,12 @@ module _ {X : Type 0} (tree : Tree X Claim) (own : X → Claim) (fits : (p : X) 
   claims-fit : (count : ℕ) (p : X) → AllByRecursion IsClaim (claims_from tree own count p)
   unfolding claims_from
   claims-fit zero p = (fits p, tt)
-  claims-fit (suc count) p = (fits p, by (tree.is_open (own p)))
+  claims-fit (suc count) p = (fits p, by (tree.is_open (own p)) (claims-fit count))
     where
-      by : (b : Bool) → AllByRecursion IsClaim (if b then flat_map (claims_from tree own count) (tree.longer p) else [])
-      by true = all_flat IsClaim (claims_from tree own count) (tree.longer p) (claims-fit count)
-      by false = tt
+      by : (b : Bool) → ((q : X) → AllByRecursion IsClaim (claims_from tree own count q))
+          → AllByRecursion IsClaim (if b then flat_map (claims_from tree own count) (tree.longer p) else [])
+      by true each = all_flat IsClaim (claims_from tree own count) (tree.longer p) each
+      by false each = tt
 
 -- ---- the claims of a certificate
 
@@ -59,15 +60,9 @@ found_among test (r ∷ rules) rule all h = at (cases_Bool (test r)) (found_amon
     at (inr f) later = later (rw f at h)
 
 are_between : AllByRecursion Between rules_claimed
-are_between = (
-  (omega arith, omega arith),
-  (omega arith, omega arith),
-  (omega arith, omega arith),
-  (omega arith, omega arith),
-  (omega arith, omega arith),
-  (omega arith, omega arith),
-  tt,
-)
+are_between =
+    ((omega arith, omega arith), ((omega arith, omega arith), ((omega arith, omega arith), ((omega arith, omega arith),
+    ((omega arith, omega arith), ((omega arith, omega arith), tt))))))
 
 module _ (plan : CantusPlan) (said : Said) where
   own_fits : (ps : List Pitch) → IsClaim (first_claim plan said ps)

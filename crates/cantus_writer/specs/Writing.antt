@@ -20,7 +20,7 @@ to_come plan said walk = claims_to_come (tree_of plan said) (first_claim plan sa
 
 -- a walk at which a writer stands: each claim that is to come is true
 pub record IsWriting (plan : CantusPlan) (said : Said) (walk : Walk CantusKnown) : Type 0 where
-  pub walk : IsWalk (tree_of plan said) (IsJudged plan said) (ways_of plan) walk
+  pub is : IsWalk (tree_of plan said) (IsJudged plan said) (ways_of plan) walk
   pub told : AreTold (tree_of plan said) (first_claim plan said) (ways_of plan) walk
 
 -- the lines of claims

@@ -1,14 +1,15 @@
 //! Writing a whole certificate.
 
 ghost use Rattle.std.specs.Prelude.{◌≡◌, ◌≢◌, ◌<◌, ◌≤◌, Err, OnOk, length};
-ghost use Rattle.cantus_law.specs.Certificates.{Holds};
+ghost use Rattle.cantus_law.specs.Certificates.{Holds, IsCantusCertificate};
+ghost use Rattle.cantus_law.specs.Writer.{claims_of};
 ghost use Rattle.cantus_writer.specs.Heads.{EndsUnwritten, FailsShort, said_with};
 ghost use Rattle.cantus_writer.specs.Writing.{written_certificate};
 ghost use Rattle.fux_port.specs.Counts.{Rose};
 ghost use Rattle.fux_port.specs.Promises.{TakesAll};
 ghost use Rattle.fux_port.specs.Written.{appended};
 
-use crate::begin::begin;
+use crate::beginning::begin;
 use crate::copy::case_of;
 use crate::write::{is_within, write_parts};
 use cantus_law::CantusCase;
@@ -78,6 +79,9 @@ pub fn certify_cantus<K: Sink>(
 
     // No sink is blamed that promises each write.
     ensures taken { TakesAll (K.serves sink.old) → result ≢ Err CertWrite.WriteFault }
+
+    // The certificate is valid.
+    ensures valid { IsCantusCertificate space.now (said_with best.entry) (claims_of space.now (said_with best.entry)) }
 
     // Nothing is written of a certificate that is too long, nor where there is not enough memory.
     ensures too_long { result ≡ Err CertWrite.TooLong

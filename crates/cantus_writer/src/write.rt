@@ -6,7 +6,7 @@ ghost use Rattle.fux_port.specs.Promises.{TakesAll};
 ghost use Rattle.fux_port.specs.Written.{StopsShort, appended};
 ghost use Rattle.cantus_writer.specs.Writing.{IsWriting, lines_left};
 
-use crate::next::next_claim;
+use crate::next_claims::next_claim;
 use arrayvec::ArrayString;
 use cantus_law::{CantusCase, CantusKnown};
 use cert_text::write_claim;
@@ -20,6 +20,7 @@ const MOST_BYTES: usize = 1_073_741_824;
 /// Whether the lines of the claims that are still to come have no more than so many bytes. It stops at the first line that is too much.
 fn fit(walk: &mut Walk<CantusKnown>, case: &CantusCase, room: usize) -> bool
     requires { IsWriting case.now.space case.now.head.best walk.old }
+    ensures writing { IsWriting case.now.space case.now.head.best walk.new }
     ensures fits { IsTrue result ↔ (length (lines_left case.now.space case.now.head.best walk.old) ≤ room) }
 {
     let mut left = room;
@@ -36,7 +37,8 @@ fn fit(walk: &mut Walk<CantusKnown>, case: &CantusCase, room: usize) -> bool
 /// Whether a certificate whose head has so many bytes is within the limit.
 pub(crate) fn is_within(walk: &mut Walk<CantusKnown>, case: &CantusCase, size: usize) -> bool
     requires { IsWriting case.now.space case.now.head.best walk.old }
-    ensures { IsTrue result
+    ensures writing { IsWriting case.now.space case.now.head.best walk.new }
+    ensures fits { IsTrue result
         ↔ (size + length (lines_left case.now.space case.now.head.best walk.old) ≤ 1073741824) }
 {
     size <= MOST_BYTES && fit(walk, case, MOST_BYTES - size)

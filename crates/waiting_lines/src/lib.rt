@@ -1,6 +1,6 @@
 //! Lines that are put together before they are written, so that many short ones take few writes.
 #![tactic(auto)]
 
-mod put;
+mod lines;
 
-pub use put::put;
+pub use lines::put;

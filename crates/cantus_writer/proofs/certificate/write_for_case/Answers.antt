@@ -4,11 +4,14 @@ use Rattle.cantus_writer.proofs.Certificates.{whole_text, whole_too_long, whole_
 use Rattle.fux_port.specs.Written.{StopsShort, appended}
 use Rattle.cantus_writer.proofs.certificate.write_for_case.Goals as goal
 
+pub begin-requires-2-clause-room : goal.begin-requires-2-clause-room
+begin-requires-2-clause-room g c = c.is_within.ensures.writing.is.room
+
 pub returns-then-not-is_within-clause-too_long : goal.returns-then-not-is_within-clause-too_long
 returns-then-not-is_within-clause-too_long g c = λ _.
     whole_too_long c.args.case.now.space c.args.case.now.head.best (string_bytes c.in-Ok.text) c.begin.new.walk
     c.begin.ensures.claims c.in-Ok.ensures c.len.result c.is_within.result (c.len.ensures ∙ c.in-Ok.text.bytes.ok.0)
-    c.is_within.ensures c.if-not-is_within.true
+    c.is_within.ensures.fits c.if-not-is_within.true
 
 pub returns-in-Ok-write_parts-clause-ok : goal.returns-in-Ok-write_parts-clause-ok
 returns-in-Ok-write_parts-clause-ok g c =
@@ -23,7 +26,7 @@ pub returns-in-Ok-write_parts-clause-fits : goal.returns-in-Ok-write_parts-claus
 returns-in-Ok-write_parts-clause-fits g c = λ more.
     let few = whole_within c.args.case.now.space c.args.case.now.head.best (string_bytes c.in-Ok.text) c.begin.new.walk
     c.begin.ensures.claims c.in-Ok.ensures c.len.result c.is_within.result (c.len.ensures ∙ c.in-Ok.text.bytes.ok.0)
-    c.is_within.ensures c.if-not-is_within.false in
+    c.is_within.ensures.fits c.if-not-is_within.false in
     absurd (omega (arith, more, few))
 
 pub returns-clause-short : goal.returns-clause-short
@@ -40,5 +43,5 @@ pub returns-clause-fits : goal.returns-clause-fits
 returns-clause-fits g c = λ more.
     let few = whole_within c.args.case.now.space c.args.case.now.head.best (string_bytes c.in-Ok.text) c.begin.new.walk
     c.begin.ensures.claims c.in-Ok.ensures c.len.result c.is_within.result (c.len.ensures ∙ c.in-Ok.text.bytes.ok.0)
-    c.is_within.ensures c.if-not-is_within.false in
+    c.is_within.ensures.fits c.if-not-is_within.false in
     absurd (omega (arith, more, few))

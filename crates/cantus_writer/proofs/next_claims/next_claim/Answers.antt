@@ -2,7 +2,7 @@ use Rattle.std.proofs.Common.{subst}
 use Rattle.std.specs.List.{AllByRecursion}
 use Rattle.cert_text.specs.Lines.{IsClaim}
 use Rattle.cantus_writer.proofs.Fits.{next-fits, to_come-fit}
-use Rattle.cantus_writer.proofs.next.next_claim.Goals as goal
+use Rattle.cantus_writer.proofs.next_claims.next_claim.Goals as goal
 
 pub returns-clause-claim : goal.returns-clause-claim
 returns-clause-claim c =

@@ -1,0 +1,35 @@
+use Rattle.std.proofs.Common.{◌≡◌, subst}
+use Rattle.std.specs.Prelude.{OnOk}
+use Rattle.cantus_law.specs.Claims.{Said}
+use Rattle.cantus_law.proofs.WrittenCantus.{written_is_valid}
+use Rattle.cantus_space.specs.declared.plan.CantusPlan.{CantusPlan}
+use Rattle.cantus_writer.specs.Heads.{FailsShort, said_with}
+use Rattle.cantus_writer.specs.Writing.{written_certificate}
+use Rattle.fux_port.specs.Written.{appended}
+use Rattle.cantus_writer.proofs.certificate.certify_cantus.Goals as goal
+
+pub returns-in_default-clause-valid : goal.returns-in_default-clause-valid
+returns-in_default-clause-valid g c = written_is_valid c.args.space.now (said_with c.args.best) c.requires.holds
+
+pub returns-clause-valid : goal.returns-clause-valid
+returns-clause-valid g c = written_is_valid c.args.space.now (said_with c.args.best) c.requires.holds
+
+pub returns-clause-ok : goal.returns-clause-ok
+returns-clause-ok g c =
+    let old = g.K.Sink.written c.args.sink.now in
+    let new = g.K.Sink.written c.write_for_case.new.sink in
+    let result = c.write_for_case.result in
+    subst (λ (plan : CantusPlan). OnOk result (new ≡ appended old (written_certificate plan (said_with c.args.best))))
+    c.in-Ok.ensures.space
+    (subst (λ (said : Said). OnOk result (new ≡ appended old (written_certificate c.in-Ok.case.space said)))
+    c.in-Ok.ensures.head c.write_for_case.ensures.ok)
+
+pub returns-clause-short : goal.returns-clause-short
+returns-clause-short g c =
+    let old = g.K.Sink.written c.args.sink.now in
+    let new = g.K.Sink.written c.write_for_case.new.sink in
+    let result = c.write_for_case.result in
+    subst (λ (plan : CantusPlan). FailsShort old new (written_certificate plan (said_with c.args.best)) result)
+    c.in-Ok.ensures.space
+    (subst (λ (said : Said). FailsShort old new (written_certificate c.in-Ok.case.space said) result)
+    c.in-Ok.ensures.head c.write_for_case.ensures.short)
