@@ -2,4 +2,3 @@ pub mod Certificates
 pub mod ClaimLemmas
 pub mod FirstLemmas
 pub mod StageLemmas
-pub mod Stands

@@ -1,5 +1,4 @@
 pub mod Ends
 pub mod Heads
 pub mod Stages
-pub mod Waiting
 pub mod Writing

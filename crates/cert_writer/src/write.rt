@@ -3,7 +3,6 @@
 ghost use Rattle.std.specs.Prelude.{◌≡◌, ◌≤◌, ◌↔◌, ◌+◌, ◌++◌, IsOk, IsTrue, OnErr, OnOk, length};
 ghost use Rattle.cert_law.specs.Cases.{matter_of};
 ghost use Rattle.cert_writer.specs.Stages.{AreLines, lines_left};
-ghost use Rattle.cert_writer.specs.Waiting.{Puts};
 ghost use Rattle.cert_writer.specs.Writing.{IsTask};
 ghost use Rattle.fux_port.specs.Counts.{Rose};
 ghost use Rattle.fux_port.specs.Promises.{TakesAll};
@@ -15,6 +14,7 @@ use arrayvec::ArrayString;
 use cert_law::Case;
 use floor_tables::Tables;
 use fux_port::{Failed, Sink, write_all};
+use waiting_lines::put;
 
 /// The most bytes that a certificate may have.
 const MOST_BYTES: usize = 1_073_741_824;
@@ -52,28 +52,6 @@ pub(crate) fn is_within(
     size <= MOST_BYTES && fit(lines, case, tables, MOST_BYTES - size)
 }
 
-/// Puts a line behind the bytes that wait to be written. Where it may not fit, they are written first.
-fn put<K: Sink>(
-    sink: &mut K,
-    waiting: &mut ArrayString<4096>,
-    line: &ArrayString<13>,
-) -> Result<(), Failed>
-    ensures ok { OnOk result (Puts (K.written sink.old) (K.written sink.new) waiting.old.bytes waiting.new.bytes line.now.bytes) }
-    ensures cause { OnErr result (Rose (K.faults sink.old) (K.faults sink.new)) }
-    ensures err { OnErr result (StopsShort (K.written sink.old) (K.written sink.new) waiting.old.bytes) }
-    ensures taken { TakesAll (K.serves sink.old) → IsOk result }
-    ensures taking { OnOk result (TakesAll (K.serves sink.old) → TakesAll (K.serves sink.new)) }
-    ensures faults { K.faults sink.old ≤ K.faults sink.new }
-{
-    if waiting.try_push_str(line.as_str()).is_ok() {
-        return Ok(());
-    }
-    write_all(sink, waiting.as_str().as_bytes())?;
-    waiting.clear();
-    waiting.push_str(line.as_str());
-    Ok(())
-}
-
 /// Writes the lines that are still to come.
 pub(crate) fn write_lines<K: Sink>(
     lines: &mut Lines,
@@ -93,7 +71,7 @@ pub(crate) fn write_lines<K: Sink>(
 {
     let mut waiting: ArrayString<4096> = ArrayString::new();
     while let Some(line) = next_line(lines, case, tables) {
-        put(sink, &mut waiting, &line)?;
+        put(sink, &mut waiting, line.as_str())?;
     }
     write_all(sink, waiting.as_str().as_bytes())
 }

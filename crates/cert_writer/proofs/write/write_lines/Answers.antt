@@ -1,8 +1,8 @@
-use Rattle.std.proofs.Common.{◌≡◌, ℕ, List, ap, ◌∙◌, subst, arith}
+use Rattle.std.proofs.Common.{◌≡◌, ◌++◌, ℕ, List, ap, sym, ◌∙◌, subst, arith}
 use Rattle.std.proofs.lemmas.Result.{on_err_weaker, on_ok_weaker}
 use Rattle.cert_law.specs.Cases.{matter_of}
 use Rattle.cert_writer.specs.Stages.{lines_left}
-use Rattle.cert_writer.proofs.Stands.{stands_end, stands_put, stands_stop, with_err}
+use Rattle.waiting_lines.proofs.Stands.{stands_end, stands_put, stands_stop, with_err}
 use Rattle.fux_port.specs.Written.{StopsShort, appended}
 use Rattle.cert_writer.proofs.write.write_lines.Goals as goal
 
@@ -14,8 +14,9 @@ loop-line-preserved g c =
       stands =
           stands_put (g.K.Sink.written c.args.sink.now) (g.K.Sink.written c.loop-line.sink)
           (g.K.Sink.written c.put.new.sink) c.loop-line.waiting.bytes c.put.new.waiting.bytes
-          c.in-Some.line.bytes (lines_left t c.next_line.new.lines) (lines_left t c.loop-line.lines)
-          (lines_left t c.args.lines.now) c.in_ok-put.ensures.ok c.in-Some.ensures.text c.loop-line.invariant.stands;
+          c.as_str.result.now (lines_left t c.next_line.new.lines) (lines_left t c.loop-line.lines)
+          (lines_left t c.args.lines.now) c.in_ok-put.ensures.ok (c.in-Some.ensures.text
+          ∙ ap (λ bs. bs ++ lines_left t c.next_line.new.lines) (sym c.as_str.ensures.value)) c.loop-line.invariant.stands;
       faults = omega (arith, c.loop-line.invariant.faults, c.put.ensures.faults);
       taking = λ all. c.in_ok-put.ensures.taking (c.loop-line.invariant.taking all);
     }
@@ -34,7 +35,7 @@ returns-clause-ok g c =
     let told = g.K.Sink.written c.loop-line.sink in
     let new = g.K.Sink.written c.write_all.new.sink in
     let bytes : c.as_bytes.result.now ≡ c.loop-line.waiting.bytes = c.as_bytes.ensures.value
-    ∙ c.as_str.ensures.value in
+    ∙ c.as_str-2.ensures.value in
     on_ok_weaker c.write_all.result
     (λ wrote. stands_end (g.K.Sink.written c.args.sink.now) told new c.loop-line.waiting.bytes
     (lines_left t c.loop-line.lines) (lines_left t c.args.lines.now)
@@ -48,7 +49,7 @@ returns-clause-err g c =
     let told = g.K.Sink.written c.loop-line.sink in
     let new = g.K.Sink.written c.write_all.new.sink in
     let bytes : c.as_bytes.result.now ≡ c.loop-line.waiting.bytes = c.as_bytes.ensures.value
-    ∙ c.as_str.ensures.value in
+    ∙ c.as_str-2.ensures.value in
     on_err_weaker c.write_all.result
     (λ stop. stands_stop (g.K.Sink.written c.args.sink.now) told new c.loop-line.waiting.bytes
     (lines_left t c.loop-line.lines) (lines_left t c.args.lines.now)
