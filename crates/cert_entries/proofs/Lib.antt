@@ -1,3 +1,4 @@
+mod BoundLemmas
 mod HeldLemmas
 mod MenuLemmas
 mod PlaceLemmas

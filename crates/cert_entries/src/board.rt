@@ -1,7 +1,7 @@
 //! What entries are tested by.
 
 ghost use Rattle.std.specs.Prelude.{◌≡◌, ◌<◌, length};
-ghost use Rattle.cert_entries.specs.Boards.{IsBoard, IsPlaceOf};
+ghost use Rattle.cert_entries.specs.Boards.{IsBoard, IsBound, IsPlaceOf};
 ghost use Rattle.cert_law.specs.Entries as law;
 ghost use Rattle.fux_grid.specs.Exercises.{columns_in};
 ghost use Rattle.fux_grid.specs.Menus.{menu_of};
@@ -18,6 +18,8 @@ pub(crate) struct Board<'a> {
     pub(crate) sheet: &'a Sheet,
     pub(crate) menus: &'a Menus,
     pub(crate) stated: &'a [Potential],
+    /// For some columns, counted through all menus, what there is through each at least; none where nothing is.
+    pub(crate) bounds: &'a [Option<u32>],
 }
 
 impl<'a> Board<'a> {
@@ -59,6 +61,21 @@ impl<'a> Board<'a> {
         ensures { result ≡ law.entry_of self.now.exercise.now self.now.stated.now i k }
     {
         self.entry(1 + self.menus.before[i] + k)
+    }
+
+    /// What there is through the column with a number in the menu of a place at least, as far as it is known; none where nothing is.
+    pub(crate) fn bound_of(&self, i: usize, k: usize) -> Option<u32>
+        requires board { IsBoard self.now }
+        requires place { i < columns_in self.now.exercise.now }
+        requires within { k < length (menu_of self.now.exercise.now i) }
+        ensures { IsBound self.now.exercise.now self.now.sheet.now self.now.stated.now i k result }
+    {
+        let number = self.menus.before[i] + k;
+        if number < self.bounds.len() {
+            self.bounds[number]
+        } else {
+            Some(0)
+        }
     }
 
     /// The place of the column of a number, counted from 0 through all menus, and its number in the menu of that place.

@@ -12,9 +12,10 @@ ghost use Rattle.fux_grid.specs.Exercises.{IsValid};
 
 use crate::board::Board;
 use crate::menus::Menus;
+use crate::trial::Trial;
 use cert_law::Tails;
 use cert_text::Potential;
-use entry_tests::{Tests, first_failing};
+use entry_tests::first_failing;
 use fux_grid::{Column, Exercise, Place};
 use fux_pitch::Memory;
 use penalty_sheet::Sheet;
@@ -100,6 +101,7 @@ impl<'a> Entries<'a> {
             sheet: self.sheet,
             menus: &self.menus,
             stated: &self.stated,
+            bounds: &[],
         }
     }
 
@@ -120,24 +122,9 @@ impl<'a> Entries<'a> {
         requires { length self.now.entries ≡ entry_count self.now.exercise }
         ensures { IfOk result (TellsFirstFalse self.now) }
     {
-        first_failing(rt, alloc, self)
-    }
-}
-
-impl<'a> Tests for Entries<'a> {
-    ghost use Rattle.cert_law.specs.Entries.{IsTrueEntry, entry_count};
-    ghost use Rattle.cert_law.specs.Entries as words;
-
-    ghost size = { λ it. entry_count it.exercise };
-
-    ghost passes = { λ it. IsTrueEntry it.exercise it.sheet it.entries };
-
-    fn count(&self) -> usize {
-        1 + self.menus.total
-    }
-
-    fn is_passed(&self, n: usize) -> bool {
-        self.is_true(n)
+        let bounds = self.board().bounds(alloc)?;
+        let trial = Trial::new(self.board(), &bounds);
+        first_failing(rt, alloc, &trial)
     }
 }
 

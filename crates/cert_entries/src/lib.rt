@@ -3,9 +3,11 @@
 #![tactic(auto)]
 
 mod board;
+mod bounds;
 mod entries;
 mod menus;
 mod share;
 mod testing;
+mod trial;
 
 pub use entries::{Entries, EntryFault};

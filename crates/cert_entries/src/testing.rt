@@ -2,7 +2,7 @@
 
 ghost use Rattle.std.specs.Prelude.{◌≡◌, ◌↔◌, ◌+◌, ◌<◌, ◌≤◌, ◌^◌, IsTrue, Some, length};
 ghost use Rattle.std.specs.Bool.{OnTrue};
-ghost use Rattle.cert_entries.specs.Boards.{AllowsAll, FollowsAlone, IsBoard, IsTrueAt};
+ghost use Rattle.cert_entries.specs.Boards.{AllowsFrom, FollowsAlone, IsBoard, IsTrueAt};
 ghost use Rattle.cert_law.specs.Entries.{AllowsSum, IsTrueBefore, IsTrueEntry, entry_count, number_in};
 ghost use Rattle.cert_law.specs.Entries as law;
 ghost use Rattle.cert_text.specs.declared.potential.Potential.TheVariants as potential;
@@ -39,15 +39,14 @@ fn sum_with(cost: u64, entry: Potential) -> Option<u64>
     }
 }
 
-/// Whether an entry allows whatever sum there is through a column with another entry: it states no more than that one, or that one
-/// states no number. Then no cost has to be found.
-fn is_no_more(entry: Potential, next: Potential) -> bool
-    ensures { OnTrue result (AllowsAll entry next) }
+/// Whether an entry allows each sum that is no less than this one, or none where there is none. Then no cost has to be found.
+fn allows_from(entry: Potential, least: Option<u32>) -> bool
+    ensures { OnTrue result (AllowsFrom entry least) }
 {
-    match (entry, next) {
-        (_, Potential::NoChain) => true,
-        (Potential::Least(number), Potential::Least(least)) => number <= least,
-        (Potential::NoChain, Potential::Least(_)) => false,
+    match (entry, least) {
+        (_, None) => true,
+        (Potential::Least(number), Some(least)) => number <= least,
+        (Potential::NoChain, Some(_)) => false,
     }
 }
 
@@ -85,7 +84,7 @@ impl<'a> Board<'a> {
         ensures { IsTrue result ↔ AllowsSum entry
             (law.sum_through self.now.exercise.now self.now.sheet.now self.now.stated.now i (given prev.entry) k) }
     {
-        if is_no_more(entry, self.entry_of(i, k)) {
+        if allows_from(entry, self.bound_of(i, k)) {
             return true;
         }
         allows(entry, self.sum_through(i, prev, k))
