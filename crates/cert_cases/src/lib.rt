@@ -5,3 +5,5 @@
 mod calls;
 #[cfg(test)]
 mod entries;
+#[cfg(test)]
+mod readers;

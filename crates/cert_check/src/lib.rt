@@ -4,6 +4,7 @@
 
 mod checker;
 mod checking;
+mod entering;
 mod head;
 mod judging;
 mod one_verdict;
