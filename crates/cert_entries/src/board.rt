@@ -64,6 +64,7 @@ impl<'a> Board<'a> {
     }
 
     /// What there is through the column with a number in the menu of a place at least, as far as it is known; none where nothing is.
+    #[inline(always)]
     pub(crate) fn bound_of(&self, i: usize, k: usize) -> Option<u32>
         requires board { IsBoard self.now }
         requires place { i < columns_in self.now.exercise.now }

@@ -40,13 +40,14 @@ fn sum_with(cost: u64, entry: Potential) -> Option<u64>
 }
 
 /// Whether an entry allows each sum that is no less than this one, or none where there is none. Then no cost has to be found.
+#[inline(always)]
 fn allows_from(entry: Potential, least: Option<u32>) -> bool
     ensures { OnTrue result (AllowsFrom entry least) }
 {
-    match (entry, least) {
-        (_, None) => true,
-        (Potential::Least(number), Some(least)) => number <= least,
-        (Potential::NoChain, Some(_)) => false,
+    match (least, entry) {
+        (None, _) => true,
+        (Some(least), Potential::Least(number)) => number <= least,
+        (Some(_), Potential::NoChain) => false,
     }
 }
 
@@ -77,6 +78,7 @@ impl<'a> Board<'a> {
     }
 
     /// Whether an entry of a column before a place, or of the start, allows the sum through the column of a number there.
+    #[inline(always)]
     fn allows_through(&self, i: usize, prev: Option<&'a Column>, entry: Potential, k: usize) -> bool
         requires board { IsBoard self.now }
         requires place { i < columns_in self.now.exercise.now }

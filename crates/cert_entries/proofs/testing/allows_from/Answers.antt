@@ -5,12 +5,12 @@ use Rattle.cert_entries.specs.Boards.{AllowsFrom}
 use Rattle.cert_entries.proofs.BoundLemmas.{allows_more, allows_none}
 use Rattle.cert_entries.proofs.testing.allows_from.Goals as goal
 
-pub returns-in_default-None : goal.returns-in_default-None
-returns-in_default-None c = allows_none c.args.entry c.args.least c.in_default-None.is-1
+pub returns-in-None-default : goal.returns-in-None-default
+returns-in-None-default c = allows_none c.args.entry c.args.least c.in-None-default.is-0
 
-pub returns-in-Least-Some : goal.returns-in-Least-Some
-returns-in-Least-Some c =
-    let n = c.in-Least-Some.number in
-    let bound = c.in-Least-Some.least in
+pub returns-in-Some-Least : goal.returns-in-Some-Least
+returns-in-Some-Least c =
+    let n = c.in-Some-Least.number in
+    let bound = c.in-Some-Least.least in
     OnTrue_from (leb n bound) (AllowsFrom c.args.entry c.args.least)
-    (λ h. allows_more c.args.entry c.args.least n bound c.in-Least-Some.is-0 c.in-Least-Some.is-1 (leb-true n bound h))
+    (λ h. allows_more c.args.entry c.args.least n bound c.in-Some-Least.is-1 c.in-Some-Least.is-0 (leb-true n bound h))
