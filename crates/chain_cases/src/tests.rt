@@ -49,12 +49,15 @@ fn exercise(alloc: Global, low: &str, high: &str, species: u8) -> Result<Exercis
     })
 }
 
-/// Whether the tables agree with the listing behind each column of a place.
+/// Whether the tables keep the menu of a place, and agree with the listing behind each column of it.
 fn agree_at(alloc: Global, links: &Leaps<'_>, tables: &Tables, i: usize) -> Result<bool, Fail> {
     if i >= links.places() {
         return Ok(true);
     }
     let menu = links.menu(alloc, i)?;
+    if tables.columns(i) != menu.as_slice() || !tables.has_same_menu(i, i) {
+        return Ok(false);
+    }
     for column in &menu {
         if tables.rest(i, column) != least_of_list(alloc, links, i + 1, Some(column))? {
             return Ok(false);
