@@ -1,8 +1,11 @@
 pub mod AnswerLemmas
 pub mod CellTests
 pub mod CheckingLemmas
+pub mod EnteringLemmas
 pub mod HeadLemmas
 pub mod JudgingLemmas
 pub mod OneVerdict
 pub mod RunLemmas
 pub mod StartLemmas
+pub mod ToldClaims
+pub mod ToldEntries

@@ -1,11 +1,13 @@
--- What is known of a file of which more was read (`longer`), of one whose end was met (`ends`), and of one that goes on (`goes_on`).
-use Rattle.std.proofs.Common.{◌≡◌, ℕ, ◌+◌, ◌-◌, ◌<◌, ◌≤◌, inl, inr, ⊎_elim, List, [], ◌∷◌, ◌++◌, Option, None, Some, Result, Ok, Err, IfOk, length, take, drop, refl, sym, ap, ap₂, subst, ◌∙◌, arith, append_assoc, length-append}
+-- What is known of a file of which more was read (`longer`), of one whose end was met (`ends`), and of one that goes on (`goes_on`); so the
+-- next piece of it is one (`continues`), or shows that it is too long (`past_at`).
+use Rattle.std.proofs.Common.{◌≡◌, ℕ, ◌+◌, ◌-◌, ◌<◌, ◌≤◌, inl, inr, ⊎_elim, Bool, true, false, nat_lt, List, [], ◌∷◌, ◌++◌, Option, None, Some, Result, Ok, Err, IfOk, length, take, drop, refl, sym, ap, ap₂, subst, ◌∙◌, arith, append_assoc, append-nil, length-append}
 use Rattle.std.proofs.Math.Seq.{take-add, take-append-add, take-append_seam}
 use Rattle.std.proofs.lemmas.List.{drop-take, take_all, take-append-drop, take-append-le, take-take, length-take-le}
 use Rattle.std.proofs.lemmas.Bool.{cases_lt}
+use Rattle.std.proofs.lemmas.Bool.Decides.{nat_tests}
 use Rattle.std.specs.Io.{StartsWith}
 use Rattle.fux_port.specs.Files.{HasFile, IsMissing, MayHave, file_of}
-use Rattle.cert_file.specs.Readings.{Begins, Files, MayBe}
+use Rattle.cert_file.specs.Readings.{Begins, Continues, Files, IsPast, IsPlaced, MayBe, Piece}
 
 -- bytes begin with themselves, and with what begins what begins them
 all_begin : (xs : List ℕ) → StartsWith xs xs
@@ -66,6 +68,47 @@ module _ (files : Files) (name : List ℕ) where
       at : MayHave files name known.bytes → ⊥
       at (inl untold) = cc
       at (inr has) = cc
+
+-- the next piece of a file, where nothing is left of the last one
+module _ (files : Files) (name used : List ℕ) (before : Piece) (at : IsPlaced files name used before)
+    (used_up : before.ahead ≡ []) where
+  known : MayBe files name (Begins used)
+  known = subst (λ xs. MayBe files name (Begins xs)) (ap (λ xs. used ++ xs) used_up ∙ append-nil used) at.begins
+
+  far : before.offset ≡ length used
+  far = omega (arith, at.offset, ap length used_up)
+
+  -- a byte behind the last that a certificate may have
+  pub past_at : 1073741824 - before.offset ≡ 0 → before.offset ≤ 1073741824
+      → ((file : List ℕ) → HasFile files name file → before.offset < length file)
+      → IsPast files name used
+  past_at full within more = record {
+    full = omega (arith, far, full, within);
+    more = goes_on files name used known (λ file has. omega (arith, far, more file has));
+  }
+
+  pub continues : (buf ahead : List ℕ) (count : ℕ) (more : Bool) (rose : Type 0) → more ≡ nat_lt 0 count
+      → ahead ≡ take count buf → count ≤ length buf
+      → ((file : List ℕ) → HasFile files name file → StartsWith (drop before.offset file) (take count buf))
+      → (count ≡ 0 → (file : List ℕ) → HasFile files name file → length file ≤ before.offset)
+      → Continues files name rose used (record { ahead = ahead; offset = before.offset + count }) (Ok more)
+  continues buf ahead count more rose is same fits placed end = by more is
+    where
+      stands : IsPlaced files name used (record { ahead = ahead; offset = before.offset + count })
+      stands = record {
+        begins = longer files name used ahead known
+            (λ file has. subst (λ xs. StartsWith (drop (length used) file) xs) (sym same)
+            (subst (λ k. StartsWith (drop k file) (take count buf)) far (placed file has)));
+        offset = omega (arith, far, ap length same ∙ length-take-le count buf fits);
+      }
+
+      none : false ≡ nat_lt 0 count → count ≡ 0
+      none e = grind (arith, nat_tests)
+
+      by : (b : Bool) → b ≡ nat_lt 0 count
+          → Continues files name rose used (record { ahead = ahead; offset = before.offset + count }) (Ok b)
+      by true e = stands
+      by false e = (stands, ends files name used known (λ file has. omega (arith, far, end (none e) file has)))
 
 -- what stands behind a front
 pub behind : (front line bytes : List ℕ) → StartsWith bytes (front ++ line)

@@ -1,13 +1,14 @@
 -- What a piece makes of the line behind a front: it is wrong (`wrong_line`), it isn't ended (`unended_line`), or the file is too long
 -- (`beyond_line`).
-use Rattle.std.proofs.Common.{◌≡◌, ◌≢◌, ℕ, ◌<◌, inl, inr, Bool, true, false, ◌==◌, ◌≤◌, List, [], ◌∷◌, ◌++◌, length, take, refl, sym, ap, subst, ◌∙◌, arith, append_assoc}
+use Rattle.std.proofs.Common.{◌≡◌, ℕ, ◌<◌, inl, inr, Bool, true, false, ◌==◌, ◌≤◌, List, [], ◌∷◌, ◌++◌, length, take, refl, sym, ap, subst, ◌∙◌, arith, append_assoc}
 use Rattle.std.proofs.lemmas.List.{take-take}
 use Rattle.std.specs.Io.{StartsWith}
 use Rattle.std.specs.Prelude.{if◌then◌else◌}
 use Rattle.cert_text.specs.declared.answers.CertFault.TheVariants.{CertWord, CertEnd}
-use Rattle.cert_text.specs.Lines.{BeginsClaim, HasNoFeed, line_part}
+use Rattle.cert_text.specs.Lines.{HasNoFeed, line_part}
+use Rattle.cert_text.specs.Potentials.{IsOwedLine}
 use Rattle.cert_text.proofs.PartLemmas.{begins_front, line_part-goes}
-use Rattle.cert_file.specs.Readings.{Begins, FaultAt, Files, MayBe, judged_bytes, longest_certificate}
+use Rattle.cert_file.specs.Readings.{Begins, BeginsLine, FaultAtLine, Files, IsWanting, MayBe, Owed, AClaim, Stated, judged_bytes, longest_certificate}
 use Rattle.fux_port.specs.Files.{MayHave}
 use Rattle.cert_file.proofs.FileLemmas.{behind}
 
@@ -39,12 +40,20 @@ pub begins_judged : (bytes xs : List ℕ) → length xs ≤ longest_certificate 
     → StartsWith (judged_bytes bytes) xs
 begins_judged bytes xs short begins = take-take (length xs) longest_certificate bytes short ∙ begins
 
-module _ (files : Files) (name front begun : List ℕ) (unended : HasNoFeed begun) where
-  -- a line that was begun and goes on so begins no claim's line
+-- what begins no line that is owed begins none with more bytes
+begins_line : (owed : Owed) (bytes more : List ℕ) → BeginsLine owed (bytes ++ more) → BeginsLine owed bytes
+begins_line AClaim bytes more b = begins_front bytes more b
+begins_line (Stated is_potential) bytes more b = record {
+  rest = more ++ b.rest;
+  whole = subst (IsOwedLine is_potential) (append_assoc bytes more b.rest) b.whole;
+}
+
+module _ (owed : Owed) (files : Files) (name front begun : List ℕ) (unended : HasNoFeed begun) where
+  -- a line that was begun and goes on so begins none that is owed
   pub wrong_line : (ahead : List ℕ) (at : ℕ) → at ≡ length front
       → length (front ++ (begun ++ ahead)) ≤ longest_certificate
       → MayBe files name (Begins (front ++ (begun ++ ahead)))
-      → (BeginsClaim (begun ++ line_part ahead) → ⊥) → MayBe files name (FaultAt front (CertWord at))
+      → (BeginsLine owed (begun ++ line_part ahead) → ⊥) → MayBe files name (FaultAtLine owed front (CertWord at))
   wrong_line ahead at here short known wrong =
       let rest = behind front (begun ++ ahead) (judged_bytes known.bytes)
       (begins_judged known.bytes (front ++ (begun ++ ahead)) short known.such) in
@@ -61,15 +70,15 @@ module _ (files : Files) (name front begun : List ℕ) (unended : HasNoFeed begu
                 let line : line_part ((begun ++ ahead) ++ rest.0) ≡ (begun ++ line_part ahead) ++ part.0 =
                 ap line_part (append_assoc begun ahead rest.0) ∙ line_part-behind begun (ahead ++ rest.0) unended
                 ∙ ap (λ xs. begun ++ xs) part.1 ∙ sym (append_assoc begun (line_part ahead) part.0) in
-                wrong (begins_front (begun ++ line_part ahead) part.0 (subst BeginsClaim line begins));
+                wrong (begins_line owed (begun ++ line_part ahead) part.0 (subst (BeginsLine owed) line begins));
           },
         );
       }
 
   -- the file ends within a line
-  pub unended_line : (at : ℕ) → at ≡ length front → begun ≢ [] → BeginsClaim begun
+  pub unended_line : (at : ℕ) → at ≡ length front → IsWanting owed begun → BeginsLine owed begun
       → length (front ++ begun) ≤ longest_certificate → MayHave files name (front ++ begun)
-      → MayBe files name (FaultAt front (CertEnd at))
+      → MayBe files name (FaultAtLine owed front (CertEnd at))
   unended_line at here some begins short had = record {
     bytes = front ++ begun;
     had = had;
@@ -86,9 +95,9 @@ module _ (files : Files) (name front begun : List ℕ) (unended : HasNoFeed begu
   }
 
   -- the file goes beyond what a certificate may have
-  pub beyond_line : BeginsClaim begun → length (front ++ begun) ≡ longest_certificate
+  pub beyond_line : BeginsLine owed begun → length (front ++ begun) ≡ longest_certificate
       → MayBe files name (λ bytes. Begins (front ++ begun) bytes × (length (front ++ begun) < length bytes))
-      → MayBe files name (FaultAt front (CertEnd longest_certificate))
+      → MayBe files name (FaultAtLine owed front (CertEnd longest_certificate))
   beyond_line begins full known = record {
     bytes = known.bytes;
     had = known.had;

@@ -1,12 +1,11 @@
--- What a reader makes of a piece: it takes a line of it (`line_taken`) or refuses it (`line_refused`); and what the next piece makes of a
--- reader (`reads_on`, `beyond_at`, `fault_given`), or the end of the file (`end_gives`).
-use Rattle.std.proofs.Common.{◌≡◌, ◌≢◌, ℕ, ◌+◌, ◌-◌, ◌<◌, ◌≤◌, Bool, true, false, nat_lt, List, [], ◌∷◌, ◌++◌, Option, None, Some, Result, Ok, Err, length, take, drop, refl, sym, ap, subst, ◌∙◌, arith, append_assoc, length-append, length-drop}
+-- What a reader of claims makes of a piece: it takes a line of it (`line_taken`) or refuses it (`line_refused`); and what the next piece makes
+-- of a reader (`reads_on`, `fault_given`), or the end of the file (`end_gives`).
+use Rattle.std.proofs.Common.{◌≡◌, ◌≢◌, ℕ, ◌+◌, ◌-◌, ◌<◌, ◌≤◌, Bool, true, false, List, [], ◌∷◌, ◌++◌, Option, None, Some, Result, Ok, Err, length, take, drop, refl, sym, ap, subst, ◌∙◌, arith, append_assoc, length-append, length-drop}
 use Rattle.std.specs.Prelude.{IfNone, IfSome}
 use Rattle.std.specs.Io.{StartsWith}
 use Rattle.std.proofs.Transfers.{starts_with_length}
 use Rattle.std.proofs.lemmas.List.{append-nil, drop-drop, drop-take, length-take-le, take-append-drop, take-append-le, take-take}
-use Rattle.std.proofs.lemmas.Bool.Decides.{nat_tests}
-use Rattle.fux_port.specs.Files.{HasFile, MayHave}
+use Rattle.fux_port.specs.Files.{MayHave}
 use Rattle.cert_text.specs.declared.answers.CertFault.{CertFault}
 use Rattle.cert_text.specs.declared.answers.CertFault.TheVariants.{CertEnd}
 use Rattle.cert_text.specs.declared.claim.Claim.{Claim}
@@ -15,11 +14,39 @@ use Rattle.cert_text.specs.declared.claims.Taken.{Taken}
 use Rattle.cert_text.specs.Lines.{BeginsClaim, HasNoFeed, IsClaim, claim_line, line_if, line_part}
 use Rattle.cert_text.specs.Reading as text
 use Rattle.cert_text.specs.Takes.{Refuses, Takes}
-use Rattle.cert_file.specs.Readings.{Begins, EndGives, FaultAt, Files, Gives, IsAt, MayBe, Reading, ReadsOn, TakesLine, longest_certificate}
+use Rattle.cert_file.specs.Readings.{Begins, Continues, EndGives, FaultAt, Files, Gives, IsAt, IsPlaced, MayBe, AClaim, Piece, Reading, ReadsOn, TakesLine, longest_certificate}
 use Rattle.cert_file.specs.declared.fault.ReadFault.{ReadFault}
 use Rattle.cert_file.specs.declared.fault.ReadFault.TheVariants.{Unreadable, Text}
-use Rattle.cert_file.proofs.FileLemmas.{ends, goes_on, longer}
 use Rattle.cert_file.proofs.LineLemmas.{beyond_line, unended_line, wrong_line}
+
+-- ---- lines of any kind
+
+-- what a piece makes of a line that was begun: the line, and what is begun then
+module _ (begun ahead line after : List ℕ) (used : ℕ) (front_is : line_part ahead ≡ take used ahead)
+    (within : used ≤ length ahead) (bytes : begun ++ line_part ahead ≡ line ++ after) where
+  pub split : (front : List ℕ) → front ++ (begun ++ ahead) ≡ (front ++ line) ++ (after ++ drop used ahead)
+  split front =
+      let rest = drop used ahead in
+      ap (λ xs. front ++ (begun ++ xs))
+      (sym (take-append-drop used ahead) ∙ ap (λ xs. xs ++ rest) (sym front_is))
+      ∙ ap (λ xs. front ++ xs) (sym (append_assoc begun (line_part ahead) rest))
+      ∙ ap (λ xs. front ++ (xs ++ rest)) bytes
+      ∙ ap (λ xs. front ++ xs) (append_assoc line after rest)
+      ∙ sym (append_assoc front line (after ++ rest))
+
+  pub sizes : length begun + used ≡ length line + length after
+  sizes = omega (
+    arith,
+    sym (length-append begun (line_part ahead)) ∙ ap length bytes ∙ length-append line after,
+    ap length front_is ∙ length-take-le used ahead within,
+  )
+
+-- bytes that are none
+pub none_left : (xs : List ℕ) → length xs ≡ 0 → xs ≡ []
+none_left [] e = refl
+none_left (x ∷ xs) e = absurd (omega (arith, e))
+
+-- ---- claims
 
 -- where the next piece can't be read, or shows a fault, that is what a reader gives
 pub fault_given : (files : Files) (name front begun : List ℕ) (rose later : Type 0) (now after : Reading) (fault : ReadFault)
@@ -37,75 +64,62 @@ module _ (files : Files) (name front : List ℕ) (before : Reading) (at : IsAt f
   here : text.line_start before.claims ≡ length front
   here = omega (arith, at.next)
 
-  module _ (taken : Taken) (new : text.Reading) (takes : Takes before.claims before.ahead taken new) where
-    line_is : line_part before.ahead ≡ take taken.used before.ahead
-    line_is = takes.front
+  module _ (taken : Taken) (new : text.Reading) (takes : Takes before.claims before.ahead taken new) (after : Piece)
+      (is : after ≡ record { ahead = drop taken.used before.ahead; offset = before.offset }) where
+    abbrev seen : Reading
+    seen = record { claims = new; ahead = after.ahead; offset = after.offset }
 
-    split : front ++ (before.claims.begun ++ before.ahead)
-        ≡ (front ++ line_if taken.claim) ++ (new.begun ++ drop taken.used before.ahead)
-    split =
-        let rest = drop taken.used before.ahead in
-        ap (λ xs. front ++ (before.claims.begun ++ xs))
-        (sym (take-append-drop taken.used before.ahead) ∙ ap (λ xs. xs ++ rest) (sym line_is))
-        ∙ ap (λ xs. front ++ xs) (sym (append_assoc before.claims.begun (line_part before.ahead) rest))
-        ∙ ap (λ xs. front ++ (xs ++ rest)) takes.bytes
-        ∙ ap (λ xs. front ++ xs) (append_assoc (line_if taken.claim) new.begun rest)
-        ∙ sym (append_assoc front (line_if taken.claim) (new.begun ++ rest))
+    long : length before.claims.begun + taken.used ≡ length (line_if taken.claim) + length new.begun
+    long = sizes before.claims.begun before.ahead (line_if taken.claim) new.begun taken.used takes.front takes.within
+        takes.bytes
 
-    sizes : length before.claims.begun + taken.used ≡ length (line_if taken.claim) + length new.begun
-    sizes = omega (
+    left : length after.ahead + taken.used ≡ length before.ahead
+    left = omega (
       arith,
-      sym (length-append before.claims.begun (line_part before.ahead)) ∙ ap length takes.bytes
-          ∙ length-append (line_if taken.claim) new.begun,
-      ap length line_is ∙ length-take-le taken.used before.ahead takes.within,
+      ap (λ (p : Piece). length p.ahead) is,
+      length-drop taken.used before.ahead,
+      takes.within,
     )
 
-    taken_at : (ahead : List ℕ) → ahead ≡ drop taken.used before.ahead → length ahead + taken.used ≡ length before.ahead
-        → BeginsClaim new.begun → HasNoFeed new.begun
-        → IsAt files name (front ++ line_if taken.claim)
-        (record { claims = new; ahead = ahead; offset = before.offset })
-    taken_at ahead is size line unended = record {
+    taken_at : BeginsClaim new.begun → HasNoFeed new.begun → IsAt files name (front ++ line_if taken.claim) seen
+    taken_at line unended = record {
       begins = subst (λ xs. MayBe files name (Begins xs))
-          (split ∙ ap (λ xs. (front ++ line_if taken.claim) ++ (new.begun ++ xs)) (sym is)) at.begins;
-      next = omega (arith, takes.next, at.next, sizes, length-append front (line_if taken.claim));
+          (split before.claims.begun before.ahead (line_if taken.claim) new.begun taken.used takes.front takes.within
+          takes.bytes front
+          ∙ ap (λ (p : Piece). (front ++ line_if taken.claim) ++ (new.begun ++ p.ahead)) (sym is)) at.begins;
+      next = omega (arith, takes.next, at.next, long, length-append front (line_if taken.claim));
       clear = takes.refused;
       line = line;
       unended = unended;
-      offset = omega (arith, at.offset, sizes, size, length-append front (line_if taken.claim));
+      offset = omega (
+        arith,
+        ap (λ (p : Piece). p.offset) is,
+        at.offset,
+        long,
+        left,
+        length-append front (line_if taken.claim),
+      );
     }
 
     -- a line is taken, or the piece is used up
-    pub line_taken : (ahead : List ℕ) → ahead ≡ drop taken.used before.ahead → length ahead + taken.used
-        ≡ length before.ahead
-        → TakesLine files name front (record { claims = new; ahead = ahead; offset = before.offset }) (Ok taken.claim)
-    line_taken ahead is size = by taken.claim refl
+    pub line_taken : TakesLine files name front seen (Ok taken.claim)
+    line_taken = by taken.claim refl
       where
-        by : (claim : Option Claim) → taken.claim ≡ claim
-            → TakesLine files name front (record { claims = new; ahead = ahead; offset = before.offset }) (Ok claim)
+        by : (claim : Option Claim) → taken.claim ≡ claim → TakesLine files name front seen (Ok claim)
         by None none =
             let unended = subst (λ c. IfNone c (HasNoFeed new.begun)) none takes.unended in
             let whole : before.claims.begun ++ line_part before.ahead ≡ new.begun = takes.bytes
             ∙ ap (λ c. line_if c ++ new.begun) none in
             let line = subst BeginsClaim whole takes.begins in
-            let stands = taken_at ahead is size line unended in
             let nowhere : front ++ line_if taken.claim ≡ front = ap (λ c. front ++ line_if c) none ∙ append-nil front in (
-              subst (λ xs. IsAt files name xs (record { claims = new; ahead = ahead; offset = before.offset })) nowhere
-                  stands,
-              none_left ahead (omega (arith, size, takes.all none)),
+              subst (λ xs. IsAt files name xs seen) nowhere (taken_at line unended),
+              none_left after.ahead (omega (arith, left, takes.all none)),
             )
-          where
-            none_left : (xs : List ℕ) → length xs ≡ 0 → xs ≡ []
-            none_left [] e = refl
-            none_left (x ∷ xs) e = absurd (omega (arith, e))
         by (Some claim) some =
             let ended = subst (λ c. IfSome c (λ claim. IsClaim claim × (new.begun ≡ []))) some takes.ended in
             let line = subst BeginsClaim (sym ended.1) nothing_begins in
             let unended = subst HasNoFeed (sym ended.1) tt in
-            let stands = taken_at ahead is size line unended in (
-              ended.0,
-              subst (λ c. IsAt files name (front ++ line_if c)
-                  (record { claims = new; ahead = ahead; offset = before.offset })) some stands,
-            )
+            (ended.0, subst (λ c. IsAt files name (front ++ line_if c) seen) some (taken_at line unended))
 
   -- a line is refused
   pub line_refused : (fault : CertFault) (new : text.Reading) (after : Reading)
@@ -114,7 +128,7 @@ module _ (files : Files) (name front : List ℕ) (before : Reading) (at : IsAt f
       → TakesLine files name front after (Err fault)
   line_refused fault new after limit refuses =
       subst (λ it. MayBe files name (FaultAt front it)) (sym refuses.named)
-      (wrong_line files name front before.claims.begun at.unended before.ahead (text.line_start before.claims) here
+      (wrong_line AClaim files name front before.claims.begun at.unended before.ahead (text.line_start before.claims) here
       (omega (
         arith,
         limit,
@@ -129,71 +143,50 @@ module _ (files : Files) (name front : List ℕ) (before : Reading) (at : IsAt f
       → before.offset ≤ longest_certificate
       → MayHave files name (front ++ before.claims.begun) → MayBe files name (FaultAt front (CertEnd end))
   end_gives end is some limit had =
-      unended_line files name front before.claims.begun at.unended end (is ∙ here) some at.line
+      unended_line AClaim files name front before.claims.begun at.unended end (is ∙ here) some at.line
       (omega (arith, limit, at.offset, length-append front before.claims.begun)) had
 
   pub end_whole : before.claims.begun ≡ [] → MayHave files name (front ++ before.claims.begun)
       → MayHave files name front
   end_whole none had = subst (MayHave files name) (ap (λ xs. front ++ xs) none ∙ append-nil front) had
 
-  module _ (used_up : before.ahead ≡ []) where
-    known : MayBe files name (Begins (front ++ before.claims.begun))
-    known = subst (λ xs. MayBe files name (Begins xs))
-        (ap (λ xs. front ++ (before.claims.begun ++ xs)) used_up
-        ∙ ap (λ xs. front ++ xs) (append-nil before.claims.begun)) at.begins
+-- what the next piece makes of a reader, where the last one is used up
+module _ (files : Files) (name front : List ℕ) (claims : text.Reading) (piece : Piece)
+    (at : IsAt files name front (record { claims = claims; ahead = piece.ahead; offset = piece.offset })) where
+  pub placed : IsPlaced files name (front ++ claims.begun) piece
+  placed = record {
+    begins = subst (λ xs. MayBe files name (Begins xs)) (sym (append_assoc front claims.begun piece.ahead)) at.begins;
+    offset = omega (arith, at.offset, length-append front claims.begun);
+  }
 
-    far : before.offset ≡ length (front ++ before.claims.begun)
-    far = omega (arith, at.offset, ap length used_up, length-append front before.claims.begun)
+  pub reads_on : (begun : List ℕ) (after : Piece) (rose : Type 0) (result : Result Bool ReadFault) → claims.begun ≡ begun
+      → Continues files name rose (front ++ claims.begun) after result
+      → ReadsOn files name rose front begun (record { claims = claims; ahead = after.ahead; offset = after.offset }) result
+  reads_on begun after rose result its on =
+      subst
+      (λ xs. ReadsOn files name rose front xs (record { claims = claims; ahead = after.ahead; offset = after.offset })
+      result) its (by result on)
+    where
+      stands : IsPlaced files name (front ++ claims.begun) after
+          → IsAt files name front (record { claims = claims; ahead = after.ahead; offset = after.offset })
+      stands there = record {
+        begins = subst (λ xs. MayBe files name (Begins xs)) (append_assoc front claims.begun after.ahead) there.begins;
+        next = at.next;
+        clear = at.clear;
+        line = at.line;
+        unended = at.unended;
+        offset = omega (arith, there.offset, length-append front claims.begun);
+      }
 
-    -- a byte behind the last that a certificate may have
-    pub beyond_at : 1073741824 - before.offset ≡ 0 → before.offset ≤ 1073741824
-        → ((file : List ℕ) → HasFile files name file → before.offset < length file)
-        → MayBe files name (FaultAt front (CertEnd longest_certificate))
-    beyond_at full within more =
-        beyond_line files name front before.claims.begun at.unended at.line
-        (omega (arith, far, full, within))
-        (goes_on files name (front ++ before.claims.begun) known (λ file has. omega (arith, far, more file has)))
-
-    -- the next piece
-    pub reads_on : (buf ahead begun : List ℕ) (count : ℕ) (more : Bool) (rose : Type 0) → before.claims.begun ≡ begun
-        → more ≡ nat_lt 0 count → ahead ≡ take count buf
-        → count ≤ length buf
-        → ((file : List ℕ) → HasFile files name file → StartsWith (drop before.offset file) (take count buf))
-        → (count ≡ 0 → (file : List ℕ) → HasFile files name file → length file ≤ before.offset)
-        → ReadsOn files name rose front begun
-        (record { claims = before.claims; ahead = ahead; offset = before.offset + count }) (Ok more)
-    reads_on buf ahead begun count more rose its is same fits placed end =
-        subst
-        (λ xs. ReadsOn files name rose front xs
-        (record { claims = before.claims; ahead = ahead; offset = before.offset + count }) (Ok more))
-        its (by more is)
-      where
-        stands : IsAt files name front (record
-            { claims = before.claims; ahead = ahead; offset = before.offset + count })
-        stands = record {
-          begins = subst (λ xs. MayBe files name (Begins xs)) (append_assoc front before.claims.begun ahead)
-              (longer files name (front ++ before.claims.begun) ahead known
-              (λ file has. subst (λ xs. StartsWith (drop (length (front ++ before.claims.begun)) file) xs) (sym same)
-              (subst (λ k. StartsWith (drop k file) (take count buf)) far (placed file has))));
-          next = at.next;
-          clear = at.clear;
-          line = at.line;
-          unended = at.unended;
-          offset = omega (arith, at.offset, ap length same ∙ length-take-le count buf fits, ap length used_up);
-        }
-
-        none : false ≡ nat_lt 0 count → count ≡ 0
-        none e = grind (arith, nat_tests)
-
-        by : (b : Bool) → b ≡ nat_lt 0 count
-            → ReadsOn files name rose front before.claims.begun
-            (record { claims = before.claims; ahead = ahead; offset = before.offset + count }) (Ok b)
-        by true e = stands
-        by false e = (
-          stands,
-          refl,
-          ends files name (front ++ before.claims.begun) known (λ file has. omega (arith, far, end (none e) file has)),
-        )
+      by : (read : Result Bool ReadFault) → Continues files name rose (front ++ claims.begun) after read
+          → ReadsOn files name rose front claims.begun
+          (record { claims = claims; ahead = after.ahead; offset = after.offset }) read
+      by (Ok true) it = stands it
+      by (Ok false) it = (stands it.0, refl, it.1)
+      by (Err Unreadable) it = it
+      by (Err (Text fault)) it =
+          subst (λ f. MayBe files name (FaultAt front f)) (sym it.0)
+          (beyond_line AClaim files name front claims.begun at.unended at.line it.1.full it.1.more)
 
 -- a piece that is placed shows how long a file is
 pub reaches : (file piece : List ℕ) (offset count : ℕ) → count ≤ length piece → 0 < count

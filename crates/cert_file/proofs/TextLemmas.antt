@@ -11,7 +11,7 @@ use Rattle.cert_text.proofs.PartLemmas.{line_part-goes}
 use Rattle.fux_port.specs.Files.{HasFile, MayHave}
 
 -- the first line feed splits bytes in one way
-feed_splits : (xs ys us vs : List ℕ) → HasNoFeed xs → HasNoFeed us → xs ++ 10 ∷ ys ≡ us ++ 10 ∷ vs → (xs ≡ us)
+pub feed_splits : (xs ys us vs : List ℕ) → HasNoFeed xs → HasNoFeed us → xs ++ 10 ∷ ys ≡ us ++ 10 ∷ vs → (xs ≡ us)
     × (ys ≡ vs)
 feed_splits [] ys [] vs p q e = (refl, cc)
 feed_splits [] ys (u ∷ us) vs p q e = let feed : u ≡ 10 = cc in absurd (q.0 feed)
@@ -63,7 +63,7 @@ same_line c d xs ys p q e =
     (same_word c d p q both.0, both.1)
 
 -- the first line of bytes through a feed
-first_line : (xs ys : List ℕ) → HasNoFeed xs → line_part (xs ++ 10 ∷ ys) ≡ xs ++ 10 ∷ []
+pub first_line : (xs ys : List ℕ) → HasNoFeed xs → line_part (xs ++ 10 ∷ ys) ≡ xs ++ 10 ∷ []
 first_line [] ys none = refl
 first_line (x ∷ xs) ys none = line_part-goes x (xs ++ 10 ∷ ys) none.0 ∙ ap (λ zs. x ∷ zs) (first_line xs ys none.1)
 

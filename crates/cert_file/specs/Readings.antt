@@ -1,11 +1,12 @@
 -- Where the reading of a certificate's file stands, and what comes next: a claim's line, the file's end, or a line that is none.
-use Rattle.std.specs.Prelude.{◌≡◌, ◌≢◌, ℕ, ◌+◌, ◌-◌, ◌<◌, ◌≤◌, ◌⊎◌, Bool, true, false, List, [], ◌++◌, Option, Some, None, Result, Ok, Err, length, take}
+use Rattle.std.specs.Prelude.{◌≡◌, ◌≢◌, ℕ, ◌+◌, ◌-◌, ◌<◌, ◌≤◌, ◌⊎◌, Bool, true, false, ⊤, List, [], ◌++◌, Option, Some, None, Result, Ok, Err, length, take}
 use Rattle.std.specs.Io.{StartsWith}
 use Rattle.fux_port.specs.Files.{HasFile, MayHave}
 use Rattle.cert_text.specs.declared.answers.CertFault.{CertFault}
 use Rattle.cert_text.specs.declared.answers.CertFault.TheVariants.{CertHead, CertWord, CertEnd, Memory}
 use Rattle.cert_text.specs.declared.claim.Claim.{Claim}
 use Rattle.cert_text.specs.Lines.{BeginsClaim, HasNoFeed, IsClaim, claim_line, line_part}
+use Rattle.cert_text.specs.Potentials.{BeginsOwed}
 use Rattle.cert_text.specs.Reading as text
 use Rattle.cert_file.specs.declared.fault.ReadFault.{ReadFault}
 use Rattle.cert_file.specs.declared.fault.ReadFault.TheVariants.{Unreadable, Text}
@@ -28,13 +29,23 @@ reading_from next ahead offset = record {
 abbrev pub longest_piece : ℕ
 longest_piece = 65536
 
--- what each reader keeps
-pub record IsReading (piece : List ℕ) (from to offset : ℕ) (claims : text.Reading) : Type 0 where
+-- what contracts see of the pieces of a file: the bytes of the last one that weren't used, and how many bytes were read
+pub record Piece : Type 0 where
+  pub ahead : List ℕ
+  pub offset : ℕ
+
+-- what the pieces keep
+pub record IsPiece (piece : List ℕ) (from to offset : ℕ) : Type 0 where
   pub long : length piece ≡ longest_piece
   pub used : from ≤ to
   pub within : to ≤ longest_piece
+  pub read : to - from ≤ offset
   pub limit : offset ≤ 1073741824
-  pub taken : claims.used + (to - from) ≤ offset
+
+-- what each reader keeps
+pub record IsReading (piece : Piece) (claims : text.Reading) : Type 0 where
+  pub limit : piece.offset ≤ 1073741824
+  pub taken : claims.used + length piece.ahead ≤ piece.offset
 
 -- the files that a shelf tells, if it does
 abbrev pub Files : Type 0
@@ -71,43 +82,92 @@ longest_certificate = 1073741824
 abbrev pub judged_bytes : List ℕ → List ℕ
 judged_bytes bytes = take longest_certificate bytes
 
--- the line at the front of these bytes begins no claim's line
-abbrev pub IsWrong : List ℕ → Type 0
-IsWrong rest = BeginsClaim (line_part rest) → ⊥
+-- the line that is owed next: a claim's, if the file goes on; or one of what is stated, where a potential's line is owed or the line
+-- `claims`
+pub data Owed : Type 0 where
+  AClaim : Owed
+  Stated : Bool → Owed
 
--- these bytes begin a claim's line, if there are any, and don't end it
-pub record IsUnended (rest : List ℕ) : Type 0 where
-  pub begins : BeginsClaim rest
+-- bytes begin such a line
+abbrev pub BeginsLine : Owed → List ℕ → Type 0
+BeginsLine AClaim bytes = BeginsClaim bytes
+BeginsLine (Stated is_potential) bytes = BeginsOwed is_potential bytes
+
+-- a file that ends with these bytes wants the end of the line, or all of it; no claim is wanting where a file ends behind a line
+abbrev pub IsWanting : Owed → List ℕ → Type 0
+IsWanting AClaim rest = rest ≢ []
+IsWanting (Stated is_potential) rest = ⊤
+
+-- the line at the front of these bytes begins none that is owed
+abbrev pub IsWrongLine : Owed → List ℕ → Type 0
+IsWrongLine owed rest = BeginsLine owed (line_part rest) → ⊥
+
+-- these bytes begin a line that is owed, if there are any, and don't end it
+pub record IsUnendedLine (owed : Owed) (rest : List ℕ) : Type 0 where
+  pub begins : BeginsLine owed rest
   pub unended : HasNoFeed rest
 
--- behind a front stands a line that is none
-pub record HasWrong (front bytes : List ℕ) : Type 0 where
+-- behind a front stands a line that isn't owed
+pub record HasWrong (owed : Owed) (front bytes : List ℕ) : Type 0 where
   pub rest : List ℕ
   pub is : judged_bytes bytes ≡ front ++ rest
-  pub wrong : IsWrong rest
+  pub wrong : IsWrongLine owed rest
 
--- the file ends within a claim's line, which begins behind a front
-pub record EndsWithin (front bytes : List ℕ) : Type 0 where
+-- the file ends within a line that is owed, which begins behind a front
+pub record EndsWithin (owed : Owed) (front bytes : List ℕ) : Type 0 where
   pub short : length bytes ≤ longest_certificate
   pub rest : List ℕ
   pub is : bytes ≡ front ++ rest
-  pub some : rest ≢ []
-  pub begun : IsUnended rest
+  pub some : IsWanting owed rest
+  pub begun : IsUnendedLine owed rest
 
 -- the file goes on behind the last byte that is judged, and up to there no line behind a front is ended or wrong
-pub record GoesBeyond (front bytes : List ℕ) : Type 0 where
+pub record GoesBeyond (owed : Owed) (front bytes : List ℕ) : Type 0 where
   pub long : longest_certificate < length bytes
   pub rest : List ℕ
   pub is : judged_bytes bytes ≡ front ++ rest
-  pub begun : IsUnended rest
+  pub begun : IsUnendedLine owed rest
 
--- what is wrong with the bytes behind a front, at a byte
+-- what is wrong with the bytes behind a front, where such a line is owed, at a byte
+abbrev pub FaultAtLine : Owed → List ℕ → CertFault → List ℕ → Type 0
+FaultAtLine owed front (CertWord at) bytes = (at ≡ length front) × HasWrong owed front bytes
+FaultAtLine owed front (CertEnd at) bytes =
+    ((at ≡ length front) × EndsWithin owed front bytes) ⊎ ((at ≡ longest_certificate) × GoesBeyond owed front bytes)
+FaultAtLine owed front (CertHead at) bytes = ⊥
+FaultAtLine owed front Memory bytes = ⊥
+
+-- the same where claims are read
+abbrev pub IsWrong : List ℕ → Type 0
+IsWrong rest = IsWrongLine AClaim rest
+
+abbrev pub IsUnended : List ℕ → Type 0
+IsUnended rest = IsUnendedLine AClaim rest
+
 abbrev pub FaultAt : List ℕ → CertFault → List ℕ → Type 0
-FaultAt front (CertWord at) bytes = (at ≡ length front) × HasWrong front bytes
-FaultAt front (CertEnd at) bytes =
-    ((at ≡ length front) × EndsWithin front bytes) ⊎ ((at ≡ longest_certificate) × GoesBeyond front bytes)
-FaultAt front (CertHead at) bytes = ⊥
-FaultAt front Memory bytes = ⊥
+FaultAt front fault bytes = FaultAtLine AClaim front fault bytes
+
+-- the bytes that were used of a file are this front of it, and those that were read and not used stand behind it
+pub record IsPlaced (files : Files) (name used : List ℕ) (piece : Piece) : Type 0 where
+  pub begins : MayBe files name (Begins (used ++ piece.ahead))
+  pub offset : piece.offset ≡ length used + length piece.ahead
+
+-- as many bytes were used as are judged, and the file goes on
+pub record IsPast (files : Files) (name used : List ℕ) : Type 0 where
+  pub full : length used ≡ longest_certificate
+  pub more : MayBe files name (λ bytes. Begins used bytes × (length used < length bytes))
+
+-- what the next piece of a file is, of which this front was used: there is one, or the file ended, or it is too long
+abbrev pub Continues : Files → List ℕ → Type 0 → List ℕ → Piece → Result Bool ReadFault → Type 0
+Continues files name rose used after (Ok true) = IsPlaced files name used after
+Continues files name rose used after (Ok false) = IsPlaced files name used after × MayHave files name used
+Continues files name rose used after (Err Unreadable) = rose
+Continues files name rose used after (Err (Text fault)) =
+    (fault ≡ CertEnd longest_certificate) × IsPast files name used
+
+-- the same, whatever was used, where nothing is left of the last piece
+abbrev pub ContinuesNext : Files → List ℕ → Type 0 → Piece → Piece → Result Bool ReadFault → Type 0
+ContinuesNext files name rose before after result =
+    (used : List ℕ) → IsPlaced files name used before → before.ahead ≡ [] → Continues files name rose used after result
 
 -- what a reader behind a front gives next: the claim whose line stands there, the end, or what is wrong
 abbrev pub Gives : Files → List ℕ → Type 0 → List ℕ → Reading → Result (Option Claim) ReadFault → Type 0

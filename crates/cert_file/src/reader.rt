@@ -6,44 +6,26 @@ ghost use Rattle.fux_port.specs.Promises.{Keeps, ServesWhole};
 ghost use Rattle.cert_file.specs.Readings.{Files, GivesEnd, GivesNext, IsAt, ReadsNext, TakesLine, longest_piece, reading_from};
 
 use crate::fault::ReadFault;
-use crate::filling::read_piece;
+use crate::pieces::Pieces;
 use cert_text::{CertFault, Claim, Claims, Taken};
 use fux_port::Shelf;
 use std::marker::Model;
 
-/// How many bytes a piece has at most.
-pub const LONGEST_PIECE: usize = 65_536;
-
-/// How many bytes a certificate has at most.
-const LONGEST_CERTIFICATE: u64 = 1_073_741_824;
-
-/// Where the reading of a certificate's file stands. A piece of the file is read when the one before it is used up.
+/// Where the reading of a certificate's claims stands.
 #[derive(Drop)]
 pub struct Reader {
-    /// The piece that was read last.
-    piece: Vec<u8>,
-    /// How many of its bytes were used.
-    from: usize,
-    /// How many it has.
-    to: usize,
-    /// How many bytes of the file were read.
-    offset: u64,
+    pieces: Pieces,
     claims: Claims,
 }
 
 impl Model for Reader {
-    ghost use Rattle.std.specs.Prelude.{◌-◌, take, drop};
     ghost use Rattle.cert_file.specs.Readings.{IsReading, Reading};
 
     ghost Value = { Reading };
 
-    ghost view = { λ r. record {
-      claims = r.claims;
-      ahead = take (r.to - r.from) (drop r.from r.piece.items);
-      offset = r.offset;
-    } };
+    ghost view = { λ r. record { claims = r.claims; ahead = r.pieces.ahead; offset = r.pieces.offset } };
 
-    ghost invariant = { λ r. IsReading r.piece.items r.from r.to r.offset r.claims };
+    ghost invariant = { λ r. IsReading r.pieces r.claims };
 }
 
 impl Reader {
@@ -54,13 +36,15 @@ impl Reader {
         requires to { to ≤ longest_piece }
         ensures { result ≡ reading_from from (take (to - from) (drop from piece.items)) to }
     {
-        Reader {
-            piece,
-            from,
-            to,
-            offset: to as u64,
-            claims: Claims::new(from as u64),
-        }
+        Reader::behind(Pieces::new(piece, from, to))
+    }
+
+    /// A reader that goes on at the first byte that wasn't used, at which a line begins.
+    pub fn behind(pieces: Pieces) -> Reader
+        ensures { result ≡ reading_from (pieces.offset - length pieces.ahead) pieces.ahead pieces.offset }
+    {
+        let claims = Claims::new(pieces.next());
+        Reader { pieces, claims }
     }
 
     /// The next claim, or none at the end of the file.
@@ -103,9 +87,9 @@ impl Reader {
         ensures offset { self.new.offset ≡ self.old.offset }
         ensures limit { self.old.offset ≤ 1073741824 }
     {
-        match self.claims.take(&self.piece[self.from..self.to]) {
+        match self.claims.take(self.pieces.ahead()) {
             Ok(Taken { used, claim }) => {
-                self.from += used;
+                self.pieces.use_up(used);
                 Ok(claim)
             }
             Err(fault) => Err(fault),
@@ -137,18 +121,6 @@ impl Reader {
         ensures files { F.files shelf.new ≡ F.files shelf.old }
         ensures faults { F.faults shelf.old ≤ F.faults shelf.new }
     {
-        let left = LONGEST_CERTIFICATE - self.offset;
-        // A byte past the end shows that the file is too long.
-        let wanted = (left.min(LONGEST_PIECE as u64) as usize).max(1);
-        let count = read_piece(shelf, name, self.offset, &mut self.piece, wanted)?;
-        if left == 0 && count > 0 {
-            return Err(ReadFault::Text(CertFault::CertEnd {
-                at: LONGEST_CERTIFICATE,
-            }));
-        }
-        self.from = 0;
-        self.to = count;
-        self.offset += count as u64;
-        Ok(count > 0)
+        self.pieces.read_on(shelf, name)
     }
 }

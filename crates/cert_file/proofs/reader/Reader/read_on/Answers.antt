@@ -1,47 +1,18 @@
-use Rattle.std.proofs.Common.{◌<◌, ◌≤◌, nat_lt, length, refl, sym, ap, subst, ◌∙◌, arith}
+use Rattle.std.proofs.Common.{sym, ap, subst, ◌∙◌}
 use Rattle.fux_port.specs.Counts.{Rose}
 use Rattle.cert_file.specs.Readings.{IsAt, Reading}
-use Rattle.cert_file.proofs.PieceLemmas.{beyond_at, reaches, reads_on, written}
+use Rattle.cert_file.proofs.PieceLemmas.{placed, reads_on}
 use Rattle.cert_file.proofs.reader.Reader.read_on.Goals as goal
-
-pub returns-then-count-gt0-clause-reads : goal.returns-then-count-gt0-clause-reads
-returns-then-count-gt0-clause-reads g c = λ front at used_up.
-    let files = g.F.Shelf.files c.args.shelf.now in
-    let name = c.args.name.now in
-    let stands = subst (λ r. IsAt files name front r) (sym c.self.view_is) at in
-    let none = ap (λ (r : Reading). r.ahead) c.self.view_is ∙ used_up in
-    let fits : c.in_ok-count.count ≤ length c.read_piece.new.buf = omega (
-      arith,
-      c.in_ok-count.ensures.fits,
-      c.read_piece.ensures.long,
-      ap length c.deref_mut.ensures.value,
-      c.self.invariant.long,
-      c.max-wanted.ensures,
-      c.min.ensures,
-    ) in
-    beyond_at files name front _ stands none c.if-left-eq0.true c.self.invariant.limit
-    (λ file has. reaches file c.read_piece.new.buf c.self.inside.offset c.in_ok-count.count fits c.if-count-gt0.true
-    (c.in_ok-count.ensures.placed file has))
 
 pub returns-clause-reads : goal.returns-clause-reads
 returns-clause-reads g c = λ front at used_up.
     let files = g.F.Shelf.files c.args.shelf.now in
     let name = c.args.name.now in
+    let claims = c.self.inside.claims in
+    let piece = c.self.inside.pieces in
     let stands = subst (λ r. IsAt files name front r) (sym c.self.view_is) at in
     let none = ap (λ (r : Reading). r.ahead) c.self.view_is ∙ used_up in
-    let fits : c.in_ok-count.count ≤ length c.read_piece.new.buf = omega (
-      arith,
-      c.in_ok-count.ensures.fits,
-      c.read_piece.ensures.long,
-      ap length c.deref_mut.ensures.value,
-      c.self.invariant.long,
-      c.max-wanted.ensures,
-      c.min.ensures,
-    ) in
-    let room : 0 < c.max-wanted.result = omega (arith, c.max-wanted.ensures, c.min.ensures) in
-    reads_on files name front _ stands none c.read_piece.new.buf _ c.args.self.now.claims.begun c.in_ok-count.count
-    (nat_lt 0 c.in_ok-count.count) (Rose (g.F.Shelf.faults c.args.shelf.now) (g.F.Shelf.faults c.read_piece.new.shelf))
-    (ap (λ (r : Reading). r.claims.begun) c.self.view_is) refl
-    (written c.read_piece.new.buf _ _ c.in_ok-count.count fits
-    (omega (arith, fits, c.read_piece.ensures.long, c.deref_mut.ensures.len))) fits
-    c.in_ok-count.ensures.placed (λ zero. c.in_ok-count.ensures.end zero room)
+    reads_on files name front claims piece stands _ c.read_on.new.self
+    (Rose (g.F.Shelf.faults c.args.shelf.now) (g.F.Shelf.faults c.read_on.new.shelf)) c.read_on.result
+    (ap (λ (r : Reading). r.claims.begun) c.self.view_is)
+    (c.read_on.ensures.reads _ (placed files name front claims piece stands) none)
