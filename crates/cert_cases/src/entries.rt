@@ -5,6 +5,7 @@ ghost use Rattle.cert_text.specs.Potentials.{IsPotential};
 ghost use Rattle.fux_grid.specs.Exercises.{IsValid};
 
 use cert_check::{CloseFault, Refused, Stated, Why};
+use cert_entries::Entries;
 use cert_text::{Accepted, CertHead, Claim, Potential};
 use fux_grid::Exercise;
 use fux_text::read;
@@ -120,5 +121,26 @@ fn claims_are_judged_by_what_is_stated(rt: HostRuntime) -> Result<(), Fail> {
     };
     assert!(rt; checker.feed(Claim::NoChain).is_ok());
     assert!(rt; checker.finish() == Ok(Accepted::Nothing));
+    Ok(())
+}
+
+#[test]
+fn an_entry_is_tested_by_its_number(rt: HostRuntime) -> Result<(), Fail> {
+    let alloc = rt.alloc();
+    let Ok(ex) = read(alloc, EXERCISE.as_bytes()) else {
+        return Err("no exercise".into());
+    };
+    let sheet = default_sheet();
+    let Ok(entries) = Entries::open(alloc, &ex, &sheet) else {
+        return Err("not opened".into());
+    };
+    if entries.owed() != ENTRIES {
+        return Err("another number of entries".into());
+    }
+    // Where nothing is stated, no chain goes on; but behind the last place nothing is to come.
+    assert!(rt; entries.is_true(0));
+    assert!(rt; entries.is_true(69));
+    assert!(rt; !entries.is_true(70));
+    assert!(rt; !entries.is_true(72));
     Ok(())
 }
