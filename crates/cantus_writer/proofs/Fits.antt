@@ -60,9 +60,19 @@ found_among test (r ∷ rules) rule all h = at (cases_Bool (test r)) (found_amon
     at (inr f) later = later (rw f at h)
 
 are_between : AllByRecursion Between rules_claimed
-are_between =
-    ((omega arith, omega arith), ((omega arith, omega arith), ((omega arith, omega arith), ((omega arith, omega arith),
-    ((omega arith, omega arith), ((omega arith, omega arith), tt))))))
+are_between = (
+  (omega arith, omega arith),
+  (
+    (omega arith, omega arith),
+    (
+      (omega arith, omega arith),
+      (
+        (omega arith, omega arith),
+        ((omega arith, omega arith), ((omega arith, omega arith), tt)),
+      ),
+    ),
+  ),
+)
 
 module _ (plan : CantusPlan) (said : Said) where
   own_fits : (ps : List Pitch) → IsClaim (first_claim plan said ps)

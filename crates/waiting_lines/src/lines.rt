@@ -10,11 +10,7 @@ use arrayvec::ArrayString;
 use fux_port::{Failed, Sink, write_all};
 
 /// Puts a line behind the bytes that wait to be written. Where it may not fit, they are written first.
-pub fn put<K: Sink>(
-    sink: &mut K,
-    waiting: &mut ArrayString<4096>,
-    line: &str,
-) -> Result<(), Failed>
+pub fn put<K: Sink>(sink: &mut K, waiting: &mut ArrayString<4096>, line: &str) -> Result<(), Failed>
     requires { length line.now ≤ 4096 }
     ensures ok { OnOk result (Puts (K.written sink.old) (K.written sink.new) waiting.old.bytes waiting.new.bytes line.now) }
     ensures cause { OnErr result (Rose (K.faults sink.old) (K.faults sink.new)) }
