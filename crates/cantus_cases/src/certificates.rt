@@ -31,13 +31,7 @@ fn space_between(low: &str, high: &str) -> Result<CantusSpace, Fail> {
     if semitone(low) > semitone(high) {
         return Err("the range falls".into());
     }
-    Ok(CantusSpace::new(
-        Mode::Dorian,
-        3,
-        low,
-        high,
-        &default_sheet(),
-    ))
+    Ok(CantusSpace::new(Mode::Dorian, 3, low, high, &default_sheet()))
 }
 
 fn shelf_of(alloc: Global, certificate: &str) -> Result<MemShelf, Fail> {
