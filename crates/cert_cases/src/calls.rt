@@ -1,7 +1,7 @@
 //! An exercise without a lawful setting: its certificate has one claim, that no chain goes to the end.
 
-use cert_check::{Checker, Verdict, check_file, start, verdict_text};
-use cert_text::Accepted;
+use cert_check::{Checker, Reader, Verdict, check_file, start, verdict_text};
+use cert_text::{Accepted, Form};
 use fux_port::MemShelf;
 use fux_text::read;
 use penalty_sheet::default_sheet;
@@ -39,6 +39,29 @@ fn a_file_is_judged(rt: HostRuntime) -> Result<(), Fail> {
 }
 
 #[test]
+fn a_file_of_the_second_form_is_judged(rt: HostRuntime) -> Result<(), Fail> {
+    let alloc = rt.alloc();
+    let Ok(exercise) = read(alloc, EXERCISE.as_bytes()) else {
+        return Err("no exercise".into());
+    };
+    let sheet = default_sheet();
+    // No chain goes on from the start and from the columns of bars 1 and 2, and nothing is behind those of bar 3.
+    let mut text = String::new(alloc);
+    text.push_str("fux-cert 2\nnone\npotentials\n")?;
+    for number in 0..73 {
+        text.push_str(if number < 49 { "n\n" } else { "p 0\n" })?;
+    }
+    text.push_str("claims\nx\n")?;
+    let mut shelf = MemShelf::new(alloc, &[])?;
+    shelf.put("C", text.as_bytes())?;
+    let Ok(verdict) = check_file(&rt, alloc, &exercise, &sheet, &mut shelf, "C") else {
+        return Err("no verdict".into());
+    };
+    assert!(rt; verdict == Verdict::Accepted(Accepted::Nothing));
+    Ok(())
+}
+
+#[test]
 fn claims_are_read_and_fed(rt: HostRuntime) -> Result<(), Fail> {
     let alloc = rt.alloc();
     let Ok(exercise) = read(alloc, EXERCISE.as_bytes()) else {
@@ -46,9 +69,11 @@ fn claims_are_read_and_fed(rt: HostRuntime) -> Result<(), Fail> {
     };
     let sheet = default_sheet();
     let mut shelf = shelf_of(alloc)?;
-    let Ok((head, mut reader)) = start(alloc, &exercise, &mut shelf, "C") else {
+    let Ok((form, head, pieces)) = start(alloc, &exercise, &mut shelf, "C") else {
         return Err("no head".into());
     };
+    assert!(rt; form == Form::First);
+    let mut reader = Reader::behind(pieces);
     let Ok(mut checker) = Checker::open(&rt, alloc, &exercise, &sheet, head) else {
         return Err("not opened".into());
     };

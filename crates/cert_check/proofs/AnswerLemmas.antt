@@ -1,22 +1,27 @@
--- What is answered where no head stands at the front (`starts_answer`), where the head isn't sound (`unsound_answer`), and
--- where claims are judged (`judged_answer`); and where a menu is too wide (`unopened_headless`) or none is (`unopened_other`).
-use Rattle.std.proofs.Common.{◌≡◌, ◌⊎◌, inl, inr, arith, ℕ, List, Result, Ok, Err, refl, ap, subst, sym}
-use Rattle.std.specs.Prelude.{IfErr, IfOk}
+-- What is answered where no head stands at the front (`starts_answer`), where the head isn't sound (`opening_answer`), and where claims are
+-- judged (`judged_answer`).
+use Rattle.std.proofs.Common.{◌≡◌, ◌⊎◌, ◌-◌, inl, inr, arith, append-nil, length, ℕ, List, None, Result, Ok, Err, refl, ap, subst, sym}
+use Rattle.std.specs.Prelude.{IfErr, IfOk, OnOk}
 use Rattle.cert_check.specs.declared.checker.OpenFault.{OpenFault}
 use Rattle.cert_check.specs.declared.checker.OpenFault.TheVariants as opening
 use Rattle.cert_check.specs.Opening.{TellsWhy}
-use Rattle.cert_check.specs.declared.fault.ReadFault.TheVariants.{Text, Unreadable}
-use Rattle.cert_check.specs.declared.fault.ReadFault.{ReadFault}
-use Rattle.cert_check.specs.Readings.{Files, Reading}
-use Rattle.cert_check.specs.Starts.{IsStarted, Starts}
+use Rattle.cert_file.specs.declared.fault.ReadFault.TheVariants.{Text, Unreadable}
+use Rattle.cert_file.specs.declared.fault.ReadFault.{ReadFault}
+use Rattle.cert_file.specs.Readings.{Files, IsAt, MayBe, Piece, reading_from}
+use Rattle.cert_file.proofs.PieceLemmas.{nothing_begins}
+use Rattle.cert_check.specs.Starts.{IsOpened, IsStarted, Starts}
 use Rattle.cert_text.specs.declared.answers.CertFault.TheVariants.{CertHead as WrongHead, CertWord, CertEnd, Memory}
 use Rattle.cert_text.specs.declared.answers.CertHead.{CertHead}
+use Rattle.cert_text.specs.declared.answers.Form.{Form}
+use Rattle.cert_text.specs.declared.answers.Form.TheVariants.{First}
 use Rattle.cert_text.specs.declared.answers.Refused.{Refused}
-use Rattle.cert_check.specs.Answers.{Answers, FindsBehind, IsHeadless, IsVerdictOn, unopened, unstarted}
+use Rattle.cert_check.specs.Answers.{Answers, FindsBehind, IsVerdictOn, unopened, unstarted}
+use Rattle.cert_check.specs.declared.checking.CheckFault.{CheckFault}
+use Rattle.fux_port.specs.Files.{IsMissing}
 use Rattle.cert_check.specs.Judgments.{Finds, RefusesFor, Shows}
 use Rattle.cert_check.specs.declared.checking.CheckFault.TheVariants as check
-use Rattle.cert_check.specs.declared.verdict.Verdict.{Verdict}
-use Rattle.cert_check.specs.declared.verdict.Verdict.TheVariants as verdict
+use Rattle.cert_file.specs.declared.verdict.Verdict.{Verdict}
+use Rattle.cert_file.specs.declared.verdict.Verdict.TheVariants as verdict
 use Rattle.cert_check.proofs.JudgingLemmas.{begins_front}
 use Rattle.floor_tables.specs.Tables.{AreNarrow, IsTooWide}
 use Rattle.fux_grid.specs.declared.exercise.Exercise.{Exercise}
@@ -28,10 +33,14 @@ verdict_behind : (ex : Exercise) (sheet : Sheet) (bytes : List ℕ) (it : Verdic
     → IsVerdictOn ex sheet it bytes
 verdict_behind ex sheet bytes (verdict.Accepted answer) found = found
 verdict_behind ex sheet bytes (verdict.Claim refused) found = found
-verdict_behind ex sheet bytes (verdict.Text (WrongHead at)) found = absurd found.finds.fault_at
+verdict_behind ex sheet bytes (verdict.Text (WrongHead at)) found =
+    elim found.finds [ inl it ↦ absurd it.fault_at | inr it ↦ absurd it.fault_at ]
 verdict_behind ex sheet bytes (verdict.Text (CertWord at)) found = found
 verdict_behind ex sheet bytes (verdict.Text (CertEnd at)) found = found
 verdict_behind ex sheet bytes (verdict.Text Memory) found = found
+
+not_too_wide : (ex : Exercise) (place : Place) (count : ℕ) → AreNarrow ex → IsTooWide ex place count → ⊥
+not_too_wide ex place count narrow wide = omega (arith, narrow wide.column wide.within, wide.width, wide.wide)
 
 module _ (ex : Exercise) (sheet : Sheet) (files : Files) (name : List ℕ) (rose : Type 0) where
   pub starts_answer : (fault : ReadFault) → Starts ex files name rose (Err fault)
@@ -42,9 +51,10 @@ module _ (ex : Exercise) (sheet : Sheet) (files : Files) (name : List ℕ) (rose
   starts_answer (Text (CertEnd at)) starts = absurd starts
   starts_answer (Text Memory) starts = tt
 
-  unsound_answer : (head : CertHead) (reader : Reading) (refused : Refused) → IsStarted ex files name head reader
+  unsound_answer : (form : Form) (head : CertHead) (piece : Piece) (refused : Refused)
+      → IsStarted ex files name form head piece
       → TellsWhy ex sheet head (opening.Refused refused) → Answers ex sheet files name rose (Ok (verdict.Claim refused))
-  unsound_answer head reader refused started why = record {
+  unsound_answer form head piece refused started why = record {
     bytes = started.at.begins.bytes;
     had = started.at.begins.had;
     such = record {
@@ -52,6 +62,7 @@ module _ (ex : Exercise) (sheet : Sheet) (files : Files) (name : List ℕ) (rose
       finds =
           subst (λ (r : Refused). RefusesFor ex sheet head r.number r.why started.at.begins.bytes) (sym why.2) record {
             numbered = refl;
+            form = form;
             front = started.front;
             begins = begins_front started.at.begins.bytes started.front _ started.at.begins.such;
             heads = started.heads;
@@ -61,35 +72,65 @@ module _ (ex : Exercise) (sheet : Sheet) (files : Files) (name : List ℕ) (rose
     };
   }
 
-  pub opening_answer : (head : CertHead) (reader : Reading) (fault : OpenFault) → IsStarted ex files name head reader
+  pub opening_answer : (form : Form) (head : CertHead) (piece : Piece) (fault : OpenFault)
+      → IsStarted ex files name form head piece
       → TellsWhy ex sheet head fault → Answers ex sheet files name rose (unopened fault)
-  opening_answer head reader (opening.TooWide place count) started why = why
-  opening_answer head reader (opening.Refused refused) started why = unsound_answer head reader refused started why
-  opening_answer head reader opening.Memory started why = tt
+  opening_answer form head piece (opening.TooWide place count) started why = why
+  opening_answer form head piece (opening.Refused refused) started why =
+      unsound_answer form head piece refused started why
+  opening_answer form head piece opening.Memory started why = tt
+
+  -- the same, where the files are those of before, and a count of faults that rose since rose from before
+  pub answers_moved : (earlier : Files) (first : Type 0) (result : Result Verdict CheckFault) → files ≡ earlier
+      → (rose → first)
+      → Answers ex sheet files name rose result → Answers ex sheet earlier name first result
+  answers_moved earlier first (Ok it) same so made =
+      subst (λ fs. MayBe fs name (IsVerdictOn ex sheet it)) same made
+  answers_moved earlier first (Err check.Unreadable) same so (inl failed) = inl (so failed)
+  answers_moved earlier first (Err check.Unreadable) same so (inr missing) =
+      inr (subst (λ fs. IsMissing fs name) same missing)
+  answers_moved earlier first (Err (check.TooWide place count)) same so made = made
+  answers_moved earlier first (Err check.Memory) same so made = tt
+
+  -- no menu is told to be too wide where none is
+  pub narrow_answer : (result : Result Verdict CheckFault) → Answers ex sheet files name rose result → AreNarrow ex
+      → IfErr result (λ f. (f ≡ check.Unreadable) ⊎ (f ≡ check.Memory))
+  narrow_answer (Ok it) made narrow = tt
+  narrow_answer (Err check.Unreadable) made narrow = inl refl
+  narrow_answer (Err (check.TooWide place count)) made narrow = absurd (not_too_wide ex place count narrow made)
+  narrow_answer (Err check.Memory) made narrow = inr refl
 
 -- ---- which answers come where no menu is too wide, and where one is
 
-pub unstarted_missing : (read : Result (CertHead × Reading) ReadFault) (fault : ReadFault) → read ≡ Err fault
+pub unstarted_missing : (read : Result (Form × CertHead × Piece) ReadFault) (fault : ReadFault) → read ≡ Err fault
     → (read ≡ Err Unreadable) ⊎ (read ≡ Err (Text Memory))
     → (unstarted fault ≡ Err check.Unreadable) ⊎ (unstarted fault ≡ Err check.Memory)
 unstarted_missing read fault is (inl e) = let same : fault ≡ Unreadable = cc in inl (ap unstarted same)
 unstarted_missing read fault is (inr e) = let same : fault ≡ Text Memory = cc in inr (ap unstarted same)
 
-not_too_wide : (ex : Exercise) (place : Place) (count : ℕ) → AreNarrow ex → IsTooWide ex place count → ⊥
-not_too_wide ex place count narrow wide = omega (arith, narrow wide.column wide.within, wide.width, wide.wide)
+-- where a head isn't taken, a verdict is that it isn't sound, and no menu is too wide
+pub unopened_narrow : (ex : Exercise) (sheet : Sheet) (head : CertHead) (fault : OpenFault) → TellsWhy ex sheet head fault
+    → OnOk (unopened fault) (AreNarrow ex)
+unopened_narrow ex sheet head (opening.TooWide place count) why = tt
+unopened_narrow ex sheet head (opening.Refused refused) why = why.0
+unopened_narrow ex sheet head opening.Memory why = tt
 
-module _ (ex : Exercise) (sheet : Sheet) (head : CertHead) where
-  pub unopened_other : (fault : OpenFault) → TellsWhy ex sheet head fault → AreNarrow ex
-      → IfErr (unopened fault) (λ f. (f ≡ check.Unreadable) ⊎ (f ≡ check.Memory))
-  unopened_other (opening.TooWide place count) why narrow = absurd (not_too_wide ex place count narrow why)
-  unopened_other (opening.Refused refused) why narrow = tt
-  unopened_other opening.Memory why narrow = inr refl
-
-  pub unopened_headless : (fault : OpenFault) → TellsWhy ex sheet head fault → (AreNarrow ex → ⊥)
-      → IfOk (unopened fault) IsHeadless
-  unopened_headless (opening.TooWide place count) why wide = tt
-  unopened_headless (opening.Refused refused) why wide = absurd (wide why.0)
-  unopened_headless opening.Memory why wide = tt
+-- behind a head of the first form a reader of claims stands
+pub first_opened : (ex : Exercise) (files : Files) (name : List ℕ) (head : CertHead) (piece : Piece)
+    → IsStarted ex files name First head piece
+    → IsOpened ex files name head None (reading_from (piece.offset - length piece.ahead) piece.ahead piece.offset)
+first_opened ex files name head piece started = record {
+  opening = started.front;
+  opens = record { front = started.front; heads = started.heads; fits = tt; is = sym (append-nil started.front) };
+  at = record {
+    begins = started.at.begins;
+    next = omega (arith, started.at.offset);
+    clear = refl;
+    line = nothing_begins;
+    unended = tt;
+    offset = omega (arith, started.at.offset);
+  };
+}
 
 -- what judging found is the answer
 pub judged_answer : (ex : Exercise) (sheet : Sheet) (head : CertHead) (files : Files) (name : List ℕ) (rose : Type 0)

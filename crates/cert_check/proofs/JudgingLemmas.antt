@@ -1,24 +1,27 @@
 -- What the claims that were taken are (`begins`, `takes_on`), how many they are at most (`few`), and what comes behind them.
-use Rattle.std.proofs.Common.{◌≡◌, ◌≢◌, ℕ, ◌+◌, ◌≤◌, List, [], ◌∷◌, ◌++◌, Option, None, Result, length, take, refl, sym, ap, subst, ◌∙◌, arith, append-nil, length-append}
+use Rattle.std.proofs.Common.{◌≡◌, ◌≢◌, ℕ, ◌+◌, ◌≤◌, List, [], ◌∷◌, ◌++◌, Option, None, Result, inl, length, take, refl, sym, ap, subst, ◌∙◌, arith, append-nil, length-append}
 use Rattle.std.proofs.lemmas.List.{flat_map_more, take-take}
 use Rattle.std.proofs.Math.Seq.{take-append_seam}
 use Rattle.std.specs.Io.{StartsWith}
+use Rattle.std.specs.Prelude.{IfSome}
 use Rattle.std.specs.List.{AllByRecursion, flat_map}
 use Rattle.cert_check.specs.Checking.{Checking, IsFault, Refuses, Takes, TakesOf, accepted_of}
 use Rattle.cert_law.specs.Certificates.{IsCertified, IsHeadSound, owed_by}
 use Rattle.cert_law.specs.Claims.{IsTrueOf}
-use Rattle.cert_check.specs.Readings.{FaultAt, Files, Gives, IsAt, MayBe, Reading, judged_bytes, longest_certificate}
-use Rattle.cert_check.specs.declared.fault.ReadFault.{ReadFault}
-use Rattle.cert_check.specs.Starts.{IsStarted}
-use Rattle.cert_check.proofs.LineLemmas.{begins_judged}
+use Rattle.cert_file.specs.Readings.{FaultAt, Files, Gives, IsAt, MayBe, Reading, judged_bytes, longest_certificate}
+use Rattle.cert_file.specs.declared.fault.ReadFault.{ReadFault}
+use Rattle.cert_check.specs.Starts.{IsOpened}
+use Rattle.cert_law.specs.Entries.{AreTrueEntries}
+use Rattle.cert_file.proofs.LineLemmas.{begins_judged}
 use Rattle.cert_text.specs.declared.answers.CertFault.{CertFault}
 use Rattle.cert_text.specs.declared.answers.CertHead.{CertHead}
 use Rattle.cert_text.specs.declared.answers.Refused.{Refused}
 use Rattle.cert_text.specs.declared.answers.Why.TheVariants.{Short}
 use Rattle.cert_text.specs.declared.claim.Claim.{Claim}
+use Rattle.cert_text.specs.declared.potential.Potential.{Potential}
 use Rattle.cert_text.specs.Lines.{IsClaim, claim_line, claim_word}
-use Rattle.cert_check.specs.declared.verdict.Verdict.{Verdict}
-use Rattle.cert_check.specs.declared.verdict.Verdict.TheVariants as verdicts
+use Rattle.cert_file.specs.declared.verdict.Verdict.{Verdict}
+use Rattle.cert_file.specs.declared.verdict.Verdict.TheVariants as verdicts
 use Rattle.cert_check.specs.Judgments.{Finds, IsFresh, IsTaken, Leaves, RefusesFor}
 use Rattle.fux_grid.specs.declared.cell.Cell.{Cell}
 use Rattle.fux_grid.specs.declared.exercise.Exercise.{Exercise}
@@ -36,45 +39,45 @@ pub record IsOn (files : Files) (name : List ℕ) (start : Checking) (reader : R
   where
     pub now : List ℕ
     pub at : IsAt files name now reader
-    pub taken : IsTaken start.exercise start.sheet start.head checker.count checker.owed now
+    pub taken : IsTaken start.exercise start.sheet start.head start.stated checker.count checker.owed now
     pub same : checker ≡ record start { owed = checker.owed; count = checker.count }
     pub clear : start.refusal ≡ None
-    pub unstated : start.stated ≡ None
 
-module _ (ex : Exercise) (sheet : Sheet) (head : CertHead) where
+module _ (ex : Exercise) (sheet : Sheet) (head : CertHead) (stated : Option (List Potential)) where
   -- one more true claim
   leaves_more : (owed : List (List (List Cell))) (claims : List Claim) (p : List (List Cell))
       (later : List (List (List Cell))) (claim : Claim)
-      → Leaves ex sheet head owed claims (p ∷ later) → IsTrueOf ex sheet head None p claim
-      → Leaves ex sheet head owed (claims ++ claim ∷ []) (owed_by ex p claim ++ later)
+      → Leaves ex sheet head stated owed claims (p ∷ later) → IsTrueOf ex sheet head stated p claim
+      → Leaves ex sheet head stated owed (claims ++ claim ∷ []) (owed_by ex p claim ++ later)
   leaves_more owed [] p later claim left holds =
-      subst (λ (ps : List (List (List Cell))). Leaves ex sheet head ps (claim ∷ []) (owed_by ex p claim ++ later))
+      subst (λ (ps : List (List (List Cell))). Leaves ex sheet head stated ps (claim ∷ []) (owed_by ex p claim ++ later))
       (sym left) (holds, refl)
   leaves_more [] (other ∷ claims) p later claim left holds = absurd left
   leaves_more (q ∷ owed) (other ∷ claims) p later claim left holds =
       (left.0, leaves_more (owed_by ex q other ++ owed) claims p later claim left.1 holds)
 
   -- claims that leave none are certified
-  pub leaves_none : (owed : List (List (List Cell))) (claims : List Claim) → Leaves ex sheet head owed claims []
-      → IsCertified ex sheet head None owed claims
+  pub leaves_none : (owed : List (List (List Cell))) (claims : List Claim) → Leaves ex sheet head stated owed claims []
+      → IsCertified ex sheet head stated owed claims
   leaves_none [] [] left = tt
   leaves_none (p ∷ owed) [] left = cc
   leaves_none [] (claim ∷ claims) left = left
   leaves_none (p ∷ owed) (claim ∷ claims) left = (left.0, leaves_none (owed_by ex p claim ++ owed) claims left.1)
 
   pub taken_more : (count : ℕ) (p : List (List Cell)) (later : List (List (List Cell))) (bytes : List ℕ) (claim : Claim)
-      → IsTaken ex sheet head count (p ∷ later) bytes → IsClaim claim → IsTrueOf ex sheet head None p claim
-      → IsTaken ex sheet head (count + 1) (owed_by ex p claim ++ later) (bytes ++ claim_line claim)
+      → IsTaken ex sheet head stated count (p ∷ later) bytes → IsClaim claim → IsTrueOf ex sheet head stated p claim
+      → IsTaken ex sheet head stated (count + 1) (owed_by ex p claim ++ later) (bytes ++ claim_line claim)
   taken_more count p later bytes claim taken fits holds = record {
     sound = taken.sound;
+    entries = taken.entries;
     claims = taken.claims ++ claim ∷ [];
     counted = length-append taken.claims (claim ∷ []) ∙ ap (λ n. n + 1) taken.counted;
     text = record {
-      front = taken.text.front;
-      heads = taken.text.heads;
+      opening = taken.text.opening;
+      opens = taken.text.opens;
       fits = all_more taken.claims taken.text.fits;
       is = ap (λ xs. xs ++ claim_line claim) taken.text.is
-          ∙ flat_map_more claim_line taken.text.front taken.claims claim;
+          ∙ flat_map_more claim_line taken.text.opening taken.claims claim;
     };
     left = leaves_more ([] ∷ []) taken.claims p later claim taken.left holds;
   }
@@ -84,7 +87,7 @@ module _ (ex : Exercise) (sheet : Sheet) (head : CertHead) where
       all_more (other ∷ claims) all = (all.0, all_more claims all.1)
 
   -- there are no more claims than bytes
-  pub few : (count : ℕ) (owed : List (List (List Cell))) (bytes : List ℕ) → IsTaken ex sheet head count owed bytes
+  pub few : (count : ℕ) (owed : List (List (List Cell))) (bytes : List ℕ) → IsTaken ex sheet head stated count owed bytes
       → count ≤ length bytes
   few count owed bytes taken =
       omega (
@@ -92,7 +95,7 @@ module _ (ex : Exercise) (sheet : Sheet) (head : CertHead) where
         taken.counted,
         lines taken.claims,
         ap length taken.text.is,
-        length-append taken.text.front
+        length-append taken.text.opening
             (flat_map claim_line taken.claims),
       )
     where
@@ -108,20 +111,26 @@ module _ (ex : Exercise) (sheet : Sheet) (head : CertHead) where
 
 module _ (files : Files) (name : List ℕ) (start : Checking) where
   pub begins : (reader : Reading) → IsFresh start → IsHeadSound start.exercise start.sheet start.head
-      → IsStarted start.exercise files name start.head reader → IsOn files name start reader start
-  begins reader fresh sound started = record {
-    now = started.front;
-    at = started.at;
+      → IfSome start.stated (AreTrueEntries start.exercise start.sheet)
+      → IsOpened start.exercise files name start.head start.stated reader → IsOn files name start reader start
+  begins reader fresh sound entries opened = record {
+    now = opened.opening;
+    at = opened.at;
     taken = record {
       sound = sound;
+      entries = entries;
       claims = [];
       counted = sym fresh.count;
-      text = record { front = started.front; heads = started.heads; fits = tt; is = sym (append-nil started.front) };
+      text = record {
+        opening = opened.opening;
+        opens = opened.opens;
+        fits = tt;
+        is = sym (append-nil opened.opening);
+      };
       left = sym fresh.owed;
     };
     same = refl;
     clear = fresh.clear;
-    unstated = fresh.stated;
   }
 
   module _ (reader : Reading) (checker : Checking) (on : IsOn files name start reader checker) where
@@ -134,7 +143,7 @@ module _ (files : Files) (name : List ℕ) (start : Checking) where
       arith,
       limit,
       on.at.offset,
-      few start.exercise start.sheet start.head checker.count
+      few start.exercise start.sheet start.head start.stated checker.count
           checker.owed on.now on.taken,
     )
 
@@ -165,20 +174,18 @@ module _ (files : Files) (name : List ℕ) (start : Checking) where
             → IsOn files name start after new
         by [] are it = absurd it
         by (p ∷ later) are it =
-            let taken = subst (λ ps. IsTaken start.exercise start.sheet start.head checker.count ps on.now) are on.taken
+            let taken = subst (λ ps. IsTaken start.exercise start.sheet start.head start.stated checker.count ps on.now) are on.taken
             in
             record {
               now = on.now ++ claim_line claim;
               at = at;
               taken = subst
-                  (λ (c : Checking). IsTaken start.exercise start.sheet start.head c.count c.owed
+                  (λ (c : Checking). IsTaken start.exercise start.sheet start.head start.stated c.count c.owed
                   (on.now ++ claim_line claim))
-                  (sym it.1) (taken_more start.exercise start.sheet start.head checker.count p later on.now claim taken
-                  fits (subst (λ stated. IsTrueOf start.exercise start.sheet start.head stated p claim) on.unstated
-                  it.0));
+                  (sym it.1) (taken_more start.exercise start.sheet start.head start.stated checker.count p later
+                  on.now claim taken fits it.0);
               same = subst (λ (c : Checking). c ≡ record start { owed = c.owed; count = c.count }) (sym it.1) refl;
               clear = on.clear;
-              unstated = on.unstated;
             }
 
     pub refuses_next : (claim : Claim) (refused : Refused) (new : Checking) (after : Reading) → IsClaim claim
@@ -200,10 +207,11 @@ module _ (files : Files) (name : List ℕ) (start : Checking) where
           had = at.begins.had;
           such = subst (λ (r : Refused). RefusesFor start.exercise start.sheet start.head r.number r.why
               at.begins.bytes) (sym it) record {
+                stated = start.stated;
                 count = checker.count;
                 numbered = refl;
                 front = on.now;
-                taken = subst (λ ps. IsTaken start.exercise start.sheet start.head checker.count ps on.now) are on.taken;
+                taken = subst (λ ps. IsTaken start.exercise start.sheet start.head start.stated checker.count ps on.now) are on.taken;
                 claim = claim;
                 fits = fits;
                 begins = line;
@@ -214,17 +222,17 @@ module _ (files : Files) (name : List ℕ) (start : Checking) where
           had = at.begins.had;
           such = subst (λ (r : Refused). RefusesFor start.exercise start.sheet start.head r.number r.why
               at.begins.bytes) (sym it.1) record {
+                stated = start.stated;
                 count = checker.count;
                 numbered = refl;
                 next = p;
                 owed = later;
                 front = on.now;
-                taken = subst (λ ps. IsTaken start.exercise start.sheet start.head checker.count ps on.now) are on.taken;
+                taken = subst (λ ps. IsTaken start.exercise start.sheet start.head start.stated checker.count ps on.now) are on.taken;
                 claim = claim;
                 fits = fits;
                 begins = line;
-                untrue = subst (λ stated. IsTrueOf start.exercise start.sheet start.head stated p claim → ⊥)
-                    on.unstated it.0;
+                untrue = it.0;
               };
         }
 
@@ -233,13 +241,14 @@ module _ (files : Files) (name : List ℕ) (start : Checking) where
     finds_fault fault known = record {
       bytes = known.bytes;
       had = known.had;
-      such = record {
+      such = inl (record {
+        stated = start.stated;
         count = checker.count;
         owed = checker.owed;
         front = on.now;
         taken = on.taken;
         fault_at = known.such;
-      };
+      });
     }
 
     pub finds_end : (verdict : Verdict) → reader.offset ≤ 1073741824 → MayHave files name on.now
@@ -251,7 +260,7 @@ module _ (files : Files) (name : List ℕ) (start : Checking) where
         by : (owed : List (List (List Cell))) → checker.owed ≡ owed
             → Finds start.exercise start.sheet start.head files name verdict
         by [] are =
-            let taken = subst (λ ps. IsTaken start.exercise start.sheet start.head checker.count ps on.now) are on.taken
+            let taken = subst (λ ps. IsTaken start.exercise start.sheet start.head start.stated checker.count ps on.now) are on.taken
             in
             subst (Finds start.exercise start.sheet start.head files name) (sym (accepted are)) record {
               bytes = on.now;
@@ -259,13 +268,14 @@ module _ (files : Files) (name : List ℕ) (start : Checking) where
               such = (
                 ap (λ (c : Checking). accepted_of c.head) on.same,
                 record {
+                  stated = start.stated;
                   claims = taken.claims;
                   text = taken.text;
                   short = omega (arith, limit, on.at.offset);
                   valid = record {
                     sound = taken.sound;
-                    entries = tt;
-                    certified = leaves_none start.exercise start.sheet start.head ([] ∷ []) taken.claims taken.left;
+                    entries = taken.entries;
+                    certified = leaves_none start.exercise start.sheet start.head start.stated ([] ∷ []) taken.claims taken.left;
                   };
                 },
               );
@@ -276,12 +286,13 @@ module _ (files : Files) (name : List ℕ) (start : Checking) where
               bytes = on.now;
               had = had;
               such = record {
+                stated = start.stated;
                 count = checker.count;
                 numbered = refl;
                 next = p;
                 owed = later;
                 taken =
-                    subst (λ ps. IsTaken start.exercise start.sheet start.head checker.count ps on.now) are on.taken;
+                    subst (λ ps. IsTaken start.exercise start.sheet start.head start.stated checker.count ps on.now) are on.taken;
                 short = omega (arith, limit, on.at.offset);
               };
             }

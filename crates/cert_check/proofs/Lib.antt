@@ -1,12 +1,11 @@
 pub mod AnswerLemmas
 pub mod CellTests
 pub mod CheckingLemmas
-pub mod FileLemmas
+pub mod EnteringLemmas
 pub mod HeadLemmas
 pub mod JudgingLemmas
-pub mod LineLemmas
 pub mod OneVerdict
-pub mod PieceLemmas
 pub mod RunLemmas
 pub mod StartLemmas
-pub mod TextLemmas
+pub mod ToldClaims
+pub mod ToldEntries

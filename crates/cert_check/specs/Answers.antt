@@ -2,18 +2,18 @@
 use Rattle.std.specs.Prelude.{◌≡◌, ◌⊎◌, ℕ, List, Result, Ok, Err, ⊤}
 use Rattle.cert_check.specs.declared.checker.OpenFault.{OpenFault}
 use Rattle.cert_check.specs.declared.checker.OpenFault.TheVariants as opening
-use Rattle.cert_check.specs.declared.fault.ReadFault.{ReadFault}
-use Rattle.cert_check.specs.declared.fault.ReadFault.TheVariants as reading
-use Rattle.cert_check.specs.Readings.{Files, MayBe}
+use Rattle.cert_file.specs.declared.fault.ReadFault.{ReadFault}
+use Rattle.cert_file.specs.declared.fault.ReadFault.TheVariants as reading
+use Rattle.cert_file.specs.Readings.{Files, MayBe}
 use Rattle.cert_text.specs.declared.answers.CertFault.TheVariants.{CertHead as WrongHead, Memory as NoMemory}
 use Rattle.cert_text.specs.declared.answers.CertHead.{CertHead}
-use Rattle.cert_text.specs.declared.answers.Form.TheVariants.{First}
+use Rattle.cert_text.specs.declared.answers.Form.TheVariants.{Second}
 use Rattle.cert_text.specs.HeadTexts.{TextStops}
 use Rattle.cert_check.specs.Judgments.{FindsIn, Shows}
 use Rattle.cert_check.specs.declared.checking.CheckFault.{CheckFault}
 use Rattle.cert_check.specs.declared.checking.CheckFault.TheVariants.{Unreadable, TooWide, Memory}
-use Rattle.cert_check.specs.declared.verdict.Verdict.{Verdict}
-use Rattle.cert_check.specs.declared.verdict.Verdict.TheVariants as verdict
+use Rattle.cert_file.specs.declared.verdict.Verdict.{Verdict}
+use Rattle.cert_file.specs.declared.verdict.Verdict.TheVariants as verdict
 use Rattle.floor_tables.specs.Tables.{IsTooWide}
 use Rattle.fux_grid.specs.declared.exercise.Exercise.{Exercise}
 use Rattle.fux_grid.specs.Exercises.{IsValid}
@@ -28,7 +28,7 @@ pub record FindsBehind (ex : Exercise) (sheet : Sheet) (it : Verdict) (bytes : L
 
 -- what a verdict says of bytes: no head stands at their front, or what is found behind it
 abbrev pub IsVerdictOn : Exercise → Sheet → Verdict → List ℕ → Type 0
-IsVerdictOn ex sheet (verdict.Text (WrongHead at)) bytes = TextStops ex First bytes at
+IsVerdictOn ex sheet (verdict.Text (WrongHead at)) bytes = TextStops ex Second bytes at
 IsVerdictOn ex sheet it bytes = FindsBehind ex sheet it bytes
 
 -- bytes have one verdict

@@ -1,8 +1,8 @@
 pub mod Answers
 pub mod Checking
+pub mod Entering
 pub mod Judgments
 pub mod Opening
-pub mod Readings
 pub mod Runs
 pub mod Starts
-pub mod Verdicts
+pub mod Stating

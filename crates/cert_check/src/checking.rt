@@ -1,9 +1,11 @@
 //! The file of a certificate, from its name to the verdict.
 
-ghost use Rattle.std.specs.Prelude.{◌≡◌, ◌≢◌, ◌+◌, ◌≤◌, ◌⊎◌, Err, IfErr, IfOk};
+ghost use Rattle.std.specs.Prelude.{◌≡◌, ◌≢◌, ◌+◌, ◌≤◌, ◌⊎◌, Err, IfErr, IfOk, OnOk};
 ghost use Rattle.cert_text.specs.declared.answers.CertHead.{CertHead as AHead};
 ghost use Rattle.cert_check.specs.Answers.{Answers, IsHeadless, unopened, unstarted};
-ghost use Rattle.cert_check.specs.Judgments.{AcceptsValid};
+ghost use Rattle.cert_check.specs.Entering.{unclosed};
+ghost use Rattle.cert_check.specs.Judgments.{AcceptsValid, IsFresh};
+ghost use Rattle.cert_check.specs.Starts.{IsOpened, IsStarted};
 ghost use Rattle.floor_tables.specs.Tables.{AreNarrow};
 ghost use Rattle.fux_grid.specs.Exercises.{IsValid};
 ghost use Rattle.fux_port.specs.Counts.{Rose};
@@ -11,11 +13,13 @@ ghost use Rattle.fux_port.specs.Files.{IsMissing};
 ghost use Rattle.fux_port.specs.Promises.{ServesWhole};
 
 use crate::checker::{Checker, OpenFault};
-use crate::fault::ReadFault;
+use crate::entering::enter;
 use crate::judging::judge;
 use crate::starting::start;
-use crate::verdict::Verdict;
-use cert_text::CertFault;
+use crate::stated::{CloseFault, Stated};
+use cert_file::{Pieces, ReadFault, Reader, StatedReader, Verdict};
+use cert_law::Tails;
+use cert_text::{CertFault, CertHead, Form};
 use fux_grid::{Exercise, Place};
 use fux_port::{Failed, Shelf};
 use penalty_sheet::Sheet;
@@ -67,21 +71,108 @@ pub fn check_file<R: Threads + Sync, F: Shelf>(
     ensures files { F.files shelf.new ≡ F.files shelf.old }
     ensures faults { F.faults shelf.old ≤ F.faults shelf.new }
 {
-    let (head, mut reader) = match start(alloc, ex, shelf, name) {
+    let (form, head, pieces) = match start(alloc, ex, shelf, name) {
         Ok(started) => started,
         Err(fault) => return not_started(fault),
     };
+    match form {
+        Form::First => check_first(rt, alloc, ex, sheet, shelf, name, head, pieces),
+        Form::Second => check_second(rt, alloc, ex, sheet, shelf, name, head, pieces),
+    }
+}
+
+/// Judges the claims behind a head of the first form.
+fn check_first<R: Threads + Sync, F: Shelf>(
+    rt: &R,
+    alloc: Global,
+    ex: &Exercise,
+    sheet: &Sheet,
+    shelf: &mut F,
+    name: &str,
+    head: CertHead,
+    pieces: Pieces,
+) -> Result<Verdict, CheckFault>
+    requires valid { IsValid ex.now }
+    requires started { IsStarted ex.now (F.files shelf.old) name.now Form.First head pieces }
+    requires limit { pieces.offset ≤ 1073741824 }
+    ensures answers { Answers ex.now sheet.now (F.files shelf.old) name.now
+        (Rose (F.faults shelf.old) (F.faults shelf.new)) result }
+    ensures narrow { OnOk result (AreNarrow ex.now) }
+    ensures served { ServesWhole (F.serves shelf.old) name.now 1073741824
+        → IfErr result (λ fault. fault ≢ CheckFault.Unreadable) }
+    ensures little { F.given shelf.new + pieces.offset ≤ F.given shelf.old + 1073741825 }
+    ensures files { F.files shelf.new ≡ F.files shelf.old }
+    ensures faults { F.faults shelf.old ≤ F.faults shelf.new }
+{
     let checker = match Checker::open(rt, alloc, ex, sheet, head) {
         Ok(checker) => checker,
         Err(fault) => return not_opened(fault),
     };
+    judge_claims(shelf, name, Reader::behind(pieces), checker)
+}
+
+/// Judges what is stated behind a head of the second form, and then the claims.
+fn check_second<R: Threads + Sync, F: Shelf>(
+    rt: &R,
+    alloc: Global,
+    ex: &Exercise,
+    sheet: &Sheet,
+    shelf: &mut F,
+    name: &str,
+    head: CertHead,
+    pieces: Pieces,
+) -> Result<Verdict, CheckFault>
+    requires valid { IsValid ex.now }
+    requires started { IsStarted ex.now (F.files shelf.old) name.now Form.Second head pieces }
+    requires limit { pieces.offset ≤ 1073741824 }
+    ensures answers { Answers ex.now sheet.now (F.files shelf.old) name.now
+        (Rose (F.faults shelf.old) (F.faults shelf.new)) result }
+    ensures narrow { OnOk result (AreNarrow ex.now) }
+    ensures served { ServesWhole (F.serves shelf.old) name.now 1073741824
+        → IfErr result (λ fault. fault ≢ CheckFault.Unreadable) }
+    ensures little { F.given shelf.new + pieces.offset ≤ F.given shelf.old + 1073741825 }
+    ensures files { F.files shelf.new ≡ F.files shelf.old }
+    ensures faults { F.faults shelf.old ≤ F.faults shelf.new }
+{
+    let mut stated = match Stated::open(alloc, ex, sheet, head) {
+        Ok(stated) => stated,
+        Err(fault) => return not_opened(fault),
+    };
+    let mut reader = StatedReader::behind(pieces, stated.owed());
+    if let Err(fault) = enter(shelf, name, &mut reader, &mut stated) {
+        return not_started(fault);
+    }
+    match stated.close(rt, alloc) {
+        Ok(checker) => judge_claims(shelf, name, reader.claims(), checker),
+        Err(fault) => not_closed(fault),
+    }
+}
+
+/// Judges the claims behind what was opened.
+fn judge_claims<F: Shelf, T: Tails + Drop>(
+    shelf: &mut F,
+    name: &str,
+    mut reader: Reader,
+    checker: Checker<'_, T>,
+) -> Result<Verdict, CheckFault>
+    requires valid { IsValid checker.exercise }
+    requires fresh { IsFresh checker }
+    requires opened { IsOpened checker.exercise (F.files shelf.old) name.now checker.head checker.stated reader }
+    ensures answers { Answers checker.entry.exercise checker.entry.sheet (F.files shelf.old) name.now
+        (Rose (F.faults shelf.old) (F.faults shelf.new)) result }
+    ensures served { ServesWhole (F.serves shelf.old) name.now 1073741824
+        → IfErr result (λ fault. fault ≢ CheckFault.Unreadable) }
+    ensures little { F.given shelf.new + reader.offset ≤ F.given shelf.old + 1073741825 }
+    ensures files { F.files shelf.new ≡ F.files shelf.old }
+    ensures faults { F.faults shelf.old ≤ F.faults shelf.new }
+{
     match judge(shelf, name, &mut reader, checker) {
         Ok(verdict) => Ok(verdict),
         Err(Failed) => Err(CheckFault::Unreadable),
     }
 }
 
-/// The answer where no head was read.
+/// The answer where no head was read, or not all that is stated.
 fn not_started(fault: ReadFault) -> Result<Verdict, CheckFault>
     ensures { result ≡ unstarted fault }
 {
@@ -100,5 +191,15 @@ fn not_opened(fault: OpenFault) -> Result<Verdict, CheckFault>
         OpenFault::TooWide { place, count } => Err(CheckFault::TooWide { place, count }),
         OpenFault::Refused(refused) => Ok(Verdict::Claim(refused)),
         OpenFault::Memory => Err(CheckFault::Memory),
+    }
+}
+
+/// The answer where an entry isn't true.
+fn not_closed(fault: CloseFault) -> Result<Verdict, CheckFault>
+    ensures { result ≡ unclosed fault }
+{
+    match fault {
+        CloseFault::Refused(refused) => Ok(Verdict::Claim(refused)),
+        CloseFault::Memory => Err(CheckFault::Memory),
     }
 }

@@ -2,31 +2,29 @@
 
 ghost use Rattle.std.specs.Prelude.{◌≡◌, ◌≢◌, ◌+◌, ◌^◌, ◌≤◌, [], None, IfOk, IsOk, OnErr};
 ghost use Rattle.cert_check.specs.Checking.{accepted_of};
-ghost use Rattle.cert_check.specs.Starts.{IsStarted};
+ghost use Rattle.cert_check.specs.Starts.{IsOpened};
 ghost use Rattle.cert_text.specs.declared.answers.Why.TheVariants as whys;
 ghost use Rattle.cert_check.specs.Judgments.{AcceptsValid, Finds, IsFresh, Shows};
-ghost use Rattle.cert_check.specs.declared.verdict.Verdict.TheVariants as verdicts;
+ghost use Rattle.cert_file.specs.declared.verdict.Verdict.TheVariants as verdicts;
 ghost use Rattle.fux_grid.specs.Exercises.{IsValid};
 ghost use Rattle.fux_port.specs.Counts.{Rose};
 ghost use Rattle.fux_port.specs.Promises.{ServesWhole};
 
 use crate::checker::Checker;
-use crate::fault::ReadFault;
-use crate::reader::Reader;
-use crate::verdict::Verdict;
-use floor_tables::Tables;
+use cert_file::{ReadFault, Reader, Verdict};
+use cert_law::Tails;
 use fux_port::{Failed, Shelf};
 
-/// Judges the claims behind a head, each as it is read, up to the first thing that is wrong or the end of the file.
-pub fn judge<F: Shelf>(
+/// Judges the claims behind a head and what is stated, each as it is read, up to the first thing that is wrong or the end of the file.
+pub fn judge<F: Shelf, T: Tails + Drop>(
     shelf: &mut F,
     name: &str,
     reader: &mut Reader,
-    mut checker: Checker<'_, Tables<'_>>,
+    mut checker: Checker<'_, T>,
 ) -> Result<Verdict, Failed>
     requires valid { IsValid checker.exercise }
     requires fresh { IsFresh checker }
-    requires started { IsStarted checker.exercise (F.files shelf.old) name.now checker.head reader.old }
+    requires opened { IsOpened checker.exercise (F.files shelf.old) name.now checker.head checker.stated reader.old }
     ensures finds { IfOk result
         (Finds checker.entry.exercise checker.entry.sheet checker.entry.head (F.files shelf.old) name.now) }
     ensures shown { IfOk result (Shows checker.entry.exercise checker.entry.sheet checker.entry.head) }
@@ -56,7 +54,7 @@ pub fn judge<F: Shelf>(
 }
 
 /// The verdict where the file ends behind the claims that were taken.
-fn at_end(checker: &Checker<'_, Tables<'_>>) -> Verdict
+fn at_end<T: Tails + Drop>(checker: &Checker<'_, T>) -> Verdict
     requires count { checker.now.count ≤ 2 ^ 40 }
     requires clear { checker.now.refusal ≡ None }
     ensures accepted { checker.now.owed ≡ [] → result ≡ verdicts.Accepted (accepted_of checker.now.head) }

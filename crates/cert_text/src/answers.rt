@@ -44,14 +44,14 @@ pub enum CertWrite {
     Memory,
 }
 
-/// A claim that is refused, counted from 1, or the head as claim 0.
+/// A claim that is refused, counted from 1, or the head as claim 0; or a number that is stated, counted from 1, the start's first.
 #[derive(Clone, Copy, Debug, PartialEq, Eq)]
 pub struct Refused {
     pub number: u64,
     pub why: Why,
 }
 
-/// Why a claim is refused.
+/// Why a claim, a head, or a number that is stated is refused.
 #[derive(Clone, Copy, Debug, PartialEq, Eq)]
 pub enum Why {
     /// The head's setting isn't lawful, or has another penalty.
@@ -62,6 +62,8 @@ pub enum Why {
     Over,
     /// A claim is owed and there is none.
     Short,
+    /// A stated number isn't true of its column, or of the start.
+    Potential,
 }
 
 /// What a certificate that is accepted shows.

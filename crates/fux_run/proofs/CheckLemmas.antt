@@ -1,14 +1,14 @@
 -- What `check` makes of its files (`checked_said`), and that no certificate whose verdict is told is missing (`written_is_there`,
 -- `part_is_there`).
 use Rattle.std.proofs.Common.{◌≡◌, ◌⊎◌, ℕ, zero, suc, ◌<◌, List, [], ◌∷◌, Contains, Option, Result, Ok, Err, get_or, inl, inr, refl, ap, sym, subst, ◌∙◌, arith}
-use Rattle.cert_check.specs.Readings.{MayBe}
+use Rattle.cert_file.specs.Readings.{MayBe}
 use Rattle.cert_text.specs.declared.answers.CertHead.{CertHead}
 use Rattle.cert_check.specs.Answers.{IsVerdictOn}
 use Rattle.cert_check.proofs.OneVerdict.{one_verdict}
-use Rattle.cert_check.proofs.TextLemmas.{such_of}
+use Rattle.cert_file.proofs.TextLemmas.{such_of}
 use Rattle.cert_check.specs.Judgments as cert
-use Rattle.cert_check.specs.declared.verdict.Verdict.{Verdict as CertVerdict}
-use Rattle.cert_check.specs.declared.verdict.Verdict.TheVariants.{Accepted, Claim, Text}
+use Rattle.cert_file.specs.declared.verdict.Verdict.{Verdict as CertVerdict}
+use Rattle.cert_file.specs.declared.verdict.Verdict.TheVariants.{Accepted, Claim, Text}
 use Rattle.fux_grid.specs.declared.exercise.Exercise.{Exercise}
 use Rattle.fux_grid.specs.Exercises.{IsValid}
 use Rattle.fux_port.specs.Files.{IsMissing}

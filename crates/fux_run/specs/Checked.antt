@@ -2,13 +2,13 @@
 use Rattle.std.specs.Prelude.{◌≡◌, ℕ, ◌⊎◌, List, Result, Ok, Err}
 use Rattle.cert_check.specs.Checking.{accepted_of}
 use Rattle.cert_law.specs.Certificates.{Holds}
-use Rattle.cert_check.specs.Readings.{Files, MayBe}
+use Rattle.cert_file.specs.Readings.{Files, MayBe}
 use Rattle.cert_text.specs.declared.answers.CertHead.{CertHead}
 use Rattle.cert_check.specs.Answers.{IsVerdictOn}
 use Rattle.cert_check.specs.Judgments.{IsCertificateText}
-use Rattle.cert_check.specs.declared.verdict.Verdict.{Verdict as CertVerdict}
-use Rattle.cert_check.specs.declared.verdict.Verdict.TheVariants.{Accepted, Claim, Text}
-use Rattle.cert_check.specs.Verdicts.{verdict_line}
+use Rattle.cert_file.specs.declared.verdict.Verdict.{Verdict as CertVerdict}
+use Rattle.cert_file.specs.declared.verdict.Verdict.TheVariants.{Accepted, Claim, Text}
+use Rattle.cert_file.specs.Verdicts.{verdict_line}
 use Rattle.fux_grid.specs.declared.exercise.Exercise.{Exercise}
 use Rattle.fux_port.specs.Counts.{Rose}
 use Rattle.fux_port.specs.Files.{HasFile, IsMissing}

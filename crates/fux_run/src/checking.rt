@@ -1,7 +1,7 @@
 //! The command `check`.
 
 ghost use Rattle.std.specs.Prelude.{◌≡◌, ◌≤◌, IfErr, IfOk, OnOk};
-ghost use Rattle.cert_check.specs.declared.verdict.Verdict.{Verdict as AVerdict};
+ghost use Rattle.cert_file.specs.declared.verdict.Verdict.{Verdict as AVerdict};
 ghost use Rattle.fux_grid.specs.Exercises.{IsValid};
 ghost use Rattle.fux_port.specs.Promises.{ServesWhole};
 ghost use Rattle.fux_run.specs.Blame.{IsReadWithin};

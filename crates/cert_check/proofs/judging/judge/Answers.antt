@@ -1,14 +1,24 @@
-use Rattle.std.proofs.Common.{Option, Ok, Err, sym, subst, ◌∙◌, arith}
+use Rattle.std.proofs.Common.{Option, Ok, Err, refl, sym, subst, ◌∙◌, arith}
 use Rattle.fux_port.specs.Counts.{Rose}
 use Rattle.cert_text.specs.declared.answers.CertFault.{CertFault}
 use Rattle.cert_text.specs.declared.claim.Claim.{Claim}
-use Rattle.cert_check.specs.Readings.{Gives}
-use Rattle.cert_check.specs.declared.fault.ReadFault.{ReadFault}
-use Rattle.cert_check.specs.declared.verdict.Verdict.TheVariants as verdicts
+use Rattle.cert_file.specs.Readings.{Gives}
+use Rattle.cert_file.specs.declared.fault.ReadFault.{ReadFault}
+use Rattle.cert_file.specs.declared.verdict.Verdict.TheVariants as verdicts
 use Rattle.cert_check.specs.Judgments.{Finds}
-use Rattle.cert_check.proofs.JudgingLemmas.{count_grows, counted, finds_end, finds_fault, given, refuses_next, takes_on, unrefused}
+use Rattle.cert_check.proofs.JudgingLemmas.{begins, count_grows, counted, finds_end, finds_fault, given, refuses_next, takes_on, unrefused}
 use Rattle.cert_check.proofs.OneVerdict.{finds_accepted}
 use Rattle.cert_check.proofs.judging.judge.Goals as goal
+
+pub loop-claim-init : goal.loop-claim-init
+loop-claim-init g c = (
+  begins (g.F.Shelf.files c.args.shelf.now) c.args.name.now c.args.checker c.args.reader.now c.requires.fresh
+      c.kept.ensures.sound c.kept.ensures.entries c.requires.opened,
+  refl,
+  omega arith,
+  λ name offset promised. promised,
+  omega arith,
+)
 
 pub feed-requires : goal.feed-requires
 feed-requires g c =

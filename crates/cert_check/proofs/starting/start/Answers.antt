@@ -2,12 +2,12 @@ use Rattle.std.proofs.Common.{◌≡◌, ◌⊎◌, ℕ, ◌≤◌, length, take
 use Rattle.std.proofs.lemmas.List.{length-take-le}
 use Rattle.fux_port.specs.Counts.{Rose}
 use Rattle.cert_text.specs.declared.answers.CertFault.TheVariants.{CertHead, Memory}
-use Rattle.cert_text.specs.declared.answers.Form.TheVariants.{First}
+use Rattle.cert_text.specs.declared.answers.Form.TheVariants.{Second}
 use Rattle.cert_text.specs.HeadTexts.{Heads, TextStops}
-use Rattle.cert_check.specs.Readings.{Reading, longest_piece}
+use Rattle.cert_file.specs.Readings.{Piece, longest_piece}
 use Rattle.cert_check.specs.Starts.{IsStarted}
-use Rattle.cert_check.proofs.FileLemmas.{first_known}
-use Rattle.cert_check.proofs.StartLemmas.{front_left, front_written, head_stops, started}
+use Rattle.cert_file.proofs.FileLemmas.{first_known, front_left, front_written}
+use Rattle.cert_check.proofs.StartLemmas.{head_stops, started}
 use Rattle.cert_check.proofs.starting.start.Goals as goal
 
 pub returns-in-Ok-clause-starts : goal.returns-in-Ok-clause-starts
@@ -30,9 +30,9 @@ returns-in-Ok-clause-starts g c =
     (omega (arith, long, c.in_ok-count.ensures.fits, size))
     (λ absent. true≢false (sym (c.in_ok-count.ensures.missing (omega (arith, size)) absent)))
     (λ file told. c.in_ok-count.ensures.front file told ∙ ap (λ n. take n file) size) in
-    let heads = subst (λ xs. Heads ex First xs c.in-Ok.head c.in-Ok.used) read c.in-Ok.ensures.ok in
-    subst (λ (r : Reading). IsStarted ex files name c.in-Ok.head r) (sym c.new.ensures)
-    (started ex files name (take count buf) known c.in-Ok.head c.in-Ok.used count _ heads (sym long)
+    let heads = subst (λ xs. Heads ex c.in-Ok.form xs c.in-Ok.head c.in-Ok.used) read c.in-Ok.ensures.ok in
+    subst (λ (p : Piece). IsStarted ex files name c.in-Ok.form c.in-Ok.head p) (sym c.new.ensures)
+    (started ex files name (take count buf) known c.in-Ok.form c.in-Ok.head c.in-Ok.used _ heads (sym long)
     (front_left _ (take count buf) count c.in-Ok.used (omega (arith, heads.within, long)) written))
 
 pub returns-in-Ok-clause-missing : goal.returns-in-Ok-clause-missing
@@ -65,7 +65,7 @@ returns-in-Err-clause-starts g c =
     (Rose (g.F.Shelf.faults c.args.shelf.now) (g.F.Shelf.faults c.fill.new.shelf))
     c.in-Err.fault
     (subst
-    (λ xs. (c.in-Err.fault ≡ Memory) ⊎ ((at : ℕ) × (c.in-Err.fault ≡ CertHead at) × TextStops ex First xs at)) read
+    (λ xs. (c.in-Err.fault ≡ Memory) ⊎ ((at : ℕ) × (c.in-Err.fault ≡ CertHead at) × TextStops ex Second xs at)) read
     c.in-Err.ensures.fault)
 
 pub returns-in-Err-clause-missing : goal.returns-in-Err-clause-missing

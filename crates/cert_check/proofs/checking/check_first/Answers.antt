@@ -1,0 +1,33 @@
+use Rattle.std.proofs.Common.{Result, sym, subst}
+use Rattle.cert_check.specs.Answers.{Answers}
+use Rattle.cert_check.specs.Checking.{Checking}
+use Rattle.cert_check.specs.Starts.{IsOpened}
+use Rattle.cert_check.specs.declared.checking.CheckFault.{CheckFault}
+use Rattle.cert_check.proofs.AnswerLemmas.{first_opened, opening_answer, unopened_narrow}
+use Rattle.cert_file.specs.Readings.{Reading}
+use Rattle.cert_file.specs.declared.verdict.Verdict.{Verdict}
+use Rattle.cert_text.specs.declared.answers.Form.TheVariants.{First}
+use Rattle.fux_port.specs.Counts.{Rose}
+use Rattle.cert_check.proofs.checking.check_first.Goals as goal
+
+pub returns-in-Err-clause-answers : goal.returns-in-Err-clause-answers
+returns-in-Err-clause-answers g c =
+    let files = g.F.Shelf.files c.args.shelf.now in
+    let rose = Rose (g.F.Shelf.faults c.args.shelf.now) (g.F.Shelf.faults c.args.shelf.now) in
+    subst (λ (r : Result Verdict CheckFault). Answers c.args.ex.now c.args.sheet.now files c.args.name.now rose r)
+    (sym c.not_opened.ensures)
+    (opening_answer c.args.ex.now c.args.sheet.now files c.args.name.now rose First c.args.head c.args.pieces
+    c.in-Err.fault c.requires.started c.in-Err.ensures.fault)
+
+pub returns-in-Err-clause-narrow : goal.returns-in-Err-clause-narrow
+returns-in-Err-clause-narrow g c =
+    rw c.not_opened.ensures (unopened_narrow c.args.ex.now c.args.sheet.now c.args.head c.in-Err.fault
+    c.in-Err.ensures.fault)
+
+pub judge_claims-requires-clause-opened : goal.judge_claims-requires-clause-opened
+judge_claims-requires-clause-opened g c =
+    let files = g.F.Shelf.files c.args.shelf.now in
+    subst (λ (k : Checking). IsOpened k.exercise files c.args.name.now k.head k.stated c.behind.result)
+    (sym c.in-Ok.ensures.opened)
+    (subst (λ (r : Reading). IsOpened c.args.ex.now files c.args.name.now c.args.head _ r) (sym c.behind.ensures)
+    (first_opened c.args.ex.now files c.args.name.now c.args.head c.args.pieces c.requires.started))

@@ -1,0 +1,104 @@
+use Rattle.std.proofs.Common.{◌≡◌, Option, Some, Result, length, sym, ap, subst, ◌∙◌, arith}
+use Rattle.cert_check.specs.Answers.{Answers, unstarted}
+use Rattle.cert_check.specs.Checking.{Checking}
+use Rattle.cert_check.specs.Starts.{IsEntered, IsOpened, IsStatedWhole}
+use Rattle.cert_check.specs.Stating.{Stating, TellsFalse, stating_for}
+use Rattle.cert_check.specs.declared.checking.CheckFault.{CheckFault}
+use Rattle.cert_check.proofs.AnswerLemmas.{answers_moved, opening_answer}
+use Rattle.cert_check.proofs.EnteringLemmas.{claims_opened, closed_answer, entered_answer, first_entered}
+use Rattle.cert_file.specs.Readings.{Files, Reading}
+use Rattle.cert_file.specs.StatedReadings.{StatedReading}
+use Rattle.cert_file.specs.declared.verdict.Verdict.{Verdict}
+use Rattle.cert_law.specs.Entries.{entry_count}
+use Rattle.cert_text.specs.declared.answers.Form.TheVariants.{Second}
+use Rattle.fux_port.specs.Counts.{Rose}
+use Rattle.fux_port.proofs.Rises.{rose_later}
+use Rattle.cert_check.proofs.checking.check_second.Goals as goal
+
+pub returns-in-Err-clause-answers : goal.returns-in-Err-clause-answers
+returns-in-Err-clause-answers g c =
+    let files = g.F.Shelf.files c.args.shelf.now in
+    let rose = Rose (g.F.Shelf.faults c.args.shelf.now) (g.F.Shelf.faults c.args.shelf.now) in
+    subst (λ (r : Result Verdict CheckFault). Answers c.args.ex.now c.args.sheet.now files c.args.name.now rose r)
+    (sym c.not_opened.ensures)
+    (opening_answer c.args.ex.now c.args.sheet.now files c.args.name.now rose Second c.args.head c.args.pieces
+    c.in-Err.fault c.requires.started c.in-Err.ensures.fault)
+
+pub enter-requires-clause-entered : goal.enter-requires-clause-entered
+enter-requires-clause-entered g c =
+    let files = g.F.Shelf.files c.args.shelf.now in
+    let name = c.args.name.now in
+    let opened = c.in-Ok.ensures.opened in
+    let all : c.owed.result ≡ entry_count c.args.ex.now = omega (
+      arith,
+      c.owed.ensures,
+      ap (λ (s : Stating). length s.entries) opened,
+      ap (λ (s : Stating). entry_count s.exercise) opened,
+    ) in
+    subst (λ (s : Stating). IsEntered s.exercise files name s.head s.entries c.behind-reader.result) (sym opened)
+    (subst (λ (r : StatedReading). IsEntered c.args.ex.now files name c.args.head _ r) (sym c.behind-reader.ensures)
+    (first_entered c.args.ex.now files name c.args.head c.args.pieces c.owed.result c.requires.started all))
+
+pub returns-in-Err-enter-clause-answers : goal.returns-in-Err-enter-clause-answers
+returns-in-Err-enter-clause-answers g c =
+    let files = g.F.Shelf.files c.args.shelf.now in
+    let name = c.args.name.now in
+    let rose = Rose (g.F.Shelf.faults c.args.shelf.now) (g.F.Shelf.faults c.enter.new.shelf) in
+    let fault = c.in-Err-enter.fault in
+    subst (λ (r : Result Verdict CheckFault). Answers c.args.ex.now c.args.sheet.now files name rose r)
+    (sym c.not_started.ensures)
+    (subst (λ (s : Stating). Answers s.exercise s.sheet files name rose (unstarted fault)) c.in-Ok.ensures.opened
+    (entered_answer files name rose c.in-Ok.stated c.enter.new.stated c.enter.new.reader fault
+    c.in-Err-enter.ensures.enters))
+
+pub judge_claims-requires-clause-opened : goal.judge_claims-requires-clause-opened
+judge_claims-requires-clause-opened g c =
+    let files = g.F.Shelf.files c.args.shelf.now in
+    let name = c.args.name.now in
+    let s = c.in-Ok.stated in
+    let entries = c.enter.new.stated.entries in
+    let enters = c.in_default.ensures.enters in
+    let claims = c.claims.result in
+    subst (λ (k : Checking). IsOpened k.exercise (g.F.Shelf.files c.enter.new.shelf) name k.head k.stated claims)
+    (sym c.in-Ok-close.ensures.opened)
+    (subst
+    (λ (t : Stating). IsOpened t.exercise (g.F.Shelf.files c.enter.new.shelf) name t.head (Some entries) claims)
+    (sym enters.0)
+    (subst (λ (fs : Files). IsOpened s.exercise fs name s.head (Some entries) claims) (sym c.enter.ensures.files)
+    (subst (λ (r : Reading). IsOpened s.exercise files name s.head (Some entries) r) (sym c.claims.ensures)
+    (claims_opened s.exercise files name s.head entries c.enter.new.reader enters.1))))
+
+pub returns-in-Ok-close-clause-answers : goal.returns-in-Ok-close-clause-answers
+returns-in-Ok-close-clause-answers g c =
+    let files = g.F.Shelf.files c.args.shelf.now in
+    let name = c.args.name.now in
+    let faults = g.F.Shelf.faults c.judge_claims.new.shelf in
+    let rose = Rose (g.F.Shelf.faults c.args.shelf.now) faults in
+    let result = c.judge_claims.result in
+    let checker = c.in-Ok-close.checker in
+    subst (λ (s : Stating). Answers s.exercise s.sheet files name rose result) c.in-Ok.ensures.opened
+    (subst (λ (t : Stating). Answers t.exercise t.sheet files name rose result) c.in_default.ensures.enters.0
+    (subst (λ (k : Checking). Answers k.exercise k.sheet files name rose result) c.in-Ok-close.ensures.opened
+    (answers_moved checker.exercise checker.sheet (g.F.Shelf.files c.enter.new.shelf) name
+    (Rose (g.F.Shelf.faults c.enter.new.shelf) faults) files rose result c.enter.ensures.files
+    (rose_later _ _ _ c.enter.ensures.faults) c.judge_claims.ensures.answers)))
+
+pub returns-in-Err-close-clause-answers : goal.returns-in-Err-close-clause-answers
+returns-in-Err-close-clause-answers g c =
+    let ex = c.args.ex.now in
+    let sheet = c.args.sheet.now in
+    let files = g.F.Shelf.files c.args.shelf.now in
+    let name = c.args.name.now in
+    let rose = Rose (g.F.Shelf.faults c.args.shelf.now) (g.F.Shelf.faults c.enter.new.shelf) in
+    let t = c.enter.new.stated in
+    let enters = c.in_default.ensures.enters in
+    let opened = c.in-Ok.ensures.opened in
+    let fault = c.in-Err-close.fault in
+    let same : t ≡ stating_for ex sheet c.args.head t.entries = enters.0
+    ∙ ap (λ (s : Stating). record s { entries = t.entries }) opened in
+    let whole = subst (λ (s : Stating). IsStatedWhole s.exercise files name s.head t.entries c.enter.new.reader) opened
+    enters.1 in
+    subst (λ (r : Result Verdict CheckFault). Answers ex sheet files name rose r) (sym c.not_closed.ensures)
+    (closed_answer ex files name c.args.head sheet rose t.entries c.enter.new.reader fault c.in-Ok.ensures.sound whole
+    c.enter.ensures.limit
+    (subst (λ (s : Stating). TellsFalse s fault) same c.in-Err-close.ensures.refused))

@@ -1,0 +1,4 @@
+mod MenuLemmas
+mod PlaceLemmas
+mod SumLemmas
+mod TruthLemmas

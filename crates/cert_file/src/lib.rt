@@ -1,0 +1,19 @@
+//! The file of a certificate, read in pieces: its first bytes, what it states behind its head, its claims, and the line that tells what the
+//! file is found to be. It knows nothing of what a certificate is about.
+#![tactic(auto)]
+
+mod fault;
+mod filling;
+mod pieces;
+mod reader;
+mod stated_reader;
+mod text;
+mod verdict;
+
+pub use fault::ReadFault;
+pub use filling::{fill, read_piece};
+pub use pieces::{LONGEST_PIECE, Pieces};
+pub use reader::Reader;
+pub use stated_reader::StatedReader;
+pub use text::verdict_text;
+pub use verdict::Verdict;
