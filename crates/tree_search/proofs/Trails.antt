@@ -180,9 +180,11 @@ module _ {N : Type 0} {is_at : N → List ℕ → Type 0} {height : ℕ} {links 
         (λ i le. (
           omega (arith, le, length_push links (record { parent = entry; child = k })),
           path_in-earlier links (record { parent = entry; child = k }) i le,
-        ))
-        (longer, path_in-last links (record { parent = entry; child = k }) number last
-        ∙ ap (λ (p : List ℕ). p ++ k ∷ []) (sym trail.leads)) trail.earlier
+        )) (
+          longer,
+          path_in-last links (record { parent = entry; child = k }) number last
+              ∙ ap (λ (p : List ℕ). p ++ k ∷ []) (sym trail.leads),
+        ) trail.earlier
 
     -- the trail still leads to the parent
     pub trail_parent : IsTrailTo is_at height links' path' nodes' entries' level entry
