@@ -1,13 +1,13 @@
 -- What is answered where no head stands at the front (`starts_answer`), where the head isn't sound (`opening_answer`), and where claims are
 -- judged (`judged_answer`).
 use Rattle.std.proofs.Common.{◌≡◌, ◌⊎◌, ◌-◌, inl, inr, arith, append-nil, length, ℕ, List, None, Result, Ok, Err, refl, ap, subst, sym}
-use Rattle.std.specs.Prelude.{IfErr, IfOk, OnOk}
+use Rattle.std.specs.Prelude.{IfErr, OnOk}
 use Rattle.cert_check.specs.declared.checker.OpenFault.{OpenFault}
 use Rattle.cert_check.specs.declared.checker.OpenFault.TheVariants as opening
 use Rattle.cert_check.specs.Opening.{TellsWhy}
 use Rattle.cert_file.specs.declared.fault.ReadFault.TheVariants.{Text, Unreadable}
 use Rattle.cert_file.specs.declared.fault.ReadFault.{ReadFault}
-use Rattle.cert_file.specs.Readings.{Files, IsAt, MayBe, Piece, reading_from}
+use Rattle.cert_file.specs.Readings.{Files, MayBe, Piece, reading_from}
 use Rattle.cert_file.proofs.PieceLemmas.{nothing_begins}
 use Rattle.cert_check.specs.Starts.{IsOpened, IsStarted, Starts}
 use Rattle.cert_text.specs.declared.answers.CertFault.TheVariants.{CertHead as WrongHead, CertWord, CertEnd, Memory}

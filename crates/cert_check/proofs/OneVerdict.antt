@@ -9,7 +9,7 @@ use Rattle.std.specs.List.{flat_map}
 use Rattle.std.specs.Io.{StartsWith}
 use Rattle.cert_check.specs.Answers.{Answers, IsVerdictOn}
 use Rattle.cert_check.specs.Checking.{accepted_of}
-use Rattle.cert_check.specs.Judgments.{AcceptsValid, Finds, FindsIn, HasFault, HasStatedFault, HasUntrue, IsCertificateText, IsOpeningOf, IsTaken, IsUnsound, Leaves, form_of, stated_text}
+use Rattle.cert_check.specs.Judgments.{AcceptsValid, Finds, FindsIn, HasFault, HasStatedFault, HasUntrue, IsCertificateText, IsOpeningOf, IsTaken, IsUnsound, Leaves}
 use Rattle.cert_file.specs.Readings.{Files, IsUnended, judged_bytes, longest_certificate}
 use Rattle.cert_check.specs.declared.checking.CheckFault.{CheckFault}
 use Rattle.cert_file.specs.declared.verdict.Verdict.{Verdict}

@@ -134,8 +134,9 @@ impl<'a, T: Tails + Drop> Checker<'a, T> {
         })
     }
 
-    /// What each checker keeps: its head is sound, the entries that are stated are true, and as long as no claim was refused, each setting that refutes the head is begun by a
-    /// prefix that is owed. It does nothing; callers that prove something about a checker learn this from it.
+    /// What each checker keeps: its head is sound, the entries that are stated are true, and as long as no claim was refused, each setting
+    /// that refutes the head is begun by a prefix that is owed. It does nothing; callers that prove something about a checker learn this
+    /// from it.
     pub fn kept(&self)
         ensures sound { IsHeadSound self.now.exercise self.now.sheet self.now.head }
         ensures entries { IfSome self.now.stated (AreTrueEntries self.now.exercise self.now.sheet) }

@@ -37,7 +37,8 @@ pub enum CheckFault {
     Memory,
 }
 
-/// Judges the file of a certificate, read in pieces of at most 65,536 bytes. All memory is taken before the first claim is judged.
+/// Judges the file of a certificate of either form, read in pieces of at most 65,536 bytes. All memory is taken before the first claim is
+/// judged. The second form is judged without tables: what it states is compared, and the claims are judged by that.
 pub fn check_file<R: Threads + Sync, F: Shelf>(
     rt: &R,
     alloc: Global,

@@ -1,6 +1,6 @@
 -- What a reader of what is stated makes of a piece: it takes a line of it (`stated_taken`) or refuses it (`stated_refused`); and what the next
 -- piece makes of a reader (`stated_on`), or the end of the file (`stated_ends`).
-use Rattle.std.proofs.Common.{◌≡◌, ℕ, ◌+◌, ◌-◌, ◌<◌, ◌≤◌, Bool, true, false, nat_lt, List, [], ◌∷◌, ◌++◌, Option, None, Some, Result, Ok, Err, length, take, drop, get_or, refl, sym, ap, subst, ◌∙◌, arith, append_assoc, append-nil, length-append, length-drop}
+use Rattle.std.proofs.Common.{◌≡◌, ℕ, ◌+◌, ◌≤◌, Bool, true, false, nat_lt, List, [], ◌++◌, Option, None, Some, Result, Ok, Err, length, drop, get_or, refl, sym, ap, subst, ◌∙◌, arith, append_assoc, append-nil, length-append, length-drop}
 use Rattle.std.specs.Prelude.{IfSome}
 use Rattle.fux_port.specs.Files.{MayHave}
 use Rattle.cert_text.specs.declared.answers.CertFault.{CertFault}
@@ -11,9 +11,9 @@ use Rattle.cert_text.specs.declared.potentials.TakenPotential.{TakenPotential}
 use Rattle.cert_text.specs.Lines.{HasNoFeed, line_part}
 use Rattle.cert_text.specs.PotentialReading.{PotentialReading, owes_potential, potential_line_start}
 use Rattle.cert_text.specs.PotentialTakes.{LineEnds, RefusesPotential, TakesPotential}
-use Rattle.cert_text.specs.Potentials.{BeginsOwed, IsPotential, last_line, potential_line}
+use Rattle.cert_text.specs.Potentials.{BeginsOwed, last_line, potential_line}
 use Rattle.cert_file.specs.Readings.{Begins, Continues, FaultAtLine, Files, IsPlaced, MayBe, Piece, Stated, longest_certificate}
-use Rattle.cert_file.specs.StatedReadings.{GivesStated, HasGiven, IsAtClaims, IsAtStated, ReadsStated, StatedReading, TakesLines, TakesStated, owed_line}
+use Rattle.cert_file.specs.StatedReadings.{GivesStated, HasGiven, IsAtStated, ReadsStated, StatedReading, TakesLines, TakesStated, owed_line}
 use Rattle.cert_file.specs.declared.fault.ReadFault.{ReadFault}
 use Rattle.cert_file.specs.declared.fault.ReadFault.TheVariants.{Unreadable, Text}
 use Rattle.cert_file.proofs.LineLemmas.{beyond_line, unended_line, wrong_line}

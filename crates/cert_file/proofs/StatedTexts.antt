@@ -8,7 +8,7 @@ use Rattle.cert_text.specs.declared.potential.Potential.{Potential}
 use Rattle.cert_text.specs.declared.potential.Potential.TheVariants.{Least, NoChain}
 use Rattle.cert_text.specs.declared.stated_line.StatedLine.TheVariants as lines
 use Rattle.cert_text.specs.Lines.{HasNoFeed, line_part}
-use Rattle.cert_text.specs.Potentials.{BeginsOwed, IsOwedLine, IsPotential, last_line, potential_line, potential_word}
+use Rattle.cert_text.specs.Potentials.{BeginsOwed, IsOwedLine, IsPotential, potential_line, potential_word}
 use Rattle.cert_text.proofs.StatedLemmas.{stated_has_no_feed}
 use Rattle.cert_file.specs.Readings.{BeginsLine, IsUnendedLine, IsWrongLine, Owed, Stated}
 use Rattle.cert_file.proofs.LineLemmas.{line_part-unended}

@@ -1,4 +1,4 @@
-use Rattle.std.proofs.Common.{◌≡◌, Option, Some, Result, length, sym, ap, subst, ◌∙◌, arith}
+use Rattle.std.proofs.Common.{◌≡◌, Some, Result, length, sym, ap, subst, ◌∙◌, arith}
 use Rattle.cert_check.specs.Answers.{Answers, unstarted}
 use Rattle.cert_check.specs.Checking.{Checking}
 use Rattle.cert_check.specs.Starts.{IsEntered, IsOpened, IsStatedWhole}

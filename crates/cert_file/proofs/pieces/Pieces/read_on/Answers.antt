@@ -1,4 +1,4 @@
-use Rattle.std.proofs.Common.{◌≡◌, ◌<◌, ◌≤◌, nat_lt, length, refl, sym, ap, subst, ◌∙◌, arith}
+use Rattle.std.proofs.Common.{◌<◌, ◌≤◌, nat_lt, length, refl, sym, ap, subst, ◌∙◌, arith}
 use Rattle.fux_port.specs.Counts.{Rose}
 use Rattle.cert_file.specs.Readings.{IsPlaced, Piece}
 use Rattle.cert_file.proofs.FileLemmas.{continues, past_at}

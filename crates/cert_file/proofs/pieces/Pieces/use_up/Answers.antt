@@ -1,4 +1,4 @@
-use Rattle.std.proofs.Common.{◌≡◌, ◌+◌, ◌-◌, ◌≤◌, ℕ, List, length, drop, ap, ◌∙◌, arith}
+use Rattle.std.proofs.Common.{◌-◌, ◌≤◌, ℕ, List, length, drop, ap, ◌∙◌, arith}
 use Rattle.cert_file.specs.Readings.{Piece}
 use Rattle.cert_file.proofs.PieceLemmas.{length-piece, piece_left}
 use Rattle.cert_file.proofs.pieces.Pieces.use_up.Goals as goal
