@@ -1,5 +1,5 @@
 -- The sum through a column: none, where it doesn't follow (`closed_sum`); else what it costs with what is stated for it (`open_sum`).
-use Rattle.std.proofs.Common.{◌≡◌, ℕ, ◌+◌, ◌≤◌, Bool, true, false, List, Option, Some, None, refl, sym, ap, ◌∙◌, subst, arith, if◌then◌else◌}
+use Rattle.std.proofs.Common.{◌≡◌, ℕ, Bool, true, false, List, Option, Some, None, refl, sym, ap, ◌∙◌, if◌then◌else◌}
 use Rattle.std.specs.Borrow.{Bor}
 use Rattle.std.proofs.lemmas.Bool.{false_from_ne_true}
 use Rattle.arrayvec.specs.ArrayVec.{ArrayVec}
@@ -8,7 +8,6 @@ use Rattle.cert_law.proofs.NumberLemmas.{follow_from, follow_test}
 use Rattle.cert_text.specs.declared.potential.Potential.{Potential}
 use Rattle.chain_sums.specs.Chains.{cells_of, plus}
 use Rattle.chain_sums.specs.Sums.{column_follows}
-use Rattle.floor_tables.specs.Floors.{chains_of}
 use Rattle.fux_grid.specs.declared.cell.Cell.{Cell}
 use Rattle.fux_grid.specs.declared.exercise.Exercise.{Exercise}
 use Rattle.fux_grid.specs.Columns.{ColumnFollows, cells_before}

@@ -1,5 +1,5 @@
 -- What contracts see of entries, and what is found of them.
-use Rattle.std.specs.Prelude.{◌≡◌, ℕ, List, Option, Some, None}
+use Rattle.std.specs.Prelude.{ℕ, List, Option, Some, None}
 use Rattle.cert_law.specs.Bases.{Basis}
 use Rattle.cert_law.specs.Entries.{AreTrueEntries, IsFirstFalse}
 use Rattle.cert_text.specs.declared.potential.Potential.{Potential}

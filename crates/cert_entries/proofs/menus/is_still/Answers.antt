@@ -1,6 +1,5 @@
-use Rattle.std.proofs.Common.{List, ap, sym, ◌∙◌, arith}
+use Rattle.std.proofs.Common.{ap, sym, ◌∙◌}
 use Rattle.chain_sums.specs.Still.{all_hold}
-use Rattle.fux_grid.specs.declared.cell.Cell.{Cell}
 use Rattle.cert_entries.proofs.MenuLemmas.{still_more}
 use Rattle.cert_entries.proofs.menus.is_still.Goals as goal
 

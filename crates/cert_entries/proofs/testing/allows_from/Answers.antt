@@ -1,4 +1,3 @@
-use Rattle.std.proofs.Common.{sym}
 use Rattle.std.proofs.lemmas.Bool.{OnTrue_from, leb-true}
 use Rattle.std.proofs.Math.Dec.{leb}
 use Rattle.cert_entries.specs.Boards.{AllowsFrom}

@@ -1,6 +1,5 @@
-use Rattle.std.proofs.Common.{◌≡◌, ℕ, List, Option, [], ◌∷◌, ◌++◌, ap, sym, ◌∙◌, subst, length, ◌+◌, arith}
+use Rattle.std.proofs.Common.{ℕ, List, Option, ap, sym, ◌∙◌, subst, length, ◌+◌}
 use Rattle.std.proofs.lemmas.List.{length_push}
-use Rattle.cert_law.specs.Entries.{columns_before}
 use Rattle.cert_entries.specs.Boards.{AreBounds, IsBoundAt}
 use Rattle.cert_entries.proofs.BoundLemmas.{bound_at, bounds_more}
 use Rattle.cert_entries.proofs.board.Board.bounds.Goals as goal

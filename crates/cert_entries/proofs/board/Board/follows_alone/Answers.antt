@@ -1,4 +1,4 @@
-use Rattle.std.proofs.Common.{◌≡◌, ◌<◌, true, List, length, sym, ◌∙◌, subst, arith}
+use Rattle.std.proofs.Common.{◌<◌, List, length, sym, ◌∙◌, subst, arith}
 use Rattle.std.proofs.lemmas.Bool.{OnTrue_from}
 use Rattle.cert_entries.specs.Boards.{FollowsAlone}
 use Rattle.cert_entries.proofs.HeldLemmas.{follower_is_one}

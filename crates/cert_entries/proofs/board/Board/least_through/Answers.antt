@@ -1,4 +1,4 @@
-use Rattle.std.proofs.Common.{Option, ℕ, subst}
+use Rattle.std.proofs.Common.{subst}
 use Rattle.cert_entries.specs.Boards.{IsBoundOf}
 use Rattle.cert_law.specs.Entries.{number_in}
 use Rattle.cert_text.specs.declared.potential.Potential.{Potential}

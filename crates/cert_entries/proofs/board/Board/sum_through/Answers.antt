@@ -1,4 +1,4 @@
-use Rattle.std.proofs.Common.{◌≡◌, Option, ℕ, List, sym, ap, ◌∙◌, true≢false}
+use Rattle.std.proofs.Common.{Option, ℕ, List, sym, ap, ◌∙◌, true≢false}
 use Rattle.cert_law.specs.Entries.{menu_column, number_in}
 use Rattle.cert_text.specs.declared.potential.Potential.{Potential}
 use Rattle.chain_sums.specs.Chains.{plus}
