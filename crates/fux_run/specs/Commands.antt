@@ -295,6 +295,14 @@ cantus_search_in name asks = asked_by (new_cantus_words name) asks
 abbrev pub job_in : Text → Job → List Text → Option Task
 job_in name job = asked_by (exercise_words name) (job_asked job)
 
+-- what a word and those behind it ask for, if they are of the form of a command on new cantus
+abbrev pub asked_of_cantus : Text → List Text → Option Task
+asked_of_cantus word rest =
+    if bytes_eq word (codes "newcantus") then cantus_search_in (codes "newcantus") new_cantus_asked rest
+    else (if bytes_eq word (codes "certcantus") then cantus_search_in (codes "certcantus") certify_cantus_asked rest
+    else (if bytes_eq word (codes "checkcantus") then asked_by check_cantus_words check_cantus_asked rest
+    else None))
+
 -- what the words ask for, if they are of a command's form
 abbrev pub asked : List Text → Option Task
 asked [] = None
@@ -310,10 +318,7 @@ asked (word ∷ rest) =
     else (if bytes_eq word (codes "drill") then asked_by drill_words drill_asked rest
     else (if bytes_eq word (codes "class") then asked_by class_words class_asked rest
     else (if bytes_eq word (codes "canon") then asked_by canon_words canon_asked rest
-    else (if bytes_eq word (codes "newcantus") then cantus_search_in (codes "newcantus") new_cantus_asked rest
-    else (if bytes_eq word (codes "certcantus") then cantus_search_in (codes "certcantus") certify_cantus_asked rest
-    else (if bytes_eq word (codes "checkcantus") then asked_by check_cantus_words check_cantus_asked rest
-    else None)))))))))))))
+    else asked_of_cantus word rest))))))))))
 
 -- ---- the files
 

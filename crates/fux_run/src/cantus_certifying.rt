@@ -1,6 +1,6 @@
 //! The command `certcantus`.
 
-ghost use Rattle.std.specs.Prelude.{IfErr, ℕ, List};
+ghost use Rattle.std.specs.Prelude.{◌≡◌, IfErr, ℕ, List};
 ghost use Rattle.cantus_law.specs.Certificates.{Holds};
 ghost use Rattle.cantus_writer.specs.Heads.{said_with};
 ghost use Rattle.fux_port.specs.Promises.{TakesAll};

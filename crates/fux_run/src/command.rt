@@ -2,7 +2,7 @@
 
 ghost use Rattle.std.specs.Prelude.{◌≡◌, IfOk, IfSome, codes, option_map, true};
 ghost use Rattle.clap.specs.Words.{app_of, found_of, is_simple_and_free, rows_of};
-ghost use Rattle.fux_run.specs.Commands.{HasHead, asked, asked_by, cantus_search_in, certify_asked, certify_words, certify_cantus_asked, check_asked, check_cantus_asked, check_cantus_words, check_words, class_asked, class_words, canon_asked, canon_words, compose_asked, drill_asked, drill_words, found_in, fromsmf_asked, fromsmf_words, job_in, new_cantus_asked, new_cantus_words, search_in, task_of, texts};
+ghost use Rattle.fux_run.specs.Commands.{HasHead, asked, asked_by, asked_of_cantus, cantus_search_in, certify_asked, certify_words, certify_cantus_asked, check_asked, check_cantus_asked, check_cantus_words, check_words, class_asked, class_words, canon_asked, canon_words, compose_asked, drill_asked, drill_words, found_in, fromsmf_asked, fromsmf_words, job_in, new_cantus_asked, new_cantus_words, search_in, task_of, texts};
 
 use crate::forms::{
     canon_form, certify_form, check_cantus_form, check_form, class_form, drill_form, exercise_form,
@@ -136,6 +136,20 @@ pub fn parse(alloc: Global, words: &[String]) -> Result<Option<Command<'_>>, Mem
         "drill" => parse_drill(alloc, rest),
         "class" => parse_class(alloc, rest),
         "canon" => parse_canon(alloc, rest),
+        _ => parse_of_cantus(alloc, word.as_str(), rest),
+    }
+}
+
+/// The command on new cantus that a word and those behind it ask for, or none where they are of no such command's form.
+fn parse_of_cantus<'a>(
+    alloc: Global,
+    word: &str,
+    rest: &'a [String],
+) -> Result<Option<Command<'a>>, Memory>
+    ensures asked { IfOk result (λ found. option_map task_of found ≡ asked_of_cantus word.now (texts rest.now)) }
+    ensures head { IfOk result (λ found. IfSome found HasHead) }
+{
+    match word {
         "newcantus" => parse_new_cantus(alloc, rest),
         "certcantus" => parse_certify_cantus(alloc, rest),
         "checkcantus" => parse_check_cantus(alloc, rest),
