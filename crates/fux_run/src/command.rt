@@ -5,12 +5,12 @@ ghost use Rattle.clap.specs.Words.{app_of, found_of, is_simple_and_free, rows_of
 ghost use Rattle.fux_run.specs.Commands.{HasHead, asked, asked_by, asked_of_cantus, cantus_search_in, certify_asked, certify_cantus_asked, check_asked, check_cantus_asked, check_cantus_words, check_words, class_asked, class_words, canon_asked, canon_words, compose_asked, drill_asked, drill_words, found_in, fromsmf_asked, fromsmf_words, job_in, new_cantus_asked, search_in, task_of, texts};
 
 use crate::forms::{
-    canon_form, check_cantus_form, check_form, class_form, drill_form, exercise_form, from_smf_form,
-    new_cantus_form, search_form,
+    canon_form, check_cantus_form, check_form, class_form, drill_form, exercise_form,
+    from_smf_form, new_cantus_form, search_form,
 };
 use crate::values::{
-    certifying, certifying_cantus, checking, checking_cantus, classing, composing, drilling, imitating,
-    inventing, job_on, smf_reading,
+    certifying, certifying_cantus, checking, checking_cantus, classing, composing, drilling,
+    imitating, inventing, job_on, smf_reading,
 };
 use clap::ArgMatches;
 use clap::error::ErrorKind;
