@@ -1,6 +1,6 @@
 //! Each call on certificates of a cantus that takes memory, called with ample memory.
 
-use cantus_check::{Accepted, CantusChecker, Verdict, check_cantus_file, start};
+use cantus_check::{Accepted, Verdict, check_cantus_file};
 use cantus_space::{CantusSpace, best_cantus, lawful_penalty};
 use cantus_text::{cantus_head, cantus_head_text, cantus_line};
 use cantus_writer::certify_cantus;
@@ -69,26 +69,6 @@ fn a_file_is_judged(rt: HostRuntime) -> Result<(), Fail> {
         return Err("no verdict".into());
     };
     assert!(rt; verdict == Verdict::Accepted(Accepted::Best(3)));
-    Ok(())
-}
-
-#[test]
-fn claims_are_read_and_fed(rt: HostRuntime) -> Result<(), Fail> {
-    let alloc = rt.alloc();
-    let space = space_between("B1", "B1")?;
-    let mut shelf = shelf_of(alloc, NONE)?;
-    let Ok((head, mut reader)) = start(alloc, &mut shelf, "C") else {
-        return Err("no head".into());
-    };
-    let Ok(mut checker) = CantusChecker::open(alloc, &space, head) else {
-        return Err("not opened".into());
-    };
-    let Ok(Some(claim)) = reader.next(&mut shelf, "C") else {
-        return Err("no claim".into());
-    };
-    assert!(rt; checker.feed(claim).is_ok());
-    assert!(rt; matches!(reader.next(&mut shelf, "C"), Ok(None)));
-    assert!(rt; checker.finish() == Ok(Accepted::Nothing));
     Ok(())
 }
 
