@@ -2,8 +2,8 @@
 
 ghost use Rattle.std.specs.Prelude.{◌≤◌};
 
-use cert_file::{LONGEST_PIECE, Pieces, ReadFault, StatedReader, fill};
-use cert_text::{CertFault, Claim, Potential};
+use cert_file::{LONGEST_PIECE, Pieces, StatedReader, fill};
+use cert_text::{Claim, Potential};
 use fux_port::MemShelf;
 use std::alloc::Global;
 use std::test::Fail;
@@ -39,60 +39,5 @@ fn entries_are_read_whichever_way_the_file_is_cut(rt: HostRuntime) -> Result<(),
         assert!(rt; reader.next(&mut shelf, "C") == Ok(Some(Claim::Broken(26))));
         assert!(rt; reader.next(&mut shelf, "C") == Ok(None));
     }
-    Ok(())
-}
-
-#[test]
-fn an_entry_too_few_is_named_by_its_line(rt: HostRuntime) -> Result<(), Fail> {
-    let alloc = rt.alloc();
-    let mut shelf = MemShelf::new(alloc, &[])?;
-    shelf.put("C", b"p 0\nclaims\nx\n")?;
-    for cut in 0..14 {
-        let mut reader = StatedReader::behind(cut_at(alloc, &mut shelf, "C", cut)?, 2);
-        let Ok(Some(_)) = reader.next(&mut shelf, "C") else {
-            return Err("no entry".into());
-        };
-        let word = ReadFault::Text(CertFault::CertWord { at: 4 });
-        assert!(rt; reader.next(&mut shelf, "C") == Err(word));
-    }
-    Ok(())
-}
-
-#[test]
-fn an_entry_too_many_is_named_by_its_line(rt: HostRuntime) -> Result<(), Fail> {
-    let alloc = rt.alloc();
-    let mut shelf = MemShelf::new(alloc, &[])?;
-    shelf.put("C", b"p 0\nn\nclaims\nx\n")?;
-    for cut in 0..16 {
-        let mut reader = StatedReader::behind(cut_at(alloc, &mut shelf, "C", cut)?, 1);
-        let Ok(Some(_)) = reader.next(&mut shelf, "C") else {
-            return Err("no entry".into());
-        };
-        let word = ReadFault::Text(CertFault::CertWord { at: 4 });
-        assert!(rt; reader.next(&mut shelf, "C") == Err(word));
-    }
-    Ok(())
-}
-
-#[test]
-fn the_end_of_the_file_is_told_where_a_line_is_owed(rt: HostRuntime) -> Result<(), Fail> {
-    let alloc = rt.alloc();
-    let mut shelf = MemShelf::new(alloc, &[])?;
-    shelf.put("C", b"p 0\n")?;
-    shelf.put("D", b"p 0\nclaims")?;
-    for cut in 0..5 {
-        let mut reader = StatedReader::behind(cut_at(alloc, &mut shelf, "C", cut)?, 1);
-        let Ok(Some(_)) = reader.next(&mut shelf, "C") else {
-            return Err("no entry".into());
-        };
-        let end = ReadFault::Text(CertFault::CertEnd { at: 4 });
-        assert!(rt; reader.next(&mut shelf, "C") == Err(end));
-    }
-    let mut reader = StatedReader::behind(cut_at(alloc, &mut shelf, "D", 7)?, 1);
-    let Ok(Some(_)) = reader.next(&mut shelf, "D") else {
-        return Err("no entry".into());
-    };
-    let end = ReadFault::Text(CertFault::CertEnd { at: 4 });
-    assert!(rt; reader.next(&mut shelf, "D") == Err(end));
     Ok(())
 }
