@@ -1,11 +1,12 @@
--- What is known of a prefix: an open one goes on by the column of a number (`goes_on_by`), and each prefix of which the same is known is
+-- What is known of a prefix, its tail among it (`tail_moved`): an open one goes on by the column of a number (`goes_on_by`), and each prefix of which the same is known is
 -- open too (`open_same`).
-use Rattle.std.proofs.Common.{◌≡◌, ℕ, ◌<◌, ◌≤◌, true, List, [], ◌∷◌, ◌++◌, Some, length, reverse, slice_index_or, ap, sym, ◌∙◌, arith}
+use Rattle.std.proofs.Common.{◌≡◌, ℕ, ◌<◌, ◌≤◌, true, List, [], ◌∷◌, ◌++◌, Option, Some, length, reverse, slice_index_or, ap, sym, ◌∙◌, arith}
 use Rattle.std.proofs.lemmas.List.Elements.{Contains-get_or}
+use Rattle.cert_law.specs.Bases.{Basis, HasTails, tail_by}
 use Rattle.cert_law.specs.Cases.{IsCase, Matter}
 use Rattle.cert_law.specs.Known.{IsKnown, IsNextNumber, Tailed, column_after, tree_in}
 use Rattle.cert_law.specs.Prefixes.{IsJudged, IsSmall}
-use Rattle.cert_law.specs.WayLaws.{few}
+use Rattle.cert_law.specs.Tails.{tail_of}
 use Rattle.cert_law.specs.declared.judged.Judged.{Judged}
 use Rattle.cert_law.specs.declared.known.PrefixKnown.{PrefixKnown}
 use Rattle.cert_law.proofs.BreakLemmas.{shapes_unbroken, unbroken_shapes}
@@ -15,6 +16,7 @@ use Rattle.cert_text.specs.declared.claim.Claim.TheVariants.{Open, Broken, NoCha
 use Rattle.cert_tree.specs.Walks.{IsOfOpen, IsOfSome}
 use Rattle.chain_sums.proofs.SumLemmas.{column_follows_is}
 use Rattle.fux_grid.specs.declared.cell.Cell.{Cell}
+use Rattle.fux_grid.specs.declared.exercise.Exercise.{Exercise}
 use Rattle.fux_grid.specs.Columns.{newest_column}
 use Rattle.fux_grid.specs.Exercises.{columns_in}
 use Rattle.fux_grid.specs.Menus.{IsInMenu, menu_of}
@@ -22,6 +24,7 @@ use Rattle.fux_grid.specs.Orderly.{IsOrderly}
 use Rattle.fux_grid.proofs.MenuLemmas.{menu_of-contains}
 use Rattle.cert_law.specs.Certificates.{is_open}
 use Rattle.cert_law.specs.Claims.{IsTrueOf}
+use Rattle.penalty_sheet.specs.declared.sheet.Sheet.{Sheet}
 use Rattle.rule_law.specs.Prefixes.{GoesOn, IsPrefix}
 
 -- a prefix that isn't complete, and is orderly
@@ -73,3 +76,10 @@ goes_on_by t p known from k judged further next =
           prefix-push ex p (column_after ex p k) judged.prefix further.shorter chosen
           ((column_follows_is (newest_column (reverse p)) (column_after ex p k)).0 next.1);
     }
+
+-- a tail of a prefix, by the exercise and the sheet of a case
+pub tail_moved : (t : Matter) (basis : Basis) (p : List (List Cell)) (tail : Option ℕ) → HasTails t basis
+    → tail ≡ tail_by basis p → tail ≡ tail_of t.exercise t.sheet basis.stated p
+tail_moved t basis p tail has is =
+    is ∙ ap (λ (ex : Exercise). tail_of ex basis.sheet basis.stated p) has.exercise
+    ∙ ap (λ (sheet : Sheet). tail_of t.exercise sheet basis.stated p) has.sheet

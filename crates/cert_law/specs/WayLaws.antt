@@ -51,8 +51,8 @@ pub record RefutesExcluded (t : Tailed) (s : List (List Cell)) : Type 0 where
 
 pub excluded : (t : Tailed) → Excludes (tree_in t) Begins (RefutesExcluded t)
 excluded t = record {
-  open_goes_on = λ p claim s open holds refutes begins.
-      refutes.excluded.open_goes_on p claim s open holds refutes.refutes begins;
-  closed_ends = λ p claim s closed holds refutes begins.
-      refutes.excluded.closed_ends p claim s closed holds refutes.refutes begins;
+  open_goes_on = λ p claim s e holds refutes begins.
+      refutes.excluded.open_goes_on p claim s e holds refutes.refutes begins;
+  closed_ends = λ p claim s e holds refutes begins.
+      refutes.excluded.closed_ends p claim s e holds refutes.refutes begins;
 }

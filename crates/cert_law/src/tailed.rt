@@ -58,10 +58,9 @@ fn first_known<T: Tails>(case: &Case<'_>, tails: &T) -> PrefixKnown
     requires tails { HasTails (matter_of case.now) (T.basis tails.now) }
     ensures { IsKnown (tailed_of (matter_of case.now) (T.basis tails.now)) result [] }
 {
-    PrefixKnown {
-        judged: Judged::start(case.exercise, case.sheet),
-        tail: tails.start(),
-    }
+    let judged = Judged::start(case.exercise, case.sheet);
+    let tail = tails.start();
+    PrefixKnown { judged, tail }
 }
 
 /// What is known of a prefix with the column of a number more.
