@@ -16,11 +16,7 @@ use cert_tree::Walk;
 use floor_tables::Tables;
 
 /// The claim that comes next.
-fn next_claim(
-    walk: &mut Walk<PrefixKnown>,
-    case: &Case<'_>,
-    tables: &Tables<'_>,
-) -> Option<Claim>
+fn next_claim(walk: &mut Walk<PrefixKnown>, case: &Case<'_>, tables: &Tables<'_>) -> Option<Claim>
     requires task { IsTask (matter_of case.now) tables.now }
     requires writing { IsWriting (matter_of case.now) walk.old }
     ensures writing { IsWriting (matter_of case.now) walk.new }
