@@ -111,7 +111,7 @@ impl<'a, T: Tails> TailedCase<'a, T> {
     pub fn new(case: Case<'a>, tails: &'a T) -> TailedCase<'a, T>
         requires case { IsCase (matter_of case) }
         requires tails { HasTails (matter_of case) (T.basis tails.now) }
-        ensures { result ≡ tailed_of (matter_of case) (T.basis tails.entry.now) }
+        ensures { result ≡ tailed_of (matter_of case.entry) (T.basis tails.entry.now) }
     {
         TailedCase { case, tails }
     }
