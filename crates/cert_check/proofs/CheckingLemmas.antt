@@ -1,97 +1,212 @@
--- What a checker answers and keeps, for a prefix that is owed next (`takes_true`, `refuses_false`, `owed-taken`).
-use Rattle.std.proofs.Common.{◌≡◌, ℕ, ◌+◌, Bool, true, false, List, [], ◌∷◌, ◌++◌, Option, Some, None, Err, if◌then◌else◌, reverse, refl, ap, sym, ◌∙◌, subst, true≢false}
-use Rattle.std.specs.Prelude.{IfErr, IfSome, Result, is_some}
+-- What a checker answers and keeps, by what is judged of its tree: a claim that is taken (`takes_seen`) or refused (`refuses_seen`), and
+-- that claims which were fed to it were fed to the tree (`fed_seen`).
+use Rattle.std.proofs.Common.{◌≡◌, ◌⊎◌, inl, inr, ℕ, ◌+◌, List, [], ◌∷◌, ◌++◌, Option, Some, None, refl, sym, ap, subst, ◌∙◌}
+use Rattle.std.specs.Prelude.{IfSome, option_map}
 use Rattle.cert_text.specs.declared.answers.Refused.{Refused}
-use Rattle.cert_text.specs.declared.answers.Why.TheVariants.{False}
 use Rattle.cert_text.specs.declared.claim.Claim.{Claim}
-use Rattle.cert_text.specs.declared.claim.Claim.TheVariants.{Open, Broken, NoChain, Floor, TheScore}
-use Rattle.cert_law.specs.Certificates.{Holds, IsBegunByOne, OwesRefuting, owed_by}
-use Rattle.cert_law.proofs.TailFacts.{tails_hold}
-use Rattle.cert_law.proofs.Valid.{unrefuted_holds}
-use Rattle.cert_law.specs.Claims.{IsTrueOf}
-use Rattle.cert_law.specs.Writer.{is_open}
-use Rattle.cert_check.specs.Checking.{Checking, IsFault, Refuses, Takes, TakesOf}
-use Rattle.cert_text.specs.declared.potential.Potential.{Potential}
+use Rattle.cert_tree.specs.Judgings.{AreFed as TreeFed, IsFault as TreeFault, IsFed as TreeIsFed, IsFedCertified, IsFedNone, Refuses as TreeRefuses, Standing, Takes as TreeTakes, TakesOf as TreeTakesOf, begun_at}
+use Rattle.cert_tree.specs.Trees.{Excludes, IsBegunByOne, OwesRefuting, owed_by}
+use Rattle.cert_tree.specs.declared.judging.Cause.{Cause}
+use Rattle.cert_tree.specs.declared.judging.Cause.TheVariants as causes
+use Rattle.cert_tree.specs.declared.judging.Refusal.{Refusal}
+use Rattle.cert_law.specs.Cases.{IsCase}
+use Rattle.cert_law.specs.Certificates.{Begins, Holds, IsCertificate, IsHeadSound, Refutes}
 use Rattle.cert_law.specs.Entries.{AreTrueEntries}
-use Rattle.cert_law.specs.Bases.{Basis, HasTails, tail_by}
-use Rattle.cert_law.specs.Tails.{tail_of}
-use Rattle.cert_law.specs.Cases.{IsCase, Matter}
-use Rattle.cert_law.specs.Walks.{longer_from, owed_at, owed_by_walk}
-use Rattle.cert_law.specs.declared.judged.Judged.{Judged}
-use Rattle.cert_law.specs.declared.walk.Level.{Level}
-use Rattle.cert_law.specs.declared.walk.Walk.{Walk}
+use Rattle.cert_law.specs.Known.{Tailed, tree_in}
+use Rattle.cert_law.specs.WayLaws.{ExcludesRefuting, RefutesExcluded}
+use Rattle.cert_law.proofs.TailFacts.{tails_hold}
+use Rattle.cert_law.proofs.Valid.{excludes_refuting, unrefuted_holds}
+use Rattle.cert_check.specs.Checking.{Checking, IsFault, Refuses, Takes, TakesOf, refused_by, why_of}
+use Rattle.cert_check.specs.Runs.{AreFed, IsFed, opened_for}
 use Rattle.fux_grid.specs.declared.cell.Cell.{Cell}
-use Rattle.fux_grid.specs.declared.exercise.Exercise.{Exercise}
-use Rattle.penalty_sheet.specs.declared.sheet.Sheet.{Sheet}
 
--- what a claim owes, by whether it is open
-pub owed-taken : (ex : Exercise) (p : List (List Cell)) (claim : Claim) (b : Bool) → b ≡ is_open claim
-    → (if b then longer_from ex p 0 else []) ≡ owed_by ex p claim
-owed-taken ex p Open b e = ap (λ x. if x then longer_from ex p 0 else []) e
-owed-taken ex p (Broken rule) b e = ap (λ x. if x then longer_from ex p 0 else []) e
-owed-taken ex p NoChain b e = ap (λ x. if x then longer_from ex p 0 else []) e
-owed-taken ex p Floor b e = ap (λ x. if x then longer_from ex p 0 else []) e
-owed-taken ex p TheScore b e = ap (λ x. if x then longer_from ex p 0 else []) e
+-- true claims exclude what refutes a sound head, by tails that hold
+pub are_excluded : (t : Tailed) → IsCase t.case → IfSome t.stated (AreTrueEntries t.case.exercise t.case.sheet)
+    → ExcludesRefuting t
+are_excluded t case entries =
+    excludes_refuting t.case.exercise t.case.sheet case.valid.most_voices t.stated
+    (tails_hold t.case.exercise case.valid t.case.sheet t.stated entries) t.case.head case.sound
 
-module _ (old : Checking) (p : List (List Cell)) (owed : List (List (List Cell))) (claim : Claim) (new : Checking)
-    (are : old.owed ≡ p ∷ owed) where
-  pub takes_true : IsTrueOf old.exercise old.sheet old.head old.stated p claim → new
-      ≡ record old { owed = owed_by old.exercise p claim ++ owed; count = old.count + 1 } → Takes old claim new
-  takes_true holds is = subst (λ (ps : List (List (List Cell))). TakesOf old ps claim new) (sym are) (holds, is)
+pub owes_all : (t : Tailed) (owed : List (List (List Cell))) → ExcludesRefuting t
+    → OwesRefuting Begins (RefutesExcluded t) owed
+    → OwesRefuting Begins (Refutes t.case.exercise t.case.sheet t.case.head) owed
+owes_all t owed excluded owes s refutes = owes s record { excluded = excluded; refutes = refutes }
 
-  pub refuses_false : (result : Result (Unit {0}) Refused) → (IsTrueOf old.exercise old.sheet old.head old.stated p claim → ⊥)
-      → result ≡ Err (record { number = old.count + 1; why = False }) → new
-      ≡ record old { refusal = Some (record { number = old.count + 1; why = False }) }
-      → IfErr result (λ refused. Refuses old claim refused new)
-  refuses_false result fails is kept =
-      subst (λ (r : Result (Unit {0}) Refused). IfErr r (λ refused. Refuses old claim refused new)) (sym is) (
-        subst (λ (ps : List (List (List Cell))). IsFault old ps claim (record { number = old.count + 1; why = False }))
-            (sym are) (fails, refl),
-        kept,
+-- where nothing refutes, the head holds
+pub head_holds : (t : Tailed) → IsCase t.case → IfSome t.stated (AreTrueEntries t.case.exercise t.case.sheet)
+    → ((s : List (List Cell)) → RefutesExcluded t s → ⊥) → Holds t.case.exercise t.case.sheet t.case.head
+head_holds t case entries none =
+    unrefuted_holds t.case.exercise t.case.sheet case.valid.most_voices t.stated
+    (tails_hold t.case.exercise case.valid t.case.sheet t.stated entries) t.case.head case.sound
+    (λ s refutes. none s record { excluded = are_excluded t case entries; refutes = refutes })
+
+-- what contracts see of a checker of this, by where its judge stands
+abbrev pub seen_at : Tailed → Standing (List (List Cell)) → Checking
+seen_at t s = record {
+  exercise = t.case.exercise;
+  sheet = t.case.sheet;
+  head = t.case.head;
+  stated = t.stated;
+  owed = s.owed;
+  count = s.count;
+  refusal = option_map refused_by s.refusal;
+}
+
+same_cause : (a b : Cause) → why_of a ≡ why_of b → a ≡ b
+same_cause causes.False causes.False e = refl
+same_cause causes.False causes.Over e = cc
+same_cause causes.False causes.Short e = cc
+same_cause causes.Over causes.False e = cc
+same_cause causes.Over causes.Over e = refl
+same_cause causes.Over causes.Short e = cc
+same_cause causes.Short causes.False e = cc
+same_cause causes.Short causes.Over e = cc
+same_cause causes.Short causes.Short e = refl
+
+same_refusal : (a b : Refusal) → refused_by a ≡ refused_by b → a ≡ b
+same_refusal a b e =
+    let number : a.number ≡ b.number = ap (λ (r : Refused). r.number) e in
+    let cause : a.cause ≡ b.cause = same_cause a.cause b.cause (ap (λ (r : Refused). r.why) e) in
+    ap (λ n. record { number = n; cause = a.cause }) number ∙ ap (λ (k : Cause). record { number = b.number; cause = k }) cause
+
+pub none_seen : (refusal : Option Refusal) → option_map refused_by refusal ≡ None → refusal ≡ None
+none_seen None e = refl
+none_seen (Some refused) e = cc
+
+pub some_seen : (refusal : Option Refusal) (refused : Refused) → option_map refused_by refusal ≡ Some refused
+    → (own : Refusal) × (refusal ≡ Some own) × (refused_by own ≡ refused)
+some_seen None refused e = cc
+some_seen (Some own) refused e = (own, refl, cc)
+
+module _ (tailed : Tailed) where
+  abbrev seen : Standing (List (List Cell)) → Checking
+  seen = seen_at tailed
+
+  pub takes_seen : (old : Standing (List (List Cell))) (claim : Claim) (new : Standing (List (List Cell)))
+      → TreeTakes (tree_in tailed) old claim new → Takes (seen old) claim (seen new)
+  takes_seen old claim new takes = by old.owed takes
+    where
+      by : (owed : List (List (List Cell))) → TreeTakesOf (tree_in tailed) old owed claim new
+          → TakesOf (seen old) owed claim (seen new)
+      by [] it = it
+      by (p ∷ owed) it = (it.0, ap seen it.1)
+
+  pub refuses_seen : (old : Standing (List (List Cell))) (claim : Claim) (refused : Refusal) (new : Standing (List (List Cell)))
+      → TreeRefuses (tree_in tailed) old claim refused new → Refuses (seen old) claim (refused_by refused) (seen new)
+  refuses_seen old claim refused new refuses = (by old.owed refuses.0, ap seen refuses.1)
+    where
+      by : (owed : List (List (List Cell))) → TreeFault (tree_in tailed) old owed claim refused
+          → IsFault (seen old) owed claim (refused_by refused)
+      by [] it = ap refused_by it
+      by (p ∷ owed) it = (it.0, ap refused_by it.1)
+
+  -- ---- and the other way round
+
+  same_option : (a b : Option Refusal) → option_map refused_by a ≡ option_map refused_by b → a ≡ b
+  same_option None None e = refl
+  same_option None (Some b) e = cc
+  same_option (Some a) None e = cc
+  same_option (Some a) (Some b) e = let same : refused_by a ≡ refused_by b = cc in ap Some (same_refusal a b same)
+
+  same_standing : (a b : Standing (List (List Cell))) → seen a ≡ seen b → a ≡ b
+  same_standing a b e =
+      let owed : a.owed ≡ b.owed = ap (λ (c : Checking). c.owed) e in
+      let count : a.count ≡ b.count = ap (λ (c : Checking). c.count) e in
+      let refusal : a.refusal ≡ b.refusal = same_option a.refusal b.refusal (ap (λ (c : Checking). c.refusal) e) in
+      ap (λ o. record { owed = o; count = a.count; refusal = a.refusal }) owed
+      ∙ ap (λ n. record { owed = b.owed; count = n; refusal = a.refusal }) count
+      ∙ ap (λ r. record { owed = b.owed; count = b.count; refusal = r }) refusal
+
+  to_tree : (s : Standing (List (List Cell))) (claim : Claim) (new : Checking) → IsFed (seen s) claim new
+      → (t : Standing (List (List Cell))) × (seen t ≡ new) × TreeIsFed (tree_in tailed) s claim t
+  to_tree s claim new fed = by s.refusal refl
+    where
+      some_none : (own : Refusal) → s.refusal ≡ None → s.refusal ≡ Some own → ⊥
+      some_none own e f = let both : None ≡ Some own = sym e ∙ f in cc
+
+      takes : s.refusal ≡ None → (owed : List (List (List Cell))) → s.owed ≡ owed → TakesOf (seen s) owed claim new
+          → (t : Standing (List (List Cell))) × (seen t ≡ new) × TreeIsFed (tree_in tailed) s claim t
+      takes clear [] e it = absurd it
+      takes clear (p ∷ owed) e it =
+          let t : Standing (List (List Cell)) =
+          record s { owed = owed_by (tree_in tailed) p claim ++ owed; count = s.count + 1 } in (
+            t,
+            sym it.1,
+            record {
+              judged = λ _. inl (subst (λ o. TreeTakesOf (tree_in tailed) s o claim t) (sym e) (it.0, refl));
+              again = λ own f. absurd (some_none own clear f);
+            },
+          )
+
+      refuses : s.refusal ≡ None → (refused : Refused) → new ≡ record (seen s) { refusal = Some refused }
+          → (owed : List (List (List Cell))) → s.owed ≡ owed → IsFault (seen s) owed claim refused
+          → (t : Standing (List (List Cell))) × (seen t ≡ new) × TreeIsFed (tree_in tailed) s claim t
+      refuses clear refused is [] e it =
+          let own : Refusal = record { number = s.count + 1; cause = causes.Over } in
+          let t : Standing (List (List Cell)) = record s { refusal = Some own } in (
+            t,
+            sym (is ∙ ap (λ r. record (seen s) { refusal = Some r }) it),
+            record {
+              judged = λ _.
+                  inr (own, (subst (λ o. TreeFault (tree_in tailed) s o claim own) (sym e) refl, refl));
+              again = λ other f. absurd (some_none other clear f);
+            },
+          )
+      refuses clear refused is (p ∷ owed) e it =
+          let own : Refusal = record { number = s.count + 1; cause = causes.False } in
+          let t : Standing (List (List Cell)) = record s { refusal = Some own } in (
+            t,
+            sym (is ∙ ap (λ r. record (seen s) { refusal = Some r }) it.1),
+            record {
+              judged = λ _.
+                  inr (own, (subst (λ o. TreeFault (tree_in tailed) s o claim own) (sym e) (it.0, refl), refl));
+              again = λ other f. absurd (some_none other clear f);
+            },
+          )
+
+      by : (refusal : Option Refusal) → s.refusal ≡ refusal
+          → (t : Standing (List (List Cell))) × (seen t ≡ new) × TreeIsFed (tree_in tailed) s claim t
+      by (Some own) e = (
+        s,
+        sym (fed.again (refused_by own) (ap (option_map refused_by) e)),
+        record { judged = λ clear. absurd (some_none own clear e); again = λ other f. refl },
       )
+      by None e = elim (fed.judged (ap (option_map refused_by) e)) [
+        | inl it ↦ takes e s.owed refl it
+        | inr it ↦ refuses e it.0 it.1.1 s.owed refl it.1.0
+      ]
 
--- the same, where what contracts see of a checker is another reading of it
-pub takes_seen : (old seen : Checking) (p : List (List Cell)) (owed : List (List (List Cell))) (claim : Claim)
-    (new : Checking) → old ≡ seen → seen.owed ≡ p ∷ owed
-    → IsTrueOf seen.exercise seen.sheet seen.head seen.stated p claim → new
-    ≡ record seen { owed = owed_by seen.exercise p claim ++ owed; count = seen.count + 1 } → Takes old claim new
-takes_seen old seen p owed claim new same are holds is =
-    subst (λ (s : Checking). Takes s claim new) (sym same) (takes_true seen p owed claim new are holds is)
+  -- claims that were fed to a checker were fed to its judge
+  pub fed_seen : (claims : List Claim) (s end : Standing (List (List Cell))) → AreFed (seen s) claims (seen end)
+      → TreeFed (tree_in tailed) s claims end
+  fed_seen [] s end are = same_standing end s are
+  fed_seen (claim ∷ claims) s end are =
+      let next = to_tree s claim are.0 are.1 in
+      (next.0, next.2, fed_seen claims next.0 end (subst (λ (k : Checking). AreFed k claims (seen end)) (sym next.1) are.2))
 
-pub refuses_seen : (old seen : Checking) (p : List (List Cell)) (owed : List (List (List Cell))) (claim : Claim)
-    (new : Checking) (result : Result (Unit {0}) Refused) → old ≡ seen → seen.owed ≡ p ∷ owed
-    → (IsTrueOf seen.exercise seen.sheet seen.head seen.stated p claim → ⊥) → result
-    ≡ Err (record { number = old.count + 1; why = False })
-    → new ≡ record old { refusal = Some (record { number = old.count + 1; why = False }) }
-    → IfErr result (λ refused. Refuses old claim refused new)
-refuses_seen old seen p owed claim new result same are fails answer kept =
-    refuses_false old p owed claim new (ap (λ (s : Checking). s.owed) same ∙ are) result
-    (subst (λ (s : Checking). IsTrueOf s.exercise s.sheet s.head s.stated p claim → ⊥) (sym same) fails) answer kept
+  -- so what is certified there is a certificate
+  pub certificate_seen : (now : Checking) (s : Standing (List (List Cell))) → seen s ≡ now
+      → IsHeadSound tailed.case.exercise tailed.case.sheet tailed.case.head
+      → IfSome tailed.stated (AreTrueEntries tailed.case.exercise tailed.case.sheet)
+      → IsFedCertified (tree_in tailed) [] s → (claims : List Claim)
+      → AreFed (opened_for now.exercise now.sheet now.head now.stated) claims now
+      → IsCertificate now.exercise now.sheet now.head now.stated claims
+  certificate_seen now s same sound entries fed =
+      subst
+      (λ (k : Checking). (claims : List Claim) → AreFed (opened_for k.exercise k.sheet k.head k.stated) claims k
+      → IsCertificate k.exercise k.sheet k.head k.stated claims)
+      same (λ claims are. record {
+        sound = sound;
+        entries = entries;
+        certified = fed claims (fed_seen claims (begun_at []) s are);
+      })
 
-pub none_from : {X : Type 0} (o : Option X) → is_some o ≡ false → o ≡ None
-none_from None h = refl
-none_from (Some x) h = absurd (true≢false h)
-
--- where there is a next prefix, it is owed
-pub owes_next : (ex : Exercise) (levels : List Level) (next : Option Judged) → is_some next ≡ true
-    → owed_at ex levels next ≡ [] → ⊥
-owes_next ex levels None h e = absurd (true≢false (sym h))
-owes_next ex levels (Some judged) h e = cc
-
--- where none is owed and none was refused, the head holds
-pub shown : (t : Matter) (stated : Option (List Potential)) (walk : Walk) → IsCase t
-    → IfSome stated (AreTrueEntries t.exercise t.sheet)
-    → OwesRefuting t.exercise t.sheet t.head (owed_by_walk t.exercise walk) → walk.next ≡ None
-    → Holds t.exercise t.sheet t.head
-shown t stated walk case entries owes none =
-    unrefuted_holds t.exercise t.sheet case.valid.most_voices stated (tails_hold t.exercise case.valid t.sheet stated entries) t.head
-    case.sound
-    (λ s refutes. subst (λ (next : Option Judged). IsBegunByOne (owed_at t.exercise (reverse walk.levels.items) next) s)
-    none (owes s refutes))
-
--- a tail of a prefix, by the exercise and the sheet of a checker
-pub tail_moved : (t : Matter) (basis : Basis) (p : List (List Cell)) (tail : Option ℕ) → HasTails t basis
-    → tail ≡ tail_by basis p → tail ≡ tail_of t.exercise t.sheet basis.stated p
-tail_moved t basis p tail has is =
-    is ∙ ap (λ (ex : Exercise). tail_of ex basis.sheet basis.stated p) has.exercise
-    ∙ ap (λ (sheet : Sheet). tail_of t.exercise sheet basis.stated p) has.sheet
+  pub none_certified : (now : Checking) (s : Standing (List (List Cell))) → seen s ≡ now
+      → IsFedNone (tree_in tailed) [] s → (claims : List Claim)
+      → AreFed (opened_for now.exercise now.sheet now.head now.stated) claims now
+      → IsCertificate now.exercise now.sheet now.head now.stated claims → ⊥
+  none_certified now s same fed =
+      subst
+      (λ (k : Checking). (claims : List Claim) → AreFed (opened_for k.exercise k.sheet k.head k.stated) claims k
+      → IsCertificate k.exercise k.sheet k.head k.stated claims → ⊥)
+      same (λ claims are valid. fed claims (fed_seen claims (begun_at []) s are) valid.certified)

@@ -6,7 +6,8 @@ use Rattle.std.specs.Io.{StartsWith}
 use Rattle.std.specs.Prelude.{IfSome}
 use Rattle.std.specs.List.{AllByRecursion, flat_map}
 use Rattle.cert_check.specs.Checking.{Checking, IsFault, Refuses, Takes, TakesOf, accepted_of}
-use Rattle.cert_law.specs.Certificates.{IsCertified, IsHeadSound, owed_by}
+use Rattle.cert_tree.specs.Trees.{IsCertified, owed_by}
+use Rattle.cert_law.specs.Certificates.{IsHeadSound, tree_of}
 use Rattle.cert_law.specs.Claims.{IsTrueOf}
 use Rattle.cert_file.specs.Readings.{FaultAt, Files, Gives, IsAt, MayBe, Reading, judged_bytes, longest_certificate}
 use Rattle.cert_file.specs.declared.fault.ReadFault.{ReadFault}
@@ -48,25 +49,25 @@ module _ (ex : Exercise) (sheet : Sheet) (head : CertHead) (stated : Option (Lis
   leaves_more : (owed : List (List (List Cell))) (claims : List Claim) (p : List (List Cell))
       (later : List (List (List Cell))) (claim : Claim)
       → Leaves ex sheet head stated owed claims (p ∷ later) → IsTrueOf ex sheet head stated p claim
-      → Leaves ex sheet head stated owed (claims ++ claim ∷ []) (owed_by ex p claim ++ later)
+      → Leaves ex sheet head stated owed (claims ++ claim ∷ []) (owed_by (tree_of ex sheet head stated) p claim ++ later)
   leaves_more owed [] p later claim left holds =
-      subst (λ (ps : List (List (List Cell))). Leaves ex sheet head stated ps (claim ∷ []) (owed_by ex p claim ++ later))
+      subst (λ (ps : List (List (List Cell))). Leaves ex sheet head stated ps (claim ∷ []) (owed_by (tree_of ex sheet head stated) p claim ++ later))
       (sym left) (holds, refl)
   leaves_more [] (other ∷ claims) p later claim left holds = absurd left
   leaves_more (q ∷ owed) (other ∷ claims) p later claim left holds =
-      (left.0, leaves_more (owed_by ex q other ++ owed) claims p later claim left.1 holds)
+      (left.0, leaves_more (owed_by (tree_of ex sheet head stated) q other ++ owed) claims p later claim left.1 holds)
 
   -- claims that leave none are certified
   pub leaves_none : (owed : List (List (List Cell))) (claims : List Claim) → Leaves ex sheet head stated owed claims []
-      → IsCertified ex sheet head stated owed claims
+      → IsCertified (tree_of ex sheet head stated) owed claims
   leaves_none [] [] left = tt
   leaves_none (p ∷ owed) [] left = cc
   leaves_none [] (claim ∷ claims) left = left
-  leaves_none (p ∷ owed) (claim ∷ claims) left = (left.0, leaves_none (owed_by ex p claim ++ owed) claims left.1)
+  leaves_none (p ∷ owed) (claim ∷ claims) left = (left.0, leaves_none (owed_by (tree_of ex sheet head stated) p claim ++ owed) claims left.1)
 
   pub taken_more : (count : ℕ) (p : List (List Cell)) (later : List (List (List Cell))) (bytes : List ℕ) (claim : Claim)
       → IsTaken ex sheet head stated count (p ∷ later) bytes → IsClaim claim → IsTrueOf ex sheet head stated p claim
-      → IsTaken ex sheet head stated (count + 1) (owed_by ex p claim ++ later) (bytes ++ claim_line claim)
+      → IsTaken ex sheet head stated (count + 1) (owed_by (tree_of ex sheet head stated) p claim ++ later) (bytes ++ claim_line claim)
   taken_more count p later bytes claim taken fits holds = record {
     sound = taken.sound;
     entries = taken.entries;

@@ -5,7 +5,6 @@ pub mod EnteringLemmas
 pub mod HeadLemmas
 pub mod JudgingLemmas
 pub mod OneVerdict
-pub mod RunLemmas
 pub mod StartLemmas
 pub mod ToldClaims
 pub mod ToldEntries

@@ -20,7 +20,8 @@ use Rattle.cert_check.proofs.StartLemmas.{at_front}
 use Rattle.cert_check.proofs.ToldClaims.{AreTold, IsTold, Next, Unended, Wrong, at_end, one_told, told_behind, told_of}
 use Rattle.cert_check.proofs.ToldEntries.{Ends, IsStatedTold, Last, NotEnded, NotOwed, one_stated}
 use Rattle.cert_file.proofs.TextLemmas.{such_of}
-use Rattle.cert_law.specs.Certificates.{IsCertified, IsHeadSound, owed_by}
+use Rattle.cert_tree.specs.Trees.{IsCertified, owed_by}
+use Rattle.cert_law.specs.Certificates.{IsHeadSound, tree_of}
 use Rattle.cert_law.specs.Entries.{AreTrueEntries, entry_count}
 use Rattle.cert_text.specs.declared.answers.CertFault.{CertFault}
 use Rattle.cert_text.specs.declared.answers.CertFault.TheVariants.{CertHead as WrongHead, CertWord, CertEnd, Memory}
@@ -151,12 +152,12 @@ module _ (ex : Exercise) (sheet : Sheet) (bytes : List ℕ) where
         ap (λ more. told_of head more Unended owed count place rest) (within short).1
 
     leaves_none : (stated : Option (List Entry)) (owed : List (List (List Cell))) (claims : List Claim)
-        → IsCertified ex sheet head stated owed claims → Leaves ex sheet head stated owed claims []
+        → IsCertified (tree_of ex sheet head stated) owed claims → Leaves ex sheet head stated owed claims []
     leaves_none stated [] [] certified = refl
     leaves_none stated (p ∷ owed) [] certified = absurd certified
     leaves_none stated [] (claim ∷ claims) certified = absurd certified
     leaves_none stated (p ∷ owed) (claim ∷ claims) certified =
-        (certified.0, leaves_none stated (owed_by ex p claim ++ owed) claims certified.1)
+        (certified.0, leaves_none stated (owed_by (tree_of ex sheet head stated) p claim ++ owed) claims certified.1)
 
     ended : IsUnended []
     ended = record { begins = nothing_begins; unended = tt }

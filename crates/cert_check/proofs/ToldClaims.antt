@@ -10,7 +10,8 @@ use Rattle.cert_file.specs.declared.verdict.Verdict.{Verdict}
 use Rattle.cert_file.specs.declared.verdict.Verdict.TheVariants as verdicts
 use Rattle.cert_file.proofs.StatedTexts.{wrong_not_unended}
 use Rattle.cert_file.proofs.TextLemmas.{has_feed, line_begins, line_split, same_line}
-use Rattle.cert_law.specs.Certificates.{owed_by}
+use Rattle.cert_tree.specs.Trees.{owed_by}
+use Rattle.cert_law.specs.Certificates.{tree_of}
 use Rattle.cert_law.specs.Claims.{IsTrueOf}
 use Rattle.cert_text.specs.declared.answers.CertFault.TheVariants.{CertWord, CertEnd}
 use Rattle.cert_text.specs.declared.answers.CertHead.{CertHead}
@@ -102,7 +103,7 @@ module _ (ex : Exercise) (sheet : Sheet) (head : CertHead) (stated : Option (Lis
   AreTold [] owed count place rest it = IsTold owed count place rest it
   AreTold (claim ∷ claims) [] count place rest it = ⊥
   AreTold (claim ∷ claims) (p ∷ owed) count place rest it =
-      Goes claim p rest (λ later. AreTold claims (owed_by ex p claim ++ owed) (count + 1)
+      Goes claim p rest (λ later. AreTold claims (owed_by (tree_of ex sheet head stated) p claim ++ owed) (count + 1)
       (place + length (claim_line claim)) later it)
 
   -- no true claim is where the verdict is told
@@ -129,10 +130,10 @@ module _ (ex : Exercise) (sheet : Sheet) (head : CertHead) (stated : Option (Lis
   one_told (c ∷ claims) (d ∷ others) [] count place rest it other p q = absurd p
   one_told (c ∷ claims) (d ∷ others) (o ∷ owed) count place rest it other p q =
       let both = same_line c d p.later q.later p.fits q.fits (sym p.is ∙ q.is) in
-      let moved = subst (λ xs. AreTold others (owed_by ex o d ++ owed) (count + 1) (place + length (claim_line d)) xs
+      let moved = subst (λ xs. AreTold others (owed_by (tree_of ex sheet head stated) o d ++ owed) (count + 1) (place + length (claim_line d)) xs
       other) (sym both.1) q.on in
-      one_told claims others (owed_by ex o c ++ owed) (count + 1) (place + length (claim_line c)) p.later it other p.on
-      (subst (λ (k : Claim). AreTold others (owed_by ex o k ++ owed) (count + 1) (place + length (claim_line k)) p.later
+      one_told claims others (owed_by (tree_of ex sheet head stated) o c ++ owed) (count + 1) (place + length (claim_line c)) p.later it other p.on
+      (subst (λ (k : Claim). AreTold others (owed_by (tree_of ex sheet head stated) o k ++ owed) (count + 1) (place + length (claim_line k)) p.later
       other) (sym both.0) moved)
 
   -- what is told behind claims that are taken is told of all of them
@@ -152,7 +153,7 @@ module _ (ex : Exercise) (sheet : Sheet) (head : CertHead) (stated : Option (Lis
     holds = leaves.0;
     later = flat_map claim_line claims ++ rest;
     is = append_assoc (claim_line c) (flat_map claim_line claims) rest;
-    on = told_behind claims (owed_by ex p c ++ first) left (count + 1) (place + length (claim_line c)) all end rest it
+    on = told_behind claims (owed_by (tree_of ex sheet head stated) p c ++ first) left (count + 1) (place + length (claim_line c)) all end rest it
         fits.1 leaves.1 (omega (arith, counted))
         (omega (arith, far, length-append (claim_line c) (flat_map claim_line claims))) told;
   }

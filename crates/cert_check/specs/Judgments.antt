@@ -3,7 +3,8 @@ use Rattle.std.specs.Prelude.{◌≡◌, ℕ, ◌+◌, ◌≤◌, ◌⊎◌, ⊤
 use Rattle.std.specs.Io.{StartsWith}
 use Rattle.std.specs.List.{AllByRecursion, flat_map}
 use Rattle.cert_check.specs.Checking.{Checking, accepted_of}
-use Rattle.cert_law.specs.Certificates.{Holds, IsCertificate, IsHeadSound, owed_by}
+use Rattle.cert_tree.specs.Trees.{owed_by}
+use Rattle.cert_law.specs.Certificates.{Holds, IsCertificate, IsHeadSound, tree_of}
 use Rattle.cert_law.specs.Claims.{IsTrueOf}
 use Rattle.cert_law.specs.Entries.{AreTrueEntries, IsFirstFalse, entry_count}
 use Rattle.cert_file.specs.Readings.{FaultAt, FaultAtLine, Files, MayBe, Stated, judged_bytes, longest_certificate}
@@ -72,7 +73,7 @@ abbrev pub Leaves : Exercise → Sheet → CertHead → Option (List Potential) 
 Leaves ex sheet head stated owed [] left = owed ≡ left
 Leaves ex sheet head stated [] (claim ∷ claims) left = ⊥
 Leaves ex sheet head stated (p ∷ owed) (claim ∷ claims) left =
-    IsTrueOf ex sheet head stated p claim × Leaves ex sheet head stated (owed_by ex p claim ++ owed) claims left
+    IsTrueOf ex sheet head stated p claim × Leaves ex sheet head stated (owed_by (tree_of ex sheet head stated) p claim ++ owed) claims left
 
 -- the bytes are the text of the head, which is sound, of what is stated, each of it true, and of so many claims, each true, that leave
 -- these prefixes owed

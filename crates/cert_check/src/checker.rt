@@ -3,10 +3,12 @@
 ghost use Rattle.std.specs.Prelude.{◌≡◌, ◌≢◌, ◌+◌, ◌^◌, ◌<◌, ◌≤◌, [], ◌∷◌, None, Some, Ok, Err, IfErr, IfOk, IfSome, OnErr, OnOk};
 ghost use Rattle.cert_text.specs.declared.answers.Refused.{Refused as ARefused};
 ghost use Rattle.cert_text.specs.declared.answers.Why.TheVariants as whys;
-ghost use Rattle.cert_law.specs.Certificates.{Holds, IsHeadSound, OwesRefuting};
+ghost use Rattle.cert_tree.specs.Trees.{OwesRefuting};
+ghost use Rattle.cert_law.specs.Certificates.{Begins, Holds, IsHeadSound, Refutes};
 ghost use Rattle.cert_law.specs.Bases.{HasTails};
 ghost use Rattle.cert_law.specs.Cases.{IsCase};
 ghost use Rattle.cert_law.specs.Entries.{AreTrueEntries};
+ghost use Rattle.cert_check.specs.Checking as words;
 ghost use Rattle.cert_check.specs.Checking.{Refuses, Takes, accepted_of};
 ghost use Rattle.cert_check.specs.Opening.{TellsWhy};
 ghost use Rattle.cert_check.specs.Runs.{IsFedCertificate, IsFedNone, opened_for};
@@ -14,8 +16,9 @@ ghost use Rattle.floor_tables.specs.Tables.{AreNarrow};
 ghost use Rattle.fux_grid.specs.Exercises.{IsValid};
 
 use crate::head::is_sound;
-use cert_law::{Case, Judged, Tails, Walk, is_open, is_true};
+use cert_law::{Case, PrefixKnown, TailedCase, Tails};
 use cert_text::{Accepted, CertHead, Claim, Refused, Why};
+use cert_tree::{Cause, Judging, Refusal, begin, feed, finish};
 use floor_tables::{TableFault, Tables, fill_tables};
 use fux_grid::{Exercise, Place};
 use fux_pitch::Memory;
@@ -34,9 +37,6 @@ pub enum OpenFault {
     Memory,
 }
 
-/// Room for 24 bars of eight columns.
-const MOST_LEVELS: usize = 192;
-
 /// Judges the claims of a certificate one by one, by the tails of tables or by those that entries state. It holds the open prefixes that
 /// begin the one owed next, and nothing else of what was judged, so that it takes no memory after it is opened.
 #[derive(Drop)]
@@ -45,14 +45,14 @@ pub struct Checker<'a, T: Tails> {
     sheet: &'a Sheet,
     head: CertHead,
     tails: T,
-    walk: Walk,
-    taken: u64,
-    refusal: Option<Refused>,
+    judging: Judging<PrefixKnown>,
 }
 
 impl<'a, T: Tails> Model for Checker<'a, T> {
-    ghost use Rattle.cert_check.specs.Checking.{Checking, IsChecking};
-    ghost use Rattle.cert_law.specs.Walks.{owed_by_walk};
+    ghost use Rattle.std.specs.Prelude.{option_map};
+    ghost use Rattle.cert_check.specs.Checking.{Checking, IsChecking, refused_by};
+    ghost use Rattle.cert_law.specs.Known.{ways_of};
+    ghost use Rattle.cert_tree.specs.Walks.{owed_by_walk};
 
     ghost Value = { Checking };
 
@@ -61,13 +61,34 @@ impl<'a, T: Tails> Model for Checker<'a, T> {
       sheet = c.sheet.now;
       head = c.head;
       stated = (T.basis c.tails).stated;
-      owed = owed_by_walk c.exercise.now c.walk;
-      count = c.taken;
-      refusal = c.refusal;
+      owed = owed_by_walk (ways_of c.exercise.now) c.judging.walk;
+      count = c.judging.taken;
+      refusal = option_map refused_by c.judging.refusal;
     } };
 
     ghost invariant = { λ c. IsChecking
-        (record { exercise = c.exercise.now; sheet = c.sheet.now; head = c.head }) (T.basis c.tails) c.walk c.refusal };
+        (record { exercise = c.exercise.now; sheet = c.sheet.now; head = c.head }) (T.basis c.tails) c.judging };
+}
+
+/// Why a claim is refused, as it is answered.
+fn why_of(cause: Cause) -> Why
+    ensures { result ≡ words.why_of cause }
+{
+    match cause {
+        Cause::False => Why::False,
+        Cause::Over => Why::Over,
+        Cause::Short => Why::Short,
+    }
+}
+
+/// A refusal, as it is answered.
+fn refused_by(refusal: Refusal) -> Refused
+    ensures { result ≡ words.refused_by refusal }
+{
+    Refused {
+        number: refusal.number,
+        why: why_of(refusal.cause),
+    }
 }
 
 impl<'a> Checker<'a, Tables<'a>> {
@@ -121,16 +142,18 @@ impl<'a, T: Tails + Drop> Checker<'a, T> {
         requires entries { IfSome (T.basis tails).stated (AreTrueEntries exercise.now sheet.now) }
         ensures { IfOk result (λ c. c ≡ opened_for exercise.entry.now sheet.entry.now head (T.basis tails).stated) }
     {
-        let levels = Vec::with_capacity(alloc, MOST_LEVELS)?;
-        let next = Some(Judged::start(exercise, sheet));
+        let case = Case {
+            exercise,
+            sheet,
+            head: &head,
+        };
+        let judging = begin(alloc, &TailedCase::new(case, &tails))?;
         Ok(Checker {
             exercise,
             sheet,
             head,
             tails,
-            walk: Walk { levels, next },
-            taken: 0,
-            refusal: None,
+            judging,
         })
     }
 
@@ -141,9 +164,9 @@ impl<'a, T: Tails + Drop> Checker<'a, T> {
         ensures sound { IsHeadSound self.now.exercise self.now.sheet self.now.head }
         ensures entries { IfSome self.now.stated (AreTrueEntries self.now.exercise self.now.sheet) }
         ensures owes { self.now.refusal ≡ None
-            → OwesRefuting self.now.exercise self.now.sheet self.now.head self.now.owed }
+            → OwesRefuting Begins (Refutes self.now.exercise self.now.sheet self.now.head) self.now.owed }
     {
-        let _ = &self.taken;
+        let _ = &self.judging;
     }
 
     /// Judges a claim of the prefix that is owed next. It is taken where it is true of it; after a refusal every call answers the same.
@@ -153,38 +176,16 @@ impl<'a, T: Tails + Drop> Checker<'a, T> {
         ensures refused { self.old.refusal ≡ None → IfErr result (λ refused. Refuses self.old claim refused self.new) }
         ensures again { (refused : ARefused) → self.old.refusal ≡ Some refused → (result ≡ Err refused) × (self.new ≡ self.old) }
     {
-        if let Some(refused) = self.refusal {
-            return Err(refused);
-        }
-        let Some(next) = self.walk.next else {
-            return self.refuse(Why::Over);
-        };
         let case = Case {
             exercise: self.exercise,
             sheet: self.sheet,
             head: &self.head,
         };
-        let tail = self.walk.tail(&case, &self.tails);
-        if !is_true(&case, &next, tail, claim) {
-            return self.refuse(Why::False);
+        let it = TailedCase::new(case, &self.tails);
+        match feed(&it, &mut self.judging, claim) {
+            Ok(()) => Ok(()),
+            Err(refusal) => Err(refused_by(refusal)),
         }
-        self.walk.go_on(&case, &self.tails, next, is_open(claim));
-        self.taken += 1;
-        Ok(())
-    }
-
-    /// Keeps that a claim is refused.
-    fn refuse(&mut self, why: Why) -> Result<(), Refused>
-        requires { self.old.count < 2 ^ 40 }
-        ensures answer { result ≡ Err (record { number = self.old.count + 1; why = why }) }
-        ensures kept { self.new ≡ record self.old { refusal = Some (record { number = self.old.count + 1; why = why }) } }
-    {
-        let refused = Refused {
-            number: self.taken + 1,
-            why,
-        };
-        self.refusal = Some(refused);
-        Err(refused)
     }
 
     /// What the claims so far show, where none is owed. The head's setting is the best one then, or nothing is lawful.
@@ -200,18 +201,17 @@ impl<'a, T: Tails + Drop> Checker<'a, T> {
         ensures certified { OnOk result (IsFedCertificate self.now) }
         ensures uncertified { OnErr result (IsFedNone self.now) }
     {
-        if let Some(refused) = self.refusal {
-            return Err(refused);
+        let case = Case {
+            exercise: self.exercise,
+            sheet: self.sheet,
+            head: &self.head,
+        };
+        match finish(&TailedCase::new(case, &self.tails), &self.judging) {
+            Ok(()) => Ok(match &self.head {
+                CertHead::Best { penalty, .. } => Accepted::Best(*penalty),
+                CertHead::Nothing => Accepted::Nothing,
+            }),
+            Err(refusal) => Err(refused_by(refusal)),
         }
-        if self.walk.next.is_some() {
-            return Err(Refused {
-                number: self.taken + 1,
-                why: Why::Short,
-            });
-        }
-        Ok(match &self.head {
-            CertHead::Best { penalty, .. } => Accepted::Best(*penalty),
-            CertHead::Nothing => Accepted::Nothing,
-        })
     }
 }

@@ -2,7 +2,8 @@ pub mod BreakLemmas
 pub mod CostBounds
 pub mod EntryLemmas
 pub mod FloorFacts
-pub mod LevelLemmas
+pub mod FirstLemmas
+pub mod KnownLemmas
 pub mod NumberLemmas
 pub mod Orders
 pub mod Prefixes

@@ -6,7 +6,8 @@ use Rattle.std.proofs.Math.ListN.{get_or-append}
 use Rattle.std.proofs.Math.Seq.{get_or-append_seam}
 use Rattle.std.proofs.lemmas.Bool.{and_parts, cases_Bool, cases_lt, eqb-true, or_parts}
 use Rattle.std.proofs.lemmas.List.{length-append, reverse-append, take-append-le}
-use Rattle.cert_law.specs.Certificates.{IsBegunByOne}
+use Rattle.cert_tree.specs.Trees.{IsBegunByOne}
+use Rattle.cert_law.specs.Certificates.{Begins}
 use Rattle.cert_law.specs.Claims.{has_break_of, longer_prefixes}
 use Rattle.chain_sums.specs.Sums.{column_follows}
 use Rattle.chain_sums.proofs.SumLemmas.{column_follows_is}
@@ -88,7 +89,7 @@ append-middle (c ∷ p) col rest = ap (λ q. c ∷ q) (append-middle p col rest)
 -- one of the columns that pass begins it
 among_passing : (p : List (List Cell)) (test : List Cell → Bool) (cols : List (List Cell)) (col : List Cell)
     (rest : List (List Cell)) → Contains cols col → test col ≡ true
-    → IsBegunByOne (map (λ c. p ++ c ∷ []) (filter test cols)) (p ++ col ∷ rest)
+    → IsBegunByOne Begins (map (λ c. p ++ c ∷ []) (filter test cols)) (p ++ col ∷ rest)
 among_passing p test [] col rest (k, h, e) passes = absurd (omega (arith, h))
 among_passing p test (c ∷ cols) col rest (zero, h, e) passes =
     rw (ap test e ∙ passes) (inl record {
@@ -99,13 +100,13 @@ among_passing p test (c ∷ cols) col rest (zero, h, e) passes =
 among_passing p test (c ∷ cols) col rest (suc k, h, e) passes =
     at (cases_Bool (test c)) (among_passing p test cols col rest (k, omega (arith, h), e) passes)
   where
-    at : (test c ≡ true) ⊎ (test c ≡ false) → IsBegunByOne (map (λ d. p ++ d ∷ []) (filter test cols)) (p ++ col ∷ rest)
-        → IsBegunByOne (map (λ d. p ++ d ∷ []) (filter test (c ∷ cols))) (p ++ col ∷ rest)
+    at : (test c ≡ true) ⊎ (test c ≡ false) → IsBegunByOne Begins (map (λ d. p ++ d ∷ []) (filter test cols)) (p ++ col ∷ rest)
+        → IsBegunByOne Begins (map (λ d. p ++ d ∷ []) (filter test (c ∷ cols))) (p ++ col ∷ rest)
     at (inl t) later = rw t (inr later)
     at (inr f) later = rw f later
 
 pub begun_longer : (ex : Exercise) (p rest : List (List Cell)) → length p < columns_in ex → IsSetting ex (p ++ rest)
-    → IsBegunByOne (longer_prefixes ex p) (p ++ rest)
+    → IsBegunByOne Begins (longer_prefixes ex p) (p ++ rest)
 begun_longer ex p [] shorter setting =
     let size : length (p ++ []) ≡ length p + 0 = length-append p [] in
     absurd (omega (arith, shorter, size, setting.whole))

@@ -14,7 +14,7 @@ use Rattle.fux_judge.specs.Gauges.{least_of}
 use Rattle.fux_judge.specs.Penalties.{paid}
 use Rattle.penalty_sheet.specs.declared.sheet.Sheet.{Sheet}
 
-floor-tail : (ex : Exercise) (sheet : Sheet) (stated : Option (List Potential)) (p : List (List Cell)) (tail : Option ℕ)
+pub floor-tail : (ex : Exercise) (sheet : Sheet) (stated : Option (List Potential)) (p : List (List Cell)) (tail : Option ℕ)
     → tail ≡ tail_of ex sheet stated p
     → used_floor ex sheet stated p ≡ option_map (λ r. paid ex sheet p + least_of ex sheet p + r) tail
 unfolding used_floor

@@ -1,16 +1,18 @@
--- A valid certificate's head holds (`certificate_holds`): a lawful setting that refutes it would be begun by a prefix that is owed, as
--- long as true claims are taken (`claim_kept`), and in the end none is owed.
-use Rattle.std.proofs.Common.{◌≡◌, ◌≢◌, ◌⊎◌, inl, inr, ℕ, ◌+◌, ◌<◌, ◌≤◌, List, [], ◌∷◌, ◌++◌, length, Option, Some, None, refl, ap, sym, ◌∙◌, subst, arith}
+-- A valid certificate's head holds (`certificate_holds`), since true claims exclude what refutes a sound head (`excludes_refuting`).
+use Rattle.std.proofs.Common.{◌≡◌, ◌≢◌, ◌⊎◌, inl, inr, ℕ, ◌+◌, ◌<◌, ◌≤◌, true, false, List, [], ◌∷◌, ◌++◌, length, Option, Some, None, refl, ap, sym, ◌∙◌, subst, arith}
 use Rattle.std.specs.Prelude.{IsSomeAnd, option_map}
 use Rattle.std.proofs.lemmas.Bool.{cases_lt}
 use Rattle.cert_text.specs.declared.answers.CertHead.{CertHead}
 use Rattle.cert_text.specs.declared.answers.CertHead.TheVariants.{Best, Nothing}
 use Rattle.cert_text.specs.declared.claim.Claim.{Claim}
 use Rattle.cert_text.specs.declared.claim.Claim.TheVariants.{Open, Broken, NoChain, Floor, TheScore}
-use Rattle.cert_law.specs.Certificates.{Holds, IsBegunByOne, IsBetter, IsCertificate, IsCertified, IsHeadSound, OwesRefuting, Refutes, owed_by}
-use Rattle.cert_law.specs.Claims.{IsNoBetter, IsTrueOf}
+use Rattle.cert_tree.specs.Trees.{Excludes, IsBegunByOne}
+use Rattle.cert_tree.proofs.Shown.{none_refutes_from}
+use Rattle.cert_law.specs.Certificates.{Begins, Holds, IsBetter, IsCertificate, IsHeadSound, Refutes, is_open, tree_of}
+use Rattle.cert_law.specs.Claims.{IsNoBetter, IsTrueOf, longer_prefixes}
 use Rattle.cert_text.specs.declared.potential.Potential.{Potential}
 use Rattle.cert_law.specs.Tails.{tail_of, used_floor}
+use Rattle.cert_law.specs.WayLaws.{empty_begins}
 use Rattle.cert_law.proofs.TailFacts.{TailsHold}
 use Rattle.cert_law.proofs.Prefixes.{begun_longer, begun_unbroken, unbroken-each}
 use Rattle.fux_grid.specs.declared.cell.Cell.{Cell}
@@ -22,17 +24,6 @@ use Rattle.fux_judge.specs.Lawful.{IsLawful}
 use Rattle.fux_judge.specs.Penalties.{paid, penalty_of}
 use Rattle.fux_judge.specs.Gauges.{least_of}
 use Rattle.penalty_sheet.specs.declared.sheet.Sheet.{Sheet}
-
-begun-left : (owed others : List (List (List Cell))) (t : List (List Cell)) → IsBegunByOne owed t
-    → IsBegunByOne (owed ++ others) t
-begun-left [] others t h = absurd h
-begun-left (p ∷ owed) others t (inl h) = inl h
-begun-left (p ∷ owed) others t (inr h) = inr (begun-left owed others t h)
-
-begun-right : (owed others : List (List (List Cell))) (t : List (List Cell)) → IsBegunByOne others t
-    → IsBegunByOne (owed ++ others) t
-begun-right [] others t h = h
-begun-right (p ∷ owed) others t h = inr (begun-right owed others t h)
 
 -- a prefix with a floor has a tail
 floor_needs_tail : (ex : Exercise) (sheet : Sheet) (stated : Option (List Potential)) (p : List (List Cell))
@@ -82,57 +73,59 @@ module _ (ex : Exercise) (sheet : Sheet) (few : ex.voices ≤ 4) (stated : Optio
       at (inr earlier) =
           earlier-itself score.columns (subst (λ (s : List (List Cell)). IsEarlier s score.columns) whole earlier.1)
 
-  kept : (head : CertHead) (claim : Claim) (p rest : List (List Cell)) → IsHeadSound ex sheet head
-      → IsTrueOf ex sheet head stated p claim → IsLawful ex (p ++ rest) → IsBetter ex sheet head (p ++ rest)
-      → IsBegunByOne (owed_by ex p claim) (p ++ rest)
-  kept head Open p rest sound holds lawful better = begun_longer ex p rest holds.0 lawful.setting
-  kept head (Broken rule) p rest sound holds lawful better =
-      absurd (unbroken-each ex p rule (begun_unbroken ex few p rest lawful) holds)
-  kept head NoChain p rest sound holds lawful better =
-      absurd (floor_needs_tail ex sheet stated p _ (tails.below p rest lawful) holds)
-  kept (Best penalty score) Floor p rest sound holds lawful better =
-      absurd (none_by_floor penalty score p rest (used_floor ex sheet stated p) (tails.below p rest lawful) holds better)
-  kept Nothing Floor p rest sound holds lawful better = absurd (never (used_floor ex sheet stated p) holds)
+  -- what goes on from an open prefix goes on by a column
+  goes_on : (head : CertHead) (p : List (List Cell)) (claim : Claim) (s : List (List Cell)) → is_open claim ≡ true
+      → IsTrueOf ex sheet head stated p claim → Refutes ex sheet head s → Begins p s
+      → IsBegunByOne Begins (longer_prefixes ex p) s
+  goes_on head p Open s e holds refutes begins =
+      let lawful : IsLawful ex (p ++ begins.rest) = subst (λ (q : List (List Cell)). IsLawful ex q) begins.is refutes.lawful
+      in
+      subst (λ (q : List (List Cell)). IsBegunByOne Begins (longer_prefixes ex p) q) (sym begins.is)
+      (begun_longer ex p begins.rest holds.0 lawful.setting)
+  goes_on head p (Broken rule) s e holds refutes begins = cc
+  goes_on head p NoChain s e holds refutes begins = cc
+  goes_on head p Floor s e holds refutes begins = cc
+  goes_on head p TheScore s e holds refutes begins = cc
+
+  by_floor : (head : CertHead) (p rest : List (List Cell)) → IsLawful ex (p ++ rest) → IsBetter ex sheet head (p ++ rest)
+      → IsSomeAnd (used_floor ex sheet stated p) (IsNoBetter head p) → ⊥
+  by_floor Nothing p rest lawful better h = never (used_floor ex sheet stated p) h
     where
       never : (floor : Option ℕ) → IsSomeAnd floor (IsNoBetter Nothing p) → ⊥
       never None h = h
       never (Some f) h = h
-  kept (Best penalty score) TheScore p rest sound holds lawful better =
-      let P : List (List Cell) → Type 0 = λ q. IsLawful ex (q ++ rest) in
+  by_floor (Best penalty score) p rest lawful better h =
+      none_by_floor penalty score p rest (used_floor ex sheet stated p) (tails.below p rest lawful) h better
+
+  by_setting : (head : CertHead) (p rest : List (List Cell)) → IsHeadSound ex sheet head → IsLawful ex (p ++ rest)
+      → IsBetter ex sheet head (p ++ rest) → IsTrueOf ex sheet head stated p TheScore → ⊥
+  by_setting Nothing p rest sound lawful better h = h
+  by_setting (Best penalty score) p rest sound lawful better h =
+      let L : List (List Cell) → Type 0 = λ q. IsLawful ex (q ++ rest) in
       let B : List (List Cell) → Type 0 = λ q. IsBetter ex sheet (Best penalty score) (q ++ rest) in
-      absurd (none_by_setting penalty score rest sound (subst P holds lawful) (subst B holds better))
-  kept Nothing TheScore p rest sound holds lawful better = absurd holds
+      none_by_setting penalty score rest sound (subst L h lawful) (subst B h better)
 
-  -- where each refuting setting is begun by a prefix that is owed, it still is after a true claim of the first one
-  pub claim_kept : (head : CertHead) (claim : Claim) (p : List (List Cell)) (owed : List (List (List Cell)))
-      → IsHeadSound ex sheet head → IsTrueOf ex sheet head stated p claim → OwesRefuting ex sheet head (p ∷ owed)
-      → OwesRefuting ex sheet head (owed_by ex p claim ++ owed)
-  claim_kept head claim p owed sound holds owes t refutes = at (owes t refutes)
-    where
-      at : IsBegunByOne (p ∷ owed) t → IsBegunByOne (owed_by ex p claim ++ owed) t
-      at (inr h) = begun-right (owed_by ex p claim) owed t h
-      at (inl h) =
-          let L : List (List Cell) → Type 0 = λ s. IsLawful ex s in
-          let B : List (List Cell) → Type 0 = λ s. IsBetter ex sheet head s in
-          let O : List (List Cell) → Type 0 = λ s. IsBegunByOne (owed_by ex p claim) s in
-          begun-left (owed_by ex p claim) owed t
-          (subst O (sym h.is) (kept head claim p h.rest sound holds (subst L h.is refutes.lawful)
-          (subst B h.is refutes.better)))
+  -- nothing that is better goes on from another one
+  ends_here : (head : CertHead) (p rest : List (List Cell)) (claim : Claim) → is_open claim ≡ false
+      → IsTrueOf ex sheet head stated p claim → IsHeadSound ex sheet head → IsLawful ex (p ++ rest)
+      → IsBetter ex sheet head (p ++ rest) → ⊥
+  ends_here head p rest Open e holds sound lawful better = cc
+  ends_here head p rest (Broken rule) e holds sound lawful better =
+      unbroken-each ex p rule (begun_unbroken ex few p rest lawful) holds
+  ends_here head p rest NoChain e holds sound lawful better =
+      floor_needs_tail ex sheet stated p _ (tails.below p rest lawful) holds
+  ends_here head p rest Floor e holds sound lawful better = by_floor head p rest lawful better holds
+  ends_here head p rest TheScore e holds sound lawful better = by_setting head p rest sound lawful better holds
 
-  -- so certified claims leave none
-  pub none_refutes : (head : CertHead) (claims : List Claim) (owed : List (List (List Cell)))
-      → IsHeadSound ex sheet head → IsCertified ex sheet head stated owed claims → OwesRefuting ex sheet head owed
-      → (t : List (List Cell)) → Refutes ex sheet head t → ⊥
-  none_refutes head [] [] sound certified owes t refutes = owes t refutes
-  none_refutes head [] (p ∷ owed) sound certified owes t refutes = absurd certified
-  none_refutes head (claim ∷ claims) [] sound certified owes t refutes = absurd certified
-  none_refutes head (claim ∷ claims) (p ∷ owed) sound certified owes t refutes =
-      none_refutes head claims (owed_by ex p claim ++ owed) sound certified.1
-      (claim_kept head claim p owed sound certified.0 owes) t refutes
-
-  -- the empty prefix begins every setting
-  pub empty_owes : (head : CertHead) → OwesRefuting ex sheet head ([] ∷ [])
-  empty_owes head t refutes = inl record { rest = t; is = refl }
+  pub excludes_refuting : (head : CertHead) → IsHeadSound ex sheet head
+      → Excludes (tree_of ex sheet head stated) Begins (Refutes ex sheet head)
+  excludes_refuting head sound = record {
+    open_goes_on = goes_on head;
+    closed_ends = λ p claim s e holds refutes begins.
+        ends_here head p begins.rest claim e holds sound
+        (subst (λ (q : List (List Cell)). IsLawful ex q) begins.is refutes.lawful)
+        (subst (λ (q : List (List Cell)). IsBetter ex sheet head q) begins.is refutes.better);
+  }
 
   -- a sound head that nothing refutes holds
   pub unrefuted_holds : (head : CertHead) → IsHeadSound ex sheet head
@@ -160,5 +153,6 @@ module _ (ex : Exercise) (sheet : Sheet) (few : ex.voices ≤ 4) (stated : Optio
   pub certificate_holds : (head : CertHead) (claims : List Claim) → IsCertificate ex sheet head stated claims
       → Holds ex sheet head
   certificate_holds head claims valid =
-      unrefuted_holds head valid.sound (none_refutes head claims ([] ∷ []) valid.sound valid.certified
-      (empty_owes head))
+      unrefuted_holds head valid.sound
+      (none_refutes_from (tree_of ex sheet head stated) Begins (Refutes ex sheet head)
+      (excludes_refuting head valid.sound) [] claims valid.certified empty_begins)

@@ -1,5 +1,5 @@
--- The claims that are written for a head that holds are certified (`claims_certified`): the first true claim of each prefix is true
--- (`first_claim_true`), since a whole setting that is alive is the head's, or no better.
+-- What is written for a head that holds is a valid certificate (`written_is_valid`): the first claim of each prefix is true (`all_true`),
+-- since a whole setting that is alive is the head's, or no better.
 use Rattle.std.proofs.Common.{◌≡◌, ◌≢◌, ◌⊎◌, inl, inr, ℕ, zero, suc, ◌+◌, ◌<◌, ◌≤◌, ◌==◌, nat_lt, Bool, true, false, ◌&&◌, ◌||◌, List, [], ◌∷◌, ◌++◌, if◌then◌else◌, length, map, reverse, slice_index_or, take, Option, Some, None, refl, ap, sym, ◌∙◌, subst, arith, append_assoc, true≢false}
 use Rattle.std.specs.Prelude.{IfSome, IsSomeAnd, is_none}
 use Rattle.std.specs.List.{AllByRecursion, filter, find, flat_map, list_all, list_any}
@@ -14,16 +14,18 @@ use Rattle.cert_text.specs.declared.answers.CertHead.{CertHead}
 use Rattle.cert_text.specs.declared.answers.CertHead.TheVariants.{Best, Nothing}
 use Rattle.cert_text.specs.declared.claim.Claim.{Claim}
 use Rattle.cert_text.specs.declared.claim.Claim.TheVariants.{Open, Broken, NoChain, Floor, TheScore}
-use Rattle.cert_law.specs.Certificates.{Holds, IsCertificate, IsCertified, IsHeadSound, owed_by}
+use Rattle.cert_tree.proofs.OwnClaims.{written_from}
+use Rattle.cert_tree.specs.Trees.{AreTrueFrom, IsCertifiedFrom, claims_from}
+use Rattle.cert_law.specs.Certificates.{Holds, IsCertificate, IsHeadSound, is_open, tree_of}
 use Rattle.cert_law.specs.Entries.{AreTrueEntries}
 use Rattle.cert_law.specs.Rests.{AreRests}
 use Rattle.cert_law.specs.Claims.{IsNoBetter, IsSettingOf, IsTrueOf, has_break_of, longer_prefixes}
 use Rattle.cert_text.specs.declared.potential.Potential.{Potential}
-use Rattle.cert_law.specs.Tails.{tail_of}
+use Rattle.cert_law.specs.Tails.{tail_of, used_floor}
 use Rattle.cert_law.proofs.FloorFacts.{FloorsHold}
 use Rattle.cert_law.proofs.RestEntries.{rests_are_true}
 use Rattle.cert_law.proofs.TailLemmas.{tail_is_rest, used-floor}
-use Rattle.cert_law.specs.Writer.{claims_from, claims_of, columns_order, first_claim, is_equal, is_less, is_no_better, is_open, is_setting_of, least_break, unbroken_claim}
+use Rattle.cert_law.specs.Writer.{claims_of, columns_order, first_claim, is_equal, is_less, is_no_better, is_setting_of, least_break, unbroken_claim}
 use Rattle.cert_law.proofs.Prefixes.{prefix-push}
 use Rattle.cert_law.proofs.Orders.{less-order, order-equal, order-itself, order-less}
 use Rattle.chain_sums.specs.Sums.{column_follows}
@@ -135,9 +137,13 @@ floor_from_test head p (Some floor) h = no_better_from_test head p floor h
 module _ (ex : Exercise) (sheet : Sheet) (few : ex.voices ≤ 4) (floors : FloorsHold ex sheet) (head : CertHead)
     (holds : Holds ex sheet head) (stated : Option (List Potential))
     (rests : (p : List (List Cell)) → IsPrefix ex p → tail_of ex sheet stated p ≡ rest_of ex sheet p) where
+  -- the floor by the least sum over chains, where nothing is stated
+  abbrev low : CertHead → List (List Cell) → Bool
+  low said p = option_map_or (is_no_better said p) (used_floor ex sheet None p) false
+
   -- a lawful setting is the head's, or no better
   whole_is_closed : (head : CertHead) → Holds ex sheet head → (p : List (List Cell)) → IsLawful ex p
-      → is_setting_of head p ≡ false → option_map_or (is_no_better head p) (floor_of ex sheet p) false ≡ false → ⊥
+      → is_setting_of head p ≡ false → low head p ≡ false → ⊥
   whole_is_closed Nothing holds p lawful other better = holds p lawful
   whole_is_closed (Best penalty score) holds p lawful other better =
       at (earlier-cases score.columns p (holds.0.lawful.setting.whole ∙ sym lawful.setting.whole))
@@ -147,7 +153,7 @@ module _ (ex : Exercise) (sheet : Sheet) (few : ex.voices ≤ 4) (floors : Floor
 
       fails : (nat_lt penalty value || ((value == penalty) && is_less (columns_order score.columns p))) ≡ false
       fails = sym (ap (λ floor. option_map_or (is_no_better (Best penalty score) p) floor false)
-          (floors.at_end p lawful)) ∙ better
+          (used-floor ex sheet None p refl ∙ floors.at_end p lawful)) ∙ better
 
       same : value ≡ penalty
       same =
@@ -174,11 +180,11 @@ module _ (ex : Exercise) (sheet : Sheet) (few : ex.voices ≤ 4) (floors : Floor
           in
           not_less (less-order score.columns p (holds.0.first p lawful (same ∙ sym holds.1) differ))
 
-  pub first_claim_true : (p : List (List Cell)) → IsPrefix ex p → IsTrueOf ex sheet head stated p (first_claim ex sheet head p)
+  pub first_claim_true : (p : List (List Cell)) → IsPrefix ex p → IsTrueOf ex sheet head stated p (first_claim ex sheet head None p)
   first_claim_true p prefix = setting (is_setting_of head p) refl
     where
       open_claim : has_strict_break ex p ≡ false → is_setting_of head p ≡ false
-          → option_map_or (is_no_better head p) (floor_of ex sheet p) false ≡ false → IsTrueOf ex sheet head stated p Open
+          → low head p ≡ false → IsTrueOf ex sheet head stated p Open
       open_claim alive other better = (at (cases_lt (length p) (columns_in ex)), alive_orderly ex few p alive)
         where
           at : (length p < columns_in ex) ⊎ (columns_in ex ≤ length p) → length p < columns_in ex
@@ -189,29 +195,30 @@ module _ (ex : Exercise) (sheet : Sheet) (few : ex.voices ≤ 4) (floors : Floor
               { setting = setting; unbroken = unbroken_if_alive ex few p setting alive } in
               absurd (whole_is_closed head holds p lawful other better)
 
-      floor : (b : Bool) → option_map_or (is_no_better head p) (floor_of ex sheet p) false ≡ b → has_strict_break ex p
+      floor : (b : Bool) → low head p ≡ b → has_strict_break ex p
           ≡ false → is_setting_of head p ≡ false → IsTrueOf ex sheet head stated p (if b then Floor else Open)
       floor true e alive other =
           subst (λ (f : Option ℕ). IsSomeAnd f (IsNoBetter head p))
-          (sym (used-floor ex sheet stated p (rests p prefix))) (floor_from_test head p (floor_of ex sheet p) e)
+          (used-floor ex sheet None p refl ∙ sym (used-floor ex sheet stated p (rests p prefix)))
+          (floor_from_test head p (used_floor ex sheet None p) e)
       floor false e alive other = open_claim alive other e
 
       chain : (rest : Option ℕ) → rest_of ex sheet p ≡ rest → has_strict_break ex p ≡ false → is_setting_of head p
           ≡ false → IsTrueOf ex sheet head stated p
           (if is_none rest then NoChain else
-          (if option_map_or (is_no_better head p) (floor_of ex sheet p) false then Floor else Open))
+          (if low head p then Floor else Open))
       chain None e alive other = rests p prefix ∙ e
       chain (Some rest) e alive other =
-          floor (option_map_or (is_no_better head p) (floor_of ex sheet p) false) refl alive other
+          floor (low head p) refl alive other
 
       rule : (o : Option ℕ) → least_break ex p ≡ o → is_setting_of head p ≡ false
-          → IsTrueOf ex sheet head stated p (option_map_or Broken o (unbroken_claim ex sheet head p))
+          → IsTrueOf ex sheet head stated p (option_map_or Broken o (unbroken_claim ex sheet head None p))
       rule (Some r) e other = find_passes (has_break_of ex p) rules_read r e
       rule None e other = chain (rest_of ex sheet p) refl (unbroken_if_none ex p e) other
 
       setting : (b : Bool) → is_setting_of head p ≡ b
           → IsTrueOf ex sheet head stated p (if b then TheScore
-          else option_map_or Broken (least_break ex p) (unbroken_claim ex sheet head p))
+          else option_map_or Broken (least_break ex p) (unbroken_claim ex sheet head None p))
       setting true e = setting_from_test head p e
       setting false e = rule (least_break ex p) refl e
 
@@ -258,67 +265,51 @@ module _ (ex : Exercise) (sheet : Sheet) (few : ex.voices ≤ 4) (floors : Floor
       (λ k d h. (menu_of-contains ex (length p) (slice_index_or (menu_of ex (length p)) k d)).0
       (Contains-get_or (menu_of ex (length p)) k d h)))
 
-  -- a certified list stays so with a prefix more, and the claims of it and of what it owes
-  Extends : (List (List Cell) → List Claim) → List (List Cell) → Type 0
-  Extends f p = (owed : List (List (List Cell))) (claims : List Claim) → IsCertified ex sheet head stated owed claims
-      → IsCertified ex sheet head stated (p ∷ owed) (f p ++ claims)
-
-  extends_all : (count : ℕ) (f : List (List Cell) → List Claim)
-      → ((q : List (List Cell)) → IsPrefixBefore count q → Extends f q) → (qs : List (List (List Cell)))
-      → AllByRecursion (IsPrefixBefore count) qs → (owed : List (List (List Cell))) (claims : List Claim)
-      → IsCertified ex sheet head stated owed claims → IsCertified ex sheet head stated (qs ++ owed) (flat_map f qs ++ claims)
-  unfolding Extends
-  extends_all count f each [] before owed claims h = h
-  extends_all count f each (q ∷ qs) before owed claims h =
-      let whole : (f q ++ flat_map f qs) ++ claims ≡ f q
-      ++ (flat_map f qs ++ claims) = append_assoc (f q) (flat_map f qs) claims in
-      subst (λ (all : List Claim). IsCertified ex sheet head stated (q ∷ (qs ++ owed)) all) (sym whole)
-      (each q before.0 (qs ++ owed) (flat_map f qs ++ claims) (extends_all count f each qs before.1 owed claims h))
-
   closed : (p : List (List Cell)) (claim : Claim) → columns_in ex ≤ length p → IsTrueOf ex sheet head stated p claim
-      → owed_by ex p claim ≡ []
+      → is_open claim ≡ false
   closed p Open whole h = absurd (omega (arith, whole, h.0))
   closed p (Broken rule) whole h = refl
   closed p NoChain whole h = refl
   closed p Floor whole h = refl
   closed p TheScore whole h = refl
 
-  extends : (count : ℕ) (p : List (List Cell)) → IsPrefixBefore count p → Extends (claims_from ex sheet head count) p
-  unfolding claims_from Extends
-  extends zero p before owed claims h =
-      let holds_of = first_claim_true p before.prefix in (
-        holds_of,
-        subst (λ (qs : List (List (List Cell))). IsCertified ex sheet head stated (qs ++ owed) claims)
-            (sym (closed p (first_claim ex sheet head p) (omega (arith, before.size)) holds_of)) h,
-      )
-  extends (suc count) p before owed claims h = (
-    first_claim_true p before.prefix,
-    behind (first_claim ex sheet head p)
-        (extends_all count (claims_from ex sheet head count) (extends count) (longer_prefixes ex p)
-        (each_longer count p before) owed claims h),
-  )
-    where
-      behind : (claim : Claim) → IsCertified ex sheet head stated (longer_prefixes ex p ++ owed)
-          (flat_map (claims_from ex sheet head count) (longer_prefixes ex p) ++ claims)
-          → IsCertified ex sheet head stated (owed_by ex p claim ++ owed)
-          ((if is_open claim then flat_map (claims_from ex sheet head count) (longer_prefixes ex p) else []) ++ claims)
-      behind Open all = all
-      behind (Broken rule) all = h
-      behind NoChain all = h
-      behind Floor all = h
-      behind TheScore all = h
+  every : {P Q : List (List Cell) → Type 0} (ps : List (List (List Cell))) → ((p : List (List Cell)) → P p → Q p)
+      → AllByRecursion P ps → AllByRecursion Q ps
+  every [] f h = tt
+  every (p ∷ ps) f h = (f p h.0, every ps f h.1)
 
-  pub claims_certified : IsCertified ex sheet head stated ([] ∷ []) (claims_of ex sheet head)
-  unfolding Extends
-  claims_certified =
+  are_true : (count : ℕ) (p : List (List Cell)) → IsPrefixBefore count p
+      → AreTrueFrom (tree_of ex sheet head stated) (first_claim ex sheet head None) count p
+  are_true zero p before =
+      let holds_of = first_claim_true p before.prefix in
+      (holds_of, closed p (first_claim ex sheet head None p) (omega (arith, before.size)) holds_of)
+  are_true (suc count) p before = (
+    first_claim_true p before.prefix,
+    λ _. every {P = IsPrefixBefore count} {Q = AreTrueFrom (tree_of ex sheet head stated) (first_claim ex sheet head None) count}
+        (longer_prefixes ex p) (are_true count) (each_longer count p before),
+  )
+
+  pub all_true : AreTrueFrom (tree_of ex sheet head stated) (first_claim ex sheet head None) (columns_in ex) []
+  all_true =
       let empty : IsPrefix ex [] = record { few = omega arith; menus = λ i h. absurd (omega arith); follows = tt } in
-      let before : IsPrefixBefore (columns_in ex) [] = record { prefix = empty; size = omega arith } in
-      subst (λ (claims : List Claim). IsCertified ex sheet head stated ([] ∷ []) claims)
-      (append_none (claims_of ex sheet head)) (extends (columns_in ex) [] before [] [] tt)
-    where
-      append_none : (claims : List Claim) → claims ++ [] ≡ claims
-      append_none [] = refl
-      append_none (claim ∷ claims) = ap (λ rest. claim ∷ rest) (append_none claims)
+      are_true (columns_in ex) [] record { prefix = empty; size = omega arith }
+
+-- what is written doesn't depend on what is stated
+each-same : (f g : List (List Cell) → List Claim) → ((p : List (List Cell)) → f p ≡ g p) → (ps : List (List (List Cell)))
+    → flat_map f ps ≡ flat_map g ps
+each-same f g same [] = refl
+each-same f g same (p ∷ ps) =
+    ap (λ claims. claims ++ flat_map f ps) (same p) ∙ ap (λ claims. g p ++ claims) (each-same f g same ps)
+
+claims-same : (ex : Exercise) (sheet : Sheet) (head : CertHead) (stated : Option (List Potential))
+    (own : List (List Cell) → Claim) (count : ℕ) (p : List (List Cell))
+    → claims_from (tree_of ex sheet head stated) own count p ≡ claims_from (tree_of ex sheet head None) own count p
+unfolding claims_from
+claims-same ex sheet head stated own zero p = refl
+claims-same ex sheet head stated own (suc count) p =
+    ap (λ claims. own p ∷ (if is_open (own p) then claims else []))
+    (each-same (claims_from (tree_of ex sheet head stated) own count) (claims_from (tree_of ex sheet head None) own count)
+    (claims-same ex sheet head stated own count) (longer_prefixes ex p))
 
 -- a head that holds is sound
 sound : (ex : Exercise) (sheet : Sheet) (head : CertHead) → Holds ex sheet head → IsHeadSound ex sheet head
@@ -331,7 +322,11 @@ pub written_is_valid : (ex : Exercise) (sheet : Sheet) (valid : IsValid ex) (flo
 written_is_valid ex sheet valid floors head stated rests holds = record {
   sound = sound ex sheet head holds;
   entries = true_of stated rests;
-  certified = claims_certified ex sheet valid.most_voices floors head holds stated (tail_is_rest ex sheet stated rests);
+  certified =
+      subst (λ (claims : List Claim). IsCertifiedFrom (tree_of ex sheet head stated) [] claims)
+      (claims-same ex sheet head stated (first_claim ex sheet head None) (columns_in ex) [])
+      (written_from (tree_of ex sheet head stated) (first_claim ex sheet head None) (columns_in ex) []
+      (all_true ex sheet valid.most_voices floors head holds stated (tail_is_rest ex sheet stated rests)));
 }
   where
     true_of : (stated : Option (List Potential)) → IfSome stated (AreRests ex sheet)

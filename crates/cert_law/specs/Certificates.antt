@@ -1,11 +1,12 @@
 -- Certificates: a head, in the second form entries, and claims, those of the prefixes in preorder from the empty one; each of them
 -- true. What a head says is refuted by some lawful settings; a valid certificate shows that there is none.
-use Rattle.std.specs.Prelude.{◌≡◌, ◌<◌, ◌⊎◌, List, [], ◌∷◌, ◌++◌, Option, IfSome, ⊤}
+use Rattle.std.specs.Prelude.{◌≡◌, ◌<◌, ◌⊎◌, Bool, true, false, List, [], ◌++◌, Option, IfSome, ⊤}
 use Rattle.cert_text.specs.declared.answers.CertHead.{CertHead}
 use Rattle.cert_text.specs.declared.answers.CertHead.TheVariants.{Best, Nothing}
 use Rattle.cert_text.specs.declared.claim.Claim.{Claim}
 use Rattle.cert_text.specs.declared.claim.Claim.TheVariants.{Open, Broken, NoChain, Floor, TheScore}
 use Rattle.cert_text.specs.declared.potential.Potential.{Potential}
+use Rattle.cert_tree.specs.Trees.{IsCertifiedFrom, Tree}
 use Rattle.cert_law.specs.Claims.{IsTrueOf, longer_prefixes}
 use Rattle.cert_law.specs.Entries.{AreTrueEntries}
 use Rattle.fux_grid.specs.declared.cell.Cell.{Cell}
@@ -15,23 +16,17 @@ use Rattle.fux_judge.specs.Lawful.{HasNoLawful, IsBest, IsLawful}
 use Rattle.fux_judge.specs.Penalties.{penalty_of}
 use Rattle.penalty_sheet.specs.declared.sheet.Sheet.{Sheet}
 
--- what a claim of a prefix owes in its place: an open prefix owes each prefix that is longer by a column
-abbrev pub owed_by : Exercise → List (List Cell) → Claim → List (List (List Cell))
-owed_by ex p Open = longer_prefixes ex p
-owed_by ex p (Broken rule) = []
-owed_by ex p NoChain = []
-owed_by ex p Floor = []
-owed_by ex p TheScore = []
+abbrev pub is_open : Claim → Bool
+is_open Open = true
+is_open (Broken rule) = false
+is_open NoChain = false
+is_open Floor = false
+is_open TheScore = false
 
--- the claims are those of the prefixes that are owed, the next one first, and of what they owe in their place; each is true, none
--- is owed when they end, and none is over
-abbrev pub IsCertified : Exercise → Sheet → CertHead → Option (List Potential) → List (List (List Cell)) → List Claim
-    → Type 0
-IsCertified ex sheet head stated [] [] = ⊤
-IsCertified ex sheet head stated (p ∷ owed) [] = ⊥
-IsCertified ex sheet head stated [] (claim ∷ claims) = ⊥
-IsCertified ex sheet head stated (p ∷ owed) (claim ∷ claims) =
-    IsTrueOf ex sheet head stated p claim × IsCertified ex sheet head stated (owed_by ex p claim ++ owed) claims
+-- the prefixes, with the claims of them, where entries are stated or none are
+abbrev pub tree_of : Exercise → Sheet → CertHead → Option (List Potential) → Tree (List (List Cell)) Claim
+tree_of ex sheet head stated =
+    record { IsTrueOf = IsTrueOf ex sheet head stated; is_open = is_open; longer = longer_prefixes ex }
 
 -- the head's setting is lawful, and has the head's penalty
 abbrev pub IsHeadSound : Exercise → Sheet → CertHead → Type 0
@@ -45,7 +40,7 @@ pub record IsCertificate (ex : Exercise) (sheet : Sheet) (head : CertHead) (stat
   where
     pub sound : IsHeadSound ex sheet head
     pub entries : IfSome stated (AreTrueEntries ex sheet)
-    pub certified : IsCertified ex sheet head stated ([] ∷ []) claims
+    pub certified : IsCertifiedFrom (tree_of ex sheet head stated) [] claims
 
 -- what a head says: its setting is the best one and has its penalty, or no setting is lawful
 abbrev pub Holds : Exercise → Sheet → CertHead → Type 0
@@ -69,12 +64,3 @@ pub record Refutes (ex : Exercise) (sheet : Sheet) (head : CertHead) (t : List (
 pub record Begins (p t : List (List Cell)) : Type 0 where
   pub rest : List (List Cell)
   pub is : t ≡ p ++ rest
-
--- one of the prefixes begins it
-abbrev pub IsBegunByOne : List (List (List Cell)) → List (List Cell) → Type 0
-IsBegunByOne [] t = ⊥
-IsBegunByOne (p ∷ owed) t = Begins p t ⊎ IsBegunByOne owed t
-
--- each setting that refutes the head is begun by a prefix that is owed
-abbrev pub OwesRefuting : Exercise → Sheet → CertHead → List (List (List Cell)) → Type 0
-OwesRefuting ex sheet head owed = (t : List (List Cell)) → Refutes ex sheet head t → IsBegunByOne owed t

@@ -3,9 +3,10 @@ pub mod Cases
 pub mod Certificates
 pub mod Claims
 pub mod Entries
+pub mod Known
 pub mod Prefixes
 pub mod Rests
 pub mod Tails
 pub mod Truths
-pub mod Walks
+pub mod WayLaws
 pub mod Writer

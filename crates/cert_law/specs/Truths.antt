@@ -4,7 +4,7 @@ use Rattle.cert_law.specs.Cases.{Matter}
 use Rattle.cert_law.specs.Prefixes.{IsJudged}
 use Rattle.cert_law.specs.declared.judged.Judged.{Judged}
 use Rattle.cert_law.specs.Claims.{IsTrueOf}
-use Rattle.cert_law.specs.Writer.{is_no_better}
+use Rattle.cert_law.specs.Writer.{first_claim, is_no_better}
 use Rattle.cert_text.specs.declared.claim.Claim.{Claim}
 use Rattle.cert_text.specs.declared.claim.Claim.TheVariants.{Open}
 use Rattle.cert_text.specs.declared.potential.Potential.{Potential}
@@ -29,3 +29,9 @@ TellsTruth t judged tail claim result =
     (stated : Option (List Potential)) (p : List (List Cell)) → IsJudged t p judged
     → tail ≡ tail_of t.exercise t.sheet stated p
     → IsTrue result ↔ IsTrueOf t.exercise t.sheet t.head stated p claim
+
+-- whether a claim is the first one that is true of each prefix of which this is known, and that has this tail
+abbrev pub IsFirstClaim : Matter → Judged → Option ℕ → Claim → Type 0
+IsFirstClaim t judged tail claim =
+    (stated : Option (List Potential)) (p : List (List Cell)) → IsJudged t p judged
+    → tail ≡ tail_of t.exercise t.sheet stated p → claim ≡ first_claim t.exercise t.sheet t.head stated p

@@ -1,5 +1,5 @@
 -- The certificate that is written: for each prefix the first claim that is true of it.
-use Rattle.std.specs.Prelude.{ℕ, zero, suc, Bool, true, false, ◌&&◌, ◌||◌, ◌==◌, nat_lt, List, [], ◌∷◌, ◌++◌, Option, Some, None, length, if◌then◌else◌, is_none}
+use Rattle.std.specs.Prelude.{ℕ, Bool, true, false, ◌&&◌, ◌||◌, ◌==◌, nat_lt, List, [], ◌∷◌, ◌++◌, Option, Some, None, length, if◌then◌else◌, is_none}
 use Rattle.std.specs.List.{find, flat_map}
 use Rattle.std.specs.Option.{option_map_or}
 use Rattle.std.specs.Ordering.{ordering_then}
@@ -14,9 +14,11 @@ use Rattle.cert_text.specs.declared.potential.Potential.{Potential}
 use Rattle.cert_text.specs.Lines.{claim_line}
 use Rattle.cert_text.specs.Potentials.{last_line, potential_line}
 use Rattle.cert_text.specs.SingItems.{best_text, nothing_text}
-use Rattle.cert_law.specs.Claims.{has_break_of, longer_prefixes}
+use Rattle.cert_tree.specs.Trees.{claims_from}
+use Rattle.cert_law.specs.Certificates.{tree_of}
+use Rattle.cert_law.specs.Claims.{has_break_of}
 use Rattle.cert_law.specs.Rests.{stated_in}
-use Rattle.floor_tables.specs.Floors.{floor_of, rest_of}
+use Rattle.cert_law.specs.Tails.{tail_of, used_floor}
 use Rattle.fux_grid.specs.declared.cell.Cell.{Cell}
 use Rattle.fux_grid.specs.declared.exercise.Exercise.{Exercise}
 use Rattle.fux_grid.specs.Exercises.{columns_in}
@@ -56,36 +58,21 @@ is_no_better (Best penalty score) p floor =
 abbrev pub least_break : Exercise → List (List Cell) → Option ℕ
 least_break ex p = find (has_break_of ex p) rules_read
 
--- the first claim that is true of a prefix: it is the head's setting, a rule is broken, no chain goes on, the floor is no better than
--- the head's setting; else it is open
-abbrev pub unbroken_claim : Exercise → Sheet → CertHead → List (List Cell) → Claim
-unbroken_claim ex sheet head p =
-    if is_none (rest_of ex sheet p) then NoChain
-    else (if option_map_or (is_no_better head p) (floor_of ex sheet p) false then Floor else Open)
+-- the first claim that is true of a prefix, where entries are stated or none are: it is the head's setting, a rule is broken, no chain
+-- goes on, the floor is no better than the head's setting; else it is open
+abbrev pub unbroken_claim : Exercise → Sheet → CertHead → Option (List Potential) → List (List Cell) → Claim
+unbroken_claim ex sheet head stated p =
+    if is_none (tail_of ex sheet stated p) then NoChain
+    else (if option_map_or (is_no_better head p) (used_floor ex sheet stated p) false then Floor else Open)
 
-abbrev pub first_claim : Exercise → Sheet → CertHead → List (List Cell) → Claim
-first_claim ex sheet head p =
+abbrev pub first_claim : Exercise → Sheet → CertHead → Option (List Potential) → List (List Cell) → Claim
+first_claim ex sheet head stated p =
     if is_setting_of head p then TheScore
-    else option_map_or Broken (least_break ex p) (unbroken_claim ex sheet head p)
-
-abbrev pub is_open : Claim → Bool
-is_open Open = true
-is_open (Broken rule) = false
-is_open NoChain = false
-is_open Floor = false
-is_open TheScore = false
-
--- the claims of a prefix and of all that it owes, where so many columns more may come
-unfoldable pub claims_from : Exercise → Sheet → CertHead → ℕ → List (List Cell) → List Claim
-claims_from ex sheet head zero p = first_claim ex sheet head p ∷ []
-claims_from ex sheet head (suc count) p =
-    first_claim ex sheet head p
-    ∷ (if is_open (first_claim ex sheet head p) then flat_map (claims_from ex sheet head count) (longer_prefixes ex p)
-    else [])
+    else option_map_or Broken (least_break ex p) (unbroken_claim ex sheet head stated p)
 
 -- all claims of a certificate
 abbrev pub claims_of : Exercise → Sheet → CertHead → List Claim
-claims_of ex sheet head = claims_from ex sheet head (columns_in ex) []
+claims_of ex sheet head = claims_from (tree_of ex sheet head None) (first_claim ex sheet head None) (columns_in ex) []
 
 -- the text of a head
 abbrev pub head_text : Exercise → Form → CertHead → List ℕ

@@ -1,4 +1,4 @@
-//! What a certificate is, what a valid one shows, and what stands where among the prefixes that are owed.
+//! What a certificate is, what a valid one shows, and a case with its tails as a tree of claims.
 //!
 //! The writer and the checker of certificates both stand on this. It knows nothing of the search.
 #![tactic(auto)]
@@ -6,15 +6,16 @@
 mod case;
 mod entries;
 mod judged;
+mod known;
 mod law;
+mod tailed;
 mod tails;
 mod truth;
-mod walk;
 
 pub use case::Case;
 pub use entries::true_entries_are_low;
 pub use judged::Judged;
+pub use known::PrefixKnown;
 pub use law::{shown_by, weights_are_small, written};
+pub use tailed::TailedCase;
 pub use tails::Tails;
-pub use truth::{is_no_better, is_open, is_setting, is_true};
-pub use walk::{Level, Walk};

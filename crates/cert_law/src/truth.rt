@@ -1,17 +1,22 @@
-//! Whether a claim is true of a prefix.
+//! Whether a claim is true of a prefix, and the first one that is.
 
 ghost use Rattle.std.specs.Prelude.{◌≡◌, ◌+◌, ◌==◌, nat_lt, List};
+ghost use Rattle.std.specs.List.{find};
+ghost use Rattle.cert_law.specs.Certificates as certificates;
 ghost use Rattle.cert_law.specs.Writer as words;
 ghost use Rattle.cert_law.specs.Cases.{IsCase, matter_of};
 ghost use Rattle.cert_law.specs.Prefixes.{IsJudged, IsSmall};
-ghost use Rattle.cert_law.specs.Truths.{TellsNoBetter, TellsOpen, TellsTruth};
+ghost use Rattle.cert_law.specs.Truths.{IsFirstClaim, TellsNoBetter, TellsOpen, TellsTruth};
 ghost use Rattle.fux_grid.specs.declared.cell.Cell.{Cell as ACell};
 ghost use Rattle.fux_grid.specs.Exercises.{IsValid};
+ghost use Rattle.rule_law.specs.Voices.{has_rule};
 
 use crate::case::Case;
 use crate::judged::Judged;
 use cert_text::{CertHead, Claim};
 use fux_grid::Exercise;
+use fux_judge::every_rule;
+use rule_law::RuleSet;
 use std::cmp::Ordering;
 
 fn is_less(order: Ordering) -> bool
@@ -86,7 +91,7 @@ fn can_go_on(ex: &Exercise, judged: &Judged) -> bool
 
 /// Whether a claim is that the prefix is open.
 pub fn is_open(claim: Claim) -> bool
-    ensures { result ≡ words.is_open claim }
+    ensures { result ≡ certificates.is_open claim }
 {
     match claim {
         Claim::Open => true,
@@ -112,5 +117,40 @@ pub fn is_true(case: &Case<'_>, judged: &Judged, tail: Option<u64>, claim: Claim
             None => false,
         },
         Claim::TheScore => is_setting(case, judged),
+    }
+}
+
+/// The first of these rules that is in a set.
+fn first_broken(rules: &[u8], broken: RuleSet) -> Option<u8>
+    ensures { result ≡ find (has_rule broken.bits) rules.now }
+{
+    for rule in rules {
+        if broken.has(*rule) {
+            return Some(*rule);
+        }
+    }
+    None
+}
+
+/// The first claim that is true of a prefix that has this tail.
+pub fn first_claim(case: &Case<'_>, judged: &Judged, tail: Option<u64>) -> Claim
+    requires { IsSmall judged.now }
+    ensures { IsFirstClaim (matter_of case.now) judged.now tail result }
+{
+    if is_setting(case, judged) {
+        return Claim::TheScore;
+    }
+    if let Some(rule) = first_broken(every_rule(), judged.broken) {
+        return Claim::Broken(rule);
+    }
+    match tail {
+        None => Claim::NoChain,
+        Some(tail) => {
+            if is_no_better(case, judged, tail) {
+                Claim::Floor
+            } else {
+                Claim::Open
+            }
+        }
     }
 }

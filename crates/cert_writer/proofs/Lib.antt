@@ -1,4 +1,3 @@
 pub mod Certificates
-pub mod ClaimLemmas
-pub mod FirstLemmas
+pub mod Fits
 pub mod StageLemmas

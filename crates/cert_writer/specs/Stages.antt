@@ -4,7 +4,6 @@ use Rattle.std.specs.List.{flat_map}
 use Rattle.arrayvec.specs.ArrayString.{ArrayString}
 use Rattle.cert_law.specs.Cases.{Matter}
 use Rattle.cert_law.specs.Rests.{entries_at, entries_from, entries_of, stated_in}
-use Rattle.cert_law.specs.Walks.{IsWalk}
 use Rattle.cert_law.specs.Writer.{claims_of, stated_text}
 use Rattle.cert_text.specs.declared.answers.Form.{Form}
 use Rattle.cert_text.specs.declared.answers.Form.TheVariants.{First, Second}
@@ -13,7 +12,7 @@ use Rattle.cert_text.specs.Potentials.{last_line, potential_line}
 use Rattle.cert_writer.specs.declared.lines.Lines.{Lines}
 use Rattle.cert_writer.specs.declared.lines.Stage.{Stage}
 use Rattle.cert_writer.specs.declared.lines.Stage.TheVariants.{Start, Column, Last, Claims}
-use Rattle.cert_writer.specs.Writing.{claim_lines, claims_to_come}
+use Rattle.cert_writer.specs.Writing.{IsWriting, claim_lines, to_come}
 use Rattle.fux_grid.specs.declared.exercise.Exercise.{Exercise}
 use Rattle.fux_grid.specs.Exercises.{columns_in}
 use Rattle.fux_grid.specs.Menus.{menu_of}
@@ -52,12 +51,12 @@ stage_text t stage = flat_map potential_line (entries_left t stage) ++ last_left
 
 -- all lines that are still to come
 abbrev pub lines_left : Matter → Lines → List ℕ
-lines_left t lines = stage_text t lines.stage ++ claim_lines (claims_to_come t lines.walk)
+lines_left t lines = stage_text t lines.stage ++ claim_lines (to_come t lines.walk)
 
 -- a writer stands at a column that is there, and at a prefix that is owed or at the end
 pub record AreLines (t : Matter) (lines : Lines) : Type 0 where
   pub stage : IsStage t.exercise lines.stage
-  pub walk : IsWalk t lines.walk
+  pub walk : IsWriting t lines.walk
 
 -- a line, if there is one; and bytes behind it
 abbrev pub line_of : Option ArrayString → List ℕ

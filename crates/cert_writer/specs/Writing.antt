@@ -1,21 +1,20 @@
 -- What is still to be written of a certificate's claims.
-use Rattle.std.specs.Prelude.{◌≡◌, ℕ, ◌-◌, List, [], ◌∷◌, Option, Some, None, length}
+use Rattle.std.specs.Prelude.{ℕ, List, None}
 use Rattle.std.specs.List.{flat_map}
+use Rattle.cert_tree.specs.Walks.{IsWalk}
+use Rattle.cert_tree.specs.Writing.{AreTold, claims_to_come}
+use Rattle.cert_tree.specs.declared.walk.Walk.{Walk}
 use Rattle.cert_law.specs.Bases.{HasTails, basis_of}
 use Rattle.cert_law.specs.Cases.{IsCase, Matter}
-use Rattle.cert_law.specs.Prefixes.{IsJudged}
-use Rattle.cert_law.specs.Walks.{owed_by_walk}
-use Rattle.cert_law.specs.declared.judged.Judged.{Judged}
-use Rattle.cert_law.specs.declared.walk.Walk.{Walk}
 use Rattle.cert_law.specs.Certificates.{Holds}
+use Rattle.cert_law.specs.Known.{IsKnown, Tailed, tree_in, ways_of}
 use Rattle.cert_law.specs.Rests.{HasSmallWeights}
-use Rattle.cert_law.specs.Writer.{claims_from, first_claim}
+use Rattle.cert_law.specs.Writer.{first_claim}
+use Rattle.cert_law.specs.declared.known.PrefixKnown.{PrefixKnown}
 use Rattle.cert_text.specs.Lines.{claim_line}
 use Rattle.cert_text.specs.declared.claim.Claim.{Claim}
-use Rattle.floor_tables.specs.Floors.{rest_of}
 use Rattle.floor_tables.specs.Tables.{Task}
 use Rattle.fux_grid.specs.declared.cell.Cell.{Cell}
-use Rattle.fux_grid.specs.Exercises.{columns_in}
 
 -- the exercise is within the limits, the tables are of it and the sheet, whose weights are small, and the head holds
 pub record IsTask (t : Matter) (tables : Task) : Type 0 where
@@ -24,25 +23,23 @@ pub record IsTask (t : Matter) (tables : Task) : Type 0 where
   pub small : HasSmallWeights t.sheet
   pub holds : Holds t.exercise t.sheet t.head
 
--- the claims of a prefix and of all that it owes
-abbrev pub claims_at : Matter → List (List Cell) → List Claim
-claims_at t p = claims_from t.exercise t.sheet t.head (columns_in t.exercise - length p) p
+-- the case, where the tails are those of tables
+abbrev pub by_tables : Matter → Tailed
+by_tables t = record { case = t; stated = None }
+
+-- the claim that is written of a prefix
+abbrev pub own_claim : Matter → List (List Cell) → Claim
+own_claim t p = first_claim t.exercise t.sheet t.head None p
 
 -- the claims that are still to come, the next one first
-abbrev pub claims_to_come : Matter → Walk → List Claim
-claims_to_come t walk = flat_map (claims_at t) (owed_by_walk t.exercise walk)
+abbrev pub to_come : Matter → Walk PrefixKnown → List Claim
+to_come t walk = claims_to_come (tree_in (by_tables t)) (own_claim t) (ways_of t.exercise) walk
 
--- claims behind one, if there is one
-abbrev pub claims_with : Option Claim → List Claim → List Claim
-claims_with None later = []
-claims_with (Some claim) later = claim ∷ later
+-- a walk at which a writer stands: each claim that is to come is true
+pub record IsWriting (t : Matter) (walk : Walk PrefixKnown) : Type 0 where
+  pub is : IsWalk (tree_in (by_tables t)) (IsKnown (by_tables t)) (ways_of t.exercise) walk
+  pub told : AreTold (tree_in (by_tables t)) (own_claim t) (ways_of t.exercise) walk
 
 -- the lines of claims
 abbrev pub claim_lines : List Claim → List ℕ
 claim_lines claims = flat_map claim_line claims
-
--- the claim is the first one that is true of each prefix of which this is known, and that has this rest
-abbrev pub IsFirstClaim : Matter → Judged → Option ℕ → Claim → Type 0
-IsFirstClaim t judged rest claim =
-    (p : List (List Cell)) → IsJudged t p judged → rest ≡ rest_of t.exercise t.sheet p
-    → claim ≡ first_claim t.exercise t.sheet t.head p

@@ -1,28 +1,30 @@
 //! Where a writer begins.
 
 ghost use Rattle.std.specs.Prelude.{◌≡◌, IfOk, vec_capacity};
-ghost use Rattle.cert_law.specs.Cases.{Matter};
+ghost use Rattle.cert_law.specs.Cases.{matter_of};
 ghost use Rattle.cert_writer.specs.Stages as words;
 ghost use Rattle.cert_writer.specs.Stages.{Begins};
-ghost use Rattle.fux_grid.specs.Exercises.{IsValid};
+ghost use Rattle.cert_writer.specs.Writing.{IsTask};
+ghost use Rattle.fux_grid.specs.Exercises.{columns_in};
 
 use crate::lines::{Lines, Stage};
-use cert_law::{Judged, Walk};
+use cert_law::{Case, TailedCase};
 use cert_text::Form;
-use fux_grid::Exercise;
+use cert_tree::{begin_again, room_for_walk};
+use floor_tables::Tables;
 use fux_pitch::Memory;
-use penalty_sheet::Sheet;
 use std::alloc::Global;
 
-/// Room for 24 bars of eight columns.
-const MOST_LEVELS: usize = 192;
-
 /// The room of the lines of a certificate, of which none is still to come.
-pub(crate) fn room_for_lines(alloc: Global) -> Result<Lines, Memory>
-    ensures { IfOk result (λ lines. vec_capacity lines.walk.levels ≡ 192) }
+pub(crate) fn room_for_lines(
+    alloc: Global,
+    case: &Case<'_>,
+    tables: &Tables<'_>,
+) -> Result<Lines, Memory>
+    requires { IsTask (matter_of case.now) tables.now }
+    ensures { IfOk result (λ lines. vec_capacity lines.walk.levels ≡ columns_in case.now.exercise.now) }
 {
-    let levels = Vec::with_capacity(alloc, MOST_LEVELS)?;
-    let walk = Walk { levels, next: None };
+    let walk = room_for_walk(alloc, &TailedCase::new(*case, tables))?;
     Ok(Lines {
         stage: Stage::Claims,
         walk,
@@ -40,12 +42,11 @@ fn first_stage(form: Form) -> Stage
 }
 
 /// Starts behind the text of a head, from the empty prefix, in the room of lines.
-pub(crate) fn begin(lines: &mut Lines, form: Form, ex: &Exercise, sheet: &Sheet)
-    requires valid { IsValid ex.now }
-    requires room { vec_capacity lines.old.walk.levels ≡ 192 }
-    ensures { (t : Matter) → t.exercise ≡ ex.now → t.sheet ≡ sheet.now → Begins t form lines.new }
+pub(crate) fn begin(lines: &mut Lines, form: Form, case: &Case<'_>, tables: &Tables<'_>)
+    requires task { IsTask (matter_of case.now) tables.now }
+    requires room { vec_capacity lines.old.walk.levels ≡ columns_in case.now.exercise.now }
+    ensures { Begins (matter_of case.now) form lines.new }
 {
     lines.stage = first_stage(form);
-    lines.walk.levels.clear();
-    lines.walk.next = Some(Judged::start(ex, sheet));
+    begin_again(&TailedCase::new(*case, tables), &mut lines.walk);
 }

@@ -58,19 +58,19 @@ pub(crate) fn write_for_head<K: Sink>(
     let Ok(text) = head_text(alloc, ex, sheet, form, head) else {
         return Err(CertWrite::Memory);
     };
-    let Ok(mut lines) = room_for_lines(alloc) else {
-        return Err(CertWrite::Memory);
-    };
     let case = Case {
         exercise: ex,
         sheet,
         head,
     };
-    begin(&mut lines, form, ex, sheet);
+    let Ok(mut lines) = room_for_lines(alloc, &case, tables) else {
+        return Err(CertWrite::Memory);
+    };
+    begin(&mut lines, form, &case, tables);
     if !is_within(&mut lines, &case, tables, text.len()) {
         return Err(CertWrite::TooLong);
     }
-    begin(&mut lines, form, ex, sheet);
+    begin(&mut lines, form, &case, tables);
     match write_parts(&mut lines, &case, tables, text.as_str(), sink) {
         Ok(()) => Ok(()),
         Err(_) => Err(CertWrite::WriteFault),

@@ -6,7 +6,6 @@ mod begin;
 mod certificate;
 mod copy;
 mod entries;
-mod first;
 mod head;
 mod lines;
 mod next;

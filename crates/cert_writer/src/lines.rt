@@ -1,6 +1,7 @@
 //! Where a writer stands behind the text of a head.
 
-use cert_law::Walk;
+use cert_law::PrefixKnown;
+use cert_tree::Walk;
 
 /// What comes next behind the text of a head, and the lines before the first claim's.
 #[derive(Clone, Copy)]
@@ -19,5 +20,5 @@ pub(crate) enum Stage {
 #[derive(Drop)]
 pub(crate) struct Lines {
     pub stage: Stage,
-    pub walk: Walk,
+    pub walk: Walk<PrefixKnown>,
 }

@@ -2,31 +2,28 @@
 
 ghost use Rattle.std.specs.Prelude.{◌≡◌, ◌<◌, ◌≤◌, ◌++◌, [], IfSome, None, length};
 ghost use Rattle.cert_law.specs.Cases.{matter_of};
-ghost use Rattle.cert_law.specs.Walks.{IsWalk};
+ghost use Rattle.cert_tree.specs.Writing.{claims_with};
 ghost use Rattle.cert_text.specs.Lines.{IsClaim};
 ghost use Rattle.cert_writer.specs.Stages.{AreLines, IsStage, line_of, lines_left, lines_with, stage_text};
-ghost use Rattle.cert_writer.specs.Writing.{IsTask, claims_to_come, claims_with};
+ghost use Rattle.cert_writer.specs.Writing.{IsTask, IsWriting, to_come};
 
 use crate::entries::{column_entry, stage_after, stage_from, start_entry};
-use crate::first::first_claim;
 use crate::lines::{Lines, Stage};
 use arrayvec::ArrayString;
-use cert_law::{Case, Walk, is_open};
+use cert_law::{Case, PrefixKnown, TailedCase};
 use cert_text::{Claim, write_claim, write_potential};
+use cert_tree::Walk;
 use floor_tables::Tables;
 
 /// The claim that comes next.
-fn next_claim(walk: &mut Walk, case: &Case<'_>, tables: &Tables<'_>) -> Option<Claim>
+fn next_claim(walk: &mut Walk<PrefixKnown>, case: &Case<'_>, tables: &Tables<'_>) -> Option<Claim>
     requires task { IsTask (matter_of case.now) tables.now }
-    requires walk { IsWalk (matter_of case.now) walk.old }
-    ensures walk { IsWalk (matter_of case.now) walk.new }
+    requires writing { IsWriting (matter_of case.now) walk.old }
+    ensures writing { IsWriting (matter_of case.now) walk.new }
     ensures claim { IfSome result IsClaim }
-    ensures claims { claims_to_come (matter_of case.now) walk.old ≡ claims_with result (claims_to_come (matter_of case.now) walk.new) }
+    ensures claims { to_come (matter_of case.now) walk.old ≡ claims_with result (to_come (matter_of case.now) walk.new) }
 {
-    let next = walk.next?;
-    let claim = first_claim(case, &next, walk.tail(case, tables));
-    walk.go_on(case, tables, next, is_open(claim));
-    Some(claim)
+    cert_tree::next_claim(&TailedCase::new(*case, tables), walk)
 }
 
 /// A line of up to thirteen bytes.

@@ -8,32 +8,32 @@ use Rattle.cert_writer.proofs.certificate.write_for_head.Goals as goal
 pub is_within-requires-clause-lines : goal.is_within-requires-clause-lines
 is_within-requires-clause-lines g c =
     let t : Matter = record { exercise = c.args.ex.now; sheet = c.args.sheet.now; head = c.args.head.now } in
-    (c.begin.ensures t refl refl).lines
+    c.begin.ensures.lines
 
 pub returns-then-not-is_within-clause-too_long : goal.returns-then-not-is_within-clause-too_long
 returns-then-not-is_within-clause-too_long g c = λ _.
     let t : Matter = record { exercise = c.args.ex.now; sheet = c.args.sheet.now; head = c.args.head.now } in
-    whole_too_long t c.args.form (string_bytes c.in-Ok.text) c.begin.new.lines (c.begin.ensures t refl refl) c.in-Ok.ensures
+    whole_too_long t c.args.form (string_bytes c.in-Ok.text) c.begin.new.lines c.begin.ensures c.in-Ok.ensures
     c.len.result c.is_within.result (c.len.ensures ∙ c.in-Ok.text.bytes.ok.0) c.is_within.ensures.fits
     c.if-not-is_within.true
 
 pub write_parts-requires-clause-lines : goal.write_parts-requires-clause-lines
 write_parts-requires-clause-lines g c =
     let t : Matter = record { exercise = c.args.ex.now; sheet = c.args.sheet.now; head = c.args.head.now } in
-    (c.begin-2.ensures t refl refl).lines
+    c.begin-2.ensures.lines
 
 pub returns-in-Ok-write_parts-clause-ok : goal.returns-in-Ok-write_parts-clause-ok
 returns-in-Ok-write_parts-clause-ok g c =
     let t : Matter = record { exercise = c.args.ex.now; sheet = c.args.sheet.now; head = c.args.head.now } in
     let lines = lines_left t c.begin-2.new.lines in
     let whole = ap (λ bs. bs ++ lines) c.as_str.ensures.value
-    ∙ whole_text t c.args.form (string_bytes c.in-Ok.text) c.begin-2.new.lines (c.begin-2.ensures t refl refl) c.in-Ok.ensures in
+    ∙ whole_text t c.args.form (string_bytes c.in-Ok.text) c.begin-2.new.lines c.begin-2.ensures c.in-Ok.ensures in
     c.in-Ok-write_parts.ensures.ok ∙ ap (appended (g.K.Sink.written c.args.sink.now)) whole
 
 pub returns-in-Ok-write_parts-clause-fits : goal.returns-in-Ok-write_parts-clause-fits
 returns-in-Ok-write_parts-clause-fits g c = λ more.
     let t : Matter = record { exercise = c.args.ex.now; sheet = c.args.sheet.now; head = c.args.head.now } in
-    let few = whole_within t c.args.form (string_bytes c.in-Ok.text) c.begin.new.lines (c.begin.ensures t refl refl) c.in-Ok.ensures
+    let few = whole_within t c.args.form (string_bytes c.in-Ok.text) c.begin.new.lines c.begin.ensures c.in-Ok.ensures
     c.len.result c.is_within.result (c.len.ensures ∙ c.in-Ok.text.bytes.ok.0) c.is_within.ensures.fits
     c.if-not-is_within.false in
     absurd (omega (arith, more, few))
@@ -43,14 +43,14 @@ returns-clause-short g c = λ _.
     let t : Matter = record { exercise = c.args.ex.now; sheet = c.args.sheet.now; head = c.args.head.now } in
     let lines = lines_left t c.begin-2.new.lines in
     let whole = ap (λ bs. bs ++ lines) c.as_str.ensures.value
-    ∙ whole_text t c.args.form (string_bytes c.in-Ok.text) c.begin-2.new.lines (c.begin-2.ensures t refl refl) c.in-Ok.ensures in
+    ∙ whole_text t c.args.form (string_bytes c.in-Ok.text) c.begin-2.new.lines c.begin-2.ensures c.in-Ok.ensures in
     subst (λ (bs : List ℕ). StopsShort (g.K.Sink.written c.args.sink.now) (g.K.Sink.written c.write_parts.new.sink) bs)
     whole c.in-Err.ensures.err
 
 pub returns-clause-fits : goal.returns-clause-fits
 returns-clause-fits g c = λ more.
     let t : Matter = record { exercise = c.args.ex.now; sheet = c.args.sheet.now; head = c.args.head.now } in
-    let few = whole_within t c.args.form (string_bytes c.in-Ok.text) c.begin.new.lines (c.begin.ensures t refl refl) c.in-Ok.ensures
+    let few = whole_within t c.args.form (string_bytes c.in-Ok.text) c.begin.new.lines c.begin.ensures c.in-Ok.ensures
     c.len.result c.is_within.result (c.len.ensures ∙ c.in-Ok.text.bytes.ok.0) c.is_within.ensures.fits
     c.if-not-is_within.false in
     absurd (omega (arith, more, few))

@@ -4,7 +4,7 @@ use Rattle.chain_sums.specs.Sums.{column_follows}
 use Rattle.cert_law.proofs.NumberLemmas.{follow_from, follow_test, passing_here, passing_later}
 use Rattle.fux_grid.specs.Menus.{menu_of}
 use Rattle.std.proofs.Common.{slice_index_or, [], length}
-use Rattle.cert_law.proofs.walk.next_number.Goals as goal
+use Rattle.cert_law.proofs.tailed.next_number.Goals as goal
 
 pub returns-then-cells_follow : goal.returns-then-cells_follow
 returns-then-cells_follow g c =

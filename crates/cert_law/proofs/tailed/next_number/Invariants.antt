@@ -2,7 +2,7 @@ use Rattle.std.proofs.Common.{◌-◌, ◌≡◌, drop}
 use Rattle.std.specs.List.{filter}
 use Rattle.chain_sums.specs.Sums.{column_follows}
 use Rattle.fux_grid.specs.Menus.{menu_of}
-use Rattle.cert_law.proofs.walk.next_number.Given as goal
+use Rattle.cert_law.proofs.tailed.next_number.Given as goal
 
 abbrev pub invariant-loop-k : goal.invariant-loop-k
 invariant-loop-k g l =

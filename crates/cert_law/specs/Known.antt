@@ -1,0 +1,81 @@
+-- What is known of a prefix so that its claims can be judged, and how prefixes are found by the numbers of columns.
+use Rattle.std.specs.Prelude.{◌≡◌, ℕ, ◌+◌, ◌<◌, IsTrue, List, [], ◌∷◌, ◌++◌, Option, Some, None, drop, length, map, reverse, slice_index_or}
+use Rattle.std.specs.List.{filter}
+use Rattle.cert_text.specs.declared.claim.Claim.{Claim}
+use Rattle.cert_text.specs.declared.potential.Potential.{Potential}
+use Rattle.cert_tree.specs.Trees.{Tree}
+use Rattle.cert_tree.specs.Walks.{Ways}
+use Rattle.cert_law.specs.declared.known.PrefixKnown.{PrefixKnown}
+use Rattle.cert_law.specs.Bases.{Basis, HasTails}
+use Rattle.cert_law.specs.Cases.{IsCase, Matter}
+use Rattle.cert_law.specs.Certificates.{tree_of}
+use Rattle.cert_law.specs.Prefixes.{IsJudged}
+use Rattle.cert_law.specs.Tails.{tail_of}
+use Rattle.chain_sums.specs.Sums.{column_follows}
+use Rattle.fux_grid.specs.declared.cell.Cell.{Cell}
+use Rattle.fux_grid.specs.declared.exercise.Exercise.{Exercise}
+use Rattle.fux_grid.specs.Columns.{newest_column}
+use Rattle.fux_grid.specs.Exercises.{columns_in}
+use Rattle.fux_grid.specs.Menus.{menu_of}
+use Rattle.rule_law.specs.Prefixes.{GoesOn}
+
+-- ---- the numbers of columns
+
+-- the column of a number in the menu behind a prefix
+abbrev pub column_after : Exercise → List (List Cell) → ℕ → List Cell
+column_after ex p k = slice_index_or (menu_of ex (length p)) k []
+
+-- the columns that may come next, from a number on
+abbrev pub next_from : Exercise → List (List Cell) → ℕ → List (List Cell)
+next_from ex p from = filter (column_follows (newest_column (reverse p))) (drop from (menu_of ex (length p)))
+
+-- the prefixes that are longer by one of them
+abbrev pub longer_from : Exercise → List (List Cell) → ℕ → List (List (List Cell))
+longer_from ex p from = map (λ col. p ++ col ∷ []) (next_from ex p from)
+
+-- the number of the first column of a menu, from a number on, that follows these cells
+abbrev pub IsNextNumber : List (List Cell) → List Cell → ℕ → Option ℕ → Type 0
+IsNextNumber menu before from None = filter (column_follows before) (drop from menu) ≡ []
+IsNextNumber menu before from (Some k) =
+    (k < length menu) × IsTrue (column_follows before (slice_index_or menu k []))
+    × (filter (column_follows before) (drop from menu)
+    ≡ slice_index_or menu k [] ∷ filter (column_follows before) (drop (k + 1) menu))
+
+abbrev pub ways_of : Exercise → Ways (List (List Cell))
+ways_of ex = record {
+  root = [];
+  child = λ p k. p ++ column_after ex p k ∷ [];
+  longer_from = longer_from ex;
+  steps = length;
+  height = columns_in ex;
+}
+
+-- ---- a case with tails
+
+-- a case, and the entries, where some are stated
+pub record Tailed : Type 0 where
+  pub case : Matter
+  pub stated : Option (List Potential)
+
+abbrev pub tailed_of : Matter → Basis → Tailed
+tailed_of t basis = record { case = t; stated = basis.stated }
+
+-- its prefixes, with the claims of them
+abbrev pub tree_in : Tailed → Tree (List (List Cell)) Claim
+tree_in t = tree_of t.case.exercise t.case.sheet t.case.head t.stated
+
+-- the case is one, and the tails are its own
+pub record IsTailed (t : Matter) (basis : Basis) : Type 0 where
+  pub case : IsCase t
+  pub has : HasTails t basis
+
+-- what is known of a prefix, and its tail
+pub record IsKnown (t : Tailed) (known : PrefixKnown) (p : List (List Cell)) : Type 0 where
+  pub judged : IsJudged t.case p known.judged
+  pub tail : known.tail ≡ tail_of t.case.exercise t.case.sheet t.stated p
+
+-- what is known of each prefix of which this is known, with the column of a number more that may come next
+abbrev pub IsKnownAfter : Tailed → PrefixKnown → ℕ → PrefixKnown → Type 0
+IsKnownAfter t known k longer =
+    (p : List (List Cell)) → IsKnown t known p → GoesOn t.case.exercise p (column_after t.case.exercise p k ∷ [])
+    → IsKnown t longer (p ++ column_after t.case.exercise p k ∷ [])

@@ -1,0 +1,10 @@
+//! What is known of a prefix so that its claims can be judged.
+
+use crate::judged::Judged;
+
+/// What is known of a prefix, and its tail. None where no chain goes on, or where `n` is stated.
+#[derive(Clone, Copy)]
+pub struct PrefixKnown {
+    pub judged: Judged,
+    pub tail: Option<u64>,
+}

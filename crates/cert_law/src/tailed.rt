@@ -1,0 +1,179 @@
+//! A case with tails, as a tree of claims: its prefixes are the nodes.
+
+ghost use Rattle.std.specs.Prelude.{◌≡◌, ◌<◌, ◌≤◌, ◌*◌, [], length};
+ghost use Rattle.cert_tree.specs.Walks.{IsNextOf, IsOfOpen};
+ghost use Rattle.cert_law.specs.Bases.{HasTails};
+ghost use Rattle.cert_law.specs.Cases.{IsCase, matter_of};
+ghost use Rattle.cert_law.specs.Known.{IsKnown, IsKnownAfter, IsNextNumber, tailed_of, tree_in, ways_of};
+ghost use Rattle.fux_grid.specs.Exercises.{columns_in};
+ghost use Rattle.fux_grid.specs.Menus.{menu_of};
+
+use crate::case::Case;
+use crate::judged::Judged;
+use crate::known::PrefixKnown;
+use crate::tails::Tails;
+use crate::truth::{first_claim, is_open, is_true};
+use cert_text::Claim;
+use cert_tree::ClaimTree;
+use fux_grid::{Cell, cells_follow};
+use std::marker::Model;
+
+/// A case, and the tails by which its claims are judged.
+#[derive(Drop)]
+pub struct TailedCase<'a, T: Tails> {
+    case: Case<'a>,
+    tails: &'a T,
+}
+
+impl<'a, T: Tails> Model for TailedCase<'a, T> {
+    ghost use Rattle.cert_law.specs.Cases.{matter_of};
+    ghost use Rattle.cert_law.specs.Known.{IsTailed, Tailed, tailed_of};
+
+    ghost Value = { Tailed };
+
+    ghost view = { λ c. tailed_of (matter_of c.case) (T.basis c.tails.now) };
+
+    ghost invariant = { λ c. IsTailed (matter_of c.case) (T.basis c.tails.now) };
+}
+
+/// The number of the first column of a place's menu, from this number on, that follows these cells.
+fn next_number<T: Tails>(tails: &T, i: usize, before: &[Cell], from: usize) -> Option<usize>
+    requires { i < columns_in (T.basis tails.now).exercise }
+    ensures { IsNextNumber (menu_of (T.basis tails.now).exercise i) before.now from result }
+{
+    let width = tails.width(i);
+    let mut k = from;
+    while k < width {
+        if cells_follow(before, tails.column(i, k).as_slice()) {
+            return Some(k);
+        }
+        k += 1;
+    }
+    None
+}
+
+/// What is known of the empty prefix.
+fn first_known<T: Tails>(case: &Case<'_>, tails: &T) -> PrefixKnown
+    requires case { IsCase (matter_of case.now) }
+    requires tails { HasTails (matter_of case.now) (T.basis tails.now) }
+    ensures { IsKnown (tailed_of (matter_of case.now) (T.basis tails.now)) result [] }
+{
+    let judged = Judged::start(case.exercise, case.sheet);
+    let tail = tails.start();
+    PrefixKnown { judged, tail }
+}
+
+/// What is known of a prefix with the column of a number more.
+fn known_after<T: Tails>(
+    case: &Case<'_>,
+    tails: &T,
+    known: &PrefixKnown,
+    number: usize,
+) -> PrefixKnown
+    requires case { IsCase (matter_of case.now) }
+    requires tails { HasTails (matter_of case.now) (T.basis tails.now) }
+    requires room { known.now.judged.state.newest.len < columns_in (T.basis tails.now).exercise }
+    requires within { number < length (menu_of (T.basis tails.now).exercise known.now.judged.state.newest.len) }
+    requires small { known.now.judged.paid ≤ known.now.judged.state.newest.len * 134217728 }
+    ensures { IsKnownAfter (tailed_of (matter_of case.now) (T.basis tails.now)) known.now number result }
+{
+    let i = known.judged.state.newest.len;
+    PrefixKnown {
+        judged: known.judged.after(case, tails.column(i, number)),
+        tail: tails.behind(i, number),
+    }
+}
+
+/// The first prefix that is longer than an open one by a column of this number or a later one: the number, and what is known of it.
+fn next_known<T: Tails>(
+    case: &Case<'_>,
+    tails: &T,
+    known: &PrefixKnown,
+    from: usize,
+) -> Option<(usize, PrefixKnown)>
+    requires case { IsCase (matter_of case.now) }
+    requires tails { HasTails (matter_of case.now) (T.basis tails.now) }
+    requires open_node { IsOfOpen (tree_in (tailed_of (matter_of case.now) (T.basis tails.now)))
+        (IsKnown (tailed_of (matter_of case.now) (T.basis tails.now))) known.now }
+    ensures { IsNextOf (IsKnown (tailed_of (matter_of case.now) (T.basis tails.now)))
+        (ways_of case.now.exercise.now) known.now from result }
+{
+    let i = known.judged.state.newest.len;
+    let before = known.judged.state.before(case.exercise);
+    match next_number(tails, i, before, from) {
+        Some(number) => Some((number, known_after(case, tails, known, number))),
+        None => None,
+    }
+}
+
+impl<'a, T: Tails> TailedCase<'a, T> {
+    /// A case with tails that are its own.
+    pub fn new(case: Case<'a>, tails: &'a T) -> TailedCase<'a, T>
+        requires case { IsCase (matter_of case) }
+        requires tails { HasTails (matter_of case) (T.basis tails.now) }
+        ensures { result ≡ tailed_of (matter_of case.entry) (T.basis tails.entry.now) }
+    {
+        TailedCase { case, tails }
+    }
+}
+
+impl<'a, T: Tails> ClaimTree for TailedCase<'a, T> {
+    ghost use Rattle.std.specs.Prelude.{[], List as Items};
+    ghost use Rattle.fux_grid.specs.declared.cell.Cell.{Cell as ACell};
+    ghost use Rattle.cert_law.specs.Certificates.{Begins};
+    ghost use Rattle.cert_law.specs.Known.{IsKnown, tree_in, ways_of};
+    ghost use Rattle.cert_law.specs.WayLaws.{RefutesExcluded, are_ways, empty_begins, excluded};
+    ghost use Rattle.cert_law.specs.Writer as words;
+
+    type Claim = Claim;
+
+    type Known = PrefixKnown;
+
+    ghost Node = { Items (Items ACell) };
+
+    ghost Leaf = { Items (Items ACell) };
+
+    ghost tree = { tree_in };
+
+    ghost root = { λ _. [] };
+
+    ghost ways = { λ it. ways_of it.case.exercise };
+
+    ghost own = { λ it. words.first_claim it.case.exercise it.case.sheet it.case.head it.stated };
+
+    ghost begins = { λ _. Begins };
+
+    ghost refutes = { RefutesExcluded };
+
+    ghost is_of = { IsKnown };
+
+    ghost are_ways = { are_ways };
+
+    ghost root_begins = { λ _. empty_begins };
+
+    ghost excludes = { excluded };
+
+    fn depth(&self) -> usize {
+        8 * self.case.exercise.bars as usize
+    }
+
+    fn first(&self) -> PrefixKnown {
+        first_known(&self.case, self.tails)
+    }
+
+    fn next(&self, known: &PrefixKnown, from: usize) -> Option<(usize, PrefixKnown)> {
+        next_known(&self.case, self.tails, known, from)
+    }
+
+    fn is_open(&self, claim: Claim) -> bool {
+        is_open(claim)
+    }
+
+    fn is_true(&self, known: &PrefixKnown, claim: Claim) -> bool {
+        is_true(&self.case, &known.judged, known.tail, claim)
+    }
+
+    fn own_claim(&self, known: &PrefixKnown) -> Claim {
+        first_claim(&self.case, &known.judged, known.tail)
+    }
+}
