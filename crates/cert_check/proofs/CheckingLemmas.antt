@@ -4,16 +4,18 @@ use Rattle.std.proofs.Common.{◌≡◌, ◌⊎◌, inl, inr, ℕ, ◌+◌, List
 use Rattle.std.specs.Prelude.{IfSome, option_map}
 use Rattle.cert_text.specs.declared.answers.Refused.{Refused}
 use Rattle.cert_text.specs.declared.claim.Claim.{Claim}
-use Rattle.cert_tree.specs.Judgings.{AreFed as TreeFed, IsFault as TreeFault, IsFed as TreeIsFed, IsFedCertified, IsFedNone, Refuses as TreeRefuses, Standing, Takes as TreeTakes, TakesOf as TreeTakesOf, begun_at}
+use Rattle.cert_tree.specs.Judgings.{AreFed as TreeFed, IsFault as TreeFault, IsFed as TreeIsFed, IsFedCertified, IsFedNone, Refuses as TreeRefuses, Standing, Takes as TreeTakes, TakesOf as TreeTakesOf, begun_at, standing_of}
 use Rattle.cert_tree.specs.Trees.{Excludes, IsBegunByOne, OwesRefuting, owed_by}
 use Rattle.cert_tree.specs.declared.judging.Cause.{Cause}
 use Rattle.cert_tree.specs.declared.judging.Cause.TheVariants as causes
+use Rattle.cert_tree.specs.declared.judging.Judging.{Judging}
 use Rattle.cert_tree.specs.declared.judging.Refusal.{Refusal}
 use Rattle.cert_law.specs.Cases.{IsCase}
 use Rattle.cert_law.specs.Certificates.{Begins, Holds, IsCertificate, IsHeadSound, Refutes}
 use Rattle.cert_law.specs.Entries.{AreTrueEntries}
-use Rattle.cert_law.specs.Known.{Tailed, tree_in}
+use Rattle.cert_law.specs.Known.{Tailed, tree_in, ways_of}
 use Rattle.cert_law.specs.WayLaws.{ExcludesRefuting, RefutesExcluded}
+use Rattle.cert_law.specs.declared.known.PrefixKnown.{PrefixKnown}
 use Rattle.cert_law.proofs.TailFacts.{tails_hold}
 use Rattle.cert_law.proofs.Valid.{excludes_refuting, unrefuted_holds}
 use Rattle.cert_check.specs.Checking.{Checking, IsFault, Refuses, Takes, TakesOf, refused_by, why_of}
@@ -99,6 +101,33 @@ module _ (tailed : Tailed) where
           → IsFault (seen old) owed claim (refused_by refused)
       by [] it = ap refused_by it
       by (p ∷ owed) it = (it.0, ap refused_by it.1)
+
+  -- where a checker's judge takes or refuses a claim, by the tree of a case that is this one
+  pub taken_by : (x : Tailed) → x ≡ tailed → (old new : Judging PrefixKnown) (claim : Claim) (now : Checking)
+      → seen (standing_of (ways_of tailed.case.exercise) old) ≡ now
+      → (old.refusal ≡ None → TreeTakes (tree_in x) (standing_of (ways_of x.case.exercise) old) claim
+      (standing_of (ways_of x.case.exercise) new))
+      → now.refusal ≡ None → Takes now claim (seen (standing_of (ways_of tailed.case.exercise) new))
+  taken_by x is old new claim now same taken =
+      let ways = ways_of tailed.case.exercise in
+      subst (λ (s : Checking). s.refusal ≡ None → Takes s claim (seen (standing_of ways new))) same
+      (λ clear. takes_seen (standing_of ways old) claim (standing_of ways new)
+      (subst (λ (y : Tailed). TreeTakes (tree_in y) (standing_of (ways_of y.case.exercise) old) claim
+      (standing_of (ways_of y.case.exercise) new)) is (taken (none_seen old.refusal clear))))
+
+  pub refused_as : (x : Tailed) → x ≡ tailed → (old new : Judging PrefixKnown) (claim : Claim) (refusal : Refusal)
+      (now : Checking) → seen (standing_of (ways_of tailed.case.exercise) old) ≡ now
+      → (old.refusal ≡ None → TreeRefuses (tree_in x) (standing_of (ways_of x.case.exercise) old) claim refusal
+      (standing_of (ways_of x.case.exercise) new))
+      → now.refusal ≡ None
+      → Refuses now claim (refused_by refusal) (seen (standing_of (ways_of tailed.case.exercise) new))
+  refused_as x is old new claim refusal now same refused =
+      let ways = ways_of tailed.case.exercise in
+      subst
+      (λ (s : Checking). s.refusal ≡ None → Refuses s claim (refused_by refusal) (seen (standing_of ways new))) same
+      (λ clear. refuses_seen (standing_of ways old) claim refusal (standing_of ways new)
+      (subst (λ (y : Tailed). TreeRefuses (tree_in y) (standing_of (ways_of y.case.exercise) old) claim refusal
+      (standing_of (ways_of y.case.exercise) new)) is (refused (none_seen old.refusal clear))))
 
   -- ---- and the other way round
 

@@ -1,11 +1,14 @@
-use Rattle.std.proofs.Common.{◌≡◌, None, Some, sym, subst}
+use Rattle.std.proofs.Common.{Err, OnOk, ap, sym, ◌∙◌, subst}
+use Rattle.std.specs.Prelude.{IfErr, Result}
+use Rattle.cert_text.specs.declared.answers.Refused.{Refused}
 use Rattle.cert_law.specs.Cases.{Matter}
 use Rattle.cert_law.specs.Certificates.{Begins}
 use Rattle.cert_law.specs.Known.{IsKnown, Tailed, tailed_of, tree_in, ways_of}
 use Rattle.cert_law.specs.WayLaws.{RefutesExcluded}
-use Rattle.cert_tree.specs.Judgings.{IsKept, Refuses as TreeRefuses, Takes as TreeTakes, standing_of}
-use Rattle.cert_check.specs.Checking.{Checking, Refuses, Takes}
-use Rattle.cert_check.proofs.CheckingLemmas.{none_seen, refuses_seen, takes_seen}
+use Rattle.cert_tree.specs.Judgings.{IsKept, standing_of}
+use Rattle.cert_check.specs.Checking.{Refuses, Takes}
+use Rattle.cert_check.proofs.CheckingLemmas.{refused_as, seen_at, taken_by}
+use Rattle.cert_check.proofs.checker.Checker.feed.Goals.{in-Err, in-Ok}
 use Rattle.cert_check.proofs.checker.Checker.feed.Goals as goal
 
 pub feed-requires-clause-kept : goal.feed-requires-clause-kept
@@ -26,38 +29,40 @@ invariant_of-self g c = record {
       c.new-it.ensures c.feed.ensures.kept;
 }
 
-pub returns-in-Ok-clause-taken : goal.returns-in-Ok-clause-taken
-returns-in-Ok-clause-taken g c =
+pub returns-clause-taken : goal.returns-clause-taken
+returns-clause-taken g c =
     let t : Matter = record {
       exercise = c.self.inside.exercise.now;
       sheet = c.self.inside.sheet.now;
       head = c.self.inside.head;
     } in
     let tailed = tailed_of t (g.T.Tails.basis c.self.inside.tails) in
-    let old = c.self.inside.judging in
-    let new = c.feed.new.judging in
-    subst (λ (s : Checking). s.refusal ≡ None → Takes s c.args.claim _) c.self.view_is
-    (λ clear. takes_seen tailed (standing_of (ways_of t.exercise) old) c.args.claim (standing_of (ways_of t.exercise) new)
-    (subst
-    (λ (x : Tailed). TreeTakes (tree_in x) (standing_of (ways_of x.case.exercise) old) c.args.claim
-    (standing_of (ways_of x.case.exercise) new))
-    c.new-it.ensures (c.in-Ok.ensures.taken (none_seen old.refusal clear))))
+    let new = seen_at tailed (standing_of (ways_of t.exercise) c.feed.new.judging) in
+    elim c.match-feed.branch [
+      | in-Ok w ↦ λ unrefused.
+          subst (λ (r : Result (Unit {0}) Refused). OnOk r (Takes c.args.self.now c.args.claim new)) (sym w.result-is)
+          (taken_by tailed c.new-it.result c.new-it.ensures c.self.inside.judging c.feed.new.judging c.args.claim
+          c.args.self.now c.self.view_is w.in-Ok.ensures.taken unrefused)
+      | in-Err w ↦ λ unrefused.
+          subst (λ (r : Result (Unit {0}) Refused). OnOk r (Takes c.args.self.now c.args.claim new)) (sym w.result-is) tt
+    ]
 
-pub returns-in-Err-clause-refused : goal.returns-in-Err-clause-refused
-returns-in-Err-clause-refused g c =
+pub returns-clause-refused : goal.returns-clause-refused
+returns-clause-refused g c =
     let t : Matter = record {
       exercise = c.self.inside.exercise.now;
       sheet = c.self.inside.sheet.now;
       head = c.self.inside.head;
     } in
     let tailed = tailed_of t (g.T.Tails.basis c.self.inside.tails) in
-    let old = c.self.inside.judging in
-    let new = c.feed.new.judging in
-    subst (λ (s : Checking). s.refusal ≡ None → Refuses s c.args.claim c.refused_by.result _) c.self.view_is
-    (λ clear. subst (λ refused. Refuses _ c.args.claim refused _) (sym c.refused_by.ensures)
-    (refuses_seen tailed (standing_of (ways_of t.exercise) old) c.args.claim c.in-Err.refusal
-    (standing_of (ways_of t.exercise) new)
-    (subst
-    (λ (x : Tailed). TreeRefuses (tree_in x) (standing_of (ways_of x.case.exercise) old) c.args.claim c.in-Err.refusal
-    (standing_of (ways_of x.case.exercise) new))
-    c.new-it.ensures (c.in-Err.ensures.refused (none_seen old.refusal clear)))))
+    let new = seen_at tailed (standing_of (ways_of t.exercise) c.feed.new.judging) in
+    elim c.match-feed.branch [
+      | in-Ok w ↦ λ unrefused.
+          subst (λ (r : Result (Unit {0}) Refused). IfErr r (λ refused. Refuses c.args.self.now c.args.claim refused new))
+          (sym w.result-is) tt
+      | in-Err w ↦ λ unrefused.
+          subst (λ (r : Result (Unit {0}) Refused). IfErr r (λ refused. Refuses c.args.self.now c.args.claim refused new))
+          (sym (w.result-is ∙ ap Err w.refused_by.ensures))
+          (refused_as tailed c.new-it.result c.new-it.ensures c.self.inside.judging c.feed.new.judging c.args.claim
+          w.in-Err.refusal c.args.self.now c.self.view_is w.in-Err.ensures.refused unrefused)
+    ]

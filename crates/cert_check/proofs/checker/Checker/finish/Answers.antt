@@ -1,13 +1,20 @@
-use Rattle.std.proofs.Common.{List, [], subst}
-use Rattle.cert_tree.specs.Judgings.{IsFedCertified, IsFedNone, standing_of}
+use Rattle.std.proofs.Common.{List, [], sym, subst}
+use Rattle.cert_tree.specs.Judgings.{IsFedCertified, IsFedNone, IsKept, standing_of}
 use Rattle.cert_law.specs.Cases.{Matter}
-use Rattle.cert_law.specs.Certificates.{Holds}
-use Rattle.cert_law.specs.Known.{Tailed, tailed_of, tree_in, ways_of}
+use Rattle.cert_law.specs.Certificates.{Begins, Holds}
+use Rattle.cert_law.specs.Known.{IsKnown, Tailed, tailed_of, tree_in, ways_of}
 use Rattle.cert_law.specs.WayLaws.{RefutesExcluded}
 use Rattle.fux_grid.specs.declared.cell.Cell.{Cell}
 use Rattle.cert_check.specs.Checking.{Checking}
 use Rattle.cert_check.proofs.CheckingLemmas.{certificate_seen, head_holds, none_certified}
 use Rattle.cert_check.proofs.checker.Checker.finish.Goals as goal
+
+pub finish-requires-clause-kept : goal.finish-requires-clause-kept
+finish-requires-clause-kept g c =
+    subst
+    (λ (x : Tailed). IsKept (tree_in x) (IsKnown x) (ways_of x.case.exercise) Begins (RefutesExcluded x)
+    c.self.inside.judging)
+    (sym c.new.ensures) c.self.invariant.kept
 
 pub returns-in-Best-clause-shown : goal.returns-in-Best-clause-shown
 returns-in-Best-clause-shown g c =
