@@ -1,3 +1,4 @@
+pub mod Beginnings
 pub mod Certificates
 pub mod Fits
 pub mod StageLemmas

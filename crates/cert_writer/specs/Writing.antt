@@ -28,8 +28,11 @@ abbrev pub by_tables : Matter → Tailed
 by_tables t = record { case = t; stated = None }
 
 -- the claim that is written of a prefix
+abbrev pub own_in : Tailed → List (List Cell) → Claim
+own_in x p = first_claim x.case.exercise x.case.sheet x.case.head x.stated p
+
 abbrev pub own_claim : Matter → List (List Cell) → Claim
-own_claim t p = first_claim t.exercise t.sheet t.head None p
+own_claim t = own_in (by_tables t)
 
 -- the claims that are still to come, the next one first
 abbrev pub to_come : Matter → Walk PrefixKnown → List Claim
