@@ -32,6 +32,7 @@ use Rattle.motion_rules.specs.Runs.{ends_four_bars}
 use Rattle.penalty_sheet.specs.declared.sheet.Sheet.{Sheet}
 use Rattle.penalty_sheet.specs.Weights.{weight_of}
 use Rattle.rhythm_cadence.specs.Book as rhythm
+use Rattle.rhythm_cadence.specs.Patterns.{is_pattern, lacks_ligature, missing_ligatures, pattern_toll}
 use Rattle.rule_law.specs.Nearby.{pitch_at, previous_pitches, whole_of}
 use Rattle.rule_law.specs.Pairs.{count_pairs}
 use Rattle.rule_law.specs.Places.{Row}
