@@ -41,7 +41,7 @@ pub enum OpenFault {
 /// begin the one owed next, and nothing else of what was judged, so that it takes no memory after it is opened.
 #[derive(Drop)]
 pub struct Checker<'a, T: Tails> {
-    exercise: &'a Exercise,
+    exercise: &'a Exercise<'a>,
     sheet: &'a Sheet,
     head: CertHead,
     tails: T,
@@ -96,7 +96,7 @@ impl<'a> Checker<'a, Tables<'a>> {
     pub fn open<R: Threads + Sync>(
         rt: &R,
         alloc: Global,
-        ex: &'a Exercise,
+        ex: &'a Exercise<'a>,
         sheet: &'a Sheet,
         head: CertHead,
     ) -> Result<Checker<'a, Tables<'a>>, OpenFault>
@@ -132,7 +132,7 @@ impl<'a, T: Tails + Drop> Checker<'a, T> {
     /// A checker for which the empty prefix is owed. It takes all its memory here.
     pub(crate) fn opened(
         alloc: Global,
-        exercise: &'a Exercise,
+        exercise: &'a Exercise<'a>,
         sheet: &'a Sheet,
         head: CertHead,
         tails: T,

@@ -32,7 +32,7 @@ pub enum CloseFault {
 /// A certificate of the second form, as far as its entries were read. It fills no tables, and neither does the checker that it becomes.
 #[derive(Drop)]
 pub struct Stated<'a> {
-    exercise: &'a Exercise,
+    exercise: &'a Exercise<'a>,
     sheet: &'a Sheet,
     head: CertHead,
     entries: Entries<'a>,
@@ -58,7 +58,7 @@ impl<'a> Stated<'a> {
     /// A certificate with this head, of which no entry was read. All memory for the entries is taken here.
     pub fn open(
         alloc: Global,
-        ex: &'a Exercise,
+        ex: &'a Exercise<'a>,
         sheet: &'a Sheet,
         head: CertHead,
     ) -> Result<Stated<'a>, OpenFault>

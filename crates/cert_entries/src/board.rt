@@ -14,7 +14,7 @@ use penalty_sheet::Sheet;
 /// An exercise and a sheet, the menus, and the entries that are stated so far.
 #[derive(Clone, Copy)]
 pub(crate) struct Board<'a> {
-    pub(crate) exercise: &'a Exercise,
+    pub(crate) exercise: &'a Exercise<'a>,
     pub(crate) sheet: &'a Sheet,
     pub(crate) menus: &'a Menus,
     pub(crate) stated: &'a [Potential],

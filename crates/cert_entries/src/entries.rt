@@ -35,7 +35,7 @@ pub enum EntryFault {
 /// column of the menus in reading order. There are at most 1,572,865.
 #[derive(Drop)]
 pub struct Entries<'a> {
-    exercise: &'a Exercise,
+    exercise: &'a Exercise<'a>,
     sheet: &'a Sheet,
     menus: Menus,
     stated: Vec<Potential>,
@@ -56,7 +56,7 @@ impl<'a> Entries<'a> {
     /// None so far, of an exercise by a sheet. All memory is taken here.
     pub fn open(
         alloc: Global,
-        ex: &'a Exercise,
+        ex: &'a Exercise<'a>,
         sheet: &'a Sheet,
     ) -> Result<Entries<'a>, EntryFault>
         requires { IsValid ex.now }

@@ -13,7 +13,7 @@ use std::marker::Model;
 /// The chains of an exercise, where voice 1 pays for its leaps and strikes no degree twice in a row.
 #[derive(Drop)]
 pub struct Leaps<'a> {
-    exercise: &'a Exercise,
+    exercise: &'a Exercise<'a>,
 }
 
 impl<'a> Model for Leaps<'a> {
@@ -29,7 +29,7 @@ impl<'a> Model for Leaps<'a> {
 
 impl<'a> Leaps<'a> {
     /// The chains of this exercise.
-    pub fn new(exercise: &'a Exercise) -> Leaps<'a>
+    pub fn new(exercise: &'a Exercise<'a>) -> Leaps<'a>
         requires { IsValid exercise.now }
         ensures { result ≡ exercise.entry.now }
     {

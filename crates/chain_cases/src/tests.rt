@@ -5,7 +5,7 @@ use crate::listing::{least_of_list, least_of_settings};
 use chain_sums::{Links, Open, Tables};
 use floor_tables::fill_tables;
 use fux_grid::{Exercise, RangeLine, Relax, menu};
-use fux_pitch::{List, Mode, Pitch, parse_pitch};
+use fux_pitch::{AnyList, Mode, Pitch, parse_pitch};
 use penalty_sheet::{Sheet, default_sheet};
 use std::alloc::Global;
 use std::test::Fail;
@@ -26,7 +26,7 @@ fn pitch(name: &str) -> Result<Pitch, Fail> {
 }
 
 /// Voice 1 above D3 E3 D3.
-fn exercise(alloc: Global, low: &str, high: &str, species: u8) -> Result<Exercise, Fail> {
+fn exercise(alloc: Global, low: &str, high: &str, species: u8) -> Result<Exercise<'static>, Fail> {
     let range = RangeLine {
         voice: 1,
         low: pitch(low)?,
@@ -40,11 +40,12 @@ fn exercise(alloc: Global, low: &str, high: &str, species: u8) -> Result<Exercis
         bars: 3,
         species,
         species_voice: 1,
+        mixed: None,
         cantus_voice: 0,
-        cantus: List::new(vec![in alloc; d, e, d]?),
-        ranges: List::new(vec![in alloc; range]?),
-        relax: List::new(Vec::new(alloc)),
-        given: List::new(Vec::new(alloc)),
+        cantus: AnyList::new(vec![in alloc; d, e, d]?),
+        ranges: AnyList::new(vec![in alloc; range]?),
+        relax: AnyList::new(Vec::new(alloc)),
+        given: AnyList::new(Vec::new(alloc)),
         setting: None,
     })
 }
@@ -107,7 +108,7 @@ fn setting(
     species: u8,
     ends: &[(&str, &str)],
     relaxed: &[u8],
-) -> Result<Exercise, Fail> {
+) -> Result<Exercise<'static>, Fail> {
     let mut ranges = Vec::new(alloc);
     let mut voice = 1;
     for (low, high) in ends {
@@ -137,11 +138,12 @@ fn setting(
         bars: 3,
         species,
         species_voice: 1,
+        mixed: None,
         cantus_voice: 0,
-        cantus: List::new(vec![in alloc; d, e, d]?),
-        ranges: List::new(ranges),
-        relax: List::new(relax),
-        given: List::new(Vec::new(alloc)),
+        cantus: AnyList::new(vec![in alloc; d, e, d]?),
+        ranges: AnyList::new(ranges),
+        relax: AnyList::new(relax),
+        given: AnyList::new(Vec::new(alloc)),
         setting: None,
     })
 }

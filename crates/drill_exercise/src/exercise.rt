@@ -5,7 +5,7 @@ ghost use Rattle.drill_exercise.specs.Drill.{IsDrill};
 
 use crate::cantus::{cantus, natural};
 use fux_grid::{Exercise, RangeLine};
-use fux_pitch::{List, Memory, Mode};
+use fux_pitch::{AnyList, Memory, Mode};
 use std::alloc::Global;
 
 /// The degree of F4, the lowest of the free voice.
@@ -16,7 +16,7 @@ const HIGH: u8 = 38;
 
 /// The exercise with a number: dorian, two voices, 24 bars, a cantus firmus that the number chooses in the lower voice, and
 /// first species from F4 to F5 in the upper one.
-pub fn drill(alloc: Global, n: u32) -> Result<Exercise, Memory>
+pub fn drill(alloc: Global, n: u32) -> Result<Exercise<'static>, Memory>
     ensures { IfOk result (IsDrill n) }
 {
     let cantus = cantus(alloc, n)?;
@@ -33,11 +33,12 @@ pub fn drill(alloc: Global, n: u32) -> Result<Exercise, Memory>
         bars: 24,
         species: 1,
         species_voice: 1,
+        mixed: None,
         cantus_voice: 0,
-        cantus: List::new(cantus),
-        ranges: List::new(ranges),
-        relax: List::new(Vec::new(alloc)),
-        given: List::new(Vec::new(alloc)),
+        cantus: AnyList::new(cantus),
+        ranges: AnyList::new(ranges),
+        relax: AnyList::new(Vec::new(alloc)),
+        given: AnyList::new(Vec::new(alloc)),
         setting: None,
     })
 }

@@ -18,7 +18,7 @@ use std::marker::Model;
 /// The columns of an exercise's menus, and what two neighbors cost by a sheet.
 #[derive(Drop)]
 pub(crate) struct ColumnLinks<'a> {
-    exercise: &'a Exercise,
+    exercise: &'a Exercise<'a>,
     sheet: &'a Sheet,
 }
 
@@ -35,7 +35,7 @@ impl<'a> Model for ColumnLinks<'a> {
 
 impl<'a> ColumnLinks<'a> {
     /// Those of this exercise by this sheet.
-    pub(crate) fn new(exercise: &'a Exercise, sheet: &'a Sheet) -> ColumnLinks<'a>
+    pub(crate) fn new(exercise: &'a Exercise<'a>, sheet: &'a Sheet) -> ColumnLinks<'a>
         requires { IsValid exercise.now }
         ensures { result ≡ record { exercise = exercise.entry.now; sheet = sheet.entry.now } }
     {

@@ -20,7 +20,7 @@ use std::thread::Threads;
 /// more than two neighbors.
 #[derive(Drop)]
 pub struct Tables<'a> {
-    exercise: &'a Exercise,
+    exercise: &'a Exercise<'a>,
     sheet: &'a Sheet,
     sums: chain_sums::Tables,
 }
@@ -46,7 +46,7 @@ const PIECE: usize = 2048;
 pub fn tables_cut<'a, R: Threads + Sync, G: Gate>(
     rt: &R,
     alloc: Global,
-    ex: &'a Exercise,
+    ex: &'a Exercise<'a>,
     sheet: &'a Sheet,
     piece: usize,
     gate: &G,
@@ -70,7 +70,7 @@ pub fn tables_cut<'a, R: Threads + Sync, G: Gate>(
 pub fn fill_tables<'a, R: Threads + Sync>(
     rt: &R,
     alloc: Global,
-    ex: &'a Exercise,
+    ex: &'a Exercise<'a>,
     sheet: &'a Sheet,
 ) -> Result<Tables<'a>, TableFault>
     requires { IsValid ex.now }

@@ -1,5 +1,5 @@
 -- Exercises, and which of them are valid.
-use Rattle.std.specs.Prelude.{◌≡◌, ◌≢◌, ℕ, ◌*◌, ◌^◌, ◌/◌, ◌%◌, ◌+◌, ◌<◌, ◌≤◌, ◌≤ℤ◌, ◌==◌, ◌&&◌, List, [], ◌∷◌, All, AllPairs, filter, length, Option, option_map, Some, None, IfSome, IsSome, IsTrue, if◌then◌else◌, slice_get, slice_index_or}
+use Rattle.std.specs.Prelude.{◌≡◌, ◌≢◌, ℕ, ◌*◌, ◌^◌, ◌/◌, ◌%◌, ◌+◌, ◌<◌, ◌≤◌, ◌≤ℤ◌, ◌==◌, ◌&&◌, Bool, List, [], ◌∷◌, All, AllPairs, filter, length, Option, option_map, Some, None, IfSome, IsSome, IsTrue, is_some, if◌then◌else◌, slice_get, slice_index_or}
 use Rattle.std.specs.List.{find}
 use Rattle.std.specs.Option.{option_map_or}
 use Rattle.fux_pitch.specs.declared.pitch.Pitch.{Pitch}
@@ -27,18 +27,40 @@ bar_of i = i / 8 + 1
 abbrev pub slot_of : ℕ → ℕ
 slot_of i = i % 8
 
--- rules are numbered from 1 to this
+-- the rules of every exercise are numbered from 1 to this
 abbrev pub greatest_rule : ℕ
 greatest_rule = 26
+
+-- with the rules of mixed exercises, they are numbered from 1 to this
+abbrev pub greatest_mixed_rule : ℕ
+greatest_mixed_rule = 28
 
 -- the voice is free: it isn't the cantus
 pub record IsFree (ex : Exercise) (v : ℕ) : Type 0 where
   pub there : v < ex.voices
   pub no_cantus : v ≢ ex.cantus_voice
 
--- the species of a voice
+-- each voice has a species of its own
+abbrev pub is_mixed : Exercise → Bool
+is_mixed ex = is_some ex.mixed
+
+-- the species of a voice: where they are mixed its own, else the exercise's for the species voice and 1 for the others
 abbrev pub species_in : Exercise → ℕ → ℕ
-species_in ex v = if v == ex.species_voice then ex.species else 1
+species_in ex v =
+    option_map_or (λ species. slice_index_or species v 1) ex.mixed (if v == ex.species_voice then ex.species else 1)
+
+-- one of the five species
+abbrev pub IsSpecies : ℕ → Type 0
+IsSpecies n = (1 ≤ n) × (n ≤ 5)
+
+-- these may be the species of the exercise's voices: one of the five for each free voice, and 1 for the cantus
+pub record AreSpecies (ex : Exercise) (species : List ℕ) : Type 0 where
+  pub free : (v : ℕ) → IsFree ex v → IsSpecies (slice_index_or species v 1)
+  pub cantus : slice_index_or species ex.cantus_voice 1 ≡ 1
+
+-- the same exercise with these species of its voices, and without a setting
+abbrev pub as_mixed : Exercise → List ℕ → Exercise
+as_mixed ex species = record ex { mixed = Some species; setting = None }
 
 -- bars of an exercise, from one to another
 abbrev pub AreBars : Exercise → ℕ → ℕ → Type 0
@@ -121,6 +143,7 @@ pub record IsValid (ex : Exercise) : Type 0 where
   pub species_there : ex.species_voice < ex.voices
   pub cantus_there : ex.cantus_voice < ex.voices
   pub differ : ex.species_voice ≢ ex.cantus_voice
+  pub mixed : IfSome ex.mixed (AreSpecies ex)
   pub whole_cantus : length ex.cantus ≡ ex.bars
   pub range_lines_fit : All (IsRangeLine ex) ex.ranges
   pub each_has_range : (v : ℕ) → IsFree ex v → BeginsWithWhole (range_lines ex v)

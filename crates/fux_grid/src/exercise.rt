@@ -1,14 +1,14 @@
 //! What is to be set.
 
-ghost use Rattle.std.specs.Prelude.{◌≡◌, ◌↔◌, ℕ, ◌<◌, ◌≤◌, ◌*◌, ◌/◌, ◌==◌, ◌&&◌, IsTrue, All, filter, length};
+ghost use Rattle.std.specs.Prelude.{◌≡◌, ◌↔◌, ℕ, ◌<◌, ◌≤◌, ◌*◌, ◌/◌, ◌==◌, ◌&&◌, IfSome, IsTrue, All, filter, length, slice_index_or};
 ghost use Rattle.std.specs.List.{last_or};
-ghost use Rattle.fux_grid.specs.Exercises.{species_in, cantus_cell, AreBars, BeginsWithWhole, HasCantus, HasCantusAt, IsFree, IsGiven, IsRangeLine, IsRelax, IsValid, range_lines};
+ghost use Rattle.fux_grid.specs.Exercises.{as_mixed, is_mixed, species_in, cantus_cell, AreBars, AreSpecies, BeginsWithWhole, HasCantus, HasCantusAt, IsFree, IsGiven, IsRangeLine, IsRelax, IsSpecies, IsValid, range_lines};
 ghost use Rattle.fux_grid.specs.Menus.{covers, range_of};
 
 use crate::cell::Cell;
 use crate::given::{GivenBar, are_given_bars, fits_given};
 use crate::score::Score;
-use fux_pitch::{List, Mode, Pitch, semitone};
+use fux_pitch::{AnyList, Mode, Pitch, semitone};
 
 /// A place of the grid: a bar, counted from 1, and a slot in it, from 0 to 7.
 #[derive(Clone, Copy, Debug, PartialEq, Eq)]
@@ -32,8 +32,11 @@ pub struct RangeLine {
     pub bars: Option<(u8, u8)>,
 }
 
-/// Rules are numbered from 1 to this.
+/// The rules of every exercise are numbered from 1 to this. Relax lines and the claims of certificates name no others.
 pub const GREATEST_RULE: u8 = 26;
+
+/// With the rules of mixed exercises, which are never relaxed, rules are numbered from 1 to this.
+pub const GREATEST_MIXED_RULE: u8 = 28;
 
 /// A rule that is relaxed from one bar to another at a price for each break: for one set of voices, or for all sets.
 #[derive(Clone, Copy, Debug, PartialEq, Eq)]
@@ -47,20 +50,22 @@ pub struct Relax {
 
 /// An exercise: a cantus firmus, and what the other voices may do. Voices are numbered from 0 at the lowest.
 #[derive(Drop)]
-pub struct Exercise {
+pub struct Exercise<'a> {
     pub mode: Mode,
     pub voices: u8,
     pub bars: u8,
     /// The species of the species voice, from 1 to 5. All other voices have species 1.
     pub species: u8,
     pub species_voice: u8,
+    /// The species of each voice, where they are mixed: then `species` and `species_voice` say what the unnamed voices have.
+    pub mixed: Option<[u8; 4]>,
     pub cantus_voice: u8,
     /// One pitch for each bar.
-    pub cantus: List<Pitch>,
-    pub ranges: List<RangeLine>,
-    pub relax: List<Relax>,
+    pub cantus: AnyList<'a, Pitch>,
+    pub ranges: AnyList<'a, RangeLine>,
+    pub relax: AnyList<'a, Relax>,
     /// What is given to the free voices, by voice and then by bar.
-    pub given: List<GivenBar>,
+    pub given: AnyList<'a, GivenBar>,
     /// A setting that came with the exercise. Composing disregards it.
     pub setting: Option<Score>,
 }
@@ -110,14 +115,87 @@ pub fn range(ex: &Exercise, v: u8, bar: u8) -> (Pitch, Pitch)
     (line.low, line.high)
 }
 
-/// The species of a voice.
-pub fn species_of(ex: &Exercise, v: u8) -> u8
-    ensures { result ≡ species_in ex.now v }
+/// Whether each voice has a species of its own.
+#[inline]
+pub fn is_mixed(ex: &Exercise) -> bool
+    ensures { result ≡ is_mixed ex.now }
 {
-    if v == ex.species_voice { ex.species } else { 1 }
+    ex.mixed.is_some()
 }
 
-impl Exercise {
+/// The species that a list has for a voice, 1 beyond its end.
+fn species_at(species: &[u8; 4], v: u8) -> u8
+    ensures { result ≡ slice_index_or species.now v 1 }
+{
+    if v < 4 { species[v as usize] } else { 1 }
+}
+
+/// The species of a voice. A valid exercise has one of the five for each of its voices, and the first for the cantus.
+pub fn species_of(ex: &Exercise, v: u8) -> u8
+    ensures value { result ≡ species_in ex.now v }
+    ensures least { IsValid ex.now → v < ex.now.voices → 1 ≤ result }
+    ensures most { IsValid ex.now → v < ex.now.voices → result ≤ 5 }
+    ensures cantus { IsValid ex.now → v ≡ ex.now.cantus_voice → result ≡ 1 }
+{
+    match &ex.mixed {
+        Some(species) => species_at(species, v),
+        None if v == ex.species_voice => ex.species,
+        None => 1,
+    }
+}
+
+/// Whether a free voice's species is one of the five; other voices are not asked.
+fn has_species(ex: &Exercise, species: &[u8; 4], v: u8) -> bool
+    ensures { IsTrue result ↔ (IsFree ex.now v → IsSpecies (slice_index_or species.now v 1)) }
+{
+    let one = species_at(species, v);
+    !is_free(ex, v) || 1 <= one && one <= 5
+}
+
+/// Whether these may be the species of the exercise's voices.
+fn are_species(ex: &Exercise, species: &[u8; 4]) -> bool
+    ensures { IsTrue result ↔ AreSpecies ex.now species.now }
+{
+    for v in 0..ex.voices {
+        if !has_species(ex, species, v) {
+            return false;
+        }
+    }
+    species_at(species, ex.cantus_voice) == 1
+}
+
+/// Whether the species of its voices fit the exercise, where they are mixed.
+fn mixed_fits(ex: &Exercise) -> bool
+    ensures { IsTrue result ↔ IfSome ex.now.mixed (AreSpecies ex.now) }
+{
+    match &ex.mixed {
+        Some(species) => are_species(ex, species),
+        None => true,
+    }
+}
+
+/// The same exercise with these species of its voices and no setting. It takes no memory.
+pub fn mixed_as<'a>(ex: &'a Exercise<'_>, species: [u8; 4]) -> Exercise<'a>
+    ensures value { result ≡ as_mixed ex.now species }
+    ensures valid { IsValid ex.now → AreSpecies ex.now species → IsValid result }
+{
+    Exercise {
+        mode: ex.mode,
+        voices: ex.voices,
+        bars: ex.bars,
+        species: ex.species,
+        species_voice: ex.species_voice,
+        mixed: Some(species),
+        cantus_voice: ex.cantus_voice,
+        cantus: ex.cantus.lend(),
+        ranges: ex.ranges.lend(),
+        relax: ex.relax.lend(),
+        given: ex.given.lend(),
+        setting: None,
+    }
+}
+
+impl<'a> Exercise<'a> {
     /// Whether the exercise is within the limits, and its parts fit one another.
     pub fn is_valid(&self) -> bool
         ensures { IsTrue result ↔ IsValid self.now }
@@ -129,6 +207,9 @@ impl Exercise {
             return false;
         }
         if self.cantus_voice >= self.voices || self.species_voice == self.cantus_voice {
+            return false;
+        }
+        if !mixed_fits(self) {
             return false;
         }
         if self.cantus.as_slice().len() != self.bars as usize || self.relax.as_slice().len() > 64 {

@@ -15,7 +15,8 @@ mod share;
 
 pub use cell::{Cell, Column, Note, Onset};
 pub use exercise::{
-    Exercise, GREATEST_RULE, Head, Place, RangeLine, Relax, VoiceSet, is_free, range, species_of,
+    Exercise, GREATEST_MIXED_RULE, GREATEST_RULE, Head, Place, RangeLine, Relax, VoiceSet, is_free,
+    is_mixed, mixed_as, range, species_of,
 };
 pub use given::{Given, GivenBar, given_at};
 pub use letters::{letters_from, shape};

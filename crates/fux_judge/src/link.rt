@@ -17,7 +17,7 @@ use rule_law::{RuleCrate, cells_of, is_quiet, latest_of_column, sets_of};
 /// A column of a setting, and the one before it.
 #[derive(Clone, Copy)]
 pub(crate) struct Link<'a> {
-    exercise: &'a Exercise,
+    exercise: &'a Exercise<'a>,
     /// The column's number.
     place: usize,
     /// The column before it; none where it is the setting's first.
@@ -31,7 +31,7 @@ pub(crate) struct Link<'a> {
 /// The link of two columns.
 #[inline]
 pub(crate) fn link_between<'a>(
-    ex: &'a Exercise,
+    ex: &'a Exercise<'a>,
     i: usize,
     prev: Option<&'a Column>,
     next: &'a Column,
@@ -160,7 +160,7 @@ fn charges(tolls: &[u8], sheet: &Sheet, link: &Link<'_>) -> u64
 
 /// What a column costs by itself at place `i`, whatever stands before it: the tolls of a column, by weight. None exactly where
 /// it makes a strict break of a rule of a column.
-pub fn column_cost<'a>(ex: &'a Exercise, sheet: &Sheet, i: usize, next: &'a Column) -> Option<u64>
+pub fn column_cost<'a>(ex: &'a Exercise<'a>, sheet: &Sheet, i: usize, next: &'a Column) -> Option<u64>
     requires valid { IsValid ex.now }
     requires place { i < columns_in ex.now }
     ensures value { result ≡ column_of ex.now sheet.now i next.now.items }
@@ -180,7 +180,7 @@ pub fn column_cost<'a>(ex: &'a Exercise, sheet: &Sheet, i: usize, next: &'a Colu
 /// What a column costs at place `i` behind `prev`, by the rules and tolls of pairs alone. None exactly where the two make a
 /// strict break of one of these rules.
 pub fn pair_cost<'a>(
-    ex: &'a Exercise,
+    ex: &'a Exercise<'a>,
     sheet: &Sheet,
     i: usize,
     prev: Option<&'a Column>,
@@ -204,7 +204,7 @@ pub fn pair_cost<'a>(
 /// What a column costs at place `i` behind `prev` by the rules and tolls that read two neighbors alone: the tolls of a column
 /// and of a pair, by weight. None exactly where the two make a strict break of such a rule.
 pub fn link_cost<'a>(
-    ex: &'a Exercise,
+    ex: &'a Exercise<'a>,
     sheet: &Sheet,
     i: usize,
     prev: Option<&'a Column>,

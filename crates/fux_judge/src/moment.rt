@@ -7,7 +7,7 @@ use rule_law::Latest;
 /// A column, and what is known of the prefix before it.
 #[derive(Clone, Copy)]
 pub(crate) struct Moment<'a> {
-    pub(crate) exercise: &'a Exercise,
+    pub(crate) exercise: &'a Exercise<'a>,
     /// The prefix's state: its length is the column's number.
     pub(crate) state: &'a State,
     /// The cells of the column before, which the state keeps; none at the first column.

@@ -118,7 +118,7 @@ fn weighs_little(sheet: &Sheet)
 /// cost: the rules and tolls of melody are not read again. None exactly where the two make a strict break of one of these rules.
 #[inline]
 pub fn pair_cost_from<'a>(
-    ex: &'a Exercise,
+    ex: &'a Exercise<'a>,
     sheet: &Sheet,
     i: usize,
     prev: &'a Column,

@@ -87,7 +87,7 @@ fn prices_of(rules: &[u8], m: &Moment<'_>) -> u64
 }
 
 /// The moment at which a column comes after a state's prefix.
-pub(crate) fn moment_of<'a>(ex: &'a Exercise, state: &'a State, col: &'a Column) -> Moment<'a>
+pub(crate) fn moment_of<'a>(ex: &'a Exercise<'a>, state: &'a State, col: &'a Column) -> Moment<'a>
     requires { ex.now.voices ≤ 4 }
     ensures after { (p : List (List ACell)) → IsStateOf ex.entry.now p state.entry.now → IsAfter p result }
     ensures exercise { result.exercise.now ≡ ex.entry.now }

@@ -1,3 +1,4 @@
+pub mod AnyList
 pub mod Key
 pub mod Modes
 pub mod Names

@@ -1,6 +1,7 @@
 //! Pitches, intervals and modes.
 #![tactic(auto)]
 
+mod any_list;
 mod interval;
 mod key;
 mod list;
@@ -11,6 +12,7 @@ mod pitch;
 mod share;
 mod spelling;
 
+pub use any_list::AnyList;
 pub use interval::{Interval, interval_of, is_consonant, is_imperfect, is_perfect, reduce};
 pub use key::semitone;
 pub use list::{Label, List};

@@ -1,5 +1,6 @@
 //! Types that threads may share and pass on.
 
+use crate::any_list::AnyList;
 use crate::interval::Interval;
 use crate::list::{Label, List};
 use crate::memory::Memory;
@@ -18,5 +19,9 @@ fn are_shared(pitch: &Pitch, mode: &Mode, interval: &Interval, label: &Label, me
 }
 
 fn is_shared_list<T: Send + Sync>(list: &List<T>) {
+    is_shared(list)
+}
+
+fn is_shared_any_list<'a, T: Send + Sync>(list: &AnyList<'a, T>) {
     is_shared(list)
 }

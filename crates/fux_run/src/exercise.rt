@@ -23,7 +23,7 @@ const TOO_LONG: Refusal = Refusal::Text {
 };
 
 /// The exercise whose text this is.
-pub fn exercise_of(alloc: Global, text: &Text) -> Result<Exercise, Stop>
+pub fn exercise_of(alloc: Global, text: &Text) -> Result<Exercise<'static>, Stop>
     ensures reads { (bytes : List ℕ) → IsContent 65536 text.now bytes → ReadsText bytes result }
     ensures valid { IfOk result IsValid }
 {

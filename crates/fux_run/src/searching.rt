@@ -46,7 +46,7 @@ pub fn best_setting<R: Threads + Sync>(
 pub fn space_of<'a, R: Threads + Sync>(
     rt: &R,
     alloc: Global,
-    exercise: &'a Exercise,
+    exercise: &'a Exercise<'a>,
     sheet: &'a Sheet,
 ) -> Result<SpeciesSpace<'a>, Stop>
     requires { IsValid exercise.now }

@@ -14,7 +14,7 @@ use crate::fault::{TextFault, TextKind};
 use crate::limits::{MOST_SPECIES, MOST_VOICES, NEWEST_VERSION};
 use crate::names::{parse_mode, parse_pitch};
 use fux_grid::Exercise;
-use fux_pitch::{List, Mode, Pitch};
+use fux_pitch::{AnyList, Mode, Pitch};
 use std::alloc::Global;
 use text_lines::{Lines, Words, parse_within};
 
@@ -99,7 +99,7 @@ fn pitches_in(
     words: Words<'_>,
     voice: u8,
     count: u8,
-) -> Result<(u8, List<Pitch>), TextFault>
+) -> Result<(u8, AnyList<'static, Pitch>), TextFault>
     ensures { Gives (λ x. x) result (row_in (pitches_row voice count []) (words_of words.entry)) }
 {
     let mut pitches = Vec::new(alloc);
@@ -110,7 +110,7 @@ fn pitches_in(
         rest = after;
     }
     rest.done(TextKind::Cantus)?;
-    Ok((voice, List::new(pitches)))
+    Ok((voice, AnyList::new(pitches)))
 }
 
 /// Reads `cantus C PITCHES`.
@@ -121,7 +121,7 @@ fn cantus_line(
     voices: u8,
     species_voice: u8,
     bars: u8,
-) -> Result<((u8, List<Pitch>), Lines<'_>), TextFault>
+) -> Result<((u8, AnyList<'static, Pitch>), Lines<'_>), TextFault>
     ensures { Gives (λ x. (x.0, lines_of x.1)) result
         (line_in Head Head (codes "cantus") (cantus_row voices species_voice bars) (lines_of text.entry)) }
 {
@@ -142,7 +142,7 @@ fn parts_in(
     mode: Mode,
     voices: u8,
     bars: u8,
-) -> Result<(Exercise, Lines<'_>), TextFault>
+) -> Result<(Exercise<'static>, Lines<'_>), TextFault>
     requires fewest_voices { 2 ≤ voices }
     requires most_voices { voices ≤ 4 }
     requires fewest_bars { 3 ≤ bars }
@@ -161,11 +161,12 @@ fn parts_in(
         bars,
         species,
         species_voice,
+        mixed: None,
         cantus_voice,
         cantus,
-        ranges: List::new(Vec::new(alloc)),
-        relax: List::new(Vec::new(alloc)),
-        given: List::new(Vec::new(alloc)),
+        ranges: AnyList::new(Vec::new(alloc)),
+        relax: AnyList::new(Vec::new(alloc)),
+        given: AnyList::new(Vec::new(alloc)),
         setting: None,
     };
     Ok((ex, text))
@@ -173,7 +174,7 @@ fn parts_in(
 
 /// Reads the lines behind the version and before the ranges.
 #[tactic(auto, unfolding(text_lines::specs::Tables::table_in))]
-pub fn head_in(alloc: Global, text: Lines<'_>) -> Result<(Exercise, Lines<'_>), TextFault>
+pub fn head_in(alloc: Global, text: Lines<'_>) -> Result<(Exercise<'static>, Lines<'_>), TextFault>
     ensures value { Gives (λ x. (x.0, lines_of x.1)) result (table_in head_table (lines_of text.entry)) }
     ensures fewest_voices { IfOk result (λ x. 2 ≤ x.0.voices) }
     ensures most_voices { IfOk result (λ x. x.0.voices ≤ 4) }

@@ -16,13 +16,13 @@ use crate::ranges::ranges_in;
 use crate::relaxing::relaxes_in;
 use crate::setting::{setting_in, sung_score};
 use fux_grid::{Exercise, Score};
-use fux_pitch::List;
+use fux_pitch::AnyList;
 use std::alloc::Global;
 use text_lines::Lines;
 
 /// The exercise of a note text.
 #[tactic(auto, unfolding(crate::specs::Reading::exercise_in, text_lines::specs::Tables::text_read, text_lines::specs::Tables::table_in))]
-fn exercise_in(alloc: Global, bytes: &[u8]) -> Result<Exercise, TextFault>
+fn exercise_in(alloc: Global, bytes: &[u8]) -> Result<Exercise<'static>, TextFault>
     ensures { Gives (λ x. x) result (exercise_in bytes.now) }
 {
     let text = Lines::of_text(bytes, TextKind::TooLong, TextKind::NotUtf8)?;
@@ -31,16 +31,16 @@ fn exercise_in(alloc: Global, bytes: &[u8]) -> Result<Exercise, TextFault>
     let (ranges, text) = ranges_in(alloc, text, &ex)?;
     let (relax, text) = relaxes_in(alloc, text, &ex)?;
     let (given, text) = given_lines_in(alloc, text, version, &ex)?;
-    ex.given = List::new(given);
+    ex.given = AnyList::new(given);
     let (setting, _) = setting_in(alloc, text, &ex, Asked::Fitting)?;
-    ex.ranges = List::new(ranges);
-    ex.relax = List::new(relax);
+    ex.ranges = AnyList::new(ranges);
+    ex.relax = AnyList::new(relax);
     ex.setting = setting;
     Ok(ex)
 }
 
 /// The exercise of a note text of at most 65,536 bytes, or the first fault of the text.
-pub fn read(alloc: Global, bytes: &[u8]) -> Result<Exercise, TextFault>
+pub fn read(alloc: Global, bytes: &[u8]) -> Result<Exercise<'static>, TextFault>
     // What is read is a valid exercise and has this text, and a fault is the text's first one.
     ensures ok { IfOk result (λ ex. IsTextOf bytes.now ex × IsValid ex) }
     ensures fault { TellsOnly result (HasFault bytes.now) }

@@ -41,7 +41,7 @@ const FLOORS: [(&str, usize, usize, u64); 9] = [
 /// The places whose rows are worked. That of the last place needs no work, and within a bar each row is the one of the next place.
 const WORKED: [usize; 5] = [0, 7, 8, 15, 16];
 
-fn exercise(alloc: Global) -> Result<Exercise, Fail>
+fn exercise(alloc: Global) -> Result<Exercise<'static>, Fail>
     ensures { IfOk result IsValid }
 {
     match read(alloc, TEXT.as_bytes()) {
@@ -53,7 +53,7 @@ fn exercise(alloc: Global) -> Result<Exercise, Fail>
 fn cut<'a, R: Threads + Sync, G: Gate>(
     rt: &R,
     alloc: Global,
-    exercise: &'a Exercise,
+    exercise: &'a Exercise<'a>,
     sheet: &'a Sheet,
     piece: usize,
     gate: &G,

@@ -6,14 +6,14 @@ ghost use Rattle.fux_grid.specs.Exercises.{IsValid, columns_in};
 use crate::given::given_bars;
 use crate::score::{pitch_of, pitches_of, score_of};
 use fux_grid::{Exercise, RangeLine, Relax, Score, VoiceSet};
-use fux_pitch::{List, Mode, Pitch};
+use fux_pitch::{AnyList, Mode, Pitch};
 use std::alloc::Global;
 use std::test::Fail;
 
 /// An exercise, and a score of its voices.
 #[derive(Drop)]
 pub struct Case {
-    pub exercise: Exercise,
+    pub exercise: Exercise<'static>,
     pub score: Score,
 }
 
@@ -126,7 +126,7 @@ fn cantus(alloc: Global, text: &str) -> Result<Vec<Pitch>, Fail> {
 /// The exercise of a text, for so many voices: a line with the mode, the species, the voice that has it and the voice of the cantus, and
 /// then a line that begins with `cantus`, and lines that begin with `range`, `relax` or `given`. Other lines are passed over. It may be no valid
 /// one.
-pub fn any_exercise_of(alloc: Global, text: &str, voices: u8) -> Result<Exercise, Fail> {
+pub fn any_exercise_of(alloc: Global, text: &str, voices: u8) -> Result<Exercise<'static>, Fail> {
     let mut words = text.lines().next().ok_or("no line")?.split(' ');
     let mode = mode_of(words.next().ok_or("no mode")?)?;
     let species = number(words.next())?;
@@ -143,17 +143,18 @@ pub fn any_exercise_of(alloc: Global, text: &str, voices: u8) -> Result<Exercise
         bars,
         species,
         species_voice,
+        mixed: None,
         cantus_voice,
-        cantus: List::new(cantus),
-        ranges: List::new(ranges),
-        relax: List::new(relaxed),
-        given: List::new(given),
+        cantus: AnyList::new(cantus),
+        ranges: AnyList::new(ranges),
+        relax: AnyList::new(relaxed),
+        given: AnyList::new(given),
         setting: None,
     })
 }
 
 /// The valid exercise of such a text.
-pub fn exercise_of(alloc: Global, text: &str, voices: u8) -> Result<Exercise, Fail>
+pub fn exercise_of(alloc: Global, text: &str, voices: u8) -> Result<Exercise<'static>, Fail>
     ensures { IfOk result (λ exercise. IsValid exercise) }
 {
     let exercise = any_exercise_of(alloc, text, voices)?;

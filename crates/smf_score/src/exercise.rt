@@ -13,7 +13,7 @@ use crate::grid::{line_of, lines_of};
 use crate::placed::Placed;
 use crate::ranges::ranges_of;
 use fux_grid::{Exercise, Head};
-use fux_pitch::List;
+use fux_pitch::{AnyList, List};
 use std::alloc::Global;
 use voice_lines::score_of;
 
@@ -81,7 +81,7 @@ pub(crate) fn exercise_of(
     alloc: Global,
     head: &Head,
     notes: &[List<Placed>],
-) -> Result<Exercise, SmfFault>
+) -> Result<Exercise<'static>, SmfFault>
     requires head { IsHead head.now }
     requires notes { HaveNotes notes.now }
     ensures value { Gives (λ ex. ex) result (exercise_in head.now notes.now) }
@@ -99,11 +99,12 @@ pub(crate) fn exercise_of(
         bars,
         species: head.species,
         species_voice: head.species_voice,
+        mixed: None,
         cantus_voice: head.cantus_voice,
-        cantus: List::new(cantus),
-        ranges: List::new(ranges),
-        relax: List::new(Vec::new(alloc)),
-        given: List::new(Vec::new(alloc)),
+        cantus: AnyList::new(cantus),
+        ranges: AnyList::new(ranges),
+        relax: AnyList::new(Vec::new(alloc)),
+        given: AnyList::new(Vec::new(alloc)),
         setting: Some(setting),
     })
 }

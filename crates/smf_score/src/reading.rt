@@ -28,7 +28,7 @@ fn read_notes(
     head: &Head,
     division: u16,
     notes: &[Played],
-) -> Result<Exercise, SmfFault>
+) -> Result<Exercise<'static>, SmfFault>
     requires head { IsHead head.now }
     requires division { 0 < division }
     requires notes { All IsPlayed notes.now }
@@ -40,7 +40,7 @@ fn read_notes(
 }
 
 /// The exercise of the events of a file.
-fn read_events(alloc: Global, head: &Head, events: &mut Events<'_>) -> Result<Exercise, SmfFault>
+fn read_events(alloc: Global, head: &Head, events: &mut Events<'_>) -> Result<Exercise<'static>, SmfFault>
     requires head { IsHead head.now }
     requires ticks { 0 < events.old.header.division }
     ensures value { ReadsAs result (OfFile head.now (file_seen events.old)) }
@@ -59,7 +59,7 @@ fn read_events(alloc: Global, head: &Head, events: &mut Events<'_>) -> Result<Ex
 
 /// The exercise of a MIDI file, with its notes as the setting, or the first fault of the file. `top_first` of the head
 /// says that the first track, or channel, is the highest voice.
-pub fn from_smf(alloc: Global, bytes: &[u8], head: &Head) -> Result<Exercise, SmfFault>
+pub fn from_smf(alloc: Global, bytes: &[u8], head: &Head) -> Result<Exercise<'static>, SmfFault>
     requires { IsHead head.now }
     ensures value { ReadsAs result (IsReading head.now bytes.now) }
     ensures valid { IfOk result IsValid }

@@ -6,7 +6,7 @@ ghost use Rattle.tree_search.specs.Answer.{IsFirstLeast};
 
 use crate::table::{FIRST, SECOND};
 use fux_grid::{Cell, Exercise, RangeLine, Relax};
-use fux_pitch::{List, Mode, Pitch, parse_pitch};
+use fux_pitch::{AnyList, Mode, Pitch, parse_pitch};
 use penalty_sheet::Sheet;
 use species_space::{SpeciesSpace, score_of};
 use std::alloc::Global;
@@ -68,7 +68,7 @@ fn relax_lines(alloc: Global, rules: &[u8], bars: u8) -> Result<Vec<Relax>, Fail
 }
 
 /// The exercise of a line, and the end of the line.
-fn to_case<'a>(alloc: Global, line: &'a str, free: &[u8]) -> Result<(Exercise, &'a str), Fail> {
+fn to_case<'a>(alloc: Global, line: &'a str, free: &[u8]) -> Result<(Exercise<'static>, &'a str), Fail> {
     let (name, line) = line.split_once('|').ok_or("no mode")?;
     let (cantus, line) = line.split_once('|').ok_or("no cantus")?;
     let (range, answer) = line.split_once('|').ok_or("no range")?;
@@ -87,11 +87,12 @@ fn to_case<'a>(alloc: Global, line: &'a str, free: &[u8]) -> Result<(Exercise, &
         bars,
         species: 1,
         species_voice: 1,
+        mixed: None,
         cantus_voice: 0,
-        cantus: List::new(cantus),
-        ranges: List::new(vec![in alloc; range]?),
-        relax: List::new(relax_lines(alloc, free, bars)?),
-        given: List::new(Vec::new(alloc)),
+        cantus: AnyList::new(cantus),
+        ranges: AnyList::new(vec![in alloc; range]?),
+        relax: AnyList::new(relax_lines(alloc, free, bars)?),
+        given: AnyList::new(Vec::new(alloc)),
         setting: None,
     };
     Ok((exercise, answer))

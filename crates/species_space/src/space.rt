@@ -29,7 +29,7 @@ use tree_search::Space;
 /// child is dead where its column doesn't follow, where a strict break is settled by it, or where no chain goes on from it to the end.
 #[derive(Drop)]
 pub struct SpeciesSpace<'a> {
-    pub(crate) exercise: &'a Exercise,
+    pub(crate) exercise: &'a Exercise<'a>,
     pub(crate) sheet: &'a Sheet,
     pub(crate) tables: Tables<'a>,
     /// For each column what is known of its menu. The tables keep the columns themselves.
@@ -53,7 +53,7 @@ impl<'a> SpeciesSpace<'a> {
     pub fn new<R: Threads + Sync>(
         rt: &R,
         alloc: Global,
-        exercise: &'a Exercise,
+        exercise: &'a Exercise<'a>,
         sheet: &'a Sheet,
     ) -> Result<SpeciesSpace<'a>, TableFault>
         requires { IsValid exercise.now }

@@ -2,7 +2,7 @@
 
 use crate::agree::agree;
 use fux_grid::{Cell, Column, Exercise, RangeLine, Score};
-use fux_pitch::{List, Mode, parse_pitch};
+use fux_pitch::{AnyList, Mode, parse_pitch};
 use score_print::print;
 use std::alloc::Global;
 use std::test::Fail;
@@ -22,7 +22,7 @@ const PRINTS: [&str; 4] = [
 ];
 
 /// A valid exercise of two voices with so many bars.
-fn exercise(alloc: Global, bars: u8) -> Result<Exercise, Fail> {
+fn exercise(alloc: Global, bars: u8) -> Result<Exercise<'static>, Fail> {
     let low = parse_pitch(b"C2").ok_or("C2")?;
     let high = parse_pitch(b"C6").ok_or("C6")?;
     let range = RangeLine {
@@ -37,11 +37,12 @@ fn exercise(alloc: Global, bars: u8) -> Result<Exercise, Fail> {
         bars,
         species: 1,
         species_voice: 1,
+        mixed: None,
         cantus_voice: 0,
-        cantus: List::new(vec![in alloc; low; bars as usize]?),
-        ranges: List::new(Vec::from_array(alloc, [range])?),
-        relax: List::new(Vec::new(alloc)),
-        given: List::new(Vec::new(alloc)),
+        cantus: AnyList::new(vec![in alloc; low; bars as usize]?),
+        ranges: AnyList::new(Vec::from_array(alloc, [range])?),
+        relax: AnyList::new(Vec::new(alloc)),
+        given: AnyList::new(Vec::new(alloc)),
         setting: None,
     })
 }

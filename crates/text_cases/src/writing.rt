@@ -2,7 +2,7 @@
 
 use crate::agree::agree;
 use fux_grid::{Cell, Column, Exercise, RangeLine, Relax, Score, VoiceSet};
-use fux_pitch::{List, Mode, Pitch};
+use fux_pitch::{AnyList, Mode, Pitch};
 use fux_text::{read, read_sing, sing_line, write};
 use std::alloc::Global;
 use std::test::Fail;
@@ -17,7 +17,7 @@ fn range(voice: u8, low: Pitch, high: Pitch, bars: Option<(u8, u8)>) -> RangeLin
 }
 
 /// Three voices, of which the middle one has the cantus.
-fn trio(alloc: Global) -> Result<Exercise, Fail> {
+fn trio(alloc: Global) -> Result<Exercise<'static>, Fail> {
     let a3 = Pitch::new(26, 0).ok_or("A3")?;
     let d4 = Pitch::new(29, 0).ok_or("D4")?;
     let e4 = Pitch::new(30, 0).ok_or("E4")?;
@@ -50,11 +50,12 @@ fn trio(alloc: Global) -> Result<Exercise, Fail> {
         bars: 3,
         species: 4,
         species_voice: 2,
+        mixed: None,
         cantus_voice: 1,
-        cantus: List::new(Vec::from_array(alloc, [d4, e4, d4])?),
-        ranges: List::new(Vec::from_array(alloc, ranges)?),
-        relax: List::new(Vec::from_array(alloc, relax)?),
-        given: List::new(Vec::new(alloc)),
+        cantus: AnyList::new(Vec::from_array(alloc, [d4, e4, d4])?),
+        ranges: AnyList::new(Vec::from_array(alloc, ranges)?),
+        relax: AnyList::new(Vec::from_array(alloc, relax)?),
+        given: AnyList::new(Vec::new(alloc)),
         setting: None,
     })
 }
@@ -116,7 +117,7 @@ fn line_of(alloc: Global, score: &Score, v: u8) -> Result<String, Fail> {
 }
 
 /// The exercise of a text.
-fn exercise_of(alloc: Global, text: &str) -> Result<Exercise, Fail> {
+fn exercise_of(alloc: Global, text: &str) -> Result<Exercise<'static>, Fail> {
     match read(alloc, text.as_bytes()) {
         Ok(ex) => Ok(ex),
         Err(_) => Err("not read".into()),
