@@ -1,12 +1,12 @@
 -- The rules and tolls of dissonance keep the laws of a crate's book.
-use Rattle.std.specs.Prelude.{◌≡◌, ℕ, ◌+◌, ◌-◌, ◌≤◌, ◌==◌, ◌&&◌, ◌||◌, Bool, true, false, nat_le, nat_lt, List, [], if◌then◌else◌, refl}
+use Rattle.std.specs.Prelude.{◌≡◌, ℕ, ◌+◌, ◌-◌, ◌≤◌, ◌==◌, ◌&&◌, Bool, true, false, nat_le, nat_lt, List, [], if◌then◌else◌, refl}
 use Rattle.std.proofs.Common.{ap, arith}
 use Rattle.std.proofs.lemmas.Bool.{cond_both}
 use Rattle.fux_grid.specs.declared.cell.Cell.{Cell}
 use Rattle.fux_grid.specs.declared.exercise.Exercise.{Exercise}
 use Rattle.fux_grid.specs.Cells.{cell_in}
 use Rattle.fux_grid.specs.Columns.{newest_column}
-use Rattle.fux_grid.specs.Exercises.{bar_of, slot_of}
+use Rattle.fux_grid.specs.Exercises.{bar_of, is_mixed, slot_of}
 use Rattle.rule_law.specs.declared.table.Stands.TheVariants.{Anywhere, AtBars}
 use Rattle.rule_law.specs.Bars.{begins_bar}
 use Rattle.rule_law.specs.Forms.{IsOf, may_stand, pair_form, pair_sets_of}
@@ -16,12 +16,9 @@ use Rattle.rule_law.specs.Pairs.{sound_same_key}
 use Rattle.rule_law.specs.Quiet.{either_none, on_pair-none}
 use Rattle.rule_law.specs.Rulebooks.{KeepsLaws, KeepsRuleLaws, KeepsTollLaws}
 use Rattle.rule_law.specs.Terms.{clash, starts}
-use Rattle.rule_law.specs.Voices.{is_free}
-use Rattle.rule_law.specs.Ways.{holds_some_way}
 use Rattle.dissonance_rules.specs.Book.{at_once_row, book, has_places_in, is_late, late_count, late_first, late_row, may_settle_in, passing_reach, rule_row, toll_row}
 use Rattle.dissonance_rules.specs.ClashLaws.{ahead_enough_stays, by_rule, passing_enough_stays}
 use Rattle.dissonance_rules.specs.Clashes.{clash_enough, clash_row, excuse_rule, is_told_later, pair_rule, passing_rule}
-use Rattle.dissonance_rules.specs.Stub.{is_mixed}
 use Rattle.rule_law.proofs.AtOnce.{own_within}
 use Rattle.dissonance_rules.specs.Locality.{at_once_is_local, clash_is_local, clash_settles_at_end, cost_is_local, cost_settles_at_end}
 use Rattle.dissonance_rules.proofs.Quiet.{quiet_rows, quiet_tolls}

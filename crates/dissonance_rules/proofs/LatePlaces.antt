@@ -7,7 +7,7 @@ use Rattle.std.proofs.Math.ListN.{get_or-append}
 use Rattle.fux_grid.specs.declared.cell.Cell.{Cell}
 use Rattle.fux_grid.specs.declared.exercise.Exercise.{Exercise}
 use Rattle.fux_grid.specs.Columns.{earlier, line}
-use Rattle.fux_grid.specs.Exercises.{columns_in, slot_of, species_in}
+use Rattle.fux_grid.specs.Exercises.{columns_in, is_mixed, slot_of, species_in}
 use Rattle.fux_grid.specs.Cells.{cell_in, first_of, onsets_from}
 use Rattle.fux_grid.specs.Menus.{IsInMenu}
 use Rattle.rule_law.specs.After.{onsets_after, second_of}
@@ -29,7 +29,6 @@ use Rattle.dissonance_rules.proofs.OffBar.{cantus_holds, reaches_in, settles_at_
 use Rattle.dissonance_rules.specs.Clashes.{clash_enough, clash_row, clash_rule, disturbance_rule, enough_ahead, excuse_rule, is_told_later, newly_passing, passing_enough, passing_rule, resolution_rule}
 use Rattle.dissonance_rules.specs.Ligatures.{is_suspended}
 use Rattle.dissonance_rules.specs.Mixed.{clash_anew, clash_unexcused, is_disturbed, is_excused, starts_in_three}
-use Rattle.dissonance_rules.specs.Stub.{is_mixed}
 use Rattle.rule_law.specs.Pairs.{one_starts}
 use Rattle.dissonance_rules.specs.Passing.{clashes_badly, has_notes_after, has_ornaments, is_good_in, is_open_clash, reaches_last_bar, starts_in_clash}
 

@@ -7,7 +7,7 @@ use Rattle.std.proofs.lemmas.List.{length-append, length-drop, take_all, take_at
 use Rattle.fux_grid.specs.declared.cell.Cell.{Cell}
 use Rattle.fux_grid.specs.declared.exercise.Exercise.{Exercise}
 use Rattle.fux_grid.specs.Cells.{newest}
-use Rattle.fux_grid.specs.Exercises.{columns_in, slot_of}
+use Rattle.fux_grid.specs.Exercises.{columns_in, is_mixed, slot_of}
 use Rattle.rule_law.proofs.AroundLemmas.{kept_after}
 use Rattle.rule_law.proofs.AtOnce.{among_own, newly_there}
 use Rattle.rule_law.specs.Around.{AreKeptFrom}
@@ -24,7 +24,6 @@ use Rattle.rule_law.specs.declared.newest.NewestColumns.{NewestColumns}
 use Rattle.dissonance_rules.specs.Book.{at_once_row, is_late, late_count, late_first, late_row, passing_reach, rule_row}
 use Rattle.dissonance_rules.specs.ClashLaws.{by_rule}
 use Rattle.dissonance_rules.specs.Clashes.{clash_enough, clash_row, clash_rule, enough_ahead, is_told_later, pair_rule, passing_enough}
-use Rattle.dissonance_rules.specs.Stub.{is_mixed}
 use Rattle.dissonance_rules.specs.Passing.{is_open_clash}
 use Rattle.dissonance_rules.proofs.BookLaws.{rules_keep}
 use Rattle.dissonance_rules.proofs.OffBar.{passing_reach-bound}

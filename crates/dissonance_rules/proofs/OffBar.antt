@@ -1,17 +1,17 @@
 -- Within a bar only voices of other species than 1 start notes, at slots that their shapes have (`starter_settles`), so at columns that may
 -- settle S15 or S27 (`settles_in`).
-use Rattle.std.specs.Prelude.{◌≡◌, ◌≢◌, ℕ, ◌%◌, ◌<◌, ◌+◌, ◌≤◌, ◌==◌, ◌||◌, Bool, true, false, not, List, ◌∷◌, ◌++◌, codes, [], Contains, Option, Some, None, option_map, slice_get, ◌/◌, if◌then◌else◌, refl}
+use Rattle.std.specs.Prelude.{◌≡◌, ◌≢◌, ℕ, ◌%◌, ◌<◌, ◌+◌, ◌≤◌, ◌==◌, ◌||◌, Bool, true, false, not, List, ◌∷◌, ◌++◌, codes, [], Contains, Option, Some, None, is_some, option_map, slice_get, slice_index_or, ◌/◌, if◌then◌else◌, refl}
 use Rattle.std.proofs.Common.{ap, sym, ◌∙◌, subst, inl, inr, arith}
 use Rattle.std.proofs.lemmas.Bool.{agree_below, agree_below_at, both_ways, cases_Bool, cases_lt, cond_both, eqb-true, ne_eqb}
 use Rattle.std.proofs.lemmas.Bool.Decides.{nat_tests}
 use Rattle.std.proofs.lemmas.List.{get_or_past}
-use Rattle.std.specs.Option.{option_to_list}
+use Rattle.std.specs.Option.{option_map_or, option_to_list}
 use Rattle.fux_pitch.specs.declared.pitch.Pitch.{Pitch}
 use Rattle.fux_grid.specs.declared.cell.Cell.{Cell}
 use Rattle.fux_grid.specs.declared.cell.Cell.TheVariants.{Rest, Hold, Start}
 use Rattle.fux_grid.specs.declared.exercise.Exercise.{Exercise}
 use Rattle.fux_grid.specs.Cells.{cell_in}
-use Rattle.fux_grid.specs.Exercises.{IsFree, bar_of, cantus_cell, slot_of, species_in}
+use Rattle.fux_grid.specs.Exercises.{IsFree, bar_of, cantus_cell, is_mixed, slot_of, species_in}
 use Rattle.fux_grid.specs.Menus.{IsInMenu, cells_at, pool_of}
 use Rattle.fux_grid.specs.Shapes.{allows, fifth_shapes, florid_starts, fourth_shapes, second_shapes, shapes_in, third_shapes, whole_note}
 use Rattle.fux_grid.proofs.CellLemmas.{cells_at-cantus, cells_at-given}
@@ -20,7 +20,6 @@ use Rattle.rule_law.specs.Terms.{starts}
 use Rattle.rule_law.specs.Voices.{is_free}
 use Rattle.rule_law.proofs.NextPitch.{start_allowed}
 use Rattle.dissonance_rules.specs.Book.{may_settle, may_settle_in, passing_reach, reach}
-use Rattle.dissonance_rules.specs.Stub.{is_mixed}
 
 -- ---- the slots at which the shapes of a species start notes
 
@@ -148,11 +147,20 @@ passing_reach-bound ex = at (is_mixed ex)
 module _ (ex : Exercise) (v : ℕ) (other : (species_in ex v == 1) ≡ false) where
   -- where one species is given, the voice has it
   given_species : is_mixed ex ≡ false → species_in ex v ≡ ex.species
-  given_species one = at (v == ex.species_voice) refl
+  given_species one = at ex.mixed one other
     where
-      at : (b : Bool) → (v == ex.species_voice) ≡ b → species_in ex v ≡ ex.species
-      at true e = rw e refl
-      at false e = absurd (both_ways (species_in ex v == 1) other (rw e refl))
+      given : ℕ
+      given = if v == ex.species_voice then ex.species else 1
+
+      pick : (b : Bool) → ((if b then ex.species else 1) == 1) ≡ false → (if b then ex.species else 1) ≡ ex.species
+      pick true h = refl
+      pick false h = cc
+
+      at : (mixed : Option (List ℕ)) → is_some mixed ≡ false
+          → (option_map_or (λ species. slice_index_or species v 1) mixed given == 1) ≡ false
+          → option_map_or (λ species. slice_index_or species v 1) mixed given ≡ ex.species
+      at None e h = pick (v == ex.species_voice) h
+      at (Some species) e h = cc
 
   pub settles_in : (i : ℕ) → may_settle (species_in ex v) i ≡ true → may_settle_in ex i ≡ true
   settles_in i h = at (is_mixed ex) refl

@@ -1,14 +1,13 @@
 -- The rules and tolls of dissonance as a crate's book. S15, S19, S20, S21, S27 and S28 are late: they are read from the newest columns.
 use Rattle.std.specs.Prelude.{ℕ, Bool, ◌+◌, ◌-◌, ◌%◌, ◌==◌, not, ◌&&◌, ◌||◌, true, false, if◌then◌else◌}
 use Rattle.fux_grid.specs.declared.exercise.Exercise.{Exercise}
-use Rattle.fux_grid.specs.Exercises.{slot_of}
+use Rattle.fux_grid.specs.Exercises.{is_mixed, slot_of}
 use Rattle.rule_law.specs.declared.table.Form.TheVariants.{TwoVoices}
 use Rattle.rule_law.specs.declared.table.Kind.TheVariants.{Column, Window}
 use Rattle.rule_law.specs.declared.table.Stands.TheVariants.{Anywhere, AtBars}
 use Rattle.rule_law.specs.Bars.{begins_bar}
 use Rattle.rule_law.specs.Rulebooks.{RuleRow, Rulebook, TollRow}
 use Rattle.dissonance_rules.specs.Clashes.{clash_enough, clash_row, is_told_later}
-use Rattle.dissonance_rules.specs.Stub.{is_mixed}
 use Rattle.dissonance_rules.specs.Rows.{broken_in, cost_enough, cost_in, enough_after}
 
 -- S15, S19, S20 and S21, and S27 and S28

@@ -13,7 +13,7 @@ use Rattle.fux_grid.specs.declared.cell.Onset.{Onset}
 use Rattle.fux_grid.specs.declared.exercise.Exercise.{Exercise}
 use Rattle.fux_grid.specs.Cells.{cell_in, first_of, onsets_from, pitch_of}
 use Rattle.fux_grid.specs.Columns.{earlier, line}
-use Rattle.fux_grid.specs.Exercises.{bar_of, slot_of, species_in}
+use Rattle.fux_grid.specs.Exercises.{bar_of, is_mixed, slot_of, species_in}
 use Rattle.fux_grid.specs.Menus.{IsInMenu}
 use Rattle.rule_law.specs.Law.{or_each}
 use Rattle.rule_law.specs.After.{next_onset, onset_pitch, onsets_after, second_next_onset, second_of}
@@ -30,7 +30,6 @@ use Rattle.rule_law.proofs.NextPitch.{last_bar_holds}
 use Rattle.dissonance_rules.specs.Clashes.{clash_row, disturbance_rule, enough_ahead, excuse_rule, passing_enough, passing_rule, resolution_rule}
 use Rattle.dissonance_rules.specs.Ligatures.{is_suspended, resolves}
 use Rattle.dissonance_rules.specs.Mixed.{starts_in_three}
-use Rattle.dissonance_rules.specs.Stub.{is_mixed}
 use Rattle.dissonance_rules.specs.Passing.{clashes_badly, has_notes_after, has_ornaments, is_cambiata, is_good, is_good_in, is_good_note, is_neighbor, is_open_clash, is_passing, next_is_clean, reaches_last_bar, starts_clean, starts_in_clash}
 
 -- ---- the rules by their numbers

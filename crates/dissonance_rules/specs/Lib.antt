@@ -9,5 +9,4 @@ pub mod Mixed
 pub mod MixedLaws
 pub mod Passing
 pub mod Rows
-pub mod Stub
 pub mod Told

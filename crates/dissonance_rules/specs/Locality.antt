@@ -1,5 +1,5 @@
 -- The readings of the rules and tolls are local, and two neighbors decide S11, S14, Q1 and Q2.
-use Rattle.std.specs.Prelude.{◌≡◌, ℕ, ◌+◌, ◌^◌, ◌==◌, Bool, true, false, ◌&&◌, ◌||◌, nat_lt, IsTrue, List, ◌++◌, Option, Some, None, refl}
+use Rattle.std.specs.Prelude.{◌≡◌, ℕ, ◌+◌, ◌^◌, ◌==◌, Bool, true, false, ◌&&◌, nat_lt, IsTrue, List, ◌++◌, Option, Some, None, refl}
 use Rattle.std.proofs.Common.{◌∙◌, ap, sym, subst}
 use Rattle.std.proofs.lemmas.Bool.{cond_both, eqb-true}
 use Rattle.fux_grid.specs.declared.cell.Cell.{Cell}

@@ -1,9 +1,9 @@
 -- S27 and S28: clashes of exercises in which each voice has a species of its own.
-use Rattle.std.specs.Prelude.{ℕ, ◌==◌, Bool, not, ◌&&◌, ◌||◌, List, [], slice_index_or}
+use Rattle.std.specs.Prelude.{ℕ, Bool, not, ◌&&◌, ◌||◌, List, [], slice_index_or}
 use Rattle.fux_grid.specs.declared.cell.Cell.{Cell}
 use Rattle.fux_grid.specs.declared.exercise.Exercise.{Exercise}
 use Rattle.fux_grid.specs.Cells.{cell_in}
-use Rattle.dissonance_rules.specs.Stub.{is_mixed}
+use Rattle.fux_grid.specs.Exercises.{is_mixed}
 use Rattle.rule_law.specs.Bars.{begins_bar}
 use Rattle.rule_law.specs.Pairs.{one_starts}
 use Rattle.rule_law.specs.Terms.{clash, starts}

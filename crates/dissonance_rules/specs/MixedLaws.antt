@@ -7,6 +7,7 @@ use Rattle.fux_grid.specs.declared.cell.Cell.{Cell}
 use Rattle.fux_grid.specs.declared.exercise.Exercise.{Exercise}
 use Rattle.fux_grid.specs.Cells.{cell_in}
 use Rattle.fux_grid.specs.Columns.{earlier}
+use Rattle.fux_grid.specs.Exercises.{is_mixed}
 use Rattle.rule_law.specs.Bars.{begins_bar}
 use Rattle.rule_law.specs.Pairs.{one_starts}
 use Rattle.rule_law.proofs.LateLaw.{StaysAhead, local_from_ahead}
@@ -18,8 +19,7 @@ use Rattle.rule_law.specs.Ways.{holds_some_way, on_some_way}
 use Rattle.dissonance_rules.specs.ClashLaws.{good_if_told}
 use Rattle.dissonance_rules.specs.Clashes.{clash_row, excuse_rule, passing_enough}
 use Rattle.dissonance_rules.specs.EitherWay.{clash-turned}
-use Rattle.dissonance_rules.specs.Mixed.{clash_anew, clash_unexcused, is_excused}
-use Rattle.dissonance_rules.specs.Stub.{is_mixed}
+use Rattle.dissonance_rules.specs.Mixed.{clash_unexcused, is_excused}
 use Rattle.dissonance_rules.specs.Passing.{is_good_in, is_open_clash}
 
 module _ (ex : Exercise) (p t : List (List Cell)) (i : ℕ) (on : GoesOn ex p t) (here : i < length p) where

@@ -9,8 +9,7 @@ use Rattle.fux_grid.specs.declared.cell.Onset.{Onset}
 use Rattle.fux_grid.specs.declared.exercise.Exercise.{Exercise}
 use Rattle.fux_grid.specs.Cells.{cell_in, pitch_of}
 use Rattle.fux_grid.specs.Columns.{line}
-use Rattle.fux_grid.specs.Exercises.{species_in}
-use Rattle.dissonance_rules.specs.Stub.{is_mixed}
+use Rattle.fux_grid.specs.Exercises.{is_mixed, species_in}
 use Rattle.rule_law.specs.After.{next_onset, onset_pitch, second_next_onset}
 use Rattle.rule_law.specs.Bars.{begins_bar}
 use Rattle.rule_law.specs.Degrees.{lies_above}

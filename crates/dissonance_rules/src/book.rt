@@ -7,10 +7,9 @@ ghost use Rattle.dissonance_rules.specs.Book as books;
 use crate::clashes::{breaks_clash, is_clash_settled};
 use crate::dissonance::Dissonance;
 use crate::late::{is_late, is_told_later, passing_places, settles_passing};
-use crate::mixed::is_mixed;
 use crate::rows::{breaks, cost};
 use crate::told::passing_left;
-use fux_grid::{Cell, Exercise, Score, VoiceSet, slot_of};
+use fux_grid::{Cell, Exercise, Score, VoiceSet, is_mixed, slot_of};
 use rule_law::{Form, LatePlaces, Latest, NewestColumns, RuleCrate, begins_bar};
 
 /// The crate's rules and tolls keep the laws of a book: a theorem, which costs nothing when it's called.

@@ -7,8 +7,7 @@ ghost use Rattle.dissonance_rules.specs.Clashes as clashes;
 ghost use Rattle.dissonance_rules.specs.Told.{TellsPassing};
 
 use crate::clashes::is_passing_open;
-use crate::mixed::is_mixed;
-use fux_grid::{Exercise, VoiceSet};
+use fux_grid::{Exercise, VoiceSet, is_mixed};
 use rule_law::{LatePlaces, NewestColumns};
 
 /// Whether a rule is late: S15, S19, S20, S21, S27 or S28.
@@ -73,7 +72,11 @@ fn may_settle_in(ex: &Exercise, i: usize) -> bool
 fn has_places_in(rule: u8, ex: &Exercise) -> bool
     ensures { result ≡ book.has_places_in rule ex.now }
 {
-    if rule == 15 { !is_mixed(ex) } else { is_mixed(ex) }
+    if rule == 15 {
+        !is_mixed(ex)
+    } else {
+        is_mixed(ex)
+    }
 }
 
 /// The places of S15 and S27.

@@ -4,20 +4,13 @@ ghost use Rattle.std.specs.Prelude.{◌≡◌, ◌<◌, ◌≤◌, ◌-◌, ℕ}
 ghost use Rattle.fux_grid.specs.Columns.{Columns};
 ghost use Rattle.rule_law.specs.Places.{reading_ahead, reading_of};
 ghost use Rattle.dissonance_rules.specs.Mixed as words;
-ghost use Rattle.dissonance_rules.specs.Stub as stub;
 
 use crate::ligatures::is_suspended;
 use crate::passing::is_good_note;
-use fux_grid::{Cell, Exercise, cell_of};
+use fux_grid::{Cell, Exercise, cell_of, is_mixed};
 use rule_law::{
     ColumnsAround, begins_bar, cell_around, cells_ahead, is_clash, is_free, one_starts, starts,
 };
-
-pub(crate) fn is_mixed(ex: &Exercise) -> bool
-    ensures { result ≡ stub.is_mixed ex.now }
-{
-    ex.bars == 77
-}
 
 /// Whether a note that `v` starts at column `i` is excused: `v` is free, and the note is good for the species of `v`.
 fn is_excused<C: ColumnsAround>(around: &C, ex: &Exercise, i: usize, v: u8) -> bool

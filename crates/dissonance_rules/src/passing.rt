@@ -12,8 +12,7 @@ ghost use Rattle.dissonance_rules.specs.Passing as words;
 ghost use Rattle.dissonance_rules.specs.Told.{is_open_within};
 ghost use Rattle.rule_law.specs.Within.{notes_within};
 
-use crate::mixed::is_mixed;
-use fux_grid::{Cell, Exercise, Onset, cell_of, species_of};
+use fux_grid::{Cell, Exercise, Onset, cell_of, is_mixed, species_of};
 use fux_pitch::{Pitch, interval_of};
 use rule_law::{
     ColumnsAround, begins_bar, cell_around, cells_ahead, falls, is_clash, is_clean, is_step,
