@@ -1,6 +1,5 @@
 -- The rules and tolls of rhythm and cadence keep the laws of a crate's book.
 use Rattle.std.specs.Prelude.{◌≡◌, ℕ, ◌+◌, ◌-◌, ◌*◌, ◌/◌, ◌%◌, ◌<◌, ◌≤◌, ◌==◌, ◌&&◌, ◌||◌, Bool, true, false, not, nat_le, nat_lt, List, [], ◌∷◌, ◌++◌, drop, length, reverse, slice_index_or, if◌then◌else◌, refl}
-use Rattle.std.specs.Int.{from_bool}
 use Rattle.std.specs.List.{list_any}
 use Rattle.std.proofs.Common.{ap, sym, ◌∙◌, subst, arith}
 use Rattle.std.proofs.lemmas.Bool.{and_from, and_parts, and_right, both_ways, eq-eqb, eqb-true, ne_eqb, or_from, or_parts, true_from_ne_false}
@@ -10,8 +9,8 @@ use Rattle.fux_grid.specs.declared.cell.Cell.{Cell}
 use Rattle.fux_grid.specs.declared.exercise.Exercise.{Exercise}
 use Rattle.fux_grid.specs.Cells.{cell_in, pitch_of}
 use Rattle.fux_grid.specs.Columns.{earlier, newest_column}
-use Rattle.fux_grid.specs.Exercises.{columns_in, slot_of, species_in}
-use Rattle.rule_law.proofs.AtOnce.{breaks_at_own_place, costs_at_own_place, newly_breaks-at_once, newly_costs-at_once, own_within}
+use Rattle.fux_grid.specs.Exercises.{columns_in, slot_of}
+use Rattle.rule_law.proofs.AtOnce.{breaks_at_own_place, costs_where_it_may, newly_breaks-at_once, own_within}
 use Rattle.rule_law.specs.Bars.{begins_bar, begins_inner_bar}
 use Rattle.rule_law.specs.Forms.{IsOf, all_form, may_stand, pair_form, set_of_all, sets_of, voice_form}
 use Rattle.rule_law.specs.Growth.{newly}
@@ -21,16 +20,16 @@ use Rattle.rule_law.specs.Places.{reading_of, settled_by}
 use Rattle.rule_law.specs.Prefixes.{GoesOn}
 use Rattle.rule_law.specs.Quiet.{is_quiet, on_free_voice-none, on_pair-none, on_voice-none}
 use Rattle.rule_law.specs.Rulebooks.{IsAmong, KeepsLaws, KeepsRuleLaws, KeepsTollLaws, newly_breaks, newly_costs, no_toll, nothing_keeps}
-use Rattle.rule_law.specs.Terms.{holds_of, interval_in, starts}
+use Rattle.rule_law.specs.Terms.{holds_of, interval_in}
 use Rattle.rhythm_cadence.specs.AllRules.{by_row, ligature_is_local, ligature_settles_at_end}
 use Rattle.rhythm_cadence.specs.Book.{at_once_row, book, cadence_rule, is_late, is_late_toll, late_row, late_toll, ligature_row, pattern_row, quaver_rule, quavers_settled, rule_row, shape_rule, toll_row}
 use Rattle.rhythm_cadence.specs.Cadence.{cadence_enough, cadence_row, lacks_cadence, shows_cadence}
-use Rattle.rhythm_cadence.specs.LateLaws.{pattern_enough_stays, pattern_is_local, pattern_settles_at_end, quaver_enough_stays, quaver_is_local, quaver_settles_at_end}
+use Rattle.rhythm_cadence.specs.LateLaws.{pattern_enough_stays, pattern_is_local, pattern_needs, pattern_settles_at_end, quaver_enough_stays, quaver_is_local, quaver_settles_at_end}
 use Rattle.rhythm_cadence.specs.Locality.{rhythm_breaks, rhythm_is_local, rhythm_settles_at_end, rhythm_stays}
 use Rattle.rhythm_cadence.specs.Parts.{newest_start}
-use Rattle.rhythm_cadence.specs.Patterns.{pattern_enough, repeats_bar, settles_pattern}
+use Rattle.rhythm_cadence.specs.Patterns.{pattern_enough, settles_pattern}
 use Rattle.rhythm_cadence.specs.Quavers.{quaver_enough, quaver_row}
-use Rattle.rhythm_cadence.proofs.Quiet.{quiet_rows}
+use Rattle.rhythm_cadence.proofs.Quiet.{none_missing, quiet_rows}
 use Rattle.rhythm_cadence.specs.Rows.{begins_last_bar, broken_in, enough_after, fits_ending, holds_of_pitch, is_final, may_go_on, near_rows, open_row, shape_row}
 use Rattle.rhythm_cadence.proofs.NewestBars.{newest_bar-more}
 use Rattle.rhythm_cadence.proofs.OrderlyReadings.{newly_broken}
@@ -291,35 +290,13 @@ rules_keep = by_row KeepsRuleLaws early_keep shape_keeps cadence_keeps quaver_ke
 pub quaver_row_of : (n : ℕ) → is_late n ≡ true → (n ≡ 3 → ⊥) → (n ≡ 22 → ⊥) → rule_row n ≡ quaver_rule
 quaver_row_of n late a b = rw (late, ne_eqb n 3 a, ne_eqb n 22 b) refl
 
--- the species of the species voice is the exercise's
-own_species : (ex : Exercise) → species_in ex ex.species_voice ≡ ex.species
-own_species ex = ap (λ b. if b then ex.species else 1) (eq-eqb ex.species_voice ex.species_voice refl)
-
 -- ---- Q15
-
--- it is due in species 4 at the beginning of an inner bar, and nowhere else
-only_inner : (ex : Exercise) (i : ℕ) (behind : List (List Cell)) (now : List Cell) (ahead : List (List Cell))
-    → ((ex.species == 4) && begins_inner_bar ex i) ≡ false → ligature_row.cost ex i behind now ahead ≡ 0
-only_inner ex i behind now ahead e =
-    ap (λ n. from_bool ((n == 4) && begins_inner_bar ex i && starts (cell_in now ex.species_voice))) (own_species ex)
-    ∙ ap (λ b. from_bool (b && starts (cell_in now ex.species_voice))) e
-
--- where a cost isn't 0, a test that it needs passes
-due : (b : Bool) (cost : ℕ) → (b ≡ false → cost ≡ 0) → 0 < cost → b ≡ true
-due true cost f h = refl
-due false cost f h = absurd (omega (arith, f refl, h))
 
 ligature_places : (ex : Exercise) (p : List (List Cell)) (col : List Cell) (i : ℕ) → GoesOn ex p (col ∷ [])
     → 0 < newly_costs ligature_row ex p col i → IsAmong (length p) (ligature_row.count ex (length p)) i
-ligature_places ex p col i on h =
-    let own : IsAmong (length p) 1 i = costs_at_own_place ligature_row ex (λ i behind now ahead. refl) p col i h in
-    let same : i ≡ length p = omega (arith, own.from, own.to) in
-    let P : ℕ → Type 0 = λ k. 0 < newly_costs ligature_row ex p col k in
-    let Q : ℕ → Type 0 = λ k. 0 < k in
-    let there : 0 < ligature_row.cost ex (length p) (reverse p) col [] =
-    subst Q (newly_costs-at_once ligature_row ex (λ i behind now ahead. refl) p col) (subst P same h) in
-    rw (due ((ex.species == 4) && begins_inner_bar ex (length p)) _ (only_inner ex (length p) (reverse p) col []) there)
-    own
+ligature_places ex p col i on =
+    costs_where_it_may ligature_row ex (λ i behind now ahead. refl) p col (begins_inner_bar ex (length p))
+    (none_missing ex (length p) col) i
 
 ligature_keeps : KeepsTollLaws ligature_row
 ligature_keeps = record {
@@ -329,7 +306,7 @@ ligature_keeps = record {
   at_once = λ late. cc;
   quiet = λ late. cc;
   places = λ late. ligature_places;
-  within = λ ex i. own_within ((ex.species == 4) && begins_inner_bar ex i) i;
+  within = λ ex i. own_within (begins_inner_bar ex i) i;
 }
 
 -- ---- Q16
@@ -338,10 +315,10 @@ pattern_within : (b : Bool) (i : ℕ) → (i - 7) + (if b then 1 else 0) ≤ i +
 pattern_within true i = omega arith
 pattern_within false i = omega arith
 
--- it is due at the beginning of a bar from the second on, in species 2 to 5
-pattern_needs : (ex : Exercise) (i : ℕ) (behind : List (List Cell)) (now : List Cell) (ahead : List (List Cell))
-    → (nat_le 2 (species_in ex ex.species_voice) && begins_bar i && nat_le 8 i) ≡ false → pattern_row.cost ex i behind now ahead ≡ 0
-pattern_needs ex i behind now ahead e = ap (λ b. from_bool (b && repeats_bar ex.species_voice behind now ahead)) e
+-- where a cost isn't 0, a test that it needs passes
+due : (b : Bool) (cost : ℕ) → (b ≡ false → cost ≡ 0) → 0 < cost → b ≡ true
+due true cost f h = refl
+due false cost f h = absurd (omega (arith, f refl, h))
 
 -- where a bar begins, the eighth column from there settles it
 pattern_settled : (ex : Exercise) (s : List (List Cell)) (i : ℕ) → begins_bar i ≡ true
@@ -371,30 +348,26 @@ cost_parts false cost h = absurd (omega (arith, h))
 bar_ends : (n i : ℕ) → (nat_lt (i + 7) (n + 1) && not (nat_lt (i + 7) n)) ≡ true → i + 7 ≡ n
 bar_ends n i h = grind (arith, nat_tests)
 
-settles_there : (ex : Exercise) (n i : ℕ) → i + 7 ≡ n → nat_le 2 (species_in ex ex.species_voice) ≡ true → begins_bar i ≡ true → nat_le 8 i
-    ≡ true
-    → settles_pattern ex n ≡ true
-settles_there ex n i e species slot later =
+settles_there : (n i : ℕ) → i + 7 ≡ n → begins_bar i ≡ true → nat_le 8 i ≡ true → settles_pattern n ≡ true
+settles_there n i e slot later =
     let eight : 8 ≤ i = grind (arith, nat_tests, later) in
     let zero : i % 8 ≡ 0 = eqb-true (i % 8) 0 slot in
     let seven : n % 8 ≡ 7 = omega (arith, e, zero) in
     let fifteen : nat_le 15 n ≡ true = grind (arith, nat_tests, e, eight) in
-    and_from (nat_le 2 (species_in ex ex.species_voice) && (slot_of n == 7)) (nat_le 15 n)
-    (and_from (nat_le 2 (species_in ex ex.species_voice)) (slot_of n == 7) species (eq-eqb (slot_of n) 7 seven)) fifteen
+    and_from (slot_of n == 7) (nat_le 15 n) (eq-eqb (slot_of n) 7 seven) fifteen
 
 pattern_places : (ex : Exercise) (p : List (List Cell)) (col : List Cell) (i : ℕ) → GoesOn ex p (col ∷ [])
     → 0 < newly_costs pattern_row ex p col i → IsAmong (length p - 7) (pattern_row.count ex (length p)) i
 pattern_places ex p col i on h =
     let both = cost_parts (newly (settled_by (pattern_enough ex)) p col i)
     (reading_of (pattern_row.cost ex) (p ++ col ∷ []) i) h in
-    let needs : (nat_le 2 (species_in ex ex.species_voice) && begins_bar i && nat_le 8 i) ≡ true =
-    due (nat_le 2 (species_in ex ex.species_voice) && begins_bar i && nat_le 8 i) (reading_of (pattern_row.cost ex) (p ++ col ∷ []) i)
+    let needs : (begins_bar i && nat_le 8 i) ≡ true =
+    due (begins_bar i && nat_le 8 i) (reading_of (pattern_row.cost ex) (p ++ col ∷ []) i)
     (λ e. pattern_needs ex i (earlier (p ++ col ∷ []) i) (slice_index_or (p ++ col ∷ []) i [])
     (drop (i + 1) (p ++ col ∷ [])) e) both.1 in
-    let outer = and_parts (nat_le 2 (species_in ex ex.species_voice) && begins_bar i) (nat_le 8 i) needs in
-    let inner = and_parts (nat_le 2 (species_in ex ex.species_voice)) (begins_bar i) outer.0 in
-    let at : i + 7 ≡ length p = bar_ends (length p) i (sym (pattern_newly ex p col i inner.1) ∙ both.0) in
-    rw (settles_there ex (length p) i at inner.0 inner.1 outer.1)
+    let parts = and_parts (begins_bar i) (nat_le 8 i) needs in
+    let at : i + 7 ≡ length p = bar_ends (length p) i (sym (pattern_newly ex p col i parts.0) ∙ both.0) in
+    rw (settles_there (length p) i at parts.0 parts.1)
     (record { from = omega (arith, at); to = omega (arith, at) })
 
 pattern_keeps : KeepsTollLaws pattern_row
@@ -405,7 +378,7 @@ pattern_keeps = record {
   at_once = λ late. cc;
   quiet = λ late. cc;
   places = λ late. pattern_places;
-  within = λ ex i. pattern_within (settles_pattern ex i) i;
+  within = λ ex i. pattern_within (settles_pattern i) i;
 }
 
 -- the toll that isn't Q15

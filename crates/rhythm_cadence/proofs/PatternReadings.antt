@@ -1,6 +1,5 @@
 -- Q16 compares the cells of two bars (`bar_reading`), and is settled by the second bar's last column (`pattern_settles`).
 use Rattle.std.specs.Prelude.{◌≡◌, ℕ, ◌+◌, ◌-◌, ◌%◌, ◌<◌, ◌≤◌, ◌==◌, Bool, true, false, not, ◌&&◌, nat_le, nat_lt, List, [], ◌∷◌, ◌++◌, if◌then◌else◌, length, drop, slice_index_or, refl}
-use Rattle.std.specs.Int.{from_bool}
 use Rattle.std.specs.List.{list_all}
 use Rattle.std.proofs.Common.{ap, sym, ◌∙◌, add-one, arith, drop-cons, subst}
 use Rattle.std.proofs.Math.Seq.{get_or-drop}
@@ -11,7 +10,7 @@ use Rattle.fux_grid.specs.declared.cell.Cell.{Cell}
 use Rattle.fux_grid.specs.declared.exercise.Exercise.{Exercise}
 use Rattle.fux_grid.specs.Cells.{cell_in, same_cell}
 use Rattle.fux_grid.specs.Columns.{cell_at, earlier}
-use Rattle.fux_grid.specs.Exercises.{slot_of, species_in}
+use Rattle.fux_grid.specs.Exercises.{slot_of}
 use Rattle.fux_grid.proofs.Histories.{get_or-earlier}
 use Rattle.rule_law.proofs.AtOnce.{among_own, newly_costs-there}
 use Rattle.rule_law.specs.Bars.{begins_bar, begins_inner_bar}
@@ -19,7 +18,7 @@ use Rattle.rule_law.specs.Places.{reading_of}
 use Rattle.rule_law.specs.Rulebooks.{IsAmong, newly_costs}
 use Rattle.rhythm_cadence.specs.Book.{ligature_row, pattern_row}
 use Rattle.rhythm_cadence.specs.BarCells.{bar_behind}
-use Rattle.rhythm_cadence.specs.Patterns.{lacks_ligature, pattern_toll, repeats_bar, repeats_slot, same_cells, settles_pattern}
+use Rattle.rhythm_cadence.specs.Patterns.{missing_ligatures, pattern_toll, repeats_bar, repeats_slot, same_cells, settles_pattern}
 use Rattle.rhythm_cadence.proofs.BookLaws.{pattern_newly}
 
 module _ (s : List (List Cell)) (v i : ℕ) (second : 8 ≤ i) (whole : i + 8 ≤ length s) where
@@ -68,12 +67,11 @@ part_reading s v i part =
     few n h = grind (arith, nat_tests, h)
 
 -- where a bar begins, and where the newest column ends it
-bar_facts : (ex : Exercise) (n : ℕ) → settles_pattern ex n ≡ true → (begins_bar (n - 7) ≡ true) × (n - 7 + 7 ≡ n)
-bar_facts ex n e =
-    let outer = and_parts (nat_le 2 (species_in ex ex.species_voice) && (slot_of n == 7)) (nat_le 15 n) e in
-    let inner = and_parts (nat_le 2 (species_in ex ex.species_voice)) (slot_of n == 7) outer.0 in
-    let seven : n % 8 ≡ 7 = eqb-true (n % 8) 7 inner.1 in
-    let far : 15 ≤ n = grind (arith, nat_tests, outer.1) in
+bar_facts : (n : ℕ) → settles_pattern n ≡ true → (begins_bar (n - 7) ≡ true) × (n - 7 + 7 ≡ n)
+bar_facts n e =
+    let both = and_parts (slot_of n == 7) (nat_le 15 n) e in
+    let seven : n % 8 ≡ 7 = eqb-true (n % 8) 7 both.0 in
+    let far : 15 ≤ n = grind (arith, nat_tests, both.1) in
     let zero : (n - 7) % 8 ≡ 0 = omega (arith, seven, far) in
     (eq-eqb ((n - 7) % 8) 0 zero, omega (arith, far))
 
@@ -81,17 +79,17 @@ bar_facts ex n e =
 pub pattern_settles : (ex : Exercise) (p : List (List Cell)) (col : List Cell) (i : ℕ)
     → IsAmong (length p - 7) (pattern_row.count ex (length p)) i
     → (i + 7 ≡ length p) × (newly_costs pattern_row ex p col i ≡ reading_of (pattern_toll ex) (p ++ col ∷ []) i)
-pattern_settles ex p col i = at (settles_pattern ex (length p)) refl
+pattern_settles ex p col i = at (settles_pattern (length p)) refl
   where
     within : (i n : ℕ) → i + 7 ≡ n → (nat_lt (i + 7) (n + 1) && not (nat_lt (i + 7) n)) ≡ true
     within i n e = grind (arith, nat_tests, e)
 
-    at : (b : Bool) → settles_pattern ex (length p) ≡ b → IsAmong (length p - 7) (if b then 1 else 0) i
+    at : (b : Bool) → settles_pattern (length p) ≡ b → IsAmong (length p - 7) (if b then 1 else 0) i
         → (i + 7 ≡ length p) × (newly_costs pattern_row ex p col i ≡ reading_of (pattern_toll ex) (p ++ col ∷ []) i)
     at false e a = absurd (omega (arith, a.from, a.to))
     at true e a =
         let here : i ≡ length p - 7 = omega (arith, a.from, a.to) in
-        let facts = bar_facts ex (length p) e in
+        let facts = bar_facts (length p) e in
         let ends : i + 7 ≡ length p = omega (arith, facts.1, here) in
         let P : ℕ → Type 0 = λ n. begins_bar n ≡ true in (
           ends,
@@ -103,7 +101,7 @@ pattern_settles ex p col i = at (settles_pattern ex (length p)) refl
 pub ligature_settles : (ex : Exercise) (p : List (List Cell)) (col : List Cell) (i : ℕ)
     → IsAmong (length p) (ligature_row.count ex (length p)) i
     → (i ≡ length p)
-    × (newly_costs ligature_row ex p col i ≡ from_bool (lacks_ligature ex i (slice_index_or (p ++ col ∷ []) i [])))
+    × (newly_costs ligature_row ex p col i ≡ missing_ligatures ex i (slice_index_or (p ++ col ∷ []) i []))
 ligature_settles ex p col i among =
-    let own : i ≡ length p = among_own ((ex.species == 4) && begins_inner_bar ex (length p)) i (length p) among in
+    let own : i ≡ length p = among_own (begins_inner_bar ex (length p)) i (length p) among in
     (own, newly_costs-there ligature_row ex (λ i behind now ahead. refl) p col i own)

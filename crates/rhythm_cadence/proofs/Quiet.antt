@@ -1,5 +1,5 @@
 -- At a quiet column no rule of rhythm and cadence but S3 is broken.
-use Rattle.std.specs.Prelude.{◌≡◌, ℕ, ◌==◌, true, false, not, ◌&&◌, List, Option, Some, None, is_none, if◌then◌else◌, refl}
+use Rattle.std.specs.Prelude.{◌≡◌, ℕ, ◌==◌, true, false, not, ◌&&◌, nat_lt, List, Option, Some, None, is_none, if◌then◌else◌, refl}
 use Rattle.std.proofs.Common.{ap}
 use Rattle.std.proofs.lemmas.Bool.{and_right}
 use Rattle.fux_pitch.specs.declared.pitch.Pitch.{Pitch}
@@ -7,11 +7,12 @@ use Rattle.fux_grid.specs.declared.cell.Cell.{Cell}
 use Rattle.fux_grid.specs.declared.cell.Cell.TheVariants.{Rest, Hold, Start}
 use Rattle.fux_grid.specs.declared.exercise.Exercise.{Exercise}
 use Rattle.fux_grid.specs.Cells.{cell_in, pitch_of}
-use Rattle.fux_grid.specs.Exercises.{bar_of}
-use Rattle.rule_law.specs.Bars.{begins_bar}
+use Rattle.fux_grid.specs.Exercises.{bar_of, species_in}
+use Rattle.rule_law.specs.Bars.{begins_bar, begins_inner_bar}
 use Rattle.rule_law.specs.Nearby.{Pitches, pitch_at}
-use Rattle.rule_law.specs.Quiet.{is_quiet, quiet_cell, quiet_slot, either_none, on_free_voice-none, on_pair-none, on_voice-none}
+use Rattle.rule_law.specs.Quiet.{count_free-none, is_quiet, quiet_cell, quiet_slot, either_none, on_free_voice-none, on_pair-none, on_voice-none}
 use Rattle.rule_law.specs.Terms.{starts, holds_of, interval_in, lowest_voice}
+use Rattle.rhythm_cadence.specs.Patterns.{lacks_ligature, missing_ligatures}
 use Rattle.rhythm_cadence.specs.Rows.{fits_ending, fits_opening, holds_of_pitch, is_final, near_rows, pitch_brought, voice_rule}
 
 -- a voice that neither starts a note nor is at the beginning of a bar brings no pitch
@@ -19,6 +20,15 @@ brings_none : (i : ℕ) (c : Cell) → begins_bar i ≡ false → starts c ≡ f
 brings_none i Rest slot still = refl
 brings_none i (Hold p) slot still = ap (λ b. if b then Some p else None) slot
 brings_none i (Start p) slot still = cc
+
+-- no ligature is missing but at the beginning of an inner bar
+pub none_missing : (ex : Exercise) (i : ℕ) (now : List Cell) → begins_inner_bar ex i ≡ false
+    → missing_ligatures ex i now ≡ 0
+unfolding missing_ligatures
+none_missing ex i now e =
+    count_free-none ex (λ v. nat_lt v ex.voices && lacks_ligature ex i now v)
+    (λ v. and_right (nat_lt v ex.voices) (lacks_ligature ex i now v)
+    (ap (λ b. b && (species_in ex v == 4) && starts (cell_in now v)) e))
 
 module _ (ex : Exercise) (i : ℕ) (now : List Cell) (quiet : is_quiet i now ≡ true) where
   voice_unbroken : (rule v : ℕ) (previous : Option Pitch) → voice_rule rule ex v i previous now ≡ false

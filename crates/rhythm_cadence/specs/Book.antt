@@ -1,5 +1,5 @@
 -- The rules and tolls of rhythm and cadence as a crate's book.
-use Rattle.std.specs.Prelude.{ℕ, Bool, ◌+◌, ◌-◌, ◌*◌, ◌/◌, ◌==◌, ◌||◌, ◌&&◌, nat_lt, true, false, if◌then◌else◌}
+use Rattle.std.specs.Prelude.{ℕ, Bool, ◌+◌, ◌-◌, ◌*◌, ◌/◌, ◌==◌, ◌||◌, nat_lt, true, false, if◌then◌else◌}
 use Rattle.fux_grid.specs.Exercises.{columns_in}
 use Rattle.rule_law.specs.declared.table.Form.TheVariants.{OneVoice, TwoVoices, AllVoices}
 use Rattle.rule_law.specs.declared.table.Kind.TheVariants.{Column, Pair, Window}
@@ -89,7 +89,7 @@ has_toll n = (n == 15) || (n == 16)
 abbrev pub is_late_toll : ℕ → Bool
 is_late_toll n = (n == 15) || (n == 16)
 
--- Q15 is settled at once, in species 4 at the beginning of an inner bar
+-- Q15 is settled at once, at the beginning of an inner bar
 abbrev pub ligature_row : TollRow
 ligature_row = record {
   kind = Column;
@@ -97,7 +97,7 @@ ligature_row = record {
   cost = λ ex. whole_of (ligature_toll ex);
   enough = λ ex. at_once;
   first = λ ex i. i;
-  count = λ ex i. if (ex.species == 4) && begins_inner_bar ex i then 1 else 0;
+  count = λ ex i. if begins_inner_bar ex i then 1 else 0;
 }
 
 -- Q16: the last column of a bar may settle it at the bar's first column
@@ -108,7 +108,7 @@ pattern_row = record {
   cost = pattern_toll;
   enough = pattern_enough;
   first = λ ex i. i - 7;
-  count = λ ex i. if settles_pattern ex i then 1 else 0;
+  count = λ ex i. if settles_pattern i then 1 else 0;
 }
 
 abbrev pub late_toll : ℕ → TollRow

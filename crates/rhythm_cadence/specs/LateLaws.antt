@@ -1,10 +1,9 @@
 -- S25 and Q16 wait for later columns. Once settled they read the same in each prefix that goes on, and so in each setting.
-use Rattle.std.specs.Prelude.{◌≡◌, ℕ, ◌+◌, ◌-◌, ◌%◌, ◌<◌, ◌≤◌, ◌==◌, Bool, true, false, not, ◌&&◌, ◌||◌, nat_le, nat_lt, List, [], ◌∷◌, ◌++◌, Option, Some, None, IsTrue, length, drop, take, reverse, slice_index_or, refl}
-use Rattle.std.specs.Int.{from_bool}
+use Rattle.std.specs.Prelude.{◌≡◌, ℕ, ◌+◌, ◌-◌, ◌%◌, ◌<◌, ◌≤◌, ◌==◌, Bool, true, false, not, ◌&&◌, ◌||◌, nat_le, nat_lt, List, [], ◌∷◌, ◌++◌, Option, Some, None, cond, length, drop, take, reverse, slice_index_or, refl}
 use Rattle.std.specs.List.{list_all}
 use Rattle.std.proofs.Common.{ap, sym, ◌∙◌, subst, arith, drop-cons}
 use Rattle.std.proofs.Math.ListN.{get_or-append}
-use Rattle.std.proofs.lemmas.Bool.{and_from, eqb-true, or_right}
+use Rattle.std.proofs.lemmas.Bool.{and_from, and_right, eqb-true, not-true, or_right}
 use Rattle.std.proofs.lemmas.Bool.Decides.{nat_tests}
 use Rattle.std.proofs.lemmas.List.{length-append, length-drop, reverse-reverse, take-append-drop}
 use Rattle.fux_grid.specs.declared.cell.Cell.{Cell}
@@ -18,16 +17,17 @@ use Rattle.fux_grid.proofs.Histories.{line-more}
 use Rattle.fux_grid.proofs.OrderlyLemmas.{orderly-fewer}
 use Rattle.rule_law.specs.After.{onset_pitch}
 use Rattle.rule_law.specs.Bars.{begins_bar}
-use Rattle.rule_law.specs.Growth.{EnoughStays}
+use Rattle.rule_law.specs.Growth.{EnoughStays, sum_by-same}
 use Rattle.rule_law.proofs.LateLaw.{StaysAhead, by_either, ends_when_whole, local_from_ahead, whole_same, whole_stays}
 use Rattle.rule_law.specs.Law.{or_each, local_from_row, test_from_below}
 use Rattle.rule_law.specs.Nearby.{RestsFirst}
 use Rattle.rule_law.specs.OrderlyLaw.{free_rests}
 use Rattle.rule_law.specs.Places.{IsLocal, IsUndisturbed, SettlesAtEnd, reading_of, settled_by}
+use Rattle.rule_law.specs.Quiet.{count_free-none}
 use Rattle.rule_law.specs.Terms.{previous_pitch, starts}
-use Rattle.rule_law.specs.Voices.{holds_of_voice, is_free, voice_of}
+use Rattle.rule_law.specs.Voices.{count_free, holds_of_voice, is_free, voice_of}
 use Rattle.rule_law.specs.Whole.{is_whole}
-use Rattle.rhythm_cadence.specs.Patterns.{pattern_enough, pattern_toll, repeats_bar, repeats_slot}
+use Rattle.rhythm_cadence.specs.Patterns.{is_pattern, pattern_enough, pattern_toll, repeats_bar, repeats_slot}
 use Rattle.rhythm_cadence.specs.Quavers.{is_step_apart, is_stepwise, quaver_enough, quaver_row, starts_quaver}
 
 -- ---- S25
@@ -178,19 +178,34 @@ bar_same v behind now ahead t h =
       one 7 (omega arith),
     ) refl
 
+-- two tests that agree for each voice pass for as many free ones
+count_free-same : (ex : Exercise) (f g : ℕ → Bool) → ((v : ℕ) → f v ≡ g v) → count_free ex f ≡ count_free ex g
+count_free-same ex f g same =
+    sum_by-same (λ v. cond (is_free ex v && f v) 1 0) (λ v. cond (is_free ex v && g v) 1 0) (0 ∷ 1 ∷ 2 ∷ 3 ∷ [])
+    (λ v. ap (λ b. cond (is_free ex v && b) 1 0) (same v))
+
+-- it costs nothing but at the beginning of a bar from the second on
+pub pattern_needs : (ex : Exercise) (i : ℕ) (behind : List (List Cell)) (now : List Cell) (ahead : List (List Cell))
+    → (begins_bar i && nat_le 8 i) ≡ false → pattern_toll ex i behind now ahead ≡ 0
+unfolding pattern_toll
+pattern_needs ex i behind now ahead e =
+    count_free-none ex (λ v. nat_lt v ex.voices && is_pattern v ex i behind now ahead)
+    (λ v. and_right (nat_lt v ex.voices) (is_pattern v ex i behind now ahead)
+    (ap (λ b. b && nat_le 2 (species_in ex v) && repeats_bar v behind now ahead) e))
+
 pattern_undisturbed : (ex : Exercise) → IsUndisturbed (pattern_toll ex) (pattern_enough ex)
+unfolding pattern_toll
 pattern_undisturbed ex i behind now ahead t h =
     by_either (not (begins_bar i)) (nat_le 7 (length ahead)) h
-    (λ k. ap from_bool (no_bar (nat_le 2 (species_in ex ex.species_voice)) (begins_bar i) (nat_le 8 i) _ _ k))
+    (λ k.
+    let none : (begins_bar i && nat_le 8 i) ≡ false = ap (λ b. b && nat_le 8 i) (not-true (begins_bar i) k) in
+    pattern_needs ex i behind now (ahead ++ t) none ∙ sym (pattern_needs ex i behind now ahead none))
     (λ k.
     let whole : 7 ≤ length ahead = grind (arith, nat_tests, k) in
-    ap (λ b. from_bool (nat_le 2 (species_in ex ex.species_voice) && begins_bar i && nat_le 8 i && b))
-    (bar_same ex.species_voice behind now ahead t whole))
-  where
-    no_bar : (a b c x y : Bool) → IsTrue (not b) → (a && b && c && x) ≡ (a && b && c && y)
-    no_bar a true c x y e = cc
-    no_bar true false c x y e = refl
-    no_bar false false c x y e = refl
+    count_free-same ex (λ v. nat_lt v ex.voices && is_pattern v ex i behind now (ahead ++ t))
+    (λ v. nat_lt v ex.voices && is_pattern v ex i behind now ahead)
+    (λ v. ap (λ b. nat_lt v ex.voices && (begins_bar i && nat_le 8 i && nat_le 2 (species_in ex v) && b))
+    (bar_same v behind now ahead t whole)))
 
 pub pattern_is_local : (ex : Exercise) → IsLocal ex (reading_of (pattern_toll ex)) (settled_by (pattern_enough ex))
 pattern_is_local ex = local_from_row ex (pattern_toll ex) (pattern_enough ex) (pattern_undisturbed ex)

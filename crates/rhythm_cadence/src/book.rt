@@ -7,7 +7,7 @@ ghost use Rattle.rhythm_cadence.specs.Parts.{IsShapesOf};
 use crate::cadence::breaks_cadence;
 use crate::late::quaver_places;
 use crate::part::{BarShapes, breaks_shapes, noted, unbegun};
-use crate::patterns::{is_pattern_settled, lacks_ligature, pattern_cost, settles_pattern};
+use crate::patterns::{is_pattern_settled, missing_ligatures, pattern_cost, settles_pattern};
 use crate::quavers::{breaks_quaver, is_quaver_settled};
 use crate::rhythm::{Rhythm, breaks, is_open, leaves_shapes};
 use crate::rows::begins_last_bar;
@@ -94,15 +94,15 @@ impl RuleCrate for Rhythm {
 
     fn toll_places(toll: u8, ex: &Exercise, i: usize) -> LatePlaces {
         if toll == 15 {
-            return LatePlaces::own(ex.species == 4 && begins_inner_bar(ex, i), i);
+            return LatePlaces::own(begins_inner_bar(ex, i), i);
         }
-        LatePlaces::own(settles_pattern(ex, i), i.saturating_sub(7))
+        LatePlaces::own(settles_pattern(i), i.saturating_sub(7))
     }
 
     /// Q15 at the column itself, Q16 at the beginning of the bar that it ends.
     fn cost_late(newest: &NewestColumns, toll: u8, ex: &Exercise, place: usize) -> u32 {
         if toll == 15 {
-            return u32::from(lacks_ligature(ex, place, newest.cells(ex, place)));
+            return missing_ligatures(ex, place, newest.cells(ex, place));
         }
         if place >= newest.len {
             return 0;
@@ -160,7 +160,7 @@ impl RuleCrate for Rhythm {
         now: &[Cell],
     ) -> u32 {
         if toll == 15 {
-            return u32::from(lacks_ligature(ex, i, now));
+            return missing_ligatures(ex, i, now);
         }
         0
     }
@@ -194,7 +194,7 @@ impl RuleCrate for Rhythm {
     fn cost_in(toll: u8, ex: &Exercise, score: &Score, i: usize) -> u32 {
         score.kept();
         match toll {
-            15 => u32::from(lacks_ligature(ex, i, score.column(i).as_slice())),
+            15 => missing_ligatures(ex, i, score.column(i).as_slice()),
             16 => pattern_cost(score, ex, i),
             _ => 0,
         }

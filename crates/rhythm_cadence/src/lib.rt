@@ -19,7 +19,7 @@ pub use cadence::{breaks_cadence, shows_cadence};
 pub use in_place::are_in_place;
 pub use letter_sets::{LetterSets, fitting_shapes};
 pub use part::{BarShapes, leaves_last_shape, noted, unbegun};
-pub use patterns::{is_pattern_settled, lacks_ligature, pattern_cost};
+pub use patterns::{is_pattern_settled, missing_ligatures, pattern_cost};
 pub use quavers::{breaks_quaver, is_quaver_settled};
 pub use rhythm::{Rhythm, breaks};
 pub use rows::{

@@ -14,7 +14,7 @@ ghost use Rattle.rhythm_cadence.specs.Rows as rows;
 ghost use Rattle.rhythm_cadence.specs.Rows.{holds_of_some};
 
 use crate::part::kept;
-use crate::patterns::lacks_ligature;
+use crate::patterns::missing_ligatures;
 use crate::rows::{ends_badly, lacks_final, leaves_gamut, leaves_range, opens_badly};
 use fux_grid::{Cell, Column, Exercise, Score, VoiceSet, cell_of};
 use fux_pitch::Pitch;
@@ -237,6 +237,6 @@ impl Near for Rhythm {
         if !self.tolls().has(toll) {
             return 0;
         }
-        u32::from(lacks_ligature(ex, i, next.as_slice()))
+        missing_ligatures(ex, i, next.as_slice())
     }
 }

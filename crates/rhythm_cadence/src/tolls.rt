@@ -9,7 +9,7 @@ use crate::rhythm::Rhythm;
 use fux_grid::{Exercise, Score};
 use rule_law::{RuleCrate, Toll};
 
-/// A bar of species 4, neither the first nor the last, that begins with a new note and so lacks a ligature.
+/// Each bar of a voice of species 4, neither the first nor the last, that begins with a new note and so lacks a ligature.
 #[derive(Clone, Copy, Debug, PartialEq, Eq)]
 pub struct Q15;
 
@@ -37,7 +37,7 @@ impl Toll for Q15 {
     }
 }
 
-/// A bar that repeats the bar before, in species 2 to 5.
+/// Each bar of a voice of species 2 to 5 that repeats the bar before.
 #[derive(Clone, Copy, Debug, PartialEq, Eq)]
 pub struct Q16;
 

@@ -1,10 +1,9 @@
 use Rattle.std.proofs.Common.{◌≡◌, ℕ, List, ◌-◌, ◌++◌, ◌∷◌, [], arith, ap, sym, ◌∙◌, subst, length}
-use Rattle.std.specs.Int.{from_bool}
 use Rattle.fux_grid.specs.declared.cell.Cell.{Cell}
 use Rattle.rule_law.proofs.AroundLemmas.{kept_after}
 use Rattle.rule_law.specs.Rulebooks.{IsAmong, TollRow, newly_costs}
 use Rattle.rhythm_cadence.specs.Book.{pattern_row, toll_row}
-use Rattle.rhythm_cadence.specs.Patterns.{lacks_ligature}
+use Rattle.rhythm_cadence.specs.Patterns.{missing_ligatures}
 use Rattle.rhythm_cadence.proofs.BookLaws.{late_toll_by_row, pattern_row_of}
 use Rattle.rhythm_cadence.proofs.PatternReadings.{ligature_settles, pattern_settles}
 use Rattle.rhythm_cadence.proofs.book.RhythmRuleCrate.cost_late.Goals as goal
@@ -16,10 +15,9 @@ returns-then-toll-eq15-clause-value c = λ late p col newest on among.
     let A : ℕ → Type 0 = λ n. IsAmong ((toll_row n).first ex (length p)) ((toll_row n).count ex (length p)) place in
     let there = ligature_settles ex p col place (subst A c.if-toll-eq15.true among) in
     let shown = kept_after ex p col on c.args.newest.now place newest (omega (arith, there.0)) in
-    c.from.ensures
-    ∙ ap from_bool (c.lacks_ligature.ensures
-    ∙ ap (λ (now : List Cell). lacks_ligature ex place now)
-    (c.cells.ensures (p ++ col ∷ []) place shown (omega arith)))
+    c.missing_ligatures.ensures.value
+    ∙ ap (λ (now : List Cell). missing_ligatures ex place now)
+    (c.cells.ensures (p ++ col ∷ []) place shown (omega arith))
     ∙ sym there.1
     ∙ ap (λ n. newly_costs (toll_row n) ex p col place) (sym c.if-toll-eq15.true)
 
