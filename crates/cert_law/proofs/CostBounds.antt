@@ -32,6 +32,7 @@ use Rattle.motion_rules.specs.Runs.{ends_four_bars}
 use Rattle.penalty_sheet.specs.declared.sheet.Sheet.{Sheet}
 use Rattle.penalty_sheet.specs.Weights.{weight_of}
 use Rattle.rhythm_cadence.specs.Book as rhythm
+use Rattle.rhythm_cadence.specs.Patterns.{is_pattern, lacks_ligature, missing_ligatures, pattern_toll}
 use Rattle.rule_law.specs.Nearby.{pitch_at, previous_pitches, whole_of}
 use Rattle.rule_law.specs.Pairs.{count_pairs}
 use Rattle.rule_law.specs.Places.{Row}
@@ -102,10 +103,12 @@ dissonance_low n ex i behind now ahead =
     pick_low (n == 1) _ _ (one_low _) (pick_low _ 0 _ none_low (pairs_low _))
 
 rhythm_low : (n : ℕ) → IsLowToll (rhythm.toll_row n)
+unfolding missing_ligatures pattern_toll
 rhythm_low n =
     either_toll (rhythm.is_late_toll n) (rhythm.late_toll n) no_toll
-    (either_toll (n == 15) rhythm.ligature_row rhythm.pattern_row (λ ex i behind now ahead. one_low _)
-    (λ ex i behind now ahead. one_low _))
+    (either_toll (n == 15) rhythm.ligature_row rhythm.pattern_row
+    (λ ex i behind now ahead. free_low ex (λ v. nat_lt v ex.voices && lacks_ligature ex i now v))
+    (λ ex i behind now ahead. free_low ex (λ v. nat_lt v ex.voices && is_pattern v ex i behind now ahead)))
     (λ ex i behind now ahead. none_low)
 
 doubling_low : (n : ℕ) → IsLowToll (doubling.toll_row n)

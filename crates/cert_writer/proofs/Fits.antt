@@ -1,9 +1,9 @@
 -- Each claim that is written has a line (`to_come-fit`, `next-fits`).
-use Rattle.std.proofs.Common.{◌≡◌, ◌⊎◌, inl, inr, ℕ, zero, suc, ◌≤◌, Bool, true, false, ◌&&◌, List, [], ◌∷◌, ◌++◌, Option, Some, None, if◌then◌else◌, refl, ap, sym, ◌∙◌, subst, arith}
+use Rattle.std.proofs.Common.{◌≡◌, ◌⊎◌, inl, inr, ℕ, zero, suc, ◌≤◌, Bool, true, false, ◌&&◌, ◌||◌, List, [], ◌∷◌, ◌++◌, take, length, slice_index_or, Option, Some, None, if◌then◌else◌, refl, ap, sym, ◌∙◌, subst, arith}
 use Rattle.std.specs.Prelude.{IfSome, is_none, nat_le}
 use Rattle.std.specs.List.{AllByRecursion, find, flat_map, list_all}
 use Rattle.std.specs.Option.{option_map_or}
-use Rattle.std.proofs.lemmas.Bool.{and_parts, cases_Bool}
+use Rattle.std.proofs.lemmas.Bool.{and_parts, and_right, both_ways, cases_Bool}
 use Rattle.std.proofs.lemmas.Bool.Decides.{nat_tests}
 use Rattle.cert_text.specs.Lines.{IsClaim}
 use Rattle.cert_text.specs.declared.claim.Claim.{Claim}
@@ -20,7 +20,11 @@ use Rattle.cert_law.specs.Writer.{is_no_better, is_setting_of, least_break, unbr
 use Rattle.cert_law.specs.declared.known.PrefixKnown.{PrefixKnown}
 use Rattle.cert_writer.specs.Writing.{by_tables, own_claim, to_come}
 use Rattle.fux_grid.specs.declared.cell.Cell.{Cell}
-use Rattle.fux_judge.specs.Rules.{rules_read}
+use Rattle.fux_grid.specs.Exercises.{greatest_rule}
+use Rattle.fux_judge.proofs.Ends.{from_none_below}
+use Rattle.fux_judge.proofs.Unmixed.{is_of_mixed, unmixed_unbroken}
+use Rattle.fux_judge.specs.Penalties.{newly_broken}
+use Rattle.fux_judge.specs.Rules.{is_read, rules_read}
 
 all_append : {A : Type 0} (P : A → Type 0) (xs ys : List A) → AllByRecursion P xs → AllByRecursion P ys
     → AllByRecursion P (xs ++ ys)
@@ -48,40 +52,63 @@ module _ {X : Type 0} (tree : Tree X Claim) (own : X → Claim) (fits : (p : X) 
 -- ---- the claims of a certificate
 
 is_named : ℕ → Bool
-is_named rule = nat_le 1 rule && nat_le rule 26
+is_named rule = nat_le 1 rule && nat_le rule greatest_rule
 
-all_named : list_all is_named rules_read ≡ true
+-- a claim names each rule that is read, but for those of mixed exercises
+named_or_mixed : list_all (λ rule. is_named rule || is_of_mixed rule) rules_read ≡ true
 unfolding rules_read is_named
-all_named = refl
+named_or_mixed = refl
 
-named_from_test : (rule : ℕ) → is_named rule ≡ true → (1 ≤ rule) × (rule ≤ 26)
+named_from_test : (rule : ℕ) → is_named rule ≡ true → (1 ≤ rule) × (rule ≤ greatest_rule)
 unfolding is_named
 named_from_test rule h =
-    let parts = and_parts (nat_le 1 rule) (nat_le rule 26) h in
+    let parts = and_parts (nat_le 1 rule) (nat_le rule greatest_rule) h in
     (low rule parts.0, high rule parts.1)
   where
     low : (n : ℕ) → nat_le 1 n ≡ true → 1 ≤ n
     low n e = grind (arith, nat_tests)
 
-    high : (n : ℕ) → nat_le n 26 ≡ true → n ≤ 26
+    high : (n : ℕ) → nat_le n greatest_rule ≡ true → n ≤ greatest_rule
     high n e = grind (arith, nat_tests)
 
-found_named : (test : ℕ → Bool) (rules : List ℕ) (rule : ℕ) → list_all is_named rules ≡ true
-    → find test rules ≡ Some rule → is_named rule ≡ true
-found_named test [] rule all h = cc
-found_named test (r ∷ rules) rule all h =
-    let parts = and_parts (is_named r) (list_all is_named rules) all in
-    at (cases_Bool (test r)) parts.0 (found_named test rules rule parts.1)
+-- what is found passes the test, and each test that all pass
+found_passes : (test each : ℕ → Bool) (rules : List ℕ) (rule : ℕ) → list_all each rules ≡ true
+    → find test rules ≡ Some rule → (test rule ≡ true) × (each rule ≡ true)
+found_passes test each [] rule all h = cc
+found_passes test each (r ∷ rules) rule all h =
+    let parts = and_parts (each r) (list_all each rules) all in
+    at (cases_Bool (test r)) parts.0 (found_passes test each rules rule parts.1)
   where
-    at : (test r ≡ true) ⊎ (test r ≡ false) → is_named r ≡ true
-        → (find test rules ≡ Some rule → is_named rule ≡ true) → is_named rule ≡ true
+    at : (test r ≡ true) ⊎ (test r ≡ false) → each r ≡ true
+        → (find test rules ≡ Some rule → (test rule ≡ true) × (each rule ≡ true))
+        → (test rule ≡ true) × (each rule ≡ true)
     at (inl t) here later =
         let same : Some r ≡ Some rule = rw t at h in
         let one : r ≡ rule = cc in
-        ap is_named (sym one) ∙ here
+        (ap test (sym one) ∙ t, ap each (sym one) ∙ here)
     at (inr f) here later = later (rw f at h)
 
-module _ (t : Matter) where
+module _ (t : Matter) (unmixed : t.exercise.mixed ≡ None) where
+  -- where the exercise isn't mixed, a rule that is found broken has a name
+  no_mixed_break : (p : List (List Cell)) (rule : ℕ) → is_of_mixed rule ≡ true
+      → has_break_of t.exercise p rule ≡ false
+  no_mixed_break p rule mixed =
+      and_right (is_read rule) _
+      (from_none_below (λ k. newly_broken t.exercise (take k p) (slice_index_or p k []) rule) (length p)
+      (λ k h. unmixed_unbroken t.exercise unmixed (take k p) (slice_index_or p k []) rule mixed))
+
+  break_named : (p : List (List Cell)) (rule : ℕ) → least_break t.exercise p ≡ Some rule → is_named rule ≡ true
+  break_named p rule e =
+      let found = found_passes (has_break_of t.exercise p) (λ r. is_named r || is_of_mixed r) rules_read rule
+      named_or_mixed e in
+      at (is_named rule) (is_of_mixed rule) refl found.1 found.0
+    where
+      at : (a b : Bool) → is_of_mixed rule ≡ b → (a || b) ≡ true → has_break_of t.exercise p rule ≡ true → a ≡ true
+      at true b mixed h broken = refl
+      at false true mixed h broken = absurd (both_ways (has_break_of t.exercise p rule)
+          (no_mixed_break p rule mixed) broken)
+      at false false mixed h broken = h
+
   own_fits : (p : List (List Cell)) → IsClaim (own_claim t p)
   own_fits p = setting (is_setting_of t.head p)
     where
@@ -97,7 +124,7 @@ module _ (t : Matter) where
 
       rule : (o : Option ℕ) → least_break t.exercise p ≡ o
           → IsClaim (option_map_or Broken o (unbroken_claim t.exercise t.sheet t.head None p))
-      rule (Some r) e = named_from_test r (found_named (has_break_of t.exercise p) rules_read r all_named e)
+      rule (Some r) e = named_from_test r (break_named p r e)
       rule None e = chain (is_none (tail_of t.exercise t.sheet None p))
 
       setting : (b : Bool) → IsClaim (if b then TheScore

@@ -1,5 +1,5 @@
 -- What is still to be written of a certificate's claims.
-use Rattle.std.specs.Prelude.{ℕ, List, None}
+use Rattle.std.specs.Prelude.{◌≡◌, ℕ, List, None}
 use Rattle.std.specs.List.{flat_map}
 use Rattle.cert_tree.specs.Walks.{IsWalk}
 use Rattle.cert_tree.specs.Writing.{AreTold, claims_to_come}
@@ -16,9 +16,11 @@ use Rattle.cert_text.specs.declared.claim.Claim.{Claim}
 use Rattle.floor_tables.specs.Tables.{Task}
 use Rattle.fux_grid.specs.declared.cell.Cell.{Cell}
 
--- the exercise is within the limits, the tables are of it and the sheet, whose weights are small, and the head holds
+-- the exercise is within the limits and isn't mixed, since claims have no words for the rules of mixed ones; the tables are of it and
+-- the sheet, whose weights are small, and the head holds
 pub record IsTask (t : Matter) (tables : Task) : Type 0 where
   pub case : IsCase t
+  pub unmixed : t.exercise.mixed ≡ None
   pub has : HasTails t (basis_of tables)
   pub small : HasSmallWeights t.sheet
   pub holds : Holds t.exercise t.sheet t.head

@@ -1,6 +1,6 @@
 //! Writing a whole certificate.
 
-ghost use Rattle.std.specs.Prelude.{◌≡◌, ◌≢◌, ◌<◌, ◌≤◌, Err, OnOk, length};
+ghost use Rattle.std.specs.Prelude.{◌≡◌, ◌≢◌, ◌<◌, ◌≤◌, Err, None, OnOk, length};
 ghost use Rattle.std.specs.List.{AllByRecursion};
 ghost use Rattle.cert_law.specs.Rests.{entries_of};
 ghost use Rattle.cert_law.specs.Writer.{written_certificate};
@@ -78,7 +78,7 @@ pub(crate) fn write_for_head<K: Sink>(
 }
 
 /// Writes the certificate of a form, of the best setting with its penalty, or the one that says that no setting is lawful, by the tables
-/// that the space has. Its length is counted before its first byte is written, and all memory is taken before that; then each prefix is
+/// that the space has. The exercise isn't mixed: claims don't name the rules of mixed ones. Its length is counted before its first byte is written, and all memory is taken before that; then each prefix is
 /// judged once more, and each entry read from the tables again, so that a certificate of any length takes no more memory than a short one.
 pub fn certify_form<K: Sink>(
     alloc: Global,
@@ -87,6 +87,7 @@ pub fn certify_form<K: Sink>(
     form: Form,
     sink: &mut K,
 ) -> Result<(), CertWrite>
+    requires unmixed { space.now.exercise.mixed ≡ None }
     requires holds { Holds space.now.exercise space.now.sheet (head_with best) }
     ensures ok { OnOk result (K.written sink.new ≡ appended (K.written sink.old) (found_text space.now form best.entry)) }
 
@@ -122,6 +123,7 @@ pub fn certify<K: Sink>(
     best: Option<(&Score, u64)>,
     sink: &mut K,
 ) -> Result<(), CertWrite>
+    requires unmixed { space.now.exercise.mixed ≡ None }
     requires holds { Holds space.now.exercise space.now.sheet (head_with best) }
     ensures ok { OnOk result (K.written sink.new ≡ appended (K.written sink.old) (found_text space.now Form.First best.entry)) }
 

@@ -11,7 +11,6 @@ use Rattle.fux_grid.specs.declared.cell.Cell.TheVariants.{Rest, Hold, Start}
 use Rattle.fux_grid.specs.declared.exercise.Exercise.{Exercise}
 use Rattle.fux_grid.specs.Cells.{cell_in}
 use Rattle.fux_grid.specs.Columns.{newest_column}
-use Rattle.fux_grid.specs.Exercises.{species_in}
 use Rattle.rule_law.specs.Bars.{begins_bar, begins_inner_bar}
 use Rattle.rule_law.specs.Growth.{sum_by-none}
 use Rattle.rule_law.specs.Nearby.{previous_pitches}
@@ -27,7 +26,7 @@ use Rattle.motion_rules.proofs.Quiet as motion_quiet
 use Rattle.motion_rules.specs.Rows.{are_outer}
 use Rattle.dissonance_rules.specs.Book as dissonance_book
 use Rattle.rhythm_cadence.specs.Book as rhythm_book
-use Rattle.rhythm_cadence.specs.Patterns.{lacks_ligature}
+use Rattle.rhythm_cadence.proofs.Quiet.{none_missing}
 use Rattle.doubling_rules.specs.Rows.{are_far_apart, breaks_in_column, cost_of_column, count_thirds}
 use Rattle.doubling_rules.specs.Rows.{is_before_last_bar, sounds_leading, straying_notes, strays}
 use Rattle.penalty_sheet.specs.declared.sheet.Sheet.{Sheet}
@@ -121,11 +120,6 @@ module _ (ex : Exercise) (i : ℕ) (before : Option (List Cell)) (next : List Ce
       (and_right (nat_le 3 ex.voices) (begins_bar i) (quiet_slot i next quiet)))
       none_stray))
 
-  no_ligature : from_bool (lacks_ligature ex i next) ≡ 0
-  no_ligature =
-      ap (λ b. from_bool (b && starts (cell_in next ex.species_voice)))
-      (and_right (species_in ex ex.species_voice == 4) (begins_inner_bar ex i) (quiet_inner ex i next quiet))
-
   no_inner_moves : inner_moves ex (newest_column (behind_of before)) next ≡ 0
   no_inner_moves =
       either_none (nat_le 3 ex.voices) _ _ 0
@@ -147,7 +141,8 @@ module _ (ex : Exercise) (i : ℕ) (before : Option (List Cell)) (next : List Ce
         (previous_pitches (behind_of before))
 
     of_rhythm : crate_with_toll toll ≡ Some Rhythm → (b : Bool) → (toll == 15) ≡ b → read (costs toll ex) ≡ 0
-    of_rhythm its true e = ap (λ (r : Row ℕ). read r) (ligature_toll_row toll between ex its e) ∙ no_ligature
+    of_rhythm its true e = ap (λ (r : Row ℕ). read r) (ligature_toll_row toll between ex its e)
+        ∙ none_missing ex i next (quiet_inner ex i next quiet)
     of_rhythm its false e = ap (λ (r : Row ℕ). read r) (other_rhythm_toll toll between ex its e)
 
     free : read (costs toll ex) ≡ 0

@@ -2,7 +2,7 @@
 use Rattle.std.specs.Prelude.{ℕ, ◌==◌, not, Bool, true, false, List, ◌++◌}
 use Rattle.std.specs.List.{filter, list_any, range_with_len}
 use Rattle.fux_grid.specs.declared.exercise.Exercise.{Exercise}
-use Rattle.fux_grid.specs.Exercises.{greatest_rule}
+use Rattle.fux_grid.specs.Exercises.{greatest_mixed_rule}
 use Rattle.rule_law.specs.declared.table.Form.{Form}
 use Rattle.rule_law.specs.declared.table.Form.TheVariants.{OneVoice, TwoVoices, AllVoices}
 use Rattle.rule_law.specs.Forms as forms
@@ -28,7 +28,7 @@ toll_at = all_rules.toll
 
 -- the rules that are read: those of the books; no other is ever broken
 unfoldable pub rules_read : List ℕ
-rules_read = filter all_rules.has_rule (range_with_len 1 greatest_rule)
+rules_read = filter all_rules.has_rule (range_with_len 1 greatest_mixed_rule)
 
 -- the tolls that are read; no other costs anything
 unfoldable pub tolls_read : List ℕ

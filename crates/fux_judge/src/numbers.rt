@@ -3,28 +3,29 @@
 
 ghost use Rattle.std.specs.Prelude.{◌≡◌, ◌≤◌, ◌&&◌, not, nat_le, nat_lt, ℕ, IsTrue, length};
 ghost use Rattle.std.specs.List.{filter, list_all, range_with_len};
-ghost use Rattle.fux_grid.specs.Exercises.{greatest_rule};
+ghost use Rattle.fux_grid.specs.Exercises.{greatest_mixed_rule};
 ghost use Rattle.fux_judge.specs.Links as links;
 ghost use Rattle.fux_judge.specs.Links.{is_rule_between, is_toll_between};
 ghost use Rattle.fux_judge.specs.Kept.{rules_at_a_bar, rules_at_the_end, rules_within_bars};
 ghost use Rattle.fux_judge.specs.Rules as rules;
 ghost use Rattle.fux_judge.specs.Rules.{all_rules, all_sets, is_late, is_late_toll, late_rules, late_tolls, rules_at_once, rules_read, tolls_read};
 
-use fux_grid::GREATEST_RULE;
+use fux_grid::GREATEST_MIXED_RULE;
 
 /// All rules that are read.
-const RULES: [u8; GREATEST_RULE as usize] = [
+const RULES: [u8; GREATEST_MIXED_RULE as usize] = [
     1, 2, 3, 4, 5, 6, 7, 8, 9, 10, 11, 12, 13, 14, 15, 16, 17, 18, 19, 20, 21, 22, 23, 24, 25, 26,
+    27, 28,
 ];
 
 /// The sets of voices, of four at most, by their bits.
 const VOICE_SETS: [u8; 15] = [1, 2, 3, 4, 5, 6, 7, 8, 9, 10, 11, 12, 13, 14, 15];
 
 /// The rules that may be settled later than at their own column.
-const LATE_RULES: [u8; 9] = [3, 15, 18, 19, 20, 21, 22, 23, 25];
+const LATE_RULES: [u8; 11] = [3, 15, 18, 19, 20, 21, 22, 23, 25, 27, 28];
 
 /// The same, those of one voice first: a search asks them in this order, since most of these tell soonest.
-const LATE_RULES_ASKED: [u8; 9] = [3, 25, 15, 18, 19, 20, 21, 22, 23];
+const LATE_RULES_ASKED: [u8; 11] = [3, 25, 15, 18, 19, 20, 21, 22, 23, 27, 28];
 
 /// The rules that are settled at once.
 const RULES_AT_ONCE: [u8; 17] = [1, 2, 4, 5, 6, 7, 8, 9, 10, 11, 12, 13, 14, 16, 17, 24, 26];
@@ -54,8 +55,8 @@ const COLUMN_TOLLS: [u8; 7] = [1, 2, 3, 4, 5, 6, 15];
 #[tactic(auto, unfolding(crate::specs::Rules::rules_read))]
 pub fn every_rule() -> &'static [u8]
     ensures value { result.now ≡ rules_read }
-    ensures table { result.now ≡ filter all_rules.has_rule (range_with_len 1 greatest_rule) }
-    ensures count { length result.now ≡ greatest_rule }
+    ensures table { result.now ≡ filter all_rules.has_rule (range_with_len 1 greatest_mixed_rule) }
+    ensures count { length result.now ≡ greatest_mixed_rule }
 {
     &RULES
 }

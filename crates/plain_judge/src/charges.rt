@@ -127,7 +127,7 @@ fn prices_at(ex: &Exercise, before: Option<&Score>, score: &Score, i: usize) -> 
     requires part { IsPart ex.now score.now }
     requires place { i < length score.now.columns }
     ensures value { result ≡ prices_since ex.now (columns_of (option_copied before.entry)) score.now.columns i }
-    ensures bound { result ≤ 3900000 }
+    ensures bound { result ≤ 4200000 }
 {
     let mut sum = 0u64;
     for rule in every_rule() {
@@ -144,7 +144,7 @@ fn charges_at(ex: &Exercise, sheet: &Sheet, before: Option<&Score>, score: &Scor
     requires part { IsPart ex.now score.now }
     requires place { i < length score.now.columns }
     ensures value { result ≡ charges_since ex.now sheet.now (columns_of (option_copied before.entry)) score.now.columns i }
-    ensures bound { result ≤ 5629413637456500 }
+    ensures bound { result ≤ 5629413637756500 }
 {
     tolls_at(ex, sheet, before, score, i) + prices_at(ex, before, score, i)
 }

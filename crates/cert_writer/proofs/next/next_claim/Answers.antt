@@ -48,4 +48,4 @@ returns-clause-claim c =
     c.new.ensures c.next_claim.ensures.claims
     in
     next-fits c.next_claim.result (to_come t c.next_claim.new.walk)
-    (subst (AllByRecursion IsClaim) claims (to_come-fit t c.args.walk.now))
+    (subst (AllByRecursion IsClaim) claims (to_come-fit t c.requires.task.unmixed c.args.walk.now))

@@ -21,7 +21,7 @@ returns-then-not-allows c = λ col menu e.
     let v = c.args.v in
     let i = c.args.i in
     let shapes : c.shapes_of-shapes.result.now ≡ shapes_in (species_in ex v) (bar_of i) ex.bars =
-    c.shapes_of-shapes.ensures ∙ ap (λ species. shapes_in species c.bar_of.result ex.bars) c.species_of.ensures
+    c.shapes_of-shapes.ensures ∙ ap (λ species. shapes_in species c.bar_of.result ex.bars) c.species_of.ensures.value
     ∙ ap (λ bar. shapes_in (species_in ex v) bar ex.bars) c.bar_of.ensures in
     let none : allows (shapes_in (species_in ex v) (bar_of i) ex.bars) (slot_of i) 83 ≡ false =
     ap (λ shapes. allows shapes (slot_of i) 83) (sym shapes)

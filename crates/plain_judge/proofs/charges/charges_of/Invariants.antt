@@ -7,5 +7,5 @@ use Rattle.plain_judge.proofs.charges.charges_of.Given as goal
 abbrev pub invariant-loop-i : goal.invariant-loop-i
 invariant-loop-i l = record {
   value : l.sum ≡ sum_below (charges_since l.ex l.sheet (columns_of (option_copied l.before)) l.score.columns) l.i;
-  small : l.sum ≤ 5629413637456500 * l.i;
+  small : l.sum ≤ 5629413637756500 * l.i;
 }
