@@ -1,12 +1,12 @@
 -- The rules and tolls of dissonance keep the laws of a crate's book.
-use Rattle.std.specs.Prelude.{◌≡◌, ℕ, ◌+◌, ◌-◌, ◌≤◌, ◌==◌, ◌&&◌, ◌||◌, Bool, true, false, nat_le, nat_lt, List, [], if◌then◌else◌, refl}
+use Rattle.std.specs.Prelude.{◌≡◌, ℕ, ◌+◌, ◌-◌, ◌≤◌, ◌==◌, ◌&&◌, Bool, true, false, nat_le, nat_lt, List, [], if◌then◌else◌, refl}
 use Rattle.std.proofs.Common.{ap, arith}
 use Rattle.std.proofs.lemmas.Bool.{cond_both}
 use Rattle.fux_grid.specs.declared.cell.Cell.{Cell}
 use Rattle.fux_grid.specs.declared.exercise.Exercise.{Exercise}
 use Rattle.fux_grid.specs.Cells.{cell_in}
 use Rattle.fux_grid.specs.Columns.{newest_column}
-use Rattle.fux_grid.specs.Exercises.{bar_of, slot_of}
+use Rattle.fux_grid.specs.Exercises.{bar_of, is_mixed, slot_of}
 use Rattle.rule_law.specs.declared.table.Stands.TheVariants.{Anywhere, AtBars}
 use Rattle.rule_law.specs.Bars.{begins_bar}
 use Rattle.rule_law.specs.Forms.{IsOf, may_stand, pair_form, pair_sets_of}
@@ -16,16 +16,15 @@ use Rattle.rule_law.specs.Pairs.{sound_same_key}
 use Rattle.rule_law.specs.Quiet.{either_none, on_pair-none}
 use Rattle.rule_law.specs.Rulebooks.{KeepsLaws, KeepsRuleLaws, KeepsTollLaws}
 use Rattle.rule_law.specs.Terms.{clash, starts}
-use Rattle.rule_law.specs.Voices.{is_free}
-use Rattle.rule_law.specs.Ways.{holds_some_way}
-use Rattle.dissonance_rules.specs.Book.{at_once_row, book, is_late, late_count, late_first, late_row, may_settle, reach, rule_row, toll_row}
-use Rattle.dissonance_rules.specs.ClashLaws.{passing_enough_stays, resolution_enough_stays}
-use Rattle.dissonance_rules.specs.Clashes.{clash_enough, clash_row, clash_rule}
+use Rattle.dissonance_rules.specs.Book.{at_once_row, book, has_places_in, is_late, late_count, late_first, late_row, may_settle_in, passing_reach, rule_row, toll_row}
+use Rattle.dissonance_rules.specs.ClashLaws.{ahead_enough_stays, by_rule, passing_enough_stays}
+use Rattle.dissonance_rules.specs.Clashes.{clash_enough, clash_row, excuse_rule, is_told_later, pair_rule, passing_rule}
+use Rattle.rule_law.proofs.AtOnce.{own_within}
 use Rattle.dissonance_rules.specs.Locality.{at_once_is_local, clash_is_local, clash_settles_at_end, cost_is_local, cost_settles_at_end}
 use Rattle.dissonance_rules.proofs.Quiet.{quiet_rows, quiet_tolls}
 use Rattle.dissonance_rules.specs.Rows.{broken_in}
 use Rattle.rule_law.specs.Law.{at_once_settles}
-use Rattle.dissonance_rules.proofs.LatePlaces.{clash_places}
+use Rattle.dissonance_rules.proofs.LatePlaces.{clash_places, not_at_bars}
 
 -- ---- S11 and S14
 
@@ -60,63 +59,55 @@ at_once_keeps n = record {
   within = λ ex i. omega arith;
 }
 
--- ---- S15, S19, S20 and S21
+-- ---- the late rules
 
-module _ (n : ℕ) (ex : Exercise) where
-  clash_enough_stays : (voices : ℕ) → EnoughStays (clash_enough n ex voices)
-  clash_enough_stays voices = at (n == 15) (n == 20) refl refl
-    where
-      at : (a c : Bool) → (n == 15) ≡ a → (n == 20) ≡ c → EnoughStays (clash_enough n ex voices)
-      at true c e g = rw e (passing_enough_stays ex voices)
-      at false true e g = rw (e, g) (resolution_enough_stays ex)
-      at false false e g = rw (e, g) (λ i behind now ahead t h. refl)
-
-  none : (a b : Bool) → ((a && false) || (b && false)) ≡ false
-  none true true = refl
-  none true false = refl
-  none false true = refl
-  none false false = refl
+module _ (ex : Exercise) where
+  clash_enough_stays : (n voices : ℕ) → EnoughStays (clash_enough n ex voices)
+  clash_enough_stays n voices =
+      by_rule (λ r. EnoughStays (clash_enough r ex voices))
+      (passing_enough_stays ex voices) (passing_enough_stays ex voices) (ahead_enough_stays 4 ex)
+      (ahead_enough_stays 3 ex)
+      (λ r soon. rw (soon.no_passing, soon.no_excuse, soon.no_resolution, soon.no_disturbance)
+      (λ i behind now ahead t h. refl)) n
 
   -- within a bar nothing is suspended
-  suspended_at_bars : (voices i : ℕ) (behind : List (List Cell)) (now : List Cell) → may_stand (late_row n).stands ex i
-      ≡ false → clash_row n ex voices i behind now [] ≡ false
-  suspended_at_bars voices i behind now h =
-      on_pair-none ex _ voices (λ v w. rw (one_way v w, one_way w v) (none (is_free ex v) (is_free ex w)))
+  suspended_at_bars : (n voices i : ℕ) (behind : List (List Cell)) (now : List Cell)
+      → may_stand (late_row n).stands ex i ≡ false → clash_row n ex voices i behind now [] ≡ false
+  suspended_at_bars n voices i behind now = at (is_told_later n) refl
     where
-      at : (v w : ℕ) (a b c : Bool) → (n == 15) ≡ a → (n == 19) ≡ b → (n == 20) ≡ c
-          → may_stand (if a then Anywhere else AtBars) ex i ≡ false → clash_rule n ex i behind now [] v w ≡ false
-      at v w true b c e f g k = cc
-      at v w false true c e f g k = rw (e, f, k) refl
-      at v w false false true e f g k = rw (e, f, g, k) refl
-      at v w false false false e f g k = rw (e, f, g, k) refl
+      at : (b : Bool) → is_told_later n ≡ b → may_stand (if b then Anywhere else AtBars) ex i ≡ false
+          → clash_row n ex voices i behind now [] ≡ false
+      at true e h = cc
+      at false e h = not_at_bars n ex voices i behind now [] e h
 
-      one_way : (v w : ℕ) → clash_rule n ex i behind now [] v w ≡ false
-      one_way v w = at v w (n == 15) (n == 19) (n == 20) refl refl refl h
-
-  late_within : (i : ℕ) → late_first n ex i + late_count n ex i ≤ i + 1
-  late_within i = at (n == 15) (n == 20) (may_settle ex.species i) (slot_of i == 4) (begins_bar i)
+  pub late_within : (n i : ℕ) → late_first n ex i + late_count n ex i ≤ i + 1
+  late_within n i =
+      by_rule (λ r. late_first r ex i + late_count r ex i ≤ i + 1)
+      (open_within (passing_reach ex) (has_places_in passing_rule ex && may_settle_in ex i))
+      (open_within (passing_reach ex) (has_places_in excuse_rule ex && may_settle_in ex i))
+      (nth_within 4 (slot_of i == 4)) (nth_within 3 (is_mixed ex && (slot_of i == 3)))
+      (λ r soon. rw (soon.no_passing, soon.no_excuse, soon.no_resolution, soon.no_disturbance)
+      (own_within (begins_bar i) i)) n
     where
-      at : (a b c d e : Bool) → (if a then i - reach ex.species else (if b then i - 4 else i)) +
-          (if a then (if c then i + 1 - (i - reach ex.species) else 0)
-          else (if b then (if d then 1 else 0) else (if e then 1 else 0))) ≤ i + 1
-      at true b true d e = omega arith
-      at true b false d e = omega arith
-      at false true c true e = omega arith
-      at false true c false e = omega arith
-      at false false c d true = omega arith
-      at false false c d false = omega arith
+      open_within : (reach : ℕ) (b : Bool) → i - reach + (if b then i + 1 - (i - reach) else 0) ≤ i + 1
+      open_within reach true = omega arith
+      open_within reach false = omega arith
+
+      nth_within : (m : ℕ) (b : Bool) → i - m + (if b then 1 else 0) ≤ i + 1
+      nth_within m true = omega arith
+      nth_within m false = omega arith
 
 late_keeps : (n : ℕ) → KeepsRuleLaws (late_row n)
 late_keeps n = record {
   local = clash_is_local n;
-  stays = clash_enough_stays n;
+  stays = λ ex voices. clash_enough_stays ex n voices;
   ends = clash_settles_at_end n;
-  form = λ ex i behind now ahead. pair_form ex (holds_some_way ex (clash_rule n ex i behind now ahead));
-  stands = suspended_at_bars n;
+  form = λ ex i behind now ahead. pair_form ex (pair_rule n ex i behind now ahead);
+  stands = λ ex. suspended_at_bars ex n;
   at_once = λ e. cc;
   quiet = λ e. cc;
   places = λ e. clash_places n;
-  within = late_within n;
+  within = λ ex. late_within ex n;
 }
 
 pub rules_keep : (n : ℕ) → KeepsRuleLaws (rule_row n)

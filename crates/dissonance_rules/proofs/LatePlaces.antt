@@ -1,13 +1,13 @@
 -- At which places a column settles breaks of the late rules (`clash_places`).
 use Rattle.std.specs.Prelude.{◌≡◌, ◌≢◌, ℕ, zero, suc, ◌+◌, ◌-◌, ◌*◌, ◌%◌, ◌<◌, ◌≤◌, ◌==◌, ◌&&◌, ◌||◌, Bool, true, false, not, nat_le, nat_lt, List, [], ◌∷◌, ◌++◌, Option, Some, None, is_some, drop, length, slice_index_or, if◌then◌else◌, refl}
 use Rattle.std.proofs.Common.{ap, sym, ◌∙◌, subst, inl, inr, arith}
-use Rattle.std.proofs.lemmas.Bool.{and_parts, and_from, both_ways, cases_Bool, eqb-false, eqb-true, eq-eqb, cases_lt, leb-false, leb-true, lt-ltb, ltb-false, ltb-true, not-true, or_cases, or_left, or_parts}
+use Rattle.std.proofs.lemmas.Bool.{and_parts, and_from, both_ways, cases_Bool, cases_eq, eqb-false, eqb-true, eq-eqb, cases_lt, leb-false, leb-true, lt-ltb, ltb-false, ltb-true, ne_eqb, not-true, or_cases, or_left, or_parts}
 use Rattle.std.proofs.lemmas.List.{append-nil, drop-append-le, get_or_push, length-append, length-drop}
 use Rattle.std.proofs.Math.ListN.{get_or-append}
 use Rattle.fux_grid.specs.declared.cell.Cell.{Cell}
 use Rattle.fux_grid.specs.declared.exercise.Exercise.{Exercise}
 use Rattle.fux_grid.specs.Columns.{earlier, line}
-use Rattle.fux_grid.specs.Exercises.{columns_in, slot_of, species_in}
+use Rattle.fux_grid.specs.Exercises.{columns_in, is_mixed, slot_of, species_in}
 use Rattle.fux_grid.specs.Cells.{cell_in, first_of, onsets_from}
 use Rattle.fux_grid.specs.Menus.{IsInMenu}
 use Rattle.rule_law.specs.After.{onsets_after, second_of}
@@ -22,12 +22,15 @@ use Rattle.rule_law.specs.Terms.{clash, starts}
 use Rattle.rule_law.specs.Voices.{holds_of_pair, is_free, pair_of}
 use Rattle.rule_law.specs.Ways.{holds_some_way, on_some_way}
 use Rattle.rule_law.specs.Whole.{is_whole}
-use Rattle.dissonance_rules.specs.Book.{late_count, late_first, late_row, may_settle, passing_count, reach}
-use Rattle.dissonance_rules.specs.ClashLaws.{no_onsets, onsets_after-append}
+use Rattle.dissonance_rules.specs.Book.{has_places_in, late_count, late_first, late_row, may_settle_in, passing_count, passing_reach, reach}
+use Rattle.dissonance_rules.specs.ClashLaws.{IsAtOnce, by_rule, no_onsets, onsets_after-append}
 use Rattle.dissonance_rules.proofs.NotesAhead.{notes_come}
-use Rattle.dissonance_rules.proofs.OffBar.{settles_at_bar, starter_has_species, starter_is_free, starter_settles, starter_species}
-use Rattle.dissonance_rules.specs.Clashes.{clash_enough, clash_row, clash_rule, passing_enough, passing_rule, resolution_enough, resolution_rule}
-use Rattle.dissonance_rules.specs.Passing.{clashes_badly, has_notes_after, has_ornaments, is_good_note, is_open_clash, reaches_last_bar, starts_in_clash}
+use Rattle.dissonance_rules.proofs.OffBar.{cantus_holds, reaches_in, settles_at_bar, settles_in, starter_has_species, starter_is_free, starter_settles}
+use Rattle.dissonance_rules.specs.Clashes.{clash_enough, clash_row, clash_rule, disturbance_rule, enough_ahead, excuse_rule, is_told_later, newly_passing, passing_enough, passing_rule, resolution_rule}
+use Rattle.dissonance_rules.specs.Ligatures.{is_suspended}
+use Rattle.dissonance_rules.specs.Mixed.{clash_anew, clash_unexcused, is_disturbed, is_excused, starts_in_three}
+use Rattle.rule_law.specs.Pairs.{one_starts}
+use Rattle.dissonance_rules.specs.Passing.{clashes_badly, has_notes_after, has_ornaments, is_good_in, is_open_clash, reaches_last_bar, starts_in_clash}
 
 -- where S15 is open a note clashes, and neither enough notes nor the last bar came
 pub open_parts : (clashing notes last : Bool) → not (not clashing || notes || last) ≡ true
@@ -90,51 +93,130 @@ way_of ex test voices = at (pair_of voices) refl
               }
         ]
 
--- none of the three reads beyond its own column whether a note is held there at the beginning of a bar
-not_at_bars : (n : ℕ) (ex : Exercise) (voices i : ℕ) (behind : List (List Cell)) (now : List Cell)
-    (ahead : List (List Cell)) → (n == 15) ≡ false → begins_bar i ≡ false → clash_row n ex voices i behind now ahead
-    ≡ false
-not_at_bars n ex voices i behind now ahead other h =
-    on_pair-none ex _ voices (λ v w. rw (one_way v w, one_way w v) (none (is_free ex v) (is_free ex w)))
+-- none of the others reads beyond its own column whether a note is held there at the beginning of a bar
+pub not_at_bars : (n : ℕ) (ex : Exercise) (voices i : ℕ) (behind : List (List Cell)) (now : List Cell)
+    (ahead : List (List Cell)) → is_told_later n ≡ false → begins_bar i ≡ false
+    → clash_row n ex voices i behind now ahead ≡ false
+not_at_bars n ex voices i behind now ahead later h =
+    on_pair-none ex _ voices (λ v w. rw parts.1 (rw (one_way v w, one_way w v) (none (is_free ex v) (is_free ex w))))
   where
+    parts : ((n == 15) ≡ false) × ((n == 27) ≡ false)
+    parts = or_parts (n == 15) (n == 27) later
+
     none : (a b : Bool) → ((a && false) || (b && false)) ≡ false
     none true true = refl
     none true false = refl
     none false true = refl
     none false false = refl
 
-    at : (v w : ℕ) (b c : Bool) → (n == 19) ≡ b → (n == 20) ≡ c → clash_rule n ex i behind now ahead v w ≡ false
-    at v w true c f g = rw (other, f, h) refl
-    at v w false true f g = rw (other, f, g, h) refl
-    at v w false false f g = rw (other, f, g, h) refl
+    disturbed : (m t : Bool) → (m && false && t) ≡ false
+    disturbed true t = refl
+    disturbed false t = refl
+
+    at : (v w : ℕ) (b c d : Bool) → (n == 19) ≡ b → (n == 20) ≡ c → (n == 28) ≡ d
+        → clash_rule n ex i behind now ahead v w ≡ false
+    at v w true c d e f g = rw (parts.0, e, h) refl
+    at v w false true d e f g = rw (parts.0, e, f, h) refl
+    at v w false false true e f g =
+        rw (parts.0, e, f, g, h) (disturbed (is_mixed ex)
+        (starts_in_three (slice_index_or ahead 0 []) (slice_index_or ahead 1 []) (slice_index_or ahead 2 []) w))
+    at v w false false false e f g = rw (parts.0, e, f, g, h) refl
 
     one_way : (v w : ℕ) → clash_rule n ex i behind now ahead v w ≡ false
-    one_way v w = at v w (n == 19) (n == 20) refl refl
+    one_way v w = at v w (n == 19) (n == 20) (n == 28) refl refl refl
 
 -- so a break stands where a bar begins
-breaks_at_bar : (n : ℕ) (ex : Exercise) (voices : ℕ) (s : List (List Cell)) (i : ℕ) → (n == 15) ≡ false
+breaks_at_bar : (n : ℕ) (ex : Exercise) (voices : ℕ) (s : List (List Cell)) (i : ℕ) → is_told_later n ≡ false
     → reading_of (clash_row n ex voices) s i ≡ true → begins_bar i ≡ true
-breaks_at_bar n ex voices s i other h =
+breaks_at_bar n ex voices s i later h =
     elim (cases_Bool (begins_bar i)) [
       | inl e ↦ e
       | inr e ↦ absurd (both_ways (reading_of (clash_row n ex voices) s i)
-          (not_at_bars n ex voices i (earlier s i) (slice_index_or s i []) (drop (i + 1) s) other e) h)
+          (not_at_bars n ex voices i (earlier s i) (slice_index_or s i []) (drop (i + 1) s) later e) h)
     ]
 
 -- S19 and S21
-suspension_places : (n : ℕ) (ex : Exercise) (voices : ℕ) (p : List (List Cell)) (col : List Cell) (i : ℕ) → (n == 15)
-    ≡ false → (n == 20) ≡ false → newly_breaks (late_row n) ex voices p col i ≡ true
+suspension_places : (ex : Exercise) (voices : ℕ) (p : List (List Cell)) (col : List Cell) (i n : ℕ) → IsAtOnce n
+    → newly_breaks (late_row n) ex voices p col i ≡ true
     → IsAmong (length p) (if begins_bar (length p) then 1 else 0) i
-suspension_places n ex voices p col i e f h =
-    let own = breaks_at_own_place (late_row n) ex voices (λ i behind now ahead. rw (e, f) refl) p col i h in
+suspension_places ex voices p col i n soon h =
+    let later : is_told_later n ≡ false = rw (soon.no_passing, soon.no_excuse) refl in
+    let own = breaks_at_own_place (late_row n) ex voices
+    (λ i behind now ahead. rw (soon.no_passing, soon.no_excuse, soon.no_resolution, soon.no_disturbance) refl) p col i
+    h in
     let same : i ≡ length p = omega (arith, own.from, own.to) in
-    let bar : begins_bar i ≡ true = breaks_at_bar n ex voices (p ++ col ∷ []) i e
+    let bar : begins_bar i ≡ true = breaks_at_bar n ex voices (p ++ col ∷ []) i later
     (and_parts (newly (settled_by (clash_enough n ex voices)) p col i)
     (reading_of (clash_row n ex voices) (p ++ col ∷ []) i) h).1 in
     let P : Bool → Type 0 = λ b. IsAmong (length p) (if b then 1 else 0) i in
     subst P (sym (ap begins_bar (sym same) ∙ bar)) own
 
--- S15. Its breaks stand within bars, so they are of the voice that has the exercise's species
+-- ---- S15 and S27
+
+-- where one of them is broken a free voice starts a note within a bar, and the rule has places in the exercise
+record IsStart (ex : Exercise) (n i : ℕ) (now : List Cell) : Type 0 where
+  pub slot : slot_of i ≢ 0
+  pub places : has_places_in n ex ≡ true
+  pub v : ℕ
+  pub free : is_free ex v ≡ true
+  pub start : starts (cell_in now v) ≡ true
+
+passing_start : (ex : Exercise) (voices i : ℕ) (behind : List (List Cell)) (now : List Cell) (ahead : List (List Cell))
+    → clash_row passing_rule ex voices i behind now ahead ≡ true → IsStart ex passing_rule i now
+passing_start ex voices i behind now ahead h =
+    let way = way_of ex (clashes_badly ex i behind now ahead) voices h in
+    let bad = and_parts (not (is_mixed ex) && not (begins_bar i) && starts_in_clash now way.v way.w)
+    (not (is_good_in ex i behind now ahead way.v)) way.passes in
+    let clashing = and_parts (not (is_mixed ex) && not (begins_bar i)) (starts_in_clash now way.v way.w) bad.0 in
+    let within = and_parts (not (is_mixed ex)) (not (begins_bar i)) clashing.0 in
+    record {
+      slot = eqb-false (slot_of i) 0 (not-true (begins_bar i) within.1);
+      places = within.0;
+      v = way.v;
+      free = way.free;
+      start = (and_parts (starts (cell_in now way.v)) (clash now way.v way.w) clashing.1).0;
+    }
+
+excuse_start : (ex : Exercise) (voices i : ℕ) (behind : List (List Cell)) (now : List Cell) (ahead : List (List Cell))
+    → IsInMenu ex i now → clash_row excuse_rule ex voices i behind now ahead ≡ true → IsStart ex excuse_rule i now
+excuse_start ex voices i behind now ahead menu = at (pair_of voices)
+  where
+    test : ℕ → ℕ → Bool
+    test = clash_unexcused ex i behind now ahead
+
+    free_start : slot_of i ≢ 0 → is_mixed ex ≡ true → (v : ℕ) → starts (cell_in now v) ≡ true → IsStart ex excuse_rule i now
+    free_start slot mixed v start =
+        elim (cases_eq v ex.cantus_voice) [
+          | inl cantus ↦ absurd (both_ways (starts (cell_in now v)) (cantus_holds ex v i now cantus menu slot) start)
+          | inr other ↦ record {
+            slot = slot;
+            places = mixed;
+            v = v;
+            free = ap not (ne_eqb v ex.cantus_voice other);
+            start = start;
+          }
+        ]
+
+    of_two : (v w : ℕ) → clash_unexcused ex i behind now ahead v w ≡ true → IsStart ex excuse_rule i now
+    of_two v w h =
+        let broken = and_parts (is_mixed ex && clash_anew i now v w)
+        (not (is_excused ex i behind now ahead v || is_excused ex i behind now ahead w)) h in
+        let mixed = and_parts (is_mixed ex) (clash_anew i now v w) broken.0 in
+        let anew = and_parts (not (begins_bar i) && clash now v w) (one_starts now v w) mixed.1 in
+        let within = and_parts (not (begins_bar i)) (clash now v w) anew.0 in
+        let slot : slot_of i ≢ 0 = eqb-false (slot_of i) 0 (not-true (begins_bar i) within.0) in
+        elim (or_cases (starts (cell_in now v)) (starts (cell_in now w)) anew.1) [
+          | inl first ↦ free_start slot mixed.0 v first
+          | inr second ↦ free_start slot mixed.0 w second
+        ]
+
+    at : (pair : Option (ℕ × ℕ)) → holds_of_pair ex (clash_unexcused ex i behind now ahead) pair ≡ true
+        → IsStart ex excuse_rule i now
+    at None h = cc
+    at (Some pair) h =
+        of_two pair.0 pair.1
+        (and_parts (nat_lt pair.1 ex.voices) (clash_unexcused ex i behind now ahead pair.0 pair.1) h).1
+
 module _ (ex : Exercise) (voices : ℕ) (p : List (List Cell)) (col : List Cell) (i : ℕ) (on : GoesOn ex p (col ∷ []))
   where
     abbrev grown : List (List Cell)
@@ -149,14 +231,14 @@ module _ (ex : Exercise) (voices : ℕ) (p : List (List Cell)) (col : List Cell)
     abbrev ahead : List (List Cell) → List (List Cell)
     ahead s = drop (i + 1) s
 
-    -- the newest column settles where a voice of the exercise's species starts a note in it
-    newest_settles : (v : ℕ) → is_free ex v ≡ true → species_in ex v ≡ ex.species → (species_in ex v == 1) ≡ false
-        → starts (cell_in col v) ≡ true → may_settle ex.species (length p) ≡ true
-    newest_settles v free same other start =
+    -- the newest column settles where a voice of another species than 1 starts a note in it
+    newest_settles : (v : ℕ) → is_free ex v ≡ true → (species_in ex v == 1) ≡ false → starts (cell_in col v) ≡ true
+        → may_settle_in ex (length p) ≡ true
+    newest_settles v free other start =
         let P : List Cell → Type 0 = λ c. IsInMenu ex (length p) c in
         let menu : IsInMenu ex (length p) col = subst P (get_or_push p col [] (length p) refl)
         (on.longer.menus (length p) (omega (arith, size))) in
-        sym (ap (λ n. may_settle n (length p)) same) ∙ starter_settles ex v (length p) col menu free start other
+        settles_in ex v other (length p) (starter_settles ex v (length p) col menu free start other)
 
     -- a way that was open before the newest column, and is closed with it
     module _ (within : i < length p) (slot : slot_of i ≢ 0) (v w : ℕ) (free : is_free ex v ≡ true)
@@ -184,21 +266,18 @@ module _ (ex : Exercise) (voices : ℕ) (p : List (List Cell)) (col : List Cell)
       other : (species_in ex v == 1) ≡ false
       other = starter_has_species ex v i (here p) menu free start slot
 
-      same_species : species_in ex v ≡ ex.species
-      same_species = starter_species ex v i (here p) menu free start other
-
       unended : length p ≤ 8 * (ex.bars - 1)
       unended =
           omega (arith, ltb-false (8 * (ex.bars - 1)) (i + 1 + length (ahead p)) neither.1, length-drop (i + 1) p, within)
 
-      near : length p ≤ i + reach ex.species
+      near : length p ≤ i + passing_reach ex
       near =
           elim (cases_lt (i + reach (species_in ex v)) (length p)) [
             | inl far ↦
                 absurd (both_ways (has_notes_after (species_in ex v) i v (ahead p)) neither.0
                 (notes_come ex p v on.orderly (starter_is_free ex v i (here p) menu free start) unended i other
                 (omega (arith, slot)) far))
-            | inr close ↦ let P : ℕ → Type 0 = λ n. length p ≤ i + reach n in subst P same_species close
+            | inr close ↦ reaches_in ex v other (length p) i close
           ]
 
       more_ahead : ahead grown ≡ ahead p ++ col ∷ []
@@ -219,10 +298,10 @@ module _ (ex : Exercise) (voices : ℕ) (p : List (List Cell)) (col : List Cell)
           alone zero k = silent
           alone (suc k) h = absurd (omega (arith, h))
 
-      settles : may_settle ex.species (length p) ≡ true
+      settles : may_settle_in ex (length p) ≡ true
       settles =
           elim (cases_Bool (starts (cell_in col v))) [
-            | inl e ↦ newest_settles v free same_species other e
+            | inl e ↦ newest_settles v free other e
             | inr e ↦ at (reaches_last_bar ex i (ahead grown)) refl (same_notes e)
           ]
         where
@@ -246,32 +325,33 @@ module _ (ex : Exercise) (voices : ℕ) (p : List (List Cell)) (col : List Cell)
               ∙ rw (parts.0, f, g) refl
 
           at : (b : Bool) → reaches_last_bar ex i (ahead grown) ≡ b → has_notes_after (species_in ex v) i v (ahead grown)
-              ≡ false → may_settle ex.species (length p) ≡ true
-          at true g f = settles_at_bar ex.species (length p) (sym (ap (λ n. n == 1) same_species) ∙ other) (begun g)
+              ≡ false → may_settle_in ex (length p) ≡ true
+          at true g f = settles_in ex v other (length p) (settles_at_bar (species_in ex v) (length p) other (begun g))
           at false g f = absurd (both_ways (is_open_clash ex i (here grown) (ahead grown) v w) closed (open_still f g))
 
-    among : length p ≤ i + reach ex.species → i ≤ length p → may_settle ex.species (length p) ≡ true
-        → IsAmong (length p - reach ex.species) (passing_count ex (length p)) i
-    among close early e =
-        let P : Bool → Type 0 = λ b. IsAmong (length p - reach ex.species)
-        (if b then length p + 1 - (length p - reach ex.species) else 0) i in
-        subst P (sym e) record { from = omega (arith, close); to = omega (arith, early, close) }
+    among : (n : ℕ) → has_places_in n ex ≡ true → length p ≤ i + passing_reach ex → i ≤ length p
+        → may_settle_in ex (length p) ≡ true
+        → IsAmong (length p - passing_reach ex) (passing_count n ex (length p)) i
+    among n places close early e =
+        let both : (has_places_in n ex && may_settle_in ex (length p)) ≡ true = rw (places, e) refl in
+        let P : Bool → Type 0 = λ b. IsAmong (length p - passing_reach ex)
+        (if b then length p + 1 - (length p - passing_reach ex) else 0) i in
+        subst P (sym both) record { from = omega (arith, close); to = omega (arith, early, close) }
 
-    passing_places : newly_breaks (late_row passing_rule) ex voices p col i ≡ true
-        → IsAmong (length p - reach ex.species) (passing_count ex (length p)) i
-    passing_places h =
-        let parts = and_parts (newly (settled_by (passing_enough ex voices)) p col i)
-        (reading_of (clash_row passing_rule ex voices) grown i) h in
-        let way = way_of ex (clashes_badly ex i (earlier grown i) (here grown) (ahead grown)) voices parts.1 in
-        let bad = and_parts (not (begins_bar i) && starts_in_clash (here grown) way.v way.w)
-        (not (is_good_note (species_in ex way.v) i (earlier grown i) (here grown) (ahead grown) way.v)) way.passes in
-        let clashing = and_parts (not (begins_bar i)) (starts_in_clash (here grown) way.v way.w) bad.0 in
-        let start = (and_parts (starts (cell_in (here grown) way.v)) (clash (here grown) way.v way.w) clashing.1).0 in
-        let slot : slot_of i ≢ 0 = eqb-false (slot_of i) 0 (not-true (begins_bar i) clashing.0) in
+    -- the place is one that the list with the newest column has
+    placed : newly_passing ex voices p col i ≡ true → i < length grown
+    placed h =
         let now_then = and_parts (settled_by (passing_enough ex voices) grown i)
-        (not (settled_by (passing_enough ex voices) p i)) parts.0 in
+        (not (settled_by (passing_enough ex voices) p i)) h in
+        ltb-true i (length grown)
+        (and_parts (nat_lt i (length grown)) (reading_of (passing_enough ex voices) grown i) now_then.0).0
+
+    told_places : (n : ℕ) → newly_passing ex voices p col i ≡ true → IsStart ex n i (here grown)
+        → IsAmong (length p - passing_reach ex) (passing_count n ex (length p)) i
+    told_places n h there =
+        let now_then = and_parts (settled_by (passing_enough ex voices) grown i)
+        (not (settled_by (passing_enough ex voices) p i)) h in
         let settled = and_parts (nat_lt i (length grown)) (reading_of (passing_enough ex voices) grown i) now_then.0 in
-        let placed : i < length grown = ltb-true i (length grown) settled.0 in
         elim (cases_lt i (length p)) [
           | inl within ↦
               let unsettled : settled_by (passing_enough ex voices) p i ≡ false = not-true _ now_then.1 in
@@ -279,18 +359,17 @@ module _ (ex : Exercise) (voices : ℕ) (p : List (List Cell)) (col : List Cell)
               ≡ true = still_open within unsettled in
               let one = way_of ex (is_open_clash ex i (here p) (ahead p)) voices opened in
               let closed = one.fails (is_open_clash ex i (here grown) (ahead grown)) (not-true _ settled.1) in
-              among (near within slot one.v one.w one.free one.passes closed) (omega (arith, within))
-              (settles within slot one.v one.w one.free one.passes closed)
+              among n there.places (near within there.slot one.v one.w one.free one.passes closed)
+              (omega (arith, within))
+              (settles within there.slot one.v one.w one.free one.passes closed)
           | inr past ↦
-              let last : i ≡ length p = omega (arith, past, placed, size) in
-              let menu : IsInMenu ex i (here grown) = on.longer.menus i placed in
-              let other : (species_in ex way.v == 1)
-              ≡ false = starter_has_species ex way.v i (here grown) menu way.free start slot in
-              let same : species_in ex way.v
-              ≡ ex.species = starter_species ex way.v i (here grown) menu way.free start other in
-              among (omega (arith, last)) (omega (arith, last))
-              (ap (may_settle ex.species) (sym last) ∙ sym (ap (λ n. may_settle n i) same)
-              ∙ starter_settles ex way.v i (here grown) menu way.free start other)
+              let last : i ≡ length p = omega (arith, past, placed h, size) in
+              let menu : IsInMenu ex i (here grown) = on.longer.menus i (placed h) in
+              let other : (species_in ex there.v == 1)
+              ≡ false = starter_has_species ex there.v i (here grown) menu there.free there.start there.slot in
+              among n there.places (omega (arith, last)) (omega (arith, last))
+              (ap (may_settle_in ex) (sym last) ∙ settles_in ex there.v other i
+              (starter_settles ex there.v i (here grown) menu there.free there.start other))
         ]
       where
         still_open : i < length p → settled_by (passing_enough ex voices) p i ≡ false
@@ -302,80 +381,128 @@ module _ (ex : Exercise) (voices : ℕ) (p : List (List Cell)) (col : List Cell)
                   (and_from (nat_lt i (length p)) _ (lt-ltb i (length p) within) (ap not e)))
             ]
 
--- S20
-resolution_places : (ex : Exercise) (voices : ℕ) (p : List (List Cell)) (col : List Cell) (i : ℕ)
-    → GoesOn ex p (col ∷ []) → newly_breaks (late_row resolution_rule) ex voices p col i ≡ true
-    → IsAmong (length p - 4) (if slot_of (length p) == 4 then 1 else 0) i
-resolution_places ex voices p col i on h =
-    elim (or_cases (nat_le 4 (length (drop (i + 1) s))) (is_whole ex i (drop (i + 1) s)) enough) [
-      | inl four ↦ found (at_fourth (leb-true 4 (length (drop (i + 1) s)) four))
-      | inr whole ↦ absurd (at_end (leb-true (columns_in ex) (i + 1 + length (drop (i + 1) s)) whole))
-    ]
-  where
-    s : List (List Cell)
-    s = p ++ col ∷ []
+    passing_places : newly_breaks (late_row passing_rule) ex voices p col i ≡ true
+        → IsAmong (length p - passing_reach ex) (passing_count passing_rule ex (length p)) i
+    passing_places h =
+        let parts = and_parts (newly_passing ex voices p col i) (reading_of (clash_row passing_rule ex voices) grown i) h
+        in
+        told_places passing_rule parts.0
+        (passing_start ex voices i (earlier grown i) (here grown) (ahead grown) parts.1)
 
-    parts : (newly (settled_by (resolution_enough ex)) p col i ≡ true)
-        × (reading_of (clash_row resolution_rule ex voices) s i ≡ true)
-    parts = and_parts (newly (settled_by (resolution_enough ex)) p col i) (reading_of (clash_row resolution_rule ex voices) s i) h
+    excuse_places : newly_breaks (late_row excuse_rule) ex voices p col i ≡ true
+        → IsAmong (length p - passing_reach ex) (passing_count excuse_rule ex (length p)) i
+    excuse_places h =
+        let parts = and_parts (newly_passing ex voices p col i) (reading_of (clash_row excuse_rule ex voices) grown i) h
+        in
+        told_places excuse_rule parts.0
+        (excuse_start ex voices i (earlier grown i) (here grown) (ahead grown) (on.longer.menus i (placed parts.0))
+        parts.1)
 
-    bar : i % 8 ≡ 0
-    bar = eqb-true (i % 8) 0 (breaks_at_bar 20 ex voices s i refl parts.1)
+-- ---- S20 and S28
 
-    now_then : (settled_by (resolution_enough ex) s i ≡ true) × (not (settled_by (resolution_enough ex) p i) ≡ true)
-    now_then = and_parts (settled_by (resolution_enough ex) s i) (not (settled_by (resolution_enough ex) p i)) parts.0
+-- what stands where a bar begins, and is settled so many columns later, is settled by the column at that slot
+module _ (n : ℕ) (short : n < 7) (ex : Exercise) (p : List (List Cell)) (col : List Cell) (i : ℕ)
+    (on : GoesOn ex p (col ∷ [])) (newly_there : newly (settled_by (enough_ahead n ex)) p col i ≡ true)
+    (begins : begins_bar i ≡ true) where
+  abbrev s : List (List Cell)
+  s = p ++ col ∷ []
 
-    settled : (nat_lt i (length s) ≡ true) × (reading_of (resolution_enough ex) s i ≡ true)
-    settled = and_parts (nat_lt i (length s)) (reading_of (resolution_enough ex) s i) now_then.0
+  bar : i % 8 ≡ 0
+  bar = eqb-true (i % 8) 0 begins
 
-    enough : (nat_le 4 (length (drop (i + 1) s)) || is_whole ex i (drop (i + 1) s)) ≡ true
-    enough = settled.1
+  now_then : (settled_by (enough_ahead n ex) s i ≡ true) × (not (settled_by (enough_ahead n ex) p i) ≡ true)
+  now_then = and_parts (settled_by (enough_ahead n ex) s i) (not (settled_by (enough_ahead n ex) p i)) newly_there
 
-    -- in the prefix fewer than four columns came after the place
-    few : i < length p → length p ≤ i + 4
-    few here =
-        elim (cases_Bool (nat_le 4 (length (drop (i + 1) p)))) [
-          | inl e ↦ absurd (both_ways (settled_by (resolution_enough ex) p i)
-              (not-true (settled_by (resolution_enough ex) p i) now_then.1)
-              (and_from (nat_lt i (length p)) (reading_of (resolution_enough ex) p i) (lt-ltb i (length p) here)
-              (or_left (nat_le 4 (length (drop (i + 1) p))) (is_whole ex i (drop (i + 1) p)) e)))
-          | inr e ↦ omega (arith, leb-false 4 (length (drop (i + 1) p)) e, length-drop (i + 1) p)
-        ]
+  settled : (nat_lt i (length s) ≡ true) × (reading_of (enough_ahead n ex) s i ≡ true)
+  settled = and_parts (nat_lt i (length s)) (reading_of (enough_ahead n ex) s i) now_then.0
 
-    size : length s ≡ length p + 1
-    size = omega (arith, length-append p (col ∷ []))
+  -- in the prefix fewer columns came after the place
+  few : i < length p → length p ≤ i + n
+  few here =
+      elim (cases_Bool (nat_le n (length (drop (i + 1) p)))) [
+        | inl e ↦ absurd (both_ways (settled_by (enough_ahead n ex) p i)
+            (not-true (settled_by (enough_ahead n ex) p i) now_then.1)
+            (and_from (nat_lt i (length p)) (reading_of (enough_ahead n ex) p i) (lt-ltb i (length p) here)
+            (or_left (nat_le n (length (drop (i + 1) p))) (is_whole ex i (drop (i + 1) p)) e)))
+        | inr e ↦ omega (arith, leb-false n (length (drop (i + 1) p)) e, length-drop (i + 1) p)
+      ]
 
-    at_fourth : 4 ≤ length (drop (i + 1) s) → length p ≡ i + 4
-    at_fourth four =
-        let later : i + 4 ≤ length p = omega (arith, four, length-drop (i + 1) s, size) in
-        omega (arith, later, few (omega (arith, later)))
+  size_then : length s ≡ length p + 1
+  size_then = omega (arith, length-append p (col ∷ []))
 
-    at_end : columns_in ex ≤ i + 1 + length (drop (i + 1) s) → ⊥
-    at_end whole =
-        let here : i ≤ length p = omega (arith, ltb-true i (length s) settled.0, size) in
-        let all : length p + 1 ≡ 8 * ex.bars = omega (arith, whole, length-drop (i + 1) s, size, here, on.longer.few) in
-        elim (cases_lt i (length p)) [
-          | inl before ↦ omega (arith, all, few before, bar, before)
-          | inr last ↦ omega (arith, all, last, here, bar)
-        ]
+  at_end : columns_in ex ≤ i + 1 + length (drop (i + 1) s) → ⊥
+  at_end whole =
+      let early : i ≤ length p = omega (arith, ltb-true i (length s) settled.0, size_then) in
+      let all : length p + 1 ≡ 8 * ex.bars = omega
+      (arith, whole, length-drop (i + 1) s, size_then, early, on.longer.few) in
+      elim (cases_lt i (length p)) [
+        | inl before ↦ omega (arith, all, few before, bar, before, short)
+        | inr last ↦ omega (arith, all, last, early, bar)
+      ]
 
-    found : length p ≡ i + 4 → IsAmong (length p - 4) (if slot_of (length p) == 4 then 1 else 0) i
-    found e =
-        let slot : length p % 8 ≡ 4 = omega (arith, e, bar) in
-        let P : Bool → Type 0 = λ b. IsAmong (length p - 4) (if b then 1 else 0) i in
-        subst P (sym (eq-eqb (length p % 8) 4 slot)) record { from = omega (arith, e); to = omega (arith, e) }
+  -- so many columns came after it, and no more
+  pub settled_by_nth : length p ≡ i + n
+  settled_by_nth =
+      elim (or_cases (nat_le n (length (drop (i + 1) s))) (is_whole ex i (drop (i + 1) s)) settled.1) [
+        | inl many ↦ by_many (leb-true n (length (drop (i + 1) s)) many)
+        | inr whole ↦ absurd (at_end (leb-true (columns_in ex) (i + 1 + length (drop (i + 1) s)) whole))
+      ]
+    where
+      by_many : n ≤ length (drop (i + 1) s) → length p ≡ i + n
+      by_many many =
+          let early : i ≤ length p = omega (arith, ltb-true i (length s) settled.0, size_then) in
+          elim (cases_lt i (length p)) [
+            | inl before ↦ omega (arith, many, length-drop (i + 1) s, size_then, few before)
+            | inr last ↦ omega (arith, many, length-drop (i + 1) s, size_then, last, early)
+          ]
+
+  pub nth_places : (test : Bool) → test ≡ true
+      → IsAmong (length p - n) (if test && (slot_of (length p) == n) then 1 else 0) i
+  nth_places test passes =
+      let slot : length p % 8 ≡ n = omega (arith, settled_by_nth, bar, short) in
+      let both : (test && (slot_of (length p) == n)) ≡ true = and_from test _ passes (eq-eqb (length p % 8) n slot) in
+      let P : Bool → Type 0 = λ b. IsAmong (length p - n) (if b then 1 else 0) i in
+      subst P (sym both) record { from = omega (arith, settled_by_nth); to = omega (arith, settled_by_nth) }
+
+-- where S28 is broken, species are mixed
+mixed_if_disturbed : (ex : Exercise) (voices i : ℕ) (behind : List (List Cell)) (now : List Cell)
+    (ahead : List (List Cell)) → clash_row disturbance_rule ex voices i behind now ahead ≡ true → is_mixed ex ≡ true
+mixed_if_disturbed ex voices i behind now ahead h =
+    let way = way_of ex (is_disturbed ex i now ahead) voices h in
+    let parts = and_parts (is_mixed ex && is_suspended i now way.v way.w)
+    (starts_in_three (slice_index_or ahead 0 []) (slice_index_or ahead 1 []) (slice_index_or ahead 2 []) way.w)
+    way.passes in
+    (and_parts (is_mixed ex) (is_suspended i now way.v way.w) parts.0).0
 
 pub clash_places : (n : ℕ) (ex : Exercise) (voices : ℕ) (p : List (List Cell)) (col : List Cell) (i : ℕ)
     → GoesOn ex p (col ∷ []) → newly_breaks (late_row n) ex voices p col i ≡ true
     → IsAmong (late_first n ex (length p)) (late_count n ex (length p)) i
-clash_places n ex voices p col i on h = at (n == 15) (n == 20) refl refl
+clash_places n ex voices p col i on =
+    by_rule Places (passing_places ex voices p col i on) (excuse_places ex voices p col i on) resolution disturbance
+    (λ m soon h. rw (soon.no_passing, soon.no_excuse, soon.no_resolution, soon.no_disturbance)
+    (suspension_places ex voices p col i m soon h)) n
   where
     Places : ℕ → Type 0
     Places m = newly_breaks (late_row m) ex voices p col i ≡ true
         → IsAmong (late_first m ex (length p)) (late_count m ex (length p)) i
 
-    at : (a b : Bool) → (n == 15) ≡ a → (n == 20) ≡ b
-        → IsAmong (late_first n ex (length p)) (late_count n ex (length p)) i
-    at true b e f = subst Places (sym (eqb-true n 15 e)) (passing_places ex voices p col i on) h
-    at false true e f = subst Places (sym (eqb-true n 20 f)) (resolution_places ex voices p col i on) h
-    at false false e f = rw (e, f) (suspension_places n ex voices p col i e f h)
+    parts_of : (m : ℕ) → newly_breaks (late_row m) ex voices p col i ≡ true
+        → (newly (settled_by (clash_enough m ex voices)) p col i ≡ true)
+        × (reading_of (clash_row m ex voices) (p ++ col ∷ []) i ≡ true)
+    parts_of m h =
+        and_parts (newly (settled_by (clash_enough m ex voices)) p col i)
+        (reading_of (clash_row m ex voices) (p ++ col ∷ []) i) h
+
+    resolution : Places resolution_rule
+    resolution h =
+        let parts = parts_of resolution_rule h in
+        nth_places 4 (omega arith) ex p col i on parts.0
+        (breaks_at_bar resolution_rule ex voices (p ++ col ∷ []) i refl parts.1) true refl
+
+    disturbance : Places disturbance_rule
+    disturbance h =
+        let parts = parts_of disturbance_rule h in
+        nth_places 3 (omega arith) ex p col i on parts.0
+        (breaks_at_bar disturbance_rule ex voices (p ++ col ∷ []) i refl parts.1) (is_mixed ex)
+        (mixed_if_disturbed ex voices i (earlier (p ++ col ∷ []) i) (slice_index_or (p ++ col ∷ []) i [])
+        (drop (i + 1) (p ++ col ∷ [])) parts.1)

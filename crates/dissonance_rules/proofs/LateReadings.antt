@@ -7,9 +7,9 @@ use Rattle.std.proofs.lemmas.List.{length-append, length-drop, take_all, take_at
 use Rattle.fux_grid.specs.declared.cell.Cell.{Cell}
 use Rattle.fux_grid.specs.declared.exercise.Exercise.{Exercise}
 use Rattle.fux_grid.specs.Cells.{newest}
-use Rattle.fux_grid.specs.Exercises.{columns_in, slot_of}
+use Rattle.fux_grid.specs.Exercises.{columns_in, is_mixed, slot_of}
 use Rattle.rule_law.proofs.AroundLemmas.{kept_after}
-use Rattle.rule_law.proofs.AtOnce.{newly_there}
+use Rattle.rule_law.proofs.AtOnce.{among_own, newly_there}
 use Rattle.rule_law.specs.Around.{AreKeptFrom}
 use Rattle.rule_law.specs.Bars.{begins_bar}
 use Rattle.rule_law.specs.Growth.{newly}
@@ -21,10 +21,12 @@ use Rattle.rule_law.specs.Voices.{holds_of_pair, is_free, pair_of}
 use Rattle.rule_law.specs.Ways.{holds_some_way, on_some_way}
 use Rattle.rule_law.specs.Whole.{is_whole}
 use Rattle.rule_law.specs.declared.newest.NewestColumns.{NewestColumns}
-use Rattle.dissonance_rules.specs.Book.{at_once_row, is_late, late_count, late_first, late_row, rule_row}
-use Rattle.dissonance_rules.specs.Clashes.{clash_enough, clash_row, passing_enough, resolution_enough}
+use Rattle.dissonance_rules.specs.Book.{at_once_row, is_late, late_count, late_first, late_row, passing_reach, rule_row}
+use Rattle.dissonance_rules.specs.ClashLaws.{by_rule}
+use Rattle.dissonance_rules.specs.Clashes.{clash_enough, clash_row, clash_rule, enough_ahead, is_told_later, pair_rule, passing_enough}
 use Rattle.dissonance_rules.specs.Passing.{is_open_clash}
 use Rattle.dissonance_rules.proofs.BookLaws.{rules_keep}
+use Rattle.dissonance_rules.proofs.OffBar.{passing_reach-bound}
 
 -- ---- a late row
 
@@ -88,6 +90,14 @@ module _ (ex : Exercise) (voices : ℕ) (p : List (List Cell)) (col : List Cell)
         twice true = refl
         twice false = refl
 
+-- S15 and S27 are newly settled where that is told
+pub newly-told : (n : ℕ) (ex : Exercise) (voices : ℕ) (p : List (List Cell)) (col : List Cell) (i : ℕ) → is_told_later n
+    ≡ true
+    → newly (settled_by (clash_enough n ex voices)) p col i ≡ newly (settled_by (passing_enough ex voices)) p col i
+newly-told n ex voices p col i told =
+    ap (λ b. newly (settled_by (if b then passing_enough ex voices
+    else (if n == 20 then enough_ahead 4 ex else (if n == 28 then enough_ahead 3 ex else at_once)))) p col i) told
+
 -- ---- a place at which the newest column may settle a break
 
 module _ (n : ℕ) (ex : Exercise) (p : List (List Cell)) (col : List Cell) (i : ℕ) (on : GoesOn ex p (col ∷ [])) where
@@ -95,15 +105,12 @@ module _ (n : ℕ) (ex : Exercise) (p : List (List Cell)) (col : List Cell) (i :
   size_of = length-append p (col ∷ [])
 
   first_near : length p ≤ late_first n ex (length p) + 19
-  first_near = at (n == 15) (n == 20) ((ex.species == 2) || (ex.species == 3)) (ex.species == 4)
+  first_near =
+      by_rule (λ r. length p ≤ late_first r ex (length p) + 19) told told (omega arith) (omega arith)
+      (λ r soon. rw (soon.no_passing, soon.no_excuse, soon.no_resolution, soon.no_disturbance) (omega arith)) n
     where
-      at : (a b c d : Bool) → length p ≤ (if a then length p - (if c then 4 else (if d then 8 else 19))
-          else (if b then length p - 4 else length p)) + 19
-      at true b true d = omega arith
-      at true b false true = omega arith
-      at true b false false = omega arith
-      at false true c d = omega arith
-      at false false c d = omega arith
+      told : length p ≤ length p - passing_reach ex + 19
+      told = omega (arith, passing_reach-bound ex)
 
   pub placed : IsTrue (rule_row n).late → IsAmong ((rule_row n).first ex (length p)) ((rule_row n).count ex (length p))
       i → i ≤ length p
@@ -118,53 +125,52 @@ module _ (n : ℕ) (ex : Exercise) (p : List (List Cell)) (col : List Cell) (i :
       ≡ late_first n ex (length p) = ap (λ (r : RuleRow). r.first ex (length p)) (row_is n late) in
       kept_after ex p col on kept (i - 3) newest (omega (arith, first_near, first, among.from))
 
-  -- what S19, S20 and S21 may settle at their places is settled there by the newest column
-  newly_at_place : (voices : ℕ) → (n == 15) ≡ false
+  -- what is settled so many columns later is settled there by the newest column
+  newly_at_nth : (m : ℕ) → 0 < m → length p ≡ i + m → newly (settled_by (enough_ahead m ex)) p col i ≡ true
+  newly_at_nth m some e =
+      let now_there : nat_lt i (length (p ++ col ∷ []))
+      ≡ true = lt-ltb i (length (p ++ col ∷ [])) (omega (arith, e, size_of)) in
+      let many : nat_le m (length (drop (i + 1) (p ++ col ∷ [])))
+      ≡ true = le-leb m (length (drop (i + 1) (p ++ col ∷ [])))
+      (omega (arith, e, size_of, length-drop (i + 1) (p ++ col ∷ []))) in
+      let few : nat_le m (length (drop (i + 1) p))
+      ≡ false = lt-leb m (length (drop (i + 1) p)) (omega (arith, e, some, length-drop (i + 1) p)) in
+      let part : is_whole ex i (drop (i + 1) p)
+      ≡ false = lt-leb (columns_in ex) (i + 1 + length (drop (i + 1) p))
+      (omega (arith, e, some, size_of, length-drop (i + 1) p, on.longer.few)) in
+      ap (λ b. (b && reading_of (enough_ahead m ex) (p ++ col ∷ []) i)
+      && not (settled_by (enough_ahead m ex) p i)) now_there
+      ∙ ap (λ b. (b || is_whole ex i (drop (i + 1) (p ++ col ∷ []))) && not (settled_by (enough_ahead m ex) p i))
+      many
+      ∙ ap (λ b. not (nat_lt i (length p) && (b || is_whole ex i (drop (i + 1) p)))) few
+      ∙ ap (λ b. not (nat_lt i (length p) && b)) part
+      ∙ ap not (and_right (nat_lt i (length p)) false refl)
+
+  -- what the rules but S15 and S27 may settle at their places is settled there by the newest column
+  newly_at_place : (voices : ℕ) → is_told_later n ≡ false
       → IsAmong (late_first n ex (length p)) (late_count n ex (length p)) i
       → newly (settled_by (clash_enough n ex voices)) p col i ≡ true
-  newly_at_place voices other = at (n == 20) refl
+  newly_at_place voices =
+      by_rule Newly (λ e among. cc) (λ e among. cc)
+      (λ e among. newly_at_nth 4 (omega arith) (at_nth 4 true among))
+      (λ e among. newly_at_nth 3 (omega arith) (at_nth 3 (is_mixed ex) among))
+      (λ r soon e. rw (soon.no_passing, soon.no_excuse, soon.no_resolution, soon.no_disturbance)
+      (λ among. ap (newly (settled_by at_once) p col) (among_own (begins_bar (length p)) i (length p) among)
+      ∙ newly_there at_once (λ i behind now ahead. refl) p col)) n
     where
-      at_four : IsAmong (length p - 4) (if slot_of (length p) == 4 then 1 else 0) i → length p ≡ i + 4
-      at_four among = pick (slot_of (length p) == 4) refl among
+      Newly : ℕ → Type 0
+      Newly r = is_told_later r ≡ false → IsAmong (late_first r ex (length p)) (late_count r ex (length p)) i
+          → newly (settled_by (clash_enough r ex voices)) p col i ≡ true
+
+      at_nth : (m : ℕ) (test : Bool) → IsAmong (length p - m) (if test && (slot_of (length p) == m) then 1 else 0) i
+          → length p ≡ i + m
+      at_nth m true among = pick (slot_of (length p) == m) refl among
         where
-          pick : (b : Bool) → (slot_of (length p) == 4) ≡ b → IsAmong (length p - 4) (if b then 1 else 0) i → length p
-              ≡ i + 4
-          pick true e k = omega (arith, eqb-true (slot_of (length p)) 4 e, k.from, k.to)
+          pick : (b : Bool) → (slot_of (length p) == m) ≡ b → IsAmong (length p - m) (if b then 1 else 0) i → length p
+              ≡ i + m
+          pick true e k = omega (arith, eqb-true (slot_of (length p)) m e, k.from, k.to)
           pick false e k = absurd (omega (arith, k.from, k.to))
-
-      at_own : IsAmong (length p) (if begins_bar (length p) then 1 else 0) i → i ≡ length p
-      at_own among = pick (begins_bar (length p)) among
-        where
-          pick : (b : Bool) → IsAmong (length p) (if b then 1 else 0) i → i ≡ length p
-          pick true k = omega (arith, k.from, k.to)
-          pick false k = absurd (omega (arith, k.from, k.to))
-
-      at_fourth : length p ≡ i + 4 → newly (settled_by (resolution_enough ex)) p col i ≡ true
-      at_fourth e =
-          let now_there : nat_lt i (length (p ++ col ∷ []))
-          ≡ true = lt-ltb i (length (p ++ col ∷ [])) (omega (arith, e, size_of)) in
-          let four : nat_le 4 (length (drop (i + 1) (p ++ col ∷ [])))
-          ≡ true = le-leb 4 (length (drop (i + 1) (p ++ col ∷ [])))
-          (omega (arith, e, size_of, length-drop (i + 1) (p ++ col ∷ []))) in
-          let three : nat_le 4 (length (drop (i + 1) p))
-          ≡ false = lt-leb 4 (length (drop (i + 1) p)) (omega (arith, e, length-drop (i + 1) p)) in
-          let part : is_whole ex i (drop (i + 1) p)
-          ≡ false = lt-leb (columns_in ex) (i + 1 + length (drop (i + 1) p))
-          (omega (arith, e, size_of, length-drop (i + 1) p, on.longer.few)) in
-          ap (λ b. (b && reading_of (resolution_enough ex) (p ++ col ∷ []) i)
-          && not (settled_by (resolution_enough ex) p i)) now_there
-          ∙ ap (λ b. (b || is_whole ex i (drop (i + 1) (p ++ col ∷ []))) && not (settled_by (resolution_enough ex) p i))
-          four
-          ∙ ap (λ b. not (nat_lt i (length p) && (b || is_whole ex i (drop (i + 1) p)))) three
-          ∙ ap (λ b. not (nat_lt i (length p) && b)) part
-          ∙ ap not (and_right (nat_lt i (length p)) false refl)
-
-      at : (b : Bool) → (n == 20) ≡ b → IsAmong (late_first n ex (length p)) (late_count n ex (length p)) i
-          → newly (settled_by (clash_enough n ex voices)) p col i ≡ true
-      at true e = rw (other, e) (λ among. at_fourth (at_four among))
-      at false e =
-          rw (other, e) (λ among.
-          ap (newly (settled_by at_once) p col) (at_own among) ∙ newly_there at_once (λ i behind now ahead. refl) p col)
+      at_nth m false among = absurd (omega (arith, among.from, among.to))
 
   module _ (voices : ℕ) (late : IsTrue (rule_row n).late) where
     abbrev Breaks : Bool
@@ -179,25 +185,40 @@ module _ (n : ℕ) (ex : Exercise) (p : List (List Cell)) (col : List Cell) (i :
     pub unbroken : false ≡ there → false ≡ Breaks
     unbroken h = sym (as_late ∙ and_right (newly (settled_by (clash_enough n ex voices)) p col i) there (sym h))
 
-    pub broken_at_place : true ≡ there → n ≢ 15
+    pub broken_at_place : true ≡ there → is_told_later n ≡ false
         → IsAmong ((rule_row n).first ex (length p)) ((rule_row n).count ex (length p)) i → true ≡ Breaks
     broken_at_place h other among =
         let P : RuleRow → Type 0 = λ r. IsAmong (r.first ex (length p)) (r.count ex (length p)) i in
         sym (as_late ∙ and_from (newly (settled_by (clash_enough n ex voices)) p col i) there
-        (newly_at_place voices (ne_eqb n 15 other) (subst P (row_is n late) among)) (sym h))
+        (newly_at_place voices other (subst P (row_is n late) among)) (sym h))
 
-    pub broken_if_newly : (r : Bool) → true ≡ there → n ≡ 15 → r ≡ newly (settled_by (passing_enough ex voices)) p col i
-        → r ≡ Breaks
-    broken_if_newly r h is newly_is =
-        let same : newly (settled_by (clash_enough n ex voices)) p col i
-        ≡ newly (settled_by (passing_enough ex voices)) p col i = ap
-        (λ k. newly (settled_by (clash_enough k ex voices)) p col i) is in
-        newly_is ∙ sym same ∙ with_true (newly (settled_by (clash_enough n ex voices)) p col i) there (sym h)
+    pub broken_if_newly : (r : Bool) → true ≡ there → is_told_later n ≡ true
+        → r ≡ newly (settled_by (passing_enough ex voices)) p col i → r ≡ Breaks
+    broken_if_newly r h told newly_is =
+        newly_is ∙ sym (newly-told n ex voices p col i told)
+        ∙ with_true (newly (settled_by (clash_enough n ex voices)) p col i) there (sym h)
         ∙ sym as_late
       where
         with_true : (a b : Bool) → b ≡ true → a ≡ (a && b)
         with_true true b e = sym e
         with_true false b e = refl
+
+-- ---- two voices of a set
+
+-- a rule is broken for a set where it is for its two voices
+pub pair_found : (n : ℕ) (ex : Exercise) (voices i v w : ℕ) (behind : List (List Cell)) (now : List Cell)
+    (ahead : List (List Cell)) → Some (v, w) ≡ pair_of voices → w < ex.voices
+    → clash_row n ex voices i behind now ahead ≡ pair_rule n ex i behind now ahead v w
+pair_found n ex voices i v w behind now ahead e there =
+    sym (ap (holds_of_pair ex (pair_rule n ex i behind now ahead)) e)
+    ∙ ap (λ b. b && pair_rule n ex i behind now ahead v w) (lt-ltb w ex.voices there)
+
+-- a rule other than S27 is broken for two voices where it is for one way to name them
+pub pair_by_way : (n : ℕ) (ex : Exercise) (i : ℕ) (behind : List (List Cell)) (now : List Cell)
+    (ahead : List (List Cell)) (v w : ℕ) → n ≢ 27 → pair_rule n ex i behind now ahead v w
+    ≡ ((is_free ex v && clash_rule n ex i behind now ahead v w)
+    || (is_free ex w && clash_rule n ex i behind now ahead w v))
+pair_by_way n ex i behind now ahead v w other = rw (ne_eqb n 27 other) refl
 
 -- ---- ways to name two voices
 

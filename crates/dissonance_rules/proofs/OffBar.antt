@@ -1,21 +1,25 @@
--- Within a bar only the voice that has the exercise's species starts notes, at slots that its shapes have (`OffBar`).
-use Rattle.std.specs.Prelude.{◌≡◌, ◌≢◌, ℕ, ◌%◌, ◌<◌, ◌==◌, ◌||◌, Bool, true, false, not, List, ◌∷◌, ◌++◌, codes, Contains, refl}
+-- Within a bar only voices of other species than 1 start notes, at slots that their shapes have (`starter_settles`), so at columns that may
+-- settle S15 or S27 (`settles_in`).
+use Rattle.std.specs.Prelude.{◌≡◌, ◌≢◌, ℕ, ◌%◌, ◌<◌, ◌+◌, ◌≤◌, ◌==◌, ◌||◌, Bool, true, false, not, List, ◌∷◌, ◌++◌, codes, [], Contains, Option, Some, None, is_some, option_map, slice_get, slice_index_or, ◌/◌, if◌then◌else◌, refl}
 use Rattle.std.proofs.Common.{ap, sym, ◌∙◌, subst, inl, inr, arith}
-use Rattle.std.proofs.lemmas.Bool.{agree_below, agree_below_at, both_ways, cases_Bool, cases_lt, cond_both, eqb-true}
+use Rattle.std.proofs.lemmas.Bool.{agree_below, agree_below_at, both_ways, cases_Bool, cases_lt, cond_both, eqb-true, ne_eqb}
 use Rattle.std.proofs.lemmas.Bool.Decides.{nat_tests}
 use Rattle.std.proofs.lemmas.List.{get_or_past}
+use Rattle.std.specs.Option.{option_map_or, option_to_list}
+use Rattle.fux_pitch.specs.declared.pitch.Pitch.{Pitch}
 use Rattle.fux_grid.specs.declared.cell.Cell.{Cell}
 use Rattle.fux_grid.specs.declared.cell.Cell.TheVariants.{Rest, Hold, Start}
 use Rattle.fux_grid.specs.declared.exercise.Exercise.{Exercise}
 use Rattle.fux_grid.specs.Cells.{cell_in}
-use Rattle.fux_grid.specs.Exercises.{IsFree, bar_of, slot_of, species_in}
+use Rattle.fux_grid.specs.Exercises.{IsFree, bar_of, cantus_cell, is_mixed, slot_of, species_in}
 use Rattle.fux_grid.specs.Menus.{IsInMenu, cells_at, pool_of}
 use Rattle.fux_grid.specs.Shapes.{allows, fifth_shapes, florid_starts, fourth_shapes, second_shapes, shapes_in, third_shapes, whole_note}
-use Rattle.fux_grid.proofs.CellLemmas.{cells_at-given}
+use Rattle.fux_grid.proofs.CellLemmas.{cells_at-cantus, cells_at-given}
+use Rattle.fux_grid.proofs.Combinations.{Contains-cons_cases}
 use Rattle.rule_law.specs.Terms.{starts}
 use Rattle.rule_law.specs.Voices.{is_free}
 use Rattle.rule_law.proofs.NextPitch.{start_allowed}
-use Rattle.dissonance_rules.specs.Book.{may_settle}
+use Rattle.dissonance_rules.specs.Book.{may_settle, may_settle_in, passing_reach, reach}
 
 -- ---- the slots at which the shapes of a species start notes
 
@@ -103,7 +107,98 @@ settles_by_slot species i h = rw (four, two) h
     two : i % 2 ≡ slot_of i % 2
     two = omega arith
 
+-- ---- what a voice of another species than 1 says of its exercise
+
+-- a voice of whatever species may start a note at none but these columns
+may_settle-some : (species i : ℕ) → may_settle species i ≡ true → not (i % 4 == 1) ≡ true
+may_settle-some species i =
+    at (species == 1) ((species == 2) || (species == 4)) (species == 3)
+  where
+    fourth : i % 4 ≡ 0 → not (i % 4 == 1) ≡ true
+    fourth e = ap not (ne_eqb (i % 4) 1 (λ f. omega (arith, e, f)))
+
+    second : i % 2 ≡ 0 → not (i % 4 == 1) ≡ true
+    second e = ap not (ne_eqb (i % 4) 1 (λ f. omega (arith, e, f)))
+
+    at : (a b c : Bool)
+        → (if a then false else (if b then i % 4 == 0 else (if c then i % 2 == 0 else not (i % 4 == 1)))) ≡ true
+        → not (i % 4 == 1) ≡ true
+    at true b c h = cc
+    at false true c h = fourth (eqb-true (i % 4) 0 h)
+    at false false true h = second (eqb-true (i % 2) 0 h)
+    at false false false h = h
+
+-- and S15 stays open for it no longer than this
+pub reach-bound : (species : ℕ) → reach species ≤ 19
+reach-bound species = at ((species == 2) || (species == 3)) (species == 4)
+  where
+    at : (a b : Bool) → (if a then 4 else (if b then 8 else 19)) ≤ 19
+    at true b = omega arith
+    at false true = omega arith
+    at false false = omega arith
+
+pub passing_reach-bound : (ex : Exercise) → passing_reach ex ≤ 19
+passing_reach-bound ex = at (is_mixed ex)
+  where
+    at : (b : Bool) → (if b then 19 else reach ex.species) ≤ 19
+    at true = omega arith
+    at false = reach-bound ex.species
+
+module _ (ex : Exercise) (v : ℕ) (other : (species_in ex v == 1) ≡ false) where
+  -- where one species is given, the voice has it
+  given_species : is_mixed ex ≡ false → species_in ex v ≡ ex.species
+  given_species one = at ex.mixed one other
+    where
+      given : ℕ
+      given = if v == ex.species_voice then ex.species else 1
+
+      pick : (b : Bool) → ((if b then ex.species else 1) == 1) ≡ false → (if b then ex.species else 1) ≡ ex.species
+      pick true h = refl
+      pick false h = cc
+
+      at : (mixed : Option (List ℕ)) → is_some mixed ≡ false
+          → (option_map_or (λ species. slice_index_or species v 1) mixed given == 1) ≡ false
+          → option_map_or (λ species. slice_index_or species v 1) mixed given ≡ ex.species
+      at None e h = pick (v == ex.species_voice) h
+      at (Some species) e h = cc
+
+  pub settles_in : (i : ℕ) → may_settle (species_in ex v) i ≡ true → may_settle_in ex i ≡ true
+  settles_in i h = at (is_mixed ex) refl
+    where
+      at : (b : Bool) → is_mixed ex ≡ b → (if b then not (i % 4 == 1) else may_settle ex.species i) ≡ true
+      at true e = may_settle-some (species_in ex v) i h
+      at false e = sym (ap (λ n. may_settle n i) (given_species e)) ∙ h
+
+  pub reaches_in : (n i : ℕ) → n ≤ i + reach (species_in ex v) → n ≤ i + passing_reach ex
+  reaches_in n i h = at (is_mixed ex) refl
+    where
+      at : (b : Bool) → is_mixed ex ≡ b → n ≤ i + (if b then 19 else reach ex.species)
+      at true e = omega (arith, h, reach-bound (species_in ex v))
+      at false e = let P : ℕ → Type 0 = λ s. n ≤ i + reach s in subst P (given_species e) h
+
 -- ---- a start in a column of a menu
+
+-- within a bar the cantus holds its note
+pub cantus_holds : (ex : Exercise) (v i : ℕ) (col : List Cell) → v ≡ ex.cantus_voice → IsInMenu ex i col → slot_of i ≢ 0
+    → starts (cell_in col v) ≡ false
+cantus_holds ex v i col same menu slot =
+    elim (cases_lt v ex.voices) [
+      | inl here ↦
+          let P : List Cell → Type 0 = λ cells. Contains cells (cell_in col v) in
+          at (slice_get ex.cantus (i / 8)) (cell_in col v) (subst P (cells_at-cantus ex i v same) (menu.cells v here))
+      | inr beyond ↦ ap starts (get_or_past col v Rest (omega (arith, menu.full, beyond)))
+    ]
+  where
+    held : (p : Pitch) → starts (cantus_cell i p) ≡ false
+    held p = ap (λ b. starts (if b then Start p else Hold p)) (ne_eqb (slot_of i) 0 slot)
+
+    at : (o : Option Pitch) (c : Cell) → Contains (option_to_list (option_map (cantus_cell i) o)) c → starts c ≡ false
+    at None c h = absurd (omega (arith, h.1))
+    at (Some p) c h =
+        elim (Contains-cons_cases (cantus_cell i p) [] c h) [
+          | inl one ↦ sym (ap starts one) ∙ held p
+          | inr none ↦ absurd (omega (arith, none.1))
+        ]
 
 module _ (ex : Exercise) (v i : ℕ) (col : List Cell) (menu : IsInMenu ex i col) (free : is_free ex v ≡ true)
     (start : starts (cell_in col v) ≡ true) where
@@ -142,15 +237,7 @@ module _ (ex : Exercise) (v i : ℕ) (col : List Cell) (menu : IsInMenu ex i col
             absurd (slot (at_start (slot_of i) (omega arith) (subst P (eqb-true (species_in ex v) 1 e) allowed)))
       ]
 
-  -- so it's of the voice that has the exercise's species
-  pub starter_species : (species_in ex v == 1) ≡ false → species_in ex v ≡ ex.species
-  starter_species other = at (v == ex.species_voice) refl
-    where
-      at : (b : Bool) → (v == ex.species_voice) ≡ b → species_in ex v ≡ ex.species
-      at true e = rw e refl
-      at false e = absurd (both_ways (species_in ex v == 1) other (rw e refl))
-
-  -- and its column may settle S15
+  -- and one of another species may start one there
   pub starter_settles : (species_in ex v == 1) ≡ false → may_settle (species_in ex v) i ≡ true
   starter_settles other =
       settles_by_slot (species_in ex v) i (allowed_settles (species_in ex v) (bar_of i) ex.bars (slot_of i) other

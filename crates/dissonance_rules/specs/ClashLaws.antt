@@ -1,8 +1,9 @@
--- S15 and S20 wait for later columns. Once settled they read the same in each prefix that goes on, and so in each setting; S19 and S21 do at once.
-use Rattle.std.specs.Prelude.{◌≡◌, ◌≢◌, ℕ, suc, ◌+◌, ◌-◌, ◌*◌, ◌<◌, ◌≤◌, Bool, true, false, not, ◌&&◌, ◌||◌, nat_le, nat_lt, List, [], ◌∷◌, ◌++◌, Option, Some, None, is_some, length, drop, slice_index_or, if◌then◌else◌, refl}
+-- S15, S20, S27 and S28 wait for later columns. Once settled they read the same in each prefix that goes on, and so in each setting; S19
+-- and S21 do at once.
+use Rattle.std.specs.Prelude.{◌≡◌, ◌≢◌, ℕ, suc, ◌+◌, ◌-◌, ◌*◌, ◌<◌, ◌≤◌, ◌==◌, Bool, true, false, not, ◌&&◌, ◌||◌, nat_le, nat_lt, List, [], ◌∷◌, ◌++◌, Option, Some, None, is_some, length, drop, slice_index_or, if◌then◌else◌, refl}
 use Rattle.std.proofs.Common.{ap, sym, ◌∙◌, subst, arith}
 use Rattle.std.proofs.Math.ListN.{get_or-append}
-use Rattle.std.proofs.lemmas.Bool.{or_parts, not-true, or_right}
+use Rattle.std.proofs.lemmas.Bool.{eqb-true, or_parts, not-true, or_right}
 use Rattle.std.proofs.lemmas.Bool.Decides.{nat_tests}
 use Rattle.std.proofs.lemmas.List.{append-nil, get_or-append-add, length-append, length-drop, map-append}
 use Rattle.fux_pitch.specs.declared.pitch.Pitch.{Pitch}
@@ -12,7 +13,7 @@ use Rattle.fux_grid.specs.declared.cell.Onset.{Onset}
 use Rattle.fux_grid.specs.declared.exercise.Exercise.{Exercise}
 use Rattle.fux_grid.specs.Cells.{cell_in, first_of, onsets_from, pitch_of}
 use Rattle.fux_grid.specs.Columns.{earlier, line}
-use Rattle.fux_grid.specs.Exercises.{bar_of, slot_of, species_in}
+use Rattle.fux_grid.specs.Exercises.{bar_of, is_mixed, slot_of, species_in}
 use Rattle.fux_grid.specs.Menus.{IsInMenu}
 use Rattle.rule_law.specs.Law.{or_each}
 use Rattle.rule_law.specs.After.{next_onset, onset_pitch, onsets_after, second_next_onset, second_of}
@@ -26,9 +27,33 @@ use Rattle.rule_law.specs.Voices.{holds_of_pair, is_free, pair_of}
 use Rattle.rule_law.specs.Ways.{holds_some_way, on_some_way}
 use Rattle.rule_law.specs.Whole.{is_whole}
 use Rattle.rule_law.proofs.NextPitch.{last_bar_holds}
-use Rattle.dissonance_rules.specs.Clashes.{clash_row, passing_enough, passing_rule, resolution_enough, resolution_rule}
+use Rattle.dissonance_rules.specs.Clashes.{clash_row, disturbance_rule, enough_ahead, excuse_rule, passing_enough, passing_rule, resolution_rule}
 use Rattle.dissonance_rules.specs.Ligatures.{is_suspended, resolves}
-use Rattle.dissonance_rules.specs.Passing.{clashes_badly, has_notes_after, has_ornaments, is_cambiata, is_good, is_good_note, is_neighbor, is_open_clash, is_passing, next_is_clean, reaches_last_bar, starts_clean, starts_in_clash}
+use Rattle.dissonance_rules.specs.Mixed.{starts_in_three}
+use Rattle.dissonance_rules.specs.Passing.{clashes_badly, has_notes_after, has_ornaments, is_cambiata, is_good, is_good_in, is_good_note, is_neighbor, is_open_clash, is_passing, next_is_clean, reaches_last_bar, starts_clean, starts_in_clash}
+
+-- ---- the rules by their numbers
+
+-- a rule that is settled at once, as S19 and S21 are
+pub record IsAtOnce (n : ℕ) : Type 0 where
+  pub no_passing : (n == 15) ≡ false
+  pub no_excuse : (n == 27) ≡ false
+  pub no_resolution : (n == 20) ≡ false
+  pub no_disturbance : (n == 28) ≡ false
+
+-- what holds of the four that aren't, and of the others, holds of each
+pub by_rule : (P : ℕ → Type 0) → P passing_rule → P excuse_rule → P resolution_rule → P disturbance_rule
+    → ((n : ℕ) → IsAtOnce n → P n) → (n : ℕ) → P n
+by_rule P passing excuse resolution disturbance others n =
+    at (n == 15) (n == 27) (n == 20) (n == 28) refl refl refl refl
+  where
+    at : (a b c d : Bool) → (n == 15) ≡ a → (n == 27) ≡ b → (n == 20) ≡ c → (n == 28) ≡ d → P n
+    at true b c d e f g h = subst P (sym (eqb-true n 15 e)) passing
+    at false true c d e f g h = subst P (sym (eqb-true n 27 f)) excuse
+    at false false true d e f g h = subst P (sym (eqb-true n 20 g)) resolution
+    at false false false true e f g h = subst P (sym (eqb-true n 28 h)) disturbance
+    at false false false false e f g h =
+        others n record { no_passing = e; no_excuse = f; no_resolution = g; no_disturbance = h }
 
 -- ---- S20
 
@@ -48,9 +73,34 @@ four_ahead ex voices i behind now ahead t h =
     (get_or-append ahead t [] 3 (omega (arith, four)))
 
 pub resolution_is_local : (ex : Exercise) (voices : ℕ)
-    → IsLocal ex (reading_of (clash_row resolution_rule ex voices)) (settled_by (resolution_enough ex))
+    → IsLocal ex (reading_of (clash_row resolution_rule ex voices)) (settled_by (enough_ahead 4 ex))
 resolution_is_local ex voices =
     local_or_whole ex (clash_row resolution_rule ex voices) (λ i behind now ahead. nat_le 4 (length ahead)) (four_ahead ex voices)
+
+-- ---- S28
+
+-- S28 from the columns that it reads
+disturbance_row : Exercise → ℕ → ℕ → List Cell → List Cell → List Cell → List Cell → Bool
+disturbance_row ex voices i now first second third =
+    on_some_way ex (λ v w. is_mixed ex && is_suspended i now v w && starts_in_three first second third w) voices
+
+three_ahead : (ex : Exercise) (voices : ℕ) → IsUndisturbed (clash_row disturbance_rule ex voices)
+    (λ i behind now ahead. nat_le 3 (length ahead))
+unfolding disturbance_row
+three_ahead ex voices i behind now ahead t h =
+    let three : 3 ≤ length ahead = grind (arith, nat_tests, h) in
+    ap (λ col. disturbance_row ex voices i now col (slice_index_or (ahead ++ t) 1 []) (slice_index_or (ahead ++ t) 2 []))
+    (get_or-append ahead t [] 0 (omega (arith, three)))
+    ∙ ap (λ col. disturbance_row ex voices i now (slice_index_or ahead 0 []) col (slice_index_or (ahead ++ t) 2 []))
+    (get_or-append ahead t [] 1 (omega (arith, three)))
+    ∙ ap (λ col. disturbance_row ex voices i now (slice_index_or ahead 0 []) (slice_index_or ahead 1 []) col)
+    (get_or-append ahead t [] 2 (omega (arith, three)))
+
+pub disturbance_is_local : (ex : Exercise) (voices : ℕ)
+    → IsLocal ex (reading_of (clash_row disturbance_rule ex voices)) (settled_by (enough_ahead 3 ex))
+disturbance_is_local ex voices =
+    local_or_whole ex (clash_row disturbance_rule ex voices) (λ i behind now ahead. nat_le 3 (length ahead))
+    (three_ahead ex voices)
 
 -- ---- S15: the notes of a voice in a longer list
 
@@ -230,14 +280,15 @@ last_bar_same ex p t i v species on here free last =
     ∙ append-nil (onsets_after i v ahead) in
     good_same species i (earlier p i) (slice_index_or p i []) ahead t v (ap first_of all) (λ k. ap second_of all)
 
--- S15 for one way to name the voices, where it isn't open
-way_same : (ex : Exercise) (p t : List (List Cell)) (i v w : ℕ) → GoesOn ex p t → i < length p → is_free ex v ≡ true
+-- a note that clashes is as good in a longer list, where that is told
+pub good_if_told : (ex : Exercise) (p t : List (List Cell)) (i v w : ℕ) → GoesOn ex p t → i < length p → is_free ex v
+    ≡ true
+    → starts_in_clash (slice_index_or p i []) v w ≡ true
     → is_open_clash ex i (slice_index_or p i []) (drop (i + 1) p) v w ≡ false
-    → clashes_badly ex i (earlier p i) (slice_index_or p i []) (drop (i + 1) p ++ t) v w
-    ≡ clashes_badly ex i (earlier p i) (slice_index_or p i []) (drop (i + 1) p) v w
-way_same ex p t i v w on here free closed =
+    → is_good_in ex i (earlier p i) (slice_index_or p i []) (drop (i + 1) p ++ t) v
+    ≡ is_good_in ex i (earlier p i) (slice_index_or p i []) (drop (i + 1) p) v
+good_if_told ex p t i v w on here free =
     at (starts_in_clash now v w) (has_notes_after (species_in ex v) i v ahead) (reaches_last_bar ex i ahead) refl refl
-    refl closed
   where
     ahead : List (List Cell)
     ahead = drop (i + 1) p
@@ -248,23 +299,38 @@ way_same ex p t i v w on here free closed =
     other : v ≢ ex.cantus_voice
     other e = grind (arith, nat_tests, free, e)
 
-    with_good : is_good_note (species_in ex v) i (earlier p i) now (ahead ++ t) v
-        ≡ is_good_note (species_in ex v) i (earlier p i) now ahead v
-        → clashes_badly ex i (earlier p i) now (ahead ++ t) v w ≡ clashes_badly ex i (earlier p i) now ahead v w
-    with_good e = ap (λ g. not (begins_bar i) && starts_in_clash now v w && not g) e
+    at : (c n l : Bool) → has_notes_after (species_in ex v) i v ahead ≡ n → reaches_last_bar ex i ahead ≡ l → c ≡ true
+        → not (not c || n || l) ≡ false
+        → is_good_in ex i (earlier p i) now (ahead ++ t) v ≡ is_good_in ex i (earlier p i) now ahead v
+    at false n l f g e k = cc
+    at true true l f g e k = notes_same (species_in ex v) i (earlier p i) now ahead t v f
+    at true false true f g e k = last_bar_same ex p t i v (species_in ex v) on here other g
+    at true false false f g e k = cc
+
+-- S15 for one way to name the voices, where it isn't open
+way_same : (ex : Exercise) (p t : List (List Cell)) (i v w : ℕ) → GoesOn ex p t → i < length p → is_free ex v ≡ true
+    → is_open_clash ex i (slice_index_or p i []) (drop (i + 1) p) v w ≡ false
+    → clashes_badly ex i (earlier p i) (slice_index_or p i []) (drop (i + 1) p ++ t) v w
+    ≡ clashes_badly ex i (earlier p i) (slice_index_or p i []) (drop (i + 1) p) v w
+way_same ex p t i v w on here free closed = at (starts_in_clash now v w) refl
+  where
+    ahead : List (List Cell)
+    ahead = drop (i + 1) p
+
+    now : List Cell
+    now = slice_index_or p i []
 
     quiet : (b c x y : Bool) → c ≡ false → (b && c && x) ≡ (b && c && y)
     quiet true true x y e = cc
     quiet true false x y e = refl
     quiet false c x y e = refl
 
-    at : (c n l : Bool) → starts_in_clash now v w ≡ c → has_notes_after (species_in ex v) i v ahead ≡ n
-        → reaches_last_bar ex i ahead ≡ l → not (not c || n || l) ≡ false
-        → clashes_badly ex i (earlier p i) now (ahead ++ t) v w ≡ clashes_badly ex i (earlier p i) now ahead v w
-    at false n l e f g k = quiet (not (begins_bar i)) (starts_in_clash now v w) _ _ e
-    at true true l e f g k = with_good (notes_same (species_in ex v) i (earlier p i) now ahead t v f)
-    at true false true e f g k = with_good (last_bar_same ex p t i v (species_in ex v) on here other g)
-    at true false false e f g k = cc
+    at : (c : Bool) → starts_in_clash now v w ≡ c → clashes_badly ex i (earlier p i) now (ahead ++ t) v w
+        ≡ clashes_badly ex i (earlier p i) now ahead v w
+    at false e = quiet (not (is_mixed ex) && not (begins_bar i)) (starts_in_clash now v w) _ _ e
+    at true e =
+        ap (λ g. not (is_mixed ex) && not (begins_bar i) && starts_in_clash now v w && not g)
+        (good_if_told ex p t i v w on here free e closed)
 
 -- two tests that agree for each way where a third one fails
 two_ways : (there fv fw o1 o2 x1 y1 x2 y2 : Bool) → (there && ((fv && o1) || (fw && o2))) ≡ false
@@ -300,21 +366,22 @@ passing_is_local ex voices =
 
 -- ---- what is settled stays so, and in a list of all columns each is settled
 
-four_stay : (ahead t : List (List Cell)) → nat_le 4 (length ahead) ≡ true → nat_le 4 (length (ahead ++ t)) ≡ true
-four_stay ahead t h =
-    let reached : 4 ≤ length (ahead ++ t) = grind (arith, nat_tests, length-append ahead t) in
+columns_stay : (n : ℕ) (ahead t : List (List Cell)) → nat_le n (length ahead) ≡ true → nat_le n (length (ahead ++ t))
+    ≡ true
+columns_stay n ahead t h =
+    let reached : n ≤ length (ahead ++ t) = grind (arith, nat_tests, length-append ahead t) in
     grind (arith, nat_tests)
 
-pub resolution_enough_stays : (ex : Exercise) → EnoughStays (resolution_enough ex)
-resolution_enough_stays ex i behind now ahead t h =
-    or_each (nat_le 4 (length ahead)) (is_whole ex i ahead) (nat_le 4 (length (ahead ++ t)))
+pub ahead_enough_stays : (n : ℕ) (ex : Exercise) → EnoughStays (enough_ahead n ex)
+ahead_enough_stays n ex i behind now ahead t h =
+    or_each (nat_le n (length ahead)) (is_whole ex i ahead) (nat_le n (length (ahead ++ t)))
     (is_whole ex i (ahead ++ t))
-    (four_stay ahead t) (whole_stays ex i ahead t) h
+    (columns_stay n ahead t) (whole_stays ex i ahead t) h
 
-pub resolution_settles_at_end : (ex : Exercise) → SettlesAtEnd ex (settled_by (resolution_enough ex))
-resolution_settles_at_end ex =
-    ends_when_whole ex (resolution_enough ex)
-    (λ i behind now ahead whole. or_right (nat_le 4 (length ahead)) (is_whole ex i ahead) whole)
+pub ahead_settles_at_end : (n : ℕ) (ex : Exercise) → SettlesAtEnd ex (settled_by (enough_ahead n ex))
+ahead_settles_at_end n ex =
+    ends_when_whole ex (enough_ahead n ex)
+    (λ i behind now ahead whole. or_right (nat_le n (length ahead)) (is_whole ex i ahead) whole)
 
 -- a clash that isn't open stays so
 some-append : (xs ys : List Onset) → is_some (first_of xs) ≡ true → is_some (first_of (xs ++ ys)) ≡ true

@@ -1,5 +1,5 @@
 -- The readings of the rules and tolls are local, and two neighbors decide S11, S14, Q1 and Q2.
-use Rattle.std.specs.Prelude.{◌≡◌, ℕ, ◌+◌, ◌^◌, ◌==◌, Bool, true, false, ◌&&◌, ◌||◌, nat_lt, IsTrue, List, ◌++◌, Option, Some, None, refl}
+use Rattle.std.specs.Prelude.{◌≡◌, ℕ, ◌+◌, ◌^◌, ◌==◌, Bool, true, false, ◌&&◌, nat_lt, IsTrue, List, ◌++◌, Option, Some, None, refl}
 use Rattle.std.proofs.Common.{◌∙◌, ap, sym, subst}
 use Rattle.std.proofs.lemmas.Bool.{cond_both, eqb-true}
 use Rattle.fux_grid.specs.declared.cell.Cell.{Cell}
@@ -8,16 +8,16 @@ use Rattle.rule_law.specs.BothLaw.{RuleReading, AreLocal, SettleAtEnd}
 use Rattle.rule_law.specs.Law.{at_once_settles, local_from_row}
 use Rattle.rule_law.specs.NearLaw.{IsNear, near_from_whole}
 use Rattle.rule_law.specs.Places.{IsLocal, SettlesAtEnd, reading_of, settled_by}
-use Rattle.rule_law.specs.Voices.{has_rule, holds_of_pair, is_free, pair_of}
-use Rattle.rule_law.specs.Ways.{holds_some_way, on_some_way}
+use Rattle.rule_law.specs.Voices.{has_rule, holds_of_pair, on_pair, pair_of}
 use Rattle.dissonance_rules.specs.Book.{at_once_row, is_late, late_row, rule_row}
-use Rattle.dissonance_rules.specs.ClashLaws.{passing_is_local, passing_settles_at_end, resolution_is_local, resolution_settles_at_end}
-use Rattle.dissonance_rules.specs.Clashes.{clash_enough, clash_row, clash_rule}
+use Rattle.dissonance_rules.specs.ClashLaws.{IsAtOnce, ahead_settles_at_end, by_rule, disturbance_is_local, passing_is_local, passing_settles_at_end, resolution_is_local}
+use Rattle.dissonance_rules.specs.Clashes.{clash_enough, clash_row, pair_rule}
+use Rattle.dissonance_rules.specs.MixedLaws.{excuse_is_local}
 use Rattle.dissonance_rules.specs.Rows.{broken_in, cost_enough, cost_in, enough_after, near_rows, toll_rows}
 
--- the bits of the rules 11, 14, 15, 19, 20 and 21
+-- the bits of the rules 11, 14, 15, 19, 20, 21, 27 and 28
 abbrev pub rule_bits : ℕ
-rule_bits = 2 ^ 11 + 2 ^ 14 + 2 ^ 15 + 2 ^ 19 + 2 ^ 20 + 2 ^ 21
+rule_bits = 2 ^ 11 + 2 ^ 14 + 2 ^ 15 + 2 ^ 19 + 2 ^ 20 + 2 ^ 21 + 2 ^ 27 + 2 ^ 28
 
 -- the bits of those that neighbors decide
 abbrev pub near_bits : ℕ
@@ -40,48 +40,43 @@ pub at_once_is_local : (rule : ℕ) (ex : Exercise) (voices : ℕ)
 at_once_is_local rule ex voices =
     local_from_row ex (broken_in rule ex voices) (enough_after rule ex voices) (λ i behind now ahead t h. refl)
 
--- S15, S19, S20 and S21; but for S15 and S20 they read no columns ahead
-some_way-same : (ex : Exercise) (voices : ℕ) (f g : ℕ → ℕ → Bool) → ((v w : ℕ) → f v w ≡ g v w)
-    → on_some_way ex f voices ≡ on_some_way ex g voices
-some_way-same ex voices f g same = at (pair_of voices)
+-- the others; S19 and S21 read no columns ahead
+pair-same : (ex : Exercise) (voices : ℕ) (f g : ℕ → ℕ → Bool) → ((v w : ℕ) → f v w ≡ g v w)
+    → on_pair ex f voices ≡ on_pair ex g voices
+pair-same ex voices f g same = at (pair_of voices)
   where
-    at : (pair : Option (ℕ × ℕ)) → holds_of_pair ex (holds_some_way ex f) pair
-        ≡ holds_of_pair ex (holds_some_way ex g) pair
+    at : (pair : Option (ℕ × ℕ)) → holds_of_pair ex f pair ≡ holds_of_pair ex g pair
     at None = refl
-    at (Some pair) =
-        ap (λ b. nat_lt pair.1 ex.voices && ((is_free ex pair.0 && b) || (is_free ex pair.1 && f pair.1 pair.0)))
-        (same pair.0 pair.1)
-        ∙ ap (λ b. nat_lt pair.1 ex.voices && ((is_free ex pair.0 && g pair.0 pair.1) || (is_free ex pair.1 && b)))
-        (same pair.1 pair.0)
+    at (Some pair) = ap (λ b. nat_lt pair.1 ex.voices && b) (same pair.0 pair.1)
 
 pub clash_is_local : (rule : ℕ) (ex : Exercise) (voices : ℕ)
     → IsLocal ex (reading_of (clash_row rule ex voices)) (settled_by (clash_enough rule ex voices))
-clash_is_local rule ex voices = at (rule == 15) (rule == 20) refl refl
+clash_is_local rule ex voices =
+    by_rule (λ r. IsLocal ex (reading_of (clash_row r ex voices)) (settled_by (clash_enough r ex voices)))
+    (passing_is_local ex voices) (excuse_is_local ex voices) (resolution_is_local ex voices)
+    (disturbance_is_local ex voices) others rule
   where
-    Local : ℕ → Type 0
-    Local r = IsLocal ex (reading_of (clash_row r ex voices)) (settled_by (clash_enough r ex voices))
-
-    blind : (rule == 15) ≡ false → (rule == 20) ≡ false
+    blind : (r : ℕ) → IsAtOnce r
         → (i : ℕ) (behind : List (List Cell)) (now : List Cell) (ahead t : List (List Cell)) (v w : ℕ)
-        → clash_rule rule ex i behind now (ahead ++ t) v w ≡ clash_rule rule ex i behind now ahead v w
-    blind e g i behind now ahead t v w = rw (e, g) refl
+        → pair_rule r ex i behind now (ahead ++ t) v w ≡ pair_rule r ex i behind now ahead v w
+    blind r at_once i behind now ahead t v w =
+        rw (at_once.no_excuse, at_once.no_passing, at_once.no_resolution, at_once.no_disturbance) refl
 
-    at : (a b : Bool) → (rule == 15) ≡ a → (rule == 20) ≡ b → Local rule
-    at true b e g = subst Local (sym (eqb-true rule 15 e)) (passing_is_local ex voices)
-    at false true e g = subst Local (sym (eqb-true rule 20 g)) (resolution_is_local ex voices)
-    at false false e g =
-        local_from_row ex (clash_row rule ex voices) (clash_enough rule ex voices) (λ i behind now ahead t h.
-        some_way-same ex voices (clash_rule rule ex i behind now (ahead ++ t)) (clash_rule rule ex i behind now ahead)
-        (blind e g i behind now ahead t))
+    others : (r : ℕ) → IsAtOnce r
+        → IsLocal ex (reading_of (clash_row r ex voices)) (settled_by (clash_enough r ex voices))
+    others r at_once =
+        local_from_row ex (clash_row r ex voices) (clash_enough r ex voices) (λ i behind now ahead t h.
+        pair-same ex voices (pair_rule r ex i behind now (ahead ++ t)) (pair_rule r ex i behind now ahead)
+        (blind r at_once i behind now ahead t))
 
 pub clash_settles_at_end : (rule : ℕ) (ex : Exercise) (voices : ℕ)
     → SettlesAtEnd ex (settled_by (clash_enough rule ex voices))
-clash_settles_at_end rule ex voices = at (rule == 15) (rule == 20) refl refl
-  where
-    at : (a c : Bool) → (rule == 15) ≡ a → (rule == 20) ≡ c → SettlesAtEnd ex (settled_by (clash_enough rule ex voices))
-    at true c e g = rw e (passing_settles_at_end ex voices)
-    at false true e g = rw (e, g) (resolution_settles_at_end ex)
-    at false false e g = rw (e, g) (at_once_settles ex)
+clash_settles_at_end rule ex voices =
+    by_rule (λ r. SettlesAtEnd ex (settled_by (clash_enough r ex voices)))
+    (passing_settles_at_end ex voices) (passing_settles_at_end ex voices) (ahead_settles_at_end 4 ex)
+    (ahead_settles_at_end 3 ex)
+    (λ r at_once. rw (at_once.no_passing, at_once.no_excuse, at_once.no_resolution, at_once.no_disturbance)
+    (at_once_settles ex)) rule
 
 pub dissonance_is_local : AreLocal dissonance_breaks dissonance_settles
 dissonance_is_local rule ex voices =
@@ -97,20 +92,23 @@ dissonance_settles_at_end rule ex voices =
 
 -- no rule that neighbors decide is late
 near_is_no_late : (rule : ℕ) → IsTrue (has_rule near_bits rule) → is_late rule ≡ false
-near_is_no_late rule h = at (rule == 15) (rule == 19) (rule == 20) (rule == 21) refl refl refl refl
+near_is_no_late rule h =
+    at (rule == 15) (rule == 19) (rule == 20) (rule == 21) (rule == 27) (rule == 28) refl refl refl refl refl refl
   where
     no : (n : ℕ) → rule ≡ n → has_rule near_bits n ≡ false → is_late rule ≡ false
     no n same none =
         let P : ℕ → Type 0 = λ r. IsTrue (has_rule near_bits r) in
         let t : true ≡ false = sym (subst P same h) ∙ none in cc
 
-    at : (a b c d : Bool) → (rule == 15) ≡ a → (rule == 19) ≡ b → (rule == 20) ≡ c → (rule == 21) ≡ d → is_late rule
-        ≡ false
-    at true b c d e f g k = no 15 (eqb-true rule 15 e) refl
-    at false true c d e f g k = no 19 (eqb-true rule 19 f) refl
-    at false false true d e f g k = no 20 (eqb-true rule 20 g) refl
-    at false false false true e f g k = no 21 (eqb-true rule 21 k) refl
-    at false false false false e f g k = rw (e, f, g, k) refl
+    at : (a b c d x y : Bool) → (rule == 15) ≡ a → (rule == 19) ≡ b → (rule == 20) ≡ c → (rule == 21) ≡ d
+        → (rule == 27) ≡ x → (rule == 28) ≡ y → is_late rule ≡ false
+    at true b c d x y e f g k l m = no 15 (eqb-true rule 15 e) refl
+    at false true c d x y e f g k l m = no 19 (eqb-true rule 19 f) refl
+    at false false true d x y e f g k l m = no 20 (eqb-true rule 20 g) refl
+    at false false false true x y e f g k l m = no 21 (eqb-true rule 21 k) refl
+    at false false false false true y e f g k l m = no 27 (eqb-true rule 27 l) refl
+    at false false false false false true e f g k l m = no 28 (eqb-true rule 28 m) refl
+    at false false false false false false e f g k l m = rw (e, f, g, k, l, m) refl
 
 pub dissonance_is_near : (rule : ℕ) (ex : Exercise) (voices : ℕ) → IsTrue (has_rule near_bits rule)
     → IsNear ex (dissonance_breaks rule ex voices) (near_rows rule ex voices)

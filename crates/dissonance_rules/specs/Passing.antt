@@ -9,7 +9,7 @@ use Rattle.fux_grid.specs.declared.cell.Onset.{Onset}
 use Rattle.fux_grid.specs.declared.exercise.Exercise.{Exercise}
 use Rattle.fux_grid.specs.Cells.{cell_in, pitch_of}
 use Rattle.fux_grid.specs.Columns.{line}
-use Rattle.fux_grid.specs.Exercises.{species_in}
+use Rattle.fux_grid.specs.Exercises.{is_mixed, species_in}
 use Rattle.rule_law.specs.After.{next_onset, onset_pitch, second_next_onset}
 use Rattle.rule_law.specs.Bars.{begins_bar}
 use Rattle.rule_law.specs.Degrees.{lies_above}
@@ -83,10 +83,13 @@ is_good_in ex i behind now ahead v = is_good_note (species_in ex v) i behind now
 abbrev pub starts_in_clash : List Cell → ℕ → ℕ → Bool
 starts_in_clash now v w = starts (cell_in now v) && clash now v w
 
--- S15, for one way to name the voices: a note of v starts within a bar and clashes with w, and isn't good
+-- S15, for one way to name the voices, where one species is given: a note of v starts within a bar and clashes with w, and isn't good
 abbrev pub clashes_badly : Exercise → ℕ → List (List Cell) → List Cell → List (List Cell) → ℕ → ℕ → Bool
 clashes_badly ex i behind now ahead v w =
-    not (begins_bar i) && starts_in_clash now v w && not (is_good_in ex i behind now ahead v)
+    not (is_mixed ex)
+    && not (begins_bar i)
+    && starts_in_clash now v w
+    && not (is_good_in ex i behind now ahead v)
 
 -- at column i of a list
 abbrev pub clashes_badly_at : Exercise → List (List Cell) → ℕ → ℕ → ℕ → Bool

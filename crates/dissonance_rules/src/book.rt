@@ -6,10 +6,10 @@ ghost use Rattle.dissonance_rules.specs.Book as books;
 
 use crate::clashes::{breaks_clash, is_clash_settled};
 use crate::dissonance::Dissonance;
-use crate::late::{is_late, passing_places, settles_passing};
+use crate::late::{is_late, is_told_later, passing_places, settles_passing};
 use crate::rows::{breaks, cost};
 use crate::told::passing_left;
-use fux_grid::{Cell, Exercise, Score, VoiceSet, slot_of};
+use fux_grid::{Cell, Exercise, Score, VoiceSet, is_mixed, slot_of};
 use rule_law::{Form, LatePlaces, Latest, NewestColumns, RuleCrate, begins_bar};
 
 /// The crate's rules and tolls keep the laws of a book: a theorem, which costs nothing when it's called.
@@ -18,7 +18,7 @@ pub fn book_is_lawful()
     ensures { KeepsLaws books.book }
 {}
 
-/// S15, S19, S20 and S21 are late, and no toll is.
+/// S15, S19, S20, S21, S27 and S28 are late, and no toll is.
 impl RuleCrate for Dissonance {
     type Part = ();
 
@@ -52,18 +52,19 @@ impl RuleCrate for Dissonance {
 
     fn places_settled(rule: u8, ex: &Exercise, i: usize) -> LatePlaces {
         match rule {
-            15 => passing_places(ex, i),
+            15 | 27 => passing_places(rule, ex, i),
             20 => LatePlaces::own(slot_of(i) == 4, i.saturating_sub(4)),
+            28 => LatePlaces::own(is_mixed(ex) && slot_of(i) == 3, i.saturating_sub(3)),
             _ => LatePlaces::own(begins_bar(i), i),
         }
     }
 
-    /// Of those of S15 the places at which the clash isn't told yet; all of the other rules'.
+    /// Of those of S15 and S27 the places at which the clash isn't told yet; all of the other rules'.
     fn places_left(newest: &NewestColumns, rule: u8, ex: &Exercise) -> LatePlaces {
-        if rule != 15 {
+        if !is_told_later(rule) {
             return Dissonance::places_settled(rule, ex, newest.len - 1);
         }
-        passing_left(newest, ex)
+        passing_left(newest, rule, ex)
     }
 
     fn breaks_late(
@@ -80,7 +81,7 @@ impl RuleCrate for Dissonance {
         if !breaks_clash(newest, rule, ex, place, voices) {
             return false;
         }
-        if rule != 15 {
+        if !is_told_later(rule) {
             return true;
         }
         settles_passing(newest, ex, voices, place)

@@ -8,7 +8,7 @@ use crate::rows::{breaks, cost};
 use fux_grid::{Column, Exercise, Score, VoiceSet};
 use rule_law::{Latest, Near, Rule, RuleCrate, RuleSet, cells_of};
 
-/// The rules S11, S14, S15, S19, S20 and S21. S11 and S14 look at no earlier columns or notes.
+/// The rules S11, S14, S15, S19, S20, S21, S27 and S28. S11 and S14 look at no earlier columns or notes.
 #[derive(Clone, Copy, Debug, PartialEq, Eq)]
 pub struct Dissonance;
 
@@ -25,7 +25,7 @@ impl Rule for Dissonance {
 
     fn covers(&self) -> RuleSet {
         RuleSet {
-            bits: 1 << 11 | 1 << 14 | 1 << 15 | 1 << 19 | 1 << 20 | 1 << 21,
+            bits: 1 << 11 | 1 << 14 | 1 << 15 | 1 << 19 | 1 << 20 | 1 << 21 | 1 << 27 | 1 << 28,
         }
     }
 

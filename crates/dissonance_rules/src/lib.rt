@@ -1,4 +1,4 @@
-//! Rules and tolls of dissonance and of unisons: S11, S14, S15, S19, S20, S21, Q1 and Q2.
+//! Rules and tolls of dissonance and of unisons: S11, S14, S15, S19, S20, S21, S27, S28, Q1 and Q2.
 #![tactic(auto)]
 
 mod apart;
@@ -7,6 +7,7 @@ mod clashes;
 mod dissonance;
 mod late;
 mod ligatures;
+mod mixed;
 mod passing;
 mod rows;
 mod told;

@@ -12,7 +12,7 @@ ghost use Rattle.dissonance_rules.specs.Passing as words;
 ghost use Rattle.dissonance_rules.specs.Told.{is_open_within};
 ghost use Rattle.rule_law.specs.Within.{notes_within};
 
-use fux_grid::{Cell, Exercise, Onset, cell_of, species_of};
+use fux_grid::{Cell, Exercise, Onset, cell_of, is_mixed, species_of};
 use fux_pitch::{Pitch, interval_of};
 use rule_law::{
     ColumnsAround, begins_bar, cell_around, cells_ahead, falls, is_clash, is_clean, is_step,
@@ -175,7 +175,7 @@ fn is_clean_at<C: ColumnsAround>(
 }
 
 /// Whether the note of a free voice that starts at column `i` is good.
-fn is_good_note<C: ColumnsAround>(around: &C, ex: &Exercise, i: usize, v: u8) -> bool
+pub(crate) fn is_good_note<C: ColumnsAround>(around: &C, ex: &Exercise, i: usize, v: u8) -> bool
     requires voices { ex.now.voices ≤ 4 }
     requires room { C.size around.now ≤ 192 }
     requires place { i < C.size around.now }
@@ -193,7 +193,8 @@ fn is_good_note<C: ColumnsAround>(around: &C, ex: &Exercise, i: usize, v: u8) ->
     )
 }
 
-/// S15, for one way to name the voices: whether a note of `v`, a free voice, starts within a bar and clashes with `w`, and isn't good.
+/// S15, for one way to name the voices, where one species is given: whether a note of `v`, a free voice, starts within a bar and clashes
+/// with `w`, and isn't good.
 pub(crate) fn clashes_badly<C: ColumnsAround>(
     around: &C,
     ex: &Exercise,
@@ -207,7 +208,7 @@ pub(crate) fn clashes_badly<C: ColumnsAround>(
     ensures { (s : Columns) (first : ℕ) → C.show around.now ex.now s first → first ≤ i - 1 → is_free ex.now v ≡ true →
         result ≡ words.clashes_badly_at ex.now s i v w }
 {
-    if !clashes_within_bar(i, around.cells(ex, i), v as usize, w as usize) {
+    if is_mixed(ex) || !clashes_within_bar(i, around.cells(ex, i), v as usize, w as usize) {
         return false;
     }
     !is_good_note(around, ex, i, v)

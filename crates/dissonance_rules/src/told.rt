@@ -1,12 +1,13 @@
-//! How far back the newest columns tell what a note is: S15 is settled at all places before.
+//! How far back the newest columns tell what a note is: S15 and S27 are settled at all places before.
 
-ghost use Rattle.std.specs.Prelude.{◌≡◌, ◌<◌, ◌≤◌, ◌+◌, ◌-◌, length};
+ghost use Rattle.std.specs.Prelude.{◌≡◌, ◌<◌, ◌≤◌, ◌+◌, ◌-◌, true, length};
 ghost use Rattle.fux_grid.specs.Columns.{Columns, cell_at};
 ghost use Rattle.fux_grid.specs.Exercises.{IsValid, columns_in};
 ghost use Rattle.rule_law.specs.Newest.{AreNewestOf};
 ghost use Rattle.rule_law.specs.RuleCrates.{SettlesNoOther};
 ghost use Rattle.rule_law.specs.Terms as terms;
 ghost use Rattle.dissonance_rules.specs.Book.{late_count, late_first, late_row};
+ghost use Rattle.dissonance_rules.specs.Clashes.{is_told_later};
 ghost use Rattle.dissonance_rules.specs.Passing as passing;
 ghost use Rattle.dissonance_rules.specs.Told.{AreAllTold, AreTold};
 
@@ -71,17 +72,18 @@ fn all_told_until(newest: &NewestColumns, ex: &Exercise, first: usize, end: usiz
     told
 }
 
-/// Those of S15's places at which, as the newest columns tell, the newest one may settle a break.
-pub(crate) fn passing_left(newest: &NewestColumns, ex: &Exercise) -> LatePlaces
+/// Those of the places of S15 or S27 at which, as the newest columns tell, the newest one may settle a break.
+pub(crate) fn passing_left(newest: &NewestColumns, rule: u8, ex: &Exercise) -> LatePlaces
     requires valid { IsValid ex.now }
     requires begun { 0 < newest.now.len }
     requires room { newest.now.len ≤ columns_in ex.now }
-    ensures from { late_first 15 ex.now (newest.now.len - 1) ≤ result.first }
+    requires told { is_told_later rule ≡ true }
+    ensures from { late_first rule ex.now (newest.now.len - 1) ≤ result.first }
     ensures to { result.first + result.count
-        ≤ late_first 15 ex.now (newest.now.len - 1) + late_count 15 ex.now (newest.now.len - 1) }
-    ensures left { SettlesNoOther (late_row 15) ex.now newest.now result.first result.count }
+        ≤ late_first rule ex.now (newest.now.len - 1) + late_count rule ex.now (newest.now.len - 1) }
+    ensures left { SettlesNoOther (late_row rule) ex.now newest.now result.first result.count }
 {
-    let places = passing_places(ex, newest.len - 1);
+    let places = passing_places(rule, ex, newest.len - 1);
     if places.count == 0 {
         return places;
     }

@@ -7,7 +7,7 @@ pub returns : goal.returns
 returns g c = λ s first shown from free.
     let size = g.met.C.ColumnsAround.counted c.args.around.now c.args.ex.now s first shown in
     c.is_good.ensures
-    ∙ rw (c.species_of.ensures, c.pitch.ensures, c.onset_pitch.ensures, c.onset_pitch-2.ensures)
+    ∙ rw (c.species_of.ensures.value, c.pitch.ensures, c.onset_pitch.ensures, c.onset_pitch-2.ensures)
     (good_found (species_in c.args.ex.now c.args.v) s c.args.i c.args.v c.count.result c.pitch_before.result
     c.cell_around.result c.next_notes-next.result.first c.next_notes-next.result.second c.is_clean_at.result
     (c.count.ensures ∙ size)

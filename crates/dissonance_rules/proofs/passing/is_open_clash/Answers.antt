@@ -18,7 +18,7 @@ returns-then-has_ornaments g c = λ s first shown from.
     c.cells.result.now (c.cells.ensures s first shown from) (sym c.if-not-starts_in_clash.ensures)
     (sym c.if-reaches_last_bar.ensures)
     c.next_notes-next.result.second (c.next_notes-next.ensures.second s first shown from)
-    (sym (ap has_ornaments c.species_of.ensures) ∙ sym c.if-has_ornaments.ensures) c.is_none.result
+    (sym (ap has_ornaments c.species_of.ensures.value) ∙ sym c.if-has_ornaments.ensures) c.is_none.result
     c.is_none.ensures
 
 pub returns : goal.returns
@@ -29,5 +29,5 @@ returns g c = λ s first shown from.
     c.cells.result.now (c.cells.ensures s first shown from) (sym c.if-not-starts_in_clash.ensures)
     (sym c.if-reaches_last_bar.ensures)
     c.next_notes-next.result.first (c.next_notes-next.ensures.first s first shown from)
-    (sym (ap has_ornaments c.species_of.ensures) ∙ sym c.if-has_ornaments.ensures) c.is_none-2.result
+    (sym (ap has_ornaments c.species_of.ensures.value) ∙ sym c.if-has_ornaments.ensures) c.is_none-2.result
     c.is_none-2.ensures

@@ -1,14 +1,14 @@
-use Rattle.std.proofs.Common.{◌≡◌, ◌≤◌, ◌+◌, ◌-◌, ◌∷◌, ◌++◌, [], ℕ, List, true, false, ap, sym, ◌∙◌, inl, inr, arith, length, drop, take}
+use Rattle.std.proofs.Common.{◌≡◌, ◌≤◌, ◌+◌, ◌-◌, ◌∷◌, ◌++◌, [], true, false, ap, sym, ◌∙◌, inl, inr, arith, length, drop, take}
 use Rattle.std.proofs.lemmas.Bool.{and_parts, cases_lt}
 use Rattle.std.proofs.lemmas.List.{length-append, take_at}
-use Rattle.fux_grid.specs.declared.cell.Cell.{Cell}
 use Rattle.fux_grid.specs.Exercises.{species_in}
 use Rattle.rule_law.specs.Growth.{newly}
 use Rattle.rule_law.specs.Places.{reading_of, settled_by}
 use Rattle.dissonance_rules.specs.Book.{late_count, late_first}
-use Rattle.dissonance_rules.specs.Clashes.{clash_row, passing_enough, passing_rule}
+use Rattle.dissonance_rules.specs.Clashes.{clash_enough, clash_row, passing_enough}
 use Rattle.dissonance_rules.specs.Passing.{has_notes_after}
-use Rattle.dissonance_rules.proofs.BookLaws.{rules_keep}
+use Rattle.dissonance_rules.proofs.BookLaws.{late_within}
+use Rattle.dissonance_rules.proofs.LateReadings.{newly-told}
 use Rattle.dissonance_rules.proofs.ToldPlaces.{told_settles}
 use Rattle.dissonance_rules.proofs.told.passing_left.Goals as goal
 
@@ -16,8 +16,8 @@ pub returns-then-places-eq0-clause-left : goal.returns-then-places-eq0-clause-le
 returns-then-places-eq0-clause-left c = λ p col newest on voices i among h.
     let ex = c.args.ex.now in
     let last : c.args.newest.now.len - 1 ≡ length p = omega (arith, newest.count, length-append p (col ∷ [])) in
-    let counts : c.passing_places-places.result.count ≡ late_count 15 ex (length p) = c.passing_places-places.ensures.count
-    ∙ ap (late_count 15 ex) last in
+    let counts : c.passing_places-places.result.count ≡ late_count c.args.rule ex (length p) = c.passing_places-places.ensures.count c.requires.told
+    ∙ ap (late_count c.args.rule ex) last in
     absurd (omega (arith, among.from, among.to, counts, c.if-places-eq0.true))
 
 pub returns-clause-left : goal.returns-clause-left
@@ -26,11 +26,13 @@ returns-clause-left c = λ p col newest on voices i among h.
     let told = c.all_told_until-first.result in
     let size : c.args.newest.now.len ≡ length p + 1 = newest.count ∙ length-append p (col ∷ []) in
     let last : c.args.newest.now.len - 1 ≡ length p = omega (arith, size) in
-    let starts : c.passing_places-places.result.first ≡ late_first 15 ex (length p) =
-    c.passing_places-places.ensures.first ∙ ap (late_first 15 ex) last in
-    let newly_there = (and_parts (newly (settled_by (passing_enough ex voices)) p col i)
-    (reading_of (clash_row passing_rule ex voices) (p ++ col ∷ []) i) h).0 in
-    let reached : i ≤ length p = omega (arith, among.to, (rules_keep 15).within ex (length p)) in
+    let starts : c.passing_places-places.result.first ≡ late_first c.args.rule ex (length p) =
+    c.passing_places-places.ensures.first c.requires.told ∙ ap (late_first c.args.rule ex) last in
+    let newly_there : newly (settled_by (passing_enough ex voices)) p col i ≡ true =
+    sym (newly-told c.args.rule ex voices p col i c.requires.told)
+    ∙ (and_parts (newly (settled_by (clash_enough c.args.rule ex voices)) p col i)
+    (reading_of (clash_row c.args.rule ex voices) (p ++ col ∷ []) i) h).0 in
+    let reached : i ≤ length p = omega (arith, among.to, late_within ex c.args.rule (length p)) in
     elim (cases_lt i told) [
       | inl before ↦
           let prefix : take (c.args.newest.now.len - 1) (p ++ col ∷ [])

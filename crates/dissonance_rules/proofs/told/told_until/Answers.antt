@@ -13,7 +13,7 @@ loop-k-init c = record {
       ≡ notes_from s c.args.end c.args.v c.args.end = ap (notes_from s c.args.end c.args.v) (omega arith) in
       let needed : c.notes_needed-left.result
       ≡ notes_needed (species_in c.args.ex.now c.args.v) = c.notes_needed-left.ensures.value
-      ∙ ap notes_needed c.species_of.ensures in
+      ∙ ap notes_needed c.species_of.ensures.value in
       omega (arith, none, whole, needed);
 }
 

@@ -1,5 +1,5 @@
 use Rattle.std.specs.Prelude.{◌-◌, ◌∷◌, ◌++◌, []}
-use Rattle.std.proofs.Common.{arith}
+use Rattle.std.proofs.Common.{sym, arith}
 use Rattle.dissonance_rules.proofs.LateReadings.{broken_at_place, broken_if_newly, kept_around, unbroken}
 use Rattle.dissonance_rules.proofs.book.DissonanceRuleCrate.breaks_late.Goals as goal
 
@@ -10,13 +10,13 @@ returns-then-not-breaks_clash c = λ late p col part newest on among.
     (kept_around c.args.rule c.args.ex.now p col c.args.place on c.args.newest.now newest late among)
     (omega arith) (omega (arith, c.if-place-newest.false, newest.count)))
 
-pub returns-then-rule-ne15 : goal.returns-then-rule-ne15
-returns-then-rule-ne15 c = λ late p col part newest on among.
+pub returns-then-not-is_told_later : goal.returns-then-not-is_told_later
+returns-then-not-is_told_later c = λ late p col part newest on among.
     broken_at_place c.args.rule c.args.ex.now p col c.args.place on c.args.voices.bits late
     (c.if-not-breaks_clash.ensures (p ++ col ∷ []) (c.args.place - 3)
     (kept_around c.args.rule c.args.ex.now p col c.args.place on c.args.newest.now newest late among)
     (omega arith) (omega (arith, c.if-place-newest.false, newest.count)))
-    c.if-rule-ne15.true among
+    (sym c.if-not-is_told_later.ensures) among
 
 pub returns : goal.returns
 returns c = λ late p col part newest on among.
@@ -26,4 +26,4 @@ returns c = λ late p col part newest on among.
     c.settles_passing.result
     (c.if-not-breaks_clash.ensures (p ++ col ∷ []) (c.args.place - 3) is (omega arith)
     (omega (arith, c.if-place-newest.false, newest.count)))
-    c.if-rule-ne15.false (c.settles_passing.ensures p col (c.args.place - 3) is (omega arith))
+    (sym c.if-not-is_told_later.ensures) (c.settles_passing.ensures p col (c.args.place - 3) is (omega arith))
