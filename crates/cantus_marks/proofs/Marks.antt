@@ -397,6 +397,7 @@ exercise_of plan cantus = record {
   bars = plan.bars;
   species = 1;
   species_voice = 1;
+  mixed = None;
   cantus_voice = 0;
   cantus = cantus;
   ranges = [];

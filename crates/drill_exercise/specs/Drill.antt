@@ -59,6 +59,7 @@ pub record IsDrill (n : ℕ) (ex : Exercise) : Type 0 where
   pub bars : ex.bars ≡ 24
   pub species : ex.species ≡ 1
   pub species_voice : ex.species_voice ≡ 1
+  pub mixed : ex.mixed ≡ None
   pub cantus_voice : ex.cantus_voice ≡ 0
   pub cantus : map degree_of ex.cantus ≡ drill_degrees n
   pub naturals : AreNaturals ex.cantus

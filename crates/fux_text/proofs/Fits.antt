@@ -98,6 +98,6 @@ unfolding given_at
 fits-with ex o columns all = λ i v lt there. all i v lt there
 
 pub fits-bare : (ex : Exercise) (columns : List (List Cell)) → FitsGiven ex columns
-    → FitsGiven (record ex { ranges = []; relax = []; setting = None }) columns
+    → FitsGiven (record ex { mixed = None; ranges = []; relax = []; setting = None }) columns
 unfolding given_at
 fits-bare ex columns all = λ i v lt there. all i v lt there

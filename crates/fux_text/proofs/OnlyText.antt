@@ -66,6 +66,7 @@ record HasLines (text : TextLines) (ex : Exercise) : Type 0 where
   pub lines : line_texts text ≡ lines_before_given version ex ++ (fixed ++ sung)
   pub newer : IsVersionFor version ex.given
   pub given : AreGivenLines fixed ex.given
+  pub unmixed : ex.mixed ≡ None
   pub setting : Sings ex sung ex.setting
 
 lines-only : (text : TextLines) (ex : Exercise) (rest : TextLines) → IsTable note_table text ex rest → HasLines text ex
@@ -88,6 +89,7 @@ lines-only text ex rest
           ∙ all_lines version head ranges relax given setting (read.fixed ++ sung);
       newer = givens-version version head c given d (version-bounds text version v vs) gs;
       given = read.given;
+      unmixed = ok.unmixed;
       setting = sings_whole head ranges relax given setting sung setting
           (setting-only (line_fits (record head { given = given })) head d setting e ok.cantus_there ok.whole sg);
     })
@@ -106,6 +108,7 @@ note_text-only bytes ex e =
       lines = words-of_lines bytes ∙ l.lines;
       newer = l.newer;
       given = l.given;
+      unmixed = l.unmixed;
       valid = exercise-valid bytes ex e;
       setting = l.setting;
     }

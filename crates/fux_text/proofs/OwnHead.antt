@@ -81,9 +81,9 @@ cantus_line-own after l more voices species_voice bars v cantus few there differ
     ≡ Ok ((v, cantus), left after more)) whole
     (rw (other_voice-own species_voice voices v few there differs, ps) refl)
 
--- an exercise without what its other lines say
+-- an exercise without what its other lines say, and with no mixed species
 abbrev pub head_of : Exercise → Exercise
-head_of ex = record ex { ranges = []; relax = []; given = []; setting = None }
+head_of ex = record ex { mixed = None; ranges = []; relax = []; given = []; setting = None }
 
 pub version-own : (version after : ℕ) (lay : ℕ → LineWords) (more : List (List (List ℕ))) → 1 ≤ version
     → version ≤ newest_version

@@ -12,7 +12,7 @@ use Rattle.std.proofs.lemmas.List.Folds.{flat_map-map, list_all-append}
 use Rattle.fux_grid.specs.declared.exercise.Exercise.{Exercise}
 use Rattle.fux_grid.specs.declared.exercise.Relax.{Relax}
 use Rattle.fux_grid.specs.declared.given.GivenBar.{GivenBar}
-use Rattle.fux_grid.specs.Exercises.{BeginsWithWhole, FitsGiven, IsFree, IsGiven, IsGivenBar, IsRangeLine, IsRelax, IsValid, range_lines}
+use Rattle.fux_grid.specs.Exercises.{AreSpecies, BeginsWithWhole, FitsGiven, IsFree, IsGiven, IsGivenBar, IsRangeLine, IsRelax, IsValid, range_lines}
 use Rattle.fux_grid.specs.Grid.{Grid}
 use Rattle.text_lines.specs.Reading.{begins, same_text}
 use Rattle.text_lines.specs.Tables.{table_in, text_read}
@@ -253,7 +253,7 @@ note_text-read bytes ex t =
       setting-own (line_fits (record (head_of ex) { given = ex.given })) (head_of ex) ex.setting after given.0 t.sung
           (singable_head ex (singable ex t.valid))
           (setting-head ex t.sung ex.setting t.setting) (setting-fits ex ex.setting t.sung t.setting t.valid.setting_fits),
-    ) refl
+    ) (ap (λ (species : Option (List ℕ)). Ok (record ex { mixed = species })) (sym t.unmixed))
 
 -- and so are the lines of a setting
 pub setting_lines-read : (ex : Exercise) (bytes : List ℕ) (score : Grid) → IsValid ex → AreSettingLines ex bytes score
@@ -281,6 +281,7 @@ valid_with ex o valid setting fitting = record {
   species_there = valid.species_there;
   cantus_there = valid.cantus_there;
   differ = valid.differ;
+  mixed = species ex.mixed valid.mixed;
   whole_cantus = valid.whole_cantus;
   range_lines_fit = λ k d lt.
       let one = valid.range_lines_fit k d lt in
@@ -313,6 +314,13 @@ valid_with ex o valid setting fitting = record {
   setting_fits = fits o fitting;
 }
   where
+    species : (m : Option (List ℕ)) → IfSome m (AreSpecies ex) → IfSome m (AreSpecies (record ex { setting = o }))
+    species None s = tt
+    species (Some each) s = record {
+      free = λ v free. s.free v (record { there = free.there; no_cantus = free.no_cantus });
+      cantus = s.cantus;
+    }
+
     fits : (o : Option Grid) → IfSome o (λ score. FitsGiven ex score.columns)
         → IfSome o (λ score. FitsGiven (record ex { setting = o }) score.columns)
     fits None f = tt
@@ -347,10 +355,10 @@ written-version [] = inl (refl, refl)
 written-version (line ∷ given) = inr refl
 
 -- what is written is a note text
-pub note_text-own : (ex : Exercise) (o : Option Grid) → IsValid ex → IfSome o (IsSettingOf ex)
+pub note_text-own : (ex : Exercise) (o : Option Grid) → IsValid ex → ex.mixed ≡ None → IfSome o (IsSettingOf ex)
     → IfSome o (λ score. FitsGiven ex score.columns)
     → length (note_text ex o) ≤ 65536 → IsNoteText (note_text ex o) (record ex { setting = o })
-note_text-own ex o valid setting fits short =
+note_text-own ex o valid unmixed setting fits short =
     let ls = exercise_lines ex ++ sung_lines ex o in
     let text = note_text-lines ex o in
     let plain = lines-plain ex o valid in
@@ -365,6 +373,7 @@ note_text-own ex o valid setting fits short =
           ∙ append_assoc before (map given_words ex.given) (sung_lines ex o);
       newer = written-version ex.given;
       given = given_words-lines ex ex.given valid.given_fit;
+      unmixed = unmixed;
       valid = valid_with ex o valid setting fits;
       setting = sings_with ex (sung_lines ex o) o (sung_lines-sing ex o (omega (arith, valid.fewest_bars)) setting);
     }
@@ -385,8 +394,8 @@ sing_lines-own ex score valid setting short =
 -- so it is read back
 pub note_text-back : NoteTextReadsBack
 unfolding IsTextOf
-note_text-back ex o valid setting fits short =
-    note_text-own ex o valid setting fits short
+note_text-back ex o valid unmixed setting fits short =
+    note_text-own ex o valid unmixed setting fits short
 
 pub sing_lines-back : SingLinesReadBack
 unfolding AreSingLinesOf

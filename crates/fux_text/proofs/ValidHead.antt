@@ -1,6 +1,6 @@
 -- The lines before the ranges give numbers within their limits, and a pitch for each bar (`head-valid`); the version is one
 -- of those that there are (`version-bounds`).
-use Rattle.std.proofs.Common.{◌≡◌, ◌≢◌, ℕ, zero, suc, ◌+◌, ◌-◌, ◌<◌, List, [], ◌∷◌, ◌++◌, length, length-append, refl, sym, ap, subst, arith}
+use Rattle.std.proofs.Common.{◌≡◌, ◌≢◌, ℕ, zero, suc, ◌+◌, ◌-◌, ◌<◌, List, [], ◌∷◌, ◌++◌, length, None, length-append, refl, sym, ap, subst, arith}
 use Rattle.fux_pitch.specs.declared.pitch.Pitch.{Pitch}
 use Rattle.fux_grid.specs.declared.exercise.Exercise.{Exercise}
 use Rattle.fux_text.specs.declared.fault.TextKind.{TextKind}
@@ -67,7 +67,7 @@ cantus-bounds voices species_voice bars at x h =
       whole = omega (arith, ps.long);
     }
 
--- an exercise without ranges and setting is within the limits
+-- an exercise whose species aren't mixed, without ranges and setting, is within the limits
 pub record IsHead (ex : Exercise) : Type 0 where
   pub voices : IsWithin 2 most_voices ex.voices
   pub bars : IsWithin 3 24 ex.bars
@@ -77,6 +77,7 @@ pub record IsHead (ex : Exercise) : Type 0 where
   pub differ : ex.species_voice ≢ ex.cantus_voice
   pub whole : length ex.cantus ≡ ex.bars
   pub plain : ex.given ≡ []
+  pub unmixed : ex.mixed ≡ None
 
 pub head-valid : (text : TextLines) (ex : Exercise) (rest : TextLines) → IsTable head_table text ex rest → IsHead ex
 head-valid text ex rest (mode, b, m, (voices, c, vs, (bars, d, bs, (species, e, sp, (cantus, f, cs, same))))) =
@@ -93,4 +94,5 @@ head-valid text ex rest (mode, b, m, (voices, c, vs, (bars, d, bs, (species, e, 
       differ = λ same. tune.voice.differs (sym same);
       whole = tune.whole;
       plain = refl;
+      unmixed = refl;
     })

@@ -1,11 +1,11 @@
 -- What is read is a valid exercise (`exercise-valid`).
-use Rattle.std.proofs.Common.{◌≡◌, ℕ, List, Option, Some, None, Ok, subst, arith}
+use Rattle.std.proofs.Common.{◌≡◌, ℕ, List, Option, Some, None, Ok, sym, subst, arith}
 use Rattle.std.specs.Prelude.{All, IfSome}
 use Rattle.fux_grid.specs.declared.exercise.Exercise.{Exercise}
 use Rattle.fux_grid.specs.declared.exercise.RangeLine.{RangeLine}
 use Rattle.fux_grid.specs.declared.exercise.Relax.{Relax}
 use Rattle.fux_grid.specs.declared.given.GivenBar.{GivenBar}
-use Rattle.fux_grid.specs.Exercises.{FitsGiven, IsGiven, IsGivenBar, IsRangeLine, IsRelax, IsValid}
+use Rattle.fux_grid.specs.Exercises.{AreSpecies, FitsGiven, IsGiven, IsGivenBar, IsRangeLine, IsRelax, IsValid}
 use Rattle.fux_grid.specs.Grid.{Grid}
 use Rattle.text_lines.specs.Lines.{TextLines, lines_in}
 use Rattle.text_lines.specs.Tables.{IsTable}
@@ -35,6 +35,7 @@ all-valid head ranges relax given setting h r l g s f = record {
   species_there = h.species_there;
   cantus_there = h.cantus_there;
   differ = h.differ;
+  mixed = subst (λ (species : Option (List ℕ)). IfSome species (AreSpecies ex)) (sym h.unmixed) tt;
   whole_cantus = h.whole;
   range_lines_fit = fit ranges r.fit;
   each_has_range = λ v free. r.each v (record { there = free.there; no_cantus = free.no_cantus });

@@ -57,8 +57,8 @@ AreGivenLines (words ∷ lines) (line ∷ given) = IsGivenLine words line × Are
 abbrev pub IsVersionFor : ℕ → List GivenBar → Type 0
 IsVersionFor version given = ((version ≡ 1) × (given ≡ [])) ⊎ (version ≡ 2)
 
--- a note text of an exercise: it has the exercise's lines in a version, those of the notes that the exercise gives, and
--- then those of its setting, if it has one
+-- a note text of an exercise whose species aren't mixed: it has the exercise's lines in a version, those of the notes that
+-- the exercise gives, and then those of its setting, if it has one
 pub record IsNoteText (bytes : List ℕ) (ex : Exercise) : Type 0 where
   pub short : length bytes ≤ 65536
   pub utf8 : IsUtf8 bytes
@@ -68,6 +68,7 @@ pub record IsNoteText (bytes : List ℕ) (ex : Exercise) : Type 0 where
   pub lines : words_in bytes ≡ lines_before_given version ex ++ (fixed ++ sung)
   pub newer : IsVersionFor version ex.given
   pub given : AreGivenLines fixed ex.given
+  pub unmixed : ex.mixed ≡ None
   pub valid : IsValid ex
   pub setting : Sings ex sung ex.setting
 

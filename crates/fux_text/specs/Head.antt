@@ -49,7 +49,7 @@ abbrev pub cantus_row : ℕ → ℕ → ℕ → Row TextKind (ℕ × List Pitch)
 cantus_row voices species_voice bars =
     Row.place (named_place kinds.Cantus kinds.Cantus (other_voice species_voice voices)) (λ v. pitches_row v bars [])
 
--- an exercise without ranges, relax lines, given notes and setting
+-- an exercise whose species aren't mixed, without ranges, relax lines, given notes and setting
 abbrev pub bare : Mode → ℕ → ℕ → ℕ × ℕ → ℕ × List Pitch → Exercise
 bare mode voices bars species cantus = record {
   mode = mode;
@@ -57,6 +57,7 @@ bare mode voices bars species cantus = record {
   bars = bars;
   species = species.0;
   species_voice = species.1;
+  mixed = None;
   cantus_voice = cantus.0;
   cantus = cantus.1;
   ranges = [];

@@ -1,9 +1,11 @@
 -- Where S18 may be broken (`within_a_bar`, `elsewhere`), and that it is settled at its own column (`newly_bare`).
-use Rattle.std.specs.Prelude.{◌≡◌, ℕ, ◌==◌, Bool, true, false, ◌&&◌, ◌||◌, nat_le, List, [], ◌∷◌, ◌++◌, IsTrue, length, if◌then◌else◌, refl}
+use Rattle.std.specs.Prelude.{◌≡◌, ℕ, ◌==◌, Bool, true, false, ◌&&◌, ◌||◌, nat_le, List, [], ◌∷◌, ◌++◌, Option, Some, None, IsTrue, is_some, length, slice_index_or, if◌then◌else◌, refl}
+use Rattle.std.specs.Option.{option_map_or}
 use Rattle.std.proofs.Common.{ap}
 use Rattle.std.proofs.lemmas.Bool.{and_right}
 use Rattle.fux_grid.specs.declared.cell.Cell.{Cell}
 use Rattle.fux_grid.specs.declared.exercise.Exercise.{Exercise}
+use Rattle.fux_grid.specs.Exercises.{is_mixed}
 use Rattle.rule_law.proofs.AtOnce.{among_own, newly_breaks-there}
 use Rattle.rule_law.specs.Bars.{bar_line_before, begins_bar}
 use Rattle.rule_law.specs.Places.{reading_of}
@@ -18,44 +20,38 @@ pub within_a_bar : (ex : Exercise) (voices i : ℕ) (behind : List (List Cell)) 
 within_a_bar ex voices i behind now within =
     on_pair-none ex _ voices
     (λ v w. ap (λ b. (b && nat_le 8 i && arrive_in_parallel (bar_line_before behind) now v w)
-    && stays_since_bar ex behind v && stays_since_bar ex behind w)
-    (and_right (goes_within_bars ex v || goes_within_bars ex w) (begins_bar i) within))
+    && (stays_since_bar ex behind v || stays_since_bar ex behind w)) within)
 
--- no voice goes on within bars but in the species of the exercise
-goes_only : (ex : Exercise) (v : ℕ) → moves_within_bars ex.species ≡ false → goes_within_bars ex v ≡ false
-goes_only ex v h = at (v == ex.species_voice)
+-- where species aren't mixed, no voice goes on within bars but in the species of the exercise
+goes_only : (ex : Exercise) (v : ℕ) → (is_mixed ex || moves_within_bars ex.species) ≡ false
+    → goes_within_bars ex v ≡ false
+goes_only ex v = of ex.mixed
   where
-    at : (b : Bool) → moves_within_bars (if b then ex.species else 1) ≡ false
-    at true = h
-    at false = refl
+    at : (b : Bool) → moves_within_bars ex.species ≡ false → moves_within_bars (if b then ex.species else 1) ≡ false
+    at true h = h
+    at false h = refl
+
+    of : (mixed : Option (List ℕ)) → (is_some mixed || moves_within_bars ex.species) ≡ false
+        → moves_within_bars (option_map_or (λ species. slice_index_or species v 1) mixed
+        (if v == ex.species_voice then ex.species else 1)) ≡ false
+    of None h = at (v == ex.species_voice) h
+    of (Some species) h = cc
 
 -- where it may not be broken, no two voices break it
 pub elsewhere : (ex : Exercise) (voices i : ℕ) (behind : List (List Cell)) (now : List Cell)
     → may_be_bare ex i ≡ false → afterbeat_row ex voices i behind now [] ≡ false
 elsewhere ex voices i behind now none =
     on_pair-none ex _ voices
-    (λ v w. ap (λ b. b && stays_since_bar ex behind v && stays_since_bar ex behind w)
-    (at (moves_within_bars ex.species) (begins_bar i) (nat_le 8 i) (goes_within_bars ex v) (goes_within_bars ex w)
-    (arrive_in_parallel (bar_line_before behind) now v w) none (goes_only ex v) (goes_only ex w)))
+    (λ v w. at (is_mixed ex || moves_within_bars ex.species) (begins_bar i) (nat_le 8 i)
+    (arrive_in_parallel (bar_line_before behind) now v w) (goes_within_bars ex v) (goes_within_bars ex w) _ _
+    none (goes_only ex v) (goes_only ex w))
   where
-    at : (a b c g h y : Bool) → (a && b && c) ≡ false → (a ≡ false → g ≡ false) → (a ≡ false → h ≡ false)
-        → ((g || h) && b && c && y) ≡ false
-    at false b c true h y e f k = cc' (f refl)
-      where
-        cc' : true ≡ false → ((true || h) && b && c && y) ≡ false
-        cc' e = cc
-    at false b c false true y e f k = cc' (k refl)
-      where
-        cc' : true ≡ false → ((false || true) && b && c && y) ≡ false
-        cc' e = cc
-    at false b c false false y e f k = refl
-    at true true true g h y e f k = cc
-    at true true false true h y e f k = refl
-    at true true false false true y e f k = refl
-    at true true false false false y e f k = refl
-    at true false c true h y e f k = refl
-    at true false c false true y e f k = refl
-    at true false c false false y e f k = refl
+    at : (a b c y g h m n : Bool) → (a && b && c) ≡ false → (a ≡ false → g ≡ false) → (a ≡ false → h ≡ false)
+        → ((b && c && y) && ((g && m) || (h && n))) ≡ false
+    at true true true y g h m n e f k = cc
+    at true true false y g h m n e f k = refl
+    at true false c y g h m n e f k = refl
+    at false b c y g h m n e f k = rw (f refl, k refl) (and_right (b && c && y) false refl)
 
 -- at a place that the newest column may settle: it is the newest column, and what is newly settled there is S18
 module _ (rule : ℕ) (ex : Exercise) (voices : ℕ) (p : List (List Cell)) (col : List Cell) (place : ℕ) where

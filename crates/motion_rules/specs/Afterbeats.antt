@@ -1,5 +1,5 @@
 -- S18: equal perfect intervals at the beginnings of two bars in a row, with nothing between that hides them.
-use Rattle.std.specs.Prelude.{ℕ, ◌==◌, Bool, true, not, ◌&&◌, ◌||◌, nat_le, List, [], ◌∷◌, Option, Some, map, slice_index_or}
+use Rattle.std.specs.Prelude.{ℕ, ◌==◌, Bool, true, ◌&&◌, ◌||◌, nat_le, List, [], ◌∷◌, Option, Some, map, slice_index_or}
 use Rattle.std.specs.List.{list_all}
 use Rattle.fux_pitch.specs.declared.pitch.Pitch.{Pitch}
 use Rattle.fux_grid.specs.declared.cell.Cell.{Cell}
@@ -41,25 +41,20 @@ arrive_in_parallel before now v w =
     && differs (pitch_of (cell_in before v)) (pitch_of (cell_in now v))
     && differs (pitch_of (cell_in before w)) (pitch_of (cell_in now w))
 
--- at the beginning of a bar that isn't the first, two voices, of which one goes on within bars, have arrived so since the beginning of
--- the bar before
-abbrev pub arrive_at_bar : Exercise → ℕ → List Cell → List Cell → ℕ → ℕ → Bool
-arrive_at_bar ex i bar_line now v w =
-    (goes_within_bars ex v || goes_within_bars ex w)
-    && begins_bar i && nat_le 8 i
-    && arrive_in_parallel bar_line now v w
+-- at the beginning of a bar that isn't the first, two voices have arrived so since the beginning of the bar before
+abbrev pub arrive_at_bar : ℕ → List Cell → List Cell → ℕ → ℕ → Bool
+arrive_at_bar i bar_line now v w = begins_bar i && nat_le 8 i && arrive_in_parallel bar_line now v w
 
--- the notes that a voice starts since the beginning of the bar before, if it goes on within bars, stay near the pitch that it sounds there
+-- a voice goes on within bars, and the notes that it starts since the beginning of the bar before stay near the pitch that it sounds there
 abbrev pub stays_since_bar : Exercise → List (List Cell) → ℕ → Bool
 stays_since_bar ex behind v =
-    not (goes_within_bars ex v)
-    || never_leaves (pitch_of (cell_in (bar_line_before behind) v)) (newest_cells behind v)
+    goes_within_bars ex v && never_leaves (pitch_of (cell_in (bar_line_before behind) v)) (newest_cells behind v)
 
--- S18: they have arrived so, and each that goes on within bars stays near
+-- S18: they have arrived so, and one of them that goes on within bars has stayed near
 abbrev pub is_bare_parallel : Exercise → ℕ → List (List Cell) → List Cell → ℕ → ℕ → Bool
 is_bare_parallel ex i behind now v w =
-    arrive_at_bar ex i (bar_line_before behind) now v w
-    && stays_since_bar ex behind v && stays_since_bar ex behind w
+    arrive_at_bar i (bar_line_before behind) now v w
+    && (stays_since_bar ex behind v || stays_since_bar ex behind w)
 
 abbrev pub afterbeat_row : Exercise → ℕ → Row Bool
 afterbeat_row ex voices i behind now ahead = on_pair ex (is_bare_parallel ex i behind now) voices

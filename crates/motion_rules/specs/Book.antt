@@ -1,6 +1,7 @@
 -- The rules and tolls of motion as a crate's book.
 use Rattle.std.specs.Prelude.{ℕ, Bool, ◌==◌, ◌&&◌, ◌||◌, nat_le, true, false, if◌then◌else◌}
 use Rattle.fux_grid.specs.declared.exercise.Exercise.{Exercise}
+use Rattle.fux_grid.specs.Exercises.{is_mixed}
 use Rattle.rule_law.specs.declared.table.Form.TheVariants.{TwoVoices}
 use Rattle.rule_law.specs.declared.table.Kind.TheVariants.{Column, Pair, Window}
 use Rattle.rule_law.specs.declared.table.Stands.TheVariants.{Anywhere, AtBars}
@@ -38,9 +39,9 @@ at_once_row n = record {
   count = λ ex i. 1;
 }
 
--- S18 may be broken at the column: a bar that isn't the first begins, and the species goes on within bars
+-- S18 may be broken at the column: a bar that isn't the first begins, and the species goes on within bars, or species are mixed
 abbrev pub may_be_bare : Exercise → ℕ → Bool
-may_be_bare ex i = moves_within_bars ex.species && begins_bar i && nat_le 8 i
+may_be_bare ex i = (is_mixed ex || moves_within_bars ex.species) && begins_bar i && nat_le 8 i
 
 abbrev pub late_row : ℕ → RuleRow
 late_row n = record {

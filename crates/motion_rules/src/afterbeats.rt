@@ -82,12 +82,9 @@ fn goes_within_bars(ex: &Exercise, v: u8) -> bool
 
 /// Whether at column `i`, whose cells are `now`, two voices have arrived so since `bar_line`, the column at the beginning of the bar
 /// before.
-fn arrive_at_bar(ex: &Exercise, i: usize, bar_line: &[Cell], now: &[Cell], v: u8, w: u8) -> bool
-    ensures { result ≡ words.arrive_at_bar ex.now i bar_line.now now.now v w }
+fn arrive_at_bar(i: usize, bar_line: &[Cell], now: &[Cell], v: u8, w: u8) -> bool
+    ensures { result ≡ words.arrive_at_bar i bar_line.now now.now v w }
 {
-    if !goes_within_bars(ex, v) && !goes_within_bars(ex, w) {
-        return false;
-    }
     if !begins_bar(i) {
         return false;
     }
@@ -97,14 +94,14 @@ fn arrive_at_bar(ex: &Exercise, i: usize, bar_line: &[Cell], now: &[Cell], v: u8
     arrive_in_parallel(bar_line, now, v as usize, w as usize)
 }
 
-/// Whether a voice, if it goes on within bars, stays near the pitch that it sounds at the beginning of the bar before.
+/// Whether a voice goes on within bars, and stays near the pitch that it sounds at the beginning of the bar before.
 fn stays_since_bar<C: ColumnsAround>(around: &C, ex: &Exercise, i: usize, v: u8) -> bool
     requires { ex.now.voices ≤ 4 }
     ensures { (s : Columns) (first : ℕ) → C.show around.now ex.now s first → first ≤ i - 8 → i ≤ length s →
         result ≡ words.stays_since_bar ex.now (earlier s i) v }
 {
     if !goes_within_bars(ex, v) {
-        return true;
+        return false;
     }
     never_leaves(
         cells_behind(around, ex, i, 7),
@@ -119,20 +116,15 @@ fn is_bare_parallel<C: ColumnsAround>(around: &C, ex: &Exercise, i: usize, v: u8
     ensures { (s : Columns) (first : ℕ) → C.show around.now ex.now s first → first ≤ i - 8 → i < length s →
         result ≡ reading_back (words.is_bare_parallel ex.now) s i v w }
 {
-    arrive_at_bar(
-        ex,
-        i,
-        cells_behind(around, ex, i, 7),
-        around.cells(ex, i),
-        v,
-        w,
-    ) && stays_since_bar(around, ex, i, v)
-        && stays_since_bar(around, ex, i, w)
+    if !arrive_at_bar(i, cells_behind(around, ex, i, 7), around.cells(ex, i), v, w) {
+        return false;
+    }
+    stays_since_bar(around, ex, i, v) || stays_since_bar(around, ex, i, w)
 }
 
-/// S18: whether at the beginning of a bar that isn't the first, two voices, of which one is of species 2, 3 or 5, sound a perfect
-/// interval equal to that at the beginning of the bar before, each with another pitch than there, while each note between of a voice of
-/// such a species stays within two degrees of its pitch there. The nine columns up to column `i` are read.
+/// S18: whether at the beginning of a bar that isn't the first, two voices sound a perfect interval equal to that at the beginning of the
+/// bar before, each with another pitch than there, while each note between of one of them that is of species 2, 3 or 5 stays within two
+/// degrees of its pitch there. The nine columns up to column `i` are read.
 pub fn breaks_afterbeat<C: ColumnsAround>(
     around: &C,
     ex: &Exercise,

@@ -9,7 +9,7 @@ use crate::inner_voices::inner_moves;
 use crate::motion::Motion;
 use crate::rows::{breaks, cost};
 use crate::runs::{ends_four_bars, imperfect_runs};
-use fux_grid::{Cell, Exercise, Score, VoiceSet};
+use fux_grid::{Cell, Exercise, Score, VoiceSet, is_mixed};
 use rule_law::{
     ColumnsAround, Form, LatePlaces, Latest, NewestColumns, RuleCrate, begins_bar, cells_behind,
 };
@@ -24,7 +24,7 @@ pub fn book_is_lawful()
 fn may_be_bare(ex: &Exercise, i: usize) -> bool
     ensures { result ≡ books.may_be_bare ex.now i }
 {
-    matches!(ex.species, 2 | 3 | 5) && begins_bar(i) && i >= 8
+    (is_mixed(ex) || matches!(ex.species, 2 | 3 | 5)) && begins_bar(i) && i >= 8
 }
 
 /// S18, Q12 and Q14 are late.

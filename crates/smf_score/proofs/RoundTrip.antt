@@ -178,6 +178,7 @@ module _ (ex : Exercise) (score : Grid) (head : Head) (sounding : IsSounding ex 
     bars = refl;
     species = refl;
     species_voice = refl;
+    mixed = refl;
     cantus_voice = of.cantus_voice;
     cantus = refl;
     relax = refl;

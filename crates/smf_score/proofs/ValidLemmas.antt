@@ -220,6 +220,7 @@ with_valid head notes bars cantus fits few many cantus_there species_there fewes
       species_there = species_there;
       cantus_there = cantus_there;
       differ = fits.differ;
+      mixed = tt;
       whole_cantus = stands.0;
       range_lines_fit = ranges_fit ex 0 notes (omega arith);
       each_has_range = λ v free. one_range head.cantus_voice 0 v notes (omega arith)

@@ -1,5 +1,5 @@
 -- The exercise of placed notes, or the fault that they have together.
-use Rattle.std.specs.Prelude.{ℕ, ◌+◌, ◌*◌, ◌/◌, ◌&&◌, List, [], ◌∷◌, Some, Result, Ok, Err, length, max, min, nat_le, nat_lt, slice_index_or, if◌then◌else◌}
+use Rattle.std.specs.Prelude.{ℕ, ◌+◌, ◌*◌, ◌/◌, ◌&&◌, List, [], ◌∷◌, Some, None, Result, Ok, Err, length, max, min, nat_le, nat_lt, slice_index_or, if◌then◌else◌}
 use Rattle.fux_pitch.specs.declared.pitch.Pitch.{Pitch}
 use Rattle.fux_grid.specs.declared.exercise.Exercise.{Exercise}
 use Rattle.fux_grid.specs.declared.exercise.Head.{Head}
@@ -44,6 +44,7 @@ exercise_with head notes voices bars cantus = record {
   bars = bars;
   species = head.species;
   species_voice = head.species_voice;
+  mixed = None;
   cantus_voice = head.cantus_voice;
   cantus = cantus;
   ranges = ranges_in head.cantus_voice 0 notes;

@@ -1,5 +1,5 @@
 -- What is written reads back: the law that joins the two directions.
-use Rattle.std.specs.Prelude.{◌≡◌, ℕ, ◌<◌, List, map, length, reverse, Some, [], false, true, All, Result, Ok}
+use Rattle.std.specs.Prelude.{◌≡◌, ℕ, ◌<◌, List, map, length, reverse, Some, None, [], false, true, All, Result, Ok}
 use Rattle.std.specs.Option.{unwrap_or}
 use Rattle.fux_pitch.specs.declared.pitch.Pitch.{Pitch}
 use Rattle.fux_pitch.specs.Spelling.{spelled}
@@ -56,6 +56,7 @@ pub record IsReadBack (ex : Exercise) (score : Grid) (head : Head) (read : Exerc
   pub bars : read.bars ≡ ex.bars
   pub species : read.species ≡ head.species
   pub species_voice : read.species_voice ≡ head.species_voice
+  pub mixed : read.mixed ≡ None
   pub cantus_voice : read.cantus_voice ≡ ex.cantus_voice
   pub cantus : read.cantus ≡ map respelled ex.cantus
   pub relax : read.relax ≡ []

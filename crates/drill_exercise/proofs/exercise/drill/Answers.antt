@@ -20,6 +20,7 @@ returns c =
       bars = 24;
       species = 1;
       species_voice = 1;
+      mixed = None;
       cantus_voice = 0;
       cantus = cantus;
       ranges = ranges;
