@@ -7,6 +7,8 @@ mod devices;
 #[cfg(test)]
 mod menus;
 #[cfg(test)]
+mod mixed;
+#[cfg(test)]
 mod notes;
 #[cfg(test)]
 mod pitches;

@@ -5,8 +5,8 @@ ghost use Rattle.std.specs.Prelude.{pos, negsuc, ◌≤ℤ◌, ◌<◌};
 use crate::menus::is_shared;
 use crate::tables::{compare, number, word};
 use fux_pitch::{
-    Interval, Label, List, Memory, Mode, Pitch, final_letter, in_gamut, interval_of, is_consonant,
-    is_imperfect, is_perfect, leading, name, parse_pitch, reduce, semitone, spell,
+    AnyList, Interval, Label, List, Memory, Mode, Pitch, final_letter, in_gamut, interval_of,
+    is_consonant, is_imperfect, is_perfect, leading, name, parse_pitch, reduce, semitone, spell,
 };
 use short_scores::{mode_of, pitch_of};
 use std::alloc::Global;
@@ -324,11 +324,19 @@ fn modes_have_gamuts(rt: HostRuntime) -> Result<(), Fail> {
     compare(&rt, rt.alloc(), GAMUTS, gamut_of)
 }
 
-/// A list, a label and the answer for want of memory, whichever of its two forms std gives.
-fn made(alloc: Global) -> Result<(List<u8>, Label), Memory> {
+/// One item, or the answer for want of memory, whichever of its two forms std gives.
+fn list_of(alloc: Global) -> Result<Vec<u8>, Memory> {
     let mut items = Vec::with_capacity(alloc, 1)?;
     items.push(7)?;
-    Ok((List::new(items), Label::new(String::from_str(alloc, "C4")?)))
+    Ok(items)
+}
+
+/// A list and a label.
+fn made(alloc: Global) -> Result<(List<u8>, Label), Memory> {
+    Ok((
+        List::new(list_of(alloc)?),
+        Label::new(String::from_str(alloc, "C4")?),
+    ))
 }
 
 /// Threads may share the values.
@@ -338,6 +346,11 @@ fn lists_and_labels_hold_what_they_are_made_of(rt: HostRuntime) -> Result<(), Fa
     assert!(rt; list.as_slice() == [7].as_slice() && label.as_str() == "C4");
     is_shared(&list);
     is_shared(&label);
+    let owned = AnyList::new(list_of(rt.alloc())?);
+    let lent = owned.lend();
+    assert!(rt; owned.as_slice() == [7].as_slice() && lent.as_slice() == [7].as_slice());
+    is_shared(&owned);
+    is_shared(&lent);
     is_shared(&spell(60));
     is_shared(&interval_of(pitch_of("C4")?, pitch_of("D4")?));
     is_shared(&Mode::Dorian);

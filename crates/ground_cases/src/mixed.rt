@@ -1,0 +1,56 @@
+//! An exercise whose voices have species of their own.
+
+ghost use Rattle.fux_grid.specs.Exercises.{IsValid};
+
+use crate::tables::{compare, number};
+use fux_grid::{Exercise, is_mixed, mixed_as, species_of, width};
+use short_scores::exercise_of;
+use std::alloc::Global;
+use std::test::Fail;
+
+/// The cantus below a voice with three pitches, in first species, and one with five, in second species.
+const TRIO: &str = "dorian 2 2 0
+cantus D4 E4 D4
+range 1 A4 B4
+range 2 A4 D5";
+
+/// Species of its voices, what each of the upper voices has then, and how wide the first menu is and that of the half bar. The last
+/// five are no species of its voices.
+const MIXED: &str = "\
+1 1 2 = species 1 2, width 18 15
+1 2 2 = species 2 2, width 24 15
+1 3 1 = species 3 1, width 20 15
+1 4 3 = species 4 3, width 6 15
+1 5 1 = species 5 1, width 20 30
+1 5 5 = species 5 5, width 24 60
+2 2 2 = refused
+0 2 2 = refused
+1 0 2 = refused
+1 2 0 = refused
+1 6 2 = refused";
+
+fn told(alloc: Global, ex: &Exercise) -> Result<String, Fail>
+    requires { IsValid ex.now }
+{
+    let (lower, upper) = (species_of(ex, 1), species_of(ex, 2));
+    Ok(format!(in alloc;
+        "species {lower} {upper}, width {} {}",
+        width(ex, 0),
+        width(ex, 4)
+    )?)
+}
+
+fn mixed_of(alloc: Global, case: &str) -> Result<String, Fail> {
+    let trio = exercise_of(alloc, TRIO, 3)?;
+    let species = [number(case, 0)?, number(case, 1)?, number(case, 2)?, 1];
+    let ex = mixed_as(&trio, species);
+    if is_mixed(&trio) || !is_mixed(&ex) || !ex.is_valid() {
+        return Ok(String::from_str(alloc, "refused")?);
+    }
+    told(alloc, &ex)
+}
+
+#[test]
+fn each_voice_has_a_species_of_its_own(rt: HostRuntime) -> Result<(), Fail> {
+    compare(&rt, rt.alloc(), MIXED, mixed_of)
+}
