@@ -2,21 +2,22 @@
 
 ghost use Rattle.std.specs.Prelude.{◌≡◌, IfOk, IfSome, codes, option_map, true};
 ghost use Rattle.clap.specs.Words.{app_of, found_of, is_simple_and_free, rows_of};
-ghost use Rattle.fux_run.specs.Commands.{HasHead, asked, asked_by, asked_of_cantus, cantus_search_in, certify_asked, certify_words, certify_cantus_asked, check_asked, check_cantus_asked, check_cantus_words, check_words, class_asked, class_words, canon_asked, canon_words, compose_asked, drill_asked, drill_words, found_in, fromsmf_asked, fromsmf_words, job_in, new_cantus_asked, new_cantus_words, search_in, task_of, texts};
+ghost use Rattle.fux_run.specs.Commands.{HasHead, asked, asked_by, asked_of_cantus, cantus_search_in, certify_asked, certify_words, certify_cantus_asked, check_asked, check_cantus_asked, check_cantus_words, check_words, class_asked, class_words, canon_asked, canon_words, compose_asked, drill_asked, drill_words, found_in, fromsmf_asked, fromsmf_words, job_in, asked_of_mixed, mark_mixed_asked, mark_mixed_words, mixed_asked, mixed_words, new_cantus_asked, new_cantus_words, search_in, task_of, texts};
 
 use crate::forms::{
     canon_form, certify_form, check_cantus_form, check_form, class_form, drill_form, exercise_form,
-    from_smf_form, new_cantus_form, search_form,
+    from_smf_form, mark_mixed_form, mixed_form, new_cantus_form, search_form,
 };
 use crate::values::{
     certifying, certifying_cantus, checking, checking_cantus, classing, composing, drilling,
-    imitating, inventing, job_on, smf_reading,
+    imitating, inventing, job_on, marking_mixed, mixing, smf_reading,
 };
 use cert_text::Form;
 use clap::ArgMatches;
 use clap::error::ErrorKind;
 use fux_grid::Head;
 use fux_pitch::{Memory, Mode, Pitch};
+use mixed_rules::Named;
 use std::alloc::Global;
 
 /// What is to be made of an exercise.
@@ -32,6 +33,15 @@ pub enum Job {
     Print,
     /// The MIDI file of its setting.
     ToSmf,
+}
+
+/// What is to be made of an exercise whose free voices have a species each.
+#[derive(Clone, Copy)]
+pub enum MixedJob {
+    /// Its best setting, found within this budget.
+    Compose { budget: u32 },
+    /// The marks of its setting.
+    Mark,
 }
 
 /// What is asked of a new cantus.
@@ -54,6 +64,14 @@ pub enum Making<'a> {
         name: &'a str,
         sheet: Option<&'a str>,
         job: Job,
+    },
+    /// Something made of the exercise in a file, with the species that are named for its voices, over the sheet of weights in another
+    /// where one is named.
+    OnMixed {
+        name: &'a str,
+        sheet: Option<&'a str>,
+        named: Named,
+        job: MixedJob,
     },
     /// The verdict on the certificate in a file, for the exercise in another and the sheet of weights in a third where one is named.
     Check {
@@ -136,7 +154,24 @@ pub fn parse(alloc: Global, words: &[String]) -> Result<Option<Command<'_>>, Mem
         "drill" => parse_drill(alloc, rest),
         "class" => parse_class(alloc, rest),
         "canon" => parse_canon(alloc, rest),
-        _ => parse_of_cantus(alloc, word.as_str(), rest),
+        _ => parse_of_mixed(alloc, word.as_str(), rest),
+    }
+}
+
+/// The command on a mixed exercise or on new cantus that a word and those behind it ask for, or none where they are of no such command's
+/// form.
+fn parse_of_mixed<'a>(
+    alloc: Global,
+    word: &str,
+    rest: &'a [String],
+) -> Result<Option<Command<'a>>, Memory>
+    ensures asked { IfOk result (λ found. option_map task_of found ≡ asked_of_mixed word.now (texts rest.now)) }
+    ensures head { IfOk result (λ found. IfSome found HasHead) }
+{
+    match word {
+        "mixed" => parse_mixed(alloc, rest),
+        "markmixed" => parse_mark_mixed(alloc, rest),
+        _ => parse_of_cantus(alloc, word, rest),
     }
 }
 
@@ -255,6 +290,30 @@ fn parse_canon(alloc: Global, words: &[String]) -> Result<Option<Command<'_>>, M
         return Ok(None);
     };
     Ok(imitating(&matches))
+}
+
+/// The words behind `mixed`.
+fn parse_mixed(alloc: Global, words: &[String]) -> Result<Option<Command<'_>>, Memory>
+    ensures asked { IfOk result (λ found. option_map task_of found
+        ≡ asked_by mixed_words mixed_asked (texts words.now)) }
+    ensures head { IfOk result (λ found. IfSome found HasHead) }
+{
+    let Some(matches) = taken(mixed_form(alloc)?, words)? else {
+        return Ok(None);
+    };
+    Ok(mixing(&matches))
+}
+
+/// The words behind `markmixed`.
+fn parse_mark_mixed(alloc: Global, words: &[String]) -> Result<Option<Command<'_>>, Memory>
+    ensures asked { IfOk result (λ found. option_map task_of found
+        ≡ asked_by mark_mixed_words mark_mixed_asked (texts words.now)) }
+    ensures head { IfOk result (λ found. IfSome found HasHead) }
+{
+    let Some(matches) = taken(mark_mixed_form(alloc)?, words)? else {
+        return Ok(None);
+    };
+    Ok(marking_mixed(&matches))
 }
 
 /// The words behind `newcantus`.

@@ -51,7 +51,7 @@ fn found_output(alloc: Global, exercise: &Exercise, found: &Found) -> Result<Out
 }
 
 /// The exercise with a setting, and a penalty.
-fn best_text(
+pub fn best_text(
     alloc: Global,
     exercise: &Exercise,
     score: &Score,

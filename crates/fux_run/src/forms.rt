@@ -2,7 +2,7 @@
 
 ghost use Rattle.std.specs.Prelude.{◌≡◌, IfOk, codes};
 ghost use Rattle.clap.specs.Words.{app_of, with_rule};
-ghost use Rattle.fux_run.specs.Commands.{canon_words, certify_words, check_cantus_words, check_words, class_words, drill_words, needed_word, exercise_words, flag_word, fromsmf_words, head_words, new_cantus_words, one_word, option_word, search_words, wanted_words};
+ghost use Rattle.fux_run.specs.Commands.{canon_words, certify_words, check_cantus_words, check_words, class_words, drill_words, needed_word, exercise_words, flag_word, fromsmf_words, head_words, mark_mixed_words, mixed_words, new_cantus_words, one_word, option_word, search_words, wanted_words};
 
 use clap::{Arg, ArgAction, Command};
 use std::alloc::{AllocError, Global};
@@ -106,6 +106,22 @@ pub fn canon_form<'a>(alloc: Global) -> Result<Command<'a>, AllocError>
     let command = one_word(alloc, "canon", "FILE")?;
     let command = with_option(alloc, command, "sheet", false)?;
     with_option(alloc, command, "budget", false)
+}
+
+/// `mixed EX --with LIST [--sheet S] [--budget N]`.
+pub fn mixed_form<'a>(alloc: Global) -> Result<Command<'a>, AllocError>
+    ensures { IfOk result (λ command. app_of command ≡ mixed_words) }
+{
+    let command = search_form(alloc, "mixed")?;
+    with_option(alloc, command, "with", true)
+}
+
+/// `markmixed EX --with LIST`.
+pub fn mark_mixed_form<'a>(alloc: Global) -> Result<Command<'a>, AllocError>
+    ensures { IfOk result (λ command. app_of command ≡ mark_mixed_words) }
+{
+    let command = exercise_form(alloc, "markmixed")?;
+    with_option(alloc, command, "with", true)
 }
 
 /// `NAME MODE BARS LOW HIGH`.

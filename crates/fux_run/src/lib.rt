@@ -17,6 +17,7 @@ mod imitating;
 mod inventing;
 mod making;
 mod marking;
+mod mixing;
 mod perform;
 mod playing;
 mod refusal;
@@ -28,7 +29,7 @@ mod values;
 mod weighing;
 mod work;
 
-pub use command::{Command, Job, Making, parse};
+pub use command::{Command, Job, Making, MixedJob, parse};
 pub use complaint::{Complaint, FileName};
 pub use status::Status;
 pub use top_call::run;

@@ -22,6 +22,7 @@ use crate::exercise::{LONGEST_TEXT, exercise_of};
 use crate::imitating::canon;
 use crate::inventing::new_cantus;
 use crate::marking::{cantus, mark};
+use crate::mixing::on_mixed;
 use crate::playing::{LONGEST_MIDI, from_smf};
 use crate::refusal::{Refusal, refusal_text};
 use crate::rendering::{print, to_smf};
@@ -55,6 +56,12 @@ pub fn make<'a, F: Shelf, R: Threads + Sync>(
             let weights = read_weights(alloc, shelf, sheet)?;
             said(alloc, name, of_texts(rt, alloc, &text, &weights, job))
         }
+        Making::OnMixed {
+            name,
+            sheet,
+            named,
+            job,
+        } => on_mixed(alloc, name, sheet, &named, job, shelf),
         Making::Check {
             name,
             certificate,

@@ -24,7 +24,7 @@ fn verdict_of(lines: &MarkLines) -> Verdict
 }
 
 /// The output of lines of marks. It takes no memory.
-fn output_of(lines: MarkLines) -> Output
+pub fn output_of(lines: MarkLines) -> Output
     ensures { IsOutputOf lines result }
 {
     Output::of_text(verdict_of(&lines), lines.text)

@@ -23,6 +23,10 @@ pub enum Refusal {
     },
     /// The exercise has no setting.
     NoSetting,
+    /// A voice is named whose species may not be: it isn't free, or the exercise itself says its species.
+    With {
+        voice: u8,
+    },
     /// The file is no list of a class: the number of its first line at fault.
     List {
         line: u32,
@@ -66,6 +70,7 @@ fn put_refusal(text: &mut String, name: &str, refusal: &Refusal) -> Result<(), M
             Ok(write!(text, "{name}:{line}:{column}: {kind}")?)
         }
         Refusal::NoSetting => put_unmarked(text, name, Unmarked::NoSetting),
+        Refusal::With { voice } => Ok(write!(text, "with {voice}")?),
         Refusal::List { line } => Ok(write!(text, "{name}:{line}: list")?),
         Refusal::Canon { line } => Ok(write!(text, "{name}:{line}: canon")?),
         Refusal::TooWide { place, count } => put_width(text, *place, *count),

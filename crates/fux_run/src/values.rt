@@ -1,18 +1,20 @@
 //! What the values that words give ask for.
 
-ghost use Rattle.std.specs.Prelude.{◌≡◌, ◌≤◌, IfSome, option_map};
+ghost use Rattle.std.specs.Prelude.{◌≡◌, ◌≤◌, ◌<◌, IfSome, option_map};
 ghost use Rattle.clap.specs.Words.{first_of, found_of, rows_of};
 ghost use Rattle.fux_text.specs.Names.{mode_named};
+ghost use Rattle.mixed_rules.specs.Naming.{AreNamed};
 ghost use Rattle.smf_score.specs.Heads.{IsHead};
 ghost use Rattle.text_lines.specs.Numbers.{number_within};
-ghost use Rattle.fux_run.specs.Commands.{HasHead, IsWanted, budget_in, canon_asked, certify_asked, certify_cantus_asked, check_asked, check_cantus_asked, class_asked, compose_asked, drill_asked, form_in, fromsmf_asked, head_in, is_set, job_asked, new_cantus_asked, number_at, task_of, wanted_in};
+ghost use Rattle.fux_run.specs.Commands.{HasHead, IsWanted, budget_in, canon_asked, certify_asked, certify_cantus_asked, check_asked, check_cantus_asked, class_asked, compose_asked, drill_asked, form_in, fromsmf_asked, head_in, is_item, is_set, job_asked, mark_mixed_asked, mixed_asked, named_in, new_cantus_asked, number_at, said_of, task_of, wanted_in};
 
-use crate::command::{Command, Job, Making, Wanted};
+use crate::command::{Command, Job, Making, MixedJob, Wanted};
 use cert_text::Form;
 use clap::ArgMatches;
 use fux_grid::Head;
 use fux_pitch::{Mode, semitone};
 use fux_text::parse_pitch;
+use mixed_rules::Named;
 use text_lines::{is_same, parse_number};
 
 const USUAL_BUDGET: u32 = 1_000_000;
@@ -222,6 +224,84 @@ pub fn imitating<'a>(matches: &ArgMatches<'a>) -> Option<Command<'a>>
         name,
         sheet,
         budget,
+    }))
+}
+
+/// Whether three bytes are an item `V:N` of a voice.
+fn is_item(v: u8, voice: u8, colon: u8, species: u8) -> bool
+    requires { v < 4 }
+    ensures { result ≡ is_item v voice colon species }
+{
+    voice == b'0' + v && colon == b':' && b'2' <= species && species <= b'5'
+}
+
+/// What a list says of a voice: the species that its first item names, where that is the voice's, and the items behind it; none and the
+/// whole list where it isn't.
+fn said_of(v: u8, list: &[u8]) -> (Option<u8>, &[u8])
+    requires { v < 4 }
+    ensures value { (result.0, result.1.now) ≡ said_of v list.now }
+    ensures species { IfSome result.0 (λ species. (2 ≤ species) × (species ≤ 5)) }
+{
+    match list {
+        [voice, colon, species] if is_item(v, *voice, *colon, *species) => {
+            (Some(*species - b'0'), &[])
+        }
+        [voice, colon, species, b',', rest @ ..]
+            if !rest.is_empty() && is_item(v, *voice, *colon, *species) => {
+            (Some(*species - b'0'), rest)
+        }
+        _ => (None, list),
+    }
+}
+
+/// The species that a list `V:N,V:N` names for each voice, in ascending order of the voices.
+fn named_in(list: &str) -> Option<Named>
+    ensures value { result ≡ named_in list.now }
+    ensures named { IfSome result AreNamed }
+{
+    let list = list.as_bytes();
+    let (first, rest) = said_of(0, list);
+    let (second, rest) = said_of(1, rest);
+    let (third, rest) = said_of(2, rest);
+    let (fourth, rest) = said_of(3, rest);
+    if list.is_empty() || !rest.is_empty() {
+        return None;
+    }
+    Some([first, second, third, fourth])
+}
+
+/// `mixed`, on the exercise of a file.
+pub fn mixing<'a>(matches: &ArgMatches<'a>) -> Option<Command<'a>>
+    ensures asked { option_map task_of result ≡ mixed_asked (rows_of (found_of matches.now)) }
+    ensures head { IfSome result HasHead }
+{
+    let name = value(matches, "EX")?;
+    let named = named_in(value(matches, "with")?)?;
+    let budget = budget_of(value(matches, "budget"))?;
+    let sheet = value(matches, "sheet");
+    let job = MixedJob::Compose { budget };
+    Some(Command::Make(Making::OnMixed {
+        name,
+        sheet,
+        named,
+        job,
+    }))
+}
+
+/// `markmixed`, on the exercise of a file.
+pub fn marking_mixed<'a>(matches: &ArgMatches<'a>) -> Option<Command<'a>>
+    ensures asked { option_map task_of result ≡ mark_mixed_asked (rows_of (found_of matches.now)) }
+    ensures head { IfSome result HasHead }
+{
+    let name = value(matches, "EX")?;
+    let named = named_in(value(matches, "with")?)?;
+    let sheet = None;
+    let job = MixedJob::Mark;
+    Some(Command::Make(Making::OnMixed {
+        name,
+        sheet,
+        named,
+        job,
     }))
 }
 

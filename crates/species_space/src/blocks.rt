@@ -11,7 +11,7 @@ use fux_grid::{Cell, Column, cell_of, cells_follow};
 
 /// How a menu is cut into blocks of equal length, for each voice into blocks of its own, over each of which the voice keeps its cell.
 #[derive(Clone, Copy)]
-pub(crate) struct Blocks {
+pub struct Blocks {
     /// How long the blocks of each voice are.
     lengths: [u16; 4],
     /// Whether each cell of each column is a hold.
@@ -31,15 +31,15 @@ pub(crate) struct BlockMenu {
 
 /// The columns of a menu, as the tables keep them, with what is known of them.
 #[derive(Clone, Copy)]
-pub(crate) struct MenuView<'a> {
-    pub(crate) columns: &'a [Column],
-    pub(crate) blocks: &'a Blocks,
-    pub(crate) undead: &'a [u16],
+pub struct MenuView<'a> {
+    pub columns: &'a [Column],
+    pub blocks: &'a Blocks,
+    pub undead: &'a [u16],
 }
 
 impl Blocks {
     /// The blocks of a menu, as they are found in one pass for each voice.
-    pub(crate) fn new(columns: &[Column]) -> Blocks
+    pub fn new(columns: &[Column]) -> Blocks
         requires few { length columns.now ≤ 8192 }
         requires order { IsAscending (items_of columns.now) }
         requires full { HasOneWidth (items_of columns.now) }
@@ -61,7 +61,7 @@ impl Blocks {
 impl<'a> MenuView<'a> {
     /// How many columns there are.
     #[inline]
-    pub(crate) fn len(&self) -> usize
+    pub fn len(&self) -> usize
         ensures { result ≡ length (columns_seen self.now) }
     {
         self.columns.len()
@@ -69,7 +69,7 @@ impl<'a> MenuView<'a> {
 
     /// The first column, from this number on, that may follow; the menu's length where there is none. Where nothing is held all may
     /// follow. At a column of holds at most one may follow, and the hint is tried first.
-    pub(crate) fn next_that_follows(&self, before: &[Cell], from: usize, hint: usize) -> usize
+    pub fn next_that_follows(&self, before: &[Cell], from: usize, hint: usize) -> usize
         requires cut { IsCut self.now }
         requires within { from ≤ length (columns_seen self.now) }
         ensures { IsNext (columns_seen self.now) before.now from result }
@@ -100,7 +100,7 @@ impl<'a> MenuView<'a> {
 
     /// The column of a number.
     #[inline]
-    pub(crate) fn column(&self, k: usize) -> &Column
+    pub fn column(&self, k: usize) -> &Column
         requires { k < length (columns_seen self.now) }
         ensures { result.now.items ≡ slice_index_or (columns_seen self.now) k [] }
     {
@@ -108,7 +108,7 @@ impl<'a> MenuView<'a> {
     }
 
     /// How far the columns from this number on are known to have its cells in so many of the lowest voices: the first number behind them.
-    pub(crate) fn end_of_agreement(&self, k: usize, voices: usize) -> usize
+    pub fn end_of_agreement(&self, k: usize, voices: usize) -> usize
         requires cut { IsCut self.now }
         requires within { k < length (columns_seen self.now) }
         requires voices { voices ≤ 4 }
@@ -125,7 +125,7 @@ impl<'a> MenuView<'a> {
     }
 
     /// In how many of the lowest voices two columns are known to have the same cells.
-    pub(crate) fn lowest_alike(&self, j: usize, k: usize) -> usize {
+    pub fn lowest_alike(&self, j: usize, k: usize) -> usize {
         if j >= self.columns.len() || k >= self.columns.len() {
             return 0;
         }

@@ -263,7 +263,7 @@ fn some_are_dead(exercise: &Exercise, i: usize, columns: &[Column]) -> bool
 
 /// For each column of a menu the number of the first one, from it on, that isn't dead after every prefix; the menu's length where
 /// there is none. Where no column is dead they are all left out.
-fn undead_numbers(
+pub fn undead_numbers(
     alloc: Global,
     exercise: &Exercise,
     i: usize,

@@ -18,7 +18,7 @@ use penalty_sheet::Sheet;
 
 /// The first number, from this one on, of a column that may follow and isn't dead after every prefix; the menu's length where there
 /// is none.
-fn next_choice(menu: &MenuView<'_>, before: &[Cell], from: usize, hint: usize) -> usize
+pub fn next_choice(menu: &MenuView<'_>, before: &[Cell], from: usize, hint: usize) -> usize
     requires cut { IsCut menu.now }
     requires bounded { AreWithin menu.now.undead.now (length (columns_seen menu.now)) }
     requires within { from ≤ length (columns_seen menu.now) }
@@ -39,7 +39,7 @@ fn next_choice(menu: &MenuView<'_>, before: &[Cell], from: usize, hint: usize) -
 
 /// What a column must cost to be no better than the best leaf, where there is one and the rest costs so much at least: so much or more.
 #[inline]
-fn limit_of(best: Option<u64>, at_least: u64) -> Option<u64>
+pub fn limit_of(best: Option<u64>, at_least: u64) -> Option<u64>
     ensures { (cost : ℕ) → IsSomeAnd result (λ limit. limit ≤ cost) → IsSomeAnd best (λ value. value ≤ at_least + cost) }
 {
     match best {

@@ -1,0 +1,136 @@
+//! The menus of an exercise, each kept once for neighbors that have the same one.
+
+ghost use Rattle.std.specs.Prelude.{◌≡◌, ◌<◌, ◌≤◌, ◌+◌, [], OnOk, IfErr, IfOk, length, slice_index_or};
+ghost use Rattle.std.specs.Bool.{OnTrue};
+ghost use Rattle.fux_grid.specs.Exercises.{IsValid, columns_in};
+ghost use Rattle.fux_grid.specs.Grid.{items_of};
+ghost use Rattle.fux_grid.specs.Menus.{cells_at, menu_of};
+ghost use Rattle.floor_tables.specs.Tables.{AreNarrow, TellsWidth};
+ghost use Rattle.mixed_rules.specs.Menus.{AreMenusOf, IsMenuOf};
+
+use floor_tables::TableFault;
+use fux_grid::{Column, Exercise, WIDEST, menu, place_of, voice_cells, width};
+use fux_pitch::Memory;
+use species_space::{Blocks, MenuView, undead_numbers};
+use std::alloc::Global;
+
+/// The columns of a menu, and the blocks over which its voices keep their cells.
+#[derive(Drop)]
+pub(crate) struct Menu {
+    columns: Vec<Column>,
+    blocks: Blocks,
+}
+
+/// What is known of a place: the number of its menu, and for each column of it the number of the first one, from it on, that isn't dead
+/// after every prefix.
+#[derive(Drop)]
+pub(crate) struct PlaceMenu {
+    menu: usize,
+    undead: Vec<u16>,
+}
+
+/// The menus of all places.
+#[derive(Drop)]
+pub(crate) struct Menus {
+    menus: Vec<Menu>,
+    places: Vec<PlaceMenu>,
+}
+
+/// Finds the first menu that is too wide.
+pub(crate) fn check_widths(ex: &Exercise) -> Result<(), TableFault>
+    requires { IsValid ex.now }
+    ensures narrow { OnOk result (AreNarrow ex.now) }
+    ensures wide { IfErr result (TellsWidth ex.now) }
+{
+    for i in 0..8 * ex.bars as usize {
+        let count = width(ex, i);
+        if count > WIDEST {
+            let place = place_of(i);
+            return Err(TableFault::TooWide { place, count });
+        }
+    }
+    Ok(())
+}
+
+/// Whether a voice may have the same cells at two places.
+fn has_same_cells(ex: &Exercise, v: u8, i: usize, j: usize) -> bool
+    requires valid { IsValid ex.now }
+    requires voice { v < ex.now.voices }
+    requires first { i < columns_in ex.now }
+    requires second { j < columns_in ex.now }
+    ensures { OnTrue result (cells_at ex.now i v ≡ cells_at ex.now j v) }
+{
+    voice_cells(ex, v, i).as_slice() == voice_cells(ex, v, j).as_slice()
+}
+
+/// Whether two places are known to have the same menu.
+fn has_same_menu(ex: &Exercise, i: usize, j: usize) -> bool
+    requires valid { IsValid ex.now }
+    requires first { i < columns_in ex.now }
+    requires second { j < columns_in ex.now }
+    ensures { OnTrue result (menu_of ex.now i ≡ menu_of ex.now j) }
+{
+    for v in 0..ex.voices {
+        if !has_same_cells(ex, v, i, j) {
+            return false;
+        }
+    }
+    true
+}
+
+/// The menu of a place.
+fn menu_at(alloc: Global, ex: &Exercise, i: usize) -> Result<Menu, Memory>
+    requires valid { IsValid ex.now }
+    requires narrow { AreNarrow ex.now }
+    requires place { i < columns_in ex.now }
+    ensures { IfOk result (IsMenuOf (menu_of ex.now i)) }
+{
+    let columns = menu(alloc, ex, i).map_err(|_| Memory)?;
+    let blocks = Blocks::new(&columns);
+    Ok(Menu { columns, blocks })
+}
+
+/// Adds the menu of a place behind those of the places before it, unless the place before has the same one.
+fn add_menu(alloc: Global, ex: &Exercise, menus: &mut Vec<Menu>, i: usize) -> Result<(), Memory> {
+    if i > 0 && has_same_menu(ex, i - 1, i) {
+        return Ok(());
+    }
+    menus.push(menu_at(alloc, ex, i)?)?;
+    Ok(())
+}
+
+impl Menus {
+    /// The menus of all places of an exercise. It takes all their memory here.
+    pub(crate) fn new(alloc: Global, ex: &Exercise) -> Result<Menus, Memory>
+        requires valid { IsValid ex.now }
+        requires narrow { AreNarrow ex.now }
+        ensures { IfOk result (AreMenusOf ex.now) }
+    {
+        let mut menus = Vec::new(alloc);
+        let mut places = Vec::new(alloc);
+        for i in 0..8 * ex.bars as usize {
+            add_menu(alloc, ex, &mut menus, i)?;
+            let menu = menus.len() - 1;
+            let undead = undead_numbers(alloc, ex, i, &menus[menu].columns)?;
+            places.push(PlaceMenu { menu, undead })?;
+        }
+        Ok(Menus { menus, places })
+    }
+
+    /// The columns of the menu of place i, in reading order.
+    #[inline]
+    pub(crate) fn columns(&self, i: usize) -> &[Column] {
+        self.menus[self.places[i].menu].columns.as_slice()
+    }
+
+    /// The menu of place i, with what is known of it.
+    pub(crate) fn view(&self, i: usize) -> MenuView<'_> {
+        let place = &self.places[i];
+        let menu = &self.menus[place.menu];
+        MenuView {
+            columns: menu.columns.as_slice(),
+            blocks: &menu.blocks,
+            undead: place.undead.as_slice(),
+        }
+    }
+}
