@@ -7,6 +7,10 @@ mod four_voices;
 #[cfg(test)]
 mod marks;
 #[cfg(test)]
+mod mixed;
+#[cfg(test)]
+mod mixed_tables;
+#[cfg(test)]
 mod parts;
 #[cfg(test)]
 mod plain;

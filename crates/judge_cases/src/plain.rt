@@ -22,7 +22,7 @@ use std::process::Abort;
 use std::test::Fail;
 
 /// The rules and tolls that are read among the newest columns.
-const LATE_RULES: [u8; 9] = [3, 15, 18, 19, 20, 21, 22, 23, 25];
+const LATE_RULES: [u8; 11] = [3, 15, 18, 19, 20, 21, 22, 23, 25, 27, 28];
 
 /// Compares the judge's verdict of a longer score's last column with the plain reading, and answers the rules that are
 /// newly broken. Where a break of S3 is settled before it, the judge promises nothing of late rules and of costs, so it isn't asked.
@@ -83,7 +83,7 @@ fn compare_sums(
 
 /// Judges a score column by column, each as the plain reading of the scores without it and with it does, and answers what
 /// is paid of it and what its lines cost; nothing where it breaks S3.
-fn walk(
+pub fn walk(
     rt: &impl Abort,
     alloc: Global,
     ex: &Exercise,

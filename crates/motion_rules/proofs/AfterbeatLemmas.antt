@@ -1,17 +1,18 @@
 -- Where S18 may be broken (`within_a_bar`, `elsewhere`), and that it is settled at its own column (`newly_bare`).
 use Rattle.std.specs.Prelude.{◌≡◌, ℕ, ◌==◌, Bool, true, false, ◌&&◌, ◌||◌, nat_le, List, [], ◌∷◌, ◌++◌, Option, Some, None, IsTrue, is_some, length, slice_index_or, if◌then◌else◌, refl}
-use Rattle.std.specs.Option.{option_map_or}
 use Rattle.std.proofs.Common.{ap}
+use Rattle.std.specs.Option.{option_map_or}
 use Rattle.std.proofs.lemmas.Bool.{and_right}
 use Rattle.fux_grid.specs.declared.cell.Cell.{Cell}
 use Rattle.fux_grid.specs.declared.exercise.Exercise.{Exercise}
+use Rattle.fux_grid.specs.Cells.{cell_in, pitch_of}
 use Rattle.fux_grid.specs.Exercises.{is_mixed}
 use Rattle.rule_law.proofs.AtOnce.{among_own, newly_breaks-there}
 use Rattle.rule_law.specs.Bars.{bar_line_before, begins_bar}
 use Rattle.rule_law.specs.Places.{reading_of}
 use Rattle.rule_law.specs.Quiet.{on_pair-none}
 use Rattle.rule_law.specs.Rulebooks.{IsAmong, RuleRow, newly_breaks}
-use Rattle.motion_rules.specs.Afterbeats.{afterbeat_row, arrive_in_parallel, goes_within_bars, moves_within_bars, stays_since_bar}
+use Rattle.motion_rules.specs.Afterbeats.{afterbeat_row, arrive_in_parallel, goes_within_bars, moves_within_bars, never_leaves, newest_cells, stays_since_bar}
 use Rattle.motion_rules.specs.Book.{at_once_row, is_late, late_row, may_be_bare, rule_row}
 
 -- within a bar S18 isn't broken
@@ -25,17 +26,13 @@ within_a_bar ex voices i behind now within =
 -- where species aren't mixed, no voice goes on within bars but in the species of the exercise
 goes_only : (ex : Exercise) (v : ℕ) → (is_mixed ex || moves_within_bars ex.species) ≡ false
     → goes_within_bars ex v ≡ false
-goes_only ex v = of ex.mixed
+goes_only ex v h = at ex.mixed (v == ex.species_voice) h
   where
-    at : (b : Bool) → moves_within_bars ex.species ≡ false → moves_within_bars (if b then ex.species else 1) ≡ false
-    at true h = h
-    at false h = refl
-
-    of : (mixed : Option (List ℕ)) → (is_some mixed || moves_within_bars ex.species) ≡ false
-        → moves_within_bars (option_map_or (λ species. slice_index_or species v 1) mixed
-        (if v == ex.species_voice then ex.species else 1)) ≡ false
-    of None h = at (v == ex.species_voice) h
-    of (Some species) h = cc
+    at : (o : Option (List ℕ)) (b : Bool) → (is_some o || moves_within_bars ex.species) ≡ false
+        → moves_within_bars (option_map_or (λ species. slice_index_or species v 1) o (if b then ex.species else 1)) ≡ false
+    at None true none = none
+    at None false none = refl
+    at (Some species) b none = cc
 
 -- where it may not be broken, no two voices break it
 pub elsewhere : (ex : Exercise) (voices i : ℕ) (behind : List (List Cell)) (now : List Cell)
@@ -43,15 +40,18 @@ pub elsewhere : (ex : Exercise) (voices i : ℕ) (behind : List (List Cell)) (no
 elsewhere ex voices i behind now none =
     on_pair-none ex _ voices
     (λ v w. at (is_mixed ex || moves_within_bars ex.species) (begins_bar i) (nat_le 8 i)
-    (arrive_in_parallel (bar_line_before behind) now v w) (goes_within_bars ex v) (goes_within_bars ex w) _ _
-    none (goes_only ex v) (goes_only ex w))
+    (arrive_in_parallel (bar_line_before behind) now v w) (goes_within_bars ex v) (goes_within_bars ex w)
+    (stays v) (stays w) none (goes_only ex v) (goes_only ex w))
   where
-    at : (a b c y g h m n : Bool) → (a && b && c) ≡ false → (a ≡ false → g ≡ false) → (a ≡ false → h ≡ false)
-        → ((b && c && y) && ((g && m) || (h && n))) ≡ false
-    at true true true y g h m n e f k = cc
-    at true true false y g h m n e f k = refl
-    at true false c y g h m n e f k = refl
-    at false b c y g h m n e f k = rw (f refl, k refl) (and_right (b && c && y) false refl)
+    stays : ℕ → Bool
+    stays v = never_leaves (pitch_of (cell_in (bar_line_before behind) v)) (newest_cells behind v)
+
+    at : (a b c y g h s t : Bool) → (a && b && c) ≡ false → (a ≡ false → g ≡ false) → (a ≡ false → h ≡ false)
+        → ((b && c && y) && ((g && s) || (h && t))) ≡ false
+    at false b c y g h s t e f k = rw (f refl, k refl) (and_right (b && c && y) false refl)
+    at true true true y g h s t e f k = cc
+    at true true false y g h s t e f k = refl
+    at true false c y g h s t e f k = refl
 
 -- at a place that the newest column may settle: it is the newest column, and what is newly settled there is S18
 module _ (rule : ℕ) (ex : Exercise) (voices : ℕ) (p : List (List Cell)) (col : List Cell) (place : ℕ) where

@@ -50,11 +50,10 @@ abbrev pub stays_since_bar : Exercise → List (List Cell) → ℕ → Bool
 stays_since_bar ex behind v =
     goes_within_bars ex v && never_leaves (pitch_of (cell_in (bar_line_before behind) v)) (newest_cells behind v)
 
--- S18: they have arrived so, and one of them that goes on within bars has stayed near
+-- S18: they have arrived so, and one of them goes on within bars and stays near; one such voice is enough
 abbrev pub is_bare_parallel : Exercise → ℕ → List (List Cell) → List Cell → ℕ → ℕ → Bool
 is_bare_parallel ex i behind now v w =
-    arrive_at_bar i (bar_line_before behind) now v w
-    && (stays_since_bar ex behind v || stays_since_bar ex behind w)
+    arrive_at_bar i (bar_line_before behind) now v w && (stays_since_bar ex behind v || stays_since_bar ex behind w)
 
 abbrev pub afterbeat_row : Exercise → ℕ → Row Bool
 afterbeat_row ex voices i behind now ahead = on_pair ex (is_bare_parallel ex i behind now) voices

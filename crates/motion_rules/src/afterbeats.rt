@@ -85,16 +85,10 @@ fn goes_within_bars(ex: &Exercise, v: u8) -> bool
 fn arrive_at_bar(i: usize, bar_line: &[Cell], now: &[Cell], v: u8, w: u8) -> bool
     ensures { result ≡ words.arrive_at_bar i bar_line.now now.now v w }
 {
-    if !begins_bar(i) {
-        return false;
-    }
-    if i < 8 {
-        return false;
-    }
-    arrive_in_parallel(bar_line, now, v as usize, w as usize)
+    begins_bar(i) && i >= 8 && arrive_in_parallel(bar_line, now, v as usize, w as usize)
 }
 
-/// Whether a voice goes on within bars, and stays near the pitch that it sounds at the beginning of the bar before.
+/// Whether a voice goes on within bars and stays near the pitch that it sounds at the beginning of the bar before.
 fn stays_since_bar<C: ColumnsAround>(around: &C, ex: &Exercise, i: usize, v: u8) -> bool
     requires { ex.now.voices ≤ 4 }
     ensures { (s : Columns) (first : ℕ) → C.show around.now ex.now s first → first ≤ i - 8 → i ≤ length s →
@@ -116,15 +110,18 @@ fn is_bare_parallel<C: ColumnsAround>(around: &C, ex: &Exercise, i: usize, v: u8
     ensures { (s : Columns) (first : ℕ) → C.show around.now ex.now s first → first ≤ i - 8 → i < length s →
         result ≡ reading_back (words.is_bare_parallel ex.now) s i v w }
 {
-    if !arrive_at_bar(i, cells_behind(around, ex, i, 7), around.cells(ex, i), v, w) {
-        return false;
-    }
-    stays_since_bar(around, ex, i, v) || stays_since_bar(around, ex, i, w)
+    arrive_at_bar(
+        i,
+        cells_behind(around, ex, i, 7),
+        around.cells(ex, i),
+        v,
+        w,
+    ) && (stays_since_bar(around, ex, i, v) || stays_since_bar(around, ex, i, w))
 }
 
-/// S18: whether at the beginning of a bar that isn't the first, two voices sound a perfect interval equal to that at the beginning of the
-/// bar before, each with another pitch than there, while each note between of one of them that is of species 2, 3 or 5 stays within two
-/// degrees of its pitch there. The nine columns up to column `i` are read.
+/// S18: whether at the beginning of a bar that isn't the first, two voices sound a perfect interval equal to that at the beginning of
+/// the bar before, each with another pitch than there, while each note between of one of them, whose species is 2, 3 or 5, stays within
+/// two degrees of its pitch there. The nine columns up to column `i` are read.
 pub fn breaks_afterbeat<C: ColumnsAround>(
     around: &C,
     ex: &Exercise,
