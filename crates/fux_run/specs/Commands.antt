@@ -1,5 +1,5 @@
 -- What the words on the command line ask for. A word is its bytes.
-use Rattle.std.specs.Prelude.{ℕ, ◌==◌, ◌≤◌, ◌≤ℤ◌, int_le, Bool, true, false, List, [], ◌∷◌, String, Option, Some, None, Result, Ok, Err, map, string_bytes, codes, if◌then◌else◌, option_and_then, option_map}
+use Rattle.std.specs.Prelude.{ℕ, ◌+◌, ◌-◌, ◌==◌, ◌≤◌, ◌≤ℤ◌, ◌&&◌, int_le, nat_le, not, length, Bool, true, false, List, [], ◌∷◌, String, Option, Some, None, Result, Ok, Err, map, string_bytes, codes, if◌then◌else◌, option_and_then, option_map}
 use Rattle.std.specs.Borrow.{Bor}
 use Rattle.std.specs.Option.{option_map_or}
 use Rattle.std.specs.Str.{bytes_eq}
@@ -12,14 +12,17 @@ use Rattle.class_marker.specs.Lists.{listed_names}
 use Rattle.fux_grid.specs.declared.exercise.Head.{Head}
 use Rattle.fux_pitch.specs.Pitch.{key_of}
 use Rattle.fux_text.specs.Names.{mode_named, pitch_named}
+use Rattle.mixed_rules.specs.Naming.{AreNamed}
 use Rattle.smf_score.specs.Heads.{IsHead}
 use Rattle.text_lines.specs.Numbers.{number_within}
 use Rattle.fux_run.specs.declared.command.Command.{Command}
 use Rattle.fux_run.specs.declared.command.Command.TheVariants.{Certify, CertifyCantus, Make}
 use Rattle.fux_run.specs.declared.command.Job.{Job}
 use Rattle.fux_run.specs.declared.command.Job.TheVariants.{Compose, Mark, Cantus, Print, ToSmf}
+use Rattle.fux_run.specs.declared.command.MixedJob.{MixedJob}
+use Rattle.fux_run.specs.declared.command.MixedJob.TheVariants as mixed
 use Rattle.fux_run.specs.declared.command.Making.{Making}
-use Rattle.fux_run.specs.declared.command.Making.TheVariants.{OnExercise, Check, FromSmf, Drill, Class, Canon, NewCantus, CheckCantus}
+use Rattle.fux_run.specs.declared.command.Making.TheVariants.{OnExercise, OnMixed, Check, FromSmf, Drill, Class, Canon, NewCantus, CheckCantus}
 use Rattle.fux_run.specs.declared.command.Wanted.{Wanted}
 
 -- words as their bytes
@@ -29,6 +32,7 @@ texts words = map string_bytes words
 -- a command, with the names of its files
 pub data Task : Type 0 where
   on_exercise : (name : Text) (sheet : Option Text) (job : Job) → Task
+  on_mixed : (name : Text) (sheet : Option Text) (named : List (Option ℕ)) (job : MixedJob) → Task
   certify : (name : Text) (sheet : Option Text) (budget : ℕ) (form : Form) → Task
   check : (name certificate : Text) (sheet : Option Text) → Task
   fromsmf : (name : Text) (head : Head) → Task
@@ -46,6 +50,7 @@ sheet_named = option_map (λ name. name.now)
 -- what a command asks for
 abbrev pub making_task : Making → Task
 making_task (OnExercise name sheet job) = on_exercise name.now (sheet_named sheet) job
+making_task (OnMixed name sheet named job) = on_mixed name.now (sheet_named sheet) named job
 making_task (Check name certificate sheet) = check name.now certificate.now (sheet_named sheet)
 making_task (FromSmf name head) = fromsmf name.now head
 making_task (Drill number) = drill number
@@ -65,8 +70,10 @@ pub record IsWanted (wanted : Wanted) : Type 0 where
   pub most : wanted.bars ≤ 24
   pub rise : key_of wanted.low ≤ℤ key_of wanted.high
 
--- the head of a command is one that an exercise may have, and what it asks of a new cantus is within the limits
+-- the head of a command is one that an exercise may have, the species that it names are from 2 to 5, and what it asks of a new cantus is
+-- within the limits
 abbrev pub HasMidiHead : Making → Type 0
+HasMidiHead (OnMixed name sheet named job) = AreNamed named
 HasMidiHead (FromSmf name head) = IsHead head
 HasMidiHead (NewCantus wanted sheet budget) = IsWanted wanted
 HasMidiHead (CheckCantus wanted certificate sheet) = IsWanted wanted
@@ -124,6 +131,12 @@ abbrev pub canon_words : App
 canon_words =
     with_rule (with_rule (one_word (codes "canon") (codes "FILE")) (option_word false (codes "sheet")))
     (option_word false (codes "budget"))
+
+abbrev pub mixed_words : App
+mixed_words = with_rule (search_words (codes "mixed")) (option_word true (codes "with"))
+
+abbrev pub mark_mixed_words : App
+mark_mixed_words = with_rule (exercise_words (codes "markmixed")) (option_word true (codes "with"))
 
 -- a command on what is asked of a new cantus
 abbrev pub wanted_words : Text → App
@@ -246,6 +259,43 @@ canon_asked rows = do
   budget ← budget_in (first_of (codes "budget") rows)
   Some (find_canon name (first_of (codes "sheet") rows) budget)
 
+-- three bytes are an item `V:N` of a voice: its digit, a colon, and the digit of a species from 2 to 5
+abbrev pub is_item : ℕ → ℕ → ℕ → ℕ → Bool
+is_item v voice colon species = (voice == 48 + v) && (colon == 58) && nat_le 50 species && nat_le species 53
+
+-- what a list says of a voice: the species that its first item names, where that is the voice's, and the items behind it, before the first
+-- of which is a comma; none and the whole list where it isn't
+abbrev pub said_of : ℕ → Text → Option ℕ × Text
+said_of v (voice ∷ colon ∷ species ∷ []) =
+    if is_item v voice colon species then (Some (species - 48), []) else (None, voice ∷ colon ∷ species ∷ [])
+said_of v (voice ∷ colon ∷ species ∷ comma ∷ next ∷ rest) =
+    if (comma == 44) && is_item v voice colon species then (Some (species - 48), next ∷ rest)
+    else (None, voice ∷ colon ∷ species ∷ comma ∷ next ∷ rest)
+said_of v list = (None, list)
+
+-- the species that a list names for each of the four voices: it has an item, its voices ascend, and nothing is behind them
+abbrev pub named_in : Text → Option (List (Option ℕ))
+named_in list =
+    let first = said_of 0 list in
+    let second = said_of 1 first.1 in
+    let third = said_of 2 second.1 in
+    let fourth = said_of 3 third.1 in
+    if not (length list == 0) && (length fourth.1 == 0) then Some (first.0 ∷ second.0 ∷ third.0 ∷ fourth.0 ∷ [])
+    else None
+
+abbrev pub mixed_asked : List Row → Option Task
+mixed_asked rows = do
+  name ← first_of (codes "EX") rows
+  named ← first_of (codes "with") rows >>= named_in
+  budget ← budget_in (first_of (codes "budget") rows)
+  Some (on_mixed name (first_of (codes "sheet") rows) named (mixed.Compose budget))
+
+abbrev pub mark_mixed_asked : List Row → Option Task
+mark_mixed_asked rows = do
+  name ← first_of (codes "EX") rows
+  named ← first_of (codes "with") rows >>= named_in
+  Some (on_mixed name None named mixed.Mark)
+
 -- what is wanted, where its range doesn't fall
 abbrev pub if_rising : Wanted → Option Wanted
 if_rising wanted = if int_le (key_of wanted.low) (key_of wanted.high) then Some wanted else None
@@ -303,6 +353,13 @@ asked_of_cantus word rest =
     else (if bytes_eq word (codes "checkcantus") then asked_by check_cantus_words check_cantus_asked rest
     else None))
 
+-- the same of a command on a mixed exercise, or on new cantus
+abbrev pub asked_of_mixed : Text → List Text → Option Task
+asked_of_mixed word rest =
+    if bytes_eq word (codes "mixed") then asked_by mixed_words mixed_asked rest
+    else (if bytes_eq word (codes "markmixed") then asked_by mark_mixed_words mark_mixed_asked rest
+    else asked_of_cantus word rest)
+
 -- what the words ask for, if they are of a command's form
 abbrev pub asked : List Text → Option Task
 asked [] = None
@@ -318,13 +375,14 @@ asked (word ∷ rest) =
     else (if bytes_eq word (codes "drill") then asked_by drill_words drill_asked rest
     else (if bytes_eq word (codes "class") then asked_by class_words class_asked rest
     else (if bytes_eq word (codes "canon") then asked_by canon_words canon_asked rest
-    else asked_of_cantus word rest))))))))))
+    else asked_of_mixed word rest))))))))))
 
 -- ---- the files
 
 -- the name that a line about a refused file tells, where it tells one
 abbrev pub name_in : Task → Text
 name_in (on_exercise name sheet job) = name
+name_in (on_mixed name sheet named job) = name
 name_in (certify name sheet budget form) = name
 name_in (check name certificate sheet) = name
 name_in (fromsmf name head) = name
@@ -343,6 +401,7 @@ as_list (Some x) = x ∷ []
 -- the names of the files that a command reads before its work, in the order of reading
 abbrev pub names_in : Task → List Text
 names_in (on_exercise name sheet job) = name ∷ as_list sheet
+names_in (on_mixed name sheet named job) = name ∷ as_list sheet
 names_in (certify name sheet budget form) = name ∷ as_list sheet
 names_in (check name certificate sheet) = name ∷ as_list sheet
 names_in (fromsmf name head) = name ∷ []
@@ -369,6 +428,7 @@ names_within _ _ = []
 -- how many bytes of each file before its work are read at most
 abbrev pub limit_in : Task → ℕ
 limit_in (on_exercise name sheet job) = 65536
+limit_in (on_mixed name sheet named job) = 65536
 limit_in (certify name sheet budget form) = 65536
 limit_in (check name certificate sheet) = 65536
 limit_in (fromsmf name head) = 1048576

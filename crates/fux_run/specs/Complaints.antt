@@ -7,7 +7,7 @@ use Rattle.fux_run.specs.declared.complaint.FileName.{FileName}
 use Rattle.fux_run.specs.declared.complaint.FileName.TheVariants.{Given, Listed}
 use Rattle.fux_run.specs.declared.complaint.Complaint.TheVariants.{Usage, Refused, Unreadable, Unwritable, OutOfMemory}
 use Rattle.fux_run.specs.declared.refusal.Refusal.{Refusal}
-use Rattle.fux_run.specs.declared.refusal.Refusal.TheVariants.{Text, NoSetting, List as NoList, Canon as NoCanon, TooWide, LongCertificate, Sheet, Midi}
+use Rattle.fux_run.specs.declared.refusal.Refusal.TheVariants.{Text, NoSetting, With, List as NoList, Canon as NoCanon, TooWide, LongCertificate, Sheet, Midi}
 use Rattle.fux_run.specs.declared.status.Status.{Status}
 use Rattle.penalty_sheet.specs.Sheets as sheets
 use Rattle.smf_score.specs.FaultTexts as midi
@@ -26,6 +26,7 @@ width_text place count =
 abbrev pub refusal_text : List ℕ → Refusal → List ℕ
 refusal_text name (Text kind line column) = text_fault name kind line column
 refusal_text name NoSetting = unmarked_text name unmarked.NoSetting
+refusal_text name (With voice) = codes "with " ++ decimal voice
 refusal_text name (NoList line) = name ++ codes ":" ++ decimal line ++ codes ": list"
 refusal_text name (NoCanon line) = name ++ codes ":" ++ decimal line ++ codes ": canon"
 refusal_text name (TooWide place count) = width_text place count

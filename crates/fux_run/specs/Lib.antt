@@ -12,6 +12,7 @@ pub mod Imitated
 pub mod Invented
 pub mod Listed
 pub mod Marked
+pub mod Mixed
 pub mod Played
 pub mod Rendered
 pub mod Runs

@@ -20,13 +20,14 @@ use Rattle.fux_run.specs.CantusChecked.{ChecksCantusBy}
 use Rattle.fux_run.specs.Certified.{Certifies}
 use Rattle.fux_run.specs.Checked.{AnswersWithin, Checks, IsUnreadable}
 use Rattle.fux_run.specs.Classes.{IsClass, IsList, RefusesList}
-use Rattle.fux_run.specs.Commands.{Task, on_exercise, certify, check, fromsmf, drill, class_report, find_canon, find_cantus, certify_cantus, check_cantus, as_list, names_in}
+use Rattle.fux_run.specs.Commands.{Task, on_exercise, on_mixed, certify, check, fromsmf, drill, class_report, find_canon, find_cantus, certify_cantus, check_cantus, as_list, names_in}
 use Rattle.fux_run.specs.Complaints.{name_text}
 use Rattle.fux_run.specs.Composed.{Composes}
 use Rattle.fux_run.specs.Drilled.{Drills}
 use Rattle.fux_run.specs.Imitated.{MakesCanon}
 use Rattle.fux_run.specs.Invented.{MakesCantus}
 use Rattle.fux_run.specs.Marked.{Marks, CantusMarks}
+use Rattle.fux_run.specs.Mixed.{MakesMixed}
 use Rattle.fux_run.specs.Played.{ReadsMidi}
 use Rattle.fux_run.specs.Rendered.{Prints, WritesSmf}
 use Rattle.fux_run.specs.Searched.{IsNarrow}
@@ -90,6 +91,7 @@ ReportsClass files list (Err refusal) = RefusesList list refusal
 -- a command makes this of files with these bytes, in the order of reading
 abbrev pub Makes : Task → Files → List (List ℕ) → Work → Type 0
 Makes (on_exercise name sheet job) files (text ∷ sheets) work = MakesOfText job sheets text work
+Makes (on_mixed name sheet named job) files (text ∷ sheets) work = MakesMixed named job sheets text work
 Makes (certify name sheet budget form) files (text ∷ sheets) work = CertifiesText budget form sheets text work
 Makes (check name certificate sheet) files (text ∷ sheets) work = ChecksText files certificate sheets text work
 Makes (fromsmf name head) files (file ∷ []) work = ReadsMidi head file work

@@ -7,9 +7,9 @@ ghost use Rattle.mixed_rules.specs.Mixed.{IsMixed, exercise_of};
 ghost use Rattle.mixed_rules.specs.Naming.{AreNamed};
 ghost use Rattle.fux_run.specs.Blame.{BlamesNoFile, ServesTask};
 ghost use Rattle.fux_run.specs.Commands.{on_mixed, sheet_named};
-ghost use Rattle.fux_run.specs.Mixed.{ComposesMixed, IsSpaceOf, MakesMixed, MakesOfMixed, MarksMixed, NamesSpecies, TellsMixed};
+ghost use Rattle.fux_run.specs.Mixed.{ComposesMixed, MakesMixed, MakesOfMixed, MarksMixed, NamesSpecies, TellsMixed};
 ghost use Rattle.fux_run.specs.Runs.{IsMade};
-ghost use Rattle.fux_run.specs.Searched.{StopsAtWidth};
+ghost use Rattle.fux_run.specs.Searched.{IsSpaceOf, StopsAtWidth};
 ghost use Rattle.fux_run.specs.Works.{Answers, OnTexts};
 
 use crate::command::MixedJob;

@@ -1,5 +1,5 @@
 -- The menus that a space keeps.
-use Rattle.std.specs.Prelude.{◌≡◌, ℕ, ◌<◌, List, length, slice_index_or}
+use Rattle.std.specs.Prelude.{◌≡◌, ℕ, ◌+◌, ◌-◌, ◌<◌, ◌++◌, List, length, slice_index_or}
 use Rattle.fux_grid.specs.declared.cell.Cell.{Cell}
 use Rattle.fux_grid.specs.declared.exercise.Exercise.{Exercise}
 use Rattle.fux_grid.specs.Exercises.{IsValid, columns_in}
@@ -26,6 +26,18 @@ pub record IsPlaceMenu (ex : Exercise) (menus : List Menu) (i : ℕ) (place : Pl
 abbrev pub ArePlaces : Exercise → List Menu → List PlaceMenu → Type 0
 ArePlaces ex menus places =
     (i : ℕ) (d : PlaceMenu) → i < length places → IsPlaceMenu ex menus i (slice_index_or places i d)
+
+-- the last menu is that of the place before, where there is one
+abbrev pub IsLatest : Exercise → ℕ → List Menu → Type 0
+IsLatest ex i menus =
+    (d : Menu) → 0 < i → 0 < length menus → IsMenuOf (menu_of ex (i - 1)) (slice_index_or menus (length menus - 1) d)
+
+-- menus with others behind them, of which the last has this number and is that of a place
+pub record IsNumberAt (ex : Exercise) (i : ℕ) (menus more : List Menu) (number : ℕ) : Type 0 where
+  pub others : List Menu
+  pub kept : more ≡ menus ++ others
+  pub last : length more ≡ number + 1
+  pub menu : (d : Menu) → IsMenuOf (menu_of ex i) (slice_index_or more number d)
 
 -- the menus of all places
 pub record AreMenusOf (ex : Exercise) (menus : Menus) : Type 0 where

@@ -1,39 +1,38 @@
 //! The menus of an exercise, each kept once for neighbors that have the same one.
 
-ghost use Rattle.std.specs.Prelude.{◌≡◌, ◌<◌, ◌≤◌, ◌+◌, [], OnOk, IfErr, IfOk, length, slice_index_or};
+ghost use Rattle.std.specs.Prelude.{◌≡◌, ◌<◌, OnOk, IfErr, IfOk};
 ghost use Rattle.std.specs.Bool.{OnTrue};
 ghost use Rattle.fux_grid.specs.Exercises.{IsValid, columns_in};
-ghost use Rattle.fux_grid.specs.Grid.{items_of};
 ghost use Rattle.fux_grid.specs.Menus.{cells_at, menu_of};
 ghost use Rattle.floor_tables.specs.Tables.{AreNarrow, TellsWidth};
-ghost use Rattle.mixed_rules.specs.Menus.{AreMenusOf, IsMenuOf};
+ghost use Rattle.mixed_rules.specs.Menus.{AreMenusOf, IsLatest, IsMenuOf, IsNumberAt};
 
 use floor_tables::TableFault;
 use fux_grid::{Column, Exercise, WIDEST, menu, place_of, voice_cells, width};
 use fux_pitch::Memory;
-use species_space::{Blocks, MenuView, undead_numbers};
+use species_space::{Blocks, undead_numbers};
 use std::alloc::Global;
 
 /// The columns of a menu, and the blocks over which its voices keep their cells.
 #[derive(Drop)]
 pub(crate) struct Menu {
-    columns: Vec<Column>,
-    blocks: Blocks,
+    pub(crate) columns: Vec<Column>,
+    pub(crate) blocks: Blocks,
 }
 
 /// What is known of a place: the number of its menu, and for each column of it the number of the first one, from it on, that isn't dead
 /// after every prefix.
 #[derive(Drop)]
 pub(crate) struct PlaceMenu {
-    menu: usize,
-    undead: Vec<u16>,
+    pub(crate) menu: usize,
+    pub(crate) undead: Vec<u16>,
 }
 
 /// The menus of all places.
 #[derive(Drop)]
 pub(crate) struct Menus {
-    menus: Vec<Menu>,
-    places: Vec<PlaceMenu>,
+    pub(crate) menus: Vec<Menu>,
+    pub(crate) places: Vec<PlaceMenu>,
 }
 
 /// Finds the first menu that is too wide.
@@ -85,52 +84,41 @@ fn menu_at(alloc: Global, ex: &Exercise, i: usize) -> Result<Menu, Memory>
     requires place { i < columns_in ex.now }
     ensures { IfOk result (IsMenuOf (menu_of ex.now i)) }
 {
-    let columns = menu(alloc, ex, i).map_err(|_| Memory)?;
+    let Ok(columns) = menu(alloc, ex, i) else {
+        return Err(Memory);
+    };
     let blocks = Blocks::new(&columns);
     Ok(Menu { columns, blocks })
 }
 
-/// Adds the menu of a place behind those of the places before it, unless the place before has the same one.
-fn add_menu(alloc: Global, ex: &Exercise, menus: &mut Vec<Menu>, i: usize) -> Result<(), Memory> {
-    if i > 0 && has_same_menu(ex, i - 1, i) {
-        return Ok(());
+/// The number of the menu of a place, which is put behind those of the places before it unless the place before has the same one.
+fn number_at(alloc: Global, ex: &Exercise, menus: &mut Vec<Menu>, i: usize) -> Result<usize, Memory>
+    requires valid { IsValid ex.now }
+    requires narrow { AreNarrow ex.now }
+    requires place { i < columns_in ex.now }
+    requires latest { IsLatest ex.now i menus.old.items }
+    ensures { IfOk result (IsNumberAt ex.now i menus.old.items menus.new.items) }
+{
+    let count = menus.len();
+    if i > 0 && count > 0 && has_same_menu(ex, i - 1, i) {
+        return Ok(count - 1);
     }
     menus.push(menu_at(alloc, ex, i)?)?;
-    Ok(())
+    Ok(count)
 }
 
-impl Menus {
-    /// The menus of all places of an exercise. It takes all their memory here.
-    pub(crate) fn new(alloc: Global, ex: &Exercise) -> Result<Menus, Memory>
-        requires valid { IsValid ex.now }
-        requires narrow { AreNarrow ex.now }
-        ensures { IfOk result (AreMenusOf ex.now) }
-    {
-        let mut menus = Vec::new(alloc);
-        let mut places = Vec::new(alloc);
-        for i in 0..8 * ex.bars as usize {
-            add_menu(alloc, ex, &mut menus, i)?;
-            let menu = menus.len() - 1;
-            let undead = undead_numbers(alloc, ex, i, &menus[menu].columns)?;
-            places.push(PlaceMenu { menu, undead })?;
-        }
-        Ok(Menus { menus, places })
+/// The menus of all places of an exercise. All their memory is taken here.
+pub(crate) fn menus_of(alloc: Global, ex: &Exercise) -> Result<Menus, Memory>
+    requires valid { IsValid ex.now }
+    requires narrow { AreNarrow ex.now }
+    ensures { IfOk result (AreMenusOf ex.now) }
+{
+    let mut menus = Vec::new(alloc);
+    let mut places = Vec::new(alloc);
+    for i in 0..8 * ex.bars as usize {
+        let menu = number_at(alloc, ex, &mut menus, i)?;
+        let undead = undead_numbers(alloc, ex, i, &menus[menu].columns)?;
+        places.push(PlaceMenu { menu, undead })?;
     }
-
-    /// The columns of the menu of place i, in reading order.
-    #[inline]
-    pub(crate) fn columns(&self, i: usize) -> &[Column] {
-        self.menus[self.places[i].menu].columns.as_slice()
-    }
-
-    /// The menu of place i, with what is known of it.
-    pub(crate) fn view(&self, i: usize) -> MenuView<'_> {
-        let place = &self.places[i];
-        let menu = &self.menus[place.menu];
-        MenuView {
-            columns: menu.columns.as_slice(),
-            blocks: &menu.blocks,
-            undead: place.undead.as_slice(),
-        }
-    }
+    Ok(Menus { menus, places })
 }

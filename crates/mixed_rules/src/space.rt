@@ -2,6 +2,7 @@
 
 ghost use Rattle.std.specs.Prelude.{◌≡◌, ◌<◌, ◌≤◌, ◌+◌, [], OnOk, IfOk, IfErr, length, slice_index_or};
 ghost use Rattle.fux_grid.specs.Exercises.{IsValid, columns_in};
+ghost use Rattle.fux_grid.specs.Grid.{items_of};
 ghost use Rattle.fux_grid.specs.Menus.{menu_of};
 ghost use Rattle.floor_tables.specs.Tables.{AreNarrow, TellsWidth};
 ghost use Rattle.species_space.specs.Paths.{width_at};
@@ -12,7 +13,7 @@ ghost use Rattle.mixed_rules.specs.Nodes.{IsNodeOf};
 ghost use Rattle.mixed_rules.specs.Paths.{live_at};
 ghost use Rattle.tree_search.specs.Space.{HasChild, IsMadeChild};
 
-use crate::menus::{Menus, check_widths};
+use crate::menus::{Menus, check_widths, menus_of};
 use crate::mixed::Mixed;
 use crate::node::MixedNode;
 use crate::walk::next_unpruned;
@@ -60,7 +61,7 @@ impl<'a> MixedSpace<'a> {
     {
         let exercise = mixed_as(m.ex, m.species);
         check_widths(&exercise)?;
-        let Ok(menus) = Menus::new(alloc, &exercise) else {
+        let Ok(menus) = menus_of(alloc, &exercise) else {
             return Err(TableFault::Memory);
         };
         Ok(MixedSpace {
@@ -81,6 +82,16 @@ impl<'a> MixedSpace<'a> {
         self.exercise.voices
     }
 
+    /// The columns of the menu of place i, in reading order.
+    #[inline]
+    fn columns(&self, i: usize) -> &[Column]
+        requires { i < columns_in self.now.exercise }
+        ensures value { items_of result.now ≡ menu_of self.now.exercise i }
+        ensures few { length result.now ≤ 8192 }
+    {
+        &self.menus.menus[self.menus.places[i].menu].columns
+    }
+
     /// The column of a number in the menu of place i.
     #[inline]
     pub(crate) fn column(&self, i: usize, k: usize) -> &Column
@@ -88,7 +99,7 @@ impl<'a> MixedSpace<'a> {
         requires within { k < length (menu_of self.now.exercise i) }
         ensures { result.now.items ≡ slice_index_or (menu_of self.now.exercise i) k [] }
     {
-        &self.menus.columns(i)[k]
+        &self.columns(i)[k]
     }
 
     /// The menu of place i.
@@ -96,7 +107,12 @@ impl<'a> MixedSpace<'a> {
         requires { i < columns_in self.now.exercise }
         ensures { IsViewOf self.now.exercise i result }
     {
-        self.menus.view(i)
+        let place = &self.menus.places[i];
+        MenuView {
+            columns: self.columns(i),
+            blocks: &self.menus.menus[place.menu].blocks,
+            undead: &place.undead,
+        }
     }
 }
 
@@ -130,7 +146,7 @@ impl<'a> Space for MixedSpace<'a> {
     }
 
     fn count(&self, node: &MixedNode) -> usize {
-        self.menus.columns(node.state.len()).len()
+        self.columns(node.state.len()).len()
     }
 
     fn child(&self, node: &MixedNode, k: usize) -> Option<(MixedNode, u64)> {

@@ -1,0 +1,4 @@
+mod Best
+mod Children
+mod Leaves
+mod MenuLemmas

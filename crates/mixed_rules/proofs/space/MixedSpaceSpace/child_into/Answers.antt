@@ -1,0 +1,22 @@
+use Rattle.std.proofs.Common.{◌≡◌, ◌<◌, [], length, slice_index_or, ap, sym, ◌∙◌, subst, arith}
+use Rattle.fux_grid.specs.Menus.{menu_of}
+use Rattle.floor_tables.specs.Tables.{Task}
+use Rattle.species_space.specs.Paths.{prefix_at, length-columns_on}
+use Rattle.mixed_rules.proofs.space.MixedSpaceSpace.child_into.Goals as goal
+
+pub column-column-requires-clause-place : goal.column-column-requires-clause-place
+column-column-requires-clause-place c =
+    let ex = c.args.self.now.exercise in
+    omega (
+      arith,
+      c.len.ensures ex (prefix_at ex c.requires.path) c.requires.at.state,
+      length-columns_on ex 0 c.requires.path,
+      c.requires.above,
+    )
+
+pub column-column-requires-clause-within : goal.column-column-requires-clause-within
+column-column-requires-clause-within c =
+    let ex = c.args.self.now.exercise in
+    let here : c.len.result ≡ length c.requires.path = c.len.ensures ex (prefix_at ex c.requires.path)
+    c.requires.at.state ∙ length-columns_on ex 0 c.requires.path in
+    subst (λ n. c.args.k < length (menu_of ex n)) (sym here) c.requires.within

@@ -1,0 +1,118 @@
+use Rattle.std.proofs.Common.{◌≡◌, ℕ, ◌+◌, ◌<◌, List, [], ◌∷◌, ◌++◌, Some, length, slice_index_or, true≢false, ap, sym, ◌∙◌, subst, arith}
+use Rattle.std.specs.List.{list_any}
+use Rattle.std.proofs.lemmas.List.{length-append}
+use Rattle.fux_grid.specs.declared.cell.Cell.{Cell}
+use Rattle.fux_grid.specs.declared.exercise.Exercise.{Exercise}
+use Rattle.fux_grid.specs.Columns.{ColumnFollows}
+use Rattle.fux_grid.specs.Exercises.{columns_in}
+use Rattle.fux_grid.specs.Menus.{menu_of}
+use Rattle.fux_grid.proofs.MenuLemmas.{menu_of-full}
+use Rattle.rule_law.specs.Prefixes.{GoesOn}
+use Rattle.fux_judge.specs.Rules.{rules_read}
+use Rattle.fux_judge.specs.Gauges.{least_of}
+use Rattle.fux_judge.specs.Penalties.{newly_broken, paid}
+use Rattle.fux_judge.specs.States.{IsStateOf}
+use Rattle.species_space.specs.Paths.{prefix_at, column_at, width_at, prefix_at-append}
+use Rattle.species_space.proofs.Alive.{goes_on_from}
+use Rattle.species_space.proofs.Children.{goes}
+use Rattle.mixed_rules.specs.Grows.{live_none, live_some}
+use Rattle.mixed_rules.proofs.Children.{as_long, dead}
+use Rattle.mixed_rules.proofs.space.child_by.Goals as goal
+
+-- the column is the one that the number chooses after the path
+abbrev chosen : (ex : Exercise) (path : List ℕ) (k n : ℕ) (items : List Cell) → n ≡ length path → items
+    ≡ slice_index_or (menu_of ex n) k [] → items ≡ column_at ex path k
+chosen ex path k n items e f = f ∙ ap (λ i. slice_index_or (menu_of ex i) k []) e
+
+pub returns-then-not-cells_follow : goal.returns-then-not-cells_follow
+returns-then-not-cells_follow c = λ path at.
+    let ex = c.args.exercise.now in
+    let k = c.args.k in
+    let same = c.as_slice.ensures.value ∙ chosen ex path k c.args.node.now.state.newest.len c.args.column.now.items
+    (as_long ex c.args.sheet.now c.args.node.now path at) c.requires.column in
+    live_none ex c.args.sheet.now (path ++ k ∷ [])
+    (dead ex path k at.alive
+    (λ follows.
+    let P : List Cell → List Cell → Type 0 = λ b n. ColumnFollows b n in
+    let there : ColumnFollows c.before-before.result.now c.as_slice.result.now = subst (P c.before-before.result.now)
+    (sym same) (subst (λ b. P b (column_at ex path k)) (sym (c.before-before.ensures (prefix_at ex path) at.state))
+    follows) in
+    absurd (true≢false (sym (c.cells_follow.ensures.1 there) ∙ c.if-not-cells_follow.true))))
+
+pub step_unbroken-requires-clause-room : goal.step_unbroken-requires-clause-room
+step_unbroken-requires-clause-room c =
+    let child = c.requires.child in
+    omega (arith, as_long c.args.exercise.now c.args.sheet.now c.args.node.now child.path child.at, child.above)
+
+pub step_unbroken-requires-clause-full : goal.step_unbroken-requires-clause-full
+step_unbroken-requires-clause-full c =
+    let ex = c.args.exercise.now in
+    let child = c.requires.child in
+    let same = chosen ex child.path c.args.k c.args.node.now.state.newest.len c.args.column.now.items
+    (as_long ex c.args.sheet.now c.args.node.now child.path child.at) c.requires.column in
+    ap length same ∙ menu_of-full ex (length child.path) c.args.k [] child.within
+
+pub returns-in_default : goal.returns-in_default
+returns-in_default c = λ path at.
+    let ex = c.args.exercise.now in
+    let k = c.args.k in
+    let p = prefix_at ex path in
+    let same = chosen ex path k c.args.node.now.state.newest.len c.args.column.now.items
+    (as_long ex c.args.sheet.now c.args.node.now path at) c.requires.column in
+    let child = c.requires.child in
+    let long = as_long ex c.args.sheet.now c.args.node.now path at in
+    let longer = as_long ex c.args.sheet.now c.args.node.now child.path child.at in
+    let room : length path < columns_in ex = omega (arith, long, longer, child.above) in
+    let same_length : length child.path ≡ length path = sym longer ∙ long in
+    let within : k < width_at ex path = subst (λ n. k < length (menu_of ex n)) same_length child.within in
+    let there = subst (λ b. ColumnFollows b (column_at ex path k)) (c.before-before.ensures p at.state)
+    (subst (ColumnFollows c.before-before.result.now) (c.as_slice.ensures.value ∙ same)
+    (c.cells_follow.ensures.0 c.if-not-cells_follow.false)) in
+    let comes = subst (λ col. GoesOn ex p (col ∷ [])) (sym same)
+    (goes_on_from ex path k c.requires.valid.most_voices at.alive room within there) in
+    live_none ex c.args.sheet.now (path ++ k ∷ [])
+    (dead ex path k at.alive
+    (λ follows. ap (λ col. list_any (newly_broken ex p col) rules_read) (sym same)
+    ∙ c.in_default.ensures.broken p at.state comes))
+
+pub returns : goal.returns
+returns c = λ path at.
+    let ex = c.args.exercise.now in
+    let sheet = c.args.sheet.now in
+    let k = c.args.k in
+    let p = prefix_at ex path in
+    let child = c.requires.child in
+    let long = as_long ex sheet c.args.node.now path at in
+    let longer = as_long ex sheet c.args.node.now child.path child.at in
+    let room : length path < columns_in ex = omega (arith, long, longer, child.above) in
+    let same_length : length child.path ≡ length path = sym longer ∙ long in
+    let within : k < width_at ex path = subst (λ n. k < length (menu_of ex n)) same_length child.within in
+    let same = chosen ex path k c.args.node.now.state.newest.len c.args.column.now.items long c.requires.column in
+    let before = c.before-before.ensures p at.state in
+    let there = subst (λ b. ColumnFollows b (column_at ex path k)) before
+    (subst (ColumnFollows c.before-before.result.now) (c.as_slice.ensures.value ∙ same)
+    (c.cells_follow.ensures.0 c.if-not-cells_follow.false)) in
+    let comes = subst (λ col. GoesOn ex p (col ∷ [])) (sym same)
+    (goes_on_from ex path k c.requires.valid.most_voices at.alive room within there) in
+    let unbroken = ap (λ col. list_any (newly_broken ex p col) rules_read) (sym same)
+    ∙ c.in-Some.ensures.unbroken p at.state comes in
+    let live = goes ex path k at.alive room within there unbroken in
+    let next : p ++ c.args.column.now.items ∷ [] ≡ prefix_at ex (path ++ k ∷ []) = ap (λ col. p ++ col ∷ []) same
+    ∙ sym (prefix_at-append ex path k) in
+    let cost : c.args.node.now.paid + c.in-Some.price.paid ≡ paid ex sheet (prefix_at ex (path ++ k ∷ [])) =
+    ap (λ n. n + c.in-Some.price.paid) at.paid ∙ sym (c.in-Some.ensures.paid p at.state comes)
+    ∙ ap (paid ex sheet) next in
+    let lines : c.in-Some.price.least ≡ least_of ex sheet (prefix_at ex (path ++ k ∷ [])) =
+    c.in-Some.ensures.least p at.state comes.longer ∙ ap (least_of ex sheet) next in
+    let sum : paid ex sheet (prefix_at ex (path ++ k ∷ [])) + least_of ex sheet (prefix_at ex (path ++ k ∷ []))
+    ≡ c.args.node.now.paid + c.in-Some.price.paid + c.in-Some.price.least = omega (arith, cost, lines) in (
+      record {
+        state = subst (λ q. IsStateOf ex q c.step_unbroken.new.next) next (c.in-Some.ensures.state p at.state);
+        alive = live;
+        paid = cost;
+        least = lines;
+        few = omega (arith, at.few, c.in-Some.ensures.bound, length-append path (k ∷ []));
+        little = c.in-Some.ensures.least_bound;
+      },
+      live_some ex sheet (path ++ k ∷ []) live ∙ ap Some sum,
+    )
