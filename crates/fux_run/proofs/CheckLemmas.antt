@@ -33,7 +33,7 @@ use Rattle.class_marker.specs.Markings.{IsContent}
 use Rattle.fux_text.proofs.ReadTexts.{texts-faultless}
 use Rattle.fux_text.specs.Texts.{IsTextOf}
 use Rattle.fux_run.specs.Classes.{RefusesList}
-use Rattle.fux_run.specs.Commands.{Task, as_list, certify, certify_cantus, check, check_cantus, class_report, drill, find_canon, find_cantus, fromsmf, limit_in, name_in, names_in, names_listed, names_within, on_exercise}
+use Rattle.fux_run.specs.Commands.{Task, as_list, certify, certify_cantus, check, check_cantus, class_report, drill, find_canon, find_cantus, fromsmf, limit_in, name_in, names_in, names_listed, names_within, on_exercise, on_mixed}
 use Rattle.fux_run.specs.Complaints.{name_text}
 use Rattle.fux_run.specs.Runs.{IsMade, IsRefused, IsUnread, IsWritten, SaysWithin, work_output}
 use Rattle.fux_run.specs.declared.refusal.Refusal.{Refusal}
@@ -125,6 +125,7 @@ output_is_there (check ex certificate sheet) files name (text ∷ sheets) output
     checked_is_there files certificate sheets text output made (rw (the_one certificate name one.0 one.1 one.2) missing)
 output_is_there (check ex certificate sheet) files name [] output made one missing = absurd made
 output_is_there (on_exercise ex sheet job) files name bytes output made one missing = omega (arith, one.1)
+output_is_there (on_mixed ex sheet named job) files name bytes output made one missing = omega (arith, one.1)
 output_is_there (certify ex sheet budget form) files name bytes output made one missing = omega (arith, one.1)
 output_is_there (fromsmf file head) files name bytes output made one missing = omega (arith, one.1)
 output_is_there (drill number) files name bytes output made one missing = omega (arith, one.1)
@@ -228,6 +229,7 @@ not_refused (class_report list) files (text ∷ []) refusal made ready =
 not_refused (class_report list) files [] refusal made ready = ready
 not_refused (class_report list) files (text ∷ more ∷ bytes) refusal made ready = ready
 not_refused (on_exercise ex sheet job) files bytes refusal made ready = ready
+not_refused (on_mixed ex sheet named job) files bytes refusal made ready = ready
 not_refused (certify ex sheet budget form) files bytes refusal made ready = ready
 not_refused (fromsmf file head) files bytes refusal made ready = ready
 not_refused (drill number) files bytes refusal made ready = ready

@@ -12,6 +12,7 @@ pub mod ContentLemmas
 pub mod FormLemmas
 pub mod FrontLemmas
 pub mod MakeLemmas
+pub mod MixedLemmas
 pub mod RunLemmas
 pub mod SimpleForms
 pub mod SinkLemmas

@@ -2,7 +2,7 @@
 use Rattle.std.proofs.Common.{◌≡◌, true, refl}
 use Rattle.clap.specs.Words.{Text, is_simple_and_free}
 use Rattle.clap.proofs.OnLiterals.{clap_on_literals}
-use Rattle.fux_run.specs.Commands.{canon_words, certify_words, check_cantus_words, check_words, class_words, drill_words, exercise_words, fromsmf_words, new_cantus_words, search_words}
+use Rattle.fux_run.specs.Commands.{canon_words, certify_words, check_cantus_words, check_words, class_words, drill_words, exercise_words, fromsmf_words, mark_mixed_words, mixed_words, new_cantus_words, search_words}
 
 pub search_is_simple : (name : Text) → is_simple_and_free (search_words name) ≡ true
 unfolding clap_on_literals
@@ -35,6 +35,14 @@ class_is_simple = refl
 pub canon_is_simple : is_simple_and_free canon_words ≡ true
 unfolding clap_on_literals
 canon_is_simple = refl
+
+pub mixed_is_simple : is_simple_and_free mixed_words ≡ true
+unfolding clap_on_literals
+mixed_is_simple = refl
+
+pub mark_mixed_is_simple : is_simple_and_free mark_mixed_words ≡ true
+unfolding clap_on_literals
+mark_mixed_is_simple = refl
 
 pub new_cantus_is_simple : (name : Text) → is_simple_and_free (new_cantus_words name) ≡ true
 unfolding clap_on_literals

@@ -1,6 +1,6 @@
 //! The command `certify`.
 
-ghost use Rattle.std.specs.Prelude.{IfErr};
+ghost use Rattle.std.specs.Prelude.{◌≡◌, IfErr, None};
 ghost use Rattle.cert_law.specs.Certificates.{Holds};
 ghost use Rattle.cert_writer.specs.Heads.{head_with};
 ghost use Rattle.fux_grid.specs.Exercises.{IsValid};
@@ -33,7 +33,8 @@ pub fn certify<K: Sink, R: Threads + Sync>(
     form: Form,
     out: &mut K,
 ) -> Result<Verdict, Halt>
-    requires { IsValid exercise.now }
+    requires valid { IsValid exercise.now }
+    requires unmixed { exercise.now.mixed ≡ None }
     ensures writes { WritesTo K.written K.faults (Certifies budget form sheet.now exercise.now) out.old out.new result }
     ensures taken { TakesAll (K.serves out.old) → IfErr result CouldWrite }
 {
@@ -67,6 +68,7 @@ fn put_certificate<K: Sink>(
     out: &mut K,
 ) -> Result<Verdict, Halt>
     requires valid { IsValid space.now.exercise }
+    requires unmixed { space.now.exercise.mixed ≡ None }
     requires holds { Holds space.now.exercise space.now.sheet (head_with best) }
     ensures writes { WritesTo K.written K.faults (CertifiesFound space.now form best.entry verdict) out.old out.new result }
     ensures taken { TakesAll (K.serves out.old) → IfErr result CouldWrite }

@@ -1,6 +1,6 @@
 //! The exercise of a text.
 
-ghost use Rattle.std.specs.Prelude.{ℕ, IfOk, List};
+ghost use Rattle.std.specs.Prelude.{◌≡◌, ℕ, IfOk, List, None};
 ghost use Rattle.fux_grid.specs.Exercises.{IsValid};
 ghost use Rattle.class_marker.specs.Markings.{IsContent};
 ghost use Rattle.fux_run.specs.Texts.{ReadsText};
@@ -26,6 +26,7 @@ const TOO_LONG: Refusal = Refusal::Text {
 pub fn exercise_of(alloc: Global, text: &Text) -> Result<Exercise<'static>, Stop>
     ensures reads { (bytes : List ℕ) → IsContent 65536 text.now bytes → ReadsText bytes result }
     ensures valid { IfOk result IsValid }
+    ensures unmixed { IfOk result (λ exercise. exercise.mixed ≡ None) }
 {
     let Text::Bytes(bytes) = text else {
         return Err(Stop::Refused(TOO_LONG));

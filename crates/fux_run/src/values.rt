@@ -276,7 +276,8 @@ pub fn mixing<'a>(matches: &ArgMatches<'a>) -> Option<Command<'a>>
     ensures head { IfSome result HasHead }
 {
     let name = value(matches, "EX")?;
-    let named = named_in(value(matches, "with")?)?;
+    let list = value(matches, "with")?;
+    let named = named_in(list)?;
     let budget = budget_of(value(matches, "budget"))?;
     let sheet = value(matches, "sheet");
     let job = MixedJob::Compose { budget };
@@ -294,7 +295,8 @@ pub fn marking_mixed<'a>(matches: &ArgMatches<'a>) -> Option<Command<'a>>
     ensures head { IfSome result HasHead }
 {
     let name = value(matches, "EX")?;
-    let named = named_in(value(matches, "with")?)?;
+    let list = value(matches, "with")?;
+    let named = named_in(list)?;
     let sheet = None;
     let job = MixedJob::Mark;
     Some(Command::Make(Making::OnMixed {

@@ -14,6 +14,8 @@ mod drills;
 #[cfg(test)]
 mod long_files;
 #[cfg(test)]
+mod mixing;
+#[cfg(test)]
 mod table;
 #[cfg(test)]
 mod words;

@@ -9,6 +9,10 @@ use std::test::Fail;
 const SETTING: &str =
     "fux 1\nmode dorian\nvoices 2\nbars 11\nspecies 1 voice 1\ncantus 0 D4 F4 E4 D4 G4 F4 A4 G4 F4 E4 D4\nrange 1 G4 D5\nsing 1 A4:8 | A4:8 | G4:8 | A4:8 | ";
 
+/// An exercise in three voices, which `%` stands for.
+const THREE_VOICES: &str =
+    "fux 1\nmode dorian\nvoices 3\nbars 3\nspecies 2 voice 2\ncantus 0 D3 E3 D3\nrange 1 E3 B3\nrange 2 A4 D5\n";
+
 /// A line for each run: the words, the file `A`, the status, and what is written to standard output and to standard
 /// error. In these `@` is the exercise of three bars, `/` is a line feed and `!` is `|`.
 fn cases() -> &'static str {
@@ -80,6 +84,42 @@ canon C --sheet B|fux-canon 1/mode dorian/bars 3/leader 1 D4 D5/follower -7 1 D3
 canon|fux-canon 1/mode dorian/bars 3/leader 1 D4 D5/follower -7 1 D3 D4/|2||fux: usage/
 canon A A|fux-canon 1/mode dorian/bars 3/leader 1 D4 D5/follower -7 1 D3 D4/|2||fux: usage/
 canon A --budget 0|fux-canon 1/mode dorian/bars 3/leader 1 D4 D5/follower -7 1 D3 D4/|2||fux: usage/
+markmixed A --with 1:2|%sing 1 A3:4 B3:4 ! G3:4 E3:4 ! A3:8/sing 2 D5:4 C5:4 ! B4:4 C#5:4 ! D5:8/|0|marks 0/|
+markmixed --with=1:2 A|%sing 1 A3:4 B3:4 ! G3:4 E3:4 ! A3:8/sing 2 D5:4 C5:4 ! B4:4 C#5:4 ! D5:8/|0|marks 0/|
+markmixed A --with 1:2|%sing 1 A3:4 B3:4 ! G3:4 E3:4 ! A3:8/sing 2 D5:4 A4:4 ! B4:4 C#5:4 ! D5:8/|1|bar 1 slot 4 S27 voices 1 2/bar 2 slot 0 S16 voices 0 2/bar 2 slot 0 S17 voices 0 2/marks 3/|
+markmixed A --with 0:2|%sing 1 A3:4 B3:4 ! G3:4 E3:4 ! A3:8/sing 2 D5:4 C5:4 ! B4:4 C#5:4 ! D5:8/|3||fux: with 0/
+markmixed A --with 1:2|%|3||fux: no setting/
+markmixed A --with 2:3|%|3||fux: with 2/
+markmixed A --with 1:2||3||fux: A:1:1: head/
+mixed A --with 1:2|fux 1/mode dorian/voices 3/bars 3/species 2 voice 2/cantus 0 D3 E3 D3/range 1 E3 B3/range 2 A4 B4/|1|none/|
+mixed A --with 0:2|%|3||fux: with 0/
+mixed A --with 2:2|%|3||fux: with 2/
+mixed A --with 3:5|%|3||fux: with 3/
+mixed A --with 1:2,2:3|%|3||fux: with 2/
+mixed A --with 0:2,1:3,2:4,3:5|%|3||fux: with 0/
+mixed A --with 0:2 --sheet A|%|3||fux: with 0/
+mixed A --with 1:2 --sheet A|%|3||fux: sheet: not toml/
+mixed A --with 0:2 --sheet B|%|4||fux: cannot read B/
+mixed A --with 0:2||3||fux: A:1:1: head/
+mixed A|%|2||fux: usage/
+mixed --with 1:2|%|2||fux: usage/
+mixed A --with |%|2||fux: usage/
+mixed A --with 1|%|2||fux: usage/
+mixed A --with 1:1|%|2||fux: usage/
+mixed A --with 1:6|%|2||fux: usage/
+mixed A --with 4:2|%|2||fux: usage/
+mixed A --with 01:2|%|2||fux: usage/
+mixed A --with 1:02|%|2||fux: usage/
+mixed A --with 1:2,|%|2||fux: usage/
+mixed A --with ,1:2|%|2||fux: usage/
+mixed A --with 1:2,1:3|%|2||fux: usage/
+mixed A --with 2:3,1:2|%|2||fux: usage/
+mixed A --with 1:2;2:3|%|2||fux: usage/
+mixed A --with 1:2 --with 1:2|%|2||fux: usage/
+mixed A --with 1:2 --budget 0|%|2||fux: usage/
+markmixed A|%|2||fux: usage/
+markmixed A --with 1:2 --sheet A|%|2||fux: usage/
+markmixed A --with 1:2 --budget 7|%|2||fux: usage/
 newcantus dorian 3 C4 F4||0|cantus D4 E4 D4/; penalty 3/|
 newcantus dorian 4 C4 A4||0|cantus D4 C4 E4 D4/; penalty 4/|
 newcantus dorian 3 D4 D4||1|none/|
@@ -110,6 +150,7 @@ fn text_of(alloc: Global, field: &str) -> Result<String, AllocError> {
         match sign {
             '@' => text.push_str(EXERCISE)?,
             '&' => text.push_str(SETTING)?,
+            '%' => text.push_str(THREE_VOICES)?,
             '/' => text.push('\n')?,
             '!' => text.push('|')?,
             _ => text.push(sign)?,
