@@ -160,7 +160,12 @@ fn charges(tolls: &[u8], sheet: &Sheet, link: &Link<'_>) -> u64
 
 /// What a column costs by itself at place `i`, whatever stands before it: the tolls of a column, by weight. None exactly where
 /// it makes a strict break of a rule of a column.
-pub fn column_cost<'a>(ex: &'a Exercise<'a>, sheet: &Sheet, i: usize, next: &'a Column) -> Option<u64>
+pub fn column_cost<'a>(
+    ex: &'a Exercise<'a>,
+    sheet: &Sheet,
+    i: usize,
+    next: &'a Column,
+) -> Option<u64>
     requires valid { IsValid ex.now }
     requires place { i < columns_in ex.now }
     ensures value { result ≡ column_of ex.now sheet.now i next.now.items }
