@@ -39,8 +39,7 @@ module _ (ex : Exercise) (sheet : Sheet) (valid : IsValid ex) where
   pub to_leaf : (path : List ℕ) (value : ℕ) → IsLeaf (live_at ex sheet) (columns_in ex) path value
       → IsLeaf (chained.live_at ex sheet) (columns_in ex) path value
   to_leaf path value leaf =
-      let own = live_value ex sheet path value leaf.1 in
-      (
+      let own = live_value ex sheet path value leaf.1 in (
         leaf.0,
         chains.live_some ex sheet path own.alive
             ∙ floor_at_end ex sheet (prefix_at ex path) valid.most_voices (setting_there path own.alive leaf.0)
@@ -51,8 +50,7 @@ module _ (ex : Exercise) (sheet : Sheet) (valid : IsValid ex) where
   pub from_leaf : (path : List ℕ) (value : ℕ) → IsLeaf (chained.live_at ex sheet) (columns_in ex) path value
       → IsLeaf (live_at ex sheet) (columns_in ex) path value
   from_leaf path value leaf =
-      let own = chains.live_value ex sheet path value leaf.1 in
-      (
+      let own = chains.live_value ex sheet path value leaf.1 in (
         leaf.0,
         live_some ex sheet path own.0
             ∙ ap Some (floor_there path own.0 leaf.0 ∙ (leaf_is_lawful ex valid sheet path value leaf).1),

@@ -2,3 +2,4 @@ mod Best
 mod Children
 mod Leaves
 mod MenuLemmas
+mod NamingLemmas

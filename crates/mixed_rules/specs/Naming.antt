@@ -1,5 +1,5 @@
 -- Voices whose species are named beside the exercise's.
-use Rattle.std.specs.Prelude.{◌≡◌, ℕ, ◌<◌, ◌≤◌, ◌⊎◌, List, [], ◌∷◌, Option, None, IfSome, IsSome, map, slice_index_or, unwrap_or}
+use Rattle.std.specs.Prelude.{◌≡◌, ℕ, ◌<◌, ◌≤◌, ◌⊎◌, List, [], ◌∷◌, Option, None, IfSome, IsSome, length, map, slice_index_or, unwrap_or}
 use Rattle.fux_grid.specs.declared.exercise.Exercise.{Exercise}
 use Rattle.fux_grid.specs.Exercises.{IsFree, species_in}
 
@@ -7,9 +7,10 @@ use Rattle.fux_grid.specs.Exercises.{IsFree, species_in}
 abbrev pub named_for : List (Option ℕ) → ℕ → Option ℕ
 named_for named v = slice_index_or named v None
 
--- each species that is named is one from 2 to 5
-abbrev pub AreNamed : List (Option ℕ) → Type 0
-AreNamed named = (v : ℕ) → IfSome (named_for named v) (λ species. (2 ≤ species) × (species ≤ 5))
+-- each of four voices has a species from 2 to 5, or none that is named
+pub record AreNamed (named : List (Option ℕ)) : Type 0 where
+  pub four : length named ≡ 4
+  pub each : (v : ℕ) → IfSome (named_for named v) (λ species. (2 ≤ species) × (species ≤ 5))
 
 -- a voice is named that may not be: it isn't free, or the exercise itself says its species
 pub record IsMisnamed (ex : Exercise) (named : List (Option ℕ)) (v : ℕ) : Type 0 where

@@ -19,6 +19,7 @@ fn is_misnamed(ex: &Exercise, named: &Named, v: u8) -> bool
 
 /// The lowest voice that is named and may not be.
 fn first_misnamed(ex: &Exercise, named: &Named) -> Option<u8>
+    requires { AreNamed named.now }
     ensures first { IfSome result (IsFirstMisnamed ex.now named.now) }
     ensures none { IfNone result (AreFreelyNamed ex.now named.now) }
 {
