@@ -1,12 +1,13 @@
 -- What is read of a list from a line on (`from`): one name more (`one_name`), the fault of a line (`wrong_name`, `no_name`), or
 -- all names (`all_names`).
-use Rattle.std.proofs.Common.{◌≡◌, ℕ, ◌+◌, ◌<◌, ◌≤◌, ◌==◌, Bool, true, false, ◌&&◌, List, [], ◌∷◌, ◌++◌, length, Result, Ok, Err, refl, arith}
-use Rattle.std.specs.Prelude.{nat_lt, ◌||◌, if◌then◌else◌}
+use Rattle.std.proofs.Common.{◌≡◌, ℕ, ◌+◌, ◌<◌, ◌≤◌, ◌==◌, ◌≢◌, Bool, true, false, ◌&&◌, List, [], ◌∷◌, ◌++◌, length, get_or, Bor, Option, None, Some, Result, Ok, Err, ne_eqb, refl, ◌∙◌, arith}
+use Rattle.std.specs.Prelude.{MatchOption, nat_lt, ◌||◌, if◌then◌else◌}
 use Rattle.std.specs.Str.{IsUtf8, is_utf8}
 use Rattle.std.proofs.lemmas.Bool.{le-ltb}
+use Rattle.std.proofs.lemmas.List.{get_or_default}
 use Rattle.std.proofs.lemmas.Str.{IsUtf8-from_is_utf8, is_utf8-from_IsUtf8}
 use Rattle.text_lines.specs.Rows.{row_in, run_in, told_beyond}
-use Rattle.whole_lines.specs.Whole.{HasNoFeed, by_kind, fed_lines, lines_said, whole_lines, whole_words}
+use Rattle.whole_lines.specs.Whole.{CutsLine, HasNoFeed, by_kind, fed_lines, lines_said, whole_lines, whole_words}
 use Rattle.whole_lines.proofs.WholeLemmas.{fed-last, fed-line, unfed-line, unfed-none}
 use Rattle.class_marker.specs.Lists.{is_name, listed_names, names_row, names_run}
 
@@ -29,26 +30,29 @@ module _ (text : List ℕ) (names : List (List ℕ)) (rest : List ℕ) where
     wrong_name bad = rw (cut.0, fed-line line behind cut.1, unfed-line line [] cut.1, bad) refl
 
   -- a line without its line feed
-  pub no_name : HasNoFeed rest → 0 < length rest → from text names rest ≡ Err (length names + 1)
+  pub no_name : HasNoFeed rest → (length rest == 0) ≡ false → from text names rest ≡ Err (length names + 1)
   unfolding from run_in fed_lines
   no_name none some = by rest none some
     where
-      by : (rest : List ℕ) → HasNoFeed rest → 0 < length rest → from text names rest ≡ Err (length names + 1)
-      by [] none some = absurd (omega (arith, some))
+      by : (rest : List ℕ) → HasNoFeed rest → (length rest == 0) ≡ false → from text names rest ≡ Err (length names + 1)
+      by [] none some = absurd (grind (arith, some))
       by (b ∷ bs) none some = rw (fed-last b bs none, unfed-none (b ∷ bs) none) refl
 
-  pub all_names : length rest ≡ 0 → from text names rest ≡ (if length names == 0 then Err 1 else Ok names)
+  pub all_names : (length rest == 0) ≡ true → from text names rest ≡ (if length names == 0 then Err 1 else Ok names)
   unfolding from run_in fed_lines
   all_names none = by rest none
     where
-      ended : (b : Bool) → by_kind (told_beyond (whole_lines text) (if b then Err 1 else Ok names))
+      ended : (b : Bool) → by_kind {K = ℕ} (told_beyond (whole_lines text) (if b then Err 1 else Ok names))
           ≡ (if b then Err 1 else Ok names)
       ended true = refl
       ended false = refl
 
-      by : (rest : List ℕ) → length rest ≡ 0 → from text names rest ≡ (if length names == 0 then Err 1 else Ok names)
+      by : (rest : List ℕ) → (length rest == 0) ≡ true → from text names rest ≡ (if length names == 0 then Err 1 else Ok names)
       by [] none = ended (length names == 0)
-      by (b ∷ bs) none = absurd (omega (arith, none))
+      by (b ∷ bs) none = absurd (grind (arith, none))
+
+no_feed_in : (xs : List ℕ) → ((i : ℕ) → i < length xs → get_or xs i 0 ≢ 10) → HasNoFeed xs
+no_feed_in xs none = λ k d within. ne_eqb (get_or xs k d) 10 (λ e. none k within (get_or_default xs k 0 d within ∙ e))
 
 -- ---- whole texts
 
@@ -65,3 +69,12 @@ by_utf8 text false is none = rw (is, or-true (nat_lt 65536 (length text))) refl
 
 pub none_listed : (text : List ℕ) → (IsUtf8 text → ⊥) → listed_names text ≡ Err 1
 none_listed text none = by_utf8 text (is_utf8 text) refl none
+
+-- ---- where a line ends
+
+pub cuts : (text : List ℕ) (found : Option (Bor (List ℕ) × Bor (List ℕ)))
+    → MatchOption found ((i : ℕ) → i < length text → get_or text i 0 ≢ 10)
+    (λ x. (text ≡ x.0.now ++ 10 ∷ x.1.now) × ((i : ℕ) → i < length x.0.now → get_or x.0.now i 0 ≢ 10))
+    → CutsLine text found
+cuts text None none = no_feed_in text none
+cuts text (Some x) parts = (parts.0, no_feed_in x.0.now parts.1)

@@ -105,7 +105,7 @@ module _ {V R : Type 0} (number : ℕ) (form : List ℕ → Option V) (more : V 
     unfolding row_in next
     line_right e later = record {
       reads = λ at words.
-        rw (words, cut.0, fed-line line behind cut.1, unfed-line line [] cut.1, sym e) (later.reads _ refl);
+          rw (words, cut.0, fed-line line behind cut.1, unfed-line line [] cut.1, sym e) (later.reads _ refl);
     }
 
 -- ---- the end of the text
