@@ -1,5 +1,5 @@
 -- The text of a canon: five lines, each ended by a line feed, whose words have one space between them.
-use Rattle.std.specs.Prelude.{ℕ, ◌+◌, ◌-◌, ◌==◌, ℤ, pos, ◌-ℤ◌, Bool, nat_lt, int_le, List, [], ◌∷◌, codes, drop, length, option_map, option_and_then, Option, Some, None, Result, Ok, Err, take, if◌then◌else◌}
+use Rattle.std.specs.Prelude.{ℕ, ◌+◌, ◌-◌, ◌==◌, ℤ, pos, ◌-ℤ◌, nat_lt, int_le, List, [], ◌∷◌, codes, drop, length, option_map, option_and_then, Option, Some, None, Result, Err, take, if◌then◌else◌}
 use Rattle.std.specs.List.{position}
 use Rattle.fux_pitch.specs.declared.mode.Mode.{Mode}
 use Rattle.fux_pitch.specs.declared.pitch.Pitch.{Pitch}
