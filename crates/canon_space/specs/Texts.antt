@@ -1,5 +1,5 @@
 -- The text of a canon: five lines, each ended by a line feed, whose words have one space between them.
-use Rattle.std.specs.Prelude.{ℕ, ◌+◌, ◌-◌, ◌==◌, ℤ, pos, ◌-ℤ◌, Bool, nat_lt, int_le, List, [], ◌∷◌, codes, drop, length, option_map, option_and_then, Option, Some, None, Result, Ok, Err, take, if◌then◌else◌}
+use Rattle.std.specs.Prelude.{ℕ, ◌+◌, ◌-◌, ◌==◌, ℤ, pos, ◌-ℤ◌, nat_lt, int_le, List, [], ◌∷◌, codes, drop, length, option_map, option_and_then, Option, Some, None, Result, Err, take, if◌then◌else◌}
 use Rattle.std.specs.List.{position}
 use Rattle.fux_pitch.specs.declared.mode.Mode.{Mode}
 use Rattle.fux_pitch.specs.declared.pitch.Pitch.{Pitch}
@@ -7,6 +7,8 @@ use Rattle.fux_pitch.specs.Pitch.{key_of}
 use Rattle.fux_text.specs.Names.{mode_named, pitch_named}
 use Rattle.text_lines.specs.Numbers.{number_within}
 use Rattle.text_lines.specs.Reading.{same_text}
+use Rattle.text_lines.specs.Rows.{Row}
+use Rattle.whole_lines.specs.Whole.{line_place, lines_said}
 use Rattle.canon_space.specs.declared.canon.Canon.{Canon}
 use Rattle.canon_space.specs.declared.reading.FollowerLine.{FollowerLine}
 use Rattle.canon_space.specs.declared.reading.LeaderLine.{LeaderLine}
@@ -19,10 +21,6 @@ cut byte text = option_map (λ at. (take at text, drop (at + 1) text)) (position
 abbrev pub after_name : List ℕ → List ℕ → Option (List ℕ)
 after_name name line =
     option_and_then (λ (parts : List ℕ × List ℕ). if same_text name parts.0 then Some parts.1 else None) (cut 32 line)
-
--- `fux-canon 1`
-abbrev pub is_title : List ℕ → Bool
-is_title line = same_text (codes "fux-canon 1") line
 
 -- `mode M`: the name of a mode
 abbrev pub mode_in : List ℕ → Option Mode
@@ -98,44 +96,29 @@ canon_said mode bars leader follower = record {
   ranges = ranges_of leader follower;
 }
 
--- the text from a line on: where the line is ended and of its form, what it says goes on with the text behind it;
--- else it is at fault
-abbrev pub with_line : {X : Type 0} → ℕ → Option X → List ℕ → (X → List ℕ → Result Canon ℕ) → Result Canon ℕ
-with_line number None rest next = Err number
-with_line number (Some said) rest next = next said rest
+-- `fux-canon 1`
+abbrev pub title_in : List ℕ → Option (Unit {0})
+title_in line = if same_text (codes "fux-canon 1") line then Some tt else None
 
-abbrev pub in_parts : {X : Type 0} → ℕ → (List ℕ → Option X) → (X → List ℕ → Result Canon ℕ) → Option (List ℕ × List ℕ)
-    → Result Canon ℕ
-in_parts number says next None = Err number
-in_parts number says next (Some parts) = with_line number (says parts.0) parts.1 next
+-- the lines of a text from each on, by what those before it say: the kind of a fault is the number of its line, and behind
+-- the fifth line there is nothing
+abbrev pub follower_row : Mode → ℕ → LeaderLine → Row ℕ Canon
+follower_row mode bars leader =
+    Row.place (line_place 5 (follower_in bars)) (λ follower. Row.ends 6 (canon_said mode bars leader follower))
 
-abbrev pub at_line : {X : Type 0} → ℕ → (List ℕ → Option X) → (X → List ℕ → Result Canon ℕ) → List ℕ → Result Canon ℕ
-at_line number says next text = in_parts number says next (cut 10 text)
+abbrev pub leader_row : Mode → ℕ → Row ℕ Canon
+leader_row mode bars = Row.place (line_place 4 leader_in) (follower_row mode bars)
 
--- behind the fifth line there is nothing
-abbrev pub at_end : Canon → List ℕ → Result Canon ℕ
-at_end canon rest = if length rest == 0 then Ok canon else Err 6
+abbrev pub bars_row : Mode → Row ℕ Canon
+bars_row mode = Row.place (line_place 3 bars_in) (leader_row mode)
 
-abbrev pub title_in : List ℕ → Option ℕ
-title_in line = if is_title line then Some 1 else None
+abbrev pub mode_row : Row ℕ Canon
+mode_row = Row.place (line_place 2 mode_in) bars_row
 
--- the text from each line on, by what the lines before it say
-abbrev pub from_follower : Mode → ℕ → LeaderLine → List ℕ → Result Canon ℕ
-from_follower mode bars leader = at_line 5 (follower_in bars) (λ follower. at_end (canon_said mode bars leader follower))
-
-abbrev pub from_leader : Mode → ℕ → List ℕ → Result Canon ℕ
-from_leader mode bars = at_line 4 leader_in (from_follower mode bars)
-
-abbrev pub from_bars : Mode → List ℕ → Result Canon ℕ
-from_bars mode = at_line 3 bars_in (from_leader mode)
-
-abbrev pub from_mode : List ℕ → Result Canon ℕ
-from_mode = at_line 2 mode_in from_bars
-
-abbrev pub from_title : List ℕ → Result Canon ℕ
-from_title = at_line 1 title_in (λ title. from_mode)
+abbrev pub canon_row : Row ℕ Canon
+canon_row = Row.place (line_place 1 title_in) (λ _. mode_row)
 
 -- the canon that a text is of, or its first line at fault; a text of more than 65,536 bytes is at fault in its first
 -- line
 unfoldable pub canon_of : List ℕ → Result Canon ℕ
-canon_of text = if nat_lt 65536 (length text) then Err 1 else from_title text
+canon_of text = if nat_lt 65536 (length text) then Err 1 else lines_said canon_row text

@@ -5,11 +5,13 @@ ghost use Rattle.std.specs.List.{position};
 ghost use Rattle.fux_pitch.specs.Pitch.{key_of};
 ghost use Rattle.canon_space.specs.Canons.{IsCanon};
 ghost use Rattle.canon_space.specs.Texts as texts;
+ghost use Rattle.whole_lines.specs.Whole.{ReadsRow};
 
 use crate::canon::Canon;
 use fux_pitch::{Mode, Pitch, semitone};
 use fux_text::{parse_mode, parse_pitch};
 use text_lines::{is_same, parse_within};
+use whole_lines::split_line;
 
 /// The greatest number of bytes of a text.
 const MOST_BYTES: usize = 65_536;
@@ -153,10 +155,10 @@ fn from_follower(text: &[u8], mode: Mode, bars: u8, leader: LeaderLine) -> Resul
     requires most { bars ≤ 24 }
     requires voice { leader.voice < 2 }
     requires rises { key_of leader.range.0 ≤ℤ key_of leader.range.1 }
-    ensures value { result ≡ texts.from_follower mode bars leader text.now }
+    ensures value { ReadsRow (texts.follower_row mode bars leader) text.now result }
     ensures within { IfOk result IsCanon }
 {
-    let Some((line, rest)) = cut(text, b'\n') else {
+    let Some((line, rest)) = split_line(text) else {
         return Err(5);
     };
     let Some(follower) = follower_in(line, bars) else {
@@ -179,10 +181,10 @@ fn from_follower(text: &[u8], mode: Mode, bars: u8, leader: LeaderLine) -> Resul
 fn from_leader(text: &[u8], mode: Mode, bars: u8) -> Result<Canon, u32>
     requires least { 3 ≤ bars }
     requires most { bars ≤ 24 }
-    ensures value { result ≡ texts.from_leader mode bars text.now }
+    ensures value { ReadsRow (texts.leader_row mode bars) text.now result }
     ensures within { IfOk result IsCanon }
 {
-    let Some((line, rest)) = cut(text, b'\n') else {
+    let Some((line, rest)) = split_line(text) else {
         return Err(4);
     };
     let Some(leader) = leader_in(line) else {
@@ -193,10 +195,10 @@ fn from_leader(text: &[u8], mode: Mode, bars: u8) -> Result<Canon, u32>
 
 /// The same from the third line on.
 fn from_bars(text: &[u8], mode: Mode) -> Result<Canon, u32>
-    ensures value { result ≡ texts.from_bars mode text.now }
+    ensures value { ReadsRow (texts.bars_row mode) text.now result }
     ensures within { IfOk result IsCanon }
 {
-    let Some((line, rest)) = cut(text, b'\n') else {
+    let Some((line, rest)) = split_line(text) else {
         return Err(3);
     };
     let Some(bars) = bars_in(line) else {
@@ -207,10 +209,10 @@ fn from_bars(text: &[u8], mode: Mode) -> Result<Canon, u32>
 
 /// The same from the second line on.
 fn from_mode(text: &[u8]) -> Result<Canon, u32>
-    ensures value { result ≡ texts.from_mode text.now }
+    ensures value { ReadsRow texts.mode_row text.now result }
     ensures within { IfOk result IsCanon }
 {
-    let Some((line, rest)) = cut(text, b'\n') else {
+    let Some((line, rest)) = split_line(text) else {
         return Err(2);
     };
     let Some(mode) = mode_in(line) else {
@@ -228,7 +230,7 @@ pub fn read_canon(bytes: &[u8]) -> Result<Canon, u32>
     if bytes.len() > MOST_BYTES {
         return Err(1);
     }
-    let Some((line, rest)) = cut(bytes, b'\n') else {
+    let Some((line, rest)) = split_line(bytes) else {
         return Err(1);
     };
     if !is_same(b"fux-canon 1", line) {

@@ -1,136 +1,80 @@
--- The names that were read of a list, line by line (`one_name`, `all_names`), and where a line is at fault (`wrong_name`,
--- `wrong_number`, `no_feed`).
-use Rattle.std.proofs.Common.{◌≡◌, ◌≢◌, ℕ, zero, suc, ◌+◌, ◌<◌, ◌≤◌, ◌==◌, Bool, true, false, ◌&&◌, List, [], ◌∷◌, ◌++◌, length, map, get_or, All, Bor, Global, Option, None, Some, Result, Ok, Err, append-nil, append_assoc, length-append, ne_eqb, refl, ap, sym, ◌∙◌, arith}
-use Rattle.std.specs.Prelude.{MatchOption, String, nat_le, nat_lt, ◌||◌, string_bytes}
+-- What is read of a list from a line on (`from`): one name more (`one_name`), the fault of a line (`wrong_name`, `no_name`), or
+-- all names (`all_names`).
+use Rattle.std.proofs.Common.{◌≡◌, ℕ, ◌+◌, ◌<◌, ◌≤◌, ◌==◌, ◌≢◌, Bool, true, false, ◌&&◌, List, [], ◌∷◌, ◌++◌, length, get_or, Bor, Option, None, Some, Result, Ok, Err, ne_eqb, refl, ◌∙◌, arith}
+use Rattle.std.specs.Prelude.{MatchOption, nat_lt, ◌||◌, if◌then◌else◌}
 use Rattle.std.specs.Str.{IsUtf8, is_utf8}
-use Rattle.std.proofs.lemmas.Str.{IsUtf8-from_is_utf8}
-use Rattle.std.proofs.lemmas.Bool.{and_from}
-use Rattle.std.proofs.lemmas.Bool.Decides.{nat_tests}
-use Rattle.std.proofs.lemmas.List.{map-append}
-use Rattle.std.proofs.lemmas.List.Splits.{length-slice_split, slice_split_at, slice_split_none}
-use Rattle.class_marker.specs.Lists.{CutsLine, is_name, lines_of, listed_names, names_from, with_name}
+use Rattle.std.proofs.lemmas.Bool.{le-ltb}
+use Rattle.std.proofs.lemmas.List.{get_or_default}
+use Rattle.std.proofs.lemmas.Str.{IsUtf8-from_is_utf8, is_utf8-from_IsUtf8}
+use Rattle.text_lines.specs.Rows.{row_in, run_in, told_beyond}
+use Rattle.whole_lines.specs.Whole.{CutsLine, HasNoFeed, by_kind, fed_lines, lines_said, whole_lines, whole_words}
+use Rattle.whole_lines.proofs.WholeLemmas.{fed-last, fed-line, unfed-line, unfed-none}
+use Rattle.class_marker.specs.Lists.{is_name, listed_names, names_row, names_run}
 
--- some names and then those that are found, where no line is at fault
-abbrev pub with_names : List (List ℕ) → Result (List (List ℕ)) ℕ → Result (List (List ℕ)) ℕ
-with_names names (Ok more) = Ok (names ++ more)
-with_names names (Err line) = Err line
+-- what is read from a line on, behind these names
+unfoldable pub from : List ℕ → List (List ℕ) → List ℕ → Result (List (List ℕ)) ℕ
+from text names rest = by_kind (run_in names_run names (whole_lines text) (whole_words rest))
 
--- there is always a last line
-some_line : (text : List ℕ) → 0 < length (lines_of text)
-some_line text = omega (arith, length-slice_split (λ b. b == 10) text)
+pub from-start : (text : List ℕ) → lines_said names_row text ≡ from text [] text
+unfolding from lines_said row_in
+from-start text = refl
 
-named : (number : ℕ) (line : List ℕ) (others : List (List ℕ)) → 0 < length others
-    → (is_name line && nat_le number 512) ≡ true
-    → names_from number (line ∷ others) ≡ with_name line (names_from (number + 1) others)
-named number line [] some good = absurd (omega (arith, some))
-named number line (next ∷ others) some good = rw good refl
+module _ (text : List ℕ) (names : List (List ℕ)) (rest : List ℕ) where
+  module _ (line behind : List ℕ) (cut : (rest ≡ line ++ 10 ∷ behind) × HasNoFeed line) where
+    pub one_name : (is_name line && nat_lt (length names) 512) ≡ true → from text names rest ≡ from text (names ++ line ∷ []) behind
+    unfolding from run_in
+    one_name good = rw (cut.0, fed-line line behind cut.1, unfed-line line [] cut.1, good) refl
 
-unnamed : (number : ℕ) (line : List ℕ) (others : List (List ℕ)) → 0 < length others
-    → (is_name line && nat_le number 512) ≡ false
-    → names_from number (line ∷ others) ≡ Err number
-unnamed number line [] some bad = absurd (omega (arith, some))
-unnamed number line (next ∷ others) some bad = rw bad refl
+    pub wrong_name : (is_name line && nat_lt (length names) 512) ≡ false → from text names rest ≡ Err (length names + 1)
+    unfolding from run_in
+    wrong_name bad = rw (cut.0, fed-line line behind cut.1, unfed-line line [] cut.1, bad) refl
 
-joined : (names : List (List ℕ)) (name : List ℕ) (found : Result (List (List ℕ)) ℕ)
-    → with_names names (with_name name found) ≡ with_names (names ++ name ∷ []) found
-joined names name (Ok more) = ap Ok (sym (append_assoc names (name ∷ []) more))
-joined names name (Err line) = refl
-
--- one name more
-pub one_name : (all : Result (List (List ℕ)) ℕ) (names more : List (String Global)) (name : String Global) (number : ℕ)
-    (rest line behind : List ℕ)
-    → all ≡ with_names (map string_bytes names) (names_from number (lines_of rest)) → more ≡ names ++ name ∷ []
-    → string_bytes name ≡ line → lines_of rest ≡ line ∷ lines_of behind → is_name line ≡ true → number ≤ 512
-    → all ≡ with_names (map string_bytes more) (names_from (number + 1) (lines_of behind))
-one_name all names more name number rest line behind so_far longer read cut good few =
-    let both : (is_name line && nat_le number 512) ≡ true = and_from _ _ good (grind (arith, nat_tests)) in
-    let known = map string_bytes names in
-    let list : map string_bytes more ≡ known ++ line ∷ [] =
-    ap (map string_bytes) longer ∙ (map-append string_bytes names (name ∷ []) ∙ ap (λ l. known ++ l ∷ []) read) in
-    so_far
-    ∙ (ap (λ lines. with_names known (names_from number lines)) cut
-    ∙ (ap (with_names known) (named number line (lines_of behind) (some_line behind) both)
-    ∙ (joined known line (names_from (number + 1) (lines_of behind))
-    ∙ ap (λ l. with_names l (names_from (number + 1) (lines_of behind))) (sym list))))
-
-module _ (all : Result (List (List ℕ)) ℕ) (names : List (List ℕ)) (number : ℕ) (rest line behind : List ℕ)
-    (so_far : all ≡ with_names names (names_from number (lines_of rest))) (cut : lines_of rest ≡ line ∷ lines_of behind) where
-  wrong : (is_name line && nat_le number 512) ≡ false → all ≡ Err number
-  wrong bad =
-      so_far
-      ∙ (ap (λ lines. with_names names (names_from number lines)) cut
-      ∙ ap (with_names names) (unnamed number line (lines_of behind) (some_line behind) bad))
-
-  -- a line that is no name
-  pub wrong_name : is_name line ≡ false → all ≡ Err number
-  wrong_name bad = wrong (rw bad refl)
-
-  -- a line too many
-  pub wrong_number : 512 < number → all ≡ Err number
-  wrong_number many =
-      let over : nat_le number 512 ≡ false = grind (arith, nat_tests) in
-      wrong (rw over (and-false (is_name line)))
+  -- a line without its line feed
+  pub no_name : HasNoFeed rest → (length rest == 0) ≡ false → from text names rest ≡ Err (length names + 1)
+  unfolding from run_in fed_lines
+  no_name none some = by rest none some
     where
-      and-false : (b : Bool) → (b && false) ≡ false
-      and-false true = refl
-      and-false false = refl
+      by : (rest : List ℕ) → HasNoFeed rest → (length rest == 0) ≡ false → from text names rest ≡ Err (length names + 1)
+      by [] none some = absurd (grind (arith, some))
+      by (b ∷ bs) none some = rw (fed-last b bs none, unfed-none (b ∷ bs) none) refl
 
-unended : (number : ℕ) (line : List ℕ) → 0 < length line → names_from number (line ∷ []) ≡ Err number
-unended number [] some = absurd (omega (arith, some))
-unended number (b ∷ bs) some = refl
+  pub all_names : (length rest == 0) ≡ true → from text names rest ≡ (if length names == 0 then Err 1 else Ok names)
+  unfolding from run_in fed_lines
+  all_names none = by rest none
+    where
+      ended : (b : Bool) → by_kind {K = ℕ} (told_beyond (whole_lines text) (if b then Err 1 else Ok names))
+          ≡ (if b then Err 1 else Ok names)
+      ended true = refl
+      ended false = refl
 
--- a line without its line feed
-pub no_feed : (all : Result (List (List ℕ)) ℕ) (names : List (List ℕ)) (number : ℕ) (rest : List ℕ)
-    → all ≡ with_names names (names_from number (lines_of rest))
-    → lines_of rest ≡ rest ∷ [] → 0 < length rest → all ≡ Err number
-no_feed all names number rest so_far cut some =
-    so_far
-    ∙ (ap (λ lines. with_names names (names_from number lines)) cut ∙ ap (with_names names) (unended number rest some))
+      by : (rest : List ℕ) → (length rest == 0) ≡ true → from text names rest ≡ (if length names == 0 then Err 1 else Ok names)
+      by [] none = ended (length names == 0)
+      by (b ∷ bs) none = absurd (grind (arith, none))
 
--- all names are read
-pub all_names : (all : Result (List (List ℕ)) ℕ) (names : List (List ℕ)) (number : ℕ) (rest : List ℕ)
-    → all ≡ with_names names (names_from number (lines_of rest))
-    → length rest ≡ 0 → all ≡ Ok names
-all_names all names number [] so_far none = so_far ∙ ap Ok (append-nil names)
-all_names all names number (b ∷ bs) so_far none = absurd (omega (arith, none))
+no_feed_in : (xs : List ℕ) → ((i : ℕ) → i < length xs → get_or xs i 0 ≢ 10) → HasNoFeed xs
+no_feed_in xs none = λ k d within. ne_eqb (get_or xs k d) 10 (λ e. none k within (get_or_default xs k 0 d within ∙ e))
+
+-- ---- whole texts
+
+pub some_listed : (text : List ℕ) → length text ≤ 65536 → IsUtf8 text → listed_names text ≡ lines_said names_row text
+some_listed text few utf8 = rw (le-ltb 65536 (length text) few, is_utf8-from_IsUtf8 text utf8) refl
+
+or-true : (b : Bool) → (b || true) ≡ true
+or-true true = refl
+or-true false = refl
+
+by_utf8 : (text : List ℕ) (test : Bool) → is_utf8 text ≡ test → (IsUtf8 text → ⊥) → listed_names text ≡ Err 1
+by_utf8 text true is none = absurd (none (IsUtf8-from_is_utf8 text is))
+by_utf8 text false is none = rw (is, or-true (nat_lt 65536 (length text))) refl
+
+pub none_listed : (text : List ℕ) → (IsUtf8 text → ⊥) → listed_names text ≡ Err 1
+none_listed text none = by_utf8 text (is_utf8 text) refl none
 
 -- ---- where a line ends
-
-same_at : (k : ℕ) (xs : List ℕ) (d e : ℕ) → k < length xs → get_or xs k d ≡ get_or xs k e
-same_at k [] d e within = absurd (omega (arith, within))
-same_at zero (x ∷ xs) d e within = refl
-same_at (suc k) (x ∷ xs) d e within = same_at k xs d e (omega (arith, within))
-
-no_feed_in : (xs : List ℕ) → ((i : ℕ) → i < length xs → get_or xs i 0 ≢ 10) → All (λ b. (b == 10) ≡ false) xs
-no_feed_in xs none = λ k d within. rw (same_at k xs d 0 within) (ne_eqb (get_or xs k 0) 10 (none k within))
 
 pub cuts : (text : List ℕ) (found : Option (Bor (List ℕ) × Bor (List ℕ)))
     → MatchOption found ((i : ℕ) → i < length text → get_or text i 0 ≢ 10)
     (λ x. (text ≡ x.0.now ++ 10 ∷ x.1.now) × ((i : ℕ) → i < length x.0.now → get_or x.0.now i 0 ≢ 10))
     → CutsLine text found
-cuts text None none = slice_split_none (λ b. b == 10) text (no_feed_in text none)
-cuts text (Some (line, behind)) parts = (
-  ap lines_of parts.0 ∙ slice_split_at (λ b. b == 10) line.now 10 behind.now (no_feed_in line.now parts.1) refl,
-  omega (arith, ap length parts.0, length-append line.now (10 ∷ behind.now)),
-)
-
--- ---- whole texts
-
-or-true : (a b : Bool) → (a || b || true) ≡ true
-or-true true b = refl
-or-true false true = refl
-or-true false false = refl
-
-pub some_listed : (text : List ℕ) → 0 < length text → length text ≤ 65536 → is_utf8 text ≡ true
-    → listed_names text ≡ names_from 1 (lines_of text)
-some_listed text some few utf8 =
-    let begun : (length text == 0) ≡ false = grind (arith, nat_tests) in
-    let short : nat_lt 65536 (length text) ≡ false = grind (arith, nat_tests) in
-    rw (begun, short, utf8) refl
-
-by_utf8 : (text : List ℕ) (test : Bool) → is_utf8 text ≡ test → (IsUtf8 text → ⊥) → listed_names text ≡ Err 1
-by_utf8 text true is none = absurd (none (IsUtf8-from_is_utf8 text is))
-by_utf8 text false is none = rw (is, or-true (length text == 0) (nat_lt 65536 (length text))) refl
-
-pub none_listed : (text : List ℕ) → (IsUtf8 text → ⊥) → listed_names text ≡ Err 1
-none_listed text none = by_utf8 text (is_utf8 text) refl none
+cuts text None none = no_feed_in text none
+cuts text (Some x) parts = (parts.0, no_feed_in x.0.now parts.1)

@@ -1,8 +1,9 @@
 //! The list of a class: the names of the files that its exercises stand in.
 
-ghost use Rattle.std.specs.Prelude.{◌≡◌, ◌&&◌, ℕ, ◌<◌, ◌≤◌, List, length, nat_le, nat_lt};
-ghost use Rattle.class_marker.specs.Lists.{CutsLine, Gives, is_name, lines_of, listed_names, names_from};
+ghost use Rattle.std.specs.Prelude.{◌≡◌, ◌&&◌, ℕ, ◌≤◌, List, length, nat_lt};
+ghost use Rattle.class_marker.specs.Lists.{Gives, is_name, listed_names, names_row};
 ghost use Rattle.class_marker.specs.Markings.{IsContent};
+ghost use Rattle.whole_lines.specs.Whole.{CutsLine, lines_said};
 
 use crate::one::Text;
 use std::alloc::{AllocError, AllocFailed, Global};
@@ -49,16 +50,16 @@ fn next_line(text: &str) -> Option<(&str, &str)>
     text.split_once('\n')
 }
 
-/// Whether a line is a name.
-fn is_name(line: &str) -> bool
-    ensures { result ≡ is_name line.now }
+/// Whether a line is a name that may stand behind so many.
+fn is_name_behind(line: &str, names: usize) -> bool
+    ensures { result ≡ (is_name line.now && nat_lt names 512) }
 {
-    !line.is_empty() && line.len() <= LONGEST_NAME
+    !line.is_empty() && line.len() <= LONGEST_NAME && names < MOST_NAMES
 }
 
 /// The names in the lines of a text.
 fn names_in(alloc: Global, text: &str) -> Result<Vec<String>, ListFault>
-    ensures { Gives result (names_from 1 (lines_of text.now)) }
+    ensures { Gives result (lines_said names_row text.now) }
 {
     let mut names = Vec::new(alloc);
     let mut rest = text;
@@ -69,11 +70,14 @@ fn names_in(alloc: Global, text: &str) -> Result<Vec<String>, ListFault>
         let Some((name, behind)) = next_line(rest) else {
             return Err(fault);
         };
-        if names.len() == MOST_NAMES || !is_name(name) {
+        if !is_name_behind(name, names.len()) {
             return Err(fault);
         }
         names.push(String::from_str(alloc, name)?)?;
         rest = behind;
+    }
+    if names.is_empty() {
+        return Err(ListFault::At { line: 1 });
     }
     Ok(names)
 }
@@ -86,7 +90,7 @@ pub fn read_list(alloc: Global, list: &Text) -> Result<Vec<String>, ListFault>
     let Text::Bytes(bytes) = list else {
         return Err(ListFault::At { line: 1 });
     };
-    if bytes.is_empty() || bytes.len() > 65_536 {
+    if bytes.len() > 65_536 {
         return Err(ListFault::At { line: 1 });
     }
     match std::str::from_utf8(bytes) {

@@ -1,8 +1,8 @@
 -- What `canon` makes of the bytes of its files (`of_canon`), and of a text that is too long (`long_refused`).
-use Rattle.std.proofs.Common.{◌≡◌, ◌<◌, ℕ, List, [], ◌∷◌, Option, Result, Ok, Err, true, length, ap, arith}
+use Rattle.std.proofs.Common.{◌≡◌, ◌<◌, ℕ, List, [], ◌∷◌, Option, Result, Ok, Err, true, length, refl, arith}
 use Rattle.std.proofs.lemmas.Bool.Decides.{nat_tests}
-use Rattle.std.specs.Prelude.{nat_lt, if◌then◌else◌}
-use Rattle.canon_space.specs.Texts.{canon_of, from_title}
+use Rattle.std.specs.Prelude.{nat_lt}
+use Rattle.canon_space.specs.Texts.{canon_of}
 use Rattle.class_marker.specs.Markings.{IsContent}
 use Rattle.class_marker.specs.declared.one.Text.{Text as Content}
 use Rattle.fux_run.specs.declared.work.Output.{Output}
@@ -32,4 +32,4 @@ pub long_refused : (bytes : List ℕ) → 65536 < length bytes → canon_of byte
 unfolding canon_of
 long_refused bytes long =
     let more : nat_lt 65536 (length bytes) ≡ true = grind (arith, nat_tests) in
-    ap (λ b. if b then Err 1 else from_title bytes) more
+    rw more refl

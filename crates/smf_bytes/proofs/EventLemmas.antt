@@ -11,8 +11,8 @@ use Rattle.smf_bytes.specs.Messages.{Event, ends_track, event_row}
 use Rattle.smf_bytes.specs.Chunks.{track_in}
 use Rattle.smf_bytes.specs.Events.{Timed, Left, Answers, event_then, left_behind, left_then, next_in, answer_then, events_in, events_left, track_then, tracks_in}
 use Rattle.smf_bytes.specs.Files.{IsNext, IsNextFault}
-use Rattle.smf_bytes.proofs.PartLemmas.{PartTold, digits_gives, digits_lacks, digits_shorter, digits_told, read_fails, read_then}
-use Rattle.smf_bytes.proofs.RowLemmas.{RowTold, row_fails, row_gives, row_shorter, row_told}
+use Rattle.smf_bytes.proofs.PartLemmas.{PartTold, digits_shorter, quantity_tells, read_then}
+use Rattle.smf_bytes.proofs.RowLemmas.{RowTold, row_shorter, row_tells}
 
 -- what reading tells of the next event
 abbrev pub NextTold : Left → Result (Timed × Option Left) ByteFault → Type 0
@@ -40,7 +40,7 @@ next_told left = by (eqb (length left.rest) 0) refl
         → NextTold left (r >>= λ delta. row_in (event_row left.running) left.end delta.1 >>= λ event. Ok
         (event_then left delta.0 event.0, left_then left delta.0 event.0 event.1))
     timed some (Ok delta) told =
-        read delta told (row_in (event_row left.running) left.end delta.1) (row_told (event_row left.running) left.end delta.1)
+        read delta told (row_in (event_row left.running) left.end delta.1) ((row_tells (event_row left.running) left.end delta.1).told)
     timed some (Err f) told = IsNextFault.in_time some told
 
     by : (t : Bool) → eqb (length left.rest) 0 ≡ t
@@ -50,7 +50,7 @@ next_told left = by (eqb (length left.rest) 0) refl
     by true e = IsNextFault.no_end (nil_from_length left.rest (eqb-true (length left.rest) 0 e)) refl
     by false e =
         timed (λ none. eqb-false (length left.rest) 0 e (ap length none)) (quantity_in left.end left.rest)
-        (digits_told 4 (left.end - length left.rest) 0 left.end left.rest)
+        ((quantity_tells left.end left.rest).told)
 
 pub next_shorter : (left : Left) (delta : ℕ) (event : Event) (rest : List ℕ) → IsNext left delta event rest
     → length rest < length left.rest
@@ -61,33 +61,28 @@ next_shorter left delta event rest h =
       row_shorter (event_row left.running) h.behind event rest h.stands,
     )
 
-pub next_gives : (left : Left) (delta : ℕ) (event : Event) (rest : List ℕ) → IsNext left delta event rest
-    → next_in left ≡ Ok (event_then left delta event, left_then left delta event rest)
+pub next_only : (left : Left) (s : Result (Timed × Option Left) ByteFault) → NextTold left s → next_in left ≡ s
 unfolding next_in
-next_gives left delta event rest h =
+next_only left (Ok x) (delta, event, rest, h, is) =
     let some : length left.rest ≢ 0 = λ none. absurd (omega (arith, next_shorter left delta event rest h, none)) in
     rw (ne_eqb (length left.rest) 0 some)
-    (read_then (quantity_in left.end left.rest) _ (delta, h.behind) _
-    (digits_gives 4 (left.end - length left.rest) 0 left.end left.rest delta h.behind h.time)
-    (read_then (row_in (event_row left.running) left.end h.behind) _ (event, rest) _
-    (row_gives (event_row left.running) left.end h.behind event rest h.stands) refl))
-
-pub next_fails : (left : Left) (f : ByteFault) → IsNextFault left f → next_in left ≡ Err f
-unfolding next_in
-next_fails left f (IsNextFault.no_end e fault) = rw fault (rw e refl)
-next_fails left f (IsNextFault.in_time some lacks) =
+    (read_then (quantity_in left.end left.rest) (Ok (delta, h.behind)) _ _
+    ((quantity_tells left.end left.rest).only (Ok (delta, h.behind)) h.time)
+    (read_then (row_in (event_row left.running) left.end h.behind) (Ok (event, rest)) _ _
+    ((row_tells (event_row left.running) left.end h.behind).only (Ok (event, rest)) h.stands) (ap Ok (sym is))))
+next_only left (Err f) (IsNextFault.no_end e fault) = rw fault (rw e refl)
+next_only left (Err f) (IsNextFault.in_time some lacks) =
     let some : length left.rest ≢ 0 = λ none. some (nil_from_length left.rest none) in
     rw (ne_eqb (length left.rest) 0 some)
-    (read_fails (quantity_in left.end left.rest) _ f f
-    (digits_lacks 4 (left.end - length left.rest) 0 left.end left.rest f lacks) refl)
-next_fails left f (IsNextFault.in_event delta behind time lacks) =
+    (read_then (quantity_in left.end left.rest) (Err f) _ _ ((quantity_tells left.end left.rest).only (Err f) lacks) refl)
+next_only left (Err f) (IsNextFault.in_event delta behind time lacks) =
     let some : length left.rest ≢ 0 =
     λ none. absurd (omega (arith, digits_shorter 4 0 left.rest delta behind time, none)) in
     rw (ne_eqb (length left.rest) 0 some)
-    (read_then (quantity_in left.end left.rest) _ (delta, behind) _
-    (digits_gives 4 (left.end - length left.rest) 0 left.end left.rest delta behind time)
-    (read_fails (row_in (event_row left.running) left.end behind) _ f f
-    (row_fails (event_row left.running) left.end behind f lacks) refl))
+    (read_then (quantity_in left.end left.rest) (Ok (delta, behind)) _ _
+    ((quantity_tells left.end left.rest).only (Ok (delta, behind)) time)
+    (read_then (row_in (event_row left.running) left.end behind) (Err f) _ _
+    ((row_tells (event_row left.running) left.end behind).only (Err f) lacks) refl))
 
 -- ---- what is left of a track
 

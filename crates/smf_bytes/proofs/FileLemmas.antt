@@ -16,10 +16,10 @@ use Rattle.smf_bytes.specs.Rows.{IsRow, row_in}
 use Rattle.smf_bytes.specs.Chunks.{Chunk, fields_row, header_in, header_row, track_in}
 use Rattle.smf_bytes.specs.Events.{Answers, File, Left, TakesFirst, Timed, answer_then, begun, event_then, events_in, events_left, file_in, file_seen, followed_by, later_tracks, left_behind, left_seen, left_then, next_in, to_come, track_then, tracks_in}
 use Rattle.smf_bytes.specs.Files.{AreFrom, AreOfTrack, AreOfTracks, AreToCome, IsFile, IsHeader, IsHeaderFault, IsNext, IsNextFault, IsOpened}
-use Rattle.smf_bytes.proofs.PartLemmas.{PartTold, bytes_shorter, read_fails, read_then}
-use Rattle.smf_bytes.proofs.RowLemmas.{RowTold, row_fails, row_gives, row_told}
-use Rattle.smf_bytes.proofs.TrackLemmas.{TrackTold, track_fails, track_gives, track_told}
-use Rattle.smf_bytes.proofs.EventLemmas.{NextTold, events_fault, events_more, next_fails, next_gives, next_shorter, next_told}
+use Rattle.smf_bytes.proofs.PartLemmas.{PartTold, bytes_shorter, read_then}
+use Rattle.smf_bytes.proofs.RowLemmas.{RowTold, row_tells}
+use Rattle.smf_bytes.proofs.TrackLemmas.{TrackTold, track_of, track_only, track_told}
+use Rattle.smf_bytes.proofs.EventLemmas.{NextTold, events_fault, events_more, next_only, next_shorter, next_told}
 
 -- ---- a track
 
@@ -61,11 +61,11 @@ module _ (Behind : Answers → Type 0) (later : Answers) where
       → AreOfTrack Behind left answers → answers ≡ followed_by (events_left (Some left)) later
   events_are left [] only h = absurd h
   events_are left (Err f ∷ answers) only (fault, none) =
-      rw (events_fault left f (next_fails left f fault), none) refl
+      rw (events_fault left f (next_only left (Err f) fault), none) refl
   events_are left (Ok timed ∷ answers) only (delta, event, rest, next, is, more) =
       rw is (at (ends_track event.message) refl more (events_are (left_behind left delta event rest) answers only)
       ∙ ap (λ (others : Answers). followed_by others later) (sym (events_more left (event_then left delta event)
-      (left_then left delta event rest) (next_gives left delta event rest next))))
+      (left_then left delta event rest) (next_only left (Ok _) (delta, event, rest, next, refl)))))
     where
       at : (t : Bool) → ends_track event.message ≡ t
           → ((ends_track event.message ≡ true) × Behind answers)
@@ -122,11 +122,11 @@ pub tracks_are : (more number size : ℕ) (bytes : List ℕ) (answers : Answers)
 unfolding tracks_in
 tracks_are zero number size bytes answers h = h
 tracks_are (suc more) number size bytes answers (inl (body, rest, track, h)) =
-    rw (track_gives (length bytes) size bytes body rest (omega arith) track)
+    rw (track_only (length bytes) size bytes (Ok (track_of body, rest)) (omega arith) (refl, track))
     (events_are (AreOfTracks more (suc number) size rest) (tracks_in more (suc number) size rest)
     (begun number size body rest) answers (λ others. tracks_are more (suc number) size rest others) h)
 tracks_are (suc more) number size bytes answers (inr (fault, track, h)) =
-    rw (track_fails (length bytes) size bytes fault (omega arith) track) h
+    rw (track_only (length bytes) size bytes (Err fault) (omega arith) track) h
 
 -- ---- the header
 
@@ -145,7 +145,7 @@ header_told size bytes = by (ltb (length bytes) 4) refl
     chunk : 4 ≤ length bytes → (r : Result (List ℕ × List ℕ) ByteFault) → RowTold header_row size bytes r
         → HeaderTold size bytes (r >>= λ body. row_in fields_row size body.0 >>= λ header. Ok (header.0, body.1))
     chunk long (Ok x) told =
-        fields x.0 x.1 told (row_in fields_row size x.0) (row_told fields_row size x.0)
+        fields x.0 x.1 told (row_in fields_row size x.0) ((row_tells fields_row size x.0).told)
     chunk long (Err f) told = IsHeaderFault.in_chunk long told
 
     by : (t : Bool) → ltb (length bytes) 4 ≡ t
@@ -153,31 +153,30 @@ header_told size bytes = by (ltb (length bytes) 4) refl
         row_in fields_row size body.0 >>= λ header. Ok (header.0, body.1)))
     by true e = IsHeaderFault.cut (ltb-true (length bytes) 4 e) refl
     by false e =
-        chunk (ltb-false (length bytes) 4 e) (row_in header_row size bytes) (row_told header_row size bytes)
+        chunk (ltb-false (length bytes) 4 e) (row_in header_row size bytes) ((row_tells header_row size bytes).told)
 
-header_gives : (size : ℕ) (bytes : List ℕ) (header : Header) (rest : List ℕ) → IsHeader bytes header rest
-    → header_in size bytes ≡ Ok (header, rest)
-unfolding header_in
-header_gives size bytes header rest h =
-    let long : 4 ≤ length bytes =
-    omega (arith, bytes_shorter 4 bytes h.chunk.2.0 h.chunk.1 h.chunk.2.1) in
-    rw (le-ltb (length bytes) 4 long)
-    (read_then (row_in header_row size bytes) _ (h.body, rest) _ (row_gives header_row size bytes h.body rest h.chunk)
-    (read_then (row_in fields_row size h.body) _ (header, h.more) _
-    (row_gives fields_row size h.body header h.more h.fields) refl))
+header_long : (bytes body rest : List ℕ) → IsRow header_row bytes body rest → ltb (length bytes) 4 ≡ false
+header_long bytes body rest chunk =
+    le-ltb (length bytes) 4 (omega (arith, bytes_shorter 4 bytes chunk.2.0 chunk.1 chunk.2.1))
 
-header_fails : (size : ℕ) (bytes : List ℕ) (f : ByteFault) → IsHeaderFault size bytes f
-    → header_in size bytes ≡ Err f
+header_only : (size : ℕ) (bytes : List ℕ) (s : Result (Header × List ℕ) ByteFault) → HeaderTold size bytes s
+    → header_in size bytes ≡ s
 unfolding header_in
-header_fails size bytes f (IsHeaderFault.cut short fault) = rw (lt-ltb (length bytes) 4 short, fault) refl
-header_fails size bytes f (IsHeaderFault.in_chunk long lacks) =
+header_only size bytes (Ok (header, rest)) h =
+    rw (header_long bytes h.body rest h.chunk)
+    (read_then (row_in header_row size bytes) (Ok (h.body, rest)) _ _
+    ((row_tells header_row size bytes).only (Ok (h.body, rest)) h.chunk)
+    (read_then (row_in fields_row size h.body) (Ok (header, h.more)) _ _
+    ((row_tells fields_row size h.body).only (Ok (header, h.more)) h.fields) refl))
+header_only size bytes (Err f) (IsHeaderFault.cut short fault) = rw (lt-ltb (length bytes) 4 short, fault) refl
+header_only size bytes (Err f) (IsHeaderFault.in_chunk long lacks) =
     rw (le-ltb (length bytes) 4 long)
-    (read_fails (row_in header_row size bytes) _ f f (row_fails header_row size bytes f lacks) refl)
-header_fails size bytes f (IsHeaderFault.in_fields body rest chunk lacks) =
-    let long : 4 ≤ length bytes = omega (arith, bytes_shorter 4 bytes chunk.2.0 chunk.1 chunk.2.1) in
-    rw (le-ltb (length bytes) 4 long)
-    (read_then (row_in header_row size bytes) _ (body, rest) _ (row_gives header_row size bytes body rest chunk)
-    (read_fails (row_in fields_row size body) _ f f (row_fails fields_row size body f lacks) refl))
+    (read_then (row_in header_row size bytes) (Err f) _ _ ((row_tells header_row size bytes).only (Err f) lacks) refl)
+header_only size bytes (Err f) (IsHeaderFault.in_fields body rest chunk lacks) =
+    rw (header_long bytes body rest chunk)
+    (read_then (row_in header_row size bytes) (Ok (body, rest)) _ _
+    ((row_tells header_row size bytes).only (Ok (body, rest)) chunk)
+    (read_then (row_in fields_row size body) (Err f) _ _ ((row_tells fields_row size body).only (Err f) lacks) refl))
 
 -- ---- the file
 
@@ -201,12 +200,12 @@ pub file_is : (bytes : List ℕ) (file : Result File ByteFault) → IsFile bytes
 file_is bytes (Ok file) (few, (rest, header, answers)) =
     rw (
       le-ltb 1048576 (length bytes) few,
-      header_gives (length bytes) bytes file.header rest header,
+      header_only (length bytes) bytes (Ok (file.header, rest)) header,
       ← tracks_are file.header.tracks 0 (length bytes) rest file.answers answers,
     ) refl
 file_is bytes (Err f) (inl (long, fault)) = rw (lt-ltb 1048576 (length bytes) long, fault) refl
 file_is bytes (Err f) (inr (few, lacks)) =
-    rw (le-ltb 1048576 (length bytes) few, header_fails (length bytes) bytes f lacks) refl
+    rw (le-ltb 1048576 (length bytes) few, header_only (length bytes) bytes (Err f) lacks) refl
 
 pub to_come_told : (events : Events) → AreToCome events (to_come events)
 to_come_told events =

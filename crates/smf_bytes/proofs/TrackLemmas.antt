@@ -1,5 +1,5 @@
--- The next track, chunk by chunk: what reading tells of it, and just that (`track_told`, `track_gives`, `track_fails`).
-use Rattle.std.proofs.Common.{◌≡◌, ◌≢◌, ℕ, zero, suc, ◌<◌, ◌≤◌, Bool, true, false, List, [], ◌∷◌, length, Result, Ok, Err, refl, ◌∙◌, ap, arith, cond, eqb, ne_eqb, subst, inl}
+-- The next track, chunk by chunk: what reading tells of it, and just that (`track_told`, `track_only`).
+use Rattle.std.proofs.Common.{◌≡◌, ◌≢◌, ℕ, zero, suc, ◌<◌, ◌≤◌, Bool, true, false, List, [], ◌∷◌, length, Result, Ok, Err, refl, sym, ◌∙◌, ap, arith, cond, eqb, ne_eqb, subst, inl}
 use Rattle.std.proofs.lemmas.Bool.{eqb-false, eqb-true}
 use Rattle.smf_bytes.specs.declared.fault.ByteFault.{ByteFault}
 use Rattle.smf_bytes.specs.declared.fault.ByteFault.TheVariants.{Truncated}
@@ -9,7 +9,7 @@ use Rattle.smf_bytes.specs.Rows.{IsRow, IsRowFault, row_in}
 use Rattle.smf_bytes.specs.Chunks.{Chunk, chunk_row, track_in}
 use Rattle.smf_bytes.specs.Files.{ArePassed, IsTrack, IsTrackFault}
 use Rattle.smf_bytes.proofs.PartLemmas.{PartTold, bytes_shorter}
-use Rattle.smf_bytes.proofs.RowLemmas.{RowTold, row_fails, row_gives, row_told}
+use Rattle.smf_bytes.proofs.RowLemmas.{RowTold, row_tells}
 
 pub chunk_shorter : (bytes : List ℕ) (chunk : Chunk) (rest : List ℕ) → IsRow chunk_row bytes chunk rest
     → length rest < length bytes
@@ -77,7 +77,7 @@ pub track_told : (n size : ℕ) (bytes : List ℕ) → length bytes ≤ n → Tr
 unfolding track_in
 track_told zero size bytes few = none_left size bytes (omega arith)
 track_told (suc n) size bytes few =
-    at (row_in chunk_row size bytes) (row_told chunk_row size bytes) (λ rest short. track_told n size rest short)
+    at (row_in chunk_row size bytes) ((row_tells chunk_row size bytes).told) (λ rest short. track_told n size rest short)
   where
     chunk : ℕ → List ℕ → Chunk
     chunk kind body = record { kind = kind; bytes = body }
@@ -108,34 +108,32 @@ passed_over (c ∷ chunks) zero size bytes behind few (after, row, other, passed
     absurd (omega (arith, chunk_shorter bytes c after row))
 passed_over (c ∷ chunks) (suc n) size bytes behind few (after, row, other, passed) =
     let later = passed_over chunks n size after behind (omega (arith, chunk_shorter bytes c after row)) passed in
-    (later.0, later.1, rw (row_gives chunk_row size bytes c after row, ne_eqb c.kind TRACK other) later.2)
+    (later.0, later.1, rw ((row_tells chunk_row size bytes).only (Ok (c, after)) row, ne_eqb c.kind TRACK other) later.2)
 
-pub track_gives : (n size : ℕ) (bytes body rest : List ℕ) → length bytes ≤ n → IsTrack bytes body rest
-    → track_in n size bytes ≡ Ok (track_of body, rest)
-unfolding track_in
-track_gives n size bytes body rest few h =
+pub track_only : (n size : ℕ) (bytes : List ℕ) (s : Result (Chunk × List ℕ) ByteFault) → length bytes ≤ n
+    → TrackTold size bytes s → track_in n size bytes ≡ s
+unfolding track_in row_in
+track_only n size bytes (Ok (c, rest)) few (is, h) =
     let over = passed_over h.chunks n size bytes h.behind few h.passed in over.2 ∙ at over.0 over.1
   where
-    at : (m : ℕ) → length h.behind ≤ m → track_in m size h.behind ≡ Ok (track_of body, rest)
-    at zero room = absurd (omega (arith, chunk_shorter h.behind (track_of body) rest h.stands))
-    at (suc m) room = rw (row_gives chunk_row size h.behind (track_of body) rest h.stands) refl
-
-pub track_fails : (n size : ℕ) (bytes : List ℕ) (f : ByteFault) → length bytes ≤ n → IsTrackFault size bytes f
-    → track_in n size bytes ≡ Err f
-unfolding track_in row_in
-track_fails n size bytes f few h =
+    at : (m : ℕ) → length h.behind ≤ m → track_in m size h.behind ≡ Ok (c, rest)
+    at zero room = absurd (omega (arith, chunk_shorter h.behind (track_of c.bytes) rest h.stands))
+    at (suc m) room =
+        rw ((row_tells chunk_row size h.behind).only (Ok (track_of c.bytes, rest)) h.stands)
+        (ap (λ (chunk : Chunk). Ok (chunk, rest)) (sym is))
+track_only n size bytes (Err f) few h =
     let over = passed_over h.chunks n size bytes h.behind few h.passed in over.2 ∙ at over.0 h.behind over.1 h.lacks
   where
     at : (m : ℕ) (behind : List ℕ) → length behind ≤ m → IsRowFault chunk_row size behind f
         → track_in m size behind ≡ Err f
-    at zero [] room lacks = row_fails chunk_row size [] f lacks
+    at zero [] room lacks = (row_tells chunk_row size []).only (Err f) lacks
     at zero (b ∷ behind) room lacks = absurd (omega arith)
-    at (suc m) behind room lacks = rw (row_fails chunk_row size behind f lacks) refl
+    at (suc m) behind room lacks = rw ((row_tells chunk_row size behind).only (Err f) lacks) refl
 
 -- a chunk that was read, or the fault of one
 pub chunk_row_is : (size : ℕ) (bytes rest : List ℕ) (c : Chunk) → row_in chunk_row size bytes ≡ Ok (c, rest)
     → IsRow chunk_row bytes c rest
-chunk_row_is size bytes rest c e = subst (RowTold chunk_row size bytes) e (row_told chunk_row size bytes)
+chunk_row_is size bytes rest c e = subst (RowTold chunk_row size bytes) e ((row_tells chunk_row size bytes).told)
 
 pub no_chunk : (size : ℕ) (bytes : List ℕ) (f : ByteFault) → row_in chunk_row size bytes ≡ Err f
     → IsTrackFault size bytes f
@@ -143,5 +141,5 @@ no_chunk size bytes f e = record {
   chunks = [];
   behind = bytes;
   passed = refl;
-  lacks = subst (RowTold chunk_row size bytes) e (row_told chunk_row size bytes);
+  lacks = subst (RowTold chunk_row size bytes) e ((row_tells chunk_row size bytes).told);
 }

@@ -1,5 +1,5 @@
-use Rattle.std.proofs.Common.{arith}
 use Rattle.std.proofs.lemmas.Str.Pattern.{split_parts}
+use Rattle.std.proofs.Common.{arith}
 use Rattle.class_marker.proofs.ListLemmas.{cuts}
 use Rattle.class_marker.proofs.list.next_line.Goals as goal
 

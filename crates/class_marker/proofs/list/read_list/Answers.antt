@@ -1,7 +1,7 @@
-use Rattle.std.proofs.Common.{◌≡◌, ◌<◌, ◌≤◌, length, ap, ◌∙◌, sym, subst, arith}
+use Rattle.std.proofs.Common.{◌≡◌, ◌≤◌, length, ap, ◌∙◌, sym, subst, arith}
 use Rattle.std.specs.Str.{IsUtf8}
-use Rattle.std.proofs.lemmas.Str.{is_utf8-from_IsUtf8}
-use Rattle.class_marker.specs.Lists.{Gives, lines_of, names_from}
+use Rattle.whole_lines.specs.Whole.{lines_said}
+use Rattle.class_marker.specs.Lists.{Gives, names_row}
 use Rattle.class_marker.specs.Markings.{IsContent}
 use Rattle.class_marker.proofs.ListLemmas.{none_listed, some_listed}
 use Rattle.class_marker.proofs.list.read_list.Goals as goal
@@ -10,13 +10,10 @@ pub returns-in-Ok : goal.returns-in-Ok
 returns-in-Ok c = λ bytes content.
     let same : c.in-Bytes.bytes.items ≡ bytes = subst (λ t. IsContent 65536 t bytes) c.in-Bytes.is content in
     let read : c.deref.result.now ≡ bytes = c.deref.ensures.value ∙ same in
-    let text : c.in-Ok.text.now ≡ bytes = c.in-Ok.ensures.cases.0 ∙ read in
     let utf8 : IsUtf8 bytes = subst IsUtf8 read c.in-Ok.ensures.cases.1 in
-    let some : 0 < length bytes = grind (arith, c.is_empty.ensures, c.if-is_empty.false, ap length same) in
     let few : length bytes ≤ 65536 = omega (arith, c.len.ensures, c.if-len-gt65536.false, ap length same) in
     subst (Gives c.names_in.result)
-    (ap (λ t. names_from 1 (lines_of t)) text ∙ sym (some_listed bytes some few (is_utf8-from_IsUtf8 bytes utf8)))
-    c.names_in.ensures
+    (ap (lines_said names_row) (c.in-Ok.ensures.cases.0 ∙ read) ∙ sym (some_listed bytes few utf8)) c.names_in.ensures
 
 pub returns-in-Err : goal.returns-in-Err
 returns-in-Err c = λ bytes content.
