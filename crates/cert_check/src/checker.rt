@@ -3,13 +3,15 @@
 ghost use Rattle.std.specs.Prelude.{◌≡◌, ◌≢◌, ◌+◌, ◌^◌, ◌<◌, ◌≤◌, [], ◌∷◌, None, Some, Ok, Err, IfErr, IfOk, IfSome, OnErr, OnOk};
 ghost use Rattle.cert_text.specs.declared.answers.Refused.{Refused as ARefused};
 ghost use Rattle.cert_text.specs.declared.answers.Why.TheVariants as whys;
+ghost use Rattle.cert_tree.specs.Judgings.{begun_at, standing_of};
 ghost use Rattle.cert_tree.specs.Trees.{OwesRefuting};
 ghost use Rattle.cert_law.specs.Certificates.{Begins, Holds, IsHeadSound, Refutes};
 ghost use Rattle.cert_law.specs.Bases.{HasTails};
 ghost use Rattle.cert_law.specs.Cases.{IsCase};
 ghost use Rattle.cert_law.specs.Entries.{AreTrueEntries};
+ghost use Rattle.cert_law.specs.Known.{ways_of};
 ghost use Rattle.cert_check.specs.Checking as words;
-ghost use Rattle.cert_check.specs.Checking.{Refuses, Takes, accepted_of};
+ghost use Rattle.cert_check.specs.Checking.{IsChecking, Refuses, Takes, accepted_of};
 ghost use Rattle.cert_check.specs.Opening.{TellsWhy};
 ghost use Rattle.cert_check.specs.Runs.{IsFedCertificate, IsFedNone, opened_for};
 ghost use Rattle.floor_tables.specs.Tables.{AreNarrow};
@@ -23,7 +25,7 @@ use floor_tables::{TableFault, Tables, fill_tables};
 use fux_grid::{Exercise, Place};
 use fux_pitch::Memory;
 use penalty_sheet::Sheet;
-use std::alloc::Global;
+use std::alloc::{AllocError, Global};
 use std::marker::Model;
 use std::thread::Threads;
 
@@ -91,6 +93,29 @@ fn refused_by(refusal: Refusal) -> Refused
     }
 }
 
+/// The judging of the claims of a certificate, with the empty prefix owed. It takes all its memory here.
+fn begun<T: Tails>(
+    alloc: Global,
+    exercise: &Exercise,
+    sheet: &Sheet,
+    head: &CertHead,
+    tails: &T,
+) -> Result<Judging<PrefixKnown>, AllocError>
+    requires case { IsCase (record { exercise = exercise.now; sheet = sheet.now; head = head.now }) }
+    requires tails { HasTails (record { exercise = exercise.now; sheet = sheet.now; head = head.now }) (T.basis tails.now) }
+    requires entries { IfSome (T.basis tails.now).stated (AreTrueEntries exercise.now sheet.now) }
+    ensures standing { IfOk result (λ judging. standing_of (ways_of exercise.now) judging ≡ begun_at []) }
+    ensures checking { IfOk result
+        (IsChecking (record { exercise = exercise.now; sheet = sheet.now; head = head.now }) (T.basis tails.now)) }
+{
+    let case = Case {
+        exercise,
+        sheet,
+        head,
+    };
+    begin(alloc, &TailedCase::new(case, tails))
+}
+
 impl<'a> Checker<'a, Tables<'a>> {
     /// A checker of the claims of a certificate of the first form with this head. All memory is taken here.
     pub fn open<R: Threads + Sync>(
@@ -142,12 +167,7 @@ impl<'a, T: Tails + Drop> Checker<'a, T> {
         requires entries { IfSome (T.basis tails).stated (AreTrueEntries exercise.now sheet.now) }
         ensures { IfOk result (λ c. c ≡ opened_for exercise.entry.now sheet.entry.now head (T.basis tails).stated) }
     {
-        let case = Case {
-            exercise,
-            sheet,
-            head: &head,
-        };
-        let judging = begin(alloc, &TailedCase::new(case, &tails))?;
+        let judging = begun(alloc, exercise, sheet, &head, &tails)?;
         Ok(Checker {
             exercise,
             sheet,
