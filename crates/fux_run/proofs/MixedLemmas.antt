@@ -1,12 +1,16 @@
 -- What the commands on mixed exercises make of the bytes of their files (`of_mixed_texts`), from what is answered where the names or the
--- sheet are refused (`refused_names`, `refused_sheet`) and where they are not (`made_of_mixed`).
-use Rattle.std.proofs.Common.{◌≡◌, ℕ, List, [], ◌∷◌, Option, Result, Ok, Err, inl, inr, refl}
+-- sheet are refused (`refused_names`, `refused_sheet`) and where they are not (`made_of_mixed`). A setting of the mixed exercise is a
+-- whole score of the exercise (`is_whole`) and has its cantus (`has_cantus`).
+use Rattle.std.proofs.Common.{◌≡◌, ℕ, List, [], ◌∷◌, Option, Result, Ok, Err, inl, inr, refl, ap, ◌∙◌, length, subst}
 use Rattle.class_marker.specs.Markings.{IsContent, IsTheText}
 use Rattle.class_marker.specs.declared.one.Text.{Text as Content}
 use Rattle.fux_grid.specs.declared.exercise.Exercise.{Exercise}
-use Rattle.fux_grid.specs.Exercises.{as_mixed}
+use Rattle.fux_grid.specs.declared.cell.Cell.{Cell}
+use Rattle.fux_grid.specs.Exercises.{HasCantus, IsComplete, IsValid, as_mixed, columns_in}
+use Rattle.fux_grid.specs.Grid.{Grid}
 use Rattle.mixed_rules.specs.Naming.{AreFreelyNamed, all_species_with}
 use Rattle.penalty_sheet.specs.declared.sheet.Sheet.{Sheet}
+use Rattle.rule_law.specs.Prefixes.{IsSetting}
 use Rattle.fux_run.specs.declared.command.MixedJob.{MixedJob}
 use Rattle.fux_run.specs.declared.work.Output.{Output}
 use Rattle.fux_run.specs.declared.work.Stop.{Stop}
@@ -15,6 +19,7 @@ use Rattle.fux_run.specs.Commands.{as_list, on_mixed}
 use Rattle.fux_run.specs.Mixed.{MakesMixed, MakesOfMixed, NamesSpecies}
 use Rattle.fux_run.specs.Sheets.{ReadsSheet, sheet_said}
 use Rattle.fux_run.specs.Works.{Answers, AreContents, Files, Makes}
+use Rattle.fux_run.proofs.BestLemmas.{prefix_has_cantus}
 
 pub of_mixed_texts : (files : Files) (name : List ℕ) (sheet : Option (List ℕ)) (named : List (Option ℕ)) (job : MixedJob)
     (text : Content) (weights : Option Content) (answer : Result Output Stop)
@@ -66,3 +71,16 @@ module _ (named : List (Option ℕ)) (job : MixedJob) (sheets : List (List ℕ))
       made = inl record { free = free; made = inl record { sheet = sheet; said = said; made = made } };
     }
     made_of_mixed sheet (Err stop.Memory) said made = tt
+
+module _ (ex mixed : Exercise) (species : List ℕ) (same : mixed ≡ as_mixed ex species) (s : List (List Cell))
+    (setting : IsSetting mixed s) where
+  pub is_whole : (score : Grid) → score ≡ record { voices = mixed.voices; columns = s } → IsComplete ex score
+  is_whole score is = record {
+    voices = ap (λ (g : Grid). g.voices) is ∙ ap (λ (e : Exercise). e.voices) same;
+    whole = ap (λ (g : Grid). length g.columns) is ∙ setting.whole ∙ ap (λ (e : Exercise). columns_in e) same;
+  }
+
+  pub has_cantus : IsValid ex → HasCantus ex s
+  has_cantus valid =
+      let own = subst (λ (e : Exercise). IsSetting e s) same setting in
+      prefix_has_cantus (as_mixed ex species) s valid.cantus_there own.prefix

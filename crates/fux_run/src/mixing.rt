@@ -1,12 +1,16 @@
 //! The commands `mixed` and `markmixed`.
 
-ghost use Rattle.std.specs.Prelude.{◌≡◌, IfErr, IfOk};
-ghost use Rattle.fux_grid.specs.Exercises.{IsValid};
+ghost use Rattle.std.specs.Prelude.{◌≡◌, ◌++◌, IfErr, IfOk, string_bytes, true};
+ghost use Rattle.fux_grid.specs.Exercises.{HasCantus, IsValid};
 ghost use Rattle.fux_port.specs.Counts.{Rose};
 ghost use Rattle.mixed_rules.specs.Mixed.{IsMixed, exercise_of};
 ghost use Rattle.mixed_rules.specs.Naming.{AreNamed};
+ghost use Rattle.fux_text.specs.Lines.{setting_text};
+ghost use Rattle.rule_law.specs.Prefixes.{IsSetting};
+ghost use Rattle.species_space.specs.Paths.{is_alive_path, prefix_at};
 ghost use Rattle.fux_run.specs.Blame.{BlamesNoFile, ServesTask};
 ghost use Rattle.fux_run.specs.Commands.{on_mixed, sheet_named};
+ghost use Rattle.fux_run.specs.Composed.{penalty_line};
 ghost use Rattle.fux_run.specs.Mixed.{ComposesMixed, MakesMixed, MakesOfMixed, MarksMixed, NamesSpecies, TellsMixed};
 ghost use Rattle.fux_run.specs.Runs.{IsMade};
 ghost use Rattle.fux_run.specs.Searched.{IsSpaceOf, StopsAtWidth};
@@ -143,6 +147,26 @@ fn found_output(
         Outcome::Nothing => Ok(Output::of_text(Verdict::Unfavorable, none_text(alloc)?)),
         Outcome::Spent { bound } => Ok(Output::of_text(Verdict::Spent, bound_text(alloc, bound)?)),
     }
+}
+
+/// The exercise with the setting that a path leads to, and a penalty.
+fn best_at(
+    alloc: Global,
+    m: &Mixed<'_>,
+    space: &MixedSpace<'_>,
+    path: &[u16],
+    penalty: u64,
+) -> Result<String, Memory>
+    requires mixed { IsMixed m.now }
+    requires space { space.now.exercise ≡ exercise_of m.now }
+    requires alive { is_alive_path space.now.exercise path.now ≡ true }
+    requires setting { IsSetting space.now.exercise (prefix_at space.now.exercise path.now) }
+    ensures text { IfOk result (λ text. string_bytes text
+        ≡ setting_text m.now.ex.now (prefix_at space.now.exercise path.now) ++ penalty_line penalty) }
+    ensures cantus { HasCantus m.now.ex.now (prefix_at space.now.exercise path.now) }
+{
+    let score = mixed_score(alloc, space, path)?;
+    best_text(alloc, m.ex, &score, penalty)
 }
 
 /// The marks of the setting of a mixed exercise.

@@ -10,8 +10,12 @@ returns-in_err-list-clause-asked c =
 
 pub returns-in_err-named-clause-asked : goal.returns-in_err-named-clause-asked
 returns-in_err-named-clause-asked c =
-    rw (c.from_residual-in_err-named.ensures, ← c.in_ok-name.ensures, ← c.in_ok-list.ensures,
-    ← c.in_err-named.ensures.value) refl
+    rw (
+      c.from_residual-in_err-named.ensures,
+      ← c.in_ok-name.ensures,
+      ← c.in_ok-list.ensures,
+      ← c.in_err-named.ensures.value,
+    ) refl
 
 pub returns-clause-asked : goal.returns-clause-asked
 returns-clause-asked c =
