@@ -29,7 +29,7 @@ few_levels tree root ways IsOf are levels known is_open =
 
 pub level_parts : {X C K : Type 0} (tree : Tree X C) (IsOf : K → X → Type 0) (ways : Ways X)
     (old new : List (Level K)) (level : Level K) → old ≡ new ++ level ∷ [] → AreLevels tree IsOf ways (reverse old)
-    → IsLevel tree IsOf (node_at ways (reverse new)) level × AreLevels tree IsOf ways (reverse new)
+    → IsLevel tree IsOf ways (node_at ways (reverse new)) level × AreLevels tree IsOf ways (reverse new)
 level_parts tree IsOf ways old new level e are =
     subst (λ levels. AreLevels tree IsOf ways levels) (ap reverse e ∙ reverse-append new (level ∷ [])) are
 
@@ -37,11 +37,10 @@ pub reverse-level : {K : Type 0} (old new : List (Level K)) (level : Level K) �
     → reverse new ≡ level ∷ reverse old
 reverse-level old new level e = ap reverse e ∙ reverse-append old (level ∷ [])
 
-pub owed-entered : {X K : Type 0} (ways : Ways X) (IsOf : K → X → Type 0) (older new : List (Level K)) (level : Level K)
-    (from : ℕ) (known : K) → new ≡ level ∷ older
-    → IsFirstFrom IsOf ways (node_at ways older) from level.number known
+pub owed-entered : {X K : Type 0} (ways : Ways X) (older new : List (Level K)) (level : Level K) (from : ℕ)
+    → new ≡ level ∷ older → IsFirstFrom ways (node_at ways older) from level.number
     → node_at ways new ∷ owed_later ways new ≡ ways.longer_from (node_at ways older) from ++ owed_later ways older
-owed-entered ways IsOf older new level from known e next =
+owed-entered ways older new level from e next =
     ap (λ levels. node_at ways levels ∷ owed_later ways levels) e
     ∙ ap (λ ps. ps ++ owed_later ways older) (sym next.rest)
 

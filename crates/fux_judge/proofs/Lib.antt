@@ -26,3 +26,4 @@ pub mod StateLemmas
 pub mod StepLemmas
 pub mod StepPlaces
 pub mod SumLemmas
+pub mod ToldLemmas
