@@ -10,6 +10,7 @@ use Rattle.fux_grid.specs.declared.cell.Cell.{Cell}
 use Rattle.fux_grid.specs.declared.exercise.Exercise.{Exercise}
 use Rattle.rule_law.specs.declared.table.Form.TheVariants.{OneVoice}
 use Rattle.rule_law.specs.Forms.{sets_of}
+use Rattle.rule_law.specs.Growth.{any_below}
 use Rattle.rule_law.specs.Law.{first_true, second_true}
 use Rattle.rule_law.specs.Prefixes.{GoesOn}
 use Rattle.rule_law.specs.Rulebooks.{IsAmong, newly_breaks}
@@ -121,12 +122,18 @@ pub third_kept : (ex : Exercise) (p : List (List Cell)) (col : List Cell) (place
     → newly_breaks (rule_at 3) ex voices p col place ≡ false → newly_broken_at 3 ex voices p col place ≡ false
 third_kept ex p col place voices h = ap (λ b. b && is_strict_at 3 ex voices place) h
 
+any_of_one : (test : ℕ → Bool) → any_below test 1 ≡ test 0
+any_of_one test = refl
+
 pub keeps_third : (ex : Exercise) (p : List (List Cell)) (col : List Cell) (place : ℕ) → place ≡ 8 * (length p / 8)
     → GoesOn ex p (col ∷ [])
     → list_any (λ voices. newly_broken_at 3 ex voices p col place) (sets_of OneVoice ex.voices) ≡ false
     → newly_broken ex p col 3 ≡ false
 unfolding rule_at
 keeps_third ex p col place e on h =
+    let test : ℕ → Bool = λ i. list_any (λ voices. newly_broken_at 3 ex voices p col i) (sets_of OneVoice ex.voices) in
+    let first : 8 * (length p / 8) + 0 ≡ place = omega (arith, e) in
     newly_broken-late ex p col 3 third_is_late on
-    ∙ ap (λ i. list_any (λ voices. newly_broken_at 3 ex voices p col i) (sets_of OneVoice ex.voices)) (sym e)
+    ∙ any_of_one (λ k. test (8 * (length p / 8) + k))
+    ∙ ap test first
     ∙ h

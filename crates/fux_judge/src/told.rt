@@ -105,5 +105,8 @@ pub fn is_told_broken(ex: &Exercise, state: &State, col: &Column, rule: u8) -> b
         return false;
     }
     let moment = moment_of(ex, state, col);
-    is_strictly_broken_now(rule, &moment)
+    if is_strictly_broken_now(rule, &moment) {
+        return true;
+    }
+    false
 }

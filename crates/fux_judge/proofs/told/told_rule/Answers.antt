@@ -21,8 +21,8 @@ returns-then-keeps_shapes c = λ p st on.
     let there : GoesOn m.exercise.now p (m.column.now ∷ []) =
     subst (λ (e : Exercise). GoesOn e p (m.column.now ∷ [])) (sym same)
     (subst (λ (d : List Cell). GoesOn ex p (d ∷ [])) (sym its) on) in
-    told_is_least ex p col m same its c.first_broken-rule.value
-    (sym c.first_broken-rule.is ∙ c.first_broken-rule.ensures p after
+    told_is_least ex p col m same its c.in_ok-rule.rule
+    (c.in_ok-rule.ensures p after
     ∙ ap (find (λ r. is_strictly_broken_then all_sets r p m)) c.told_rules.ensures.value)
     (sym (ap (λ e. newly_broken e p m.column.now 3) same ∙ ap (λ d. newly_broken ex p d 3) its)
     ∙ OnTrue_at c.if-keeps_shapes.true c.keeps_shapes.ensures p after there)
