@@ -10,8 +10,8 @@ ghost use Rattle.fux_grid.specs.Menus.{menu_of};
 
 use crate::case::Case;
 use crate::judged::Judged;
-use crate::soon::{is_break_told, told_break};
 use crate::known::PrefixKnown;
+use crate::soon::{is_break_told, told_break};
 use crate::tails::Tails;
 use crate::truth::{first_claim, is_open, is_true};
 use cert_text::Claim;
@@ -86,7 +86,12 @@ fn known_after<T: Tails>(
 }
 
 /// The number of the first column, from a number on, by which an open prefix goes on.
-fn next_step<T: Tails>(case: &Case<'_>, tails: &T, known: &PrefixKnown, from: usize) -> Option<usize>
+fn next_step<T: Tails>(
+    case: &Case<'_>,
+    tails: &T,
+    known: &PrefixKnown,
+    from: usize,
+) -> Option<usize>
     requires case { IsCase (matter_of case.now) }
     requires tails { HasTails (matter_of case.now) (T.basis tails.now) }
     requires open_node { IsOfOpen (tree_in (tailed_of (matter_of case.now) (T.basis tails.now)))
@@ -124,12 +129,7 @@ fn is_true_with<T: Tails>(
 
 /// The first claim that is true of an open prefix with the column of a number more. Where it is of a rule that is soon told, no more is
 /// judged.
-fn claim_with<T: Tails>(
-    case: &Case<'_>,
-    tails: &T,
-    known: &PrefixKnown,
-    number: usize,
-) -> Claim
+fn claim_with<T: Tails>(case: &Case<'_>, tails: &T, known: &PrefixKnown, number: usize) -> Claim
     requires case { IsCase (matter_of case.now) }
     requires tails { HasTails (matter_of case.now) (T.basis tails.now) }
     requires step { IsStepOf (tailed_of (matter_of case.now) (T.basis tails.now)) number known.now }

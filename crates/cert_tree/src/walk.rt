@@ -1,7 +1,8 @@
 //! Where a judge of claims stands among the nodes that are owed.
 
-ghost use Rattle.std.specs.Prelude.{◌≡◌, ◌≤◌, ◌↔◌, ◌<◌, [], None, IfSome, IsTrue, length, vec_capacity};
+ghost use Rattle.std.specs.Prelude.{◌≡◌, ◌≤◌, ◌↔◌, ◌<◌, ◌++◌, ◌∷◌, [], List, None, IfSome, IsTrue, length, vec_capacity};
 ghost use Rattle.std.specs.Bool.{OnFalse, OnTrue};
+ghost use Rattle.cert_tree.specs.declared.walk.Level.{Level as ALevel};
 ghost use Rattle.cert_tree.specs.Walks.{AreLevels, CanGoOn, IsOpen, IsWalk, OwesNext, levels_of, node_at, owed_after, owed_by_walk, owed_from, owed_later};
 
 use crate::claim_tree::ClaimTree;
@@ -41,6 +42,17 @@ fn enter<T: ClaimTree>(it: &T, walk: &mut Walk<T::Known>, parent: T::Known, from
     true
 }
 
+/// Goes on by another step from the newest of the levels. What is known of its node stays where it stands.
+fn renumber<K: Copy>(levels: &mut Vec<Level<K>>, number: usize)
+    requires some { 0 < length levels.old.items }
+    ensures items { (older : List (ALevel K)) (level : ALevel K) → levels.old.items ≡ older ++ level ∷ []
+        → levels.new.items ≡ older ++ record level { number = number } ∷ [] }
+    ensures room { vec_capacity levels.new ≡ vec_capacity levels.old }
+{
+    let top = levels.len() - 1;
+    levels[top].number = number;
+}
+
 /// Goes to the next node that is owed behind those of the levels.
 fn go_up<T: ClaimTree>(it: &T, walk: &mut Walk<T::Known>)
     requires levels { AreLevels (T.tree it.now) (T.is_of it.now) (T.ways it.now) (levels_of walk.old) }
@@ -49,12 +61,18 @@ fn go_up<T: ClaimTree>(it: &T, walk: &mut Walk<T::Known>)
     ensures walk { IsWalk (T.tree it.now) (T.is_of it.now) (T.ways it.now) walk.new }
     ensures owed { owed_by_walk (T.ways it.now) walk.new ≡ owed_later (T.ways it.now) (levels_of walk.old) }
 {
-    let Some(level) = walk.levels.pop() else {
+    let count = walk.levels.len();
+    if count == 0 {
         walk.root = None;
         return;
-    };
-    if !enter(it, walk, level.parent, level.number + 1) {
-        go_up(it, walk);
+    }
+    let level = &walk.levels[count - 1];
+    match it.next(&level.parent, level.number + 1) {
+        Some(number) => renumber(&mut walk.levels, number),
+        None => {
+            walk.levels.truncate(count - 1);
+            go_up(it, walk);
+        }
     }
 }
 

@@ -14,6 +14,7 @@ use Rattle.rule_law.specs.Growth.{any_below}
 use Rattle.rule_law.specs.Law.{first_true, second_true}
 use Rattle.rule_law.specs.Prefixes.{GoesOn}
 use Rattle.rule_law.specs.Rulebooks.{IsAmong, newly_breaks}
+use Rattle.rhythm_cadence.specs.Book.{shape_rule}
 use Rattle.fux_judge.specs.declared.moment.Moment.{Moment}
 use Rattle.fux_judge.specs.Moments.{is_strictly_broken_then}
 use Rattle.fux_judge.specs.Penalties.{is_strict_at, newly_broken, newly_broken_at}
@@ -113,13 +114,12 @@ unfolding rule_at
 third_is_late = refl
 
 -- its one place is the beginning of the column's bar
-pub third_among : (ex : Exercise) (p : List (List Cell)) (place : ℕ) → place ≡ 8 * (length p / 8)
-    → IsAmong ((rule_at 3).first ex (length p)) ((rule_at 3).count ex (length p)) place
-unfolding rule_at
-third_among ex p place e = record { from = omega (arith, e); to = omega (arith, e) }
+pub third_among : (n place : ℕ) → place ≡ 8 * (n / 8) → IsAmong (8 * (n / 8)) 1 place
+third_among n place e = record { from = omega (arith, e); to = omega (arith, e) }
 
 pub third_kept : (ex : Exercise) (p : List (List Cell)) (col : List Cell) (place voices : ℕ)
-    → newly_breaks (rule_at 3) ex voices p col place ≡ false → newly_broken_at 3 ex voices p col place ≡ false
+    → newly_breaks shape_rule ex voices p col place ≡ false → newly_broken_at 3 ex voices p col place ≡ false
+unfolding rule_at
 third_kept ex p col place voices h = ap (λ b. b && is_strict_at 3 ex voices place) h
 
 any_of_one : (test : ℕ → Bool) → any_below test 1 ≡ test 0

@@ -21,7 +21,7 @@ loop-bits-preserved c = λ p after on.
     (sym (c.breaks_late.ensures refl p col
     (c.noted-part.ensures p (sym after.state.newest.count) after.state.past.rhythm)
     (c.with-newest.ensures.newest ex.voices p (omega (arith, c.requires.readable.valid.most_voices)) c.requires.full
-    after.state.newest) on (third_among ex p place (ap (λ n. 8 * (n / 8)) after.state.newest.count)))
+    after.state.newest) on (third_among (length p) place (ap (λ n. 8 * (n / 8)) after.state.newest.count)))
     ∙ c.if-breaks_late.false)
 
 pub returns : goal.returns
@@ -30,5 +30,5 @@ returns c = λ p after on.
     let place = 8 * (m.state.now.newest.len / 8) in
     let test : ℕ → Bool = λ voices. newly_broken_at 3 m.exercise.now voices p m.column.now place in
     keeps_third m.exercise.now p m.column.now place (ap (λ n. 8 * (n / 8)) after.state.newest.count) on
-    (sym (ap (list_any test) (sym c.sets_of-sets.ensures.value)) ∙ ap (list_any test)
+    (sym (ap (list_any test) c.sets_of-sets.ensures.value) ∙ ap (list_any test)
     (sym (take_all c.loop-bits.bits-index c.sets_of-sets.result.now (omega arith))) ∙ c.loop-bits.invariant p after on)
