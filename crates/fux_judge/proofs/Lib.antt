@@ -13,6 +13,7 @@ pub mod LeastLaws
 pub mod LineLemmas
 pub mod LinkLemmas
 pub mod LinkPaid
+pub mod MenuBreaks
 pub mod MomentLemmas
 pub mod MoveLinks
 pub mod Parts

@@ -1,13 +1,16 @@
 -- The first rule that is broken of those that are told is the least of all where S3 isn't broken (`told_is_least`).
-use Rattle.std.proofs.Common.{◌≡◌, ℕ, ◌+◌, ◌*◌, ◌/◌, ◌<◌, ◌≤◌, ◌==◌, ◌&&◌, ◌||◌, Bool, true, false, List, [], ◌∷◌, ◌++◌, drop, get_or, length, refl, ap, sym, ◌∙◌, arith}
+use Rattle.std.proofs.Common.{◌≡◌, ℕ, ◌+◌, ◌*◌, ◌/◌, ◌<◌, ◌≤◌, ◌==◌, ◌&&◌, ◌||◌, Bool, true, false, List, [], ◌∷◌, ◌++◌, drop, get_or, length, reverse, slice_index_or, subst, refl, ap, sym, ◌∙◌, arith}
 use Rattle.std.specs.Prelude.{Option, Some, None, cond, not}
-use Rattle.std.specs.List.{find, list_all, list_any}
+use Rattle.std.specs.List.{filter, find, list_all, list_any}
+use Rattle.std.proofs.Math.Seq.{get_or-append_seam}
 use Rattle.std.specs.Option.{option_or}
 use Rattle.std.proofs.lemmas.Bool.{eqb-true, not-true}
-use Rattle.std.proofs.lemmas.List.{drop_all, drop_more}
+use Rattle.std.proofs.lemmas.List.{drop_all, drop_more, length-append}
 use Rattle.std.proofs.lemmas.List.Folds.{find-append}
 use Rattle.fux_grid.specs.declared.cell.Cell.{Cell}
 use Rattle.fux_grid.specs.declared.exercise.Exercise.{Exercise}
+use Rattle.fux_grid.specs.Menus.{IsInMenu}
+use Rattle.melody_rules.specs.Smooth.{some_rough}
 use Rattle.rule_law.specs.declared.table.Form.TheVariants.{OneVoice}
 use Rattle.rule_law.specs.Forms.{sets_of}
 use Rattle.rule_law.specs.Growth.{any_below}
@@ -18,9 +21,10 @@ use Rattle.rhythm_cadence.specs.Book.{shape_rule}
 use Rattle.fux_judge.specs.declared.moment.Moment.{Moment}
 use Rattle.fux_judge.specs.Moments.{is_strictly_broken_then}
 use Rattle.fux_judge.specs.Penalties.{is_strict_at, newly_broken, newly_broken_at}
-use Rattle.fux_judge.specs.Rules.{all_sets, is_broken, is_late, is_read, rule_at, rules_read}
+use Rattle.fux_judge.specs.Rules.{all_sets, is_broken, is_late, is_of_melody, is_read, rule_at, rules_read}
 use Rattle.fux_judge.specs.Steps.{is_strictly_broken_at_end}
-use Rattle.fux_judge.specs.Told.{first_rules, least_newly_broken}
+use Rattle.fux_judge.specs.Told.{first_rules, joint_rules, least_newly_broken}
+use Rattle.fux_judge.proofs.KeptLemmas.{melody_kept, menu_kept}
 use Rattle.fux_judge.proofs.StepPlaces.{newly_broken-at_once, newly_broken-late}
 
 -- ---- the first of a list
@@ -55,14 +59,27 @@ all_soon : list_all (λ rule. not (is_late rule)) first_rules ≡ true
 unfolding rule_at
 all_soon = refl
 
--- what is found among the first is found among all, but for S3
-found_in_all : (f : ℕ → Bool) (rule : ℕ) → find f first_rules ≡ Some rule → f 3 ≡ false → find f rules_read ≡ Some rule
+-- what is found among the first is found among all, where S1, S2 and S3 aren't broken
+found_in_all : (f : ℕ → Bool) (rule : ℕ) → find f first_rules ≡ Some rule → f 1 ≡ false → f 2 ≡ false → f 3 ≡ false
+    → find f rules_read ≡ Some rule
 unfolding rules_read later_rules
-found_in_all f rule e third =
-    ap (λ b. cond (f 1) (Some 1) (cond (f 2) (Some 2) (cond b (Some 3)
-    (find f (4 ∷ 5 ∷ 6 ∷ 7 ∷ 8 ∷ 9 ∷ 10 ∷ 11 ∷ 12 ∷ 13 ∷ 14 ∷ later_rules))))) third
+found_in_all f rule e first second third =
+    ap (λ b. cond b (Some 1) (cond (f 2) (Some 2) (cond (f 3) (Some 3) (find f (first_rules ++ later_rules))))) first
+    ∙ ap (λ b. cond b (Some 2) (cond (f 3) (Some 3) (find f (first_rules ++ later_rules)))) second
+    ∙ ap (λ b. cond b (Some 3) (find f (first_rules ++ later_rules))) third
     ∙ find-append f first_rules later_rules
     ∙ ap (λ o. option_or o (find f later_rules)) e
+
+-- rules that aren't broken may be left out
+find_left_out : (f out : ℕ → Bool) (xs : List ℕ) → ((x : ℕ) → out x ≡ true → f x ≡ false)
+    → find f (filter (λ x. not (out x)) xs) ≡ find f xs
+find_left_out f out [] none = refl
+find_left_out f out (x ∷ xs) none = at (out x) refl (find_left_out f out xs none)
+  where
+    at : (b : Bool) → out x ≡ b → find f (filter (λ y. not (out y)) xs) ≡ find f xs
+        → find f (cond (not b) (x ∷ filter (λ y. not (out y)) xs) (filter (λ y. not (out y)) xs)) ≡ find f (x ∷ xs)
+    at true e later = later ∙ ap (λ b. cond b (Some x) (find f xs)) (sym (none x e))
+    at false e later = ap (λ o. cond (f x) (Some x) o) later
 
 one_among : (test : ℕ → Bool) (x : ℕ) (xs : List ℕ) → list_all test xs ≡ true → list_any (λ y. y == x) xs ≡ true
     → test x ≡ true
@@ -73,6 +90,13 @@ one_among test x (y ∷ ys) h k = at (y == x) refl k (one_among test x ys (secon
         → (list_any (λ z. z == x) ys ≡ true → test x ≡ true) → test x ≡ true
     at true e m later = ap test (sym (eqb-true y x e)) ∙ first_true (test y) (list_all test ys) h
     at false e m later = later m
+
+both_soon : list_all (λ rule. not (is_late rule)) (1 ∷ 2 ∷ []) ≡ true
+unfolding rule_at
+both_soon = refl
+
+range_at_once : (rule : ℕ) → list_any (λ y. y == rule) (1 ∷ 2 ∷ []) ≡ true → is_late rule ≡ false
+range_at_once rule h = not-true (is_late rule) (one_among (λ r. not (is_late r)) rule (1 ∷ 2 ∷ []) both_soon h)
 
 all_read : list_all is_read first_rules ≡ true
 unfolding rules_read
@@ -98,13 +122,29 @@ module _ (ex : Exercise) (p : List (List Cell)) (col : List Cell) (m : Moment) (
       all_sets) its
       ∙ sym (newly_broken-at_once ex p col rule late)
 
+  -- where it is smooth, the rules of melody need not be asked
+  pub asked_jointly : some_rough m.exercise.now (reverse p) m.column.now ≡ false
+      → find (λ r. is_strictly_broken_then all_sets r p m) joint_rules
+      ≡ find (λ r. is_strictly_broken_then all_sets r p m) first_rules
+  unfolding joint_rules
+  asked_jointly smooth =
+      find_left_out (λ r. is_strictly_broken_then all_sets r p m) is_of_melody first_rules (melody_kept p m smooth)
+
   pub told_is_least : (rule : ℕ) → Some rule ≡ find (λ r. is_strictly_broken_then all_sets r p m) first_rules
-      → newly_broken ex p col 3 ≡ false → least_newly_broken ex p col ≡ Some rule
-  told_is_least rule e third =
+      → GoesOn ex p (col ∷ []) → newly_broken ex p col 3 ≡ false → least_newly_broken ex p col ≡ Some rule
+  told_is_least rule e on third =
+      let here : slice_index_or (p ++ col ∷ []) (length p) [] ≡ col = get_or-append_seam p col [] [] in
+      let placed : length p < length (p ++ col ∷ []) = omega (arith, length-append p (col ∷ [])) in
+      let menu : IsInMenu m.exercise.now (length p) m.column.now =
+      subst (λ (e : Exercise). IsInMenu e (length p) m.column.now) (sym same)
+      (subst (λ (c : List Cell). IsInMenu ex (length p) c) (here ∙ sym its) (on.longer.menus (length p) placed)) in
+      let kept = menu_kept p m menu in
       found_in_all (newly_broken ex p col) rule
       (sym (find_where (λ r. not (is_late r)) (λ r. is_strictly_broken_then all_sets r p m) (newly_broken ex p col)
       first_rules all_soon (λ r h. strictly_newly r (not-true (is_late r) h)))
       ∙ sym e)
+      (sym (strictly_newly 1 (range_at_once 1 refl)) ∙ kept.0)
+      (sym (strictly_newly 2 (range_at_once 2 refl)) ∙ kept.1)
       third
 
 -- ---- S3

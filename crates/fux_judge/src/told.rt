@@ -9,7 +9,7 @@ ghost use Rattle.rule_law.specs.Prefixes.{GoesOn};
 ghost use Rattle.fux_judge.specs.Moments.{IsAfter, IsReadable, is_strictly_broken_then};
 ghost use Rattle.fux_judge.specs.Penalties.{newly_broken};
 ghost use Rattle.fux_judge.specs.Rules.{all_sets, is_late, is_read};
-ghost use Rattle.fux_judge.specs.Told.{first_rules, least_newly_broken};
+ghost use Rattle.fux_judge.specs.Told.{first_rules, joint_rules, least_newly_broken};
 ghost use Rattle.fux_judge.specs.Verdicts.{GoingOn};
 
 use crate::moment::Moment;
@@ -17,19 +17,45 @@ use crate::reading::is_strictly_broken_now;
 use crate::state::State;
 use crate::verdict::moment_of;
 use fux_grid::{Column, Exercise, VoiceSet};
+use melody_rules::are_smooth;
 use rhythm_cadence::Rhythm;
 use rule_law::{Form, RuleCrate, is_quiet, sets_of};
 
-/// The rules up to S14 that are settled at once.
-const FIRST_RULES: [u8; 13] = [1, 2, 4, 5, 6, 7, 8, 9, 10, 11, 12, 13, 14];
+/// The rules from S4 to S14: all are settled at once, and no column of a menu breaks S1 or S2.
+const FIRST_RULES: [u8; 11] = [4, 5, 6, 7, 8, 9, 10, 11, 12, 13, 14];
 
-/// The same, as a list.
+/// Those of them that aren't of melody.
+const JOINT_RULES: [u8; 5] = [10, 11, 12, 13, 14];
+
+/// The first rules, as a list.
 #[tactic(auto, unfolding(crate::specs::Rules::rule_at))]
 fn told_rules() -> &'static [u8]
     ensures value { result.now ≡ first_rules }
     ensures numbers { IsTrue (list_all (λ rule. nat_lt rule 32 && not (is_late rule)) result.now) }
 {
     &FIRST_RULES
+}
+
+/// The joint ones of them, as a list.
+#[tactic(auto, unfolding(crate::specs::Rules::rule_at, crate::specs::Told::joint_rules))]
+fn told_jointly() -> &'static [u8]
+    ensures value { result.now ≡ joint_rules }
+    ensures numbers { IsTrue (list_all (λ rule. nat_lt rule 32 && not (is_late rule)) result.now) }
+{
+    &JOINT_RULES
+}
+
+/// Those of the first rules that are left to ask: where each voice is smooth, none of melody is broken.
+fn rules_to_ask(m: &Moment<'_>) -> &'static [u8]
+    ensures numbers { IsTrue (list_all (λ rule. nat_lt rule 32 && not (is_late rule)) result.now) }
+    ensures asked { (p : Columns) → IsAfter p m.now
+        → find (λ rule. is_strictly_broken_then all_sets rule p m.now) result.now
+        ≡ find (λ rule. is_strictly_broken_then all_sets rule p m.now) first_rules }
+{
+    if are_smooth(m.exercise, &m.state.past.parts.first, m.column) {
+        return told_jointly();
+    }
+    told_rules()
 }
 
 /// The first of these rules that is strictly broken.
@@ -86,7 +112,7 @@ pub fn told_rule(ex: &Exercise, state: &State, col: &Column) -> Option<u8>
         return None;
     }
     let moment = moment_of(ex, state, col);
-    let rule = first_broken(told_rules(), &moment)?;
+    let rule = first_broken(rules_to_ask(&moment), &moment)?;
     if keeps_shapes(&moment) {
         return Some(rule);
     }

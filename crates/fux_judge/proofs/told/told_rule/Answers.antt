@@ -1,12 +1,9 @@
 use Rattle.std.proofs.Common.{◌≡◌, ◌∷◌, [], ℕ, List, false, Some, ap, sym, ◌∙◌, subst}
-use Rattle.std.specs.List.{find}
 use Rattle.std.proofs.lemmas.Bool.{OnTrue_at}
 use Rattle.fux_grid.specs.declared.cell.Cell.{Cell}
 use Rattle.fux_grid.specs.declared.exercise.Exercise.{Exercise}
 use Rattle.rule_law.specs.Prefixes.{GoesOn}
-use Rattle.fux_judge.specs.Moments.{is_strictly_broken_then}
 use Rattle.fux_judge.specs.Penalties.{newly_broken}
-use Rattle.fux_judge.specs.Rules.{all_sets}
 use Rattle.fux_judge.proofs.ToldLemmas.{told_is_least}
 use Rattle.fux_judge.proofs.told.told_rule.Goals as goal
 
@@ -22,7 +19,6 @@ returns-then-keeps_shapes c = λ p st on.
     subst (λ (e : Exercise). GoesOn e p (m.column.now ∷ [])) (sym same)
     (subst (λ (d : List Cell). GoesOn ex p (d ∷ [])) (sym its) on) in
     told_is_least ex p col m same its c.in_ok-rule.rule
-    (c.in_ok-rule.ensures p after
-    ∙ ap (find (λ r. is_strictly_broken_then all_sets r p m)) c.told_rules.ensures.value)
+    (c.in_ok-rule.ensures p after ∙ c.rules_to_ask.ensures.asked p after) on
     (sym (ap (λ e. newly_broken e p m.column.now 3) same ∙ ap (λ d. newly_broken ex p d 3) its)
     ∙ OnTrue_at c.if-keeps_shapes.true c.keeps_shapes.ensures p after there)
