@@ -14,7 +14,7 @@ returns-in-Some c = λ p judged on.
     let none : c.args.judged.now.broken.bits ≡ 0 = omega (arith, c.if-broken-ne0.false) in (
       unlike t.head.now (p ++ col ∷ []) (c.args.judged.now.state.newest.len + 1)
           (omega (arith, length-append p (col ∷ []), judged.state.newest.count))
-          (sym c.if-has_length.ensures ∙ c.if-has_length.false),
+          (sym c.if-has_length.ensures),
       least_more ex p col c.in-Some.rule
           (λ r. sym (judged.broken r) ∙ ap (λ n. has_rule n r) none ∙ ap (λ n. n == 1) (bit_at-zero r))
           (c.in-Some.ensures p judged.state on),

@@ -7,14 +7,14 @@ use Rattle.fux_grid.specs.declared.cell.Cell.{Cell}
 use Rattle.rule_law.specs.Prefixes.{GoesOn}
 use Rattle.cert_law.proofs.tailed.is_true_with.Goals as goal
 
-pub column-requires-clause-place : goal.column-requires-clause-place
-column-requires-clause-place g c =
+pub column-column-requires-clause-place : goal.column-column-requires-clause-place
+column-column-requires-clause-place g c =
     let basis = g.T.Tails.basis c.args.tails.now in
     step_place (tailed_of (matter_of c.args.case.now) basis) basis c.args.known.now c.args.number c.requires.case
     c.requires.tails c.requires.step
 
-pub column-requires-clause-within : goal.column-requires-clause-within
-column-requires-clause-within g c =
+pub column-column-requires-clause-within : goal.column-column-requires-clause-within
+column-column-requires-clause-within g c =
     let basis = g.T.Tails.basis c.args.tails.now in
     step_within (tailed_of (matter_of c.args.case.now) basis) basis c.args.known.now c.args.number c.requires.case
     c.requires.tails c.requires.step
