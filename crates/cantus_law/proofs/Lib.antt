@@ -1,4 +1,5 @@
 pub mod OrderSteps
+pub mod PoolHeads
 pub mod PoolLists
 pub mod Tellings
 pub mod Unrefuted

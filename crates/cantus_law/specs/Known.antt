@@ -1,11 +1,12 @@
 -- What is known of pitches of which a claim is judged, and how they are found by the numbers of pitches.
-use Rattle.std.specs.Prelude.{◌≡◌, ℕ, ◌+◌, ◌≤◌, List, [], ◌∷◌, ◌++◌, None, Some, length, map, reverse}
+use Rattle.std.specs.Prelude.{◌≡◌, ℕ, ◌+◌, ◌≤◌, ◌&&◌, Bool, nat_lt, List, [], ◌∷◌, ◌++◌, None, Some, length, map, reverse}
 use Rattle.std.specs.declared.cmp.Ordering.{Ordering}
 use Rattle.std.specs.declared.cmp.Ordering.TheVariants.{Equal}
 use Rattle.cert_tree.specs.Walks.{Ways}
 use Rattle.fux_pitch.specs.declared.pitch.Pitch.{Pitch}
 use Rattle.rule_law.specs.Voices.{has_rule}
 use Rattle.cantus_space.specs.declared.plan.CantusPlan.{CantusPlan}
+use Rattle.cantus_space.specs.Cantus.{is_in_pool}
 use Rattle.cantus_space.specs.Known.{IsKnownOf, pool_from}
 use Rattle.cantus_space.specs.Numbers.{numbered_pitch}
 use Rattle.cantus_law.specs.Claims.{Said, has_break_of}
@@ -29,10 +30,15 @@ pub record IsJudged (plan : CantusPlan) (said : Said) (known : CantusKnown) (ps 
 abbrev pub longer_from : CantusPlan → List Pitch → ℕ → List (List Pitch)
 longer_from plan ps from = map (λ p. ps ++ p ∷ []) (pool_from plan (length ps + 1) from)
 
+-- the pitch of a number is one of the next pool
+abbrev pub is_step_of : CantusPlan → List Pitch → ℕ → Bool
+is_step_of plan ps k = nat_lt k 73 && is_in_pool plan (length ps + 1) (numbered_pitch plan k)
+
 abbrev pub ways_of : CantusPlan → Ways (List Pitch)
 ways_of plan = record {
   root = [];
   child = λ ps k. ps ++ numbered_pitch plan k ∷ [];
+  is_step = is_step_of plan;
   longer_from = longer_from plan;
   steps = length;
   height = plan.bars;

@@ -196,10 +196,23 @@ impl ClaimTree for CantusCase {
         }
     }
 
-    fn next(&self, known: &CantusKnown, from: usize) -> Option<(usize, CantusKnown)> {
+    fn next(&self, known: &CantusKnown, from: usize) -> Option<usize> {
         match self.space.next_of_pool(&known.node, from) {
-            Some((number, pitch)) => Some((number, self.after(known, pitch))),
+            Some((number, pitch)) => {
+                let _ = pitch;
+                Some(number)
+            }
             None => None,
+        }
+    }
+
+    fn behind(&self, known: &CantusKnown, number: usize) -> CantusKnown {
+        match self.space.next_of_pool(&known.node, number) {
+            Some((number, pitch)) => {
+                let _ = number;
+                self.after(known, pitch)
+            }
+            None => *known,
         }
     }
 

@@ -1,4 +1,4 @@
--- The first claim, by what is known of a prefix (`first_floor`).
+-- The first claim, by what is known of a prefix (`first_rule`, `first_floor`).
 use Rattle.std.proofs.Common.{◌≡◌, ℕ, ◌+◌, Bool, false, List, [], ◌∷◌, Option, Some, None, refl, ap, sym, ◌∙◌, if◌then◌else◌}
 use Rattle.std.specs.Prelude.{is_none}
 use Rattle.std.specs.List.{find}
@@ -24,6 +24,13 @@ module _ (ex : Exercise) (sheet : Sheet) (head : CertHead) (stated : Option (Lis
   unbroken : is_setting_of head p ≡ false → least_break ex p ≡ None → first_claim ex sheet head stated p
       ≡ unbroken_claim ex sheet head stated p
   unbroken s r =
+      ap (λ b. if b then TheScore else option_map_or Broken (least_break ex p) (unbroken_claim ex sheet head stated p)) s
+      ∙ ap (λ o. option_map_or Broken o (unbroken_claim ex sheet head stated p)) r
+
+  -- it is of the least rule that is broken
+  pub first_rule : (rule : ℕ) → is_setting_of head p ≡ false → least_break ex p ≡ Some rule
+      → first_claim ex sheet head stated p ≡ Broken rule
+  first_rule rule s r =
       ap (λ b. if b then TheScore else option_map_or Broken (least_break ex p) (unbroken_claim ex sheet head stated p)) s
       ∙ ap (λ o. option_map_or Broken o (unbroken_claim ex sheet head stated p)) r
 

@@ -8,6 +8,7 @@ pub mod NumberLemmas
 pub mod Orders
 pub mod Prefixes
 pub mod RestEntries
+pub mod SoonLemmas
 pub mod TailFacts
 pub mod TailLemmas
 pub mod TruthLemmas

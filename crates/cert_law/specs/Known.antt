@@ -1,16 +1,17 @@
 -- What is known of a prefix so that its claims can be judged, and how prefixes are found by the numbers of columns.
-use Rattle.std.specs.Prelude.{◌≡◌, ℕ, ◌+◌, ◌<◌, IsTrue, List, [], ◌∷◌, ◌++◌, Option, Some, None, drop, length, map, reverse, slice_index_or}
+use Rattle.std.specs.Prelude.{◌≡◌, ℕ, ◌+◌, ◌<◌, ◌&&◌, Bool, nat_lt, IsTrue, List, [], ◌∷◌, ◌++◌, Option, Some, None, drop, length, map, reverse, slice_index_or}
 use Rattle.std.specs.List.{filter}
 use Rattle.cert_text.specs.declared.claim.Claim.{Claim}
 use Rattle.cert_text.specs.declared.potential.Potential.{Potential}
 use Rattle.cert_tree.specs.Trees.{Tree}
-use Rattle.cert_tree.specs.Walks.{Ways}
+use Rattle.cert_tree.specs.Walks.{IsBehind, IsOfStep, Ways}
 use Rattle.cert_law.specs.declared.known.PrefixKnown.{PrefixKnown}
 use Rattle.cert_law.specs.Bases.{Basis, HasTails}
 use Rattle.cert_law.specs.Cases.{IsCase, Matter}
 use Rattle.cert_law.specs.Certificates.{tree_of}
 use Rattle.cert_law.specs.Prefixes.{IsJudged}
 use Rattle.cert_law.specs.Tails.{tail_of}
+use Rattle.cert_law.specs.Writer.{first_claim}
 use Rattle.chain_sums.specs.Sums.{column_follows}
 use Rattle.fux_grid.specs.declared.cell.Cell.{Cell}
 use Rattle.fux_grid.specs.declared.exercise.Exercise.{Exercise}
@@ -41,10 +42,16 @@ IsNextNumber menu before from (Some k) =
     × (filter (column_follows before) (drop from menu)
     ≡ slice_index_or menu k [] ∷ filter (column_follows before) (drop (k + 1) menu))
 
+-- the column of a number is one of those that may come next
+abbrev pub is_step_of : Exercise → List (List Cell) → ℕ → Bool
+is_step_of ex p k =
+    nat_lt k (length (menu_of ex (length p))) && column_follows (newest_column (reverse p)) (column_after ex p k)
+
 abbrev pub ways_of : Exercise → Ways (List (List Cell))
 ways_of ex = record {
   root = [];
   child = λ p k. p ++ column_after ex p k ∷ [];
+  is_step = is_step_of ex;
   longer_from = longer_from ex;
   steps = length;
   height = columns_in ex;
@@ -64,6 +71,10 @@ tailed_of t basis = record { case = t; stated = basis.stated }
 abbrev pub tree_in : Tailed → Tree (List (List Cell)) Claim
 tree_in t = tree_of t.case.exercise t.case.sheet t.case.head t.stated
 
+-- the claim that is written of each of them
+abbrev pub own_in : Tailed → List (List Cell) → Claim
+own_in t = first_claim t.case.exercise t.case.sheet t.case.head t.stated
+
 -- the case is one, and the tails are its own
 pub record IsTailed (t : Matter) (basis : Basis) : Type 0 where
   pub case : IsCase t
@@ -79,3 +90,11 @@ abbrev pub IsKnownAfter : Tailed → PrefixKnown → ℕ → PrefixKnown → Typ
 IsKnownAfter t known k longer =
     (p : List (List Cell)) → IsKnown t known p → GoesOn t.case.exercise p (column_after t.case.exercise p k ∷ [])
     → IsKnown t longer (p ++ column_after t.case.exercise p k ∷ [])
+
+-- this is known of an open prefix, and the column of the number may come next
+abbrev pub IsStepOf : Tailed → ℕ → PrefixKnown → Type 0
+IsStepOf t k known = IsOfStep (tree_in t) (IsKnown t) (ways_of t.case.exercise) k known
+
+-- this holds of each prefix of which this is known with the column of the number more, where that may come next
+abbrev pub IsBehindKnown : Tailed → PrefixKnown → ℕ → (List (List Cell) → Type 0) → Type 0
+IsBehindKnown t known k Holds = IsBehind (IsKnown t) (ways_of t.case.exercise) known k Holds

@@ -6,6 +6,7 @@ pub mod Entries
 pub mod Known
 pub mod Prefixes
 pub mod Rests
+pub mod Soon
 pub mod Tails
 pub mod Truths
 pub mod WayLaws

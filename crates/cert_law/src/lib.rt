@@ -8,6 +8,7 @@ mod entries;
 mod judged;
 mod known;
 mod law;
+mod soon;
 mod tailed;
 mod tails;
 mod truth;

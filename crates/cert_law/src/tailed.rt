@@ -1,16 +1,17 @@
 //! A case with tails, as a tree of claims: its prefixes are the nodes.
 
-ghost use Rattle.std.specs.Prelude.{◌≡◌, ◌<◌, ◌≤◌, ◌*◌, [], length};
+ghost use Rattle.std.specs.Prelude.{◌≡◌, ◌↔◌, ◌<◌, ◌≤◌, ◌*◌, [], IsTrue, length};
 ghost use Rattle.cert_tree.specs.Walks.{IsNextOf, IsOfOpen};
 ghost use Rattle.cert_law.specs.Bases.{HasTails};
 ghost use Rattle.cert_law.specs.Cases.{IsCase, matter_of};
-ghost use Rattle.cert_law.specs.Known.{IsKnown, IsKnownAfter, IsNextNumber, tailed_of, tree_in, ways_of};
+ghost use Rattle.cert_law.specs.Known.{IsBehindKnown, IsKnown, IsKnownAfter, IsNextNumber, IsStepOf, own_in, tailed_of, tree_in, ways_of};
 ghost use Rattle.fux_grid.specs.Exercises.{columns_in};
 ghost use Rattle.fux_grid.specs.Menus.{menu_of};
 
 use crate::case::Case;
 use crate::judged::Judged;
 use crate::known::PrefixKnown;
+use crate::soon::{is_break_told, told_break};
 use crate::tails::Tails;
 use crate::truth::{first_claim, is_open, is_true};
 use cert_text::Claim;
@@ -84,13 +85,13 @@ fn known_after<T: Tails>(
     }
 }
 
-/// The first prefix that is longer than an open one by a column of this number or a later one: the number, and what is known of it.
-fn next_known<T: Tails>(
+/// The number of the first column, from a number on, by which an open prefix goes on.
+fn next_step<T: Tails>(
     case: &Case<'_>,
     tails: &T,
     known: &PrefixKnown,
     from: usize,
-) -> Option<(usize, PrefixKnown)>
+) -> Option<usize>
     requires case { IsCase (matter_of case.now) }
     requires tails { HasTails (matter_of case.now) (T.basis tails.now) }
     requires open_node { IsOfOpen (tree_in (tailed_of (matter_of case.now) (T.basis tails.now)))
@@ -100,10 +101,47 @@ fn next_known<T: Tails>(
 {
     let i = known.judged.state.newest.len;
     let before = known.judged.state.before(case.exercise);
-    match next_number(tails, i, before, from) {
-        Some(number) => Some((number, known_after(case, tails, known, number))),
-        None => None,
+    next_number(tails, i, before, from)
+}
+
+/// Whether a claim is true of an open prefix with the column of a number more. Where the claim is of a rule of which a strict break is soon
+/// told, no more is judged.
+fn is_true_with<T: Tails>(
+    case: &Case<'_>,
+    tails: &T,
+    known: &PrefixKnown,
+    number: usize,
+    claim: Claim,
+) -> bool
+    requires case { IsCase (matter_of case.now) }
+    requires tails { HasTails (matter_of case.now) (T.basis tails.now) }
+    requires step { IsStepOf (tailed_of (matter_of case.now) (T.basis tails.now)) number known.now }
+    ensures { IsBehindKnown (tailed_of (matter_of case.now) (T.basis tails.now)) known.now number
+        (λ q. IsTrue result ↔ (tree_in (tailed_of (matter_of case.now) (T.basis tails.now))).IsTrueOf q claim) }
+{
+    let column = tails.column(known.judged.state.newest.len, number);
+    if is_break_told(case, &known.judged, column, claim) {
+        return true;
     }
+    let next = known_after(case, tails, known, number);
+    is_true(case, &next.judged, next.tail, claim)
+}
+
+/// The first claim that is true of an open prefix with the column of a number more. Where it is of a rule that is soon told, no more is
+/// judged.
+fn claim_with<T: Tails>(case: &Case<'_>, tails: &T, known: &PrefixKnown, number: usize) -> Claim
+    requires case { IsCase (matter_of case.now) }
+    requires tails { HasTails (matter_of case.now) (T.basis tails.now) }
+    requires step { IsStepOf (tailed_of (matter_of case.now) (T.basis tails.now)) number known.now }
+    ensures { IsBehindKnown (tailed_of (matter_of case.now) (T.basis tails.now)) known.now number
+        (λ q. result ≡ own_in (tailed_of (matter_of case.now) (T.basis tails.now)) q) }
+{
+    let column = tails.column(known.judged.state.newest.len, number);
+    if let Some(rule) = told_break(case, &known.judged, column) {
+        return Claim::Broken(rule);
+    }
+    let next = known_after(case, tails, known, number);
+    first_claim(case, &next.judged, next.tail)
 }
 
 impl<'a, T: Tails> TailedCase<'a, T> {
@@ -121,9 +159,8 @@ impl<'a, T: Tails> ClaimTree for TailedCase<'a, T> {
     ghost use Rattle.std.specs.Prelude.{[], List as Items};
     ghost use Rattle.fux_grid.specs.declared.cell.Cell.{Cell as ACell};
     ghost use Rattle.cert_law.specs.Certificates.{Begins};
-    ghost use Rattle.cert_law.specs.Known.{IsKnown, tree_in, ways_of};
+    ghost use Rattle.cert_law.specs.Known.{IsKnown, own_in, tree_in, ways_of};
     ghost use Rattle.cert_law.specs.WayLaws.{RefutesExcluded, are_ways, empty_begins, excluded};
-    ghost use Rattle.cert_law.specs.Writer as words;
 
     type Claim = Claim;
 
@@ -139,7 +176,7 @@ impl<'a, T: Tails> ClaimTree for TailedCase<'a, T> {
 
     ghost ways = { λ it. ways_of it.case.exercise };
 
-    ghost own = { λ it. words.first_claim it.case.exercise it.case.sheet it.case.head it.stated };
+    ghost own = { own_in };
 
     ghost begins = { λ _. Begins };
 
@@ -161,8 +198,12 @@ impl<'a, T: Tails> ClaimTree for TailedCase<'a, T> {
         first_known(&self.case, self.tails)
     }
 
-    fn next(&self, known: &PrefixKnown, from: usize) -> Option<(usize, PrefixKnown)> {
-        next_known(&self.case, self.tails, known, from)
+    fn next(&self, known: &PrefixKnown, from: usize) -> Option<usize> {
+        next_step(&self.case, self.tails, known, from)
+    }
+
+    fn behind(&self, known: &PrefixKnown, number: usize) -> PrefixKnown {
+        known_after(&self.case, self.tails, known, number)
     }
 
     fn is_open(&self, claim: Claim) -> bool {
@@ -173,7 +214,15 @@ impl<'a, T: Tails> ClaimTree for TailedCase<'a, T> {
         is_true(&self.case, &known.judged, known.tail, claim)
     }
 
+    fn is_true_behind(&self, known: &PrefixKnown, number: usize, claim: Claim) -> bool {
+        is_true_with(&self.case, self.tails, known, number, claim)
+    }
+
     fn own_claim(&self, known: &PrefixKnown) -> Claim {
         first_claim(&self.case, &known.judged, known.tail)
+    }
+
+    fn own_claim_behind(&self, known: &PrefixKnown, number: usize) -> Claim {
+        claim_with(&self.case, self.tails, known, number)
     }
 }

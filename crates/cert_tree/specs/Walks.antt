@@ -6,11 +6,12 @@ use Rattle.cert_tree.specs.Trees.{Tree}
 use Rattle.cert_tree.specs.declared.walk.Level.{Level}
 use Rattle.cert_tree.specs.declared.walk.Walk.{Walk}
 
--- how nodes are found by numbers: the one of a number behind a node, the nodes that are longer by a step from a number on, how many steps
--- lead to a node, and how many may
+-- how nodes are found by numbers: the one of a number behind a node, and whether a step of that number leads to it, the nodes that are
+-- longer by a step from a number on, how many steps lead to a node, and how many may
 pub record Ways (X : Type 0) : Type 0 where
   pub root : X
   pub child : X → ℕ → X
+  pub is_step : X → ℕ → Bool
   pub longer_from : X → ℕ → List X
   pub steps : X → ℕ
   pub height : ℕ
@@ -41,21 +42,32 @@ pub record IsOfSome {X K : Type 0} (IsOf : K → X → Type 0) (known : K) : Typ
   pub node : X
   pub is_of : IsOf known node
 
--- of the nodes that are longer by a step, from a number on, the first is that of another number, and this is known of it
-pub record IsFirstFrom {X K : Type 0} (IsOf : K → X → Type 0) (ways : Ways X) (p : X) (from number : ℕ) (known : K)
+-- this is known of some open node, from which a step of the number leads on
+pub record IsOfStep {X C K : Type 0} (tree : Tree X C) (IsOf : K → X → Type 0) (ways : Ways X) (number : ℕ) (known : K)
     : Type 0 where
+  pub node : X
+  pub is_open : IsOpen tree IsOf node known
+  pub step : ways.is_step node number ≡ true
+
+-- this holds of the node to which the step of a number leads, whatever node this is known of from which there is such a step
+abbrev pub IsBehind : {X K : Type 0} → (K → X → Type 0) → Ways X → K → ℕ → (X → Type 0) → Type 0
+IsBehind IsOf ways known number Holds =
+    (p : _) → IsOf known p → ways.is_step p number ≡ true → Holds (ways.child p number)
+
+-- of the nodes that are longer by a step, from a number on, the first is that of another number
+pub record IsFirstFrom {X : Type 0} (ways : Ways X) (p : X) (from number : ℕ) : Type 0 where
   pub within : number < 8192
-  pub is_of : IsOf known (ways.child p number)
+  pub step : ways.is_step p number ≡ true
   pub rest : ways.longer_from p from ≡ ways.child p number ∷ ways.longer_from p (number + 1)
 
 -- what was found is the first of them, or nothing where there is none
-abbrev pub IsNextFrom : {X K : Type 0} → (K → X → Type 0) → Ways X → X → ℕ → Option (ℕ × K) → Type 0
-IsNextFrom IsOf ways p from None = ways.longer_from p from ≡ []
-IsNextFrom IsOf ways p from (Some found) = IsFirstFrom IsOf ways p from found.0 found.1
+abbrev pub IsNextFrom : {X : Type 0} → Ways X → X → ℕ → Option ℕ → Type 0
+IsNextFrom ways p from None = ways.longer_from p from ≡ []
+IsNextFrom ways p from (Some number) = IsFirstFrom ways p from number
 
 -- the same, whatever node this is known of
-abbrev pub IsNextOf : {X K : Type 0} → (K → X → Type 0) → Ways X → K → ℕ → Option (ℕ × K) → Type 0
-IsNextOf IsOf ways known from found = (p : _) → IsOf known p → IsNextFrom IsOf ways p from found
+abbrev pub IsNextOf : {X K : Type 0} → (K → X → Type 0) → Ways X → K → ℕ → Option ℕ → Type 0
+IsNextOf IsOf ways known from found = (p : _) → IsOf known p → IsNextFrom ways p from found
 
 -- ---- levels, the newest first
 
@@ -78,10 +90,11 @@ abbrev pub owed_after : {X K : Type 0} → Ways X → List (Level K) → Bool �
 owed_after ways levels is_open =
     (if is_open then ways.longer_from (node_at ways levels) 0 else []) ++ owed_later ways levels
 
--- what is owed, where the next node is there
+-- what is owed: the node to which the levels lead, and what is owed later; where there is no level, the root or nothing
 abbrev pub owed_at : {X K : Type 0} → Ways X → List (Level K) → Option K → List X
-owed_at ways levels None = []
-owed_at ways levels (Some next) = node_at ways levels ∷ owed_later ways levels
+owed_at ways [] None = []
+owed_at ways [] (Some known) = ways.root ∷ []
+owed_at ways (level ∷ older) root = node_at ways (level ∷ older) ∷ owed_later ways (level ∷ older)
 
 -- ---- walks
 
@@ -90,24 +103,31 @@ levels_of walk = reverse walk.levels.items
 
 -- the nodes that are owed, the next one first
 abbrev pub owed_by_walk : {X K : Type 0} → Ways X → Walk K → List X
-owed_by_walk ways walk = owed_at ways (levels_of walk) walk.next
+owed_by_walk ways walk = owed_at ways (levels_of walk) walk.root
 
 -- an open node goes on by a step of a number
-pub record IsLevel {X C K : Type 0} (tree : Tree X C) (IsOf : K → X → Type 0) (p : X) (level : Level K) : Type 0 where
+pub record IsLevel {X C K : Type 0} (tree : Tree X C) (IsOf : K → X → Type 0) (ways : Ways X) (p : X) (level : Level K)
+    : Type 0 where
   pub is_open : IsOpen tree IsOf p level.parent
   pub within : level.number < 8192
+  pub step : ways.is_step p level.number ≡ true
 
 abbrev pub AreLevels : {X C K : Type 0} → Tree X C → (K → X → Type 0) → Ways X → List (Level K) → Type 0
 AreLevels tree IsOf ways [] = ⊤
 AreLevels tree IsOf ways (level ∷ older) =
-    IsLevel tree IsOf (node_at ways older) level × AreLevels tree IsOf ways older
+    IsLevel tree IsOf ways (node_at ways older) level × AreLevels tree IsOf ways older
+
+-- the node to which the levels lead is owed next
+abbrev pub OwesNext : {X K : Type 0} → Ways X → Walk K → Type 0
+OwesNext ways walk =
+    owed_by_walk ways walk ≡ node_at ways (levels_of walk) ∷ owed_later ways (levels_of walk)
 
 pub record IsWalk {X C K : Type 0} (tree : Tree X C) (IsOf : K → X → Type 0) (ways : Ways X) (walk : Walk K)
     : Type 0 where
   pub levels : AreLevels tree IsOf ways (levels_of walk)
-  pub next : IfSome walk.next (λ known. IsOf known (node_at ways (levels_of walk)))
+  pub root : IfSome walk.root (λ known. IsOf known ways.root)
   pub room : vec_capacity walk.levels ≡ ways.height
 
 -- where the claim is that the next node is open, it is
-abbrev pub CanGoOn : {X C K : Type 0} → Tree X C → (K → X → Type 0) → X → K → Bool → Type 0
-CanGoOn tree IsOf p known is_open = is_open ≡ true → IsOpen tree IsOf p known
+abbrev pub CanGoOn : {X C : Type 0} → Tree X C → X → Bool → Type 0
+CanGoOn tree p is_open = is_open ≡ true → (claim : _) × (tree.is_open claim ≡ true) × tree.IsTrueOf p claim

@@ -2,7 +2,7 @@
 
 ghost use Rattle.std.specs.Prelude.{◌≡◌, ◌↔◌, ℕ, ◌≤◌, IsTrue};
 ghost use Rattle.cert_tree.specs.Trees.{Excludes, Tree};
-ghost use Rattle.cert_tree.specs.Walks.{AreWays, IsNextOf, IsOfOpen, IsOfSome, Ways};
+ghost use Rattle.cert_tree.specs.Walks.{AreWays, IsBehind, IsNextOf, IsOfOpen, IsOfSome, IsOfStep, Ways};
 
 /// A tree, what may be claimed of its nodes, and the leaves that true claims exclude; and what has to be known of a node so that its
 /// claims can be told to be true or false, and so that one can go on to the nodes that are longer by a step.
@@ -48,11 +48,16 @@ pub trait ClaimTree {
     fn first(&self) -> Self::Known
         ensures { is_of self.now result (root self.now) };
 
-    /// The first of the nodes that are longer by a step than an open one, from a number on: its number and what is known of it.
-    fn next(&self, known: &Self::Known, from: usize) -> Option<(usize, Self::Known)>
+    /// The number of the first step by which an open node goes on, from a number on.
+    fn next(&self, known: &Self::Known, from: usize) -> Option<usize>
         requires open_node { IsOfOpen (tree self.now) (is_of self.now) known.now }
         requires from { from ≤ 8192 }
         ensures { IsNextOf (is_of self.now) (ways self.now) known.now from result };
+
+    /// What is known of the node behind an open one to which the step of a number leads.
+    fn behind(&self, known: &Self::Known, number: usize) -> Self::Known
+        requires { IsOfStep (tree self.now) (is_of self.now) (ways self.now) number known.now }
+        ensures { IsBehind (is_of self.now) (ways self.now) known.now number (is_of self.now result) };
 
     /// Whether a claim is that its node is open.
     fn is_open(&self, claim: Self::Claim) -> bool
@@ -63,10 +68,30 @@ pub trait ClaimTree {
         requires { IsOfSome (is_of self.now) known.now }
         ensures { (p : Node) → is_of self.now known.now p → IsTrue result ↔ (tree self.now).IsTrueOf p claim };
 
+    /// Whether a claim is true of the node behind an open one to which the step of a number leads. A tree may tell it without all that
+    /// would have to be known of that node.
+    fn is_true_behind(&self, known: &Self::Known, number: usize, claim: Self::Claim) -> bool
+        requires { IsOfStep (tree self.now) (is_of self.now) (ways self.now) number known.now }
+        ensures { IsBehind (is_of self.now) (ways self.now) known.now number
+            (λ p. IsTrue result ↔ (tree self.now).IsTrueOf p claim) }
+    {
+        let next = self.behind(known, number);
+        self.is_true(&next, claim)
+    }
+
     /// The claim that is written of a node.
     fn own_claim(&self, known: &Self::Known) -> Self::Claim
         requires { IsOfSome (is_of self.now) known.now }
         ensures { (p : Node) → is_of self.now known.now p → result ≡ own self.now p };
+
+    /// The claim that is written of the node behind an open one to which the step of a number leads, as `is_true_behind`.
+    fn own_claim_behind(&self, known: &Self::Known, number: usize) -> Self::Claim
+        requires { IsOfStep (tree self.now) (is_of self.now) (ways self.now) number known.now }
+        ensures { IsBehind (is_of self.now) (ways self.now) known.now number (λ p. result ≡ own self.now p) }
+    {
+        let next = self.behind(known, number);
+        self.own_claim(&next)
+    }
 
     /// The ways go through the tree.
     ghost are_ways: { (it : Self) → AreWays (tree it) (root it) (ways it) };

@@ -6,7 +6,7 @@ ghost use Rattle.cert_tree.specs.declared.judging.Cause.TheVariants as causes;
 ghost use Rattle.cert_tree.specs.Judgings.{IsFedCertified, IsFedNone, IsKept, Refuses, Takes, begun_at, standing_of};
 
 use crate::claim_tree::ClaimTree;
-use crate::walk::{Level, Walk, go_on};
+use crate::walk::{Walk, go_on, is_next_true, owes_some};
 use std::alloc::{AllocError, Global};
 
 /// Why a claim is refused.
@@ -43,9 +43,9 @@ pub fn begin<T: ClaimTree>(alloc: Global, it: &T) -> Result<Judging<T::Known>, A
         (IsKept (T.tree it.now) (T.is_of it.now) (T.ways it.now) (T.begins it.now) (T.refutes it.now)) }
 {
     let levels = Vec::with_capacity(alloc, it.depth())?;
-    let next = Some(it.first());
+    let root = Some(it.first());
     Ok(Judging {
-        walk: Walk { levels, next },
+        walk: Walk { levels, root },
         taken: 0,
         refusal: None,
     })
@@ -71,13 +71,13 @@ pub fn feed<T: ClaimTree>(
     if let Some(refused) = judging.refusal {
         return Err(refused);
     }
-    let Some(next) = judging.walk.next else {
+    let Some(told) = is_next_true(it, &judging.walk, claim) else {
         return refuse(judging, Cause::Over);
     };
-    if !it.is_true(&next, claim) {
+    if !told {
         return refuse(judging, Cause::False);
     }
-    go_on(it, &mut judging.walk, next, it.is_open(claim));
+    go_on(it, &mut judging.walk, it.is_open(claim));
     judging.taken += 1;
     Ok(())
 }
@@ -116,12 +116,11 @@ pub fn finish<T: ClaimTree>(it: &T, judging: &Judging<T::Known>) -> Result<(), R
     if let Some(refused) = judging.refusal {
         return Err(refused);
     }
-    if judging.walk.next.is_some() {
+    if owes_some(it, &judging.walk) {
         return Err(Refusal {
             number: judging.taken + 1,
             cause: Cause::Short,
         });
     }
-    let _ = it;
     Ok(())
 }

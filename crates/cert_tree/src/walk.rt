@@ -1,8 +1,9 @@
 //! Where a judge of claims stands among the nodes that are owed.
 
-ghost use Rattle.std.specs.Prelude.{◌≡◌, ◌≤◌, [], Some, vec_capacity};
+ghost use Rattle.std.specs.Prelude.{◌≡◌, ◌≤◌, ◌↔◌, ◌<◌, ◌++◌, ◌∷◌, [], List, None, IfSome, IsTrue, length, vec_capacity};
 ghost use Rattle.std.specs.Bool.{OnFalse, OnTrue};
-ghost use Rattle.cert_tree.specs.Walks.{AreLevels, CanGoOn, IsOpen, IsWalk, levels_of, node_at, owed_after, owed_by_walk, owed_from, owed_later};
+ghost use Rattle.cert_tree.specs.declared.walk.Level.{Level as ALevel};
+ghost use Rattle.cert_tree.specs.Walks.{AreLevels, CanGoOn, IsOpen, IsWalk, OwesNext, levels_of, node_at, owed_after, owed_by_walk, owed_from, owed_later};
 
 use crate::claim_tree::ClaimTree;
 
@@ -13,16 +14,18 @@ pub struct Level<K: Copy> {
     pub number: usize,
 }
 
-/// The open nodes that begin the one owed next, the shortest first, and what is known of that one. Where nothing is owed, it is none.
+/// The open nodes that begin the one owed next, the shortest first: the last one's step leads to that. Where there is none, the root is owed
+/// next, if anything is known of it, and else nothing is owed.
 #[derive(Drop)]
 pub struct Walk<K: Copy> {
     pub levels: Vec<Level<K>>,
-    pub next: Option<K>,
+    pub root: Option<K>,
 }
 
 /// Goes to the first node that is longer than an open one by a step of this number or a later one, where there is one.
 fn enter<T: ClaimTree>(it: &T, walk: &mut Walk<T::Known>, parent: T::Known, from: usize) -> bool
     requires levels { AreLevels (T.tree it.now) (T.is_of it.now) (T.ways it.now) (levels_of walk.old) }
+    requires root { IfSome walk.old.root (λ known. T.is_of it.now known (T.ways it.now).root) }
     requires room { vec_capacity walk.old.levels ≡ (T.ways it.now).height }
     requires parent { IsOpen (T.tree it.now) (T.is_of it.now) (node_at (T.ways it.now) (levels_of walk.old)) parent }
     requires from { from ≤ 8192 }
@@ -30,43 +33,131 @@ fn enter<T: ClaimTree>(it: &T, walk: &mut Walk<T::Known>, parent: T::Known, from
     ensures owed { OnTrue result
         (owed_by_walk (T.ways it.now) walk.new ≡ owed_from (T.ways it.now) (levels_of walk.old) from) }
     ensures none { OnFalse result ((T.ways it.now).longer_from (node_at (T.ways it.now) (levels_of walk.old)) from ≡ []) }
-    ensures same { OnFalse result (walk.new.levels ≡ walk.old.levels) }
+    ensures same { OnFalse result (walk.new ≡ walk.old) }
 {
-    let Some((number, next)) = it.next(&parent, from) else {
+    let Some(number) = it.next(&parent, from) else {
         return false;
     };
-    walk.next = Some(next);
     walk.levels.push_reserved(Level { parent, number });
     true
+}
+
+/// Goes on by another step from the newest of the levels. What is known of its node stays where it stands.
+fn renumber<K: Copy>(levels: &mut Vec<Level<K>>, number: usize)
+    requires some { 0 < length levels.old.items }
+    ensures items { (older : List (ALevel K)) (level : ALevel K) → levels.old.items ≡ older ++ level ∷ []
+        → levels.new.items ≡ older ++ record level { number = number } ∷ [] }
+    ensures room { vec_capacity levels.new ≡ vec_capacity levels.old }
+{
+    let top = levels.len() - 1;
+    levels[top].number = number;
 }
 
 /// Goes to the next node that is owed behind those of the levels.
 fn go_up<T: ClaimTree>(it: &T, walk: &mut Walk<T::Known>)
     requires levels { AreLevels (T.tree it.now) (T.is_of it.now) (T.ways it.now) (levels_of walk.old) }
+    requires root { IfSome walk.old.root (λ known. T.is_of it.now known (T.ways it.now).root) }
     requires room { vec_capacity walk.old.levels ≡ (T.ways it.now).height }
     ensures walk { IsWalk (T.tree it.now) (T.is_of it.now) (T.ways it.now) walk.new }
     ensures owed { owed_by_walk (T.ways it.now) walk.new ≡ owed_later (T.ways it.now) (levels_of walk.old) }
 {
-    let Some(level) = walk.levels.pop() else {
-        walk.next = None;
+    let count = walk.levels.len();
+    if count == 0 {
+        walk.root = None;
         return;
-    };
-    if !enter(it, walk, level.parent, level.number + 1) {
-        go_up(it, walk);
+    }
+    let level = &walk.levels[count - 1];
+    match it.next(&level.parent, level.number + 1) {
+        Some(number) => renumber(&mut walk.levels, number),
+        None => {
+            walk.levels.truncate(count - 1);
+            go_up(it, walk);
+        }
     }
 }
 
+/// What is known of the node that is owed next, where there is one.
+fn known_next<T: ClaimTree>(it: &T, walk: &Walk<T::Known>) -> Option<T::Known>
+    requires walk { IsWalk (T.tree it.now) (T.is_of it.now) (T.ways it.now) walk.now }
+    ensures known { IfSome result (λ known. T.is_of it.now known (node_at (T.ways it.now) (levels_of walk.now))) }
+    ensures none { result ≡ None → owed_by_walk (T.ways it.now) walk.now ≡ [] }
+{
+    let count = walk.levels.len();
+    if count == 0 {
+        return walk.root;
+    }
+    let level = &walk.levels[count - 1];
+    Some(it.behind(&level.parent, level.number))
+}
+
+/// Whether a claim is true of the node that is owed next, where there is one.
+pub(crate) fn is_next_true<T: ClaimTree>(
+    it: &T,
+    walk: &Walk<T::Known>,
+    claim: T::Claim,
+) -> Option<bool>
+    requires walk { IsWalk (T.tree it.now) (T.is_of it.now) (T.ways it.now) walk.now }
+    ensures told { IfSome result (λ told. IsTrue told
+        ↔ (T.tree it.now).IsTrueOf (node_at (T.ways it.now) (levels_of walk.now)) claim) }
+    ensures owes { IfSome result (λ _. OwesNext (T.ways it.now) walk.now) }
+    ensures none { result ≡ None → owed_by_walk (T.ways it.now) walk.now ≡ [] }
+{
+    let count = walk.levels.len();
+    if count == 0 {
+        return match &walk.root {
+            Some(known) => Some(it.is_true(known, claim)),
+            None => None,
+        };
+    }
+    let level = &walk.levels[count - 1];
+    Some(it.is_true_behind(&level.parent, level.number, claim))
+}
+
+/// The claim that is written of the node that is owed next, where there is one.
+pub(crate) fn own_next<T: ClaimTree>(it: &T, walk: &Walk<T::Known>) -> Option<T::Claim>
+    requires walk { IsWalk (T.tree it.now) (T.is_of it.now) (T.ways it.now) walk.now }
+    ensures own { IfSome result (λ claim. claim ≡ T.own it.now (node_at (T.ways it.now) (levels_of walk.now))) }
+    ensures owes { IfSome result (λ _. OwesNext (T.ways it.now) walk.now) }
+    ensures none { result ≡ None → owed_by_walk (T.ways it.now) walk.now ≡ [] }
+{
+    let count = walk.levels.len();
+    if count == 0 {
+        return match &walk.root {
+            Some(known) => Some(it.own_claim(known)),
+            None => None,
+        };
+    }
+    let level = &walk.levels[count - 1];
+    Some(it.own_claim_behind(&level.parent, level.number))
+}
+
+/// Whether some node is owed.
+pub(crate) fn owes_some<T: ClaimTree>(it: &T, walk: &Walk<T::Known>) -> bool
+    ensures some { OnTrue result (owed_by_walk (T.ways it.now) walk.now ≡ [] → ⊥) }
+    ensures none { OnFalse result (owed_by_walk (T.ways it.now) walk.now ≡ []) }
+{
+    let _ = it;
+    if walk.levels.len() > 0 {
+        return true;
+    }
+    walk.root.is_some()
+}
+
 /// Goes on from the node that was owed next: where it is open, to those that are longer by a step first.
-pub fn go_on<T: ClaimTree>(it: &T, walk: &mut Walk<T::Known>, next: T::Known, is_open: bool)
+pub fn go_on<T: ClaimTree>(it: &T, walk: &mut Walk<T::Known>, is_open: bool)
     requires walk { IsWalk (T.tree it.now) (T.is_of it.now) (T.ways it.now) walk.old }
-    requires next { walk.old.next ≡ Some next }
-    requires parent { CanGoOn (T.tree it.now) (T.is_of it.now) (node_at (T.ways it.now) (levels_of walk.old)) next is_open }
+    requires owes { OwesNext (T.ways it.now) walk.old }
+    requires parent { CanGoOn (T.tree it.now) (node_at (T.ways it.now) (levels_of walk.old)) is_open }
     ensures walk { IsWalk (T.tree it.now) (T.is_of it.now) (T.ways it.now) walk.new }
     ensures owed { owed_by_walk (T.ways it.now) walk.new
         ≡ owed_after (T.ways it.now) (levels_of walk.old) is_open }
 {
-    if is_open && enter(it, walk, next, 0) {
-        return;
+    if is_open {
+        if let Some(parent) = known_next(it, walk) {
+            if enter(it, walk, parent, 0) {
+                return;
+            }
+        }
     }
     go_up(it, walk);
 }

@@ -6,7 +6,7 @@ ghost use Rattle.cert_tree.specs.Writing.{AreTold, claims_to_come, claims_with};
 ghost use Rattle.cert_tree.specs.Trees.{AreTrueFrom, claims_from};
 
 use crate::claim_tree::ClaimTree;
-use crate::walk::{Walk, go_on};
+use crate::walk::{Walk, go_on, own_next};
 use std::alloc::{AllocError, Global};
 
 /// The room of a walk, in which nothing is owed.
@@ -14,7 +14,7 @@ pub fn room_for_walk<T: ClaimTree>(alloc: Global, it: &T) -> Result<Walk<T::Know
     ensures { IfOk result (λ walk. vec_capacity walk.levels ≡ (T.ways it.now).height) }
 {
     let levels = Vec::with_capacity(alloc, it.depth())?;
-    Ok(Walk { levels, next: None })
+    Ok(Walk { levels, root: None })
 }
 
 /// Starts from the root in the room of a walk: all claims that are written are still to come.
@@ -27,7 +27,7 @@ pub fn begin_again<T: ClaimTree>(it: &T, walk: &mut Walk<T::Known>)
         ≡ claims_from (T.tree it.now) (T.own it.now) (T.ways it.now).height (T.root it.now) }
 {
     walk.levels.clear();
-    walk.next = Some(it.first());
+    walk.root = Some(it.first());
 }
 
 /// The claim that comes next.
@@ -39,8 +39,7 @@ pub fn next_claim<T: ClaimTree>(it: &T, walk: &mut Walk<T::Known>) -> Option<T::
     ensures claims { claims_to_come (T.tree it.now) (T.own it.now) (T.ways it.now) walk.old
         ≡ claims_with result (claims_to_come (T.tree it.now) (T.own it.now) (T.ways it.now) walk.new) }
 {
-    let next = walk.next?;
-    let claim = it.own_claim(&next);
-    go_on(it, walk, next, it.is_open(claim));
+    let claim = own_next(it, walk)?;
+    go_on(it, walk, it.is_open(claim));
     Some(claim)
 }

@@ -8,6 +8,7 @@ use Rattle.fux_grid.specs.declared.cell.Cell.{Cell}
 use Rattle.fux_grid.specs.Cells.{cell_in, pitch_of}
 use Rattle.fux_grid.specs.Columns.{newest_column}
 use Rattle.fux_grid.specs.Exercises.{bar_of}
+use Rattle.fux_grid.specs.Menus.{IsInMenu}
 use Rattle.rule_law.specs.Bars.{begins_bar}
 use Rattle.rule_law.specs.Nearby.{previous_pitches}
 use Rattle.rule_law.specs.Pairs.{sound_same_key}
@@ -26,6 +27,7 @@ use Rattle.fux_judge.specs.Kept.{is_close, is_moving, is_of_ending, is_of_place,
 use Rattle.fux_judge.specs.Penalties.{is_strict_at}
 use Rattle.fux_judge.specs.Moments.{IsAfter, is_broken_then, is_strictly_broken_then}
 use Rattle.fux_judge.proofs.CrateLemmas.{in_melody}
+use Rattle.fux_judge.proofs.MenuBreaks.{keeps_gamut, keeps_ranges}
 use Rattle.fux_judge.proofs.MomentLemmas.{window_then, melodic_then, motion_then, dissonance_then, rhythm_then}
 use Rattle.fux_judge.proofs.PruningLemmas.{one_of}
 use Rattle.fux_judge.proofs.QuietLemmas.{none_passes}
@@ -84,7 +86,7 @@ module _ (p : List (List Cell)) (m : Moment) where
       (λ voices. ap (λ b. b && is_strict_at rule m.exercise.now voices (length p)) (kept voices))
 
   -- a smooth column keeps the rules of melody
-  melody_kept : some_rough m.exercise.now (reverse p) m.column.now ≡ false → (rule : ℕ) → is_of_melody rule ≡ true
+  pub melody_kept : some_rough m.exercise.now (reverse p) m.column.now ≡ false → (rule : ℕ) → is_of_melody rule ≡ true
       → is_strictly_broken_then all_sets rule p m ≡ false
   melody_kept smooth rule melodic = kept_by_all rule (λ voices. at voices (melody.looks_back rule) refl)
     where
@@ -117,6 +119,16 @@ module _ (p : List (List Cell)) (m : Moment) where
       ∙ in_place_rows m.exercise.now (length p) (previous_pitches (reverse p)) m.column.now within 2 voices))
       (kept_by_all 12 (λ voices. sym (rhythm_then 12 voices p m (at_once 12 refl) refl)
       ∙ in_place_rows m.exercise.now (length p) (previous_pitches (reverse p)) m.column.now within 12 voices))
+
+  -- a column of a menu keeps within ranges and gamut
+  pub menu_kept : IsInMenu m.exercise.now (length p) m.column.now
+      → (is_strictly_broken_then all_sets 1 p m ≡ false) × (is_strictly_broken_then all_sets 2 p m ≡ false)
+  menu_kept menu = (
+    kept_by_all 1 (λ voices. sym (rhythm_then 1 voices p m (at_once 1 refl) refl)
+        ∙ keeps_ranges m.exercise.now (length p) (previous_pitches (reverse p)) m.column.now menu voices),
+    kept_by_all 2 (λ voices. sym (rhythm_then 2 voices p m (at_once 2 refl) refl)
+        ∙ keeps_gamut m.exercise.now (length p) (previous_pitches (reverse p)) m.column.now menu voices),
+  )
 
   -- away from the beginning of the last bar there is no ending
   endings_kept : begins_last_bar m.exercise.now (length p) ≡ false → (rule : ℕ) → is_of_ending rule ≡ true

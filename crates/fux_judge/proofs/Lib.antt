@@ -13,6 +13,7 @@ pub mod LeastLaws
 pub mod LineLemmas
 pub mod LinkLemmas
 pub mod LinkPaid
+pub mod MenuBreaks
 pub mod MomentLemmas
 pub mod MoveLinks
 pub mod Parts
@@ -26,4 +27,5 @@ pub mod StateLemmas
 pub mod StepLemmas
 pub mod StepPlaces
 pub mod SumLemmas
+pub mod ToldLemmas
 pub mod Unmixed

@@ -15,4 +15,5 @@ pub mod Pruning
 pub mod Rules
 pub mod States
 pub mod Steps
+pub mod Told
 pub mod Verdicts

@@ -1,0 +1,30 @@
+use Rattle.std.proofs.Common.{ℕ, Bool, get_or, ap, sym, ◌∙◌, arith}
+use Rattle.std.specs.List.{find}
+use Rattle.fux_judge.specs.Rules.{all_sets}
+use Rattle.fux_judge.specs.Moments.{is_strictly_broken_then}
+use Rattle.fux_judge.proofs.SumLemmas.{rule_in_range}
+use Rattle.fux_judge.proofs.ToldLemmas.{find_here, find_later, nothing_left}
+use Rattle.fux_judge.proofs.told.first_broken.Goals as goal
+
+pub is_strictly_broken_now-requires-clause-rule : goal.is_strictly_broken_now-requires-clause-rule
+is_strictly_broken_now-requires-clause-rule c =
+    (rule_in_range c.args.rules.now c.loop-rule.rule-index c.requires.numbers (omega arith)).1
+
+pub loop-rule-preserved : goal.loop-rule-preserved
+loop-rule-preserved c = λ p after.
+    let test : ℕ → Bool = λ rule. is_strictly_broken_then all_sets rule p c.args.m.now in
+    c.loop-rule.invariant p after
+    ∙ find_later test c.args.rules.now c.loop-rule.rule-index 0 (omega arith)
+    (sym (c.is_strictly_broken_now.ensures p after) ∙ c.if-is_strictly_broken_now.false)
+
+pub returns-then-is_strictly_broken_now : goal.returns-then-is_strictly_broken_now
+returns-then-is_strictly_broken_now c = λ p after.
+    let test : ℕ → Bool = λ rule. is_strictly_broken_then all_sets rule p c.args.m.now in
+    sym (c.loop-rule.invariant p after
+    ∙ find_here test c.args.rules.now c.loop-rule.rule-index 0 (omega arith)
+    (sym (c.is_strictly_broken_now.ensures p after) ∙ c.if-is_strictly_broken_now.true))
+
+pub returns : goal.returns
+returns c = λ p after.
+    let test : ℕ → Bool = λ rule. is_strictly_broken_then all_sets rule p c.args.m.now in
+    sym (c.loop-rule.invariant p after ∙ nothing_left test c.args.rules.now c.loop-rule.rule-index (omega arith))

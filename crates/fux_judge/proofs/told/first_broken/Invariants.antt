@@ -1,0 +1,12 @@
+use Rattle.std.proofs.Common.{◌≡◌, List, drop}
+use Rattle.std.specs.List.{find}
+use Rattle.fux_grid.specs.declared.cell.Cell.{Cell}
+use Rattle.fux_judge.specs.Rules.{all_sets}
+use Rattle.fux_judge.specs.Moments.{IsAfter, is_strictly_broken_then}
+use Rattle.fux_judge.proofs.told.first_broken.Given as goal
+
+-- the first is among those that are left
+abbrev pub invariant-loop-rule : goal.invariant-loop-rule
+invariant-loop-rule l = (p : List (List Cell)) → IsAfter p l.m
+    → find (λ rule. is_strictly_broken_then all_sets rule p l.m) l.rules
+    ≡ find (λ rule. is_strictly_broken_then all_sets rule p l.m) (drop l.rule-index l.rules)

@@ -1,0 +1,20 @@
+-- Which rules that a column breaks are told without judging all of it.
+use Rattle.std.specs.Prelude.{ℕ, not, List, [], ◌∷◌, Option}
+use Rattle.std.specs.List.{filter, find}
+use Rattle.fux_grid.specs.declared.cell.Cell.{Cell}
+use Rattle.fux_grid.specs.declared.exercise.Exercise.{Exercise}
+use Rattle.fux_grid.specs.Columns.{Columns}
+use Rattle.fux_judge.specs.Penalties.{newly_broken}
+use Rattle.fux_judge.specs.Rules.{is_of_melody, rules_read}
+
+-- the rules from S4 to S14: all are settled at once, and a column of a menu keeps S1 and S2
+abbrev pub first_rules : List ℕ
+first_rules = 4 ∷ 5 ∷ 6 ∷ 7 ∷ 8 ∷ 9 ∷ 10 ∷ 11 ∷ 12 ∷ 13 ∷ 14 ∷ []
+
+-- those of them that aren't of melody
+unfoldable pub joint_rules : List ℕ
+joint_rules = filter (λ rule. not (is_of_melody rule)) first_rules
+
+-- the least rule of which the column settles a strict break
+abbrev pub least_newly_broken : Exercise → Columns → List Cell → Option ℕ
+least_newly_broken ex p col = find (newly_broken ex p col) rules_read

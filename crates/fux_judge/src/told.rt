@@ -1,0 +1,138 @@
+//! Rules that a column breaks, told without judging all of it.
+
+ghost use Rattle.std.specs.Prelude.{◌≡◌, ◌<◌, ◌&&◌, Some, true, false, not, nat_lt, IfSome, IsTrue, [], ◌∷◌, length};
+ghost use Rattle.std.specs.Bool.{OnTrue};
+ghost use Rattle.std.specs.List.{find, list_all};
+ghost use Rattle.fux_grid.specs.Columns.{Columns};
+ghost use Rattle.fux_grid.specs.Exercises.{IsValid, columns_in};
+ghost use Rattle.rule_law.specs.Prefixes.{GoesOn};
+ghost use Rattle.fux_judge.specs.Moments.{IsAfter, IsReadable, is_strictly_broken_then};
+ghost use Rattle.fux_judge.specs.Penalties.{newly_broken};
+ghost use Rattle.fux_judge.specs.Rules.{all_sets, is_late, is_read};
+ghost use Rattle.fux_judge.specs.Told.{first_rules, joint_rules, least_newly_broken};
+ghost use Rattle.fux_judge.specs.Verdicts.{GoingOn};
+
+use crate::moment::Moment;
+use crate::reading::is_strictly_broken_now;
+use crate::state::State;
+use crate::verdict::moment_of;
+use fux_grid::{Column, Exercise, VoiceSet};
+use melody_rules::are_smooth;
+use rhythm_cadence::Rhythm;
+use rule_law::{Form, RuleCrate, is_quiet, sets_of};
+
+/// The rules from S4 to S14: all are settled at once, and no column of a menu breaks S1 or S2.
+const FIRST_RULES: [u8; 11] = [4, 5, 6, 7, 8, 9, 10, 11, 12, 13, 14];
+
+/// Those of them that aren't of melody.
+const JOINT_RULES: [u8; 5] = [10, 11, 12, 13, 14];
+
+/// The first rules, as a list.
+#[tactic(auto, unfolding(crate::specs::Rules::rule_at))]
+fn told_rules() -> &'static [u8]
+    ensures value { result.now ≡ first_rules }
+    ensures numbers { IsTrue (list_all (λ rule. nat_lt rule 32 && not (is_late rule)) result.now) }
+{
+    &FIRST_RULES
+}
+
+/// The joint ones of them, as a list.
+#[tactic(auto, unfolding(crate::specs::Rules::rule_at, crate::specs::Told::joint_rules))]
+fn told_jointly() -> &'static [u8]
+    ensures value { result.now ≡ joint_rules }
+    ensures numbers { IsTrue (list_all (λ rule. nat_lt rule 32 && not (is_late rule)) result.now) }
+{
+    &JOINT_RULES
+}
+
+/// Those of the first rules that are left to ask: where each voice is smooth, none of melody is broken.
+fn rules_to_ask(m: &Moment<'_>) -> &'static [u8]
+    ensures numbers { IsTrue (list_all (λ rule. nat_lt rule 32 && not (is_late rule)) result.now) }
+    ensures asked { (p : Columns) → IsAfter p m.now
+        → find (λ rule. is_strictly_broken_then all_sets rule p m.now) result.now
+        ≡ find (λ rule. is_strictly_broken_then all_sets rule p m.now) first_rules }
+{
+    if are_smooth(m.exercise, &m.state.past.parts.first, m.column) {
+        return told_jointly();
+    }
+    told_rules()
+}
+
+/// The first of these rules that is strictly broken.
+fn first_broken(rules: &[u8], m: &Moment<'_>) -> Option<u8>
+    requires numbers { IsTrue (list_all (λ rule. nat_lt rule 32 && not (is_late rule)) rules.now) }
+    requires readable { IsReadable m.now }
+    ensures { (p : Columns) → IsAfter p m.now
+        → result ≡ find (λ rule. is_strictly_broken_then all_sets rule p m.now) rules.now }
+{
+    for rule in rules {
+        if is_strictly_broken_now(*rule, m) {
+            return Some(*rule);
+        }
+    }
+    None
+}
+
+/// Whether the column leaves each voice a shape that it may have: it settles no break of S3.
+fn keeps_shapes(m: &Moment<'_>) -> bool
+    requires readable { IsReadable m.now }
+    requires full { length m.now.column.now ≡ m.now.exercise.now.voices }
+    ensures { OnTrue result ((p : Columns) → IsAfter p m.now → GoesOn m.now.exercise.now p (m.now.column.now ∷ [])
+        → newly_broken m.now.exercise.now p m.now.column.now 3 ≡ false) }
+{
+    let i = m.state.newest.len;
+    let part = Rhythm::noted(
+        &m.state.past.parts.second.second.second.first,
+        m.exercise,
+        i,
+        m.column,
+    );
+    let newest = m.state.newest.with(m.column);
+    let place = 8 * (i / 8);
+    let sets = sets_of(Form::OneVoice, m.exercise.voices);
+    for bits in sets {
+        let voices = VoiceSet { bits: *bits };
+        if Rhythm::breaks_late(&part, &newest, 3, m.exercise, voices, place) {
+            return false;
+        }
+    }
+    true
+}
+
+/// The least rule of which a column settles a strict break, where it is one of the first and soon told: most columns that break a rule
+/// break one of these. None where it isn't told.
+pub fn told_rule(ex: &Exercise, state: &State, col: &Column) -> Option<u8>
+    requires valid { IsValid ex.now }
+    requires room { state.now.newest.len < columns_in ex.now }
+    requires full { length col.now.items ≡ ex.now.voices }
+    ensures { IfSome result (λ rule. GoingOn ex.now state.now col.now.items
+        (λ p added. least_newly_broken ex.now p added ≡ Some rule)) }
+{
+    if is_quiet(state.newest.len, col.as_slice()) {
+        return None;
+    }
+    let moment = moment_of(ex, state, col);
+    let rule = first_broken(rules_to_ask(&moment), &moment)?;
+    if keeps_shapes(&moment) {
+        return Some(rule);
+    }
+    None
+}
+
+/// Whether a column settles a strict break of a rule, where that is soon told. Where it answers no, it may settle one all the same.
+pub fn is_told_broken(ex: &Exercise, state: &State, col: &Column, rule: u8) -> bool
+    requires valid { IsValid ex.now }
+    requires room { state.now.newest.len < columns_in ex.now }
+    requires full { length col.now.items ≡ ex.now.voices }
+    ensures { OnTrue result (GoingOn ex.now state.now col.now.items
+        (λ p added. (is_read rule && newly_broken ex.now p added rule) ≡ true)) }
+{
+    if !told_rules().contains(&rule) {
+        return false;
+    }
+    let moment = moment_of(ex, state, col);
+    if is_strictly_broken_now(rule, &moment) {
+        return true;
+    }
+    false
+}
