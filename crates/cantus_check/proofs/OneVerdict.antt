@@ -21,8 +21,8 @@ use Rattle.cert_text.specs.Lines.{BeginsClaim, HasNoFeed, IsClaim, claim_line, c
 use Rattle.cert_text.proofs.PieceLemmas.{Alone}
 use Rattle.cert_tree.specs.Trees.{IsCertified, owed_by}
 use Rattle.fux_port.specs.Files.{HasFile}
-use Rattle.cantus_text.specs.Heads.{GoesTo, Stands}
-use Rattle.cantus_text.proofs.Fronts.{at_front, stands-one}
+use Rattle.cert_text.specs.Pieces.{GoesTo, Stands}
+use Rattle.cert_text.proofs.Fronts.{at_front, stands-one}
 use Rattle.cantus_check.specs.Answers.{IsVerdictBy}
 use Rattle.cantus_check.specs.Judgments.{AcceptsValid, Finds, FindsIn, IsTaken, IsUnsound}
 use Rattle.cantus_check.specs.Subjects.{IsCertificateText, Leaves, Subject}

@@ -6,7 +6,7 @@ use Rattle.cert_file.specs.declared.fault.ReadFault.TheVariants as reading
 use Rattle.cert_file.specs.declared.verdict.Verdict.{Verdict}
 use Rattle.cert_file.specs.declared.verdict.Verdict.TheVariants as verdict
 use Rattle.cert_text.specs.declared.answers.CertFault.TheVariants.{CertHead as WrongHead, Memory as NoMemory}
-use Rattle.cantus_text.specs.Heads.{GoesTo}
+use Rattle.cert_text.specs.Pieces.{GoesTo}
 use Rattle.fux_port.specs.Files.{IsMissing}
 use Rattle.cantus_space.specs.declared.plan.CantusPlan.{CantusPlan}
 use Rattle.cantus_check.specs.declared.checker.CantusOpen.{CantusOpen}

@@ -5,7 +5,8 @@ use Rattle.cert_file.specs.declared.fault.ReadFault.{ReadFault}
 use Rattle.cert_file.specs.declared.fault.ReadFault.TheVariants.{Unreadable, Text}
 use Rattle.cert_text.specs.declared.answers.CertFault.TheVariants as fault
 use Rattle.cantus_text.specs.declared.head.CantusHead.{CantusHead}
-use Rattle.cantus_text.specs.Heads.{GoesTo, IsHeadText, Said}
+use Rattle.cert_text.specs.Pieces.{GoesTo}
+use Rattle.cantus_text.specs.Heads.{IsHeadText, Said}
 use Rattle.fux_port.specs.Files.{IsMissing}
 
 -- a reader stands behind the head of a file

@@ -8,13 +8,12 @@ use Rattle.fux_pitch.specs.declared.pitch.Pitch.{Pitch}
 use Rattle.fux_pitch.specs.Names.{name_of}
 use Rattle.fux_pitch.proofs.NameLemmas.{name_of-length}
 use Rattle.cert_text.specs.HeadRows.{IsKind, NumberLine}
-use Rattle.cert_text.specs.Pieces.{Fixed, Literal, OneByte, Reads, Stops, Then}
-use Rattle.cert_text.proofs.HeadStops.{fixed-reads, fixed-stops}
-use Rattle.cert_text.proofs.NumberLemmas.{numbers-alone}
-use Rattle.cert_text.proofs.PieceLemmas.{Alone, Live, byte-alone, fixed-alone, reads-then, stops-behind, stops-first, then-alone, then-live}
-use Rattle.cantus_text.specs.Heads.{GoesTo, IsHeadText, IsSaid, Said, closing_text, head_text, opening_text}
+use Rattle.cert_text.specs.Pieces.{Fixed, GoesTo, Literal, OneByte, Reads, Stops, Then}
+use Rattle.cert_text.proofs.NumberLemmas.{numbers-plain}
+use Rattle.cert_text.proofs.PieceLemmas.{Alone, Plain, byte-plain, fixed-plain, then-plain}
+use Rattle.cantus_text.specs.Heads.{IsHeadText, IsSaid, Said, closing_text, head_text, opening_text}
 use Rattle.cantus_text.specs.Rows.{BestRow, CantusRow, HeadRow, KindRow, KindsRow, Names, NothingRow, none_rest}
-use Rattle.cantus_text.proofs.Fronts.{few-left, goes-to}
+use Rattle.cert_text.proofs.Fronts.{few-left, goes-to}
 use Rattle.cantus_text.proofs.NameRows.{names-alone, names-live, names-of, names-say, names_text, names_text-more}
 
 abbrev NUMBER : List ℕ
@@ -35,139 +34,30 @@ NumberRow = Then NumberLine CantusRow
 
 -- ---- no head begins another one, and heads go on
 
-names_row-alone : (penalty : ℕ) → Alone (NamesRow penalty)
-names_row-alone penalty =
-    then-alone (Names 3 24) (Closed penalty) (names-alone 3 24) (λ ps. fixed-alone (Some (penalty, ps)) closing_text)
+pub names_row-plain : (penalty : ℕ) → Plain (NamesRow penalty)
+names_row-plain penalty =
+    then-plain (Names 3 24) (Closed penalty) (record { alone = names-alone 3 24; live = names-live 3 24 })
+    (λ ps. fixed-plain (Some (penalty, ps)) closing_text)
 
-number_row-alone : Alone NumberRow
-number_row-alone =
-    then-alone NumberLine CantusRow numbers-alone
-    (λ penalty. then-alone (Literal CANTUS) (λ _. NamesRow penalty) (fixed-alone (tt {0}) CANTUS)
-    (λ _. names_row-alone penalty))
+pub cantus-plain : (penalty : ℕ) → Plain (CantusRow penalty)
+cantus-plain penalty =
+    then-plain (Literal CANTUS) (λ _. NamesRow penalty) (fixed-plain (tt {0}) CANTUS) (λ _. names_row-plain penalty)
 
-kind-alone : (best : Bool) → Alone (KindRow best)
-kind-alone true =
-    then-alone (Literal NUMBER) (λ _. NumberRow) (fixed-alone (tt {0}) NUMBER) (λ _. number_row-alone)
-kind-alone false = fixed-alone None none_rest
+pub number-plain : Plain NumberRow
+number-plain = then-plain NumberLine CantusRow numbers-plain cantus-plain
 
-head-alone : Alone HeadRow
-head-alone =
-    then-alone (Literal opening_text) (λ _. KindsRow) (fixed-alone (tt {0}) opening_text)
-    (λ _. then-alone (OneByte IsKind) (λ byte. KindRow (byte == 98)) (byte-alone IsKind) (λ byte. kind-alone (byte == 98)))
+pub kind-plain : (best : Bool) → Plain (KindRow best)
+kind-plain true = then-plain (Literal NUMBER) (λ _. NumberRow) (fixed-plain (tt {0}) NUMBER) (λ _. number-plain)
+kind-plain false = fixed-plain None none_rest
 
-names_row-live : (penalty : ℕ) → Live (NamesRow penalty)
-names_row-live penalty =
-    let names = names-live 3 24 in
-    then-live (Names 3 24) (Closed penalty) names.0 names.1 names.2
-    (Some (penalty, names.0), closing_text, (refl, refl))
+pub kinds-plain : Plain KindsRow
+kinds-plain =
+    then-plain (OneByte IsKind) (λ byte. KindRow (byte == 98)) (byte-plain IsKind 98 (inl refl))
+    (λ byte. kind-plain (byte == 98))
 
-cantus-live : (penalty : ℕ) → Live (CantusRow penalty)
-cantus-live penalty =
-    then-live (Literal CANTUS) (λ _. NamesRow penalty) tt CANTUS (refl, refl) (names_row-live penalty)
-
-number-live : Live NumberRow
-number-live = then-live NumberLine CantusRow 0 (decimal 0 ++ 10 ∷ []) (omega arith, refl) (cantus-live 0)
-
-kind-live : (best : Bool) → Live (KindRow best)
-kind-live true = then-live (Literal NUMBER) (λ _. NumberRow) tt NUMBER (refl, refl) number-live
-kind-live false = (None, none_rest, (refl, refl))
-
-kinds-live : Live KindsRow
-kinds-live =
-    then-live (OneByte IsKind) (λ byte. KindRow (byte == 98)) 98 (98 ∷ []) (inl refl, refl) (kind-live true)
-
--- ---- reading what follows the `b` of `best`
-
-module _ (bytes : List ℕ) where
-  pub est-stops : (left : ℕ) → Stops (Literal (codes "est ")) bytes left → Stops BestRow bytes left
-  est-stops left stop =
-      stops-first (Literal NUMBER) (λ _. NumberRow) bytes left (fixed-alone (tt {0}) NUMBER) (λ _ t text. number-live) stop
-
-  module _ (digits : List ℕ) (est : Reads (Literal (codes "est ")) bytes tt digits) where
-    behind_est : (left : ℕ) → Stops NumberRow digits left → Stops BestRow bytes left
-    behind_est left stop =
-        stops-behind (Literal NUMBER) (λ _. NumberRow) bytes digits left tt (fixed-alone (tt {0}) NUMBER) est stop
-
-    pub number-stops : (left : ℕ) → Stops NumberLine digits left → Stops BestRow bytes left
-    number-stops left stop =
-        behind_est left
-        (stops-first NumberLine CantusRow digits left numbers-alone (λ penalty t text. cantus-live penalty) stop)
-
-    module _ (line : List ℕ) (penalty : ℕ) (number : Reads NumberLine digits penalty line) where
-      behind_number : (left : ℕ) → Stops (CantusRow penalty) line left → Stops BestRow bytes left
-      behind_number left stop =
-          behind_est left (stops-behind NumberLine CantusRow digits line left penalty numbers-alone number stop)
-
-      pub word-stops : (left : ℕ) → Stops (Literal (codes "cantus")) line left → Stops BestRow bytes left
-      word-stops left stop =
-          behind_number left
-          (stops-first (Literal CANTUS) (λ _. NamesRow penalty) line left (fixed-alone (tt {0}) CANTUS)
-          (λ _ t text. names_row-live penalty) stop)
-
-      module _ (spaced : List ℕ) (word : Reads (Literal (codes "cantus")) line tt spaced) where
-        behind_word : (left : ℕ) → Stops (NamesRow penalty) spaced left → Stops BestRow bytes left
-        behind_word left stop =
-            behind_number left
-            (stops-behind (Literal CANTUS) (λ _. NamesRow penalty) line spaced left tt (fixed-alone (tt {0}) CANTUS) word
-            stop)
-
-        pub names-stops : (left : ℕ) → Stops (Names 3 24) spaced left → Stops BestRow bytes left
-        names-stops left stop =
-            behind_word left
-            (stops-first (Names 3 24) (Closed penalty) spaced left (names-alone 3 24)
-            (λ ps t text. (Some (penalty, ps), closing_text, (refl, refl))) stop)
-
-        module _ (behind : List ℕ) (cantus : List Pitch) (names : Reads (Names 3 24) spaced cantus behind) where
-          pub closing-stops : (left : ℕ) → Stops (Literal closing_text) behind left → Stops BestRow bytes left
-          closing-stops left stop =
-              behind_word left
-              (stops-behind (Names 3 24) (Closed penalty) spaced behind left cantus (names-alone 3 24) names
-              (fixed-stops (Some (penalty, cantus)) closing_text behind left stop))
-
-          pub best-reads : (rest : List ℕ) → Reads (Literal closing_text) behind tt rest
-              → Reads BestRow bytes (Some (penalty, cantus)) rest
-          best-reads rest closing =
-              let said : Said = Some (penalty, cantus) in
-              reads-then (Literal NUMBER) (λ _. NumberRow) bytes digits rest tt said est
-              (reads-then NumberLine CantusRow digits line rest penalty said number
-              (reads-then (Literal CANTUS) (λ _. NamesRow penalty) line spaced rest tt said word
-              (reads-then (Names 3 24) (Closed penalty) spaced behind rest cantus said names
-              (fixed-reads said closing_text behind rest closing))))
-
--- ---- the second line
-
-pub kind-stops : (bytes : List ℕ) (left : ℕ) → Stops (OneByte IsKind) bytes left → Stops KindsRow bytes left
-kind-stops bytes left stop =
-    stops-first (OneByte IsKind) (λ byte. KindRow (byte == 98)) bytes left (byte-alone IsKind)
-    (λ byte t text. kind-live (byte == 98)) stop
-
-pub row-stops : (bytes behind : List ℕ) (byte left : ℕ) → IsKind byte → bytes ≡ byte ∷ behind
-    → Stops (KindRow (byte == 98)) behind left → Stops KindsRow bytes left
-row-stops bytes behind byte left kind e stop =
-    stops-behind (OneByte IsKind) (λ byte. KindRow (byte == 98)) bytes behind left byte (byte-alone IsKind)
-    (byte ∷ [], e, (kind, refl)) stop
-
-pub row-reads : (bytes behind rest : List ℕ) (byte : ℕ) (said : Said) → IsKind byte → bytes ≡ byte ∷ behind
-    → Reads (KindRow (byte == 98)) behind said rest → Reads KindsRow bytes said rest
-row-reads bytes behind rest byte said kind e read =
-    reads-then (OneByte IsKind) (λ byte. KindRow (byte == 98)) bytes behind rest byte said
-    (byte ∷ [], e, (kind, refl)) read
-
--- ---- the first line
-
-pub opening-stops : (bytes : List ℕ) (left : ℕ) → Stops (Literal opening_text) bytes left → Stops HeadRow bytes left
-opening-stops bytes left stop =
-    stops-first (Literal opening_text) (λ _. KindsRow) bytes left (fixed-alone (tt {0}) opening_text)
-    (λ _ t text. kinds-live) stop
-
-module _ (bytes second : List ℕ) (opening : Reads (Literal opening_text) bytes tt second) where
-  pub kinds-stops : (left : ℕ) → Stops KindsRow second left → Stops HeadRow bytes left
-  kinds-stops left stop =
-      stops-behind (Literal opening_text) (λ _. KindsRow) bytes second left tt (fixed-alone (tt {0}) opening_text) opening
-      stop
-
-  pub kinds-reads : (said : Said) (rest : List ℕ) → Reads KindsRow second said rest → Reads HeadRow bytes said rest
-  kinds-reads said rest read = reads-then (Literal opening_text) (λ _. KindsRow) bytes second rest tt said opening read
+head-plain : Plain HeadRow
+head-plain =
+    then-plain (Literal opening_text) (λ _. KindsRow) (fixed-plain (tt {0}) opening_text) (λ _. kinds-plain)
 
 -- ---- the row has the texts of heads
 
@@ -280,7 +170,7 @@ head-of (Some best) text is =
     (best-row best.0 best.1 is.0))
 
 pub heads-alone : Alone IsHeadText
-heads-alone x y f g a b s t e = head-alone x y f g a b (head-of x f s) (head-of y g t) e
+heads-alone x y f g a b s t e = head-plain.alone x y f g a b (head-of x f s) (head-of y g t) e
 
 pub head-reads : (bytes rest : List ℕ) (said : Said) → Reads HeadRow bytes said rest → Reads IsHeadText bytes said rest
 head-reads bytes rest said (front, parts, row) = (front, parts, head-says said front row)

@@ -1,10 +1,10 @@
 -- The text of a cantus certificate's head, where it stands at the front of bytes, and where bytes stop being the front of one.
-use Rattle.std.specs.Prelude.{◌≡◌, ◌⊎◌, ℕ, ◌<◌, ◌≤◌, ◌^◌, ⊤, List, [], ◌∷◌, ◌++◌, Option, None, Some, Result, MatchResult, codes, length, map, take}
+use Rattle.std.specs.Prelude.{◌≡◌, ◌⊎◌, ℕ, ◌<◌, ◌≤◌, ◌^◌, ⊤, List, [], ◌∷◌, ◌++◌, Option, None, Some, Result, MatchResult, codes, length, map}
 use Rattle.std.specs.Fmt.{decimal}
 use Rattle.fux_pitch.specs.declared.pitch.Pitch.{Pitch}
 use Rattle.fux_pitch.specs.Names.{name_of}
 use Rattle.fux_text.specs.Words.{spaced}
-use Rattle.cert_text.specs.Pieces.{Begins}
+use Rattle.cert_text.specs.Pieces.{GoesTo}
 use Rattle.cert_text.specs.declared.answers.CertFault.{CertFault}
 use Rattle.cert_text.specs.declared.answers.CertFault.TheVariants as faults
 
@@ -38,20 +38,6 @@ head_text said = opening_text ++ (said_text said ++ closing_text)
 
 abbrev pub IsHeadText : Said → List ℕ → Type 0
 IsHeadText said text = IsSaid said × (text ≡ head_text said)
-
--- ---- texts at the front of bytes
-
--- a text that says this stands at the front of the bytes, and has so many of them
-pub record Stands {A : Type 0} (L : A → List ℕ → Type 0) (bytes : List ℕ) (x : A) (used : ℕ) : Type 0 where
-  pub within : used ≤ length bytes
-  pub text : L x (take used bytes)
-
--- no text stands there, and so many of the bytes are the longest front by which one goes on
-pub record GoesTo {A : Type 0} (L : A → List ℕ → Type 0) (bytes : List ℕ) (at : ℕ) : Type 0 where
-  pub within : at ≤ length bytes
-  pub begins : Begins L (take at bytes)
-  pub longest : (n : ℕ) → n ≤ length bytes → Begins L (take n bytes) → n ≤ at
-  pub unfinished : (x : A) (n : ℕ) → Stands L bytes x n → ⊥
 
 -- a head's fault: memory ran out, or no head goes on where it says
 abbrev pub IsHeadFault : List ℕ → CertFault → Type 0

@@ -2,7 +2,8 @@
 
 ghost use Rattle.std.specs.Prelude.{◌≡◌, ℕ, IfErr, IfOk, string_bytes};
 ghost use Rattle.cantus_text.specs.Heads as words;
-ghost use Rattle.cantus_text.specs.Heads.{IsHeadFault, IsHeadText, Said, Stands, UnlessMemory};
+ghost use Rattle.cert_text.specs.Pieces.{Stands};
+ghost use Rattle.cantus_text.specs.Heads.{IsHeadFault, IsHeadText, Said, UnlessMemory};
 ghost use Rattle.cantus_text.specs.Rows.{said_of};
 
 use crate::line::cantus_line;

@@ -95,7 +95,7 @@ module _ (bars most i : ℕ) (before : Cell) (here : i < 8 * bars) (enough : 8 *
   abbrev Rests : Cell → ℕ → Unit {0} → List ℕ → Type 0
   Rests c next = RestOfLine (next == 8 * bars) (Items bars most next (held c))
 
-  rest-live : (c : Cell) (next : ℕ) → i < next → next ≤ 8 * bars → Live (Rests c next)
+  pub rest-live : (c : Cell) (next : ℕ) → i < next → next ≤ 8 * bars → Live (Rests c next)
   rest-live c next later within = by (next == 8 * bars) refl
     where
       by : (b : Bool) → (next == 8 * bars) ≡ b → Live (RestOfLine b (Items bars most next (held c)))
@@ -104,88 +104,22 @@ module _ (bars most i : ℕ) (before : Cell) (here : i < 8 * bars) (enough : 8 *
           let other : next ≡ 8 * bars → ⊥ = grind (arith, nat_tests) in
           items-live bars most next (held c) (omega (arith, other, within)) (omega (arith, enough, later))
 
-  item-live : (c : Cell) (digit : ℕ) → IsCount i digit
+  pub item-live : (c : Cell) (digit : ℕ) → IsCount i digit
       → Live (BehindItem bars (i + (digit - 48)) (Items bars most (i + (digit - 48)) (held c)))
   item-live c digit count =
       let next = i + (digit - 48) in
       then-live (Literal (behind_text bars next)) (λ _. Rests c next) tt (behind_text bars next) (refl, refl)
       (rest-live c next (omega (arith, count.0)) (omega (arith, count.0, count.1, here)))
 
-  count-live : (c : Cell) → Live (Counts c)
+  pub count-live : (c : Cell) → Live (Counts c)
   count-live c =
       let one : IsCount i 49 = (omega arith, omega arith) in
       then-live (OneByte (IsCount i))
       (λ digit. BehindItem bars (i + (digit - 48)) (Items bars most (i + (digit - 48)) (held c))) 49 (49 ∷ [])
       (one, refl) (item-live c 49 one)
 
-  name-live : (c : Cell) → Live (Named c)
+  pub name-live : (c : Cell) → Live (Named c)
   name-live c = then-live (Literal (codes ":")) (λ _. Counts c) tt (codes ":") (refl, refl) (count-live c)
-
-  pub name-stops : (bytes : List ℕ) (left : ℕ) → Stops (ItemName i before) bytes left
-      → Stops (Items bars (suc most) i before) bytes left
-  name-stops bytes left stop =
-      stops-first (ItemName i before) Named bytes left (names-alone i before) (λ c t name. name-live c) stop
-
-  module _ (bytes r1 : List ℕ) (c : Cell) (name : Reads (ItemName i before) bytes c r1) where
-    behind_name : (left : ℕ) → Stops (Named c) r1 left → Stops (Items bars (suc most) i before) bytes left
-    behind_name left stop = stops-behind (ItemName i before) Named bytes r1 left c (names-alone i before) name stop
-
-    pub colon-stops : (left : ℕ) → Stops (Literal (codes ":")) r1 left → Stops (Items bars (suc most) i before) bytes left
-    colon-stops left stop =
-        behind_name left
-        (stops-first (Literal (codes ":")) (λ _. Counts c) r1 left (fixed-alone (tt {0}) (codes ":")) (λ _ t text. count-live c)
-        stop)
-
-    module _ (r2 : List ℕ) (colon : Reads (Literal (codes ":")) r1 tt r2) where
-      behind_colon : (left : ℕ) → Stops (Counts c) r2 left → Stops (Items bars (suc most) i before) bytes left
-      behind_colon left stop =
-          behind_name left
-          (stops-behind (Literal (codes ":")) (λ _. Counts c) r1 r2 left tt (fixed-alone (tt {0}) (codes ":")) colon stop)
-
-      pub count-stops : (left : ℕ) → Stops (OneByte (IsCount i)) r2 left → Stops (Items bars (suc most) i before) bytes left
-      count-stops left stop =
-          behind_colon left
-          (stops-first (OneByte (IsCount i))
-          (λ digit. BehindItem bars (i + (digit - 48)) (Items bars most (i + (digit - 48)) (held c))) r2 left
-          (byte-alone (IsCount i)) (λ digit t text. item-live c digit text.0) stop)
-
-      module _ (r3 : List ℕ) (digit : ℕ) (count : Reads (OneByte (IsCount i)) r2 digit r3) where
-        behind_count : (left : ℕ)
-            → Stops (BehindItem bars (i + (digit - 48)) (Items bars most (i + (digit - 48)) (held c))) r3 left
-            → Stops (Items bars (suc most) i before) bytes left
-        behind_count left stop =
-            behind_colon left
-            (stops-behind (OneByte (IsCount i))
-            (λ digit. BehindItem bars (i + (digit - 48)) (Items bars most (i + (digit - 48)) (held c))) r2 r3 left digit
-            (byte-alone (IsCount i)) count stop)
-
-        pub item-stops : (left : ℕ) → Stops (Literal (behind_text bars (i + (digit - 48)))) r3 left
-            → Stops (Items bars (suc most) i before) bytes left
-        item-stops left stop =
-            behind_count left
-            (stops-first (Literal (behind_text bars (i + (digit - 48)))) (λ _. Rests c (i + (digit - 48))) r3 left
-            (fixed-alone (tt {0}) (behind_text bars (i + (digit - 48))))
-            (λ _ t text. rest-live c (i + (digit - 48)) (omega (arith, count.2.0.0))
-            (omega (arith, count.2.0.0, count.2.0.1, here))) stop)
-
-        module _ (r4 : List ℕ) (item : Reads (Literal (behind_text bars (i + (digit - 48)))) r3 tt r4) where
-          pub rest-stops : (left : ℕ) → Stops (Rests c (i + (digit - 48))) r4 left
-              → Stops (Items bars (suc most) i before) bytes left
-          rest-stops left stop =
-              behind_count left
-              (stops-behind (Literal (behind_text bars (i + (digit - 48)))) (λ _. Rests c (i + (digit - 48))) r3 r4 left
-              tt (fixed-alone (tt {0}) (behind_text bars (i + (digit - 48)))) item stop)
-
-          pub item-reads : (r5 : List ℕ) → Reads (Rests c (i + (digit - 48))) r4 tt r5
-              → Reads (Items bars (suc most) i before) bytes tt r5
-          item-reads r5 rest =
-              reads-then (ItemName i before) Named bytes r1 r5 c tt name
-              (reads-then (Literal (codes ":")) (λ _. Counts c) r1 r2 r5 tt tt colon
-              (reads-then (OneByte (IsCount i))
-              (λ digit. BehindItem bars (i + (digit - 48)) (Items bars most (i + (digit - 48)) (held c))) r2 r3 r5 digit tt
-              count
-              (reads-then (Literal (behind_text bars (i + (digit - 48)))) (λ _. Rests c (i + (digit - 48))) r3 r4 r5 tt tt
-              item rest)))
 
 -- ---- as many items as may be
 
@@ -233,26 +167,6 @@ count-not i byte e count =
     let high : nat_le (byte + i % 8) 56 ≡ true = let t = count.1 in grind (arith, nat_tests) in
     let both : true ≡ false = sym (and_from (nat_le 49 byte) (nat_le (byte + i % 8) 56) low high) ∙ e in
     absurd (grind (arith, both))
-
--- ---- a line
-
-pub begin-stops : (ex : Exercise) (v : ℕ) → IsValid ex → (bytes : List ℕ) (left : ℕ)
-    → Stops (Literal (sing_bytes v)) bytes left → Stops (SingLine ex v) bytes left
-begin-stops ex v valid bytes left stop =
-    stops-first (Literal (sing_bytes v)) (λ _. Items ex.bars (8 * ex.bars) 0 Rest) bytes left
-    (fixed-alone (tt {0}) (sing_bytes v))
-    (λ _ t text. items-live ex.bars (8 * ex.bars) 0 Rest (omega (arith, valid.fewest_bars)) (omega arith)) stop
-
-module _ (ex : Exercise) (v : ℕ) (bytes r1 : List ℕ) (begun : Reads (Literal (sing_bytes v)) bytes tt r1) where
-  pub items-stop : (left : ℕ) → Stops (Items ex.bars (8 * ex.bars) 0 Rest) r1 left → Stops (SingLine ex v) bytes left
-  items-stop left stop =
-      stops-behind (Literal (sing_bytes v)) (λ _. Items ex.bars (8 * ex.bars) 0 Rest) bytes r1 left tt
-      (fixed-alone (tt {0}) (sing_bytes v)) begun stop
-
-  pub line-reads : (rest : List ℕ) → Reads (Items ex.bars (8 * ex.bars) 0 Rest) r1 tt rest
-      → Reads (SingLine ex v) bytes tt rest
-  line-reads rest read =
-      reads-then (Literal (sing_bytes v)) (λ _. Items ex.bars (8 * ex.bars) 0 Rest) bytes r1 rest tt tt begun read
 
 -- ---- the lines from a voice on
 

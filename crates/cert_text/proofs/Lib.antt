@@ -1,4 +1,5 @@
 pub mod FourthOctave
+pub mod Fronts
 pub mod HeadBacks
 pub mod HeadLaws
 pub mod HeadStops

@@ -11,7 +11,7 @@ use Rattle.std.proofs.lemmas.Fmt.{decimal_by_steps, decimal_digit, decimal_nonem
 use Rattle.std.proofs.lemmas.List.{drop_more, take-append-drop, take_all, take_more}
 use Rattle.cert_text.specs.HeadRows.{AreDigits, NumberLine, digit_after}
 use Rattle.cert_text.specs.Pieces.{Begins, Stops, StopsAt}
-use Rattle.cert_text.proofs.PieceLemmas.{Alone, stops-at, two_fronts}
+use Rattle.cert_text.proofs.PieceLemmas.{Alone, Plain, stops-at, two_fronts}
 
 -- what digits make of those before them
 abbrev digits_from : Option ℕ → List ℕ → Option (Option ℕ)
@@ -195,3 +195,6 @@ pub number-more : (s : Option ℕ) (bytes : List ℕ) (i n : ℕ) → i < length
     → digit_after s (get_or bytes i 0) ≡ Some n → AreDigits (Some n) (take (i + 1) bytes)
 number-more s bytes i n within are e =
     subst (AreDigits (Some n)) (sym (take_more bytes i 0 within)) (digits-more s (take i bytes) (get_or bytes i 0) n are e)
+
+pub numbers-plain : Plain NumberLine
+numbers-plain = record { alone = numbers-alone; live = (0, decimal 0 ++ 10 ∷ [], (omega arith, refl)) }

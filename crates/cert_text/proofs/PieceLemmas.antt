@@ -65,6 +65,24 @@ byte-alone Is x y f g a b s t e =
     let same : x ≡ y = cc in
     (same, s.1 ∙ ap (λ c. c ∷ []) same ∙ sym t.1)
 
+-- both: no text begins another one, and there is a text
+pub record Plain {A : Type 0} (L : A → List ℕ → Type 0) : Type 0 where
+  pub alone : Alone L
+  pub live : Live L
+
+pub fixed-plain : {A : Type 0} (a : A) (text : List ℕ) → Plain (Fixed a text)
+fixed-plain a text = record { alone = fixed-alone a text; live = (a, text, (refl, refl)) }
+
+pub byte-plain : (Is : ℕ → Type 0) (c : ℕ) → Is c → Plain (OneByte Is)
+byte-plain Is c some = record { alone = byte-alone Is; live = (c, c ∷ [], (some, refl)) }
+
+pub then-plain : {A B : Type 0} (L : A → List ℕ → Type 0) (M : A → B → List ℕ → Type 0) → Plain L → ((x : A) → Plain (M x))
+    → Plain (Then L M)
+then-plain L M first behind = record {
+  alone = then-alone L M first.alone (λ x. (behind x).alone);
+  live = then-live L M first.live.0 first.live.1 first.live.2 (behind first.live.0).live;
+}
+
 -- ---- reading
 
 pub reads-then : {A B : Type 0} (L : A → List ℕ → Type 0) (M : A → B → List ℕ → Type 0) (bytes mid rest : List ℕ) (x : A)

@@ -1,5 +1,5 @@
 -- Texts of pieces that stand one behind the other, and where bytes stop being the front of one.
-use Rattle.std.specs.Prelude.{◌≡◌, ℕ, List, [], ◌∷◌, ◌++◌, length}
+use Rattle.std.specs.Prelude.{◌≡◌, ℕ, ◌≤◌, List, [], ◌∷◌, ◌++◌, length, take}
 
 -- ---- which texts there are: a set of them tells what each of its texts says
 
@@ -48,3 +48,17 @@ pub record Stops {A : Type 0} (L : A → List ℕ → Type 0) (bytes : List ℕ)
   pub parts : bytes ≡ front ++ rest
   pub count : length rest ≡ left
   pub here : StopsAt L front rest
+
+-- ---- texts at the front of bytes
+
+-- a text that says this stands at the front of the bytes, and has so many of them
+pub record Stands {A : Type 0} (L : A → List ℕ → Type 0) (bytes : List ℕ) (x : A) (used : ℕ) : Type 0 where
+  pub within : used ≤ length bytes
+  pub text : L x (take used bytes)
+
+-- no text stands there, and so many of the bytes are the longest front by which one goes on
+pub record GoesTo {A : Type 0} (L : A → List ℕ → Type 0) (bytes : List ℕ) (at : ℕ) : Type 0 where
+  pub within : at ≤ length bytes
+  pub begins : Begins L (take at bytes)
+  pub longest : (n : ℕ) → n ≤ length bytes → Begins L (take n bytes) → n ≤ at
+  pub unfinished : (x : A) (n : ℕ) → Stands L bytes x n → ⊥

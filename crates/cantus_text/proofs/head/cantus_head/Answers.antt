@@ -1,7 +1,8 @@
 use Rattle.std.proofs.Common.{◌-◌, inr, length, refl, subst, sym}
-use Rattle.cantus_text.specs.Heads.{IsHeadText, Said, Stands}
+use Rattle.cert_text.specs.Pieces.{Stands}
+use Rattle.cantus_text.specs.Heads.{IsHeadText, Said}
 use Rattle.cantus_text.specs.Rows.{said_of}
-use Rattle.cantus_text.proofs.Fronts.{reads-stand, stands-one}
+use Rattle.cert_text.proofs.Fronts.{reads-stand, stands-one}
 use Rattle.cantus_text.proofs.HeadRows.{head-goes_to, head-reads, heads-alone}
 use Rattle.cantus_text.proofs.head.cantus_head.Goals as goal
 

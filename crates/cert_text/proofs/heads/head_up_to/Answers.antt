@@ -1,4 +1,4 @@
-use Rattle.std.proofs.Common.{◌≡◌, ◌-◌, inr, refl, sym, length, subst, take, ◌∙◌, arith}
+use Rattle.std.proofs.Common.{◌-◌, inr, refl, sym, length, subst, take, ◌∙◌, arith}
 use Rattle.std.specs.Prelude.{None, Some}
 use Rattle.cert_text.specs.HeadRows.{IsUpTo}
 use Rattle.cert_text.proofs.HeadLaws.{if_ok, unless-map}

@@ -1,26 +1,19 @@
 use Rattle.std.proofs.lemmas.Result.{err_from_is_err_and}
-use Rattle.cert_text.specs.HeadRows.{said_of}
-use Rattle.cert_text.proofs.HeadStops.{feed-stops, kinds-reads, kinds-stops}
-use Rattle.cert_text.proofs.PieceLemmas.{IfErr-map, IfOk-map}
+use Rattle.cert_text.proofs.HeadStops.{kinds-plain}
+use Rattle.cert_text.proofs.PieceLemmas.{IfErr-map, IfOk-map, fixed-alone, reads-then, stops-behind, stops-first}
 use Rattle.cert_text.proofs.scan.behind_form.Goals as goal
 
 pub returns-in_err-second-clause-err : goal.returns-in_err-second-clause-err
 returns-in_err-second-clause-err c =
     let told = err_from_is_err_and c.from_residual.result c.from_residual.ensures.1 in
-    rw (told.1, told.2)
-    (feed-stops c.args.ex.now c.requires c.args.form c.args.bytes.now c.in_err-second.field-0.0
-    c.in_err-second.ensures.err)
+    let kinds = kinds-plain c.args.ex.now c.requires c.args.form in
+    rw (told.1, told.2) (stops-first _ _ _ _ (fixed-alone _ _) (λ _ t text. kinds.live) c.in_err-second.ensures.err)
 
 pub returns-clause-ok : goal.returns-clause-ok
 returns-clause-ok c =
-    IfOk-map c.kind.result
-    (λ found read. kinds-reads c.args.ex.now c.requires c.args.form c.args.bytes.now c.in_ok-second.second.now
-    c.in_ok-second.ensures.ok (said_of found) found.rest.now read)
-    c.kind.ensures.ok
+    IfOk-map c.kind.result (λ found read. reads-then _ _ _ _ _ _ _ c.in_ok-second.ensures.ok read) c.kind.ensures.ok
 
 pub returns-clause-err : goal.returns-clause-err
 returns-clause-err c =
     IfErr-map c.kind.result
-    (λ left stop. kinds-stops c.args.ex.now c.requires c.args.form c.args.bytes.now c.in_ok-second.second.now
-    c.in_ok-second.ensures.ok left stop)
-    c.kind.ensures.err
+    (λ left stop. stops-behind _ _ _ _ _ _ (fixed-alone _ _) c.in_ok-second.ensures.ok stop) c.kind.ensures.err

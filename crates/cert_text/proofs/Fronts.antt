@@ -4,10 +4,14 @@ use Rattle.std.proofs.Common.{◌≡◌, ◌⊎◌, inl, inr, ⊎_elim, ℕ, ◌
 use Rattle.std.proofs.lemmas.Bool.{cases_lt}
 use Rattle.std.proofs.lemmas.List.{length-take, length-take-le, take-append-drop, take-take}
 use Rattle.std.proofs.Math.Seq.{take-append-add, take-append_seam}
-use Rattle.cert_text.specs.Pieces.{Begins, Reads, Stops}
-use Rattle.cert_text.proofs.HeadStops.{front-taken}
+use Rattle.cert_text.specs.Pieces.{Begins, GoesTo, Reads, Stands, Stops}
 use Rattle.cert_text.proofs.PieceLemmas.{Alone, none_before, two_fronts}
-use Rattle.cantus_text.specs.Heads.{GoesTo, Stands}
+
+-- what stands before the rest of bytes
+pub front-taken : (bytes front rest : List ℕ) → bytes ≡ front ++ rest → take (length bytes - length rest) bytes ≡ front
+front-taken bytes front rest e =
+    let count : length bytes - length rest ≡ length front = omega (arith, ap length e, length-append front rest) in
+    ap (λ k. take k bytes) count ∙ ap (take (length front)) e ∙ take-append_seam front rest
 
 module _ {A : Type 0} (L : A → List ℕ → Type 0) where
   pub reads-stand : (bytes rest : List ℕ) (x : A) → Reads L bytes x rest → Stands L bytes x (length bytes - length rest)
