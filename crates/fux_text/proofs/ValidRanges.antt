@@ -4,7 +4,7 @@ use Rattle.std.specs.Prelude.{◌==◌, ◌||◌, All, filter, IfSome, IsSome, i
 use Rattle.std.specs.List.{range_with_len}
 use Rattle.std.proofs.lemmas.Int.{ints}
 use Rattle.std.proofs.lemmas.List.{append-nil}
-use Rattle.std.proofs.lemmas.List.Elements.{All-append, filter-append}
+use Rattle.std.proofs.lemmas.List.Elements.{All-push, filter-append}
 use Rattle.std.proofs.lemmas.List.FromFn.{get_or-range_with_len, length-range_with_len}
 use Rattle.std.proofs.lemmas.List.Sums.{AllPass-from_list_all}
 use Rattle.fux_pitch.specs.Pitch.{key_of}
@@ -98,18 +98,13 @@ any-some v (l ∷ ls) first others e = by (l.voice == v) (any-some v ls first ot
     by true rest e = refl
     by false rest e = rest e
 
-single : (line : RangeLine) → IsSome line.bars → All (λ other. IsSome other.bars) (line ∷ [])
-single line some = λ k d lt.
-    let first : 0 ≡ k = omega arith in
-    subst (λ n. IsSome (get_or (line ∷ []) n d).bars) first some
-
 begun-push : (v : ℕ) (lines : List RangeLine) (line : RangeLine) → Begun lines
     → (lines ≡ [] → line.bars ≡ None) → ((first : RangeLine) (others : List RangeLine) → lines ≡ first ∷ others
     → IsSome line.bars)
     → Begun (lines ++ line ∷ [])
 begun-push v [] line begun first later = (first refl, λ k d lt. absurd (omega arith))
 begun-push v (l ∷ ls) line begun first later =
-    (begun.0, All-append (λ other. IsSome other.bars) ls (line ∷ []) begun.1 (single line (later l ls refl)))
+    (begun.0, All-push (λ other. IsSome other.bars) ls line begun.1 (later l ls refl))
 
 begun-next : (ex : Exercise) (before : List RangeLine) (line : RangeLine) (v : ℕ) → IsNext ex before line
     → Begun (of_voice v before)
@@ -141,10 +136,7 @@ next-fits ex before line some next = record {
 ranges-push : (ex : Exercise) (before : List RangeLine) (line : RangeLine) → 2 ≤ ex.voices → IsNext ex before line
     → AreRanges ex before → AreRanges ex (before ++ line ∷ [])
 ranges-push ex before line some next so_far = record {
-  fit = All-append (IsRangeLine ex) before (line ∷ []) so_far.fit
-      (λ k d lt.
-      let first : 0 ≡ k = omega arith in
-      subst (λ n. IsRangeLine ex (get_or (line ∷ []) n d)) first (next-fits ex before line some next));
+  fit = All-push (IsRangeLine ex) before line so_far.fit (next-fits ex before line some next);
   begun = λ v. begun-next ex before line v next (so_far.begun v);
 }
 
