@@ -35,6 +35,7 @@ pub mod GivenCells
 pub mod Givens
 pub mod OwnGivens
 pub mod Alike
+pub mod OwnLines
 pub mod Fits
 pub mod OwnText
 pub mod OnlyHead

@@ -24,6 +24,7 @@ use Rattle.fux_text.specs.Ranges.{all_ranged, has_line, misfits, range_lines_of,
 use Rattle.fux_text.proofs.NumberWords.{within-own}
 use Rattle.fux_text.proofs.Layouts.{at_words, left, lines_at, places_of, with_line}
 use Rattle.fux_text.proofs.OwnHead.{other_voice-own}
+use Rattle.fux_text.proofs.OwnLines.{AreRead, many-own}
 use Rattle.fux_text.proofs.OwnWords.{pitch-own}
 use Rattle.fux_text.proofs.ValidRanges.{any-none, any-some, of_voice}
 
@@ -133,36 +134,10 @@ range_line-own ex before r after l others small behind =
     let place = places_of l.words in
     rw (range_in-own ex before r l.line ((place 0).column + 5) l.end (λ k. place (suc k)) small behind) refl
 
--- each of these lines may stand behind those before it
-abbrev FitInOrder : Exercise → List RangeLine → List RangeLine → Type 0
-FitInOrder ex before [] = ⊤
-FitInOrder ex before (r ∷ rs) = FitsBehind ex before r × FitInOrder ex (before ++ r ∷ []) rs
-
 begins_range : (r : RangeLine) (after : ℕ) (l : LineWords) (others : List LineWords)
     → begins (codes "range") (with_line after l (range_words r) others) ≡ true
 unfolding begins
 begins_range r after l others = refl
-
--- range lines are read up to a line that is none
-ranges_on-own : (ex : Exercise) (rs before : List RangeLine) (after : ℕ) (lay : ℕ → LineWords)
-    (more : List (List (List ℕ))) → IsSmall ex
-    → FitInOrder ex before rs →
-    ((other : ℕ → LineWords) → begins (codes "range") (left after (lines_at other more)) ≡ false)
-    → (behind : ℕ → LineWords) ×
-    (many_in (range_lines_of ex) before after (lines_at lay (map range_words rs ++ more))
-    ≡ Ok (before ++ rs, left after (lines_at behind more)))
-unfolding many_in
-ranges_on-own ex [] before after lay [] small fit other =
-    (lay, ap (λ found. Ok (found, left after [])) (sym (append-nil before)))
-ranges_on-own ex [] before after lay (ws ∷ more) small fit other =
-    (lay, rw (other lay) (ap (λ found. Ok (found, left after (lines_at lay (ws ∷ more)))) (sym (append-nil before))))
-ranges_on-own ex (r ∷ rs) before after lay more small fit other =
-    let rest = ranges_on-own ex rs (before ++ r ∷ []) after (λ k. lay (suc k)) more small fit.1 other in
-    let others = lines_at (λ k. lay (suc k)) (map range_words rs ++ more) in (
-      rest.0,
-      rw (begins_range r after (lay 0) others, range_line-own ex before r after (lay 0) others small fit.0)
-          (rest.1 ∙ ap (λ found. Ok (found, left after (lines_at rest.0 more))) (append_assoc before (r ∷ []) rs)),
-    )
 
 -- where each of these lines has bars, so has the one between others
 some_at_seam : (xs ys : List RangeLine) (r : RangeLine) → All (λ other. IsSome other.bars) (xs ++ r ∷ ys)
@@ -170,14 +145,16 @@ some_at_seam : (xs ys : List RangeLine) (r : RangeLine) → All (λ other. IsSom
 some_at_seam [] ys r all = all 0 r (omega arith)
 some_at_seam (x ∷ xs) ys r all = some_at_seam xs ys r (λ k d lt. all (suc k) d (omega arith))
 
--- the range lines of a valid exercise may stand in their order
-fit-in-order : (ex : Exercise) (rs before : List RangeLine) → All (IsRangeLine ex) rs
-    → ((v : ℕ) → IsFree ex v → BeginsWithWhole (of_voice v (before ++ rs))) → FitInOrder ex before rs
-fit-in-order ex [] before fit whole = tt
-fit-in-order ex (r ∷ rs) before fit whole =
+-- the range lines of a valid exercise are read in their order
+ranges-read : (ex : Exercise) (after : ℕ) (rs before : List RangeLine) → IsSmall ex → All (IsRangeLine ex) rs
+    → ((v : ℕ) → IsFree ex v → BeginsWithWhole (of_voice v (before ++ rs)))
+    → AreRead (range_lines_of ex) after before rs (map range_words rs)
+ranges-read ex after [] before small fit whole = tt
+ranges-read ex after (r ∷ rs) before small fit whole =
     let one : IsRangeLine ex r = fit 0 r (omega arith) in (
-      fits_behind one (whole r.voice one.free),
-      fit-in-order ex rs (before ++ r ∷ []) (λ k d lt. fit (suc k) d (omega arith))
+      (λ l others. begins_range r after l others),
+      (λ l others. range_line-own ex before r after l others small (fits_behind one (whole r.voice one.free))),
+      ranges-read ex after rs (before ++ r ∷ []) small (λ k d lt. fit (suc k) d (omega arith))
           (λ v free. subst (λ lines. BeginsWithWhole (of_voice v lines)) (sym (append_assoc before (r ∷ []) rs))
           (whole v free)),
     )
@@ -238,5 +215,6 @@ pub ranges-own : (ex head : Exercise) (after : ℕ) (lay : ℕ → LineWords) (m
     ≡ Ok (ex.ranges, left after (lines_at behind more)))
 unfolding table_in
 ranges-own ex head after lay more small fit whole other =
-    let found = ranges_on-own head ex.ranges [] after lay more small (fit-in-order head ex.ranges [] fit whole) other in
+    let found = many-own (range_lines_of head) after [] ex.ranges (map range_words ex.ranges) lay more
+    (ranges-read head after ex.ranges [] small fit whole) other in
     (found.0, rw (found.1, all_ranged-own head ex.ranges whole) refl)
