@@ -107,11 +107,11 @@ givens-read version ex after (line ∷ lines) before (words ∷ fixed) small fit
       | inr e ↦ e
     ] in (
       (λ l others.
-      and_from (version == newest_version) (begins (codes "given") (with_line after l words others))
-      (eq-eqb version newest_version second) (begins_given line words after l others are.0)),
+          and_from (version == newest_version) (begins (codes "given") (with_line after l words others))
+          (eq-eqb version newest_version second) (begins_given line words after l others are.0)),
       (λ l others.
-      given_line-own ex before line words after l others small (fit 0 line (omega arith))
-      (behind-own before line lines ascend) are.0),
+          given_line-own ex before line words after l others small (fit 0 line (omega arith))
+          (behind-own before line lines ascend) are.0),
       givens-read version ex after lines (before ++ line ∷ []) fixed small (λ k d lt. fit (suc k) d (omega arith))
           (subst (AllPairs IsEarlier) (sym (append_assoc before (line ∷ []) lines)) ascend) are.1 (inr second),
     )

@@ -46,8 +46,8 @@ relaxes-read : (ex : Exercise) (after : ℕ) (rs before : List Relax) → 1 ≤ 
 relaxes-read ex after [] before some small fit few = tt
 relaxes-read ex after (r ∷ rs) before some small fit few = (
   (λ l others.
-  and_from (nat_lt (length before) most_relax) (begins (codes "relax") (with_line after l (relax_words r) others))
-  (lt-ltb (length before) most_relax (omega (arith, few))) (begins_relax r after l others)),
+      and_from (nat_lt (length before) most_relax) (begins (codes "relax") (with_line after l (relax_words r) others))
+      (lt-ltb (length before) most_relax (omega (arith, few))) (begins_relax r after l others)),
   (λ l others. relax_line-own ex r after l others some small (fit 0 r (omega arith))),
   relaxes-read ex after rs (before ++ r ∷ []) some small (λ k d lt. fit (suc k) d (omega arith))
       (omega (arith, few, length-append before (r ∷ []))),
