@@ -4,8 +4,8 @@ use Rattle.std.proofs.Common.{◌≡◌, ◌⊎◌, inl, inr, ℕ, suc, ◌+◌,
 use Rattle.std.specs.Prelude.{◌==◌, ◌&&◌, ◌||◌, All, AllPairs, codes, nat_lt}
 use Rattle.std.specs.Fmt.{decimal}
 use Rattle.std.specs.Option.{option_and_then}
-use Rattle.std.proofs.lemmas.Bool.{and_from, and_right, eq-eqb, lt-ltb, or_left, or_right}
-use Rattle.std.proofs.lemmas.List.{append-nil, get_or_append_left}
+use Rattle.std.proofs.lemmas.Bool.{and_from, eq-eqb, lt-ltb, or_left, or_right}
+use Rattle.std.proofs.lemmas.List.{get_or_append_left}
 use Rattle.std.proofs.lemmas.List.Sums.{list_all-from_AllPass}
 use Rattle.std.proofs.Math.Seq.{get_or-append_seam}
 use Rattle.fux_grid.specs.declared.exercise.Exercise.{Exercise}
@@ -15,7 +15,7 @@ use Rattle.fux_grid.specs.Givens.{IsEarlier}
 use Rattle.fux_text.specs.declared.fault.TextKind.TheVariants as kinds
 use Rattle.text_lines.specs.Reading.{begins, headed, literal, next}
 use Rattle.text_lines.specs.Rows.{IsRun, row_in}
-use Rattle.text_lines.specs.Tables.{Table, line_in, many_in, table_in}
+use Rattle.text_lines.specs.Tables.{Table, line_in, table_in}
 use Rattle.text_lines.specs.Words.{LineWords}
 use Rattle.text_lines.proofs.RowLemmas.{run-gives}
 use Rattle.fux_text.specs.Grammar.{AreGivenLines, IsGivenLine, IsVersionFor}

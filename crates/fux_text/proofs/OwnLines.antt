@@ -4,7 +4,7 @@ use Rattle.std.specs.Prelude.{⊤}
 use Rattle.std.proofs.lemmas.Bool.{and_right}
 use Rattle.std.proofs.lemmas.List.{append-nil}
 use Rattle.text_lines.specs.Reading.{begins}
-use Rattle.text_lines.specs.Tables.{Many, goes_on, line_in, many_in, table_in}
+use Rattle.text_lines.specs.Tables.{Many, goes_on, line_in, many_in}
 use Rattle.text_lines.specs.Words.{LineWords}
 use Rattle.fux_text.specs.declared.fault.TextKind.{TextKind}
 use Rattle.fux_text.proofs.Layouts.{left, lines_at, with_line}

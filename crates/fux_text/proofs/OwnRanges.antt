@@ -1,10 +1,9 @@
 -- The range lines of a valid exercise are read back (`ranges-own`).
-use Rattle.std.proofs.Common.{◌≡◌, ◌≢◌, ℕ, suc, ◌+◌, ◌<◌, ◌≤◌, ◌≤ℤ◌, Bool, true, false, List, [], ◌∷◌, ◌++◌, get_or, map, Option, Some, None, Ok, refl, sym, ap, subst, ◌∙◌, append_assoc, arith}
+use Rattle.std.proofs.Common.{◌≡◌, ℕ, suc, ◌<◌, ◌≤◌, ◌≤ℤ◌, Bool, true, false, List, [], ◌∷◌, ◌++◌, get_or, map, Option, Some, None, Ok, refl, sym, ap, subst, ◌∙◌, append_assoc, arith}
 use Rattle.std.specs.Prelude.{◌==◌, ◌||◌, All, codes, int_lt, IfSome, IsSome, is_some}
 use Rattle.std.specs.Fmt.{decimal}
 use Rattle.std.specs.List.{range_with_len}
 use Rattle.std.proofs.lemmas.Int.{ints}
-use Rattle.std.proofs.lemmas.List.{append-nil}
 use Rattle.std.proofs.lemmas.List.Elements.{filter-append}
 use Rattle.std.proofs.lemmas.List.FromFn.{get_or-range_with_len, length-range_with_len}
 use Rattle.std.proofs.lemmas.List.Sums.{list_all-from_AllPass}
@@ -17,13 +16,13 @@ use Rattle.fux_grid.specs.Exercises.{BeginsWithWhole, IsFree, IsRangeLine, range
 use Rattle.fux_text.specs.declared.fault.TextKind.TheVariants as kinds
 use Rattle.text_lines.specs.Reading.{begins, done, headed, literal, next}
 use Rattle.text_lines.specs.Rows.{row_in}
-use Rattle.text_lines.specs.Tables.{line_in, many_in, table_in}
-use Rattle.text_lines.specs.Words.{LineWords, PlacedWord}
+use Rattle.text_lines.specs.Tables.{line_in, table_in}
+use Rattle.text_lines.specs.Words.{LineWords}
 use Rattle.fux_text.specs.Head.{other_voice}
 use Rattle.fux_text.specs.Lines.{bars_words, range_words}
 use Rattle.fux_text.specs.Ranges.{all_ranged, has_line, misfits, range_lines_of, range_row, ranges_table}
 use Rattle.fux_text.proofs.NumberWords.{within-own}
-use Rattle.fux_text.proofs.Layouts.{at_words, left, lines_at, places_of, with_line}
+use Rattle.fux_text.proofs.Layouts.{left, lines_at, with_line}
 use Rattle.fux_text.proofs.OwnHead.{other_voice-own}
 use Rattle.fux_text.proofs.OwnLines.{AreRead, many-own}
 use Rattle.fux_text.proofs.OwnWords.{pitch-own}

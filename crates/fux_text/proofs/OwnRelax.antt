@@ -1,22 +1,20 @@
 -- The relax lines of a valid exercise are read back (`relaxes-own`).
-use Rattle.std.proofs.Common.{◌≡◌, ℕ, suc, ◌+◌, ◌≤◌, true, false, List, [], ◌∷◌, ◌++◌, length, length-append, map, Ok, refl, sym, ap, ◌∙◌, append_assoc, arith}
+use Rattle.std.proofs.Common.{◌≡◌, ℕ, suc, ◌+◌, ◌≤◌, true, false, List, [], ◌∷◌, ◌++◌, length, length-append, map, Ok, refl, arith}
 use Rattle.std.specs.Prelude.{All, codes, nat_lt}
-use Rattle.std.specs.Fmt.{decimal}
 use Rattle.std.proofs.lemmas.Bool.{and_from, lt-ltb}
-use Rattle.std.proofs.lemmas.List.{append-nil}
 use Rattle.fux_grid.specs.declared.exercise.Exercise.{Exercise}
 use Rattle.fux_grid.specs.declared.exercise.Relax.{Relax}
 use Rattle.fux_grid.specs.Exercises.{IsRelax}
 use Rattle.fux_text.specs.declared.fault.TextKind.TheVariants as kinds
 use Rattle.text_lines.specs.Reading.{begins, done, headed, literal, next}
 use Rattle.text_lines.specs.Rows.{row_in}
-use Rattle.text_lines.specs.Tables.{Table, line_in, many_in, table_in}
-use Rattle.text_lines.specs.Words.{LineWords, PlacedWord}
-use Rattle.fux_text.specs.Lines.{relax_words, voices_word}
+use Rattle.text_lines.specs.Tables.{Table, line_in, table_in}
+use Rattle.text_lines.specs.Words.{LineWords}
+use Rattle.fux_text.specs.Lines.{relax_words}
 use Rattle.fux_text.specs.Relaxing.{relax_lines_of, relax_row}
 use Rattle.fux_text.specs.Limits.{most_relax}
 use Rattle.fux_text.proofs.NumberWords.{within-own}
-use Rattle.fux_text.proofs.Layouts.{at_words, left, lines_at, places_of, with_line}
+use Rattle.fux_text.proofs.Layouts.{left, lines_at, with_line}
 use Rattle.fux_text.proofs.OwnLines.{AreRead, many-own}
 use Rattle.fux_text.proofs.OwnRanges.{IsSmall}
 use Rattle.fux_text.proofs.OwnWords.{rule-own, set-own}

@@ -31,7 +31,7 @@ use Rattle.fux_text.specs.Words.{text_line, text_of, words_in}
 use Rattle.text_lines.specs.Lines.{lines_from}
 use Rattle.text_lines.specs.Utf8.{text_in}
 use Rattle.text_lines.proofs.Faulty.{text_in-ok}
-use Rattle.fux_text.proofs.Alike.{free-alike, given-alike, givens-alike, ranges-alike, relaxes-alike, sings-alike}
+use Rattle.fux_text.proofs.Alike.{alike, free-alike, given-alike, givens-alike, ranges-alike, relaxes-alike, sings-alike}
 use Rattle.fux_text.proofs.Fits.{fits-alike, line-fits}
 use Rattle.fux_text.proofs.Layouts.{layout_of, left, lines-laid, lines_at}
 use Rattle.fux_text.proofs.OwnGivens.{given_words-lines, givens-own}
@@ -120,20 +120,12 @@ relax-other name (r ∷ rs) lines differs other = (
 small : (ex : Exercise) → IsValid ex → IsSmall (head_of ex)
 small ex valid = record { voices = valid.most_voices; bars = valid.most_bars }
 
-singable : (ex : Exercise) → IsValid ex → IsSingable ex
-singable ex valid = record {
+singable : (ex other : Exercise) → IsValid ex → IsSingable (alike ex other)
+singable ex other valid = record {
   fewest_voices = valid.fewest_voices;
   most_voices = valid.most_voices;
   some_bars = omega (arith, valid.fewest_bars);
   whole_cantus = valid.whole_cantus;
-}
-
-singable_head : (ex : Exercise) → IsSingable ex → IsSingable (head_of ex)
-singable_head ex can = record {
-  fewest_voices = can.fewest_voices;
-  most_voices = can.most_voices;
-  some_bars = can.some_bars;
-  whole_cantus = can.whole_cantus;
 }
 
 -- the cells of each voice of a setting that fits do so
@@ -202,7 +194,7 @@ note_text-read bytes ex t =
       relax.1,
       given.1,
       setting-own (line_fits (record (head_of ex) { given = ex.given })) (head_of ex) ex.setting after given.0 t.sung
-          (singable_head ex (singable ex t.valid))
+          (singable ex (head_of ex) t.valid)
           (sings-alike ex (head_of ex) t.sung ex.setting t.setting) (setting-fits ex ex.setting t.sung t.setting t.valid.setting_fits),
     ) (ap (λ (species : Option (List ℕ)). Ok (record ex { mixed = species })) (sym t.unmixed))
 
@@ -215,7 +207,7 @@ setting_lines-read ex bytes score valid t =
     let lay = layout_of (lines_from 1 bytes) in
     rw (
       text_in-words bytes (words_in bytes) t.short t.utf8 refl,
-      sung_score-own any_cells ex score after lay (words_in bytes) (singable ex valid) t.setting.0 (λ v there. refl)
+      sung_score-own any_cells ex score after lay (words_in bytes) (singable ex ex valid) t.setting.0 (λ v there. refl)
           t.setting.1,
     ) refl
 

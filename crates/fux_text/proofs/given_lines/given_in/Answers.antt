@@ -1,6 +1,6 @@
-use Rattle.std.proofs.Common.{List, [], length, Ok, sym, ap, ◌∙◌}
+use Rattle.std.proofs.Common.{List, length, Ok, sym, ap, ◌∙◌}
 use Rattle.std.proofs.lemmas.Result.{err_from_is_err_and}
-use Rattle.text_lines.specs.Rows.{row_in, run_in, told_beyond}
+use Rattle.text_lines.specs.Rows.{row_in, told_beyond}
 use Rattle.text_lines.specs.Words.{word_of, words_of}
 use Rattle.text_lines.proofs.Loops.{run-done, run-fail, run-more}
 use Rattle.fux_grid.specs.declared.given.Given.{Given}

@@ -1,11 +1,8 @@
-use Rattle.std.proofs.Common.{◌≡◌, [], true, false, Ok, codes, sym, subst, ◌∙◌}
+use Rattle.std.proofs.Common.{sym, ◌∙◌}
 use Rattle.std.proofs.lemmas.Result.{err_from_is_err_and}
-use Rattle.fux_text.specs.declared.fault.TextKind.TheVariants.{Head}
-use Rattle.text_lines.specs.Faults.{Fails}
 use Rattle.text_lines.specs.Lines.{lines_of}
-use Rattle.text_lines.specs.Tables.{goes_on, line_in, many_in}
 use Rattle.text_lines.proofs.Loops.{many-more, many-fail, many-all}
-use Rattle.fux_text.specs.GivenLines.{given_lines_of, given_row}
+use Rattle.fux_text.specs.GivenLines.{given_lines_of}
 use Rattle.fux_text.proofs.given_lines.given_lines_in.Goals as goal
 
 pub returns-in_err-line : goal.returns-in_err-line

@@ -1,8 +1,6 @@
-use Rattle.std.proofs.Common.{[], Ok, sym, ap, ◌∙◌}
+use Rattle.std.proofs.Common.{Ok, sym, ap, ◌∙◌}
 use Rattle.std.proofs.lemmas.Result.{err_from_is_err_and}
-use Rattle.text_lines.specs.Rows.{row_in}
 use Rattle.text_lines.specs.Words.{words_of}
-use Rattle.fux_text.specs.Head.{pitches_row}
 use Rattle.fux_text.proofs.HeadLoops.{pitches-more, pitches-fail, pitches-all, ends-fail}
 use Rattle.fux_text.proofs.head.pitches_in.Goals as goal
 

@@ -1,7 +1,6 @@
-use Rattle.std.proofs.Common.{◌≡◌, [], true, false, sym, subst, ◌∙◌}
+use Rattle.std.proofs.Common.{sym, ◌∙◌}
 use Rattle.std.proofs.lemmas.Result.{err_from_is_err_and}
 use Rattle.text_lines.specs.Lines.{lines_of}
-use Rattle.text_lines.specs.Tables.{goes_on, many_in}
 use Rattle.text_lines.proofs.Loops.{many-more, many-fail, many-all}
 use Rattle.fux_text.specs.Relaxing.{relax_lines_of}
 use Rattle.fux_text.proofs.relaxing.relaxes_in.Goals as goal

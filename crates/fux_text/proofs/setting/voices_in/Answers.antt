@@ -1,10 +1,6 @@
-use Rattle.std.proofs.Common.{[]}
-use Rattle.std.specs.List.{range_with_len}
 use Rattle.std.proofs.lemmas.Result.{err_from_is_err_and}
 use Rattle.text_lines.specs.Lines.{lines_of}
-use Rattle.text_lines.specs.Tables.{table_in}
 use Rattle.fux_text.specs.Fitting.{asks}
-use Rattle.fux_text.specs.Sing.{voices_table}
 use Rattle.fux_text.proofs.VoiceLoops.{voices-more, voices-fail, voices-all}
 use Rattle.fux_text.proofs.setting.voices_in.Goals as goal
 
