@@ -1,5 +1,5 @@
 -- Numbers that are read lie within their bounds.
-use Rattle.std.proofs.Common.{◌≡◌, ◌≢◌, ℕ, ◌-◌, ◌≤◌, Bool, true, false, List, Option, Some, None, refl, arith}
+use Rattle.std.proofs.Common.{◌≡◌, ◌≢◌, ℕ, zero, suc, ◌-◌, ◌^◌, ◌<◌, ◌≤◌, Bool, true, false, List, Option, Some, None, refl, arith}
 use Rattle.std.specs.Prelude.{◌==◌, ◌&&◌, nat_le, if◌then◌else◌}
 use Rattle.std.specs.Option.{option_and_then}
 use Rattle.std.proofs.lemmas.Bool.{leb-true}
@@ -57,3 +57,12 @@ pub other-bounds : (other voices : ℕ) (text : List ℕ) (v : ℕ) → other_vo
 other-bounds other voices text v e =
     other-voice other voices (number_within 0 (voices - 1) text) v e
     (λ n e. (within-bounds 0 (voices - 1) (number_of text) n e).below)
+
+-- the bits of a set of so few voices
+pub few-bits : (voices bits : ℕ) → voices ≤ 4 → bits < 2 ^ voices → bits ≤ 15
+few-bits zero bits few lt = omega (arith, lt)
+few-bits (suc zero) bits few lt = omega (arith, lt)
+few-bits (suc (suc zero)) bits few lt = omega (arith, lt)
+few-bits (suc (suc (suc zero))) bits few lt = omega (arith, lt)
+few-bits (suc (suc (suc (suc zero)))) bits few lt = omega (arith, lt)
+few-bits (suc (suc (suc (suc (suc n))))) bits few lt = absurd (omega (arith, few))

@@ -1,5 +1,5 @@
 -- The cells of each voice fit what is given just where those of a setting do (`score-fits`, `line-fits`).
-use Rattle.std.proofs.Common.{◌≡◌, ℕ, suc, ◌*◌, ◌<◌, Bool, true, false, List, [], ◌∷◌, get_or, length, map, Option, None, refl, sym, subst, ◌∙◌, arith}
+use Rattle.std.proofs.Common.{◌≡◌, ℕ, suc, ◌*◌, ◌<◌, Bool, true, false, List, [], ◌∷◌, get_or, length, map, None, refl, sym, subst, ◌∙◌, arith}
 use Rattle.std.specs.Prelude.{◌==◌, ◌&&◌, All, IsTrue, find}
 use Rattle.std.specs.List.{range_with_len}
 use Rattle.std.proofs.lemmas.Bool.{eqb-true, ne_eqb}
@@ -9,16 +9,14 @@ use Rattle.std.proofs.lemmas.List.Sums.{AllPass-from_list_all, list_all-from_All
 use Rattle.fux_grid.specs.declared.cell.Cell.{Cell}
 use Rattle.fux_grid.specs.declared.cell.Cell.TheVariants.{Rest}
 use Rattle.fux_grid.specs.declared.exercise.Exercise.{Exercise}
-use Rattle.fux_grid.specs.declared.exercise.RangeLine.{RangeLine}
-use Rattle.fux_grid.specs.declared.exercise.Relax.{Relax}
 use Rattle.fux_grid.specs.declared.given.GivenBar.{GivenBar}
 use Rattle.fux_grid.specs.Cells.{cell_in}
 use Rattle.fux_grid.specs.Columns.{line}
 use Rattle.fux_grid.specs.Exercises.{FitsGiven, IsGivenBar, bar_of, given_at}
 use Rattle.fux_grid.specs.Givens.{fits}
-use Rattle.fux_grid.specs.Grid.{Grid}
 use Rattle.fux_grid.proofs.GivenLemmas.{given_at-none}
 use Rattle.fux_text.specs.Fitting.{line_fits}
+use Rattle.fux_text.proofs.Alike.{alike}
 use Rattle.voice_lines.specs.Lines.{column_of, score_of}
 use Rattle.voice_lines.proofs.Scores.{column-cell}
 
@@ -86,18 +84,7 @@ line-fits ex v columns long there all =
 
 -- ---- what fits hangs on the notes that are given, on the voices and on the bars alone
 
-pub fits-whole : (head : Exercise) (ranges : List RangeLine) (relax : List Relax) (given : List GivenBar)
-    (o : Option Grid) (columns : List (List Cell)) → FitsGiven (record head { given = given }) columns
-    → FitsGiven (record head { ranges = ranges; relax = relax; given = given; setting = o }) columns
+pub fits-alike : (ex other : Exercise) (columns : List (List Cell)) → FitsGiven ex columns
+    → FitsGiven (alike ex (record other { given = ex.given })) columns
 unfolding given_at
-fits-whole head ranges relax given o columns all = λ i v lt there. all i v lt there
-
-pub fits-with : (ex : Exercise) (o : Option Grid) (columns : List (List Cell)) → FitsGiven ex columns
-    → FitsGiven (record ex { setting = o }) columns
-unfolding given_at
-fits-with ex o columns all = λ i v lt there. all i v lt there
-
-pub fits-bare : (ex : Exercise) (columns : List (List Cell)) → FitsGiven ex columns
-    → FitsGiven (record ex { mixed = None; ranges = []; relax = []; setting = None }) columns
-unfolding given_at
-fits-bare ex columns all = λ i v lt there. all i v lt there
+fits-alike ex other columns all = λ i v lt there. all i v lt there

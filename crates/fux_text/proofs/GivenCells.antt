@@ -8,6 +8,7 @@ use Rattle.std.specs.Option.{ok_or}
 use Rattle.std.proofs.lemmas.Bool.{and_left, and_right, eq-eqb, eqb-true, not-false}
 use Rattle.std.proofs.lemmas.List.{append-nil}
 use Rattle.std.proofs.lemmas.List.Sums.{sum_by-cons}
+use Rattle.fux_pitch.specs.declared.pitch.Pitch.{Pitch}
 use Rattle.fux_pitch.specs.Names.{name_of}
 use Rattle.fux_pitch.proofs.NameLemmas.{name_of-length, name_of-passes}
 use Rattle.fux_pitch.proofs.PitchLemmas.{equal_from_test}
@@ -38,67 +39,54 @@ use Rattle.fux_text.proofs.OwnItems.{item_named-own, item_parts-own, shorter}
 
 -- ---- runs of cells that are given
 
-pub given-through : GoesThrough given_goes_on
-given-through Blank Blank x e = refl
-given-through Blank Rest x e = absurd (grind (arith, e))
-given-through Blank Tied x e = absurd (grind (arith, e))
-given-through Blank (Hold p) x e = absurd (grind (arith, e))
-given-through Blank (Start p) x e = absurd (grind (arith, e))
-given-through Rest Blank x e = absurd (grind (arith, e))
-given-through Rest Rest x e = refl
-given-through Rest Tied x e = absurd (grind (arith, e))
-given-through Rest (Hold p) x e = absurd (grind (arith, e))
-given-through Rest (Start p) x e = absurd (grind (arith, e))
-given-through Tied Blank x e = absurd (grind (arith, e))
-given-through Tied Rest x e = absurd (grind (arith, e))
-given-through Tied Tied x e = refl
-given-through Tied (Hold p) x e = absurd (grind (arith, e))
-given-through Tied (Start p) x e = absurd (grind (arith, e))
-given-through (Hold q) Blank x e = absurd (grind (arith, e))
-given-through (Hold q) Rest x e = absurd (grind (arith, e))
-given-through (Hold q) Tied x e = absurd (grind (arith, e))
-given-through (Hold q) (Hold p) Blank e = refl
-given-through (Hold q) (Hold p) Rest e = refl
-given-through (Hold q) (Hold p) Tied e = refl
-given-through (Hold q) (Hold p) (Hold x) e = refl
-given-through (Hold q) (Hold p) (Start x) e = refl
-given-through (Hold q) (Start p) x e = absurd (grind (arith, e))
-given-through (Start q) Blank x e = absurd (grind (arith, e))
-given-through (Start q) Rest x e = absurd (grind (arith, e))
-given-through (Start q) Tied x e = absurd (grind (arith, e))
-given-through (Start q) (Hold p) Blank e = refl
-given-through (Start q) (Hold p) Rest e = refl
-given-through (Start q) (Hold p) Tied e = refl
-given-through (Start q) (Hold p) (Hold x) e = refl
-given-through (Start q) (Hold p) (Start x) e = refl
-given-through (Start q) (Start p) x e = absurd (grind (arith, e))
+held-same : (p q : Pitch) (x : Given) → given_goes_on (Hold p) x ≡ given_goes_on (Hold q) x
+held-same p q Blank = refl
+held-same p q Rest = refl
+held-same p q Tied = refl
+held-same p q (Hold r) = refl
+held-same p q (Start r) = refl
 
-given-held_next : (c d : Given) → given_goes_on c d ≡ true → IsTrue (given_follows c d) → d ≡ given_held c
-given-held_next Blank Blank e h = refl
-given-held_next Blank Rest e h = absurd (grind (arith, e))
-given-held_next Blank Tied e h = absurd (grind (arith, e))
-given-held_next Blank (Hold p) e h = absurd (grind (arith, e))
-given-held_next Blank (Start p) e h = absurd (grind (arith, e))
-given-held_next Rest Blank e h = absurd (grind (arith, e))
-given-held_next Rest Rest e h = refl
-given-held_next Rest Tied e h = absurd (grind (arith, e))
-given-held_next Rest (Hold p) e h = absurd (grind (arith, e))
-given-held_next Rest (Start p) e h = absurd (grind (arith, e))
-given-held_next Tied Blank e h = absurd (grind (arith, e))
-given-held_next Tied Rest e h = absurd (grind (arith, e))
-given-held_next Tied Tied e h = refl
-given-held_next Tied (Hold p) e h = absurd (grind (arith, e))
-given-held_next Tied (Start p) e h = absurd (grind (arith, e))
-given-held_next (Hold q) Blank e h = absurd (grind (arith, e))
-given-held_next (Hold q) Rest e h = absurd (grind (arith, e))
-given-held_next (Hold q) Tied e h = absurd (grind (arith, e))
-given-held_next (Hold q) (Hold p) e h = ap Hold (sym (equal_from_test q p h))
-given-held_next (Hold q) (Start p) e h = absurd (grind (arith, e))
-given-held_next (Start q) Blank e h = absurd (grind (arith, e))
-given-held_next (Start q) Rest e h = absurd (grind (arith, e))
-given-held_next (Start q) Tied e h = absurd (grind (arith, e))
-given-held_next (Start q) (Hold p) e h = ap Hold (sym (equal_from_test q p h))
-given-held_next (Start q) (Start p) e h = absurd (grind (arith, e))
+start-same : (p q : Pitch) (x : Given) → given_goes_on (Hold p) x ≡ given_goes_on (Start q) x
+start-same p q Blank = refl
+start-same p q Rest = refl
+start-same p q Tied = refl
+start-same p q (Hold r) = refl
+start-same p q (Start r) = refl
+
+-- what goes on with a cell goes on with the same ones as that, and is what is held of it where it follows it
+abbrev GoesOnAs : Given → Given → Type 0
+GoesOnAs c d =
+    ((x : Given) → given_goes_on d x ≡ given_goes_on c x) × (IsTrue (given_follows c d) → d ≡ given_held c)
+
+given-on : (c d : Given) → given_goes_on c d ≡ true → GoesOnAs c d
+given-on Blank Blank e = ((λ x. refl), (λ h. refl))
+given-on Rest Rest e = ((λ x. refl), (λ h. refl))
+given-on Tied Tied e = ((λ x. refl), (λ h. refl))
+given-on (Hold q) (Hold p) e = ((λ x. held-same p q x), (λ h. ap Hold (sym (equal_from_test q p h))))
+given-on (Start q) (Hold p) e = ((λ x. start-same p q x), (λ h. ap Hold (sym (equal_from_test q p h))))
+given-on Blank Rest e = absurd (grind (arith, e))
+given-on Blank Tied e = absurd (grind (arith, e))
+given-on Blank (Hold p) e = absurd (grind (arith, e))
+given-on Blank (Start p) e = absurd (grind (arith, e))
+given-on Rest Blank e = absurd (grind (arith, e))
+given-on Rest Tied e = absurd (grind (arith, e))
+given-on Rest (Hold p) e = absurd (grind (arith, e))
+given-on Rest (Start p) e = absurd (grind (arith, e))
+given-on Tied Blank e = absurd (grind (arith, e))
+given-on Tied Rest e = absurd (grind (arith, e))
+given-on Tied (Hold p) e = absurd (grind (arith, e))
+given-on Tied (Start p) e = absurd (grind (arith, e))
+given-on (Hold q) Blank e = absurd (grind (arith, e))
+given-on (Hold q) Rest e = absurd (grind (arith, e))
+given-on (Hold q) Tied e = absurd (grind (arith, e))
+given-on (Hold q) (Start p) e = absurd (grind (arith, e))
+given-on (Start q) Blank e = absurd (grind (arith, e))
+given-on (Start q) Rest e = absurd (grind (arith, e))
+given-on (Start q) Tied e = absurd (grind (arith, e))
+given-on (Start q) (Start p) e = absurd (grind (arith, e))
+
+pub given-through : GoesThrough given_goes_on
+given-through c d x e = (given-on c d e).0 x
 
 -- within a bar, what doesn't go on with the cell before it begins an item
 given-begins : (c d : Given) → given_goes_on c d ≡ false → IsTrue (given_follows c d) → is_tied d ≡ false
@@ -132,7 +120,7 @@ given-from_held (Start p) (Start q ∷ ds) f = f
 given-runs : AreRuns given_goes_on given_held is_tied FollowOn
 given-runs = record {
   through = given-through;
-  held_next = λ c d ds e f. given-held_next c d e f.0;
+  held_next = λ c d ds e f. (given-on c d e).1 f.0;
   begins = λ c d ds e f. given-begins c d e f.0;
   later = λ c d ds f. f.1;
   from_held = given-from_held;

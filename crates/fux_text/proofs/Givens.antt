@@ -1,14 +1,14 @@
 -- `given` lines that are read have the words of such lines, and are of bars of the exercise, which ascend (`givens-read`);
 -- they stand in the newest version alone (`givens-version`).
-use Rattle.std.proofs.Common.{◌≡◌, inl, inr, ℕ, ◌<◌, ◌≤◌, Bool, true, false, List, [], ◌∷◌, ◌++◌, get_or, length, length-append, Option, Some, None, refl, sym, ap, subst, ◌∙◌, append_assoc, arith}
+use Rattle.std.proofs.Common.{◌≡◌, inl, inr, ℕ, ◌≤◌, Bool, true, false, List, [], ◌∷◌, ◌++◌, get_or, Option, Some, None, refl, sym, ap, subst, ◌∙◌, append_assoc, arith}
 use Rattle.std.specs.Prelude.{◌==◌, ◌&&◌, ◌||◌, All, AllPairs, codes, nat_lt, if◌then◌else◌}
 use Rattle.std.specs.Fmt.{decimal}
 use Rattle.std.specs.Option.{option_and_then}
 use Rattle.std.proofs.lemmas.Bool.{and_parts, cases_lt, eqb-true, ltb-true, or_cases}
-use Rattle.std.proofs.lemmas.List.{append-nil, get_or_append_left}
-use Rattle.std.proofs.lemmas.List.Elements.{All-append}
+use Rattle.std.proofs.lemmas.List.{append-nil}
+use Rattle.std.proofs.lemmas.List.Elements.{All-push}
+use Rattle.std.proofs.lemmas.List.Quantifiers.{all_pairs_push}
 use Rattle.std.proofs.lemmas.List.Sums.{AllPass-from_list_all}
-use Rattle.std.proofs.Math.Seq.{get_or-append_seam}
 use Rattle.fux_grid.specs.declared.exercise.Exercise.{Exercise}
 use Rattle.fux_grid.specs.declared.given.GivenBar.{GivenBar}
 use Rattle.fux_grid.specs.Exercises.{IsGivenBar}
@@ -122,33 +122,15 @@ earlier-tested one other e =
           inr (eqb-true one.voice other.voice p.0, ltb-true one.bar other.bar p.1)
     ]
 
-one-given : (ex : Exercise) (line : GivenBar) → IsGivenBar ex line → All (IsGivenBar ex) (line ∷ [])
-one-given ex line one = λ k d lt.
-    let first : 0 ≡ k = omega arith in
-    subst (λ n. IsGivenBar ex (get_or (line ∷ []) n d)) first one
-
 givens-push : (ex : Exercise) (before : List GivenBar) (line : GivenBar) → AreGivens ex before → IsGivenBar ex line
     → comes_behind before line.voice line.bar ≡ true → AreGivens ex (before ++ line ∷ [])
 givens-push ex before line so_far one behind = record {
-  fit = All-append (IsGivenBar ex) before (line ∷ []) so_far.fit (one-given ex line one);
-  ascend = λ i j d lt within. elim (cases_lt j (length before)) [
-    | inl old ↦
-        subst (λ x. IsEarlier x (get_or (before ++ line ∷ []) j d))
-        (sym (get_or_append_left before (line ∷ []) d i (omega (arith, lt, old))))
-        (subst (IsEarlier (get_or before i d)) (sym (get_or_append_left before (line ∷ []) d j old))
-        (so_far.ascend i j d lt old))
-    | inr new ↦
-        let last : length before ≡ j = omega (arith, new, within, length-append before (line ∷ [])) in
-        let there : i < length before = omega (arith, lt, last) in
-        let tested = AllPass-from_list_all
-        (λ other. nat_lt other.voice line.voice || ((other.voice == line.voice) && nat_lt other.bar line.bar)) before
-        behind i d there in
-        subst (λ x. IsEarlier x (get_or (before ++ line ∷ []) j d))
-        (sym (get_or_append_left before (line ∷ []) d i there))
-        (subst (IsEarlier (get_or before i d))
-        (sym (get_or-append_seam before line [] d) ∙ ap (λ k. get_or (before ++ line ∷ []) k d) last)
-        (earlier-tested (get_or before i d) line tested))
-  ];
+  fit = All-push (IsGivenBar ex) before line so_far.fit one;
+  ascend = all_pairs_push IsEarlier before line so_far.ascend
+      (λ k d lt. earlier-tested (get_or before k d) line
+      (AllPass-from_list_all
+      (λ other. nat_lt other.voice line.voice || ((other.voice == line.voice) && nat_lt other.bar line.bar)) before
+      behind k d lt));
 }
 
 -- what is read of lines behind those before

@@ -1,6 +1,7 @@
 -- The items of cells of any kind have these cells (`run-items`), where what goes on with a cell is what is held of it.
-use Rattle.std.proofs.Common.{◌≡◌, ℕ, zero, suc, ◌+◌, ◌-◌, ◌≤◌, Bool, true, false, List, [], ◌∷◌, ◌++◌, length, replicate, take, drop, refl, sym, ap, subst, ◌∙◌, arith}
+use Rattle.std.proofs.Common.{◌≡◌, ℕ, zero, suc, ◌+◌, ◌-◌, ◌≤◌, Bool, true, false, List, [], ◌∷◌, ◌++◌, length, replicate, take, drop, refl, sym, ap, subst, ◌∙◌, append_assoc, arith}
 use Rattle.std.specs.List.{AllByRecursion, flat_map, sum_by}
+use Rattle.std.proofs.lemmas.List.{replicate_more}
 use Rattle.std.proofs.lemmas.List.Sums.{sum_by-cons}
 use Rattle.fux_text.specs.Items.{items_by, with_run_by}
 use Rattle.fux_text.proofs.ItemLemmas.{GoesThrough, with_run-broken, with_run-longer}
@@ -35,6 +36,14 @@ pub record ItemsOfRun {C : Type 0} (held : C → C) (ties : C → Bool) (c : C) 
 replicate-more : {C : Type 0} (k : ℕ) (x : C) (ys : List C) → replicate (suc k) x ++ ys ≡ replicate k x ++ x ∷ ys
 replicate-more zero x ys = refl
 replicate-more (suc k) x ys = ap (λ more. x ∷ more) (replicate-more k x ys)
+
+-- one more cell that goes on with a run
+pub run-longer : {C : Type 0} (before : List C) (first next : C) (n : ℕ) → 1 ≤ n
+    → (before ++ first ∷ replicate (n - 1) next) ++ next ∷ [] ≡ before ++ first ∷ replicate (n + 1 - 1) next
+run-longer before first next n some =
+    let more : n + 1 - 1 ≡ n - 1 + 1 = omega (arith, some) in
+    append_assoc before (first ∷ replicate (n - 1) next) (next ∷ [])
+    ∙ ap (λ cells. before ++ (first ∷ cells)) (replicate_more (n - 1) next ∙ ap (λ k. replicate k next) (sym more))
 
 run_cells : {C : Type 0} (held : C → C) (c : C) (m : ℕ) → c ∷ replicate (suc m - 1) (held c) ≡ run_by held c m
 run_cells held c m = let less : suc m - 1 ≡ m = omega arith in ap (λ k. c ∷ replicate k (held c)) less

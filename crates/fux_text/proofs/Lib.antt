@@ -34,6 +34,8 @@ pub mod PlainLines
 pub mod GivenCells
 pub mod Givens
 pub mod OwnGivens
+pub mod Alike
+pub mod OwnLines
 pub mod Fits
 pub mod OwnText
 pub mod OnlyHead

@@ -1,23 +1,17 @@
--- A word names one thing at most, and each thing is found by its name (`by_name`, `all_modes`, `all_pitches`).
+-- A word names one thing at most, and each thing is found by its name (`by_name`, `all_pitches`).
 use Rattle.std.proofs.Common.{◌≡◌, ℕ, zero, suc, ◌+◌, ◌<◌, ◌≤◌, ℤ, pos, negsuc, ◌≤ℤ◌, ◌⊎◌, inl, inr, Bool, true, false, List, [], ◌∷◌, ◌++◌, Option, Some, None, refl, sym, ap, ◌∙◌, subst, arith}
 use Rattle.std.specs.Prelude.{IfSome, if◌then◌else◌}
 use Rattle.std.specs.Cmp.Lexicographic as texts
 use Rattle.std.specs.List.{filter_map, flat_map, range_with_len, cons_option}
 use Rattle.std.proofs.lemmas.Int.{ints}
 use Rattle.text_lines.specs.Reading.{same_text}
-use Rattle.fux_pitch.specs.declared.mode.Mode.{Mode}
-use Rattle.fux_pitch.specs.declared.mode.Mode.TheVariants.{Dorian, Phrygian, Lydian, Mixolydian, Aeolian, Ionian}
 use Rattle.fux_pitch.specs.declared.pitch.Pitch.{Pitch}
 use Rattle.fux_pitch.specs.Pitch.{pitch_at, degree_of, alter_of}
 use Rattle.fux_pitch.proofs.NameParts.{octave-range}
 use Rattle.fux_pitch.proofs.PitchLemmas.{pitch_at-own}
-use Rattle.fux_text.specs.Names.{modes, named, pitches, pitches_on}
+use Rattle.fux_text.specs.Names.{named, pitches, pitches_on}
 
 -- two texts are one where the test says so, and only there
-same_true : (xs ys : List ℕ) (b : Bool) → same_text xs ys ≡ b → b ≡ true → xs ≡ ys
-same_true xs ys true e h = texts.same_text xs ys (sym e)
-same_true xs ys false e h = grind arith
-
 pub same_from : (xs ys : List ℕ) → xs ≡ ys → same_text xs ys ≡ true
 same_from xs ys h = by (same_text xs ys) refl
   where
@@ -26,7 +20,7 @@ same_from xs ys h = by (same_text xs ys) refl
     by false e = absurd (texts.other_text xs ys (sym e) h)
 
 pub text_from : (xs ys : List ℕ) → same_text xs ys ≡ true → xs ≡ ys
-text_from xs ys e = same_true xs ys (same_text xs ys) refl e
+text_from xs ys e = texts.same_text xs ys (sym e)
 
 -- the element is in the list
 unfoldable pub Has : {A : Type 0} → List A → A → Type 0
@@ -117,15 +111,6 @@ named-own {A = A} name xs x has only = by (named name xs (name x)) refl
     by : (found : Option A) → named name xs (name x) ≡ found → found ≡ Some x
     by (Some y) e = ap Some (only y (found_name name xs (name x) y e))
     by None e = absurd (found_some name xs (name x) x refl has e)
-
-pub all_modes : (m : Mode) → Has modes m
-unfolding Has
-all_modes Dorian = inl refl
-all_modes Phrygian = inr (inl refl)
-all_modes Lydian = inr (inr (inl refl))
-all_modes Mixolydian = inr (inr (inr (inl refl)))
-all_modes Aeolian = inr (inr (inr (inr (inl refl))))
-all_modes Ionian = inr (inr (inr (inr (inr (inl refl)))))
 
 has_alter : (alter : ℤ) → negsuc 0 ≤ℤ alter → alter ≤ℤ pos 1 → Has (negsuc 0 ∷ pos 0 ∷ pos 1 ∷ []) alter
 unfolding Has

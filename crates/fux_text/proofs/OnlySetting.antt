@@ -15,32 +15,16 @@ use Rattle.text_lines.specs.Lines.{TextLines}
 use Rattle.text_lines.specs.Tables.{IsTable}
 use Rattle.fux_text.specs.Grammar.{AreSung, IsSettingOf, IsSung, Sings}
 use Rattle.fux_text.specs.Lines.{free_voices}
-use Rattle.fux_text.specs.Sing.{Fit, cantus_or_sung, setting_table, sung_table, voice_table, voices_table}
+use Rattle.fux_text.specs.Sing.{Fit, setting_table, sung_table, voices_table}
 use Rattle.fux_text.proofs.Following.{voices-follow, voices-length}
-use Rattle.fux_text.proofs.OnlySing.{IsLineFor, sing_line-only, sung-length}
+use Rattle.fux_text.proofs.OnlySing.{sung-length}
 use Rattle.fux_text.proofs.OnlyWords.{line_texts, no-lines}
 use Rattle.fux_text.proofs.OwnSetting.{free-cantus, free-other, free_of}
-use Rattle.fux_text.proofs.ValidSetting.{get_or-end, score-given, voices-keep}
+use Rattle.fux_text.proofs.ValidSetting.{get_or-end, score-given, voice-cantus, voice-line, voices-keep}
 use Rattle.voice_lines.specs.Lines.{LineFollows, column_of, score_of}
 use Rattle.voice_lines.proofs.Scores.{columns_follow, line_of_score}
 
 -- ---- the voices
-
-pub cantus-only : (fit : Fit) (ex : Exercise) (v : ℕ) (text : TextLines) (x : List Cell) (rest : TextLines)
-    → (v == ex.cantus_voice) ≡ true → IsTable (voice_table fit ex v) text x rest → text ≡ rest
-cantus-only fit ex v text x rest same h = by (v == ex.cantus_voice) same h
-  where
-    by : (b : Bool) → b ≡ true → IsTable (cantus_or_sung fit ex v b) text x rest → text ≡ rest
-    by true f h = h.1
-    by false f h = absurd (grind (arith, f))
-
-other-only : (fit : Fit) (ex : Exercise) (v : ℕ) (text : TextLines) (x : List Cell) (rest : TextLines)
-    → (v == ex.cantus_voice) ≡ false → IsTable (voice_table fit ex v) text x rest → IsLineFor (fit v) ex.bars v text x rest
-other-only fit ex v text x rest other h = by (v == ex.cantus_voice) other h
-  where
-    by : (b : Bool) → b ≡ false → IsTable (cantus_or_sung fit ex v b) text x rest → IsLineFor (fit v) ex.bars v text x rest
-    by true f h = absurd (grind (arith, f))
-    by false f h = sing_line-only (fit v) ex.bars v text x rest h
 
 -- the lines of the free ones of so many voices
 record HaveLines (ex : Exercise) (a n : ℕ) (text : TextLines) (x : List (List Cell)) (rest : TextLines) : Type 0 where
@@ -68,11 +52,11 @@ voices-only fit ex (suc n) a before text x rest long (cells, b, voice, others) =
         → HaveLines ex a (suc n) text x rest
     by true f own later = record {
       words = later.words;
-      lines = ap line_texts (cantus-only fit ex a text cells b f voice) ∙ later.lines;
+      lines = ap line_texts (voice-cantus fit ex a text cells b f voice).1 ∙ later.lines;
       sung = subst (λ vs. Sung vs later.words) (sym (free-cantus ex a n f)) later.sung;
     }
     by false f own later =
-        let l = other-only fit ex a text cells b f voice in
+        let l = voice-line fit ex a text cells b f voice in
         record {
           words = l.words ∷ later.words;
           lines = l.line ∙ ap (λ ls. l.words ∷ ls) later.lines;

@@ -16,6 +16,7 @@ use Rattle.fux_text.specs.Lines.{cantus_words, head_lines, lines_before_given, r
 use Rattle.fux_text.specs.Reading.{exercise_in, note_format, note_table, setting_alone}
 use Rattle.fux_text.specs.Sing.{sung_table}
 use Rattle.fux_text.specs.Words.{words_in}
+use Rattle.fux_text.proofs.Alike.{sings-alike}
 use Rattle.fux_text.proofs.Givens.{givens-read, givens-version}
 use Rattle.fux_text.proofs.OnlyHead.{head-only, version-only}
 use Rattle.fux_text.proofs.OnlyRanges.{ranges-only, relaxes-only}
@@ -39,24 +40,6 @@ all_lines version head ranges relax given o more =
     let front = version_words version ∷ head_lines head in
     sym (append_assoc (front ++ cantus_words head ∷ map range_words ranges) (map relax_words relax) more
     ∙ append_assoc front (cantus_words head ∷ map range_words ranges) (map relax_words relax ++ more))
-
-sings_whole : (head : Exercise) (ranges : List RangeLine) (relax : List Relax) (given : List GivenBar)
-    (setting : Option Grid) (lines : List (List (List ℕ)))
-    (o : Option Grid) → Sings head lines o → Sings
-    (record head { ranges = ranges; relax = relax; given = given; setting = setting }) lines o
-sings_whole head ranges relax given setting lines None sings = sings
-sings_whole head ranges relax given setting lines (Some score) sings =
-    let s = sings.0 in (
-      record {
-        given = record {
-          complete = record { voices = s.given.complete.voices; whole = s.given.complete.whole };
-          cantus = s.given.cantus;
-        };
-        full = s.full;
-        follows = s.follows;
-      },
-      sings.1,
-    )
 
 -- the lines of an exercise, of what it gives and of its setting
 record HasLines (text : TextLines) (ex : Exercise) : Type 0 where
@@ -90,7 +73,7 @@ lines-only text ex rest
       newer = givens-version version head c given d (version-bounds text version v vs) gs;
       given = read.given;
       unmixed = ok.unmixed;
-      setting = sings_whole head ranges relax given setting sung setting
+      setting = sings-alike head (record head { ranges = ranges; relax = relax; given = given; setting = setting }) sung setting
           (setting-only (line_fits (record head { given = given })) head d setting e ok.cantus_there ok.whole sg);
     })
 

@@ -4,8 +4,8 @@ use Rattle.std.proofs.Common.{◌≡◌, ◌⊎◌, inl, inr, ℕ, suc, ◌+◌,
 use Rattle.std.specs.Prelude.{◌==◌, ◌&&◌, ◌||◌, All, AllPairs, codes, nat_lt}
 use Rattle.std.specs.Fmt.{decimal}
 use Rattle.std.specs.Option.{option_and_then}
-use Rattle.std.proofs.lemmas.Bool.{and_from, and_right, eq-eqb, lt-ltb, or_left, or_right}
-use Rattle.std.proofs.lemmas.List.{append-nil, get_or_append_left}
+use Rattle.std.proofs.lemmas.Bool.{and_from, eq-eqb, lt-ltb, or_left, or_right}
+use Rattle.std.proofs.lemmas.List.{get_or_append_left}
 use Rattle.std.proofs.lemmas.List.Sums.{list_all-from_AllPass}
 use Rattle.std.proofs.Math.Seq.{get_or-append_seam}
 use Rattle.fux_grid.specs.declared.exercise.Exercise.{Exercise}
@@ -15,7 +15,7 @@ use Rattle.fux_grid.specs.Givens.{IsEarlier}
 use Rattle.fux_text.specs.declared.fault.TextKind.TheVariants as kinds
 use Rattle.text_lines.specs.Reading.{begins, headed, literal, next}
 use Rattle.text_lines.specs.Rows.{IsRun, row_in}
-use Rattle.text_lines.specs.Tables.{Table, line_in, many_in, table_in}
+use Rattle.text_lines.specs.Tables.{Table, line_in, table_in}
 use Rattle.text_lines.specs.Words.{LineWords}
 use Rattle.text_lines.proofs.RowLemmas.{run-gives}
 use Rattle.fux_text.specs.Grammar.{AreGivenLines, IsGivenLine, IsVersionFor}
@@ -27,6 +27,7 @@ use Rattle.fux_text.proofs.GivenCells.{bar_given-own}
 use Rattle.fux_text.proofs.Layouts.{at_words, left, lines_at, places_of, set_out-texts, with_line}
 use Rattle.fux_text.proofs.NumberWords.{within-own}
 use Rattle.fux_text.proofs.OwnHead.{other_voice-own}
+use Rattle.fux_text.proofs.OwnLines.{AreRead, many-own}
 use Rattle.fux_text.proofs.OwnRanges.{IsSmall}
 
 -- ---- a line
@@ -94,42 +95,25 @@ begins_given line words after l others g =
 
 -- ---- the lines, one behind the other
 
-givens_on-own : (version : ℕ) (ex : Exercise) (lines : List GivenBar) (fixed : List (List (List ℕ)))
-    (before : List GivenBar) (after : ℕ) (lay : ℕ → LineWords) (more : List (List (List ℕ)))
+givens-read : (version : ℕ) (ex : Exercise) (after : ℕ) (lines before : List GivenBar) (fixed : List (List (List ℕ)))
     → IsSmall ex → All (IsGivenBar ex) lines → AllPairs IsEarlier (before ++ lines) → AreGivenLines fixed lines
-    → (lines ≡ []) ⊎ (version ≡ newest_version)
-    → ((other : ℕ → LineWords) → begins (codes "given") (left after (lines_at other more)) ≡ false)
-    → (behind : ℕ → LineWords) ×
-    (many_in (given_lines_of version ex) before after (lines_at lay (fixed ++ more))
-    ≡ Ok (before ++ lines, left after (lines_at behind more)))
-unfolding many_in
-givens_on-own version ex [] [] before after lay [] small fit ascend are newer other =
-    (lay, ap (λ found. Ok (found, left after [])) (sym (append-nil before)))
-givens_on-own version ex [] [] before after lay (ws ∷ more) small fit ascend are newer other = (
-  lay,
-  rw (and_right (version == newest_version) (begins (codes "given") (left after (lines_at lay (ws ∷ more))))
-      (other lay))
-      (ap (λ found. Ok (found, left after (lines_at lay (ws ∷ more)))) (sym (append-nil before))),
-)
-givens_on-own version ex [] (words ∷ fixed) before after lay more small fit ascend are newer other = absurd are
-givens_on-own version ex (line ∷ lines) [] before after lay more small fit ascend are newer other = absurd are
-givens_on-own version ex (line ∷ lines) (words ∷ fixed) before after lay more small fit ascend are newer other =
+    → (lines ≡ []) ⊎ (version ≡ newest_version) → AreRead (given_lines_of version ex) after before lines fixed
+givens-read version ex after [] before [] small fit ascend are newer = tt
+givens-read version ex after [] before (words ∷ fixed) small fit ascend are newer = absurd are
+givens-read version ex after (line ∷ lines) before [] small fit ascend are newer = absurd are
+givens-read version ex after (line ∷ lines) before (words ∷ fixed) small fit ascend are newer =
     let second : version ≡ newest_version = elim newer [
       | inl none ↦ absurd (omega (arith, ap length none))
       | inr e ↦ e
-    ] in
-    let rest = givens_on-own version ex lines fixed (before ++ line ∷ []) after (λ k. lay (suc k)) more small
-    (λ k d lt. fit (suc k) d (omega arith))
-    (subst (AllPairs IsEarlier) (sym (append_assoc before (line ∷ []) lines)) ascend) are.1 (inr second) other in
-    let others = lines_at (λ k. lay (suc k)) (fixed ++ more) in (
-      rest.0,
-      rw (
-        eq-eqb version newest_version second,
-        begins_given line words after (lay 0) others are.0,
-        given_line-own ex before line words after (lay 0) others small (fit 0 line (omega arith))
-            (behind-own before line lines ascend) are.0,
-      )
-          (rest.1 ∙ ap (λ found. Ok (found, left after (lines_at rest.0 more))) (append_assoc before (line ∷ []) lines)),
+    ] in (
+      (λ l others.
+          and_from (version == newest_version) (begins (codes "given") (with_line after l words others))
+          (eq-eqb version newest_version second) (begins_given line words after l others are.0)),
+      (λ l others.
+          given_line-own ex before line words after l others small (fit 0 line (omega arith))
+          (behind-own before line lines ascend) are.0),
+      givens-read version ex after lines (before ++ line ∷ []) fixed small (λ k d lt. fit (suc k) d (omega arith))
+          (subst (AllPairs IsEarlier) (sym (append_assoc before (line ∷ []) lines)) ascend) are.1 (inr second),
     )
 
 pub givens-own : (version : ℕ) (ex : Exercise) (lines : List GivenBar) (fixed : List (List (List ℕ))) (after : ℕ)
@@ -142,8 +126,9 @@ pub givens-own : (version : ℕ) (ex : Exercise) (lines : List GivenBar) (fixed 
     ≡ Ok (lines, left after (lines_at behind more)))
 unfolding table_in
 givens-own version ex lines fixed after lay more small fit ascend are newer other =
-    givens_on-own version ex lines fixed [] after lay more small fit ascend are
-    (elim newer [ inl (one, none) ↦ inl none | inr second ↦ inr second ]) other
+    many-own (given_lines_of version ex) after [] lines fixed lay more
+    (givens-read version ex after lines [] fixed small fit ascend are
+    (elim newer [ inl (one, none) ↦ inl none | inr second ↦ inr second ])) other
 
 -- ---- the lines that are written
 

@@ -1,10 +1,9 @@
 -- The range lines of a valid exercise are read back (`ranges-own`).
-use Rattle.std.proofs.Common.{◌≡◌, ◌≢◌, ℕ, suc, ◌+◌, ◌<◌, ◌≤◌, ◌≤ℤ◌, Bool, true, false, List, [], ◌∷◌, ◌++◌, get_or, map, Option, Some, None, Ok, refl, sym, ap, subst, ◌∙◌, append_assoc, arith}
-use Rattle.std.specs.Prelude.{◌==◌, ◌||◌, All, codes, int_lt, IfSome, IsSome, ⊤}
+use Rattle.std.proofs.Common.{◌≡◌, ℕ, suc, ◌<◌, ◌≤◌, ◌≤ℤ◌, Bool, true, false, List, [], ◌∷◌, ◌++◌, get_or, map, Option, Some, None, Ok, refl, sym, ap, subst, ◌∙◌, append_assoc, arith}
+use Rattle.std.specs.Prelude.{◌==◌, ◌||◌, All, codes, int_lt, IfSome, IsSome, is_some}
 use Rattle.std.specs.Fmt.{decimal}
 use Rattle.std.specs.List.{range_with_len}
 use Rattle.std.proofs.lemmas.Int.{ints}
-use Rattle.std.proofs.lemmas.List.{append-nil}
 use Rattle.std.proofs.lemmas.List.Elements.{filter-append}
 use Rattle.std.proofs.lemmas.List.FromFn.{get_or-range_with_len, length-range_with_len}
 use Rattle.std.proofs.lemmas.List.Sums.{list_all-from_AllPass}
@@ -17,21 +16,17 @@ use Rattle.fux_grid.specs.Exercises.{BeginsWithWhole, IsFree, IsRangeLine, range
 use Rattle.fux_text.specs.declared.fault.TextKind.TheVariants as kinds
 use Rattle.text_lines.specs.Reading.{begins, done, headed, literal, next}
 use Rattle.text_lines.specs.Rows.{row_in}
-use Rattle.text_lines.specs.Tables.{line_in, many_in, table_in}
-use Rattle.text_lines.specs.Words.{LineWords, PlacedWord}
+use Rattle.text_lines.specs.Tables.{line_in, table_in}
+use Rattle.text_lines.specs.Words.{LineWords}
+use Rattle.fux_text.specs.Head.{other_voice}
 use Rattle.fux_text.specs.Lines.{bars_words, range_words}
 use Rattle.fux_text.specs.Ranges.{all_ranged, has_line, misfits, range_lines_of, range_row, ranges_table}
 use Rattle.fux_text.proofs.NumberWords.{within-own}
-use Rattle.fux_text.proofs.Layouts.{at_words, left, lines_at, places_of, with_line}
+use Rattle.fux_text.proofs.Layouts.{left, lines_at, with_line}
 use Rattle.fux_text.proofs.OwnHead.{other_voice-own}
+use Rattle.fux_text.proofs.OwnLines.{AreRead, many-own}
 use Rattle.fux_text.proofs.OwnWords.{pitch-own}
-use Rattle.fux_text.proofs.ValidRanges.{any-none, any-some, of_voice}
-
--- a range line may stand behind these: a voice's first one has no bars, and a later one has some
-record FitsBehind (ex : Exercise) (before : List RangeLine) (line : RangeLine) : Type 0 where
-  pub fits : IsRangeLine ex line
-  pub first : has_line before line.voice ≡ false → line.bars ≡ None
-  pub later : has_line before line.voice ≡ true → IsSome line.bars
+use Rattle.fux_text.proofs.ValidRanges.{any-own, are_some, of_voice}
 
 -- an exercise has few voices and bars
 pub record IsSmall (ex : Exercise) : Type 0 where
@@ -45,124 +40,49 @@ not_below low high rises = by (int_lt (key_of high) (key_of low)) refl
     by true e = absurd (omega (arith, ints, e, rises))
     by false e = refl
 
--- the words behind `range`, where a voice's first line or a later one is read
-first-own : (ex : Exercise) (before : List RangeLine) (line past end : ℕ) (place : ℕ → PlacedWord) (voice : ℕ)
-    (low high : Pitch) → voice ≤ 9999999
-    → voice < ex.voices → voice ≢ ex.cantus_voice → key_of low ≤ℤ key_of high → has_line before voice ≡ false
-    → row_in (range_row ex before) (at_words line past end place (decimal voice ∷ name_of low ∷ name_of high ∷ []))
-    ≡ Ok (record { voice = voice; low = low; high = high; bars = None })
-unfolding row_in misfits next done
-first-own ex before line past end place voice low high few there differs rises none =
-    rw (
-      other_voice-own ex.cantus_voice ex.voices voice few there differs,
-      none,
-      pitch-own low,
-      pitch-own high,
-      not_below low high rises,
-      none,
-    ) refl
-
-later-own : (ex : Exercise) (before : List RangeLine) (line past end : ℕ) (place : ℕ → PlacedWord) (voice : ℕ)
-    (low high : Pitch) (from to : ℕ) → voice ≤ 9999999
-    → voice < ex.voices → voice ≢ ex.cantus_voice → key_of low ≤ℤ key_of high → has_line before voice ≡ true
-    → ex.bars ≤ 9999999 → 1 ≤ from → from ≤ to → to ≤ ex.bars
-    → row_in (range_row ex before)
-    (at_words line past end place (decimal voice ∷ name_of low ∷ name_of high ∷ decimal from ∷ decimal to ∷ []))
-    ≡ Ok (record { voice = voice; low = low; high = high; bars = Some (from, to) })
-unfolding row_in misfits next done
-later-own ex before line past end place voice low high from to few there differs rises some few_bars least in_order
-    most =
-    rw (
-      other_voice-own ex.cantus_voice ex.voices voice few there differs,
-      some,
-      pitch-own low,
-      pitch-own high,
-      not_below low high rises,
-      some,
-      within-own 1 ex.bars from (omega (arith, in_order, most, few_bars)) least (omega (arith, in_order, most)),
-      within-own from ex.bars to (omega (arith, most, few_bars)) in_order most,
-    ) refl
-
-range_in-own : (ex : Exercise) (before : List RangeLine) (r : RangeLine) (line past end : ℕ) (place : ℕ → PlacedWord)
-    → IsSmall ex → FitsBehind ex before r
-    → row_in (range_row ex before)
-    (at_words line past end place (decimal r.voice ∷ name_of r.low ∷ name_of r.high ∷ bars_words r.bars)) ≡ Ok r
-range_in-own ex before r line past end place small behind = by r.bars refl
-  where
-    few : r.voice ≤ 9999999
-    few = omega (arith, behind.fits.free.there, small.voices)
-
-    reads : Option (ℕ × ℕ) → Type 0
-    reads bars =
-        row_in (range_row ex before)
-        (at_words line past end place (decimal r.voice ∷ name_of r.low ∷ name_of r.high ∷ bars_words bars))
-        ≡ Ok (record { voice = r.voice; low = r.low; high = r.high; bars = bars })
-
-    some_if_none : (b : Bool) → has_line before r.voice ≡ b → r.bars ≡ None → b ≡ false
-    some_if_none true e none = absurd (none_some r.bars none (behind.later e))
-      where
-        none_some : (o : Option (ℕ × ℕ)) → o ≡ None → IsSome o → ⊥
-        none_some None e s = grind (arith, s)
-        none_some (Some x) e s = grind (arith, e)
-    some_if_none false e none = refl
-
-    later_if_some : (b : Bool) (x : ℕ × ℕ) → has_line before r.voice ≡ b → r.bars ≡ Some x → b ≡ true
-    later_if_some true x e some = refl
-    later_if_some false x e some = absurd (grind (arith, behind.first e, some))
-
-    by : (o : Option (ℕ × ℕ)) → r.bars ≡ o → reads r.bars
-    by None e =
-        subst reads (sym e)
-        (first-own ex before line past end place r.voice r.low r.high few behind.fits.free.there
-        behind.fits.free.no_cantus
-        behind.fits.rises (some_if_none _ refl e))
-    by (Some (from, to)) e =
-        let within =
-        subst (λ o. IfSome o (λ bars. (1 ≤ bars.0) × (bars.0 ≤ bars.1) × (bars.1 ≤ ex.bars))) e behind.fits.within in
-        subst reads (sym e)
-        (later-own ex before line past end place r.voice r.low r.high from to few behind.fits.free.there
-        behind.fits.free.no_cantus
-        behind.fits.rises (later_if_some _ (from, to) refl e) (omega (arith, small.bars)) within.0 within.1 within.2)
-
+-- a range line is read behind others: a voice's first one has no bars, and a later one has some
 range_line-own : (ex : Exercise) (before : List RangeLine) (r : RangeLine) (after : ℕ) (l : LineWords)
-    (others : List LineWords) → IsSmall ex
-    → FitsBehind ex before r → line_in kinds.Head kinds.Head (codes "range") (range_row ex before) (with_line after l (range_words r) others)
+    (others : List LineWords) → IsSmall ex → IsRangeLine ex r → has_line before r.voice ≡ is_some r.bars
+    → line_in kinds.Head kinds.Head (codes "range") (range_row ex before) (with_line after l (range_words r) others)
     ≡ Ok (r, left after others)
-unfolding line_in headed literal next
-range_line-own ex before r after l others small behind =
-    let place = places_of l.words in
-    rw (range_in-own ex before r l.line ((place 0).column + 5) l.end (λ k. place (suc k)) small behind) refl
+unfolding line_in row_in misfits headed literal next done
+range_line-own ex before r after l others small fits lined = by r.bars refl
+  where
+    Reads : Option (ℕ × ℕ) → Type 0
+    Reads bars =
+        line_in kinds.Head kinds.Head (codes "range") (range_row ex before)
+        (with_line after l (codes "range" ∷ decimal r.voice ∷ name_of r.low ∷ name_of r.high ∷ bars_words bars) others)
+        ≡ Ok (record { voice = r.voice; low = r.low; high = r.high; bars = bars }, left after others)
 
--- each of these lines may stand behind those before it
-abbrev FitInOrder : Exercise → List RangeLine → List RangeLine → Type 0
-FitInOrder ex before [] = ⊤
-FitInOrder ex before (r ∷ rs) = FitsBehind ex before r × FitInOrder ex (before ++ r ∷ []) rs
+    voice : other_voice ex.cantus_voice ex.voices (decimal r.voice) ≡ Some r.voice
+    voice = other_voice-own ex.cantus_voice ex.voices r.voice (omega (arith, fits.free.there, small.voices))
+        fits.free.there fits.free.no_cantus
+
+    by : (o : Option (ℕ × ℕ)) → r.bars ≡ o → Reads r.bars
+    by None e =
+        let first : has_line before r.voice ≡ false = lined ∙ ap is_some e in
+        subst Reads (sym e)
+        (rw (voice, first, pitch-own r.low, pitch-own r.high, not_below r.low r.high fits.rises, first) refl)
+    by (Some (from, to)) e =
+        let later : has_line before r.voice ≡ true = lined ∙ ap is_some e in
+        let within =
+        subst (λ o. IfSome o (λ bars. (1 ≤ bars.0) × (bars.0 ≤ bars.1) × (bars.1 ≤ ex.bars))) e fits.within in
+        subst Reads (sym e)
+        (rw (
+          voice,
+          later,
+          pitch-own r.low,
+          pitch-own r.high,
+          not_below r.low r.high fits.rises,
+          later,
+          within-own 1 ex.bars from (omega (arith, within, small.bars)) within.0 (omega (arith, within)),
+          within-own from ex.bars to (omega (arith, within, small.bars)) within.1 within.2,
+        ) refl)
 
 begins_range : (r : RangeLine) (after : ℕ) (l : LineWords) (others : List LineWords)
     → begins (codes "range") (with_line after l (range_words r) others) ≡ true
 unfolding begins
 begins_range r after l others = refl
-
--- range lines are read up to a line that is none
-ranges_on-own : (ex : Exercise) (rs before : List RangeLine) (after : ℕ) (lay : ℕ → LineWords)
-    (more : List (List (List ℕ))) → IsSmall ex
-    → FitInOrder ex before rs →
-    ((other : ℕ → LineWords) → begins (codes "range") (left after (lines_at other more)) ≡ false)
-    → (behind : ℕ → LineWords) ×
-    (many_in (range_lines_of ex) before after (lines_at lay (map range_words rs ++ more))
-    ≡ Ok (before ++ rs, left after (lines_at behind more)))
-unfolding many_in
-ranges_on-own ex [] before after lay [] small fit other =
-    (lay, ap (λ found. Ok (found, left after [])) (sym (append-nil before)))
-ranges_on-own ex [] before after lay (ws ∷ more) small fit other =
-    (lay, rw (other lay) (ap (λ found. Ok (found, left after (lines_at lay (ws ∷ more)))) (sym (append-nil before))))
-ranges_on-own ex (r ∷ rs) before after lay more small fit other =
-    let rest = ranges_on-own ex rs (before ++ r ∷ []) after (λ k. lay (suc k)) more small fit.1 other in
-    let others = lines_at (λ k. lay (suc k)) (map range_words rs ++ more) in (
-      rest.0,
-      rw (begins_range r after (lay 0) others, range_line-own ex before r after (lay 0) others small fit.0)
-          (rest.1 ∙ ap (λ found. Ok (found, left after (lines_at rest.0 more))) (append_assoc before (r ∷ []) rs)),
-    )
 
 -- where each of these lines has bars, so has the one between others
 some_at_seam : (xs ys : List RangeLine) (r : RangeLine) → All (λ other. IsSome other.bars) (xs ++ r ∷ ys)
@@ -170,14 +90,16 @@ some_at_seam : (xs ys : List RangeLine) (r : RangeLine) → All (λ other. IsSom
 some_at_seam [] ys r all = all 0 r (omega arith)
 some_at_seam (x ∷ xs) ys r all = some_at_seam xs ys r (λ k d lt. all (suc k) d (omega arith))
 
--- the range lines of a valid exercise may stand in their order
-fit-in-order : (ex : Exercise) (rs before : List RangeLine) → All (IsRangeLine ex) rs
-    → ((v : ℕ) → IsFree ex v → BeginsWithWhole (of_voice v (before ++ rs))) → FitInOrder ex before rs
-fit-in-order ex [] before fit whole = tt
-fit-in-order ex (r ∷ rs) before fit whole =
+-- the range lines of a valid exercise are read in their order
+ranges-read : (ex : Exercise) (after : ℕ) (rs before : List RangeLine) → IsSmall ex → All (IsRangeLine ex) rs
+    → ((v : ℕ) → IsFree ex v → BeginsWithWhole (of_voice v (before ++ rs)))
+    → AreRead (range_lines_of ex) after before rs (map range_words rs)
+ranges-read ex after [] before small fit whole = tt
+ranges-read ex after (r ∷ rs) before small fit whole =
     let one : IsRangeLine ex r = fit 0 r (omega arith) in (
-      fits_behind one (whole r.voice one.free),
-      fit-in-order ex rs (before ++ r ∷ []) (λ k d lt. fit (suc k) d (omega arith))
+      (λ l others. begins_range r after l others),
+      (λ l others. range_line-own ex before r after l others small one (lined (whole r.voice one.free))),
+      ranges-read ex after rs (before ++ r ∷ []) small (λ k d lt. fit (suc k) d (omega arith))
           (λ v free. subst (λ lines. BeginsWithWhole (of_voice v lines)) (sym (append_assoc before (r ∷ []) rs))
           (whole v free)),
     )
@@ -186,25 +108,18 @@ fit-in-order ex (r ∷ rs) before fit whole =
     own true e = rw e refl
     own false e = absurd (grind (arith, e))
 
-    fits_behind : IsRangeLine ex r → BeginsWithWhole (of_voice r.voice (before ++ r ∷ rs)) → FitsBehind ex before r
-    fits_behind one begun =
+    lined : BeginsWithWhole (of_voice r.voice (before ++ r ∷ rs)) → has_line before r.voice ≡ is_some r.bars
+    lined begun =
         by (of_voice r.voice before) refl
         (subst BeginsWithWhole (filter-append (λ l. l.voice == r.voice) before (r ∷ rs)
         ∙ ap (λ lines. of_voice r.voice before ++ lines) (own _ refl)) begun)
       where
         by : (mine : List RangeLine) → of_voice r.voice before ≡ mine
             → BeginsWithWhole (mine ++ r ∷ of_voice r.voice rs)
-            → FitsBehind ex before r
-        by [] e w = record {
-          fits = one;
-          first = λ _. w.0;
-          later = λ has. absurd (grind (arith, has, any-none r.voice before e));
-        }
-        by (x ∷ xs) e w = record {
-          fits = one;
-          first = λ none. absurd (grind (arith, none, any-some r.voice before x xs e));
-          later = λ _. some_at_seam xs (of_voice r.voice rs) r w.1;
-        }
+            → has_line before r.voice ≡ is_some r.bars
+        by [] e w = any-own r.voice before ∙ ap are_some e ∙ sym (ap is_some w.0)
+        by (x ∷ xs) e w =
+            any-own r.voice before ∙ ap are_some e ∙ sym (some_at_seam xs (of_voice r.voice rs) r w.1)
 
 -- each free voice of a valid exercise has a range line
 all_ranged-own : (ex : Exercise) (lines : List RangeLine) → ((v : ℕ) → IsFree ex v → BeginsWithWhole (of_voice v lines))
@@ -221,7 +136,7 @@ all_ranged-own ex lines whole =
   where
     has : (v : ℕ) (mine : List RangeLine) → of_voice v lines ≡ mine → BeginsWithWhole mine → has_line lines v ≡ true
     has v [] e w = absurd w
-    has v (x ∷ xs) e w = any-some v lines x xs e
+    has v (x ∷ xs) e w = any-own v lines ∙ ap are_some e
 
     by : (v : ℕ) → v < ex.voices → (b : Bool) → (v == ex.cantus_voice) ≡ b → (b || has_line lines v) ≡ true
     by v there true e = refl
@@ -238,5 +153,6 @@ pub ranges-own : (ex head : Exercise) (after : ℕ) (lay : ℕ → LineWords) (m
     ≡ Ok (ex.ranges, left after (lines_at behind more)))
 unfolding table_in
 ranges-own ex head after lay more small fit whole other =
-    let found = ranges_on-own head ex.ranges [] after lay more small (fit-in-order head ex.ranges [] fit whole) other in
+    let found = many-own (range_lines_of head) after [] ex.ranges (map range_words ex.ranges) lay more
+    (ranges-read head after ex.ranges [] small fit whole) other in
     (found.0, rw (found.1, all_ranged-own head ex.ranges whole) refl)

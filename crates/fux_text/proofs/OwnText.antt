@@ -1,7 +1,7 @@
 -- A note text is read as its exercise (`note_text-read`), and what is written is a note text (`note_text-own`). So it is
 -- with the `sing` lines of a setting alone (`setting_lines-read`, `sing_lines-own`).
 use Rattle.std.proofs.Common.{◌≡◌, inl, inr, ℕ, suc, ◌+◌, ◌≤◌, true, false, List, [], ◌∷◌, ◌++◌, length, map, Option, Some, None, Ok, refl, sym, ap, subst, ◌∙◌, append_assoc, arith}
-use Rattle.std.specs.Prelude.{All, IfSome, codes, ⊤}
+use Rattle.std.specs.Prelude.{IfSome, codes, ⊤}
 use Rattle.std.specs.Fmt.{decimal}
 use Rattle.std.specs.List.{list_all}
 use Rattle.std.specs.Str.Lines.{lines}
@@ -12,7 +12,7 @@ use Rattle.std.proofs.lemmas.List.Folds.{flat_map-map, list_all-append}
 use Rattle.fux_grid.specs.declared.exercise.Exercise.{Exercise}
 use Rattle.fux_grid.specs.declared.exercise.Relax.{Relax}
 use Rattle.fux_grid.specs.declared.given.GivenBar.{GivenBar}
-use Rattle.fux_grid.specs.Exercises.{AreSpecies, BeginsWithWhole, FitsGiven, IsFree, IsGiven, IsGivenBar, IsRangeLine, IsRelax, IsValid, range_lines}
+use Rattle.fux_grid.specs.Exercises.{AreSpecies, FitsGiven, IsGiven, IsValid}
 use Rattle.fux_grid.specs.Grid.{Grid}
 use Rattle.text_lines.specs.Reading.{begins, same_text}
 use Rattle.text_lines.specs.Tables.{table_in, text_read}
@@ -31,7 +31,8 @@ use Rattle.fux_text.specs.Words.{text_line, text_of, words_in}
 use Rattle.text_lines.specs.Lines.{lines_from}
 use Rattle.text_lines.specs.Utf8.{text_in}
 use Rattle.text_lines.proofs.Faulty.{text_in-ok}
-use Rattle.fux_text.proofs.Fits.{fits-bare, fits-with, line-fits}
+use Rattle.fux_text.proofs.Alike.{alike, free-alike, given-alike, givens-alike, ranges-alike, relaxes-alike, sings-alike}
+use Rattle.fux_text.proofs.Fits.{fits-alike, line-fits}
 use Rattle.fux_text.proofs.Layouts.{layout_of, left, lines-laid, lines_at}
 use Rattle.fux_text.proofs.OwnGivens.{given_words-lines, givens-own}
 use Rattle.fux_text.proofs.OwnHead.{behind_head, head-own, head_of, version-own}
@@ -119,61 +120,13 @@ relax-other name (r ∷ rs) lines differs other = (
 small : (ex : Exercise) → IsValid ex → IsSmall (head_of ex)
 small ex valid = record { voices = valid.most_voices; bars = valid.most_bars }
 
-singable : (ex : Exercise) → IsValid ex → IsSingable ex
-singable ex valid = record {
+singable : (ex other : Exercise) → IsValid ex → IsSingable (alike ex other)
+singable ex other valid = record {
   fewest_voices = valid.fewest_voices;
   most_voices = valid.most_voices;
   some_bars = omega (arith, valid.fewest_bars);
   whole_cantus = valid.whole_cantus;
 }
-
-singable_head : (ex : Exercise) → IsSingable ex → IsSingable (head_of ex)
-singable_head ex can = record {
-  fewest_voices = can.fewest_voices;
-  most_voices = can.most_voices;
-  some_bars = can.some_bars;
-  whole_cantus = can.whole_cantus;
-}
-
-range_lines-head : (ex : Exercise) → All (IsRangeLine ex) ex.ranges → All (IsRangeLine (head_of ex)) ex.ranges
-range_lines-head ex fit = λ k d lt.
-    let one = fit k d lt in
-    record {
-      free = record { there = one.free.there; no_cantus = one.free.no_cantus };
-      rises = one.rises;
-      within = one.within;
-    }
-
-relaxes-head : (ex : Exercise) → All (IsRelax ex) ex.relax → All (IsRelax (head_of ex)) ex.relax
-relaxes-head ex fit = λ k d lt.
-    let one = fit k d lt in
-    record {
-      least_rule = one.least_rule;
-      most_rule = one.most_rule;
-      voices = one.voices;
-      within = one.within;
-      price = one.price;
-    }
-
-each-head : (ex : Exercise) → ((v : ℕ) → IsFree ex v → BeginsWithWhole (range_lines ex v))
-    → (v : ℕ) → IsFree (head_of ex) v → BeginsWithWhole (range_lines ex v)
-each-head ex each v free = each v (record { there = free.there; no_cantus = free.no_cantus })
-
-setting-head : (ex : Exercise) (lines : List (List (List ℕ))) (o : Option Grid) → Sings ex lines o
-    → Sings (head_of ex) lines o
-setting-head ex lines None sings = sings
-setting-head ex lines (Some score) sings =
-    let s = sings.0 in (
-      record {
-        given = record {
-          complete = record { voices = s.given.complete.voices; whole = s.given.complete.whole };
-          cantus = s.given.cantus;
-        };
-        full = s.full;
-        follows = s.follows;
-      },
-      sings.1,
-    )
 
 -- the cells of each voice of a setting that fits do so
 setting-fits : (ex : Exercise) (o : Option Grid) (lines : List (List (List ℕ))) → Sings ex lines o
@@ -182,17 +135,7 @@ setting-fits : (ex : Exercise) (o : Option Grid) (lines : List (List (List ℕ))
 setting-fits ex None lines sings fits = tt
 setting-fits ex (Some score) lines sings fits = λ v there.
     line-fits (record (head_of ex) { given = ex.given }) v score.columns sings.0.given.complete.whole there
-    (fits-bare ex score.columns fits)
-
-givens-head : (ex : Exercise) → All (IsGivenBar ex) ex.given → All (IsGivenBar (head_of ex)) ex.given
-givens-head ex fit = λ k d lt.
-    let one = fit k d lt in
-    record {
-      free = record { there = one.free.there; no_cantus = one.free.no_cantus };
-      within = one.within;
-      whole = one.whole;
-      follow = one.follow;
-    }
+    (fits-alike ex (head_of ex) score.columns fits)
 
 -- ---- the texts
 
@@ -230,18 +173,18 @@ note_text-read bytes ex t =
     let behind_given = given-other (codes "range") ex.given t.fixed t.sung refl t.given
     (sung-other (codes "range") t.sung refl sing) in
     let ranges = ranges-own ex (head_of ex) after (behind_head rest) relaxing (small ex t.valid)
-    (range_lines-head ex t.valid.range_lines_fit)
-    (each-head ex t.valid.each_has_range)
+    (ranges-alike ex (head_of ex) ex.ranges t.valid.range_lines_fit)
+    (λ v free. t.valid.each_has_range v (free-alike (head_of ex) ex v free))
     (λ other. no_name (codes "range") relaxing after other
     (relax-other (codes "range") ex.relax behind_relax refl behind_given)) in
     let relax = relaxes-own (head_of ex) ex.relax after ranges.0 behind_relax (omega (arith, t.valid.fewest_voices))
     (small ex t.valid)
-    (relaxes-head ex t.valid.relax_fit) t.valid.few_relax
+    (relaxes-alike ex (head_of ex) ex.relax t.valid.relax_fit) t.valid.few_relax
     (λ other. no_name (codes "relax") behind_relax after other
     (given-other (codes "relax") ex.given t.fixed t.sung refl t.given
     (sung-other (codes "relax") t.sung refl sing))) in
     let given = givens-own t.version (head_of ex) ex.given t.fixed after relax.0 t.sung (small ex t.valid)
-    (givens-head ex t.valid.given_fit) t.valid.given_ascend t.given t.newer
+    (givens-alike ex (head_of ex) ex.given t.valid.given_fit) t.valid.given_ascend t.given t.newer
     (λ other. no_name (codes "given") t.sung after other (sung-other (codes "given") t.sung refl sing)) in
     rw (
       text_in-words bytes ls t.short t.utf8 t.lines,
@@ -251,8 +194,8 @@ note_text-read bytes ex t =
       relax.1,
       given.1,
       setting-own (line_fits (record (head_of ex) { given = ex.given })) (head_of ex) ex.setting after given.0 t.sung
-          (singable_head ex (singable ex t.valid))
-          (setting-head ex t.sung ex.setting t.setting) (setting-fits ex ex.setting t.sung t.setting t.valid.setting_fits),
+          (singable ex (head_of ex) t.valid)
+          (sings-alike ex (head_of ex) t.sung ex.setting t.setting) (setting-fits ex ex.setting t.sung t.setting t.valid.setting_fits),
     ) (ap (λ (species : Option (List ℕ)). Ok (record ex { mixed = species })) (sym t.unmixed))
 
 -- and so are the lines of a setting
@@ -264,7 +207,7 @@ setting_lines-read ex bytes score valid t =
     let lay = layout_of (lines_from 1 bytes) in
     rw (
       text_in-words bytes (words_in bytes) t.short t.utf8 refl,
-      sung_score-own any_cells ex score after lay (words_in bytes) (singable ex valid) t.setting.0 (λ v there. refl)
+      sung_score-own any_cells ex score after lay (words_in bytes) (singable ex ex valid) t.setting.0 (λ v there. refl)
           t.setting.1,
     ) refl
 
@@ -283,32 +226,11 @@ valid_with ex o valid setting fitting = record {
   differ = valid.differ;
   mixed = species ex.mixed valid.mixed;
   whole_cantus = valid.whole_cantus;
-  range_lines_fit = λ k d lt.
-      let one = valid.range_lines_fit k d lt in
-      record {
-        free = record { there = one.free.there; no_cantus = one.free.no_cantus };
-        rises = one.rises;
-        within = one.within;
-      };
-  each_has_range = λ v free. valid.each_has_range v (record { there = free.there; no_cantus = free.no_cantus });
-  relax_fit = λ k d lt.
-      let one = valid.relax_fit k d lt in
-      record {
-        least_rule = one.least_rule;
-        most_rule = one.most_rule;
-        voices = one.voices;
-        within = one.within;
-        price = one.price;
-      };
+  range_lines_fit = ranges-alike ex (record ex { setting = o }) ex.ranges valid.range_lines_fit;
+  each_has_range = λ v free. valid.each_has_range v (free-alike (record ex { setting = o }) ex v free);
+  relax_fit = relaxes-alike ex (record ex { setting = o }) ex.relax valid.relax_fit;
   few_relax = valid.few_relax;
-  given_fit = λ k d lt.
-      let one = valid.given_fit k d lt in
-      record {
-        free = record { there = one.free.there; no_cantus = one.free.no_cantus };
-        within = one.within;
-        whole = one.whole;
-        follow = one.follow;
-      };
+  given_fit = givens-alike ex (record ex { setting = o }) ex.given valid.given_fit;
   given_ascend = valid.given_ascend;
   setting = given o setting;
   setting_fits = fits o fitting;
@@ -317,37 +239,18 @@ valid_with ex o valid setting fitting = record {
     species : (m : Option (List ℕ)) → IfSome m (AreSpecies ex) → IfSome m (AreSpecies (record ex { setting = o }))
     species None s = tt
     species (Some each) s = record {
-      free = λ v free. s.free v (record { there = free.there; no_cantus = free.no_cantus });
+      free = λ v free. s.free v (free-alike (record ex { setting = o }) ex v free);
       cantus = s.cantus;
     }
 
     fits : (o : Option Grid) → IfSome o (λ score. FitsGiven ex score.columns)
         → IfSome o (λ score. FitsGiven (record ex { setting = o }) score.columns)
     fits None f = tt
-    fits (Some score) f = fits-with ex (Some score) score.columns f
+    fits (Some score) f = fits-alike ex (record ex { setting = Some score }) score.columns f
 
     given : (o : Option Grid) → IfSome o (IsSettingOf ex) → IfSome o (IsGiven (record ex { setting = o }))
     given None s = tt
-    given (Some score) s = record {
-      complete = record { voices = s.given.complete.voices; whole = s.given.complete.whole };
-      cantus = s.given.cantus;
-    }
-
-sings_with : (ex : Exercise) (lines : List (List (List ℕ))) (o : Option Grid) → Sings ex lines o
-    → Sings (record ex { setting = o }) lines o
-sings_with ex lines None sings = sings
-sings_with ex lines (Some score) sings =
-    let s = sings.0 in (
-      record {
-        given = record {
-          complete = record { voices = s.given.complete.voices; whole = s.given.complete.whole };
-          cantus = s.given.cantus;
-        };
-        full = s.full;
-        follows = s.follows;
-      },
-      sings.1,
-    )
+    given (Some score) s = given-alike ex (record ex { setting = Some score }) score s.given
 
 -- what is written is of a version in which what is given may be
 written-version : (given : List GivenBar) → IsVersionFor (version_of given) given
@@ -375,7 +278,7 @@ note_text-own ex o valid unmixed setting fits short =
       given = given_words-lines ex ex.given valid.given_fit;
       unmixed = unmixed;
       valid = valid_with ex o valid setting fits;
-      setting = sings_with ex (sung_lines ex o) o (sung_lines-sing ex o (omega (arith, valid.fewest_bars)) setting);
+      setting = sings-alike ex (record ex { setting = o }) (sung_lines ex o) o (sung_lines-sing ex o (omega (arith, valid.fewest_bars)) setting);
     }
 
 pub sing_lines-own : (ex : Exercise) (score : Grid) → IsValid ex → IsSettingOf ex score

@@ -6,9 +6,9 @@ use Rattle.std.specs.List.{flat_map, list_all, range_with_len}
 use Rattle.std.proofs.lemmas.Bool.{and_from, lt-ltb}
 use Rattle.std.proofs.lemmas.Fmt.{decimal_by_steps}
 use Rattle.std.proofs.lemmas.List.{length-map, length-take}
-use Rattle.std.proofs.lemmas.List.Folds.{list_all-append}
+use Rattle.std.proofs.lemmas.List.Folds.{list_all-append, list_all-map}
 use Rattle.std.proofs.lemmas.List.FromFn.{get_or-range_with_len, length-range_with_len}
-use Rattle.std.proofs.lemmas.List.Sums.{AllPass-from_list_all}
+use Rattle.std.proofs.lemmas.List.Sums.{AllPass-from_list_all, list_all-from_AllPass}
 use Rattle.fux_pitch.specs.declared.mode.Mode.{Mode}
 use Rattle.fux_pitch.specs.declared.mode.Mode.TheVariants.{Dorian, Phrygian, Lydian, Mixolydian, Aeolian, Ionian}
 use Rattle.fux_pitch.specs.declared.pitch.Pitch.{Pitch}
@@ -31,6 +31,7 @@ use Rattle.fux_grid.specs.Letters.{bar_columns}
 use Rattle.fux_text.specs.GivenItems.{given_goes_on, given_name, given_word}
 use Rattle.fux_text.specs.Items.{goes_on, item_name, item_word}
 use Rattle.fux_text.specs.Lines.{bar_words, bars_words, between_bar_lines, cantus_words, exercise_lines, given_words, head_lines, lines_before_given, mode_name, range_words, relax_words, sing_words, version_of, version_words, voices_word}
+use Rattle.fux_text.proofs.Bounds.{few-bits}
 use Rattle.fux_text.proofs.GivenCells.{given-through}
 use Rattle.fux_text.proofs.ItemLemmas.{items-words}
 use Rattle.fux_text.proofs.OwnBars.{items_words}
@@ -98,6 +99,11 @@ cantus-plain : (ex : Exercise) → IsValid ex → is_line (cantus_words ex) ≡ 
 cantus-plain ex valid =
     rw (number-word ex.cantus_voice (omega (arith, valid.cantus_there, valid.most_voices)), names-plain ex.cantus) refl
 
+-- lines are plain where each of what they are written of has a plain one
+all-plain : {V : Type 0} (write : V → List (List ℕ)) (xs : List V) → All (λ x. is_line (write x) ≡ true) xs
+    → list_all is_line (map write xs) ≡ true
+all-plain write xs each = list_all-map is_line write xs ∙ list_all-from_AllPass (λ x. is_line (write x)) xs each
+
 bars_words-plain : (o : Option (ℕ × ℕ)) (bars : ℕ) → bars ≤ 24 → IfSome o (λ b. (1 ≤ b.0) × (b.0 ≤ b.1) × (b.1 ≤ bars))
     → list_all is_word (bars_words o) ≡ true
 bars_words-plain None bars few h = refl
@@ -114,14 +120,6 @@ range-plain ex r voices bars fits =
       bars_words-plain r.bars ex.bars bars fits.within,
     ) refl
 
-ranges-plain : (ex : Exercise) (rs : List RangeLine) → ex.voices ≤ 4 → ex.bars ≤ 24 → All (IsRangeLine ex) rs
-    → list_all is_line (map range_words rs) ≡ true
-ranges-plain ex [] voices bars fit = refl
-ranges-plain ex (r ∷ rs) voices bars fit =
-    and_from (is_line (range_words r)) (list_all is_line (map range_words rs))
-    (range-plain ex r voices bars (fit 0 r (omega arith)))
-    (ranges-plain ex rs voices bars (λ k d lt. fit (suc k) d (omega arith)))
-
 -- a set of voices, of which there is one at least
 abbrev is_set_word : ℕ → Bool
 is_set_word bits = is_word (voices_word (Some (record { bits = bits })))
@@ -130,19 +128,11 @@ all_sets-plain : list_all is_set_word (range_with_len 1 15) ≡ true
 unfolding digits
 all_sets-plain = refl
 
-few-bits : (voices bits : ℕ) → voices ≤ 4 → bits < 2 ^ voices → bits < 16
-few-bits zero bits few lt = omega (arith, lt)
-few-bits (suc zero) bits few lt = omega (arith, lt)
-few-bits (suc (suc zero)) bits few lt = omega (arith, lt)
-few-bits (suc (suc (suc zero))) bits few lt = omega (arith, lt)
-few-bits (suc (suc (suc (suc zero)))) bits few lt = lt
-few-bits (suc (suc (suc (suc (suc n))))) bits few lt = absurd (omega (arith, few))
-
 set-word : (voices : ℕ) (o : Option VoiceSet) → voices ≤ 4 → IfSome o (λ set. (1 ≤ set.bits) × (set.bits < 2 ^ voices))
     → is_word (voices_word o) ≡ true
 set-word voices None few h = refl
 set-word voices (Some set) few h =
-    let below : set.bits < 16 = few-bits voices set.bits few h.1 in
+    let below : set.bits ≤ 15 = few-bits voices set.bits few h.1 in
     let at : get_or (range_with_len 1 15) (set.bits - 1) 0 ≡ set.bits =
     get_or-range_with_len 1 15 (set.bits - 1) 0 (omega (arith, below, h.0)) ∙ omega (arith, h.0) in
     subst (λ n. is_set_word n ≡ true) at
@@ -159,14 +149,6 @@ relax-plain ex r voices bars fits =
       number-word r.price (omega (arith, fits.price)),
     ) refl
 
-relaxes-plain : (ex : Exercise) (rs : List Relax) → ex.voices ≤ 4 → ex.bars ≤ 24 → All (IsRelax ex) rs
-    → list_all is_line (map relax_words rs) ≡ true
-relaxes-plain ex [] voices bars fit = refl
-relaxes-plain ex (r ∷ rs) voices bars fit =
-    and_from (is_line (relax_words r)) (list_all is_line (map relax_words rs))
-    (relax-plain ex r voices bars (fit 0 r (omega arith)))
-    (relaxes-plain ex rs voices bars (λ k d lt. fit (suc k) d (omega arith)))
-
 version-plain : (version : ℕ) → version ≤ 9999999 → is_line (version_words version) ≡ true
 version-plain version few = rw (number-word version few) refl
 
@@ -180,8 +162,10 @@ before_given-plain version ex few valid =
       version-plain version few,
       head-plain ex valid,
       cantus-plain ex valid,
-      ranges-plain ex ex.ranges valid.most_voices valid.most_bars valid.range_lines_fit,
-      relaxes-plain ex ex.relax valid.most_voices valid.most_bars valid.relax_fit,
+      all-plain range_words ex.ranges
+          (λ k d lt. range-plain ex _ valid.most_voices valid.most_bars (valid.range_lines_fit k d lt)),
+      all-plain relax_words ex.relax
+          (λ k d lt. relax-plain ex _ valid.most_voices valid.most_bars (valid.relax_fit k d lt)),
     ) refl
 
 given_word-plain : (g : Given) (n : ℕ) → n ≤ 9999999 → is_word (given_word (g, n)) ≡ true
@@ -204,14 +188,6 @@ given-plain ex line voices bars fits =
           (omega (arith, fits.whole)),
     ) refl
 
-givens-plain : (ex : Exercise) (lines : List GivenBar) → ex.voices ≤ 4 → ex.bars ≤ 24 → All (IsGivenBar ex) lines
-    → list_all is_line (map given_words lines) ≡ true
-givens-plain ex [] voices bars fit = refl
-givens-plain ex (line ∷ lines) voices bars fit =
-    and_from (is_line (given_words line)) (list_all is_line (map given_words lines))
-    (given-plain ex line voices bars (fit 0 line (omega arith)))
-    (givens-plain ex lines voices bars (λ k d lt. fit (suc k) d (omega arith)))
-
 version_of-few : (given : List GivenBar) → version_of given ≤ 9999999
 version_of-few [] = omega arith
 version_of-few (line ∷ given) = omega arith
@@ -222,7 +198,7 @@ exercise_lines-plain ex valid =
     list_all-append is_line before (map given_words ex.given)
     ∙ and_from (list_all is_line before) (list_all is_line (map given_words ex.given))
     (before_given-plain (version_of ex.given) ex (version_of-few ex.given) valid)
-    (givens-plain ex ex.given valid.most_voices valid.most_bars valid.given_fit)
+    (all-plain given_words ex.given (λ k d lt. given-plain ex _ valid.most_voices valid.most_bars (valid.given_fit k d lt)))
 
 -- ---- the lines of a setting
 
@@ -262,12 +238,7 @@ later_bars-plain v columns (bar ∷ bars) =
 bars-plain : (v : ℕ) (columns : List (List Cell)) (bars : List ℕ)
     → list_all is_word (between_bar_lines (map (bar_words v) (map (bar_columns columns) bars))) ≡ true
 bars-plain v columns [] = refl
-bars-plain v columns (bar ∷ bars) =
-    let others = flat_map (λ other. codes "|" ∷ other) (map (bar_words v) (map (bar_columns columns) bars)) in
-    list_all-append is_word (bar_words v (bar_columns columns bar)) others
-    ∙ and_from (list_all is_word (bar_words v (bar_columns columns bar))) (list_all is_word others)
-    (bar-plain v columns bar)
-    (later_bars-plain v columns bars)
+bars-plain v columns (bar ∷ bars) = later_bars-plain v columns (bar ∷ bars)
 
 sing-plain : (v : ℕ) (columns : List (List Cell)) → v ≤ 9999999 → is_line (sing_words v columns) ≡ true
 sing-plain v columns few = rw (number-word v few, bars-plain v columns (range_with_len 1 (length columns / 8))) refl

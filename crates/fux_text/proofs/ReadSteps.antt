@@ -25,20 +25,16 @@ use Rattle.fux_text.specs.Sing.{setting_table}
 use Rattle.fux_text.specs.declared.fault.TextKind.{TextKind}
 
 -- what is read of the lines before a setting, and those that are left behind each
-pub record AreReadBefore (bytes : List ℕ) (version : ℕ) (head : Exercise) (ranges : List RangeLine) (relax : List Relax)
-    (given : List GivenBar) (left : TextLines) : Type 0 where
-  pub all : TextLines
-  pub behind_version : TextLines
-  pub behind_head : TextLines
-  pub behind_ranges : TextLines
-  pub behind_relax : TextLines
-  pub text : text_in kinds.TooLong kinds.NotUtf8 bytes ≡ Ok all
-  pub version_line : line_in kinds.Head kinds.Head (codes "fux") (number_row kinds.Word 1 newest_version) all
-      ≡ Ok (version, behind_version)
-  pub head_lines : table_in head_table behind_version ≡ Ok (head, behind_head)
-  pub range_lines : table_in (ranges_table head) behind_head ≡ Ok (ranges, behind_ranges)
-  pub relax_lines : many_in (relax_lines_of head) [] behind_ranges.after behind_ranges.lines ≡ Ok (relax, behind_relax)
-  pub given_lines : many_in (given_lines_of version head) [] behind_relax.after behind_relax.lines ≡ Ok (given, left)
+abbrev pub AreReadBefore : List ℕ → ℕ → Exercise → List RangeLine → List Relax → List GivenBar → TextLines → Type 0
+AreReadBefore bytes version head ranges relax given left =
+    (all : TextLines) × (behind_version : TextLines) × (behind_head : TextLines) × (behind_ranges : TextLines)
+    × (behind_relax : TextLines) × (text_in kinds.TooLong kinds.NotUtf8 bytes ≡ Ok all)
+    × (line_in kinds.Head kinds.Head (codes "fux") (number_row kinds.Word 1 newest_version) all
+    ≡ Ok (version, behind_version))
+    × (table_in head_table behind_version ≡ Ok (head, behind_head))
+    × (table_in (ranges_table head) behind_head ≡ Ok (ranges, behind_ranges))
+    × (many_in (relax_lines_of head) [] behind_ranges.after behind_ranges.lines ≡ Ok (relax, behind_relax))
+    × (many_in (given_lines_of version head) [] behind_relax.after behind_relax.lines ≡ Ok (given, left))
 
 -- the exercise with its setting
 abbrev with_setting : Exercise → List RangeLine → List Relax → List GivenBar → Result (Option Grid × TextLines) (Fault TextKind)
@@ -52,8 +48,8 @@ setting-last : (bytes : List ℕ) (version : ℕ) (head : Exercise) (ranges : Li
     → table_in (setting_table (line_fits (record head { given = given })) head) left ≡ read
     → exercise_in bytes ≡ with_setting head ranges relax given read
 unfolding exercise_in text_read table_in
-setting-last bytes version head ranges relax given left read r e =
-    rw (r.text, r.version_line, r.head_lines, r.range_lines, r.relax_lines, r.given_lines, e) (by read)
+setting-last bytes version head ranges relax given left read (a, b, c, d, l, text, first, head_lines, rs, ls, gs) e =
+    rw (text, first, head_lines, rs, ls, gs, e) (by read)
   where
     whole : Option Grid × TextLines → Result (Exercise × TextLines) (Fault TextKind)
     whole s = Ok (record head { ranges = ranges; relax = relax; given = given; setting = s.0 }, s.1)

@@ -1,10 +1,10 @@
 -- Range lines that are read fit the exercise, and each voice's first one is for all bars (`ranges-valid`).
-use Rattle.std.proofs.Common.{◌≡◌, ℕ, ◌≤◌, ◌≤ℤ◌, Bool, true, false, List, [], ◌∷◌, ◌++◌, get_or, Option, None, refl, sym, ap, subst, ◌∙◌, append_assoc, arith}
-use Rattle.std.specs.Prelude.{◌==◌, ◌||◌, All, filter, IfSome, IsSome, if◌then◌else◌, ⊤}
+use Rattle.std.proofs.Common.{◌≡◌, ℕ, ◌≤◌, ◌≤ℤ◌, Bool, true, false, List, [], ◌∷◌, ◌++◌, get_or, Option, Some, None, refl, sym, ap, subst, ◌∙◌, append_assoc, arith}
+use Rattle.std.specs.Prelude.{◌==◌, ◌||◌, All, filter, IfSome, IsSome, is_some, if◌then◌else◌, ⊤}
 use Rattle.std.specs.List.{range_with_len}
 use Rattle.std.proofs.lemmas.Int.{ints}
 use Rattle.std.proofs.lemmas.List.{append-nil}
-use Rattle.std.proofs.lemmas.List.Elements.{All-append, filter-append}
+use Rattle.std.proofs.lemmas.List.Elements.{All-push, filter-append}
 use Rattle.std.proofs.lemmas.List.FromFn.{get_or-range_with_len, length-range_with_len}
 use Rattle.std.proofs.lemmas.List.Sums.{AllPass-from_list_all}
 use Rattle.fux_pitch.specs.Pitch.{key_of}
@@ -24,23 +24,16 @@ use Rattle.fux_text.proofs.OnlyRanges.{fitting-named, high-named}
 
 -- a first line has no bars, and a later one has some
 abbrev AreBarsOf : Bool → ℕ → Option (ℕ × ℕ) → Type 0
-AreBarsOf later bars o =
-    (later ≡ false → o ≡ None) × (later ≡ true → IsSome o) × IfSome o (λ b. (1 ≤ b.0) × (b.0 ≤ b.1) × (b.1 ≤ bars))
+AreBarsOf later bars o = (later ≡ is_some o) × IfSome o (λ b. (1 ≤ b.0) × (b.0 ≤ b.1) × (b.1 ≤ bars))
 
 later-bars : (later : Bool) (bars : ℕ) (line : RangeLine) (at : LineWords) (r : RangeLine) → line.bars ≡ None
     → IsRow (bars_row later bars line) at r → AreBarsOf later bars r.bars
 later-bars false bars line at r none h =
-    subst (λ (y : RangeLine). AreBarsOf false bars y.bars) h.1 (
-      (λ _. none),
-      (λ h. absurd (grind (arith, h))),
-      subst (λ o. IfSome o (λ b. (1 ≤ b.0) × (b.0 ≤ b.1) × (b.1 ≤ bars)))
-          (sym none) tt,
-    )
+    subst (AreBarsOf false bars) (sym none ∙ ap (λ (y : RangeLine). y.bars) h.1) (refl, tt)
 later-bars true bars line at r none (from, a, s, (to, b, t, end)) =
     let x = number-bounds kinds.Range 1 bars from at a s in
     let y = number-bounds kinds.Range from bars to a b t in
-    subst (λ (y : RangeLine). AreBarsOf true bars y.bars) end.1
-    ((λ h. absurd (grind (arith, h))), (λ _. refl), (x.above, y.above, y.below))
+    subst (λ (y : RangeLine). AreBarsOf true bars y.bars) end.1 (refl, (x.above, y.above, y.below))
 
 -- a range line of an exercise behind those before
 record IsNext (ex : Exercise) (before : List RangeLine) (line : RangeLine) : Type 0 where
@@ -77,39 +70,28 @@ abbrev pub of_voice : ℕ → List RangeLine → List RangeLine
 of_voice v lines = filter (λ line. line.voice == v) lines
 
 -- a voice has a range line just where one of these lines is its own
-pub any-none : (v : ℕ) (lines : List RangeLine) → of_voice v lines ≡ [] → has_line lines v ≡ false
-any-none v [] e = refl
-any-none v (l ∷ ls) e = by (l.voice == v) (any-none v ls) e
+abbrev pub are_some : List RangeLine → Bool
+are_some [] = false
+are_some (line ∷ lines) = true
+
+pub any-own : (v : ℕ) (lines : List RangeLine) → has_line lines v ≡ are_some (of_voice v lines)
+any-own v [] = refl
+any-own v (l ∷ ls) = by (l.voice == v) (any-own v ls)
   where
-    by : (b : Bool) → (of_voice v ls ≡ [] → has_line ls v ≡ false) → (if b then l ∷ of_voice v ls else of_voice v ls)
-        ≡ []
-        → (b || has_line ls v) ≡ false
-    by true rest e = absurd (grind (arith, e))
-    by false rest e = rest e
+    by : (b : Bool) → has_line ls v ≡ are_some (of_voice v ls)
+        → (b || has_line ls v) ≡ are_some (if b then l ∷ of_voice v ls else of_voice v ls)
+    by true rest = refl
+    by false rest = rest
 
-pub any-some : (v : ℕ) (lines : List RangeLine) (first : RangeLine) (others : List RangeLine) → of_voice v lines ≡ first
-    ∷ others
-    → has_line lines v ≡ true
-any-some v [] first others e = absurd (grind (arith, e))
-any-some v (l ∷ ls) first others e = by (l.voice == v) (any-some v ls first others) e
-  where
-    by : (b : Bool) → (of_voice v ls ≡ first ∷ others → has_line ls v ≡ true)
-        → (if b then l ∷ of_voice v ls else of_voice v ls) ≡ first ∷ others → (b || has_line ls v) ≡ true
-    by true rest e = refl
-    by false rest e = rest e
+none_of : (o : Option (ℕ × ℕ)) → is_some o ≡ false → o ≡ None
+none_of None e = refl
+none_of (Some bars) e = absurd (grind (arith, e))
 
-single : (line : RangeLine) → IsSome line.bars → All (λ other. IsSome other.bars) (line ∷ [])
-single line some = λ k d lt.
-    let first : 0 ≡ k = omega arith in
-    subst (λ n. IsSome (get_or (line ∷ []) n d).bars) first some
-
-begun-push : (v : ℕ) (lines : List RangeLine) (line : RangeLine) → Begun lines
-    → (lines ≡ [] → line.bars ≡ None) → ((first : RangeLine) (others : List RangeLine) → lines ≡ first ∷ others
-    → IsSome line.bars)
+begun-push : (lines : List RangeLine) (line : RangeLine) → Begun lines → is_some line.bars ≡ are_some lines
     → Begun (lines ++ line ∷ [])
-begun-push v [] line begun first later = (first refl, λ k d lt. absurd (omega arith))
-begun-push v (l ∷ ls) line begun first later =
-    (begun.0, All-append (λ other. IsSome other.bars) ls (line ∷ []) begun.1 (single line (later l ls refl)))
+begun-push [] line begun first = (none_of line.bars first, λ k d lt. absurd (omega arith))
+begun-push (l ∷ ls) line begun later =
+    (begun.0, All-push (λ other. IsSome other.bars) ls line begun.1 later)
 
 begun-next : (ex : Exercise) (before : List RangeLine) (line : RangeLine) (v : ℕ) → IsNext ex before line
     → Begun (of_voice v before)
@@ -120,9 +102,8 @@ begun-next ex before line v next begun =
     by : (b : Bool) → (line.voice == v) ≡ b → Begun (of_voice v before ++ (if b then line ∷ [] else []))
     by true e =
         let same : line.voice ≡ v = grind (arith, e) in
-        begun-push v (of_voice v before) line begun
-        (λ none. next.bars.0 (ap (has_line before) same ∙ any-none v before none))
-        (λ first others some. next.bars.1 (ap (has_line before) same ∙ any-some v before first others some))
+        begun-push (of_voice v before) line begun
+        (sym next.bars.0 ∙ ap (has_line before) same ∙ any-own v before)
     by false e = subst Begun (sym (append-nil (of_voice v before))) begun
 
 -- range lines that are read
@@ -135,16 +116,13 @@ next-fits : (ex : Exercise) (before : List RangeLine) (line : RangeLine) → 2 �
 next-fits ex before line some next = record {
   free = record { there = omega (arith, next.voice.within); no_cantus = next.voice.differs };
   rises = next.rises;
-  within = next.bars.2;
+  within = next.bars.1;
 }
 
 ranges-push : (ex : Exercise) (before : List RangeLine) (line : RangeLine) → 2 ≤ ex.voices → IsNext ex before line
     → AreRanges ex before → AreRanges ex (before ++ line ∷ [])
 ranges-push ex before line some next so_far = record {
-  fit = All-append (IsRangeLine ex) before (line ∷ []) so_far.fit
-      (λ k d lt.
-      let first : 0 ≡ k = omega arith in
-      subst (λ n. IsRangeLine ex (get_or (line ∷ []) n d)) first (next-fits ex before line some next));
+  fit = All-push (IsRangeLine ex) before line so_far.fit (next-fits ex before line some next);
   begun = λ v. begun-next ex before line v next (so_far.begun v);
 }
 
@@ -159,7 +137,7 @@ ranges-go ex before (x ∷ xs) text rest some so_far h =
 whole-from : (v : ℕ) (lines : List RangeLine) (own : List RangeLine) → of_voice v lines ≡ own → has_line lines v ≡ true
     → Begun own
     → BeginsWithWhole own
-whole-from v lines [] e has begun = absurd (grind (arith, has, any-none v lines e))
+whole-from v lines [] e has begun = absurd (grind (arith, sym has ∙ any-own v lines ∙ ap are_some e))
 whole-from v lines (l ∷ ls) e has begun = begun
 
 -- the range lines of an exercise

@@ -1,10 +1,10 @@
 -- Relax lines that are read fit the exercise, and there are at most 64 (`relaxes-valid`).
-use Rattle.std.proofs.Common.{◌≡◌, ℕ, zero, suc, ◌+◌, ◌-◌, ◌<◌, ◌≤◌, Bool, true, false, List, [], ◌∷◌, ◌++◌, get_or, length, length-append, Option, Some, None, refl, sym, subst, append_assoc, arith}
+use Rattle.std.proofs.Common.{◌≡◌, ℕ, zero, suc, ◌+◌, ◌-◌, ◌<◌, ◌≤◌, Bool, true, false, List, [], ◌∷◌, ◌++◌, length, length-append, Option, Some, None, refl, sym, subst, append_assoc, arith}
 use Rattle.std.specs.Prelude.{◌^◌, ◌==◌, All, IfSome, codes, find, nat_lt, option_map, if◌then◌else◌}
 use Rattle.std.specs.List.{range_with_len}
 use Rattle.std.proofs.lemmas.Bool.{and_parts, ltb-true}
 use Rattle.std.proofs.lemmas.List.{append-nil}
-use Rattle.std.proofs.lemmas.List.Elements.{All-append}
+use Rattle.std.proofs.lemmas.List.Elements.{All-push}
 use Rattle.fux_grid.specs.declared.exercise.Exercise.{Exercise}
 use Rattle.fux_grid.specs.declared.exercise.Relax.{Relax}
 use Rattle.fux_grid.specs.declared.exercise.VoiceSet.{VoiceSet}
@@ -87,16 +87,11 @@ pub record AreRelaxes (ex : Exercise) (lines : List Relax) : Type 0 where
   pub fit : All (IsRelax ex) lines
   pub few : length lines ≤ 64
 
-one-relax : (ex : Exercise) (line : Relax) → IsRelax ex line → All (IsRelax ex) (line ∷ [])
-one-relax ex line one = λ k d lt.
-    let first : 0 ≡ k = omega arith in
-    subst (λ n. IsRelax ex (get_or (line ∷ []) n d)) first one
-
 relax-push : (ex : Exercise) (before : List Relax) (text : TextLines) (line : Relax) → IsRelax ex line
     → AreRelaxes ex before
     → goes_on (relax_lines_of ex) before text ≡ true → AreRelaxes ex (before ++ line ∷ [])
 relax-push ex before text line one so_far go = record {
-  fit = All-append (IsRelax ex) before (line ∷ []) so_far.fit (one-relax ex line one);
+  fit = All-push (IsRelax ex) before line so_far.fit one;
   few = omega (
     arith,
     length-append before (line ∷ []),

@@ -1,7 +1,8 @@
 -- A setting that is read is complete and has the cantus (`setting-valid`).
-use Rattle.std.proofs.Common.{◌≡◌, ◌⊎◌, inl, inr, ℕ, zero, suc, ◌+◌, ◌*◌, ◌<◌, ◌≤◌, Bool, true, false, List, [], ◌∷◌, ◌++◌, length, length-append, get_or, Option, refl, sym, ap, subst, ◌∙◌, arith}
+use Rattle.std.proofs.Common.{◌≡◌, ◌⊎◌, inl, inr, ℕ, zero, suc, ◌+◌, ◌*◌, ◌<◌, ◌≤◌, true, false, List, [], ◌∷◌, ◌++◌, length, length-append, get_or, Option, refl, sym, ap, subst, ◌∙◌, arith}
 use Rattle.std.specs.Prelude.{◌==◌, IfSome}
 use Rattle.std.specs.List.{range_with_len}
+use Rattle.std.proofs.lemmas.Bool.{eq-eqb}
 use Rattle.std.proofs.lemmas.List.FromFn.{length-range_with_len}
 use Rattle.fux_grid.specs.declared.cell.Cell.{Cell}
 use Rattle.fux_grid.specs.declared.exercise.Exercise.{Exercise}
@@ -12,7 +13,7 @@ use Rattle.text_lines.specs.Lines.{TextLines}
 use Rattle.text_lines.specs.Tables.{IsTable}
 use Rattle.fux_text.specs.Sing.{Fit, cantus_or_sung, setting_table, sung_table, voice_table, voices_table}
 use Rattle.fux_text.proofs.Following.{voices-length}
-use Rattle.fux_text.proofs.OnlySing.{sing_line-only}
+use Rattle.fux_text.proofs.OnlySing.{IsLineFor, sing_line-only}
 use Rattle.voice_lines.specs.Lines.{cantus_cells, score_of}
 use Rattle.voice_lines.proofs.CantusLines.{score_given}
 
@@ -32,22 +33,17 @@ pub get_or-end : (xs : List (List Cell)) (y : List Cell) → get_or (xs ++ y ∷
 get_or-end [] y = refl
 get_or-end (x ∷ xs) y = get_or-end xs y
 
-voice-cantus : (fit : Fit) (ex : Exercise) (v : ℕ) (text : TextLines) (x : List Cell) (rest : TextLines) → v ≡ ex.cantus_voice
-    → IsTable (voice_table fit ex v) text x rest → x ≡ cantus_cells ex.cantus
-voice-cantus fit ex v text x rest same h = by (v == ex.cantus_voice) refl h
-  where
-    by : (b : Bool) → (v == ex.cantus_voice) ≡ b → IsTable (cantus_or_sung fit ex v b) text x rest
-        → x ≡ cantus_cells ex.cantus
-    by true d h = sym h.0
-    by false d h = absurd (grind (arith, d, same))
+-- the voice of the cantus has its cells, and no line; each other one has a line
+pub voice-cantus : (fit : Fit) (ex : Exercise) (v : ℕ) (text : TextLines) (x : List Cell) (rest : TextLines)
+    → (v == ex.cantus_voice) ≡ true → IsTable (voice_table fit ex v) text x rest
+    → (cantus_cells ex.cantus ≡ x) × (text ≡ rest)
+voice-cantus fit ex v text x rest same h = subst (λ b. IsTable (cantus_or_sung fit ex v b) text x rest) same h
 
-voice-fits : (fit : Fit) (ex : Exercise) (v : ℕ) (text : TextLines) (x : List Cell) (rest : TextLines)
-    → (v == ex.cantus_voice) ≡ false → IsTable (voice_table fit ex v) text x rest → fit v x ≡ true
-voice-fits fit ex v text x rest other h = by (v == ex.cantus_voice) other h
-  where
-    by : (b : Bool) → b ≡ false → IsTable (cantus_or_sung fit ex v b) text x rest → fit v x ≡ true
-    by true d h = absurd (grind (arith, d))
-    by false d h = (sing_line-only (fit v) ex.bars v text x rest h).fits
+pub voice-line : (fit : Fit) (ex : Exercise) (v : ℕ) (text : TextLines) (x : List Cell) (rest : TextLines)
+    → (v == ex.cantus_voice) ≡ false → IsTable (voice_table fit ex v) text x rest
+    → IsLineFor (fit v) ex.bars v text x rest
+voice-line fit ex v text x rest other h =
+    sing_line-only (fit v) ex.bars v text x rest (subst (λ b. IsTable (cantus_or_sung fit ex v b) text x rest) other h)
 
 pub voices-keep : (fit : Fit) (ex : Exercise) (n a : ℕ) (before : List (List Cell)) (text : TextLines)
     (x : List (List Cell)) (rest : TextLines)
@@ -66,13 +62,15 @@ voices-keep fit ex (suc n) a before text x rest long h =
     record {
       kept = λ k lt. later.kept k (omega (arith, lt)) ∙ get_or-left before h.0 k (omega (arith, lt, long));
       cantus = λ low high. elim (eq_or_more a ex.cantus_voice low) [
-        | inl same ↦ ap (λ v. get_or x v []) (sym same) ∙ last ∙ voice-cantus fit ex a text h.0 h.1 same h.2
+        | inl same ↦
+            ap (λ v. get_or x v []) (sym same) ∙ last
+            ∙ sym (voice-cantus fit ex a text h.0 h.1 (eq-eqb a ex.cantus_voice same) h.2).0
         | inr lt ↦ later.cantus (omega (arith, lt)) (omega (arith, high))
       ];
       fits = λ v low high other. elim (eq_or_more a v low) [
         | inl same ↦
             ap (λ w. fit w (get_or x w [])) (sym same) ∙ ap (fit a) last
-            ∙ voice-fits fit ex a text h.0 h.1 (ap (λ w. w == ex.cantus_voice) same ∙ other) h.2
+            ∙ (voice-line fit ex a text h.0 h.1 (ap (λ w. w == ex.cantus_voice) same ∙ other) h.2).fits
         | inr lt ↦ later.fits v (omega (arith, lt)) (omega (arith, high)) other
       ];
     }

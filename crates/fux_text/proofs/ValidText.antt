@@ -1,11 +1,11 @@
 -- What is read is a valid exercise (`exercise-valid`).
 use Rattle.std.proofs.Common.{◌≡◌, ℕ, List, Option, Some, None, Ok, sym, subst, arith}
-use Rattle.std.specs.Prelude.{All, IfSome}
+use Rattle.std.specs.Prelude.{IfSome}
 use Rattle.fux_grid.specs.declared.exercise.Exercise.{Exercise}
 use Rattle.fux_grid.specs.declared.exercise.RangeLine.{RangeLine}
 use Rattle.fux_grid.specs.declared.exercise.Relax.{Relax}
 use Rattle.fux_grid.specs.declared.given.GivenBar.{GivenBar}
-use Rattle.fux_grid.specs.Exercises.{AreSpecies, FitsGiven, IsGiven, IsGivenBar, IsRangeLine, IsRelax, IsValid}
+use Rattle.fux_grid.specs.Exercises.{AreSpecies, FitsGiven, IsGiven, IsValid}
 use Rattle.fux_grid.specs.Grid.{Grid}
 use Rattle.text_lines.specs.Lines.{TextLines, lines_in}
 use Rattle.text_lines.specs.Tables.{IsTable}
@@ -13,7 +13,8 @@ use Rattle.text_lines.proofs.TextLemmas.{text-right}
 use Rattle.fux_text.specs.Fitting.{any_cells, line_fits}
 use Rattle.fux_text.specs.Reading.{exercise_in, note_format, note_table, setting_alone}
 use Rattle.fux_text.specs.Sing.{sung_table}
-use Rattle.fux_text.proofs.Fits.{fits-whole, score-fits}
+use Rattle.fux_text.proofs.Alike.{free-alike, given-alike, givens-alike, ranges-alike, relaxes-alike}
+use Rattle.fux_text.proofs.Fits.{fits-alike, score-fits}
 use Rattle.fux_text.proofs.Givens.{AreGivens, givens-read}
 use Rattle.fux_text.proofs.ValidHead.{IsHead, head-valid}
 use Rattle.fux_text.proofs.ValidRanges.{AreValidRanges, ranges-valid}
@@ -37,11 +38,11 @@ all-valid head ranges relax given setting h r l g s f = record {
   differ = h.differ;
   mixed = subst (λ (species : Option (List ℕ)). IfSome species (AreSpecies ex)) (sym h.unmixed) tt;
   whole_cantus = h.whole;
-  range_lines_fit = fit ranges r.fit;
-  each_has_range = λ v free. r.each v (record { there = free.there; no_cantus = free.no_cantus });
-  relax_fit = relax_fit relax l.fit;
+  range_lines_fit = ranges-alike head ex ranges r.fit;
+  each_has_range = λ v free. r.each v (free-alike ex head v free);
+  relax_fit = relaxes-alike head ex relax l.fit;
   few_relax = l.few;
-  given_fit = given_fit ranges relax setting given g.fit;
+  given_fit = givens-alike head ex given g.fit;
   given_ascend = g.ascend;
   setting = settles setting s;
   setting_fits = fits setting f;
@@ -50,40 +51,6 @@ all-valid head ranges relax given setting h r l g s f = record {
     ex : Exercise
     ex = record head { ranges = ranges; relax = relax; given = given; setting = setting }
 
-    fit : (lines : List RangeLine) → All (IsRangeLine head) lines → All (IsRangeLine ex) lines
-    fit lines all = λ k d lt.
-        let one = all k d lt in
-        record {
-          free = record { there = one.free.there; no_cantus = one.free.no_cantus };
-          rises = one.rises;
-          within = one.within;
-        }
-
-    relax_fit : (lines : List Relax) → All (IsRelax head) lines → All (IsRelax ex) lines
-    relax_fit lines all = λ k d lt.
-        let one = all k d lt in
-        record {
-          least_rule = one.least_rule;
-          most_rule = one.most_rule;
-          voices = one.voices;
-          within = one.within;
-          price = one.price;
-        }
-
-    with_lines : List RangeLine → List Relax → Option Grid → Exercise
-    with_lines rs ls o = record head { ranges = rs; relax = ls; given = given; setting = o }
-
-    given_fit : (rs : List RangeLine) (ls : List Relax) (o : Option Grid) (lines : List GivenBar)
-        → All (IsGivenBar head) lines → All (IsGivenBar (with_lines rs ls o)) lines
-    given_fit rs ls o lines all = λ k d lt.
-        let one = all k d lt in
-        record {
-          free = record { there = one.free.there; no_cantus = one.free.no_cantus };
-          within = one.within;
-          whole = one.whole;
-          follow = one.follow;
-        }
-
     gives : Exercise
     gives = record head { given = given }
 
@@ -91,16 +58,13 @@ all-valid head ranges relax given setting h r l g s f = record {
         → IfSome o (λ score. FitsGiven ex score.columns)
     fits None f = tt
     fits (Some score) f =
-        fits-whole head ranges relax given setting score.columns
+        fits-alike gives ex score.columns
         (subst (λ (s : Grid). FitsGiven gives s.columns) f.whole
-        (score-fits gives f.lines (given_fit head.ranges head.relax head.setting given g.fit) f.fits))
+        (score-fits gives f.lines (givens-alike head gives given g.fit) f.fits))
 
     settles : (o : Option Grid) → IfSome o (IsGiven head) → IfSome o (IsGiven ex)
     settles None g = tt
-    settles (Some score) g = record {
-      complete = record { voices = g.complete.voices; whole = g.complete.whole };
-      cantus = g.cantus;
-    }
+    settles (Some score) g = given-alike head ex score g
 
 pub exercise-valid : (bytes : List ℕ) (ex : Exercise) → exercise_in bytes ≡ Ok ex → IsValid ex
 unfolding exercise_in

@@ -11,7 +11,6 @@ ghost use Rattle.text_lines.specs.Words.{words_of};
 ghost use Rattle.fux_text.specs.Lines.{voices_word};
 ghost use Rattle.fux_text.specs.Relaxing.{is_set, relax_lines_of, relax_row, rule_named, voices_named};
 
-use crate::exercise_lines::has_voice;
 use crate::fault::{TextFault, TextKind};
 use crate::limits::MOST_RELAX;
 use fux_grid::{Exercise, Relax, VoiceSet};
@@ -29,36 +28,34 @@ fn parse_rule(word: &[u8]) -> Option<u8>
 }
 
 /// What the voices of a set are called.
+#[tactic(auto, using(std::proofs::lemmas::Fmt::decimal_digit))]
 fn set_name(set: VoiceSet) -> &'static [u8]
+    requires { set.bits ≤ 15 }
     ensures { result.now ≡ voices_word (Some set) }
 {
-    match (
-        has_voice(set, 0),
-        has_voice(set, 1),
-        has_voice(set, 2),
-        has_voice(set, 3),
-    ) {
-        (false, false, false, false) => b"",
-        (true, false, false, false) => b"0",
-        (false, true, false, false) => b"1",
-        (true, true, false, false) => b"0,1",
-        (false, false, true, false) => b"2",
-        (true, false, true, false) => b"0,2",
-        (false, true, true, false) => b"1,2",
-        (true, true, true, false) => b"0,1,2",
-        (false, false, false, true) => b"3",
-        (true, false, false, true) => b"0,3",
-        (false, true, false, true) => b"1,3",
-        (true, true, false, true) => b"0,1,3",
-        (false, false, true, true) => b"2,3",
-        (true, false, true, true) => b"0,2,3",
-        (false, true, true, true) => b"1,2,3",
-        (true, true, true, true) => b"0,1,2,3",
+    match set.bits {
+        1 => b"0",
+        2 => b"1",
+        3 => b"0,1",
+        4 => b"2",
+        5 => b"0,2",
+        6 => b"1,2",
+        7 => b"0,1,2",
+        8 => b"3",
+        9 => b"0,3",
+        10 => b"1,3",
+        11 => b"0,1,3",
+        12 => b"2,3",
+        13 => b"0,2,3",
+        14 => b"1,2,3",
+        15 => b"0,1,2,3",
+        _ => b"",
     }
 }
 
 /// Whether the word is what these voices are called.
 fn is_set(word: &[u8], bits: u8) -> bool
+    requires { bits ≤ 15 }
     ensures { result ≡ is_set word.now bits }
 {
     is_same(set_name(VoiceSet { bits }), word)

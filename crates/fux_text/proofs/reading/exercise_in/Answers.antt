@@ -11,20 +11,19 @@ returns-in_err-setting c =
     let left = lines_of c.in_ok-given.text in
     rw (p.1, p.2)
     (fail-setting c.in_err-setting.field-0.0 c.args.bytes.now c.in_ok-version.version c.in_ok-ex.ex
-    c.in_ok-ranges.ranges.items c.in_ok-relax.relax.items given c.new.result left
-    (record {
-      all = lines_of c.in_ok-text.text;
-      behind_version = lines_of c.in_ok-version.text;
-      behind_head = lines_of c.in_ok-ex.text;
-      behind_ranges = lines_of c.in_ok-ranges.text;
-      behind_relax = lines_of c.in_ok-relax.text;
-      text = c.in_ok-text.ensures;
-      version_line = c.in_ok-version.ensures;
-      head_lines = c.in_ok-ex.ensures.value;
-      range_lines = c.in_ok-ranges.ensures;
-      relax_lines = c.in_ok-relax.ensures;
-      given_lines = c.in_ok-given.ensures;
-    })
+    c.in_ok-ranges.ranges.items c.in_ok-relax.relax.items given c.new.result left (
+      _,
+      _,
+      _,
+      _,
+      _,
+      c.in_ok-text.ensures,
+      c.in_ok-version.ensures,
+      c.in_ok-ex.ensures.value,
+      c.in_ok-ranges.ensures,
+      c.in_ok-relax.ensures,
+      c.in_ok-given.ensures,
+    )
     c.new.ensures c.in_err-setting.ensures)
 
 pub returns : goal.returns
@@ -34,20 +33,19 @@ returns c =
     let ex = c.in_ok-ex.ex in
     let o = c.in_ok-setting.setting in
     read-setting c.args.bytes.now c.in_ok-version.version ex
-    c.in_ok-ranges.ranges.items c.in_ok-relax.relax.items given c.new.result left (lines_of c.in_ok-setting.field-0-1) o
-    (record {
-      all = lines_of c.in_ok-text.text;
-      behind_version = lines_of c.in_ok-version.text;
-      behind_head = lines_of c.in_ok-ex.text;
-      behind_ranges = lines_of c.in_ok-ranges.text;
-      behind_relax = lines_of c.in_ok-relax.text;
-      text = c.in_ok-text.ensures;
-      version_line = c.in_ok-version.ensures;
-      head_lines = c.in_ok-ex.ensures.value;
-      range_lines = c.in_ok-ranges.ensures;
-      relax_lines = c.in_ok-relax.ensures;
-      given_lines = c.in_ok-given.ensures;
-    })
+    c.in_ok-ranges.ranges.items c.in_ok-relax.relax.items given c.new.result left (lines_of c.in_ok-setting.field-0-1) o (
+      _,
+      _,
+      _,
+      _,
+      _,
+      c.in_ok-text.ensures,
+      c.in_ok-version.ensures,
+      c.in_ok-ex.ensures.value,
+      c.in_ok-ranges.ensures,
+      c.in_ok-relax.ensures,
+      c.in_ok-given.ensures,
+    )
     c.new.ensures c.in_ok-setting.ensures
     ∙ ap (λ lines. Ok (record ex { ranges = lines; relax = c.in_ok-relax.relax.items; given = given; setting = o }))
     (sym c.new-2.ensures)

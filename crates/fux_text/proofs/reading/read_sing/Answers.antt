@@ -2,7 +2,7 @@ use Rattle.fux_grid.specs.Exercises.{IsGiven}
 use Rattle.fux_text.specs.Reading.{setting_alone}
 use Rattle.fux_text.specs.Texts.{AreSingLinesOf}
 use Rattle.fux_text.proofs.Answered.{given-both, given-fault, given-only, given-first}
-use Rattle.fux_text.proofs.ReadTexts.{lines-read, read-lines, read-sing_fault, sing_fault-read}
+use Rattle.fux_text.proofs.ReadTexts.{lines-read, sing_faults-read, sing_texts-read}
 use Rattle.fux_text.proofs.ValidText.{alone-valid}
 use Rattle.fux_text.proofs.reading.read_sing.Goals as goal
 
@@ -12,11 +12,11 @@ returns-clause-ok c =
     let lines = c.args.lines.now in
     given-both c.setting_alone.result (setting_alone ex lines) (AreSingLinesOf ex lines) (IsGiven ex)
     c.setting_alone.ensures
-    (λ score. read-lines ex lines score c.requires) (λ score. alone-valid ex lines score c.requires)
+    (λ score. (sing_texts-read ex lines score c.requires).1) (λ score. alone-valid ex lines score c.requires)
 
 pub returns-clause-fault : goal.returns-clause-fault
 returns-clause-fault c = λ kind line column e.
-    read-sing_fault c.args.ex.now c.args.lines.now kind line column
+    (sing_faults-read c.args.ex.now c.args.lines.now kind line column c.requires).1
     (given-fault c.setting_alone.result (setting_alone c.args.ex.now c.args.lines.now) kind line column e
     c.setting_alone.ensures)
 
@@ -28,4 +28,4 @@ returns-clause-only c = λ score are.
 pub returns-clause-first : goal.returns-clause-first
 returns-clause-first c = λ kind line column has.
     given-first c.setting_alone.result (setting_alone c.args.ex.now c.args.lines.now) kind line column
-    (sing_fault-read c.args.ex.now c.args.lines.now kind line column c.requires has) c.setting_alone.ensures
+    ((sing_faults-read c.args.ex.now c.args.lines.now kind line column c.requires).0 has) c.setting_alone.ensures
