@@ -1,0 +1,4 @@
+pub mod Graphs
+pub mod Sharper
+pub mod Laws
+pub mod Sameness

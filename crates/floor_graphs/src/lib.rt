@@ -1,0 +1,11 @@
+//! Floors of a tree from the numbers of a graph to which its paths are mapped. What is asked of the numbers is that they pass a check,
+//! however they were found.
+#![tactic(auto)]
+
+mod guide;
+mod search;
+mod sharpened;
+
+pub use guide::Guide;
+pub use search::search_sharpened;
+pub use sharpened::{Sharp, Sharpened};
