@@ -1,1 +1,2 @@
 pub mod SameAnswers
+pub mod NumberSteps

@@ -1,7 +1,7 @@
 -- What a search finds in a sharpened tree is so of the tree itself (`answer_from_sharpened`, `bounds_from_sharpened`).
-use Rattle.std.proofs.Common.{◌≡◌, ℕ, ◌≤◌, List, Option, Some}
+use Rattle.std.proofs.Common.{ℕ, List, Option}
 use Rattle.tree_search.specs.Answer.{IsLeaf, IsFirstLeast, HasNoLeaf, BoundsLeaves}
-use Rattle.tree_search.specs.Outcomes.{IfFound, IfSpent, OnNothing, IsAnswer, IsSpent}
+use Rattle.tree_search.specs.Outcomes.{IfFound, IfSpent, OnNothing}
 use Rattle.tree_search.specs.Space.{FloorsGrow}
 use Rattle.tree_search.specs.declared.outcome.Outcome.{Outcome}
 use Rattle.tree_search.specs.declared.outcome.Outcome.TheVariants.{Found, Nothing, Spent}

@@ -1,11 +1,11 @@
 -- Checked numbers give floors (`floors_from_numbers`). A tree whose floors are sharpened by floors keeps the law of
 -- floors (`sharpened_grows`) and has the same leaves (`leaf_to_sharpened`, `leaf_from_sharpened`).
-use Rattle.std.specs.Prelude.{◌≡◌, ℕ, ◌+◌, ◌<◌, ◌≤◌, ◌++◌, [], ◌∷◌, List, Option, Some, None, IsSome, IsSomeAnd, length, option_map, max}
+use Rattle.std.specs.Prelude.{◌≡◌, ℕ, ◌+◌, ◌≤◌, ◌++◌, [], ◌∷◌, List, Option, Some, None, IsSome, IsSomeAnd, option_map, max}
 use Rattle.std.proofs.Common.{refl, sym, ap, ap₂, subst, ◌∙◌, arith, append_assoc, append-nil}
 use Rattle.tree_search.specs.Answer.{IsLeaf}
-use Rattle.tree_search.specs.Space.{IsParent, FloorsGrow}
+use Rattle.tree_search.specs.Space.{FloorsGrow}
 use Rattle.tree_search.proofs.Floors.{live_above}
-use Rattle.floor_graphs.specs.Graphs.{AreChecked, IsPaidEdge, AreMapped, sum_at, AreFloors}
+use Rattle.floor_graphs.specs.Graphs.{AreChecked, AreMapped, sum_at, AreFloors}
 use Rattle.floor_graphs.specs.Sharper.{greater, greatest_from, greater_at, sharpened}
 
 -- the greater of two floors, where both are there

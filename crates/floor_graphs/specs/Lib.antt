@@ -1,4 +1,5 @@
 pub mod Graphs
+pub mod Numbers
 pub mod Sharper
 pub mod Laws
 pub mod Sameness

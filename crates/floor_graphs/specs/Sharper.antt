@@ -1,5 +1,5 @@
 -- Floors that are sharpened by others.
-use Rattle.std.specs.Prelude.{◌≡◌, ℕ, ◌++◌, ◌∷◌, [], List, Option, Some, None, max}
+use Rattle.std.specs.Prelude.{ℕ, ◌++◌, ◌∷◌, [], List, Option, Some, None, max}
 
 -- the greater of two floors; none where one of them is none
 abbrev pub greater : Option ℕ → Option ℕ → Option ℕ

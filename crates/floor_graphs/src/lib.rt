@@ -2,10 +2,12 @@
 //! however they were found.
 #![tactic(auto)]
 
+mod graph;
 mod guide;
 mod search;
 mod sharpened;
 
+pub use graph::{Graph, least_numbers};
 pub use guide::Guide;
 pub use search::search_sharpened;
 pub use sharpened::{Sharp, Sharpened};

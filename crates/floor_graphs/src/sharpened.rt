@@ -62,7 +62,10 @@ impl<'a, G: Guide> Space for Sharpened<'a, G> {
     }
 
     fn child_into(&self, sharp: &Self::Node, k: usize, child: &mut Self::Node) -> Option<u64> {
-        let floor = self.guide.space().child_into(&sharp.node, k, &mut child.node)?;
+        let floor = self
+            .guide
+            .space()
+            .child_into(&sharp.node, k, &mut child.node)?;
         let sum = self.guide.sum(&child.node)?;
         child.floor = sharp.floor.max(floor).max(sum);
         Some(child.floor)

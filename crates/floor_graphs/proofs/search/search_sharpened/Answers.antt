@@ -1,7 +1,4 @@
-use Rattle.std.proofs.Common.{◌≡◌, ◌≤◌, ℕ, List, Option}
 use Rattle.std.specs.Prelude.{Result, Ok, Err, IfOk}
-use Rattle.tree_search.specs.Answer.{IsFirstLeast, HasNoLeaf}
-use Rattle.tree_search.specs.Outcomes.{IfFound, OnNothing}
 use Rattle.tree_search.specs.declared.outcome.Outcome.{Outcome}
 use Rattle.floor_graphs.specs.Graphs.{AreFloors, sum_at}
 use Rattle.floor_graphs.specs.Laws.{floors_from_numbers}

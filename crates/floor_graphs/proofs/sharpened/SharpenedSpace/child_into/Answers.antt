@@ -1,6 +1,4 @@
-use Rattle.std.proofs.Common.{◌≡◌, ◌≤◌, Some, ℕ, List, [], ◌∷◌, ◌++◌, arith, sym}
-use Rattle.floor_graphs.specs.Graphs.{sum_at}
-use Rattle.floor_graphs.specs.Sharper.{sharpened}
+use Rattle.std.proofs.Common.{[], ◌∷◌, ◌++◌, sym}
 use Rattle.floor_graphs.specs.Laws.{dead_in_tree, dead_by_sum, floor_of_child, some_from}
 use Rattle.floor_graphs.proofs.sharpened.SharpenedSpace.child_into.Goals as goal
 

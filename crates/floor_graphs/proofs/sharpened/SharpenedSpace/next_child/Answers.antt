@@ -1,6 +1,4 @@
-use Rattle.std.proofs.Common.{◌≡◌, ◌≤◌, Option, Some, None, IsSomeAnd, ℕ, List, [], ◌∷◌, ◌++◌, arith}
-use Rattle.floor_graphs.specs.Graphs.{sum_at}
-use Rattle.floor_graphs.specs.Sharper.{sharpened}
+use Rattle.std.proofs.Common.{◌≤◌, Option, Some, None, IsSomeAnd, ℕ, [], ◌∷◌, ◌++◌, arith}
 use Rattle.floor_graphs.specs.Laws.{live_from_sharpened}
 use Rattle.floor_graphs.proofs.sharpened.SharpenedSpace.next_child.Goals as goal
 
