@@ -6,21 +6,14 @@ use Rattle.std.proofs.Math.ListN.{get_or-append}
 use Rattle.std.proofs.lemmas.List.{get_or_past, get_or_push}
 use Rattle.std.proofs.lemmas.Bool.{cases_lt}
 use Rattle.floor_graphs.specs.Graphs.{AreChecked}
-use Rattle.floor_graphs.specs.Numbers.{Step, LeadBack, IsEndBelow, is_edge_by, number_in, sum_behind, lesser_of, IsLeastBelow, IsNumber, AreLeast, AreSmall}
+use Rattle.floor_graphs.specs.Numbers.{Step, LeadBack, IsEndBelow, is_edge_by, number_in, sum_behind, lesser_of, lesser_low-first, lesser_low-second, IsLeastBelow, IsNumber, AreLeast, AreSmall}
 
 -- ---- the lesser of two sums
 
-lesser_low-first : (one other : Option ℕ) (x : ℕ) → IsSomeAnd one (λ least. least ≤ x)
-    → IsSomeAnd (lesser_of one other) (λ least. least ≤ x)
-lesser_low-first None other x h = absurd h
-lesser_low-first (Some a) None x h = h
-lesser_low-first (Some a) (Some b) x h = omega (arith, h)
-
-lesser_low-second : (one other : Option ℕ) (x : ℕ) → other ≡ Some x
-    → IsSomeAnd (lesser_of one other) (λ least. least ≤ x)
-lesser_low-second one None x h = cc
-lesser_low-second None (Some b) x h = let same : b ≡ x = cc in omega (arith, same)
-lesser_low-second (Some a) (Some b) x h = let same : b ≡ x = cc in omega (arith, same)
+-- a sum is no higher than itself
+itself : (o : Option ℕ) (x : ℕ) → o ≡ Some x → IsSomeAnd o (λ least. least ≤ x)
+itself None x h = cc
+itself (Some y) x h = let same : y ≡ x = cc in omega (arith, same)
 
 lesser_reached : (one other : Option ℕ) (least : ℕ) → lesser_of one other ≡ Some least
     → (one ≡ Some least) ⊎ (other ≡ Some least)
@@ -48,7 +41,7 @@ least_more sum bound own next more h next_is more_is = record {
       (λ before. lesser_low-first own next x (h.low label x before is))
       (λ after.
       let same : label ≡ bound = omega (arith, within, after) in
-      lesser_low-second own next x (next_is ∙ sym (ap sum same) ∙ is))
+      lesser_low-second own next x (itself next x (next_is ∙ sym (ap sum same) ∙ is)))
       (cases_lt label bound));
   reached = λ least is. ⊎_elim
       (λ first. let way = h.reached least first in (way.0, omega (arith, way.1), way.2))

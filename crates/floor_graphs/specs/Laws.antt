@@ -1,11 +1,15 @@
--- Checked numbers give floors (`floors_from_numbers`). A tree whose floors are sharpened by floors keeps the law of
+-- Checked numbers give floors (`floors_from_numbers`), and floors of several cases do (`floors_from_cases`). A tree whose floors are sharpened by floors keeps the law of
 -- floors (`sharpened_grows`) and has the same leaves (`leaf_to_sharpened`, `leaf_from_sharpened`).
-use Rattle.std.specs.Prelude.{◌≡◌, ℕ, ◌+◌, ◌≤◌, ◌++◌, [], ◌∷◌, List, Option, Some, None, IsSome, IsSomeAnd, option_map, max}
-use Rattle.std.proofs.Common.{refl, sym, ap, ap₂, subst, ◌∙◌, arith, append_assoc, append-nil}
+use Rattle.std.specs.Prelude.{◌≡◌, ℕ, zero, suc, ◌+◌, ◌-◌, ◌*◌, ◌/◌, ◌<◌, ◌≤◌, ◌++◌, [], ◌∷◌, List, Option, Some, None, IsSome, IsSomeAnd, option_map, max}
+use Rattle.std.proofs.Common.{⊎_elim, refl, sym, ap, ap₂, subst, ◌∙◌, arith, append_assoc, append-nil}
+use Rattle.std.proofs.Math.Nat.{div-lt_iff_lt-mul}
+use Rattle.std.proofs.lemmas.Bool.{cases_lt}
 use Rattle.tree_search.specs.Answer.{IsLeaf}
 use Rattle.tree_search.specs.Space.{FloorsGrow}
 use Rattle.tree_search.proofs.Floors.{live_above}
-use Rattle.floor_graphs.specs.Graphs.{AreChecked, AreMapped, sum_at, AreFloors}
+use Rattle.floor_graphs.specs.Graphs.{AreChecked, Rate, AreMapped, units_of, sum_at, AreFloors}
+use Rattle.floor_graphs.specs.Numbers.{lesser_low-first, lesser_low-second}
+use Rattle.floor_graphs.specs.Cases.{least_below, least_of_cases}
 use Rattle.floor_graphs.specs.Sharper.{greater, greatest_from, greater_at, sharpened}
 
 -- the greater of two floors, where both are there
@@ -31,25 +35,71 @@ sum_before from None before after cost value paid low h = absurd h
 sum_before None (Some x) before after cost value paid low h = absurd (low x refl)
 sum_before (Some y) (Some x) before after cost value paid low h = omega (arith, low x refl, paid, h)
 
+-- what is paid at most at the rate is in units no more than the value
+units_below : (rate : Rate) → 0 < rate.scale → (paid value : ℕ) (number : Option ℕ)
+    → IsSomeAnd (option_map (λ own. paid + own) number) (λ sum. sum ≤ rate.scale * value + rate.debt)
+    → IsSomeAnd (option_map (λ own. units_of rate (paid + own)) number) (λ floor. floor ≤ value)
+units_below rate some paid value None h = absurd h
+units_below rate some paid value (Some own) h =
+    let n = paid + own - rate.debt + (rate.scale - 1) in
+    let less : n < (value + 1) * rate.scale = omega (arith, h, some) in
+    let quotient : n / rate.scale < value + 1 = (div-lt_iff_lt-mul some).1 less in omega (arith, quotient)
+
+-- the least of some cases is no higher than any of them
+least_low : (sum : ℕ → Option ℕ) (count k : ℕ) → k < count → (value : ℕ) → IsSomeAnd (sum k) (λ floor. floor ≤ value)
+    → IsSomeAnd (least_below sum count) (λ floor. floor ≤ value)
+least_low sum zero k within value h = absurd (omega (arith, within))
+least_low sum (suc count) k within value h =
+    ⊎_elim
+    (λ before. lesser_low-first (least_below sum count) (sum count) value (least_low sum count k before value h))
+    (λ after.
+    let same : k ≡ count = omega (arith, after, within) in
+    lesser_low-second (least_below sum count) (sum count) value
+    (subst (λ (j : ℕ). IsSomeAnd (sum j) (λ floor. floor ≤ value)) same h))
+    (cases_lt k count)
+
 module _ {live : List ℕ → Option ℕ} {width : List ℕ → ℕ} {height : ℕ} (grows : FloorsGrow live width height) where
-  -- paid and number together are a floor that every leaf below reaches
-  pub floors_from_numbers : (paid place : List ℕ → ℕ) (edge : ℕ → ℕ → ℕ → Type 0) (is_end : ℕ → Type 0)
-      (number : ℕ → Option ℕ) → AreChecked edge is_end number → AreMapped live height paid place edge is_end
-      → AreFloors live height (sum_at paid place number)
-  floors_from_numbers paid place edge is_end number checked mapped path [] value leaf =
+  -- no leaf below a path has paid less, at the rate, than the path with its node's number
+  paid_below : (rate : Rate) (paid place : List ℕ → ℕ) (edge : ℕ → ℕ → ℕ → Type 0) (is_end : ℕ → Type 0)
+      (number : ℕ → Option ℕ) → AreChecked edge is_end number → AreMapped live height rate paid place edge is_end
+      → (path rest : List ℕ) (value : ℕ) → IsLeaf live height (path ++ rest) value
+      → IsSomeAnd (option_map (λ own. paid path + own) (number (place path)))
+      (λ sum. sum ≤ rate.scale * value + rate.debt)
+  paid_below rate paid place edge is_end number checked mapped path [] value leaf =
       let here = mapped.leaves path value
       (subst (λ (p : List ℕ). IsLeaf live height p value) (append-nil path) leaf) in
       let at_end : number (place path) ≡ Some 0 = checked.ends (place path) here.0 in
       rw at_end (omega (arith, here.1))
-  floors_from_numbers paid place edge is_end number checked mapped path (k ∷ rest) value leaf =
+  paid_below rate paid place edge is_end number checked mapped path (k ∷ rest) value leaf =
       let child = path ++ k ∷ [] in
       let same : path ++ k ∷ rest ≡ child ++ rest = sym (append_assoc path (k ∷ []) rest) in
       let below = subst (λ (p : List ℕ). IsLeaf live height p value) same leaf in
       let is_live = live_above grows rest child value below.1 in
       let step = mapped.steps path k (some_from (live child) is_live.0 is_live.1) in
-      sum_before (number (place path)) (number (place child)) (paid path) (paid child) step.cost value step.paid
+      sum_before (number (place path)) (number (place child)) (paid path) (paid child) step.cost
+      (rate.scale * value + rate.debt) step.paid
       (λ x is. checked.low (place path) (place child) step.cost x step.is_edge is)
-      (floors_from_numbers paid place edge is_end number checked mapped child rest value below)
+      (paid_below rate paid place edge is_end number checked mapped child rest value below)
+
+  -- what a path has paid with its node's number is a floor that every leaf below reaches
+  pub floors_from_numbers : (rate : Rate) → 0 < rate.scale → (paid place : List ℕ → ℕ)
+      (edge : ℕ → ℕ → ℕ → Type 0) (is_end : ℕ → Type 0) (number : ℕ → Option ℕ)
+      → AreChecked edge is_end number → AreMapped live height rate paid place edge is_end
+      → AreFloors live height (sum_at rate paid place number)
+  floors_from_numbers rate some paid place edge is_end number checked mapped path rest value leaf =
+      units_below rate some (paid path) value (number (place path))
+      (paid_below rate paid place edge is_end number checked mapped path rest value leaf)
+
+-- ---- what holds of several trees
+
+-- where each leaf of a tree is one of a case of it, and each case has floors, the least of these are floors of the tree
+pub floors_from_cases : (live : List ℕ → Option ℕ) (height count : ℕ) (case sum : ℕ → List ℕ → Option ℕ)
+    → ((path : List ℕ) (value : ℕ) → IsLeaf live height path value
+    → (k : ℕ) × (k < count) × IsLeaf (case k) height path value)
+    → ((k : ℕ) → k < count → AreFloors (case k) height (sum k)) → AreFloors live height (least_of_cases sum count)
+floors_from_cases live height count case sum covers floors path rest value leaf =
+    let its = covers (path ++ rest) value leaf in
+    least_low (λ k. sum k path) count its.0 its.1 value (floors its.0 its.1 path rest value its.2)
 
 -- ---- what holds of sharpened floors
 

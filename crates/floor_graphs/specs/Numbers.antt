@@ -1,4 +1,5 @@
 -- Graphs whose edges lead back to nodes of lower number, and the least sums to their ends.
+use Rattle.std.proofs.Common.{arith}
 use Rattle.std.specs.Prelude.{◌≡◌, ℕ, ◌+◌, ◌*◌, ◌^◌, ◌<◌, ◌≤◌, List, Option, Some, None, IsSomeAnd, Bool, true, false, min, slice_index_or, length, option_map}
 
 -- the node to which an edge leads, and what the edge costs
@@ -54,3 +55,17 @@ pub record AreLeast (edge : ℕ → ℕ → Option Step) (width : ℕ → ℕ) (
 -- a node's number is below 2^32 for each node before it
 abbrev pub AreSmall : List (Option ℕ) → Type 0
 AreSmall numbers = (node x : ℕ) → number_in numbers node ≡ Some x → x ≤ node * 2 ^ 32
+
+-- ---- what holds of them
+
+pub lesser_low-first : (one other : Option ℕ) (x : ℕ) → IsSomeAnd one (λ least. least ≤ x)
+    → IsSomeAnd (lesser_of one other) (λ least. least ≤ x)
+lesser_low-first None other x h = absurd h
+lesser_low-first (Some a) None x h = h
+lesser_low-first (Some a) (Some b) x h = omega (arith, h)
+
+pub lesser_low-second : (one other : Option ℕ) (x : ℕ) → IsSomeAnd other (λ least. least ≤ x)
+    → IsSomeAnd (lesser_of one other) (λ least. least ≤ x)
+lesser_low-second one None x h = absurd h
+lesser_low-second None (Some b) x h = h
+lesser_low-second (Some a) (Some b) x h = omega (arith, h)

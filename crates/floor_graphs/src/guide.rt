@@ -1,47 +1,48 @@
-//! Maps of a space to a graph.
-ghost use Rattle.std.specs.Prelude.{◌≡◌, ℕ, List, Option};
-ghost use Rattle.floor_graphs.specs.Graphs.{AreChecked, AreMapped, IsLiveAt, IsSumAt, sum_at};
+//! Floors that are known of a space beside its own.
+ghost use Rattle.std.specs.Prelude.{◌≡◌, ℕ, [], List, Option};
+ghost use Rattle.tree_search.specs.Space.{IsFoundAt};
+ghost use Rattle.floor_graphs.specs.Graphs.{AreFloors};
+ghost use Rattle.floor_graphs.specs.Guides.{IsFollowed, IsLiveChild};
 
 use tree_search::Space;
 
-/// A space with a graph to whose nodes its paths are mapped, and whose numbers are checked: a step of a live path is an edge that costs no
-/// more than the step pays. What a path has paid is then, with the number of its node, a floor that each leaf below it reaches. The graph
-/// may forget what distinguishes paths, and so have ways that no path takes: its numbers are the lower for it, and no less sound.
+/// Floors of the paths of a space, beside its own: the sum of a path is at most the value of each leaf below it, and a path without a sum has
+/// no leaf below it. A sum may be what a path has paid with the number of a graph's node, as `Graphs` says, or the least such sum of several
+/// graphs; how it was found is all one.
 pub trait Guide {
     type Tree: Space;
 
-    /// The space whose paths are mapped.
+    /// What stands for a path while a search is there.
+    type Place: Copy;
+
+    /// The space.
     ghost tree: { Self → Self.Tree };
 
-    /// What a path has paid.
-    ghost paid: { Self → List ℕ → ℕ };
+    /// The sum of a path, if it has one.
+    ghost sum: { Self → List ℕ → Option ℕ };
 
-    /// The node to which a path is mapped.
-    ghost place: { Self → List ℕ → ℕ };
+    /// The place belongs to the path.
+    ghost stands: { Self → Self.Place → List ℕ → Type 0 };
 
-    /// An edge leads from a node to a node, and costs so much.
-    ghost edge: { Self → ℕ → ℕ → ℕ → Type 0 };
-
-    /// The graph ends at this node.
-    ghost is_end: { Self → ℕ → Type 0 };
-
-    /// The number of a node. Below a path to a node without one there is no leaf.
-    ghost number: { Self → ℕ → Option ℕ };
-
-    /// The space whose paths are mapped.
+    /// The space.
     fn space(&self) -> &Self::Tree
         ensures { result.now ≡ tree self.now };
 
-    /// What a live path has paid with the number of its node, if that has one.
-    fn sum(&self, node: &<Self::Tree as Space>::Node) -> Option<u64>
-        requires { IsLiveAt (Self.Tree.is_at (tree self.now) node.now) (Self.Tree.live (tree self.now)) }
-        ensures { IsSumAt (Self.Tree.is_at (tree self.now) node.now) (Self.Tree.live (tree self.now))
-            (sum_at (paid self.now) (place self.now) (number self.now)) result };
+    /// The place and the sum of the empty path.
+    fn start(&self) -> Option<(Self::Place, u64)>
+        ensures { IsFoundAt (stands self.now) (sum self.now) [] result };
 
-    /// The numbers are checked.
-    ghost checked: { (guide : Self) → AreChecked (edge guide) (is_end guide) (number guide) };
+    /// The place and the sum of a live child.
+    fn follow(
+        &self,
+        place: &Self::Place,
+        k: usize,
+        child: &<Self::Tree as Space>::Node,
+    ) -> Option<(Self::Place, u64)>
+        requires { IsLiveChild (stands self.now place.now) (Self.Tree.is_at (tree self.now) child.now) (Self.Tree.live (tree self.now)) k }
+        ensures { IsFollowed (stands self.now) (sum self.now) place.now
+            (Self.Tree.is_at (tree self.now) child.now) (Self.Tree.live (tree self.now)) k result };
 
-    /// The paths are mapped.
-    ghost mapped: { (guide : Self) → AreMapped (Self.Tree.live (tree guide)) (Self.Tree.height (tree guide))
-        (paid guide) (place guide) (edge guide) (is_end guide) };
+    /// The sums are floors.
+    ghost floors: { (guide : Self) → AreFloors (Self.Tree.live (tree guide)) (Self.Tree.height (tree guide)) (sum guide) };
 }

@@ -1,15 +1,16 @@
--- Each step of a path is an edge into the next row (`rows_are_mapped`).
+-- Each step of a path is an edge into the next row (`rows_are_mapped`), so the numbers of the rows are floors (`numbers_are_floors`).
 use Rattle.std.specs.Prelude.{◌≡◌, ℕ, ◌+◌, ◌-◌, ◌<◌, ◌≤◌, ◌++◌, [], ◌∷◌, List, Bool, true, false, Option, Some, None, IsSome, option_map, option_and_then, if◌then◌else◌, length}
-use Rattle.std.proofs.Common.{arith, refl, sym, ap, ◌∙◌, suc, length-append}
+use Rattle.std.proofs.Common.{arith, refl, sym, ap, ◌∙◌, length-append}
 use Rattle.std.proofs.lemmas.Bool.Decides.{nat_tests}
-use Rattle.floor_graphs.specs.Graphs.{AreMapped, IsPaidEdge}
-use Rattle.floor_graphs.specs.Numbers.{Step, IsEndBelow, is_edge_by}
+use Rattle.floor_graphs.specs.Graphs.{AreChecked, AreFloors, AreMapped, IsPaidEdge, sum_at}
+use Rattle.floor_graphs.specs.Laws.{floors_from_numbers}
+use Rattle.floor_graphs.specs.Numbers.{number_in, IsEndBelow, is_edge_by}
 use Rattle.falling_paths.specs.declared.Grid.{Grid}
 use Rattle.falling_paths.specs.declared.Spot.{Spot}
 use Rattle.falling_paths.specs.declared.TheConstants.{COLUMNS}
 use Rattle.falling_paths.specs.Grid.{cost_at, is_near, floor_at, spot_from, spot_after, start}
-use Rattle.falling_paths.specs.Law.{spot_from-append, spot_from-row}
-use Rattle.guided_paths.specs.Rows.{has_next, row_edge, is_bottom, rows_left, cost_of, paid_at}
+use Rattle.falling_paths.specs.Law.{grid_floors_grow, spot_from-append, spot_from-row}
+use Rattle.guided_paths.specs.Rows.{at_cost, has_next, row_edge, is_bottom, rows_left, cost_of, paid_at}
 
 -- what a step pays, and the edge that it is
 record IsEdgeOf (grid : Grid) (spot next : Spot) (left column : ℕ) : Type 0 where
@@ -132,9 +133,20 @@ leaf_is_end grid path value long is =
     paid None is = cc
     paid (Some spot) is = let e : spot.cost ≡ value = cc in omega (arith, e)
 
-pub rows_are_mapped : (grid : Grid) → AreMapped (floor_at grid) (length grid.costs.items) (paid_at grid)
+rows_are_mapped : (grid : Grid) → AreMapped (floor_at grid) (length grid.costs.items) at_cost (paid_at grid)
     (rows_left grid) (is_edge_by (row_edge grid)) (IsEndBelow is_bottom (length grid.costs.items + 1))
 rows_are_mapped grid = record {
   steps = step_is_edge grid;
-  leaves = λ path value leaf. leaf_is_end grid path value leaf.0 leaf.1;
+  leaves = λ path value leaf.
+      let at_end = leaf_is_end grid path value leaf.0 leaf.1 in (at_end.0, omega (arith, at_end.1));
 }
+
+-- what a path has paid with the number of the rows left is a floor
+pub numbers_are_floors : (grid : Grid) (numbers : List (Option ℕ))
+    → AreChecked (is_edge_by (row_edge grid)) (IsEndBelow is_bottom (length grid.costs.items + 1)) (number_in numbers)
+    → AreFloors (floor_at grid) (length grid.costs.items)
+    (sum_at at_cost (paid_at grid) (rows_left grid) (number_in numbers))
+numbers_are_floors grid numbers checked =
+    floors_from_numbers (grid_floors_grow grid) at_cost (omega arith) (paid_at grid) (rows_left grid)
+    (is_edge_by (row_edge grid)) (IsEndBelow is_bottom (length grid.costs.items + 1)) (number_in numbers) checked
+    (rows_are_mapped grid)

@@ -2,6 +2,7 @@
 use Rattle.std.specs.Prelude.{◌≡◌, ℕ, ◌+◌, ◌-◌, ◌<◌, ◌≤◌, List, Option, Some, None, Bool, true, false, option_map, if◌then◌else◌, ◌&&◌, nat_lt, nat_le, ◌==◌, length}
 use Rattle.std.proofs.Common.{arith, ap, refl}
 use Rattle.std.proofs.lemmas.Bool.Decides.{nat_tests}
+use Rattle.floor_graphs.specs.Graphs.{Rate}
 use Rattle.floor_graphs.specs.Numbers.{Step, LeadBack}
 use Rattle.falling_paths.specs.declared.Grid.{Grid}
 use Rattle.falling_paths.specs.declared.Spot.{Spot}
@@ -26,6 +27,10 @@ row_edge grid node column =
 -- how many rows are left at the end of a path
 abbrev pub rows_left : Grid → List ℕ → ℕ
 rows_left grid path = length grid.costs.items - length path
+
+-- a leaf has paid its value
+abbrev pub at_cost : Rate
+at_cost = record { scale = 1; debt = 0 }
 
 -- what the spot has cost, where there is one
 abbrev pub cost_of : Option Spot → ℕ

@@ -1,7 +1,7 @@
 //! A worked example of a guide: paths that fall through a grid, guided by a graph that forgets in which column they are.
 #![tactic(auto)]
 
-ghost use Rattle.std.specs.Prelude.{◌≡◌, ◌≤◌, ◌*◌, ◌^◌, IfOk, length};
+ghost use Rattle.std.specs.Prelude.{◌≡◌, ◌≤◌, ◌*◌, ◌^◌, IfOk, length, option_map};
 ghost use Rattle.floor_graphs.specs.Graphs.{AreChecked};
 ghost use Rattle.floor_graphs.specs.Numbers.{AreSmall, IsEndBelow, is_edge_by, number_in};
 ghost use Rattle.guided_paths.specs.Rows.{row_edge, is_bottom};
@@ -76,40 +76,49 @@ impl<'a> GuidedGrid<'a> {
         let numbers = least_numbers(alloc, &Rows { grid })?;
         Ok(GuidedGrid { grid, numbers })
     }
+
+    /// What a path pays at least that has paid so much, where so many rows are left.
+    fn sum_of(&self, paid: u64, left: usize) -> Option<u64>
+        requires rows { left ≤ length self.now.grid.now.costs.items }
+        requires paid { paid ≤ 2 ^ 16 }
+        ensures { result ≡ option_map (λ own. paid + own) (number_in self.now.numbers.items left) }
+    {
+        let number = self.numbers[left]?;
+        Some(paid + number)
+    }
 }
 
 impl<'a> Guide for GuidedGrid<'a> {
-    ghost use Rattle.std.specs.Prelude.{◌+◌, ◌-◌, length};
-    ghost use Rattle.floor_graphs.specs.Numbers.{IsEndBelow, is_edge_by, number_in};
-    ghost use Rattle.guided_paths.specs.Rows.{row_edge, is_bottom, rows_left, paid_at};
-    ghost use Rattle.guided_paths.specs.Law.{rows_are_mapped};
+    ghost use Rattle.floor_graphs.specs.Graphs.{sum_at};
+    ghost use Rattle.floor_graphs.specs.Numbers.{number_in};
+    ghost use Rattle.guided_paths.specs.Rows.{at_cost, paid_at, rows_left};
+    ghost use Rattle.guided_paths.specs.Law.{numbers_are_floors};
 
     type Tree = Grid;
 
+    type Place = ();
+
     ghost tree = { λ guided. guided.grid.now };
 
-    ghost paid = { λ guided. paid_at guided.grid.now };
+    ghost sum = { λ guided. sum_at at_cost (paid_at guided.grid.now) (rows_left guided.grid.now) (number_in guided.numbers.items) };
 
-    ghost place = { λ guided. rows_left guided.grid.now };
+    ghost stands = { λ _ _ _. Unit {0} };
 
-    ghost edge = { λ guided. is_edge_by (row_edge guided.grid.now) };
-
-    ghost is_end = { λ guided. IsEndBelow is_bottom (length guided.grid.now.costs.items + 1) };
-
-    ghost number = { λ guided. number_in guided.numbers.items };
-
-    ghost checked = { λ guided. guided.checked };
-
-    ghost mapped = { λ guided. rows_are_mapped guided.grid.now };
+    ghost floors = { λ guided. numbers_are_floors guided.grid.now guided.numbers.items guided.checked };
 
     fn space(&self) -> &Grid {
         self.grid
     }
 
-    fn sum(&self, spot: &Spot) -> Option<u64> {
+    fn start(&self) -> Option<((), u64)> {
+        let sum = self.sum_of(0, self.grid.costs.len())?;
+        Some(((), sum))
+    }
+
+    fn follow(&self, _place: &(), _k: usize, spot: &Spot) -> Option<((), u64)> {
         let left = self.grid.costs.len() - spot.row;
-        let number = self.numbers[left]?;
-        Some(spot.cost + number)
+        let sum = self.sum_of(spot.cost, left)?;
+        Some(((), sum))
     }
 }
 

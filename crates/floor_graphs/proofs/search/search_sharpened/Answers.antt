@@ -1,7 +1,5 @@
 use Rattle.std.specs.Prelude.{Result, Ok, Err, IfOk}
 use Rattle.tree_search.specs.declared.outcome.Outcome.{Outcome}
-use Rattle.floor_graphs.specs.Graphs.{AreFloors, sum_at}
-use Rattle.floor_graphs.specs.Laws.{floors_from_numbers}
 use Rattle.floor_graphs.proofs.SameAnswers.{found_from_sharpened, nothing_from_sharpened, spent_from_sharpened, agrees_from_sharpened}
 use Rattle.floor_graphs.proofs.search.search_sharpened.Goals as goal
 
@@ -17,22 +15,17 @@ on_ok₂ : {E : Type 0} (P R Q : Outcome → Type 0) → ((outcome : Outcome) �
 on_ok₂ P R Q f (Ok outcome) h k = f outcome h k
 on_ok₂ P R Q f (Err e) h k = h
 
-floors : (g : _) (c : goal.After-search_front g) → AreFloors (g.G.Tree.Space.live (g.G.Guide.tree c.args.guide.now))
-    (g.G.Tree.Space.height (g.G.Guide.tree c.args.guide.now))
-    (sum_at (g.G.Guide.paid c.args.guide.now) (g.G.Guide.place c.args.guide.now) (g.G.Guide.number c.args.guide.now))
-floors g c = floors_from_numbers (g.met.G.Tree.Space.floors_grow (g.G.Guide.tree c.args.guide.now)) _ _ _ _ _
-    (g.met.G.Guide.checked c.args.guide.now) (g.met.G.Guide.mapped c.args.guide.now)
-
 pub returns : goal.returns
 returns g c =
     let grows = g.met.G.Tree.Space.floors_grow (g.G.Guide.tree c.args.guide.now) in
+    let floors = g.met.G.Guide.floors c.args.guide.now in
     record {
-      found = on_ok _ _ (found_from_sharpened _ _ _ _ grows (floors g c)) c.search_front.result
+      found = on_ok _ _ (found_from_sharpened _ _ _ _ grows floors) c.search_front.result
           c.search_front.ensures.found;
-      nothing = on_ok _ _ (nothing_from_sharpened _ _ _ _ grows (floors g c)) c.search_front.result
+      nothing = on_ok _ _ (nothing_from_sharpened _ _ _ _ grows floors) c.search_front.result
           c.search_front.ensures.nothing;
-      bound = on_ok _ _ (spent_from_sharpened _ _ _ _ grows (floors g c)) c.search_front.result
+      bound = on_ok _ _ (spent_from_sharpened _ _ _ _ grows floors) c.search_front.result
           c.search_front.ensures.bound;
-      agrees = on_ok₂ _ _ _ (agrees_from_sharpened _ _ _ _ grows (floors g c)) c.search_front.result
+      agrees = on_ok₂ _ _ _ (agrees_from_sharpened _ _ _ _ grows floors) c.search_front.result
           c.search_front.ensures.found c.search_front.ensures.nothing;
     }
