@@ -1,0 +1,15 @@
+use Rattle.std.proofs.Common.{◌≤◌, Option, Some, None, IsSomeAnd, ℕ, [], ◌∷◌, ◌++◌, arith}
+use Rattle.floor_graphs.specs.Laws.{live_from_sharpened}
+use Rattle.floor_graphs.proofs.sharpened.SharpenedSpace.next_child.Goals as goal
+
+-- what is no better than one floor is no better than a higher one
+no_better_above : (best : Option ℕ) (own floor : ℕ) → own ≤ floor → IsSomeAnd best (λ value. value ≤ own)
+    → IsSomeAnd best (λ value. value ≤ floor)
+no_better_above None own floor low h = h
+no_better_above (Some value) own floor low h = omega (arith, low, h)
+
+pub returns-clause-passed : goal.returns-clause-passed
+returns-clause-passed g c = λ path at child floor from to live.
+    let passed = rw c.space.ensures at c.next_child.ensures.passed in
+    let own = live_from_sharpened _ _ (path ++ child ∷ []) floor live in
+    no_better_above c.args.best own.0 floor own.2 (passed path at.0 child own.0 from to own.1)

@@ -1,0 +1,7 @@
+pub mod Graphs
+pub mod Numbers
+pub mod Cases
+pub mod Guides
+pub mod Sharper
+pub mod Laws
+pub mod Sameness

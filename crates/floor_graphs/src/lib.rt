@@ -1,0 +1,13 @@
+//! Floors of a tree from the numbers of a graph to which its paths are mapped. What is asked of the numbers is that they pass a check,
+//! however they were found.
+#![tactic(auto)]
+
+mod graph;
+mod guide;
+mod search;
+mod sharpened;
+
+pub use graph::{Graph, least_numbers};
+pub use guide::Guide;
+pub use search::search_sharpened;
+pub use sharpened::{Sharp, Sharpened};

@@ -1,0 +1,26 @@
+//! The search of a sharpened space, told of the space itself.
+
+ghost use Rattle.std.specs.Prelude.{◌≡◌, IfOk};
+ghost use Rattle.tree_search.specs.Answer.{IsFirstLeast, HasNoLeaf, BoundsLeaves};
+ghost use Rattle.tree_search.specs.Outcomes.{IfFound, OnNothing, IfSpent};
+ghost use Rattle.floor_graphs.specs.Sameness.{AgreesWithAnswers};
+
+use crate::guide::Guide;
+use crate::sharpened::Sharpened;
+use fux_pitch::Memory;
+use std::alloc::Global;
+use tree_search::{Outcome, search_front};
+
+/// The first leaf of least value of the guide's space, by the front over its sharpened floors. Where the budget is enough the answer is
+/// that of any search of the space itself; where it isn't, each leaf has at least the bound for a value.
+pub fn search_sharpened<G: Guide>(alloc: Global, guide: &G, budget: u32) -> Result<Outcome, Memory>
+    ensures found { IfOk result (λ outcome.
+        IfFound outcome (IsFirstLeast (G.Tree.live (G.tree guide.now)) (G.Tree.height (G.tree guide.now)))) }
+    ensures nothing { IfOk result (λ outcome.
+        OnNothing outcome (HasNoLeaf (G.Tree.live (G.tree guide.now)) (G.Tree.height (G.tree guide.now)))) }
+    ensures bound { IfOk result (λ outcome.
+        IfSpent outcome (BoundsLeaves (G.Tree.live (G.tree guide.now)) (G.Tree.height (G.tree guide.now)))) }
+    ensures agrees { IfOk result (AgreesWithAnswers (G.Tree.live (G.tree guide.now)) (G.Tree.height (G.tree guide.now))) }
+{
+    search_front(alloc, &Sharpened { guide }, budget)
+}

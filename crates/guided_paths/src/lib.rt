@@ -1,0 +1,215 @@
+//! A worked example of a guide: paths that fall through a grid, guided by a graph that forgets in which column they are.
+#![tactic(auto)]
+
+ghost use Rattle.std.specs.Prelude.{◌≡◌, ◌≤◌, ◌*◌, ◌^◌, IfOk, length, option_map};
+ghost use Rattle.floor_graphs.specs.Graphs.{AreChecked};
+ghost use Rattle.floor_graphs.specs.Numbers.{AreSmall, IsEndBelow, is_edge_by, number_in};
+ghost use Rattle.guided_paths.specs.Rows.{row_edge, is_bottom};
+ghost use Rattle.std.proofs.Props.{props};
+ghost use Rattle.std.specs.Prelude.{◌+◌};
+
+use falling_paths::{COLUMNS, Grid, Spot};
+use floor_graphs::{Graph, Guide, least_numbers};
+use fux_pitch::Memory;
+use std::alloc::Global;
+use tree_search::Space;
+
+/// The rows of a grid as a graph. A node is how many rows are left, and has an edge for each column that may be entered in the next row,
+/// wherever it lies.
+#[derive(Clone, Copy)]
+pub struct Rows<'a> {
+    pub grid: &'a Grid,
+}
+
+impl<'a> Graph for Rows<'a> {
+    ghost use Rattle.std.specs.Prelude.{◌+◌, length};
+    ghost use Rattle.falling_paths.specs.declared.TheConstants.{COLUMNS};
+    ghost use Rattle.guided_paths.specs.Rows.{row_edge, is_bottom, rows_lead_back};
+
+    ghost edge_at = { λ rows. row_edge rows.grid.now };
+
+    ghost width = { λ _ _. COLUMNS };
+
+    ghost ends_at = { λ _. is_bottom };
+
+    ghost nodes = { λ rows. length rows.grid.now.costs.items + 1 };
+
+    ghost lead_back = { λ rows. rows_lead_back rows.grid.now };
+
+    fn size(&self) -> u32 {
+        self.grid.costs.len() as u32 + 1
+    }
+
+    fn is_end(&self, node: u32) -> bool {
+        node == 0
+    }
+
+    fn labels(&self, _node: u32) -> usize {
+        COLUMNS
+    }
+
+    fn edge(&self, node: u32, label: usize) -> Option<(u32, u32)> {
+        if node == 0 {
+            return None;
+        }
+        let row = self.grid.costs.len() - node as usize;
+        let cost = self.grid.costs[row][label]?;
+        Some((node - 1, u32::from(cost)))
+    }
+}
+
+/// A grid with the least that is paid from each row on, whatever column a path is in.
+#[derive(Drop)]
+pub struct GuidedGrid<'a> {
+    grid: &'a Grid,
+    numbers: Vec<Option<u64>>,
+    ghost checked: { AreChecked (is_edge_by (row_edge grid.now)) (IsEndBelow is_bottom (length grid.now.costs.items + 1)) (number_in numbers.items) } by { Prim.hlevel props },
+    ghost small: { AreSmall numbers.items },
+    ghost whole: { length numbers.items ≡ length grid.now.costs.items + 1 },
+}
+
+impl<'a> GuidedGrid<'a> {
+    /// A grid with its numbers.
+    pub fn new(alloc: Global, grid: &'a Grid) -> Result<GuidedGrid<'a>, Memory>
+        ensures { IfOk result (λ guided. guided.grid.now ≡ grid.entry.now) }
+    {
+        let numbers = least_numbers(alloc, &Rows { grid })?;
+        Ok(GuidedGrid { grid, numbers })
+    }
+
+    /// What a path pays at least that has paid so much, where so many rows are left.
+    fn sum_of(&self, paid: u64, left: usize) -> Option<u64>
+        requires rows { left ≤ length self.now.grid.now.costs.items }
+        requires paid { paid ≤ 2 ^ 16 }
+        ensures { result ≡ option_map (λ own. paid + own) (number_in self.now.numbers.items left) }
+    {
+        let number = self.numbers[left]?;
+        Some(paid + number)
+    }
+}
+
+impl<'a> Guide for GuidedGrid<'a> {
+    ghost use Rattle.floor_graphs.specs.Graphs.{sum_at};
+    ghost use Rattle.floor_graphs.specs.Numbers.{number_in};
+    ghost use Rattle.guided_paths.specs.Rows.{at_cost, paid_at, rows_left};
+    ghost use Rattle.guided_paths.specs.Law.{numbers_are_floors};
+
+    type Tree = Grid;
+
+    type Place = ();
+
+    ghost tree = { λ guided. guided.grid.now };
+
+    ghost sum = { λ guided. sum_at at_cost (paid_at guided.grid.now) (rows_left guided.grid.now) (number_in guided.numbers.items) };
+
+    ghost stands = { λ _ _ _. Unit {0} };
+
+    ghost floors = { λ guided. numbers_are_floors guided.grid.now guided.numbers.items guided.checked };
+
+    fn space(&self) -> &Grid {
+        self.grid
+    }
+
+    fn start(&self) -> Option<((), u64)> {
+        let sum = self.sum_of(0, self.grid.costs.len())?;
+        Some(((), sum))
+    }
+
+    fn follow(&self, _place: &(), _k: usize, spot: &Spot) -> Option<((), u64)> {
+        let left = self.grid.costs.len() - spot.row;
+        let sum = self.sum_of(spot.cost, left)?;
+        Some(((), sum))
+    }
+}
+
+#[cfg(test)]
+mod tests {
+    use super::*;
+    use floor_graphs::search_sharpened;
+    use std::test::Fail;
+    use tree_search::{Outcome, search_front};
+
+    #[derive(Clone, Copy)]
+    enum Want {
+        Found(&'static [u16], u64),
+        Nothing,
+        SpentAt(u64),
+    }
+
+    fn is_wanted(outcome: &Outcome, want: &Want) -> bool {
+        match (outcome, want) {
+            (Outcome::Found { path, value }, Want::Found(columns, cost)) => {
+                path.as_slice() == *columns && value == cost
+            }
+            (Outcome::Nothing, Want::Nothing) => true,
+            (Outcome::Spent { bound }, Want::SpentAt(floor)) => bound == floor,
+            _ => false,
+        }
+    }
+
+    #[test]
+    fn searches_guided_grids(rt: HostRuntime) -> Result<(), Fail> {
+        let known: &[[Option<u8>; COLUMNS]] = &[
+            [Some(2), Some(1), Some(3)],
+            [Some(6), Some(5), Some(4)],
+            [Some(7), Some(8), Some(9)],
+        ];
+        let falling: &[[Option<u8>; COLUMNS]] = &[
+            [Some(8), Some(4), Some(0)],
+            [Some(2), Some(1), Some(0)],
+        ];
+        let shut: &[[Option<u8>; COLUMNS]] = &[[Some(1), Some(1), Some(1)], [None, None, None]];
+        let dead_first: &[[Option<u8>; COLUMNS]] = &[
+            [None, Some(2), Some(3)],
+            [Some(1), None, Some(1)],
+        ];
+        let dead_end: &[[Option<u8>; COLUMNS]] = &[
+            [Some(1), Some(1), Some(1)],
+            [None, None, Some(1)],
+        ];
+        let table = [
+            // from the rows on at least 12, 11 and 7 are paid: 13 nodes hang from one of at most 13, 8 from one of at most 12
+            (known, 13, Want::Found(&[1, 1, 0], 13)),
+            (known, 12, Want::SpentAt(13)),
+            (known, 8, Want::SpentAt(13)),
+            (known, 7, Want::SpentAt(12)),
+            (falling, 5, Want::Found(&[2, 2], 0)),
+            (falling, 4, Want::SpentAt(0)),
+            // no way leads through the last row, so not even the root is live
+            (shut, 0, Want::Nothing),
+            // four nodes hang from one of at most 3
+            (dead_first, 4, Want::Found(&[1, 0], 3)),
+            (dead_first, 3, Want::SpentAt(3)),
+            (dead_end, 5, Want::Found(&[1, 2], 2)),
+            (dead_end, 4, Want::SpentAt(2)),
+            (&[], 0, Want::Found(&[], 0)),
+        ];
+        for (costs, budget, want) in &table {
+            if costs.len() > 192 {
+                return Err("too many rows".into());
+            }
+            let grid = Grid {
+                costs: Vec::from_slice(rt.alloc(), costs)?,
+            };
+            let guided = GuidedGrid::new(rt.alloc(), &grid)?;
+            assert!(rt; is_wanted(&search_sharpened(rt.alloc(), &guided, *budget)?, want));
+        }
+        Ok(())
+    }
+
+    /// What both searches tell of a grid is the same.
+    #[test]
+    fn agrees_with_the_front(rt: HostRuntime) -> Result<(), Fail> {
+        let grid = Grid {
+            costs: Vec::from_slice(
+                rt.alloc(),
+                &[[Some(3), Some(1), None], [Some(1), Some(9), Some(9)]],
+            )?,
+        };
+        let guided = GuidedGrid::new(rt.alloc(), &grid)?;
+        let want = Want::Found(&[1, 0], 2);
+        assert!(rt; is_wanted(&search_sharpened(rt.alloc(), &guided, 100)?, &want));
+        assert!(rt; is_wanted(&search_front(rt.alloc(), &grid, 100)?, &want));
+        Ok(())
+    }
+}
