@@ -1,5 +1,5 @@
 -- The rules and tolls of motion keep the laws of a crate's book.
-use Rattle.std.specs.Prelude.{◌≡◌, ℕ, ◌==◌, Bool, true, false, ◌||◌, nat_le, List, [], length, reverse, if◌then◌else◌, refl}
+use Rattle.std.specs.Prelude.{◌≡◌, ℕ, ◌==◌, Bool, true, false, ◌||◌, nat_le, List, length, reverse, if◌then◌else◌, refl}
 use Rattle.std.proofs.Common.{ap, arith}
 use Rattle.fux_grid.specs.declared.cell.Cell.{Cell}
 use Rattle.fux_grid.specs.declared.exercise.Exercise.{Exercise}
@@ -9,7 +9,6 @@ use Rattle.rule_law.specs.Forms.{IsOf, pair_form, pair_sets_of}
 use Rattle.rule_law.specs.Nearby.{previous_pitches}
 use Rattle.rule_law.specs.Law.{at_once_settles, local_from_row}
 use Rattle.rule_law.specs.Pairs.{count_pairs}
-use Rattle.rule_law.specs.Quiet.{is_quiet}
 use Rattle.rule_law.specs.Rulebooks.{KeepsLaws, KeepsRuleLaws, KeepsTollLaws}
 use Rattle.motion_rules.specs.Afterbeats.{afterbeat_enough, afterbeat_row}
 use Rattle.motion_rules.specs.InnerVoices.{inner_move_into_perfect}

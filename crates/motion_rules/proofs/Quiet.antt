@@ -1,14 +1,13 @@
 -- At a quiet column no rule of motion is broken, and no toll of motion costs anything.
-use Rattle.std.specs.Prelude.{◌≡◌, ℕ, ◌==◌, true, false, ◌&&◌, List, nat_le, if◌then◌else◌}
+use Rattle.std.specs.Prelude.{◌≡◌, ℕ, ◌==◌, true, false, ◌&&◌, List}
 use Rattle.std.proofs.Common.{ap}
 use Rattle.std.proofs.lemmas.Bool.{and_right}
 use Rattle.fux_grid.specs.declared.cell.Cell.{Cell}
 use Rattle.fux_grid.specs.declared.exercise.Exercise.{Exercise}
 use Rattle.fux_grid.specs.Cells.{cell_in, pitch_of}
-use Rattle.fux_grid.specs.Exercises.{bar_of}
 use Rattle.rule_law.specs.Nearby.{Pitches}
-use Rattle.rule_law.specs.Pairs.{count_pairs, move_alike, sound_perfect}
-use Rattle.rule_law.specs.Quiet.{is_quiet, quiet_alike, quiet_moves, quiet_pair, quiet_slot, count_pairs-none, either_none, on_pair-none}
+use Rattle.rule_law.specs.Pairs.{move_alike, sound_perfect}
+use Rattle.rule_law.specs.Quiet.{is_quiet, quiet_alike, quiet_moves, quiet_pair, count_pairs-none, either_none, on_pair-none}
 use Rattle.rule_law.specs.Terms.{equal_perfects, interval_in}
 use Rattle.motion_rules.specs.Rows.{are_outer, is_above, near_rows, toll_rows}
 

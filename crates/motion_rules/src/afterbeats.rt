@@ -110,13 +110,8 @@ fn is_bare_parallel<C: ColumnsAround>(around: &C, ex: &Exercise, i: usize, v: u8
     ensures { (s : Columns) (first : ℕ) → C.show around.now ex.now s first → first ≤ i - 8 → i < length s →
         result ≡ reading_back (words.is_bare_parallel ex.now) s i v w }
 {
-    arrive_at_bar(
-        i,
-        cells_behind(around, ex, i, 7),
-        around.cells(ex, i),
-        v,
-        w,
-    ) && (stays_since_bar(around, ex, i, v) || stays_since_bar(around, ex, i, w))
+    arrive_at_bar(i, cells_behind(around, ex, i, 7), around.cells(ex, i), v, w)
+        && (stays_since_bar(around, ex, i, v) || stays_since_bar(around, ex, i, w))
 }
 
 /// S18: whether at the beginning of a bar that isn't the first, two voices sound a perfect interval equal to that at the beginning of

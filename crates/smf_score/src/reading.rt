@@ -40,7 +40,11 @@ fn read_notes(
 }
 
 /// The exercise of the events of a file.
-fn read_events(alloc: Global, head: &Head, events: &mut Events<'_>) -> Result<Exercise<'static>, SmfFault>
+fn read_events(
+    alloc: Global,
+    head: &Head,
+    events: &mut Events<'_>,
+) -> Result<Exercise<'static>, SmfFault>
     requires head { IsHead head.now }
     requires ticks { 0 < events.old.header.division }
     ensures value { ReadsAs result (OfFile head.now (file_seen events.old)) }

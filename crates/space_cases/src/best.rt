@@ -68,7 +68,11 @@ fn relax_lines(alloc: Global, rules: &[u8], bars: u8) -> Result<Vec<Relax>, Fail
 }
 
 /// The exercise of a line, and the end of the line.
-fn to_case<'a>(alloc: Global, line: &'a str, free: &[u8]) -> Result<(Exercise<'static>, &'a str), Fail> {
+fn to_case<'a>(
+    alloc: Global,
+    line: &'a str,
+    free: &[u8],
+) -> Result<(Exercise<'static>, &'a str), Fail> {
     let (name, line) = line.split_once('|').ok_or("no mode")?;
     let (cantus, line) = line.split_once('|').ok_or("no cantus")?;
     let (range, answer) = line.split_once('|').ok_or("no range")?;

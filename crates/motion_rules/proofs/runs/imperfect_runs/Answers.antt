@@ -1,4 +1,4 @@
-use Rattle.std.proofs.Common.{◌≡◌, true, ap, sym, ◌∙◌, arith}
+use Rattle.std.proofs.Common.{ap, sym, ◌∙◌, arith}
 use Rattle.std.specs.Prelude.{if◌then◌else◌}
 use Rattle.rule_law.specs.Pairs.{count_pairs}
 use Rattle.motion_rules.specs.Runs.{four_bar_lines_at, keep_on}
