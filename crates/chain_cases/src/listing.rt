@@ -56,7 +56,7 @@ pub(crate) fn least_of_settings(
     let mut sums = Vec::new(alloc);
     for k in 0..menu.len() {
         if follows(prev, &menu[k])
-            && let Some(own) = link_cost(exercise, sheet, i, prev, &menu[k])
+            && let Some(own) = link_cost(&*exercise, sheet, i, prev, &menu[k])
         {
             if let Some(rest) = least_of_settings(alloc, exercise, sheet, i + 1, Some(&menu[k]))? {
                 sums.push(own.saturating_add(rest))?;

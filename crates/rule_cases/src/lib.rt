@@ -9,6 +9,8 @@ mod found;
 #[cfg(test)]
 mod melody;
 #[cfg(test)]
+mod mixed;
+#[cfg(test)]
 mod spans;
 #[cfg(test)]
 mod tables;

@@ -1,7 +1,8 @@
 //! The tables, read by one loop.
 
 use crate::found::add_found;
-use crate::{chords, spans};
+use crate::{chords, mixed, spans};
+use fux_grid::mixed_as;
 use short_scores::case_of;
 use std::alloc::Global;
 use std::process::Abort;
@@ -15,6 +16,43 @@ fn compare(rt: &impl Abort, alloc: Global, text: &str) -> Result<(), Fail> {
     let mut found = String::new(alloc);
     add_found(&mut found, asked, &case.exercise, &case.score, 0)?;
     assert_eq!(rt; found.as_str(), wanted, "{asked}\n{text}");
+    Ok(())
+}
+
+/// The species of the line that begins with `mixed`, by voice, and 1 for the voices beyond its end.
+fn species_of(text: &str) -> Result<[u8; 4], Fail> {
+    let mut species = [1u8; 4];
+    for line in text.lines() {
+        if let Some(line) = line.strip_prefix("mixed ") {
+            for (place, word) in species.iter_mut().zip(line.split(' ')) {
+                *place = word.parse::<u8>()?;
+            }
+            return Ok(species);
+        }
+    }
+    Err("no species".into())
+}
+
+/// The same where each voice has a species of its own.
+fn compare_mixed(rt: &impl Abort, alloc: Global, text: &str) -> Result<(), Fail> {
+    let (asked, text) = text.split_once('\n').ok_or("nothing asked")?;
+    let (text, wanted) = text.split_once('=').ok_or("nothing wanted")?;
+    let case = case_of(alloc, text)?;
+    let exercise = mixed_as(&case.exercise, species_of(text)?);
+    if !exercise.is_valid() {
+        return Err("no valid species".into());
+    }
+    let mut found = String::new(alloc);
+    add_found(&mut found, asked, &exercise, &case.score, 0)?;
+    assert_eq!(rt; found.as_str(), wanted, "{asked}\n{text}");
+    Ok(())
+}
+
+#[test]
+fn mixed_cases_stand(rt: HostRuntime) -> Result<(), Fail> {
+    for text in mixed::CASES.split("\n\n") {
+        compare_mixed(&rt, rt.alloc(), text)?;
+    }
     Ok(())
 }
 
