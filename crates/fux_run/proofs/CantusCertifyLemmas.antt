@@ -1,6 +1,6 @@
 -- What `certcantus` writes: the certificate of a head that holds (`all_written`, `part_written`, `too_long`), and what it is of the best
 -- cantus (`of_best`, `of_none`, `of_bound`).
-use Rattle.std.proofs.Common.{◌≡◌, ℕ, ◌<◌, ◌≤◌, List, None, Some, Option, Result, Ok, Err, length, inl, inr, refl, sym, subst}
+use Rattle.std.proofs.Common.{◌≡◌, ℕ, ◌<◌, ◌≤◌, List, None, Some, Option, Result, Ok, Err, length, inl, inr, refl}
 use Rattle.std.proofs.lemmas.Bool.Decides.{leb_tells}
 use Rattle.cantus_law.specs.Certificates.{Holds}
 use Rattle.cantus_law.specs.Claims.{Said}
@@ -15,7 +15,7 @@ use Rattle.fux_run.specs.declared.work.Halt.{Halt}
 use Rattle.fux_run.specs.declared.work.Halt.TheVariants as halt
 use Rattle.fux_run.specs.declared.work.Stop.TheVariants as stop
 use Rattle.fux_run.specs.declared.work.Verdict.{Verdict}
-use Rattle.fux_run.specs.declared.work.Verdict.TheVariants.{Favorable, Unfavorable, Spent}
+use Rattle.fux_run.specs.declared.work.Verdict.TheVariants.{Favorable, Unfavorable}
 use Rattle.fux_run.specs.CantusCertified.{CertifiesPlan, CertifiesSaid, IsCertificateOf}
 use Rattle.fux_run.specs.Composed.{IsBoundText}
 use Rattle.fux_run.specs.Runs.{Writes}
@@ -81,6 +81,7 @@ module _ (plan : CantusPlan) (budget : ℕ) where
   of_best cantus penalty best (Err refusal.NoSetting) made = absurd made
   of_best cantus penalty best (Err (refusal.List line)) made = absurd made
   of_best cantus penalty best (Err (refusal.Canon line)) made = absurd made
+  of_best cantus penalty best (Err (refusal.With voice)) made = absurd made
   of_best cantus penalty best (Err (refusal.Sheet fault)) made = absurd made
   of_best cantus penalty best (Err (refusal.Midi fault)) made = absurd made
 
@@ -102,6 +103,7 @@ module _ (plan : CantusPlan) (budget : ℕ) where
   of_none none (Err refusal.NoSetting) made = absurd made
   of_none none (Err (refusal.List line)) made = absurd made
   of_none none (Err (refusal.Canon line)) made = absurd made
+  of_none none (Err (refusal.With voice)) made = absurd made
   of_none none (Err (refusal.Sheet fault)) made = absurd made
   of_none none (Err (refusal.Midi fault)) made = absurd made
 

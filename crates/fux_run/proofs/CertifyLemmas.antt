@@ -31,6 +31,7 @@ use Rattle.fux_run.proofs.MakeLemmas.{have_bytes}
 use Rattle.fux_run.specs.declared.refusal.Refusal.TheVariants as refusal
 use Rattle.fux_run.specs.declared.work.Halt.{Halt}
 use Rattle.fux_run.specs.declared.work.Halt.TheVariants as halt
+use Rattle.fux_run.specs.declared.work.Stop.{Stop}
 use Rattle.fux_run.specs.declared.work.Stop.TheVariants as stop
 use Rattle.fux_run.specs.declared.work.Verdict.{Verdict}
 use Rattle.fux_run.specs.declared.work.Verdict.TheVariants.{Favorable, Unfavorable, Spent}
@@ -39,7 +40,7 @@ use Rattle.fux_run.specs.Composed.{IsBoundText, bound_line}
 use Rattle.fux_run.specs.Runs.{Does, Ended, IsWritten, SaysWritten, Writes, work_output}
 use Rattle.fux_run.specs.declared.searching.Found.TheVariants as found
 use Rattle.fux_run.specs.Searched.{IsBestFound, IsBound, IsFound, IsNarrow, IsSpaceOf}
-use Rattle.fux_run.specs.Sheets.{sheet_said}
+use Rattle.fux_run.specs.Sheets.{ReadsSheet, sheet_said}
 use Rattle.class_marker.specs.Markings.{IsContent, IsTheText}
 use Rattle.fux_run.specs.Texts.{Work}
 
@@ -127,6 +128,7 @@ module _ (budget : ℕ) (form : Form) (sheet : Sheet) (ex : Exercise) (narrow : 
   of_best score penalty best (Err refusal.NoSetting) made = absurd made
   of_best score penalty best (Err (refusal.List line)) made = absurd made
   of_best score penalty best (Err (refusal.Canon line)) made = absurd made
+  of_best score penalty best (Err (refusal.With voice)) made = absurd made
   of_best score penalty best (Err (refusal.Sheet fault)) made = absurd made
   of_best score penalty best (Err (refusal.Midi fault)) made = absurd made
 
@@ -150,6 +152,7 @@ module _ (budget : ℕ) (form : Form) (sheet : Sheet) (ex : Exercise) (narrow : 
   of_none none (Err refusal.NoSetting) made = absurd made
   of_none none (Err (refusal.List line)) made = absurd made
   of_none none (Err (refusal.Canon line)) made = absurd made
+  of_none none (Err (refusal.With voice)) made = absurd made
   of_none none (Err (refusal.Sheet fault)) made = absurd made
   of_none none (Err (refusal.Midi fault)) made = absurd made
 
@@ -303,3 +306,17 @@ of_sheet budget form sheets bytes ex sheet cut old new answer text said =
       text = text;
       made = inl record { sheet = sheet; said = said; made = made };
     })
+
+-- and where the sheet is refused, so is the whole
+pub no_sheet : (budget : ℕ) (form : Form) (sheets : List (List ℕ)) (bytes : List ℕ) (ex : Exercise) (why : Stop) (cut : Type 0)
+    (old : Option (List ℕ)) (answer : Result Verdict Halt) → IsTheText bytes ex → ReadsSheet sheets (Err why)
+    → answer ≡ Err (halt.Stopped why) → Writes (CertifiesText budget form sheets bytes) cut old old answer
+no_sheet budget form sheets bytes ex (stop.Refused refusal) cut old answer text cause e = rw e (
+  refl,
+  inl record {
+    exercise = ex;
+    text = text;
+    made = inr record { refusal = refusal; is = refl; cause = cause };
+  },
+)
+no_sheet budget form sheets bytes ex stop.Memory cut old answer text cause e = rw e refl

@@ -7,7 +7,6 @@ use Rattle.cantus_space.specs.Answers.{IsBestWithin, IsNothingWithin}
 use Rattle.cantus_space.specs.declared.plan.CantusPlan.{CantusPlan}
 use Rattle.cantus_writer.specs.Writing.{written_certificate}
 use Rattle.fux_pitch.specs.declared.pitch.Pitch.{Pitch}
-use Rattle.penalty_sheet.specs.declared.sheet.Sheet.{Sheet}
 use Rattle.fux_run.specs.declared.command.Wanted.{Wanted}
 use Rattle.fux_run.specs.declared.refusal.Refusal.{Refusal}
 use Rattle.fux_run.specs.declared.refusal.Refusal.TheVariants.{LongCertificate}

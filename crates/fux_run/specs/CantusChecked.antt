@@ -1,5 +1,5 @@
 -- What `checkcantus` makes of a mode, a number of bars, a range and the file of a certificate, over a sheet of weights.
-use Rattle.std.specs.Prelude.{◌≡◌, ℕ, ◌⊎◌, List, Option, Result, Ok, Err}
+use Rattle.std.specs.Prelude.{◌≡◌, ℕ, List, Ok, Err}
 use Rattle.cantus_check.specs.Answers.{IsVerdictOn}
 use Rattle.cantus_check.specs.Checking.{accepted_of, cantus_subject}
 use Rattle.cantus_check.specs.Subjects.{IsCertificateText}

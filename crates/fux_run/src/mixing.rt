@@ -140,10 +140,10 @@ fn found_output(
         TellsMixed m.now.ex.now space.now.exercise space.now.sheet budget output.verdict output.bytes) }
 {
     match best_mixed(alloc, space, budget)? {
-        Outcome::Found { path, value } => {
-            let score = mixed_score(alloc, space, path.as_slice())?;
-            Ok(Output::of_text(Verdict::Favorable, best_text(alloc, m.ex, &score, value)?))
-        }
+        Outcome::Found { path, value } => Ok(Output::of_text(
+            Verdict::Favorable,
+            best_at(alloc, m, space, path.as_slice(), value)?,
+        )),
         Outcome::Nothing => Ok(Output::of_text(Verdict::Unfavorable, none_text(alloc)?)),
         Outcome::Spent { bound } => Ok(Output::of_text(Verdict::Spent, bound_text(alloc, bound)?)),
     }

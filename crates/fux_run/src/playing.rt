@@ -34,8 +34,10 @@ pub fn from_smf(alloc: Global, file: &Text, head: &Head) -> Result<Output, Stop>
     };
     match smf_score::from_smf(alloc, bytes, head) {
         Ok(exercise) => Ok(text_output(alloc, &exercise)?),
-        Err(SmfFault::Memory) => Err(Stop::Memory),
-        Err(fault) => Err(Stop::Refused(Refusal::Midi { fault })),
+        Err(fault) => match fault {
+            SmfFault::Memory => Err(Stop::Memory),
+            fault => Err(Stop::Refused(Refusal::Midi { fault })),
+        },
     }
 }
 

@@ -1,5 +1,5 @@
 -- What a search promises of the tree, said of settings (`search_is_exact`).
-use Rattle.std.specs.Prelude.{ℕ, ◌+◌, ◌↔◌, IfOk, List, Result, Ok, Err, Some}
+use Rattle.std.specs.Prelude.{ℕ, ◌+◌, ◌↔◌, IfOk, Result, Ok, Err}
 use Rattle.fux_grid.specs.declared.exercise.Exercise.{Exercise}
 use Rattle.fux_grid.specs.Exercises.{IsValid, columns_in}
 use Rattle.penalty_sheet.specs.declared.sheet.Sheet.{Sheet}

@@ -1,7 +1,7 @@
 -- Which children of a node are dead (`dead`), and which are no better than the best leaf so far: one that strays or dies
 -- (`stray_no_better`), and one that is pruned (`pruned_no_better`).
 use Rattle.std.specs.Prelude.{IsSomeAnd}
-use Rattle.std.proofs.Common.{◌≡◌, inl, inr, ◌+◌, ◌≤◌, Option, Some, None, ℕ, Bool, true, false, not, ◌&&◌, nat_lt, List, [], ◌∷◌, ◌++◌, length, reverse, slice_index_or, refl, ap, sym, ◌∙◌, subst, true≢false, arith}
+use Rattle.std.proofs.Common.{◌≡◌, inl, inr, ◌+◌, ◌≤◌, Option, ℕ, Bool, true, false, not, ◌&&◌, nat_lt, List, [], ◌∷◌, ◌++◌, length, reverse, slice_index_or, refl, ap, sym, ◌∙◌, subst, true≢false, arith}
 use Rattle.std.specs.List.{list_any}
 use Rattle.fux_grid.specs.declared.cell.Cell.{Cell}
 use Rattle.fux_grid.specs.declared.exercise.Exercise.{Exercise}
@@ -19,7 +19,7 @@ use Rattle.species_space.proofs.Children.{some_lower}
 use Rattle.mixed_rules.specs.declared.node.MixedNode.{MixedNode}
 use Rattle.mixed_rules.specs.Grows.{floor_after, live_value}
 use Rattle.mixed_rules.specs.Nodes.{IsNodeOf}
-use Rattle.mixed_rules.specs.Paths.{IsNoBetter, floor_of, live_at}
+use Rattle.mixed_rules.specs.Paths.{IsNoBetter, floor_of}
 
 third_false : (a b c d : Bool) → c ≡ false → (a && b && c && d) ≡ false
 third_false true true c d e = rw e refl

@@ -1,5 +1,4 @@
 -- Exercises with a species for each voice.
-use Rattle.std.specs.Prelude.{ℕ}
 use Rattle.fux_grid.specs.declared.exercise.Exercise.{Exercise}
 use Rattle.fux_grid.specs.Exercises.{AreSpecies, IsValid, as_mixed}
 use Rattle.mixed_rules.specs.declared.mixed.Mixed.{Mixed}

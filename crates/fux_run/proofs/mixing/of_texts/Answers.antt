@@ -27,4 +27,4 @@ returns c = λ bytes sheets text weights.
     made_of_mixed c.args.named.now c.args.job sheets bytes ex (c.in_ok-exercise.ensures.reads bytes text)
     c.in_ok-species.ensures.0 sheet c.of_mixed.result (c.in_ok-sheet.ensures sheets weights)
     (subst (λ (species : List ℕ). Answers (MakesOfMixed c.args.job sheet ex (as_mixed ex species)) c.of_mixed.result)
-    c.in_ok-species.ensures.1.0 c.of_mixed.ensures)
+    c.in_ok-species.ensures.1 c.of_mixed.ensures)

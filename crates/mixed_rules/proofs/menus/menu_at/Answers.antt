@@ -1,4 +1,4 @@
-use Rattle.std.proofs.Common.{◌≡◌, List, ap, sym, ◌∙◌, subst}
+use Rattle.std.proofs.Common.{List, ap, sym, ◌∙◌, subst}
 use Rattle.fux_grid.specs.declared.cell.Cell.{Cell}
 use Rattle.fux_grid.specs.Grid.{items_of}
 use Rattle.fux_grid.specs.Menus.{IsAscending}

@@ -1,6 +1,5 @@
-use Rattle.std.proofs.Common.{◌≡◌, ◌<◌, [], length, slice_index_or, ap, sym, ◌∙◌, subst, arith}
+use Rattle.std.proofs.Common.{◌≡◌, ◌<◌, length, sym, ◌∙◌, subst, arith}
 use Rattle.fux_grid.specs.Menus.{menu_of}
-use Rattle.floor_tables.specs.Tables.{Task}
 use Rattle.species_space.specs.Paths.{prefix_at, length-columns_on}
 use Rattle.mixed_rules.proofs.space.MixedSpaceSpace.child_into.Goals as goal
 
