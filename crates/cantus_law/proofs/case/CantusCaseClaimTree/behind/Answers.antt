@@ -11,6 +11,36 @@ use Rattle.cantus_law.specs.WayLaws.{few}
 use Rattle.cantus_law.proofs.PoolHeads.{no_head, pool_head, same_heads}
 use Rattle.cantus_law.proofs.case.CantusCaseClaimTree.behind.Goals as goal
 
+pub next_of_pool-requires : goal.next_of_pool-requires
+next_of_pool-requires c =
+    let it = c.args.self.now in
+    let ps = c.requires.node in
+    let open_node = c.requires.is_open in
+    record {
+      behind = reverse ps;
+      is_of = open_node.is_of.node;
+      room = omega (
+        arith,
+        length-reverse ps,
+        few it.space it.head.best ps open_node.claim open_node.says open_node.holds,
+      );
+    }
+
+pub after-requires : goal.after-requires
+after-requires c =
+    let it = c.args.self.now in
+    let ps = c.requires.node in
+    let open_node = c.requires.is_open in
+    record {
+      behind = reverse ps;
+      is_of = open_node.is_of.node;
+      room = omega (
+        arith,
+        length-reverse ps,
+        few it.space it.head.best ps open_node.claim open_node.says open_node.holds,
+      );
+    }
+
 pub returns-in-Some : goal.returns-in-Some
 returns-in-Some c = λ ps judged at.
     let it = c.args.self.now in
