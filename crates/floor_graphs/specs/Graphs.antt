@@ -1,5 +1,5 @@
 -- What is checked of the numbers at the nodes of a graph, and of the paths of a tree that are mapped to its nodes.
-use Rattle.std.specs.Prelude.{◌≡◌, ℕ, ◌+◌, ◌-◌, ◌*◌, ◌/◌, ◌≤◌, ◌++◌, ◌∷◌, [], List, Option, Some, IsSome, IsSomeAnd, option_map}
+use Rattle.std.specs.Prelude.{◌≡◌, ℕ, ◌+◌, ◌-◌, ◌*◌, ◌/◌, ◌≤◌, ◌++◌, ◌∷◌, [], List, Option, Some, IsSomeAnd, option_map}
 use Rattle.tree_search.specs.Answer.{IsLeaf}
 
 -- 0 where the graph ends; elsewhere a number is at most the cost of each edge with the number behind it, and a node
@@ -20,11 +20,11 @@ pub record Rate : Type 0 where
   pub scale : ℕ
   pub debt : ℕ
 
--- each step of a live path is an edge that costs no more than the step pays; a leaf is where the graph ends, and has
--- paid no more than its value and the debt
+-- each step on the way to a leaf is an edge that costs no more than the step pays; a leaf is where the graph ends, and
+-- has paid no more than its value and the debt
 pub record AreMapped (live : List ℕ → Option ℕ) (height : ℕ) (rate : Rate) (paid place : List ℕ → ℕ)
     (edge : ℕ → ℕ → ℕ → Type 0) (is_end : ℕ → Type 0) : Type 0 where
-  pub steps : (path : List ℕ) (child : ℕ) → IsSome (live (path ++ child ∷ []))
+  pub steps : (path rest : List ℕ) (child value : ℕ) → IsLeaf live height ((path ++ child ∷ []) ++ rest) value
       → IsPaidEdge edge (place path) (place (path ++ child ∷ [])) (paid path) (paid (path ++ child ∷ []))
   pub leaves : (path : List ℕ) (value : ℕ) → IsLeaf live height path value
       → is_end (place path) × (paid path ≤ rate.scale * value + rate.debt)

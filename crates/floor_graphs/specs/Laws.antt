@@ -58,7 +58,7 @@ least_low sum (suc count) k within value h =
     (subst (λ (j : ℕ). IsSomeAnd (sum j) (λ floor. floor ≤ value)) same h))
     (cases_lt k count)
 
-module _ {live : List ℕ → Option ℕ} {width : List ℕ → ℕ} {height : ℕ} (grows : FloorsGrow live width height) where
+module _ {live : List ℕ → Option ℕ} {height : ℕ} where
   -- no leaf below a path has paid less, at the rate, than the path with its node's number
   paid_below : (rate : Rate) (paid place : List ℕ → ℕ) (edge : ℕ → ℕ → ℕ → Type 0) (is_end : ℕ → Type 0)
       (number : ℕ → Option ℕ) → AreChecked edge is_end number → AreMapped live height rate paid place edge is_end
@@ -74,8 +74,7 @@ module _ {live : List ℕ → Option ℕ} {width : List ℕ → ℕ} {height : �
       let child = path ++ k ∷ [] in
       let same : path ++ k ∷ rest ≡ child ++ rest = sym (append_assoc path (k ∷ []) rest) in
       let below = subst (λ (p : List ℕ). IsLeaf live height p value) same leaf in
-      let is_live = live_above grows rest child value below.1 in
-      let step = mapped.steps path k (some_from (live child) is_live.0 is_live.1) in
+      let step = mapped.steps path rest k value below in
       sum_before (number (place path)) (number (place child)) (paid path) (paid child) step.cost
       (rate.scale * value + rate.debt) step.paid
       (λ x is. checked.low (place path) (place child) step.cost x step.is_edge is)

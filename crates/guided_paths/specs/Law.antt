@@ -3,7 +3,8 @@ use Rattle.std.specs.Prelude.{◌≡◌, ℕ, ◌+◌, ◌-◌, ◌<◌, ◌≤�
 use Rattle.std.proofs.Common.{arith, refl, sym, ap, ◌∙◌, length-append}
 use Rattle.std.proofs.lemmas.Bool.Decides.{nat_tests}
 use Rattle.floor_graphs.specs.Graphs.{AreChecked, AreFloors, AreMapped, IsPaidEdge, sum_at}
-use Rattle.floor_graphs.specs.Laws.{floors_from_numbers}
+use Rattle.tree_search.proofs.Floors.{live_above}
+use Rattle.floor_graphs.specs.Laws.{floors_from_numbers, some_from}
 use Rattle.floor_graphs.specs.Numbers.{number_in, IsEndBelow, is_edge_by}
 use Rattle.falling_paths.specs.declared.Grid.{Grid}
 use Rattle.falling_paths.specs.declared.Spot.{Spot}
@@ -136,7 +137,9 @@ leaf_is_end grid path value long is =
 rows_are_mapped : (grid : Grid) → AreMapped (floor_at grid) (length grid.costs.items) at_cost (paid_at grid)
     (rows_left grid) (is_edge_by (row_edge grid)) (IsEndBelow is_bottom (length grid.costs.items + 1))
 rows_are_mapped grid = record {
-  steps = step_is_edge grid;
+  steps = λ path rest child value leaf.
+      let own = live_above (grid_floors_grow grid) rest (path ++ child ∷ []) value leaf.1 in
+      step_is_edge grid path child (some_from (floor_at grid (path ++ child ∷ [])) own.0 own.1);
   leaves = λ path value leaf.
       let at_end = leaf_is_end grid path value leaf.0 leaf.1 in (at_end.0, omega (arith, at_end.1));
 }
@@ -147,6 +150,6 @@ pub numbers_are_floors : (grid : Grid) (numbers : List (Option ℕ))
     → AreFloors (floor_at grid) (length grid.costs.items)
     (sum_at at_cost (paid_at grid) (rows_left grid) (number_in numbers))
 numbers_are_floors grid numbers checked =
-    floors_from_numbers (grid_floors_grow grid) at_cost (omega arith) (paid_at grid) (rows_left grid)
+    floors_from_numbers at_cost (omega arith) (paid_at grid) (rows_left grid)
     (is_edge_by (row_edge grid)) (IsEndBelow is_bottom (length grid.costs.items + 1)) (number_in numbers) checked
     (rows_are_mapped grid)
