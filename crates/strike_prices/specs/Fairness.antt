@@ -84,8 +84,13 @@ same-self p = and_from (degree_of p == degree_of p) (int_eq (alter_of p) (alter_
 struck-same : (p : Pitch) (ps : List Pitch) → struck (place_in p) ps ≤ count_by (same_pitch p) ps
 struck-same p [] = omega arith
 struck-same p (q ∷ ps) =
-    omega (arith, sum_by-cons (λ x. cond (place_in x == place_in p) 1 0) q ps,
-    sum_by-cons (λ x. cond (same_pitch p x) 1 0) q ps, struck-same p ps, at (place_in q == place_in p) refl)
+    omega (
+      arith,
+      sum_by-cons (λ x. cond (place_in x == place_in p) 1 0) q ps,
+      sum_by-cons (λ x. cond (same_pitch p x) 1 0) q ps,
+      struck-same p ps,
+      at (place_in q == place_in p) refl,
+    )
   where
     at : (b : Bool) → (place_in q == place_in p) ≡ b → cond b 1 0 ≤ cond (same_pitch p q) 1 0
     at false e = omega arith
@@ -103,8 +108,12 @@ by_four price n =
 first_strikes_low : (place : ℕ) (prices : List ℕ) (ps : List Pitch) → first_strikes place prices ps ≤ 4 * sum prices
 first_strikes_low place [] ps = omega arith
 first_strikes_low place (price ∷ prices) ps =
-    omega (arith, by_four price (struck place ps), first_strikes_low (suc place) prices ps,
-    sum_by-cons (λ (x : ℕ). x) price prices)
+    omega (
+      arith,
+      by_four price (struck place ps),
+      first_strikes_low (suc place) prices ps,
+      sum_by-cons (λ (x : ℕ). x) price prices,
+    )
 
 struck-cons : (place : ℕ) (p : Pitch) (ps : List Pitch)
     → struck place (p ∷ ps) ≡ cond (place_in p == place) 1 0 + struck place ps
@@ -118,8 +127,11 @@ more_first : (place : ℕ) (prices : List ℕ) (p : Pitch) (ps : List Pitch)
     → first_strikes place prices ps ≤ first_strikes place prices (p ∷ ps)
 more_first place [] p ps = omega arith
 more_first place (price ∷ prices) p ps =
-    omega (arith, no_less price (struck place ps) (struck place (p ∷ ps)) (omega (arith, struck-cons place p ps)),
-    more_first (suc place) prices p ps)
+    omega (
+      arith,
+      no_less price (struck place ps) (struck place (p ∷ ps)) (omega (arith, struck-cons place p ps)),
+      more_first (suc place) prices p ps,
+    )
 
 -- and by the pitch's charge more where it was struck fewer than four times
 one_first : (price n : ℕ) → n < 4 → price + price * min 4 n ≤ price * min 4 (suc n)
@@ -135,12 +147,18 @@ first_more k place [] p ps at few = omega arith
 first_more zero place (price ∷ prices) p ps at few =
     let here : place_in p ≡ place = omega (arith, at) in
     let fewer : struck place ps < 4 = subst (λ (k : ℕ). struck k ps < 4) here few in
-    let grown : struck place (p ∷ ps) ≡ suc (struck place ps) = omega (arith, struck-cons place p ps,
-    ap {B = ℕ} (λ b. cond b 1 0) (eq-eqb (place_in p) place here)) in
+    let grown : struck place (p ∷ ps) ≡ suc (struck place ps) = omega (
+      arith,
+      struck-cons place p ps,
+      ap {B = ℕ} (λ b. cond b 1 0) (eq-eqb (place_in p) place here),
+    ) in
     rw grown (omega (arith, one_first price (struck place ps) fewer, more_first (suc place) prices p ps))
 first_more (suc k) place (price ∷ prices) p ps at few =
-    omega (arith, no_less price (struck place ps) (struck place (p ∷ ps)) (omega (arith, struck-cons place p ps)),
-    first_more k (suc place) prices p ps (omega (arith, at)) few)
+    omega (
+      arith,
+      no_less price (struck place ps) (struck place (p ∷ ps)) (omega (arith, struck-cons place p ps)),
+      first_more k (suc place) prices p ps (omega (arith, at)) few,
+    )
 
 -- Q20: the strikes of a line are charged at most what the first four of each pitch are, and what the others cost
 strikes_due : (prices : List ℕ) (most : ℕ) → ((place : ℕ) → slice_index prices place ≤ most) → (ps : List Pitch)
@@ -161,9 +179,13 @@ strikes_due prices most fair (p ∷ ps) =
         ≤ first_strikes 0 prices (p ∷ ps) + most * (from_bool b + beyond_fourth ps)
     at true e before = omega (arith, all, before, fair (place_in p), more_first 0 prices p ps)
     at false e before =
-        omega (arith, all, before,
-        first_more (place_in p) 0 prices p ps (omega arith)
-        (fewer (count_by (same_pitch p) ps) (struck (place_in p) ps) e (struck-same p ps)))
+        omega (
+          arith,
+          all,
+          before,
+          first_more (place_in p) 0 prices p ps (omega arith)
+              (fewer (count_by (same_pitch p) ps) (struck (place_in p) ps) e (struck-same p ps)),
+        )
 
 -- ---- the climax
 
@@ -201,6 +223,9 @@ pub charged_is_due : (prices : Prices) (summit : Summit) (climax strikes : ℕ)
     → charged prices summit ps
     ≤ debt_of prices summit + prices.scale * (climax_repeats ps * climax + beyond_fourth ps * strikes)
 charged_is_due prices summit climax strikes fair ps within =
-    omega (arith, first_strikes_low 0 prices.strikes ps,
-    strikes_due prices.strikes (prices.scale * strikes) fair.strikes_low ps,
-    top_due summit.charge (prices.scale * climax) fair.top_low summit.high ps within)
+    omega (
+      arith,
+      first_strikes_low 0 prices.strikes ps,
+      strikes_due prices.strikes (prices.scale * strikes) fair.strikes_low ps,
+      top_due summit.charge (prices.scale * climax) fair.top_low summit.high ps within,
+    )
