@@ -16,7 +16,7 @@ mod voices;
 pub use canon::Canon;
 pub use law::is_tree_of_canons;
 pub use node::CanonNode;
-pub use reading::read_canon;
+pub use reading::{canon_texts_are_read, read_canon};
 pub use score::canon_score;
 pub use search::best_canon;
 pub use space::CanonSpace;

@@ -1,9 +1,10 @@
 //! The list of a class: the names of the files that its exercises stand in.
 
 ghost use Rattle.std.specs.Prelude.{◌≡◌, ◌&&◌, ℕ, ◌≤◌, List, length, nat_lt};
-ghost use Rattle.class_marker.specs.Lists.{Gives, is_name, listed_names, names_row};
+ghost use Rattle.class_marker.specs.Lists.{Gives, ListFaultsAreRead, ListsAreRead, is_name, listed_names, names_row};
 ghost use Rattle.class_marker.specs.Markings.{IsContent};
-ghost use Rattle.whole_lines.specs.Whole.{CutsLine, lines_said};
+ghost use Rattle.whole_lines.specs.Ended.{is_feed, said};
+ghost use Rattle.whole_lines.specs.Texts.{CutsLine};
 
 use crate::one::Text;
 use std::alloc::{AllocError, AllocFailed, Global};
@@ -59,7 +60,7 @@ fn is_name_behind(line: &str, names: usize) -> bool
 
 /// The names in the lines of a text.
 fn names_in(alloc: Global, text: &str) -> Result<Vec<String>, ListFault>
-    ensures { Gives result (lines_said names_row text.now) }
+    ensures { Gives result (said is_feed names_row text.now) }
 {
     let mut names = Vec::new(alloc);
     let mut rest = text;
@@ -98,3 +99,10 @@ pub fn read_list(alloc: Global, list: &Text) -> Result<Vec<String>, ListFault>
         Err(_) => Err(ListFault::At { line: 1 }),
     }
 }
+
+/// A law, and nothing to run: names are listed just where the lines of a text are names, one each, and a line is told just where the
+/// first fault stands in it.
+pub fn lists_are_read()
+    ensures names { ListsAreRead }
+    ensures faults { ListFaultsAreRead }
+{}

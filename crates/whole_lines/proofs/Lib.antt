@@ -1,1 +1,1 @@
-pub mod WholeLemmas
+pub mod EndedLemmas

@@ -1,6 +1,8 @@
-//! Texts of whole lines, each ended by its line feed: what a row of lines says, or the number of the first line at fault.
+//! Texts as one row of words, each with the byte that ends it: a line feed, or a space or a line feed.
 #![tactic(auto)]
 
-mod lines;
+mod places;
+mod words;
 
-pub use lines::split_line;
+pub use places::{Fault, Word, Words};
+pub use words::without_end;

@@ -1,12 +1,9 @@
-use Rattle.whole_lines.proofs.WholeLemmas.{line_lacking, line_right, line_wrong}
+use Rattle.whole_lines.proofs.EndedLemmas.{behind_place, behind_word}
+use Rattle.text_lines.specs.Numbers.{number_within}
 use Rattle.canon_space.proofs.reading.from_bars.Goals as goal
-
-pub returns-in_default-clause-value : goal.returns-in_default-clause-value
-returns-in_default-clause-value c = line_lacking _ _ _ _ c.in_default.ensures
-
-pub returns-in_default-bars_in-clause-value : goal.returns-in_default-bars_in-clause-value
-returns-in_default-bars_in-clause-value c = line_wrong _ _ _ _ _ _ c.in-Some.ensures c.in_default-bars_in.ensures.value
 
 pub returns-clause-value : goal.returns-clause-value
 returns-clause-value c =
-    line_right _ _ _ _ _ _ c.in-Some.ensures c.in-Some-bars_in.ensures.value c.from_leader.ensures.value
+    behind_word (λ canon. canon) c.from_leader.result _ _ 3 _ _ c.in_ok-words.ensures
+    (behind_place (λ canon. canon) c.from_leader.result _ _ 3 10 (number_within 3 24) _ _ c.in-Some.bars c.in_ok-word.ensures c.in-Some.ensures.value
+    (c.from_leader.ensures.value))

@@ -1,12 +1,9 @@
-use Rattle.whole_lines.proofs.WholeLemmas.{line_lacking, line_right, line_wrong}
+use Rattle.whole_lines.proofs.EndedLemmas.{behind_place, behind_word}
+use Rattle.fux_text.specs.Names.{mode_named}
 use Rattle.canon_space.proofs.reading.from_mode.Goals as goal
-
-pub returns-in_default-clause-value : goal.returns-in_default-clause-value
-returns-in_default-clause-value c = line_lacking _ _ _ _ c.in_default.ensures
-
-pub returns-in_default-mode_in-clause-value : goal.returns-in_default-mode_in-clause-value
-returns-in_default-mode_in-clause-value c = line_wrong _ _ _ _ _ _ c.in-Some.ensures c.in_default-mode_in.ensures
 
 pub returns-clause-value : goal.returns-clause-value
 returns-clause-value c =
-    line_right _ _ _ _ _ _ c.in-Some.ensures c.in-Some-mode_in.ensures c.from_bars.ensures.value
+    behind_word (λ canon. canon) c.from_bars.result _ _ 2 _ _ c.in_ok-words.ensures
+    (behind_place (λ canon. canon) c.from_bars.result _ _ 2 10 mode_named _ _ c.in-Some.mode c.in_ok-word.ensures c.in-Some.ensures
+    (c.from_bars.ensures.value))

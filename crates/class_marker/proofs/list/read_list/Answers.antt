@@ -1,6 +1,6 @@
 use Rattle.std.proofs.Common.{◌≡◌, ◌≤◌, length, ap, ◌∙◌, sym, subst, arith}
 use Rattle.std.specs.Str.{IsUtf8}
-use Rattle.whole_lines.specs.Whole.{lines_said}
+use Rattle.whole_lines.specs.Ended.{is_feed, said}
 use Rattle.class_marker.specs.Lists.{Gives, names_row}
 use Rattle.class_marker.specs.Markings.{IsContent}
 use Rattle.class_marker.proofs.ListLemmas.{none_listed, some_listed}
@@ -13,7 +13,7 @@ returns-in-Ok c = λ bytes content.
     let utf8 : IsUtf8 bytes = subst IsUtf8 read c.in-Ok.ensures.cases.1 in
     let few : length bytes ≤ 65536 = omega (arith, c.len.ensures, c.if-len-gt65536.false, ap length same) in
     subst (Gives c.names_in.result)
-    (ap (lines_said names_row) (c.in-Ok.ensures.cases.0 ∙ read) ∙ sym (some_listed bytes few utf8)) c.names_in.ensures
+    (ap (said is_feed names_row) (c.in-Ok.ensures.cases.0 ∙ read) ∙ sym (some_listed bytes few utf8)) c.names_in.ensures
 
 pub returns-in-Err : goal.returns-in-Err
 returns-in-Err c = λ bytes content.
