@@ -66,9 +66,9 @@ module _ (ends : ℕ → Bool) where
       let none : HasNone ends (take n bytes) =
       λ k d within. let before = fails_before_first ends bytes k d (grind (arith, common_steps)) in grind (arith, common_steps) in
       rw (← h.0) (
-        ap (ended ends) (split_at_first ends bytes 0 h.1)
-        ∙ ended-word (take n bytes) (get_or bytes n 0) (drop (n + 1) bytes) none (passes_at_first ends bytes 0 h.1)
-        ∙ ap (λ word. word ∷ ended ends (drop (n + 1) bytes)) (sym (take_more bytes n 0 h.1))
+      ap (ended ends) (split_at_first ends bytes 0 h.1)
+      ∙ ended-word (take n bytes) (get_or bytes n 0) (drop (n + 1) bytes) none (passes_at_first ends bytes 0 h.1)
+      ∙ ap (λ word. word ∷ ended ends (drop (n + 1) bytes)) (sym (take_more bytes n 0 h.1))
       )
 
   -- of nothing there is no word
