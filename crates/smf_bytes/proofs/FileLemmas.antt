@@ -222,38 +222,31 @@ to_come_is events answers h =
 
 -- ---- the reader
 
+-- the file that is seen in what was opened
+seen_opened : (result : Result Events ByteFault) (file : Result File ByteFault) → Gives file_seen result file
+    → IsOpened result file
+seen_opened (Ok events) file seen = subst (IsOpened (Ok events)) (sym seen) (refl, to_come_told events)
+seen_opened (Err fault) file seen = subst (IsOpened (Err fault)) (sym seen) refl
+
+opened_seen : (result : Result Events ByteFault) (file : Result File ByteFault) → IsOpened result file
+    → Gives file_seen result file
+opened_seen (Ok events) (Ok file) (header, answers) = rw (← to_come_is events file.answers answers, ← header) refl
+opened_seen (Ok events) (Err fault) h = absurd h
+opened_seen (Err fault) (Ok file) h = absurd h
+opened_seen (Err fault) (Err other) h = rw h refl
+
+one_seen : (result : Result Events ByteFault) (a b : Result File ByteFault) → Gives file_seen result a
+    → Gives file_seen result b → a ≡ b
+one_seen (Ok events) a b first second = first ∙ sym second
+one_seen (Err fault) a b first second = first ∙ sym second
+
 -- what was opened is the file that the bytes are
 pub opened : (bytes : List ℕ) (result : Result Events ByteFault) → Gives file_seen result (file_in bytes)
     → (file : Result File ByteFault) → IsFile bytes file ↔ IsOpened result file
-opened bytes (Ok events) read file = (there file, back file)
-  where
-    there : (file : Result File ByteFault) → IsFile bytes file → IsOpened (Ok events) file
-    there file h =
-        subst (IsOpened (Ok events)) (sym (file_is bytes file h ∙ read)) (refl, to_come_told events)
-
-    back : (file : Result File ByteFault) → IsOpened (Ok events) file → IsFile bytes file
-    back (Ok file) (header, answers) =
-        subst (IsFile bytes)
-        (read ∙ ap file_of (sym header) ∙ ap (file_with file.header) (sym (to_come_is events file.answers answers)))
-        (file_told bytes)
-      where
-        file_with : Header → Answers → Result File ByteFault
-        file_with header answers = Ok (record { header = header; answers = answers })
-
-        file_of : Header → Result File ByteFault
-        file_of header = file_with header (to_come events)
-    back (Err fault) h = absurd h
-opened bytes (Err fault) read file = (there file, back file)
-  where
-    there : (file : Result File ByteFault) → IsFile bytes file → IsOpened (Err fault) file
-    there file h = subst (IsOpened (Err fault)) (sym (file_is bytes file h ∙ read)) refl
-
-    back : (file : Result File ByteFault) → IsOpened (Err fault) file → IsFile bytes file
-    back (Ok file) h = absurd h
-    back (Err other) h = subst (IsFile bytes) (read ∙ ap failed (sym h)) (file_told bytes)
-      where
-        failed : ByteFault → Result File ByteFault
-        failed f = Err f
+opened bytes result read file = (
+  λ h. seen_opened result file (subst (Gives file_seen result) (sym (file_is bytes file h)) read),
+  λ h. subst (IsFile bytes) (one_seen result (file_in bytes) file read (opened_seen result file h)) (file_told bytes),
+)
 
 -- what the next answer is
 pub taken : (old new : Events) (answer : Option (Result declared.Event ByteFault))

@@ -1,4 +1,3 @@
-pub mod Answers
 pub mod EventLemmas
 pub mod FileLemmas
 pub mod PartLemmas
