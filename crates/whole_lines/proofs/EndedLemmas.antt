@@ -1,7 +1,7 @@
 -- Where the words of a text end (`ended-word`, `ended-last`), what stands in one without the byte that ends it (`without-end`,
 -- `without-none`), and that a text is read by a row just where it says so, or goes wrong so (`text-read`).
 use Rattle.std.proofs.Common.{◌≡◌, ◌↔◌, ℕ, ◌+◌, ◌-◌, ◌<◌, ◌≤◌, ◌==◌, Bool, true, false, List, [], ◌∷◌, ◌++◌, length, get_or, take, drop, Option, None, Some, Result, Ok, Err, refl, ap, sym, ◌∙◌, arith}
-use Rattle.std.specs.Prelude.{nat_lt, option_and_then, slice_index, if◌then◌else◌}
+use Rattle.std.specs.Prelude.{nat_lt, option_and_then, if◌then◌else◌}
 use Rattle.std.specs.List.{onto_first, position, position_or_len}
 use Rattle.std.proofs.Math.Seq.{get_or-append_seam, take-append_seam}
 use Rattle.std.proofs.lemmas.Bool.{lt-ltb, ltb-false}
@@ -11,7 +11,7 @@ use Rattle.std.proofs.lemmas.List.Elements.{All-head, All-tail}
 use Rattle.std.proofs.lemmas.List.Sums.{fails_before_first, passes_at_first, split_at_first}
 use Rattle.text_lines.specs.Faults.{Fault, ◌>>=◌}
 use Rattle.text_lines.specs.Reading.{fault_at, literal, next, same_text}
-use Rattle.text_lines.specs.Rows.{IsRow, IsRowFault, Row, right_word, row_in, told_at, word_place}
+use Rattle.text_lines.specs.Rows.{Row, right_word, row_in, told_at, word_place}
 use Rattle.text_lines.specs.Words.{LineWords, PlacedWord, first_word}
 use Rattle.text_lines.proofs.RowLemmas.{row-fails, row-gives, row-right, row-wrong}
 use Rattle.whole_lines.specs.Ended.{GoesWrong, IsText, IsTextFault, Says, by_kind, ended, ended_place, left_of_text, said, whole_text, without}
