@@ -1,2 +1,3 @@
 pub mod SameAnswers
 pub mod NumberSteps
+pub mod Rounds

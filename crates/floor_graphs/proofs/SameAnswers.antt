@@ -1,7 +1,7 @@
 -- What a search finds in a sharpened tree is so of the tree itself (`answer_from_sharpened`, `bounds_from_sharpened`).
-use Rattle.std.proofs.Common.{ℕ, List, Option}
+use Rattle.std.proofs.Common.{◌≡◌, ℕ, List, Option, refl}
 use Rattle.tree_search.specs.Answer.{IsLeaf, IsFirstLeast, HasNoLeaf, BoundsLeaves}
-use Rattle.tree_search.specs.Outcomes.{IfFound, IfSpent, OnNothing}
+use Rattle.tree_search.specs.Outcomes.{IfFound, IfSpent, IsSpent, OnNothing}
 use Rattle.tree_search.specs.Space.{FloorsGrow}
 use Rattle.tree_search.specs.declared.outcome.Outcome.{Outcome}
 use Rattle.tree_search.specs.declared.outcome.Outcome.TheVariants.{Found, Nothing, Spent}
@@ -10,6 +10,24 @@ use Rattle.floor_graphs.specs.Sharper.{sharpened}
 use Rattle.tree_search.proofs.Agreement.{outcomes_agree}
 use Rattle.floor_graphs.specs.Sameness.{AgreesWithAnswers}
 use Rattle.floor_graphs.specs.Laws.{leaf_to_sharpened, leaf_from_sharpened}
+
+-- what was found of a tree agrees with every answer
+pub agrees_from_facts : (live : List ℕ → Option ℕ) (height : ℕ) (outcome : Outcome)
+    → IfFound outcome (IsFirstLeast live height) → OnNothing outcome (HasNoLeaf live height)
+    → AgreesWithAnswers live height outcome
+agrees_from_facts live height outcome found nothing unspent other answer =
+    outcomes_agree live height outcome other record { found = found; nothing = nothing; unspent = unspent } answer
+
+pub not_spent : (outcome : Outcome) → ((bound : ℕ) → outcome ≡ Spent bound → ⊥) → IsSpent outcome → ⊥
+not_spent (Found path value) h spent = spent
+not_spent Nothing h spent = spent
+not_spent (Spent bound) h spent = h bound refl
+
+-- of an outcome that isn't spent any fact of its bound is so
+pub if_unspent : (P : ℕ → Type 0) (outcome : Outcome) → (IsSpent outcome → ⊥) → IfSpent outcome P
+if_unspent P (Found path value) unspent = tt
+if_unspent P Nothing unspent = tt
+if_unspent P (Spent bound) unspent = absurd (unspent tt)
 
 module _ (live sum : List ℕ → Option ℕ) (width : List ℕ → ℕ) (height : ℕ) (grows : FloorsGrow live width height)
     (floors : AreFloors live height sum) where
@@ -54,9 +72,5 @@ module _ (live sum : List ℕ → Option ℕ) (width : List ℕ → ℕ) (height
 
   pub agrees_from_sharpened : (outcome : Outcome) → IfFound outcome (IsFirstLeast (sharpened live sum) height)
       → OnNothing outcome (HasNoLeaf (sharpened live sum) height) → AgreesWithAnswers live height outcome
-  agrees_from_sharpened outcome found nothing unspent other answer =
-      outcomes_agree live height outcome other record {
-        found = found_from_sharpened outcome found;
-        nothing = nothing_from_sharpened outcome nothing;
-        unspent = unspent;
-      } answer
+  agrees_from_sharpened outcome found nothing =
+      agrees_from_facts live height outcome (found_from_sharpened outcome found) (nothing_from_sharpened outcome nothing)

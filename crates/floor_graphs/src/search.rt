@@ -5,13 +5,14 @@ ghost use Rattle.tree_search.specs.Answer.{IsFirstLeast, HasNoLeaf, BoundsLeaves
 ghost use Rattle.tree_search.specs.Outcomes.{IfFound, OnNothing, IfSpent};
 ghost use Rattle.floor_graphs.specs.Sameness.{AgreesWithAnswers};
 
+use crate::bounds::search_by_bounds;
 use crate::guide::Guide;
 use crate::sharpened::Sharpened;
 use fux_pitch::Memory;
 use std::alloc::Global;
-use tree_search::{Outcome, search_front};
+use tree_search::Outcome;
 
-/// The first leaf of least value of the guide's space, by the front over its sharpened floors. Where the budget is enough the answer is
+/// The first leaf of least value of the guide's space, by bounds over its sharpened floors (`search_by_bounds`). Where the budget is enough the answer is
 /// that of any search of the space itself; where it isn't, each leaf has at least the bound for a value.
 pub fn search_sharpened<G: Guide>(alloc: Global, guide: &G, budget: u32) -> Result<Outcome, Memory>
     ensures found { IfOk result (λ outcome.
@@ -22,5 +23,5 @@ pub fn search_sharpened<G: Guide>(alloc: Global, guide: &G, budget: u32) -> Resu
         IfSpent outcome (BoundsLeaves (G.Tree.live (G.tree guide.now)) (G.Tree.height (G.tree guide.now)))) }
     ensures agrees { IfOk result (AgreesWithAnswers (G.Tree.live (G.tree guide.now)) (G.Tree.height (G.tree guide.now))) }
 {
-    search_front(alloc, &Sharpened { guide }, budget)
+    search_by_bounds(alloc, &Sharpened { guide }, budget)
 }

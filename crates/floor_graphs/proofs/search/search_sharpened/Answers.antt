@@ -20,12 +20,12 @@ returns g c =
     let grows = g.met.G.Tree.Space.floors_grow (g.G.Guide.tree c.args.guide.now) in
     let floors = g.met.G.Guide.floors c.args.guide.now in
     record {
-      found = on_ok _ _ (found_from_sharpened _ _ _ _ grows floors) c.search_front.result
-          c.search_front.ensures.found;
-      nothing = on_ok _ _ (nothing_from_sharpened _ _ _ _ grows floors) c.search_front.result
-          c.search_front.ensures.nothing;
-      bound = on_ok _ _ (spent_from_sharpened _ _ _ _ grows floors) c.search_front.result
-          c.search_front.ensures.bound;
-      agrees = on_ok₂ _ _ _ (agrees_from_sharpened _ _ _ _ grows floors) c.search_front.result
-          c.search_front.ensures.found c.search_front.ensures.nothing;
+      found = on_ok _ _ (found_from_sharpened _ _ _ _ grows floors) c.search_by_bounds.result
+          c.search_by_bounds.ensures.found;
+      nothing = on_ok _ _ (nothing_from_sharpened _ _ _ _ grows floors) c.search_by_bounds.result
+          c.search_by_bounds.ensures.nothing;
+      bound = on_ok _ _ (spent_from_sharpened _ _ _ _ grows floors) c.search_by_bounds.result
+          c.search_by_bounds.ensures.bound;
+      agrees = on_ok₂ _ _ _ (agrees_from_sharpened _ _ _ _ grows floors) c.search_by_bounds.result
+          c.search_by_bounds.ensures.found c.search_by_bounds.ensures.nothing;
     }
