@@ -1,12 +1,12 @@
--- Where a bound of all leaves is known, what a search finds under a cap is found of the tree itself (`first_from_capped`), and where it
--- finds nothing all leaves are above the cap (`bounds_from_capped`).
+-- Where a bound of all leaves is known, what a search finds under a cap is found of the tree itself
+-- (`first_from_capped`), and where it finds nothing all leaves are above the cap (`bounds_from_capped`).
 use Rattle.std.proofs.Common.{◌≡◌, ℕ, ◌+◌, ◌≤◌, List, Option, Some, max, ap, ◌∙◌, subst, ⊎_elim, arith}
 use Rattle.std.proofs.lemmas.Bool.{cases_lt}
 use Rattle.tree_search.specs.Answer.{IsLeaf, IsFirstLeast, HasNoLeaf, BoundsLeaves}
 use Rattle.floor_graphs.specs.Capped.{capped, capped_parts, capped-within}
 
 module _ (live : List ℕ → Option ℕ) (height low high : ℕ) where
-  -- a leaf of the capped tree is one of the tree, within the cap, and its value there is the greater of the bound and its own
+  -- a leaf of the capped tree is one of the tree, within the cap; its value is raised to the bound
   pub leaf_from_capped : (path : List ℕ) (value : ℕ) → IsLeaf (capped live low high) height path value
       → (own : ℕ) × (IsLeaf live height path own × ((own ≤ high) × (value ≡ max low own)))
   leaf_from_capped path value leaf =

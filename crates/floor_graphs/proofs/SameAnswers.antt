@@ -1,4 +1,5 @@
--- What a search finds in a sharpened tree is so of the tree itself (`answer_from_sharpened`, `bounds_from_sharpened`).
+-- What a search finds in a sharpened tree is so of the tree itself (`found_from_sharpened`, `bounds_from_sharpened`),
+-- and what was found agrees with every answer (`agrees_from_facts`).
 use Rattle.std.proofs.Common.{◌≡◌, ℕ, List, Option, refl}
 use Rattle.tree_search.specs.Answer.{IsLeaf, IsFirstLeast, HasNoLeaf, BoundsLeaves}
 use Rattle.tree_search.specs.Outcomes.{IfFound, IfSpent, IsSpent, OnNothing}
@@ -11,7 +12,6 @@ use Rattle.tree_search.proofs.Agreement.{outcomes_agree}
 use Rattle.floor_graphs.specs.Sameness.{AgreesWithAnswers}
 use Rattle.floor_graphs.specs.Laws.{leaf_to_sharpened, leaf_from_sharpened}
 
--- what was found of a tree agrees with every answer
 pub agrees_from_facts : (live : List ℕ → Option ℕ) (height : ℕ) (outcome : Outcome)
     → IfFound outcome (IsFirstLeast live height) → OnNothing outcome (HasNoLeaf live height)
     → AgreesWithAnswers live height outcome

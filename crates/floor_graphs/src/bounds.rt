@@ -28,8 +28,8 @@ fn more_values(round: usize) -> u64
     (2u64 << (round - SINGLE_ROUNDS)) - 1
 }
 
-/// Looks in depth for a leaf of one of the least values that there may be, from the bound on, where there is none of the next ones, and so
-/// on. Each round has the whole budget. The outcome is never `Nothing`.
+/// Searches in depth below a cap, where that finds nothing below a higher one, and so on: the bound of all leaves then lies
+/// above the cap before. Each round has the whole budget. The outcome is never `Nothing`.
 fn search_rounds<S: Space>(
     alloc: Global,
     space: &S,
@@ -57,11 +57,12 @@ fn search_rounds<S: Space>(
     Ok(Outcome::Spent { bound: low })
 }
 
-/// The first leaf of least value. A front opens each node whose floor is at most that value, of which there may be very many where floors
-/// are sharp. So here a front has a small part of the budget at first, for a bound of all leaves. Then come rounds in depth, each of which
-/// knows that no leaf is below the bound, and leaves out what is above a cap: where the bound is the least value, a round is done with the
-/// first leaf that it meets. They look for one value after another at first, and for more and more at once later on, so that trees which
-/// have no leaf don't cost too many of them. Each may spend the whole budget. Where they come to nothing, the front has the whole budget.
+/// The first leaf of least value. A front opens each node whose floor is at most that value, and where floors are sharp there
+/// may be very many of the very same floor. So here a front has a small part of the budget at first, for a bound of all leaves.
+/// Then come rounds in depth, which leave out what is above a cap: where the bound is the least value, a round is done with the
+/// first leaf that it meets. They look for one value after another at first, and for more and more at once later on, so that a
+/// tree without leaves doesn't take too many of them. Each may spend the whole budget. Where they come to nothing, the front
+/// has the whole budget.
 pub fn search_by_bounds<S: Space>(alloc: Global, space: &S, budget: u32) -> Result<Outcome, Memory>
     ensures found { IfOk result (λ outcome. IfFound outcome (IsFirstLeast (S.live space.now) (S.height space.now))) }
     ensures nothing { IfOk result (λ outcome. OnNothing outcome (HasNoLeaf (S.live space.now) (S.height space.now))) }

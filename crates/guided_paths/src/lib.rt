@@ -168,8 +168,8 @@ mod tests {
             [None, None, Some(1)],
         ];
         let table = [
-            // from the rows on at least 12, 11 and 7 are paid; in the round at 12 two nodes are opened, 1 and 1 2, and no
-            // leaf; in the round at 13 four, 0, 1, 1 1 and the leaf
+            // from the rows on at least 12, 11 and 7 are paid; in the round at 12 two nodes are opened, 1 and 1 2, and
+            // no leaf; in the round at 13 four, 0, 1, 1 1 and the leaf
             (known, 4, Want::Found(&[1, 1, 0], 13)),
             (known, 3, Want::SpentAt(13)),
             (known, 2, Want::SpentAt(13)),
@@ -226,8 +226,8 @@ mod tests {
             [Some(100), Some(99), Some(100)],
         ];
         let table = [
-            // ten nodes are worth at most 12, none of them a leaf; in the round at 13 seven are opened, 0, 0 0, 0 1, 1, 1 0, 1 1
-            // and the leaf. The front needs 27
+            // ten nodes are worth at most 12, none of them a leaf; in the round at 13 seven are opened, 0, 0 0, 0 1, 1,
+            // 1 0, 1 1 and the leaf. The front needs 27
             (known, 10, Want::Found(&[1, 1, 0], 13)),
             // ten are worth at most 8 and eight at most 7
             (known, 9, Want::SpentAt(8)),
@@ -238,8 +238,8 @@ mod tests {
             // the same 2,376 nodes without a leaf: no round finds one, and then the front has room for all
             (shut, 2_376, Want::Nothing),
             (shut, 2_375, Want::SpentAt(0)),
-            // rounds at 0 to 15, which open the first row; then from 16, 18, 22, 30, 46 and 78 on: the last one opens the first
-            // row, a leaf worth 100 and the one worth 99
+            // rounds at 0 to 15, which open the first row; then from 16, 18, 22, 30, 46 and 78 on: the last one opens
+            // the first row, a leaf worth 100 and the one worth 99
             (steep, 5, Want::Found(&[0, 1], 99)),
             (steep, 4, Want::SpentAt(78)),
             (steep, 3, Want::SpentAt(78)),
