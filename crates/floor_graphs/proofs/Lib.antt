@@ -1,2 +1,4 @@
 pub mod SameAnswers
 pub mod NumberSteps
+pub mod Rounds
+pub mod Better

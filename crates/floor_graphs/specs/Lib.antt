@@ -5,3 +5,4 @@ pub mod Guides
 pub mod Sharper
 pub mod Laws
 pub mod Sameness
+pub mod Capped

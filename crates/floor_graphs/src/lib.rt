@@ -2,11 +2,15 @@
 //! however they were found.
 #![tactic(auto)]
 
+mod bounds;
+mod capped;
 mod graph;
 mod guide;
 mod search;
 mod sharpened;
 
+pub use bounds::search_by_bounds;
+pub use capped::Capped;
 pub use graph::{Graph, least_numbers};
 pub use guide::Guide;
 pub use search::search_sharpened;

@@ -1,18 +1,20 @@
 //! The search of a sharpened space, told of the space itself.
 
 ghost use Rattle.std.specs.Prelude.{◌≡◌, IfOk};
-ghost use Rattle.tree_search.specs.Answer.{IsFirstLeast, HasNoLeaf, BoundsLeaves};
-ghost use Rattle.tree_search.specs.Outcomes.{IfFound, OnNothing, IfSpent};
+ghost use Rattle.tree_search.specs.Answer.{IsFirstLeast, HasNoLeaf, BoundsLeaves, IsOverBudget};
+ghost use Rattle.tree_search.specs.Outcomes.{IfFound, OnNothing, IfSpent, IsSpent};
 ghost use Rattle.floor_graphs.specs.Sameness.{AgreesWithAnswers};
 
+use crate::bounds::search_by_bounds;
 use crate::guide::Guide;
 use crate::sharpened::Sharpened;
 use fux_pitch::Memory;
 use std::alloc::Global;
-use tree_search::{Outcome, search_front};
+use tree_search::Outcome;
 
-/// The first leaf of least value of the guide's space, by the front over its sharpened floors. Where the budget is enough the answer is
-/// that of any search of the space itself; where it isn't, each leaf has at least the bound for a value.
+/// The first leaf of least value of the guide's space, by bounds over its sharpened floors (`search_by_bounds`). Where the
+/// budget is enough the answer is that of any search of the space itself; where it isn't, each leaf has at least the bound
+/// for a value.
 pub fn search_sharpened<G: Guide>(alloc: Global, guide: &G, budget: u32) -> Result<Outcome, Memory>
     ensures found { IfOk result (λ outcome.
         IfFound outcome (IsFirstLeast (G.Tree.live (G.tree guide.now)) (G.Tree.height (G.tree guide.now)))) }
@@ -20,7 +22,11 @@ pub fn search_sharpened<G: Guide>(alloc: Global, guide: &G, budget: u32) -> Resu
         OnNothing outcome (HasNoLeaf (G.Tree.live (G.tree guide.now)) (G.Tree.height (G.tree guide.now)))) }
     ensures bound { IfOk result (λ outcome.
         IfSpent outcome (BoundsLeaves (G.Tree.live (G.tree guide.now)) (G.Tree.height (G.tree guide.now)))) }
+
+    // It ends wherever a front over the space itself does.
+    ensures over { IfOk result (λ outcome. IsSpent outcome
+        → IsOverBudget (G.Tree.live (G.tree guide.now)) (G.Tree.height (G.tree guide.now)) budget) }
     ensures agrees { IfOk result (AgreesWithAnswers (G.Tree.live (G.tree guide.now)) (G.Tree.height (G.tree guide.now))) }
 {
-    search_front(alloc, &Sharpened { guide }, budget)
+    search_by_bounds(alloc, &Sharpened { guide }, budget)
 }

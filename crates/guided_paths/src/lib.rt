@@ -125,7 +125,7 @@ impl<'a> Guide for GuidedGrid<'a> {
 #[cfg(test)]
 mod tests {
     use super::*;
-    use floor_graphs::search_sharpened;
+    use floor_graphs::{search_by_bounds, search_sharpened};
     use std::test::Fail;
     use tree_search::{Outcome, search_front};
 
@@ -168,20 +168,24 @@ mod tests {
             [None, None, Some(1)],
         ];
         let table = [
-            // from the rows on at least 12, 11 and 7 are paid: 13 nodes hang from one of at most 13, 8 from one of at most 12
-            (known, 13, Want::Found(&[1, 1, 0], 13)),
-            (known, 12, Want::SpentAt(13)),
-            (known, 8, Want::SpentAt(13)),
-            (known, 7, Want::SpentAt(12)),
-            (falling, 5, Want::Found(&[2, 2], 0)),
-            (falling, 4, Want::SpentAt(0)),
+            // from the rows on at least 12, 11 and 7 are paid; in the round at 12 two nodes are opened, 1 and 1 2, and
+            // no leaf; in the round at 13 four, 0, 1, 1 1 and the leaf
+            (known, 4, Want::Found(&[1, 1, 0], 13)),
+            (known, 3, Want::SpentAt(13)),
+            (known, 2, Want::SpentAt(13)),
+            (known, 1, Want::SpentAt(12)),
+            (known, 0, Want::SpentAt(12)),
+            // 2 and the leaf: what lies in other columns is worth more than 0
+            (falling, 2, Want::Found(&[2, 2], 0)),
+            (falling, 1, Want::SpentAt(0)),
             // no way leads through the last row, so not even the root is live
             (shut, 0, Want::Nothing),
-            // four nodes hang from one of at most 3
-            (dead_first, 4, Want::Found(&[1, 0], 3)),
-            (dead_first, 3, Want::SpentAt(3)),
-            (dead_end, 5, Want::Found(&[1, 2], 2)),
-            (dead_end, 4, Want::SpentAt(2)),
+            // 1 and the leaf
+            (dead_first, 2, Want::Found(&[1, 0], 3)),
+            (dead_first, 1, Want::SpentAt(3)),
+            // 0, below which nothing is live, 1 and the leaf
+            (dead_end, 3, Want::Found(&[1, 2], 2)),
+            (dead_end, 2, Want::SpentAt(2)),
             (&[], 0, Want::Found(&[], 0)),
         ];
         for (costs, budget, want) in &table {
@@ -193,6 +197,63 @@ mod tests {
             };
             let guided = GuidedGrid::new(rt.alloc(), &grid)?;
             assert!(rt; is_wanted(&search_sharpened(rt.alloc(), &guided, *budget)?, want));
+        }
+        Ok(())
+    }
+
+    /// Bounds that are guessed, over what paths have paid.
+    #[test]
+    fn searches_grids_by_bounds(rt: HostRuntime) -> Result<(), Fail> {
+        let known: &[[Option<u8>; COLUMNS]] = &[
+            [Some(2), Some(1), Some(3)],
+            [Some(6), Some(5), Some(4)],
+            [Some(7), Some(8), Some(9)],
+        ];
+        let level: &[[Option<u8>; COLUMNS]] = &[[Some(0); COLUMNS]; 8];
+        let shut: &[[Option<u8>; COLUMNS]] = &[
+            [Some(0); COLUMNS],
+            [Some(0); COLUMNS],
+            [Some(0); COLUMNS],
+            [Some(0); COLUMNS],
+            [Some(0); COLUMNS],
+            [Some(0); COLUMNS],
+            [Some(0); COLUMNS],
+            [Some(0); COLUMNS],
+            [None; COLUMNS],
+        ];
+        let steep: &[[Option<u8>; COLUMNS]] = &[
+            [Some(0); COLUMNS],
+            [Some(100), Some(99), Some(100)],
+        ];
+        let table = [
+            // ten nodes are worth at most 12, none of them a leaf; in the round at 13 seven are opened, 0, 0 0, 0 1, 1,
+            // 1 0, 1 1 and the leaf. The front needs 27
+            (known, 10, Want::Found(&[1, 1, 0], 13)),
+            // ten are worth at most 8 and eight at most 7
+            (known, 9, Want::SpentAt(8)),
+            (known, 7, Want::SpentAt(7)),
+            // all nodes are worth 0, of which the front needs each: 3, 7, 17, 41, 99, 239, 577 and 1,393 in the rows
+            (level, 8, Want::Found(&[0, 0, 0, 0, 0, 0, 0, 0], 0)),
+            (level, 7, Want::SpentAt(0)),
+            // the same 2,376 nodes without a leaf: no round finds one, and then the front has room for all
+            (shut, 2_376, Want::Nothing),
+            (shut, 2_375, Want::SpentAt(0)),
+            // rounds at 0 to 15, which open the first row; then from 16, 18, 22, 30, 46 and 78 on: the last one opens
+            // the first row, a leaf worth 100 and the one worth 99
+            (steep, 5, Want::Found(&[0, 1], 99)),
+            (steep, 4, Want::SpentAt(78)),
+            (steep, 3, Want::SpentAt(78)),
+            (steep, 2, Want::SpentAt(0)),
+            (&[], 0, Want::Found(&[], 0)),
+        ];
+        for (costs, budget, want) in &table {
+            if costs.len() > 192 {
+                return Err("too many rows".into());
+            }
+            let grid = Grid {
+                costs: Vec::from_slice(rt.alloc(), costs)?,
+            };
+            assert!(rt; is_wanted(&search_by_bounds(rt.alloc(), &grid, *budget)?, want));
         }
         Ok(())
     }

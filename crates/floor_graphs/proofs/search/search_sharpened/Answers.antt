@@ -1,6 +1,6 @@
 use Rattle.std.specs.Prelude.{Result, Ok, Err, IfOk}
 use Rattle.tree_search.specs.declared.outcome.Outcome.{Outcome}
-use Rattle.floor_graphs.proofs.SameAnswers.{found_from_sharpened, nothing_from_sharpened, spent_from_sharpened, agrees_from_sharpened}
+use Rattle.floor_graphs.proofs.SameAnswers.{found_from_sharpened, nothing_from_sharpened, spent_from_sharpened, agrees_from_sharpened, spent_over_from_sharpened}
 use Rattle.floor_graphs.proofs.search.search_sharpened.Goals as goal
 
 -- what follows of an outcome follows where there is one
@@ -20,12 +20,14 @@ returns g c =
     let grows = g.met.G.Tree.Space.floors_grow (g.G.Guide.tree c.args.guide.now) in
     let floors = g.met.G.Guide.floors c.args.guide.now in
     record {
-      found = on_ok _ _ (found_from_sharpened _ _ _ _ grows floors) c.search_front.result
-          c.search_front.ensures.found;
-      nothing = on_ok _ _ (nothing_from_sharpened _ _ _ _ grows floors) c.search_front.result
-          c.search_front.ensures.nothing;
-      bound = on_ok _ _ (spent_from_sharpened _ _ _ _ grows floors) c.search_front.result
-          c.search_front.ensures.bound;
-      agrees = on_ok₂ _ _ _ (agrees_from_sharpened _ _ _ _ grows floors) c.search_front.result
-          c.search_front.ensures.found c.search_front.ensures.nothing;
+      found = on_ok _ _ (found_from_sharpened _ _ _ _ grows floors) c.search_by_bounds.result
+          c.search_by_bounds.ensures.found;
+      nothing = on_ok _ _ (nothing_from_sharpened _ _ _ _ grows floors) c.search_by_bounds.result
+          c.search_by_bounds.ensures.nothing;
+      bound = on_ok _ _ (spent_from_sharpened _ _ _ _ grows floors) c.search_by_bounds.result
+          c.search_by_bounds.ensures.bound;
+      over = on_ok _ _ (spent_over_from_sharpened _ _ _ _ grows floors c.args.budget) c.search_by_bounds.result
+          c.search_by_bounds.ensures.over;
+      agrees = on_ok₂ _ _ _ (agrees_from_sharpened _ _ _ _ grows floors) c.search_by_bounds.result
+          c.search_by_bounds.ensures.found c.search_by_bounds.ensures.nothing;
     }

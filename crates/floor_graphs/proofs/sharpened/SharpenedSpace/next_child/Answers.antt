@@ -1,12 +1,7 @@
-use Rattle.std.proofs.Common.{◌≤◌, Option, Some, None, IsSomeAnd, ℕ, [], ◌∷◌, ◌++◌, arith}
+use Rattle.std.proofs.Common.{[], ◌∷◌, ◌++◌}
 use Rattle.floor_graphs.specs.Laws.{live_from_sharpened}
+use Rattle.floor_graphs.proofs.Better.{no_better_above}
 use Rattle.floor_graphs.proofs.sharpened.SharpenedSpace.next_child.Goals as goal
-
--- what is no better than one floor is no better than a higher one
-no_better_above : (best : Option ℕ) (own floor : ℕ) → own ≤ floor → IsSomeAnd best (λ value. value ≤ own)
-    → IsSomeAnd best (λ value. value ≤ floor)
-no_better_above None own floor low h = h
-no_better_above (Some value) own floor low h = omega (arith, low, h)
 
 pub returns-clause-passed : goal.returns-clause-passed
 returns-clause-passed g c = λ path at child floor from to live.

@@ -1,0 +1,89 @@
+//! The search in depth below caps that are guessed and raised.
+ghost use Rattle.std.specs.Prelude.{◌≡◌, ◌<◌, IfOk};
+ghost use Rattle.tree_search.specs.Answer.{IsFirstLeast, HasNoLeaf, BoundsLeaves, IsOverBudget};
+ghost use Rattle.tree_search.specs.Outcomes.{IfFound, OnNothing, IfSpent, IsSpent};
+ghost use Rattle.floor_graphs.specs.Sameness.{AgreesWithAnswers};
+
+use crate::capped::Capped;
+use fux_pitch::Memory;
+use std::alloc::Global;
+use tree_search::{Outcome, Space, search_depth, search_front};
+
+/// The budget of the front that goes before the rounds.
+const FIRST_BUDGET: u32 = 1_024;
+
+/// How many rounds there are at most.
+const ROUNDS: usize = 32;
+
+/// How many rounds look for one value each. From then on each looks for twice as many as the round before.
+const SINGLE_ROUNDS: usize = 16;
+
+/// How many values a round looks for beyond the least.
+fn more_values(round: usize) -> u64
+    requires { round < ROUNDS }
+{
+    if round < SINGLE_ROUNDS {
+        return 0;
+    }
+    (2u64 << (round - SINGLE_ROUNDS)) - 1
+}
+
+/// Searches in depth below a cap, where that finds nothing below a higher one, and so on: the bound of all leaves then lies
+/// above the cap before. Each round has the whole budget. The outcome is never `Nothing`.
+fn search_rounds<S: Space>(
+    alloc: Global,
+    space: &S,
+    bound: u64,
+    budget: u32,
+) -> Result<Outcome, Memory>
+    requires { BoundsLeaves (S.live space.now) (S.height space.now) bound }
+    ensures found { IfOk result (λ outcome. IfFound outcome (IsFirstLeast (S.live space.now) (S.height space.now))) }
+    ensures nothing { IfOk result (λ outcome. OnNothing outcome (HasNoLeaf (S.live space.now) (S.height space.now))) }
+    ensures bound { IfOk result (λ outcome. IfSpent outcome (BoundsLeaves (S.live space.now) (S.height space.now))) }
+{
+    let mut low = bound;
+    for round in 0..ROUNDS {
+        let high = low.saturating_add(more_values(round));
+        match search_depth(alloc, &Capped { space, low, high }, budget)? {
+            Outcome::Found { path, value } => return Ok(Outcome::Found { path, value }),
+            Outcome::Spent { bound: _ } => break,
+            Outcome::Nothing => {}
+        }
+        match high.checked_add(1) {
+            Some(above) => low = above,
+            None => break,
+        }
+    }
+    Ok(Outcome::Spent { bound: low })
+}
+
+/// The first leaf of least value. A front opens each node whose floor is at most that value, and where floors are sharp there
+/// may be very many of the very same floor. So here a front has a small part of the budget at first, for a bound of all leaves.
+/// Then come rounds in depth, which leave out what is above a cap: where the bound is the least value, a round is done with the
+/// first leaf that it meets. They look for one value after another at first, and for more and more at once later on, so that a
+/// tree without leaves doesn't take too many of them. Each may spend the whole budget. Where they come to nothing, the front
+/// has the whole budget.
+pub fn search_by_bounds<S: Space>(alloc: Global, space: &S, budget: u32) -> Result<Outcome, Memory>
+    ensures found { IfOk result (λ outcome. IfFound outcome (IsFirstLeast (S.live space.now) (S.height space.now))) }
+    ensures nothing { IfOk result (λ outcome. OnNothing outcome (HasNoLeaf (S.live space.now) (S.height space.now))) }
+    ensures bound { IfOk result (λ outcome. IfSpent outcome (BoundsLeaves (S.live space.now) (S.height space.now))) }
+
+    // It ends wherever the front does.
+    ensures over { IfOk result (λ outcome. IsSpent outcome → IsOverBudget (S.live space.now) (S.height space.now) budget) }
+    ensures agrees { IfOk result (AgreesWithAnswers (S.live space.now) (S.height space.now)) }
+{
+    let bound = match search_front(alloc, space, budget.min(FIRST_BUDGET))? {
+        Outcome::Spent { bound } => bound,
+        answer => return Ok(answer),
+    };
+    let bound = match search_rounds(alloc, space, bound, budget)? {
+        Outcome::Spent { bound } => bound,
+        answer => return Ok(answer),
+    };
+    match search_front(alloc, space, budget)? {
+        Outcome::Spent { bound: other } => Ok(Outcome::Spent {
+            bound: bound.max(other),
+        }),
+        answer => Ok(answer),
+    }
+}
