@@ -1,10 +1,11 @@
--- What is open behind a column.
-use Rattle.std.specs.Prelude.{ℕ, Bool, ◌&&◌, ◌||◌, List, Option, Some, None, reverse, if◌then◌else◌}
+-- What is open behind a column, and how the steps of a lawful setting lead from one column to the next (`FollowsLawful`).
+use Rattle.std.specs.Prelude.{◌≡◌, ℕ, Bool, ◌&&◌, ◌||◌, List, [], ◌∷◌, ◌++◌, Option, Some, None, length, reverse, if◌then◌else◌}
 use Rattle.fux_grid.specs.declared.cell.Cell.{Cell}
 use Rattle.fux_grid.specs.declared.exercise.Exercise.{Exercise}
-use Rattle.fux_grid.specs.Columns.{Columns}
+use Rattle.fux_grid.specs.Columns.{Columns, newest_column}
 use Rattle.fux_grid.specs.Exercises.{species_in}
 use Rattle.dissonance_rules.specs.Clashes.{passing_rule, resolution_rule}
+use Rattle.fux_judge.specs.Lawful.{IsLawful}
 use Rattle.open_dissonances.specs.declared.steps.OpenDissonances.{OpenDissonances}
 use Rattle.open_dissonances.specs.Asked.{is_asked}
 use Rattle.open_dissonances.specs.Ligatures.{is_unresolved, ligature_after, ligature_in}
@@ -45,3 +46,9 @@ abbrev pub open_after : Exercise → ℕ → OpenDissonances → List Cell → L
 open_after ex i waiting before now =
     if breaks_passing ex i waiting before now || breaks_ligature ex i waiting now then None
     else Some (still_open ex i waiting before now)
+
+-- from prefix to prefix of a lawful setting no step is refused, and each leads to what is open behind its column
+pub record FollowsLawful (ex : Exercise) : Type 0 where
+  pub first : open_in ex [] ≡ none
+  pub next : (p : Columns) (col : List Cell) (more : Columns) → IsLawful ex (p ++ col ∷ more)
+      → open_after ex (length p) (open_in ex p) (newest_column (reverse p)) col ≡ Some (open_in ex (p ++ col ∷ []))

@@ -8,4 +8,4 @@ mod passing;
 mod steps;
 
 pub use asked::is_asked;
-pub use steps::{OpenDissonances, open_after};
+pub use steps::{OpenDissonances, lawful_steps_go_on, open_after};

@@ -2,6 +2,7 @@
 
 ghost use Rattle.std.specs.Prelude.{◌≡◌, None, if◌then◌else◌};
 ghost use Rattle.fux_grid.specs.Exercises.{IsValid};
+ghost use Rattle.fux_grid.specs.declared.exercise.Exercise.{Exercise};
 ghost use Rattle.dissonance_rules.specs.Clashes.{passing_rule, resolution_rule};
 ghost use Rattle.open_dissonances.specs.Asked as asked;
 ghost use Rattle.open_dissonances.specs.Ligatures as ligatures;
@@ -107,3 +108,10 @@ pub fn open_after(
         ligature: still_ligature(ex, i, waiting, column),
     })
 }
+
+/// From prefix to prefix of a lawful setting no step is refused, and each leads to what is open behind its column: a theorem, which costs
+/// nothing when it's called.
+#[tactic(auto, using(crate::proofs::GoesOn::follows_lawful))]
+pub fn lawful_steps_go_on()
+    ensures { (ex : Exercise) → IsValid ex → steps.FollowsLawful ex }
+{}
