@@ -14,7 +14,7 @@ use Rattle.rule_law.specs.Rulebooks.{IsAmong, newly_breaks}
 use Rattle.fux_judge.specs.declared.state.State.{State}
 use Rattle.fux_judge.proofs.Facts.{rule_keeps}
 use Rattle.fux_judge.specs.Penalties.{is_strict_at, new_price, newly_broken_at}
-use Rattle.fux_judge.specs.Rules.{is_late, is_of_one_voice, late_rules, late_rules_asked, rule_at}
+use Rattle.fux_judge.specs.Rules.{is_late, is_of_one_voice, late_rules, late_rules_asked, late_tolls, rule_at, rules_read, toll_at, tolls_read}
 use Rattle.fux_judge.specs.States.{HasCome}
 use Rattle.fux_judge.specs.Steps.{any_among, breaks_late, prices_late, sets_of_rule}
 use Rattle.fux_judge.proofs.Parts.{list_any-parted}
@@ -145,3 +145,20 @@ any_from_place test (x ∷ xs) (suc k) h e =
     or_true : (b : Bool) → (b || true) ≡ true
     or_true true = refl
     or_true false = refl
+
+-- the late rules in that order
+abbrev pub asked : List ℕ
+asked = 3 ∷ 25 ∷ 15 ∷ 18 ∷ 19 ∷ 20 ∷ 21 ∷ 22 ∷ 23 ∷ 27 ∷ 28 ∷ []
+
+pub asked_are : late_rules_asked ≡ asked
+unfolding late_rules_asked late_rules rules_read rule_at
+asked_are = refl
+
+-- the late tolls
+pub tolls_are : late_tolls ≡ 3 ∷ 4 ∷ 5 ∷ 6 ∷ 12 ∷ 14 ∷ 15 ∷ 16 ∷ []
+unfolding late_tolls tolls_read toll_at
+tolls_are = refl
+
+-- one of them that passes a test
+pub some_asked : (test : ℕ → Bool) (k : ℕ) → k < 11 → test (get_or asked k 0) ≡ true → list_any test late_rules ≡ true
+some_asked test k h e = sym (any_asked test) ∙ ap (list_any test) asked_are ∙ any_from_place test asked k h e

@@ -10,7 +10,7 @@ ghost use Rattle.fux_judge.specs.Late.{AddsLateBreaks, SettlesAmong, TellsAtPlac
 ghost use Rattle.fux_judge.specs.Steps as steps;
 
 use crate::all_rules::{AllRules, form_of};
-use crate::numbers::{every_late_rule, late_rules_asked};
+use crate::numbers::every_late_rule;
 use crate::state::State;
 use fux_grid::{Exercise, VoiceSet, bar_of};
 use penalty_sheet::price_at;
@@ -63,6 +63,7 @@ fn places_left(rule: u8, ex: &Exercise, next: &State) -> LatePlaces
 
 /// Whether the newest column settles a break of a late rule, at one of its places, as its crate says.
 #[tactic(auto, unfolding(crate::specs::Rules::rule_at))]
+#[inline(always)]
 fn breaks_at(rule: u8, ex: &Exercise, next: &State, voices: VoiceSet, place: usize) -> bool
     requires late { is_late rule ≡ true }
     requires valid { IsValid ex.now }
@@ -181,17 +182,47 @@ fn prices_of_late(rule: u8, ex: &Exercise, next: &State) -> u64
     sum
 }
 
-/// Whether the newest column settles a strict break of some late rule.
+/// Whether the newest column settles a strict break of some late rule. Each is asked by its own number, those of one voice first, so that
+/// what depends on the number alone is settled before the program runs.
+#[tactic(auto, unfolding(crate::specs::Rules::rule_at))]
 pub(crate) fn settles_late_break(ex: &Exercise, next: &State) -> bool
     requires valid { IsValid ex.now }
     requires begun { 0 < next.now.newest.len }
     requires room { next.now.newest.len ≤ columns_in ex.now }
     ensures { TellsOfNewest ex.now next.now (λ p col. list_any (steps.breaks_late ex.now p col) late_rules) result }
 {
-    for rule in late_rules_asked() {
-        if is_broken_late(*rule, ex, next) {
-            return true;
-        }
+    if is_broken_late(3, ex, next) {
+        return true;
+    }
+    if is_broken_late(25, ex, next) {
+        return true;
+    }
+    if is_broken_late(15, ex, next) {
+        return true;
+    }
+    if is_broken_late(18, ex, next) {
+        return true;
+    }
+    if is_broken_late(19, ex, next) {
+        return true;
+    }
+    if is_broken_late(20, ex, next) {
+        return true;
+    }
+    if is_broken_late(21, ex, next) {
+        return true;
+    }
+    if is_broken_late(22, ex, next) {
+        return true;
+    }
+    if is_broken_late(23, ex, next) {
+        return true;
+    }
+    if is_broken_late(27, ex, next) {
+        return true;
+    }
+    if is_broken_late(28, ex, next) {
+        return true;
     }
     false
 }

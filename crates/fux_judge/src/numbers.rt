@@ -24,9 +24,6 @@ const VOICE_SETS: [u8; 15] = [1, 2, 3, 4, 5, 6, 7, 8, 9, 10, 11, 12, 13, 14, 15]
 /// The rules that may be settled later than at their own column.
 const LATE_RULES: [u8; 11] = [3, 15, 18, 19, 20, 21, 22, 23, 25, 27, 28];
 
-/// The same, those of one voice first: a search asks them in this order, since most of these tell soonest.
-const LATE_RULES_ASKED: [u8; 11] = [3, 25, 15, 18, 19, 20, 21, 22, 23, 27, 28];
-
 /// The rules that are settled at once.
 const RULES_AT_ONCE: [u8; 17] = [1, 2, 4, 5, 6, 7, 8, 9, 10, 11, 12, 13, 14, 16, 17, 24, 26];
 
@@ -77,15 +74,6 @@ pub(crate) fn every_late_rule() -> &'static [u8]
     ensures few { length result.now ≤ 12 }
 {
     &LATE_RULES
-}
-
-/// The same in the order in which a search asks them.
-#[tactic(auto, unfolding(crate::specs::Rules::late_rules_asked, crate::specs::Rules::late_rules, crate::specs::Rules::rules_read, crate::specs::Rules::rule_at))]
-pub(crate) fn late_rules_asked() -> &'static [u8]
-    ensures value { result.now ≡ rules.late_rules_asked }
-    ensures numbers { IsTrue (list_all is_late result.now) }
-{
-    &LATE_RULES_ASKED
 }
 
 /// The rules that are settled at once.
