@@ -1,4 +1,5 @@
--- What is open behind a column, and how the steps of a lawful setting lead from one column to the next (`FollowsLawful`).
+-- What is open behind a column, and how the steps of a lawful setting lead from one column to the next
+-- (`FollowsLawful`).
 use Rattle.std.specs.Prelude.{◌≡◌, ℕ, Bool, ◌&&◌, ◌||◌, List, [], ◌∷◌, ◌++◌, Option, Some, None, length, reverse, if◌then◌else◌}
 use Rattle.fux_grid.specs.declared.cell.Cell.{Cell}
 use Rattle.fux_grid.specs.declared.exercise.Exercise.{Exercise}

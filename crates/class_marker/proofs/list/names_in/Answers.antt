@@ -40,10 +40,13 @@ loop-rest-preserved c =
     ∙ ap (λ l. names ++ l ∷ []) c.in_ok-from_str.ensures.ok) in
     let column = c.loop-rest.invariant.so_far.0 + length (c.in-Some.name.now ++ 10 ∷ []) in
     record {
-      so_far = (column, c.loop-rest.invariant.so_far.1
-          ∙ (one_name _ _ names c.loop-rest.rest.now c.in-Some.name.now c.in-Some.behind.now c.in-Some.ensures
-          (rw count (sym c.if-not-is_name_behind.ensures))
-          ∙ ap (λ l. from c.args.text.now column l c.in-Some.behind.now) (sym list)));
+      so_far = (
+        column,
+        c.loop-rest.invariant.so_far.1
+            ∙ (one_name _ _ names c.loop-rest.rest.now c.in-Some.name.now c.in-Some.behind.now c.in-Some.ensures
+            (rw count (sym c.if-not-is_name_behind.ensures))
+            ∙ ap (λ l. from c.args.text.now column l c.in-Some.behind.now) (sym list)),
+      );
       few = simp (items, length-append) (omega (arith, c.len-in-loop-rest.ensures));
       utf8 = search;
     }
