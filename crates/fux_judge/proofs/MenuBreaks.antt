@@ -21,7 +21,7 @@ use Rattle.fux_grid.proofs.Pools.{pool_of-contains}
 use Rattle.rule_law.specs.Bars.{begins_bar}
 use Rattle.rule_law.specs.Nearby.{Pitches, pitch_at}
 use Rattle.rule_law.specs.Voices.{holds_of_voice, is_free, on_free_voice, voice_of}
-use Rattle.rhythm_cadence.specs.Rows.{holds_of_pitch, is_outside, leaves_gamut, leaves_range, pitch_brought, voice_rule}
+use Rattle.rhythm_cadence.specs.Rows.{holds_of_pitch, is_outside, leaves_gamut, leaves_range, voice_rule}
 
 -- the pitch of a cell, if it has one, is of the pool
 abbrev IsOfPool : List Pitch → Cell → Type 0

@@ -12,7 +12,7 @@ use Rattle.penalty_sheet.specs.Weights.{weight_of}
 use Rattle.fux_judge.specs.declared.moment.Moment.{Moment}
 use Rattle.rule_law.specs.Law.{reading-at_end}
 use Rattle.fux_judge.proofs.Facts.{rule_keeps, toll_keeps}
-use Rattle.fux_judge.specs.Rules.{all_sets, breaks, costs, cost_at, is_late, is_late_toll, tolls_at_once}
+use Rattle.fux_judge.specs.Rules.{all_sets, breaks, costs, cost_at, is_late, is_late_toll, rule_at, rules_at_once, rules_read, tolls_at_once}
 use Rattle.fux_judge.proofs.StepPlaces.{tolls_all_at_once}
 use Rattle.fux_judge.specs.Penalties.{is_strict_at, price_at_place}
 use Rattle.fux_judge.specs.Moments.{is_broken_then, is_strictly_broken_then, prices_then, toll_then, with_column}
@@ -95,3 +95,8 @@ module _ (p : List (List Cell)) (m : Moment) (place : m.state.now.newest.len ≡
         where
           sum_of_none : (a b s : ℕ) → s ≡ a + b → a ≡ 0 → b ≡ 0 → s ≡ 0
           sum_of_none a b s e f g = omega arith
+
+-- the rules that are settled at once have numbers of rules that aren't late
+pub all_numbers : list_all (λ rule. nat_lt rule 32 && not (is_late rule)) rules_at_once ≡ true
+unfolding rules_at_once rules_read rule_at
+all_numbers = refl

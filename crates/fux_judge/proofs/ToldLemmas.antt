@@ -1,6 +1,6 @@
 -- The first rule that is broken of those that are told is the least of all where S3 isn't broken (`told_is_least`).
 use Rattle.std.proofs.Common.{◌≡◌, ℕ, ◌+◌, ◌*◌, ◌/◌, ◌<◌, ◌≤◌, ◌==◌, ◌&&◌, ◌||◌, Bool, true, false, List, [], ◌∷◌, ◌++◌, drop, get_or, length, reverse, slice_index_or, subst, refl, ap, sym, ◌∙◌, arith}
-use Rattle.std.specs.Prelude.{Option, Some, None, cond, not}
+use Rattle.std.specs.Prelude.{Some, None, cond, not}
 use Rattle.std.specs.List.{filter, find, list_all, list_any}
 use Rattle.std.proofs.Math.Seq.{get_or-append_seam}
 use Rattle.std.specs.Option.{option_or}
@@ -22,7 +22,6 @@ use Rattle.fux_judge.specs.declared.moment.Moment.{Moment}
 use Rattle.fux_judge.specs.Moments.{is_strictly_broken_then}
 use Rattle.fux_judge.specs.Penalties.{is_strict_at, newly_broken, newly_broken_at}
 use Rattle.fux_judge.specs.Rules.{all_sets, is_broken, is_late, is_of_melody, is_read, rule_at, rules_read}
-use Rattle.fux_judge.specs.Steps.{is_strictly_broken_at_end}
 use Rattle.fux_judge.specs.Told.{first_rules, joint_rules, least_newly_broken}
 use Rattle.fux_judge.proofs.KeptLemmas.{melody_kept, menu_kept}
 use Rattle.fux_judge.proofs.StepPlaces.{newly_broken-at_once, newly_broken-late}

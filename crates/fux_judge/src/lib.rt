@@ -35,6 +35,6 @@ pub use pruning::pruned_within;
 pub use state::State;
 pub use told::{is_told_broken, told_rule};
 pub use total::penalty;
-pub use unbroken::{Price, step_unbroken};
+pub use unbroken::{Price, step_again, step_unbroken};
 pub use verdict::{Verdict, step};
 pub use whole::{cost_in, is_broken_in, is_cost_settled_in, is_settled_in};

@@ -15,7 +15,7 @@ use crate::late_tolls::late_charges;
 use crate::lines::least;
 use crate::numbers::all_at_once;
 use crate::state::State;
-use crate::verdict::{any_of, moment_of, readings};
+use crate::verdict::{any_of, moment_of, paid_now, readings};
 use fux_grid::{Column, Exercise};
 use penalty_sheet::Sheet;
 use rule_law::RuleSet;
@@ -76,4 +76,34 @@ pub fn step_unbroken(
     let paid = paid + late_charges(sheet, ex, next) + late_prices(ex, next);
     let least = least(ex, sheet, next);
     Some(Price { paid, least })
+}
+
+/// What a column costs that is known to settle no strict break, as a search knows of one that it comes back to: no rule is asked whether
+/// it is broken strictly. The state of the longer prefix is written into the place that is given.
+pub fn step_again(
+    ex: &Exercise,
+    sheet: &Sheet,
+    state: &State,
+    col: &Column,
+    next: &mut State,
+) -> Price
+    requires valid { IsValid ex.now }
+    requires room { state.now.newest.len < columns_in ex.now }
+    requires full { length col.now.items ≡ ex.now.voices }
+    ensures state { Grown ex.now state.now col.now.items (λ longer. IsStateOf ex.now longer next.new) }
+
+    // After an orderly prefix, what the column settles of tolls and prices, whether it settles a strict break or not.
+    ensures settled { GoingOn ex.now state.now col.now.items (λ p added. result.paid ≡ newly_paid ex.now sheet.now p added) }
+    ensures paid { GoingOn ex.now state.now col.now.items (λ p added. PaysMore ex.now sheet.now p added result.paid) }
+    ensures bound { result.paid ≤ 134217728 }
+    ensures least { GrownPrefix ex.now state.now col.now.items (λ longer. result.least ≡ least_of ex.now sheet.now longer) }
+    ensures least_bound { result.least ≤ 334490640 }
+{
+    *next = *state;
+    next.add(ex, col);
+    let at_once = paid_now(sheet, &moment_of(ex, state, col));
+    Price {
+        paid: at_once + late_charges(sheet, ex, next) + late_prices(ex, next),
+        least: least(ex, sheet, next),
+    }
 }

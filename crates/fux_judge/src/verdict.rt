@@ -119,6 +119,18 @@ pub(crate) fn readings(sheet: &Sheet, m: &Moment<'_>) -> (RuleSet, u64)
     (broken_of(rules_left(m), m), paid)
 }
 
+/// What the column costs of the rules settled at once and of such tolls. Where nothing begins, nothing is read.
+pub(crate) fn paid_now(sheet: &Sheet, m: &Moment<'_>) -> u64
+    requires { IsReadable m.now }
+    ensures paid { (p : List (List ACell)) → IsAfter p m.now → result ≡ paid_at_once sheet.now p m.now }
+    ensures bound { result ≤ 9784200 }
+{
+    if is_quiet(m.state.newest.len, m.column) {
+        return 0;
+    }
+    charges(sheet, m) + prices_of(all_at_once(), m)
+}
+
 /// Judges a column that comes after a prefix: which rules it breaks strictly, what it costs, and the state of the longer prefix.
 /// It takes no memory.
 pub fn step(ex: &Exercise, sheet: &Sheet, state: &State, col: &Column) -> Verdict

@@ -1,5 +1,4 @@
-use Rattle.std.proofs.Common.{ℕ, Bool, get_or, ap, sym, ◌∙◌, arith}
-use Rattle.std.specs.List.{find}
+use Rattle.std.proofs.Common.{ℕ, Bool, sym, ◌∙◌, arith}
 use Rattle.fux_judge.specs.Rules.{all_sets}
 use Rattle.fux_judge.specs.Moments.{is_strictly_broken_then}
 use Rattle.fux_judge.proofs.SumLemmas.{rule_in_range}

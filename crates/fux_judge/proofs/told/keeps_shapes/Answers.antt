@@ -1,10 +1,8 @@
-use Rattle.std.proofs.Common.{◌≡◌, ◌+◌, ◌*◌, ◌/◌, ◌||◌, ◌&&◌, ◌∷◌, ◌++◌, [], ℕ, Bool, false, List, get_or, length, refl, ap, sym, ◌∙◌, arith}
+use Rattle.std.proofs.Common.{◌*◌, ◌/◌, ◌||◌, ℕ, Bool, get_or, length, refl, ap, sym, ◌∙◌, arith}
 use Rattle.std.specs.List.{list_any}
 use Rattle.std.proofs.lemmas.List.Folds.{list_any_more}
 use Rattle.std.proofs.lemmas.List.{take_all}
-use Rattle.rule_law.specs.Rulebooks.{IsAmong}
-use Rattle.fux_judge.specs.Penalties.{is_strict_at, newly_broken_at}
-use Rattle.fux_judge.specs.Rules.{rule_at}
+use Rattle.fux_judge.specs.Penalties.{newly_broken_at}
 use Rattle.fux_judge.proofs.ToldLemmas.{keeps_third, third_among, third_kept}
 use Rattle.fux_judge.proofs.told.keeps_shapes.Goals as goal
 

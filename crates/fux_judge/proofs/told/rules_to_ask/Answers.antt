@@ -1,4 +1,4 @@
-use Rattle.std.proofs.Common.{◌≡◌, reverse, refl, ap, sym, ◌∙◌}
+use Rattle.std.proofs.Common.{reverse, refl, ap, sym, ◌∙◌}
 use Rattle.std.specs.List.{find}
 use Rattle.melody_rules.specs.Smooth.{some_rough}
 use Rattle.fux_judge.specs.Moments.{is_strictly_broken_then}

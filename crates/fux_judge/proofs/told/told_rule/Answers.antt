@@ -1,4 +1,4 @@
-use Rattle.std.proofs.Common.{◌≡◌, ◌∷◌, [], ℕ, List, false, Some, ap, sym, ◌∙◌, subst}
+use Rattle.std.proofs.Common.{◌∷◌, [], List, ap, sym, ◌∙◌, subst}
 use Rattle.std.proofs.lemmas.Bool.{OnTrue_at}
 use Rattle.fux_grid.specs.declared.cell.Cell.{Cell}
 use Rattle.fux_grid.specs.declared.exercise.Exercise.{Exercise}

@@ -1,15 +1,10 @@
-use Rattle.std.proofs.Common.{◌≡◌, ℕ, ◌+◌, ◌==◌, ap, sym, ◌∙◌, refl, arith}
+use Rattle.std.proofs.Common.{◌≡◌, ℕ, ◌+◌, ◌==◌, ap, sym, ◌∙◌, arith}
 use Rattle.std.proofs.lemmas.Nat.Bits.{bit_at-zero}
-use Rattle.std.specs.Prelude.{nat_lt, not, true, ◌&&◌}
-use Rattle.std.specs.List.{list_all, sum_by}
-use Rattle.fux_judge.specs.Rules.{all_sets, is_late, rule_at, rules_at_once, rules_read, tolls_at_once}
+use Rattle.std.specs.List.{sum_by}
+use Rattle.fux_judge.specs.Rules.{all_sets, rules_at_once, tolls_at_once}
 use Rattle.fux_judge.specs.Moments.{prices_then, toll_then}
-use Rattle.fux_judge.proofs.QuietLemmas.{none_broken, none_charged, none_priced}
+use Rattle.fux_judge.proofs.QuietLemmas.{all_numbers, none_broken, none_charged, none_priced}
 use Rattle.fux_judge.proofs.verdict.readings.Goals as goal
-
-all_numbers : list_all (λ rule. nat_lt rule 32 && not (is_late rule)) rules_at_once ≡ true
-unfolding rules_at_once rules_read rule_at
-all_numbers = refl
 
 pub returns-then-is_quiet-clause-broken : goal.returns-then-is_quiet-clause-broken
 returns-then-is_quiet-clause-broken c = λ p after r.
