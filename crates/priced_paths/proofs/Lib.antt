@@ -1,0 +1,2 @@
+pub mod TollSteps
+pub mod Spots
