@@ -1,2 +1,4 @@
 pub mod TollSteps
 pub mod Spots
+pub mod Sums
+pub mod Pushes

@@ -4,7 +4,7 @@ ghost use Rattle.priced_paths.specs.Webs.{IsSound};
 ghost use Rattle.priced_paths.specs.CaseGraphs.{node_at, spot_of, is_reached};
 
 use crate::pricing::Pricing;
-use crate::web::{MOST_SPOTS, Web};
+use crate::web::{Edge, MOST_SPOTS, Web};
 use floor_graphs::Graph;
 
 /// The number of the node of a spot, of so many: those that have reached what is asked for come first, and later spots before earlier ones.
@@ -65,6 +65,28 @@ pub struct CaseGraph<'a, P: Pricing> {
     ghost height_is: { height ≡ P.Tree.height (P.tree pricing.now) },
 }
 
+impl<'a, P: Pricing> CaseGraph<'a, P> {
+    ghost use Rattle.std.specs.Prelude.{◌||◌, length};
+    ghost use Rattle.priced_paths.specs.CaseGraphs.{charged_edge};
+    ghost use Rattle.priced_paths.specs.Webs.{LeadsLater, depth_in};
+
+    /// An edge of a stop under a label, as the case charges it.
+    fn charged(&self, stop: Stop, label: usize, edge: Edge) -> Option<(u32, u32)>
+        requires at { stop.at < length self.now.web.now.spots.items }
+        requires edge { LeadsLater (P.Tree.height (P.tree self.now.pricing.now)) (P.breadth self.now.pricing.now)
+            self.now.web.now stop.at label edge }
+        ensures { result ≡ charged_edge (length self.now.web.now.spots.items) (P.rate_of self.now.pricing.now self.now.case).scale
+            (stop.reached || P.reaches_at self.now.pricing.now self.now.case (depth_in self.now.web.now stop.at) label) edge
+            (P.toll_at self.now.pricing.now self.now.case (depth_in self.now.web.now stop.at) label) }
+    {
+        let depth = self.web.depth(stop.at);
+        let charge = self.pricing.toll(self.case, depth, label)?;
+        let reaches = self.pricing.reaches(self.case, depth, label);
+        let to = node_of(self.web.spots.len(), edge.to as usize, stop.reached || reaches);
+        Some((to as u32, self.scale * edge.cost + charge))
+    }
+}
+
 impl<'a, P: Pricing> Graph for CaseGraph<'a, P> {
     ghost use Rattle.priced_paths.specs.CaseGraphs.{case_of, case_edge, case_width, case_ends, nodes_of};
     ghost use Rattle.priced_paths.specs.LeadBacks.{case_leads_back};
@@ -87,7 +109,7 @@ impl<'a, P: Pricing> Graph for CaseGraph<'a, P> {
 
     fn is_end(&self, node: u32) -> bool {
         let stop = stop_of(self.web.spots.len(), node as usize);
-        stop.reached && self.web.spots[stop.at].depth == self.height
+        stop.reached && self.web.depth(stop.at) == self.height
     }
 
     fn labels(&self, node: u32) -> usize {
@@ -96,13 +118,8 @@ impl<'a, P: Pricing> Graph for CaseGraph<'a, P> {
     }
 
     fn edge(&self, node: u32, label: usize) -> Option<(u32, u32)> {
-        let count = self.web.spots.len();
-        let stop = stop_of(count, node as usize);
-        let depth = self.web.spots[stop.at].depth;
+        let stop = stop_of(self.web.spots.len(), node as usize);
         let edge = self.web.edge(stop.at, label)?;
-        let charge = self.pricing.toll(self.case, depth, label)?;
-        let reached = stop.reached || self.pricing.reaches(self.case, depth, label);
-        let to = node_of(count, edge.to as usize, reached);
-        Some((to as u32, self.scale * edge.cost + charge))
+        self.charged(stop, label, edge)
     }
 }

@@ -45,6 +45,31 @@ pub struct PricedGuide<'a, P: Pricing> {
         (P.reaches_at pricing.now) (P.rate_of pricing.now)) (P.count pricing.now) (P.settled_by pricing.now) numbers.now) } by { Prim.hlevel props },
 }
 
+/// The numbers of a case.
+fn numbers_in<P: Pricing>(
+    alloc: Global,
+    pricing: &P,
+    web: &Web<P::Kept>,
+    case: usize,
+) -> Result<List<Option<u64>>, Memory>
+    requires sound { IsSound (P.Tree.height (P.tree pricing.now)) (P.breadth pricing.now) web.now }
+    requires case { case < P.count pricing.now }
+    ensures { IfOk result (AreNumbersOf web.now (P.Tree.height (P.tree pricing.now))
+        (case_of (P.toll_at pricing.now) (P.reaches_at pricing.now) (P.rate_of pricing.now) case)) }
+{
+    let (scale, _debt) = pricing.rate(case);
+    let height = pricing.space().depth();
+    let graph = CaseGraph {
+        pricing,
+        web,
+        case,
+        scale,
+        height,
+    };
+    let numbers = least_numbers(alloc, &graph)?;
+    Ok(List::new(numbers))
+}
+
 /// The numbers of each case.
 pub fn case_numbers<P: Pricing>(
     alloc: Global,
@@ -57,25 +82,30 @@ pub fn case_numbers<P: Pricing>(
         → AreNumbersOf web.now (P.Tree.height (P.tree pricing.now)) (case_of (P.toll_at pricing.now)
         (P.reaches_at pricing.now) (P.rate_of pricing.now) k) (numbers_of numbers.items k)) }
 {
-    let height = pricing.space().depth();
-    let mut numbers = Vec::new(alloc);
-    for case in 0..pricing.cases() {
-        let (scale, _debt) = pricing.rate(case);
-        let graph = CaseGraph {
-            pricing,
-            web,
-            case,
-            scale,
-            height,
-        };
-        numbers.push(List::new(least_numbers(alloc, &graph)?))?;
+    let count = pricing.cases();
+    let mut numbers = Vec::with_capacity(alloc, count)?;
+    for case in 0..count {
+        let own = numbers_in(alloc, pricing, web, case)?;
+        numbers.push_reserved(own);
     }
     Ok(numbers)
 }
 
 impl<'a, P: Pricing> PricedGuide<'a, P> {
-    ghost use Rattle.std.specs.Prelude.{◌^◌, ◌+◌};
+    ghost use Rattle.std.specs.Prelude.{◌^◌, ◌+◌, IfSome};
+    ghost use Rattle.floor_graphs.specs.Numbers.{number_in};
     ghost use Rattle.priced_paths.specs.Places.{sum_by, standing_by, standing_in, IsCheap, least_at};
+
+    /// The number of a node in a case.
+    #[inline]
+    fn number(&self, case: usize, node: usize) -> Option<u64>
+        requires case { case < P.count self.now.pricing.now }
+        requires node { node < nodes_of self.now.web.now }
+        ensures value { result ≡ number_in (numbers_of self.now.numbers.now case) node }
+        ensures small { IfSome result (λ own. own ≤ 2 ^ 55) }
+    {
+        self.numbers[case].as_slice()[node]
+    }
 
     /// The sum of a path in a case, by what it has settled.
     #[inline]
@@ -94,7 +124,7 @@ impl<'a, P: Pricing> PricedGuide<'a, P> {
     {
         let standing = standing?;
         let node = node_of(self.web.spots.len(), at as usize, standing.reached);
-        let number = self.numbers[case].as_slice()[node]?;
+        let number = self.number(case, node)?;
         let (scale, debt) = self.pricing.rate(case);
         let paid = u64::from(scale) * settled + u64::from(standing.charged) + number;
         Some((paid.saturating_sub(debt) + u64::from(scale - 1)) / u64::from(scale))
@@ -204,7 +234,7 @@ impl<'a, P: Pricing> Guide for PricedGuide<'a, P> {
         child: &<P::Tree as Space>::Node,
     ) -> Option<(Place, u64)> {
         let edge = self.web.edge(place.at as usize, k)?;
-        let depth = self.web.spots[place.at as usize].depth;
+        let depth = self.web.depth(place.at as usize);
         let next = self.place_after(place, depth, k, edge.to);
         let sum = self.least_sum(&next, self.pricing.settled(child))?;
         Some((next, sum))

@@ -1,7 +1,7 @@
 //! The web of what may be kept.
 ghost use Rattle.std.specs.Prelude.{◌≡◌, ◌+◌, ◌<◌, [], length, slice_index_or, None};
 ghost use Rattle.std.specs.Bool.{OnTrue};
-ghost use Rattle.priced_paths.specs.Webs.{edge_in, IsInside, LeadsOn, IsEdgeOf, IsSpotOf, IsWeb};
+ghost use Rattle.priced_paths.specs.Webs.{depth_in, edge_in, IsInside, LeadsOn, IsEdgeOf, IsSpotOf, IsWeb};
 
 use crate::pricing::Pricing;
 use tree_search::Space;
@@ -36,6 +36,15 @@ pub struct Web<K: Copy> {
 }
 
 impl<K: Copy> Web<K> {
+    /// How long the paths are that are kept at a spot.
+    #[inline]
+    pub fn depth(&self, at: usize) -> usize
+        requires { at < length self.now.spots.items }
+        ensures { result ≡ depth_in self.now at }
+    {
+        self.spots[at].depth
+    }
+
     /// The edge of a spot under a label.
     #[inline]
     pub fn edge(&self, at: usize, label: usize) -> Option<Edge>
