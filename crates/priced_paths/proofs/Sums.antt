@@ -12,7 +12,7 @@ use Rattle.priced_paths.specs.declared.web.Web.{Web}
 use Rattle.priced_paths.specs.Tolls.{sum_of, charged_to, has_reached}
 use Rattle.priced_paths.specs.Webs.{IsSound, LeadsLater, depth_in, edge_in, spot_at}
 use Rattle.priced_paths.specs.CaseGraphs.{Case, node_at, nodes_of}
-use Rattle.priced_paths.specs.Places.{IsCheap, IsPlaceOf, case_sum, charge_or, least_at, node_in, node_or, numbers_of, paid_in, priced_sum, standing_by, standing_in, standing_of, sum_by}
+use Rattle.priced_paths.specs.Places.{IsCheap, IsPlaceOf, case_sum, charge_or, least_at, node_in, node_or, numbers_of, paid_in, priced_sum, standing, standing_by, standing_in, standing_of, sum_by}
 use Rattle.priced_paths.proofs.TollSteps.{charged-append, reached-append}
 use Rattle.priced_paths.proofs.Spots.{spot-append, spot-append_none}
 
@@ -34,22 +34,22 @@ no_number numbers node past = get_or_past numbers node None past
 -- the sum in a case of a path whose spot is known
 module _ {K : Type 0} (web : Web K) (case : Case) (settled : List ℕ → ℕ) (numbers : List (Option ℕ))
     (whole : length numbers ≡ nodes_of web) where
-  case_sum-at : (path : List ℕ) (at its_settled : ℕ) (standing : Option Standing) → spot_at web path ≡ Some at
-      → standing_of case path ≡ standing → settled path ≡ its_settled
-      → case_sum web case settled numbers path ≡ sum_by web case.rate numbers its_settled at standing
-  case_sum-at path at its_settled standing is stands own =
+  case_sum-at : (path : List ℕ) (at its_settled : ℕ) (its : Option Standing) → spot_at web path ≡ Some at
+      → standing_of case path ≡ its → settled path ≡ its_settled
+      → case_sum web case settled numbers path ≡ sum_by web case.rate numbers its_settled at its
+  case_sum-at path at its_settled its is stands own =
       ap₂ (λ s o. option_map (λ n. units_of case.rate (case.rate.scale * settled path + charge_or s + n))
       (number_in numbers (node_or web o s))) stands is
-      ∙ ap (λ x. option_map (λ n. units_of case.rate (case.rate.scale * x + charge_or standing + n))
-      (number_in numbers (node_or web (Some at) standing))) own
-      ∙ each standing
+      ∙ ap (λ x. option_map (λ n. units_of case.rate (case.rate.scale * x + charge_or its + n))
+      (number_in numbers (node_or web (Some at) its))) own
+      ∙ each its
     where
       each : (s : Option Standing)
           → option_map (λ n. units_of case.rate (case.rate.scale * its_settled + charge_or s + n))
           (number_in numbers (node_or web (Some at) s)) ≡ sum_by web case.rate numbers its_settled at s
       each None = ap (option_map (λ n. units_of case.rate (case.rate.scale * its_settled + 0 + n)))
           (no_number numbers (nodes_of web) (omega (arith, whole)))
-      each (Some its) = refl
+      each (Some stood) = refl
 
   case_sum-none : (path : List ℕ) → spot_at web path ≡ None → case_sum web case settled numbers path ≡ None
   case_sum-none path is =
@@ -79,23 +79,22 @@ module _ {K : Type 0} (web : Web K) (case : ℕ → Case) (count : ℕ) (settled
 standing-append : (case : Case) (path : List ℕ) (label : ℕ) → standing_of case (path ++ label ∷ [])
     ≡ standing_by (case.toll (length path) label) (case.reaches (length path) label) (standing_of case path)
 standing-append case path label =
-    ap₂ (λ c r. option_map (λ charged. record { charged = charged; reached = r }) c)
-    (charged-append case.toll path label) (reached-append case.reaches path label)
-    ∙ each (charged_to case.toll path) (case.toll (length path) label)
+    ap₂ (λ c r. option_map (standing r) c) (charged-append case.toll path label)
+    (reached-append case.reaches path label)
+    ∙ each (has_reached case.reaches path) (case.reaches (length path) label) (charged_to case.toll path)
+    (case.toll (length path) label)
   where
-    each : (c : Option ℕ) (t : Option ℕ)
-        → option_map {B = Standing} (λ charged. record { charged = charged; reached = has_reached case.reaches path || case.reaches (length path) label }) (sum_of c t)
-        ≡ standing_by t (case.reaches (length path) label)
-        (option_map (λ charged. record { charged = charged; reached = has_reached case.reaches path }) c)
-    each None t = refl
-    each (Some c) None = refl
-    each (Some c) (Some t) = refl
+    each : (r more : Bool) (c t : Option ℕ)
+        → option_map (standing (r || more)) (sum_of c t) ≡ standing_by t more (option_map (standing r) c)
+    each r more None t = refl
+    each r more (Some c) None = refl
+    each r more (Some c) (Some t) = refl
 
 module _ {K : Type 0} {height : ℕ} {breadth : ℕ → ℕ} (web : Web K) (case : ℕ → Case) (count : ℕ)
     (sound : IsSound height breadth web) where
   -- the place of the empty path
   pub place_begins : (place : Place) → place.at ≡ 0
-      → ((k : ℕ) → k < count → standing_in place k ≡ Some (record { charged = 0; reached = false }))
+      → ((k : ℕ) → k < count → standing_in place k ≡ Some (standing false 0))
       → IsPlaceOf web case count place []
   place_begins place at_is standings = record {
     at = ap (λ n. Some n) (sym at_is);
@@ -106,22 +105,22 @@ module _ {K : Type 0} {height : ℕ} {breadth : ℕ → ℕ} (web : Web K) (case
   }
 
   -- the place behind a step
-  pub place_on : (place next : Place) (path : List ℕ) (label : ℕ) (edge : Edge) → IsPlaceOf web case count place path
-      → edge_in web place.at label ≡ Some edge → next.at ≡ edge.to
+  pub place_on : (place next : Place) (path : List ℕ) (label depth : ℕ) (edge : Edge) → IsPlaceOf web case count place path
+      → depth ≡ depth_in web place.at → edge_in web place.at label ≡ Some edge → next.at ≡ edge.to
       → ((k : ℕ) → k < count → standing_in next k
-      ≡ standing_by ((case k).toll (depth_in web place.at) label) ((case k).reaches (depth_in web place.at) label)
-      (standing_in place k))
-      → ((k : ℕ) → k < count → IsCheap (depth_in web place.at + 1) (standing_in next k))
+      ≡ standing_by ((case k).toll depth label) ((case k).reaches depth label) (standing_in place k))
+      → ((k : ℕ) → k < count → IsCheap (depth + 1) (standing_in next k))
       → IsPlaceOf web case count next (path ++ label ∷ [])
-  place_on place next path label edge h leads to standings cheap =
+  place_on place next path label depth edge h is leads to standings cheap =
       let its = sound.edges place.at label edge leads in
-      let long : length (path ++ label ∷ []) ≡ depth_in web place.at + 1 = omega (arith, h.deep, length-append path (label ∷ [])) in
+      let deep : depth ≡ length path = is ∙ h.deep in
+      let long : length (path ++ label ∷ []) ≡ depth + 1 = omega (arith, deep, length-append path (label ∷ [])) in
       record {
         at = spot-append web path label place.at edge h.at leads ∙ ap (λ n. Some n) (sym to);
         within = omega (arith, to, its.within);
-        deep = ap (depth_in web) to ∙ its.deeper ∙ sym long;
+        deep = ap (depth_in web) to ∙ its.deeper ∙ ap (λ (d : ℕ). d + 1) (sym is) ∙ sym long;
         standings = λ k within. standings k within
-            ∙ ap₂ (λ d s. standing_by ((case k).toll d label) ((case k).reaches d label) s) h.deep (h.standings k within)
+            ∙ ap₂ (λ d s. standing_by ((case k).toll d label) ((case k).reaches d label) s) deep (h.standings k within)
             ∙ sym (standing-append (case k) path label);
         cheap = λ k within. subst (λ (d : ℕ). IsCheap d (standing_in next k)) (sym long) (cheap k within);
       }

@@ -10,15 +10,18 @@ use Rattle.priced_paths.specs.Tolls.{charged_to, has_reached}
 use Rattle.priced_paths.specs.Webs.{spot_at, depth_in}
 use Rattle.priced_paths.specs.CaseGraphs.{Case, case_edge, case_ends, node_at, nodes_of}
 
+-- what was charged, and whether what is asked for was reached
+abbrev pub standing : Bool → ℕ → Standing
+standing reached charged = record { charged = charged; reached = reached }
+
 -- how a path stands in a case that has all of its steps
 abbrev pub standing_of : Case → List ℕ → Option Standing
-standing_of case path =
-    option_map (λ charged. record { charged = charged; reached = has_reached case.reaches path }) (charged_to case.toll path)
+standing_of case path = option_map (standing (has_reached case.reaches path)) (charged_to case.toll path)
 
 -- what a case has charged; 0 where the case doesn't have all of the steps
 abbrev pub charge_or : Option Standing → ℕ
 charge_or None = 0
-charge_or (Some standing) = standing.charged
+charge_or (Some its) = its.charged
 
 -- what a path has paid in a case: what it has settled, at the case's rate, and what it was charged
 abbrev pub paid_in : Case → (List ℕ → ℕ) → List ℕ → ℕ
@@ -26,9 +29,9 @@ paid_in case settled path = case.rate.scale * settled path + charge_or (standing
 
 -- the node of a spot at which a path stands so; one past all nodes where there is none
 abbrev pub node_or : {K : Type 0} → Web K → Option ℕ → Option Standing → ℕ
-node_or web None standing = nodes_of web
+node_or web None its = nodes_of web
 node_or web (Some at) None = nodes_of web
-node_or web (Some at) (Some standing) = node_at (length web.spots.items) at standing.reached
+node_or web (Some at) (Some its) = node_at (length web.spots.items) at its.reached
 
 -- a path's node in a case
 abbrev pub node_in : {K : Type 0} → Web K → Case → List ℕ → ℕ
@@ -46,16 +49,15 @@ case_sum web case settled numbers =
 -- the sum in a case, by its numbers, of a path at a spot that stands so and has settled so much
 abbrev pub sum_by : {K : Type 0} → Web K → Rate → List (Option ℕ) → ℕ → ℕ → Option Standing → Option ℕ
 sum_by web rate numbers settled at None = None
-sum_by web rate numbers settled at (Some standing) =
-    option_map (λ own. units_of rate (rate.scale * settled + standing.charged + own))
-    (number_in numbers (node_at (length web.spots.items) at standing.reached))
+sum_by web rate numbers settled at (Some its) =
+    option_map (λ own. units_of rate (rate.scale * settled + its.charged + own))
+    (number_in numbers (node_at (length web.spots.items) at its.reached))
 
 -- how a path stands after a step, by what that is charged
 abbrev pub standing_by : Option ℕ → Bool → Option Standing → Option Standing
 standing_by charge reaches None = None
-standing_by None reaches (Some standing) = None
-standing_by (Some charge) reaches (Some standing) =
-    Some (record { charged = standing.charged + charge; reached = standing.reached || reaches })
+standing_by None reaches (Some its) = None
+standing_by (Some charge) reaches (Some its) = Some (standing (its.reached || reaches) (its.charged + charge))
 
 -- how a place says that the path stands in a case
 abbrev pub standing_in : Place → ℕ → Option Standing
@@ -63,7 +65,7 @@ standing_in place k = slice_index_or place.standings k None
 
 -- after so many steps the case has charged no more than each may be charged
 abbrev pub IsCheap : ℕ → Option Standing → Type 0
-IsCheap depth standing = IfSome standing (λ its. its.charged ≤ depth * 2 ^ 24)
+IsCheap depth own = IfSome own (λ its. its.charged ≤ depth * 2 ^ 24)
 
 -- the least of the sums of a place at which so much was settled
 abbrev pub least_at : {K : Type 0} → Web K → (ℕ → Case) → ℕ → List (List (Option ℕ)) → ℕ → Place → Option ℕ

@@ -4,6 +4,8 @@ ghost use Rattle.std.proofs.Props.{props};
 ghost use Rattle.floor_graphs.specs.Graphs.{AreFloors};
 ghost use Rattle.floor_graphs.specs.Numbers.{AreSmall};
 ghost use Rattle.priced_paths.specs.Webs.{IsSound};
+ghost use Rattle.priced_paths.specs.declared.pricing.TheConstants.{MOST_CASES};
+
 ghost use Rattle.priced_paths.specs.CaseGraphs.{case_of, nodes_of};
 ghost use Rattle.priced_paths.specs.Places.{AreNumbersOf, IsPlaceOf, numbers_of, priced_sum};
 
@@ -37,6 +39,7 @@ pub struct PricedGuide<'a, P: Pricing> {
     pub numbers: &'a [List<Option<u64>>],
     ghost sound: { IsSound (P.Tree.height (P.tree pricing.now)) (P.breadth pricing.now) web.now },
     ghost short: { P.Tree.height (P.tree pricing.now) ≤ 192 },
+    ghost few: { P.count pricing.now ≤ MOST_CASES },
     ghost each: { length numbers.now ≡ P.count pricing.now },
     ghost small: { (k : ℕ) → k < P.count pricing.now → AreSmall (numbers_of numbers.now k) },
     ghost whole: { (k : ℕ) → k < P.count pricing.now → length (numbers_of numbers.now k) ≡ nodes_of web.now },
@@ -77,6 +80,7 @@ pub fn case_numbers<P: Pricing>(
     web: &Web<P::Kept>,
 ) -> Result<Vec<List<Option<u64>>>, Memory>
     requires { IsSound (P.Tree.height (P.tree pricing.now)) (P.breadth pricing.now) web.now }
+    ensures few { P.count pricing.now ≤ MOST_CASES }
     ensures each { IfOk result (λ numbers. length numbers.items ≡ P.count pricing.now) }
     ensures numbers { IfOk result (λ numbers. (k : ℕ) → k < P.count pricing.now
         → AreNumbersOf web.now (P.Tree.height (P.tree pricing.now)) (case_of (P.toll_at pricing.now)
