@@ -1,5 +1,4 @@
--- Where a path leads with a step more (`spot-append`), what a web's edges are (`edge_parts`), that a web is sound (`sound_from_web`), and that on the
--- way to a leaf each step leads on to the spot of what is kept (`edge_on_way`, `spot_on_way`).
+-- Where a path leads with a step more (`spot-append`), what a web's edges are (`edge_parts`), and that a web is sound (`sound_from_web`).
 use Rattle.std.proofs.Common.{◌≡◌, ℕ, ◌+◌, ◌<◌, ◌≤◌, nat_lt, suc, List, [], ◌∷◌, ◌++◌, length, Option, Some, None, option_and_then, Bool, true, false, refl, sym, ap, subst, ◌∙◌, arith, append_assoc, append-nil, length-append, slice_get, slice_index_or, if◌then◌else◌, ⊎_elim}
 use Rattle.std.proofs.lemmas.Option.{slice_get_within}
 use Rattle.std.proofs.lemmas.Bool.{cases_lt}
@@ -96,12 +95,12 @@ step_of_edge web at depth edge (Some its) (Some it) e h =
     record { it = it; is = refl; leads = subst (LeadsOn web at depth it.0 it.1) same h }
 
 -- where there is a step there is an edge
-record IsEdgeFor {K : Type 0} (web : Web K) (at depth : ℕ) (own : Option Edge) (it : K × ℕ) : Type 0 where
-  edge : Edge
-  is : own ≡ Some edge
-  leads : LeadsOn web at depth it.0 it.1 edge
+pub record IsEdgeFor {K : Type 0} (web : Web K) (at depth : ℕ) (own : Option Edge) (it : K × ℕ) : Type 0 where
+  pub edge : Edge
+  pub is : own ≡ Some edge
+  pub leads : LeadsOn web at depth it.0 it.1 edge
 
-edge_of_step : {K : Type 0} (web : Web K) (at depth : ℕ) (own : Option Edge) (step : Option (K × ℕ)) (it : K × ℕ)
+pub edge_of_step : {K : Type 0} (web : Web K) (at depth : ℕ) (own : Option Edge) (step : Option (K × ℕ)) (it : K × ℕ)
     → step ≡ Some it → IsEdgeOf web at depth own step → IsEdgeFor web at depth own it
 edge_of_step web at depth own None it e h = cc
 edge_of_step web at depth None (Some its) it e h = absurd h
@@ -110,7 +109,7 @@ edge_of_step {K} web at depth (Some edge) (Some its) it e h =
     let P : K × ℕ → Type 0 = λ s. LeadsOn web at depth s.0 s.1 edge in
     record { edge = edge; is = refl; leads = subst P same h }
 
-depth-of : {K : Type 0} (web : Web K) (at : ℕ) (spot : Spot K) → slice_get web.spots.items at ≡ Some spot
+pub depth-of : {K : Type 0} (web : Web K) (at : ℕ) (spot : Spot K) → slice_get web.spots.items at ≡ Some spot
     → depth_in web at ≡ spot.depth
 depth-of web at spot is = ap depth_or is
 

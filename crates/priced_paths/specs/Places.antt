@@ -85,9 +85,10 @@ pub record IsPlaceOf {K : Type 0} (web : Web K) (case : ℕ → Case) (count : �
   pub standings : (k : ℕ) → k < count → standing_in place k ≡ standing_of (case k) path
   pub cheap : (k : ℕ) → k < count → IsCheap (length path) (standing_in place k)
 
--- the numbers of a case's graph: they pass their check
+-- the numbers of a case's graph: they pass their check, and a unit of value is worth something
 pub record AreNumbersOf {K : Type 0} (web : Web K) (height : ℕ) (case : Case) (numbers : List (Option ℕ)) : Type 0 where
   pub checked : AreChecked (is_edge_by (case_edge web case)) (IsEndBelow (case_ends web height) (nodes_of web))
       (number_in numbers)
   pub small : AreSmall numbers
+  pub some : 0 < case.rate.scale
   pub whole : length numbers ≡ nodes_of web

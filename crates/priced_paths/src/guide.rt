@@ -1,5 +1,5 @@
 //! The floors of a pricing.
-ghost use Rattle.std.specs.Prelude.{◌≡◌, ◌<◌, ◌≤◌, ℕ, IfOk, length};
+ghost use Rattle.std.specs.Prelude.{◌≡◌, ◌<◌, ◌≤◌, ℕ, false, IfOk, length};
 ghost use Rattle.std.proofs.Props.{props};
 ghost use Rattle.floor_graphs.specs.Graphs.{AreFloors};
 ghost use Rattle.floor_graphs.specs.Numbers.{AreSmall};
@@ -7,7 +7,7 @@ ghost use Rattle.priced_paths.specs.Webs.{IsSound};
 ghost use Rattle.priced_paths.specs.declared.pricing.TheConstants.{MOST_CASES};
 
 ghost use Rattle.priced_paths.specs.CaseGraphs.{case_of, nodes_of};
-ghost use Rattle.priced_paths.specs.Places.{AreNumbersOf, IsPlaceOf, numbers_of, priced_sum};
+ghost use Rattle.priced_paths.specs.Places.{AreNumbersOf, IsPlaceOf, numbers_of, priced_sum, standing, standing_in};
 
 use crate::case::{CaseGraph, node_of};
 use crate::pricing::{MOST_CASES, Pricing};
@@ -29,6 +29,21 @@ pub struct Standing {
 pub struct Place {
     pub at: u32,
     pub standings: [Option<Standing>; MOST_CASES],
+}
+
+/// The place of the empty path.
+fn first_place() -> Place
+    ensures at { result.at ≡ 0 }
+    ensures standings { (k : ℕ) → k < MOST_CASES → standing_in result k ≡ Some (standing false 0) }
+{
+    let standing = Standing {
+        charged: 0,
+        reached: false,
+    };
+    Place {
+        at: 0,
+        standings: [Some(standing); MOST_CASES],
+    }
 }
 
 /// A web that was checked, and for each case the least sums from its spots to the ends.
@@ -98,7 +113,7 @@ pub fn case_numbers<P: Pricing>(
 impl<'a, P: Pricing> PricedGuide<'a, P> {
     ghost use Rattle.std.specs.Prelude.{◌^◌, ◌+◌, IfSome};
     ghost use Rattle.floor_graphs.specs.Numbers.{number_in};
-    ghost use Rattle.priced_paths.specs.Places.{sum_by, standing_by, standing_in, IsCheap, least_at};
+    ghost use Rattle.priced_paths.specs.Places.{sum_by, standing_by, IsCheap, least_at};
 
     /// The number of a node in a case.
     #[inline]
@@ -219,14 +234,7 @@ impl<'a, P: Pricing> Guide for PricedGuide<'a, P> {
     }
 
     fn start(&self) -> Option<(Place, u64)> {
-        let standing = Standing {
-            charged: 0,
-            reached: false,
-        };
-        let place = Place {
-            at: 0,
-            standings: [Some(standing); MOST_CASES],
-        };
+        let place = first_place();
         let sum = self.least_sum(&place, 0)?;
         Some((place, sum))
     }

@@ -1,3 +1,4 @@
+use Rattle.std.proofs.Common.{ap, ◌∙◌, arith}
 use Rattle.priced_paths.specs.CaseGraphs.{case_of}
 use Rattle.priced_paths.specs.Places.{AreNumbersOf}
 use Rattle.priced_paths.proofs.Pushes.{numbers-same}
@@ -9,5 +10,10 @@ returns g c =
     let own : AreNumbersOf c.args.web.now c.depth-height.result
         (case_of (g.P.Pricing.toll_at c.args.pricing.now) (g.P.Pricing.reaches_at c.args.pricing.now)
         (g.P.Pricing.rate_of c.args.pricing.now) c.args.case) c.in_ok-numbers.numbers.items =
-        record { checked = least.checked; small = least.small; whole = least.least.all } in
-    numbers-same _ _ _ _ _ _ c.depth-height.ensures.value c.new.ensures own
+        record {
+          checked = least.checked;
+          small = least.small;
+          some = omega (arith, c.rate-scale.ensures.some, c.rate-scale.ensures.scale);
+          whole = least.least.all;
+        } in
+    numbers-same _ _ _ _ _ _ (c.depth-height.ensures.value ∙ ap g.P.Tree.Space.height c.space.ensures) c.new.ensures own
