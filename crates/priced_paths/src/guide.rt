@@ -68,15 +68,16 @@ fn numbers_in<P: Pricing>(
     alloc: Global,
     pricing: &P,
     web: &Web<P::Kept>,
+    height: usize,
     case: usize,
 ) -> Result<List<Option<u64>>, Memory>
     requires sound { IsSound (P.Tree.height (P.tree pricing.now)) (P.breadth pricing.now) web.now }
+    requires height { height ≡ P.Tree.height (P.tree pricing.now) }
     requires case { case < P.count pricing.now }
     ensures { IfOk result (AreNumbersOf web.now (P.Tree.height (P.tree pricing.now))
         (case_of (P.toll_at pricing.now) (P.reaches_at pricing.now) (P.rate_of pricing.now) case)) }
 {
     let (scale, _debt) = pricing.rate(case);
-    let height = pricing.space().depth();
     let graph = CaseGraph {
         pricing,
         web,
@@ -96,15 +97,17 @@ pub fn case_numbers<P: Pricing>(
 ) -> Result<Vec<List<Option<u64>>>, Memory>
     requires { IsSound (P.Tree.height (P.tree pricing.now)) (P.breadth pricing.now) web.now }
     ensures few { P.count pricing.now ≤ MOST_CASES }
+    ensures short { P.Tree.height (P.tree pricing.now) ≤ 192 }
     ensures each { IfOk result (λ numbers. length numbers.items ≡ P.count pricing.now) }
     ensures numbers { IfOk result (λ numbers. (k : ℕ) → k < P.count pricing.now
         → AreNumbersOf web.now (P.Tree.height (P.tree pricing.now)) (case_of (P.toll_at pricing.now)
         (P.reaches_at pricing.now) (P.rate_of pricing.now) k) (numbers_of numbers.items k)) }
 {
+    let height = pricing.space().depth();
     let count = pricing.cases();
     let mut numbers = Vec::with_capacity(alloc, count)?;
     for case in 0..count {
-        let own = numbers_in(alloc, pricing, web, case)?;
+        let own = numbers_in(alloc, pricing, web, height, case)?;
         numbers.push_reserved(own);
     }
     Ok(numbers)
