@@ -133,7 +133,7 @@ module _ {K : Type 0} {live : List ℕ → Option ℕ} {height : ℕ} {kept : Li
       let wide : breadth spot.depth ≡ breadth (length path) = ap breadth here.deep in
       let within : child < spot.labels = omega (arith, has.all, wide, its.within) in
       let steps : step spot.depth spot.kept child ≡ Some (kept (path ++ child ∷ []), its.cost) =
-          ap₂ (λ d k. step d k child) here.deep here.keeps ∙ its.is_step in
+      ap₂ (λ d k. step d k child) here.deep here.keeps ∙ its.is_step in
       let found = edge_of_step web at spot.depth (slice_index_or web.edges.items (spot.first + child) None)
       (step spot.depth spot.kept child) (kept (path ++ child ∷ []), its.cost) steps (has.each child within) in
       let is_edge = edge-within web at child spot here.is_spot within ∙ found.is in
@@ -184,7 +184,7 @@ module _ {K : Type 0} {live : List ℕ → Option ℕ} {height : ℕ} {kept : Li
     due value path None = None
     due value path (Some charged) =
         if has_reached case.reaches path
-          && nat_le (case.rate.scale * settled path + charged) (case.rate.scale * value + case.rate.debt)
+        && nat_le (case.rate.scale * settled path + charged) (case.rate.scale * value + case.rate.debt)
         then Some value
         else None
 
@@ -208,7 +208,7 @@ module _ {K : Type 0} {live : List ℕ → Option ℕ} {height : ℕ} {kept : Li
             let same : own ≡ value = cc in
             let both = and_parts (has_reached case.reaches path) _ t in
             let low : case.rate.scale * settled path + charged ≤ case.rate.scale * own + case.rate.debt =
-                grind (arith, nat_tests, both.1) in
+            grind (arith, nat_tests, both.1) in
             record {
               is_live = is_live ∙ ap (λ n. Some n) same;
               of = record {
@@ -235,7 +235,7 @@ module _ {K : Type 0} {live : List ℕ → Option ℕ} {height : ℕ} {kept : Li
     leaf_from path value is_live of =
         let low = of.due in
         let test : nat_le (case.rate.scale * settled path + of.charged) (case.rate.scale * value + case.rate.debt) ≡ true =
-            grind (arith, nat_tests) in
+        grind (arith, nat_tests) in
         let both = and_from (has_reached case.reaches path) _ of.reached test in
         ap (option_and_then (λ own. due own path (charged_to case.toll path))) is_live
         ∙ ap (due value path) of.is_charged ∙ ap (λ b. if b then Some value else None) both
@@ -292,12 +292,11 @@ module _ {K : Type 0} {live : List ℕ → Option ℕ} {height : ℕ} {kept : Li
           let here = spot_of_path path [] value
           (subst (λ (p : List ℕ). IsLeaf live height p value) (sym (append-nil path)) (leaf.0, parts.is_live)) in
           let deep : depth_in web here.0 ≡ height =
-              depth-of web here.0 here.1.spot here.1.is_spot ∙ here.1.deep ∙ leaf.0 in
+          depth-of web here.0 here.1.spot here.1.is_spot ∙ here.1.deep ∙ leaf.0 in
           let node = node_is path here.0 parts.of.charged here.1.leads parts.of.is_charged
-          ∙ ap (node_at (length web.spots.items) here.0) parts.of.reached in
-          (
+          ∙ ap (node_at (length web.spots.items) here.0) parts.of.reached in (
             subst (λ (n : ℕ). IsEndBelow (case_ends web height) (nodes_of web) n) (sym node)
-            (ends_at web height here.0 (slice_get_within web.spots.items here.0 here.1.spot here.1.is_spot) deep),
+                (ends_at web height here.0 (slice_get_within web.spots.items here.0 here.1.spot here.1.is_spot) deep),
             omega (arith, paid_is path parts.of.charged parts.of.is_charged, parts.of.due),
           );
     }

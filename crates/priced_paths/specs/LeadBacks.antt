@@ -81,8 +81,8 @@ case_leads_back web case sound node label step h = guarded (nat_lt node (nodes_o
   where
     guarded : (b : Bool) → nat_lt node (nodes_of web) ≡ b
         → (if b
-          then edge_by web case (depth_in web (spot_of (length web.spots.items) node)) (spot_of (length web.spots.items) node) (is_reached (length web.spots.items) node) label
-          else None) ≡ Some step
+        then edge_by web case (depth_in web (spot_of (length web.spots.items) node)) (spot_of (length web.spots.items) node) (is_reached (length web.spots.items) node) label
+        else None) ≡ Some step
         → (node < nodes_of web) × (label < case_width web node) × (step.0 < node)
     guarded false e h = cc
     guarded true e h =

@@ -82,7 +82,11 @@ impl<'a, P: Pricing> CaseGraph<'a, P> {
         let depth = self.web.depth(stop.at);
         let charge = self.pricing.toll(self.case, depth, label)?;
         let reaches = self.pricing.reaches(self.case, depth, label);
-        let to = node_of(self.web.spots.len(), edge.to as usize, stop.reached || reaches);
+        let to = node_of(
+            self.web.spots.len(),
+            edge.to as usize,
+            stop.reached || reaches,
+        );
         Some((to as u32, self.scale * edge.cost + charge))
     }
 }

@@ -5,7 +5,6 @@ ghost use Rattle.floor_graphs.specs.Graphs.{AreFloors};
 ghost use Rattle.floor_graphs.specs.Numbers.{AreSmall};
 ghost use Rattle.priced_paths.specs.Webs.{IsSound};
 ghost use Rattle.priced_paths.specs.declared.pricing.TheConstants.{MOST_CASES};
-
 ghost use Rattle.priced_paths.specs.CaseGraphs.{case_of, nodes_of};
 ghost use Rattle.priced_paths.specs.Places.{AreNumbersOf, IsPlaceOf, numbers_of, priced_sum, standing, standing_in};
 
@@ -131,13 +130,7 @@ impl<'a, P: Pricing> PricedGuide<'a, P> {
 
     /// The sum of a path in a case, by what it has settled.
     #[inline]
-    fn sum_in(
-        &self,
-        case: usize,
-        at: u32,
-        standing: Option<Standing>,
-        settled: u64,
-    ) -> Option<u64>
+    fn sum_in(&self, case: usize, at: u32, standing: Option<Standing>, settled: u64) -> Option<u64>
         requires case { case < P.count self.now.pricing.now }
         requires at { at < length self.now.web.now.spots.items }
         requires settled { settled < 2 ^ 48 }

@@ -105,18 +105,15 @@ fn is_edge<P: Pricing>(
     let step = pricing.step(spot.depth, &spot.kept, label);
     match (edge, step) {
         (None, None) => true,
-        (Some(edge), Some((kept, cost))) => leads_on(pricing, web, at, spot.depth, &kept, cost, edge),
+        (Some(edge), Some((kept, cost))) => leads_on(
+            pricing, web, at, spot.depth, &kept, cost, edge,
+        ),
         _ => false,
     }
 }
 
 /// Whether a spot has the edges of its steps.
-fn is_spot<P: Pricing>(
-    pricing: &P,
-    web: &Web<P::Kept>,
-    at: usize,
-    spot: &Spot<P::Kept>,
-) -> bool
+fn is_spot<P: Pricing>(pricing: &P, web: &Web<P::Kept>, at: usize, spot: &Spot<P::Kept>) -> bool
     ensures { OnTrue result (IsSpotOf (P.Tree.height (P.tree pricing.now)) (P.breadth pricing.now)
         (P.step_at pricing.now) web.now at spot.now) }
 {

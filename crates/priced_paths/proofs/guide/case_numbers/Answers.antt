@@ -9,9 +9,9 @@ loop-case-preserved g c =
     let before = c.loop-case.invariant in
     let pushed = c.push_reserved.ensures.items in
     let P : ℕ → List (Option ℕ) → Type 0 = λ k. AreNumbersOf c.args.web.now
-        (g.P.Tree.Space.height (g.P.Pricing.tree c.args.pricing.now))
-        (case_of (g.P.Pricing.toll_at c.args.pricing.now) (g.P.Pricing.reaches_at c.args.pricing.now)
-        (g.P.Pricing.rate_of c.args.pricing.now) k) in
+    (g.P.Tree.Space.height (g.P.Pricing.tree c.args.pricing.now))
+    (case_of (g.P.Pricing.toll_at c.args.pricing.now) (g.P.Pricing.reaches_at c.args.pricing.now)
+    (g.P.Pricing.rate_of c.args.pricing.now) k) in
     record {
       each = ap length pushed ∙ length-append c.loop-case.numbers.items (_ ∷ []) ∙ ap (λ n. n + 1) before.each;
       room = omega (arith, before.room, c.push_reserved.ensures.capacity);

@@ -13,9 +13,9 @@ invariant_of-guide g c =
     let pricing = c.args.pricing.now in
     let found = c.in_ok-numbers.ensures in
     let are : (k : ℕ) → k < g.P.Pricing.count pricing
-        → AreNumbersOf c.args.web.now (g.P.Tree.Space.height (g.P.Pricing.tree pricing))
-        (case_of (g.P.Pricing.toll_at pricing) (g.P.Pricing.reaches_at pricing) (g.P.Pricing.rate_of pricing) k)
-        (numbers_of c.deref.result.now k) = λ k within. rw c.deref.ensures.value (found.numbers k within) in
+    → AreNumbersOf c.args.web.now (g.P.Tree.Space.height (g.P.Pricing.tree pricing))
+    (case_of (g.P.Pricing.toll_at pricing) (g.P.Pricing.reaches_at pricing) (g.P.Pricing.rate_of pricing) k)
+    (numbers_of c.deref.result.now k) = λ k within. rw c.deref.ensures.value (found.numbers k within) in
     record {
       sound = sound_from_web c.args.web.now c.requires;
       short = found.short;

@@ -8,9 +8,9 @@ pub loop-case-preserved : goal.loop-case-preserved
 loop-case-preserved g c =
     let before = c.loop-case.invariant in
     let Stands : ℕ → Option Standing → Type 0 = λ k o. o
-        ≡ standing_by (g.P.Pricing.toll_at c.args.self.now.pricing.now k c.args.depth c.args.label)
-        (g.P.Pricing.reaches_at c.args.self.now.pricing.now k c.args.depth c.args.label)
-        (standing_in c.args.place.now k) in
+    ≡ standing_by (g.P.Pricing.toll_at c.args.self.now.pricing.now k c.args.depth c.args.label)
+    (g.P.Pricing.reaches_at c.args.self.now.pricing.now k c.args.depth c.args.label)
+    (standing_in c.args.place.now k) in
     let Cheap : ℕ → Option Standing → Type 0 = λ k. IsCheap (c.args.depth + 1) in
     record {
       at = before.at;

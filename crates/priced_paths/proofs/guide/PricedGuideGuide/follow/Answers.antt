@@ -31,10 +31,10 @@ returns-in_err-sum g c = λ path stood at is_live.
     let self = c.args.self.now in
     let next = c.place_after-next in
     let placed = place_on self.web.now (case_of (g.P.Pricing.toll_at self.pricing.now)
-        (g.P.Pricing.reaches_at self.pricing.now) (g.P.Pricing.rate_of self.pricing.now))
-        (g.P.Pricing.count self.pricing.now) self.sound c.args.place.now next.result path c.args.k c.depth-depth.result
-        c.in_ok-edge.edge stood
-        c.depth-depth.ensures (sym c.in_ok-edge.ensures) next.ensures.at next.ensures.standings next.ensures.cheap in
+    (g.P.Pricing.reaches_at self.pricing.now) (g.P.Pricing.rate_of self.pricing.now))
+    (g.P.Pricing.count self.pricing.now) self.sound c.args.place.now next.result path c.args.k c.depth-depth.result
+    c.in_ok-edge.edge stood
+    c.depth-depth.ensures (sym c.in_ok-edge.ensures) next.ensures.at next.ensures.standings next.ensures.cheap in
     rw c.from_residual-in_err-sum.ensures
     (priced_sum-at self.web.now (case_of (g.P.Pricing.toll_at self.pricing.now)
     (g.P.Pricing.reaches_at self.pricing.now) (g.P.Pricing.rate_of self.pricing.now))
@@ -46,13 +46,13 @@ returns g c = λ path stood at is_live.
     let self = c.args.self.now in
     let next = c.place_after-next in
     let placed = place_on self.web.now (case_of (g.P.Pricing.toll_at self.pricing.now)
-        (g.P.Pricing.reaches_at self.pricing.now) (g.P.Pricing.rate_of self.pricing.now))
-        (g.P.Pricing.count self.pricing.now) self.sound c.args.place.now next.result path c.args.k c.depth-depth.result
-        c.in_ok-edge.edge stood
-        c.depth-depth.ensures (sym c.in_ok-edge.ensures) next.ensures.at next.ensures.standings next.ensures.cheap in (
+    (g.P.Pricing.reaches_at self.pricing.now) (g.P.Pricing.rate_of self.pricing.now))
+    (g.P.Pricing.count self.pricing.now) self.sound c.args.place.now next.result path c.args.k c.depth-depth.result
+    c.in_ok-edge.edge stood
+    c.depth-depth.ensures (sym c.in_ok-edge.ensures) next.ensures.at next.ensures.standings next.ensures.cheap in (
       placed,
       priced_sum-at self.web.now (case_of (g.P.Pricing.toll_at self.pricing.now)
-    (g.P.Pricing.reaches_at self.pricing.now) (g.P.Pricing.rate_of self.pricing.now))
-    (g.P.Pricing.count self.pricing.now) (g.P.Pricing.settled_by self.pricing.now) self.numbers.now self.whole next.result (path ++ c.args.k ∷ []) c.settled.result placed
+          (g.P.Pricing.reaches_at self.pricing.now) (g.P.Pricing.rate_of self.pricing.now))
+          (g.P.Pricing.count self.pricing.now) (g.P.Pricing.settled_by self.pricing.now) self.numbers.now self.whole next.result (path ++ c.args.k ∷ []) c.settled.result placed
           (sym (c.settled.ensures.value (path ++ c.args.k ∷ []) at)) ∙ sym c.in_ok-sum.ensures,
     )

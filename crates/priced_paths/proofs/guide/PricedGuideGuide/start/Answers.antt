@@ -8,9 +8,9 @@ returns-in_err-sum g c =
     let self = c.args.self.now in
     let first = c.first_place-place in
     let begun = place_begins self.web.now (case_of (g.P.Pricing.toll_at self.pricing.now)
-        (g.P.Pricing.reaches_at self.pricing.now) (g.P.Pricing.rate_of self.pricing.now))
-        (g.P.Pricing.count self.pricing.now) self.sound first.result first.ensures.at
-        (λ k within. first.ensures.standings k (omega (arith, within, self.few))) in
+    (g.P.Pricing.reaches_at self.pricing.now) (g.P.Pricing.rate_of self.pricing.now))
+    (g.P.Pricing.count self.pricing.now) self.sound first.result first.ensures.at
+    (λ k within. first.ensures.standings k (omega (arith, within, self.few))) in
     rw c.from_residual.ensures
     (priced_sum-at self.web.now (case_of (g.P.Pricing.toll_at self.pricing.now)
     (g.P.Pricing.reaches_at self.pricing.now) (g.P.Pricing.rate_of self.pricing.now))
@@ -22,9 +22,9 @@ returns g c =
     let self = c.args.self.now in
     let first = c.first_place-place in
     let begun = place_begins self.web.now (case_of (g.P.Pricing.toll_at self.pricing.now)
-        (g.P.Pricing.reaches_at self.pricing.now) (g.P.Pricing.rate_of self.pricing.now))
-        (g.P.Pricing.count self.pricing.now) self.sound first.result first.ensures.at
-        (λ k within. first.ensures.standings k (omega (arith, within, self.few))) in (
+    (g.P.Pricing.reaches_at self.pricing.now) (g.P.Pricing.rate_of self.pricing.now))
+    (g.P.Pricing.count self.pricing.now) self.sound first.result first.ensures.at
+    (λ k within. first.ensures.standings k (omega (arith, within, self.few))) in (
       begun,
       priced_sum-at self.web.now (case_of (g.P.Pricing.toll_at self.pricing.now)
           (g.P.Pricing.reaches_at self.pricing.now) (g.P.Pricing.rate_of self.pricing.now))
