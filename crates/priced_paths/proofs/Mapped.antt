@@ -1,22 +1,21 @@
 -- On the way to a leaf each step is an edge of the leaf's case (`case_is_mapped`), so the numbers of the cases give floors (`priced_floors`).
-use Rattle.std.proofs.Common.{◌≡◌, ℕ, ◌+◌, ◌-◌, ◌*◌, ◌<◌, ◌≤◌, ◌==◌, ◌||◌, ◌&&◌, nat_lt, nat_le, List, [], ◌∷◌, ◌++◌, length, Option, Some, None, IsSome, option_map, option_and_then, Bool, true, false, refl, sym, ap, ap₂, subst, ◌∙◌, arith, append_assoc, append-nil, length-append, slice_get, slice_index_or, if◌then◌else◌, ⊎_elim}
+use Rattle.std.proofs.Common.{◌≡◌, ℕ, ◌+◌, ◌-◌, ◌*◌, ◌<◌, ◌≤◌, ◌||◌, ◌&&◌, nat_lt, nat_le, List, [], ◌∷◌, ◌++◌, length, Option, Some, None, option_map, option_and_then, Bool, true, false, refl, sym, ap, ap₂, subst, ◌∙◌, arith, append_assoc, append-nil, length-append, slice_get, slice_index_or, if◌then◌else◌}
 use Rattle.std.proofs.Math.Nat.{mul-add, mul-le-mul_left}
 use Rattle.std.proofs.lemmas.Bool.{and_from, and_parts, eq-eqb}
 use Rattle.std.proofs.lemmas.Option.{slice_get_within}
 use Rattle.std.proofs.lemmas.Bool.Decides.{nat_tests}
 use Rattle.tree_search.specs.Answer.{IsLeaf}
-use Rattle.floor_graphs.specs.Graphs.{AreChecked, AreFloors, AreMapped, IsPaidEdge, Rate, sum_at}
+use Rattle.floor_graphs.specs.Graphs.{AreFloors, AreMapped, IsPaidEdge, Rate}
 use Rattle.floor_graphs.specs.Laws.{floors_from_cases, floors_from_numbers}
-use Rattle.floor_graphs.specs.Numbers.{IsEndBelow, Step, is_edge_by, number_in}
+use Rattle.floor_graphs.specs.Numbers.{IsEndBelow, is_edge_by, number_in}
 use Rattle.priced_paths.specs.declared.web.Edge.{Edge}
 use Rattle.priced_paths.specs.declared.web.Spot.{Spot}
 use Rattle.priced_paths.specs.declared.web.Web.{Web}
-use Rattle.priced_paths.specs.declared.guide.Standing.{Standing}
 use Rattle.priced_paths.specs.Tolls.{sum_of, charged_to, has_reached}
 use Rattle.priced_paths.specs.Pricings.{IsOfCase, IsPriced, IsPricedStep}
-use Rattle.priced_paths.specs.Webs.{HasSteps, IsSound, IsWeb, LeadsOn, LeadsLater, depth_in, edge_in, spot_at}
+use Rattle.priced_paths.specs.Webs.{IsWeb, depth_in, edge_in, spot_at}
 use Rattle.priced_paths.specs.CaseGraphs.{Case, case_edge, case_ends, case_of, charged_edge, edge_by, is_reached, node_at, nodes_of, spot_of}
-use Rattle.priced_paths.specs.Places.{AreNumbersOf, case_sum, charge_or, node_in, node_or, numbers_of, paid_in, priced_sum, standing, standing_of}
+use Rattle.priced_paths.specs.Places.{AreNumbersOf, case_sum, charge_or, node_in, node_or, numbers_of, paid_in, priced_sum, standing}
 use Rattle.priced_paths.proofs.TollSteps.{charged-append, charged_start, reached-append}
 use Rattle.priced_paths.proofs.Spots.{depth-of, edge-within, edge_of_step, spot-append}
 

@@ -1,14 +1,12 @@
 -- Where a path leads with a step more (`spot-append`), what a web's edges are (`edge_parts`), and that a web is sound (`sound_from_web`).
-use Rattle.std.proofs.Common.{◌≡◌, ℕ, ◌+◌, ◌<◌, ◌≤◌, nat_lt, suc, List, [], ◌∷◌, ◌++◌, length, Option, Some, None, option_and_then, Bool, true, false, refl, sym, ap, subst, ◌∙◌, arith, append_assoc, append-nil, length-append, slice_get, slice_index_or, if◌then◌else◌, ⊎_elim}
+use Rattle.std.proofs.Common.{◌≡◌, ℕ, ◌+◌, ◌<◌, nat_lt, List, [], ◌∷◌, ◌++◌, Option, Some, None, option_and_then, Bool, true, false, refl, sym, ap, subst, ◌∙◌, arith, slice_get, slice_index_or, if◌then◌else◌, ⊎_elim}
 use Rattle.std.proofs.lemmas.Option.{slice_get_within}
 use Rattle.std.proofs.lemmas.Bool.{cases_lt}
 use Rattle.std.proofs.lemmas.Bool.Decides.{nat_tests}
-use Rattle.tree_search.specs.Answer.{IsLeaf}
 use Rattle.priced_paths.specs.declared.web.Edge.{Edge}
 use Rattle.priced_paths.specs.declared.web.Spot.{Spot}
 use Rattle.priced_paths.specs.declared.web.Web.{Web}
-use Rattle.priced_paths.specs.Pricings.{IsPricedStep}
-use Rattle.priced_paths.specs.Webs.{edge_of, edge_in, spot_from, spot_at, depth_or, depth_in, labels_or, labels_in, LeadsOn, IsEdgeOf, HasSteps, IsSpotOf, IsWeb, LeadsLater, IsSound}
+use Rattle.priced_paths.specs.Webs.{edge_of, edge_in, spot_from, spot_at, depth_or, depth_in, LeadsOn, IsEdgeOf, HasSteps, IsWeb, LeadsLater, IsSound}
 
 -- where an edge leads
 abbrev pub end_of : Option Edge → Option ℕ

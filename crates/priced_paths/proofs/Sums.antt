@@ -1,20 +1,20 @@
 -- The sums of a path are those of its place (`priced_sum-at`), one without a spot has none (`priced_sum-none`), and a place goes on along a path
 -- (`place_on`).
-use Rattle.std.proofs.Common.{◌≡◌, ℕ, zero, suc, ◌+◌, ◌-◌, ◌*◌, ◌<◌, ◌≤◌, ◌||◌, List, [], ◌∷◌, ◌++◌, length, Option, Some, None, option_map, Bool, true, false, refl, sym, ap, ap₂, subst, ◌∙◌, arith, length-append, slice_index_or}
+use Rattle.std.proofs.Common.{◌≡◌, ℕ, zero, suc, ◌+◌, ◌*◌, ◌<◌, ◌≤◌, ◌||◌, List, [], ◌∷◌, ◌++◌, length, Option, Some, None, option_map, Bool, false, refl, sym, ap, ap₂, subst, ◌∙◌, arith, length-append}
 use Rattle.std.proofs.lemmas.List.{get_or_past}
-use Rattle.floor_graphs.specs.Graphs.{Rate, sum_at, units_of}
+use Rattle.floor_graphs.specs.Graphs.{units_of}
 use Rattle.floor_graphs.specs.Numbers.{lesser_of, number_in}
-use Rattle.floor_graphs.specs.Cases.{least_below, least_of_cases}
+use Rattle.floor_graphs.specs.Cases.{least_below}
 use Rattle.priced_paths.specs.declared.guide.Place.{Place}
 use Rattle.priced_paths.specs.declared.guide.Standing.{Standing}
 use Rattle.priced_paths.specs.declared.web.Edge.{Edge}
 use Rattle.priced_paths.specs.declared.web.Web.{Web}
 use Rattle.priced_paths.specs.Tolls.{sum_of, charged_to, has_reached}
-use Rattle.priced_paths.specs.Webs.{IsSound, LeadsLater, depth_in, edge_in, spot_at}
-use Rattle.priced_paths.specs.CaseGraphs.{Case, node_at, nodes_of}
-use Rattle.priced_paths.specs.Places.{IsCheap, IsPlaceOf, case_sum, charge_or, least_at, node_in, node_or, numbers_of, paid_in, priced_sum, standing, standing_by, standing_in, standing_of, sum_by}
+use Rattle.priced_paths.specs.Webs.{IsSound, depth_in, edge_in, spot_at}
+use Rattle.priced_paths.specs.CaseGraphs.{Case, nodes_of}
+use Rattle.priced_paths.specs.Places.{IsCheap, IsPlaceOf, case_sum, charge_or, least_at, node_or, numbers_of, paid_in, priced_sum, standing, standing_by, standing_in, standing_of, sum_by}
 use Rattle.priced_paths.proofs.TollSteps.{charged-append, reached-append}
-use Rattle.priced_paths.proofs.Spots.{spot-append, spot-append_none}
+use Rattle.priced_paths.proofs.Spots.{spot-append}
 
 -- the first sums alone decide
 least_below-same : (sum other : ℕ → Option ℕ) (count : ℕ) → ((k : ℕ) → k < count → sum k ≡ other k)

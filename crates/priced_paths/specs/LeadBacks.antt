@@ -1,6 +1,6 @@
 -- The edges of a case lead back (`case_leads_back`).
-use Rattle.std.specs.Prelude.{◌≡◌, ℕ, ◌+◌, ◌-◌, ◌*◌, ◌<◌, ◌≤◌, ◌||◌, nat_lt, Bool, true, false, Option, Some, None, option_map, option_and_then, length, slice_get, if◌then◌else◌, List, slice_index_or}
-use Rattle.std.proofs.Common.{refl, sym, ap, ◌∙◌, arith}
+use Rattle.std.specs.Prelude.{◌≡◌, ℕ, ◌+◌, ◌-◌, ◌*◌, ◌<◌, ◌≤◌, ◌||◌, nat_lt, Bool, true, false, Option, Some, None, option_and_then, length, slice_get, if◌then◌else◌, slice_index_or}
+use Rattle.std.proofs.Common.{refl, sym, ap, arith}
 use Rattle.std.proofs.lemmas.Bool.Decides.{nat_tests}
 use Rattle.floor_graphs.specs.Numbers.{LeadBack, Step}
 use Rattle.priced_paths.specs.declared.web.Edge.{Edge}

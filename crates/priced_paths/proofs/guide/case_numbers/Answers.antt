@@ -1,4 +1,4 @@
-use Rattle.std.proofs.Common.{ℕ, ◌+◌, List, Option, ap, length-append, length, ◌++◌, ◌∷◌, [], ◌∙◌, arith}
+use Rattle.std.proofs.Common.{ℕ, ◌+◌, List, Option, ap, length-append, length, ◌∷◌, [], ◌∙◌, arith}
 use Rattle.priced_paths.specs.CaseGraphs.{case_of}
 use Rattle.priced_paths.specs.Places.{AreNumbersOf}
 use Rattle.priced_paths.proofs.Pushes.{numbers_more}
