@@ -11,7 +11,7 @@ mod sharpened;
 
 pub use bounds::search_by_bounds;
 pub use capped::Capped;
-pub use graph::{Graph, least_numbers};
+pub use graph::{Graph, least_numbers, lesser};
 pub use guide::Guide;
 pub use search::search_sharpened;
 pub use sharpened::{Sharp, Sharpened};

@@ -25,7 +25,7 @@ near_row : (grid : Grid) (spot : Spot) (column : ℕ) → is_near grid spot colu
     → spot.row < length grid.costs.items
 near_row grid spot column h = grind (arith, nat_tests)
 
-near_column : (grid : Grid) (spot : Spot) (column : ℕ) → is_near grid spot column ≡ true → column < COLUMNS
+pub near_column : (grid : Grid) (spot : Spot) (column : ℕ) → is_near grid spot column ≡ true → column < COLUMNS
 near_column grid spot column h = grind (arith, nat_tests)
 
 is_next : (grid : Grid) (left column : ℕ) → 0 < left → left ≤ length grid.costs.items → column < COLUMNS
@@ -121,7 +121,7 @@ step_is_edge grid path child is_live =
         on spot next at next_at
         (sym (ap (option_and_then (λ end. spot_after grid end child)) at) ∙ sym step ∙ next_at)
 
-leaf_is_end : (grid : Grid) (path : List ℕ) (value : ℕ) → length path ≡ length grid.costs.items
+pub leaf_is_end : (grid : Grid) (path : List ℕ) (value : ℕ) → length path ≡ length grid.costs.items
     → floor_at grid path ≡ Some value
     → IsEndBelow is_bottom (length grid.costs.items + 1) (rows_left grid path) × (paid_at grid path ≤ value)
 leaf_is_end grid path value long is =

@@ -8,9 +8,12 @@ ghost use Rattle.guided_paths.specs.Rows.{row_edge, is_bottom};
 ghost use Rattle.std.proofs.Props.{props};
 ghost use Rattle.std.specs.Prelude.{◌+◌};
 
+mod priced;
+
 use falling_paths::{COLUMNS, Grid, Spot};
 use floor_graphs::{Graph, Guide, least_numbers};
 use fux_pitch::Memory;
+pub use priced::{PricedGrid, Reach};
 use std::alloc::Global;
 use tree_search::Space;
 
@@ -126,6 +129,7 @@ impl<'a> Guide for GuidedGrid<'a> {
 mod tests {
     use super::*;
     use floor_graphs::{search_by_bounds, search_sharpened};
+    use priced_paths::search_priced;
     use std::test::Fail;
     use tree_search::{Outcome, search_front};
 
@@ -254,6 +258,48 @@ mod tests {
                 costs: Vec::from_slice(rt.alloc(), costs)?,
             };
             assert!(rt; is_wanted(&search_by_bounds(rt.alloc(), &grid, *budget)?, want));
+        }
+        Ok(())
+    }
+
+    #[test]
+    fn searches_priced_grids(rt: HostRuntime) -> Result<(), Fail> {
+        let known: &[[Option<u8>; COLUMNS]] = &[
+            [Some(2), Some(1), Some(3)],
+            [Some(6), Some(5), Some(4)],
+            [Some(7), Some(8), Some(9)],
+        ];
+        let falling: &[[Option<u8>; COLUMNS]] = &[
+            [Some(8), Some(4), Some(0)],
+            [Some(2), Some(1), Some(0)],
+        ];
+        let shut: &[[Option<u8>; COLUMNS]] = &[[Some(1), Some(1), Some(1)], [None, None, None]];
+        let dead_end: &[[Option<u8>; COLUMNS]] = &[
+            [Some(1), Some(1), Some(1)],
+            [None, None, Some(1)],
+        ];
+        let table = [
+            // the sums are exact: 13 is paid by [1, 1, 0] and [1, 2, 1]. In the round at 13 three nodes are opened, 1, 1 1 and the leaf;
+            // the front needs 11, which hang from one of at most 13
+            (known, 3, Want::Found(&[1, 1, 0], 13)),
+            (known, 2, Want::SpentAt(13)),
+            // the best path never enters the leftmost column; the front needs 5
+            (falling, 2, Want::Found(&[2, 2], 0)),
+            (falling, 1, Want::SpentAt(0)),
+            (shut, 0, Want::Nothing),
+            // no way leads on from the leftmost column of the first row, so its node is dead; the front needs 4
+            (dead_end, 2, Want::Found(&[1, 2], 2)),
+            (dead_end, 1, Want::SpentAt(2)),
+        ];
+        for (costs, budget, want) in &table {
+            if costs.is_empty() || costs.len() > 192 {
+                return Err("no rows, or too many".into());
+            }
+            let grid = Grid {
+                costs: Vec::from_slice(rt.alloc(), costs)?,
+            };
+            let priced = PricedGrid { grid: &grid };
+            assert!(rt; is_wanted(&search_priced(rt.alloc(), &priced, *budget)?, want));
         }
         Ok(())
     }
