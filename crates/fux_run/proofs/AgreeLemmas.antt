@@ -76,14 +76,14 @@ same_told ex sheet budget v Spent one two told other unspent its = absurd (its r
 -- ---- what the refusals tell
 
 -- a refusal of a width, of a text and of a sheet
-WidthOf : Exercise → Refusal → Type 0
+abbrev WidthOf : Exercise → Refusal → Type 0
 WidthOf ex said = (place : Place) × (count : ℕ) × (said ≡ refusal.TooWide place count) × IsTooWide ex place count
 
-TextOf : List ℕ → Refusal → Type 0
+abbrev TextOf : List ℕ → Refusal → Type 0
 TextOf bytes said = (kind : TextKind) × (line : ℕ) × (column : ℕ) × (said ≡ refusal.Text kind line column)
     × HasFault bytes kind line column
 
-SheetOf : List (List ℕ) → Refusal → Type 0
+abbrev SheetOf : List (List ℕ) → Refusal → Type 0
 SheetOf sheets said = (fault : SheetFault) × (said ≡ refusal.Sheet fault) × (sheet_said sheets ≡ Err fault)
 
 width_of : (ex : Exercise) (said : Refusal) → RefusesWidth ex said → WidthOf ex said
@@ -141,7 +141,9 @@ same_width ex place other count its wide too =
     one_column (inr more) (inr less) = omega (arith, more, less)
 
     one_place : place.bar ≡ other.bar → place.slot ≡ other.slot → place ≡ other
-    one_place bar slot = ap₂ (λ (b : ℕ) (s : ℕ). record { bar = b; slot = s }) bar slot
+    one_place bar slot =
+        let made : ℕ → ℕ → Place = λ b s. record { bar = b; slot = s } in
+        ap₂ made bar slot
 
 -- ---- work
 
@@ -153,7 +155,9 @@ same_made budget sheet ex (Ok output) (Ok other) told its unspent too =
     ap Ok (one_output same.0 same.1)
   where
     one_output : output.verdict ≡ other.verdict → output.bytes ≡ other.bytes → output ≡ other
-    one_output verdict bytes = ap₂ (λ (v : Verdict) (text : List ℕ). record { verdict = v; bytes = text }) verdict bytes
+    one_output verdict bytes =
+        let made : Verdict → List ℕ → Output = λ v text. record { verdict = v; bytes = text } in
+        ap₂ made verdict bytes
 same_made budget sheet ex (Ok output) (Err said) told its unspent too =
     let wide = width_of ex said its in absurd (not_wide ex wide.0 wide.1 told.narrow wide.3)
 same_made budget sheet ex (Err said) (Ok other) told its unspent too =
@@ -218,6 +222,7 @@ module _ (Made Made' : Exercise → Work → Type 0) (bytes : List ℕ) (one two
 
 pub best_is_composed : BestIsComposed
 best_is_composed budget other sheets text composed best made its unspent too =
-    same_on _ _ text composed best
-    (λ ex on so. same_over _ _ sheets composed best
-    (λ sheet one two. same_made budget sheet ex composed best one two unspent too) on so) made its
+    same_on (λ ex. OnSheet (λ sheet. Composes budget sheet ex) sheets)
+    (λ ex. OnSheet (λ sheet. ComposesSharply sheet ex) sheets) text composed best
+    (λ ex. same_over (λ sheet. Composes budget sheet ex) (λ sheet. ComposesSharply sheet ex) sheets composed best
+    (λ sheet one two. same_made budget sheet ex composed best one two unspent too)) made its

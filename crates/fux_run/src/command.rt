@@ -9,8 +9,8 @@ use crate::forms::{
     from_smf_form, mark_mixed_form, mixed_form, new_cantus_form, search_form,
 };
 use crate::values::{
-    certifying, certifying_cantus, checking, checking_cantus, choosing, classing, composing, drilling,
-    imitating, inventing, job_on, marking_mixed, mixing, smf_reading,
+    certifying, certifying_cantus, checking, checking_cantus, choosing, classing, composing,
+    drilling, imitating, inventing, job_on, marking_mixed, mixing, smf_reading,
 };
 use cert_text::Form;
 use clap::ArgMatches;

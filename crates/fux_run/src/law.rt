@@ -6,5 +6,4 @@ ghost use Rattle.fux_run.specs.Works.{BestIsComposed};
 /// what is proved of the two.
 pub fn best_is_composed()
     ensures { BestIsComposed }
-{
-}
+{}

@@ -88,11 +88,7 @@ pub fn search(alloc: Global, space: &SpeciesSpace<'_>, budget: u32) -> Result<Fo
 }
 
 /// Searches them by sharper floors.
-fn search_sharply(
-    alloc: Global,
-    space: &SpeciesSpace<'_>,
-    budget: u32,
-) -> Result<Found, Memory>
+fn search_sharply(alloc: Global, space: &SpeciesSpace<'_>, budget: u32) -> Result<Found, Memory>
     requires { IsValid space.now.exercise }
     ensures { IfOk result (IsFoundSharply space.now.exercise space.now.sheet) }
 {
@@ -113,7 +109,7 @@ fn first_of_least(alloc: Global, space: &SpeciesSpace<'_>, budget: u32) -> Resul
 fn found_by(alloc: Global, space: &SpeciesSpace<'_>, outcome: Outcome) -> Result<Found, Memory>
     requires valid { IsValid space.now.exercise }
     requires first { IfFound outcome (IsFirstPath space.now) }
-    ensures { IfOk result (IsFoundBy space.now outcome.entry) }
+    ensures { IfOk result (IsFoundBy space.now outcome) }
 {
     match outcome {
         Outcome::Found { path, value } => Ok(Found::Best {
