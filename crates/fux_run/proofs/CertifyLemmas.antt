@@ -21,7 +21,7 @@ use Rattle.fux_grid.specs.Grid.{Grid}
 use Rattle.floor_tables.specs.Tables.{Task as Searched}
 use Rattle.fux_port.specs.Written.{StopsShort, appended}
 use Rattle.penalty_sheet.specs.declared.sheet.Sheet.{Sheet}
-use Rattle.species_space.specs.Loads.{IsNothingWithin}
+use Rattle.species_space.specs.Loads.{IsBestWithin, IsNothingWithin}
 use Rattle.fux_run.specs.declared.complaint.Complaint.{Complaint}
 use Rattle.fux_run.specs.declared.complaint.Complaint.TheVariants.{Usage, Refused, Unreadable, Unwritable, OutOfMemory}
 use Rattle.class_marker.specs.declared.one.Text.{Text as Content}
@@ -108,7 +108,7 @@ writes_so Made Made' cut old new (Err halt.Unwritable) so wrote =
     (wrote.0, record { work = wrote.1.work; made = so wrote.1.work wrote.1.made; holds = wrote.1.holds })
 
 module _ (budget : ℕ) (form : Form) (sheet : Sheet) (ex : Exercise) (narrow : IsNarrow ex) where
-  pub of_best : (score : Grid) (penalty : ℕ) → IsBestFound ex sheet budget score penalty → (work : Work)
+  pub of_best : (score : Grid) (penalty : ℕ) → IsBestFound ex (IsBestWithin ex sheet budget) score penalty → (work : Work)
       → CertifiesHead ex sheet form (Best penalty score) Favorable work → Certifies budget form sheet ex work
   of_best score penalty best (Ok output) made = record {
     narrow = narrow;

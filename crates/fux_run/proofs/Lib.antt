@@ -1,3 +1,4 @@
+pub mod AgreeLemmas
 pub mod AskedLemmas
 pub mod BestLemmas
 pub mod BlameLemmas

@@ -14,14 +14,14 @@ use Rattle.cert_text.specs.Potentials.{IsPotential}
 use Rattle.fux_grid.specs.declared.exercise.Exercise.{Exercise}
 use Rattle.fux_grid.specs.Grid.{Grid}
 use Rattle.penalty_sheet.specs.declared.sheet.Sheet.{Sheet}
-use Rattle.species_space.specs.Loads.{IsNothingWithin}
+use Rattle.species_space.specs.Loads.{IsBestWithin, IsNothingWithin}
 use Rattle.fux_run.specs.declared.refusal.Refusal.{Refusal}
 use Rattle.fux_run.specs.declared.refusal.Refusal.TheVariants.{LongCertificate}
 use Rattle.fux_run.specs.declared.work.Output.{Output}
 use Rattle.fux_run.specs.declared.work.Verdict.{Verdict}
 use Rattle.fux_run.specs.declared.work.Verdict.TheVariants.{Favorable, Unfavorable, Spent}
 use Rattle.fux_run.specs.Composed.{TellsBound}
-use Rattle.fux_run.specs.Searched.{IsBestFound, IsNarrow, RefusesWidth}
+use Rattle.fux_run.specs.Searched.{IsBestFound, IsBound, IsNarrow, RefusesWidth}
 use Rattle.fux_run.specs.Texts.{Work}
 
 -- the bytes are the certificate of a form that is written for a head, which is valid; each number that it states is below 2^32
@@ -35,7 +35,7 @@ pub record IsCertificateOf (ex : Exercise) (sheet : Sheet) (form : Form) (head :
 pub record CertifiesBest (ex : Exercise) (sheet : Sheet) (budget : ℕ) (form : Form) (bytes : List ℕ) : Type 0 where
   pub score : Grid
   pub penalty : ℕ
-  pub best : IsBestFound ex sheet budget score penalty
+  pub best : IsBestFound ex (IsBestWithin ex sheet budget) score penalty
   pub certificate : IsCertificateOf ex sheet form (Best penalty score) bytes
 
 -- the certificate that no setting is lawful; all live prefixes are within the budget
@@ -47,7 +47,7 @@ pub record CertifiesNone (ex : Exercise) (sheet : Sheet) (budget : ℕ) (form : 
 abbrev pub Shows : Exercise → Sheet → ℕ → Form → Verdict → List ℕ → Type 0
 Shows ex sheet budget form Favorable bytes = CertifiesBest ex sheet budget form bytes
 Shows ex sheet budget form Unfavorable bytes = CertifiesNone ex sheet budget form bytes
-Shows ex sheet budget form Spent bytes = TellsBound ex sheet budget bytes
+Shows ex sheet budget form Spent bytes = TellsBound (IsBound ex sheet budget) bytes
 
 -- an output on an exercise none of whose menus is too wide: a certificate that is no longer than one may be, or a bound
 pub record IsCertification (budget : ℕ) (form : Form) (sheet : Sheet) (ex : Exercise) (output : Output) : Type 0 where

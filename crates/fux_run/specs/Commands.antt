@@ -18,7 +18,7 @@ use Rattle.text_lines.specs.Numbers.{number_within}
 use Rattle.fux_run.specs.declared.command.Command.{Command}
 use Rattle.fux_run.specs.declared.command.Command.TheVariants.{Certify, CertifyCantus, Make}
 use Rattle.fux_run.specs.declared.command.Job.{Job}
-use Rattle.fux_run.specs.declared.command.Job.TheVariants.{Compose, Mark, Cantus, Print, ToSmf}
+use Rattle.fux_run.specs.declared.command.Job.TheVariants.{Compose, Best, Mark, Cantus, Print, ToSmf}
 use Rattle.fux_run.specs.declared.command.MixedJob.{MixedJob}
 use Rattle.fux_run.specs.declared.command.MixedJob.TheVariants as mixed
 use Rattle.fux_run.specs.declared.command.Making.{Making}
@@ -218,11 +218,18 @@ head_in rows = do
     top_first = is_set (codes "top-first") rows;
   })
 
-abbrev pub compose_asked : List Row → Option Task
-compose_asked rows = do
+-- a search on an exercise, which is this job within a budget
+abbrev pub search_asked : (ℕ → Job) → List Row → Option Task
+search_asked job rows = do
   name ← first_of (codes "EX") rows
   budget ← budget_in (first_of (codes "budget") rows)
-  Some (on_exercise name (first_of (codes "sheet") rows) (Compose budget))
+  Some (on_exercise name (first_of (codes "sheet") rows) (job budget))
+
+abbrev pub compose_asked : List Row → Option Task
+compose_asked rows = search_asked (λ budget. Compose budget) rows
+
+abbrev pub best_asked : List Row → Option Task
+best_asked rows = search_asked (λ budget. Best budget) rows
 
 abbrev pub certify_asked : List Row → Option Task
 certify_asked rows = do
@@ -365,6 +372,7 @@ abbrev pub asked : List Text → Option Task
 asked [] = None
 asked (word ∷ rest) =
     if bytes_eq word (codes "compose") then search_in (codes "compose") compose_asked rest
+    else (if bytes_eq word (codes "best") then search_in (codes "best") best_asked rest
     else (if bytes_eq word (codes "certify") then asked_by certify_words certify_asked rest
     else (if bytes_eq word (codes "check") then asked_by check_words check_asked rest
     else (if bytes_eq word (codes "mark") then job_in (codes "mark") Mark rest
@@ -375,7 +383,7 @@ asked (word ∷ rest) =
     else (if bytes_eq word (codes "drill") then asked_by drill_words drill_asked rest
     else (if bytes_eq word (codes "class") then asked_by class_words class_asked rest
     else (if bytes_eq word (codes "canon") then asked_by canon_words canon_asked rest
-    else asked_of_mixed word rest))))))))))
+    else asked_of_mixed word rest)))))))))))
 
 -- ---- the files
 

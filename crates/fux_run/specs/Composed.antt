@@ -1,17 +1,19 @@
--- What `compose` makes of an exercise, over a sheet of weights.
-use Rattle.std.specs.Prelude.{◌≡◌, ℕ, List, [], ◌∷◌, ◌++◌, Result, Ok, Err, IfOk, codes}
+-- What `compose` and `best` make of an exercise, over a sheet of weights.
+use Rattle.std.specs.Prelude.{◌≡◌, ℕ, List, [], ◌∷◌, ◌++◌, Result, Ok, Err, codes}
 use Rattle.std.specs.Fmt.{decimal}
 use Rattle.fux_grid.specs.declared.cell.Cell.{Cell}
 use Rattle.fux_grid.specs.declared.exercise.Exercise.{Exercise}
 use Rattle.fux_grid.specs.Exercises.{HasCantus}
+use Rattle.fux_judge.specs.Lawful.{BoundsLawful, HasNoLawful}
 use Rattle.penalty_sheet.specs.declared.sheet.Sheet.{Sheet}
 use Rattle.fux_text.specs.Lines.{setting_text}
 use Rattle.species_space.specs.Loads.{IsBestWithin, IsNothingWithin}
 use Rattle.fux_run.specs.declared.searching.Found.{Found}
+use Rattle.fux_run.specs.declared.searching.Found.TheVariants as found
 use Rattle.fux_run.specs.declared.work.Output.{Output}
 use Rattle.fux_run.specs.declared.work.Verdict.{Verdict}
 use Rattle.fux_run.specs.declared.work.Verdict.TheVariants.{Favorable, Unfavorable, Spent}
-use Rattle.fux_run.specs.Searched.{IsBound, IsFound, IsNarrow, RefusesWidth}
+use Rattle.fux_run.specs.Searched.{IsBestOf, IsBound, IsNarrow, RefusesWidth}
 use Rattle.fux_run.specs.Texts.{Work}
 
 -- the line that tells a penalty
@@ -26,23 +28,23 @@ bound_line bound = codes "spent, at least " ++ decimal bound ++ 10 ∷ []
 abbrev pub none_line : List ℕ
 none_line = codes "none" ++ 10 ∷ []
 
--- the text is the exercise with its best setting, over the cantus as it is, and the penalty of that; its load is within the budget
-pub record TellsBest (ex : Exercise) (sheet : Sheet) (budget : ℕ) (text : List ℕ) : Type 0 where
+-- the text is the exercise with a setting, over the cantus as it is, and the penalty of that, which are best as this tells
+pub record TellsBest (ex : Exercise) (AreBest : List (List Cell) → ℕ → Type 0) (text : List ℕ) : Type 0 where
   pub setting : List (List Cell)
   pub penalty : ℕ
-  pub best : IsBestWithin ex sheet budget setting penalty
+  pub best : AreBest setting penalty
   pub cantus : HasCantus ex setting
   pub spelled : text ≡ setting_text ex setting ++ penalty_line penalty
 
--- the text tells that no setting is lawful; all live prefixes are within the budget
-pub record TellsNone (ex : Exercise) (sheet : Sheet) (budget : ℕ) (text : List ℕ) : Type 0 where
-  pub none : IsNothingWithin ex sheet budget
+-- the text tells that there is none, as this has it
+pub record TellsNone (IsNone : Type 0) (text : List ℕ) : Type 0 where
+  pub none : IsNone
   pub spelled : text ≡ none_line
 
--- the text tells the least number whose load is above the budget
-pub record TellsBound (ex : Exercise) (sheet : Sheet) (budget : ℕ) (text : List ℕ) : Type 0 where
+-- the text tells a number that is such a bound
+pub record TellsBound (IsTheBound : ℕ → Type 0) (text : List ℕ) : Type 0 where
   pub bound : ℕ
-  pub is_bound : IsBound ex sheet budget bound
+  pub is_bound : IsTheBound bound
   pub spelled : text ≡ bound_line bound
 
 -- the output is the line that tells a bound
@@ -50,24 +52,37 @@ abbrev pub IsBoundText : ℕ → Work → Type 0
 IsBoundText bound (Ok output) = (output.verdict ≡ Spent) × (output.bytes ≡ bound_line bound)
 IsBoundText bound (Err refusal) = ⊥
 
--- what a text tells of an exercise, by its verdict
+-- what the text of `compose` tells of an exercise, by its verdict: the best setting, whose load is within the budget; that none is lawful,
+-- and all live prefixes are within the budget; or the least number whose load is above the budget
 abbrev pub Tells : Exercise → Sheet → ℕ → Verdict → List ℕ → Type 0
-Tells ex sheet budget Favorable text = TellsBest ex sheet budget text
-Tells ex sheet budget Unfavorable text = TellsNone ex sheet budget text
-Tells ex sheet budget Spent text = TellsBound ex sheet budget text
+Tells ex sheet budget Favorable text = TellsBest ex (IsBestWithin ex sheet budget) text
+Tells ex sheet budget Unfavorable text = TellsNone (IsNothingWithin ex sheet budget) text
+Tells ex sheet budget Spent text = TellsBound (IsBound ex sheet budget) text
 
--- an output on an exercise none of whose menus is too wide
-pub record IsComposition (budget : ℕ) (sheet : Sheet) (ex : Exercise) (output : Output) : Type 0 where
+-- what the text of `best` tells: the best setting; that none is lawful; or a number that no lawful setting's penalty is below
+abbrev pub TellsSharply : Exercise → Sheet → Verdict → List ℕ → Type 0
+TellsSharply ex sheet Favorable text = TellsBest ex (IsBestOf ex sheet) text
+TellsSharply ex sheet Unfavorable text = TellsNone (HasNoLawful ex) text
+TellsSharply ex sheet Spent text = TellsBound (BoundsLawful ex sheet) text
+
+-- an output on an exercise none of whose menus is too wide, which tells this
+pub record IsComposition (Told : Verdict → List ℕ → Type 0) (ex : Exercise) (output : Output) : Type 0 where
   pub narrow : IsNarrow ex
-  pub tells : Tells ex sheet budget output.verdict output.bytes
+  pub tells : Told output.verdict output.bytes
 
 -- `compose` with this budget makes this of an exercise, over the sheet in use
 abbrev pub Composes : ℕ → Sheet → Exercise → Work → Type 0
-Composes budget sheet ex (Ok output) = IsComposition budget sheet ex output
+Composes budget sheet ex (Ok output) = IsComposition (Tells ex sheet budget) ex output
 Composes budget sheet ex (Err refusal) = RefusesWidth ex refusal
 
--- what is written of what was found tells of it, by whichever sheet and within whichever budget that was found
-abbrev pub TellsFound : {Y : Type 0} → Exercise → Found → Result Output Y → Type 0
-TellsFound ex found result =
-    (sheet : Sheet) (budget : ℕ) → IsFound ex sheet budget found
-    → IfOk result (λ output. Tells ex sheet budget output.verdict output.bytes)
+-- `best` makes this of an exercise, over the sheet in use
+abbrev pub ComposesSharply : Sheet → Exercise → Work → Type 0
+ComposesSharply sheet ex (Ok output) = IsComposition (TellsSharply ex sheet) ex output
+ComposesSharply sheet ex (Err refusal) = RefusesWidth ex refusal
+
+-- what is written of what was found
+abbrev pub found_output : Exercise → Found → Output
+found_output ex (found.Best score penalty) =
+    record { verdict = Favorable; bytes = setting_text ex score.columns ++ penalty_line penalty }
+found_output ex found.Nothing = record { verdict = Unfavorable; bytes = none_line }
+found_output ex (found.Spent bound) = record { verdict = Spent; bytes = bound_line bound }

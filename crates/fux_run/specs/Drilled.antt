@@ -6,7 +6,7 @@ use Rattle.fux_grid.specs.declared.cell.Cell.{Cell}
 use Rattle.fux_grid.specs.declared.exercise.Exercise.{Exercise}
 use Rattle.fux_text.specs.Words.{spaced}
 use Rattle.drill_exercise.specs.Drill.{IsDrill}
-use Rattle.species_space.specs.Loads.{IsBestWithin}
+use Rattle.species_space.specs.Loads.{IsBestWithin, IsNothingWithin}
 use Rattle.score_marker.specs.declared.mark.Mark.{Mark}
 use Rattle.score_marker.specs.Marks.{AreMarks}
 use Rattle.fux_run.specs.declared.searching.Found.{Found}
@@ -14,7 +14,7 @@ use Rattle.fux_run.specs.declared.work.Output.{Output}
 use Rattle.fux_run.specs.declared.work.Verdict.{Verdict}
 use Rattle.fux_run.specs.declared.work.Verdict.TheVariants.{Favorable, Unfavorable, Spent}
 use Rattle.fux_run.specs.Composed.{TellsBound, TellsNone}
-use Rattle.fux_run.specs.Searched.{IsFound, IsNarrow, RefusesWidth, usual_sheet}
+use Rattle.fux_run.specs.Searched.{IsBound, IsFound, IsNarrow, RefusesWidth, usual_sheet}
 use Rattle.fux_run.specs.Texts.{Work}
 
 -- the first two lines: the number, and the cantus of its exercise
@@ -38,8 +38,8 @@ pub record TellsBestMarks (ex : Exercise) (text : List ℕ) : Type 0 where
 -- what the last line tells of an exercise, by its verdict
 abbrev pub TellsDrill : Exercise → Verdict → List ℕ → Type 0
 TellsDrill ex Favorable text = TellsBestMarks ex text
-TellsDrill ex Unfavorable text = TellsNone ex usual_sheet 200000 text
-TellsDrill ex Spent text = TellsBound ex usual_sheet 200000 text
+TellsDrill ex Unfavorable text = TellsNone (IsNothingWithin ex usual_sheet 200000) text
+TellsDrill ex Spent text = TellsBound (IsBound ex usual_sheet 200000) text
 
 -- a text has a line more, of which a fact holds
 pub record HasLineMore (TellsSo : List ℕ → Type 0) (before after : List ℕ) : Type 0 where

@@ -20,46 +20,23 @@ use Rattle.fux_run.specs.declared.work.Stop.{Stop}
 use Rattle.fux_run.specs.declared.work.Stop.TheVariants.{Refused, Memory}
 use Rattle.fux_run.specs.declared.work.Verdict.{Verdict}
 use Rattle.fux_run.specs.declared.work.Verdict.TheVariants.{Favorable, Unfavorable, Spent}
-use Rattle.fux_run.specs.Composed.{bound_line, none_line, penalty_line}
+use Rattle.fux_run.specs.Composed.{IsComposition, TellsBest, TellsBound, TellsNone}
 use Rattle.fux_run.specs.Marked.{RefusesNoSetting, TellsLines}
 use Rattle.fux_run.specs.Searched.{IsNarrow, RefusesWidth}
 use Rattle.fux_run.specs.Sheets.{OnSheet}
 use Rattle.fux_run.specs.Texts.{OnText, Work}
 
--- the text is the exercise with the best setting of the mixed one, over the cantus as it is, and the penalty of that; its load is within
--- the budget
-pub record TellsBestMixed (ex mixed : Exercise) (sheet : Sheet) (budget : ℕ) (text : List ℕ) : Type 0 where
-  pub setting : List (List Cell)
-  pub penalty : ℕ
-  pub best : IsBestWithin mixed sheet budget setting penalty
-  pub cantus : HasCantus ex setting
-  pub spelled : text ≡ setting_text ex setting ++ penalty_line penalty
-
--- the text tells that no setting of the mixed exercise is lawful; all live paths are within the budget
-pub record TellsNoMixed (mixed : Exercise) (sheet : Sheet) (budget : ℕ) (text : List ℕ) : Type 0 where
-  pub none : IsNothingWithin mixed sheet budget
-  pub spelled : text ≡ none_line
-
--- the text tells the least number whose load is above the budget, which isn't enough for the search
-pub record TellsMixedBound (mixed : Exercise) (sheet : Sheet) (budget : ℕ) (text : List ℕ) : Type 0 where
-  pub bound : ℕ
-  pub least : IsLeastOver mixed sheet budget bound
-  pub spelled : text ≡ bound_line bound
-
--- what a text tells of an exercise and the mixed one, by its verdict
+-- what a text tells of an exercise and the mixed one, by its verdict: the best setting of the mixed one, over the cantus as it is, whose
+-- load is within the budget; that no setting of it is lawful, and all live paths are within the budget; or the least number whose load is
+-- above the budget, which isn't enough for the search
 abbrev pub TellsMixed : Exercise → Exercise → Sheet → ℕ → Verdict → List ℕ → Type 0
-TellsMixed ex mixed sheet budget Favorable text = TellsBestMixed ex mixed sheet budget text
-TellsMixed ex mixed sheet budget Unfavorable text = TellsNoMixed mixed sheet budget text
-TellsMixed ex mixed sheet budget Spent text = TellsMixedBound mixed sheet budget text
-
--- an output on a mixed exercise none of whose menus is too wide
-pub record IsMixedComposition (budget : ℕ) (sheet : Sheet) (ex mixed : Exercise) (output : Output) : Type 0 where
-  pub narrow : IsNarrow mixed
-  pub tells : TellsMixed ex mixed sheet budget output.verdict output.bytes
+TellsMixed ex mixed sheet budget Favorable text = TellsBest ex (IsBestWithin mixed sheet budget) text
+TellsMixed ex mixed sheet budget Unfavorable text = TellsNone (IsNothingWithin mixed sheet budget) text
+TellsMixed ex mixed sheet budget Spent text = TellsBound (IsLeastOver mixed sheet budget) text
 
 -- `mixed` with this budget makes this of an exercise and the mixed one, over the sheet in use
 abbrev pub ComposesMixed : ℕ → Sheet → Exercise → Exercise → Work → Type 0
-ComposesMixed budget sheet ex mixed (Ok output) = IsMixedComposition budget sheet ex mixed output
+ComposesMixed budget sheet ex mixed (Ok output) = IsComposition (TellsMixed ex mixed sheet budget) mixed output
 ComposesMixed budget sheet ex mixed (Err refusal) = RefusesWidth mixed refusal
 
 -- these lines tell the marks that the mixed exercise has for the exercise's setting

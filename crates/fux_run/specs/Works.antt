@@ -1,5 +1,5 @@
 -- What the commands make of their files.
-use Rattle.std.specs.Prelude.{◌≡◌, ℕ, ◌⊎◌, List, [], ◌∷◌, All, Option, Some, None, Result, Ok, Err}
+use Rattle.std.specs.Prelude.{◌≡◌, ◌≢◌, ℕ, ◌⊎◌, List, [], ◌∷◌, All, Option, Some, None, Result, Ok, Err}
 use Rattle.cert_text.specs.declared.answers.Form.{Form}
 use Rattle.class_marker.specs.Lists.{listed_names}
 use Rattle.class_marker.specs.Markings.{IsContent, IsTheText}
@@ -10,10 +10,11 @@ use Rattle.fux_run.specs.declared.complaint.Complaint.TheVariants as complaint
 use Rattle.class_marker.specs.declared.one.Text.{Text as Content}
 use Rattle.fux_run.specs.declared.work.Output.{Output}
 use Rattle.fux_run.specs.declared.work.Unmade.{Unmade}
+use Rattle.fux_run.specs.declared.work.Verdict.TheVariants.{Spent}
 use Rattle.fux_run.specs.declared.work.Stop.{Stop}
 use Rattle.fux_run.specs.declared.work.Stop.TheVariants.{Refused, Memory}
 use Rattle.fux_run.specs.declared.command.Job.{Job}
-use Rattle.fux_run.specs.declared.command.Job.TheVariants.{Compose, Mark, Cantus, Print, ToSmf}
+use Rattle.fux_run.specs.declared.command.Job.TheVariants.{Compose, Best, Mark, Cantus, Print, ToSmf}
 use Rattle.penalty_sheet.specs.declared.sheet.Sheet.{Sheet}
 use Rattle.fux_run.specs.CantusCertified.{MakesCantusCertificate}
 use Rattle.fux_run.specs.CantusChecked.{ChecksCantusBy}
@@ -22,7 +23,7 @@ use Rattle.fux_run.specs.Checked.{AnswersWithin, Checks, IsUnreadable}
 use Rattle.fux_run.specs.Classes.{IsClass, IsList, RefusesList}
 use Rattle.fux_run.specs.Commands.{Task, on_exercise, on_mixed, certify, check, fromsmf, drill, class_report, find_canon, find_cantus, certify_cantus, check_cantus, as_list, names_in}
 use Rattle.fux_run.specs.Complaints.{name_text}
-use Rattle.fux_run.specs.Composed.{Composes}
+use Rattle.fux_run.specs.Composed.{Composes, ComposesSharply}
 use Rattle.fux_run.specs.Drilled.{Drills}
 use Rattle.fux_run.specs.Imitated.{MakesCanon}
 use Rattle.fux_run.specs.Invented.{MakesCantus}
@@ -37,6 +38,7 @@ use Rattle.fux_run.specs.Texts.{Work, OnText}
 -- a job makes this of an exercise, over the sheet in use
 abbrev pub MakesOf : Job → Sheet → Exercise → Work → Type 0
 MakesOf (Compose budget) sheet ex = Composes budget sheet ex
+MakesOf (Best budget) sheet ex = ComposesSharply sheet ex
 MakesOf Mark sheet ex = Marks ex
 MakesOf Cantus sheet ex = CantusMarks ex
 MakesOf Print sheet ex = Prints ex
@@ -45,6 +47,19 @@ MakesOf ToSmf sheet ex = WritesSmf ex
 -- a job makes this of the text of an exercise, and of the file of a sheet where one is given
 abbrev pub MakesOfText : Job → List (List ℕ) → List ℕ → Work → Type 0
 MakesOfText job sheets text = OnText (λ ex. OnSheet (λ sheet. MakesOf job sheet ex) sheets) text
+
+-- work that doesn't tell that the budget was spent
+abbrev pub IsUnspent : Work → Type 0
+IsUnspent (Ok output) = output.verdict ≢ Spent
+IsUnspent (Err refusal) = Unit {0}
+
+-- what `compose` and `best` make of the same files, with any budgets, is the same where neither is spent: verdict and bytes, or the
+-- refusal
+abbrev pub BestIsComposed : Type 0
+BestIsComposed =
+    (budget other : ℕ) (sheets : List (List ℕ)) (text : List ℕ) (composed best : Work)
+    → MakesOfText (Compose budget) sheets text composed → MakesOfText (Best other) sheets text best
+    → IsUnspent composed → IsUnspent best → composed ≡ best
 
 -- `certify` with a form makes this of the text of an exercise, and of the file of a sheet where one is given
 abbrev pub CertifiesText : ℕ → Form → List (List ℕ) → List ℕ → Work → Type 0

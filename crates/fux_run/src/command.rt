@@ -2,15 +2,15 @@
 
 ghost use Rattle.std.specs.Prelude.{◌≡◌, IfOk, IfSome, codes, option_map, true};
 ghost use Rattle.clap.specs.Words.{app_of, found_of, is_simple_and_free, rows_of};
-ghost use Rattle.fux_run.specs.Commands.{HasHead, asked, asked_by, asked_of_cantus, cantus_search_in, certify_asked, certify_words, certify_cantus_asked, check_asked, check_cantus_asked, check_cantus_words, check_words, class_asked, class_words, canon_asked, canon_words, compose_asked, drill_asked, drill_words, found_in, fromsmf_asked, fromsmf_words, job_in, asked_of_mixed, mark_mixed_asked, mark_mixed_words, mixed_asked, mixed_words, new_cantus_asked, new_cantus_words, search_in, task_of, texts};
+ghost use Rattle.fux_run.specs.Commands.{HasHead, asked, asked_by, asked_of_cantus, best_asked, cantus_search_in, certify_asked, certify_words, certify_cantus_asked, check_asked, check_cantus_asked, check_cantus_words, check_words, class_asked, class_words, canon_asked, canon_words, compose_asked, drill_asked, drill_words, found_in, fromsmf_asked, fromsmf_words, job_in, asked_of_mixed, mark_mixed_asked, mark_mixed_words, mixed_asked, mixed_words, new_cantus_asked, new_cantus_words, search_in, task_of, texts};
 
 use crate::forms::{
     canon_form, certify_form, check_cantus_form, check_form, class_form, drill_form, exercise_form,
     from_smf_form, mark_mixed_form, mixed_form, new_cantus_form, search_form,
 };
 use crate::values::{
-    certifying, certifying_cantus, checking, checking_cantus, classing, composing, drilling,
-    imitating, inventing, job_on, marking_mixed, mixing, smf_reading,
+    certifying, certifying_cantus, checking, checking_cantus, choosing, classing, composing,
+    drilling, imitating, inventing, job_on, marking_mixed, mixing, smf_reading,
 };
 use cert_text::Form;
 use clap::ArgMatches;
@@ -25,6 +25,8 @@ use std::alloc::Global;
 pub enum Job {
     /// Its best setting, found within this budget.
     Compose { budget: u32 },
+    /// The same, found by sharper floors.
+    Best { budget: u32 },
     /// The marks of its setting.
     Mark,
     /// The marks of its cantus firmus.
@@ -144,6 +146,7 @@ pub fn parse(alloc: Global, words: &[String]) -> Result<Option<Command<'_>>, Mem
     };
     match word.as_str() {
         "compose" => parse_compose(alloc, rest),
+        "best" => parse_best(alloc, rest),
         "certify" => parse_certify(alloc, rest),
         "check" => parse_check(alloc, rest),
         "mark" => parse_job(alloc, "mark", Job::Mark, rest),
@@ -202,6 +205,18 @@ fn parse_compose(alloc: Global, words: &[String]) -> Result<Option<Command<'_>>,
         return Ok(None);
     };
     Ok(composing(&matches))
+}
+
+/// The words behind `best`.
+fn parse_best(alloc: Global, words: &[String]) -> Result<Option<Command<'_>>, Memory>
+    ensures asked { IfOk result (λ found. option_map task_of found
+        ≡ search_in (codes "best") best_asked (texts words.now)) }
+    ensures head { IfOk result (λ found. IfSome found HasHead) }
+{
+    let Some(matches) = taken(search_form(alloc, "best")?, words)? else {
+        return Ok(None);
+    };
+    Ok(choosing(&matches))
 }
 
 /// The words behind `certify`.

@@ -1,13 +1,13 @@
-//! The command `compose`.
+//! The commands `compose` and `best`.
 
 ghost use Rattle.std.specs.Prelude.{◌≡◌, ◌++◌, IfOk, string_bytes};
 ghost use Rattle.fux_grid.specs.Exercises.{IsComplete, IsValid};
 ghost use Rattle.fux_text.specs.Lines.{setting_text};
-ghost use Rattle.fux_run.specs.Composed.{Composes, TellsFound, bound_line, none_line, penalty_line};
+ghost use Rattle.fux_run.specs.Composed.{Composes, ComposesSharply, bound_line, found_output, none_line, penalty_line};
 ghost use Rattle.fux_run.specs.Searched.{HasWholeScore};
 ghost use Rattle.fux_run.specs.Works.{Answers};
 
-use crate::searching::{Found, best_setting};
+use crate::searching::{Found, best_setting, sharp_setting};
 use crate::work::{Output, Stop, Verdict};
 use fux_grid::{Exercise, Score};
 use fux_pitch::Memory;
@@ -34,11 +34,28 @@ pub fn compose<R: Threads + Sync>(
     }
 }
 
-/// What is written of what was found, by whichever sheet and within whichever budget.
+/// The same by sharper floors, which may find it where the budget of `compose` is spent.
+pub fn best<R: Threads + Sync>(
+    rt: &R,
+    alloc: Global,
+    exercise: &Exercise,
+    sheet: &Sheet,
+    budget: u32,
+) -> Result<Output, Stop>
+    requires { IsValid exercise.now }
+    ensures { Answers (ComposesSharply sheet.now exercise.now) result }
+{
+    match sharp_setting(rt, alloc, exercise, sheet, budget) {
+        Ok(found) => Ok(found_output(alloc, exercise, &found)?),
+        Err(stop) => Err(stop),
+    }
+}
+
+/// What is written of what was found, by whichever search.
 fn found_output(alloc: Global, exercise: &Exercise, found: &Found) -> Result<Output, Memory>
     requires valid { IsValid exercise.now }
     requires complete { HasWholeScore exercise.now found.now }
-    ensures { TellsFound exercise.now found.now result }
+    ensures { IfOk result (λ output. output ≡ found_output exercise.now found.now) }
 {
     match found {
         Found::Best { score, penalty } => Ok(Output::of_text(

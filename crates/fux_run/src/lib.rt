@@ -15,6 +15,7 @@ mod exercise;
 mod forms;
 mod imitating;
 mod inventing;
+mod law;
 mod making;
 mod marking;
 mod mixing;
@@ -31,5 +32,6 @@ mod work;
 
 pub use command::{Command, Job, Making, MixedJob, parse};
 pub use complaint::{Complaint, FileName};
+pub use law::best_is_composed;
 pub use status::Status;
 pub use top_call::run;

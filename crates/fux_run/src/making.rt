@@ -15,7 +15,7 @@ use crate::checking::check;
 use crate::classing::class;
 use crate::command::{Job, Making};
 use crate::complaint::{Complaint, FileName};
-use crate::composing::compose;
+use crate::composing::{best, compose};
 use crate::content::read_content;
 use crate::drilling::drill;
 use crate::exercise::{LONGEST_TEXT, exercise_of};
@@ -167,6 +167,7 @@ fn of_exercise<R: Threads + Sync>(
 {
     match job {
         Job::Compose { budget } => compose(rt, alloc, exercise, sheet, budget),
+        Job::Best { budget } => best(rt, alloc, exercise, sheet, budget),
         Job::Mark => mark(alloc, exercise),
         Job::Cantus => cantus(alloc, exercise),
         Job::Print => print(alloc, exercise),

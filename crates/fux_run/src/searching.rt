@@ -4,13 +4,14 @@ ghost use Rattle.std.specs.Prelude.{ℕ, IfErr, IfOk};
 ghost use Rattle.fux_grid.specs.Exercises.{IsValid};
 ghost use Rattle.species_space.specs.Loads.{IsExact};
 ghost use Rattle.tree_search.specs.Outcomes.{IfFound};
-ghost use Rattle.fux_run.specs.Searched.{Finds, IsBestPath, IsBestScore, IsFirstPath, IsFound, IsSpaceOf, StopsAtWidth};
+ghost use Rattle.fux_run.specs.Searched.{Finds, IsFirstPath, IsFound, IsFoundBy, IsFoundSharply, IsScoreAt, IsSpaceOf, StopsAtWidth};
 
 use crate::refusal::Refusal;
 use crate::work::Stop;
 use fux_grid::{Exercise, Score};
 use fux_pitch::Memory;
 use penalty_sheet::Sheet;
+use priced_floors::search_best;
 use species_space::{SpeciesSpace, TableFault, score_of};
 use std::alloc::Global;
 use std::thread::Threads;
@@ -23,7 +24,7 @@ pub enum Found {
     Best { score: Score, penalty: u64 },
     /// No setting is lawful.
     Nothing,
-    /// The budget is not enough: the bound is the least number whose load is above it.
+    /// The budget is not enough. No lawful setting's penalty is below the bound.
     Spent { bound: u64 },
 }
 
@@ -36,10 +37,25 @@ pub fn best_setting<R: Threads + Sync>(
     budget: u32,
 ) -> Result<Found, Stop>
     requires { IsValid exercise.now }
-    ensures { Finds exercise.now sheet.now budget result }
+    ensures { Finds exercise.now (IsFound exercise.now sheet.now budget) result }
 {
     let space = space_of(rt, alloc, exercise, sheet)?;
     Ok(search(alloc, &space, budget)?)
+}
+
+/// The same by sharper floors, which may need less of the budget.
+pub fn sharp_setting<R: Threads + Sync>(
+    rt: &R,
+    alloc: Global,
+    exercise: &Exercise,
+    sheet: &Sheet,
+    budget: u32,
+) -> Result<Found, Stop>
+    requires { IsValid exercise.now }
+    ensures { Finds exercise.now (IsFoundSharply exercise.now sheet.now) result }
+{
+    let space = space_of(rt, alloc, exercise, sheet)?;
+    Ok(search_sharply(alloc, &space, budget)?)
 }
 
 /// The space of the settings of an exercise, or a refusal of its first menu that is too wide.
@@ -67,14 +83,17 @@ pub fn search(alloc: Global, space: &SpeciesSpace<'_>, budget: u32) -> Result<Fo
     requires { IsValid space.now.exercise }
     ensures { IfOk result (IsFound space.now.exercise space.now.sheet budget) }
 {
-    match first_of_least(alloc, space, budget)? {
-        Outcome::Found { path, value } => Ok(Found::Best {
-            score: setting_at(alloc, space, path.as_slice(), value)?,
-            penalty: value,
-        }),
-        Outcome::Nothing => Ok(Found::Nothing),
-        Outcome::Spent { bound } => Ok(Found::Spent { bound }),
-    }
+    let outcome = first_of_least(alloc, space, budget)?;
+    found_by(alloc, space, outcome)
+}
+
+/// Searches them by sharper floors.
+fn search_sharply(alloc: Global, space: &SpeciesSpace<'_>, budget: u32) -> Result<Found, Memory>
+    requires { IsValid space.now.exercise }
+    ensures { IfOk result (IsFoundSharply space.now.exercise space.now.sheet) }
+{
+    let outcome = search_best(alloc, space, budget)?;
+    found_by(alloc, space, outcome)
 }
 
 /// The first path to a setting of least penalty, if the budget is enough.
@@ -86,7 +105,23 @@ fn first_of_least(alloc: Global, space: &SpeciesSpace<'_>, budget: u32) -> Resul
     search_front(alloc, space, budget)
 }
 
-/// The setting that a path leads to: the best one, where that is the first of the least.
+/// What an outcome tells, with the setting where it has a path.
+fn found_by(alloc: Global, space: &SpeciesSpace<'_>, outcome: Outcome) -> Result<Found, Memory>
+    requires valid { IsValid space.now.exercise }
+    requires first { IfFound outcome (IsFirstPath space.now) }
+    ensures { IfOk result (IsFoundBy space.now outcome) }
+{
+    match outcome {
+        Outcome::Found { path, value } => Ok(Found::Best {
+            score: setting_at(alloc, space, path.as_slice(), value)?,
+            penalty: value,
+        }),
+        Outcome::Nothing => Ok(Found::Nothing),
+        Outcome::Spent { bound } => Ok(Found::Spent { bound }),
+    }
+}
+
+/// The setting that a path leads to, where that is the first of the least.
 fn setting_at(
     alloc: Global,
     space: &SpeciesSpace<'_>,
@@ -95,7 +130,8 @@ fn setting_at(
 ) -> Result<Score, Memory>
     requires valid { IsValid space.now.exercise }
     requires first { IsFirstPath space.now path.now penalty }
-    ensures { (budget : ℕ) → IsBestPath space.now budget path.now penalty → IfOk result (IsBestScore space.now budget penalty) }
+    ensures { IfOk result (IsScoreAt space.now path.now) }
 {
+    let _ = penalty;
     score_of(alloc, space, path)
 }

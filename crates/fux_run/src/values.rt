@@ -6,7 +6,7 @@ ghost use Rattle.fux_text.specs.Names.{mode_named};
 ghost use Rattle.mixed_rules.specs.Naming.{AreNamed};
 ghost use Rattle.smf_score.specs.Heads.{IsHead};
 ghost use Rattle.text_lines.specs.Numbers.{number_within};
-ghost use Rattle.fux_run.specs.Commands.{HasHead, IsWanted, budget_in, canon_asked, certify_asked, certify_cantus_asked, check_asked, check_cantus_asked, class_asked, compose_asked, drill_asked, form_in, fromsmf_asked, head_in, is_item, is_set, job_asked, mark_mixed_asked, mixed_asked, named_in, new_cantus_asked, number_at, said_of, task_of, wanted_in};
+ghost use Rattle.fux_run.specs.Commands.{HasHead, IsWanted, best_asked, budget_in, canon_asked, certify_asked, certify_cantus_asked, check_asked, check_cantus_asked, class_asked, compose_asked, drill_asked, form_in, fromsmf_asked, head_in, is_item, is_set, job_asked, mark_mixed_asked, mixed_asked, named_in, new_cantus_asked, number_at, said_of, task_of, wanted_in};
 
 use crate::command::{Command, Job, Making, MixedJob, Wanted};
 use cert_text::Form;
@@ -139,6 +139,18 @@ pub fn composing<'a>(matches: &ArgMatches<'a>) -> Option<Command<'a>>
     let budget = budget_of(value(matches, "budget"))?;
     let sheet = value(matches, "sheet");
     let job = Job::Compose { budget };
+    Some(Command::Make(Making::OnExercise { name, sheet, job }))
+}
+
+/// `best`, on the exercise of a file.
+pub fn choosing<'a>(matches: &ArgMatches<'a>) -> Option<Command<'a>>
+    ensures asked { option_map task_of result ≡ best_asked (rows_of (found_of matches.now)) }
+    ensures head { IfSome result HasHead }
+{
+    let name = value(matches, "EX")?;
+    let budget = budget_of(value(matches, "budget"))?;
+    let sheet = value(matches, "sheet");
+    let job = Job::Best { budget };
     Some(Command::Make(Making::OnExercise { name, sheet, job }))
 }
 

@@ -71,6 +71,33 @@ compose A|@sing 1 D5:8 ! C#5:7 ! D5:8/|3||fux: A:8:21: length/
 compose A|@sing 1 D5:8 ! C#5:8 ! H5:8/|3||fux: A:8:23: pitch/
 compose A|fux 1/mode dorian/voices 2/bars 3/species 6 voice 1/cantus 0 D4 E4 D4/range 1 A4 D5/|3||fux: A:5:9: word/
 compose A|@range 1 A4 C5 2 2/|1|none/|
+best A|@|0|@sing 1 D5:8 ! C#5:8 ! D5:8/; penalty 7/|
+best A --budget 1000|@|0|@sing 1 D5:8 ! C#5:8 ! D5:8/; penalty 7/|
+best --budget=4000000 A|@|0|@sing 1 D5:8 ! C#5:8 ! D5:8/; penalty 7/|
+best -- A|@|0|@sing 1 D5:8 ! C#5:8 ! D5:8/; penalty 7/|
+best A|fux 1/mode dorian/voices 2/bars 3/species 1 voice 0/cantus 1 D4 E4 D4/range 0 C4 D4/|0|fux 1/mode dorian/voices 2/bars 3/species 1 voice 0/cantus 1 D4 E4 D4/range 0 C4 D4/sing 0 D4:8 ! C#4:8 ! D4:8/; penalty 7/|
+best A|fux 1/mode dorian/voices 2/bars 3/species 1 voice 1/cantus 0 D4 E4 D4/range 1 A4 B4/|1|none/|
+best A|@range 1 A4 C5 2 2/|1|none/|
+best A|fux 1/mode dorian/voices 2/bars 4/species 5 voice 1/cantus 0 D4 F4 E4 D4/range 1 A4 E5/|0|fux 1/mode dorian/voices 2/bars 4/species 5 voice 1/cantus 0 D4 F4 E4 D4/range 1 A4 E5/sing 1 r:4 A4:4 ! _:2 Bb4:1 C5:1 D5:4 ! _:2 E5:1 D5:1 C#5:4 ! D5:8/; penalty 0/|
+best A --budget 1|fux 1/mode dorian/voices 2/bars 4/species 5 voice 1/cantus 0 D4 F4 E4 D4/range 1 A4 E5/|6|spent, at least 0/|
+best|@|2||fux: usage/
+Best A|@|2||fux: usage/
+best A A|@|2||fux: usage/
+best -h|@|2||fux: usage/
+best A --budget|@|2||fux: usage/
+best A --budget 0|@|2||fux: usage/
+best A --budget 4000001|@|2||fux: usage/
+best A --budget 07|@|2||fux: usage/
+best A --budget 7 --budget 7|@|2||fux: usage/
+best A --sheet A --sheet A|@|2||fux: usage/
+best A --form 1|@|2||fux: usage/
+best A --with 1:2|@|2||fux: usage/
+best B|@|4||fux: cannot read B/
+best A --sheet B|@|4||fux: cannot read B/
+best C --sheet B|@|4||fux: cannot read C/
+best A --sheet A|@|3||fux: sheet: not toml/
+best A --sheet A|fux 1/mode dorian/voices 2/bars 3/species 1 voice 1/cantus 0 D4 E4 D4/range 1 D5 A4/|3||fux: A:7:12: range/
+best A||3||fux: A:1:1: head/
 canon A|fux-canon 1/mode dorian/bars 3/leader 1 D4 D5/follower -7 1 D3 D4/|0|fux-canon 1/mode dorian/bars 3/leader 1 D4 D5/follower -7 1 D3 D4/sing 0 r:8 ! D3:8 ! D3:8/sing 1 D4:8 ! D4:8 ! D4:8/; penalty 11/|
 canon --budget=4000000 A|fux-canon 1/mode dorian/bars 3/leader 1 D4 D5/follower -7 1 D3 D4/|0|fux-canon 1/mode dorian/bars 3/leader 1 D4 D5/follower -7 1 D3 D4/sing 0 r:8 ! D3:8 ! D3:8/sing 1 D4:8 ! D4:8 ! D4:8/; penalty 11/|
 canon A|fux-canon 1/mode dorian/bars 3/leader 1 D4 D5/follower -7 1 A3 C4/|1|none/|

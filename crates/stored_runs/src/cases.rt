@@ -9,7 +9,7 @@
 //! err ".."
 //! ```
 //!
-//! with a line for each file. Texts have the escapes of byte strings: `\n`, `\t`, `\r`, `\\`, `\"` and `\xNN`.
+//! with a line for each file. A case of `compose` with status 0 or 1 is one of `best` too, by which the same is to come of it. Texts have the escapes of byte strings: `\n`, `\t`, `\r`, `\\`, `\"` and `\xNN`.
 
 ghost use Rattle.std.specs.Prelude.{◌<◌};
 
@@ -99,6 +99,22 @@ fn quoted<'a>(line: &'a str, name: &str) -> Option<&'a str> {
         .strip_suffix('"')
 }
 
+/// The words of `compose` for `best`, without a budget.
+fn words_of_best(alloc: Global, words: &[String]) -> Result<Vec<String>, Memory> {
+    let mut best = Vec::new(alloc);
+    let mut is_budget = false;
+    for word in words {
+        let word = word.as_str();
+        if word == "compose" {
+            best.push(String::from_str(alloc, "best")?)?;
+        } else if !is_budget && word != "--budget" && !word.starts_with("--budget=") {
+            best.push(String::from_str(alloc, word)?)?;
+        }
+        is_budget = word == "--budget";
+    }
+    Ok(best)
+}
+
 impl Case {
     /// A case that nothing is said of.
     pub fn new(alloc: Global) -> Result<Case, Memory> {
@@ -136,6 +152,19 @@ impl Case {
             self.complaint = decoded(alloc, text)?;
         }
         Ok(())
+    }
+
+    /// Makes a case of `best` of one of `compose` with status 0 or 1, with the usual budget, and tells whether it is one.
+    pub fn begin_best(&mut self, alloc: Global) -> Result<bool, Memory> {
+        let is_composed = match self.words.first() {
+            Some(word) => word.as_str() == "compose",
+            None => false,
+        };
+        if is_composed && self.status < 2 {
+            self.words = words_of_best(alloc, &self.words)?;
+            return Ok(true);
+        }
+        Ok(false)
     }
 
     /// Runs the case, and tells whether that comes of it which is to come.

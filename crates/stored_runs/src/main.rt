@@ -1,5 +1,5 @@
-//! Runs the cases that standard input has, with an empty line between each two, and tells how many there are and which of them
-//! come out otherwise than they say.
+//! Runs the cases that standard input has, with an empty line between each two, and tells how many there are, how many of them were run
+//! by `best` too, and which of them come out otherwise than they say.
 #![tactic(auto)]
 
 mod cases;
@@ -11,6 +11,7 @@ use std::io::ErrorKind;
 
 fn main(rt: HostRuntime) -> io::Result<()> {
     let mut count = 0u32;
+    let mut by_best = 0u32;
     let mut case = known(Case::new(rt.alloc()))?;
     for line in rt.lines(rt.alloc()) {
         let line = line?;
@@ -19,13 +20,19 @@ fn main(rt: HostRuntime) -> io::Result<()> {
             if !agrees {
                 println!(rt; "otherwise: {}", case.title())?;
             }
+            if known(case.begin_best(rt.alloc()))? {
+                by_best = by_best.saturating_add(1);
+                if !known(case.agrees(&rt, rt.alloc()))? {
+                    println!(rt; "otherwise by best: {}", case.title())?;
+                }
+            }
             case = known(Case::new(rt.alloc()))?;
         } else {
             known(case.take(rt.alloc(), line.as_str()))?;
             count = count.saturating_add(u32::from(line.starts_with("case ")));
         }
     }
-    println!(rt; "cases {count}")
+    println!(rt; "cases {count}, by best too {by_best}")
 }
 
 /// What came of work that may want for memory.
