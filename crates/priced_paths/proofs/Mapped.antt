@@ -1,4 +1,5 @@
--- On the way to a leaf each step is an edge of the leaf's case (`case_is_mapped`), so the numbers of the cases give floors (`priced_floors`).
+-- On the way to a leaf each step is an edge of the leaf's case (`case_is_mapped`), so the numbers of the cases give
+-- floors (`priced_floors`).
 use Rattle.std.proofs.Common.{◌≡◌, ℕ, ◌+◌, ◌-◌, ◌*◌, ◌<◌, ◌≤◌, ◌||◌, ◌&&◌, nat_lt, nat_le, List, [], ◌∷◌, ◌++◌, length, Option, Some, None, option_map, option_and_then, Bool, true, false, refl, sym, ap, ap₂, subst, ◌∙◌, arith, append_assoc, append-nil, length-append, slice_get, slice_index_or, if◌then◌else◌}
 use Rattle.std.proofs.Math.Nat.{mul-add, mul-le-mul_left}
 use Rattle.std.proofs.lemmas.Bool.{and_from, and_parts, eq-eqb}
@@ -32,14 +33,16 @@ node_parts count at true within =
     let test : nat_lt (count - 1 - at) count ≡ true = grind (arith, nat_tests) in
     record {
       within = omega (arith, within);
-      back = ap (λ b. if b then count - 1 - (count - 1 - at) else 2 * count - 1 - (count - 1 - at)) test ∙ omega (arith, within);
+      back = ap (λ b. if b then count - 1 - (count - 1 - at) else 2 * count - 1 - (count - 1 - at)) test ∙
+          omega (arith, within);
       same = test;
     }
 node_parts count at false within =
     let test : nat_lt (2 * count - 1 - at) count ≡ false = grind (arith, nat_tests) in
     record {
       within = omega (arith, within);
-      back = ap (λ b. if b then count - 1 - (2 * count - 1 - at) else 2 * count - 1 - (2 * count - 1 - at)) test ∙ omega (arith, within);
+      back = ap (λ b. if b then count - 1 - (2 * count - 1 - at) else 2 * count - 1 - (2 * count - 1 - at))
+          test ∙ omega (arith, within);
       same = test;
     }
 
@@ -48,18 +51,24 @@ pub edge_of_node : {K : Type 0} (web : Web K) (case : Case) (at label depth char
     → at < length web.spots.items → edge_in web at label ≡ Some edge → depth_in web at ≡ depth
     → case.toll depth label ≡ Some charge
     → case_edge web case (node_at (length web.spots.items) at reached) label
-    ≡ Some (node_at (length web.spots.items) edge.to (reached || case.reaches depth label), case.rate.scale * edge.cost + charge)
+    ≡ Some (
+      node_at (length web.spots.items) edge.to (reached || case.reaches depth label),
+      case.rate.scale *
+          edge.cost + charge,
+    )
 edge_of_node web case at label depth charge reached edge within leads deep toll =
     let count = length web.spots.items in
     let node = node_at count at reached in
     let parts = node_parts count at reached within in
     let inside = parts.within in
     let test : nat_lt node (nodes_of web) ≡ true = grind (arith, nat_tests) in
-    ap (λ b. if b then edge_by web case (depth_in web (spot_of count node)) (spot_of count node) (is_reached count node) label else None) test
+    ap (λ b. if b then edge_by web case (depth_in web (spot_of count node)) (spot_of count node) (is_reached
+    count node) label else None) test
     ∙ ap (λ (s : ℕ). edge_by web case (depth_in web s) s (is_reached count node) label) parts.back
     ∙ ap (λ b. edge_by web case (depth_in web at) at b label) parts.same
     ∙ ap (λ (d : ℕ). edge_by web case d at reached label) deep
-    ∙ ap (option_and_then (λ e. charged_edge count case.rate.scale (reached || case.reaches depth label) e (case.toll depth label))) leads
+    ∙ ap (option_and_then (λ e. charged_edge count case.rate.scale (reached || case.reaches depth label) e
+    (case.toll depth label))) leads
     ∙ ap (charged_edge count case.rate.scale (reached || case.reaches depth label) edge) toll
 
 -- the graph ends at the leaves where what is asked for was reached
@@ -233,7 +242,8 @@ module _ {K : Type 0} {live : List ℕ → Option ℕ} {height : ℕ} {kept : Li
         → IsOfCase case.toll case.reaches case.rate (settled path) path value → case_live path ≡ Some value
     leaf_from path value is_live of =
         let low = of.due in
-        let test : nat_le (case.rate.scale * settled path + of.charged) (case.rate.scale * value + case.rate.debt) ≡ true =
+        let test : nat_le (case.rate.scale * settled path + of.charged) (case.rate.scale * value +
+        case.rate.debt) ≡ true =
         grind (arith, nat_tests) in
         let both = and_from (has_reached case.reaches path) _ of.reached test in
         ap (option_and_then (λ own. due own path (charged_to case.toll path))) is_live
@@ -269,15 +279,18 @@ module _ {K : Type 0} {live : List ℕ → Option ℕ} {height : ℕ} {kept : Li
         let cost = case.rate.scale * edge.edge.cost + parts.second in
         let to = node_is next edge.edge.to all.0 edge.next.leads all.1
         ∙ ap (node_at count edge.edge.to) (reached-append case.reaches path child) in
-        let leads = ap (λ (n : ℕ). case_edge web case n child) (node_is path here.0 parts.first here.1.leads parts.one_is)
+        let leads = ap (λ (n : ℕ). case_edge web case n child) (node_is path here.0 parts.first here.1.leads
+        parts.one_is)
         ∙ edge_of_node web case here.0 child (length path) parts.second (has_reached case.reaches path) edge.edge
         (slice_get_within web.spots.items here.0 here.1.spot here.1.is_spot) edge.is_edge deep parts.other_is
         ∙ ap (λ (n : ℕ). Some (n, cost)) (sym to) in
         record {
           cost = cost;
           is_edge = (child, leads);
-          paid = paid_more case.rate.scale (settled path) (settled next) edge.edge.cost parts.first parts.second all.0 _ _
-              (omega (arith, edge.low, its.paid)) parts.sums (paid_is path parts.first parts.one_is) (paid_is next all.0 all.1);
+          paid = paid_more case.rate.scale (settled path) (settled next) edge.edge.cost parts.first
+              parts.second all.0 _ _
+              (omega (arith, edge.low, its.paid)) parts.sums (paid_is path parts.first parts.one_is) (paid_is
+              next all.0 all.1);
         }
 
     case_is_mapped : AreMapped case_live height case.rate (paid_in case settled) (node_in web case)

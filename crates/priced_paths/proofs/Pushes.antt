@@ -37,7 +37,8 @@ standings_more P xs n own room before here k within = ⊎_elim
     (cases_lt k n)
 
 -- what is read of the numbers of a case
-pub number-read : (numbers : List (List (Option ℕ))) (case node : ℕ) (list own : List (Option ℕ)) → case < length numbers
+pub number-read : (numbers : List (List (Option ℕ))) (case node : ℕ) (list own : List (Option ℕ)) → case <
+    length numbers
     → list ≡ slice_index_or numbers case own → number_in list node ≡ number_in (numbers_of numbers case) node
 number-read numbers case node list own within is =
     let P : List (Option ℕ) → Type 0 = λ xs. number_in list node ≡ number_in xs node in

@@ -1,4 +1,5 @@
--- Where a path leads with a step more (`spot-append`), what a web's edges are (`edge_parts`), and that a web is sound (`sound_from_web`).
+-- Where a path leads with a step more (`spot-append`), what a web's edges are (`edge_parts`), and that a web is
+-- sound (`sound_from_web`).
 use Rattle.std.proofs.Common.{◌≡◌, ℕ, ◌+◌, ◌<◌, nat_lt, List, [], ◌∷◌, ◌++◌, Option, Some, None, option_and_then, Bool, true, false, refl, sym, ap, subst, ◌∙◌, arith, slice_get, slice_index_or, if◌then◌else◌, ⊎_elim}
 use Rattle.std.proofs.lemmas.Option.{slice_get_within}
 use Rattle.std.proofs.lemmas.Bool.{cases_lt}
@@ -15,7 +16,8 @@ end_of (Some edge) = Some edge.to
 
 -- a step at the end of a path
 pub spot_from-append : {K : Type 0} (web : Web K) (at : ℕ) (path : List ℕ) (label : ℕ)
-    → spot_from web at (path ++ label ∷ []) ≡ option_and_then (λ s. end_of (edge_in web s label)) (spot_from web at path)
+    → spot_from web at (path ++ label ∷ []) ≡ option_and_then (λ s. end_of (edge_in web s label)) (spot_from
+    web at path)
 spot_from-append web at [] label = one (edge_in web at label)
   where
     one : (o : Option Edge) → option_and_then (λ (edge : Edge). Some edge.to) o ≡ end_of o
@@ -28,7 +30,8 @@ spot_from-append web at (first ∷ path) label = on (edge_in web at first)
         → ((edge : Edge) → spot_from web edge.to (path ++ label ∷ [])
         ≡ option_and_then (λ s. end_of (edge_in web s label)) (spot_from web edge.to path))
         → option_and_then (λ (edge : Edge). spot_from web edge.to (path ++ label ∷ [])) o
-        ≡ option_and_then (λ s. end_of (edge_in web s label)) (option_and_then (λ (edge : Edge). spot_from web edge.to path) o)
+        ≡ option_and_then (λ s. end_of (edge_in web s label)) (option_and_then (λ (edge : Edge). spot_from web
+        edge.to path) o)
     on None onward = refl
     on (Some edge) onward = onward edge
 

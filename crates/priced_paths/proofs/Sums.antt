@@ -1,4 +1,5 @@
--- The sums of a path are those of its place (`priced_sum-at`), one without a spot has none (`priced_sum-none`), and a place goes on along a path
+-- The sums of a path are those of its place (`priced_sum-at`), one without a spot has none (`priced_sum-none`), and
+-- a place goes on along a path
 -- (`place_on`).
 use Rattle.std.proofs.Common.{◌≡◌, ℕ, zero, suc, ◌+◌, ◌*◌, ◌<◌, ◌≤◌, ◌||◌, List, [], ◌∷◌, ◌++◌, length, Option, Some, None, option_map, Bool, false, refl, sym, ap, ap₂, subst, ◌∙◌, arith, length-append}
 use Rattle.std.proofs.lemmas.List.{get_or_past}
@@ -21,9 +22,11 @@ least_below-same : (sum other : ℕ → Option ℕ) (count : ℕ) → ((k : ℕ)
     → least_below sum count ≡ least_below other count
 least_below-same sum other zero same = refl
 least_below-same sum other (suc count) same =
-    ap₂ lesser_of (least_below-same sum other count (λ k within. same k (omega (arith, within)))) (same count (omega arith))
+    ap₂ lesser_of (least_below-same sum other count (λ k within. same k (omega (arith, within)))) (same count
+    (omega arith))
 
-least_below-none : (sum : ℕ → Option ℕ) (count : ℕ) → ((k : ℕ) → k < count → sum k ≡ None) → least_below sum count ≡ None
+least_below-none : (sum : ℕ → Option ℕ) (count : ℕ) → ((k : ℕ) → k < count → sum k ≡ None) → least_below sum
+    count ≡ None
 least_below-none sum zero none = refl
 least_below-none sum (suc count) none =
     ap₂ lesser_of (least_below-none sum count (λ k within. none k (omega (arith, within)))) (none count (omega arith))
@@ -70,7 +73,8 @@ module _ {K : Type 0} (web : Web K) (case : ℕ → Case) (count : ℕ) (settled
       (λ k within. case_sum-at web (case k) settled (numbers_of numbers k) (whole k within) path place.at its_settled
       (standing_in place k) h.at (sym (h.standings k within)) own)
 
-  pub priced_sum-none : (path : List ℕ) → spot_at web path ≡ None → priced_sum web case count settled numbers path ≡ None
+  pub priced_sum-none : (path : List ℕ) → spot_at web path ≡ None → priced_sum web case count settled numbers
+      path ≡ None
   priced_sum-none path is =
       least_below-none (λ k. case_sum web (case k) settled (numbers_of numbers k) path) count
       (λ k within. case_sum-none web (case k) settled (numbers_of numbers k) (whole k within) path is)
@@ -105,7 +109,8 @@ module _ {K : Type 0} {height : ℕ} {breadth : ℕ → ℕ} (web : Web K) (case
   }
 
   -- the place behind a step
-  pub place_on : (place next : Place) (path : List ℕ) (label depth : ℕ) (edge : Edge) → IsPlaceOf web case count place path
+  pub place_on : (place next : Place) (path : List ℕ) (label depth : ℕ) (edge : Edge) → IsPlaceOf web case
+      count place path
       → depth ≡ depth_in web place.at → edge_in web place.at label ≡ Some edge → next.at ≡ edge.to
       → ((k : ℕ) → k < count → standing_in next k
       ≡ standing_by ((case k).toll depth label) ((case k).reaches depth label) (standing_in place k))

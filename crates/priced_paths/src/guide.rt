@@ -155,10 +155,8 @@ impl<'a, P: Pricing> PricedGuide<'a, P> {
     {
         let mut least = None;
         for case in 0..self.pricing.cases() {
-            least = lesser(
-                least,
-                self.sum_in(case, place.at, place.standings[case], settled),
-            );
+            let own = self.sum_in(case, place.at, place.standings[case], settled);
+            least = lesser(least, own);
         }
         least
     }

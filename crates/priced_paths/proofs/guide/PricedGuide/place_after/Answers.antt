@@ -17,6 +17,7 @@ loop-case-preserved g c =
       long = length-set c.loop-case.next.standings c.loop-case.case c.standing_after.result ∙ before.long;
       standings = standings_more Stands c.loop-case.next.standings c.loop-case.case c.standing_after.result
           (omega (arith, before.long)) before.standings c.standing_after.ensures.value;
-      cheap = standings_more Cheap c.loop-case.next.standings c.loop-case.case c.standing_after.result (omega (arith, before.long))
+      cheap = standings_more Cheap c.loop-case.next.standings c.loop-case.case c.standing_after.result (omega
+          (arith, before.long))
           before.cheap c.standing_after.ensures.cheap;
     }

@@ -10,7 +10,8 @@ returns-in_err-edge g c = λ path stood at is_live.
     let none = spot-append_none self.web.now path c.args.k c.args.place.now.at stood.at (sym c.in_err-edge.ensures) in
     rw c.from_residual.ensures (priced_sum-none self.web.now (case_of (g.P.Pricing.toll_at self.pricing.now)
     (g.P.Pricing.reaches_at self.pricing.now) (g.P.Pricing.rate_of self.pricing.now))
-    (g.P.Pricing.count self.pricing.now) (g.P.Pricing.settled_by self.pricing.now) self.numbers.now self.whole (path ++ c.args.k ∷ []) none)
+    (g.P.Pricing.count self.pricing.now) (g.P.Pricing.settled_by self.pricing.now) self.numbers.now self.whole
+    (path ++ c.args.k ∷ []) none)
 
 pub place_after-next-requires-clause-above : goal.place_after-next-requires-clause-above
 place_after-next-requires-clause-above g c =
@@ -19,7 +20,8 @@ place_after-next-requires-clause-above g c =
 
 pub place_after-next-requires-clause-label : goal.place_after-next-requires-clause-label
 place_after-next-requires-clause-label g c =
-    let its = c.args.self.now.sound.edges c.args.place.now.at c.args.k c.in_ok-edge.edge (sym c.in_ok-edge.ensures) in rw c.depth-depth.ensures its.is_label
+    let its = c.args.self.now.sound.edges c.args.place.now.at c.args.k c.in_ok-edge.edge (sym
+    c.in_ok-edge.ensures) in rw c.depth-depth.ensures its.is_label
 
 pub least_sum-requires-clause-at : goal.least_sum-requires-clause-at
 least_sum-requires-clause-at g c =
@@ -38,7 +40,8 @@ returns-in_err-sum g c = λ path stood at is_live.
     rw c.from_residual-in_err-sum.ensures
     (priced_sum-at self.web.now (case_of (g.P.Pricing.toll_at self.pricing.now)
     (g.P.Pricing.reaches_at self.pricing.now) (g.P.Pricing.rate_of self.pricing.now))
-    (g.P.Pricing.count self.pricing.now) (g.P.Pricing.settled_by self.pricing.now) self.numbers.now self.whole next.result (path ++ c.args.k ∷ []) c.settled.result placed
+    (g.P.Pricing.count self.pricing.now) (g.P.Pricing.settled_by self.pricing.now) self.numbers.now self.whole
+    next.result (path ++ c.args.k ∷ []) c.settled.result placed
     (sym (c.settled.ensures.value (path ++ c.args.k ∷ []) at)) ∙ sym c.in_err-sum.ensures)
 
 pub returns : goal.returns
@@ -53,6 +56,7 @@ returns g c = λ path stood at is_live.
       placed,
       priced_sum-at self.web.now (case_of (g.P.Pricing.toll_at self.pricing.now)
           (g.P.Pricing.reaches_at self.pricing.now) (g.P.Pricing.rate_of self.pricing.now))
-          (g.P.Pricing.count self.pricing.now) (g.P.Pricing.settled_by self.pricing.now) self.numbers.now self.whole next.result (path ++ c.args.k ∷ []) c.settled.result placed
+          (g.P.Pricing.count self.pricing.now) (g.P.Pricing.settled_by self.pricing.now) self.numbers.now
+          self.whole next.result (path ++ c.args.k ∷ []) c.settled.result placed
           (sym (c.settled.ensures.value (path ++ c.args.k ∷ []) at)) ∙ sym c.in_ok-sum.ensures,
     )
