@@ -1,0 +1,4 @@
+pub mod Kept
+pub mod Charges
+pub mod ChargeLaws
+pub mod PathLaws
