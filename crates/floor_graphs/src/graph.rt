@@ -45,7 +45,7 @@ pub trait Graph {
 }
 
 /// The lesser of two sums; where one is none, the other.
-fn lesser(one: Option<u64>, other: Option<u64>) -> Option<u64>
+pub fn lesser(one: Option<u64>, other: Option<u64>) -> Option<u64>
     ensures { result ≡ lesser_of one other }
 {
     match (one, other) {

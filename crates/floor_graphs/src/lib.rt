@@ -7,7 +7,7 @@ mod guide;
 mod search;
 mod sharpened;
 
-pub use graph::{Graph, least_numbers};
+pub use graph::{Graph, least_numbers, lesser};
 pub use guide::Guide;
 pub use search::search_sharpened;
 pub use sharpened::{Sharp, Sharpened};
