@@ -1,6 +1,6 @@
 -- What the columns of a setting are charged is due: at most a debt and what its lines cost by the gauges (`charged_in_case`). Each
 -- setting is of some case (`case_of_line`): no note of it is above the case (`none_above`), and one comes to it (`one_comes`).
-use Rattle.std.specs.Prelude.{◌≡◌, ℕ, zero, suc, ◌+◌, ◌-◌, ◌*◌, ◌<◌, ◌≤◌, ◌==◌, ℤ, pos, negsuc, ◌≤ℤ◌, ◌⊎◌, ◌||◌, int_le, Bool, true, false, cond, List, [], ◌∷◌, Option, Some, None, count_by, length, map, reverse, slice_index, slice_index_or, sum, if◌then◌else◌, refl}
+use Rattle.std.specs.Prelude.{◌≡◌, ℕ, zero, suc, ◌+◌, ◌-◌, ◌*◌, ◌<◌, ◌≤◌, ◌==◌, ℤ, pos, negsuc, ◌≤ℤ◌, ◌⊎◌, ◌||◌, int_le, nat_le, Bool, true, false, cond, List, [], ◌∷◌, Option, Some, None, count_by, length, map, reverse, slice_index, slice_index_or, sum, if◌then◌else◌, refl}
 use Rattle.std.specs.Int.{int_max}
 use Rattle.std.specs.List.{filter_map, list_all, list_any, sum_by}
 use Rattle.std.specs.Ordering.{int_eq}
@@ -8,9 +8,10 @@ use Rattle.std.proofs.Common.{ap, inl, inr, sym, ◌∙◌, subst, arith}
 use Rattle.std.proofs.Math.Nat.{mul-add, mul-le-mul_left, mul-suc}
 use Rattle.std.proofs.lemmas.Bool.{and_from, and_parts}
 use Rattle.std.proofs.lemmas.Bool.Decides.{nat_tests}
-use Rattle.std.proofs.lemmas.List.Folds.{list_all-append, list_all-map, list_any-append}
+use Rattle.std.proofs.lemmas.List.Folds.{list_all-append, list_all-map, list_any-append, Any-from_list_any}
 use Rattle.std.proofs.lemmas.Grind.{reverse_onto}
 use Rattle.std.proofs.lemmas.Int.{ints, clamps}
+use Rattle.std.proofs.lemmas.List.{get_or_default}
 use Rattle.std.proofs.lemmas.List.Sums.{sum_by-append, sum_by-cons, sum_by-le-sum_by}
 use Rattle.fux_pitch.specs.declared.pitch.Pitch.{Pitch}
 use Rattle.fux_pitch.specs.Pitch.{key_of}
@@ -34,7 +35,7 @@ use Rattle.strike_prices.specs.declared.prices.Summit.{Summit}
 use Rattle.strike_prices.specs.Charges.{charged, is_at, is_within, notes_at_top, strike_price, strikes_charged, top_price}
 use Rattle.strike_prices.specs.Fairness.{AreFair, charged_is_due, debt_of}
 use Rattle.priced_floors.specs.declared.charges.Charges.{Charges}
-use Rattle.priced_floors.specs.Charges.{AreFairCharges, IsOfCase, any_summit, column_charge, comes_to, debt_in, is_below, keeps_within, note_charge, prices_of, summit_at, summit_of}
+use Rattle.priced_floors.specs.Charges.{AreFairCharges, any_summit, column_charge, comes_to, debt_in, has_key, is_below, keeps_within, note_charge, prices_of, summit_at, summit_of}
 
 -- ---- what one line is charged
 
@@ -313,7 +314,7 @@ any_reversed f (x ∷ xs) h =
 within_case : (high : Option ℕ) (ps : List Pitch) (key : ℕ) → greatest_key ps ≡ pos key → is_below high key ≡ true
     → is_within high ps ≡ true
 within_case None ps key e h = refl
-within_case (Some high) ps key e h = ap (λ g. int_le g (pos high)) e ∙ h
+within_case (Some high) ps key e h = ap (λ g. int_le g (pos high)) e ∙ grind (arith, ints, nat_tests, h)
 
 any_on_line : (f : Cell → Bool) (v : ℕ) (cols : List (List Cell))
     → list_any f (line v cols) ≡ list_any (λ col. f (cell_in col v)) cols
@@ -336,6 +337,9 @@ comes_in_case (suc low) v s key e h =
     inr (any_reversed (λ col. comes_to (suc low) (started_pitch (cell_in col v))) s
     (sym (any_on_line (λ c. comes_to (suc low) (started_pitch c)) v (reverse s)) ∙ some_comes low cells reached))
 
+from_le : (a b : ℕ) → nat_le a b ≡ true → a ≤ b
+from_le a b h = grind (arith, nat_tests)
+
 -- the case of a setting: none of its notes is above it, and one comes to it
 pub record IsInCase (charges : Charges) (s : List (List Cell)) (case : ℕ) : Type 0 where
   pub there : case < length charges.summits.items
@@ -349,18 +353,22 @@ pub case_of_setting : (charges : Charges) (sheet : Sheet) → AreFairCharges cha
     → (case : ℕ) × IsInCase charges s case
 case_of_setting charges sheet fair s =
     let key = natural (greatest_key ps) (key_there ps) in
-    let case = fair.cases key.0 in
-    let summit = summit_at charges case.0 in
-    let within = within_case summit.high ps key.0 key.1 case.1.high in (
-      case.0,
+    let found = Any-from_list_any (has_key key.0) charges.summits.items (fair.cases key.0) in
+    let summit = summit_at charges found.0 in
+    let P : Summit → Type 0 = λ summit. has_key key.0 summit ≡ true in
+    let its : has_key key.0 summit ≡ true = subst P
+    (sym found.3 ∙ get_or_default charges.summits.items found.0 found.1 any_summit found.2) found.4 in
+    let both = and_parts (nat_le summit.low key.0) (is_below summit.high key.0) its in
+    let within = within_case summit.high ps key.0 key.1 both.1 in (
+      found.0,
       record {
-        there = case.1.within;
+        there = found.2;
         within = within;
         none_above = all_reversed (λ col. keeps_within summit.high (started_pitch (cell_in col charges.voice))) s
             (sym (list_all-map (λ c. keeps_within summit.high (started_pitch c)) (λ col. cell_in col charges.voice)
             (reverse s))
             ∙ all_within summit.high cells (sym (ap (is_within summit.high) (pitches_are cells)) ∙ within));
-        one_comes = comes_in_case summit.low charges.voice s key.0 key.1 case.1.low;
+        one_comes = comes_in_case summit.low charges.voice s key.0 key.1 (from_le summit.low key.0 both.0);
       },
     )
   where

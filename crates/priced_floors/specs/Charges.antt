@@ -1,11 +1,12 @@
 -- What the columns of a setting are charged, case by case.
-use Rattle.std.specs.Prelude.{◌≡◌, ℕ, zero, suc, ◌+◌, ◌*◌, ◌<◌, ◌≤◌, ◌==◌, ◌&&◌, ℤ, pos, int_le, Bool, true, false, List, [], ◌∷◌, Option, Some, None, length, slice_index, slice_index_or, if◌then◌else◌}
-use Rattle.std.specs.List.{sum_by}
+use Rattle.std.specs.Prelude.{◌≡◌, ℕ, zero, suc, ◌+◌, ◌*◌, ◌<◌, ◌≤◌, ◌==◌, ◌&&◌, ℤ, pos, int_le, nat_le, Bool, true, false, List, [], ◌∷◌, Option, Some, None, length, slice_index, slice_index_or, if◌then◌else◌}
+use Rattle.std.specs.List.{list_any, sum_by}
 use Rattle.fux_pitch.specs.declared.pitch.Pitch.{Pitch}
 use Rattle.fux_pitch.specs.Pitch.{key_of}
 use Rattle.fux_grid.specs.declared.cell.Cell.{Cell}
 use Rattle.fux_grid.specs.declared.exercise.Exercise.{Exercise}
 use Rattle.fux_grid.specs.Cells.{cell_in}
+use Rattle.fux_grid.specs.Menus.{menu_of}
 use Rattle.rule_law.specs.Terms.{started_pitch}
 use Rattle.penalty_sheet.specs.declared.sheet.Sheet.{Sheet}
 use Rattle.penalty_sheet.specs.Weights.{weight_of}
@@ -69,15 +70,18 @@ is_summit charges case col = comes_to (summit_at charges case).low (started_pitc
 abbrev pub debt_in : Exercise → Charges → ℕ → ℕ
 debt_in ex charges case = sum_by (λ v. debt_of (prices_of charges v) (summit_of charges case v)) (free_voices ex)
 
--- a key is of a case: no lower than its low end, and no higher than its high end
+-- a key is no higher than another, where there is that
 abbrev pub is_below : Option ℕ → ℕ → Bool
 is_below None key = true
-is_below (Some high) key = int_le (pos key) (pos high)
+is_below (Some high) key = nat_le key high
 
-pub record IsOfCase (charges : Charges) (case key : ℕ) : Type 0 where
-  pub within : case < length charges.summits.items
-  pub low : (summit_at charges case).low ≤ key
-  pub high : is_below (summit_at charges case).high key ≡ true
+-- a greatest key is of a case: no lower than its low end, and no higher than its high end
+abbrev pub has_key : ℕ → Summit → Bool
+has_key key summit = nat_le summit.low key && is_below summit.high key
+
+-- each key is of some case
+abbrev pub AreCases : List Summit → Type 0
+AreCases summits = (key : ℕ) → list_any (has_key key) summits ≡ true
 
 -- each charge is at most what the gauges cost, and each key is of some case
 pub record AreFairCharges (charges : Charges) (sheet : Sheet) : Type 0 where
@@ -85,4 +89,13 @@ pub record AreFairCharges (charges : Charges) (sheet : Sheet) : Type 0 where
   pub same : (v : ℕ) → (prices_of charges v).scale ≡ charges.scale
   pub strikes : (v place : ℕ) → slice_index (prices_of charges v).strikes place ≤ charges.scale * weight_of sheet 20
   pub tops : (case : ℕ) → (summit_at charges case).charge ≤ charges.scale * weight_of sheet 17
-  pub cases : (key : ℕ) → (case : ℕ) × IsOfCase charges case key
+  pub cases : AreCases charges.summits.items
+
+-- ---- along a path
+
+-- what a case charges for the column of a number, and whether that comes to the case's greatest keys
+abbrev pub toll_in : Exercise → Charges → ℕ → ℕ → ℕ → Option ℕ
+toll_in ex charges case i k = toll_of ex charges case (slice_index_or (menu_of ex i) k [])
+
+abbrev pub reaches_in : Exercise → Charges → ℕ → ℕ → ℕ → Bool
+reaches_in ex charges case i k = is_summit charges case (slice_index_or (menu_of ex i) k [])
