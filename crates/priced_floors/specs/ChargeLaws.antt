@@ -157,32 +157,32 @@ eqb-eq a b h = grind (arith, nat_tests)
 module _ (ex : Exercise) (charges : Charges) (sheet : Sheet) (fair : AreFairCharges charges sheet) (case : ℕ) where
   -- what all columns are charged is what the lines of the free voices are
   columns_charged : (s : List (List Cell)) → sum_by (column_charge ex charges case) s
-      ≡ sum_by (λ v. charged (prices_of charges v) (summit_of charges case v) (pitches (cells_of_voice s v)))
+      ≡ sum_by (λ v. charged (prices_of charges case v) (summit_of charges case v) (pitches (cells_of_voice s v)))
       (free_voices ex)
   columns_charged s =
       two_sums (λ col v. of_cell v (cell_in col v)) s (free_voices ex)
       ∙ sum_by-same (λ v. sum_by (λ col. of_cell v (cell_in col v)) s)
-      (λ v. charged (prices_of charges v) (summit_of charges case v) (pitches (cells_of_voice s v))) (free_voices ex)
+      (λ v. charged (prices_of charges case v) (summit_of charges case v) (pitches (cells_of_voice s v))) (free_voices ex)
       (λ v.
       sym (over_reverse (λ col. of_cell v (cell_in col v)) s) ∙ sym (over_line (of_cell v) v (reverse s))
-      ∙ sym (line_charged (prices_of charges v) (summit_of charges case v) (cells_of_voice s v)))
+      ∙ sym (line_charged (prices_of charges case v) (summit_of charges case v) (cells_of_voice s v)))
     where
       of_cell : ℕ → Cell → ℕ
-      of_cell v c = note_charge (prices_of charges v) (summit_of charges case v) (started_pitch c)
+      of_cell v c = note_charge (prices_of charges case v) (summit_of charges case v) (started_pitch c)
 
   -- of a line within the case, at most a debt and what the gauges of its climax and of its strikes cost
   line_due : (v : ℕ) (cells : List Cell) → is_within (summit_of charges case v).high (pitches cells) ≡ true
-      → charged (prices_of charges v) (summit_of charges case v) (pitches cells)
-      ≤ debt_of (prices_of charges v) (summit_of charges case v) + charges.scale * cost_of_line sheet cells
+      → charged (prices_of charges case v) (summit_of charges case v) (pitches cells)
+      ≤ debt_of (prices_of charges case v) (summit_of charges case v) + charges.scale * cost_of_line sheet cells
   line_due v cells within =
-      let due = charged_is_due (prices_of charges v) (summit_of charges case v) (weight_of sheet 17)
+      let due = charged_is_due (prices_of charges case v) (summit_of charges case v) (weight_of sheet 17)
       (weight_of sheet 20) fair_voice (pitches cells) within in
       let climax = climax_repeats (pitches cells) * weight_of sheet 17 in
       let strikes = beyond_fourth (pitches cells) * weight_of sheet 20 in
       let some : climax + strikes ≤ cost_of_line sheet cells = two_of_four _ _ _ _ in
       let scaled = mul-le-mul_left charges.scale some in
-      let scale : (prices_of charges v).scale * (climax + strikes) ≡ charges.scale * (climax + strikes) = ap
-      (λ n. n * (climax + strikes)) (fair.same v) in
+      let scale : (prices_of charges case v).scale * (climax + strikes) ≡ charges.scale * (climax + strikes) = ap
+      (λ n. n * (climax + strikes)) (fair.same case v) in
       omega (arith, due, scaled, scale)
     where
       two_of_four : (a b c d : ℕ) → a + d ≤ sum (a ∷ b ∷ c ∷ d ∷ [])
@@ -196,17 +196,17 @@ module _ (ex : Exercise) (charges : Charges) (sheet : Sheet) (fair : AreFairChar
       )
 
       top : (b : Bool) → (if b then summit_at charges case else any_summit).charge
-          ≤ (prices_of charges v).scale * weight_of sheet 17
-      top true = omega (arith, fair.tops case, ap (λ n. n * weight_of sheet 17) (fair.same v))
+          ≤ (prices_of charges case v).scale * weight_of sheet 17
+      top true = omega (arith, fair.tops case, ap (λ n. n * weight_of sheet 17) (fair.same case v))
       top false = omega arith
 
-      fair_voice : AreFair (prices_of charges v) (summit_of charges case v) (weight_of sheet 17) (weight_of sheet 20)
+      fair_voice : AreFair (prices_of charges case v) (summit_of charges case v) (weight_of sheet 17) (weight_of sheet 20)
       fair_voice = record {
-        some = omega (arith, fair.some, fair.same v);
+        some = omega (arith, fair.some, fair.same case v);
         strikes_low = λ place. omega (
           arith,
-          fair.strikes v place,
-          ap (λ n. n * weight_of sheet 20) (fair.same v),
+          fair.strikes case v place,
+          ap (λ n. n * weight_of sheet 20) (fair.same case v),
         );
         top_low = top (v == charges.voice);
       }
@@ -227,10 +227,10 @@ module _ (ex : Exercise) (charges : Charges) (sheet : Sheet) (fair : AreFairChar
       )
     where
       charge : ℕ → ℕ
-      charge v = charged (prices_of charges v) (summit_of charges case v) (pitches (cells_of_voice s v))
+      charge v = charged (prices_of charges case v) (summit_of charges case v) (pitches (cells_of_voice s v))
 
       debt : ℕ → ℕ
-      debt v = debt_of (prices_of charges v) (summit_of charges case v)
+      debt v = debt_of (prices_of charges case v) (summit_of charges case v)
 
       cost : ℕ → ℕ
       cost v = cost_of_line sheet (cells_of_voice s v)

@@ -1,5 +1,5 @@
 -- What the columns of a setting are charged, case by case.
-use Rattle.std.specs.Prelude.{◌≡◌, ℕ, zero, suc, ◌+◌, ◌*◌, ◌<◌, ◌≤◌, ◌==◌, ◌&&◌, ℤ, pos, int_le, nat_le, Bool, true, false, List, [], ◌∷◌, Option, Some, None, length, slice_index, slice_index_or, if◌then◌else◌}
+use Rattle.std.specs.Prelude.{◌≡◌, ℕ, zero, suc, ◌+◌, ◌*◌, ◌<◌, ◌≤◌, ◌==◌, ◌&&◌, ℤ, pos, int_le, nat_le, Bool, true, false, List, [], ◌∷◌, Option, Some, None, IfSome, length, slice_index, slice_index_or, if◌then◌else◌}
 use Rattle.std.specs.List.{list_any, sum_by}
 use Rattle.fux_pitch.specs.declared.pitch.Pitch.{Pitch}
 use Rattle.fux_pitch.specs.Pitch.{key_of}
@@ -17,9 +17,13 @@ use Rattle.strike_prices.specs.Charges.{strike_price, top_price}
 use Rattle.strike_prices.specs.Fairness.{AreFair, debt_of}
 use Rattle.priced_floors.specs.declared.charges.Charges.{Charges}
 
--- what the strikes of a voice are charged; nothing where nothing is said of it
-abbrev pub prices_of : Charges → ℕ → Prices
-prices_of charges v = slice_index_or charges.strikes.items v (record { scale = charges.scale; strikes = [] })
+-- what strikes are charged at a place of some prices; nothing where there are none
+abbrev pub prices_in : ℕ → List Prices → ℕ → Prices
+prices_in scale prices place = slice_index_or prices place (record { scale = scale; strikes = [] })
+
+-- what the strikes of a voice are charged in a case
+abbrev pub prices_of : Charges → ℕ → ℕ → Prices
+prices_of charges case v = prices_in charges.scale charges.strikes.items (4 * case + v)
 
 -- no greatest key is asked for, and none is charged
 abbrev pub any_summit : Summit
@@ -41,7 +45,7 @@ note_charge prices summit (Some p) = strike_price prices.strikes p + top_price s
 -- what the notes that start in a column are charged
 abbrev pub column_charge : Exercise → Charges → ℕ → List Cell → ℕ
 column_charge ex charges case col =
-    sum_by (λ v. note_charge (prices_of charges v) (summit_of charges case v) (started_pitch (cell_in col v)))
+    sum_by (λ v. note_charge (prices_of charges case v) (summit_of charges case v) (started_pitch (cell_in col v)))
     (free_voices ex)
 
 -- the note that starts isn't above a key, where there is one
@@ -68,7 +72,7 @@ is_summit charges case col = comes_to (summit_at charges case).low (started_pitc
 
 -- what may be charged that isn't due
 abbrev pub debt_in : Exercise → Charges → ℕ → ℕ
-debt_in ex charges case = sum_by (λ v. debt_of (prices_of charges v) (summit_of charges case v)) (free_voices ex)
+debt_in ex charges case = sum_by (λ v. debt_of (prices_of charges case v) (summit_of charges case v)) (free_voices ex)
 
 -- a key is no higher than another, where there is that
 abbrev pub is_below : Option ℕ → ℕ → Bool
@@ -86,10 +90,23 @@ AreCases summits = (key : ℕ) → list_any (has_key key) summits ≡ true
 -- each charge is at most what the gauges cost, and each key is of some case
 pub record AreFairCharges (charges : Charges) (sheet : Sheet) : Type 0 where
   pub some : 0 < charges.scale
-  pub same : (v : ℕ) → (prices_of charges v).scale ≡ charges.scale
-  pub strikes : (v place : ℕ) → slice_index (prices_of charges v).strikes place ≤ charges.scale * weight_of sheet 20
+  pub same : (case v : ℕ) → (prices_of charges case v).scale ≡ charges.scale
+  pub strikes : (case v place : ℕ) → slice_index (prices_of charges case v).strikes place ≤ charges.scale * weight_of sheet 20
   pub tops : (case : ℕ) → (summit_at charges case).charge ≤ charges.scale * weight_of sheet 17
   pub cases : AreCases charges.summits.items
+
+-- each charge is at most this
+pub record AreSmallCharges (most : ℕ) (charges : Charges) : Type 0 where
+  pub strikes : (case v place : ℕ) → slice_index (prices_of charges case v).strikes place ≤ most
+  pub tops : (case : ℕ) → (summit_at charges case).charge ≤ most
+
+-- each note at the high end of a case is charged at most this
+abbrev pub AreTopsWithin : ℕ → List Summit → Type 0
+AreTopsWithin most summits = (case : ℕ) → (slice_index_or summits case any_summit).charge ≤ most
+
+-- a number, where there is one, is below another
+abbrev pub IsBelow : Option ℕ → ℕ → Type 0
+IsBelow number most = IfSome number (λ n. n < most)
 
 -- ---- along a path
 

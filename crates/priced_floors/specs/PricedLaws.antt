@@ -8,7 +8,7 @@ use Rattle.std.proofs.lemmas.List.Sums.{sum_by-cons}
 use Rattle.fux_grid.specs.declared.cell.Cell.{Cell}
 use Rattle.fux_grid.specs.declared.exercise.Exercise.{Exercise}
 use Rattle.fux_grid.specs.Cells.{cell_in}
-use Rattle.fux_grid.specs.Exercises.{IsValid, columns_in}
+use Rattle.fux_grid.specs.Exercises.{columns_in}
 use Rattle.fux_grid.specs.Menus.{menu_of}
 use Rattle.rule_law.specs.Terms.{started_pitch}
 use Rattle.penalty_sheet.specs.declared.sheet.Sheet.{Sheet}
@@ -91,7 +91,7 @@ module _ (ex : Exercise) (charges : Charges) (case : ℕ) where
       ap (λ b. b || has_reached_from (reaches_in ex charges case) (0 + 1) path)
       (ap (λ low. comes_to low (started_pitch (cell_in (slice_index_or (menu_of ex 0) k []) charges.voice))) none)
 
-module _ (ex : Exercise) (sheet : Sheet) (charges : Charges) (valid : IsValid ex)
+module _ (ex : Exercise) (sheet : Sheet) (charges : Charges) (some : 0 < columns_in ex)
     (fair : AreFairCharges charges sheet) where
   step_priced : (path rest : List ℕ) (child value : ℕ)
       → IsLeaf (live_at ex sheet) (columns_in ex) ((path ++ child ∷ []) ++ rest) value
@@ -120,7 +120,7 @@ module _ (ex : Exercise) (sheet : Sheet) (charges : Charges) (valid : IsValid ex
           charged = sum_by (column_charge ex charges its.0) (prefix_at ex path);
           is_charged = charged_on ex charges its.0 0 path its.1.none_above;
           reached = ⊎_elim
-              (λ none. reached_at_once ex charges its.0 path (omega (arith, leaf.0, valid.fewest_bars)) none)
+              (λ none. reached_at_once ex charges its.0 path (omega (arith, leaf.0, some)) none)
               (λ comes. reached_on ex charges its.0 0 path comes) its.1.one_comes;
           due = omega (
             arith,

@@ -3,6 +3,11 @@
 
 mod charges;
 mod kept;
+mod keys;
+mod pricing;
+mod search;
 
 pub use charges::Charges;
 pub use kept::Kept;
+pub use pricing::PricedSpace;
+pub use search::search_best;

@@ -1,0 +1,58 @@
+-- A step by its parts.
+use Rattle.std.specs.Prelude.{◌≡◌, ◌↔◌, ℕ, Bool, true, false, List, [], Option, Some, None, IsTrue, option_map, slice_index_or, if◌then◌else◌, refl}
+use Rattle.std.specs.Borrow.{Bor}
+use Rattle.std.proofs.Common.{ap, sym, ◌∙◌, subst}
+use Rattle.arrayvec.specs.ArrayVec.{ArrayVec}
+use Rattle.fux_grid.specs.declared.cell.Cell.{Cell}
+use Rattle.fux_grid.specs.declared.exercise.Exercise.{Exercise}
+use Rattle.fux_grid.specs.Columns.{ColumnFollows, cells_before}
+use Rattle.fux_grid.specs.Menus.{menu_of}
+use Rattle.penalty_sheet.specs.declared.sheet.Sheet.{Sheet}
+use Rattle.chain_sums.specs.Chains.{cells_of}
+use Rattle.fux_judge.specs.Links.{given, link_of}
+use Rattle.species_space.specs.Leaves.{follows_from_test, test_from_follows}
+use Rattle.species_space.specs.Paths.{column_follows}
+use Rattle.priced_floors.specs.declared.kept.Kept.{Kept}
+use Rattle.priced_floors.specs.Kept.{column_kept, step_of}
+
+-- the cells of a column that may be lacking, by either name
+before_is : (prev : Option (Bor (ArrayVec Cell))) → cells_before prev ≡ cells_of (given prev)
+before_is None = refl
+before_is (Some col) = refl
+
+test_none : (before next : List Cell) (told : Bool) → (IsTrue told ↔ ColumnFollows before next) → told ≡ false
+    → column_follows before next ≡ false
+test_none before next told same none = at (column_follows before next) refl
+  where
+    at : (b : Bool) → column_follows before next ≡ b → b ≡ false
+    at false e = refl
+    at true e = let holds : told ≡ true = same.1 (follows_from_test before next e) in cc
+
+module _ (ex : Exercise) (sheet : Sheet) (i : ℕ) (kept : Kept) (k : ℕ) (prev : Option (Bor (ArrayVec Cell)))
+    (col : List Cell) (is_kept : given prev ≡ column_kept ex i kept)
+    (is_col : col ≡ slice_index_or (menu_of ex i) k []) where
+  same_before : cells_before prev ≡ cells_of (column_kept ex i kept)
+  same_before = before_is prev ∙ ap cells_of is_kept
+
+  pub no_step : (told : Bool) → (IsTrue told ↔ ColumnFollows (cells_before prev) col) → told ≡ false
+      → step_of ex sheet i kept k ≡ None
+  unfolding step_of
+  no_step told same none =
+      ap (λ b. if b then option_map {U = Kept × ℕ} (λ cost. (record { column = Some k }, cost))
+      (link_of ex sheet i (column_kept ex i kept) (slice_index_or (menu_of ex i) k [])) else None)
+      (sym (ap (λ c. column_follows c (slice_index_or (menu_of ex i) k [])) same_before)
+      ∙ sym (ap (column_follows (cells_before prev)) is_col) ∙ test_none (cells_before prev) col told same none)
+
+  pub step_by : (told : Bool) → (IsTrue told ↔ ColumnFollows (cells_before prev) col) → told ≡ true
+      → (cost : Option ℕ) → cost ≡ link_of ex sheet i (given prev) col
+      → step_of ex sheet i kept k ≡ option_map {U = Kept × ℕ} (λ cost. (record { column = Some k }, cost)) cost
+  unfolding step_of
+  step_by told same holds cost is =
+      ap (λ b. if b then option_map {U = Kept × ℕ} (λ cost. (record { column = Some k }, cost))
+      (link_of ex sheet i (column_kept ex i kept) (slice_index_or (menu_of ex i) k [])) else None)
+      (sym (ap (λ c. column_follows c (slice_index_or (menu_of ex i) k [])) same_before)
+      ∙ sym (ap (column_follows (cells_before prev)) is_col)
+      ∙ test_from_follows (cells_before prev) col (same.0 holds))
+      ∙ ap (option_map {U = Kept × ℕ} (λ cost. (record { column = Some k }, cost)))
+      (sym (ap (λ c. link_of ex sheet i (column_kept ex i kept) c) is_col)
+      ∙ sym (ap (λ c. link_of ex sheet i c col) is_kept) ∙ sym is)
