@@ -1,0 +1,5 @@
+pub mod GoesOn
+pub mod LigatureLaw
+pub mod PassingLaw
+pub mod Sounding
+pub mod Unbroken

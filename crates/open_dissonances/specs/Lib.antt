@@ -1,0 +1,4 @@
+pub mod Asked
+pub mod Ligatures
+pub mod Passing
+pub mod Steps
