@@ -1,5 +1,5 @@
 -- A step by its parts.
-use Rattle.std.specs.Prelude.{◌≡◌, ◌↔◌, ℕ, Bool, true, false, List, [], Option, Some, None, IsTrue, option_map, slice_index_or, if◌then◌else◌, refl}
+use Rattle.std.specs.Prelude.{◌≡◌, ◌↔◌, ℕ, Bool, true, false, List, [], Option, Some, None, IsTrue, slice_index_or, if◌then◌else◌, refl}
 use Rattle.std.specs.Borrow.{Bor}
 use Rattle.std.proofs.Common.{ap, sym, ◌∙◌, subst}
 use Rattle.arrayvec.specs.ArrayVec.{ArrayVec}
@@ -10,10 +10,12 @@ use Rattle.fux_grid.specs.Menus.{menu_of}
 use Rattle.penalty_sheet.specs.declared.sheet.Sheet.{Sheet}
 use Rattle.chain_sums.specs.Chains.{cells_of}
 use Rattle.fux_judge.specs.Links.{given, link_of}
+use Rattle.open_dissonances.specs.declared.steps.OpenDissonances.{OpenDissonances}
+use Rattle.open_dissonances.specs.Steps.{open_after}
 use Rattle.species_space.specs.Leaves.{follows_from_test, test_from_follows}
 use Rattle.species_space.specs.Paths.{column_follows}
 use Rattle.priced_floors.specs.declared.kept.Kept.{Kept}
-use Rattle.priced_floors.specs.Kept.{column_kept, step_of}
+use Rattle.priced_floors.specs.Kept.{column_kept, kept_with, step_of, step_on}
 
 -- the cells of a column that may be lacking, by either name
 before_is : (prev : Option (Bor (ArrayVec Cell))) → cells_before prev ≡ cells_of (given prev)
@@ -38,21 +40,23 @@ module _ (ex : Exercise) (sheet : Sheet) (i : ℕ) (kept : Kept) (k : ℕ) (prev
       → step_of ex sheet i kept k ≡ None
   unfolding step_of
   no_step told same none =
-      ap (λ b. if b then option_map {U = Kept × ℕ} (λ cost. (record { column = Some k }, cost))
-      (link_of ex sheet i (column_kept ex i kept) (slice_index_or (menu_of ex i) k [])) else None)
+      ap (λ b. if b then step_on ex sheet i kept k (column_kept ex i kept) else None)
       (sym (ap (λ c. column_follows c (slice_index_or (menu_of ex i) k [])) same_before)
       ∙ sym (ap (column_follows (cells_before prev)) is_col) ∙ test_none (cells_before prev) col told same none)
 
   pub step_by : (told : Bool) → (IsTrue told ↔ ColumnFollows (cells_before prev) col) → told ≡ true
+      → (open : Option OpenDissonances) → open ≡ open_after ex i kept.open (cells_before prev) col
       → (cost : Option ℕ) → cost ≡ link_of ex sheet i (given prev) col
-      → step_of ex sheet i kept k ≡ option_map {U = Kept × ℕ} (λ cost. (record { column = Some k }, cost)) cost
+      → step_of ex sheet i kept k ≡ kept_with k open cost
   unfolding step_of
-  step_by told same holds cost is =
-      ap (λ b. if b then option_map {U = Kept × ℕ} (λ cost. (record { column = Some k }, cost))
-      (link_of ex sheet i (column_kept ex i kept) (slice_index_or (menu_of ex i) k [])) else None)
+  step_by told same holds open opens cost is =
+      ap (λ b. if b then step_on ex sheet i kept k (column_kept ex i kept) else None)
       (sym (ap (λ c. column_follows c (slice_index_or (menu_of ex i) k [])) same_before)
       ∙ sym (ap (column_follows (cells_before prev)) is_col)
       ∙ test_from_follows (cells_before prev) col (same.0 holds))
-      ∙ ap (option_map {U = Kept × ℕ} (λ cost. (record { column = Some k }, cost)))
+      ∙ ap (λ o. kept_with k o (link_of ex sheet i (column_kept ex i kept) (slice_index_or (menu_of ex i) k [])))
+      (sym (ap (open_after ex i kept.open (cells_of (column_kept ex i kept))) is_col)
+      ∙ sym (ap (λ c. open_after ex i kept.open c col) same_before) ∙ sym opens)
+      ∙ ap (kept_with k open)
       (sym (ap (λ c. link_of ex sheet i (column_kept ex i kept) c) is_col)
       ∙ sym (ap (λ c. link_of ex sheet i c col) is_kept) ∙ sym is)

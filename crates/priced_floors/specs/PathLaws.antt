@@ -2,7 +2,7 @@
 -- lines cost (`leaf_value`).
 use Rattle.std.specs.Prelude.{◌≡◌, ℕ, zero, suc, ◌+◌, ◌<◌, ◌≤◌, Bool, true, false, ◌||◌, nat_le, nat_lt, List, [], ◌∷◌, ◌++◌, Option, Some, None, IsSome, IsSomeAnd, length, option_and_then, option_map, reverse, slice_get, slice_index_or, if◌then◌else◌, refl}
 use Rattle.std.specs.List.{list_any}
-use Rattle.std.proofs.Common.{ap, sym, ◌∙◌, subst, arith}
+use Rattle.std.proofs.Common.{ap, append_assoc, sym, ◌∙◌, subst, arith}
 use Rattle.std.proofs.lemmas.Bool.{or_parts}
 use Rattle.std.proofs.lemmas.Bool.Decides.{nat_tests}
 use Rattle.std.proofs.lemmas.Grind.{reverse_onto}
@@ -19,15 +19,16 @@ use Rattle.rule_law.specs.Prefixes.{GoesOn, IsPrefix, IsSetting}
 use Rattle.penalty_sheet.specs.declared.sheet.Sheet.{Sheet}
 use Rattle.chain_sums.specs.Chains.{cells_of}
 use Rattle.fux_judge.specs.Gauges.{gauges_of, least_of}
-use Rattle.fux_judge.specs.Lawful.{IsAlive}
+use Rattle.fux_judge.specs.Lawful.{IsAlive, IsLawful}
 use Rattle.fux_judge.specs.Links.{last_column, link_of, newest_of}
 use Rattle.fux_judge.specs.Penalties.{has_strict_break, newly_broken, newly_paid, paid}
 use Rattle.fux_judge.specs.Rules.{rules_read}
-use Rattle.fux_judge.proofs.Alive.{alive_orderly}
+use Rattle.fux_judge.proofs.Alive.{alive_orderly, unbroken_if_alive}
 use Rattle.fux_judge.proofs.Grows.{paid_grows, strict_break_grows}
 use Rattle.fux_judge.proofs.LeastLaws.{least_at_end}
 use Rattle.fux_judge.proofs.LinkPaid.{link_is_paid}
 use Rattle.floor_tables.specs.Floors.{floor_of}
+use Rattle.open_dissonances.specs.Steps.{open_after, open_in}
 use Rattle.species_space.specs.Exact.{menus_are_exact}
 use Rattle.species_space.specs.FloorLaws.{FloorParts, floor_parts}
 use Rattle.species_space.specs.Grows as grows
@@ -35,7 +36,7 @@ use Rattle.species_space.specs.Leaves.{prefix_is_alive}
 use Rattle.species_space.specs.Paths.{IsAlivePath, alive_parent, alive_parts, column_at, column_follows, columns_on, history_follows, is_alive_path, is_in_menus, length-columns_on, live_at, prefix_at, prefix_at-append}
 use Rattle.tree_search.specs.Answer.{IsLeaf}
 use Rattle.priced_floors.specs.declared.kept.Kept.{Kept}
-use Rattle.priced_floors.specs.Kept.{column_kept, kept_of, last_number, step_of}
+use Rattle.priced_floors.specs.Kept.{column_kept, kept_of, kept_with, last_number, step_of, step_on}
 
 -- ---- what is kept
 
@@ -71,7 +72,7 @@ module _ (ex : Exercise) where
 
   -- of a path through the menus the column that is kept is the last one of its prefix
   pub kept_is : (path : List ℕ) → is_in_menus ex 0 path ≡ true
-      → column_kept ex (length path) (kept_of path) ≡ last_column (prefix_at ex path)
+      → column_kept ex (length path) (kept_of ex path) ≡ last_column (prefix_at ex path)
   kept_is [] h = refl
   kept_is (k ∷ path) h =
       let e : length path ≡ 0 + length path = omega arith in
@@ -89,7 +90,7 @@ four_at_most n h = grind (arith, nat_tests)
 -- the step of a number goes on from what is kept of a path to what is kept of the longer one, and that has paid what the step settles
 pub record IsStepOf (ex : Exercise) (sheet : Sheet) (path : List ℕ) (k : ℕ) : Type 0 where
   pub cost : ℕ
-  pub is : step_of ex sheet (length path) (kept_of path) k ≡ Some (kept_of (path ++ k ∷ []), cost)
+  pub is : step_of ex sheet (length path) (kept_of ex path) k ≡ Some (kept_of ex (path ++ k ∷ []), cost)
   pub settles : paid ex sheet (prefix_at ex path) + cost ≤ paid ex sheet (prefix_at ex (path ++ k ∷ []))
 
 -- what is known of a live path's last step
@@ -100,6 +101,9 @@ record IsLastStep (ex : Exercise) (sheet : Sheet) (path : List ℕ) (k : ℕ) : 
       (λ cost. cost ≤ newly_paid ex sheet (prefix_at ex path) (column_at ex path k))
 
 module _ (ex : Exercise) (sheet : Sheet) (path : List ℕ) (k : ℕ) where
+  abbrev made_of : Option ℕ → List (List Cell) → Kept
+  made_of number p = record { column = number; open = open_in ex p }
+
   last_step : is_alive_path ex (path ++ k ∷ []) ≡ true → IsLastStep ex sheet path k
   last_step alive =
       let before = alive_parts ex path (alive_parent ex path k alive) in
@@ -134,10 +138,13 @@ module _ (ex : Exercise) (sheet : Sheet) (path : List ℕ) (k : ℕ) where
         links = subst L size (link_is_paid ex there sheet (prefix_at ex path) (column_at ex path k) on tests.1);
       }
 
-  -- the last step of a live path is a step of what is kept
-  pub live_step : IsSome (live_at ex sheet (path ++ k ∷ [])) → IsStepOf ex sheet path k
+  -- the last step of a live path is a step of what is kept, where it leads to what is open
+  pub live_step : IsSome (live_at ex sheet (path ++ k ∷ []))
+      → open_after ex (length path) (open_in ex (prefix_at ex path)) (newest_column (reverse (prefix_at ex path)))
+      (column_at ex path k) ≡ Some (open_in ex (prefix_at ex path ++ column_at ex path k ∷ []))
+      → IsStepOf ex sheet path k
   unfolding step_of
-  live_step is_live = by (live_at ex sheet (path ++ k ∷ [])) refl is_live
+  live_step is_live opens = by (live_at ex sheet (path ++ k ∷ [])) refl is_live
     where
       made : IsLastStep ex sheet path k → (o : Option ℕ)
           → link_of ex sheet (length path) (last_column (prefix_at ex path)) (column_at ex path k) ≡ o
@@ -146,17 +153,25 @@ module _ (ex : Exercise) (sheet : Sheet) (path : List ℕ) (k : ℕ) where
       made last None e low = absurd low
       made last (Some cost) e low =
           let kept = kept_is ex path last.menus in
+          let opened : open_after ex (length path) (open_in ex (prefix_at ex path))
+          (cells_of (last_column (prefix_at ex path))) (column_at ex path k)
+          ≡ Some (open_in ex (prefix_at ex path ++ column_at ex path k ∷ [])) =
+          ap (λ b. open_after ex (length path) (open_in ex (prefix_at ex path)) b (column_at ex path k))
+          (sym (newest_cells (reverse (prefix_at ex path)))) ∙ opens in
           record {
             cost = cost;
             is = ap (λ b. if b
-                then option_map {U = Kept × ℕ} (λ cost. (record { column = Some k }, cost))
-                (link_of ex sheet (length path) (column_kept ex (length path) (kept_of path)) (column_at ex path k))
+                then step_on ex sheet (length path) (kept_of ex path) k (column_kept ex (length path) (kept_of ex path))
                 else None)
                 (ap (λ o. column_follows (cells_of o) (column_at ex path k)) kept ∙ last.follows)
-                ∙ ap (λ o. option_map {U = Kept × ℕ} (λ cost. (record { column = Some k }, cost))
-                (link_of ex sheet (length path) o (column_at ex path k))) kept
-                ∙ ap (option_map {U = Kept × ℕ} (λ cost. (record { column = Some k }, cost))) e
-                ∙ ap (λ o. Some (record { column = o }, cost)) (sym (last_number-append path k));
+                ∙ ap (step_on ex sheet (length path) (kept_of ex path) k) kept
+                ∙ ap (λ o. kept_with k o
+                (link_of ex sheet (length path) (last_column (prefix_at ex path)) (column_at ex path k))) opened
+                ∙ ap (kept_with k (Some (open_in ex (prefix_at ex path ++ column_at ex path k ∷ [])))) e
+                ∙ ap (λ o. Some (made_of o (prefix_at ex path ++ column_at ex path k ∷ []), cost))
+                (sym (last_number-append path k))
+                ∙ ap (λ q. Some (made_of (last_number (path ++ k ∷ [])) q, cost))
+                (sym (prefix_at-append ex path k));
             settles = omega (
               arith,
               low,
@@ -173,6 +188,37 @@ module _ (ex : Exercise) (sheet : Sheet) (path : List ℕ) (k : ℕ) where
           last.links
 
 -- ---- leaves
+
+columns_on-both : (ex : Exercise) (i : ℕ) (path rest : List ℕ)
+    → columns_on ex i (path ++ rest) ≡ columns_on ex i path ++ columns_on ex (i + length path) rest
+columns_on-both ex i [] rest = let e : i ≡ i + 0 = omega arith in ap (λ j. columns_on ex j rest) e
+columns_on-both ex i (k ∷ path) rest =
+    let e : suc i + length path ≡ i + suc (length path) = omega arith in
+    ap (λ cols. slice_index_or (menu_of ex i) k [] ∷ cols)
+    (columns_on-both ex (suc i) path rest
+    ∙ ap (λ j. columns_on ex (suc i) path ++ columns_on ex j rest) e)
+
+-- the columns of a path that goes on: those before, the next one, and more
+pub columns_parted : (ex : Exercise) (path rest : List ℕ) (k : ℕ)
+    → prefix_at ex ((path ++ k ∷ []) ++ rest)
+    ≡ prefix_at ex path ++ column_at ex path k ∷ columns_on ex (0 + length (path ++ k ∷ [])) rest
+columns_parted ex path rest k =
+    columns_on-both ex 0 (path ++ k ∷ []) rest
+    ∙ ap (λ p. p ++ columns_on ex (0 + length (path ++ k ∷ [])) rest) (prefix_at-append ex path k)
+    ∙ append_assoc (prefix_at ex path) (column_at ex path k ∷ []) (columns_on ex (0 + length (path ++ k ∷ [])) rest)
+
+-- a leaf leads to a lawful setting
+pub leaf_lawful : (ex : Exercise) (sheet : Sheet) → ex.voices ≤ 4 → (path : List ℕ) (value : ℕ)
+    → IsLeaf (live_at ex sheet) (columns_in ex) path value → IsLawful ex (prefix_at ex path)
+leaf_lawful ex sheet few path value leaf =
+    let live = grows.live_value ex sheet path value leaf.1 in
+    let alive = prefix_is_alive ex (menus_are_exact ex) path live.0 in
+    let whole : length (prefix_at ex path) ≡ columns_in ex = length-columns_on ex 0 path ∙ leaf.0 in
+    let setting : IsSetting ex (prefix_at ex path) = record { prefix = alive.prefix; whole = whole } in
+    record {
+      setting = setting;
+      unbroken = unbroken_if_alive ex few (prefix_at ex path) setting alive.unbroken;
+    }
 
 -- a leaf's value is no less than what is paid of it and what its lines cost
 pub leaf_value : (ex : Exercise) (sheet : Sheet) (path : List ℕ) (value : ℕ)

@@ -5,6 +5,7 @@ ghost use Rattle.std.specs.Prelude.{◌≡◌, ◌<◌, ◌≤◌, ℕ, length, 
 ghost use Rattle.fux_grid.specs.Exercises.{IsValid, columns_in};
 ghost use Rattle.fux_grid.specs.Menus.{menu_of};
 ghost use Rattle.fux_judge.specs.Links.{given, link_of};
+ghost use Rattle.open_dissonances.specs.Steps.{HasVoices};
 ghost use Rattle.priced_floors.specs.Charges.{AreFairCharges, AreSmallCharges, debt_in};
 ghost use Rattle.priced_floors.specs.declared.charges.TheConstants.{CASES, MOST_CHARGE, SCALE};
 ghost use Rattle.priced_floors.specs.Kept as words;
@@ -13,9 +14,11 @@ use crate::charges::{Charges, debt_in, is_summit, toll_of};
 use crate::kept::Kept;
 use fux_grid::{Column, Exercise, follows};
 use fux_judge::{column_cost, pair_cost};
-use fux_pitch::Memory;
+use fux_pitch::{Memory, Pitch, semitone};
+use open_dissonances::{OpenDissonances, open_after};
 use penalty_sheet::Sheet;
 use priced_paths::Pricing;
+use rule_law::cells_of;
 use species_space::{Node, SpeciesSpace};
 use std::alloc::Global;
 
@@ -32,9 +35,8 @@ pub struct PricedSpace<'a> {
     ghost few: { length charges.now.summits.items ≤ CASES },
     ghost known: { (case : ℕ) → case < length charges.now.summits.items → slice_index_or debts.items case 0 ≡ debt_in space.now.exercise charges.now case },
     ghost whole: { length debts.items ≡ length charges.now.summits.items },
-    ghost some: { 0 < columns_in space.now.exercise },
+    ghost voices: { HasVoices space.now.exercise } by { Prim.hlevel props },
     ghost short: { columns_in space.now.exercise ≤ 192 },
-    ghost voices: { space.now.exercise.voices ≤ 4 },
 }
 
 /// What two neighboring columns cost by the rules and tolls that read no more.
@@ -52,6 +54,16 @@ fn cost_between<'a>(
     let own = column_cost(ex, sheet, i, next)?;
     let pair = pair_cost(ex, sheet, i, prev, next)?;
     Some((own + pair) as u32)
+}
+
+/// A number of a pitch that may be lacking.
+fn key_of(pitch: Option<Pitch>) -> u64
+    ensures { result < 128 }
+{
+    match pitch {
+        Some(p) => u64::from(semitone(p)).min(127),
+        None => 0,
+    }
 }
 
 /// The debt of each case.
@@ -118,7 +130,7 @@ impl<'a> Pricing for PricedSpace<'a> {
 
     ghost tree = { λ priced. priced.space.now };
 
-    ghost kept_of = { λ _. kept_of };
+    ghost kept_of = { λ priced. kept_of priced.space.now.exercise };
 
     ghost settled_by = { λ priced path. paid priced.space.now.exercise priced.space.now.sheet (prefix_at priced.space.now.exercise path) };
 
@@ -134,7 +146,7 @@ impl<'a> Pricing for PricedSpace<'a> {
 
     ghost rate_of = { λ priced. rate_in priced.space.now.exercise priced.charges.now };
 
-    ghost priced = { λ priced. settings_are_priced priced.space.now.exercise priced.space.now.sheet priced.charges.now priced.some priced.fair };
+    ghost priced = { λ priced. settings_are_priced priced.space.now.exercise priced.space.now.sheet priced.charges.now priced.voices priced.fair };
 
     fn space(&self) -> &SpeciesSpace<'a> {
         self.space
@@ -145,7 +157,10 @@ impl<'a> Pricing for PricedSpace<'a> {
     }
 
     fn start(&self) -> Kept {
-        Kept { column: None }
+        Kept {
+            column: None,
+            open: OpenDissonances::none(),
+        }
     }
 
     fn labels(&self, depth: usize) -> usize {
@@ -158,15 +173,11 @@ impl<'a> Pricing for PricedSpace<'a> {
         if !follows(prev, next) {
             return None;
         }
-        let cost = cost_between(
-            self.space.exercise(),
-            self.space.sheet(),
-            depth,
-            prev,
-            next,
-        )?;
+        let ex = self.space.exercise();
+        let open = open_after(ex, depth, &kept.open, cells_of(prev), next.as_slice())?;
+        let cost = cost_between(ex, self.space.sheet(), depth, prev, next)?;
         let column = Some(label as u16);
-        Some((Kept { column }, cost))
+        Some((Kept { column, open }, cost))
     }
 
     fn is_same(&self, one: &Kept, other: &Kept) -> bool {
@@ -174,10 +185,12 @@ impl<'a> Pricing for PricedSpace<'a> {
     }
 
     fn key(&self, kept: &Kept) -> u64 {
-        match kept.column {
+        let column = match kept.column {
             Some(number) => u64::from(number) + 1,
             None => 0,
-        }
+        };
+        let open = 128 * key_of(kept.open.passing) + key_of(kept.open.ligature);
+        column * 16_384 + open
     }
 
     fn cases(&self) -> usize {
