@@ -1,8 +1,12 @@
 -- A step by its parts.
-use Rattle.std.specs.Prelude.{◌≡◌, ◌↔◌, ℕ, Bool, true, false, List, [], Option, Some, None, IsTrue, slice_index_or, if◌then◌else◌, refl}
+use Rattle.std.specs.Prelude.{◌≡◌, ◌↔◌, ℕ, Bool, true, false, ◌&&◌, List, [], Option, Some, None, IsTrue, slice_index_or, if◌then◌else◌, refl}
+use Rattle.std.specs.Bool.{OnTrue}
 use Rattle.std.specs.Borrow.{Bor}
 use Rattle.std.proofs.Common.{ap, sym, ◌∙◌, subst}
 use Rattle.arrayvec.specs.ArrayVec.{ArrayVec}
+use Rattle.fux_pitch.specs.declared.pitch.Pitch.{Pitch}
+use Rattle.fux_pitch.specs.Pitch.{same_pitch}
+use Rattle.fux_pitch.proofs.PitchLemmas.{equal_from_test}
 use Rattle.fux_grid.specs.declared.cell.Cell.{Cell}
 use Rattle.fux_grid.specs.declared.exercise.Exercise.{Exercise}
 use Rattle.fux_grid.specs.Columns.{ColumnFollows, cells_before}
@@ -45,18 +49,39 @@ module _ (ex : Exercise) (sheet : Sheet) (i : ℕ) (kept : Kept) (k : ℕ) (prev
       ∙ sym (ap (column_follows (cells_before prev)) is_col) ∙ test_none (cells_before prev) col told same none)
 
   pub step_by : (told : Bool) → (IsTrue told ↔ ColumnFollows (cells_before prev) col) → told ≡ true
-      → (open : Option OpenDissonances) → open ≡ open_after ex i kept.open (cells_before prev) col
+      → (waiting : Option OpenDissonances) → waiting ≡ open_after ex i kept.waiting (cells_before prev) col
       → (cost : Option ℕ) → cost ≡ link_of ex sheet i (given prev) col
-      → step_of ex sheet i kept k ≡ kept_with k open cost
+      → step_of ex sheet i kept k ≡ kept_with k waiting cost
   unfolding step_of
-  step_by told same holds open opens cost is =
+  step_by told same holds waiting opens cost is =
       ap (λ b. if b then step_on ex sheet i kept k (column_kept ex i kept) else None)
       (sym (ap (λ c. column_follows c (slice_index_or (menu_of ex i) k [])) same_before)
       ∙ sym (ap (column_follows (cells_before prev)) is_col)
       ∙ test_from_follows (cells_before prev) col (same.0 holds))
       ∙ ap (λ o. kept_with k o (link_of ex sheet i (column_kept ex i kept) (slice_index_or (menu_of ex i) k [])))
-      (sym (ap (open_after ex i kept.open (cells_of (column_kept ex i kept))) is_col)
-      ∙ sym (ap (λ c. open_after ex i kept.open c col) same_before) ∙ sym opens)
-      ∙ ap (kept_with k open)
+      (sym (ap (open_after ex i kept.waiting (cells_of (column_kept ex i kept))) is_col)
+      ∙ sym (ap (λ c. open_after ex i kept.waiting c col) same_before) ∙ sym opens)
+      ∙ ap (kept_with k waiting)
       (sym (ap (λ c. link_of ex sheet i (column_kept ex i kept) c) is_col)
       ∙ sym (ap (λ c. link_of ex sheet i c col) is_kept) ∙ sym is)
+
+-- pitches are the same where the test tells so
+pub some_same : (p q : Pitch) (told : Bool) → told ≡ same_pitch p q → OnTrue told (Some p ≡ Some q)
+some_same p q true e = ap (λ x. Some x) (equal_from_test p q (sym e))
+some_same p q false e = tt
+
+-- what is kept is the same where its parts are
+pub same_kept : (one other : Kept) (a b c : Bool) → OnTrue a (one.column ≡ other.column)
+    → OnTrue b (one.waiting.passing ≡ other.waiting.passing)
+    → OnTrue c (one.waiting.ligature ≡ other.waiting.ligature) → OnTrue (a && (b && c)) (one ≡ other)
+same_kept one other true true true number passing ligature =
+    let K : Option ℕ → Option Pitch → Option Pitch → Kept = λ n p q. record {
+      column = n;
+      waiting = record { passing = p; ligature = q };
+    } in
+    ap (λ n. K n one.waiting.passing one.waiting.ligature) number
+    ∙ ap (λ p. K other.column p one.waiting.ligature) passing
+    ∙ ap (K other.column other.waiting.passing) ligature
+same_kept one other true true false number passing ligature = tt
+same_kept one other true false c number passing ligature = tt
+same_kept one other false b c number passing ligature = tt

@@ -102,7 +102,7 @@ record IsLastStep (ex : Exercise) (sheet : Sheet) (path : List ℕ) (k : ℕ) : 
 
 module _ (ex : Exercise) (sheet : Sheet) (path : List ℕ) (k : ℕ) where
   abbrev made_of : Option ℕ → List (List Cell) → Kept
-  made_of number p = record { column = number; open = open_in ex p }
+  made_of number p = record { column = number; waiting = open_in ex p }
 
   last_step : is_alive_path ex (path ++ k ∷ []) ≡ true → IsLastStep ex sheet path k
   last_step alive =

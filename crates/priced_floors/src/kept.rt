@@ -6,5 +6,5 @@ use open_dissonances::OpenDissonances;
 #[derive(Clone, Copy, Debug, PartialEq, Eq)]
 pub struct Kept {
     pub column: Option<u16>,
-    pub open: OpenDissonances,
+    pub waiting: OpenDissonances,
 }

@@ -1,7 +1,8 @@
 //! The settings of an exercise, priced.
 
 ghost use Rattle.std.proofs.Props.{props};
-ghost use Rattle.std.specs.Prelude.{◌≡◌, ◌<◌, ◌≤◌, ℕ, length, IfOk, Some, None, slice_index_or};
+ghost use Rattle.std.specs.Bool.{OnTrue};
+ghost use Rattle.std.specs.Prelude.{◌≡◌, ◌<◌, ◌≤◌, ◌&&◌, ℕ, length, IfOk, Some, None, slice_index_or};
 ghost use Rattle.fux_grid.specs.Exercises.{IsValid, columns_in};
 ghost use Rattle.fux_grid.specs.Menus.{menu_of};
 ghost use Rattle.fux_judge.specs.Links.{given, link_of};
@@ -25,8 +26,8 @@ use std::alloc::Global;
 /// The settings of an exercise, with what their columns are charged beforehand.
 #[derive(Drop)]
 pub struct PricedSpace<'a> {
-    space: &'a SpeciesSpace<'a>,
-    charges: &'a Charges,
+    pub(crate) space: &'a SpeciesSpace<'a>,
+    pub(crate) charges: &'a Charges,
     /// The debt of each case.
     debts: Vec<u64>,
     ghost fair: { AreFairCharges charges.now space.now.sheet } by { Prim.hlevel props },
@@ -54,6 +55,35 @@ fn cost_between<'a>(
     let own = column_cost(ex, sheet, i, next)?;
     let pair = pair_cost(ex, sheet, i, prev, next)?;
     Some((own + pair) as u32)
+}
+
+/// Whether two numbers that may be lacking are the same.
+fn is_same_number(one: Option<u16>, other: Option<u16>) -> bool
+    ensures { OnTrue result (one ≡ other) }
+{
+    match (one, other) {
+        (None, None) => true,
+        (Some(m), Some(n)) => m == n,
+        _ => false,
+    }
+}
+
+/// Whether two pitches that may be lacking are.
+fn is_same_pitch(one: Option<Pitch>, other: Option<Pitch>) -> bool
+    ensures { OnTrue result (one ≡ other) }
+{
+    match (one, other) {
+        (None, None) => true,
+        (Some(p), Some(q)) => p == q,
+        _ => false,
+    }
+}
+
+/// Whether all three are true.
+fn all_three(a: bool, b: bool, c: bool) -> bool
+    ensures { result ≡ (a && (b && c)) }
+{
+    a && (b && c)
 }
 
 /// A number of a pitch that may be lacking.
@@ -159,7 +189,7 @@ impl<'a> Pricing for PricedSpace<'a> {
     fn start(&self) -> Kept {
         Kept {
             column: None,
-            open: OpenDissonances::none(),
+            waiting: OpenDissonances::none(),
         }
     }
 
@@ -174,14 +204,17 @@ impl<'a> Pricing for PricedSpace<'a> {
             return None;
         }
         let ex = self.space.exercise();
-        let open = open_after(ex, depth, &kept.open, cells_of(prev), next.as_slice())?;
+        let waiting = open_after(ex, depth, &kept.waiting, cells_of(prev), next.as_slice())?;
         let cost = cost_between(ex, self.space.sheet(), depth, prev, next)?;
         let column = Some(label as u16);
-        Some((Kept { column, open }, cost))
+        Some((Kept { column, waiting }, cost))
     }
 
     fn is_same(&self, one: &Kept, other: &Kept) -> bool {
-        one == other
+        let number = is_same_number(one.column, other.column);
+        let passing = is_same_pitch(one.waiting.passing, other.waiting.passing);
+        let ligature = is_same_pitch(one.waiting.ligature, other.waiting.ligature);
+        all_three(number, passing, ligature)
     }
 
     fn key(&self, kept: &Kept) -> u64 {
@@ -189,8 +222,8 @@ impl<'a> Pricing for PricedSpace<'a> {
             Some(number) => u64::from(number) + 1,
             None => 0,
         };
-        let open = 128 * key_of(kept.open.passing) + key_of(kept.open.ligature);
-        column * 16_384 + open
+        let waiting = 128 * key_of(kept.waiting.passing) + key_of(kept.waiting.ligature);
+        column * 16_384 + waiting
     }
 
     fn cases(&self) -> usize {

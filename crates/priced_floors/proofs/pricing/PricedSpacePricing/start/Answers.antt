@@ -7,5 +7,5 @@ use Rattle.priced_floors.proofs.pricing.PricedSpacePricing.start.Goals as goal
 
 pub returns : goal.returns
 returns c =
-    let K : OpenDissonances → Kept = λ o. record { column = None; open = o } in
+    let K : OpenDissonances → Kept = λ o. record { column = None; waiting = o } in
     ap K (c.none.ensures ∙ sym (open-none c.args.self.now.space.now.exercise))

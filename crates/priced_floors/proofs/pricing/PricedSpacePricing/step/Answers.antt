@@ -19,22 +19,22 @@ returns-then-not-follows c =
     c.tables.ensures.value)
     c.follows.result c.follows.ensures c.if-not-follows.true)
 
-pub returns-in_err-open : goal.returns-in_err-open
-returns-in_err-open c =
+pub returns-in_err-waiting : goal.returns-in_err-waiting
+returns-in_err-waiting c =
     let space = c.args.self.now.space.now in
     let prev = c.column_kept-prev.result in
     let col = c.column-next.result.now.items in
-    c.from_residual-in_err-open.ensures
+    c.from_residual.ensures
     ∙ sym (step_by space.exercise space.sheet c.args.depth c.args.kept.now c.args.label prev col
     c.column_kept-prev.ensures
     (c.column-next.ensures ∙ ap (λ (t : Task). slice_index_or (menu_of t.exercise c.args.depth) c.args.label [])
     c.tables.ensures.value)
     c.follows.result c.follows.ensures c.if-not-follows.false None
-    (sym (c.in_err-open.was) ∙ c.open_after.ensures
-    ∙ ap (λ (ex : Exercise). open_after ex c.args.depth c.args.kept.now.open c.cells_of.result.now c.as_slice.result.now)
+    (sym (c.in_err-waiting.was) ∙ c.open_after.ensures
+    ∙ ap (λ (ex : Exercise). open_after ex c.args.depth c.args.kept.now.waiting c.cells_of.result.now c.as_slice.result.now)
     c.exercise-ex.ensures.value
-    ∙ ap (λ b. open_after space.exercise c.args.depth c.args.kept.now.open b c.as_slice.result.now) c.cells_of.ensures
-    ∙ ap (open_after space.exercise c.args.depth c.args.kept.now.open (cells_before prev)) c.as_slice.ensures.value)
+    ∙ ap (λ b. open_after space.exercise c.args.depth c.args.kept.now.waiting b c.as_slice.result.now) c.cells_of.ensures
+    ∙ ap (open_after space.exercise c.args.depth c.args.kept.now.waiting (cells_before prev)) c.as_slice.ensures.value)
     (link_of space.exercise space.sheet c.args.depth (given prev) col) refl)
 
 pub returns-in_err-cost : goal.returns-in_err-cost
@@ -47,12 +47,12 @@ returns-in_err-cost c =
     c.column_kept-prev.ensures
     (c.column-next.ensures ∙ ap (λ (t : Task). slice_index_or (menu_of t.exercise c.args.depth) c.args.label [])
     c.tables.ensures.value)
-    c.follows.result c.follows.ensures c.if-not-follows.false (Some c.in_ok-open.open)
-    (sym (c.in_ok-open.was) ∙ c.open_after.ensures
-    ∙ ap (λ (ex : Exercise). open_after ex c.args.depth c.args.kept.now.open c.cells_of.result.now c.as_slice.result.now)
+    c.follows.result c.follows.ensures c.if-not-follows.false (Some c.in_ok-waiting.waiting)
+    (sym (c.in_ok-waiting.was) ∙ c.open_after.ensures
+    ∙ ap (λ (ex : Exercise). open_after ex c.args.depth c.args.kept.now.waiting c.cells_of.result.now c.as_slice.result.now)
     c.exercise-ex.ensures.value
-    ∙ ap (λ b. open_after space.exercise c.args.depth c.args.kept.now.open b c.as_slice.result.now) c.cells_of.ensures
-    ∙ ap (open_after space.exercise c.args.depth c.args.kept.now.open (cells_before prev)) c.as_slice.ensures.value)
+    ∙ ap (λ b. open_after space.exercise c.args.depth c.args.kept.now.waiting b c.as_slice.result.now) c.cells_of.ensures
+    ∙ ap (open_after space.exercise c.args.depth c.args.kept.now.waiting (cells_before prev)) c.as_slice.ensures.value)
     None
     (sym (c.in_err-cost.was) ∙ c.cost_between.ensures
     ∙ ap (λ (ex : Exercise). link_of ex c.sheet.result.now c.args.depth (given prev) col) c.exercise-ex.ensures.value
@@ -67,12 +67,12 @@ returns c =
     c.column_kept-prev.ensures
     (c.column-next.ensures ∙ ap (λ (t : Task). slice_index_or (menu_of t.exercise c.args.depth) c.args.label [])
     c.tables.ensures.value)
-    c.follows.result c.follows.ensures c.if-not-follows.false (Some c.in_ok-open.open)
-    (sym (c.in_ok-open.was) ∙ c.open_after.ensures
-    ∙ ap (λ (ex : Exercise). open_after ex c.args.depth c.args.kept.now.open c.cells_of.result.now c.as_slice.result.now)
+    c.follows.result c.follows.ensures c.if-not-follows.false (Some c.in_ok-waiting.waiting)
+    (sym (c.in_ok-waiting.was) ∙ c.open_after.ensures
+    ∙ ap (λ (ex : Exercise). open_after ex c.args.depth c.args.kept.now.waiting c.cells_of.result.now c.as_slice.result.now)
     c.exercise-ex.ensures.value
-    ∙ ap (λ b. open_after space.exercise c.args.depth c.args.kept.now.open b c.as_slice.result.now) c.cells_of.ensures
-    ∙ ap (open_after space.exercise c.args.depth c.args.kept.now.open (cells_before prev)) c.as_slice.ensures.value)
+    ∙ ap (λ b. open_after space.exercise c.args.depth c.args.kept.now.waiting b c.as_slice.result.now) c.cells_of.ensures
+    ∙ ap (open_after space.exercise c.args.depth c.args.kept.now.waiting (cells_before prev)) c.as_slice.ensures.value)
     (Some c.in_ok-cost.cost)
     (sym (c.in_ok-cost.was) ∙ c.cost_between.ensures
     ∙ ap (λ (ex : Exercise). link_of ex c.sheet.result.now c.args.depth (given prev) col) c.exercise-ex.ensures.value
