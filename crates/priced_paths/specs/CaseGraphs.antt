@@ -12,6 +12,10 @@ pub record Case : Type 0 where
   pub reaches : ℕ → ℕ → Bool
   pub rate : Rate
 
+-- the case of this number
+abbrev pub case_of : (ℕ → ℕ → ℕ → Option ℕ) → (ℕ → ℕ → ℕ → Bool) → (ℕ → Rate) → ℕ → Case
+case_of toll reaches rate k = record { toll = toll k; reaches = reaches k; rate = rate k }
+
 -- the node of a spot, of so many
 abbrev pub node_at : ℕ → ℕ → Bool → ℕ
 node_at count at reached = if reached then count - 1 - at else 2 * count - 1 - at

@@ -38,6 +38,12 @@ labels_or (Some spot) = spot.labels
 abbrev pub labels_in : {K : Type 0} → Web K → ℕ → ℕ
 labels_in web at = labels_or (slice_get web.spots.items at)
 
+-- the edges of a spot stand in the list of all
+abbrev pub IsInside : {K : Type 0} → Web K → ℕ → Type 0
+IsInside {K} web at =
+    (spot : Spot K) → slice_get web.spots.items at ≡ Some spot → 0 < spot.labels
+    → spot.first + spot.labels ≤ length web.edges.items
+
 -- the edge leads to a later spot, one deeper, at which this is kept, and costs no more than this
 pub record LeadsOn {K : Type 0} (web : Web K) (at depth : ℕ) (kept : K) (cost : ℕ) (edge : Edge) : Type 0 where
   pub later : at < edge.to
@@ -88,12 +94,13 @@ pub record LeadsLater {K : Type 0} (height : ℕ) (breadth : ℕ → ℕ) (web :
   pub small : edge.cost ≤ MOST_COST
   pub above : depth_in web at < height
   pub is_label : label < breadth (depth_in web at)
+  pub deeper : depth_in web edge.to ≡ depth_in web at + 1
 
 -- what a web's numbers and indices rest on
 pub record IsSound {K : Type 0} (height : ℕ) (breadth : ℕ → ℕ) (web : Web K) : Type 0 where
   pub few : length web.spots.items ≤ MOST_SPOTS
   pub some : 0 < length web.spots.items
-  pub inside : (at : ℕ) (spot : Spot K) → slice_get web.spots.items at ≡ Some spot → 0 < spot.labels
-      → spot.first + spot.labels ≤ length web.edges.items
+  pub root : depth_in web 0 ≡ 0
+  pub inside : (at : ℕ) → IsInside web at
   pub edges : (at label : ℕ) (edge : Edge) → edge_in web at label ≡ Some edge
       → LeadsLater height breadth web at label edge

@@ -1,32 +1,73 @@
 //! The search of a tree whose steps are charged beforehand.
 
+ghost use Rattle.std.specs.Prelude.{◌≡◌, [], IfOk};
+ghost use Rattle.tree_search.specs.Answer.{IsFirstLeast, HasNoLeaf, BoundsLeaves};
+ghost use Rattle.tree_search.specs.Outcomes.{IfFound, OnNothing, IfSpent};
+ghost use Rattle.floor_graphs.specs.Sameness.{AgreesWithAnswers};
+ghost use Rattle.priced_paths.specs.Webs.{IsWeb};
+
 use crate::build::weave;
 use crate::guide::{PricedGuide, case_numbers};
 use crate::pricing::Pricing;
-use crate::web::is_web;
+use crate::web::{Web, is_web};
 use floor_graphs::search_sharpened;
 use fux_pitch::Memory;
 use std::alloc::Global;
-use tree_search::{Outcome, search_front};
+use tree_search::{Outcome, Space, search_front};
 
-/// The first leaf of least value, by the front over the floors of the pricing. Where the web of what is kept is too big the front goes by the
-/// tree's own floors.
-pub fn search_priced<P: Pricing>(
+/// The first leaf of least value, by the front over the tree's own floors.
+fn search_unpriced<S: Space>(alloc: Global, space: &S, budget: u32) -> Result<Outcome, Memory>
+    ensures found { IfOk result (λ outcome. IfFound outcome (IsFirstLeast (S.live space.now) (S.height space.now))) }
+    ensures nothing { IfOk result (λ outcome. OnNothing outcome (HasNoLeaf (S.live space.now) (S.height space.now))) }
+    ensures bound { IfOk result (λ outcome. IfSpent outcome (BoundsLeaves (S.live space.now) (S.height space.now))) }
+    ensures agrees { IfOk result (AgreesWithAnswers (S.live space.now) (S.height space.now)) }
+{
+    search_front(alloc, space, budget)
+}
+
+/// The first leaf of least value, by the front over the floors of the pricing, by its web.
+fn search_web<P: Pricing>(
     alloc: Global,
     pricing: &P,
+    web: &Web<P::Kept>,
     budget: u32,
-) -> Result<Outcome, Memory> {
-    let Some(web) = weave(alloc, pricing)? else {
-        return search_front(alloc, pricing.space(), budget);
-    };
-    if !is_web(pricing, &web) {
-        return search_front(alloc, pricing.space(), budget);
-    }
-    let numbers = case_numbers(alloc, pricing, &web)?;
+) -> Result<Outcome, Memory>
+    requires { IsWeb (P.kept_of pricing.now []) (P.Tree.height (P.tree pricing.now)) (P.breadth pricing.now)
+        (P.step_at pricing.now) web.now }
+    ensures found { IfOk result (λ outcome.
+        IfFound outcome (IsFirstLeast (P.Tree.live (P.tree pricing.now)) (P.Tree.height (P.tree pricing.now)))) }
+    ensures nothing { IfOk result (λ outcome.
+        OnNothing outcome (HasNoLeaf (P.Tree.live (P.tree pricing.now)) (P.Tree.height (P.tree pricing.now)))) }
+    ensures bound { IfOk result (λ outcome.
+        IfSpent outcome (BoundsLeaves (P.Tree.live (P.tree pricing.now)) (P.Tree.height (P.tree pricing.now)))) }
+    ensures agrees { IfOk result (AgreesWithAnswers (P.Tree.live (P.tree pricing.now)) (P.Tree.height (P.tree pricing.now))) }
+{
+    let numbers = case_numbers(alloc, pricing, web)?;
     let guide = PricedGuide {
         pricing,
-        web: &web,
+        web,
         numbers: &numbers,
     };
     search_sharpened(alloc, &guide, budget)
+}
+
+/// The first leaf of least value, by the front over the floors of the pricing. Where the web of what is kept is too big the front goes by the
+/// tree's own floors. Where the budget is enough the answer is that of any search of the tree; where it isn't, each leaf has at least the
+/// bound for a value.
+pub fn search_priced<P: Pricing>(alloc: Global, pricing: &P, budget: u32) -> Result<Outcome, Memory>
+    ensures found { IfOk result (λ outcome.
+        IfFound outcome (IsFirstLeast (P.Tree.live (P.tree pricing.now)) (P.Tree.height (P.tree pricing.now)))) }
+    ensures nothing { IfOk result (λ outcome.
+        OnNothing outcome (HasNoLeaf (P.Tree.live (P.tree pricing.now)) (P.Tree.height (P.tree pricing.now)))) }
+    ensures bound { IfOk result (λ outcome.
+        IfSpent outcome (BoundsLeaves (P.Tree.live (P.tree pricing.now)) (P.Tree.height (P.tree pricing.now)))) }
+    ensures agrees { IfOk result (AgreesWithAnswers (P.Tree.live (P.tree pricing.now)) (P.Tree.height (P.tree pricing.now))) }
+{
+    let Some(web) = weave(alloc, pricing)? else {
+        return search_unpriced(alloc, pricing.space(), budget);
+    };
+    if !is_web(pricing, &web) {
+        return search_unpriced(alloc, pricing.space(), budget);
+    }
+    search_web(alloc, pricing, &web, budget)
 }

@@ -1,0 +1,5 @@
+pub mod TollSteps
+pub mod Spots
+pub mod Sums
+pub mod Pushes
+pub mod Mapped
