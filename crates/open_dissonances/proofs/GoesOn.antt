@@ -17,7 +17,7 @@ use Rattle.open_dissonances.specs.declared.steps.OpenDissonances.{OpenDissonance
 use Rattle.open_dissonances.specs.Asked.{is_asked}
 use Rattle.open_dissonances.specs.Ligatures.{held_in_clash, is_unresolved, ligature_after, ligature_in}
 use Rattle.open_dissonances.specs.Passing.{begins_in_clash, is_left_badly, is_reached_badly, passing_after, passing_in}
-use Rattle.open_dissonances.specs.Steps.{FollowsLawful, breaks_ligature, breaks_passing, none, open_after, open_in, still_open}
+use Rattle.open_dissonances.specs.Steps.{FollowsLawful, HasVoices, breaks_ligature, breaks_passing, none, open_after, open_in, still_open}
 use Rattle.open_dissonances.proofs.LigatureLaw.{resolved}
 use Rattle.open_dissonances.proofs.PassingLaw.{left_well, reached_well}
 
@@ -73,7 +73,7 @@ module _ (ex : Exercise) (p : Columns) (col : List Cell) where
       (when_asked (is_asked ex resolution_rule) (λ q. ligature_after (length p) q col v) (ligature_in (reverse p) v)
       (ligature_in (reverse (p ++ col ∷ [])) v) ligature_on)
 
-  module _ (more : Columns) (valid : IsValid ex) (lawful : IsLawful ex (p ++ col ∷ more)) where
+  module _ (more : Columns) (valid : HasVoices ex) (lawful : IsLawful ex (p ++ col ∷ more)) where
     abbrev s : Columns
     s = p ++ col ∷ more
 
@@ -136,6 +136,18 @@ module _ (ex : Exercise) (p : Columns) (col : List Cell) where
         lead false true h k = cc
         lead false false h k = refl
 
--- the same of each exercise that is valid
+-- the same of each exercise
+pub follows_where : (ex : Exercise) → HasVoices ex → FollowsLawful ex
+follows_where ex valid = record { first = open-none ex; next = λ p col more lawful. goes_on ex p col more valid lawful }
+
+pub voices_of_valid : (ex : Exercise) → IsValid ex → HasVoices ex
+voices_of_valid ex valid = record {
+  most_voices = valid.most_voices;
+  fewest_bars = valid.fewest_bars;
+  species_there = valid.species_there;
+  differ = valid.differ;
+}
+
+-- and so of each that is valid
 pub follows_lawful : (ex : Exercise) → IsValid ex → FollowsLawful ex
-follows_lawful ex valid = record { first = open-none ex; next = λ p col more lawful. goes_on ex p col more valid lawful }
+follows_lawful ex valid = follows_where ex (voices_of_valid ex valid)

@@ -9,7 +9,7 @@ use Rattle.fux_grid.specs.declared.cell.Cell.{Cell}
 use Rattle.fux_grid.specs.declared.exercise.Exercise.{Exercise}
 use Rattle.fux_grid.specs.Cells.{cell_in, is_hold, pitch_of}
 use Rattle.fux_grid.specs.Columns.{Columns, earlier}
-use Rattle.fux_grid.specs.Exercises.{IsValid, slot_of}
+use Rattle.fux_grid.specs.Exercises.{slot_of}
 use Rattle.fux_grid.proofs.Histories.{earlier-more, earlier-none}
 use Rattle.rule_law.specs.Bars.{begins_bar}
 use Rattle.rule_law.specs.Terms.{clash, is_clean}
@@ -21,13 +21,14 @@ use Rattle.fux_judge.specs.Lawful.{IsLawful}
 use Rattle.open_dissonances.specs.Asked.{is_asked}
 use Rattle.open_dissonances.specs.Ligatures.{held_in_clash, is_resolution, is_unresolved, ligature_in}
 use Rattle.open_dissonances.proofs.Unbroken.{clashes_well, resolution_kept}
+use Rattle.open_dissonances.specs.Steps.{HasVoices}
 
 parts_hold : (b h d k : Bool) → ((b && h && d) && k) ≡ false → b ≡ true → h ≡ true → (d && k) ≡ false
 parts_hold true true d k h e f = h
 parts_hold true false d k h e f = cc
 parts_hold false h d k e f g = cc
 
-module _ (ex : Exercise) (valid : IsValid ex) (s : Columns) (lawful : IsLawful ex s)
+module _ (ex : Exercise) (valid : HasVoices ex) (s : Columns) (lawful : IsLawful ex s)
     (asked : is_asked ex resolution_rule ≡ true) where
   abbrev v : ℕ
   v = ex.species_voice

@@ -12,7 +12,7 @@ use Rattle.fux_grid.specs.declared.cell.Cell.TheVariants.{Rest, Hold, Start}
 use Rattle.fux_grid.specs.declared.exercise.Exercise.{Exercise}
 use Rattle.fux_grid.specs.Cells.{cell_in, first_of, onsets_from, pitch_of}
 use Rattle.fux_grid.specs.Columns.{Columns, cell_at, earlier, line, newest_column}
-use Rattle.fux_grid.specs.Exercises.{IsValid, is_mixed, species_in}
+use Rattle.fux_grid.specs.Exercises.{is_mixed, species_in}
 use Rattle.fux_grid.proofs.Histories.{earlier-more, earlier-none}
 use Rattle.rule_law.specs.After.{next_onset, onset_pitch, second_next_onset}
 use Rattle.rule_law.specs.Bars.{begins_bar}
@@ -30,6 +30,7 @@ use Rattle.open_dissonances.specs.Asked.{is_asked}
 use Rattle.open_dissonances.specs.Passing.{begins_in_clash, is_left_badly, is_reached_badly, may_be_good, passing_in}
 use Rattle.open_dissonances.proofs.Sounding.{previous-no_start, previous-start, sounds_on_in}
 use Rattle.open_dissonances.proofs.Unbroken.{clashes_well, passing_kept, unmixed}
+use Rattle.open_dissonances.specs.Steps.{HasVoices}
 
 -- ---- good notes
 
@@ -91,7 +92,7 @@ parts_hold true true false d k h e f g = cc
 parts_hold true false c d k h e f g = cc
 parts_hold false b c d k h e f g = cc
 
-module _ (ex : Exercise) (valid : IsValid ex) (s : Columns) (lawful : IsLawful ex s)
+module _ (ex : Exercise) (valid : HasVoices ex) (s : Columns) (lawful : IsLawful ex s)
     (asked : is_asked ex passing_rule ≡ true) where
   abbrev v : ℕ
   v = ex.species_voice

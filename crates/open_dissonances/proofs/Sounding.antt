@@ -8,7 +8,6 @@ use Rattle.fux_grid.specs.declared.cell.Cell.TheVariants.{Rest, Hold, Start}
 use Rattle.fux_grid.specs.declared.exercise.Exercise.{Exercise}
 use Rattle.fux_grid.specs.Cells.{first_of, notes_from, pitch_of}
 use Rattle.fux_grid.specs.Columns.{Columns}
-use Rattle.fux_grid.specs.Exercises.{IsValid}
 use Rattle.fux_grid.specs.Orderly.{IsOrderly}
 use Rattle.fux_grid.proofs.OrderlyLemmas.{orderly-fewer}
 use Rattle.rule_law.specs.Around.{SoundsOn}
@@ -17,6 +16,7 @@ use Rattle.rule_law.specs.Terms.{note_pitch, previous_pitch, starts}
 use Rattle.rule_law.proofs.AroundLemmas.{sounds_on}
 use Rattle.fux_judge.specs.Lawful.{IsLawful}
 use Rattle.fux_judge.proofs.Alive.{alive_if_unbroken, alive_orderly}
+use Rattle.open_dissonances.specs.Steps.{HasVoices}
 
 -- how long the latest note has been held changes no pitch
 any_length : (h k : ℕ) (cells : List Cell) → note_pitch (first_of (notes_from h cells))
@@ -37,7 +37,7 @@ previous-start Rest cells h = cc
 previous-start (Hold p) cells h = cc
 previous-start (Start p) cells h = refl
 
-module _ (ex : Exercise) (valid : IsValid ex) (s : Columns) (lawful : IsLawful ex s) where
+module _ (ex : Exercise) (valid : HasVoices ex) (s : Columns) (lawful : IsLawful ex s) where
   orderly : IsOrderly ex s
   orderly = alive_orderly ex valid.most_voices s
       (alive_if_unbroken ex valid.most_voices s lawful.setting lawful.unbroken)

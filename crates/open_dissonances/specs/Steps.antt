@@ -1,6 +1,6 @@
 -- What is open behind a column, and how the steps of a lawful setting lead from one column to the next
 -- (`FollowsLawful`).
-use Rattle.std.specs.Prelude.{◌≡◌, ℕ, Bool, ◌&&◌, ◌||◌, List, [], ◌∷◌, ◌++◌, Option, Some, None, length, reverse, if◌then◌else◌}
+use Rattle.std.specs.Prelude.{◌≡◌, ◌≢◌, ◌<◌, ◌≤◌, ℕ, Bool, ◌&&◌, ◌||◌, List, [], ◌∷◌, ◌++◌, Option, Some, None, length, reverse, if◌then◌else◌}
 use Rattle.fux_grid.specs.declared.cell.Cell.{Cell}
 use Rattle.fux_grid.specs.declared.exercise.Exercise.{Exercise}
 use Rattle.fux_grid.specs.Columns.{Columns, newest_column}
@@ -47,6 +47,13 @@ abbrev pub open_after : Exercise → ℕ → OpenDissonances → List Cell → L
 open_after ex i waiting before now =
     if breaks_passing ex i waiting before now || breaks_ligature ex i waiting now then None
     else Some (still_open ex i waiting before now)
+
+-- the species voice is a free one of at most four voices, in at least three bars
+pub record HasVoices (ex : Exercise) : Type 0 where
+  pub most_voices : ex.voices ≤ 4
+  pub fewest_bars : 3 ≤ ex.bars
+  pub species_there : ex.species_voice < ex.voices
+  pub differ : ex.species_voice ≢ ex.cantus_voice
 
 -- from prefix to prefix of a lawful setting no step is refused, and each leads to what is open behind its column
 pub record FollowsLawful (ex : Exercise) : Type 0 where

@@ -1,6 +1,13 @@
-//! The search for the best setting of an exercise by sharper floors.
+//! Floors of the settings of an exercise that know beforehand what repeated pitches and climaxes will cost.
 #![tactic(auto)]
 
+mod charges;
+mod kept;
+mod keys;
+mod pricing;
 mod search;
 
+pub use charges::Charges;
+pub use kept::Kept;
+pub use pricing::PricedSpace;
 pub use search::search_best;

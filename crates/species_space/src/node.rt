@@ -1,4 +1,5 @@
 //! What stands for a path while a search is there.
+ghost use Rattle.std.specs.Prelude.{◌≡◌};
 
 use fux_judge::State;
 
@@ -11,4 +12,14 @@ pub struct Node {
     pub(crate) paid: u64,
     pub(crate) least: u64,
     pub(crate) hint: usize,
+}
+
+impl Node {
+    /// What is paid of the prefix.
+    #[inline]
+    pub fn paid(&self) -> u64
+        ensures { result ≡ self.now.paid }
+    {
+        self.paid
+    }
 }
