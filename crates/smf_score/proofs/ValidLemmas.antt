@@ -62,19 +62,9 @@ lines_follow bars [] = tt
 lines_follow bars (notes ∷ voices) = (cells_follow 0 (8 * bars) notes Rest, lines_follow bars voices)
 
 pub cells_long : (at over : ℕ) (notes : List Placed) → over - at ≤ length (cells_of at over notes)
-cells_long at over [] = omega (arith, length-replicate {A = Cell} (over - at) Rest)
+cells_long at over [] = omega (arith, length-replicate {A = Cell})
 cells_long at over (note ∷ notes) =
-    let rests = replicate (note.start - at) Rest in
-    let own = note_cells note.pitch (note.end - note.start) in
-    let later = cells_of note.end over notes in
-    omega (
-      arith,
-      cells_long note.end over notes,
-      length-append rests (own ++ later),
-      length-append own later,
-      length-replicate {A = Cell} (note.start - at) Rest,
-      length-replicate {A = Cell} (note.end - note.start - 1) (Hold note.pitch),
-    )
+    omega (arith, cells_long note.end over notes, length-append, length-replicate {A = Cell})
 
 -- the cells of a voice that is there, in so many bars
 pub line_long : (bars v : ℕ) (notes : List (List Placed)) → v < length notes
