@@ -241,7 +241,7 @@ notes_short : (v ended at : ℕ) (cells : List Cell) → length (notes_bytes v e
 notes_short v ended at [] = omega arith
 notes_short v ended at (Start p ∷ cells) =
     let len = suc (holds_ahead cells) in
-    omega (arith, quantity_short, length-append, notes_short v (at + len) (suc at) cells)
+    omega (arith, quantity_short, length-append {A = ℕ}, notes_short v (at + len) (suc at) cells)
 notes_short v ended at (c ∷ cells) = omega (arith, notes_short v ended (suc at) cells)
 
 -- the bytes of a track of a voice
@@ -249,13 +249,14 @@ abbrev voice_body : List (List Cell) → ℕ → List ℕ
 voice_body columns v = notes_bytes v 0 (voice_notes columns v) ++ end_bytes
 
 body_short : (columns : List (List Cell)) (v : ℕ) → length (voice_body columns v) ≤ 12 * length columns + 4
-body_short columns v = omega (arith, length-map, length-append, notes_short v 0 0 (line v columns))
+body_short columns v = omega (arith, length-map {A = List Cell} {B = Cell}, length-append {A = ℕ}, notes_short v 0 0 (line v columns))
 
 tracks_short : (columns : List (List Cell)) (v more : ℕ) → length columns ≤ 192
     → length (tracks_bytes columns v more) ≤ 4096 * more
 tracks_short columns v zero few = omega arith
 tracks_short columns v (suc more) few =
-    omega (arith, length-append, body_short columns v, tracks_short columns (suc v) more few)
+    let long = length-append (track_bytes columns v) (tracks_bytes columns (suc v) more) in
+    omega (arith, long, body_short columns v, tracks_short columns (suc v) more few)
 
 -- ---- the tracks
 
@@ -332,7 +333,7 @@ file_back score few low =
     behind = tempo_bytes ++ tracks
 
     short : length (smf_of score) ≤ 1048576
-    short = omega (arith, length-append, tracks_short score.columns 0 voices few)
+    short = omega (arith, length-append {A = ℕ}, tracks_short score.columns 0 voices few)
 
     header : IsHeader (smf_of score) (file_header voices) behind
     header =

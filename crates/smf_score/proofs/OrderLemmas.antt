@@ -4,7 +4,7 @@ use Rattle.std.specs.Prelude.{All, filter}
 use Rattle.std.specs.Cmp.{IsStrictWeakOrder, nat_cmp_is, on_total, then_total}
 use Rattle.std.specs.declared.cmp.Ordering.TheVariants.{Equal, Greater}
 use Rattle.std.specs.List.Sorted.{IsSortedBy, ties}
-use Rattle.std.proofs.lemmas.Bool.{cases_lt}
+use Rattle.std.proofs.lemmas.Bool.Decides.{nat_tests}
 use Rattle.std.proofs.lemmas.Cmp.{nat_cmp_total}
 use Rattle.std.proofs.lemmas.List.Elements.{All-filter, All-head}
 use Rattle.std.proofs.lemmas.List.MinMax.{ranks_by}
@@ -27,17 +27,7 @@ not_own a = at (is_before a a) refl
 
 -- a note isn't before another of no higher voice, of the same voice if it doesn't start earlier
 pub not_before_from : (a b : Played) → b.rank ≤ a.rank → (b.rank ≡ a.rank → b.start ≤ a.start) → is_before a b ≡ false
-not_before_from a b higher late = at (cases_lt b.rank a.rank) (cases_lt b.start a.start)
-  where
-    at : (b.rank < a.rank) ⊎ (a.rank ≤ b.rank) → (b.start < a.start) ⊎ (a.start ≤ b.start) → is_before a b ≡ false
-    at (inl less) other = rw (← nat_cmp_is a.rank b.rank Greater less) refl
-    at (inr level) (inl later) =
-        let same : a.rank ≡ b.rank = omega (arith, higher, level) in
-        rw (← nat_cmp_is a.rank b.rank Equal same, ← nat_cmp_is a.start b.start Greater later) refl
-    at (inr level) (inr past) =
-        let same : a.rank ≡ b.rank = omega (arith, higher, level) in
-        let tick : a.start ≡ b.start = omega (arith, past, late (sym same)) in
-        rw (← nat_cmp_is a.rank b.rank Equal same, ← nat_cmp_is a.start b.start Equal tick) refl
+not_before_from a b higher late = grind (arith, nat_tests)
 
 abbrev Sorted : List Played → Type 0
 Sorted xs = IsSortedBy is_before xs
@@ -57,8 +47,8 @@ SameTies xs ys = (x : Played) → filter (ties is_before x) xs ≡ filter (ties 
 not_first : (x y : Played) (xs ys : List Played) → Sorted (y ∷ ys) → SameTies (x ∷ xs) (y ∷ ys) → is_before x y ≡ false
 not_first x y xs ys sorted same =
     let own : filter (ties is_before x) (y ∷ ys) ≡ x ∷ filter (ties is_before x) xs = sym (same x) ∙ rw (ties_own x) refl in
-    All-head (λ (z : Played). is_before z y ≡ false) x (filter (ties is_before x) xs)
-    (subst (All (λ (z : Played). is_before z y ≡ false)) own (All-filter (ties is_before x) _ (y ∷ ys)
+    let Late : Played → Type 0 = λ z. is_before z y ≡ false in
+    All-head Late x (filter (ties is_before x) xs) (subst (All Late) own (All-filter (ties is_before x) Late (y ∷ ys)
     (λ i d within. sorted_far is_before before_order (y ∷ ys) sorted 0 i d (omega arith) within)))
 
 same_order : (xs ys : List Played) → Sorted xs → Sorted ys → SameTies xs ys → xs ≡ ys
@@ -81,9 +71,9 @@ same_order (x ∷ xs) (y ∷ ys) a b same =
     (same w ∙ ap (λ (z : Played). filter (ties is_before w) (z ∷ ys)) (sym equal))) in
     ap (λ (z : Played). z ∷ xs) equal ∙ ap (λ (zs : List Played). y ∷ zs) rest
   where
-    behind : (t : Bool) (z : Played) (as bs : List Played) → cond t (z ∷ as) as ≡ cond t (z ∷ bs) bs → as ≡ bs
-    behind true z as bs e = cc
-    behind false z as bs e = e
+    behind : (t : Bool) (z : Played) (xs ys : List Played) → cond t (z ∷ xs) xs ≡ cond t (z ∷ ys) ys → xs ≡ ys
+    behind true z xs ys e = cc
+    behind false z xs ys e = e
 
 -- notes have one order
 pub one_order : (notes a b : List Played) → IsInOrder notes a → IsInOrder notes b → a ≡ b
