@@ -245,7 +245,7 @@ name-short (Hold p) = omega arith
 name-short (Start p) = (name_of-length p).1
 
 item-short : (item : Cell × ℕ) → length (item_text item) ≤ 5
-item-short item = omega (arith, length-append, name-short item.0)
+item-short item = omega (arith, length-append (item_name item.0) (58 ∷ (48 + item.1) ∷ []), name-short item.0)
 
 -- an item has at most five bytes, with a space or a feed behind it, or a bar line at the end of its bar
 items-short : (bars i : ℕ) (before : Cell) (items : List (Cell × ℕ)) → Fits bars i before items
@@ -264,7 +264,7 @@ items-short bars i before (item ∷ items) fits =
     by : (last : Bool) → (j == 8 * bars) ≡ last → (whole : Bool) → (j % 8 == 0) ≡ whole
         → length rest + 6 * j + 2 * (j / 8) ≤ 50 * bars
         → length (item_text item ++ (behind_text bars j ++ rest)) + 6 * i + 2 * (i / 8) ≤ 50 * bars
-    by true e whole f more = rw e (omega (arith, length-append (item_text item) _, item-short item, fits.1, more))
+    by true e whole f more = rw e (omega (arith, length-append (item_text item) (10 ∷ rest), item-short item, fits.1, more))
     by false e true f more =
         let end : (i + item.1) % 8 ≡ 0 = grind (arith, nat_tests) in
         rw (e, f) (omega (arith, length-append (item_text item) (codes " | " ++ rest), item-short item, fits.1, end, more))
@@ -285,7 +285,7 @@ sing-short v = by (v == 0) (v == 1) (v == 2)
 line-short : (ex : Exercise) (v : ℕ) (items : List (Cell × ℕ)) → ex.bars ≤ 24 → Fits ex.bars 0 Rest items
     → length (line_text ex v items) ≤ 1207
 line-short ex v items few fits =
-    omega (arith, length-append (sing_bytes v) _, sing-short v, items-short ex.bars 0 Rest items fits, few)
+    omega (arith, length-append (sing_bytes v) (items_text ex.bars 0 items), sing-short v, items-short ex.bars 0 Rest items fits, few)
 
 lines-short : (ex : Exercise) (sung : ℕ → List (Cell × ℕ)) (voices : List ℕ) → ex.bars ≤ 24
     → ((v : ℕ) → Fits ex.bars 0 Rest (sung v)) → length (lines_text ex sung voices) ≤ 1207 * length voices
@@ -298,12 +298,7 @@ lines-short ex sung (v ∷ voices) few fits =
 pub item_lines-short : (ex : Exercise) (lines : List ℕ) → IsValid ex → AreItemLines ex lines (free_voices ex)
     → length lines ≤ 4828
 item_lines-short ex lines valid are =
-    omega (
-      arith,
-      ap length are.text,
-      lines-short ex are.sung (free_voices ex) valid.most_bars are.fits,
-      length-filter (λ v. not (v == ex.cantus_voice)) (range_with_len 0 ex.voices),
-      count_by-le-length (λ v. not (v == ex.cantus_voice)) (range_with_len 0 ex.voices),
-      length-range_with_len 0 ex.voices,
-      valid.most_voices,
-    )
+    let lines = lines-short ex are.sung (free_voices ex) valid.most_bars are.fits in
+    let kept = length-filter (λ v. not (v == ex.cantus_voice)) (range_with_len 0 ex.voices) in
+    let free = count_by-le-length (λ v. not (v == ex.cantus_voice)) (range_with_len 0 ex.voices) in
+    omega (arith, ap length are.text, lines, free, kept, length-range_with_len 0 ex.voices, valid.most_voices)
