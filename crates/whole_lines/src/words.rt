@@ -11,7 +11,6 @@ use crate::places::{Fault, Word, Words};
 use text_lines::is_same;
 
 /// Whether a byte ends words: it is a space or a line feed.
-#[inline]
 fn is_end(byte: u8) -> bool
     ensures { result ≡ is_end byte }
 {
@@ -19,7 +18,6 @@ fn is_end(byte: u8) -> bool
 }
 
 /// The place of the first byte that ends a word.
-#[inline]
 fn end_in(text: &[u8]) -> Option<usize>
     ensures first { result ≡ position is_end text.now }
     ensures within { IfSome result (λ place. place < length text.now) }
@@ -28,7 +26,6 @@ fn end_in(text: &[u8]) -> Option<usize>
 }
 
 /// The length of the word at the front, with the byte that ends it.
-#[inline]
 fn word_len(text: &[u8]) -> usize
     requires { 0 < length text.now }
     ensures cut { ended is_end text.now ≡ take result text.now ∷ ended is_end (drop result text.now) }
@@ -41,7 +38,6 @@ fn word_len(text: &[u8]) -> usize
 }
 
 /// A word without the byte that ends it, which has to be this one.
-#[inline]
 pub fn without_end(word: &[u8], end: u8) -> Option<&[u8]>
     ensures { option_map (λ front. front.now) result ≡ without end word.entry.now }
 {
@@ -53,7 +49,6 @@ pub fn without_end(word: &[u8], end: u8) -> Option<&[u8]>
 
 impl<'a> Word<'a> {
     /// The fault of this kind at the word.
-    #[inline]
     pub fn fault<K: Copy>(self, kind: K) -> Fault<K>
         ensures { result ≡ fault_of_word kind self.entry }
     {
@@ -66,7 +61,6 @@ impl<'a> Word<'a> {
 
 impl<'a> Words<'a> {
     /// The words of a text.
-    #[inline]
     pub fn new(text: &'a [u8]) -> Words<'a>
         requires { length text.now ≤ 65536 }
         ensures { words_of result ≡ whole_text is_end text.now }
@@ -78,7 +72,6 @@ impl<'a> Words<'a> {
     }
 
     /// The next word and what is left behind it, if there is one.
-    #[inline]
     pub fn first(self) -> Option<(Word<'a>, Words<'a>)>
         ensures { option_map (λ x. (word_of x.0, words_of x.1)) result ≡ first_word (words_of self.entry) }
     {
@@ -98,7 +91,6 @@ impl<'a> Words<'a> {
     }
 
     /// The next word, which has to be there.
-    #[inline]
     #[tactic(auto, unfolding(text_lines::specs::Reading::next))]
     pub fn next<K: Copy>(self, kind: K) -> Result<(Word<'a>, Words<'a>), Fault<K>>
         ensures { Reads (λ x. (word_of x.0, words_of x.1)) result (next kind (words_of self.entry)) }
@@ -113,7 +105,6 @@ impl<'a> Words<'a> {
     }
 
     /// What is left behind the next word, which has to be this one.
-    #[inline]
     #[tactic(auto, unfolding(text_lines::specs::Reading::literal))]
     pub fn literal<K: Copy>(self, kind: K, text: &[u8]) -> Result<Words<'a>, Fault<K>>
         ensures { Reads words_of result (literal kind text.now (words_of self.entry)) }
@@ -126,7 +117,6 @@ impl<'a> Words<'a> {
     }
 
     /// Whether no word is left.
-    #[inline]
     #[tactic(auto, unfolding(text_lines::specs::Reading::done))]
     pub fn done<K: Copy>(self, kind: K) -> Result<(), Fault<K>>
         ensures { Reads (λ x. x) result (done kind (words_of self.entry)) }
