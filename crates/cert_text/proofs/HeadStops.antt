@@ -10,7 +10,7 @@ use Rattle.cert_text.specs.declared.answers.Form.{Form}
 use Rattle.cert_text.specs.declared.answers.Form.TheVariants.{First, Second}
 use Rattle.cert_text.specs.HeadRows.{BestRow, FeedRow, FormDigit, FormRow, HeadRow, HeadSaid, IsKind, IsUpTo, Itself, KindRow, KindsRow, NothingRow, NumberLine, SingLines, closing_text, feed_text, form_byte, name_text, none_rest, opening_text}
 use Rattle.cert_text.specs.HeadTexts.{TextStops}
-use Rattle.cert_text.specs.Pieces.{Fixed, Literal, OneByte, Reads, Stops, Then}
+use Rattle.cert_text.specs.Pieces.{Fixed, Literal, Reads, Stops, Then}
 use Rattle.cert_text.specs.SingItems.{AreLines, IsHeadText, best_text, nothing_text}
 use Rattle.cert_text.proofs.FourthOctave.{natural-four}
 use Rattle.cert_text.proofs.Fronts.{few-left, front-taken, goes-to, stands-one}

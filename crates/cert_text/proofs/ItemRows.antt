@@ -12,8 +12,8 @@ use Rattle.fux_grid.specs.Exercises.{IsValid}
 use Rattle.fux_text.specs.Lines.{free_voices}
 use Rattle.fux_text.specs.Sing.{held}
 use Rattle.fux_text.proofs.OwnSetting.{free-cantus, free-other, free_of}
-use Rattle.cert_text.specs.HeadRows.{BehindItem, BehindName, IsCount, ItemName, Items, RestOfLine, SingLine, SingLines, behind_text, free_from, is_count, sing_bytes}
-use Rattle.cert_text.specs.Pieces.{Literal, OneByte, Reads, Stops, Then}
+use Rattle.cert_text.specs.HeadRows.{BehindItem, BehindName, IsCount, Items, RestOfLine, SingLine, SingLines, behind_text, free_from, is_count, sing_bytes}
+use Rattle.cert_text.specs.Pieces.{OneByte, Reads, Stops, Then}
 use Rattle.cert_text.proofs.FourthOctave.{natural-four}
 use Rattle.cert_text.proofs.ItemTexts.{items-to, items_text, sample, sample-fits}
 use Rattle.cert_text.proofs.NameLemmas.{names-alone}

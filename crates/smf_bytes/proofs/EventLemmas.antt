@@ -9,7 +9,7 @@ use Rattle.smf_bytes.specs.Numbers.{◌>>=◌, quantity_in}
 use Rattle.smf_bytes.specs.Rows.{IsQuantity, LacksQuantity, row_in}
 use Rattle.smf_bytes.specs.Messages.{Event, ends_track, event_row}
 use Rattle.smf_bytes.specs.Chunks.{track_in}
-use Rattle.smf_bytes.specs.Events.{Timed, Left, Answers, event_then, left_behind, left_then, next_in, answer_then, events_in, events_left, track_then, tracks_in}
+use Rattle.smf_bytes.specs.Events.{Timed, Left, Answers, event_then, left_then, next_in, answer_then, events_in, events_left, track_then, tracks_in}
 use Rattle.smf_bytes.specs.Files.{IsNext, IsNextFault}
 use Rattle.smf_bytes.proofs.PartLemmas.{PartTold, digits_shorter, quantity_tells, read_then}
 use Rattle.smf_bytes.proofs.RowLemmas.{RowTold, row_shorter, row_tells}
