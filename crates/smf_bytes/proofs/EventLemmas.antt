@@ -1,6 +1,6 @@
 -- The next event of what is left of a track (`events_more`, `events_fault`), and the next track of a file (`tracks_more`,
 -- `tracks_over`).
-use Rattle.std.proofs.Common.{◌≡◌, ◌≢◌, ℕ, zero, suc, ◌+◌, ◌-◌, ◌<◌, ◌≤◌, Bool, true, false, List, [], ◌∷◌, length, Option, Some, None, Result, Ok, Err, refl, sym, ◌∙◌, ap, arith, cond, eqb, ne_eqb}
+use Rattle.std.proofs.Common.{◌≡◌, ◌≢◌, ℕ, zero, suc, ◌+◌, ◌-◌, ◌<◌, ◌≤◌, Bool, true, false, List, [], ◌∷◌, length, Option, Some, None, Result, Ok, Err, refl, sym, ◌∙◌, ap, arith, cond, eqb, ne_eqb, subst}
 use Rattle.std.proofs.lemmas.Bool.{eqb-true, eqb-false}
 use Rattle.std.proofs.lemmas.List.{nil_from_length}
 use Rattle.smf_bytes.specs.declared.fault.ByteFault.{ByteFault}
@@ -9,7 +9,7 @@ use Rattle.smf_bytes.specs.Numbers.{◌>>=◌, quantity_in}
 use Rattle.smf_bytes.specs.Rows.{IsQuantity, LacksQuantity, row_in}
 use Rattle.smf_bytes.specs.Messages.{Event, ends_track, event_row}
 use Rattle.smf_bytes.specs.Chunks.{track_in}
-use Rattle.smf_bytes.specs.Events.{Timed, Left, Answers, event_then, left_behind, left_then, next_in, answer_then, events_in, events_left, track_then, tracks_in}
+use Rattle.smf_bytes.specs.Events.{Timed, Left, Answers, event_then, left_then, next_in, answer_then, events_in, events_left, track_then, tracks_in}
 use Rattle.smf_bytes.specs.Files.{IsNext, IsNextFault}
 use Rattle.smf_bytes.proofs.PartLemmas.{PartTold, digits_shorter, quantity_tells, read_then}
 use Rattle.smf_bytes.proofs.RowLemmas.{RowTold, row_shorter, row_tells}
@@ -89,25 +89,14 @@ next_only left (Err f) (IsNextFault.in_event delta behind time lacks) =
 -- what is left behind an event is shorter
 after_shorter : (left : Left) (event : Timed) (after : Left) → next_in left ≡ Ok (event, Some after)
     → length after.rest < length left.rest
-after_shorter left event after e = at (next_in left) (next_told left) e
+after_shorter left event after e =
+    let told = subst (NextTold left) e (next_told left) in
+    let same = at (ends_track told.1.message) (ap (λ (p : Timed × Option Left). p.1) told.4) in
+    omega (arith, ap (λ (l : Left). length l.rest) same, next_shorter left told.0 told.1 told.2 told.3)
   where
-    ended : (t : Bool) (l : Left) → cond t None (Some l) ≡ Some after → l ≡ after
-    ended true l h = absurd cc
-    ended false l h = cc
-
-    at : (r : Result (Timed × Option Left) ByteFault) → NextTold left r → r ≡ Ok (event, Some after)
-        → length after.rest < length left.rest
-    at (Ok x) told h =
-        let both : x ≡ (event, Some after) = cc in
-        let is : left_then left told.0 told.1 told.2 ≡ Some after =
-        ap (λ (p : Timed × Option Left). p.1) (sym told.4) ∙ ap (λ (p : Timed × Option Left). p.1) both in
-        let same = ended (ends_track told.1.message) (left_behind left told.0 told.1 told.2) is in
-        omega (
-          arith,
-          ap (λ (l : Left). length l.rest) same,
-          next_shorter left told.0 told.1 told.2 told.3,
-        )
-    at (Err f) told h = absurd cc
+    at : (t : Bool) {l : Left} → Some after ≡ cond t None (Some l) → after ≡ l
+    at true h = absurd cc
+    at false h = cc
 
 -- nothing is left to read
 next_none : (left : Left) → length left.rest ≤ 0 → next_in left ≡ Err (NoEnd left.end)

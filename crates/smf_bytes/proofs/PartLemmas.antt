@@ -87,22 +87,9 @@ pub bytes_shorter : (count : ℕ) (bytes body rest : List ℕ) → AreBytes coun
     → length rest + count ≡ length bytes
 bytes_shorter count bytes body rest h = omega (arith, h.long, ap length h.stand, length-append body rest)
 
--- a number is read of so many bytes
-number_read : (w : Width) (end : ℕ) (bytes : List ℕ)
-    → number_in w end bytes ≡ (bytes_in end (byte_len w) bytes >>= λ x. Ok (from_be_bytes w x.0, x.1))
-number_read w end bytes = at (ltb (length bytes) (byte_len w))
-  where
-    at : (t : Bool)
-        → cond {A = Result (ℕ × List ℕ) ByteFault} t (Err (Truncated end))
-        (Ok (from_be_bytes w (take (byte_len w) bytes), drop (byte_len w) bytes))
-        ≡ (cond {A = Result (List ℕ × List ℕ) ByteFault} t (Err (Truncated end))
-        (Ok (take (byte_len w) bytes, drop (byte_len w) bytes)) >>= λ x. Ok (from_be_bytes w x.0, x.1))
-    at true = refl
-    at false = refl
-
 pub number_tells : (w : Width) (end : ℕ) (bytes : List ℕ)
     → Tells (PartTold (IsNumber w bytes) (LacksBytes (byte_len w) end bytes)) (number_in w end bytes)
-number_tells w end bytes = rw (number_read w end bytes) (record { told = at body body_tells.told; only = only })
+number_tells w end bytes = record { told = at body body_tells.told; only = only }
   where
     body : Result (List ℕ × List ℕ) ByteFault
     body = bytes_in end (byte_len w) bytes

@@ -34,9 +34,7 @@ bytes_in end count bytes =
 
 -- a number of so many bytes, the greatest first
 abbrev pub number_in : Width → ℕ → List ℕ → Result (ℕ × List ℕ) ByteFault
-number_in w end bytes =
-    if nat_lt (length bytes) (byte_len w) then Err (Truncated end)
-    else Ok (from_be_bytes w (take (byte_len w) bytes), drop (byte_len w) bytes)
+number_in w end bytes = bytes_in end (byte_len w) bytes >>= λ x. Ok (from_be_bytes w x.0, x.1)
 
 -- a quantity of at most so many bytes more, of which the bytes before stand for `high`: a byte has seven bits,
 -- and its top bit is set where another byte follows; the whole quantity begins at `begin`

@@ -138,9 +138,7 @@ AreInTurn most ended (note ∷ notes) =
 pub turn_within : (most ended : ℕ) (notes : List Note) → AreInTurn most ended notes → ended ≤ most
 turn_within most ended [] turn = turn
 turn_within most ended (note ∷ notes) turn =
-    let later = turn_within most (note.start + note.len) notes turn.2 in
-    let first = turn.0 in
-    omega arith
+    omega (arith, turn.0, turn_within most (note.start + note.len) notes turn.2)
 
 -- the notes of a voice of a score
 abbrev pub voice_notes : List (List Cell) → ℕ → List Note
@@ -242,20 +240,8 @@ notes_play Behind number end ended running v (note ∷ notes) later few turn pla
 notes_short : (v ended at : ℕ) (cells : List Cell) → length (notes_bytes v ended (notes_of at cells)) ≤ 12 * length cells
 notes_short v ended at [] = omega arith
 notes_short v ended at (Start p ∷ cells) =
-    let wait = 240 * (at - ended) in
     let len = suc (holds_ahead cells) in
-    let on = (0x90 + v) ∷ midi_key p ∷ 0x40 ∷ [] in
-    let off = (0x80 + v) ∷ midi_key p ∷ 0x40 ∷ [] in
-    omega (
-      arith,
-      quantity_short wait,
-      quantity_short (240 * len),
-      notes_short v (at + len) (suc at) cells,
-      length-append (quantity wait) on,
-      length-append (quantity (240 * len)) off,
-      length-append (quantity wait ++ on) (quantity (240 * len) ++ off),
-      length-append (note_bytes v (at - ended) len (midi_key p)) (notes_bytes v (at + len) (notes_of (suc at) cells)),
-    )
+    omega (arith, quantity_short, length-append {A = ℕ}, notes_short v (at + len) (suc at) cells)
 notes_short v ended at (c ∷ cells) = omega (arith, notes_short v ended (suc at) cells)
 
 -- the bytes of a track of a voice
@@ -263,24 +249,14 @@ abbrev voice_body : List (List Cell) → ℕ → List ℕ
 voice_body columns v = notes_bytes v 0 (voice_notes columns v) ++ end_bytes
 
 body_short : (columns : List (List Cell)) (v : ℕ) → length (voice_body columns v) ≤ 12 * length columns + 4
-body_short columns v =
-    omega (
-      arith,
-      length-map columns (λ (col : List Cell). cell_in col v),
-      notes_short v 0 0 (line v columns),
-      length-append (notes_bytes v 0 (voice_notes columns v)) end_bytes,
-    )
+body_short columns v = omega (arith, length-map {A = List Cell} {B = Cell}, length-append {A = ℕ}, notes_short v 0 0 (line v columns))
 
 tracks_short : (columns : List (List Cell)) (v more : ℕ) → length columns ≤ 192
     → length (tracks_bytes columns v more) ≤ 4096 * more
 tracks_short columns v zero few = omega arith
 tracks_short columns v (suc more) few =
-    omega (
-      arith,
-      body_short columns v,
-      tracks_short columns (suc v) more few,
-      length-append (track_bytes columns v) (tracks_bytes columns (suc v) more),
-    )
+    let long = length-append (track_bytes columns v) (tracks_bytes columns (suc v) more) in
+    omega (arith, long, body_short columns v, tracks_short columns (suc v) more few)
 
 -- ---- the tracks
 
@@ -357,13 +333,7 @@ file_back score few low =
     behind = tempo_bytes ++ tracks
 
     short : length (smf_of score) ≤ 1048576
-    short =
-        omega (
-          arith,
-          tracks_short score.columns 0 voices few,
-          length-append (header_bytes (voices + 1) ++ tempo_bytes) tracks,
-          length-append (header_bytes (voices + 1)) tempo_bytes,
-        )
+    short = omega (arith, length-append {A = ℕ}, tracks_short score.columns 0 voices few)
 
     header : IsHeader (smf_of score) (file_header voices) behind
     header =

@@ -1,8 +1,9 @@
 -- The numbers, chunks and the header of a written file stand where the grammar wants them (`quantity_stands`,
 -- `track_stands`, `header_stands`).
-use Rattle.std.proofs.Common.{◌≡◌, ℕ, ◌+◌, ◌*◌, ◌/◌, ◌%◌, ◌<◌, ◌≤◌, ◌^◌, ◌⊎◌, inl, inr, Bool, true, false, List, [], ◌∷◌, ◌++◌, length, refl, sym, ◌∙◌, ap, arith, cond, ltb, append_assoc, subst}
+use Rattle.std.proofs.Common.{◌≡◌, ℕ, ◌+◌, ◌*◌, ◌/◌, ◌%◌, ◌<◌, ◌≤◌, ◌^◌, ◌⊎◌, inl, inr, List, [], ◌∷◌, ◌++◌, length, refl, sym, ◌∙◌, ap, arith, append_assoc, subst}
 use Rattle.std.specs.Int.{w16, w32, to_be_bytes}
 use Rattle.std.proofs.lemmas.Bool.{le-ltb, lt-ltb, cases_lt}
+use Rattle.std.proofs.lemmas.Bool.Decides.{nat_tests}
 use Rattle.std.proofs.lemmas.Nat.{from_be_bytes-to_be_bytes_2, from_be_bytes-to_be_bytes_4}
 use Rattle.smf_bytes.specs.Rows.{AreBytes, IsNumber, IsQuantity, IsRow, marked, value_of}
 use Rattle.smf_bytes.specs.Chunks.{chunk_row}
@@ -34,13 +35,7 @@ quantity_stands n more few = at (cases_lt n 128) (cases_lt n 16384)
         (omega arith)
 
 pub quantity_short : (n : ℕ) → length (quantity n) ≤ 3
-quantity_short n = at (ltb n 128) (ltb n 16384)
-  where
-    at : (a b : Bool) → length (cond a (n % 128 ∷ []) (cond b ((128 + n / 128) ∷ n % 128 ∷ [])
-        ((128 + n / 16384) ∷ (128 + n / 128 % 128) ∷ n % 128 ∷ []))) ≤ 3
-    at true b = omega arith
-    at false true = omega arith
-    at false false = omega arith
+quantity_short n = grind (arith, nat_tests)
 
 -- bytes that stand in front of others
 body_stands : (body more : List ℕ) → AreBytes (length body) (body ++ more) body more

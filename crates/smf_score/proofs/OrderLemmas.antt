@@ -1,11 +1,11 @@
 -- Notes have one order (`one_order`).
-use Rattle.std.proofs.Common.{◌≡◌, ℕ, suc, ◌+◌, ◌<◌, ◌≤◌, ◌⊎◌, inl, inr, Bool, true, false, List, [], ◌∷◌, length, get_or, refl, sym, ◌∙◌, ap, arith, cond}
-use Rattle.std.specs.Prelude.{filter}
-use Rattle.std.specs.Cmp.{IsStrictWeakOrder, nat_cmp_is, on_total, then_total}
-use Rattle.std.specs.declared.cmp.Ordering.TheVariants.{Equal, Greater}
+use Rattle.std.proofs.Common.{◌≡◌, ℕ, suc, ◌+◌, ◌≤◌, Bool, true, false, List, [], ◌∷◌, get_or, refl, sym, ◌∙◌, ap, arith, cond, subst}
+use Rattle.std.specs.Prelude.{All, filter}
+use Rattle.std.specs.Cmp.{IsStrictWeakOrder, on_total, then_total}
 use Rattle.std.specs.List.Sorted.{IsSortedBy, ties}
-use Rattle.std.proofs.lemmas.Bool.{cases_lt}
+use Rattle.std.proofs.lemmas.Bool.Decides.{nat_tests}
 use Rattle.std.proofs.lemmas.Cmp.{nat_cmp_total}
+use Rattle.std.proofs.lemmas.List.Elements.{All-filter, All-head}
 use Rattle.std.proofs.lemmas.List.MinMax.{ranks_by}
 use Rattle.std.proofs.lemmas.List.Sorted.{sorted_far}
 use Rattle.smf_score.specs.declared.played.Played.{Played}
@@ -26,17 +26,7 @@ not_own a = at (is_before a a) refl
 
 -- a note isn't before another of no higher voice, of the same voice if it doesn't start earlier
 pub not_before_from : (a b : Played) → b.rank ≤ a.rank → (b.rank ≡ a.rank → b.start ≤ a.start) → is_before a b ≡ false
-not_before_from a b higher late = at (cases_lt b.rank a.rank) (cases_lt b.start a.start)
-  where
-    at : (b.rank < a.rank) ⊎ (a.rank ≤ b.rank) → (b.start < a.start) ⊎ (a.start ≤ b.start) → is_before a b ≡ false
-    at (inl less) other = rw (← nat_cmp_is a.rank b.rank Greater less) refl
-    at (inr level) (inl later) =
-        let same : a.rank ≡ b.rank = omega (arith, higher, level) in
-        rw (← nat_cmp_is a.rank b.rank Equal same, ← nat_cmp_is a.start b.start Greater later) refl
-    at (inr level) (inr past) =
-        let same : a.rank ≡ b.rank = omega (arith, higher, level) in
-        let tick : a.start ≡ b.start = omega (arith, past, late (sym same)) in
-        rw (← nat_cmp_is a.rank b.rank Equal same, ← nat_cmp_is a.start b.start Equal tick) refl
+not_before_from a b higher late = grind (arith, nat_tests)
 
 abbrev Sorted : List Played → Type 0
 Sorted xs = IsSortedBy is_before xs
@@ -52,26 +42,13 @@ ties_own x = rw (not_own x) refl
 abbrev SameTies : List Played → List Played → Type 0
 SameTies xs ys = (x : Played) → filter (ties is_before x) xs ≡ filter (ties is_before x) ys
 
--- what is first among those that pass a test is one of all
-among : (test : Played → Bool) (x : Played) (rest ys : List Played) → x ∷ rest ≡ filter test ys
-    → (k : ℕ) × (k < length ys) × (get_or ys k x ≡ x)
-among test x rest [] e = absurd cc
-among test x rest (y ∷ ys) e = at (test y) e (among test x rest ys)
-  where
-    at : (t : Bool) → x ∷ rest ≡ cond t (y ∷ filter test ys) (filter test ys)
-        → (x ∷ rest ≡ filter test ys → (k : ℕ) × (k < length ys) × (get_or ys k x ≡ x))
-        → (k : ℕ) × (k < length (y ∷ ys)) × (get_or (y ∷ ys) k x ≡ x)
-    at true f later = (0, omega arith, cc)
-    at false f later = let found = later f in (suc found.0, omega (arith, found.1), found.2)
-
 -- a first note isn't before another first note
 not_first : (x y : Played) (xs ys : List Played) → Sorted (y ∷ ys) → SameTies (x ∷ xs) (y ∷ ys) → is_before x y ≡ false
 not_first x y xs ys sorted same =
-    let own : x ∷ filter (ties is_before x) xs ≡ filter (ties is_before x) (y ∷ ys) =
-    sym (rw (ties_own x) refl) ∙ same x in
-    let found = among (ties is_before x) x (filter (ties is_before x) xs) (y ∷ ys) own in
-    ap (λ (z : Played). is_before z y) (sym found.2)
-    ∙ sorted_far is_before before_order (y ∷ ys) sorted 0 found.0 x (omega arith) found.1
+    let own : filter (ties is_before x) (y ∷ ys) ≡ x ∷ filter (ties is_before x) xs = sym (same x) ∙ rw (ties_own x) refl in
+    let Late : Played → Type 0 = λ z. is_before z y ≡ false in
+    All-head Late x (filter (ties is_before x) xs) (subst (All Late) own (All-filter (ties is_before x) Late (y ∷ ys)
+    (λ i d within. sorted_far is_before before_order (y ∷ ys) sorted 0 i d (omega arith) within)))
 
 same_order : (xs ys : List Played) → Sorted xs → Sorted ys → SameTies xs ys → xs ≡ ys
 same_order [] [] a b same = refl
@@ -89,19 +66,13 @@ same_order (x ∷ xs) (y ∷ ys) a b same =
     sym (rw (ties_own x) refl) ∙ same x ∙ rw tied refl in
     let equal : x ≡ y = cc in
     let rest = same_order xs ys (sorted_tail x xs a) (sorted_tail y ys b)
-    (λ w. tail_ties w x xs ys (same w ∙ ap (λ (z : Played). filter (ties is_before w) (z ∷ ys)) (sym equal))) in
+    (λ w. behind (ties is_before w x) x _ _
+    (same w ∙ ap (λ (z : Played). filter (ties is_before w) (z ∷ ys)) (sym equal))) in
     ap (λ (z : Played). z ∷ xs) equal ∙ ap (λ (zs : List Played). y ∷ zs) rest
   where
-    tail_ties : (w x : Played) (xs ys : List Played) → filter (ties is_before w) (x ∷ xs)
-        ≡ filter (ties is_before w) (x ∷ ys)
-        → filter (ties is_before w) xs ≡ filter (ties is_before w) ys
-    tail_ties w x xs ys e = at (ties is_before w x) e
-      where
-        at : (t : Bool) → cond t (x ∷ filter (ties is_before w) xs) (filter (ties is_before w) xs)
-            ≡ cond t (x ∷ filter (ties is_before w) ys) (filter (ties is_before w) ys)
-            → filter (ties is_before w) xs ≡ filter (ties is_before w) ys
-        at true h = cc
-        at false h = h
+    behind : (t : Bool) (z : Played) (xs ys : List Played) → cond t (z ∷ xs) xs ≡ cond t (z ∷ ys) ys → xs ≡ ys
+    behind true z xs ys e = cc
+    behind false z xs ys e = e
 
 -- notes have one order
 pub one_order : (notes a b : List Played) → IsInOrder notes a → IsInOrder notes b → a ≡ b

@@ -1,9 +1,10 @@
 -- A note overlaps an earlier one just if it starts before the last of them has ended (`overlap_is`); the first voice of
 -- notes has those of the first rank (`run_is_voice`).
-use Rattle.std.proofs.Common.{◌≡◌, ℕ, suc, ◌+◌, ◌<◌, ◌≤◌, ◌⊎◌, inl, inr, Bool, true, false, List, [], ◌∷◌, drop, get_or, length, take, refl, sym, ◌∙◌, ap, arith, cond, eqb, ltb, max, add-one}
+use Rattle.std.proofs.Common.{◌≡◌, ℕ, suc, ◌+◌, ◌<◌, Bool, true, false, List, [], ◌∷◌, drop, get_or, length, take, refl, sym, ◌∙◌, ap, arith, cond, eqb, ltb, max, add-one}
 use Rattle.std.specs.Prelude.{◌||◌, reverse}
 use Rattle.std.specs.List.{prefix_len}
-use Rattle.std.proofs.lemmas.Bool.{cases_lt, eqb-true, le-ltb, lt-ltb}
+use Rattle.std.proofs.lemmas.Bool.{eqb-true, le-ltb}
+use Rattle.std.proofs.lemmas.Bool.Decides.{nat_tests}
 use Rattle.std.proofs.lemmas.List.{reverse-append, take_more}
 use Rattle.std.proofs.Math.Seq.{drop-cons}
 use Rattle.fux_pitch.specs.Spelling.{spelled}
@@ -12,12 +13,7 @@ use Rattle.smf_score.specs.Placing.{is_overlap, joined, latest, note_placed, pla
 
 -- a slot lies before the later of two just if it lies before one of them
 before_either : (s m e : ℕ) → (ltb s e || ltb s m) ≡ ltb s (max m e)
-before_either s m e = at (cases_lt s e) (cases_lt s m)
-  where
-    at : (s < e) ⊎ (e ≤ s) → (s < m) ⊎ (m ≤ s) → (ltb s e || ltb s m) ≡ ltb s (max m e)
-    at (inl early) other = rw (lt-ltb s e early, lt-ltb s (max m e) (omega arith)) refl
-    at (inr late) (inl early) = rw (le-ltb s e late, lt-ltb s m early, lt-ltb s (max m e) (omega arith)) refl
-    at (inr late) (inr later) = rw (le-ltb s e late, le-ltb s m later, le-ltb s (max m e) (omega arith)) refl
+before_either s m e = grind (arith, nat_tests)
 
 pub overlap_is : (division : ℕ) (notes : List Played) (note : Played)
     → is_overlap division notes note ≡ ltb (slot_of division note.start) (latest division notes)

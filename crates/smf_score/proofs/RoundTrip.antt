@@ -44,20 +44,14 @@ use Rattle.voice_lines.proofs.Scores.{score_own}
 last_most : (most ended : ℕ) (notes : List Note) → AreInTurn most ended notes → last_end (map placed_note notes) ≤ most
 last_most most ended [] turn = omega arith
 last_most most ended (note ∷ notes) turn =
-    omega (
-      arith,
-      last_most most (note.start + note.len) notes turn.2,
-      turn_within most (note.start + note.len) notes turn.2,
-    )
+    let after = note.start + note.len in
+    omega (arith, last_most most after notes turn.2, turn_within most after notes turn.2)
 
 voices_most : (columns : List (List Cell)) (vs : List ℕ) → last_slot (placed_voices columns vs) ≤ length columns
 voices_most columns [] = omega arith
 voices_most columns (v ∷ vs) =
-    omega (
-      arith,
-      voices_most columns vs,
-      last_most (length columns) 0 (voice_notes columns v) (voice_in_turn columns v (length columns) (omega arith)),
-    )
+    let turn = voice_in_turn columns v (length columns) (omega arith) in
+    omega (arith, voices_most columns vs, last_most (length columns) 0 (voice_notes columns v) turn)
 
 -- a cantus sounds to its end
 cantus_last : (at : ℕ) (cantus : List Pitch) → 1 ≤ length cantus
@@ -140,15 +134,9 @@ module _ (ex : Exercise) (score : Grid) (head : Head) (sounding : IsSounding ex 
       get_or-map-range_with_len (λ w. map placed_note (voice_notes score.columns w)) 0 ex.voices v v []
       sounding.valid.cantus_there (omega arith)
       ∙ ap (λ (cells : List Cell). map placed_note (notes_of 0 cells)) own_cantus in
-      omega (
-        arith,
-        whole,
-        sounding.valid.whole_cantus,
-        voices_most score.columns vs,
-        cantus_last 0 ex.cantus (omega (arith, sounding.valid.whole_cantus, sounding.valid.fewest_bars)),
-        end_within placed v,
-        ap last_end own,
-      )
+      let some : 1 ≤ length ex.cantus = omega (arith, sounding.valid.whole_cantus, sounding.valid.fewest_bars) in
+      let last = cantus_last 0 ex.cantus some in
+      omega (arith, whole, sounding.valid.whole_cantus, voices_most score.columns vs, last, end_within placed v, ap last_end own)
 
   -- what is read
   abbrev read_exercise : Exercise

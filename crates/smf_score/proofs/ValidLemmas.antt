@@ -1,11 +1,12 @@
 -- What is read (`exercise_is`) is a valid exercise (`with_valid`): the cells of its voices follow one another (`lines_follow`), and
 -- each free voice has a range line (`one_range`).
-use Rattle.std.proofs.Common.{◌≡◌, ◌≢◌, ℕ, zero, suc, ◌+◌, ◌-◌, ◌*◌, ◌<◌, ◌≤◌, ◌⊎◌, inl, inr, Bool, true, false, List, [], ◌∷◌, ◌++◌, length, get_or, drop, replicate, Option, Some, None, Ok, refl, sym, ◌∙◌, ap, subst, arith, cond, leb, eqb, ne_eqb, pos, ◌≤ℤ◌, unsigned_abs, lit≤, append_assoc, add-one}
+use Rattle.std.proofs.Common.{◌≡◌, ◌≢◌, ℕ, zero, suc, ◌+◌, ◌-◌, ◌*◌, ◌<◌, ◌≤◌, ◌⊎◌, inl, inr, Bool, true, false, List, [], ◌∷◌, ◌++◌, length, get_or, drop, replicate, Option, Some, None, Ok, refl, sym, ◌∙◌, ap, subst, arith, cond, eqb, ne_eqb, pos, ◌≤ℤ◌, unsigned_abs, lit≤, append_assoc, add-one}
 use Rattle.std.specs.Prelude.{All, IsSome, IsTrue, filter}
 use Rattle.std.specs.List.{AllByRecursion}
 use Rattle.std.specs.Option.{option_to_list}
 use Rattle.std.proofs.Math.Seq.{drop-cons}
-use Rattle.std.proofs.lemmas.Bool.{cases_lt, leb-true, leb-false, eq-eqb}
+use Rattle.std.proofs.lemmas.Bool.{cases_lt, eq-eqb}
+use Rattle.std.proofs.lemmas.Bool.Decides.{nat_tests}
 use Rattle.std.proofs.lemmas.Int.{ints}
 use Rattle.std.proofs.lemmas.List.{append-nil, drop_all, get_or-map, get_or-take, length-append, length-map, length-replicate}
 use Rattle.std.proofs.lemmas.List.Elements.{All-append, All-nil, All-cons, All-head, All-tail, filter-append}
@@ -62,19 +63,14 @@ lines_follow bars [] = tt
 lines_follow bars (notes ∷ voices) = (cells_follow 0 (8 * bars) notes Rest, lines_follow bars voices)
 
 pub cells_long : (at over : ℕ) (notes : List Placed) → over - at ≤ length (cells_of at over notes)
-cells_long at over [] = omega (arith, length-replicate {A = Cell} (over - at) Rest)
+cells_long at over [] = omega (arith, length-replicate {A = Cell})
 cells_long at over (note ∷ notes) =
-    let rests = replicate (note.start - at) Rest in
     let own = note_cells note.pitch (note.end - note.start) in
     let later = cells_of note.end over notes in
-    omega (
-      arith,
-      cells_long note.end over notes,
-      length-append rests (own ++ later),
-      length-append own later,
-      length-replicate {A = Cell} (note.start - at) Rest,
-      length-replicate {A = Cell} (note.end - note.start - 1) (Hold note.pitch),
-    )
+    let long = length-append (replicate (note.start - at) Rest) (own ++ later) in
+    let rests = length-replicate {A = Cell} (note.start - at) Rest in
+    let holds = length-replicate {A = Cell} (note.end - note.start - 1) (Hold note.pitch) in
+    omega (arith, cells_long note.end over notes, long, length-append own later, rests, holds)
 
 -- the cells of a voice that is there, in so many bars
 pub line_long : (bars v : ℕ) (notes : List (List Placed)) → v < length notes
@@ -121,15 +117,7 @@ ranges_over cantus v voices lines over = rw (drop_all v voices over) (append-nil
 
 rises : (p : Pitch) (o : Option RangeLine) → midi_key (low_with p o) ≤ midi_key (high_with p o)
 rises p None = omega arith
-rises p (Some line) =
-    at (leb (midi_key p) (midi_key line.low)) (leb (midi_key p) (midi_key line.high)) refl refl
-  where
-    at : (t s : Bool) → leb (midi_key p) (midi_key line.low) ≡ t → leb (midi_key p) (midi_key line.high) ≡ s
-        → midi_key (cond t p line.low) ≤ midi_key (cond s line.high p)
-    at true true e f = leb-true (midi_key p) (midi_key line.high) f
-    at true false e f = omega arith
-    at false true e f = omega (arith, leb-false _ _ e, leb-true _ _ f)
-    at false false e f = omega (arith, leb-false _ _ e)
+rises p (Some line) = grind (arith, nat_tests)
 
 free_fits : (ex : Exercise) (v : ℕ) (notes : List Placed) → v < ex.voices
     → All (IsRangeLine ex) (free_range ex.cantus_voice v notes)
