@@ -360,19 +360,19 @@ asked_of_cantus word rest =
     else (if bytes_eq word (codes "checkcantus") then asked_by check_cantus_words check_cantus_asked rest
     else None))
 
--- the same of a command on a mixed exercise, or on new cantus
+-- the same of `best`, of a command on a mixed exercise, or on new cantus
 abbrev pub asked_of_mixed : Text → List Text → Option Task
 asked_of_mixed word rest =
-    if bytes_eq word (codes "mixed") then asked_by mixed_words mixed_asked rest
+    if bytes_eq word (codes "best") then search_in (codes "best") best_asked rest
+    else (if bytes_eq word (codes "mixed") then asked_by mixed_words mixed_asked rest
     else (if bytes_eq word (codes "markmixed") then asked_by mark_mixed_words mark_mixed_asked rest
-    else asked_of_cantus word rest)
+    else asked_of_cantus word rest))
 
 -- what the words ask for, if they are of a command's form
 abbrev pub asked : List Text → Option Task
 asked [] = None
 asked (word ∷ rest) =
     if bytes_eq word (codes "compose") then search_in (codes "compose") compose_asked rest
-    else (if bytes_eq word (codes "best") then search_in (codes "best") best_asked rest
     else (if bytes_eq word (codes "certify") then asked_by certify_words certify_asked rest
     else (if bytes_eq word (codes "check") then asked_by check_words check_asked rest
     else (if bytes_eq word (codes "mark") then job_in (codes "mark") Mark rest
@@ -383,7 +383,7 @@ asked (word ∷ rest) =
     else (if bytes_eq word (codes "drill") then asked_by drill_words drill_asked rest
     else (if bytes_eq word (codes "class") then asked_by class_words class_asked rest
     else (if bytes_eq word (codes "canon") then asked_by canon_words canon_asked rest
-    else asked_of_mixed word rest)))))))))))
+    else asked_of_mixed word rest))))))))))
 
 -- ---- the files
 

@@ -146,7 +146,6 @@ pub fn parse(alloc: Global, words: &[String]) -> Result<Option<Command<'_>>, Mem
     };
     match word.as_str() {
         "compose" => parse_compose(alloc, rest),
-        "best" => parse_best(alloc, rest),
         "certify" => parse_certify(alloc, rest),
         "check" => parse_check(alloc, rest),
         "mark" => parse_job(alloc, "mark", Job::Mark, rest),
@@ -161,8 +160,8 @@ pub fn parse(alloc: Global, words: &[String]) -> Result<Option<Command<'_>>, Mem
     }
 }
 
-/// The command on a mixed exercise or on new cantus that a word and those behind it ask for, or none where they are of no such command's
-/// form.
+/// What a word and those behind it ask for, or none where they are of the form neither of `best` nor of a command on a mixed exercise or
+/// on new cantus.
 fn parse_of_mixed<'a>(
     alloc: Global,
     word: &str,
@@ -172,6 +171,7 @@ fn parse_of_mixed<'a>(
     ensures head { IfOk result (λ found. IfSome found HasHead) }
 {
     match word {
+        "best" => parse_best(alloc, rest),
         "mixed" => parse_mixed(alloc, rest),
         "markmixed" => parse_mark_mixed(alloc, rest),
         _ => parse_of_cantus(alloc, word, rest),
