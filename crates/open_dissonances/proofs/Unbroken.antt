@@ -1,5 +1,6 @@
--- A lawful setting breaks no rule of two voices that is asked, whichever way the two are named (`kept_by`). So a note of a free voice that
--- clashes with another voice meets what the rule asks of it (`clashes_well`).
+-- A lawful setting breaks neither S15 nor S20 where they are asked, whichever way two voices are named (`passing_kept`,
+-- `resolution_kept`). What such a rule asks wherever a voice clashes with another one is kept by a voice that isn't clean
+-- (`clashes_well`).
 use Rattle.std.specs.Prelude.{◌≡◌, ℕ, zero, suc, ◌<◌, ◌≤◌, ◌==◌, ◌&&◌, ◌||◌, Bool, true, false, not, nat_lt, List, [], ◌∷◌, Option, Some, None, find, length, pos, if◌then◌else◌, refl}
 use Rattle.std.specs.List.{list_any}
 use Rattle.std.proofs.Common.{ℤ, ◌-ℤ◌, ap, sym, ◌∙◌, subst, inl, inr, arith}

@@ -13,8 +13,8 @@ use Rattle.dissonance_rules.specs.Passing.{falls_by_step, has_ornaments, is_neig
 abbrev pub begins_in_clash : ℕ → List Cell → ℕ → Bool
 begins_in_clash i now v = not (begins_bar i) && starts (cell_in now v) && not (is_clean now v)
 
--- the pitch that the voice sounded before its newest note, if that note began within a bar in a clash. The columns go from the newest to
--- the oldest
+-- the pitch that the voice sounded before its newest note, if that note began within a bar in a clash. The columns go
+-- from the newest to the oldest
 abbrev pub passing_in : List (List Cell) → ℕ → Option Pitch
 passing_in [] v = None
 passing_in (col ∷ behind) v =

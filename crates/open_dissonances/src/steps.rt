@@ -1,6 +1,6 @@
 //! What is open behind a column, from what was open before it.
 
-ghost use Rattle.std.specs.Prelude.{◌≡◌, None, if◌then◌else◌};
+ghost use Rattle.std.specs.Prelude.{◌≡◌, ◌↔◌, ◌<◌, IsTrue, None, if◌then◌else◌};
 ghost use Rattle.fux_grid.specs.Exercises.{IsValid};
 ghost use Rattle.fux_grid.specs.declared.exercise.Exercise.{Exercise};
 ghost use Rattle.dissonance_rules.specs.Clashes.{passing_rule, resolution_rule};
@@ -13,7 +13,7 @@ use crate::asked::is_asked;
 use crate::ligatures::{is_unresolved, ligature_after};
 use crate::passing::{is_left_badly, is_reached_badly, passing_after};
 use fux_grid::{Cell, Exercise, species_of};
-use fux_pitch::Pitch;
+use fux_pitch::{Pitch, semitone};
 
 /// The dissonances of the species voice that wait for its next notes.
 #[derive(Clone, Copy, Debug, PartialEq, Eq)]
@@ -33,6 +33,30 @@ impl OpenDissonances {
             passing: None,
             ligature: None,
         }
+    }
+
+    /// Whether both say the same.
+    pub fn is_same(&self, other: &OpenDissonances) -> bool
+        ensures { IsTrue result ↔ (self.now ≡ other.now) }
+    {
+        *self == *other
+    }
+
+    /// A number by which it may be looked up.
+    pub fn key(&self) -> u64
+        ensures bound { result < 4294967296 }
+    {
+        65_536 * key_of(self.passing) + key_of(self.ligature)
+    }
+}
+
+/// A number by which a pitch may be looked up, 0 for none.
+fn key_of(pitch: Option<Pitch>) -> u64
+    ensures bound { result < 65536 }
+{
+    match pitch {
+        Some(pitch) => 256 * u64::from(semitone(pitch)) + u64::from(pitch.degree()),
+        None => 0,
     }
 }
 

@@ -1,0 +1,8 @@
+//! Worked cases of what is open of the species voice, with answers that were worked out by hand. They stand in a crate above the steps that
+//! they try, so that what carries the proofs is proved once.
+#![tactic(auto)]
+
+#[cfg(test)]
+mod steps;
+#[cfg(test)]
+mod table;
