@@ -1,5 +1,5 @@
 -- In a lawful setting no step is refused, and each leads to what is open behind its column (`keeps_shapes`).
-use Rattle.std.specs.Prelude.{◌≡◌, ℕ, ◌+◌, ◌==◌, ◌&&◌, Bool, true, false, not, List, [], ◌∷◌, ◌++◌, Some, None, length, nat_eq, bit_and, if◌then◌else◌, refl}
+use Rattle.std.specs.Prelude.{◌≡◌, ℕ, ◌+◌, ◌≤◌, ◌==◌, ◌&&◌, Bool, true, false, not, List, [], ◌∷◌, ◌++◌, Some, None, length, nat_eq, bit_and, if◌then◌else◌, refl}
 use Rattle.std.specs.List.{starts_with}
 use Rattle.std.proofs.Common.{ap, sym, ◌∙◌, subst, arith}
 use Rattle.std.proofs.lemmas.List.{append_assoc, length-append}
@@ -61,7 +61,7 @@ module _ (ex : Exercise) (p : Columns) (col : List Cell) where
       at true b x y same = ap (λ n. if b then n else 0) (same refl)
       at false b x y same = refl
 
-  module _ (more : Columns) (valid : IsValid ex) (lawful : IsLawful ex (p ++ col ∷ more)) where
+  module _ (more : Columns) (few : ex.voices ≤ 4) (free : IsFree ex v) (lawful : IsLawful ex (p ++ col ∷ more)) where
     abbrev s : Columns
     s = p ++ col ∷ more
 
@@ -69,8 +69,8 @@ module _ (ex : Exercise) (p : Columns) (col : List Cell) where
     orderly =
         let O : Columns → Type 0 = λ t. IsOrderly ex t in
         orderly-fewer ex grown more
-        (subst O (sym (append_assoc p (col ∷ []) more)) (alive_orderly ex valid.most_voices s
-        (alive_if_unbroken ex valid.most_voices s lawful.setting lawful.unbroken)))
+        (subst O (sym (append_assoc p (col ∷ []) more)) (alive_orderly ex few s
+        (alive_if_unbroken ex few s lawful.setting lawful.unbroken)))
 
     -- the letters of the newest bar begin some shape
     some_begun : (shapes_begun ex v grown == 0) ≡ false
@@ -78,9 +78,6 @@ module _ (ex : Exercise) (p : Columns) (col : List Cell) where
         empty_set (λ shape. starts_with nat_eq shape (letters_of v (newest_columns grown)))
         (voice_shapes ex v (newest_bar grown))
         ∙ ap not (orderly v (newest_bar grown) free (omega arith, omega (arith, length-append p (col ∷ []))))
-      where
-        free : IsFree ex v
-        free = record { there = valid.species_there; no_cantus = valid.differ }
 
     pub keeps_shapes : shapes_next ex (length p) (open_shapes_in ex p) col ≡ Some (open_shapes_in ex grown)
     keeps_shapes =
@@ -104,5 +101,6 @@ module _ (ex : Exercise) (p : Columns) (col : List Cell) where
 pub follows_lawful : (ex : Exercise) → IsValid ex → FollowsLawful ex
 follows_lawful ex valid = record {
   first = open_shapes-none ex;
-  next = λ p col more lawful. keeps_shapes ex p col more valid lawful;
+  next = λ p col more lawful. keeps_shapes ex p col more valid.most_voices
+      (record { there = valid.species_there; no_cantus = valid.differ }) lawful;
 }

@@ -4,9 +4,6 @@ use Rattle.std.specs.Bool.{OnTrue}
 use Rattle.std.specs.Borrow.{Bor}
 use Rattle.std.proofs.Common.{ap, sym, ◌∙◌, subst}
 use Rattle.arrayvec.specs.ArrayVec.{ArrayVec}
-use Rattle.fux_pitch.specs.declared.pitch.Pitch.{Pitch}
-use Rattle.fux_pitch.specs.Pitch.{same_pitch}
-use Rattle.fux_pitch.proofs.PitchLemmas.{equal_from_test}
 use Rattle.fux_grid.specs.declared.cell.Cell.{Cell}
 use Rattle.fux_grid.specs.declared.exercise.Exercise.{Exercise}
 use Rattle.fux_grid.specs.Columns.{ColumnFollows, cells_before}
@@ -16,6 +13,8 @@ use Rattle.chain_sums.specs.Chains.{cells_of}
 use Rattle.fux_judge.specs.Links.{given, link_of}
 use Rattle.open_dissonances.specs.declared.steps.OpenDissonances.{OpenDissonances}
 use Rattle.open_dissonances.specs.Steps.{open_after}
+use Rattle.open_shapes.specs.declared.steps.OpenShapes.{OpenShapes}
+use Rattle.open_shapes.specs.Steps.{shapes_next}
 use Rattle.species_space.specs.Leaves.{follows_from_test, test_from_follows}
 use Rattle.species_space.specs.Paths.{column_follows}
 use Rattle.priced_floors.specs.declared.kept.Kept.{Kept}
@@ -50,38 +49,54 @@ module _ (ex : Exercise) (sheet : Sheet) (i : ℕ) (kept : Kept) (k : ℕ) (prev
 
   pub step_by : (told : Bool) → (IsTrue told ↔ ColumnFollows (cells_before prev) col) → told ≡ true
       → (waiting : Option OpenDissonances) → waiting ≡ open_after ex i kept.waiting (cells_before prev) col
+      → (shapes : Option OpenShapes) → shapes ≡ shapes_next ex i kept.shapes col
       → (cost : Option ℕ) → cost ≡ link_of ex sheet i (given prev) col
-      → step_of ex sheet i kept k ≡ kept_with k waiting cost
+      → step_of ex sheet i kept k ≡ kept_with k waiting shapes cost
   unfolding step_of
-  step_by told same holds waiting opens cost is =
+  step_by told same holds waiting waits shapes fits cost is =
       ap (λ b. if b then step_on ex sheet i kept k (column_kept ex i kept) else None)
       (sym (ap (λ c. column_follows c (slice_index_or (menu_of ex i) k [])) same_before)
       ∙ sym (ap (column_follows (cells_before prev)) is_col)
       ∙ test_from_follows (cells_before prev) col (same.0 holds))
-      ∙ ap (λ o. kept_with k o (link_of ex sheet i (column_kept ex i kept) (slice_index_or (menu_of ex i) k [])))
+      ∙ ap (λ o. kept_with k o (shapes_next ex i kept.shapes (slice_index_or (menu_of ex i) k []))
+      (link_of ex sheet i (column_kept ex i kept) (slice_index_or (menu_of ex i) k [])))
       (sym (ap (open_after ex i kept.waiting (cells_of (column_kept ex i kept))) is_col)
-      ∙ sym (ap (λ c. open_after ex i kept.waiting c col) same_before) ∙ sym opens)
-      ∙ ap (kept_with k waiting)
+      ∙ sym (ap (λ c. open_after ex i kept.waiting c col) same_before) ∙ sym waits)
+      ∙ ap (λ o. kept_with k waiting o
+      (link_of ex sheet i (column_kept ex i kept) (slice_index_or (menu_of ex i) k [])))
+      (sym (ap (shapes_next ex i kept.shapes) is_col) ∙ sym fits)
+      ∙ ap (kept_with k waiting shapes)
       (sym (ap (λ c. link_of ex sheet i (column_kept ex i kept) c) is_col)
       ∙ sym (ap (λ c. link_of ex sheet i c col) is_kept) ∙ sym is)
 
--- pitches are the same where the test tells so
-pub some_same : (p q : Pitch) (told : Bool) → told ≡ same_pitch p q → OnTrue told (Some p ≡ Some q)
-some_same p q true e = ap (λ x. Some x) (equal_from_test p q (sym e))
-some_same p q false e = tt
+-- a part of a step by what its code was handed
+module _ (ex given_ex : Exercise) (is_ex : given_ex ≡ ex) (i : ℕ) (kept : Kept) (col given_col : List Cell)
+    (is_col : given_col ≡ col) where
+  pub waits_by : (before given_before : List Cell) → given_before ≡ before → (waiting : Option OpenDissonances)
+      → waiting ≡ open_after given_ex i kept.waiting given_before given_col
+      → waiting ≡ open_after ex i kept.waiting before col
+  waits_by before given_before is_before waiting is =
+      is ∙ ap (λ (e : Exercise). open_after e i kept.waiting given_before given_col) is_ex
+      ∙ ap (λ b. open_after ex i kept.waiting b given_col) is_before
+      ∙ ap (open_after ex i kept.waiting before) is_col
+
+  pub fits_by : (shapes : Option OpenShapes) → shapes ≡ shapes_next given_ex i kept.shapes given_col
+      → shapes ≡ shapes_next ex i kept.shapes col
+  fits_by shapes is =
+      is ∙ ap (λ (e : Exercise). shapes_next e i kept.shapes given_col) is_ex ∙ ap (shapes_next ex i kept.shapes) is_col
 
 -- what is kept is the same where its parts are
 pub same_kept : (one other : Kept) (a b c : Bool) → OnTrue a (one.column ≡ other.column)
-    → OnTrue b (one.waiting.passing ≡ other.waiting.passing)
-    → OnTrue c (one.waiting.ligature ≡ other.waiting.ligature) → OnTrue (a && (b && c)) (one ≡ other)
-same_kept one other true true true number passing ligature =
-    let K : Option ℕ → Option Pitch → Option Pitch → Kept = λ n p q. record {
+    → (IsTrue b ↔ (one.waiting ≡ other.waiting)) → (IsTrue c ↔ (one.shapes ≡ other.shapes))
+    → OnTrue (a && (b && c)) (one ≡ other)
+same_kept one other true true true number waiting shapes =
+    let K : Option ℕ → OpenDissonances → OpenShapes → Kept = λ n w s. record {
       column = n;
-      waiting = record { passing = p; ligature = q };
+      waiting = w;
+      shapes = s;
     } in
-    ap (λ n. K n one.waiting.passing one.waiting.ligature) number
-    ∙ ap (λ p. K other.column p one.waiting.ligature) passing
-    ∙ ap (K other.column other.waiting.passing) ligature
-same_kept one other true true false number passing ligature = tt
-same_kept one other true false c number passing ligature = tt
-same_kept one other false b c number passing ligature = tt
+    ap (λ n. K n one.waiting one.shapes) number ∙ ap (λ w. K other.column w one.shapes) (waiting.0 refl)
+    ∙ ap (K other.column other.waiting) (shapes.0 refl)
+same_kept one other true true false number waiting shapes = tt
+same_kept one other true false c number waiting shapes = tt
+same_kept one other false b c number waiting shapes = tt

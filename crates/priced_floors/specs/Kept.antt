@@ -8,6 +8,8 @@ use Rattle.fux_judge.specs.Links.{link_of}
 use Rattle.chain_sums.specs.Chains.{cells_of}
 use Rattle.open_dissonances.specs.declared.steps.OpenDissonances.{OpenDissonances}
 use Rattle.open_dissonances.specs.Steps.{open_after, open_in}
+use Rattle.open_shapes.specs.declared.steps.OpenShapes.{OpenShapes}
+use Rattle.open_shapes.specs.Steps.{open_shapes_in, shapes_next}
 use Rattle.species_space.specs.Paths.{column_follows, prefix_at}
 use Rattle.priced_floors.specs.declared.kept.Kept.{Kept}
 
@@ -19,7 +21,11 @@ last_number (k ∷ l ∷ path) = last_number (l ∷ path)
 
 -- what is kept of a path
 abbrev pub kept_of : Exercise → List ℕ → Kept
-kept_of ex path = record { column = last_number path; waiting = open_in ex (prefix_at ex path) }
+kept_of ex path = record {
+  column = last_number path;
+  waiting = open_in ex (prefix_at ex path);
+  shapes = open_shapes_in ex (prefix_at ex path);
+}
 
 -- the column that is kept where so many were chosen, if one is
 abbrev pub column_kept : Exercise → ℕ → Kept → Option (List Cell)
@@ -27,16 +33,19 @@ column_kept ex zero kept = None
 column_kept ex (suc i) kept = option_and_then (slice_get (menu_of ex i)) kept.column
 
 -- what is kept behind a column, and what the step costs; none where no lawful setting goes on so
-abbrev pub kept_with : ℕ → Option OpenDissonances → Option ℕ → Option (Kept × ℕ)
-kept_with k None cost = None
-kept_with k (Some waiting) None = None
-kept_with k (Some waiting) (Some cost) = Some (record { column = Some k; waiting = waiting }, cost)
+abbrev pub kept_with : ℕ → Option OpenDissonances → Option OpenShapes → Option ℕ → Option (Kept × ℕ)
+kept_with k None shapes cost = None
+kept_with k (Some waiting) None cost = None
+kept_with k (Some waiting) (Some shapes) None = None
+kept_with k (Some waiting) (Some shapes) (Some cost) =
+    Some (record { column = Some k; waiting = waiting; shapes = shapes }, cost)
 
 -- the step of a number, whose column follows: it breaks no rule by what is open, makes no strict break with the one before it, and
 -- settles at least what the two cost
 abbrev pub step_on : Exercise → Sheet → ℕ → Kept → ℕ → Option (List Cell) → Option (Kept × ℕ)
 step_on ex sheet i kept k before =
     kept_with k (open_after ex i kept.waiting (cells_of before) (slice_index_or (menu_of ex i) k []))
+    (shapes_next ex i kept.shapes (slice_index_or (menu_of ex i) k []))
     (link_of ex sheet i before (slice_index_or (menu_of ex i) k []))
 
 -- the step of a number, where its column follows

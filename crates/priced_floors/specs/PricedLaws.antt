@@ -18,6 +18,8 @@ use Rattle.fux_judge.specs.Lawful.{IsLawful}
 use Rattle.fux_judge.specs.Penalties.{paid}
 use Rattle.open_dissonances.proofs.GoesOn.{follows_where}
 use Rattle.open_dissonances.specs.Steps.{HasVoices, open_after, open_in}
+use Rattle.open_shapes.specs.Steps.{open_shapes_in, shapes_next}
+use Rattle.open_shapes.proofs.KeepsShapes.{keeps_shapes}
 use Rattle.species_space.specs.Grows.{paths_grow}
 use Rattle.species_space.specs.Paths.{column_at, columns_on, length-columns_on, live_at, prefix_at}
 use Rattle.tree_search.specs.Answer.{IsLeaf}
@@ -107,10 +109,14 @@ module _ (ex : Exercise) (sheet : Sheet) (charges : Charges) (voices : HasVoices
       (leaf_lawful ex sheet voices.most_voices ((path ++ child ∷ []) ++ rest) value leaf) in
       let opens = (follows_where ex voices).next (prefix_at ex path) (column_at ex path child)
       (columns_on ex (0 + length (path ++ child ∷ [])) rest) lawful in
+      let fits = keeps_shapes ex (prefix_at ex path) (column_at ex path child)
+      (columns_on ex (0 + length (path ++ child ∷ [])) rest) voices.most_voices
+      (record { there = voices.species_there; no_cantus = voices.differ }) lawful in
       let size : length (prefix_at ex path) ≡ length path = length-columns_on ex 0 path in
       let step = live_step ex sheet path child (some_from (live_at ex sheet (path ++ child ∷ [])) own.0 own.1)
       (ap (λ i. open_after ex i (open_in ex (prefix_at ex path)) (newest_column (reverse (prefix_at ex path)))
-      (column_at ex path child)) (sym size) ∙ opens) in
+      (column_at ex path child)) (sym size) ∙ opens)
+      (ap (λ i. shapes_next ex i (open_shapes_in ex (prefix_at ex path)) (column_at ex path child)) (sym size) ∙ fits) in
       record {
         within = (paths_grow ex sheet path child own.0 own.1).within;
         cost = step.cost;

@@ -15,8 +15,9 @@ use crate::charges::{Charges, debt_in, is_summit, toll_of};
 use crate::kept::Kept;
 use fux_grid::{Column, Exercise, follows};
 use fux_judge::{column_cost, pair_cost};
-use fux_pitch::{Memory, Pitch, semitone};
+use fux_pitch::Memory;
 use open_dissonances::{OpenDissonances, open_after};
+use open_shapes::{OpenShapes, shapes_next};
 use penalty_sheet::Sheet;
 use priced_paths::Pricing;
 use rule_law::cells_of;
@@ -68,17 +69,6 @@ fn is_same_number(one: Option<u16>, other: Option<u16>) -> bool
     }
 }
 
-/// Whether two pitches that may be lacking are.
-fn is_same_pitch(one: Option<Pitch>, other: Option<Pitch>) -> bool
-    ensures { OnTrue result (one ≡ other) }
-{
-    match (one, other) {
-        (None, None) => true,
-        (Some(p), Some(q)) => p == q,
-        _ => false,
-    }
-}
-
 /// Whether all three are true.
 fn all_three(a: bool, b: bool, c: bool) -> bool
     ensures { result ≡ (a && (b && c)) }
@@ -86,14 +76,11 @@ fn all_three(a: bool, b: bool, c: bool) -> bool
     a && (b && c)
 }
 
-/// A number of a pitch that may be lacking.
-fn key_of(pitch: Option<Pitch>) -> u64
-    ensures { result < 128 }
-{
-    match pitch {
-        Some(p) => u64::from(semitone(p)).min(127),
-        None => 0,
-    }
+/// A number made of two, in which each of them counts.
+fn mixed(first: u64, second: u64) -> u64 {
+    first
+        .wrapping_mul(0x9e37_79b9_7f4a_7c15)
+        .wrapping_add(second)
 }
 
 /// The debt of each case.
@@ -190,6 +177,7 @@ impl<'a> Pricing for PricedSpace<'a> {
         Kept {
             column: None,
             waiting: OpenDissonances::none(),
+            shapes: OpenShapes::none(),
         }
     }
 
@@ -204,17 +192,24 @@ impl<'a> Pricing for PricedSpace<'a> {
             return None;
         }
         let ex = self.space.exercise();
-        let waiting = open_after(ex, depth, &kept.waiting, cells_of(prev), next.as_slice())?;
+        let cells = next.as_slice();
+        let waiting = open_after(ex, depth, &kept.waiting, cells_of(prev), cells)?;
+        let shapes = shapes_next(ex, depth, &kept.shapes, cells)?;
         let cost = cost_between(ex, self.space.sheet(), depth, prev, next)?;
         let column = Some(label as u16);
-        Some((Kept { column, waiting }, cost))
+        let longer = Kept {
+            column,
+            waiting,
+            shapes,
+        };
+        Some((longer, cost))
     }
 
     fn is_same(&self, one: &Kept, other: &Kept) -> bool {
         let number = is_same_number(one.column, other.column);
-        let passing = is_same_pitch(one.waiting.passing, other.waiting.passing);
-        let ligature = is_same_pitch(one.waiting.ligature, other.waiting.ligature);
-        all_three(number, passing, ligature)
+        let waiting = one.waiting.is_same(&other.waiting);
+        let shapes = one.shapes.is_same(&other.shapes);
+        all_three(number, waiting, shapes)
     }
 
     fn key(&self, kept: &Kept) -> u64 {
@@ -222,8 +217,7 @@ impl<'a> Pricing for PricedSpace<'a> {
             Some(number) => u64::from(number) + 1,
             None => 0,
         };
-        let waiting = 128 * key_of(kept.waiting.passing) + key_of(kept.waiting.ligature);
-        column * 16_384 + waiting
+        mixed(mixed(column, kept.waiting.key()), kept.shapes.key())
     }
 
     fn cases(&self) -> usize {

@@ -5,6 +5,5 @@ use Rattle.priced_floors.proofs.pricing.PricedSpacePricing.is_same.Goals as goal
 
 pub returns : goal.returns
 returns c = rw c.all_three.ensures
-    (same_kept c.args.one.now c.args.other.now c.is_same_number-number.result c.is_same_pitch-passing.result
-    c.is_same_pitch-ligature.result c.is_same_number-number.ensures c.is_same_pitch-passing.ensures
-    c.is_same_pitch-ligature.ensures)
+    (same_kept c.args.one.now c.args.other.now c.is_same_number-number.result c.is_same-waiting.result
+    c.is_same-shapes.result c.is_same_number-number.ensures c.is_same-waiting.ensures c.is_same-shapes.ensures)

@@ -2,10 +2,16 @@ use Rattle.std.proofs.Common.{ap, sym, ◌∙◌}
 use Rattle.std.specs.Prelude.{None}
 use Rattle.open_dissonances.proofs.GoesOn.{open-none}
 use Rattle.open_dissonances.specs.declared.steps.OpenDissonances.{OpenDissonances}
+use Rattle.open_dissonances.specs.Steps as dissonances
+use Rattle.open_shapes.proofs.KeepsShapes.{open_shapes-none}
+use Rattle.open_shapes.specs.declared.steps.OpenShapes.{OpenShapes}
+use Rattle.open_shapes.specs.Steps.{open_shapes_in}
 use Rattle.priced_floors.specs.declared.kept.Kept.{Kept}
 use Rattle.priced_floors.proofs.pricing.PricedSpacePricing.start.Goals as goal
 
 pub returns : goal.returns
 returns c =
-    let K : OpenDissonances → Kept = λ o. record { column = None; waiting = o } in
-    ap K (c.none.ensures ∙ sym (open-none c.args.self.now.space.now.exercise))
+    let ex = c.args.self.now.space.now.exercise in
+    let K : OpenDissonances → OpenShapes → Kept = λ w s. record { column = None; waiting = w; shapes = s } in
+    ap (λ w. K w c.none-shapes.result) (c.none-waiting.ensures ∙ sym (open-none ex))
+    ∙ ap (K (dissonances.open_in ex [])) (c.none-shapes.ensures ∙ sym (open_shapes-none ex))

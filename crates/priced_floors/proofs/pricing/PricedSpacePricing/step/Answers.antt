@@ -6,8 +6,8 @@ use Rattle.fux_grid.specs.declared.exercise.Exercise.{Exercise}
 use Rattle.penalty_sheet.specs.declared.sheet.Sheet.{Sheet}
 use Rattle.floor_tables.specs.Tables.{Task}
 use Rattle.fux_judge.specs.Links.{given, link_of}
-use Rattle.open_dissonances.specs.Steps.{open_after}
-use Rattle.priced_floors.proofs.Steps.{no_step, step_by}
+use Rattle.open_shapes.specs.Steps.{shapes_next}
+use Rattle.priced_floors.proofs.Steps.{fits_by, no_step, step_by, waits_by}
 use Rattle.priced_floors.proofs.pricing.PricedSpacePricing.step.Goals as goal
 
 pub returns-then-not-follows : goal.returns-then-not-follows
@@ -29,12 +29,33 @@ returns-in_err-waiting c =
     c.column_kept-prev.ensures
     (c.column-next.ensures ∙ ap (λ (t : Task). slice_index_or (menu_of t.exercise c.args.depth) c.args.label [])
     c.tables.ensures.value)
-    c.follows.result c.follows.ensures c.if-not-follows.false None
-    (sym (c.in_err-waiting.was) ∙ c.open_after.ensures
-    ∙ ap (λ (ex : Exercise). open_after ex c.args.depth c.args.kept.now.waiting c.cells_of.result.now c.as_slice.result.now)
-    c.exercise-ex.ensures.value
-    ∙ ap (λ b. open_after space.exercise c.args.depth c.args.kept.now.waiting b c.as_slice.result.now) c.cells_of.ensures
-    ∙ ap (open_after space.exercise c.args.depth c.args.kept.now.waiting (cells_before prev)) c.as_slice.ensures.value)
+    c.follows.result c.follows.ensures c.if-not-follows.false
+    None
+    (waits_by space.exercise c.exercise-ex.result.now c.exercise-ex.ensures.value c.args.depth c.args.kept.now col
+    c.as_slice-cells.result.now c.as_slice-cells.ensures.value
+    (cells_before prev) c.cells_of.result.now c.cells_of.ensures None (sym (c.in_err-waiting.was) ∙ c.open_after.ensures))
+    (shapes_next space.exercise c.args.depth c.args.kept.now.shapes col) refl
+    (link_of space.exercise space.sheet c.args.depth (given prev) col) refl)
+
+pub returns-in_err-shapes : goal.returns-in_err-shapes
+returns-in_err-shapes c =
+    let space = c.args.self.now.space.now in
+    let prev = c.column_kept-prev.result in
+    let col = c.column-next.result.now.items in
+    c.from_residual-in_err-shapes.ensures
+    ∙ sym (step_by space.exercise space.sheet c.args.depth c.args.kept.now c.args.label prev col
+    c.column_kept-prev.ensures
+    (c.column-next.ensures ∙ ap (λ (t : Task). slice_index_or (menu_of t.exercise c.args.depth) c.args.label [])
+    c.tables.ensures.value)
+    c.follows.result c.follows.ensures c.if-not-follows.false
+    (Some c.in_ok-waiting.waiting)
+    (waits_by space.exercise c.exercise-ex.result.now c.exercise-ex.ensures.value c.args.depth c.args.kept.now col
+    c.as_slice-cells.result.now c.as_slice-cells.ensures.value
+    (cells_before prev) c.cells_of.result.now c.cells_of.ensures (Some c.in_ok-waiting.waiting) (sym (c.in_ok-waiting.was) ∙ c.open_after.ensures))
+    None
+    (fits_by space.exercise c.exercise-ex.result.now c.exercise-ex.ensures.value c.args.depth c.args.kept.now col
+    c.as_slice-cells.result.now c.as_slice-cells.ensures.value None
+    (sym (c.in_err-shapes.was) ∙ c.shapes_next.ensures))
     (link_of space.exercise space.sheet c.args.depth (given prev) col) refl)
 
 pub returns-in_err-cost : goal.returns-in_err-cost
@@ -47,12 +68,15 @@ returns-in_err-cost c =
     c.column_kept-prev.ensures
     (c.column-next.ensures ∙ ap (λ (t : Task). slice_index_or (menu_of t.exercise c.args.depth) c.args.label [])
     c.tables.ensures.value)
-    c.follows.result c.follows.ensures c.if-not-follows.false (Some c.in_ok-waiting.waiting)
-    (sym (c.in_ok-waiting.was) ∙ c.open_after.ensures
-    ∙ ap (λ (ex : Exercise). open_after ex c.args.depth c.args.kept.now.waiting c.cells_of.result.now c.as_slice.result.now)
-    c.exercise-ex.ensures.value
-    ∙ ap (λ b. open_after space.exercise c.args.depth c.args.kept.now.waiting b c.as_slice.result.now) c.cells_of.ensures
-    ∙ ap (open_after space.exercise c.args.depth c.args.kept.now.waiting (cells_before prev)) c.as_slice.ensures.value)
+    c.follows.result c.follows.ensures c.if-not-follows.false
+    (Some c.in_ok-waiting.waiting)
+    (waits_by space.exercise c.exercise-ex.result.now c.exercise-ex.ensures.value c.args.depth c.args.kept.now col
+    c.as_slice-cells.result.now c.as_slice-cells.ensures.value
+    (cells_before prev) c.cells_of.result.now c.cells_of.ensures (Some c.in_ok-waiting.waiting) (sym (c.in_ok-waiting.was) ∙ c.open_after.ensures))
+    (Some c.in_ok-shapes.shapes)
+    (fits_by space.exercise c.exercise-ex.result.now c.exercise-ex.ensures.value c.args.depth c.args.kept.now col
+    c.as_slice-cells.result.now c.as_slice-cells.ensures.value (Some c.in_ok-shapes.shapes)
+    (sym (c.in_ok-shapes.was) ∙ c.shapes_next.ensures))
     None
     (sym (c.in_err-cost.was) ∙ c.cost_between.ensures
     ∙ ap (λ (ex : Exercise). link_of ex c.sheet.result.now c.args.depth (given prev) col) c.exercise-ex.ensures.value
@@ -67,12 +91,15 @@ returns c =
     c.column_kept-prev.ensures
     (c.column-next.ensures ∙ ap (λ (t : Task). slice_index_or (menu_of t.exercise c.args.depth) c.args.label [])
     c.tables.ensures.value)
-    c.follows.result c.follows.ensures c.if-not-follows.false (Some c.in_ok-waiting.waiting)
-    (sym (c.in_ok-waiting.was) ∙ c.open_after.ensures
-    ∙ ap (λ (ex : Exercise). open_after ex c.args.depth c.args.kept.now.waiting c.cells_of.result.now c.as_slice.result.now)
-    c.exercise-ex.ensures.value
-    ∙ ap (λ b. open_after space.exercise c.args.depth c.args.kept.now.waiting b c.as_slice.result.now) c.cells_of.ensures
-    ∙ ap (open_after space.exercise c.args.depth c.args.kept.now.waiting (cells_before prev)) c.as_slice.ensures.value)
+    c.follows.result c.follows.ensures c.if-not-follows.false
+    (Some c.in_ok-waiting.waiting)
+    (waits_by space.exercise c.exercise-ex.result.now c.exercise-ex.ensures.value c.args.depth c.args.kept.now col
+    c.as_slice-cells.result.now c.as_slice-cells.ensures.value
+    (cells_before prev) c.cells_of.result.now c.cells_of.ensures (Some c.in_ok-waiting.waiting) (sym (c.in_ok-waiting.was) ∙ c.open_after.ensures))
+    (Some c.in_ok-shapes.shapes)
+    (fits_by space.exercise c.exercise-ex.result.now c.exercise-ex.ensures.value c.args.depth c.args.kept.now col
+    c.as_slice-cells.result.now c.as_slice-cells.ensures.value (Some c.in_ok-shapes.shapes)
+    (sym (c.in_ok-shapes.was) ∙ c.shapes_next.ensures))
     (Some c.in_ok-cost.cost)
     (sym (c.in_ok-cost.was) ∙ c.cost_between.ensures
     ∙ ap (λ (ex : Exercise). link_of ex c.sheet.result.now c.args.depth (given prev) col) c.exercise-ex.ensures.value
