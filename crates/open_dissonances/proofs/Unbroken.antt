@@ -120,7 +120,7 @@ unbroken true h = h
 unbroken false h = refl
 
 module _ (ex : Exercise) (few : ex.voices ≤ 4) (s : Columns) (lawful : IsLawful ex s) (i : ℕ) (here : i < length s) where
-  unbroken_for : (rule : ℕ) → list_any (λ x. rule == x) rules_read ≡ true → is_asked ex rule ≡ true → (voices : ℕ)
+  pub unbroken_for : (rule : ℕ) → list_any (λ x. rule == x) rules_read ≡ true → is_asked ex rule ≡ true → (voices : ℕ)
       → list_any (λ x. voices == x) all_sets ≡ true → is_broken rule ex voices s i ≡ false
   unbroken_for rule read asked voices set =
       unbroken (is_broken rule ex voices s i)

@@ -1,0 +1,3 @@
+pub mod BarLineLaw
+pub mod GoesOn
+mod SameOpen

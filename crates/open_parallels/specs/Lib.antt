@@ -1,0 +1,2 @@
+pub mod BarLines
+pub mod Steps
