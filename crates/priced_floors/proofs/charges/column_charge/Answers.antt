@@ -16,8 +16,8 @@ loop-v-preserved c =
           c.voice_charge-sum.result _ (omega (arith, c.loop-v-test.true))
           (c.voice_charge-sum.ensures.value
           ∙ ap (λ cell. if is_free c.args.ex.now c.loop-v.v
-              then note_charge (prices_of charges c.args.case c.loop-v.v) (summit_of charges c.args.case c.loop-v.v)
-              (started_pitch cell) else 0)
+          then note_charge (prices_of charges c.args.case c.loop-v.v) (summit_of charges c.args.case c.loop-v.v)
+          (started_pitch cell) else 0)
           (c.cell_of-cell.ensures ∙ ap (λ cells. cell_in cells c.loop-v.v) c.as_slice.ensures.value))
           c.loop-v.invariant.value;
       small = omega (arith, c.loop-v.invariant.small, c.voice_charge-sum.ensures.small);
