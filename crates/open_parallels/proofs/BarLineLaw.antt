@@ -12,7 +12,7 @@ use Rattle.fux_grid.specs.declared.cell.Cell.{Cell}
 use Rattle.fux_grid.specs.declared.exercise.Exercise.{Exercise}
 use Rattle.fux_grid.specs.Cells.{cell_in, pitch_of}
 use Rattle.fux_grid.specs.Columns.{Columns, earlier}
-use Rattle.fux_grid.specs.Exercises.{IsValid, slot_of}
+use Rattle.fux_grid.specs.Exercises.{slot_of}
 use Rattle.fux_grid.proofs.Histories.{earlier-none}
 use Rattle.rule_law.specs.Bars.{bar_line_before, begins_bar}
 use Rattle.rule_law.specs.Forms as forms
@@ -25,6 +25,7 @@ use Rattle.motion_rules.specs.Afterbeats.{arrive_at_bar, arrive_in_parallel, goe
 use Rattle.fux_judge.specs.Lawful.{IsLawful}
 use Rattle.fux_judge.specs.Rules.{all_sets, rule_at, rules_read}
 use Rattle.open_dissonances.specs.Asked.{is_asked}
+use Rattle.open_dissonances.specs.Steps.{HasVoices}
 use Rattle.open_dissonances.proofs.Unbroken.{unbroken_for}
 use Rattle.open_parallels.specs.BarLines.{arrive_from, arrives, bar_line_in, has_species_voice, is_read, no_pitches, parallels_rule, perfect_pitch, perfect_pitches, some_arrive, takes_part, while_near}
 
@@ -231,7 +232,7 @@ none_of_six : (test : ℕ → ℕ → Bool) → test 0 1 ≡ false → test 0 2 
 unfolding voice_pairs
 none_of_six test a b c d e f = rw (a, b, c, d, e, f) refl
 
-module _ (ex : Exercise) (valid : IsValid ex) (s : Columns) (lawful : IsLawful ex s) (read : is_read ex ≡ true) where
+module _ (ex : Exercise) (voices : HasVoices ex) (s : Columns) (lawful : IsLawful ex s) (read : is_read ex ≡ true) where
   abbrev column : ℕ → List Cell
   column i = slice_index_or s i []
 
@@ -242,13 +243,13 @@ module _ (ex : Exercise) (valid : IsValid ex) (s : Columns) (lawful : IsLawful e
   goes = (and_parts (is_asked ex parallels_rule) (goes_within_bars ex ex.species_voice) read).1
 
   -- S18 of a set of voices
-  unbroken : (i : ℕ) → i < length s → (voices : ℕ) → list_any (λ x. voices == x) all_sets ≡ true
-      → on_pair ex (is_bare_parallel ex i (earlier s i) (column i)) voices ≡ false
+  unbroken : (i : ℕ) → i < length s → (set : ℕ) → list_any (λ x. set == x) all_sets ≡ true
+      → on_pair ex (is_bare_parallel ex i (earlier s i) (column i)) set ≡ false
   unfolding rule_at rules_read
-  unbroken i here voices set = unbroken_for ex valid.most_voices s lawful i here parallels_rule refl asked voices set
+  unbroken i here set is_set = unbroken_for ex voices.most_voices s lawful i here parallels_rule refl asked set is_set
 
   few : ex.species_voice < 4
-  few = omega (arith, valid.species_there, valid.most_voices)
+  few = omega (arith, voices.species_there, voices.most_voices)
 
   some_none : (i : ℕ) → i < length s → begins_bar i ≡ true
       → some_arrive ex (bar_line_in ex (earlier s i)) (column i) ≡ false

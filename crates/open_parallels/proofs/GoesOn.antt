@@ -9,6 +9,8 @@ use Rattle.fux_grid.specs.Exercises.{IsValid}
 use Rattle.fux_grid.proofs.Histories.{earlier-all, earlier-append, reverse-push}
 use Rattle.rule_law.specs.Nearby.{Pitches}
 use Rattle.fux_judge.specs.Lawful.{IsLawful}
+use Rattle.open_dissonances.specs.Steps.{HasVoices}
+use Rattle.open_dissonances.proofs.GoesOn.{voices_of_valid}
 use Rattle.open_parallels.specs.declared.steps.OpenParallels.{OpenParallels}
 use Rattle.open_parallels.specs.BarLines.{arrives, bar_line_after, bar_line_in, is_read, no_pitches}
 use Rattle.open_parallels.specs.Steps.{FollowsLawful, kept_in, none, parallels_after, still_kept}
@@ -42,7 +44,7 @@ module _ (ex : Exercise) (p : Columns) (col : List Cell) where
   still-kept = ap Kept (when_read (is_read ex) (λ kept. bar_line_after ex (length p) kept col) (bar_line_in ex (reverse p))
       (bar_line_in ex (reverse (p ++ col ∷ []))) bar_line_on)
 
-  module _ (more : Columns) (valid : IsValid ex) (lawful : IsLawful ex (p ++ col ∷ more)) where
+  module _ (more : Columns) (voices : HasVoices ex) (lawful : IsLawful ex (p ++ col ∷ more)) where
     abbrev s : Columns
     s = p ++ col ∷ more
 
@@ -65,7 +67,7 @@ module _ (ex : Exercise) (p : Columns) (col : List Cell) where
     kept true e =
         sym (ap (λ cols. arrives ex (length p) (bar_line_in ex cols) (slice_index_or s (length p) [])) behind
         ∙ ap (λ now. arrives ex (length p) (bar_line_in ex (reverse p)) now) newest)
-        ∙ never_arrives ex valid s lawful e (length p) here
+        ∙ never_arrives ex voices s lawful e (length p) here
 
     pub goes_on : parallels_after ex (length p) (kept_in ex p) col ≡ Some (kept_in ex (p ++ col ∷ []))
     goes_on =
@@ -74,4 +76,7 @@ module _ (ex : Exercise) (p : Columns) (col : List Cell) where
 
 -- the same of each exercise that is valid
 pub follows_lawful : (ex : Exercise) → IsValid ex → FollowsLawful ex
-follows_lawful ex valid = record { first = kept-none ex; next = λ p col more lawful. goes_on ex p col more valid lawful }
+follows_lawful ex valid = record {
+  first = kept-none ex;
+  next = λ p col more lawful. goes_on ex p col more (voices_of_valid ex valid) lawful;
+}

@@ -13,6 +13,8 @@ use Rattle.chain_sums.specs.Chains.{cells_of}
 use Rattle.fux_judge.specs.Links.{given, link_of}
 use Rattle.open_dissonances.specs.declared.steps.OpenDissonances.{OpenDissonances}
 use Rattle.open_dissonances.specs.Steps.{open_after}
+use Rattle.open_parallels.specs.declared.steps.OpenParallels.{OpenParallels}
+use Rattle.open_parallels.specs.Steps.{parallels_after}
 use Rattle.open_shapes.specs.declared.steps.OpenShapes.{OpenShapes}
 use Rattle.open_shapes.specs.Steps.{shapes_next}
 use Rattle.species_space.specs.Leaves.{follows_from_test, test_from_follows}
@@ -50,22 +52,27 @@ module _ (ex : Exercise) (sheet : Sheet) (i : ℕ) (kept : Kept) (k : ℕ) (prev
   pub step_by : (told : Bool) → (IsTrue told ↔ ColumnFollows (cells_before prev) col) → told ≡ true
       → (waiting : Option OpenDissonances) → waiting ≡ open_after ex i kept.waiting (cells_before prev) col
       → (shapes : Option OpenShapes) → shapes ≡ shapes_next ex i kept.shapes col
+      → (parallels : Option OpenParallels) → parallels ≡ parallels_after ex i kept.parallels col
       → (cost : Option ℕ) → cost ≡ link_of ex sheet i (given prev) col
-      → step_of ex sheet i kept k ≡ kept_with k waiting shapes cost
+      → step_of ex sheet i kept k ≡ kept_with k waiting shapes parallels cost
   unfolding step_of
-  step_by told same holds waiting waits shapes fits cost is =
+  step_by told same holds waiting waits shapes fits parallels part cost is =
       ap (λ b. if b then step_on ex sheet i kept k (column_kept ex i kept) else None)
       (sym (ap (λ c. column_follows c (slice_index_or (menu_of ex i) k [])) same_before)
       ∙ sym (ap (column_follows (cells_before prev)) is_col)
       ∙ test_from_follows (cells_before prev) col (same.0 holds))
       ∙ ap (λ o. kept_with k o (shapes_next ex i kept.shapes (slice_index_or (menu_of ex i) k []))
+      (parallels_after ex i kept.parallels (slice_index_or (menu_of ex i) k []))
       (link_of ex sheet i (column_kept ex i kept) (slice_index_or (menu_of ex i) k [])))
       (sym (ap (open_after ex i kept.waiting (cells_of (column_kept ex i kept))) is_col)
       ∙ sym (ap (λ c. open_after ex i kept.waiting c col) same_before) ∙ sym waits)
-      ∙ ap (λ o. kept_with k waiting o
+      ∙ ap (λ o. kept_with k waiting o (parallels_after ex i kept.parallels (slice_index_or (menu_of ex i) k []))
       (link_of ex sheet i (column_kept ex i kept) (slice_index_or (menu_of ex i) k [])))
       (sym (ap (shapes_next ex i kept.shapes) is_col) ∙ sym fits)
-      ∙ ap (kept_with k waiting shapes)
+      ∙ ap (λ o. kept_with k waiting shapes o
+      (link_of ex sheet i (column_kept ex i kept) (slice_index_or (menu_of ex i) k [])))
+      (sym (ap (parallels_after ex i kept.parallels) is_col) ∙ sym part)
+      ∙ ap (kept_with k waiting shapes parallels)
       (sym (ap (λ c. link_of ex sheet i (column_kept ex i kept) c) is_col)
       ∙ sym (ap (λ c. link_of ex sheet i c col) is_kept) ∙ sym is)
 
@@ -85,18 +92,28 @@ module _ (ex given_ex : Exercise) (is_ex : given_ex ≡ ex) (i : ℕ) (kept : Ke
   fits_by shapes is =
       is ∙ ap (λ (e : Exercise). shapes_next e i kept.shapes given_col) is_ex ∙ ap (shapes_next ex i kept.shapes) is_col
 
+  pub parts_by : (parallels : Option OpenParallels) → parallels ≡ parallels_after given_ex i kept.parallels given_col
+      → parallels ≡ parallels_after ex i kept.parallels col
+  parts_by parallels is =
+      is ∙ ap (λ (e : Exercise). parallels_after e i kept.parallels given_col) is_ex
+      ∙ ap (parallels_after ex i kept.parallels) is_col
+
 -- what is kept is the same where its parts are
-pub same_kept : (one other : Kept) (a b c : Bool) → OnTrue a (one.column ≡ other.column)
+pub same_kept : (one other : Kept) (a b c d : Bool) → OnTrue a (one.column ≡ other.column)
     → (IsTrue b ↔ (one.waiting ≡ other.waiting)) → (IsTrue c ↔ (one.shapes ≡ other.shapes))
-    → OnTrue (a && (b && c)) (one ≡ other)
-same_kept one other true true true number waiting shapes =
-    let K : Option ℕ → OpenDissonances → OpenShapes → Kept = λ n w s. record {
+    → (IsTrue d ↔ (one.parallels ≡ other.parallels)) → OnTrue (a && (b && (c && d))) (one ≡ other)
+same_kept one other true true true true number waiting shapes parallels =
+    let K : Option ℕ → OpenDissonances → OpenShapes → OpenParallels → Kept = λ n w s p. record {
       column = n;
       waiting = w;
       shapes = s;
+      parallels = p;
     } in
-    ap (λ n. K n one.waiting one.shapes) number ∙ ap (λ w. K other.column w one.shapes) (waiting.0 refl)
-    ∙ ap (K other.column other.waiting) (shapes.0 refl)
-same_kept one other true true false number waiting shapes = tt
-same_kept one other true false c number waiting shapes = tt
-same_kept one other false b c number waiting shapes = tt
+    ap (λ n. K n one.waiting one.shapes one.parallels) number
+    ∙ ap (λ w. K other.column w one.shapes one.parallels) (waiting.0 refl)
+    ∙ ap (λ s. K other.column other.waiting s one.parallels) (shapes.0 refl)
+    ∙ ap (K other.column other.waiting other.shapes) (parallels.0 refl)
+same_kept one other true true true false number waiting shapes parallels = tt
+same_kept one other true true false d number waiting shapes parallels = tt
+same_kept one other true false c d number waiting shapes parallels = tt
+same_kept one other false b c d number waiting shapes parallels = tt

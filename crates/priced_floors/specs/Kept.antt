@@ -8,6 +8,8 @@ use Rattle.fux_judge.specs.Links.{link_of}
 use Rattle.chain_sums.specs.Chains.{cells_of}
 use Rattle.open_dissonances.specs.declared.steps.OpenDissonances.{OpenDissonances}
 use Rattle.open_dissonances.specs.Steps.{open_after, open_in}
+use Rattle.open_parallels.specs.declared.steps.OpenParallels.{OpenParallels}
+use Rattle.open_parallels.specs.Steps.{kept_in, parallels_after}
 use Rattle.open_shapes.specs.declared.steps.OpenShapes.{OpenShapes}
 use Rattle.open_shapes.specs.Steps.{open_shapes_in, shapes_next}
 use Rattle.species_space.specs.Paths.{column_follows, prefix_at}
@@ -25,6 +27,7 @@ kept_of ex path = record {
   column = last_number path;
   waiting = open_in ex (prefix_at ex path);
   shapes = open_shapes_in ex (prefix_at ex path);
+  parallels = kept_in ex (prefix_at ex path);
 }
 
 -- the column that is kept where so many were chosen, if one is
@@ -33,12 +36,14 @@ column_kept ex zero kept = None
 column_kept ex (suc i) kept = option_and_then (slice_get (menu_of ex i)) kept.column
 
 -- what is kept behind a column, and what the step costs; none where no lawful setting goes on so
-abbrev pub kept_with : ℕ → Option OpenDissonances → Option OpenShapes → Option ℕ → Option (Kept × ℕ)
-kept_with k None shapes cost = None
-kept_with k (Some waiting) None cost = None
-kept_with k (Some waiting) (Some shapes) None = None
-kept_with k (Some waiting) (Some shapes) (Some cost) =
-    Some (record { column = Some k; waiting = waiting; shapes = shapes }, cost)
+abbrev pub kept_with : ℕ → Option OpenDissonances → Option OpenShapes → Option OpenParallels → Option ℕ
+    → Option (Kept × ℕ)
+kept_with k None shapes parallels cost = None
+kept_with k (Some waiting) None parallels cost = None
+kept_with k (Some waiting) (Some shapes) None cost = None
+kept_with k (Some waiting) (Some shapes) (Some parallels) None = None
+kept_with k (Some waiting) (Some shapes) (Some parallels) (Some cost) =
+    Some (record { column = Some k; waiting = waiting; shapes = shapes; parallels = parallels }, cost)
 
 -- the step of a number, whose column follows: it breaks no rule by what is open, makes no strict break with the one before it, and
 -- settles at least what the two cost
@@ -46,6 +51,7 @@ abbrev pub step_on : Exercise → Sheet → ℕ → Kept → ℕ → Option (Lis
 step_on ex sheet i kept k before =
     kept_with k (open_after ex i kept.waiting (cells_of before) (slice_index_or (menu_of ex i) k []))
     (shapes_next ex i kept.shapes (slice_index_or (menu_of ex i) k []))
+    (parallels_after ex i kept.parallels (slice_index_or (menu_of ex i) k []))
     (link_of ex sheet i before (slice_index_or (menu_of ex i) k []))
 
 -- the step of a number, where its column follows

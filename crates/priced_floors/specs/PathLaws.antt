@@ -29,6 +29,7 @@ use Rattle.fux_judge.proofs.LeastLaws.{least_at_end}
 use Rattle.fux_judge.proofs.LinkPaid.{link_is_paid}
 use Rattle.floor_tables.specs.Floors.{floor_of}
 use Rattle.open_dissonances.specs.Steps.{open_after, open_in}
+use Rattle.open_parallels.specs.Steps.{kept_in, parallels_after}
 use Rattle.open_shapes.specs.Steps.{open_shapes_in, shapes_next}
 use Rattle.species_space.specs.Exact.{menus_are_exact}
 use Rattle.species_space.specs.FloorLaws.{FloorParts, floor_parts}
@@ -103,7 +104,7 @@ record IsLastStep (ex : Exercise) (sheet : Sheet) (path : List ℕ) (k : ℕ) : 
 
 module _ (ex : Exercise) (sheet : Sheet) (path : List ℕ) (k : ℕ) where
   abbrev made_of : Option ℕ → List (List Cell) → Kept
-  made_of number p = record { column = number; waiting = open_in ex p; shapes = open_shapes_in ex p }
+  made_of number p = record { column = number; waiting = open_in ex p; shapes = open_shapes_in ex p; parallels = kept_in ex p }
 
   last_step : is_alive_path ex (path ++ k ∷ []) ≡ true → IsLastStep ex sheet path k
   last_step alive =
@@ -145,9 +146,11 @@ module _ (ex : Exercise) (sheet : Sheet) (path : List ℕ) (k : ℕ) where
       (column_at ex path k) ≡ Some (open_in ex (prefix_at ex path ++ column_at ex path k ∷ []))
       → shapes_next ex (length path) (open_shapes_in ex (prefix_at ex path)) (column_at ex path k)
       ≡ Some (open_shapes_in ex (prefix_at ex path ++ column_at ex path k ∷ []))
+      → parallels_after ex (length path) (kept_in ex (prefix_at ex path)) (column_at ex path k)
+      ≡ Some (kept_in ex (prefix_at ex path ++ column_at ex path k ∷ []))
       → IsStepOf ex sheet path k
   unfolding step_of
-  live_step is_live opens fits = by (live_at ex sheet (path ++ k ∷ [])) refl is_live
+  live_step is_live opens fits parts = by (live_at ex sheet (path ++ k ∷ [])) refl is_live
     where
       made : IsLastStep ex sheet path k → (o : Option ℕ)
           → link_of ex sheet (length path) (last_column (prefix_at ex path)) (column_at ex path k) ≡ o
@@ -170,11 +173,17 @@ module _ (ex : Exercise) (sheet : Sheet) (path : List ℕ) (k : ℕ) where
                 ∙ ap (step_on ex sheet (length path) (kept_of ex path) k) kept
                 ∙ ap (λ o. kept_with k o
                 (shapes_next ex (length path) (open_shapes_in ex (prefix_at ex path)) (column_at ex path k))
+                (parallels_after ex (length path) (kept_in ex (prefix_at ex path)) (column_at ex path k))
                 (link_of ex sheet (length path) (last_column (prefix_at ex path)) (column_at ex path k))) opened
                 ∙ ap (λ o. kept_with k (Some (open_in ex (prefix_at ex path ++ column_at ex path k ∷ []))) o
+                (parallels_after ex (length path) (kept_in ex (prefix_at ex path)) (column_at ex path k))
                 (link_of ex sheet (length path) (last_column (prefix_at ex path)) (column_at ex path k))) fits
+                ∙ ap (λ o. kept_with k (Some (open_in ex (prefix_at ex path ++ column_at ex path k ∷ [])))
+                (Some (open_shapes_in ex (prefix_at ex path ++ column_at ex path k ∷ []))) o
+                (link_of ex sheet (length path) (last_column (prefix_at ex path)) (column_at ex path k))) parts
                 ∙ ap (kept_with k (Some (open_in ex (prefix_at ex path ++ column_at ex path k ∷ [])))
-                (Some (open_shapes_in ex (prefix_at ex path ++ column_at ex path k ∷ [])))) e
+                (Some (open_shapes_in ex (prefix_at ex path ++ column_at ex path k ∷ [])))
+                (Some (kept_in ex (prefix_at ex path ++ column_at ex path k ∷ [])))) e
                 ∙ ap (λ o. Some (made_of o (prefix_at ex path ++ column_at ex path k ∷ []), cost))
                 (sym (last_number-append path k))
                 ∙ ap (λ q. Some (made_of (last_number (path ++ k ∷ [])) q, cost))

@@ -18,6 +18,8 @@ use Rattle.fux_judge.specs.Lawful.{IsLawful}
 use Rattle.fux_judge.specs.Penalties.{paid}
 use Rattle.open_dissonances.proofs.GoesOn.{follows_where}
 use Rattle.open_dissonances.specs.Steps.{HasVoices, open_after, open_in}
+use Rattle.open_parallels.specs.Steps.{kept_in, parallels_after}
+use Rattle.open_parallels.proofs.GoesOn.{goes_on}
 use Rattle.open_shapes.specs.Steps.{open_shapes_in, shapes_next}
 use Rattle.open_shapes.proofs.KeepsShapes.{keeps_shapes}
 use Rattle.species_space.specs.Grows.{paths_grow}
@@ -112,11 +114,14 @@ module _ (ex : Exercise) (sheet : Sheet) (charges : Charges) (voices : HasVoices
       let fits = keeps_shapes ex (prefix_at ex path) (column_at ex path child)
       (columns_on ex (0 + length (path ++ child ∷ [])) rest) voices.most_voices
       (record { there = voices.species_there; no_cantus = voices.differ }) lawful in
+      let parts = goes_on ex (prefix_at ex path) (column_at ex path child)
+      (columns_on ex (0 + length (path ++ child ∷ [])) rest) voices lawful in
       let size : length (prefix_at ex path) ≡ length path = length-columns_on ex 0 path in
       let step = live_step ex sheet path child (some_from (live_at ex sheet (path ++ child ∷ [])) own.0 own.1)
       (ap (λ i. open_after ex i (open_in ex (prefix_at ex path)) (newest_column (reverse (prefix_at ex path)))
       (column_at ex path child)) (sym size) ∙ opens)
-      (ap (λ i. shapes_next ex i (open_shapes_in ex (prefix_at ex path)) (column_at ex path child)) (sym size) ∙ fits) in
+      (ap (λ i. shapes_next ex i (open_shapes_in ex (prefix_at ex path)) (column_at ex path child)) (sym size) ∙ fits)
+      (ap (λ i. parallels_after ex i (kept_in ex (prefix_at ex path)) (column_at ex path child)) (sym size) ∙ parts) in
       record {
         within = (paths_grow ex sheet path child own.0 own.1).within;
         cost = step.cost;

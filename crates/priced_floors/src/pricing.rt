@@ -17,6 +17,7 @@ use fux_grid::{Column, Exercise, follows};
 use fux_judge::{column_cost, pair_cost};
 use fux_pitch::Memory;
 use open_dissonances::{OpenDissonances, open_after};
+use open_parallels::{OpenParallels, parallels_after};
 use open_shapes::{OpenShapes, shapes_next};
 use penalty_sheet::Sheet;
 use priced_paths::Pricing;
@@ -69,11 +70,11 @@ fn is_same_number(one: Option<u16>, other: Option<u16>) -> bool
     }
 }
 
-/// Whether all three are true.
-fn all_three(a: bool, b: bool, c: bool) -> bool
-    ensures { result ≡ (a && (b && c)) }
+/// Whether all four are true.
+fn all_four(a: bool, b: bool, c: bool, d: bool) -> bool
+    ensures { result ≡ (a && (b && (c && d))) }
 {
-    a && (b && c)
+    a && (b && (c && d))
 }
 
 /// A number made of two, in which each of them counts.
@@ -178,6 +179,7 @@ impl<'a> Pricing for PricedSpace<'a> {
             column: None,
             waiting: OpenDissonances::none(),
             shapes: OpenShapes::none(),
+            parallels: OpenParallels::none(),
         }
     }
 
@@ -195,12 +197,14 @@ impl<'a> Pricing for PricedSpace<'a> {
         let cells = next.as_slice();
         let waiting = open_after(ex, depth, &kept.waiting, cells_of(prev), cells)?;
         let shapes = shapes_next(ex, depth, &kept.shapes, cells)?;
+        let parallels = parallels_after(ex, depth, &kept.parallels, cells)?;
         let cost = cost_between(ex, self.space.sheet(), depth, prev, next)?;
         let column = Some(label as u16);
         let longer = Kept {
             column,
             waiting,
             shapes,
+            parallels,
         };
         Some((longer, cost))
     }
@@ -209,7 +213,8 @@ impl<'a> Pricing for PricedSpace<'a> {
         let number = is_same_number(one.column, other.column);
         let waiting = one.waiting.is_same(&other.waiting);
         let shapes = one.shapes.is_same(&other.shapes);
-        all_three(number, waiting, shapes)
+        let parallels = one.parallels.is_same(&other.parallels);
+        all_four(number, waiting, shapes, parallels)
     }
 
     fn key(&self, kept: &Kept) -> u64 {
@@ -217,7 +222,8 @@ impl<'a> Pricing for PricedSpace<'a> {
             Some(number) => u64::from(number) + 1,
             None => 0,
         };
-        mixed(mixed(column, kept.waiting.key()), kept.shapes.key())
+        let open = mixed(mixed(kept.waiting.key(), kept.shapes.key()), kept.parallels.key());
+        mixed(open, column)
     }
 
     fn cases(&self) -> usize {
