@@ -19,7 +19,10 @@ use priced_paths::search_priced;
 use species_space::SpeciesSpace;
 use std::alloc::Global;
 use strike_prices::Prices;
-use tree_search::Outcome;
+use tree_search::{Outcome, search_front};
+
+/// How many prefixes are opened at most before any price is sought: many an exercise needs no more.
+const FIRST_BUDGET: u32 = 4096;
 
 /// Prices for the cases of these charges; none where there are too many ways.
 fn prices_for(
@@ -39,9 +42,8 @@ fn prices_for(
     }
 }
 
-/// The first leaf of least value, by floors that know of gauges beforehand: of a pitch that is struck often, and of a climax that is struck
-/// again. Where the budget is enough the answer is that of any search; where it isn't, each leaf has at least the bound for a value.
-pub fn search_best(alloc: Global, space: &SpeciesSpace<'_>, budget: u32) -> Result<Outcome, Memory>
+/// The same, by these floors from the beginning.
+fn search_by_prices(alloc: Global, space: &SpeciesSpace<'_>, budget: u32) -> Result<Outcome, Memory>
     requires { IsValid space.now.exercise }
     ensures found { IfOk result (λ outcome.
         IfFound outcome (IsFirstLeast (live_at space.now.exercise space.now.sheet) (columns_in space.now.exercise))) }
@@ -58,4 +60,22 @@ pub fn search_best(alloc: Global, space: &SpeciesSpace<'_>, budget: u32) -> Resu
     let charges = Charges::new(alloc, space.sheet(), &prices, voice, &keys)?;
     let priced = PricedSpace::new(alloc, space, &charges)?;
     search_priced(alloc, &priced, budget)
+}
+
+/// The first leaf of least value, by floors that know of gauges beforehand: of a pitch that is struck often, and of a climax that is struck
+/// again. Where the budget is enough the answer is that of any search; where it isn't, each leaf has at least the bound for a value.
+pub fn search_best(alloc: Global, space: &SpeciesSpace<'_>, budget: u32) -> Result<Outcome, Memory>
+    requires { IsValid space.now.exercise }
+    ensures found { IfOk result (λ outcome.
+        IfFound outcome (IsFirstLeast (live_at space.now.exercise space.now.sheet) (columns_in space.now.exercise))) }
+    ensures nothing { IfOk result (λ outcome.
+        OnNothing outcome (HasNoLeaf (live_at space.now.exercise space.now.sheet) (columns_in space.now.exercise))) }
+    ensures bound { IfOk result (λ outcome.
+        IfSpent outcome (BoundsLeaves (live_at space.now.exercise space.now.sheet) (columns_in space.now.exercise))) }
+    ensures agrees { IfOk result (AgreesWithAnswers (live_at space.now.exercise space.now.sheet) (columns_in space.now.exercise)) }
+{
+    match search_front(alloc, space, budget.min(FIRST_BUDGET))? {
+        Outcome::Spent { .. } => search_by_prices(alloc, space, budget),
+        outcome => Ok(outcome),
+    }
 }
