@@ -14,39 +14,50 @@ Names text = (p : Pitch) × (name_of p ≡ text)
 spelled : (degree : ℕ) (alter : ℤ) (e : has_pitch degree alter ≡ true) → Names (name_of (pitch_from degree alter e))
 spelled degree alter e = (pitch_from degree alter e, refl)
 
--- a letter has a pitch alone, one with a sharp and one with a flat
-abbrev Fourths : ℕ → Type 0
-Fourths letter = Names (letter ∷ 52 ∷ []) × Names (letter ∷ 35 ∷ 52 ∷ []) × Names (letter ∷ 98 ∷ 52 ∷ [])
-
-abbrev Name : (degree : ℕ) (alter : ℤ) → has_pitch degree alter ≡ true → Type 0
-Name degree alter e = Names (name_of (pitch_from degree alter e))
-
-three : (degree : ℕ) (e : has_pitch degree (pos 0) ≡ true) (f : has_pitch degree (pos 1) ≡ true)
-    (g : has_pitch degree (negsuc 0) ≡ true) → Name degree (pos 0) e × Name degree (pos 1) f × Name degree (negsuc 0) g
-three degree e f g = (spelled degree (pos 0) e, spelled degree (pos 1) f, spelled degree (negsuc 0) g)
-
-fourths : (k : ℕ) → k < 7 → Fourths (65 + k)
+naturals : (k : ℕ) → k < 7 → Names ((65 + k) ∷ 52 ∷ [])
 unfolding name_of
-fourths zero h = three 33 refl refl refl
-fourths (suc zero) h = three 34 refl refl refl
-fourths (suc (suc zero)) h = three 28 refl refl refl
-fourths (suc (suc (suc zero))) h = three 29 refl refl refl
-fourths (suc (suc (suc (suc zero)))) h = three 30 refl refl refl
-fourths (suc (suc (suc (suc (suc zero))))) h = three 31 refl refl refl
-fourths (suc (suc (suc (suc (suc (suc zero)))))) h = three 32 refl refl refl
-fourths (suc (suc (suc (suc (suc (suc (suc k))))))) h = absurd (omega (arith, h))
+naturals zero h = spelled 33 (pos 0) refl
+naturals (suc zero) h = spelled 34 (pos 0) refl
+naturals (suc (suc zero)) h = spelled 28 (pos 0) refl
+naturals (suc (suc (suc zero))) h = spelled 29 (pos 0) refl
+naturals (suc (suc (suc (suc zero)))) h = spelled 30 (pos 0) refl
+naturals (suc (suc (suc (suc (suc zero))))) h = spelled 31 (pos 0) refl
+naturals (suc (suc (suc (suc (suc (suc zero)))))) h = spelled 32 (pos 0) refl
+naturals (suc (suc (suc (suc (suc (suc (suc k))))))) h = absurd (omega (arith, h))
+
+sharps : (k : ℕ) → k < 7 → Names ((65 + k) ∷ 35 ∷ 52 ∷ [])
+unfolding name_of
+sharps zero h = spelled 33 (pos 1) refl
+sharps (suc zero) h = spelled 34 (pos 1) refl
+sharps (suc (suc zero)) h = spelled 28 (pos 1) refl
+sharps (suc (suc (suc zero))) h = spelled 29 (pos 1) refl
+sharps (suc (suc (suc (suc zero)))) h = spelled 30 (pos 1) refl
+sharps (suc (suc (suc (suc (suc zero))))) h = spelled 31 (pos 1) refl
+sharps (suc (suc (suc (suc (suc (suc zero)))))) h = spelled 32 (pos 1) refl
+sharps (suc (suc (suc (suc (suc (suc (suc k))))))) h = absurd (omega (arith, h))
+
+flats : (k : ℕ) → k < 7 → Names ((65 + k) ∷ 98 ∷ 52 ∷ [])
+unfolding name_of
+flats zero h = spelled 33 (negsuc 0) refl
+flats (suc zero) h = spelled 34 (negsuc 0) refl
+flats (suc (suc zero)) h = spelled 28 (negsuc 0) refl
+flats (suc (suc (suc zero))) h = spelled 29 (negsuc 0) refl
+flats (suc (suc (suc (suc zero)))) h = spelled 30 (negsuc 0) refl
+flats (suc (suc (suc (suc (suc zero))))) h = spelled 31 (negsuc 0) refl
+flats (suc (suc (suc (suc (suc (suc zero)))))) h = spelled 32 (negsuc 0) refl
+flats (suc (suc (suc (suc (suc (suc (suc k))))))) h = absurd (omega (arith, h))
 
 -- a letter by its place among the letters
-fourths_of : (letter : ℕ) → 65 ≤ letter → letter ≤ 71 → Fourths letter
-fourths_of letter least most =
+by_letter : (P : ℕ → Type 0) → ((k : ℕ) → k < 7 → P (65 + k)) → (letter : ℕ) → 65 ≤ letter → letter ≤ 71 → P letter
+by_letter P each letter least most =
     let same : 65 + (letter - 65) ≡ letter = omega (arith, least) in
-    subst Fourths same (fourths (letter - 65) (omega (arith, least, most)))
+    subst P same (each (letter - 65) (omega (arith, least, most)))
 
 pub natural-four : (letter : ℕ) → 65 ≤ letter → letter ≤ 71 → Names (letter ∷ 52 ∷ [])
-natural-four letter least most = (fourths_of letter least most).0
+natural-four = by_letter (λ letter. Names (letter ∷ 52 ∷ [])) naturals
 
 pub sharp-four : (letter : ℕ) → 65 ≤ letter → letter ≤ 71 → Names (letter ∷ 35 ∷ 52 ∷ [])
-sharp-four letter least most = (fourths_of letter least most).1
+sharp-four = by_letter (λ letter. Names (letter ∷ 35 ∷ 52 ∷ [])) sharps
 
 pub flat-four : (letter : ℕ) → 65 ≤ letter → letter ≤ 71 → Names (letter ∷ 98 ∷ 52 ∷ [])
-flat-four letter least most = (fourths_of letter least most).2
+flat-four = by_letter (λ letter. Names (letter ∷ 98 ∷ 52 ∷ [])) flats

@@ -113,7 +113,12 @@ module _ {A : Type 0} (L : A → List ℕ → Type 0) (limit : ℕ) (short : (x 
     (bytes : List ℕ) where
   begun-short : (n : ℕ) → n ≤ length bytes → Begins L (take n bytes) → n < limit
   begun-short n within (x, rest, text) =
-      omega (arith, short x _ text, length-append (take n bytes) rest, length-take-le n bytes within)
+      omega (
+        arith,
+        short x (take n bytes ++ rest) text,
+        length-append (take n bytes) rest,
+        length-take-le n bytes within,
+      )
 
   whole-short : (x : A) (n : ℕ) → Stands L bytes x n → n < limit
   whole-short x n stands =

@@ -102,7 +102,12 @@ best-short : (form : Form) (penalty : ℕ) (lines : List ℕ) → penalty < 2 ^ 
 best-short form penalty lines below =
     let number : length (decimal penalty) ≤ 20 =
     length-decimal-le 20 penalty (omega arith) (omega (arith, below)) below in
-    omega (arith, number, opening-short form, closing-short form, length-append {A = ℕ})
+    let closing = closing_text form in
+    let rest = codes "best " ++ (decimal penalty ++ 10 ∷ (lines ++ closing)) in
+    let whole = length-append (opening_text form) rest in
+    let behind = length-append (decimal penalty) (10 ∷ (lines ++ closing)) in
+    let last = length-append lines closing in
+    omega (arith, number, opening-short form, closing-short form, whole, behind, last)
 
 nothing-short : (form : Form) → length (nothing_text form) ≤ 27
 nothing-short First = omega arith
@@ -113,16 +118,25 @@ pub heads_are_brief : (ex : Exercise) (form : Form) (text : List ℕ) (penalty :
     → IsHeadText ex form text penalty → length text ≤ 4876
 heads_are_brief ex form text None valid is = omega (arith, ap length is, nothing-short form)
 heads_are_brief ex form text (Some penalty) valid is =
-    let lines = item_lines-short ex is.lines valid (written-are_items ex is.canonical.0 is.lines valid is.canonical.1) in
-    omega (arith, ap length is.text, best-short form penalty is.lines is.below, lines)
+    omega (
+      arith,
+      ap length is.text,
+      best-short form penalty is.lines is.below,
+      item_lines-short ex is.lines valid
+          (written-are_items ex is.canonical.0 is.lines valid is.canonical.1),
+    )
 
 -- ---- a front as long as a head can be
 
 module _ (ex : Exercise) (valid : IsValid ex) (bytes : List ℕ) (last : Form) where
   begun-short : (n : ℕ) → n ≤ length bytes → BeginsText ex last (take n bytes) → n < 5000
   begun-short n within begins =
-      let brief = heads_are_brief ex begins.form (take n bytes ++ begins.rest) begins.penalty valid begins.whole in
-      omega (arith, brief, length-append (take n bytes) begins.rest, length-take-le n bytes within)
+      omega (
+        arith,
+        heads_are_brief ex begins.form (take n bytes ++ begins.rest) begins.penalty valid begins.whole,
+        length-append (take n bytes) begins.rest,
+        length-take-le n bytes within,
+      )
 
   whole-short : (form : Form) (n : ℕ) (penalty : Option ℕ) → n ≤ length bytes
       → IsHeadText ex form (take n bytes) penalty → n < 5000

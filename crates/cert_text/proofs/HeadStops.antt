@@ -10,14 +10,14 @@ use Rattle.cert_text.specs.declared.answers.Form.{Form}
 use Rattle.cert_text.specs.declared.answers.Form.TheVariants.{First, Second}
 use Rattle.cert_text.specs.HeadRows.{BestRow, FeedRow, FormDigit, FormRow, HeadRow, HeadSaid, IsKind, IsUpTo, Itself, KindRow, KindsRow, NothingRow, NumberLine, SingLines, closing_text, feed_text, form_byte, name_text, none_rest, opening_text}
 use Rattle.cert_text.specs.HeadTexts.{TextStops}
-use Rattle.cert_text.specs.Pieces.{Fixed, Literal, Reads, Stops, Then}
+use Rattle.cert_text.specs.Pieces.{Fixed, Literal, OneByte, Reads, Stops, Then}
 use Rattle.cert_text.specs.SingItems.{AreLines, IsHeadText, best_text, nothing_text}
 use Rattle.cert_text.proofs.FourthOctave.{natural-four}
 use Rattle.cert_text.proofs.Fronts.{few-left, front-taken, goes-to, stands-one}
 use Rattle.cert_text.proofs.ItemRows.{lines-alone, lines-live}
 use Rattle.cert_text.proofs.ItemTexts.{lines-from, lines-to}
 use Rattle.cert_text.proofs.NumberLemmas.{numbers-plain}
-use Rattle.cert_text.proofs.PieceLemmas.{Alone, Plain, byte-plain, fixed-plain, in_two, stops-at, then-plain}
+use Rattle.cert_text.proofs.PieceLemmas.{Alone, Plain, byte-plain, fixed-plain, then-plain}
 use Rattle.cert_text.proofs.SungScores.{items-are_written, written-are_items}
 
 -- ---- the row has the texts of heads
@@ -52,12 +52,17 @@ says-is ex form (Some penalty) lines text says =
 -- it doesn't matter for that what a text says
 pub fixed-stops : {A : Type 0} (a : A) (text bytes : List ℕ) (left : ℕ) → Stops (Literal text) bytes left
     → Stops (Fixed a text) bytes left
-fixed-stops a text bytes left stop =
-    stops-at (Fixed a text) bytes stop.front stop.rest left stop.parts stop.count (record {
-      begins = let begun = stop.here.begins in (a, begun.1, (refl, begun.2.1));
-      open_ = λ x same. stop.here.open_ tt (refl, same.1);
-      longest = λ b more e begun. stop.here.longest b more e (tt, begun.1, (refl, begun.2.1));
-    })
+fixed-stops a text bytes left stop = record {
+  front = stop.front;
+  rest = stop.rest;
+  parts = stop.parts;
+  count = stop.count;
+  here = record {
+    begins = let begun = stop.here.begins in (a, begun.1, (refl, begun.2.1));
+    open_ = λ x same. stop.here.open_ tt (refl, same.1);
+    longest = λ b more e begun. stop.here.longest b more e (tt, begun.1, (refl, begun.2.1));
+  };
+}
 
 pub fixed-reads : {A : Type 0} (a : A) (text bytes rest : List ℕ) → Reads (Literal text) bytes tt rest
     → Reads (Fixed a text) bytes a rest
@@ -66,12 +71,17 @@ fixed-reads a text bytes rest (front, e, is) = (front, e, (refl, is.1))
 -- nor that a text says itself
 pub itself-stops : (L : Unit {0} → List ℕ → Type 0) (bytes : List ℕ) (left : ℕ) → Stops L bytes left
     → Stops (Itself L) bytes left
-itself-stops L bytes left stop =
-    stops-at (Itself L) bytes stop.front stop.rest left stop.parts stop.count (record {
-      begins = let begun = stop.here.begins in (stop.front ++ begun.1, begun.1, (refl, begun.2));
-      open_ = λ lines text. stop.here.open_ tt text.1;
-      longest = λ b more e begun. stop.here.longest b more e (tt, begun.1, begun.2.1);
-    })
+itself-stops L bytes left stop = record {
+  front = stop.front;
+  rest = stop.rest;
+  parts = stop.parts;
+  count = stop.count;
+  here = record {
+    begins = let begun = stop.here.begins in (stop.front ++ begun.1, begun.1, (refl, begun.2));
+    open_ = λ lines text. stop.here.open_ tt text.1;
+    longest = λ b more e begun. stop.here.longest b more e (tt, begun.1, begun.2.1);
+  };
+}
 
 -- ---- the digit of a form
 
@@ -103,11 +113,17 @@ module _ (last : Form) where
   pub no_digit-stops : (bytes : List ℕ)
       → ((b : ℕ) (more : List ℕ) → bytes ≡ b ∷ more → (form : Form) → IsUpTo last form → b ≡ form_byte form → ⊥)
       → Stops (FormDigit last) bytes (length bytes)
-  no_digit-stops bytes none = stops-at (FormDigit last) bytes [] bytes (length bytes) refl refl (record {
-    begins = (First, 49 ∷ [], (one_up_to, refl));
-    open_ = λ form s. absurd (omega (arith, ap length s.1));
-    longest = λ b more e (form, r, s). none b more e form s.0 (first b (form_byte form) r s.1);
-  })
+  no_digit-stops bytes none = record {
+    front = [];
+    rest = bytes;
+    parts = refl;
+    count = refl;
+    here = record {
+      begins = (First, 49 ∷ [], (one_up_to, refl));
+      open_ = λ form s. absurd (omega (arith, ap length s.1));
+      longest = λ b more e (form, r, s). none b more e form s.0 (first b (form_byte form) r s.1);
+    };
+  }
     where
       first : (b d : ℕ) (r : List ℕ) → b ∷ r ≡ d ∷ [] → b ≡ d
       first b d r e = cc
@@ -189,45 +205,83 @@ module _ (ex : Exercise) (valid : IsValid ex) where
             (nothing-says said row.rest) kind
 
     none-kind : KindsRow ex form (saying form None []) (110 ∷ none_rest form)
-    none-kind = in_two 110 (110 ∷ []) (none_rest form) refl (inr refl, refl) (refl, refl)
+    none-kind = record {
+      said = 110;
+      front = 110 ∷ [];
+      rest = none_rest form;
+      parts = refl;
+      first = (inr refl, refl);
+      behind = (refl, refl);
+    }
 
     some-kind : (penalty : ℕ) (lines : List ℕ) → penalty < 2 ^ 64 → AreLines ex lines
         → KindsRow ex form (saying form (Some penalty) lines)
         (codes "best " ++ (decimal penalty ++ 10 ∷ (lines ++ closing_text form)))
-    some-kind penalty lines below canonical =
-        let rest = lines ++ closing_text form in
-        in_two 98 (98 ∷ []) (codes "est " ++ (decimal penalty ++ 10 ∷ rest)) refl (inl refl, refl)
-        (in_two tt (codes "est ") (decimal penalty ++ 10 ∷ rest) refl (refl, refl)
-        (in_two penalty (decimal penalty ++ 10 ∷ []) rest (sym (append_assoc (decimal penalty) (10 ∷ []) rest)) (below, refl)
-        (in_two lines lines (closing_text form) refl (refl, are-lines lines canonical) (refl, refl))))
+    some-kind penalty lines below canonical = record {
+      said = 98;
+      front = 98 ∷ [];
+      rest = codes "est " ++ (decimal penalty ++ 10 ∷ (lines ++ closing_text form));
+      parts = refl;
+      first = (inl refl, refl);
+      behind = record {
+        said = tt;
+        front = codes "est ";
+        rest = decimal penalty ++ 10 ∷ (lines ++ closing_text form);
+        parts = refl;
+        first = (refl, refl);
+        behind = record {
+          said = penalty;
+          front = decimal penalty ++ 10 ∷ [];
+          rest = lines ++ closing_text form;
+          parts = sym (append_assoc (decimal penalty) (10 ∷ []) (lines ++ closing_text form));
+          first = (below, refl);
+          behind = record {
+            said = lines;
+            front = lines;
+            rest = closing_text form;
+            parts = refl;
+            first = (refl, are-lines lines canonical);
+            behind = (refl, refl);
+          };
+        };
+      };
+    }
 
     -- ---- no text begins another one, and each goes on
 
     pub lines_row-plain : (penalty : ℕ) → Plain (LinesRow ex form penalty)
     lines_row-plain penalty =
-        then-plain _ _ itself-plain (λ lines. fixed-plain (saying form (Some penalty) lines) (closing_text form))
+        then-plain (Itself (SingLines ex (free_voices ex)))
+        (λ lines. Fixed (saying form (Some penalty) lines) (closing_text form)) itself-plain
+        (λ lines. fixed-plain (saying form (Some penalty) lines) (closing_text form))
 
     pub number-plain : Plain (NumberRow ex form)
-    number-plain = then-plain _ _ numbers-plain lines_row-plain
+    number-plain = then-plain NumberLine (LinesRow ex form) numbers-plain lines_row-plain
 
     pub kind-plain : (best : Bool) → Plain (KindRow ex form best)
-    kind-plain true = then-plain _ _ (fixed-plain (tt {0}) (codes "est ")) (λ _. number-plain)
+    kind-plain true =
+        then-plain (Literal (codes "est ")) (λ _. NumberRow ex form) (fixed-plain (tt {0}) (codes "est "))
+        (λ _. number-plain)
     kind-plain false = fixed-plain (saying form None []) (none_rest form)
 
     pub kinds-plain : Plain (KindsRow ex form)
-    kinds-plain = then-plain _ _ (byte-plain IsKind 110 (inr refl)) (λ byte. kind-plain (byte == 98))
+    kinds-plain =
+        then-plain (OneByte IsKind) (λ byte. KindRow ex form (byte == 98)) (byte-plain IsKind 110 (inr refl))
+        (λ byte. kind-plain (byte == 98))
 
     pub feed-plain : Plain (FeedRow ex form)
-    feed-plain = then-plain _ _ (fixed-plain (tt {0}) feed_text) (λ _. kinds-plain)
+    feed-plain =
+        then-plain (Literal feed_text) (λ _. KindsRow ex form) (fixed-plain (tt {0}) feed_text) (λ _. kinds-plain)
 
   -- ---- the forms up to one
 
   module _ (last : Form) where
     pub form-plain : Plain (FormRow ex last)
-    form-plain = then-plain _ _ (digit-plain last) feed-plain
+    form-plain = then-plain (FormDigit last) (FeedRow ex) (digit-plain last) feed-plain
 
     head-plain : Plain (HeadRow ex last)
-    head-plain = then-plain _ _ (fixed-plain (tt {0}) name_text) (λ _. form-plain)
+    head-plain =
+        then-plain (Literal name_text) (λ _. FormRow ex last) (fixed-plain (tt {0}) name_text) (λ _. form-plain)
 
     -- ---- the row of a head
 
@@ -248,9 +302,28 @@ module _ (ex : Exercise) (valid : IsValid ex) where
 
     headed : (form : Form) → IsUpTo last form → (said : HeadSaid) (rest : List ℕ) → KindsRow ex form said rest
         → HeadRow ex last said (opening_text form ++ rest)
-    headed form among said rest kinds =
-        in_two tt name_text (form_byte form ∷ 10 ∷ rest) refl (refl, refl)
-        (in_two form (form_byte form ∷ []) (10 ∷ rest) refl (among, refl) (in_two tt feed_text rest refl (refl, refl) kinds))
+    headed form among said rest kinds = record {
+      said = tt;
+      front = name_text;
+      rest = form_byte form ∷ 10 ∷ rest;
+      parts = refl;
+      first = (refl, refl);
+      behind = record {
+        said = form;
+        front = form_byte form ∷ [];
+        rest = 10 ∷ rest;
+        parts = refl;
+        first = (among, refl);
+        behind = record {
+          said = tt;
+          front = feed_text;
+          rest = rest;
+          parts = refl;
+          first = (refl, refl);
+          behind = kinds;
+        };
+      };
+    }
 
     pub row-of_text : (form : Form) → IsUpTo last form → (text : List ℕ) (penalty : Option ℕ)
         → IsHeadText ex form text penalty → (lines : List ℕ) × HeadRow ex last (saying form penalty lines) text

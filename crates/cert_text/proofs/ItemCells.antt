@@ -23,9 +23,12 @@ pub fits-long : (bars i : ℕ) (before : Cell) (items : List (Cell × ℕ)) → 
     → i + length (cells_of items) ≡ 8 * bars
 fits-long bars i before [] fits = omega (arith, fits)
 fits-long bars i before (item ∷ items) fits =
-    let long = length-append (item_cells item.0 item.1) (cells_of items) in
-    let later = fits-long bars (i + item.1) (held item.0) items fits.3 in
-    omega (arith, long, item_cells-length item.0 item.1 fits.1, later)
+    omega (
+      arith,
+      length-append (item_cells item.0 item.1) (cells_of items),
+      item_cells-length item.0 item.1 fits.1,
+      fits-long bars (i + item.1) (held item.0) items fits.3,
+    )
 
 -- ---- each follows the one before it
 

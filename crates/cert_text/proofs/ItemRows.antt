@@ -12,8 +12,8 @@ use Rattle.fux_grid.specs.Exercises.{IsValid}
 use Rattle.fux_text.specs.Lines.{free_voices}
 use Rattle.fux_text.specs.Sing.{held}
 use Rattle.fux_text.proofs.OwnSetting.{free-cantus, free-other, free_of}
-use Rattle.cert_text.specs.HeadRows.{BehindItem, BehindName, IsCount, Items, RestOfLine, SingLine, SingLines, behind_text, free_from, is_count, sing_bytes}
-use Rattle.cert_text.specs.Pieces.{OneByte, Reads, Stops, Then}
+use Rattle.cert_text.specs.HeadRows.{BehindItem, BehindName, IsCount, ItemName, Items, RestOfLine, SingLine, SingLines, behind_text, free_from, is_count, sing_bytes}
+use Rattle.cert_text.specs.Pieces.{Literal, OneByte, Reads, Stops, Then}
 use Rattle.cert_text.proofs.FourthOctave.{natural-four}
 use Rattle.cert_text.proofs.ItemTexts.{items-to, items_text, sample, sample-fits}
 use Rattle.cert_text.proofs.NameLemmas.{names-alone}
@@ -27,26 +27,35 @@ rest-alone false more alone = alone
 
 item-alone : (bars i : ℕ) (more : Unit {0} → List ℕ → Type 0) → Alone more → Alone (BehindItem bars i more)
 item-alone bars i more alone =
-    then-alone _ _ (fixed-alone (tt {0}) (behind_text bars i)) (λ _. rest-alone (i == 8 * bars) more alone)
+    then-alone (Literal (behind_text bars i)) (λ _. RestOfLine (i == 8 * bars) more) (fixed-alone (tt {0}) (behind_text bars i))
+    (λ _. rest-alone (i == 8 * bars) more alone)
 
 name-alone : (bars i : ℕ) (more : ℕ → Unit {0} → List ℕ → Type 0) → ((next : ℕ) → Alone (more next))
     → Alone (BehindName bars i more)
 name-alone bars i more alone =
-    then-alone _ _ (fixed-alone (tt {0}) (codes ":")) (λ _. then-alone _ _ (byte-alone (IsCount i))
+    then-alone (Literal (codes ":"))
+    (λ _. Then (OneByte (IsCount i)) (λ digit. BehindItem bars (i + (digit - 48)) (more (i + (digit - 48)))))
+    (fixed-alone (tt {0}) (codes ":"))
+    (λ _. then-alone (OneByte (IsCount i)) (λ digit. BehindItem bars (i + (digit - 48)) (more (i + (digit - 48))))
+    (byte-alone (IsCount i))
     (λ digit. item-alone bars (i + (digit - 48)) (more (i + (digit - 48))) (alone (i + (digit - 48)))))
 
 pub items-alone : (bars most i : ℕ) (before : Cell) → Alone (Items bars most i before)
 items-alone bars zero i before = λ x y f g a b s t e. absurd s
 items-alone bars (suc most) i before =
-    then-alone _ _ (names-alone i before)
+    then-alone (ItemName i before) (λ c. BehindName bars i (λ next. Items bars most next (held c)))
+    (names-alone i before)
     (λ c. name-alone bars i (λ next. Items bars most next (held c)) (λ next. items-alone bars most next (held c)))
 
 pub line-alone : (ex : Exercise) (v : ℕ) → Alone (SingLine ex v)
-line-alone ex v = then-alone _ _ (fixed-alone (tt {0}) (sing_bytes v)) (λ _. items-alone ex.bars (8 * ex.bars) 0 Rest)
+line-alone ex v =
+    then-alone (Literal (sing_bytes v)) (λ _. Items ex.bars (8 * ex.bars) 0 Rest) (fixed-alone (tt {0}) (sing_bytes v))
+    (λ _. items-alone ex.bars (8 * ex.bars) 0 Rest)
 
 pub lines-alone : (ex : Exercise) (voices : List ℕ) → Alone (SingLines ex voices)
 lines-alone ex [] = fixed-alone (tt {0}) []
-lines-alone ex (v ∷ vs) = then-alone _ _ (line-alone ex v) (λ _. lines-alone ex vs)
+lines-alone ex (v ∷ vs) =
+    then-alone (SingLine ex v) (λ _. SingLines ex vs) (line-alone ex v) (λ _. lines-alone ex vs)
 
 -- ---- items go on
 
@@ -65,14 +74,14 @@ items-live bars most i before here enough =
 
 pub line-live : (ex : Exercise) (v : ℕ) → 1 ≤ ex.bars → Live (SingLine ex v)
 line-live ex v some =
-    then-live _ _ tt (sing_bytes v) (refl, refl)
+    then-live (Literal (sing_bytes v)) (λ _. Items ex.bars (8 * ex.bars) 0 Rest) tt (sing_bytes v) (refl, refl)
     (items-live ex.bars (8 * ex.bars) 0 Rest (omega (arith, some)) (omega arith))
 
 pub lines-live : (ex : Exercise) (voices : List ℕ) → 1 ≤ ex.bars → Live (SingLines ex voices)
 lines-live ex [] some = (tt, [], (refl, refl))
 lines-live ex (v ∷ vs) some =
     let first = line-live ex v some in
-    then-live _ _ first.0 first.1 first.2 (lines-live ex vs some)
+    then-live (SingLine ex v) (λ _. SingLines ex vs) first.0 first.1 first.2 (lines-live ex vs some)
 
 -- ---- the next item
 
@@ -99,17 +108,18 @@ module _ (bars most i : ℕ) (before : Cell) (here : i < 8 * bars) (enough : 8 *
       → Live (BehindItem bars (i + (digit - 48)) (Items bars most (i + (digit - 48)) (held c)))
   item-live c digit count =
       let next = i + (digit - 48) in
-      then-live _ _ tt (behind_text bars next) (refl, refl)
+      then-live (Literal (behind_text bars next)) (λ _. Rests c next) tt (behind_text bars next) (refl, refl)
       (rest-live c next (omega (arith, count.0)) (omega (arith, count.0, count.1, here)))
 
   pub count-live : (c : Cell) → Live (Counts c)
   count-live c =
       let one : IsCount i 49 = (omega arith, omega arith) in
-      then-live _ _ 49 (49 ∷ [])
+      then-live (OneByte (IsCount i))
+      (λ digit. BehindItem bars (i + (digit - 48)) (Items bars most (i + (digit - 48)) (held c))) 49 (49 ∷ [])
       (one, refl) (item-live c 49 one)
 
   pub name-live : (c : Cell) → Live (Named c)
-  name-live c = then-live _ _ tt (codes ":") (refl, refl) (count-live c)
+  name-live c = then-live (Literal (codes ":")) (λ _. Counts c) tt (codes ":") (refl, refl) (count-live c)
 
 -- ---- as many items as may be
 
@@ -176,12 +186,17 @@ free_from-other ex v here e =
     let count : ex.voices - v ≡ suc (ex.voices - (v + 1)) = omega (arith, here) in
     sym (ap (free_of ex v) count ∙ free-other ex v (ex.voices - (v + 1)) (ne_eqb v ex.cantus_voice e))
 
+pub none-reads : (ex : Exercise) (v : ℕ) → ex.voices ≤ v → (bytes : List ℕ)
+    → Reads (SingLines ex (free_from ex v)) bytes tt bytes
+none-reads ex v past bytes =
+    subst (λ vs. Reads (SingLines ex vs) bytes tt bytes) (sym (free_from-none ex v past)) ([], refl, (refl, refl))
+
 module _ (ex : Exercise) (v : ℕ) (here : v < ex.voices) (other : v ≢ ex.cantus_voice) (valid : IsValid ex) where
   pub line-stops : (bytes : List ℕ) (left : ℕ) → Stops (SingLine ex v) bytes left
       → Stops (SingLines ex (free_from ex v)) bytes left
   line-stops bytes left stop =
       subst (λ vs. Stops (SingLines ex vs) bytes left) (free_from-other ex v here other)
-      (stops-first _ _ bytes left (line-alone ex v)
+      (stops-first (SingLine ex v) (λ _. SingLines ex (free_from ex (v + 1))) bytes left (line-alone ex v)
       (λ _ t text. lines-live ex (free_from ex (v + 1)) (omega (arith, valid.fewest_bars))) stop)
 
   module _ (bytes r1 : List ℕ) (line : Reads (SingLine ex v) bytes tt r1) where
@@ -189,13 +204,14 @@ module _ (ex : Exercise) (v : ℕ) (here : v < ex.voices) (other : v ≢ ex.cant
         → Stops (SingLines ex (free_from ex v)) bytes left
     later-stops left stop =
         subst (λ vs. Stops (SingLines ex vs) bytes left) (free_from-other ex v here other)
-        (stops-behind _ _ bytes r1 left tt (line-alone ex v) line stop)
+        (stops-behind (SingLine ex v) (λ _. SingLines ex (free_from ex (v + 1))) bytes r1 left tt (line-alone ex v) line
+        stop)
 
     pub later-reads : (rest : List ℕ) → Reads (SingLines ex (free_from ex (v + 1))) r1 tt rest
         → Reads (SingLines ex (free_from ex v)) bytes tt rest
     later-reads rest read =
         subst (λ vs. Reads (SingLines ex vs) bytes tt rest) (free_from-other ex v here other)
-        (reads-then _ _ bytes r1 rest tt tt line read)
+        (reads-then (SingLine ex v) (λ _. SingLines ex (free_from ex (v + 1))) bytes r1 rest tt tt line read)
 
 pub free_from-all : (ex : Exercise) → free_from ex 0 ≡ free_voices ex
 free_from-all ex = let all : ex.voices - 0 ≡ ex.voices = omega arith in ap (free_of ex 0) all

@@ -18,7 +18,6 @@ use Rattle.fux_text.specs.Lines.{free_voices}
 use Rattle.fux_text.specs.Sing.{held}
 use Rattle.fux_text.proofs.OwnSetting.{free-cantus, free-other, free_of}
 use Rattle.cert_text.specs.HeadRows.{BehindItem, Items, RestOfLine, SingLines, behind_text, can_stand, sing_bytes}
-use Rattle.cert_text.proofs.PieceLemmas.{in_two}
 
 -- items behind so many columns and a cell are the rest of a line of so many bars, and none goes beyond its bar
 abbrev pub Fits : ℕ → ℕ → Cell → List (Cell × ℕ) → Type 0
@@ -128,18 +127,39 @@ pub items-to : (bars most i : ℕ) (before : Cell) (items : List (Cell × ℕ)) 
     → 8 * bars ≤ i + most → Items bars most i before tt (items_text bars i items)
 items-to bars most i before [] fits here enough = absurd (omega (arith, fits, here))
 items-to bars zero i before (item ∷ items) fits here enough = absurd (omega (arith, here, enough))
-items-to bars (suc most) i before ((c, n) ∷ items) fits here enough =
-    in_two c (item_name c) (58 ∷ (48 + n) ∷ rest) (append_assoc (item_name c) (58 ∷ (48 + n) ∷ []) rest) (fits.0, refl)
-    (in_two tt (codes ":") ((48 + n) ∷ rest) refl (refl, refl)
-    (in_two (48 + n) ((48 + n) ∷ []) rest refl ((omega (arith, fits.1), omega (arith, fits.2)), refl)
-    (subst (λ k. BehindItem bars (i + k) (Items bars most (i + k) (held c)) tt rest) same
-    (in_two tt (behind_text bars (i + n)) (items_text bars (i + n) items) refl (refl, refl)
-    (by (i + n == 8 * bars) refl items fits.3
-    (λ inside. items-to bars most (i + n) (held c) items fits.3 inside (omega (arith, enough, fits.1))))))))
+items-to bars (suc most) i before ((c, n) ∷ items) fits here enough = record {
+  said = c;
+  front = item_name c;
+  rest = 58 ∷ (48 + n) ∷ (behind_text bars (i + n) ++ items_text bars (i + n) items);
+  parts = append_assoc (item_name c) (58 ∷ (48 + n) ∷ []) (behind_text bars (i + n) ++ items_text bars (i + n) items);
+  first = (fits.0, refl);
+  behind = record {
+    said = tt;
+    front = codes ":";
+    rest = (48 + n) ∷ (behind_text bars (i + n) ++ items_text bars (i + n) items);
+    parts = refl;
+    first = (refl, refl);
+    behind = record {
+      said = 48 + n;
+      front = (48 + n) ∷ [];
+      rest = behind_text bars (i + n) ++ items_text bars (i + n) items;
+      parts = refl;
+      first = ((omega (arith, fits.1), omega (arith, fits.2)), refl);
+      behind = subst (λ k. BehindItem bars (i + k) (Items bars most (i + k) (held c)) tt
+          (behind_text bars (i + n) ++ items_text bars (i + n) items)) same
+          (record {
+            said = tt;
+            front = behind_text bars (i + n);
+            rest = items_text bars (i + n) items;
+            parts = refl;
+            first = (refl, refl);
+            behind = by (i + n == 8 * bars) refl items fits.3
+                (λ inside. items-to bars most (i + n) (held c) items fits.3 inside (omega (arith, enough, fits.1)));
+          });
+    };
+  };
+}
   where
-    rest : List ℕ
-    rest = behind_text bars (i + n) ++ items_text bars (i + n) items
-
     same : n ≡ 48 + n - 48
     same = omega arith
 
@@ -231,11 +251,21 @@ lines-from ex p (suc count) v text row =
 pub lines-to : (ex : Exercise) (sung : ℕ → List (Cell × ℕ)) (voices : List ℕ) → 1 ≤ ex.bars
     → ((v : ℕ) → Fits ex.bars 0 Rest (sung v)) → SingLines ex voices tt (lines_text ex sung voices)
 lines-to ex sung [] some fits = (refl, refl)
-lines-to ex sung (v ∷ vs) some fits =
-    in_two tt (line_text ex v (sung v)) (lines_text ex sung vs) refl
-    (in_two tt (sing_bytes v) (items_text ex.bars 0 (sung v)) refl (refl, refl)
-    (items-to ex.bars (8 * ex.bars) 0 Rest (sung v) (fits v) (omega (arith, some)) (omega arith)))
-    (lines-to ex sung vs some fits)
+lines-to ex sung (v ∷ vs) some fits = record {
+  said = tt;
+  front = line_text ex v (sung v);
+  rest = lines_text ex sung vs;
+  parts = refl;
+  first = record {
+    said = tt;
+    front = sing_bytes v;
+    rest = items_text ex.bars 0 (sung v);
+    parts = refl;
+    first = (refl, refl);
+    behind = items-to ex.bars (8 * ex.bars) 0 Rest (sung v) (fits v) (omega (arith, some)) (omega arith);
+  };
+  behind = lines-to ex sung vs some fits;
+}
 
 -- ---- how long they are
 
@@ -245,7 +275,8 @@ name-short (Hold p) = omega arith
 name-short (Start p) = (name_of-length p).1
 
 item-short : (item : Cell × ℕ) → length (item_text item) ≤ 5
-item-short item = omega (arith, length-append (item_name item.0) (58 ∷ (48 + item.1) ∷ []), name-short item.0)
+item-short item =
+    omega (arith, length-append (item_name item.0) (58 ∷ (48 + item.1) ∷ []), name-short item.0)
 
 -- an item has at most five bytes, with a space or a feed behind it, or a bar line at the end of its bar
 items-short : (bars i : ℕ) (before : Cell) (items : List (Cell × ℕ)) → Fits bars i before items
@@ -264,12 +295,16 @@ items-short bars i before (item ∷ items) fits =
     by : (last : Bool) → (j == 8 * bars) ≡ last → (whole : Bool) → (j % 8 == 0) ≡ whole
         → length rest + 6 * j + 2 * (j / 8) ≤ 50 * bars
         → length (item_text item ++ (behind_text bars j ++ rest)) + 6 * i + 2 * (i / 8) ≤ 50 * bars
-    by true e whole f more = rw e (omega (arith, length-append (item_text item) (10 ∷ rest), item-short item, fits.1, more))
+    by true e whole f more =
+        let long = length-append (item_text item) (10 ∷ rest) in
+        rw e (omega (arith, long, item-short item, fits.1, more))
     by false e true f more =
         let end : (i + item.1) % 8 ≡ 0 = grind (arith, nat_tests) in
-        rw (e, f) (omega (arith, length-append (item_text item) (codes " | " ++ rest), item-short item, fits.1, end, more))
+        let long = length-append (item_text item) (codes " | " ++ rest) in
+        rw (e, f) (omega (arith, long, item-short item, fits.1, end, more))
     by false e false f more =
-        rw (e, f) (omega (arith, length-append (item_text item) (codes " " ++ rest), item-short item, fits.1, more))
+        let long = length-append (item_text item) (codes " " ++ rest) in
+        rw (e, f) (omega (arith, long, item-short item, fits.1, more))
 
 sing-short : (v : ℕ) → length (sing_bytes v) ≤ 7
 sing-short v = by (v == 0) (v == 1) (v == 2)
@@ -285,20 +320,35 @@ sing-short v = by (v == 0) (v == 1) (v == 2)
 line-short : (ex : Exercise) (v : ℕ) (items : List (Cell × ℕ)) → ex.bars ≤ 24 → Fits ex.bars 0 Rest items
     → length (line_text ex v items) ≤ 1207
 line-short ex v items few fits =
-    omega (arith, length-append (sing_bytes v) (items_text ex.bars 0 items), sing-short v, items-short ex.bars 0 Rest items fits, few)
+    omega (
+      arith,
+      length-append (sing_bytes v) (items_text ex.bars 0 items),
+      sing-short v,
+      items-short ex.bars 0 Rest items fits,
+      few,
+    )
 
 lines-short : (ex : Exercise) (sung : ℕ → List (Cell × ℕ)) (voices : List ℕ) → ex.bars ≤ 24
     → ((v : ℕ) → Fits ex.bars 0 Rest (sung v)) → length (lines_text ex sung voices) ≤ 1207 * length voices
 lines-short ex sung [] few fits = omega arith
 lines-short ex sung (v ∷ voices) few fits =
-    let long = length-append (line_text ex v (sung v)) (lines_text ex sung voices) in
-    omega (arith, long, line-short ex v (sung v) few (fits v), lines-short ex sung voices few fits)
+    omega (
+      arith,
+      length-append (line_text ex v (sung v)) (lines_text ex sung voices),
+      line-short ex v (sung v) few (fits v),
+      lines-short ex sung voices few fits,
+    )
 
 -- the lines of a head have at most 4,828 bytes, four lines of 1,207
 pub item_lines-short : (ex : Exercise) (lines : List ℕ) → IsValid ex → AreItemLines ex lines (free_voices ex)
     → length lines ≤ 4828
 item_lines-short ex lines valid are =
-    let lines = lines-short ex are.sung (free_voices ex) valid.most_bars are.fits in
-    let kept = length-filter (λ v. not (v == ex.cantus_voice)) (range_with_len 0 ex.voices) in
-    let free = count_by-le-length (λ v. not (v == ex.cantus_voice)) (range_with_len 0 ex.voices) in
-    omega (arith, ap length are.text, lines, free, kept, length-range_with_len 0 ex.voices, valid.most_voices)
+    omega (
+      arith,
+      ap length are.text,
+      lines-short ex are.sung (free_voices ex) valid.most_bars are.fits,
+      length-filter (λ v. not (v == ex.cantus_voice)) (range_with_len 0 ex.voices),
+      count_by-le-length (λ v. not (v == ex.cantus_voice)) (range_with_len 0 ex.voices),
+      length-range_with_len 0 ex.voices,
+      valid.most_voices,
+    )

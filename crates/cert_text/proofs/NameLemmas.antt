@@ -19,7 +19,7 @@ use Rattle.fux_text.proofs.OwnWords.{pitch-own}
 use Rattle.cert_text.specs.HeadRows.{ItemName, PitchName, can_stand, is_letter, is_sign}
 use Rattle.cert_text.specs.Pieces.{Begins, Stops, StopsAt}
 use Rattle.cert_text.proofs.FourthOctave.{flat-four, natural-four, sharp-four}
-use Rattle.cert_text.proofs.PieceLemmas.{Alone, stops-at}
+use Rattle.cert_text.proofs.PieceLemmas.{Alone}
 
 -- ---- the names of pitches
 
@@ -250,12 +250,17 @@ names-alone i before c d f g a b s t e =
 pub names-stop : (i : ℕ) (before : Cell) (bytes : List ℕ) (left : ℕ)
     → ((c : Cell) (b : ℕ) (more : List ℕ) → bytes ≡ b ∷ more → IsTrue (can_stand i before c) → item_name c ≡ b ∷ [] → ⊥)
     → Stops PitchName bytes left → Stops (ItemName i before) bytes left
-names-stop i before bytes left none stop =
-    stops-at (ItemName i before) bytes stop.front stop.rest left stop.parts stop.count (record {
-      begins = let begun = stop.here.begins in (Start begun.0, begun.1, (refl, begun.2));
-      open_ = λ c text. whole c text.0 text.1;
-      longest = λ b more e (c, r, text). longer c text.0 b more r e text.1;
-    })
+names-stop i before bytes left none stop = record {
+  front = stop.front;
+  rest = stop.rest;
+  parts = stop.parts;
+  count = stop.count;
+  here = record {
+    begins = let begun = stop.here.begins in (Start begun.0, begun.1, (refl, begun.2));
+    open_ = λ c text. whole c text.0 text.1;
+    longest = λ b more e (c, r, text). longer c text.0 b more r e text.1;
+  };
+}
   where
     whole : (c : Cell) → IsTrue (can_stand i before c) → stop.front ≡ item_name c → ⊥
     whole Rest s e = none Rest 114 stop.rest (stop.parts ∙ ap (λ w. w ++ stop.rest) e) s refl

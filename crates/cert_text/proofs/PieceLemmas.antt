@@ -51,15 +51,10 @@ then-alone L M one others y z f g a b s t e =
     others t.said y z s.rest t.rest a b (subst (λ x. M x y s.rest) first.0 s.behind) t.behind later in
     (second.0, s.parts ∙ ap (λ w. w ++ s.rest) first.1 ∙ ap (λ w. t.front ++ w) second.1 ∙ sym t.parts)
 
--- a text of one set, and one of those that stand behind what it says
-pub in_two : {A B : Type 0} {L : A → List ℕ → Type 0} {M : A → B → List ℕ → Type 0} {y : B} {text : List ℕ} (x : A)
-    (front rest : List ℕ) → text ≡ front ++ rest → L x front → M x y rest → Then L M y text
-in_two x front rest parts first behind =
-    record { said = x; front = front; rest = rest; parts = parts; first = first; behind = behind }
-
 pub then-live : {A B : Type 0} (L : A → List ℕ → Type 0) (M : A → B → List ℕ → Type 0) (x : A) (t : List ℕ) → L x t
     → Live (M x) → Live (Then L M)
-then-live L M x t first (y, u, behind) = (y, t ++ u, in_two x t u refl first behind)
+then-live L M x t first (y, u, behind) =
+    (y, t ++ u, record { said = x; front = t; rest = u; parts = refl; first = first; behind = behind })
 
 pub fixed-alone : {A : Type 0} (a : A) (text : List ℕ) → Alone (Fixed a text)
 fixed-alone a text x y f g u v s t e = (s.0 ∙ sym t.0, s.1 ∙ sym t.1)
@@ -95,7 +90,7 @@ pub reads-then : {A B : Type 0} (L : A → List ℕ → Type 0) (M : A → B →
 reads-then L M bytes mid rest x y (f, e, first) (g, e', behind) = (
   f ++ g,
   e ∙ ap (λ w. f ++ w) e' ∙ sym (append_assoc f g rest),
-  in_two x f g refl first behind,
+  record { said = x; front = f; rest = g; parts = refl; first = first; behind = behind },
 )
 
 -- no text stands at the front of what begins one and is none
@@ -128,7 +123,14 @@ first-stops {B = B} L M front rest alone live stop = record {
       let goes = live begun.0 (front ++ begun.1) begun.2 in (
         goes.0,
         begun.1 ++ goes.1,
-        in_two begun.0 (front ++ begun.1) goes.1 (sym (append_assoc front begun.1 goes.1)) begun.2 goes.2,
+        record {
+          said = begun.0;
+          front = front ++ begun.1;
+          rest = goes.1;
+          parts = sym (append_assoc front begun.1 goes.1);
+          first = begun.2;
+          behind = goes.2;
+        },
       );
   open_ = λ y s. none_before L front rest alone stop s.said s.front s.rest s.first s.parts;
   longest = λ b more e (y, r, s).
@@ -154,8 +156,18 @@ first-stops {B = B} L M front rest alone live stop = record {
 pub behind-stops : {A B : Type 0} (L : A → List ℕ → Type 0) (M : A → B → List ℕ → Type 0) (f front rest : List ℕ) (x : A)
     → Alone L → L x f → StopsAt (M x) front rest → StopsAt (Then L M) (f ++ front) rest
 behind-stops {B = B} L M f front rest x alone first stop = record {
-  begins = let begun = stop.begins in
-      (begun.0, begun.1, in_two x f (front ++ begun.1) (append_assoc f front begun.1) first begun.2);
+  begins = let begun = stop.begins in (
+    begun.0,
+    begun.1,
+    record {
+      said = x;
+      front = f;
+      rest = front ++ begun.1;
+      parts = append_assoc f front begun.1;
+      first = first;
+      behind = begun.2;
+    },
+  );
   open_ = λ y s. stop.open_ y (own y front s);
   longest = λ b more e (y, r, s). stop.longest b more e (
     y,
@@ -176,35 +188,51 @@ behind-stops {B = B} L M f front rest x alone first stop = record {
 
 -- ---- where so many bytes are left
 
+pub stops-first : {A B : Type 0} (L : A → List ℕ → Type 0) (M : A → B → List ℕ → Type 0) (bytes : List ℕ) (left : ℕ)
+    → Alone L → ((x : A) (t : List ℕ) → L x t → Live (M x)) → Stops L bytes left → Stops (Then L M) bytes left
+stops-first L M bytes left alone live stop = record {
+  front = stop.front;
+  rest = stop.rest;
+  parts = stop.parts;
+  count = stop.count;
+  here = first-stops L M stop.front stop.rest alone live stop.here;
+}
+
+pub stops-behind : {A B : Type 0} (L : A → List ℕ → Type 0) (M : A → B → List ℕ → Type 0) (bytes mid : List ℕ) (left : ℕ)
+    (x : A) → Alone L → Reads L bytes x mid → Stops (M x) mid left → Stops (Then L M) bytes left
+stops-behind L M bytes mid left x alone (f, e, first) stop = record {
+  front = f ++ stop.front;
+  rest = stop.rest;
+  parts = e ∙ ap (λ w. f ++ w) stop.parts ∙ sym (append_assoc f stop.front stop.rest);
+  count = stop.count;
+  here = behind-stops L M f stop.front stop.rest x alone first stop.here;
+}
+
 pub stops-at : {A : Type 0} (L : A → List ℕ → Type 0) (bytes front rest : List ℕ) (left : ℕ) → bytes ≡ front ++ rest
     → length rest ≡ left → StopsAt L front rest → Stops L bytes left
 stops-at L bytes front rest left parts count here =
     record { front = front; rest = rest; parts = parts; count = count; here = here }
-
-pub stops-first : {A B : Type 0} (L : A → List ℕ → Type 0) (M : A → B → List ℕ → Type 0) (bytes : List ℕ) (left : ℕ)
-    → Alone L → ((x : A) (t : List ℕ) → L x t → Live (M x)) → Stops L bytes left → Stops (Then L M) bytes left
-stops-first L M bytes left alone live stop =
-    stops-at (Then L M) bytes stop.front stop.rest left stop.parts stop.count
-    (first-stops L M stop.front stop.rest alone live stop.here)
-
-pub stops-behind : {A B : Type 0} (L : A → List ℕ → Type 0) (M : A → B → List ℕ → Type 0) (bytes mid : List ℕ) (left : ℕ)
-    (x : A) → Alone L → Reads L bytes x mid → Stops (M x) mid left → Stops (Then L M) bytes left
-stops-behind L M bytes mid left x alone (f, e, first) stop =
-    stops-at (Then L M) bytes (f ++ stop.front) stop.rest left
-    (e ∙ ap (λ w. f ++ w) stop.parts ∙ sym (append_assoc f stop.front stop.rest)) stop.count
-    (behind-stops L M f stop.front stop.rest x alone first stop.here)
 
 -- ---- one byte
 
 -- no byte of these comes next
 pub byte-stops : (Is : ℕ → Type 0) (bytes : List ℕ) (c : ℕ) → Is c
     → ((b : ℕ) (more : List ℕ) → bytes ≡ b ∷ more → Is b → ⊥) → Stops (OneByte Is) bytes (length bytes)
-byte-stops Is bytes c some none = stops-at (OneByte Is) bytes [] bytes (length bytes) refl refl (record {
-  begins = (c, c ∷ [], (some, refl));
-  open_ = λ b s. absurd (omega (arith, ap length s.1));
-  longest = λ b more e (d, r, s). none b more e (subst Is (first b d r s.1) s.0);
-})
+byte-stops Is bytes c some none = record {
+  front = [];
+  rest = bytes;
+  parts = refl;
+  count = refl;
+  here = record {
+    begins = (c, c ∷ [], (some, refl));
+    open_ = λ b s. no_text b s.1;
+    longest = λ b more e (d, r, s). none b more e (subst Is (first b d r s.1) s.0);
+  };
+}
   where
+    no_text : (b : ℕ) → [] ≡ b ∷ [] → ⊥
+    no_text b e = absurd (omega (arith, ap length e))
+
     first : (b d : ℕ) (r : List ℕ) → b ∷ r ≡ d ∷ [] → d ≡ b
     first b d r e = cc
 

@@ -123,14 +123,22 @@ module _ (n m byte : ℕ) (rest : List ℕ) (small : n < 2 ^ 64) (below : m < 2 
       by : (q : ℕ) → q ≤ m → decimal q ≡ decimal n ++ byte ∷ [] → (q < 10) ⊎ (10 ≤ q)
           → (1 ≤ n) × ((d : ℕ) × (d < 10) × (byte ≡ 48 + d) × (10 * n + d ≤ m))
       by q low all (inl few) =
-          let one = ap length (sym (decimal_digit q few) ∙ all) in
-          absurd (omega (arith, decimal_nonempty n small, one, length-append (decimal n) (byte ∷ [])))
+          absurd (omega (
+            arith,
+            decimal_nonempty n small,
+            ap length (sym (decimal_digit q few) ∙ all),
+            length-append (decimal n) (byte ∷ []),
+          ))
       by q low all (inr large) =
           let step : decimal (q / 10) ++ (48 + q % 10) ∷ [] ≡ decimal n ++ byte ∷ [] =
           sym (decimal_step q large (omega (arith, low, below))) ∙ all in
-          let own = length-append (decimal (q / 10)) ((48 + q % 10) ∷ []) in
           let long : length (decimal (q / 10)) ≡ length (decimal n) =
-          omega (arith, ap length step, own, length-append (decimal n) (byte ∷ [])) in
+          omega (
+            arith,
+            ap length step,
+            length-append (decimal (q / 10)) ((48 + q % 10) ∷ []),
+            length-append (decimal n) (byte ∷ []),
+          ) in
           let last : 48 + q % 10 ≡ byte =
           sym (get_or-append_seam (decimal (q / 10)) (48 + q % 10) [] 0)
           ∙ ap (λ xs. get_or xs (length (decimal (q / 10))) 0) step
