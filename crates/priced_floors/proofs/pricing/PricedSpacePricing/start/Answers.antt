@@ -1,5 +1,5 @@
 use Rattle.std.proofs.Common.{ap, sym, ◌∙◌}
-use Rattle.std.specs.Prelude.{None}
+use Rattle.std.specs.Prelude.{[], None}
 use Rattle.open_dissonances.proofs.GoesOn.{open-none}
 use Rattle.open_dissonances.specs.declared.steps.OpenDissonances.{OpenDissonances}
 use Rattle.open_dissonances.specs.Steps as dissonances
