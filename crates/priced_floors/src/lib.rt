@@ -5,7 +5,9 @@ mod charges;
 mod kept;
 mod keys;
 mod pricing;
+mod rounds;
 mod search;
+mod ways;
 
 pub use charges::Charges;
 pub use kept::Kept;

@@ -1,8 +1,10 @@
 //! The search for the best setting of an exercise by sharper floors.
 
-ghost use Rattle.std.specs.Prelude.{IfOk};
+ghost use Rattle.std.specs.Prelude.{◌≡◌, ◌≤◌, IfOk, length};
 ghost use Rattle.fux_grid.specs.Exercises.{IsValid, columns_in};
 ghost use Rattle.floor_graphs.specs.Sameness.{AgreesWithAnswers};
+ghost use Rattle.priced_floors.specs.Charges.{AreFairCharges, AreSmallCharges};
+ghost use Rattle.priced_floors.specs.declared.charges.TheConstants.{CASES, MOST_CHARGE, SCALE};
 ghost use Rattle.species_space.specs.Paths.{live_at};
 ghost use Rattle.tree_search.specs.Answer.{BoundsLeaves, HasNoLeaf, IsFirstLeast};
 ghost use Rattle.tree_search.specs.Outcomes.{IfFound, IfSpent, OnNothing};
@@ -10,11 +12,32 @@ ghost use Rattle.tree_search.specs.Outcomes.{IfFound, IfSpent, OnNothing};
 use crate::charges::Charges;
 use crate::keys::summit_keys;
 use crate::pricing::PricedSpace;
+use crate::rounds::find_prices;
+use crate::ways::ways_of;
 use fux_pitch::Memory;
 use priced_paths::search_priced;
 use species_space::SpeciesSpace;
 use std::alloc::Global;
+use strike_prices::Prices;
 use tree_search::Outcome;
+
+/// Prices for the cases of these charges; none where there are too many ways.
+fn prices_for(
+    alloc: Global,
+    space: &SpeciesSpace<'_>,
+    charges: &Charges,
+) -> Result<Vec<Prices>, Memory>
+    requires fair { AreFairCharges charges.now space.now.sheet }
+    requires small { AreSmallCharges MOST_CHARGE charges.now }
+    requires scale { charges.now.scale ≡ SCALE }
+    requires few { length charges.now.summits.items ≤ CASES }
+{
+    let priced = PricedSpace::new(alloc, space, charges)?;
+    match ways_of(alloc, &priced, charges)? {
+        Some(ways) => find_prices(alloc, space.sheet(), &ways, charges),
+        None => Ok(Vec::new(alloc)),
+    }
+}
 
 /// The first leaf of least value, by floors that know of gauges beforehand: of a pitch that is struck often, and of a climax that is struck
 /// again. Where the budget is enough the answer is that of any search; where it isn't, each leaf has at least the bound for a value.
@@ -30,7 +53,9 @@ pub fn search_best(alloc: Global, space: &SpeciesSpace<'_>, budget: u32) -> Resu
 {
     let voice = space.exercise().species_voice;
     let keys = summit_keys(alloc, space, voice)?;
-    let charges = Charges::new(alloc, space.sheet(), &[], voice, &keys)?;
+    let plain = Charges::new(alloc, space.sheet(), &[], voice, &keys)?;
+    let prices = prices_for(alloc, space, &plain)?;
+    let charges = Charges::new(alloc, space.sheet(), &prices, voice, &keys)?;
     let priced = PricedSpace::new(alloc, space, &charges)?;
     search_priced(alloc, &priced, budget)
 }

@@ -1,0 +1,378 @@
+//! Prices, found by rounds in which a case's strikes are charged more where the least way strikes a pitch more than four times, and less
+//! where it doesn't. No clause speaks of them: any prices are fair once they are capped.
+
+use crate::charges::{CASES, Charges, SCALE};
+use crate::ways::{Notes, Ways};
+use fux_pitch::Memory;
+use penalty_sheet::{Sheet, weight};
+use std::alloc::Global;
+use strike_prices::{PITCHES, Prices, Summit};
+
+/// How many rounds there are at most, for all cases together.
+const ROUNDS: usize = 300;
+
+/// Prices are worked in so many parts of a part.
+const FINE: i64 = 256;
+
+/// How many rounds may bring nothing before the aim is lowered.
+const PATIENCE: u32 = 8;
+
+/// How many prices a case has: one for each pitch of each of four voices.
+const WIDTH: usize = 4 * PITCHES;
+
+/// What is known of a case: its prices, the best so far, which way they went, the sum by the best ones, and how far above it the aim is.
+#[derive(Drop)]
+struct Bid {
+    prices: Vec<i64>,
+    best: Vec<i64>,
+    way: Vec<i64>,
+    sum: i64,
+    aim: i64,
+    stalled: u32,
+    is_done: bool,
+}
+
+/// What is worked in a round: the least sums from the nodes to the end, where the case's keys were reached and where they weren't; and how
+/// often the least way strikes each pitch.
+#[derive(Drop)]
+struct Round {
+    sums: Vec<i64>,
+    strikes: Vec<i64>,
+}
+
+/// No way leads to the end.
+const NONE: i64 = 1 << 50;
+
+/// A number of a list, or another where it has none.
+#[inline]
+fn number_or(numbers: &[i64], i: usize, otherwise: i64) -> i64 {
+    match numbers.get(i) {
+        Some(number) => *number,
+        None => otherwise,
+    }
+}
+
+/// The price of a place in whole parts.
+#[inline]
+fn whole(price: i64) -> i64 {
+    price.wrapping_add(FINE / 2) >> 8
+}
+
+/// The number of a voice's pitch among a case's prices.
+#[inline]
+fn index_of(v: usize, place: u8) -> usize {
+    v.wrapping_mul(PITCHES)
+        .wrapping_add(place as usize)
+        .wrapping_sub(1)
+}
+
+/// What a column is charged in a case; none where it has a note above the case.
+fn toll(notes: &Notes, summit: &Summit, prices: &[i64]) -> Option<i64> {
+    let mut sum = 0i64;
+    if let Some(high) = summit.high {
+        if notes.key > high {
+            return None;
+        }
+        if notes.key == high {
+            sum = i64::from(summit.charge);
+        }
+    }
+    for v in 0..4usize {
+        let place = notes.places[v];
+        if place > 0 {
+            sum = sum.wrapping_add(whole(number_or(prices, index_of(v, place), 0)));
+        }
+    }
+    Some(sum)
+}
+
+/// The sum behind a step, from where the case's keys were reached or weren't.
+#[inline]
+fn sum_behind(
+    ways: &Ways,
+    step: usize,
+    reached: bool,
+    summit: &Summit,
+    prices: &[i64],
+    sums: &[i64],
+) -> i64 {
+    let Some(step) = ways.steps.get(step) else {
+        return NONE;
+    };
+    let Some(notes) = ways.notes.get(step.choice as usize) else {
+        return NONE;
+    };
+    let Some(charge) = toll(notes, summit, prices) else {
+        return NONE;
+    };
+    let reached = reached || summit.low == 0 || notes.key >= summit.low;
+    let node = (step.to as usize)
+        .wrapping_mul(2)
+        .wrapping_add(reached as usize);
+    i64::from(step.cost)
+        .wrapping_mul(i64::from(SCALE))
+        .wrapping_add(charge)
+        .wrapping_add(number_or(sums, node, NONE))
+        .min(NONE)
+}
+
+/// The steps of a node: from one number up to another.
+fn steps_of(ways: &Ways, node: usize) -> (usize, usize) {
+    let first = match ways.first.get(node) {
+        Some(first) => *first as usize,
+        None => 0,
+    };
+    let end = match ways.first.get(node.wrapping_add(1)) {
+        Some(end) => *end as usize,
+        None => ways.steps.len(),
+    };
+    (first, end)
+}
+
+/// The step of a node with the least sum behind it, and that sum.
+fn least_step(
+    ways: &Ways,
+    node: usize,
+    reached: bool,
+    summit: &Summit,
+    prices: &[i64],
+    sums: &[i64],
+) -> (usize, i64) {
+    let (first, end) = steps_of(ways, node);
+    let mut least = (end, NONE);
+    for step in first..end {
+        let sum = sum_behind(ways, step, reached, summit, prices, sums);
+        if sum < least.1 {
+            least = (step, sum);
+        }
+    }
+    least
+}
+
+impl Round {
+    /// The least sums by some prices, from the last nodes back.
+    fn work(&mut self, ways: &Ways, summit: &Summit, prices: &[i64]) {
+        let count = ways.nodes.len();
+        for back in 0..count {
+            let node = count - 1 - back;
+            for reached in 0..2usize {
+                let mut sum = NONE;
+                if node >= ways.end {
+                    if reached == 1 {
+                        sum = 0;
+                    }
+                } else {
+                    sum = least_step(ways, node, reached == 1, summit, prices, &self.sums).1;
+                }
+                if let Some(place) = self
+                    .sums
+                    .get_mut(node.wrapping_mul(2).wrapping_add(reached))
+                {
+                    *place = sum;
+                }
+            }
+        }
+    }
+
+    /// Counts the strikes on the least way.
+    fn count(&mut self, ways: &Ways, summit: &Summit, prices: &[i64]) {
+        for place in 0..WIDTH {
+            if let Some(strikes) = self.strikes.get_mut(place) {
+                *strikes = 0;
+            }
+        }
+        let mut node = 0usize;
+        let mut reached = false;
+        for _turn in 0..192 {
+            let (step, _) = least_step(ways, node, reached, summit, prices, &self.sums);
+            let Some(step) = ways.steps.get(step) else {
+                return;
+            };
+            let Some(notes) = ways.notes.get(step.choice as usize) else {
+                return;
+            };
+            reached = reached || summit.low == 0 || notes.key >= summit.low;
+            for v in 0..4usize {
+                let place = notes.places[v];
+                if place > 0 {
+                    if let Some(strikes) = self.strikes.get_mut(index_of(v, place)) {
+                        *strikes = strikes.wrapping_add(1);
+                    }
+                }
+            }
+            node = step.to as usize;
+        }
+    }
+}
+
+impl Bid {
+    /// A case without prices.
+    fn new(alloc: Global) -> Result<Bid, Memory> {
+        Ok(Bid {
+            prices: vec![in alloc; 0i64; WIDTH]?,
+            best: vec![in alloc; 0i64; WIDTH]?,
+            way: vec![in alloc; 0i64; WIDTH]?,
+            sum: i64::MIN,
+            aim: 64,
+            stalled: 0,
+            is_done: false,
+        })
+    }
+
+    /// What the prices charge that isn't due.
+    fn debt(&self, summit: &Summit) -> i64 {
+        let mut sum = i64::from(summit.charge);
+        for price in &self.prices {
+            sum = sum.wrapping_add(whole(*price).wrapping_mul(4));
+        }
+        sum
+    }
+
+    /// Takes the prices for the best so far, or goes back to these where nothing was gained for long.
+    fn judge(&mut self, sum: i64) {
+        if sum > self.sum {
+            self.sum = sum;
+            self.stalled = 0;
+            for place in 0..WIDTH {
+                let price = number_or(&self.prices, place, 0);
+                if let Some(best) = self.best.get_mut(place) {
+                    *best = price;
+                }
+            }
+            return;
+        }
+        self.stalled = self.stalled.wrapping_add(1);
+        if self.stalled >= PATIENCE {
+            self.stalled = 0;
+            self.aim = self.aim.wrapping_mul(3) >> 2;
+            self.is_done = self.aim < 2;
+            for place in 0..WIDTH {
+                let price = number_or(&self.best, place, 0);
+                if let Some(own) = self.prices.get_mut(place) {
+                    *own = price;
+                }
+            }
+        }
+    }
+
+    /// Which way a price is to go, by how often its pitch was struck.
+    fn turn(&mut self, strikes: &[i64], most: i64) -> i64 {
+        let mut norm = 0i64;
+        for place in 0..WIDTH {
+            let price = number_or(&self.prices, place, 0);
+            let more = number_or(strikes, place, 0)
+                .wrapping_sub(4)
+                .wrapping_mul(16);
+            if let Some(way) = self.way.get_mut(place) {
+                let mut next = more.wrapping_add(*way >> 1);
+                if (price <= 0 && next < 0) || (price >= most && next > 0) {
+                    next = 0;
+                }
+                *way = next;
+                norm = norm.wrapping_add(next.wrapping_mul(next));
+            }
+        }
+        norm
+    }
+
+    /// Goes that way, as far as the aim is above the sum.
+    fn go(&mut self, gap: i64, norm: i64, most: i64) {
+        for place in 0..WIDTH {
+            let way = number_or(&self.way, place, 0);
+            let by = match gap
+                .wrapping_mul(16 * FINE)
+                .wrapping_mul(way)
+                .checked_div(norm)
+            {
+                Some(by) => by,
+                None => 0,
+            };
+            if let Some(price) = self.prices.get_mut(place) {
+                *price = price.wrapping_add(by).max(0).min(most);
+            }
+        }
+    }
+
+    /// One round.
+    fn improve(&mut self, ways: &Ways, summit: &Summit, round: &mut Round, most: i64) {
+        round.work(ways, summit, &self.prices);
+        let sum = number_or(&round.sums, 0, NONE);
+        if sum >= NONE {
+            self.is_done = true;
+            self.sum = NONE;
+            return;
+        }
+        round.count(ways, summit, &self.prices);
+        let sum = sum.wrapping_sub(self.debt(summit));
+        self.judge(sum);
+        let norm = self.turn(&round.strikes, most);
+        if norm <= 0 {
+            self.is_done = true;
+            return;
+        }
+        let gap = self.sum.wrapping_add(self.aim).wrapping_sub(sum);
+        self.go(gap, norm, most);
+    }
+
+    /// The best prices of a voice.
+    fn prices_of(&self, v: usize) -> Prices {
+        let mut strikes = [0u32; PITCHES];
+        for place in 0..PITCHES {
+            let price = number_or(&self.best, v.wrapping_mul(PITCHES).wrapping_add(place), 0);
+            strikes[place] = (whole(price) & 0xff_ffff) as u32;
+        }
+        Prices {
+            scale: SCALE,
+            strikes,
+        }
+    }
+}
+
+/// The case whose sum is least, of those that aren't done.
+fn least_case(bids: &[Bid]) -> Option<usize> {
+    let mut least = None;
+    let mut sum = i64::MAX;
+    for case in 0..bids.len() {
+        if let Some(bid) = bids.get(case) {
+            if !bid.is_done && bid.sum < sum {
+                sum = bid.sum;
+                least = Some(case);
+            }
+        }
+    }
+    least
+}
+
+/// Prices of each case, four voices each.
+pub fn find_prices(
+    alloc: Global,
+    sheet: &Sheet,
+    ways: &Ways,
+    charges: &Charges,
+) -> Result<Vec<Prices>, Memory> {
+    let most = i64::from(weight(sheet, 20)) * i64::from(SCALE) * FINE;
+    let mut round = Round {
+        sums: vec![in alloc; NONE; ways.nodes.len().wrapping_mul(2)]?,
+        strikes: vec![in alloc; 0i64; WIDTH]?,
+    };
+    let mut bids: Vec<Bid> = Vec::new(alloc);
+    for _case in 0..charges.summits.len().min(CASES) {
+        bids.push(Bid::new(alloc)?)?;
+    }
+    for _turn in 0..ROUNDS {
+        let Some(case) = least_case(&bids) else {
+            break;
+        };
+        let summit = charges.summit(case);
+        if let Some(bid) = bids.get_mut(case) {
+            bid.improve(ways, &summit, &mut round, most);
+        }
+    }
+    let mut prices = Vec::new(alloc);
+    for bid in &bids {
+        for v in 0..4usize {
+            prices.push(bid.prices_of(v))?;
+        }
+    }
+    Ok(prices)
+}
