@@ -1,5 +1,5 @@
 use Rattle.std.proofs.Common.{ap, sym, ◌∙◌}
-use Rattle.std.specs.Prelude.{None}
+use Rattle.std.specs.Prelude.{[], None}
 use Rattle.open_dissonances.proofs.GoesOn.{open-none}
 use Rattle.open_dissonances.specs.declared.steps.OpenDissonances.{OpenDissonances}
 use Rattle.open_dissonances.specs.Steps as dissonances
@@ -13,5 +13,5 @@ pub returns : goal.returns
 returns c =
     let ex = c.args.self.now.space.now.exercise in
     let K : OpenDissonances → OpenShapes → Kept = λ w s. record { column = None; waiting = w; shapes = s } in
-    ap (λ w. K w c.none-shapes.result) (c.none-waiting.ensures ∙ sym (open-none ex))
-    ∙ ap (K (dissonances.open_in ex [])) (c.none-shapes.ensures ∙ sym (open_shapes-none ex))
+    ap (λ w. K w c.none-2.result) (c.none.ensures ∙ sym (open-none ex))
+    ∙ ap (K (dissonances.open_in ex [])) (c.none-2.ensures ∙ sym (open_shapes-none ex))
