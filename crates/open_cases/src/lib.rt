@@ -3,6 +3,8 @@
 #![tactic(auto)]
 
 #[cfg(test)]
+mod shapes;
+#[cfg(test)]
 mod steps;
 #[cfg(test)]
 mod table;
