@@ -3,6 +3,10 @@
 #![tactic(auto)]
 
 #[cfg(test)]
+mod parallel_table;
+#[cfg(test)]
+mod parallels;
+#[cfg(test)]
 mod shapes;
 #[cfg(test)]
 mod steps;
