@@ -222,7 +222,10 @@ impl<'a> Pricing for PricedSpace<'a> {
             Some(number) => u64::from(number) + 1,
             None => 0,
         };
-        let open = mixed(mixed(kept.waiting.key(), kept.shapes.key()), kept.parallels.key());
+        let open = mixed(
+            mixed(kept.waiting.key(), kept.shapes.key()),
+            kept.parallels.key(),
+        );
         mixed(open, column)
     }
 

@@ -1,5 +1,5 @@
 use Rattle.std.proofs.Common.{ap, sym, ◌∙◌}
-use Rattle.std.specs.Prelude.{None}
+use Rattle.std.specs.Prelude.{[], None}
 use Rattle.open_dissonances.proofs.GoesOn.{open-none}
 use Rattle.open_dissonances.specs.declared.steps.OpenDissonances.{OpenDissonances}
 use Rattle.open_dissonances.specs.Steps as dissonances
@@ -20,7 +20,7 @@ returns c =
       shapes = s;
       parallels = p;
     } in
-    ap (λ w. K w c.none-shapes.result c.none-parallels.result) (c.none-waiting.ensures ∙ sym (open-none ex))
-    ∙ ap (λ s. K (dissonances.open_in ex []) s c.none-parallels.result)
-    (c.none-shapes.ensures ∙ sym (open_shapes-none ex))
-    ∙ ap (K (dissonances.open_in ex []) (open_shapes_in ex [])) (c.none-parallels.ensures ∙ sym (kept-none ex))
+    ap (λ w. K w c.none-2.result c.none-3.result) (c.none.ensures ∙ sym (open-none ex))
+    ∙ ap (λ s. K (dissonances.open_in ex []) s c.none-3.result)
+    (c.none-2.ensures ∙ sym (open_shapes-none ex))
+    ∙ ap (K (dissonances.open_in ex []) (open_shapes_in ex [])) (c.none-3.ensures ∙ sym (kept-none ex))
