@@ -22,7 +22,7 @@ use strike_prices::Prices;
 use tree_search::{Outcome, search_front};
 
 /// How many prefixes are opened at most before any price is sought: many an exercise needs no more.
-const FIRST_BUDGET: u32 = 4096;
+const FIRST_BUDGET: u32 = 32_768;
 
 /// Prices for the cases of these charges; none where there are too many ways.
 fn prices_for(
