@@ -1,5 +1,5 @@
 -- A trail goes on by one node.
-use Rattle.std.proofs.Common.{◌≡◌, ℕ, ◌+◌, ◌<◌, ◌≤◌, ◌-◌, ⊎_elim, List, [], ◌∷◌, ◌++◌, length, take, drop, set, get_or, Option, Some, None, IsSome, MatchOption, is_some, refl, sym, ap, subst, ◌∙◌, arith, length-set}
+use Rattle.std.proofs.Common.{◌≡◌, ℕ, ◌+◌, ◌<◌, ◌≤◌, ◌-◌, ⊎_elim, List, [], ◌∷◌, ◌++◌, length, take, drop, set, get_or, Option, Some, None, IsSome, is_some, refl, sym, ap, subst, ◌∙◌, arith, length-set}
 use Rattle.std.proofs.lemmas.Bool.{cases_lt}
 use Rattle.std.proofs.lemmas.List.{take-set-le, take_more_set, take_more, take-append-drop, length-take, length_push, get_or-set_same, get_or-set_other}
 use Rattle.tree_search.specs.Space.{FloorsGrow}
@@ -12,13 +12,6 @@ use Rattle.tree_search.proofs.Floors.{start_live}
 pub some_of : (o : Option ℕ) → IsSome o → (x : ℕ) × (o ≡ Some x)
 some_of None e = cc
 some_of (Some x) e = (x, refl)
-
--- where a child is live, what was made of it stands for it
-pub made_of : {P : Type 0} (found o : Option ℕ) → MatchOption found (o ≡ None) (λ floor. P × (o ≡ Some floor)) → IsSome o
-    → P
-made_of None None e is = cc
-made_of None (Some x) e is = cc
-made_of (Some floor) o e is = e.0
 
 pub IsTrail-step : {N : Type 0} (is_at : N → List ℕ → Type 0) (height : ℕ) (path : List ℕ) (nodes : List N)
     (level k : ℕ) (child : N) →

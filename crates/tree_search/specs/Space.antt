@@ -1,5 +1,5 @@
 -- What a search may take for granted of a tree.
-use Rattle.std.specs.Prelude.{◌≡◌, ℕ, ◌<◌, ◌≤◌, ◌++◌, ◌∷◌, [], List, Option, Some, None, IsSomeAnd, MatchOption, length}
+use Rattle.std.specs.Prelude.{◌≡◌, ℕ, ◌<◌, ◌≤◌, ◌++◌, ◌∷◌, [], List, Option, Some, None, IsSome, IsSomeAnd, MatchOption, length}
 
 -- the node is at a path to no leaf
 pub record IsInner (is_at : List ℕ → Type 0) (height : ℕ) : Type 0 where
@@ -13,6 +13,12 @@ pub record HasChild (is_at : List ℕ → Type 0) (height : ℕ) (width : List �
   pub at : is_at path
   pub above : length path < height
   pub within : child < width path
+
+-- the node is at a path that has a live child of this number
+pub record HasLiveChild (is_at : List ℕ → Type 0) (live : List ℕ → Option ℕ) (child : ℕ) : Type 0 where
+  pub path : List ℕ
+  pub at : is_at path
+  pub is_live : IsSome (live (path ++ child ∷ []))
 
 -- what was found at a path: a node that stands for it, with its floor, or nothing where no live node is
 abbrev pub IsFoundAt : {N : Type 0} → (N → List ℕ → Type 0) → (List ℕ → Option ℕ) → List ℕ → Option (N × ℕ) → Type 0
@@ -29,6 +35,12 @@ abbrev pub IsMadeChild : {N : Type 0} → (N → List ℕ → Type 0) → (List 
 IsMadeChild is_at live child node made found =
     (path : List ℕ) → is_at node path → MatchOption found (live (path ++ child ∷ []) ≡ None)
     (λ floor. is_at made (path ++ child ∷ []) × (live (path ++ child ∷ []) ≡ Some floor))
+
+-- wherever the child of this number is live, the node that was made stands for it, and this is its floor
+abbrev pub IsMadeAgain : {N : Type 0} → (N → List ℕ → Type 0) → (List ℕ → Option ℕ) → ℕ → N → N → ℕ → Type 0
+IsMadeAgain is_at live child node made floor =
+    (path : List ℕ) → is_at node path → IsSome (live (path ++ child ∷ []))
+    → is_at made (path ++ child ∷ []) × (live (path ++ child ∷ []) ≡ Some floor)
 
 -- each child from one number up to another is dead or no better than the best leaf so far: its floor is no
 -- lower than that leaf's value

@@ -1,6 +1,6 @@
 //! Trees that are made as they are searched.
 ghost use Rattle.std.specs.Prelude.{◌≡◌, ℕ, ◌≤◌, [], List, Option};
-ghost use Rattle.tree_search.specs.Space.{IsInner, HasChild, IsFoundAt, IsFoundChild, IsMadeChild, AreNoBetter, FloorsGrow};
+ghost use Rattle.tree_search.specs.Space.{IsInner, HasChild, HasLiveChild, IsFoundAt, IsFoundChild, IsMadeChild, IsMadeAgain, AreNoBetter, FloorsGrow};
 
 /// A tree of bounded depth, whose live nodes have floors. A node is named by its path, the child numbers from the root
 /// to it. A node at `depth` is a leaf, and its floor is its value.
@@ -53,6 +53,16 @@ pub trait Space {
             }
             None => None,
         }
+    }
+
+    /// The floor of a child that is known to be live, as a search knows of one that it comes back to. The child is written into the place
+    /// that is given. A space that can make such a child without finding out whether it is live does so here.
+    #[inline]
+    fn remake(&self, node: &Self::Node, k: usize, child: &mut Self::Node) -> u64
+        requires { HasLiveChild (is_at self.now node.now) (live self.now) k }
+        ensures { IsMadeAgain (is_at self.now) (live self.now) k node.now child.new result }
+    {
+        self.child_into(node, k, child).unwrap_or(0)
     }
 
     /// The least number, from this one on, of a child that may be live and better than the best leaf so far, or a number

@@ -104,7 +104,7 @@ fn step<S: Space>(space: &S, trail: &mut Trail<S::Node>, k: u16, entry: u32)
     ensures entry { trail.new.entry ≡ entry }
 {
     let level = trail.level;
-    let _ = space.child_into(&trail.nodes[level], k as usize, &mut trail.spare);
+    let _ = space.remake(&trail.nodes[level], k as usize, &mut trail.spare);
     place(trail, level, k, entry);
 }
 

@@ -1,6 +1,5 @@
 use Rattle.std.proofs.Math.Seq.{take-length}
-use Rattle.std.proofs.Common.{is_some, sym, take, ◌≡◌, ◌+◌, [], ℕ, List, Vec, Global, length, drop, vec_capacity, refl, ap, subst, ◌∙◌, arith}
-use Rattle.std.proofs.lemmas.List.{take_at}
+use Rattle.std.proofs.Common.{is_some, sym, take, ◌≡◌, ◌+◌, [], ℕ, List, Vec, Global, length, vec_capacity, refl, ap, subst, ◌∙◌, arith}
 use Rattle.std.proofs.lemmas.List.Sorted.{length_permutation}
 use Rattle.std.specs.BinaryHeap.{heap_capacity}
 use Rattle.tree_search.specs.Answer.{Many, IsLoaded}
@@ -13,7 +12,7 @@ use Rattle.tree_search.specs.declared.queue.Queue.{Queue}
 use Rattle.tree_search.proofs.Floors.{none_from}
 use Rattle.tree_search.proofs.Loads.{over_budget, enough_found, enough_none}
 use Rattle.tree_search.proofs.Trails.{level_is}
-use Rattle.tree_search.proofs.Searches.{few_from_dead, starts, IsClosed-leaf, IsOpen-first, first_settled, few_below, first_last, few_last, no_leaf, few_live, floor_is, floor_live, taken_within, no_longer, best_level, bounds}
+use Rattle.tree_search.proofs.Searches.{few_from_dead, starts, IsClosed-leaf, IsOpen-first, first_settled, few_below, first_last, few_last, no_leaf, few_live, floor_is, floor_live, taken_within, best_level, bounds}
 use Rattle.tree_search.proofs.front.search_front.Goals as goal
 
 pub returns-in_default-clause-nothing : goal.returns-in_default-clause-nothing

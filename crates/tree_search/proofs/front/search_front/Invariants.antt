@@ -1,4 +1,4 @@
-use Rattle.std.proofs.Common.{◌≡◌, ℕ, ◌+◌, ◌-◌, length}
+use Rattle.std.proofs.Common.{ℕ, ◌+◌, ◌-◌, length}
 use Rattle.tree_search.specs.Trails.{IsTrailTo}
 use Rattle.tree_search.specs.Fronts.{IsClosed, HasRoom}
 use Rattle.tree_search.specs.Queues.{IsQueue, entries}

@@ -1,4 +1,4 @@
-use Rattle.std.proofs.Common.{rules, ◌≡◌, ◌-◌, ◌<◌, ◌≤◌, ◌++◌, ◌∷◌, [], List, ℕ, IsSome, length, take, get_or, sym, ap, subst, ◌∙◌, arith}
+use Rattle.std.proofs.Common.{rules, ◌-◌, ◌<◌, ◌≤◌, ◌++◌, ◌∷◌, [], List, ℕ, IsSome, length, take, get_or, sym, ap, subst, ◌∙◌, arith}
 use Rattle.tree_search.specs.Links.{path_in}
 use Rattle.tree_search.specs.declared.links.Link.{Link}
 use Rattle.tree_search.proofs.Arena.{path_by_link}

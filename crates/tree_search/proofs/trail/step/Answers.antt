@@ -1,18 +1,13 @@
 use Rattle.std.proofs.Common.{arith, take}
-use Rattle.tree_search.proofs.Trails.{above_child, made_of, node_at, some_of, IsTrail-step}
+use Rattle.tree_search.proofs.Trails.{above_child, node_at, IsTrail-step}
 use Rattle.tree_search.proofs.trail.step.Goals as goal
 
-pub child_into-requires : goal.child_into-requires
-child_into-requires g c =
-    let path = take c.args.trail.now.level c.args.trail.now.path.items in
-    let floor = some_of _ c.requires.live in
-    let parent = g.met.S.Space.floors_grow c.args.space.now path c.args.k floor.0 floor.1 in
-    record {
-      path = path;
-      at = node_at c.requires.trail c.index.result.now c.index.ensures;
-      above = parent.above;
-      within = parent.within;
-    }
+pub remake-requires : goal.remake-requires
+remake-requires g c = record {
+  path = take c.args.trail.now.level c.args.trail.now.path.items;
+  at = node_at c.requires.trail c.index.result.now c.index.ensures;
+  is_live = c.requires.live;
+}
 
 pub place-requires-clause-path : goal.place-requires-clause-path
 place-requires-clause-path g c =
@@ -32,7 +27,7 @@ returns-clause-trail g c =
     let above = above_child (g.met.S.Space.floors_grow c.args.space.now) trail c.args.k c.requires.live in
     rw (c.place.ensures.path, c.place.ensures.nodes, c.place.ensures.level)
     (IsTrail-step (g.S.Space.is_at c.args.space.now) _ _ _ _ c.args.k _ above trail
-    (made_of _ _ (c.child_into.ensures _ (node_at trail c.index.result.now c.index.ensures)) c.requires.live))
+    (c.remake.ensures _ (node_at trail c.index.result.now c.index.ensures) c.requires.live).0)
 
 pub place-requires-clause-entries : goal.place-requires-clause-entries
 place-requires-clause-entries g c =
