@@ -15,7 +15,7 @@ use Rattle.rule_law.specs.Prefixes.{GoesOn, IsPrefix}
 use Rattle.fux_judge.proofs.Alive.{alive_orderly}
 use Rattle.species_space.specs.Exact.{menus_are_exact}
 use Rattle.species_space.specs.Leaves.{prefix_is_alive}
-use Rattle.species_space.specs.Paths.{column_at, is_alive_path, length-columns_on, prefix_at, width_at}
+use Rattle.species_space.specs.Paths.{column_at, is_alive_path, length-columns_on, prefix_at, prefix_at-append, width_at}
 
 -- a prefix with a column more
 prefix_with : (ex : Exercise) (p : List (List Cell)) (col : List Cell) → IsPrefix ex p → length p < columns_in ex
@@ -53,4 +53,16 @@ goes_on_from ex path k few live room within follows =
           (subst M (sym size) ((menus_are_exact ex (length path)).only (column_at ex path k)
           (Contains-get_or (menu_of ex (length path)) k [] within)))
           follows;
+    }
+
+-- nothing more is needed of a column that leads to an alive path
+pub goes_on_alive : (ex : Exercise) (path : List ℕ) (k : ℕ) → ex.voices ≤ 4 → is_alive_path ex path ≡ true
+    → is_alive_path ex (path ++ k ∷ []) ≡ true → GoesOn ex (prefix_at ex path) (column_at ex path k ∷ [])
+goes_on_alive ex path k few live next =
+    let P : List (List Cell) → Type 0 = λ p. IsPrefix ex p in
+    record {
+      orderly =
+          alive_orderly ex few (prefix_at ex path) (prefix_is_alive ex (menus_are_exact ex) path live).unbroken;
+      longer =
+          subst P (prefix_at-append ex path k) (prefix_is_alive ex (menus_are_exact ex) (path ++ k ∷ []) next).prefix;
     }

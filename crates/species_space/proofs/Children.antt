@@ -1,13 +1,15 @@
 -- Which children of an alive path are live, and which are no better than the best leaf so far.
 use Rattle.std.specs.Prelude.{IsSomeAnd}
-use Rattle.std.proofs.Common.{◌≡◌, ◌+◌, ◌≤◌, Option, Some, None, ℕ, ◌<◌, Bool, true, false, not, ◌&&◌, nat_lt, nat_le, List, [], ◌∷◌, ◌++◌, length, reverse, refl, ap, sym, ◌∙◌, subst, true≢false, arith}
+use Rattle.std.proofs.Common.{slice_index_or, ◌≡◌, ◌+◌, ◌≤◌, Option, Some, None, ℕ, ◌<◌, Bool, true, false, not, ◌&&◌, nat_lt, nat_le, List, [], ◌∷◌, ◌++◌, length, reverse, refl, ap, sym, ◌∙◌, subst, true≢false, arith}
 use Rattle.std.specs.List.{list_any}
 use Rattle.std.proofs.lemmas.Bool.Decides.{nat_tests}
 use Rattle.std.proofs.lemmas.Bool.{and_from}
+use Rattle.std.proofs.lemmas.List.{length-append}
 use Rattle.fux_grid.specs.declared.cell.Cell.{Cell}
 use Rattle.fux_grid.specs.declared.exercise.Exercise.{Exercise}
 use Rattle.fux_grid.specs.Columns.{newest_column, ColumnFollows}
 use Rattle.fux_grid.specs.Exercises.{IsValid, columns_in}
+use Rattle.fux_grid.specs.Menus.{menu_of}
 use Rattle.rule_law.specs.Law.{test_from_below}
 use Rattle.rule_law.specs.Prefixes.{IsPrefix}
 use Rattle.penalty_sheet.specs.declared.sheet.Sheet.{Sheet}
@@ -16,6 +18,8 @@ use Rattle.fux_judge.proofs.Grows.{paid_grows}
 use Rattle.fux_judge.proofs.LeastLaws.{least_grows}
 use Rattle.fux_judge.specs.Rules.{rules_read}
 use Rattle.fux_judge.specs.Penalties.{newly_broken, newly_paid, paid}
+use Rattle.fux_judge.specs.States.{IsStateOf}
+use Rattle.fux_judge.specs.Verdicts.{PaysMore}
 use Rattle.floor_tables.specs.Floors.{rest_of}
 use Rattle.floor_tables.specs.Tables.{IsRest}
 use Rattle.floor_tables.proofs.RestLemmas.{rest_is}
@@ -23,7 +27,7 @@ use Rattle.species_space.specs.declared.node.Node.{Node}
 use Rattle.species_space.specs.Exact.{menus_are_exact}
 use Rattle.species_space.specs.Grows.{live_none, live_some, live_value}
 use Rattle.species_space.specs.Leaves.{follows_from_test, prefix_is_alive, test_from_follows}
-use Rattle.species_space.specs.FloorLaws.{floor_parts, no_floor}
+use Rattle.species_space.specs.FloorLaws.{floor_of_rest, floor_parts, no_floor}
 use Rattle.species_space.specs.Nodes.{IsNodeOf}
 use Rattle.species_space.specs.Paths.{IsNoBetter, prefix_at, column_at, width_at, column_follows, is_alive_path, live_at, alive_goes_on, alive_from_parts, length-columns_on, prefix_at-append}
 
@@ -170,6 +174,50 @@ module _ (ex : Exercise) (path : List ℕ) (k : ℕ) (alive : is_alive_path ex p
     no_better_by_rest rest best room is costly floor there =
         let all = costs floor there in
         some_lower best _ floor (omega (arith, all.low)) (costly all.rest (rest_there rest room is ∙ all.is_rest))
+
+-- one whose column no chain goes on from is dead
+pub no_chain : (ex : Exercise) (sheet : Sheet) (node : Node) (path : List ℕ) (k : ℕ) → IsNodeOf ex sheet node path
+    → node.state.newest.len < columns_in ex
+    → IsRest ex sheet node.state.newest.len (slice_index_or (menu_of ex node.state.newest.len) k []) None
+    → live_at ex sheet (path ++ k ∷ []) ≡ None
+no_chain ex sheet node path k at room is =
+    let long = as_long ex sheet node path at in
+    ends ex path k at.alive sheet
+    (sym (rest_there ex path k at.alive sheet None (omega (arith, long, room))
+    (subst (λ n. IsRest ex sheet n (slice_index_or (menu_of ex n) k []) None) long is)))
+
+-- a node that is made of its parent's, with what its column costs, stands for an alive child, and its floor is the sum with the rest
+pub made_of : (ex : Exercise) (sheet : Sheet) (path : List ℕ) (k : ℕ) (node made : Node) (col : List Cell)
+    (more rest : ℕ) → IsNodeOf ex sheet node path → col ≡ column_at ex path k → length path < columns_in ex
+    → is_alive_path ex (path ++ k ∷ []) ≡ true → IsRest ex sheet node.state.newest.len col (Some rest)
+    → IsStateOf ex (prefix_at ex path ++ col ∷ []) made.state → made.paid ≡ node.paid + more
+    → PaysMore ex sheet (prefix_at ex path) col more → more ≤ 134217728
+    → made.least ≡ least_of ex sheet (prefix_at ex path ++ col ∷ []) → made.least ≤ 334490640
+    → IsNodeOf ex sheet made (path ++ k ∷ [])
+    × (live_at ex sheet (path ++ k ∷ []) ≡ Some (made.paid + made.least + rest))
+made_of ex sheet path k node made col more rest at same room live is state pays more_is bound lines small =
+    let q : List (List Cell) = prefix_at ex (path ++ k ∷ []) in
+    let next : prefix_at ex path ++ col ∷ [] ≡ q =
+    ap (λ c. prefix_at ex path ++ c ∷ []) same ∙ sym (prefix_at-append ex path k) in
+    let cost : made.paid ≡ paid ex sheet q =
+    pays ∙ ap (λ n. n + more) at.paid ∙ sym more_is ∙ ap (paid ex sheet) next in
+    let least : made.least ≡ least_of ex sheet q = lines ∙ ap (least_of ex sheet) next in
+    let own : IsRest ex sheet (length path) (column_at ex path k) (Some rest) =
+    subst (λ (n : ℕ). IsRest ex sheet n (column_at ex path k) (Some rest)) (as_long ex sheet node path at)
+    (subst (λ (c : List Cell). IsRest ex sheet node.state.newest.len c (Some rest)) same is) in
+    let ahead : rest_of ex sheet q ≡ Some rest = sym (rest_there ex path k at.alive sheet (Some rest) room own) in
+    let sum : paid ex sheet q + least_of ex sheet q + rest ≡ made.paid + made.least + rest =
+    omega (arith, cost, least) in (
+      record {
+        state = subst (λ p. IsStateOf ex p made.state) next state;
+        alive = live;
+        paid = cost;
+        least = least;
+        few = omega (arith, pays, at.few, bound, length-append path (k ∷ []));
+        little = small;
+      },
+      live_some ex sheet (path ++ k ∷ []) live ∙ floor_of_rest ex sheet q rest ahead ∙ ap Some sum,
+    )
 
 -- the empty path is alive
 pub begun_alive : (ex : Exercise) → IsValid ex → is_alive_path ex [] ≡ true

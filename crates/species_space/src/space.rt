@@ -1,6 +1,6 @@
 //! The tree of the settings of an exercise.
 
-ghost use Rattle.std.specs.Prelude.{◌≡◌, ◌<◌, ◌≤◌, ◌+◌, ◌^◌, [], Some, OnOk, IfOk, IfErr, length, slice_index_or};
+ghost use Rattle.std.specs.Prelude.{◌≡◌, ◌<◌, ◌≤◌, ◌+◌, ◌^◌, [], Some, None, OnOk, IfOk, IfErr, IfSome, IfNone, length, slice_index_or};
 ghost use Rattle.fux_grid.specs.Exercises.{IsValid, columns_in};
 ghost use Rattle.fux_grid.specs.Grid.{items_of};
 ghost use Rattle.fux_grid.specs.Menus.{menu_of};
@@ -10,14 +10,14 @@ ghost use Rattle.species_space.specs.Grows.{paths_grow};
 ghost use Rattle.species_space.specs.Nodes.{IsNodeOf};
 ghost use Rattle.species_space.specs.Paths.{live_at, width_at};
 ghost use Rattle.species_space.specs.Task.{AreMenus, IsViewOf, IsReady};
-ghost use Rattle.tree_search.specs.Space.{HasChild, IsMadeChild};
+ghost use Rattle.tree_search.specs.Space.{HasChild, HasLiveChild, IsMadeAgain, IsMadeChild};
 
 use crate::blocks::{BlockMenu, Blocks, MenuView, column_at};
 use crate::node::Node;
 use crate::walk::next_unpruned;
 use floor_tables::{TableFault, Tables, fill_tables};
 use fux_grid::{Column, Exercise, cells_follow};
-use fux_judge::{State, is_always_dead, least, step_unbroken};
+use fux_judge::{Price, State, is_always_dead, least, step_again, step_unbroken};
 use fux_pitch::Memory;
 use penalty_sheet::Sheet;
 use std::alloc::Global;
@@ -119,6 +119,24 @@ impl<'a> SpeciesSpace<'a> {
             undead: menu.undead.as_slice(),
         }
     }
+
+    /// The column of a child with the least sum of the chains that go on from it; none where none does.
+    #[inline]
+    fn choice(&self, node: &Node, k: usize) -> Option<(&Column, u64)>
+        requires { HasChild (IsNodeOf self.now.exercise self.now.sheet node.now) (columns_in self.now.exercise)
+            (width_at self.now.exercise) k }
+        ensures column { IfSome result (λ choice. choice.0.now.items
+            ≡ slice_index_or (menu_of self.now.exercise node.now.state.newest.len) k []) }
+        ensures rest { IfSome result (λ choice. IsRest self.now.exercise self.now.sheet node.now.state.newest.len
+            choice.0.now.items (Some choice.1)) }
+        ensures small { IfSome result (λ choice. choice.1 ≤ 2 ^ 61) }
+        ensures none { IfNone result (IsRest self.now.exercise self.now.sheet node.now.state.newest.len
+            (slice_index_or (menu_of self.now.exercise node.now.state.newest.len) k []) None) }
+    {
+        let i = node.state.len();
+        let rest = self.tables.rest_of_number(i, k)?;
+        Some((self.tables.column(i, k), rest))
+    }
 }
 
 impl<'a> Space for SpeciesSpace<'a> {
@@ -162,10 +180,15 @@ impl<'a> Space for SpeciesSpace<'a> {
     }
 
     fn child_into(&self, node: &Node, k: usize, child: &mut Node) -> Option<u64> {
-        let i = node.state.len();
-        let rest = self.tables.rest_of_number(i, k)?;
-        let column = self.tables.column(i, k);
+        let (column, rest) = self.choice(node, k)?;
         child_by(self.exercise, self.sheet, node, k, column, rest, child)
+    }
+
+    fn remake(&self, node: &Node, k: usize, child: &mut Node) -> u64 {
+        let Some((column, rest)) = self.choice(node, k) else {
+            return 0;
+        };
+        child_again(self.exercise, self.sheet, node, k, column, rest, child)
     }
 
     fn next_child(&self, node: &Node, from: usize, best: Option<u64>) -> usize {
@@ -246,6 +269,31 @@ fn child_by(
     child.least = price.least;
     child.hint = k;
     Some(child.paid + child.least + rest)
+}
+
+/// The floor of the child of this number and column, which is known to be live: nothing is asked for breaks. The child is written into the
+/// place that is given.
+fn child_again(
+    exercise: &Exercise,
+    sheet: &Sheet,
+    node: &Node,
+    k: usize,
+    column: &Column,
+    rest: u64,
+    child: &mut Node,
+) -> u64
+    requires valid { IsValid exercise.now }
+    requires child { HasLiveChild (IsNodeOf exercise.now sheet.now node.now) (live_at exercise.now sheet.now) k }
+    requires column { column.now.items ≡ slice_index_or (menu_of exercise.now node.now.state.newest.len) k [] }
+    requires rest { IsRest exercise.now sheet.now node.now.state.newest.len column.now.items (Some rest) }
+    requires small { rest ≤ 2 ^ 61 }
+    ensures { IsMadeAgain (IsNodeOf exercise.now sheet.now) (live_at exercise.now sheet.now) k node.now child.new result }
+{
+    let Price { paid, least } = step_again(exercise, sheet, &node.state, column, &mut child.state);
+    child.paid = node.paid + paid;
+    child.least = least;
+    child.hint = k;
+    child.paid + least + rest
 }
 
 /// Whether a column of a menu is dead after every prefix. No answer depends on it: it spares memory.

@@ -2,7 +2,7 @@
 use Rattle.std.proofs.Common.{◌≡◌, ℕ, ◌+◌, ◌<◌, ◌≤◌, ◌-◌, ⊎_elim, List, [], ◌∷◌, ◌++◌, length, take, drop, set, get_or, Option, Some, None, IsSome, is_some, refl, sym, ap, subst, ◌∙◌, arith, length-set}
 use Rattle.std.proofs.lemmas.Bool.{cases_lt}
 use Rattle.std.proofs.lemmas.List.{take-set-le, take_more_set, take_more, take-append-drop, length-take, length_push, get_or-set_same, get_or-set_other}
-use Rattle.tree_search.specs.Space.{FloorsGrow}
+use Rattle.tree_search.specs.Space.{FloorsGrow, HasChild, HasLiveChild}
 use Rattle.tree_search.specs.Trails.{AreEntriesOf, IsEntryOf, IsTrail, IsTrailTo}
 use Rattle.tree_search.specs.declared.links.Link.{Link}
 use Rattle.tree_search.specs.Links.{path_in, IsLinked}
@@ -12,6 +12,14 @@ use Rattle.tree_search.proofs.Floors.{start_live}
 pub some_of : (o : Option ℕ) → IsSome o → (x : ℕ) × (o ≡ Some x)
 some_of None e = cc
 some_of (Some x) e = (x, refl)
+
+-- a node with a live child has that child, and is of no leaf
+pub has_child : {is_at : List ℕ → Type 0} {live : List ℕ → Option ℕ} {width : List ℕ → ℕ} {height k : ℕ} →
+    FloorsGrow live width height → HasLiveChild is_at live k → HasChild is_at height width k
+has_child {live} {k} grows child =
+    let floor = some_of (live (child.path ++ k ∷ [])) child.is_live in
+    let parent = grows child.path k floor.0 floor.1 in
+    record { path = child.path; at = child.at; above = parent.above; within = parent.within }
 
 pub IsTrail-step : {N : Type 0} (is_at : N → List ℕ → Type 0) (height : ℕ) (path : List ℕ) (nodes : List N)
     (level k : ℕ) (child : N) →

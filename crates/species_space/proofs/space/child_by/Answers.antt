@@ -1,6 +1,5 @@
-use Rattle.std.proofs.Common.{◌≡◌, ℕ, ◌+◌, ◌<◌, List, [], ◌∷◌, ◌++◌, Some, length, slice_index_or, true≢false, ap, sym, ◌∙◌, subst, arith}
+use Rattle.std.proofs.Common.{◌≡◌, ℕ, ◌+◌, ◌<◌, List, [], ◌∷◌, length, slice_index_or, true≢false, refl, ap, sym, ◌∙◌, subst, arith}
 use Rattle.std.specs.List.{list_any}
-use Rattle.std.proofs.lemmas.List.{length-append}
 use Rattle.fux_grid.specs.declared.cell.Cell.{Cell}
 use Rattle.fux_grid.specs.declared.exercise.Exercise.{Exercise}
 use Rattle.fux_grid.specs.Columns.{ColumnFollows}
@@ -8,16 +7,11 @@ use Rattle.fux_grid.specs.Exercises.{columns_in}
 use Rattle.fux_grid.specs.Menus.{menu_of}
 use Rattle.fux_grid.proofs.MenuLemmas.{menu_of-full}
 use Rattle.fux_judge.specs.Rules.{rules_read}
-use Rattle.fux_judge.specs.Gauges.{least_of}
-use Rattle.fux_judge.specs.Penalties.{newly_broken, paid}
-use Rattle.floor_tables.specs.Tables.{IsRest}
-use Rattle.species_space.specs.FloorLaws.{floor_of_rest}
-use Rattle.fux_judge.specs.States.{IsStateOf}
-use Rattle.species_space.specs.Grows.{live_some}
-use Rattle.species_space.specs.Paths.{prefix_at, column_at, width_at, prefix_at-append}
+use Rattle.fux_judge.specs.Penalties.{newly_broken}
+use Rattle.species_space.specs.Paths.{prefix_at, column_at, width_at}
 use Rattle.rule_law.specs.Prefixes.{GoesOn}
 use Rattle.species_space.proofs.Alive.{goes_on_from}
-use Rattle.species_space.proofs.Children.{as_long, strays, breaks, goes, rest_there}
+use Rattle.species_space.proofs.Children.{as_long, strays, breaks, goes, made_of}
 use Rattle.species_space.proofs.space.child_by.Goals as goal
 
 -- the column is the one that the number chooses after the path
@@ -95,29 +89,11 @@ returns c = λ path at.
     let unbroken = ap (λ col. list_any (newly_broken ex p col) rules_read) (sym same)
     ∙ c.in-Some.ensures.unbroken p at.state comes in
     let live = goes ex path k at.alive room within there unbroken in
-    let next : p ++ c.args.column.now.items ∷ [] ≡ prefix_at ex (path ++ k ∷ []) = ap (λ col. p ++ col ∷ []) same
-    ∙ sym (prefix_at-append ex path k) in
-    let cost : c.args.node.now.paid + c.in-Some.price.paid ≡ paid ex sheet (prefix_at ex (path ++ k ∷ [])) =
-    ap (λ n. n + c.in-Some.price.paid) at.paid ∙ sym (c.in-Some.ensures.paid p at.state comes)
-    ∙ ap (paid ex sheet) next in
-    let lines : c.in-Some.price.least ≡ least_of ex sheet (prefix_at ex (path ++ k ∷ [])) =
-    c.in-Some.ensures.least p at.state comes.longer ∙ ap (least_of ex sheet) next in
-    let is : IsRest ex sheet (length path) (column_at ex path k) (Some c.args.rest) =
-    subst (λ (n : ℕ). IsRest ex sheet n (column_at ex path k) (Some c.args.rest)) long
-    (subst (λ (col : List Cell). IsRest ex sheet c.args.node.now.state.newest.len col (Some c.args.rest)) same
-    c.requires.rest) in
-    let rest = sym (rest_there ex path k at.alive sheet (Some c.args.rest) room is) in
-    let sum : paid ex sheet (prefix_at ex (path ++ k ∷ [])) + least_of ex sheet (prefix_at ex (path ++ k ∷ [])) +
-    c.args.rest ≡ c.args.node.now.paid + c.in-Some.price.paid + c.in-Some.price.least + c.args.rest =
-    omega (arith, cost, lines) in (
-      record {
-        state = subst (λ q. IsStateOf ex q c.step_unbroken.new.next) next (c.in-Some.ensures.state p at.state);
-        alive = live;
-        paid = cost;
-        least = lines;
-        few = omega (arith, at.few, c.in-Some.ensures.bound, length-append path (k ∷ []));
-        little = c.in-Some.ensures.least_bound;
-      },
-      live_some ex sheet (path ++ k ∷ []) live ∙ floor_of_rest ex sheet (prefix_at ex (path ++ k ∷ [])) c.args.rest rest
-          ∙ ap Some sum,
-    )
+    made_of ex sheet path k c.args.node.now record {
+      state = c.step_unbroken.new.next;
+      paid = c.args.node.now.paid + c.in-Some.price.paid;
+      least = c.in-Some.price.least;
+      hint = k;
+    } c.args.column.now.items c.in-Some.price.paid c.args.rest at same room live c.requires.rest
+    (c.in-Some.ensures.state p at.state) refl (c.in-Some.ensures.paid p at.state comes) c.in-Some.ensures.bound
+    (c.in-Some.ensures.least p at.state comes.longer) c.in-Some.ensures.least_bound
