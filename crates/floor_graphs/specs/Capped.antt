@@ -1,8 +1,9 @@
 -- A tree of which only what is below a cap is kept obeys the law of floors (`capped_grows`).
-use Rattle.std.specs.Prelude.{◌≡◌, ℕ, ◌≤◌, ◌++◌, [], ◌∷◌, List, Option, Some, None, Bool, true, false, nat_le, if◌then◌else◌, max}
-use Rattle.std.proofs.Common.{refl, ap, ◌∙◌, arith}
+use Rattle.std.specs.Prelude.{◌≡◌, ℕ, ◌≤◌, ◌++◌, [], ◌∷◌, List, Option, Some, None, IsSome, Bool, true, false, nat_le, if◌then◌else◌, max}
+use Rattle.std.proofs.Common.{refl, ap, sym, ◌∙◌, arith}
 use Rattle.std.proofs.lemmas.Bool.Decides.{nat_tests}
 use Rattle.tree_search.specs.Space.{FloorsGrow}
+use Rattle.tree_search.proofs.Trails.{some_of}
 
 -- none of a floor above the second number; else the greater of the floor and the first number
 abbrev pub capped_floor : ℕ → ℕ → Option ℕ → Option ℕ
@@ -38,6 +39,15 @@ pub capped-within : (low high : ℕ) (floor : Option ℕ) (own : ℕ) → floor 
 capped-within low high floor own is within =
     let has : nat_le own high ≡ true = grind (arith, nat_tests) in
     ap (capped_floor low high) is ∙ ap (λ b. if b then Some (max low own) else None) has
+
+-- and so is one of which it is known that it is kept
+pub capped-kept : (low high : ℕ) (floor : Option ℕ) (own : ℕ) → IsSome (capped_floor low high floor) → floor ≡ Some own
+    → capped_floor low high floor ≡ Some (max low own)
+capped-kept low high floor own kept is =
+    let raised = some_of (capped_floor low high floor) kept in
+    let parts = capped_parts low high floor raised.0 raised.1 in
+    let same : parts.own ≡ own = let e = sym parts.is_own ∙ is in cc in
+    capped-within low high floor own is (omega (arith, parts.within, same))
 
 -- the law of the capped tree
 pub capped_grows : (live : List ℕ → Option ℕ) (low high : ℕ) (width : List ℕ → ℕ) (height : ℕ)

@@ -7,6 +7,7 @@ use Rattle.std.proofs.lemmas.Bool.{cases_lt}
 use Rattle.tree_search.specs.Answer.{IsLeaf}
 use Rattle.tree_search.specs.Space.{FloorsGrow}
 use Rattle.tree_search.proofs.Floors.{live_above}
+use Rattle.tree_search.proofs.Trails.{some_of}
 use Rattle.floor_graphs.specs.Graphs.{AreChecked, Rate, AreMapped, units_of, sum_at, AreFloors}
 use Rattle.floor_graphs.specs.Numbers.{lesser_low-first, lesser_low-second}
 use Rattle.floor_graphs.specs.Cases.{least_below, least_of_cases}
@@ -206,6 +207,11 @@ module _ (live sum : List ℕ → Option ℕ) where
       let own = own_from (greater_at live sum) [] path floor h in
       let parts = greater_parts (live path) (sum path) own.0 own.1 in
       (parts.first, parts.one_is, omega (arith, parts.greater_is, own.2))
+
+  pub tree_from_sharpened : (path : List ℕ) → IsSome (sharpened live sum path) → IsSome (live path)
+  tree_from_sharpened path is =
+      let floor = some_of (sharpened live sum path) is in
+      let own = live_from_sharpened path floor.0 floor.1 in some_from (live path) own.0 own.1
 
 module _ (live sum : List ℕ → Option ℕ) (width : List ℕ → ℕ) (height : ℕ) (grows : FloorsGrow live width height) where
   -- the law of the sharpened tree

@@ -94,6 +94,10 @@ impl<'a, S: Space> Space for Capped<'a, S> {
         self.cap(floor)
     }
 
+    fn remake(&self, node: &Self::Node, k: usize, child: &mut Self::Node) -> u64 {
+        self.low.max(self.space.remake(node, k, child))
+    }
+
     fn next_child(&self, node: &Self::Node, from: usize, best: Option<u64>) -> usize {
         if self.is_met(best) {
             return usize::MAX;

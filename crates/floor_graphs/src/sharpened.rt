@@ -69,6 +69,16 @@ impl<'a, G: Guide> Space for Sharpened<'a, G> {
         Some(child.floor)
     }
 
+    fn remake(&self, sharp: &Self::Node, k: usize, child: &mut Self::Node) -> u64 {
+        let own = self.guide.space().remake(&sharp.node, k, &mut child.node);
+        let Some((next, sum)) = self.guide.follow(&sharp.place, k, &child.node) else {
+            return 0;
+        };
+        child.place = next;
+        child.floor = sharp.floor.max(own).max(sum);
+        child.floor
+    }
+
     fn next_child(&self, sharp: &Self::Node, from: usize, best: Option<u64>) -> usize {
         self.guide.space().next_child(&sharp.node, from, best)
     }
