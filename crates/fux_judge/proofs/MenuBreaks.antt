@@ -24,7 +24,7 @@ use Rattle.rule_law.specs.Voices.{holds_of_voice, is_free, on_free_voice, voice_
 use Rattle.rhythm_cadence.specs.Rows.{holds_of_pitch, is_outside, leaves_gamut, leaves_range, voice_rule}
 
 -- the pitch of a cell, if it has one, is of the pool
-abbrev IsOfPool : List Pitch → Cell → Type 0
+abbrev pub IsOfPool : List Pitch → Cell → Type 0
 IsOfPool pool Rest = ⊤
 IsOfPool pool (Hold p) = Contains pool p
 IsOfPool pool (Start p) = Contains pool p
@@ -69,7 +69,7 @@ module _ (ex : Exercise) (i v : ℕ) (free : v ≢ ex.cantus_voice) where
   abbrev bar : ℕ
   bar = bar_of i
 
-  of_pool : (c : Cell) → Contains (cells_at ex i v) c → IsOfPool (pool_of ex v bar) c
+  pub of_pool : (c : Cell) → Contains (cells_at ex i v) c → IsOfPool (pool_of ex v bar) c
   of_pool c there =
       cell_of_pool (shapes_in (species_in ex v) bar ex.bars) (slot_of i) (pool_of ex v bar) c
       (cells_at-given ex i v c free there).0

@@ -3,7 +3,9 @@
 ghost use Rattle.std.specs.Prelude.{◌≡◌, ◌<◌, ◌≤◌, ◌+◌, ◌-◌, ◌∷◌, ◌++◌, [], ℕ, List, length, false, pos, true};
 ghost use Rattle.fux_grid.specs.declared.cell.Cell.{Cell as ACell};
 ghost use Rattle.fux_grid.specs.Cells.{cell_in};
-ghost use Rattle.fux_grid.specs.Exercises.{IsFree, IsValid, columns_in};
+ghost use Rattle.std.specs.Bool.{OnTrue};
+ghost use Rattle.fux_grid.specs.declared.given.Given.TheVariants.{Blank};
+ghost use Rattle.fux_grid.specs.Exercises.{IsFree, IsValid, columns_in, given_at};
 ghost use Rattle.fux_grid.specs.Menus.{IsInMenu};
 ghost use Rattle.rule_law.specs.Gauges as words;
 ghost use Rattle.melody_rules.specs.Gauges.{is_topped};
@@ -11,7 +13,8 @@ ghost use Rattle.melody_rules.specs.Gauges as gauges_words;
 ghost use Rattle.fux_judge.specs.GaugeStates.{AreAheadOf, IsAheadOf, StepsAhead};
 
 use fux_grid::{
-    Cell, Exercise, START, allows, bar_of, cell_of, range, shapes_of, slot_of, species_of,
+    Cell, Exercise, Given, START, allows, bar_of, cell_of, given_at, range, shapes_of, slot_of,
+    species_of,
 };
 use fux_pitch::semitone;
 use melody_rules::is_final_climax;
@@ -93,6 +96,17 @@ pub(crate) fn all_ahead_at_start(ex: &Exercise) -> [LineAhead; 4]
     ]
 }
 
+/// Whether nothing is given of a voice's cell at a column: then each pitch that it may hold may be started too, where a start is allowed.
+fn is_open(ex: &Exercise, v: u8, i: usize) -> bool
+    requires { i < columns_in ex.now }
+    ensures { OnTrue result (given_at ex.now i v ≡ Blank) }
+{
+    match given_at(ex, v, i) {
+        Given::Blank => true,
+        _ => false,
+    }
+}
+
 /// Whether the menu of a column has a start of a free voice, where the voice has this cell in one of its columns.
 fn may_start(ex: &Exercise, v: u8, i: usize, cell: Cell) -> bool
     requires valid { IsValid ex.now }
@@ -106,7 +120,7 @@ fn may_start(ex: &Exercise, v: u8, i: usize, cell: Cell) -> bool
     }
     match cell {
         Cell::Start(_) => true,
-        Cell::Hold(_) => menu_starts(ex, v, i),
+        Cell::Hold(_) => is_open(ex, v, i) || menu_starts(ex, v, i),
         Cell::Rest => menu_starts(ex, v, i),
     }
 }
