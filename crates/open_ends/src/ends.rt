@@ -1,0 +1,89 @@
+//! What is kept behind a column, from what was kept before it.
+
+ghost use Rattle.std.specs.Prelude.{◌≡◌, ◌↔◌, IsTrue, ◌<◌};
+ghost use Rattle.fux_grid.specs.Exercises.{IsValid, columns_in};
+ghost use Rattle.fux_grid.specs.declared.exercise.Exercise.{Exercise};
+ghost use Rattle.penalty_sheet.specs.declared.sheet.Sheet.{Sheet};
+ghost use Rattle.open_ends.specs.declared.keeps.Keeps.{Keeps};
+ghost use Rattle.open_ends.specs.Steps as steps;
+
+use crate::keeps::Keeps;
+use fux_grid::{Cell, Exercise};
+use open_dissonances::{OpenDissonances, open_after};
+use open_parallels::{OpenParallels, parallels_after};
+use open_shapes::{OpenShapes, shapes_next};
+use penalty_sheet::Sheet;
+
+/// What waits for later columns, part by part.
+#[derive(Clone, Copy, Debug, PartialEq, Eq)]
+pub struct OpenEnds {
+    pub dissonances: OpenDissonances,
+    pub shapes: OpenShapes,
+    pub parallels: OpenParallels,
+}
+
+/// A number made of two, in which each of them counts.
+fn mixed(first: u64, second: u64) -> u64 {
+    first
+        .wrapping_mul(0x9e37_79b9_7f4a_7c15)
+        .wrapping_add(second)
+}
+
+impl OpenEnds {
+    /// Nothing is open.
+    pub fn none() -> OpenEnds
+        ensures { result ≡ steps.none }
+    {
+        OpenEnds {
+            dissonances: OpenDissonances::none(),
+            shapes: OpenShapes::none(),
+            parallels: OpenParallels::none(),
+        }
+    }
+
+    /// Whether both say the same.
+    pub fn is_same(&self, other: &OpenEnds) -> bool
+        ensures { IsTrue result ↔ (self.now ≡ other.now) }
+    {
+        self.dissonances.is_same(&other.dissonances)
+            && self.shapes.is_same(&other.shapes)
+            && self.parallels.is_same(&other.parallels)
+    }
+
+    /// A number by which it may be looked up.
+    pub fn key(&self) -> u64 {
+        let mut key = self.dissonances.key();
+        key = mixed(key, self.shapes.key());
+        mixed(key, self.parallels.key())
+    }
+}
+
+/// What is kept behind a column, and what the tolls that are followed cost there, by weight; none where no lawful setting goes on so.
+pub fn ends_after(
+    ex: &Exercise,
+    sheet: &Sheet,
+    keeps: Keeps,
+    i: usize,
+    kept: &OpenEnds,
+    before: &[Cell],
+    now: &[Cell],
+) -> Option<(OpenEnds, u32)>
+    requires { i < 2040 }
+    ensures { result ≡ steps.ends_after ex.now sheet.now keeps i kept.now before.now now.now }
+{
+    let dissonances = open_after(ex, i, &kept.dissonances, before, now)?;
+    let shapes = shapes_next(ex, i, &kept.shapes, now)?;
+    let parallels = parallels_after(ex, i, &kept.parallels, now)?;
+    let ends = OpenEnds {
+        dissonances,
+        shapes,
+        parallels,
+    };
+    Some((ends, 0))
+}
+
+/// From prefix to prefix of a lawful setting no step is refused, each leads to what is kept behind its column, and what it costs is paid by that
+/// column beside what this one and the one before cost by themselves: a theorem, which costs nothing when it's called.
+pub fn lawful_steps_go_on()
+    ensures { (ex : Exercise) (sheet : Sheet) (keeps : Keeps) → IsValid ex → steps.FollowsLawful ex sheet keeps }
+{}
