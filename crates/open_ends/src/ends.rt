@@ -1,7 +1,7 @@
 //! What is kept behind a column, from what was kept before it.
 
-ghost use Rattle.std.specs.Prelude.{◌≡◌, ◌↔◌, IsTrue, ◌<◌};
-ghost use Rattle.fux_grid.specs.Exercises.{IsValid, columns_in};
+ghost use Rattle.std.specs.Prelude.{◌≡◌, ◌↔◌, ◌<◌, ◌≤◌, ◌^◌, IfSome, IsTrue};
+ghost use Rattle.fux_grid.specs.Exercises.{IsValid};
 ghost use Rattle.fux_grid.specs.declared.exercise.Exercise.{Exercise};
 ghost use Rattle.penalty_sheet.specs.declared.sheet.Sheet.{Sheet};
 ghost use Rattle.open_ends.specs.declared.keeps.Keeps.{Keeps};
@@ -69,7 +69,8 @@ pub fn ends_after(
     now: &[Cell],
 ) -> Option<(OpenEnds, u32)>
     requires { i < 2040 }
-    ensures { result ≡ steps.ends_after ex.now sheet.now keeps i kept.now before.now now.now }
+    ensures value { result ≡ steps.ends_after ex.now sheet.now keeps i kept.now before.now now.now }
+    ensures bound { IfSome result (λ step. step.1 ≤ 2 ^ 20) }
 {
     let dissonances = open_after(ex, i, &kept.dissonances, before, now)?;
     let shapes = shapes_next(ex, i, &kept.shapes, now)?;

@@ -10,19 +10,25 @@ pub struct Keeps {
 }
 
 impl Keeps {
-    /// Everything is kept.
-    pub fn all() -> Keeps {
-        Keeps {
-            turns: true,
-            runs: true,
-        }
-    }
-
     /// Only what is always kept.
     pub fn least() -> Keeps {
         Keeps {
             turns: false,
             runs: false,
         }
+    }
+
+    /// All choices, from the one that keeps most to the one that keeps least.
+    pub fn from_most() -> [Keeps; 4] {
+        let all = Keeps {
+            turns: true,
+            runs: true,
+        };
+        let turns = Keeps { runs: false, ..all };
+        let runs = Keeps {
+            turns: false,
+            ..all
+        };
+        [all, turns, runs, Keeps::least()]
     }
 }

@@ -15,6 +15,7 @@ use crate::pricing::PricedSpace;
 use crate::rounds::find_prices;
 use crate::ways::ways_of;
 use fux_pitch::Memory;
+use open_ends::Keeps;
 use priced_paths::search_priced;
 use species_space::SpeciesSpace;
 use std::alloc::Global;
@@ -24,22 +25,43 @@ use tree_search::{Outcome, search_front};
 /// How many prefixes are opened at most before any price is sought: many an exercise needs no more.
 const FIRST_BUDGET: u32 = 32_768;
 
-/// Prices for the cases of these charges; none where there are too many ways.
-fn prices_for(
+/// Prices for the cases of these charges, where so much is kept; none where there are too many ways.
+fn prices_by(
     alloc: Global,
     space: &SpeciesSpace<'_>,
+    keeps: Keeps,
     charges: &Charges,
-) -> Result<Vec<Prices>, Memory>
+) -> Result<Option<Vec<Prices>>, Memory>
     requires fair { AreFairCharges charges.now space.now.sheet }
     requires small { AreSmallCharges MOST_CHARGE charges.now }
     requires scale { charges.now.scale ≡ SCALE }
     requires few { length charges.now.summits.items ≤ CASES }
 {
-    let priced = PricedSpace::new(alloc, space, charges)?;
+    let priced = PricedSpace::new(alloc, space, keeps, charges)?;
     match ways_of(alloc, &priced, charges)? {
-        Some(ways) => find_prices(alloc, space.sheet(), &ways, charges),
-        None => Ok(Vec::new(alloc)),
+        Some(ways) => Ok(Some(find_prices(alloc, space.sheet(), &ways, charges)?)),
+        None => Ok(None),
     }
+}
+
+/// The most that may be kept where there aren't too many ways, and prices for the cases of these charges by them; none where there are too
+/// many whatever is kept.
+fn prices_for(
+    alloc: Global,
+    space: &SpeciesSpace<'_>,
+    charges: &Charges,
+) -> Result<(Keeps, Vec<Prices>), Memory>
+    requires fair { AreFairCharges charges.now space.now.sheet }
+    requires small { AreSmallCharges MOST_CHARGE charges.now }
+    requires scale { charges.now.scale ≡ SCALE }
+    requires few { length charges.now.summits.items ≤ CASES }
+{
+    for keeps in Keeps::from_most() {
+        if let Some(prices) = prices_by(alloc, space, keeps, charges)? {
+            return Ok((keeps, prices));
+        }
+    }
+    Ok((Keeps::least(), Vec::new(alloc)))
 }
 
 /// The same, by these floors from the beginning.
@@ -56,9 +78,9 @@ fn search_by_prices(alloc: Global, space: &SpeciesSpace<'_>, budget: u32) -> Res
     let voice = space.exercise().species_voice;
     let keys = summit_keys(alloc, space, voice)?;
     let plain = Charges::new(alloc, space.sheet(), &[], voice, &keys)?;
-    let prices = prices_for(alloc, space, &plain)?;
+    let (keeps, prices) = prices_for(alloc, space, &plain)?;
     let charges = Charges::new(alloc, space.sheet(), &prices, voice, &keys)?;
-    let priced = PricedSpace::new(alloc, space, &charges)?;
+    let priced = PricedSpace::new(alloc, space, keeps, &charges)?;
     search_priced(alloc, &priced, budget)
 }
 
