@@ -11,4 +11,8 @@ mod shapes;
 #[cfg(test)]
 mod steps;
 #[cfg(test)]
+mod suspension_table;
+#[cfg(test)]
+mod suspensions;
+#[cfg(test)]
 mod table;
