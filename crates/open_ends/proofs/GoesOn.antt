@@ -11,13 +11,19 @@ use Rattle.open_dissonances.specs.Steps.{HasVoices}
 use Rattle.open_dissonances.proofs.GoesOn as dissonances
 use Rattle.open_parallels.proofs.GoesOn as parallels
 use Rattle.open_shapes.proofs.KeepsShapes as shapes
+use Rattle.open_suspensions.proofs.GoesOn as suspensions
 use Rattle.open_ends.specs.declared.keeps.Keeps.{Keeps}
 use Rattle.open_ends.specs.Steps.{FollowsLawful, LeadsOn, ends_in, none}
 use Rattle.open_ends.proofs.Settles.{settles}
 
 -- before the first column nothing is kept
 pub ends-none : (ex : Exercise) (keeps : Keeps) → ends_in ex keeps [] ≡ none
-ends-none ex keeps = rw (dissonances.open-none ex, shapes.open_shapes-none ex, parallels.kept-none ex) refl
+ends-none ex keeps = rw (
+  dissonances.open-none ex,
+  shapes.open_shapes-none ex,
+  parallels.kept-none ex,
+  suspensions.suspensions-none ex,
+) refl
 
 module _ (ex : Exercise) (sheet : Sheet) (keeps : Keeps) (voices : HasVoices ex) (there : ex.cantus_voice < ex.voices)
     (p : Columns) (col : List Cell) (more : Columns) (lawful : IsLawful ex (p ++ col ∷ more)) where
@@ -29,6 +35,7 @@ module _ (ex : Exercise) (sheet : Sheet) (keeps : Keeps) (voices : HasVoices ex)
       shapes.keeps_shapes ex p col more voices.most_voices
           (record { there = voices.species_there; no_cantus = voices.differ }) lawful,
       parallels.goes_on ex p col more voices lawful,
+      suspensions.goes_on ex p col more voices lawful,
     ) refl;
     settles = with_none _ _ (settles ex voices.most_voices there p col more lawful sheet);
   }

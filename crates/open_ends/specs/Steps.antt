@@ -11,12 +11,18 @@ use Rattle.fux_judge.specs.Penalties.{newly_paid}
 use Rattle.open_dissonances.specs.Steps as dissonances
 use Rattle.open_parallels.specs.Steps as parallels
 use Rattle.open_shapes.specs.Steps as shapes
+use Rattle.open_suspensions.specs.Steps as suspensions
 use Rattle.open_ends.specs.declared.ends.OpenEnds.{OpenEnds}
 use Rattle.open_ends.specs.declared.keeps.Keeps.{Keeps}
 
 -- nothing is open
 abbrev pub none : OpenEnds
-none = record { dissonances = dissonances.none; shapes = shapes.none; parallels = parallels.none }
+none = record {
+  dissonances = dissonances.none;
+  shapes = shapes.none;
+  parallels = parallels.none;
+  suspensions = suspensions.none;
+}
 
 -- what is kept of some columns
 abbrev pub ends_in : Exercise → Keeps → Columns → OpenEnds
@@ -24,6 +30,7 @@ ends_in ex keeps p = record {
   dissonances = dissonances.open_in ex p;
   shapes = shapes.open_shapes_in ex p;
   parallels = parallels.kept_in ex p;
+  suspensions = suspensions.suspensions_in ex p;
 }
 
 -- what is kept of a part, and what comes of it; none where the part refuses the column
@@ -37,7 +44,16 @@ ends_after ex sheet keeps i kept before now =
     with_part (dissonances.open_after ex i kept.dissonances before now) (λ dissonances.
     with_part (shapes.shapes_next ex i kept.shapes now) (λ shapes.
     with_part (parallels.parallels_after ex i kept.parallels now) (λ parallels.
-    Some (record { dissonances = dissonances; shapes = shapes; parallels = parallels }, 0))))
+    with_part (suspensions.suspensions_after ex i kept.suspensions before now) (λ suspensions.
+    Some (
+      record {
+        dissonances = dissonances;
+        shapes = shapes;
+        parallels = parallels;
+        suspensions = suspensions;
+      },
+      0,
+    )))))
 
 -- a column leads on from what is kept of a prefix to what is kept of the longer one, and settles at least what the kept tolls cost there,
 -- beside what it and the one before it cost by themselves

@@ -12,6 +12,7 @@ use fux_grid::{Cell, Exercise};
 use open_dissonances::{OpenDissonances, open_after};
 use open_parallels::{OpenParallels, parallels_after};
 use open_shapes::{OpenShapes, shapes_next};
+use open_suspensions::{OpenSuspensions, suspensions_after};
 use penalty_sheet::Sheet;
 
 /// What waits for later columns, part by part.
@@ -20,6 +21,7 @@ pub struct OpenEnds {
     pub dissonances: OpenDissonances,
     pub shapes: OpenShapes,
     pub parallels: OpenParallels,
+    pub suspensions: OpenSuspensions,
 }
 
 /// A number made of two, in which each of them counts.
@@ -38,6 +40,7 @@ impl OpenEnds {
             dissonances: OpenDissonances::none(),
             shapes: OpenShapes::none(),
             parallels: OpenParallels::none(),
+            suspensions: OpenSuspensions::none(),
         }
     }
 
@@ -48,13 +51,15 @@ impl OpenEnds {
         self.dissonances.is_same(&other.dissonances)
             && self.shapes.is_same(&other.shapes)
             && self.parallels.is_same(&other.parallels)
+            && self.suspensions.is_same(&other.suspensions)
     }
 
     /// A number by which it may be looked up.
     pub fn key(&self) -> u64 {
         let mut key = self.dissonances.key();
         key = mixed(key, self.shapes.key());
-        mixed(key, self.parallels.key())
+        key = mixed(key, self.parallels.key());
+        mixed(key, self.suspensions.key())
     }
 }
 
@@ -75,10 +80,12 @@ pub fn ends_after(
     let dissonances = open_after(ex, i, &kept.dissonances, before, now)?;
     let shapes = shapes_next(ex, i, &kept.shapes, now)?;
     let parallels = parallels_after(ex, i, &kept.parallels, now)?;
+    let suspensions = suspensions_after(ex, i, &kept.suspensions, before, now)?;
     let ends = OpenEnds {
         dissonances,
         shapes,
         parallels,
+        suspensions,
     };
     Some((ends, 0))
 }
