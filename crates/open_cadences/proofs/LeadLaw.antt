@@ -1,6 +1,6 @@
 -- In a lawful setting some voice may show its cadence behind each column of the last bar but one, and one that may ends on
 -- the final where the last bar begins (`never_lacks`).
-use Rattle.std.specs.Prelude.{◌≡◌, ℕ, zero, suc, ◌+◌, ◌-◌, ◌*◌, ◌/◌, ◌%◌, ◌<◌, ◌≤◌, ◌==◌, ◌&&◌, ◌||◌, Bool, true, false, not, nat_lt, List, [], ◌∷◌, Option, Some, None, length, reverse, slice_index_or, take, if◌then◌else◌, refl}
+use Rattle.std.specs.Prelude.{◌≡◌, ℕ, zero, suc, ◌+◌, ◌-◌, ◌*◌, ◌%◌, ◌<◌, ◌≤◌, ◌==◌, ◌&&◌, Bool, true, false, not, nat_lt, List, [], ◌∷◌, Option, Some, None, length, slice_index_or, take, if◌then◌else◌, refl}
 use Rattle.std.specs.List.{list_all, list_any}
 use Rattle.std.proofs.Common.{ap, sym, ◌∙◌, inl, inr, arith, add-one}
 use Rattle.std.proofs.lemmas.Bool.{and_from, and_parts, cases_order, eq-eqb, eqb-true, le-ltb, lt-ltb, ltb-true, ne_eqb, not-false, or_cases, or_from, or_left, or_right}
@@ -9,7 +9,7 @@ use Rattle.fux_pitch.specs.declared.pitch.Pitch.{Pitch}
 use Rattle.fux_pitch.specs.Modes.{final_of}
 use Rattle.fux_pitch.specs.Pitch.{degree_of}
 use Rattle.fux_grid.specs.declared.cell.Cell.{Cell}
-use Rattle.fux_grid.specs.declared.cell.Cell.TheVariants.{Rest, Hold, Start}
+use Rattle.fux_grid.specs.declared.cell.Cell.TheVariants.{Rest}
 use Rattle.fux_grid.specs.declared.exercise.Exercise.{Exercise}
 use Rattle.fux_grid.specs.Cells.{cell_in, is_hold, pitch_of}
 use Rattle.fux_grid.specs.Columns.{Columns, cell_at, earlier}
@@ -34,28 +34,32 @@ use Rattle.open_cadences.specs.Leads.{Leads, begins_well, cadence_rule, ends_on_
 
 -- ---- the cells of a bar
 
--- where a pitch that passes a test is held in so many of the newest cells, it starts in the cell before them
-held_parts : (test : Pitch → Bool) (m : ℕ) (cells : List Cell) → holds_of_pitch test (held_pitch m cells) ≡ true
-    → ((k : ℕ) → k < m → is_hold (slice_index_or cells k Rest) ≡ true)
+-- what is held in so many of the newest cells starts in the cell before them, and passes a test
+abbrev IsHeldSince : (Pitch → Bool) → ℕ → List Cell → Type 0
+IsHeldSince test m cells =
+    ((k : ℕ) → k < m → is_hold (slice_index_or cells k Rest) ≡ true)
     × (holds_of_pitch test (started_pitch (slice_index_or cells m Rest)) ≡ true)
+
+held_parts : (test : Pitch → Bool) (m : ℕ) (cells : List Cell) → holds_of_pitch test (held_pitch m cells) ≡ true
+    → IsHeldSince test m cells
 held_parts test zero [] h = cc
 held_parts test zero (c ∷ cells) h = (λ k few. absurd (omega (arith, few)), h)
 held_parts test (suc m) [] h = cc
-held_parts test (suc m) (c ∷ cells) h = at (is_hold c) refl h
+held_parts test (suc m) (c ∷ cells) h = at (is_hold c) refl (held_parts test m cells) h
   where
-    later : is_hold c ≡ true → ((k : ℕ) → k < m → is_hold (slice_index_or cells k Rest) ≡ true) → (k : ℕ) → k < suc m
+    later : is_hold c ≡ true → IsHeldSince test m cells → (k : ℕ) → k < suc m
         → is_hold (slice_index_or (c ∷ cells) k Rest) ≡ true
     later e rest zero few = e
-    later e rest (suc k) few = rest k (omega (arith, few))
+    later e rest (suc k) few = rest.0 k (omega (arith, few))
 
     at : (b : Bool) → is_hold c ≡ b
+        → (holds_of_pitch test (held_pitch m cells) ≡ true → IsHeldSince test m cells)
         → holds_of_pitch test (if b && list_all is_hold (take m cells)
         then started_pitch (slice_index_or cells m Rest) else None)
         ≡ true
-        → ((k : ℕ) → k < suc m → is_hold (slice_index_or (c ∷ cells) k Rest) ≡ true)
-        × (holds_of_pitch test (started_pitch (slice_index_or cells m Rest)) ≡ true)
-    at true e h = let parts = held_parts test m cells h in (later e parts.0, parts.1)
-    at false e h = cc
+        → IsHeldSince test (suc m) (c ∷ cells)
+    at true e rest h = (later e (rest h), (rest h).1)
+    at false e rest h = cc
 
 bar_cell : (s : Columns) (v b k : ℕ) → k < 8 → slice_index_or (bar_behind s v (b + 8)) (7 - k) Rest ≡ cell_at s v (b + k)
 bar_cell s v b zero few = ap (cell_at s v) (omega arith)
@@ -93,7 +97,7 @@ found test [] few h = cc
 found test (v ∷ vs) few h =
     let parts = and_parts (nat_lt v 4) (list_all (λ w. nat_lt w 4) vs) few in
     elim (or_cases (test v) (list_any test vs) h) [
-      | inl yes ↦ record { v = v; few = ltb-true v 4 parts.0; passes = yes }
+      | inl here ↦ record { v = v; few = ltb-true v 4 parts.0; passes = here }
       | inr others ↦ found test vs parts.1 others
     ]
 
@@ -333,7 +337,7 @@ module _ (ex : Exercise) (voices : HasVoices ex) (s : Columns) (lawful : IsLawfu
 
   pub never_lacks : (j : ℕ) → j < length s → lacks_all ex j (leads_in ex (earlier s j)) (slice_index_or s j []) ≡ false
   never_lacks =
-      let its = found _ (0 ∷ 1 ∷ 2 ∷ 3 ∷ []) refl some_shows in
+      let its = found (λ v. nat_lt v ex.voices && shows_cadence ex i (earlier s i) (slice_index_or s i []) v) (0 ∷ 1 ∷ 2 ∷ 3 ∷ []) refl some_shows in
       let v = its.v in
       let parts = and_parts (nat_lt v ex.voices) (shows_cadence ex i (earlier s i) (slice_index_or s i []) v) its.passes in
       let back : i - 8 ≡ 8 * (ex.bars - 2) = omega arith in
