@@ -61,6 +61,7 @@ held_parts test (suc m) (c ∷ cells) h = at (is_hold c) refl (held_parts test m
     at true e rest h = (later e (rest h), (rest h).1)
     at false e rest h = cc
 
+-- the cells of the bar that begins at column b, by their slots
 bar_cell : (s : Columns) (v b k : ℕ) → k < 8 → slice_index_or (bar_behind s v (b + 8)) (7 - k) Rest ≡ cell_at s v (b + k)
 bar_cell s v b zero few = ap (cell_at s v) (omega arith)
 bar_cell s v b (suc zero) few = ap (cell_at s v) (omega arith)
@@ -74,6 +75,7 @@ bar_cell s v b (suc (suc (suc (suc (suc (suc (suc (suc k)))))))) few = absurd (o
 
 -- ---- four voices
 
+-- what is listed for each of them
 four-at : (test : ℕ → Bool) (v : ℕ) → v < 4 → is_kept (test 0 ∷ test 1 ∷ test 2 ∷ test 3 ∷ []) v ≡ test v
 four-at test zero few = refl
 four-at test (suc zero) few = refl
@@ -81,6 +83,7 @@ four-at test (suc (suc zero)) few = refl
 four-at test (suc (suc (suc zero))) few = refl
 four-at test (suc (suc (suc (suc v)))) few = absurd (omega (arith, few))
 
+-- where one may, some may
 some-from_kept : (leads : Leads) (v : ℕ) → is_kept leads v ≡ true → has_some leads ≡ true
 some-from_kept [] v h = cc
 some-from_kept (may ∷ leads) zero h = or_left may (has_some leads) h

@@ -27,7 +27,7 @@ is_read ex = is_asked ex cadence_rule
 abbrev pub is_before_last : Exercise → ℕ → Bool
 is_before_last ex i = bar_of i + 1 == ex.bars
 
--- the pitch has the letter of the mode's final: one degree below it is the leading note's
+-- the pitch has the letter of the mode's final, and so one degree below it is the leading note's: octaves are left out here
 abbrev pub has_final_letter : Exercise → Pitch → Bool
 has_final_letter ex p = degree_of p % 7 == final_of ex.mode
 

@@ -11,8 +11,8 @@ use fux_grid::{Cell, Exercise};
 /// The voices that may still show their cadence.
 #[derive(Clone, Copy, Debug, PartialEq, Eq)]
 pub struct OpenCadences {
-    /// For each voice, behind a column of the last bar but one, whether all that came of that bar leads to its cadence. No voice is marked
-    /// behind any other column, nor where S22 isn't asked.
+    /// For each voice, behind a column of the last bar but one, whether all that came of that bar leads to its cadence, but for octaves. No
+    /// voice is marked behind any other column, nor where S22 isn't asked.
     pub leads: [bool; 4],
 }
 
