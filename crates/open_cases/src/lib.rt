@@ -3,6 +3,8 @@
 #![tactic(auto)]
 
 #[cfg(test)]
+mod cadences;
+#[cfg(test)]
 mod parallel_table;
 #[cfg(test)]
 mod parallels;
