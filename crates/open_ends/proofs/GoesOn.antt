@@ -8,6 +8,7 @@ use Rattle.fux_grid.specs.Exercises.{IsValid}
 use Rattle.penalty_sheet.specs.declared.sheet.Sheet.{Sheet}
 use Rattle.fux_judge.specs.Lawful.{IsLawful}
 use Rattle.open_dissonances.specs.Steps.{HasVoices}
+use Rattle.open_cadences.proofs.GoesOn as cadences
 use Rattle.open_dissonances.proofs.GoesOn as dissonances
 use Rattle.open_parallels.proofs.GoesOn as parallels
 use Rattle.open_shapes.proofs.KeepsShapes as shapes
@@ -23,6 +24,7 @@ ends-none ex keeps = rw (
   shapes.open_shapes-none ex,
   parallels.kept-none ex,
   suspensions.suspensions-none ex,
+  cadences.kept-none ex,
 ) refl
 
 module _ (ex : Exercise) (sheet : Sheet) (keeps : Keeps) (voices : HasVoices ex) (there : ex.cantus_voice < ex.voices)
@@ -36,6 +38,7 @@ module _ (ex : Exercise) (sheet : Sheet) (keeps : Keeps) (voices : HasVoices ex)
           (record { there = voices.species_there; no_cantus = voices.differ }) lawful,
       parallels.goes_on ex p col more voices lawful,
       suspensions.goes_on ex p col more voices lawful,
+      cadences.goes_on ex p col more voices lawful,
     ) refl;
     settles = with_none _ _ (settles ex voices.most_voices there p col more lawful sheet);
   }

@@ -8,6 +8,7 @@ use Rattle.penalty_sheet.specs.declared.sheet.Sheet.{Sheet}
 use Rattle.fux_judge.specs.Lawful.{IsLawful}
 use Rattle.fux_judge.specs.Links.{last_column, link_of}
 use Rattle.fux_judge.specs.Penalties.{newly_paid}
+use Rattle.open_cadences.specs.Steps as cadences
 use Rattle.open_dissonances.specs.Steps as dissonances
 use Rattle.open_parallels.specs.Steps as parallels
 use Rattle.open_shapes.specs.Steps as shapes
@@ -22,6 +23,7 @@ none = record {
   shapes = shapes.none;
   parallels = parallels.none;
   suspensions = suspensions.none;
+  cadences = cadences.none;
 }
 
 -- what is kept of some columns
@@ -31,6 +33,7 @@ ends_in ex keeps p = record {
   shapes = shapes.open_shapes_in ex p;
   parallels = parallels.kept_in ex p;
   suspensions = suspensions.suspensions_in ex p;
+  cadences = cadences.cadences_in ex p;
 }
 
 -- what is kept of a part, and what comes of it; none where the part refuses the column
@@ -45,15 +48,17 @@ ends_after ex sheet keeps i kept before now =
     with_part (shapes.shapes_next ex i kept.shapes now) (λ shapes.
     with_part (parallels.parallels_after ex i kept.parallels now) (λ parallels.
     with_part (suspensions.suspensions_after ex i kept.suspensions before now) (λ suspensions.
+    with_part (cadences.cadences_after ex i kept.cadences now) (λ cadences.
     Some (
       record {
         dissonances = dissonances;
         shapes = shapes;
         parallels = parallels;
         suspensions = suspensions;
+        cadences = cadences;
       },
       0,
-    )))))
+    ))))))
 
 -- a column leads on from what is kept of a prefix to what is kept of the longer one, and settles at least what the kept tolls cost there,
 -- beside what it and the one before it cost by themselves

@@ -9,6 +9,7 @@ ghost use Rattle.open_ends.specs.Steps as steps;
 
 use crate::keeps::Keeps;
 use fux_grid::{Cell, Exercise};
+use open_cadences::{OpenCadences, cadences_after};
 use open_dissonances::{OpenDissonances, open_after};
 use open_parallels::{OpenParallels, parallels_after};
 use open_shapes::{OpenShapes, shapes_next};
@@ -22,6 +23,7 @@ pub struct OpenEnds {
     pub shapes: OpenShapes,
     pub parallels: OpenParallels,
     pub suspensions: OpenSuspensions,
+    pub cadences: OpenCadences,
 }
 
 /// A number made of two, in which each of them counts.
@@ -41,6 +43,7 @@ impl OpenEnds {
             shapes: OpenShapes::none(),
             parallels: OpenParallels::none(),
             suspensions: OpenSuspensions::none(),
+            cadences: OpenCadences::none(),
         }
     }
 
@@ -52,6 +55,7 @@ impl OpenEnds {
             && self.shapes.is_same(&other.shapes)
             && self.parallels.is_same(&other.parallels)
             && self.suspensions.is_same(&other.suspensions)
+            && self.cadences.is_same(&other.cadences)
     }
 
     /// A number by which it may be looked up.
@@ -59,7 +63,8 @@ impl OpenEnds {
         let mut key = self.dissonances.key();
         key = mixed(key, self.shapes.key());
         key = mixed(key, self.parallels.key());
-        mixed(key, self.suspensions.key())
+        key = mixed(key, self.suspensions.key());
+        mixed(key, self.cadences.key())
     }
 }
 
@@ -81,11 +86,13 @@ pub fn ends_after(
     let shapes = shapes_next(ex, i, &kept.shapes, now)?;
     let parallels = parallels_after(ex, i, &kept.parallels, now)?;
     let suspensions = suspensions_after(ex, i, &kept.suspensions, before, now)?;
+    let cadences = cadences_after(ex, i, &kept.cadences, now)?;
     let ends = OpenEnds {
         dissonances,
         shapes,
         parallels,
         suspensions,
+        cadences,
     };
     Some((ends, 0))
 }
