@@ -1,0 +1,3 @@
+pub mod InARow
+pub mod RunsTold
+mod SameRuns

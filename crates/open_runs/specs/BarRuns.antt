@@ -1,5 +1,5 @@
 -- Bars in a row that two voices begin with thirds, or with sixths, and how they go on.
-use Rattle.std.specs.Prelude.{ℕ, ◌+◌, ◌-◌, ◌==◌, Bool, ◌&&◌, ◌||◌, nat_le, nat_lt, List, [], ◌∷◌, length, reverse, slice_index_or, if◌then◌else◌}
+use Rattle.std.specs.Prelude.{ℕ, ◌+◌, ◌-◌, Bool, ◌&&◌, ◌||◌, nat_le, nat_lt, List, [], ◌∷◌, length, reverse, slice_index_or, if◌then◌else◌}
 use Rattle.fux_grid.specs.declared.cell.Cell.{Cell}
 use Rattle.fux_grid.specs.declared.exercise.Exercise.{Exercise}
 use Rattle.fux_grid.specs.Columns.{Columns}
@@ -67,7 +67,7 @@ pairs_after ex i kept now =
 -- the run of two voices comes to four bars with the column
 abbrev pub comes_to_four : Run → List Cell → ℕ → ℕ → Bool
 comes_to_four kept now v w =
-    ((kept.thirds == 3) && sound_imperfect 2 now v w) || ((kept.sixths == 3) && sound_imperfect 5 now v w)
+    (nat_le 3 kept.thirds && sound_imperfect 2 now v w) || (nat_le 3 kept.sixths && sound_imperfect 5 now v w)
 
 abbrev pub count_of : Run → List Cell → ℕ → ℕ → ℕ
 count_of kept now v w = if comes_to_four kept now v w then 1 else 0

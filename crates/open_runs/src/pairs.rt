@@ -11,7 +11,8 @@ use motion_rules::sound_imperfect;
 fn may_come_to_four(ex: &Exercise, i: usize, bars: u8) -> bool
     ensures { result ≡ words.may_come_to_four ex.now i bars }
 {
-    i / 8 + 5 <= usize::from(ex.bars) + usize::from(bars)
+    let last = ex.bars;
+    i / 8 + 5 <= usize::from(last) + usize::from(bars)
 }
 
 /// What is kept of a run at column `i`.
@@ -68,8 +69,8 @@ pub(crate) fn pairs_after(ex: &Exercise, i: usize, kept: &[Run; 6], now: &[Cell]
 fn comes_to_four(kept: Run, now: &[Cell], v: usize, w: usize) -> bool
     ensures { result ≡ words.comes_to_four kept now.now v w }
 {
-    (kept.thirds == 3 && sound_imperfect(now, 2, v, w))
-        || (kept.sixths == 3 && sound_imperfect(now, 5, v, w))
+    (kept.thirds >= 3 && sound_imperfect(now, 2, v, w))
+        || (kept.sixths >= 3 && sound_imperfect(now, 5, v, w))
 }
 
 /// 1 where it does, else 0.
