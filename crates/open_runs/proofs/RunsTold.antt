@@ -19,7 +19,7 @@ use Rattle.fux_judge.specs.Rules.{cost_at, costs, toll_at}
 use Rattle.open_runs.specs.declared.steps.OpenRuns.{OpenRuns}
 use Rattle.open_runs.specs.declared.steps.Run.{Run}
 use Rattle.open_runs.specs.BarRuns.{bar_lines, bars_after, bars_kept, come_to_four, comes_to_four, count_of, for_pairs, in_a_row, pairs_after, run_after, run_in, while_it_may}
-use Rattle.open_runs.specs.Steps.{FollowsRuns, none, run_toll, runs_after, runs_in}
+use Rattle.open_runs.specs.Steps.{FollowsRuns, run_toll, runs_after, runs_in}
 use Rattle.open_runs.proofs.InARow.{kept-none, kept_goes_on, kept_stays, kept_three, row-few, row-within, three_in_a_row}
 use Rattle.open_runs.proofs.SameRuns.{open_from, run_from}
 
