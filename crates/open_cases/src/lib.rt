@@ -1,4 +1,4 @@
-//! Worked cases of what is open of the species voice, with answers that were worked out by hand. They stand in a crate above the steps that
+//! Worked cases of what is open behind a column, with answers that were worked out by hand. They stand in a crate above the steps that
 //! they try, so that what carries the proofs is proved once.
 #![tactic(auto)]
 
@@ -8,6 +8,8 @@ mod cadences;
 mod parallel_table;
 #[cfg(test)]
 mod parallels;
+#[cfg(test)]
+mod runs;
 #[cfg(test)]
 mod shapes;
 #[cfg(test)]
