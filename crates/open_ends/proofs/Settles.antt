@@ -1,20 +1,24 @@
 -- After each prefix of a lawful setting its next column settles what it costs with the one before it, and what the kept tolls cost there
 -- (`settles`).
-use Rattle.std.specs.Prelude.{◌≡◌, ◌≤◌, ◌<◌, ℕ, suc, ◌+◌, false, List, [], ◌∷◌, ◌++◌, IsSomeAnd, length, reverse, slice_index_or, refl}
+use Rattle.std.specs.Prelude.{◌≡◌, ◌≤◌, ◌<◌, ℕ, suc, ◌+◌, ◌*◌, false, [], ◌∷◌, ◌++◌, List, IsSomeAnd, length, reverse, slice_index_or, refl}
 use Rattle.std.proofs.Common.{ap, append_assoc, sym, ◌∙◌, subst, arith}
 use Rattle.std.proofs.lemmas.List.{length-append, reverse-append, reverse-reverse, take-append-le, take_all, get_or-append-add}
 use Rattle.fux_grid.specs.declared.cell.Cell.{Cell}
 use Rattle.fux_grid.specs.declared.exercise.Exercise.{Exercise}
 use Rattle.fux_grid.specs.Columns.{Columns}
 use Rattle.fux_grid.proofs.OrderlyLemmas.{orderly-fewer}
+use Rattle.fux_grid.specs.Exercises.{columns_in}
 use Rattle.rule_law.specs.Prefixes.{GoesOn, IsPrefix}
 use Rattle.penalty_sheet.specs.declared.sheet.Sheet.{Sheet}
+use Rattle.penalty_sheet.specs.Weights.{weight_of}
 use Rattle.fux_judge.specs.Lawful.{IsLawful}
 use Rattle.fux_judge.specs.Links.{last_column, link_of}
+use Rattle.fux_judge.specs.Rules.{cost_at}
 use Rattle.fux_judge.specs.Penalties.{breaks_by_column, has_strict_break, newly_paid, settles_break}
 use Rattle.fux_judge.proofs.Alive.{alive_if_unbroken, alive_orderly, prefix_before}
 use Rattle.fux_judge.proofs.Ends.{none_below}
-use Rattle.fux_judge.proofs.LinkPaid.{link_is_paid}
+use Rattle.open_runs.proofs.RunsPaid.{link_and_runs_are_paid}
+use Rattle.open_runs.specs.Steps.{run_toll}
 
 -- the first columns of a prefix
 prefix_first : (ex : Exercise) (p h : Columns) → IsPrefix ex (p ++ reverse h) → IsPrefix ex p
@@ -61,6 +65,10 @@ module _ (ex : Exercise) (few : ex.voices ≤ 4) (there : ex.cantus_voice < ex.v
         longer = prefix_first ex (p ++ col ∷ []) (reverse more) (subst P behind lawful.setting.prefix);
       }
 
+  -- and so it leads on within the exercise
+  pub here : length p < columns_in ex
+  here = omega (arith, goes_on.longer.few, length-append p (col ∷ []))
+
   pub settles : (sheet : Sheet) → IsSomeAnd (link_of ex sheet (length p) (last_column p) col)
-      (λ own. own ≤ newly_paid ex sheet p col)
-  settles sheet = link_is_paid ex there sheet p col goes_on unbroken
+      (λ own. own + cost_at run_toll ex (p ++ col ∷ []) (length p) * weight_of sheet run_toll ≤ newly_paid ex sheet p col)
+  settles sheet = link_and_runs_are_paid ex sheet p col there goes_on unbroken

@@ -1,16 +1,19 @@
 -- What is kept behind a column, part by part, and how the steps of a lawful setting lead from one column to the next
 -- (`FollowsLawful`).
-use Rattle.std.specs.Prelude.{◌≡◌, ◌≤◌, ℕ, ◌+◌, List, [], ◌∷◌, ◌++◌, Option, Some, None, IsSomeAnd, length, reverse}
+use Rattle.std.specs.Prelude.{◌≡◌, ◌≤◌, ℕ, ◌+◌, ◌*◌, Bool, List, [], ◌∷◌, ◌++◌, Option, Some, None, IsSomeAnd, length, reverse, if◌then◌else◌}
 use Rattle.fux_grid.specs.declared.cell.Cell.{Cell}
 use Rattle.fux_grid.specs.declared.exercise.Exercise.{Exercise}
 use Rattle.fux_grid.specs.Columns.{Columns, newest_column}
 use Rattle.penalty_sheet.specs.declared.sheet.Sheet.{Sheet}
+use Rattle.penalty_sheet.specs.Weights.{weight_of}
 use Rattle.fux_judge.specs.Lawful.{IsLawful}
 use Rattle.fux_judge.specs.Links.{last_column, link_of}
 use Rattle.fux_judge.specs.Penalties.{newly_paid}
 use Rattle.open_cadences.specs.Steps as cadences
 use Rattle.open_dissonances.specs.Steps as dissonances
 use Rattle.open_parallels.specs.Steps as parallels
+use Rattle.open_runs.specs.declared.steps.OpenRuns.{OpenRuns}
+use Rattle.open_runs.specs.Steps as runs
 use Rattle.open_shapes.specs.Steps as shapes
 use Rattle.open_suspensions.specs.Steps as suspensions
 use Rattle.open_ends.specs.declared.ends.OpenEnds.{OpenEnds}
@@ -24,7 +27,12 @@ none = record {
   parallels = parallels.none;
   suspensions = suspensions.none;
   cadences = cadences.none;
+  runs = runs.none;
 }
+
+-- what is kept of the runs of some columns, where they are followed
+abbrev pub runs_in : Exercise → Bool → Columns → OpenRuns
+runs_in ex followed p = if followed then runs.runs_in ex p else runs.none
 
 -- what is kept of some columns
 abbrev pub ends_in : Exercise → Keeps → Columns → OpenEnds
@@ -34,7 +42,15 @@ ends_in ex keeps p = record {
   parallels = parallels.kept_in ex p;
   suspensions = suspensions.suspensions_in ex p;
   cadences = cadences.cadences_in ex p;
+  runs = runs_in ex keeps.runs p;
 }
+
+-- what is kept of runs behind one column more, and what they cost there, by weight; nothing where they aren't followed
+abbrev pub runs_kept : Exercise → Sheet → Bool → ℕ → OpenRuns → List Cell → OpenRuns × ℕ
+runs_kept ex sheet followed i kept now =
+    if followed
+    then ((runs.runs_after ex i kept now).0, (runs.runs_after ex i kept now).1 * weight_of sheet runs.run_toll)
+    else (runs.none, 0)
 
 -- what is kept of a part, and what comes of it; none where the part refuses the column
 abbrev pub with_part : {Part : Type 0} → Option Part → (Part → Option (OpenEnds × ℕ)) → Option (OpenEnds × ℕ)
@@ -56,8 +72,9 @@ ends_after ex sheet keeps i kept before now =
         parallels = parallels;
         suspensions = suspensions;
         cadences = cadences;
+        runs = (runs_kept ex sheet keeps.runs i kept.runs now).0;
       },
-      0,
+      (runs_kept ex sheet keeps.runs i kept.runs now).1,
     ))))))
 
 -- a column leads on from what is kept of a prefix to what is kept of the longer one, and settles at least what the kept tolls cost there,

@@ -12,9 +12,10 @@ use fux_grid::{Cell, Exercise};
 use open_cadences::{OpenCadences, cadences_after};
 use open_dissonances::{OpenDissonances, open_after};
 use open_parallels::{OpenParallels, parallels_after};
+use open_runs::{OpenRuns, runs_after};
 use open_shapes::{OpenShapes, shapes_next};
 use open_suspensions::{OpenSuspensions, suspensions_after};
-use penalty_sheet::Sheet;
+use penalty_sheet::{Sheet, weight};
 
 /// What waits for later columns, part by part.
 #[derive(Clone, Copy, Debug, PartialEq, Eq)]
@@ -24,6 +25,7 @@ pub struct OpenEnds {
     pub parallels: OpenParallels,
     pub suspensions: OpenSuspensions,
     pub cadences: OpenCadences,
+    pub runs: OpenRuns,
 }
 
 /// A number made of two, in which each of them counts.
@@ -44,6 +46,7 @@ impl OpenEnds {
             parallels: OpenParallels::none(),
             suspensions: OpenSuspensions::none(),
             cadences: OpenCadences::none(),
+            runs: OpenRuns::none(),
         }
     }
 
@@ -56,6 +59,7 @@ impl OpenEnds {
             && self.parallels.is_same(&other.parallels)
             && self.suspensions.is_same(&other.suspensions)
             && self.cadences.is_same(&other.cadences)
+            && self.runs.is_same(&other.runs)
     }
 
     /// A number by which it may be looked up.
@@ -64,8 +68,28 @@ impl OpenEnds {
         key = mixed(key, self.shapes.key());
         key = mixed(key, self.parallels.key());
         key = mixed(key, self.suspensions.key());
-        mixed(key, self.cadences.key())
+        key = mixed(key, self.cadences.key());
+        mixed(key, self.runs.key())
     }
+}
+
+/// What is kept of runs, and what they cost at the column, by weight; nothing where they aren't followed.
+fn runs_kept(
+    ex: &Exercise,
+    sheet: &Sheet,
+    keeps: Keeps,
+    i: usize,
+    kept: &OpenRuns,
+    now: &[Cell],
+) -> (OpenRuns, u32)
+    ensures value { result ≡ steps.runs_kept ex.now sheet.now keeps.runs i kept.now now.now }
+    ensures bound { result.1 ≤ 2 ^ 20 }
+{
+    if !keeps.runs {
+        return (OpenRuns::none(), 0);
+    }
+    let (runs, count) = runs_after(ex, i, kept, now);
+    (runs, count * u32::from(weight(sheet, 14)))
 }
 
 /// What is kept behind a column, and what the tolls that are followed cost there, by weight; none where no lawful setting goes on so.
@@ -87,14 +111,16 @@ pub fn ends_after(
     let parallels = parallels_after(ex, i, &kept.parallels, now)?;
     let suspensions = suspensions_after(ex, i, &kept.suspensions, before, now)?;
     let cadences = cadences_after(ex, i, &kept.cadences, now)?;
+    let (runs, cost) = runs_kept(ex, sheet, keeps, i, &kept.runs, now);
     let ends = OpenEnds {
         dissonances,
         shapes,
         parallels,
         suspensions,
         cadences,
+        runs,
     };
-    Some((ends, 0))
+    Some((ends, cost))
 }
 
 /// From prefix to prefix of a lawful setting no step is refused, each leads to what is kept behind its column, and what it costs is paid by that
