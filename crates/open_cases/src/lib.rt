@@ -12,3 +12,7 @@ mod shapes;
 mod steps;
 #[cfg(test)]
 mod table;
+#[cfg(test)]
+mod turning_table;
+#[cfg(test)]
+mod turnings;
