@@ -1,5 +1,5 @@
--- What is kept of the notes of the species voice: the newest one, the way of the move to it, and the latest turning note,
--- each as far as S8 may come to ask for it.
+-- What is kept of the notes of the species voice: the newest one, the way of the move to it, and the latest turning
+-- note, each as far as S8 may come to ask for it.
 use Rattle.std.specs.Prelude.{ℕ, ◌+◌, ◌-◌, ◌==◌, Bool, false, ◌&&◌, ◌||◌, nat_le, unsigned_abs, List, [], ◌∷◌, Option, Some, None, is_some, if◌then◌else◌}
 use Rattle.std.specs.Option.{option_map_or}
 use Rattle.fux_pitch.specs.declared.interval.Interval.{Interval}
@@ -73,14 +73,14 @@ abbrev pub while_near : Option Pitch → Pitch → Option Pitch
 while_near None c = None
 while_near (Some p) c = if nat_le (semitones_between p c) 6 then Some p else None
 
--- what is kept of the latest turning note, once a further note starts. It is let go where the new note lies more than six
--- semitones from it: unless a note is repeated, the next turning note lies farther still
+-- what is kept of the latest turning note, once a further note starts. It is let go where the new note lies more than
+-- six semitones from it: unless a note is repeated, the next turning note lies farther still
 abbrev pub turning_after : Exercise → OpenTurns → Pitch → Option Pitch
 turning_after ex kept c =
     while_near (if turns_back kept (Start c) then with_tritone ex kept.newest else kept.turning) c
 
--- what is kept, once a further note starts. The way to it is kept where a turning note is, or where the new note would be
--- if it became one
+-- what is kept, once a further note starts. The way to it is kept where a turning note is, or where the new note would
+-- be if it became one
 abbrev pub with_note : Exercise → OpenTurns → Pitch → OpenTurns
 with_note ex kept c = record {
   newest = Some c;
