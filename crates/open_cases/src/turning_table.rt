@@ -126,6 +126,32 @@ A4:4 G4:4 B4:4 C5:4 B4:8
 
 dorian 2 1 0
 cantus D4 D4 D4
+range 1 C4 C5
+D4:8 D4:8 D4:8
+D4:4 F4:4 E4:4 F4:4 D4:8
+=
+0 D4 level -
+4 F4 level -
+8 E4 falls -
+12 F4 rises E4
+16 D4 level -
+
+dorian 2 1 0
+cantus D4 D4 D4 D4 D4 D4
+D4:8 D4:8 D4:8 D4:8 D4:8 D4:8
+A4:4 G4:4 B4:4 A4:4 G4:8 A4:8 B4:8 G4:8
+=
+0 A4 level -
+4 G4 level -
+8 B4 rises -
+12 A4 falls B4
+16 G4 falls B4
+24 A4 rises G4
+32 B4 rises G4
+40 G4 falls B4
+
+dorian 2 1 0
+cantus D4 D4 D4
 relax 8 2 5
 D4:8 D4:8 D4:8
 G4:4 F4:4 A4:4 B4:4 A4:8

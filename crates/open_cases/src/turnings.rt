@@ -36,7 +36,7 @@ fn changes(alloc: Global, ex: &Exercise, score: &Score) -> Result<String, Fail> 
     let mut text = String::new(alloc);
     let mut kept = OpenTurns::none();
     for i in 0..score.len() {
-        let Some(next) = turns_after(ex, &kept, score.column(i).as_slice()) else {
+        let Some(next) = turns_after(ex, i, &kept, score.column(i).as_slice()) else {
             write!(text, "\n{i} refused")?;
             return Ok(text);
         };

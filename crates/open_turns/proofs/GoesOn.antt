@@ -1,7 +1,7 @@
 -- In a lawful setting no step is refused, and each leads to what is kept behind its column (`goes_on`).
 use Rattle.std.specs.Prelude.{◌≡◌, ℕ, ◌+◌, ◌<◌, ◌&&◌, Bool, true, false, List, [], ◌∷◌, ◌++◌, Some, None, length, reverse, slice_index_or, if◌then◌else◌, refl}
 use Rattle.std.proofs.Common.{ap, sym, ◌∙◌, arith}
-use Rattle.std.proofs.lemmas.List.{get_or-append-add, length-append}
+use Rattle.std.proofs.lemmas.List.{get_or-append-add, length-append, length-reverse}
 use Rattle.fux_grid.specs.declared.cell.Cell.{Cell}
 use Rattle.fux_grid.specs.declared.exercise.Exercise.{Exercise}
 use Rattle.fux_grid.specs.Cells.{cell_in}
@@ -29,14 +29,14 @@ module _ (ex : Exercise) (p : Columns) (col : List Cell) where
   now = cell_in col ex.species_voice
 
   -- nothing, where S8 isn't asked
-  still-kept : still_kept ex (turns_in ex p) col ≡ turns_in ex (p ++ col ∷ [])
+  still-kept : still_kept ex (length p) (turns_in ex p) col ≡ turns_in ex (p ++ col ∷ [])
   still-kept =
       at (is_asked ex turns_rule)
       ∙ ap (λ cols. if is_asked ex turns_rule then noted_in ex cols else none) (sym (reverse-push p col))
     where
-      at : (b : Bool) → (if b then noted ex (if b then noted_in ex (reverse p) else none) now else none)
+      at : (b : Bool) → (if b then noted ex (length p) (if b then noted_in ex (reverse p) else none) now else none)
           ≡ (if b then noted_in ex (col ∷ reverse p) else none)
-      at true = refl
+      at true = ap (λ n. noted ex n (noted_in ex (reverse p)) now) (sym (length-reverse p))
       at false = refl
 
   module _ (more : Columns) (voices : HasVoices ex) (lawful : IsLawful ex (p ++ col ∷ more)) where
@@ -65,9 +65,10 @@ module _ (ex : Exercise) (p : Columns) (col : List Cell) where
         ∙ ap (λ c. turns_badly (noted_in ex (reverse p)) (cell_in c ex.species_voice)) newest)
         ∙ never_turns_badly ex voices s lawful e (length p) here
 
-    pub goes_on : turns_after ex (turns_in ex p) col ≡ Some (turns_in ex (p ++ col ∷ []))
+    pub goes_on : turns_after ex (length p) (turns_in ex p) col ≡ Some (turns_in ex (p ++ col ∷ []))
     goes_on =
-        ap (λ b. if b then None else Some (still_kept ex (turns_in ex p) col)) (kept (is_asked ex turns_rule) refl)
+        ap (λ b. if b then None else Some (still_kept ex (length p) (turns_in ex p) col))
+        (kept (is_asked ex turns_rule) refl)
         ∙ ap Some still-kept
 
 -- the same of each exercise that is valid

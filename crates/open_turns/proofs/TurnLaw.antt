@@ -78,7 +78,7 @@ tells-none = record {
   exact = λ t e now. cc;
 }
 
-module _ (ex : Exercise) (c : Pitch) (ps : List Pitch) (kept : OpenTurns) (tells : TellsOf ps kept) where
+module _ (ex : Exercise) (i : ℕ) (c : Pitch) (ps : List Pitch) (kept : OpenTurns) (tells : TellsOf ps kept) where
   back : (now : Cell)
       → holds_of (goes_back (way_between kept.newest c)) (move_from (Some c) now) ≡ turns (last_of ps) (Some c) now
   back now = back-turns kept.newest c now ∙ ap (λ p. turns p (Some c) now) tells.newest
@@ -98,21 +98,21 @@ module _ (ex : Exercise) (c : Pitch) (ps : List Pitch) (kept : OpenTurns) (tells
         at true f = f
         at false f = cc
 
-    tritone : (p : Option Pitch) → with_tritone ex p ≡ Some t → p ≡ Some t
+    tritone : (p : Option Pitch) → with_tritone ex i kept.way p ≡ Some t → p ≡ Some t
     tritone None e = cc
-    tritone (Some p) e = at (has_tritone ex p) e
+    tritone (Some p) e = at (has_tritone ex i kept.way p) e
       where
         at : (b : Bool) → (if b then Some p else None) ≡ Some t → Some p ≡ Some t
         at true f = f
         at false f = cc
 
-    latest : turning_after ex kept c ≡ Some t → latest_turning (c ∷ ps) ≡ Some t
+    latest : turning_after ex i kept c ≡ Some t → latest_turning (c ∷ ps) ≡ Some t
     latest e =
         at (turns_back kept (Start c)) refl
-        (near (if turns_back kept (Start c) then with_tritone ex kept.newest else kept.turning) e)
+        (near (if turns_back kept (Start c) then with_tritone ex i kept.way kept.newest else kept.turning) e)
       where
         at : (b : Bool) → turns_back kept (Start c) ≡ b
-            → (if b then with_tritone ex kept.newest else kept.turning) ≡ Some t → latest_turning (c ∷ ps) ≡ Some t
+            → (if b then with_tritone ex i kept.way kept.newest else kept.turning) ≡ Some t → latest_turning (c ∷ ps) ≡ Some t
         at true f g =
             ap (λ b. if b then last_of ps else latest_turning ps) (tells.turned (Start c) f)
             ∙ sym tells.newest
@@ -121,27 +121,28 @@ module _ (ex : Exercise) (c : Pitch) (ps : List Pitch) (kept : OpenTurns) (tells
             ap (λ b. if b then last_of ps else latest_turning ps) (sym (tells.exact t g (Start c)) ∙ f)
             ∙ tells.turning t g
 
-  tells-more : TellsOf (c ∷ ps) (with_note ex kept c)
+  tells-more : TellsOf (c ∷ ps) (with_note ex i kept c)
   tells-more = record {
     newest = refl;
-    turned = way_if (is_some (turning_after ex kept c) || has_tritone ex c);
+    turned = way_if (is_some (turning_after ex i kept c) || has_tritone ex i (way_between kept.newest c) c);
     turning = latest;
-    exact = λ t e now. ap (λ p. holds_of (goes_back (if is_some p || has_tritone ex c then way_between kept.newest c
-        else Level)) (move_from (Some c) now)) e ∙ back now;
+    exact = λ t e now. ap (λ p. holds_of (goes_back
+        (if is_some p || has_tritone ex i (way_between kept.newest c) c then way_between kept.newest c else Level))
+        (move_from (Some c) now)) e ∙ back now;
   }
 
-one_cell : (ex : Exercise) (c : Cell) (cells : List Cell) (kept : OpenTurns) → TellsOf (pitches cells) kept
-    → TellsOf (pitches (c ∷ cells)) (noted ex kept c)
-one_cell ex Rest cells kept tells = tells
-one_cell ex (Hold p) cells kept tells =
+one_cell : (ex : Exercise) (i : ℕ) (c : Cell) (cells : List Cell) (kept : OpenTurns) → TellsOf (pitches cells) kept
+    → TellsOf (pitches (c ∷ cells)) (noted ex i kept c)
+one_cell ex i Rest cells kept tells = tells
+one_cell ex i (Hold p) cells kept tells =
     subst (λ (ps : List Pitch). TellsOf ps kept) (sym (pitches-hold p cells)) tells
-one_cell ex (Start c) cells kept tells = tells-more ex c (pitches cells) kept tells
+one_cell ex i (Start c) cells kept tells = tells-more ex i c (pitches cells) kept tells
 
 kept_of_line : (ex : Exercise) (behind : List (List Cell))
     → TellsOf (pitches (line ex.species_voice behind)) (noted_in ex behind)
 kept_of_line ex [] = tells-none
 kept_of_line ex (col ∷ behind) =
-    one_cell ex (cell_in col ex.species_voice) (line ex.species_voice behind) (noted_in ex behind)
+    one_cell ex (length behind) (cell_in col ex.species_voice) (line ex.species_voice behind) (noted_in ex behind)
     (kept_of_line ex behind)
 
 last : (a b c : Bool) → (a && (b && c)) ≡ false → a ≡ true → b ≡ true → c ≡ false

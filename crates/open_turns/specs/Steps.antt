@@ -1,6 +1,6 @@
 -- What is kept behind a column, and how the steps of a lawful setting lead from one column to the next
 -- (`FollowsLawful`).
-use Rattle.std.specs.Prelude.{◌≡◌, ◌&&◌, Bool, List, [], ◌∷◌, ◌++◌, Option, Some, None, reverse, if◌then◌else◌}
+use Rattle.std.specs.Prelude.{◌≡◌, ℕ, ◌&&◌, Bool, List, [], ◌∷◌, ◌++◌, Option, Some, None, length, reverse, if◌then◌else◌}
 use Rattle.fux_grid.specs.declared.cell.Cell.{Cell}
 use Rattle.fux_grid.specs.declared.exercise.Exercise.{Exercise}
 use Rattle.fux_grid.specs.Cells.{cell_in}
@@ -19,15 +19,15 @@ abbrev pub breaks_turns : Exercise → OpenTurns → List Cell → Bool
 breaks_turns ex kept now = is_asked ex turns_rule && turns_badly kept (cell_in now ex.species_voice)
 
 -- what is kept behind one column more
-abbrev pub still_kept : Exercise → OpenTurns → List Cell → OpenTurns
-still_kept ex kept now = if is_asked ex turns_rule then noted ex kept (cell_in now ex.species_voice) else none
+abbrev pub still_kept : Exercise → ℕ → OpenTurns → List Cell → OpenTurns
+still_kept ex i kept now = if is_asked ex turns_rule then noted ex i kept (cell_in now ex.species_voice) else none
 
 -- the same; none where the column breaks S8
-abbrev pub turns_after : Exercise → OpenTurns → List Cell → Option OpenTurns
-turns_after ex kept now = if breaks_turns ex kept now then None else Some (still_kept ex kept now)
+abbrev pub turns_after : Exercise → ℕ → OpenTurns → List Cell → Option OpenTurns
+turns_after ex i kept now = if breaks_turns ex kept now then None else Some (still_kept ex i kept now)
 
 -- from prefix to prefix of a lawful setting no step is refused, and each leads to what is kept behind its column
 pub record FollowsLawful (ex : Exercise) : Type 0 where
   pub first : turns_in ex [] ≡ none
   pub next : (p : Columns) (col : List Cell) (more : Columns) → IsLawful ex (p ++ col ∷ more)
-      → turns_after ex (turns_in ex p) col ≡ Some (turns_in ex (p ++ col ∷ []))
+      → turns_after ex (length p) (turns_in ex p) col ≡ Some (turns_in ex (p ++ col ∷ []))

@@ -4,7 +4,7 @@ ghost use Rattle.std.specs.Prelude.{◌≡◌, ◌↔◌, ◌<◌, ◌≤◌, Is
 ghost use Rattle.open_turns.specs.Notes as words;
 
 use fux_grid::{Cell, Exercise};
-use fux_pitch::{Interval, Mode, Pitch, in_gamut, interval_of, semitone, spell};
+use fux_pitch::{Interval, Pitch, in_gamut, interval_of, semitone, spell};
 use rule_law::{falls, rises};
 
 /// Which way a move goes.
@@ -21,7 +21,7 @@ pub enum Way {
 pub struct OpenTurns {
     pub newest: Option<Pitch>,
     pub way: Way,
-    /// None once the voice is more than six semitones away, or if no note of the gamut lies six semitones from it.
+    /// None once the voice is more than six semitones away, or if it can't come to a note six semitones off.
     pub turning: Option<Pitch>,
 }
 
@@ -136,30 +136,58 @@ pub(crate) fn turns_badly(kept: &OpenTurns, now: Cell) -> bool
     }
 }
 
-/// Whether a key is that of a note which the mode has in some bar: the gamut of the last bar has the notes of all others.
-fn is_in_mode(mode: Mode, key: u8) -> bool
-    ensures { result ≡ words.is_in_mode mode key }
+/// Whether a column is in one of the last four bars.
+fn is_near_end(ex: &Exercise, i: usize) -> bool
+    ensures { result ≡ words.is_near_end ex.now i }
+{
+    (8 * usize::from(ex.bars)).saturating_sub(i) <= 32
+}
+
+/// Whether the mode has a pitch: the gamut of the last bar has those of all others. What the mode raises there counts near the end alone.
+fn is_in_mode(ex: &Exercise, i: usize, pitch: Pitch) -> bool
+    ensures { result ≡ words.is_in_mode ex.now i pitch }
+{
+    in_gamut(ex.mode, 1, 1, pitch) && (is_near_end(ex, i) || pitch.alter() != 1)
+}
+
+/// Whether a pitch lies within some range of the species voice.
+fn is_in_reach(ex: &Exercise, pitch: Pitch) -> bool
+    ensures { result ≡ words.is_in_reach ex.now pitch }
+{
+    let key = semitone(pitch);
+    ex.ranges.as_slice().iter().any(|line| {
+        line.voice == ex.species_voice && semitone(line.low) <= key && key <= semitone(line.high)
+    })
+}
+
+/// Whether the voice may come to a note of a key.
+fn may_sound(ex: &Exercise, i: usize, key: u8) -> bool
+    ensures { result ≡ words.may_sound ex.now i key }
 {
     match spell(key) {
-        Some(pitch) => in_gamut(mode, 1, 1, pitch),
+        Some(pitch) => is_in_mode(ex, i, pitch) && is_in_reach(ex, pitch),
         None => false,
     }
 }
 
-/// Whether a note of the mode lies six semitones above a pitch or below it.
-fn has_tritone(ex: &Exercise, pitch: Pitch) -> bool
-    ensures { result ≡ words.has_tritone ex.now pitch }
+/// Whether the voice, if it turns back at a note that it comes to, may come to one six semitones off.
+fn has_tritone(ex: &Exercise, i: usize, way: Way, pitch: Pitch) -> bool
+    ensures { result ≡ words.has_tritone ex.now i way pitch }
 {
     let key = semitone(pitch);
-    is_in_mode(ex.mode, key + 6) || is_in_mode(ex.mode, key - 6)
+    match way {
+        Way::Falls => may_sound(ex, i, key + 6),
+        Way::Level => false,
+        Way::Rises => may_sound(ex, i, key - 6),
+    }
 }
 
-/// A turning note, if a note of the mode lies six semitones from it.
-fn with_tritone(ex: &Exercise, turning: Option<Pitch>) -> Option<Pitch>
-    ensures { result ≡ words.with_tritone ex.now turning }
+/// A turning note that the voice came to, if it may come to a note six semitones off.
+fn with_tritone(ex: &Exercise, i: usize, way: Way, turning: Option<Pitch>) -> Option<Pitch>
+    ensures { result ≡ words.with_tritone ex.now i way turning }
 {
     match turning {
-        Some(pitch) if has_tritone(ex, pitch) => Some(pitch),
+        Some(pitch) if has_tritone(ex, i, way, pitch) => Some(pitch),
         _ => None,
     }
 }
@@ -174,12 +202,12 @@ fn while_near(turning: Option<Pitch>, pitch: Pitch) -> Option<Pitch>
     }
 }
 
-/// What is kept of the latest turning note, once a further note starts.
-fn turning_after(ex: &Exercise, kept: &OpenTurns, pitch: Pitch) -> Option<Pitch>
-    ensures { result ≡ words.turning_after ex.now kept.now pitch }
+/// What is kept of the latest turning note, once a further note starts in column `i`.
+fn turning_after(ex: &Exercise, i: usize, kept: &OpenTurns, pitch: Pitch) -> Option<Pitch>
+    ensures { result ≡ words.turning_after ex.now i kept.now pitch }
 {
     let turning = if turns_back(kept, Cell::Start(pitch)) {
-        with_tritone(ex, kept.newest)
+        with_tritone(ex, i, kept.way, kept.newest)
     } else {
         kept.turning
     };
@@ -187,28 +215,25 @@ fn turning_after(ex: &Exercise, kept: &OpenTurns, pitch: Pitch) -> Option<Pitch>
 }
 
 /// What is kept, once a further note starts.
-fn with_note(ex: &Exercise, kept: &OpenTurns, pitch: Pitch) -> OpenTurns
-    ensures { result ≡ words.with_note ex.now kept.now pitch }
+fn with_note(ex: &Exercise, i: usize, kept: &OpenTurns, pitch: Pitch) -> OpenTurns
+    ensures { result ≡ words.with_note ex.now i kept.now pitch }
 {
-    let turning = turning_after(ex, kept, pitch);
-    let way = if turning.is_some() || has_tritone(ex, pitch) {
-        way_between(kept.newest, pitch)
-    } else {
-        Way::Level
-    };
+    let turning = turning_after(ex, i, kept, pitch);
+    let way = way_between(kept.newest, pitch);
+    let matters = turning.is_some() || has_tritone(ex, i, way, pitch);
     OpenTurns {
         newest: Some(pitch),
-        way,
+        way: if matters { way } else { Way::Level },
         turning,
     }
 }
 
-/// What is kept after one more cell of the voice.
-pub(crate) fn noted(ex: &Exercise, kept: &OpenTurns, cell: Cell) -> OpenTurns
-    ensures { result ≡ words.noted ex.now kept.now cell }
+/// What is kept after one more cell of the voice, that of column `i`.
+pub(crate) fn noted(ex: &Exercise, i: usize, kept: &OpenTurns, cell: Cell) -> OpenTurns
+    ensures { result ≡ words.noted ex.now i kept.now cell }
 {
     match cell {
-        Cell::Start(pitch) => with_note(ex, kept, pitch),
+        Cell::Start(pitch) => with_note(ex, i, kept, pitch),
         Cell::Hold(_) | Cell::Rest => *kept,
     }
 }

@@ -10,8 +10,8 @@ use fux_grid::{Cell, Exercise, cell_of};
 use open_dissonances::is_asked;
 
 /// What is kept behind a column; none where no lawful setting goes on so.
-pub fn turns_after(ex: &Exercise, kept: &OpenTurns, column: &[Cell]) -> Option<OpenTurns>
-    ensures { result ≡ steps.turns_after ex.now kept.now column.now }
+pub fn turns_after(ex: &Exercise, i: usize, kept: &OpenTurns, column: &[Cell]) -> Option<OpenTurns>
+    ensures { result ≡ steps.turns_after ex.now i kept.now column.now }
 {
     if !is_asked(ex, 8) {
         return Some(OpenTurns::none());
@@ -20,7 +20,7 @@ pub fn turns_after(ex: &Exercise, kept: &OpenTurns, column: &[Cell]) -> Option<O
     if turns_badly(kept, cell) {
         return None;
     }
-    Some(noted(ex, kept, cell))
+    Some(noted(ex, i, kept, cell))
 }
 
 /// From prefix to prefix of a lawful setting no step is refused, and each leads to what is kept behind its column: a theorem, which costs
