@@ -112,7 +112,8 @@ module _ (ex : Exercise) (i : ℕ) (c : Pitch) (ps : List Pitch) (kept : OpenTur
         (near (if turns_back kept (Start c) then with_tritone ex i kept.way kept.newest else kept.turning) e)
       where
         at : (b : Bool) → turns_back kept (Start c) ≡ b
-            → (if b then with_tritone ex i kept.way kept.newest else kept.turning) ≡ Some t → latest_turning (c ∷ ps) ≡ Some t
+            → (if b then with_tritone ex i kept.way kept.newest else kept.turning) ≡ Some t
+            → latest_turning (c ∷ ps) ≡ Some t
         at true f g =
             ap (λ b. if b then last_of ps else latest_turning ps) (tells.turned (Start c) f)
             ∙ sym tells.newest

@@ -61,8 +61,8 @@ turns_badly kept now =
 abbrev pub is_near_end : Exercise → ℕ → Bool
 is_near_end ex i = nat_le (columns_in ex - i) 32
 
--- the mode has a pitch: it is in the gamut of the last bar, which has the notes of all others. What the mode raises there
--- counts near the end alone
+-- the mode has a pitch: it is in the gamut of the last bar, which has the notes of all others. What the mode raises
+-- there counts near the end alone
 abbrev pub is_in_mode : Exercise → ℕ → Pitch → Bool
 is_in_mode ex i p = is_in_gamut ex.mode 1 1 p && (is_near_end ex i || not (int_eq (alter_of p) (pos 1)))
 
