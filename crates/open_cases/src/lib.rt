@@ -20,3 +20,7 @@ mod suspension_table;
 mod suspensions;
 #[cfg(test)]
 mod table;
+#[cfg(test)]
+mod turning_table;
+#[cfg(test)]
+mod turnings;
