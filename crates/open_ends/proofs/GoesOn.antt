@@ -19,8 +19,11 @@ use Rattle.open_runs.specs.declared.steps.OpenRuns.{OpenRuns}
 use Rattle.open_runs.specs.Steps as runs
 use Rattle.open_shapes.proofs.KeepsShapes as shapes
 use Rattle.open_suspensions.proofs.GoesOn as suspensions
+use Rattle.open_turns.proofs.GoesOn as turning
+use Rattle.open_turns.specs.Notes as notes
+use Rattle.open_turns.specs.Steps as turns
 use Rattle.open_ends.specs.declared.keeps.Keeps.{Keeps}
-use Rattle.open_ends.specs.Steps.{FollowsLawful, LeadsOn, ends_in, none, runs_in, runs_kept}
+use Rattle.open_ends.specs.Steps.{FollowsLawful, LeadsOn, ends_in, none, runs_in, runs_kept, turns_in, turns_kept}
 use Rattle.open_ends.proofs.Settles.{here, settles}
 
 -- before the first column nothing is kept
@@ -31,13 +34,14 @@ ends-none ex keeps = rw (
   parallels.kept-none ex,
   suspensions.suspensions-none ex,
   cadences.kept-none ex,
-  where_kept keeps.runs runs.none (runs.runs_in ex []) ((follows_runs ex).first),
+  where_followed keeps.runs runs.none (runs.runs_in ex []) (follows_runs ex).first,
+  where_followed keeps.turns notes.none (turns.turns_in ex []) (turning.turns-none ex),
 ) refl
   where
-    where_kept : {Part : Type 0} (kept : Bool) (nothing part : Part) → part ≡ nothing
-        → (if kept then part else nothing) ≡ nothing
-    where_kept true nothing part e = e
-    where_kept false nothing part e = refl
+    where_followed : {Part : Type 0} (followed : Bool) (nothing part : Part) → part ≡ nothing
+        → (if followed then part else nothing) ≡ nothing
+    where_followed true nothing part e = e
+    where_followed false nothing part e = refl
 
 module _ (ex : Exercise) (sheet : Sheet) (keeps : Keeps) (voices : HasVoices ex) (there : ex.cantus_voice < ex.voices)
     (p : Columns) (col : List Cell) (more : Columns) (lawful : IsLawful ex (p ++ col ∷ more)) where
@@ -52,6 +56,11 @@ module _ (ex : Exercise) (sheet : Sheet) (keeps : Keeps) (voices : HasVoices ex)
   runs_on true = rw (runs-told ex p col (here ex voices.most_voices there p col more lawful)) refl
   runs_on false = refl
 
+  turns_on : (followed : Bool) → turns_kept ex followed (length p) (turns_in ex followed p) col
+      ≡ Some (turns_in ex followed (p ++ col ∷ []))
+  turns_on true = turning.goes_on ex p col more voices lawful
+  turns_on false = refl
+
   pub leads_on : LeadsOn ex sheet keeps p col
   leads_on = record {
     cost = if keeps.runs then runs_paid else 0;
@@ -62,6 +71,7 @@ module _ (ex : Exercise) (sheet : Sheet) (keeps : Keeps) (voices : HasVoices ex)
       parallels.goes_on ex p col more voices lawful,
       suspensions.goes_on ex p col more voices lawful,
       cadences.goes_on ex p col more voices lawful,
+      turns_on keeps.turns,
       runs_on keeps.runs,
     ) refl;
     settles = no_less keeps.runs _ (settles ex voices.most_voices there p col more lawful sheet);

@@ -16,6 +16,9 @@ use Rattle.open_runs.specs.declared.steps.OpenRuns.{OpenRuns}
 use Rattle.open_runs.specs.Steps as runs
 use Rattle.open_shapes.specs.Steps as shapes
 use Rattle.open_suspensions.specs.Steps as suspensions
+use Rattle.open_turns.specs.declared.notes.OpenTurns.{OpenTurns}
+use Rattle.open_turns.specs.Notes as notes
+use Rattle.open_turns.specs.Steps as turns
 use Rattle.open_ends.specs.declared.ends.OpenEnds.{OpenEnds}
 use Rattle.open_ends.specs.declared.keeps.Keeps.{Keeps}
 
@@ -28,11 +31,16 @@ none = record {
   suspensions = suspensions.none;
   cadences = cadences.none;
   runs = runs.none;
+  turns = notes.none;
 }
 
 -- what is kept of the runs of some columns, where they are followed
 abbrev pub runs_in : Exercise → Bool → Columns → OpenRuns
 runs_in ex followed p = if followed then runs.runs_in ex p else runs.none
+
+-- and of their turning notes
+abbrev pub turns_in : Exercise → Bool → Columns → OpenTurns
+turns_in ex followed p = if followed then turns.turns_in ex p else notes.none
 
 -- what is kept of some columns
 abbrev pub ends_in : Exercise → Keeps → Columns → OpenEnds
@@ -43,6 +51,7 @@ ends_in ex keeps p = record {
   suspensions = suspensions.suspensions_in ex p;
   cadences = cadences.cadences_in ex p;
   runs = runs_in ex keeps.runs p;
+  turns = turns_in ex keeps.turns p;
 }
 
 -- what is kept of runs behind one column more, and what they cost there, by weight; nothing where they aren't followed
@@ -51,6 +60,10 @@ runs_kept ex sheet followed i kept now =
     if followed
     then ((runs.runs_after ex i kept now).0, (runs.runs_after ex i kept now).1 * weight_of sheet runs.run_toll)
     else (runs.none, 0)
+
+-- and of turning notes; none where the column breaks S8
+abbrev pub turns_kept : Exercise → Bool → ℕ → OpenTurns → List Cell → Option OpenTurns
+turns_kept ex followed i kept now = if followed then turns.turns_after ex i kept now else Some notes.none
 
 -- what is kept of a part, and what comes of it; none where the part refuses the column
 abbrev pub with_part : {Part : Type 0} → Option Part → (Part → Option (OpenEnds × ℕ)) → Option (OpenEnds × ℕ)
@@ -65,6 +78,7 @@ ends_after ex sheet keeps i kept before now =
     with_part (parallels.parallels_after ex i kept.parallels now) (λ parallels.
     with_part (suspensions.suspensions_after ex i kept.suspensions before now) (λ suspensions.
     with_part (cadences.cadences_after ex i kept.cadences now) (λ cadences.
+    with_part (turns_kept ex keeps.turns i kept.turns now) (λ turns.
     Some (
       record {
         dissonances = dissonances;
@@ -73,9 +87,10 @@ ends_after ex sheet keeps i kept before now =
         suspensions = suspensions;
         cadences = cadences;
         runs = (runs_kept ex sheet keeps.runs i kept.runs now).0;
+        turns = turns;
       },
       (runs_kept ex sheet keeps.runs i kept.runs now).1,
-    ))))))
+    )))))))
 
 -- a column leads on from what is kept of a prefix to what is kept of the longer one, and settles at least what the kept tolls cost there,
 -- beside what it and the one before it cost by themselves

@@ -15,6 +15,7 @@ use open_parallels::{OpenParallels, parallels_after};
 use open_runs::{OpenRuns, runs_after};
 use open_shapes::{OpenShapes, shapes_next};
 use open_suspensions::{OpenSuspensions, suspensions_after};
+use open_turns::{OpenTurns, turns_after};
 use penalty_sheet::{Sheet, weight};
 
 /// What waits for later columns, part by part.
@@ -26,6 +27,7 @@ pub struct OpenEnds {
     pub suspensions: OpenSuspensions,
     pub cadences: OpenCadences,
     pub runs: OpenRuns,
+    pub turns: OpenTurns,
 }
 
 /// A number made of two, in which each of them counts.
@@ -47,6 +49,7 @@ impl OpenEnds {
             suspensions: OpenSuspensions::none(),
             cadences: OpenCadences::none(),
             runs: OpenRuns::none(),
+            turns: OpenTurns::none(),
         }
     }
 
@@ -60,6 +63,7 @@ impl OpenEnds {
             && self.suspensions.is_same(&other.suspensions)
             && self.cadences.is_same(&other.cadences)
             && self.runs.is_same(&other.runs)
+            && self.turns.is_same(&other.turns)
     }
 
     /// A number by which it may be looked up.
@@ -69,7 +73,25 @@ impl OpenEnds {
         key = mixed(key, self.parallels.key());
         key = mixed(key, self.suspensions.key());
         key = mixed(key, self.cadences.key());
-        mixed(key, self.runs.key())
+        key = mixed(key, self.runs.key());
+        mixed(key, self.turns.key())
+    }
+}
+
+/// What is kept of turning notes; nothing where they aren't followed.
+fn turns_kept(
+    ex: &Exercise,
+    keeps: Keeps,
+    i: usize,
+    kept: &OpenTurns,
+    now: &[Cell],
+) -> Option<OpenTurns>
+    ensures { result ≡ steps.turns_kept ex.now keeps.turns i kept.now now.now }
+{
+    if keeps.turns {
+        turns_after(ex, i, kept, now)
+    } else {
+        Some(OpenTurns::none())
     }
 }
 
@@ -111,6 +133,7 @@ pub fn ends_after(
     let parallels = parallels_after(ex, i, &kept.parallels, now)?;
     let suspensions = suspensions_after(ex, i, &kept.suspensions, before, now)?;
     let cadences = cadences_after(ex, i, &kept.cadences, now)?;
+    let turns = turns_kept(ex, keeps, i, &kept.turns, now)?;
     let (runs, cost) = runs_kept(ex, sheet, keeps, i, &kept.runs, now);
     let ends = OpenEnds {
         dissonances,
@@ -119,6 +142,7 @@ pub fn ends_after(
         suspensions,
         cadences,
         runs,
+        turns,
     };
     Some((ends, cost))
 }
