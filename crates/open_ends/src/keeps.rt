@@ -18,8 +18,8 @@ impl Keeps {
         }
     }
 
-    /// All choices, from the one that keeps most to the one that keeps least.
-    pub fn from_most() -> [Keeps; 4] {
+    /// All choices, from the one that keeps least to the one that keeps most.
+    pub fn from_least() -> [Keeps; 4] {
         let all = Keeps {
             turns: true,
             runs: true,
@@ -29,6 +29,6 @@ impl Keeps {
             turns: false,
             ..all
         };
-        [all, turns, runs, Keeps::least()]
+        [Keeps::least(), runs, turns, all]
     }
 }

@@ -25,6 +25,9 @@ use tree_search::{Outcome, search_front};
 /// How many prefixes are opened at most before any price is sought: many an exercise needs no more.
 const FIRST_BUDGET: u32 = 32_768;
 
+/// How many are opened at most by each choice of what is kept, before one has the whole budget.
+const TRIAL_BUDGET: u32 = 32_768;
+
 /// Prices for the cases of these charges, where so much is kept; none where there are too many ways.
 fn prices_by(
     alloc: Global,
@@ -44,27 +47,34 @@ fn prices_by(
     }
 }
 
-/// The most that may be kept where there aren't too many ways, and prices for the cases of these charges by them; none where there are too
-/// many whatever is kept.
-fn prices_for(
+/// The search by floors for which so much is kept, with these prices and the greatest keys that the species voice may reach.
+fn search_keeping(
     alloc: Global,
     space: &SpeciesSpace<'_>,
-    charges: &Charges,
-) -> Result<(Keeps, Vec<Prices>), Memory>
-    requires fair { AreFairCharges charges.now space.now.sheet }
-    requires small { AreSmallCharges MOST_CHARGE charges.now }
-    requires scale { charges.now.scale ≡ SCALE }
-    requires few { length charges.now.summits.items ≤ CASES }
+    keeps: Keeps,
+    prices: &[Prices],
+    keys: &[u8],
+    budget: u32,
+) -> Result<Outcome, Memory>
+    requires { IsValid space.now.exercise }
+    ensures found { IfOk result (λ outcome.
+        IfFound outcome (IsFirstLeast (live_at space.now.exercise space.now.sheet) (columns_in space.now.exercise))) }
+    ensures nothing { IfOk result (λ outcome.
+        OnNothing outcome (HasNoLeaf (live_at space.now.exercise space.now.sheet) (columns_in space.now.exercise))) }
+    ensures bound { IfOk result (λ outcome.
+        IfSpent outcome (BoundsLeaves (live_at space.now.exercise space.now.sheet) (columns_in space.now.exercise))) }
+    ensures over { IfOk result (λ outcome. IsSpent outcome
+        → IsOverBudget (live_at space.now.exercise space.now.sheet) (columns_in space.now.exercise) budget) }
 {
-    for keeps in Keeps::from_most() {
-        if let Some(prices) = prices_by(alloc, space, keeps, charges)? {
-            return Ok((keeps, prices));
-        }
-    }
-    Ok((Keeps::least(), Vec::new(alloc)))
+    let voice = space.exercise().species_voice;
+    let charges = Charges::new(alloc, space.sheet(), prices, voice, keys)?;
+    let priced = PricedSpace::new(alloc, space, keeps, &charges)?;
+    search_priced(alloc, &priced, budget)
 }
 
-/// The same, by these floors from the beginning.
+/// The same, by these floors from the beginning. What is kept makes the floors sharper and the web larger, and prices that leave a gap
+/// elsewhere: so each choice of it has a small part of the budget, and the one that keeps most where there aren't too many ways then has
+/// all of it.
 fn search_by_prices(alloc: Global, space: &SpeciesSpace<'_>, budget: u32) -> Result<Outcome, Memory>
     requires { IsValid space.now.exercise }
     ensures found { IfOk result (λ outcome.
@@ -75,15 +85,30 @@ fn search_by_prices(alloc: Global, space: &SpeciesSpace<'_>, budget: u32) -> Res
         IfSpent outcome (BoundsLeaves (live_at space.now.exercise space.now.sheet) (columns_in space.now.exercise))) }
     ensures over { IfOk result (λ outcome. IsSpent outcome
         → IsOverBudget (live_at space.now.exercise space.now.sheet) (columns_in space.now.exercise) budget) }
-    ensures agrees { IfOk result (AgreesWithAnswers (live_at space.now.exercise space.now.sheet) (columns_in space.now.exercise)) }
 {
     let voice = space.exercise().species_voice;
     let keys = summit_keys(alloc, space, voice)?;
     let plain = Charges::new(alloc, space.sheet(), &[], voice, &keys)?;
-    let (keeps, prices) = prices_for(alloc, space, &plain)?;
-    let charges = Charges::new(alloc, space.sheet(), &prices, voice, &keys)?;
-    let priced = PricedSpace::new(alloc, space, keeps, &charges)?;
-    search_priced(alloc, &priced, budget)
+    let mut bound = 0;
+    let mut most = Keeps::least();
+    let mut its_prices = Vec::new(alloc);
+    for keeps in Keeps::from_least() {
+        if let Some(prices) = prices_by(alloc, space, keeps, &plain)? {
+            let trial = budget.min(TRIAL_BUDGET);
+            match search_keeping(alloc, space, keeps, &prices, &keys, trial)? {
+                Outcome::Spent { bound: other } => bound = bound.max(other),
+                answer => return Ok(answer),
+            }
+            most = keeps;
+            its_prices = prices;
+        }
+    }
+    match search_keeping(alloc, space, most, &its_prices, &keys, budget)? {
+        Outcome::Spent { bound: other } => Ok(Outcome::Spent {
+            bound: bound.max(other),
+        }),
+        answer => Ok(answer),
+    }
 }
 
 /// The first leaf of least value, by floors that know of gauges beforehand: of a pitch that is struck often, and of a climax that is struck
