@@ -6,8 +6,8 @@ ghost use Rattle.floor_graphs.specs.Sameness.{AgreesWithAnswers};
 ghost use Rattle.priced_floors.specs.Charges.{AreFairCharges, AreSmallCharges};
 ghost use Rattle.priced_floors.specs.declared.charges.TheConstants.{CASES, MOST_CHARGE, SCALE};
 ghost use Rattle.species_space.specs.Paths.{live_at};
-ghost use Rattle.tree_search.specs.Answer.{BoundsLeaves, HasNoLeaf, IsFirstLeast};
-ghost use Rattle.tree_search.specs.Outcomes.{IfFound, IfSpent, OnNothing};
+ghost use Rattle.tree_search.specs.Answer.{BoundsLeaves, HasNoLeaf, IsFirstLeast, IsOverBudget};
+ghost use Rattle.tree_search.specs.Outcomes.{IfFound, IfSpent, IsSpent, OnNothing};
 
 use crate::charges::Charges;
 use crate::keys::summit_keys;
@@ -15,6 +15,7 @@ use crate::pricing::PricedSpace;
 use crate::rounds::find_prices;
 use crate::ways::ways_of;
 use fux_pitch::Memory;
+use open_ends::Keeps;
 use priced_paths::search_priced;
 use species_space::SpeciesSpace;
 use std::alloc::Global;
@@ -24,25 +25,56 @@ use tree_search::{Outcome, search_front};
 /// How many prefixes are opened at most before any price is sought: many an exercise needs no more.
 const FIRST_BUDGET: u32 = 32_768;
 
-/// Prices for the cases of these charges; none where there are too many ways.
-fn prices_for(
+/// How many are opened at most by each choice of what is kept, before one has the whole budget.
+const TRIAL_BUDGET: u32 = 32_768;
+
+/// Prices for the cases of these charges, where so much is kept; none where there are too many ways.
+fn prices_by(
     alloc: Global,
     space: &SpeciesSpace<'_>,
+    keeps: Keeps,
     charges: &Charges,
-) -> Result<Vec<Prices>, Memory>
+) -> Result<Option<Vec<Prices>>, Memory>
     requires fair { AreFairCharges charges.now space.now.sheet }
     requires small { AreSmallCharges MOST_CHARGE charges.now }
     requires scale { charges.now.scale ≡ SCALE }
     requires few { length charges.now.summits.items ≤ CASES }
 {
-    let priced = PricedSpace::new(alloc, space, charges)?;
+    let priced = PricedSpace::new(alloc, space, keeps, charges)?;
     match ways_of(alloc, &priced, charges)? {
-        Some(ways) => find_prices(alloc, space.sheet(), &ways, charges),
-        None => Ok(Vec::new(alloc)),
+        Some(ways) => Ok(Some(find_prices(alloc, space.sheet(), &ways, charges)?)),
+        None => Ok(None),
     }
 }
 
-/// The same, by these floors from the beginning.
+/// The search by floors for which so much is kept, with these prices and the greatest keys that the species voice may reach.
+fn search_keeping(
+    alloc: Global,
+    space: &SpeciesSpace<'_>,
+    keeps: Keeps,
+    prices: &[Prices],
+    keys: &[u8],
+    budget: u32,
+) -> Result<Outcome, Memory>
+    requires { IsValid space.now.exercise }
+    ensures found { IfOk result (λ outcome.
+        IfFound outcome (IsFirstLeast (live_at space.now.exercise space.now.sheet) (columns_in space.now.exercise))) }
+    ensures nothing { IfOk result (λ outcome.
+        OnNothing outcome (HasNoLeaf (live_at space.now.exercise space.now.sheet) (columns_in space.now.exercise))) }
+    ensures bound { IfOk result (λ outcome.
+        IfSpent outcome (BoundsLeaves (live_at space.now.exercise space.now.sheet) (columns_in space.now.exercise))) }
+    ensures over { IfOk result (λ outcome. IsSpent outcome
+        → IsOverBudget (live_at space.now.exercise space.now.sheet) (columns_in space.now.exercise) budget) }
+{
+    let voice = space.exercise().species_voice;
+    let charges = Charges::new(alloc, space.sheet(), prices, voice, keys)?;
+    let priced = PricedSpace::new(alloc, space, keeps, &charges)?;
+    search_priced(alloc, &priced, budget)
+}
+
+/// The same, by these floors from the beginning. What is kept makes the floors sharper and the web larger, and prices that leave a gap
+/// elsewhere: so each choice of it has a small part of the budget, and the one that keeps most where there aren't too many ways then has
+/// all of it.
 fn search_by_prices(alloc: Global, space: &SpeciesSpace<'_>, budget: u32) -> Result<Outcome, Memory>
     requires { IsValid space.now.exercise }
     ensures found { IfOk result (λ outcome.
@@ -51,15 +83,32 @@ fn search_by_prices(alloc: Global, space: &SpeciesSpace<'_>, budget: u32) -> Res
         OnNothing outcome (HasNoLeaf (live_at space.now.exercise space.now.sheet) (columns_in space.now.exercise))) }
     ensures bound { IfOk result (λ outcome.
         IfSpent outcome (BoundsLeaves (live_at space.now.exercise space.now.sheet) (columns_in space.now.exercise))) }
-    ensures agrees { IfOk result (AgreesWithAnswers (live_at space.now.exercise space.now.sheet) (columns_in space.now.exercise)) }
+    ensures over { IfOk result (λ outcome. IsSpent outcome
+        → IsOverBudget (live_at space.now.exercise space.now.sheet) (columns_in space.now.exercise) budget) }
 {
     let voice = space.exercise().species_voice;
     let keys = summit_keys(alloc, space, voice)?;
     let plain = Charges::new(alloc, space.sheet(), &[], voice, &keys)?;
-    let prices = prices_for(alloc, space, &plain)?;
-    let charges = Charges::new(alloc, space.sheet(), &prices, voice, &keys)?;
-    let priced = PricedSpace::new(alloc, space, &charges)?;
-    search_priced(alloc, &priced, budget)
+    let mut bound = 0;
+    let mut most = Keeps::least();
+    let mut its_prices = Vec::new(alloc);
+    for keeps in Keeps::from_least() {
+        if let Some(prices) = prices_by(alloc, space, keeps, &plain)? {
+            let trial = budget.min(TRIAL_BUDGET);
+            match search_keeping(alloc, space, keeps, &prices, &keys, trial)? {
+                Outcome::Spent { bound: other } => bound = bound.max(other),
+                answer => return Ok(answer),
+            }
+            most = keeps;
+            its_prices = prices;
+        }
+    }
+    match search_keeping(alloc, space, most, &its_prices, &keys, budget)? {
+        Outcome::Spent { bound: other } => Ok(Outcome::Spent {
+            bound: bound.max(other),
+        }),
+        answer => Ok(answer),
+    }
 }
 
 /// The first leaf of least value, by floors that know of gauges beforehand: of a pitch that is struck often, and of a climax that is struck
@@ -72,6 +121,10 @@ pub fn search_best(alloc: Global, space: &SpeciesSpace<'_>, budget: u32) -> Resu
         OnNothing outcome (HasNoLeaf (live_at space.now.exercise space.now.sheet) (columns_in space.now.exercise))) }
     ensures bound { IfOk result (λ outcome.
         IfSpent outcome (BoundsLeaves (live_at space.now.exercise space.now.sheet) (columns_in space.now.exercise))) }
+
+    // It ends wherever a front over the space's own floors does.
+    ensures over { IfOk result (λ outcome. IsSpent outcome
+        → IsOverBudget (live_at space.now.exercise space.now.sheet) (columns_in space.now.exercise) budget) }
     ensures agrees { IfOk result (AgreesWithAnswers (live_at space.now.exercise space.now.sheet) (columns_in space.now.exercise)) }
 {
     match search_front(alloc, space, budget.min(FIRST_BUDGET))? {
