@@ -4,6 +4,7 @@ ghost use Rattle.std.specs.Prelude.{◌≡◌, IfOk};
 ghost use Rattle.tree_search.specs.Answer.{IsFirstLeast, HasNoLeaf, BoundsLeaves, IsOverBudget};
 ghost use Rattle.tree_search.specs.Outcomes.{IfFound, OnNothing, IfSpent, IsSpent};
 ghost use Rattle.floor_graphs.specs.Sameness.{AgreesWithAnswers};
+ghost use Rattle.floor_graphs.specs.Sharper.{sharpened};
 
 use crate::bounds::search_by_bounds;
 use crate::guide::Guide;
@@ -23,7 +24,9 @@ pub fn search_sharpened<G: Guide>(alloc: Global, guide: &G, budget: u32) -> Resu
     ensures bound { IfOk result (λ outcome.
         IfSpent outcome (BoundsLeaves (G.Tree.live (G.tree guide.now)) (G.Tree.height (G.tree guide.now)))) }
 
-    // It ends wherever a front over the space itself does.
+    // It ends wherever a front over the sharpened floors does, and so wherever one over the space's own floors does.
+    ensures sharp { IfOk result (λ outcome. IsSpent outcome → IsOverBudget
+        (sharpened (G.Tree.live (G.tree guide.now)) (G.sum guide.now)) (G.Tree.height (G.tree guide.now)) budget) }
     ensures over { IfOk result (λ outcome. IsSpent outcome
         → IsOverBudget (G.Tree.live (G.tree guide.now)) (G.Tree.height (G.tree guide.now)) budget) }
     ensures agrees { IfOk result (AgreesWithAnswers (G.Tree.live (G.tree guide.now)) (G.Tree.height (G.tree guide.now))) }

@@ -26,6 +26,7 @@ returns g c =
           c.search_by_bounds.ensures.nothing;
       bound = on_ok _ _ (spent_from_sharpened _ _ _ _ grows floors) c.search_by_bounds.result
           c.search_by_bounds.ensures.bound;
+      sharp = c.search_by_bounds.ensures.over;
       over = on_ok _ _ (spent_over_from_sharpened _ _ _ _ grows floors c.args.budget) c.search_by_bounds.result
           c.search_by_bounds.ensures.over;
       agrees = on_ok₂ _ _ _ (agrees_from_sharpened _ _ _ _ grows floors) c.search_by_bounds.result
