@@ -6,8 +6,8 @@ ghost use Rattle.floor_graphs.specs.Sameness.{AgreesWithAnswers};
 ghost use Rattle.priced_floors.specs.Charges.{AreFairCharges, AreSmallCharges};
 ghost use Rattle.priced_floors.specs.declared.charges.TheConstants.{CASES, MOST_CHARGE, SCALE};
 ghost use Rattle.species_space.specs.Paths.{live_at};
-ghost use Rattle.tree_search.specs.Answer.{BoundsLeaves, HasNoLeaf, IsFirstLeast};
-ghost use Rattle.tree_search.specs.Outcomes.{IfFound, IfSpent, OnNothing};
+ghost use Rattle.tree_search.specs.Answer.{BoundsLeaves, HasNoLeaf, IsFirstLeast, IsOverBudget};
+ghost use Rattle.tree_search.specs.Outcomes.{IfFound, IfSpent, IsSpent, OnNothing};
 
 use crate::charges::Charges;
 use crate::keys::summit_keys;
@@ -51,6 +51,8 @@ fn search_by_prices(alloc: Global, space: &SpeciesSpace<'_>, budget: u32) -> Res
         OnNothing outcome (HasNoLeaf (live_at space.now.exercise space.now.sheet) (columns_in space.now.exercise))) }
     ensures bound { IfOk result (λ outcome.
         IfSpent outcome (BoundsLeaves (live_at space.now.exercise space.now.sheet) (columns_in space.now.exercise))) }
+    ensures over { IfOk result (λ outcome. IsSpent outcome
+        → IsOverBudget (live_at space.now.exercise space.now.sheet) (columns_in space.now.exercise) budget) }
     ensures agrees { IfOk result (AgreesWithAnswers (live_at space.now.exercise space.now.sheet) (columns_in space.now.exercise)) }
 {
     let voice = space.exercise().species_voice;
@@ -72,6 +74,10 @@ pub fn search_best(alloc: Global, space: &SpeciesSpace<'_>, budget: u32) -> Resu
         OnNothing outcome (HasNoLeaf (live_at space.now.exercise space.now.sheet) (columns_in space.now.exercise))) }
     ensures bound { IfOk result (λ outcome.
         IfSpent outcome (BoundsLeaves (live_at space.now.exercise space.now.sheet) (columns_in space.now.exercise))) }
+
+    // It ends wherever a front over the space's own floors does.
+    ensures over { IfOk result (λ outcome. IsSpent outcome
+        → IsOverBudget (live_at space.now.exercise space.now.sheet) (columns_in space.now.exercise) budget) }
     ensures agrees { IfOk result (AgreesWithAnswers (live_at space.now.exercise space.now.sheet) (columns_in space.now.exercise)) }
 {
     match search_front(alloc, space, budget.min(FIRST_BUDGET))? {

@@ -1,8 +1,8 @@
 //! The search of a tree whose steps are charged beforehand.
 
 ghost use Rattle.std.specs.Prelude.{◌≡◌, [], IfOk};
-ghost use Rattle.tree_search.specs.Answer.{IsFirstLeast, HasNoLeaf, BoundsLeaves};
-ghost use Rattle.tree_search.specs.Outcomes.{IfFound, OnNothing, IfSpent};
+ghost use Rattle.tree_search.specs.Answer.{IsFirstLeast, HasNoLeaf, BoundsLeaves, IsOverBudget};
+ghost use Rattle.tree_search.specs.Outcomes.{IfFound, OnNothing, IfSpent, IsSpent};
 ghost use Rattle.floor_graphs.specs.Sameness.{AgreesWithAnswers};
 ghost use Rattle.priced_paths.specs.Webs.{IsWeb};
 
@@ -20,6 +20,7 @@ fn search_unpriced<S: Space>(alloc: Global, space: &S, budget: u32) -> Result<Ou
     ensures found { IfOk result (λ outcome. IfFound outcome (IsFirstLeast (S.live space.now) (S.height space.now))) }
     ensures nothing { IfOk result (λ outcome. OnNothing outcome (HasNoLeaf (S.live space.now) (S.height space.now))) }
     ensures bound { IfOk result (λ outcome. IfSpent outcome (BoundsLeaves (S.live space.now) (S.height space.now))) }
+    ensures over { IfOk result (λ outcome. IsSpent outcome → IsOverBudget (S.live space.now) (S.height space.now) budget) }
     ensures agrees { IfOk result (AgreesWithAnswers (S.live space.now) (S.height space.now)) }
 {
     search_front(alloc, space, budget)
@@ -40,6 +41,8 @@ fn search_web<P: Pricing>(
         OnNothing outcome (HasNoLeaf (P.Tree.live (P.tree pricing.now)) (P.Tree.height (P.tree pricing.now)))) }
     ensures bound { IfOk result (λ outcome.
         IfSpent outcome (BoundsLeaves (P.Tree.live (P.tree pricing.now)) (P.Tree.height (P.tree pricing.now)))) }
+    ensures over { IfOk result (λ outcome. IsSpent outcome
+        → IsOverBudget (P.Tree.live (P.tree pricing.now)) (P.Tree.height (P.tree pricing.now)) budget) }
     ensures agrees { IfOk result (AgreesWithAnswers (P.Tree.live (P.tree pricing.now)) (P.Tree.height (P.tree pricing.now))) }
 {
     let numbers = case_numbers(alloc, pricing, web)?;
@@ -61,6 +64,10 @@ pub fn search_priced<P: Pricing>(alloc: Global, pricing: &P, budget: u32) -> Res
         OnNothing outcome (HasNoLeaf (P.Tree.live (P.tree pricing.now)) (P.Tree.height (P.tree pricing.now)))) }
     ensures bound { IfOk result (λ outcome.
         IfSpent outcome (BoundsLeaves (P.Tree.live (P.tree pricing.now)) (P.Tree.height (P.tree pricing.now)))) }
+
+    // It ends wherever a front over the tree's own floors does.
+    ensures over { IfOk result (λ outcome. IsSpent outcome
+        → IsOverBudget (P.Tree.live (P.tree pricing.now)) (P.Tree.height (P.tree pricing.now)) budget) }
     ensures agrees { IfOk result (AgreesWithAnswers (P.Tree.live (P.tree pricing.now)) (P.Tree.height (P.tree pricing.now))) }
 {
     let Some(web) = weave(alloc, pricing)? else {
