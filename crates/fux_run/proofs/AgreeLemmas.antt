@@ -1,5 +1,6 @@
--- `compose` and `best` make the same of the same files, where neither is spent (`best_is_composed`).
-use Rattle.std.proofs.Common.{◌≡◌, ◌≢◌, ℕ, ◌<◌, ◌≤◌, ◌++◌, ◌⊎◌, inl, inr, ⊎_elim, List, Result, Ok, Err, length, refl, sym, ap, ap₂, subst, ◌∙◌, arith}
+-- `compose` and `best` make the same of the same files, where neither is spent (`best_is_composed`), and `best` with no lower budget is
+-- spent only where `compose` is (`best_ends_as_composed`).
+use Rattle.std.proofs.Common.{◌≡◌, ◌≢◌, ℕ, ◌+◌, ◌<◌, ◌≤◌, ◌++◌, ◌⊎◌, inl, inr, ⊎_elim, List, Result, Ok, Err, length, refl, sym, ap, ap₂, subst, ◌∙◌, arith}
 use Rattle.std.proofs.lemmas.Bool.{cases_lt}
 use Rattle.fux_grid.specs.declared.cell.Cell.{Cell}
 use Rattle.fux_grid.specs.declared.exercise.Exercise.{Exercise}
@@ -8,6 +9,7 @@ use Rattle.fux_grid.specs.Exercises.{bar_of, slot_of}
 use Rattle.fux_grid.specs.Menus.{menu_of}
 use Rattle.fux_grid.specs.Order.{IsEarlier}
 use Rattle.fux_grid.proofs.OrderLemmas.{earlier-cases, earlier-chained, earlier-itself}
+use Rattle.floor_tables.specs.Floors.{HasAtMost, HasMany, IsLiveBegun, IsLoaded}
 use Rattle.floor_tables.specs.Tables.{IsTooWide}
 use Rattle.fux_judge.specs.Lawful.{IsBest}
 use Rattle.fux_judge.specs.Penalties.{penalty_of}
@@ -18,6 +20,7 @@ use Rattle.fux_text.proofs.ReadTexts.{texts-faultless, texts-one_fault}
 use Rattle.penalty_sheet.specs.declared.fault.SheetFault.{SheetFault}
 use Rattle.penalty_sheet.specs.declared.sheet.Sheet.{Sheet}
 use Rattle.species_space.specs.Loads.{IsBestWithin}
+use Rattle.fux_run.specs.declared.command.Job.TheVariants.{Best, Compose}
 use Rattle.fux_run.specs.declared.refusal.Refusal.{Refusal}
 use Rattle.fux_run.specs.declared.refusal.Refusal.TheVariants as refusal
 use Rattle.fux_run.specs.declared.work.Output.{Output}
@@ -27,7 +30,7 @@ use Rattle.fux_run.specs.Composed.{Composes, ComposesSharply, Tells, TellsBest, 
 use Rattle.fux_run.specs.Searched.{IsBestOf, IsNarrow, RefusesWidth}
 use Rattle.fux_run.specs.Sheets.{OnSheet, RefusesSheet, sheet_said}
 use Rattle.fux_run.specs.Texts.{OnText, RefusesText, Work}
-use Rattle.fux_run.specs.Works.{BestIsComposed, IsUnspent}
+use Rattle.fux_run.specs.Works.{BestEndsAsComposed, BestIsComposed, IsUnspent, MakesOfText}
 
 -- ---- what the texts tell
 
@@ -60,18 +63,38 @@ same_best ex sheet budget one two told other =
     ∙ sym other.best.charged in
     told.spelled ∙ ap₂ (λ s penalty. setting_text ex s ++ penalty_line penalty) same level ∙ sym other.spelled
 
-same_told : (ex : Exercise) (sheet : Sheet) (budget : ℕ) (v w : Verdict) (one two : List ℕ) → Tells ex sheet budget v one
-    → TellsSharply ex sheet w two → v ≢ Spent → w ≢ Spent → (v ≡ w) × (one ≡ two)
-same_told ex sheet budget Favorable Favorable one two told other unspent its =
+same_told : (ex : Exercise) (sheet : Sheet) (budget other_budget : ℕ) (v w : Verdict) (one two : List ℕ)
+    → Tells ex sheet budget v one → TellsSharply ex sheet other_budget w two → v ≢ Spent → w ≢ Spent → (v ≡ w) × (one ≡ two)
+same_told ex sheet budget other_budget Favorable Favorable one two told other unspent its =
     (refl, same_best ex sheet budget one two told other)
-same_told ex sheet budget Favorable Unfavorable one two told other unspent its =
+same_told ex sheet budget other_budget Favorable Unfavorable one two told other unspent its =
     absurd (other.none told.setting told.best.best.lawful)
-same_told ex sheet budget Unfavorable Favorable one two told other unspent its =
+same_told ex sheet budget other_budget Unfavorable Favorable one two told other unspent its =
     absurd (told.none.none other.setting other.best.best.lawful)
-same_told ex sheet budget Unfavorable Unfavorable one two told other unspent its =
+same_told ex sheet budget other_budget Unfavorable Unfavorable one two told other unspent its =
     (refl, told.spelled ∙ sym other.spelled)
-same_told ex sheet budget Spent w one two told other unspent its = absurd (unspent refl)
-same_told ex sheet budget v Spent one two told other unspent its = absurd (its refl)
+same_told ex sheet budget other_budget Spent w one two told other unspent its = absurd (unspent refl)
+same_told ex sheet budget other_budget v Spent one two told other unspent its = absurd (its refl)
+
+-- no more than so many are no more than that
+few_or_many : (Kind : List (List Cell) → Type 0) (count more : ℕ) → count ≤ more → HasAtMost Kind count
+    → HasMany Kind (more + 1) → ⊥
+few_or_many Kind count more within few many =
+    let short = few many.prefixes many.differ many.kind in omega (arith, within, short, many.counted)
+
+-- where `compose` tells no bound, `best` with no lower budget tells none
+ends_told : (ex : Exercise) (sheet : Sheet) (budget other_budget : ℕ) (v w : Verdict) (one two : List ℕ)
+    → budget ≤ other_budget → Tells ex sheet budget v one → TellsSharply ex sheet other_budget w two → v ≢ Spent
+    → w ≢ Spent
+ends_told ex sheet budget other_budget v Favorable one two within told other unspent = λ same. cc
+ends_told ex sheet budget other_budget v Unfavorable one two within told other unspent = λ same. cc
+ends_told ex sheet budget other_budget Favorable Spent one two within told other unspent = λ same.
+    few_or_many (IsLoaded ex sheet (penalty_of ex sheet told.setting)) budget other_budget within
+    (subst (λ (penalty : ℕ). HasAtMost (IsLoaded ex sheet penalty) budget) told.best.charged told.best.load)
+    (other.is_bound.over.load told.setting told.best.best)
+ends_told ex sheet budget other_budget Unfavorable Spent one two within told other unspent = λ same.
+    few_or_many (IsLiveBegun ex sheet) budget other_budget within told.none.load (other.is_bound.over.whole told.none.none)
+ends_told ex sheet budget other_budget Spent Spent one two within told other unspent = absurd (unspent refl)
 
 -- ---- what the refusals tell
 
@@ -147,10 +170,18 @@ same_width ex place other count its wide too =
 
 -- ---- work
 
-same_made : (budget : ℕ) (sheet : Sheet) (ex : Exercise) (one two : Work) → Composes budget sheet ex one
-    → ComposesSharply sheet ex two → IsUnspent one → IsUnspent two → one ≡ two
-same_made budget sheet ex (Ok output) (Ok other) told its unspent too =
-    let same = same_told ex sheet budget output.verdict other.verdict output.bytes other.bytes told.tells its.tells
+ends_made : (budget other : ℕ) (sheet : Sheet) (ex : Exercise) (one two : Work) → budget ≤ other
+    → Composes budget sheet ex one → ComposesSharply other sheet ex two → IsUnspent one → IsUnspent two
+ends_made budget other sheet ex (Ok output) (Ok its) within told sharp unspent =
+    ends_told ex sheet budget other output.verdict its.verdict output.bytes its.bytes within told.tells sharp.tells unspent
+ends_made budget other sheet ex (Err said) (Ok its) within told sharp unspent =
+    let wide = width_of ex said told in absurd (not_wide ex wide.0 wide.1 sharp.narrow wide.3)
+ends_made budget other sheet ex one (Err said) within told sharp unspent = tt
+
+same_made : (budget other_budget : ℕ) (sheet : Sheet) (ex : Exercise) (one two : Work) → Composes budget sheet ex one
+    → ComposesSharply other_budget sheet ex two → IsUnspent one → IsUnspent two → one ≡ two
+same_made budget other_budget sheet ex (Ok output) (Ok other) told its unspent too =
+    let same = same_told ex sheet budget other_budget output.verdict other.verdict output.bytes other.bytes told.tells its.tells
     unspent too in
     ap Ok (one_output same.0 same.1)
   where
@@ -158,11 +189,11 @@ same_made budget sheet ex (Ok output) (Ok other) told its unspent too =
     one_output verdict bytes =
         let made : Verdict → List ℕ → Output = λ v text. record { verdict = v; bytes = text } in
         ap₂ made verdict bytes
-same_made budget sheet ex (Ok output) (Err said) told its unspent too =
+same_made budget other_budget sheet ex (Ok output) (Err said) told its unspent too =
     let wide = width_of ex said its in absurd (not_wide ex wide.0 wide.1 told.narrow wide.3)
-same_made budget sheet ex (Err said) (Ok other) told its unspent too =
+same_made budget other_budget sheet ex (Err said) (Ok other) told its unspent too =
     let wide = width_of ex said told in absurd (not_wide ex wide.0 wide.1 its.narrow wide.3)
-same_made budget sheet ex (Err said) (Err other) told its unspent too =
+same_made budget other_budget sheet ex (Err said) (Err other) told its unspent too =
     let wide = width_of ex said told in
     let too_wide = width_of ex other its in
     ap Err (wide.2 ∙ same_width ex wide.0 too_wide.0 wide.1 too_wide.1 wide.3 too_wide.3 ∙ sym too_wide.2)
@@ -220,9 +251,25 @@ module _ (Made Made' : Exercise → Work → Type 0) (bytes : List ℕ) (one two
           → refusal.Text kind line column ≡ refusal.Text other l c
       one_text kind other line l column c same its level = rw (same, its, level) refl
 
+-- what is so of the work on an exercise is so of that on a text
+over_text : (budget other : ℕ) (sheets : List (List ℕ)) (text : List ℕ) (composed best : Work)
+    → ((sheet : Sheet) (ex : Exercise) → Composes budget sheet ex composed → ComposesSharply other sheet ex best
+    → composed ≡ best)
+    → MakesOfText (Compose budget) sheets text composed → MakesOfText (Best other) sheets text best → composed ≡ best
+over_text budget other sheets text composed best so made its =
+    same_on (λ ex. OnSheet (λ sheet. Composes budget sheet ex) sheets)
+    (λ ex. OnSheet (λ sheet. ComposesSharply other sheet ex) sheets) text composed best
+    (λ ex. same_over (λ sheet. Composes budget sheet ex) (λ sheet. ComposesSharply other sheet ex) sheets composed best
+    (λ sheet. so sheet ex)) made its
+
 pub best_is_composed : BestIsComposed
 best_is_composed budget other sheets text composed best made its unspent too =
-    same_on (λ ex. OnSheet (λ sheet. Composes budget sheet ex) sheets)
-    (λ ex. OnSheet (λ sheet. ComposesSharply sheet ex) sheets) text composed best
-    (λ ex. same_over (λ sheet. Composes budget sheet ex) (λ sheet. ComposesSharply sheet ex) sheets composed best
-    (λ sheet one two. same_made budget sheet ex composed best one two unspent too)) made its
+    over_text budget other sheets text composed best
+    (λ sheet ex one two. same_made budget other sheet ex composed best one two unspent too) made its
+
+pub best_ends_as_composed : BestEndsAsComposed
+best_ends_as_composed budget other sheets text composed best within made its unspent =
+    over_text budget other sheets text composed best
+    (λ sheet ex one two.
+    same_made budget other sheet ex composed best one two unspent
+    (ends_made budget other sheet ex composed best within one two unspent)) made its

@@ -13,9 +13,10 @@ use Rattle.floor_tables.specs.Tables.{Task}
 use Rattle.species_space.specs.Grows.{live_value}
 use Rattle.species_space.specs.Paths.{prefix_at, is_alive_path, live_at, length-columns_on}
 use Rattle.species_space.specs.Loads.{IsExact}
+use Rattle.species_space.proofs.LoadLaws.{over_prefixes}
 use Rattle.species_space.proofs.Best.{bound_of_lawful, first_least_is_best, no_leaf_no_lawful}
-use Rattle.tree_search.specs.Answer.{BoundsLeaves, HasNoLeaf, IsFirstLeast}
-use Rattle.tree_search.specs.Outcomes.{IfFound, IfSpent, OnNothing}
+use Rattle.tree_search.specs.Answer.{BoundsLeaves, HasNoLeaf, IsFirstLeast, IsOverBudget}
+use Rattle.tree_search.specs.Outcomes.{IfFound, IfSpent, IsSpent, OnNothing}
 use Rattle.tree_search.specs.declared.outcome.Outcome.{Outcome}
 use Rattle.tree_search.specs.declared.outcome.Outcome.TheVariants as outcome
 use Rattle.fux_run.specs.declared.searching.Found.{Found}
@@ -60,34 +61,39 @@ module _ (space : Task) (valid : IsValid space.exercise) where
   score_at path value (Ok score) first is = is_score_at path value score first is
 
   -- what was found by sharper floors is so
-  found_sharply : (outcome : Outcome) (found : Found) → IfFound outcome (IsFirstPath space)
+  found_sharply : (budget : ℕ) (outcome : Outcome) (found : Found) → IfFound outcome (IsFirstPath space)
       → OnNothing outcome (HasNoLeaf (live_at space.exercise space.sheet) (columns_in space.exercise))
       → IfSpent outcome (BoundsLeaves (live_at space.exercise space.sheet) (columns_in space.exercise))
-      → IsFoundBy space outcome found → IsFoundSharply space.exercise space.sheet found
-  found_sharply (outcome.Found path value) (Best score penalty) first nothing bound is =
+      → (IsSpent outcome → IsOverBudget (live_at space.exercise space.sheet) (columns_in space.exercise) budget)
+      → IsFoundBy space outcome found → IsFoundSharply space.exercise space.sheet budget found
+  found_sharply budget (outcome.Found path value) (Best score penalty) first nothing bound over is =
       let own = first_least_is_best space.exercise valid space.sheet path value first in
       record {
         best = rw (is.0.columns, is.1) record { best = own.0; charged = sym own.1 };
         cantus = is.0.cantus;
         complete = is.0.complete;
       }
-  found_sharply outcome.Nothing Nothing first nothing bound is =
+  found_sharply budget outcome.Nothing Nothing first nothing bound over is =
       no_leaf_no_lawful space.exercise valid space.sheet nothing
-  found_sharply (outcome.Spent least) (Spent told) first nothing bound is =
-      rw is (bound_of_lawful space.exercise valid space.sheet least bound)
-  found_sharply (outcome.Found path value) Nothing first nothing bound is = absurd is
-  found_sharply (outcome.Found path value) (Spent told) first nothing bound is = absurd is
-  found_sharply outcome.Nothing (Best score penalty) first nothing bound is = absurd is
-  found_sharply outcome.Nothing (Spent told) first nothing bound is = absurd is
-  found_sharply (outcome.Spent least) (Best score penalty) first nothing bound is = absurd is
-  found_sharply (outcome.Spent least) Nothing first nothing bound is = absurd is
+  found_sharply budget (outcome.Spent least) (Spent told) first nothing bound over is =
+      rw is record {
+        reached = bound_of_lawful space.exercise valid space.sheet least bound;
+        over = over_prefixes space.exercise valid space.sheet budget (over tt);
+      }
+  found_sharply budget (outcome.Found path value) Nothing first nothing bound over is = absurd is
+  found_sharply budget (outcome.Found path value) (Spent told) first nothing bound over is = absurd is
+  found_sharply budget outcome.Nothing (Best score penalty) first nothing bound over is = absurd is
+  found_sharply budget outcome.Nothing (Spent told) first nothing bound over is = absurd is
+  found_sharply budget (outcome.Spent least) (Best score penalty) first nothing bound over is = absurd is
+  found_sharply budget (outcome.Spent least) Nothing first nothing bound over is = absurd is
 
-  pub answered_sharply : (outcome : Outcome) (result : Result Found Memory) → IfFound outcome (IsFirstPath space)
+  pub answered_sharply : (budget : ℕ) (outcome : Outcome) (result : Result Found Memory) → IfFound outcome (IsFirstPath space)
       → OnNothing outcome (HasNoLeaf (live_at space.exercise space.sheet) (columns_in space.exercise))
       → IfSpent outcome (BoundsLeaves (live_at space.exercise space.sheet) (columns_in space.exercise))
-      → IfOk result (IsFoundBy space outcome) → IfOk result (IsFoundSharply space.exercise space.sheet)
-  answered_sharply outcome (Err fault) first nothing bound is = tt
-  answered_sharply outcome (Ok found) first nothing bound is = found_sharply outcome found first nothing bound is
+      → (IsSpent outcome → IsOverBudget (live_at space.exercise space.sheet) (columns_in space.exercise) budget)
+      → IfOk result (IsFoundBy space outcome) → IfOk result (IsFoundSharply space.exercise space.sheet budget)
+  answered_sharply budget outcome (Err fault) first nothing bound over is = tt
+  answered_sharply budget outcome (Ok found) first nothing bound over is = found_sharply budget outcome found first nothing bound over is
 
 module _ (space : Task) (budget : ℕ) where
   -- what was found of an exact outcome is so, and just within the budget
@@ -123,9 +129,9 @@ module _ (ex : Exercise) (sheet : Sheet) where
   told_exactly budget Nothing is = record { none = is; spelled = refl }
   told_exactly budget (Spent bound) is = record { bound = bound; is_bound = is; spelled = refl }
 
-  pub told_sharply : (found : Found) → IsFoundSharply ex sheet found
-      → TellsSharply ex sheet (found_output ex found).verdict (found_output ex found).bytes
-  told_sharply (Best score penalty) is =
+  pub told_sharply : (budget : ℕ) (found : Found) → IsFoundSharply ex sheet budget found
+      → TellsSharply ex sheet budget (found_output ex found).verdict (found_output ex found).bytes
+  told_sharply budget (Best score penalty) is =
       record { setting = score.columns; penalty = penalty; best = is.best; cantus = is.cantus; spelled = refl }
-  told_sharply Nothing is = record { none = is; spelled = refl }
-  told_sharply (Spent bound) is = record { bound = bound; is_bound = is; spelled = refl }
+  told_sharply budget Nothing is = record { none = is; spelled = refl }
+  told_sharply budget (Spent bound) is = record { bound = bound; is_bound = is; spelled = refl }

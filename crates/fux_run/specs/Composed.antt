@@ -4,7 +4,7 @@ use Rattle.std.specs.Fmt.{decimal}
 use Rattle.fux_grid.specs.declared.cell.Cell.{Cell}
 use Rattle.fux_grid.specs.declared.exercise.Exercise.{Exercise}
 use Rattle.fux_grid.specs.Exercises.{HasCantus}
-use Rattle.fux_judge.specs.Lawful.{BoundsLawful, HasNoLawful}
+use Rattle.fux_judge.specs.Lawful.{HasNoLawful}
 use Rattle.penalty_sheet.specs.declared.sheet.Sheet.{Sheet}
 use Rattle.fux_text.specs.Lines.{setting_text}
 use Rattle.species_space.specs.Loads.{IsBestWithin, IsNothingWithin}
@@ -13,7 +13,7 @@ use Rattle.fux_run.specs.declared.searching.Found.TheVariants as found
 use Rattle.fux_run.specs.declared.work.Output.{Output}
 use Rattle.fux_run.specs.declared.work.Verdict.{Verdict}
 use Rattle.fux_run.specs.declared.work.Verdict.TheVariants.{Favorable, Unfavorable, Spent}
-use Rattle.fux_run.specs.Searched.{IsBestOf, IsBound, IsNarrow, RefusesWidth}
+use Rattle.fux_run.specs.Searched.{IsBestOf, IsBound, IsNarrow, IsSharpBound, RefusesWidth}
 use Rattle.fux_run.specs.Texts.{Work}
 
 -- the line that tells a penalty
@@ -59,11 +59,12 @@ Tells ex sheet budget Favorable text = TellsBest ex (IsBestWithin ex sheet budge
 Tells ex sheet budget Unfavorable text = TellsNone (IsNothingWithin ex sheet budget) text
 Tells ex sheet budget Spent text = TellsBound (IsBound ex sheet budget) text
 
--- what the text of `best` tells: the best setting; that none is lawful; or a number that no lawful setting's penalty is below
-abbrev pub TellsSharply : Exercise → Sheet → Verdict → List ℕ → Type 0
-TellsSharply ex sheet Favorable text = TellsBest ex (IsBestOf ex sheet) text
-TellsSharply ex sheet Unfavorable text = TellsNone (HasNoLawful ex) text
-TellsSharply ex sheet Spent text = TellsBound (BoundsLawful ex sheet) text
+-- what the text of `best` tells: the best setting; that none is lawful; or a number that no lawful setting's penalty is below, where
+-- `compose` with the same budget is spent too
+abbrev pub TellsSharply : Exercise → Sheet → ℕ → Verdict → List ℕ → Type 0
+TellsSharply ex sheet budget Favorable text = TellsBest ex (IsBestOf ex sheet) text
+TellsSharply ex sheet budget Unfavorable text = TellsNone (HasNoLawful ex) text
+TellsSharply ex sheet budget Spent text = TellsBound (IsSharpBound ex sheet budget) text
 
 -- an output on an exercise none of whose menus is too wide, which tells this
 pub record IsComposition (Told : Verdict → List ℕ → Type 0) (ex : Exercise) (output : Output) : Type 0 where
@@ -75,10 +76,10 @@ abbrev pub Composes : ℕ → Sheet → Exercise → Work → Type 0
 Composes budget sheet ex (Ok output) = IsComposition (Tells ex sheet budget) ex output
 Composes budget sheet ex (Err refusal) = RefusesWidth ex refusal
 
--- `best` makes this of an exercise, over the sheet in use
-abbrev pub ComposesSharply : Sheet → Exercise → Work → Type 0
-ComposesSharply sheet ex (Ok output) = IsComposition (TellsSharply ex sheet) ex output
-ComposesSharply sheet ex (Err refusal) = RefusesWidth ex refusal
+-- `best` with this budget makes this of an exercise, over the sheet in use
+abbrev pub ComposesSharply : ℕ → Sheet → Exercise → Work → Type 0
+ComposesSharply budget sheet ex (Ok output) = IsComposition (TellsSharply ex sheet budget) ex output
+ComposesSharply budget sheet ex (Err refusal) = RefusesWidth ex refusal
 
 -- what is written of what was found
 abbrev pub found_output : Exercise → Found → Output

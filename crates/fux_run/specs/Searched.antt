@@ -44,17 +44,23 @@ pub record IsBound (ex : Exercise) (sheet : Sheet) (budget bound : ℕ) : Type 0
   pub least : IsLeastOver ex sheet budget bound
   pub over : IsOverBudget ex sheet budget
 
+-- a number that no lawful setting's penalty is below; and a budget that isn't enough for the load of the least penalty, or where nothing
+-- is lawful, for all live prefixes, so that `compose` is spent by it too
+pub record IsSharpBound (ex : Exercise) (sheet : Sheet) (budget bound : ℕ) : Type 0 where
+  pub reached : BoundsLawful ex sheet bound
+  pub over : IsOverBudget ex sheet budget
+
 -- what was found is so, and just within the budget
 abbrev pub IsFound : Exercise → Sheet → ℕ → Found → Type 0
 IsFound ex sheet budget (Best score penalty) = IsBestFound ex (IsBestWithin ex sheet budget) score penalty
 IsFound ex sheet budget Nothing = IsNothingWithin ex sheet budget
 IsFound ex sheet budget (Spent bound) = IsBound ex sheet budget bound
 
--- what was found by sharper floors is so, whatever the budget
-abbrev pub IsFoundSharply : Exercise → Sheet → Found → Type 0
-IsFoundSharply ex sheet (Best score penalty) = IsBestFound ex (IsBestOf ex sheet) score penalty
-IsFoundSharply ex sheet Nothing = HasNoLawful ex
-IsFoundSharply ex sheet (Spent bound) = BoundsLawful ex sheet bound
+-- what was found by sharper floors is so, whatever the budget, which is spent only where that of `compose` would be
+abbrev pub IsFoundSharply : Exercise → Sheet → ℕ → Found → Type 0
+IsFoundSharply ex sheet budget (Best score penalty) = IsBestFound ex (IsBestOf ex sheet) score penalty
+IsFoundSharply ex sheet budget Nothing = HasNoLawful ex
+IsFoundSharply ex sheet budget (Spent bound) = IsSharpBound ex sheet budget bound
 
 -- a setting that was found has the exercise's voices and all columns
 abbrev pub HasWholeScore : Exercise → Found → Type 0

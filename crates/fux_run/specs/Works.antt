@@ -1,5 +1,5 @@
 -- What the commands make of their files.
-use Rattle.std.specs.Prelude.{◌≡◌, ◌≢◌, ℕ, ◌⊎◌, List, [], ◌∷◌, All, Option, Some, None, Result, Ok, Err}
+use Rattle.std.specs.Prelude.{◌≡◌, ◌≢◌, ℕ, ◌≤◌, ◌⊎◌, List, [], ◌∷◌, All, Option, Some, None, Result, Ok, Err}
 use Rattle.cert_text.specs.declared.answers.Form.{Form}
 use Rattle.class_marker.specs.Lists.{listed_names}
 use Rattle.class_marker.specs.Markings.{IsContent, IsTheText}
@@ -38,7 +38,7 @@ use Rattle.fux_run.specs.Texts.{Work, OnText}
 -- a job makes this of an exercise, over the sheet in use
 abbrev pub MakesOf : Job → Sheet → Exercise → Work → Type 0
 MakesOf (Compose budget) sheet ex = Composes budget sheet ex
-MakesOf (Best budget) sheet ex = ComposesSharply sheet ex
+MakesOf (Best budget) sheet ex = ComposesSharply budget sheet ex
 MakesOf Mark sheet ex = Marks ex
 MakesOf Cantus sheet ex = CantusMarks ex
 MakesOf Print sheet ex = Prints ex
@@ -60,6 +60,13 @@ BestIsComposed =
     (budget other : ℕ) (sheets : List (List ℕ)) (text : List ℕ) (composed best : Work)
     → MakesOfText (Compose budget) sheets text composed → MakesOfText (Best other) sheets text best
     → IsUnspent composed → IsUnspent best → composed ≡ best
+
+-- and where `compose` isn't spent, `best` with no lower budget makes just that
+abbrev pub BestEndsAsComposed : Type 0
+BestEndsAsComposed =
+    (budget other : ℕ) (sheets : List (List ℕ)) (text : List ℕ) (composed best : Work) → budget ≤ other
+    → MakesOfText (Compose budget) sheets text composed → MakesOfText (Best other) sheets text best
+    → IsUnspent composed → composed ≡ best
 
 -- `certify` with a form makes this of the text of an exercise, and of the file of a sheet where one is given
 abbrev pub CertifiesText : ℕ → Form → List (List ℕ) → List ℕ → Work → Type 0

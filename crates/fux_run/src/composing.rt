@@ -34,7 +34,7 @@ pub fn compose<R: Threads + Sync>(
     }
 }
 
-/// The same by sharper floors, which may find it where the budget of `compose` is spent.
+/// The same by sharper floors, which may find it where the budget of `compose` is spent, and do wherever that isn't.
 pub fn best<R: Threads + Sync>(
     rt: &R,
     alloc: Global,
@@ -43,7 +43,7 @@ pub fn best<R: Threads + Sync>(
     budget: u32,
 ) -> Result<Output, Stop>
     requires { IsValid exercise.now }
-    ensures { Answers (ComposesSharply sheet.now exercise.now) result }
+    ensures { Answers (ComposesSharply budget sheet.now exercise.now) result }
 {
     match sharp_setting(rt, alloc, exercise, sheet, budget) {
         Ok(found) => Ok(found_output(alloc, exercise, &found)?),

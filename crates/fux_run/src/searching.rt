@@ -52,7 +52,7 @@ pub fn sharp_setting<R: Threads + Sync>(
     budget: u32,
 ) -> Result<Found, Stop>
     requires { IsValid exercise.now }
-    ensures { Finds exercise.now (IsFoundSharply exercise.now sheet.now) result }
+    ensures { Finds exercise.now (IsFoundSharply exercise.now sheet.now budget) result }
 {
     let space = space_of(rt, alloc, exercise, sheet)?;
     Ok(search_sharply(alloc, &space, budget)?)
@@ -90,7 +90,7 @@ pub fn search(alloc: Global, space: &SpeciesSpace<'_>, budget: u32) -> Result<Fo
 /// Searches them by sharper floors.
 fn search_sharply(alloc: Global, space: &SpeciesSpace<'_>, budget: u32) -> Result<Found, Memory>
     requires { IsValid space.now.exercise }
-    ensures { IfOk result (IsFoundSharply space.now.exercise space.now.sheet) }
+    ensures { IfOk result (IsFoundSharply space.now.exercise space.now.sheet budget) }
 {
     let outcome = search_best(alloc, space, budget)?;
     found_by(alloc, space, outcome)

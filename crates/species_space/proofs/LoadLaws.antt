@@ -1,5 +1,5 @@
 -- As many paths are live or loaded as prefixes (`live_alike`, `loaded_alike`), so what a search tells of paths holds of prefixes
--- (`answers_exactly`).
+-- (`answers_exactly`), and a budget that is not enough for paths isn't for prefixes (`over_prefixes`).
 use Rattle.std.specs.Prelude.{◌≡◌, ◌≢◌, ℕ, ◌+◌, ◌<◌, ◌≤◌, ◌↔◌, suc, true, List, [], ◌∷◌, ◌++◌, Option, Some, None, IsSome, IsSomeAnd, length, map, slice_index_or, refl}
 use Rattle.std.specs.List.{AllByRecursion}
 use Rattle.std.proofs.Common.{ap, sym, ◌∙◌, subst, arith}
@@ -203,7 +203,7 @@ module _ (ex : Exercise) (valid : IsValid ex) (sheet : Sheet) where
     }
 
   module _ (budget : ℕ) where
-    over_prefixes : tree.IsOverBudget (live_at ex sheet) (columns_in ex) budget → IsOverBudget ex sheet budget
+    pub over_prefixes : tree.IsOverBudget (live_at ex sheet) (columns_in ex) budget → IsOverBudget ex sheet budget
     over_prefixes over = record {
       load = λ s best.
           let way = best_is_first_least ex valid sheet s best in
