@@ -72,9 +72,9 @@ fn search_keeping(
     search_priced(alloc, &priced, budget)
 }
 
-/// The same, by these floors from the beginning. What is kept makes the floors sharper and the web larger, and prices that leave a gap
-/// elsewhere: so each choice of it has a small part of the budget, and the one that keeps most where there aren't too many ways then has
-/// all of it.
+/// The search by such floors. With more that is kept floors are sharper and the web is larger, and prices leave their gaps elsewhere: a search
+/// that is stuck with one choice is often done at once with another. So each choice has a part of the budget first, and then the one that
+/// keeps most, of those that don't have too many ways, has all of it.
 fn search_by_prices(alloc: Global, space: &SpeciesSpace<'_>, budget: u32) -> Result<Outcome, Memory>
     requires { IsValid space.now.exercise }
     ensures found { IfOk result (λ outcome.
