@@ -52,7 +52,7 @@ impl State {
         self.past = self.past.with(ex, i, cells);
         gauge_all(ex, i, &mut self.gauges, cells);
         pass_all(ex, i, &mut self.ahead, cells);
-        self.newest = self.newest.with(cells);
+        self.newest.push(cells);
     }
 
     /// How many columns the prefix has.

@@ -70,6 +70,17 @@ impl NewestColumns {
         self.len == 0
     }
 
+    /// Adds a column behind the list.
+    #[inline]
+    pub fn push(&mut self, column: &[Cell])
+        requires room { self.old.len < 192 }
+        ensures newest { GrowBy column.now self.old self.new }
+        ensures count { self.new.len ≡ self.old.len + 1 }
+    {
+        self.columns[self.len % 25] = ColumnCells::of(column);
+        self.len += 1;
+    }
+
     /// Those of the list with one column more.
     #[inline]
     pub fn with(&self, column: &[Cell]) -> NewestColumns
@@ -78,8 +89,7 @@ impl NewestColumns {
         ensures count { result.len ≡ self.now.len + 1 }
     {
         let mut next = *self;
-        next.columns[self.len % 25] = ColumnCells::of(column);
-        next.len = self.len + 1;
+        next.push(column);
         next
     }
 

@@ -13,12 +13,12 @@ returns-clause-state c = λ p st.
     let cells = c.as_slice-cells.result.now in
     let same : cells ≡ col = c.as_slice-cells.ensures.value in
     let full : c.args.ex.now.voices ≡ length cells = sym c.requires.full ∙ sym (ap length same) in
-    let Newest : List Cell → Type 0 = λ x. AreNewestOf c.args.ex.now.voices (p ++ x ∷ []) c.with-self-2.result in
+    let Newest : List Cell → Type 0 = λ x. AreNewestOf c.args.ex.now.voices (p ++ x ∷ []) c.push.new.self in
     let Gauges : List (List Cell) → Type 0 = λ h. AreGaugesOf h c.gauge_all.new.kept in
     let Ahead : List Cell → Type 0 = λ x. AreAheadOf c.args.ex.now (p ++ x ∷ []) c.pass_all.new.ahead in
     let Parts : List Cell → Type 0 = λ x. IsPastOf c.args.ex.now (p ++ x ∷ []) c.with-self.result in
     record {
-      newest = subst Newest same (c.with-self-2.ensures.newest c.args.ex.now.voices p c.requires.valid.most_voices
+      newest = subst Newest same (c.push.ensures.newest c.args.ex.now.voices p c.requires.valid.most_voices
           (sym full) st.newest);
       past = subst Parts same (c.with-self.ensures p (sym st.newest.count) st.past);
       gauges = subst Gauges (ap (λ x. x ∷ reverse p) same ∙ sym (reverse-push p col))
