@@ -25,8 +25,11 @@ use tree_search::{Outcome, search_front};
 /// How many prefixes are opened at most before any price is sought: many an exercise needs no more.
 const FIRST_BUDGET: u32 = 32_768;
 
-/// How many are at most by floors that keep less than they might. They are made sooner, and often are enough; and where the floor of the best
-/// setting is that of many prefixes, it is a matter of luck which prices lead to it.
+/// How many are at most by the floors that keep least. These are made soonest, and often are enough.
+const LEAST_BUDGET: u32 = 262_144;
+
+/// How many are at most by floors that keep less than they might. Where many prefixes have the floor of the best setting, it is a matter of
+/// luck which prices lead to it.
 const TRIAL_BUDGET: u32 = 65_536;
 
 /// Prices for the cases of these charges, where so much is kept; none where there are too many ways.
@@ -106,8 +109,12 @@ fn search_by_prices(alloc: Global, space: &SpeciesSpace<'_>, budget: u32) -> Res
     ensures agrees { IfOk result (AgreesWithAnswers (live_at space.now.exercise space.now.sheet) (columns_in space.now.exercise)) }
 {
     let (least, turns, runs) = (Keeps::least(), Keeps::turns_alone(), Keeps::runs_alone());
-    for keeps in [least, turns, runs] {
-        match search_kept(alloc, space, &[keeps], budget.min(TRIAL_BUDGET))? {
+    for (keeps, most) in [
+        (least, LEAST_BUDGET),
+        (turns, TRIAL_BUDGET),
+        (runs, TRIAL_BUDGET),
+    ] {
+        match search_kept(alloc, space, &[keeps], budget.min(most))? {
             Outcome::Spent { .. } => {}
             outcome => return Ok(outcome),
         }
