@@ -1,14 +1,26 @@
-//! Worked cases of what is open of the species voice, with answers that were worked out by hand. They stand in a crate above the steps that
+//! Worked cases of what is open behind a column, with answers that were worked out by hand. They stand in a crate above the steps that
 //! they try, so that what carries the proofs is proved once.
 #![tactic(auto)]
 
+#[cfg(test)]
+mod cadences;
 #[cfg(test)]
 mod parallel_table;
 #[cfg(test)]
 mod parallels;
 #[cfg(test)]
+mod runs;
+#[cfg(test)]
 mod shapes;
 #[cfg(test)]
 mod steps;
 #[cfg(test)]
+mod suspension_table;
+#[cfg(test)]
+mod suspensions;
+#[cfg(test)]
 mod table;
+#[cfg(test)]
+mod turning_table;
+#[cfg(test)]
+mod turnings;

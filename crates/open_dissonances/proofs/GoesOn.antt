@@ -77,13 +77,13 @@ module _ (ex : Exercise) (p : Columns) (col : List Cell) where
     abbrev s : Columns
     s = p ++ col ∷ more
 
-    here : length p < length s
+    pub here : length p < length s
     here = omega (arith, length-append p (col ∷ more))
 
-    behind : earlier s (length p) ≡ reverse p
+    pub behind : earlier s (length p) ≡ reverse p
     behind = earlier-append p (col ∷ more) (length p) (omega arith) ∙ earlier-all p (length p) (omega arith)
 
-    newest : slice_index_or s (length p) [] ≡ col
+    pub newest : slice_index_or s (length p) [] ≡ col
     newest = ap (λ n. slice_index_or s n []) (plus_none (length p)) ∙ get_or-append-add p (col ∷ more) 0 []
       where
         plus_none : (n : ℕ) → n ≡ n + 0

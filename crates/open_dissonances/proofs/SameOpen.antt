@@ -11,13 +11,13 @@ use Rattle.fux_pitch.specs.Pitch.{alter_of, degree_of, same_pitch}
 use Rattle.fux_pitch.proofs.PitchLemmas.{equal_from_test}
 use Rattle.open_dissonances.specs.declared.steps.OpenDissonances.{OpenDissonances}
 
-pitch-same : (p q : Option Pitch) → option_eq same_pitch p q ≡ true → p ≡ q
+pub pitch-same : (p q : Option Pitch) → option_eq same_pitch p q ≡ true → p ≡ q
 pitch-same None None h = refl
 pitch-same None (Some q) h = cc
 pitch-same (Some p) None h = cc
 pitch-same (Some p) (Some q) h = ap Some (equal_from_test p q h)
 
-itself : (p : Option Pitch) → option_eq same_pitch p p ≡ true
+pub itself : (p : Option Pitch) → option_eq same_pitch p p ≡ true
 itself None = refl
 itself (Some p) = and_from (degree_of p == degree_of p) (int_eq (alter_of p) (alter_of p))
     (eq-eqb (degree_of p) (degree_of p) refl) (grind (arith, ints, Decides-int_eq))

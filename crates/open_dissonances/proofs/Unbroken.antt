@@ -91,7 +91,7 @@ module _ (ex : Exercise) (test : ℕ → ℕ → Bool)
       (lt-ltb v ex.voices there) free
 
   -- a test that holds for no set, whichever way its voices are named, holds of no free voice and another one
-  two_voices : ex.voices ≤ 4 → (v w : ℕ) → v < ex.voices → w < ex.voices → (v ≡ w → ⊥) → is_free ex v ≡ true
+  pub two_voices : ex.voices ≤ 4 → (v w : ℕ) → v < ex.voices → w < ex.voices → (v ≡ w → ⊥) → is_free ex v ≡ true
       → test v w ≡ false
   unfolding forms.all_sets
   two_voices few zero zero here there differ free = absurd (differ refl)
@@ -157,7 +157,7 @@ unison p =
     let k : key_of p -ℤ key_of p ≡ pos 0 = omega (arith, ints) in
     ap (λ n. Size n (key_of p -ℤ key_of p)) d ∙ ap (Size (pos 0)) k
 
-clash-self : (now : List Cell) (v : ℕ) → clash now v v ≡ false
+pub clash-self : (now : List Cell) (v : ℕ) → clash now v v ≡ false
 clash-self now v = at (pitch_of (cell_in now v))
   where
     at : (p : Option Pitch)
@@ -166,7 +166,7 @@ clash-self now v = at (pitch_of (cell_in now v))
     at (Some p) = ap (λ i. not (is_consonant_size i (is_lowest now v || is_lowest now v))) (unison p)
 
 -- nor with a voice that isn't there
-clash-absent : (now : List Cell) (v w : ℕ) → length now ≤ w → clash now v w ≡ false
+pub clash-absent : (now : List Cell) (v w : ℕ) → length now ≤ w → clash now v w ≡ false
 clash-absent now v w beyond =
     ap (λ c. holds_of (λ i. not (is_consonant_size i (is_lowest now v || is_lowest now w)))
     (interval_of_pitches (pitch_of (cell_in now v)) (pitch_of c))) (get_or_past now w Rest beyond)

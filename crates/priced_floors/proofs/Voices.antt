@@ -1,5 +1,5 @@
 -- A free voice more (`one_voice_more`), and an array of nothing (`nothing_charged`).
-use Rattle.std.specs.Prelude.{◌≡◌, ℕ, ◌<◌, replicate, slice_index}
+use Rattle.std.specs.Prelude.{◌≡◌, ℕ, replicate, slice_index}
 use Rattle.std.proofs.Common.{arith, inl, inr}
 use Rattle.std.proofs.lemmas.Bool.{cases_lt}
 use Rattle.std.proofs.lemmas.List.{get_or-replicate, get_or_past, length-replicate}

@@ -1,7 +1,6 @@
 -- What the columns of a setting are charged is due: at most a debt and what its lines cost by the gauges (`charged_in_case`). Each
 -- setting is of some case (`case_of_line`): no note of it is above the case (`none_above`), and one comes to it (`one_comes`).
-use Rattle.std.specs.Prelude.{◌≡◌, ℕ, zero, suc, ◌+◌, ◌-◌, ◌*◌, ◌<◌, ◌≤◌, ◌==◌, ℤ, pos, negsuc, ◌≤ℤ◌, ◌⊎◌, ◌||◌, int_le, nat_le, Bool, true, false, cond, List, [], ◌∷◌, Option, Some, None, count_by, length, map, reverse, slice_index, slice_index_or, sum, if◌then◌else◌, refl}
-use Rattle.std.specs.Int.{int_max}
+use Rattle.std.specs.Prelude.{◌≡◌, ℕ, zero, suc, ◌+◌, ◌*◌, ◌<◌, ◌≤◌, ◌==◌, ℤ, pos, negsuc, ◌≤ℤ◌, ◌⊎◌, ◌||◌, int_le, nat_le, Bool, true, false, cond, List, [], ◌∷◌, Option, Some, None, length, reverse, sum, if◌then◌else◌, refl}
 use Rattle.std.specs.List.{filter_map, list_all, list_any, sum_by}
 use Rattle.std.specs.Ordering.{int_eq}
 use Rattle.std.proofs.Common.{ap, inl, inr, sym, ◌∙◌, subst, arith}
@@ -20,7 +19,6 @@ use Rattle.fux_grid.specs.declared.cell.Cell.TheVariants.{Rest, Hold, Start}
 use Rattle.fux_grid.specs.declared.exercise.Exercise.{Exercise}
 use Rattle.fux_grid.specs.Cells.{cell_in}
 use Rattle.fux_grid.specs.Columns.{line}
-use Rattle.fux_grid.proofs.Histories.{reverse-push}
 use Rattle.rule_law.specs.Growth.{sum_by-none, sum_by-plus, sum_by-same}
 use Rattle.rule_law.specs.Terms.{started_pitch}
 use Rattle.melody_rules.specs.Gauges.{beyond_fourth, climax_repeats, notes_at}

@@ -1,5 +1,5 @@
 -- What the columns of a setting are charged, case by case.
-use Rattle.std.specs.Prelude.{◌≡◌, ℕ, zero, suc, ◌+◌, ◌*◌, ◌<◌, ◌≤◌, ◌==◌, ◌&&◌, ℤ, pos, int_le, nat_le, Bool, true, false, List, [], ◌∷◌, Option, Some, None, IfSome, length, slice_index, slice_index_or, if◌then◌else◌}
+use Rattle.std.specs.Prelude.{◌≡◌, ℕ, zero, suc, ◌+◌, ◌*◌, ◌<◌, ◌≤◌, ◌==◌, ◌&&◌, pos, int_le, nat_le, Bool, true, false, List, [], Option, Some, None, IfSome, length, slice_index, slice_index_or, if◌then◌else◌}
 use Rattle.std.specs.List.{list_any, sum_by}
 use Rattle.fux_pitch.specs.declared.pitch.Pitch.{Pitch}
 use Rattle.fux_pitch.specs.Pitch.{key_of}
@@ -14,7 +14,7 @@ use Rattle.fux_judge.specs.Gauges.{free_voices}
 use Rattle.strike_prices.specs.declared.prices.Prices.{Prices}
 use Rattle.strike_prices.specs.declared.prices.Summit.{Summit}
 use Rattle.strike_prices.specs.Charges.{strike_price, top_price}
-use Rattle.strike_prices.specs.Fairness.{AreFair, debt_of}
+use Rattle.strike_prices.specs.Fairness.{debt_of}
 use Rattle.priced_floors.specs.declared.charges.Charges.{Charges}
 
 -- what strikes are charged at a place of some prices; nothing where there are none
@@ -78,6 +78,11 @@ debt_in ex charges case = sum_by (λ v. debt_of (prices_of charges case v) (summ
 abbrev pub is_below : Option ℕ → ℕ → Bool
 is_below None key = true
 is_below (Some high) key = nat_le key high
+
+-- these are the debts of all cases
+abbrev pub AreDebts : Exercise → Charges → List ℕ → Type 0
+AreDebts ex charges debts =
+    (case : ℕ) → case < length charges.summits.items → slice_index_or debts case 0 ≡ debt_in ex charges case
 
 -- a greatest key is of a case: no lower than its low end, and no higher than its high end
 abbrev pub has_key : ℕ → Summit → Bool

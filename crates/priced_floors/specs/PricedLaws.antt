@@ -1,5 +1,5 @@
 -- What is kept and charged prices the settings of an exercise (`settings_are_priced`).
-use Rattle.std.specs.Prelude.{◌≡◌, ℕ, zero, suc, ◌+◌, ◌*◌, ◌<◌, ◌≤◌, ◌⊎◌, Bool, true, false, ◌||◌, ◌&&◌, List, [], ◌∷◌, ◌++◌, Option, Some, None, IsSome, length, reverse, slice_index_or, if◌then◌else◌, refl}
+use Rattle.std.specs.Prelude.{◌≡◌, ℕ, suc, ◌+◌, ◌<◌, Bool, true, false, ◌||◌, List, [], ◌∷◌, ◌++◌, Some, None, length, slice_index_or, if◌then◌else◌, refl}
 use Rattle.std.specs.List.{list_all, list_any, sum_by}
 use Rattle.std.proofs.Common.{⊎_elim, ap, ap₂, sym, ◌∙◌, subst, arith, add-one}
 use Rattle.std.proofs.Math.Nat.{mul-add, mul-le-mul_left}
@@ -8,7 +8,6 @@ use Rattle.std.proofs.lemmas.List.Sums.{sum_by-cons}
 use Rattle.fux_grid.specs.declared.cell.Cell.{Cell}
 use Rattle.fux_grid.specs.declared.exercise.Exercise.{Exercise}
 use Rattle.fux_grid.specs.Cells.{cell_in}
-use Rattle.fux_grid.specs.Columns.{newest_column}
 use Rattle.fux_grid.specs.Exercises.{columns_in}
 use Rattle.fux_grid.specs.Menus.{menu_of}
 use Rattle.rule_law.specs.Terms.{started_pitch}
@@ -16,25 +15,21 @@ use Rattle.penalty_sheet.specs.declared.sheet.Sheet.{Sheet}
 use Rattle.fux_judge.specs.Gauges.{gauges_of}
 use Rattle.fux_judge.specs.Lawful.{IsLawful}
 use Rattle.fux_judge.specs.Penalties.{paid}
-use Rattle.open_dissonances.proofs.GoesOn.{follows_where}
-use Rattle.open_dissonances.specs.Steps.{HasVoices, open_after, open_in}
-use Rattle.open_parallels.specs.Steps.{kept_in, parallels_after}
-use Rattle.open_parallels.proofs.GoesOn.{goes_on}
-use Rattle.open_shapes.specs.Steps.{open_shapes_in, shapes_next}
-use Rattle.open_shapes.proofs.KeepsShapes.{keeps_shapes}
-use Rattle.species_space.specs.Grows.{paths_grow}
-use Rattle.species_space.specs.Paths.{column_at, columns_on, length-columns_on, live_at, prefix_at}
+use Rattle.open_dissonances.specs.Steps.{HasVoices}
+use Rattle.open_ends.specs.declared.keeps.Keeps.{Keeps}
+use Rattle.open_ends.proofs.GoesOn.{leads_on}
+use Rattle.species_space.specs.Grows.{live_value, paths_grow}
+use Rattle.species_space.specs.Paths.{column_at, columns_on, live_at, prefix_at}
 use Rattle.tree_search.specs.Answer.{IsLeaf}
 use Rattle.tree_search.proofs.Floors.{live_above}
 use Rattle.floor_graphs.specs.Graphs.{Rate}
-use Rattle.floor_graphs.specs.Laws.{some_from}
 use Rattle.priced_paths.specs.Pricings.{IsOfCase, IsPriced, IsPricedStep}
-use Rattle.priced_paths.specs.Tolls.{charged_from, charged_to, has_reached, has_reached_from, sum_of}
+use Rattle.priced_paths.specs.Tolls.{charged_from, has_reached, has_reached_from, sum_of}
 use Rattle.priced_floors.specs.declared.charges.Charges.{Charges}
-use Rattle.priced_floors.specs.ChargeLaws.{IsInCase, case_of_setting, charged_in_case}
-use Rattle.priced_floors.specs.Charges.{AreFairCharges, column_charge, comes_to, debt_in, is_summit, keeps_within, reaches_in, summit_at, toll_in}
+use Rattle.priced_floors.specs.ChargeLaws.{case_of_setting, charged_in_case}
+use Rattle.priced_floors.specs.Charges.{AreFairCharges, column_charge, comes_to, debt_in, keeps_within, reaches_in, summit_at, toll_in}
 use Rattle.priced_floors.specs.Kept.{kept_of, step_of}
-use Rattle.priced_floors.specs.PathLaws.{columns_parted, leaf_lawful, leaf_value, live_step}
+use Rattle.priced_floors.specs.PathLaws.{cantus_there, columns_parted, leaf_lawful, leaf_value, live_step}
 
 -- how many columns there are to choose from at a place
 abbrev pub breadth_of : Exercise → ℕ → ℕ
@@ -99,29 +94,22 @@ module _ (ex : Exercise) (charges : Charges) (case : ℕ) where
       ap (λ b. b || has_reached_from (reaches_in ex charges case) (0 + 1) path)
       (ap (λ low. comes_to low (started_pitch (cell_in (slice_index_or (menu_of ex 0) k []) charges.voice))) none)
 
-module _ (ex : Exercise) (sheet : Sheet) (charges : Charges) (voices : HasVoices ex)
+module _ (ex : Exercise) (sheet : Sheet) (keeps : Keeps) (charges : Charges) (voices : HasVoices ex)
     (fair : AreFairCharges charges sheet) where
   step_priced : (path rest : List ℕ) (child value : ℕ)
       → IsLeaf (live_at ex sheet) (columns_in ex) ((path ++ child ∷ []) ++ rest) value
-      → IsPricedStep (kept_of ex) (λ p. paid ex sheet (prefix_at ex p)) (breadth_of ex) (step_of ex sheet) path child
+      → IsPricedStep (kept_of ex keeps) (λ p. paid ex sheet (prefix_at ex p)) (breadth_of ex) (step_of ex sheet keeps) path
+      child
   step_priced path rest child value leaf =
       let own = live_above (paths_grow ex sheet) rest (path ++ child ∷ []) value leaf.1 in
+      let alive = (live_value ex sheet (path ++ child ∷ []) own.0 own.1).0 in
       let L : List (List Cell) → Type 0 = λ s. IsLawful ex s in
       let lawful = subst L (columns_parted ex path rest child)
       (leaf_lawful ex sheet voices.most_voices ((path ++ child ∷ []) ++ rest) value leaf) in
-      let opens = (follows_where ex voices).next (prefix_at ex path) (column_at ex path child)
-      (columns_on ex (0 + length (path ++ child ∷ [])) rest) lawful in
-      let fits = keeps_shapes ex (prefix_at ex path) (column_at ex path child)
-      (columns_on ex (0 + length (path ++ child ∷ [])) rest) voices.most_voices
-      (record { there = voices.species_there; no_cantus = voices.differ }) lawful in
-      let parts = goes_on ex (prefix_at ex path) (column_at ex path child)
-      (columns_on ex (0 + length (path ++ child ∷ [])) rest) voices lawful in
-      let size : length (prefix_at ex path) ≡ length path = length-columns_on ex 0 path in
-      let step = live_step ex sheet path child (some_from (live_at ex sheet (path ++ child ∷ [])) own.0 own.1)
-      (ap (λ i. open_after ex i (open_in ex (prefix_at ex path)) (newest_column (reverse (prefix_at ex path)))
-      (column_at ex path child)) (sym size) ∙ opens)
-      (ap (λ i. shapes_next ex i (open_shapes_in ex (prefix_at ex path)) (column_at ex path child)) (sym size) ∙ fits)
-      (ap (λ i. parallels_after ex i (kept_in ex (prefix_at ex path)) (column_at ex path child)) (sym size) ∙ parts) in
+      let step = live_step ex sheet path child keeps
+      (leads_on ex sheet keeps voices (cantus_there ex (path ++ child ∷ []) alive) (prefix_at ex path)
+      (column_at ex path child) (columns_on ex (0 + length (path ++ child ∷ [])) rest) lawful)
+      alive in
       record {
         within = (paths_grow ex sheet path child own.0 own.1).within;
         cost = step.cost;
@@ -154,7 +142,7 @@ module _ (ex : Exercise) (sheet : Sheet) (charges : Charges) (voices : HasVoices
         },
       )
 
-  pub settings_are_priced : IsPriced (live_at ex sheet) (columns_in ex) (kept_of ex) (λ p. paid ex sheet (prefix_at ex p))
-      (breadth_of ex) (step_of ex sheet) (toll_in ex charges) (reaches_in ex charges) (length charges.summits.items)
+  pub settings_are_priced : IsPriced (live_at ex sheet) (columns_in ex) (kept_of ex keeps)
+      (λ p. paid ex sheet (prefix_at ex p)) (breadth_of ex) (step_of ex sheet keeps) (toll_in ex charges) (reaches_in ex charges) (length charges.summits.items)
       (rate_in ex charges)
   settings_are_priced = record { start = refl; steps = step_priced; leaves = leaf_priced }

@@ -2,12 +2,14 @@
 
 ghost use Rattle.std.proofs.Props.{props};
 ghost use Rattle.std.specs.Bool.{OnTrue};
-ghost use Rattle.std.specs.Prelude.{◌≡◌, ◌<◌, ◌≤◌, ◌&&◌, ℕ, length, IfOk, Some, None, slice_index_or};
+ghost use Rattle.std.specs.Prelude.{◌≡◌, ◌<◌, ◌≤◌, ◌^◌, ℕ, length, IfOk, IfSome};
 ghost use Rattle.fux_grid.specs.Exercises.{IsValid, columns_in};
 ghost use Rattle.fux_grid.specs.Menus.{menu_of};
 ghost use Rattle.fux_judge.specs.Links.{given, link_of};
+ghost use Rattle.fux_grid.specs.Columns.{cells_before};
 ghost use Rattle.open_dissonances.specs.Steps.{HasVoices};
-ghost use Rattle.priced_floors.specs.Charges.{AreFairCharges, AreSmallCharges, debt_in};
+ghost use Rattle.open_ends.specs.Steps.{ends_after};
+ghost use Rattle.priced_floors.specs.Charges.{AreDebts, AreFairCharges, AreSmallCharges};
 ghost use Rattle.priced_floors.specs.declared.charges.TheConstants.{CASES, MOST_CHARGE, SCALE};
 ghost use Rattle.priced_floors.specs.Kept as words;
 
@@ -16,9 +18,7 @@ use crate::kept::Kept;
 use fux_grid::{Column, Exercise, follows};
 use fux_judge::{column_cost, pair_cost};
 use fux_pitch::Memory;
-use open_dissonances::{OpenDissonances, open_after};
-use open_parallels::{OpenParallels, parallels_after};
-use open_shapes::{OpenShapes, shapes_next};
+use open_ends::{Keeps, OpenEnds, ends_after};
 use penalty_sheet::Sheet;
 use priced_paths::Pricing;
 use rule_law::cells_of;
@@ -30,13 +30,14 @@ use std::alloc::Global;
 pub struct PricedSpace<'a> {
     pub(crate) space: &'a SpeciesSpace<'a>,
     pub(crate) charges: &'a Charges,
+    keeps: Keeps,
     /// The debt of each case.
     debts: Vec<u64>,
     ghost fair: { AreFairCharges charges.now space.now.sheet } by { Prim.hlevel props },
     ghost small: { AreSmallCharges MOST_CHARGE charges.now } by { Prim.hlevel props },
     ghost scale: { charges.now.scale ≡ SCALE },
     ghost few: { length charges.now.summits.items ≤ CASES },
-    ghost known: { (case : ℕ) → case < length charges.now.summits.items → slice_index_or debts.items case 0 ≡ debt_in space.now.exercise charges.now case },
+    ghost known: { AreDebts space.now.exercise charges.now debts.items },
     ghost whole: { length debts.items ≡ length charges.now.summits.items },
     ghost voices: { HasVoices space.now.exercise } by { Prim.hlevel props },
     ghost short: { columns_in space.now.exercise ≤ 192 },
@@ -52,7 +53,8 @@ fn cost_between<'a>(
 ) -> Option<u32>
     requires valid { IsValid ex.now }
     requires place { i < columns_in ex.now }
-    ensures { result ≡ link_of ex.now sheet.now i (given prev.entry) next.now.items }
+    ensures value { result ≡ link_of ex.now sheet.now i (given prev.entry) next.now.items }
+    ensures bound { IfSome result (λ cost. cost ≤ 2 ^ 25) }
 {
     let own = column_cost(ex, sheet, i, next)?;
     let pair = pair_cost(ex, sheet, i, prev, next)?;
@@ -70,13 +72,6 @@ fn is_same_number(one: Option<u16>, other: Option<u16>) -> bool
     }
 }
 
-/// Whether all four are true.
-fn all_four(a: bool, b: bool, c: bool, d: bool) -> bool
-    ensures { result ≡ (a && (b && (c && d))) }
-{
-    a && (b && (c && d))
-}
-
 /// A number made of two, in which each of them counts.
 fn mixed(first: u64, second: u64) -> u64 {
     first
@@ -88,7 +83,7 @@ fn mixed(first: u64, second: u64) -> u64 {
 fn debts_of(alloc: Global, ex: &Exercise, charges: &Charges) -> Result<Vec<u64>, Memory>
     requires few { length charges.now.summits.items ≤ CASES }
     requires voices { ex.now.voices ≤ 4 }
-    ensures known { IfOk result (λ debts. (case : ℕ) → case < length charges.now.summits.items → slice_index_or debts.items case 0 ≡ debt_in ex.now charges.now case) }
+    ensures known { IfOk result (λ debts. AreDebts ex.now charges.now debts.items) }
     ensures whole { IfOk result (λ debts. length debts.items ≡ length charges.now.summits.items) }
 {
     let count = charges.summits.len();
@@ -100,10 +95,11 @@ fn debts_of(alloc: Global, ex: &Exercise, charges: &Charges) -> Result<Vec<u64>,
 }
 
 impl<'a> PricedSpace<'a> {
-    /// The settings of a space's exercise with these charges.
+    /// The settings of a space's exercise with these charges, where so much is kept of what later columns decide.
     pub fn new(
         alloc: Global,
         space: &'a SpeciesSpace<'a>,
+        keeps: Keeps,
         charges: &'a Charges,
     ) -> Result<PricedSpace<'a>, Memory>
         requires fair { AreFairCharges charges.now space.now.sheet }
@@ -116,6 +112,7 @@ impl<'a> PricedSpace<'a> {
         Ok(PricedSpace {
             space,
             charges,
+            keeps,
             debts,
         })
     }
@@ -131,6 +128,36 @@ impl<'a> PricedSpace<'a> {
         }
         let number = kept.column?;
         self.space.tables().columns(depth - 1).get(number as usize)
+    }
+
+    /// What is kept behind a column that follows, and what the step costs.
+    fn led_on(
+        &self,
+        depth: usize,
+        kept: &Kept,
+        label: usize,
+        prev: Option<&Column>,
+        next: &Column,
+    ) -> Option<(Kept, u32)>
+        requires depth { depth < columns_in self.now.space.now.exercise }
+        requires label { label < 8192 }
+        ensures { result ≡ words.kept_with label (ends_after self.now.space.now.exercise self.now.space.now.sheet self.now.keeps
+            depth kept.now.ends (cells_before prev.entry) next.now.items)
+            (link_of self.now.space.now.exercise self.now.space.now.sheet depth (given prev.entry) next.now.items) }
+    {
+        let (ex, sheet) = (self.space.exercise(), self.space.sheet());
+        let (ends, more) = ends_after(
+            ex,
+            sheet,
+            self.keeps,
+            depth,
+            &kept.ends,
+            cells_of(prev),
+            next.as_slice(),
+        )?;
+        let own = cost_between(ex, sheet, depth, prev, next)?;
+        let column = Some(label as u16);
+        Some((Kept { column, ends }, own + more))
     }
 }
 
@@ -148,13 +175,13 @@ impl<'a> Pricing for PricedSpace<'a> {
 
     ghost tree = { λ priced. priced.space.now };
 
-    ghost kept_of = { λ priced. kept_of priced.space.now.exercise };
+    ghost kept_of = { λ priced. kept_of priced.space.now.exercise priced.keeps };
 
     ghost settled_by = { λ priced path. paid priced.space.now.exercise priced.space.now.sheet (prefix_at priced.space.now.exercise path) };
 
     ghost breadth = { λ priced. breadth_of priced.space.now.exercise };
 
-    ghost step_at = { λ priced. step_of priced.space.now.exercise priced.space.now.sheet };
+    ghost step_at = { λ priced. step_of priced.space.now.exercise priced.space.now.sheet priced.keeps };
 
     ghost toll_at = { λ priced. toll_in priced.space.now.exercise priced.charges.now };
 
@@ -164,7 +191,7 @@ impl<'a> Pricing for PricedSpace<'a> {
 
     ghost rate_of = { λ priced. rate_in priced.space.now.exercise priced.charges.now };
 
-    ghost priced = { λ priced. settings_are_priced priced.space.now.exercise priced.space.now.sheet priced.charges.now priced.voices priced.fair };
+    ghost priced = { λ priced. settings_are_priced priced.space.now.exercise priced.space.now.sheet priced.keeps priced.charges.now priced.voices priced.fair };
 
     fn space(&self) -> &SpeciesSpace<'a> {
         self.space
@@ -177,9 +204,7 @@ impl<'a> Pricing for PricedSpace<'a> {
     fn start(&self) -> Kept {
         Kept {
             column: None,
-            waiting: OpenDissonances::none(),
-            shapes: OpenShapes::none(),
-            parallels: OpenParallels::none(),
+            ends: OpenEnds::none(),
         }
     }
 
@@ -193,28 +218,11 @@ impl<'a> Pricing for PricedSpace<'a> {
         if !follows(prev, next) {
             return None;
         }
-        let ex = self.space.exercise();
-        let cells = next.as_slice();
-        let waiting = open_after(ex, depth, &kept.waiting, cells_of(prev), cells)?;
-        let shapes = shapes_next(ex, depth, &kept.shapes, cells)?;
-        let parallels = parallels_after(ex, depth, &kept.parallels, cells)?;
-        let cost = cost_between(ex, self.space.sheet(), depth, prev, next)?;
-        let column = Some(label as u16);
-        let longer = Kept {
-            column,
-            waiting,
-            shapes,
-            parallels,
-        };
-        Some((longer, cost))
+        self.led_on(depth, kept, label, prev, next)
     }
 
     fn is_same(&self, one: &Kept, other: &Kept) -> bool {
-        let number = is_same_number(one.column, other.column);
-        let waiting = one.waiting.is_same(&other.waiting);
-        let shapes = one.shapes.is_same(&other.shapes);
-        let parallels = one.parallels.is_same(&other.parallels);
-        all_four(number, waiting, shapes, parallels)
+        is_same_number(one.column, other.column) && one.ends.is_same(&other.ends)
     }
 
     fn key(&self, kept: &Kept) -> u64 {
@@ -222,11 +230,7 @@ impl<'a> Pricing for PricedSpace<'a> {
             Some(number) => u64::from(number) + 1,
             None => 0,
         };
-        let open = mixed(
-            mixed(kept.waiting.key(), kept.shapes.key()),
-            kept.parallels.key(),
-        );
-        mixed(open, column)
+        mixed(kept.ends.key(), column)
     }
 
     fn cases(&self) -> usize {

@@ -15,6 +15,7 @@ use crate::pricing::PricedSpace;
 use crate::rounds::find_prices;
 use crate::ways::ways_of;
 use fux_pitch::Memory;
+use open_ends::Keeps;
 use priced_paths::search_priced;
 use species_space::SpeciesSpace;
 use std::alloc::Global;
@@ -24,26 +25,60 @@ use tree_search::{Outcome, search_front};
 /// How many prefixes are opened at most before any price is sought: many an exercise needs no more.
 const FIRST_BUDGET: u32 = 32_768;
 
-/// Prices for the cases of these charges; none where there are too many ways.
-fn prices_for(
+/// How many are at most by the floors that keep least. These are made soonest, and often are enough.
+const LEAST_BUDGET: u32 = 262_144;
+
+/// How many are at most by floors that keep less than they might. Where many prefixes have the floor of the best setting, it is a matter of
+/// luck which prices lead to it.
+const TRIAL_BUDGET: u32 = 65_536;
+
+/// Prices for the cases of these charges, where so much is kept; none where there are too many ways.
+fn prices_by(
     alloc: Global,
     space: &SpeciesSpace<'_>,
+    keeps: Keeps,
     charges: &Charges,
-) -> Result<Vec<Prices>, Memory>
+) -> Result<Option<Vec<Prices>>, Memory>
     requires fair { AreFairCharges charges.now space.now.sheet }
     requires small { AreSmallCharges MOST_CHARGE charges.now }
     requires scale { charges.now.scale ≡ SCALE }
     requires few { length charges.now.summits.items ≤ CASES }
 {
-    let priced = PricedSpace::new(alloc, space, charges)?;
+    let priced = PricedSpace::new(alloc, space, keeps, charges)?;
     match ways_of(alloc, &priced, charges)? {
-        Some(ways) => find_prices(alloc, space.sheet(), &ways, charges),
-        None => Ok(Vec::new(alloc)),
+        Some(ways) => Ok(Some(find_prices(alloc, space.sheet(), &ways, charges)?)),
+        None => Ok(None),
     }
 }
 
-/// The same, by these floors from the beginning.
-fn search_by_prices(alloc: Global, space: &SpeciesSpace<'_>, budget: u32) -> Result<Outcome, Memory>
+/// The first of these choices of what is kept where there aren't too many ways, and prices for the cases of these charges by them; no prices
+/// where there are too many ways at each.
+fn prices_for(
+    alloc: Global,
+    space: &SpeciesSpace<'_>,
+    choices: &[Keeps],
+    charges: &Charges,
+) -> Result<(Keeps, Vec<Prices>), Memory>
+    requires fair { AreFairCharges charges.now space.now.sheet }
+    requires small { AreSmallCharges MOST_CHARGE charges.now }
+    requires scale { charges.now.scale ≡ SCALE }
+    requires few { length charges.now.summits.items ≤ CASES }
+{
+    for keeps in choices {
+        if let Some(prices) = prices_by(alloc, space, *keeps, charges)? {
+            return Ok((*keeps, prices));
+        }
+    }
+    Ok((Keeps::least(), Vec::new(alloc)))
+}
+
+/// The same, by floors that keep the first of these choices where there aren't too many ways.
+fn search_kept(
+    alloc: Global,
+    space: &SpeciesSpace<'_>,
+    choices: &[Keeps],
+    budget: u32,
+) -> Result<Outcome, Memory>
     requires { IsValid space.now.exercise }
     ensures found { IfOk result (λ outcome.
         IfFound outcome (IsFirstLeast (live_at space.now.exercise space.now.sheet) (columns_in space.now.exercise))) }
@@ -58,10 +93,35 @@ fn search_by_prices(alloc: Global, space: &SpeciesSpace<'_>, budget: u32) -> Res
     let voice = space.exercise().species_voice;
     let keys = summit_keys(alloc, space, voice)?;
     let plain = Charges::new(alloc, space.sheet(), &[], voice, &keys)?;
-    let prices = prices_for(alloc, space, &plain)?;
+    let (keeps, prices) = prices_for(alloc, space, choices, &plain)?;
     let charges = Charges::new(alloc, space.sheet(), &prices, voice, &keys)?;
-    let priced = PricedSpace::new(alloc, space, &charges)?;
+    let priced = PricedSpace::new(alloc, space, keeps, &charges)?;
     search_priced(alloc, &priced, budget)
+}
+
+/// The same, by floors that keep less at first, and then by those that keep most.
+fn search_by_prices(alloc: Global, space: &SpeciesSpace<'_>, budget: u32) -> Result<Outcome, Memory>
+    requires { IsValid space.now.exercise }
+    ensures found { IfOk result (λ outcome.
+        IfFound outcome (IsFirstLeast (live_at space.now.exercise space.now.sheet) (columns_in space.now.exercise))) }
+    ensures nothing { IfOk result (λ outcome.
+        OnNothing outcome (HasNoLeaf (live_at space.now.exercise space.now.sheet) (columns_in space.now.exercise))) }
+    ensures bound { IfOk result (λ outcome.
+        IfSpent outcome (BoundsLeaves (live_at space.now.exercise space.now.sheet) (columns_in space.now.exercise))) }
+    ensures agrees { IfOk result (AgreesWithAnswers (live_at space.now.exercise space.now.sheet) (columns_in space.now.exercise)) }
+{
+    let (least, turns, runs) = (Keeps::least(), Keeps::turns_alone(), Keeps::runs_alone());
+    for (keeps, most) in [
+        (least, LEAST_BUDGET),
+        (turns, TRIAL_BUDGET),
+        (runs, TRIAL_BUDGET),
+    ] {
+        match search_kept(alloc, space, &[keeps], budget.min(most))? {
+            Outcome::Spent { .. } => {}
+            outcome => return Ok(outcome),
+        }
+    }
+    search_kept(alloc, space, &[Keeps::all(), runs, turns, least], budget)
 }
 
 /// The first leaf of least value, by floors that know of gauges beforehand: of a pitch that is struck often, and of a climax that is struck

@@ -1,0 +1,4 @@
+pub mod InARow
+pub mod RunsPaid
+pub mod RunsTold
+mod SameRuns

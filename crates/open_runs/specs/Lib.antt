@@ -1,0 +1,2 @@
+pub mod BarRuns
+pub mod Steps

@@ -1,0 +1,3 @@
+pub mod GoesOn
+mod SameOpen
+pub mod TurnLaw
