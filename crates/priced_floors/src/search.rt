@@ -28,15 +28,16 @@ const FIRST_BUDGET: u32 = 32_768;
 /// How many are at most by the floors that keep least. These are made soonest, and often are enough.
 const LEAST_BUDGET: u32 = 262_144;
 
-/// How many are at most by floors that keep less than they might. Where many prefixes have the floor of the best setting, it is a matter of
-/// luck which prices lead to it.
-const TRIAL_BUDGET: u32 = 65_536;
+/// How many are at most by floors whose prices are raised. Where many prefixes have the floor of the best setting, these tell sooner which of
+/// them lead to none.
+const RAISED_BUDGET: u32 = 131_072;
 
 /// Prices for the cases of these charges, where so much is kept; none where there are too many ways.
 fn prices_by(
     alloc: Global,
     space: &SpeciesSpace<'_>,
     keeps: Keeps,
+    raised: bool,
     charges: &Charges,
 ) -> Result<Option<Vec<Prices>>, Memory>
     requires fair { AreFairCharges charges.now space.now.sheet }
@@ -46,17 +47,21 @@ fn prices_by(
 {
     let priced = PricedSpace::new(alloc, space, keeps, charges)?;
     match ways_of(alloc, &priced, charges)? {
-        Some(ways) => Ok(Some(find_prices(alloc, space.sheet(), &ways, charges)?)),
+        Some(ways) => {
+            let prices = find_prices(alloc, space.sheet(), &ways, charges, raised)?;
+            Ok(Some(prices))
+        }
         None => Ok(None),
     }
 }
 
-/// The first of these choices of what is kept where there aren't too many ways, and prices for the cases of these charges by them; no prices
-/// where there are too many ways at each.
+/// The first of these choices of what is kept where there aren't too many ways, and prices for the cases of these charges by them, raised ones
+/// where they are wanted; no prices where there are too many ways at each.
 fn prices_for(
     alloc: Global,
     space: &SpeciesSpace<'_>,
     choices: &[Keeps],
+    raised: bool,
     charges: &Charges,
 ) -> Result<(Keeps, Vec<Prices>), Memory>
     requires fair { AreFairCharges charges.now space.now.sheet }
@@ -65,7 +70,7 @@ fn prices_for(
     requires few { length charges.now.summits.items ≤ CASES }
 {
     for keeps in choices {
-        if let Some(prices) = prices_by(alloc, space, *keeps, charges)? {
+        if let Some(prices) = prices_by(alloc, space, *keeps, raised, charges)? {
             return Ok((*keeps, prices));
         }
     }
@@ -77,6 +82,7 @@ fn search_kept(
     alloc: Global,
     space: &SpeciesSpace<'_>,
     choices: &[Keeps],
+    raised: bool,
     budget: u32,
 ) -> Result<Outcome, Memory>
     requires { IsValid space.now.exercise }
@@ -93,13 +99,13 @@ fn search_kept(
     let voice = space.exercise().species_voice;
     let keys = summit_keys(alloc, space, voice)?;
     let plain = Charges::new(alloc, space.sheet(), &[], voice, &keys)?;
-    let (keeps, prices) = prices_for(alloc, space, choices, &plain)?;
+    let (keeps, prices) = prices_for(alloc, space, choices, raised, &plain)?;
     let charges = Charges::new(alloc, space.sheet(), &prices, voice, &keys)?;
     let priced = PricedSpace::new(alloc, space, keeps, &charges)?;
     search_priced(alloc, &priced, budget)
 }
 
-/// The same, by floors that keep less at first, and then by those that keep most.
+/// The same, by floors that keep the least, then by those that keep most, at first with raised prices.
 fn search_by_prices(alloc: Global, space: &SpeciesSpace<'_>, budget: u32) -> Result<Outcome, Memory>
     requires { IsValid space.now.exercise }
     ensures found { IfOk result (λ outcome.
@@ -108,20 +114,26 @@ fn search_by_prices(alloc: Global, space: &SpeciesSpace<'_>, budget: u32) -> Res
         OnNothing outcome (HasNoLeaf (live_at space.now.exercise space.now.sheet) (columns_in space.now.exercise))) }
     ensures bound { IfOk result (λ outcome.
         IfSpent outcome (BoundsLeaves (live_at space.now.exercise space.now.sheet) (columns_in space.now.exercise))) }
+    ensures over { IfOk result (λ outcome. IsSpent outcome
+        → IsOverBudget (live_at space.now.exercise space.now.sheet) (columns_in space.now.exercise) budget) }
     ensures agrees { IfOk result (AgreesWithAnswers (live_at space.now.exercise space.now.sheet) (columns_in space.now.exercise)) }
 {
-    let (least, turns, runs) = (Keeps::least(), Keeps::turns_alone(), Keeps::runs_alone());
-    for (keeps, most) in [
-        (least, LEAST_BUDGET),
-        (turns, TRIAL_BUDGET),
-        (runs, TRIAL_BUDGET),
-    ] {
-        match search_kept(alloc, space, &[keeps], budget.min(most))? {
-            Outcome::Spent { .. } => {}
-            outcome => return Ok(outcome),
-        }
+    let least = Keeps::least();
+    match search_kept(alloc, space, &[least], false, budget.min(LEAST_BUDGET))? {
+        Outcome::Spent { .. } => {}
+        outcome => return Ok(outcome),
     }
-    search_kept(alloc, space, &[Keeps::all(), runs, turns, least], budget)
+    let most = [
+        Keeps::all(),
+        Keeps::runs_alone(),
+        Keeps::turns_alone(),
+        least,
+    ];
+    match search_kept(alloc, space, &most, true, budget.min(RAISED_BUDGET))? {
+        Outcome::Spent { .. } => {}
+        outcome => return Ok(outcome),
+    }
+    search_kept(alloc, space, &most, false, budget)
 }
 
 /// The first leaf of least value, by floors that know of gauges beforehand: of a pitch that is struck often, and of a climax that is struck

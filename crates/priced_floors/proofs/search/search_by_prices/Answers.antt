@@ -1,0 +1,24 @@
+use Rattle.floor_graphs.proofs.SameAnswers.{not_spent}
+use Rattle.priced_floors.proofs.search.search_by_prices.Goals as goal
+
+pub returns-in_default : goal.returns-in_default
+returns-in_default c =
+    let first = c.in_ok-outcome.ensures in
+    record {
+      found = first.found;
+      nothing = first.nothing;
+      bound = first.bound;
+      over = λ spent. absurd (not_spent _ c.in_default.not-Spent spent);
+      agrees = first.agrees;
+    }
+
+pub returns-in_default-2 : goal.returns-in_default-2
+returns-in_default-2 c =
+    let first = c.in_ok-outcome-2.ensures in
+    record {
+      found = first.found;
+      nothing = first.nothing;
+      bound = first.bound;
+      over = λ spent. absurd (not_spent _ c.in_default-2.not-Spent spent);
+      agrees = first.agrees;
+    }
