@@ -10,6 +10,14 @@ pub struct Keeps {
 }
 
 impl Keeps {
+    /// Everything is kept.
+    pub fn all() -> Keeps {
+        Keeps {
+            turns: true,
+            runs: true,
+        }
+    }
+
     /// Only what is always kept.
     pub fn least() -> Keeps {
         Keeps {
@@ -18,17 +26,19 @@ impl Keeps {
         }
     }
 
-    /// All choices, from the one that keeps least to the one that keeps most.
-    pub fn from_least() -> [Keeps; 4] {
-        let all = Keeps {
+    /// Of the dear parts turning notes alone.
+    pub fn turns_alone() -> Keeps {
+        Keeps {
             turns: true,
-            runs: true,
-        };
-        let turns = Keeps { runs: false, ..all };
-        let runs = Keeps {
+            runs: false,
+        }
+    }
+
+    /// Of the dear parts runs alone.
+    pub fn runs_alone() -> Keeps {
+        Keeps {
             turns: false,
-            ..all
-        };
-        [Keeps::least(), runs, turns, all]
+            runs: true,
+        }
     }
 }

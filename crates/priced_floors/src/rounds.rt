@@ -1,5 +1,6 @@
 //! Prices, found by rounds in which a case's strikes are charged more where the least way strikes a pitch more than four times, and less
-//! where it doesn't. No clause speaks of them: any prices are fair once they are capped.
+//! where it doesn't. Many prices come to the same sum from the beginning on. Those that are raised as far as this sum allows tell more of the
+//! later part of an exercise, where most pitches were struck four times already. No clause speaks of prices: any are fair once they are capped.
 
 use crate::charges::{CASES, Charges, SCALE};
 use crate::ways::{Notes, Ways};
@@ -16,6 +17,17 @@ const FINE: i64 = 256;
 
 /// How many rounds may bring nothing before the aim is lowered.
 const PATIENCE: u32 = 8;
+
+/// How many rounds look for the prices of the later part of a case.
+const LATER_ROUNDS: usize = 100;
+
+/// How many strikes of a pitch cost nothing.
+const FREE: i64 = 4;
+
+/// Into how many parts the way from prices to others is divided.
+const PARTS: i64 = 16;
+
+const PARTS_SHIFT: u32 = 4;
 
 /// How many prices a case has: one for each pitch of each of four voices.
 const WIDTH: usize = 4 * PITCHES;
@@ -174,22 +186,29 @@ impl Round {
         }
     }
 
-    /// Counts the strikes on the least way.
-    fn count(&mut self, ways: &Ways, summit: &Summit, prices: &[i64]) {
+    /// Counts the strikes on the least way from a start on, of so many steps, and tells where that ends.
+    fn count(
+        &mut self,
+        case: &Case<'_>,
+        prices: &[i64],
+        start: &Start,
+        steps: usize,
+    ) -> (usize, bool) {
+        let (ways, summit) = (case.ways, &case.summit);
         for place in 0..WIDTH {
             if let Some(strikes) = self.strikes.get_mut(place) {
                 *strikes = 0;
             }
         }
-        let mut node = 0usize;
-        let mut reached = false;
-        for _turn in 0..192 {
+        let mut node = start.node;
+        let mut reached = start.reached;
+        for _turn in 0..steps {
             let (step, _) = least_step(ways, node, reached, summit, prices, &self.sums);
             let Some(step) = ways.steps.get(step) else {
-                return;
+                break;
             };
             let Some(notes) = ways.notes.get(step.choice as usize) else {
-                return;
+                break;
             };
             reached = reached || summit.low == 0 || notes.key >= summit.low;
             for v in 0..4usize {
@@ -201,6 +220,48 @@ impl Round {
                 }
             }
             node = step.to as usize;
+        }
+        (node, reached)
+    }
+}
+
+/// A case: the ways, its greatest keys, and the most that a strike is charged.
+#[derive(Drop)]
+struct Case<'a> {
+    ways: &'a Ways,
+    summit: Summit,
+    most: i64,
+}
+
+/// Where rounds begin: at a node, where the case's keys were reached or weren't, with so many strikes of each pitch that cost nothing.
+#[derive(Drop)]
+struct Start {
+    node: usize,
+    reached: bool,
+    free: Vec<i64>,
+}
+
+impl Start {
+    /// The empty path.
+    fn new(alloc: Global) -> Result<Start, Memory> {
+        Ok(Start {
+            node: 0,
+            reached: false,
+            free: vec![in alloc; FREE; WIDTH]?,
+        })
+    }
+
+    /// Goes on along the least way, so many steps.
+    fn go_on(&mut self, case: &Case<'_>, prices: &[i64], round: &mut Round, steps: usize) {
+        round.work(case.ways, &case.summit, prices);
+        let (node, reached) = round.count(case, prices, self, steps);
+        self.node = node;
+        self.reached = reached;
+        for place in 0..WIDTH {
+            let strikes = number_or(&round.strikes, place, 0);
+            if let Some(free) = self.free.get_mut(place) {
+                *free = (*free).wrapping_sub(strikes).max(0);
+            }
         }
     }
 }
@@ -219,13 +280,49 @@ impl Bid {
         })
     }
 
-    /// What the prices charge that isn't due.
-    fn debt(&self, summit: &Summit) -> i64 {
+    /// What the prices charge from a start on that isn't due.
+    fn debt(&self, summit: &Summit, start: &Start) -> i64 {
         let mut sum = i64::from(summit.charge);
-        for price in &self.prices {
-            sum = sum.wrapping_add(whole(*price).wrapping_mul(4));
+        for place in 0..WIDTH {
+            let price = number_or(&self.prices, place, 0);
+            let free = number_or(&start.free, place, FREE);
+            sum = sum.wrapping_add(whole(price).wrapping_mul(free));
         }
         sum
+    }
+
+    /// The least sum from a start on.
+    fn sum_from(&self, case: &Case<'_>, round: &mut Round, start: &Start) -> i64 {
+        round.work(case.ways, &case.summit, &self.prices);
+        let node = start
+            .node
+            .wrapping_mul(2)
+            .wrapping_add(start.reached as usize);
+        let sum = number_or(&round.sums, node, NONE);
+        if sum >= NONE {
+            return NONE;
+        }
+        sum.wrapping_sub(self.debt(&case.summit, start))
+    }
+
+    /// Goes back to the best prices.
+    fn go_back(&mut self) {
+        for place in 0..WIDTH {
+            let price = number_or(&self.best, place, 0);
+            if let Some(own) = self.prices.get_mut(place) {
+                *own = price;
+            }
+        }
+    }
+
+    /// Takes the prices for the best ones.
+    fn settle(&mut self) {
+        for place in 0..WIDTH {
+            let price = number_or(&self.prices, place, 0);
+            if let Some(best) = self.best.get_mut(place) {
+                *best = price;
+            }
+        }
     }
 
     /// Takes the prices for the best so far, or goes back to these where nothing was gained for long.
@@ -233,12 +330,7 @@ impl Bid {
         if sum > self.sum {
             self.sum = sum;
             self.stalled = 0;
-            for place in 0..WIDTH {
-                let price = number_or(&self.prices, place, 0);
-                if let Some(best) = self.best.get_mut(place) {
-                    *best = price;
-                }
-            }
+            self.settle();
             return;
         }
         self.stalled = self.stalled.wrapping_add(1);
@@ -246,22 +338,17 @@ impl Bid {
             self.stalled = 0;
             self.aim = self.aim.wrapping_mul(3) >> 2;
             self.is_done = self.aim < 2;
-            for place in 0..WIDTH {
-                let price = number_or(&self.best, place, 0);
-                if let Some(own) = self.prices.get_mut(place) {
-                    *own = price;
-                }
-            }
+            self.go_back();
         }
     }
 
     /// Which way a price is to go, by how often its pitch was struck.
-    fn turn(&mut self, strikes: &[i64], most: i64) -> i64 {
+    fn turn(&mut self, strikes: &[i64], free: &[i64], most: i64) -> i64 {
         let mut norm = 0i64;
         for place in 0..WIDTH {
             let price = number_or(&self.prices, place, 0);
             let more = number_or(strikes, place, 0)
-                .wrapping_sub(4)
+                .wrapping_sub(number_or(free, place, FREE))
                 .wrapping_mul(16);
             if let Some(way) = self.way.get_mut(place) {
                 let mut next = more.wrapping_add(*way >> 1);
@@ -294,24 +381,111 @@ impl Bid {
     }
 
     /// One round.
-    fn improve(&mut self, ways: &Ways, summit: &Summit, round: &mut Round, most: i64) {
-        round.work(ways, summit, &self.prices);
-        let sum = number_or(&round.sums, 0, NONE);
+    fn improve(&mut self, case: &Case<'_>, round: &mut Round, start: &Start) {
+        let sum = self.sum_from(case, round, start);
         if sum >= NONE {
             self.is_done = true;
             self.sum = NONE;
             return;
         }
-        round.count(ways, summit, &self.prices);
-        let sum = sum.wrapping_sub(self.debt(summit));
+        let _ = round.count(case, &self.prices, start, 192);
         self.judge(sum);
-        let norm = self.turn(&round.strikes, most);
+        let norm = self.turn(&round.strikes, &start.free, case.most);
         if norm <= 0 {
             self.is_done = true;
             return;
         }
         let gap = self.sum.wrapping_add(self.aim).wrapping_sub(sum);
-        self.go(gap, norm, most);
+        self.go(gap, norm, case.most);
+    }
+
+    /// The best prices from behind so many steps of the least way on.
+    fn later(
+        &self,
+        alloc: Global,
+        case: &Case<'_>,
+        round: &mut Round,
+        steps: usize,
+    ) -> Result<Bid, Memory> {
+        let mut start = Start::new(alloc)?;
+        start.go_on(case, &self.best, round, steps);
+        let mut later = Bid::new(alloc)?;
+        for place in 0..WIDTH {
+            let price = number_or(&self.best, place, 0);
+            if let Some(own) = later.prices.get_mut(place) {
+                *own = price;
+            }
+        }
+        for _turn in 0..LATER_ROUNDS {
+            if later.is_done {
+                break;
+            }
+            later.improve(case, round, &start);
+        }
+        Ok(later)
+    }
+
+    /// Goes from the best prices towards these, as far as the sum from the beginning on stays above the floor.
+    fn lean(&mut self, case: &Case<'_>, round: &mut Round, start: &Start, later: &Bid, floor: i64) {
+        for less in 0..PARTS {
+            for place in 0..WIDTH {
+                let price = number_or(&self.best, place, 0);
+                let by = number_or(&later.best, place, 0).wrapping_sub(price);
+                let part = by.wrapping_mul(PARTS.wrapping_sub(less)) >> PARTS_SHIFT;
+                if let Some(own) = self.prices.get_mut(place) {
+                    *own = price.wrapping_add(part);
+                }
+            }
+            if self.sum_from(case, round, start) > floor {
+                self.settle();
+                return;
+            }
+        }
+        self.go_back();
+    }
+
+    /// Raises a price, as far as the same sum stays above the floor.
+    fn lift(
+        &mut self,
+        case: &Case<'_>,
+        round: &mut Round,
+        start: &Start,
+        place: usize,
+        floor: i64,
+    ) {
+        let price = number_or(&self.best, place, 0);
+        for halves in 0..4u32 {
+            if let Some(own) = self.prices.get_mut(place) {
+                *own = price.wrapping_add(case.most.wrapping_sub(price) >> halves);
+            }
+            if self.sum_from(case, round, start) > floor {
+                self.settle();
+                return;
+            }
+        }
+        self.go_back();
+    }
+
+    /// Raises the best prices for the later part.
+    fn raise(
+        &mut self,
+        alloc: Global,
+        case: &Case<'_>,
+        round: &mut Round,
+        floor: i64,
+    ) -> Result<(), Memory> {
+        let start = Start::new(alloc)?;
+        let steps = case.ways.depth.wrapping_mul(2) / 5;
+        let later = self.later(alloc, case, round, steps)?;
+        self.lean(case, round, &start, &later, floor);
+        round.work(case.ways, &case.summit, &self.best);
+        let _ = round.count(case, &self.best, &start, 192);
+        for place in 0..WIDTH {
+            if number_or(&round.strikes, place, 0) > 0 {
+                self.lift(case, round, &start, place, floor);
+            }
+        }
+        Ok(())
     }
 
     /// The best prices of a voice.
@@ -343,30 +517,71 @@ fn least_case(bids: &[Bid]) -> Option<usize> {
     least
 }
 
-/// Prices of each case, four voices each.
+/// Raises the prices of each case whose sum is within a unit of the least, for the later part.
+fn raise_all(
+    alloc: Global,
+    ways: &Ways,
+    charges: &Charges,
+    bids: &mut [Bid],
+    round: &mut Round,
+    most: i64,
+) -> Result<(), Memory> {
+    let mut least = NONE;
+    for k in 0..bids.len() {
+        if let Some(bid) = bids.get(k) {
+            least = least.min(bid.sum);
+        }
+    }
+    let unit = i64::from(SCALE);
+    let floor = (least.wrapping_add(unit - 1) / unit - 1).wrapping_mul(unit);
+    for k in 0..bids.len() {
+        let case = Case {
+            ways,
+            summit: charges.summit(k),
+            most,
+        };
+        if let Some(bid) = bids.get_mut(k) {
+            if bid.sum < NONE && bid.sum.wrapping_sub(least) <= unit {
+                bid.raise(alloc, &case, round, floor)?;
+            }
+        }
+    }
+    Ok(())
+}
+
+/// Prices of each case, four voices each: the first that were found, or raised ones.
 pub fn find_prices(
     alloc: Global,
     sheet: &Sheet,
     ways: &Ways,
     charges: &Charges,
+    raised: bool,
 ) -> Result<Vec<Prices>, Memory> {
     let most = i64::from(weight(sheet, 20)) * i64::from(SCALE) * FINE;
     let mut round = Round {
         sums: vec![in alloc; NONE; ways.nodes.len().wrapping_mul(2)]?,
         strikes: vec![in alloc; 0i64; WIDTH]?,
     };
+    let start = Start::new(alloc)?;
     let mut bids: Vec<Bid> = Vec::new(alloc);
     for _case in 0..charges.summits.len().min(CASES) {
         bids.push(Bid::new(alloc)?)?;
     }
     for _turn in 0..ROUNDS {
-        let Some(case) = least_case(&bids) else {
+        let Some(k) = least_case(&bids) else {
             break;
         };
-        let summit = charges.summit(case);
-        if let Some(bid) = bids.get_mut(case) {
-            bid.improve(ways, &summit, &mut round, most);
+        let case = Case {
+            ways,
+            summit: charges.summit(k),
+            most,
+        };
+        if let Some(bid) = bids.get_mut(k) {
+            bid.improve(&case, &mut round, &start);
         }
+    }
+    if raised {
+        raise_all(alloc, ways, charges, &mut bids, &mut round, most)?;
     }
     let mut prices = Vec::new(alloc);
     for bid in &bids {

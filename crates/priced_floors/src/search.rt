@@ -25,14 +25,19 @@ use tree_search::{Outcome, search_front};
 /// How many prefixes are opened at most before any price is sought: many an exercise needs no more.
 const FIRST_BUDGET: u32 = 32_768;
 
-/// How many are opened at most by each choice of what is kept, before one has the whole budget.
-const TRIAL_BUDGET: u32 = 32_768;
+/// How many are at most by the floors that keep least. These are made soonest, and often are enough.
+const LEAST_BUDGET: u32 = 262_144;
+
+/// How many are at most by floors whose prices are raised. Where many prefixes have the floor of the best setting, these tell sooner which of
+/// them lead to none.
+const RAISED_BUDGET: u32 = 131_072;
 
 /// Prices for the cases of these charges, where so much is kept; none where there are too many ways.
 fn prices_by(
     alloc: Global,
     space: &SpeciesSpace<'_>,
     keeps: Keeps,
+    raised: bool,
     charges: &Charges,
 ) -> Result<Option<Vec<Prices>>, Memory>
     requires fair { AreFairCharges charges.now space.now.sheet }
@@ -42,18 +47,42 @@ fn prices_by(
 {
     let priced = PricedSpace::new(alloc, space, keeps, charges)?;
     match ways_of(alloc, &priced, charges)? {
-        Some(ways) => Ok(Some(find_prices(alloc, space.sheet(), &ways, charges)?)),
+        Some(ways) => {
+            let prices = find_prices(alloc, space.sheet(), &ways, charges, raised)?;
+            Ok(Some(prices))
+        }
         None => Ok(None),
     }
 }
 
-/// The search by floors for which so much is kept, with these prices and the greatest keys that the species voice may reach.
-fn search_keeping(
+/// The first of these choices of what is kept where there aren't too many ways, and prices for the cases of these charges by them, raised ones
+/// where they are wanted; no prices where there are too many ways at each.
+fn prices_for(
     alloc: Global,
     space: &SpeciesSpace<'_>,
-    keeps: Keeps,
-    prices: &[Prices],
-    keys: &[u8],
+    choices: &[Keeps],
+    raised: bool,
+    charges: &Charges,
+) -> Result<(Keeps, Vec<Prices>), Memory>
+    requires fair { AreFairCharges charges.now space.now.sheet }
+    requires small { AreSmallCharges MOST_CHARGE charges.now }
+    requires scale { charges.now.scale ≡ SCALE }
+    requires few { length charges.now.summits.items ≤ CASES }
+{
+    for keeps in choices {
+        if let Some(prices) = prices_by(alloc, space, *keeps, raised, charges)? {
+            return Ok((*keeps, prices));
+        }
+    }
+    Ok((Keeps::least(), Vec::new(alloc)))
+}
+
+/// The same, by floors that keep the first of these choices where there aren't too many ways.
+fn search_kept(
+    alloc: Global,
+    space: &SpeciesSpace<'_>,
+    choices: &[Keeps],
+    raised: bool,
     budget: u32,
 ) -> Result<Outcome, Memory>
     requires { IsValid space.now.exercise }
@@ -65,16 +94,18 @@ fn search_keeping(
         IfSpent outcome (BoundsLeaves (live_at space.now.exercise space.now.sheet) (columns_in space.now.exercise))) }
     ensures over { IfOk result (λ outcome. IsSpent outcome
         → IsOverBudget (live_at space.now.exercise space.now.sheet) (columns_in space.now.exercise) budget) }
+    ensures agrees { IfOk result (AgreesWithAnswers (live_at space.now.exercise space.now.sheet) (columns_in space.now.exercise)) }
 {
     let voice = space.exercise().species_voice;
-    let charges = Charges::new(alloc, space.sheet(), prices, voice, keys)?;
+    let keys = summit_keys(alloc, space, voice)?;
+    let plain = Charges::new(alloc, space.sheet(), &[], voice, &keys)?;
+    let (keeps, prices) = prices_for(alloc, space, choices, raised, &plain)?;
+    let charges = Charges::new(alloc, space.sheet(), &prices, voice, &keys)?;
     let priced = PricedSpace::new(alloc, space, keeps, &charges)?;
     search_priced(alloc, &priced, budget)
 }
 
-/// The search by such floors. With more that is kept floors are sharper and the web is larger, and prices leave their gaps elsewhere: a search
-/// that is stuck with one choice is often done at once with another. So each choice has a part of the budget first, and then the one that
-/// keeps most, of those that don't have too many ways, has all of it.
+/// The same, by floors that keep the least, then by those that keep most, at first with raised prices.
 fn search_by_prices(alloc: Global, space: &SpeciesSpace<'_>, budget: u32) -> Result<Outcome, Memory>
     requires { IsValid space.now.exercise }
     ensures found { IfOk result (λ outcome.
@@ -85,30 +116,24 @@ fn search_by_prices(alloc: Global, space: &SpeciesSpace<'_>, budget: u32) -> Res
         IfSpent outcome (BoundsLeaves (live_at space.now.exercise space.now.sheet) (columns_in space.now.exercise))) }
     ensures over { IfOk result (λ outcome. IsSpent outcome
         → IsOverBudget (live_at space.now.exercise space.now.sheet) (columns_in space.now.exercise) budget) }
+    ensures agrees { IfOk result (AgreesWithAnswers (live_at space.now.exercise space.now.sheet) (columns_in space.now.exercise)) }
 {
-    let voice = space.exercise().species_voice;
-    let keys = summit_keys(alloc, space, voice)?;
-    let plain = Charges::new(alloc, space.sheet(), &[], voice, &keys)?;
-    let mut bound = 0;
-    let mut most = Keeps::least();
-    let mut its_prices = Vec::new(alloc);
-    for keeps in Keeps::from_least() {
-        if let Some(prices) = prices_by(alloc, space, keeps, &plain)? {
-            let trial = budget.min(TRIAL_BUDGET);
-            match search_keeping(alloc, space, keeps, &prices, &keys, trial)? {
-                Outcome::Spent { bound: other } => bound = bound.max(other),
-                answer => return Ok(answer),
-            }
-            most = keeps;
-            its_prices = prices;
-        }
+    let least = Keeps::least();
+    match search_kept(alloc, space, &[least], false, budget.min(LEAST_BUDGET))? {
+        Outcome::Spent { .. } => {}
+        outcome => return Ok(outcome),
     }
-    match search_keeping(alloc, space, most, &its_prices, &keys, budget)? {
-        Outcome::Spent { bound: other } => Ok(Outcome::Spent {
-            bound: bound.max(other),
-        }),
-        answer => Ok(answer),
+    let most = [
+        Keeps::all(),
+        Keeps::runs_alone(),
+        Keeps::turns_alone(),
+        least,
+    ];
+    match search_kept(alloc, space, &most, true, budget.min(RAISED_BUDGET))? {
+        Outcome::Spent { .. } => {}
+        outcome => return Ok(outcome),
     }
+    search_kept(alloc, space, &most, false, budget)
 }
 
 /// The first leaf of least value, by floors that know of gauges beforehand: of a pitch that is struck often, and of a climax that is struck

@@ -44,6 +44,8 @@ pub struct Ways {
     pub first: Vec<u32>,
     pub steps: Vec<Step>,
     pub notes: Vec<Notes>,
+    /// How many steps a way to the end has.
+    pub depth: usize,
     /// The number of the first node at the end.
     pub end: usize,
     seats: Vec<u32>,
@@ -145,6 +147,7 @@ pub fn ways_of(
         first: Vec::new(alloc),
         steps: Vec::new(alloc),
         notes: Vec::new(alloc),
+        depth: space.depth(),
         end: 0,
         seats: vec![in alloc; 0u32; SEATS]?,
     };
