@@ -18,6 +18,6 @@ pub use book::book_is_lawful;
 pub use clashes::{breaks_clash, is_clash_settled};
 pub use dissonance::Dissonance;
 pub use ligatures::{is_bad_suspension, is_suspended, is_unprepared, resolves};
-pub use passing::{is_cambiata, is_good, is_neighbor, is_passing, starts_in_clash};
+pub use passing::{falls_by_step, is_cambiata, is_good, is_neighbor, is_passing, starts_in_clash};
 pub use rows::{breaks, clash_at_start, cost};
 pub use tolls::{Q1, Q2};

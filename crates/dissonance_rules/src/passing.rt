@@ -45,7 +45,7 @@ pub fn is_neighbor(previous: Option<Pitch>, here: Option<Pitch>, next: Option<Pi
 }
 
 /// Whether there are both pitches, and the second is a step below the first.
-fn falls_by_step(p: Option<Pitch>, q: Option<Pitch>) -> bool
+pub fn falls_by_step(p: Option<Pitch>, q: Option<Pitch>) -> bool
     ensures { result ≡ words.falls_by_step p q }
 {
     match (p, q) {

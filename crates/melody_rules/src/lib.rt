@@ -12,7 +12,8 @@ mod voices;
 mod windows;
 
 pub use gauges::{
-    Climax, Compass, Leaps, Q17, Q18, Q19, Q20, Strikes, is_final_climax, is_narrow, leap_excess,
+    Climax, Compass, Leaps, Q17, Q18, Q19, Q20, Strikes, climax_with, is_final_climax, is_leap_to,
+    is_narrow, leap_excess, leaps_with, place_of,
 };
 pub use melody::{Melody, breaks};
 pub use moves::{leaves_sharp, moves_unmelodically, repeats};

@@ -15,7 +15,7 @@ use rule_law::{
 };
 
 /// Whether a cell that starts a note starts one within two degrees of the pitch.
-fn stays_near(p: Option<Pitch>, cell: Cell) -> bool
+pub fn stays_near(p: Option<Pitch>, cell: Cell) -> bool
     ensures { result ≡ words.stays_near p cell }
 {
     match (p, cell) {
@@ -51,7 +51,7 @@ fn never_leaves(bar_line: &[Cell], v: usize, cells: &[Cell]) -> bool
 }
 
 /// Whether there are both pitches, and they differ.
-fn differ(p: Option<Pitch>, q: Option<Pitch>) -> bool
+pub fn differ(p: Option<Pitch>, q: Option<Pitch>) -> bool
     ensures { result ≡ terms.differs p q }
 {
     match (p, q) {

@@ -10,7 +10,7 @@ mod rows;
 mod runs;
 mod tolls;
 
-pub use afterbeats::breaks_afterbeat;
+pub use afterbeats::{breaks_afterbeat, differ, stays_near};
 pub use book::book_is_lawful;
 pub use clear::are_clear;
 pub use inner_voices::inner_moves;

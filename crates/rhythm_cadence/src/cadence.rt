@@ -18,7 +18,7 @@ use fux_pitch::Pitch;
 use rule_law::{ColumnsAround, cell_around, interval_in, is_leading, lies_above};
 
 /// The slot of the last bar but one on which the leading note starts, by the voice's species.
-fn leading_slot(species: u8) -> usize
+pub fn leading_slot(species: u8) -> usize
     ensures value { result ≡ words.leading_slot species }
     ensures bound { result < 8 }
 {
@@ -50,7 +50,7 @@ fn is_lead(ex: &Exercise, last: Option<Pitch>, lead: Option<Pitch>) -> bool
 }
 
 /// Whether a voice lies a seventh above the cantus, or a second below it, but for octaves.
-fn is_suspended(ex: &Exercise, column: &[Cell], v: u8) -> bool
+pub fn is_suspended(ex: &Exercise, column: &[Cell], v: u8) -> bool
     ensures { result ≡ words.is_suspended ex.now column.now v }
 {
     let wanted = if ex.cantus_voice < v { 6 } else { 1 };
@@ -61,7 +61,7 @@ fn is_suspended(ex: &Exercise, column: &[Cell], v: u8) -> bool
 }
 
 /// Whether the leading note of a species is prepared by a suspension.
-fn has_suspension(species: u8) -> bool
+pub fn has_suspension(species: u8) -> bool
     ensures { result ≡ words.has_suspension species }
 {
     species == 4 || species == 5

@@ -24,7 +24,7 @@ fn starts_quaver<C: ColumnsAround>(around: &C, ex: &Exercise, i: usize, v: u8) -
 }
 
 /// Whether there are both notes, and one is a step from the other.
-fn is_step_apart(p: Option<Pitch>, q: Option<Pitch>) -> bool
+pub fn is_step_apart(p: Option<Pitch>, q: Option<Pitch>) -> bool
     ensures { result ≡ words.is_step_apart p q }
 {
     match (p, q) {

@@ -24,8 +24,8 @@ pub struct Climax {
 #[derive(Clone, Copy, Debug, PartialEq, Eq)]
 pub struct Q17;
 
-/// With one note more.
-fn with_note(kept: Climax, pitch: Pitch) -> Climax
+/// What is kept of the climax with one note more.
+pub fn climax_with(kept: Climax, pitch: Pitch) -> Climax
     ensures { (ps : List APitch) → length ps < 192 → IsClimaxOf ps kept →
         IsClimaxOf (pitch ∷ ps) result }
 {
@@ -103,7 +103,7 @@ impl Gauge for Q17 {
 
     fn step(&self, _ex: &Exercise, _v: u8, _i: usize, s: Climax, c: Cell) -> Climax {
         match c {
-            Cell::Start(pitch) => with_note(s, pitch),
+            Cell::Start(pitch) => climax_with(s, pitch),
             Cell::Hold(_) => s,
             Cell::Rest => s,
         }

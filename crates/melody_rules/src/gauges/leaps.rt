@@ -24,8 +24,8 @@ pub struct Leaps {
 #[derive(Clone, Copy, Debug, PartialEq, Eq)]
 pub struct Q19;
 
-/// Whether a note is entered by a leap.
-fn is_leap_to(last: Option<Pitch>, pitch: Pitch) -> bool
+/// Whether a note is entered by a leap from the one before it, where there is one.
+pub fn is_leap_to(last: Option<Pitch>, pitch: Pitch) -> bool
     ensures { result ≡ terms.holds_of terms.is_leap (terms.interval_of_pitches last (Some pitch)) }
 {
     match last {
@@ -34,8 +34,8 @@ fn is_leap_to(last: Option<Pitch>, pitch: Pitch) -> bool
     }
 }
 
-/// With one note more.
-fn with_note(kept: Leaps, pitch: Pitch) -> Leaps
+/// What is kept of the leaps with one note more.
+pub fn leaps_with(kept: Leaps, pitch: Pitch) -> Leaps
     ensures { (ps : List APitch) → length ps < 192 → IsLeapsOf ps kept →
         IsLeapsOf (pitch ∷ ps) result }
 {
@@ -86,7 +86,7 @@ impl Gauge for Q19 {
 
     fn step(&self, _ex: &Exercise, _v: u8, _i: usize, s: Leaps, c: Cell) -> Leaps {
         match c {
-            Cell::Start(pitch) => with_note(s, pitch),
+            Cell::Start(pitch) => leaps_with(s, pitch),
             Cell::Hold(_) => s,
             Cell::Rest => s,
         }

@@ -22,8 +22,8 @@ pub struct Strikes {
 #[derive(Clone, Copy, Debug, PartialEq, Eq)]
 pub struct Q20;
 
-/// The place of a pitch among all of them.
-fn place_of(p: Pitch) -> usize
+/// The place of a pitch among all of them, by degree and alteration.
+pub fn place_of(p: Pitch) -> usize
     ensures value { result ≡ place_in p }
     ensures bound { result < 147 }
 {

@@ -8,9 +8,9 @@ use Rattle.melody_rules.proofs.gauges.leaps.Q19Gauge.step.Goals as goal
 
 pub returns-in-Start : goal.returns-in-Start
 returns-in-Start c = λ cells here r.
-    let P : Cell → Type 0 = λ d. IsLeapsOf (pitches (d ∷ cells)) c.with_note.result in
+    let P : Cell → Type 0 = λ d. IsLeapsOf (pitches (d ∷ cells)) c.leaps_with.result in
     subst P (sym c.in-Start.is)
-    (c.with_note.ensures (pitches cells) (omega
+    (c.leaps_with.ensures (pitches cells) (omega
     (arith, length-pitches cells, here, c.requires.place, c.requires.valid.most_bars)) r)
 
 pub returns-in-Hold : goal.returns-in-Hold

@@ -4,7 +4,7 @@ use Rattle.rule_law.specs.Terms.{holds_of, interval_of_pitches, is_leap}
 use Rattle.rule_law.proofs.MenuStarts.{as_number-bound}
 use Rattle.melody_rules.specs.Rows.{last_of}
 use Rattle.melody_rules.proofs.GaugeLemmas.{leaps-bound}
-use Rattle.melody_rules.proofs.gauges.leaps.with_note.Goals as goal
+use Rattle.melody_rules.proofs.gauges.leaps.leaps_with.Goals as goal
 
 pub returns : goal.returns
 returns c = λ ps few r.

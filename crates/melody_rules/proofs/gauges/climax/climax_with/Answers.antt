@@ -1,7 +1,7 @@
 use Rattle.std.proofs.Common.{◌≡◌, ℕ, ◌+◌, ◌∷◌, arith, subst, sym}
 use Rattle.melody_rules.specs.GaugeParts.{IsClimaxOf}
 use Rattle.melody_rules.proofs.GaugeLemmas.{climax-bound, climax_again, climax_new, climax_under}
-use Rattle.melody_rules.proofs.gauges.climax.with_note.Goals as goal
+use Rattle.melody_rules.proofs.gauges.climax.climax_with.Goals as goal
 
 pub returns-then-key-kept : goal.returns-then-key-kept
 returns-then-key-kept c = λ ps few r. climax_new c.args.pitch ps c.semitone-key.result c.args.kept
