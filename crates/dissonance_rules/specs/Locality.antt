@@ -1,12 +1,10 @@
--- The readings of the rules and tolls are local, and two neighbors decide S11, S14, Q1 and Q2.
+-- The readings of the rules and tolls are local.
 use Rattle.std.specs.Prelude.{◌≡◌, ℕ, ◌+◌, ◌^◌, ◌==◌, Bool, true, false, ◌&&◌, nat_lt, IsTrue, List, ◌++◌, Option, Some, None, refl}
 use Rattle.std.proofs.Common.{◌∙◌, ap, sym, subst}
 use Rattle.std.proofs.lemmas.Bool.{cond_both, eqb-true}
 use Rattle.fux_grid.specs.declared.cell.Cell.{Cell}
 use Rattle.fux_grid.specs.declared.exercise.Exercise.{Exercise}
-use Rattle.rule_law.specs.BothLaw.{RuleReading, AreLocal, SettleAtEnd}
 use Rattle.rule_law.specs.Law.{at_once_settles, local_from_row}
-use Rattle.rule_law.specs.NearLaw.{IsNear, near_from_whole}
 use Rattle.rule_law.specs.Places.{IsLocal, SettlesAtEnd, reading_of, settled_by}
 use Rattle.rule_law.specs.Voices.{has_rule, holds_of_pair, on_pair, pair_of}
 use Rattle.dissonance_rules.specs.Book.{at_once_row, is_late, late_row, rule_row}
@@ -14,25 +12,6 @@ use Rattle.dissonance_rules.specs.ClashLaws.{IsAtOnce, ahead_settles_at_end, by_
 use Rattle.dissonance_rules.specs.Clashes.{clash_enough, clash_row, pair_rule}
 use Rattle.dissonance_rules.specs.MixedLaws.{excuse_is_local}
 use Rattle.dissonance_rules.specs.Rows.{broken_in, cost_enough, cost_in, enough_after, near_rows, toll_rows}
-
--- the bits of the rules 11, 14, 15, 19, 20, 21, 27 and 28
-abbrev pub rule_bits : ℕ
-rule_bits = 2 ^ 11 + 2 ^ 14 + 2 ^ 15 + 2 ^ 19 + 2 ^ 20 + 2 ^ 21 + 2 ^ 27 + 2 ^ 28
-
--- the bits of those that neighbors decide
-abbrev pub near_bits : ℕ
-near_bits = 2 ^ 11 + 2 ^ 14
-
--- the bits of the tolls 1 and 2
-abbrev pub toll_bits : ℕ
-toll_bits = 2 ^ 1 + 2 ^ 2
-
--- whether a rule is broken at a place of a list, and whether that is settled
-abbrev pub dissonance_breaks : RuleReading
-dissonance_breaks rule ex voices = reading_of ((rule_row rule).broken ex voices)
-
-abbrev pub dissonance_settles : RuleReading
-dissonance_settles rule ex voices = settled_by ((rule_row rule).enough ex voices)
 
 -- S11 and S14
 pub at_once_is_local : (rule : ℕ) (ex : Exercise) (voices : ℕ)
@@ -78,50 +57,9 @@ clash_settles_at_end rule ex voices =
     (λ r at_once. rw (at_once.no_passing, at_once.no_excuse, at_once.no_resolution, at_once.no_disturbance)
     (at_once_settles ex)) rule
 
-pub dissonance_is_local : AreLocal dissonance_breaks dissonance_settles
-dissonance_is_local rule ex voices =
-    cond_both (is_late rule) (late_row rule) (at_once_row rule)
-    (λ row. IsLocal ex (reading_of (row.broken ex voices)) (settled_by (row.enough ex voices)))
-    (λ _. clash_is_local rule ex voices) (λ _. at_once_is_local rule ex voices)
-
-pub dissonance_settles_at_end : SettleAtEnd dissonance_settles
-dissonance_settles_at_end rule ex voices =
-    cond_both (is_late rule) (late_row rule) (at_once_row rule)
-    (λ row. SettlesAtEnd ex (settled_by (row.enough ex voices)))
-    (λ _. clash_settles_at_end rule ex voices) (λ _. at_once_settles ex)
-
--- no rule that neighbors decide is late
-near_is_no_late : (rule : ℕ) → IsTrue (has_rule near_bits rule) → is_late rule ≡ false
-near_is_no_late rule h =
-    at (rule == 15) (rule == 19) (rule == 20) (rule == 21) (rule == 27) (rule == 28) refl refl refl refl refl refl
-  where
-    no : (n : ℕ) → rule ≡ n → has_rule near_bits n ≡ false → is_late rule ≡ false
-    no n same none =
-        let P : ℕ → Type 0 = λ r. IsTrue (has_rule near_bits r) in
-        let t : true ≡ false = sym (subst P same h) ∙ none in cc
-
-    at : (a b c d x y : Bool) → (rule == 15) ≡ a → (rule == 19) ≡ b → (rule == 20) ≡ c → (rule == 21) ≡ d
-        → (rule == 27) ≡ x → (rule == 28) ≡ y → is_late rule ≡ false
-    at true b c d x y e f g k l m = no 15 (eqb-true rule 15 e) refl
-    at false true c d x y e f g k l m = no 19 (eqb-true rule 19 f) refl
-    at false false true d x y e f g k l m = no 20 (eqb-true rule 20 g) refl
-    at false false false true x y e f g k l m = no 21 (eqb-true rule 21 k) refl
-    at false false false false true y e f g k l m = no 27 (eqb-true rule 27 l) refl
-    at false false false false false true e f g k l m = no 28 (eqb-true rule 28 m) refl
-    at false false false false false false e f g k l m = rw (e, f, g, k, l, m) refl
-
-pub dissonance_is_near : (rule : ℕ) (ex : Exercise) (voices : ℕ) → IsTrue (has_rule near_bits rule)
-    → IsNear ex (dissonance_breaks rule ex voices) (near_rows rule ex voices)
-dissonance_is_near rule ex voices h =
-    rw (near_is_no_late rule h) (near_from_whole ex (near_rows rule ex voices))
-
--- the same of a toll
 pub cost_is_local : (toll : ℕ) (ex : Exercise)
     → IsLocal ex (reading_of (cost_in toll ex)) (settled_by (cost_enough toll ex))
 cost_is_local toll ex = local_from_row ex (cost_in toll ex) (cost_enough toll ex) (λ i behind now ahead t h. refl)
 
 pub cost_settles_at_end : (toll : ℕ) (ex : Exercise) → SettlesAtEnd ex (settled_by (cost_enough toll ex))
 cost_settles_at_end toll ex = at_once_settles ex
-
-pub cost_is_near : (toll : ℕ) (ex : Exercise) → IsNear ex (reading_of (cost_in toll ex)) (toll_rows toll ex)
-cost_is_near toll ex = near_from_whole ex (toll_rows toll ex)

@@ -11,7 +11,6 @@ mod mixed;
 mod passing;
 mod rows;
 mod told;
-mod tolls;
 
 pub use apart::are_apart;
 pub use book::book_is_lawful;
@@ -20,4 +19,3 @@ pub use dissonance::Dissonance;
 pub use ligatures::{is_bad_suspension, is_suspended, is_unprepared, resolves};
 pub use passing::{falls_by_step, is_cambiata, is_good, is_neighbor, is_passing, starts_in_clash};
 pub use rows::{breaks, clash_at_start, cost};
-pub use tolls::{Q1, Q2};

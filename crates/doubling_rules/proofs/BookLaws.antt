@@ -14,8 +14,8 @@ use Rattle.rule_law.specs.Rulebooks.{KeepsLaws, KeepsRuleLaws, KeepsTollLaws}
 use Rattle.rule_law.specs.Terms.{sounds}
 use Rattle.rule_law.specs.Voices.{on_pair}
 use Rattle.doubling_rules.specs.Book.{book, may_cost, rule_row, toll_row}
-use Rattle.doubling_rules.specs.Locality.{cost_is_local, cost_settles_at_end, doubling_is_local, doubling_settles_at_end}
-use Rattle.doubling_rules.specs.Rows.{cost_of_column, count_thirds, double_leading, doubles_third, is_before_last_bar, lacks_third, sounds_leading, straying_notes, wide_pairs}
+use Rattle.doubling_rules.specs.Rows.{cost_of_column, count_thirds, double_leading, doubles_third, is_before_last_bar, lacks_third, sounds_leading, straying_notes, wide_pairs, broken_in, cost_enough, cost_in, enough_after}
+use Rattle.rule_law.specs.Law.{at_once_settles, local_from_row}
 
 -- in no bar but the one before the last is S23 broken
 elsewhere : (ex : Exercise) (voices i : ℕ) (now : List Cell)
@@ -42,9 +42,10 @@ free n ex i now = at (n == 3) (n == 4) (n == 5)
 
 pub rules_keep : (n : ℕ) → KeepsRuleLaws (rule_row n)
 rules_keep n = record {
-  local = doubling_is_local n;
+  local = λ ex voices. local_from_row ex (broken_in n ex voices) (enough_after n ex voices)
+      (λ i behind now ahead t h. refl);
   stays = λ ex voices i behind now ahead t h. refl;
-  ends = doubling_settles_at_end n;
+  ends = λ ex voices. at_once_settles ex;
   form = λ ex i behind now ahead. pair_form ex (double_leading ex i now);
   stands = λ ex voices i behind now e. cc;
   at_once = λ e. cc;
@@ -56,9 +57,9 @@ rules_keep n = record {
 
 pub tolls_keep : (n : ℕ) → KeepsTollLaws (toll_row n)
 tolls_keep n = record {
-  local = cost_is_local n;
+  local = λ ex. local_from_row ex (cost_in n ex) (cost_enough n ex) (λ i behind now ahead t h. refl);
   stays = λ ex i behind now ahead t h. refl;
-  ends = cost_settles_at_end n;
+  ends = λ ex. at_once_settles ex;
   at_once = λ e. cc;
   quiet = λ e. cc;
   places = λ e ex p col i on h. costs_where_it_may (toll_row n) ex (λ i behind now ahead. refl) p col

@@ -4,7 +4,6 @@
 mod book;
 mod doubling;
 mod rows;
-mod tolls;
 
 pub use book::book_is_lawful;
 pub use doubling::Doubling;
@@ -12,4 +11,3 @@ pub use rows::{
     double_leading, doubles_third, doubling_breaks, doubling_cost, lacks_third, straying_notes,
     wide_pairs,
 };
-pub use tolls::{Q3, Q4, Q5, Q6};

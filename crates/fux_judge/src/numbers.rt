@@ -8,7 +8,7 @@ ghost use Rattle.fux_judge.specs.Links as links;
 ghost use Rattle.fux_judge.specs.Links.{is_rule_between, is_toll_between};
 ghost use Rattle.fux_judge.specs.Kept.{rules_at_a_bar, rules_at_the_end, rules_within_bars};
 ghost use Rattle.fux_judge.specs.Rules as rules;
-ghost use Rattle.fux_judge.specs.Rules.{all_rules, all_sets, is_late, is_late_toll, late_rules, late_tolls, rules_at_once, rules_read, tolls_read};
+ghost use Rattle.fux_judge.specs.Rules.{all_rules, all_sets, is_late, late_rules, rules_at_once, rules_read, tolls_read};
 
 use fux_grid::GREATEST_MIXED_RULE;
 
@@ -41,9 +41,6 @@ const COLUMN_RULES: [u8; 6] = [10, 11, 13, 14, 23, 24];
 
 /// All tolls that are read.
 const TOLLS: [u8; 16] = [1, 2, 3, 4, 5, 6, 7, 8, 9, 10, 11, 12, 13, 14, 15, 16];
-
-/// The tolls that are late.
-const LATE_TOLLS: [u8; 8] = [3, 4, 5, 6, 12, 14, 15, 16];
 
 /// The tolls that a column decides by itself.
 const COLUMN_TOLLS: [u8; 7] = [1, 2, 3, 4, 5, 6, 15];
@@ -131,16 +128,6 @@ pub fn every_toll() -> &'static [u8]
     ensures few { length result.now ≤ 20 }
 {
     &TOLLS
-}
-
-/// The tolls that are late.
-#[tactic(auto, unfolding(crate::specs::Rules::late_tolls, crate::specs::Rules::tolls_read, crate::specs::Rules::toll_at))]
-pub(crate) fn every_late_toll() -> &'static [u8]
-    ensures value { result.now ≡ late_tolls }
-    ensures numbers { IsTrue (list_all (λ toll. nat_le 1 toll && (nat_le toll 20 && is_late_toll toll)) result.now) }
-    ensures few { length result.now ≤ 10 }
-{
-    &LATE_TOLLS
 }
 
 /// The tolls that a column decides by itself.

@@ -5,7 +5,6 @@ pub mod GaugeParts
 pub mod Gauges
 pub mod Held
 pub mod Keys
-pub mod Locality
 pub mod Notes
 pub mod Rows
 pub mod Smooth

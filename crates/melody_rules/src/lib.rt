@@ -19,7 +19,7 @@ pub use melody::{Melody, breaks};
 pub use moves::{leaves_sharp, moves_unmelodically, repeats};
 pub use notes::{VoiceNotes, breaks_after, leap_open_after, noted, notes_before, silent};
 pub use smooth::{are_smooth, is_smooth_in};
-pub use tolls::{Q7, Q8, Q9, Q10, Q13, cost, toll_of_move};
+pub use tolls::{cost, toll_of_move};
 pub use voices::{
     all_noted, all_notes_before, all_silent, breaks_looking_back, latest_of_notes, open_leaps,
 };

@@ -1,18 +1,14 @@
-//! The rules of melody as one.
+//! The crate of rules, and its rules of one voice.
 
 ghost use Rattle.std.specs.Prelude.{◌≡◌, ◌<◌, length};
 ghost use Rattle.rule_law.specs.Places.{reading_of};
-ghost use Rattle.melody_rules.specs.Locality as law;
 ghost use Rattle.melody_rules.specs.Rows as rows;
 
 use crate::moves::{leaves_sharp, moves_unmelodically, repeats};
 use crate::notes::{breaks_after, notes_before};
-use crate::tolls::cost;
-use fux_grid::{Cell, Column, Exercise, Score, VoiceSet, cell_of, species_of};
+use fux_grid::{Cell, Exercise, Score, VoiceSet, cell_of, species_of};
 use fux_pitch::Pitch;
-use rule_law::{
-    Latest, Near, Rule, RuleCrate, RuleSet, cells_of, is_free, latest_of_column, starts, voice_of,
-};
+use rule_law::{Latest, is_free, starts, voice_of};
 
 /// A rule of neighbors for one voice.
 #[inline(always)]
@@ -89,97 +85,6 @@ pub(crate) fn breaks_in_score(
     }
 }
 
-/// The rules S4 to S9 and S26.
+/// The rules S4 to S9 and S26, and the tolls Q7 to Q10 and Q13.
 #[derive(Clone, Copy, Debug, PartialEq, Eq)]
 pub struct Melody;
-
-impl Rule for Melody {
-    ghost covered = { λ _. law.covered_bits };
-
-    ghost breaks = { λ _. law.melody_breaks };
-
-    ghost settles = { λ _. law.melody_settles };
-
-    ghost local = { λ _. law.melody_is_local };
-
-    ghost ends = { λ _. law.melody_settles_at_end };
-
-    fn covers(&self) -> RuleSet {
-        RuleSet {
-            bits: 1 << 4 | 1 << 5 | 1 << 6 | 1 << 7 | 1 << 8 | 1 << 9 | 1 << 26,
-        }
-    }
-
-    fn broken(&self, rule: u8, ex: &Exercise, score: &Score, i: usize, voices: VoiceSet) -> bool {
-        Melody::broken_in(rule, ex, score, i, voices)
-    }
-
-    fn settled(
-        &self,
-        _rule: u8,
-        _ex: &Exercise,
-        _prefix: &Score,
-        _i: usize,
-        _voices: VoiceSet,
-    ) -> bool {
-        true
-    }
-}
-
-impl Near for Melody {
-    ghost near_rules = { λ _. law.near_bits };
-
-    ghost near_tolls = { λ _. law.toll_bits };
-
-    ghost row = { λ _. rows.near_rows };
-
-    ghost charged = { λ _ toll ex. reading_of (rows.cost_in toll ex) };
-
-    ghost toll_row = { λ _. rows.toll_rows };
-
-    ghost rules_agree = { λ _. law.melody_is_near };
-
-    ghost tolls_agree = { λ _. law.melody_tolls_are_near };
-
-    fn rules(&self) -> RuleSet {
-        RuleSet {
-            bits: 1 << 4 | 1 << 5 | 1 << 26,
-        }
-    }
-
-    fn tolls(&self) -> RuleSet {
-        RuleSet {
-            bits: 1 << 7 | 1 << 8 | 1 << 9 | 1 << 10,
-        }
-    }
-
-    fn broken_near(
-        &self,
-        rule: u8,
-        ex: &Exercise,
-        i: usize,
-        prev: Option<&Column>,
-        next: &Column,
-        voices: VoiceSet,
-    ) -> bool {
-        let before = cells_of(prev);
-        let latest = latest_of_column(before);
-        breaks(rule, ex, voices, i, before, &latest, next.as_slice())
-    }
-
-    fn cost_near(
-        &self,
-        toll: u8,
-        ex: &Exercise,
-        i: usize,
-        prev: Option<&Column>,
-        next: &Column,
-    ) -> u32 {
-        if !self.tolls().has(toll) {
-            return 0;
-        }
-        let before = cells_of(prev);
-        let latest = latest_of_column(before);
-        cost(toll, ex, i, before, &latest, next.as_slice())
-    }
-}

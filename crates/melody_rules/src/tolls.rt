@@ -3,16 +3,14 @@
 ghost use Rattle.std.specs.Prelude.{◌≡◌, ◌<◌, ◌≤◌, ℕ, IfSome, length};
 ghost use Rattle.fux_grid.specs.Cells.{cell_in};
 ghost use Rattle.rule_law.specs.Terms.{is_this};
-ghost use Rattle.rule_law.specs.Places.{reading_of, settled_by};
+ghost use Rattle.rule_law.specs.Places.{reading_of};
 ghost use Rattle.rule_law.specs.Nearby.{pitch_at, whole_of};
-ghost use Rattle.melody_rules.specs.Locality as law;
 ghost use Rattle.melody_rules.specs.Rows as rows;
 
-use crate::melody::Melody;
 use crate::voices::{all_notes_before, open_leaps};
 use fux_grid::{Cell, Exercise, Score, cell_of};
 use fux_pitch::{Interval, Pitch};
-use rule_law::{Latest, RuleCrate, Toll, is_free, is_repetition, latest_before, move_from};
+use rule_law::{Latest, is_free, is_repetition, latest_before, move_from};
 
 /// Whether a toll stands for a move.
 #[inline]
@@ -113,144 +111,4 @@ pub(crate) fn open_leaps_in_score(ex: &Exercise, score: &Score, i: usize) -> u32
     ensures { result ≡ reading_of (rows.open_leaps ex.now) score.now.columns i }
 {
     open_leaps(ex, &all_notes_before(score, i), score.column(i).as_slice())
-}
-
-/// Repetitions.
-#[derive(Clone, Copy, Debug, PartialEq, Eq)]
-pub struct Q7;
-
-impl Toll for Q7 {
-    ghost numbered = { λ _. 7 };
-
-    ghost charges = { λ _ ex. reading_of (rows.cost_in 7 ex) };
-
-    ghost settles = { λ _ ex. settled_by (rows.cost_enough 7 ex) };
-
-    ghost local = { λ _. law.melody_tolls_are_local 7 };
-
-    ghost ends = { λ _. law.melody_tolls_settle_at_end 7 };
-
-    fn number(&self) -> u8 {
-        7
-    }
-
-    fn cost(&self, ex: &Exercise, score: &Score, i: usize) -> u32 {
-        Melody::cost_in(7, ex, score, i)
-    }
-
-    fn settled(&self, _ex: &Exercise, _prefix: &Score, _i: usize) -> bool {
-        true
-    }
-}
-
-/// Moves by a third.
-#[derive(Clone, Copy, Debug, PartialEq, Eq)]
-pub struct Q8;
-
-impl Toll for Q8 {
-    ghost numbered = { λ _. 8 };
-
-    ghost charges = { λ _ ex. reading_of (rows.cost_in 8 ex) };
-
-    ghost settles = { λ _ ex. settled_by (rows.cost_enough 8 ex) };
-
-    ghost local = { λ _. law.melody_tolls_are_local 8 };
-
-    ghost ends = { λ _. law.melody_tolls_settle_at_end 8 };
-
-    fn number(&self) -> u8 {
-        8
-    }
-
-    fn cost(&self, ex: &Exercise, score: &Score, i: usize) -> u32 {
-        Melody::cost_in(8, ex, score, i)
-    }
-
-    fn settled(&self, _ex: &Exercise, _prefix: &Score, _i: usize) -> bool {
-        true
-    }
-}
-
-/// Moves by a fourth or a fifth.
-#[derive(Clone, Copy, Debug, PartialEq, Eq)]
-pub struct Q9;
-
-impl Toll for Q9 {
-    ghost numbered = { λ _. 9 };
-
-    ghost charges = { λ _ ex. reading_of (rows.cost_in 9 ex) };
-
-    ghost settles = { λ _ ex. settled_by (rows.cost_enough 9 ex) };
-
-    ghost local = { λ _. law.melody_tolls_are_local 9 };
-
-    ghost ends = { λ _. law.melody_tolls_settle_at_end 9 };
-
-    fn number(&self) -> u8 {
-        9
-    }
-
-    fn cost(&self, ex: &Exercise, score: &Score, i: usize) -> u32 {
-        Melody::cost_in(9, ex, score, i)
-    }
-
-    fn settled(&self, _ex: &Exercise, _prefix: &Score, _i: usize) -> bool {
-        true
-    }
-}
-
-/// Moves by a sixth or more.
-#[derive(Clone, Copy, Debug, PartialEq, Eq)]
-pub struct Q10;
-
-impl Toll for Q10 {
-    ghost numbered = { λ _. 10 };
-
-    ghost charges = { λ _ ex. reading_of (rows.cost_in 10 ex) };
-
-    ghost settles = { λ _ ex. settled_by (rows.cost_enough 10 ex) };
-
-    ghost local = { λ _. law.melody_tolls_are_local 10 };
-
-    ghost ends = { λ _. law.melody_tolls_settle_at_end 10 };
-
-    fn number(&self) -> u8 {
-        10
-    }
-
-    fn cost(&self, ex: &Exercise, score: &Score, i: usize) -> u32 {
-        Melody::cost_in(10, ex, score, i)
-    }
-
-    fn settled(&self, _ex: &Exercise, _prefix: &Score, _i: usize) -> bool {
-        true
-    }
-}
-
-/// Leaps of a fourth or more that no step the other way follows.
-#[derive(Clone, Copy, Debug, PartialEq, Eq)]
-pub struct Q13;
-
-impl Toll for Q13 {
-    ghost numbered = { λ _. 13 };
-
-    ghost charges = { λ _ ex. reading_of (rows.cost_in 13 ex) };
-
-    ghost settles = { λ _ ex. settled_by (rows.cost_enough 13 ex) };
-
-    ghost local = { λ _. law.melody_tolls_are_local 13 };
-
-    ghost ends = { λ _. law.melody_tolls_settle_at_end 13 };
-
-    fn number(&self) -> u8 {
-        13
-    }
-
-    fn cost(&self, ex: &Exercise, score: &Score, i: usize) -> u32 {
-        Melody::cost_in(13, ex, score, i)
-    }
-
-    fn settled(&self, _ex: &Exercise, _prefix: &Score, _i: usize) -> bool {
-        true
-    }
 }

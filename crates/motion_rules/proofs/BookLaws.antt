@@ -6,18 +6,18 @@ use Rattle.fux_grid.specs.declared.exercise.Exercise.{Exercise}
 use Rattle.fux_grid.specs.Columns.{newest_column}
 use Rattle.rule_law.proofs.AtOnce.{breaks_where_it_may, costs_where_it_may, own_within}
 use Rattle.rule_law.specs.Forms.{IsOf, pair_form, pair_sets_of}
-use Rattle.rule_law.specs.Nearby.{previous_pitches}
+use Rattle.rule_law.specs.Nearby.{previous_pitches, whole_of}
 use Rattle.rule_law.specs.Law.{at_once_settles, local_from_row}
 use Rattle.rule_law.specs.Pairs.{count_pairs}
 use Rattle.rule_law.specs.Rulebooks.{KeepsLaws, KeepsRuleLaws, KeepsTollLaws}
 use Rattle.motion_rules.specs.Afterbeats.{afterbeat_enough, afterbeat_row}
-use Rattle.motion_rules.specs.InnerVoices.{inner_move_into_perfect}
-use Rattle.motion_rules.specs.Locality.{cost_is_local, cost_settles_at_end, inner_is_local, inner_settles_at_end, run_is_local, run_settles_at_end}
+use Rattle.motion_rules.specs.InnerVoices.{inner_move_into_perfect, inner_toll}
 use Rattle.motion_rules.proofs.AfterbeatLemmas.{elsewhere, within_a_bar}
 use Rattle.motion_rules.proofs.Quiet.{quiet_rows, quiet_tolls}
-use Rattle.motion_rules.specs.Rows.{broken_in, enough_after}
-use Rattle.motion_rules.specs.Runs.{ends_four_bars, four_bar_lines, imperfect_runs, keep_on}
+use Rattle.motion_rules.specs.Rows.{broken_in, enough_after, cost_enough, cost_in}
+use Rattle.motion_rules.specs.Runs.{ends_four_bars, four_bar_lines, imperfect_runs, keep_on, run_toll}
 use Rattle.motion_rules.specs.Book.{at_once_row, at_once_toll, book, inner_row, is_late, late_row, may_be_bare, rule_row, run_row, toll_row}
+use Rattle.rule_law.specs.Places.{at_once}
 
 rule_form : (n : ℕ) (ex : Exercise) (i : ℕ) (behind : List (List Cell)) (now : List Cell) (ahead : List (List Cell))
     → IsOf (pair_sets_of ex.voices) (λ voices. broken_in n ex voices i behind now ahead)
@@ -72,9 +72,9 @@ two_voices ex before now h = rw h refl
 
 inner_keeps : KeepsTollLaws inner_row
 inner_keeps = record {
-  local = inner_is_local;
+  local = λ ex. local_from_row ex (whole_of (inner_toll ex)) at_once (λ i behind now ahead t h. refl);
   stays = λ ex i behind now ahead t h. refl;
-  ends = inner_settles_at_end;
+  ends = λ ex. at_once_settles ex;
   at_once = λ e. cc;
   quiet = λ e. cc;
   places = λ e ex p col i on h. costs_where_it_may inner_row ex (λ i behind now ahead. refl) p col
@@ -89,9 +89,9 @@ no_runs i behind now h = ap (λ b. if b then count_pairs (keep_on (four_bar_line
 
 run_keeps : KeepsTollLaws run_row
 run_keeps = record {
-  local = run_is_local;
+  local = λ ex. local_from_row ex (run_toll ex) at_once (λ i behind now ahead t h. refl);
   stays = λ ex i behind now ahead t h. refl;
-  ends = run_settles_at_end;
+  ends = λ ex. at_once_settles ex;
   at_once = λ e. cc;
   quiet = λ e. cc;
   places = λ e ex p col i on h. costs_where_it_may run_row ex (λ i behind now ahead. refl) p col
@@ -101,9 +101,9 @@ run_keeps = record {
 
 tolls_at_once_keep : (n : ℕ) → KeepsTollLaws (at_once_toll n)
 tolls_at_once_keep n = record {
-  local = cost_is_local n;
+  local = λ ex. local_from_row ex (cost_in n ex) (cost_enough n ex) (λ i behind now ahead t h. refl);
   stays = λ ex i behind now ahead t h. refl;
-  ends = cost_settles_at_end n;
+  ends = λ ex. at_once_settles ex;
   at_once = λ e ex i behind now ahead. refl;
   quiet = λ e ex i behind now h. quiet_tolls ex i now h n (newest_column behind) (previous_pitches behind);
   places = λ e. cc;

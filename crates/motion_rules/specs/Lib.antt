@@ -2,6 +2,5 @@ pub mod Afterbeats
 pub mod Book
 pub mod Clear
 pub mod InnerVoices
-pub mod Locality
 pub mod Rows
 pub mod Runs

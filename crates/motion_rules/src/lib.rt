@@ -8,7 +8,6 @@ mod inner_voices;
 mod motion;
 mod rows;
 mod runs;
-mod tolls;
 
 pub use afterbeats::{breaks_afterbeat, differ, stays_near};
 pub use book::book_is_lawful;
@@ -17,4 +16,3 @@ pub use inner_voices::inner_moves;
 pub use motion::Motion;
 pub use rows::{breaks, cost, cross, move_in_parallel};
 pub use runs::{imperfect_runs, sound_imperfect};
-pub use tolls::{Q11, Q12, Q14};

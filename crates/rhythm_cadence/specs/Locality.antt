@@ -1,4 +1,4 @@
--- The laws of these rules: what is settled stays, everything is settled at the end, and neighbors decide S12, S13 and S24.
+-- The laws of these rules: what is settled stays, and everything is settled at the end.
 use Rattle.std.specs.Prelude.{◌≡◌, ℕ, ◌+◌, ◌-◌, ◌*◌, ◌%◌, ◌^◌, ◌<◌, ◌≤◌, ◌==◌, Bool, true, false, not, ◌&&◌, nat_lt, List, ◌∷◌, ◌++◌, Option, Some, None, IsTrue, if◌then◌else◌, length, drop, take, refl}
 use Rattle.std.proofs.Common.{ap, sym, ◌∙◌, subst, arith}
 use Rattle.std.proofs.lemmas.List.{length-append, length-drop, take-append-le}
@@ -11,32 +11,18 @@ use Rattle.fux_grid.specs.Letters.{letters_of}
 use Rattle.fux_grid.specs.Orderly.{voice_shapes}
 use Rattle.fux_grid.proofs.ShapeBeginnings.{begins_shape-fewer, letters_of-append, take-append}
 use Rattle.rule_law.specs.Bars.{begins_bar}
-use Rattle.rule_law.specs.Places.{IsUndisturbed, reading_of, settled_by}
+use Rattle.rule_law.specs.Places.{IsUndisturbed, reading_of, settled_by, IsLocal, Reading, SettlesAtEnd}
 use Rattle.rule_law.specs.Growth.{EnoughStays}
 use Rattle.rule_law.specs.Law.{local_from_row, reads_on, test_from_below}
-use Rattle.rule_law.specs.BothLaw.{RuleReading, AreLocal, SettleAtEnd}
-use Rattle.rule_law.specs.NearLaw.{IsNear, near_from_whole}
 use Rattle.rule_law.specs.Nearby.{whole_of}
 use Rattle.rule_law.specs.Voices.{has_rule, is_free, voice_of, holds_of_voice, on_free_voice}
 use Rattle.rhythm_cadence.specs.Rows.{broken_in, near_rows, enough_after, leaves_shapes, may_go_on, is_open}
 
--- the bits of the rules
-abbrev pub covered_bits : ℕ
-covered_bits = 2 ^ 1 + 2 ^ 2 + 2 ^ 3 + 2 ^ 12 + 2 ^ 13 + 2 ^ 22 + 2 ^ 24 + 2 ^ 25
-
--- the bits of those that neighbors decide
-abbrev pub near_bits : ℕ
-near_bits = 2 ^ 12 + 2 ^ 13 + 2 ^ 24
-
--- the bit of the toll that they decide
-abbrev pub near_toll_bits : ℕ
-near_toll_bits = 2 ^ 15
-
 -- the readings of the rules, and where they are settled
-abbrev pub rhythm_breaks : RuleReading
+abbrev pub rhythm_breaks : ℕ → Exercise → ℕ → Reading Bool
 rhythm_breaks rule ex voices = reading_of (broken_in rule ex voices)
 
-abbrev pub rhythm_settles : RuleReading
+abbrev pub rhythm_settles : ℕ → Exercise → ℕ → Reading Bool
 rhythm_settles rule ex voices = settled_by (enough_after rule ex voices)
 
 -- two tests agree on a set where a third, which fails on it, tells them apart
@@ -111,7 +97,8 @@ pub rhythm_reads_on : (rule : ℕ) (ex : Exercise) (voices : ℕ) (p t : List (L
 rhythm_reads_on rule ex voices =
     reads_on (broken_in rule ex voices) (enough_after rule ex voices) (undisturbed rule ex voices)
 
-pub rhythm_is_local : AreLocal rhythm_breaks rhythm_settles
+pub rhythm_is_local : (rule : ℕ) (ex : Exercise) (voices : ℕ)
+    → IsLocal ex (rhythm_breaks rule ex voices) (rhythm_settles rule ex voices)
 rhythm_is_local rule ex voices =
     local_from_row ex (broken_in rule ex voices) (enough_after rule ex voices) (undisturbed rule ex voices)
 
@@ -179,7 +166,8 @@ seven_after : (s : List (List Cell)) (i bars : ℕ) → length s ≡ 8 * bars �
     → 7 ≤ length (drop (i + 1) s)
 seven_after s i bars whole here slot = omega (arith, length-drop (i + 1) s)
 
-pub rhythm_settles_at_end : SettleAtEnd rhythm_settles
+pub rhythm_settles_at_end : (rule : ℕ) (ex : Exercise) (voices : ℕ)
+    → SettlesAtEnd ex (rhythm_settles rule ex voices)
 rhythm_settles_at_end rule ex voices s i whole here =
     and_from (nat_lt i (length s)) (reading_of (enough_after rule ex voices) s i) (test_from_below i (length s) here)
     (no_more (rule == 3) (reading_of (λ i behind now ahead. on_free_voice ex (λ v. is_open ex v i now ahead) voices) s
@@ -187,14 +175,3 @@ rhythm_settles_at_end rule ex voices s i whole here =
     (none_open ex _ (voice_of voices)
     (λ v. closed (begins_bar i) (nat_lt (length (drop (i + 1) s)) 7) _
     (λ e. le-ltb (length (drop (i + 1) s)) 7 (seven_after s i ex.bars whole here (eqb-true (slot_of i) 0 e))))))
-
--- the rules of neighbors aren't S3
-not_3 : (rule : ℕ) → IsTrue (has_rule near_bits rule) → (rule == 3) ≡ false
-not_3 rule h = false_from_ne_true (rule == 3)
-    (λ e. let P : ℕ → Type 0 = λ r. IsTrue (has_rule near_bits r) in let k : false
-    ≡ true = subst P (eqb-true rule 3 e) h in cc)
-
-pub rhythm_is_near : (rule : ℕ) (ex : Exercise) (voices : ℕ) → IsTrue (has_rule near_bits rule)
-    → IsNear ex (rhythm_breaks rule ex voices) (near_rows rule ex voices)
-rhythm_is_near rule ex voices h p next prefix =
-    cond-false (rule == 3) _ _ (not_3 rule h) ∙ near_from_whole ex (near_rows rule ex voices) p next prefix

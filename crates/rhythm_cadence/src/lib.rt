@@ -12,7 +12,6 @@ mod patterns;
 mod quavers;
 mod rhythm;
 mod rows;
-mod tolls;
 
 pub use book::book_is_lawful;
 pub use cadence::{breaks_cadence, has_suspension, is_suspended, leading_slot, shows_cadence};
@@ -26,4 +25,3 @@ pub use rows::{
     begins_last_bar, ends_badly, is_final, is_final_in, lacks_final, leaves_gamut, leaves_range,
     may_end, opens_badly,
 };
-pub use tolls::{Q15, Q16};

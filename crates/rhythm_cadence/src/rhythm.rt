@@ -1,27 +1,18 @@
-//! The rules as one.
+//! The crate of rules, and those of its rules that are read at once.
 
 ghost use Rattle.std.specs.Prelude.{◌≡◌, ◌+◌, ◌<◌, ◌≤◌, ℕ, Bool, IfSome, IsTrue, nat_lt, length, slice_index_or, drop, []};
 ghost use Rattle.fux_grid.specs.Exercises.{IsValid, IsFree, columns_in};
 ghost use Rattle.rule_law.specs.Bars.{begins_bar};
-ghost use Rattle.rule_law.specs.NearLaw.{near_from_whole};
-ghost use Rattle.rule_law.specs.Nearby.{whole_of};
 ghost use Rattle.rule_law.specs.Places.{reading_of};
 ghost use Rattle.rule_law.specs.Voices.{on_free_voice};
-ghost use Rattle.rhythm_cadence.specs.AllRules as all;
-ghost use Rattle.rhythm_cadence.specs.Locality as law;
-ghost use Rattle.rhythm_cadence.specs.Patterns.{ligature_toll};
 ghost use Rattle.rhythm_cadence.specs.Rows as rows;
 ghost use Rattle.rhythm_cadence.specs.Rows.{holds_of_some};
 
 use crate::part::kept;
-use crate::patterns::missing_ligatures;
 use crate::rows::{ends_badly, lacks_final, leaves_gamut, leaves_range, opens_badly};
-use fux_grid::{Cell, Column, Exercise, Score, VoiceSet, cell_of};
+use fux_grid::{Cell, Exercise, Score, VoiceSet, cell_of};
 use fux_pitch::Pitch;
-use rule_law::{
-    Latest, Near, Rule, RuleCrate, RuleSet, begins_bar, cells_of, is_free, latest_of_column,
-    pair_of, voice_of,
-};
+use rule_law::{Latest, begins_bar, is_free, pair_of, voice_of};
 
 /// S1, S2 or S12.
 #[inline]
@@ -150,93 +141,6 @@ pub(crate) fn is_open(ex: &Exercise, score: &Score, i: usize, voices: VoiceSet) 
     }
 }
 
-/// The rules S1, S2, S3, S12, S13, S22, S24 and S25.
+/// The rules S1, S2, S3, S12, S13, S22, S24 and S25, and the tolls Q15 and Q16.
 #[derive(Clone, Copy, Debug, PartialEq, Eq)]
 pub struct Rhythm;
-
-impl Rule for Rhythm {
-    ghost covered = { λ _. law.covered_bits };
-
-    ghost breaks = { λ _. all.book_breaks };
-
-    ghost settles = { λ _. all.book_settles };
-
-    ghost local = { λ _. all.book_is_local };
-
-    ghost ends = { λ _. all.book_settles_at_end };
-
-    fn covers(&self) -> RuleSet {
-        RuleSet {
-            bits: 1 << 1 | 1 << 2 | 1 << 3 | 1 << 12 | 1 << 13 | 1 << 22 | 1 << 24 | 1 << 25,
-        }
-    }
-
-    fn broken(&self, rule: u8, ex: &Exercise, score: &Score, i: usize, voices: VoiceSet) -> bool {
-        Rhythm::broken_in(rule, ex, score, i, voices)
-    }
-
-    fn settled(&self, rule: u8, ex: &Exercise, prefix: &Score, i: usize, voices: VoiceSet) -> bool {
-        Rhythm::settled_in(rule, ex, prefix, i, voices)
-    }
-}
-
-impl Near for Rhythm {
-    ghost near_rules = { λ _. law.near_bits };
-
-    ghost near_tolls = { λ _. law.near_toll_bits };
-
-    ghost row = { λ _. rows.near_rows };
-
-    ghost charged = { λ _ toll ex. reading_of (whole_of (ligature_toll ex)) };
-
-    ghost toll_row = { λ _ toll ex. ligature_toll ex };
-
-    ghost rules_agree = { λ _. all.book_is_near };
-
-    ghost tolls_agree = { λ _ toll ex h. near_from_whole ex (ligature_toll ex) };
-
-    fn rules(&self) -> RuleSet {
-        RuleSet {
-            bits: 1 << 12 | 1 << 13 | 1 << 24,
-        }
-    }
-
-    fn tolls(&self) -> RuleSet {
-        RuleSet { bits: 1 << 15 }
-    }
-
-    fn broken_near(
-        &self,
-        rule: u8,
-        ex: &Exercise,
-        i: usize,
-        prev: Option<&Column>,
-        next: &Column,
-        voices: VoiceSet,
-    ) -> bool {
-        let before = cells_of(prev);
-        breaks(
-            rule,
-            ex,
-            voices,
-            i,
-            before,
-            &latest_of_column(before),
-            next.as_slice(),
-        )
-    }
-
-    fn cost_near(
-        &self,
-        toll: u8,
-        ex: &Exercise,
-        i: usize,
-        _prev: Option<&Column>,
-        next: &Column,
-    ) -> u32 {
-        if !self.tolls().has(toll) {
-            return 0;
-        }
-        missing_ligatures(ex, i, next.as_slice())
-    }
-}

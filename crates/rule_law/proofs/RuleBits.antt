@@ -5,7 +5,6 @@ use Rattle.std.proofs.lemmas.Bool.{eqb-true, eq-eqb}
 use Rattle.std.proofs.lemmas.Nat.Bits.{bit_at_set_same, bit_at_set_other, bit_at_above, bit_at_or, bit_at-lt}
 use Rattle.std.proofs.lemmas.Bool.Decides.{nat_tests}
 use Rattle.std.specs.Int.{bit_at}
-use Rattle.rule_law.specs.BothLaw.{IsUnion}
 use Rattle.rule_law.specs.Voices.{has_rule}
 
 by_test : (b : Bool) (P : Bool → Type 0) → (b ≡ true → P true) → ((b ≡ true → ⊥) → P false) → P b
@@ -26,19 +25,10 @@ with_rule bits rule r h =
 pub no_rule_above : (bits rule : ℕ) → bits < 2 ^ 32 → 32 ≤ rule → has_rule bits rule ≡ false
 no_rule_above bits rule h k = ap (λ n. n == 1) (bit_at_above bits 32 rule h k)
 
--- what is in one of two sets, and not in the first, is in the second
-second_has : (x y : ℕ) → x < 2 → y < 2 → (max x y == 1) ≡ true → (x == 1) ≡ false → (y == 1) ≡ true
-second_has x y h k e f = grind (arith, nat_tests)
-
-pub in_second : (a b rule : ℕ) → IsTrue (has_rule (bit_or a b) rule) → has_rule a rule ≡ false
-    → IsTrue (has_rule b rule)
-in_second a b rule h k =
-    second_has (bit_at a rule) (bit_at b rule) (bit_at-lt a rule) (bit_at-lt b rule)
-    (ap (λ n. n == 1) (sym (bit_at_or a b rule)) ∙ h) k
-
 either_has : (x y : ℕ) → x < 2 → y < 2 → (max x y == 1) ≡ ((x == 1) || (y == 1))
 either_has x y h k = grind (arith, nat_tests)
 
-pub union_has : (a b : ℕ) → IsUnion (bit_or a b) a b
+-- the union of two sets has the rules of both
+pub union_has : (a b rule : ℕ) → has_rule (bit_or a b) rule ≡ (has_rule a rule || has_rule b rule)
 union_has a b rule = ap (λ n. n == 1) (bit_at_or a b rule)
     ∙ either_has (bit_at a rule) (bit_at b rule) (bit_at-lt a rule) (bit_at-lt b rule)

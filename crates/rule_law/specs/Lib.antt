@@ -1,7 +1,6 @@
 pub mod After
 pub mod Around
 pub mod Bars
-pub mod BothLaw
 pub mod Degrees
 pub mod Forms
 pub mod Gauges

@@ -1,8 +1,6 @@
 -- Rules and tolls that are read from two neighboring columns.
 use Rattle.std.specs.Prelude.{◌≡◌, ℕ, suc, List, [], ◌∷◌, ◌++◌, Option, Some, None, IsTrue, refl, ⊤, length, reverse, slice_index_or}
 use Rattle.std.proofs.Common.{ap, sym, ◌∙◌, subst}
-use Rattle.arrayvec.specs.ArrayVec.{ArrayVec}
-use Rattle.std.specs.Borrow.{Bor}
 use Rattle.fux_pitch.specs.declared.pitch.Pitch.{Pitch}
 use Rattle.fux_pitch.proofs.PitchLemmas.{equal_from_test}
 use Rattle.fux_grid.specs.declared.cell.Cell.{Cell}
@@ -42,10 +40,6 @@ whole_of row i behind now ahead = row i (newest_column behind) (previous_pitches
 -- the answer in two neighbors alone: a voice's previous pitch is the one that it sounds in the column before
 abbrev pub near_of : {R : Type 0} → NearRow R → ℕ → List Cell → List Cell → R
 near_of row i before now = row i before (sounding_pitches before) now
-
--- the same of a column and the one before it, which may be lacking
-abbrev pub near_at : {R : Type 0} → NearRow R → ℕ → Option (Bor (ArrayVec Cell)) → ArrayVec Cell → R
-near_at row i prev next = near_of row i (cells_before prev) next.items
 
 -- rests stand only before a voice's first note
 abbrev pub AllRests : List Cell → Type 0

@@ -1,11 +1,11 @@
 //! The pitch of each voice's latest note.
 
 ghost use Rattle.std.specs.Prelude.{◌≡◌, ◌≤◌, length};
-ghost use Rattle.fux_grid.specs.Columns.{earlier};
+ghost use Rattle.fux_grid.specs.Columns.{cells_before, earlier};
 ghost use Rattle.rule_law.specs.Nearby.{pitch_at, previous_pitches, sounding_pitches};
 
 use crate::terms::previous_pitch;
-use fux_grid::{Cell, Score, cell_of};
+use fux_grid::{Cell, Column, Score, cell_of};
 use fux_pitch::Pitch;
 
 /// For each of four voices the pitch of its latest note; none where it has no note yet.
@@ -54,5 +54,16 @@ pub fn latest_of_column(column: &[Cell]) -> Latest
             cell_of(column, 2).pitch(),
             cell_of(column, 3).pitch(),
         ],
+    }
+}
+
+/// The cells of a column, where it is given.
+#[inline]
+pub fn cells_of(prev: Option<&Column>) -> &[Cell]
+    ensures { result.now ≡ cells_before prev.entry }
+{
+    match prev {
+        Some(column) => column.as_slice(),
+        None => &[],
     }
 }

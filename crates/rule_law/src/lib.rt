@@ -10,15 +10,12 @@ mod degrees;
 mod gauge;
 mod latest;
 mod leading;
-mod near;
 mod newest;
 mod pairs;
-mod rule;
 mod rule_crate;
 mod sets;
 mod table;
 mod terms;
-mod toll;
 
 pub use after::{next_onset, note_within, onset_pitch};
 pub use alone::Alone;
@@ -27,14 +24,12 @@ pub use bars::{begins_bar, begins_inner_bar, is_quiet};
 pub use both::{Both, Parts};
 pub use degrees::lies_above;
 pub use gauge::{Gauge, menu_starts, starts_ahead};
-pub use latest::{Latest, latest_before, latest_of_column};
+pub use latest::{Latest, cells_of, latest_before, latest_of_column};
 pub use leading::is_leading;
-pub use near::{Near, cells_of};
 pub use newest::{ColumnCells, NewestColumns};
 pub use pairs::{
     both_move, move_alike, move_into_perfect, one_starts, sound_perfect, sound_same_key,
 };
-pub use rule::Rule;
 pub use rule_crate::RuleCrate;
 pub use sets::{RuleSet, is_free, pair_of, voice_of, voice_pairs};
 pub use table::{Form, Kind, LatePlaces, Stands, sets_of};
@@ -43,4 +38,3 @@ pub use terms::{
     is_reduced_to, is_repetition, is_sounding, is_step, lowest, move_from, moves, opposite_ways,
     previous_pitch, rises, same_way, starts,
 };
-pub use toll::Toll;
