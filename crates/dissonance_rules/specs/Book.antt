@@ -1,5 +1,5 @@
 -- The rules and tolls of dissonance as a crate's book. S15, S19, S20, S21, S27 and S28 are late: they are read from the newest columns.
-use Rattle.std.specs.Prelude.{ℕ, Bool, ◌+◌, ◌-◌, ◌%◌, ◌==◌, not, ◌&&◌, ◌||◌, true, false, if◌then◌else◌}
+use Rattle.std.specs.Prelude.{ℕ, Bool, ◌+◌, ◌-◌, ◌%◌, ◌==◌, not, ◌&&◌, ◌||◌, true, false, if◌then◌else◌, List, [], ◌∷◌}
 use Rattle.fux_grid.specs.declared.exercise.Exercise.{Exercise}
 use Rattle.fux_grid.specs.Exercises.{is_mixed, slot_of}
 use Rattle.rule_law.specs.declared.table.Form.TheVariants.{TwoVoices}
@@ -114,5 +114,15 @@ toll_row n = record {
   count = λ ex i. 1;
 }
 
+-- the late rules
+abbrev pub late_rules : List ℕ
+late_rules = 15 ∷ 19 ∷ 20 ∷ 21 ∷ 27 ∷ 28 ∷ []
+
 abbrev pub book : Rulebook
-book = record { has_rule = has_rule; rule = rule_row; has_toll = has_toll; toll = toll_row }
+book = record {
+  has_rule = has_rule;
+  rule = rule_row;
+  late_rules = late_rules;
+  has_toll = has_toll;
+  toll = toll_row;
+}

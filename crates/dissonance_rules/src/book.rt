@@ -10,7 +10,7 @@ use crate::late::{is_late, is_told_later, passing_places, settles_passing};
 use crate::rows::{breaks, cost};
 use crate::told::passing_left;
 use fux_grid::{Cell, Exercise, Score, VoiceSet, is_mixed, slot_of};
-use rule_law::{Form, LatePlaces, Latest, NewestColumns, RuleCrate, begins_bar};
+use rule_law::{Form, LatePlaces, LateQuestion, Latest, NewestColumns, RuleCrate, begins_bar};
 
 /// The crate's rules and tolls keep the laws of a book: a theorem, which costs nothing when it's called.
 #[tactic(auto, using(crate::proofs::BookLaws::keeps_laws))]
@@ -94,6 +94,16 @@ impl RuleCrate for Dissonance {
 
     fn cost_late(_newest: &NewestColumns, _toll: u8, _ex: &Exercise, _place: usize) -> u32 {
         0
+    }
+
+    #[inline(always)]
+    fn asks_some<Q: LateQuestion>(question: &Q) -> bool {
+        question.ask(15)
+            || question.ask(19)
+            || question.ask(20)
+            || question.ask(21)
+            || question.ask(27)
+            || question.ask(28)
     }
 
     #[inline(always)]

@@ -1,5 +1,5 @@
 -- S23 and the tolls Q3 to Q6 as a crate's book.
-use Rattle.std.specs.Prelude.{ℕ, Bool, ◌==◌, ◌&&◌, ◌||◌, nat_le, true, if◌then◌else◌}
+use Rattle.std.specs.Prelude.{ℕ, Bool, ◌==◌, ◌&&◌, ◌||◌, nat_le, true, if◌then◌else◌, List, [], ◌∷◌}
 use Rattle.fux_grid.specs.declared.exercise.Exercise.{Exercise}
 use Rattle.rule_law.specs.declared.table.Form.TheVariants.{TwoVoices}
 use Rattle.rule_law.specs.declared.table.Kind.TheVariants.{Column}
@@ -46,5 +46,15 @@ toll_row n = record {
   count = λ ex i. if may_cost n ex i then 1 else 0;
 }
 
+-- S23 is late
+abbrev pub late_rules : List ℕ
+late_rules = 23 ∷ []
+
 abbrev pub book : Rulebook
-book = record { has_rule = has_rule; rule = rule_row; has_toll = has_toll; toll = toll_row }
+book = record {
+  has_rule = has_rule;
+  rule = rule_row;
+  late_rules = late_rules;
+  has_toll = has_toll;
+  toll = toll_row;
+}

@@ -7,7 +7,9 @@ ghost use Rattle.doubling_rules.specs.Book as books;
 use crate::doubling::Doubling;
 use crate::rows::{doubling_breaks, doubling_cost, is_before_last_bar};
 use fux_grid::{Cell, Exercise, Score, VoiceSet};
-use rule_law::{Form, LatePlaces, Latest, NewestColumns, RuleCrate, begins_bar, begins_inner_bar};
+use rule_law::{
+    Form, LatePlaces, LateQuestion, Latest, NewestColumns, RuleCrate, begins_bar, begins_inner_bar,
+};
 
 /// The crate's rules and tolls keep the laws of a book: a theorem, which costs nothing when it's called.
 #[tactic(auto, using(crate::proofs::BookLaws::keeps_laws))]
@@ -85,6 +87,11 @@ impl RuleCrate for Doubling {
             return 0;
         }
         doubling_cost(toll, ex, place, newest.at(place, ex.voices as usize))
+    }
+
+    #[inline(always)]
+    fn asks_some<Q: LateQuestion>(question: &Q) -> bool {
+        question.ask(23)
     }
 
     #[inline(always)]

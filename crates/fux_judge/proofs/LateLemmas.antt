@@ -1,23 +1,22 @@
 -- What is read at the places of a late rule.
 use Rattle.std.proofs.Common.{◌≡◌, ℕ, ◌+◌, ◌-◌, ◌<◌, ◌≤◌, ◌==◌, ◌||◌, zero, suc, Bool, true, false, not, List, [], ◌∷◌, ◌++◌, length, get_or, refl, ap, sym, ◌∙◌, arith}
 use Rattle.std.specs.Prelude.{if◌then◌else◌}
-use Rattle.std.specs.List.{filter, list_any, sum_by}
+use Rattle.std.specs.List.{list_all, list_any, sum_by}
 use Rattle.std.proofs.lemmas.List.{length-append}
 use Rattle.fux_grid.specs.declared.cell.Cell.{Cell}
 use Rattle.fux_grid.specs.declared.exercise.Exercise.{Exercise}
-use Rattle.std.proofs.lemmas.Bool.{eqb-true}
+use Rattle.std.proofs.lemmas.Bool.{eqb-true, or_left, or_right}
 use Rattle.std.proofs.lemmas.Bool.Decides.{nat_tests}
 use Rattle.rule_law.specs.Growth.{any_below, sum_by-none}
-use Rattle.rule_law.specs.Law.{first_true}
+use Rattle.rule_law.specs.Law.{first_true, second_true}
 use Rattle.rule_law.specs.Prefixes.{GoesOn}
 use Rattle.rule_law.specs.Rulebooks.{IsAmong, newly_breaks}
 use Rattle.fux_judge.specs.declared.state.State.{State}
 use Rattle.fux_judge.proofs.Facts.{rule_keeps}
 use Rattle.fux_judge.specs.Penalties.{is_strict_at, new_price, newly_broken_at}
-use Rattle.fux_judge.specs.Rules.{is_late, is_of_one_voice, late_rules, late_rules_asked, late_tolls, rule_at, rules_read, toll_at, tolls_read}
+use Rattle.fux_judge.specs.Rules.{all_rules, is_late, late_rules, late_tolls, rule_at, rules_read, toll_at, tolls_read}
 use Rattle.fux_judge.specs.States.{HasCome}
 use Rattle.fux_judge.specs.Steps.{any_among, breaks_late, prices_late, sets_of_rule}
-use Rattle.fux_judge.proofs.Parts.{list_any-parted}
 use Rattle.fux_judge.proofs.StepPlaces.{any_among-alone, zero_below}
 use Rattle.fux_judge.proofs.SetLemmas.{priceless}
 
@@ -110,55 +109,54 @@ no_late_prices ex p col e =
     free true false h = refl
     free false b h = refl
 
--- some late rule passes a test where one does in the order in which they are asked
-pub any_asked : (test : ℕ → Bool) → list_any test late_rules_asked ≡ list_any test late_rules
-unfolding late_rules_asked
-any_asked test =
-    list_any-append test (filter is_of_one_voice late_rules) (filter (λ rule. not (is_of_one_voice rule)) late_rules)
-    ∙ either_way (list_any test (filter is_of_one_voice late_rules))
-    (list_any test (filter (λ rule. not (is_of_one_voice rule)) late_rules))
-    ∙ sym (list_any-parted test is_of_one_voice late_rules)
+-- where an item of one list passes a test, and each item of it is in another list, one of that list passes
+any_within : (test : ℕ → Bool) (xs ys : List ℕ) → list_all (λ x. list_any (λ y. y == x) ys) xs ≡ true
+    → list_any test xs ≡ true → list_any test ys ≡ true
+any_within test [] ys within h = cc
+any_within test (x ∷ xs) ys within h =
+    at (test x) refl h
+    (any_within test xs ys (second_true (list_any (λ y. y == x) ys) (list_all (λ z. list_any (λ y. y == z) ys) xs) within))
   where
-    either_way : (a b : Bool) → (a || b) ≡ (b || a)
-    either_way true true = refl
-    either_way true false = refl
-    either_way false true = refl
-    either_way false false = refl
-
-    list_any-append : (test : ℕ → Bool) (xs ys : List ℕ) → list_any test (xs ++ ys) ≡ (list_any test xs || list_any test ys)
-    list_any-append test [] ys = refl
-    list_any-append test (x ∷ xs) ys = grouped (test x) (list_any test xs) (list_any test ys) (list_any test (xs ++ ys))
-        (list_any-append test xs ys)
+    found : (zs : List ℕ) → test x ≡ true → list_any (λ y. y == x) zs ≡ true → list_any test zs ≡ true
+    found [] e k = cc
+    found (z ∷ zs) e k = here (z == x) refl k (found zs e)
       where
-        grouped : (t a b c : Bool) → c ≡ (a || b) → (t || c) ≡ ((t || a) || b)
-        grouped true a b c e = refl
-        grouped false a b c e = e
+        here : (b : Bool) → (z == x) ≡ b → (b || list_any (λ y. y == x) zs) ≡ true
+            → (list_any (λ y. y == x) zs ≡ true → list_any test zs ≡ true) → (test z || list_any test zs) ≡ true
+        here true q m later = or_left (test z) (list_any test zs) (ap test (eqb-true z x q) ∙ e)
+        here false q m later = or_right (test z) (list_any test zs) (later m)
 
--- where the item at a place of a list passes, some item does
-pub any_from_place : (test : ℕ → Bool) (xs : List ℕ) (k : ℕ) → k < length xs → test (get_or xs k 0) ≡ true
-    → list_any test xs ≡ true
-any_from_place test [] k h e = absurd (omega (arith, h))
-any_from_place test (x ∷ xs) zero h e = ap (λ b. b || list_any test xs) e
-any_from_place test (x ∷ xs) (suc k) h e =
-    ap (λ b. test x || b) (any_from_place test xs k (omega (arith, h)) e) ∙ or_true (test x)
+    at : (b : Bool) → test x ≡ b → (b || list_any test xs) ≡ true → (list_any test xs ≡ true → list_any test ys ≡ true)
+        → list_any test ys ≡ true
+    at true e k later = found ys e
+        (first_true (list_any (λ y. y == x) ys) (list_all (λ z. list_any (λ y. y == z) ys) xs) within)
+    at false e k later = later k
+
+-- the books ask of late rules alone
+pub all_late : list_all is_late all_rules.late_rules ≡ true
+unfolding rule_at
+all_late = refl
+
+asked_are_late : list_all (λ x. list_any (λ y. y == x) late_rules) all_rules.late_rules ≡ true
+unfolding late_rules rules_read rule_at
+asked_are_late = refl
+
+late_are_asked : list_all (λ x. list_any (λ y. y == x) all_rules.late_rules) late_rules ≡ true
+unfolding late_rules rules_read rule_at
+late_are_asked = refl
+
+-- and of each of them: some late rule passes a test where one does in the order in which they are asked
+pub any_asked : (test : ℕ → Bool) → list_any test all_rules.late_rules ≡ list_any test late_rules
+any_asked test = alike (list_any test all_rules.late_rules) (list_any test late_rules)
+    (any_within test all_rules.late_rules late_rules asked_are_late)
+    (any_within test late_rules all_rules.late_rules late_are_asked)
   where
-    or_true : (b : Bool) → (b || true) ≡ true
-    or_true true = refl
-    or_true false = refl
-
--- the late rules in that order
-abbrev pub asked : List ℕ
-asked = 3 ∷ 25 ∷ 15 ∷ 18 ∷ 19 ∷ 20 ∷ 21 ∷ 22 ∷ 23 ∷ 27 ∷ 28 ∷ []
-
-pub asked_are : late_rules_asked ≡ asked
-unfolding late_rules_asked late_rules rules_read rule_at
-asked_are = refl
+    alike : (b c : Bool) → (b ≡ true → c ≡ true) → (c ≡ true → b ≡ true) → b ≡ c
+    alike true c f g = sym (f refl)
+    alike false true f g = g refl
+    alike false false f g = refl
 
 -- the late tolls
 pub tolls_are : late_tolls ≡ 3 ∷ 4 ∷ 5 ∷ 6 ∷ 12 ∷ 14 ∷ 15 ∷ 16 ∷ []
 unfolding late_tolls tolls_read toll_at
 tolls_are = refl
-
--- one of them that passes a test
-pub some_asked : (test : ℕ → Bool) (k : ℕ) → k < 11 → test (get_or asked k 0) ≡ true → list_any test late_rules ≡ true
-some_asked test k h e = sym (any_asked test) ∙ ap (list_any test) asked_are ∙ any_from_place test asked k h e

@@ -52,7 +52,7 @@ find_where test f g (x ∷ xs) h e =
 -- ---- the rules
 
 later_rules : List ℕ
-later_rules = 15 ∷ 16 ∷ 17 ∷ 18 ∷ 19 ∷ 20 ∷ 21 ∷ 22 ∷ 23 ∷ 24 ∷ 25 ∷ 26 ∷ 27 ∷ 28 ∷ []
+later_rules = drop 14 rules_read
 
 all_soon : list_all (λ rule. not (is_late rule)) first_rules ≡ true
 unfolding rule_at

@@ -1,14 +1,15 @@
 -- What is told of a column that has come behind an orderly prefix, known by the state of the two alone.
-use Rattle.std.specs.Prelude.{◌≡◌, ℕ, ◌+◌, ◌||◌, true, List, length}
+use Rattle.std.specs.Prelude.{◌≡◌, ℕ, ◌+◌, ◌<◌, ◌≤◌, ◌||◌, Bool, true, List, length}
 use Rattle.fux_grid.specs.declared.cell.Cell.{Cell}
 use Rattle.fux_grid.specs.declared.exercise.Exercise.{Exercise}
 use Rattle.fux_grid.specs.Columns.{Columns}
+use Rattle.fux_grid.specs.Exercises.{IsValid, columns_in}
 use Rattle.rule_law.specs.Rulebooks.{IsAmong, newly_breaks}
 use Rattle.rule_law.specs.Voices.{has_rule}
 use Rattle.fux_judge.specs.declared.state.State.{State}
 use Rattle.fux_judge.specs.Rules.{rule_at, toll_at}
 use Rattle.fux_judge.specs.States.{HasCome}
-use Rattle.fux_judge.specs.Steps.{breaks_some_late}
+use Rattle.fux_judge.specs.Steps.{breaks_late, breaks_some_late}
 
 -- whatever orderly prefix and column have come, the answer is what is read of them
 abbrev pub TellsOfNewest : {A : Type 0} → Exercise → State → (Columns → List Cell → A) → A → Type 0
@@ -45,3 +46,16 @@ AddsLateBreaks ex next set more =
 -- the place behind the last one at which column i may settle a rule
 abbrev pub end_of_places : ℕ → Exercise → ℕ → ℕ
 end_of_places rule ex i = (rule_at rule).first ex i + (rule_at rule).count ex i
+
+-- a column has come behind some prefix, so that something can be read of it
+pub record MayBeAsked (ex : Exercise) (next : State) : Type 0 where
+  pub valid : IsValid ex
+  pub begun : 0 < next.newest.len
+  pub room : next.newest.len ≤ columns_in ex
+
+-- the test tells of which late rules it settles a strict break, behind some orderly prefix
+pub record AnswersFor (ex : Exercise) (next : State) (test : ℕ → Bool) : Type 0 where
+  pub prefix : Columns
+  pub column : List Cell
+  pub come : HasCome ex next prefix column
+  pub same : (rule : ℕ) → test rule ≡ breaks_late ex prefix column rule

@@ -3,8 +3,6 @@ use Rattle.std.specs.Prelude.{ℕ, ◌==◌, not, Bool, true, false, List, ◌++
 use Rattle.std.specs.List.{filter, list_any, range_with_len}
 use Rattle.fux_grid.specs.declared.exercise.Exercise.{Exercise}
 use Rattle.fux_grid.specs.Exercises.{greatest_mixed_rule}
-use Rattle.rule_law.specs.declared.table.Form.{Form}
-use Rattle.rule_law.specs.declared.table.Form.TheVariants.{OneVoice, TwoVoices, AllVoices}
 use Rattle.rule_law.specs.Forms as forms
 use Rattle.rule_law.specs.Places.{Row, Reading, reading_of, settled_by}
 use Rattle.rule_law.specs.Rulebooks.{RuleRow, Rulebook, TollRow, joined, nothing}
@@ -114,19 +112,6 @@ rules_at_once = filter (λ rule. not (is_late rule)) rules_read
 
 unfoldable pub late_rules : List ℕ
 late_rules = filter is_late rules_read
-
--- a rule speaks of one voice
-abbrev pub is_one_voice : Form → Bool
-is_one_voice OneVoice = true
-is_one_voice TwoVoices = false
-is_one_voice AllVoices = false
-
-abbrev pub is_of_one_voice : ℕ → Bool
-is_of_one_voice rule = is_one_voice (rule_at rule).form
-
--- the late rules in the order in which a search asks them: those of one voice, and then the others
-unfoldable pub late_rules_asked : List ℕ
-late_rules_asked = filter is_of_one_voice late_rules ++ filter (λ rule. not (is_of_one_voice rule)) late_rules
 
 -- the tolls that are settled at once, and the others
 unfoldable pub tolls_at_once : List ℕ

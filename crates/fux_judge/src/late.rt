@@ -6,7 +6,7 @@ ghost use Rattle.fux_grid.specs.Exercises.{IsValid, columns_in};
 ghost use Rattle.rule_law.specs.Rulebooks.{newly_breaks};
 ghost use Rattle.fux_judge.specs.Penalties.{newly_broken_at, new_price};
 ghost use Rattle.fux_judge.specs.Rules.{is_late, late_rules, rule_at};
-ghost use Rattle.fux_judge.specs.Late.{AddsLateBreaks, SettlesAmong, TellsAtPlace, TellsOfNewest, end_of_places};
+ghost use Rattle.fux_judge.specs.Late.{AddsLateBreaks, AnswersFor, MayBeAsked, SettlesAmong, TellsAtPlace, TellsOfNewest, end_of_places};
 ghost use Rattle.fux_judge.specs.Steps as steps;
 
 use crate::all_rules::{AllRules, form_of};
@@ -14,7 +14,7 @@ use crate::numbers::every_late_rule;
 use crate::state::State;
 use fux_grid::{Exercise, VoiceSet, bar_of};
 use penalty_sheet::price_at;
-use rule_law::{LatePlaces, RuleCrate, RuleSet, sets_of};
+use rule_law::{LatePlaces, LateQuestion, RuleCrate, RuleSet, sets_of};
 
 /// Where column `i` may settle a late rule, as its crate says.
 #[inline(always)]
@@ -182,49 +182,35 @@ fn prices_of_late(rule: u8, ex: &Exercise, next: &State) -> u64
     sum
 }
 
-/// Whether the newest column settles a strict break of some late rule. Each is asked by its own number, those of one voice first, so that
-/// what depends on the number alone is settled before the program runs.
-#[tactic(auto, unfolding(crate::specs::Rules::rule_at))]
+/// The question whether the newest column settles a strict break of a late rule.
+#[derive(Clone, Copy)]
+struct BreaksLate<'a> {
+    exercise: &'a Exercise<'a>,
+    next: &'a State,
+}
+
+impl LateQuestion for BreaksLate<'_> {
+    ghost is_ready = { λ it. MayBeAsked it.exercise.now it.next.now };
+
+    ghost may_ask = { λ _. is_late };
+
+    ghost is_answered_by = { λ it test. AnswersFor it.exercise.now it.next.now test };
+
+    #[inline(always)]
+    fn ask(&self, rule: u8) -> bool {
+        is_broken_late(rule, self.exercise, self.next)
+    }
+}
+
+/// Whether the newest column settles a strict break of some late rule.
+#[inline(always)]
 pub(crate) fn settles_late_break(ex: &Exercise, next: &State) -> bool
     requires valid { IsValid ex.now }
     requires begun { 0 < next.now.newest.len }
     requires room { next.now.newest.len ≤ columns_in ex.now }
     ensures { TellsOfNewest ex.now next.now (λ p col. list_any (steps.breaks_late ex.now p col) late_rules) result }
 {
-    if is_broken_late(3, ex, next) {
-        return true;
-    }
-    if is_broken_late(25, ex, next) {
-        return true;
-    }
-    if is_broken_late(15, ex, next) {
-        return true;
-    }
-    if is_broken_late(18, ex, next) {
-        return true;
-    }
-    if is_broken_late(19, ex, next) {
-        return true;
-    }
-    if is_broken_late(20, ex, next) {
-        return true;
-    }
-    if is_broken_late(21, ex, next) {
-        return true;
-    }
-    if is_broken_late(22, ex, next) {
-        return true;
-    }
-    if is_broken_late(23, ex, next) {
-        return true;
-    }
-    if is_broken_late(27, ex, next) {
-        return true;
-    }
-    if is_broken_late(28, ex, next) {
-        return true;
-    }
-    false
+    AllRules::asks_some(&BreaksLate { exercise: ex, next })
 }
 
 /// A set with the late rules added of which the newest column settles a strict break.

@@ -1,5 +1,5 @@
 -- The rules and tolls of melody as a crate's book.
-use Rattle.std.specs.Prelude.{ℕ, Bool, ◌==◌, ◌||◌, false, if◌then◌else◌}
+use Rattle.std.specs.Prelude.{ℕ, Bool, ◌==◌, ◌||◌, false, if◌then◌else◌, List, []}
 use Rattle.rule_law.specs.declared.table.Form.TheVariants.{OneVoice}
 use Rattle.rule_law.specs.declared.table.Kind.TheVariants.{Pair, Window}
 use Rattle.rule_law.specs.declared.table.Stands.TheVariants.{Anywhere}
@@ -34,5 +34,15 @@ toll_row n = record {
   count = λ ex i. 1;
 }
 
+-- no rule of melody is late
+abbrev pub late_rules : List ℕ
+late_rules = []
+
 abbrev pub book : Rulebook
-book = record { has_rule = has_rule; rule = rule_row; has_toll = has_toll; toll = toll_row }
+book = record {
+  has_rule = has_rule;
+  rule = rule_row;
+  late_rules = late_rules;
+  has_toll = has_toll;
+  toll = toll_row;
+}

@@ -9,7 +9,7 @@ use crate::notes::VoiceNotes;
 use crate::tolls::{cost, cost_in_score, open_leaps_in_score};
 use crate::voices::{all_noted, all_silent, breaks_looking_back, open_leaps};
 use fux_grid::{Cell, Exercise, Score, VoiceSet};
-use rule_law::{Form, LatePlaces, Latest, NewestColumns, RuleCrate, latest_before};
+use rule_law::{Form, LatePlaces, LateQuestion, Latest, NewestColumns, RuleCrate, latest_before};
 
 /// No rule and no toll of melody is late.
 impl RuleCrate for Melody {
@@ -75,6 +75,11 @@ impl RuleCrate for Melody {
 
     fn cost_late(_newest: &NewestColumns, _toll: u8, _ex: &Exercise, _place: usize) -> u32 {
         0
+    }
+
+    #[inline(always)]
+    fn asks_some<Q: LateQuestion>(_question: &Q) -> bool {
+        false
     }
 
     fn breaks_at_once(

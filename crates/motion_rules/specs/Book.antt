@@ -1,5 +1,5 @@
 -- The rules and tolls of motion as a crate's book.
-use Rattle.std.specs.Prelude.{ℕ, Bool, ◌==◌, ◌&&◌, ◌||◌, nat_le, true, false, if◌then◌else◌}
+use Rattle.std.specs.Prelude.{ℕ, Bool, ◌==◌, ◌&&◌, ◌||◌, nat_le, true, false, if◌then◌else◌, List, [], ◌∷◌}
 use Rattle.fux_grid.specs.declared.exercise.Exercise.{Exercise}
 use Rattle.fux_grid.specs.Exercises.{is_mixed}
 use Rattle.rule_law.specs.declared.table.Form.TheVariants.{TwoVoices}
@@ -96,5 +96,15 @@ late_toll n = if n == 12 then inner_row else run_row
 abbrev pub toll_row : ℕ → TollRow
 toll_row n = if is_late_toll n then late_toll n else at_once_toll n
 
+-- the late rules
+abbrev pub late_rules : List ℕ
+late_rules = 18 ∷ []
+
 abbrev pub book : Rulebook
-book = record { has_rule = has_rule; rule = rule_row; has_toll = has_toll; toll = toll_row }
+book = record {
+  has_rule = has_rule;
+  rule = rule_row;
+  late_rules = late_rules;
+  has_toll = has_toll;
+  toll = toll_row;
+}

@@ -11,7 +11,8 @@ use crate::rows::{breaks, cost};
 use crate::runs::{ends_four_bars, imperfect_runs};
 use fux_grid::{Cell, Exercise, Score, VoiceSet, is_mixed};
 use rule_law::{
-    ColumnsAround, Form, LatePlaces, Latest, NewestColumns, RuleCrate, begins_bar, cells_behind,
+    ColumnsAround, Form, LatePlaces, LateQuestion, Latest, NewestColumns, RuleCrate, begins_bar,
+    cells_behind,
 };
 
 /// The crate's rules and tolls keep the laws of a book: a theorem, which costs nothing when it's called.
@@ -92,6 +93,11 @@ impl RuleCrate for Motion {
             cells_behind(newest, ex, place, 0),
             newest.cells(ex, place),
         )
+    }
+
+    #[inline(always)]
+    fn asks_some<Q: LateQuestion>(question: &Q) -> bool {
+        question.ask(18)
     }
 
     #[inline(always)]

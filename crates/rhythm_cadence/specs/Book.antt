@@ -1,5 +1,5 @@
 -- The rules and tolls of rhythm and cadence as a crate's book.
-use Rattle.std.specs.Prelude.{ℕ, Bool, ◌+◌, ◌-◌, ◌*◌, ◌/◌, ◌==◌, ◌||◌, nat_lt, true, false, if◌then◌else◌}
+use Rattle.std.specs.Prelude.{ℕ, Bool, ◌+◌, ◌-◌, ◌*◌, ◌/◌, ◌==◌, ◌||◌, nat_lt, true, false, if◌then◌else◌, List, [], ◌∷◌}
 use Rattle.fux_grid.specs.Exercises.{columns_in}
 use Rattle.rule_law.specs.declared.table.Form.TheVariants.{OneVoice, TwoVoices, AllVoices}
 use Rattle.rule_law.specs.declared.table.Kind.TheVariants.{Column, Pair, Window}
@@ -117,5 +117,15 @@ late_toll n = if n == 15 then ligature_row else pattern_row
 abbrev pub toll_row : ℕ → TollRow
 toll_row n = if is_late_toll n then late_toll n else no_toll
 
+-- the late rules in the order in which they are asked: those of one voice first
+abbrev pub late_rules : List ℕ
+late_rules = 3 ∷ 25 ∷ 22 ∷ []
+
 abbrev pub book : Rulebook
-book = record { has_rule = has_rule; rule = rule_row; has_toll = has_toll; toll = toll_row }
+book = record {
+  has_rule = has_rule;
+  rule = rule_row;
+  late_rules = late_rules;
+  has_toll = has_toll;
+  toll = toll_row;
+}

@@ -13,8 +13,8 @@ use crate::rhythm::{Rhythm, breaks, is_open, leaves_shapes};
 use crate::rows::begins_last_bar;
 use fux_grid::{Cell, Exercise, Score, VoiceSet};
 use rule_law::{
-    ColumnsAround, Form, LatePlaces, Latest, NewestColumns, RuleCrate, begins_inner_bar,
-    latest_before,
+    ColumnsAround, Form, LatePlaces, LateQuestion, Latest, NewestColumns, RuleCrate,
+    begins_inner_bar, latest_before,
 };
 
 /// The crate's rules and tolls keep the laws of a book: a theorem, which costs nothing when it's called.
@@ -108,6 +108,11 @@ impl RuleCrate for Rhythm {
             return 0;
         }
         pattern_cost(newest, ex, place)
+    }
+
+    #[inline(always)]
+    fn asks_some<Q: LateQuestion>(question: &Q) -> bool {
+        question.ask(3) || question.ask(25) || question.ask(22)
     }
 
     #[inline(always)]

@@ -95,10 +95,12 @@ pub record KeepsTollLaws (it : TollRow) : Type 0 where
       → IsAmong (it.first ex (length p)) (it.count ex (length p)) i
   pub within : (ex : Exercise) (i : ℕ) → it.first ex i + it.count ex i ≤ i + 1
 
--- what a crate has: which numbers are those of its rules and tolls, and each by its number
+-- what a crate has: which numbers are those of its rules and tolls, and each by its number; and the numbers of its
+-- late rules, in the order in which they are asked
 pub record Rulebook : Type 0 where
   pub has_rule : ℕ → Bool
   pub rule : ℕ → RuleRow
+  pub late_rules : List ℕ
   pub has_toll : ℕ → Bool
   pub toll : ℕ → TollRow
 
@@ -112,11 +114,13 @@ pub record KeepsAllLaws (book : Rulebook) : Type 0 where
   pub rules : (n : ℕ) → KeepsRuleLaws (book.rule n)
   pub tolls : (n : ℕ) → KeepsTollLaws (book.toll n)
 
--- two crates as one: a number is read as the first one that has it reads it
+-- two crates as one: a number is read as the first one that has it reads it, and the late rules of the second are
+-- asked first
 abbrev pub joined : Rulebook → Rulebook → Rulebook
 joined a b = record {
   has_rule = λ n. a.has_rule n || b.has_rule n;
   rule = λ n. if a.has_rule n then a.rule n else b.rule n;
+  late_rules = b.late_rules ++ a.late_rules;
   has_toll = λ n. a.has_toll n || b.has_toll n;
   toll = λ n. if a.has_toll n then a.toll n else b.toll n;
 }
@@ -145,7 +149,13 @@ no_toll = record {
 }
 
 abbrev pub nothing : Rulebook
-nothing = record { has_rule = λ n. false; rule = λ n. no_rule; has_toll = λ n. false; toll = λ n. no_toll }
+nothing = record {
+  has_rule = λ n. false;
+  rule = λ n. no_rule;
+  late_rules = [];
+  has_toll = λ n. false;
+  toll = λ n. no_toll;
+}
 
 -- ---- what holds of them
 

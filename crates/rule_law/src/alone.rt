@@ -4,6 +4,7 @@ ghost use Rattle.rule_law.specs.Rulebooks.{joined, nothing};
 
 use crate::latest::Latest;
 use crate::newest::NewestColumns;
+use crate::question::LateQuestion;
 use crate::rule_crate::RuleCrate;
 use crate::table::{Form, LatePlaces};
 use fux_grid::{Cell, Exercise, Score, VoiceSet};
@@ -86,6 +87,11 @@ impl<A: RuleCrate> RuleCrate for Alone<A> {
         } else {
             false
         }
+    }
+
+    #[inline(always)]
+    fn asks_some<Q: LateQuestion>(question: &Q) -> bool {
+        A::asks_some(question)
     }
 
     #[inline(always)]

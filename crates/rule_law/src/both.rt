@@ -4,6 +4,7 @@ ghost use Rattle.rule_law.specs.Rulebooks.{joined};
 
 use crate::latest::Latest;
 use crate::newest::NewestColumns;
+use crate::question::LateQuestion;
 use crate::rule_crate::RuleCrate;
 use crate::table::{Form, LatePlaces};
 use fux_grid::{Cell, Exercise, Score, VoiceSet};
@@ -108,6 +109,11 @@ impl<A: RuleCrate, B: RuleCrate> RuleCrate for Both<A, B> {
         } else {
             B::breaks_late(&part.second, newest, rule, ex, voices, place)
         }
+    }
+
+    #[inline(always)]
+    fn asks_some<Q: LateQuestion>(question: &Q) -> bool {
+        B::asks_some(question) || A::asks_some(question)
     }
 
     #[inline(always)]

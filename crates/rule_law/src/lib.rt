@@ -12,6 +12,7 @@ mod latest;
 mod leading;
 mod newest;
 mod pairs;
+mod question;
 mod rule_crate;
 mod sets;
 mod table;
@@ -30,6 +31,7 @@ pub use newest::{ColumnCells, NewestColumns};
 pub use pairs::{
     both_move, move_alike, move_into_perfect, one_starts, sound_perfect, sound_same_key,
 };
+pub use question::LateQuestion;
 pub use rule_crate::RuleCrate;
 pub use sets::{RuleSet, is_free, pair_of, voice_of, voice_pairs};
 pub use table::{Form, Kind, LatePlaces, Stands, sets_of};

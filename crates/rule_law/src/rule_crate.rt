@@ -1,6 +1,7 @@
 //! Crates of rules and tolls, as they are read by number.
 
-ghost use Rattle.std.specs.Prelude.{◌≡◌, ◌+◌, ◌-◌, ◌<◌, ◌≤◌, [], true, false, length};
+ghost use Rattle.std.specs.Prelude.{◌≡◌, ◌+◌, ◌-◌, ◌<◌, ◌≤◌, [], ℕ, Bool, true, false, length};
+ghost use Rattle.std.specs.List.{list_all, list_any};
 ghost use Rattle.fux_grid.specs.declared.exercise.Exercise.{Exercise as AnExercise};
 ghost use Rattle.fux_grid.specs.Columns.{Columns};
 ghost use Rattle.fux_grid.specs.Exercises.{IsValid, columns_in};
@@ -11,6 +12,7 @@ ghost use Rattle.rule_law.specs.Rulebooks.{Rulebook};
 
 use crate::latest::Latest;
 use crate::newest::NewestColumns;
+use crate::question::LateQuestion;
 use crate::table::{Form, LatePlaces};
 use fux_grid::{Cell, Exercise, Score, VoiceSet};
 
@@ -88,6 +90,14 @@ pub trait RuleCrate {
         requires room { newest.now.len ≤ columns_in ex.now }
         ensures { (book.rule rule).late ≡ true →
             TellsBreakBy (is_part ex.now) (book.rule rule) ex.now voices.bits part.now newest.now place result };
+
+    /// Whether a question is answered by yes for some late rule. Each is asked by its own number, so that what depends on the number alone
+    /// is settled before the program runs.
+    fn asks_some<Q: LateQuestion>(question: &Q) -> bool
+        requires ready { Q.is_ready question.now }
+        requires rules { list_all (Q.may_ask question.now) book.late_rules ≡ true }
+        ensures { (test : ℕ → Bool) → Q.is_answered_by question.now test →
+            result ≡ list_any test book.late_rules };
 
     /// The places at which column `i` may settle what a late toll costs.
     fn toll_places(toll: u8, ex: &Exercise, i: usize) -> LatePlaces
