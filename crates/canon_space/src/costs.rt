@@ -6,6 +6,7 @@ ghost use Rattle.melody_rules.specs.Notes.{IsNotesOf};
 ghost use Rattle.melody_rules.specs.Rows.{pitches};
 ghost use Rattle.canon_space.specs.Kept.{history_of};
 ghost use Rattle.canon_space.specs.Rules as rules;
+ghost use Rattle.penalty_sheet.specs.Weights.{greatest_toll};
 
 use crate::bars::{Bar, bar_before};
 use crate::canon::Canon;
@@ -19,7 +20,7 @@ use rule_law::{move_alike, sound_perfect};
 /// The weight of a toll where it stands, else nothing.
 fn charge(sheet: &Sheet, toll: u8, stands: bool) -> u64
     requires first { 1 ≤ toll }
-    requires last { toll ≤ 20 }
+    requires last { toll ≤ greatest_toll }
     ensures value { result ≡ rules.charge sheet.now toll stands }
     ensures bound { result ≤ 65535 }
 {

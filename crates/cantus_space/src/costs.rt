@@ -5,7 +5,7 @@ ghost use Rattle.fux_grid.specs.declared.cell.Cell.{Cell as ACell};
 ghost use Rattle.melody_rules.specs.Notes.{IsNotesOf};
 ghost use Rattle.fux_grid.specs.declared.cell.Cell.TheVariants.{Start};
 ghost use Rattle.melody_rules.specs.Rows.{leaves_open, pitches};
-ghost use Rattle.penalty_sheet.specs.Weights.{weight_of};
+ghost use Rattle.penalty_sheet.specs.Weights.{greatest_toll, weight_of};
 ghost use Rattle.cantus_space.specs.Rules as rules;
 
 use fux_grid::Cell;
@@ -59,7 +59,7 @@ pub struct Gauged {
 /// What a gauge costs that says so much.
 fn gauge_charge(sheet: &Sheet, toll: u8, value: u32) -> u64
     requires first { 17 ≤ toll }
-    requires last { toll ≤ 20 }
+    requires last { toll ≤ greatest_toll }
     requires little { value ≤ 1000 }
     ensures value { result ≡ weight_of sheet.now toll * value }
     ensures bound { result ≤ 65535000 }

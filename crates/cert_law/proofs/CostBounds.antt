@@ -30,7 +30,7 @@ use Rattle.melody_rules.specs.Rows as melody_rows
 use Rattle.motion_rules.specs.Book as motion
 use Rattle.motion_rules.specs.Runs.{ends_four_bars}
 use Rattle.penalty_sheet.specs.declared.sheet.Sheet.{Sheet}
-use Rattle.penalty_sheet.specs.Weights.{weight_of}
+use Rattle.penalty_sheet.specs.Weights.{greatest_toll, weight_of}
 use Rattle.rhythm_cadence.specs.Book as rhythm
 use Rattle.rhythm_cadence.specs.Patterns.{is_pattern, lacks_ligature, missing_ligatures, pattern_toll}
 use Rattle.rule_law.specs.Nearby.{pitch_at, previous_pitches, whole_of}
@@ -136,9 +136,9 @@ between_low : (ex : Exercise) (i : ℕ) (before : Option (List Cell)) (next : Li
 between_low ex i before next toll =
     pick_low (is_of_neighbors (toll_at toll).kind) _ 0 (toll_low toll ex i (behind_of before) next []) none_low
 
-tolls_few : length tolls_read ≤ 20
+tolls_few : length tolls_read ≤ greatest_toll
 unfolding tolls_read
-tolls_few = length-filter_le all_rules.has_toll (range_with_len 1 20)
+tolls_few = length-filter_le all_rules.has_toll (range_with_len 1 greatest_toll)
 
 module _ (ex : Exercise) (sheet : Sheet) (small : HasSmallWeights sheet) where
   charge_low : (i : ℕ) (before : Option (List Cell)) (next : List Cell) (toll : ℕ)

@@ -11,6 +11,7 @@ use Rattle.motion_rules.specs.Book as motion
 use Rattle.dissonance_rules.specs.Book as dissonance
 use Rattle.rhythm_cadence.specs.Book as rhythm
 use Rattle.doubling_rules.specs.Book as doubling
+use Rattle.penalty_sheet.specs.Weights.{greatest_toll}
 
 -- the crates' books as one
 abbrev pub all_rules : Rulebook
@@ -30,7 +31,7 @@ rules_read = filter all_rules.has_rule (range_with_len 1 greatest_mixed_rule)
 
 -- the tolls that are read; no other costs anything
 unfoldable pub tolls_read : List ℕ
-tolls_read = filter all_rules.has_toll (range_with_len 1 20)
+tolls_read = filter all_rules.has_toll (range_with_len 1 greatest_toll)
 
 -- every set of voices, of four at most, by its bits
 abbrev pub all_sets : List ℕ

@@ -8,6 +8,7 @@ ghost use Rattle.fux_judge.specs.Penalties.{new_toll};
 ghost use Rattle.fux_judge.specs.Rules.{is_late_toll, late_tolls, toll_at};
 ghost use Rattle.fux_judge.specs.Late.{TellsAtPlaceOfCost, TellsOfNewest};
 ghost use Rattle.fux_judge.specs.Steps as steps;
+ghost use Rattle.penalty_sheet.specs.Weights.{greatest_toll};
 
 use crate::all_rules::AllRules;
 use crate::state::State;
@@ -59,7 +60,7 @@ fn cost_at(toll: u8, ex: &Exercise, next: &State, place: usize) -> u32
 
 /// What it settles there by the toll's weight.
 fn charge_at(toll: u8, sheet: &Sheet, ex: &Exercise, next: &State, place: usize) -> u64
-    requires number { IsTrue (nat_le 1 toll && (nat_le toll 20 && is_late_toll toll)) }
+    requires number { IsTrue (nat_le 1 toll && (nat_le toll greatest_toll && is_late_toll toll)) }
     requires valid { IsValid ex.now }
     requires begun { 0 < next.now.newest.len }
     requires room { next.now.newest.len ≤ columns_in ex.now }
@@ -72,7 +73,7 @@ fn charge_at(toll: u8, sheet: &Sheet, ex: &Exercise, next: &State, place: usize)
 /// What the newest column settles of a late toll.
 #[inline(always)]
 fn charges_of(toll: u8, sheet: &Sheet, ex: &Exercise, next: &State) -> u64
-    requires number { IsTrue (nat_le 1 toll && (nat_le toll 20 && is_late_toll toll)) }
+    requires number { IsTrue (nat_le 1 toll && (nat_le toll greatest_toll && is_late_toll toll)) }
     requires valid { IsValid ex.now }
     requires begun { 0 < next.now.newest.len }
     requires room { next.now.newest.len ≤ columns_in ex.now }

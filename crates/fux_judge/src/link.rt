@@ -6,6 +6,7 @@ ghost use Rattle.fux_grid.specs.Exercises.{IsValid, columns_in};
 ghost use Rattle.fux_judge.specs.Links.{IsLeastOfLinks, column_of, given, is_rule_between, is_toll_between, link_of, pair_of};
 ghost use Rattle.fux_judge.specs.Neighbors.{IsLink, breaks_at_link, breaks_strictly_at_link, charge_at_link, cost_at_link, is_strict_for};
 ghost use Rattle.fux_judge.specs.Penalties.{is_strict_at};
+ghost use Rattle.penalty_sheet.specs.Weights.{greatest_toll};
 
 use crate::all_rules::{AllRules, form_of};
 use crate::numbers::{column_rules, column_tolls};
@@ -134,7 +135,7 @@ fn cost(toll: u8, link: &Link<'_>) -> u32
 pub(crate) fn charge(toll: u8, sheet: &Sheet, link: &Link<'_>) -> u64
     requires kind { is_toll_between toll ≡ true }
     requires first { 1 ≤ toll }
-    requires last { toll ≤ 20 }
+    requires last { toll ≤ greatest_toll }
     requires link { IsLink link.now }
     ensures value { result ≡ charge_at_link sheet.now link.now toll }
     ensures bound { result ≤ 393210 }
@@ -145,8 +146,8 @@ pub(crate) fn charge(toll: u8, sheet: &Sheet, link: &Link<'_>) -> u64
 /// What these tolls of neighbors cost there together, by weight.
 fn charges(tolls: &[u8], sheet: &Sheet, link: &Link<'_>) -> u64
     requires kinds { IsTrue (list_all is_toll_between tolls.now) }
-    requires numbers { IsTrue (list_all (λ toll. nat_le 1 toll && nat_le toll 20) tolls.now) }
-    requires few { length tolls.now ≤ 20 }
+    requires numbers { IsTrue (list_all (λ toll. nat_le 1 toll && nat_le toll greatest_toll) tolls.now) }
+    requires few { length tolls.now ≤ greatest_toll }
     requires link { IsLink link.now }
     ensures value { result ≡ sum_by (charge_at_link sheet.now link.now) tolls.now }
     ensures bound { result ≤ 2 ^ 24 }

@@ -9,6 +9,7 @@ ghost use Rattle.fux_judge.specs.Links.{is_rule_between, is_toll_between};
 ghost use Rattle.fux_judge.specs.Kept.{rules_at_a_bar, rules_at_the_end, rules_within_bars};
 ghost use Rattle.fux_judge.specs.Rules as rules;
 ghost use Rattle.fux_judge.specs.Rules.{all_rules, all_sets, is_late, late_rules, rules_at_once, rules_read, tolls_read};
+ghost use Rattle.penalty_sheet.specs.Weights.{greatest_toll};
 
 use fux_grid::GREATEST_MIXED_RULE;
 
@@ -123,9 +124,9 @@ pub(crate) fn column_rules() -> &'static [u8]
 #[tactic(auto, unfolding(crate::specs::Rules::tolls_read))]
 pub fn every_toll() -> &'static [u8]
     ensures value { result.now ≡ tolls_read }
-    ensures table { result.now ≡ filter all_rules.has_toll (range_with_len 1 20) }
-    ensures numbers { IsTrue (list_all (λ toll. nat_le 1 toll && nat_le toll 20) result.now) }
-    ensures few { length result.now ≤ 20 }
+    ensures table { result.now ≡ filter all_rules.has_toll (range_with_len 1 greatest_toll) }
+    ensures numbers { IsTrue (list_all (λ toll. nat_le 1 toll && nat_le toll greatest_toll) result.now) }
+    ensures few { length result.now ≤ greatest_toll }
 {
     &TOLLS
 }
@@ -135,8 +136,8 @@ pub fn every_toll() -> &'static [u8]
 pub(crate) fn column_tolls() -> &'static [u8]
     ensures value { result.now ≡ links.column_tolls }
     ensures kinds { IsTrue (list_all is_toll_between result.now) }
-    ensures numbers { IsTrue (list_all (λ toll. nat_le 1 toll && nat_le toll 20) result.now) }
-    ensures few { length result.now ≤ 20 }
+    ensures numbers { IsTrue (list_all (λ toll. nat_le 1 toll && nat_le toll greatest_toll) result.now) }
+    ensures few { length result.now ≤ greatest_toll }
 {
     &COLUMN_TOLLS
 }

@@ -8,6 +8,7 @@ ghost use Rattle.melody_rules.specs.Notes.{AreNotesOf};
 ghost use Rattle.fux_judge.specs.Charges.{leap_charge, move_charge, voice_charge};
 ghost use Rattle.fux_judge.specs.Rules.{cost_at, is_late_toll, tolls_at_once};
 ghost use Rattle.fux_judge.specs.Moments.{IsAfter, IsReadable, pairs_then, toll_then, with_column};
+ghost use Rattle.penalty_sheet.specs.Weights.{greatest_toll};
 
 use crate::all_rules::AllRules;
 use crate::moment::Moment;
@@ -39,7 +40,7 @@ fn cost(toll: u8, m: &Moment<'_>) -> u32
 /// What it costs by its weight.
 fn charge(toll: u8, sheet: &Sheet, m: &Moment<'_>) -> u64
     requires first { 1 ≤ toll }
-    requires last { toll ≤ 20 }
+    requires last { toll ≤ greatest_toll }
     requires soon { is_late_toll toll ≡ false }
     requires readable { IsReadable m.now }
     ensures value { (p : List (List ACell)) → IsAfter p m.now → result ≡ toll_then sheet.now p m.now toll }

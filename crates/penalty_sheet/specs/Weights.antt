@@ -2,7 +2,11 @@
 use Rattle.std.specs.Prelude.{ℕ, ◌-◌, List, [], ◌∷◌, slice_index}
 use Rattle.penalty_sheet.specs.declared.sheet.Sheet.{Sheet}
 
--- the weight of a toll, 1 to 20
+-- the tolls are numbered from 1 to this number
+abbrev pub greatest_toll : ℕ
+greatest_toll = 20
+
+-- the weight of a toll
 abbrev pub weight_of : Sheet → ℕ → ℕ
 weight_of sheet toll = slice_index sheet.weights (toll - 1)
 

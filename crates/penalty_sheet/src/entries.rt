@@ -5,9 +5,10 @@ ghost use Rattle.std.specs.Option.{option_and_then};
 ghost use Rattle.toml.specs.Data.{as_integer, get_member};
 ghost use Rattle.toml.specs.View.{view, table_view};
 ghost use Rattle.penalty_sheet.specs.Sheets.{entry_fault, first_fault, is_toll_key, keys_ascend, sheet_in, toll_key, top_fault, weight_in};
+ghost use Rattle.penalty_sheet.specs.Weights.{greatest_toll};
 
 use crate::fault::SheetFault;
-use crate::sheet::{Sheet, default_sheet};
+use crate::sheet::{GREATEST_TOLL, Sheet, default_sheet};
 use fux_pitch::Label;
 use std::alloc::Global;
 use toml::{Table, Value};
@@ -15,7 +16,7 @@ use toml::{Table, Value};
 /// The key of a toll: `Q1` to `Q20`.
 fn toll_key(toll: u8) -> &'static str
     requires first { 1 ≤ toll }
-    requires last { toll ≤ 20 }
+    requires last { toll ≤ greatest_toll }
     ensures { result.now ≡ toll_key toll }
 {
     match toll {
@@ -46,7 +47,7 @@ fn toll_key(toll: u8) -> &'static str
 fn is_toll_key(key: &str) -> bool
     ensures { result ≡ is_toll_key key.now }
 {
-    for toll in 1..21 {
+    for toll in 1..GREATEST_TOLL + 1 {
         if toll_key(toll) == key {
             return true;
         }
@@ -136,7 +137,7 @@ fn number_at(table: &Table, key: &str) -> Option<i64>
 /// The weight of a toll in a table of weights, or another where the table has none for it.
 fn weight_in(table: &Table, toll: u8, otherwise: u16) -> u16
     requires first { 1 ≤ toll }
-    requires last { toll ≤ 20 }
+    requires last { toll ≤ greatest_toll }
     requires right { first_fault entry_fault (table_view table.now) ≡ None }
     ensures { result ≡ weight_in (table_view table.now) toll otherwise }
 {
@@ -153,7 +154,7 @@ pub fn sheet_in(table: &Table) -> Sheet
 {
     let default = default_sheet();
     let mut weights = default.weights;
-    for i in 0..20 {
+    for i in 0..GREATEST_TOLL as usize {
         weights[i] = weight_in(table, i as u8 + 1, default.weights[i]);
     }
     Sheet { weights }

@@ -11,4 +11,4 @@ mod sheet;
 pub use fault::SheetFault;
 pub use price::{Price, price_at};
 pub use reading::read_sheet;
-pub use sheet::{Sheet, default_sheet, weight};
+pub use sheet::{GREATEST_TOLL, Sheet, default_sheet, weight};

@@ -1,12 +1,15 @@
 //! The weights of the tolls.
 
 ghost use Rattle.std.specs.Prelude.{◌≡◌, ◌≤◌};
-ghost use Rattle.penalty_sheet.specs.Weights.{default_weights, weight_of};
+ghost use Rattle.penalty_sheet.specs.Weights.{default_weights, greatest_toll, weight_of};
+
+/// The greatest number of a toll: the tolls are Q1 to Q20.
+pub const GREATEST_TOLL: u8 = 20;
 
 /// The weights of the tolls Q1 to Q20, in this order, from 0 to 10,000 each.
 #[derive(Clone, Copy, Debug, PartialEq, Eq)]
 pub struct Sheet {
-    pub weights: [u16; 20],
+    pub weights: [u16; GREATEST_TOLL as usize],
 }
 
 /// The sheet to use where none is given.
@@ -22,7 +25,7 @@ pub fn default_sheet() -> Sheet
 #[inline]
 pub fn weight(sheet: &Sheet, toll: u8) -> u16
     requires first { 1 ≤ toll }
-    requires last { toll ≤ 20 }
+    requires last { toll ≤ greatest_toll }
     ensures { result ≡ weight_of sheet.now toll }
 {
     sheet.weights[toll as usize - 1]

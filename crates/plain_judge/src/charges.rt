@@ -4,7 +4,7 @@ ghost use Rattle.std.specs.Prelude.{◌≡◌, ◌<◌, ◌≤◌, ◌*◌, ◌+
 ghost use Rattle.std.specs.List.{sum_by};
 ghost use Rattle.std.specs.Option.{ForSome, option_copied};
 ghost use Rattle.fux_grid.specs.Exercises.{IsValid, columns_in};
-ghost use Rattle.penalty_sheet.specs.Weights.{weight_of};
+ghost use Rattle.penalty_sheet.specs.Weights.{greatest_toll, weight_of};
 ghost use Rattle.fux_judge.specs.Penalties as grows;
 ghost use Rattle.fux_judge.specs.Penalties.{charges_settled_in, charges_of};
 ghost use Rattle.fux_judge.specs.Rules.{all_sets, is_cost_settled, tolls_read};
@@ -43,7 +43,7 @@ fn charge(
     i: usize,
 ) -> u64
     requires first { 1 ≤ toll }
-    requires last { toll ≤ 20 }
+    requires last { toll ≤ greatest_toll }
     requires valid { IsValid ex.now }
     requires earlier { ForSome before (λ score. IsPart ex.now score.now) }
     requires part { IsPart ex.now score.now }

@@ -3,7 +3,7 @@
 ghost use Rattle.std.specs.Prelude.{◌≡◌, ◌<◌, ◌≤◌, ◌*◌, ◌^◌, ℕ, slice_index, length, sum, if◌then◌else◌, IfOk};
 ghost use Rattle.rule_law.specs.Voices as words_of_voices;
 ghost use Rattle.rule_law.specs.Terms.{started_pitch};
-ghost use Rattle.penalty_sheet.specs.Weights.{weight_of};
+ghost use Rattle.penalty_sheet.specs.Weights.{greatest_toll, weight_of};
 ghost use Rattle.strike_prices.specs.Charges as strike_words;
 ghost use Rattle.strike_prices.specs.Fairness as fairness;
 ghost use Rattle.priced_floors.specs.Charges as words;
@@ -40,7 +40,7 @@ pub struct Charges {
 /// What a toll costs in parts, or the most that a note may be charged.
 fn most_charge(sheet: &Sheet, toll: u8) -> u32
     requires first { 1 ≤ toll }
-    requires last { toll ≤ 20 }
+    requires last { toll ≤ greatest_toll }
     ensures due { result ≤ SCALE * weight_of sheet.now toll }
     ensures small { result ≤ MOST_CHARGE }
 {
