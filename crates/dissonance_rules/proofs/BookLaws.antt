@@ -17,10 +17,10 @@ use Rattle.rule_law.specs.Quiet.{either_none, on_pair-none}
 use Rattle.rule_law.specs.Rulebooks.{KeepsLaws, KeepsRuleLaws, KeepsTollLaws}
 use Rattle.rule_law.specs.Terms.{clash, starts}
 use Rattle.dissonance_rules.specs.Book.{at_once_row, book, has_places_in, is_late, late_count, late_first, late_row, may_settle_in, passing_reach, rule_row, toll_row}
-use Rattle.dissonance_rules.specs.ClashLaws.{ahead_enough_stays, by_rule, passing_enough_stays}
+use Rattle.dissonance_rules.proofs.ClashLaws.{ahead_enough_stays, by_rule, passing_enough_stays}
 use Rattle.dissonance_rules.specs.Clashes.{clash_enough, clash_row, excuse_rule, is_told_later, pair_rule, passing_rule}
 use Rattle.rule_law.proofs.AtOnce.{own_within}
-use Rattle.dissonance_rules.specs.Locality.{at_once_is_local, clash_is_local, clash_settles_at_end, cost_is_local, cost_settles_at_end}
+use Rattle.dissonance_rules.proofs.Locality.{at_once_is_local, clash_is_local, clash_settles_at_end, cost_is_local, cost_settles_at_end}
 use Rattle.dissonance_rules.proofs.Quiet.{quiet_rows, quiet_tolls}
 use Rattle.dissonance_rules.specs.Rows.{broken_in}
 use Rattle.rule_law.specs.Law.{at_once_settles}

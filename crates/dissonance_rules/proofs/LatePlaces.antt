@@ -23,7 +23,7 @@ use Rattle.rule_law.specs.Voices.{holds_of_pair, is_free, pair_of}
 use Rattle.rule_law.specs.Ways.{holds_some_way, on_some_way}
 use Rattle.rule_law.specs.Whole.{is_whole}
 use Rattle.dissonance_rules.specs.Book.{has_places_in, late_count, late_first, late_row, may_settle_in, passing_count, passing_reach, reach}
-use Rattle.dissonance_rules.specs.ClashLaws.{IsAtOnce, by_rule, no_onsets, onsets_after-append}
+use Rattle.dissonance_rules.proofs.ClashLaws.{IsAtOnce, by_rule, no_onsets, onsets_after-append}
 use Rattle.dissonance_rules.proofs.NotesAhead.{notes_come}
 use Rattle.dissonance_rules.proofs.OffBar.{cantus_holds, reaches_in, settles_at_bar, settles_in, starter_has_species, starter_is_free, starter_settles}
 use Rattle.dissonance_rules.specs.Clashes.{clash_enough, clash_row, clash_rule, disturbance_rule, enough_ahead, excuse_rule, is_told_later, newly_passing, passing_enough, passing_rule, resolution_rule}

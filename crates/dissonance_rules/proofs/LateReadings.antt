@@ -22,7 +22,7 @@ use Rattle.rule_law.specs.Ways.{holds_some_way, on_some_way}
 use Rattle.rule_law.specs.Whole.{is_whole}
 use Rattle.rule_law.specs.declared.newest.NewestColumns.{NewestColumns}
 use Rattle.dissonance_rules.specs.Book.{at_once_row, is_late, late_count, late_first, late_row, passing_reach, rule_row}
-use Rattle.dissonance_rules.specs.ClashLaws.{by_rule}
+use Rattle.dissonance_rules.proofs.ClashLaws.{by_rule}
 use Rattle.dissonance_rules.specs.Clashes.{clash_enough, clash_row, clash_rule, enough_ahead, is_told_later, pair_rule, passing_enough}
 use Rattle.dissonance_rules.specs.Passing.{is_open_clash}
 use Rattle.dissonance_rules.proofs.BookLaws.{rules_keep}

@@ -1,7 +1,11 @@
 pub mod BookLaws
+pub mod ClashLaws
+pub mod EitherWay
 pub mod LatePlaces
 pub mod LateReadings
+pub mod Locality
 pub mod LowerVoices
+pub mod MixedLaws
 pub mod NotesAhead
 pub mod OffBar
 pub mod PassingReadings

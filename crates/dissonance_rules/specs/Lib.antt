@@ -1,12 +1,8 @@
 pub mod Apart
 pub mod Book
-pub mod ClashLaws
 pub mod Clashes
-pub mod EitherWay
 pub mod Ligatures
-pub mod Locality
 pub mod Mixed
-pub mod MixedLaws
 pub mod Passing
 pub mod Rows
 pub mod Told

@@ -15,7 +15,7 @@ use Rattle.fux_grid.specs.Orderly.{IsOrderly}
 use Rattle.fux_grid.proofs.Histories.{reverse-push}
 use Rattle.fux_grid.proofs.OrderlyLemmas.{orderly-fewer}
 use Rattle.rule_law.specs.Prefixes.{GoesOn, IsPrefix, IsSetting}
-use Rattle.rhythm_cadence.specs.Locality.{rhythm_breaks, rhythm_settles}
+use Rattle.rhythm_cadence.proofs.Locality.{rhythm_breaks, rhythm_settles}
 use Rattle.rhythm_cadence.specs.Parts.{newest_start}
 use Rattle.rhythm_cadence.proofs.OrderlyReadings.{newly_broken as newly_out_of_shape, orderly-step, unbroken-orderly}
 use Rattle.penalty_sheet.specs.declared.sheet.Sheet.{Sheet}

@@ -21,11 +21,11 @@ use Rattle.rule_law.specs.Prefixes.{GoesOn}
 use Rattle.rule_law.specs.Quiet.{is_quiet, on_free_voice-none, on_pair-none, on_voice-none}
 use Rattle.rule_law.specs.Rulebooks.{IsAmong, KeepsLaws, KeepsRuleLaws, KeepsTollLaws, newly_breaks, newly_costs, no_toll, nothing_keeps}
 use Rattle.rule_law.specs.Terms.{holds_of, interval_in}
-use Rattle.rhythm_cadence.specs.AllRules.{by_row, ligature_is_local, ligature_settles_at_end}
+use Rattle.rhythm_cadence.proofs.AllRules.{by_row, ligature_is_local, ligature_settles_at_end}
 use Rattle.rhythm_cadence.specs.Book.{at_once_row, book, cadence_rule, is_late, is_late_toll, late_row, late_toll, ligature_row, pattern_row, quaver_rule, quavers_settled, rule_row, shape_rule, toll_row}
 use Rattle.rhythm_cadence.specs.Cadence.{cadence_enough, cadence_row, lacks_cadence, shows_cadence}
-use Rattle.rhythm_cadence.specs.LateLaws.{pattern_enough_stays, pattern_is_local, pattern_needs, pattern_settles_at_end, quaver_enough_stays, quaver_is_local, quaver_settles_at_end}
-use Rattle.rhythm_cadence.specs.Locality.{rhythm_breaks, rhythm_is_local, rhythm_settles_at_end, rhythm_stays}
+use Rattle.rhythm_cadence.proofs.LateLaws.{pattern_enough_stays, pattern_is_local, pattern_needs, pattern_settles_at_end, quaver_enough_stays, quaver_is_local, quaver_settles_at_end}
+use Rattle.rhythm_cadence.proofs.Locality.{rhythm_breaks, rhythm_is_local, rhythm_settles_at_end, rhythm_stays}
 use Rattle.rhythm_cadence.specs.Parts.{newest_start}
 use Rattle.rhythm_cadence.specs.Patterns.{pattern_enough, settles_pattern}
 use Rattle.rhythm_cadence.specs.Quavers.{quaver_enough, quaver_row}

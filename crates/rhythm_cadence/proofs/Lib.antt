@@ -1,7 +1,10 @@
+pub mod AllRules
 pub mod BarReadings
 pub mod BookLaws
 pub mod CadenceReadings
 pub mod EarlierFollows
+pub mod LateLaws
+pub mod Locality
 pub mod LowerVoices
 pub mod NewestBars
 pub mod OrderlyReadings

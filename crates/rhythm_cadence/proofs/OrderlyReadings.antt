@@ -16,7 +16,7 @@ use Rattle.rule_law.specs.Law.{below_from_test, first_true}
 use Rattle.rule_law.specs.Growth.{newly}
 use Rattle.rule_law.specs.Voices.{is_free, voice_of, holds_of_voice}
 use Rattle.rhythm_cadence.specs.Rows.{broken_in, enough_after}
-use Rattle.rhythm_cadence.specs.Locality.{rhythm_breaks, rhythm_settles, rhythm_reads_on}
+use Rattle.rhythm_cadence.proofs.Locality.{rhythm_breaks, rhythm_settles, rhythm_reads_on}
 use Rattle.rhythm_cadence.specs.Parts.{newest_bar, newest_start}
 use Rattle.rhythm_cadence.proofs.BarReadings.{keeps_shapes, reading-bar, reading-within_bar, break_is_settled, whole_bar-stays}
 use Rattle.rhythm_cadence.proofs.NewestBars.{newest_bar-more}

@@ -14,7 +14,7 @@ use Rattle.rule_law.specs.Places.{reading_of, settled_by}
 use Rattle.rule_law.specs.Rulebooks.{newly_breaks}
 use Rattle.rule_law.specs.Voices.{is_free}
 use Rattle.rhythm_cadence.specs.Book.{shape_rule}
-use Rattle.rhythm_cadence.specs.Locality.{rhythm_breaks, rhythm_settles, rhythm_reads_on}
+use Rattle.rhythm_cadence.proofs.Locality.{rhythm_breaks, rhythm_settles, rhythm_reads_on}
 use Rattle.rhythm_cadence.specs.Parts.{newest_bar, newest_start, shapes_after, shapes_begun}
 use Rattle.rhythm_cadence.specs.Rows.{broken_in, enough_after}
 use Rattle.rhythm_cadence.proofs.BarReadings.{break_is_settled}

@@ -1,10 +1,7 @@
-pub mod AllRules
 pub mod BarCells
 pub mod Book
 pub mod Cadence
 pub mod InPlace
-pub mod LateLaws
-pub mod Locality
 pub mod Parts
 pub mod Patterns
 pub mod Quavers

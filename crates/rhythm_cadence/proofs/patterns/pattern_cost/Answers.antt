@@ -8,7 +8,7 @@ use Rattle.fux_grid.specs.declared.exercise.Exercise.{Exercise}
 use Rattle.fux_grid.specs.Columns.{earlier}
 use Rattle.rule_law.specs.Bars.{begins_bar}
 use Rattle.rule_law.specs.Voices.{count_free, is_free}
-use Rattle.rhythm_cadence.specs.LateLaws.{pattern_needs}
+use Rattle.rhythm_cadence.proofs.LateLaws.{pattern_needs}
 use Rattle.rhythm_cadence.specs.Patterns.{is_pattern, pattern_toll}
 use Rattle.rhythm_cadence.proofs.patterns.pattern_cost.Goals as goal
 use Rattle.rhythm_cadence.proofs.patterns.pattern_cost.Goals.{then-not-begins_bar-via-then-not-begins_bar, then-not-begins_bar-via-else-not-begins_bar+then-i-lt8}

@@ -1,6 +1,6 @@
 use Rattle.std.specs.Prelude.{refl}
 use Rattle.std.proofs.Common.{ap, sym, ◌∙◌, arith}
-use Rattle.rhythm_cadence.specs.AllRules.{book_breaks}
+use Rattle.rhythm_cadence.proofs.AllRules.{book_breaks}
 use Rattle.rhythm_cadence.proofs.book.RhythmRuleCrate.broken_in.Goals as goal
 
 pub returns-in-25 : goal.returns-in-25

@@ -16,9 +16,9 @@ use Rattle.rule_law.specs.Prefixes.{GoesOn}
 use Rattle.rule_law.specs.Terms.{clash, starts}
 use Rattle.rule_law.specs.Voices.{holds_of_pair, is_free, pair_of}
 use Rattle.rule_law.specs.Ways.{holds_some_way, on_some_way}
-use Rattle.dissonance_rules.specs.ClashLaws.{good_if_told}
+use Rattle.dissonance_rules.proofs.ClashLaws.{good_if_told}
 use Rattle.dissonance_rules.specs.Clashes.{clash_row, excuse_rule, passing_enough}
-use Rattle.dissonance_rules.specs.EitherWay.{clash-turned}
+use Rattle.dissonance_rules.proofs.EitherWay.{clash-turned}
 use Rattle.dissonance_rules.specs.Mixed.{clash_unexcused, is_excused}
 use Rattle.dissonance_rules.specs.Passing.{is_good_in, is_open_clash}
 

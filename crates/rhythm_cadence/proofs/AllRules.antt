@@ -8,7 +8,7 @@ use Rattle.rule_law.specs.Places.{IsLocal, SettlesAtEnd, reading_of, settled_by,
 use Rattle.rule_law.specs.Rulebooks.{RuleRow}
 use Rattle.rule_law.specs.Voices.{has_rule}
 use Rattle.rhythm_cadence.specs.Book.{at_once_row, cadence_rule, is_late, ligature_row, quaver_rule, rule_row, shape_rule}
-use Rattle.rhythm_cadence.specs.LateLaws.{quaver_is_local, quaver_settles_at_end}
+use Rattle.rhythm_cadence.proofs.LateLaws.{quaver_is_local, quaver_settles_at_end}
 use Rattle.rhythm_cadence.specs.Rows.{near_rows}
 
 -- the readings of the book's rules
