@@ -2,70 +2,72 @@
 -- (`least_at_end`). So of a setting without a strict break, what is paid and what the gauges cost at least are its penalty
 -- (`paid_and_least_at_end`).
 use Rattle.std.specs.Prelude.{◌≡◌, ℕ, zero, suc, ◌+◌, ◌*◌, ◌<◌, ◌≤◌, ◌==◌, Bool, true, false, not, List, [], ◌∷◌, ◌++◌, Contains, length, reverse, if◌then◌else◌, refl}
-use Rattle.std.specs.List.{filter, range_with_len, sum_by}
-use Rattle.std.proofs.Common.{ap, sym, ◌∙◌, subst, arith}
+use Rattle.std.specs.List.{AllByRecursion, filter, range_with_len, sum_by}
+use Rattle.std.proofs.Common.{ap, ap₂, sym, ◌∙◌, subst, arith}
 use Rattle.std.proofs.lemmas.Bool.{eq-eqb}
 use Rattle.std.proofs.lemmas.List.{length-append, length-map, length-reverse}
-use Rattle.std.proofs.lemmas.List.Sums.{sum_by-cons, sum_by-le-sum_by}
+use Rattle.std.proofs.lemmas.List.Sums.{sum_by-cons}
 use Rattle.fux_grid.specs.declared.cell.Cell.{Cell}
 use Rattle.fux_grid.specs.declared.exercise.Exercise.{Exercise}
 use Rattle.fux_grid.specs.Cells.{cell_in}
 use Rattle.fux_grid.specs.Columns.{line}
-use Rattle.fux_grid.specs.Exercises.{IsFree}
+use Rattle.fux_grid.specs.Exercises.{IsFree, columns_in}
 use Rattle.fux_grid.specs.Menus.{IsInMenu, menu_of}
 use Rattle.fux_grid.proofs.Histories.{reverse-push}
 use Rattle.fux_grid.proofs.MenuLemmas.{menu_of-contains}
-use Rattle.rule_law.specs.Gauges.{EndsAtValue, IsNextCell, NeverFalls}
+use Rattle.rule_law.specs.Gauges.{GaugeRow, IsNextCell, KeepsGaugeLaws}
 use Rattle.rule_law.specs.Growth.{sum_by-same}
 use Rattle.rule_law.specs.Prefixes.{IsPrefix, IsSetting}
 use Rattle.rule_law.specs.Voices.{is_free}
-use Rattle.melody_rules.specs.Gauges.{climax_least, climax_value, compass_least, compass_value, leaps_least, leaps_value, strikes_least, strikes_value}
-use Rattle.melody_rules.specs.GaugeLaws.{climax_ends, climax_grows, compass_ends, compass_grows, leaps_end, leaps_grow, strikes_end, strikes_grow}
+use Rattle.melody_rules.specs.Gauges.{gauges}
+use Rattle.melody_rules.specs.GaugeLaws.{gauges_keep}
 use Rattle.penalty_sheet.specs.declared.sheet.Sheet.{Sheet}
 use Rattle.penalty_sheet.specs.Weights.{weight_of}
-use Rattle.fux_judge.specs.Gauges.{cells_of_voice, free_voices, gauge_least, gauge_value, gauges_of, gauges_read, least_of}
+use Rattle.fux_judge.specs.Gauges.{cells_of_voice, cost_of_line, free_voices, gauges_of, least_of, least_of_line}
 use Rattle.fux_judge.specs.Penalties.{charges_of, has_strict_break, paid, penalty_of}
 use Rattle.fux_judge.proofs.Alive.{paid_at_end}
 use Rattle.fux_judge.proofs.Grows.{column_at_end}
-
--- each gauge keeps both laws
-gauge_grows : (gauge : ℕ) → NeverFalls (gauge_least gauge)
-gauge_grows gauge ex v cells col next = at (gauge == 17) (gauge == 18) (gauge == 19) (gauge == 20)
-  where
-    longer : List Cell
-    longer = cell_in col v ∷ cells
-
-    least : Bool → Bool → Bool → Bool → List Cell → ℕ
-    least a b c d line = if a then climax_least ex v line
-        else (if b then compass_least ex v line
-        else (if c then leaps_least ex v line else (if d then strikes_least ex v line else 0)))
-
-    at : (a b c d : Bool) → least a b c d cells ≤ least a b c d longer
-    at true b c d = climax_grows ex v cells col next
-    at false true c d = compass_grows ex v cells col next
-    at false false true d = leaps_grow ex v cells col next
-    at false false false true = strikes_grow ex v cells col next
-    at false false false false = omega arith
-
-gauge_ends : (gauge : ℕ) → EndsAtValue (gauge_least gauge) (gauge_value gauge)
-gauge_ends gauge ex v cells whole = at (gauge == 17) (gauge == 18) (gauge == 19) (gauge == 20)
-  where
-    at : (a b c d : Bool) → (if a then climax_least ex v cells
-        else (if b then compass_least ex v cells
-        else (if c then leaps_least ex v cells else (if d then strikes_least ex v cells else 0))))
-        ≡ (if a then climax_value cells else
-        (if b then compass_value cells else (if c then leaps_value cells else (if d then strikes_value cells else 0))))
-    at true b c d = climax_ends ex v cells whole
-    at false true c d = compass_ends ex v cells whole
-    at false false true d = leaps_end ex v cells whole
-    at false false false true = strikes_end ex v cells whole
-    at false false false false = refl
 
 -- a greater number by a weight is no less
 by_weight : (n m w : ℕ) → n ≤ m → n * w ≤ m * w
 by_weight zero m w h = omega arith
 by_weight (suc n) zero w h = absurd (omega arith)
 by_weight (suc n) (suc m) w h = omega (arith, by_weight n m w (omega (arith, h)))
+
+-- what gauges cost by their weights is no less where none of their values is
+costs_grow : (sheet : Sheet) (f g : GaugeRow → ℕ) (rows : List GaugeRow) → AllByRecursion (λ it. f it ≤ g it) rows
+    → sum_by (λ it. f it * weight_of sheet it.number) rows ≤ sum_by (λ it. g it * weight_of sheet it.number) rows
+costs_grow sheet f g [] h = omega arith
+costs_grow sheet f g (it ∷ rows) h =
+    omega (
+      arith,
+      sum_by-cons (λ one. f one * weight_of sheet one.number) it rows,
+      sum_by-cons (λ one. g one * weight_of sheet one.number) it rows,
+      by_weight (f it) (g it) (weight_of sheet it.number) h.0,
+      costs_grow sheet f g rows h.1,
+    )
+
+-- and the same where each of them is
+costs_same : (sheet : Sheet) (f g : GaugeRow → ℕ) (rows : List GaugeRow) → AllByRecursion (λ it. f it ≡ g it) rows
+    → sum_by (λ it. f it * weight_of sheet it.number) rows ≡ sum_by (λ it. g it * weight_of sheet it.number) rows
+costs_same sheet f g [] h = refl
+costs_same sheet f g (it ∷ rows) h =
+    sum_by-cons (λ one. f one * weight_of sheet one.number) it rows
+    ∙ ap₂ (λ n m. n * weight_of sheet it.number + m) h.0 (costs_same sheet f g rows h.1)
+    ∙ sym (sum_by-cons (λ one. g one * weight_of sheet one.number) it rows)
+
+-- so it is of all gauges, from their laws
+each_grows : (ex : Exercise) (v : ℕ) (cells col : List Cell) → IsNextCell ex v cells col → (rows : List GaugeRow)
+    → AllByRecursion KeepsGaugeLaws rows
+    → AllByRecursion (λ it. it.least ex v cells ≤ it.least ex v (cell_in col v ∷ cells)) rows
+each_grows ex v cells col next [] laws = laws
+each_grows ex v cells col next (it ∷ rows) laws =
+    (laws.0.grows ex v cells col next, each_grows ex v cells col next rows laws.1)
+
+each_ends : (ex : Exercise) (v : ℕ) (cells : List Cell) → length cells ≡ columns_in ex → (rows : List GaugeRow)
+    → AllByRecursion KeepsGaugeLaws rows → AllByRecursion (λ it. it.least ex v cells ≡ it.value cells) rows
+each_ends ex v cells whole [] laws = laws
+each_ends ex v cells whole (it ∷ rows) laws = (laws.0.ends ex v cells whole, each_ends ex v cells whole rows laws.1)
 
 -- a sum over those of some numbers that are kept is no less where each of their terms isn't
 sum_kept-le : (keep : ℕ → Bool) (f g : ℕ → ℕ) (k n : ℕ) → ((v : ℕ) → v < k + n → keep v ≡ true → f v ≤ g v)
@@ -120,34 +122,24 @@ next_cell ex p col v prefix free =
 pub least_grows : (ex : Exercise) (sheet : Sheet) (p : List (List Cell)) (col : List Cell) → IsPrefix ex (p ++ col ∷ [])
     → least_of ex sheet p ≤ least_of ex sheet (p ++ col ∷ [])
 least_grows ex sheet p col prefix =
-    sum_kept-le (is_free ex) (λ v. by_gauges v (cells_of_voice p v))
-    (λ v. by_gauges v (cells_of_voice (p ++ col ∷ []) v)) 0 ex.voices
+    sum_kept-le (is_free ex) (λ v. least_of_line ex sheet v (cells_of_voice p v))
+    (λ v. least_of_line ex sheet v (cells_of_voice (p ++ col ∷ []) v)) 0 ex.voices
     (λ v there free.
     let next : IsNextCell ex v (cells_of_voice p v) col = next_cell ex p col v prefix
     (free_voice ex v (omega (arith, there)) free) in
-    let P : List Cell → Type 0 = λ cells. by_gauges v (cells_of_voice p v) ≤ by_gauges v cells in
+    let P : List Cell → Type 0 = λ cells. least_of_line ex sheet v (cells_of_voice p v) ≤ least_of_line ex sheet v cells in
     subst P (sym (cells-more p col v))
-    (sum_by-le-sum_by (weighed v (cells_of_voice p v)) (weighed v (cell_in col v ∷ cells_of_voice p v)) gauges_read
-    (λ gauge. by_weight (gauge_least gauge ex v (cells_of_voice p v))
-    (gauge_least gauge ex v (cell_in col v ∷ cells_of_voice p v)) (weight_of sheet gauge)
-    (gauge_grows gauge ex v (cells_of_voice p v) col next))))
-  where
-    weighed : ℕ → List Cell → ℕ → ℕ
-    weighed v cells gauge = gauge_least gauge ex v cells * weight_of sheet gauge
-
-    by_gauges : ℕ → List Cell → ℕ
-    by_gauges v cells = sum_by (weighed v cells) gauges_read
+    (costs_grow sheet (λ it. it.least ex v (cells_of_voice p v))
+    (λ it. it.least ex v (cell_in col v ∷ cells_of_voice p v)) gauges
+    (each_grows ex v (cells_of_voice p v) col next gauges gauges_keep)))
 
 pub least_at_end : (ex : Exercise) (sheet : Sheet) (s : List (List Cell)) → IsSetting ex s → least_of ex sheet s
     ≡ gauges_of ex sheet s
 least_at_end ex sheet s setting =
-    sum_by-same (λ v. sum_by (λ gauge. gauge_least gauge ex v (cells_of_voice s v) * weight_of sheet gauge) gauges_read)
-    (λ v. sum_by (λ gauge. gauge_value gauge (cells_of_voice s v) * weight_of sheet gauge) gauges_read)
+    sum_by-same (λ v. least_of_line ex sheet v (cells_of_voice s v)) (λ v. cost_of_line sheet (cells_of_voice s v))
     (free_voices ex)
-    (λ v. sum_by-same (λ gauge. gauge_least gauge ex v (cells_of_voice s v) * weight_of sheet gauge)
-    (λ gauge. gauge_value gauge (cells_of_voice s v) * weight_of sheet gauge) gauges_read
-    (λ gauge. ap (λ n. n * weight_of sheet gauge)
-    (gauge_ends gauge ex v (cells_of_voice s v) (length-cells s v ∙ setting.whole))))
+    (λ v. costs_same sheet (λ it. it.least ex v (cells_of_voice s v)) (λ it. it.value (cells_of_voice s v)) gauges
+    (each_ends ex v (cells_of_voice s v) (length-cells s v ∙ setting.whole) gauges gauges_keep))
 
 pub paid_and_least_at_end : (ex : Exercise) → ex.voices ≤ 4 → (sheet : Sheet) (s : List (List Cell)) → IsSetting ex s
     → has_strict_break ex s ≡ false → paid ex sheet s + least_of ex sheet s ≡ penalty_of ex sheet s

@@ -5,29 +5,10 @@ use Rattle.std.specs.List.{filter, range_with_len, sum_by}
 use Rattle.fux_grid.specs.declared.cell.Cell.{Cell}
 use Rattle.fux_grid.specs.declared.exercise.Exercise.{Exercise}
 use Rattle.fux_grid.specs.Columns.{line}
-use Rattle.rule_law.specs.Gauges.{LeastValue, LineValue}
 use Rattle.rule_law.specs.Voices.{is_free}
-use Rattle.melody_rules.specs.Gauges.{climax_least, climax_value, compass_least, compass_value, leaps_least, leaps_value, strikes_least, strikes_value}
+use Rattle.melody_rules.specs.Gauges.{gauges}
 use Rattle.penalty_sheet.specs.declared.sheet.Sheet.{Sheet}
 use Rattle.penalty_sheet.specs.Weights.{weight_of}
-
--- the numbers of the gauges
-abbrev pub gauges_read : List ℕ
-gauges_read = 17 ∷ 18 ∷ 19 ∷ 20 ∷ []
-
--- the value of a gauge for a line; no other number has one
-abbrev pub gauge_value : ℕ → LineValue
-gauge_value gauge cells =
-    if gauge == 17 then climax_value cells
-    else (if gauge == 18 then compass_value cells
-    else (if gauge == 19 then leaps_value cells else (if gauge == 20 then strikes_value cells else 0)))
-
--- what each line that begins so comes to at least
-abbrev pub gauge_least : ℕ → LeastValue
-gauge_least gauge ex v cells =
-    if gauge == 17 then climax_least ex v cells
-    else (if gauge == 18 then compass_least ex v cells
-    else (if gauge == 19 then leaps_least ex v cells else (if gauge == 20 then strikes_least ex v cells else 0)))
 
 -- the free voices of an exercise
 abbrev pub free_voices : Exercise → List ℕ
@@ -39,11 +20,11 @@ cells_of_voice p v = line v (reverse p)
 
 -- what a whole line costs: the values of all gauges, each by its weight
 abbrev pub cost_of_line : Sheet → List Cell → ℕ
-cost_of_line sheet cells = sum_by (λ gauge. gauge_value gauge cells * weight_of sheet gauge) gauges_read
+cost_of_line sheet cells = sum_by (λ gauge. gauge.value cells * weight_of sheet gauge.number) gauges
 
 -- what each line of a voice costs at least that begins so
 abbrev pub least_of_line : Exercise → Sheet → ℕ → List Cell → ℕ
-least_of_line ex sheet v cells = sum_by (λ gauge. gauge_least gauge ex v cells * weight_of sheet gauge) gauges_read
+least_of_line ex sheet v cells = sum_by (λ gauge. gauge.least ex v cells * weight_of sheet gauge.number) gauges
 
 -- what the line of a voice costs at least in each setting that a prefix begins, nothing where the voice isn't free
 abbrev pub least_of_voice : Exercise → Sheet → ℕ → List (List Cell) → ℕ

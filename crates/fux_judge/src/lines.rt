@@ -2,7 +2,7 @@
 
 ghost use Rattle.std.specs.Prelude.{◌≡◌, ◌≤◌, ◌<◌};
 ghost use Rattle.fux_grid.specs.Exercises.{IsFree, IsValid, columns_in};
-ghost use Rattle.rule_law.specs.Voices as voices_words;
+ghost use Rattle.melody_rules.specs.Gauges.{climax_least};
 ghost use Rattle.fux_judge.specs.Gauges as words;
 ghost use Rattle.fux_judge.specs.GaugeStates.{TellsOfLine};
 ghost use Rattle.fux_judge.specs.Verdicts.{AtPrefix};
@@ -20,7 +20,7 @@ fn climax_repeats(ex: &Exercise, v: u8, i: usize, kept: &LineGauges, ahead: &Lin
     requires valid { IsValid ex.now }
     requires free { IsFree ex.now v }
     requires place { i ≤ columns_in ex.now }
-    ensures { TellsOfLine ex.now v i kept.now ahead.now (words.gauge_least 17 ex.now v) result }
+    ensures { TellsOfLine ex.now v i kept.now ahead.now (climax_least ex.now v) result }
 {
     if kept.climax.count < 2 {
         return 0;

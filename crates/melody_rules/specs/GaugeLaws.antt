@@ -1,7 +1,7 @@
 -- From a prefix of a setting to a longer one no gauge's least value falls, and in a setting it is the gauge's value.
 use Rattle.std.specs.Prelude.{◌≡◌, ℕ, zero, suc, ◌+◌, ◌-◌, ◌*◌, ◌<◌, ◌≤◌, ◌==◌, ℤ, ◌≤ℤ◌, int_le, Bool, true, false, not, cond, ◌&&◌, ◌||◌, List, ◌∷◌, length, Option, Some, None, if◌then◌else◌, refl}
 use Rattle.std.specs.Int.{from_bool, int_max}
-use Rattle.std.specs.List.{list_all, range_with_len}
+use Rattle.std.specs.List.{AllByRecursion, list_all, range_with_len}
 use Rattle.std.specs.Option.{option_map_or}
 use Rattle.std.specs.Ordering.{int_eq}
 use Rattle.std.proofs.Common.{ap, sym, ◌∙◌, subst, arith}
@@ -17,12 +17,12 @@ use Rattle.fux_grid.specs.declared.exercise.Exercise.{Exercise}
 use Rattle.fux_grid.specs.Cells.{cell_in}
 use Rattle.fux_grid.specs.Exercises.{bar_of, columns_in}
 use Rattle.fux_grid.specs.Menus.{is_between, range_of}
-use Rattle.rule_law.specs.Gauges.{EndsAtValue, IsNextCell, LeastValue, LineValue, NeverFalls, menu_starts, starts_ahead}
+use Rattle.rule_law.specs.Gauges.{EndsAtValue, IsNextCell, LeastValue, LineValue, NeverFalls, menu_starts, starts_ahead, KeepsGaugeLaws}
 use Rattle.rule_law.specs.Terms.{starts}
 use Rattle.rule_law.proofs.NextPitch.{next_in_range}
 use Rattle.rule_law.proofs.MenuStarts.{any_from, starts_ahead-more, starts_ahead-none}
 use Rattle.melody_rules.specs.ClimaxKeys.{climax_is, least_by_key, least_is}
-use Rattle.melody_rules.specs.Gauges.{beyond_fourth, climax_least, climax_value, compass_least, compass_value, is_at_top, is_final_climax, is_narrow, is_topped, leaps_in, leaps_least, leaps_value, moves_in, notes_at, strikes_least, strikes_value}
+use Rattle.melody_rules.specs.Gauges.{beyond_fourth, climax_least, climax_value, compass_least, compass_value, is_at_top, is_final_climax, is_narrow, is_topped, leaps_in, leaps_least, leaps_value, moves_in, notes_at, strikes_least, strikes_value, climax_gauge, compass_gauge, leaps_gauge, strikes_gauge, gauges}
 use Rattle.melody_rules.specs.Held.{pitches-hold}
 use Rattle.melody_rules.specs.Keys.{greatest_key}
 use Rattle.melody_rules.specs.Rows.{pitches}
@@ -255,3 +255,20 @@ climax_ends ex v cells whole =
     ∙ ap (λ b. if b then value_by_key cells else 0)
     (final_none ex v (length cells) (greatest_key (pitches cells)) whole)
     ∙ ap (λ n. n - 1) (sym (climax_is (pitches cells)))
+
+-- ---- what is owed of the gauges
+
+pub climax_keeps : KeepsGaugeLaws climax_gauge
+climax_keeps = record { grows = climax_grows; ends = climax_ends }
+
+pub compass_keeps : KeepsGaugeLaws compass_gauge
+compass_keeps = record { grows = compass_grows; ends = compass_ends }
+
+pub leaps_keeps : KeepsGaugeLaws leaps_gauge
+leaps_keeps = record { grows = leaps_grow; ends = leaps_end }
+
+pub strikes_keeps : KeepsGaugeLaws strikes_gauge
+strikes_keeps = record { grows = strikes_grow; ends = strikes_end }
+
+pub gauges_keep : AllByRecursion KeepsGaugeLaws gauges
+gauges_keep = (climax_keeps, (compass_keeps, (leaps_keeps, (strikes_keeps, tt))))

@@ -9,7 +9,7 @@ use Rattle.fux_pitch.specs.Pitch.{key_of, same_pitch}
 use Rattle.fux_grid.specs.declared.exercise.Exercise.{Exercise}
 use Rattle.fux_grid.specs.Exercises.{bar_of}
 use Rattle.fux_grid.specs.Menus.{range_of}
-use Rattle.rule_law.specs.Gauges.{LeastValue, LineValue, columns_from, menu_starts, starts_ahead}
+use Rattle.rule_law.specs.Gauges.{GaugeRow, LeastValue, LineValue, columns_from, menu_starts, starts_ahead}
 use Rattle.rule_law.specs.Terms.{holds_of, interval_of_pitches, is_leap}
 use Rattle.melody_rules.specs.Rows.{last_of, pitches, spans_over}
 
@@ -99,3 +99,20 @@ strikes_value cells = beyond_fourth (pitches cells)
 -- the value so far
 abbrev pub strikes_least : LeastValue
 strikes_least ex v cells = strikes_value cells
+
+-- ---- the gauges
+
+abbrev pub climax_gauge : GaugeRow
+climax_gauge = record { number = 17; value = climax_value; least = climax_least }
+
+abbrev pub compass_gauge : GaugeRow
+compass_gauge = record { number = 18; value = compass_value; least = compass_least }
+
+abbrev pub leaps_gauge : GaugeRow
+leaps_gauge = record { number = 19; value = leaps_value; least = leaps_least }
+
+abbrev pub strikes_gauge : GaugeRow
+strikes_gauge = record { number = 20; value = strikes_value; least = strikes_least }
+
+abbrev pub gauges : List GaugeRow
+gauges = climax_gauge ∷ compass_gauge ∷ leaps_gauge ∷ strikes_gauge ∷ []

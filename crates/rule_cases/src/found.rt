@@ -5,7 +5,7 @@ ghost use Rattle.fux_grid.specs.Exercises.{IsValid, columns_in};
 
 use fux_grid::{Exercise, Score, VoiceSet};
 use fux_judge::{cost_in, is_broken_in, is_cost_settled_in, is_settled_in};
-use melody_rules::{Q17, Q18, Q19, Q20};
+use melody_rules::{Q17, Q18, Q19, Q20, is_narrow, leap_excess};
 use rhythm_cadence::{noted, unbegun};
 use rule_law::Gauge;
 use std::fmt::Write;
@@ -59,8 +59,8 @@ fn add_costs(
     Ok(())
 }
 
-/// The value of a gauge for a whole voice.
-fn value<G: Gauge>(it: &G, ex: &Exercise, score: &Score, v: u8) -> u32
+/// What a gauge keeps of a whole voice.
+fn state<G: Gauge>(it: &G, ex: &Exercise, score: &Score, v: u8) -> G::State
     requires valid { IsValid ex.now }
     requires few { length score.now.columns ≤ columns_in ex.now }
 {
@@ -68,7 +68,7 @@ fn value<G: Gauge>(it: &G, ex: &Exercise, score: &Score, v: u8) -> u32
     for i in 0..score.len() {
         state = it.step(ex, v, i, state, score.cell(v as usize, i));
     }
-    it.last(ex, v, state)
+    state
 }
 
 /// The values of a gauge for the free voices.
@@ -78,10 +78,10 @@ fn add_values(text: &mut String, number: u8, ex: &Exercise, score: &Score) -> Re
 {
     for v in 0..ex.voices {
         let value = match number {
-            17 => value(&Q17, ex, score, v),
-            18 => value(&Q18, ex, score, v),
-            19 => value(&Q19, ex, score, v),
-            _ => value(&Q20, ex, score, v),
+            17 => u32::from(state(&Q17, ex, score, v).count).saturating_sub(1),
+            18 => u32::from(is_narrow(state(&Q18, ex, score, v))),
+            19 => leap_excess(state(&Q19, ex, score, v)),
+            _ => u32::from(state(&Q20, ex, score, v).beyond),
         };
         if v != ex.cantus_voice && value > 0 {
             write!(text, "\nQ{number} {v} {value}")?;

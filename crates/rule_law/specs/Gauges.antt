@@ -43,3 +43,14 @@ NeverFalls least =
 abbrev pub EndsAtValue : LeastValue → LineValue → Type 0
 EndsAtValue least value =
     (ex : Exercise) (v : ℕ) (cells : List Cell) → length cells ≡ columns_in ex → least ex v cells ≡ value cells
+
+-- a gauge: its number, the value of a line, and the least that each line that begins so may come to
+pub record GaugeRow : Type 0 where
+  pub number : ℕ
+  pub value : LineValue
+  pub least : LeastValue
+
+-- what is owed of it
+pub record KeepsGaugeLaws (it : GaugeRow) : Type 0 where
+  pub grows : NeverFalls it.least
+  pub ends : EndsAtValue it.least it.value

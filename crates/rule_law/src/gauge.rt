@@ -1,65 +1,37 @@
 //! Gauges, and the columns ahead in which a voice may start a note.
 
-ghost use Rattle.std.specs.Prelude.{◌≡◌, ◌<◌, ◌≤◌, ◌↔◌, ◌∷◌, [], ℕ, List, IsTrue, length};
+ghost use Rattle.std.specs.Prelude.{◌≡◌, ◌<◌, ◌≤◌, ◌∷◌, [], List, length};
 ghost use Rattle.fux_grid.specs.declared.cell.Cell.{Cell};
-ghost use Rattle.fux_grid.specs.Exercises.{IsFree, IsValid, columns_in};
+ghost use Rattle.fux_grid.specs.Exercises.{IsValid, columns_in};
 ghost use Rattle.rule_law.specs.Gauges as words;
-ghost use Rattle.rule_law.specs.Gauges.{EndsAtValue, LeastValue, LineValue, NeverFalls};
+ghost use Rattle.rule_law.specs.Gauges.{GaugeRow, KeepsGaugeLaws};
 
 use fux_grid::{Cell, Exercise, can_start};
 
-/// A value of the whole line of a free voice, which is known to be at least so much while the line goes on. A clause sees the cells of
-/// the line from the newest to the oldest.
+/// What is kept of a line for a value of the whole line of a free voice, which is known to be at least so much while the line goes on.
+/// A clause sees the cells of the line from the newest to the oldest.
 pub trait Gauge {
     /// What is kept of the cells of a voice.
     type State: Copy;
 
-    /// The gauge's number.
-    ghost numbered: { Self → ℕ };
+    /// The gauge's number, the value of a line, and what each line that begins with given cells has at least.
+    ghost row: { GaugeRow };
+
+    /// From a prefix of a setting to a longer one the least value never falls, and in a setting it is the value.
+    ghost keeps: { KeepsGaugeLaws row };
 
     /// The state is that of these cells.
-    ghost is_of: { Self → List Cell → Self.State → Type 0 };
-
-    /// The value of a line.
-    ghost value: { Self → LineValue };
-
-    /// What each line that begins with these cells has at least.
-    ghost least_of: { Self → LeastValue };
-
-    /// The gauge's number.
-    fn number(&self) -> u8
-        ensures { result ≡ numbered self.now };
+    ghost is_of: { List Cell → Self.State → Type 0 };
 
     /// Before the first column.
     fn start(&self) -> Self::State
-        ensures { is_of self.now [] result };
+        ensures { is_of [] result };
 
     /// After one more cell of voice `v`, that of column `i`.
     fn step(&self, ex: &Exercise, v: u8, i: usize, s: Self::State, c: Cell) -> Self::State
         requires valid { IsValid ex.now }
         requires place { i < columns_in ex.now }
-        ensures { (cells : List Cell) → length cells ≡ i → is_of self.now cells s →
-            is_of self.now (c ∷ cells) result };
-
-    /// What each line of voice `v` that begins with these `i` cells has at least.
-    fn least(&self, ex: &Exercise, v: u8, i: usize, s: Self::State) -> u32
-        requires valid { IsValid ex.now }
-        requires free { IsFree ex.now v }
-        requires place { i ≤ columns_in ex.now }
-        ensures { (cells : List Cell) → length cells ≡ i → is_of self.now cells s →
-            result ≡ least_of self.now ex.now v cells };
-
-    /// The value of a line of all columns.
-    fn last(&self, ex: &Exercise, v: u8, s: Self::State) -> u32
-        requires valid { IsValid ex.now }
-        ensures { (cells : List Cell) → length cells ≡ columns_in ex.now → is_of self.now cells s →
-            result ≡ value self.now cells };
-
-    /// From a prefix of a setting to a longer one the least value never falls.
-    ghost grows: { (it : Self) → NeverFalls (least_of it) };
-
-    /// In a setting it is the value.
-    ghost ends: { (it : Self) → EndsAtValue (least_of it) (value it) };
+        ensures { (cells : List Cell) → length cells ≡ i → is_of cells s → is_of (c ∷ cells) result };
 }
 
 /// Whether some column of the menu at a place has a start of the voice.

@@ -5,7 +5,7 @@ ghost use Rattle.fux_pitch.specs.declared.pitch.Pitch.{Pitch as APitch};
 ghost use Rattle.fux_grid.specs.Exercises.{IsFree, IsValid, columns_in};
 ghost use Rattle.fux_grid.specs.Menus.{range_of};
 ghost use Rattle.melody_rules.specs.Gauges as words;
-ghost use Rattle.melody_rules.specs.GaugeLaws.{climax_ends, climax_grows};
+ghost use Rattle.melody_rules.specs.GaugeLaws.{climax_keeps};
 ghost use Rattle.melody_rules.specs.GaugeParts.{IsClimaxOf};
 ghost use Rattle.melody_rules.specs.Rows.{pitches};
 
@@ -78,21 +78,11 @@ pub fn is_final_climax(ex: &Exercise, v: u8, i: usize, key: u8) -> bool
 impl Gauge for Q17 {
     type State = Climax;
 
-    ghost numbered = { λ _. 17 };
+    ghost row = { words.climax_gauge };
 
-    ghost is_of = { λ _ cells kept. IsClimaxOf (pitches cells) kept };
+    ghost keeps = { climax_keeps };
 
-    ghost value = { λ _. words.climax_value };
-
-    ghost least_of = { λ _. words.climax_least };
-
-    ghost grows = { λ _. climax_grows };
-
-    ghost ends = { λ _. climax_ends };
-
-    fn number(&self) -> u8 {
-        17
-    }
+    ghost is_of = { λ cells kept. IsClimaxOf (pitches cells) kept };
 
     fn start(&self) -> Climax {
         Climax {
@@ -107,16 +97,5 @@ impl Gauge for Q17 {
             Cell::Hold(_) => s,
             Cell::Rest => s,
         }
-    }
-
-    fn least(&self, ex: &Exercise, v: u8, i: usize, s: Climax) -> u32 {
-        if !is_final_climax(ex, v, i, s.greatest) {
-            return 0;
-        }
-        u32::from(s.count).saturating_sub(1)
-    }
-
-    fn last(&self, _ex: &Exercise, _v: u8, s: Climax) -> u32 {
-        u32::from(s.count).saturating_sub(1)
     }
 }

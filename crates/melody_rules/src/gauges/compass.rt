@@ -3,7 +3,7 @@
 ghost use Rattle.std.specs.Prelude.{◌≡◌, ◌∷◌, List};
 ghost use Rattle.fux_pitch.specs.declared.pitch.Pitch.{Pitch as APitch};
 ghost use Rattle.melody_rules.specs.Gauges as words;
-ghost use Rattle.melody_rules.specs.GaugeLaws.{compass_ends, compass_grows};
+ghost use Rattle.melody_rules.specs.GaugeLaws.{compass_keeps};
 ghost use Rattle.melody_rules.specs.GaugeParts.{IsCompassOf};
 ghost use Rattle.melody_rules.specs.Rows.{pitches};
 
@@ -48,21 +48,11 @@ pub fn is_narrow(kept: Compass) -> bool
 impl Gauge for Q18 {
     type State = Compass;
 
-    ghost numbered = { λ _. 18 };
+    ghost row = { words.compass_gauge };
 
-    ghost is_of = { λ _ cells kept. IsCompassOf (pitches cells) kept };
+    ghost keeps = { compass_keeps };
 
-    ghost value = { λ _. words.compass_value };
-
-    ghost least_of = { λ _. words.compass_least };
-
-    ghost grows = { λ _. compass_grows };
-
-    ghost ends = { λ _. compass_ends };
-
-    fn number(&self) -> u8 {
-        18
-    }
+    ghost is_of = { λ cells kept. IsCompassOf (pitches cells) kept };
 
     fn start(&self) -> Compass {
         Compass {
@@ -78,16 +68,5 @@ impl Gauge for Q18 {
             Cell::Hold(_) => s,
             Cell::Rest => s,
         }
-    }
-
-    fn least(&self, ex: &Exercise, v: u8, i: usize, s: Compass) -> u32 {
-        if starts_ahead(ex, v, i) != 0 {
-            return 0;
-        }
-        u32::from(is_narrow(s))
-    }
-
-    fn last(&self, _ex: &Exercise, _v: u8, s: Compass) -> u32 {
-        u32::from(is_narrow(s))
     }
 }

@@ -4,7 +4,7 @@ ghost use Rattle.std.specs.Prelude.{◌≡◌, ◌-◌, ◌*◌, ◌<◌, ◌≤
 ghost use Rattle.fux_pitch.specs.declared.pitch.Pitch.{Pitch as APitch};
 ghost use Rattle.rule_law.specs.Terms as terms;
 ghost use Rattle.melody_rules.specs.Gauges as words;
-ghost use Rattle.melody_rules.specs.GaugeLaws.{leaps_end, leaps_grow};
+ghost use Rattle.melody_rules.specs.GaugeLaws.{leaps_keeps};
 ghost use Rattle.melody_rules.specs.GaugeParts.{IsLeapsOf};
 ghost use Rattle.melody_rules.specs.Rows.{pitches};
 
@@ -60,21 +60,11 @@ pub fn leap_excess(kept: Leaps) -> u32
 impl Gauge for Q19 {
     type State = Leaps;
 
-    ghost numbered = { λ _. 19 };
+    ghost row = { words.leaps_gauge };
 
-    ghost is_of = { λ _ cells kept. IsLeapsOf (pitches cells) kept };
+    ghost keeps = { leaps_keeps };
 
-    ghost value = { λ _. words.leaps_value };
-
-    ghost least_of = { λ _. words.leaps_least };
-
-    ghost grows = { λ _. leaps_grow };
-
-    ghost ends = { λ _. leaps_end };
-
-    fn number(&self) -> u8 {
-        19
-    }
+    ghost is_of = { λ cells kept. IsLeapsOf (pitches cells) kept };
 
     fn start(&self) -> Leaps {
         Leaps {
@@ -90,13 +80,5 @@ impl Gauge for Q19 {
             Cell::Hold(_) => s,
             Cell::Rest => s,
         }
-    }
-
-    fn least(&self, ex: &Exercise, v: u8, i: usize, s: Leaps) -> u32 {
-        leap_excess(s).saturating_sub(starts_ahead(ex, v, i))
-    }
-
-    fn last(&self, _ex: &Exercise, _v: u8, s: Leaps) -> u32 {
-        leap_excess(s)
     }
 }

@@ -3,7 +3,7 @@
 ghost use Rattle.std.specs.Prelude.{◌≡◌, ◌<◌, ◌∷◌, List, length};
 ghost use Rattle.fux_pitch.specs.declared.pitch.Pitch.{Pitch as APitch};
 ghost use Rattle.melody_rules.specs.Gauges as words;
-ghost use Rattle.melody_rules.specs.GaugeLaws.{strikes_end, strikes_grow};
+ghost use Rattle.melody_rules.specs.GaugeLaws.{strikes_keeps};
 ghost use Rattle.melody_rules.specs.GaugeParts.{IsStrikesOf, place_in};
 ghost use Rattle.melody_rules.specs.Rows.{pitches};
 
@@ -53,21 +53,11 @@ fn with_note(kept: &Strikes, pitch: Pitch) -> Strikes
 impl Gauge for Q20 {
     type State = Strikes;
 
-    ghost numbered = { λ _. 20 };
+    ghost row = { words.strikes_gauge };
 
-    ghost is_of = { λ _ cells kept. IsStrikesOf (pitches cells) kept };
+    ghost keeps = { strikes_keeps };
 
-    ghost value = { λ _. words.strikes_value };
-
-    ghost least_of = { λ _. words.strikes_least };
-
-    ghost grows = { λ _. strikes_grow };
-
-    ghost ends = { λ _. strikes_end };
-
-    fn number(&self) -> u8 {
-        20
-    }
+    ghost is_of = { λ cells kept. IsStrikesOf (pitches cells) kept };
 
     fn start(&self) -> Strikes {
         Strikes {
@@ -82,13 +72,5 @@ impl Gauge for Q20 {
             Cell::Hold(_) => s,
             Cell::Rest => s,
         }
-    }
-
-    fn least(&self, _ex: &Exercise, _v: u8, _i: usize, s: Strikes) -> u32 {
-        u32::from(s.beyond)
-    }
-
-    fn last(&self, _ex: &Exercise, _v: u8, s: Strikes) -> u32 {
-        u32::from(s.beyond)
     }
 }
