@@ -37,9 +37,17 @@ def modules():
 
 def read(lines):
     texts, imports, others, name = collections.OrderedDict(), {}, {}, None
+    is_inner = False
     for line in lines:
         if not line.strip() or line.lstrip().startswith("--"):
             continue
+        # what a module with parameters has is indented by two
+        if line.startswith("module "):
+            is_inner = True
+        elif line[0] != " ":
+            is_inner = False
+        elif is_inner and line.startswith("  "):
+            line = line[2:]
         used = IMPORT.match(line.removeprefix("pub "))
         if used:
             taken(used, imports, others)
