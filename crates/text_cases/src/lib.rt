@@ -1,4 +1,4 @@
-//! Note texts with what reading answers of each, other texts at the edges of what is read, and texts that are written.
+//! Note texts with what reading answers of each, other texts and MIDI files at the edges of what is read, and those that are written.
 #![tactic(auto)]
 
 #[cfg(test)]
@@ -11,6 +11,10 @@ mod claims;
 mod drills;
 #[cfg(test)]
 mod heads;
+#[cfg(test)]
+mod midi_files;
+#[cfg(test)]
+mod midi_kinds;
 #[cfg(test)]
 mod prints;
 #[cfg(test)]

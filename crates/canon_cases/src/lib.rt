@@ -1,7 +1,0 @@
-//! Canons that were worked out elsewhere. They stand in a crate above the tree, so that what carries the proofs is proved once.
-#![tactic(auto)]
-
-#[cfg(test)]
-mod canons;
-#[cfg(test)]
-mod table;

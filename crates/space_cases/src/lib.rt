@@ -1,7 +1,0 @@
-//! Best settings that were worked out elsewhere. They stand in a crate above the tree, so that what carries the proofs is proved once.
-#![tactic(auto)]
-
-#[cfg(test)]
-mod best;
-#[cfg(test)]
-mod table;
