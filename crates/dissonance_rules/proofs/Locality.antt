@@ -1,17 +1,15 @@
 -- The readings of the rules and tolls are local.
-use Rattle.std.specs.Prelude.{◌≡◌, ℕ, ◌+◌, ◌^◌, ◌==◌, Bool, true, false, ◌&&◌, nat_lt, IsTrue, List, ◌++◌, Option, Some, None, refl}
-use Rattle.std.proofs.Common.{◌∙◌, ap, sym, subst}
-use Rattle.std.proofs.lemmas.Bool.{cond_both, eqb-true}
+use Rattle.std.specs.Prelude.{◌≡◌, ℕ, ◌+◌, ◌^◌, ◌==◌, Bool, true, ◌&&◌, nat_lt, List, ◌++◌, Option, Some, None, refl}
+use Rattle.std.proofs.Common.{◌∙◌, ap}
 use Rattle.fux_grid.specs.declared.cell.Cell.{Cell}
 use Rattle.fux_grid.specs.declared.exercise.Exercise.{Exercise}
 use Rattle.rule_law.specs.Law.{at_once_settles, local_from_row}
 use Rattle.rule_law.specs.Places.{IsLocal, SettlesAtEnd, reading_of, settled_by}
-use Rattle.rule_law.specs.Voices.{has_rule, holds_of_pair, on_pair, pair_of}
-use Rattle.dissonance_rules.specs.Book.{at_once_row, is_late, late_row, rule_row}
+use Rattle.rule_law.specs.Voices.{holds_of_pair, on_pair, pair_of}
 use Rattle.dissonance_rules.proofs.ClashLaws.{IsAtOnce, ahead_settles_at_end, by_rule, disturbance_is_local, passing_is_local, passing_settles_at_end, resolution_is_local}
 use Rattle.dissonance_rules.specs.Clashes.{clash_enough, clash_row, pair_rule}
 use Rattle.dissonance_rules.proofs.MixedLaws.{excuse_is_local}
-use Rattle.dissonance_rules.specs.Rows.{broken_in, cost_enough, cost_in, enough_after, near_rows, toll_rows}
+use Rattle.dissonance_rules.specs.Rows.{broken_in, cost_enough, cost_in, enough_after}
 
 -- S11 and S14
 pub at_once_is_local : (rule : ℕ) (ex : Exercise) (voices : ℕ)

@@ -1,5 +1,5 @@
 -- All rules and tolls by their numbers: their rows stand in the rule crates.
-use Rattle.std.specs.Prelude.{ℕ, ◌==◌, not, Bool, true, false, List, ◌++◌}
+use Rattle.std.specs.Prelude.{ℕ, ◌==◌, not, Bool, List, ◌++◌}
 use Rattle.std.specs.List.{filter, list_any, range_with_len}
 use Rattle.fux_grid.specs.declared.exercise.Exercise.{Exercise}
 use Rattle.fux_grid.specs.Exercises.{greatest_mixed_rule}

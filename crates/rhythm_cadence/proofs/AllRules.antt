@@ -1,15 +1,10 @@
 -- The readings of all rules of the crate, and the laws of Q15.
-use Rattle.std.specs.Prelude.{ℕ, ◌≡◌, ◌==◌, ◌||◌, Bool, true, false, IsTrue, if◌then◌else◌, refl}
-use Rattle.std.proofs.Common.{subst}
-use Rattle.std.proofs.lemmas.Bool.{eqb-true, false_from_ne_true}
+use Rattle.std.specs.Prelude.{ℕ, ◌≡◌, ◌==◌, ◌||◌, Bool, true, false, if◌then◌else◌, refl}
 use Rattle.fux_grid.specs.declared.exercise.Exercise.{Exercise}
 use Rattle.rule_law.specs.Law.{at_once_settles, local_from_row}
 use Rattle.rule_law.specs.Places.{IsLocal, SettlesAtEnd, reading_of, settled_by, Reading}
 use Rattle.rule_law.specs.Rulebooks.{RuleRow}
-use Rattle.rule_law.specs.Voices.{has_rule}
 use Rattle.rhythm_cadence.specs.Book.{at_once_row, cadence_rule, is_late, ligature_row, quaver_rule, rule_row, shape_rule}
-use Rattle.rhythm_cadence.proofs.LateLaws.{quaver_is_local, quaver_settles_at_end}
-use Rattle.rhythm_cadence.specs.Rows.{near_rows}
 
 -- the readings of the book's rules
 abbrev pub book_breaks : ℕ → Exercise → ℕ → Reading Bool

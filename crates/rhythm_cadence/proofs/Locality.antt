@@ -1,8 +1,8 @@
 -- The laws of these rules: what is settled stays, and everything is settled at the end.
 use Rattle.std.specs.Prelude.{◌≡◌, ℕ, ◌+◌, ◌-◌, ◌*◌, ◌%◌, ◌^◌, ◌<◌, ◌≤◌, ◌==◌, Bool, true, false, not, ◌&&◌, nat_lt, List, ◌∷◌, ◌++◌, Option, Some, None, IsTrue, if◌then◌else◌, length, drop, take, refl}
-use Rattle.std.proofs.Common.{ap, sym, ◌∙◌, subst, arith}
+use Rattle.std.proofs.Common.{ap, sym, ◌∙◌, arith}
 use Rattle.std.proofs.lemmas.List.{length-append, length-drop, take-append-le}
-use Rattle.std.proofs.lemmas.Bool.{and_from, both_ways, cond-false, eqb-true, false_from_ne_true, le-ltb, ltb-false}
+use Rattle.std.proofs.lemmas.Bool.{and_from, both_ways, eqb-true, false_from_ne_true, le-ltb, ltb-false}
 use Rattle.fux_grid.specs.declared.cell.Cell.{Cell}
 use Rattle.fux_grid.specs.declared.exercise.Exercise.{Exercise}
 use Rattle.fux_grid.specs.Exercises.{bar_of, slot_of}
@@ -15,7 +15,7 @@ use Rattle.rule_law.specs.Places.{IsUndisturbed, reading_of, settled_by, IsLocal
 use Rattle.rule_law.specs.Growth.{EnoughStays}
 use Rattle.rule_law.specs.Law.{local_from_row, reads_on, test_from_below}
 use Rattle.rule_law.specs.Nearby.{whole_of}
-use Rattle.rule_law.specs.Voices.{has_rule, is_free, voice_of, holds_of_voice, on_free_voice}
+use Rattle.rule_law.specs.Voices.{is_free, voice_of, holds_of_voice, on_free_voice}
 use Rattle.rhythm_cadence.specs.Rows.{broken_in, near_rows, enough_after, leaves_shapes, may_go_on, is_open}
 
 -- the readings of the rules, and where they are settled
