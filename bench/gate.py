@@ -39,7 +39,8 @@ def crates():
 def wrong_bodies(name):
     """How many edits a crate has."""
     folder = os.path.join(TOP, "crates", name, "must-fail")
-    return len([it for it in os.listdir(folder) if it.endswith(".edit")]) if os.path.isdir(folder) else 0
+    names = os.listdir(folder) if os.path.isdir(folder) else []
+    return len([it for it in names if it.endswith(".edit")])
 
 
 def processes():
@@ -167,7 +168,8 @@ def table(told):
         text.append(f"| `{name}` | {count} | {proof:.0f} | {edits:.0f} | {proof + edits:.0f} |")
         sums = [sums[0] + count, sums[1] + proof, sums[2] + edits]
     own = max(0, told["whole"] - sums[1] - sums[2])
-    text.append(f"| all crates | {sums[0]} | {sums[1]:.0f} | {sums[2]:.0f} | {sums[1] + sums[2]:.0f} |")
+    both = sums[1] + sums[2]
+    text.append(f"| all crates | {sums[0]} | {sums[1]:.0f} | {sums[2]:.0f} | {both:.0f} |")
     text.append(f"| `rt ci` itself, and what no sample saw | | | | {own:.0f} |")
     return "\n".join(text)
 

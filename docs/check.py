@@ -3,7 +3,7 @@
 
     python3 docs/check.py                    tells each fault; the status is 1 where there is one
     python3 docs/check.py --split PAGE..     writes pages anew with one sentence a line
-    python3 docs/check.py --fix              does so with all pages, and sets the marks of definitions
+    python3 docs/check.py --fix              does so with all, and sets the marks of definitions
     python3 docs/check.py --files            prints the files that docs/adding-a-rule.md has to list
 
 What is asked:
@@ -14,7 +14,7 @@ What is asked:
 - docs/adding-a-rule.md lists exactly the files under crates/ that match the regular expression
   of its line `<!-- files: .. -->`;
 - docs/gate.md has a row for each crate, and says why one has no wrong bodies;
-- docs/proved.md has a section for each crate;
+- docs/proved.md has a section for each crate, and the list of crates by floors has each;
 - docs/definitions.md marks the definitions that `run` reaches.
 """
 import glob
@@ -132,11 +132,11 @@ def words_of_code(names):
     words = set()
     for name in names:
         words.update(SIGNS.findall(name.replace("/", " ").replace(".", " ")))
-        if name.startswith("crates/") and not name.endswith((".md",)) or name in ("crates.txt", "fux"):
+        if name.startswith("crates/") or name in ("crates.txt", "fux"):
             for word in SIGNS.findall(text_of(name)):
                 words.add(word)
                 words.update(word.split("-"))
-        elif name.endswith(CODE) and not name.endswith(".md") and not name.startswith("docs/"):
+        elif name.endswith(CODE) and not name.startswith("docs/"):
             words.update(SIGNS.findall(text_of(name)))
     return words
 
@@ -213,7 +213,8 @@ def files_of_a_rule(names):
     if "--files" in sys.argv:
         return [it[len("crates/"):] for it in sorted(wanted)]
     told = [f"{name}: {it} isn't listed" for it in sorted(wanted - listed)]
-    return told + [f"{name}: {it} is listed, and the expression doesn't find it" for it in sorted(listed - wanted)]
+    over = sorted(listed - wanted)
+    return told + [f"{name}: {it} is listed, and the expression doesn't find it" for it in over]
 
 
 def crates_of_gate():
@@ -231,6 +232,19 @@ def crates_of_gate():
     return told + [f"{name}: {it} is no crate" for it in sorted({*rows, *reasons} - {*crates()})]
 
 
+def crates_by_floor():
+    """The page that lists the crates floor by floor, against those that there are."""
+    told, there = [], {*crates()}
+    for name in pages():
+        for block in re.findall(r"^```\n(.*?)^```", text_of(name), re.M | re.S):
+            if not re.search(r"^door ", block, re.M):
+                continue
+            listed = {word for line in block.split("\n") for word in line.split()[1:]}
+            told += [f"{name}: {it} stands on no floor" for it in sorted(there - listed)]
+            told += [f"{name}: {it} is no crate" for it in sorted(listed - there)]
+    return told
+
+
 def crates_of_proved():
     heads = re.findall(r"^### (.*)$", text_of("docs/proved.md"), re.M)
     there = {it for line in heads for it in re.findall(r"`(\w+)`", line)}
@@ -244,32 +258,36 @@ def marks():
     page = text_of("docs/definitions.md")
     if reached.marked(page, seen)[0] == page:
         return []
-    return ["docs/definitions.md: its marks aren't those of the code: python3 docs/reached.py --mark"]
+    return ["docs/definitions.md: its marks aren't those of the code: docs/reached.py --mark"]
+
+
+def put(name, page):
+    with open(os.path.join(TOP, name), "w", encoding="utf-8") as it:
+        it.write(page)
 
 
 def main():
-    if sys.argv[1:2] == ["--split"]:
-        for name in sys.argv[2:]:
-            page = split(text_of(os.path.relpath(os.path.abspath(name), TOP)))
-            with open(name, "w", encoding="utf-8") as it:
-                it.write(page)
+    words = sys.argv[1:]
+    if words[:1] == ["--split"]:
+        for name in words[1:]:
+            path = os.path.relpath(os.path.abspath(name), TOP)
+            put(path, split(text_of(path)))
         return 0
     names = files()
-    if "--files" in sys.argv:
+    if words == ["--files"]:
         print("\n".join(files_of_a_rule(names)))
         return 0
-    if "--fix" in sys.argv:
+    if words == ["--fix"]:
         reached.write_marks()
         for name in pages():
-            page = split(text_of(name))
-            with open(os.path.join(TOP, name), "w", encoding="utf-8") as it:
-                it.write(page)
-    words, told = words_of_code(names), []
+            put(name, split(text_of(name)))
+    known, told = words_of_code(names), []
     for name in pages():
         told += unsplit(name) + dead_links(name)
         if name != "CHANGES.md":
-            told += unknown_words(name, words, names)
-    told += files_of_a_rule(names) + crates_of_gate() + crates_of_proved() + marks()
+            told += unknown_words(name, known, names)
+    told += files_of_a_rule(names) + crates_of_gate() + crates_of_proved()
+    told += crates_by_floor() + marks()
     for line in told:
         print(f"docs/check.py: {line}")
     return 1 if told else 0

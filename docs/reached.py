@@ -28,7 +28,8 @@ IMPORT = re.compile(
 def modules():
     """Each module of specs/ by its crate and name: its definitions' texts, and its imports."""
     found = {}
-    for path in glob.glob(os.path.join(TOP, "crates", "*", "specs", "**", "*.antt"), recursive=True):
+    every = os.path.join(TOP, "crates", "*", "specs", "**", "*.antt")
+    for path in glob.glob(every, recursive=True):
         crate, _, inside = os.path.relpath(path, os.path.join(TOP, "crates")).split(os.sep, 2)
         with open(path, encoding="utf-8") as it:
             found[crate, inside[:-5].replace(os.sep, ".")] = read(it.read().split("\n"))
@@ -151,8 +152,10 @@ def write_marks():
     page, counts = marked(page, seen)
     whole = sum(len(texts) for texts, _, _ in every.values())
     said = (
-        f"<!-- reached -->\nThe words of `run`'s clauses reach {len(seen):,} of the {whole:,} names in `specs/`.\n"
-        f"Of the {counts[0]:,} names below they reach {counts[1]:,}, which have the mark {MARK}: a reader has to trust these.\n"
+        "<!-- reached -->\n"
+        f"The words of `run`'s clauses reach {len(seen):,} of the {whole:,} names in `specs/`.\n"
+        f"Of the {counts[0]:,} names below they reach {counts[1]:,}, which have the mark {MARK}: "
+        "a reader has to trust these.\n"
         "`docs/reached.py` follows the names, lists them all, and sets the marks.\n<!-- /reached -->"
     )
     page = SAID.sub(lambda _: said, page)

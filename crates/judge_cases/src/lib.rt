@@ -1,13 +1,22 @@
-//! Worked cases of marks and of the judge, with answers that were worked out by hand, and settings that are judged column by column, beside
-//! a plain reading of every rule and toll. They stand in a crate above those that they try, so that what carries the proofs is proved once.
+//! Worked cases of the rules, tolls and gauges, of marks and of the judge, with answers that were worked out by hand, and settings that are
+//! judged column by column, beside a plain reading of every rule and toll. They stand in a crate above those that they try, so that what
+//! carries the proofs is proved once.
 #![tactic(auto)]
 
 #[cfg(test)]
+mod chords;
+#[cfg(test)]
+mod found;
+#[cfg(test)]
 mod four_voices;
+#[cfg(test)]
+mod lines;
 #[cfg(test)]
 mod marks;
 #[cfg(test)]
 mod mixed;
+#[cfg(test)]
+mod mixed_rows;
 #[cfg(test)]
 mod mixed_tables;
 #[cfg(test)]
@@ -16,6 +25,10 @@ mod parts;
 mod plain;
 #[cfg(test)]
 mod pruning;
+#[cfg(test)]
+mod rows;
+#[cfg(test)]
+mod spans;
 #[cfg(test)]
 mod tables;
 #[cfg(test)]

@@ -14,7 +14,7 @@ use tree_search::Outcome;
 /// The certificate of the best cantus of three bars from C4 to F4.
 const BEST: &str = "fux-cantus-cert 1\nbest 3\ncantus D4 E4 D4\nclaims\no\no\no\ns\n";
 
-/// That of the one pitch B1, with which no cantus ends.
+/// The certificate for the one pitch B1, with which no cantus ends.
 const NONE: &str = "fux-cantus-cert 1\nnone\nclaims\no\n";
 
 fn pitch(name: &str) -> Result<Pitch, Fail> {

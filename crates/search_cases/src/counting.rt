@@ -15,7 +15,7 @@ pub struct Counting {
     begun: Vec<Vec<AtomicU64>>,
 }
 
-/// As many words, all 0.
+/// So many words, all 0.
 fn words(alloc: Global, count: usize) -> Result<Vec<AtomicU64>, Memory> {
     let mut words = Vec::new(alloc);
     for _ in 0..count {

@@ -36,7 +36,7 @@ pub(crate) fn least_of_list<L: Links>(
     Ok(sums.iter().copied().min())
 }
 
-/// The same over the chains of an exercise, by what its links cost.
+/// The least sum over the chains of an exercise, by what its links cost.
 pub(crate) fn least_of_settings(
     alloc: Global,
     exercise: &Exercise,

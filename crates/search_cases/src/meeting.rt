@@ -16,7 +16,7 @@ pub struct Meeting {
     saw: Vec<[AtomicU64; 2]>,
 }
 
-/// As many pairs of words, all 0.
+/// So many pairs of words, all 0.
 fn pairs(alloc: Global, count: usize) -> Result<Vec<[AtomicU64; 2]>, Memory> {
     let mut words = Vec::new(alloc);
     for _ in 0..count {

@@ -187,7 +187,7 @@ const HOLES: &str =
     "fux 2\nmode dorian\nvoices 2\nbars 3\nspecies 1 voice 0\ncantus 1 D4 E4 D4\nrange 0 A2 D4\n\
     given 0 1 r:4 D3:4\ngiven 0 2 _:4 ?:4\ngiven 0 3 ?:2 A3:6\nsing 0 r:4 D3:4 | _:4 Bb3:4 | _:2 A3:6\n";
 
-/// The same, with more items than it needs.
+/// The text of an exercise with holes, whose given lines have more items than they need.
 const LOOSE_HOLES: &str =
     "fux 2\nmode dorian\nvoices 2\nbars 3\nspecies 1 voice 0\ncantus 1 D4 E4 D4\nrange 0 A2 D4\n\
     given 0 1 r:1 r:3 D3:4\ngiven 0 2 _:4 ?:1 ?:3\ngiven  0 3 ?:1 ?:1 A3:6\n\

@@ -1,7 +1,7 @@
 //! The tables, read by one loop.
 
 use crate::found::add_found;
-use crate::{chords, mixed, spans};
+use crate::{chords, mixed_rows, spans};
 use fux_grid::mixed_as;
 use short_scores::case_of;
 use std::alloc::Global;
@@ -33,7 +33,7 @@ fn species_of(text: &str) -> Result<[u8; 4], Fail> {
     Err("no species".into())
 }
 
-/// The same where each voice has a species of its own.
+/// Compares what stands in a case in which each voice has a species of its own with what should.
 fn compare_mixed(rt: &impl Abort, alloc: Global, text: &str) -> Result<(), Fail> {
     let (asked, text) = text.split_once('\n').ok_or("nothing asked")?;
     let (text, wanted) = text.split_once('=').ok_or("nothing wanted")?;
@@ -50,7 +50,7 @@ fn compare_mixed(rt: &impl Abort, alloc: Global, text: &str) -> Result<(), Fail>
 
 #[test]
 fn mixed_cases_stand(rt: HostRuntime) -> Result<(), Fail> {
-    for text in mixed::CASES.split("\n\n") {
+    for text in mixed_rows::CASES.split("\n\n") {
         compare_mixed(&rt, rt.alloc(), text)?;
     }
     Ok(())
