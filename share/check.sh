@@ -1,13 +1,16 @@
 #!/bin/sh
-# Checks, without a proof and without the kit, what share/ promises; its last line says so.
+# Checks, without a proof and without the kit, what share/ and the script promise; its last line says so.
 #   - The table of commands has the commands that the program has, and no others, in the forms of docs/formats.md.
 #   - What is made of the table can be read: the help in 80 columns, the manual page by groff, the completions by their shells, each where
 #     that program is there.
+#   - The calls of share/calls write what stands there, by each shell that is there, and leave no temporary file. They run in a copy whose
+#     program and rt are a few lines that show how they were called: those of share/stand-ins. `sh share/check.sh --write` writes down what they write now.
 
 top=$(CDPATH='' cd "$(dirname "$0")/.." && pwd -P) || exit 1
 share=$top/share
 work=$(mktemp -d) || exit 1
 trap 'rm -rf "$work"' EXIT
+run=$work/run
 faults=0
 
 fault() {
@@ -68,8 +71,58 @@ readable() {
     done
 }
 
+# A clone in which calls run.
+scratch() {
+    rm -rf "$run"
+    mkdir -p "$run/clone/crates/fux/out" "$run/clone/crates/fux/src" "$run/clone/bench" "$run/kit" "$run/tmp" "$run/bare"
+    cp -r "$share" "$top/docs" "$top/examples" "$top/README.md" "$top/CHANGES.md" "$top/crates.txt" "$run/clone"
+    cp "$top/bench/README.md" "$run/clone/bench"
+    sed "1s|.*|#!$1|" "$top/fux" >"$run/clone/fux"
+    cp "$share/stand-ins/program" "$run/clone/crates/fux/out/fux"
+    cp "$share/stand-ins/rt" "$run/kit/rt"
+    chmod 755 "$run/clone/fux" "$run/clone/crates/fux/out/fux" "$run/kit/rt"
+    for tool in awk cat cut dirname find fold head mktemp readlink rm sed tr wc; do
+        ln -s "$(command -v $tool)" "$run/bare"
+    done
+}
+
+# What the calls write, in the form of share/calls.
+transcript() {
+    while IFS= read -r line; do
+        case $line in
+            '$ '*)
+                printf '%s\n' "$line"
+                (cd "$run/clone" && TMPDIR=$run/tmp PATH=$run/kit:$PATH sh -c "${line#??}" >"$work/out" 2>"$work/err" </dev/null)
+                status=$?
+                sed "s|$run|..|g; s/^/> /" "$work/out"
+                sed "s|$run|..|g; s/^/! /" "$work/err"
+                echo "= $status"
+                ;;
+            '' | '#'*)
+                printf '%s\n' "$line"
+                ;;
+        esac
+    done <"$share/calls"
+    ls -A "$run/tmp"
+}
+
+calls() {
+    for shell in sh dash bash; do
+        path=$(command -v $shell) || continue
+        [ $shell = sh ] || [ "$(readlink -f "$path")" != "$(readlink -f "$(command -v sh)")" ] || continue
+        scratch "$path"
+        transcript >"$work/calls"
+        if [ "$1" = --write ]; then
+            cp "$work/calls" "$share/calls"
+        elif ! diff -u "$share/calls" "$work/calls"; then
+            fault "by $shell, the calls write something else than stands in share/calls"
+        fi
+    done
+}
+
 verbs
 forms
 readable
+calls "$1"
 [ "$faults" -eq 0 ] || exit 1
-echo "share/check.sh: the table is as it should be"
+echo "share/check.sh: the script, its table and its calls are as they should be"
