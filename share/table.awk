@@ -1,0 +1,49 @@
+# Reads share/commands. What it leaves, for the program behind it:
+#   commands[1 .. count]        the first words, in order
+#   group_of[command]           the heading above it
+#   options[1 .. option_count]  the names of the options, value_of[option] the word for a value or nothing
+#   said[kind, name, field]     the one line of a field: kind is command, word, option or every
+#   many[kind, name, field]     how many lines a field has, item[kind, name, field, 1 ..] each of them
+
+/^#/ { next }
+/^$/ { next }
+{
+    at = index($0, ":")
+    field = substr($0, 1, at - 1)
+    value = substr($0, at + 2)
+}
+field == "group" { group = value; next }
+field == "command" { kind = field; name = value; commands[++count] = name; group_of[name] = group; next }
+field == "word" { kind = field; name = value; next }
+field == "every" { kind = field; name = ""; next }
+field == "option" {
+    kind = field
+    split(value, part, " ")
+    name = part[1]
+    options[++option_count] = name
+    value_of[name] = part[2]
+    next
+}
+{
+    said[kind, name, field] = value
+    item[kind, name, field, ++many[kind, name, field]] = value
+}
+
+# The command with what stands behind it.
+function whole_form(command) {
+    return command (said["command", command, "form"] == "" ? "" : " " said["command", command, "form"])
+}
+
+# The same without the options that may be left out.
+function short_form(command, form) {
+    form = whole_form(command)
+    gsub(/ \[--[^]]*\]/, "", form)
+    return form
+}
+
+# The words of a command's form without brackets, in parts; answers how many.
+function words_of(command, parts, form) {
+    form = said["command", command, "form"]
+    gsub(/[][]/, "", form)
+    return split(form, parts, " ")
+}
