@@ -1,10 +1,14 @@
 #!/bin/sh
-# Checks, without a proof and without the kit, what share/ and the script promise; its last line says so.
-#   - The table of commands has the commands that the program has, and no others, in the forms of docs/formats.md.
-#   - What is made of the table can be read: the help in 80 columns, the manual page by groff, the completions by their shells, each where
-#     that program is there.
-#   - The calls of share/calls write what stands there, by each shell that is there, and leave no temporary file. They run in a copy whose
-#     program and rt are a few lines that show how they were called: those of share/stand-ins. `sh share/check.sh --write` writes down what they write now.
+# Checks, without a proof and without the kit, what share/ and the script promise; its last line
+# says so.
+#   - The table of commands has the commands that the program has, and no others, in the forms of
+#     docs/formats.md.
+#   - What is made of the table can be read: the help in 80 columns, the manual page by groff, the
+#     completions by their shells, each where that program is there.
+#   - The calls of share/calls write what stands there, by each shell that is there, and leave no
+#     temporary file. They run in a copy whose program and rt are a few lines that show how they
+#     were called: those of share/stand-ins. `sh share/check.sh --write` writes down what they write
+#     now.
 
 top=$(CDPATH='' cd "$(dirname "$0")/.." && pwd -P) || exit 1
 share=$top/share
@@ -28,7 +32,8 @@ made() {
     version=now awk -f "$share/table.awk" -f "$share/$1.awk" "$share/commands" >"$work/made.$1" || fault "$1.awk failed"
 }
 
-# The words of the program are the quoted words of the file that has a few of them, but for the names of options.
+# The words of the program are the quoted words of the file that has a few of them, but for the
+# names of options.
 verbs() {
     awk -F': ' '
         function tell() { if (name != "" && by == "") print name }

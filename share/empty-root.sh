@@ -1,6 +1,7 @@
 #!/bin/sh
-# Shows what an archive of `fux package` needs: unpacks it in an empty root that has nothing but sh, awk, sed and a few small programs, the
-# libraries that ldd names for these and for the program, and /dev/null, and runs commands there. As root: sh share/empty-root.sh fux.tar.gz
+# Shows what an archive of `fux package` needs: unpacks it in an empty root that has nothing but sh,
+# awk, sed and a few small programs, the libraries that ldd names for these and for the program, and
+# /dev/null, and runs commands there. As root: sh share/empty-root.sh fux.tar.gz
 
 archive=$1
 root=$(mktemp -d) || exit 1

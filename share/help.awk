@@ -1,5 +1,6 @@
-# Behind table.awk: what the script tells by itself. The environment has ask, which says what is wanted (see the end), want, the word that
-# it is asked of, fux, the name under which the script is called, and examples, the folder of the examples.
+# Behind table.awk: what the script tells by itself. The environment has ask, which says what is
+# wanted (see the end), want, the word that it is asked of, fux, the name under which the script is
+# called, and examples, the folder of the examples.
 
 BEGIN {
     ask = ENVIRON["ask"]
@@ -89,7 +90,8 @@ function one(command, i, text) {
     }
 }
 
-# How many letters have to be put in, left out, changed or swapped with the next one, to make one word of another.
+# How many letters have to be put in, left out, changed or swapped with the next one, to make one
+# word of another.
 function distance(a, b, i, j, cost, d) {
     for (i = 0; i <= length(a); i++) d[i, 0] = i
     for (j = 0; j <= length(b); j++) d[0, j] = j
@@ -106,8 +108,8 @@ function distance(a, b, i, j, cost, d) {
     return d[length(a), length(b)]
 }
 
-# The commands that may have been meant: those that the word begins, or that are nearest to it, in at most two letters, or fewer where
-# the word is short.
+# The commands that may have been meant: those that the word begins, or that are nearest to it, in
+# at most two letters, or fewer where the word is short.
 function near(word, i, far, least, found) {
     word = tolower(word)
     least = length(word) < 4 ? 1 : 2
@@ -122,7 +124,8 @@ function near(word, i, far, least, found) {
     if (found != "") print found
 }
 
-# The kinds of the words that a command needs, or -, and the names of its options that may not be left out.
+# The kinds of the words that a command needs, or -, and the names of its options that may not be
+# left out.
 function needed(command, wants_options, parts, n, i, found, form) {
     form = said["command", command, "form"]
     gsub(/\[[^]]*\]/, "", form)

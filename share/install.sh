@@ -1,4 +1,5 @@
-# Read by the script for `install` and `package`: the program with all that goes with it, below a folder.
+# Read by the script for `install` and `package`: the program with all that goes with it, below a
+# folder.
 # shellcheck shell=sh disable=SC2154
 
 # put FILE FOLDER MODE

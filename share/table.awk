@@ -1,9 +1,11 @@
 # Reads share/commands. What it leaves, for the program behind it:
 #   commands[1 .. count]        the first words, in order
 #   group_of[command]           the heading above it
-#   options[1 .. option_count]  the names of the options, value_of[option] the word for a value or nothing
+#   options[1 .. option_count]  the names of the options, value_of[option] the word for a value or
+#                               nothing
 #   said[kind, name, field]     the one line of a field: kind is command, word, option or every
-#   many[kind, name, field]     how many lines a field has, item[kind, name, field, 1 ..] each of them
+#   many[kind, name, field]     how many lines a field has, item[kind, name, field, 1 ..] each of
+#                               them
 
 /^#/ { next }
 /^$/ { next }
