@@ -1,4 +1,0 @@
-pub mod AskedLemmas
-pub mod FormLemmas
-pub mod SimpleForms
-pub mod Taken
