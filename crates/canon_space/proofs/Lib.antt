@@ -1,5 +1,4 @@
 mod BarLemmas
-mod Best
 mod Children
 mod Passing
 mod ScoreSteps

@@ -3,17 +3,19 @@ use Rattle.std.specs.Prelude.{◌≡◌, ℕ, zero, suc, ◌<◌, ◌≤◌, ◌
 use Rattle.std.proofs.Common.{arith, sym, ap, ◌∙◌, subst, inl, inr}
 use Rattle.std.proofs.lemmas.Bool.{and_from}
 use Rattle.std.proofs.lemmas.Bool.Decides.{nat_tests}
-use Rattle.std.proofs.lemmas.List.{length-map, reverse-reverse}
+use Rattle.std.proofs.lemmas.List.{length-map, map-append, reverse-reverse}
 use Rattle.fux_grid.specs.declared.cell.Cell.{Cell}
 use Rattle.fux_grid.specs.declared.cell.Cell.TheVariants.{Rest, Hold, Start}
 use Rattle.fux_grid.specs.Cells.{cell_in}
 use Rattle.fux_grid.specs.Order.{IsEarlier}
-use Rattle.fux_grid.proofs.OrderLemmas.{earlier-itself}
+use Rattle.fux_grid.proofs.OrderLemmas.{earlier-chained, earlier-itself}
 use Rattle.fux_pitch.specs.Modes.{is_in_gamut}
 use Rattle.rhythm_cadence.specs.Rows.{holds_of_pitch}
 use Rattle.rule_law.specs.Law.{below_from_test, first_true, second_true}
 use Rattle.rule_law.specs.Terms.{started_pitch}
 use Rattle.tree_search.specs.Answer.{IsBefore, IsLeaf}
+use Rattle.tree_search.specs.Quests.{IsTreeOf, LeafAt, LivePath}
+use Rattle.tree_search.proofs.Quests.{same_path}
 use Rattle.penalty_sheet.specs.declared.sheet.Sheet.{Sheet}
 use Rattle.canon_space.specs.declared.canon.Canon.{Canon}
 use Rattle.canon_space.specs.Canons.{Bars, bar_after, follower, follower_fits, follows_leader, has_note, is_canon_bar, is_in_range, is_rest, may_sound, opens_on_final}
@@ -21,36 +23,10 @@ use Rattle.canon_space.specs.Grows.{history-push, live_some, live_value, room_fr
 use Rattle.canon_space.specs.Order.{HasBarNumber, HasNumber, bar_has_number, bars_in_order, note_has_number, rest_has_number}
 use Rattle.canon_space.specs.Paths.{WIDTH, are_numbers, bars_at, history_at, is_live_path, live_at, numbered_bar}
 use Rattle.canon_space.specs.Rules.{IsLawful, IsLive, breaks_some_rule, is_live, may_come, penalty_of}
-use Rattle.canon_space.specs.Trees.{IsTreeOfCanons, LeafAt, LivePath}
+use Rattle.canon_space.specs.Trees.{canons}
 use Rattle.canon_space.proofs.Children.{numbers-push}
 
 -- ---- order
-
-number-cases : (a b : ℕ) → (a < b) ⊎ ((a ≡ b) ⊎ (b < a))
-number-cases a b = at (nat_lt a b) (nat_lt b a) refl refl
-  where
-    at : (x y : Bool) → nat_lt a b ≡ x → nat_lt b a ≡ y → (a < b) ⊎ ((a ≡ b) ⊎ (b < a))
-    at true y e f = inl (below_from_test a b e)
-    at false true e f = inr (inr (below_from_test b a f))
-    at false false e f = inr (inl (grind (arith, nat_tests)))
-
-longer-cases : (a b : ℕ) (path other : List ℕ) → (a < b) ⊎ ((a ≡ b) ⊎ (b < a)) → IsBefore path other
-    ⊎ ((path ≡ other) ⊎ IsBefore other path) → IsBefore (a ∷ path) (b ∷ other)
-    ⊎ ((a ∷ path ≡ b ∷ other) ⊎ IsBefore (b ∷ other) (a ∷ path))
-longer-cases a b path other (inl h) rest = inl (inl h)
-longer-cases a b path other (inr (inr h)) rest = inr (inr (inl h))
-longer-cases a b path other (inr (inl q)) (inl h) = inl (inr (q, h))
-longer-cases a b path other (inr (inl q)) (inr (inl h)) = inr (inl (ap (λ x. x ∷ path) q ∙ ap (λ xs. b ∷ xs) h))
-longer-cases a b path other (inr (inl q)) (inr (inr h)) = inr (inr (inr (sym q, h)))
-
--- of two paths of one length the first comes before, or they are one, or the second comes before
-pub paths-cases : (path other : List ℕ) → length path ≡ length other → IsBefore path other
-    ⊎ ((path ≡ other) ⊎ IsBefore other path)
-paths-cases [] [] e = inr (inl refl)
-paths-cases [] (b ∷ other) e = absurd (omega arith)
-paths-cases (a ∷ path) [] e = absurd (omega arith)
-paths-cases (a ∷ path) (b ∷ other) e =
-    longer-cases a b path other (number-cases a b) (paths-cases path other (omega arith))
 
 -- a path that comes before another leads to the earlier bars
 pub before_is_earlier : (path other : List ℕ) → length path ≡ length other → are_numbers other ≡ true
@@ -66,21 +42,13 @@ before_is_earlier (a ∷ path) (b ∷ other) e m (inr h) =
     )
 
 -- different paths lead to different bars
-pub same_path : (path other : List ℕ) → are_numbers path ≡ true → are_numbers other ≡ true → bars_at path ≡ bars_at other
+pub one_path : (path other : List ℕ) → are_numbers path ≡ true → are_numbers other ≡ true → bars_at path ≡ bars_at other
     → path ≡ other
-same_path path other m n e = decide (paths-cases path other size)
-  where
-    size : length path ≡ length other
-    size = sym (length-map path numbered_bar) ∙ ap length e ∙ length-map other numbered_bar
-
-    decide : IsBefore path other ⊎ ((path ≡ other) ⊎ IsBefore other path) → path ≡ other
-    decide (inl h) =
-        let P : List (List Cell) → Type 0 = λ s. IsEarlier s (bars_at other) in
-        absurd (earlier-itself (bars_at other) (subst P e (before_is_earlier path other size n h)))
-    decide (inr (inl h)) = h
-    decide (inr (inr h)) =
-        let P : List (List Cell) → Type 0 = λ s. IsEarlier s (bars_at path) in
-        absurd (earlier-itself (bars_at path) (subst P (sym e) (before_is_earlier other path (sym size) m h)))
+one_path path other m n e =
+    let size : length path ≡ length other = sym (length-map path numbered_bar) ∙ ap length e
+    ∙ length-map other numbered_bar in
+    same_path bars_at (λ s t. IsEarlier s t) earlier-itself path other size (before_is_earlier path other size n)
+    (before_is_earlier other path (sym size) m) e
 
 -- ---- each bar has a number
 
@@ -196,7 +164,8 @@ module _ (canon : Canon) (sheet : Sheet) where
   pub is_there : (path : List ℕ) (value : ℕ) → live_at canon sheet path ≡ Some value → IsSome (live_at canon sheet path)
   is_there path value e = subst IsSome (sym e) refl
 
-  pub path_to_bars : canon.leader < 2 → (bars : List (List Cell)) → IsLive canon bars → LivePath canon sheet bars
+  pub path_to_bars : canon.leader < 2 → (bars : List (List Cell)) → IsLive canon bars
+      → LivePath (live_at canon sheet) bars_at bars
   path_to_bars small bars h =
       let way = path_to canon sheet small (reverse bars) h in
       let there : bars_at way.path ≡ bars =
@@ -204,7 +173,7 @@ module _ (canon : Canon) (sheet : Sheet) where
       in
       record {
         path = way.path;
-        there = there;
+        leads = there;
         is_live = is_there way.path _ (live_some canon sheet way.path
             (and_from (are_numbers way.path) (is_live canon (history_at way.path)) way.numbers
             (ap (is_live canon) way.there ∙ h)));
@@ -220,26 +189,30 @@ module _ (canon : Canon) (sheet : Sheet) where
     (live_value canon sheet path value leaf.1).1,
   )
 
-  pub lawful_is_leaf : canon.leader < 2 → (bars : List (List Cell)) → IsLawful canon bars → LeafAt canon sheet bars
+  pub lawful_is_leaf : canon.leader < 2 → (bars : List (List Cell)) → IsLawful canon bars
+      → LeafAt (live_at canon sheet) canon.bars bars_at bars (penalty_of canon sheet bars)
   lawful_is_leaf small bars lawful =
       let way = path_to_bars small bars lawful.live in
       record {
         path = way.path;
-        there = way.there;
+        leads = way.leads;
         leaf = (
-          sym (length-map way.path numbered_bar) ∙ ap length way.there ∙ lawful.whole,
+          sym (length-map way.path numbered_bar) ∙ ap length way.leads ∙ lawful.whole,
           live_some canon sheet way.path (path_is_live way.path way.is_live)
-              ∙ ap (λ bars. Some (penalty_of canon sheet bars)) way.there,
+              ∙ ap (λ bars. Some (penalty_of canon sheet bars)) way.leads,
         );
       }
 
-  pub tree_of_canons : canon.leader < 2 → IsTreeOfCanons canon sheet
+  pub tree_of_canons : canon.leader < 2 → IsTreeOf (canons canon sheet) (live_at canon sheet) canon.bars bars_at
   tree_of_canons small = record {
-    bars_only = bars_are_live;
-    each_bars = path_to_bars small;
-    floors = λ path floor live. (live_value canon sheet path floor live).1;
-    once = λ path other live its_live e. same_path path other (numbers_of path live) (numbers_of other its_live) e;
+    live_only = bars_are_live;
+    each_live = path_to_bars small;
+    floors = λ path floor live. ap Some (live_value canon sheet path floor live).1;
+    once = λ path other live its_live e. one_path path other (numbers_of path live) (numbers_of other its_live) e;
     order = λ path other live size before. before_is_earlier path other size (numbers_of other live) before;
-    canons_only = leaf_is_lawful;
-    each_canon = lawful_is_leaf small;
+    lawful_only = leaf_is_lawful;
+    each_lawful = lawful_is_leaf small;
+    root = refl;
+    on = λ path k. record { step = numbered_bar k; is = map-append numbered_bar path (k ∷ []) };
+    one_way = λ s t h k. earlier-itself s (earlier-chained s t s h k);
   }

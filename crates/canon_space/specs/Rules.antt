@@ -138,18 +138,6 @@ pub record IsLawful (canon : Canon) (bars : List (List Cell)) : Type 0 where
 abbrev pub penalty_of : Canon → Sheet → List (List Cell) → ℕ
 penalty_of canon sheet bars = paid canon sheet (reverse bars)
 
--- the best canon: none costs less, and it comes before each other that costs as much
-pub record IsBest (canon : Canon) (sheet : Sheet) (bars : List (List Cell)) : Type 0 where
-  pub lawful : IsLawful canon bars
-  pub least : (others : List (List Cell)) → IsLawful canon others
-      → penalty_of canon sheet bars ≤ penalty_of canon sheet others
-  pub first : (others : List (List Cell)) → IsLawful canon others
-      → penalty_of canon sheet others ≡ penalty_of canon sheet bars → bars ≢ others → IsEarlier bars others
-
--- no canon is lawful
-abbrev pub HasNoLawful : Canon → Type 0
-HasNoLawful canon = (bars : List (List Cell)) → IsLawful canon bars → ⊥
-
 -- within a bar a note is held and a rest goes on
 abbrev pub goes_on : Cell → Cell
 goes_on Rest = Rest

@@ -4,19 +4,15 @@
 mod bars;
 mod canon;
 mod costs;
-mod law;
 mod node;
 mod pairs;
 mod reading;
 mod score;
-mod search;
 mod space;
 mod voices;
 
 pub use canon::Canon;
-pub use law::is_tree_of_canons;
 pub use node::CanonNode;
 pub use reading::{canon_texts_are_read, read_canon};
 pub use score::canon_score;
-pub use search::best_canon;
 pub use space::CanonSpace;

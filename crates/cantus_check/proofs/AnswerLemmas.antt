@@ -18,50 +18,40 @@ use Rattle.cantus_check.specs.declared.checker.CantusOpen.{CantusOpen}
 use Rattle.cantus_check.specs.declared.checker.CantusOpen.TheVariants as opening
 use Rattle.cantus_check.specs.declared.checking.CantusFault.{CantusFault}
 use Rattle.cantus_check.specs.declared.checking.CantusFault.TheVariants as check
-use Rattle.cantus_check.specs.Answers.{Answers, FindsBehind, IsVerdictBy, IsVerdictOn, unopened, unstarted}
-use Rattle.cantus_check.specs.Checking.{TellsWhy, cantus_subject}
-use Rattle.cantus_check.specs.Judgments.{AcceptsValid, Finds, RefusesFor, Shows}
-use Rattle.cantus_check.specs.Starts.{IsStarted, Starts}
-use Rattle.cantus_check.specs.Subjects.{Subject}
-use Rattle.cantus_check.proofs.JudgingLemmas.{begins_front}
-use Rattle.cantus_check.proofs.OneVerdict.{accepted_answer}
-
--- what is found behind a head is a verdict
-verdict_behind : {H X : Type 0} (subject : Subject H X) (bytes : List ℕ) (it : Verdict) → FindsBehind subject it bytes
-    → IsVerdictBy subject it bytes
-verdict_behind subject bytes (verdict.Accepted answer) found = found
-verdict_behind subject bytes (verdict.Claim refused) found = found
-verdict_behind subject bytes (verdict.Text (WrongHead at)) found = absurd found.finds.fault_at
-verdict_behind subject bytes (verdict.Text (CertWord at)) found = found
-verdict_behind subject bytes (verdict.Text (CertEnd at)) found = found
-verdict_behind subject bytes (verdict.Text Memory) found = found
+use Rattle.cantus_check.specs.Answers.{Answers, unopened, unstarted}
+use Rattle.cantus_check.specs.Starts.{Starts}
+use Rattle.cantus_check.specs.Topics.{TellsWhy, cantus_subject}
+use Rattle.cantus_check.proofs.RefusedLemmas.{cantus_once}
+use Rattle.cert_file.specs.Judgments.{AcceptsValid, Finds, Shows}
+use Rattle.cert_file.specs.Subjects.{IsOpened}
+use Rattle.cert_file.proofs.JudgingLemmas.{begins_front}
+use Rattle.cert_file.proofs.OneVerdict.{accepted_answer}
 
 module _ (plan : CantusPlan) (files : Files) (name : List ℕ) (rose : Type 0) where
   pub starts_answer : (fault : ReadFault) → Starts files name rose (Err fault) → Answers plan files name rose (unstarted fault)
   starts_answer Unreadable starts = starts
-  starts_answer (Text (WrongHead at)) starts = starts
+  starts_answer (Text (WrongHead at)) starts =
+      record { bytes = starts.bytes; had = starts.had; such = inl starts.such }
   starts_answer (Text (CertWord at)) starts = absurd starts
   starts_answer (Text (CertEnd at)) starts = absurd starts
   starts_answer (Text Memory) starts = tt
 
-  pub opening_answer : (said : Said) (reader : Reading) (fault : CantusOpen) → IsStarted IsHeadText files name said reader
+  pub opening_answer : (said : Said) (reader : Reading) (fault : CantusOpen) → IsOpened IsHeadText files name said reader
       → TellsWhy plan said fault → Answers plan files name rose (unopened fault)
   opening_answer said reader (opening.Refused refused) started why = record {
     bytes = started.at.begins.bytes;
     had = started.at.begins.had;
-    such = record {
-      head = said;
-      finds =
-          subst (λ (r : Refused). RefusesFor (cantus_subject plan) said r.number r.why started.at.begins.bytes) (sym why.1)
-          record {
-            numbered = refl;
-            front = started.front;
-            begins = begins_front started.at.begins.bytes started.front _ started.at.begins.such;
-            heads = started.heads;
-            unsound = why.0;
-          };
-      shown = λ answer e. cc;
-    };
+    such = inl (
+      ap (λ (r : Refused). r.why) why.1,
+      record {
+        numbered = ap (λ (r : Refused). r.number) why.1;
+        said = said;
+        front = started.front;
+        begins = begins_front started.at.begins.bytes started.front _ started.at.begins.such;
+        heads = started.heads;
+        unsound = why.0;
+      },
+    );
   }
   opening_answer said reader opening.Memory started why = tt
 
@@ -71,13 +61,13 @@ module _ (plan : CantusPlan) (files : Files) (name : List ℕ) (rose : Type 0) w
   judged_answer said it finds shown = record {
     bytes = finds.bytes;
     had = finds.had;
-    such = verdict_behind (cantus_subject plan) finds.bytes it record { head = said; finds = finds.such; shown = shown };
+    such = inr (record { head = said; finds = finds.such; shown = shown });
   }
 
   -- by the answer each valid certificate is accepted
   pub accepts_valid : (result : Result Verdict CantusFault) → Answers plan files name rose result
       → IfOk result (λ it. (said : Said) → AcceptsValid (cantus_subject plan) said files name it)
-  accepts_valid (Ok it) answers = accepted_answer (cantus_subject plan) heads-alone files name {E = CantusFault} (Ok it) answers
+  accepts_valid (Ok it) answers = accepted_answer (cantus_subject plan) heads-alone (cantus_once plan) files name {E = CantusFault} (Ok it) answers
   accepts_valid (Err fault) answers = tt
 
 pub unstarted_missing : (read : Result (CantusHead × Reading) ReadFault) (fault : ReadFault) → read ≡ Err fault

@@ -1,5 +1,3 @@
 pub mod AnswerLemmas
-pub mod CheckingLemmas
-pub mod JudgingLemmas
-pub mod OneVerdict
+pub mod RefusedLemmas
 pub mod StartLemmas

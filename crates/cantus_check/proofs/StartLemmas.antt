@@ -11,7 +11,8 @@ use Rattle.cert_text.specs.Pieces.{GoesTo, Stands}
 use Rattle.cantus_text.specs.Heads.{IsHeadText, Said}
 use Rattle.cert_text.proofs.Fronts.{goes_to-whole}
 use Rattle.cantus_text.proofs.HeadRows.{heads_are_short}
-use Rattle.cantus_check.specs.Starts.{IsStarted, Starts}
+use Rattle.cantus_check.specs.Starts.{Starts}
+use Rattle.cert_file.specs.Subjects.{IsOpened}
 
 module _ (files : Files) (name bytes : List ℕ) (known : MayBe files name (λ all. bytes ≡ take longest_piece all)) where
   -- a head is shorter than a piece, so one that stops in the first piece stops so in the whole file
@@ -30,7 +31,7 @@ module _ (files : Files) (name bytes : List ℕ) (known : MayBe files name (λ a
 
   pub started : (said : Said) (used offset : ℕ) (ahead : List ℕ) → Stands IsHeadText bytes said used
       → offset ≡ length bytes → ahead ≡ drop used bytes
-      → IsStarted IsHeadText files name said (reading_from used ahead offset)
+      → IsOpened IsHeadText files name said (reading_from used ahead offset)
   started said used offset ahead stands far is =
       let size = length-take-le used bytes stands.within in
       record {

@@ -1,5 +1,3 @@
 pub mod Answers
-pub mod Checking
-pub mod Judgments
 pub mod Starts
-pub mod Subjects
+pub mod Topics

@@ -1,20 +1,18 @@
 //! The checker of cantus certificates.
 
-ghost use Rattle.std.specs.Prelude.{◌≡◌, ◌≢◌, ◌+◌, ◌^◌, ◌<◌, ◌≤◌, true, false, [], ◌∷◌, None, Some, Ok, Err, IfErr, IfOk, OnErr, OnOk};
-ghost use Rattle.cert_text.specs.declared.answers.Refused.{Refused as ARefused};
-ghost use Rattle.cert_text.specs.declared.answers.Why.TheVariants as whys;
+ghost use Rattle.std.specs.Prelude.{◌≡◌, true, false, [], None, IfErr, IfOk, OnOk};
 ghost use Rattle.cert_tree.specs.Trees.{OwesRefuting};
-ghost use Rattle.cantus_law.specs.Certificates.{Begins, Holds, IsHeadSound, Refutes};
+ghost use Rattle.cantus_law.specs.Certificates.{Begins, IsHeadSound, Refutes};
 ghost use Rattle.cantus_space.specs.Lawful.{IsLawful, penalty_of};
-ghost use Rattle.cantus_text.specs.Heads.{Said};
-ghost use Rattle.cantus_check.specs.Checking as words;
-ghost use Rattle.cantus_check.specs.Checking.{IsFedCertificate, IsFedNone, Refuses, Takes, TellsWhy, accepted_of, opened_for};
+ghost use Rattle.cantus_check.specs.Topics.{TellsWhy};
+ghost use Rattle.cert_file.specs.Checking.{opened_at};
 
 use cantus_law::{CantusCase, CantusKnown};
 use cantus_space::{CantusSpace, lawful_penalty};
 use cantus_text::CantusHead;
+use cert_file::{Checks, refused_by};
 use cert_text::{Accepted, Claim, Refused, Why};
-use cert_tree::{Cause, Judging, Refusal, begin, feed, finish};
+use cert_tree::{Judging, begin, feed, finish};
 use fux_pitch::Pitch;
 use std::alloc::Global;
 use std::marker::Model;
@@ -37,15 +35,20 @@ pub struct CantusChecker {
 
 impl Model for CantusChecker {
     ghost use Rattle.std.specs.Prelude.{option_map};
-    ghost use Rattle.cantus_check.specs.Checking.{CantusChecking, IsChecking, refused_by};
+    ghost use Rattle.std.specs.Prelude.{List as Items};
+    ghost use Rattle.cantus_space.specs.declared.plan.CantusPlan.{CantusPlan as APlan};
+    ghost use Rattle.cantus_text.specs.Heads.{Said as ASaid};
+    ghost use Rattle.cantus_check.specs.Topics.{IsChecking};
+    ghost use Rattle.cert_file.specs.Checking.{Checking, refused_by};
+    ghost use Rattle.fux_pitch.specs.declared.pitch.Pitch.{Pitch as APitch};
     ghost use Rattle.cantus_law.specs.Known.{ways_of};
     ghost use Rattle.cert_tree.specs.Walks.{owed_by_walk};
 
-    ghost Value = { CantusChecking };
+    ghost Value = { Checking APlan ASaid (Items APitch) };
 
     ghost view = { λ c. record {
-      plan = c.case.space;
-      said = c.case.head.best;
+      asked = c.case.space;
+      head = c.case.head.best;
       owed = owed_by_walk (ways_of c.case.space) c.judging.walk;
       count = c.judging.taken;
       refusal = option_map refused_by c.judging.refusal;
@@ -84,27 +87,6 @@ fn same_space(space: &CantusSpace) -> CantusSpace
     CantusSpace::new(plan.mode, plan.bars, plan.low, plan.high, &plan.sheet)
 }
 
-/// Why a claim is refused, as it is answered.
-fn why_of(cause: Cause) -> Why
-    ensures { result ≡ words.why_of cause }
-{
-    match cause {
-        Cause::False => Why::False,
-        Cause::Over => Why::Over,
-        Cause::Short => Why::Short,
-    }
-}
-
-/// A refusal, as it is answered.
-fn refused_by(refusal: Refusal) -> Refused
-    ensures { result ≡ words.refused_by refusal }
-{
-    Refused {
-        number: refusal.number,
-        why: why_of(refusal.cause),
-    }
-}
-
 impl CantusChecker {
     /// A checker of the claims of a certificate with this head. All memory is taken here.
     pub fn open(
@@ -112,7 +94,7 @@ impl CantusChecker {
         space: &CantusSpace,
         head: CantusHead,
     ) -> Result<CantusChecker, CantusOpen>
-        ensures opened { IfOk result (λ c. c ≡ opened_for space.now head.best) }
+        ensures opened { IfOk result (λ c. c ≡ opened_at space.now head.best []) }
 
         // The head is judged before any claim.
         ensures sound { OnOk result (IsHeadSound space.now head.best) }
@@ -137,39 +119,39 @@ impl CantusChecker {
     /// What each checker keeps: its head is sound, and as long as no claim was refused, each cantus that refutes the head is begun by a
     /// list that is owed. It does nothing; callers that prove something about a checker learn this from it.
     pub fn kept(&self)
-        ensures sound { IsHeadSound self.now.plan self.now.said }
+        ensures sound { IsHeadSound self.now.asked self.now.head }
         ensures owes { self.now.refusal ≡ None
-            → OwesRefuting Begins (Refutes self.now.plan self.now.said) self.now.owed }
+            → OwesRefuting Begins (Refutes self.now.asked self.now.head) self.now.owed }
     {
         let _ = &self.judging;
     }
+}
 
-    /// Judges a claim of the list that is owed next. It is taken where it is true of it; after a refusal every call answers the same.
-    pub fn feed(&mut self, claim: Claim) -> Result<(), Refused>
-        requires { self.old.count < 2 ^ 40 }
-        ensures taken { self.old.refusal ≡ None → OnOk result (Takes self.old claim self.new) }
-        ensures refused { self.old.refusal ≡ None → IfErr result (λ refused. Refuses self.old claim refused self.new) }
-        ensures again { (refused : ARefused) → self.old.refusal ≡ Some refused → (result ≡ Err refused) × (self.new ≡ self.old) }
-    {
+impl Checks for CantusChecker {
+    ghost use Rattle.std.specs.Prelude.{List as Items};
+    ghost use Rattle.cantus_space.specs.declared.plan.CantusPlan.{CantusPlan as APlan};
+    ghost use Rattle.cantus_check.specs.Topics.{cantus_subject};
+    ghost use Rattle.cantus_text.specs.Heads.{Said as ASaid};
+    ghost use Rattle.fux_pitch.specs.declared.pitch.Pitch.{Pitch as APitch};
+
+    ghost Asked = { APlan };
+
+    ghost Head = { ASaid };
+
+    ghost Node = { Items APitch };
+
+    ghost subject = { cantus_subject };
+
+    ghost seen = { λ c. c };
+
+    fn feed(&mut self, claim: Claim) -> Result<(), Refused> {
         match feed(&self.case, &mut self.judging, claim) {
             Ok(()) => Ok(()),
             Err(refusal) => Err(refused_by(refusal)),
         }
     }
 
-    /// What the claims so far show, where none is owed. The head's cantus is the best one then, or nothing is lawful.
-    pub fn finish(&self) -> Result<Accepted, Refused>
-        requires { self.now.count ≤ 2 ^ 40 }
-        ensures accepted { self.now.refusal ≡ None → self.now.owed ≡ [] → result ≡ Ok (accepted_of self.now.said) }
-        ensures short { self.now.refusal ≡ None → self.now.owed ≢ [] →
-            result ≡ Err (record { number = self.now.count + 1; why = whys.Short }) }
-        ensures again { (refused : ARefused) → self.now.refusal ≡ Some refused → result ≡ Err refused }
-        ensures shown { OnOk result (Holds self.now.plan self.now.said) }
-
-        // Where all claims since the checker was opened were fed to it: they are a certificate with its head, or not.
-        ensures certified { OnOk result (IsFedCertificate self.now) }
-        ensures uncertified { OnErr result (IsFedNone self.now) }
-    {
+    fn finish(&self) -> Result<Accepted, Refused> {
         match finish(&self.case, &self.judging) {
             Ok(()) => Ok(match &self.case.head.best {
                 Some((penalty, _)) => Accepted::Best(*penalty),

@@ -2,18 +2,17 @@
 
 ghost use Rattle.std.specs.Prelude.{◌≡◌, ◌≢◌, ◌+◌, ◌≤◌, ◌⊎◌, Err, IfErr, IfOk};
 ghost use Rattle.cantus_check.specs.Answers.{Answers, unopened, unstarted};
-ghost use Rattle.cantus_check.specs.Checking.{cantus_subject};
-ghost use Rattle.cantus_check.specs.Judgments.{AcceptsValid};
+ghost use Rattle.cantus_check.specs.Topics.{cantus_subject};
+ghost use Rattle.cert_file.specs.Judgments.{AcceptsValid};
 ghost use Rattle.cantus_text.specs.Heads.{Said};
 ghost use Rattle.fux_port.specs.Counts.{Rose};
 ghost use Rattle.fux_port.specs.Files.{IsMissing};
 ghost use Rattle.fux_port.specs.Promises.{ServesWhole};
 
 use crate::checker::{CantusChecker, CantusOpen};
-use crate::judging::judge;
 use crate::starting::start;
 use cantus_space::CantusSpace;
-use cert_file::{ReadFault, Verdict};
+use cert_file::{ReadFault, Verdict, judge};
 use cert_text::CertFault;
 use fux_port::{Failed, Shelf};
 use std::alloc::Global;
@@ -61,6 +60,7 @@ pub fn check_cantus_file<F: Shelf>(
         Ok(checker) => checker,
         Err(fault) => return not_opened(fault),
     };
+    checker.kept();
     match judge(shelf, name, &mut reader, checker) {
         Ok(verdict) => Ok(verdict),
         Err(Failed) => Err(CantusFault::Unreadable),

@@ -1,5 +1,4 @@
 mod AheadLemmas
-mod Best
 mod Children
 mod LawfulLemmas
 mod NodeLemmas

@@ -4,52 +4,26 @@ use Rattle.std.specs.declared.cmp.Ordering.TheVariants.{Less}
 use Rattle.std.proofs.Common.{arith, sym, ap, ◌∙◌, subst, inl, inr}
 use Rattle.std.proofs.lemmas.Bool.{and_from}
 use Rattle.std.proofs.lemmas.Bool.Decides.{nat_tests}
-use Rattle.std.proofs.lemmas.List.{length-map, length-reverse, reverse-reverse}
+use Rattle.std.proofs.lemmas.List.{length-map, length-reverse, map-append, reverse-reverse}
 use Rattle.fux_pitch.specs.declared.pitch.Pitch.{Pitch}
 use Rattle.fux_grid.specs.Order.{pitch_order}
-use Rattle.fux_grid.specs.declared.cell.Cell.TheVariants.{Start}
-use Rattle.fux_grid.proofs.OrderLemmas.{cell_order-total}
-use Rattle.std.proofs.lemmas.Cmp.{tied_itself}
+use Rattle.fux_grid.proofs.OrderLemmas.{pitch_order-total}
+use Rattle.std.specs.Ordering.{ordering_reverse}
 use Rattle.rule_law.specs.Law.{below_from_test, first_true, second_true}
 use Rattle.tree_search.specs.Answer.{IsBefore, IsLeaf}
+use Rattle.tree_search.specs.Quests.{IsTreeOf, LeafAt, LivePath}
+use Rattle.tree_search.proofs.Quests.{same_path}
 use Rattle.cantus_space.specs.declared.plan.CantusPlan.{CantusPlan}
 use Rattle.cantus_space.specs.Ahead.{gauges_end}
 use Rattle.cantus_space.specs.Grows.{comes, history-push, live_some, live_value}
-use Rattle.cantus_space.specs.Lawful.{IsEarlier, IsLawful, IsLive, penalty_of}
+use Rattle.cantus_space.specs.Lawful.{IsEarlier, IsLawful, IsLive, penalty_of, quest_of}
 use Rattle.cantus_space.specs.Numbers.{WIDTH, numbered_pitch}
 use Rattle.cantus_space.specs.Order.{has_number, pitches_in_order}
 use Rattle.cantus_space.specs.Paths.{are_numbers, history_at, is_live_path, live_at, pitches_at}
 use Rattle.cantus_space.specs.Rules.{floor_of, is_live, may_come, paid}
-use Rattle.cantus_space.specs.Trees.{IsTreeOfCantus, LeafAt, LivePath}
 use Rattle.cantus_space.proofs.Children.{numbers-push}
 
 -- ---- order
-
-number-cases : (a b : ℕ) → (a < b) ⊎ ((a ≡ b) ⊎ (b < a))
-number-cases a b = at (nat_lt a b) (nat_lt b a) refl refl
-  where
-    at : (x y : Bool) → nat_lt a b ≡ x → nat_lt b a ≡ y → (a < b) ⊎ ((a ≡ b) ⊎ (b < a))
-    at true y e f = inl (below_from_test a b e)
-    at false true e f = inr (inr (below_from_test b a f))
-    at false false e f = inr (inl (grind (arith, nat_tests)))
-
-longer-cases : (a b : ℕ) (path other : List ℕ) → (a < b) ⊎ ((a ≡ b) ⊎ (b < a)) → IsBefore path other
-    ⊎ ((path ≡ other) ⊎ IsBefore other path) → IsBefore (a ∷ path) (b ∷ other)
-    ⊎ ((a ∷ path ≡ b ∷ other) ⊎ IsBefore (b ∷ other) (a ∷ path))
-longer-cases a b path other (inl h) rest = inl (inl h)
-longer-cases a b path other (inr (inr h)) rest = inr (inr (inl h))
-longer-cases a b path other (inr (inl q)) (inl h) = inl (inr (q, h))
-longer-cases a b path other (inr (inl q)) (inr (inl h)) = inr (inl (ap (λ x. x ∷ path) q ∙ ap (λ xs. b ∷ xs) h))
-longer-cases a b path other (inr (inl q)) (inr (inr h)) = inr (inr (inr (sym q, h)))
-
--- of two paths of one length the first comes before, or they are one, or the second comes before
-pub paths-cases : (path other : List ℕ) → length path ≡ length other → IsBefore path other
-    ⊎ ((path ≡ other) ⊎ IsBefore other path)
-paths-cases [] [] e = inr (inl refl)
-paths-cases [] (b ∷ other) e = absurd (omega arith)
-paths-cases (a ∷ path) [] e = absurd (omega arith)
-paths-cases (a ∷ path) (b ∷ other) e =
-    longer-cases a b path other (number-cases a b) (paths-cases path other (omega arith))
 
 module _ (plan : CantusPlan) where
   -- a path that comes before another leads to the earlier pitches
@@ -65,33 +39,34 @@ module _ (plan : CantusPlan) where
         before_is_earlier path other (omega arith) (second_true (nat_lt b WIDTH) (are_numbers other) m) h.1,
       )
 
--- nothing is earlier than itself
-not_lower : (p : Pitch) → pitch_order p p ≡ Less → ⊥
-not_lower p h = let tied = tied_itself cell_order-total (Start p) in let clash = sym h ∙ tied in cc
+-- of two pitches only one is lower, and of two lists only one comes first
+one_lower : (p q : Pitch) → pitch_order p q ≡ Less → pitch_order q p ≡ Less → ⊥
+one_lower p q h k = let back = sym h ∙ pitch_order-total.antisymm p q ∙ ap ordering_reverse k in cc
 
-not_earlier : (ps : List Pitch) → IsEarlier ps ps → ⊥
-not_earlier [] h = h
-not_earlier (p ∷ ps) (inl h) = not_lower p h
-not_earlier (p ∷ ps) (inr h) = not_earlier ps h.1
+lower_than_one : (p q : Pitch) → pitch_order p q ≡ Less → q ≡ p → ⊥
+lower_than_one p q h e =
+    let P : Pitch → Type 0 = λ x. pitch_order p x ≡ Less in
+    let self : pitch_order p p ≡ Less = subst P e h in
+    one_lower p p self self
+
+earlier_one_way : (ps qs : List Pitch) → IsEarlier ps qs → IsEarlier qs ps → ⊥
+earlier_one_way [] [] h k = h
+earlier_one_way [] (q ∷ qs) h k = h
+earlier_one_way (p ∷ ps) [] h k = h
+earlier_one_way (p ∷ ps) (q ∷ qs) (inl h) (inl k) = one_lower p q h k
+earlier_one_way (p ∷ ps) (q ∷ qs) (inl h) (inr k) = lower_than_one p q h k.0
+earlier_one_way (p ∷ ps) (q ∷ qs) (inr h) (inl k) = lower_than_one q p k h.0
+earlier_one_way (p ∷ ps) (q ∷ qs) (inr h) (inr k) = earlier_one_way ps qs h.1 k.1
 
 module _ (plan : CantusPlan) where
   -- different paths lead to different pitches
-  pub same_path : (path other : List ℕ) → are_numbers path ≡ true → are_numbers other ≡ true
+  pub one_path : (path other : List ℕ) → are_numbers path ≡ true → are_numbers other ≡ true
       → pitches_at plan path ≡ pitches_at plan other → path ≡ other
-  same_path path other m n e = decide (paths-cases path other size)
-    where
-      size : length path ≡ length other
-      size = sym (length-map path (numbered_pitch plan)) ∙ ap length e ∙ length-map other (numbered_pitch plan)
-
-      decide : IsBefore path other ⊎ ((path ≡ other) ⊎ IsBefore other path) → path ≡ other
-      decide (inl h) =
-          let P : List Pitch → Type 0 = λ s. IsEarlier s (pitches_at plan other) in
-          absurd (not_earlier (pitches_at plan other) (subst P e (before_is_earlier plan path other size n h)))
-      decide (inr (inl h)) = h
-      decide (inr (inr h)) =
-          let P : List Pitch → Type 0 = λ s. IsEarlier s (pitches_at plan path) in
-          absurd (not_earlier (pitches_at plan path)
-          (subst P (sym e) (before_is_earlier plan other path (sym size) m h)))
+  one_path path other m n e =
+      let size : length path ≡ length other = sym (length-map path (numbered_pitch plan)) ∙ ap length e
+      ∙ length-map other (numbered_pitch plan) in
+      same_path (pitches_at plan) (λ ps qs. IsEarlier ps qs) (λ ps h. earlier_one_way ps ps h h) path other size
+      (before_is_earlier plan path other size n) (before_is_earlier plan other path (sym size) m) e
 
 -- ---- the theorem
 
@@ -132,7 +107,7 @@ module _ (plan : CantusPlan) where
   pub is_there : (path : List ℕ) (value : ℕ) → live_at plan path ≡ Some value → IsSome (live_at plan path)
   is_there path value e = subst IsSome (sym e) refl
 
-  pub path_to_pitches : (ps : List Pitch) → IsLive plan ps → LivePath plan ps
+  pub path_to_pitches : (ps : List Pitch) → IsLive plan ps → LivePath (live_at plan) (pitches_at plan) ps
   path_to_pitches ps h =
       let way = path_to (reverse ps) h in
       let there : pitches_at plan way.path ≡ ps =
@@ -140,7 +115,7 @@ module _ (plan : CantusPlan) where
       in
       record {
         path = way.path;
-        there = there;
+        leads = there;
         is_live = is_there way.path _ (live_some plan way.path
             (and_from (are_numbers way.path) (is_live plan (history_at plan way.path)) way.numbers
             (ap (is_live plan) way.there ∙ h)));
@@ -161,29 +136,33 @@ module _ (plan : CantusPlan) where
         sym (floor_is_penalty (pitches_at plan path) whole) ∙ (live_value plan path value leaf.1).1,
       )
 
-  pub lawful_is_leaf : (cantus : List Pitch) → IsLawful plan cantus → LeafAt plan cantus
+  pub lawful_is_leaf : (cantus : List Pitch) → IsLawful plan cantus
+      → LeafAt (live_at plan) plan.bars (pitches_at plan) cantus (penalty_of plan cantus)
   lawful_is_leaf cantus lawful =
       let way = path_to_pitches cantus lawful.live in
       record {
         path = way.path;
-        there = way.there;
+        leads = way.leads;
         leaf = (
-          sym (length-map way.path (numbered_pitch plan)) ∙ ap length way.there ∙ lawful.whole,
+          sym (length-map way.path (numbered_pitch plan)) ∙ ap length way.leads ∙ lawful.whole,
           live_some plan way.path (path_is_live way.path way.is_live)
-              ∙ ap (λ ps. Some (floor_of plan (reverse ps))) way.there
+              ∙ ap (λ ps. Some (floor_of plan (reverse ps))) way.leads
               ∙ ap Some (floor_is_penalty cantus lawful.whole),
         );
       }
 
-  pub tree_of_cantus : IsTreeOfCantus plan
+  pub tree_of_cantus : IsTreeOf (quest_of plan) (live_at plan) plan.bars (pitches_at plan)
   tree_of_cantus = record {
-    pitches_only = pitches_are_live;
-    each_pitches = path_to_pitches;
-    floors = λ path floor live. (live_value plan path floor live).1;
-    once = λ path other live its_live e. same_path plan path other (numbers_of path live) (numbers_of other its_live) e;
+    live_only = pitches_are_live;
+    each_live = path_to_pitches;
+    floors = λ path floor live. ap Some (live_value plan path floor live).1;
+    once = λ path other live its_live e. one_path plan path other (numbers_of path live) (numbers_of other its_live) e;
     order = λ path other live size before. before_is_earlier plan path other size (numbers_of other live) before;
-    cantus_only = leaf_is_lawful;
-    each_cantus = lawful_is_leaf;
+    lawful_only = leaf_is_lawful;
+    each_lawful = lawful_is_leaf;
+    root = refl;
+    on = λ path k. record { step = numbered_pitch plan k; is = map-append (numbered_pitch plan) path (k ∷ []) };
+    one_way = earlier_one_way;
   }
 
 -- each number of a path is one of a child

@@ -1,10 +1,12 @@
 -- Which cantus is lawful, what it costs, and which is best. A cantus goes from the first bar to the last.
-use Rattle.std.specs.Prelude.{◌≡◌, ◌≢◌, ℕ, ◌≤◌, ◌⊎◌, true, List, [], ◌∷◌, length, reverse}
+use Rattle.std.specs.Prelude.{◌≡◌, ℕ, ◌⊎◌, true, List, [], ◌∷◌, Some, length, reverse}
 use Rattle.std.specs.declared.cmp.Ordering.TheVariants.{Less}
 use Rattle.fux_pitch.specs.declared.pitch.Pitch.{Pitch}
 use Rattle.fux_grid.specs.Order.{pitch_order}
+use Rattle.tree_search.specs.Quests as quests
+use Rattle.tree_search.specs.Quests.{Quest}
 use Rattle.cantus_space.specs.declared.plan.CantusPlan.{CantusPlan}
-use Rattle.cantus_space.specs.Rules.{is_live, whole_cost}
+use Rattle.cantus_space.specs.Rules.{floor_of, is_live, whole_cost}
 
 -- pitches from the first bar on begin a cantus so far as they go: each is of its bar's pool, and no rule is broken
 abbrev pub IsLive : CantusPlan → List Pitch → Type 0
@@ -25,12 +27,19 @@ IsEarlier ps [] = ⊥
 IsEarlier [] (q ∷ qs) = ⊥
 IsEarlier (p ∷ ps) (q ∷ qs) = (pitch_order p q ≡ Less) ⊎ ((p ≡ q) × IsEarlier ps qs)
 
+-- the cantus that are sought: pitches are live where they begin a cantus, and cost at least their floor
+abbrev pub quest_of : CantusPlan → Quest Pitch
+quest_of plan = record {
+  IsLive = IsLive plan;
+  floor = λ ps. Some (floor_of plan (reverse ps));
+  IsLawful = IsLawful plan;
+  penalty = penalty_of plan;
+  IsEarlier = λ ps qs. IsEarlier ps qs;
+}
+
 -- the best cantus: none costs less, and it comes before each other that costs as much
-pub record IsBest (plan : CantusPlan) (cantus : List Pitch) : Type 0 where
-  pub lawful : IsLawful plan cantus
-  pub least : (other : List Pitch) → IsLawful plan other → penalty_of plan cantus ≤ penalty_of plan other
-  pub first : (other : List Pitch) → IsLawful plan other → penalty_of plan other ≡ penalty_of plan cantus
-      → cantus ≢ other → IsEarlier cantus other
+abbrev pub IsBest : CantusPlan → List Pitch → Type 0
+IsBest plan = quests.IsBest (quest_of plan)
 
 -- no cantus is lawful
 abbrev pub HasNoLawful : CantusPlan → Type 0

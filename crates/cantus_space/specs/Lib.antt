@@ -11,4 +11,3 @@ pub mod Numbers
 pub mod Order
 pub mod Paths
 pub mod Rules
-pub mod Trees

@@ -8,12 +8,15 @@ ghost use Rattle.cantus_space.specs.Nodes.{HasPitches, IsNodeOf};
 ghost use Rattle.cantus_space.specs.Rules as rules;
 
 use crate::costs::{Gauged, gauge_cost, note_cost};
-use crate::notes::{breaks_some_rule, climax_with, leaps_with, times_struck};
+use crate::notes::{breaks_some_rule, times_struck};
 use crate::plan::CantusPlan;
 use crate::pools::is_in_pool;
 use fux_grid::Cell;
 use fux_pitch::{Pitch, semitone};
-use melody_rules::{Climax, Compass, Leaps, VoiceNotes, is_narrow, leap_excess, noted, silent};
+use melody_rules::{
+    Climax, Compass, Leaps, VoiceNotes, climax_with, is_narrow, leap_excess, leaps_with, noted,
+    silent,
+};
 use penalty_sheet::Sheet;
 
 /// Pitches that begin a cantus and break no rule, what rules and gauges keep of them, and what they cost so far.

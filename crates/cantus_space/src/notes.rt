@@ -1,22 +1,18 @@
 //! What a new pitch does to what is kept of those before it.
 
-ghost use Rattle.std.specs.Prelude.{◌≡◌, ◌==◌, ◌&&◌, ◌||◌, ◌<◌, ◌≤◌, ℕ, ◌∷◌, List, Some, count_by, length};
+ghost use Rattle.std.specs.Prelude.{◌≡◌, ◌==◌, ◌&&◌, ◌||◌, ◌≤◌, ℕ, List, count_by, length};
 ghost use Rattle.std.specs.List.{list_any};
 ghost use Rattle.fux_grid.specs.declared.cell.Cell.{Cell as ACell};
-ghost use Rattle.fux_grid.specs.declared.cell.Cell.TheVariants.{Start};
-ghost use Rattle.fux_pitch.specs.declared.pitch.Pitch.{Pitch as APitch};
 ghost use Rattle.fux_pitch.specs.Pitch.{same_pitch};
-ghost use Rattle.melody_rules.specs.GaugeParts.{IsClimaxOf, IsLeapsOf};
 ghost use Rattle.melody_rules.specs.Notes.{IsNotesOf};
 ghost use Rattle.melody_rules.specs.Rows.{pitches};
-ghost use Rattle.rule_law.specs.Terms as terms;
 ghost use Rattle.rule_law.specs.Voices.{has_rule};
 ghost use Rattle.cantus_space.specs.Rules as rules;
 
 use fux_grid::Cell;
-use fux_pitch::{Pitch, interval_of, semitone};
-use melody_rules::{Climax, Leaps, VoiceNotes, breaks_after, moves_unmelodically};
-use rule_law::{RuleSet, is_leap};
+use fux_pitch::Pitch;
+use melody_rules::{VoiceNotes, breaks_after, moves_unmelodically};
+use rule_law::RuleSet;
 
 /// Whether a rule is broken by the next pitch after these notes.
 pub fn breaks_some_rule(notes: &VoiceNotes, pitch: Pitch) -> bool
@@ -29,49 +25,6 @@ pub fn breaks_some_rule(notes: &VoiceNotes, pitch: Pitch) -> bool
         || breaks_after(7, notes, now)
         || breaks_after(8, notes, now)
         || breaks_after(9, notes, now)
-}
-
-/// The climax with one note more.
-pub fn climax_with(kept: Climax, pitch: Pitch) -> Climax
-    ensures { (ps : List APitch) → length ps < 192 → IsClimaxOf ps kept → IsClimaxOf (pitch ∷ ps) result }
-{
-    let key = semitone(pitch);
-    if key > kept.greatest {
-        return Climax {
-            greatest: key,
-            count: 1,
-        };
-    }
-    if key < kept.greatest {
-        return kept;
-    }
-    Climax {
-        greatest: key,
-        count: kept.count.saturating_add(1),
-    }
-}
-
-/// Whether a note is entered by a leap.
-fn is_leap_to(last: Option<Pitch>, pitch: Pitch) -> bool
-    ensures { result ≡ terms.holds_of terms.is_leap (terms.interval_of_pitches last (Some pitch)) }
-{
-    match last {
-        Some(p) => is_leap(interval_of(p, pitch)),
-        None => false,
-    }
-}
-
-/// The leaps with one note more.
-pub fn leaps_with(kept: Leaps, pitch: Pitch) -> Leaps
-    ensures { (ps : List APitch) → length ps < 192 → IsLeapsOf ps kept → IsLeapsOf (pitch ∷ ps) result }
-{
-    Leaps {
-        last: Some(pitch),
-        notes: kept.notes.saturating_add(1),
-        leaps: kept
-            .leaps
-            .saturating_add(u8::from(is_leap_to(kept.last, pitch))),
-    }
 }
 
 /// How many of the pitches are this one.

@@ -13,7 +13,7 @@ use fux_pitch::{Mode, Pitch, in_gamut};
 use penalty_sheet::Sheet;
 use rule_law::RuleSet;
 use std::marker::Model;
-use tree_search::Space;
+use tree_search::{QuestSpace, Space};
 
 /// The cantus that are as is asked, as a tree: a child adds the pitch of its number. It is dead where the pitch isn't of its bar's pool,
 /// or a rule is broken by it.
@@ -104,6 +104,24 @@ impl Space for CantusSpace {
     /// Only pitches of the next pool may come, so those between them may be passed.
     fn next_child(&self, node: &CantusNode, from: usize, _best: Option<u64>) -> usize {
         next_of_pool(&self.plan, node.len + 1, from)
+    }
+}
+
+/// Its live paths are exactly the pitches of their bars' pools that break no rule, with children in reading order, and its leaves exactly
+/// the lawful cantus, with their penalties as values.
+impl QuestSpace for CantusSpace {
+    ghost use Rattle.fux_pitch.specs.declared.pitch.Pitch.{Pitch as APitch};
+    ghost use Rattle.cantus_space.specs.Lawful.{quest_of};
+    ghost use Rattle.cantus_space.specs.Paths.{pitches_at};
+
+    ghost Step = { APitch };
+
+    ghost quest = { λ space. quest_of space };
+
+    ghost there = { λ space. pitches_at space };
+
+    fn is_tree(&self) {
+        let _ = self.plan();
     }
 }
 

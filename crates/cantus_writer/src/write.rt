@@ -11,8 +11,7 @@ use arrayvec::ArrayString;
 use cantus_law::{CantusCase, CantusKnown};
 use cert_text::write_claim;
 use cert_tree::Walk;
-use fux_port::{Failed, Sink, write_all};
-use waiting_lines::put;
+use fux_port::{Failed, Sink, put, write_all};
 
 /// The most bytes that a certificate may have.
 const MOST_BYTES: usize = 1_073_741_824;

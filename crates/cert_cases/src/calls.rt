@@ -1,6 +1,6 @@
 //! An exercise without a lawful setting: its certificate has one claim, that no chain goes to the end.
 
-use cert_check::{Checker, Reader, Verdict, check_file, start, verdict_text};
+use cert_check::{Checker, Checks, Reader, Verdict, check_file, start, verdict_text};
 use cert_text::{Accepted, Form};
 use fux_port::MemShelf;
 use fux_text::read;

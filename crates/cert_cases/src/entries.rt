@@ -4,7 +4,7 @@
 ghost use Rattle.cert_text.specs.Potentials.{IsPotential};
 ghost use Rattle.fux_grid.specs.Exercises.{IsValid};
 
-use cert_check::{CloseFault, Refused, Stated, Why};
+use cert_check::{Checks, CloseFault, Refused, Stated, Why};
 use cert_entries::Entries;
 use cert_text::{Accepted, CertHead, Claim, Potential};
 use fux_grid::Exercise;

@@ -9,35 +9,26 @@ use Rattle.cert_file.specs.declared.fault.ReadFault.TheVariants.{Text, Unreadabl
 use Rattle.cert_file.specs.declared.fault.ReadFault.{ReadFault}
 use Rattle.cert_file.specs.Readings.{Files, MayBe, Piece, reading_from}
 use Rattle.cert_file.proofs.PieceLemmas.{nothing_begins}
-use Rattle.cert_check.specs.Starts.{IsOpened, IsStarted, Starts}
+use Rattle.cert_check.specs.Settings.{Asked, IsOpeningText, IsVerdictOn, Opening, RefusesFront, setting_subject}
+use Rattle.cert_check.specs.Starts.{IsStarted, Starts}
+use Rattle.cert_file.specs.Subjects.{IsOpened}
 use Rattle.cert_text.specs.declared.answers.CertFault.TheVariants.{CertHead as WrongHead, CertWord, CertEnd, Memory}
 use Rattle.cert_text.specs.declared.answers.CertHead.{CertHead}
 use Rattle.cert_text.specs.declared.answers.Form.{Form}
 use Rattle.cert_text.specs.declared.answers.Form.TheVariants.{First}
 use Rattle.cert_text.specs.declared.answers.Refused.{Refused}
-use Rattle.cert_check.specs.Answers.{Answers, FindsBehind, IsVerdictOn, unopened, unstarted}
+use Rattle.cert_check.specs.Answers.{Answers, unopened, unstarted}
 use Rattle.cert_check.specs.declared.checking.CheckFault.{CheckFault}
 use Rattle.fux_port.specs.Files.{IsMissing}
-use Rattle.cert_check.specs.Judgments.{Finds, RefusesFor, Shows}
+use Rattle.cert_file.specs.Judgments.{Finds, Shows}
 use Rattle.cert_check.specs.declared.checking.CheckFault.TheVariants as check
 use Rattle.cert_file.specs.declared.verdict.Verdict.{Verdict}
 use Rattle.cert_file.specs.declared.verdict.Verdict.TheVariants as verdict
-use Rattle.cert_check.proofs.JudgingLemmas.{begins_front}
+use Rattle.cert_file.proofs.JudgingLemmas.{begins_front}
 use Rattle.floor_tables.specs.Tables.{AreNarrow, IsTooWide}
 use Rattle.fux_grid.specs.declared.exercise.Exercise.{Exercise}
 use Rattle.fux_grid.specs.declared.exercise.Place.{Place}
 use Rattle.penalty_sheet.specs.declared.sheet.Sheet.{Sheet}
-
--- what is found behind a head is a verdict
-verdict_behind : (ex : Exercise) (sheet : Sheet) (bytes : List ℕ) (it : Verdict) → FindsBehind ex sheet it bytes
-    → IsVerdictOn ex sheet it bytes
-verdict_behind ex sheet bytes (verdict.Accepted answer) found = found
-verdict_behind ex sheet bytes (verdict.Claim refused) found = found
-verdict_behind ex sheet bytes (verdict.Text (WrongHead at)) found =
-    elim found.finds [ inl it ↦ absurd it.fault_at | inr it ↦ absurd it.fault_at ]
-verdict_behind ex sheet bytes (verdict.Text (CertWord at)) found = found
-verdict_behind ex sheet bytes (verdict.Text (CertEnd at)) found = found
-verdict_behind ex sheet bytes (verdict.Text Memory) found = found
 
 not_too_wide : (ex : Exercise) (place : Place) (count : ℕ) → AreNarrow ex → IsTooWide ex place count → ⊥
 not_too_wide ex place count narrow wide = omega (arith, narrow wide.column wide.within, wide.width, wide.wide)
@@ -46,7 +37,8 @@ module _ (ex : Exercise) (sheet : Sheet) (files : Files) (name : List ℕ) (rose
   pub starts_answer : (fault : ReadFault) → Starts ex files name rose (Err fault)
       → Answers ex sheet files name rose (unstarted fault)
   starts_answer Unreadable starts = starts
-  starts_answer (Text (WrongHead at)) starts = starts
+  starts_answer (Text (WrongHead at)) starts =
+      record { bytes = starts.bytes; had = starts.had; such = inl starts.such }
   starts_answer (Text (CertWord at)) starts = absurd starts
   starts_answer (Text (CertEnd at)) starts = absurd starts
   starts_answer (Text Memory) starts = tt
@@ -57,19 +49,17 @@ module _ (ex : Exercise) (sheet : Sheet) (files : Files) (name : List ℕ) (rose
   unsound_answer form head piece refused started why = record {
     bytes = started.at.begins.bytes;
     had = started.at.begins.had;
-    such = record {
-      head = head;
-      finds =
-          subst (λ (r : Refused). RefusesFor ex sheet head r.number r.why started.at.begins.bytes) (sym why.2) record {
-            numbered = refl;
-            form = form;
-            front = started.front;
-            begins = begins_front started.at.begins.bytes started.front _ started.at.begins.such;
-            heads = started.heads;
-            unsound = why.1;
-          };
-      shown = λ answer e. cc;
-    };
+    such = inl (
+      head,
+      subst (λ (r : Refused). RefusesFront ex sheet head r.number r.why started.at.begins.bytes) (sym why.2) record {
+        numbered = refl;
+        form = form;
+        front = started.front;
+        begins = begins_front started.at.begins.bytes started.front _ started.at.begins.such;
+        heads = started.heads;
+        unsound = why.1;
+      },
+    );
   }
 
   pub opening_answer : (form : Form) (head : CertHead) (piece : Piece) (fault : OpenFault)
@@ -118,10 +108,11 @@ unopened_narrow ex sheet head opening.Memory why = tt
 -- behind a head of the first form a reader of claims stands
 pub first_opened : (ex : Exercise) (files : Files) (name : List ℕ) (head : CertHead) (piece : Piece)
     → IsStarted ex files name First head piece
-    → IsOpened ex files name head None (reading_from (piece.offset - length piece.ahead) piece.ahead piece.offset)
+    → IsOpened (IsOpeningText ex) files name (record { head = head; stated = None })
+    (reading_from (piece.offset - length piece.ahead) piece.ahead piece.offset)
 first_opened ex files name head piece started = record {
-  opening = started.front;
-  opens = record { front = started.front; heads = started.heads; fits = tt; is = sym (append-nil started.front) };
+  front = started.front;
+  heads = record { front = started.front; heads = started.heads; fits = tt; is = sym (append-nil started.front) };
   at = record {
     begins = started.at.begins;
     next = omega (arith, started.at.offset);
@@ -133,11 +124,11 @@ first_opened ex files name head piece started = record {
 }
 
 -- what judging found is the answer
-pub judged_answer : (ex : Exercise) (sheet : Sheet) (head : CertHead) (files : Files) (name : List ℕ) (rose : Type 0)
-    (it : Verdict)
-    → Finds ex sheet head files name it → Shows ex sheet head it → Answers ex sheet files name rose (Ok it)
-judged_answer ex sheet head files name rose it finds shown = record {
+pub judged_answer : (asked : Asked) (opening : Opening) (files : Files) (name : List ℕ) (rose : Type 0) (it : Verdict)
+    → Finds (setting_subject asked) opening files name it → Shows (setting_subject asked) opening it
+    → Answers asked.exercise asked.sheet files name rose (Ok it)
+judged_answer asked opening files name rose it finds shown = record {
   bytes = finds.bytes;
   had = finds.had;
-  such = verdict_behind ex sheet finds.bytes it record { head = head; finds = finds.such; shown = shown };
+  such = inr (record { head = opening; finds = finds.such; shown = shown });
 }

@@ -6,12 +6,13 @@ use Rattle.std.proofs.lemmas.List.{flat_map_more}
 use Rattle.std.specs.List.{AllByRecursion, flat_map}
 use Rattle.cert_check.specs.Answers.{Answers, unstarted}
 use Rattle.cert_check.specs.Entering.{Enters, HasStated, unclosed}
-use Rattle.cert_check.specs.Judgments.{HasStatedFault, RefusesFor}
-use Rattle.cert_check.specs.Starts.{IsEntered, IsOpened, IsStarted, IsStatedWhole}
+use Rattle.cert_check.specs.Settings.{HasStatedFault, IsOpeningText, RefusesFront}
+use Rattle.cert_check.specs.Starts.{IsEntered, IsStarted, IsStatedWhole}
+use Rattle.cert_file.specs.Subjects.{IsOpened}
 use Rattle.cert_check.specs.Stating.{Stating, TellsFalse, stating_for}
 use Rattle.cert_check.specs.declared.stated.CloseFault.{CloseFault}
 use Rattle.cert_check.specs.declared.stated.CloseFault.TheVariants as closing
-use Rattle.cert_check.proofs.JudgingLemmas.{begins_front}
+use Rattle.cert_file.proofs.JudgingLemmas.{begins_front}
 use Rattle.cert_file.specs.declared.fault.ReadFault.{ReadFault}
 use Rattle.cert_file.specs.declared.fault.ReadFault.TheVariants.{Text, Unreadable}
 use Rattle.cert_file.specs.declared.verdict.Verdict.TheVariants as verdict
@@ -134,11 +135,11 @@ module _ (ex : Exercise) (files : Files) (name : List ℕ) (head : CertHead) whe
 
   pub claims_opened : (entries : List Potential) (reader : StatedReading)
       → IsStatedWhole ex files name head entries reader
-      → IsOpened ex files name head (Some entries)
+      → IsOpened (IsOpeningText ex) files name (record { head = head; stated = Some entries })
       (reading_from (reader.offset - length reader.ahead) reader.ahead reader.offset)
   claims_opened entries reader is = record {
-    opening = is.opening;
-    opens = is.opens;
+    front = is.opening;
+    heads = is.opens;
     at = record {
       begins = is.at.begins;
       next = omega (arith, is.at.offset);
@@ -172,12 +173,12 @@ entered_answer files name rose old new after (Text (WrongHead at)) known = absur
 entered_answer files name rose old new after (Text (CertWord at)) known = record {
   bytes = known.bytes;
   had = known.had;
-  such = record { head = old.head; finds = inr known.such; shown = λ answer e. cc };
+  such = inl (old.head, known.such);
 }
 entered_answer files name rose old new after (Text (CertEnd at)) known = record {
   bytes = known.bytes;
   had = known.had;
-  such = record { head = old.head; finds = inr known.such; shown = λ answer e. cc };
+  such = inl (old.head, known.such);
 }
 entered_answer files name rose old new after (Text Memory) known = tt
 
@@ -190,9 +191,9 @@ module _ (ex : Exercise) (files : Files) (name : List ℕ) (head : CertHead) (sh
   untrue_answer entries reader refused sound is limit why = record {
     bytes = is.at.begins.bytes;
     had = is.at.begins.had;
-    such = record {
-      head = head;
-      finds = subst (λ (r : Refused). RefusesFor ex sheet head r.number r.why is.at.begins.bytes) (sym why.2) record {
+    such = inl (
+      head,
+      subst (λ (r : Refused). RefusesFront ex sheet head r.number r.why is.at.begins.bytes) (sym why.2) record {
         sound = sound;
         entries = entries;
         opening = is.opening;
@@ -202,9 +203,8 @@ module _ (ex : Exercise) (files : Files) (name : List ℕ) (head : CertHead) (sh
         before = why.0;
         numbered = refl;
         first = why.1;
-      };
-      shown = λ answer e. cc;
-    };
+      },
+    );
   }
 
   pub closed_answer : (entries : List Potential) (reader : StatedReading) (fault : CloseFault)

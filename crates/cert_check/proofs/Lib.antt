@@ -1,10 +1,8 @@
 pub mod AnswerLemmas
 pub mod CellTests
-pub mod CheckingLemmas
+pub mod CheckerLemmas
 pub mod EnteringLemmas
 pub mod HeadLemmas
-pub mod JudgingLemmas
-pub mod OneVerdict
+pub mod RefusedLemmas
 pub mod StartLemmas
-pub mod ToldClaims
 pub mod ToldEntries

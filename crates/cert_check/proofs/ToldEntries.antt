@@ -1,21 +1,18 @@
--- What is told behind a head of the second form, of the first line that isn't owed, of the first entry that isn't true, or of the claims, is
--- told of one list of entries (`one_stated`).
-use Rattle.std.proofs.Common.{◌≡◌, ℕ, ◌+◌, ◌<◌, ◌≤◌, ◌⊎◌, inl, inr, ⊎_elim, Bool, true, false, nat_lt, true≢false, List, [], ◌∷◌, ◌++◌, Some, length, refl, sym, ap, subst, ◌∙◌, arith}
+-- What is told behind a head of the second form, of the first line that isn't owed or of the first entry that isn't true, is told of one
+-- list of entries (`one_stated`); nothing is, where what is stated is whole and true.
+use Rattle.std.proofs.Common.{◌≡◌, ℕ, ◌+◌, ◌<◌, ◌≤◌, ◌⊎◌, inl, inr, ⊎_elim, Bool, true, false, nat_lt, true≢false, List, ◌++◌, Option, None, Some, length, refl, sym, ap, subst, ◌∙◌, arith}
 use Rattle.std.specs.Prelude.{if◌then◌else◌}
 use Rattle.std.proofs.lemmas.Bool.{cases_lt}
 use Rattle.std.proofs.lemmas.Bool.Decides.{nat_tests}
 use Rattle.std.proofs.lemmas.List.{append_cancel_left}
 use Rattle.std.specs.List.{AllByRecursion, flat_map}
-use Rattle.cert_check.proofs.ToldClaims.{AreTold, one_told}
 use Rattle.cert_file.specs.Readings.{IsUnendedLine, IsWrongLine, Stated, longest_certificate}
 use Rattle.cert_file.specs.declared.verdict.Verdict.{Verdict}
 use Rattle.cert_file.specs.declared.verdict.Verdict.TheVariants as verdicts
 use Rattle.cert_file.proofs.StatedTexts.{HasNoPotential, owed_not_unended, owed_not_wrong, same_entries, wrong_not_unended}
 use Rattle.cert_law.specs.Entries.{AreTrueEntries, IsFirstFalse, IsTrueEntry, entry_count}
 use Rattle.cert_text.specs.declared.answers.CertFault.TheVariants.{CertWord, CertEnd}
-use Rattle.cert_text.specs.declared.answers.CertHead.{CertHead}
 use Rattle.cert_text.specs.declared.answers.Why.TheVariants as whys
-use Rattle.cert_text.specs.declared.claim.Claim.{Claim}
 use Rattle.cert_text.specs.declared.potential.Potential.{Potential}
 use Rattle.cert_text.specs.Potentials.{IsPotential, last_line, potential_line}
 use Rattle.fux_grid.specs.declared.exercise.Exercise.{Exercise}
@@ -88,35 +85,32 @@ true_entry ex sheet es n are = record {
   last = λ i k e below within. are.last i k below within;
 }
 
--- ---- the verdict by it
+-- ---- the verdict by it, where it is refused
 
-module _ (ex : Exercise) (sheet : Sheet) (head : CertHead) (more : Bool) where
+module _ (ex : Exercise) (sheet : Sheet) (more : Bool) where
   -- an entry isn't true
-  pub record UntrueTold (es : List Potential) (it : Verdict) : Type 0 where
+  pub record UntrueTold (es : List Potential) (it : Option Verdict) : Type 0 where
     pub before : ℕ
     pub first : IsFirstFalse ex sheet es before
-    pub told : it ≡ verdicts.Claim (record { number = before + 1; why = whys.Potential })
+    pub told : it ≡ Some (verdicts.Claim (record { number = before + 1; why = whys.Potential }))
 
-  -- each is true, and the verdict is told of the claims
-  pub record TrueTold (es : List Potential) (place : ℕ) (later : List ℕ) (it : Verdict) : Type 0 where
+  -- each is true, and nothing is refused
+  pub record TrueTold (es : List Potential) (it : Option Verdict) : Type 0 where
     pub entries : AreTrueEntries ex sheet es
-    pub claims : List Claim
-    pub rest : List ℕ
-    pub is : later ≡ last_line ++ rest
-    pub told : AreTold ex sheet head (Some es) more claims ([] ∷ []) 0 (place + length last_line) rest it
+    pub told : it ≡ None
 
-  abbrev pub EntryTold : EntryLine → List Potential → ℕ → List ℕ → Verdict → Type 0
-  EntryTold Last es place later it = UntrueTold es it ⊎ TrueTold es place later it
-  EntryTold NotOwed es place later it = it ≡ verdicts.Text (CertWord place)
-  EntryTold NotEnded es place later it = it ≡ verdicts.Text (CertEnd (if more then longest_certificate else place))
+  abbrev pub EntryTold : EntryLine → List Potential → ℕ → Option Verdict → Type 0
+  EntryTold Last es place it = UntrueTold es it ⊎ TrueTold es it
+  EntryTold NotOwed es place it = it ≡ Some (verdicts.Text (CertWord place))
+  EntryTold NotEnded es place it = it ≡ Some (verdicts.Text (CertEnd (if more then longest_certificate else place)))
 
   -- behind these entries stands such a line, and the verdict is told of it
-  pub record Ends (place : ℕ) (es : List Potential) (later : List ℕ) (it : Verdict) : Type 0 where
+  pub record Ends (place : ℕ) (es : List Potential) (later : List ℕ) (it : Option Verdict) : Type 0 where
     pub line : EntryLine
     pub is : IsEntryLine (nat_lt (length es) (entry_count ex)) later line
-    pub told : EntryTold line es (place + length (flat_map potential_line es)) later it
+    pub told : EntryTold line es (place + length (flat_map potential_line es)) it
 
-  pub record IsStatedTold (place : ℕ) (rest : List ℕ) (it : Verdict) : Type 0 where
+  pub record IsStatedTold (place : ℕ) (rest : List ℕ) (it : Option Verdict) : Type 0 where
     pub entries : List Potential
     pub few : length entries ≤ entry_count ex
     pub fits : AllByRecursion IsPotential entries
@@ -124,42 +118,30 @@ module _ (ex : Exercise) (sheet : Sheet) (head : CertHead) (more : Bool) where
     pub is : rest ≡ flat_map potential_line entries ++ later
     pub ends : Ends place entries later it
 
-  one_told_true : (es : List Potential) (place : ℕ) (later : List ℕ) (it other : Verdict) → TrueTold es place later it
-      → TrueTold es place later other → it ≡ other
-  one_told_true es place later it other p q =
-      let same : q.rest ≡ p.rest = append_cancel_left last_line q.rest p.rest (sym q.is ∙ p.is) in
-      one_told ex sheet head (Some es) more p.claims q.claims ([] ∷ []) 0 (place + length last_line) p.rest it other
-      p.told
-      (subst (λ xs. AreTold ex sheet head (Some es) more q.claims ([] ∷ []) 0 (place + length last_line) xs other) same
-      q.told)
-
-  one_last : (es : List Potential) (place : ℕ) (later : List ℕ) (it other : Verdict)
-      → UntrueTold es it ⊎ TrueTold es place later it
-      → UntrueTold es other ⊎ TrueTold es place later other → it ≡ other
-  one_last es place later it other (inl p) (inl q) =
-      p.told ∙ ap (λ n. verdicts.Claim (record { number = n + 1; why = whys.Potential }))
+  one_last : (es : List Potential) (it other : Option Verdict) → UntrueTold es it ⊎ TrueTold es it
+      → UntrueTold es other ⊎ TrueTold es other → it ≡ other
+  one_last es it other (inl p) (inl q) =
+      p.told ∙ ap (λ n. Some (verdicts.Claim (record { number = n + 1; why = whys.Potential })))
       (same_first ex sheet es p.before q.before p.first q.first) ∙ sym q.told
-  one_last es place later it other (inl p) (inr q) =
-      absurd (p.first.untrue (true_entry ex sheet es p.before q.entries))
-  one_last es place later it other (inr p) (inl q) =
-      absurd (q.first.untrue (true_entry ex sheet es q.before p.entries))
-  one_last es place later it other (inr p) (inr q) = one_told_true es place later it other p q
+  one_last es it other (inl p) (inr q) = absurd (p.first.untrue (true_entry ex sheet es p.before q.entries))
+  one_last es it other (inr p) (inl q) = absurd (q.first.untrue (true_entry ex sheet es q.before p.entries))
+  one_last es it other (inr p) (inr q) = p.told ∙ sym q.told
 
-  one_entry_told : (line : EntryLine) (es : List Potential) (place : ℕ) (later : List ℕ) (it other : Verdict)
-      → EntryTold line es place later it → EntryTold line es place later other → it ≡ other
-  one_entry_told Last es place later it other p q = one_last es place later it other p q
-  one_entry_told NotOwed es place later it other p q = p ∙ sym q
-  one_entry_told NotEnded es place later it other p q = p ∙ sym q
+  one_entry_told : (line : EntryLine) (es : List Potential) (place : ℕ) (it other : Option Verdict)
+      → EntryTold line es place it → EntryTold line es place other → it ≡ other
+  one_entry_told Last es place it other p q = one_last es it other p q
+  one_entry_told NotOwed es place it other p q = p ∙ sym q
+  one_entry_told NotEnded es place it other p q = p ∙ sym q
 
-  one_end : (place : ℕ) (es : List Potential) (later : List ℕ) (it other : Verdict) → Ends place es later it
+  one_end : (place : ℕ) (es : List Potential) (later : List ℕ) (it other : Option Verdict) → Ends place es later it
       → Ends place es later other → it ≡ other
   one_end place es later it other p q =
       let n = place + length (flat_map potential_line es) in
-      one_entry_told p.line es n later it other p.told
-      (subst (λ (line : EntryLine). EntryTold line es n later other) (one_entry_line _ later q.line p.line q.is p.is)
+      one_entry_told p.line es n it other p.told
+      (subst (λ (line : EntryLine). EntryTold line es n other) (one_entry_line _ later q.line p.line q.is p.is)
       q.told)
 
-  pub one_stated : (place : ℕ) (rest : List ℕ) (it other : Verdict) → IsStatedTold place rest it
+  pub one_stated : (place : ℕ) (rest : List ℕ) (it other : Option Verdict) → IsStatedTold place rest it
       → IsStatedTold place rest other → it ≡ other
   one_stated place rest it other p q =
       let owes : (n : ℕ) → 0 + n < entry_count ex → nat_lt n (entry_count ex) ≡ true =

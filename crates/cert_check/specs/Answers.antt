@@ -6,10 +6,7 @@ use Rattle.cert_file.specs.declared.fault.ReadFault.{ReadFault}
 use Rattle.cert_file.specs.declared.fault.ReadFault.TheVariants as reading
 use Rattle.cert_file.specs.Readings.{Files, MayBe}
 use Rattle.cert_text.specs.declared.answers.CertFault.TheVariants.{CertHead as WrongHead, Memory as NoMemory}
-use Rattle.cert_text.specs.declared.answers.CertHead.{CertHead}
-use Rattle.cert_text.specs.declared.answers.Form.TheVariants.{Second}
-use Rattle.cert_text.specs.HeadTexts.{TextStops}
-use Rattle.cert_check.specs.Judgments.{FindsIn, Shows}
+use Rattle.cert_check.specs.Settings.{IsVerdictOn}
 use Rattle.cert_check.specs.declared.checking.CheckFault.{CheckFault}
 use Rattle.cert_check.specs.declared.checking.CheckFault.TheVariants.{Unreadable, TooWide, Memory}
 use Rattle.cert_file.specs.declared.verdict.Verdict.{Verdict}
@@ -19,17 +16,6 @@ use Rattle.fux_grid.specs.declared.exercise.Exercise.{Exercise}
 use Rattle.fux_grid.specs.Exercises.{IsValid}
 use Rattle.fux_port.specs.Files.{IsMissing}
 use Rattle.penalty_sheet.specs.declared.sheet.Sheet.{Sheet}
-
--- what a verdict says of bytes by the head at their front; and that this head holds, where they are accepted
-pub record FindsBehind (ex : Exercise) (sheet : Sheet) (it : Verdict) (bytes : List ℕ) : Type 0 where
-  pub head : CertHead
-  pub finds : FindsIn ex sheet head it bytes
-  pub shown : Shows ex sheet head it
-
--- what a verdict says of bytes: no head stands at their front, or what is found behind it
-abbrev pub IsVerdictOn : Exercise → Sheet → Verdict → List ℕ → Type 0
-IsVerdictOn ex sheet (verdict.Text (WrongHead at)) bytes = TextStops ex Second bytes at
-IsVerdictOn ex sheet it bytes = FindsBehind ex sheet it bytes
 
 -- bytes have one verdict
 abbrev pub VerdictsAreOne : Type 0

@@ -4,7 +4,7 @@ use Rattle.cert_check.specs.declared.stated.CloseFault.{CloseFault}
 use Rattle.cert_check.specs.declared.stated.CloseFault.TheVariants as closing
 use Rattle.cert_check.specs.declared.checking.CheckFault.{CheckFault}
 use Rattle.cert_check.specs.declared.checking.CheckFault.TheVariants as check
-use Rattle.cert_check.specs.Judgments.{HasStatedFault}
+use Rattle.cert_check.specs.Settings.{HasStatedFault}
 use Rattle.cert_check.specs.Starts.{IsEntered, IsStatedWhole}
 use Rattle.cert_check.specs.Stating.{Stating}
 use Rattle.cert_file.specs.declared.fault.ReadFault.{ReadFault}

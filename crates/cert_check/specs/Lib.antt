@@ -1,8 +1,6 @@
 pub mod Answers
-pub mod Checking
 pub mod Entering
-pub mod Judgments
 pub mod Opening
-pub mod Runs
+pub mod Settings
 pub mod Starts
 pub mod Stating

@@ -1,11 +1,23 @@
--- Why a checker isn't opened.
-use Rattle.std.specs.Prelude.{◌≡◌, ⊤}
+-- What a checker of certificates on settings keeps, and why it isn't opened.
+use Rattle.std.specs.Prelude.{◌≡◌, List, [], ⊤, Option, IfSome}
 use Rattle.cert_check.specs.declared.checker.OpenFault.{OpenFault}
 use Rattle.cert_check.specs.declared.checker.OpenFault.TheVariants.{TooWide, Refused, Memory}
-use Rattle.cert_law.specs.Certificates.{IsHeadSound}
+use Rattle.cert_file.specs.Checking.{Checking, opened_at}
+use Rattle.cert_check.specs.Settings.{Asked, Opening}
+use Rattle.cert_law.specs.Bases.{Basis, HasTails}
+use Rattle.cert_law.specs.Cases.{IsCase, Matter}
+use Rattle.cert_law.specs.Certificates.{Begins, IsHeadSound}
+use Rattle.cert_law.specs.Entries.{AreTrueEntries}
+use Rattle.cert_law.specs.Known.{IsKnown, tailed_of, tree_in, ways_of}
+use Rattle.cert_law.specs.WayLaws.{RefutesExcluded}
+use Rattle.cert_law.specs.declared.known.PrefixKnown.{PrefixKnown}
 use Rattle.cert_text.specs.declared.answers.CertHead.{CertHead}
 use Rattle.cert_text.specs.declared.answers.Why.TheVariants.{Head}
+use Rattle.cert_text.specs.declared.potential.Potential.{Potential}
+use Rattle.cert_tree.specs.Judgings.{IsKept}
+use Rattle.cert_tree.specs.declared.judging.Judging.{Judging}
 use Rattle.floor_tables.specs.Tables.{AreNarrow, IsTooWide}
+use Rattle.fux_grid.specs.declared.cell.Cell.{Cell}
 use Rattle.fux_grid.specs.declared.exercise.Exercise.{Exercise}
 use Rattle.penalty_sheet.specs.declared.sheet.Sheet.{Sheet}
 
@@ -15,3 +27,17 @@ TellsWhy ex sheet head (TooWide place count) = IsTooWide ex place count
 TellsWhy ex sheet head (Refused refused) =
     AreNarrow ex × (IsHeadSound ex sheet head → ⊥) × (refused ≡ record { number = 0; why = Head })
 TellsWhy ex sheet head Memory = ⊤
+
+-- what each checker keeps: entries that are stated are true, and as long as no claim was refused, each setting that refutes the head
+-- is begun by a prefix that is owed
+pub record IsChecking (t : Matter) (basis : Basis) (judging : Judging PrefixKnown) : Type 0 where
+  pub case : IsCase t
+  pub has : HasTails t basis
+  pub entries : IfSome basis.stated (AreTrueEntries t.exercise t.sheet)
+  pub kept : IsKept (tree_in (tailed_of t basis)) (IsKnown (tailed_of t basis)) (ways_of t.exercise) Begins
+      (RefutesExcluded (tailed_of t basis)) judging
+
+-- the empty prefix alone is owed, no claim was taken, and none was refused
+abbrev pub opened_for : Exercise → Sheet → CertHead → Option (List Potential) → Checking Asked Opening (List (List Cell))
+opened_for ex sheet head stated =
+    opened_at (record { exercise = ex; sheet = sheet }) (record { head = head; stated = stated }) []

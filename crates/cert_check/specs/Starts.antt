@@ -1,5 +1,5 @@
 -- What stands at the front of a certificate's file: its head, and what it states.
-use Rattle.std.specs.Prelude.{◌≡◌, ◌≤◌, ℕ, ◌⊎◌, ◌++◌, List, Option, Some, Result, Ok, Err, length}
+use Rattle.std.specs.Prelude.{◌≡◌, ◌≤◌, ℕ, ◌⊎◌, ◌++◌, List, Some, Result, Ok, Err, length}
 use Rattle.std.specs.List.{AllByRecursion, flat_map}
 use Rattle.fux_grid.specs.declared.exercise.Exercise.{Exercise}
 use Rattle.fux_port.specs.Files.{IsMissing}
@@ -13,9 +13,9 @@ use Rattle.cert_text.specs.HeadTexts.{Heads, TextStops}
 use Rattle.cert_text.specs.Potentials.{IsPotential, potential_line}
 use Rattle.cert_file.specs.declared.fault.ReadFault.{ReadFault}
 use Rattle.cert_file.specs.declared.fault.ReadFault.TheVariants.{Unreadable, Text}
-use Rattle.cert_file.specs.Readings.{Files, IsAt, IsPlaced, MayBe, Piece, Reading}
+use Rattle.cert_file.specs.Readings.{Files, IsPlaced, MayBe, Piece}
 use Rattle.cert_file.specs.StatedReadings.{IsAtClaims, IsAtStated, StatedReading}
-use Rattle.cert_check.specs.Judgments.{IsOpeningOf}
+use Rattle.cert_check.specs.Settings.{IsOpeningOf}
 
 -- the head of a form was used of a file
 pub record IsStarted (ex : Exercise) (files : Files) (name : List ℕ) (form : Form) (head : CertHead) (piece : Piece) : Type
@@ -35,13 +35,6 @@ Starts ex files name rose (Err (Text fault)) = ⊥
 -- nothing was read: there is no file, or there was not enough memory
 abbrev pub IsUnread : Result (Form × CertHead × Piece) ReadFault → Type 0
 IsUnread result = (result ≡ Err Unreadable) ⊎ (result ≡ Err (Text fault.Memory))
-
--- a reader of claims stands behind the head of a file and what it states
-pub record IsOpened (ex : Exercise) (files : Files) (name : List ℕ) (head : CertHead) (stated : Option (List Potential))
-    (reader : Reading) : Type 0 where
-  pub opening : List ℕ
-  pub opens : IsOpeningOf ex head stated opening
-  pub at : IsAt files name opening reader
 
 -- a reader of what is stated stands behind the head of a file and these entries
 pub record IsEntered (ex : Exercise) (files : Files) (name : List ℕ) (head : CertHead) (entries : List Potential)

@@ -1,26 +1,23 @@
 //! The checker of certificates.
 
-ghost use Rattle.std.specs.Prelude.{◌≡◌, ◌≢◌, ◌+◌, ◌^◌, ◌<◌, ◌≤◌, [], ◌∷◌, None, Some, Ok, Err, IfErr, IfOk, IfSome, OnErr, OnOk};
-ghost use Rattle.cert_text.specs.declared.answers.Refused.{Refused as ARefused};
-ghost use Rattle.cert_text.specs.declared.answers.Why.TheVariants as whys;
+ghost use Rattle.std.specs.Prelude.{◌≡◌, [], None, IfErr, IfOk, IfSome, OnOk};
 ghost use Rattle.cert_tree.specs.Judgings.{begun_at, standing_of};
 ghost use Rattle.cert_tree.specs.Trees.{OwesRefuting};
-ghost use Rattle.cert_law.specs.Certificates.{Begins, Holds, IsHeadSound, Refutes};
+ghost use Rattle.cert_law.specs.Certificates.{Begins, IsHeadSound, Refutes};
 ghost use Rattle.cert_law.specs.Bases.{HasTails};
 ghost use Rattle.cert_law.specs.Cases.{IsCase};
 ghost use Rattle.cert_law.specs.Entries.{AreTrueEntries};
 ghost use Rattle.cert_law.specs.Known.{ways_of};
-ghost use Rattle.cert_check.specs.Checking as words;
-ghost use Rattle.cert_check.specs.Checking.{IsChecking, Refuses, Takes, accepted_of};
-ghost use Rattle.cert_check.specs.Opening.{TellsWhy};
-ghost use Rattle.cert_check.specs.Runs.{IsFedCertificate, IsFedNone, opened_for};
+ghost use Rattle.cert_check.specs.Opening.{IsChecking, TellsWhy, opened_for};
+ghost use Rattle.cert_check.specs.Settings.{IsSound};
 ghost use Rattle.floor_tables.specs.Tables.{AreNarrow};
 ghost use Rattle.fux_grid.specs.Exercises.{IsValid};
 
 use crate::head::is_sound;
+use cert_file::{Checks, refused_by};
 use cert_law::{Case, PrefixKnown, TailedCase, Tails};
 use cert_text::{Accepted, CertHead, Claim, Refused, Why};
-use cert_tree::{Cause, Judging, Refusal, begin, feed, finish};
+use cert_tree::{Judging, begin, feed, finish};
 use floor_tables::{TableFault, Tables, fill_tables};
 use fux_grid::{Exercise, Place};
 use fux_pitch::Memory;
@@ -52,17 +49,19 @@ pub struct Checker<'a, T: Tails> {
 
 impl<'a, T: Tails> Model for Checker<'a, T> {
     ghost use Rattle.std.specs.Prelude.{option_map};
-    ghost use Rattle.cert_check.specs.Checking.{Checking, IsChecking, refused_by};
+    ghost use Rattle.std.specs.Prelude.{List as Items};
+    ghost use Rattle.cert_file.specs.Checking.{Checking, refused_by};
+    ghost use Rattle.cert_check.specs.Opening.{IsChecking};
+    ghost use Rattle.cert_check.specs.Settings.{Asked as AnAsked, Opening as AnOpening};
+    ghost use Rattle.fux_grid.specs.declared.cell.Cell.{Cell as ACell};
     ghost use Rattle.cert_law.specs.Known.{ways_of};
     ghost use Rattle.cert_tree.specs.Walks.{owed_by_walk};
 
-    ghost Value = { Checking };
+    ghost Value = { Checking AnAsked AnOpening (Items (Items ACell)) };
 
     ghost view = { λ c. record {
-      exercise = c.exercise.now;
-      sheet = c.sheet.now;
-      head = c.head;
-      stated = (T.basis c.tails).stated;
+      asked = record { exercise = c.exercise.now; sheet = c.sheet.now };
+      head = record { head = c.head; stated = (T.basis c.tails).stated };
       owed = owed_by_walk (ways_of c.exercise.now) c.judging.walk;
       count = c.judging.taken;
       refusal = option_map refused_by c.judging.refusal;
@@ -70,27 +69,6 @@ impl<'a, T: Tails> Model for Checker<'a, T> {
 
     ghost invariant = { λ c. IsChecking
         (record { exercise = c.exercise.now; sheet = c.sheet.now; head = c.head }) (T.basis c.tails) c.judging };
-}
-
-/// Why a claim is refused, as it is answered.
-fn why_of(cause: Cause) -> Why
-    ensures { result ≡ words.why_of cause }
-{
-    match cause {
-        Cause::False => Why::False,
-        Cause::Over => Why::Over,
-        Cause::Short => Why::Short,
-    }
-}
-
-/// A refusal, as it is answered.
-fn refused_by(refusal: Refusal) -> Refused
-    ensures { result ≡ words.refused_by refusal }
-{
-    Refused {
-        number: refusal.number,
-        why: why_of(refusal.cause),
-    }
 }
 
 /// The judging of the claims of a certificate, with the empty prefix owed. It takes all its memory here.
@@ -181,21 +159,30 @@ impl<'a, T: Tails + Drop> Checker<'a, T> {
     /// that refutes the head is begun by a prefix that is owed. It does nothing; callers that prove something about a checker learn this
     /// from it.
     pub fn kept(&self)
-        ensures sound { IsHeadSound self.now.exercise self.now.sheet self.now.head }
-        ensures entries { IfSome self.now.stated (AreTrueEntries self.now.exercise self.now.sheet) }
+        ensures sound { IsSound self.now.asked.exercise self.now.asked.sheet self.now.head }
         ensures owes { self.now.refusal ≡ None
-            → OwesRefuting Begins (Refutes self.now.exercise self.now.sheet self.now.head) self.now.owed }
+            → OwesRefuting Begins (Refutes self.now.asked.exercise self.now.asked.sheet self.now.head.head) self.now.owed }
     {
         let _ = &self.judging;
     }
+}
 
-    /// Judges a claim of the prefix that is owed next. It is taken where it is true of it; after a refusal every call answers the same.
-    pub fn feed(&mut self, claim: Claim) -> Result<(), Refused>
-        requires { self.old.count < 2 ^ 40 }
-        ensures taken { self.old.refusal ≡ None → OnOk result (Takes self.old claim self.new) }
-        ensures refused { self.old.refusal ≡ None → IfErr result (λ refused. Refuses self.old claim refused self.new) }
-        ensures again { (refused : ARefused) → self.old.refusal ≡ Some refused → (result ≡ Err refused) × (self.new ≡ self.old) }
-    {
+impl<'a, T: Tails + Drop> Checks for Checker<'a, T> {
+    ghost use Rattle.std.specs.Prelude.{List as Items};
+    ghost use Rattle.cert_check.specs.Settings.{Asked as AnAsked, Opening as AnOpening, setting_subject};
+    ghost use Rattle.fux_grid.specs.declared.cell.Cell.{Cell as ACell};
+
+    ghost Asked = { AnAsked };
+
+    ghost Head = { AnOpening };
+
+    ghost Node = { Items (Items ACell) };
+
+    ghost subject = { setting_subject };
+
+    ghost seen = { λ c. c };
+
+    fn feed(&mut self, claim: Claim) -> Result<(), Refused> {
         let case = Case {
             exercise: self.exercise,
             sheet: self.sheet,
@@ -208,19 +195,7 @@ impl<'a, T: Tails + Drop> Checker<'a, T> {
         }
     }
 
-    /// What the claims so far show, where none is owed. The head's setting is the best one then, or nothing is lawful.
-    pub fn finish(&self) -> Result<Accepted, Refused>
-        requires { self.now.count ≤ 2 ^ 40 }
-        ensures accepted { self.now.refusal ≡ None → self.now.owed ≡ [] → result ≡ Ok (accepted_of self.now.head) }
-        ensures short { self.now.refusal ≡ None → self.now.owed ≢ [] →
-            result ≡ Err (record { number = self.now.count + 1; why = whys.Short }) }
-        ensures again { (refused : ARefused) → self.now.refusal ≡ Some refused → result ≡ Err refused }
-        ensures shown { IfOk result (λ _. Holds self.now.exercise self.now.sheet self.now.head) }
-
-        // Where all claims since the checker was opened were fed to it: they are a certificate with its head, or not.
-        ensures certified { OnOk result (IsFedCertificate self.now) }
-        ensures uncertified { OnErr result (IsFedNone self.now) }
-    {
+    fn finish(&self) -> Result<Accepted, Refused> {
         let case = Case {
             exercise: self.exercise,
             sheet: self.sheet,

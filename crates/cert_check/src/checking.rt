@@ -1,11 +1,13 @@
 //! The file of a certificate, from its name to the verdict.
 
-ghost use Rattle.std.specs.Prelude.{◌≡◌, ◌≢◌, ◌+◌, ◌≤◌, ◌⊎◌, Err, IfErr, IfOk, OnOk};
+ghost use Rattle.std.specs.Prelude.{◌≡◌, ◌≢◌, ◌+◌, ◌≤◌, ◌⊎◌, [], Err, IfErr, IfOk, OnOk};
 ghost use Rattle.cert_text.specs.declared.answers.CertHead.{CertHead as AHead};
 ghost use Rattle.cert_check.specs.Answers.{Answers, IsHeadless, unopened, unstarted};
 ghost use Rattle.cert_check.specs.Entering.{unclosed};
-ghost use Rattle.cert_check.specs.Judgments.{AcceptsValid, IsFresh};
-ghost use Rattle.cert_check.specs.Starts.{IsOpened, IsStarted};
+ghost use Rattle.cert_file.specs.Checking.{opened_at};
+ghost use Rattle.cert_check.specs.Settings.{AcceptsValid, IsOpeningText};
+ghost use Rattle.cert_check.specs.Starts.{IsStarted};
+ghost use Rattle.cert_file.specs.Subjects.{IsOpened};
 ghost use Rattle.floor_tables.specs.Tables.{AreNarrow};
 ghost use Rattle.fux_grid.specs.Exercises.{IsValid};
 ghost use Rattle.fux_port.specs.Counts.{Rose};
@@ -14,10 +16,9 @@ ghost use Rattle.fux_port.specs.Promises.{ServesWhole};
 
 use crate::checker::{Checker, OpenFault};
 use crate::entering::enter;
-use crate::judging::judge;
 use crate::starting::start;
 use crate::stated::{CloseFault, Stated};
-use cert_file::{Pieces, ReadFault, Reader, StatedReader, Verdict};
+use cert_file::{Pieces, ReadFault, Reader, StatedReader, Verdict, judge};
 use cert_law::Tails;
 use cert_text::{CertFault, CertHead, Form};
 use fux_grid::{Exercise, Place};
@@ -156,10 +157,9 @@ fn judge_claims<F: Shelf, T: Tails + Drop>(
     mut reader: Reader,
     checker: Checker<'_, T>,
 ) -> Result<Verdict, CheckFault>
-    requires valid { IsValid checker.exercise }
-    requires fresh { IsFresh checker }
-    requires opened { IsOpened checker.exercise (F.files shelf.old) name.now checker.head checker.stated reader }
-    ensures answers { Answers checker.entry.exercise checker.entry.sheet (F.files shelf.old) name.now
+    requires fresh { checker ≡ opened_at checker.asked checker.head [] }
+    requires opened { IsOpened (IsOpeningText checker.asked.exercise) (F.files shelf.old) name.now checker.head reader }
+    ensures answers { Answers checker.entry.asked.exercise checker.entry.asked.sheet (F.files shelf.old) name.now
         (Rose (F.faults shelf.old) (F.faults shelf.new)) result }
     ensures served { ServesWhole (F.serves shelf.old) name.now 1073741824
         → IfErr result (λ fault. fault ≢ CheckFault.Unreadable) }
@@ -167,6 +167,7 @@ fn judge_claims<F: Shelf, T: Tails + Drop>(
     ensures files { F.files shelf.new ≡ F.files shelf.old }
     ensures faults { F.faults shelf.old ≤ F.faults shelf.new }
 {
+    checker.kept();
     match judge(shelf, name, &mut reader, checker) {
         Ok(verdict) => Ok(verdict),
         Err(Failed) => Err(CheckFault::Unreadable),

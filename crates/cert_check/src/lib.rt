@@ -6,17 +6,15 @@ mod checker;
 mod checking;
 mod entering;
 mod head;
-mod judging;
 mod one_verdict;
 mod starting;
 mod stated;
 
-pub use cert_file::{ReadFault, Reader, Verdict, verdict_text};
+pub use cert_file::{Checks, ReadFault, Reader, Verdict, verdict_text};
 pub use cert_text::{Accepted, Refused, Why};
 pub use checker::{Checker, OpenFault};
 pub use checking::{CheckFault, check_file};
 pub use head::is_sound;
-pub use judging::judge;
 pub use one_verdict::verdicts_are_one;
 pub use starting::start;
 pub use stated::{CloseFault, Stated};

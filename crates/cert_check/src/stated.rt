@@ -1,8 +1,7 @@
 //! Certificates of the second form, as they come: a head and entries, and then the checker of their claims.
 
 ghost use Rattle.std.specs.Prelude.{◌≡◌, ◌+◌, ◌<◌, ◌++◌, ◌∷◌, [], Some, length, IfErr, IfOk, OnOk};
-ghost use Rattle.cert_check.specs.Opening.{TellsWhy};
-ghost use Rattle.cert_check.specs.Runs.{opened_for};
+ghost use Rattle.cert_check.specs.Opening.{TellsWhy, opened_for};
 ghost use Rattle.cert_check.specs.Stating.{TellsFalse, stating_for};
 ghost use Rattle.cert_law.specs.Certificates.{IsHeadSound};
 ghost use Rattle.cert_law.specs.Entries.{AreTrueEntries, entry_count};

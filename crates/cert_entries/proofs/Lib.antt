@@ -1,4 +1,5 @@
 mod BoundLemmas
+mod FirstLemmas
 mod HeldLemmas
 mod MenuLemmas
 mod PlaceLemmas

@@ -7,7 +7,7 @@ use Rattle.cert_entries.specs.Listings.{Listing, TellsFirstFalse}
 use Rattle.cert_entries.proofs.PlaceLemmas.{number_within, place_is_one}
 use Rattle.cert_law.specs.Entries.{AreTrueEntries, IsTrueBefore, IsTrueEntry, columns_before, entry_at, entry_count, entry_of, menu_column}
 use Rattle.cert_text.specs.declared.potential.Potential.{Potential}
-use Rattle.entry_tests.specs.First.{IsFirstFailing}
+use Rattle.cert_entries.specs.First.{IsFirstFailing}
 use Rattle.fux_grid.specs.declared.cell.Cell.{Cell}
 use Rattle.fux_grid.specs.declared.exercise.Exercise.{Exercise}
 use Rattle.fux_grid.specs.Exercises.{columns_in}

@@ -11,11 +11,11 @@ ghost use Rattle.floor_tables.specs.Tables.{AreNarrow};
 ghost use Rattle.fux_grid.specs.Exercises.{IsValid};
 
 use crate::board::Board;
+use crate::first::first_failing;
 use crate::menus::Menus;
 use crate::trial::Trial;
 use cert_law::Tails;
 use cert_text::Potential;
-use entry_tests::first_failing;
 use fux_grid::{Column, Exercise, Place};
 use fux_pitch::Memory;
 use penalty_sheet::Sheet;

@@ -5,9 +5,15 @@
 mod board;
 mod bounds;
 mod entries;
+mod first;
 mod menus;
+mod one;
 mod share;
 mod testing;
+mod tests;
 mod trial;
 
 pub use entries::{Entries, EntryFault};
+pub use first::first_failing;
+pub use one::first_failing_is_one;
+pub use tests::Tests;

@@ -5,7 +5,7 @@ ghost use Rattle.cert_entries.specs.Boards.{AreBounds, IsBoard};
 ghost use Rattle.cert_entries.specs.Listings.{listing_for};
 
 use crate::board::Board;
-use entry_tests::Tests;
+use crate::tests::Tests;
 use std::marker::Model;
 
 /// What entries are tested by.

@@ -1,5 +1,8 @@
+pub mod CheckingLemmas
 pub mod FileLemmas
+pub mod JudgingLemmas
 pub mod LineLemmas
+pub mod OneVerdict
 pub mod PieceLemmas
 pub mod StatedLemmas
 pub mod StatedTexts

@@ -1,3 +1,6 @@
+pub mod Checking
+pub mod Judgments
 pub mod Readings
 pub mod StatedReadings
+pub mod Subjects
 pub mod Verdicts

@@ -115,30 +115,3 @@ pub fn certify_form<K: Sink>(
     };
     write_for_head(alloc, exercise, sheet, space.tables(), form, &head, sink)
 }
-
-/// Writes the certificate of the first form, as `certify_form` does.
-pub fn certify<K: Sink>(
-    alloc: Global,
-    space: &SpeciesSpace<'_>,
-    best: Option<(&Score, u64)>,
-    sink: &mut K,
-) -> Result<(), CertWrite>
-    requires unmixed { space.now.exercise.mixed ≡ None }
-    requires holds { Holds space.now.exercise space.now.sheet (head_with best) }
-    ensures ok { OnOk result (K.written sink.new ≡ appended (K.written sink.old) (found_text space.now Form.First best.entry)) }
-
-    // A fault of writing is the sink's, and less than the certificate was written.
-    ensures cause { result ≡ Err CertWrite.WriteFault → Rose (K.faults sink.old) (K.faults sink.new) }
-    ensures short { FailsShort (K.written sink.old) (K.written sink.new) (found_text space.now Form.First best.entry) result }
-
-    // No sink is blamed that promises each write.
-    ensures taken { TakesAll (K.serves sink.old) → result ≢ Err CertWrite.WriteFault }
-
-    // Nothing is written of a certificate that is too long, nor where there is not enough memory.
-    ensures too_long { result ≡ Err CertWrite.TooLong → 1073741824 < length (found_text space.now Form.First best.entry) }
-    ensures fits { 1073741824 < length (found_text space.now Form.First best.entry) → EndsUnwritten result }
-    ensures unwritten { EndsUnwritten result → K.written sink.new ≡ K.written sink.old }
-    ensures faults { K.faults sink.old ≤ K.faults sink.new }
-{
-    certify_form(alloc, space, best, Form::First, sink)
-}

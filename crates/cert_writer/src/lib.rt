@@ -11,4 +11,4 @@ mod lines;
 mod next;
 mod write;
 
-pub use certificate::{certify, certify_form};
+pub use certificate::certify_form;

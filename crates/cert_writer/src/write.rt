@@ -13,8 +13,7 @@ use crate::next::next_line;
 use arrayvec::ArrayString;
 use cert_law::Case;
 use floor_tables::Tables;
-use fux_port::{Failed, Sink, write_all};
-use waiting_lines::put;
+use fux_port::{Failed, Sink, put, write_all};
 
 /// The most bytes that a certificate may have.
 const MOST_BYTES: usize = 1_073_741_824;

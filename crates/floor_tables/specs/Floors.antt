@@ -1,7 +1,6 @@
 -- Floors: what every setting that a prefix begins still costs. A prefix is live where no strict break is settled in it and a chain of
 -- columns goes on from it to the end; its floor is what is paid, what its lines come to at least, and the least sum over such chains.
-use Rattle.std.specs.Prelude.{◌≡◌, ◌≢◌, ℕ, ◌+◌, ◌-◌, ◌≤◌, false, List, [], ◌∷◌, ◌++◌, Option, IsSome, IsSomeAnd, length, option_map}
-use Rattle.std.specs.List.{AllByRecursion}
+use Rattle.std.specs.Prelude.{◌≡◌, ℕ, ◌+◌, ◌-◌, false, List, Option, IsSome, length, option_map}
 use Rattle.fux_grid.specs.declared.cell.Cell.{Cell}
 use Rattle.fux_grid.specs.declared.exercise.Exercise.{Exercise}
 use Rattle.fux_grid.specs.Exercises.{columns_in}
@@ -9,7 +8,6 @@ use Rattle.fux_grid.specs.Menus.{menu_of}
 use Rattle.rule_law.specs.Prefixes.{IsPrefix}
 use Rattle.penalty_sheet.specs.declared.sheet.Sheet.{Sheet}
 use Rattle.fux_judge.specs.Gauges.{least_of}
-use Rattle.fux_judge.specs.Lawful.{AllDiffer}
 use Rattle.fux_judge.specs.Links.{last_column, link_of}
 use Rattle.fux_judge.specs.Penalties.{has_strict_break, paid}
 use Rattle.chain_sums.specs.Chains.{Chains}
@@ -37,27 +35,3 @@ pub record IsLive (ex : Exercise) (sheet : Sheet) (p : List (List Cell)) : Type 
   pub prefix : IsPrefix ex p
   pub unbroken : has_strict_break ex p ≡ false
   pub goes_on : IsSome (rest_of ex sheet p)
-
--- a live prefix of one column or more
-abbrev pub IsLiveBegun : Exercise → Sheet → List (List Cell) → Type 0
-IsLiveBegun ex sheet p = IsLive ex sheet p × (p ≢ [])
-
--- and one of which the prefix shorter by its last column has a floor of at most so much
-pub record IsLoaded (ex : Exercise) (sheet : Sheet) (most : ℕ) (p : List (List Cell)) : Type 0 where
-  pub live : IsLive ex sheet p
-  pub shorter : List (List Cell)
-  pub last : List Cell
-  pub is : p ≡ shorter ++ last ∷ []
-  pub low : IsSomeAnd (floor_of ex sheet shorter) (λ floor. floor ≤ most)
-
--- there are this many prefixes of a kind
-pub record HasMany (Kind : List (List Cell) → Type 0) (count : ℕ) : Type 0 where
-  pub prefixes : List (List (List Cell))
-  pub counted : length prefixes ≡ count
-  pub differ : AllDiffer prefixes
-  pub kind : AllByRecursion Kind prefixes
-
--- there are at most this many
-abbrev pub HasAtMost : (List (List Cell) → Type 0) → ℕ → Type 0
-HasAtMost Kind count =
-    (prefixes : List (List (List Cell))) → AllDiffer prefixes → AllByRecursion Kind prefixes → length prefixes ≤ count

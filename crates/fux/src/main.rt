@@ -4,13 +4,14 @@
 ghost use Rattle.std.specs.Prelude.{◌≡◌, ◌≢◌};
 
 use fux_port::{DiskShelf, StdSink};
-use fux_run::{Complaint, run};
+use fux_run::{report, run};
 use std::alloc::Global;
 use std::env::FillError;
 use std::io::ErrorKind;
 use std::process::ExitCode;
 use std::rt::Env;
 use std::{env, io};
+use works::Complaint;
 
 fn main(rt: HostRuntime) -> ExitCode {
     let mut shelf = DiskShelf::new(&rt);
@@ -18,7 +19,7 @@ fn main(rt: HostRuntime) -> ExitCode {
     let mut err = StdSink::err(&rt);
     let status = match words_after_name(&rt) {
         Ok(words) => run(&rt, rt.alloc(), &words, &mut shelf, &mut out, &mut err),
-        Err(error) => complaint_of(error.kind()).report(&mut err).code(),
+        Err(error) => report(&complaint_of(error.kind()), &mut err).code(),
     };
     ExitCode::from(status)
 }

@@ -3,6 +3,7 @@
 
 mod disk_shelf;
 mod failed;
+mod lines;
 mod mem_shelf;
 mod mem_sink;
 mod shelf;
@@ -12,6 +13,7 @@ mod whole;
 
 pub use disk_shelf::DiskShelf;
 pub use failed::{Failed, WholeFault};
+pub use lines::put;
 pub use mem_shelf::MemShelf;
 pub use mem_sink::MemSink;
 pub use shelf::Shelf;

@@ -3,20 +3,23 @@ use Rattle.std.proofs.Common.{◌≡◌, ◌≢◌, ℕ, ◌<◌, List, [], All,
 use Rattle.std.proofs.lemmas.List.Elements.{All-contains}
 use Rattle.fux_port.specs.Files.{HasFile, IsMissing}
 use Rattle.fux_port.specs.Written.{StopsShort}
-use Rattle.fux_run.specs.declared.complaint.Complaint.{Complaint}
-use Rattle.fux_run.specs.declared.complaint.Complaint.TheVariants.{Usage, Refused, Unreadable, Unwritable, OutOfMemory}
-use Rattle.fux_run.specs.declared.work.Verdict.{Verdict}
-use Rattle.fux_run.specs.declared.work.Verdict.TheVariants.{Favorable, Unfavorable, Spent}
-use Rattle.fux_run.specs.Commands.{Task, name_in, names_in, names_within}
-use Rattle.fux_run.specs.Complaints.{complaint_status, fux_line, name_text}
+use Rattle.works.specs.declared.complaint.Complaint.{Complaint}
+use Rattle.works.specs.declared.complaint.Complaint.TheVariants.{Usage, Refused, Unreadable, Unwritable, OutOfMemory}
+use Rattle.works.specs.declared.work.Verdict.{Verdict}
+use Rattle.works.specs.declared.work.Verdict.TheVariants.{Favorable, Unfavorable, Spent}
+use Rattle.command_words.specs.Commands.{Task}
+use Rattle.works.specs.TaskFiles.{name_in, names_in, names_within}
+use Rattle.fux_run.specs.Tellings.{complaint_status, fux_line}
+use Rattle.works.specs.Complaints.{name_text}
 use Rattle.fux_run.specs.declared.status.Status.{Status}
 use Rattle.fux_run.specs.declared.status.Status.TheVariants as status
-use Rattle.fux_run.specs.Runs.{Ended, EndedAs, EndsAs, EndsUnread, IsDone, IsStopped, IsUnread, IsWritten, IsRefused, work_output, result_status, result_line}
+use Rattle.works.specs.Endings.{Ended, IsUnread, IsWritten, IsRefused, work_output}
+use Rattle.fux_run.specs.Runs.{EndedAs, EndsAs, EndsUnread, IsDone, IsStopped, result_status, result_line}
 use Rattle.fux_run.specs.Statuses.{code_of, verdict_status}
-use Rattle.fux_run.specs.Works.{AllHave, Files, IsReadyFor, Works}
-use Rattle.fux_run.proofs.CheckLemmas.{part_is_there, refused_unready, written_is_there}
+use Rattle.works.specs.Works.{AllHave, Files, IsReadyFor, Works}
+use Rattle.works.proofs.CheckLemmas.{part_is_there, refused_unready, written_is_there}
 use Rattle.fux_run.proofs.SinkLemmas.{appended-none}
-use Rattle.fux_run.proofs.WorkLemmas.{all_are_there, first_is_missing, none_missing, only_bytes, works_so}
+use Rattle.works.proofs.WorkLemmas.{all_are_there, first_is_missing, none_missing, only_bytes, works_so}
 
 -- the status of an output is one of a run that wrote it
 verdict_is_done : (verdict : Verdict) → IsDone (code_of (verdict_status verdict))

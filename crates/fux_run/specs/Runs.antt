@@ -1,39 +1,23 @@
 -- How a run ends.
-use Rattle.std.specs.Prelude.{◌≡◌, ℕ, ◌⊎◌, List, [], ◌++◌, Contains, String, Option, None, Some, Result, Ok, Err, codes}
-use Rattle.std.specs.Borrow.{Bor}
-use Rattle.cert_text.specs.declared.answers.Form.{Form}
-use Rattle.fux_port.specs.Counts.{Rose}
+use Rattle.std.specs.Prelude.{◌≡◌, ℕ, ◌⊎◌, List, [], ◌++◌, String, Option, None, Some, Result, Ok, Err, codes}
 use Rattle.fux_port.specs.Written.{appended, StopsShort}
-use Rattle.fux_run.specs.declared.complaint.Complaint.{Complaint}
-use Rattle.fux_run.specs.declared.complaint.Complaint.TheVariants as complaint
-use Rattle.class_marker.specs.declared.one.Text.{Text as Content}
+use Rattle.works.specs.declared.complaint.Complaint.{Complaint}
+use Rattle.works.specs.declared.complaint.Complaint.TheVariants as complaint
 use Rattle.fux_run.specs.declared.status.Status.{Status}
 use Rattle.fux_run.specs.declared.status.Status.TheVariants.{Favorable, Unfavorable, Usage, Refused, Unreadable, Unwritable, Spent, OutOfMemory}
-use Rattle.fux_run.specs.declared.refusal.Refusal.{Refusal}
-use Rattle.fux_run.specs.declared.work.Halt.{Halt}
-use Rattle.fux_run.specs.declared.work.Halt.TheVariants as halt
-use Rattle.fux_run.specs.declared.work.Halt.TheVariants.{Stopped}
-use Rattle.fux_run.specs.declared.work.Output.{Output}
-use Rattle.fux_run.specs.declared.work.Stop.{Stop}
-use Rattle.fux_run.specs.declared.work.Stop.TheVariants as stop
-use Rattle.fux_run.specs.declared.work.Unmade.{Unmade}
-use Rattle.fux_run.specs.declared.work.Unmade.TheVariants as unmade
-use Rattle.fux_run.specs.declared.work.Verdict.{Verdict}
-use Rattle.fux_run.specs.Commands.{Task, asked, certify, name_in, names_in, names_within, sheet_named, texts}
-use Rattle.fux_run.specs.Complaints.{complaint_status, complaint_text, fux_line, name_text, refusal_text}
+use Rattle.works.specs.declared.work.Verdict.{Verdict}
+use Rattle.command_words.specs.Commands.{Task, asked, texts}
+use Rattle.fux_run.specs.Tellings.{complaint_status, complaint_text, fux_line}
+use Rattle.works.specs.Complaints.{refusal_text}
 use Rattle.fux_run.specs.Statuses.{code_of, verdict_status}
-use Rattle.fux_run.specs.Texts.{Work}
-use Rattle.fux_run.specs.Works.{AllMayHave, CertifiesText, Works, Files, IsFirstMissing, IsReadyFor, OnTexts}
+use Rattle.works.specs.Texts.{Work}
+use Rattle.works.specs.Works.{Files}
+use Rattle.works.specs.Endings.{Ended, IsUnreadOf, work_output}
 
 -- the status of work
 abbrev pub work_status : Work → Status
 work_status (Ok output) = verdict_status output.verdict
 work_status (Err refusal) = Refused
-
--- the bytes that it writes to standard output
-abbrev pub work_output : Work → List ℕ
-work_output (Ok output) = output.bytes
-work_output (Err refusal) = []
 
 -- the bytes that it writes to standard error, where the exercise has this name: an output has none
 abbrev pub work_line : List ℕ → Work → List ℕ
@@ -47,22 +31,6 @@ EndsAs name code old new Complains work =
     ((code ≡ code_of (work_status work)) × (new ≡ appended old (work_output work)) × Complains (work_line name work))
     ⊎ ((code ≡ code_of Unwritable) × StopsShort old new (work_output work)
     × Complains (fux_line (codes "cannot write")))
-
--- one of these names cannot be read: a read failed by the shelf's fault, or it is the first that is missing
-pub record IsUnread (files : Files) (rose : Type 0) (names : List (List ℕ)) (name : List ℕ) : Type 0 where
-  pub asked : Contains names name
-  pub cause : rose ⊎ IsFirstMissing files names name
-
--- a file that a command reads within its work cannot be read: the files before it can be, and none of them keeps it from that
-pub record IsUnreadWithin (task : Task) (files : Files) (rose : Type 0) (name : List ℕ) : Type 0 where
-  pub bytes : List (List ℕ)
-  pub had : AllMayHave files (names_in task) bytes
-  pub ready : IsReadyFor task bytes
-  pub unread : IsUnread files rose (names_within task bytes) name
-
--- a file of a command cannot be read, before its work or within it
-abbrev pub IsUnreadOf : Task → Files → Type 0 → List ℕ → Type 0
-IsUnreadOf task files rose name = IsUnread files rose (names_in task) name ⊎ IsUnreadWithin task files rose name
 
 -- a run ends as one whose file cannot be read
 pub record EndsUnread (task : Task) (files : Files) (rose : Type 0) (Complains : List ℕ → Type 0) : Type 0 where
@@ -78,53 +46,6 @@ IsDone code = (code ≡ code_of Favorable) ⊎ ((code ≡ code_of Unfavorable) �
 abbrev pub IsStopped : ℕ → Type 0
 IsStopped code =
     (code ≡ code_of Usage) ⊎ ((code ≡ code_of Refused) ⊎ ((code ≡ code_of Unreadable) ⊎ (code ≡ code_of OutOfMemory)))
-
--- work whose output was written
-pub record IsWritten (old new : Option (List ℕ)) (said : Verdict) (work : Work) : Type 0 where
-  pub output : Output
-  pub is : work ≡ Ok output
-  pub verdict : output.verdict ≡ said
-  pub written : new ≡ appended old output.bytes
-
--- work that refuses a file of this name, as the text says
-pub record IsRefused (name text : List ℕ) (work : Work) : Type 0 where
-  pub refusal : Refusal
-  pub is : work ≡ Err refusal
-  pub told : text ≡ refusal_text name refusal
-
--- what a command made of its files, or why it made nothing, with the cause
-abbrev pub IsMade : Task → Files → Type 0 → Result Output Complaint → Type 0
-IsMade task files rose (Ok output) = Works task files (λ work. work ≡ Ok output)
-IsMade task files rose (Err (complaint.Refused text)) = Works task files (IsRefused (name_in task) text)
-IsMade task files rose (Err (complaint.Unreadable name)) = IsUnreadOf task files rose (name_text name)
-IsMade task files rose (Err complaint.OutOfMemory) = Unit {0}
-IsMade task files rose (Err _) = ⊥
-
--- work of which two facts hold
-pub record Does (Made Holds : Work → Type 0) : Type 0 where
-  pub work : Work
-  pub made : Made work
-  pub holds : Holds work
-
--- the answer of a command that writes while it works: all was written, or nothing of work that is refused, or a front of the output
-abbrev pub Writes : (Work → Type 0) → Type 0 → Option (List ℕ) → Option (List ℕ) → Result Verdict Halt → Type 0
-Writes Made cut old new (Ok verdict) = Does Made (IsWritten old new verdict)
-Writes Made cut old new (Err (Stopped (stop.Refused refusal))) = (new ≡ old) × Made (Err refusal)
-Writes Made cut old new (Err (Stopped stop.Memory)) = new ≡ old
-Writes Made cut old new (Err halt.Unwritable) = cut × Does Made (λ work. StopsShort old new (work_output work))
-
--- how a command's work on its files ended, with the cause: what was written to standard output, and what is to be said
-abbrev pub Ended : Task → Files → Type 0 → Type 0 → Option (List ℕ) → Option (List ℕ) → Result Verdict Complaint
-    → Type 0
-Ended task files rose cut old new (Ok verdict) = Works task files (IsWritten old new verdict)
-Ended task files rose cut old new (Err (complaint.Refused text)) =
-    (new ≡ old) × Works task files (IsRefused (name_in task) text)
-Ended task files rose cut old new (Err (complaint.Unreadable name)) =
-    (new ≡ old) × IsUnreadOf task files rose (name_text name)
-Ended task files rose cut old new (Err complaint.Unwritable) =
-    cut × Works task files (λ work. StopsShort old new (work_output work))
-Ended task files rose cut old new (Err complaint.OutOfMemory) = new ≡ old
-Ended task files rose cut old new (Err complaint.Usage) = ⊥
 
 -- a run that came to no command: the words are of no form, or memory was wanting for them
 abbrev pub IsNoTask : Result Verdict Complaint → Type 0
@@ -143,26 +64,6 @@ abbrev pub EndedBy : {Y : Type 0} → List (String Y) → Files → Type 0 → T
     → Result Verdict Complaint → Type 0
 EndedBy words = EndedAs (asked (texts words))
 
--- a complaint that says this of a refused file, where memory isn't wanting
-abbrev pub SaysRefusal : List ℕ → Complaint → Type 0
-SaysRefusal said (complaint.Refused text) = text ≡ said
-SaysRefusal said complaint.OutOfMemory = Unit {0}
-SaysRefusal said _ = ⊥
-
--- an answer of a command as a run tells it: its output, or what is said where there is none
-abbrev pub Says : List ℕ → Result Output Stop → Result Output Complaint → Type 0
-Says name (Ok output) told = told ≡ Ok output
-Says name (Err (stop.Refused refusal)) (Err complaint) = SaysRefusal (refusal_text name refusal) complaint
-Says name (Err (stop.Refused refusal)) (Ok output) = ⊥
-Says name (Err stop.Memory) told = told ≡ Err complaint.OutOfMemory
-
--- the same of an answer of a command that reads this file within its work
-abbrev pub SaysWithin : List ℕ → List ℕ → Result Output Unmade → Result Output Complaint → Type 0
-SaysWithin name within (Ok output) told = told ≡ Ok output
-SaysWithin name within (Err (unmade.Stopped stop)) told = Says name (Err stop) told
-SaysWithin name within (Err unmade.Unreadable) (Err (complaint.Unreadable file)) = name_text file ≡ within
-SaysWithin name within (Err unmade.Unreadable) _ = ⊥
-
 -- the status that a run ends with
 abbrev pub result_status : Result Verdict Complaint → Status
 result_status (Ok verdict) = verdict_status verdict
@@ -172,38 +73,3 @@ result_status (Err complaint) = complaint_status complaint
 abbrev pub result_line : Result Verdict Complaint → List ℕ
 result_line (Ok verdict) = []
 result_line (Err complaint) = fux_line (complaint_text complaint)
-
--- an answer of a command that writes while it works, as a run tells it
-abbrev pub SaysWritten : List ℕ → Result Verdict Halt → Result Verdict Complaint → Type 0
-SaysWritten name (Ok verdict) told = told ≡ Ok verdict
-SaysWritten name (Err (Stopped (stop.Refused refusal))) (Err complaint) =
-    SaysRefusal (refusal_text name refusal) complaint
-SaysWritten name (Err (Stopped (stop.Refused refusal))) (Ok verdict) = ⊥
-SaysWritten name (Err (Stopped stop.Memory)) told = told ≡ Err complaint.OutOfMemory
-SaysWritten name (Err halt.Unwritable) told = told ≡ Err complaint.Unwritable
-
--- how a run ended, by what the shelf and standard output tell before it and after it
-abbrev pub EndsOn : {F K : Type 0} → (F → Files) → (F → ℕ) → (K → Option (List ℕ)) → (K → ℕ)
-    → (Files → Type 0 → Type 0 → Option (List ℕ) → Option (List ℕ) → Result Verdict Complaint → Type 0)
-    → F → F → K → K → Result Verdict Complaint → Type 0
-EndsOn files faults written cuts Ends shelf later out end result =
-    Ends (files shelf) (Rose (faults shelf) (faults later)) (Rose (cuts out) (cuts end)) (written out) (written end)
-    result
-
--- how `certify` on files of these names, within a budget and with a form, ended
-abbrev pub CertifyEnds : {F K : Type 0} → (F → Files) → (F → ℕ) → (K → Option (List ℕ)) → (K → ℕ)
-    → Bor (List ℕ) → Option (Bor (List ℕ)) → ℕ → Form → F → F → K → K → Result Verdict Complaint → Type 0
-CertifyEnds files faults written cuts name sheet budget form =
-    EndsOn files faults written cuts (Ended (certify name.now (sheet_named sheet) budget form))
-
--- the answer of a command that writes to standard output while it works, by what that tells before it and after it
-abbrev pub WritesTo : {K : Type 0} → (K → Option (List ℕ)) → (K → ℕ) → (Work → Type 0) → K → K → Result Verdict Halt
-    → Type 0
-WritesTo written faults Made old new answer =
-    Writes Made (Rose (faults old) (faults new)) (written old) (written new) answer
-
--- the answer of `certify` to the texts that were read of an exercise and of a sheet
-abbrev pub CertifiesTexts : {K : Type 0} → (K → Option (List ℕ)) → (K → ℕ) → ℕ → Form → Content → Option Content → K → K
-    → Result Verdict Halt → Type 0
-CertifiesTexts written faults budget form text weights old new answer =
-    OnTexts text weights (λ bytes sheets. WritesTo written faults (CertifiesText budget form sheets bytes) old new answer)

@@ -2,8 +2,8 @@
 use Rattle.std.specs.Prelude.{ℕ}
 use Rattle.fux_run.specs.declared.status.Status.{Status}
 use Rattle.fux_run.specs.declared.status.Status.TheVariants.{Favorable, Unfavorable, Usage, Refused, Unreadable, Unwritable, Spent, OutOfMemory}
-use Rattle.fux_run.specs.declared.work.Verdict.{Verdict}
-use Rattle.fux_run.specs.declared.work.Verdict.TheVariants.{Favorable as favorable, Unfavorable as unfavorable, Spent as spent}
+use Rattle.works.specs.declared.work.Verdict.{Verdict}
+use Rattle.works.specs.declared.work.Verdict.TheVariants.{Favorable as favorable, Unfavorable as unfavorable, Spent as spent}
 
 -- the number of a status
 abbrev pub code_of : Status → ℕ

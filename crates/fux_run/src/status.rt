@@ -3,7 +3,7 @@
 ghost use Rattle.std.specs.Prelude.{◌≡◌};
 ghost use Rattle.fux_run.specs.Statuses.{code_of, verdict_status};
 
-use crate::work::Verdict;
+use works::Verdict;
 
 /// How a run ends.
 #[derive(Clone, Copy)]

@@ -4,23 +4,25 @@ ghost use Rattle.std.specs.Prelude.{◌≡◌, ◌≢◌, ℕ, ◌<◌, ◌⊎�
 ghost use Rattle.fux_port.specs.Counts.{Rose};
 ghost use Rattle.fux_port.specs.Files.{IsMissing};
 ghost use Rattle.fux_port.specs.Promises.{TakesAll};
-ghost use Rattle.fux_run.specs.Blame.{BlamesNoFile, BlamesNoWrite, ServesTask};
-ghost use Rattle.fux_run.specs.Commands.{Task, asked, name_in, names_in, names_within, texts};
-ghost use Rattle.fux_run.specs.Complaints.{fux_line};
-ghost use Rattle.fux_run.specs.Runs.{EndedBy, EndsAs, EndsOn, EndsUnread, IsDone, IsStopped, result_line, result_status};
+ghost use Rattle.works.specs.Blame.{BlamesNoFile, BlamesNoWrite, ServesTask};
+ghost use Rattle.command_words.specs.Commands.{Task, asked, texts};
+ghost use Rattle.works.specs.TaskFiles.{name_in, names_in, names_within};
+ghost use Rattle.fux_run.specs.Tellings.{fux_line};
+ghost use Rattle.fux_run.specs.Runs.{EndedBy, EndsAs, EndsUnread, IsDone, IsStopped, result_line, result_status};
+ghost use Rattle.works.specs.Endings.{EndsOn};
 ghost use Rattle.fux_run.specs.Sinks.{Gets};
 ghost use Rattle.fux_run.specs.Statuses.{code_of};
-ghost use Rattle.fux_run.specs.Works.{AllHave, AreThere, IsReadyFor, Works};
+ghost use Rattle.works.specs.Works.{AllHave, AreThere, IsReadyFor, Works};
 
-use crate::command::parse;
-use crate::complaint::Complaint;
 use crate::perform::perform;
 use crate::status::Status;
-use crate::work::Verdict;
+use crate::telling::report;
+use command_words::parse;
 use fux_pitch::Memory;
 use fux_port::{Shelf, Sink};
 use std::alloc::Global;
 use std::thread::Threads;
+use works::{Complaint, Verdict};
 
 /// Runs the command that the words after the program's name ask for, and answers the status that the
 /// process ends with.
@@ -124,6 +126,6 @@ fn conclude<E: Sink>(ended: &Result<Verdict, Complaint<'_>>, err: &mut E) -> Sta
 {
     match ended {
         Ok(verdict) => Status::from(*verdict),
-        Err(complaint) => complaint.report(err),
+        Err(complaint) => report(complaint, err),
     }
 }

@@ -2,10 +2,10 @@
 use Rattle.std.proofs.Common.{refl, ◌/◌, None, ◌≡◌, ℕ, ◌+◌, ◌-◌, ◌<◌, List, Option, Some, option_map, length, get_or, sym, ap, ◌∙◌, arith}
 use Rattle.std.proofs.lemmas.List.{get_or_default}
 use Rattle.std.proofs.Math.Nat.{div-one}
-use Rattle.falling_paths.specs.declared.Grid.{Grid}
-use Rattle.falling_paths.specs.declared.Spot.{Spot}
-use Rattle.falling_paths.specs.Grid.{start, IsSpotAt}
-use Rattle.falling_paths.specs.Law.{spot_from-row}
+use Rattle.guided_paths.specs.declared.grid.Grid.{Grid}
+use Rattle.guided_paths.specs.declared.grid.Spot.{Spot}
+use Rattle.guided_paths.specs.Grid.{start, IsSpotAt}
+use Rattle.guided_paths.specs.GridGrows.{spot_from-row}
 use Rattle.floor_graphs.specs.Graphs.{units_of, sum_at}
 use Rattle.floor_graphs.specs.Numbers.{number_in}
 use Rattle.guided_paths.specs.Rows.{at_cost, cost_of, paid_at, rows_left}

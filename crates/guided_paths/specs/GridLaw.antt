@@ -3,11 +3,11 @@ use Rattle.std.specs.Prelude.{◌≡◌, ℕ, ◌+◌, ◌-◌, ◌<◌, ◌≤�
 use Rattle.std.proofs.Common.{arith, refl, sym, ap, ap₂, ◌∙◌}
 use Rattle.std.proofs.lemmas.Bool.Decides.{nat_tests}
 use Rattle.tree_search.proofs.Floors.{live_above}
-use Rattle.falling_paths.specs.declared.Grid.{Grid}
-use Rattle.falling_paths.specs.declared.Spot.{Spot}
-use Rattle.falling_paths.specs.declared.TheConstants.{COLUMNS}
-use Rattle.falling_paths.specs.Grid.{cost_at, is_near, floor_at, spot_from, spot_after, start}
-use Rattle.falling_paths.specs.Law.{grid_floors_grow, spot_from-append, spot_from-row}
+use Rattle.guided_paths.specs.declared.grid.Grid.{Grid}
+use Rattle.guided_paths.specs.declared.grid.Spot.{Spot}
+use Rattle.guided_paths.specs.declared.grid.TheConstants.{COLUMNS}
+use Rattle.guided_paths.specs.Grid.{cost_at, is_near, floor_at, spot_from, spot_after, start}
+use Rattle.guided_paths.specs.GridGrows.{grid_floors_grow, spot_from-append, spot_from-row}
 use Rattle.priced_paths.specs.Tolls.{sum_of, charged_from, has_reached_from, has_reached}
 use Rattle.priced_paths.specs.Pricings.{IsOfCase, IsPriced, IsPricedStep}
 use Rattle.guided_paths.specs.Law.{leaf_is_end, near_column}

@@ -6,11 +6,11 @@ use Rattle.floor_graphs.specs.Graphs.{AreChecked, AreFloors, AreMapped, IsPaidEd
 use Rattle.tree_search.proofs.Floors.{live_above}
 use Rattle.floor_graphs.specs.Laws.{floors_from_numbers, some_from}
 use Rattle.floor_graphs.specs.Numbers.{number_in, IsEndBelow, is_edge_by}
-use Rattle.falling_paths.specs.declared.Grid.{Grid}
-use Rattle.falling_paths.specs.declared.Spot.{Spot}
-use Rattle.falling_paths.specs.declared.TheConstants.{COLUMNS}
-use Rattle.falling_paths.specs.Grid.{cost_at, is_near, floor_at, spot_from, spot_after, start}
-use Rattle.falling_paths.specs.Law.{grid_floors_grow, spot_from-append, spot_from-row}
+use Rattle.guided_paths.specs.declared.grid.Grid.{Grid}
+use Rattle.guided_paths.specs.declared.grid.Spot.{Spot}
+use Rattle.guided_paths.specs.declared.grid.TheConstants.{COLUMNS}
+use Rattle.guided_paths.specs.Grid.{cost_at, is_near, floor_at, spot_from, spot_after, start}
+use Rattle.guided_paths.specs.GridGrows.{grid_floors_grow, spot_from-append, spot_from-row}
 use Rattle.guided_paths.specs.Rows.{at_cost, has_next, row_edge, is_bottom, rows_left, cost_of, paid_at}
 
 -- what a step pays, and the edge that it is

@@ -1,4 +1,6 @@
-pub mod Rows
+pub mod Grid
+pub mod GridGrows
+pub mod GridLaw
 pub mod Law
 pub mod Reaches
-pub mod GridLaw
+pub mod Rows

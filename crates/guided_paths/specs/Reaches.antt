@@ -1,9 +1,9 @@
 -- The columns that paths may enter next, and what two cases charge.
 use Rattle.std.specs.Prelude.{ℕ, ◌+◌, ◌-◌, ◌==◌, List, Option, Some, None, Bool, true, option_map, if◌then◌else◌}
 use Rattle.floor_graphs.specs.Graphs.{Rate}
-use Rattle.falling_paths.specs.declared.Grid.{Grid}
-use Rattle.falling_paths.specs.declared.Spot.{Spot}
-use Rattle.falling_paths.specs.Grid.{cost_at, is_near, spot_from, start}
+use Rattle.guided_paths.specs.declared.grid.Grid.{Grid}
+use Rattle.guided_paths.specs.declared.grid.Spot.{Spot}
+use Rattle.guided_paths.specs.Grid.{cost_at, is_near, spot_from, start}
 use Rattle.guided_paths.specs.declared.priced.Reach.{Reach}
 
 -- what a spot may enter next; as at the start where there is none

@@ -4,10 +4,10 @@ use Rattle.std.proofs.Common.{arith, ap, refl}
 use Rattle.std.proofs.lemmas.Bool.Decides.{nat_tests}
 use Rattle.floor_graphs.specs.Graphs.{Rate}
 use Rattle.floor_graphs.specs.Numbers.{Step, LeadBack}
-use Rattle.falling_paths.specs.declared.Grid.{Grid}
-use Rattle.falling_paths.specs.declared.Spot.{Spot}
-use Rattle.falling_paths.specs.declared.TheConstants.{COLUMNS}
-use Rattle.falling_paths.specs.Grid.{cost_at, spot_from, start}
+use Rattle.guided_paths.specs.declared.grid.Grid.{Grid}
+use Rattle.guided_paths.specs.declared.grid.Spot.{Spot}
+use Rattle.guided_paths.specs.declared.grid.TheConstants.{COLUMNS}
+use Rattle.guided_paths.specs.Grid.{cost_at, spot_from, start}
 
 -- no row is left
 abbrev pub is_bottom : ℕ → Bool

@@ -1,4 +1,5 @@
-//! A worked example of a guide: paths that fall through a grid, guided by a graph that forgets in which column they are.
+//! A worked example of a space to search, and of a guide to it: paths that fall through a grid, guided by a graph that forgets in which column
+//! they are.
 #![tactic(auto)]
 
 ghost use Rattle.std.specs.Prelude.{◌≡◌, ◌≤◌, ◌*◌, ◌^◌, IfOk, length, option_map};
@@ -8,11 +9,12 @@ ghost use Rattle.guided_paths.specs.Rows.{row_edge, is_bottom};
 ghost use Rattle.std.proofs.Props.{props};
 ghost use Rattle.std.specs.Prelude.{◌+◌};
 
+mod grid;
 mod priced;
 
-use falling_paths::{COLUMNS, Grid, Spot};
 use floor_graphs::{Graph, Guide, least_numbers};
 use fux_pitch::Memory;
+pub use grid::{COLUMNS, Grid, Spot};
 pub use priced::{PricedGrid, Reach};
 use std::alloc::Global;
 use tree_search::Space;
@@ -26,7 +28,7 @@ pub struct Rows<'a> {
 
 impl<'a> Graph for Rows<'a> {
     ghost use Rattle.std.specs.Prelude.{◌+◌, length};
-    ghost use Rattle.falling_paths.specs.declared.TheConstants.{COLUMNS};
+    ghost use Rattle.guided_paths.specs.declared.grid.TheConstants.{COLUMNS};
     ghost use Rattle.guided_paths.specs.Rows.{row_edge, is_bottom, rows_lead_back};
 
     ghost edge_at = { λ rows. row_edge rows.grid.now };

@@ -1,7 +1,7 @@
 //! The same grids, whose steps are charged by two cases: paths that enter the leftmost column, and paths that never do.
 ghost use Rattle.std.specs.Prelude.{◌<◌, length};
 
-use falling_paths::{COLUMNS, Grid, Spot};
+use crate::grid::{COLUMNS, Grid, Spot};
 use priced_paths::Pricing;
 
 /// The columns that a path may enter next, from the first to the last.
@@ -20,7 +20,7 @@ pub struct PricedGrid<'a> {
 }
 
 impl<'a> Pricing for PricedGrid<'a> {
-    ghost use Rattle.falling_paths.specs.declared.TheConstants.{COLUMNS};
+    ghost use Rattle.guided_paths.specs.declared.grid.TheConstants.{COLUMNS};
     ghost use Rattle.guided_paths.specs.Reaches.{grid_rate, grid_reaches, grid_toll, reach_at, reach_step};
     ghost use Rattle.guided_paths.specs.Rows.{paid_at};
     ghost use Rattle.guided_paths.specs.GridLaw.{grid_is_priced};

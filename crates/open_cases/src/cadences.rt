@@ -1,17 +1,7 @@
-//! Cases of S22, read by one loop.
+//! Cases of S22. After the exercise and its lines each case has the columns behind which other voices may show their cadence than before, with
+//! the numbers of these voices. The last one may be refused.
 
-ghost use Rattle.std.specs.Prelude.{◌≡◌, ◌≤◌, length};
-
-use fux_grid::{Exercise, Score, mixed_as};
-use open_cadences::{OpenCadences, cadences_after};
-use short_scores::case_of;
-use std::alloc::Global;
-use std::fmt::Write;
-use std::test::Fail;
-
-/// After the exercise and its lines each case has the columns behind which other voices may show their cadence than before, with the numbers
-/// of these voices. The last one may be refused.
-const CASES: &str = "\
+pub const CASES: &str = "\
 dorian 1 1 0
 cantus D4 E4 D4
 D4:8 E4:8 D4:8
@@ -163,39 +153,3 @@ D4:8 E4:8 D4:8
 D5:8 C5:8 D5:8
 =
 ";
-
-/// The columns behind which other voices may show their cadence than before, up to one that is refused.
-fn changes(alloc: Global, ex: &Exercise, score: &Score) -> Result<String, Fail> {
-    let mut text = String::new(alloc);
-    let mut kept = OpenCadences::none();
-    for i in 0..score.len() {
-        let Some(next) = cadences_after(ex, i, &kept, score.column(i).as_slice()) else {
-            write!(text, "\n{i} refused")?;
-            return Ok(text);
-        };
-        if !next.is_same(&kept) {
-            write!(text, "\n{i}")?;
-            for (v, leads) in next.leads.iter().enumerate() {
-                if *leads {
-                    write!(text, " {v}")?;
-                }
-            }
-        }
-        kept = next;
-    }
-    Ok(text)
-}
-
-#[test]
-fn cadences_stand(rt: HostRuntime) -> Result<(), Fail> {
-    for text in CASES.split("\n\n") {
-        let (text, wanted) = text.split_once('=').ok_or("nothing wanted")?;
-        let case = case_of(rt.alloc(), text)?;
-        let found = changes(rt.alloc(), &case.exercise, &case.score)?;
-        assert_eq!(rt; found.as_str(), wanted.trim_end(), "{text}");
-        let exercise = mixed_as(&case.exercise, [1, 1, 1, 1]);
-        let found = changes(rt.alloc(), &exercise, &case.score)?;
-        assert_eq!(rt; found.as_str(), "", "mixed {text}");
-    }
-    Ok(())
-}

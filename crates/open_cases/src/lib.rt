@@ -5,7 +5,7 @@
 #[cfg(test)]
 mod cadences;
 #[cfg(test)]
-mod parallel_table;
+mod dissonances;
 #[cfg(test)]
 mod parallels;
 #[cfg(test)]
@@ -15,12 +15,8 @@ mod shapes;
 #[cfg(test)]
 mod steps;
 #[cfg(test)]
-mod suspension_table;
-#[cfg(test)]
 mod suspensions;
 #[cfg(test)]
-mod table;
-#[cfg(test)]
-mod turning_table;
+mod told;
 #[cfg(test)]
 mod turnings;

@@ -1,70 +1,142 @@
-//! The table of S18, read by one loop.
+//! The cases of S18. After the exercise and its lines each has the columns behind which other pitches are kept than before, for each voice. The
+//! last one may be refused.
 
-ghost use Rattle.std.specs.Prelude.{◌≡◌, ◌≤◌, length};
+pub const CASES: &str = "\
+dorian 2 1 0
+cantus D4 E4 D4
+D4:8 E4:8 D4:8
+A4:4 G4:4 B4:8 D5:8
+=
+0 D4 A4 - -
+8 refused
 
-use crate::parallel_table::CASES;
-use fux_grid::{Exercise, Score, mixed_as};
-use open_parallels::{OpenParallels, parallels_after};
-use short_scores::case_of;
-use std::alloc::Global;
-use std::fmt::Write;
-use std::process::Abort;
-use std::test::Fail;
+dorian 2 1 0
+cantus D4 E4 D4
+D4:8 E4:8 D4:8
+A4:4 F4:4 B4:8 D5:8
+=
+0 D4 A4 - -
+8 refused
 
-/// Adds the name of each voice's pitch, or a dash.
-fn add_pitches(text: &mut String, kept: &OpenParallels) -> Result<(), Fail> {
-    for pitch in kept.pitches.iter() {
-        match pitch {
-            Some(pitch) => write!(text, " {pitch}")?,
-            None => write!(text, " -")?,
-        }
-    }
-    Ok(())
-}
+dorian 2 1 0
+cantus D4 E4 D4
+D4:8 E4:8 D4:8
+A4:4 E4:4 B4:8 D5:8
+=
+0 D4 A4 - -
+4 - - - -
+8 E4 B4 - -
+16 D4 D5 - -
 
-/// The columns behind which other pitches are kept than before, up to one that is refused.
-fn changes(alloc: Global, ex: &Exercise, score: &Score) -> Result<String, Fail> {
-    let mut text = String::new(alloc);
-    let mut kept = OpenParallels::none();
-    for i in 0..score.len() {
-        let Some(next) = parallels_after(ex, i, &kept, score.column(i).as_slice()) else {
-            write!(text, "\n{i} refused")?;
-            return Ok(text);
-        };
-        if !next.is_same(&kept) {
-            write!(text, "\n{i}")?;
-            add_pitches(&mut text, &next)?;
-        }
-        kept = next;
-    }
-    Ok(text)
-}
+dorian 2 1 0
+cantus D4 E4 D4
+D4:8 E4:8 D4:8
+A4:4 B4:12 D5:8
+=
+0 D4 A4 - -
+8 refused
 
-/// Compares the changes of a case with what they should be.
-fn compare(rt: &impl Abort, alloc: Global, text: &str) -> Result<(), Fail> {
-    let (text, wanted) = text.split_once('=').ok_or("nothing wanted")?;
-    let case = case_of(alloc, text)?;
-    let found = changes(alloc, &case.exercise, &case.score)?;
-    assert_eq!(rt; found.as_str(), wanted.trim_end(), "{text}");
-    Ok(())
-}
+dorian 2 1 0
+cantus D4 E4 D4
+D4:8 E4:8 D4:8
+r:4 A4:4 B4:8 D5:8
+=
+8 E4 B4 - -
+16 D4 D5 - -
 
-#[test]
-fn parallels_stand(rt: HostRuntime) -> Result<(), Fail> {
-    for text in CASES.split("\n\n") {
-        compare(&rt, rt.alloc(), text)?;
-    }
-    Ok(())
-}
+dorian 2 1 0
+cantus D4 E4 D4
+D4:8 E4:8 D4:8
+F4:4 A4:4 B4:4 C5:4 A4:8
+=
+8 E4 B4 - -
+16 refused
 
-#[test]
-fn nothing_is_kept_in_mixed_species(rt: HostRuntime) -> Result<(), Fail> {
-    for text in CASES.split("\n\n") {
-        let (text, _) = text.split_once('=').ok_or("nothing wanted")?;
-        let case = case_of(rt.alloc(), text)?;
-        let exercise = mixed_as(&case.exercise, [2, 2, 2, 2]);
-        let found = changes(rt.alloc(), &exercise, &case.score)?;
-        assert_eq!(rt; found.as_str(), "", "{text}");
-    }
-    Ok(())
-}
+dorian 2 1 0
+cantus D4 D4 D4
+D4:8 D4:8 D4:8
+A4:4 G4:4 A4:8 D5:8
+=
+0 D4 A4 - -
+16 D4 D5 - -
+
+dorian 3 1 0
+cantus D4 E4 D4
+D4:8 E4:8 D4:8
+A4:2 G4:2 F4:2 G4:2 B4:8 D5:8
+=
+0 D4 A4 - -
+8 refused
+
+dorian 3 1 0
+cantus D4 E4 D4
+D4:8 E4:8 D4:8
+A4:2 G4:2 F4:2 E4:2 B4:8 D5:8
+=
+0 D4 A4 - -
+6 - - - -
+8 E4 B4 - -
+16 D4 D5 - -
+
+dorian 3 1 0
+cantus D4 E4 D4
+D4:8 E4:8 D4:8
+A4:2 D5:2 B4:2 A4:2 B4:8 D5:8
+=
+0 D4 A4 - -
+2 - - - -
+8 E4 B4 - -
+16 D4 D5 - -
+
+dorian 5 0 1
+cantus A4 B4 D5
+D4:2 E4:4 F4:2 E4:8 D4:8
+A4:8 B4:8 D5:8
+=
+0 D4 A4 - -
+8 refused
+
+dorian 2 1 0
+cantus D4 E4 D4
+D4:8 E4:8 D4:8
+A4:4 G4:4 C5:8 D5:8
+E5:8 G5:8 A5:8
+=
+0 D4 A4 E5 -
+8 refused
+
+dorian 2 1 0
+cantus D4 E4 D4
+D4:8 E4:8 D4:8
+F4:4 G4:4 G4:8 F4:8
+C5:8 B4:8 A4:8
+=
+0 - F4 C5 -
+8 - - - -
+
+dorian 2 2 0
+cantus D4 E4 D4
+D4:8 E4:8 D4:8
+A4:8 B4:8 A4:8
+F5:4 E5:4 G5:8 F5:8
+=
+
+dorian 4 1 0
+cantus D4 E4 D4
+D4:8 E4:8 D4:8
+A4:4 G4:4 B4:8 D5:8
+=
+
+dorian 1 1 0
+cantus D4 E4 D4
+D4:8 E4:8 D4:8
+A4:8 B4:8 D5:8
+=
+
+dorian 2 1 0
+cantus D4 E4 D4
+relax 18 3 5
+D4:8 E4:8 D4:8
+A4:4 G4:4 B4:8 D5:8
+=
+";

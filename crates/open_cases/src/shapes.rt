@@ -1,18 +1,7 @@
-//! Cases of the open shapes, read by one loop.
+//! Cases of the open shapes. After the exercise and its lines each case has the columns behind which other shapes are open than before, with
+//! the bits of these. The last one may be refused.
 
-ghost use Rattle.std.specs.Prelude.{◌≡◌, ◌≤◌, length};
-
-use fux_grid::{Exercise, Score, mixed_as};
-use open_shapes::{OpenShapes, shapes_next};
-use short_scores::case_of;
-use std::alloc::Global;
-use std::fmt::Write;
-use std::process::Abort;
-use std::test::Fail;
-
-/// After the exercise and its lines each case has the columns behind which other shapes are open than before, with the bits of these. The last
-/// one may be refused.
-const CASES: &str = "\
+pub const CASES: &str = "\
 dorian 5 1 0
 cantus D4 E4 D4
 D4:8 E4:8 D4:8
@@ -96,34 +85,3 @@ D4:8 E4:8 D4:8
 A4:3 G4:5 B4:8 A4:8
 =
 ";
-
-/// The columns behind which other shapes are open than before, up to one that is refused.
-fn changes(alloc: Global, ex: &Exercise, score: &Score) -> Result<String, Fail> {
-    let mut text = String::new(alloc);
-    let mut open = OpenShapes::none();
-    for i in 0..score.len().min(2040) {
-        let Some(next) = shapes_next(ex, i, &open, score.column(i).as_slice()) else {
-            write!(text, "\n{i} refused")?;
-            return Ok(text);
-        };
-        if !next.is_same(&open) {
-            write!(text, "\n{i} {:b}", next.possible)?;
-        }
-        open = next;
-    }
-    Ok(text)
-}
-
-#[test]
-fn shapes_stand(rt: HostRuntime) -> Result<(), Fail> {
-    for text in CASES.split("\n\n") {
-        let (text, wanted) = text.split_once('=').ok_or("nothing wanted")?;
-        let case = case_of(rt.alloc(), text)?;
-        let found = changes(rt.alloc(), &case.exercise, &case.score)?;
-        assert_eq!(rt; found.as_str(), wanted.trim_end(), "{text}");
-        let exercise = mixed_as(&case.exercise, [5, 5, 5, 5]);
-        let found = changes(rt.alloc(), &exercise, &case.score)?;
-        assert_eq!(rt; found.as_str(), "", "mixed {text}");
-    }
-    Ok(())
-}

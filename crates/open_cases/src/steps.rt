@@ -1,71 +1,72 @@
-//! The table, read by one loop.
+//! All cases, read by one loop.
 
-ghost use Rattle.std.specs.Prelude.{◌≡◌, ◌≤◌, length};
+ghost use Rattle.std.specs.Prelude.{◌≡◌, ◌≤◌, ◌<◌, length};
 
-use crate::table::CASES;
+use crate::told::Told;
+use crate::{cadences, dissonances, parallels, runs, shapes, suspensions, turnings};
 use fux_grid::{Exercise, Score, mixed_as};
-use fux_pitch::Pitch;
-use open_dissonances::{OpenDissonances, open_after};
+use open_ends::{
+    Both, Keeps, OpenCadences, OpenLigature, OpenParallels, OpenPassing, OpenRuns, OpenShapes,
+    OpenSuspensions, OpenTurns,
+};
 use short_scores::case_of;
 use std::alloc::Global;
 use std::fmt::Write;
 use std::process::Abort;
 use std::test::Fail;
 
-/// Adds the name of a pitch, or a dash.
-fn add_pitch(text: &mut String, pitch: Option<Pitch>) -> Result<(), Fail> {
-    match pitch {
-        Some(pitch) => write!(text, " {pitch}")?,
-        None => write!(text, " -")?,
-    }
-    Ok(())
-}
-
-/// The columns behind which something else is open than before, up to one that is refused.
-fn changes(alloc: Global, ex: &Exercise, score: &Score) -> Result<String, Fail> {
+/// The columns behind which something else is kept than before, and those that pay, up to one that is refused.
+fn changes<P: Told>(alloc: Global, ex: &Exercise, score: &Score) -> Result<String, Fail> {
     let mut text = String::new(alloc);
-    let mut waiting = OpenDissonances::none();
-    for i in 0..score.len() {
-        let column = score.column(i).as_slice();
-        let Some(next) = open_after(ex, i, &waiting, score.before(i), column) else {
+    let mut kept = P::none();
+    for i in 0..score.len().min(2040) {
+        let now = score.column(i).as_slice();
+        let Some(next) = P::after(ex, Keeps::all(), i, &kept, score.before(i), now) else {
             write!(text, "\n{i} refused")?;
             return Ok(text);
         };
-        if next != waiting {
+        let pays = kept.paid(i, now);
+        if pays > 0 || !next.is_same(&kept) {
             write!(text, "\n{i}")?;
-            add_pitch(&mut text, next.passing)?;
-            add_pitch(&mut text, next.ligature)?;
+            next.tell(&mut text)?;
         }
-        waiting = next;
+        if pays > 0 {
+            write!(text, " pays {pays}")?;
+        }
+        kept = next;
     }
     Ok(text)
 }
 
-/// Compares the changes of a case with what they should be.
-fn compare(rt: &impl Abort, alloc: Global, text: &str) -> Result<(), Fail> {
-    let (text, wanted) = text.split_once('=').ok_or("nothing wanted")?;
-    let case = case_of(alloc, text)?;
-    let found = changes(alloc, &case.exercise, &case.score)?;
-    assert_eq!(rt; found.as_str(), wanted.trim_end(), "{text}");
+/// Compares the changes of each case of a part with what they should be, and with none where its species is one of several.
+fn stand<P: Told>(
+    rt: &impl Abort,
+    alloc: Global,
+    cases: &str,
+    mixed: Option<u8>,
+) -> Result<(), Fail> {
+    for text in cases.split("\n\n") {
+        let (text, wanted) = text.split_once('=').ok_or("nothing wanted")?;
+        let case = case_of(alloc, text)?;
+        let found = changes::<P>(alloc, &case.exercise, &case.score)?;
+        assert_eq!(rt; found.as_str(), wanted.trim_end(), "{text}");
+        if let Some(species) = mixed {
+            let exercise = mixed_as(&case.exercise, [species; 4]);
+            let found = changes::<P>(alloc, &exercise, &case.score)?;
+            assert_eq!(rt; found.as_str(), "", "mixed {text}");
+        }
+    }
     Ok(())
 }
 
 #[test]
 fn cases_stand(rt: HostRuntime) -> Result<(), Fail> {
-    for text in CASES.split("\n\n") {
-        compare(&rt, rt.alloc(), text)?;
-    }
-    Ok(())
-}
-
-#[test]
-fn nothing_is_open_in_mixed_species(rt: HostRuntime) -> Result<(), Fail> {
-    for text in CASES.split("\n\n") {
-        let (text, _) = text.split_once('=').ok_or("nothing wanted")?;
-        let case = case_of(rt.alloc(), text)?;
-        let exercise = mixed_as(&case.exercise, [2, 2, 2, 2]);
-        let found = changes(rt.alloc(), &exercise, &case.score)?;
-        assert_eq!(rt; found.as_str(), "", "{text}");
-    }
-    Ok(())
+    let alloc = rt.alloc();
+    stand::<Both<OpenPassing, OpenLigature>>(&rt, alloc, dissonances::CASES, Some(2))?;
+    stand::<OpenShapes>(&rt, alloc, shapes::CASES, Some(5))?;
+    stand::<OpenParallels>(&rt, alloc, parallels::CASES, Some(2))?;
+    stand::<OpenSuspensions>(&rt, alloc, suspensions::CASES, Some(5))?;
+    stand::<OpenCadences>(&rt, alloc, cadences::CASES, Some(1))?;
+    stand::<OpenTurns>(&rt, alloc, turnings::CASES, Some(2))?;
+    stand::<OpenRuns>(&rt, alloc, runs::CASES, None)
 }

@@ -1,60 +1,163 @@
-//! The table of S19 and S21, read by one loop.
+//! The cases of S19 and S21. After the exercise and its lines each has the columns behind which something else is kept than before: that a note
+//! started late, or nothing. The last one may be refused.
 
-ghost use Rattle.std.specs.Prelude.{◌≡◌, ◌≤◌, length};
+pub const CASES: &str = "\
+dorian 4 1 0
+cantus D4 E4 D4
+D4:8 E4:8 D4:8
+r:4 A4:8 G4:4 A4:8
+=
 
-use crate::suspension_table::CASES;
-use fux_grid::{Exercise, Score, mixed_as};
-use open_suspensions::{OpenSuspensions, suspensions_after};
-use short_scores::case_of;
-use std::alloc::Global;
-use std::fmt::Write;
-use std::process::Abort;
-use std::test::Fail;
+dorian 4 1 0
+cantus D4 A3 D4
+D4:8 A3:8 D4:8
+r:4 G4:8 F4:4 D4:8
+=
+8 refused
 
-/// The columns behind which something else is kept than before, up to one that is refused.
-fn changes(alloc: Global, ex: &Exercise, score: &Score) -> Result<String, Fail> {
-    let mut text = String::new(alloc);
-    let mut kept = OpenSuspensions::none();
-    for i in 0..score.len() {
-        let column = score.column(i).as_slice();
-        let Some(next) = suspensions_after(ex, i, &kept, score.before(i), column) else {
-            write!(text, "\n{i} refused")?;
-            return Ok(text);
-        };
-        if !next.is_same(&kept) {
-            let sign = if next.late_start { "late" } else { "-" };
-            write!(text, "\n{i} {sign}")?;
-        }
-        kept = next;
-    }
-    Ok(text)
-}
+dorian 4 1 0
+cantus D4 A3 D4
+relax 19 3 5
+D4:8 A3:8 D4:8
+r:4 G4:8 F4:4 D4:8
+=
 
-/// Compares the changes of a case with what they should be.
-fn compare(rt: &impl Abort, alloc: Global, text: &str) -> Result<(), Fail> {
-    let (text, wanted) = text.split_once('=').ok_or("nothing wanted")?;
-    let case = case_of(alloc, text)?;
-    let found = changes(alloc, &case.exercise, &case.score)?;
-    assert_eq!(rt; found.as_str(), wanted.trim_end(), "{text}");
-    Ok(())
-}
+dorian 4 1 0
+cantus D4 G4 D4
+D4:8 G4:8 D4:8
+r:4 A4:8 B4:4 A4:8
+=
+8 refused
 
-#[test]
-fn suspensions_stand(rt: HostRuntime) -> Result<(), Fail> {
-    for text in CASES.split("\n\n") {
-        compare(&rt, rt.alloc(), text)?;
-    }
-    Ok(())
-}
+dorian 4 1 0
+cantus D4 G4 D4
+relax 21 3 5
+D4:8 G4:8 D4:8
+r:4 A4:8 B4:4 A4:8
+=
 
-#[test]
-fn no_suspension_is_refused_in_mixed_species(rt: HostRuntime) -> Result<(), Fail> {
-    for text in CASES.split("\n\n") {
-        let (text, _) = text.split_once('=').ok_or("nothing wanted")?;
-        let case = case_of(rt.alloc(), text)?;
-        let exercise = mixed_as(&case.exercise, [5, 5, 5, 5]);
-        let found = changes(rt.alloc(), &exercise, &case.score)?;
-        assert_eq!(rt; found.as_str(), "", "{text}");
-    }
-    Ok(())
-}
+dorian 4 1 0
+cantus D4 G4 D4
+relax 19 3 5
+D4:8 G4:8 D4:8
+r:4 A4:8 B4:4 A4:8
+=
+8 refused
+
+dorian 4 1 0
+cantus D4 G3 D4
+D4:8 G3:8 D4:8
+r:4 A4:8 G4:4 A4:8
+=
+
+dorian 4 0 1
+cantus F4 E4 D4
+r:4 D4:8 C4:4 D4:8
+F4:8 E4:8 D4:8
+=
+
+dorian 4 0 1
+cantus A4 C5 A4
+r:4 D4:8 C4:4 D4:8
+A4:8 C5:8 A4:8
+=
+8 refused
+
+dorian 4 0 1
+cantus A4 G4 A4
+r:4 D4:8 C4:4 D4:8
+A4:8 G4:8 A4:8
+=
+8 refused
+
+dorian 4 1 0
+cantus G3 C4 G3
+G3:8 C4:8 G3:8
+r:4 G4:8 F4:4 G4:8
+B4:8 A4:8 B4:8
+=
+
+dorian 4 1 0
+cantus G3 C4 G3
+G3:8 C4:8 G3:8
+r:4 G4:8 F4:4 G4:8
+A4:8 A4:8 B4:8
+=
+8 refused
+
+dorian 5 1 0
+cantus D4 E4 D4
+D4:8 E4:8 D4:8
+F4:6 A4:4 G4:6 D4:8
+=
+6 late
+8 refused
+
+dorian 5 1 0
+cantus D4 E4 D4
+D4:8 E4:8 D4:8
+F4:6 G4:1 A4:5 G4:4 D4:8
+=
+6 late
+8 refused
+
+dorian 5 1 0
+cantus D4 E4 D4
+D4:8 E4:8 D4:8
+F4:4 G4:1 A4:7 G4:4 D4:8
+=
+5 late
+8 refused
+
+dorian 5 1 0
+cantus D4 E4 D4
+D4:8 E4:8 D4:8
+F4:7 A4:5 G4:4 D4:8
+=
+7 late
+8 refused
+
+dorian 5 1 0
+cantus D4 E4 D4
+D4:8 E4:8 D4:8
+F4:2 G4:2 A4:8 G4:4 D4:8
+=
+
+dorian 5 1 0
+cantus D4 A3 D4
+D4:8 A3:8 D4:8
+F4:4 G4:8 F4:4 D4:8
+=
+8 refused
+
+dorian 5 1 0
+cantus D4 E4 D4
+D4:8 E4:8 D4:8
+A4:6 F4:2 B4:4 G4:2 A4:1 F4:1 D4:8
+=
+6 late
+8 -
+14 late
+16 -
+
+dorian 5 1 0
+cantus D4 E4 D4
+D4:8 E4:8 D4:8
+F4:6 G4:12 F4:6
+=
+6 late
+8 -
+
+dorian 5 1 0
+cantus D4 E4 D4
+relax 19 3 5
+D4:8 E4:8 D4:8
+F4:6 A4:4 G4:6 D4:8
+=
+
+dorian 3 1 0
+cantus D4 E4 D4
+D4:8 E4:8 D4:8
+A4:2 G4:2 F4:2 A4:4 G4:6 D4:8
+=
+";

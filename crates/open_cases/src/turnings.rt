@@ -1,66 +1,159 @@
-//! The table of S8, read by one loop.
+//! The cases of S8. After the exercise and its lines each has the columns behind which something else is kept than before: the newest note, the
+//! way to it and the latest turning note. The last one may be refused.
 
-ghost use Rattle.std.specs.Prelude.{◌≡◌, ◌≤◌, length};
+pub const CASES: &str = "\
+dorian 2 1 0
+cantus D4 D4 D4
+D4:8 D4:8 D4:8
+G4:4 F4:4 A4:4 B4:4 A4:8
+=
+0 G4 level -
+4 F4 falls -
+8 A4 rises F4
+12 B4 rises F4
+16 refused
 
-use crate::turning_table::CASES;
-use fux_grid::{Exercise, Score, mixed_as};
-use fux_pitch::Pitch;
-use open_turns::{OpenTurns, Way, turns_after};
-use short_scores::case_of;
-use std::alloc::Global;
-use std::fmt::Write;
-use std::process::Abort;
-use std::test::Fail;
+dorian 2 1 0
+cantus D4 D4 D4
+D4:8 D4:8 D4:8
+G4:4 F4:4 A4:4 C5:4 A4:8
+=
+0 G4 level -
+4 F4 falls -
+8 A4 rises F4
+12 C5 level -
+16 A4 level -
 
-/// Adds the name of a pitch, or a dash.
-fn add_pitch(text: &mut String, pitch: Option<Pitch>) -> Result<(), Fail> {
-    match pitch {
-        Some(pitch) => write!(text, " {pitch}")?,
-        None => write!(text, " -")?,
-    }
-    Ok(())
-}
+mixolydian 2 1 0
+cantus G4 G4 G4
+G4:8 G4:8 G4:8
+G4:4 F4:4 A4:4 C5:4 A4:8
+=
+0 G4 level -
+4 F4 falls -
+8 A4 rises F4
+12 C5 rises -
+16 A4 falls C5
 
-/// Adds the word of a way.
-fn add_way(text: &mut String, way: Way) -> Result<(), Fail> {
-    match way {
-        Way::Falls => write!(text, " falls")?,
-        Way::Level => write!(text, " level")?,
-        Way::Rises => write!(text, " rises")?,
-    }
-    Ok(())
-}
+dorian 3 1 0
+cantus D4 D4 D4
+D4:8 D4:8 D4:8
+A4:2 B4:2 A4:2 G4:2 F4:2 G4:6 F4:8
+=
+0 A4 level -
+2 B4 rises -
+4 A4 falls B4
+6 G4 falls B4
+8 F4 falls B4
+10 refused
 
-/// The columns behind which something else is kept than before, up to one that is refused.
-fn changes(alloc: Global, ex: &Exercise, score: &Score) -> Result<String, Fail> {
-    let mut text = String::new(alloc);
-    let mut kept = OpenTurns::none();
-    for i in 0..score.len() {
-        let Some(next) = turns_after(ex, i, &kept, score.column(i).as_slice()) else {
-            write!(text, "\n{i} refused")?;
-            return Ok(text);
-        };
-        if !next.is_same(&kept) {
-            write!(text, "\n{i}")?;
-            add_pitch(&mut text, next.newest)?;
-            add_way(&mut text, next.way)?;
-            add_pitch(&mut text, next.turning)?;
-        }
-        kept = next;
-    }
-    Ok(text)
-}
+dorian 3 1 0
+cantus D4 D4 D4
+D4:8 D4:8 D4:8
+A4:2 B4:2 A4:2 G4:2 E4:2 F4:6 D4:8
+=
+0 A4 level -
+2 B4 rises -
+4 A4 falls B4
+6 G4 falls B4
+8 E4 falls -
+10 F4 rises E4
+16 D4 falls F4
 
-#[test]
-fn turnings_stand(rt: HostRuntime) -> Result<(), Fail> {
-    for text in CASES.split("\n\n") {
-        let (text, wanted) = text.split_once('=').ok_or("nothing wanted")?;
-        let case = case_of(rt.alloc(), text)?;
-        let found = changes(rt.alloc(), &case.exercise, &case.score)?;
-        assert_eq!(rt; found.as_str(), wanted.trim_end(), "{text}");
-        let exercise = mixed_as(&case.exercise, [2, 2, 2, 2]);
-        let found = changes(rt.alloc(), &exercise, &case.score)?;
-        assert_eq!(rt; found.as_str(), "", "mixed {text}");
-    }
-    Ok(())
-}
+dorian 2 1 0
+cantus D4 D4 D4
+D4:8 D4:8 D4:8
+G4:4 F4:4 B5:4 A5:4 G5:8
+=
+0 G4 level -
+4 F4 falls -
+8 B5 rises -
+12 A5 falls B5
+16 G5 falls B5
+
+dorian 1 1 0
+cantus D4 D4 D4 D4
+D4:8 D4:8 D4:8 D4:8
+G4:8 F4:8 F4:8 A4:8
+=
+0 G4 level -
+8 F4 falls -
+16 F4 level -
+24 A4 level -
+
+dorian 4 1 0
+cantus D4 D4 D4
+D4:8 D4:8 D4:8
+r:4 G4:8 F4:4 A4:8
+=
+4 G4 level -
+12 F4 falls -
+16 A4 rises F4
+
+dorian 3 0 1
+cantus D5 D5 D5
+F4:2 E4:2 G4:2 A4:2 Bb4:8 A4:8
+D5:8 D5:8 D5:8
+=
+0 F4 level -
+2 E4 falls -
+4 G4 rises E4
+6 A4 rises E4
+8 Bb4 rises E4
+16 refused
+
+dorian 2 1 0
+cantus D4 D4 D4
+D4:8 D4:8 D4:8
+A4:4 G4:4 B4:4 C#5:4 B4:8
+=
+0 A4 level -
+4 G4 falls -
+8 B4 rises G4
+12 C#5 rises G4
+16 refused
+
+ionian 2 1 0
+cantus C4 C4 C4
+C4:8 C4:8 C4:8
+A4:4 G4:4 B4:4 C5:4 B4:8
+=
+0 A4 level -
+4 G4 level -
+8 B4 rises -
+12 C5 level -
+16 B4 falls -
+
+dorian 2 1 0
+cantus D4 D4 D4
+range 1 C4 C5
+D4:8 D4:8 D4:8
+D4:4 F4:4 E4:4 F4:4 D4:8
+=
+0 D4 level -
+4 F4 level -
+8 E4 falls -
+12 F4 rises E4
+16 D4 level -
+
+dorian 2 1 0
+cantus D4 D4 D4 D4 D4 D4
+D4:8 D4:8 D4:8 D4:8 D4:8 D4:8
+A4:4 G4:4 B4:4 A4:4 G4:8 A4:8 B4:8 G4:8
+=
+0 A4 level -
+4 G4 level -
+8 B4 rises -
+12 A4 falls B4
+16 G4 falls B4
+24 A4 rises G4
+32 B4 rises G4
+40 G4 falls B4
+
+dorian 2 1 0
+cantus D4 D4 D4
+relax 8 2 5
+D4:8 D4:8 D4:8
+G4:4 F4:4 A4:4 B4:4 A4:8
+=
+";

@@ -1,91 +1,209 @@
--- In a lawful setting each column leads on from what is kept to what is kept behind it (`follows_lawful`).
-use Rattle.std.specs.Prelude.{◌≡◌, ◌≤◌, ◌<◌, ℕ, ◌+◌, ◌*◌, Bool, true, false, List, [], ◌∷◌, ◌++◌, Option, Some, None, IsSomeAnd, length, if◌then◌else◌, refl}
-use Rattle.std.proofs.Common.{arith}
+-- Each part of the open ends goes on through a lawful setting (`passing-followed` and so on), and so do all of them (`leads_on`).
+use Rattle.std.specs.Prelude.{◌≡◌, ◌≤◌, ◌<◌, ℕ, ◌+◌, ◌*◌, ◌&&◌, ◌||◌, Bool, true, false, List, [], ◌∷◌, ◌++◌, Option, Some, None, IsSomeAnd, length, reverse, slice_index_or, if◌then◌else◌, refl}
+use Rattle.std.specs.Option.{option_map}
+use Rattle.std.proofs.Common.{ap, ap₂, sym, ◌∙◌, arith}
+use Rattle.std.proofs.lemmas.Bool.{and_parts}
 use Rattle.fux_grid.specs.declared.cell.Cell.{Cell}
 use Rattle.fux_grid.specs.declared.exercise.Exercise.{Exercise}
-use Rattle.fux_grid.specs.Columns.{Columns}
-use Rattle.fux_grid.specs.Exercises.{IsValid}
+use Rattle.fux_grid.specs.Cells.{cell_in}
+use Rattle.fux_grid.specs.Columns.{Columns, earlier, newest_column}
+use Rattle.fux_grid.specs.Exercises.{IsValid, columns_in, species_in}
+use Rattle.dissonance_rules.specs.Clashes.{passing_rule, resolution_rule}
 use Rattle.penalty_sheet.specs.declared.sheet.Sheet.{Sheet}
 use Rattle.penalty_sheet.specs.Weights.{weight_of}
 use Rattle.fux_judge.specs.Lawful.{IsLawful}
 use Rattle.fux_judge.specs.Penalties.{newly_paid}
 use Rattle.fux_judge.specs.Rules.{cost_at}
-use Rattle.open_dissonances.specs.Steps.{HasVoices}
-use Rattle.open_cadences.proofs.GoesOn as cadences
-use Rattle.open_dissonances.proofs.GoesOn as dissonances
-use Rattle.open_parallels.proofs.GoesOn as parallels
-use Rattle.open_runs.proofs.RunsTold.{follows_runs, runs-told}
-use Rattle.open_runs.specs.declared.steps.OpenRuns.{OpenRuns}
-use Rattle.open_runs.specs.Steps as runs
-use Rattle.open_shapes.proofs.KeepsShapes as shapes
-use Rattle.open_suspensions.proofs.GoesOn as suspensions
-use Rattle.open_turns.proofs.GoesOn as turning
-use Rattle.open_turns.specs.Notes as notes
-use Rattle.open_turns.specs.Steps as turns
+use Rattle.open_ends.specs.declared.cadences.OpenCadences.{OpenCadences}
 use Rattle.open_ends.specs.declared.keeps.Keeps.{Keeps}
-use Rattle.open_ends.specs.Steps.{FollowsLawful, LeadsOn, ends_in, none, runs_in, runs_kept, turns_in, turns_kept}
+use Rattle.open_ends.specs.declared.ligatures.OpenLigature.{OpenLigature}
+use Rattle.open_ends.specs.declared.parallels.OpenParallels.{OpenParallels}
+use Rattle.open_ends.specs.declared.passing.OpenPassing.{OpenPassing}
+use Rattle.open_ends.specs.declared.runs.OpenRuns.{OpenRuns}
+use Rattle.open_ends.specs.declared.suspensions.OpenSuspensions.{OpenSuspensions}
+use Rattle.open_ends.specs.Asked.{is_asked}
+use Rattle.open_ends.specs.BarLines.{arrives, bar_line_in}
+use Rattle.open_ends.specs.BarLines as lines
+use Rattle.open_ends.specs.Cadences as cadences
+use Rattle.open_ends.specs.Ends.{LeadsOn, LeadsThrough, OpenEnds, OpenRules, ends_in, nothing, rules_after, rules_in}
+use Rattle.open_ends.specs.Leads.{lacks_all, leads_in}
+use Rattle.open_ends.specs.Leads as leads
+use Rattle.open_ends.specs.Ligatures.{is_unresolved, ligature_in}
+use Rattle.open_ends.specs.Ligatures as ligatures
+use Rattle.open_ends.specs.Notes as notes
+use Rattle.open_ends.specs.Notes.{noted, noted_in, turns_badly, turns_rule}
+use Rattle.open_ends.specs.Parallels as parallels
+use Rattle.open_ends.specs.Parts.{FollowsLawful, HasVoices, both_after}
+use Rattle.open_ends.specs.Passing.{breaks_passing, is_left_badly, is_reached_badly, passing_in}
+use Rattle.open_ends.specs.Passing as passing
+use Rattle.open_ends.specs.Runs.{run_toll, runs_ended, runs_in, runs_paid}
+use Rattle.open_ends.specs.Runs as runs
+use Rattle.open_ends.specs.Shapes as shapes
+use Rattle.open_ends.specs.Suspended.{has_ligatures, is_bad_at, is_unprepared_at, preparation_rule, size_rule, starts_late_after, starts_late_in}
+use Rattle.open_ends.specs.Suspended as suspended
+use Rattle.open_ends.specs.Suspensions.{breaks_preparation, breaks_size}
+use Rattle.open_ends.specs.Suspensions as suspensions
+use Rattle.open_ends.specs.Turns as turns
+use Rattle.open_ends.proofs.BarLineLaw.{never_arrives}
+use Rattle.open_ends.proofs.Followed.{both-followed, followed, voices_of_valid}
+use Rattle.open_ends.proofs.KeepsShapes.{shapes-followed}
+use Rattle.open_ends.proofs.LeadLaw.{never_lacks}
+use Rattle.open_ends.proofs.LigatureLaw.{resolved}
+use Rattle.open_ends.proofs.PassingLaw.{left_well, reached_well}
+use Rattle.open_ends.proofs.RunsTold.{runs-none, tells_runs}
 use Rattle.open_ends.proofs.Settles.{here, settles}
+use Rattle.open_ends.proofs.SuspensionLaw.{prepared, well_sized}
+use Rattle.open_ends.proofs.TurnLaw.{never_turns_badly}
 
--- before the first column nothing is kept
-pub ends-none : (ex : Exercise) (keeps : Keeps) → ends_in ex keeps [] ≡ none
-ends-none ex keeps = rw (
-  dissonances.open-none ex,
-  shapes.open_shapes-none ex,
-  parallels.kept-none ex,
-  suspensions.suspensions-none ex,
-  cadences.kept-none ex,
-  where_followed keeps.runs runs.none (runs.runs_in ex []) (follows_runs ex).first,
-  where_followed keeps.turns notes.none (turns.turns_in ex []) (turning.turns-none ex),
-) refl
-  where
-    where_followed : {Part : Type 0} (followed : Bool) (nothing part : Part) → part ≡ nothing
-        → (if followed then part else nothing) ≡ nothing
-    where_followed true nothing part e = e
-    where_followed false nothing part e = refl
+module _ (ex : Exercise) (keeps : Keeps) (voices : HasVoices ex) where
+  abbrev v : ℕ
+  v = ex.species_voice
+
+  pub passing-followed : FollowsLawful ex passing.nothing (passing.open_in ex keeps) (passing.open_after ex keeps)
+  passing-followed =
+      let Kept : List (List Cell) → OpenPassing = λ behind. record { origin = passing_in behind v } in
+      followed ex passing.nothing (is_asked ex passing_rule) Kept (passing.still_open ex) (breaks_passing ex) refl
+      (λ col behind. refl)
+      (λ asked s lawful i here. neither (left_well ex voices s lawful asked i here)
+      (reached_well ex voices s lawful asked i here))
+    where
+      neither : {a b : Bool} → a ≡ false → b ≡ false → (a || b) ≡ false
+      neither h k = rw (h, k) refl
+
+  pub ligature-followed : FollowsLawful ex ligatures.nothing (ligatures.open_in ex keeps) (ligatures.open_after ex keeps)
+  ligature-followed =
+      let Kept : List (List Cell) → OpenLigature = λ behind. record { pitch = ligature_in behind v } in
+      followed ex ligatures.nothing (is_asked ex resolution_rule) Kept
+      (λ i waiting before now. ligatures.still_open ex i waiting now)
+      (λ i waiting before now. is_unresolved i waiting.pitch now v) refl (λ col behind. refl)
+      (λ asked s lawful i here. resolved ex voices s lawful asked i here)
+
+  pub parallels-followed : FollowsLawful ex parallels.nothing (parallels.open_in ex keeps) (parallels.open_after ex keeps)
+  parallels-followed =
+      let Kept : List (List Cell) → OpenParallels = λ behind. record { pitches = bar_line_in ex behind } in
+      followed ex parallels.nothing (lines.is_read ex) Kept (λ i kept before now. parallels.still_open ex i kept now)
+      (λ i kept before now. arrives ex i kept.pitches now) refl (λ col behind. refl)
+      (λ read s lawful i here. never_arrives ex voices s lawful read i here)
+
+  pub cadences-followed : FollowsLawful ex cadences.nothing (cadences.open_in ex keeps) (cadences.open_after ex keeps)
+  cadences-followed =
+      let Kept : List (List Cell) → OpenCadences = λ behind. record { leads = leads_in ex behind } in
+      followed ex cadences.nothing (leads.is_read ex) Kept (λ i kept before now. cadences.still_open ex i kept now)
+      (λ i kept before now. lacks_all ex i kept.leads now) refl (λ col behind. refl)
+      (λ read s lawful i here. never_lacks ex voices s lawful read i here)
+
+  pub turns-followed : FollowsLawful ex notes.none (turns.open_in ex keeps) (turns.open_after ex keeps)
+  turns-followed =
+      followed ex notes.none (turns.is_read ex keeps) (noted_in ex)
+      (λ i kept before now. noted ex i kept (cell_in now v)) (λ i kept before now. turns_badly kept (cell_in now v)) refl
+      (λ col behind. refl)
+      (λ read s lawful i here. never_turns_badly ex voices s lawful
+      (and_parts keeps.turns (is_asked ex turns_rule) read).1 i here)
+
+  -- of suspensions two rules decide, each where it is asked
+  abbrev late : Bool → OpenSuspensions
+  late started = record { late_start = started }
+
+  late-grows : (read : Bool) (on : Bool → Bool) (now : Bool) → late (read && on now) ≡ late (read && on (read && now))
+  late-grows true on now = refl
+  late-grows false on now = refl
+
+  late-none : (read : Bool) → late (read && false) ≡ suspensions.nothing
+  late-none true = refl
+  late-none false = refl
+
+  module _ (s : Columns) (lawful : IsLawful ex s) (i : ℕ) (here : i < length s) where
+    abbrev behind : List (List Cell)
+    behind = earlier s i
+
+    abbrev now : List Cell
+    now = slice_index_or s i []
+
+    prepares : (a b : Bool) → is_asked ex preparation_rule ≡ a
+        → ((a && b) && is_unprepared_at i ((a && b) && starts_late_in behind v) (newest_column behind) now v) ≡ false
+    prepares false b e = refl
+    prepares true false e = refl
+    prepares true true e = prepared ex voices s lawful i here e
+
+    fits : (b : Bool) → is_asked ex size_rule ≡ b → (b && is_bad_at i now v) ≡ false
+    fits false e = refl
+    fits true e = well_sized ex voices s lawful i here e
+
+    neither : (breaks_preparation ex i (late (suspended.is_read ex && starts_late_in behind v)) (newest_column behind) now
+        || breaks_size ex i now) ≡ false
+    neither = ap₂ (λ a b. a || b) (prepares (is_asked ex preparation_rule) (has_ligatures (species_in ex v)) refl)
+        (fits (is_asked ex size_rule) refl)
+
+  pub suspensions-followed : FollowsLawful ex suspensions.nothing (suspensions.open_in ex keeps)
+      (suspensions.open_after ex keeps)
+  suspensions-followed =
+      followed ex suspensions.nothing true (λ behind. late (suspended.is_read ex && starts_late_in behind v))
+      (λ i kept before now. suspensions.still_open ex i kept now)
+      (λ i kept before now. breaks_preparation ex i kept before now || breaks_size ex i now)
+      (late-none (suspended.is_read ex))
+      (λ col behind. late-grows (suspended.is_read ex) (λ started. starts_late_after (length behind) started col v)
+      (starts_late_in behind v))
+      (λ read. neither)
+
+  pub runs-followed : FollowsLawful ex runs.nothing (runs.open_in ex keeps) (runs.open_after ex keeps)
+  runs-followed = record {
+    first = begins keeps.runs;
+    next = λ p col more lawful. ap Some (goes_on p col (here ex voices.most_voices p col more lawful) keeps.runs);
+  }
+    where
+      begins : (b : Bool) → (if b then runs_in ex [] else runs.nothing) ≡ runs.nothing
+      begins true = runs-none ex
+      begins false = refl
+
+      goes_on : (p : Columns) (col : List Cell) → length p < columns_in ex → (b : Bool)
+          → (if b then runs.runs_after ex (length p) (if b then runs_in ex p else runs.nothing) col else runs.nothing)
+          ≡ (if b then runs_in ex (p ++ col ∷ []) else runs.nothing)
+      goes_on p col few true = (tells_runs ex p col few).kept
+      goes_on p col few false = refl
+
+  -- ---- all of them
+
+  rules-followed : FollowsLawful ex nothing.first (rules_in ex keeps) (rules_after ex keeps)
+  rules-followed =
+      both-followed ex _ _ _ _ _ _ passing-followed (both-followed ex _ _ _ _ _ _ ligature-followed
+      (both-followed ex _ _ _ _ _ _ (shapes-followed ex keeps voices) (both-followed ex _ _ _ _ _ _ parallels-followed
+      (both-followed ex _ _ _ _ _ _ suspensions-followed (both-followed ex _ _ _ _ _ _ cadences-followed turns-followed)))))
+
+  pub ends-followed : FollowsLawful ex nothing (ends_in ex keeps)
+      (λ i kept before now. both_after rules_after runs.open_after ex keeps i kept before now)
+  ends-followed = both-followed ex _ _ _ _ _ _ rules-followed runs-followed
 
 module _ (ex : Exercise) (sheet : Sheet) (keeps : Keeps) (voices : HasVoices ex) (there : ex.cantus_voice < ex.voices)
     (p : Columns) (col : List Cell) (more : Columns) (lawful : IsLawful ex (p ++ col ∷ more)) where
-  -- what runs cost at the column, by weight
-  abbrev runs_paid : ℕ
-  runs_paid = cost_at runs.run_toll ex (p ++ col ∷ []) (length p) * weight_of sheet runs.run_toll
-
-  abbrev runs_lead_to : Bool → OpenRuns × ℕ
-  runs_lead_to followed = (runs_in ex followed (p ++ col ∷ []), if followed then runs_paid else 0)
-
-  runs_on : (followed : Bool) → runs_kept ex sheet followed (length p) (runs_in ex followed p) col ≡ runs_lead_to followed
-  runs_on true = rw (runs-told ex p col (here ex voices.most_voices there p col more lawful)) refl
-  runs_on false = refl
-
-  turns_on : (followed : Bool) → turns_kept ex followed (length p) (turns_in ex followed p) col
-      ≡ Some (turns_in ex followed (p ++ col ∷ []))
-  turns_on true = turning.goes_on ex p col more voices lawful
-  turns_on false = refl
+  abbrev paid : ℕ
+  paid = runs_paid sheet keeps (length p) (ends_in ex keeps p).second col
 
   pub leads_on : LeadsOn ex sheet keeps p col
   leads_on = record {
-    cost = if keeps.runs then runs_paid else 0;
-    is = rw (
-      (dissonances.follows_where ex voices).next p col more lawful,
-      shapes.keeps_shapes ex p col more voices.most_voices
-          (record { there = voices.species_there; no_cantus = voices.differ }) lawful,
-      parallels.goes_on ex p col more voices lawful,
-      suspensions.goes_on ex p col more voices lawful,
-      cadences.goes_on ex p col more voices lawful,
-      turns_on keeps.turns,
-      runs_on keeps.runs,
-    ) refl;
-    settles = no_less keeps.runs _ (settles ex voices.most_voices there p col more lawful sheet);
+    cost = paid;
+    is = ap (option_map (λ ends. (ends, paid))) ((ends-followed ex keeps voices).next p col more lawful);
+    settles = no_less keeps.runs _ (settles ex voices.most_voices p col more lawful there sheet);
   }
     where
-      no_less : (kept : Bool) (link : Option ℕ) → IsSomeAnd link (λ own. own + runs_paid ≤ newly_paid ex sheet p col)
-          → IsSomeAnd link (λ own. own + (if kept then runs_paid else 0) ≤ newly_paid ex sheet p col)
+      ended : runs_ended (length p) (runs_in ex p) col ≡ cost_at run_toll ex (p ++ col ∷ []) (length p)
+      ended = (tells_runs ex p col (here ex voices.most_voices p col more lawful)).ended
+
+      no_less : (kept : Bool) (link : Option ℕ)
+          → IsSomeAnd link (λ own. own + cost_at run_toll ex (p ++ col ∷ []) (length p) * weight_of sheet run_toll
+          ≤ newly_paid ex sheet p col)
+          → IsSomeAnd link (λ own. own + (if kept
+          then runs_ended (length p) (if kept then runs_in ex p else runs.nothing) col * weight_of sheet run_toll else 0)
+          ≤ newly_paid ex sheet p col)
       no_less kept None some = some
-      no_less true (Some own) some = some
+      no_less true (Some own) some = let n = ap (λ k. own + k * weight_of sheet run_toll) ended in omega (arith, some, n)
       no_less false (Some own) some = omega (arith, some)
 
+pub ends-none : (ex : Exercise) (keeps : Keeps) (voices : HasVoices ex) → ends_in ex keeps [] ≡ nothing
+ends-none ex keeps voices = (ends-followed ex keeps voices).first
+
 -- the same of each exercise that is valid
-pub follows_lawful : (ex : Exercise) (sheet : Sheet) (keeps : Keeps) → IsValid ex → FollowsLawful ex sheet keeps
-follows_lawful ex sheet keeps valid = record {
-  first = ends-none ex keeps;
-  next = λ p col more lawful. leads_on ex sheet keeps (dissonances.voices_of_valid ex valid) valid.cantus_there p col more lawful;
+pub leads_through : (ex : Exercise) (sheet : Sheet) (keeps : Keeps) → IsValid ex → LeadsThrough ex sheet keeps
+leads_through ex sheet keeps valid = record {
+  first = ends-none ex keeps (voices_of_valid ex valid);
+  next = λ p col more lawful. leads_on ex sheet keeps (voices_of_valid ex valid) valid.cantus_there p col more lawful;
 }

@@ -17,8 +17,8 @@ use Rattle.fux_judge.specs.Rules.{cost_at}
 use Rattle.fux_judge.specs.Penalties.{breaks_by_column, has_strict_break, newly_paid, settles_break}
 use Rattle.fux_judge.proofs.Alive.{alive_if_unbroken, alive_orderly, prefix_before}
 use Rattle.fux_judge.proofs.Ends.{none_below}
-use Rattle.open_runs.proofs.RunsPaid.{link_and_runs_are_paid}
-use Rattle.open_runs.specs.Steps.{run_toll}
+use Rattle.open_ends.proofs.RunsPaid.{link_and_runs_are_paid}
+use Rattle.open_ends.specs.Runs.{run_toll}
 
 -- the first columns of a prefix
 prefix_first : (ex : Exercise) (p h : Columns) → IsPrefix ex (p ++ reverse h) → IsPrefix ex p
@@ -32,8 +32,8 @@ prefix_first ex p (col ∷ h) whole =
     prefix_first ex p h (prefix_before ex (p ++ reverse h) col
     (subst P (ap (λ t. p ++ t) (reverse-append (col ∷ []) h) ∙ sym (append_assoc p (reverse h) (col ∷ []))) whole))
 
-module _ (ex : Exercise) (few : ex.voices ≤ 4) (there : ex.cantus_voice < ex.voices) (p : Columns) (col : List Cell)
-    (more : Columns) (lawful : IsLawful ex (p ++ col ∷ more)) where
+module _ (ex : Exercise) (few : ex.voices ≤ 4) (p : Columns) (col : List Cell) (more : Columns)
+    (lawful : IsLawful ex (p ++ col ∷ more)) where
   abbrev s : Columns
   s = p ++ col ∷ more
 
@@ -69,6 +69,6 @@ module _ (ex : Exercise) (few : ex.voices ≤ 4) (there : ex.cantus_voice < ex.v
   pub here : length p < columns_in ex
   here = omega (arith, goes_on.longer.few, length-append p (col ∷ []))
 
-  pub settles : (sheet : Sheet) → IsSomeAnd (link_of ex sheet (length p) (last_column p) col)
+  pub settles : ex.cantus_voice < ex.voices → (sheet : Sheet) → IsSomeAnd (link_of ex sheet (length p) (last_column p) col)
       (λ own. own + cost_at run_toll ex (p ++ col ∷ []) (length p) * weight_of sheet run_toll ≤ newly_paid ex sheet p col)
-  settles sheet = link_and_runs_are_paid ex sheet p col there goes_on unbroken
+  settles there sheet = link_and_runs_are_paid ex sheet p col there goes_on unbroken

@@ -11,7 +11,7 @@ use Rattle.penalty_sheet.specs.declared.sheet.Sheet.{Sheet}
 use Rattle.chain_sums.specs.Chains.{cells_of}
 use Rattle.fux_judge.specs.Links.{given, link_of}
 use Rattle.open_ends.specs.declared.keeps.Keeps.{Keeps}
-use Rattle.open_ends.specs.Steps.{ends_after}
+use Rattle.open_ends.specs.Ends.{ends_after}
 use Rattle.species_space.specs.Leaves.{follows_from_test, test_from_follows}
 use Rattle.species_space.specs.Paths.{column_follows}
 use Rattle.priced_floors.specs.declared.kept.Kept.{Kept}

@@ -22,7 +22,7 @@ use Rattle.fux_judge.proofs.Alive.{unbroken_if_alive}
 use Rattle.fux_judge.proofs.Grows.{paid_grows}
 use Rattle.fux_judge.proofs.LeastLaws.{least_at_end}
 use Rattle.open_ends.specs.declared.keeps.Keeps.{Keeps}
-use Rattle.open_ends.specs.Steps.{LeadsOn, ends_after, ends_in}
+use Rattle.open_ends.specs.Ends.{LeadsOn, ends_after, ends_in}
 use Rattle.species_space.specs.Exact.{menus_are_exact}
 use Rattle.species_space.specs.FloorLaws.{FloorParts, floor_parts}
 use Rattle.species_space.specs.Grows as grows

@@ -7,8 +7,8 @@ ghost use Rattle.fux_grid.specs.Exercises.{IsValid, columns_in};
 ghost use Rattle.fux_grid.specs.Menus.{menu_of};
 ghost use Rattle.fux_judge.specs.Links.{given, link_of};
 ghost use Rattle.fux_grid.specs.Columns.{cells_before};
-ghost use Rattle.open_dissonances.specs.Steps.{HasVoices};
-ghost use Rattle.open_ends.specs.Steps.{ends_after};
+ghost use Rattle.open_ends.specs.Ends.{ends_after};
+ghost use Rattle.open_ends.specs.Parts.{HasVoices};
 ghost use Rattle.priced_floors.specs.Charges.{AreDebts, AreFairCharges, AreSmallCharges};
 ghost use Rattle.priced_floors.specs.declared.charges.TheConstants.{CASES, MOST_CHARGE, SCALE};
 ghost use Rattle.priced_floors.specs.Kept as words;
@@ -18,7 +18,7 @@ use crate::kept::Kept;
 use fux_grid::{Column, Exercise, follows};
 use fux_judge::{column_cost, pair_cost};
 use fux_pitch::Memory;
-use open_ends::{Keeps, OpenEnds, ends_after};
+use open_ends::{Keeps, OpenEnds, OpenPart, ends_after, mixed};
 use penalty_sheet::Sheet;
 use priced_paths::Pricing;
 use rule_law::cells_of;
@@ -70,13 +70,6 @@ fn is_same_number(one: Option<u16>, other: Option<u16>) -> bool
         (Some(m), Some(n)) => m == n,
         _ => false,
     }
-}
-
-/// A number made of two, in which each of them counts.
-fn mixed(first: u64, second: u64) -> u64 {
-    first
-        .wrapping_mul(0x9e37_79b9_7f4a_7c15)
-        .wrapping_add(second)
 }
 
 /// The debt of each case.
@@ -230,7 +223,7 @@ impl<'a> Pricing for PricedSpace<'a> {
             Some(number) => u64::from(number) + 1,
             None => 0,
         };
-        mixed(kept.ends.key(), column)
+        mixed(kept.ends.key(0), column)
     }
 
     fn cases(&self) -> usize {

@@ -4,6 +4,8 @@
 #[cfg(test)]
 mod answers;
 #[cfg(test)]
+mod best;
+#[cfg(test)]
 mod certificates;
 #[cfg(test)]
 mod classes;
@@ -13,9 +15,5 @@ mod devices;
 mod drills;
 #[cfg(test)]
 mod long_files;
-#[cfg(test)]
-mod mixing;
-#[cfg(test)]
-mod table;
 #[cfg(test)]
 mod words;

@@ -3,3 +3,4 @@ pub mod Lists
 pub mod MarkLines
 pub mod Marks
 pub mod Setting
+pub mod Unmarked

@@ -1,7 +1,7 @@
 //! Each call on certificates of a cantus that takes memory, called with ample memory.
 
 use cantus_check::{Accepted, Verdict, check_cantus_file};
-use cantus_space::{CantusSpace, best_cantus, lawful_penalty};
+use cantus_space::{CantusSpace, lawful_penalty};
 use cantus_text::{cantus_head, cantus_head_text, cantus_line};
 use cantus_writer::certify_cantus;
 use fux_pitch::{Mode, Pitch, parse_pitch, semitone};
@@ -9,7 +9,7 @@ use fux_port::{MemShelf, MemSink};
 use penalty_sheet::default_sheet;
 use std::alloc::Global;
 use std::test::Fail;
-use tree_search::Outcome;
+use tree_search::{Outcome, search_quest};
 
 /// The certificate of the best cantus of three bars from C4 to F4.
 const BEST: &str = "fux-cantus-cert 1\nbest 3\ncantus D4 E4 D4\nclaims\no\no\no\ns\n";
@@ -76,7 +76,7 @@ fn a_file_is_judged(rt: HostRuntime) -> Result<(), Fail> {
 fn a_certificate_is_written(rt: HostRuntime) -> Result<(), Fail> {
     let alloc = rt.alloc();
     let space = space_between("B1", "B1")?;
-    let Outcome::Nothing = best_cantus(alloc, &space, 10)? else {
+    let Outcome::Nothing = search_quest(alloc, &space, 10)? else {
         return Err("some cantus is lawful".into());
     };
     let mut sink = MemSink::new(alloc, 100, 100, &[])?;

@@ -24,12 +24,13 @@ use Rattle.floor_tables.specs.Floors.{rest_of}
 use Rattle.floor_tables.specs.Tables.{IsRest}
 use Rattle.floor_tables.proofs.RestLemmas.{rest_is}
 use Rattle.species_space.specs.declared.node.Node.{Node}
+use Rattle.species_space.specs.Chained.{IsRestWith, floor_with}
 use Rattle.species_space.specs.Exact.{menus_are_exact}
-use Rattle.species_space.specs.Grows.{live_none, live_some, live_value}
+use Rattle.species_space.specs.Grows.{live_none, live_some, live_value, with_none, with_some, with_value}
 use Rattle.species_space.specs.Leaves.{follows_from_test, prefix_is_alive, test_from_follows}
 use Rattle.species_space.specs.FloorLaws.{floor_of_rest, floor_parts, no_floor}
 use Rattle.species_space.specs.Nodes.{IsNodeOf}
-use Rattle.species_space.specs.Paths.{IsNoBetter, prefix_at, column_at, width_at, column_follows, is_alive_path, live_at, alive_goes_on, alive_from_parts, length-columns_on, prefix_at-append}
+use Rattle.species_space.specs.Paths.{IsNoBetter, prefix_at, column_at, width_at, column_follows, is_alive_path, live_at, live_with, alive_goes_on, alive_from_parts, length-columns_on, prefix_at-append}
 
 third_false : (a b c d : Bool) → c ≡ false → (a && b && c && d) ≡ false
 third_false true true c d e = rw e refl
@@ -61,9 +62,9 @@ module _ (ex : Exercise) (path : List ℕ) (k : ℕ) (alive : is_alive_path ex p
   before = newest_column (reverse (prefix_at ex path))
 
   -- one whose column doesn't follow is dead
-  pub strays : (sheet : Sheet) → (ColumnFollows before (column_at ex path k) → ⊥) → live_at ex sheet (path ++ k ∷ [])
-      ≡ None
-  strays sheet h = live_none ex sheet (path ++ k ∷ [])
+  pub strays : (chained : Bool) (sheet : Sheet) → (ColumnFollows before (column_at ex path k) → ⊥)
+      → live_with chained ex sheet (path ++ k ∷ []) ≡ None
+  strays chained sheet h = with_none chained ex sheet (path ++ k ∷ [])
       (alive_goes_on ex path k alive ∙ third_false (nat_lt (length path) (columns_in ex)) (nat_lt k (width_at ex path))
       (column_follows before (column_at ex path k)) _ (at (column_follows before (column_at ex path k)) refl))
     where
@@ -72,9 +73,10 @@ module _ (ex : Exercise) (path : List ℕ) (k : ℕ) (alive : is_alive_path ex p
       at false e = refl
 
   -- one that settles a strict break is dead
-  pub breaks : (sheet : Sheet) → list_any (newly_broken ex (prefix_at ex path) (column_at ex path k)) rules_read ≡ true
-      → live_at ex sheet (path ++ k ∷ []) ≡ None
-  breaks sheet h = live_none ex sheet (path ++ k ∷ [])
+  pub breaks : (chained : Bool) (sheet : Sheet)
+      → list_any (newly_broken ex (prefix_at ex path) (column_at ex path k)) rules_read ≡ true
+      → live_with chained ex sheet (path ++ k ∷ []) ≡ None
+  breaks chained sheet h = with_none chained ex sheet (path ++ k ∷ [])
       (alive_goes_on ex path k alive ∙ last_false (nat_lt (length path) (columns_in ex)) (nat_lt k (width_at ex path))
       (column_follows before (column_at ex path k)) _ h)
 
@@ -95,17 +97,17 @@ module _ (ex : Exercise) (path : List ℕ) (k : ℕ) (alive : is_alive_path ex p
     not_both (Some n) floor e f = cc
 
     -- a dead one is no better
-    pub no_better_if_dead : (best : Option ℕ)
+    pub no_better_if_dead : (chained : Bool) (best : Option ℕ)
         → (ColumnFollows before (column_at ex path k)
         → list_any (newly_broken ex (prefix_at ex path) (column_at ex path k)) rules_read ≡ true)
-        → IsNoBetter ex sheet path best k
-    no_better_if_dead best dead floor there = at (column_follows before (column_at ex path k)) refl
+        → IsNoBetter chained ex sheet path best k
+    no_better_if_dead chained best dead floor there = at (column_follows before (column_at ex path k)) refl
       where
         at : (b : Bool) → column_follows before (column_at ex path k) ≡ b → IsSomeAnd best (λ value. value ≤ floor)
-        at true e = absurd (not_both (live_at ex sheet (path ++ k ∷ [])) floor
-            (breaks sheet (dead (follows_from_test before (column_at ex path k) e))) there)
-        at false e = absurd (not_both (live_at ex sheet (path ++ k ∷ [])) floor
-            (strays sheet (λ follows. true≢false (sym (test_from_follows before (column_at ex path k) follows) ∙ e)))
+        at true e = absurd (not_both (live_with chained ex sheet (path ++ k ∷ [])) floor
+            (breaks chained sheet (dead (follows_from_test before (column_at ex path k) e))) there)
+        at false e = absurd (not_both (live_with chained ex sheet (path ++ k ∷ [])) floor
+            (strays chained sheet (λ follows. true≢false (sym (test_from_follows before (column_at ex path k) follows) ∙ e)))
             there)
 
     -- the rest of its prefix is that of its column
@@ -126,6 +128,25 @@ module _ (ex : Exercise) (path : List ℕ) (k : ℕ) (alive : is_alive_path ex p
         at true e = live_some ex sheet (path ++ k ∷ []) e ∙ no_floor ex sheet (prefix_at ex (path ++ k ∷ [])) none
         at false e = live_none ex sheet (path ++ k ∷ []) e
 
+    -- what an alive one pays more, and what its lines cost at least
+    record Pays : Type 0 where
+      pays : paid ex sheet (prefix_at ex (path ++ k ∷ []))
+          ≡ paid ex sheet (prefix_at ex path) + newly_paid ex sheet (prefix_at ex path) (column_at ex path k)
+      lines : least_of ex sheet (prefix_at ex path) ≤ least_of ex sheet (prefix_at ex (path ++ k ∷ []))
+
+    pays_more : is_alive_path ex (path ++ k ∷ []) ≡ true → Pays
+    pays_more live =
+        let p = prefix_at ex path in
+        let col = column_at ex path k in
+        let next : prefix_at ex (path ++ k ∷ []) ≡ p ++ col ∷ [] = prefix_at-append ex path k in
+        let longer : IsPrefix ex (p ++ col ∷ []) = subst (λ q. IsPrefix ex q) next
+        (prefix_is_alive ex (menus_are_exact ex) (path ++ k ∷ []) live).prefix in
+        record {
+          pays = ap (paid ex sheet) next ∙ paid_grows ex p col sheet;
+          lines = subst (λ n. least_of ex sheet p ≤ n) (sym (ap (least_of ex sheet) next))
+              (least_grows ex sheet p col longer);
+        }
+
     -- what a live one costs at least
     pub record Costs (floor : ℕ) : Type 0 where
       pub rest : ℕ
@@ -135,42 +156,48 @@ module _ (ex : Exercise) (path : List ℕ) (k : ℕ) (alive : is_alive_path ex p
 
     pub costs : (floor : ℕ) → live_at ex sheet (path ++ k ∷ []) ≡ Some floor → Costs floor
     costs floor there =
-        let p = prefix_at ex path in
-        let col = column_at ex path k in
         let own = live_value ex sheet (path ++ k ∷ []) floor there in
         let parts = floor_parts ex sheet (prefix_at ex (path ++ k ∷ [])) floor own.1 in
-        let next : prefix_at ex (path ++ k ∷ []) ≡ p ++ col ∷ [] = prefix_at-append ex path k in
-        let longer : IsPrefix ex (p ++ col ∷ []) = subst (λ q. IsPrefix ex q) next
-        (prefix_is_alive ex (menus_are_exact ex) (path ++ k ∷ []) own.0).prefix in
-        let more = least_grows ex sheet p col longer in
-        let pays : paid ex sheet (prefix_at ex (path ++ k ∷ []))
-        ≡ paid ex sheet p + newly_paid ex sheet p col = ap (paid ex sheet) next ∙ paid_grows ex p col sheet in
-        let lines : least_of ex sheet (prefix_at ex (path ++ k ∷ []))
-        ≡ least_of ex sheet (p ++ col ∷ []) = ap (least_of ex sheet) next in
+        let more = pays_more own.0 in
         record {
           rest = parts.rest;
           is_rest = parts.is_rest;
-          low = sum_of _ _ _ _ _ _ parts.rest floor parts.sum pays lines more;
+          low = sum_of _ _ _ _ _ parts.rest floor parts.sum more.pays more.lines;
         }
       where
-        sum_of : (a b c d e f rest floor : ℕ) → a + b + rest ≡ floor → a ≡ c + d → b ≡ e → f ≤ e
+        sum_of : (a b c d f rest floor : ℕ) → a + b + rest ≡ floor → a ≡ c + d → f ≤ b
             → c + d + f + rest ≤ floor
-        sum_of a b c d e f rest floor s p l m = omega (arith, s, p, l, m)
+        sum_of a b c d f rest floor s p m = omega (arith, s, p, m)
+
+    -- with chains or without
+    low_cost : (chained : Bool) (floor : ℕ) → live_with chained ex sheet (path ++ k ∷ []) ≡ Some floor
+        → paid ex sheet (prefix_at ex path) + least_of ex sheet (prefix_at ex path) +
+        newly_paid ex sheet (prefix_at ex path) (column_at ex path k) ≤ floor
+    low_cost true floor there = let all = costs floor there in omega (arith, all.low)
+    low_cost false floor there =
+        let own = with_value false ex sheet (path ++ k ∷ []) floor there in
+        let more = pays_more own.0 in
+        sum_of _ _ _ _ _ floor (same_number own.1) more.pays more.lines
+      where
+        same_number : {m n : ℕ} → Some m ≡ Some n → m ≡ n
+        same_number h = cc
+
+        sum_of : (a b c d f floor : ℕ) → a + b ≡ floor → a ≡ c + d → f ≤ b → c + f + d ≤ floor
+        sum_of a b c d f floor s p m = omega (arith, s, p, m)
 
     -- one that costs too much is no better
-    pub no_better_if_costly : (best : Option ℕ)
+    pub no_better_if_costly : (chained : Bool) (best : Option ℕ)
         → IsSomeAnd best (λ value. value ≤ paid ex sheet (prefix_at ex path) + least_of ex sheet (prefix_at ex path) +
-        newly_paid ex sheet (prefix_at ex path) (column_at ex path k)) → IsNoBetter ex sheet path best k
-    no_better_if_costly best costly floor there =
-        let all = costs floor there in
-        some_lower best _ floor (omega (arith, all.low)) costly
+        newly_paid ex sheet (prefix_at ex path) (column_at ex path k)) → IsNoBetter chained ex sheet path best k
+    no_better_if_costly chained best costly floor there =
+        some_lower best _ floor (low_cost chained floor there) costly
 
     -- one without a rest is no better, nor is one whose rest costs too much
     pub no_better_by_rest : (rest best : Option ℕ) → length path < columns_in ex
         → IsRest ex sheet (length path) (column_at ex path k) rest
         → ((x : ℕ) → rest ≡ Some x → IsSomeAnd best
         (λ value. value ≤ paid ex sheet (prefix_at ex path) + least_of ex sheet (prefix_at ex path) + x))
-        → IsNoBetter ex sheet path best k
+        → IsNoBetter true ex sheet path best k
     no_better_by_rest rest best room is costly floor there =
         let all = costs floor there in
         some_lower best _ floor (omega (arith, all.low)) (costly all.rest (rest_there rest room is ∙ all.is_rest))
@@ -186,26 +213,41 @@ no_chain ex sheet node path k at room is =
     (sym (rest_there ex path k at.alive sheet None (omega (arith, long, room))
     (subst (λ n. IsRest ex sheet n (slice_index_or (menu_of ex n) k []) None) long is)))
 
+-- the floor of an alive child, by the rest of its column
+floor_there : (chained : Bool) (ex : Exercise) (sheet : Sheet) (path : List ℕ) (k rest : ℕ)
+    → is_alive_path ex path ≡ true → length path < columns_in ex
+    → IsRestWith chained ex sheet (length path) (column_at ex path k) rest
+    → floor_with chained ex sheet (prefix_at ex (path ++ k ∷ []))
+    ≡ Some (paid ex sheet (prefix_at ex (path ++ k ∷ [])) + least_of ex sheet (prefix_at ex (path ++ k ∷ [])) + rest)
+floor_there true ex sheet path k rest alive room is =
+    floor_of_rest ex sheet (prefix_at ex (path ++ k ∷ [])) rest
+    (sym (rest_there ex path k alive sheet (Some rest) room is))
+floor_there false ex sheet path k rest alive room is =
+    let none : paid ex sheet (prefix_at ex (path ++ k ∷ [])) + least_of ex sheet (prefix_at ex (path ++ k ∷ []))
+    ≡ paid ex sheet (prefix_at ex (path ++ k ∷ [])) + least_of ex sheet (prefix_at ex (path ++ k ∷ [])) + rest =
+    omega (arith, is) in
+    ap Some none
+
 -- a node that is made of its parent's, with what its column costs, stands for an alive child, and its floor is the sum with the rest
 pub made_of : (ex : Exercise) (sheet : Sheet) (path : List ℕ) (k : ℕ) (node made : Node) (col : List Cell)
     (more rest : ℕ) → IsNodeOf ex sheet node path → col ≡ column_at ex path k → length path < columns_in ex
-    → is_alive_path ex (path ++ k ∷ []) ≡ true → IsRest ex sheet node.state.newest.len col (Some rest)
+    → is_alive_path ex (path ++ k ∷ []) ≡ true → (chained : Bool)
+    → IsRestWith chained ex sheet node.state.newest.len col rest
     → IsStateOf ex (prefix_at ex path ++ col ∷ []) made.state → made.paid ≡ node.paid + more
     → PaysMore ex sheet (prefix_at ex path) col more → more ≤ 134217728
     → made.least ≡ least_of ex sheet (prefix_at ex path ++ col ∷ []) → made.least ≤ 334490640
     → IsNodeOf ex sheet made (path ++ k ∷ [])
-    × (live_at ex sheet (path ++ k ∷ []) ≡ Some (made.paid + made.least + rest))
-made_of ex sheet path k node made col more rest at same room live is state pays more_is bound lines small =
+    × (live_with chained ex sheet (path ++ k ∷ []) ≡ Some (made.paid + made.least + rest))
+made_of ex sheet path k node made col more rest at same room live chained is state pays more_is bound lines small =
     let q : List (List Cell) = prefix_at ex (path ++ k ∷ []) in
     let next : prefix_at ex path ++ col ∷ [] ≡ q =
     ap (λ c. prefix_at ex path ++ c ∷ []) same ∙ sym (prefix_at-append ex path k) in
     let cost : made.paid ≡ paid ex sheet q =
     pays ∙ ap (λ n. n + more) at.paid ∙ sym more_is ∙ ap (paid ex sheet) next in
     let least : made.least ≡ least_of ex sheet q = lines ∙ ap (least_of ex sheet) next in
-    let own : IsRest ex sheet (length path) (column_at ex path k) (Some rest) =
-    subst (λ (n : ℕ). IsRest ex sheet n (column_at ex path k) (Some rest)) (as_long ex sheet node path at)
-    (subst (λ (c : List Cell). IsRest ex sheet node.state.newest.len c (Some rest)) same is) in
-    let ahead : rest_of ex sheet q ≡ Some rest = sym (rest_there ex path k at.alive sheet (Some rest) room own) in
+    let own : IsRestWith chained ex sheet (length path) (column_at ex path k) rest =
+    subst (λ (n : ℕ). IsRestWith chained ex sheet n (column_at ex path k) rest) (as_long ex sheet node path at)
+    (subst (λ (c : List Cell). IsRestWith chained ex sheet node.state.newest.len c rest) same is) in
     let sum : paid ex sheet q + least_of ex sheet q + rest ≡ made.paid + made.least + rest =
     omega (arith, cost, least) in (
       record {
@@ -216,7 +258,8 @@ made_of ex sheet path k node made col more rest at same room live is state pays 
         few = omega (arith, pays, at.few, bound, length-append path (k ∷ []));
         little = small;
       },
-      live_some ex sheet (path ++ k ∷ []) live ∙ floor_of_rest ex sheet q rest ahead ∙ ap Some sum,
+      with_some chained ex sheet (path ++ k ∷ []) live
+          ∙ floor_there chained ex sheet path k rest at.alive room own ∙ ap Some sum,
     )
 
 -- the empty path is alive

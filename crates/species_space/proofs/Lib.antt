@@ -3,8 +3,10 @@ pub mod Best
 pub mod Children
 pub mod FloorSteps
 pub mod Live
-pub mod LoadLaws
+pub mod MenuLemmas
+pub mod NamingLemmas
 pub mod Passing
 pub mod PathSteps
 pub mod ScoreSteps
+pub mod Trees
 pub mod WalkSteps

@@ -1,7 +1,7 @@
 -- What a walk over a menu passes over after a node's path is no better than the best leaf so far: a column that strays or dies
 -- (`stray_no_better`), and one that is pruned (`pruned_no_better`).
 use Rattle.std.specs.Prelude.{IsSomeAnd}
-use Rattle.std.proofs.Common.{◌≡◌, inl, inr, ◌+◌, ◌≤◌, Option, ℕ, List, [], reverse, slice_index_or, ap, sym, ◌∙◌, subst, true, arith}
+use Rattle.std.proofs.Common.{◌≡◌, inl, inr, ◌+◌, ◌≤◌, Option, ℕ, Bool, List, [], reverse, slice_index_or, ap, sym, ◌∙◌, subst, true, arith}
 use Rattle.std.specs.List.{list_any}
 use Rattle.fux_grid.specs.declared.cell.Cell.{Cell}
 use Rattle.fux_grid.specs.declared.exercise.Exercise.{Exercise}
@@ -24,26 +24,26 @@ module _ (ex : Exercise) (sheet : Sheet) (node : Node) (path : List ℕ) (at : I
   column_of_menu menu k is =
       ap (λ cols. slice_index_or cols k []) (is ∙ ap (menu_of ex) (as_long ex sheet node path at))
 
-  pub stray_no_better : (k : ℕ) (best : Option ℕ) (before col : List Cell) → before
+  pub stray_no_better : (k : ℕ) (chained : Bool) (best : Option ℕ) (before col : List Cell) → before
       ≡ newest_column (reverse (prefix_at ex path)) → col ≡ column_at ex path k
-      → StraysOrDies ex node.state.newest.len before col → IsNoBetter ex sheet path best k
-  stray_no_better k best before col e same stray =
-      no_better_if_dead ex path k at.alive sheet best
+      → StraysOrDies ex node.state.newest.len before col → IsNoBetter chained ex sheet path best k
+  stray_no_better k chained best before col e same stray =
+      no_better_if_dead ex path k at.alive sheet chained best
       (λ follows.
       subst (λ (c : List Cell). list_any (newly_broken ex (prefix_at ex path) c) rules_read ≡ true) same
       (stray (subst (λ (b : List Cell). ColumnFollows b col) (sym e)
       (subst (λ (c : List Cell). ColumnFollows (newest_column (reverse (prefix_at ex path))) c) (sym same) follows))
       (prefix_at ex path) (sym at.state.newest.count)))
 
-  pub pruned_no_better : (k : ℕ) (best limit : Option ℕ) (col : List Cell) → col ≡ column_at ex path k
+  pub pruned_no_better : (k : ℕ) (chained : Bool) (best limit : Option ℕ) (col : List Cell) → col ≡ column_at ex path k
       → ((cost : ℕ) → IsSomeAnd limit (λ most. most ≤ cost)
       → IsSomeAnd best (λ value. value ≤ node.paid + node.least + cost))
-      → IsPruned ex sheet (prefix_at ex path) limit col → IsNoBetter ex sheet path best k
-  pruned_no_better k best limit col same dear (inl broken) =
-      no_better_if_dead ex path k at.alive sheet best
+      → IsPruned ex sheet (prefix_at ex path) limit col → IsNoBetter chained ex sheet path best k
+  pruned_no_better k chained best limit col same dear (inl broken) =
+      no_better_if_dead ex path k at.alive sheet chained best
       (λ follows. subst (λ (c : List Cell). list_any (newly_broken ex (prefix_at ex path) c) rules_read ≡ true) same
       broken)
-  pruned_no_better k best limit col same dear (inr costs) =
-      no_better_if_costly ex path k at.alive sheet best
+  pruned_no_better k chained best limit col same dear (inr costs) =
+      no_better_if_costly ex path k at.alive sheet chained best
       (some_lower best _ _ (omega (arith, at.paid, at.least, ap (newly_paid ex sheet (prefix_at ex path)) same))
       (dear (newly_paid ex sheet (prefix_at ex path) col) costs))

@@ -1,10 +1,15 @@
 pub mod Blocks
+pub mod Chained
 pub mod Exact
 pub mod FloorLaws
 pub mod Floors
 pub mod Grows
 pub mod Leaves
 pub mod Loads
+pub mod Mixed
+pub mod MixedLoads
+pub mod MixedMenus
+pub mod Naming
 pub mod Nodes
 pub mod Paths
 pub mod Task

@@ -1,41 +1,35 @@
--- The load of a number, and what a search tells that is spent exactly where it must be (`IsExact`).
-use Rattle.std.specs.Prelude.{◌≡◌, ℕ, ◌+◌, ◌<◌, ◌↔◌, List}
+-- What a search for the best setting tells within a budget, which is spent exactly where it must be (`IsExact`). Loads are counted over
+-- live prefixes.
+use Rattle.std.specs.Prelude.{ℕ, List}
 use Rattle.fux_grid.specs.declared.cell.Cell.{Cell}
 use Rattle.fux_grid.specs.declared.exercise.Exercise.{Exercise}
 use Rattle.penalty_sheet.specs.declared.sheet.Sheet.{Sheet}
-use Rattle.fux_judge.specs.Lawful.{BoundsLawful, HasNoLawful, IsBest}
-use Rattle.fux_judge.specs.Penalties.{penalty_of}
-use Rattle.floor_tables.specs.Floors.{HasAtMost, HasMany, IsLiveBegun, IsLoaded}
-use Rattle.tree_search.specs.Outcomes.{IfFound, IfSpent, IsSpent, OnNothing}
+use Rattle.tree_search.specs.Quests as quests
 use Rattle.tree_search.specs.declared.outcome.Outcome.{Outcome}
-use Rattle.species_space.specs.Paths.{prefix_at}
+use Rattle.species_space.specs.Paths.{live_at, prefix_at}
+use Rattle.species_space.specs.Trees.{settings}
+
+-- the best setting: it is lawful, no lawful setting has a lesser penalty, and it comes before every other one of equal penalty in reading
+-- order
+abbrev pub IsBest : Exercise → Sheet → List (List Cell) → Type 0
+IsBest ex sheet = quests.IsBest (settings ex sheet)
 
 -- the load of the least penalty, or with no lawful setting the number of all live prefixes, is above the budget
-pub record IsOverBudget (ex : Exercise) (sheet : Sheet) (budget : ℕ) : Type 0 where
-  pub load : (s : List (List Cell)) → IsBest ex sheet s
-      → HasMany (IsLoaded ex sheet (penalty_of ex sheet s)) (budget + 1)
-  pub whole : HasNoLawful ex → HasMany (IsLiveBegun ex sheet) (budget + 1)
+abbrev pub IsOverBudget : Exercise → Sheet → ℕ → Type 0
+IsOverBudget ex sheet = quests.IsOverBudget (settings ex sheet)
 
--- the least number whose load is above the budget; no lawful setting's penalty is lower
-pub record IsLeastOver (ex : Exercise) (sheet : Sheet) (budget bound : ℕ) : Type 0 where
-  pub many : HasMany (IsLoaded ex sheet bound) (budget + 1)
-  pub least : (x : ℕ) → x < bound → HasAtMost (IsLoaded ex sheet x) budget
-  pub reached : BoundsLawful ex sheet bound
+-- the least number whose load is above the budget; no lawful setting's penalty is lower, and the load of the least penalty is above it too
+abbrev pub IsLeastOver : Exercise → Sheet → ℕ → ℕ → Type 0
+IsLeastOver ex sheet = quests.IsLeastOver (settings ex sheet)
 
 -- the best setting, with its penalty, whose load is within the budget
-pub record IsBestWithin (ex : Exercise) (sheet : Sheet) (budget : ℕ) (s : List (List Cell)) (penalty : ℕ) : Type 0 where
-  pub best : IsBest ex sheet s
-  pub charged : penalty ≡ penalty_of ex sheet s
-  pub load : HasAtMost (IsLoaded ex sheet penalty) budget
+abbrev pub IsBestWithin : Exercise → Sheet → ℕ → List (List Cell) → ℕ → Type 0
+IsBestWithin ex sheet = quests.IsBestWithin (settings ex sheet)
 
 -- nothing is lawful, and all live prefixes are within the budget
-pub record IsNothingWithin (ex : Exercise) (sheet : Sheet) (budget : ℕ) : Type 0 where
-  pub none : HasNoLawful ex
-  pub load : HasAtMost (IsLiveBegun ex sheet) budget
+abbrev pub IsNothingWithin : Exercise → Sheet → ℕ → Type 0
+IsNothingWithin ex sheet = quests.IsNothingWithin (settings ex sheet)
 
 -- the answer of a search within a budget: spent exactly where it must be
-pub record IsExact (ex : Exercise) (sheet : Sheet) (budget : ℕ) (outcome : Outcome) : Type 0 where
-  pub found : IfFound outcome (λ path penalty. IsBestWithin ex sheet budget (prefix_at ex path) penalty)
-  pub nothing : OnNothing outcome (IsNothingWithin ex sheet budget)
-  pub over : IsSpent outcome ↔ IsOverBudget ex sheet budget
-  pub spent : IfSpent outcome (IsLeastOver ex sheet budget)
+abbrev pub IsExact : Exercise → Sheet → ℕ → Outcome → Type 0
+IsExact ex sheet = quests.IsExact (settings ex sheet) (live_at ex sheet) (prefix_at ex)

@@ -1,5 +1,5 @@
 -- What stands for a path while a search is there.
-use Rattle.std.specs.Prelude.{◌≡◌, ℕ, ◌*◌, ◌≤◌, true, List, Option, length}
+use Rattle.std.specs.Prelude.{◌≡◌, ℕ, ◌*◌, ◌≤◌, Bool, true, List, Option, length}
 use Rattle.fux_grid.specs.declared.exercise.Exercise.{Exercise}
 use Rattle.penalty_sheet.specs.declared.sheet.Sheet.{Sheet}
 use Rattle.fux_judge.specs.Gauges.{least_of}
@@ -18,10 +18,11 @@ pub record IsNodeOf (ex : Exercise) (sheet : Sheet) (node : Node) (path : List �
   pub little : node.least ≤ 334490640
 
 -- the child of this number is no better than the best leaf so far, at whatever path the node stands
-abbrev pub HasNoBetter : Exercise → Sheet → Node → Option ℕ → ℕ → Type 0
-HasNoBetter ex sheet node best k = (path : List ℕ) → IsNodeOf ex sheet node path → IsNoBetter ex sheet path best k
+abbrev pub HasNoBetter : Bool → Exercise → Sheet → Node → Option ℕ → ℕ → Type 0
+HasNoBetter chained ex sheet node best k =
+    (path : List ℕ) → IsNodeOf ex sheet node path → IsNoBetter chained ex sheet path best k
 
 -- and so is each from one number up to another
-abbrev pub PassesOver : Exercise → Sheet → Node → Option ℕ → ℕ → ℕ → Type 0
-PassesOver ex sheet node best from to =
-    (path : List ℕ) → IsNodeOf ex sheet node path → ArePassed ex sheet path best from to
+abbrev pub PassesOver : Bool → Exercise → Sheet → Node → Option ℕ → ℕ → ℕ → Type 0
+PassesOver chained ex sheet node best from to =
+    (path : List ℕ) → IsNodeOf ex sheet node path → ArePassed chained ex sheet path best from to

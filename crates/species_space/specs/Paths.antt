@@ -18,7 +18,7 @@ use Rattle.penalty_sheet.specs.declared.sheet.Sheet.{Sheet}
 use Rattle.fux_judge.specs.Rules.{rules_read}
 use Rattle.fux_judge.specs.Penalties.{has_strict_break, newly_broken}
 use Rattle.fux_judge.proofs.Grows.{strict_break_grows}
-use Rattle.floor_tables.specs.Floors.{floor_of}
+use Rattle.species_space.specs.Chained.{floor_with}
 
 -- the columns on a path from column i on: each number chooses one of the column's menu
 abbrev pub columns_on : Exercise → ℕ → List ℕ → List (List Cell)
@@ -53,9 +53,14 @@ is_alive_path ex path =
     has_voices ex && nat_le (length path) (columns_in ex) && is_in_menus ex 0 path
     && history_follows (reverse (prefix_at ex path)) && not (has_strict_break ex (prefix_at ex path))
 
--- the floor of the prefix that a path leads to, where it is live: no strict break is settled in it, and a chain goes on from it
-unfoldable pub live_at : Exercise → Sheet → List ℕ → Option ℕ
-live_at ex sheet path = if is_alive_path ex path then floor_of ex sheet (prefix_at ex path) else None
+-- the floor of the prefix that a path leads to, where it is live: no strict break is settled in it, and with chains one goes on from it
+unfoldable pub live_with : Bool → Exercise → Sheet → List ℕ → Option ℕ
+live_with chained ex sheet path =
+    if is_alive_path ex path then floor_with chained ex sheet (prefix_at ex path) else None
+
+-- the same with chains
+abbrev pub live_at : Exercise → Sheet → List ℕ → Option ℕ
+live_at ex sheet = live_with true ex sheet
 
 -- how many columns there are to go on with
 abbrev pub width_at : Exercise → List ℕ → ℕ
@@ -66,13 +71,14 @@ abbrev pub column_at : Exercise → List ℕ → ℕ → List Cell
 column_at ex path k = slice_index_or (menu_of ex (length path)) k []
 
 -- the child of this number is dead, or no better than the best leaf so far: its floor is no lower than that leaf's value
-abbrev pub IsNoBetter : Exercise → Sheet → List ℕ → Option ℕ → ℕ → Type 0
-IsNoBetter ex sheet path best k =
-    (floor : ℕ) → live_at ex sheet (path ++ k ∷ []) ≡ Some floor → IsSomeAnd best (λ value. value ≤ floor)
+abbrev pub IsNoBetter : Bool → Exercise → Sheet → List ℕ → Option ℕ → ℕ → Type 0
+IsNoBetter chained ex sheet path best k =
+    (floor : ℕ) → live_with chained ex sheet (path ++ k ∷ []) ≡ Some floor → IsSomeAnd best (λ value. value ≤ floor)
 
 -- and so is each from one number up to another
-abbrev pub ArePassed : Exercise → Sheet → List ℕ → Option ℕ → ℕ → ℕ → Type 0
-ArePassed ex sheet path best from to = (k : ℕ) → from ≤ k → k < to → IsNoBetter ex sheet path best k
+abbrev pub ArePassed : Bool → Exercise → Sheet → List ℕ → Option ℕ → ℕ → ℕ → Type 0
+ArePassed chained ex sheet path best from to =
+    (k : ℕ) → from ≤ k → k < to → IsNoBetter chained ex sheet path best k
 
 -- a path that is longer by a number is alive where the path is, it has room, the number is in the menu, and its column follows
 -- and settles no strict break

@@ -1,6 +1,6 @@
 //! The tree of the settings of an exercise.
 
-ghost use Rattle.std.specs.Prelude.{◌≡◌, ◌<◌, ◌≤◌, ◌+◌, ◌^◌, [], Some, None, OnOk, IfOk, IfErr, IfSome, IfNone, length, slice_index_or};
+ghost use Rattle.std.specs.Prelude.{◌≡◌, ◌<◌, ◌≤◌, ◌+◌, ◌^◌, Bool, [], Some, None, OnOk, IfOk, IfErr, IfSome, IfNone, length, slice_index_or};
 ghost use Rattle.fux_grid.specs.Exercises.{IsValid, columns_in};
 ghost use Rattle.fux_grid.specs.Grid.{items_of};
 ghost use Rattle.fux_grid.specs.Menus.{menu_of};
@@ -8,11 +8,13 @@ ghost use Rattle.species_space.specs.Blocks.{AreBlocksOf, SkipDead};
 ghost use Rattle.floor_tables.specs.Tables.{AreNarrow, IsRest, TellsWidth};
 ghost use Rattle.species_space.specs.Grows.{paths_grow};
 ghost use Rattle.species_space.specs.Nodes.{IsNodeOf};
-ghost use Rattle.species_space.specs.Paths.{live_at, width_at};
+ghost use Rattle.species_space.specs.Chained.{IsRestWith};
+ghost use Rattle.species_space.specs.Paths.{live_at, live_with, width_at};
 ghost use Rattle.species_space.specs.Task.{AreMenus, IsViewOf, IsReady};
 ghost use Rattle.tree_search.specs.Space.{HasChild, HasLiveChild, IsMadeAgain, IsMadeChild};
 
 use crate::blocks::{BlockMenu, Blocks, MenuView, column_at};
+use crate::columns::MenuColumns;
 use crate::node::Node;
 use crate::walk::next_unpruned;
 use floor_tables::{TableFault, Tables, fill_tables};
@@ -23,7 +25,7 @@ use penalty_sheet::Sheet;
 use std::alloc::Global;
 use std::marker::Model;
 use std::thread::Threads;
-use tree_search::Space;
+use tree_search::{QuestSpace, Space};
 
 /// The settings of an exercise as a tree: a child adds the column of its number, counted from 0, in the menu of the next column. A
 /// child is dead where its column doesn't follow, where a strict break is settled by it, or where no chain goes on from it to the end.
@@ -94,17 +96,6 @@ impl<'a> SpeciesSpace<'a> {
         ensures narrow { AreNarrow self.now.exercise }
     {
         &self.tables
-    }
-
-    /// How many voices there are.
-    pub(crate) fn voices(&self) -> u8
-        ensures value { result ≡ self.now.exercise.voices }
-        ensures fewest { 2 ≤ result }
-        ensures most { result ≤ 4 }
-        ensures short { columns_in self.now.exercise ≤ 192 }
-        ensures valid { IsValid self.now.exercise }
-    {
-        self.exercise.voices
     }
 
     /// The menu of column i.
@@ -205,6 +196,37 @@ impl<'a> Space for SpeciesSpace<'a> {
     }
 }
 
+/// Its live paths are exactly the live prefixes of its exercise, with children in reading order, and its leaves exactly the lawful
+/// settings, with their penalties by its sheet as values.
+impl<'a> QuestSpace for SpeciesSpace<'a> {
+    ghost use Rattle.std.specs.Prelude.{List};
+    ghost use Rattle.fux_grid.specs.declared.cell.Cell.{Cell};
+    ghost use Rattle.species_space.specs.Paths.{prefix_at};
+    ghost use Rattle.species_space.specs.Trees.{settings};
+
+    ghost Step = { List Cell };
+
+    ghost quest = { λ space. settings space.exercise space.sheet };
+
+    ghost there = { λ space. prefix_at space.exercise };
+
+    fn is_tree(&self) {
+        let _ = self.voices();
+    }
+}
+
+impl<'a> MenuColumns for SpeciesSpace<'a> {
+    ghost exercise = { λ space. space.exercise };
+
+    fn voices(&self) -> u8 {
+        self.exercise.voices
+    }
+
+    fn column(&self, i: usize, k: usize) -> &Column {
+        self.tables.column(i, k)
+    }
+}
+
 /// The blocks of a place's menu, which are those of the place before where the menu is kept once for both.
 fn blocks_at(tables: &Tables<'_>, menus: &[BlockMenu], i: usize) -> Blocks
     requires place { i < columns_in tables.now.exercise }
@@ -240,9 +262,9 @@ fn menus_of(
     Ok(menus)
 }
 
-/// The floor of the child of this number and column, where no strict break is settled by it: a chain whose sum is `rest` goes on. The
-/// child is written into the place that is given.
-fn child_by(
+/// The floor of the child of this number and column, where the column follows and settles no strict break: what is to come behind it costs
+/// `rest` at least. The child is written into the place that is given.
+pub(crate) fn child_by(
     exercise: &Exercise,
     sheet: &Sheet,
     node: &Node,
@@ -254,9 +276,11 @@ fn child_by(
     requires valid { IsValid exercise.now }
     requires child { HasChild (IsNodeOf exercise.now sheet.now node.now) (columns_in exercise.now) (width_at exercise.now) k }
     requires column { column.now.items ≡ slice_index_or (menu_of exercise.now node.now.state.newest.len) k [] }
-    requires rest { IsRest exercise.now sheet.now node.now.state.newest.len column.now.items (Some rest) }
     requires small { rest ≤ 2 ^ 61 }
-    ensures { IsMadeChild (IsNodeOf exercise.now sheet.now) (live_at exercise.now sheet.now) k node.now child.new result }
+    ensures { (chained : Bool) →
+        IsRestWith chained exercise.now sheet.now node.now.state.newest.len column.now.items rest →
+        IsMadeChild (IsNodeOf exercise.now sheet.now) (live_with chained exercise.now sheet.now) k
+        node.now child.new result }
 {
     let before = node.state.before(exercise);
     if !cells_follow(before, column.as_slice()) {

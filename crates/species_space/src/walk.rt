@@ -1,12 +1,12 @@
 //! A walk over the columns of a menu that passes over the dead ones, and over those that are no better than the best leaf.
 
-ghost use Rattle.std.specs.Prelude.{◌≡◌, ◌<◌, ◌≤◌, ◌+◌, ◌^◌, ℕ, IfSome, IsSomeAnd, length};
+ghost use Rattle.std.specs.Prelude.{◌≡◌, ◌<◌, ◌≤◌, ◌+◌, ◌^◌, ℕ, Bool, IfSome, IsSomeAnd, length};
 ghost use Rattle.std.specs.Bool.{OnFalse};
 ghost use Rattle.fux_grid.specs.Exercises.{IsValid, columns_in};
 ghost use Rattle.fux_grid.specs.Menus.{menu_of};
 ghost use Rattle.species_space.specs.Blocks.{AreWithin, IsCut, PassesDead, columns_seen};
 ghost use Rattle.species_space.specs.Nodes.{HasNoBetter, IsNodeOf, PassesOver};
-ghost use Rattle.species_space.specs.Task.{IsViewOf};
+ghost use Rattle.species_space.specs.Task.{IsViewOf, Task};
 ghost use Rattle.tree_search.specs.Space.{IsInner};
 
 use crate::blocks::MenuView;
@@ -48,30 +48,71 @@ pub fn limit_of(best: Option<u64>, at_least: u64) -> Option<u64>
     }
 }
 
-/// Whether a child may be better than the best leaf so far, where there is one: by what is paid, what the lines cost at least, and
-/// the rest of its column.
-#[inline]
-fn may_be_better(tables: &Tables<'_>, node: &Node, k: usize, best: Option<u64>) -> bool
-    requires valid { IsValid tables.now.exercise }
-    requires node { IsInner (IsNodeOf tables.now.exercise tables.now.sheet node.now) (columns_in tables.now.exercise) }
-    requires number { k < length (menu_of tables.now.exercise node.now.state.newest.len) }
-    ensures { OnFalse result (HasNoBetter tables.now.exercise tables.now.sheet node.now best k) }
-{
-    let Some(rest) = tables.rest_of_number(node.state.len(), k) else {
-        return false;
-    };
-    match best {
-        Some(value) => node.paid + node.least + rest < value,
-        None => true,
+/// What is known of the rest behind each column.
+pub(crate) trait Rests {
+    /// Whether it is told by chains.
+    ghost chained: { Bool };
+
+    /// The exercise and the sheet by which it is.
+    ghost task: { Self → Task };
+
+    /// Whether a child may be better than the best leaf so far, where there is one: by what is paid, what the lines cost at least, and
+    /// the rest of its column.
+    fn may_be_better(&self, node: &Node, k: usize, best: Option<u64>) -> bool
+        requires valid { IsValid (task self.now).exercise }
+        requires node { IsInner (IsNodeOf (task self.now).exercise (task self.now).sheet node.now)
+            (columns_in (task self.now).exercise) }
+        requires number { k < length (menu_of (task self.now).exercise node.now.state.newest.len) }
+        ensures { OnFalse result
+            (HasNoBetter chained (task self.now).exercise (task self.now).sheet node.now best k) };
+}
+
+/// The least sums over chains.
+impl<'a> Rests for Tables<'a> {
+    ghost use Rattle.std.specs.Prelude.{true};
+
+    ghost chained = { true };
+
+    ghost task = { λ tables. tables };
+
+    #[inline]
+    fn may_be_better(&self, node: &Node, k: usize, best: Option<u64>) -> bool {
+        let Some(rest) = self.rest_of_number(node.state.len(), k) else {
+            return false;
+        };
+        match best {
+            Some(value) => node.paid + node.least + rest < value,
+            None => true,
+        }
+    }
+}
+
+/// No tables: nothing is known of the rest, and it may cost nothing.
+#[derive(Clone, Copy)]
+pub(crate) struct NoTables<'a> {
+    pub(crate) exercise: &'a Exercise<'a>,
+    pub(crate) sheet: &'a Sheet,
+}
+
+impl<'a> Rests for NoTables<'a> {
+    ghost use Rattle.std.specs.Prelude.{false};
+
+    ghost chained = { false };
+
+    ghost task = { λ none. record { exercise = none.exercise.now; sheet = none.sheet.now } };
+
+    #[inline]
+    fn may_be_better(&self, _node: &Node, _k: usize, _best: Option<u64>) -> bool {
+        true
     }
 }
 
 /// The number after the columns that are passed over from this one on, and how many of the lowest voices are known to break no rule;
 /// none where the column has to be tried.
-fn passed_over(
+fn passed_over<R: Rests>(
     exercise: &Exercise,
     sheet: &Sheet,
-    tables: &Tables<'_>,
+    rests: &R,
     node: &Node,
     menu: &MenuView<'_>,
     k: usize,
@@ -79,15 +120,15 @@ fn passed_over(
     best: Option<u64>,
 ) -> Option<(usize, usize)>
     requires valid { IsValid exercise.now }
-    requires tables { tables.now ≡ record { exercise = exercise.now; sheet = sheet.now } }
+    requires rests { R.task rests.now ≡ record { exercise = exercise.now; sheet = sheet.now } }
     requires node { IsInner (IsNodeOf exercise.now sheet.now node.now) (columns_in exercise.now) }
     requires menu { IsViewOf exercise.now node.now.state.newest.len menu.now }
     requires within { k < length (columns_seen menu.now) }
     ensures onward { IfSome result (λ end. k < end.0) }
     ensures within { IfSome result (λ end. end.0 ≤ length (columns_seen menu.now)) }
-    ensures passed { IfSome result (λ end. PassesOver exercise.now sheet.now node.now best k end.0) }
+    ensures passed { IfSome result (λ end. PassesOver R.chained exercise.now sheet.now node.now best k end.0) }
 {
-    if !may_be_better(tables, node, k, best) {
+    if !rests.may_be_better(node, k, best) {
         return Some((k + 1, tried));
     }
     let limit = limit_of(best, node.paid + node.least);
@@ -97,23 +138,23 @@ fn passed_over(
 
 /// The first number, from this one on, of a column that may follow, has a rest, and isn't pruned by the cells of its lowest voices:
 /// they settle no strict break and don't cost too much to be better than the best. The menu's length where there is none.
-pub(crate) fn next_unpruned(
+pub(crate) fn next_unpruned<R: Rests>(
     exercise: &Exercise,
     sheet: &Sheet,
-    tables: &Tables<'_>,
+    rests: &R,
     node: &Node,
     menu: &MenuView<'_>,
     from: usize,
     best: Option<u64>,
 ) -> usize
     requires valid { IsValid exercise.now }
-    requires tables { tables.now ≡ record { exercise = exercise.now; sheet = sheet.now } }
+    requires rests { R.task rests.now ≡ record { exercise = exercise.now; sheet = sheet.now } }
     requires node { IsInner (IsNodeOf exercise.now sheet.now node.now) (columns_in exercise.now) }
     requires menu { IsViewOf exercise.now node.now.state.newest.len menu.now }
     requires within { from ≤ length (columns_seen menu.now) }
     ensures onward { from ≤ result }
     ensures within { result ≤ length (columns_seen menu.now) }
-    ensures passed { PassesOver exercise.now sheet.now node.now best from result }
+    ensures passed { PassesOver R.chained exercise.now sheet.now node.now best from result }
 {
     let before = node.state.before(exercise);
     let mut k = next_choice(menu, before, from, node.hint);
@@ -122,7 +163,7 @@ pub(crate) fn next_unpruned(
         tried = 0;
     }
     while k < menu.len() {
-        let passed = passed_over(exercise, sheet, tables, node, menu, k, tried, best);
+        let passed = passed_over(exercise, sheet, rests, node, menu, k, tried, best);
         let Some((end, sound)) = passed else {
             return k;
         };

@@ -1,28 +1,10 @@
 -- Two searches of a tree that are not spent give one outcome (`outcomes_agree`).
 use Rattle.std.proofs.Common.{◌≡◌, ℕ, ◌⊎◌, inl, inr, ⊎_elim, List, [], ◌∷◌, length, Option, refl, sym, ap₂, subst, ◌∙◌, arith}
-use Rattle.std.proofs.lemmas.Bool.{cases_lt}
 use Rattle.tree_search.specs.Answer.{IsBefore, IsLeaf, IsFirstLeast}
 use Rattle.tree_search.specs.Outcomes.{IsAnswer}
 use Rattle.tree_search.specs.declared.outcome.Outcome.{Outcome}
 use Rattle.tree_search.specs.declared.outcome.Outcome.TheVariants.{Found, Nothing, Spent}
-
--- of two paths of one length, one is before the other, or they are one
-compared : (p q : List ℕ) → length p ≡ length q → (p ≡ q) ⊎ (IsBefore p q ⊎ IsBefore q p)
-compared [] [] same = inl refl
-compared [] (b ∷ q) same = absurd (omega (arith, same))
-compared (a ∷ p) [] same = absurd (omega (arith, same))
-compared (a ∷ p) (b ∷ q) same = ⊎_elim
-    (λ less. inr (inl (inl less)))
-    (λ more. ⊎_elim
-    (λ less. inr (inr (inl less)))
-    (λ no_less.
-    let level : a ≡ b = omega (arith, more, no_less) in
-    ⊎_elim
-    (λ one. inl (ap₂ (λ x xs. x ∷ xs) level one))
-    (λ apart. inr (⊎_elim (λ before. inl (inr (level, before))) (λ after. inr (inr (sym level, after))) apart))
-    (compared p q (omega (arith, same))))
-    (cases_lt b a))
-    (cases_lt a b)
+use Rattle.tree_search.proofs.Order.{compared}
 
 -- there is one first leaf of least value
 first_is_one : (live : List ℕ → Option ℕ) (height : ℕ) (p q : List ℕ) (v w : ℕ)

@@ -11,3 +11,4 @@ pub mod Entered
 pub mod Queues
 pub mod Searches
 pub mod Agreement
+pub mod Quests

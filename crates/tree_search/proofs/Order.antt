@@ -89,3 +89,21 @@ IsBefore-trans (a ∷ p) (b ∷ q) (c ∷ r) (inl h) (inl k) = inl (omega (arith
 IsBefore-trans (a ∷ p) (b ∷ q) (c ∷ r) (inl h) (inr k) = inl (omega (arith, h, k.0))
 IsBefore-trans (a ∷ p) (b ∷ q) (c ∷ r) (inr h) (inl k) = inl (omega (arith, h.0, k))
 IsBefore-trans (a ∷ p) (b ∷ q) (c ∷ r) (inr h) (inr k) = inr (h.0 ∙ k.0, IsBefore-trans p q r h.1 k.1)
+
+-- of two paths of one length, one is before the other, or they are one
+pub compared : (p q : List ℕ) → length p ≡ length q → (p ≡ q) ⊎ (IsBefore p q ⊎ IsBefore q p)
+compared [] [] same = inl refl
+compared [] (b ∷ q) same = absurd (omega (arith, same))
+compared (a ∷ p) [] same = absurd (omega (arith, same))
+compared (a ∷ p) (b ∷ q) same = ⊎_elim
+    (λ less. inr (inl (inl less)))
+    (λ more. ⊎_elim
+    (λ less. inr (inr (inl less)))
+    (λ no_less.
+    let level : a ≡ b = omega (arith, more, no_less) in
+    ⊎_elim
+    (λ one. inl (ap₂ (λ x xs. x ∷ xs) level one))
+    (λ apart. inr (⊎_elim (λ before. inl (inr (level, before))) (λ after. inr (inr (sym level, after))) apart))
+    (compared p q (omega (arith, same))))
+    (cases_lt b a))
+    (cases_lt a b)

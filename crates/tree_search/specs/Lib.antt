@@ -7,3 +7,4 @@ pub mod Entries
 pub mod Queues
 pub mod Trails
 pub mod Fronts
+pub mod Quests

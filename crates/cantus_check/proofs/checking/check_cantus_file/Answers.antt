@@ -1,10 +1,14 @@
-use Rattle.std.proofs.Common.{Result, Ok, Err, refl, sym, subst}
+use Rattle.std.proofs.Common.{List, Result, Ok, Err, refl, sym, subst}
 use Rattle.std.specs.Prelude.{⊤}
 use Rattle.cert_file.specs.declared.verdict.Verdict.{Verdict}
 use Rattle.fux_port.specs.Counts.{Rose}
 use Rattle.cantus_check.specs.Answers.{Answers}
-use Rattle.cantus_check.specs.Checking.{CantusChecking, cantus_subject}
-use Rattle.cantus_check.specs.Judgments.{Finds, Shows}
+use Rattle.cantus_check.specs.Topics.{cantus_subject}
+use Rattle.cantus_law.specs.Claims.{Said}
+use Rattle.cantus_space.specs.declared.plan.CantusPlan.{CantusPlan}
+use Rattle.cert_file.specs.Checking.{Checking}
+use Rattle.cert_file.specs.Judgments.{Finds, Shows}
+use Rattle.fux_pitch.specs.declared.pitch.Pitch.{Pitch}
 use Rattle.cantus_check.specs.declared.checking.CantusFault.{CantusFault}
 use Rattle.cantus_check.proofs.AnswerLemmas.{accepts_valid, judged_answer, opening_answer, starts_answer, unstarted_missing}
 use Rattle.cantus_check.proofs.checking.check_cantus_file.Goals as goal
@@ -53,10 +57,10 @@ returns-in-Ok-judge-clause-answers g c =
     judged_answer plan files c.args.name.now ⊤ said it
     (subst (λ told. Finds (cantus_subject plan) said told c.args.name.now it) c.start.ensures.files
     (subst
-    (λ (k : CantusChecking). Finds (cantus_subject k.plan) k.said (g.F.Shelf.files c.start.new.shelf) c.args.name.now it)
+    (λ (k : Checking CantusPlan Said (List Pitch)). Finds (cantus_subject k.asked) k.head (g.F.Shelf.files c.start.new.shelf) c.args.name.now it)
     opened
     c.in-Ok-judge.ensures.finds))
-    (subst (λ (k : CantusChecking). Shows (cantus_subject k.plan) k.said it) opened c.in-Ok-judge.ensures.shown)
+    (subst (λ (k : Checking CantusPlan Said (List Pitch)). Shows (cantus_subject k.asked) k.head it) opened c.in-Ok-judge.ensures.shown)
 
 pub returns-in-Ok-judge-clause-accepts : goal.returns-in-Ok-judge-clause-accepts
 returns-in-Ok-judge-clause-accepts g c =

@@ -1,7 +1,9 @@
 use Rattle.cantus_text.proofs.HeadRows.{heads-alone}
-use Rattle.cantus_check.specs.Checking.{cantus_subject}
-use Rattle.cantus_check.proofs.OneVerdict.{one_verdict}
+use Rattle.cert_file.proofs.OneVerdict.{one_verdict}
+use Rattle.cantus_check.specs.Topics.{cantus_subject}
+use Rattle.cantus_check.proofs.RefusedLemmas.{cantus_once}
 use Rattle.cantus_check.proofs.one_verdict.verdicts_are_one.Goals as goal
 
 pub returns : goal.returns
-returns c = λ plan bytes it other p q. one_verdict (cantus_subject plan) heads-alone bytes it other p q
+returns c = λ plan bytes it other p q.
+    one_verdict (cantus_subject plan) heads-alone bytes (cantus_once plan bytes) it other p q

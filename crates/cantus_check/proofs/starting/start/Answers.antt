@@ -5,7 +5,7 @@ use Rattle.cert_text.specs.declared.answers.CertFault.TheVariants.{CertHead, Mem
 use Rattle.cert_text.specs.Pieces.{GoesTo, Stands}
 use Rattle.cantus_text.specs.Heads.{IsHeadText}
 use Rattle.cert_file.specs.Readings.{Reading, longest_piece}
-use Rattle.cantus_check.specs.Starts.{IsStarted}
+use Rattle.cert_file.specs.Subjects.{IsOpened}
 use Rattle.cert_file.proofs.FileLemmas.{first_known, front_left, front_written}
 use Rattle.cantus_check.proofs.StartLemmas.{head_stops, started}
 use Rattle.cantus_check.proofs.starting.start.Goals as goal
@@ -30,7 +30,7 @@ returns-in-Ok-clause-starts g c =
     (λ absent. true≢false (sym (c.in_ok-count.ensures.missing (omega (arith, size)) absent)))
     (λ file told. c.in_ok-count.ensures.front file told ∙ ap (λ n. take n file) size) in
     let heads = subst (λ xs. Stands IsHeadText xs c.in-Ok.head.best c.in-Ok.used) read c.in-Ok.ensures.ok in
-    subst (λ (r : Reading). IsStarted IsHeadText files name c.in-Ok.head.best r) (sym c.new.ensures)
+    subst (λ (r : Reading). IsOpened IsHeadText files name c.in-Ok.head.best r) (sym c.new.ensures)
     (started files name (take count buf) known c.in-Ok.head.best c.in-Ok.used count _ heads (sym long)
     (front_left _ (take count buf) count c.in-Ok.used (omega (arith, heads.within, long)) written))
 

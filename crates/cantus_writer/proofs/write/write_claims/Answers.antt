@@ -1,7 +1,7 @@
 use Rattle.std.proofs.Common.{◌≡◌, ◌++◌, ℕ, List, ap, sym, ◌∙◌, subst, arith}
 use Rattle.std.proofs.lemmas.Result.{on_err_weaker, on_ok_weaker}
 use Rattle.cantus_writer.specs.Writing.{claim_lines, lines_left}
-use Rattle.waiting_lines.proofs.Stands.{stands_end, stands_put, stands_stop, with_err}
+use Rattle.fux_port.proofs.Stands.{stands_end, stands_put, stands_stop, with_err}
 use Rattle.fux_port.specs.Written.{StopsShort, appended}
 use Rattle.cantus_writer.proofs.write.write_claims.Goals as goal
 

@@ -1,6 +1,6 @@
 use Rattle.std.proofs.Common.{◌≤◌, length}
 use Rattle.fux_port.specs.Promises.{TakesAll}
-use Rattle.waiting_lines.proofs.Stands.{Stands}
+use Rattle.fux_port.proofs.Stands.{Stands}
 use Rattle.cantus_writer.specs.Writing.{IsWriting, lines_left, to_come}
 use Rattle.cantus_writer.proofs.write.write_claims.Given as goal
 

@@ -6,7 +6,7 @@ use Rattle.cert_law.specs.Certificates.{Begins}
 use Rattle.cert_law.specs.Known.{IsKnown, Tailed, tree_in, ways_of}
 use Rattle.cert_law.specs.WayLaws.{RefutesExcluded}
 use Rattle.cert_tree.specs.Judgings.{IsKept, begun_at, standing_of}
-use Rattle.cert_check.specs.Checking.{IsChecking}
+use Rattle.cert_check.specs.Opening.{IsChecking}
 use Rattle.cert_check.proofs.checker.begun.Goals as goal
 
 pub returns-clause-standing : goal.returns-clause-standing

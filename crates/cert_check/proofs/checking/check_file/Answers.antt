@@ -2,7 +2,7 @@ use Rattle.std.proofs.Common.{Result, Err, refl, sym, subst}
 use Rattle.cert_check.specs.Answers.{Answers}
 use Rattle.cert_check.specs.declared.checking.CheckFault.{CheckFault}
 use Rattle.cert_check.proofs.AnswerLemmas.{answers_moved, starts_answer, unstarted_missing}
-use Rattle.cert_check.proofs.OneVerdict.{accepted_answer}
+use Rattle.cert_check.proofs.RefusedLemmas.{accepted_answer}
 use Rattle.cert_file.specs.declared.verdict.Verdict.{Verdict}
 use Rattle.fux_port.specs.Counts.{Rose}
 use Rattle.fux_port.proofs.Rises.{rose_later}

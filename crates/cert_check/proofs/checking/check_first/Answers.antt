@@ -1,7 +1,9 @@
-use Rattle.std.proofs.Common.{Result, sym, subst}
+use Rattle.std.proofs.Common.{◌≡◌, List, [], Result, refl, sym, subst}
 use Rattle.cert_check.specs.Answers.{Answers}
-use Rattle.cert_check.specs.Checking.{Checking}
-use Rattle.cert_check.specs.Starts.{IsOpened}
+use Rattle.cert_file.specs.Checking.{Checking, opened_at}
+use Rattle.cert_file.specs.Subjects.{IsOpened}
+use Rattle.cert_check.specs.Settings.{Asked, IsOpeningText, Opening}
+use Rattle.fux_grid.specs.declared.cell.Cell.{Cell}
 use Rattle.cert_check.specs.declared.checking.CheckFault.{CheckFault}
 use Rattle.cert_check.proofs.AnswerLemmas.{first_opened, opening_answer, unopened_narrow}
 use Rattle.cert_file.specs.Readings.{Reading}
@@ -27,7 +29,11 @@ returns-in-Err-clause-narrow g c =
 pub judge_claims-requires-clause-opened : goal.judge_claims-requires-clause-opened
 judge_claims-requires-clause-opened g c =
     let files = g.F.Shelf.files c.args.shelf.now in
-    subst (λ (k : Checking). IsOpened k.exercise files c.args.name.now k.head k.stated c.behind.result)
+    subst (λ (k : Checking Asked Opening (List (List Cell))). IsOpened (IsOpeningText k.asked.exercise) files c.args.name.now k.head c.behind.result)
     (sym c.in-Ok.ensures.opened)
-    (subst (λ (r : Reading). IsOpened c.args.ex.now files c.args.name.now c.args.head _ r) (sym c.behind.ensures)
+    (subst (λ (r : Reading). IsOpened (IsOpeningText c.args.ex.now) files c.args.name.now _ r) (sym c.behind.ensures)
     (first_opened c.args.ex.now files c.args.name.now c.args.head c.args.pieces c.requires.started))
+
+pub judge_claims-requires-clause-fresh : goal.judge_claims-requires-clause-fresh
+judge_claims-requires-clause-fresh g c =
+    subst (λ (k : Checking Asked Opening (List (List Cell))). k ≡ opened_at k.asked k.head []) (sym c.in-Ok.ensures.opened) refl

@@ -1,7 +1,10 @@
-use Rattle.std.proofs.Common.{◌≡◌, Some, Result, length, sym, ap, subst, ◌∙◌, arith}
+use Rattle.std.proofs.Common.{◌≡◌, List, [], Some, Result, length, refl, sym, ap, subst, ◌∙◌, arith}
 use Rattle.cert_check.specs.Answers.{Answers, unstarted}
-use Rattle.cert_check.specs.Checking.{Checking}
-use Rattle.cert_check.specs.Starts.{IsEntered, IsOpened, IsStatedWhole}
+use Rattle.cert_file.specs.Checking.{Checking, opened_at}
+use Rattle.cert_file.specs.Subjects.{IsOpened}
+use Rattle.cert_check.specs.Settings.{Asked, IsOpeningText, Opening}
+use Rattle.cert_check.specs.Starts.{IsEntered, IsStatedWhole}
+use Rattle.fux_grid.specs.declared.cell.Cell.{Cell}
 use Rattle.cert_check.specs.Stating.{Stating, TellsFalse, stating_for}
 use Rattle.cert_check.specs.declared.checking.CheckFault.{CheckFault}
 use Rattle.cert_check.proofs.AnswerLemmas.{answers_moved, opening_answer}
@@ -59,13 +62,16 @@ judge_claims-requires-clause-opened g c =
     let entries = c.enter.new.stated.entries in
     let enters = c.in_default.ensures.enters in
     let claims = c.claims.result in
-    subst (λ (k : Checking). IsOpened k.exercise (g.F.Shelf.files c.enter.new.shelf) name k.head k.stated claims)
+    subst
+    (λ (k : Checking Asked Opening (List (List Cell))).
+    IsOpened (IsOpeningText k.asked.exercise) (g.F.Shelf.files c.enter.new.shelf) name k.head claims)
     (sym c.in-Ok-close.ensures.opened)
     (subst
-    (λ (t : Stating). IsOpened t.exercise (g.F.Shelf.files c.enter.new.shelf) name t.head (Some entries) claims)
+    (λ (t : Stating). IsOpened (IsOpeningText t.exercise) (g.F.Shelf.files c.enter.new.shelf) name
+    (record { head = t.head; stated = Some entries }) claims)
     (sym enters.0)
-    (subst (λ (fs : Files). IsOpened s.exercise fs name s.head (Some entries) claims) (sym c.enter.ensures.files)
-    (subst (λ (r : Reading). IsOpened s.exercise files name s.head (Some entries) r) (sym c.claims.ensures)
+    (subst (λ (fs : Files). IsOpened (IsOpeningText s.exercise) fs name (record { head = s.head; stated = Some entries }) claims) (sym c.enter.ensures.files)
+    (subst (λ (r : Reading). IsOpened (IsOpeningText s.exercise) files name (record { head = s.head; stated = Some entries }) r) (sym c.claims.ensures)
     (claims_opened s.exercise files name s.head entries c.enter.new.reader enters.1))))
 
 pub returns-in-Ok-close-clause-answers : goal.returns-in-Ok-close-clause-answers
@@ -78,8 +84,8 @@ returns-in-Ok-close-clause-answers g c =
     let checker = c.in-Ok-close.checker in
     subst (λ (s : Stating). Answers s.exercise s.sheet files name rose result) c.in-Ok.ensures.opened
     (subst (λ (t : Stating). Answers t.exercise t.sheet files name rose result) c.in_default.ensures.enters.0
-    (subst (λ (k : Checking). Answers k.exercise k.sheet files name rose result) c.in-Ok-close.ensures.opened
-    (answers_moved checker.exercise checker.sheet (g.F.Shelf.files c.enter.new.shelf) name
+    (subst (λ (k : Checking Asked Opening (List (List Cell))). Answers k.asked.exercise k.asked.sheet files name rose result) c.in-Ok-close.ensures.opened
+    (answers_moved checker.asked.exercise checker.asked.sheet (g.F.Shelf.files c.enter.new.shelf) name
     (Rose (g.F.Shelf.faults c.enter.new.shelf) faults) files rose result c.enter.ensures.files
     (rose_later _ _ _ c.enter.ensures.faults) c.judge_claims.ensures.answers)))
 
@@ -102,3 +108,7 @@ returns-in-Err-close-clause-answers g c =
     (closed_answer ex files name c.args.head sheet rose t.entries c.enter.new.reader fault c.in-Ok.ensures.sound whole
     c.enter.ensures.limit
     (subst (λ (s : Stating). TellsFalse s fault) same c.in-Err-close.ensures.refused))
+
+pub judge_claims-requires-clause-fresh : goal.judge_claims-requires-clause-fresh
+judge_claims-requires-clause-fresh g c =
+    subst (λ (k : Checking Asked Opening (List (List Cell))). k ≡ opened_at k.asked k.head []) (sym c.in-Ok-close.ensures.opened) refl

@@ -2,7 +2,7 @@ use Rattle.std.proofs.Common.{◌≡◌, ◌++◌, ℕ, List, ap, sym, ◌∙◌
 use Rattle.std.proofs.lemmas.Result.{on_err_weaker, on_ok_weaker}
 use Rattle.cert_law.specs.Cases.{matter_of}
 use Rattle.cert_writer.specs.Stages.{lines_left}
-use Rattle.waiting_lines.proofs.Stands.{stands_end, stands_put, stands_stop, with_err}
+use Rattle.fux_port.proofs.Stands.{stands_end, stands_put, stands_stop, with_err}
 use Rattle.fux_port.specs.Written.{StopsShort, appended}
 use Rattle.cert_writer.proofs.write.write_lines.Goals as goal
 

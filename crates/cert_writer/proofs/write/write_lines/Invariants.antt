@@ -2,7 +2,7 @@ use Rattle.std.proofs.Common.{◌≤◌, length}
 use Rattle.cert_law.specs.Cases.{matter_of}
 use Rattle.fux_port.specs.Promises.{TakesAll}
 use Rattle.cert_writer.specs.Stages.{AreLines, lines_left}
-use Rattle.waiting_lines.proofs.Stands.{Stands}
+use Rattle.fux_port.proofs.Stands.{Stands}
 use Rattle.cert_writer.proofs.write.write_lines.Given as goal
 
 abbrev pub invariant-loop-line : goal.invariant-loop-line

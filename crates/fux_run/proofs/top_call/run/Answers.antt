@@ -1,7 +1,7 @@
 use Rattle.fux_port.specs.Counts.{Rose}
-use Rattle.fux_run.specs.Commands.{asked, texts}
+use Rattle.command_words.specs.Commands.{asked, texts}
 use Rattle.fux_run.specs.Sinks.{Gets}
-use Rattle.fux_run.proofs.BlameLemmas.{reads_status, writes_status}
+use Rattle.fux_run.proofs.BlameStatuses.{reads_status, writes_status}
 use Rattle.fux_run.proofs.RunLemmas.{RanAs, of_task, ran_complete, ran_missing, ran_missing_within, ran_unreadable, ran_works, run_form, run_known, run_memory_line, run_silent, run_unwritable, run_unwritten, run_usage, run_usage_line}
 use Rattle.fux_run.proofs.SinkLemmas.{gets_none}
 use Rattle.fux_run.proofs.top_call.run.Goals as goal

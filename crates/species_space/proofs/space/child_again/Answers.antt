@@ -1,4 +1,4 @@
-use Rattle.std.proofs.Common.{◌+◌, ◌<◌, List, [], ◌∷◌, ◌++◌, length, slice_index_or, refl, ap, sym, ◌∙◌, subst, arith}
+use Rattle.std.proofs.Common.{◌+◌, ◌<◌, true, List, [], ◌∷◌, ◌++◌, length, slice_index_or, refl, ap, sym, ◌∙◌, subst, arith}
 use Rattle.fux_grid.specs.declared.cell.Cell.{Cell}
 use Rattle.fux_grid.specs.Exercises.{columns_in}
 use Rattle.fux_grid.specs.Menus.{menu_of}
@@ -36,7 +36,7 @@ returns c = λ path at is_live.
     let room : length path < columns_in ex =
     omega (arith, long, as_long ex sheet c.args.node.now child.path child.at, child.above) in
     let same = c.requires.column ∙ ap (λ i. slice_index_or (menu_of ex i) k []) long in
-    let live = path_is_alive ex sheet (path ++ k ∷ []) is_live in
+    let live = path_is_alive true ex sheet (path ++ k ∷ []) is_live in
     let comes = subst (λ (col : List Cell). GoesOn ex p (col ∷ [])) (sym same)
     (goes_on_alive ex path k c.requires.valid.most_voices at.alive live) in
     made_of ex sheet path k c.args.node.now record {
@@ -44,6 +44,6 @@ returns c = λ path at is_live.
       paid = c.args.node.now.paid + c.step_again-paid.result.paid;
       least = c.step_again-paid.result.least;
       hint = k;
-    } c.args.column.now.items c.step_again-paid.result.paid c.args.rest at same room live c.requires.rest
+    } c.args.column.now.items c.step_again-paid.result.paid c.args.rest at same room live true c.requires.rest
     (c.step_again-paid.ensures.state p at.state) refl (c.step_again-paid.ensures.paid p at.state comes) c.step_again-paid.ensures.bound
     (c.step_again-paid.ensures.least p at.state comes.longer) c.step_again-paid.ensures.least_bound

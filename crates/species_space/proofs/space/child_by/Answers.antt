@@ -20,12 +20,12 @@ abbrev chosen : (ex : Exercise) (path : List ℕ) (k n : ℕ) (items : List Cell
 chosen ex path k n items e f = f ∙ ap (λ i. slice_index_or (menu_of ex i) k []) e
 
 pub returns-then-not-cells_follow : goal.returns-then-not-cells_follow
-returns-then-not-cells_follow c = λ path at.
+returns-then-not-cells_follow c = λ chained is path at.
     let ex = c.args.exercise.now in
     let k = c.args.k in
     let same = c.as_slice.ensures.value ∙ chosen ex path k c.args.node.now.state.newest.len c.args.column.now.items
     (as_long ex c.args.sheet.now c.args.node.now path at) c.requires.column in
-    strays ex path k at.alive c.args.sheet.now
+    strays ex path k at.alive chained c.args.sheet.now
     (λ follows.
     let P : List Cell → List Cell → Type 0 = λ b n. ColumnFollows b n in
     let there : ColumnFollows c.before-before.result.now c.as_slice.result.now = subst (P c.before-before.result.now)
@@ -47,7 +47,7 @@ step_unbroken-requires-clause-full c =
     ap length same ∙ menu_of-full ex (length child.path) c.args.k [] child.within
 
 pub returns-in_default : goal.returns-in_default
-returns-in_default c = λ path at.
+returns-in_default c = λ chained is path at.
     let ex = c.args.exercise.now in
     let k = c.args.k in
     let p = prefix_at ex path in
@@ -64,11 +64,11 @@ returns-in_default c = λ path at.
     (c.cells_follow.ensures.0 c.if-not-cells_follow.false)) in
     let comes = subst (λ col. GoesOn ex p (col ∷ [])) (sym same)
     (goes_on_from ex path k c.requires.valid.most_voices at.alive room within there) in
-    breaks ex path k at.alive c.args.sheet.now
+    breaks ex path k at.alive chained c.args.sheet.now
     (ap (λ col. list_any (newly_broken ex p col) rules_read) (sym same) ∙ c.in_default.ensures.broken p at.state comes)
 
 pub returns : goal.returns
-returns c = λ path at.
+returns c = λ chained is path at.
     let ex = c.args.exercise.now in
     let sheet = c.args.sheet.now in
     let k = c.args.k in
@@ -94,6 +94,6 @@ returns c = λ path at.
       paid = c.args.node.now.paid + c.in-Some.price.paid;
       least = c.in-Some.price.least;
       hint = k;
-    } c.args.column.now.items c.in-Some.price.paid c.args.rest at same room live c.requires.rest
+    } c.args.column.now.items c.in-Some.price.paid c.args.rest at same room live chained is
     (c.in-Some.ensures.state p at.state) refl (c.in-Some.ensures.paid p at.state comes) c.in-Some.ensures.bound
     (c.in-Some.ensures.least p at.state comes.longer) c.in-Some.ensures.least_bound

@@ -12,37 +12,37 @@ use Rattle.species_space.proofs.WalkSteps.{column_of_menu, pruned_no_better}
 use Rattle.species_space.proofs.walk.passed_over.Goals as goal
 
 pub may_be_better-requires-clause-valid : goal.may_be_better-requires-clause-valid
-may_be_better-requires-clause-valid c =
-    subst (λ (t : Task). IsValid t.exercise) (sym c.requires.tables) c.requires.valid
+may_be_better-requires-clause-valid g c =
+    subst (λ (t : Task). IsValid t.exercise) (sym c.requires.rests) c.requires.valid
 
 pub may_be_better-requires-clause-number : goal.may_be_better-requires-clause-number
-may_be_better-requires-clause-number c =
+may_be_better-requires-clause-number g c =
     let i = c.args.node.now.state.newest.len in
     let within = subst (λ menu. c.args.k < length menu) c.requires.menu.columns c.requires.within in
-    subst (λ (t : Task). c.args.k < length (menu_of t.exercise i)) (sym c.requires.tables) within
+    subst (λ (t : Task). c.args.k < length (menu_of t.exercise i)) (sym c.requires.rests) within
 
 pub returns-then-not-may_be_better-clause-passed : goal.returns-then-not-may_be_better-clause-passed
-returns-then-not-may_be_better-clause-passed c = λ path at j le lt.
+returns-then-not-may_be_better-clause-passed g c = λ path at j le lt.
     let P : Task → Type 0 = λ t. (other : List ℕ) → IsNodeOf t.exercise t.sheet c.args.node.now other
-    → IsNoBetter t.exercise t.sheet other c.args.best c.args.k in
-    let here : IsNoBetter c.args.exercise.now c.args.sheet.now path c.args.best c.args.k =
-    subst P c.requires.tables (OnFalse_at c.if-not-may_be_better.true c.may_be_better.ensures) path at in
+    → IsNoBetter g.R.Rests.chained t.exercise t.sheet other c.args.best c.args.k in
+    let here : IsNoBetter g.R.Rests.chained c.args.exercise.now c.args.sheet.now path c.args.best c.args.k =
+    subst P c.requires.rests (OnFalse_at c.if-not-may_be_better.true c.may_be_better.ensures) path at in
     let same : c.args.k ≡ j = omega (arith, le, lt) in
-    subst (λ (n : ℕ). IsNoBetter c.args.exercise.now c.args.sheet.now path c.args.best n) same here
+    subst (λ (n : ℕ). IsNoBetter g.R.Rests.chained c.args.exercise.now c.args.sheet.now path c.args.best n) same here
 
 pub pruned_within-requires-clause-room : goal.pruned_within-requires-clause-room
-pruned_within-requires-clause-room c =
+pruned_within-requires-clause-room g c =
     let node = c.requires.node in
     omega (arith, as_long c.args.exercise.now c.args.sheet.now c.args.node.now node.path node.at, node.above)
 
 pub pruned_within-requires-clause-full : goal.pruned_within-requires-clause-full
-pruned_within-requires-clause-full c =
+pruned_within-requires-clause-full g c =
     let within = subst (λ menu. c.args.k < length menu) c.requires.menu.columns c.requires.within in
     ap length c.column.ensures ∙ ap (λ menu. length (slice_index_or menu c.args.k [])) c.requires.menu.columns
     ∙ menu_of-full c.args.exercise.now c.args.node.now.state.newest.len c.args.k [] within
 
 pub returns-clause-passed : goal.returns-clause-passed
-returns-clause-passed c = λ path at j le lt.
+returns-clause-passed g c = λ path at j le lt.
     let ex = c.args.exercise.now in
     let sheet = c.args.sheet.now in
     let menu = columns_seen c.args.menu.now in
@@ -52,7 +52,7 @@ returns-clause-passed c = λ path at j le lt.
     let full : length (slice_index_or menu j []) ≡ ex.voices =
     ap (λ cols. length (slice_index_or cols j [])) c.requires.menu.columns
     ∙ menu_of-full ex i j [] (subst (λ cols. j < length cols) c.requires.menu.columns inside) in
-    pruned_no_better ex sheet c.args.node.now path at j c.args.best c.limit_of-limit.result (slice_index_or menu j [])
+    pruned_no_better ex sheet c.args.node.now path at j g.R.Rests.chained c.args.best c.limit_of-limit.result (slice_index_or menu j [])
     (column_of_menu ex sheet c.args.node.now path at menu j c.requires.menu.columns) c.limit_of-limit.ensures
     (c.in_ok-voices.ensures.pruned _ at.state (slice_index_or menu j []) full
     (block.cells j le lt ∙ ap (take c.in_ok-voices.voices) (sym c.column.ensures)))

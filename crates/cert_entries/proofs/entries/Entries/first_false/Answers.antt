@@ -4,7 +4,7 @@ use Rattle.cert_entries.specs.Listings.{Listing, listing_for}
 use Rattle.cert_entries.proofs.TruthLemmas.{found_of}
 use Rattle.cert_law.specs.Entries.{IsTrueEntry, entry_count}
 use Rattle.cert_text.specs.declared.potential.Potential.{Potential}
-use Rattle.entry_tests.specs.First.{IsFirstFailing}
+use Rattle.cert_entries.specs.First.{IsFirstFailing}
 use Rattle.fux_grid.specs.declared.exercise.Exercise.{Exercise}
 use Rattle.penalty_sheet.specs.declared.sheet.Sheet.{Sheet}
 use Rattle.cert_entries.proofs.entries.Entries.first_false.Goals as goal

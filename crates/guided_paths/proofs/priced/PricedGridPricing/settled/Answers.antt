@@ -1,6 +1,6 @@
 use Rattle.std.proofs.Common.{arith}
-use Rattle.falling_paths.specs.Grid.{start}
-use Rattle.falling_paths.specs.Law.{spot_from-row}
+use Rattle.guided_paths.specs.Grid.{start}
+use Rattle.guided_paths.specs.GridGrows.{spot_from-row}
 use Rattle.guided_paths.specs.Law.{spot_from-within}
 use Rattle.guided_paths.proofs.priced.PricedGridPricing.settled.Goals as goal
 

@@ -1,5 +1,9 @@
-use Rattle.std.proofs.Common.{◌<◌, arith}
+use Rattle.std.proofs.Common.{◌<◌, Some, true, sym, subst, arith}
 use Rattle.fux_grid.specs.Exercises.{columns_in}
+use Rattle.floor_tables.specs.Tables.{IsRest, Task}
+use Rattle.tree_search.specs.Space.{IsMadeChild}
+use Rattle.species_space.specs.Nodes.{IsNodeOf}
+use Rattle.species_space.specs.Paths.{live_at}
 use Rattle.species_space.proofs.Children.{as_long, no_chain}
 use Rattle.species_space.proofs.space.SpeciesSpaceSpace.child_into.Goals as goal
 
@@ -11,3 +15,15 @@ returns-in_err-column c = λ path at.
     let room : node.state.newest.len < columns_in ex =
     omega (arith, as_long ex sheet node c.requires.path c.requires.at, c.requires.above) in
     rw c.from_residual.ensures (no_chain ex sheet node path c.args.k at room c.in_err-column.ensures.none)
+
+pub returns : goal.returns
+returns c =
+    let node = c.args.node.now in
+    let own = subst
+    (λ (t : Task). IsRest t.exercise t.sheet node.state.newest.len c.in_ok-column.column.now.items
+    (Some c.in_ok-column.rest))
+    (sym c.self.view_is) c.in_ok-column.ensures.rest in
+    subst
+    (λ (t : Task). IsMadeChild (IsNodeOf t.exercise t.sheet) (live_at t.exercise t.sheet) c.args.k node
+    c.child_by.new.child c.child_by.result)
+    c.self.view_is (c.child_by.ensures true own)

@@ -1,4 +1,4 @@
-use Rattle.std.proofs.Common.{◌≡◌, ℕ, List, length, ap, sym, ◌∙◌, subst, arith}
+use Rattle.std.proofs.Common.{◌≡◌, true, ℕ, List, length, ap, sym, ◌∙◌, subst, arith}
 use Rattle.fux_grid.specs.Exercises.{columns_in}
 use Rattle.fux_grid.specs.Menus.{menu_of}
 use Rattle.floor_tables.specs.Tables.{Task}
@@ -46,5 +46,5 @@ returns-clause-onward c = c.next_unpruned.ensures.onward
 pub returns-clause-passed : goal.returns-clause-passed
 returns-clause-passed c = λ path at child floor from to there.
     subst (λ (t : Task). (other : List ℕ) → IsNodeOf t.exercise t.sheet c.args.node.now other
-    → ArePassed t.exercise t.sheet other c.args.best c.args.from c.next_unpruned.result)
+    → ArePassed true t.exercise t.sheet other c.args.best c.args.from c.next_unpruned.result)
     c.self.view_is c.next_unpruned.ensures.passed path at child from to floor there

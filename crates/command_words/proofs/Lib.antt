@@ -1,0 +1,4 @@
+pub mod AskedLemmas
+pub mod FormLemmas
+pub mod SimpleForms
+pub mod Taken

@@ -1,0 +1,37 @@
+-- What `clap` finds in the words that it takes (`rows_found`, `none_found`).
+use Rattle.std.proofs.Common.{◌≡◌, List, [], ◌∷◌, true, Option, Some, None, refl}
+use Rattle.std.proofs.lemmas.Bool.{and_parts}
+use Rattle.clap.specs.Words.{App, IsAmong, Kinds, Row, Text, fault_of, is_simple, is_simple_and_free, matches_of}
+use Rattle.clap.specs.declared.error.kind.ErrorKind.{ErrorKind}
+use Rattle.command_words.specs.Commands.{Task, asked_by, found_in, if_faultless}
+
+-- words in which nothing is at fault have these rows
+pub rows_found : (app : App) (words : List Text) (rows : List Row) → fault_of app words ≡ [] → rows
+    ≡ matches_of app words
+    → Some rows ≡ found_in app words
+rows_found app words rows clean is = rw (clean, is) refl
+
+none_if_faulty : {X : Type 0} (kind : ErrorKind) (kinds : Kinds) (x : X) → IsAmong kind kinds → None
+    ≡ if_faultless kinds x
+none_if_faulty kind [] x among = absurd among
+none_if_faulty kind (other ∷ kinds) x among = refl
+
+-- words in which something is at fault have none
+pub none_found : (app : App) (words : List Text) (kind : ErrorKind) → IsAmong kind (fault_of app words) → None
+    ≡ found_in app words
+none_found app words kind among = none_if_faulty kind (fault_of app words) (matches_of app words) among
+
+-- a simple command whose arguments have no rule on another is simple
+pub simple_of : (app : App) → is_simple_and_free app ≡ true → is_simple app ≡ true
+simple_of app both = (and_parts (is_simple app) _ both).0
+
+-- what is asked by the rows that were found
+pub asked_so : (asks : List Row → Option Task) (form other : App) (words : List Text) (rows : List Row)
+    (task : Option Task)
+    → Some rows ≡ found_in form words → form ≡ other → task ≡ asks rows → task ≡ asked_by other asks words
+asked_so asks form other words rows task found same is = rw (← same, ← found) is
+
+-- nothing, where none were
+pub none_asked : (asks : List Row → Option Task) (form other : App) (words : List Text)
+    → None ≡ found_in form words → form ≡ other → None ≡ asked_by other asks words
+none_asked asks form other words found same = rw (← same, ← found) refl

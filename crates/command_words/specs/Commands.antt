@@ -1,0 +1,389 @@
+-- What the words on the command line ask for. A word is its bytes.
+use Rattle.std.specs.Prelude.{◌≡◌, ℕ, ◌+◌, ◌-◌, ◌==◌, ◌≤◌, ◌≤ℤ◌, ◌&&◌, int_le, nat_le, not, length, Bool, true, false, List, [], ◌∷◌, String, Option, Some, None, IfSome, slice_index_or, map, string_bytes, codes, if◌then◌else◌, option_and_then, option_map}
+use Rattle.std.specs.Borrow.{Bor}
+use Rattle.std.specs.Option.{option_map_or}
+use Rattle.std.specs.Str.{bytes_eq}
+use Rattle.clap.specs.Simple.{on_top}
+use Rattle.clap.specs.Words.{App, Kinds, Row, Rule, Text, fault_of, first_of, matches_of, new_app, new_rule, with_rule}
+use Rattle.clap.specs.declared.builder.action.ArgAction.TheVariants.{SetTrue}
+use Rattle.cert_text.specs.declared.answers.Form.{Form}
+use Rattle.cert_text.specs.declared.answers.Form.TheVariants.{First, Second}
+use Rattle.fux_grid.specs.declared.exercise.Head.{Head}
+use Rattle.fux_pitch.specs.Pitch.{key_of}
+use Rattle.fux_text.specs.Names.{mode_named, pitch_named}
+use Rattle.smf_score.specs.Heads.{IsHead}
+use Rattle.text_lines.specs.Numbers.{number_within}
+use Rattle.command_words.specs.declared.command.Command.{Command}
+use Rattle.command_words.specs.declared.command.Command.TheVariants.{Certify, CertifyCantus, Make}
+use Rattle.command_words.specs.declared.command.Job.{Job}
+use Rattle.command_words.specs.declared.command.Job.TheVariants.{Compose, Best, Mark, Cantus, Print, ToSmf}
+use Rattle.command_words.specs.declared.command.MixedJob.{MixedJob}
+use Rattle.command_words.specs.declared.command.MixedJob.TheVariants as mixed
+use Rattle.command_words.specs.declared.command.Making.{Making}
+use Rattle.command_words.specs.declared.command.Making.TheVariants.{OnExercise, OnMixed, Check, FromSmf, Drill, Class, Canon, NewCantus, CheckCantus}
+use Rattle.command_words.specs.declared.command.Wanted.{Wanted}
+
+-- words as their bytes
+abbrev pub texts : {Y : Type 0} → List (String Y) → List Text
+texts words = map string_bytes words
+
+-- a command, with the names of its files
+pub data Task : Type 0 where
+  on_exercise : (name : Text) (sheet : Option Text) (job : Job) → Task
+  on_mixed : (name : Text) (sheet : Option Text) (named : List (Option ℕ)) (job : MixedJob) → Task
+  certify : (name : Text) (sheet : Option Text) (budget : ℕ) (form : Form) → Task
+  check : (name certificate : Text) (sheet : Option Text) → Task
+  fromsmf : (name : Text) (head : Head) → Task
+  drill : (number : ℕ) → Task
+  class_report : (list : Text) → Task
+  find_canon : (name : Text) (sheet : Option Text) (budget : ℕ) → Task
+  find_cantus : (wanted : Wanted) (sheet : Option Text) (budget : ℕ) → Task
+  certify_cantus : (wanted : Wanted) (sheet : Option Text) (budget : ℕ) → Task
+  check_cantus : (wanted : Wanted) (certificate : Text) (sheet : Option Text) → Task
+
+-- the name of a sheet, as its bytes
+abbrev pub sheet_named : Option (Bor (List ℕ)) → Option (List ℕ)
+sheet_named = option_map (λ name. name.now)
+
+-- what a command asks for
+abbrev pub making_task : Making → Task
+making_task (OnExercise name sheet job) = on_exercise name.now (sheet_named sheet) job
+making_task (OnMixed name sheet named job) = on_mixed name.now (sheet_named sheet) named job
+making_task (Check name certificate sheet) = check name.now certificate.now (sheet_named sheet)
+making_task (FromSmf name head) = fromsmf name.now head
+making_task (Drill number) = drill number
+making_task (Class list) = class_report list.now
+making_task (Canon name sheet budget) = find_canon name.now (sheet_named sheet) budget
+making_task (NewCantus wanted sheet budget) = find_cantus wanted (sheet_named sheet) budget
+making_task (CheckCantus wanted certificate sheet) = check_cantus wanted certificate.now (sheet_named sheet)
+
+abbrev pub task_of : Command → Task
+task_of (Make making) = making_task making
+task_of (Certify name sheet budget form) = certify name.now (sheet_named sheet) budget form
+task_of (CertifyCantus wanted sheet budget) = certify_cantus wanted (sheet_named sheet) budget
+
+-- each of four voices has a species from 2 to 5, or none that is named
+pub record AreNamed (named : List (Option ℕ)) : Type 0 where
+  pub four : length named ≡ 4
+  pub each : (v : ℕ) → IfSome (slice_index_or named v None) (λ species. (2 ≤ species) × (species ≤ 5))
+
+-- what is asked of a new cantus is within the limits
+pub record IsWanted (wanted : Wanted) : Type 0 where
+  pub fewest : 3 ≤ wanted.bars
+  pub most : wanted.bars ≤ 24
+  pub rise : key_of wanted.low ≤ℤ key_of wanted.high
+
+-- the head of a command is one that an exercise may have, the species that it names are from 2 to 5, and what it asks of a new cantus is
+-- within the limits
+abbrev pub HasMidiHead : Making → Type 0
+HasMidiHead (OnMixed name sheet named job) = AreNamed named
+HasMidiHead (FromSmf name head) = IsHead head
+HasMidiHead (NewCantus wanted sheet budget) = IsWanted wanted
+HasMidiHead (CheckCantus wanted certificate sheet) = IsWanted wanted
+HasMidiHead _ = Unit {0}
+
+abbrev pub HasHead : Command → Type 0
+HasHead (Make making) = HasMidiHead making
+HasHead (Certify name sheet budget form) = Unit {0}
+HasHead (CertifyCantus wanted sheet budget) = IsWanted wanted
+
+-- ---- the words behind the first, as `clap` takes them: one that must be there, options, each once at most, and flags
+
+abbrev pub needed_word : Text → Rule
+needed_word name = record (new_rule name) { required = true }
+
+abbrev pub option_word : Bool → Text → Rule
+option_word needed name = record (new_rule name) { long = Some name; required = needed }
+
+abbrev pub flag_word : Text → Rule
+flag_word name = record (new_rule name) { long = Some name; action = Some SetTrue }
+
+-- a command of `clap` whose words have no program's name before them
+abbrev pub words_of : Text → App
+words_of name = on_top (λ shape. record shape { no_binary_name = true }) (new_app name)
+
+-- a command with one word that must be there
+abbrev pub one_word : Text → Text → App
+one_word name word = with_rule (words_of name) (needed_word word)
+
+abbrev pub exercise_words : Text → App
+exercise_words name = one_word name (codes "EX")
+
+-- a command that searches, on an exercise
+abbrev pub search_words : Text → App
+search_words name =
+    with_rule (with_rule (exercise_words name) (option_word false (codes "sheet")))
+    (option_word false (codes "budget"))
+
+-- a search that also says a form
+abbrev pub certify_words : App
+certify_words = with_rule (search_words (codes "certify")) (option_word false (codes "form"))
+
+abbrev pub check_words : App
+check_words =
+    with_rule (with_rule (exercise_words (codes "check")) (needed_word (codes "CERT")))
+    (option_word false (codes "sheet"))
+
+abbrev pub drill_words : App
+drill_words = one_word (codes "drill") (codes "N")
+
+abbrev pub class_words : App
+class_words = one_word (codes "class") (codes "LIST")
+
+abbrev pub canon_words : App
+canon_words =
+    with_rule (with_rule (one_word (codes "canon") (codes "FILE")) (option_word false (codes "sheet")))
+    (option_word false (codes "budget"))
+
+abbrev pub mixed_words : App
+mixed_words = with_rule (search_words (codes "mixed")) (option_word true (codes "with"))
+
+abbrev pub mark_mixed_words : App
+mark_mixed_words = with_rule (exercise_words (codes "markmixed")) (option_word true (codes "with"))
+
+-- a command on what is asked of a new cantus
+abbrev pub wanted_words : Text → App
+wanted_words name =
+    with_rule (with_rule (with_rule (one_word name (codes "MODE")) (needed_word (codes "BARS")))
+    (needed_word (codes "LOW"))) (needed_word (codes "HIGH"))
+
+-- one that searches
+abbrev pub new_cantus_words : Text → App
+new_cantus_words name =
+    with_rule (with_rule (wanted_words name) (option_word false (codes "sheet"))) (option_word false (codes "budget"))
+
+abbrev pub check_cantus_words : App
+check_cantus_words =
+    with_rule (with_rule (wanted_words (codes "checkcantus")) (needed_word (codes "CERT")))
+    (option_word false (codes "sheet"))
+
+-- what says how a file is to be read, each of which must be there
+abbrev pub head_words : App → App
+head_words app =
+    with_rule (with_rule (with_rule (with_rule app (option_word true (codes "mode")))
+    (option_word true (codes "species")))
+    (option_word true (codes "voice"))) (option_word true (codes "cantus"))
+
+abbrev pub fromsmf_words : App
+fromsmf_words = with_rule (head_words (one_word (codes "fromsmf") (codes "FILE"))) (flag_word (codes "top-first"))
+
+-- a value where there is no fault
+abbrev pub if_faultless : {X : Type 0} → Kinds → X → Option X
+if_faultless [] x = Some x
+if_faultless (fault ∷ faults) x = None
+
+-- the values that `clap` finds in words that it takes
+abbrev pub found_in : App → List Text → Option (List Row)
+found_in app words = if_faultless (fault_of app words) (matches_of app words)
+
+-- ---- what the values ask for
+
+-- the first that is missing gives none
+infixl 10 ◌>>=◌
+abbrev pub ◌>>=◌ : {A B : Type 0} → Option A → (A → Option B) → Option B
+x >>= f = option_and_then f x
+
+-- a number from one to another, in digits without a sign or a leading zero
+abbrev pub number_at : Text → ℕ → ℕ → List Row → Option ℕ
+number_at id least most rows = first_of id rows >>= number_within least most
+
+-- the budget: 1 to 4,000,000, and 1,000,000 where none is given
+abbrev pub budget_in : Option Text → Option ℕ
+budget_in None = Some 1000000
+budget_in (Some text) = number_within 1 4000000 text
+
+-- the form: 1 or 2, and the second where none is given
+abbrev pub form_in : Option Text → Option Form
+form_in None = Some Second
+form_in (Some text) =
+    if bytes_eq text (codes "1") then Some First else (if bytes_eq text (codes "2") then Some Second else None)
+
+-- a flag is given
+abbrev pub is_set : Text → List Row → Bool
+is_set id rows = option_map_or (bytes_eq (codes "true")) (first_of id rows) false
+
+-- a head whose two voices differ
+abbrev pub if_differ : Head → Option Head
+if_differ head = if head.species_voice == head.cantus_voice then None else Some head
+
+-- how a file is to be read
+abbrev pub head_in : List Row → Option Head
+head_in rows = do
+  mode ← first_of (codes "mode") rows >>= mode_named
+  species ← number_at (codes "species") 1 5 rows
+  voice ← number_at (codes "voice") 0 3 rows
+  cantus ← number_at (codes "cantus") 0 3 rows
+  if_differ (record {
+    mode = mode;
+    species = species;
+    species_voice = voice;
+    cantus_voice = cantus;
+    top_first = is_set (codes "top-first") rows;
+  })
+
+-- a search on an exercise, which is this job within a budget
+abbrev pub search_asked : (ℕ → Job) → List Row → Option Task
+search_asked job rows = do
+  name ← first_of (codes "EX") rows
+  budget ← budget_in (first_of (codes "budget") rows)
+  Some (on_exercise name (first_of (codes "sheet") rows) (job budget))
+
+abbrev pub compose_asked : List Row → Option Task
+compose_asked rows = search_asked (λ budget. Compose budget) rows
+
+abbrev pub best_asked : List Row → Option Task
+best_asked rows = search_asked (λ budget. Best budget) rows
+
+abbrev pub certify_asked : List Row → Option Task
+certify_asked rows = do
+  name ← first_of (codes "EX") rows
+  budget ← budget_in (first_of (codes "budget") rows)
+  form ← form_in (first_of (codes "form") rows)
+  Some (certify name (first_of (codes "sheet") rows) budget form)
+
+abbrev pub check_asked : List Row → Option Task
+check_asked rows = do
+  name ← first_of (codes "EX") rows
+  certificate ← first_of (codes "CERT") rows
+  Some (check name certificate (first_of (codes "sheet") rows))
+
+-- a job that needs nothing but an exercise
+abbrev pub job_asked : Job → List Row → Option Task
+job_asked job rows = first_of (codes "EX") rows >>= λ name. Some (on_exercise name None job)
+
+abbrev pub fromsmf_asked : List Row → Option Task
+fromsmf_asked rows = do
+  name ← first_of (codes "FILE") rows
+  head ← head_in rows
+  Some (fromsmf name head)
+
+abbrev pub drill_asked : List Row → Option Task
+drill_asked rows = number_at (codes "N") 0 1000000 rows >>= λ number. Some (drill number)
+
+abbrev pub class_asked : List Row → Option Task
+class_asked rows = first_of (codes "LIST") rows >>= λ list. Some (class_report list)
+
+abbrev pub canon_asked : List Row → Option Task
+canon_asked rows = do
+  name ← first_of (codes "FILE") rows
+  budget ← budget_in (first_of (codes "budget") rows)
+  Some (find_canon name (first_of (codes "sheet") rows) budget)
+
+-- three bytes are an item `V:N` of a voice: its digit, a colon, and the digit of a species from 2 to 5
+abbrev pub is_item : ℕ → ℕ → ℕ → ℕ → Bool
+is_item v voice colon species = (voice == 48 + v) && (colon == 58) && nat_le 50 species && nat_le species 53
+
+-- what a list says of a voice: the species that its first item names, where that is the voice's, and the items behind it, before the first
+-- of which is a comma; none and the whole list where it isn't
+abbrev pub said_of : ℕ → Text → Option ℕ × Text
+said_of v (voice ∷ colon ∷ species ∷ []) =
+    if is_item v voice colon species then (Some (species - 48), []) else (None, voice ∷ colon ∷ species ∷ [])
+said_of v (voice ∷ colon ∷ species ∷ comma ∷ next ∷ rest) =
+    if (comma == 44) && is_item v voice colon species then (Some (species - 48), next ∷ rest)
+    else (None, voice ∷ colon ∷ species ∷ comma ∷ next ∷ rest)
+said_of v list = (None, list)
+
+-- the species that a list names for each of the four voices: it has an item, its voices ascend, and nothing is behind them
+abbrev pub named_in : Text → Option (List (Option ℕ))
+named_in list =
+    let first = said_of 0 list in
+    let second = said_of 1 first.1 in
+    let third = said_of 2 second.1 in
+    let fourth = said_of 3 third.1 in
+    if not (length list == 0) && (length fourth.1 == 0) then Some (first.0 ∷ second.0 ∷ third.0 ∷ fourth.0 ∷ [])
+    else None
+
+abbrev pub mixed_asked : List Row → Option Task
+mixed_asked rows = do
+  name ← first_of (codes "EX") rows
+  named ← first_of (codes "with") rows >>= named_in
+  budget ← budget_in (first_of (codes "budget") rows)
+  Some (on_mixed name (first_of (codes "sheet") rows) named (mixed.Compose budget))
+
+abbrev pub mark_mixed_asked : List Row → Option Task
+mark_mixed_asked rows = do
+  name ← first_of (codes "EX") rows
+  named ← first_of (codes "with") rows >>= named_in
+  Some (on_mixed name None named mixed.Mark)
+
+-- what is wanted, where its range doesn't fall
+abbrev pub if_rising : Wanted → Option Wanted
+if_rising wanted = if int_le (key_of wanted.low) (key_of wanted.high) then Some wanted else None
+
+-- what is asked of a new cantus
+abbrev pub wanted_in : List Row → Option Wanted
+wanted_in rows = do
+  mode ← first_of (codes "MODE") rows >>= mode_named
+  bars ← number_at (codes "BARS") 3 24 rows
+  low ← first_of (codes "LOW") rows >>= pitch_named
+  high ← first_of (codes "HIGH") rows >>= pitch_named
+  if_rising (record { mode = mode; bars = bars; low = low; high = high })
+
+abbrev pub new_cantus_asked : List Row → Option Task
+new_cantus_asked rows = do
+  wanted ← wanted_in rows
+  budget ← budget_in (first_of (codes "budget") rows)
+  Some (find_cantus wanted (first_of (codes "sheet") rows) budget)
+
+abbrev pub certify_cantus_asked : List Row → Option Task
+certify_cantus_asked rows = do
+  wanted ← wanted_in rows
+  budget ← budget_in (first_of (codes "budget") rows)
+  Some (certify_cantus wanted (first_of (codes "sheet") rows) budget)
+
+abbrev pub check_cantus_asked : List Row → Option Task
+check_cantus_asked rows = do
+  wanted ← wanted_in rows
+  certificate ← first_of (codes "CERT") rows
+  Some (check_cantus wanted certificate (first_of (codes "sheet") rows))
+
+-- ---- the commands by their first words
+
+-- what the values in words of a form ask for
+abbrev pub asked_by : App → (List Row → Option Task) → List Text → Option Task
+asked_by form asks words = found_in form words >>= asks
+
+-- what a search asks for in the words behind its name
+abbrev pub search_in : Text → (List Row → Option Task) → List Text → Option Task
+search_in name asks = asked_by (search_words name) asks
+
+-- the same of a search for a new cantus
+abbrev pub cantus_search_in : Text → (List Row → Option Task) → List Text → Option Task
+cantus_search_in name asks = asked_by (new_cantus_words name) asks
+
+-- what a job asks for in the words behind its name
+abbrev pub job_in : Text → Job → List Text → Option Task
+job_in name job = asked_by (exercise_words name) (job_asked job)
+
+-- what a word and those behind it ask for, if they are of the form of a command on new cantus
+abbrev pub asked_of_cantus : Text → List Text → Option Task
+asked_of_cantus word rest =
+    if bytes_eq word (codes "newcantus") then cantus_search_in (codes "newcantus") new_cantus_asked rest
+    else (if bytes_eq word (codes "certcantus") then cantus_search_in (codes "certcantus") certify_cantus_asked rest
+    else (if bytes_eq word (codes "checkcantus") then asked_by check_cantus_words check_cantus_asked rest
+    else None))
+
+-- the same of `best`, of a command on a mixed exercise, or on new cantus
+abbrev pub asked_of_mixed : Text → List Text → Option Task
+asked_of_mixed word rest =
+    if bytes_eq word (codes "best") then search_in (codes "best") best_asked rest
+    else (if bytes_eq word (codes "mixed") then asked_by mixed_words mixed_asked rest
+    else (if bytes_eq word (codes "markmixed") then asked_by mark_mixed_words mark_mixed_asked rest
+    else asked_of_cantus word rest))
+
+-- what the words ask for, if they are of a command's form
+abbrev pub asked : List Text → Option Task
+asked [] = None
+asked (word ∷ rest) =
+    if bytes_eq word (codes "compose") then search_in (codes "compose") compose_asked rest
+    else (if bytes_eq word (codes "certify") then asked_by certify_words certify_asked rest
+    else (if bytes_eq word (codes "check") then asked_by check_words check_asked rest
+    else (if bytes_eq word (codes "mark") then job_in (codes "mark") Mark rest
+    else (if bytes_eq word (codes "cantus") then job_in (codes "cantus") Cantus rest
+    else (if bytes_eq word (codes "print") then job_in (codes "print") Print rest
+    else (if bytes_eq word (codes "tosmf") then job_in (codes "tosmf") ToSmf rest
+    else (if bytes_eq word (codes "fromsmf") then asked_by fromsmf_words fromsmf_asked rest
+    else (if bytes_eq word (codes "drill") then asked_by drill_words drill_asked rest
+    else (if bytes_eq word (codes "class") then asked_by class_words class_asked rest
+    else (if bytes_eq word (codes "canon") then asked_by canon_words canon_asked rest
+    else asked_of_mixed word rest))))))))))

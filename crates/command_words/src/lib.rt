@@ -1,0 +1,8 @@
+//! The words on the command line, and the work that they ask for.
+#![tactic(auto)]
+
+mod command;
+mod forms;
+mod values;
+
+pub use command::{Command, Job, Making, MixedJob, Named, Wanted, parse};

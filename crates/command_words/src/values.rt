@@ -1,0 +1,384 @@
+//! What the values that words give ask for.
+
+ghost use Rattle.std.specs.Prelude.{◌≡◌, ◌≤◌, ◌<◌, IfSome, option_map};
+ghost use Rattle.clap.specs.Words.{first_of, found_of, rows_of};
+ghost use Rattle.fux_text.specs.Names.{mode_named};
+ghost use Rattle.smf_score.specs.Heads.{IsHead};
+ghost use Rattle.text_lines.specs.Numbers.{number_within};
+ghost use Rattle.command_words.specs.Commands.{AreNamed, HasHead, IsWanted, best_asked, budget_in, canon_asked, certify_asked, certify_cantus_asked, check_asked, check_cantus_asked, class_asked, compose_asked, drill_asked, form_in, fromsmf_asked, head_in, is_item, is_set, job_asked, mark_mixed_asked, mixed_asked, named_in, new_cantus_asked, number_at, said_of, task_of, wanted_in};
+
+use crate::command::{Command, Job, Making, MixedJob, Named, Wanted};
+use cert_text::Form;
+use clap::ArgMatches;
+use fux_grid::Head;
+use fux_pitch::{Mode, semitone};
+use fux_text::parse_pitch;
+use text_lines::{is_same, parse_number};
+
+const USUAL_BUDGET: u32 = 1_000_000;
+
+const GREATEST_BUDGET: u32 = 4_000_000;
+
+/// The greatest number of a drill.
+const LAST_DRILL: u32 = 1_000_000;
+
+/// The first value of an option or a word.
+fn value<'a>(matches: &ArgMatches<'a>, id: &str) -> Option<&'a str>
+    ensures { option_map (λ text. text.now) result ≡ first_of id.now (rows_of (found_of matches.now)) }
+{
+    matches.get_str(id)
+}
+
+/// The number that a word writes, from one to another, in digits without a sign or a leading zero.
+fn number_within(word: &str, least: u32, most: u32) -> Option<u32>
+    ensures value { result ≡ number_within least most word.now }
+    ensures least { IfSome result (λ n. least ≤ n) }
+    ensures most { IfSome result (λ n. n ≤ most) }
+{
+    let number = parse_number(word.as_bytes())?;
+    if least <= number && number <= most {
+        Some(number)
+    } else {
+        None
+    }
+}
+
+/// The number at an option or a word.
+fn number_at(matches: &ArgMatches<'_>, id: &str, least: u32, most: u32) -> Option<u32>
+    ensures value { result ≡ number_at id.now least most (rows_of (found_of matches.now)) }
+    ensures least { IfSome result (λ n. least ≤ n) }
+    ensures most { IfSome result (λ n. n ≤ most) }
+{
+    number_within(value(matches, id)?, least, most)
+}
+
+/// The budget that a word gives, or the usual one where there is none.
+fn budget_of(word: Option<&str>) -> Option<u32>
+    ensures { result ≡ budget_in (option_map (λ text. text.now) word.entry) }
+{
+    match word {
+        Some(word) => number_within(word, 1, GREATEST_BUDGET),
+        None => Some(USUAL_BUDGET),
+    }
+}
+
+/// The form that a word gives, or the second where there is none.
+fn form_of(word: Option<&str>) -> Option<Form>
+    ensures { result ≡ form_in (option_map (λ text. text.now) word.entry) }
+{
+    match word {
+        None => Some(Form::Second),
+        Some("1") => Some(Form::First),
+        Some("2") => Some(Form::Second),
+        Some(_) => None,
+    }
+}
+
+/// Whether a flag is given.
+fn is_set(matches: &ArgMatches<'_>, id: &str) -> bool
+    ensures { result ≡ is_set id.now (rows_of (found_of matches.now)) }
+{
+    match value(matches, id) {
+        Some(text) => text == "true",
+        None => false,
+    }
+}
+
+/// The mode of a name.
+#[tactic(auto, unfolding(fux_text::specs::Names::mode_named))]
+fn mode_named(word: &str) -> Option<Mode>
+    ensures { result ≡ mode_named word.now }
+{
+    let name = word.as_bytes();
+    if is_same(b"dorian", name) {
+        Some(Mode::Dorian)
+    } else if is_same(b"phrygian", name) {
+        Some(Mode::Phrygian)
+    } else if is_same(b"lydian", name) {
+        Some(Mode::Lydian)
+    } else if is_same(b"mixolydian", name) {
+        Some(Mode::Mixolydian)
+    } else if is_same(b"aeolian", name) {
+        Some(Mode::Aeolian)
+    } else if is_same(b"ionian", name) {
+        Some(Mode::Ionian)
+    } else {
+        None
+    }
+}
+
+/// How a MIDI file is to be read.
+fn head_of(matches: &ArgMatches<'_>) -> Option<Head>
+    ensures value { result ≡ head_in (rows_of (found_of matches.now)) }
+    ensures head { IfSome result IsHead }
+{
+    let mode = mode_named(value(matches, "mode")?)?;
+    let species = number_at(matches, "species", 1, 5)?;
+    let voice = number_at(matches, "voice", 0, 3)?;
+    let cantus = number_at(matches, "cantus", 0, 3)?;
+    if voice == cantus {
+        return None;
+    }
+    Some(Head {
+        mode,
+        species: species as u8,
+        species_voice: voice as u8,
+        cantus_voice: cantus as u8,
+        top_first: is_set(matches, "top-first"),
+    })
+}
+
+/// `compose`, on the exercise of a file.
+pub fn composing<'a>(matches: &ArgMatches<'a>) -> Option<Command<'a>>
+    ensures asked { option_map task_of result ≡ compose_asked (rows_of (found_of matches.now)) }
+    ensures head { IfSome result HasHead }
+{
+    let name = value(matches, "EX")?;
+    let budget = budget_of(value(matches, "budget"))?;
+    let sheet = value(matches, "sheet");
+    let job = Job::Compose { budget };
+    Some(Command::Make(Making::OnExercise { name, sheet, job }))
+}
+
+/// `best`, on the exercise of a file.
+pub fn choosing<'a>(matches: &ArgMatches<'a>) -> Option<Command<'a>>
+    ensures asked { option_map task_of result ≡ best_asked (rows_of (found_of matches.now)) }
+    ensures head { IfSome result HasHead }
+{
+    let name = value(matches, "EX")?;
+    let budget = budget_of(value(matches, "budget"))?;
+    let sheet = value(matches, "sheet");
+    let job = Job::Best { budget };
+    Some(Command::Make(Making::OnExercise { name, sheet, job }))
+}
+
+/// `certify`, on the exercise of a file.
+pub fn certifying<'a>(matches: &ArgMatches<'a>) -> Option<Command<'a>>
+    ensures asked { option_map task_of result ≡ certify_asked (rows_of (found_of matches.now)) }
+    ensures head { IfSome result HasHead }
+{
+    let name = value(matches, "EX")?;
+    let budget = budget_of(value(matches, "budget"))?;
+    let form = form_of(value(matches, "form"))?;
+    let sheet = value(matches, "sheet");
+    Some(Command::Certify {
+        name,
+        sheet,
+        budget,
+        form,
+    })
+}
+
+/// `check`, on the exercise and the certificate of two files.
+pub fn checking<'a>(matches: &ArgMatches<'a>) -> Option<Command<'a>>
+    ensures asked { option_map task_of result ≡ check_asked (rows_of (found_of matches.now)) }
+    ensures head { IfSome result HasHead }
+{
+    let name = value(matches, "EX")?;
+    let certificate = value(matches, "CERT")?;
+    let sheet = value(matches, "sheet");
+    Some(Command::Make(Making::Check {
+        name,
+        certificate,
+        sheet,
+    }))
+}
+
+/// A job that needs nothing but the exercise of a file.
+pub fn job_on<'a>(matches: &ArgMatches<'a>, job: Job) -> Option<Command<'a>>
+    ensures asked { option_map task_of result ≡ job_asked job (rows_of (found_of matches.now)) }
+    ensures head { IfSome result HasHead }
+{
+    let name = value(matches, "EX")?;
+    let sheet = None;
+    Some(Command::Make(Making::OnExercise { name, sheet, job }))
+}
+
+/// `fromsmf`, on a MIDI file.
+pub fn smf_reading<'a>(matches: &ArgMatches<'a>) -> Option<Command<'a>>
+    ensures asked { option_map task_of result ≡ fromsmf_asked (rows_of (found_of matches.now)) }
+    ensures head { IfSome result HasHead }
+{
+    let name = value(matches, "FILE")?;
+    let head = head_of(matches)?;
+    Some(Command::Make(Making::FromSmf { name, head }))
+}
+
+/// `drill`, of a number.
+pub fn drilling<'a>(matches: &ArgMatches<'a>) -> Option<Command<'a>>
+    ensures asked { option_map task_of result ≡ drill_asked (rows_of (found_of matches.now)) }
+    ensures head { IfSome result HasHead }
+{
+    let number = number_at(matches, "N", 0, LAST_DRILL)?;
+    Some(Command::Make(Making::Drill { number }))
+}
+
+/// `class`, on a list.
+pub fn classing<'a>(matches: &ArgMatches<'a>) -> Option<Command<'a>>
+    ensures asked { option_map task_of result ≡ class_asked (rows_of (found_of matches.now)) }
+    ensures head { IfSome result HasHead }
+{
+    let list = value(matches, "LIST")?;
+    Some(Command::Make(Making::Class { list }))
+}
+
+/// `canon`, on the text of a canon in a file.
+pub fn imitating<'a>(matches: &ArgMatches<'a>) -> Option<Command<'a>>
+    ensures asked { option_map task_of result ≡ canon_asked (rows_of (found_of matches.now)) }
+    ensures head { IfSome result HasHead }
+{
+    let name = value(matches, "FILE")?;
+    let budget = budget_of(value(matches, "budget"))?;
+    let sheet = value(matches, "sheet");
+    Some(Command::Make(Making::Canon {
+        name,
+        sheet,
+        budget,
+    }))
+}
+
+/// Whether three bytes are an item `V:N` of a voice.
+fn is_item(v: u8, voice: u8, colon: u8, species: u8) -> bool
+    requires { v < 4 }
+    ensures { result ≡ is_item v voice colon species }
+{
+    voice == b'0' + v && colon == b':' && b'2' <= species && species <= b'5'
+}
+
+/// What a list says of a voice: the species that its first item names, where that is the voice's, and the items behind it; none and the
+/// whole list where it isn't.
+fn said_of(v: u8, list: &[u8]) -> (Option<u8>, &[u8])
+    requires { v < 4 }
+    ensures value { (result.0, result.1.now) ≡ said_of v list.now }
+    ensures species { IfSome result.0 (λ species. (2 ≤ species) × (species ≤ 5)) }
+{
+    match list {
+        [voice, colon, species] if is_item(v, *voice, *colon, *species) => {
+            (Some(*species - b'0'), &[])
+        }
+        [voice, colon, species, b',', rest @ ..]
+            if !rest.is_empty() && is_item(v, *voice, *colon, *species) => {
+            (Some(*species - b'0'), rest)
+        }
+        _ => (None, list),
+    }
+}
+
+/// The species that a list `V:N,V:N` names for each voice, in ascending order of the voices.
+fn named_in(list: &str) -> Option<Named>
+    ensures value { result ≡ named_in list.now }
+    ensures named { IfSome result AreNamed }
+{
+    let list = list.as_bytes();
+    let (first, rest) = said_of(0, list);
+    let (second, rest) = said_of(1, rest);
+    let (third, rest) = said_of(2, rest);
+    let (fourth, rest) = said_of(3, rest);
+    if list.is_empty() || !rest.is_empty() {
+        return None;
+    }
+    Some([first, second, third, fourth])
+}
+
+/// `mixed`, on the exercise of a file.
+pub fn mixing<'a>(matches: &ArgMatches<'a>) -> Option<Command<'a>>
+    ensures asked { option_map task_of result ≡ mixed_asked (rows_of (found_of matches.now)) }
+    ensures head { IfSome result HasHead }
+{
+    let name = value(matches, "EX")?;
+    let list = value(matches, "with")?;
+    let named = named_in(list)?;
+    let budget = budget_of(value(matches, "budget"))?;
+    let sheet = value(matches, "sheet");
+    let job = MixedJob::Compose { budget };
+    Some(Command::Make(Making::OnMixed {
+        name,
+        sheet,
+        named,
+        job,
+    }))
+}
+
+/// `markmixed`, on the exercise of a file.
+pub fn marking_mixed<'a>(matches: &ArgMatches<'a>) -> Option<Command<'a>>
+    ensures asked { option_map task_of result ≡ mark_mixed_asked (rows_of (found_of matches.now)) }
+    ensures head { IfSome result HasHead }
+{
+    let name = value(matches, "EX")?;
+    let list = value(matches, "with")?;
+    let named = named_in(list)?;
+    let sheet = None;
+    let job = MixedJob::Mark;
+    Some(Command::Make(Making::OnMixed {
+        name,
+        sheet,
+        named,
+        job,
+    }))
+}
+
+/// What is asked of a new cantus.
+fn wanted_of(matches: &ArgMatches<'_>) -> Option<Wanted>
+    ensures value { result ≡ wanted_in (rows_of (found_of matches.now)) }
+    ensures wanted { IfSome result IsWanted }
+{
+    let mode = mode_named(value(matches, "MODE")?)?;
+    let bars = number_at(matches, "BARS", 3, 24)?;
+    let low = parse_pitch(value(matches, "LOW")?.as_bytes())?;
+    let high = parse_pitch(value(matches, "HIGH")?.as_bytes())?;
+    if semitone(low) <= semitone(high) {
+        Some(Wanted {
+            mode,
+            bars: bars as u8,
+            low,
+            high,
+        })
+    } else {
+        None
+    }
+}
+
+/// `newcantus`, of what is asked of it.
+pub fn inventing<'a>(matches: &ArgMatches<'a>) -> Option<Command<'a>>
+    ensures asked { option_map task_of result ≡ new_cantus_asked (rows_of (found_of matches.now)) }
+    ensures head { IfSome result HasHead }
+{
+    let wanted = wanted_of(matches)?;
+    let budget = budget_of(value(matches, "budget"))?;
+    let sheet = value(matches, "sheet");
+    Some(Command::Make(Making::NewCantus {
+        wanted,
+        sheet,
+        budget,
+    }))
+}
+
+/// `certcantus`, of what is asked of a cantus.
+pub fn certifying_cantus<'a>(matches: &ArgMatches<'a>) -> Option<Command<'a>>
+    ensures asked { option_map task_of result ≡ certify_cantus_asked (rows_of (found_of matches.now)) }
+    ensures head { IfSome result HasHead }
+{
+    let wanted = wanted_of(matches)?;
+    let budget = budget_of(value(matches, "budget"))?;
+    let sheet = value(matches, "sheet");
+    Some(Command::CertifyCantus {
+        wanted,
+        sheet,
+        budget,
+    })
+}
+
+/// `checkcantus`, of what is asked of a cantus and of the certificate of a file.
+pub fn checking_cantus<'a>(matches: &ArgMatches<'a>) -> Option<Command<'a>>
+    ensures asked { option_map task_of result ≡ check_cantus_asked (rows_of (found_of matches.now)) }
+    ensures head { IfSome result HasHead }
+{
+    let wanted = wanted_of(matches)?;
+    let certificate = value(matches, "CERT")?;
+    let sheet = value(matches, "sheet");
+    Some(Command::Make(Making::CheckCantus {
+        wanted,
+        certificate,
+        sheet,
+    }))
+}

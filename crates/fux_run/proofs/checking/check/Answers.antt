@@ -1,8 +1,0 @@
-use Rattle.fux_run.proofs.CheckLemmas.{checked}
-use Rattle.fux_run.proofs.checking.check.Goals as goal
-
-pub returns-in_ok-output_on-in-Ok-clause-checks : goal.returns-in_ok-output_on-in-Ok-clause-checks
-returns-in_ok-output_on-in-Ok-clause-checks g c =
-    checked c.args.exercise.now c.args.sheet.now (g.F.Shelf.files c.args.shelf.now) c.args.certificate.now _
-    c.in-Ok.verdict c.requires c.in_default.ensures.narrow c.in-Ok.ensures.answers c.in-Ok.ensures.accepts
-    c.in_ok-output_on-in-Ok.ensures

@@ -1,9 +1,0 @@
-use Rattle.fux_run.proofs.BestLemmas.{told_sharply}
-use Rattle.fux_run.proofs.composing.best.Goals as goal
-
-pub returns-in_ok-found_output-in-Ok : goal.returns-in_ok-found_output-in-Ok
-returns-in_ok-found_output-in-Ok g c = record {
-  narrow = c.in-Ok.ensures.0;
-  tells = rw c.in_ok-found_output-in-Ok.ensures
-      (told_sharply c.args.exercise.now c.args.sheet.now c.args.budget c.in-Ok.found c.in-Ok.ensures.1);
-}

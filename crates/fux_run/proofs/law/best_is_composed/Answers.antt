@@ -1,5 +1,0 @@
-use Rattle.fux_run.proofs.AgreeLemmas as agree
-use Rattle.fux_run.proofs.law.best_is_composed.Goals as goal
-
-pub returns : goal.returns
-returns c = record { same = agree.best_is_composed; ends = agree.best_ends_as_composed }

@@ -1,5 +1,0 @@
-mod Best
-mod Children
-mod Leaves
-mod MenuLemmas
-mod NamingLemmas

@@ -1,2 +1,0 @@
-pub mod GoesOn
-pub mod LeadLaw

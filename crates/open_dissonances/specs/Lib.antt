@@ -1,4 +1,0 @@
-pub mod Asked
-pub mod Ligatures
-pub mod Passing
-pub mod Steps

@@ -1,3 +1,0 @@
-pub mod BarLineLaw
-pub mod GoesOn
-mod SameOpen

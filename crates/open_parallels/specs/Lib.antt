@@ -1,2 +1,0 @@
-pub mod BarLines
-pub mod Steps

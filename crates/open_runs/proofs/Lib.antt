@@ -1,4 +1,0 @@
-pub mod InARow
-pub mod RunsPaid
-pub mod RunsTold
-mod SameRuns

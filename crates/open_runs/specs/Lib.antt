@@ -1,2 +1,0 @@
-pub mod BarRuns
-pub mod Steps

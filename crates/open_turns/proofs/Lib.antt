@@ -1,3 +1,0 @@
-pub mod GoesOn
-mod SameOpen
-pub mod TurnLaw

@@ -1,0 +1,31 @@
+use Rattle.std.proofs.Common.{◌≡◌, ◌<◌, false, refl, length, sym, ◌∙◌, subst, arith}
+use Rattle.fux_grid.specs.Menus.{menu_of}
+use Rattle.floor_tables.specs.Tables.{Task}
+use Rattle.tree_search.specs.Space.{IsMadeChild}
+use Rattle.species_space.specs.Nodes.{IsNodeOf}
+use Rattle.species_space.specs.Paths.{live_with, prefix_at, length-columns_on}
+use Rattle.species_space.proofs.mixed_space.MixedSpaceSpace.child_into.Goals as goal
+
+pub column-column-requires-clause-place : goal.column-column-requires-clause-place
+column-column-requires-clause-place c =
+    let ex = c.args.self.now.exercise in
+    omega (
+      arith,
+      c.len.ensures ex (prefix_at ex c.requires.path) c.requires.at.state,
+      length-columns_on ex 0 c.requires.path,
+      c.requires.above,
+    )
+
+pub column-column-requires-clause-within : goal.column-column-requires-clause-within
+column-column-requires-clause-within c =
+    let ex = c.args.self.now.exercise in
+    let here : c.len.result ≡ length c.requires.path = c.len.ensures ex (prefix_at ex c.requires.path)
+    c.requires.at.state ∙ length-columns_on ex 0 c.requires.path in
+    subst (λ n. c.args.k < length (menu_of ex n)) (sym here) c.requires.within
+
+pub returns : goal.returns
+returns c =
+    subst
+    (λ (t : Task). IsMadeChild (IsNodeOf t.exercise t.sheet) (live_with false t.exercise t.sheet) c.args.k
+    c.args.node.now c.child_by.new.child c.child_by.result)
+    c.self.view_is (c.child_by.ensures false refl)

@@ -1,0 +1,15 @@
+pub mod AgreeLemmas
+pub mod BestLemmas
+pub mod BlameLemmas
+pub mod CanonLemmas
+pub mod CantusCertifyLemmas
+pub mod CantusCheckLemmas
+pub mod CantusLemmas
+pub mod CertifyLemmas
+pub mod CheckLemmas
+pub mod ClassLemmas
+pub mod ContentLemmas
+pub mod MakeLemmas
+pub mod MixedLemmas
+pub mod WithinLemmas
+pub mod WorkLemmas

@@ -1,0 +1,31 @@
+use Rattle.std.proofs.Common.{subst}
+use Rattle.fux_port.specs.Counts.{Rose}
+use Rattle.works.specs.Searched.{IsFound}
+use Rattle.works.proofs.CertifyLemmas.{best_certified, bound_told, none_certified}
+use Rattle.works.proofs.certifying.certify.Goals as goal
+
+pub returns-in-Best-clause-writes : goal.returns-in-Best-clause-writes
+returns-in-Best-clause-writes g c =
+    let space = c.in_ok-space.space in
+    best_certified c.args.budget c.args.form c.args.sheet.now c.args.exercise.now space c.in-Best.score c.in-Best.penalty
+    (Rose (g.K.Sink.faults c.args.out.now) (g.K.Sink.faults c.put_certificate.new.out)) _ _ _
+    c.in_ok-space.ensures.made
+    (subst (IsFound space.exercise space.sheet c.args.budget) c.in-Best.is c.in-Ok.ensures)
+    c.put_certificate.ensures.writes
+
+pub returns-in-Nothing-clause-writes : goal.returns-in-Nothing-clause-writes
+returns-in-Nothing-clause-writes g c =
+    let space = c.in_ok-space.space in
+    none_certified c.args.budget c.args.form c.args.sheet.now c.args.exercise.now space
+    (Rose (g.K.Sink.faults c.args.out.now) (g.K.Sink.faults c.put_certificate-in-Nothing.new.out)) _ _ _
+    c.in_ok-space.ensures.made
+    (subst (IsFound space.exercise space.sheet c.args.budget) c.in-Nothing.is c.in-Ok.ensures)
+    c.put_certificate-in-Nothing.ensures.writes
+
+pub returns-clause-writes : goal.returns-clause-writes
+returns-clause-writes g c =
+    let space = c.in_ok-space.space in
+    bound_told c.args.budget c.args.form c.args.sheet.now c.args.exercise.now space c.in-Spent.bound
+    (Rose (g.K.Sink.faults c.args.out.now) (g.K.Sink.faults c.put_bound.new.out)) _ _ _ c.in_ok-space.ensures.made
+    (subst (IsFound space.exercise space.sheet c.args.budget) c.in-Spent.is c.in-Ok.ensures)
+    c.put_bound.ensures.writes

@@ -1,0 +1,8 @@
+use Rattle.std.proofs.Common.{subst}
+use Rattle.penalty_sheet.proofs.SheetLemmas.{long_sheet}
+use Rattle.class_marker.specs.Markings.{IsContent}
+use Rattle.works.proofs.weighing.sheet_in.Goals as goal
+
+pub returns-in_default : goal.returns-in_default
+returns-in_default c = λ bytes content.
+    long_sheet bytes (subst (λ file. IsContent 65536 file bytes) c.in_default.is content)

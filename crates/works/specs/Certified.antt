@@ -1,0 +1,87 @@
+-- What `certify` makes of an exercise, over a sheet of weights.
+use Rattle.std.specs.Prelude.{◌≡◌, ◌≢◌, ℕ, ◌<◌, ◌≤◌, List, Option, Ok, Err, IfSome, length}
+use Rattle.std.specs.Borrow.{Bor}
+use Rattle.std.specs.List.{AllByRecursion}
+use Rattle.cert_law.specs.Certificates.{IsCertificate}
+use Rattle.cert_law.specs.Rests.{stated_in}
+use Rattle.cert_law.specs.Writer.{claims_of, written_certificate}
+use Rattle.cert_writer.specs.Heads.{head_with}
+use Rattle.floor_tables.specs.Tables.{Task}
+use Rattle.cert_text.specs.declared.answers.CertHead.{CertHead}
+use Rattle.cert_text.specs.declared.answers.CertHead.TheVariants.{Best, Nothing}
+use Rattle.cert_text.specs.declared.answers.Form.{Form}
+use Rattle.cert_text.specs.Potentials.{IsPotential}
+use Rattle.fux_grid.specs.declared.exercise.Exercise.{Exercise}
+use Rattle.fux_grid.specs.Grid.{Grid}
+use Rattle.penalty_sheet.specs.declared.sheet.Sheet.{Sheet}
+use Rattle.species_space.specs.Loads.{IsBestWithin, IsLeastOver, IsNothingWithin}
+use Rattle.works.specs.declared.refusal.Refusal.{Refusal}
+use Rattle.works.specs.declared.refusal.Refusal.TheVariants.{LongCertificate}
+use Rattle.works.specs.declared.work.Output.{Output}
+use Rattle.works.specs.declared.work.Verdict.{Verdict}
+use Rattle.works.specs.declared.work.Verdict.TheVariants.{Favorable, Unfavorable, Spent}
+use Rattle.works.specs.Composed.{TellsAs}
+use Rattle.works.specs.Searched.{IsBestFound, IsNarrow, RefusesWidth}
+use Rattle.works.specs.Texts.{Work}
+
+-- the bytes are the certificate of a form that is written for a head, which is valid; each number that it states is below 2^32
+pub record IsCertificateOf (ex : Exercise) (sheet : Sheet) (form : Form) (head : CertHead) (bytes : List ℕ) : Type 0
+  where
+    pub valid : IsCertificate ex sheet head (stated_in form ex sheet) (claims_of ex sheet head)
+    pub small : IfSome (stated_in form ex sheet) (AllByRecursion IsPotential)
+    pub written : bytes ≡ written_certificate ex sheet form head
+
+-- the certificate of the best setting with its penalty, whose load is within the budget
+pub record CertifiesBest (ex : Exercise) (sheet : Sheet) (budget : ℕ) (form : Form) (bytes : List ℕ) : Type 0 where
+  pub score : Grid
+  pub penalty : ℕ
+  pub best : IsBestFound ex (IsBestWithin ex sheet budget) score penalty
+  pub certificate : IsCertificateOf ex sheet form (Best penalty score) bytes
+
+-- the certificate that no setting is lawful; all live prefixes are within the budget
+pub record CertifiesNone (ex : Exercise) (sheet : Sheet) (budget : ℕ) (form : Form) (bytes : List ℕ) : Type 0 where
+  pub none : IsNothingWithin ex sheet budget
+  pub certificate : IsCertificateOf ex sheet form Nothing bytes
+
+-- what the bytes show of an exercise, by the verdict
+abbrev pub Shows : Exercise → Sheet → ℕ → Form → Verdict → List ℕ → Type 0
+Shows ex sheet budget form =
+    TellsAs (CertifiesBest ex sheet budget form) (CertifiesNone ex sheet budget form) (IsLeastOver ex sheet budget)
+
+-- an output on an exercise none of whose menus is too wide: a certificate that is no longer than one may be, or a bound
+pub record IsCertification (budget : ℕ) (form : Form) (sheet : Sheet) (ex : Exercise) (output : Output) : Type 0 where
+  pub narrow : IsNarrow ex
+  pub shows : Shows ex sheet budget form output.verdict output.bytes
+  pub fits : output.verdict ≢ Spent → length output.bytes ≤ 1073741824
+
+-- the certificate is longer than one may be
+pub record IsOverlong (budget : ℕ) (form : Form) (sheet : Sheet) (ex : Exercise) : Type 0 where
+  pub narrow : IsNarrow ex
+  pub verdict : Verdict
+  pub found : verdict ≢ Spent
+  pub bytes : List ℕ
+  pub shows : Shows ex sheet budget form verdict bytes
+  pub long : 1073741824 < length bytes
+
+-- a refusal of an exercise, before the work or after it
+abbrev pub RefusesCertifying : ℕ → Form → Sheet → Exercise → Refusal → Type 0
+RefusesCertifying budget form sheet ex LongCertificate = IsOverlong budget form sheet ex
+RefusesCertifying budget form sheet ex refusal = RefusesWidth ex refusal
+
+-- `certify` with this budget and this form makes this of an exercise, over the sheet in use
+abbrev pub Certifies : ℕ → Form → Sheet → Exercise → Work → Type 0
+Certifies budget form sheet ex (Ok output) = IsCertification budget form sheet ex output
+Certifies budget form sheet ex (Err refusal) = RefusesCertifying budget form sheet ex refusal
+
+-- the certificate of a head in a form is the output, with this verdict, or it is too long
+abbrev pub CertifiesHead : Exercise → Sheet → Form → CertHead → Verdict → Work → Type 0
+CertifiesHead ex sheet form head verdict (Ok output) =
+    (output.verdict ≡ verdict) × IsCertificateOf ex sheet form head output.bytes × (length output.bytes ≤ 1073741824)
+CertifiesHead ex sheet form head verdict (Err LongCertificate) =
+    IsCertificateOf ex sheet form head (written_certificate ex sheet form head)
+    × (1073741824 < length (written_certificate ex sheet form head))
+CertifiesHead ex sheet form head verdict (Err refusal) = ⊥
+
+-- the same of what a search of a space found
+abbrev pub CertifiesFound : Task → Form → Option (Bor Grid × ℕ) → Verdict → Work → Type 0
+CertifiesFound space form best verdict = CertifiesHead space.exercise space.sheet form (head_with best) verdict

@@ -1,0 +1,91 @@
+//! The command `newcantus`.
+
+ghost use Rattle.std.specs.Prelude.{◌≡◌, ◌++◌, List, ℕ, IfErr, IfOk, string_bytes};
+ghost use Rattle.fux_port.specs.Counts.{Rose};
+ghost use Rattle.works.specs.Blame.{BlamesNoFile, ServesTask};
+ghost use Rattle.command_words.specs.Commands.{IsWanted, find_cantus, sheet_named};
+ghost use Rattle.works.specs.TaskFiles.{as_list};
+ghost use Rattle.works.specs.Composed.{penalty_line};
+ghost use Rattle.works.specs.Invented.{MakesCantus, TellsCantus, cantus_line, plan_of};
+ghost use Rattle.works.specs.Endings.{IsMade};
+ghost use Rattle.works.specs.Works.{Answers, AreContents};
+
+use crate::complaint::Complaint;
+use crate::composing::{bound_text, none_text};
+use crate::drilling::put_pitches;
+use crate::making::{read_weights, said};
+use crate::weighing::sheet_of;
+use crate::work::{Output, Stop, Verdict};
+use cantus_space::{CantusSpace, cantus_of};
+use class_marker::Text;
+use command_words::Wanted;
+use fux_pitch::{Memory, Pitch};
+use fux_port::Shelf;
+use penalty_sheet::Sheet;
+use std::alloc::Global;
+use std::fmt::Write;
+use tree_search::{Outcome, search_quest};
+
+/// The best new cantus that is as is asked, over the sheet of weights in a file where one is named.
+pub fn new_cantus<'a, F: Shelf>(
+    alloc: Global,
+    wanted: Wanted,
+    sheet: Option<&'a str>,
+    budget: u32,
+    shelf: &mut F,
+) -> Result<Output, Complaint<'a>>
+    requires { IsWanted wanted }
+    ensures made { IsMade (find_cantus wanted (sheet_named sheet.entry) budget) (F.files shelf.old)
+        (Rose (F.faults shelf.old) (F.faults shelf.new)) result }
+    ensures served { ServesTask (F.serves shelf.old) (F.files shelf.old)
+        (find_cantus wanted (sheet_named sheet.entry) budget) → IfErr result BlamesNoFile }
+    ensures files { F.files shelf.new ≡ F.files shelf.old }
+{
+    let weights = read_weights(alloc, shelf, sheet)?;
+    said(alloc, "", of_weights(alloc, &wanted, &weights, budget))
+}
+
+/// The best new cantus, over the file of a sheet where one is given.
+fn of_weights(
+    alloc: Global,
+    wanted: &Wanted,
+    weights: &Option<Text>,
+    budget: u32,
+) -> Result<Output, Stop>
+    requires { IsWanted wanted.now }
+    ensures { (sheets : List (List ℕ)) → AreContents 65536 (as_list weights.now) sheets →
+        Answers (MakesCantus wanted.now budget sheets) result }
+{
+    let sheet = sheet_of(alloc, weights)?;
+    Ok(invent(alloc, wanted, &sheet, budget)?)
+}
+
+/// What is written of the best cantus, or that there is none, or a bound.
+fn invent(alloc: Global, wanted: &Wanted, sheet: &Sheet, budget: u32) -> Result<Output, Memory>
+    requires { IsWanted wanted.now }
+    ensures { IfOk result (λ output. TellsCantus (plan_of wanted.now sheet.now) budget output.verdict output.bytes) }
+{
+    let space = CantusSpace::new(wanted.mode, wanted.bars, wanted.low, wanted.high, sheet);
+    match search_quest(alloc, &space, budget)? {
+        Outcome::Found { path, value } => {
+            let cantus = cantus_of(alloc, &space, path.as_slice())?;
+            Ok(Output::of_text(
+                Verdict::Favorable,
+                best_text(alloc, cantus.as_slice(), value)?,
+            ))
+        }
+        Outcome::Nothing => Ok(Output::of_text(Verdict::Unfavorable, none_text(alloc)?)),
+        Outcome::Spent { bound } => Ok(Output::of_text(Verdict::Spent, bound_text(alloc, bound)?)),
+    }
+}
+
+/// The lines of a cantus and of a penalty.
+fn best_text(alloc: Global, cantus: &[Pitch], penalty: u64) -> Result<String, Memory>
+    ensures { IfOk result (λ text. string_bytes text ≡ cantus_line cantus.now ++ penalty_line penalty) }
+{
+    let mut text = String::new(alloc);
+    text.push_str("cantus")?;
+    put_pitches(&mut text, cantus)?;
+    write!(text, "\n; penalty {penalty}\n")?;
+    Ok(text)
+}

@@ -1,0 +1,33 @@
+//! What each command makes of its files, and what is said where it makes nothing.
+#![tactic(auto)]
+
+mod cantus_certifying;
+mod cantus_checking;
+mod certifying;
+mod checking;
+mod classing;
+mod complaint;
+mod composing;
+mod content;
+mod drilling;
+mod exercise;
+mod imitating;
+mod inventing;
+mod law;
+mod making;
+mod marking;
+mod mixing;
+mod playing;
+mod refusal;
+mod rendering;
+mod searching;
+mod weighing;
+mod work;
+
+pub use cantus_certifying::perform_cantus;
+pub use certifying::perform_certify;
+pub use complaint::{Complaint, FileName};
+pub use law::best_is_composed;
+pub use making::make;
+pub use refusal::Refusal;
+pub use work::{Output, Verdict};

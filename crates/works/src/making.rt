@@ -1,0 +1,243 @@
+//! What a command makes of its files.
+
+ghost use Rattle.std.specs.Prelude.{◌≡◌, ◌≤◌, IfErr};
+ghost use Rattle.fux_grid.specs.Exercises.{IsValid};
+ghost use Rattle.fux_port.specs.Counts.{Rose};
+ghost use Rattle.fux_port.specs.Promises.{Keeps, ServesWhole};
+ghost use Rattle.works.specs.Blame.{BlamesNoFile, BlamesNoWrite, CouldWrite, IsReadWithin, ServesNames, ServesTask};
+ghost use Rattle.command_words.specs.Commands.{HasMidiHead, making_task, sheet_named};
+ghost use Rattle.works.specs.TaskFiles.{as_list};
+ghost use Rattle.works.specs.Complaints.{refusal_text};
+ghost use Rattle.works.specs.Endings.{IsMade, Says, SaysRefusal, SaysWithin, SaysWritten};
+ghost use Rattle.works.specs.Works.{Answers, ChecksTexts, MakesOf, MakesOfText, OnTexts, ReadsSheetFile};
+
+use crate::cantus_checking::checked_cantus;
+use crate::checking::check;
+use crate::classing::class;
+use crate::complaint::{Complaint, FileName};
+use crate::composing::{best, compose};
+use crate::content::read_content;
+use crate::drilling::drill;
+use crate::exercise::{LONGEST_TEXT, exercise_of};
+use crate::imitating::canon;
+use crate::inventing::new_cantus;
+use crate::marking::{cantus, mark};
+use crate::mixing::on_mixed;
+use crate::playing::{LONGEST_MIDI, from_smf};
+use crate::refusal::{Refusal, refusal_text};
+use crate::rendering::{print, to_smf};
+use crate::weighing::sheet_of;
+use crate::work::{Halt, Output, Stop, Unmade, Verdict};
+use class_marker::Text;
+use command_words::{Job, Making};
+use fux_grid::Exercise;
+use fux_pitch::Memory;
+use fux_port::Shelf;
+use penalty_sheet::Sheet;
+use std::alloc::Global;
+use std::thread::Threads;
+
+/// What a command makes of its files, all of which are read before its work.
+pub fn make<'a, F: Shelf, R: Threads + Sync>(
+    rt: &R,
+    alloc: Global,
+    making: Making<'a>,
+    shelf: &mut F,
+) -> Result<Output, Complaint<'a>>
+    requires { HasMidiHead making }
+    ensures made { IsMade (making_task making.entry) (F.files shelf.old)
+        (Rose (F.faults shelf.old) (F.faults shelf.new)) result }
+    ensures served { ServesTask (F.serves shelf.old) (F.files shelf.old) (making_task making.entry)
+        → IfErr result BlamesNoFile }
+    ensures files { F.files shelf.new ≡ F.files shelf.old }
+{
+    match making {
+        Making::OnExercise { name, sheet, job } => {
+            let text = read_content(alloc, shelf, name, LONGEST_TEXT)?;
+            let weights = read_weights(alloc, shelf, sheet)?;
+            said(alloc, name, of_texts(rt, alloc, &text, &weights, job))
+        }
+        Making::OnMixed {
+            name,
+            sheet,
+            named,
+            job,
+        } => on_mixed(alloc, name, sheet, &named, job, shelf),
+        Making::Check {
+            name,
+            certificate,
+            sheet,
+        } => {
+            let text = read_content(alloc, shelf, name, LONGEST_TEXT)?;
+            let weights = read_weights(alloc, shelf, sheet)?;
+            said_within(
+                alloc,
+                name,
+                certificate,
+                check_texts(rt, alloc, &text, &weights, shelf, certificate),
+            )
+        }
+        Making::FromSmf { name, head } => {
+            let file = read_content(alloc, shelf, name, LONGEST_MIDI)?;
+            said(alloc, name, from_smf(alloc, &file, &head))
+        }
+        Making::Drill { number } => said(alloc, "", drill(rt, alloc, number)),
+        Making::Class { list } => class(rt, alloc, list, shelf),
+        Making::Canon {
+            name,
+            sheet,
+            budget,
+        } => canon(alloc, name, sheet, budget, shelf),
+        Making::NewCantus {
+            wanted,
+            sheet,
+            budget,
+        } => new_cantus(alloc, wanted, sheet, budget, shelf),
+        Making::CheckCantus {
+            wanted,
+            certificate,
+            sheet,
+        } => checked_cantus(alloc, wanted, certificate, sheet, shelf),
+    }
+}
+
+/// Reads the file of the sheet, where one is named.
+pub fn read_weights<'a, F: Shelf>(
+    alloc: Global,
+    shelf: &mut F,
+    name: Option<&'a str>,
+) -> Result<Option<Text>, Complaint<'a>>
+    ensures reads { ReadsSheetFile (F.files shelf.old) (Rose (F.faults shelf.old) (F.faults shelf.new))
+        (sheet_named name.entry) result }
+    ensures served { ServesNames (F.serves shelf.old) 65536 (as_list (sheet_named name.entry))
+        → IfErr result BlamesNoFile }
+    ensures serving { Keeps (F.serves shelf.old) (F.serves shelf.new) }
+    ensures files { F.files shelf.new ≡ F.files shelf.old }
+    ensures faults { F.faults shelf.old ≤ F.faults shelf.new }
+{
+    match name {
+        None => Ok(None),
+        Some(name) => Ok(Some(read_content(alloc, shelf, name, LONGEST_TEXT)?)),
+    }
+}
+
+/// What a job makes of the text of an exercise, and of the file of a sheet where one is given.
+fn of_texts<R: Threads + Sync>(
+    rt: &R,
+    alloc: Global,
+    text: &Text,
+    weights: &Option<Text>,
+    job: Job,
+) -> Result<Output, Stop>
+    ensures { OnTexts text.now weights.now (λ bytes sheets. Answers (MakesOfText job sheets bytes) result) }
+{
+    let exercise = exercise_of(alloc, text)?;
+    let sheet = sheet_of(alloc, weights)?;
+    of_exercise(rt, alloc, &exercise, &sheet, job)
+}
+
+/// The verdict on the certificate in a file for the exercise of a text, over the file of a sheet where one is given.
+fn check_texts<F: Shelf, R: Threads + Sync>(
+    rt: &R,
+    alloc: Global,
+    text: &Text,
+    weights: &Option<Text>,
+    shelf: &mut F,
+    certificate: &str,
+) -> Result<Output, Unmade>
+    ensures checks { ChecksTexts F.files F.faults certificate.now text.now weights.now shelf.old shelf.new result }
+    ensures served { ServesWhole (F.serves shelf.old) certificate.now 1073741824 → IfErr result IsReadWithin }
+    ensures files { F.files shelf.new ≡ F.files shelf.old }
+    ensures faults { F.faults shelf.old ≤ F.faults shelf.new }
+{
+    let exercise = exercise_of(alloc, text)?;
+    let sheet = sheet_of(alloc, weights)?;
+    check(rt, alloc, &exercise, &sheet, shelf, certificate)
+}
+
+/// What a job makes of an exercise, over a sheet of weights.
+fn of_exercise<R: Threads + Sync>(
+    rt: &R,
+    alloc: Global,
+    exercise: &Exercise,
+    sheet: &Sheet,
+    job: Job,
+) -> Result<Output, Stop>
+    requires { IsValid exercise.now }
+    ensures { Answers (MakesOf job sheet.now exercise.now) result }
+{
+    match job {
+        Job::Compose { budget } => compose(rt, alloc, exercise, sheet, budget),
+        Job::Best { budget } => best(rt, alloc, exercise, sheet, budget),
+        Job::Mark => mark(alloc, exercise),
+        Job::Cantus => cantus(alloc, exercise),
+        Job::Print => print(alloc, exercise),
+        Job::ToSmf => to_smf(alloc, exercise),
+    }
+}
+
+/// The output of an answer, or what is said where there is none, with this name for a text that is refused.
+pub fn said<'a>(
+    alloc: Global,
+    name: &str,
+    answer: Result<Output, Stop>,
+) -> Result<Output, Complaint<'a>>
+    ensures says { Says name.now answer result }
+    ensures reads { IfErr result BlamesNoFile }
+{
+    match answer {
+        Ok(output) => Ok(output),
+        Err(Stop::Refused(refusal)) => Err(refused(alloc, name, &refusal)),
+        Err(Stop::Memory) => Err(Complaint::OutOfMemory),
+    }
+}
+
+/// The output of an answer of a command that reads while it works, or what is said where there is none, with this name for a text
+/// that is refused, and that of the file which is read then.
+pub fn said_within<'a>(
+    alloc: Global,
+    name: &str,
+    within: &'a str,
+    answer: Result<Output, Unmade>,
+) -> Result<Output, Complaint<'a>>
+    ensures says { SaysWithin name.now within.entry.now answer result }
+    ensures reads { IfErr answer IsReadWithin → IfErr result BlamesNoFile }
+{
+    match answer {
+        Ok(output) => Ok(output),
+        Err(Unmade::Stopped(stop)) => said(alloc, name, Err(stop)),
+        Err(Unmade::Unreadable) => Err(Complaint::Unreadable {
+            name: FileName::Given(within),
+        }),
+    }
+}
+
+/// The complaint about a refused file of this name.
+pub fn refused<'a>(alloc: Global, name: &str, refusal: &Refusal) -> Complaint<'a>
+    ensures says { SaysRefusal (refusal_text name.now refusal.now) result }
+    ensures reads { BlamesNoFile result }
+    ensures writes { BlamesNoWrite result }
+{
+    match refusal_text(alloc, name, refusal) {
+        Ok(text) => Complaint::Refused { text },
+        Err(Memory) => Complaint::OutOfMemory,
+    }
+}
+
+/// What is said of a command that wrote while it worked, with this name for a text that is refused.
+pub fn said_of(
+    alloc: Global,
+    name: &str,
+    answer: Result<Verdict, Halt>,
+) -> Result<Verdict, Complaint<'static>>
+    ensures says { SaysWritten name.now answer result }
+    ensures reads { IfErr result BlamesNoFile }
+    ensures writes { IfErr answer CouldWrite → IfErr result BlamesNoWrite }
+{
+    match answer {
+        Ok(verdict) => Ok(verdict),
+        Err(Halt::Stopped(Stop::Refused(refusal))) => Err(refused(alloc, name, &refusal)),
+        Err(Halt::Stopped(Stop::Memory)) => Err(Complaint::OutOfMemory),
+        Err(Halt::Unwritable) => Err(Complaint::Unwritable),
+    }
+}
