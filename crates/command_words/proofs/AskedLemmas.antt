@@ -2,7 +2,7 @@
 -- is missing (`no_name`, `no_budget`).
 use Rattle.std.proofs.Common.{◌≡◌, ℕ, List, Option, Some, None, codes, refl}
 use Rattle.clap.specs.Words.{Row, Text, first_of}
-use Rattle.command_words.specs.Commands.{Task, budget_in}
+use Rattle.command_words.specs.Commands.{Task, ◌>>=◌, budget_in}
 
 -- what a search asks for, where this task is made of a name, a sheet and a budget
 abbrev pub searched : (Text → Option Text → ℕ → Task) → List Row → Option Task
