@@ -1,6 +1,6 @@
 -- In a lawful setting no step of a part is refused, and each leads to what waits behind its column (`followed`): it is enough that its rule
 -- isn't broken by what waited before each column. Of two parts that do the same both do (`both-followed`).
-use Rattle.std.specs.Prelude.{◌≡◌, ℕ, ◌+◌, ◌<◌, ◌&&◌, Bool, true, false, List, [], ◌∷◌, ◌++◌, Option, Some, None, length, reverse, slice_index_or, if◌then◌else◌, refl}
+use Rattle.std.specs.Prelude.{◌≡◌, ℕ, ◌+◌, ◌<◌, Bool, true, false, List, [], ◌∷◌, ◌++◌, Option, Some, None, length, reverse, slice_index_or, if◌then◌else◌, refl}
 use Rattle.std.proofs.Common.{ap, ap₂, sym, ◌∙◌, arith}
 use Rattle.std.proofs.lemmas.List.{get_or-append-add, length-append, length-reverse}
 use Rattle.fux_grid.specs.declared.cell.Cell.{Cell}
@@ -9,7 +9,6 @@ use Rattle.fux_grid.specs.Columns.{Columns, earlier, newest_column}
 use Rattle.fux_grid.specs.Exercises.{IsValid}
 use Rattle.fux_grid.proofs.Histories.{earlier-all, earlier-append, reverse-push}
 use Rattle.fux_judge.specs.Lawful.{IsLawful}
-use Rattle.open_ends.specs.declared.both.Both.{Both}
 use Rattle.open_ends.specs.Parts.{FollowsLawful, HasVoices, both, if_both, where_read}
 
 -- ---- a part of which so much is kept of some columns, the newest first

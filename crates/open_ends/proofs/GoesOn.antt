@@ -1,7 +1,7 @@
 -- Each part of the open ends goes on through a lawful setting (`passing-followed` and so on), and so do all of them (`leads_on`).
-use Rattle.std.specs.Prelude.{◌≡◌, ◌≤◌, ◌<◌, ℕ, ◌+◌, ◌*◌, ◌&&◌, ◌||◌, Bool, true, false, List, [], ◌∷◌, ◌++◌, Option, Some, None, IsSomeAnd, length, reverse, slice_index_or, if◌then◌else◌, refl}
+use Rattle.std.specs.Prelude.{◌≡◌, ◌≤◌, ◌<◌, ℕ, ◌+◌, ◌*◌, ◌&&◌, ◌||◌, Bool, true, false, List, [], ◌∷◌, ◌++◌, Option, Some, None, IsSomeAnd, length, slice_index_or, if◌then◌else◌, refl}
 use Rattle.std.specs.Option.{option_map}
-use Rattle.std.proofs.Common.{ap, ap₂, sym, ◌∙◌, arith}
+use Rattle.std.proofs.Common.{ap, ap₂, arith}
 use Rattle.std.proofs.lemmas.Bool.{and_parts}
 use Rattle.fux_grid.specs.declared.cell.Cell.{Cell}
 use Rattle.fux_grid.specs.declared.exercise.Exercise.{Exercise}
@@ -19,13 +19,12 @@ use Rattle.open_ends.specs.declared.keeps.Keeps.{Keeps}
 use Rattle.open_ends.specs.declared.ligatures.OpenLigature.{OpenLigature}
 use Rattle.open_ends.specs.declared.parallels.OpenParallels.{OpenParallels}
 use Rattle.open_ends.specs.declared.passing.OpenPassing.{OpenPassing}
-use Rattle.open_ends.specs.declared.runs.OpenRuns.{OpenRuns}
 use Rattle.open_ends.specs.declared.suspensions.OpenSuspensions.{OpenSuspensions}
 use Rattle.open_ends.specs.Asked.{is_asked}
 use Rattle.open_ends.specs.BarLines.{arrives, bar_line_in}
 use Rattle.open_ends.specs.BarLines as lines
 use Rattle.open_ends.specs.Cadences as cadences
-use Rattle.open_ends.specs.Ends.{LeadsOn, LeadsThrough, OpenEnds, OpenRules, ends_in, nothing, rules_after, rules_in}
+use Rattle.open_ends.specs.Ends.{LeadsOn, LeadsThrough, ends_in, nothing, rules_after, rules_in}
 use Rattle.open_ends.specs.Leads.{lacks_all, leads_in}
 use Rattle.open_ends.specs.Leads as leads
 use Rattle.open_ends.specs.Ligatures.{is_unresolved, ligature_in}
@@ -34,11 +33,10 @@ use Rattle.open_ends.specs.Notes as notes
 use Rattle.open_ends.specs.Notes.{noted, noted_in, turns_badly, turns_rule}
 use Rattle.open_ends.specs.Parallels as parallels
 use Rattle.open_ends.specs.Parts.{FollowsLawful, HasVoices, both_after}
-use Rattle.open_ends.specs.Passing.{breaks_passing, is_left_badly, is_reached_badly, passing_in}
+use Rattle.open_ends.specs.Passing.{breaks_passing, passing_in}
 use Rattle.open_ends.specs.Passing as passing
 use Rattle.open_ends.specs.Runs.{run_toll, runs_ended, runs_in, runs_paid}
 use Rattle.open_ends.specs.Runs as runs
-use Rattle.open_ends.specs.Shapes as shapes
 use Rattle.open_ends.specs.Suspended.{has_ligatures, is_bad_at, is_unprepared_at, preparation_rule, size_rule, starts_late_after, starts_late_in}
 use Rattle.open_ends.specs.Suspended as suspended
 use Rattle.open_ends.specs.Suspensions.{breaks_preparation, breaks_size}

@@ -1,5 +1,5 @@
 -- What is kept behind a column of the voices that may show their cadence.
-use Rattle.std.specs.Prelude.{ℕ, List, Option, reverse, if◌then◌else◌}
+use Rattle.std.specs.Prelude.{ℕ, List, reverse, if◌then◌else◌}
 use Rattle.fux_grid.specs.declared.cell.Cell.{Cell}
 use Rattle.fux_grid.specs.declared.exercise.Exercise.{Exercise}
 use Rattle.open_ends.specs.declared.cadences.OpenCadences.{OpenCadences}

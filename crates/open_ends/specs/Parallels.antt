@@ -1,5 +1,5 @@
 -- What is kept of perfect intervals at the beginning of a bar behind a column.
-use Rattle.std.specs.Prelude.{ℕ, List, Option, reverse, if◌then◌else◌}
+use Rattle.std.specs.Prelude.{ℕ, List, reverse, if◌then◌else◌}
 use Rattle.fux_grid.specs.declared.cell.Cell.{Cell}
 use Rattle.fux_grid.specs.declared.exercise.Exercise.{Exercise}
 use Rattle.open_ends.specs.declared.parallels.OpenParallels.{OpenParallels}

@@ -1,6 +1,5 @@
 -- What is kept of turning notes behind a column.
-use Rattle.std.specs.Prelude.{ℕ, ◌&&◌, Bool, List, Option, reverse, if◌then◌else◌}
-use Rattle.fux_grid.specs.declared.cell.Cell.{Cell}
+use Rattle.std.specs.Prelude.{◌&&◌, Bool, reverse, if◌then◌else◌}
 use Rattle.fux_grid.specs.declared.exercise.Exercise.{Exercise}
 use Rattle.fux_grid.specs.Cells.{cell_in}
 use Rattle.open_ends.specs.declared.keeps.Keeps.{Keeps}
