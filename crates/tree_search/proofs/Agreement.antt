@@ -1,6 +1,6 @@
 -- Two searches of a tree that are not spent give one outcome (`outcomes_agree`).
-use Rattle.std.proofs.Common.{◌≡◌, ℕ, ◌⊎◌, inl, inr, ⊎_elim, List, [], ◌∷◌, length, Option, refl, sym, ap₂, subst, ◌∙◌, arith}
-use Rattle.tree_search.specs.Answer.{IsBefore, IsLeaf, IsFirstLeast}
+use Rattle.std.proofs.Common.{◌≡◌, ℕ, ⊎_elim, List, Option, refl, sym, ap₂, subst, ◌∙◌, arith}
+use Rattle.tree_search.specs.Answer.{IsLeaf, IsFirstLeast}
 use Rattle.tree_search.specs.Outcomes.{IsAnswer}
 use Rattle.tree_search.specs.declared.outcome.Outcome.{Outcome}
 use Rattle.tree_search.specs.declared.outcome.Outcome.TheVariants.{Found, Nothing, Spent}
