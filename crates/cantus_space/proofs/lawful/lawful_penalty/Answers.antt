@@ -1,4 +1,4 @@
-use Rattle.std.proofs.Common.{◌≡◌, ap, length, reverse, sym, ◌∙◌, arith}
+use Rattle.std.proofs.Common.{◌≡◌, ap, length, reverse, sym, ◌∙◌}
 use Rattle.cantus_space.specs.declared.plan.CantusPlan.{CantusPlan}
 use Rattle.cantus_space.proofs.LawfulLemmas.{floor-whole}
 use Rattle.cantus_space.proofs.lawful.lawful_penalty.Goals as goal
