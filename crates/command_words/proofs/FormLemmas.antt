@@ -1,12 +1,12 @@
 -- What a command of `clap` is with one word, option or flag more (`added`, `grown`), and which rule that word has (`is_needed`,
 -- `is_option`, `is_flag`).
-use Rattle.std.proofs.Common.{◌≡◌, List, ℕ, Bool, true, false, Bor, Some, Result, Ok, Err, IfOk, ap, subst, ◌∙◌}
+use Rattle.std.proofs.Common.{◌≡◌, List, ℕ, Bool, true, false, Bor, Some, Result, Ok, Err, IfOk, ap, ◌∙◌}
 use Rattle.clap.specs.Walk.{rule_of}
 use Rattle.clap.specs.Words.{AddsArg, App, Rule, Text, app_of, new_rule, with_rule}
 use Rattle.clap.specs.declared.builder.action.ArgAction.TheVariants.{SetTrue}
 use Rattle.clap.specs.declared.builder.arg.Arg.{Arg}
 use Rattle.clap.specs.declared.builder.command.Command.{Command}
-use Rattle.command_words.specs.Commands.{flag_word, needed_word, option_word}
+use Rattle.command_words.specs.Forms.{flag_word, needed_word, option_word}
 
 pub added : {X : Type 0} (result : Result Command X) (old : Command) (app : App) (arg : Arg) (rule : Rule) → app_of old
     ≡ app
@@ -33,9 +33,3 @@ pub is_flag : (name : Bor (List ℕ)) (start long arg : Arg) → rule_of start �
 is_flag name start long arg is longer same =
     ap rule_of same ∙ ap {A = Arg} (λ other. rule_of (record other { action = Some SetTrue })) longer
     ∙ ap {A = Rule} (λ rule. record rule { long = Some name.now; action = Some SetTrue }) is
-
--- a command with a rule more, of which the rest is known otherwise
-pub grown : {X : Type 0} (result : Result Command X) (old new : App) (rule : Rule) → old ≡ new
-    → IfOk result (λ longer. app_of longer ≡ with_rule old rule)
-    → IfOk result (λ longer. app_of longer ≡ with_rule new rule)
-grown result old new rule same h = subst (λ app. IfOk result (λ longer. app_of longer ≡ with_rule app rule)) same h

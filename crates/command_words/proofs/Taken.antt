@@ -3,7 +3,9 @@ use Rattle.std.proofs.Common.{◌≡◌, List, [], ◌∷◌, true, Option, Some
 use Rattle.std.proofs.lemmas.Bool.{and_parts}
 use Rattle.clap.specs.Words.{App, IsAmong, Kinds, Row, Text, fault_of, is_simple, is_simple_and_free, matches_of}
 use Rattle.clap.specs.declared.error.kind.ErrorKind.{ErrorKind}
-use Rattle.command_words.specs.Commands.{Task, asked_by, found_in, if_faultless}
+use Rattle.command_words.specs.Commands.{Task, asked_by, asks, found_in, if_faultless}
+use Rattle.command_words.specs.Forms.{form_of}
+use Rattle.command_words.specs.declared.verbs.Verb.{Verb}
 
 -- words in which nothing is at fault have these rows
 pub rows_found : (app : App) (words : List Text) (rows : List Row) → fault_of app words ≡ [] → rows
@@ -26,12 +28,11 @@ pub simple_of : (app : App) → is_simple_and_free app ≡ true → is_simple ap
 simple_of app both = (and_parts (is_simple app) _ both).0
 
 -- what is asked by the rows that were found
-pub asked_so : (asks : List Row → Option Task) (form other : App) (words : List Text) (rows : List Row)
-    (task : Option Task)
-    → Some rows ≡ found_in form words → form ≡ other → task ≡ asks rows → task ≡ asked_by other asks words
-asked_so asks form other words rows task found same is = rw (← same, ← found) is
+pub asked_so : (verb : Verb) (form : App) (words : List Text) (rows : List Row) (task : Option Task)
+    → Some rows ≡ found_in form words → form ≡ form_of verb → task ≡ asks verb rows → task ≡ asked_by verb words
+asked_so verb form words rows task found same is = rw (← same, ← found) is
 
 -- nothing, where none were
-pub none_asked : (asks : List Row → Option Task) (form other : App) (words : List Text)
-    → None ≡ found_in form words → form ≡ other → None ≡ asked_by other asks words
-none_asked asks form other words found same = rw (← same, ← found) refl
+pub none_asked : (verb : Verb) (form : App) (words : List Text) → None ≡ found_in form words → form ≡ form_of verb
+    → None ≡ asked_by verb words
+none_asked verb form words found same = rw (← same, ← found) refl

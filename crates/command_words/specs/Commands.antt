@@ -3,9 +3,7 @@ use Rattle.std.specs.Prelude.{◌≡◌, ℕ, ◌+◌, ◌-◌, ◌==◌, ◌≤
 use Rattle.std.specs.Borrow.{Bor}
 use Rattle.std.specs.Option.{option_map_or}
 use Rattle.std.specs.Str.{bytes_eq}
-use Rattle.clap.specs.Simple.{on_top}
-use Rattle.clap.specs.Words.{App, Kinds, Row, Rule, Text, fault_of, first_of, matches_of, new_app, new_rule, with_rule}
-use Rattle.clap.specs.declared.builder.action.ArgAction.TheVariants.{SetTrue}
+use Rattle.clap.specs.Words.{App, Kinds, Row, Text, fault_of, first_of, matches_of}
 use Rattle.cert_text.specs.declared.answers.Form.{Form}
 use Rattle.cert_text.specs.declared.answers.Form.TheVariants.{First, Second}
 use Rattle.fux_grid.specs.declared.exercise.Head.{Head}
@@ -22,6 +20,10 @@ use Rattle.command_words.specs.declared.command.MixedJob.TheVariants as mixed
 use Rattle.command_words.specs.declared.command.Making.{Making}
 use Rattle.command_words.specs.declared.command.Making.TheVariants.{OnExercise, OnMixed, Check, FromSmf, Drill, Class, Canon, NewCantus, CheckCantus}
 use Rattle.command_words.specs.declared.command.Wanted.{Wanted}
+use Rattle.command_words.specs.declared.verbs.Verb.{Verb}
+use Rattle.command_words.specs.declared.verbs.Verb.TheVariants as verb
+use Rattle.command_words.specs.Forms.{form_of}
+use Rattle.command_words.specs.Verbs.{verb_named}
 
 -- words as their bytes
 abbrev pub texts : {Y : Type 0} → List (String Y) → List Text
@@ -86,86 +88,6 @@ abbrev pub HasHead : Command → Type 0
 HasHead (Make making) = HasMidiHead making
 HasHead (Certify name sheet budget form) = Unit {0}
 HasHead (CertifyCantus wanted sheet budget) = IsWanted wanted
-
--- ---- the words behind the first, as `clap` takes them: one that must be there, options, each once at most, and flags
-
-abbrev pub needed_word : Text → Rule
-needed_word name = record (new_rule name) { required = true }
-
-abbrev pub option_word : Bool → Text → Rule
-option_word needed name = record (new_rule name) { long = Some name; required = needed }
-
-abbrev pub flag_word : Text → Rule
-flag_word name = record (new_rule name) { long = Some name; action = Some SetTrue }
-
--- a command of `clap` whose words have no program's name before them
-abbrev pub words_of : Text → App
-words_of name = on_top (λ shape. record shape { no_binary_name = true }) (new_app name)
-
--- a command with one word that must be there
-abbrev pub one_word : Text → Text → App
-one_word name word = with_rule (words_of name) (needed_word word)
-
-abbrev pub exercise_words : Text → App
-exercise_words name = one_word name (codes "EX")
-
--- a command that searches, on an exercise
-abbrev pub search_words : Text → App
-search_words name =
-    with_rule (with_rule (exercise_words name) (option_word false (codes "sheet")))
-    (option_word false (codes "budget"))
-
--- a search that also says a form
-abbrev pub certify_words : App
-certify_words = with_rule (search_words (codes "certify")) (option_word false (codes "form"))
-
-abbrev pub check_words : App
-check_words =
-    with_rule (with_rule (exercise_words (codes "check")) (needed_word (codes "CERT")))
-    (option_word false (codes "sheet"))
-
-abbrev pub drill_words : App
-drill_words = one_word (codes "drill") (codes "N")
-
-abbrev pub class_words : App
-class_words = one_word (codes "class") (codes "LIST")
-
-abbrev pub canon_words : App
-canon_words =
-    with_rule (with_rule (one_word (codes "canon") (codes "FILE")) (option_word false (codes "sheet")))
-    (option_word false (codes "budget"))
-
-abbrev pub mixed_words : App
-mixed_words = with_rule (search_words (codes "mixed")) (option_word true (codes "with"))
-
-abbrev pub mark_mixed_words : App
-mark_mixed_words = with_rule (exercise_words (codes "markmixed")) (option_word true (codes "with"))
-
--- a command on what is asked of a new cantus
-abbrev pub wanted_words : Text → App
-wanted_words name =
-    with_rule (with_rule (with_rule (one_word name (codes "MODE")) (needed_word (codes "BARS")))
-    (needed_word (codes "LOW"))) (needed_word (codes "HIGH"))
-
--- one that searches
-abbrev pub new_cantus_words : Text → App
-new_cantus_words name =
-    with_rule (with_rule (wanted_words name) (option_word false (codes "sheet"))) (option_word false (codes "budget"))
-
-abbrev pub check_cantus_words : App
-check_cantus_words =
-    with_rule (with_rule (wanted_words (codes "checkcantus")) (needed_word (codes "CERT")))
-    (option_word false (codes "sheet"))
-
--- what says how a file is to be read, each of which must be there
-abbrev pub head_words : App → App
-head_words app =
-    with_rule (with_rule (with_rule (with_rule app (option_word true (codes "mode")))
-    (option_word true (codes "species")))
-    (option_word true (codes "voice"))) (option_word true (codes "cantus"))
-
-abbrev pub fromsmf_words : App
-fromsmf_words = with_rule (head_words (one_word (codes "fromsmf") (codes "FILE"))) (flag_word (codes "top-first"))
 
 -- a value where there is no fault
 abbrev pub if_faultless : {X : Type 0} → Kinds → X → Option X
@@ -251,8 +173,8 @@ check_asked rows = do
 abbrev pub job_asked : Job → List Row → Option Task
 job_asked job rows = first_of (codes "EX") rows >>= λ name. Some (on_exercise name None job)
 
-abbrev pub fromsmf_asked : List Row → Option Task
-fromsmf_asked rows = do
+abbrev pub from_smf_asked : List Row → Option Task
+from_smf_asked rows = do
   name ← first_of (codes "FILE") rows
   head ← head_in rows
   Some (fromsmf name head)
@@ -337,53 +259,31 @@ check_cantus_asked rows = do
   certificate ← first_of (codes "CERT") rows
   Some (check_cantus wanted certificate (first_of (codes "sheet") rows))
 
--- ---- the commands by their first words
+-- what the values in the words behind a command's first ask for
+abbrev pub asks : Verb → List Row → Option Task
+asks verb.Compose = compose_asked
+asks verb.Best = best_asked
+asks verb.Certify = certify_asked
+asks verb.Check = check_asked
+asks verb.Mark = job_asked Mark
+asks verb.Cantus = job_asked Cantus
+asks verb.Print = job_asked Print
+asks verb.ToSmf = job_asked ToSmf
+asks verb.FromSmf = from_smf_asked
+asks verb.Drill = drill_asked
+asks verb.Class = class_asked
+asks verb.Canon = canon_asked
+asks verb.Mixed = mixed_asked
+asks verb.MarkMixed = mark_mixed_asked
+asks verb.NewCantus = new_cantus_asked
+asks verb.CertCantus = certify_cantus_asked
+asks verb.CheckCantus = check_cantus_asked
 
--- what the values in words of a form ask for
-abbrev pub asked_by : App → (List Row → Option Task) → List Text → Option Task
-asked_by form asks words = found_in form words >>= asks
-
--- what a search asks for in the words behind its name
-abbrev pub search_in : Text → (List Row → Option Task) → List Text → Option Task
-search_in name asks = asked_by (search_words name) asks
-
--- the same of a search for a new cantus
-abbrev pub cantus_search_in : Text → (List Row → Option Task) → List Text → Option Task
-cantus_search_in name asks = asked_by (new_cantus_words name) asks
-
--- what a job asks for in the words behind its name
-abbrev pub job_in : Text → Job → List Text → Option Task
-job_in name job = asked_by (exercise_words name) (job_asked job)
-
--- what a word and those behind it ask for, if they are of the form of a command on new cantus
-abbrev pub asked_of_cantus : Text → List Text → Option Task
-asked_of_cantus word rest =
-    if bytes_eq word (codes "newcantus") then cantus_search_in (codes "newcantus") new_cantus_asked rest
-    else (if bytes_eq word (codes "certcantus") then cantus_search_in (codes "certcantus") certify_cantus_asked rest
-    else (if bytes_eq word (codes "checkcantus") then asked_by check_cantus_words check_cantus_asked rest
-    else None))
-
--- the same of `best`, of a command on a mixed exercise, or on new cantus
-abbrev pub asked_of_mixed : Text → List Text → Option Task
-asked_of_mixed word rest =
-    if bytes_eq word (codes "best") then search_in (codes "best") best_asked rest
-    else (if bytes_eq word (codes "mixed") then asked_by mixed_words mixed_asked rest
-    else (if bytes_eq word (codes "markmixed") then asked_by mark_mixed_words mark_mixed_asked rest
-    else asked_of_cantus word rest))
+-- what the words behind a command's first ask for, if they are of its form
+abbrev pub asked_by : Verb → List Text → Option Task
+asked_by verb words = found_in (form_of verb) words >>= asks verb
 
 -- what the words ask for, if they are of a command's form
 abbrev pub asked : List Text → Option Task
 asked [] = None
-asked (word ∷ rest) =
-    if bytes_eq word (codes "compose") then search_in (codes "compose") compose_asked rest
-    else (if bytes_eq word (codes "certify") then asked_by certify_words certify_asked rest
-    else (if bytes_eq word (codes "check") then asked_by check_words check_asked rest
-    else (if bytes_eq word (codes "mark") then job_in (codes "mark") Mark rest
-    else (if bytes_eq word (codes "cantus") then job_in (codes "cantus") Cantus rest
-    else (if bytes_eq word (codes "print") then job_in (codes "print") Print rest
-    else (if bytes_eq word (codes "tosmf") then job_in (codes "tosmf") ToSmf rest
-    else (if bytes_eq word (codes "fromsmf") then asked_by fromsmf_words fromsmf_asked rest
-    else (if bytes_eq word (codes "drill") then asked_by drill_words drill_asked rest
-    else (if bytes_eq word (codes "class") then asked_by class_words class_asked rest
-    else (if bytes_eq word (codes "canon") then asked_by canon_words canon_asked rest
-    else asked_of_mixed word rest))))))))))
+asked (word ∷ rest) = verb_named word >>= λ verb. asked_by verb rest

@@ -1,17 +1,12 @@
 //! The words on the command line.
 
-ghost use Rattle.std.specs.Prelude.{◌≡◌, IfOk, IfSome, codes, option_map, true};
+ghost use Rattle.std.specs.Prelude.{◌≡◌, IfOk, IfSome, option_map, true};
 ghost use Rattle.clap.specs.Words.{app_of, found_of, is_simple_and_free, rows_of};
-ghost use Rattle.command_words.specs.Commands.{HasHead, asked, asked_by, asked_of_cantus, best_asked, cantus_search_in, certify_asked, certify_words, certify_cantus_asked, check_asked, check_cantus_asked, check_cantus_words, check_words, class_asked, class_words, canon_asked, canon_words, compose_asked, drill_asked, drill_words, found_in, fromsmf_asked, fromsmf_words, job_in, asked_of_mixed, mark_mixed_asked, mark_mixed_words, mixed_asked, mixed_words, new_cantus_asked, search_in, task_of, texts};
+ghost use Rattle.command_words.specs.Commands.{HasHead, asked, asked_by, found_in, task_of, texts};
 
-use crate::forms::{
-    canon_form, certify_form, check_cantus_form, check_form, class_form, drill_form, exercise_form,
-    from_smf_form, mark_mixed_form, mixed_form, new_cantus_form, search_form,
-};
-use crate::values::{
-    certifying, certifying_cantus, checking, checking_cantus, choosing, classing, composing,
-    drilling, imitating, inventing, job_on, marking_mixed, mixing, smf_reading,
-};
+use crate::forms::form;
+use crate::values::asked_of;
+use crate::verbs::{Verb, verb_named};
 use cert_text::Form;
 use clap::ArgMatches;
 use clap::error::ErrorKind;
@@ -146,227 +141,21 @@ pub fn parse(alloc: Global, words: &[String]) -> Result<Option<Command<'_>>, Mem
     let Some((word, rest)) = words.split_first() else {
         return Ok(None);
     };
-    match word.as_str() {
-        "compose" => parse_compose(alloc, rest),
-        "certify" => parse_certify(alloc, rest),
-        "check" => parse_check(alloc, rest),
-        "mark" => parse_job(alloc, "mark", Job::Mark, rest),
-        "cantus" => parse_job(alloc, "cantus", Job::Cantus, rest),
-        "print" => parse_job(alloc, "print", Job::Print, rest),
-        "tosmf" => parse_job(alloc, "tosmf", Job::ToSmf, rest),
-        "fromsmf" => parse_from_smf(alloc, rest),
-        "drill" => parse_drill(alloc, rest),
-        "class" => parse_class(alloc, rest),
-        "canon" => parse_canon(alloc, rest),
-        _ => parse_of_mixed(alloc, word.as_str(), rest),
+    match verb_named(word.as_str()) {
+        Some(verb) => parse_behind(alloc, verb, rest),
+        None => Ok(None),
     }
 }
 
-/// What a word and those behind it ask for, or none where they are of the form neither of `best` nor of a command on a mixed exercise or
-/// on new cantus.
-fn parse_of_mixed<'a>(
-    alloc: Global,
-    word: &str,
-    rest: &'a [String],
-) -> Result<Option<Command<'a>>, Memory>
-    ensures asked { IfOk result (λ found. option_map task_of found ≡ asked_of_mixed word.now (texts rest.now)) }
+/// What the words behind the first of a command ask for, or none where they aren't of its form.
+fn parse_behind(alloc: Global, verb: Verb, words: &[String]) -> Result<Option<Command<'_>>, Memory>
+    ensures asked { IfOk result (λ found. option_map task_of found ≡ asked_by verb (texts words.now)) }
     ensures head { IfOk result (λ found. IfSome found HasHead) }
 {
-    match word {
-        "best" => parse_best(alloc, rest),
-        "mixed" => parse_mixed(alloc, rest),
-        "markmixed" => parse_mark_mixed(alloc, rest),
-        _ => parse_of_cantus(alloc, word, rest),
-    }
-}
-
-/// The command on new cantus that a word and those behind it ask for, or none where they are of no such command's form.
-fn parse_of_cantus<'a>(
-    alloc: Global,
-    word: &str,
-    rest: &'a [String],
-) -> Result<Option<Command<'a>>, Memory>
-    ensures asked { IfOk result (λ found. option_map task_of found ≡ asked_of_cantus word.now (texts rest.now)) }
-    ensures head { IfOk result (λ found. IfSome found HasHead) }
-{
-    match word {
-        "newcantus" => parse_new_cantus(alloc, rest),
-        "certcantus" => parse_certify_cantus(alloc, rest),
-        "checkcantus" => parse_check_cantus(alloc, rest),
-        _ => Ok(None),
-    }
-}
-
-/// The words behind `compose`.
-fn parse_compose(alloc: Global, words: &[String]) -> Result<Option<Command<'_>>, Memory>
-    ensures asked { IfOk result (λ found. option_map task_of found
-        ≡ search_in (codes "compose") compose_asked (texts words.now)) }
-    ensures head { IfOk result (λ found. IfSome found HasHead) }
-{
-    let Some(matches) = taken(search_form(alloc, "compose")?, words)? else {
+    let Some(matches) = taken(form(alloc, verb)?, words)? else {
         return Ok(None);
     };
-    Ok(composing(&matches))
-}
-
-/// The words behind `best`.
-fn parse_best(alloc: Global, words: &[String]) -> Result<Option<Command<'_>>, Memory>
-    ensures asked { IfOk result (λ found. option_map task_of found
-        ≡ search_in (codes "best") best_asked (texts words.now)) }
-    ensures head { IfOk result (λ found. IfSome found HasHead) }
-{
-    let Some(matches) = taken(search_form(alloc, "best")?, words)? else {
-        return Ok(None);
-    };
-    Ok(choosing(&matches))
-}
-
-/// The words behind `certify`.
-fn parse_certify(alloc: Global, words: &[String]) -> Result<Option<Command<'_>>, Memory>
-    ensures asked { IfOk result (λ found. option_map task_of found
-        ≡ asked_by certify_words certify_asked (texts words.now)) }
-    ensures head { IfOk result (λ found. IfSome found HasHead) }
-{
-    let Some(matches) = taken(certify_form(alloc)?, words)? else {
-        return Ok(None);
-    };
-    Ok(certifying(&matches))
-}
-
-/// The words behind `check`.
-fn parse_check(alloc: Global, words: &[String]) -> Result<Option<Command<'_>>, Memory>
-    ensures asked { IfOk result (λ found. option_map task_of found
-        ≡ asked_by check_words check_asked (texts words.now)) }
-    ensures head { IfOk result (λ found. IfSome found HasHead) }
-{
-    let Some(matches) = taken(check_form(alloc)?, words)? else {
-        return Ok(None);
-    };
-    Ok(checking(&matches))
-}
-
-/// The words behind the name of a job that needs nothing but an exercise.
-fn parse_job<'a>(
-    alloc: Global,
-    name: &'static str,
-    job: Job,
-    words: &'a [String],
-) -> Result<Option<Command<'a>>, Memory>
-    ensures asked { IfOk result (λ found. option_map task_of found ≡ job_in name.now job (texts words.now)) }
-    ensures head { IfOk result (λ found. IfSome found HasHead) }
-{
-    let Some(matches) = taken(exercise_form(alloc, name)?, words)? else {
-        return Ok(None);
-    };
-    Ok(job_on(&matches, job))
-}
-
-/// The words behind `fromsmf`.
-fn parse_from_smf(alloc: Global, words: &[String]) -> Result<Option<Command<'_>>, Memory>
-    ensures asked { IfOk result (λ found. option_map task_of found
-        ≡ asked_by fromsmf_words fromsmf_asked (texts words.now)) }
-    ensures head { IfOk result (λ found. IfSome found HasHead) }
-{
-    let Some(matches) = taken(from_smf_form(alloc)?, words)? else {
-        return Ok(None);
-    };
-    Ok(smf_reading(&matches))
-}
-
-/// The words behind `drill`.
-fn parse_drill(alloc: Global, words: &[String]) -> Result<Option<Command<'_>>, Memory>
-    ensures asked { IfOk result (λ found. option_map task_of found
-        ≡ asked_by drill_words drill_asked (texts words.now)) }
-    ensures head { IfOk result (λ found. IfSome found HasHead) }
-{
-    let Some(matches) = taken(drill_form(alloc)?, words)? else {
-        return Ok(None);
-    };
-    Ok(drilling(&matches))
-}
-
-/// The words behind `class`.
-fn parse_class(alloc: Global, words: &[String]) -> Result<Option<Command<'_>>, Memory>
-    ensures asked { IfOk result (λ found. option_map task_of found
-        ≡ asked_by class_words class_asked (texts words.now)) }
-    ensures head { IfOk result (λ found. IfSome found HasHead) }
-{
-    let Some(matches) = taken(class_form(alloc)?, words)? else {
-        return Ok(None);
-    };
-    Ok(classing(&matches))
-}
-
-/// The words behind `canon`.
-fn parse_canon(alloc: Global, words: &[String]) -> Result<Option<Command<'_>>, Memory>
-    ensures asked { IfOk result (λ found. option_map task_of found
-        ≡ asked_by canon_words canon_asked (texts words.now)) }
-    ensures head { IfOk result (λ found. IfSome found HasHead) }
-{
-    let Some(matches) = taken(canon_form(alloc)?, words)? else {
-        return Ok(None);
-    };
-    Ok(imitating(&matches))
-}
-
-/// The words behind `mixed`.
-fn parse_mixed(alloc: Global, words: &[String]) -> Result<Option<Command<'_>>, Memory>
-    ensures asked { IfOk result (λ found. option_map task_of found
-        ≡ asked_by mixed_words mixed_asked (texts words.now)) }
-    ensures head { IfOk result (λ found. IfSome found HasHead) }
-{
-    let Some(matches) = taken(mixed_form(alloc)?, words)? else {
-        return Ok(None);
-    };
-    Ok(mixing(&matches))
-}
-
-/// The words behind `markmixed`.
-fn parse_mark_mixed(alloc: Global, words: &[String]) -> Result<Option<Command<'_>>, Memory>
-    ensures asked { IfOk result (λ found. option_map task_of found
-        ≡ asked_by mark_mixed_words mark_mixed_asked (texts words.now)) }
-    ensures head { IfOk result (λ found. IfSome found HasHead) }
-{
-    let Some(matches) = taken(mark_mixed_form(alloc)?, words)? else {
-        return Ok(None);
-    };
-    Ok(marking_mixed(&matches))
-}
-
-/// The words behind `newcantus`.
-fn parse_new_cantus(alloc: Global, words: &[String]) -> Result<Option<Command<'_>>, Memory>
-    ensures asked { IfOk result (λ found. option_map task_of found
-        ≡ cantus_search_in (codes "newcantus") new_cantus_asked (texts words.now)) }
-    ensures head { IfOk result (λ found. IfSome found HasHead) }
-{
-    let Some(matches) = taken(new_cantus_form(alloc, "newcantus")?, words)? else {
-        return Ok(None);
-    };
-    Ok(inventing(&matches))
-}
-
-/// The words behind `certcantus`.
-fn parse_certify_cantus(alloc: Global, words: &[String]) -> Result<Option<Command<'_>>, Memory>
-    ensures asked { IfOk result (λ found. option_map task_of found
-        ≡ cantus_search_in (codes "certcantus") certify_cantus_asked (texts words.now)) }
-    ensures head { IfOk result (λ found. IfSome found HasHead) }
-{
-    let Some(matches) = taken(new_cantus_form(alloc, "certcantus")?, words)? else {
-        return Ok(None);
-    };
-    Ok(certifying_cantus(&matches))
-}
-
-/// The words behind `checkcantus`.
-fn parse_check_cantus(alloc: Global, words: &[String]) -> Result<Option<Command<'_>>, Memory>
-    ensures asked { IfOk result (λ found. option_map task_of found
-        ≡ asked_by check_cantus_words check_cantus_asked (texts words.now)) }
-    ensures head { IfOk result (λ found. IfSome found HasHead) }
-{
-    let Some(matches) = taken(check_cantus_form(alloc)?, words)? else {
-        return Ok(None);
-    };
-    Ok(checking_cantus(&matches))
+    Ok(asked_of(verb, &matches))
 }
 
 /// What a simple command of `clap` finds in words, if it takes them.

@@ -4,5 +4,6 @@
 mod command;
 mod forms;
 mod values;
+mod verbs;
 
 pub use command::{Command, Job, Making, MixedJob, Named, Wanted, parse};

@@ -5,9 +5,10 @@ ghost use Rattle.clap.specs.Words.{first_of, found_of, rows_of};
 ghost use Rattle.fux_text.specs.Names.{mode_named};
 ghost use Rattle.smf_score.specs.Heads.{IsHead};
 ghost use Rattle.text_lines.specs.Numbers.{number_within};
-ghost use Rattle.command_words.specs.Commands.{AreNamed, HasHead, IsWanted, best_asked, budget_in, canon_asked, certify_asked, certify_cantus_asked, check_asked, check_cantus_asked, class_asked, compose_asked, drill_asked, form_in, fromsmf_asked, head_in, is_item, is_set, job_asked, mark_mixed_asked, mixed_asked, named_in, new_cantus_asked, number_at, said_of, task_of, wanted_in};
+ghost use Rattle.command_words.specs.Commands.{AreNamed, HasHead, IsWanted, asks, best_asked, budget_in, canon_asked, certify_asked, certify_cantus_asked, check_asked, check_cantus_asked, class_asked, compose_asked, drill_asked, form_in, from_smf_asked, head_in, is_item, is_set, job_asked, mark_mixed_asked, mixed_asked, named_in, new_cantus_asked, number_at, said_of, task_of, wanted_in};
 
 use crate::command::{Command, Job, Making, MixedJob, Named, Wanted};
+use crate::verbs::Verb;
 use cert_text::Form;
 use clap::ArgMatches;
 use fux_grid::Head;
@@ -129,7 +130,7 @@ fn head_of(matches: &ArgMatches<'_>) -> Option<Head>
 }
 
 /// `compose`, on the exercise of a file.
-pub fn composing<'a>(matches: &ArgMatches<'a>) -> Option<Command<'a>>
+fn compose_asked<'a>(matches: &ArgMatches<'a>) -> Option<Command<'a>>
     ensures asked { option_map task_of result ≡ compose_asked (rows_of (found_of matches.now)) }
     ensures head { IfSome result HasHead }
 {
@@ -141,7 +142,7 @@ pub fn composing<'a>(matches: &ArgMatches<'a>) -> Option<Command<'a>>
 }
 
 /// `best`, on the exercise of a file.
-pub fn choosing<'a>(matches: &ArgMatches<'a>) -> Option<Command<'a>>
+fn best_asked<'a>(matches: &ArgMatches<'a>) -> Option<Command<'a>>
     ensures asked { option_map task_of result ≡ best_asked (rows_of (found_of matches.now)) }
     ensures head { IfSome result HasHead }
 {
@@ -153,7 +154,7 @@ pub fn choosing<'a>(matches: &ArgMatches<'a>) -> Option<Command<'a>>
 }
 
 /// `certify`, on the exercise of a file.
-pub fn certifying<'a>(matches: &ArgMatches<'a>) -> Option<Command<'a>>
+fn certify_asked<'a>(matches: &ArgMatches<'a>) -> Option<Command<'a>>
     ensures asked { option_map task_of result ≡ certify_asked (rows_of (found_of matches.now)) }
     ensures head { IfSome result HasHead }
 {
@@ -170,7 +171,7 @@ pub fn certifying<'a>(matches: &ArgMatches<'a>) -> Option<Command<'a>>
 }
 
 /// `check`, on the exercise and the certificate of two files.
-pub fn checking<'a>(matches: &ArgMatches<'a>) -> Option<Command<'a>>
+fn check_asked<'a>(matches: &ArgMatches<'a>) -> Option<Command<'a>>
     ensures asked { option_map task_of result ≡ check_asked (rows_of (found_of matches.now)) }
     ensures head { IfSome result HasHead }
 {
@@ -185,7 +186,7 @@ pub fn checking<'a>(matches: &ArgMatches<'a>) -> Option<Command<'a>>
 }
 
 /// A job that needs nothing but the exercise of a file.
-pub fn job_on<'a>(matches: &ArgMatches<'a>, job: Job) -> Option<Command<'a>>
+fn job_asked<'a>(matches: &ArgMatches<'a>, job: Job) -> Option<Command<'a>>
     ensures asked { option_map task_of result ≡ job_asked job (rows_of (found_of matches.now)) }
     ensures head { IfSome result HasHead }
 {
@@ -195,8 +196,8 @@ pub fn job_on<'a>(matches: &ArgMatches<'a>, job: Job) -> Option<Command<'a>>
 }
 
 /// `fromsmf`, on a MIDI file.
-pub fn smf_reading<'a>(matches: &ArgMatches<'a>) -> Option<Command<'a>>
-    ensures asked { option_map task_of result ≡ fromsmf_asked (rows_of (found_of matches.now)) }
+fn from_smf_asked<'a>(matches: &ArgMatches<'a>) -> Option<Command<'a>>
+    ensures asked { option_map task_of result ≡ from_smf_asked (rows_of (found_of matches.now)) }
     ensures head { IfSome result HasHead }
 {
     let name = value(matches, "FILE")?;
@@ -205,7 +206,7 @@ pub fn smf_reading<'a>(matches: &ArgMatches<'a>) -> Option<Command<'a>>
 }
 
 /// `drill`, of a number.
-pub fn drilling<'a>(matches: &ArgMatches<'a>) -> Option<Command<'a>>
+fn drill_asked<'a>(matches: &ArgMatches<'a>) -> Option<Command<'a>>
     ensures asked { option_map task_of result ≡ drill_asked (rows_of (found_of matches.now)) }
     ensures head { IfSome result HasHead }
 {
@@ -214,7 +215,7 @@ pub fn drilling<'a>(matches: &ArgMatches<'a>) -> Option<Command<'a>>
 }
 
 /// `class`, on a list.
-pub fn classing<'a>(matches: &ArgMatches<'a>) -> Option<Command<'a>>
+fn class_asked<'a>(matches: &ArgMatches<'a>) -> Option<Command<'a>>
     ensures asked { option_map task_of result ≡ class_asked (rows_of (found_of matches.now)) }
     ensures head { IfSome result HasHead }
 {
@@ -223,7 +224,7 @@ pub fn classing<'a>(matches: &ArgMatches<'a>) -> Option<Command<'a>>
 }
 
 /// `canon`, on the text of a canon in a file.
-pub fn imitating<'a>(matches: &ArgMatches<'a>) -> Option<Command<'a>>
+fn canon_asked<'a>(matches: &ArgMatches<'a>) -> Option<Command<'a>>
     ensures asked { option_map task_of result ≡ canon_asked (rows_of (found_of matches.now)) }
     ensures head { IfSome result HasHead }
 {
@@ -281,7 +282,7 @@ fn named_in(list: &str) -> Option<Named>
 }
 
 /// `mixed`, on the exercise of a file.
-pub fn mixing<'a>(matches: &ArgMatches<'a>) -> Option<Command<'a>>
+fn mixed_asked<'a>(matches: &ArgMatches<'a>) -> Option<Command<'a>>
     ensures asked { option_map task_of result ≡ mixed_asked (rows_of (found_of matches.now)) }
     ensures head { IfSome result HasHead }
 {
@@ -300,7 +301,7 @@ pub fn mixing<'a>(matches: &ArgMatches<'a>) -> Option<Command<'a>>
 }
 
 /// `markmixed`, on the exercise of a file.
-pub fn marking_mixed<'a>(matches: &ArgMatches<'a>) -> Option<Command<'a>>
+fn mark_mixed_asked<'a>(matches: &ArgMatches<'a>) -> Option<Command<'a>>
     ensures asked { option_map task_of result ≡ mark_mixed_asked (rows_of (found_of matches.now)) }
     ensures head { IfSome result HasHead }
 {
@@ -339,7 +340,7 @@ fn wanted_of(matches: &ArgMatches<'_>) -> Option<Wanted>
 }
 
 /// `newcantus`, of what is asked of it.
-pub fn inventing<'a>(matches: &ArgMatches<'a>) -> Option<Command<'a>>
+fn new_cantus_asked<'a>(matches: &ArgMatches<'a>) -> Option<Command<'a>>
     ensures asked { option_map task_of result ≡ new_cantus_asked (rows_of (found_of matches.now)) }
     ensures head { IfSome result HasHead }
 {
@@ -354,7 +355,7 @@ pub fn inventing<'a>(matches: &ArgMatches<'a>) -> Option<Command<'a>>
 }
 
 /// `certcantus`, of what is asked of a cantus.
-pub fn certifying_cantus<'a>(matches: &ArgMatches<'a>) -> Option<Command<'a>>
+fn certify_cantus_asked<'a>(matches: &ArgMatches<'a>) -> Option<Command<'a>>
     ensures asked { option_map task_of result ≡ certify_cantus_asked (rows_of (found_of matches.now)) }
     ensures head { IfSome result HasHead }
 {
@@ -369,7 +370,7 @@ pub fn certifying_cantus<'a>(matches: &ArgMatches<'a>) -> Option<Command<'a>>
 }
 
 /// `checkcantus`, of what is asked of a cantus and of the certificate of a file.
-pub fn checking_cantus<'a>(matches: &ArgMatches<'a>) -> Option<Command<'a>>
+fn check_cantus_asked<'a>(matches: &ArgMatches<'a>) -> Option<Command<'a>>
     ensures asked { option_map task_of result ≡ check_cantus_asked (rows_of (found_of matches.now)) }
     ensures head { IfSome result HasHead }
 {
@@ -381,4 +382,30 @@ pub fn checking_cantus<'a>(matches: &ArgMatches<'a>) -> Option<Command<'a>>
         certificate,
         sheet,
     }))
+}
+
+/// What the values in the words behind a command's first ask for.
+pub fn asked_of<'a>(verb: Verb, matches: &ArgMatches<'a>) -> Option<Command<'a>>
+    ensures asked { option_map task_of result ≡ asks verb (rows_of (found_of matches.now)) }
+    ensures head { IfSome result HasHead }
+{
+    match verb {
+        Verb::Compose => compose_asked(matches),
+        Verb::Best => best_asked(matches),
+        Verb::Certify => certify_asked(matches),
+        Verb::Check => check_asked(matches),
+        Verb::Mark => job_asked(matches, Job::Mark),
+        Verb::Cantus => job_asked(matches, Job::Cantus),
+        Verb::Print => job_asked(matches, Job::Print),
+        Verb::ToSmf => job_asked(matches, Job::ToSmf),
+        Verb::FromSmf => from_smf_asked(matches),
+        Verb::Drill => drill_asked(matches),
+        Verb::Class => class_asked(matches),
+        Verb::Canon => canon_asked(matches),
+        Verb::Mixed => mixed_asked(matches),
+        Verb::MarkMixed => mark_mixed_asked(matches),
+        Verb::NewCantus => new_cantus_asked(matches),
+        Verb::CertCantus => certify_cantus_asked(matches),
+        Verb::CheckCantus => check_cantus_asked(matches),
+    }
 }

@@ -1,6 +1,6 @@
 use Rattle.std.proofs.Common.{refl}
 use Rattle.clap.specs.Words.{app_of}
-use Rattle.command_words.specs.Commands.{flag_word}
+use Rattle.command_words.specs.Forms.{flag_word}
 use Rattle.command_words.proofs.FormLemmas.{added, is_flag}
 use Rattle.command_words.proofs.forms.with_flag.Goals as goal
 

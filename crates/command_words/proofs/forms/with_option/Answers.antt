@@ -1,6 +1,6 @@
 use Rattle.std.proofs.Common.{refl}
 use Rattle.clap.specs.Words.{app_of}
-use Rattle.command_words.specs.Commands.{option_word}
+use Rattle.command_words.specs.Forms.{option_word}
 use Rattle.command_words.proofs.FormLemmas.{added, is_option}
 use Rattle.command_words.proofs.forms.with_option.Goals as goal
 

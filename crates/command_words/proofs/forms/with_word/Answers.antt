@@ -1,6 +1,6 @@
 use Rattle.std.proofs.Common.{refl}
 use Rattle.clap.specs.Words.{app_of}
-use Rattle.command_words.specs.Commands.{needed_word}
+use Rattle.command_words.specs.Forms.{needed_word}
 use Rattle.command_words.proofs.FormLemmas.{added, is_needed}
 use Rattle.command_words.proofs.forms.with_word.Goals as goal
 

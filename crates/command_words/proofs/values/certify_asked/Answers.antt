@@ -1,0 +1,31 @@
+use Rattle.std.proofs.Common.{refl}
+use Rattle.command_words.proofs.values.certify_asked.Goals as goal
+
+pub returns-in_err-name-clause-asked : goal.returns-in_err-name-clause-asked
+returns-in_err-name-clause-asked c = rw (c.from_residual.ensures, ← c.in_err-name.ensures) refl
+
+pub returns-in_err-budget-clause-asked : goal.returns-in_err-budget-clause-asked
+returns-in_err-budget-clause-asked c =
+    rw (c.from_residual-in_err-budget.ensures, ← c.in_ok-name.ensures, ← c.value-2.ensures, ← c.in_err-budget.ensures) refl
+
+pub returns-in_err-form-clause-asked : goal.returns-in_err-form-clause-asked
+returns-in_err-form-clause-asked c =
+    rw (
+      c.from_residual-in_err-form.ensures,
+      ← c.in_ok-name.ensures,
+      ← c.value-2.ensures,
+      ← c.in_ok-budget.ensures,
+      ← c.value-3.ensures,
+      ← c.in_err-form.ensures,
+    ) refl
+
+pub returns-clause-asked : goal.returns-clause-asked
+returns-clause-asked c =
+    rw (
+      ← c.in_ok-name.ensures,
+      ← c.value-2.ensures,
+      ← c.in_ok-budget.ensures,
+      ← c.value-3.ensures,
+      ← c.in_ok-form.ensures,
+      ← c.value-sheet.ensures,
+    ) refl

@@ -1,0 +1,12 @@
+use Rattle.std.proofs.Common.{refl}
+use Rattle.command_words.proofs.values.check_asked.Goals as goal
+
+pub returns-in_err-name-clause-asked : goal.returns-in_err-name-clause-asked
+returns-in_err-name-clause-asked c = rw (c.from_residual.ensures, ← c.in_err-name.ensures) refl
+
+pub returns-in_err-certificate-clause-asked : goal.returns-in_err-certificate-clause-asked
+returns-in_err-certificate-clause-asked c =
+    rw (c.from_residual-in_err-certificate.ensures, ← c.in_ok-name.ensures, ← c.in_err-certificate.ensures) refl
+
+pub returns-clause-asked : goal.returns-clause-asked
+returns-clause-asked c = rw (← c.in_ok-name.ensures, ← c.in_ok-certificate.ensures, ← c.value-sheet.ensures) refl

@@ -1,0 +1,22 @@
+use Rattle.std.proofs.Common.{refl}
+use Rattle.command_words.proofs.values.mark_mixed_asked.Goals as goal
+
+pub returns-in_err-name-clause-asked : goal.returns-in_err-name-clause-asked
+returns-in_err-name-clause-asked c = rw (c.from_residual.ensures, ← c.in_err-name.ensures) refl
+
+pub returns-in_err-list-clause-asked : goal.returns-in_err-list-clause-asked
+returns-in_err-list-clause-asked c =
+    rw (c.from_residual-in_err-list.ensures, ← c.in_ok-name.ensures, ← c.in_err-list.ensures) refl
+
+pub returns-in_err-named-clause-asked : goal.returns-in_err-named-clause-asked
+returns-in_err-named-clause-asked c =
+    rw (
+      c.from_residual-in_err-named.ensures,
+      ← c.in_ok-name.ensures,
+      ← c.in_ok-list.ensures,
+      ← c.in_err-named.ensures.value,
+    ) refl
+
+pub returns-clause-asked : goal.returns-clause-asked
+returns-clause-asked c =
+    rw (← c.in_ok-name.ensures, ← c.in_ok-list.ensures, ← c.in_ok-named.ensures.value) refl

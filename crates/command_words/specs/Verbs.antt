@@ -1,0 +1,86 @@
+-- The table of the commands: the first word of each, and what it takes behind that.
+use Rattle.std.specs.Prelude.{Bool, List, [], ◌∷◌, Option, codes}
+use Rattle.std.specs.List.{find}
+use Rattle.std.specs.Str.{bytes_eq}
+use Rattle.clap.specs.Words.{Text}
+use Rattle.command_words.specs.declared.verbs.Kind.{Kind}
+use Rattle.command_words.specs.declared.verbs.Kind.TheVariants as kind
+use Rattle.command_words.specs.declared.verbs.Part.{Part}
+use Rattle.command_words.specs.declared.verbs.Part.TheVariants as part
+use Rattle.command_words.specs.declared.verbs.Verb.{Verb}
+use Rattle.command_words.specs.declared.verbs.Verb.TheVariants as verb
+
+-- all commands
+abbrev pub verbs : List Verb
+verbs =
+    verb.Compose ∷ verb.Best ∷ verb.Certify ∷ verb.Check ∷ verb.Mark ∷ verb.Cantus ∷ verb.Print ∷ verb.ToSmf ∷ verb.FromSmf ∷ verb.Drill ∷ verb.Class ∷ verb.Canon ∷ verb.Mixed ∷ verb.MarkMixed ∷ verb.NewCantus ∷ verb.CertCantus ∷ verb.CheckCantus ∷ []
+
+-- the row of a command: its first word, and what it takes behind that
+abbrev pub row_of : Verb → Text × List Part
+row_of verb.Compose = (codes "compose", part.Exercise ∷ part.Sheet ∷ part.Budget ∷ [])
+row_of verb.Best = (codes "best", part.Exercise ∷ part.Sheet ∷ part.Budget ∷ [])
+row_of verb.Certify = (codes "certify", part.Exercise ∷ part.Sheet ∷ part.Budget ∷ part.Form ∷ [])
+row_of verb.Check = (codes "check", part.Exercise ∷ part.Certificate ∷ part.Sheet ∷ [])
+row_of verb.Mark = (codes "mark", part.Exercise ∷ [])
+row_of verb.Cantus = (codes "cantus", part.Exercise ∷ [])
+row_of verb.Print = (codes "print", part.Exercise ∷ [])
+row_of verb.ToSmf = (codes "tosmf", part.Exercise ∷ [])
+row_of verb.FromSmf = (codes "fromsmf", part.File ∷ part.Mode ∷ part.Species ∷ part.Voice ∷ part.Cantus ∷ part.TopFirst ∷ [])
+row_of verb.Drill = (codes "drill", part.Number ∷ [])
+row_of verb.Class = (codes "class", part.List ∷ [])
+row_of verb.Canon = (codes "canon", part.File ∷ part.Sheet ∷ part.Budget ∷ [])
+row_of verb.Mixed = (codes "mixed", part.Exercise ∷ part.Sheet ∷ part.Budget ∷ part.With ∷ [])
+row_of verb.MarkMixed = (codes "markmixed", part.Exercise ∷ part.With ∷ [])
+row_of verb.NewCantus = (codes "newcantus", part.InMode ∷ part.Bars ∷ part.Low ∷ part.High ∷ part.Sheet ∷ part.Budget ∷ [])
+row_of verb.CertCantus = (codes "certcantus", part.InMode ∷ part.Bars ∷ part.Low ∷ part.High ∷ part.Sheet ∷ part.Budget ∷ [])
+row_of verb.CheckCantus = (codes "checkcantus", part.InMode ∷ part.Bars ∷ part.Low ∷ part.High ∷ part.Certificate ∷ part.Sheet ∷ [])
+
+-- the name of a part, which the words have behind two hyphens where it is an option or a flag
+abbrev pub name_of : Part → Text
+name_of part.Exercise = codes "EX"
+name_of part.File = codes "FILE"
+name_of part.Certificate = codes "CERT"
+name_of part.List = codes "LIST"
+name_of part.Number = codes "N"
+name_of part.InMode = codes "MODE"
+name_of part.Bars = codes "BARS"
+name_of part.Low = codes "LOW"
+name_of part.High = codes "HIGH"
+name_of part.Sheet = codes "sheet"
+name_of part.Budget = codes "budget"
+name_of part.Form = codes "form"
+name_of part.With = codes "with"
+name_of part.Mode = codes "mode"
+name_of part.Species = codes "species"
+name_of part.Voice = codes "voice"
+name_of part.Cantus = codes "cantus"
+name_of part.TopFirst = codes "top-first"
+
+-- how a part is given
+abbrev pub kind_of : Part → Kind
+kind_of part.Exercise = kind.Word
+kind_of part.File = kind.Word
+kind_of part.Certificate = kind.Word
+kind_of part.List = kind.Word
+kind_of part.Number = kind.Word
+kind_of part.InMode = kind.Word
+kind_of part.Bars = kind.Word
+kind_of part.Low = kind.Word
+kind_of part.High = kind.Word
+kind_of part.Sheet = kind.Option
+kind_of part.Budget = kind.Option
+kind_of part.Form = kind.Option
+kind_of part.With = kind.Needed
+kind_of part.Mode = kind.Needed
+kind_of part.Species = kind.Needed
+kind_of part.Voice = kind.Needed
+kind_of part.Cantus = kind.Needed
+kind_of part.TopFirst = kind.Flag
+
+-- a word is the first of a command
+abbrev pub has_word : Text → Verb → Bool
+has_word word verb = bytes_eq word (row_of verb).0
+
+-- the command of a first word, if there is one
+abbrev pub verb_named : Text → Option Verb
+verb_named word = find (has_word word) verbs
