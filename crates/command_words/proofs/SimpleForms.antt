@@ -2,7 +2,7 @@
 use Rattle.std.proofs.Common.{◌≡◌, true, refl}
 use Rattle.clap.specs.Words.{Text, is_simple_and_free}
 use Rattle.clap.proofs.OnLiterals.{clap_on_literals}
-use Rattle.command_words.specs.Commands.{canon_words, certify_words, check_cantus_words, check_words, class_words, drill_words, exercise_words, fromsmf_words, mark_mixed_words, mixed_words, new_cantus_words, search_words}
+use Rattle.command_words.specs.Commands.{canon_words, certify_words, check_cantus_words, check_words, class_words, drill_words, exercise_words, fromsmf_words, mark_mixed_words, mixed_words, new_cantus_words, search_words, weigh_words}
 
 pub search_is_simple : (name : Text) → is_simple_and_free (search_words name) ≡ true
 unfolding clap_on_literals
@@ -43,6 +43,10 @@ mixed_is_simple = refl
 pub mark_mixed_is_simple : is_simple_and_free mark_mixed_words ≡ true
 unfolding clap_on_literals
 mark_mixed_is_simple = refl
+
+pub weigh_is_simple : is_simple_and_free weigh_words ≡ true
+unfolding clap_on_literals
+weigh_is_simple = refl
 
 pub new_cantus_is_simple : (name : Text) → is_simple_and_free (new_cantus_words name) ≡ true
 unfolding clap_on_literals

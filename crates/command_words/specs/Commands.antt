@@ -16,7 +16,7 @@ use Rattle.text_lines.specs.Numbers.{number_within}
 use Rattle.command_words.specs.declared.command.Command.{Command}
 use Rattle.command_words.specs.declared.command.Command.TheVariants.{Certify, CertifyCantus, Make}
 use Rattle.command_words.specs.declared.command.Job.{Job}
-use Rattle.command_words.specs.declared.command.Job.TheVariants.{Compose, Best, Mark, Cantus, Print, ToSmf}
+use Rattle.command_words.specs.declared.command.Job.TheVariants.{Compose, Best, Mark, Weigh, Cantus, Print, ToSmf}
 use Rattle.command_words.specs.declared.command.MixedJob.{MixedJob}
 use Rattle.command_words.specs.declared.command.MixedJob.TheVariants as mixed
 use Rattle.command_words.specs.declared.command.Making.{Making}
@@ -140,6 +140,11 @@ mixed_words = with_rule (search_words (codes "mixed")) (option_word true (codes 
 
 abbrev pub mark_mixed_words : App
 mark_mixed_words = with_rule (exercise_words (codes "markmixed")) (option_word true (codes "with"))
+
+abbrev pub weigh_words : App
+weigh_words =
+    with_rule (with_rule (exercise_words (codes "weigh")) (option_word false (codes "sheet")))
+    (option_word false (codes "with"))
 
 -- a command on what is asked of a new cantus
 abbrev pub wanted_words : Text → App
@@ -306,6 +311,15 @@ mark_mixed_asked rows = do
   named ← first_of (codes "with") rows >>= named_in
   Some (on_mixed name None named mixed.Mark)
 
+-- weighing the setting of an exercise, with the species that a list names where there is one
+abbrev pub weighing_with : Text → Option Text → Option Text → Option Task
+weighing_with name sheet None = Some (on_exercise name sheet Weigh)
+weighing_with name sheet (Some list) = named_in list >>= λ named. Some (on_mixed name sheet named mixed.Weigh)
+
+abbrev pub weigh_asked : List Row → Option Task
+weigh_asked rows =
+    first_of (codes "EX") rows >>= λ name. weighing_with name (first_of (codes "sheet") rows) (first_of (codes "with") rows)
+
 -- what is wanted, where its range doesn't fall
 abbrev pub if_rising : Wanted → Option Wanted
 if_rising wanted = if int_le (key_of wanted.low) (key_of wanted.high) then Some wanted else None
@@ -363,13 +377,14 @@ asked_of_cantus word rest =
     else (if bytes_eq word (codes "checkcantus") then asked_by check_cantus_words check_cantus_asked rest
     else None))
 
--- the same of `best`, of a command on a mixed exercise, or on new cantus
+-- the same of `best`, of a command on a mixed exercise, of `weigh`, or of a command on new cantus
 abbrev pub asked_of_mixed : Text → List Text → Option Task
 asked_of_mixed word rest =
     if bytes_eq word (codes "best") then search_in (codes "best") best_asked rest
     else (if bytes_eq word (codes "mixed") then asked_by mixed_words mixed_asked rest
     else (if bytes_eq word (codes "markmixed") then asked_by mark_mixed_words mark_mixed_asked rest
-    else asked_of_cantus word rest))
+    else (if bytes_eq word (codes "weigh") then asked_by weigh_words weigh_asked rest
+    else asked_of_cantus word rest)))
 
 -- what the words ask for, if they are of a command's form
 abbrev pub asked : List Text → Option Task

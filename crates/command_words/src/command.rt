@@ -2,15 +2,15 @@
 
 ghost use Rattle.std.specs.Prelude.{◌≡◌, IfOk, IfSome, codes, option_map, true};
 ghost use Rattle.clap.specs.Words.{app_of, found_of, is_simple_and_free, rows_of};
-ghost use Rattle.command_words.specs.Commands.{HasHead, asked, asked_by, asked_of_cantus, best_asked, cantus_search_in, certify_asked, certify_words, certify_cantus_asked, check_asked, check_cantus_asked, check_cantus_words, check_words, class_asked, class_words, canon_asked, canon_words, compose_asked, drill_asked, drill_words, found_in, fromsmf_asked, fromsmf_words, job_in, asked_of_mixed, mark_mixed_asked, mark_mixed_words, mixed_asked, mixed_words, new_cantus_asked, search_in, task_of, texts};
+ghost use Rattle.command_words.specs.Commands.{HasHead, asked, asked_by, asked_of_cantus, best_asked, cantus_search_in, certify_asked, certify_words, certify_cantus_asked, check_asked, check_cantus_asked, check_cantus_words, check_words, class_asked, class_words, canon_asked, canon_words, compose_asked, drill_asked, drill_words, found_in, fromsmf_asked, fromsmf_words, job_in, asked_of_mixed, mark_mixed_asked, mark_mixed_words, mixed_asked, mixed_words, new_cantus_asked, search_in, task_of, texts, weigh_asked, weigh_words};
 
 use crate::forms::{
     canon_form, certify_form, check_cantus_form, check_form, class_form, drill_form, exercise_form,
-    from_smf_form, mark_mixed_form, mixed_form, new_cantus_form, search_form,
+    from_smf_form, mark_mixed_form, mixed_form, new_cantus_form, search_form, weigh_form,
 };
 use crate::values::{
     certifying, certifying_cantus, checking, checking_cantus, choosing, classing, composing,
-    drilling, imitating, inventing, job_on, marking_mixed, mixing, smf_reading,
+    drilling, imitating, inventing, job_on, marking_mixed, mixing, smf_reading, weighing,
 };
 use cert_text::Form;
 use clap::ArgMatches;
@@ -28,6 +28,8 @@ pub enum Job {
     Best { budget: u32 },
     /// The marks of its setting.
     Mark,
+    /// What its setting breaks and pays for.
+    Weigh,
     /// The marks of its cantus firmus.
     Cantus,
     /// The printed score of its setting.
@@ -43,6 +45,8 @@ pub enum MixedJob {
     Compose { budget: u32 },
     /// The marks of its setting.
     Mark,
+    /// What its setting breaks and pays for.
+    Weigh,
 }
 
 /// The species that is named for each of the four voices.
@@ -162,8 +166,8 @@ pub fn parse(alloc: Global, words: &[String]) -> Result<Option<Command<'_>>, Mem
     }
 }
 
-/// What a word and those behind it ask for, or none where they are of the form neither of `best` nor of a command on a mixed exercise or
-/// on new cantus.
+/// What a word and those behind it ask for, or none where they are of the form neither of `best` nor of `weigh` nor of a command on a
+/// mixed exercise or on new cantus.
 fn parse_of_mixed<'a>(
     alloc: Global,
     word: &str,
@@ -176,6 +180,7 @@ fn parse_of_mixed<'a>(
         "best" => parse_best(alloc, rest),
         "mixed" => parse_mixed(alloc, rest),
         "markmixed" => parse_mark_mixed(alloc, rest),
+        "weigh" => parse_weigh(alloc, rest),
         _ => parse_of_cantus(alloc, word, rest),
     }
 }
@@ -331,6 +336,18 @@ fn parse_mark_mixed(alloc: Global, words: &[String]) -> Result<Option<Command<'_
         return Ok(None);
     };
     Ok(marking_mixed(&matches))
+}
+
+/// The words behind `weigh`.
+fn parse_weigh(alloc: Global, words: &[String]) -> Result<Option<Command<'_>>, Memory>
+    ensures asked { IfOk result (λ found. option_map task_of found
+        ≡ asked_by weigh_words weigh_asked (texts words.now)) }
+    ensures head { IfOk result (λ found. IfSome found HasHead) }
+{
+    let Some(matches) = taken(weigh_form(alloc)?, words)? else {
+        return Ok(None);
+    };
+    Ok(weighing(&matches))
 }
 
 /// The words behind `newcantus`.

@@ -2,7 +2,7 @@
 
 ghost use Rattle.std.specs.Prelude.{◌≡◌, IfOk};
 ghost use Rattle.clap.specs.Words.{app_of, with_rule};
-ghost use Rattle.command_words.specs.Commands.{canon_words, certify_words, check_cantus_words, check_words, class_words, drill_words, needed_word, exercise_words, flag_word, fromsmf_words, head_words, mark_mixed_words, mixed_words, new_cantus_words, one_word, option_word, search_words, wanted_words};
+ghost use Rattle.command_words.specs.Commands.{canon_words, certify_words, check_cantus_words, check_words, class_words, drill_words, needed_word, exercise_words, flag_word, fromsmf_words, head_words, mark_mixed_words, mixed_words, new_cantus_words, one_word, option_word, search_words, wanted_words, weigh_words};
 
 use clap::{Arg, ArgAction, Command};
 use std::alloc::{AllocError, Global};
@@ -122,6 +122,15 @@ pub fn mark_mixed_form<'a>(alloc: Global) -> Result<Command<'a>, AllocError>
 {
     let command = exercise_form(alloc, "markmixed")?;
     with_option(alloc, command, "with", true)
+}
+
+/// `weigh EX [--sheet S] [--with LIST]`.
+pub fn weigh_form<'a>(alloc: Global) -> Result<Command<'a>, AllocError>
+    ensures { IfOk result (λ command. app_of command ≡ weigh_words) }
+{
+    let command = exercise_form(alloc, "weigh")?;
+    let command = with_option(alloc, command, "sheet", false)?;
+    with_option(alloc, command, "with", false)
 }
 
 /// `NAME MODE BARS LOW HIGH`.

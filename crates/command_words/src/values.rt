@@ -5,7 +5,7 @@ ghost use Rattle.clap.specs.Words.{first_of, found_of, rows_of};
 ghost use Rattle.fux_text.specs.Names.{mode_named};
 ghost use Rattle.smf_score.specs.Heads.{IsHead};
 ghost use Rattle.text_lines.specs.Numbers.{number_within};
-ghost use Rattle.command_words.specs.Commands.{AreNamed, HasHead, IsWanted, best_asked, budget_in, canon_asked, certify_asked, certify_cantus_asked, check_asked, check_cantus_asked, class_asked, compose_asked, drill_asked, form_in, fromsmf_asked, head_in, is_item, is_set, job_asked, mark_mixed_asked, mixed_asked, named_in, new_cantus_asked, number_at, said_of, task_of, wanted_in};
+ghost use Rattle.command_words.specs.Commands.{AreNamed, HasHead, IsWanted, best_asked, budget_in, canon_asked, certify_asked, certify_cantus_asked, check_asked, check_cantus_asked, class_asked, compose_asked, drill_asked, form_in, fromsmf_asked, head_in, is_item, is_set, job_asked, mark_mixed_asked, mixed_asked, named_in, new_cantus_asked, number_at, said_of, task_of, wanted_in, weigh_asked, weighing_with};
 
 use crate::command::{Command, Job, Making, MixedJob, Named, Wanted};
 use cert_text::Form;
@@ -315,6 +315,40 @@ pub fn marking_mixed<'a>(matches: &ArgMatches<'a>) -> Option<Command<'a>>
         named,
         job,
     }))
+}
+
+/// Weighing the setting of an exercise, with the species that a list names where there is one.
+fn weighing_with<'a>(
+    name: &'a str,
+    sheet: Option<&'a str>,
+    with: Option<&'a str>,
+) -> Option<Command<'a>>
+    ensures asked { option_map task_of result ≡ weighing_with name.entry.now
+        (option_map (λ text. text.now) sheet.entry) (option_map (λ text. text.now) with.entry) }
+    ensures head { IfSome result HasHead }
+{
+    let Some(list) = with else {
+        let job = Job::Weigh;
+        return Some(Command::Make(Making::OnExercise { name, sheet, job }));
+    };
+    let named = named_in(list)?;
+    let job = MixedJob::Weigh;
+    Some(Command::Make(Making::OnMixed {
+        name,
+        sheet,
+        named,
+        job,
+    }))
+}
+
+/// `weigh`, on the exercise of a file.
+pub fn weighing<'a>(matches: &ArgMatches<'a>) -> Option<Command<'a>>
+    ensures asked { option_map task_of result ≡ weigh_asked (rows_of (found_of matches.now)) }
+    ensures head { IfSome result HasHead }
+{
+    let name = value(matches, "EX")?;
+    let sheet = value(matches, "sheet");
+    weighing_with(name, sheet, value(matches, "with"))
 }
 
 /// What is asked of a new cantus.

@@ -1,6 +1,6 @@
 pub mod CantusLemmas
-pub mod LawfulCantus
 pub mod ChargeLemmas
+pub mod LawfulCantus
 pub mod ListLemmas
 pub mod MarkLemmas
 pub mod SettingLemmas

@@ -14,10 +14,11 @@ use Rattle.works.specs.declared.work.Verdict.TheVariants.{Spent}
 use Rattle.works.specs.declared.work.Stop.{Stop}
 use Rattle.works.specs.declared.work.Stop.TheVariants.{Refused, Memory}
 use Rattle.command_words.specs.declared.command.Job.{Job}
-use Rattle.command_words.specs.declared.command.Job.TheVariants.{Compose, Best, Mark, Cantus, Print, ToSmf}
+use Rattle.command_words.specs.declared.command.Job.TheVariants.{Compose, Best, Mark, Weigh, Cantus, Print, ToSmf}
 use Rattle.penalty_sheet.specs.declared.sheet.Sheet.{Sheet}
 use Rattle.works.specs.CantusCertified.{MakesCantusCertificate}
 use Rattle.works.specs.CantusChecked.{ChecksCantusBy}
+use Rattle.works.specs.Charged.{Weighs}
 use Rattle.works.specs.Certified.{Certifies}
 use Rattle.works.specs.Checked.{AnswersWithin, Checks, IsUnreadable}
 use Rattle.works.specs.Classes.{IsClass, IsList, RefusesList}
@@ -41,6 +42,7 @@ abbrev pub MakesOf : Job → Sheet → Exercise → Work → Type 0
 MakesOf (Compose budget) sheet ex = Composes budget sheet ex
 MakesOf (Best budget) sheet ex = ComposesSharply budget sheet ex
 MakesOf Mark sheet ex = Marks ex
+MakesOf Weigh sheet ex = Weighs sheet ex ex
 MakesOf Cantus sheet ex = CantusMarks ex
 MakesOf Print sheet ex = Prints ex
 MakesOf ToSmf sheet ex = WritesSmf ex

@@ -12,6 +12,7 @@ ghost use Rattle.works.specs.Endings.{IsMade, Says, SaysRefusal, SaysWithin, Say
 ghost use Rattle.works.specs.Works.{Answers, ChecksTexts, MakesOf, MakesOfText, OnTexts, ReadsSheetFile};
 
 use crate::cantus_checking::checked_cantus;
+use crate::charging::weigh;
 use crate::checking::check;
 use crate::classing::class;
 use crate::complaint::{Complaint, FileName};
@@ -170,6 +171,7 @@ fn of_exercise<R: Threads + Sync>(
         Job::Compose { budget } => compose(rt, alloc, exercise, sheet, budget),
         Job::Best { budget } => best(rt, alloc, exercise, sheet, budget),
         Job::Mark => mark(alloc, exercise),
+        Job::Weigh => weigh(alloc, exercise, sheet),
         Job::Cantus => cantus(alloc, exercise),
         Job::Print => print(alloc, exercise),
         Job::ToSmf => to_smf(alloc, exercise),
