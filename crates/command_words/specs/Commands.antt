@@ -143,8 +143,8 @@ mark_mixed_words = with_rule (exercise_words (codes "markmixed")) (option_word t
 
 abbrev pub weigh_words : App
 weigh_words =
-    with_rule (with_rule (exercise_words (codes "weigh")) (option_word false (codes "sheet")))
-    (option_word false (codes "with"))
+    with_rule (with_rule (search_words (codes "weigh")) (option_word false (codes "with")))
+    (option_word false (codes "against"))
 
 -- a command on what is asked of a new cantus
 abbrev pub wanted_words : Text → App
@@ -311,14 +311,24 @@ mark_mixed_asked rows = do
   named ← first_of (codes "with") rows >>= named_in
   Some (on_mixed name None named mixed.Mark)
 
--- weighing the setting of an exercise, with the species that a list names where there is one
-abbrev pub weighing_with : Text → Option Text → Option Text → Option Task
-weighing_with name sheet None = Some (on_exercise name sheet Weigh)
-weighing_with name sheet (Some list) = named_in list >>= λ named. Some (on_mixed name sheet named mixed.Weigh)
+-- the budget of the search that a setting is weighed against: `best` is the only one, and a budget is given with it alone
+abbrev pub against_in : Option Text → Option Text → Option (Option ℕ)
+against_in None None = Some None
+against_in None (Some budget) = None
+against_in (Some word) budget =
+    if bytes_eq word (codes "best") then option_map (λ n. Some n) (budget_in budget) else None
+
+-- weighing the setting of an exercise, alone or against a search, or with the species that a list names
+abbrev pub weighing_with : Text → Option Text → Option Text → Option ℕ → Option Task
+weighing_with name sheet None against = Some (on_exercise name sheet (Weigh against))
+weighing_with name sheet (Some list) None = named_in list >>= λ named. Some (on_mixed name sheet named mixed.Weigh)
+weighing_with name sheet (Some list) (Some budget) = None
 
 abbrev pub weigh_asked : List Row → Option Task
-weigh_asked rows =
-    first_of (codes "EX") rows >>= λ name. weighing_with name (first_of (codes "sheet") rows) (first_of (codes "with") rows)
+weigh_asked rows = do
+  name ← first_of (codes "EX") rows
+  against ← against_in (first_of (codes "against") rows) (first_of (codes "budget") rows)
+  weighing_with name (first_of (codes "sheet") rows) (first_of (codes "with") rows) against
 
 -- what is wanted, where its range doesn't fall
 abbrev pub if_rising : Wanted → Option Wanted

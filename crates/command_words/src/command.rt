@@ -28,8 +28,9 @@ pub enum Job {
     Best { budget: u32 },
     /// The marks of its setting.
     Mark,
-    /// What its setting breaks and pays for.
-    Weigh,
+    /// What its setting breaks and pays for; and how far that is from the best penalty, where there is a budget to
+    /// search for it by sharper floors.
+    Weigh { against: Option<u32> },
     /// The marks of its cantus firmus.
     Cantus,
     /// The printed score of its setting.

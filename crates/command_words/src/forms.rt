@@ -124,13 +124,13 @@ pub fn mark_mixed_form<'a>(alloc: Global) -> Result<Command<'a>, AllocError>
     with_option(alloc, command, "with", true)
 }
 
-/// `weigh EX [--sheet S] [--with LIST]`.
+/// `weigh EX [--sheet S] [--budget N] [--with LIST] [--against best]`.
 pub fn weigh_form<'a>(alloc: Global) -> Result<Command<'a>, AllocError>
     ensures { IfOk result (λ command. app_of command ≡ weigh_words) }
 {
-    let command = exercise_form(alloc, "weigh")?;
-    let command = with_option(alloc, command, "sheet", false)?;
-    with_option(alloc, command, "with", false)
+    let command = search_form(alloc, "weigh")?;
+    let command = with_option(alloc, command, "with", false)?;
+    with_option(alloc, command, "against", false)
 }
 
 /// `NAME MODE BARS LOW HIGH`.

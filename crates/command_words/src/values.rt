@@ -5,7 +5,7 @@ ghost use Rattle.clap.specs.Words.{first_of, found_of, rows_of};
 ghost use Rattle.fux_text.specs.Names.{mode_named};
 ghost use Rattle.smf_score.specs.Heads.{IsHead};
 ghost use Rattle.text_lines.specs.Numbers.{number_within};
-ghost use Rattle.command_words.specs.Commands.{AreNamed, HasHead, IsWanted, best_asked, budget_in, canon_asked, certify_asked, certify_cantus_asked, check_asked, check_cantus_asked, class_asked, compose_asked, drill_asked, form_in, fromsmf_asked, head_in, is_item, is_set, job_asked, mark_mixed_asked, mixed_asked, named_in, new_cantus_asked, number_at, said_of, task_of, wanted_in, weigh_asked, weighing_with};
+ghost use Rattle.command_words.specs.Commands.{AreNamed, HasHead, IsWanted, against_in, best_asked, budget_in, canon_asked, certify_asked, certify_cantus_asked, check_asked, check_cantus_asked, class_asked, compose_asked, drill_asked, form_in, fromsmf_asked, head_in, is_item, is_set, job_asked, mark_mixed_asked, mixed_asked, named_in, new_cantus_asked, number_at, said_of, task_of, wanted_in, weigh_asked, weighing_with};
 
 use crate::command::{Command, Job, Making, MixedJob, Named, Wanted};
 use cert_text::Form;
@@ -317,20 +317,37 @@ pub fn marking_mixed<'a>(matches: &ArgMatches<'a>) -> Option<Command<'a>>
     }))
 }
 
-/// Weighing the setting of an exercise, with the species that a list names where there is one.
+/// The budget of the search that a setting is weighed against, if it is weighed against one.
+fn against_of(word: Option<&str>, budget: Option<&str>) -> Option<Option<u32>>
+    ensures { result ≡ against_in (option_map (λ text. text.now) word.entry)
+        (option_map (λ text. text.now) budget.entry) }
+{
+    match (word, budget) {
+        (None, None) => Some(None),
+        (None, Some(_)) => None,
+        (Some("best"), budget) => Some(Some(budget_of(budget)?)),
+        (Some(_), _) => None,
+    }
+}
+
+/// Weighing the setting of an exercise, alone or against a search, or with the species that a list names.
 fn weighing_with<'a>(
     name: &'a str,
     sheet: Option<&'a str>,
     with: Option<&'a str>,
+    against: Option<u32>,
 ) -> Option<Command<'a>>
     ensures asked { option_map task_of result ≡ weighing_with name.entry.now
-        (option_map (λ text. text.now) sheet.entry) (option_map (λ text. text.now) with.entry) }
+        (option_map (λ text. text.now) sheet.entry) (option_map (λ text. text.now) with.entry) against }
     ensures head { IfSome result HasHead }
 {
     let Some(list) = with else {
-        let job = Job::Weigh;
+        let job = Job::Weigh { against };
         return Some(Command::Make(Making::OnExercise { name, sheet, job }));
     };
+    if against.is_some() {
+        return None;
+    }
     let named = named_in(list)?;
     let job = MixedJob::Weigh;
     Some(Command::Make(Making::OnMixed {
@@ -347,8 +364,10 @@ pub fn weighing<'a>(matches: &ArgMatches<'a>) -> Option<Command<'a>>
     ensures head { IfSome result HasHead }
 {
     let name = value(matches, "EX")?;
+    let against = against_of(value(matches, "against"), value(matches, "budget"))?;
     let sheet = value(matches, "sheet");
-    weighing_with(name, sheet, value(matches, "with"))
+    let with = value(matches, "with");
+    weighing_with(name, sheet, with, against)
 }
 
 /// What is asked of a new cantus.

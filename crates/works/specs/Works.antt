@@ -18,8 +18,8 @@ use Rattle.command_words.specs.declared.command.Job.TheVariants.{Compose, Best, 
 use Rattle.penalty_sheet.specs.declared.sheet.Sheet.{Sheet}
 use Rattle.works.specs.CantusCertified.{MakesCantusCertificate}
 use Rattle.works.specs.CantusChecked.{ChecksCantusBy}
-use Rattle.works.specs.Charged.{Weighs}
 use Rattle.works.specs.Certified.{Certifies}
+use Rattle.works.specs.Charged.{Weighs}
 use Rattle.works.specs.Checked.{AnswersWithin, Checks, IsUnreadable}
 use Rattle.works.specs.Classes.{IsClass, IsList, RefusesList}
 use Rattle.command_words.specs.Commands.{Task, on_exercise, on_mixed, certify, check, fromsmf, drill, class_report, find_canon, find_cantus, certify_cantus, check_cantus}
@@ -42,7 +42,7 @@ abbrev pub MakesOf : Job → Sheet → Exercise → Work → Type 0
 MakesOf (Compose budget) sheet ex = Composes budget sheet ex
 MakesOf (Best budget) sheet ex = ComposesSharply budget sheet ex
 MakesOf Mark sheet ex = Marks ex
-MakesOf Weigh sheet ex = Weighs sheet ex ex
+MakesOf (Weigh against) sheet ex = Weighs against sheet ex
 MakesOf Cantus sheet ex = CantusMarks ex
 MakesOf Print sheet ex = Prints ex
 MakesOf ToSmf sheet ex = WritesSmf ex

@@ -171,7 +171,7 @@ fn of_exercise<R: Threads + Sync>(
         Job::Compose { budget } => compose(rt, alloc, exercise, sheet, budget),
         Job::Best { budget } => best(rt, alloc, exercise, sheet, budget),
         Job::Mark => mark(alloc, exercise),
-        Job::Weigh => weigh(alloc, exercise, sheet),
+        Job::Weigh { against } => weigh(rt, alloc, exercise, sheet, against),
         Job::Cantus => cantus(alloc, exercise),
         Job::Print => print(alloc, exercise),
         Job::ToSmf => to_smf(alloc, exercise),
