@@ -15,9 +15,8 @@ pub trait Told: OpenPart {
     /// Adds what is kept.
     fn tell(&self, text: &mut String) -> Result<(), Fail>;
 
-    /// What the column `now`, column `i`, pays.
-    fn paid(&self, i: usize, now: &[Cell]) -> u32 {
-        let _ = (i, now);
+    /// What a column pays by its number and its cells: nothing, but where runs are followed.
+    fn paid(&self, _i: usize, _now: &[Cell]) -> u32 {
         0
     }
 }

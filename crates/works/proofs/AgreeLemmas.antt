@@ -40,7 +40,10 @@ best_is_one ex sheet s t one other =
     decide (earlier-cases s t (one.lawful.setting.whole ∙ sym other.lawful.setting.whole))
   where
     level : penalty_of ex sheet s ≡ penalty_of ex sheet t
-    level = omega (arith, one.least t other.lawful, other.least s one.lawful)
+    level =
+        let no_more : penalty_of ex sheet s ≤ penalty_of ex sheet t = one.least t other.lawful in
+        let no_less : penalty_of ex sheet t ≤ penalty_of ex sheet s = other.least s one.lawful in
+        omega (arith, no_more, no_less)
 
     decide : IsEarlier s t ⊎ ((s ≡ t) ⊎ IsEarlier t s) → s ≡ t
     decide (inl before) =

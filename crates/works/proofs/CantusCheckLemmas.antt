@@ -30,7 +30,7 @@ module _ (plan : CantusPlan) (files : Files) (name : List ℕ) (output : Output)
   only_valid : (it : CertVerdict) → JudgesCantus plan files name it → output ≡ told it → output.verdict ≡ Favorable
       → IsAccepted plan files name output
   only_valid (Accepted answer) found e good = elim found.such [
-    | inl no ↦ absurd no
+    | inl never ↦ absurd never
     | inr behind ↦ record {
       said = behind.head;
       valid = record { bytes = found.bytes; had = found.had; such = behind.finds.1 };

@@ -53,7 +53,7 @@ module _ (ex : Exercise) (sheet : Sheet) (files : Files) (name : List ℕ) (outp
   only_valid : (it : CertVerdict) → Judges ex sheet files name it → output ≡ told it → output.verdict ≡ Favorable
       → IsAccepted ex sheet files name output
   only_valid (Accepted answer) found e good = elim found.such [
-    | inl no ↦ absurd no
+    | inl never ↦ absurd never
     | inr behind ↦ record {
       head = behind.head.head;
       valid = record {

@@ -19,7 +19,7 @@ use Rattle.works.specs.declared.refusal.Refusal.{Refusal}
 use Rattle.works.specs.declared.refusal.Refusal.TheVariants.{LongCertificate}
 use Rattle.works.specs.declared.work.Output.{Output}
 use Rattle.works.specs.declared.work.Verdict.{Verdict}
-use Rattle.works.specs.declared.work.Verdict.TheVariants.{Favorable, Unfavorable, Spent}
+use Rattle.works.specs.declared.work.Verdict.TheVariants.{Spent}
 use Rattle.works.specs.Composed.{TellsAs}
 use Rattle.works.specs.Searched.{IsBestFound, IsNarrow, RefusesWidth}
 use Rattle.works.specs.Texts.{Work}

@@ -12,7 +12,6 @@ use Rattle.score_marker.specs.Marks.{AreMarks}
 use Rattle.works.specs.declared.searching.Found.{Found}
 use Rattle.works.specs.declared.work.Output.{Output}
 use Rattle.works.specs.declared.work.Verdict.{Verdict}
-use Rattle.works.specs.declared.work.Verdict.TheVariants.{Favorable, Unfavorable, Spent}
 use Rattle.works.specs.Composed.{TellsAs, TellsNone}
 use Rattle.works.specs.Searched.{IsFound, IsNarrow, RefusesWidth, usual_sheet}
 use Rattle.works.specs.Texts.{Work}

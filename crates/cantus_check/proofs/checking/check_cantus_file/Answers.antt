@@ -1,4 +1,4 @@
-use Rattle.std.proofs.Common.{List, Result, Ok, Err, refl, sym, subst}
+use Rattle.std.proofs.Common.{◌≡◌, List, [], Result, Ok, Err, refl, sym, subst}
 use Rattle.std.specs.Prelude.{⊤}
 use Rattle.cert_file.specs.declared.verdict.Verdict.{Verdict}
 use Rattle.fux_port.specs.Counts.{Rose}
@@ -6,8 +6,11 @@ use Rattle.cantus_check.specs.Answers.{Answers}
 use Rattle.cantus_check.specs.Topics.{cantus_subject}
 use Rattle.cantus_law.specs.Claims.{Said}
 use Rattle.cantus_space.specs.declared.plan.CantusPlan.{CantusPlan}
-use Rattle.cert_file.specs.Checking.{Checking}
+use Rattle.cantus_text.specs.Heads.{IsHeadText}
+use Rattle.cert_file.specs.Checking.{Checking, opened_at}
 use Rattle.cert_file.specs.Judgments.{Finds, Shows}
+use Rattle.cert_file.specs.Readings.{Files}
+use Rattle.cert_file.specs.Subjects.{IsOpened}
 use Rattle.fux_pitch.specs.declared.pitch.Pitch.{Pitch}
 use Rattle.cantus_check.specs.declared.checking.CantusFault.{CantusFault}
 use Rattle.cantus_check.proofs.AnswerLemmas.{accepts_valid, judged_answer, opening_answer, starts_answer, unstarted_missing}
@@ -38,7 +41,7 @@ returns-in-Err-open-clause-answers g c =
     let rose = Rose (g.F.Shelf.faults c.args.shelf.now) (g.F.Shelf.faults c.start.new.shelf) in
     subst (λ (r : Result Verdict CantusFault). Answers c.args.space.now files c.args.name.now rose r)
     (sym c.not_opened.ensures)
-    (opening_answer c.args.space.now files c.args.name.now rose _ _ c.in-Err-open.fault c.in-Ok.ensures.starts
+    (opening_answer c.args.space.now files c.args.name.now rose c.in-Ok.started.0.best c.in-Ok.started.1 c.in-Err-open.fault c.in-Ok.ensures.starts
     c.in-Err-open.ensures.fault)
 
 pub returns-in-Err-open-clause-accepts : goal.returns-in-Err-open-clause-accepts
@@ -46,6 +49,24 @@ returns-in-Err-open-clause-accepts g c =
     accepts_valid c.args.space.now (g.F.Shelf.files c.args.shelf.now) c.args.name.now
     (Rose (g.F.Shelf.faults c.args.shelf.now) (g.F.Shelf.faults c.start.new.shelf)) _
     (returns-in-Err-open-clause-answers g c)
+
+pub judge-requires-clause-fresh : goal.judge-requires-clause-fresh
+judge-requires-clause-fresh g c =
+    subst (λ (k : Checking CantusPlan Said (List Pitch)). k ≡ opened_at k.asked k.head [])
+    (sym c.in-Ok-open.ensures.opened) refl
+
+pub judge-requires-clause-sound : goal.judge-requires-clause-sound
+judge-requires-clause-sound g c = c.kept.ensures.sound
+
+pub judge-requires-clause-opened : goal.judge-requires-clause-opened
+judge-requires-clause-opened g c =
+    let name = c.args.name.now in
+    subst
+    (λ (k : Checking CantusPlan Said (List Pitch)).
+    IsOpened IsHeadText (g.F.Shelf.files c.start.new.shelf) name k.head c.in-Ok.started.1)
+    (sym c.in-Ok-open.ensures.opened)
+    (subst (λ (fs : Files). IsOpened IsHeadText fs name c.in-Ok.started.0.best c.in-Ok.started.1)
+    (sym c.start.ensures.files) c.in-Ok.ensures.starts)
 
 pub returns-in-Ok-judge-clause-answers : goal.returns-in-Ok-judge-clause-answers
 returns-in-Ok-judge-clause-answers g c =

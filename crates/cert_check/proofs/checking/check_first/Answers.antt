@@ -1,4 +1,4 @@
-use Rattle.std.proofs.Common.{◌≡◌, List, [], Result, refl, sym, subst}
+use Rattle.std.proofs.Common.{◌≡◌, List, [], None, Result, refl, sym, subst}
 use Rattle.cert_check.specs.Answers.{Answers}
 use Rattle.cert_file.specs.Checking.{Checking, opened_at}
 use Rattle.cert_file.specs.Subjects.{IsOpened}
@@ -31,7 +31,8 @@ judge_claims-requires-clause-opened g c =
     let files = g.F.Shelf.files c.args.shelf.now in
     subst (λ (k : Checking Asked Opening (List (List Cell))). IsOpened (IsOpeningText k.asked.exercise) files c.args.name.now k.head c.behind.result)
     (sym c.in-Ok.ensures.opened)
-    (subst (λ (r : Reading). IsOpened (IsOpeningText c.args.ex.now) files c.args.name.now _ r) (sym c.behind.ensures)
+    (subst (λ (r : Reading). IsOpened (IsOpeningText c.args.ex.now) files c.args.name.now (record { head = c.args.head; stated = None }) r)
+    (sym c.behind.ensures)
     (first_opened c.args.ex.now files c.args.name.now c.args.head c.args.pieces c.requires.started))
 
 pub judge_claims-requires-clause-fresh : goal.judge_claims-requires-clause-fresh
