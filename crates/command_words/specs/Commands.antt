@@ -388,7 +388,7 @@ asked_of_cantus word rest =
     else None))
 
 -- the same of `best`, of a command on a mixed exercise, of `weigh`, or of a command on new cantus
-abbrev pub asked_of_mixed : Text → List Text → Option Task
+unfoldable pub asked_of_mixed : Text → List Text → Option Task
 asked_of_mixed word rest =
     if bytes_eq word (codes "best") then search_in (codes "best") best_asked rest
     else (if bytes_eq word (codes "mixed") then asked_by mixed_words mixed_asked rest

@@ -169,6 +169,7 @@ pub fn parse(alloc: Global, words: &[String]) -> Result<Option<Command<'_>>, Mem
 
 /// What a word and those behind it ask for, or none where they are of the form neither of `best` nor of `weigh` nor of a command on a
 /// mixed exercise or on new cantus.
+#[tactic(auto, unfolding(crate::specs::Commands::asked_of_mixed))]
 fn parse_of_mixed<'a>(
     alloc: Global,
     word: &str,
