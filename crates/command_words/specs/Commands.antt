@@ -16,7 +16,7 @@ use Rattle.text_lines.specs.Numbers.{number_within}
 use Rattle.command_words.specs.declared.command.Command.{Command}
 use Rattle.command_words.specs.declared.command.Command.TheVariants.{Certify, CertifyCantus, Make}
 use Rattle.command_words.specs.declared.command.Job.{Job}
-use Rattle.command_words.specs.declared.command.Job.TheVariants.{Compose, Best, Mark, Weigh, Cantus, Print, ToSmf}
+use Rattle.command_words.specs.declared.command.Job.TheVariants.{Compose, Best, Mark, Weigh, Cantus, Print, ToSmf, ToXml, MarkXml}
 use Rattle.command_words.specs.declared.command.MixedJob.{MixedJob}
 use Rattle.command_words.specs.declared.command.MixedJob.TheVariants as mixed
 use Rattle.command_words.specs.declared.command.Making.{Making}
@@ -387,14 +387,16 @@ asked_of_cantus word rest =
     else (if bytes_eq word (codes "checkcantus") then asked_by check_cantus_words check_cantus_asked rest
     else None))
 
--- the same of `best`, of a command on a mixed exercise, of `weigh`, or of a command on new cantus
+-- the same of `best`, of a command on a mixed exercise, of `weigh`, of one that writes a sheet, or of a command on new cantus
 unfoldable pub asked_of_mixed : Text → List Text → Option Task
 asked_of_mixed word rest =
     if bytes_eq word (codes "best") then search_in (codes "best") best_asked rest
     else (if bytes_eq word (codes "mixed") then asked_by mixed_words mixed_asked rest
     else (if bytes_eq word (codes "markmixed") then asked_by mark_mixed_words mark_mixed_asked rest
     else (if bytes_eq word (codes "weigh") then asked_by weigh_words weigh_asked rest
-    else asked_of_cantus word rest)))
+    else (if bytes_eq word (codes "toxml") then job_in (codes "toxml") ToXml rest
+    else (if bytes_eq word (codes "markxml") then job_in (codes "markxml") MarkXml rest
+    else asked_of_cantus word rest)))))
 
 -- what the words ask for, if they are of a command's form
 abbrev pub asked : List Text → Option Task

@@ -37,6 +37,10 @@ pub enum Job {
     Print,
     /// The MIDI file of its setting.
     ToSmf,
+    /// The MusicXML document of its setting, or without one of the sheet to fill in.
+    ToXml,
+    /// The MusicXML document of its setting with the marks in red.
+    MarkXml,
 }
 
 /// What is to be made of an exercise whose free voices have a species each.
@@ -167,8 +171,8 @@ pub fn parse(alloc: Global, words: &[String]) -> Result<Option<Command<'_>>, Mem
     }
 }
 
-/// What a word and those behind it ask for, or none where they are of the form neither of `best` nor of `weigh` nor of a command on a
-/// mixed exercise or on new cantus.
+/// What a word and those behind it ask for, or none where they are of the form neither of `best` nor of `weigh` nor of a command that
+/// writes a sheet, or is on a mixed exercise or on new cantus.
 #[tactic(auto, unfolding(crate::specs::Commands::asked_of_mixed))]
 fn parse_of_mixed<'a>(
     alloc: Global,
@@ -183,6 +187,8 @@ fn parse_of_mixed<'a>(
         "mixed" => parse_mixed(alloc, rest),
         "markmixed" => parse_mark_mixed(alloc, rest),
         "weigh" => parse_weigh(alloc, rest),
+        "toxml" => parse_job(alloc, "toxml", Job::ToXml, rest),
+        "markxml" => parse_job(alloc, "markxml", Job::MarkXml, rest),
         _ => parse_of_cantus(alloc, word, rest),
     }
 }
