@@ -14,7 +14,7 @@ use Rattle.text_lines.specs.Numbers.{number_within}
 use Rattle.command_words.specs.declared.command.Command.{Command}
 use Rattle.command_words.specs.declared.command.Command.TheVariants.{Certify, CertifyCantus, Make}
 use Rattle.command_words.specs.declared.command.Job.{Job}
-use Rattle.command_words.specs.declared.command.Job.TheVariants.{Compose, Best, Mark, Cantus, Print, ToSmf}
+use Rattle.command_words.specs.declared.command.Job.TheVariants.{Compose, Best, Mark, Weigh, Cantus, Print, ToSmf, ToXml, MarkXml}
 use Rattle.command_words.specs.declared.command.MixedJob.{MixedJob}
 use Rattle.command_words.specs.declared.command.MixedJob.TheVariants as mixed
 use Rattle.command_words.specs.declared.command.Making.{Making}
@@ -228,6 +228,25 @@ mark_mixed_asked rows = do
   named ← first_of (codes "with") rows >>= named_in
   Some (on_mixed name None named mixed.Mark)
 
+-- the budget of the search that a setting is weighed against: `best` is the only one, and a budget is given with it alone
+abbrev pub against_in : Option Text → Option Text → Option (Option ℕ)
+against_in None None = Some None
+against_in None (Some budget) = None
+against_in (Some word) budget =
+    if bytes_eq word (codes "best") then option_map (λ n. Some n) (budget_in budget) else None
+
+-- weighing the setting of an exercise, alone or against a search, or with the species that a list names
+abbrev pub weighing_with : Text → Option Text → Option Text → Option ℕ → Option Task
+weighing_with name sheet None against = Some (on_exercise name sheet (Weigh against))
+weighing_with name sheet (Some list) None = named_in list >>= λ named. Some (on_mixed name sheet named mixed.Weigh)
+weighing_with name sheet (Some list) (Some budget) = None
+
+abbrev pub weigh_asked : List Row → Option Task
+weigh_asked rows = do
+  name ← first_of (codes "EX") rows
+  against ← against_in (first_of (codes "against") rows) (first_of (codes "budget") rows)
+  weighing_with name (first_of (codes "sheet") rows) (first_of (codes "with") rows) against
+
 -- what is wanted, where its range doesn't fall
 abbrev pub if_rising : Wanted → Option Wanted
 if_rising wanted = if int_le (key_of wanted.low) (key_of wanted.high) then Some wanted else None
@@ -275,6 +294,9 @@ asks verb.Class = class_asked
 asks verb.Canon = canon_asked
 asks verb.Mixed = mixed_asked
 asks verb.MarkMixed = mark_mixed_asked
+asks verb.Weigh = weigh_asked
+asks verb.ToXml = job_asked ToXml
+asks verb.MarkXml = job_asked MarkXml
 asks verb.NewCantus = new_cantus_asked
 asks verb.CertCantus = certify_cantus_asked
 asks verb.CheckCantus = check_cantus_asked

@@ -13,7 +13,9 @@ use Rattle.command_words.specs.declared.verbs.Verb.TheVariants as verb
 -- all commands
 abbrev pub verbs : List Verb
 verbs =
-    verb.Compose ∷ verb.Best ∷ verb.Certify ∷ verb.Check ∷ verb.Mark ∷ verb.Cantus ∷ verb.Print ∷ verb.ToSmf ∷ verb.FromSmf ∷ verb.Drill ∷ verb.Class ∷ verb.Canon ∷ verb.Mixed ∷ verb.MarkMixed ∷ verb.NewCantus ∷ verb.CertCantus ∷ verb.CheckCantus ∷ []
+    verb.Compose ∷ verb.Best ∷ verb.Certify ∷ verb.Check ∷ verb.Mark ∷ verb.Cantus ∷ verb.Print ∷ verb.ToSmf
+    ∷ verb.FromSmf ∷ verb.Drill ∷ verb.Class ∷ verb.Canon ∷ verb.Mixed ∷ verb.MarkMixed ∷ verb.Weigh ∷ verb.ToXml
+    ∷ verb.MarkXml ∷ verb.NewCantus ∷ verb.CertCantus ∷ verb.CheckCantus ∷ []
 
 -- the row of a command: its first word, and what it takes behind that
 abbrev pub row_of : Verb → Text × List Part
@@ -31,6 +33,9 @@ row_of verb.Class = (codes "class", part.List ∷ [])
 row_of verb.Canon = (codes "canon", part.File ∷ part.Sheet ∷ part.Budget ∷ [])
 row_of verb.Mixed = (codes "mixed", part.Exercise ∷ part.Sheet ∷ part.Budget ∷ part.With ∷ [])
 row_of verb.MarkMixed = (codes "markmixed", part.Exercise ∷ part.With ∷ [])
+row_of verb.Weigh = (codes "weigh", part.Exercise ∷ part.Sheet ∷ part.Budget ∷ part.MayWith ∷ part.Against ∷ [])
+row_of verb.ToXml = (codes "toxml", part.Exercise ∷ [])
+row_of verb.MarkXml = (codes "markxml", part.Exercise ∷ [])
 row_of verb.NewCantus = (codes "newcantus", part.InMode ∷ part.Bars ∷ part.Low ∷ part.High ∷ part.Sheet ∷ part.Budget ∷ [])
 row_of verb.CertCantus = (codes "certcantus", part.InMode ∷ part.Bars ∷ part.Low ∷ part.High ∷ part.Sheet ∷ part.Budget ∷ [])
 row_of verb.CheckCantus = (codes "checkcantus", part.InMode ∷ part.Bars ∷ part.Low ∷ part.High ∷ part.Certificate ∷ part.Sheet ∷ [])
@@ -50,6 +55,8 @@ name_of part.Sheet = codes "sheet"
 name_of part.Budget = codes "budget"
 name_of part.Form = codes "form"
 name_of part.With = codes "with"
+name_of part.MayWith = codes "with"
+name_of part.Against = codes "against"
 name_of part.Mode = codes "mode"
 name_of part.Species = codes "species"
 name_of part.Voice = codes "voice"
@@ -71,6 +78,8 @@ kind_of part.Sheet = kind.Option
 kind_of part.Budget = kind.Option
 kind_of part.Form = kind.Option
 kind_of part.With = kind.Needed
+kind_of part.MayWith = kind.Option
+kind_of part.Against = kind.Option
 kind_of part.Mode = kind.Needed
 kind_of part.Species = kind.Needed
 kind_of part.Voice = kind.Needed

@@ -23,12 +23,19 @@ pub enum Job {
     Best { budget: u32 },
     /// The marks of its setting.
     Mark,
+    /// What its setting breaks and pays for; and how far that is from the best penalty, where there is a budget to
+    /// search for it by sharper floors.
+    Weigh { against: Option<u32> },
     /// The marks of its cantus firmus.
     Cantus,
     /// The printed score of its setting.
     Print,
     /// The MIDI file of its setting.
     ToSmf,
+    /// The MusicXML document of its setting, or without one of the sheet to fill in.
+    ToXml,
+    /// The MusicXML document of its setting with the marks in red.
+    MarkXml,
 }
 
 /// What is to be made of an exercise whose free voices have a species each.
@@ -38,6 +45,8 @@ pub enum MixedJob {
     Compose { budget: u32 },
     /// The marks of its setting.
     Mark,
+    /// What its setting breaks and pays for.
+    Weigh,
 }
 
 /// The species that is named for each of the four voices.

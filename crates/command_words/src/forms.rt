@@ -13,6 +13,7 @@ pub fn form<'a>(alloc: Global, verb: Verb) -> Result<Command<'a>, AllocError>
     ensures { IfOk result (λ command. app_of command ≡ form_of verb) }
 {
     let (word, parts) = verb.row();
+    let word: &'a str = word;
     with_parts(alloc, bare(alloc, word), parts)
 }
 

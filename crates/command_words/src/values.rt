@@ -5,7 +5,7 @@ ghost use Rattle.clap.specs.Words.{first_of, found_of, rows_of};
 ghost use Rattle.fux_text.specs.Names.{mode_named};
 ghost use Rattle.smf_score.specs.Heads.{IsHead};
 ghost use Rattle.text_lines.specs.Numbers.{number_within};
-ghost use Rattle.command_words.specs.Commands.{AreNamed, HasHead, IsWanted, asks, best_asked, budget_in, canon_asked, certify_asked, certify_cantus_asked, check_asked, check_cantus_asked, class_asked, compose_asked, drill_asked, form_in, from_smf_asked, head_in, is_item, is_set, job_asked, mark_mixed_asked, mixed_asked, named_in, new_cantus_asked, number_at, said_of, task_of, wanted_in};
+ghost use Rattle.command_words.specs.Commands.{AreNamed, HasHead, IsWanted, against_in, asks, best_asked, budget_in, canon_asked, certify_asked, certify_cantus_asked, check_asked, check_cantus_asked, class_asked, compose_asked, drill_asked, form_in, from_smf_asked, head_in, is_item, is_set, job_asked, mark_mixed_asked, mixed_asked, named_in, new_cantus_asked, number_at, said_of, task_of, wanted_in, weigh_asked, weighing_with};
 
 use crate::command::{Command, Job, Making, MixedJob, Named, Wanted};
 use crate::verbs::Verb;
@@ -318,6 +318,59 @@ fn mark_mixed_asked<'a>(matches: &ArgMatches<'a>) -> Option<Command<'a>>
     }))
 }
 
+/// The budget of the search that a setting is weighed against, if it is weighed against one.
+fn against_of(word: Option<&str>, budget: Option<&str>) -> Option<Option<u32>>
+    ensures { result ≡ against_in (option_map (λ text. text.now) word.entry)
+        (option_map (λ text. text.now) budget.entry) }
+{
+    match (word, budget) {
+        (None, None) => Some(None),
+        (None, Some(_)) => None,
+        (Some("best"), budget) => Some(Some(budget_of(budget)?)),
+        (Some(_), _) => None,
+    }
+}
+
+/// Weighing the setting of an exercise, alone or against a search, or with the species that a list names.
+fn weighing_with<'a>(
+    name: &'a str,
+    sheet: Option<&'a str>,
+    with: Option<&'a str>,
+    against: Option<u32>,
+) -> Option<Command<'a>>
+    ensures asked { option_map task_of result ≡ weighing_with name.entry.now
+        (option_map (λ text. text.now) sheet.entry) (option_map (λ text. text.now) with.entry) against }
+    ensures head { IfSome result HasHead }
+{
+    let Some(list) = with else {
+        let job = Job::Weigh { against };
+        return Some(Command::Make(Making::OnExercise { name, sheet, job }));
+    };
+    if against.is_some() {
+        return None;
+    }
+    let named = named_in(list)?;
+    let job = MixedJob::Weigh;
+    Some(Command::Make(Making::OnMixed {
+        name,
+        sheet,
+        named,
+        job,
+    }))
+}
+
+/// `weigh`, on the exercise of a file.
+fn weigh_asked<'a>(matches: &ArgMatches<'a>) -> Option<Command<'a>>
+    ensures asked { option_map task_of result ≡ weigh_asked (rows_of (found_of matches.now)) }
+    ensures head { IfSome result HasHead }
+{
+    let name = value(matches, "EX")?;
+    let against = against_of(value(matches, "against"), value(matches, "budget"))?;
+    let sheet = value(matches, "sheet");
+    let with = value(matches, "with");
+    weighing_with(name, sheet, with, against)
+}
+
 /// What is asked of a new cantus.
 fn wanted_of(matches: &ArgMatches<'_>) -> Option<Wanted>
     ensures value { result ≡ wanted_in (rows_of (found_of matches.now)) }
@@ -404,6 +457,9 @@ pub fn asked_of<'a>(verb: Verb, matches: &ArgMatches<'a>) -> Option<Command<'a>>
         Verb::Canon => canon_asked(matches),
         Verb::Mixed => mixed_asked(matches),
         Verb::MarkMixed => mark_mixed_asked(matches),
+        Verb::Weigh => weigh_asked(matches),
+        Verb::ToXml => job_asked(matches, Job::ToXml),
+        Verb::MarkXml => job_asked(matches, Job::MarkXml),
         Verb::NewCantus => new_cantus_asked(matches),
         Verb::CertCantus => certify_cantus_asked(matches),
         Verb::CheckCantus => check_cantus_asked(matches),

@@ -35,6 +35,12 @@ pub enum Verb {
     Mixed,
     /// The marks of such a setting.
     MarkMixed,
+    /// What a setting breaks and pays for.
+    Weigh,
+    /// The MusicXML document of an exercise.
+    ToXml,
+    /// The MusicXML document of a setting with the marks in red.
+    MarkXml,
     /// The best new cantus.
     NewCantus,
     /// The certificate of the best new cantus.
@@ -44,7 +50,7 @@ pub enum Verb {
 }
 
 /// All commands.
-const VERBS: [Verb; 17] = [
+const VERBS: [Verb; 20] = [
     Verb::Compose,
     Verb::Best,
     Verb::Certify,
@@ -59,6 +65,9 @@ const VERBS: [Verb; 17] = [
     Verb::Canon,
     Verb::Mixed,
     Verb::MarkMixed,
+    Verb::Weigh,
+    Verb::ToXml,
+    Verb::MarkXml,
     Verb::NewCantus,
     Verb::CertCantus,
     Verb::CheckCantus,
@@ -93,6 +102,10 @@ pub enum Part {
     Form,
     /// The species of voices, as a list.
     With,
+    /// The same where it may be left out.
+    MayWith,
+    /// The search that a setting is weighed against.
+    Against,
     /// The mode of a MIDI file.
     Mode,
     /// The species of a MIDI file.
@@ -155,6 +168,18 @@ impl Verb {
                 &[Part::Exercise, Part::Sheet, Part::Budget, Part::With],
             ),
             Verb::MarkMixed => ("markmixed", &[Part::Exercise, Part::With]),
+            Verb::Weigh => (
+                "weigh",
+                &[
+                    Part::Exercise,
+                    Part::Sheet,
+                    Part::Budget,
+                    Part::MayWith,
+                    Part::Against,
+                ],
+            ),
+            Verb::ToXml => ("toxml", &[Part::Exercise]),
+            Verb::MarkXml => ("markxml", &[Part::Exercise]),
             Verb::NewCantus => (
                 "newcantus",
                 &[
@@ -210,7 +235,8 @@ impl Part {
             Part::Sheet => "sheet",
             Part::Budget => "budget",
             Part::Form => "form",
-            Part::With => "with",
+            Part::With | Part::MayWith => "with",
+            Part::Against => "against",
             Part::Mode => "mode",
             Part::Species => "species",
             Part::Voice => "voice",
@@ -233,7 +259,7 @@ impl Part {
             | Part::Bars
             | Part::Low
             | Part::High => Kind::Word,
-            Part::Sheet | Part::Budget | Part::Form => Kind::Option,
+            Part::Sheet | Part::Budget | Part::Form | Part::MayWith | Part::Against => Kind::Option,
             Part::With | Part::Mode | Part::Species | Part::Voice | Part::Cantus => Kind::Needed,
             Part::TopFirst => Kind::Flag,
         }

@@ -1,4 +1,5 @@
 pub mod CantusLemmas
+pub mod ChargeLemmas
 pub mod LawfulCantus
 pub mod ListLemmas
 pub mod MarkLemmas

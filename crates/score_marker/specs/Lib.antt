@@ -1,4 +1,6 @@
 pub mod Cantus
+pub mod ChargeLines
+pub mod Charges
 pub mod Lists
 pub mod MarkLines
 pub mod Marks

@@ -56,7 +56,7 @@ fn mark_rule(
 }
 
 /// Appends the marks of column `i`, after the columns before it.
-fn mark_place(
+pub(crate) fn mark_place(
     marks: &mut Vec<Mark>,
     ex: &Exercise,
     score: &Score,

@@ -6,6 +6,7 @@ pub mod CantusCertifyLemmas
 pub mod CantusCheckLemmas
 pub mod CantusLemmas
 pub mod CertifyLemmas
+pub mod ChargedLemmas
 pub mod CheckLemmas
 pub mod ClassLemmas
 pub mod ContentLemmas

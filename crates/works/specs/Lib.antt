@@ -2,6 +2,7 @@ pub mod Blame
 pub mod CantusCertified
 pub mod CantusChecked
 pub mod Certified
+pub mod Charged
 pub mod Checked
 pub mod Classes
 pub mod Complaints

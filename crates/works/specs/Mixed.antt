@@ -10,12 +10,13 @@ use Rattle.species_space.specs.Naming.{AreFreelyNamed, IsFirstMisnamed, all_spec
 use Rattle.penalty_sheet.specs.declared.sheet.Sheet.{Sheet}
 use Rattle.score_marker.specs.Marks.{AreMarks}
 use Rattle.command_words.specs.declared.command.MixedJob.{MixedJob}
-use Rattle.command_words.specs.declared.command.MixedJob.TheVariants.{Compose, Mark}
+use Rattle.command_words.specs.declared.command.MixedJob.TheVariants.{Compose, Mark, Weigh}
 use Rattle.works.specs.declared.refusal.Refusal.{Refusal}
 use Rattle.works.specs.declared.refusal.Refusal.TheVariants.{With}
 use Rattle.works.specs.declared.work.Stop.{Stop}
 use Rattle.works.specs.declared.work.Stop.TheVariants.{Refused, Memory}
 use Rattle.works.specs.declared.work.Verdict.{Verdict}
+use Rattle.works.specs.Charged.{WeighsMixed}
 use Rattle.works.specs.Composed.{IsComposition, TellsAs, TellsBest, TellsNone}
 use Rattle.works.specs.Marked.{RefusesNoSetting, TellsLines}
 use Rattle.works.specs.Searched.{RefusesWidth}
@@ -50,6 +51,7 @@ MarksMixed ex mixed (Err refusal) = RefusesNoSetting ex refusal
 abbrev pub MakesOfMixed : MixedJob → Sheet → Exercise → Exercise → Work → Type 0
 MakesOfMixed (Compose budget) sheet ex mixed = ComposesMixed budget sheet ex mixed
 MakesOfMixed Mark sheet ex mixed = MarksMixed ex mixed
+MakesOfMixed Weigh sheet ex mixed = WeighsMixed sheet ex mixed
 
 -- a refusal of an exercise of which a voice is named that may not be: it tells the lowest one
 abbrev pub RefusesNaming : Exercise → List (Option ℕ) → Refusal → Type 0

@@ -1,12 +1,17 @@
--- What `print` and `tosmf` write: the setting of an exercise in another form.
-use Rattle.std.specs.Prelude.{◌≡◌, ℕ, List, Some, Ok, Err}
+-- What `print`, `tosmf`, `toxml` and `markxml` write: the setting of an exercise in another form.
+use Rattle.std.specs.Prelude.{◌≡◌, ℕ, List, None, Some, Ok, Err, length, map, nat_lt}
+use Rattle.std.specs.Borrow.{Bor}
 use Rattle.fux_grid.specs.declared.exercise.Exercise.{Exercise}
 use Rattle.fux_grid.specs.Grid.{Grid}
+use Rattle.score_marker.specs.declared.mark.Mark.{Mark}
+use Rattle.score_marker.specs.Marks.{AreMarks}
 use Rattle.score_print.specs.Printed.{printed_score}
+use Rattle.score_xml.specs.Documents.{document}
 use Rattle.smf_score.specs.Written.{smf_of}
+use Rattle.written_notes.specs.declared.marks.SheetMark.{SheetMark}
 use Rattle.works.specs.declared.work.Output.{Output}
 use Rattle.works.specs.declared.work.Verdict.TheVariants.{Favorable}
-use Rattle.works.specs.Marked.{RefusesNoSetting}
+use Rattle.works.specs.Marked.{RefusesNoSetting, marks_verdict}
 use Rattle.works.specs.Texts.{Work}
 
 -- an output is the setting of an exercise in the form that a function gives it
@@ -28,3 +33,28 @@ Prints ex = Renders ex (λ score. printed_score ex.voices ex.bars score.columns)
 -- `tosmf` makes this of an exercise
 abbrev pub WritesSmf : Exercise → Work → Type 0
 WritesSmf ex = Renders ex smf_of
+
+-- `toxml` makes this of an exercise, with or without a setting
+abbrev pub WritesXml : Exercise → Work → Type 0
+WritesXml ex (Ok output) = (output.bytes ≡ document ex None) × (output.verdict ≡ Favorable)
+WritesXml ex (Err refusal) = ⊥
+
+-- a mark as a sheet shows it
+abbrev pub shown_mark : Mark → SheetMark
+shown_mark mark = record { bar = mark.bar; slot = mark.slot; rule = mark.rule; voices = mark.voices }
+
+-- an output is the document of the setting of an exercise with exactly its marks in red
+pub record IsMarkedDocument (ex : Exercise) (output : Output) : Type 0 where
+  pub score : Grid
+  pub given : ex.setting ≡ Some score
+  pub marks : List Mark
+  pub exact : AreMarks ex score.columns marks
+  pub shown : Bor (List SheetMark)
+  pub are_shown : shown.now ≡ map shown_mark marks
+  pub bytes : output.bytes ≡ document ex (Some shown)
+  pub verdict : output.verdict ≡ marks_verdict (nat_lt 0 (length marks))
+
+-- `markxml` makes this of an exercise
+abbrev pub MarksXml : Exercise → Work → Type 0
+MarksXml ex (Ok output) = IsMarkedDocument ex output
+MarksXml ex (Err refusal) = RefusesNoSetting ex refusal

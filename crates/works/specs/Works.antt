@@ -14,11 +14,12 @@ use Rattle.works.specs.declared.work.Verdict.TheVariants.{Spent}
 use Rattle.works.specs.declared.work.Stop.{Stop}
 use Rattle.works.specs.declared.work.Stop.TheVariants.{Refused, Memory}
 use Rattle.command_words.specs.declared.command.Job.{Job}
-use Rattle.command_words.specs.declared.command.Job.TheVariants.{Compose, Best, Mark, Cantus, Print, ToSmf}
+use Rattle.command_words.specs.declared.command.Job.TheVariants.{Compose, Best, Mark, Weigh, Cantus, Print, ToSmf, ToXml, MarkXml}
 use Rattle.penalty_sheet.specs.declared.sheet.Sheet.{Sheet}
 use Rattle.works.specs.CantusCertified.{MakesCantusCertificate}
 use Rattle.works.specs.CantusChecked.{ChecksCantusBy}
 use Rattle.works.specs.Certified.{Certifies}
+use Rattle.works.specs.Charged.{Weighs}
 use Rattle.works.specs.Checked.{AnswersWithin, Checks, IsUnreadable}
 use Rattle.works.specs.Classes.{IsClass, IsList, RefusesList}
 use Rattle.command_words.specs.Commands.{Task, on_exercise, on_mixed, certify, check, fromsmf, drill, class_report, find_canon, find_cantus, certify_cantus, check_cantus}
@@ -31,7 +32,7 @@ use Rattle.works.specs.Invented.{MakesCantus}
 use Rattle.works.specs.Marked.{Marks, CantusMarks}
 use Rattle.works.specs.Mixed.{MakesMixed}
 use Rattle.works.specs.Played.{ReadsMidi}
-use Rattle.works.specs.Rendered.{Prints, WritesSmf}
+use Rattle.works.specs.Rendered.{MarksXml, Prints, WritesSmf, WritesXml}
 use Rattle.works.specs.Searched.{IsNarrow}
 use Rattle.works.specs.Sheets.{OnSheet, sheet_said}
 use Rattle.works.specs.Texts.{Work, OnText}
@@ -41,9 +42,12 @@ abbrev pub MakesOf : Job → Sheet → Exercise → Work → Type 0
 MakesOf (Compose budget) sheet ex = Composes budget sheet ex
 MakesOf (Best budget) sheet ex = ComposesSharply budget sheet ex
 MakesOf Mark sheet ex = Marks ex
+MakesOf (Weigh against) sheet ex = Weighs against sheet ex
 MakesOf Cantus sheet ex = CantusMarks ex
 MakesOf Print sheet ex = Prints ex
 MakesOf ToSmf sheet ex = WritesSmf ex
+MakesOf ToXml sheet ex = WritesXml ex
+MakesOf MarkXml sheet ex = MarksXml ex
 
 -- a job makes this of the text of an exercise, and of the file of a sheet where one is given
 abbrev pub MakesOfText : Job → List (List ℕ) → List ℕ → Work → Type 0

@@ -4,6 +4,7 @@
 mod cantus_certifying;
 mod cantus_checking;
 mod certifying;
+mod charging;
 mod checking;
 mod classing;
 mod complaint;

@@ -12,6 +12,7 @@ ghost use Rattle.works.specs.Endings.{IsMade, Says, SaysRefusal, SaysWithin, Say
 ghost use Rattle.works.specs.Works.{Answers, ChecksTexts, MakesOf, MakesOfText, OnTexts, ReadsSheetFile};
 
 use crate::cantus_checking::checked_cantus;
+use crate::charging::weigh;
 use crate::checking::check;
 use crate::classing::class;
 use crate::complaint::{Complaint, FileName};
@@ -25,7 +26,7 @@ use crate::marking::{cantus, mark};
 use crate::mixing::on_mixed;
 use crate::playing::{LONGEST_MIDI, from_smf};
 use crate::refusal::{Refusal, refusal_text};
-use crate::rendering::{print, to_smf};
+use crate::rendering::{mark_xml, print, to_smf, to_xml};
 use crate::weighing::sheet_of;
 use crate::work::{Halt, Output, Stop, Unmade, Verdict};
 use class_marker::Text;
@@ -170,9 +171,12 @@ fn of_exercise<R: Threads + Sync>(
         Job::Compose { budget } => compose(rt, alloc, exercise, sheet, budget),
         Job::Best { budget } => best(rt, alloc, exercise, sheet, budget),
         Job::Mark => mark(alloc, exercise),
+        Job::Weigh { against } => weigh(rt, alloc, exercise, sheet, against),
         Job::Cantus => cantus(alloc, exercise),
         Job::Print => print(alloc, exercise),
         Job::ToSmf => to_smf(alloc, exercise),
+        Job::ToXml => to_xml(alloc, exercise),
+        Job::MarkXml => mark_xml(alloc, exercise),
     }
 }
 

@@ -16,6 +16,7 @@ ghost use Rattle.works.specs.Endings.{IsMade};
 ghost use Rattle.works.specs.Searched.{IsSpaceOf, StopsAtWidth};
 ghost use Rattle.works.specs.Works.{Answers, OnTexts};
 
+use crate::charging::weigh_mixed;
 use crate::complaint::Complaint;
 use crate::composing::{best_text, bound_text, none_text};
 use crate::content::read_content;
@@ -99,6 +100,7 @@ fn of_mixed(alloc: Global, m: &Mixed<'_>, sheet: &Sheet, job: MixedJob) -> Resul
     match job {
         MixedJob::Compose { budget } => compose_mixed(alloc, m, sheet, budget),
         MixedJob::Mark => mark_mixed(alloc, m),
+        MixedJob::Weigh => weigh_mixed(alloc, m, sheet),
     }
 }
 

@@ -1,13 +1,19 @@
-//! The commands `print` and `tosmf`.
+//! The commands `print`, `tosmf`, `toxml` and `markxml`.
 
+ghost use Rattle.std.specs.Prelude.{◌≡◌, IfOk, length, map, nat_lt};
 ghost use Rattle.fux_grid.specs.Exercises.{IsValid};
-ghost use Rattle.works.specs.Rendered.{Prints, WritesSmf};
+ghost use Rattle.works.specs.Marked.{marks_verdict};
+ghost use Rattle.works.specs.Rendered.{MarksXml, Prints, WritesSmf, WritesXml, shown_mark};
 ghost use Rattle.works.specs.Works.{Answers};
 
 use crate::refusal::Refusal;
 use crate::work::{Output, Stop, Verdict};
 use fux_grid::Exercise;
+use fux_pitch::Memory;
+use score_marker::{Mark, marks};
+use score_xml::score_xml;
 use std::alloc::Global;
+use written_notes::SheetMark;
 
 /// The printed score of the setting of an exercise.
 pub fn print(alloc: Global, ex: &Exercise) -> Result<Output, Stop>
@@ -35,4 +41,60 @@ pub fn to_smf(alloc: Global, ex: &Exercise) -> Result<Output, Stop>
         )),
         None => Err(Stop::Refused(Refusal::NoSetting)),
     }
+}
+
+/// The MusicXML document of an exercise: of its setting, or without one of the sheet to fill in.
+pub fn to_xml(alloc: Global, ex: &Exercise) -> Result<Output, Stop>
+    requires { IsValid ex.now }
+    ensures { Answers (WritesXml ex.now) result }
+{
+    Ok(Output::of_text(Verdict::Favorable, score_xml(alloc, ex, None)?))
+}
+
+/// A mark as a sheet shows it.
+fn shown_mark(mark: Mark) -> SheetMark
+    ensures { result ≡ shown_mark mark }
+{
+    SheetMark {
+        bar: mark.bar,
+        slot: mark.slot,
+        rule: mark.rule,
+        voices: mark.voices,
+    }
+}
+
+/// Marks as a sheet shows them.
+fn shown_marks(alloc: Global, marks: &[Mark]) -> Result<Vec<SheetMark>, Memory>
+    ensures { IfOk result (λ shown. shown.items ≡ map shown_mark marks.now) }
+{
+    let mut shown = Vec::new(alloc);
+    for mark in marks {
+        shown.push(shown_mark(*mark))?;
+    }
+    Ok(shown)
+}
+
+/// What marks say, all in all.
+fn verdict_of(marks: &[Mark]) -> Verdict
+    ensures { result ≡ marks_verdict (nat_lt 0 (length marks.now)) }
+{
+    if marks.is_empty() {
+        Verdict::Favorable
+    } else {
+        Verdict::Unfavorable
+    }
+}
+
+/// The MusicXML document of the setting of an exercise, with the notes of its marks in red.
+pub fn mark_xml(alloc: Global, ex: &Exercise) -> Result<Output, Stop>
+    requires { IsValid ex.now }
+    ensures { Answers (MarksXml ex.now) result }
+{
+    let Some(score) = &ex.setting else {
+        return Err(Stop::Refused(Refusal::NoSetting));
+    };
+    let marks = marks(alloc, ex, score)?;
+    let shown = shown_marks(alloc, marks.as_slice())?;
+    let text = score_xml(alloc, ex, Some(shown.as_slice()))?;
+    Ok(Output::of_text(verdict_of(marks.as_slice()), text))
 }

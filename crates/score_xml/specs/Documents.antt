@@ -1,0 +1,30 @@
+-- A whole document.
+use Rattle.std.specs.Prelude.{ℕ, List, [], ◌++◌, Option, Some, None, codes, reverse}
+use Rattle.std.specs.List.{flat_map, range_with_len}
+use Rattle.std.specs.Borrow.{Bor}
+use Rattle.fux_grid.specs.declared.exercise.Exercise.{Exercise}
+use Rattle.written_notes.specs.declared.marks.SheetMark.{SheetMark}
+use Rattle.written_notes.specs.Lines.{line_of}
+use Rattle.score_xml.specs.declared.document.TheConstants.{HEAD}
+use Rattle.score_xml.specs.Measures.{part}
+use Rattle.score_xml.specs.Titles.{part_list, title}
+
+-- the part of a voice of an exercise
+abbrev pub part_of : Exercise → List SheetMark → ℕ → List ℕ
+part_of ex marks voice = part ex marks voice (line_of ex voice)
+
+-- the parts of all voices, the highest first
+abbrev pub parts : Exercise → List SheetMark → List ℕ
+parts ex marks = flat_map (part_of ex marks) (reverse (range_with_len 0 ex.voices))
+
+-- the marks of a sheet, none where it isn't marked
+abbrev pub marks_of : Option (Bor (List SheetMark)) → List SheetMark
+marks_of None = []
+marks_of (Some marks) = marks.now
+
+-- the document of an exercise
+unfoldable pub document : Exercise → Option (Bor (List SheetMark)) → List ℕ
+document ex marks =
+    HEAD.now ++ title ex marks
+    ++ codes "<identification><encoding><software>fux</software></encoding></identification>\n"
+    ++ part_list ex ++ parts ex (marks_of marks) ++ codes "</score-partwise>\n"

@@ -1,0 +1,4 @@
+pub mod Documents
+pub mod Measures
+pub mod NoteRows
+pub mod Titles

@@ -1,0 +1,19 @@
+//! The written notes of a voice: note values, ties, signs, beams, clefs, and the lines of a sheet.
+#![tactic(auto)]
+
+mod bar;
+mod beams;
+mod clefs;
+mod line;
+mod marks;
+mod runs;
+mod signs;
+mod values;
+
+pub use bar::{Written, bar_notes};
+pub use beams::{Beam, beam_of};
+pub use clefs::{Clef, clef_of, middle_degree};
+pub use line::voice_line;
+pub use marks::{SheetMark, Spot, has_voice, is_red, rules_at};
+pub use signs::Sign;
+pub use values::{Base, NoteValue, value_of};
