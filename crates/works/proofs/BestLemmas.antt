@@ -14,14 +14,16 @@ use Rattle.species_space.specs.Grows.{live_value}
 use Rattle.species_space.specs.Paths.{prefix_at, is_alive_path, live_at, length-columns_on}
 use Rattle.species_space.specs.Loads.{IsExact}
 use Rattle.species_space.proofs.Trees.{bound_of_lawful, first_least_is_best, no_leaf_no_lawful, over_prefixes}
-use Rattle.tree_search.specs.Answer.{BoundsLeaves, HasNoLeaf, IsFirstLeast, IsOverBudget}
-use Rattle.tree_search.specs.Outcomes.{IfFound, IfSpent, IsSpent, OnNothing}
+use Rattle.fux_judge.specs.Lawful.{BoundsLawful}
+use Rattle.tree_search.specs.Answer as tree
+use Rattle.tree_search.specs.Answer.{BoundsLeaves, HasNoLeaf, IsFirstLeast}
+use Rattle.tree_search.specs.Outcomes.{IfFound, IsSpent, OnNothing}
 use Rattle.tree_search.specs.declared.outcome.Outcome.{Outcome}
 use Rattle.tree_search.specs.declared.outcome.Outcome.TheVariants as outcome
 use Rattle.works.specs.declared.searching.Found.{Found}
 use Rattle.works.specs.declared.searching.Found.TheVariants.{Best, Nothing, Spent}
 use Rattle.works.specs.Composed.{Tells, TellsSharply, found_output}
-use Rattle.works.specs.Searched.{IsFirstPath, IsFound, IsFoundBy, IsFoundSharply, IsScoreAt}
+use Rattle.works.specs.Searched.{IsFirstPath, IsFound, IsFoundBy, IsFoundSharply, IsRaised, IsScoreAt, IsSharpBound}
 
 module _ (ex : Exercise) (sheet : Sheet) (path : List ℕ) (value : ℕ)
     (first : IsFirstLeast (live_at ex sheet) (columns_in ex) path value) where
@@ -36,6 +38,12 @@ pub prefix_has_cantus : (ex : Exercise) (p : List (List Cell)) → ex.cantus_voi
     → HasCantus ex p
 prefix_has_cantus ex p there prefix i within =
     menu_of-cantus ex i _ there ((menu_of-contains ex i _).1 (prefix.menus i within))
+
+-- an outcome that tells no bound isn't spent
+pub tells_no_bound : (o : Outcome) → ((bound : ℕ) → o ≡ outcome.Spent bound → ⊥) → IsSpent o → ⊥
+tells_no_bound (outcome.Found path value) none spent = spent
+tells_no_bound outcome.Nothing none spent = spent
+tells_no_bound (outcome.Spent bound) none spent = none bound refl
 
 module _ (space : Task) (valid : IsValid space.exercise) where
   -- the columns at the end of such a path are a whole score over the cantus
@@ -59,40 +67,44 @@ module _ (space : Task) (valid : IsValid space.exercise) where
   score_at path value (Err fault) first is = tt
   score_at path value (Ok score) first is = is_score_at path value score first is
 
-  -- what was found by sharper floors is so
+  -- what was found by sharper floors, before the budget was spent, is so
   found_sharply : (budget : ℕ) (outcome : Outcome) (found : Found) → IfFound outcome (IsFirstPath space)
       → OnNothing outcome (HasNoLeaf (live_at space.exercise space.sheet) (columns_in space.exercise))
-      → IfSpent outcome (BoundsLeaves (live_at space.exercise space.sheet) (columns_in space.exercise))
-      → (IsSpent outcome → IsOverBudget (live_at space.exercise space.sheet) (columns_in space.exercise) budget)
-      → IsFoundBy space outcome found → IsFoundSharply space.exercise space.sheet budget found
-  found_sharply budget (outcome.Found path value) (Best score penalty) first nothing bound over is =
+      → (IsSpent outcome → ⊥) → IsFoundBy space outcome found → IsFoundSharply space.exercise space.sheet budget found
+  found_sharply budget (outcome.Found path value) (Best score penalty) first nothing ended is =
       let own = first_least_is_best space.exercise valid space.sheet path value first in
       record {
         best = rw (is.0.columns, is.1) record { best = own.0; charged = sym own.1 };
         cantus = is.0.cantus;
         complete = is.0.complete;
       }
-  found_sharply budget outcome.Nothing Nothing first nothing bound over is =
+  found_sharply budget outcome.Nothing Nothing first nothing ended is =
       no_leaf_no_lawful space.exercise valid space.sheet nothing
-  found_sharply budget (outcome.Spent least) (Spent told) first nothing bound over is =
-      rw is record {
-        reached = bound_of_lawful space.exercise valid space.sheet least bound;
-        over = over_prefixes space.exercise valid space.sheet budget (over tt);
-      }
-  found_sharply budget (outcome.Found path value) Nothing first nothing bound over is = absurd is
-  found_sharply budget (outcome.Found path value) (Spent told) first nothing bound over is = absurd is
-  found_sharply budget outcome.Nothing (Best score penalty) first nothing bound over is = absurd is
-  found_sharply budget outcome.Nothing (Spent told) first nothing bound over is = absurd is
-  found_sharply budget (outcome.Spent least) (Best score penalty) first nothing bound over is = absurd is
-  found_sharply budget (outcome.Spent least) Nothing first nothing bound over is = absurd is
+  found_sharply budget (outcome.Spent least) found first nothing ended is = absurd (ended tt)
+  found_sharply budget (outcome.Found path value) Nothing first nothing ended is = absurd is
+  found_sharply budget (outcome.Found path value) (Spent told) first nothing ended is = absurd is
+  found_sharply budget outcome.Nothing (Best score penalty) first nothing ended is = absurd is
+  found_sharply budget outcome.Nothing (Spent told) first nothing ended is = absurd is
 
   pub answered_sharply : (budget : ℕ) (outcome : Outcome) (result : Result Found Memory) → IfFound outcome (IsFirstPath space)
       → OnNothing outcome (HasNoLeaf (live_at space.exercise space.sheet) (columns_in space.exercise))
-      → IfSpent outcome (BoundsLeaves (live_at space.exercise space.sheet) (columns_in space.exercise))
-      → (IsSpent outcome → IsOverBudget (live_at space.exercise space.sheet) (columns_in space.exercise) budget)
-      → IfOk result (IsFoundBy space outcome) → IfOk result (IsFoundSharply space.exercise space.sheet budget)
-  answered_sharply budget outcome (Err fault) first nothing bound over is = tt
-  answered_sharply budget outcome (Ok found) first nothing bound over is = found_sharply budget outcome found first nothing bound over is
+      → (IsSpent outcome → ⊥) → IfOk result (IsFoundBy space outcome)
+      → IfOk result (IsFoundSharply space.exercise space.sheet budget)
+  answered_sharply budget outcome (Err fault) first nothing ended is = tt
+  answered_sharply budget outcome (Ok found) first nothing ended is =
+      found_sharply budget outcome found first nothing ended is
+
+  -- and so is a bound that is raised
+  pub bounded_sharply : (budget bound : ℕ) → IsRaised space.exercise space.sheet budget bound
+      → tree.IsOverBudget (live_at space.exercise space.sheet) (columns_in space.exercise) budget
+      → IsSharpBound space.exercise space.sheet budget bound
+  bounded_sharply budget bound raised over =
+      record { raised = raised; over = over_prefixes space.exercise valid space.sheet budget over }
+
+  -- what leaves don't cost less than, lawful settings don't
+  pub bounds_settings : (bound : ℕ) → BoundsLeaves (live_at space.exercise space.sheet) (columns_in space.exercise) bound
+      → BoundsLawful space.exercise space.sheet bound
+  bounds_settings bound reached = bound_of_lawful space.exercise valid space.sheet bound reached
 
 module _ (space : Task) (budget : ℕ) where
   -- what was found of an exact outcome is so, and just within the budget

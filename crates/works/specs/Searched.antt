@@ -38,10 +38,15 @@ pub record IsBestFound (ex : Exercise) (AreBest : List (List Cell) → ℕ → T
     pub cantus : HasCantus ex score.columns
     pub complete : IsComplete ex score
 
--- a number that no lawful setting's penalty is below; and a budget that isn't enough for the load of the least penalty, or where nothing
--- is lawful, for all live prefixes, so that `compose` is spent by it too
-pub record IsSharpBound (ex : Exercise) (sheet : Sheet) (budget bound : ℕ) : Type 0 where
+-- a number that no lawful setting's penalty is below, and that isn't below the bound which `compose` tells with this budget
+pub record IsRaised (ex : Exercise) (sheet : Sheet) (budget bound : ℕ) : Type 0 where
   pub reached : BoundsLawful ex sheet bound
+  pub no_less : (usual : ℕ) → IsLeastOver ex sheet budget usual → usual ≤ bound
+
+-- such a number; and a budget that isn't enough for the load of the least penalty, or where nothing is lawful, for all live prefixes, so
+-- that `compose` is spent by it too
+pub record IsSharpBound (ex : Exercise) (sheet : Sheet) (budget bound : ℕ) : Type 0 where
+  pub raised : IsRaised ex sheet budget bound
   pub over : IsOverBudget ex sheet budget
 
 -- what was found is so, and just within the budget

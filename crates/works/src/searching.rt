@@ -2,8 +2,9 @@
 
 ghost use Rattle.std.specs.Prelude.{IfErr, IfOk};
 ghost use Rattle.fux_grid.specs.Exercises.{IsValid};
+ghost use Rattle.fux_judge.specs.Lawful.{BoundsLawful};
 ghost use Rattle.tree_search.specs.Outcomes.{IfFound};
-ghost use Rattle.works.specs.Searched.{Finds, IsFirstPath, IsFound, IsFoundBy, IsFoundSharply, IsScoreAt, IsSpaceOf, StopsAtWidth};
+ghost use Rattle.works.specs.Searched.{Finds, IsFirstPath, IsFound, IsFoundBy, IsFoundSharply, IsRaised, IsScoreAt, IsSpaceOf, StopsAtWidth};
 
 use crate::refusal::Refusal;
 use crate::work::Stop;
@@ -91,8 +92,24 @@ fn search_sharply(alloc: Global, space: &SpeciesSpace<'_>, budget: u32) -> Resul
     requires { IsValid space.now.exercise }
     ensures { IfOk result (IsFoundSharply space.now.exercise space.now.sheet budget) }
 {
-    let outcome = search_best(alloc, space, budget)?;
-    found_by(alloc, space, outcome)
+    match search_best(alloc, space, budget)? {
+        Outcome::Spent { bound } => Ok(Found::Spent {
+            bound: raised(alloc, space, budget, bound)?,
+        }),
+        ended => found_by(alloc, space, ended),
+    }
+}
+
+/// A bound, or that of the search by the usual floors where it is greater.
+fn raised(alloc: Global, space: &SpeciesSpace<'_>, budget: u32, bound: u64) -> Result<u64, Memory>
+    requires valid { IsValid space.now.exercise }
+    requires reached { BoundsLawful space.now.exercise space.now.sheet bound }
+    ensures { IfOk result (IsRaised space.now.exercise space.now.sheet budget) }
+{
+    match search(alloc, space, budget)? {
+        Found::Spent { bound: usual } => Ok(bound.max(usual)),
+        _ => Ok(bound),
+    }
 }
 
 /// What an outcome tells, with the setting where it has a path.
