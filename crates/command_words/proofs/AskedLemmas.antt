@@ -1,5 +1,5 @@
--- What the values in the words behind a search's name ask for (`searches`), and that they ask for nothing where one that must be there
--- is missing (`no_name`, `no_budget`).
+-- What the values in the words behind a search's name ask for (`searches`), and that they ask for
+-- nothing where one that must be there is missing (`no_name`, `no_budget`).
 use Rattle.std.proofs.Common.{◌≡◌, ℕ, List, Option, Some, None, codes, refl}
 use Rattle.clap.specs.Words.{Row, Text, first_of}
 use Rattle.command_words.specs.Commands.{Task, ◌>>=◌, budget_in}

@@ -1,5 +1,5 @@
--- What a command of `clap` is with one word, option or flag more (`added`, `grown`), and which rule that word has (`is_needed`,
--- `is_option`, `is_flag`).
+-- What a command of `clap` is with one word, option or flag more (`added`, `grown`), and which rule
+-- that word has (`is_needed`, `is_option`, `is_flag`).
 use Rattle.std.proofs.Common.{◌≡◌, List, ℕ, Bool, true, false, Bor, Some, Result, Ok, Err, IfOk, ap, ◌∙◌}
 use Rattle.clap.specs.Walk.{rule_of}
 use Rattle.clap.specs.Words.{AddsArg, App, Rule, Text, app_of, new_rule, with_rule}

@@ -75,8 +75,8 @@ pub record IsWanted (wanted : Wanted) : Type 0 where
   pub most : wanted.bars ≤ 24
   pub rise : key_of wanted.low ≤ℤ key_of wanted.high
 
--- the head of a command is one that an exercise may have, the species that it names are from 2 to 5, and what it asks of a new cantus is
--- within the limits
+-- the head of a command is one that an exercise may have, the species that it names are from 2 to
+-- 5, and what it asks of a new cantus is within the limits
 abbrev pub HasMidiHead : Making → Type 0
 HasMidiHead (OnMixed name sheet named job) = AreNamed named
 HasMidiHead (FromSmf name head) = IsHead head
@@ -191,12 +191,14 @@ canon_asked rows = do
   budget ← budget_in (first_of (codes "budget") rows)
   Some (find_canon name (first_of (codes "sheet") rows) budget)
 
--- three bytes are an item `V:N` of a voice: its digit, a colon, and the digit of a species from 2 to 5
+-- three bytes are an item `V:N` of a voice: its digit, a colon, and the digit of a species from 2
+-- to 5
 abbrev pub is_item : ℕ → ℕ → ℕ → ℕ → Bool
 is_item v voice colon species = (voice == 48 + v) && (colon == 58) && nat_le 50 species && nat_le species 53
 
--- what a list says of a voice: the species that its first item names, where that is the voice's, and the items behind it, before the first
--- of which is a comma; none and the whole list where it isn't
+-- what a list says of a voice: the species that its first item names, where that is the voice's,
+-- and the items behind it, before the first of which is a comma; none and the whole list where it
+-- isn't
 abbrev pub said_of : ℕ → Text → Option ℕ × Text
 said_of v (voice ∷ colon ∷ species ∷ []) =
     if is_item v voice colon species then (Some (species - 48), []) else (None, voice ∷ colon ∷ species ∷ [])
@@ -205,7 +207,8 @@ said_of v (voice ∷ colon ∷ species ∷ comma ∷ next ∷ rest) =
     else (None, voice ∷ colon ∷ species ∷ comma ∷ next ∷ rest)
 said_of v list = (None, list)
 
--- the species that a list names for each of the four voices: it has an item, its voices ascend, and nothing is behind them
+-- the species that a list names for each of the four voices: it has an item, its voices ascend, and
+-- nothing is behind them
 abbrev pub named_in : Text → Option (List (Option ℕ))
 named_in list =
     let first = said_of 0 list in
@@ -228,14 +231,16 @@ mark_mixed_asked rows = do
   named ← first_of (codes "with") rows >>= named_in
   Some (on_mixed name None named mixed.Mark)
 
--- the budget of the search that a setting is weighed against: `best` is the only one, and a budget is given with it alone
+-- the budget of the search that a setting is weighed against: `best` is the only one, and a budget
+-- is given with it alone
 abbrev pub against_in : Option Text → Option Text → Option (Option ℕ)
 against_in None None = Some None
 against_in None (Some budget) = None
 against_in (Some word) budget =
     if bytes_eq word (codes "best") then option_map (λ n. Some n) (budget_in budget) else None
 
--- weighing the setting of an exercise, alone or against a search, or with the species that a list names
+-- weighing the setting of an exercise, alone or against a search, or with the species that a list
+-- names
 abbrev pub weighing_with : Text → Option Text → Option Text → Option ℕ → Option Task
 weighing_with name sheet None against = Some (on_exercise name sheet (Weigh against))
 weighing_with name sheet (Some list) None = named_in list >>= λ named. Some (on_mixed name sheet named mixed.Weigh)

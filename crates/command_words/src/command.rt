@@ -23,8 +23,8 @@ pub enum Job {
     Best { budget: u32 },
     /// The marks of its setting.
     Mark,
-    /// What its setting breaks and pays for; and how far that is from the best penalty, where there is a budget to
-    /// search for it by sharper floors.
+    /// What its setting breaks and pays for; and how far that is from the best penalty, where there
+    /// is a budget to search for it by sharper floors.
     Weigh { against: Option<u32> },
     /// The marks of its cantus firmus.
     Cantus,
@@ -64,24 +64,27 @@ pub struct Wanted {
     pub high: Pitch,
 }
 
-/// What is to be made whole before any of it is written, and the names of the files that it is to be made of.
+/// What is to be made whole before any of it is written, and the names of the files that it is to
+/// be made of.
 #[derive(Clone, Copy)]
 pub enum Making<'a> {
-    /// Something made of the exercise in a file, over the sheet of weights in another where one is named.
+    /// Something made of the exercise in a file, over the sheet of weights in another where one is
+    /// named.
     OnExercise {
         name: &'a str,
         sheet: Option<&'a str>,
         job: Job,
     },
-    /// Something made of the exercise in a file, with the species that are named for its voices, over the sheet of weights in another
-    /// where one is named.
+    /// Something made of the exercise in a file, with the species that are named for its voices,
+    /// over the sheet of weights in another where one is named.
     OnMixed {
         name: &'a str,
         sheet: Option<&'a str>,
         named: Named,
         job: MixedJob,
     },
-    /// The verdict on the certificate in a file, for the exercise in another and the sheet of weights in a third where one is named.
+    /// The verdict on the certificate in a file, for the exercise in another and the sheet of
+    /// weights in a third where one is named.
     Check {
         name: &'a str,
         certificate: &'a str,
@@ -100,20 +103,22 @@ pub enum Making<'a> {
     Class {
         list: &'a str,
     },
-    /// The best of the canons that the text in a file asks for, found within this budget, over the sheet of weights in another where one
-    /// is named.
+    /// The best of the canons that the text in a file asks for, found within this budget, over the
+    /// sheet of weights in another where one is named.
     Canon {
         name: &'a str,
         sheet: Option<&'a str>,
         budget: u32,
     },
-    /// The best new cantus, found within this budget, over the sheet of weights in a file where one is named.
+    /// The best new cantus, found within this budget, over the sheet of weights in a file where one
+    /// is named.
     NewCantus {
         wanted: Wanted,
         sheet: Option<&'a str>,
         budget: u32,
     },
-    /// The verdict on the certificate in a file, for what is asked of a cantus and the sheet of weights in another file where one is named.
+    /// The verdict on the certificate in a file, for what is asked of a cantus and the sheet of
+    /// weights in another file where one is named.
     CheckCantus {
         wanted: Wanted,
         certificate: &'a str,
@@ -126,8 +131,9 @@ pub enum Making<'a> {
 pub enum Command<'a> {
     /// What is made whole before any of it is written.
     Make(Making<'a>),
-    /// The certificate, in this form, of the best setting of the exercise in a file, found within this budget, over the sheet of weights
-    /// in another where one is named. It is written while it is made, for it may be longer than memory holds.
+    /// The certificate, in this form, of the best setting of the exercise in a file, found within
+    /// this budget, over the sheet of weights in another where one is named. It is written while it
+    /// is made, for it may be longer than memory holds.
     Certify {
         name: &'a str,
         sheet: Option<&'a str>,
@@ -142,7 +148,8 @@ pub enum Command<'a> {
     },
 }
 
-/// The command that the words after the program's name ask for, or none where they are of no command's form.
+/// The command that the words after the program's name ask for, or none where they are of no
+/// command's form.
 pub fn parse(alloc: Global, words: &[String]) -> Result<Option<Command<'_>>, Memory>
     ensures asked { IfOk result (λ found. option_map task_of found ≡ asked (texts words.now)) }
     ensures head { IfOk result (λ found. IfSome found HasHead) }

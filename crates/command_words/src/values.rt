@@ -246,8 +246,8 @@ fn is_item(v: u8, voice: u8, colon: u8, species: u8) -> bool
     voice == b'0' + v && colon == b':' && b'2' <= species && species <= b'5'
 }
 
-/// What a list says of a voice: the species that its first item names, where that is the voice's, and the items behind it; none and the
-/// whole list where it isn't.
+/// What a list says of a voice: the species that its first item names, where that is the voice's,
+/// and the items behind it; none and the whole list where it isn't.
 fn said_of(v: u8, list: &[u8]) -> (Option<u8>, &[u8])
     requires { v < 4 }
     ensures value { (result.0, result.1.now) ≡ said_of v list.now }
@@ -331,7 +331,8 @@ fn against_of(word: Option<&str>, budget: Option<&str>) -> Option<Option<u32>>
     }
 }
 
-/// Weighing the setting of an exercise, alone or against a search, or with the species that a list names.
+/// Weighing the setting of an exercise, alone or against a search, or with the species that a list
+/// names.
 fn weighing_with<'a>(
     name: &'a str,
     sheet: Option<&'a str>,

@@ -1,4 +1,5 @@
--- What follows for the status of a run from how its command ended: one lemma for each clause of `run`.
+-- What follows for the status of a run from how its command ended: one lemma for each clause of
+-- `run`.
 use Rattle.std.proofs.Common.{◌≡◌, ◌≢◌, ℕ, ◌<◌, List, [], All, Contains, Option, None, Some, Result, Ok, Err, ◌⊎◌, inl, inr, refl, sym, ◌∙◌, ap, subst, codes, arith}
 use Rattle.std.proofs.lemmas.List.Elements.{All-contains}
 use Rattle.fux_port.specs.Files.{HasFile, IsMissing}

@@ -24,8 +24,8 @@ abbrev pub work_line : List ℕ → Work → List ℕ
 work_line name (Ok output) = []
 work_line name (Err refusal) = fux_line (refusal_text name refusal)
 
--- a run ends with the status of this work, having written its output and its line; or it could not write the output, wrote a front of it
--- that is shorter, and says so
+-- a run ends with the status of this work, having written its output and its line; or it could not
+-- write the output, wrote a front of it that is shorter, and says so
 abbrev pub EndsAs : List ℕ → ℕ → Option (List ℕ) → Option (List ℕ) → (List ℕ → Type 0) → Work → Type 0
 EndsAs name code old new Complains work =
     ((code ≡ code_of (work_status work)) × (new ≡ appended old (work_output work)) × Complains (work_line name work))

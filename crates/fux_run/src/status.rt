@@ -8,7 +8,8 @@ use works::Verdict;
 /// How a run ends.
 #[derive(Clone, Copy)]
 pub enum Status {
-    /// There is a best setting, canon or cantus, the certificate is accepted, there is no mark, or the setting is written in another form.
+    /// There is a best setting, canon or cantus, the certificate is accepted, there is no mark, or
+    /// the setting is written in another form.
     Favorable,
     /// No setting, canon or cantus is lawful, the certificate is refused, or there is a mark.
     Unfavorable,

@@ -8,7 +8,8 @@ use crate::status::Status;
 use fux_port::{Failed, Sink, write_all};
 use works::Complaint;
 
-/// Writes the line of a complaint, and answers the status of the run. It takes no memory, and a failed write changes no status.
+/// Writes the line of a complaint, and answers the status of the run. It takes no memory, and a
+/// failed write changes no status.
 pub fn report<E: Sink>(complaint: &Complaint<'_>, err: &mut E) -> Status
     ensures status { result ≡ complaint_status complaint.now }
     ensures line { Gets E.written E.faults err.old err.new (fux_line (complaint_text complaint.now)) }

@@ -24,8 +24,8 @@ use std::alloc::Global;
 use std::thread::Threads;
 use works::{Complaint, Verdict};
 
-/// Runs the command that the words after the program's name ask for, and answers the status that the
-/// process ends with.
+/// Runs the command that the words after the program's name ask for, and answers the status that
+/// the process ends with.
 pub fn run<F: Shelf, K: Sink, E: Sink, R: Threads + Sync>(
     rt: &R,
     alloc: Global,
@@ -60,7 +60,8 @@ pub fn run<F: Shelf, K: Sink, E: Sink, R: Threads + Sync>(
     ensures unwritable { result ≡ code_of Status.Unwritable
         → Rose (K.faults out.old) (K.faults out.new) }
 
-    // No device is blamed that promises: each read of the command's files up to their limits, or each write.
+    // No device is blamed that promises: each read of the command's files up to their limits, or
+    // each write.
     ensures served { (task : Task) → asked (texts words.now) ≡ Some task
         → ServesTask (F.serves shelf.old) (F.files shelf.old) task → result ≢ code_of Status.Unreadable }
     ensures taken { TakesAll (K.serves out.old) → result ≢ code_of Status.Unwritable }

@@ -1,5 +1,6 @@
--- `compose` and `best` make the same of the same files, where neither is spent (`best_is_composed`), and `best` with no lower budget is
--- spent only where `compose` is (`best_ends_as_composed`).
+-- `compose` and `best` make the same of the same files, where neither is spent
+-- (`best_is_composed`), and `best` with no lower budget is spent only where `compose` is
+-- (`best_ends_as_composed`).
 use Rattle.std.proofs.Common.{◌≡◌, ◌≢◌, ℕ, ◌+◌, ◌<◌, ◌≤◌, ◌++◌, ◌⊎◌, inl, inr, List, Result, Ok, Err, length, refl, sym, ap, ap₂, subst, ◌∙◌, arith}
 use Rattle.std.proofs.lemmas.Bool.{cases_lt}
 use Rattle.fux_grid.specs.declared.cell.Cell.{Cell}

@@ -1,5 +1,6 @@
--- What the first leaf of least value leads to, as a score (`score_at`). What is made of an outcome is so (`answered_exactly`, and by sharper
--- floors `answered_sharply`), and what is written of it tells it (`told_exactly`, `told_sharply`).
+-- What the first leaf of least value leads to, as a score (`score_at`). What is made of an outcome
+-- is so (`answered_exactly`, and by sharper floors `answered_sharply`), and what is written of it
+-- tells it (`told_exactly`, `told_sharply`).
 use Rattle.std.proofs.Common.{◌≡◌, ℕ, ◌<◌, List, Result, Ok, Err, IfOk, true, length, refl, sym, ◌∙◌}
 use Rattle.fux_grid.specs.declared.cell.Cell.{Cell}
 use Rattle.fux_grid.specs.declared.exercise.Exercise.{Exercise}

@@ -1,5 +1,6 @@
--- What is promised of files is promised still after reads (`whole_kept`, `names_kept`), and of each of some names (`name_served`); answers
--- of a read and of a command's making blame no write (`read_writes`, `sheet_writes`, `made_writes`).
+-- What is promised of files is promised still after reads (`whole_kept`, `names_kept`), and of each
+-- of some names (`name_served`); answers of a read and of a command's making blame no write
+-- (`read_writes`, `sheet_writes`, `made_writes`).
 use Rattle.std.proofs.Common.{◌≡◌, ℕ, zero, suc, ◌<◌, List, [], ◌∷◌, length, map, get_or, Global, Option, None, Some, Err, sym, subst, arith}
 use Rattle.std.specs.Prelude.{String, string_bytes}
 use Rattle.fux_port.specs.Promises.{Keeps, Reads as Promised, ServesWhole}

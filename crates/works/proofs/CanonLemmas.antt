@@ -1,4 +1,5 @@
--- What `canon` makes of the bytes of its files (`of_canon`), and of a text that is too long (`long_refused`).
+-- What `canon` makes of the bytes of its files (`of_canon`), and of a text that is too long
+-- (`long_refused`).
 use Rattle.std.proofs.Common.{◌≡◌, ◌<◌, ℕ, List, [], ◌∷◌, Option, Result, Ok, Err, true, length, refl, arith}
 use Rattle.std.proofs.lemmas.Bool.Decides.{nat_tests}
 use Rattle.std.specs.Prelude.{nat_lt}

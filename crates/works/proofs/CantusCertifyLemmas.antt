@@ -1,5 +1,5 @@
--- What `certcantus` writes: the certificate of a head that holds (`all_written`, `part_written`, `too_long`), and what it is of the best
--- cantus (`of_best`, `of_none`, `of_bound`).
+-- What `certcantus` writes: the certificate of a head that holds (`all_written`, `part_written`,
+-- `too_long`), and what it is of the best cantus (`of_best`, `of_none`, `of_bound`).
 use Rattle.std.proofs.Common.{◌≡◌, ℕ, ◌<◌, ◌≤◌, List, None, Some, Option, Result, Ok, Err, length, inl, inr, refl}
 use Rattle.std.proofs.lemmas.Bool.Decides.{leb_tells}
 use Rattle.cantus_law.specs.Certificates.{Holds}

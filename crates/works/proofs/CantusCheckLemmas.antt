@@ -1,4 +1,5 @@
--- What `checkcantus` tells of a certificate's file (`checked`), over the sheet in use (`of_sheet`, `of_no_sheet`).
+-- What `checkcantus` tells of a certificate's file (`checked`), over the sheet in use (`of_sheet`,
+-- `of_no_sheet`).
 use Rattle.std.proofs.Common.{◌≡◌, ℕ, List, Result, Ok, Err, inl, inr, refl, ap, sym, ◌∙◌}
 use Rattle.cantus_check.specs.Answers.{IsVerdictOn}
 use Rattle.cantus_check.specs.Topics.{cantus_subject}

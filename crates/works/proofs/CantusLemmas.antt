@@ -1,5 +1,5 @@
--- What `newcantus` makes of the file of a sheet (`of_cantus`), where that can't be read (`sheet_alone_unread`), and what it tells of
--- the best cantus (`tells_best`).
+-- What `newcantus` makes of the file of a sheet (`of_cantus`), where that can't be read
+-- (`sheet_alone_unread`), and what it tells of the best cantus (`tells_best`).
 use Rattle.std.proofs.Common.{◌≡◌, ◌⊎◌, ℕ, List, [], ◌∷◌, Option, Some, None, Result, Ok, Err, inl, inr, refl, sym, subst, ◌++◌, arith}
 use Rattle.fux_port.specs.Files.{IsMissing}
 use Rattle.cantus_space.specs.declared.plan.CantusPlan.{CantusPlan}

@@ -1,5 +1,5 @@
--- What `certify` writes: the certificate of a head that holds (`all_written`, `part_written`, `too_long`), and what it is of the
--- exercise's best setting (`of_best`, `of_none`, `of_bound`).
+-- What `certify` writes: the certificate of a head that holds (`all_written`, `part_written`,
+-- `too_long`), and what it is of the exercise's best setting (`of_best`, `of_none`, `of_bound`).
 use Rattle.std.proofs.Common.{◌≡◌, ℕ, ◌<◌, ◌≤◌, List, [], ◌∷◌, Option, Result, Ok, Err, length, inl, inr, refl, subst, sym}
 use Rattle.std.specs.Prelude.{IfSome}
 use Rattle.std.specs.List.{AllByRecursion}

@@ -1,5 +1,5 @@
--- What `check` makes of its files (`checked_said`), and that no certificate whose verdict is told is missing (`written_is_there`,
--- `part_is_there`).
+-- What `check` makes of its files (`checked_said`), and that no certificate whose verdict is told
+-- is missing (`written_is_there`, `part_is_there`).
 use Rattle.std.proofs.Common.{◌≡◌, ◌⊎◌, ℕ, zero, suc, ◌<◌, List, [], ◌∷◌, Contains, Option, Result, Ok, Err, get_or, inl, inr, refl, ap, sym, subst, ◌∙◌, arith}
 use Rattle.cert_file.specs.Readings.{MayBe}
 use Rattle.cert_text.specs.declared.answers.CertHead.{CertHead}

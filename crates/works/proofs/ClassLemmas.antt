@@ -1,5 +1,5 @@
--- What `class` makes of its list (`class_made`, `list_refused`), and what was read of the files that it names (`next_read`,
--- `place_unread`, `class_in`, `name_unread`).
+-- What `class` makes of its list (`class_made`, `list_refused`), and what was read of the files
+-- that it names (`next_read`, `place_unread`, `class_in`, `name_unread`).
 use Rattle.std.proofs.Common.{◌≡◌, ◌⊎◌, ℕ, zero, suc, ◌+◌, ◌<◌, List, [], ◌∷◌, ◌++◌, length, map, take, drop, zip, get_or, Global, Result, Ok, Err, inl, inr, refl, ap, sym, subst, ◌∙◌, arith}
 use Rattle.std.specs.Prelude.{String, string_bytes}
 use Rattle.std.specs.List.{AllZip}

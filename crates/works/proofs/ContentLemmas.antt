@@ -1,4 +1,5 @@
--- What is known of a file that was read (`may_have`), and of one that was too long to read (`long_content`).
+-- What is known of a file that was read (`may_have`), and of one that was too long to read
+-- (`long_content`).
 use Rattle.std.proofs.Common.{◌≡◌, ℕ, ◌+◌, ◌<◌, List, Option, Some, None, length, replicate, refl, inl, inr, arith}
 use Rattle.std.proofs.lemmas.List.{length-replicate}
 use Rattle.fux_port.specs.Files.{file_of, HasFile, IsMissing}

@@ -1,5 +1,5 @@
--- What a command makes, from what was read of its files and what it answers to that (`made_said`), and where the file of its sheet
--- can't be read (`sheet_unread`).
+-- What a command makes, from what was read of its files and what it answers to that (`made_said`),
+-- and where the file of its sheet can't be read (`sheet_unread`).
 use Rattle.std.proofs.Common.{◌≡◌, ◌⊎◌, ℕ, List, [], ◌∷◌, Option, Some, None, Result, Ok, Err, inl, inr, refl, sym, subst, arith}
 use Rattle.fux_port.specs.Files.{IsMissing}
 use Rattle.class_marker.specs.Markings.{IsContent}

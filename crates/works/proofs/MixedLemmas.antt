@@ -1,6 +1,7 @@
--- What the commands on mixed exercises make of the bytes of their files (`of_mixed_texts`), from what is answered where the names or the
--- sheet are refused (`refused_names`, `refused_sheet`) and where they are not (`made_of_mixed`). A setting of the mixed exercise is a
--- whole score of the exercise (`is_whole`) and has its cantus (`has_cantus`).
+-- What the commands on mixed exercises make of the bytes of their files (`of_mixed_texts`), from
+-- what is answered where the names or the sheet are refused (`refused_names`, `refused_sheet`) and
+-- where they are not (`made_of_mixed`). A setting of the mixed exercise is a whole score of the
+-- exercise (`is_whole`) and has its cantus (`has_cantus`).
 use Rattle.std.proofs.Common.{◌≡◌, ℕ, List, [], ◌∷◌, Option, Result, Ok, Err, inl, inr, refl, ap, ◌∙◌, length, subst}
 use Rattle.class_marker.specs.Markings.{IsContent, IsTheText}
 use Rattle.class_marker.specs.declared.one.Text.{Text as Content}

@@ -1,4 +1,5 @@
--- What `check` answers to the texts of an exercise and of a sheet, from what it answers to these (`check_of_sheet`).
+-- What `check` answers to the texts of an exercise and of a sheet, from what it answers to these
+-- (`check_of_sheet`).
 use Rattle.std.proofs.Common.{◌≡◌, List, ℕ, Result, Ok, Err, inl, inr, refl}
 use Rattle.class_marker.specs.Markings.{IsTheText}
 use Rattle.fux_grid.specs.declared.exercise.Exercise.{Exercise}

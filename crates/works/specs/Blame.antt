@@ -23,7 +23,8 @@ abbrev pub limit_within : Task → ℕ
 limit_within (class_report list) = 65536
 limit_within _ = 1073741824
 
--- each read of a command's files, before its work and within it, is promised up to the limits of their bytes
+-- each read of a command's files, before its work and within it, is promised up to the limits of
+-- their bytes
 pub record ServesTask (serves : Reads) (files : Files) (task : Task) : Type 0 where
   pub before : ServesNames serves (limit_in task) (names_in task)
   pub within : (bytes : List (List ℕ)) → AllMayHave files (names_in task) bytes

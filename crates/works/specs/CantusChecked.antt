@@ -1,4 +1,5 @@
--- What `checkcantus` makes of a mode, a number of bars, a range and the file of a certificate, over a sheet of weights.
+-- What `checkcantus` makes of a mode, a number of bars, a range and the file of a certificate, over
+-- a sheet of weights.
 use Rattle.std.specs.Prelude.{◌≡◌, ℕ, List, Ok, Err}
 use Rattle.cantus_check.specs.Answers.{IsVerdictOn}
 use Rattle.cantus_check.specs.Topics.{accepted_of, cantus_subject}
@@ -27,23 +28,24 @@ abbrev pub IsOnlyVerdict : CantusPlan → Files → List ℕ → CertVerdict →
 IsOnlyVerdict plan files certificate said =
     (bytes : List ℕ) (other : CertVerdict) → HasFile files certificate bytes → IsVerdictOn plan other bytes → other ≡ said
 
--- the file of this name is the text of a valid certificate, the output tells what it shows, and this holds: its cantus is the best one,
--- or none is lawful
+-- the file of this name is the text of a valid certificate, the output tells what it shows, and
+-- this holds: its cantus is the best one, or none is lawful
 pub record IsAccepted (plan : CantusPlan) (files : Files) (certificate : List ℕ) (output : Output) : Type 0 where
   pub said : Said
   pub valid : MayBe files certificate (IsCertificateText (cantus_subject plan) said)
   pub told : output ≡ told (Accepted (accepted_of said))
   pub holds : Holds plan said
 
--- exactly a valid certificate is accepted: an output that is favorable accepts one, and where the file of this name is the text of one,
--- the output tells what its head says
+-- exactly a valid certificate is accepted: an output that is favorable accepts one, and where the
+-- file of this name is the text of one, the output tells what its head says
 pub record AcceptsValid (plan : CantusPlan) (files : Files) (certificate : List ℕ) (output : Output) : Type 0 where
   pub only : output.verdict ≡ Favorable → IsAccepted plan files certificate output
   pub each : (bytes : List ℕ) (said : Said) → HasFile files certificate bytes
       → IsCertificateText (cantus_subject plan) said bytes
       → output ≡ told (Accepted (accepted_of said))
 
--- an output: the line of the one verdict on the file, which is that of an accepted certificate exactly where the certificate is valid
+-- an output: the line of the one verdict on the file, which is that of an accepted certificate
+-- exactly where the certificate is valid
 pub record IsCantusChecked (plan : CantusPlan) (files : Files) (certificate : List ℕ) (output : Output) : Type 0 where
   pub said : CertVerdict
   pub judges : JudgesCantus plan files certificate said
@@ -51,12 +53,14 @@ pub record IsCantusChecked (plan : CantusPlan) (files : Files) (certificate : Li
   pub told : output ≡ told said
   pub exact : AcceptsValid plan files certificate output
 
--- `checkcantus` makes this of what is asked and the certificate in the file of this name, by the weights of a sheet
+-- `checkcantus` makes this of what is asked and the certificate in the file of this name, by the
+-- weights of a sheet
 abbrev pub ChecksPlan : CantusPlan → Files → List ℕ → Work → Type 0
 ChecksPlan plan files certificate (Ok output) = IsCantusChecked plan files certificate output
 ChecksPlan plan files certificate (Err refusal) = ⊥
 
--- `checkcantus` makes this of what is asked, the certificate in the file of this name, and the file of a sheet where one is given
+-- `checkcantus` makes this of what is asked, the certificate in the file of this name, and the file
+-- of a sheet where one is given
 abbrev pub ChecksCantusBy : Wanted → Files → List ℕ → List (List ℕ) → Work → Type 0
 ChecksCantusBy wanted files certificate sheets work =
     OnSheet (λ sheet. ChecksPlan (plan_of wanted sheet) files certificate) sheets work

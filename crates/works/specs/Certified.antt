@@ -24,7 +24,8 @@ use Rattle.works.specs.Composed.{TellsAs}
 use Rattle.works.specs.Searched.{IsBestFound, IsNarrow, RefusesWidth}
 use Rattle.works.specs.Texts.{Work}
 
--- the bytes are the certificate of a form that is written for a head, which is valid; each number that it states is below 2^32
+-- the bytes are the certificate of a form that is written for a head, which is valid; each number
+-- that it states is below 2^32
 pub record IsCertificateOf (ex : Exercise) (sheet : Sheet) (form : Form) (head : CertHead) (bytes : List ℕ) : Type 0
   where
     pub valid : IsCertificate ex sheet head (stated_in form ex sheet) (claims_of ex sheet head)
@@ -48,7 +49,8 @@ abbrev pub Shows : Exercise → Sheet → ℕ → Form → Verdict → List ℕ 
 Shows ex sheet budget form =
     TellsAs (CertifiesBest ex sheet budget form) (CertifiesNone ex sheet budget form) (IsLeastOver ex sheet budget)
 
--- an output on an exercise none of whose menus is too wide: a certificate that is no longer than one may be, or a bound
+-- an output on an exercise none of whose menus is too wide: a certificate that is no longer than
+-- one may be, or a bound
 pub record IsCertification (budget : ℕ) (form : Form) (sheet : Sheet) (ex : Exercise) (output : Output) : Type 0 where
   pub narrow : IsNarrow ex
   pub shows : Shows ex sheet budget form output.verdict output.bytes

@@ -24,13 +24,15 @@ use Rattle.works.specs.Texts.{Work}
 abbrev pub charges_verdict : List Charge → Verdict
 charges_verdict charged = marks_verdict (nat_lt 0 (length (marks_in charged)))
 
--- what a setting breaks and pays for, by the rules of an exercise: every charge, the penalty, and how many rules are broken
+-- what a setting breaks and pays for, by the rules of an exercise: every charge, the penalty, and
+-- how many rules are broken
 pub record IsWeighed (rules : Exercise) (sheet : Sheet) (score : Grid) (weighed : Weighed) : Type 0 where
   pub penalty : weighed.penalty ≡ penalty_of rules sheet score.columns
   pub text : string_bytes weighed.text ≡ weighing_text rules weighed.penalty (charges rules sheet score.columns)
   pub verdict : weighed.verdict ≡ charges_verdict (charges rules sheet score.columns)
 
--- the line that sets a penalty beside the best: how much more it is, or where a rule is broken, how much less
+-- the line that sets a penalty beside the best: how much more it is, or where a rule is broken, how
+-- much less
 abbrev pub difference_line : ℕ → ℕ → List ℕ
 difference_line penalty best =
     if nat_le best penalty
@@ -70,7 +72,8 @@ abbrev pub TellsWeighed : Option ℕ → Sheet → Exercise → Grid → Output 
 TellsWeighed None sheet ex = TellsWeighing ex sheet
 TellsWeighed (Some budget) sheet ex = TellsAgainst ex sheet budget
 
--- why `weigh` refuses an exercise: it has no setting, or where it is to be set against `best`, a menu is too wide
+-- why `weigh` refuses an exercise: it has no setting, or where it is to be set against `best`, a
+-- menu is too wide
 abbrev pub RefusesWeighing : Option ℕ → Exercise → Refusal → Type 0
 RefusesWeighing against ex NoSetting = ex.setting ≡ None
 RefusesWeighing (Some budget) ex (TooWide place count) = IsTooWide ex place count

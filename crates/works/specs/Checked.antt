@@ -30,8 +30,8 @@ verdict_on (Text fault) = Unfavorable
 abbrev pub told : CertVerdict → Output
 told said = record { verdict = verdict_on said; bytes = verdict_line said }
 
--- the verdict is that on the certificate in the file of this name: the file is the text of a valid certificate whose head then holds, or
--- the verdict tells the first thing that is wrong with it
+-- the verdict is that on the certificate in the file of this name: the file is the text of a valid
+-- certificate whose head then holds, or the verdict tells the first thing that is wrong with it
 abbrev pub Judges : Exercise → Sheet → Files → List ℕ → CertVerdict → Type 0
 Judges ex sheet files certificate said = MayBe files certificate (IsVerdictOn ex sheet said)
 
@@ -41,7 +41,8 @@ IsOnlyVerdict ex sheet files certificate said =
     (bytes : List ℕ) (other : CertVerdict) → HasFile files certificate bytes → IsVerdictOn ex sheet other bytes
     → other ≡ said
 
--- the file of this name is the text of a valid certificate, the output tells what it shows, and this holds
+-- the file of this name is the text of a valid certificate, the output tells what it shows, and
+-- this holds
 pub record IsAccepted (ex : Exercise) (sheet : Sheet) (files : Files) (certificate : List ℕ) (output : Output) : Type 0
   where
     pub head : CertHead
@@ -49,8 +50,8 @@ pub record IsAccepted (ex : Exercise) (sheet : Sheet) (files : Files) (certifica
     pub told : output ≡ told (Accepted (accepted_of head))
     pub holds : Holds ex sheet head
 
--- exactly a valid certificate is accepted: an output that is favorable accepts one, and where the file of this name is the text of one,
--- the output tells what its head says
+-- exactly a valid certificate is accepted: an output that is favorable accepts one, and where the
+-- file of this name is the text of one, the output tells what its head says
 pub record AcceptsValid (ex : Exercise) (sheet : Sheet) (files : Files) (certificate : List ℕ) (output : Output) : Type
     0 where
   pub only : output.verdict ≡ Favorable → IsAccepted ex sheet files certificate output
@@ -58,8 +59,8 @@ pub record AcceptsValid (ex : Exercise) (sheet : Sheet) (files : Files) (certifi
       → IsCertificateText ex sheet head bytes
       → output ≡ told (Accepted (accepted_of head))
 
--- an output on an exercise none of whose menus is too wide: the line of the one verdict on the file, which is that of an accepted
--- certificate exactly where the certificate is valid
+-- an output on an exercise none of whose menus is too wide: the line of the one verdict on the
+-- file, which is that of an accepted certificate exactly where the certificate is valid
 pub record IsChecked (files : Files) (certificate : List ℕ) (sheet : Sheet) (ex : Exercise) (output : Output) : Type 0
   where
     pub narrow : IsNarrow ex
@@ -69,12 +70,14 @@ pub record IsChecked (files : Files) (certificate : List ℕ) (sheet : Sheet) (e
     pub told : output ≡ told said
     pub exact : AcceptsValid ex sheet files certificate output
 
--- `check` makes this of an exercise and the certificate in the file of this name, over the sheet in use
+-- `check` makes this of an exercise and the certificate in the file of this name, over the sheet in
+-- use
 abbrev pub Checks : Files → List ℕ → Sheet → Exercise → Work → Type 0
 Checks files certificate sheet ex (Ok output) = IsChecked files certificate sheet ex output
 Checks files certificate sheet ex (Err refusal) = RefusesWidth ex refusal
 
--- an answer is of such work, or a file that is read within it cannot be read, where this holds, or memory is wanting
+-- an answer is of such work, or a file that is read within it cannot be read, where this holds, or
+-- memory is wanting
 abbrev pub AnswersWithin : (Work → Type 0) → Type 0 → Result Output Unmade → Type 0
 AnswersWithin Made Unread (Ok output) = Made (Ok output)
 AnswersWithin Made Unread (Err (Stopped (Refused refusal))) = Made (Err refusal)

@@ -28,7 +28,8 @@ bound_line bound = codes "spent, at least " ++ decimal bound ++ 10 ∷ []
 abbrev pub none_line : List ℕ
 none_line = codes "none" ++ 10 ∷ []
 
--- the text is the exercise with a setting, over the cantus as it is, and the penalty of that, which are best as this tells
+-- the text is the exercise with a setting, over the cantus as it is, and the penalty of that, which
+-- are best as this tells
 pub record TellsBest (ex : Exercise) (AreBest : List (List Cell) → ℕ → Type 0) (text : List ℕ) : Type 0 where
   pub setting : List (List Cell)
   pub penalty : ℕ
@@ -55,7 +56,8 @@ pub record TellsFound {E : Type 0} (AreBest : List E → ℕ → Type 0) (writte
   pub best : AreBest found penalty
   pub spelled : bytes ≡ written found penalty
 
--- what bytes tell of a search, by their verdict: of the best, that there is none, or a number that is such a bound
+-- what bytes tell of a search, by their verdict: of the best, that there is none, or a number that
+-- is such a bound
 abbrev pub TellsAs : (List ℕ → Type 0) → (List ℕ → Type 0) → (ℕ → Type 0) → Verdict → List ℕ → Type 0
 TellsAs OfBest OfNone IsTheBound Favorable bytes = OfBest bytes
 TellsAs OfBest OfNone IsTheBound Unfavorable bytes = OfNone bytes
@@ -66,15 +68,16 @@ abbrev pub IsBoundText : ℕ → Work → Type 0
 IsBoundText bound (Ok output) = (output.verdict ≡ Spent) × (output.bytes ≡ bound_line bound)
 IsBoundText bound (Err refusal) = ⊥
 
--- what the text of `compose` tells of an exercise, by its verdict: the best setting, whose load is within the budget; that none is lawful,
--- and all live prefixes are within the budget; or the least number whose load is above the budget
+-- what the text of `compose` tells of an exercise, by its verdict: the best setting, whose load is
+-- within the budget; that none is lawful, and all live prefixes are within the budget; or the least
+-- number whose load is above the budget
 abbrev pub Tells : Exercise → Sheet → ℕ → Verdict → List ℕ → Type 0
 Tells ex sheet budget =
     TellsAs (TellsBest ex (IsBestWithin ex sheet budget)) (TellsNone (IsNothingWithin ex sheet budget))
     (IsLeastOver ex sheet budget)
 
--- what the text of `best` tells: the best setting; that none is lawful; or a number that no lawful setting's penalty is below, where
--- `compose` with the same budget is spent too
+-- what the text of `best` tells: the best setting; that none is lawful; or a number that no lawful
+-- setting's penalty is below, where `compose` with the same budget is spent too
 abbrev pub TellsSharply : Exercise → Sheet → ℕ → Verdict → List ℕ → Type 0
 TellsSharply ex sheet budget =
     TellsAs (TellsBest ex (IsBestOf ex sheet)) (TellsNone (HasNoLawful ex)) (IsSharpBound ex sheet budget)

@@ -25,7 +25,8 @@ drill_heading number ex =
 abbrev pub best_line : ℕ → ℕ → List ℕ
 best_line penalty marks = codes "best " ++ decimal penalty ++ codes " marks " ++ decimal marks ++ 10 ∷ []
 
--- the line tells the penalty of the best setting, whose load is within the budget, and how many marks that setting has
+-- the line tells the penalty of the best setting, whose load is within the budget, and how many
+-- marks that setting has
 pub record TellsBestMarks (ex : Exercise) (text : List ℕ) : Type 0 where
   pub setting : List (List Cell)
   pub penalty : ℕ

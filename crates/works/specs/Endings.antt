@@ -28,12 +28,14 @@ abbrev pub work_output : Work → List ℕ
 work_output (Ok output) = output.bytes
 work_output (Err refusal) = []
 
--- one of these names cannot be read: a read failed by the shelf's fault, or it is the first that is missing
+-- one of these names cannot be read: a read failed by the shelf's fault, or it is the first that is
+-- missing
 pub record IsUnread (files : Files) (rose : Type 0) (names : List (List ℕ)) (name : List ℕ) : Type 0 where
   pub asked : Contains names name
   pub cause : rose ⊎ IsFirstMissing files names name
 
--- a file that a command reads within its work cannot be read: the files before it can be, and none of them keeps it from that
+-- a file that a command reads within its work cannot be read: the files before it can be, and none
+-- of them keeps it from that
 pub record IsUnreadWithin (task : Task) (files : Files) (rose : Type 0) (name : List ℕ) : Type 0 where
   pub bytes : List (List ℕ)
   pub had : AllMayHave files (names_in task) bytes
@@ -71,14 +73,16 @@ pub record Does (Made Holds : Work → Type 0) : Type 0 where
   pub made : Made work
   pub holds : Holds work
 
--- the answer of a command that writes while it works: all was written, or nothing of work that is refused, or a front of the output
+-- the answer of a command that writes while it works: all was written, or nothing of work that is
+-- refused, or a front of the output
 abbrev pub Writes : (Work → Type 0) → Type 0 → Option (List ℕ) → Option (List ℕ) → Result Verdict Halt → Type 0
 Writes Made cut old new (Ok verdict) = Does Made (IsWritten old new verdict)
 Writes Made cut old new (Err (Stopped (stop.Refused refusal))) = (new ≡ old) × Made (Err refusal)
 Writes Made cut old new (Err (Stopped stop.Memory)) = new ≡ old
 Writes Made cut old new (Err halt.Unwritable) = cut × Does Made (λ work. StopsShort old new (work_output work))
 
--- how a command's work on its files ended, with the cause: what was written to standard output, and what is to be said
+-- how a command's work on its files ended, with the cause: what was written to standard output, and
+-- what is to be said
 abbrev pub Ended : Task → Files → Type 0 → Type 0 → Option (List ℕ) → Option (List ℕ) → Result Verdict Complaint
     → Type 0
 Ended task files rose cut old new (Ok verdict) = Works task files (IsWritten old new verdict)
@@ -134,7 +138,8 @@ abbrev pub CertifyEnds : {F K : Type 0} → (F → Files) → (F → ℕ) → (K
 CertifyEnds files faults written cuts name sheet budget form =
     EndsOn files faults written cuts (Ended (certify name.now (sheet_named sheet) budget form))
 
--- the answer of a command that writes to standard output while it works, by what that tells before it and after it
+-- the answer of a command that writes to standard output while it works, by what that tells before
+-- it and after it
 abbrev pub WritesTo : {K : Type 0} → (K → Option (List ℕ)) → (K → ℕ) → (Work → Type 0) → K → K → Result Verdict Halt
     → Type 0
 WritesTo written faults Made old new answer =

@@ -20,8 +20,9 @@ use Rattle.works.specs.Texts.{Work}
 abbrev pub canon_answer : List ℕ → List (List Cell) → ℕ → List ℕ
 canon_answer text bars penalty = text ++ sing_texts (columns_of bars) (0 ∷ 1 ∷ []) ++ penalty_line penalty
 
--- what bytes tell of the canons that a text asks for, by their verdict: the text with the best canon and its penalty, whose load is within
--- the budget; that no canon is lawful, and all bars that begin one are within the budget; or the least number whose load is above the budget
+-- what bytes tell of the canons that a text asks for, by their verdict: the text with the best
+-- canon and its penalty, whose load is within the budget; that no canon is lawful, and all bars
+-- that begin one are within the budget; or the least number whose load is above the budget
 abbrev pub TellsCanon : List ℕ → Canon → Sheet → ℕ → Verdict → List ℕ → Type 0
 TellsCanon text canon sheet budget =
     TellsAs (TellsFound (IsBestWithin canon sheet budget) (canon_answer text))

@@ -25,8 +25,9 @@ cantus_line cantus = codes "cantus" ++ spaced (map name_of cantus) ++ 10 ∷ []
 abbrev pub cantus_answer : List Pitch → ℕ → List ℕ
 cantus_answer cantus penalty = cantus_line cantus ++ penalty_line penalty
 
--- what bytes tell of the cantus that are asked for, by their verdict: the best cantus and its penalty, whose load is within the budget;
--- that no cantus is lawful, and all pitches that begin one are within the budget; or the least number whose load is above the budget
+-- what bytes tell of the cantus that are asked for, by their verdict: the best cantus and its
+-- penalty, whose load is within the budget; that no cantus is lawful, and all pitches that begin
+-- one are within the budget; or the least number whose load is above the budget
 abbrev pub TellsCantus : CantusPlan → ℕ → Verdict → List ℕ → Type 0
 TellsCantus plan budget =
     TellsAs (TellsFound (IsBestWithin plan budget) cantus_answer) (TellsNone (IsNothingWithin plan budget))

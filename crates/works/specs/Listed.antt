@@ -17,7 +17,8 @@ use Rattle.works.specs.Works.{AllMayHave, AreRead, Files, IsFirstMissing}
 abbrev pub name_at : List (List ℕ) → ℕ → List ℕ
 name_at names place = slice_index_or names place []
 
--- what was read of the files of these names; or the place of the one that could not be read, with the cause
+-- what was read of the files of these names; or the place of the one that could not be read, with
+-- the cause
 abbrev pub ReadsTexts : Files → Type 0 → List (List ℕ) → Result (Vec Content Global) Unread → Type 0
 ReadsTexts files rose names (Ok texts) = AreRead 65536 files names texts.items
 ReadsTexts files rose names (Err (At place)) =

@@ -23,9 +23,10 @@ use Rattle.works.specs.Searched.{RefusesWidth}
 use Rattle.works.specs.Sheets.{OnSheet}
 use Rattle.works.specs.Texts.{OnText, Work}
 
--- what a text tells of an exercise and the mixed one, by its verdict: the best setting of the mixed one, over the cantus as it is, whose
--- load is within the budget; that no setting of it is lawful, and all live prefixes are within the budget; or the least number whose load is
--- above the budget, which isn't enough for the search
+-- what a text tells of an exercise and the mixed one, by its verdict: the best setting of the mixed
+-- one, over the cantus as it is, whose load is within the budget; that no setting of it is lawful,
+-- and all live prefixes are within the budget; or the least number whose load is above the budget,
+-- which isn't enough for the search
 abbrev pub TellsMixed : Exercise → Exercise → Sheet → ℕ → Verdict → List ℕ → Type 0
 TellsMixed ex mixed sheet budget =
     TellsAs (TellsBest ex (IsBestWithin mixed sheet budget)) (TellsNone (IsNothingWithin mixed sheet budget))
@@ -80,7 +81,8 @@ pub record OnMisnamed (named : List (Option ℕ)) (ex : Exercise) (work : Work) 
 abbrev pub OnNames : (Exercise → Work → Type 0) → List (Option ℕ) → Exercise → Work → Type 0
 OnNames Made named ex work = OnNamed Made named ex work ⊎ OnMisnamed named ex work
 
--- a job makes this of the text of an exercise with the species that are named, and of the file of a sheet where one is given
+-- a job makes this of the text of an exercise with the species that are named, and of the file of a
+-- sheet where one is given
 abbrev pub MakesMixed : List (Option ℕ) → MixedJob → List (List ℕ) → List ℕ → Work → Type 0
 MakesMixed named job sheets text =
     OnText (λ ex. OnNames (λ mixed. OnSheet (λ sheet. MakesOfMixed job sheet ex mixed) sheets) named ex) text

@@ -38,13 +38,14 @@ pub record IsBestFound (ex : Exercise) (AreBest : List (List Cell) → ℕ → T
     pub cantus : HasCantus ex score.columns
     pub complete : IsComplete ex score
 
--- a number that no lawful setting's penalty is below, and that isn't below the bound which `compose` tells with this budget
+-- a number that no lawful setting's penalty is below, and that isn't below the bound which
+-- `compose` tells with this budget
 pub record IsRaised (ex : Exercise) (sheet : Sheet) (budget bound : ℕ) : Type 0 where
   pub reached : BoundsLawful ex sheet bound
   pub no_less : (usual : ℕ) → IsLeastOver ex sheet budget usual → usual ≤ bound
 
--- such a number; and a budget that isn't enough for the load of the least penalty, or where nothing is lawful, for all live prefixes, so
--- that `compose` is spent by it too
+-- such a number; and a budget that isn't enough for the load of the least penalty, or where nothing
+-- is lawful, for all live prefixes, so that `compose` is spent by it too
 pub record IsSharpBound (ex : Exercise) (sheet : Sheet) (budget bound : ℕ) : Type 0 where
   pub raised : IsRaised ex sheet budget bound
   pub over : IsOverBudget ex sheet budget
@@ -55,7 +56,8 @@ IsFound ex sheet budget (Best score penalty) = IsBestFound ex (IsBestWithin ex s
 IsFound ex sheet budget Nothing = IsNothingWithin ex sheet budget
 IsFound ex sheet budget (Spent bound) = IsLeastOver ex sheet budget bound
 
--- what was found by sharper floors is so, whatever the budget, which is spent only where that of `compose` would be
+-- what was found by sharper floors is so, whatever the budget, which is spent only where that of
+-- `compose` would be
 abbrev pub IsFoundSharply : Exercise → Sheet → ℕ → Found → Type 0
 IsFoundSharply ex sheet budget (Best score penalty) = IsBestFound ex (IsBestOf ex sheet) score penalty
 IsFoundSharply ex sheet budget Nothing = HasNoLawful ex

@@ -42,8 +42,8 @@ abbrev pub names_listed : Result (List Text) ℕ → List Text
 names_listed (Ok names) = names
 names_listed (Err line) = []
 
--- the names of the files that a command reads while it works, in the order of reading, where the files before its work have
--- these bytes
+-- the names of the files that a command reads while it works, in the order of reading, where the
+-- files before its work have these bytes
 abbrev pub names_within : Task → List Text → List Text
 names_within (check name certificate sheet) bytes = certificate ∷ []
 names_within (check_cantus wanted certificate sheet) bytes = certificate ∷ []

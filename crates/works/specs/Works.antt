@@ -58,8 +58,8 @@ abbrev pub IsUnspent : Work → Type 0
 IsUnspent (Ok output) = output.verdict ≢ Spent
 IsUnspent (Err refusal) = Unit {0}
 
--- what `compose` and `best` make of the same files, with any budgets, is the same where neither is spent: verdict and bytes, or the
--- refusal
+-- what `compose` and `best` make of the same files, with any budgets, is the same where neither is
+-- spent: verdict and bytes, or the refusal
 abbrev pub BestIsComposed : Type 0
 BestIsComposed =
     (budget other : ℕ) (sheets : List (List ℕ)) (text : List ℕ) (composed best : Work)
@@ -73,7 +73,8 @@ BestEndsAsComposed =
     → MakesOfText (Compose budget) sheets text composed → MakesOfText (Best other) sheets text best
     → IsUnspent composed → composed ≡ best
 
--- `certify` with a form makes this of the text of an exercise, and of the file of a sheet where one is given
+-- `certify` with a form makes this of the text of an exercise, and of the file of a sheet where one
+-- is given
 abbrev pub CertifiesText : ℕ → Form → List (List ℕ) → List ℕ → Work → Type 0
 CertifiesText budget form sheets text = OnText (λ ex. OnSheet (λ sheet. Certifies budget form sheet ex) sheets) text
 
@@ -97,7 +98,8 @@ AllHave files [] [] = Unit {0}
 AllHave files (name ∷ names) (bytes ∷ more) = HasFile files name bytes × AllHave files names more
 AllHave files _ _ = ⊥
 
--- `check` makes this of the text of an exercise, and of the file of a sheet where one is given, with the certificate in another file
+-- `check` makes this of the text of an exercise, and of the file of a sheet where one is given,
+-- with the certificate in another file
 abbrev pub ChecksText : Files → List ℕ → List (List ℕ) → List ℕ → Work → Type 0
 ChecksText files certificate sheets text =
     OnText (λ ex. OnSheet (λ sheet. Checks files certificate sheet ex) sheets) text
@@ -130,7 +132,8 @@ Makes (certify_cantus wanted sheet budget) files sheets work = MakesCantusCertif
 Makes (check_cantus wanted certificate sheet) files sheets work = ChecksCantusBy wanted files certificate sheets work
 Makes _ _ _ work = ⊥
 
--- the text is that of an exercise none of whose menus is too wide, and the file of the sheet is one where it is given
+-- the text is that of an exercise none of whose menus is too wide, and the file of the sheet is one
+-- where it is given
 pub record IsReadyText (sheets : List (List ℕ)) (text : List ℕ) : Type 0 where
   pub exercise : Exercise
   pub is : IsTheText text exercise
@@ -207,7 +210,8 @@ ReadsSheetFile files rose named (Ok content) = AreRead 65536 files (as_list name
 ReadsSheetFile files rose (Some name) (Err complaint) = Reads 65536 files rose name (Err complaint)
 ReadsSheetFile files rose None (Err complaint) = ⊥
 
--- a fact of the bytes that were read of the text of an exercise, and of the file of a sheet where one is given
+-- a fact of the bytes that were read of the text of an exercise, and of the file of a sheet where
+-- one is given
 abbrev pub OnTexts : Content → Option Content → (List ℕ → List (List ℕ) → Type 0) → Type 0
 OnTexts text weights Told =
     (bytes : List ℕ) (sheets : List (List ℕ)) → IsContent 65536 text bytes → AreContents 65536 (as_list weights) sheets

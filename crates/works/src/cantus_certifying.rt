@@ -28,7 +28,8 @@ use penalty_sheet::Sheet;
 use std::alloc::Global;
 use tree_search::{Outcome, search_quest};
 
-/// Writes the certificate of the best cantus that is as is asked, over the sheet in a file where one is named.
+/// Writes the certificate of the best cantus that is as is asked, over the sheet in a file where
+/// one is named.
 pub fn perform_cantus<'a, F: Shelf, K: Sink>(
     alloc: Global,
     wanted: Wanted,
@@ -70,7 +71,8 @@ fn certify_over<K: Sink>(
     certify(alloc, wanted, &sheet, budget, out)
 }
 
-/// Writes the certificate of the best cantus over a sheet of weights, or that there is none, or a bound.
+/// Writes the certificate of the best cantus over a sheet of weights, or that there is none, or a
+/// bound.
 fn certify<K: Sink>(
     alloc: Global,
     wanted: &Wanted,
@@ -99,7 +101,8 @@ fn certify<K: Sink>(
     }
 }
 
-/// Writes the certificate of the best cantus with its penalty, or the one that says that no cantus is lawful.
+/// Writes the certificate of the best cantus with its penalty, or the one that says that no cantus
+/// is lawful.
 fn put_certificate<K: Sink>(
     alloc: Global,
     space: &CantusSpace,

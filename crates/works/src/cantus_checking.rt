@@ -25,7 +25,8 @@ use fux_port::Shelf;
 use penalty_sheet::Sheet;
 use std::alloc::Global;
 
-/// The verdict on the certificate in a file for what is asked of a cantus, over the sheet in another file where one is named.
+/// The verdict on the certificate in a file for what is asked of a cantus, over the sheet in
+/// another file where one is named.
 pub fn checked_cantus<'a, F: Shelf>(
     alloc: Global,
     wanted: Wanted,

@@ -31,7 +31,8 @@ use species_space::SpeciesSpace;
 use std::alloc::Global;
 use std::thread::Threads;
 
-/// Writes the certificate, in a form, of the best setting of an exercise over a sheet of weights, or that there is none, or a bound.
+/// Writes the certificate, in a form, of the best setting of an exercise over a sheet of weights,
+/// or that there is none, or a bound.
 pub fn certify<K: Sink, R: Threads + Sync>(
     rt: &R,
     alloc: Global,
@@ -66,7 +67,8 @@ pub fn certify<K: Sink, R: Threads + Sync>(
     }
 }
 
-/// Writes the certificate, in a form, of the best setting with its penalty, or the one that says that no setting is lawful.
+/// Writes the certificate, in a form, of the best setting with its penalty, or the one that says
+/// that no setting is lawful.
 fn put_certificate<K: Sink>(
     alloc: Global,
     space: &SpeciesSpace<'_>,
@@ -103,7 +105,8 @@ pub fn put_bound<K: Sink>(alloc: Global, bound: u64, out: &mut K) -> Result<Verd
     }
 }
 
-/// Writes the certificate, in a form, of the exercise in a file, over the sheet in another where one is named.
+/// Writes the certificate, in a form, of the exercise in a file, over the sheet in another where
+/// one is named.
 pub fn perform_certify<'a, F: Shelf, K: Sink, R: Threads + Sync>(
     rt: &R,
     alloc: Global,
@@ -130,7 +133,8 @@ pub fn perform_certify<'a, F: Shelf, K: Sink, R: Threads + Sync>(
     )
 }
 
-/// Writes the certificate, in a form, of the exercise of a text, over the sheet of a file where one is given.
+/// Writes the certificate, in a form, of the exercise of a text, over the sheet of a file where one
+/// is given.
 fn certify_texts<K: Sink, R: Threads + Sync>(
     rt: &R,
     alloc: Global,

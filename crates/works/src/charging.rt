@@ -117,8 +117,8 @@ fn output_beside(mut weighed: Weighed, found: &Found) -> Result<Output, Memory>
     Ok(output_of(weighed))
 }
 
-/// What the setting of an exercise breaks and pays for, over a sheet of weights; and how far its penalty is from the best,
-/// where there is a budget to search for it.
+/// What the setting of an exercise breaks and pays for, over a sheet of weights; and how far its
+/// penalty is from the best, where there is a budget to search for it.
 pub fn weigh<R: Threads + Sync>(
     rt: &R,
     alloc: Global,
@@ -140,7 +140,8 @@ pub fn weigh<R: Threads + Sync>(
     Ok(output_beside(weighed, &found)?)
 }
 
-/// What the setting of an exercise breaks and pays for by the rules of the mixed one, over a sheet of weights.
+/// What the setting of an exercise breaks and pays for by the rules of the mixed one, over a sheet
+/// of weights.
 pub fn weigh_mixed(alloc: Global, m: &Mixed<'_>, sheet: &Sheet) -> Result<Output, Stop>
     requires { IsMixed m.now }
     ensures { Answers (WeighsMixed sheet.now m.now.ex.now (exercise_of m.now)) result }

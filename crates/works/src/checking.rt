@@ -17,7 +17,8 @@ use species_space::first_too_wide;
 use std::alloc::Global;
 use std::thread::Threads;
 
-/// Judges the certificate in a file for an exercise, over a sheet of weights. The file is read only where no menu is too wide.
+/// Judges the certificate in a file for an exercise, over a sheet of weights. The file is read only
+/// where no menu is too wide.
 pub fn check<F: Shelf, R: Threads + Sync>(
     rt: &R,
     alloc: Global,

@@ -34,7 +34,8 @@ pub fn compose<R: Threads + Sync>(
     }
 }
 
-/// The same by sharper floors, which may find it where the budget of `compose` is spent, and do wherever that isn't.
+/// The same by sharper floors, which may find it where the budget of `compose` is spent, and do
+/// wherever that isn't.
 pub fn best<R: Threads + Sync>(
     rt: &R,
     alloc: Global,

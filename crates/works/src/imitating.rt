@@ -30,7 +30,8 @@ use std::alloc::Global;
 use std::fmt::Write;
 use tree_search::{Outcome, search_quest};
 
-/// The best of the canons that the text in a file asks for, over the sheet of weights in another where one is named.
+/// The best of the canons that the text in a file asks for, over the sheet of weights in another
+/// where one is named.
 pub fn canon<'a, F: Shelf>(
     alloc: Global,
     name: &'a str,

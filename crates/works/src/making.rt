@@ -137,7 +137,8 @@ fn of_texts<R: Threads + Sync>(
     of_exercise(rt, alloc, &exercise, &sheet, job)
 }
 
-/// The verdict on the certificate in a file for the exercise of a text, over the file of a sheet where one is given.
+/// The verdict on the certificate in a file for the exercise of a text, over the file of a sheet
+/// where one is given.
 fn check_texts<F: Shelf, R: Threads + Sync>(
     rt: &R,
     alloc: Global,
@@ -180,7 +181,8 @@ fn of_exercise<R: Threads + Sync>(
     }
 }
 
-/// The output of an answer, or what is said where there is none, with this name for a text that is refused.
+/// The output of an answer, or what is said where there is none, with this name for a text that is
+/// refused.
 pub fn said<'a>(
     alloc: Global,
     name: &str,
@@ -196,8 +198,8 @@ pub fn said<'a>(
     }
 }
 
-/// The output of an answer of a command that reads while it works, or what is said where there is none, with this name for a text
-/// that is refused, and that of the file which is read then.
+/// The output of an answer of a command that reads while it works, or what is said where there is
+/// none, with this name for a text that is refused, and that of the file which is read then.
 pub fn said_within<'a>(
     alloc: Global,
     name: &str,

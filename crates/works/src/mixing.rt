@@ -37,8 +37,8 @@ use species_space::{Mixed, MixedSpace, TableFault, named_species, score_of};
 use std::alloc::Global;
 use tree_search::{Outcome, search_quest};
 
-/// What a job makes of the exercise in a file with the species that are named for its voices, over the sheet of weights in another where
-/// one is named.
+/// What a job makes of the exercise in a file with the species that are named for its voices, over
+/// the sheet of weights in another where one is named.
 pub fn on_mixed<'a, F: Shelf>(
     alloc: Global,
     name: &'a str,
@@ -59,7 +59,8 @@ pub fn on_mixed<'a, F: Shelf>(
     said(alloc, name, of_texts(alloc, &text, &weights, named, job))
 }
 
-/// What a job makes of the text of an exercise with the species that are named, over the file of a sheet where one is given.
+/// What a job makes of the text of an exercise with the species that are named, over the file of a
+/// sheet where one is given.
 fn of_texts(
     alloc: Global,
     text: &Text,
@@ -170,7 +171,8 @@ fn best_at(
     best_text(alloc, m.ex, &score, penalty)
 }
 
-/// The marks of a setting: each rule that it breaks, relaxed breaks among them, by bar, slot, rule and voices.
+/// The marks of a setting: each rule that it breaks, relaxed breaks among them, by bar, slot, rule
+/// and voices.
 fn mixed_marks(alloc: Global, m: &Mixed<'_>, score: &Score) -> Result<Vec<Mark>, Memory>
     requires mixed { IsMixed m.now }
     requires complete { IsComplete m.now.ex.now score.now }

@@ -15,7 +15,8 @@ use std::fmt::Write;
 /// Why a file is not what a command needs.
 #[derive(Drop)]
 pub enum Refusal {
-    /// The file is no note text: its first fault, with the line and the byte of it where that stands, counted from 1.
+    /// The file is no note text: its first fault, with the line and the byte of it where that
+    /// stands, counted from 1.
     Text {
         kind: TextKind,
         line: u32,
@@ -23,7 +24,8 @@ pub enum Refusal {
     },
     /// The exercise has no setting.
     NoSetting,
-    /// A voice is named whose species may not be: it isn't free, or the exercise itself says its species.
+    /// A voice is named whose species may not be: it isn't free, or the exercise itself says its
+    /// species.
     With {
         voice: u8,
     },

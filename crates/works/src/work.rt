@@ -12,7 +12,8 @@ use std::alloc::AllocError;
 /// What an output says, all in all.
 #[derive(Clone, Copy)]
 pub enum Verdict {
-    /// There is a best setting, canon or cantus, the certificate is accepted, there is no mark, or the setting is written in another form.
+    /// There is a best setting, canon or cantus, the certificate is accepted, there is no mark, or
+    /// the setting is written in another form.
     Favorable,
     /// No setting, canon or cantus is lawful, the certificate is refused, or there is a mark.
     Unfavorable,
