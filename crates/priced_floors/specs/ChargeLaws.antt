@@ -28,10 +28,10 @@ use Rattle.melody_rules.specs.Rows.{pitches}
 use Rattle.penalty_sheet.specs.declared.sheet.Sheet.{Sheet}
 use Rattle.penalty_sheet.specs.Weights.{weight_of}
 use Rattle.fux_judge.specs.Gauges.{cells_of_voice, cost_of_line, free_voices, gauges_of}
-use Rattle.strike_prices.specs.declared.prices.Prices.{Prices}
-use Rattle.strike_prices.specs.declared.prices.Summit.{Summit}
-use Rattle.strike_prices.specs.Charges.{charged, is_at, is_within, notes_at_top, strike_price, strikes_charged, top_price}
-use Rattle.strike_prices.specs.Fairness.{AreFair, charged_is_due, debt_of}
+use Rattle.priced_floors.specs.declared.prices.Prices.{Prices}
+use Rattle.priced_floors.specs.declared.prices.Summit.{Summit}
+use Rattle.priced_floors.specs.Strikes.{charged, is_at, is_within, notes_at_top, strike_price, strikes_charged, top_price}
+use Rattle.priced_floors.specs.Fairness.{AreFair, charged_is_due, debt_of}
 use Rattle.priced_floors.specs.declared.charges.Charges.{Charges}
 use Rattle.priced_floors.specs.Charges.{AreFairCharges, any_summit, column_charge, comes_to, debt_in, has_key, is_below, keeps_within, note_charge, prices_of, summit_at, summit_of}
 

@@ -11,10 +11,10 @@ use Rattle.rule_law.specs.Terms.{started_pitch}
 use Rattle.penalty_sheet.specs.declared.sheet.Sheet.{Sheet}
 use Rattle.penalty_sheet.specs.Weights.{weight_of}
 use Rattle.fux_judge.specs.Gauges.{free_voices}
-use Rattle.strike_prices.specs.declared.prices.Prices.{Prices}
-use Rattle.strike_prices.specs.declared.prices.Summit.{Summit}
-use Rattle.strike_prices.specs.Charges.{strike_price, top_price}
-use Rattle.strike_prices.specs.Fairness.{debt_of}
+use Rattle.priced_floors.specs.declared.prices.Prices.{Prices}
+use Rattle.priced_floors.specs.declared.prices.Summit.{Summit}
+use Rattle.priced_floors.specs.Strikes.{strike_price, top_price}
+use Rattle.priced_floors.specs.Fairness.{debt_of}
 use Rattle.priced_floors.specs.declared.charges.Charges.{Charges}
 
 -- what strikes are charged at a place of some prices; nothing where there are none

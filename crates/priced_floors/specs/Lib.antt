@@ -1,5 +1,7 @@
-pub mod Kept
-pub mod Charges
 pub mod ChargeLaws
+pub mod Charges
+pub mod Fairness
+pub mod Kept
 pub mod PathLaws
 pub mod PricedLaws
+pub mod Strikes

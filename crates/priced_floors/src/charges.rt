@@ -4,17 +4,17 @@ ghost use Rattle.std.specs.Prelude.{◌≡◌, ◌<◌, ◌≤◌, ◌*◌, ◌^
 ghost use Rattle.rule_law.specs.Voices as words_of_voices;
 ghost use Rattle.rule_law.specs.Terms.{started_pitch};
 ghost use Rattle.penalty_sheet.specs.Weights.{greatest_toll, weight_of};
-ghost use Rattle.strike_prices.specs.Charges as strike_words;
-ghost use Rattle.strike_prices.specs.Fairness as fairness;
+ghost use Rattle.priced_floors.specs.Strikes as strike_words;
+ghost use Rattle.priced_floors.specs.Fairness as fairness;
 ghost use Rattle.priced_floors.specs.Charges as words;
 ghost use Rattle.priced_floors.specs.Charges.{AreCases, AreFairCharges, AreSmallCharges, AreTopsWithin, prices_of, summit_at, summit_of};
 
+use crate::prices::{PITCHES, Prices, Summit, strike_price, top_price};
 use fux_grid::{Cell, Column, Exercise, cell_of};
 use fux_pitch::{Memory, Pitch, semitone};
 use penalty_sheet::{Sheet, weight};
 use rule_law::is_free;
 use std::alloc::Global;
-use strike_prices::{PITCHES, Prices, Summit, strike_price, top_price};
 
 /// How many parts make a unit of penalty.
 pub const SCALE: u32 = 16;
@@ -23,7 +23,7 @@ pub const SCALE: u32 = 16;
 pub const CASES: usize = 16;
 
 /// What a note may be charged at most for its strike, and at most for being the summit.
-const MOST_CHARGE: u32 = 1_048_576;
+pub const MOST_CHARGE: u32 = 1_048_576;
 
 /// What each voice is charged for its strikes, and the cases by the greatest key of one of them.
 #[derive(Drop)]

@@ -3,13 +3,10 @@
 
 mod charges;
 mod kept;
-mod keys;
+mod prices;
 mod pricing;
-mod rounds;
-mod search;
-mod ways;
 
-pub use charges::Charges;
+pub use charges::{CASES, Charges, MOST_CHARGE, SCALE};
 pub use kept::Kept;
+pub use prices::{PITCHES, Prices, Summit};
 pub use pricing::PricedSpace;
-pub use search::search_best;

@@ -28,8 +28,8 @@ use std::alloc::Global;
 /// The settings of an exercise, with what their columns are charged beforehand.
 #[derive(Drop)]
 pub struct PricedSpace<'a> {
-    pub(crate) space: &'a SpeciesSpace<'a>,
-    pub(crate) charges: &'a Charges,
+    space: &'a SpeciesSpace<'a>,
+    charges: &'a Charges,
     keeps: Keeps,
     /// The debt of each case.
     debts: Vec<u64>,
@@ -99,7 +99,8 @@ impl<'a> PricedSpace<'a> {
         requires small { AreSmallCharges MOST_CHARGE charges.now }
         requires scale { charges.now.scale ≡ SCALE }
         requires few { length charges.now.summits.items ≤ CASES }
-        ensures { IfOk result (λ priced. priced.space.now ≡ space.entry.now) }
+        ensures space { IfOk result (λ priced. priced.space.now ≡ space.entry.now) }
+        ensures keeps { IfOk result (λ priced. priced.keeps ≡ keeps) }
     {
         let debts = debts_of(alloc, space.exercise(), charges)?;
         Ok(PricedSpace {

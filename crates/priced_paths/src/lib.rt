@@ -10,4 +10,5 @@ mod search;
 mod web;
 
 pub use pricing::{MOST_CASES, Pricing};
-pub use search::search_priced;
+pub use search::{search_priced, search_unpriced, search_web, web_of};
+pub use web::{Edge, Spot, Web};

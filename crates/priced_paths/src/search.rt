@@ -1,6 +1,6 @@
 //! The search of a tree whose steps are charged beforehand.
 
-ghost use Rattle.std.specs.Prelude.{◌≡◌, [], IfOk};
+ghost use Rattle.std.specs.Prelude.{◌≡◌, [], IfOk, IfSome};
 ghost use Rattle.tree_search.specs.Answer.{IsFirstLeast, HasNoLeaf, BoundsLeaves, IsOverBudget};
 ghost use Rattle.tree_search.specs.Outcomes.{IfFound, OnNothing, IfSpent, IsSpent};
 ghost use Rattle.floor_graphs.specs.Sameness.{AgreesWithAnswers};
@@ -16,7 +16,7 @@ use std::alloc::Global;
 use tree_search::{Outcome, Space, search_front};
 
 /// The first leaf of least value, by the front over the tree's own floors.
-fn search_unpriced<S: Space>(alloc: Global, space: &S, budget: u32) -> Result<Outcome, Memory>
+pub fn search_unpriced<S: Space>(alloc: Global, space: &S, budget: u32) -> Result<Outcome, Memory>
     ensures found { IfOk result (λ outcome. IfFound outcome (IsFirstLeast (S.live space.now) (S.height space.now))) }
     ensures nothing { IfOk result (λ outcome. OnNothing outcome (HasNoLeaf (S.live space.now) (S.height space.now))) }
     ensures bound { IfOk result (λ outcome. IfSpent outcome (BoundsLeaves (S.live space.now) (S.height space.now))) }
@@ -26,8 +26,24 @@ fn search_unpriced<S: Space>(alloc: Global, space: &S, budget: u32) -> Result<Ou
     search_front(alloc, space, budget)
 }
 
-/// The first leaf of least value, by the front over the floors of the pricing, by its web.
-fn search_web<P: Pricing>(
+/// The web of what a pricing keeps, unless it is too big. It tells nothing of charges, so that pricings which keep the same, and differ in
+/// what they charge, have one web.
+pub fn web_of<P: Pricing>(alloc: Global, pricing: &P) -> Result<Option<Web<P::Kept>>, Memory>
+    ensures { IfOk result (λ web. IfSome web (IsWeb (P.kept_of pricing.now []) (P.Tree.height (P.tree pricing.now))
+        (P.breadth pricing.now) (P.step_at pricing.now))) }
+{
+    let Some(web) = weave(alloc, pricing)? else {
+        return Ok(None);
+    };
+    if !is_web(pricing, &web) {
+        return Ok(None);
+    }
+    Ok(Some(web))
+}
+
+/// The first leaf of least value, by the front over the floors of a pricing, by its web. Where the budget is enough the answer is that of any
+/// search of the tree; where it isn't, each leaf has at least the bound for a value.
+pub fn search_web<P: Pricing>(
     alloc: Global,
     pricing: &P,
     web: &Web<P::Kept>,
@@ -70,11 +86,8 @@ pub fn search_priced<P: Pricing>(alloc: Global, pricing: &P, budget: u32) -> Res
         → IsOverBudget (P.Tree.live (P.tree pricing.now)) (P.Tree.height (P.tree pricing.now)) budget) }
     ensures agrees { IfOk result (AgreesWithAnswers (P.Tree.live (P.tree pricing.now)) (P.Tree.height (P.tree pricing.now))) }
 {
-    let Some(web) = weave(alloc, pricing)? else {
-        return search_unpriced(alloc, pricing.space(), budget);
-    };
-    if !is_web(pricing, &web) {
-        return search_unpriced(alloc, pricing.space(), budget);
+    match web_of(alloc, pricing)? {
+        Some(web) => search_web(alloc, pricing, &web, budget),
+        None => search_unpriced(alloc, pricing.space(), budget),
     }
-    search_web(alloc, pricing, &web, budget)
 }

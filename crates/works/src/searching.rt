@@ -11,7 +11,7 @@ use crate::work::Stop;
 use fux_grid::{Exercise, Score};
 use fux_pitch::Memory;
 use penalty_sheet::Sheet;
-use priced_floors::search_best;
+use price_rounds::search_best;
 use species_space::{SpeciesSpace, TableFault, score_of};
 use std::alloc::Global;
 use std::thread::Threads;

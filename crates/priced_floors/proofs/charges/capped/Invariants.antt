@@ -1,5 +1,5 @@
 use Rattle.std.proofs.Common.{◌≡◌, ◌≤◌, ℕ, length, slice_index}
-use Rattle.strike_prices.specs.declared.prices.TheConstants.{PITCHES}
+use Rattle.priced_floors.specs.declared.prices.TheConstants.{PITCHES}
 use Rattle.priced_floors.proofs.charges.capped.Given as goal
 
 abbrev pub invariant-loop-place : goal.invariant-loop-place

@@ -1,7 +1,7 @@
 use Rattle.std.proofs.Common.{ℕ, arith}
 use Rattle.rule_law.specs.Voices.{is_free}
 use Rattle.fux_judge.proofs.LineLemmas.{sum_kept-on}
-use Rattle.strike_prices.specs.Fairness.{debt_of}
+use Rattle.priced_floors.specs.Fairness.{debt_of}
 use Rattle.priced_floors.specs.Charges.{prices_of, summit_of}
 use Rattle.priced_floors.proofs.charges.debt_in.Goals as goal
 

@@ -1,7 +1,7 @@
 use Rattle.std.proofs.Common.{◌≡◌, ◌≤◌, ◌*◌, ◌^◌, ◌+◌, ◌-◌}
 use Rattle.std.specs.List.{filter, range_with_len, sum_by}
 use Rattle.rule_law.specs.Voices.{is_free}
-use Rattle.strike_prices.specs.Fairness.{debt_of}
+use Rattle.priced_floors.specs.Fairness.{debt_of}
 use Rattle.priced_floors.specs.Charges.{debt_in, prices_of, summit_of}
 use Rattle.priced_floors.proofs.charges.debt_in.Given as goal
 

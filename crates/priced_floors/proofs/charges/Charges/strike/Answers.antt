@@ -1,6 +1,6 @@
 use Rattle.std.proofs.Common.{◌≡◌, arith, rules}
 use Rattle.melody_rules.specs.GaugeParts.{place_in}
-use Rattle.strike_prices.specs.Charges.{strike_price}
+use Rattle.priced_floors.specs.Strikes.{strike_price}
 use Rattle.priced_floors.specs.Charges.{prices_of}
 use Rattle.priced_floors.proofs.charges.Charges.strike.Goals as goal
 

@@ -1,5 +1,5 @@
-use Rattle.floor_graphs.proofs.SameAnswers.{agrees_from_facts, not_spent}
-use Rattle.priced_floors.proofs.search.search_best.Goals as goal
+use Rattle.floor_graphs.proofs.SameAnswers.{not_spent}
+use Rattle.price_rounds.proofs.search.search_by_prices.Goals as goal
 
 pub returns-in_default : goal.returns-in_default
 returns-in_default c =
@@ -9,5 +9,5 @@ returns-in_default c =
       nothing = first.nothing;
       bound = first.bound;
       over = λ spent. absurd (not_spent _ c.in_default.not-Spent spent);
-      agrees = agrees_from_facts _ _ _ first.found first.nothing;
+      agrees = first.agrees;
     }

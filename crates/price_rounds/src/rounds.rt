@@ -2,12 +2,11 @@
 //! where it doesn't. Many prices come to the same sum from the beginning on. Those that are raised as far as this sum allows tell more of the
 //! later part of an exercise, where most pitches were struck four times already. No clause speaks of prices: any are fair once they are capped.
 
-use crate::charges::{CASES, Charges, SCALE};
 use crate::ways::{Notes, Ways};
 use fux_pitch::Memory;
 use penalty_sheet::{Sheet, weight};
+use priced_floors::{CASES, Charges, PITCHES, Prices, SCALE, Summit};
 use std::alloc::Global;
-use strike_prices::{PITCHES, Prices, Summit};
 
 /// How many rounds there are at most, for all cases together.
 const ROUNDS: usize = 300;
@@ -164,7 +163,7 @@ fn least_step(
 impl Round {
     /// The least sums by some prices, from the last nodes back.
     fn work(&mut self, ways: &Ways, summit: &Summit, prices: &[i64]) {
-        let count = ways.nodes.len();
+        let count = ways.first.len();
         for back in 0..count {
             let node = count - 1 - back;
             for reached in 0..2usize {
@@ -559,7 +558,7 @@ pub fn find_prices(
 ) -> Result<Vec<Prices>, Memory> {
     let most = i64::from(weight(sheet, 20)) * i64::from(SCALE) * FINE;
     let mut round = Round {
-        sums: vec![in alloc; NONE; ways.nodes.len().wrapping_mul(2)]?,
+        sums: vec![in alloc; NONE; ways.first.len().wrapping_mul(2)]?,
         strikes: vec![in alloc; 0i64; WIDTH]?,
     };
     let start = Start::new(alloc)?;

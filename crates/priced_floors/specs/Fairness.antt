@@ -18,9 +18,9 @@ use Rattle.melody_rules.specs.ClimaxKeys.{climax_is}
 use Rattle.melody_rules.specs.GaugeParts.{alter_place, place_in}
 use Rattle.melody_rules.specs.Gauges.{beyond_fourth, climax_notes, climax_repeats, notes_at}
 use Rattle.melody_rules.specs.Keys.{greatest_key}
-use Rattle.strike_prices.specs.declared.prices.Prices.{Prices}
-use Rattle.strike_prices.specs.declared.prices.Summit.{Summit}
-use Rattle.strike_prices.specs.Charges.{strike_price, strikes_charged, notes_at_top, charged, is_within}
+use Rattle.priced_floors.specs.declared.prices.Prices.{Prices}
+use Rattle.priced_floors.specs.declared.prices.Summit.{Summit}
+use Rattle.priced_floors.specs.Strikes.{strike_price, strikes_charged, notes_at_top, charged, is_within}
 
 -- each charge is at most what the gauge costs for one note more
 pub record AreFair (prices : Prices) (summit : Summit) (climax strikes : ℕ) : Type 0 where

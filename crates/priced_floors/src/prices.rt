@@ -1,10 +1,10 @@
 //! What each strike of a pitch is charged.
 
-ghost use Rattle.std.specs.Prelude.{◌≡◌, ◌<◌, ℕ};
-ghost use Rattle.melody_rules.specs.GaugeParts.{place_in};
-ghost use Rattle.strike_prices.specs.Charges as charges;
+ghost use Rattle.std.specs.Prelude.{◌≡◌};
+ghost use Rattle.priced_floors.specs.Strikes as charges;
 
 use fux_pitch::{Pitch, semitone};
+use melody_rules::place_of;
 
 /// How many places of pitches there are.
 pub const PITCHES: usize = 147;
@@ -23,19 +23,6 @@ pub struct Summit {
     pub low: u8,
     pub high: Option<u8>,
     pub charge: u32,
-}
-
-/// The place of a pitch among all of them.
-pub fn place_of(p: Pitch) -> usize
-    ensures value { result ≡ place_in p }
-    ensures bound { result < PITCHES }
-{
-    let alter = match p.alter() {
-        -1 => 0,
-        0 => 1,
-        _ => 2,
-    };
-    3 * (usize::from(p.degree()) - 7) + alter
 }
 
 /// What a strike of a pitch is charged.

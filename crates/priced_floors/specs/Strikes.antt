@@ -7,8 +7,8 @@ use Rattle.fux_pitch.specs.Pitch.{key_of}
 use Rattle.melody_rules.specs.GaugeParts.{place_in}
 use Rattle.melody_rules.specs.Gauges.{notes_at}
 use Rattle.melody_rules.specs.Keys.{greatest_key}
-use Rattle.strike_prices.specs.declared.prices.Prices.{Prices}
-use Rattle.strike_prices.specs.declared.prices.Summit.{Summit}
+use Rattle.priced_floors.specs.declared.prices.Prices.{Prices}
+use Rattle.priced_floors.specs.declared.prices.Summit.{Summit}
 
 -- what a strike of a pitch is charged
 abbrev pub strike_price : List ℕ → Pitch → ℕ

@@ -1,0 +1,85 @@
+//! The web of what is kept, and prices by it.
+
+ghost use Rattle.std.specs.Prelude.{◌≡◌, ◌≤◌, IfOk, IfSome, length};
+ghost use Rattle.priced_floors.specs.Charges.{AreFairCharges, AreSmallCharges};
+ghost use Rattle.priced_floors.specs.declared.charges.TheConstants.{CASES, MOST_CHARGE, SCALE};
+ghost use Rattle.price_rounds.specs.Woven.{IsWoven};
+
+use crate::rounds::find_prices;
+use crate::ways::{Ways, ways_of};
+use fux_pitch::Memory;
+use open_ends::Keeps;
+use priced_floors::{Charges, Kept, PricedSpace, Prices};
+use priced_paths::{Web, web_of};
+use species_space::SpeciesSpace;
+use std::alloc::Global;
+
+/// What is kept, the web of it, and the ways through the web, unless there are too many.
+#[derive(Drop)]
+pub struct Woven {
+    pub keeps: Keeps,
+    pub web: Web<Kept>,
+    pub ways: Option<Ways>,
+}
+
+/// The web of the settings of a space's exercise where so much is kept, unless it is too big.
+pub fn weave(
+    alloc: Global,
+    space: &SpeciesSpace<'_>,
+    keeps: Keeps,
+    plain: &Charges,
+) -> Result<Option<Woven>, Memory>
+    requires fair { AreFairCharges plain.now space.now.sheet }
+    requires small { AreSmallCharges MOST_CHARGE plain.now }
+    requires scale { plain.now.scale ≡ SCALE }
+    requires few { length plain.now.summits.items ≤ CASES }
+    ensures { IfOk result (λ made. IfSome made (λ woven.
+        IsWoven space.now.exercise space.now.sheet woven.keeps woven.web)) }
+{
+    let priced = PricedSpace::new(alloc, space, keeps, plain)?;
+    let Some(web) = web_of(alloc, &priced)? else {
+        return Ok(None);
+    };
+    let ways = ways_of(alloc, space, &web, plain.voice)?;
+    Ok(Some(Woven { keeps, web, ways }))
+}
+
+/// The web of the first of these choices of what is kept where there aren't too many ways, or of what is always kept.
+pub fn weave_first(
+    alloc: Global,
+    space: &SpeciesSpace<'_>,
+    choices: &[Keeps],
+    plain: &Charges,
+) -> Result<Option<Woven>, Memory>
+    requires fair { AreFairCharges plain.now space.now.sheet }
+    requires small { AreSmallCharges MOST_CHARGE plain.now }
+    requires scale { plain.now.scale ≡ SCALE }
+    requires few { length plain.now.summits.items ≤ CASES }
+    ensures { IfOk result (λ made. IfSome made (λ woven.
+        IsWoven space.now.exercise space.now.sheet woven.keeps woven.web)) }
+{
+    for keeps in choices {
+        if let Some(woven) = weave(alloc, space, *keeps, plain)? {
+            if woven.ways.is_some() {
+                return Ok(Some(woven));
+            }
+        }
+    }
+    weave(alloc, space, Keeps::least(), plain)
+}
+
+impl Woven {
+    /// Prices for the cases of these charges, raised ones where they are wanted; none where there are too many ways.
+    pub fn prices(
+        &self,
+        alloc: Global,
+        space: &SpeciesSpace<'_>,
+        plain: &Charges,
+        raised: bool,
+    ) -> Result<Vec<Prices>, Memory> {
+        match &self.ways {
+            Some(ways) => find_prices(alloc, space.sheet(), ways, plain, raised),
+            None => Ok(Vec::new(alloc)),
+        }
+    }
+}
