@@ -1,5 +1,5 @@
 -- What is drawn of a written note or rest.
-use Rattle.std.specs.Prelude.{ℕ, ◌+◌, ◌-◌, ◌*◌, ◌%◌, ◌==◌, ◌&&◌, Bool, true, false, nat_le, nat_lt, List, [], ◌∷◌, ◌++◌, if◌then◌else◌}
+use Rattle.std.specs.Prelude.{ℕ, ◌+◌, ◌-◌, ◌*◌, ◌%◌, ◌/◌, ◌==◌, ◌&&◌, Bool, true, false, nat_le, nat_lt, List, [], ◌∷◌, ◌++◌, if◌then◌else◌}
 use Rattle.std.specs.List.{flat_map, range_with_len}
 use Rattle.fux_pitch.specs.declared.pitch.Pitch.{Pitch}
 use Rattle.fux_pitch.specs.Pitch.{degree_of}
@@ -143,8 +143,12 @@ rest_symbol Half = HalfRest
 rest_symbol Quarter = QuarterRest
 rest_symbol Eighth = EighthRest
 
+-- where a rest stands: at its slot, and in the bar's middle where it fills the bar
+abbrev pub rest_x : NotePlace → Written → ℕ
+rest_x place note = if note.slots == 8 then place.width / 2 else slot_x place.all.now note.slot
+
 -- what is drawn of a rest, at the middle line
 abbrev pub rest_shapes : NotePlace → Written → List Shape
 rest_shapes place note =
-    At (rest_symbol note.value.base) (point (slot_x place.all.now note.slot) 600) ∷ []
-    ++ dots note.value.dots (slot_x place.all.now note.slot) 596
+    At (rest_symbol note.value.base) (point (rest_x place note) 600) ∷ []
+    ++ dots note.value.dots (rest_x place note) 596

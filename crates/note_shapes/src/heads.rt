@@ -9,13 +9,14 @@ use sheet_layout::slot_x;
 use written_notes::{Beam, Written, beam_of};
 
 /// What the notes of a bar of a voice have in common: the notes of all voices in the bar, the
-/// voice's own, the degree of its staff's middle line, where its ties to the next bar end, and
-/// whether the bar begins a system.
+/// voice's own, the degree of its staff's middle line, the bar's width, where ties to the next bar
+/// end, and whether the bar begins a system.
 #[derive(Clone, Copy)]
 pub struct NotePlace<'a> {
     pub all: &'a [Written],
     pub notes: &'a [Written],
     pub middle: u8,
+    pub width: u16,
     pub tie_end: u32,
     pub first: bool,
 }

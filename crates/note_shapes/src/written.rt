@@ -2,7 +2,7 @@
 
 ghost use Rattle.std.specs.Prelude.{◌≡◌, ◌≤◌, ◌++◌, ◌∷◌, [], OnOk};
 ghost use Rattle.note_shapes.specs.declared.shapes.Shape.TheVariants.{At};
-ghost use Rattle.note_shapes.specs.Notes.{beam as beam_shape, dot_height as dot_height_of, dots, flag as flag_shape, has_flag, has_stem, head_shapes, head_symbol as symbol_of_head, ledger_at, ledgers, note_shapes, point, rest_shapes, rest_symbol as symbol_of_rest, signs, starts_beam, stem as stem_shape, stems, tie_to as tie_end_of, ties};
+ghost use Rattle.note_shapes.specs.Notes.{beam as beam_shape, dot_height as dot_height_of, dots, flag as flag_shape, has_flag, has_stem, head_shapes, head_symbol as symbol_of_head, ledger_at, ledgers, note_shapes, point, rest_shapes, rest_symbol as symbol_of_rest, rest_x as x_of_rest, signs, starts_beam, stem as stem_shape, stems, tie_to as tie_end_of, ties};
 
 use crate::heads::{Head, NotePlace, head_of, stem_x, tip};
 use crate::shapes::{Point, Shape, Symbol, put_when};
@@ -270,11 +270,22 @@ fn rest_symbol(base: Base) -> Symbol
     }
 }
 
+/// Where a rest stands: at its slot, and in the bar's middle where it fills the bar.
+fn rest_x(place: &NotePlace, note: &Written) -> u16
+    ensures { result ≡ x_of_rest place.now note.now }
+{
+    if note.slots == 8 {
+        place.width / 2
+    } else {
+        slot_x(place.all, note.slot)
+    }
+}
+
 /// Appends what is drawn of a rest, at the middle line.
 pub fn put_rest(shapes: &mut Vec<Shape>, place: &NotePlace, note: &Written) -> Result<(), Memory>
     ensures { OnOk result (shapes.new.items ≡ shapes.old.items ++ rest_shapes place.now note.now) }
 {
-    let x = slot_x(place.all, note.slot);
+    let x = rest_x(place, note);
     let symbol = rest_symbol(note.value.base);
     put_symbol(shapes, symbol, x, 600)?;
     put_dots(shapes, note.value.dots, x, 596)?;

@@ -10,7 +10,7 @@ returns c =
     let note = c.args.note.now in
     pushed old _ _
     (c.in_ok-put_symbol.ensures
-    ∙ ap (λ symbol. old ++ At symbol (point c.slot_x-x.result 600) ∷ []) c.rest_symbol-symbol.ensures
-    ∙ ap (λ x. old ++ At (rest_symbol note.value.base) (point x 600) ∷ []) c.slot_x-x.ensures.value)
+    ∙ ap (λ symbol. old ++ At symbol (point c.rest_x-x.result 600) ∷ []) c.rest_symbol-symbol.ensures
+    ∙ ap (λ x. old ++ At (rest_symbol note.value.base) (point x 600) ∷ []) c.rest_x-x.ensures)
     (c.in_ok-put_dots.ensures
-    ∙ ap (λ x. c.put_symbol.new.shapes.items ++ dots note.value.dots x 596) c.slot_x-x.ensures.value)
+    ∙ ap (λ x. c.put_symbol.new.shapes.items ++ dots note.value.dots x 596) c.rest_x-x.ensures)
