@@ -36,7 +36,7 @@ pub data Task : Type 0 where
   certify : (name : Text) (sheet : Option Text) (budget : ℕ) (form : Form) → Task
   check : (name certificate : Text) (sheet : Option Text) → Task
   fromsmf : (name : Text) (head : Head) → Task
-  drill : (number : ℕ) → Task
+  drill : (number : ℕ) (by_sharper : Bool) → Task
   class_report : (list : Text) → Task
   find_canon : (name : Text) (sheet : Option Text) (budget : ℕ) → Task
   find_cantus : (wanted : Wanted) (sheet : Option Text) (budget : ℕ) → Task
@@ -53,7 +53,7 @@ making_task (OnExercise name sheet job) = on_exercise name.now (sheet_named shee
 making_task (OnMixed name sheet named job) = on_mixed name.now (sheet_named sheet) named job
 making_task (Check name certificate sheet) = check name.now certificate.now (sheet_named sheet)
 making_task (FromSmf name head) = fromsmf name.now head
-making_task (Drill number) = drill number
+making_task (Drill number by_sharper) = drill number by_sharper
 making_task (Class list) = class_report list.now
 making_task (Canon name sheet budget) = find_canon name.now (sheet_named sheet) budget
 making_task (NewCantus wanted sheet budget) = find_cantus wanted (sheet_named sheet) budget
@@ -180,7 +180,8 @@ from_smf_asked rows = do
   Some (fromsmf name head)
 
 abbrev pub drill_asked : List Row → Option Task
-drill_asked rows = number_at (codes "N") 0 1000000 rows >>= λ number. Some (drill number)
+drill_asked rows =
+    number_at (codes "N") 0 1000000 rows >>= λ number. Some (drill number (is_set (codes "best") rows))
 
 abbrev pub class_asked : List Row → Option Task
 class_asked rows = first_of (codes "LIST") rows >>= λ list. Some (class_report list)

@@ -28,7 +28,7 @@ row_of verb.Cantus = (codes "cantus", part.Exercise ∷ [])
 row_of verb.Print = (codes "print", part.Exercise ∷ [])
 row_of verb.ToSmf = (codes "tosmf", part.Exercise ∷ [])
 row_of verb.FromSmf = (codes "fromsmf", part.File ∷ part.Mode ∷ part.Species ∷ part.Voice ∷ part.Cantus ∷ part.TopFirst ∷ [])
-row_of verb.Drill = (codes "drill", part.Number ∷ [])
+row_of verb.Drill = (codes "drill", part.Number ∷ part.BySharper ∷ [])
 row_of verb.Class = (codes "class", part.List ∷ [])
 row_of verb.Canon = (codes "canon", part.File ∷ part.Sheet ∷ part.Budget ∷ [])
 row_of verb.Mixed = (codes "mixed", part.Exercise ∷ part.Sheet ∷ part.Budget ∷ part.With ∷ [])
@@ -62,6 +62,7 @@ name_of part.Species = codes "species"
 name_of part.Voice = codes "voice"
 name_of part.Cantus = codes "cantus"
 name_of part.TopFirst = codes "top-first"
+name_of part.BySharper = codes "best"
 
 -- how a part is given
 abbrev pub kind_of : Part → Kind
@@ -85,6 +86,7 @@ kind_of part.Species = kind.Needed
 kind_of part.Voice = kind.Needed
 kind_of part.Cantus = kind.Needed
 kind_of part.TopFirst = kind.Flag
+kind_of part.BySharper = kind.Flag
 
 -- a word is the first of a command
 abbrev pub has_word : Text → Verb → Bool

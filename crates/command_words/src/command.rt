@@ -95,9 +95,10 @@ pub enum Making<'a> {
         name: &'a str,
         head: Head,
     },
-    /// The exercise of a number with its best setting.
+    /// The exercise of a number with its best setting, by the floors of `best` where `by_sharper`.
     Drill {
         number: u32,
+        by_sharper: bool,
     },
     /// The report of the exercises in the files that a list names.
     Class {

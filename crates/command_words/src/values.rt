@@ -211,7 +211,8 @@ fn drill_asked<'a>(matches: &ArgMatches<'a>) -> Option<Command<'a>>
     ensures head { IfSome result HasHead }
 {
     let number = number_at(matches, "N", 0, LAST_DRILL)?;
-    Some(Command::Make(Making::Drill { number }))
+    let by_sharper = is_set(matches, "best");
+    Some(Command::Make(Making::Drill { number, by_sharper }))
 }
 
 /// `class`, on a list.

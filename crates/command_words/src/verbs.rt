@@ -116,6 +116,8 @@ pub enum Part {
     Cantus,
     /// The tracks of a MIDI file begin with the top voice.
     TopFirst,
+    /// The search of `best` in place of that of `compose`.
+    BySharper,
 }
 
 /// How a part is given.
@@ -160,7 +162,7 @@ impl Verb {
                     Part::TopFirst,
                 ],
             ),
-            Verb::Drill => ("drill", &[Part::Number]),
+            Verb::Drill => ("drill", &[Part::Number, Part::BySharper]),
             Verb::Class => ("class", &[Part::List]),
             Verb::Canon => ("canon", &[Part::File, Part::Sheet, Part::Budget]),
             Verb::Mixed => (
@@ -242,6 +244,7 @@ impl Part {
             Part::Voice => "voice",
             Part::Cantus => "cantus",
             Part::TopFirst => "top-first",
+            Part::BySharper => "best",
         }
     }
 
@@ -261,7 +264,7 @@ impl Part {
             | Part::High => Kind::Word,
             Part::Sheet | Part::Budget | Part::Form | Part::MayWith | Part::Against => Kind::Option,
             Part::With | Part::Mode | Part::Species | Part::Voice | Part::Cantus => Kind::Needed,
-            Part::TopFirst => Kind::Flag,
+            Part::TopFirst | Part::BySharper => Kind::Flag,
         }
     }
 }

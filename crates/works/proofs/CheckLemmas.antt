@@ -136,7 +136,7 @@ output_is_there (on_exercise ex sheet job) files name bytes output made one miss
 output_is_there (on_mixed ex sheet named job) files name bytes output made one missing = omega (arith, one.1)
 output_is_there (certify ex sheet budget form) files name bytes output made one missing = omega (arith, one.1)
 output_is_there (fromsmf file head) files name bytes output made one missing = omega (arith, one.1)
-output_is_there (drill number) files name bytes output made one missing = omega (arith, one.1)
+output_is_there (drill number by_sharper) files name bytes output made one missing = omega (arith, one.1)
 output_is_there (find_canon file sheet budget) files name bytes output made one missing = omega (arith, one.1)
 output_is_there (find_cantus wanted sheet budget) files name bytes output made one missing = omega (arith, one.1)
 output_is_there (certify_cantus wanted sheet budget) files name bytes output made one missing = omega (arith, one.1)
@@ -244,7 +244,7 @@ not_refused (on_exercise ex sheet job) files bytes refusal made ready = ready
 not_refused (on_mixed ex sheet named job) files bytes refusal made ready = ready
 not_refused (certify ex sheet budget form) files bytes refusal made ready = ready
 not_refused (fromsmf file head) files bytes refusal made ready = ready
-not_refused (drill number) files bytes refusal made ready = ready
+not_refused (drill number by_sharper) files bytes refusal made ready = ready
 not_refused (find_canon file sheet budget) files bytes refusal made ready = ready
 not_refused (find_cantus wanted sheet budget) files bytes refusal made ready = ready
 not_refused (certify_cantus wanted sheet budget) files bytes refusal made ready = ready

@@ -1,6 +1,6 @@
 -- What a command makes, from what was read of its files and what it answers to that (`made_said`),
 -- and where the file of its sheet can't be read (`sheet_unread`).
-use Rattle.std.proofs.Common.{◌≡◌, ◌⊎◌, ℕ, List, [], ◌∷◌, Option, Some, None, Result, Ok, Err, inl, inr, refl, sym, subst, arith}
+use Rattle.std.proofs.Common.{◌≡◌, ◌⊎◌, ℕ, Bool, List, [], ◌∷◌, Option, Some, None, Result, Ok, Err, inl, inr, refl, sym, subst, arith}
 use Rattle.fux_port.specs.Files.{IsMissing}
 use Rattle.class_marker.specs.Markings.{IsContent}
 use Rattle.fux_grid.specs.declared.exercise.Head.{Head}
@@ -90,13 +90,14 @@ of_one files name head file (Err (stop.Refused refusal)) made [] content = absur
 of_one files name head file (Ok output) made (bytes ∷ more ∷ all) content = absurd content.1
 of_one files name head file (Err (stop.Refused refusal)) made (bytes ∷ more ∷ all) content = absurd content.1
 
-pub of_none : (files : Files) (number : ℕ) (answer : Result Output Stop) → Answers (Drills number) answer
-    → (all : List (List ℕ)) → AreContents 65536 [] all → Answers (Makes (drill number) files all) answer
-of_none files number (Ok output) made [] content = made
-of_none files number (Err (stop.Refused refusal)) made [] content = made
-of_none files number (Err stop.Memory) made all content = tt
-of_none files number (Ok output) made (bytes ∷ all) content = absurd content
-of_none files number (Err (stop.Refused refusal)) made (bytes ∷ all) content = absurd content
+pub of_none : (files : Files) (number : ℕ) (by_sharper : Bool) (answer : Result Output Stop)
+    → Answers (Drills number by_sharper) answer
+    → (all : List (List ℕ)) → AreContents 65536 [] all → Answers (Makes (drill number by_sharper) files all) answer
+of_none files number by_sharper (Ok output) made [] content = made
+of_none files number by_sharper (Err (stop.Refused refusal)) made [] content = made
+of_none files number by_sharper (Err stop.Memory) made all content = tt
+of_none files number by_sharper (Ok output) made (bytes ∷ all) content = absurd content
+of_none files number by_sharper (Err (stop.Refused refusal)) made (bytes ∷ all) content = absurd content
 
 -- ---- files that can't be read
 

@@ -1,14 +1,14 @@
 //! The command `drill`.
 
-ghost use Rattle.std.specs.Prelude.{◌≡◌, ◌++◌, IfOk, OnOk, map, string_bytes};
+ghost use Rattle.std.specs.Prelude.{◌≡◌, ◌++◌, IfOk, OnOk, false, map, string_bytes, true};
 ghost use Rattle.fux_pitch.specs.Names.{name_of};
 ghost use Rattle.fux_text.specs.Words.{spaced};
 ghost use Rattle.fux_grid.specs.Exercises.{IsValid};
 ghost use Rattle.works.specs.Drilled.{AddsDrillLine, Drills, HasDrillLines, IsDrillFound, drill_heading};
-ghost use Rattle.works.specs.Searched.{HasWholeScore};
+ghost use Rattle.works.specs.Searched.{Finds, HasWholeScore};
 ghost use Rattle.works.specs.Works.{Answers};
 
-use crate::searching::{Found, best_setting};
+use crate::searching::{Found, best_setting, sharp_setting};
 use crate::work::{Output, Stop, Verdict};
 use fux_grid::Exercise;
 use fux_pitch::{Memory, Pitch};
@@ -22,13 +22,36 @@ use std::thread::Threads;
 const DRILL_BUDGET: u32 = 200_000;
 
 /// The exercise of a number, and its best setting over the usual weights, with its marks.
-pub fn drill<R: Threads + Sync>(rt: &R, alloc: Global, number: u32) -> Result<Output, Stop>
-    ensures { Answers (Drills number) result }
+pub fn drill<R: Threads + Sync>(
+    rt: &R,
+    alloc: Global,
+    number: u32,
+    by_sharper: bool,
+) -> Result<Output, Stop>
+    ensures { Answers (Drills number by_sharper) result }
 {
     let exercise = drill_exercise::drill(alloc, number)?;
-    match best_setting(rt, alloc, &exercise, &default_sheet(), DRILL_BUDGET) {
+    match found_for(rt, alloc, &exercise, by_sharper) {
         Ok(found) => Ok(drill_output(alloc, number, &exercise, &found)?),
         Err(stop) => Err(stop),
+    }
+}
+
+/// The best setting of an exercise over the usual weights, by sharper floors or the usual ones.
+fn found_for<R: Threads + Sync>(
+    rt: &R,
+    alloc: Global,
+    exercise: &Exercise,
+    by_sharper: bool,
+) -> Result<Found, Stop>
+    requires { IsValid exercise.now }
+    ensures { Finds exercise.now (IsDrillFound by_sharper exercise.now) result }
+{
+    let sheet = default_sheet();
+    if by_sharper {
+        sharp_setting(rt, alloc, exercise, &sheet, DRILL_BUDGET)
+    } else {
+        best_setting(rt, alloc, exercise, &sheet, DRILL_BUDGET)
     }
 }
 
@@ -41,7 +64,10 @@ fn drill_output(
 ) -> Result<Output, Memory>
     requires valid { IsValid exercise.now }
     requires complete { HasWholeScore exercise.now found.now }
-    ensures { IsDrillFound exercise.now found.now → IfOk result (HasDrillLines number exercise.now) }
+    ensures usual { IsDrillFound false exercise.now found.now
+        → IfOk result (HasDrillLines number false exercise.now) }
+    ensures sharp { IsDrillFound true exercise.now found.now
+        → IfOk result (HasDrillLines number true exercise.now) }
 {
     let mut text = heading(alloc, number, exercise)?;
     let verdict = put_found(alloc, &mut text, exercise, found)?;
@@ -78,8 +104,10 @@ fn put_found(
 ) -> Result<Verdict, Memory>
     requires valid { IsValid exercise.now }
     requires complete { HasWholeScore exercise.now found.now }
-    ensures { IsDrillFound exercise.now found.now
-        → IfOk result (AddsDrillLine exercise.now (string_bytes text.old) (string_bytes text.new)) }
+    ensures usual { IsDrillFound false exercise.now found.now → IfOk result
+        (AddsDrillLine false exercise.now (string_bytes text.old) (string_bytes text.new)) }
+    ensures sharp { IsDrillFound true exercise.now found.now → IfOk result
+        (AddsDrillLine true exercise.now (string_bytes text.old) (string_bytes text.new)) }
 {
     match found {
         Found::Best { score, penalty } => {

@@ -82,7 +82,9 @@ pub fn make<'a, F: Shelf, R: Threads + Sync>(
             let file = read_content(alloc, shelf, name, LONGEST_MIDI)?;
             said(alloc, name, from_smf(alloc, &file, &head))
         }
-        Making::Drill { number } => said(alloc, "", drill(rt, alloc, number)),
+        Making::Drill { number, by_sharper } => {
+            said(alloc, "", drill(rt, alloc, number, by_sharper))
+        }
         Making::Class { list } => class(rt, alloc, list, shelf),
         Making::Canon {
             name,

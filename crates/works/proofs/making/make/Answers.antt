@@ -100,8 +100,8 @@ returns-in_ok-file-in-FromSmf-clause-made g c =
 
 pub returns-in-Drill-clause-made : goal.returns-in-Drill-clause-made
 returns-in-Drill-clause-made g c =
-    rw c.in-Drill.is (made_said (drill c.in-Drill.number) (g.F.Shelf.files c.args.shelf.now) _ [] c.drill.result
-    c.said-in-Drill.result tt (of_none (g.F.Shelf.files c.args.shelf.now) c.in-Drill.number c.drill.result
+    rw c.in-Drill.is (made_said (drill c.in-Drill.number c.in-Drill.by_sharper) (g.F.Shelf.files c.args.shelf.now) _ [] c.drill.result
+    c.said-in-Drill.result tt (of_none (g.F.Shelf.files c.args.shelf.now) c.in-Drill.number c.in-Drill.by_sharper c.drill.result
     c.drill.ensures) c.said-in-Drill.ensures.says)
 
 pub returns-in_err-text-in-OnExercise-clause-served : goal.returns-in_err-text-in-OnExercise-clause-served
