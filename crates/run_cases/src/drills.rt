@@ -1,4 +1,4 @@
-//! A drill is the same each time, and composes what its definition says.
+//! A drill is the same each time, and composes what its definition says, by sharper floors too.
 
 use crate::answers::{agree, said};
 use fux_port::{MemShelf, MemSink};
@@ -37,8 +37,8 @@ fn a_drill_composes_its_exercise_each_time(rt: HostRuntime) -> Result<(), Fail> 
     let alloc = rt.alloc();
     let composed = said_of(&rt, alloc, "compose E --budget 200000")?;
     let expected = drilled(alloc, composed.as_str())?;
-    for _ in 0..2 {
-        let got = said_of(&rt, alloc, "drill 1")?;
+    for words in ["drill 1", "drill 1", "drill 1 --best", "drill --best 1"] {
+        let got = said_of(&rt, alloc, words)?;
         agree(&rt, got.as_str(), expected.as_str());
     }
     Ok(())
