@@ -1,8 +1,10 @@
 -- Systems that are begun anew where the next bar doesn't fit have all bars, and hold the most.
-use Rattle.std.proofs.Common.{◌≡◌, ℕ, zero, suc, ◌+◌, ◌-◌, ◌<◌, ◌≤◌, Bool, true, false, cond, List, [], ◌∷◌, ◌++◌, length, get_or, refl, ap, sym, ◌∙◌, append-nil, arith, absurd, tt}
-use Rattle.std.specs.List.{concat, range_with_len}
+use Rattle.std.proofs.Common.{◌≡◌, ℕ, zero, suc, ◌+◌, ◌-◌, ◌<◌, ◌≤◌, Bool, true, false, cond, List, [], ◌∷◌, ◌++◌, length, get_or, refl, ap, sym, ◌∙◌, append-nil, subst, arith}
+use Rattle.std.specs.List.{concat, flat_map, range_with_len}
 use Rattle.std.proofs.lemmas.List.FromFn.{length-range_with_len}
-use Rattle.score_print.specs.Systems.{HoldMost, HoldsMost}
+use Rattle.fux_grid.specs.declared.exercise.Exercise.{Exercise}
+use Rattle.score_print.specs.Shown.{slots_shown}
+use Rattle.score_print.specs.Systems.{HoldMost, HoldsMost, IsWrapped, fits, printed_system}
 use Rattle.score_print.proofs.RowSteps.{range-last}
 
 -- the systems from the one that begins with a bar and has those before another, where so many bars are left
@@ -112,3 +114,18 @@ pub begun-anew : (fits : List ℕ → Bool) (first bar left : ℕ) → fits (ran
 begun-anew fits first bar left e =
     ap (λ t. cond t (systems_from fits first (bar + 1) left)
     (range_with_len first (bar - first) ∷ systems_from fits bar (bar + 1) left)) e
+
+-- what is written of these systems, from the one of the first bar, is the printed score in systems
+pub all-wrapped : (ex : Exercise) (columns slots : ℕ) (text : List ℕ) → slots ≡ slots_shown ex → 3 ≤ ex.bars
+    → text ≡ flat_map (printed_system ex slots) (systems_from (fits ex columns slots) 1 2 ((ex.bars + 1) - 2))
+    → IsWrapped ex columns text
+all-wrapped ex columns slots text same few written =
+    let all : (2 - 1) + ((ex.bars + 1) - 2) ≡ ex.bars = omega (arith, few) in record {
+      systems = systems_from (fits ex columns (slots_shown ex)) 1 2 ((ex.bars + 1) - 2);
+      whole = systems-whole (fits ex columns (slots_shown ex)) 1 2 ((ex.bars + 1) - 2) (omega arith)
+          ∙ ap (range_with_len 1) all;
+      full = systems-full (fits ex columns (slots_shown ex)) 1 2 ((ex.bars + 1) - 2) (omega arith)
+          (λ two. absurd (omega (arith, two)));
+      written = subst (λ k. text ≡ flat_map (printed_system ex k) (systems_from (fits ex columns k) 1 2 ((ex.bars + 1) - 2)))
+          same written;
+    }

@@ -12,6 +12,6 @@ loop-bar-preserved c =
     let next : system_width ex slots (range_with_len bar (c.args.end - bar))
         ≡ bar_width ex bar slots + system_width ex slots (range_with_len (bar + 1) (c.args.end - (bar + 1))) =
     ap (system_width ex slots) (range-next bar c.args.end c.loop-bar-test.true) in record {
-      value = omega (arith, next, c.bar_width.ensures.value, c.loop-bar.invariant.value);
-      most = omega (arith, c.bar_width.ensures.most, c.loop-bar.invariant.most);
+      value = omega (arith, next, c.bar_width-width.ensures.value, c.loop-bar.invariant.value);
+      most = omega (arith, c.bar_width-width.ensures.most, c.loop-bar.invariant.most);
     }
