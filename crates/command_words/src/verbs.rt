@@ -262,12 +262,8 @@ impl Part {
             | Part::Bars
             | Part::Low
             | Part::High => Kind::Word,
-            Part::Sheet
-            | Part::Budget
-            | Part::Form
-            | Part::MayWith
-            | Part::Against
-            | Part::Wrap => Kind::Option,
+            Part::Sheet | Part::Budget | Part::Form | Part::MayWith | Part::Against | Part::Wrap =>
+                Kind::Option,
             Part::With | Part::Mode | Part::Species | Part::Voice | Part::Cantus => Kind::Needed,
             Part::TopFirst => Kind::Flag,
         }

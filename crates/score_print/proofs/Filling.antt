@@ -60,7 +60,7 @@ systems-whole fits first bar (suc left) h =
 most-held : (fits : List ℕ → Bool) (first bar : ℕ) (behind : List ℕ) → first < bar
     → (2 ≤ bar - first → fits (range_with_len first (bar - first)) ≡ true)
     → ((next : ℕ) (more : List ℕ) → behind ≡ next ∷ more
-        → (bar ≡ next) × (fits (range_with_len first ((bar + 1) - first)) ≡ false))
+    → (bar ≡ next) × (fits (range_with_len first ((bar + 1) - first)) ≡ false))
     → HoldsMost fits (range_with_len first (bar - first)) behind
 most-held fits first bar behind h fit stops =
     let size : length (range_with_len first (bar - first)) ≡ bar - first = length-range_with_len first (bar - first) in record {

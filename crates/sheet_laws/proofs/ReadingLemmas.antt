@@ -297,8 +297,8 @@ module _ (bar : List Cell) (next : Cell) (size : length bar ≡ 8) where
       → (is_some (pitch_of (cell_in bar s)) && is_hold (cell_behind bar next (s + run_length bar s))) ≡ after
       → TiesMeet after notes (is_hold next) → (t : Bool)
       → TiesMeet (is_hold (cell_in bar s))
-          (cond t (head_of (run_at bar next s) ∷ tail_of (run_at bar next s) ∷ []) (note_of (run_at bar next s) ∷ []) ++ notes)
-          (is_hold next)
+      (cond t (head_of (run_at bar next s) ∷ tail_of (run_at bar next s) ∷ []) (note_of (run_at bar next s) ∷ []) ++ notes)
+      (is_hold next)
   tie-run s notes after same rest true =
       (refl, refl, subst (λ b. TiesMeet b notes (is_hold next)) (sym same) rest)
   tie-run s notes after same rest false = (refl, subst (λ b. TiesMeet b notes (is_hold next)) (sym same) rest)

@@ -79,7 +79,7 @@ module _ (bar : List Cell) (size : length bar ≡ 8) where
 
     from-slot : P 8 []
         → ((s : ℕ) (notes : List Written) → s < 8 → P (s + run_length bar s) notes
-            → P s (run_notes (run_at bar next s) ++ notes))
+        → P s (run_notes (run_at bar next s) ++ notes))
         → (n s : ℕ) → s + n ≡ 8 → P (s + going_on s) (flat_map (notes_at bar next) (range_with_len s n))
     from-slot end step zero s e =
         let all : s ≡ 8 = omega (arith, e) in
@@ -95,6 +95,6 @@ module _ (bar : List Cell) (size : length bar ≡ 8) where
     -- what holds of no notes at the bar's end, and of each run's notes before others, holds of all
     pub by_runs : P 8 []
         → ((s : ℕ) (notes : List Written) → s < 8 → P (s + run_length bar s) notes
-            → P s (run_notes (run_at bar next s) ++ notes))
+        → P s (run_notes (run_at bar next s) ++ notes))
         → P 0 (flat_map (notes_at bar next) (range_with_len 0 8))
     by_runs end step = from-slot end step 8 0 refl

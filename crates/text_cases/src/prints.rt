@@ -117,7 +117,10 @@ const SHEETS: [Sheet; 4] = [
 fn pitches(alloc: Global, score: &Score, v: usize) -> Result<Vec<Pitch>, Fail> {
     let mut pitches = Vec::new(alloc);
     for bar in 0..score.len() / 8 {
-        let pitch = score.cell(v, 8 * bar).pitch().ok_or("a rest in the cantus")?;
+        let pitch = score
+            .cell(v, 8 * bar)
+            .pitch()
+            .ok_or("a rest in the cantus")?;
         pitches.push(pitch)?;
     }
     Ok(pitches)

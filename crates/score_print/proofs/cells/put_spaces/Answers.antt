@@ -1,4 +1,4 @@
-use Rattle.std.proofs.Common.{◌≡◌, ℕ, ◌+◌, ◌-◌, [], ◌∷◌, ◌++◌, replicate, string_bytes, arith, ap, sym, ◌∙◌}
+use Rattle.std.proofs.Common.{ℕ, ◌+◌, ◌-◌, [], ◌∷◌, ◌++◌, replicate, string_bytes, arith, ap, sym, ◌∙◌}
 use Rattle.score_print.proofs.RowSteps.{moved, spaces-next}
 use Rattle.score_print.proofs.cells.put_spaces.Goals as goal
 

@@ -1,4 +1,4 @@
-use Rattle.std.proofs.Common.{◌≡◌, ℕ, Bool, true, false, not, ◌+◌, ◌-◌, List, ◌++◌, suc, string_bytes, append-nil, ap, sym, ◌∙◌, arith}
+use Rattle.std.proofs.Common.{◌≡◌, ◌+◌, ◌-◌, ◌++◌, suc, string_bytes, append-nil, ap, sym, ◌∙◌, arith}
 use Rattle.std.specs.List.{flat_map, range_with_len}
 use Rattle.score_print.specs.Systems.{fits, printed_system}
 use Rattle.score_print.proofs.Filling.{all-wrapped, begun-anew, kept-on, systems_from}
