@@ -1,12 +1,11 @@
 -- The written notes of a bar fill it and say its cells, ties join what is held, and each mark is at one note.
-use Rattle.std.proofs.Common.{◌≡◌, ℕ, zero, suc, ◌+◌, ◌-◌, ◌*◌, ◌<◌, ◌≤◌, Bool, true, false, not, ◌==◌, ◌&&◌, cond, List, [], ◌∷◌, ◌++◌, IsTrue, drop, take, length, filter, map, replicate, refl, ap, sym, ◌∙◌, subst, add-one, append_assoc, append-nil, arith, absurd, tt, nat_lt, nat_le, is_some}
-use Rattle.std.specs.List.{flat_map, range_with_len}
-use Rattle.std.proofs.lemmas.Bool.Decides.{Decides-eqb}
+use Rattle.std.proofs.Common.{◌≡◌, ℕ, zero, suc, ◌+◌, ◌-◌, ◌*◌, ◌<◌, ◌≤◌, Bool, true, false, ◌==◌, ◌&&◌, cond, List, [], ◌∷◌, ◌++◌, IsTrue, drop, take, length, filter, replicate, refl, ap, sym, ◌∙◌, subst, add-one, append-nil, arith, nat_lt, is_some}
+use Rattle.std.specs.List.{flat_map}
+use Rattle.std.proofs.lemmas.Bool.{lt-ltb, ltb-false, ltb-true}
+use Rattle.std.proofs.lemmas.Bool.Decides.{Decides-eqb, nat_tests}
 use Rattle.std.proofs.lemmas.Grind.{common_steps}
 use Rattle.std.proofs.lemmas.List.{drop_all, drop_more, drop-append-le, drop-drop, get_or_append_left, get_or-append_right, get_or-drop, length-drop, take-append-drop}
 use Rattle.std.proofs.lemmas.List.Concat.{flat_map-append}
-use Rattle.std.proofs.lemmas.List.FromFn.{length-map-range_with_len}
-use Rattle.fux_pitch.specs.declared.pitch.Pitch.{Pitch}
 use Rattle.fux_pitch.proofs.PitchLemmas.{equal_from_test}
 use Rattle.fux_grid.specs.declared.cell.Cell.{Cell}
 use Rattle.fux_grid.specs.declared.cell.Cell.TheVariants.{Rest, Hold, Start}
@@ -31,7 +30,7 @@ fill-run : (bar : List Cell) (next : Cell) (s : ℕ) (notes : List Written)
 fill-run bar next s notes fill true e =
     let five : run_length bar s ≡ 5 = (Decides-eqb (run_length bar s) 5).0 e in
     let end : s + run_length bar s ≡ (s + 4) + 1 = omega (arith, five) in
-    (refl, omega arith, refl, omega arith, subst (λ k. FillFrom k notes) end fill)
+    (refl, omega arith, (refl, omega arith, subst (λ k. FillFrom k notes) end fill))
 fill-run bar next s notes fill false e = (refl, omega arith, fill)
 
 cells-fill : (bar : List Cell) (next : Cell) → length bar ≡ 8 → FillFrom 0 (cells_notes bar next)
@@ -52,29 +51,31 @@ none-at : (mark : SheetMark) (bar from : ℕ) (notes : List Written) → FillFro
     → length (filter (is_at mark bar) notes) ≡ 0
 none-at mark bar from [] fill h = refl
 none-at mark bar from (note ∷ notes) fill h =
-    let off : is_at mark bar note ≡ false = grind (arith, common_steps, fill.0, h) in
+    let off : is_at mark bar note ≡ false = grind (arith, nat_tests, common_steps, fill.0, h) in
     ap (λ t. length (cond t (note ∷ filter (is_at mark bar) notes) (filter (is_at mark bar) notes))) off
     ∙ none-at mark bar (from + note.slots) notes fill.2 (omega (arith, h))
+
+-- a note that begins at the mark's slot or before it: it is at the mark, or one behind it is
+one-more : (mark : SheetMark) (bar from : ℕ) (note : Written) (notes : List Written) → mark.bar ≡ bar
+    → FillFrom from (note ∷ notes) → from ≤ mark.slot → (t : Bool) → nat_lt mark.slot (from + note.slots) ≡ t
+    → (from + note.slots ≤ mark.slot → length (filter (is_at mark bar) notes) ≡ 1)
+    → length (filter (is_at mark bar) (note ∷ notes)) ≡ 1
+one-more mark bar from note notes same fill h true e further =
+    let on : is_at mark bar note ≡ true = grind (arith, nat_tests, common_steps, same, fill.0, h, e) in
+    ap (λ t. length (cond t (note ∷ filter (is_at mark bar) notes) (filter (is_at mark bar) notes))) on
+    ∙ ap suc (none-at mark bar (from + note.slots) notes fill.2 (ltb-true mark.slot (from + note.slots) e))
+one-more mark bar from note notes same fill h false e further =
+    let off : is_at mark bar note ≡ false = grind (arith, nat_tests, common_steps, same, fill.0, h, e) in
+    ap (λ t. length (cond t (note ∷ filter (is_at mark bar) notes) (filter (is_at mark bar) notes))) off
+    ∙ further (ltb-false mark.slot (from + note.slots) e)
 
 -- else one is
 one-at : (mark : SheetMark) (bar from : ℕ) (notes : List Written) → mark.bar ≡ bar → FillFrom from notes
     → from ≤ mark.slot → mark.slot < 8 → length (filter (is_at mark bar) notes) ≡ 1
 one-at mark bar from [] same fill h there = absurd (omega (arith, fill, h, there))
 one-at mark bar from (note ∷ notes) same fill h there =
-    step (nat_lt mark.slot (from + note.slots)) refl
-  where
-    rest : List Written
-    rest = filter (is_at mark bar) notes
-
-    step : (t : Bool) → nat_lt mark.slot (from + note.slots) ≡ t → length (filter (is_at mark bar) (note ∷ notes)) ≡ 1
-    step true e =
-        let on : is_at mark bar note ≡ true = grind (arith, common_steps, same, fill.0, h, e) in
-        ap (λ t. length (cond t (note ∷ rest) rest)) on
-        ∙ ap suc (none-at mark bar (from + note.slots) notes fill.2 (omega (arith, e)))
-    step false e =
-        let off : is_at mark bar note ≡ false = grind (arith, common_steps, same, fill.0, h, e) in
-        ap (λ t. length (cond t (note ∷ rest) rest)) off
-        ∙ one-at mark bar (from + note.slots) notes same fill.2 (omega (arith, e)) there
+    one-more mark bar from note notes same fill h (nat_lt mark.slot (from + note.slots)) refl
+    (λ further. one-at mark bar (from + note.slots) notes same fill.2 further there)
 
 pub marks-at : MarksAreAtNotes
 marks-at line bar mark same there =
@@ -112,9 +113,9 @@ held-next : (first x : Cell) (xs : List Cell) → take (held_on x xs) xs ≡ rep
     → take (cond t (1 + held_on first xs) 0) (x ∷ xs) ≡ replicate (cond t (1 + held_on first xs) 0) (kept_on first)
 held-next first x xs rest f false e = refl
 held-next first x xs rest f true e =
-    ap (λ n. take (1 + n) (x ∷ xs)) (held-alike first x e xs)
-    ∙ kept-cells first x xs (held_on x xs) (is-kept first x f e) rest
-    ∙ ap (λ n. replicate (1 + n) (kept_on first)) (sym (held-alike first x e xs))
+    let n : 1 + held_on first xs ≡ suc (held_on x xs) = omega (arith, held-alike first x e xs) in
+    ap (λ k. take k (x ∷ xs)) n ∙ kept-cells first x xs (held_on x xs) (is-kept first x f e) rest
+    ∙ ap (λ k. replicate k (kept_on first)) (sym n)
 
 -- what goes on with a cell, in cells that follow it, is that cell held
 held-kept : (first : Cell) (xs : List Cell) → FollowOn first xs
@@ -132,8 +133,12 @@ follow-drop before (x ∷ xs) (suc s) f = follow-drop x xs s f.1
 said-note : (bar : List Cell) (next : Cell) (s n : ℕ) (first : Cell) (r : Run)
     → r.cell ≡ first → r.slots ≡ suc n → said_cells (note_of r) ≡ first ∷ replicate n (kept_on first)
 said-note bar next s n Rest r is size = rw (is, size) refl
-said-note bar next s n (Hold p) r is size = rw (is, size) refl
-said-note bar next s n (Start p) r is size = rw (is, size) refl
+said-note bar next s n (Hold p) r is size =
+    let k : suc n - 1 ≡ n = omega arith in
+    rw (is, size) (ap (λ m. Hold p ∷ replicate m (Hold p)) k)
+said-note bar next s n (Start p) r is size =
+    let k : suc n - 1 ≡ n = omega arith in
+    rw (is, size) (ap (λ m. Start p ∷ replicate m (Hold p)) k)
 
 said-two : (first : Cell) (r : Run) → r.cell ≡ first
     → flat_map said_cells (head_of r ∷ tail_of r ∷ []) ≡ first ∷ replicate 4 (kept_on first)
@@ -208,15 +213,31 @@ bar-follows : (line : List Cell) (bar : ℕ) → FollowOn Rest line
     → FollowOn (may-follow (cell_in line (8 * bar + 0))).0 (bar_cells line bar ++ cell_in line (8 * bar + 8) ∷ [])
 bar-follows line bar f = (
   (may-follow (cell_in line (8 * bar + 0))).1,
-  follow-at line (8 * bar + 0) (8 * bar + 1) (omega arith) f,
-  follow-at line (8 * bar + 1) (8 * bar + 2) (omega arith) f,
-  follow-at line (8 * bar + 2) (8 * bar + 3) (omega arith) f,
-  follow-at line (8 * bar + 3) (8 * bar + 4) (omega arith) f,
-  follow-at line (8 * bar + 4) (8 * bar + 5) (omega arith) f,
-  follow-at line (8 * bar + 5) (8 * bar + 6) (omega arith) f,
-  follow-at line (8 * bar + 6) (8 * bar + 7) (omega arith) f,
-  follow-at line (8 * bar + 7) (8 * bar + 8) (omega arith) f,
-  tt,
+  (
+    follow-at line (8 * bar + 0) (8 * bar + 1) (omega arith) f,
+    (
+      follow-at line (8 * bar + 1) (8 * bar + 2) (omega arith) f,
+      (
+        follow-at line (8 * bar + 2) (8 * bar + 3) (omega arith) f,
+        (
+          follow-at line (8 * bar + 3) (8 * bar + 4) (omega arith) f,
+          (
+            follow-at line (8 * bar + 4) (8 * bar + 5) (omega arith) f,
+            (
+              follow-at line (8 * bar + 5) (8 * bar + 6) (omega arith) f,
+              (
+                follow-at line (8 * bar + 6) (8 * bar + 7) (omega arith) f,
+                (
+                  follow-at line (8 * bar + 7) (8 * bar + 8) (omega arith) f,
+                  tt,
+                ),
+              ),
+            ),
+          ),
+        ),
+      ),
+    ),
+  ),
 )
 
 -- the first of cells that follow on
@@ -244,7 +265,9 @@ rest-end : (xs : List Cell) (next : Cell) → FollowOn Rest (xs ++ next ∷ [])
 rest-end [] Rest f = refl
 rest-end [] (Hold p) f = absurd (grind (arith, common_steps, f.0))
 rest-end [] (Start p) f = refl
-rest-end (Rest ∷ xs) next f = rest-end xs next f.1
+rest-end (Rest ∷ xs) next f =
+    let k : 1 + held_on Rest xs ≡ suc (held_on Rest xs) = omega arith in
+    ap (λ n. is_hold (cell_in (Rest ∷ (xs ++ next ∷ [])) n)) k ∙ rest-end xs next f.1
 rest-end (Hold p ∷ xs) next f = absurd (grind (arith, common_steps, f.0))
 rest-end (Start p ∷ xs) next f = refl
 
@@ -252,9 +275,9 @@ module _ (bar : List Cell) (next : Cell) (size : length bar ≡ 8) where
   -- a cell of the bar, or the one behind it
   behind-by : (k : ℕ) → k ≤ 8 → (t : Bool) → nat_lt k 8 ≡ t
       → cond t (cell_in bar k) next ≡ cell_in (bar ++ next ∷ []) k
-  behind-by k h true e = sym (get_or_append_left bar (next ∷ []) Rest k (omega (arith, e, size)))
+  behind-by k h true e = sym (get_or_append_left bar (next ∷ []) Rest k (omega (arith, ltb-true k 8 e, size)))
   behind-by k h false e =
-      let last : k ≡ 8 = omega (arith, h, e) in
+      let last : k ≡ 8 = omega (arith, h, ltb-false k 8 e) in
       let none : k - 8 ≡ 0 = omega (arith, last) in
       sym (get_or-append_right bar (next ∷ []) 8 k Rest size (omega (arith, last)) ∙ ap (cell_in (next ∷ [])) none)
 
@@ -264,7 +287,7 @@ module _ (bar : List Cell) (next : Cell) (size : length bar ≡ 8) where
   -- the first cell of a run, and the cell behind a run of rests
   run-begin : (s : ℕ) → s < 8 → cell_behind bar next s ≡ cell_in bar s
   run-begin s h =
-      let there : nat_lt s 8 ≡ true = grind (arith, common_steps, h) in
+      let there : nat_lt s 8 ≡ true = lt-ltb s 8 h in
       ap (λ t. cond t (cell_in bar s) next) there
 
   run-end : (before : Cell) (s : ℕ) → s < 8 → FollowOn before (bar ++ next ∷ []) → cell_in bar s ≡ Rest
@@ -300,7 +323,7 @@ module _ (bar : List Cell) (next : Cell) (size : length bar ≡ 8) where
       (cond t (head_of (run_at bar next s) ∷ tail_of (run_at bar next s) ∷ []) (note_of (run_at bar next s) ∷ []) ++ notes)
       (is_hold next)
   tie-run s notes after same rest true =
-      (refl, refl, subst (λ b. TiesMeet b notes (is_hold next)) (sym same) rest)
+      (refl, (refl, subst (λ b. TiesMeet b notes (is_hold next)) (sym same) rest))
   tie-run s notes after same rest false = (refl, subst (λ b. TiesMeet b notes (is_hold next)) (sym same) rest)
 
   cells-tied : (before : Cell) → FollowOn before (bar ++ next ∷ [])

@@ -1,6 +1,7 @@
 -- What holds of the notes of a bar, run by run from the last one on, holds of them all (`by_runs`).
-use Rattle.std.proofs.Common.{◌≡◌, ℕ, zero, suc, ◌+◌, ◌-◌, ◌<◌, ◌≤◌, Bool, true, false, not, ◌==◌, ◌||◌, cond, List, [], ◌∷◌, ◌++◌, drop, length, refl, ap, sym, ◌∙◌, subst, add-one, arith, absurd}
+use Rattle.std.proofs.Common.{◌≡◌, ℕ, zero, suc, ◌+◌, ◌-◌, ◌<◌, Bool, true, false, not, ◌==◌, ◌||◌, cond, List, [], ◌∷◌, ◌++◌, drop, length, refl, ap, sym, ◌∙◌, subst, add-one, arith}
 use Rattle.std.specs.List.{flat_map, range_with_len}
+use Rattle.std.proofs.lemmas.Bool.{ne_eqb}
 use Rattle.std.proofs.lemmas.Grind.{common_steps}
 use Rattle.std.proofs.lemmas.List.{drop_all, drop_more}
 use Rattle.fux_grid.specs.declared.cell.Cell.{Cell}
@@ -32,9 +33,17 @@ held-alike a b g (x ∷ xs) =
     ap (λ t. cond t (1 + held_on a xs) 0) (goes-alike a b g x)
     ∙ ap (λ n. cond (goes_on b x) (1 + n) 0) (held-alike a b g xs)
 
+not-is : (g : Bool) → not g ≡ true → g ≡ false
+not-is true h = absurd (grind (arith, common_steps, h))
+not-is false h = refl
+
+not-off : (g : Bool) → not g ≡ false → g ≡ true
+not-off true h = refl
+not-off false h = absurd (grind (arith, common_steps, h))
+
 module _ (bar : List Cell) (size : length bar ≡ 8) where
   -- how many cells from a slot on go on with the one before it
-  going_on : ℕ → ℕ
+  abbrev going_on : ℕ → ℕ
   going_on zero = 0
   going_on (suc s) = held_on (cell_in bar s) (drop (suc s) bar)
 
@@ -47,18 +56,28 @@ module _ (bar : List Cell) (size : length bar ≡ 8) where
       → going_on (suc s) ≡ held_on (cell_in bar s) (cell_in bar (suc s) ∷ drop (suc s + 1) bar)
   going-more s h = ap (held_on (cell_in bar s)) (drop_more bar (suc s) Rest (omega (arith, h, size)))
 
+  -- behind the first slot a run begins where the cell doesn't go on
+  begins-behind : (s : ℕ) → begins bar (suc s) ≡ not (goes_on (cell_in bar s) (cell_in bar (suc s)))
+  begins-behind s =
+      let no : (suc s == 0) ≡ false = ne_eqb (suc s) 0 (λ e. absurd (omega (arith, e))) in
+      let k : suc s - 1 ≡ s = omega arith in
+      ap (λ t. t || not (goes_on (cell_in bar (suc s - 1)) (cell_in bar (suc s)))) no
+      ∙ ap (λ n. not (goes_on (cell_in bar n) (cell_in bar (suc s)))) k
+
   -- where a run begins nothing goes on
   none-goes : (s : ℕ) → s < 8 → begins bar s ≡ true → going_on s ≡ 0
   none-goes zero h b = refl
   none-goes (suc s) h b =
-      let g : goes_on (cell_in bar s) (cell_in bar (suc s)) ≡ false = grind (arith, common_steps, b) in
+      let g : goes_on (cell_in bar s) (cell_in bar (suc s)) ≡ false =
+      not-is (goes_on (cell_in bar s) (cell_in bar (suc s))) (sym (begins-behind s) ∙ b) in
       going-more s h ∙ ap (λ t. cond t (1 + held_on (cell_in bar s) (drop (suc s + 1) bar)) 0) g
 
   -- where none begins, the cell goes on, and so does what goes on with it
   one-goes : (s : ℕ) → s < 8 → begins bar s ≡ false → (s + 1) + going_on (s + 1) ≡ s + going_on s
   one-goes zero h b = absurd (grind (arith, common_steps, b))
   one-goes (suc s) h b =
-      let g : goes_on (cell_in bar s) (cell_in bar (suc s)) ≡ true = grind (arith, common_steps, b) in
+      let g : goes_on (cell_in bar s) (cell_in bar (suc s)) ≡ true =
+      not-off (goes_on (cell_in bar s) (cell_in bar (suc s))) (sym (begins-behind s) ∙ b) in
       let rest : List Cell = drop (suc s + 1) bar in
       let more : going_on (suc s) ≡ 1 + held_on (cell_in bar s) rest =
       going-more s h ∙ ap (λ t. cond t (1 + held_on (cell_in bar s) rest) 0) g in
