@@ -3,9 +3,10 @@
 
     read_sheets.py EX XML [EX XML ..]
 
-EX is a note text with a setting, XML the document that `fux toxml EX` wrote, or what a score editor wrote after reading that
-document (`musescore3 -o again.musicxml x.musicxml`). For each pair a line says `same`, or the first difference. The exit status is the
-number of pairs that differ, at most 100. It reads notes, lengths, ties and spelling by Python's own XML reader, and none of the
+EX is a note text with a setting, XML the document that `fux toxml EX` wrote, or what a score editor
+wrote after reading that document (`musescore3 -o again.musicxml x.musicxml`). For each pair a line
+says `same`, or the first difference. The exit status is the number of pairs that differ, at most
+100. It reads notes, lengths, ties and spelling by Python's own XML reader, and by none of the
 program's code.
 """
 import sys
@@ -22,7 +23,8 @@ def sung(text):
         if words[0] == "voices":
             head["voices"] = int(words[1])
         elif words[0] == "cantus":
-            voices[int(words[1])] = [[8 * k, 8 * k + 8, name] for k, name in enumerate(words[2:])]
+            names = enumerate(words[2:])
+            voices[int(words[1])] = [[8 * k, 8 * k + 8, name] for k, name in names]
         elif words[0] == "sing":
             notes, at = [], 0
             for item in " ".join(words[2:]).replace("|", " ").split():
@@ -56,7 +58,8 @@ def written(root):
                 pitch = node.find("pitch")
                 ties = [tie.get("type") for tie in node.findall("tie")]
                 if pitch is not None:
-                    if "stop" in ties and open_tie and notes[-1][1:] == [at, name_of(pitch)]:
+                    before = notes[-1][1:] if notes else None
+                    if "stop" in ties and open_tie and before == [at, name_of(pitch)]:
                         notes[-1][1] += length
                     else:
                         notes.append([at, at + length, name_of(pitch)])
@@ -72,8 +75,10 @@ def compare(ex, xml):
         return f"{len(wanted)} voices, {len(found)} parts"
     for voice, (here, there) in enumerate(zip(wanted, found)):
         if here != there:
-            first = next((k for k, (a, b) in enumerate(zip(here, there)) if a != b), min(len(here), len(there)))
-            return f"voice {voice}, note {first + 1}: {here[first:first + 1]} and {there[first:first + 1]}"
+            pairs = enumerate(zip(here, there))
+            first = next((k for k, (a, b) in pairs if a != b), min(len(here), len(there)))
+            one, other = here[first : first + 1], there[first : first + 1]
+            return f"voice {voice}, note {first + 1}: {one} and {other}"
     return "same"
 
 
