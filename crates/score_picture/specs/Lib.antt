@@ -1,0 +1,4 @@
+pub mod Names
+pub mod NoteRows
+pub mod Pictures
+pub mod StaffRows
