@@ -41,6 +41,10 @@ pub enum Verb {
     ToXml,
     /// The MusicXML document of a setting with the marks in red.
     MarkXml,
+    /// The picture of an exercise.
+    Picture,
+    /// The picture of a setting with the marks in red.
+    MarkPicture,
     /// The best new cantus.
     NewCantus,
     /// The certificate of the best new cantus.
@@ -50,7 +54,7 @@ pub enum Verb {
 }
 
 /// All commands.
-const VERBS: [Verb; 20] = [
+const VERBS: [Verb; 22] = [
     Verb::Compose,
     Verb::Best,
     Verb::Certify,
@@ -68,6 +72,8 @@ const VERBS: [Verb; 20] = [
     Verb::Weigh,
     Verb::ToXml,
     Verb::MarkXml,
+    Verb::Picture,
+    Verb::MarkPicture,
     Verb::NewCantus,
     Verb::CertCantus,
     Verb::CheckCantus,
@@ -106,6 +112,8 @@ pub enum Part {
     MayWith,
     /// The search that a setting is weighed against.
     Against,
+    /// The penalty is to stand below the setting.
+    Penalty,
     /// The mode of a MIDI file.
     Mode,
     /// The species of a MIDI file.
@@ -180,6 +188,8 @@ impl Verb {
             ),
             Verb::ToXml => ("toxml", &[Part::Exercise]),
             Verb::MarkXml => ("markxml", &[Part::Exercise]),
+            Verb::Picture => ("picture", &[Part::Exercise, Part::Sheet, Part::Penalty]),
+            Verb::MarkPicture => ("markpicture", &[Part::Exercise, Part::MayWith]),
             Verb::NewCantus => (
                 "newcantus",
                 &[
@@ -237,6 +247,7 @@ impl Part {
             Part::Form => "form",
             Part::With | Part::MayWith => "with",
             Part::Against => "against",
+            Part::Penalty => "penalty",
             Part::Mode => "mode",
             Part::Species => "species",
             Part::Voice => "voice",
@@ -261,7 +272,7 @@ impl Part {
             | Part::High => Kind::Word,
             Part::Sheet | Part::Budget | Part::Form | Part::MayWith | Part::Against => Kind::Option,
             Part::With | Part::Mode | Part::Species | Part::Voice | Part::Cantus => Kind::Needed,
-            Part::TopFirst => Kind::Flag,
+            Part::Penalty | Part::TopFirst => Kind::Flag,
         }
     }
 }
