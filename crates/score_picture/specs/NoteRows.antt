@@ -1,7 +1,7 @@
 -- The rows of the notes of a bar of a voice.
-use Rattle.std.specs.Prelude.{ℕ, ◌+◌, ◌-◌, ◌*◌, ◌&&◌, Bool, true, false, not, List, [], ◌∷◌, ◌++◌, Option, None, Some, codes, is_some, min, slice_index_or, if◌then◌else◌}
+use Rattle.std.specs.Prelude.{ℕ, ◌+◌, ◌-◌, ◌*◌, ◌==◌, Bool, true, false, List, [], ◌∷◌, ◌++◌, Option, None, Some, codes, is_some, min, slice_index_or, if◌then◌else◌}
 use Rattle.std.specs.Fmt.{decimal}
-use Rattle.std.specs.List.{flat_map}
+use Rattle.std.specs.List.{flat_map, prefix_len, range_with_len}
 use Rattle.std.specs.Option.{option_map_or}
 use Rattle.fux_grid.specs.declared.cell.Cell.{Cell}
 use Rattle.fux_grid.specs.declared.exercise.Exercise.{Exercise}
@@ -13,6 +13,7 @@ use Rattle.written_notes.specs.declared.marks.SheetMark.{SheetMark}
 use Rattle.written_notes.specs.declared.marks.Spot.{Spot}
 use Rattle.written_notes.specs.Bars.{bar_notes}
 use Rattle.written_notes.specs.Marks.{is_red, rules_at}
+use Rattle.written_notes.specs.Values.{value_of}
 use Rattle.sheet_layout.specs.declared.page.BarPlace.{BarPlace}
 use Rattle.sheet_layout.specs.declared.system.Staff.{Staff}
 use Rattle.sheet_layout.specs.Spacing.{slot_x}
@@ -32,17 +33,26 @@ is_rest Tied = false
 is_rest (Hold p) = false
 is_rest (Start p) = false
 
--- what is given at a note's slot; bars are counted from 1
-abbrev pub given_to : Exercise → Spot → Given
-given_to ex spot = given_at ex (8 * (spot.bar - 1) + min spot.note.slot 7) spot.voice
+-- how many slots of a bar, from one on, are given as rests; bars are counted from 1
+abbrev pub rests_given : Exercise → ℕ → ℕ → ℕ → ℕ
+rests_given ex voice bar slot =
+    prefix_len (λ k. is_rest (given_at ex (8 * (bar - 1) + k) voice)) (range_with_len slot (8 - slot))
 
--- a rest stands for what a sheet leaves blank: there is no setting, and no rest is given
-abbrev pub is_blank : Exercise → Spot → Bool
-is_blank ex spot = not (is_some ex.setting) && not (is_rest (given_to ex spot))
+-- of a rest on a sheet without a setting, so many slots are given; the others are left blank
+abbrev pub slots_given : Exercise → Spot → ℕ
+slots_given ex spot = min (rests_given ex spot.voice spot.bar spot.note.slot) spot.note.slots
 
--- what is drawn of a rest, among the notes of all voices in the bar: nothing where it is blank
+-- the rest of these slots
+abbrev pub given_rest : Exercise → Spot → Written
+given_rest ex spot =
+    record spot.note { slots = slots_given ex spot; value = value_of (slots_given ex spot) }
+
+-- what is drawn of a rest, among the notes of all voices in the bar: without a setting only what is
+-- given of it
 abbrev pub resting : Exercise → List Written → NotePlace → Spot → List Shape
-resting ex all place spot = if is_blank ex spot then [] else rest_shapes all place spot.note
+resting ex all place spot =
+    if is_some ex.setting then rest_shapes all place spot.note
+    else (if slots_given ex spot == 0 then [] else rest_shapes all place (given_rest ex spot))
 
 -- what is drawn of one of a bar's notes, among those of all voices
 abbrev pub drawn : Exercise → List Written → List Written → NotePlace → Spot → List Shape

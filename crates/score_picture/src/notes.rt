@@ -1,8 +1,7 @@
 //! The rows of the notes of a bar of a voice.
 
 ghost use Rattle.std.specs.Prelude.{◌≡◌, ◌+◌, ◌<◌, ◌≤◌, ◌++◌, IfOk, OnOk, string_bytes};
-ghost use Rattle.note_shapes.specs.Notes.{note_shapes};
-ghost use Rattle.score_picture.specs.NoteRows.{colored, drawn as drawn_of, given_to as given_to_spot, is_blank as blank_at, is_rest as gives_rest, note_place as place_of_notes, note_rows, notes_group, red_rows, rule_row, rule_rows, shape_rows, shown, spot_of as spot_at, written_rows};
+ghost use Rattle.score_picture.specs.NoteRows.{colored, drawn as drawn_of, is_rest as gives_rest, note_place as place_of_notes, note_rows, notes_group, red_rows, resting, rests_given as rests_given_from, rule_row, rule_rows, shape_rows, shown, slots_given as slots_given_of, spot_of as spot_at, written_rows};
 
 use crate::staves::is_first;
 use fux_grid::{Exercise, Given, given_at};
@@ -12,7 +11,7 @@ use shape_rows::put_shape;
 use sheet_layout::{BarPlace, Staff, slot_x};
 use std::alloc::Global;
 use std::fmt::Write;
-use written_notes::{SheetMark, Spot, Written, is_red, rules_at};
+use written_notes::{SheetMark, Spot, Written, is_red, rules_at, value_of};
 
 /// An exercise with the marks that are shown of its setting.
 #[derive(Clone, Copy)]
@@ -38,23 +37,54 @@ fn is_rest(given: Given) -> bool
     matches!(given, Given::Rest)
 }
 
-/// What is given at a note's slot.
-fn given_to(ex: &Exercise, spot: &Spot) -> Given
-    requires first { 1 ≤ spot.now.bar }
-    requires last { spot.now.bar ≤ ex.now.bars }
-    ensures { result ≡ given_to_spot ex.now spot.now }
+/// How many slots of a bar, from one on, are given as rests. Bars are counted from 1.
+fn rests_given(ex: &Exercise, voice: u8, bar: u8, slot: u8) -> u8
+    requires first { 1 ≤ bar }
+    requires last { bar ≤ ex.now.bars }
+    ensures { result ≡ rests_given_from ex.now voice bar slot }
 {
-    let bar = spot.bar as usize - 1;
-    given_at(ex, spot.voice, 8 * bar + spot.note.slot.min(7) as usize)
+    let begin = 8 * (bar as usize - 1);
+    for k in slot..8 {
+        if !is_rest(given_at(ex, voice, begin + k as usize)) {
+            return k - slot;
+        }
+    }
+    8u8.saturating_sub(slot)
 }
 
-/// Whether a rest stands for what a sheet leaves blank.
-fn is_blank(ex: &Exercise, spot: &Spot) -> bool
+/// Of a rest on a sheet without a setting, how many slots are given.
+fn slots_given(ex: &Exercise, spot: &Spot) -> u8
     requires first { 1 ≤ spot.now.bar }
     requires last { spot.now.bar ≤ ex.now.bars }
-    ensures { result ≡ blank_at ex.now spot.now }
+    ensures { result ≡ slots_given_of ex.now spot.now }
 {
-    ex.setting.is_none() && !is_rest(given_to(ex, spot))
+    rests_given(ex, spot.voice, spot.bar, spot.note.slot).min(spot.note.slots)
+}
+
+/// Appends what is drawn of a rest, among the notes of all voices in the bar.
+fn put_resting(
+    shapes: &mut Vec<Shape>,
+    ex: &Exercise,
+    all: &[Written],
+    place: &NotePlace,
+    spot: &Spot,
+) -> Result<(), Memory>
+    requires first { 1 ≤ spot.now.bar }
+    requires last { spot.now.bar ≤ ex.now.bars }
+    ensures { OnOk result (shapes.new.items ≡ shapes.old.items
+        ++ resting ex.now all.now place.now spot.now) }
+{
+    if ex.setting.is_some() {
+        return put_rest(shapes, all, place, &spot.note);
+    }
+    let slots = slots_given(ex, spot);
+    if slots == 0 {
+        return Ok(());
+    }
+    let mut rest = spot.note;
+    rest.slots = slots;
+    rest.value = value_of(slots);
+    put_rest(shapes, all, place, &rest)
 }
 
 /// What is drawn of one of a bar's notes, among those of all voices.
@@ -74,8 +104,7 @@ fn drawn(
     let mut shapes = Vec::new(alloc);
     match spot.note.pitch {
         Some(pitch) => put_note(&mut shapes, all, notes, place, &spot.note, pitch)?,
-        None if is_blank(ex, spot) => {}
-        None => put_rest(&mut shapes, all, place, &spot.note)?,
+        None => put_resting(&mut shapes, ex, all, place, spot)?,
     }
     Ok(shapes)
 }
