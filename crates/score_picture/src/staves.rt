@@ -1,5 +1,5 @@
-//! The rows of staves, clefs, names and bar lines. A bar's rows stand in a group whose origin is its
-//! left and its system's begin.
+//! The rows of staves, clefs, names and bar lines. A bar's rows stand in a group whose origin is
+//! its left and its system's begin.
 
 ghost use Rattle.std.specs.Prelude.{◌≡◌, ◌+◌, ◌-◌, ◌<◌, ◌^◌, ◌++◌, OnOk, string_bytes};
 ghost use Rattle.score_picture.specs.StaffRows.{bar_line, bar_lines, bar_number, called as called_so, clef_name as name_of_clef, clef_y as y_of_clef, cut_sign, five_lines, is_first as begins_system, left_line, level, lines_begin as begin_of_lines, name_row, opening, staff_rows, symbol_at, system_begin, system_foot as foot_of, system_top as top_of, upright};
