@@ -124,13 +124,7 @@ fn head_with(
 }
 
 /// The head of one of these notes with a pitch, among the notes of all voices.
-pub fn head_of(
-    all: &[Written],
-    notes: &[Written],
-    middle: u8,
-    note: &Written,
-    pitch: Pitch,
-) -> Head
+pub fn head_of(all: &[Written], notes: &[Written], middle: u8, note: &Written, pitch: Pitch) -> Head
     ensures { result ≡ head_for all.now notes.now middle note.now pitch }
 {
     let degree = pitch.degree();

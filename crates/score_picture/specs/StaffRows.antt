@@ -60,8 +60,8 @@ abbrev pub opening : Exercise → Bool → Staff → List ℕ
 opening ex first staff =
     if first
     then symbol_at (clef_name (clef_of ex staff.voice)) (codes "-40")
-        (clef_y (clef_of ex staff.voice) staff.y)
-        ++ name_row (called ex staff.voice) staff.voice (staff.y + 5)
+    (clef_y (clef_of ex staff.voice) staff.y)
+    ++ name_row (called ex staff.voice) staff.voice (staff.y + 5)
     else []
 
 -- in the first bar, counted from 0, it has the sign of the cut

@@ -271,7 +271,10 @@ pub fn put_notes_group(
         bar.now.place bar.now.tie_end bar.now.all.now staff.now notes.now notes.now)) }
 {
     let y = staff.y;
-    write!(out, "<g transform=\"translate(0,{y}) translate(0,-600)\">\n")?;
+    write!(
+        out,
+        "<g transform=\"translate(0,{y}) translate(0,-600)\">\n"
+    )?;
     put_notes(alloc, out, marked, bar, staff, notes)?;
     out.push_str("</g>\n")?;
     Ok(())

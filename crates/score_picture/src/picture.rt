@@ -140,5 +140,6 @@ pub fn picture(
     let lines = lines_of(alloc, ex)?;
     let staves = staves(alloc, ex, marks_of(marks), &lines)?;
     let places = bar_places(alloc, ex, &lines, system_height(&staves))?;
-    page(alloc, ex, marks, penalty, &lines, &staves, &places)
+    let text = page(alloc, ex, marks, penalty, &lines, &staves, &places)?;
+    Ok(text)
 }

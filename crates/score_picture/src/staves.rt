@@ -43,7 +43,10 @@ fn put_symbol(out: &mut String, name: &str, place: &str, y: u64) -> Result<(), M
     ensures { OnOk result (string_bytes out.new ≡ string_bytes out.old
         ++ symbol_at name.now place.now y) }
 {
-    write!(out, "<use xlink:href=\"#{name}\" x=\"{place}\" y=\"{y}\"/>\n")?;
+    write!(
+        out,
+        "<use xlink:href=\"#{name}\" x=\"{place}\" y=\"{y}\"/>\n"
+    )?;
     Ok(())
 }
 
@@ -182,7 +185,10 @@ fn put_left_line(out: &mut String, from: u64, to: u64) -> Result<(), Memory>
 fn put_bar_number(out: &mut String, number: u8, y: u64) -> Result<(), Memory>
     ensures { OnOk result (string_bytes out.new ≡ string_bytes out.old ++ bar_number number y) }
 {
-    write!(out, "<text x=\"-50\" y=\"{y}\" font-size=\"9\">{number}</text>\n")?;
+    write!(
+        out,
+        "<text x=\"-50\" y=\"{y}\" font-size=\"9\">{number}</text>\n"
+    )?;
     Ok(())
 }
 

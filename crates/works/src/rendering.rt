@@ -118,12 +118,7 @@ fn shown_penalty(ex: &Exercise, sheet: &Sheet, wanted: bool) -> Option<u64>
 
 /// The picture of an exercise: of its setting, with its penalty over a sheet of weights where that
 /// is wanted; or without one of the sheet to fill in.
-pub fn to_picture(
-    alloc: Global,
-    ex: &Exercise,
-    sheet: &Sheet,
-    wanted: bool,
-) -> Result<Output, Stop>
+pub fn to_picture(alloc: Global, ex: &Exercise, sheet: &Sheet, wanted: bool) -> Result<Output, Stop>
     requires { IsValid ex.now }
     ensures { Answers (Pictures wanted sheet.now ex.now) result }
 {

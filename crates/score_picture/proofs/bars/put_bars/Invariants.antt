@@ -7,5 +7,5 @@ use Rattle.score_picture.proofs.bars.put_bars.Given as goal
 abbrev pub invariant-loop-bar : goal.invariant-loop-bar
 invariant-loop-bar l =
     string_bytes l.out ++ flat_map (bar_at l.marked.ex.now l.marked.marks.now l.lines l.staves l.places)
-        (range_with_len l.bar (l.marked.ex.now.bars - l.bar))
+    (range_with_len l.bar (l.marked.ex.now.bars - l.bar))
     ≡ string_bytes l.fn.out ++ bars l.marked.ex.now l.marked.marks.now l.lines l.staves l.places

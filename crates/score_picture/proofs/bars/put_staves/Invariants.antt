@@ -6,6 +6,6 @@ use Rattle.score_picture.proofs.bars.put_staves.Given as goal
 abbrev pub invariant-loop-staff : goal.invariant-loop-staff
 invariant-loop-staff l =
     string_bytes l.out ++ staves_in_bar l.marked.ex.now l.marked.marks.now l.lines l.bar.bar l.bar.place l.bar.tie_end
-        (drop l.staff-index l.staves)
+    (drop l.staff-index l.staves)
     ≡ string_bytes l.fn.out ++ staves_in_bar l.marked.ex.now l.marked.marks.now l.lines l.bar.bar l.bar.place
-        l.bar.tie_end l.staves
+    l.bar.tie_end l.staves

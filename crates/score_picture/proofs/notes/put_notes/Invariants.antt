@@ -6,6 +6,6 @@ use Rattle.score_picture.proofs.notes.put_notes.Given as goal
 abbrev pub invariant-loop-note : goal.invariant-loop-note
 invariant-loop-note l =
     string_bytes l.out ++ note_rows l.marked.ex.now l.marked.marks.now l.bar.bar l.bar.place l.bar.tie_end l.bar.all.now
-        l.staff l.notes (drop l.note-index l.notes)
+    l.staff l.notes (drop l.note-index l.notes)
     ≡ string_bytes l.fn.out ++ note_rows l.marked.ex.now l.marked.marks.now l.bar.bar l.bar.place l.bar.tie_end
-        l.bar.all.now l.staff l.notes l.notes
+    l.bar.all.now l.staff l.notes l.notes
