@@ -18,6 +18,7 @@ use Rattle.score_xml.specs.Titles.{title_words}
 use Rattle.score_picture.specs.declared.symbols.TheConstants.{SYMBOLS}
 use Rattle.score_picture.specs.Names.{rule_words}
 use Rattle.score_picture.specs.NoteRows.{note_rows, notes_group, staff_notes, tie_end}
+use Rattle.score_picture.specs.Pieces.{joined}
 use Rattle.score_picture.specs.StaffRows.{bar_lines, staff_rows}
 
 -- ---- bars
@@ -37,9 +38,10 @@ staves_in_bar ex marks lines bar place end staves =
 -- a bar at its place: all staves in it, and its bar lines
 unfoldable pub bar_rows : Exercise → List SheetMark → List (List Cell) → List Staff → ℕ → BarPlace → ℕ → List ℕ
 bar_rows ex marks lines staves bar place end =
-    codes "<g transform=\"translate(" ++ decimal place.left ++ codes "," ++ decimal place.top
-    ++ codes ")\">\n" ++ staves_in_bar ex marks lines bar place end staves
-    ++ bar_lines ex staves bar place ++ codes "</g>\n"
+    joined (codes "<g transform=\"translate(" ∷ decimal place.left ∷ codes "," ∷ decimal place.top
+    ∷ codes ")\">\n" ∷ [])
+    ++ staves_in_bar ex marks lines bar place end staves ++ bar_lines ex staves bar place
+    ++ codes "</g>\n"
 
 -- a bar, counted from 0, at its place among these
 abbrev pub bar_at : Exercise → List SheetMark → List (List Cell) → List Staff → List BarPlace → ℕ → List ℕ
@@ -58,8 +60,8 @@ bars ex marks lines staves places =
 -- the row of a penalty
 unfoldable pub penalty_row : ℕ → ℕ → List ℕ
 penalty_row y penalty =
-    codes "<text x=\"78\" y=\"" ++ decimal y ++ codes "\" font-size=\"13\">penalty "
-    ++ decimal penalty ++ codes "</text>\n"
+    joined (codes "<text x=\"78\" y=\"" ∷ decimal y ∷ codes "\" font-size=\"13\">penalty "
+    ∷ decimal penalty ∷ codes "</text>\n" ∷ [])
 
 abbrev pub penalty_rows : ℕ → Option ℕ → List ℕ
 penalty_rows y penalty = option_map_or (penalty_row y) penalty []
@@ -75,10 +77,10 @@ voice_numbers bits = flat_map (voice_number bits) (range_with_len 0 4)
 -- the row of a mark: its place, its rule, its voices, and what the rule is called
 unfoldable pub mark_row : ℕ → SheetMark → List ℕ
 mark_row y mark =
-    codes "<text x=\"78\" y=\"" ++ decimal y ++ codes "\" font-size=\"13\" fill=\"#c00000\">bar "
-    ++ decimal mark.bar ++ codes " slot " ++ decimal mark.slot ++ codes " S" ++ decimal mark.rule
-    ++ codes " voices" ++ voice_numbers mark.voices.bits ++ codes ": " ++ rule_words mark.rule
-    ++ codes "</text>\n"
+    joined (codes "<text x=\"78\" y=\"" ∷ decimal y
+    ∷ codes "\" font-size=\"13\" fill=\"#c00000\">bar " ∷ decimal mark.bar ∷ codes " slot "
+    ∷ decimal mark.slot ∷ codes " S" ∷ decimal mark.rule ∷ codes " voices" ∷ [])
+    ++ voice_numbers mark.voices.bits ++ codes ": " ++ rule_words mark.rule ++ codes "</text>\n"
 
 -- the rows of marks, each 17 below the one before it
 abbrev pub mark_rows : ℕ → List SheetMark → List ℕ

@@ -1,6 +1,6 @@
 -- The rows of staves, clefs, names and bar lines. A bar's rows stand in a group whose origin is its
 -- left and its system's begin.
-use Rattle.std.specs.Prelude.{ℕ, ◌+◌, ◌-◌, ◌*◌, ◌==◌, Bool, List, [], ◌++◌, codes, length, slice_get, if◌then◌else◌}
+use Rattle.std.specs.Prelude.{ℕ, ◌+◌, ◌-◌, ◌*◌, ◌==◌, Bool, List, [], ◌∷◌, ◌++◌, codes, length, slice_get, if◌then◌else◌}
 use Rattle.std.specs.Fmt.{decimal}
 use Rattle.std.specs.List.{flat_map, range_with_len}
 use Rattle.std.specs.Option.{option_map_or}
@@ -10,14 +10,15 @@ use Rattle.written_notes.specs.declared.clefs.Clef.TheVariants.{Treble, Bass, Al
 use Rattle.written_notes.specs.Clefs.{clef_of}
 use Rattle.sheet_layout.specs.declared.page.BarPlace.{BarPlace}
 use Rattle.sheet_layout.specs.declared.system.Staff.{Staff}
+use Rattle.score_picture.specs.Pieces.{joined}
 
 -- ---- staves
 
 -- a level line from one place to another
 unfoldable pub level : List ℕ → ℕ → ℕ → List ℕ
 level from to y =
-    codes "<path d=\"M" ++ from ++ codes " " ++ decimal y ++ codes "H" ++ decimal to
-    ++ codes "\" stroke=\"#000\"/>\n"
+    joined (codes "<path d=\"M" ∷ from ∷ codes " " ∷ decimal y ∷ codes "H" ∷ decimal to
+    ∷ codes "\" stroke=\"#000\"/>\n" ∷ [])
 
 -- the lines of a staff begin at the bar's left, the first bar's of a system 50 before it
 abbrev pub lines_begin : Bool → List ℕ
@@ -31,8 +32,8 @@ five_lines from width top =
 -- a symbol that stands in a place, at a height
 unfoldable pub symbol_at : List ℕ → List ℕ → ℕ → List ℕ
 symbol_at name place y =
-    codes "<use xlink:href=\"#" ++ name ++ codes "\" x=\"" ++ place ++ codes "\" y=\"" ++ decimal y
-    ++ codes "\"/>\n"
+    joined (codes "<use xlink:href=\"#" ∷ name ∷ codes "\" x=\"" ∷ place ∷ codes "\" y=\""
+    ∷ decimal y ∷ codes "\"/>\n" ∷ [])
 
 -- the name of a clef's drawing, and the height of its own line, where this is the middle line's
 abbrev pub clef_name : Clef → List ℕ
@@ -52,8 +53,9 @@ called ex voice = if voice == ex.cantus_voice then codes "C.f." else codes "voic
 -- a voice's name and number before its staff
 unfoldable pub name_row : List ℕ → ℕ → ℕ → List ℕ
 name_row name voice y =
-    codes "<text x=\"-58\" y=\"" ++ decimal y ++ codes "\" font-size=\"13\" text-anchor=\"end\">"
-    ++ name ++ codes " " ++ decimal voice ++ codes "</text>\n"
+    joined (codes "<text x=\"-58\" y=\"" ∷ decimal y
+    ∷ codes "\" font-size=\"13\" text-anchor=\"end\">" ∷ name ∷ codes " " ∷ decimal voice
+    ∷ codes "</text>\n" ∷ [])
 
 -- at a system's begin a staff has its clef, and its voice's name before it
 abbrev pub opening : Exercise → Bool → Staff → List ℕ
@@ -83,8 +85,8 @@ staff_rows ex bar place staff =
 -- an upright line from one height to another, so wide
 unfoldable pub upright : ℕ → ℕ → ℕ → ℕ → List ℕ
 upright x from to width =
-    codes "<path d=\"M" ++ decimal x ++ codes " " ++ decimal from ++ codes "V" ++ decimal to
-    ++ codes "\" stroke=\"#000\" stroke-width=\"" ++ decimal width ++ codes "\"/>\n"
+    joined (codes "<path d=\"M" ∷ decimal x ∷ codes " " ∷ decimal from ∷ codes "V" ∷ decimal to
+    ∷ codes "\" stroke=\"#000\" stroke-width=\"" ∷ decimal width ∷ codes "\"/>\n" ∷ [])
 
 -- behind a bar that ends here stands a line, behind the last one two, of which one is wide
 abbrev pub bar_line : Bool → ℕ → ℕ → ℕ → List ℕ
@@ -94,14 +96,14 @@ bar_line last x from to =
 -- the line at a system's left
 unfoldable pub left_line : ℕ → ℕ → List ℕ
 left_line from to =
-    codes "<path d=\"M-50 " ++ decimal from ++ codes "V" ++ decimal to
-    ++ codes "\" stroke=\"#000\"/>\n"
+    joined (codes "<path d=\"M-50 " ∷ decimal from ∷ codes "V" ∷ decimal to
+    ∷ codes "\" stroke=\"#000\"/>\n" ∷ [])
 
 -- the number of a bar above its system
 unfoldable pub bar_number : ℕ → ℕ → List ℕ
 bar_number number y =
-    codes "<text x=\"-50\" y=\"" ++ decimal y ++ codes "\" font-size=\"9\">" ++ decimal number
-    ++ codes "</text>\n"
+    joined (codes "<text x=\"-50\" y=\"" ∷ decimal y ∷ codes "\" font-size=\"9\">"
+    ∷ decimal number ∷ codes "</text>\n" ∷ [])
 
 -- at a system's begin stand its left line and the number of the bar, which is counted from 0
 abbrev pub system_begin : Bool → ℕ → ℕ → ℕ → List ℕ

@@ -45,6 +45,7 @@ fn put_staff(
     staff: &Staff,
 ) -> Result<(), Memory>
     requires bar { bar.now.bar < marked.now.ex.now.bars }
+    requires few { bar.now.bar < 255 }
     requires notes { bar.now.all.now ≡ notes_of_all lines.now bar.now.bar }
     requires voice { staff.now.voice < 8 }
     ensures { OnOk result (string_bytes out.new ≡ string_bytes out.old
@@ -53,7 +54,8 @@ fn put_staff(
 {
     let notes = bar_notes(line_at(lines, staff.voice), bar.bar);
     put_staff_rows(out, marked.ex, bar.bar, &bar.place, staff)?;
-    put_notes_group(alloc, out, marked, bar, staff, &notes)
+    put_notes_group(alloc, out, marked, bar, staff, &notes)?;
+    Ok(())
 }
 
 /// Appends the rows of all staves in a bar.
@@ -66,6 +68,7 @@ fn put_staves(
     staves: &[Staff],
 ) -> Result<(), Memory>
     requires bar { bar.now.bar < marked.now.ex.now.bars }
+    requires few { bar.now.bar < 255 }
     requires notes { bar.now.all.now ≡ notes_of_all lines.now bar.now.bar }
     requires voices { All (λ staff. staff.voice < 8) staves.now }
     ensures { OnOk result (string_bytes out.new ≡ string_bytes out.old
@@ -89,6 +92,7 @@ fn put_bar_rows(
     bar: &BarOnPage,
 ) -> Result<(), Memory>
     requires bar { bar.now.bar < marked.now.ex.now.bars }
+    requires few { bar.now.bar < 255 }
     requires notes { bar.now.all.now ≡ notes_of_all lines.now bar.now.bar }
     requires voices { All (λ staff. staff.voice < 8) staves.now }
     ensures { OnOk result (string_bytes out.new ≡ string_bytes out.old
@@ -115,6 +119,7 @@ fn put_bar(
     bar: u8,
 ) -> Result<(), Memory>
     requires bar { bar < marked.now.ex.now.bars }
+    requires few { bar < 255 }
     requires voices { All (λ staff. staff.voice < 8) staves.now }
     ensures { OnOk result (string_bytes out.new ≡ string_bytes out.old
         ++ bar_at marked.now.ex.now marked.now.marks.now lines.now staves.now places.now bar) }
@@ -146,7 +151,8 @@ pub fn put_bars(
     ensures { OnOk result (string_bytes out.new ≡ string_bytes out.old
         ++ bars marked.now.ex.now marked.now.marks.now lines.now staves.now places.now) }
 {
-    for bar in 0..marked.ex.bars {
+    let count = marked.ex.bars;
+    for bar in 0..count {
         put_bar(alloc, out, marked, lines, staves, places, bar)?;
     }
     Ok(())

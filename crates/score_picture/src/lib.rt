@@ -5,8 +5,8 @@ mod bars;
 mod foot;
 mod names;
 mod notes;
-mod picture;
+mod pages;
 mod staves;
 mod symbols;
 
-pub use picture::picture;
+pub use pages::picture;

@@ -1,6 +1,7 @@
 //! The rows of the notes of a bar of a voice.
 
-ghost use Rattle.std.specs.Prelude.{◌≡◌, ◌+◌, ◌<◌, ◌≤◌, ◌++◌, IfOk, OnOk, string_bytes};
+ghost use Rattle.std.specs.Prelude.{◌≡◌, ◌-◌, ◌<◌, ◌≤◌, ◌++◌, IfOk, OnOk, string_bytes};
+ghost use Rattle.sheet_layout.specs.Spacing.{slot_x};
 ghost use Rattle.score_picture.specs.NoteRows.{colored, drawn as drawn_of, is_rest as gives_rest, note_place as place_of_notes, note_rows, notes_group, red_rows, resting, rests_given as rests_given_from, rule_row, rule_rows, shape_rows, shown, slots_given as slots_given_of, spot_of as spot_at, written_rows};
 
 use crate::staves::is_first;
@@ -16,7 +17,7 @@ use written_notes::{SheetMark, Spot, Written, is_red, rules_at, value_of};
 /// An exercise with the marks that are shown of its setting.
 #[derive(Clone, Copy)]
 pub struct Marked<'a> {
-    pub ex: &'a Exercise,
+    pub ex: &'a Exercise<'a>,
     pub marks: &'a [SheetMark],
 }
 
@@ -209,6 +210,20 @@ fn spot_of(staff: &Staff, bar: u8, note: Written) -> Spot
     }
 }
 
+/// Where the rules of a note stand, and the height of the first of them, above all notes of a staff
+/// that needs so much room above.
+fn rules_x(all: &[Written], slot: u8) -> u32
+    ensures { result ≡ slot_x all.now slot - 7 }
+{
+    u32::from(slot_x(all, slot)).saturating_sub(7)
+}
+
+fn rules_y(above: u16) -> u32
+    ensures { result ≡ 570 - above }
+{
+    570u32.saturating_sub(u32::from(above))
+}
+
 /// Appends the rows of one of a bar's notes.
 fn put_written(
     alloc: Global,
@@ -220,6 +235,7 @@ fn put_written(
     note: &Written,
 ) -> Result<(), Memory>
     requires bar { bar.now.bar < marked.now.ex.now.bars }
+    requires few { bar.now.bar < 255 }
     requires voice { staff.now.voice < 8 }
     ensures { OnOk result (string_bytes out.new ≡ string_bytes out.old
         ++ written_rows marked.now.ex.now marked.now.marks.now bar.now.bar bar.now.place
@@ -228,9 +244,10 @@ fn put_written(
     let place = note_place(bar, staff);
     let spot = spot_of(staff, bar.bar, *note);
     let shapes = drawn(alloc, marked.ex, bar.all, notes, &place, &spot)?;
-    let x = u32::from(slot_x(bar.all, note.slot)).saturating_sub(7);
-    let y = 570u32.saturating_sub(u32::from(staff.above));
-    put_shown(out, marked.marks, &shapes, x, y, &spot)
+    let x = rules_x(bar.all, note.slot);
+    let y = rules_y(staff.above);
+    put_shown(out, marked.marks, &shapes, x, y, &spot)?;
+    Ok(())
 }
 
 /// Appends the rows of a bar's notes on a staff.
@@ -243,6 +260,7 @@ fn put_notes(
     notes: &[Written],
 ) -> Result<(), Memory>
     requires bar { bar.now.bar < marked.now.ex.now.bars }
+    requires few { bar.now.bar < 255 }
     requires voice { staff.now.voice < 8 }
     ensures { OnOk result (string_bytes out.new ≡ string_bytes out.old
         ++ note_rows marked.now.ex.now marked.now.marks.now bar.now.bar bar.now.place
@@ -265,6 +283,7 @@ pub fn put_notes_group(
     notes: &[Written],
 ) -> Result<(), Memory>
     requires bar { bar.now.bar < marked.now.ex.now.bars }
+    requires few { bar.now.bar < 255 }
     requires voice { staff.now.voice < 8 }
     ensures { OnOk result (string_bytes out.new ≡ string_bytes out.old
         ++ notes_group staff.now.y (note_rows marked.now.ex.now marked.now.marks.now bar.now.bar

@@ -221,12 +221,19 @@ fn system_top(staves: &[Staff]) -> u64
     }
 }
 
+/// The height of a staff's lowest line.
+fn lowest_line(staff: &Staff) -> u64
+    ensures { result ≡ staff.now.y + 16 }
+{
+    u64::from(staff.y) + 16
+}
+
 /// The height of the last staff's lowest line.
 fn system_foot(staves: &[Staff]) -> u64
     ensures { result ≡ foot_of staves.now }
 {
     match staves.last() {
-        Some(staff) => u64::from(staff.y) + 16,
+        Some(staff) => lowest_line(staff),
         None => 0,
     }
 }

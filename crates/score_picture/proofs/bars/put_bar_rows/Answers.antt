@@ -1,7 +1,8 @@
-use Rattle.std.proofs.Common.{◌++◌, string_bytes, codes}
+use Rattle.std.proofs.Common.{[], ◌∷◌, ◌++◌, string_bytes, codes}
 use Rattle.std.specs.Fmt.{decimal}
 use Rattle.shape_rows.proofs.Pushed.{pushed}
 use Rattle.score_picture.specs.Pictures.{bar_rows, staves_in_bar}
+use Rattle.score_picture.specs.Pieces.{joined}
 use Rattle.score_picture.specs.StaffRows.{bar_lines}
 use Rattle.score_picture.proofs.bars.put_bar_rows.Goals as goal
 
@@ -14,7 +15,8 @@ returns c =
     let lines = c.args.lines.now in
     let staves = c.args.staves.now in
     let bar = c.args.bar.now in
-    let t1 = codes "<g transform=\"translate(" ++ decimal bar.place.left ++ codes "," ++ decimal bar.place.top ++ codes ")\">\n" in
+    let t1 = joined (codes "<g transform=\"translate(" ∷ decimal bar.place.left ∷ codes "," ∷ decimal bar.place.top
+    ∷ codes ")\">\n" ∷ []) in
     let t2 = t1 ++ staves_in_bar ex marks lines bar.bar bar.place bar.tie_end staves in
     let t3 = t2 ++ bar_lines ex staves bar.bar bar.place in
     pushed start t3 (codes "</g>\n")

@@ -1,8 +1,9 @@
-use Rattle.std.proofs.Common.{◌++◌, string_bytes, codes}
+use Rattle.std.proofs.Common.{[], ◌∷◌, ◌++◌, string_bytes, codes}
 use Rattle.std.specs.Fmt.{decimal}
 use Rattle.shape_rows.proofs.Pushed.{pushed, said}
 use Rattle.score_picture.specs.Names.{rule_words}
 use Rattle.score_picture.specs.Pictures.{mark_row, voice_numbers}
+use Rattle.score_picture.specs.Pieces.{joined}
 use Rattle.score_picture.proofs.foot.put_mark.Goals as goal
 
 pub returns : goal.returns
@@ -10,7 +11,9 @@ unfolding mark_row
 returns c =
     let start = string_bytes c.args.out.now in
     let mark = c.args.mark.now in
-    let t1 = codes "<text x=\"78\" y=\"" ++ decimal c.args.y ++ codes "\" font-size=\"13\" fill=\"#c00000\">bar " ++ decimal mark.bar ++ codes " slot " ++ decimal mark.slot ++ codes " S" ++ decimal mark.rule ++ codes " voices" in
+    let t1 = joined (codes "<text x=\"78\" y=\"" ∷ decimal c.args.y
+    ∷ codes "\" font-size=\"13\" fill=\"#c00000\">bar " ∷ decimal mark.bar ∷ codes " slot " ∷ decimal mark.slot
+    ∷ codes " S" ∷ decimal mark.rule ∷ codes " voices" ∷ []) in
     let t2 = t1 ++ voice_numbers mark.voices.bits in
     let t3 = t2 ++ codes ": " in
     let t4 = t3 ++ rule_words mark.rule in

@@ -1,7 +1,7 @@
 use Rattle.std.proofs.Common.{[]}
 use Rattle.written_notes.proofs.Steps.{mapped-more}
 use Rattle.written_notes.specs.Lines.{line_of}
-use Rattle.score_picture.proofs.picture.lines_of.Goals as goal
+use Rattle.score_picture.proofs.pages.lines_of.Goals as goal
 
 pub loop-voice-preserved : goal.loop-voice-preserved
 loop-voice-preserved c =
