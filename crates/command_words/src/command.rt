@@ -99,9 +99,20 @@ pub enum Making<'a> {
     Drill {
         number: u32,
     },
+    /// What the exercise in a file has otherwise than the lesson in another, and its marks by that.
+    MarkAnswer {
+        name: &'a str,
+        lesson: &'a str,
+    },
     /// The report of the exercises in the files that a list names.
     Class {
         list: &'a str,
+    },
+    /// The same of each name, also where its file can't be read, and by the lesson in a file where
+    /// one is named.
+    WholeClass {
+        list: &'a str,
+        lesson: Option<&'a str>,
     },
     /// The best of the canons that the text in a file asks for, found within this budget, over the
     /// sheet of weights in another where one is named.

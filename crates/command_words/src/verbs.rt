@@ -106,6 +106,10 @@ pub enum Part {
     MayWith,
     /// The search that a setting is weighed against.
     Against,
+    /// The file of a lesson.
+    Lesson,
+    /// A class is told of whole, also where a file can't be read.
+    KeepGoing,
     /// The mode of a MIDI file.
     Mode,
     /// The species of a MIDI file.
@@ -145,7 +149,7 @@ impl Verb {
                 &[Part::Exercise, Part::Sheet, Part::Budget, Part::Form],
             ),
             Verb::Check => ("check", &[Part::Exercise, Part::Certificate, Part::Sheet]),
-            Verb::Mark => ("mark", &[Part::Exercise]),
+            Verb::Mark => ("mark", &[Part::Exercise, Part::Lesson]),
             Verb::Cantus => ("cantus", &[Part::Exercise]),
             Verb::Print => ("print", &[Part::Exercise]),
             Verb::ToSmf => ("tosmf", &[Part::Exercise]),
@@ -161,7 +165,7 @@ impl Verb {
                 ],
             ),
             Verb::Drill => ("drill", &[Part::Number]),
-            Verb::Class => ("class", &[Part::List]),
+            Verb::Class => ("class", &[Part::List, Part::Lesson, Part::KeepGoing]),
             Verb::Canon => ("canon", &[Part::File, Part::Sheet, Part::Budget]),
             Verb::Mixed => (
                 "mixed",
@@ -237,6 +241,8 @@ impl Part {
             Part::Form => "form",
             Part::With | Part::MayWith => "with",
             Part::Against => "against",
+            Part::Lesson => "lesson",
+            Part::KeepGoing => "keep-going",
             Part::Mode => "mode",
             Part::Species => "species",
             Part::Voice => "voice",
@@ -259,9 +265,14 @@ impl Part {
             | Part::Bars
             | Part::Low
             | Part::High => Kind::Word,
-            Part::Sheet | Part::Budget | Part::Form | Part::MayWith | Part::Against => Kind::Option,
+            Part::Sheet
+            | Part::Budget
+            | Part::Form
+            | Part::MayWith
+            | Part::Against
+            | Part::Lesson => Kind::Option,
             Part::With | Part::Mode | Part::Species | Part::Voice | Part::Cantus => Kind::Needed,
-            Part::TopFirst => Kind::Flag,
+            Part::TopFirst | Part::KeepGoing => Kind::Flag,
         }
     }
 }

@@ -106,7 +106,7 @@ ends_told ex sheet budget other_budget Spent Spent one two within told other uns
 abbrev WidthOf : Exercise → Refusal → Type 0
 WidthOf ex said = (place : Place) × (count : ℕ) × (said ≡ refusal.TooWide place count) × IsTooWide ex place count
 
-abbrev TextOf : List ℕ → Refusal → Type 0
+abbrev pub TextOf : List ℕ → Refusal → Type 0
 TextOf bytes said = (kind : TextKind) × (line : ℕ) × (column : ℕ) × (said ≡ refusal.Text kind line column)
     × HasFault bytes kind line column
 
@@ -117,6 +117,7 @@ width_of : (ex : Exercise) (said : Refusal) → RefusesWidth ex said → WidthOf
 width_of ex (refusal.TooWide place count) h = (place, count, refl, h)
 width_of ex (refusal.Text kind line column) h = absurd h
 width_of ex refusal.NoSetting h = absurd h
+width_of ex (refusal.Lesson kind line column) h = absurd h
 width_of ex (refusal.With voice) h = absurd h
 width_of ex (refusal.List line) h = absurd h
 width_of ex (refusal.Canon line) h = absurd h
@@ -124,10 +125,12 @@ width_of ex refusal.LongCertificate h = absurd h
 width_of ex (refusal.Sheet fault) h = absurd h
 width_of ex (refusal.Midi fault) h = absurd h
 
-text_of : (bytes : List ℕ) (said : Refusal) → RefusesText bytes said → TextOf bytes said
+-- a refusal of a text tells its fault
+pub text_of : (bytes : List ℕ) (said : Refusal) → RefusesText bytes said → TextOf bytes said
 text_of bytes (refusal.Text kind line column) h = (kind, line, column, refl, h)
 text_of bytes (refusal.TooWide place count) h = absurd h
 text_of bytes refusal.NoSetting h = absurd h
+text_of bytes (refusal.Lesson kind line column) h = absurd h
 text_of bytes (refusal.With voice) h = absurd h
 text_of bytes (refusal.List line) h = absurd h
 text_of bytes (refusal.Canon line) h = absurd h
@@ -140,6 +143,7 @@ sheet_of sheets (refusal.Sheet fault) h = (fault, refl, h)
 sheet_of sheets (refusal.TooWide place count) h = absurd h
 sheet_of sheets (refusal.Text kind line column) h = absurd h
 sheet_of sheets refusal.NoSetting h = absurd h
+sheet_of sheets (refusal.Lesson kind line column) h = absurd h
 sheet_of sheets (refusal.With voice) h = absurd h
 sheet_of sheets (refusal.List line) h = absurd h
 sheet_of sheets (refusal.Canon line) h = absurd h
