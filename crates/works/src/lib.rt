@@ -24,6 +24,7 @@ mod refusal;
 mod rendering;
 mod searching;
 mod weighing;
+mod whole_class;
 mod work;
 
 pub use cantus_certifying::perform_cantus;
