@@ -1,11 +1,11 @@
 //! The list of a class as people write it.
 
-ghost use Rattle.std.specs.Prelude.{◌≡◌, ◌<◌, ◌∷◌, [], ℕ, List, length};
+ghost use Rattle.std.specs.Prelude.{◌≡◌, ◌<◌, ◌≤◌, ◌∷◌, [], ℕ, List, length, map, string_bytes};
 ghost use Rattle.std.specs.Str.Lines.{lines, strip_carriage_return};
 ghost use Rattle.class_marker.specs.Lists.{Gives};
 ghost use Rattle.class_marker.specs.Markings.{IsContent};
 ghost use Rattle.answer_classes.specs.LooseLists as words;
-ghost use Rattle.answer_classes.specs.LooseLists.{loose_names, names_from};
+ghost use Rattle.answer_classes.specs.LooseLists.{PutsName, loose_names, names_from};
 
 use class_marker::{ListFault, Text};
 use std::alloc::Global;
@@ -45,23 +45,37 @@ fn may_be_name(names: usize, line: &str) -> bool
     line.len() <= LONGEST_NAME && names < MOST_NAMES
 }
 
+/// Puts the name that the line of a number has behind others, if it has one.
+fn put_name(
+    alloc: Global,
+    names: &mut Vec<String>,
+    number: u32,
+    line: &str,
+) -> Result<(), ListFault>
+    ensures { PutsName (map string_bytes names.old.items) number line.now (map string_bytes names.new.items) result }
+{
+    if line.is_empty() {
+        return Ok(());
+    }
+    if !may_be_name(names.len(), line) {
+        return Err(ListFault::At { line: number });
+    }
+    names.push(String::from_str(alloc, line)?)?;
+    Ok(())
+}
+
 /// The names in the lines of a text.
 fn names_in(alloc: Global, text: &str) -> Result<Vec<String>, ListFault>
-    requires { length text.now < 4294967296 }
+    requires { length text.now ≤ 65536 }
     ensures { Gives result (names_from 1 [] (lines text.now)) }
 {
     let mut names = Vec::new(alloc);
     let mut rest = text;
-    let mut number: u32 = 0;
+    let mut number = 1;
     while !rest.is_empty() {
         let (line, behind) = first_line(rest);
+        put_name(alloc, &mut names, number, line)?;
         number += 1;
-        if !line.is_empty() {
-            if !may_be_name(names.len(), line) {
-                return Err(ListFault::At { line: number });
-            }
-            names.push(String::from_str(alloc, line)?)?;
-        }
         rest = behind;
     }
     if names.is_empty() {

@@ -84,9 +84,9 @@ fn other(said: &Said) -> usize
 
 /// Appends what is said of one file more, under its name.
 pub fn put_said(report: &mut WholeReport, name: &str, said: &Said) -> Result<(), Memory>
-    requires marked { report.now.marked < 4294967296 }
-    requires refused { report.now.refused < 4294967296 }
-    requires others { report.now.others < 4294967296 }
+    requires marked { report.now.marked < 9223372036854775807 }
+    requires refused { report.now.refused < 9223372036854775807 }
+    requires others { report.now.others < 9223372036854775807 }
     ensures { (sayings : List Saying) → IsReportOf sayings report.old
         → OnOk result (IsReportOf (sayings ++ (name.now, said.now) ∷ []) report.new) }
 {

@@ -13,5 +13,6 @@ pub mod ClassLemmas
 pub mod ContentLemmas
 pub mod MakeLemmas
 pub mod MixedLemmas
+pub mod WholeLemmas
 pub mod WithinLemmas
 pub mod WorkLemmas

@@ -1,0 +1,90 @@
+-- The lines of a text, one after the other (`lines_more`, `lines_last`), and a line without its carriage return
+-- (`stripped`, `unstripped`); what is read from a line on (`line_empty`, `line_named`, `line_at_fault`).
+use Rattle.std.proofs.Common.{◌≡◌, ◌≢◌, ℕ, ◌+◌, ◌-◌, ◌<◌, ◌==◌, zero, suc, Bool, true, false, cond, List, [], ◌∷◌, ◌++◌, length, take, All, slice_index, refl, ap, sym, ◌∙◌, subst, arith, eqb-true, length-append, Err}
+use Rattle.std.specs.Prelude.{if◌then◌else◌}
+use Rattle.std.specs.List.{onto_first, slice_split}
+use Rattle.std.specs.Str.Lines.{lines, lines_of_parts, strip_carriage_return}
+use Rattle.std.proofs.lemmas.List.Splits.{slice_split_at, slice_split_none}
+use Rattle.whole_lines.specs.Ended.{is_feed}
+use Rattle.answer_classes.specs.LooseLists.{may_be_name, names_from}
+
+-- there is a first part
+record HasFirst (parts : List (List ℕ)) : Type 0 where
+  part : List ℕ
+  more : List (List ℕ)
+  is : parts ≡ part ∷ more
+
+put_first : (b : ℕ) (parts : List (List ℕ)) → HasFirst (onto_first b parts)
+put_first b [] = record { part = b ∷ []; more = []; is = refl }
+put_first b (part ∷ parts) = record { part = b ∷ part; more = parts; is = refl }
+
+has_first : (text : List ℕ) → HasFirst (slice_split is_feed text)
+has_first [] = record { part = []; more = []; is = refl }
+has_first (b ∷ bs) = by (is_feed b)
+  where
+    by : (test : Bool) → HasFirst (cond test ([] ∷ slice_split is_feed bs) (onto_first b (slice_split is_feed bs)))
+    by true = record { part = []; more = slice_split is_feed bs; is = refl }
+    by false = put_first b (slice_split is_feed bs)
+
+parts_more : (line : List ℕ) (parts : List (List ℕ)) → HasFirst parts
+    → lines_of_parts (line ∷ parts) ≡ strip_carriage_return line ∷ lines_of_parts parts
+parts_more line parts first = rw first.is refl
+
+-- a line behind which others stand
+pub lines_more : (line behind : List ℕ) → All (λ b. is_feed b ≡ false) line
+    → lines (line ++ 10 ∷ behind) ≡ strip_carriage_return line ∷ lines behind
+lines_more line behind none =
+    ap lines_of_parts (slice_split_at is_feed line 10 behind none refl)
+    ∙ parts_more line (slice_split is_feed behind) (has_first behind)
+
+-- the last line, without a line feed
+pub lines_last : (line : List ℕ) → All (λ b. is_feed b ≡ false) line → 0 < length line → lines line ≡ line ∷ lines []
+lines_last line none some = ap lines_of_parts (slice_split_none is_feed line none) ∙ last line some
+  where
+    last : (line : List ℕ) → 0 < length line → lines_of_parts (line ∷ []) ≡ line ∷ []
+    last [] some = absurd (omega (arith, some))
+    last (b ∷ bs) some = refl
+
+-- ---- carriage returns
+
+last_at : (front : List ℕ) (b : ℕ) → slice_index (front ++ b ∷ []) (length front) ≡ b
+last_at [] b = refl
+last_at (x ∷ xs) b = last_at xs b
+
+front_of : (front : List ℕ) (b : ℕ) → take (length front) (front ++ b ∷ []) ≡ front
+front_of [] b = refl
+front_of (x ∷ xs) b = ap (λ l. x ∷ l) (front_of xs b)
+
+-- a line that ends with a carriage return
+pub stripped : (line front : List ℕ) → line ≡ front ++ 13 ∷ [] → front ≡ strip_carriage_return line
+stripped line front e =
+    let long : length (front ++ 13 ∷ []) - 1 ≡ length front = omega (arith, length-append front (13 ∷ [])) in
+    rw (e, long, last_at front 13) (sym (front_of front 13))
+
+returns : (line : List ℕ) → (slice_index line (length line - 1) == 13) ≡ true
+    → line ≡ take (length line - 1) line ++ 13 ∷ []
+returns [] e = absurd cc
+returns (b ∷ []) e = ap (λ c. c ∷ []) (eqb-true b 13 e)
+returns (b ∷ c ∷ more) e = ap (λ l. b ∷ l) (returns (c ∷ more) e)
+
+-- a line that doesn't
+pub unstripped : (line : List ℕ) → ((front : List ℕ) → line ≢ front ++ 13 ∷ []) → line ≡ strip_carriage_return line
+unstripped line none = by (slice_index line (length line - 1) == 13) refl
+  where
+    by : (test : Bool) → (slice_index line (length line - 1) == 13) ≡ test → line ≡ strip_carriage_return line
+    by true e = absurd (none (take (length line - 1) line) (returns line e))
+    by false e = rw e refl
+
+-- ---- names
+
+module _ (number : ℕ) (names : List (List ℕ)) (line : List ℕ) (more : List (List ℕ)) where
+  pub line_empty : (length line == 0) ≡ true → names_from number names (line ∷ more) ≡ names_from (number + 1) names more
+  line_empty e = rw e refl
+
+  pub line_named : (length line == 0) ≡ false → may_be_name (length names) line ≡ true
+      → names_from number names (line ∷ more) ≡ names_from (number + 1) (names ++ line ∷ []) more
+  line_named e f = rw (e, f) refl
+
+  pub line_at_fault : (length line == 0) ≡ false → may_be_name (length names) line ≡ false
+      → names_from number names (line ∷ more) ≡ Err number
+  line_at_fault e f = rw (e, f) refl
