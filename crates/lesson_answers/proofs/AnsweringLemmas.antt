@@ -1,5 +1,5 @@
 -- Nothing differs just where an answer answers its lesson (`answers_where_none`, `none_where_answers`).
-use Rattle.std.proofs.Common.{◌≡◌, ◌≢◌, ◌↔◌, ◌×◌, ℕ, zero, suc, ◌+◌, ◌-◌, ◌*◌, ◌/◌, ◌%◌, ◌<◌, ◌≤◌, ◌==◌, ◌&&◌, min, Bool, true, false, not, List, [], ◌∷◌, ◌++◌, length, map, slice_get, slice_index_or, Option, None, Some, IsTrue, inl, inr, refl, ap, sym, subst, ◌∙◌, arith, eq-eqb, eqb-true, ne_eqb, Decides}
+use Rattle.std.proofs.Common.{◌≡◌, ◌≢◌, ◌↔◌, ℕ, zero, suc, ◌+◌, ◌-◌, ◌*◌, ◌/◌, ◌%◌, ◌<◌, ◌≤◌, ◌==◌, ◌&&◌, min, Bool, true, false, not, List, [], ◌∷◌, ◌++◌, length, map, slice_get, slice_index_or, Option, None, Some, IsTrue, inl, inr, refl, ap, sym, subst, ◌∙◌, arith, eq-eqb, eqb-true, ne_eqb, true≢false, Decides}
 use Rattle.std.specs.Cmp.Lexicographic.{pointwise, pointwise_decides}
 use Rattle.std.specs.List.{AllByRecursion, filter, flat_map, list_all, range_with_len}
 use Rattle.std.specs.Option.{option_eq}
@@ -24,7 +24,7 @@ use Rattle.fux_grid.proofs.PitchTests.{same_pitch-from_equal}
 use Rattle.lesson_answers.specs.declared.difference.Difference.{Difference}
 use Rattle.lesson_answers.specs.declared.difference.Difference.TheVariants.{Mode as ModeDiffers, Voices, Bars, Species, CantusVoice, Cantus, Range, Relax as RelaxLines, Given}
 use Rattle.lesson_answers.specs.Answering.{AnswersLesson}
-use Rattle.lesson_answers.specs.Differences.{common_bars, common_voices, differences, differs, fits_at, fits_in_bar, in_each_bar, is_free_in_both, same_cantus, same_ends, same_range, same_relax, same_relax_lines, same_set}
+use Rattle.lesson_answers.specs.Differences.{all_differences, common_bars, common_voices, differences, differs, fits_at, fits_in_bar, in_each_bar, is_free_in_both, same_cantus, same_ends, same_range, same_relax, same_relax_lines, same_set}
 
 -- ---- lists of which no item passes a test
 
@@ -34,11 +34,11 @@ module _ {D : Type 0} (P : D → Bool) where
 
   pub none_kept : (xs : List D) → filter P xs ≡ [] → AllByRecursion Fails xs
   none_kept [] e = tt
-  none_kept (x ∷ xs) e = by (P x) refl
+  none_kept (x ∷ xs) e = by (P x) refl (none_kept xs)
     where
-      by : (b : Bool) → P x ≡ b → AllByRecursion Fails (x ∷ xs)
-      by true t = let kept : x ∷ filter P xs ≡ [] = rw t at e in absurd cc
-      by false t = (t, none_kept xs (rw t at e))
+      by : (b : Bool) → P x ≡ b → (filter P xs ≡ [] → AllByRecursion Fails xs) → AllByRecursion Fails (x ∷ xs)
+      by true t more = let kept : x ∷ filter P xs ≡ [] = rw t at e in absurd cc
+      by false t more = (t, more (rw t at e))
 
   pub kept_none : (xs : List D) → AllByRecursion Fails xs → filter P xs ≡ []
   kept_none [] h = refl
@@ -108,12 +108,12 @@ passes_each test a (suc n) h =
 
 -- the mode of a final
 mode_with : ℕ → Mode
-mode_with 0 = Ionian
-mode_with 1 = Dorian
-mode_with 2 = Phrygian
-mode_with 3 = Lydian
-mode_with 4 = Mixolydian
-mode_with n = Aeolian
+mode_with zero = Ionian
+mode_with (suc zero) = Dorian
+mode_with (suc (suc zero)) = Phrygian
+mode_with (suc (suc (suc zero))) = Lydian
+mode_with (suc (suc (suc (suc zero)))) = Mixolydian
+mode_with (suc (suc (suc (suc (suc n))))) = Aeolian
 
 mode_back : (mode : Mode) → mode_with (final_of mode) ≡ mode
 mode_back Dorian = refl
@@ -184,17 +184,11 @@ same_pitches (p ∷ ps) (q ∷ qs) long each =
 
 module _ (lesson answer : Exercise) (score : Grid) (valid : IsValid lesson) (answer_valid : IsValid answer)
     (complete : IsComplete answer score) where
-  s : List (List Cell)
+  abbrev pub s : List (List Cell)
   s = score.columns
 
   abbrev Same : Difference → Type 0
   Same = Fails (differs lesson answer s)
-
-  bars : List ℕ
-  bars = common_bars lesson answer
-
-  voices : List ℕ
-  voices = common_voices lesson answer
 
   abbrev head : List Difference
   head = ModeDiffers ∷ Voices ∷ Bars ∷ Species ∷ CantusVoice ∷ []
@@ -210,7 +204,8 @@ module _ (lesson answer : Exercise) (score : Grid) (valid : IsValid lesson) (ans
 
   module _ (none : differences lesson answer s ≡ []) where
     all : AllByRecursion Same (head ++ cantus ++ ranges ++ (RelaxLines ∷ []) ++ given)
-    all = none_kept (differs lesson answer s) _ none
+    all = none_kept (differs lesson answer s)
+        (all_differences (common_voices lesson answer) (common_bars lesson answer)) none
 
     before_given : AllByRecursion Same (head ++ cantus ++ ranges ++ (RelaxLines ∷ [])) × AllByRecursion Same given
     before_given = all_parts Same (head ++ cantus ++ ranges ++ (RelaxLines ∷ [])) given all
@@ -293,13 +288,15 @@ module _ (lesson answer : Exercise) (score : Grid) (valid : IsValid lesson) (ans
         → is_free_in_both lesson answer v ≡ b → Same (Range v bar)
     free_case v bar there low high false e = rw e refl
     free_case v bar there low high true e =
-        let free : IsFree lesson v = record {
-          there = there;
-          no_cantus = λ same. let other = (and_parts _ _ e).0 in let is = eq-eqb v lesson.cantus_voice same in
-          absurd (cc);
-        } in
+        let free : IsFree lesson v = record { there = there; no_cantus = λ same. not_free same } in
         let one = (options_decide same_ends pairs_decide _ _).1 (answers.ranges v bar free low high) in
         rw (e, one) refl
+      where
+        not_free : v ≡ lesson.cantus_voice → ⊥
+        not_free same =
+            let other = (and_parts (not (v == lesson.cantus_voice)) (not (v == answer.cantus_voice)) e).0 in
+            let is = eq-eqb v lesson.cantus_voice same in
+            true≢false (sym other ∙ ap not is)
 
     range_same : (v bar : ℕ) → v < lesson.voices → 1 ≤ bar → bar ≤ lesson.bars → Same (Range v bar)
     range_same v bar there low high = free_case v bar there low high (is_free_in_both lesson answer v) refl
@@ -312,20 +309,16 @@ module _ (lesson answer : Exercise) (score : Grid) (valid : IsValid lesson) (ans
         answers.given (8 * (bar - 1) + k) v (omega (arith, long, low, high, last)) there))
 
     head_same : AllByRecursion Same head
-    head_same = (
-      ap not (eq-eqb _ _ (ap final_of answers.mode)),
-      ap not (eq-eqb _ _ answers.voices),
-      ap not (eq-eqb _ _ answers.bars),
-      ap not (and_from _ _ (eq-eqb _ _ answers.species) (eq-eqb _ _ answers.species_voice)),
-      ap not (eq-eqb _ _ answers.cantus_voice),
-      tt,
-    )
+    head_same =
+        (ap not (eq-eqb _ _ (ap final_of answers.mode)), (ap not (eq-eqb _ _ answers.voices), (ap not (eq-eqb _ _ answers.bars),
+        (ap not (and_from _ _ (eq-eqb _ _ answers.species) (eq-eqb _ _ answers.species_voice)),
+        (ap not (eq-eqb _ _ answers.cantus_voice), tt)))))
 
     pub none_where_answers : differences lesson answer score.columns ≡ []
     none_where_answers =
         let n = min lesson.bars answer.bars in
         let m = min lesson.voices answer.voices in
-        kept_none (differs lesson answer s) _
+        kept_none (differs lesson answer s) (all_differences (common_voices lesson answer) (common_bars lesson answer))
         (all_joined Same (head ++ cantus ++ ranges ++ (RelaxLines ∷ [])) given
         (all_joined Same (head ++ cantus ++ ranges) (RelaxLines ∷ [])
         (all_joined Same (head ++ cantus) ranges

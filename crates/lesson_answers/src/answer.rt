@@ -6,7 +6,7 @@ ghost use Rattle.lesson_answers.specs.Answers as words;
 ghost use Rattle.lesson_answers.specs.Answers.{TellsAnswer, TellsMarksBy};
 
 use crate::difference_lines::{put_count, put_differences};
-use crate::differences::differences;
+use crate::listing::differences;
 use class_marker::{MarkLines, lines_of};
 use fux_grid::{Exercise, Score};
 use fux_pitch::Memory;

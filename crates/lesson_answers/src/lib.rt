@@ -5,10 +5,10 @@ mod answer;
 mod comparing;
 mod difference;
 mod difference_lines;
-mod differences;
 mod law;
+mod listing;
 
 pub use answer::{AnswerLines, answer_lines};
 pub use difference::Difference;
-pub use differences::differences;
 pub use law::none_differ;
+pub use listing::differences;

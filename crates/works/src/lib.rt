@@ -13,6 +13,7 @@ mod composing;
 mod content;
 mod drilling;
 mod exercise;
+mod gathering;
 mod imitating;
 mod inventing;
 mod law;
@@ -24,7 +25,6 @@ mod refusal;
 mod rendering;
 mod searching;
 mod weighing;
-mod whole_class;
 mod work;
 
 pub use cantus_certifying::perform_cantus;

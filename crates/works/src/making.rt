@@ -29,7 +29,7 @@ use crate::playing::{LONGEST_MIDI, from_smf};
 use crate::refusal::{Refusal, refusal_text};
 use crate::rendering::{mark_xml, print, to_smf, to_xml};
 use crate::weighing::sheet_of;
-use crate::whole_class::whole_class;
+use crate::gathering::whole_class;
 use crate::work::{Halt, Output, Stop, Unmade, Verdict};
 use class_marker::Text;
 use command_words::{Job, Making};

@@ -9,7 +9,7 @@ loop-slot-preserved c =
     let test = fits_at c.args.lesson.now c.args.score.now.columns c.args.v c.args.bar in
     let k = c.loop-slot.slot in
     c.loop-slot.invariant ∙ ap (list_all test) (range_first k 8 (omega arith))
-    ∙ rw (sym c.fits_at.ensures ∙ c.if-not-fits_at.true) refl
+    ∙ rw (sym c.if-not-fits_at.ensures) refl
 
 pub returns-then-not-fits_at : goal.returns-then-not-fits_at
 unfolding fits_in_bar
@@ -17,7 +17,7 @@ returns-then-not-fits_at c =
     let test = fits_at c.args.lesson.now c.args.score.now.columns c.args.v c.args.bar in
     let k = c.loop-slot.slot in
     sym (c.loop-slot.invariant ∙ ap (list_all test) (range_first k 8 (omega arith))
-    ∙ rw (sym c.fits_at.ensures ∙ c.if-not-fits_at.false) refl)
+    ∙ rw (sym c.if-not-fits_at.ensures) refl)
 
 pub returns : goal.returns
 unfolding fits_in_bar

@@ -2,7 +2,7 @@ use Rattle.std.proofs.Common.{map, min, arith}
 use Rattle.lesson_answers.specs.declared.difference.Difference.TheVariants.{Given}
 use Rattle.lesson_answers.specs.Differences.{common_bars, differs}
 use Rattle.lesson_answers.proofs.SectionLemmas.{all_parts_kept, numbers_kept}
-use Rattle.lesson_answers.proofs.differences.put_given.Goals as goal
+use Rattle.lesson_answers.proofs.listing.put_given.Goals as goal
 
 pub loop-voice-preserved : goal.loop-voice-preserved
 loop-voice-preserved c =

@@ -33,11 +33,7 @@ fn put_if(out: &mut Vec<Difference>, is_there: bool, difference: Difference) -> 
 }
 
 /// Appends what differs in the lines above the cantus firmus, and in which voice that is.
-fn put_head(
-    out: &mut Vec<Difference>,
-    lesson: &Exercise,
-    answer: &Exercise,
-) -> Result<(), Memory>
+fn put_head(out: &mut Vec<Difference>, lesson: &Exercise, answer: &Exercise) -> Result<(), Memory>
     ensures { (s : List (List Cell)) → OnOk result (out.new.items ≡ out.old.items
         ++ filter (differs lesson.now answer.now s)
         (told.Mode ∷ told.Voices ∷ told.Bars ∷ told.Species ∷ told.CantusVoice ∷ [])) }
@@ -46,19 +42,13 @@ fn put_head(
     put_if(out, lesson.voices != answer.voices, Difference::Voices)?;
     put_if(out, lesson.bars != answer.bars, Difference::Bars)?;
     put_if(out, !same_species(lesson, answer), Difference::Species)?;
-    put_if(
-        out,
-        lesson.cantus_voice != answer.cantus_voice,
-        Difference::CantusVoice,
-    )
+    let is_other = lesson.cantus_voice != answer.cantus_voice;
+    put_if(out, is_other, Difference::CantusVoice)?;
+    Ok(())
 }
 
 /// Appends the bars in which the cantus firmus differs.
-fn put_cantus(
-    out: &mut Vec<Difference>,
-    lesson: &Exercise,
-    answer: &Exercise,
-) -> Result<(), Memory>
+fn put_cantus(out: &mut Vec<Difference>, lesson: &Exercise, answer: &Exercise) -> Result<(), Memory>
     requires lesson { IsValid lesson.now }
     requires answer { IsValid answer.now }
     ensures { (s : List (List Cell)) → OnOk result (out.new.items ≡ out.old.items
@@ -97,11 +87,7 @@ fn put_ranges_of(
 }
 
 /// Appends the bars of all voices in which their ranges differ.
-fn put_ranges(
-    out: &mut Vec<Difference>,
-    lesson: &Exercise,
-    answer: &Exercise,
-) -> Result<(), Memory>
+fn put_ranges(out: &mut Vec<Difference>, lesson: &Exercise, answer: &Exercise) -> Result<(), Memory>
     requires lesson { IsValid lesson.now }
     requires answer { IsValid answer.now }
     ensures { (s : List (List Cell)) → OnOk result (out.new.items ≡ out.old.items

@@ -3,7 +3,7 @@ use Rattle.std.specs.Prelude.{string_bytes}
 use Rattle.std.specs.Option.{option_copied}
 use Rattle.fux_port.specs.Counts.{Rose}
 use Rattle.works.specs.WholeClasses.{AreSaid}
-use Rattle.works.proofs.whole_class.say_names.Given as goal
+use Rattle.works.proofs.gathering.say_names.Given as goal
 
 abbrev pub invariant-loop-place : goal.invariant-loop-place
 invariant-loop-place g l = record {

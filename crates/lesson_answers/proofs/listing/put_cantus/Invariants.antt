@@ -3,7 +3,7 @@ use Rattle.std.specs.List.{range_with_len}
 use Rattle.fux_grid.specs.declared.cell.Cell.{Cell}
 use Rattle.lesson_answers.specs.declared.difference.Difference.TheVariants.{Cantus}
 use Rattle.lesson_answers.specs.Differences.{differs}
-use Rattle.lesson_answers.proofs.differences.put_cantus.Given as goal
+use Rattle.lesson_answers.proofs.listing.put_cantus.Given as goal
 
 -- what is told so far, and what is left, are what is to be told
 abbrev pub invariant-loop-bar : goal.invariant-loop-bar

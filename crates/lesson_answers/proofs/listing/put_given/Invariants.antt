@@ -2,7 +2,7 @@ use Rattle.std.proofs.Common.{◌≡◌, ◌-◌, ◌++◌, List, filter, map, m
 use Rattle.std.specs.List.{flat_map, range_with_len}
 use Rattle.lesson_answers.specs.declared.difference.Difference.TheVariants.{Given}
 use Rattle.lesson_answers.specs.Differences.{common_bars, differs}
-use Rattle.lesson_answers.proofs.differences.put_given.Given as goal
+use Rattle.lesson_answers.proofs.listing.put_given.Given as goal
 
 -- what is told so far, and what is left, are what is to be told
 abbrev pub invariant-loop-voice : goal.invariant-loop-voice

@@ -2,7 +2,7 @@ use Rattle.std.proofs.Common.{◌≡◌, ◌+◌, ◌-◌, ◌++◌, filter, map
 use Rattle.std.specs.List.{range_with_len}
 use Rattle.lesson_answers.specs.declared.difference.Difference.TheVariants.{Given}
 use Rattle.lesson_answers.specs.Differences.{differs}
-use Rattle.lesson_answers.proofs.differences.put_given_of.Given as goal
+use Rattle.lesson_answers.proofs.listing.put_given_of.Given as goal
 
 -- what is told so far, and what is left, are what is to be told
 abbrev pub invariant-loop-bar : goal.invariant-loop-bar

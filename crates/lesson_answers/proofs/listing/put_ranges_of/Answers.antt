@@ -2,14 +2,14 @@ use Rattle.std.proofs.Common.{not, ◌+◌, ap, arith}
 use Rattle.lesson_answers.specs.declared.difference.Difference.TheVariants.{Range}
 use Rattle.lesson_answers.specs.Differences.{differs}
 use Rattle.lesson_answers.proofs.SectionLemmas.{all_kept, number_kept}
-use Rattle.lesson_answers.proofs.differences.put_ranges_of.Goals as goal
+use Rattle.lesson_answers.proofs.listing.put_ranges_of.Goals as goal
 
 pub loop-bar-preserved : goal.loop-bar-preserved
 loop-bar-preserved c = λ s.
     number_kept (differs c.args.lesson.now c.args.answer.now s) (λ bar. Range c.args.voice bar) _ _ _ _ c.loop-bar.bar
-    (c.loop-bar.bars + 1) (omega arith) (c.differs_in_range.ensures) c.in_ok-put_if.ensures (c.loop-bar.invariant s)
+    (c.fewer-bars.result + 1) (omega arith) (c.differs_in_range.ensures) c.in_ok-put_if.ensures (c.loop-bar.invariant s)
 
 pub returns : goal.returns
 returns c = λ s.
-    all_kept (differs c.args.lesson.now c.args.answer.now s) (λ bar. Range c.args.voice bar) _ _ c.loop-bar.bar (c.loop-bar.bars + 1)
+    all_kept (differs c.args.lesson.now c.args.answer.now s) (λ bar. Range c.args.voice bar) _ _ c.loop-bar.bar (c.fewer-bars.result + 1)
     (omega arith) (c.loop-bar.invariant s)

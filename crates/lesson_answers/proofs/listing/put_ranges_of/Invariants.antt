@@ -3,7 +3,7 @@ use Rattle.std.specs.List.{range_with_len}
 use Rattle.fux_grid.specs.declared.cell.Cell.{Cell}
 use Rattle.lesson_answers.specs.declared.difference.Difference.TheVariants.{Range}
 use Rattle.lesson_answers.specs.Differences.{differs}
-use Rattle.lesson_answers.proofs.differences.put_ranges_of.Given as goal
+use Rattle.lesson_answers.proofs.listing.put_ranges_of.Given as goal
 
 -- what is told so far, and what is left, are what is to be told
 abbrev pub invariant-loop-bar : goal.invariant-loop-bar
