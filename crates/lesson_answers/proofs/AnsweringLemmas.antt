@@ -1,6 +1,6 @@
 -- Nothing differs just where an answer answers its lesson (`answers_where_none`, `none_where_answers`).
-use Rattle.std.proofs.Common.{◌≡◌, ◌≢◌, ◌↔◌, ℕ, zero, suc, ◌+◌, ◌-◌, ◌*◌, ◌/◌, ◌%◌, ◌<◌, ◌≤◌, ◌==◌, ◌&&◌, min, Bool, true, false, not, List, [], ◌∷◌, ◌++◌, length, map, slice_get, slice_index_or, Option, None, Some, IsTrue, inl, inr, refl, ap, sym, subst, ◌∙◌, arith, eq-eqb, eqb-true, ne_eqb, true≢false, Decides}
-use Rattle.std.specs.Cmp.Lexicographic.{pointwise, pointwise_decides}
+use Rattle.std.proofs.Common.{◌≡◌, ℕ, zero, suc, ◌+◌, ◌-◌, ◌*◌, ◌/◌, ◌%◌, ◌<◌, ◌≤◌, ◌==◌, ◌&&◌, min, Bool, true, false, not, List, [], ◌∷◌, ◌++◌, length, map, slice_get, slice_index_or, Option, None, Some, inl, inr, refl, ap, sym, subst, ◌∙◌, arith, eq-eqb, eqb-true, ne_eqb, true≢false, Decides}
+use Rattle.std.specs.Cmp.Lexicographic.{pointwise_decides}
 use Rattle.std.specs.List.{AllByRecursion, filter, flat_map, list_all, range_with_len}
 use Rattle.std.specs.Option.{option_eq}
 use Rattle.std.proofs.lemmas.Bool.{and_from, and_parts, cases_lt, not-false}
@@ -24,7 +24,7 @@ use Rattle.fux_grid.proofs.PitchTests.{same_pitch-from_equal}
 use Rattle.lesson_answers.specs.declared.difference.Difference.{Difference}
 use Rattle.lesson_answers.specs.declared.difference.Difference.TheVariants.{Mode as ModeDiffers, Voices, Bars, Species, CantusVoice, Cantus, Range, Relax as RelaxLines, Given}
 use Rattle.lesson_answers.specs.Answering.{AnswersLesson}
-use Rattle.lesson_answers.specs.Differences.{all_differences, common_bars, common_voices, differences, differs, fits_at, fits_in_bar, in_each_bar, is_free_in_both, same_cantus, same_ends, same_range, same_relax, same_relax_lines, same_set}
+use Rattle.lesson_answers.specs.Differences.{all_differences, common_bars, common_voices, differences, differs, fits_at, fits_in_bar, in_each_bar, is_free_in_both, same_cantus, same_ends, same_range, same_relax, same_set}
 
 -- ---- lists of which no item passes a test
 
@@ -116,6 +116,7 @@ mode_with (suc (suc (suc (suc zero)))) = Mixolydian
 mode_with (suc (suc (suc (suc (suc n))))) = Aeolian
 
 mode_back : (mode : Mode) → mode_with (final_of mode) ≡ mode
+unfolding mode_with
 mode_back Dorian = refl
 mode_back Phrygian = refl
 mode_back Lydian = refl
@@ -309,10 +310,19 @@ module _ (lesson answer : Exercise) (score : Grid) (valid : IsValid lesson) (ans
         answers.given (8 * (bar - 1) + k) v (omega (arith, long, low, high, last)) there))
 
     head_same : AllByRecursion Same head
-    head_same =
-        (ap not (eq-eqb _ _ (ap final_of answers.mode)), (ap not (eq-eqb _ _ answers.voices), (ap not (eq-eqb _ _ answers.bars),
-        (ap not (and_from _ _ (eq-eqb _ _ answers.species) (eq-eqb _ _ answers.species_voice)),
-        (ap not (eq-eqb _ _ answers.cantus_voice), tt)))))
+    head_same = (
+      ap not (eq-eqb _ _ (ap final_of answers.mode)),
+      (
+        ap not (eq-eqb _ _ answers.voices),
+        (
+          ap not (eq-eqb _ _ answers.bars),
+          (
+            ap not (and_from _ _ (eq-eqb _ _ answers.species) (eq-eqb _ _ answers.species_voice)),
+            (ap not (eq-eqb _ _ answers.cantus_voice), tt),
+          ),
+        ),
+      ),
+    )
 
     pub none_where_answers : differences lesson answer score.columns ≡ []
     none_where_answers =

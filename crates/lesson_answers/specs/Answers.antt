@@ -1,5 +1,5 @@
 -- What is said of an answer to a lesson.
-use Rattle.std.specs.Prelude.{◌≡◌, ◌==◌, ◌&&◌, Bool, true, false, List, [], ◌++◌, length, nat_lt, string_bytes}
+use Rattle.std.specs.Prelude.{◌≡◌, ◌==◌, ◌&&◌, Bool, true, false, [], ◌++◌, length, nat_lt, string_bytes}
 use Rattle.class_marker.specs.declared.marking.MarkLines.{MarkLines}
 use Rattle.class_marker.specs.Markings.{TellsMarks}
 use Rattle.fux_grid.specs.declared.exercise.Exercise.{Exercise}

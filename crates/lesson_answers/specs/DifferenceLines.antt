@@ -1,5 +1,5 @@
 -- The lines that tell what an answer has otherwise than its lesson.
-use Rattle.std.specs.Prelude.{ℕ, List, [], ◌∷◌, ◌++◌, codes, length}
+use Rattle.std.specs.Prelude.{ℕ, List, [], ◌∷◌, ◌++◌, codes}
 use Rattle.std.specs.Fmt.{decimal}
 use Rattle.std.specs.List.{flat_map}
 use Rattle.lesson_answers.specs.declared.difference.Difference.{Difference}

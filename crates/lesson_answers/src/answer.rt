@@ -66,14 +66,15 @@ pub fn answer_lines(
     ensures { IfOk result (TellsAnswer lesson.now answer.now score.now) }
 {
     let differences = differences(alloc, lesson, answer, score)?;
+    let count = differences.len();
     let marked = marked(alloc, lesson, answer, score)?;
     let mut text = String::new(alloc);
     put_differences(&mut text, &differences)?;
     text.push_str(marked.text.as_str())?;
-    put_count(&mut text, differences.len())?;
+    put_count(&mut text, count)?;
     Ok(AnswerLines {
         has_mark: marked.has_mark,
-        differs: !differences.is_empty(),
+        differs: count > 0,
         text,
     })
 }

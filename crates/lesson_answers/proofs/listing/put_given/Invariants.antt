@@ -1,4 +1,4 @@
-use Rattle.std.proofs.Common.{◌≡◌, ◌-◌, ◌++◌, List, filter, map, min}
+use Rattle.std.proofs.Common.{◌≡◌, ◌-◌, ◌++◌, filter, map, min}
 use Rattle.std.specs.List.{flat_map, range_with_len}
 use Rattle.lesson_answers.specs.declared.difference.Difference.TheVariants.{Given}
 use Rattle.lesson_answers.specs.Differences.{common_bars, differs}

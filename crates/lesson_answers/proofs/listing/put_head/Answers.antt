@@ -1,5 +1,4 @@
-use Rattle.std.proofs.Common.{List, [], ◌∷◌, not, ap, sym, append-nil, refl}
-use Rattle.lesson_answers.specs.declared.difference.Difference.{Difference}
+use Rattle.std.proofs.Common.{[], ◌∷◌, not, ap, sym, append-nil, refl}
 use Rattle.lesson_answers.specs.declared.difference.Difference.TheVariants.{Mode, Voices, Bars, Species, CantusVoice}
 use Rattle.lesson_answers.specs.Differences.{differs}
 use Rattle.lesson_answers.proofs.SectionLemmas.{item_kept}
