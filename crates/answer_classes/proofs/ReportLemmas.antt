@@ -38,9 +38,9 @@ whole_said by_lesson count sayings old new is long text marked refused others = 
       ∙ ap (λ n. flat_map said_text sayings ++ whole_line by_lesson n old.marked old.refused old.others) (sym long)
       ∙ ap (λ n. flat_map said_text sayings ++ whole_line by_lesson (length sayings) n old.refused old.others) is.marked
       ∙ ap (λ n. flat_map said_text sayings ++ whole_line by_lesson (length sayings) (marked_in sayings) n old.others)
-          is.refused
+      is.refused
       ∙ ap (λ n. flat_map said_text sayings
-          ++ whole_line by_lesson (length sayings) (marked_in sayings) (refused_in sayings) n) is.others;
+      ++ whole_line by_lesson (length sayings) (marked_in sayings) (refused_in sayings) n) is.others;
   marked = marked ∙ is.marked;
   refused = refused ∙ is.refused;
   others = others ∙ is.others;

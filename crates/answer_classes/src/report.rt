@@ -110,11 +110,7 @@ fn put_end(text: &mut String, by_lesson: bool, others: usize) -> Result<(), Memo
 }
 
 /// The report with its last line, where so many names have their place in it.
-pub fn whole(
-    report: WholeReport,
-    count: usize,
-    by_lesson: bool,
-) -> Result<WholeReport, Memory>
+pub fn whole(report: WholeReport, count: usize, by_lesson: bool) -> Result<WholeReport, Memory>
     ensures { (sayings : List Saying) → IsReportOf sayings report → length sayings ≡ count
         → IfOk result (IsWholeOf by_lesson sayings) }
 {

@@ -74,11 +74,7 @@ fn say_by(alloc: Global, lesson: &Exercise, text: &Text) -> Result<Said, Memory>
 }
 
 /// What is said of a file, by a lesson where there is one, where this was read of it.
-pub fn say(
-    alloc: Global,
-    lesson: Option<&Exercise>,
-    found: &Option<Text>,
-) -> Result<Said, Memory>
+pub fn say(alloc: Global, lesson: Option<&Exercise>, found: &Option<Text>) -> Result<Said, Memory>
     requires { ForSome lesson (λ exercise. IsValid exercise.now) }
     ensures { IfOk result (IsSaidOf (option_copied lesson.entry) found.now) }
 {

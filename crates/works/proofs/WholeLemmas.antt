@@ -1,4 +1,4 @@
--- What is said of a class in which each name has its place: of one file more (`next_said`), of all files with the last line
+-- What is said of a class in which each name has its place, while counts of faults rise (`rose_sooner`): of one file more (`next_said`), of all files with the last line
 -- (`whole_is`), and of the bytes of the list and the lesson (`of_whole`, `lesson_refused`, `lesson_said`).
 use Rattle.std.proofs.Common.{◌≡◌, ◌⊎◌, ◌↔◌, ℕ, zero, suc, ◌+◌, ◌<◌, ◌≤◌, List, [], ◌∷◌, ◌++◌, length, map, take, get_or, Global, Option, Some, None, Result, Ok, Err, inl, inr, refl, ap, sym, subst, ◌∙◌, arith}
 use Rattle.std.specs.Prelude.{String, string_bytes, is_some}
@@ -15,6 +15,7 @@ use Rattle.answer_classes.specs.Sayings.{IsSaid, IsSaidOf}
 use Rattle.class_marker.specs.declared.one.Text.{Text as Content}
 use Rattle.class_marker.specs.Markings.{IsContent, IsTheText}
 use Rattle.fux_grid.specs.declared.exercise.Exercise.{Exercise}
+use Rattle.fux_port.specs.Counts.{Rose}
 use Rattle.fux_port.specs.Files.{IsMissing}
 use Rattle.command_words.specs.Commands.{whole_class}
 use Rattle.works.specs.declared.refusal.Refusal.TheVariants as refusal
@@ -27,6 +28,10 @@ use Rattle.works.specs.WholeClasses.{AreSaid, IsSaidIn, IsSayingIn, IsWholeRepor
 use Rattle.works.specs.Texts.{Work}
 use Rattle.works.specs.Works.{Answers, AreContents, Files, Makes, ReadsOrNot}
 use Rattle.works.proofs.ClassLemmas.{map_at}
+
+-- a count that rose in the first of several calls
+pub rose_sooner : (old mid new : ℕ) → old ≤ mid → mid ≤ new → Rose old mid → Rose old new
+rose_sooner old mid new before after rose = grind arith
 
 -- ---- one file more
 

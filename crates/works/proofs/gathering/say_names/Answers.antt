@@ -3,9 +3,9 @@ use Rattle.std.specs.Prelude.{string_bytes}
 use Rattle.std.specs.Option.{option_copied}
 use Rattle.std.proofs.lemmas.List.{length-map, length-take, take_all}
 use Rattle.fux_port.specs.Counts.{Rose}
-use Rattle.fux_port.proofs.Rises.{rose_later, rose_sooner}
+use Rattle.fux_port.proofs.Rises.{rose_later}
 use Rattle.works.specs.WholeClasses.{AreSaid}
-use Rattle.works.proofs.WholeLemmas.{few_said, next_said, none_said}
+use Rattle.works.proofs.WholeLemmas.{few_said, next_said, none_said, rose_sooner}
 use Rattle.works.proofs.gathering.say_names.Goals as goal
 
 pub loop-place-init : goal.loop-place-init
@@ -14,6 +14,11 @@ loop-place-init g c = record {
   same = search;
   later = omega arith;
 }
+
+pub put_said-requires-clause-marked : goal.put_said-requires-clause-marked
+put_said-requires-clause-marked g c =
+    let names = take c.loop-place.place (map string_bytes c.args.names.now) in
+    omega (arith, (few_said _ _ _ _ _ c.loop-place.invariant.said).0, length-take c.loop-place.place (map string_bytes c.args.names.now))
 
 pub loop-place-preserved : goal.loop-place-preserved
 loop-place-preserved g c =
@@ -27,7 +32,7 @@ loop-place-preserved g c =
       said = next_said (files c.args.shelf.now) (files c.loop-place.shelf) (option_copied c.args.lesson) c.args.names.now
           c.loop-place.place c.index-names-place.result c.loop-place-test.true c.index-names-place.is old.same
           (Rose start mid) (Rose mid end) (Rose start end)
-          (rose_sooner start mid end c.content_or_none.ensures.faults) (rose_later start mid end old.later)
+          (rose_sooner start mid end old.later c.content_or_none.ensures.faults) (rose_later start mid end old.later)
           c.in_ok-found.found c.in_ok-said.said c.loop-place.report _ old.said
           (rw c.as_str-name.ensures.value at c.in_ok-found.ensures.reads) c.in_ok-said.ensures
           (rw c.as_str-name.ensures.value at c.in_ok-put_said.ensures);
