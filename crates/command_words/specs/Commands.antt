@@ -18,7 +18,7 @@ use Rattle.command_words.specs.declared.command.Job.TheVariants.{Compose, Best, 
 use Rattle.command_words.specs.declared.command.MixedJob.{MixedJob}
 use Rattle.command_words.specs.declared.command.MixedJob.TheVariants as mixed
 use Rattle.command_words.specs.declared.command.Making.{Making}
-use Rattle.command_words.specs.declared.command.Making.TheVariants.{OnExercise, OnMixed, Check, FromSmf, Drill, MarkAnswer, Class, WholeClass, Canon, NewCantus, CheckCantus}
+use Rattle.command_words.specs.declared.command.Making.TheVariants.{OnExercise, OnMixed, Check, FromSmf, Drill, MarkAnswer, Class, Canon, NewCantus, CheckCantus}
 use Rattle.command_words.specs.declared.command.Wanted.{Wanted}
 use Rattle.command_words.specs.declared.verbs.Verb.{Verb}
 use Rattle.command_words.specs.declared.verbs.Verb.TheVariants as verb
@@ -39,13 +39,12 @@ pub data Task : Type 0 where
   drill : (number : ℕ) → Task
   mark_answer : (name lesson : Text) → Task
   class_report : (list : Text) → Task
-  whole_class : (list : Text) (lesson : Option Text) → Task
   find_canon : (name : Text) (sheet : Option Text) (budget : ℕ) → Task
   find_cantus : (wanted : Wanted) (sheet : Option Text) (budget : ℕ) → Task
   certify_cantus : (wanted : Wanted) (sheet : Option Text) (budget : ℕ) → Task
   check_cantus : (wanted : Wanted) (certificate : Text) (sheet : Option Text) → Task
 
--- the name of a sheet or a lesson, as its bytes
+-- the name of a sheet, as its bytes
 abbrev pub sheet_named : Option (Bor (List ℕ)) → Option (List ℕ)
 sheet_named = option_map (λ name. name.now)
 
@@ -58,7 +57,6 @@ making_task (FromSmf name head) = fromsmf name.now head
 making_task (Drill number) = drill number
 making_task (MarkAnswer name lesson) = mark_answer name.now lesson.now
 making_task (Class list) = class_report list.now
-making_task (WholeClass list lesson) = whole_class list.now (sheet_named lesson)
 making_task (Canon name sheet budget) = find_canon name.now (sheet_named sheet) budget
 making_task (NewCantus wanted sheet budget) = find_cantus wanted (sheet_named sheet) budget
 making_task (CheckCantus wanted certificate sheet) = check_cantus wanted certificate.now (sheet_named sheet)
@@ -194,16 +192,8 @@ marking_of name (Some lesson) = mark_answer name lesson
 abbrev pub mark_asked : List Row → Option Task
 mark_asked rows = first_of (codes "EX") rows >>= λ name. Some (marking_of name (first_of (codes "lesson") rows))
 
--- marking a class by itself; or by a lesson or going on, whatever its files are
-abbrev pub classing_of : Text → Option Text → Bool → Task
-classing_of list None false = class_report list
-classing_of list None true = whole_class list None
-classing_of list (Some lesson) going_on = whole_class list (Some lesson)
-
 abbrev pub class_asked : List Row → Option Task
-class_asked rows = do
-  list ← first_of (codes "LIST") rows
-  Some (classing_of list (first_of (codes "lesson") rows) (is_set (codes "keep-going") rows))
+class_asked rows = first_of (codes "LIST") rows >>= λ list. Some (class_report list)
 
 abbrev pub canon_asked : List Row → Option Task
 canon_asked rows = do

@@ -108,12 +108,6 @@ pub enum Making<'a> {
     Class {
         list: &'a str,
     },
-    /// The same of each name, also where its file can't be read, and by the lesson in a file where
-    /// one is named.
-    WholeClass {
-        list: &'a str,
-        lesson: Option<&'a str>,
-    },
     /// The best of the canons that the text in a file asks for, found within this budget, over the
     /// sheet of weights in another where one is named.
     Canon {

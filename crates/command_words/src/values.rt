@@ -5,7 +5,7 @@ ghost use Rattle.clap.specs.Words.{first_of, found_of, rows_of};
 ghost use Rattle.fux_text.specs.Names.{mode_named};
 ghost use Rattle.smf_score.specs.Heads.{IsHead};
 ghost use Rattle.text_lines.specs.Numbers.{number_within};
-ghost use Rattle.command_words.specs.Commands.{AreNamed, HasHead, HasMidiHead, IsWanted, against_in, asks, best_asked, budget_in, canon_asked, certify_asked, certify_cantus_asked, check_asked, check_cantus_asked, class_asked, classing_of, compose_asked, drill_asked, form_in, from_smf_asked, head_in, is_item, is_set, job_asked, making_task, mark_asked, mark_mixed_asked, marking_of, mixed_asked, named_in, new_cantus_asked, number_at, said_of, task_of, wanted_in, weigh_asked, weighing_with};
+ghost use Rattle.command_words.specs.Commands.{AreNamed, HasHead, HasMidiHead, IsWanted, against_in, asks, best_asked, budget_in, canon_asked, certify_asked, certify_cantus_asked, check_asked, check_cantus_asked, class_asked, compose_asked, drill_asked, form_in, from_smf_asked, head_in, is_item, is_set, job_asked, making_task, mark_asked, mark_mixed_asked, marking_of, mixed_asked, named_in, new_cantus_asked, number_at, said_of, task_of, wanted_in, weigh_asked, weighing_with};
 
 use crate::command::{Command, Job, Making, MixedJob, Named, Wanted};
 use crate::verbs::Verb;
@@ -239,27 +239,13 @@ fn mark_asked<'a>(matches: &ArgMatches<'a>) -> Option<Command<'a>>
     Some(Command::Make(marking_of(name, lesson)))
 }
 
-/// Marking a class by itself; or by a lesson or going on, whatever its files are.
-fn classing_of<'a>(list: &'a str, lesson: Option<&'a str>, going_on: bool) -> Making<'a>
-    ensures asked { making_task result
-        ≡ classing_of list.entry.now (option_map (λ text. text.now) lesson.entry) going_on }
-    ensures head { HasMidiHead result }
-{
-    match lesson {
-        None if !going_on => Making::Class { list },
-        lesson => Making::WholeClass { list, lesson },
-    }
-}
-
 /// `class`, on a list.
 fn class_asked<'a>(matches: &ArgMatches<'a>) -> Option<Command<'a>>
     ensures asked { option_map task_of result ≡ class_asked (rows_of (found_of matches.now)) }
     ensures head { IfSome result HasHead }
 {
     let list = value(matches, "LIST")?;
-    let lesson = value(matches, "lesson");
-    let going_on = is_set(matches, "keep-going");
-    Some(Command::Make(classing_of(list, lesson, going_on)))
+    Some(Command::Make(Making::Class { list }))
 }
 
 /// `canon`, on the text of a canon in a file.

@@ -108,8 +108,6 @@ pub enum Part {
     Against,
     /// The file of a lesson.
     Lesson,
-    /// A class is told of whole, also where a file can't be read.
-    KeepGoing,
     /// The mode of a MIDI file.
     Mode,
     /// The species of a MIDI file.
@@ -165,7 +163,7 @@ impl Verb {
                 ],
             ),
             Verb::Drill => ("drill", &[Part::Number]),
-            Verb::Class => ("class", &[Part::List, Part::Lesson, Part::KeepGoing]),
+            Verb::Class => ("class", &[Part::List]),
             Verb::Canon => ("canon", &[Part::File, Part::Sheet, Part::Budget]),
             Verb::Mixed => (
                 "mixed",
@@ -242,7 +240,6 @@ impl Part {
             Part::With | Part::MayWith => "with",
             Part::Against => "against",
             Part::Lesson => "lesson",
-            Part::KeepGoing => "keep-going",
             Part::Mode => "mode",
             Part::Species => "species",
             Part::Voice => "voice",
@@ -272,7 +269,7 @@ impl Part {
             | Part::Against
             | Part::Lesson => Kind::Option,
             Part::With | Part::Mode | Part::Species | Part::Voice | Part::Cantus => Kind::Needed,
-            Part::TopFirst | Part::KeepGoing => Kind::Flag,
+            Part::TopFirst => Kind::Flag,
         }
     }
 }

@@ -13,6 +13,5 @@ pub mod ClassLemmas
 pub mod ContentLemmas
 pub mod MakeLemmas
 pub mod MixedLemmas
-pub mod WholeLemmas
 pub mod WithinLemmas
 pub mod WorkLemmas

@@ -21,5 +21,4 @@ pub mod Searched
 pub mod Sheets
 pub mod TaskFiles
 pub mod Texts
-pub mod WholeClasses
 pub mod Works

@@ -4,7 +4,6 @@ use Rattle.cert_text.specs.declared.answers.Form.{Form}
 use Rattle.class_marker.specs.Lists.{listed_names}
 use Rattle.class_marker.specs.Markings.{IsContent, IsTheText}
 use Rattle.fux_grid.specs.declared.exercise.Exercise.{Exercise}
-use Rattle.fux_pitch.specs.declared.memory.Memory.{Memory as MemoryFault}
 use Rattle.fux_port.specs.Files.{file_of, HasFile, IsMissing}
 use Rattle.works.specs.declared.complaint.Complaint.{Complaint}
 use Rattle.works.specs.declared.complaint.Complaint.TheVariants as complaint
@@ -24,7 +23,7 @@ use Rattle.works.specs.Certified.{Certifies}
 use Rattle.works.specs.Charged.{Weighs}
 use Rattle.works.specs.Checked.{AnswersWithin, Checks, IsUnreadable}
 use Rattle.works.specs.Classes.{IsClass, IsList, RefusesList}
-use Rattle.command_words.specs.Commands.{Task, on_exercise, on_mixed, certify, check, fromsmf, drill, mark_answer, class_report, whole_class, find_canon, find_cantus, certify_cantus, check_cantus}
+use Rattle.command_words.specs.Commands.{Task, on_exercise, on_mixed, certify, check, fromsmf, drill, mark_answer, class_report, find_canon, find_cantus, certify_cantus, check_cantus}
 use Rattle.works.specs.TaskFiles.{as_list, names_in}
 use Rattle.works.specs.Complaints.{name_text}
 use Rattle.works.specs.Composed.{Composes, ComposesSharply}
@@ -38,7 +37,6 @@ use Rattle.works.specs.Rendered.{MarksXml, Prints, WritesSmf, WritesXml}
 use Rattle.works.specs.Searched.{IsNarrow}
 use Rattle.works.specs.Sheets.{OnSheet, sheet_said}
 use Rattle.works.specs.Texts.{Work, OnText}
-use Rattle.works.specs.WholeClasses.{ReportsWhole}
 
 -- a job makes this of an exercise, over the sheet in use
 abbrev pub MakesOf : Job → Sheet → Exercise → Work → Type 0
@@ -130,7 +128,6 @@ Makes (fromsmf name head) files (file ∷ []) work = ReadsMidi head file work
 Makes (drill number) files [] work = Drills number work
 Makes (mark_answer name lesson) files (text ∷ given ∷ []) work = MarksAnswer given text work
 Makes (class_report list) files (text ∷ []) work = ReportsClass files text work
-Makes (whole_class list lesson) files (text ∷ lessons) work = ReportsWhole files (Unit {0}) text lessons work
 Makes (find_canon name sheet budget) files (text ∷ sheets) work = MakesCanon budget sheets text work
 Makes (find_cantus wanted sheet budget) files sheets work = MakesCantus wanted budget sheets work
 Makes (certify_cantus wanted sheet budget) files sheets work = MakesCantusCertificate wanted budget sheets work
@@ -208,12 +205,6 @@ Reads limit files rose name (Err (complaint.Unreadable file)) =
     (name_text file ≡ name) × (rose ⊎ IsMissing files name)
 Reads limit files rose name (Err complaint.OutOfMemory) = Unit {0}
 Reads limit files rose name (Err _) = ⊥
-
--- the same where a file may be without being read: then too with its cause
-abbrev pub ReadsOrNot : Files → Type 0 → List ℕ → Result (Option Content) MemoryFault → Type 0
-ReadsOrNot files failed name (Ok None) = failed ⊎ IsMissing files name
-ReadsOrNot files failed name (Ok (Some text)) = IsRead 65536 files name text
-ReadsOrNot files failed name (Err memory) = Unit {0}
 
 -- the same of the file of a sheet, where one is named
 abbrev pub ReadsSheetFile : Files → Type 0 → Option (List ℕ) → Result (Option Content) Complaint → Type 0

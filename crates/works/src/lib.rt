@@ -13,7 +13,6 @@ mod composing;
 mod content;
 mod drilling;
 mod exercise;
-mod gathering;
 mod imitating;
 mod inventing;
 mod law;

@@ -29,7 +29,6 @@ use crate::playing::{LONGEST_MIDI, from_smf};
 use crate::refusal::{Refusal, refusal_text};
 use crate::rendering::{mark_xml, print, to_smf, to_xml};
 use crate::weighing::sheet_of;
-use crate::gathering::whole_class;
 use crate::work::{Halt, Output, Stop, Unmade, Verdict};
 use class_marker::Text;
 use command_words::{Job, Making};
@@ -87,7 +86,6 @@ pub fn make<'a, F: Shelf, R: Threads + Sync>(
         Making::Drill { number } => said(alloc, "", drill(rt, alloc, number)),
         Making::MarkAnswer { name, lesson } => answer(alloc, name, lesson, shelf),
         Making::Class { list } => class(rt, alloc, list, shelf),
-        Making::WholeClass { list, lesson } => whole_class(alloc, list, lesson, shelf),
         Making::Canon {
             name,
             sheet,
