@@ -106,7 +106,7 @@ ends_told ex sheet budget other_budget Spent Spent one two within told other uns
 abbrev WidthOf : Exercise → Refusal → Type 0
 WidthOf ex said = (place : Place) × (count : ℕ) × (said ≡ refusal.TooWide place count) × IsTooWide ex place count
 
-abbrev pub TextOf : List ℕ → Refusal → Type 0
+abbrev TextOf : List ℕ → Refusal → Type 0
 TextOf bytes said = (kind : TextKind) × (line : ℕ) × (column : ℕ) × (said ≡ refusal.Text kind line column)
     × HasFault bytes kind line column
 
@@ -125,8 +125,7 @@ width_of ex refusal.LongCertificate h = absurd h
 width_of ex (refusal.Sheet fault) h = absurd h
 width_of ex (refusal.Midi fault) h = absurd h
 
--- a refusal of a text tells its fault
-pub text_of : (bytes : List ℕ) (said : Refusal) → RefusesText bytes said → TextOf bytes said
+text_of : (bytes : List ℕ) (said : Refusal) → RefusesText bytes said → TextOf bytes said
 text_of bytes (refusal.Text kind line column) h = (kind, line, column, refl, h)
 text_of bytes (refusal.TooWide place count) h = absurd h
 text_of bytes refusal.NoSetting h = absurd h

@@ -1,19 +1,14 @@
 -- What `mark` makes of the bytes of an answer and of a lesson (`of_answer`), from what is answered where the lesson is refused
--- (`refused_lesson`) and where it is not (`made_by`); and a refusal of a text told as one of the lesson (`lesson_stopped`).
-use Rattle.std.proofs.Common.{◌≡◌, ℕ, List, [], ◌∷◌, Result, Ok, Err, inl, inr, refl, ap}
+-- (`refused_lesson`) and where it is not (`made_by`).
+use Rattle.std.proofs.Common.{◌≡◌, ℕ, List, [], ◌∷◌, Result, Ok, Err, inl, inr, refl}
 use Rattle.class_marker.specs.Markings.{IsContent, IsTheText}
 use Rattle.class_marker.specs.declared.one.Text.{Text as Content}
 use Rattle.fux_grid.specs.declared.exercise.Exercise.{Exercise}
-use Rattle.fux_text.specs.declared.fault.TextKind.{TextKind}
 use Rattle.command_words.specs.Commands.{mark_answer}
-use Rattle.works.specs.declared.refusal.Refusal.{Refusal}
-use Rattle.works.specs.declared.refusal.Refusal.TheVariants as refusal
 use Rattle.works.specs.declared.work.Output.{Output}
 use Rattle.works.specs.declared.work.Stop.{Stop}
 use Rattle.works.specs.declared.work.Stop.TheVariants as stop
 use Rattle.works.specs.Answered.{MarksAnswer, MarksBy, ReadsLesson}
-use Rattle.works.specs.Texts.{ReadsText}
-use Rattle.works.proofs.AgreeLemmas.{text_of}
 use Rattle.works.specs.Works.{Answers, AreContents, Files, Makes}
 
 pub of_answer : (files : Files) (name lesson : List ℕ) (text given : Content) (answer : Result Output Stop)
@@ -33,15 +28,6 @@ of_answer files name lesson text given (Err (stop.Refused refusal)) made (bytes 
 of_answer files name lesson text given (Ok output) made (bytes ∷ lessons ∷ more ∷ all) content = absurd content.1.1
 of_answer files name lesson text given (Err (stop.Refused refusal)) made (bytes ∷ lessons ∷ more ∷ all) content =
     absurd content.1.1
-
--- a text that isn't read is refused by its fault alone
-pub lesson_stopped : (bytes : List ℕ) (why : Stop)
-    → ((kind : TextKind) (line column : ℕ) → why ≡ stop.Refused (refusal.Text kind line column) → ⊥)
-    → ReadsText bytes (Err why) → ReadsLesson bytes (Err why)
-lesson_stopped bytes (stop.Refused said) other read =
-    let told = text_of bytes said read in
-    absurd (other told.0 told.1 told.2.0 (ap (λ why. stop.Refused why) told.2.1.0))
-lesson_stopped bytes stop.Memory other read = tt
 
 module _ (given bytes : List ℕ) (answer : Exercise) (text : IsTheText bytes answer) where
   pub refused_lesson : (why : Stop) (told : Result Output Stop) → ReadsLesson given (Err why) → told ≡ Err why

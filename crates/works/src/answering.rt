@@ -19,20 +19,33 @@ use crate::work::{Output, Stop, Verdict};
 use class_marker::Text;
 use fux_grid::Exercise;
 use fux_port::Shelf;
+use fux_text::{TextFault, TextKind, read};
 use lesson_answers::{AnswerLines, answer_lines};
 use std::alloc::Global;
+
+/// What is said of a lesson of more than 65,536 bytes.
+const TOO_LONG: Refusal = Refusal::Lesson {
+    kind: TextKind::TooLong,
+    line: 1,
+    column: 1,
+};
 
 /// The lesson whose text this is.
 pub fn lesson_of(alloc: Global, text: &Text) -> Result<Exercise<'static>, Stop>
     ensures reads { (bytes : List ℕ) → IsContent 65536 text.now bytes → ReadsLesson bytes result }
     ensures valid { IfOk result IsValid }
 {
-    match exercise_of(alloc, text) {
+    let Text::Bytes(bytes) = text else {
+        return Err(Stop::Refused(TOO_LONG));
+    };
+    match read(alloc, bytes) {
         Ok(lesson) => Ok(lesson),
-        Err(Stop::Refused(Refusal::Text { kind, line, column })) => {
-            Err(Stop::Refused(Refusal::Lesson { kind, line, column }))
-        }
-        Err(stop) => Err(stop),
+        Err(TextFault::At { kind, line, column }) => Err(Stop::Refused(Refusal::Lesson {
+            kind,
+            line,
+            column,
+        })),
+        Err(TextFault::Memory) => Err(Stop::Memory),
     }
 }
 
