@@ -17,10 +17,10 @@ returns-in_err-given-clause-made g c =
     let told = err_from_is_err_and c.from_residual-in_err-given.result c.from_residual-in_err-given.ensures.1 in
     rw (told.1, told.2) (sheet_unread c.args.name.now (Some c.args.lesson.now)
     (files c.args.shelf.now) (files c.read_content.new.shelf)
-    (Rose (faults c.args.shelf.now) (faults c.read_content-given.new.shelf))
-    (Rose (faults c.read_content.new.shelf) (faults c.read_content-given.new.shelf)) 65536 c.in_ok-text.text _
+    (Rose (faults c.args.shelf.now) (faults c.read_content-2.new.shelf))
+    (Rose (faults c.read_content.new.shelf) (faults c.read_content-2.new.shelf)) 65536 c.in_ok-text.text _
     (λ complaint. IsMade task (files c.args.shelf.now)
-    (Rose (faults c.args.shelf.now) (faults c.read_content-given.new.shelf)) (Err complaint))
+    (Rose (faults c.args.shelf.now) (faults c.read_content-2.new.shelf)) (Err complaint))
     (λ file is. inl is) tt
     c.in_ok-text.ensures.reads c.in_ok-text.ensures.files
     (rose_later _ _ _ c.in_ok-text.ensures.faults) c.in_err-given.ensures.reads)
@@ -49,7 +49,7 @@ pub returns-in_err-given-clause-served : goal.returns-in_err-given-clause-served
 returns-in_err-given-clause-served g c =
     let told = err_from_is_err_and c.from_residual-in_err-given.result c.from_residual-in_err-given.ensures.1 in
     rw (told.1, told.2) (λ promised. c.in_err-given.ensures.served
-    (whole_kept (g.F.Shelf.serves c.args.shelf.now) (g.F.Shelf.serves c.read_content.new.shelf) c.args.lesson 65536
+    (whole_kept (g.F.Shelf.serves c.args.shelf.now) (g.F.Shelf.serves c.read_content.new.shelf) c.args.lesson.now 65536
     c.in_ok-text.ensures.serving promised.before.1.0))
 
 pub returns-clause-served : goal.returns-clause-served
