@@ -1,0 +1,10 @@
+pub mod Below
+pub mod Explained
+pub mod HeadLines
+pub mod Hints
+pub mod ItemHints
+pub mod Known
+pub mod MarkedLines
+pub mod Range
+pub mod Sing
+pub mod WordTests
