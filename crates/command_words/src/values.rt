@@ -5,7 +5,7 @@ ghost use Rattle.clap.specs.Words.{first_of, found_of, rows_of};
 ghost use Rattle.fux_text.specs.Names.{mode_named};
 ghost use Rattle.smf_score.specs.Heads.{IsHead};
 ghost use Rattle.text_lines.specs.Numbers.{number_within};
-ghost use Rattle.command_words.specs.Commands.{AreNamed, HasHead, IsWanted, against_in, asks, best_asked, budget_in, canon_asked, certify_asked, certify_cantus_asked, check_asked, check_cantus_asked, class_asked, compose_asked, drill_asked, form_in, from_smf_asked, head_in, is_item, is_set, job_asked, mark_mixed_asked, mixed_asked, named_in, new_cantus_asked, number_at, said_of, task_of, wanted_in, weigh_asked, weighing_with};
+ghost use Rattle.command_words.specs.Commands.{AreNamed, HasHead, IsWanted, against_in, asks, best_asked, budget_in, canon_asked, certify_asked, certify_cantus_asked, check_asked, check_cantus_asked, class_asked, compose_asked, drill_asked, explain_asked, form_in, from_smf_asked, head_in, is_item, is_set, job_asked, mark_mixed_asked, mixed_asked, named_in, new_cantus_asked, number_at, said_of, task_of, wanted_in, weigh_asked, weighing_with};
 
 use crate::command::{Command, Job, Making, MixedJob, Named, Wanted};
 use crate::verbs::Verb;
@@ -193,6 +193,15 @@ fn job_asked<'a>(matches: &ArgMatches<'a>, job: Job) -> Option<Command<'a>>
     let name = value(matches, "EX")?;
     let sheet = None;
     Some(Command::Make(Making::OnExercise { name, sheet, job }))
+}
+
+/// `explain`, on a file.
+fn explain_asked<'a>(matches: &ArgMatches<'a>) -> Option<Command<'a>>
+    ensures asked { option_map task_of result ≡ explain_asked (rows_of (found_of matches.now)) }
+    ensures head { IfSome result HasHead }
+{
+    let name = value(matches, "FILE")?;
+    Some(Command::Make(Making::Explain { name }))
 }
 
 /// `fromsmf`, on a MIDI file.
@@ -449,6 +458,7 @@ pub fn asked_of<'a>(verb: Verb, matches: &ArgMatches<'a>) -> Option<Command<'a>>
         Verb::Certify => certify_asked(matches),
         Verb::Check => check_asked(matches),
         Verb::Mark => job_asked(matches, Job::Mark),
+        Verb::Explain => explain_asked(matches),
         Verb::Cantus => job_asked(matches, Job::Cantus),
         Verb::Print => job_asked(matches, Job::Print),
         Verb::ToSmf => job_asked(matches, Job::ToSmf),

@@ -17,6 +17,8 @@ pub enum Verb {
     Check,
     /// The marks of a setting.
     Mark,
+    /// What is wrong with a text or its setting.
+    Explain,
     /// The marks of a cantus firmus.
     Cantus,
     /// The printed score of a setting.
@@ -50,12 +52,13 @@ pub enum Verb {
 }
 
 /// All commands.
-const VERBS: [Verb; 20] = [
+const VERBS: [Verb; 21] = [
     Verb::Compose,
     Verb::Best,
     Verb::Certify,
     Verb::Check,
     Verb::Mark,
+    Verb::Explain,
     Verb::Cantus,
     Verb::Print,
     Verb::ToSmf,
@@ -146,6 +149,7 @@ impl Verb {
             ),
             Verb::Check => ("check", &[Part::Exercise, Part::Certificate, Part::Sheet]),
             Verb::Mark => ("mark", &[Part::Exercise]),
+            Verb::Explain => ("explain", &[Part::File]),
             Verb::Cantus => ("cantus", &[Part::Exercise]),
             Verb::Print => ("print", &[Part::Exercise]),
             Verb::ToSmf => ("tosmf", &[Part::Exercise]),

@@ -20,7 +20,7 @@ use Rattle.text_faults.specs.Sing.{sing_judged}
 
 -- ---- a line by itself
 
--- the first word but for the case of its letters, which are to be small; or the sign of a comment elsewhere
+-- the letters are those of the first word of a line, in any case
 unfoldable pub is_misspelt : List ℕ → Bool
 is_misspelt text =
     list_any (λ name. same_text (map to_ascii_lowercase text) name) (codes "fux" ∷ codes "mode" ∷ codes "voices"
@@ -30,7 +30,7 @@ is_misspelt text =
 abbrev pub other_judged : Known → PlacedWord → Judged
 other_judged known word = if is_misspelt word.text then Err (fault_at kinds.Head word) else Ok known
 
--- the lines of each name
+-- the lines of each name. Nothing is told of a `relax` or `given` line
 abbrev pub named_judged : Known → PlacedWord → LineWords → Judged
 named_judged known word at =
     if same_text word.text (codes "sing") then sing_judged known at
@@ -41,6 +41,8 @@ named_judged known word at =
     else if same_text word.text (codes "voices") then voices_judged known at
     else if same_text word.text (codes "bars") then bars_judged known at
     else if same_text word.text (codes "species") then species_judged known at
+    else if same_text word.text (codes "relax") then Ok known
+    else if same_text word.text (codes "given") then Ok known
     else other_judged known word
 
 abbrev pub judged_from : Known → Option (PlacedWord × LineWords) → Judged

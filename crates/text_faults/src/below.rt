@@ -85,6 +85,8 @@ fn named_judged(
         bars_judged(known, words)
     } else if is_same(word.text, b"species") {
         species_judged(known, words)
+    } else if is_same(word.text, b"relax") || is_same(word.text, b"given") {
+        Ok(known)
     } else {
         other_judged(known, word)
     }

@@ -11,6 +11,7 @@ mod complaint;
 mod composing;
 mod content;
 mod drilling;
+mod explaining;
 mod exercise;
 mod imitating;
 mod inventing;
