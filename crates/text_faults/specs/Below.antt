@@ -13,6 +13,7 @@ use Rattle.text_lines.specs.Utf8.{text_in}
 use Rattle.text_lines.specs.Words.{LineWords, PlacedWord, first_word}
 use Rattle.text_faults.specs.declared.found.FoundFault.{FoundFault}
 use Rattle.text_faults.specs.declared.known.Known.{Known}
+use Rattle.text_faults.specs.Given.{given_judged}
 use Rattle.text_faults.specs.HeadLines.{Judged, bars_judged, cantus_judged, mode_judged, species_judged, version_judged, voices_judged}
 use Rattle.text_faults.specs.Known.{nothing_known}
 use Rattle.text_faults.specs.Range.{range_judged}
@@ -30,7 +31,7 @@ is_misspelt text =
 abbrev pub other_judged : Known → PlacedWord → Judged
 other_judged known word = if is_misspelt word.text then Err (fault_at kinds.Head word) else Ok known
 
--- the lines of each name. Nothing is told of a `relax` or `given` line
+-- the lines of each name. Nothing is told of a `relax` line
 abbrev pub named_judged : Known → PlacedWord → LineWords → Judged
 named_judged known word at =
     if same_text word.text (codes "sing") then sing_judged known at
@@ -41,8 +42,8 @@ named_judged known word at =
     else if same_text word.text (codes "voices") then voices_judged known at
     else if same_text word.text (codes "bars") then bars_judged known at
     else if same_text word.text (codes "species") then species_judged known at
+    else if same_text word.text (codes "given") then given_judged known at
     else if same_text word.text (codes "relax") then Ok known
-    else if same_text word.text (codes "given") then Ok known
     else other_judged known word
 
 abbrev pub judged_from : Known → Option (PlacedWord × LineWords) → Judged

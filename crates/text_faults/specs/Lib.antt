@@ -1,5 +1,6 @@
 pub mod Below
 pub mod Explained
+pub mod Given
 pub mod HeadLines
 pub mod Hints
 pub mod ItemHints

@@ -10,6 +10,7 @@ ghost use Rattle.text_faults.specs.Below.{faults_from, is_misspelt, judged, know
 ghost use Rattle.text_faults.specs.Known.{HasBars, nothing_known};
 
 use crate::found::FoundFault;
+use crate::given::given_judged;
 use crate::head_lines::{
     bars_judged, cantus_judged, mode_judged, species_judged, version_judged, voices_judged,
 };
@@ -85,7 +86,9 @@ fn named_judged(
         bars_judged(known, words)
     } else if is_same(word.text, b"species") {
         species_judged(known, words)
-    } else if is_same(word.text, b"relax") || is_same(word.text, b"given") {
+    } else if is_same(word.text, b"given") {
+        given_judged(alloc, known, words)
+    } else if is_same(word.text, b"relax") {
         Ok(known)
     } else {
         other_judged(known, word)

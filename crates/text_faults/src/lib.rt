@@ -4,6 +4,7 @@
 mod below;
 mod explained;
 mod found;
+mod given;
 mod head_lines;
 mod hints;
 mod item_hints;

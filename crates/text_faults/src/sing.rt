@@ -28,7 +28,7 @@ fn colon_in(text: &[u8]) -> Option<usize>
 
 /// What stands before the colon of an item, and the number behind it.
 #[tactic(auto, unfolding(fux_text::specs::Sing::item_parts))]
-fn item_parts(text: &[u8]) -> Option<(&[u8], u32)>
+pub fn item_parts(text: &[u8]) -> Option<(&[u8], u32)>
     ensures { option_map (λ x. (x.0.now, x.1)) result ≡ item_parts text.now }
 {
     let Some(colon) = colon_in(text) else {
