@@ -165,8 +165,10 @@ pub fn faults_from(
 {
     let mut faults = Vec::new(alloc);
     faults.push(first)?;
-    if let Ok(text) = Lines::of_text(bytes, TextKind::TooLong, TextKind::NotUtf8) {
-        push_below(alloc, &mut faults, first.line, text)?;
+    match Lines::of_text(bytes, TextKind::TooLong, TextKind::NotUtf8) {
+        Ok(text) => push_below(alloc, &mut faults, first.line, text)?,
+        Err(TextFault::At { .. }) => {}
+        Err(TextFault::Memory) => return Err(Memory),
     }
     Ok(faults)
 }
