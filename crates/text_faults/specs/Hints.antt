@@ -10,7 +10,7 @@ use Rattle.text_faults.specs.ItemHints.{bar_line_hint, item_hint, length_hint, p
 use Rattle.text_faults.specs.WordTests.{begins, begins_within, first_fit, has, is_empty}
 
 -- where bytes stop being UTF-8
-abbrev pub utf8_hint : List ℕ → List ℕ
+unfoldable pub utf8_hint : List ℕ → List ℕ
 utf8_hint here = first_fit (
     (begins (0xFF ∷ []), codes "the file is UTF-16: save it as UTF-8")
     ∷ (begins (0xFE ∷ []), codes "the file is UTF-16: save it as UTF-8")
@@ -19,7 +19,7 @@ utf8_hint here = first_fit (
     (codes "these bytes are no UTF-8, and may be Latin-1: save the file as UTF-8") here
 
 -- where a line of another name is to stand, or none
-abbrev pub head_hint : ℕ → List ℕ → List ℕ
+unfoldable pub head_hint : ℕ → List ℕ → List ℕ
 head_hint number word = first_fit (
     (λ w. is_empty w && (number == 1), codes "the file is empty: its first line is `fux 1`")
     ∷ (is_empty, codes "the text ends here, and a line is missing")
@@ -41,21 +41,21 @@ head_hint number word = first_fit (
     (codes "another line is missing here: fux, mode, voices, bars, species, cantus, range, relax, given, sing") word
 
 -- a version
-abbrev pub version_hint : List ℕ → List ℕ
+unfoldable pub version_hint : List ℕ → List ℕ
 version_hint word = first_fit (
     (has 13, codes "the lines end by carriage returns alone: save the file with line feeds")
     ∷ [])
     (codes "the versions are 1 and 2, and nothing stands behind them") word
 
 -- a mode
-abbrev pub mode_hint : List ℕ → List ℕ
+unfoldable pub mode_hint : List ℕ → List ℕ
 mode_hint word = first_fit (
     (begins_within 65 90, codes "modes are in small letters")
     ∷ [])
     (codes "the modes are dorian, phrygian, lydian, mixolydian, aeolian and ionian") word
 
 -- a word of a line that begins so
-abbrev pub word_hint : List ℕ → List ℕ → List ℕ → List ℕ
+unfoldable pub word_hint : List ℕ → List ℕ → List ℕ → List ℕ
 word_hint line here word =
     if begins (codes "sing") line then item_hint here word
     else if begins (codes "given") line then item_hint here word
@@ -69,14 +69,14 @@ word_hint line here word =
     else codes "nothing stands behind this line"
 
 -- a range line, or a line where one is missing
-abbrev pub range_hint : List ℕ → List ℕ → List ℕ
+unfoldable pub range_hint : List ℕ → List ℕ → List ℕ
 range_hint line word =
     if not (begins (codes "range") line) then codes "a voice has no range yet: `range V LOW HIGH`"
     else if begins_within 65 71 word then codes "the lower pitch comes first: `range V LOW HIGH`"
     else codes "a range line is `range V LOW HIGH`, of a voice that isn't the cantus firmus's; its later ones have bars"
 
 -- a cantus
-abbrev pub cantus_hint : List ℕ → List ℕ
+unfoldable pub cantus_hint : List ℕ → List ℕ
 cantus_hint word = first_fit (
     (is_empty, codes "a pitch is missing: the cantus firmus has one for each bar")
     ∷ (begins_within 48 57, codes "the cantus firmus has another voice than the species: voices count from 0")
@@ -84,7 +84,7 @@ cantus_hint word = first_fit (
     (codes "a pitch too many: the cantus firmus has one for each bar") word
 
 -- the voice of a `sing` line
-abbrev pub sing_hint : List ℕ → List ℕ
+unfoldable pub sing_hint : List ℕ → List ℕ
 sing_hint word = first_fit (
     (is_empty, codes "a sing line is missing: there is one for each voice but the cantus firmus, or none at all")
     ∷ (has 58, codes "no sign stands behind the number: `sing 1`")

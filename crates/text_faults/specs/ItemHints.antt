@@ -5,7 +5,7 @@ use Rattle.text_lines.specs.Words.{is_blank}
 use Rattle.text_faults.specs.WordTests.{begins, begins_within, first_fit, has, has_digit, is_empty}
 
 -- a word that is no item, where what stands behind it begins with a colon or not
-abbrev pub item_hint : List ℕ → List ℕ → List ℕ
+unfoldable pub item_hint : List ℕ → List ℕ → List ℕ
 item_hint here word = first_fit (
     (begins (codes "|"), codes "nothing stands behind the last bar: take this away")
     ∷ (begins (codes ";"), codes "a comment stands in a line of its own, which begins with ;")
@@ -25,7 +25,7 @@ item_hint here word = first_fit (
     (codes "a length is missing: a half is `A4:4`, a whole bar `A4:8`") word
 
 -- a word that names no pitch
-abbrev pub pitch_hint : List ℕ → List ℕ
+unfoldable pub pitch_hint : List ℕ → List ℕ
 pitch_hint name = first_fit (
     (begins (codes "R"), codes "a rest is a small r")
     ∷ (begins (codes "_"), codes "_ holds the note before it, and names no pitch")
@@ -42,7 +42,7 @@ pitch_hint name = first_fit (
     (codes "a pitch is a letter A to G, a # or b or nothing, and an octave, from C1 to C7") name
 
 -- lengths that don't fill a bar, or none
-abbrev pub length_hint : List ℕ → List ℕ → List ℕ
+unfoldable pub length_hint : List ℕ → List ℕ → List ℕ
 length_hint before word = first_fit (
     (λ w. not (has 58 before), codes "no bar line stands before the first bar")
     ∷ (has 58, codes "a length is 1 to 8: a whole bar is 8, a half 4")
@@ -51,7 +51,7 @@ length_hint before word = first_fit (
     (codes "the lengths of this bar don't sum to 8: a bar line is missing before, or they don't count eighths of a bar") word
 
 -- bars that are too many or too few
-abbrev pub bar_line_hint : List ℕ → List ℕ
+unfoldable pub bar_line_hint : List ℕ → List ℕ
 bar_line_hint word = first_fit (
     (is_empty, codes "the line ends before its last bar: a sing line is one line, with all its bars")
     ∷ [])

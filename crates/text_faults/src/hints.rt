@@ -10,6 +10,7 @@ use crate::word_tests::{begins, begins_within, has};
 use fux_text::TextKind;
 
 /// What would be right where bytes stop being UTF-8.
+#[tactic(auto, unfolding(crate::specs::Hints::utf8_hint))]
 fn utf8_hint(here: &[u8]) -> &'static str
     ensures { result.now ≡ utf8_hint here.now }
 {
@@ -25,6 +26,7 @@ fn utf8_hint(here: &[u8]) -> &'static str
 }
 
 /// What would be right where a line of another name is to stand, or none.
+#[tactic(auto, unfolding(crate::specs::Hints::head_hint))]
 fn head_hint(number: u32, word: &[u8]) -> &'static str
     ensures { result.now ≡ head_hint number word.now }
 {
@@ -66,6 +68,7 @@ fn head_hint(number: u32, word: &[u8]) -> &'static str
 }
 
 /// What would be right for a version.
+#[tactic(auto, unfolding(crate::specs::Hints::version_hint))]
 fn version_hint(word: &[u8]) -> &'static str
     ensures { result.now ≡ version_hint word.now }
 {
@@ -77,6 +80,7 @@ fn version_hint(word: &[u8]) -> &'static str
 }
 
 /// What would be right for a mode.
+#[tactic(auto, unfolding(crate::specs::Hints::mode_hint))]
 fn mode_hint(word: &[u8]) -> &'static str
     ensures { result.now ≡ mode_hint word.now }
 {
@@ -88,6 +92,7 @@ fn mode_hint(word: &[u8]) -> &'static str
 }
 
 /// What would be right for a word of a line, by how the line begins.
+#[tactic(auto, unfolding(crate::specs::Hints::word_hint))]
 fn word_hint(line: &[u8], here: &[u8], word: &[u8]) -> &'static str
     ensures { result.now ≡ word_hint line.now here.now word.now }
 {
@@ -111,6 +116,7 @@ fn word_hint(line: &[u8], here: &[u8], word: &[u8]) -> &'static str
 }
 
 /// What would be right in a range line, or where one is missing.
+#[tactic(auto, unfolding(crate::specs::Hints::range_hint))]
 fn range_hint(line: &[u8], word: &[u8]) -> &'static str
     ensures { result.now ≡ range_hint line.now word.now }
 {
@@ -124,6 +130,7 @@ fn range_hint(line: &[u8], word: &[u8]) -> &'static str
 }
 
 /// What would be right in a cantus.
+#[tactic(auto, unfolding(crate::specs::Hints::cantus_hint))]
 fn cantus_hint(word: &[u8]) -> &'static str
     ensures { result.now ≡ cantus_hint word.now }
 {
@@ -137,6 +144,7 @@ fn cantus_hint(word: &[u8]) -> &'static str
 }
 
 /// What would be right for the voice of a `sing` line.
+#[tactic(auto, unfolding(crate::specs::Hints::sing_hint))]
 fn sing_hint(word: &[u8]) -> &'static str
     ensures { result.now ≡ sing_hint word.now }
 {

@@ -9,6 +9,7 @@ use crate::marked_lines::behind_blank;
 use crate::word_tests::{begins, begins_within, has, has_digit};
 
 /// What would be right for a word that is no item, where this stands from its place on.
+#[tactic(auto, unfolding(crate::specs::ItemHints::item_hint))]
 pub fn item_hint(here: &[u8], word: &[u8]) -> &'static str
     ensures { result.now ≡ item_hint here.now word.now }
 {
@@ -47,6 +48,7 @@ pub fn item_hint(here: &[u8], word: &[u8]) -> &'static str
 }
 
 /// What would be right for a word that names no pitch.
+#[tactic(auto, unfolding(crate::specs::ItemHints::pitch_hint))]
 pub fn pitch_hint(name: &[u8]) -> &'static str
     ensures { result.now ≡ pitch_hint name.now }
 {
@@ -78,6 +80,7 @@ pub fn pitch_hint(name: &[u8]) -> &'static str
 }
 
 /// What would be right where lengths don't fill a bar, or are none.
+#[tactic(auto, unfolding(crate::specs::ItemHints::length_hint))]
 pub fn length_hint(before: &[u8], word: &[u8]) -> &'static str
     ensures { result.now ≡ length_hint before.now word.now }
 {
@@ -93,6 +96,7 @@ pub fn length_hint(before: &[u8], word: &[u8]) -> &'static str
 }
 
 /// What would be right where bars are too many or too few.
+#[tactic(auto, unfolding(crate::specs::ItemHints::bar_line_hint))]
 pub fn bar_line_hint(word: &[u8]) -> &'static str
     ensures { result.now ≡ bar_line_hint word.now }
 {

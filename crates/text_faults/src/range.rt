@@ -6,7 +6,7 @@ ghost use Rattle.text_lines.specs.Rows.{place_in, row_in};
 ghost use Rattle.text_lines.specs.Words.{words_of};
 ghost use Rattle.fux_text.specs.Ranges.{bars_row, high_place};
 ghost use Rattle.text_faults.specs.Known.{HasBars};
-ghost use Rattle.text_faults.specs.Range.{has_bars, lone_range, range_judged};
+ghost use Rattle.text_faults.specs.Range.{bars_of, free_place, has_bars, lone_range, range_judged};
 
 use crate::head_lines::pitch_in;
 use crate::known::{Known, voice_but};
@@ -72,15 +72,38 @@ fn bars_in(words: Words<'_>, later: bool, bars: u8, line: RangeLine) -> Result<R
     Ok(line)
 }
 
-/// Reads the words of a range line of any voice but that of the cantus.
-#[tactic(auto, unfolding(text_lines::specs::Rows::row_in))]
-fn lone_range(known: Known, words: Words<'_>, later: bool) -> Result<RangeLine, TextFault>
-    ensures { Gives (λ x. x) result (row_in (lone_range known later) (words_of words.entry)) }
+/// Reads any voice but that of the cantus.
+fn voice_in(known: Known, words: Words<'_>) -> Result<(u8, Words<'_>), TextFault>
+    ensures { Gives (λ x. (x.0, words_of x.1)) result (place_in (free_place known) (words_of words.entry)) }
 {
     let (word, words) = words.next(TextKind::Range)?;
-    let Some(voice) = voice_but(word.text, known.cantus_voice, known.voices) else {
-        return Err(word.fault(TextKind::Range));
-    };
+    match voice_but(word.text, known.cantus_voice, known.voices) {
+        Some(voice) => Ok((voice, words)),
+        None => Err(word.fault(TextKind::Range)),
+    }
+}
+
+/// How many bars there are, or may be.
+fn bars_of(bars: Option<u8>) -> u8
+    ensures { result ≡ bars_of bars }
+{
+    match bars {
+        Some(bars) => bars,
+        None => 24,
+    }
+}
+
+/// Reads the words of a range line of any voice but that of the cantus.
+#[tactic(auto, unfolding(text_lines::specs::Rows::row_in))]
+fn lone_range(
+    known: Known,
+    words: Words<'_>,
+    bars: u8,
+    later: bool,
+) -> Result<RangeLine, TextFault>
+    ensures { Gives (λ x. x) result (row_in (lone_range known bars later) (words_of words.entry)) }
+{
+    let (voice, words) = voice_in(known, words)?;
     let (low, words) = pitch_in(words, TextKind::Range)?;
     let (high, words) = high_in(words, low)?;
     let line = RangeLine {
@@ -89,7 +112,7 @@ fn lone_range(known: Known, words: Words<'_>, later: bool) -> Result<RangeLine, 
         high,
         bars: None,
     };
-    bars_in(words, later, known.bars.unwrap_or(24), line)
+    bars_in(words, later, bars, line)
 }
 
 /// Judges a range line.
@@ -99,6 +122,6 @@ pub fn range_judged(known: Known, words: Words<'_>) -> Result<Known, TextFault>
     ensures value { Gives (λ x. x) result (range_judged known (words_of words.entry)) }
     ensures bars { IfOk result HasBars }
 {
-    lone_range(known, words, has_bars(words))?;
+    lone_range(known, words, bars_of(known.bars), has_bars(words))?;
     Ok(known)
 }
