@@ -1,2 +1,3 @@
 pub mod LineLoops
+pub mod RangeLemmas
 pub mod Rows

@@ -9,13 +9,13 @@ use Rattle.text_faults.specs.Below.{judged, known_behind, told_below, told_of}
 pub below-more : (first : ℕ) (known : Known) (after : ℕ) (lines : List LineWords) (line : LineWords) (behind : TextLines)
     → Some (line, behind) ≡ first_line_of after lines
     → (told_below first known lines ≡ told_of first (judged known line)
-        ++ told_below first (known_behind known (judged known line)) behind.lines) × (length behind.lines < length lines)
+    ++ told_below first (known_behind known (judged known line)) behind.lines) × (length behind.lines < length lines)
 below-more first known after [] line behind e = absurd (grind (arith, e))
 below-more first known after (l ∷ ls) line behind e = by (grind (arith, e)) (grind (arith, e))
   where
     by : line ≡ l → behind ≡ record { after = after; lines = ls }
         → (told_below first known (l ∷ ls) ≡ told_of first (judged known line)
-            ++ told_below first (known_behind known (judged known line)) behind.lines)
+        ++ told_below first (known_behind known (judged known line)) behind.lines)
         × (length behind.lines < length (l ∷ ls))
     by same rest = rw (same, rest) (refl, omega arith)
 

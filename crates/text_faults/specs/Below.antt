@@ -1,5 +1,5 @@
--- The faults of a text at fault: the first of all, and then of each later line its own first fault, where the line is
--- judged by itself.
+-- The faults of a text at fault: the first of all, and then of each later line its own first fault,
+-- where the line is judged by itself.
 use Rattle.std.specs.Prelude.{◌≡◌, ℕ, ◌==◌, ◌||◌, Bool, true, false, List, [], ◌∷◌, ◌++◌, Option, Some, None, Result, Ok, Err, codes, map, nat_lt, if◌then◌else◌}
 use Rattle.std.specs.List.{list_any}
 use Rattle.std.specs.Char.{to_ascii_lowercase}
@@ -21,11 +21,16 @@ use Rattle.text_faults.specs.Sing.{sing_judged}
 
 -- ---- a line by itself
 
--- the letters are those of the first word of a line, in any case
+-- the words that lines begin with
+abbrev pub first_words : List (List ℕ)
+first_words =
+    codes "fux" ∷ codes "mode" ∷ codes "voices" ∷ codes "bars" ∷ codes "species" ∷ codes "cantus"
+    ∷ codes "range" ∷ codes "relax" ∷ codes "given" ∷ codes "sing" ∷ []
+
+-- the letters are those of one of them, in any case
 unfoldable pub is_misspelt : List ℕ → Bool
 is_misspelt text =
-    list_any (λ name. same_text (map to_ascii_lowercase text) name) (codes "fux" ∷ codes "mode" ∷ codes "voices"
-    ∷ codes "bars" ∷ codes "species" ∷ codes "cantus" ∷ codes "range" ∷ codes "relax" ∷ codes "given" ∷ codes "sing" ∷ [])
+    list_any (λ name. same_text (map to_ascii_lowercase text) name) first_words
 
 -- a line of another first word is at fault where that is misspelt, and else nothing is told of it
 abbrev pub other_judged : Known → PlacedWord → Judged
@@ -73,7 +78,8 @@ known_behind known (Err fault) = known
 abbrev pub told_below : ℕ → Known → List LineWords → List FoundFault
 told_below first known [] = []
 told_below first known (line ∷ lines) =
-    told_of first (judged known line) ++ told_below first (known_behind known (judged known line)) lines
+    told_of first (judged known line)
+    ++ told_below first (known_behind known (judged known line)) lines
 
 abbrev pub below_in : ℕ → Result TextLines (Fault TextKind) → List FoundFault
 below_in first (Ok text) = told_below first nothing_known text.lines

@@ -16,7 +16,8 @@ hint_line fault line = hint fault line ++ 10 ∷ []
 
 -- a fault: its place and its kind, its line with a caret below the place, and what would be right there
 abbrev pub told_in : List ℕ → FoundFault → List ℕ → List ℕ
-told_in name fault line = place_line name fault ++ (marked_line fault.column line ++ hint_line fault line)
+told_in name fault line =
+    place_line name fault ++ (marked_line fault.column line ++ hint_line fault line)
 
 unfoldable pub explained_fault : List ℕ → List ℕ → FoundFault → List ℕ
 explained_fault name bytes fault = told_in name fault (line_at fault.line bytes)

@@ -1,4 +1,5 @@
--- The lines before the ranges, each judged by itself: what is known behind a right one, or what is wrong.
+-- The lines before the ranges, each judged by itself: what is known behind a right one, or what is
+-- wrong.
 use Rattle.std.specs.Prelude.{ℕ, List, Option, Some, None, [], Result, Ok}
 use Rattle.fux_pitch.specs.declared.pitch.Pitch.{Pitch}
 use Rattle.fux_text.specs.declared.fault.TextKind.{TextKind}
@@ -22,10 +23,12 @@ unfoldable pub mode_judged : Known → LineWords → Judged
 mode_judged known at = row_in mode_row at >>= λ mode. Ok known
 
 unfoldable pub voices_judged : Known → LineWords → Judged
-voices_judged known at = row_in (number_row kinds.Word 2 most_voices) at >>= λ n. Ok (record known { voices = n })
+voices_judged known at =
+    row_in (number_row kinds.Word 2 most_voices) at >>= λ n. Ok (record known { voices = n })
 
 unfoldable pub bars_judged : Known → LineWords → Judged
-bars_judged known at = row_in (number_row kinds.Bars 3 24) at >>= λ n. Ok (record known { bars = Some n })
+bars_judged known at =
+    row_in (number_row kinds.Bars 3 24) at >>= λ n. Ok (record known { bars = Some n })
 
 unfoldable pub species_judged : Known → LineWords → Judged
 species_judged known at =

@@ -1,4 +1,5 @@
--- What would be right where a fault stands: for each kind of fault a table of sentences, of which the first that fits is told.
+-- What would be right where a fault stands: for each kind of fault a table of sentences, of which the
+-- first that fits is told.
 use Rattle.std.specs.Prelude.{ℕ, ◌-◌, ◌==◌, ◌&&◌, ◌||◌, not, Bool, List, [], ◌∷◌, codes, drop, length, take, if◌then◌else◌}
 use Rattle.std.specs.List.{before_first}
 use Rattle.fux_text.specs.declared.fault.TextKind.{TextKind}
@@ -38,7 +39,7 @@ head_hint number word = first_fit (
     ∷ (begins (codes "sing"), codes "no sing line stands here: each voice has one, and the cantus firmus none")
     ∷ (begins (codes "given"), codes "given lines stand before the sing lines, and need `fux 2` in the first line")
     ∷ [])
-    (codes "another line is missing here: fux, mode, voices, bars, species, cantus, range, relax, given, sing") word
+    (codes "this line stands in the wrong place, or another one is missing above it") word
 
 -- a version
 unfoldable pub version_hint : List ℕ → List ℕ
@@ -63,9 +64,9 @@ word_hint line here word =
     else if begins (codes "mode") line then mode_hint word
     else if begins (codes "voices") line then codes "the number of voices is 2, 3 or 4"
     else if begins (codes "species") line then
-        codes "a species is 1 to 5, with its voice, as in `species 2 voice 1`: voices count from 0"
+    codes "a species is 1 to 5, with its voice, as in `species 2 voice 1`: voices count from 0"
     else if begins (codes "relax") line then
-        codes "a relax line is as `relax S4 all 1 6 100`: a rule from S4 to S26, voices, bars and a price"
+    codes "a relax line is as `relax S4 all 1 6 100`: a rule, voices, bars and a price"
     else codes "nothing stands behind this line"
 
 -- a range line, or a line where one is missing
@@ -73,7 +74,7 @@ unfoldable pub range_hint : List ℕ → List ℕ → List ℕ
 range_hint line word =
     if not (begins (codes "range") line) then codes "a voice has no range yet: `range V LOW HIGH`"
     else if begins_within 65 71 word then codes "the lower pitch comes first: `range V LOW HIGH`"
-    else codes "a range line is `range V LOW HIGH`, of a voice that isn't the cantus firmus's; its later ones have bars"
+    else codes "a range line is `range V LOW HIGH`, with bars in a voice's later ones alone"
 
 -- a cantus
 unfoldable pub cantus_hint : List ℕ → List ℕ
@@ -86,13 +87,13 @@ cantus_hint word = first_fit (
 -- the voice of a `sing` line
 unfoldable pub sing_hint : List ℕ → List ℕ
 sing_hint word = first_fit (
-    (is_empty, codes "a sing line is missing: there is one for each voice but the cantus firmus, or none at all")
+    (is_empty, codes "a sing line is missing: each voice but the cantus firmus has one")
     ∷ (has 58, codes "no sign stands behind the number: `sing 1`")
     ∷ [])
     (codes "voices count from 0, and sing lines go from the lowest, without the cantus firmus") word
 
--- what would be right, by the kind of a fault, the number of its line, the line, what stands before the place and from there on,
--- and the word at the place
+-- what would be right, by the kind of a fault, the number of its line, the line, what stands before
+-- the place and from there on, and the word at the place
 abbrev pub hint_of : TextKind → ℕ → List ℕ → List ℕ → List ℕ → List ℕ → List ℕ
 hint_of kinds.TooLong number line before here word = codes "the file has more than 65536 bytes: a file is one exercise"
 hint_of kinds.NotUtf8 number line before here word = utf8_hint here
@@ -105,7 +106,7 @@ hint_of kinds.Bars number line before here word = codes "the number of bars is f
 hint_of kinds.Range number line before here word = range_hint line word
 hint_of kinds.Cantus number line before here word = cantus_hint word
 hint_of kinds.Tie number line before here word =
-    codes "_ holds a note over a bar line: within a bar write one longer note, and behind a rest a note or r"
+    codes "_ holds a note over a bar line: within a bar write one longer note"
 hint_of kinds.Sing number line before here word = sing_hint word
 hint_of kinds.Given number line before here word = codes "the voice has another note than its given line here"
 
@@ -120,4 +121,4 @@ before_column column line = take (column - 1) line
 unfoldable pub hint : FoundFault → List ℕ → List ℕ
 hint fault line =
     hint_of fault.kind fault.line line (before_column fault.column line) (from_column fault.column line)
-        (before_first is_blank (from_column fault.column line))
+    (before_first is_blank (from_column fault.column line))

@@ -46,9 +46,9 @@ unfoldable pub length_hint : List ℕ → List ℕ → List ℕ
 length_hint before word = first_fit (
     (λ w. not (has 58 before), codes "no bar line stands before the first bar")
     ∷ (has 58, codes "a length is 1 to 8: a whole bar is 8, a half 4")
-    ∷ (is_empty, codes "the lengths of the last bar don't sum to 8: a bar line is missing, or they don't count eighths of a bar")
+    ∷ (is_empty, codes "the last bar hasn't 8 slots: a bar line is missing, or lengths aren't eighths of a bar")
     ∷ [])
-    (codes "the lengths of this bar don't sum to 8: a bar line is missing before, or they don't count eighths of a bar") word
+    (codes "this bar hasn't 8 slots: a bar line is missing, or lengths aren't eighths of a bar") word
 
 -- bars that are too many or too few
 unfoldable pub bar_line_hint : List ℕ → List ℕ

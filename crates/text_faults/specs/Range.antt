@@ -25,12 +25,14 @@ has_bars at = is_some (next_word (next_word (next_word (first_word at))))
 abbrev pub free_place : Known → Place TextKind ℕ
 free_place known = named_place kinds.Range kinds.Range (voice_but known.cantus_voice known.voices)
 
-abbrev pub lone_range : Known → ℕ → Bool → Row TextKind RangeLine
-lone_range known bars later =
-    Row.place (free_place known) (λ v.
+abbrev pub range_behind : ℕ → Bool → ℕ → Row TextKind RangeLine
+range_behind bars later v =
     Row.place (pitch_place kinds.Range) (λ low.
     Row.place (high_place low) (λ high.
-    bars_row later bars (record { voice = v; low = low; high = high; bars = None }))))
+    bars_row later bars (record { voice = v; low = low; high = high; bars = None })))
+
+abbrev pub lone_range : Known → ℕ → Bool → Row TextKind RangeLine
+lone_range known bars later = Row.place (free_place known) (λ v. range_behind bars later v)
 
 -- as many bars as there may be where no line tells it
 abbrev pub bars_of : Option ℕ → ℕ
@@ -38,4 +40,5 @@ bars_of None = 24
 bars_of (Some bars) = bars
 
 unfoldable pub range_judged : Known → LineWords → Judged
-range_judged known at = row_in (lone_range known (bars_of known.bars) (has_bars at)) at >>= λ line. Ok known
+range_judged known at =
+    row_in (lone_range known (bars_of known.bars) (has_bars at)) at >>= λ line. Ok known

@@ -67,7 +67,8 @@ fn named_judged(
     words: Words<'_>,
 ) -> Result<Known, TextFault>
     requires { HasBars known }
-    ensures value { Gives (λ x. x) result (named_judged known (word_of word.entry) (words_of words.entry)) }
+    ensures value { Gives (λ x. x) result
+        (named_judged known (word_of word.entry) (words_of words.entry)) }
     ensures bars { IfOk result HasBars }
 {
     if is_same(word.text, b"sing") {
@@ -118,8 +119,10 @@ fn take_line(
     line: Words<'_>,
 ) -> Result<Known, Memory>
     requires { HasBars known }
-    ensures known { IfOk result (λ more. more ≡ known_behind known (judged known (words_of line.entry))) }
-    ensures told { OnOk result (faults.new.items ≡ faults.old.items ++ told_of first (judged known (words_of line.entry))) }
+    ensures known { IfOk result (λ more.
+        more ≡ known_behind known (judged known (words_of line.entry))) }
+    ensures told { OnOk result
+        (faults.new.items ≡ faults.old.items ++ told_of first (judged known (words_of line.entry))) }
     ensures bars { IfOk result HasBars }
 {
     match judged(alloc, known, line) {

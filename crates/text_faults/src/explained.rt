@@ -24,12 +24,7 @@ fn place_line(alloc: Global, name: &str, fault: FoundFault) -> Result<String, Me
 }
 
 /// Appends the line that tells a fault's place and kind.
-fn put_place(
-    alloc: Global,
-    out: &mut Vec<u8>,
-    name: &str,
-    fault: FoundFault,
-) -> Result<(), Memory>
+fn put_place(alloc: Global, out: &mut Vec<u8>, name: &str, fault: FoundFault) -> Result<(), Memory>
     ensures { OnOk result (out.new.items ≡ out.old.items ++ place_line name.now fault) }
 {
     out.extend_from_slice(place_line(alloc, name, fault)?.as_bytes())?;
@@ -55,7 +50,8 @@ fn put_fault(
     bytes: &[u8],
     fault: FoundFault,
 ) -> Result<(), Memory>
-    ensures { OnOk result (out.new.items ≡ out.old.items ++ explained_fault name.now bytes.now fault) }
+    ensures { OnOk result
+        (out.new.items ≡ out.old.items ++ explained_fault name.now bytes.now fault) }
 {
     let line = line_at(bytes, fault.line);
     put_place(alloc, out, name, fault)?;

@@ -17,13 +17,9 @@ use text_lines::Words;
 
 /// Reads a number from `least` to `most`, with which the line ends.
 #[tactic(auto, unfolding(text_lines::specs::Rows::row_in, text_lines::specs::Reading::number_in))]
-fn number_in(
-    words: Words<'_>,
-    kind: TextKind,
-    least: u8,
-    most: u8,
-) -> Result<u8, TextFault>
-    ensures value { Gives (λ x. x) result (row_in (number_row kind least most) (words_of words.entry)) }
+fn number_in(words: Words<'_>, kind: TextKind, least: u8, most: u8) -> Result<u8, TextFault>
+    ensures value { Gives (λ x. x) result
+        (row_in (number_row kind least most) (words_of words.entry)) }
     ensures least { IfOk result (λ n. least ≤ n) }
 {
     let (number, words) = words.small_number(kind, least, most)?;
@@ -119,7 +115,8 @@ pub fn species_judged(known: Known, words: Words<'_>) -> Result<Known, TextFault
 
 /// Reads a pitch. The kind is of the fault where the word is missing.
 pub fn pitch_in(words: Words<'_>, kind: TextKind) -> Result<(Pitch, Words<'_>), TextFault>
-    ensures { Gives (λ x. (x.0, words_of x.1)) result (place_in (pitch_place kind) (words_of words.entry)) }
+    ensures { Gives (λ x. (x.0, words_of x.1)) result
+        (place_in (pitch_place kind) (words_of words.entry)) }
 {
     let (word, words) = words.next(kind)?;
     match parse_pitch(word.text) {
@@ -135,7 +132,8 @@ fn pitches_in(
     voice: u8,
     count: u8,
 ) -> Result<(u8, Vec<Pitch>), TextFault>
-    ensures { Gives (λ x. (x.0, x.1.items)) result (row_in (pitches_row voice count []) (words_of words.entry)) }
+    ensures { Gives (λ x. (x.0, x.1.items)) result
+        (row_in (pitches_row voice count []) (words_of words.entry)) }
 {
     let mut pitches = Vec::new(alloc);
     let mut rest = words;
@@ -156,7 +154,8 @@ fn lone_cantus(
     words: Words<'_>,
     bars: u8,
 ) -> Result<(u8, Vec<Pitch>), TextFault>
-    ensures { Gives (λ x. (x.0, x.1.items)) result (row_in (lone_cantus known bars) (words_of words.entry)) }
+    ensures { Gives (λ x. (x.0, x.1.items)) result
+        (row_in (lone_cantus known bars) (words_of words.entry)) }
 {
     let (word, words) = words.next(TextKind::Cantus)?;
     let Some(voice) = voice_but(word.text, known.species_voice, known.voices) else {

@@ -63,7 +63,7 @@ fn head_hint(number: u32, word: &[u8]) -> &'static str
     } else if begins(b"given", word) {
         "given lines stand before the sing lines, and need `fux 2` in the first line"
     } else {
-        "another line is missing here: fux, mode, voices, bars, species, cantus, range, relax, given, sing"
+        "this line stands in the wrong place, or another one is missing above it"
     }
 }
 
@@ -109,7 +109,7 @@ fn word_hint(line: &[u8], here: &[u8], word: &[u8]) -> &'static str
     } else if begins(b"species", line) {
         "a species is 1 to 5, with its voice, as in `species 2 voice 1`: voices count from 0"
     } else if begins(b"relax", line) {
-        "a relax line is as `relax S4 all 1 6 100`: a rule from S4 to S26, voices, bars and a price"
+        "a relax line is as `relax S4 all 1 6 100`: a rule, voices, bars and a price"
     } else {
         "nothing stands behind this line"
     }
@@ -125,7 +125,7 @@ fn range_hint(line: &[u8], word: &[u8]) -> &'static str
     } else if begins_within(b'A', b'G', word) {
         "the lower pitch comes first: `range V LOW HIGH`"
     } else {
-        "a range line is `range V LOW HIGH`, of a voice that isn't the cantus firmus's; its later ones have bars"
+        "a range line is `range V LOW HIGH`, with bars in a voice's later ones alone"
     }
 }
 
@@ -149,7 +149,7 @@ fn sing_hint(word: &[u8]) -> &'static str
     ensures { result.now ≡ sing_hint word.now }
 {
     if word.is_empty() {
-        "a sing line is missing: there is one for each voice but the cantus firmus, or none at all"
+        "a sing line is missing: each voice but the cantus firmus has one"
     } else if has(b':', word) {
         "no sign stands behind the number: `sing 1`"
     } else {
@@ -176,9 +176,7 @@ pub fn hint(fault: FoundFault, line: &[u8]) -> &'static str
         TextKind::Bars => "the number of bars is from 3 to 24",
         TextKind::Range => range_hint(line, word),
         TextKind::Cantus => cantus_hint(word),
-        TextKind::Tie => {
-            "_ holds a note over a bar line: within a bar write one longer note, and behind a rest a note or r"
-        }
+        TextKind::Tie => { "_ holds a note over a bar line: within a bar write one longer note" }
         TextKind::Sing => sing_hint(word),
         TextKind::Given => "the voice has another note than its given line here",
     }

@@ -89,9 +89,9 @@ pub fn length_hint(before: &[u8], word: &[u8]) -> &'static str
     } else if has(b':', word) {
         "a length is 1 to 8: a whole bar is 8, a half 4"
     } else if word.is_empty() {
-        "the lengths of the last bar don't sum to 8: a bar line is missing, or they don't count eighths of a bar"
+        "the last bar hasn't 8 slots: a bar line is missing, or lengths aren't eighths of a bar"
     } else {
-        "the lengths of this bar don't sum to 8: a bar line is missing before, or they don't count eighths of a bar"
+        "this bar hasn't 8 slots: a bar line is missing, or lengths aren't eighths of a bar"
     }
 }
 

@@ -6,7 +6,7 @@ ghost use Rattle.text_lines.specs.Rows.{place_in, row_in};
 ghost use Rattle.text_lines.specs.Words.{words_of};
 ghost use Rattle.fux_text.specs.Ranges.{bars_row, high_place};
 ghost use Rattle.text_faults.specs.Known.{HasBars};
-ghost use Rattle.text_faults.specs.Range.{bars_of, free_place, has_bars, lone_range, range_judged};
+ghost use Rattle.text_faults.specs.Range.{bars_of, free_place, has_bars, lone_range, range_behind, range_judged};
 
 use crate::head_lines::pitch_in;
 use crate::known::{Known, voice_but};
@@ -34,7 +34,8 @@ fn has_bars(words: Words<'_>) -> bool
 
 /// Reads HIGH, whose key isn't below that of LOW.
 fn high_in(words: Words<'_>, low: Pitch) -> Result<(Pitch, Words<'_>), TextFault>
-    ensures { Gives (λ x. (x.0, words_of x.1)) result (place_in (high_place low) (words_of words.entry)) }
+    ensures { Gives (λ x. (x.0, words_of x.1)) result
+        (place_in (high_place low) (words_of words.entry)) }
 {
     let (word, words) = words.next(TextKind::Range)?;
     let Some(high) = parse_pitch(word.text) else {
@@ -74,7 +75,8 @@ fn bars_in(words: Words<'_>, later: bool, bars: u8, line: RangeLine) -> Result<R
 
 /// Reads any voice but that of the cantus.
 fn voice_in(known: Known, words: Words<'_>) -> Result<(u8, Words<'_>), TextFault>
-    ensures { Gives (λ x. (x.0, words_of x.1)) result (place_in (free_place known) (words_of words.entry)) }
+    ensures { Gives (λ x. (x.0, words_of x.1)) result
+        (place_in (free_place known) (words_of words.entry)) }
 {
     let (word, words) = words.next(TextKind::Range)?;
     match voice_but(word.text, known.cantus_voice, known.voices) {
@@ -93,17 +95,12 @@ fn bars_of(bars: Option<u8>) -> u8
     }
 }
 
-/// Reads the words of a range line of any voice but that of the cantus.
+/// Reads the words of a range line behind its voice.
 #[tactic(auto, unfolding(text_lines::specs::Rows::row_in))]
-fn lone_range(
-    known: Known,
-    words: Words<'_>,
-    bars: u8,
-    later: bool,
-) -> Result<RangeLine, TextFault>
-    ensures { Gives (λ x. x) result (row_in (lone_range known bars later) (words_of words.entry)) }
+fn range_behind(words: Words<'_>, voice: u8, bars: u8, later: bool) -> Result<RangeLine, TextFault>
+    ensures { Gives (λ x. x) result
+        (row_in (range_behind bars later voice) (words_of words.entry)) }
 {
-    let (voice, words) = voice_in(known, words)?;
     let (low, words) = pitch_in(words, TextKind::Range)?;
     let (high, words) = high_in(words, low)?;
     let line = RangeLine {
@@ -113,6 +110,15 @@ fn lone_range(
         bars: None,
     };
     bars_in(words, later, bars, line)
+}
+
+/// Reads the words of a range line of any voice but that of the cantus.
+#[tactic(auto, unfolding(text_lines::specs::Rows::row_in))]
+fn lone_range(known: Known, words: Words<'_>, bars: u8, later: bool) -> Result<RangeLine, TextFault>
+    ensures { Gives (λ x. x) result (row_in (lone_range known bars later) (words_of words.entry)) }
+{
+    let (voice, words) = voice_in(known, words)?;
+    range_behind(words, voice, bars, later)
 }
 
 /// Judges a range line.
