@@ -45,12 +45,7 @@ fn faults_output(
 }
 
 /// The faults of a text that is refused.
-fn refused_output(
-    alloc: Global,
-    name: &str,
-    shown: &[u8],
-    refusal: Refusal,
-) -> Result<Output, Stop>
+fn refused_output(alloc: Global, name: &str, shown: &[u8], refusal: Refusal) -> Result<Output, Stop>
     ensures { (bytes : List ℕ) → shown.now ≡ shown_of bytes → RefusesText bytes refusal
         → Answers (Explains name.now bytes) result }
 {
