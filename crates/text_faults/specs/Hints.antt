@@ -8,6 +8,7 @@ use Rattle.fux_text.specs.Sing.{is_colon}
 use Rattle.text_lines.specs.Words.{is_blank}
 use Rattle.text_faults.specs.declared.found.FoundFault.{FoundFault}
 use Rattle.text_faults.specs.ItemHints.{bar_line_hint, item_hint, length_hint, pitch_hint}
+use Rattle.text_faults.specs.MarkedLines.{from_ink}
 use Rattle.text_faults.specs.WordTests.{begins, begins_within, first_fit, has, is_empty}
 
 -- where bytes stop being UTF-8
@@ -92,8 +93,8 @@ sing_hint word = first_fit (
     ∷ [])
     (codes "voices count from 0, and sing lines go from the lowest, without the cantus firmus") word
 
--- what would be right, by the kind of a fault, the number of its line, the line, what stands before
--- the place and from there on, and the word at the place
+-- what would be right, by the kind of a fault, the number of its line, the line from its first word
+-- on, what stands before the place and from there on, and the word at the place
 abbrev pub hint_of : TextKind → ℕ → List ℕ → List ℕ → List ℕ → List ℕ → List ℕ
 hint_of kinds.TooLong number line before here word = codes "the file has more than 65536 bytes: a file is one exercise"
 hint_of kinds.NotUtf8 number line before here word = utf8_hint here
@@ -120,5 +121,5 @@ before_column column line = take (column - 1) line
 -- what would be right at a fault in a line
 unfoldable pub hint : FoundFault → List ℕ → List ℕ
 hint fault line =
-    hint_of fault.kind fault.line line (before_column fault.column line) (from_column fault.column line)
+    hint_of fault.kind fault.line (from_ink line) (before_column fault.column line) (from_column fault.column line)
     (before_first is_blank (from_column fault.column line))

@@ -1,12 +1,20 @@
 -- A line of a text with a caret below one of its places.
-use Rattle.std.specs.Prelude.{ℕ, zero, suc, ◌-◌, ◌==◌, ◌||◌, Bool, false, List, [], ◌∷◌, ◌++◌, chars, length, map, replicate, take, nat_lt, if◌then◌else◌}
-use Rattle.std.specs.List.{after_first, before_first}
+use Rattle.std.specs.Prelude.{ℕ, zero, suc, ◌-◌, ◌==◌, ◌||◌, Bool, false, not, List, [], ◌∷◌, ◌++◌, chars, drop, length, map, replicate, take, nat_lt, if◌then◌else◌}
+use Rattle.std.specs.List.{after_first, before_first, position_or_len}
 use Rattle.std.specs.Str.{is_utf8}
+use Rattle.text_lines.specs.Words.{is_blank}
 use Rattle.unicode_width.specs.Width.{str_width}
 
 -- a line feed
 abbrev pub is_feed : ℕ → Bool
 is_feed b = b == 10
+
+-- what stands from the first byte that is no blank on
+abbrev pub is_inked : ℕ → Bool
+is_inked b = not (is_blank b)
+
+unfoldable pub from_ink : List ℕ → List ℕ
+from_ink line = drop (position_or_len is_inked line) line
 
 -- what stands behind so many line feeds
 abbrev pub behind_feeds : ℕ → List ℕ → List ℕ
@@ -17,11 +25,12 @@ behind_feeds (suc n) bytes = behind_feeds n (after_first is_feed bytes)
 unfoldable pub line_at : ℕ → List ℕ → List ℕ
 line_at number bytes = before_first is_feed (behind_feeds (number - 1) bytes)
 
--- a byte of a line as it is shown: a space for a control character, so that each takes one column of a terminal
+-- a byte of a line as it is shown: a space for a control character, so that each takes one column
 abbrev pub shown_byte : ℕ → ℕ
 shown_byte b = if nat_lt b 32 || (b == 127) then 32 else b
 
--- how many columns of a terminal bytes take: those of their text, and one for each byte where they are no UTF-8
+-- how many columns of a terminal bytes take: those of their text, or one for each byte where they
+-- are no UTF-8
 unfoldable pub columns_of : List ℕ → ℕ
 columns_of bytes = if is_utf8 bytes then str_width false (chars bytes) else length bytes
 

@@ -5,7 +5,7 @@ ghost use Rattle.text_faults.specs.Hints.{cantus_hint, head_hint, hint, mode_hin
 
 use crate::found::FoundFault;
 use crate::item_hints::{bar_line_hint, item_hint, length_hint, pitch_hint};
-use crate::marked_lines::{before_colon, before_column, from_column, word_at};
+use crate::marked_lines::{before_colon, before_column, from_column, from_ink, word_at};
 use crate::word_tests::{begins, begins_within, has};
 use fux_text::TextKind;
 
@@ -162,6 +162,7 @@ fn sing_hint(word: &[u8]) -> &'static str
 pub fn hint(fault: FoundFault, line: &[u8]) -> &'static str
     ensures { result.now ≡ hint fault line.now }
 {
+    let words = from_ink(line);
     let before = before_column(line, fault.column);
     let here = from_column(line, fault.column);
     let word = word_at(here);
@@ -169,12 +170,12 @@ pub fn hint(fault: FoundFault, line: &[u8]) -> &'static str
         TextKind::TooLong => "the file has more than 65536 bytes: a file is one exercise",
         TextKind::NotUtf8 => utf8_hint(here),
         TextKind::Head => head_hint(fault.line, word),
-        TextKind::Word => word_hint(line, here, word),
+        TextKind::Word => word_hint(words, here, word),
         TextKind::Pitch => pitch_hint(before_colon(word)),
         TextKind::Length => length_hint(before, word),
         TextKind::BarLine => bar_line_hint(word),
         TextKind::Bars => "the number of bars is from 3 to 24",
-        TextKind::Range => range_hint(line, word),
+        TextKind::Range => range_hint(words, word),
         TextKind::Cantus => cantus_hint(word),
         TextKind::Tie => { "_ holds a note over a bar line: within a bar write one longer note" }
         TextKind::Sing => sing_hint(word),

@@ -4,7 +4,7 @@ ghost use Rattle.std.specs.Prelude.{◌≡◌, ◌<◌, ◌-◌, ◌++◌, IfSom
 ghost use Rattle.std.specs.List.{after_first, before_first};
 ghost use Rattle.fux_text.specs.Sing.{is_colon};
 ghost use Rattle.text_lines.specs.Words.{is_blank};
-ghost use Rattle.text_faults.specs.MarkedLines.{behind_feeds, caret_row, columns_of, is_feed, line_at, marked_line, shown_byte};
+ghost use Rattle.text_faults.specs.MarkedLines.{behind_feeds, caret_row, columns_of, from_ink, is_feed, is_inked, line_at, marked_line, shown_byte};
 
 use fux_pitch::Memory;
 use unicode_width::UnicodeWidthStr;
@@ -25,12 +25,31 @@ fn blank_in(text: &[u8]) -> Option<usize>
     text.iter().position(|byte| *byte == b' ' || *byte == b'\t')
 }
 
+/// The place of the first byte that is no blank.
+fn ink_in(text: &[u8]) -> Option<usize>
+    ensures first { result ≡ position is_inked text.now }
+    ensures within { IfSome result (λ place. place < length text.now) }
+{
+    text.iter().position(|byte| *byte != b' ' && *byte != b'\t')
+}
+
 /// The place of the first colon.
 fn colon_in(text: &[u8]) -> Option<usize>
     ensures first { result ≡ position is_colon text.now }
     ensures within { IfSome result (λ place. place < length text.now) }
 {
     text.iter().position(|byte| *byte == b':')
+}
+
+/// What stands from the first byte that is no blank on.
+#[tactic(auto, unfolding(crate::specs::MarkedLines::from_ink))]
+pub fn from_ink(line: &[u8]) -> &[u8]
+    ensures { result.now ≡ from_ink line.now }
+{
+    match ink_in(line) {
+        Some(start) => &line[start..],
+        None => &[],
+    }
 }
 
 /// What stands before the first line feed.
