@@ -1,2 +1,0 @@
-use Rattle.works.proofs.ExplainLemmas.{explains_faults, refused_text}
-use Rattle.works.proofs.explaining.refused_output.Goals as goal
