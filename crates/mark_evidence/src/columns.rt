@@ -1,7 +1,7 @@
 //! From which column to which a voice's notes count for a break.
 
 ghost use Rattle.std.specs.Prelude.{◌≡◌, ◌<◌, ◌≤◌, length};
-ghost use Rattle.mark_evidence.specs.Evidence as words;
+ghost use Rattle.mark_evidence.specs.Notes as words;
 
 use fux_grid::{Cell, Exercise, Score, note_behind, onset_ahead, species_of};
 
@@ -19,7 +19,7 @@ fn start_before(score: &Score, v: u8, n: usize) -> usize
 }
 
 /// Where the note of a voice starts that sounds at a column.
-fn latest_start(score: &Score, v: u8, i: usize) -> usize
+pub fn latest_start(score: &Score, v: u8, i: usize) -> usize
     requires { i < length score.now.columns }
     ensures value { result ≡ words.latest_start score.now.columns v i }
     ensures bound { result ≤ length score.now.columns }
@@ -29,7 +29,7 @@ fn latest_start(score: &Score, v: u8, i: usize) -> usize
 }
 
 /// Where the note before that starts.
-fn previous_start(score: &Score, v: u8, i: usize) -> usize
+pub fn previous_start(score: &Score, v: u8, i: usize) -> usize
     requires { i < length score.now.columns }
     ensures value { result ≡ words.previous_start score.now.columns v i }
     ensures bound { result ≤ length score.now.columns }
@@ -38,7 +38,7 @@ fn previous_start(score: &Score, v: u8, i: usize) -> usize
 }
 
 /// Where the note before that one starts.
-fn third_start(score: &Score, v: u8, i: usize) -> usize
+pub fn third_start(score: &Score, v: u8, i: usize) -> usize
     requires { i < length score.now.columns }
     ensures { result ≡ words.third_start score.now.columns v i }
 {
@@ -46,7 +46,7 @@ fn third_start(score: &Score, v: u8, i: usize) -> usize
 }
 
 /// Where the first note of a voice behind a column starts; the column, where none does.
-fn next_start(score: &Score, v: u8, i: usize) -> usize
+pub fn next_start(score: &Score, v: u8, i: usize) -> usize
     requires { i < length score.now.columns }
     ensures value { result ≡ words.next_start score.now.columns v i }
     ensures bound { result < length score.now.columns }
@@ -62,7 +62,14 @@ fn next_start(score: &Score, v: u8, i: usize) -> usize
 fn has_two_moves(rule: u8) -> bool
     ensures { result ≡ words.has_two_moves rule }
 {
-    rule == 6 || rule == 7 || rule == 8 || rule == 22
+    rule == 6 || rule == 7 || rule == 22
+}
+
+/// Whether the note before doesn't count for a rule.
+fn is_of_one_note(rule: u8) -> bool
+    ensures { result ≡ words.is_of_one_note rule }
+{
+    rule == 9 || rule == 20 || rule == 28
 }
 
 /// The first column of which a voice's notes count for a break at column `i`.
@@ -73,11 +80,11 @@ pub fn first_column(rule: u8, score: &Score, v: u8, i: usize) -> usize
     if rule == 3 {
         return i;
     }
-    if rule == 20 || rule == 28 {
-        return latest_start(score, v, i);
-    }
     if rule == 18 {
         return latest_start(score, v, i.saturating_sub(8));
+    }
+    if is_of_one_note(rule) {
+        return latest_start(score, v, i);
     }
     if has_two_moves(rule) {
         return third_start(score, v, i);

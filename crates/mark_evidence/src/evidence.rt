@@ -4,16 +4,16 @@ ghost use Rattle.std.specs.Prelude.{◌≡◌, ◌<◌, ◌++◌, ◌∷◌, [],
 ghost use Rattle.std.specs.List.{flat_map};
 ghost use Rattle.score_marker.specs.Marks.{has_voice};
 ghost use Rattle.mark_evidence.specs.Evidence as words;
-ghost use Rattle.mark_evidence.specs.Evidence.{evidence, evidence_at, line_of_two, pair_line, voice_line, voice_lines};
+ghost use Rattle.mark_evidence.specs.Evidence.{evidence, evidence_at, line_of_one, line_of_two, set_line, single_line, voice_line, voice_lines};
 
 use crate::lines::{put_notes, put_sounding, rest_words};
 use crate::notes::notes_that_count;
-use crate::sounding::{sounded_first, sounded_then};
+use crate::sounding::{sounded_first, sounded_then, sung_first, sung_then};
 use crate::voices::has_voice;
 use crate::words::voice_name;
 use fux_grid::{Exercise, Score, VoiceSet};
 use fux_pitch::Memory;
-use rule_law::pair_of;
+use rule_law::{pair_of, voice_of};
 use score_marker::Mark;
 use std::alloc::Global;
 
@@ -104,9 +104,28 @@ fn put_line_of_two(
     put_sounding(out, first, next)
 }
 
-/// Appends the line of the intervals of the two voices of a set, where it has two.
-fn put_pair(
+/// Appends the line of the intervals of one voice.
+fn put_line_of_one(
     out: &mut String,
+    ex: &Exercise,
+    rule: u8,
+    score: &Score,
+    i: usize,
+    v: u8,
+) -> Result<(), Memory>
+    requires { i < length score.now.columns }
+    ensures { OnOk result (string_bytes out.new ≡ string_bytes out.old
+        ++ line_of_one ex.now rule score.now.columns i v) }
+{
+    let first = sung_first(rule, score, v, i);
+    let next = sung_then(ex, rule, score, v, i);
+    put_sounding(out, first, next)
+}
+
+/// Appends the line of the intervals of a set of one voice.
+fn put_single(
+    out: &mut String,
+    ex: &Exercise,
     rule: u8,
     score: &Score,
     i: usize,
@@ -114,11 +133,30 @@ fn put_pair(
 ) -> Result<(), Memory>
     requires { i < length score.now.columns }
     ensures { OnOk result (string_bytes out.new ≡ string_bytes out.old
-        ++ pair_line rule score.now.columns i set.bits) }
+        ++ single_line ex.now rule score.now.columns i set.bits) }
+{
+    match voice_of(set) {
+        Some(v) => put_line_of_one(out, ex, rule, score, i, v),
+        None => Ok(()),
+    }
+}
+
+/// Appends the line of the intervals of a set of one voice or two.
+fn put_set(
+    out: &mut String,
+    ex: &Exercise,
+    rule: u8,
+    score: &Score,
+    i: usize,
+    set: VoiceSet,
+) -> Result<(), Memory>
+    requires { i < length score.now.columns }
+    ensures { OnOk result (string_bytes out.new ≡ string_bytes out.old
+        ++ set_line ex.now rule score.now.columns i set.bits) }
 {
     match pair_of(set) {
         Some((v, w)) => put_line_of_two(out, rule, score, i, v, w),
-        None => Ok(()),
+        None => put_single(out, ex, rule, score, i, set),
     }
 }
 
@@ -136,7 +174,7 @@ fn put_at(
         ++ evidence_at ex.now score.now.columns i mark.now) }
 {
     put_voices(alloc, out, ex, mark.rule, score, i, mark.voices)?;
-    put_pair(out, mark.rule, score, i, mark.voices)
+    put_set(out, ex, mark.rule, score, i, mark.voices)
 }
 
 /// The column of a mark's place.

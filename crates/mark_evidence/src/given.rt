@@ -79,12 +79,7 @@ fn put_told(
 }
 
 /// Appends the sentences of cells of a bar that is given, from its first one on.
-fn put_cells(
-    out: &mut String,
-    voices: u8,
-    line: &GivenBar,
-    cells: &[Given],
-) -> Result<(), Memory>
+fn put_cells(out: &mut String, voices: u8, line: &GivenBar, cells: &[Given]) -> Result<(), Memory>
     ensures { OnOk result (string_bytes out.new ≡ string_bytes out.old
         ++ given_from voices line.now Blank 0 cells.now) }
 {

@@ -6,6 +6,7 @@ mod asked;
 mod columns;
 mod evidence;
 mod explained;
+mod far;
 mod given;
 mod intervals;
 mod lines;

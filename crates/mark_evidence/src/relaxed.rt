@@ -62,7 +62,10 @@ fn put_line(out: &mut String, voices: u8, line: &Relax) -> Result<(), Memory>
     let from = line.from;
     let to = line.to;
     let price = line.price;
-    write!(out, "S{rule} may be broken in bars {from} to {to} at a price of {price}")?;
+    write!(
+        out,
+        "S{rule} may be broken in bars {from} to {to} at a price of {price}"
+    )?;
     put_voices(out, voices, line.voices)?;
     out.push_str(".\n")?;
     Ok(())

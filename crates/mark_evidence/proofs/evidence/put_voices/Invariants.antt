@@ -10,7 +10,7 @@ abbrev pub invariant-loop-v : goal.invariant-loop-v
 invariant-loop-v l =
     string_bytes l.out
     ++ flat_map (voice_line l.ex l.rule l.score.columns l.i)
-        (kept_from (has_voice l.set.bits) l.v 4)
+    (kept_from (has_voice l.set.bits) l.v 4)
     ≡ string_bytes l.fn.out
     ++ flat_map (voice_line l.ex l.rule l.score.columns l.i)
-        (kept_from (has_voice l.set.bits) 0 4)
+    (kept_from (has_voice l.set.bits) 0 4)
