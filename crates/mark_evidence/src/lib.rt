@@ -2,10 +2,10 @@
 //! the break.
 #![tactic(auto)]
 
-mod asked;
+mod asking;
 mod columns;
 mod evidence;
-mod explained;
+mod explaining;
 mod far;
 mod given;
 mod intervals;
@@ -17,5 +17,5 @@ mod sounding;
 mod voices;
 mod words;
 
-pub use asked::asked;
-pub use explained::explained;
+pub use asking::asked;
+pub use explaining::explained;

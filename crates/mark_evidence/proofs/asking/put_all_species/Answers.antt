@@ -2,7 +2,7 @@ use Rattle.std.proofs.Common.{string_bytes}
 use Rattle.rule_law.specs.Voices.{is_free}
 use Rattle.score_marker.proofs.VoiceText.{voice_written}
 use Rattle.mark_evidence.specs.Asked.{species_sentence}
-use Rattle.mark_evidence.proofs.asked.put_all_species.Goals as goal
+use Rattle.mark_evidence.proofs.asking.put_all_species.Goals as goal
 
 pub loop-v-preserved : goal.loop-v-preserved
 loop-v-preserved c =

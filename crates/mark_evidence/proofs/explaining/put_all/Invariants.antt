@@ -1,7 +1,7 @@
 use Rattle.std.proofs.Common.{◌≡◌, ◌++◌, string_bytes, drop}
 use Rattle.std.specs.List.{flat_map}
 use Rattle.mark_evidence.specs.Explained.{explained_mark}
-use Rattle.mark_evidence.proofs.explained.put_all.Given as goal
+use Rattle.mark_evidence.proofs.explaining.put_all.Given as goal
 
 -- what is written so far, and what is left, are what is to be written
 abbrev pub invariant-loop-mark : goal.invariant-loop-mark

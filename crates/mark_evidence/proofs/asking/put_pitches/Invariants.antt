@@ -1,6 +1,6 @@
 use Rattle.std.proofs.Common.{◌≡◌, ◌++◌, string_bytes, drop}
 use Rattle.mark_evidence.specs.Asked.{pitches_text}
-use Rattle.mark_evidence.proofs.asked.put_pitches.Given as goal
+use Rattle.mark_evidence.proofs.asking.put_pitches.Given as goal
 
 -- what is written so far, and what is left, are what is to be written
 abbrev pub invariant-loop-pitch : goal.invariant-loop-pitch

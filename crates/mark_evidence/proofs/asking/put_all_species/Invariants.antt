@@ -3,7 +3,7 @@ use Rattle.std.specs.List.{flat_map}
 use Rattle.rule_law.specs.Voices.{is_free}
 use Rattle.score_marker.proofs.VoiceText.{kept_from}
 use Rattle.mark_evidence.specs.Asked.{species_sentence}
-use Rattle.mark_evidence.proofs.asked.put_all_species.Given as goal
+use Rattle.mark_evidence.proofs.asking.put_all_species.Given as goal
 
 -- what is written so far, and the voices that are left, are what is to be written
 abbrev pub invariant-loop-v : goal.invariant-loop-v
