@@ -27,11 +27,15 @@ mode_name Mixolydian = codes "mixolydian"
 mode_name Aeolian = codes "aeolian"
 mode_name Ionian = codes "ionian"
 
--- the mode, and how many bars and voices there are
-unfoldable pub extent_sentence : Exercise → List ℕ
-extent_sentence ex =
-    codes "The exercise is in the " ++ mode_name ex.mode ++ codes " mode, with "
-    ++ decimal ex.bars ++ codes " bars and " ++ decimal ex.voices ++ codes " voices.\n"
+-- the mode
+unfoldable pub mode_told : Mode → List ℕ
+mode_told mode = codes "The exercise is in the " ++ mode_name mode ++ codes " mode.\n"
+
+-- how many bars and voices there are
+unfoldable pub extent_told : Exercise → List ℕ
+extent_told ex =
+    codes "It has " ++ decimal ex.bars ++ codes " bars and " ++ decimal ex.voices
+    ++ codes " voices.\n"
 
 -- pitches, each behind a space
 abbrev pub pitches_text : List Pitch → List ℕ
@@ -60,11 +64,15 @@ bars_words None = codes "."
 bars_words (Some bars) =
     codes " in bars " ++ decimal bars.0 ++ codes " to " ++ decimal bars.1 ++ codes "."
 
+-- the two ends of a range
+unfoldable pub ends_words : Pitch → Pitch → List ℕ
+ends_words low high = name_of low ++ codes " to " ++ name_of high
+
 -- a range
 unfoldable pub range_sentence : ℕ → RangeLine → List ℕ
 range_sentence voices line =
     codes "The range of the " ++ part_name voices line.voice ++ codes " voice is "
-    ++ name_of line.low ++ codes " to " ++ name_of line.high ++ bars_words line.bars ++ 10 ∷ []
+    ++ ends_words line.low line.high ++ bars_words line.bars ++ 10 ∷ []
 
 -- all ranges
 abbrev pub range_sentences : Exercise → List ℕ
@@ -134,12 +142,16 @@ relaxed_voices voices None = codes " for any voices"
 relaxed_voices voices (Some set) =
     codes " for these voices:" ++ names_text voices (voices_in set.bits)
 
+-- the rule, the bars and the price of a relax line
+unfoldable pub relax_words : Relax → List ℕ
+relax_words line =
+    codes "S" ++ decimal line.rule ++ codes " may be broken in bars " ++ decimal line.from
+    ++ codes " to " ++ decimal line.to ++ codes " at a price of " ++ decimal line.price
+
 -- a rule that is relaxed
 unfoldable pub relax_sentence : ℕ → Relax → List ℕ
 relax_sentence voices line =
-    codes "S" ++ decimal line.rule ++ codes " may be broken in bars " ++ decimal line.from
-    ++ codes " to " ++ decimal line.to ++ codes " at a price of " ++ decimal line.price
-    ++ relaxed_voices voices line.voices ++ codes ".\n"
+    relax_words line ++ relaxed_voices voices line.voices ++ codes ".\n"
 
 -- all of them
 abbrev pub relax_sentences : Exercise → List ℕ
@@ -148,5 +160,5 @@ relax_sentences ex = flat_map (relax_sentence ex.voices) ex.relax
 -- what an exercise asks
 abbrev pub asked_text : Exercise → List ℕ
 asked_text ex =
-    extent_sentence ex ++ cantus_told ex ++ species_sentences ex ++ range_sentences ex
-    ++ given_sentences ex ++ relax_sentences ex
+    mode_told ex.mode ++ extent_told ex ++ cantus_told ex ++ species_sentences ex
+    ++ range_sentences ex ++ given_sentences ex ++ relax_sentences ex

@@ -1,6 +1,7 @@
 -- The names of intervals.
 use Rattle.std.specs.Prelude.{ℕ, ◌%◌, ◌==◌, ℤ, pos, ◌-ℤ◌, int_lt, unsigned_abs, Bool, not, ◌&&◌, ◌||◌, nat_le, List, [], ◌++◌, codes, if◌then◌else◌}
 use Rattle.std.specs.Ordering.{int_eq}
+use Rattle.fux_pitch.specs.declared.interval.Interval.{Interval}
 use Rattle.fux_pitch.specs.declared.pitch.Pitch.{Pitch}
 use Rattle.fux_pitch.specs.Key.{letter_key}
 use Rattle.fux_pitch.specs.Names.{name_of}
@@ -60,15 +61,16 @@ quality class semitones =
     else (if int_eq semitones (pos (letter_key class)) then plain_word class
     else small_word class (int_eq semitones (pos (letter_key class) -ℤ pos 1)))
 
--- the degrees between two pitches, and the semitones that are left without octaves
-abbrev pub degrees_between : Pitch → Pitch → ℕ
-degrees_between p q = unsigned_abs (interval_between p q).degrees
+-- the name of an interval
+unfoldable pub interval_name : Interval → List ℕ
+interval_name way =
+    quality (unsigned_abs way.degrees % 7) (reduced way).semitones
+    ++ number_name (unsigned_abs way.degrees)
 
-abbrev pub semitones_left : Pitch → Pitch → ℤ
-semitones_left p q = (reduced (interval_between p q)).semitones
+-- the names of two pitches, each behind a space
+unfoldable pub both_names : Pitch → Pitch → List ℕ
+both_names p q = codes " " ++ name_of p ++ codes " " ++ name_of q
 
 -- the interval between two pitches: its name, and theirs
-unfoldable pub interval_words : Pitch → Pitch → List ℕ
-interval_words p q =
-    quality (degrees_between p q % 7) (semitones_left p q) ++ number_name (degrees_between p q)
-    ++ codes " " ++ name_of p ++ codes " " ++ name_of q
+abbrev pub interval_words : Pitch → Pitch → List ℕ
+interval_words p q = interval_name (interval_between p q) ++ both_names p q

@@ -4,7 +4,7 @@ ghost use Rattle.std.specs.Prelude.{◌≡◌, ◌<◌, ◌≤◌, ◌++◌, ◌
 ghost use Rattle.std.specs.List.{flat_map};
 ghost use Rattle.rule_law.specs.Voices as voices_words;
 ghost use Rattle.mark_evidence.specs.Asked as words;
-ghost use Rattle.mark_evidence.specs.Asked.{bars_words, cantus_told, extent_sentence, pitches_text, range_sentence, species_sentence, species_sentences};
+ghost use Rattle.mark_evidence.specs.Asked.{bars_words, cantus_told, ends_words, extent_told, mode_told, pitches_text, range_sentence, species_sentence, species_sentences};
 
 use crate::given::put_given;
 use crate::relaxed::put_relaxed;
@@ -29,16 +29,25 @@ fn mode_name(mode: Mode) -> &'static str
     }
 }
 
-/// Appends the mode, and how many bars and voices there are.
-#[tactic(auto, unfolding(crate::specs::Asked::extent_sentence))]
+/// Appends the mode.
+#[tactic(auto, unfolding(crate::specs::Asked::mode_told))]
+fn put_mode(out: &mut String, mode: Mode) -> Result<(), Memory>
+    ensures { OnOk result (string_bytes out.new ≡ string_bytes out.old ++ mode_told mode) }
+{
+    out.push_str("The exercise is in the ")?;
+    out.push_str(mode_name(mode))?;
+    out.push_str(" mode.\n")?;
+    Ok(())
+}
+
+/// Appends how many bars and voices there are.
+#[tactic(auto, unfolding(crate::specs::Asked::extent_told))]
 fn put_extent(out: &mut String, ex: &Exercise) -> Result<(), Memory>
-    ensures { OnOk result (string_bytes out.new ≡ string_bytes out.old ++ extent_sentence ex.now) }
+    ensures { OnOk result (string_bytes out.new ≡ string_bytes out.old ++ extent_told ex.now) }
 {
     let bars = ex.bars;
     let voices = ex.voices;
-    out.push_str("The exercise is in the ")?;
-    out.push_str(mode_name(ex.mode))?;
-    write!(out, " mode, with {bars} bars and {voices} voices.\n")?;
+    write!(out, "It has {bars} bars and {voices} voices.\n")?;
     Ok(())
 }
 
@@ -112,17 +121,25 @@ fn put_bars(out: &mut String, bars: Option<(u8, u8)>) -> Result<(), Memory>
     Ok(())
 }
 
+/// Appends the two ends of a range.
+#[tactic(auto, unfolding(crate::specs::Asked::ends_words))]
+fn put_ends(out: &mut String, low: Pitch, high: Pitch) -> Result<(), Memory>
+    ensures { OnOk result (string_bytes out.new ≡ string_bytes out.old ++ ends_words low high) }
+{
+    write!(out, "{low} to {high}")?;
+    Ok(())
+}
+
 /// Appends a range.
 #[tactic(auto, unfolding(crate::specs::Asked::range_sentence))]
 fn put_range(out: &mut String, voices: u8, line: &RangeLine) -> Result<(), Memory>
     ensures { OnOk result (string_bytes out.new ≡ string_bytes out.old
         ++ range_sentence voices line.now) }
 {
-    let low = line.low;
-    let high = line.high;
     out.push_str("The range of the ")?;
     out.push_str(part_name(voices, line.voice))?;
-    write!(out, " voice is {low} to {high}")?;
+    out.push_str(" voice is ")?;
+    put_ends(out, line.low, line.high)?;
     put_bars(out, line.bars)?;
     out.push('\n')?;
     Ok(())
@@ -146,6 +163,7 @@ pub fn asked(alloc: Global, ex: &Exercise) -> Result<String, Memory>
     ensures { IfOk result (λ text. string_bytes text ≡ words.asked_text ex.now) }
 {
     let mut out = String::new(alloc);
+    put_mode(&mut out, ex.mode)?;
     put_extent(&mut out, ex)?;
     put_cantus(&mut out, ex)?;
     put_all_species(&mut out, ex)?;

@@ -2,9 +2,10 @@
 
 ghost use Rattle.std.specs.Prelude.{◌≡◌, ◌≤◌, ◌++◌, OnOk, pos, string_bytes};
 ghost use Rattle.fux_pitch.specs.Key.{letter_key};
-ghost use Rattle.mark_evidence.specs.Intervals.{interval_words, is_perfect_class, number_name, plain_word, quality, simple_name, small_word, wide_name, without_octaves};
+ghost use Rattle.fux_pitch.specs.Size.{IsShort};
+ghost use Rattle.mark_evidence.specs.Intervals.{both_names, interval_name, interval_words, is_perfect_class, number_name, plain_word, quality, simple_name, small_word, wide_name, without_octaves};
 
-use fux_pitch::{Memory, Pitch, interval_of, reduce};
+use fux_pitch::{Interval, Memory, Pitch, interval_of, reduce};
 use std::fmt::Write;
 
 /// The name of an interval of so many degrees, seven at most.
@@ -119,15 +120,31 @@ fn quality(class: u16, semitones: i16) -> &'static str
     small_word(class, semitones == plain - 1)
 }
 
+/// Appends the names of two pitches, each behind a space.
+#[tactic(auto, unfolding(crate::specs::Intervals::both_names))]
+fn put_both(out: &mut String, low: Pitch, high: Pitch) -> Result<(), Memory>
+    ensures { OnOk result (string_bytes out.new ≡ string_bytes out.old ++ both_names low high) }
+{
+    write!(out, " {low} {high}")?;
+    Ok(())
+}
+
+/// Appends the name of an interval.
+#[tactic(auto, unfolding(crate::specs::Intervals::interval_name))]
+fn put_name(out: &mut String, way: Interval) -> Result<(), Memory>
+    requires { IsShort way }
+    ensures { OnOk result (string_bytes out.new ≡ string_bytes out.old ++ interval_name way) }
+{
+    let degrees = way.degrees.unsigned_abs();
+    let semitones = reduce(way).semitones;
+    out.push_str(quality(degrees % 7, semitones))?;
+    put_number(out, degrees)
+}
+
 /// Appends the interval between two pitches: its name, and theirs.
-#[tactic(auto, unfolding(crate::specs::Intervals::interval_words))]
 pub fn put_interval(out: &mut String, low: Pitch, high: Pitch) -> Result<(), Memory>
     ensures { OnOk result (string_bytes out.new ≡ string_bytes out.old ++ interval_words low high) }
 {
-    let way = interval_of(low, high);
-    let degrees = way.degrees.unsigned_abs();
-    out.push_str(quality(degrees % 7, reduce(way).semitones))?;
-    put_number(out, degrees)?;
-    write!(out, " {low} {high}")?;
-    Ok(())
+    put_name(out, interval_of(low, high))?;
+    put_both(out, low, high)
 }

@@ -3,7 +3,7 @@
 ghost use Rattle.std.specs.Prelude.{◌≡◌, ◌<◌, ◌++◌, ◌∷◌, [], OnOk, filter, string_bytes};
 ghost use Rattle.std.specs.List.{flat_map};
 ghost use Rattle.score_marker.specs.Marks.{has_voice, voices_in};
-ghost use Rattle.mark_evidence.specs.Asked.{names_text, relax_sentence, relaxed_voices};
+ghost use Rattle.mark_evidence.specs.Asked.{names_text, relax_sentence, relax_words, relaxed_voices};
 
 use crate::voices::has_voice;
 use crate::words::part_name;
@@ -52,11 +52,10 @@ fn put_voices(out: &mut String, voices: u8, set: Option<VoiceSet>) -> Result<(),
     }
 }
 
-/// Appends a rule that is relaxed.
-#[tactic(auto, unfolding(crate::specs::Asked::relax_sentence))]
-fn put_line(out: &mut String, voices: u8, line: &Relax) -> Result<(), Memory>
-    ensures { OnOk result (string_bytes out.new ≡ string_bytes out.old
-        ++ relax_sentence voices line.now) }
+/// Appends the rule, the bars and the price of a relax line.
+#[tactic(auto, unfolding(crate::specs::Asked::relax_words))]
+fn put_words(out: &mut String, line: &Relax) -> Result<(), Memory>
+    ensures { OnOk result (string_bytes out.new ≡ string_bytes out.old ++ relax_words line.now) }
 {
     let rule = line.rule;
     let from = line.from;
@@ -66,6 +65,16 @@ fn put_line(out: &mut String, voices: u8, line: &Relax) -> Result<(), Memory>
         out,
         "S{rule} may be broken in bars {from} to {to} at a price of {price}"
     )?;
+    Ok(())
+}
+
+/// Appends a rule that is relaxed.
+#[tactic(auto, unfolding(crate::specs::Asked::relax_sentence))]
+fn put_line(out: &mut String, voices: u8, line: &Relax) -> Result<(), Memory>
+    ensures { OnOk result (string_bytes out.new ≡ string_bytes out.old
+        ++ relax_sentence voices line.now) }
+{
+    put_words(out, line)?;
     put_voices(out, voices, line.voices)?;
     out.push_str(".\n")?;
     Ok(())
