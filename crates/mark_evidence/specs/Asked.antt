@@ -58,11 +58,11 @@ abbrev pub species_sentences : Exercise → List ℕ
 species_sentences ex =
     flat_map (species_sentence ex) (filter (is_free ex) (range_with_len 0 ex.voices))
 
--- the bars of a range, where it isn't that of all bars
+-- the bars of a range, where it isn't that of all bars, and the end of its line
 abbrev pub bars_words : Option (ℕ × ℕ) → List ℕ
-bars_words None = codes "."
+bars_words None = codes ".\n"
 bars_words (Some bars) =
-    codes " in bars " ++ decimal bars.0 ++ codes " to " ++ decimal bars.1 ++ codes "."
+    codes " in bars " ++ decimal bars.0 ++ codes " to " ++ decimal bars.1 ++ codes ".\n"
 
 -- the two ends of a range
 unfoldable pub ends_words : Pitch → Pitch → List ℕ
@@ -72,7 +72,7 @@ ends_words low high = name_of low ++ codes " to " ++ name_of high
 unfoldable pub range_sentence : ℕ → RangeLine → List ℕ
 range_sentence voices line =
     codes "The range of the " ++ part_name voices line.voice ++ codes " voice is "
-    ++ ends_words line.low line.high ++ bars_words line.bars ++ 10 ∷ []
+    ++ ends_words line.low line.high ++ bars_words line.bars
 
 -- all ranges
 abbrev pub range_sentences : Exercise → List ℕ
@@ -142,11 +142,15 @@ relaxed_voices voices None = codes " for any voices"
 relaxed_voices voices (Some set) =
     codes " for these voices:" ++ names_text voices (voices_in set.bits)
 
+-- words, and a number behind them
+abbrev pub told : List ℕ → ℕ → List ℕ
+told words n = words ++ decimal n
+
 -- the rule, the bars and the price of a relax line
 unfoldable pub relax_words : Relax → List ℕ
 relax_words line =
-    codes "S" ++ decimal line.rule ++ codes " may be broken in bars " ++ decimal line.from
-    ++ codes " to " ++ decimal line.to ++ codes " at a price of " ++ decimal line.price
+    told (codes "S") line.rule ++ told (codes " may be broken in bars ") line.from
+    ++ told (codes " to ") line.to ++ told (codes " at a price of ") line.price
 
 -- a rule that is relaxed
 unfoldable pub relax_sentence : ℕ → Relax → List ℕ

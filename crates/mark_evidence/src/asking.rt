@@ -110,13 +110,13 @@ fn put_all_species(out: &mut String, ex: &Exercise) -> Result<(), Memory>
     Ok(())
 }
 
-/// Appends the bars of a range, where it isn't that of all bars.
+/// Appends the bars of a range, where it isn't that of all bars, and the end of its line.
 fn put_bars(out: &mut String, bars: Option<(u8, u8)>) -> Result<(), Memory>
     ensures { OnOk result (string_bytes out.new ≡ string_bytes out.old ++ bars_words bars) }
 {
     match bars {
-        None => out.push_str(".")?,
-        Some((from, to)) => write!(out, " in bars {from} to {to}.")?,
+        None => out.push_str(".\n")?,
+        Some((from, to)) => write!(out, " in bars {from} to {to}.\n")?,
     }
     Ok(())
 }
@@ -141,7 +141,6 @@ fn put_range(out: &mut String, voices: u8, line: &RangeLine) -> Result<(), Memor
     out.push_str(" voice is ")?;
     put_ends(out, line.low, line.high)?;
     put_bars(out, line.bars)?;
-    out.push('\n')?;
     Ok(())
 }
 

@@ -1,8 +1,8 @@
 //! The names of intervals.
 
-ghost use Rattle.std.specs.Prelude.{◌≡◌, ◌≤◌, ◌++◌, OnOk, pos, string_bytes};
+ghost use Rattle.std.specs.Prelude.{◌≡◌, ◌≤◌, ◌++◌, OnOk, pos, string_bytes, unsigned_abs};
 ghost use Rattle.fux_pitch.specs.Key.{letter_key};
-ghost use Rattle.fux_pitch.specs.Size.{IsShort};
+ghost use Rattle.fux_pitch.specs.Size.{IsShort, reduced};
 ghost use Rattle.mark_evidence.specs.Intervals.{both_names, interval_name, interval_words, is_perfect_class, number_name, plain_word, quality, simple_name, small_word, wide_name, without_octaves};
 
 use fux_pitch::{Interval, Memory, Pitch, interval_of, reduce};
@@ -129,16 +129,31 @@ fn put_both(out: &mut String, low: Pitch, high: Pitch) -> Result<(), Memory>
     Ok(())
 }
 
+/// The degrees of an interval, whichever way it goes.
+fn degrees_of(way: Interval) -> u16
+    ensures { result ≡ unsigned_abs way.degrees }
+{
+    way.degrees.unsigned_abs()
+}
+
+/// Its semitones without octaves.
+fn semitones_of(way: Interval) -> i16
+    requires { IsShort way }
+    ensures { result ≡ (reduced way).semitones }
+{
+    reduce(way).semitones
+}
+
 /// Appends the name of an interval.
 #[tactic(auto, unfolding(crate::specs::Intervals::interval_name))]
 fn put_name(out: &mut String, way: Interval) -> Result<(), Memory>
     requires { IsShort way }
     ensures { OnOk result (string_bytes out.new ≡ string_bytes out.old ++ interval_name way) }
 {
-    let degrees = way.degrees.unsigned_abs();
-    let semitones = reduce(way).semitones;
-    out.push_str(quality(degrees % 7, semitones))?;
-    put_number(out, degrees)
+    let degrees = degrees_of(way);
+    out.push_str(quality(degrees % 7, semitones_of(way)))?;
+    put_number(out, degrees)?;
+    Ok(())
 }
 
 /// Appends the interval between two pitches: its name, and theirs.

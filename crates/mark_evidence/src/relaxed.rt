@@ -61,10 +61,10 @@ fn put_words(out: &mut String, line: &Relax) -> Result<(), Memory>
     let from = line.from;
     let to = line.to;
     let price = line.price;
-    write!(
-        out,
-        "S{rule} may be broken in bars {from} to {to} at a price of {price}"
-    )?;
+    write!(out, "S{rule}")?;
+    write!(out, " may be broken in bars {from}")?;
+    write!(out, " to {to}")?;
+    write!(out, " at a price of {price}")?;
     Ok(())
 }
 

@@ -1,4 +1,4 @@
-use Rattle.std.proofs.Common.{string_bytes, arith, rules}
+use Rattle.std.proofs.Common.{string_bytes, arith}
 use Rattle.score_marker.specs.Marks.{has_voice}
 use Rattle.score_marker.proofs.VoiceText.{voice_written}
 use Rattle.mark_evidence.specs.Evidence.{voice_line}

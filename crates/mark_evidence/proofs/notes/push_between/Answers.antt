@@ -1,4 +1,4 @@
-use Rattle.std.proofs.Common.{◌≡◌, ◌+◌, ◌<◌, ◌∙◌, ◌++◌, ap, arith, length, sym, take}
+use Rattle.std.proofs.Common.{◌+◌, ◌<◌, ◌∙◌, ◌++◌, ap, arith, length, sym, take}
 use Rattle.fux_grid.specs.Columns.{onsets_since}
 use Rattle.mark_evidence.proofs.NoteSteps.{kept-on, since-other, since-start}
 use Rattle.mark_evidence.proofs.notes.push_between.Goals as goal
