@@ -2,7 +2,7 @@
 
 ghost use Rattle.std.specs.Prelude.{◌≡◌, ◌≤◌, ◌++◌, OnOk, pos, string_bytes, unsigned_abs};
 ghost use Rattle.fux_pitch.specs.Key.{letter_key};
-ghost use Rattle.fux_pitch.specs.Size.{IsShort, reduced};
+ghost use Rattle.fux_pitch.specs.Size.{IsShort};
 ghost use Rattle.mark_evidence.specs.Intervals.{both_names, interval_name, interval_words, is_perfect_class, number_name, plain_word, quality, simple_name, small_word, wide_name, without_octaves};
 
 use fux_pitch::{Interval, Memory, Pitch, interval_of, reduce};
@@ -107,17 +107,17 @@ fn small_word(class: u16, by_one: bool) -> &'static str
 }
 
 /// What an interval within an octave is by its semitones.
-fn quality(class: u16, semitones: i16) -> &'static str
-    ensures { result.now ≡ quality class semitones }
+fn quality(class: u16, within: Interval) -> &'static str
+    ensures { result.now ≡ quality class within.semitones }
 {
     let plain = plain_size(class);
-    if plain < semitones {
+    if plain < within.semitones {
         return "augmented ";
     }
-    if semitones == plain {
+    if within.semitones == plain {
         return plain_word(class);
     }
-    small_word(class, semitones == plain - 1)
+    small_word(class, within.semitones == plain - 1)
 }
 
 /// Appends the names of two pitches, each behind a space.
@@ -136,14 +136,6 @@ fn degrees_of(way: Interval) -> u16
     way.degrees.unsigned_abs()
 }
 
-/// Its semitones without octaves.
-fn semitones_of(way: Interval) -> i16
-    requires { IsShort way }
-    ensures { result ≡ (reduced way).semitones }
-{
-    reduce(way).semitones
-}
-
 /// Appends the name of an interval.
 #[tactic(auto, unfolding(crate::specs::Intervals::interval_name))]
 fn put_name(out: &mut String, way: Interval) -> Result<(), Memory>
@@ -151,7 +143,7 @@ fn put_name(out: &mut String, way: Interval) -> Result<(), Memory>
     ensures { OnOk result (string_bytes out.new ≡ string_bytes out.old ++ interval_name way) }
 {
     let degrees = degrees_of(way);
-    out.push_str(quality(degrees % 7, semitones_of(way)))?;
+    out.push_str(quality(degrees % 7, reduce(way)))?;
     put_number(out, degrees)?;
     Ok(())
 }
