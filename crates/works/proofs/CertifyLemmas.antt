@@ -1,6 +1,6 @@
 -- What `certify` writes: the certificate of a head that holds (`all_written`, `part_written`,
 -- `too_long`), and what it is of the exercise's best setting (`of_best`, `of_none`, `of_bound`).
-use Rattle.std.proofs.Common.{◌≡◌, ℕ, ◌<◌, ◌≤◌, List, [], ◌∷◌, Option, Result, Ok, Err, length, inl, inr, refl, subst, sym}
+use Rattle.std.proofs.Common.{◌≡◌, ℕ, ◌<◌, ◌≤◌, ◌^◌, List, [], ◌∷◌, Option, None, Result, Ok, Err, length, inl, inr, refl, subst, sym}
 use Rattle.std.specs.Prelude.{IfSome}
 use Rattle.std.specs.List.{AllByRecursion}
 use Rattle.std.proofs.lemmas.Bool.Decides.{leb_tells}
@@ -28,6 +28,7 @@ use Rattle.class_marker.specs.declared.one.Text.{Text as Content}
 use Rattle.command_words.specs.Commands.{Task, certify}
 use Rattle.works.specs.TaskFiles.{as_list, limit_in, name_in, names_in}
 use Rattle.works.specs.Works.{AllMayHave, AreContents, AreRead, CertifiesText, Files, Makes, Works}
+use Rattle.works.proofs.CertificateTexts.{none_acceptable, setting_acceptable}
 use Rattle.works.proofs.MakeLemmas.{have_bytes}
 use Rattle.works.specs.declared.refusal.Refusal.TheVariants as refusal
 use Rattle.works.specs.declared.work.Halt.{Halt}
@@ -36,7 +37,7 @@ use Rattle.works.specs.declared.work.Stop.{Stop}
 use Rattle.works.specs.declared.work.Stop.TheVariants as stop
 use Rattle.works.specs.declared.work.Verdict.{Verdict}
 use Rattle.works.specs.declared.work.Verdict.TheVariants.{Favorable, Unfavorable, Spent}
-use Rattle.works.specs.Certified.{Certifies, CertifiesHead, IsCertificateOf}
+use Rattle.works.specs.Certified.{Certifies, CertifiesHead, IsAcceptable, IsCertificateOf}
 use Rattle.works.specs.Composed.{IsBoundText, bound_line}
 use Rattle.works.specs.Endings.{Does, Ended, IsWritten, SaysWritten, Writes, work_output}
 use Rattle.works.specs.declared.searching.Found.TheVariants as found
@@ -108,36 +109,61 @@ writes_so Made Made' cut old new (Err (halt.Stopped stop.Memory)) so wrote = wro
 writes_so Made Made' cut old new (Err halt.Unwritable) so wrote =
     (wrote.0, record { work = wrote.1.work; made = so wrote.1.work wrote.1.made; holds = wrote.1.holds })
 
-module _ (budget : ℕ) (form : Form) (sheet : Sheet) (ex : Exercise) (narrow : IsNarrow ex) where
-  pub of_best : (score : Grid) (penalty : ℕ) → IsBestFound ex (IsBestWithin ex sheet budget) score penalty → (work : Work)
+module _ (budget : ℕ) (form : Form) (sheet : Sheet) (ex : Exercise) (valid : IsValid ex) (unmixed : ex.mixed ≡ None)
+    (narrow : IsNarrow ex) where
+  its_text : (score : Grid) (penalty : ℕ) → IsBestFound ex (IsBestWithin ex sheet budget) score penalty
+      → penalty < 2 ^ 64 → (bytes : List ℕ) → IsCertificateOf ex sheet form (Best penalty score) bytes
+      → IsAcceptable ex sheet (Best penalty score) bytes
+  its_text score penalty best below bytes =
+      setting_acceptable ex sheet form valid unmixed score penalty bytes below best.best.best.lawful best.cantus
+      best.complete
+
+  pub of_best : (score : Grid) (penalty : ℕ) → IsBestFound ex (IsBestWithin ex sheet budget) score penalty
+      → penalty < 2 ^ 64 → (work : Work)
       → CertifiesHead ex sheet form (Best penalty score) Favorable work → Certifies budget form sheet ex work
-  of_best score penalty best (Ok output) made = record {
+  of_best score penalty best below (Ok output) made = record {
     narrow = narrow;
-    shows = rw made.0 record { score = score; penalty = penalty; best = best; certificate = made.1 };
+    shows = rw made.0 record {
+      score = score;
+      penalty = penalty;
+      best = best;
+      certificate = made.1;
+      acceptable = its_text score penalty best below output.bytes made.1;
+    };
     fits = λ other. made.2;
   }
-  of_best score penalty best (Err refusal.LongCertificate) made = record {
+  of_best score penalty best below (Err refusal.LongCertificate) made = record {
     narrow = narrow;
     verdict = Favorable;
     found = λ is. cc is;
     bytes = _;
-    shows = record { score = score; penalty = penalty; best = best; certificate = made.0 };
+    shows = record {
+      score = score;
+      penalty = penalty;
+      best = best;
+      certificate = made.0;
+      acceptable = its_text score penalty best below _ made.0;
+    };
     long = made.1;
   }
-  of_best score penalty best (Err (refusal.TooWide place count)) made = absurd made
-  of_best score penalty best (Err (refusal.Text kind line column)) made = absurd made
-  of_best score penalty best (Err refusal.NoSetting) made = absurd made
-  of_best score penalty best (Err (refusal.List line)) made = absurd made
-  of_best score penalty best (Err (refusal.Canon line)) made = absurd made
-  of_best score penalty best (Err (refusal.With voice)) made = absurd made
-  of_best score penalty best (Err (refusal.Sheet fault)) made = absurd made
-  of_best score penalty best (Err (refusal.Midi fault)) made = absurd made
+  of_best score penalty best below (Err (refusal.TooWide place count)) made = absurd made
+  of_best score penalty best below (Err (refusal.Text kind line column)) made = absurd made
+  of_best score penalty best below (Err refusal.NoSetting) made = absurd made
+  of_best score penalty best below (Err (refusal.List line)) made = absurd made
+  of_best score penalty best below (Err (refusal.Canon line)) made = absurd made
+  of_best score penalty best below (Err (refusal.With voice)) made = absurd made
+  of_best score penalty best below (Err (refusal.Sheet fault)) made = absurd made
+  of_best score penalty best below (Err (refusal.Midi fault)) made = absurd made
 
   pub of_none : IsNothingWithin ex sheet budget → (work : Work)
       → CertifiesHead ex sheet form Nothing Unfavorable work → Certifies budget form sheet ex work
   of_none none (Ok output) made = record {
     narrow = narrow;
-    shows = rw made.0 record { none = none; certificate = made.1 };
+    shows = rw made.0 record {
+      none = none;
+      certificate = made.1;
+      acceptable = none_acceptable ex sheet form valid unmixed output.bytes made.1;
+    };
     fits = λ other. made.2;
   }
   of_none none (Err refusal.LongCertificate) made = record {
@@ -145,7 +171,11 @@ module _ (budget : ℕ) (form : Form) (sheet : Sheet) (ex : Exercise) (narrow : 
     verdict = Unfavorable;
     found = λ is. cc is;
     bytes = _;
-    shows = record { none = none; certificate = made.0 };
+    shows = record {
+      none = none;
+      certificate = made.0;
+      acceptable = none_acceptable ex sheet form valid unmixed _ made.0;
+    };
     long = made.1;
   }
   of_none none (Err (refusal.TooWide place count)) made = absurd made
@@ -167,7 +197,8 @@ module _ (budget : ℕ) (form : Form) (sheet : Sheet) (ex : Exercise) (narrow : 
   of_bound bound is (Err refusal) made = absurd made
 
 -- what is written of a space that was searched is written of its exercise
-module _ (budget : ℕ) (form : Form) (sheet : Sheet) (ex : Exercise) (space : Searched) where
+module _ (budget : ℕ) (form : Form) (sheet : Sheet) (ex : Exercise) (space : Searched) (valid : IsValid ex)
+    (unmixed : ex.mixed ≡ None) where
   pub none_certified : (cut : Type 0) (old new : Option (List ℕ)) (result : Result Verdict Halt)
       → IsSpaceOf ex sheet space
       → IsFound space.exercise space.sheet budget found.Nothing
@@ -180,21 +211,21 @@ module _ (budget : ℕ) (form : Form) (sheet : Sheet) (ex : Exercise) (space : S
       → Writes (Certifies budget form sheet ex) cut old new result)
       (sym is.0)
       (λ none. writes_so (CertifiesHead ex sheet form Nothing Unfavorable) (Certifies budget form sheet ex) cut old new result
-      (of_none budget form sheet ex is.1 none))
+      (of_none budget form sheet ex valid unmixed is.1 none))
 
   pub best_certified : (score : Grid) (penalty : ℕ) (cut : Type 0) (old new : Option (List ℕ)) (result : Result Verdict Halt)
       → IsSpaceOf ex sheet space
-      → IsFound space.exercise space.sheet budget (found.Best score penalty)
+      → IsFound space.exercise space.sheet budget (found.Best score penalty) → penalty < 2 ^ 64
       → Writes (CertifiesHead space.exercise space.sheet form (Best penalty score) Favorable) cut old new result
       → Writes (Certifies budget form sheet ex) cut old new result
-  best_certified score penalty cut old new result is =
+  best_certified score penalty cut old new result is found_so below =
       subst
       (λ s. IsFound s.exercise s.sheet budget (found.Best score penalty)
       → Writes (CertifiesHead s.exercise s.sheet form (Best penalty score) Favorable) cut old new result
       → Writes (Certifies budget form sheet ex) cut old new result)
       (sym is.0)
       (λ best. writes_so (CertifiesHead ex sheet form (Best penalty score) Favorable) (Certifies budget form sheet ex) cut old new
-      result (of_best budget form sheet ex is.1 score penalty best))
+      result (of_best budget form sheet ex valid unmixed is.1 score penalty best below)) found_so
 
   pub bound_told : (bound : ℕ) (cut : Type 0) (old new : Option (List ℕ)) (result : Result Verdict Halt)
       → IsSpaceOf ex sheet space
@@ -206,7 +237,7 @@ module _ (budget : ℕ) (form : Form) (sheet : Sheet) (ex : Exercise) (space : S
       → Writes (Certifies budget form sheet ex) cut old new result)
       (sym is.0)
       (λ told. writes_so (IsBoundText bound) (Certifies budget form sheet ex) cut old new result
-      (of_bound budget form sheet ex is.1 bound told))
+      (of_bound budget form sheet ex valid unmixed is.1 bound told))
 
 pub bound_written : (bound : ℕ) (cut : Type 0) (old new : Option (List ℕ)) → new ≡ appended old (bound_line bound)
     → Writes (IsBoundText bound) cut old new (Ok Spent)

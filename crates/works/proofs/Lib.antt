@@ -1,3 +1,4 @@
+pub mod AcceptedLemmas
 pub mod AgreeLemmas
 pub mod BestLemmas
 pub mod BlameLemmas
@@ -5,6 +6,7 @@ pub mod CanonLemmas
 pub mod CantusCertifyLemmas
 pub mod CantusCheckLemmas
 pub mod CantusLemmas
+pub mod CertificateTexts
 pub mod CertifyLemmas
 pub mod ChargedLemmas
 pub mod CheckLemmas

@@ -1,3 +1,4 @@
+pub mod Accepted
 pub mod Blame
 pub mod CantusCertified
 pub mod CantusChecked

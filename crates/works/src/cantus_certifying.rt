@@ -12,7 +12,7 @@ ghost use Rattle.works.specs.Invented.{plan_of};
 ghost use Rattle.works.specs.Endings.{Ended, EndsOn, WritesTo};
 ghost use Rattle.works.specs.Works.{AreContents};
 
-use crate::certifying::put_bound;
+use crate::certifying::{penalty_fits, put_bound};
 use crate::complaint::Complaint;
 use crate::making::{read_weights, said_of};
 use crate::refusal::Refusal;
@@ -93,6 +93,7 @@ fn certify<K: Sink>(
             let Ok(cantus) = cantus_of(alloc, &space, path.as_slice()) else {
                 return Err(Halt::Stopped(Stop::Memory));
             };
+            penalty_fits(value);
             let best = Some((cantus.as_slice(), value));
             put_certificate(alloc, &space, best, Verdict::Favorable, out)
         }

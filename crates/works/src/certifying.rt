@@ -1,6 +1,6 @@
 //! The command `certify`.
 
-ghost use Rattle.std.specs.Prelude.{◌≡◌, ◌∷◌, IfErr, None};
+ghost use Rattle.std.specs.Prelude.{◌≡◌, ◌<◌, ◌^◌, ◌∷◌, IfErr, None};
 ghost use Rattle.cert_law.specs.Certificates.{Holds};
 ghost use Rattle.cert_writer.specs.Heads.{head_with};
 ghost use Rattle.fux_grid.specs.Exercises.{IsValid};
@@ -53,6 +53,7 @@ pub fn certify<K: Sink, R: Threads + Sync>(
     };
     match found {
         Found::Best { score, penalty } => {
+            penalty_fits(penalty);
             put_certificate(
                 alloc,
                 &space,
@@ -65,6 +66,13 @@ pub fn certify<K: Sink, R: Threads + Sync>(
         Found::Nothing => put_certificate(alloc, &space, form, None, Verdict::Unfavorable, out),
         Found::Spent { bound } => put_bound(alloc, bound, out),
     }
+}
+
+/// A penalty has 64 bits, as the head of a certificate may say. It does nothing.
+pub fn penalty_fits(penalty: u64)
+    ensures { penalty < 2 ^ 64 }
+{
+    let _ = penalty;
 }
 
 /// Writes the certificate, in a form, of the best setting with its penalty, or the one that says

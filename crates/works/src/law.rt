@@ -1,5 +1,6 @@
 //! What is proved of two commands together.
 
+ghost use Rattle.works.specs.Accepted.{CertifiedCantusIsAccepted, CertifiedIsAccepted};
 ghost use Rattle.works.specs.Works.{BestEndsAsComposed, BestIsComposed};
 
 /// What `compose` and `best` make of the same files is the same, where neither tells that its
@@ -8,4 +9,11 @@ ghost use Rattle.works.specs.Works.{BestEndsAsComposed, BestIsComposed};
 pub fn best_is_composed()
     ensures same { BestIsComposed }
     ensures ends { BestEndsAsComposed }
+{}
+
+/// What `certify` writes, `check` of the same exercise accepts, and tells the penalty that was found
+/// or that none is lawful; and so does `checkcantus` with what `certcantus` writes. It does nothing.
+pub fn certified_is_accepted()
+    ensures settings { CertifiedIsAccepted }
+    ensures cantus { CertifiedCantusIsAccepted }
 {}

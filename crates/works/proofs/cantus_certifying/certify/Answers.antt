@@ -1,4 +1,4 @@
-use Rattle.std.proofs.Common.{List, sym, subst, ◌∙◌}
+use Rattle.std.proofs.Common.{◌≤◌, List, sym, subst, ◌∙◌}
 use Rattle.fux_pitch.specs.declared.pitch.Pitch.{Pitch}
 use Rattle.fux_port.specs.Counts.{Rose}
 use Rattle.cantus_space.specs.Answers.{IsBestWithin, IsLeastOver, IsNothingWithin, LeadsToBest}
@@ -31,7 +31,10 @@ returns-in-Ok-cantus_of-clause-writes g c =
     c.new-space.ensures
     (best_certified space c.args.budget
     (Rose (g.K.Sink.faults c.args.out.now) (g.K.Sink.faults c.put_certificate.new.out)) _ _ c.put_certificate.result
-    c.as_slice-in-Found.result.now c.in-Found.value best c.put_certificate.ensures.writes)
+    c.as_slice-in-Found.result.now c.in-Found.value best
+    (subst (λ (plan : CantusPlan). 3 ≤ plan.bars) (sym c.new-space.ensures) c.requires.fewest)
+    (subst (λ (plan : CantusPlan). plan.bars ≤ 24) (sym c.new-space.ensures) c.requires.most)
+    c.penalty_fits.ensures c.put_certificate.ensures.writes)
 
 pub returns-in-Nothing-clause-writes : goal.returns-in-Nothing-clause-writes
 returns-in-Nothing-clause-writes g c =

@@ -7,16 +7,18 @@ use Rattle.works.proofs.certifying.certify.Goals as goal
 pub returns-in-Best-clause-writes : goal.returns-in-Best-clause-writes
 returns-in-Best-clause-writes g c =
     let space = c.in_ok-space.space in
-    best_certified c.args.budget c.args.form c.args.sheet.now c.args.exercise.now space c.in-Best.score c.in-Best.penalty
+    best_certified c.args.budget c.args.form c.args.sheet.now c.args.exercise.now space c.requires.valid
+    c.requires.unmixed c.in-Best.score c.in-Best.penalty
     (Rose (g.K.Sink.faults c.args.out.now) (g.K.Sink.faults c.put_certificate.new.out)) _ _ _
     c.in_ok-space.ensures.made
-    (subst (IsFound space.exercise space.sheet c.args.budget) c.in-Best.is c.in-Ok.ensures)
+    (subst (IsFound space.exercise space.sheet c.args.budget) c.in-Best.is c.in-Ok.ensures) c.penalty_fits.ensures
     c.put_certificate.ensures.writes
 
 pub returns-in-Nothing-clause-writes : goal.returns-in-Nothing-clause-writes
 returns-in-Nothing-clause-writes g c =
     let space = c.in_ok-space.space in
-    none_certified c.args.budget c.args.form c.args.sheet.now c.args.exercise.now space
+    none_certified c.args.budget c.args.form c.args.sheet.now c.args.exercise.now space c.requires.valid
+    c.requires.unmixed
     (Rose (g.K.Sink.faults c.args.out.now) (g.K.Sink.faults c.put_certificate-in-Nothing.new.out)) _ _ _
     c.in_ok-space.ensures.made
     (subst (IsFound space.exercise space.sheet c.args.budget) c.in-Nothing.is c.in-Ok.ensures)
@@ -25,7 +27,8 @@ returns-in-Nothing-clause-writes g c =
 pub returns-clause-writes : goal.returns-clause-writes
 returns-clause-writes g c =
     let space = c.in_ok-space.space in
-    bound_told c.args.budget c.args.form c.args.sheet.now c.args.exercise.now space c.in-Spent.bound
+    bound_told c.args.budget c.args.form c.args.sheet.now c.args.exercise.now space c.requires.valid
+    c.requires.unmixed c.in-Spent.bound
     (Rose (g.K.Sink.faults c.args.out.now) (g.K.Sink.faults c.put_bound.new.out)) _ _ _ c.in_ok-space.ensures.made
     (subst (IsFound space.exercise space.sheet c.args.budget) c.in-Spent.is c.in-Ok.ensures)
     c.put_bound.ensures.writes
