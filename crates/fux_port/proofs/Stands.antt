@@ -1,8 +1,10 @@
--- Bytes that are put together before they are written: where a writer stands (`stands_start`, `stands_put`), that nothing is lost at its
--- end (`stands_end`), and what was written where it stops (`stands_stop`).
-use Rattle.std.proofs.Common.{◌≡◌, ℕ, List, [], ◌++◌, Option, ap, sym, ◌∙◌, subst, arith, append_assoc, length-append}
+-- Bytes that are put together before they are written: where a writer stands (`stands_put`), that nothing is lost at its end
+-- (`stands_end`), what was written where it stops (`stands_stop`), and that a sink which promised all bytes promises those that
+-- wait and those to come (`room_put`).
+use Rattle.std.proofs.Common.{◌≡◌, ℕ, ◌+◌, List, [], ◌++◌, Option, length, ap, sym, ◌∙◌, subst, arith, append_assoc, length-append}
 use Rattle.std.specs.Prelude.{Err, Ok, OnErr, Result}
 use Rattle.std.proofs.lemmas.List.{append-nil, take-append-le}
+use Rattle.fux_port.specs.Promises.{KeepsBehind}
 use Rattle.fux_port.specs.Written.{StopsShort, appended}
 use Rattle.fux_port.proofs.Pieces.{appended-append, stops_after}
 use Rattle.fux_port.specs.Waiting.{Puts}
@@ -25,6 +27,15 @@ stands_put start old new waiting next line later whole bytes puts e stands = rec
       ∙ append_assoc waiting line later ∙ ap (λ bs. waiting ++ bs) (sym e))
       ∙ stands.whole;
 }
+
+-- the room for the bytes that wait and those to come, after a line of them was put
+pub room_put : (old new : ℕ → Type 0) (waiting next : ℕ) (line later whole : List ℕ)
+    → KeepsBehind old new (waiting + length line) next → whole ≡ line ++ later
+    → old (waiting + length whole) → new (next + length later)
+room_put old new waiting next line later whole keeps e room =
+    let size : waiting + length whole ≡ waiting + length line + length later =
+    omega (arith, ap length e, length-append line later) in
+    keeps (length later) (subst old size room)
 
 -- a write that stopped short is one of more bytes
 pub stops_more : (old new : Option (List ℕ)) (first next : List ℕ) → StopsShort old new first

@@ -26,7 +26,7 @@ use Rattle.works.proofs.CertifyLemmas.{writes_so}
 within : (bytes : List ℕ) → (1073741824 < length bytes → ⊥) → length bytes ≤ 1073741824
 within bytes short = elim (leb_tells (length bytes) 1073741824) [ inl few ↦ few.1 | inr many ↦ absurd (short many.1) ]
 
-module _ (plan : CantusPlan) (said : Said) (verdict : Verdict) (holds : Holds plan said) (cut : Type 0)
+module _ (plan : CantusPlan) (said : Said) (verdict : Verdict) (holds : Holds plan said) (cut : ℕ → Type 0)
     (old new : Option (List ℕ)) where
   its_certificate : IsCertificateOf plan said (written_certificate plan said)
   its_certificate = record { valid = written_is_valid plan said holds; written = refl }
@@ -47,17 +47,14 @@ module _ (plan : CantusPlan) (said : Said) (verdict : Verdict) (holds : Holds pl
     };
   }
 
-  pub part_written : (1073741824 < length (written_certificate plan said) → ⊥) → cut
-      → StopsShort old new (written_certificate plan said)
+  pub part_written : (1073741824 < length (written_certificate plan said) → ⊥)
+      → cut (length (written_certificate plan said)) → StopsShort old new (written_certificate plan said)
       → Writes (CertifiesSaid plan said verdict) cut old new (Err halt.Unwritable)
-  part_written short rose part = (
-    rose,
-    record {
-      work = whole;
-      made = (refl, its_certificate, within (written_certificate plan said) short);
-      holds = part;
-    },
-  )
+  part_written short why part = record {
+    work = whole;
+    made = (refl, its_certificate, within (written_certificate plan said) short);
+    holds = record { cause = why; front = part };
+  }
 
   pub too_long : 1073741824 < length (written_certificate plan said) → new ≡ old
       → Writes (CertifiesSaid plan said verdict) cut old new (Err (halt.Stopped (stop.Refused refusal.LongCertificate)))
@@ -135,7 +132,7 @@ module _ (plan : CantusPlan) (budget : ℕ) where
   of_bound bound is (Err refusal) made = absurd made
 
   -- what is written of what a search found is written of what is asked
-  module _ (cut : Type 0) (old new : Option (List ℕ)) (result : Result Verdict Halt) where
+  module _ (cut : ℕ → Type 0) (old new : Option (List ℕ)) (result : Result Verdict Halt) where
     pub best_certified : (cantus : List Pitch) (penalty : ℕ) → IsBestWithin plan budget cantus penalty
         → 3 ≤ plan.bars → plan.bars ≤ 24 → penalty < 2 ^ 64
         → Writes (CertifiesSaid plan (Some (penalty, cantus)) Favorable) cut old new result

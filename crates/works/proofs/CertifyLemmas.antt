@@ -39,7 +39,7 @@ use Rattle.works.specs.declared.work.Verdict.{Verdict}
 use Rattle.works.specs.declared.work.Verdict.TheVariants.{Favorable, Unfavorable, Spent}
 use Rattle.works.specs.Certified.{Certifies, CertifiesHead, IsAcceptable, IsCertificateOf}
 use Rattle.works.specs.Composed.{IsBoundText, bound_line}
-use Rattle.works.specs.Endings.{Does, Ended, IsWritten, SaysWritten, Writes, work_output}
+use Rattle.works.specs.Endings.{Does, Ended, IsCut, IsWritten, SaysWritten, Writes}
 use Rattle.works.specs.declared.searching.Found.TheVariants as found
 use Rattle.works.specs.Searched.{IsBestFound, IsFound, IsNarrow, IsSpaceOf}
 use Rattle.works.specs.Sheets.{ReadsSheet, sheet_said}
@@ -51,7 +51,7 @@ within bytes short = elim (leb_tells (length bytes) 1073741824) [ inl few ↦ fe
 
 module _ (ex : Exercise) (sheet : Sheet) (form : Form) (head : CertHead) (verdict : Verdict) (valid : IsValid ex)
     (small : AllByRecursion IsPotential (entries_of ex sheet)) (holds : Holds ex sheet head)
-    (cut : Type 0) (old new : Option (List ℕ)) where
+    (cut : ℕ → Type 0) (old new : Option (List ℕ)) where
   stated_small : (form : Form) → IfSome (stated_in form ex sheet) (AllByRecursion IsPotential)
   stated_small First = tt
   stated_small Second = small
@@ -82,17 +82,15 @@ module _ (ex : Exercise) (sheet : Sheet) (form : Form) (head : CertHead) (verdic
     };
   }
 
-  pub part_written : (1073741824 < length (written_certificate ex sheet form head) → ⊥) → cut
+  pub part_written : (1073741824 < length (written_certificate ex sheet form head) → ⊥)
+      → cut (length (written_certificate ex sheet form head))
       → StopsShort old new (written_certificate ex sheet form head)
       → Writes (CertifiesHead ex sheet form head verdict) cut old new (Err halt.Unwritable)
-  part_written short rose part = (
-    rose,
-    record {
-      work = whole;
-      made = (refl, its_certificate, within (written_certificate ex sheet form head) short);
-      holds = part;
-    },
-  )
+  part_written short why part = record {
+    work = whole;
+    made = (refl, its_certificate, within (written_certificate ex sheet form head) short);
+    holds = record { cause = why; front = part };
+  }
 
   pub too_long : 1073741824 < length (written_certificate ex sheet form head) → new ≡ old
       → Writes (CertifiesHead ex sheet form head verdict) cut old new
@@ -100,14 +98,14 @@ module _ (ex : Exercise) (sheet : Sheet) (form : Form) (head : CertHead) (verdic
   too_long long none = (none, (its_certificate, long))
 
 -- what is written so is written of other work too, where all of the one is of the other
-pub writes_so : (Made Made' : Work → Type 0) (cut : Type 0) (old new : Option (List ℕ)) (result : Result Verdict Halt)
+pub writes_so : (Made Made' : Work → Type 0) (cut : ℕ → Type 0) (old new : Option (List ℕ)) (result : Result Verdict Halt)
     → ((work : Work) → Made work → Made' work) → Writes Made cut old new result → Writes Made' cut old new result
 writes_so Made Made' cut old new (Ok verdict) so wrote =
     record { work = wrote.work; made = so wrote.work wrote.made; holds = wrote.holds }
 writes_so Made Made' cut old new (Err (halt.Stopped (stop.Refused said))) so wrote = (wrote.0, so (Err said) wrote.1)
 writes_so Made Made' cut old new (Err (halt.Stopped stop.Memory)) so wrote = wrote
 writes_so Made Made' cut old new (Err halt.Unwritable) so wrote =
-    (wrote.0, record { work = wrote.1.work; made = so wrote.1.work wrote.1.made; holds = wrote.1.holds })
+    record { work = wrote.work; made = so wrote.work wrote.made; holds = wrote.holds }
 
 module _ (budget : ℕ) (form : Form) (sheet : Sheet) (ex : Exercise) (valid : IsValid ex) (unmixed : ex.mixed ≡ None)
     (narrow : IsNarrow ex) where
@@ -199,7 +197,7 @@ module _ (budget : ℕ) (form : Form) (sheet : Sheet) (ex : Exercise) (valid : I
 -- what is written of a space that was searched is written of its exercise
 module _ (budget : ℕ) (form : Form) (sheet : Sheet) (ex : Exercise) (space : Searched) (valid : IsValid ex)
     (unmixed : ex.mixed ≡ None) where
-  pub none_certified : (cut : Type 0) (old new : Option (List ℕ)) (result : Result Verdict Halt)
+  pub none_certified : (cut : ℕ → Type 0) (old new : Option (List ℕ)) (result : Result Verdict Halt)
       → IsSpaceOf ex sheet space
       → IsFound space.exercise space.sheet budget found.Nothing
       → Writes (CertifiesHead space.exercise space.sheet form Nothing Unfavorable) cut old new result
@@ -213,7 +211,7 @@ module _ (budget : ℕ) (form : Form) (sheet : Sheet) (ex : Exercise) (space : S
       (λ none. writes_so (CertifiesHead ex sheet form Nothing Unfavorable) (Certifies budget form sheet ex) cut old new result
       (of_none budget form sheet ex valid unmixed is.1 none))
 
-  pub best_certified : (score : Grid) (penalty : ℕ) (cut : Type 0) (old new : Option (List ℕ)) (result : Result Verdict Halt)
+  pub best_certified : (score : Grid) (penalty : ℕ) (cut : ℕ → Type 0) (old new : Option (List ℕ)) (result : Result Verdict Halt)
       → IsSpaceOf ex sheet space
       → IsFound space.exercise space.sheet budget (found.Best score penalty) → penalty < 2 ^ 64
       → Writes (CertifiesHead space.exercise space.sheet form (Best penalty score) Favorable) cut old new result
@@ -227,7 +225,7 @@ module _ (budget : ℕ) (form : Form) (sheet : Sheet) (ex : Exercise) (space : S
       (λ best. writes_so (CertifiesHead ex sheet form (Best penalty score) Favorable) (Certifies budget form sheet ex) cut old new
       result (of_best budget form sheet ex valid unmixed is.1 score penalty best below)) found_so
 
-  pub bound_told : (bound : ℕ) (cut : Type 0) (old new : Option (List ℕ)) (result : Result Verdict Halt)
+  pub bound_told : (bound : ℕ) (cut : ℕ → Type 0) (old new : Option (List ℕ)) (result : Result Verdict Halt)
       → IsSpaceOf ex sheet space
       → IsFound space.exercise space.sheet budget (found.Spent bound)
       → Writes (IsBoundText bound) cut old new result → Writes (Certifies budget form sheet ex) cut old new result
@@ -239,7 +237,7 @@ module _ (budget : ℕ) (form : Form) (sheet : Sheet) (ex : Exercise) (space : S
       (λ told. writes_so (IsBoundText bound) (Certifies budget form sheet ex) cut old new result
       (of_bound budget form sheet ex valid unmixed is.1 bound told))
 
-pub bound_written : (bound : ℕ) (cut : Type 0) (old new : Option (List ℕ)) → new ≡ appended old (bound_line bound)
+pub bound_written : (bound : ℕ) (cut : ℕ → Type 0) (old new : Option (List ℕ)) → new ≡ appended old (bound_line bound)
     → Writes (IsBoundText bound) cut old new (Ok Spent)
 bound_written bound cut old new all = record {
   work = Ok record { verdict = Spent; bytes = bound_line bound };
@@ -252,16 +250,13 @@ bound_written bound cut old new all = record {
   };
 }
 
-pub bound_part : (bound : ℕ) (cut : Type 0) (old new : Option (List ℕ)) → cut → StopsShort old new (bound_line bound)
-    → Writes (IsBoundText bound) cut old new (Err halt.Unwritable)
-bound_part bound cut old new rose part = (
-  rose,
-  record {
-    work = Ok record { verdict = Spent; bytes = bound_line bound };
-    made = (refl, refl);
-    holds = part;
-  },
-)
+pub bound_part : (bound : ℕ) (cut : ℕ → Type 0) (old new : Option (List ℕ)) → cut (length (bound_line bound))
+    → StopsShort old new (bound_line bound) → Writes (IsBoundText bound) cut old new (Err halt.Unwritable)
+bound_part bound cut old new why part = record {
+  work = Ok record { verdict = Spent; bytes = bound_line bound };
+  made = (refl, refl);
+  holds = record { cause = why; front = part };
+}
 
 -- ---- how the run of it ends
 
@@ -271,7 +266,7 @@ does_works : (task : Task) (files : Files) (bytes : List (List ℕ)) (Holds : Wo
 does_works task files bytes Holds had does =
     record { bytes = bytes; had = had; work = does.work; made = does.made; holds = does.holds }
 
-pub ended_said : (task : Task) (files : Files) (rose cut : Type 0) (contents : List Content) (old new : Option (List ℕ))
+pub ended_said : (task : Task) (files : Files) (rose : Type 0) (cut : ℕ → Type 0) (contents : List Content) (old new : Option (List ℕ))
     (answer : Result Verdict Halt) (told : Result Verdict Complaint)
     → AreRead (limit_in task) files (names_in task) contents
     → ((bytes : List (List ℕ)) → AreContents (limit_in task) contents bytes
@@ -310,11 +305,10 @@ ended_said task files rose cut contents old new (Err (halt.Stopped stop.Memory))
     rw says (wrote known.bytes known.content)
 ended_said task files rose cut contents old new (Err halt.Unwritable) told read wrote says =
     let known = have_bytes (limit_in task) files (names_in task) contents read in
-    let part = wrote known.bytes known.content in
-    rw says (part.0, does_works task files known.bytes (λ work. StopsShort old new (work_output work)) known.had part.1)
+    rw says (does_works task files known.bytes (IsCut cut old new) known.had (wrote known.bytes known.content))
 
 pub of_texts : (files : Files) (name : List ℕ) (sheet : Option (List ℕ)) (budget : ℕ) (form : Form) (text : Content)
-    (weights : Option Content) (cut : Type 0)
+    (weights : Option Content) (cut : ℕ → Type 0)
     (old new : Option (List ℕ)) (answer : Result Verdict Halt)
     → ((bytes : List ℕ) (sheets : List (List ℕ)) → IsContent 65536 text bytes
     → AreContents 65536 (as_list weights) sheets
@@ -327,7 +321,7 @@ of_texts files name sheet budget form text weights cut old new answer wrote [] c
 
 -- ---- the texts of an exercise and of a sheet
 
-pub of_sheet : (budget : ℕ) (form : Form) (sheets : List (List ℕ)) (bytes : List ℕ) (ex : Exercise) (sheet : Sheet) (cut : Type 0)
+pub of_sheet : (budget : ℕ) (form : Form) (sheets : List (List ℕ)) (bytes : List ℕ) (ex : Exercise) (sheet : Sheet) (cut : ℕ → Type 0)
     (old new : Option (List ℕ)) (answer : Result Verdict Halt) → IsTheText bytes ex → sheet_said sheets ≡ Ok sheet
     → Writes (Certifies budget form sheet ex) cut old new answer
     → Writes (CertifiesText budget form sheets bytes) cut old new answer
@@ -340,7 +334,7 @@ of_sheet budget form sheets bytes ex sheet cut old new answer text said =
     })
 
 -- and where the sheet is refused, so is the whole
-pub no_sheet : (budget : ℕ) (form : Form) (sheets : List (List ℕ)) (bytes : List ℕ) (ex : Exercise) (why : Stop) (cut : Type 0)
+pub no_sheet : (budget : ℕ) (form : Form) (sheets : List (List ℕ)) (bytes : List ℕ) (ex : Exercise) (why : Stop) (cut : ℕ → Type 0)
     (old : Option (List ℕ)) (answer : Result Verdict Halt) → IsTheText bytes ex → ReadsSheet sheets (Err why)
     → answer ≡ Err (halt.Stopped why) → Writes (CertifiesText budget form sheets bytes) cut old old answer
 no_sheet budget form sheets bytes ex (stop.Refused refusal) cut old answer text cause e = rw e (
