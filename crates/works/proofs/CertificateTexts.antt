@@ -34,20 +34,22 @@ use Rattle.fux_pitch.specs.declared.pitch.Pitch.{Pitch}
 use Rattle.fux_text.specs.Grammar.{IsSettingOf}
 use Rattle.fux_text.specs.ReadBack.{sing_lines}
 use Rattle.penalty_sheet.specs.declared.sheet.Sheet.{Sheet}
+use Rattle.rule_law.specs.Prefixes.{IsSetting}
 use Rattle.works.specs.CantusCertified as certified
 use Rattle.works.specs.Certified.{IsAcceptable, IsCertificateOf}
 
 -- ---- of settings
 
--- a lawful setting over the cantus as it is has lines that are read back
-lawful_setting : (ex : Exercise) (score : Grid) → IsLawful ex score.columns → HasCantus ex score.columns
-    → IsComplete ex score → IsSettingOf ex score
-lawful_setting ex score lawful cantus complete = record {
+-- a setting, of this exercise or of another with as many voices, over the cantus as it is has lines
+-- that are read back
+pub setting_of : (ex other : Exercise) (score : Grid) → other.voices ≡ ex.voices → IsSetting other score.columns
+    → HasCantus ex score.columns → IsComplete ex score → IsSettingOf ex score
+setting_of ex other score same setting cantus complete = record {
   given = record { complete = complete; cantus = cantus };
   full =
       All-from_get_or (λ col. length col ≡ ex.voices) score.columns []
-      (λ i within. (lawful.setting.prefix.menus i within).full);
-  follows = lawful.setting.prefix.follows;
+      (λ i within. (setting.prefix.menus i within).full ∙ same);
+  follows = setting.prefix.follows;
 }
 
 module _ (ex : Exercise) (sheet : Sheet) (form : Form) (valid : IsValid ex) (unmixed : ex.mixed ≡ None) where
@@ -107,7 +109,7 @@ module _ (ex : Exercise) (sheet : Sheet) (form : Form) (valid : IsValid ex) (unm
         omega arith,
         below,
         record {
-          setting = lawful_setting ex score lawful cantus complete;
+          setting = setting_of ex ex score refl lawful.setting cantus complete;
           written = take_all (length text) text (omega arith);
         },
       )) is

@@ -11,8 +11,10 @@ pub mod CertifyLemmas
 pub mod ChargedLemmas
 pub mod CheckLemmas
 pub mod ClassLemmas
+pub mod Commented
 pub mod ContentLemmas
 pub mod MakeLemmas
 pub mod MixedLemmas
+pub mod ReadBackLemmas
 pub mod WithinLemmas
 pub mod WorkLemmas

@@ -16,6 +16,7 @@ pub mod Listed
 pub mod Marked
 pub mod Mixed
 pub mod Played
+pub mod ReadBack
 pub mod Rendered
 pub mod Searched
 pub mod Sheets
