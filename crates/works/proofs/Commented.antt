@@ -80,7 +80,7 @@ numbered-skipped number (xs ∷ xss) last skipped =
 -- ---- the line of a penalty
 
 -- a byte that ends no line, and is one of seven bits
-IsInLine : ℕ → Type 0
+abbrev IsInLine : ℕ → Type 0
 IsInLine b = ((b == 10) ≡ false) × (b < 128)
 
 in_line-digits : (k n : ℕ) (acc : List ℕ) → AllByRecursion IsInLine acc
@@ -114,7 +114,7 @@ all_append [] ys p q = q
 all_append (x ∷ xs) ys p q = (p.0, all_append xs ys p.1 q)
 
 -- the bytes of the line, but for its line feed
-comment : ℕ → List ℕ
+abbrev comment : ℕ → List ℕ
 comment penalty = codes "; penalty " ++ decimal penalty
 
 in_line-comment : (penalty : ℕ) → AllByRecursion IsInLine (comment penalty)
@@ -146,13 +146,13 @@ skipped-penalty_line : (penalty : ℕ) → is_skipped (strip_carriage_return (co
 skipped-penalty_line penalty =
     by (slice_index (comment penalty) (length (comment penalty) - 1) == 13)
   where
-    taken : (n : ℕ) (bs : List ℕ) → 0 < n → is_skipped (take n (59 ∷ bs)) ≡ true
-    taken zero bs some = absurd (omega arith)
-    taken (suc n) bs some = refl
+    taken : (n : ℕ) (bs : List ℕ) → is_skipped (take n (59 ∷ bs)) ≡ true
+    taken zero bs = refl
+    taken (suc n) bs = refl
 
     by : (b : Bool) → is_skipped (if b then take (length (comment penalty) - 1) (comment penalty) else comment penalty)
         ≡ true
-    by true = taken (length (comment penalty) - 1) (codes " penalty " ++ decimal penalty) (omega arith)
+    by true = taken (length (comment penalty) - 1) (codes " penalty " ++ decimal penalty)
     by false = refl
 
 -- ---- texts

@@ -1,6 +1,6 @@
 -- What `compose`, `best` and `mixed` write of a best setting is read back (`composed_is_read`, `best_is_read`, `mixed_is_read`).
-use Rattle.std.proofs.Common.{◌≡◌, ℕ, ◌<◌, ◌≤◌, Bool, true, false, List, [], ◌∷◌, length, None, Some, Ok, Err, inl, inr, refl, sym, ap, subst, ◌∙◌, arith, length-append}
-use Rattle.std.specs.Prelude.{All, ◌==◌, ◌&&◌, IsTrue, slice_index_or}
+use Rattle.std.proofs.Common.{◌≡◌, ℕ, ◌<◌, ◌≤◌, Bool, true, false, List, [], ◌∷◌, length, Option, None, Some, Ok, Err, inl, inr, refl, sym, ap, subst, ◌∙◌, arith, length-append}
+use Rattle.std.specs.Prelude.{All, ◌==◌, ◌&&◌, Contains, IsTrue, slice_index_or}
 use Rattle.std.specs.List.{find}
 use Rattle.std.proofs.lemmas.Bool.{eqb-true, ne_eqb}
 use Rattle.class_marker.specs.Markings.{IsTheText}
@@ -11,6 +11,7 @@ use Rattle.fux_grid.specs.Cells.{cell_in}
 use Rattle.fux_grid.specs.Exercises.{FitsGiven, IsComplete, IsGivenBar, IsValid, as_mixed, bar_of, columns_in, given_at}
 use Rattle.fux_grid.specs.Givens.{fits}
 use Rattle.fux_grid.specs.Grid.{Grid}
+use Rattle.fux_grid.specs.Menus.{cells_at}
 use Rattle.fux_grid.proofs.CellLemmas.{cells_at-given}
 use Rattle.fux_grid.proofs.GivenLemmas.{given_at-none}
 use Rattle.fux_text.specs.Lines.{setting_text}
@@ -57,14 +58,11 @@ mixed_alike : (ex : Exercise) (species : List ℕ) → IsAlike ex (as_mixed ex s
 unfolding given_at
 mixed_alike ex species = record { voices = refl; columns = refl; cantus = refl; given = λ i v. refl }
 
--- a setting of such another exercise fits what is given
-fits_given : (ex other : Exercise) (s : List (List Cell)) → IsAlike ex other → IsValid ex → IsSetting other s
-    → FitsGiven ex s
-fits_given ex other s alike valid setting i v within there = by (v == ex.cantus_voice) refl
+-- a cell that such another exercise has there fits what is given
+cell_fits : (ex other : Exercise) (i v : ℕ) (c : Cell) → IsAlike ex other → IsValid ex → Contains (cells_at other i v) c
+    → IsTrue (fits (given_at ex i v) c)
+cell_fits ex other i v c alike valid among = by (v == ex.cantus_voice) refl
   where
-    c : Cell
-    c = cell_in (slice_index_or s i []) v
-
     differ : (v == ex.cantus_voice) ≡ false → v ≡ ex.cantus_voice → ⊥
     differ e same = grind (arith, e, same)
 
@@ -74,8 +72,14 @@ fits_given ex other s alike valid setting i v within there = by (v == ex.cantus_
         (given_at-none ex i v (none_of_cantus ex v (bar_of i) ex.given (eqb-true v ex.cantus_voice e) valid.given_fit)) refl
     by false e =
         subst (λ given. IsTrue (fits given c)) (alike.given i v)
-        (cells_at-given other i v c (λ same. differ e (same ∙ alike.cantus))
-        ((setting.prefix.menus i within).cells v (subst (λ n. v < n) (sym alike.voices) there))).1
+        (cells_at-given other i v c (λ same. differ e (same ∙ alike.cantus)) among).1
+
+-- so a setting of it fits
+fits_given : (ex other : Exercise) (s : List (List Cell)) → IsAlike ex other → IsValid ex → IsSetting other s
+    → FitsGiven ex s
+fits_given ex other s alike valid setting i v within there =
+    cell_fits ex other i v (cell_in (slice_index_or s i []) v) alike valid
+    ((setting.prefix.menus i within).cells v (subst (λ n. v < n) (sym alike.voices) there))
 
 -- ---- texts
 
@@ -87,7 +91,7 @@ text_parts text ex t = (t.valid, t.unmixed)
 module _ (ex other : Exercise) (alike : IsAlike ex other) (AreBest : List (List Cell) → ℕ → Type 0)
     (settings : (s : List (List Cell)) (penalty : ℕ) → AreBest s penalty → IsSetting other s)
     (text bytes : List ℕ) (is : IsTheText text ex) (told : TellsBest ex AreBest bytes) (short : length bytes ≤ 65536) where
-  score : Grid
+  abbrev score : Grid
   score = record { voices = ex.voices; columns = told.setting }
 
   setting : IsSetting other told.setting
@@ -155,20 +159,22 @@ best_is_read budget sheets text written (inl on) favorable short = over on.made
 best_is_read budget sheets text written (inr none) favorable short =
     absurd (no_refusal written none.refusal none.is)
 
+abbrev mixed_of : Exercise → List (Option ℕ) → Exercise
+mixed_of ex named = as_mixed ex (all_species_with ex named)
+
 pub mixed_is_read : MixedIsRead
 mixed_is_read named budget sheets text written (inl on) favorable short = named_as on.made
   where
-    other : Exercise
-    other = as_mixed on.exercise (all_species_with on.exercise named)
-
-    over : OnSheet (λ sheet. ComposesMixed budget sheet on.exercise other) sheets (Ok written)
+    over : OnSheet (λ sheet. ComposesMixed budget sheet on.exercise (mixed_of on.exercise named)) sheets (Ok written)
         → IsReadBack text written.bytes
     over (inl made) =
-        read_back on.exercise other (mixed_alike on.exercise (all_species_with on.exercise named))
-        (mixed.IsBestWithin other made.sheet budget) (λ s penalty best. best.best.lawful.setting) text written.bytes
-        on.text
-        (subst (λ (v : Verdict). TellsMixed on.exercise other made.sheet budget v written.bytes) favorable made.made.tells)
-        short
+        read_back on.exercise (mixed_of on.exercise named)
+        (mixed_alike on.exercise (all_species_with on.exercise named))
+        (mixed.IsBestWithin (mixed_of on.exercise named) made.sheet budget) (λ s penalty best. best.best.lawful.setting)
+        text written.bytes on.text
+        (subst
+        (λ (v : Verdict). TellsMixed on.exercise (mixed_of on.exercise named) made.sheet budget v written.bytes)
+        favorable made.made.tells) short
     over (inr none) = absurd (no_refusal written none.refusal none.is)
 
     named_as : OnNames (λ of_named. OnSheet (λ sheet. ComposesMixed budget sheet on.exercise of_named) sheets) named
