@@ -37,6 +37,12 @@ room_put old new waiting next line later whole keeps e room =
     omega (arith, ap length e, length-append line later) in
     keeps (length later) (subst old size room)
 
+-- room for two texts is room for the first, whatever it is called, and for the other beyond it
+pub room_split : (serves : ℕ → Type 0) (first bytes next : List ℕ) → bytes ≡ first → serves (length (first ++ next))
+    → serves (length bytes + length next)
+room_split serves first bytes next same room =
+    subst serves (length-append first next ∙ ap (λ bs. length bs + length next) (sym same)) room
+
 -- a write that stopped short is one of more bytes
 pub stops_more : (old new : Option (List ℕ)) (first next : List ℕ) → StopsShort old new first
     → StopsShort old new (first ++ next)

@@ -1,4 +1,5 @@
-use Rattle.std.proofs.Common.{◌≡◌, ◌++◌, ℕ, List, length, ap, sym, ◌∙◌, subst, arith}
+use Rattle.std.proofs.Common.{◌≡◌, ◌+◌, ◌++◌, ℕ, List, length, ap, sym, ◌∙◌, subst, arith}
+use Rattle.std.specs.Prelude.{IsOk}
 use Rattle.std.proofs.lemmas.Result.{on_err_weaker, on_ok_weaker}
 use Rattle.cantus_writer.specs.Writing.{claim_lines, lines_left}
 use Rattle.fux_port.proofs.Stands.{room_put, stands_end, stands_put, stands_stop, with_err}
@@ -66,3 +67,18 @@ returns-clause-err g c =
     (lines_left plan said c.loop-claim.walk) (lines_left plan said c.args.walk.now)
     c.loop-claim.invariant.stands (subst (λ (bs : List ℕ). StopsShort told new bs) bytes stop))
     c.write_all.ensures.err
+
+pub returns-in_err-put-clause-taken : goal.returns-in_err-put-clause-taken
+returns-in_err-put-clause-taken g c = λ promised.
+    absurd (subst IsOk c.in_err-put.is
+    (c.put.ensures.taken (length (lines_left c.args.case.now.space c.args.case.now.head.best c.loop-claim.walk))
+    (c.loop-claim.invariant.room promised)))
+
+pub returns-clause-taken : goal.returns-clause-taken
+returns-clause-taken g c = λ promised.
+    let left = length (lines_left c.args.case.now.space c.args.case.now.head.best c.loop-claim.walk) in
+    let bytes : c.as_bytes.result.now ≡ c.loop-claim.waiting.bytes = c.as_bytes.ensures.value
+    ∙ c.as_str-2.ensures.value in
+    c.write_all.ensures.beyond left
+    (subst (λ (bs : List ℕ). g.K.Sink.serves c.loop-claim.sink (length bs + left)) (sym bytes)
+    (c.loop-claim.invariant.room promised))

@@ -1,4 +1,5 @@
-use Rattle.std.proofs.Common.{◌≡◌, ◌++◌, ℕ, List, length, ap, sym, ◌∙◌, subst, arith}
+use Rattle.std.proofs.Common.{◌≡◌, ◌+◌, ◌++◌, ℕ, List, length, ap, sym, ◌∙◌, subst, arith}
+use Rattle.std.specs.Prelude.{IsOk}
 use Rattle.std.proofs.lemmas.Result.{on_err_weaker, on_ok_weaker}
 use Rattle.cert_law.specs.Cases.{matter_of}
 use Rattle.cert_writer.specs.Stages.{lines_left}
@@ -60,3 +61,18 @@ returns-clause-err g c =
     (lines_left t c.loop-line.lines) (lines_left t c.args.lines.now)
     c.loop-line.invariant.stands (subst (λ (bs : List ℕ). StopsShort told new bs) bytes stop))
     c.write_all.ensures.err
+
+pub returns-in_err-put-clause-taken : goal.returns-in_err-put-clause-taken
+returns-in_err-put-clause-taken g c = λ promised.
+    absurd (subst IsOk c.in_err-put.is
+    (c.put.ensures.taken (length (lines_left (matter_of c.args.case.now) c.loop-line.lines))
+    (c.loop-line.invariant.room promised)))
+
+pub returns-clause-taken : goal.returns-clause-taken
+returns-clause-taken g c = λ promised.
+    let left = length (lines_left (matter_of c.args.case.now) c.loop-line.lines) in
+    let bytes : c.as_bytes.result.now ≡ c.loop-line.waiting.bytes = c.as_bytes.ensures.value
+    ∙ c.as_str-2.ensures.value in
+    c.write_all.ensures.beyond left
+    (subst (λ (bs : List ℕ). g.K.Sink.serves c.loop-line.sink (length bs + left)) (sym bytes)
+    (c.loop-line.invariant.room promised))
