@@ -18,8 +18,7 @@ pub returns : goal.returns
 returns g c =
     let line : c.as_bytes.result.now ≡ bound_line c.args.bound = cc
     (c.as_bytes.ensures.value, c.as_str.ensures.value, c.in-Ok.ensures) in
-    bound_part c.args.bound (Fails g.K.Sink.faults g.K.Sink.serves c.args.out.now c.write_all.new.sink) _ _
-    (
+    bound_part c.args.bound (Fails g.K.Sink.faults g.K.Sink.serves c.args.out.now c.write_all.new.sink) _ _ (
       c.in-Err.ensures.cause,
       λ promised.
           subst IsOk c.in-Err.is
